@@ -97,8 +97,7 @@ StartsWith-boundary xs p utf8 prefix starts =
 
 pub utf8-back : (xs ys : List ℕ) → IsUtf8 (encode_utf8_all (xs ++ ys)) → IsUtf8 (encode_utf8_all ys)
 utf8-back [] ys u = u
-utf8-back (x ∷ xs) ys u =
-    utf8-back xs ys (IsUtf8-past_char (encode_utf8_all (x ∷ xs ++ ys))
+utf8-back (x ∷ xs) ys u = utf8-back xs ys (IsUtf8-past_char (encode_utf8_all (x ∷ xs ++ ys))
     (encode_utf8_all (xs ++ ys)) x u refl)
 
 pub utf8-front : (xs ys : List ℕ) → IsUtf8 (encode_utf8_all (xs ++ ys)) → IsUtf8 (encode_utf8_all xs)
@@ -137,16 +136,14 @@ cut_text text cs ds utf8 is =
     let back = encode_utf8_all ds in
     let whole : text ≡ front ++ back =
     sym (encodes-chars text utf8) ∙ ap encode_utf8_all is ∙ encodes-append cs ds in
-    let all : all_scalars (cs ++ ds) ≡ true =
-    ap all_scalars (sym is) ∙ scalars-chars text utf8 in
+    let all : all_scalars (cs ++ ds) ≡ true = ap all_scalars (sym is) ∙ scalars-chars text utf8 in
     grind (arith, scalars-parts, take_at, drop_at, IsCharBoundary-at_seam)
 
 -- the bytes of one character more
 pub encoded-more : (ms : List ℕ) (n a : ℕ) → n < length ms → a ≡ get_or ms n a
     → length (encode_utf8_all (take (n + 1) ms))
     ≡ length (encode_utf8_all (take n ms)) + length (encode_utf8 a)
-encoded-more ms n a within is =
-    ap (λ l. length (encode_utf8_all l))
+encoded-more ms n a within is = ap (λ l. length (encode_utf8_all l))
     (take_more ms n a within ∙ ap (λ x. take n ms ++ x ∷ []) (sym is))
     ∙ ap length (encodes-append (take n ms) (a ∷ [])
     ∙ ap (λ l. encode_utf8_all (take n ms) ++ l) (append-nil (encode_utf8 a)))

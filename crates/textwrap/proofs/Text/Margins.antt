@@ -116,8 +116,7 @@ comparable-head : (c d : ℕ) (xs ys : List ℕ) → AreComparable (c ∷ xs) (d
 comparable-head c d xs ys (inl is) = starts-head c d xs ys is
 comparable-head c d xs ys (inr is) = sym (starts-head d c ys xs is)
 
-comparable-tail : (c d : ℕ) (xs ys : List ℕ) → AreComparable (c ∷ xs) (d ∷ ys)
-    → AreComparable xs ys
+comparable-tail : (c d : ℕ) (xs ys : List ℕ) → AreComparable (c ∷ xs) (d ∷ ys) → AreComparable xs ys
 comparable-tail c d xs ys (inl is) = inl (starts-tail c d xs ys is)
 comparable-tail c d xs ys (inr is) = inr (starts-tail d c ys xs is)
 
@@ -301,8 +300,7 @@ pub narrowed-done : (ms ls : List ℕ) (n : ℕ) → n ≡ length (zip ms ls)
     → take n ms ++ narrowed (drop n ms) (drop n ls) ≡ narrowed ms ls → ms ≡ narrowed ms ls
 narrowed-done ms ls n all so_far =
     let len : n ≡ min (length ms) (length ls) = all ∙ length-zip ms ls in
-    ⊎_elim
-    (search (rules, take_all, drop_all, append-nil))
+    ⊎_elim (search (rules, take_all, drop_all, append-nil))
     (search (rules, drop_all, narrowed-ended, take-append-drop))
     (either_short (length ms) (length ls) n len)
 

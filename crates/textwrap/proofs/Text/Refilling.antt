@@ -49,8 +49,7 @@ unfilled-lines (line ∷ next ∷ others) plain =
     unfilled-indented [] [] line next others no_indent no_indent plain
 
 pub unfilled-plain : (text : List ℕ) → IsPlain text → IsUnfilledAs [] [] (blanked text) text
-unfilled-plain text (lines, plain, is) =
-    subst (λ t. IsUnfilledAs [] [] (blanked t) t)
+unfilled-plain text (lines, plain, is) = subst (λ t. IsUnfilledAs [] [] (blanked t) t)
     (ap feed_joined (unindented_rows lines) ∙ sym is)
     (subst (λ j. IsUnfilledAs [] [] j (feed_joined (indented_rows [] [] lines)))
     (sym (rw (unindented_rows, blanked-joined))) (unfilled-lines lines plain))

@@ -163,8 +163,7 @@ begins-each : (indent : List ℕ) (es : List EndedLine)
     → All (λ t. StartsWith t indent) (map line_prefix (texts_of es))
     → All (λ e. StartsWith e.line indent) es
 begins-each indent [] all = All-nil (λ e. StartsWith e.line indent)
-begins-each indent (e ∷ es) all =
-    All-cons (λ l. StartsWith l.line indent) e es
+begins-each indent (e ∷ es) all = All-cons (λ l. StartsWith l.line indent) e es
     (search (rules, starts_with_trans, line_prefix-begins, All-head))
     (begins-each indent es
     (All-tail (λ t. StartsWith t indent) (line_prefix e.line) (map line_prefix (texts_of es)) all))
@@ -236,8 +235,7 @@ detected_among-two (Some LF) None others = refl
 detected_among-two (Some LF) (Some CRLF) others = refl
 detected_among-two (Some LF) (Some LF) others = refl
 
-pub keeps_ending-some : (text : List ℕ) (ending : LineEnding)
-    → detected_ending text ≡ Some ending
+pub keeps_ending-some : (text : List ℕ) (ending : LineEnding) → detected_ending text ≡ Some ending
     → keeps_ending text ≡ ends_with nat_eq text (ending_bytes ending)
 keeps_ending-some text ending is = search (rules, nat_eq)
 
@@ -253,13 +251,12 @@ pub refilled-from : (settings : Settings)
     } in (filled : List ℕ) × IsFilled indented (Divides indented) joined filled
     × (refilled ≡ filled ++ added_ending keeps settings.line_ending)
     → IsRefilled settings Divides text refilled
-refilled-from settings Divides text refilled layout found joined joined_is keeps keeps_is is =
-    rw (
-      ap (λ s. s.initial_indent) found,
-      ap (λ s. s.subsequent_indent) found,
-      joined_is,
-      keeps_is,
-    ) at is
+refilled-from settings Divides text refilled layout found joined joined_is keeps keeps_is is = rw (
+  ap (λ s. s.initial_indent) found,
+  ap (λ s. s.subsequent_indent) found,
+  joined_is,
+  keeps_is,
+) at is
 
 -- ---- refilled texts and texts in columns under options with built-in parts: what they divide
 -- is what the parts do as values

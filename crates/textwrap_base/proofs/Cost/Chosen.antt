@@ -218,8 +218,7 @@ module _ {X : Type 0} (priced : X → PricedSizes) (penalties : Penalties) (widt
     by_table-cost : cost_of lines ≡ cost_at (length xs)
     by_table-cost =
         sym (begin_cost xs lines (length xs) (omega arith) (whole xs lines p by.division).0 priced
-        penalties widths)
-        ∙ table_followed (line_costs priced penalties widths xs) (length xs)
+        penalties widths) ∙ table_followed (line_costs priced penalties widths xs) (length xs)
         (line_costs-steady priced penalties widths xs equal)
         (starts_back lines) (length xs) (omega arith) begins follows
 
@@ -275,12 +274,10 @@ module _ {X : Type 0} (priced : X → PricedSizes) (penalties : Penalties) (widt
   costs = line_costs priced penalties widths xs
 
   cost_from_start : 1 < length xs → costs 0 (length xs) 0 ≡ penalties.nline_penalty
-  cost_from_start two =
-      grind (arith, eq-eqb, take_all, line_cost-one)
+  cost_from_start two = grind (arith, eq-eqb, take_all, line_cost-one)
 
   cost_from : (i number : ℕ) → i < length xs → penalties.nline_penalty ≤ costs i (length xs) number
-  cost_from i number within =
-      grind (arith, line_cost-some, length-take-le, length-drop)
+  cost_from i number within = grind (arith, line_cost-some, length-take-le, length-drop)
 
   -- the table's last line starts first: a later start would have to be cheaper
   last_start : get_or (table_starts costs (length xs)) (length xs) 0 ≡ 0
@@ -290,8 +287,7 @@ module _ {X : Type 0} (priced : X → PricedSizes) (penalties : Penalties) (widt
       grind (arith, start-at, cost_from_start, cost_from)
 
   by_table_one : IsByTable priced penalties widths xs (xs ∷ [])
-  by_table_one =
-      search (division_one, zero-add, last_start)
+  by_table_one = search (division_one, zero-add, last_start)
 
 last-none : {X : Type 0} (penalties : Penalties) (sizes : X → Sizes) (xs : List X)
     → All (λ x. (sizes x).penalty ≡ 0) xs
@@ -304,8 +300,7 @@ last-none penalties sizes (x ∷ y ∷ xs) none =
 
 pub IsDividedBy-one_line : {X : Type 0} (algorithm : Algorithm) (sizes : X → Sizes)
     (widths : List ℕ) (xs : List X) → All (λ x. (sizes x).penalty ≡ 0) xs
-    → closed_width sizes xs ≤ line_width widths 0
-    → IsDividedBy algorithm sizes widths xs (xs ∷ [])
+    → closed_width sizes xs ≤ line_width widths 0 → IsDividedBy algorithm sizes widths xs (xs ∷ [])
 IsDividedBy-one_line Greedy sizes widths xs none room = greedy_one sizes widths xs none room
 IsDividedBy-one_line {X = X} (LeastCost penalties) sizes widths xs none room =
     search (by_table_one, last-none, by_table-chosen)
@@ -316,8 +311,7 @@ module _ {X Y : Type 0} (f : X → Y) (priced : Y → PricedSizes) where
   pub fragments_table-map : (penalties : Penalties) (widths : List ℕ) (xs : List X)
       → fragments_table (λ x. priced (f x)) penalties widths xs ≡ fragments_table priced penalties
       widths (map f xs)
-  fragments_table-map penalties widths xs =
-      ap (λ cost. table cost (length xs))
+  fragments_table-map penalties widths xs = ap (λ cost. table cost (length xs))
       (sym (line_costs-map (λ x. priced (f x)) penalties widths xs)
       ∙ ap (line_costs (λ (s : PricedSizes). s) penalties widths) (sym (map-map priced f xs))
       ∙ line_costs-map priced penalties widths (map f xs))
@@ -326,8 +320,7 @@ module _ {X Y : Type 0} (f : X → Y) (priced : Y → PricedSizes) where
   FollowStarts-map : (starts : List ℕ) (at : ℕ) (lines : List (List X))
       → FollowStarts starts at lines → FollowStarts starts at (map (map f) lines)
   FollowStarts-map starts at [] follow = tt
-  FollowStarts-map starts at (line ∷ lines) (here, follow) =
-      rw (length-map line f)
+  FollowStarts-map starts at (line ∷ lines) (here, follow) = rw (length-map line f)
       (here, FollowStarts-map starts (at + length line) lines follow)
 
   pub IsByOptimalFit-map : (penalties : Penalties) (widths : List ℕ) (xs : List X)

@@ -47,8 +47,7 @@ module _ (p : Penalties) (target : ℕ) where
   gap_cost-step : (closed more : ℕ) → gap_cost (closed + 1) + gap_cost (closed + more)
       ≤ gap_cost (closed + more + 1) + gap_cost closed
   gap_cost-step closed zero = rw add-zero (omega arith)
-  gap_cost-step closed (suc more) =
-      grind (arith, gap_cost-next, gap_cost-step closed more)
+  gap_cost-step closed (suc more) = grind (arith, gap_cost-next, gap_cost-step closed more)
 
   pub gap_cost-convex : (closed u v : ℕ) → gap_cost (closed + u) + gap_cost (closed + v)
       ≤ gap_cost (closed + u + v) + gap_cost closed
@@ -56,8 +55,7 @@ module _ (p : Penalties) (target : ℕ) where
   gap_cost-convex closed (suc u) v =
       let same : closed + suc u ≡ closed + u + 1 = omega arith in
       let next : closed + u + 1 + v ≡ closed + u + v + 1 = omega arith in
-      rw (same, next)
-      (omega (arith, gap_cost-convex closed u v, gap_cost-step (closed + u) v))
+      rw (same, next) (omega (arith, gap_cost-convex closed u v, gap_cost-step (closed + u) v))
 
 -- ---- the widths and the cost of a part of a list of fragments
 
@@ -140,16 +138,14 @@ pub line_costs-at : {X : Type 0} (priced : X → PricedSizes) (penalties : Penal
     (widths : List ℕ) (xs : List X) (i j number : ℕ)
     → line_costs (λ (s : PricedSizes). s) penalties widths (map priced xs) i j number
     ≡ line_costs priced penalties widths xs i j number
-line_costs-at priced penalties widths xs i j number =
-    search (length-map, slice-map, line_cost-map)
+line_costs-at priced penalties widths xs i j number = search (length-map, slice-map, line_cost-map)
 
 -- the costs of the priced sizes are those of the fragments
 pub line_costs-map : {X : Type 0} (priced : X → PricedSizes) (penalties : Penalties)
     (widths : List ℕ) (xs : List X)
     → line_costs (λ (s : PricedSizes). s) penalties widths (map priced xs)
     ≡ line_costs priced penalties widths xs
-line_costs-map priced penalties widths xs =
-    fun_ext (λ i. fun_ext (λ j. fun_ext
+line_costs-map priced penalties widths xs = fun_ext (λ i. fun_ext (λ j. fun_ext
     (λ number. line_costs-at priced penalties widths xs i j number)))
 
 -- ---- what one line costs at most, where its numbers keep to a limit
@@ -169,17 +165,14 @@ total_width-take {X = X} sizes xs j =
 
 module _ (limit : ℕ) where
   fit_cost-le : (p : Penalties) (t closed : ℕ) (is_last is_single : Bool) → AreAtMost limit p
-      → 1 ≤ t → t ≤ limit → closed ≤ limit
-      → fit_cost p t closed is_last is_single ≤ limit * limit
-  fit_cost-le p t closed is_last is_single h some k l =
-      grind (arith, mul-le-mul, if_le)
+      → 1 ≤ t → t ≤ limit → closed ≤ limit → fit_cost p t closed is_last is_single ≤ limit * limit
+  fit_cost-le p t closed is_last is_single h some k l = grind (arith, mul-le-mul, if_le)
 
   -- break penalties keep to the limit where those of the measures do
   break_penalties-map : {X : Type 0} (priced : X → PricedSizes) (xs : List X)
       → All (λ (p : PricedSizes). p.break_penalty ≤ limit) (map priced xs)
       → All (λ x. (priced x).break_penalty ≤ limit) xs
-  break_penalties-map priced xs all = λ k d l.
-      rw (get_or-map priced xs k d (priced d) l) at
+  break_penalties-map priced xs all = λ k d l. rw (get_or-map priced xs k d (priced d) l) at
       (all k (priced d) (omega (arith, length-map xs priced)))
 
   pub break_penalties-measured : {X : Type 0} (priced : X → PricedSizes) (measures : List Measure)
@@ -222,8 +215,7 @@ closed_width-prefix sizes xs i j d h l =
 closed_width-rises : {X : Type 0} (sizes : X → Sizes) (xs : List X) → NeverFalls sizes xs
     → (j more : ℕ) → 0 < j → j + more ≤ length xs
     → closed_width sizes (take j xs) ≤ closed_width sizes (take (j + more) xs)
-closed_width-rises sizes xs rising j zero some l =
-    rw add-zero (omega arith)
+closed_width-rises sizes xs rising j zero some l = rw add-zero (omega arith)
 closed_width-rises sizes xs rising j (suc more) some l =
     grind (arith, closed_width-rises sizes xs rising j more some (omega arith))
 
@@ -238,8 +230,7 @@ module _ {X : Type 0} (priced : X → PricedSizes) (penalties : Penalties) (widt
       ≡ penalties.nline_penalty + gap_cost penalties (max (line_width widths number) 1)
       (closed_width sizes (take j xs) - open_width sizes (take i xs)) +
       (priced (get_or xs (j - 1) d)).break_penalty
-  line_costs-inner i j number d h l =
-      grind (arith, nat_tests, closed_width-prefix, line_cost-slice)
+  line_costs-inner i j number d h l = grind (arith, nat_tests, closed_width-prefix, line_cost-slice)
 
   line_costs-convex : X → NeverFalls sizes xs
       → AreConvex (fragment_costs priced penalties widths xs)

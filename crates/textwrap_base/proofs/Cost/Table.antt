@@ -55,15 +55,13 @@ length-table cost (suc n) =
 pub entry-table_more : (cost : ℕ → ℕ → ℕ → ℕ) (n j : ℕ) → j ≤ n
     → entry_at (table cost (suc n)) j ≡ entry_at (table cost n) j
 unfolding table
-entry-table_more cost n j h =
-    grind (arith, length-table, get_or_append_left)
+entry-table_more cost n j h = grind (arith, length-table, get_or_append_left)
 
 -- its last entry is the cheapest
 pub entry-table_last : (cost : ℕ → ℕ → ℕ → ℕ) (n : ℕ)
     → entry_at (table cost (suc n)) (suc n) ≡ cheapest cost n (table cost n) (suc n)
 unfolding table
-entry-table_last cost n =
-    grind (arith, length-table, get_or_push)
+entry-table_last cost n = grind (arith, length-table, get_or_push)
 
 pub entry-table_first : (cost : ℕ → ℕ → ℕ → ℕ) (n : ℕ) → entry_at (table cost n) 0 ≡ first_entry
 unfolding table
@@ -121,8 +119,7 @@ cheapest-least (suc m) cost entries end =
 -- only one entry is the least
 pub least_one : (cost : ℕ → ℕ → ℕ → ℕ) (entries : List Entry) (end m : ℕ) (e f : Entry)
     → IsLeastBelow cost entries end m e → IsLeastBelow cost entries end m f → e ≡ f
-least_one cost entries end m e f h k =
-    grind arith
+least_one cost entries end m e f h k = grind arith
 
 -- an entry of the table is the least of what the entries before it give
 pub table-least : (cost : ℕ → ℕ → ℕ → ℕ) (n j : ℕ) → j < n
@@ -139,8 +136,7 @@ pub entry-table_longer : (cost : ℕ → ℕ → ℕ → ℕ) (n j k : ℕ) → 
 entry-table_longer cost zero j k h l = let e : j ≡ zero = omega arith in rw e refl
 entry-table_longer cost (suc n) j k h l = elim (cases_eq j (suc n)) [
   | inl e ↦ rw e refl
-  | inr ne ↦ entry-table_more cost n k (omega arith)
-      ∙ entry-table_longer cost n j k h (omega arith)
+  | inr ne ↦ entry-table_more cost n k (omega arith) ∙ entry-table_longer cost n j k h (omega arith)
 ]
 
 -- the line after j fragments has a number of at most j
@@ -163,8 +159,7 @@ pub table_next : (cost : ℕ → ℕ → ℕ → ℕ) (n : ℕ) (e : Entry)
     → IsLeastBelow cost (table cost n) (n + 1) (n + 1) e
     → table cost n ++ e ∷ [] ≡ table cost (n + 1)
 unfolding table
-table_next cost n e h =
-    grind (arith, add-one, least_one, cheapest-least)
+table_next cost n e h = grind (arith, add-one, least_one, cheapest-least)
 
 -- where no start gives a cost that fits, the next entry does not fit
 pub table_past : (cost : ℕ → ℕ → ℕ → ℕ) (n m : ℕ) → n < m
@@ -188,8 +183,7 @@ table_fits cost n e is fits all j l = elim (cases_eq j (n + 1)) [
 -- one line is a division of each prefix
 pub one_line : (cost : ℕ → ℕ → ℕ → ℕ) (n j : ℕ) → j < n
     → (entry_at (table cost n) (suc j)).cost ≤ cost 0 (suc j) 0
-one_line cost n j l =
-    grind (arith, table-least, entry-table_first)
+one_line cost n j l = grind (arith, table-least, entry-table_first)
 
 -- where all widths together keep to 64 bits, each entry keeps to 128
 pub table-fits : {X : Type 0} (priced : X → PricedSizes) (p : Penalties) (widths : List ℕ)
@@ -280,8 +274,7 @@ module _ (cost : ℕ → ℕ → ℕ → ℕ) (n : ℕ) (steady : IsSteady cost)
   cost_after : (rest : List ℕ) (i j : ℕ) → i ≤ n → AreStarts rest i
       → cost i j (length rest) ≡ cost i j (entry_at entries i).line_number
   cost_after [] i j l h = rw (h, is.first) refl
-  cost_after (k ∷ rest) i j l (h, hs) =
-      grind (arith, is)
+  cost_after (k ∷ rest) i j l (h, hs) = grind (arith, is)
 
   pub table_least : (starts : List ℕ) (j : ℕ) → j ≤ n → AreStarts starts j
       → (entry_at entries j).cost ≤ starts_cost starts cost j
@@ -350,8 +343,7 @@ module _ (cost : ℕ → ℕ → ℕ → ℕ) (n : ℕ) (minima : List Minimum)
 
   pub cost_reported : (j : ℕ) → j ≤ n
       → get_or (map (λ (m : Minimum). m.cost) minima) j 0 ≡ (entry_at (table cost n) j).cost
-  cost_reported j l =
-      grind (arith, length-table, map-map, get_or-map)
+  cost_reported j l = grind (arith, length-table, map-map, get_or-map)
 
   pub length_reported : length minima ≡ n + 1
   length_reported = ap length reported ∙ length-map (table cost n) minimum_of ∙ length-table cost n

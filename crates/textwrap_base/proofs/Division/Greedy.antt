@@ -193,8 +193,7 @@ pub record IsGreedyFrom {X : Type 0} (sizes : X → Sizes) (widths : List ℕ) (
 module _ {X : Type 0} (sizes : X → Sizes) (widths : List ℕ) where
   pub IsGreedyFrom-nil : (number : ℕ) (xs : List X) → length xs ≡ 0
       → IsGreedyFrom sizes widths number xs []
-  IsGreedyFrom-nil number xs empty =
-      grind (arith, nil_from_length, All-nil)
+  IsGreedyFrom-nil number xs empty = grind (arith, nil_from_length, All-nil)
 
   full-cons : (number : ℕ) (xs : List X) (n : ℕ)
       → (n < length xs → line_width widths number < closed_width sizes (take (n + 1) xs))
@@ -215,8 +214,7 @@ module _ {X : Type 0} (sizes : X → Sizes) (widths : List ℕ) where
   pub IsGreedyFrom-cons : (number : ℕ) (xs : List X) (n : ℕ) → 0 < n → n ≤ length xs
       → Fits sizes (line_width widths number) (take n xs)
       → (n < length xs → line_width widths number < closed_width sizes (take (n + 1) xs))
-      → (tail : List (List X))
-      → IsGreedyFrom sizes widths (number + 1) (drop n xs) tail
+      → (tail : List (List X)) → IsGreedyFrom sizes widths (number + 1) (drop n xs) tail
       → IsGreedyFrom sizes widths number xs (take n xs ∷ tail)
   IsGreedyFrom-cons number xs n some within fits full tail rest =
       grind (arith, take-append-drop, full-cons)
@@ -224,8 +222,7 @@ module _ {X : Type 0} (sizes : X → Sizes) (widths : List ℕ) where
   pub IsGreedy-from : (xs : List X) (lines : List (List X)) → 0 < length xs
       → IsGreedyFrom sizes widths 0 xs lines → IsGreedy sizes widths xs lines
   IsGreedy-from [] lines some greedy = absurd (omega arith)
-  IsGreedy-from (x ∷ xs) lines some greedy =
-      grind arith
+  IsGreedy-from (x ∷ xs) lines some greedy = grind arith
 
 -- ---- a list of fragments has at most one greedy division
 
@@ -249,8 +246,7 @@ module _ {X : Type 0} (sizes : X → Sizes) (widths : List ℕ) where
   not_shorter : (number : ℕ) (xs line other : List X) (lines others : List (List X))
       → IsGreedyFrom sizes widths number xs (line ∷ lines)
       → IsGreedyFrom sizes widths number xs (other ∷ others) → length line < length other → ⊥
-  not_shorter number xs line other [] others first second short =
-      search (rules, length-append)
+  not_shorter number xs line other [] others first second short = search (rules, length-append)
   not_shorter number xs line other (next ∷ lines) others first second short =
       let later = All-tail (λ l. l ≢ []) line (next ∷ lines) first.nonempty in
       let within : length other ≤ length line =
@@ -287,8 +283,7 @@ module _ {X : Type 0} (sizes : X → Sizes) (widths : List ℕ) where
 
   from_IsGreedy : (x : X) (xs : List X) (lines : List (List X))
       → IsGreedy sizes widths (x ∷ xs) lines → IsGreedyFrom sizes widths 0 (x ∷ xs) lines
-  from_IsGreedy x xs lines greedy =
-      grind arith
+  from_IsGreedy x xs lines greedy = grind arith
 
   pub greedy_unique : (xs : List X) (first second : List (List X)) → IsGreedy sizes widths xs first
       → IsGreedy sizes widths xs second → first ≡ second
@@ -306,14 +301,13 @@ module _ {X : Type 0} (sizes : X → Sizes) (widths : List ℕ) where
       → AllFull sizes widths number lines → AllFit sizes widths number others
       → length lines ≤ length others
   fewest_from number before [] others same some full fit = omega arith
-  fewest_from number before (line ∷ lines) [] same some full fit =
-      omega (
-        arith,
-        ap length same,
-        length-append before (line ++ flat lines),
-        length-append line (flat lines),
-        some_from_nonempty line (All-head (λ l. l ≢ []) line lines some),
-      )
+  fewest_from number before (line ∷ lines) [] same some full fit = omega (
+    arith,
+    ap length same,
+    length-append before (line ++ flat lines),
+    length-append line (flat lines),
+    some_from_nonempty line (All-head (λ l. l ≢ []) line lines some),
+  )
   fewest_from number before (line ∷ []) (other ∷ others) same some full fit = omega arith
   fewest_from number before (line ∷ next ∷ lines) (other ∷ others) same some full fit =
       let later : All (λ l. l ≢ []) (next ∷ lines) =
@@ -329,12 +323,10 @@ module _ {X : Type 0} (sizes : X → Sizes) (widths : List ℕ) where
       others left later full.1 fit.1 in
       grind arith
 
-  pub greedy_fewest : (xs : List X) (lines others : List (List X))
-      → IsGreedy sizes widths xs lines → IsAdmissible sizes widths xs others
-      → length lines ≤ length others
+  pub greedy_fewest : (xs : List X) (lines others : List (List X)) → IsGreedy sizes widths xs lines
+      → IsAdmissible sizes widths xs others → length lines ≤ length others
   greedy_fewest [] lines others greedy admissible =
       omega (arith, ap length greedy.admissible.division, ap length admissible.division)
-  greedy_fewest (x ∷ xs) lines others greedy admissible =
-      fewest_from 0 [] lines others
+  greedy_fewest (x ∷ xs) lines others greedy admissible = fewest_from 0 [] lines others
       (admissible.division.0 ∙ sym greedy.admissible.division.0) greedy.admissible.division.1
       greedy.full admissible.fit

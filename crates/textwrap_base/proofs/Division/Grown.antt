@@ -21,8 +21,7 @@ module _ {X : Type 0} (sizes : X → Sizes) where
   not_full : (width : ℕ) (x : X) (line : List X)
       → (0 < length line → closed_width sizes (line ++ x ∷ []) ≤ width) → is_full width line x ≡ false
   not_full width x [] room = refl
-  not_full width x (y ∷ line) room =
-      and_right (nat_lt 0 (length (y ∷ line))) _
+  not_full width x (y ∷ line) room = and_right (nat_lt 0 (length (y ∷ line))) _
       (le-ltb width (closed_width sizes ((y ∷ line) ++ x ∷ [])) (room (omega arith)))
 
   -- where all fragments fit one line, no prefix of them is full
@@ -41,21 +40,18 @@ module _ {X : Type 0} (sizes : X → Sizes) (later : ℕ) where
   -- of its own, and the lines after it have the later one
   abbrev pub grown : ℕ → List X → List X → List (List X)
   grown width [] line = line ∷ []
-  grown width (x ∷ xs) line =
-      if is_full sizes width line x then line ∷ grown later xs (x ∷ [])
+  grown width (x ∷ xs) line = if is_full sizes width line x then line ∷ grown later xs (x ∷ [])
       else grown width xs (line ++ x ∷ [])
 
   pub grown-full : (width : ℕ) (x : X) (xs line : List X) → 0 < length line
       → width < closed_width sizes (line ++ x ∷ [])
       → grown width (x ∷ xs) line ≡ line ∷ grown later xs (x ∷ [])
-  grown-full width x xs line some over =
-      search (cond-true, and_from, lt-ltb)
+  grown-full width x xs line some over = search (cond-true, and_from, lt-ltb)
 
   pub grown-room : (width : ℕ) (x : X) (xs line : List X)
       → (0 < length line → closed_width sizes (line ++ x ∷ []) ≤ width)
       → grown width (x ∷ xs) line ≡ grown width xs (line ++ x ∷ [])
-  grown-room width x xs line room =
-      search (cond-false, not_full)
+  grown-room width x xs line room = search (cond-false, not_full)
 
   abbrev Begins : List X → List (List X) → Type 0
   Begins line lines = (more : List X) × (rest : List (List X)) × (lines ≡ (line ++ more) ∷ rest)
@@ -66,8 +62,7 @@ module _ {X : Type 0} (sizes : X → Sizes) (later : ℕ) where
   grown-begins width (x ∷ xs) line =
       let next = grown later xs (x ∷ []) in
       cond_both (is_full sizes width line x) (line ∷ next) (grown width xs (line ++ x ∷ []))
-      (Begins line)
-      (λ full. ([], next, ap (λ l. l ∷ next) (sym (append-nil line))))
+      (Begins line) (λ full. ([], next, ap (λ l. l ∷ next) (sym (append-nil line))))
       (grind (arith, append_assoc, grown-begins width xs (line ++ x ∷ [])))
 
 -- ---- lines that are found fragment by fragment are the greedy division
@@ -101,8 +96,7 @@ module _ {X : Type 0} (sizes : X → Sizes) (later : ℕ) (widths : List ℕ)
   AreGrown-room : (width : ℕ) (x : X) (xs line : List X) (lines : List (List X))
       → is_full sizes width line x ≡ false
       → AreGrown width xs (line ++ x ∷ []) lines → AreGrown width (x ∷ xs) line lines
-  AreGrown-room width x xs line lines room after =
-      grind (arith, append_assoc, Fits-push)
+  AreGrown-room width x xs line lines room after = grind (arith, append_assoc, Fits-push)
 
   are_grown : (width : ℕ) (xs line : List X)
       → AreGrown width xs line (grown sizes later width xs line)

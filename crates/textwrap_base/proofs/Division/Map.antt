@@ -25,12 +25,11 @@ module _ {X Y : Type 0} (f : X → Y) (sizes : Y → Sizes) where
   full-map : (width : ℕ) (line next : List X)
       → width < closed_width (λ x. sizes (f x)) (line ++ take 1 next)
       → width < closed_width sizes (map f line ++ take 1 (map f next))
-  full-map width line next full =
-      rw (
-        take-map f 1 next,
-        ← map-append f line (take 1 next),
-        closed_width-map f sizes (line ++ take 1 next),
-      ) full
+  full-map width line next full = rw (
+    take-map f 1 next,
+    ← map-append f line (take 1 next),
+    closed_width-map f sizes (line ++ take 1 next),
+  ) full
 
   AllFull-map : (widths : List ℕ) (number : ℕ) (lines : List (List X))
       → AllFull (λ x. sizes (f x)) widths number lines

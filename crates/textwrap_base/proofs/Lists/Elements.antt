@@ -70,8 +70,7 @@ indented-more f parts n part text within is so_far =
 
 pub given-copied : {A : Type 0} (it : Copied (Iter A)) (items xs : List A)
     → iter_rest (copied_source it) ≡ items → Drains (copied_steps iter_steps) it xs → xs ≡ items
-given-copied it items xs is drained =
-    sym (map-id xs)
+given-copied it items xs is drained = sym (map-id xs)
     ∙ items_from_drains {v = λ y. y} xs (drained.1.0, drained.1.1, λ _. (drained.0, drained.1.2))
     (YieldsList-from_copied (YieldsList-from_slice items is))
 
@@ -79,8 +78,7 @@ pub join-push : (xs : List (List ℕ)) (y : List ℕ) → 0 < length xs
     → (join_with_byte 10 xs ++ 10 ∷ []) ++ y ≡ join_with_byte 10 (xs ++ y ∷ [])
 join-push [] y some = absurd (omega arith)
 join-push (x ∷ []) y some = append_assoc x (10 ∷ []) y
-join-push (x ∷ z ∷ xs) y some =
-    search (append_assoc, join-push (z ∷ xs) y (omega arith))
+join-push (x ∷ z ∷ xs) y some = search (append_assoc, join-push (z ∷ xs) y (omega arith))
 
 -- ---- ranges of numbers, and those among them that pass a test
 
@@ -91,8 +89,7 @@ range-more a n =
 
 range-next : (point : ℕ) → 1 ≤ point
     → range_with_len 1 (point + 1 - 1) ≡ range_with_len 1 (point - 1) ++ point ∷ []
-range-next point start =
-    grind (arith, range-more)
+range-next point start = grind (arith, range-more)
 
 filter-one : (test : ℕ → Bool) (point : ℕ) (items : List ℕ) (b : Bool) → b ≡ test point
     → items ++ filter test (point ∷ []) ≡ cond b (items ++ point ∷ []) items
@@ -126,14 +123,12 @@ range-split a (suc n) m =
 
 pub repeat_more : (n : ℕ) (xs : List ℕ) → repeat n xs ++ xs ≡ repeat (n + 1) xs
 repeat_more zero xs = sym (append-nil xs)
-repeat_more (suc n) xs =
-    grind (arith, append_assoc, repeat_more n xs)
+repeat_more (suc n) xs = grind (arith, append_assoc, repeat_more n xs)
 
 -- one more text after what stands before a run of it
 pub run_more : (before after xs : List ℕ) (n : ℕ) → after ≡ before ++ repeat n xs
     → after ++ xs ≡ before ++ repeat (n + 1) xs
-run_more before after xs n is =
-    rw (is, append_assoc before (repeat n xs) xs, repeat_more n xs) refl
+run_more before after xs n is = rw (is, append_assoc before (repeat n xs) xs, repeat_more n xs) refl
 
 pub length-repeat : (n : ℕ) (xs : List ℕ) → length (repeat n xs) ≡ n * length xs
 length-repeat zero xs = omega arith
@@ -231,11 +226,10 @@ rising-increasing xs rising = λ k within. rising k (k + 1) (omega arith) within
 pub increasing-le : (xs : List ℕ) → IsStrictlyIncreasing xs → (i j : ℕ) → i ≤ j → j < length xs
     → get_or xs i 0 ≤ get_or xs j 0
 increasing-le xs up i zero le within = let first : i ≡ 0 = omega arith in rw first (omega arith)
-increasing-le xs up i (suc j) le within =
-    elim (cases_eq i (suc j)) [
-      | inl same ↦ rw same (omega arith)
-      | inr other ↦ grind (arith, increasing-le xs up i j (omega (arith, other)) (omega arith))
-    ]
+increasing-le xs up i (suc j) le within = elim (cases_eq i (suc j)) [
+  | inl same ↦ rw same (omega arith)
+  | inr other ↦ grind (arith, increasing-le xs up i j (omega (arith, other)) (omega arith))
+]
 
 pub increasing-rising : (xs : List ℕ) → IsStrictlyIncreasing xs → IsRising xs
 increasing-rising xs up = λ i j lt within.

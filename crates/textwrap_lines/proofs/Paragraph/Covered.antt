@@ -105,8 +105,7 @@ last-append text more some = search (rules, length-append, get_or-append_right)
 blank-before : (chunk : List ℕ) (chunks : List (List ℕ)) (next : List ℕ) (others : List (List ℕ))
     → All (λ part. part ≢ []) (chunk ∷ chunks)
     → AreCutApart ((chunk ∷ chunks) ++ next ∷ others) → last (flat (chunk ∷ chunks)) ≡ blank
-blank-before chunk [] next others some cut =
-    ap last (append-nil chunk)
+blank-before chunk [] next others some cut = ap last (append-nil chunk)
     ∙ eqb-true (last chunk) 32 (and_parts _ _ (cut [] others chunk next refl)).0
 blank-before chunk (more ∷ chunks) next others some cut =
     let rest = All-tail (λ part. part ≢ []) chunk (more ∷ chunks) some in

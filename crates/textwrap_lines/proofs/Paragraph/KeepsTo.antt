@@ -64,8 +64,7 @@ parts_of-no_hyphen settings is_later [] all = refl
 parts_of-no_hyphen settings is_later (w ∷ ws) all = last_piece-no_penalty w ws all
 
 pub parts_from-no_hyphen : (settings : Settings) (is_later : Bool) (division : List (List WordText))
-    → All HasNoPenalty (flat division)
-    → All HasNoHyphen (parts_from settings is_later division)
+    → All HasNoPenalty (flat division) → All HasNoHyphen (parts_from settings is_later division)
 parts_from-no_hyphen settings is_later [] all = All-nil HasNoHyphen
 parts_from-no_hyphen settings is_later (line ∷ lines) all =
     All-cons HasNoHyphen (parts_of settings is_later line) (parts_from settings true lines)
@@ -166,8 +165,7 @@ module _ (settings : Settings) (Words : List ℕ → List WordText → Type 0)
       search (rules, laid_out-cases)
 
   pub paragraph-indented : (is_later : Bool) (paragraph : List ℕ) (parts : List LineParts)
-      → IsUtf8 paragraph → AreParts is_later paragraph parts
-      → AreIndented settings is_later parts
+      → IsUtf8 paragraph → AreParts is_later paragraph parts → AreIndented settings is_later parts
   paragraph-indented is_later paragraph parts utf8 (division, laid_out, is) =
       search (rules, parts_from-indented)
 
@@ -229,8 +227,7 @@ module _ (settings : Settings) (Words : List ℕ → List WordText → Type 0)
         → (paragraph : List ℕ) (parts : List LineParts) → IsUtf8 paragraph
         → AreParts is_later paragraph parts → All (KeepsToWidth settings.width) parts
     paragraph-even hyphens greedy breaks is_later own paragraph parts utf8
-        (division, laid_out, is) =
-        subst (All (KeepsToWidth settings.width)) (sym is)
+        (division, laid_out, is) = subst (All (KeepsToWidth settings.width)) (sym is)
         (by_case (is_whole settings is_later paragraph) refl laid_out)
       where
         by_case : (whole : Bool) → is_whole settings is_later paragraph ≡ whole
@@ -256,8 +253,7 @@ first_width-unindented settings is_later unindented none =
 module _ (settings : Settings) (algorithm : Algorithm) (splitter : Splitter) where
   -- the lines of a paragraph are those of a division of its pieces
   abbrev pub HasDividedLines : Bool → List ℕ → List Line → Type 0
-  HasDividedLines is_later paragraph lines =
-      (parts : List LineParts) × AreDividedParts settings
+  HasDividedLines is_later paragraph lines = (parts : List LineParts) × AreDividedParts settings
       (DividesAs splitter algorithm settings) is_later
       paragraph parts × (map line_from parts ≡ lines)
 

@@ -97,8 +97,7 @@ pub parts_from-blanks : (settings : Settings) (is_later : Bool) (division : List
 parts_from-blanks settings is_later [] all = All-nil (LeavesBlanks settings)
 parts_from-blanks settings is_later (line ∷ lines) all =
     All-cons (LeavesBlanks settings) (parts_of settings is_later line)
-    (parts_from settings true lines)
-    (search (rules, parts_of-blanks, all-left))
+    (parts_from settings true lines) (search (rules, parts_of-blanks, all-left))
     (parts_from-blanks settings true lines
     (all-right EndsInBlanks line (flat_map (λ l. l) lines) all))
 

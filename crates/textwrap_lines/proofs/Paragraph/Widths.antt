@@ -112,8 +112,7 @@ pub overflow-optimal : {E X : Type 0} {e : _} (algorithm : algorithms.WrapAlgori
 overflow-optimal algorithms.TheVariants.FirstFit sizes widths xs overflows = absurd overflows
 overflow-optimal (algorithms.TheVariants.OptimalFit penalties) sizes widths xs overflows =
     (penalties, refl)
-overflow-optimal (algorithms.TheVariants.Custom given) sizes widths xs overflows =
-    absurd overflows
+overflow-optimal (algorithms.TheVariants.Custom given) sizes widths xs overflows = absurd overflows
 
 -- an error that is no overflow
 pub only-without : {A : Type 0} (result : Result A WrapError) → ¬ Overflowed result

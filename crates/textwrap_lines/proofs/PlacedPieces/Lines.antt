@@ -30,8 +30,7 @@ use Rattle.textwrap_lines.proofs.Text.Sinks.{cut_lines-next}
 pub length-spans : (at columns : ℕ) (ws : List WordText)
     → length (spans_from at columns ws) ≡ length ws
 length-spans at columns [] = refl
-length-spans at columns (w ∷ ws) =
-    ap suc (length-spans (at + length w.word + length w.whitespace)
+length-spans at columns (w ∷ ws) = ap suc (length-spans (at + length w.word + length w.whitespace)
     (columns + w.width + length w.whitespace) ws)
 
 pub spans-append : (at columns : ℕ) (xs ys : List WordText)
@@ -138,8 +137,7 @@ stand at columns ws (line ∷ lines) some is =
     (sym (length-spans at columns front ∙ length-take-le n ws count)) in
     let rest = stand (at + length (tiled front)) (columns + open_width sizes_of front) back lines
     (All-tail (λ line. line ≢ []) line lines some) parts.1 in
-    let filled : front ≢ [] =
-    λ none. All-head (λ line. line ≢ []) line lines some
+    let filled : front ≢ [] = λ none. All-head (λ line. line ≢ []) line lines some
     (parts.0 ∙ ap (spans_from at columns) none) in (
       front ∷ rest.0,
       ap (λ l. front ++ l) rest.1 ∙ whole,
@@ -166,8 +164,7 @@ Stand-follow starts from at columns (words ∷ division) [] stands follow = absu
 Stand-follow starts from at columns (words ∷ division) (line ∷ lines) (some, here, stands)
     (start, follow) =
     let len : from + length line ≡ from + length words = rw (here, length-spans) in (
-      sym (ap (λ n. get_or starts n 0) len)
-          ∙ start,
+      sym (ap (λ n. get_or starts n 0) len) ∙ start,
       Stand-follow starts (from + length words) (at + length (tiled words))
           (columns + open_width sizes_of words) division lines stands
           (subst (λ n. FollowStarts starts n lines) len follow),
@@ -316,13 +313,11 @@ module _ (settings : Settings) (text : List ℕ) (utf8 : IsUtf8 text) where
       → AreLinesFound is_later at division lines
   lines-found is_later at columns [] [] stands tile begins measured none =
       record { are = refl; texts = tt }
-  lines-found is_later at columns [] (line ∷ lines) stands tile begins measured none =
-      absurd stands
+  lines-found is_later at columns [] (line ∷ lines) stands tile begins measured none = absurd stands
   lines-found is_later at columns (words ∷ division) [] stands tile begins measured none =
       absurd stands
   lines-found is_later at columns ([] ∷ division) (line ∷ lines) (some, here, stands) tile begins
-      measured none =
-      absurd (some refl)
+      measured none = absurd (some refl)
   lines-found is_later at columns ((w ∷ ws) ∷ division) (line ∷ lines) (some, here, stands) tile
       begins measured none =
       let words = w ∷ ws in
@@ -338,8 +333,7 @@ module _ (settings : Settings) (text : List ℕ) (utf8 : IsUtf8 text) where
       (all-right IsMeasured words (flat division) measured)
       (all-right HasNoPenalty words (flat division) none) in
       let line_is : span_line settings text is_later at last
-      ≡ cut_line at (line_from (parts_of settings is_later words)) =
-      rw (
+      ≡ cut_line at (line_from (parts_of settings is_later words)) = rw (
         slice-line text at words last rest settings.preserve_trailing_space seam ends,
         assembled-parts settings is_later w ws (all-left HasNoPenalty words (flat division) none),
       ) in

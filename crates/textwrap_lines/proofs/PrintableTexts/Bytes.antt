@@ -71,13 +71,11 @@ pub record IsExact (w : WordText) : Type 0 where
   pub penalty : HasNoPenalty w
 
 pub exact-words : (ws : List WordText) → All IsMeasured ws → All HasNoPenalty ws
-    → IsPrintable (tiled ws)
-    → All IsExact ws
+    → IsPrintable (tiled ws) → All IsExact ws
 exact-words [] measured none printable = All-nil IsExact
 exact-words (w ∷ ws) measured none printable =
     let here = All-head IsMeasured w ws measured in
-    let word =
-    all-left IsPrintableByte w.word w.whitespace (all-left IsPrintableByte (tile_of w)
+    let word = all-left IsPrintableByte w.word w.whitespace (all-left IsPrintableByte (tile_of w)
     (tiled ws) printable) in
     All-cons IsExact w ws
     (record {
@@ -168,8 +166,7 @@ broken_texts-printable (suc n) (c ∷ cs) printable room some =
     (ap (λ k. left_units limit k (map Visible cs)) first ∙ rest.1) in
     let parts : broken_units limit (map Visible text)
     ≡ map Visible (take limit text) ∷ broken_units limit (map Visible (drop limit text)) =
-    parts_after-is limit 0 (map Visible text)
-    ∙ cc in
+    parts_after-is limit 0 (map Visible text) ∙ cc in
     let whole = units_of-printable text printable in
     let first_part = units_text-printable (take limit text) front in
     let others =
@@ -198,8 +195,7 @@ begins_wide-step limit n w ws room within printable width long =
     let back = drop limit w.word in
     let texts = broken_texts-printable limit w.word printable room (omega (arith, wider, width)) in
     let left = length-drop limit w.word in
-    let some =
-    broken_texts-some limit back (printable-utf8 back
+    let some = broken_texts-some limit back (printable-utf8 back
     (All-drop IsPrintableByte limit w.word printable))
     (λ e. let none = ap length e in omega (arith, none, left, wider, width)) in
     let front_len = length-take-le limit w.word (omega (arith, wider, width)) in
@@ -287,8 +283,7 @@ ends-printable text (suc m) printable inside =
     ∙ ap begins_alphanumeric (reverse-append (take m text) (here ∷ []))
     ∙ alphanumeric-printable here
     (All-head IsPrintableByte here [] (all-right IsPrintableByte (take m text) (here ∷ [])
-    front_printable))
-    ∙ ap (λ k. is_ascii_alphanumeric (get_or text k 0)) (sym place)
+    front_printable)) ∙ ap (λ k. is_ascii_alphanumeric (get_or text k 0)) (sym place)
     ∙ ap (λ t. t && is_ascii_alphanumeric (get_or text (suc m - 1) 0))
     (sym (lt-ltb 0 (suc m) (omega arith)))
 
@@ -306,8 +301,7 @@ point-printable text place printable some inside =
     let after = get_or text place 0 in
     let rest = drop place text in
     let rest_is : rest ≡ after ∷ drop (place + 1) text = drop_more text place 0 inside in
-    let shape : front ++ b ∷ rest ≡ text =
-    ap (λ n. front ++ b ∷ drop n text) (sym next)
+    let shape : front ++ b ∷ rest ≡ text = ap (λ n. front ++ b ∷ drop n text) (sym next)
     ∙ ap (λ l. front ++ l) (sym (drop_more text m 0 (omega (arith, some, inside))))
     ∙ take-append-drop m text in
     let point = point-is front rest b place
@@ -319,8 +313,7 @@ point-printable text place printable some inside =
     ∙ ap (λ k. nat_lt 0 m && is_ascii_alphanumeric (get_or text k 0)) two
     ∙ ap (λ t. t && is_ascii_alphanumeric (get_or text (place - 2) 0)) first in
     let later : begins_alphanumeric (chars rest) ≡ is_ascii_alphanumeric after =
-    ap (λ l. begins_alphanumeric (chars l)) rest_is
-    ∙ begins-printable after (drop (place + 1) text)
+    ap (λ l. begins_alphanumeric (chars l)) rest_is ∙ begins-printable after (drop (place + 1) text)
     (subst IsPrintable rest_is (All-drop IsPrintableByte place text printable)) in
     let same = ap (λ t. is_hyphen_point t place) (sym shape) in
     cc (same, point, ends, later)

@@ -55,8 +55,7 @@ module _ (test : ℕ → Bool) (limit : ℕ) (text : List ℕ) (printable : IsPr
 
   words-all : (P : WordText → Type 0) → ((part : List ℕ) → IsPrintable part → P (word_of part))
       → All P words
-  words-all P each =
-      All-map P word_of parts
+  words-all P each = All-map P word_of parts
       (All-weaker IsPrintable (λ b. P (word_of b)) each parts
       (flat-printable parts (subst IsPrintable (sym (flat-parts test at rest)) rest-printable)))
 
@@ -74,12 +73,10 @@ module _ (test : ℕ → Bool) (limit : ℕ) (text : List ℕ) (printable : IsPr
   words-plain = words-all HasNoPenalty (λ b p. refl)
 
   pub pieces-tile : tiled pieces ≡ rest
-  pieces-tile =
-      tiled-broken_words limit words
+  pieces-tile = tiled-broken_words limit words
       (All-weaker IsMeasured (λ w. IsUtf8 w.word) (λ w m. m.utf8) words words-measured)
       (All-weaker IsMeasured (λ w. limit < w.width → w.word ≢ []) (λ w m. wide-some limit w m)
-      words words-measured)
-      ∙ words-tile
+      words words-measured) ∙ words-tile
 
   pub pieces-some : at < length text → 0 < length pieces
   pieces-some some = by pieces pieces-tile
@@ -89,8 +86,7 @@ module _ (test : ℕ → Bool) (limit : ℕ) (text : List ℕ) (printable : IsPr
       by (w ∷ ws) e = omega arith
 
   pub pieces-exact : All IsExact pieces
-  pieces-exact =
-      exact-words pieces (broken_words-measured limit words words-measured)
+  pieces-exact = exact-words pieces (broken_words-measured limit words words-measured)
       (broken_words-no_penalty limit words words-plain)
       (subst IsPrintable (sym pieces-tile) rest-printable)
 
@@ -99,11 +95,9 @@ module _ (test : ℕ → Bool) (limit : ℕ) (text : List ℕ) (printable : IsPr
   module _ (before : BeforeOthers test text) where
     -- the pieces cover the text without the blanks at its end
     pub pieces-cover : covered pieces ≡ without_final_blanks rest
-    pieces-cover =
-        covered-tiled pieces rest
+    pieces-cover = covered-tiled pieces rest
         (flat_map-space (broken_word limit) words (broken_words-ends limit words words-measured)
-        ∙ last-part test text before at)
-        pieces-tile
+        ∙ last-part test text before at) pieces-tile
 
     -- a text that keeps to the width fits one line
     pub pieces-fit : (width : ℕ) → trimmed_len rest ≤ width → Fits sizes_of width pieces
@@ -272,10 +266,8 @@ module _ (cuts : ℕ → Bool) (splitter : Splitter) (text : List ℕ) (printabl
   both = is_cut_by cuts splitter text
 
   plain-at : (end : ℕ) → 0 < end → end < length text → cuts end ≡ true → EndsPlain (take end text)
-  plain-at end some inside is =
-      ends-printable text end printable inside
-      ∙ ap (λ t. nat_lt 0 end && t) (after end some inside is)
-      ∙ and_right (nat_lt 0 end) false refl
+  plain-at end some inside is = ends-printable text end printable inside
+      ∙ ap (λ t. nat_lt 0 end && t) (after end some inside is) ∙ and_right (nat_lt 0 end) false refl
 
   split-end : (at : ℕ) → length text ≤ at
       → split_words splitter (map word_of (parts_by cuts at (drop at text)))
@@ -311,8 +303,7 @@ module _ (cuts : ℕ → Bool) (splitter : Splitter) (text : List ℕ) (printabl
         (printable-utf8 before (All-take IsPrintableByte at text printable)) (plain inside)
         (printable-utf8 q (printable-slice text at end printable)) (omega (arith, len, some))
         splitter in
-        let here : split_word splitter (word_of q) ≡ map word_of (parts_by both at q) =
-        word
+        let here : split_word splitter (word_of q) ≡ map word_of (parts_by both at q) = word
         ∙ ap (λ t. map word_of (parts_by (is_point splitter t) (length before) q)) whole
         ∙ ap (λ k. map word_of (parts_by (is_point splitter text) k q)) place
         ∙ ap (map word_of) (parts-same (is_point splitter text) both q at (λ k from to.

@@ -119,8 +119,7 @@ module _ {E C : Type 0} {e : _} {c : _} (options : Options E C e c)
       → DividesAt words splitter algorithm settings is_later paragraph division
   divides-at is_later paragraph division by =
       subst (λ s. DividesAt words splitter algorithm s is_later paragraph division)
-      parts.settings_are
-      (divides-under_at (settings_view options) is_later paragraph division by)
+      parts.settings_are (divides-under_at (settings_view options) is_later paragraph division by)
 
 -- ---- whatever holds of each division holds of what is made of them
 
@@ -185,8 +184,7 @@ module _ (settings : Settings) (Divides : Bool → List ℕ → List (List WordT
   parts-begin : (is_later : Bool) (paragraph : List ℕ) (parts : List LineParts)
       → IsUtf8 paragraph → AreParagraphParts settings Divides is_later paragraph parts
       → StartsWith paragraph (covered_by parts)
-  parts-begin is_later paragraph parts utf8 (division, laid_out, is) =
-      subst (StartsWith paragraph)
+  parts-begin is_later paragraph parts utf8 (division, laid_out, is) = subst (StartsWith paragraph)
       (sym (ap covered_by is ∙ covered_by-parts_from settings is_later division))
       (laid_out-cases (λ d. StartsWith paragraph (tiled (flat d))) paragraph _ division
       (starts_with_of_eq paragraph _ (sym (tiled-word_of paragraph)))
@@ -324,11 +322,9 @@ module _ (settings : Settings) (Divides : Bool → List ℕ → List (List WordT
   groups_one is_later (paragraph ∷ paragraphs) (parts ∷ groups) [] is other = absurd other
   groups_one is_later (paragraph ∷ paragraphs) (parts ∷ groups) (more ∷ others) is other =
       let same = paragraph_one is_later paragraph parts more is.0 other.0 in
-      let rest =
-      groups_one
+      let rest = groups_one
       (is_later ||
-      nat_lt 0 (length parts)) paragraphs groups others is.1
-      (rw same other.1) in
+      nat_lt 0 (length parts)) paragraphs groups others is.1 (rw same other.1) in
       ap (λ ps. ps ∷ groups) same ∙ ap (λ gs. more ∷ gs) rest
 
   pub text_one : (text : List ℕ) (lines others : List Line)

@@ -43,8 +43,7 @@ blanks-whole bytes blanks =
     grind (arith, blanks-printable, chars-IsAscii, printable-ascii, units-plain, All-weaker)
 
 covered-width : (ws : List WordText) → All IsMeasured ws → All HasNoPenalty ws
-    → All (λ w. HasWholeSequences w.word) ws
-    → text_width (covered ws) ≡ closed_width sizes_of ws
+    → All (λ w. HasWholeSequences w.word) ws → text_width (covered ws) ≡ closed_width sizes_of ws
 covered-width [] measured none whole = text_width-nil
 covered-width (w ∷ []) measured none whole = grind (arith, All-head)
 covered-width (w ∷ v ∷ ws) measured none whole =
@@ -66,8 +65,7 @@ covered-width (w ∷ v ∷ ws) measured none whole =
 
 -- a line is as wide as its indent and what its pieces close at
 abbrev pub PrintsAsMeasured : LineParts → Type 0
-PrintsAsMeasured p =
-    CutsNoSequence p
+PrintsAsMeasured p = CutsNoSequence p
     → text_width (line_bytes (line_from p)) ≡ text_width p.indent + closed_width sizes_of p.pieces
 
 module _ (settings : Settings) (trims : settings.preserve_trailing_space ≡ false)
@@ -213,14 +211,12 @@ module _ (settings : Settings) (Words : List ℕ → List WordText → Type 0)
         (λ widths pieces division divided. (
           [],
           search (rules, arith, append-nil, division-whole),
-        ))
-        hyphens greedy can.breaks is_later own paragraph parts utf8 (division, laid_out, is) in
+        )) hyphens greedy can.breaks is_later own paragraph parts utf8 (division, laid_out, is) in
         λ k d lt. within (get_or parts k d) (keeps k d lt) (printed k d lt)
 
     -- one paragraph, or even ones
     groups-within : (paragraphs : List (List ℕ)) (groups : List (List LineParts))
-        → All IsUtf8 paragraphs
-        → (settings.even_paragraphs ≡ true) ⊎ (paragraphs ≡ text ∷ [])
+        → All IsUtf8 paragraphs → (settings.even_paragraphs ≡ true) ⊎ (paragraphs ≡ text ∷ [])
         → AreGroups AreParts false paragraphs groups → All Within (flat groups)
     groups-within paragraphs groups all even are = elim even [
       | inl even ↦ groups-all Within false paragraphs groups

@@ -185,8 +185,7 @@ module _ {E C : Type 0} {e : _} {c : _} (options : Options E C e c) where
       (λ built_in widths pieces division. MayDivide-some algorithm (λ w. w) widths pieces division
       built_in)
       (λ first widths pieces division. MayDivide-greedy algorithm (λ w. w) widths pieces division
-      first)
-      text lines utf8 are
+      first) text lines utf8 are
 
   pub LinesKeepToWidth-options : (text : List ℕ) (lines : List Line) → IsUtf8 text
       → options.even_paragraphs ≡ true → options.wrap_algorithm ≡ FirstFit
@@ -198,11 +197,9 @@ module _ {E C : Type 0} {e : _} {c : _} (options : Options E C e c) where
       LinesKeepToWidth-by (settings_view options) (MaySeparate options.word_separator)
       (MaySplit options.word_splitter) (MayDivide algorithm (λ w. w))
       (MaySeparate-texts options.word_separator) (MaySplit-cuts options.word_splitter)
-      (MayDivide-begins algorithm (λ w. w))
-      (MaySplit-hyphens options.word_splitter built_in)
+      (MayDivide-begins algorithm (λ w. w)) (MaySplit-hyphens options.word_splitter built_in)
       (λ widths pieces division. MayDivide-greedy algorithm (λ w. w) widths pieces division
-      (ap algorithm_view first))
-      text lines utf8 even breaks are
+      (ap algorithm_view first)) text lines utf8 even breaks are
 
   pub ArePrintedWithin-options : (text : List ℕ) (lines : List Line) → IsUtf8 text
       → options.wrap_algorithm ≡ FirstFit → splitter_view options.word_splitter ≢ None
@@ -216,5 +213,4 @@ module _ {E C : Type 0} {e : _} {c : _} (options : Options E C e c) where
       (MaySeparate-texts options.word_separator) (MaySplit-cuts options.word_splitter)
       (MaySplit-hyphens options.word_splitter built_in)
       (λ widths pieces division. MayDivide-greedy algorithm (λ w. w) widths pieces division
-      (ap algorithm_view first))
-      text lines utf8 can are
+      (ap algorithm_view first)) text lines utf8 can are

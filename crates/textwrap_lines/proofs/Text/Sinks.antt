@@ -32,8 +32,7 @@ pub lines_of-more : (cuts : List CutLine) (start : ℕ) (more : List CutLine)
     → lines_of (cuts ++ map (further start) more) ≡ lines_of cuts ++ lines_of more
 lines_of-more [] start [] = refl
 lines_of-more [] start (cut ∷ more) = ap (λ ls. cut.line ∷ ls) (lines_of-more [] start more)
-lines_of-more (first ∷ cuts) start more =
-    ap (λ ls. first.line ∷ ls) (lines_of-more cuts start more)
+lines_of-more (first ∷ cuts) start more = ap (λ ls. first.line ∷ ls) (lines_of-more cuts start more)
 
 pub lines_of-cut_lines : (at : ℕ) (parts : List LineParts)
     → lines_of (cut_lines at parts) ≡ map line_from parts
@@ -58,8 +57,7 @@ cut_lines-next settings is_later at after pieces others is = grind (arith, parts
 
 -- ---- the places where they stand
 
-pub length-places_of : (used : ℕ) (cuts : List CutLine)
-    → length (places_of used cuts) ≡ length cuts
+pub length-places_of : (used : ℕ) (cuts : List CutLine) → length (places_of used cuts) ≡ length cuts
 length-places_of used [] = refl
 length-places_of used (cut ∷ cuts) =
     let more = length-places_of (used + length (built_bytes cut.line)) cuts in omega (arith, more)
@@ -297,8 +295,7 @@ module _ (settings : Settings) (Divides : Bool → List ℕ → List (List WordT
       let cuts : map (further start) (cut_lines 0 parts) ≡ here =
       further-cut_lines start 0 parts ∙ ap (λ n. cut_lines n parts) from_start in
       let count = length-append so_far.lines here in
-      let own : length here ≡ length parts =
-      sym (length-map here (λ (cut : CutLine). cut.line))
+      let own : length here ≡ length parts = sym (length-map here (λ (cut : CutLine). cut.line))
       ∙ ap length (lines_of-cut_lines start parts) ∙ length-map parts line_from in
       let later : nat_lt 0 (length (so_far.lines ++ here))
       ≡ nat_lt 0 (length so_far.lines) || nat_lt 0 (length parts) =
@@ -314,8 +311,7 @@ module _ (settings : Settings) (Divides : Bool → List ℕ → List (List WordT
         given = map-append (λ (cut : CutLine). cut.line) so_far.lines here
             ∙ ap (λ ls. ls ++ lines_of here) so_far.given
             ∙ ap (λ ls. map line_from (flat_map (λ ps. ps) so_far.groups) ++ ls)
-            (lines_of-cut_lines start parts)
-            ∙ sym (groups-push so_far.groups parts);
+            (lines_of-cut_lines start parts) ∙ sym (groups-push so_far.groups parts);
         more = λ others rest. rw append_assoc (so_far.more (parts ∷ others)
             (rw (is_out first start so_far.lines held) at are, rw later at rest));
         cuts = λ others. simp (append_assoc, so_far.cuts (parts ∷ others), ends);

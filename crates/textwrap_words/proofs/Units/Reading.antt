@@ -50,8 +50,7 @@ units_in-inside s c cs inside = ap (λ n. units_past n (c ∷ cs)) (taken-step s
 
 pub units_in-text : (c : ℕ) (cs : List ℕ)
     → units_in Text (c ∷ cs) ≡ unit_at c cs ∷ units_in (next_of Text c) cs
-units_in-text c cs =
-    elim (cases_Bool (eqb c 27)) [ inl t ↦ rw t refl | inr f ↦ rw f refl ]
+units_in-text c cs = elim (cases_Bool (eqb c 27)) [ inl t ↦ rw t refl | inr f ↦ rw f refl ]
 
 -- what the reader shows of a text is visible in it
 pub visible-step : (s : State) (c : ℕ) (cs : List ℕ)
@@ -159,8 +158,7 @@ encode-plain c other = All-from_get_or (λ b. b ≢ escape) (encode c) 0 (λ k w
 encodes-plain : (cs : List ℕ) → All (λ c. c ≢ escape) cs → All (λ b. b ≢ escape)
     (encode_utf8_all cs)
 encodes-plain [] plain = All-nil (λ b. b ≢ escape)
-encodes-plain (c ∷ cs) plain =
-    All-append (λ b. b ≢ escape) (encode c) (encode_utf8_all cs)
+encodes-plain (c ∷ cs) plain = All-append (λ b. b ≢ escape) (encode c) (encode_utf8_all cs)
     (encode-plain c (All-head (λ d. d ≢ escape) c cs plain))
     (encodes-plain cs (All-tail (λ d. d ≢ escape) c cs plain))
 
@@ -171,8 +169,7 @@ visible-plain zero (c ∷ cs) = grind (arith, visible-plain (escape_len cs) cs, 
 visible-plain (suc n) (c ∷ cs) = visible-plain n cs
 
 pub stripped-plain : (bytes : List ℕ) → All (λ b. b ≢ escape) (stripped bytes)
-stripped-plain bytes =
-    encodes-plain (flat_map visible_of (units_past 0 (chars bytes)))
+stripped-plain bytes = encodes-plain (flat_map visible_of (units_past 0 (chars bytes)))
     (visible-plain 0 (chars bytes))
 
 -- ---- a text is no shorter than its visible characters
@@ -183,8 +180,7 @@ visible-short : (n : ℕ) (cs : List ℕ)
 visible-short n [] = omega arith
 visible-short zero (c ∷ cs) =
     grind (arith, length-append, visible-short (escape_len cs) cs, visible-short 0 cs)
-visible-short (suc n) (c ∷ cs) =
-    omega (arith, visible-short n cs, length-append {A = ℕ})
+visible-short (suc n) (c ∷ cs) = omega (arith, visible-short n cs, length-append {A = ℕ})
 
 pub stripped-short : (text : List ℕ) → IsUtf8 text → length (stripped text) ≤ length text
 stripped-short text utf8 =
@@ -203,8 +199,7 @@ added state c = cond (shows state c) (columns c) 0
 -- one step over a character
 pub columns_in-step : (state : State) (c : ℕ) (cs : List ℕ)
     → columns_in state (c ∷ cs) ≡ added state c + columns_in (next_of state c) cs
-columns_in-step state c cs =
-    ap (sum_by columns) (visible-step state c cs)
+columns_in-step state c cs = ap (sum_by columns) (visible-step state c cs)
     ∙ elim (cases_Bool (shows state c)) [
       | inl t ↦ rw t (sum_by-cons columns c (visible_in (next_of state c) cs))
       | inr f ↦ rw f (sym (zero-add (columns_in (next_of state c) cs)))
@@ -227,8 +222,7 @@ unit_at-le c cs = grind arith
 pub visible-le : (n : ℕ) (cs : List ℕ)
     → sum_by columns (flat_map visible_of (units_past n cs)) ≤ sum_by columns cs
 visible-le n [] = omega arith
-visible-le zero (c ∷ cs) =
-    simp (sum_by-cons, sum_by-append)
+visible-le zero (c ∷ cs) = simp (sum_by-cons, sum_by-append)
     (omega (arith, unit_at-le c cs, visible-le (taken_at c cs) cs))
 visible-le (suc n) (c ∷ cs) = simp sum_by-cons (omega (arith, visible-le n cs))
 
@@ -242,8 +236,7 @@ pub printable-no_escape : (c : ℕ) → IsPrintableByte c → eqb c 27 ≡ false
 printable-no_escape c (low, high) = grind (arith, nat_tests, low)
 
 pub printable-ascii : (text : List ℕ) → IsPrintable text → IsAscii text
-printable-ascii text printable i =
-    grind (arith, cases_lt, get_or_past)
+printable-ascii text printable i = grind (arith, cases_lt, get_or_past)
 
 pub units-printable : (cs : List ℕ) → IsPrintable cs → units cs ≡ map Visible cs
 units-printable [] printable = refl
@@ -289,14 +282,13 @@ unfolding char_width alone
 columns-other c other = grind (arith, of_kind-narrow c (kind c) other)
 
 pub columns-le : (c : ℕ) → columns c ≤ length (encode c)
-columns-le c =
-    elim (cases_lt c 128) [
-      | inl low ↦ rw length-encode (grind (arith, nat_tests, columns-ascii c low))
-      | inr high ↦ elim (cases_eq c 0x17D8) [
-        | inl same ↦ rw length-encode (grind (arith, nat_tests, width_or_zero-le false c, same))
-        | inr other ↦ rw length-encode (grind (arith, nat_tests, columns-other c other, high))
-      ]
-    ]
+columns-le c = elim (cases_lt c 128) [
+  | inl low ↦ rw length-encode (grind (arith, nat_tests, columns-ascii c low))
+  | inr high ↦ elim (cases_eq c 0x17D8) [
+    | inl same ↦ rw length-encode (grind (arith, nat_tests, width_or_zero-le false c, same))
+    | inr other ↦ rw length-encode (grind (arith, nat_tests, columns-other c other, high))
+  ]
+]
 
 pub added-le : (s : State) (c : ℕ) → added s c ≤ length (encode c)
 added-le s c = grind (arith, cases_Bool, columns-le c)

@@ -37,10 +37,8 @@ IsInFirst-start limit cs =
 -- the reader goes over one unit of the text
 text-unit : (limit width c : ℕ) (cs : List ℕ)
     → (shows Text c ≡ true → is_due limit width (Visible c) ≡ false)
-    → (is_due limit width (unit_at c cs) ≡ false)
-    × (unit_width (unit_at c cs) ≡ added Text c)
-text-unit limit width c cs room =
-    grind (arith, cases_Bool)
+    → (is_due limit width (unit_at c cs) ≡ false) × (unit_width (unit_at c cs) ≡ added Text c)
+text-unit limit width c cs room = grind (arith, cases_Bool)
 
 -- what comes in the state after a character, with what that character adds
 record TakesUnit (limit width : ℕ) (us : List TextUnit) (more : ℕ) (vs : List TextUnit) : Type 0 where

@@ -96,8 +96,7 @@ module _ {F : Type 0} {f : _} where
 
   pub MayDivide-greedy : {X : Type 0} (algorithm : WrapAlgorithm F f) (view : X → WordText)
       (widths : List ℕ) (xs : List X) (lines : List (List X))
-      → algorithm_view algorithm ≡ Some Greedy
-      → MayDivide algorithm view widths xs lines
+      → algorithm_view algorithm ≡ Some Greedy → MayDivide algorithm view widths xs lines
       → IsDividedBy Greedy (λ x. sizes_of (view x)) widths xs lines
   MayDivide-greedy FirstFit view widths xs lines is divided = divided
   MayDivide-greedy (OptimalFit penalties) view widths xs lines is divided = cc

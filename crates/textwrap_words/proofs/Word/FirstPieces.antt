@@ -42,8 +42,7 @@ word_of-slice text at word_end end within are =
     let len : length slice ≡ n = length-slice text at end within in
     let byte : (k : ℕ) → k < n → get_or slice k 0 ≡ get_or text (at + k) 0 =
     λ k below. get_or-take n rest k 0 below ∙ get_or-drop at text k 0 in
-    let most : trimmed_len slice ≤ m =
-    trimmed-le slice m (grind arith) in
+    let most : trimmed_len slice ≤ m = trimmed-le slice m (grind arith) in
     let trimmed : trimmed_len slice ≡ m = elim (cases_lt 0 m) [
       | inr none ↦ omega (arith, none, most)
       | inl some ↦
@@ -67,8 +66,7 @@ module _ (test : ℕ → Bool) (text : List ℕ) where
       let within = part.within in
       let place : at + n ≡ end = omega (arith, some) in
       let left = length-drop at text in
-      parts_by-front test (drop at text) at n (omega (arith, some))
-      (omega (arith, left, within))
+      parts_by-front test (drop at text) at n (omega (arith, some)) (omega (arith, left, within))
       (λ k first below. part.uncut (at + k) (omega (arith, first)) (omega (arith, below)))
       (λ inside. ap test place ∙ part.ends (omega (arith, inside, left, some)))
       ∙ ap (λ l. slice_range text at end ∷ parts_by test (at + n) l) (drop-drop n at text)
@@ -94,8 +92,7 @@ module _ (test : ℕ → Bool) (text : List ℕ) where
         → pieces_from test limit text at
         ≡ piece (slice_range text at word_end) (slice_range text word_end end) []
         ∷ pieces_from test limit text end
-    pieces-whole at word_end end part are one =
-        pieces-part at word_end end part are
+    pieces-whole at word_end end part are one = pieces-part at word_end end part are
         ∙ ap (λ ws. ws ++ pieces_from test limit text end) one
 
     -- the first piece of a word that is wider than the limit, and those from where it stops
@@ -123,8 +120,7 @@ module _ (test : ℕ → Bool) (text : List ℕ) where
           other = λ _. are.other (omega (arith, after, inside));
           blanks = are.blanks;
         } in
-        pieces-part at word_end end part are
-        ∙ ap (λ ws. ws ++ pieces_from test limit text end)
+        pieces-part at word_end end part are ∙ ap (λ ws. ws ++ pieces_from test limit text end)
         (broken_word-front limit (slice_range text at word_end) (slice_range text at stop) rest
         (slice_range text word_end end) utf8 some wide texts)
         ∙ ap (λ ws. piece (slice_range text at stop) [] [] ∷ ws)

@@ -49,8 +49,7 @@ tiled-split_words splitter (w ∷ words) utf8 =
     let first = tiled-split_pieces (points_of splitter w.word) w
     (points_of-cuts splitter w.word (All-head (λ v. IsUtf8 v.word) w words utf8)) in
     flat_map-append tile_of (split_word splitter w) (split_words splitter words)
-    ∙ ap (λ l. l ++ tiled (split_words splitter words)) first
-    ∙ ap (λ l. tile_of w ++ l)
+    ∙ ap (λ l. l ++ tiled (split_words splitter words)) first ∙ ap (λ l. tile_of w ++ l)
     (tiled-split_words splitter words (All-tail (λ v. IsUtf8 v.word) w words utf8))
 
 -- one word more is split
@@ -108,8 +107,7 @@ split_from-measured w start (point ∷ points) measured at in_order cuts before 
 points_of-hyphens : (splitter : Splitter) (text : List ℕ)
     → All (λ p. ends_in_hyphen (take p text) ≡ true) (points_of splitter text)
 points_of-hyphens Whole text = All-nil (λ p. ends_in_hyphen (take p text) ≡ true)
-points_of-hyphens AtHyphens text =
-    λ k d lt. (and_parts _ _ (and_parts _ _
+points_of-hyphens AtHyphens text = λ k d lt. (and_parts _ _ (and_parts _ _
     (filter_passes (is_hyphen_point text) (inner_offsets text) k d lt)).0).0
 
 pub split_from-no_penalty : (w : WordText) (start : ℕ) (points : List ℕ) → HasNoPenalty w
@@ -133,8 +131,7 @@ AreTexts-parts line parts tile utf8 = search (words-measured, All-map)
 
 pub AreTexts-words : (line : List ℕ) (words : List WordText) → IsUtf8 line → AreWordsOf line words
     → AreTexts line words
-AreTexts-words line words utf8 are =
-    subst (AreTexts line) (sym ((words_unique line words).0 are))
+AreTexts-words line words utf8 are = subst (AreTexts line) (sym ((words_unique line words).0 are))
     (AreTexts-parts line (chunks line) (tiled-words_of line) (chunks-utf8 line utf8))
 
 pub ArePoints-cuts : (splitter : Splitter) (text points : List ℕ) → IsUtf8 text
@@ -193,8 +190,7 @@ module _ (Points : List ℕ → List ℕ → Type 0) (hyphens : (text points : L
     → Points text points → All (λ p. ends_in_hyphen (take p text) ≡ true) points) where
   pub AreSplit-no_penalty : (words pieces : List WordText) → All HasNoPenalty words
       → AreSplit Points words pieces → All HasNoPenalty pieces
-  AreSplit-no_penalty [] pieces all are =
-      subst (All HasNoPenalty) (sym are) (All-nil HasNoPenalty)
+  AreSplit-no_penalty [] pieces all are = subst (All HasNoPenalty) (sym are) (All-nil HasNoPenalty)
   AreSplit-no_penalty (w ∷ words) pieces all (points, rest, points_are, rest_are, is) =
       subst (All HasNoPenalty) (sym is)
       (All-append HasNoPenalty (split_pieces points w) rest

@@ -58,8 +58,7 @@ module _ (limit : ℕ) (text : List ℕ) where
     -- it is found where what follows begins the next piece
     found : IsUtf8 text → text ≢ [] → EndsHere limit (chars text) width (units (chars rest))
         → IsFirstPiece limit text at width
-    found utf8 some ends =
-        IsFirstPiece-found limit text at width utf8 some h.read.boundary.0
+    found utf8 some ends = IsFirstPiece-found limit text at width utf8 some h.read.boundary.0
         (subst IsUtf8 (sym h.read.place) h.read.utf8)
         (subst (λ bs. EndsHere limit (chars text) width (units (chars bs))) (sym h.read.place) ends)
 
@@ -72,8 +71,7 @@ module _ (limit : ℕ) (text : List ℕ) where
         (IsInFirst-cut limit (chars text) s width c (chars after)
         (subst (IsInFirst limit (chars text) s width) here h.inside) shown due))
 
-    pub IsReading-end : IsUtf8 text → text ≢ [] → length rest ≡ 0
-        → IsFirstPiece limit text at width
+    pub IsReading-end : IsUtf8 text → text ≢ [] → length rest ≡ 0 → IsFirstPiece limit text at width
     IsReading-end utf8 some none =
         let ended = read-none h.read none in
         found utf8 some (subst (λ cs. EndsHere limit (chars text) width (units cs)) (sym ended)
@@ -114,8 +112,7 @@ module _ (test : ℕ → Bool) (limit : ℕ) (text : List ℕ) (utf8 : IsUtf8 te
       let cut = (read-next (read-at text place utf8 h.boundary) c after is end refl).boundary in
       let within = cut.0 in
       let front = slice_range text at place in
-      let part : slice_range text place end ≡ encode_utf8 c =
-      grind (arith, take_at) in
+      let part : slice_range text place end ≡ encode_utf8 c = grind (arith, take_at) in
       let joined = slices_joined text at place end from (omega arith) ∙ ap (λ l. front ++ l) part in
       let more_chars = ap chars joined
       ∙ chars-push front c (IsUtf8-between text at place utf8 from start h.boundary)

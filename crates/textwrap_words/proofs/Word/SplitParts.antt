@@ -48,8 +48,7 @@ module _ (w : WordText) (at : ℕ) (point : ℕ → Bool) (none : w.penalty ≡ 
   abbrev pub Splits : List ℕ → Type 0
   Splits rest = (before x : List ℕ) (b : ℕ) → w.word ≡ before ++ (x ++ b ∷ rest)
       → split_from w (length before)
-      (filter test (range_with_len (length before + length x + 1) (length rest)))
-      ≡ map word_of
+      (filter test (range_with_len (length before + length x + 1) (length rest))) ≡ map word_of
       (onto_front x (parts_by point (at + (length before + length x)) (b ∷ rest ++ w.whitespace)))
 
   split-at : (rest before x : List ℕ) (b c place : ℕ) (t : Bool) → Splits rest
@@ -73,8 +72,7 @@ module _ (w : WordText) (at : ℕ) (point : ℕ → Bool) (none : w.penalty ≡ 
       let slice : slice_range w.word (length before) place ≡ part =
       grind (arith, drop_at, take-append-add) in
       let hyphened = hyphen-before-point w.word place cut in
-      let byte : b ≡ 45 =
-      cc (
+      let byte : b ≡ 45 = cc (
         last-push (before ++ x) b,
         append_assoc before x (b ∷ []),
         take_at front (c ∷ rest) place front_len,
@@ -123,8 +121,7 @@ ends-other q front b is =
     let len : length front + 1 ≡ n =
     sym (length_push front b) ∙ ap length (sym is) ∙ length-take-le n q (omega arith) in
     let some : 0 < n = omega (arith, len) in
-    let at : get_or q (n - 1) 0 ≡ b =
-    grind (arith, get_or-take, get_or_push) in
+    let at : get_or q (n - 1) 0 ≡ b = grind (arith, get_or-take, get_or_push) in
     ap is_blank (sym at) ∙ trimmed-other q some
 
 -- a chunk that stands in a text
@@ -147,8 +144,7 @@ module _ (before q after : List ℕ) (utf8 : IsUtf8 before) (plain : EndsPlain b
 
   same : (p : ℕ) → 0 < p → p < length w.word
       → is_hyphen_point text (at + p) ≡ is_hyphen_point w.word p
-  same p start inside =
-      grind (arith, whole, append_assoc, points-apart, without_final_blanks-utf8)
+  same p start inside = grind (arith, whole, append_assoc, points-apart, without_final_blanks-utf8)
 
   -- no point stands before a blank of the chunk
   past : (p : ℕ) → length w.word ≤ p → p < length w.word + length w.whitespace
@@ -242,8 +238,7 @@ module _ (splitter : Splitter) (limit : ℕ) where
       ) in
       let both : at + n + m ≡ start + piece.end =
       omega (arith, one, first.up_to, length-slice text piece.word_end piece.end within) in
-      ap (λ ws. stand_from at (ws ++ others)) first.first
-      ∙ grind arith
+      ap (λ ws. stand_from at (ws ++ others)) first.first ∙ grind arith
 
 -- ---- the words of a text, split by a built-in splitter, are the parts of the text as it is cut
 -- at places that a test tells
@@ -279,8 +274,7 @@ module _ (splitter : Splitter) (text : List ℕ) where
       let q_utf8 = All-head IsUtf8 q qs all in
       let q_some = some_from_nonempty q (All-head (λ q. q ≢ []) q qs some) in
       let both = IsUtf8-append before q utf8 q_utf8 in
-      let others =
-      split-all qs (before ++ q) (is ∙ sym (append_assoc before q (flat qs))) both
+      let others = split-all qs (before ++ q) (is ∙ sym (append_assoc before q (flat qs))) both
       (λ more. ends-plain before q both q_some (chunk-blank q qs apart more))
       (All-tail IsUtf8 q qs all) (All-tail (λ q. q ≢ []) q qs some) (AreCutApart-tail q qs apart) in
       grind (arith, split-word, length-append, map-append)
@@ -316,8 +310,7 @@ point-none AtHyphens text place inside blank = point-blank text place inside bla
 module _ (splitter : Splitter) (text : List ℕ) where
   pub uncut-blank : (place : ℕ) → place < length text → is_blank (get_or text place 0) ≡ true
       → is_piece_cut splitter text place ≡ false
-  uncut-blank place inside blank =
-      grind (arith, and_right, point-none)
+  uncut-blank place inside blank = grind (arith, and_right, point-none)
 
   pub cut-after_blank : (place : ℕ) → is_blank (get_or text (place - 1) 0) ≡ true
       → is_blank (get_or text place 0) ≡ false → is_piece_cut splitter text place ≡ true
@@ -327,8 +320,7 @@ module _ (splitter : Splitter) (text : List ℕ) where
 
   -- a word and the blanks after it are a part
   pub word-part : (at word_end end : ℕ) → IsPartWord splitter text at word_end → word_end ≤ end
-      → end ≤ length text
-      → ((k : ℕ) → word_end ≤ k → k < end → is_blank (get_or text k 0) ≡ true)
+      → end ≤ length text → ((k : ℕ) → word_end ≤ k → k < end → is_blank (get_or text k 0) ≡ true)
       → (end < length text → is_blank (get_or text end 0) ≡ false)
       → IsPart (is_piece_cut splitter text) text at end × AreFinalBlanks text at word_end end
   word-part at word_end end word up_to within blanks other = (
@@ -378,7 +370,6 @@ module _ (splitter : Splitter) (text : List ℕ) where
     pieces-start utf8 = ap (broken_words limit) (sym (split_words-parts splitter text utf8))
 
 -- a word within the limit is one piece
-pub broken_word-narrow : (limit : ℕ) (w : WordText) → w.width ≤ limit
-    → broken_word limit w ≡ w ∷ []
+pub broken_word-narrow : (limit : ℕ) (w : WordText) → w.width ≤ limit → broken_word limit w ≡ w ∷ []
 broken_word-narrow limit w within =
     ap (λ b. cond b (broken_pieces limit w) (w ∷ [])) (le-ltb limit w.width within)

@@ -55,13 +55,11 @@ ends-some text rest c utf8 e =
 -- a text may be cut after a hyphen
 pub after-hyphen_byte : (text : List ℕ) (point : ℕ) → IsUtf8 text → 0 < point → point < length text
     → get_or text (point - 1) 0 ≡ 45 → IsCharBoundary text point
-after-hyphen_byte text point utf8 start inside here =
-    grind (arith, IsCharBoundary-after_ascii)
+after-hyphen_byte text point utf8 start inside here = grind (arith, IsCharBoundary-after_ascii)
 
 pub hyphen-before : (text : List ℕ) (point : ℕ) → 1 ≤ point → point ≤ length text
     → is_hyphen_point text point ≡ true → get_or text (point - 1) 0 ≡ 45
-hyphen-before text point start within is =
-    grind (arith, and_parts, length-take, get_or-take)
+hyphen-before text point start within is = grind (arith, and_parts, length-take, get_or-take)
 
 pub after-hyphen : (text : List ℕ) (point : ℕ) → IsUtf8 text → 1 ≤ point → point < length text
     → is_hyphen_point text point ≡ true → IsCharBoundary text point
@@ -112,8 +110,7 @@ hyphen_points-cuts text utf8 =
 
 pub points_of-cuts : (splitter : Splitter) (text : List ℕ) → IsUtf8 text
     → AreCuts text (points_of splitter text)
-points_of-cuts Whole text utf8 =
-    omega arith
+points_of-cuts Whole text utf8 = omega arith
 points_of-cuts AtHyphens text utf8 = hyphen_points-cuts text utf8
 
 -- ---- where a splitter has points, characters end, and none stands after a letter
@@ -142,8 +139,7 @@ module _ (splitter : Splitter) (text : List ℕ) where
 
 module _ (splitter : Splitter) (text : List ℕ) (utf8 : IsUtf8 text) where
   pub point-boundary : HoldsBetween (is_point splitter text) text
-  point-boundary place some inside is =
-      after-hyphen_byte text place utf8 some inside
+  point-boundary place some inside is = after-hyphen_byte text place utf8 some inside
       (point-hyphen splitter text place some inside is)
 
 -- ---- blanks are not alphanumeric
@@ -234,8 +230,7 @@ module _ (before tail : List ℕ) (utf8 : IsUtf8 before) (plain : EndsPlain befo
 -- no point stands before a blank
 pub point-blank : (text : List ℕ) (p : ℕ) → p < length text → is_blank (get_or text p 0) ≡ true
     → is_hyphen_point text p ≡ false
-point-blank text p inside blank =
-    grind (arith, drop_more, begins-blank, and_right)
+point-blank text p inside blank = grind (arith, drop_more, begins-blank, and_right)
 
 -- a point stands after a hyphen
 pub hyphen-before-point : (text : List ℕ) (p : ℕ) → is_hyphen_point text p ≡ true

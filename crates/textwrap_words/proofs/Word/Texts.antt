@@ -73,8 +73,7 @@ trimmed-other bytes some =
 -- they begin after each byte that is no blank
 pub trimmed-past : (bytes : List ℕ) (i : ℕ) → i < length bytes → is_blank (get_or bytes i 0) ≡ false
     → i < trimmed_len bytes
-trimmed-past bytes i within other =
-    grind (arith, cases_lt, false≢true, trimmed-blank)
+trimmed-past bytes i within other = grind (arith, cases_lt, false≢true, trimmed-blank)
 
 -- a byte in front of a text that is not all blanks changes nothing at its end
 pub final_blanks-more : (c : ℕ) (bytes : List ℕ) → 0 < trimmed_len bytes
@@ -127,13 +126,12 @@ trimmed-front (c ∷ front) rest some =
 pub trimmed-le : (bytes : List ℕ) (n : ℕ)
     → ((k : ℕ) → n ≤ k → k < length bytes → is_blank (get_or bytes k 0) ≡ true)
     → trimmed_len bytes ≤ n
-trimmed-le bytes n blanks =
-    elim (cases_lt n (trimmed_len bytes)) [
-      | inr le ↦ le
-      | inl past ↦
-          absurd (false≢true (sym (trimmed-other bytes (omega (arith, past)))
-          ∙ blanks (trimmed_len bytes - 1) (omega (arith, past)) (omega (arith, past))))
-    ]
+trimmed-le bytes n blanks = elim (cases_lt n (trimmed_len bytes)) [
+  | inr le ↦ le
+  | inl past ↦
+      absurd (false≢true (sym (trimmed-other bytes (omega (arith, past)))
+      ∙ blanks (trimmed_len bytes - 1) (omega (arith, past)) (omega (arith, past))))
+]
 
 -- the last byte of a word that is no blank, and the blanks after it
 pub word_of-seam : (x bl : List ℕ) (b : ℕ) → is_blank b ≡ false → AreBlanks bl

@@ -28,8 +28,7 @@ loop-part-preserved g c =
     ] in
     let grown : (before ++ c.if-is_blank_line.indent.now) ++ part
     ≡ flat_map (indented_part prefix) (take (n + 1) parts) =
-    append_assoc before c.if-is_blank_line.indent.now part
-    ∙ ap (λ i. before ++ (i ++ part)) indent
+    append_assoc before c.if-is_blank_line.indent.now part ∙ ap (λ i. before ++ (i ++ part)) indent
     ∙ indented-more (indented_part prefix) parts n part before t.0 t.1 refl in
     record {
       text = rw length_push (subst (g.S.TextSink.holds c.args.text.now _) grown

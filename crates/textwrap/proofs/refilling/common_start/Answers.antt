@@ -32,6 +32,5 @@ range-requires-clause-end_boundary c =
     (common_prefix_len-le nat_eq first second).0)
 
 pub returns : goal.returns
-returns c =
-    c.range.ensures.value ∙ from_start c.args.first.now c.count-len.result
+returns c = c.range.ensures.value ∙ from_start c.args.first.now c.count-len.result
     ∙ ap (λ n. take n c.args.first.now) (counted (goal.at.returns c).After-count-len)

@@ -19,10 +19,8 @@ loop-i-preserved g c =
     c.index-fragments-i.result c.loop-i-test.true c.index-fragments-i.is in
     let bound : 0 < c.loop-i.i
     → closed_width g.T.Fragment.sizes (take (c.loop-i.i + 1) c.args.fragments.now) ≤
-    c.args.line_width =
-    elim c.else-i-gt0.branch [
-      | else-i-gt0-via-then-i-gt0+else-closed-line_width w ↦ λ _.
-          omega arith
+    c.args.line_width = elim c.else-i-gt0.branch [
+      | else-i-gt0-via-then-i-gt0+else-closed-line_width w ↦ λ _. omega arith
       | else-i-gt0-via-else-i-gt0 w ↦ λ some. absurd (omega arith)
     ] in (
       omega arith,

@@ -34,8 +34,7 @@ returns g c =
     (vec_len c.loop-rest.lines) c.loop-rest.rest.now none))) in
     record {
       greedy = greedy;
-      fewest = λ others admissible.
-          rw (length-map c.loop-rest.lines.items (λ line. line.now)) at
+      fewest = λ others admissible. rw (length-map c.loop-rest.lines.items (λ line. line.now)) at
           (greedy_fewest g.T.Fragment.sizes c.args.line_widths.now c.args.fragments.now
           (map (λ line. line.now) c.loop-rest.lines.items) others greedy admissible);
     }

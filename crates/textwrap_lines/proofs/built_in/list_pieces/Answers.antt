@@ -101,8 +101,7 @@ turn : (g : _) (c : In-Some g) → HasNext c.args.paragraph.now c.utf8.paragraph
     (pieces_cut (layout_view c.args.layout.now) c.args.cuts.now c.args.paragraph.now)
     (map word_view c.loop-piece.pieces.items) c.loop-piece.start c.in-Some.piece
     (left_standing c.next.new.self)
-turn g c =
-    next-piece c.args.paragraph.now c.utf8.paragraph
+turn g c = next-piece c.args.paragraph.now c.utf8.paragraph
     (pieces_cut (layout_view c.args.layout.now) c.args.cuts.now c.args.paragraph.now)
     (map word_view c.loop-piece.pieces.items) c.loop-piece.start c.in-Some.piece
     (left_standing c.next.new.self)

@@ -9,8 +9,7 @@ loop-i-preserved g c =
     let separator = ending_bytes c.args.line_ending in
     elim c.if-i-gt0.branch [
       | then-i-gt0+in_ok-push_str w ↦
-          c.in_ok-push_str-2.ensures.bytes
-          ∙ ap (λ l. l ++ c.as_str-in-loop-i.result.now)
+          c.in_ok-push_str-2.ensures.bytes ∙ ap (λ l. l ++ c.as_str-in-loop-i.result.now)
           (ap string_bytes w.joined-is ∙ w.in_ok-push_str.ensures.bytes
           ∙ ap (λ l. l ++ w.as_str.result.now) c.loop-i.invariant
           ∙ ap (λ l. join_with separator
@@ -23,8 +22,7 @@ loop-i-preserved g c =
           c.loop-i-test.true c.index-lines-i.is w.if-i-gt0.true)
       | else-i-gt0 w ↦
           let first : c.loop-i.i ≡ 0 = omega arith in
-          c.in_ok-push_str-2.ensures.bytes
-          ∙ ap (λ l. l ++ c.as_str-in-loop-i.result.now)
+          c.in_ok-push_str-2.ensures.bytes ∙ ap (λ l. l ++ c.as_str-in-loop-i.result.now)
           (ap string_bytes w.joined-is ∙ c.loop-i.invariant
           ∙ ap (λ n. join_with separator
           (map line_bytes (map line_view (take n c.args.lines.now)))) first)

@@ -29,8 +29,7 @@ loop-piece-init g c =
     ∙ c.cut_paragraph-piece-items.ensures in
     record {
       taken = HasTaken-start _ c.args.lines.now;
-      come = subst (λ (line : LineSoFar). AllCome line.text line.end left)
-          (sym c.at-line.ensures)
+      come = subst (λ (line : LineSoFar). AllCome line.text line.end left) (sym c.at-line.ensures)
           (subst (AllCome paragraph 0) (sym left_is)
           (pieces-come settings (as_splitter cuts.splitter) paragraph (words_cut (places_of cuts) paragraph)
           c.utf8.paragraph (words_cut-texts (places_of cuts) paragraph c.utf8.paragraph c.requires)));
@@ -111,8 +110,7 @@ returns-clause-took g c =
     ∙ c.cut_paragraph-piece-items.ensures in
     let first_is : line_so_far first
     ≡ no_pieces paragraph 0 (first_width settings is_later) (indent_of settings is_later) =
-    c.at-line.ensures
-    ∙ ap (λ n. no_pieces paragraph 0 n c.next_indent.result.now)
+    c.at-line.ensures ∙ ap (λ n. no_pieces paragraph 0 n c.next_indent.result.now)
     c.line_widths-first_width.ensures.first
     ∙ ap (no_pieces paragraph 0 (first_width settings is_later)) c.next_indent.ensures in
     let taken = subst (λ ps. HasTaken g.S.LineSink.holds all c.args.lines.now now

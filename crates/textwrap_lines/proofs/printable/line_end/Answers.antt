@@ -25,8 +25,7 @@ returns-then-text-at-clause-line g c =
     (g.met.C.PrintableCuts.before_others c.args.cuts.now text c.requires.printable) in
     let len = length-slice text c.args.at (length text) (omega arith) in
     line-all test (limit_at c.args.breaks c.args.width) c.args.width text
-    c.requires.printable before c.args.at c.requires.inside
-    (omega (arith, len, c.if-text-at.true))
+    c.requires.printable before c.args.at c.requires.inside (omega (arith, len, c.if-text-at.true))
 
 pub returns-then-past-text-clause-line : goal.returns-then-past-text-clause-line
 returns-then-past-text-clause-line g c =
@@ -127,7 +126,6 @@ returns-clause-line g c =
     let short : length text ≤ limit_at c.args.breaks width =
     subst (λ b. length text ≤ limit_at b width) (sym c.if-breaks.false) (omega arith) in
     line-whole test (limit_at c.args.breaks width) width text c.requires.printable
-    before at c.next_cut.result (omega (arith, next.from, found.after))
-    next.within short
+    before at c.next_cut.result (omega (arith, next.from, found.after)) next.within short
     (none-then test at past (c.next_cut.result - 1) none
     (subst (λ n. NoCutBetween test n (c.next_cut.result - 1)) same next.first)) next.cut

@@ -8,8 +8,7 @@ use Rattle.textwrap_lines.proofs.wrapping.push_line.Goals.{then-layout, else-lay
 pub returns-clause-line : goal.returns-clause-line
 returns-clause-line g c =
     let keeps : c.if-layout.keeps_whitespace ≡ keeps_whitespace (layout_view c.args.layout.now)
-    (word_view c.in-Some.last.now) =
-    elim c.if-layout.branch [
+    (word_view c.in-Some.last.now) = elim c.if-layout.branch [
       | then-layout w ↦ w.keeps_whitespace-is ∙ w.is_empty-keeps_whitespace.ensures
           ∙ sym (ap (λ b. b && (length c.in-Some.last.now.penalty.now == 0)) w.if-layout.true)
       | else-layout w ↦ w.keeps_whitespace-is ∙ w.if-layout.false

@@ -33,11 +33,10 @@ returns-then-pushed-clause-taken g c =
     )
 
 pub returns-clause-taken : goal.returns-clause-taken
-returns-clause-taken g c =
-    on_ok_weaker c.push_divided-2.result (λ (division, divides, took). (
-      division,
-      divides,
-      subst (λ sink. Took g.S.LineSink.holds sink c.push_divided-2.new.lines
-          (cut_lines 0 (parts_from (g.O.AnyOptions.settings c.args.options.now) c.args.is_later
-          division))) (c.in_ok-pushed.ensures.kept c.if-pushed.false) took,
-    )) c.push_divided-2.ensures.taken
+returns-clause-taken g c = on_ok_weaker c.push_divided-2.result (λ (division, divides, took). (
+  division,
+  divides,
+  subst (λ sink. Took g.S.LineSink.holds sink c.push_divided-2.new.lines
+      (cut_lines 0 (parts_from (g.O.AnyOptions.settings c.args.options.now) c.args.is_later
+      division))) (c.in_ok-pushed.ensures.kept c.if-pushed.false) took,
+)) c.push_divided-2.ensures.taken

@@ -35,8 +35,7 @@ returns-clause-appended g c =
     (subst (λ b. Are b parts) is_out (division, divides, refl))
     (search rules ∙ took.held c.push_divided.new.lines 0 []
     (ap (map line_view) c.new-own.ensures.items) ∙ lines_of-more [] 0 (cut_lines 0 parts)
-    ∙ lines_of-cut_lines 0 parts)
-    c.in_ok-append.ensures.items
+    ∙ lines_of-cut_lines 0 parts) c.in_ok-append.ensures.items
 
 pub returns-clause-overlong : goal.returns-clause-overlong
 returns-clause-overlong g c =

@@ -139,8 +139,7 @@ on c after is past inside =
     λ at_blanks. elim c.else-at_blanks.branch [
       | else-at_blanks-via-else-at_blanks w ↦ absurd (true≢false (sym at_blanks ∙ w.if-at_blanks.false))
       | else-at_blanks-via-then-at_blanks+else-ch-eq32 w ↦ plain-bytes text c.utf8.text place ch _
-          h.scanned.boundary is w.if-ch-eq32.false place (omega arith)
-          (omega (arith, some)) inside
+          h.scanned.boundary is w.if-ch-eq32.false place (omega arith) (omega (arith, some)) inside
     ] in
     no-stop c.args.at_blanks (as_splitter c.args.splitter) text place plain (h.on past inside)
 
@@ -246,8 +245,7 @@ loop-after-preserved c =
           (λ hyphen. elim c.else-ch-eq45.branch [
             | else-ch-eq45-via-else-ch-eq45 w ↦ absurd (w.if-ch-eq45.false hyphen)
             | else-ch-eq45-via-then-ch-eq45+else-is_point w ↦
-                let one : length (encode_utf8 ch) ≡ 1 =
-                ap (λ n. length (encode_utf8 n)) hyphen
+                let one : length (encode_utf8 ch) ≡ 1 = ap (λ n. length (encode_utf8 n)) hyphen
                 ∙ ap length (encode_ascii 45 (omega arith)) in
                 let q = start + c.in-Some.after + 1 in
                 let next : q ≡ end = omega (arith, same, one, s.0) in

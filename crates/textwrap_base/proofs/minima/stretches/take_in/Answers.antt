@@ -9,8 +9,7 @@ returns-in_ok-push-clause-stretches g c =
     let q = c.new_stretch-stretch.new.stretches.items in
     let is = c.new_stretch-stretch.ensures in
     let start = length c.args.minima.now - 1 in
-    let before_last : s.from < costs.ends =
-    omega (arith, ap (λ (l : Costs). l.ends) is.same) in
+    let before_last : s.from < costs.ends = omega (arith, ap (λ (l : Costs). l.ends) is.same) in
     let len : length q ≡ vec_len c.new_stretch-stretch.new.stretches = omega arith in
     let priced : IsPriced costs start s = record {
       within = omega arith;

@@ -21,13 +21,12 @@ counted c =
     omega (arith, ap length step, length-append {A = ℕ}, c.len_utf8-len.ensures.len)
 
 pub overflow_add-len : goal.overflow_add-len
-overflow_add-len c =
-    omega (
-      arith,
-      counted (goal.at.overflow_add-len c).After-len_utf8-len,
-      c.loop-ch.invariant,
-      stripped-short c.args.line.now c.utf8.line,
-    )
+overflow_add-len c = omega (
+  arith,
+  counted (goal.at.overflow_add-len c).After-len_utf8-len,
+  c.loop-ch.invariant,
+  stripped-short c.args.line.now c.utf8.line,
+)
 
 pub loop-ch-preserved-then-is_visible : goal.loop-ch-preserved-then-is_visible
 loop-ch-preserved-then-is_visible c =

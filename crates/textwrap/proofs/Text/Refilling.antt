@@ -76,11 +76,7 @@ module _ (Divides : Settings → Bool → List ℕ → List (List WordText) → 
         λ (filled, is, with_ending).
             subst (FilledBy indented joined) (sym (with_ending ∙ nothing filled))
             (search (rules, arith)),
-        λ is. (
-          refilled,
-          search (rules, arith),
-          sym (nothing refilled),
-        ),
+        λ is. (refilled, search (rules, arith), sym (nothing refilled)),
       )
 
   pub refilled-filled : (settings : Settings) (text refilled : List ℕ) → IsUnindented settings

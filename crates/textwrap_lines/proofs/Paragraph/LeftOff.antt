@@ -164,11 +164,7 @@ pub AreParagraphParts-whole : (settings : Settings) (Divides : Bool → List ℕ
     → AreParagraphParts settings Divides is_later paragraph
     (parts_of settings is_later (word_of paragraph ∷ []) ∷ [])
 AreParagraphParts-whole settings Divides is_later paragraph whole =
-    let division = (word_of paragraph ∷ []) ∷ [] in (
-      division,
-      rw whole refl,
-      refl,
-    )
+    let division = (word_of paragraph ∷ []) ∷ [] in (division, rw whole refl, refl)
 
 pub AreParagraphParts-divided : (settings : Settings) (Divides : Bool → List ℕ
     → List (List WordText) → Type 0) (is_later : Bool) (paragraph : List ℕ) (parts : List LineParts)

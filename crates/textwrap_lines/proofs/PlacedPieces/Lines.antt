@@ -42,8 +42,7 @@ spans-append at columns (x ∷ xs) ys =
     let after = columns + x.width + length x.whitespace in
     let tile = length-append x.word x.whitespace in
     let whole = length-append (tile_of x) (tiled xs) in
-    let more = open_width-cons sizes_of x xs in
-    search (rules, arith, spans-append end after xs ys)
+    let more = open_width-cons sizes_of x xs in search (rules, arith, spans-append end after xs ys)
 
 -- ---- a list of spans that grows by a piece at a time
 
@@ -58,12 +57,8 @@ pub record HasLeft (all : List WordText) (spans : List Span) (opens : ℕ)
 
 -- the span of a piece after so many columns
 abbrev pub piece_span : ℕ → Piece → Span
-piece_span opens p = record {
-  word_end = p.word_end;
-  end = p.end;
-  opens = opens;
-  closes = opens + p.width;
-}
+piece_span opens p =
+    record { word_end = p.word_end; end = p.end; opens = opens; closes = opens + p.width }
 
 module _ (all : List WordText) where
   pub Left-start : (pieces : List Piece) → pieces ≡ stand_from 0 all → HasLeft all [] 0 pieces
@@ -86,11 +81,8 @@ module _ (all : List WordText) where
       by [] stand are room = absurd (omega (arith, ap length stand))
       by (w ∷ ws) stand are room =
           let end = h.at + length w.word + length w.whitespace in
-          let piece : Piece = record {
-            word_end = h.at + length w.word;
-            end = end;
-            width = w.width;
-          } in
+          let piece : Piece =
+          record { word_end = h.at + length w.word; end = end; width = w.width } in
           let same : p ≡ piece = ap (λ l. get_or l 0 p) stand in
           let gap : piece.end - piece.word_end ≡ length w.whitespace = omega arith in
           let more = total_width-cons sizes_of w ws in

@@ -105,8 +105,7 @@ open-exact (w ∷ ws) all =
     let rest = open-exact ws (All-tail IsExact w ws all) in
     let tile = length-append w.word w.whitespace in
     let whole = length-append (tile_of w) (tiled ws) in
-    let more = open_width-cons sizes_of w ws in
-    omega (arith, here.width, rest, tile, whole, more)
+    let more = open_width-cons sizes_of w ws in omega (arith, here.width, rest, tile, whole, more)
 
 pub Fits-exact : (limit : ℕ) (ws : List WordText) → All IsExact ws → length (covered ws) ≤ limit
     → Fits sizes_of limit ws
@@ -114,8 +113,7 @@ Fits-exact limit ws all room = λ k two within.
     let none = All-weaker IsExact (λ w. length w.penalty ≡ 0) (λ w exact. ap length exact.penalty)
     ws all in
     let part = closed-take sizes_of ws k none in
-    let whole = closed-exact ws all in
-    omega (arith, part, whole, room)
+    let whole = closed-exact ws all in omega (arith, part, whole, room)
 
 -- ---- a printable text is broken after as many bytes as the limit has columns
 

@@ -79,8 +79,7 @@ wide-first : (limit n : ℕ) (vs : List WordText) → BeginsWide limit n vs → 
 wide-first limit n vs wide w ws is =
     let are = wide.are in
     let same : w ≡ wide.first = cc in
-    let width = ap (λ v. v.width) same in
-    omega (arith, width, wide.wide)
+    let width = ap (λ v. v.width) same in omega (arith, width, wide.wide)
 
 module _ (test : ℕ → Bool) (limit width : ℕ) (text : List ℕ) (printable : IsPrintable text)
     (before : BeforeOthers test text) where

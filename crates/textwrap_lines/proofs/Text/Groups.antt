@@ -167,10 +167,8 @@ module _ (settings : Settings) (Divides Others : Bool → List ℕ → List (Lis
   pub placed-map : (text : List ℕ) (lines : List Line) (places : List Place)
       → ArePlacedLines settings Divides text lines places
       → ArePlacedLines settings Others text lines places
-  placed-map text lines places placed = record {
-    are = text-map text lines placed.are;
-    places_are = placed.places_are;
-  }
+  placed-map text lines places placed =
+      record { are = text-map text lines placed.are; places_are = placed.places_are }
 
 -- ---- the lines of a paragraph that is divided so
 

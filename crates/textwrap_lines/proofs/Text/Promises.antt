@@ -135,10 +135,7 @@ pub IsWrapped-parts : (Words : List ℕ → List WordText → Type 0)
 IsWrapped-parts Words texts settings algorithm splitter text lines utf8 are =
     IsWrapped-by settings Words (ArePoints splitter) (IsDividedBy algorithm sizes_of)
     texts (ArePoints-cuts splitter)
-    (λ widths pieces division divided. (
-      [],
-      search (rules, arith, append-nil, IsDividedBy-whole),
-    ))
+    (λ widths pieces division divided. ([], search (rules, arith, append-nil, IsDividedBy-whole)))
     (Some splitter) (Some algorithm) (λ _. ArePoints-hyphens splitter)
     (λ _. IsDividedBy-whole sizes_of algorithm) (λ _. IsDividedBy-some sizes_of algorithm)
     (λ first widths pieces division divided.
@@ -160,10 +157,7 @@ pub LinesKeepToWidth-from : (settings : Settings) (splitter : Splitter) (text : 
 LinesKeepToWidth-from settings splitter text lines utf8 even breaks are =
     LinesKeepToWidth-by settings AreWordsOf (ArePoints splitter) (IsDividedBy Greedy sizes_of)
     AreTexts-words (ArePoints-cuts splitter)
-    (λ widths pieces division divided. (
-      [],
-      search (rules, arith, append-nil, IsDividedBy-whole),
-    ))
+    (λ widths pieces division divided. ([], search (rules, arith, append-nil, IsDividedBy-whole)))
     (ArePoints-hyphens splitter) (λ widths pieces division divided. divided)
     text lines utf8 even breaks are
 

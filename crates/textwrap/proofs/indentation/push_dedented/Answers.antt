@@ -10,11 +10,9 @@ use Rattle.std.proofs.lemmas.List.FromFn.{length-enumerate_from}
 use Rattle.textwrap.specs.Indentation.{without_margin}
 use Rattle.textwrap.proofs.Text.Margins.{IsLineAt, line_at, joined-first, joined-more}
 use Rattle.textwrap.proofs.Text.Margins.{lines_begin_with_margin}
-use Rattle.textwrap.proofs.indentation.push_dedented.Goals.{In-Some, In-None}
-use Rattle.textwrap.proofs.indentation.push_dedented.Goals.{then-i-gt0+in_ok-push_part, else-i-gt0}
 
 -- the line of this turn
-turn : (g : _) (c : In-Some g) → IsLineAt (lines c.args.s.now) (length c.loop-i.yielded) c.in-Some.i
+turn : (g : _) (c : goal.In-Some g) → IsLineAt (lines c.args.s.now) (length c.loop-i.yielded) c.in-Some.i
     c.in-Some.line.now
 turn g c =
     let t = YieldsList-turn (YieldsList-from_enumerate {s = c.into_iter-i-iterator.result}
@@ -45,25 +43,25 @@ loop-i-preserved g c =
     (c.in_ok-push_part-2.ensures.took c.args.text.now so_far held) in
     record {
       text = rw length_push (elim c.if-i-gt0.branch [
-        | then-i-gt0+in_ok-push_part w ↦
+        | goal.then-i-gt0+in_ok-push_part w ↦
             subst (Holds c.push_part-in-loop-i.new.self)
             (joined-more f ls n c.in-Some.i line before here w.if-i-gt0.true refl)
             (pushed (before ++ 10 ∷ []) (rw w.text-is
             (w.in_ok-push_part.ensures.took c.args.text.now before c.loop-i.invariant.text)))
-        | else-i-gt0 w ↦
+        | goal.else-i-gt0 w ↦
             subst (Holds c.push_part-in-loop-i.new.self)
             (joined-first f ls n c.in-Some.i line before here (omega arith) refl)
             (pushed before (rw w.text-is c.loop-i.invariant.text))
       ]);
       name = c.push_part-in-loop-i.ensures.name ∙ elim c.if-i-gt0.branch [
-        | then-i-gt0+in_ok-push_part w ↦
+        | goal.then-i-gt0+in_ok-push_part w ↦
             rw w.text-is (w.push_part.ensures.name ∙ c.loop-i.invariant.name)
-        | else-i-gt0 w ↦ rw w.text-is c.loop-i.invariant.name
+        | goal.else-i-gt0 w ↦ rw w.text-is c.loop-i.invariant.name
       ];
     }
 
 -- all lines were pushed
-pushed-all : (g : _) (c : In-None g) → g.S.TextSink.holds c.args.text.now c.loop-i.text
+pushed-all : (g : _) (c : goal.In-None g) → g.S.TextSink.holds c.args.text.now c.loop-i.text
     (join_with_byte 10 (map (without_margin (margin_of c.args.s.now)) (lines c.args.s.now)))
 pushed-all g c =
     let t = YieldsList-end (YieldsList-from_enumerate {s = c.into_iter-i-iterator.result}

@@ -5,11 +5,8 @@ use Rattle.textwrap_lines.proofs.Common.{layout_view, HaveTexts, span_lines, Spa
 use Rattle.textwrap_lines.proofs.Text.Sinks.{HasTaken, HasTaken-end, HasTaken-next, HasTaken-start}
 
 pub loop-line-init : goal.loop-line-init
-loop-line-init g c = record {
-  taken = HasTaken-start _ c.args.lines.now;
-  texts = c.requires;
-  name = refl;
-}
+loop-line-init g c =
+    record { taken = HasTaken-start _ c.args.lines.now; texts = c.requires; name = refl }
 
 pub loop-line-preserved : goal.loop-line-preserved
 loop-line-preserved g c =

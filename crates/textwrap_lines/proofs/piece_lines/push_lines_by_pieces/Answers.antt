@@ -12,8 +12,6 @@ use Rattle.textwrap_lines.proofs.Paragraph.Pieces.{words_cut-texts, pieces_of_wo
 use Rattle.textwrap_lines.proofs.Paragraph.Pieces.{pieces_of_words-tile}
 use Rattle.textwrap_lines.proofs.Text.Sinks.{HasTaken, HasTaken-end, HasTaken-next, HasTaken-start}
 use Rattle.textwrap_lines.proofs.PieceLines.{AllCome, pieces-come, lines-greedy}
-use Rattle.textwrap_lines.proofs.piece_lines.push_lines_by_pieces.Goals.{else-is_past}
-use Rattle.textwrap_lines.proofs.piece_lines.push_lines_by_pieces.Goals.{then-is_past+in_ok-push_to}
 
 pub at-line-requires : goal.at-line-requires
 at-line-requires g c = IsCharBoundary-start c.args.paragraph.now c.utf8.paragraph
@@ -56,7 +54,7 @@ loop-piece-preserved g c =
     let taken = subst (λ ps. HasTaken Holds all before now (lines_from settings here ps))
     c.in-Some.ensures.steps c.loop-piece.invariant.taken in
     elim c.if-is_past.branch [
-      | then-is_past+in_ok-push_to w ↦
+      | goal.then-is_past+in_ok-push_to w ↦
           let is : line_so_far c.take.new.self ≡ next =
           c.take.ensures ∙ ap (λ l. with_piece (line_so_far l) piece) w.line-is
           ∙ ap (λ l. with_piece l piece) w.at-line-then-is_past.ensures
@@ -73,7 +71,7 @@ loop-piece-preserved g c =
             come = subst (λ (line : LineSoFar). AllCome line.text line.end left) (sym is) come;
             name = w.push_to.ensures.name ∙ c.loop-piece.invariant.name;
           })
-      | else-is_past w ↦
+      | goal.else-is_past w ↦
           let is : line_so_far c.take.new.self ≡ more =
           c.take.ensures ∙ ap (λ l. with_piece (line_so_far l) piece) w.line-is in
           let room = subst (λ b. HasTaken Holds all before now (cond b

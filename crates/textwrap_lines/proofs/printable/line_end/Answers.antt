@@ -1,6 +1,4 @@
 use Rattle.textwrap_lines.proofs.printable.line_end.Goals as goal
-use Rattle.textwrap_lines.proofs.printable.line_end.Goals.{then-past-text-via-then-past-text}
-use Rattle.textwrap_lines.proofs.printable.line_end.Goals.{then-past-text-via-else-past-text+then-is_cut_at}
 use Rattle.textwrap_base.proofs.Common.{◌≡◌, ℕ, ◌+◌, ◌-◌, ◌^◌, ◌<◌, ◌≤◌, Bool, true, false, length}
 use Rattle.textwrap_base.proofs.Common.{sym, ◌∙◌, subst, arith, ne_eqb, slice_range}
 use Rattle.textwrap_words.proofs.Common.{as_splitter, trimmed_len}
@@ -42,12 +40,12 @@ returns-then-past-text-clause-line g c =
     let found = c.blanks_end-past.ensures in
     let keeps = blanks-keep text at width past found.within found.blanks in
     elim c.then-past-text.branch [
-      | then-past-text-via-then-past-text w ↦
+      | goal.then-past-text-via-then-past-text w ↦
           let end : length text ≡ past = sym w.if-past-text.true in
           let all = line-all test limit width text c.requires.printable before at c.requires.inside in
           subst (λ n. IsFirstLine test limit width text at n false) end
           (all (subst (λ n. trimmed_len (slice_range text at n) ≤ width) (sym end) keeps))
-      | then-past-text-via-else-past-text+then-is_cut_at w ↦
+      | goal.then-past-text-via-else-past-text+then-is_cut_at w ↦
           let inside : past < length text = omega (arith, found.within, w.if-past-text.false) in
           line-cut test limit width text c.requires.printable before at past past c.requires.width
           (above c.args.breaks width c.ranges.width.fits)

@@ -1,14 +1,13 @@
 -- The search by a queue: its steps, the costs that suit it, and the stretches of ends that each
 -- start takes.
-use Rattle.textwrap_base.proofs.Common.{ℕ, zero, suc, ◌+◌, ◌/◌, ◌^◌, ◌<◌, ◌≤◌, arith, binary_digits}
-use Rattle.textwrap_base.proofs.Common.{◌≡◌, ◌*◌, ◌-◌, cases_lt, min, List, [], ◌∷◌, ◌++◌, length}
-use Rattle.textwrap_base.proofs.Common.{get_or, map, sym, ap, ◌∙◌, length-map, get_or-map}
-use Rattle.textwrap_base.proofs.Common.{length_push, get_or_push, get_or_append_left, Costs}
-use Rattle.textwrap_base.proofs.Common.{SuitQueue, least_entry, cost_from, first_entry, minimum_of}
-use Rattle.textwrap_base.proofs.Common.{inl, inr, refl, IsBestStart, entry_from, IsLeastBelow, max}
-use Rattle.textwrap_base.proofs.Common.{take, length-take, get_or-take, IsBestFrom, stretch_at}
-use Rattle.textwrap_base.proofs.Common.{HasEnd, HaveBest, drop, subst, length-drop, get_or-drop}
-use Rattle.textwrap_base.proofs.Common.{IsPriced, rules}
+use Rattle.textwrap_base.proofs.Common.{ℕ, suc, ◌+◌, ◌/◌, ◌^◌, ◌<◌, ◌≤◌, ◌≡◌, ◌*◌, refl, take, drop}
+use Rattle.textwrap_base.proofs.Common.{zero, List, [], ◌++◌, Costs, HasEnd, subst, IsPriced, rules}
+use Rattle.textwrap_base.proofs.Common.{arith, cases_lt, SuitQueue, cost_from, stretch_at, HaveBest}
+use Rattle.textwrap_base.proofs.Common.{binary_digits, length-map, get_or_append_left, IsLeastBelow}
+use Rattle.textwrap_base.proofs.Common.{◌-◌, min, ◌∷◌, map, sym, ap, ◌∙◌, inl, inr, max}
+use Rattle.textwrap_base.proofs.Common.{length, length_push, get_or_push, least_entry, first_entry}
+use Rattle.textwrap_base.proofs.Common.{get_or, IsBestStart, length-take, get_or-take, length-drop}
+use Rattle.textwrap_base.proofs.Common.{get_or-map, minimum_of, entry_from, IsBestFrom, get_or-drop}
 use Rattle.std.proofs.Math.Nat.{pow-suc, mul-le-mul_right}
 use Rattle.textwrap_base.specs.Queue.{digits_within}
 use Rattle.std.proofs.lemmas.List.{ext_get_or, get_or_read}
@@ -140,12 +139,8 @@ AreMinima-one costs minima is = rw is (grind (arith, least_entry-first))
 pub AreMinima-push : (costs : Costs) (minima more : List Minimum) (m : Minimum)
     → AreMinima costs minima → m ≡ minimum_of (least_entry costs (length minima))
     → more ≡ minima ++ m ∷ [] → AreMinima costs more
-AreMinima-push costs minima more m are is pushed = rw pushed (grind (
-  arith,
-  length_push,
-  get_or_append_left,
-  get_or_push,
-))
+AreMinima-push costs minima more m are is pushed =
+    rw pushed (grind (arith, length_push, get_or_append_left, get_or_push))
 
 -- all of them are the table's
 pub AreMinima-all : (costs : Costs) (minima : List Minimum) → AreMinima costs minima

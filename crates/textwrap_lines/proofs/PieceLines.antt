@@ -302,16 +302,13 @@ module _ (settings : Settings) (text : List ℕ) where
   lines-are [] ps at width is_later seam none = search (rules, arith, line_of-pieces, all-left)
   lines-are (x ∷ left) ps at width is_later seam none =
       let later = later_width settings in
-      let keeps = settings.preserve_trailing_space in
       let indent = indent_of settings is_later in
       let here = so_far text at width indent ps in
       let after = at + length (tiled ps) in
       let p = stands_at after x in
       let rest = stand_from p.end left in
       let next = with_piece (no_pieces text after later settings.subsequent_indent) p in
-      let line = line_of keeps here in
-      let full = line ∷ lines_from settings next rest in
-      let more = lines_from settings (with_piece here p) rest in
+      let full = line_of settings.preserve_trailing_space here ∷ lines_from settings next rest in
       let own = cut_line at (line_from (parts_of settings is_later ps)) in
       let penalty : length x.penalty ≡ 0 =
       ap length (All-head HasNoPenalty x left (all-right HasNoPenalty ps (x ∷ left) none)) in
@@ -324,7 +321,7 @@ module _ (settings : Settings) (text : List ℕ) where
       let first_is : next ≡ so_far text after later settings.subsequent_indent (x ∷ []) =
       cc (at_none, so_far-push text after later settings.subsequent_indent [] x) in
       let next_end : p.end ≡ after + length (tiled (x ∷ [])) = ap (λ l. l.end) first_is in
-      cond_both (is_past here p) full more
+      cond_both (is_past here p) full (lines_from settings (with_piece here p) rest)
       (λ ls. ls ≡ cut_lines at (parts_from settings is_later
       (grown sizes_of later width (x ∷ left) ps)))
       (λ past.

@@ -1,15 +1,14 @@
 -- The layout of a text and what unfilling gives; a text that is filled with the indents of another.
-use Rattle.textwrap_base.proofs.Common.{◌≡◌, ℕ, ◌+◌, Bool, true, false, cond, nat_eq, List, [], ◌∷◌}
-use Rattle.textwrap_base.proofs.Common.{take, arith, StartsWith, IsUtf8, IsAscii, IsCharBoundary}
-use Rattle.textwrap_base.proofs.Common.{prefix_len, common_prefix_len, IsUtf8-from_ascii}
-use Rattle.textwrap_base.proofs.Common.{IsCharBoundary-from_take, rules, ◌<◌, max, ◌++◌, length}
-use Rattle.textwrap_base.proofs.Common.{drop, map, get_or, refl, ◌∙◌, Option, Some, None, unwrap_or}
-use Rattle.textwrap_base.proofs.Common.{fold, lines, YieldsList-turn, YieldsList-end}
-use Rattle.textwrap_base.proofs.Common.{YieldsList-from_lines, drop_more, get_or_default, Bor}
-use Rattle.textwrap_base.proofs.Common.{filter, All, sym, append_assoc, append-nil, ◌==◌, flat_map}
-use Rattle.textwrap_base.proofs.Common.{slice_split, ends_with, starts_with_trans, nat_tests}
-use Rattle.textwrap_base.proofs.Common.{nil_from_length, All-nil, All-cons, All-head, All-tail, ap}
-use Rattle.textwrap_base.proofs.Common.{subst}
+use Rattle.textwrap_base.proofs.Common.{◌≡◌, ◌+◌, ◌∷◌, ◌<◌, max, drop, refl, Some, None, fold, ◌==◌}
+use Rattle.textwrap_base.proofs.Common.{ℕ, IsAscii, flat_map, All-nil, All-cons, All-head, All-tail}
+use Rattle.textwrap_base.proofs.Common.{Bool, false, nat_eq, IsUtf8, length, get_or, Option, filter}
+use Rattle.textwrap_base.proofs.Common.{true, cond, List, take, arith, rules, ◌++◌, lines, subst}
+use Rattle.textwrap_base.proofs.Common.{[], common_prefix_len, IsUtf8-from_ascii, starts_with_trans}
+use Rattle.textwrap_base.proofs.Common.{StartsWith, IsCharBoundary-from_take, YieldsList-from_lines}
+use Rattle.textwrap_base.proofs.Common.{IsCharBoundary, unwrap_or, YieldsList-turn, nil_from_length}
+use Rattle.textwrap_base.proofs.Common.{prefix_len, drop_more, append-nil, ends_with, nat_tests, ap}
+use Rattle.textwrap_base.proofs.Common.{map, ◌∙◌, Bor, All, sym}
+use Rattle.textwrap_base.proofs.Common.{YieldsList-end, get_or_default, append_assoc, slice_split}
 use Rattle.textwrap.proofs.Common.{is_prefix_character, line_prefix, common_start, common_prefix}
 use Rattle.textwrap.proofs.Common.{EndedLine, ended_lines_of, nonempty_lines, unfilled_initial}
 use Rattle.textwrap.proofs.Common.{unfilled_subsequent, joined_text, detected_among}

@@ -1,15 +1,14 @@
 -- The table gives the chosen division, if all lines but the first have one width.
-use Rattle.textwrap_base.proofs.Common.{◌≡◌, ℕ, suc, ◌+◌, ◌<◌, ◌≤◌, ◌≢◌, eqb, List, [], ◌∷◌, ◌++◌}
-use Rattle.textwrap_base.proofs.Common.{length, get_or, reverse, take, drop, drop-drop, take_at}
-use Rattle.textwrap_base.proofs.Common.{drop_at, ◌-◌, All, slice_range, refl, sym, ◌∙◌, ap}
-use Rattle.textwrap_base.proofs.Common.{add-zero, arith, append_assoc, length-append, flat_map}
-use Rattle.textwrap_base.proofs.Common.{All-head, All-tail, All-cons, drop_split, line_width}
-use Rattle.textwrap_base.proofs.Common.{IsDivision, PricedSizes, line_cost, line_costs}
-use Rattle.textwrap_base.proofs.Common.{FollowStarts, cases_lt, take-append-drop, length-take-le}
-use Rattle.textwrap_base.proofs.Common.{division_cost, AreEqualFromSecond, take_all, AreNoLater}
-use Rattle.textwrap_base.proofs.Common.{entry_at, fragments_table, IsByTable, Bool, true, zero-add}
-use Rattle.textwrap_base.proofs.Common.{eq-eqb, nat_tests, length-drop, Sizes, priced_at}
-use Rattle.textwrap_base.proofs.Common.{last_break_penalty, closed_width, map, length-map}
+use Rattle.textwrap_base.proofs.Common.{◌≡◌, suc, List, ◌++◌, take, drop, refl, Bool, true, Sizes}
+use Rattle.textwrap_base.proofs.Common.{ℕ, take-append-drop, AreEqualFromSecond, last_break_penalty}
+use Rattle.textwrap_base.proofs.Common.{◌+◌, ◌<◌, ◌≤◌, ◌≢◌, eqb, ◌∷◌, ◌-◌, All, sym, ◌∙◌, ap, map}
+use Rattle.textwrap_base.proofs.Common.{[], append_assoc, FollowStarts, division_cost, closed_width}
+use Rattle.textwrap_base.proofs.Common.{length, add-zero, flat_map, IsByTable, nat_tests, priced_at}
+use Rattle.textwrap_base.proofs.Common.{get_or, reverse, take_at, drop_at, arith, zero-add, eq-eqb}
+use Rattle.textwrap_base.proofs.Common.{drop-drop, drop_split, line_width, PricedSizes, length-drop}
+use Rattle.textwrap_base.proofs.Common.{slice_range, length-append, length-take-le, fragments_table}
+use Rattle.textwrap_base.proofs.Common.{All-head, All-tail, All-cons, cases_lt, take_all, entry_at}
+use Rattle.textwrap_base.proofs.Common.{IsDivision, line_cost, line_costs, AreNoLater, length-map}
 use mathlib.Core.List.{reverse_aux}
 use Rattle.textwrap_base.specs.Cost.{lines_cost, starts_from, IsChosen}
 use Rattle.textwrap_base.specs.declared.penalties.Penalties.{Penalties}
@@ -98,8 +97,7 @@ pub lines_more : {X : Type 0} (fragments : List X) (starts : List ℕ) (lines : 
     × All (λ line. line ≢ []) (slice_range fragments start end ∷ lines)
     × FollowStarts starts start (slice_range fragments start end ∷ lines)
 lines_more fragments starts lines start end below within at tiles some follow =
-    let len = length-slice fragments start end within in
-    grind (arith, drop_split, All-cons)
+    let len = length-slice fragments start end within in grind (arith, drop_split, All-cons)
 
 -- ---- divisions of a prefix, where all lines but the first have one width
 

@@ -235,7 +235,6 @@ module _ {X : Type 0} (priced : X → PricedSizes) (penalties : Penalties) (widt
   line_costs-convex : X → NeverFalls sizes xs
       → AreConvex (fragment_costs priced penalties widths xs)
   line_costs-convex x rising a b c d some ab bc cd within =
-      let target = max (line_width widths 1) 1 in
       let closed = closed_width sizes (take c xs) - open_width sizes (take b xs) in
       let u = open_width sizes (take b xs) - open_width sizes (take a xs) in
       let v = closed_width sizes (take d xs) - closed_width sizes (take c xs) in
@@ -259,7 +258,7 @@ module _ {X : Type 0} (priced : X → PricedSizes) (penalties : Penalties) (widt
         bd,
         ad,
       )
-      (omega (arith, gap_cost-convex penalties target closed u v))
+      (omega (arith, gap_cost-convex penalties (max (line_width widths 1) 1) closed u v))
 
 pub AreConvex-rising : {X : Type 0} (priced : X → PricedSizes) (penalties : Penalties)
     (widths : List ℕ) (xs : List X) → NeverFalls (λ x. (priced x).sizes) xs

@@ -47,8 +47,7 @@ lines_same (l ∷ m ∷ lines) (o ∷ []) at s j = cc
 lines_same (l ∷ m ∷ lines) (o ∷ p ∷ others) at s j =
     let t : starts_from (at + length l) (m ∷ lines) ≡ starts_from (at + length o) (p ∷ others) =
     ap (λ (x : List ℕ). drop 1 x) s in
-    let n = ap (λ (x : List ℕ). get_or x 0 0) t in
-    let len : length l ≡ length o = omega (arith, n) in
+    let len : length l ≡ length o = omega (arith, ap (λ (x : List ℕ). get_or x 0 0) t) in
     let parts = same_parts l o (joined (m ∷ lines)) (joined (p ∷ others)) j len in
     let next = lines_same (m ∷ lines) (p ∷ others) (at + length l)
     (t ∙ ap (λ k. starts_from (at + k) (p ∷ others)) (sym len)) parts.1 in
@@ -114,9 +113,8 @@ module _ {X : Type 0} (priced : X → PricedSizes) (penalties : Penalties) (widt
       × (cost_of priced penalties widths xs lines ≡ cost_at priced penalties widths xs j)
   entry-reached zero l equal = ([] ∷ [], refl, sym first-costs_nothing)
   entry-reached (suc j) l equal =
-      let steady = line_costs-steady priced penalties widths xs equal in
       let (starts, h, f) = starts_to (line_costs priced penalties widths xs) (length xs)
-      steady (suc j) l in
+      line_costs-steady priced penalties widths xs equal (suc j) l in
       let tiles = joined_after starts xs (suc j) [] l h ∙ append-nil (take (suc j) xs) in
       let some = some_after starts xs (suc j) [] l h (All-nil (λ (line : List X). line ≢ [])) in
       let cost = cost_after_starts priced penalties widths starts xs (suc j) [] l h in
@@ -131,8 +129,7 @@ module _ {X : Type 0} (priced : X → PricedSizes) (penalties : Penalties) (widt
   entry-least_cost : (j : ℕ) → j ≤ length xs → AreEqualFromSecond widths
       → IsLeastCost priced penalties widths xs j (cost_at priced penalties widths xs j)
   entry-least_cost j l equal =
-      let (lines, division, reached) = entry-reached j l equal in
-      search (entry-least)
+      let (lines, division, reached) = entry-reached j l equal in search (entry-least)
 
   -- so has what is reported of it
   pub reported-least_cost : (minima : List Minimum)

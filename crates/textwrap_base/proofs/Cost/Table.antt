@@ -1,15 +1,14 @@
 -- The entries of the table, which are the least ones, where it overflows, and the starts of lines
 -- that it gives.
-use Rattle.textwrap_base.proofs.Common.{◌≡◌, ◌<◌, ℕ, ◌+◌, ◌≤◌, arith, counted, table_steps, zero}
-use Rattle.textwrap_base.proofs.Common.{suc, ◌^◌, true, false, if◌then◌else◌, List, length, Option}
-use Rattle.textwrap_base.proofs.Common.{Some, None, SomeIff, refl, ◌∙◌, length_push, get_or_push}
-use Rattle.textwrap_base.proofs.Common.{get_or_append_left, lt-ltb, le-ltb, first_entry, entry_from}
-use Rattle.textwrap_base.proofs.Common.{entry_at, IsLeastBelow, [], ◌∷◌, ◌++◌, inl, inr, add-one}
-use Rattle.textwrap_base.proofs.Common.{ap, cases_eq, ◌-◌, eqb, get_or, take, min, All, Result, Ok}
-use Rattle.textwrap_base.proofs.Common.{Err, IsErrAnd, All-take, Sizes, line_width, PricedSizes}
-use Rattle.textwrap_base.proofs.Common.{total_width, Overflowed, AreAtMost, line_costs}
-use Rattle.textwrap_base.proofs.Common.{fragments_table, map, sym, subst, ⊤, get_or-map, AreNoLater}
-use Rattle.textwrap_base.proofs.Common.{length-map, minimum_of}
+use Rattle.textwrap_base.proofs.Common.{◌≡◌, ◌<◌, ℕ, ◌+◌, ◌≤◌, suc, ◌^◌, refl, ◌∙◌, ◌∷◌, ◌++◌, take}
+use Rattle.textwrap_base.proofs.Common.{arith, true, false, List, Some, None, Result, Sizes, subst}
+use Rattle.textwrap_base.proofs.Common.{counted, if◌then◌else◌, get_or_append_left, fragments_table}
+use Rattle.textwrap_base.proofs.Common.{table_steps, length, length_push, get_or_push, IsLeastBelow}
+use Rattle.textwrap_base.proofs.Common.{zero, cases_eq, IsErrAnd, AreAtMost, length-map, minimum_of}
+use Rattle.textwrap_base.proofs.Common.{Option, SomeIff, lt-ltb, le-ltb, add-one, get_or, All-take}
+use Rattle.textwrap_base.proofs.Common.{first_entry, entry_from, entry_at, PricedSizes, total_width}
+use Rattle.textwrap_base.proofs.Common.{[], inl, inr, ap, ◌-◌, eqb, min, All, Ok, Err, map, sym, ⊤}
+use Rattle.textwrap_base.proofs.Common.{line_width, Overflowed, line_costs, get_or-map, AreNoLater}
 use Rattle.std.proofs.Math.Nat.{mul-le-mul}
 use Rattle.std.proofs.Common.{ltb}
 use Rattle.textwrap_base.specs.Table.{cheaper, cheaper_of, cheapest, table, IsBestBelow, IsTable}
@@ -145,8 +144,7 @@ number-table_upto : (bound : ℕ) (cost : ℕ → ℕ → ℕ → ℕ) (n j : �
 number-table_upto bound cost n zero b l = rw (entry-table_first cost n) (omega arith)
 number-table_upto zero cost n (suc j) b l = absurd (omega arith)
 number-table_upto (suc bound) cost n (suc j) b l =
-    let h = table-least cost n j l in
-    let e = ap (λ (x : Entry). x.line_number) h.from_start in
+    let e = ap (λ (x : Entry). x.line_number) (table-least cost n j l).from_start in
     let k = number-table_upto bound cost j (entry_at (table cost n) (suc j)).start (omega arith)
     (omega arith) in omega arith
 
@@ -166,8 +164,7 @@ pub table_past : (cost : ℕ → ℕ → ℕ → ℕ) (n m : ℕ) → n < m
     → ((i : ℕ) → i < n + 1 → 2 ^ 128 ≤ (entry_from cost i (entry_at (table cost n) i) (n + 1)).cost)
     → 2 ^ 128 ≤ (entry_at (table cost m) (n + 1)).cost
 table_past cost n m l past =
-    let h = table-least cost m n l in
-    grind (arith, add-one)
+    let h = table-least cost m n l in grind (arith, add-one)
 
 pub table_fits : (cost : ℕ → ℕ → ℕ → ℕ) (n : ℕ) (e : Entry)
     → table cost n ++ e ∷ [] ≡ table cost (n + 1) → e.cost < 2 ^ 128
@@ -193,14 +190,13 @@ pub table-fits : {X : Type 0} (priced : X → PricedSizes) (p : Penalties) (widt
 table-fits priced p widths xs h breaks k l zero b = grind (arith, entry-table_first)
 table-fits {X = X} priced p widths xs h breaks k l (suc j) b =
     let sizes : X → Sizes = λ x. (priced x).sizes in
-    let one = one_line (line_costs priced p widths xs) (length xs) j b in
     let part = total_width-take sizes xs (suc j - 0) in
     let closed = closed_width-le sizes (take (suc j - 0) xs) in
     let width = k (min 0 (length widths - 1)) in
     let fits = line_cost-le (2 ^ 64 - 1) priced p (line_width widths 0) (eqb (suc j) (length xs))
     (take (suc j - 0) xs) h (All-take (λ x. (priced x).break_penalty ≤ 2 ^ 64 - 1)
     (suc j - 0) xs breaks) (omega (arith, width)) (omega (arith, part, closed)) in
-    omega (arith, one, fits)
+    omega (arith, one_line (line_costs priced p widths xs) (length xs) j b, fits)
 
 -- an error that is passed on
 pub overflowed_on : {A : Type 0} (B : Type 0) (r : Result A WrapError) (e : WrapError)
@@ -239,11 +235,8 @@ least_entries : (cost : ℕ → ℕ → ℕ → ℕ) (entries others : List Entr
 least_entries cost entries others end m e same h = grind arith
 
 pub table-is_table : (cost : ℕ → ℕ → ℕ → ℕ) (n : ℕ) → IsTable cost n (table cost n)
-table-is_table cost n = record {
-  len = length-table cost n;
-  first = entry-table_first cost n;
-  later = later;
-}
+table-is_table cost n =
+    record { len = length-table cost n; first = entry-table_first cost n; later = later }
   where
     later : (j : ℕ) → 0 < j → j ≤ n
         → IsLeastBelow cost (table cost n) j j (entry_at (table cost n) j)
@@ -301,9 +294,8 @@ module _ (cost : ℕ → ℕ → ℕ → ℕ) (n : ℕ) (steady : IsSteady cost)
       let before = table_least others i (omega arith) os in
       let no_less : i < s → ⊥ = λ k. let dearer = later.first i (omega (arith, start, k)) in
       omega (arith, dearer, after, before, e) in
-      let least = later.least i o in
       let same : starts_cost others cost i ≡ (entry_at entries i).cost =
-      omega (arith, least, after, before, e) in
+      omega (arith, later.least i o, after, before, e) in
       elim (cases_eq s i) [
         | inl q ↦ inr (
           q,
@@ -319,12 +311,10 @@ module _ (cost : ℕ → ℕ → ℕ → ℕ) (n : ℕ) (steady : IsSteady cost)
   starts_upto bound zero b l = ([], refl, tt)
   starts_upto zero (suc j) b l = absurd (omega arith)
   starts_upto (suc bound) (suc j) b l =
-      let later = is.later (suc j) (omega arith) l in
-      let below = later.below in
       let (rest, h, f) = starts_upto bound (entry_at entries (suc j)).start (omega arith)
       (omega arith) in (
         (entry_at entries (suc j)).start ∷ rest,
-        (below, h),
+        ((is.later (suc j) (omega arith) l).below, h),
         (start-at cost n (suc j) l, f),
       )
 

@@ -1,16 +1,15 @@
 -- First fit: the widths of lines, the greedy division, which is the only one and has the fewest
 -- lines.
-use Rattle.textwrap_base.proofs.Common.{◌≡◌, ℕ, ◌+◌, ◌-◌, ◌<◌, List, [], ◌∷◌, ◌++◌, length, get_or}
-use Rattle.textwrap_base.proofs.Common.{map, take, refl, sym, ap, ◌∙◌, arith, take_more}
-use Rattle.textwrap_base.proofs.Common.{sum_by-cons, sum_by-append, Sizes, closed_width, open_width}
-use Rattle.textwrap_base.proofs.Common.{zero, suc, min, add-one, line_width, AllFit, AllFull}
-use Rattle.textwrap_base.proofs.Common.{IsGreedy, AreEqualFromSecond, ◌≤◌, All, append-nil, All-nil}
-use Rattle.textwrap_base.proofs.Common.{All-cons, All-head, All-tail, IsDivision, ◌≢◌, drop, inl}
-use Rattle.textwrap_base.proofs.Common.{inr, add-zero, length-drop, length-append, take-append-drop}
-use Rattle.textwrap_base.proofs.Common.{append_assoc, flat_map, take-append-add, take_all}
-use Rattle.textwrap_base.proofs.Common.{take-append-le, length_push, length-take-le}
-use Rattle.textwrap_base.proofs.Common.{nil_from_length, get_or-drop, cases_lt, Fits, subst, rules}
-use Rattle.textwrap_base.proofs.Common.{drop_at}
+use Rattle.textwrap_base.proofs.Common.{◌≡◌, ◌+◌, ◌-◌, ◌<◌, ◌∷◌, map, sym, ◌∙◌, suc, min, ◌≤◌, Fits}
+use Rattle.textwrap_base.proofs.Common.{ℕ, sum_by-append, closed_width, length-append, append_assoc}
+use Rattle.textwrap_base.proofs.Common.{List, AreEqualFromSecond, take-append-drop, take-append-add}
+use Rattle.textwrap_base.proofs.Common.{[], take_more, line_width, IsGreedy, append-nil, IsDivision}
+use Rattle.textwrap_base.proofs.Common.{◌++◌, take, refl, arith, Sizes, zero, drop, subst, rules}
+use Rattle.textwrap_base.proofs.Common.{length, get_or, AllFit, AllFull, All-nil, cases_lt, drop_at}
+use Rattle.textwrap_base.proofs.Common.{ap, All, ◌≢◌, inl, inr}
+use Rattle.textwrap_base.proofs.Common.{sum_by-cons, add-one, length-drop, length_push, get_or-drop}
+use Rattle.textwrap_base.proofs.Common.{open_width, take-append-le, length-take-le, nil_from_length}
+use Rattle.textwrap_base.proofs.Common.{All-cons, All-head, All-tail, add-zero, flat_map, take_all}
 use Rattle.textwrap_base.proofs.Lists.Parts.{some_from_nonempty, flat, same_parts}
 use Rattle.std.proofs.lemmas.List.{drop-append-le}
 use Rattle.textwrap_base.specs.Division.{IsAdmissible}
@@ -32,8 +31,7 @@ module _ {X : Type 0} (sizes : X → Sizes) where
   closed_width-push [] x = omega arith
   closed_width-push (y ∷ []) x = omega arith
   closed_width-push (y ∷ z ∷ xs) x =
-      let e = open_width-cons y (z ∷ xs) in
-      let h = closed_width-push (z ∷ xs) x in omega (arith, e, h)
+      let h = closed_width-push (z ∷ xs) x in omega (arith, open_width-cons y (z ∷ xs), h)
 
   -- the first i fragments and the one at i
   pub take_one_more : (xs : List X) (i : ℕ) (x : X) → i < length xs → x ≡ get_or xs i x

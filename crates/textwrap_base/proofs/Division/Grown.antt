@@ -28,11 +28,9 @@ module _ {X : Type 0} (sizes : X → Sizes) where
   pub prefix-closes : (width : ℕ) (line : List X) (x : X) (xs : List X)
       → Fits sizes width (line ++ x ∷ xs)
       → 0 < length line → closed_width sizes (line ++ x ∷ []) ≤ width
-  prefix-closes width line x xs fits some =
-      let len = length_push line x in
-      subst (λ l. closed_width sizes l ≤ width)
+  prefix-closes width line x xs fits some = subst (λ l. closed_width sizes l ≤ width)
       (ap (take (length line + 1)) (sym (append_assoc line (x ∷ []) xs))
-      ∙ take_at (line ++ x ∷ []) xs (length line + 1) len)
+      ∙ take_at (line ++ x ∷ []) xs (length line + 1) (length_push line x))
       (fits (length line + 1) (omega (arith, some)) (omega (arith, length-append line (x ∷ xs))))
 
 module _ {X : Type 0} (sizes : X → Sizes) (later : ℕ) where
@@ -116,5 +114,4 @@ module _ {X : Type 0} (sizes : X → Sizes) (later : ℕ) (widths : List ℕ)
       → IsGreedy sizes widths xs (grown sizes later first xs [])
   grown-greedy first same [] = search (Fits-none)
   grown-greedy first same (x ∷ xs) =
-      let lines = are_grown first (x ∷ xs) [] in
-      grind (arith, IsGreedy-from, Fits-none)
+      let lines = are_grown first (x ∷ xs) [] in grind (arith, IsGreedy-from, Fits-none)

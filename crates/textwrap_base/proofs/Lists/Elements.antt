@@ -1,15 +1,14 @@
 -- The elements of lists: what functions make of them, what a list contains, and lists of numbers in
 -- order.
-use Rattle.textwrap_base.proofs.Common.{◌≡◌, List, [], ◌∷◌, ◌++◌, map, ap, ◌∙◌, reverse, refl, ℕ}
-use Rattle.textwrap_base.proofs.Common.{◌-◌, take, drop, slice_range, ◌+◌, ◌<◌, length, get_or, sym}
-use Rattle.textwrap_base.proofs.Common.{arith, map-append, append_assoc, map_push, reverse-append}
-use Rattle.textwrap_base.proofs.Common.{take-map, drop_at, take_more, map-id, flat_map}
-use Rattle.textwrap_base.proofs.Common.{join_with_byte, ◌≤◌, Bool, true, false, cond, zero, suc}
-use Rattle.textwrap_base.proofs.Common.{filter, All, range_with_len, IsNonDecreasing, append-nil}
-use Rattle.textwrap_base.proofs.Common.{map-range_with_len_more, ◌*◌, length-append, repeat, ◌⊎◌}
-use Rattle.textwrap_base.proofs.Common.{Contains, inl, inr, ◌==◌, Result, Ok, Err, list_any}
-use Rattle.textwrap_base.proofs.Common.{cases_lt, eqb-true, eq-eqb, ne_eqb, false≢true, cases_eq}
-use Rattle.textwrap_base.proofs.Common.{get_or_default, All-from_get_or}
+use Rattle.textwrap_base.proofs.Common.{◌≡◌, ◌++◌, refl, take, arith, false, Result, eq-eqb, ne_eqb}
+use Rattle.textwrap_base.proofs.Common.{List, map_push, take-map, take_more, append-nil, false≢true}
+use Rattle.textwrap_base.proofs.Common.{[], map-append, append_assoc, length-append, get_or_default}
+use Rattle.textwrap_base.proofs.Common.{◌∷◌, map, ◌∙◌, ◌-◌, drop, ◌+◌, Bool, true, cond, zero, ◌==◌}
+use Rattle.textwrap_base.proofs.Common.{ap, ◌<◌, sym, ◌≤◌, suc, All, ◌*◌, ◌⊎◌, inl, inr, Ok, Err}
+use Rattle.textwrap_base.proofs.Common.{reverse, ℕ, length, get_or, drop_at, map-id, filter, repeat}
+use Rattle.textwrap_base.proofs.Common.{slice_range, reverse-append, join_with_byte, range_with_len}
+use Rattle.textwrap_base.proofs.Common.{flat_map, Contains, list_any, cases_lt, eqb-true, cases_eq}
+use Rattle.textwrap_base.proofs.Common.{IsNonDecreasing, map-range_with_len_more, All-from_get_or}
 use Rattle.std.proofs.Common.{Iter}
 use Rattle.std.proofs.lemmas.List.{drop-map, flat_map_more}
 use mathlib.Core.List.{reverse_aux}

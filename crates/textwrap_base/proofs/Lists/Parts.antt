@@ -44,15 +44,13 @@ cons-some c cs none = omega (arith, ap length none)
 pub slice_push : {X : Type 0} (xs : List X) (i k : ℕ) (d : X) → i ≤ k → k < length xs
     → slice_range xs i (k + 1) ≡ slice_range xs i k ++ get_or xs k d ∷ []
 slice_push xs i k d h l =
-    let at : i + (k - i) ≡ k = omega arith in
-    grind (arith, length-drop, take_more, get_or-drop)
+    let at : i + (k - i) ≡ k = omega arith in grind (arith, length-drop, take_more, get_or-drop)
 
 -- the first j are the first i and what lies between
 pub take_slice : {X : Type 0} (xs : List X) (i j : ℕ) → i ≤ j
     → take j xs ≡ take i xs ++ slice_range xs i j
 take_slice xs i j h =
-    let at : i + (j - i) ≡ j = omega arith in
-    ap (λ n. take n xs) (sym at) ∙ take-add i (j - i) xs
+    let at : i + (j - i) ≡ j = omega arith in ap (λ n. take n xs) (sym at) ∙ take-add i (j - i) xs
 
 pub length-slice : {X : Type 0} (xs : List X) (i j : ℕ) → j ≤ length xs
     → length (slice_range xs i j) ≡ j - i

@@ -7,12 +7,11 @@ use Rattle.textwrap_base.proofs.Common.{length-map, ◌≢◌, All-weaker, None,
 use Rattle.textwrap_words.proofs.Common.{WordText, sizes_of, word_of, Greedy, IsDividedBy}
 use Rattle.textwrap_words.proofs.Common.{ends_in_hyphen, AreCuts, MaySeparate, Splitter, MaySplit}
 use Rattle.textwrap_words.proofs.Common.{splitter_view, MayDivide, algorithm_view, Algorithm}
-use Rattle.textwrap_lines.proofs.Common.{LineParts, indent_of, parts_of, parts_from, is_whole}
-use Rattle.textwrap_lines.proofs.Common.{AreIndented, Settings, OnlyCharactersPass, KeepsToWidth}
-use Rattle.textwrap_lines.proofs.Common.{first_width, later_width, width_after, widths_of}
-use Rattle.textwrap_lines.proofs.Common.{IsOneCharacter, IsDividedInto, AreParagraphParts}
-use Rattle.textwrap_lines.proofs.Common.{KeepToWidths, Line, line_from, pieces_of, DividesAs}
-use Rattle.textwrap_lines.proofs.Common.{AreDividedParts}
+use Rattle.textwrap_lines.proofs.Common.{LineParts, indent_of, parts_from, widths_of, line_from}
+use Rattle.textwrap_lines.proofs.Common.{parts_of, is_whole, Settings, pieces_of, DividesAs}
+use Rattle.textwrap_lines.proofs.Common.{AreIndented, first_width, later_width, width_after, Line}
+use Rattle.textwrap_lines.proofs.Common.{OnlyCharactersPass, AreParagraphParts, AreDividedParts}
+use Rattle.textwrap_lines.proofs.Common.{KeepsToWidth, IsOneCharacter, IsDividedInto, KeepToWidths}
 use Rattle.textwrap_base.proofs.Lists.Parts.{flat, all-left, all-right, Begins}
 use Rattle.textwrap_words.proofs.Word.Words.{closed_width-narrow, HasNoPenalty, IsMeasured}
 use Rattle.textwrap_words.proofs.Word.Words.{text_width-nil}
@@ -77,7 +76,6 @@ pub whole_line-within : (settings : Settings) (is_later : Bool) (paragraph : Lis
 whole_line-within settings is_later paragraph utf8 whole =
     let tests = and_parts (length (indent_of settings is_later) == 0)
     (nat_lt (length paragraph) settings.width) whole in
-    let shorter = ltb-true (length paragraph) settings.width tests.1 in
     let line = word_of paragraph ∷ [] in
     let measured : All IsMeasured line =
     search (rules, All-cons, without_final_blanks-utf8, word_of-blanks, All-nil) in
@@ -86,7 +84,7 @@ whole_line-within settings is_later paragraph utf8 whole =
     let within : closed_width sizes_of line ≤ length paragraph =
     rw (tiled-word_of paragraph) at (closed_width-narrow line
     (narrow_words line measured none)) in
-    omega (arith, within, shorter)
+    omega (arith, within, ltb-true (length paragraph) settings.width tests.1)
 
 -- ---- lemmas on lines that keep to the width, their indents with them: those of a paragraph
 -- whose first line is divided for the width that its own indent leaves

@@ -62,9 +62,8 @@ module _ (settings : Settings) (Words : List ℕ → List WordText → Type 0)
       → AreSplitWords Words Points texts cuts paragraph split
       → tiled (broken_words (later_width settings) split) ≡ paragraph
   broken-tile paragraph split utf8 are =
-      let limit = later_width settings in
       let measured = split-measured Words Points texts cuts paragraph split utf8 are in
-      tiled-broken_words limit split
+      tiled-broken_words (later_width settings) split
       (All-weaker IsMeasured (λ w. IsUtf8 w.word) (λ w m. m.utf8) split measured)
       (search (rules, wide-some)) ∙ split-tile Words Points texts cuts paragraph split utf8 are
 

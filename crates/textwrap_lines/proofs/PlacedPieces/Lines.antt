@@ -211,14 +211,13 @@ spans-case text penalties first later ws tile bounded suit =
     let total = total_width-same span_sizes sizes_of spans ws
     (sizes-same span_priced (λ w. priced_at penalties (sizes_of w)) spans ws
     (priced-spans penalties 0 0 ws (λ k d lt. (bounded k d lt).penalty))) in
-    let most = total_width-narrow ws bounded in
     let len = ap length tile in record {
       equal = two-equal first later;
       rising = never_falls spans;
       small_widths = suit.small_widths;
       small_penalties = suit.small_penalties;
       small_break_penalties = λ k d lt. omega arith;
-      small_sum = omega (arith, total, most, len, suit.small_len);
+      small_sum = omega (arith, total, total_width-narrow ws bounded, len, suit.small_len);
     }
 
 pub AreSpans-from : (penalties : Penalties) (widths : List ℕ) (ws : List WordText)
@@ -247,11 +246,9 @@ module _ (text : List ℕ) where
       let space = blanks-utf8 w.whitespace here.ending.blanks in
       let next : drop at text ≡ (w.word ++ w.whitespace) ++ after =
       seam ∙ ap (λ l. l ++ after) (append-nil (tile_of w)) in
-      let tile = length-append w.word w.whitespace in
-      let one = ap length (append-nil (tile_of w)) in
       record {
         word_end = refl;
-        end = omega (arith, tile, one);
+        end = omega (arith, length-append w.word w.whitespace, ap length (append-nil (tile_of w)));
         may = record {
           start = begins;
           word = slice-ends text at at (length w.word) (length w.whitespace) w.word w.whitespace

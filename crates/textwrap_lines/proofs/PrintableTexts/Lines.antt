@@ -38,9 +38,8 @@ use Rattle.textwrap_lines.proofs.PieceLines.{lines-are}
 pub blanks-keep : (text : List ℕ) (at width end : ℕ) → end ≤ length text
     → BlanksBetween text (at + width) end → trimmed_len (slice_range text at end) ≤ width
 blanks-keep text at width end within blanks =
-    let slice = slice_range text at end in
     let len = length-slice text at end within in
-    trimmed-le slice width (λ k from inside.
+    trimmed-le (slice_range text at end) width (λ k from inside.
     ap is_blank (get_or-take (end - at) (drop at text) k 0 (omega (arith, inside, len))
     ∙ get_or-drop at text k 0)
     ∙ blanks (at + k) (omega (arith, from)) (omega (arith, inside, len)))

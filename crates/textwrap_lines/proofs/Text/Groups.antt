@@ -1,11 +1,10 @@
 -- The lines of a text, paragraph by paragraph: there is one list of them, and only blanks are left
 -- off.
-use Rattle.textwrap_base.proofs.Common.{ℕ, Bool, ◌||◌, nat_lt, List, [], ◌∷◌, All, length, sym}
-use Rattle.textwrap_base.proofs.Common.{subst, ◌<◌, true, false, ◌++◌, arith, length-append}
-use Rattle.textwrap_base.proofs.Common.{flat_map, All-nil, All-head, All-tail, All-append, ◌≡◌}
-use Rattle.textwrap_base.proofs.Common.{MatchBool, ⊤, map, ap, ◌∙◌, StartsWith, IsUtf8, rules}
-use Rattle.textwrap_base.proofs.Common.{starts_with_of_eq, All-cons, All-weaker, Sizes}
-use Rattle.textwrap_base.proofs.Common.{AreEqualFromSecond, priced_at}
+use Rattle.textwrap_base.proofs.Common.{ℕ, All-append, MatchBool, StartsWith, All-weaker, priced_at}
+use Rattle.textwrap_base.proofs.Common.{Bool, ◌||◌, ◌∷◌, length, false, arith, IsUtf8, rules, Sizes}
+use Rattle.textwrap_base.proofs.Common.{nat_lt, [], flat_map, All-nil, All-head, All-tail, All-cons}
+use Rattle.textwrap_base.proofs.Common.{List, All, sym, ◌<◌, true, ◌++◌, ◌≡◌, ⊤, map, ap, ◌∙◌}
+use Rattle.textwrap_base.proofs.Common.{subst, length-append, starts_with_of_eq, AreEqualFromSecond}
 use Rattle.textwrap_lines.proofs.Common.{LineParts, AreIndented, AreGroups, Settings}
 use Rattle.textwrap_lines.proofs.Common.{AreParagraphParts, AreTextLines, DividesAt, paragraphs_of}
 use Rattle.textwrap_lines.proofs.Common.{DividesBy, HasPartsAt, IsFilled, is_whole, Line, Options}
@@ -209,14 +208,13 @@ module _ (settings : Settings) (Divides : Bool → List ℕ → List (List WordT
   LosesOnlyBlanks-from text groups utf8 defined =
       let paragraphs = paragraphs_of settings.line_ending text in
       let all = paragraphs_of-utf8 settings.line_ending text utf8 in
-      let parts = flat groups in
       let leaves = groups-all (LeavesBlanks settings) false paragraphs groups
       (search (rules, arith, groups-map, parts-blanks)) in
       record {
         begin = search (rules, arith, groups-map, parts-begin);
         blanks = search (rules, arith, All-weaker);
         kept = λ preserved. All-weaker (LeavesBlanks settings) (λ p. p.left_off ≡ [])
-            (λ p left. left.kept preserved) parts leaves;
+            (λ p left. left.kept preserved) (flat groups) leaves;
       }
 
 -- ---- the lines of a text whose paragraphs are divided whole

@@ -1,17 +1,16 @@
 -- The reader of characters: its states, what it shows, the columns of that, and how far it has
 -- come.
-use Rattle.textwrap_base.proofs.Common.{inl, inr, ◌≡◌, ◌≢◌, ℕ, suc, Bool, true, false, cond, eqb}
-use Rattle.textwrap_base.proofs.Common.{List, ◌∷◌, refl, ap, flat_map, cases_Bool, arith, ◌+◌, ◌≤◌}
-use Rattle.textwrap_base.proofs.Common.{[], ◌++◌, length, drop, sym, append-nil, chars_from_encodes}
-use Rattle.textwrap_base.proofs.Common.{encode_utf8_all, encodes-append, encodes-chars, ◌∙◌, subst}
-use Rattle.textwrap_base.proofs.Common.{chars-nil, chars_past_char, drop-drop, drop_at}
-use Rattle.textwrap_base.proofs.Common.{IsCharBoundary, IsCharBoundary-start, IsUtf8, IsUtf8-drop}
-use Rattle.textwrap_base.proofs.Common.{IsUtf8-past_char, length-append, length-drop}
-use Rattle.textwrap_base.proofs.Common.{nil_from_length, zero, ◌<◌, get_or, All, append_assoc}
-use Rattle.textwrap_base.proofs.Common.{All-nil, All-head, All-tail, All-append, All-from_get_or}
-use Rattle.textwrap_base.proofs.Common.{zero-add, map, sum_by, IsAscii, cases_lt, get_or_past}
-use Rattle.textwrap_base.proofs.Common.{nat_tests, sum_by-cons, sum_by-append, chars-IsAscii}
-use Rattle.textwrap_base.proofs.Common.{cases_eq, length-encode, ne_eqb, drop_more}
+use Rattle.textwrap_base.proofs.Common.{inl, inr, ◌≡◌, ◌≢◌, suc, cond, List, refl, ◌++◌, drop, zero}
+use Rattle.textwrap_base.proofs.Common.{ℕ, eqb, ◌∷◌, ◌+◌, ◌≤◌, [], sym, ◌∙◌, ◌<◌, All, map}
+use Rattle.textwrap_base.proofs.Common.{Bool, IsUtf8-drop, length-drop, append_assoc, length-encode}
+use Rattle.textwrap_base.proofs.Common.{true, false, arith, subst, IsUtf8, get_or, sum_by, ne_eqb}
+use Rattle.textwrap_base.proofs.Common.{ap, drop_at, All-nil, zero-add, IsAscii, cases_lt, cases_eq}
+use Rattle.textwrap_base.proofs.Common.{flat_map, encode_utf8_all, chars_past_char, nil_from_length}
+use Rattle.textwrap_base.proofs.Common.{cases_Bool, encodes-append, IsCharBoundary, All-from_get_or}
+use Rattle.textwrap_base.proofs.Common.{length, drop-drop, All-head, All-tail, nat_tests, drop_more}
+use Rattle.textwrap_base.proofs.Common.{append-nil, chars-nil, All-append, get_or_past, sum_by-cons}
+use Rattle.textwrap_base.proofs.Common.{chars_from_encodes, IsCharBoundary-start, IsUtf8-past_char}
+use Rattle.textwrap_base.proofs.Common.{encodes-chars, length-append, sum_by-append, chars-IsAscii}
 use Rattle.textwrap_words.proofs.Common.{TextUnit, is_control_end, is_command_end, next_of, shows}
 use Rattle.textwrap_words.proofs.Common.{taken_in, unit_at, units_past, visible_in, visible_of}
 use Rattle.textwrap_words.proofs.Common.{escape, escape_len, stripped, Visible, taken_at, columns}

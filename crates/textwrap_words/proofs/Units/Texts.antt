@@ -296,8 +296,7 @@ units_same (Sequence cs ∷ us) (Sequence ds ∷ vs) ours theirs same =
     let second : Begins ds vs = Begins-from ds vs theirs in
     let both : (cs ≡ ds) × (flat_map characters us ≡ flat_map characters vs) =
     same_sequence cs ds us vs first second same in
-    let tails : us ≡ vs = units_same us vs first.rest second.rest both.1 in
-    cc
+    let tails : us ≡ vs = units_same us vs first.rest second.rest both.1 in cc
 
 pub units_unique : (cs : List ℕ) (us : List TextUnit) → IsInUnits cs us ↔ (us ≡ units cs)
 units_unique cs us = (

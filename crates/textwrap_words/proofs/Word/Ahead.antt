@@ -89,8 +89,7 @@ pub IsInFirst-cut : (limit : ℕ) (cs : List ℕ) (s : State) (width c : ℕ) (r
     → IsInFirst limit cs s width (c ∷ rest) → shows s c ≡ true
     → is_due limit width (Visible c) ≡ true → EndsHere limit cs width (units (c ∷ rest))
 IsInFirst-cut limit cs Text width c rest h shown due =
-    let plain = not-true (eqb c 27) shown in
-    grind arith
+    let plain = not-true (eqb c 27) shown in grind arith
 IsInFirst-cut limit cs Escape width c rest h shown due = cc
 IsInFirst-cut limit cs Control width c rest h shown due = cc
 IsInFirst-cut limit cs (Command last) width c rest h shown due = cc

@@ -1,11 +1,10 @@
 -- The parts into which units are broken: the computed ones, and no others.
-use Rattle.textwrap_base.proofs.Common.{inl, inr, ◌≡◌, ℕ, ◌+◌, ◌<◌, ◌≤◌, true, false, cond, List}
-use Rattle.textwrap_base.proofs.Common.{[], ◌∷◌, ◌++◌, refl, ap, subst, zero-add, arith, ⊤}
-use Rattle.textwrap_base.proofs.Common.{onto_first, cases_Bool, nat_tests, sum_by-cons, ◌≢◌}
-use Rattle.textwrap_base.proofs.Common.{add-zero, All, All-head, All-tail, sym, ◌∙◌, and_parts}
-use Rattle.textwrap_base.proofs.Common.{ltb-true, All-nil, All-cons, zero, suc, ◌⊎◌, nat_lt, filter}
-use Rattle.textwrap_base.proofs.Common.{length, drop, append_assoc, flat_map, cases_lt}
-use Rattle.textwrap_base.proofs.Common.{sum_by-append}
+use Rattle.textwrap_base.proofs.Common.{inl, inr, ◌≡◌, ◌+◌, ◌<◌, ◌≤◌, ◌∷◌, ◌++◌, refl, zero, drop}
+use Rattle.textwrap_base.proofs.Common.{ℕ, true, cond, List, arith, All-nil, nat_lt, filter, length}
+use Rattle.textwrap_base.proofs.Common.{false, onto_first, sum_by-cons, append_assoc, sum_by-append}
+use Rattle.textwrap_base.proofs.Common.{[], ap, ⊤, ◌≢◌, All, sym, ◌∙◌, suc, ◌⊎◌}
+use Rattle.textwrap_base.proofs.Common.{subst, zero-add, cases_Bool, nat_tests, add-zero, and_parts}
+use Rattle.textwrap_base.proofs.Common.{All-head, All-tail, ltb-true, All-cons, flat_map, cases_lt}
 use Rattle.textwrap_words.proofs.Common.{TextUnit, Visible, Sequence, columns, unit_width}
 use Rattle.textwrap_words.proofs.Common.{units_width, IsKept, AllPartsFull, is_due, broken_units}
 use Rattle.textwrap_words.proofs.Common.{characters, taken_at, units_past, units, visible_of}

@@ -8,11 +8,10 @@ use Rattle.textwrap_base.proofs.Common.{◌<◌, All, nil_from_length, append-ni
 use Rattle.textwrap_base.proofs.Common.{All-head, All-tail, ⊤, Bool, true, cond, subst, All-nil}
 use Rattle.textwrap_base.proofs.Common.{All-cons, lt-ltb, ltb-false, cond_both, sum_by-append}
 use Rattle.textwrap_base.proofs.Common.{sum_by-cons, false≢true, chars_from_encodes}
-use Rattle.textwrap_words.proofs.Common.{TextUnit, characters, columns, units, visible_of}
-use Rattle.textwrap_words.proofs.Common.{text_width, units_text, broken_units, broken_texts}
-use Rattle.textwrap_words.proofs.Common.{WordText, tile_of, tiled, piece, pieces_with}
-use Rattle.textwrap_words.proofs.Common.{broken_pieces, broken_word, broken_words, Visible}
-use Rattle.textwrap_words.proofs.Common.{unit_width, units_width, IsKept}
+use Rattle.textwrap_words.proofs.Common.{TextUnit, visible_of, text_width, units_text, unit_width}
+use Rattle.textwrap_words.proofs.Common.{characters, columns, pieces_with, broken_word, units_width}
+use Rattle.textwrap_words.proofs.Common.{units, WordText, tile_of, tiled, piece, Visible, IsKept}
+use Rattle.textwrap_words.proofs.Common.{broken_units, broken_texts, broken_pieces, broken_words}
 use Rattle.textwrap_words.proofs.Word.Ahead.{EndsHere}
 use Rattle.std.specs.Prelude.{chars}
 use Rattle.std.proofs.lemmas.List.{append_cancel_right}
@@ -152,8 +151,7 @@ pub tiled-pieces_with : (whitespace penalty : List ℕ) (texts : List (List ℕ)
 tiled-pieces_with whitespace penalty [] some = absurd (some refl)
 tiled-pieces_with whitespace penalty (text ∷ []) some = simp append-nil
 tiled-pieces_with whitespace penalty (text ∷ next ∷ texts) some =
-    let rest = tiled-pieces_with whitespace penalty (next ∷ texts) (λ e. cc) in
-    rw (append-nil text, rest)
+    rw (append-nil text, tiled-pieces_with whitespace penalty (next ∷ texts) (λ e. cc))
     (sym (append_assoc text (flat_map (λ t. t) (next ∷ texts)) whitespace))
 
 -- ---- tiling

@@ -1,17 +1,15 @@
 -- Offsets of the visible text of a line, and the cuts of the line there.
-use Rattle.textwrap_base.proofs.Common.{inl, inr, cases_Bool, ◌≡◌, ◌≢◌, ℕ, ◌+◌, Bool, cond, eqb}
-use Rattle.textwrap_base.proofs.Common.{List, ◌∷◌, length, take, refl, ap, add-zero}
-use Rattle.textwrap_base.proofs.Common.{encode_utf8_all, true, [], ◌++◌, ◌∙◌, arith, length-append}
-use Rattle.textwrap_base.proofs.Common.{flat_map, Contains, encodes-append, subst, ◌↔◌, ◌<◌, map}
-use Rattle.textwrap_base.proofs.Common.{sym, zero-add, All, lt-ltb, All-nil, All-weaker}
-use Rattle.textwrap_base.proofs.Common.{length-encode, rules, ◌≤◌, IsUtf8, IsCharBoundary}
-use Rattle.textwrap_base.proofs.Common.{flat_map-append, encodes-chars, false, append-nil}
-use Rattle.textwrap_base.proofs.Common.{append_assoc}
-use Rattle.textwrap_words.proofs.Common.{ends_from, escape_len, next_of, shows, taken_in}
-use Rattle.textwrap_words.proofs.Common.{units_past, VisibleEnd, units_text, TextUnit, Visible}
-use Rattle.textwrap_words.proofs.Common.{Sequence, characters, shown_len, is_cut_after, cuts_among}
-use Rattle.textwrap_words.proofs.Common.{units, stripped, WordText, word_of, cuts_at, parts_between}
-use Rattle.textwrap_words.proofs.Common.{AreCuts}
+use Rattle.textwrap_base.proofs.Common.{inl, inr, ◌≡◌, ◌≢◌, ◌+◌, eqb, ◌∷◌, ◌++◌, ◌∙◌, ◌↔◌, ◌<◌, map}
+use Rattle.textwrap_base.proofs.Common.{cases_Bool, flat_map, All-weaker, append-nil, append_assoc}
+use Rattle.textwrap_base.proofs.Common.{ℕ, [], sym, All, ◌≤◌}
+use Rattle.textwrap_base.proofs.Common.{Bool, cond, List, take, refl, ap, true, subst, rules, false}
+use Rattle.textwrap_base.proofs.Common.{length, arith, Contains, zero-add, lt-ltb, All-nil, IsUtf8}
+use Rattle.textwrap_base.proofs.Common.{add-zero, encode_utf8_all, encodes-append, flat_map-append}
+use Rattle.textwrap_base.proofs.Common.{length-append, length-encode, IsCharBoundary, encodes-chars}
+use Rattle.textwrap_words.proofs.Common.{ends_from, VisibleEnd, units_text, characters, cuts_among}
+use Rattle.textwrap_words.proofs.Common.{escape_len, shows, units_past, is_cut_after, parts_between}
+use Rattle.textwrap_words.proofs.Common.{next_of, taken_in, TextUnit, Sequence, shown_len, stripped}
+use Rattle.textwrap_words.proofs.Common.{Visible, units, WordText, word_of, cuts_at, AreCuts}
 use lib.Utf8.{encode}
 use Rattle.textwrap_words.specs.declared.escapes.State.{State}
 use Rattle.textwrap_words.specs.declared.escapes.State.TheVariants.{Text, Escape, Control, Command}
@@ -174,8 +172,7 @@ among-above : (offsets : List ℕ) (total : ℕ) (us : List TextUnit) (at shown 
     → All (λ cut. at < cut) (cuts_among offsets total (ends_from at shown us))
 among-above offsets total [] at shown = All-nil (λ cut. at < cut)
 among-above offsets total (Sequence cs ∷ us) at shown =
-    let next = at + length (encode_utf8_all cs) in
-    grind (arith, All-weaker, among-above offsets total us next shown)
+    grind (arith, All-weaker, among-above offsets total us (at + length (encode_utf8_all cs)) shown)
 among-above offsets total (Visible c ∷ us) at shown =
     let len = length (encode c) in
     grind (arith, length-encode, among-above offsets total us (at + len) (shown + len))
@@ -192,8 +189,7 @@ among-rising offsets total (Visible c ∷ us) at shown =
 pub cut-found : (offsets line : List ℕ) (cut : ℕ) → Contains (cuts_at offsets line) cut
     → IsCutAt offsets line cut
 cut-found offsets line cut h =
-    let total = length (stripped line) in
-    let f = contains-found offsets total (units (chars line)) 0 0 cut h in
+    let f = contains-found offsets (length (stripped line)) (units (chars line)) 0 0 cut h in
     grind (arith, any-contains)
 
 cut-contained : (offsets line : List ℕ) (cut : ℕ) → IsCutAt offsets line cut

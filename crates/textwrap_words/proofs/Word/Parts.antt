@@ -1,14 +1,13 @@
 -- The parts of a text between cuts, and between places that a test tells.
-use Rattle.textwrap_base.proofs.Common.{inl, inr, ◌≡◌, ℕ, suc, ◌<◌, ◌≤◌, List, [], ◌∷◌, ◌++◌, All}
-use Rattle.textwrap_base.proofs.Common.{map, length, get_or, drop, sym, ap, ◌∙◌, arith, append-nil}
-use Rattle.textwrap_base.proofs.Common.{◌==◌, slice_range, IsNonDecreasing, IsUtf8, IsCharBoundary}
-use Rattle.textwrap_base.proofs.Common.{cases_Bool, nil_from_length, drop_split, All-nil, All-cons}
-use Rattle.textwrap_base.proofs.Common.{All-head, All-tail, IsUtf8-drop, IsUtf8-between}
-use Rattle.textwrap_base.proofs.Common.{IsCharBoundary-start, ◌≢◌, true, take, refl, subst, None}
-use Rattle.textwrap_base.proofs.Common.{Ok, zero, ◌+◌, Bool, false, cond, ◌||◌, onto_first}
-use Rattle.textwrap_base.proofs.Common.{take_all, drop_all, append_assoc, length_push, ◌-◌}
-use Rattle.textwrap_base.proofs.Common.{if◌then◌else◌, All-weaker, add-zero, drop-drop, get_or-drop}
-use Rattle.textwrap_base.proofs.Common.{length-drop, nat_tests, cases_lt}
+use Rattle.textwrap_base.proofs.Common.{inl, IsNonDecreasing, nil_from_length, IsCharBoundary-start}
+use Rattle.textwrap_base.proofs.Common.{inr, ◌≡◌, suc, [], take, refl, None, zero, Bool, cond, ◌||◌}
+use Rattle.textwrap_base.proofs.Common.{ℕ, length, All-tail, take_all, drop_all, add-zero, cases_lt}
+use Rattle.textwrap_base.proofs.Common.{◌<◌, ◌≤◌, ◌∷◌, All, map, sym, ap, ◌∙◌, ◌≢◌, Ok, ◌+◌, ◌-◌}
+use Rattle.textwrap_base.proofs.Common.{List, ◌++◌, get_or, drop, ◌==◌, IsUtf8, true, subst, false}
+use Rattle.textwrap_base.proofs.Common.{arith, All-cons, All-head, All-weaker, drop-drop, nat_tests}
+use Rattle.textwrap_base.proofs.Common.{append-nil, cases_Bool, drop_split, onto_first, length-drop}
+use Rattle.textwrap_base.proofs.Common.{slice_range, All-nil, IsUtf8-drop, length_push, get_or-drop}
+use Rattle.textwrap_base.proofs.Common.{IsCharBoundary, IsUtf8-between, append_assoc, if◌then◌else◌}
 use Rattle.textwrap_words.proofs.Common.{tiled, word_of, AreCuts, AreInnerCuts, parts_between}
 use Rattle.textwrap_words.proofs.Common.{WordText, MaySeparate, MaySplit, ends_in_hyphen}
 use Rattle.textwrap_words.proofs.Common.{splitter_view, Whole, AtHyphens, chunks, is_cut, words_of}

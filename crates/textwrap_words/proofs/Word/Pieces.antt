@@ -1,12 +1,11 @@
 -- The pieces of split words: they tile their words, are texts, and stand one after another.
-use Rattle.textwrap_base.proofs.Common.{◌≡◌, ℕ, suc, ◌<◌, ◌≤◌, List, [], ◌∷◌, ◌++◌, refl, sym, ap}
-use Rattle.textwrap_base.proofs.Common.{◌∙◌, arith, length, drop, get_or, slice_range, All, IsUtf8}
-use Rattle.textwrap_base.proofs.Common.{IsNonDecreasing, append-nil, append_assoc, flat_map-append}
-use Rattle.textwrap_base.proofs.Common.{All-head, All-tail, drop_split, map, subst, true, cond}
-use Rattle.textwrap_base.proofs.Common.{take, IsCharBoundary, and_parts, All-nil, All-cons, All-map}
-use Rattle.textwrap_base.proofs.Common.{IsUtf8-drop, IsUtf8-between, rules, All-append}
-use Rattle.textwrap_base.proofs.Common.{IsCharBoundary-start, inl, inr, ◌+◌, false, cases_lt}
-use Rattle.textwrap_base.proofs.Common.{eqb-true}
+use Rattle.textwrap_base.proofs.Common.{◌≡◌, IsNonDecreasing, flat_map-append, IsCharBoundary-start}
+use Rattle.textwrap_base.proofs.Common.{ℕ, ◌∷◌, sym, ap, ◌∙◌, All, map, inl, inr, ◌+◌}
+use Rattle.textwrap_base.proofs.Common.{suc, ◌<◌, ◌≤◌, List, [], ◌++◌, refl, drop, true, cond, take}
+use Rattle.textwrap_base.proofs.Common.{arith, length, get_or, IsUtf8, subst, All-map, rules, false}
+use Rattle.textwrap_base.proofs.Common.{slice_range, append_assoc, IsCharBoundary, IsUtf8-between}
+use Rattle.textwrap_base.proofs.Common.{append-nil, drop_split, and_parts, IsUtf8-drop, All-append}
+use Rattle.textwrap_base.proofs.Common.{All-head, All-tail, All-nil, All-cons, cases_lt, eqb-true}
 use Rattle.textwrap_words.proofs.Common.{points_of, split_from, split_pieces, split_word}
 use Rattle.textwrap_words.proofs.Common.{split_words, AreSplit, Splitter, AreCuts, WordText}
 use Rattle.textwrap_words.proofs.Common.{tile_of, tiled, Whole, AtHyphens, hyphen, ends_in_hyphen}
@@ -210,10 +209,9 @@ module _ (splitter : Splitter) (limit : ℕ) (text : List ℕ) (at word_end widt
       ∷ stand_from end (pieces_at splitter limit text end)
   word-stands stops =
       let n = length (slice_range text at word_end) in
-      let m = length (slice_range text word_end end) in
       let one : at + n ≡ word_end =
       omega (arith, length-slice text at word_end word.boundary.0, word.from) in
-      let both : at + n + m ≡ end =
+      let both : at + n + (length (slice_range text word_end end)) ≡ end =
       omega (arith, one, length-slice text word_end end within, from) in
       grind arith
 

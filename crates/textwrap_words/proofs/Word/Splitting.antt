@@ -1,16 +1,15 @@
 -- The points at which words are split: characters end there, and those of a word are those of the
 -- text that it stands in.
-use Rattle.textwrap_base.proofs.Common.{◌≡◌, ℕ, ◌+◌, ◌-◌, ◌<◌, ◌≤◌, true, false, List, [], ◌∷◌}
-use Rattle.textwrap_base.proofs.Common.{◌++◌, refl, sym, ap, ◌∙◌, subst, arith, length, take, drop}
-use Rattle.textwrap_base.proofs.Common.{get_or, ◌==◌, ◌||◌, reverse, filter, All, IsUtf8}
-use Rattle.textwrap_base.proofs.Common.{IsCharBoundary, list_any, and_parts, false≢true}
-use Rattle.textwrap_base.proofs.Common.{reverse-append, append-nil, take-append-drop, length-take}
-use Rattle.textwrap_base.proofs.Common.{take_at, drop_at, get_or-take, nil_from_length, All-head}
-use Rattle.textwrap_base.proofs.Common.{IsUtf8-take, IsUtf8-drop, IsCharBoundary-after_ascii}
-use Rattle.textwrap_base.proofs.Common.{chars-append, chars-nil, chars_past_char, inl, inr, Bool}
-use Rattle.textwrap_base.proofs.Common.{cases_Bool, ◌&&◌, append_assoc, length-append}
-use Rattle.textwrap_base.proofs.Common.{take-append-add, and_right, eqb-true, drop_more}
-use Rattle.textwrap_base.proofs.Common.{length-take-le, length_push, encodes-chars, encode_utf8_all}
+use Rattle.textwrap_base.proofs.Common.{◌≡◌, List, ◌++◌, refl, take, drop, ◌==◌, ◌||◌, Bool, ◌&&◌}
+use Rattle.textwrap_base.proofs.Common.{ℕ, ◌+◌, ◌-◌, ◌<◌, ◌≤◌, [], ◌∷◌, sym, ap, ◌∙◌, All, inl, inr}
+use Rattle.textwrap_base.proofs.Common.{true, false, subst, arith, length, get_or, filter, IsUtf8}
+use Rattle.textwrap_base.proofs.Common.{reverse, length-take, get_or-take, IsUtf8-take, IsUtf8-drop}
+use Rattle.textwrap_base.proofs.Common.{IsCharBoundary, false≢true, reverse-append, encode_utf8_all}
+use Rattle.textwrap_base.proofs.Common.{list_any, nil_from_length, chars_past_char, take-append-add}
+use Rattle.textwrap_base.proofs.Common.{and_parts, append-nil, chars-nil, cases_Bool, length_push}
+use Rattle.textwrap_base.proofs.Common.{take-append-drop, IsCharBoundary-after_ascii, length-append}
+use Rattle.textwrap_base.proofs.Common.{take_at, drop_at, All-head, and_right, eqb-true, drop_more}
+use Rattle.textwrap_base.proofs.Common.{chars-append, append_assoc, length-take-le, encodes-chars}
 use Rattle.textwrap_words.proofs.Common.{is_hyphen_point, hyphen, ends_in_hyphen, hyphen_points}
 use Rattle.textwrap_words.proofs.Common.{points_of, Splitter, Whole, AtHyphens, AreCuts, is_blank}
 use Rattle.std.specs.Str.{chars}
@@ -47,8 +46,7 @@ ends-some text rest c utf8 e =
     (IsUtf8-drop text (length rest) utf8 cut) in
     let first = chars_past_char (encode c) [] c back (sym (append-nil (encode c))) in
     let second = chars-append rest (encode c) front in
-    let third = reverse-append (chars rest) (c ∷ []) in
-    cc chars-nil
+    let third = reverse-append (chars rest) (c ∷ []) in cc chars-nil
 
 -- ---- the points
 
@@ -172,8 +170,7 @@ point-is front rest b p len =
     let second = last-push front b in
     let third = take_at front (b ∷ rest) (p - 1) (omega (arith, len)) in
     let fourth = append_assoc front (b ∷ []) rest in
-    let fifth = drop_at (front ++ b ∷ []) rest p (length_push front b ∙ len) in
-    cc
+    let fifth = drop_at (front ++ b ∷ []) rest p (length_push front b ∙ len) in cc
 
 begins-before : (front back : List ℕ) → begins_alphanumeric back ≡ false
     → begins_alphanumeric (front ++ back) ≡ begins_alphanumeric front
@@ -221,9 +218,8 @@ module _ (before tail : List ℕ) (utf8 : IsUtf8 before) (plain : EndsPlain befo
   points-apart w p word_utf8 some inside =
       let m = p - 1 in
       let front = take m w in
-      let b = get_or w m 0 in
       let rest = drop (m + 1) w in
-      let shape : w ≡ front ++ b ∷ rest = sym (take-append-drop m w)
+      let shape : w ≡ front ++ get_or w m 0 ∷ rest = sym (take-append-drop m w)
       ∙ ap (λ l. front ++ l) (drop_more w m 0 (omega (arith, some, inside))) in
       grind (arith, length-take-le, length-append, point-same)
 

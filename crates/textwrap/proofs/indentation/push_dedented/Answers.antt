@@ -32,7 +32,6 @@ without_margin-requires g c =
 pub loop-i-preserved : goal.loop-i-preserved
 loop-i-preserved g c =
     let here = turn g (goal.at.loop-i-preserved g c).In-Some in
-    let line = c.in-Some.line.now in
     let f = without_margin (chars c.margin_of-margin.result.now) in
     let ls = lines c.args.s.now in
     let n = length c.loop-i.yielded in
@@ -45,12 +44,12 @@ loop-i-preserved g c =
       text = rw length_push (elim c.if-i-gt0.branch [
         | goal.then-i-gt0+in_ok-push_part w ↦
             subst (Holds c.push_part-in-loop-i.new.self)
-            (joined-more f ls n c.in-Some.i line before here w.if-i-gt0.true refl)
+            (joined-more f ls n c.in-Some.i c.in-Some.line.now before here w.if-i-gt0.true refl)
             (pushed (before ++ 10 ∷ []) (rw w.text-is
             (w.in_ok-push_part.ensures.took c.args.text.now before c.loop-i.invariant.text)))
         | goal.else-i-gt0 w ↦
             subst (Holds c.push_part-in-loop-i.new.self)
-            (joined-first f ls n c.in-Some.i line before here (omega arith) refl)
+            (joined-first f ls n c.in-Some.i c.in-Some.line.now before here (omega arith) refl)
             (pushed before (rw w.text-is c.loop-i.invariant.text))
       ]);
       name = c.push_part-in-loop-i.ensures.name ∙ elim c.if-i-gt0.branch [

@@ -44,11 +44,10 @@ loop-line-preserved g c =
     let left = c.next-in-loop-line.new.self in
     let steps = c.in-Some-2.ensures.steps in
     let (before, held, joined) = c.loop-line.invariant.joined in
-    let piece = c.without_indent.result.now in
     let blank_pushed = c.in_ok-push_part-2.ensures.took c.args.joined.now before held in
     record {
       joined = (
-        (before ++ blank ∷ []) ++ piece,
+        (before ++ blank ∷ []) ++ c.without_indent.result.now,
         c.in_ok-push_part-3.ensures.took c.args.joined.now (before ++ blank ∷ []) blank_pushed,
         rw (c.without_indent.ensures, append_assoc, append_assoc) (rw steps at joined),
       );

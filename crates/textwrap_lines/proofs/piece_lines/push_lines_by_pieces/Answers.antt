@@ -94,8 +94,7 @@ returns-clause-took g c =
     let pieces = pieces_cut settings cuts paragraph in
     let texts = words_cut-texts (places_of cuts) paragraph c.utf8.paragraph c.requires in
     let left = left_standing c.into_iter-piece-iterator.result in
-    let first = c.at-line.result in
-    let all = lines_from settings (line_so_far first) left in
+    let all = lines_from settings (line_so_far c.at-line.result) left in
     let now = c.loop-piece.lines in
     let last = line_of settings.preserve_trailing_space (line_so_far c.loop-piece.line) in
     let (division, greedy, found) = lines-greedy settings paragraph is_later pieces
@@ -106,7 +105,7 @@ returns-clause-took g c =
     let left_is : left ≡ stand_from 0 pieces =
     ap left_standing c.into_iter-piece-iterator.ensures.into_iter_gives
     ∙ c.cut_paragraph-piece-items.ensures in
-    let first_is : line_so_far first
+    let first_is : line_so_far c.at-line.result
     ≡ no_pieces paragraph 0 (first_width settings is_later) (indent_of settings is_later) =
     c.at-line.ensures ∙ ap (λ n. no_pieces paragraph 0 n c.next_indent.result.now)
     c.line_widths-first_width.ensures.first

@@ -18,11 +18,10 @@ returns-then-text-at-clause-line g c =
     let text = c.args.text.now in
     let splitter = as_splitter c.args.splitter in
     let cuts = g.C.PrintableCuts.cuts c.args.cuts.now text in
-    let test = is_cut_by cuts splitter text in
     let before = cut_by-others cuts splitter text
     (g.met.C.PrintableCuts.before_others c.args.cuts.now text c.requires.printable) in
     let len = length-slice text c.args.at (length text) (omega arith) in
-    line-all test (limit_at c.args.breaks c.args.width) c.args.width text
+    line-all (is_cut_by cuts splitter text) (limit_at c.args.breaks c.args.width) c.args.width text
     c.requires.printable before c.args.at c.requires.inside (omega (arith, len, c.if-text-at.true))
 
 pub returns-then-past-text-clause-line : goal.returns-then-past-text-clause-line

@@ -9,17 +9,15 @@ use Rattle.textwrap_base.proofs.Search.{stretch_at-left, begins_after}
 pub loop-stretches-init : goal.loop-stretches-init
 loop-stretches-init g c =
     let n = vec_len c.args.stretches.now in
-    let stretches = c.args.stretches.now.items in
     let held = c.requires.current.within in
-    let last = c.requires.stretches.priced (n - 1) (omega arith) in
     record {
       same = search rules;
-      left = sym (take_all n stretches (omega arith));
+      left = sym (take_all n c.args.stretches.now.items (omega arith));
       current = omega arith;
       fewer = omega arith;
       start = search rules;
       after = omega arith;
-      later = omega (arith, last.before_last);
+      later = omega (arith, (c.requires.stretches.priced (n - 1) (omega arith)).before_last);
       before = omega arith;
       priced = λ l. absurd (omega arith);
       best = rw c.ends.ensures c.requires.stretches.best;
@@ -74,7 +72,6 @@ loop-stretches-preserved g c =
     let read = stretch_at-read c.loop-stretches.stretches.items
     (c.len-in-loop-stretches.result - 1) (n - 1) c.index-last.result.now c.index-last.ensures
     (omega arith) (omega arith) in
-    let from = ap (λ (s : Stretch). s.from) read in
     let last = stretch_at-left q old n (n - 1) i.left (omega arith) in
     let priced : IsPriced costs m c.index-last.result.now =
     rw (read, last) (c.requires.stretches.priced (n - 1) (omega arith)) in
@@ -107,7 +104,7 @@ loop-stretches-preserved g c =
       before = omega (arith, priced.before_last);
       priced = λ l. asked;
       best = HaveBest-take costs m c.loop-stretches.won.from (n - 1) c.index-last.result.now.from q
-          less i.best (omega arith) left from (omega arith);
+          less i.best (omega arith) left (ap (λ (s : Stretch). s.from) read) (omega arith);
       wins = IsBestFrom-beaten costs c.requires.suits m start (omega arith) q (n - 1)
           c.loop-stretches.won.from (omega arith) i.best c.index-last.result.now.from i.wins
           begins (omega arith) (λ _. cheaper);

@@ -107,10 +107,6 @@ module _ (costs : Costs) (suits : SuitQueue costs) where
         suits.small 0 (suc end) 0 (omega arith) l,
       )
 
-  pub cost_from-fits : (start end : ℕ) → start < end → end ≤ costs.ends
-      → cost_from costs start end < 2 ^ 128
-  cost_from-fits start end ordered l = grind (arith, small_entry)
-
   -- what the code asks for: the number 0 at start 0, and else 1
   pub cost_from-asked : (minima : List Minimum) (start end : ℕ) (d : Minimum)
       → AreMinima costs minima → start < length minima → start < end → end ≤ costs.ends
@@ -156,10 +152,6 @@ AreMinima-all costs minima are len =
 -- ---- the best start of an end from 1 on, as one more start comes into question
 
 module _ (costs : Costs) (m start : ℕ) (next : start ≡ m + 1) where
-  best_kept : (end s : ℕ) → IsBestStart costs m end s
-      → cost_from costs s end ≤ cost_from costs start end → IsBestStart costs start end s
-  best_kept end s best dearer = grind arith
-
   best_new : (end s : ℕ) → IsBestStart costs m end s
       → cost_from costs start end < cost_from costs s end → IsBestStart costs start end start
   best_new end s best cheaper = grind arith
@@ -180,7 +172,7 @@ module _ (costs : Costs) (m start : ℕ) (next : start ≡ m + 1) where
         elim (cases_lt (cost_from costs start end) (cost_from costs s end)) [
           | inl cheap ↦ absurd
               (grind (arith, cheaper_later costs suits a start end c, best.least a some within))
-          | inr dear ↦ best_kept end s best dear
+          | inr dear ↦ grind arith
         ]
 
 -- ---- the best start from 1 on, and start 0

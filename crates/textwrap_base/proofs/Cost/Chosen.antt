@@ -16,7 +16,7 @@ use Rattle.textwrap_base.proofs.Lists.Parts.{length-slice, some_from_nonempty, t
 use Rattle.textwrap_base.proofs.Cost.Table.{AreStarts, starts_cost, FollowBack, IsSteady}
 use Rattle.textwrap_base.proofs.Cost.Table.{table_starts, table_least, table_followed}
 use Rattle.textwrap_base.proofs.Cost.Table.{table_earliest, table-is_table, start-at}
-use Rattle.textwrap_base.proofs.Division.Greedy.{division_one, greedy_one}
+use Rattle.textwrap_base.proofs.Division.Greedy.{division_one, closed-take}
 use Rattle.textwrap_base.specs.Algorithms.{Algorithm, Greedy, LeastCost, IsDividedBy}
 use Rattle.std.proofs.lemmas.Simd.{map-map}
 use Rattle.textwrap_base.specs.Table.{table}
@@ -101,16 +101,12 @@ lines_more fragments starts lines start end below within at tiles some follow =
 
 -- ---- divisions of a prefix, where all lines but the first have one width
 
-same_width : (widths : List ℕ) → AreEqualFromSecond widths → (l m : ℕ) → 1 ≤ l → 1 ≤ m
-    → line_width widths l ≡ line_width widths m
-same_width widths h l m p q = grind (arith, cases_lt)
-
 pub line_costs-steady : {X : Type 0} (priced : X → PricedSizes) (penalties : Penalties)
     (widths : List ℕ) (xs : List X) → AreEqualFromSecond widths
     → IsSteady (line_costs priced penalties widths xs)
 line_costs-steady priced penalties widths xs h i j l m p q =
     ap (λ w. line_cost priced penalties w (eqb j (length xs)) (slice_range xs i j))
-    (same_width widths h l m p q)
+    (grind (arith, cases_lt))
 
 module _ {X : Type 0} (xs : List X) (lines : List (List X)) (j : ℕ) (l : j ≤ length xs)
     (e : joined lines ≡ take j xs) where
@@ -172,10 +168,6 @@ cost_after_starts priced penalties widths (i ∷ rest) xs j after l (h, hs) =
 
 -- ---- the chosen division
 
-chosen-empty : {X : Type 0} (priced : X → PricedSizes) (penalties : Penalties) (widths : List ℕ)
-    (lines : List (List X)) → lines ≡ [] ∷ [] → IsChosen priced penalties widths [] lines
-chosen-empty {X = X} priced penalties widths lines e = grind arith
-
 -- a division of all fragments, as one of the prefix of all
 pub whole : {X : Type 0} (xs : List X) (lines : List (List X)) → 0 < length xs → IsDivision xs lines
     → (joined lines ≡ take (length xs) xs) × All (λ line. line ≢ []) lines
@@ -234,8 +226,7 @@ module _ {X : Type 0} (priced : X → PricedSizes) (penalties : Penalties) (widt
 pub by_table-chosen : {X : Type 0} (priced : X → PricedSizes) (penalties : Penalties)
     (widths : List ℕ) (xs : List X) (lines : List (List X)) → AreEqualFromSecond widths
     → IsByTable priced penalties widths xs lines → IsChosen priced penalties widths xs lines
-by_table-chosen priced penalties widths [] lines equal h =
-    chosen-empty priced penalties widths lines h.division
+by_table-chosen priced penalties widths [] lines equal h = grind arith
 by_table-chosen priced penalties widths (x ∷ xs) lines equal h =
     let p : 0 < length (x ∷ xs) = omega arith in
     let cost = by_table-cost priced penalties widths (x ∷ xs) lines p equal h in
@@ -271,9 +262,6 @@ module _ {X : Type 0} (priced : X → PricedSizes) (penalties : Penalties) (widt
   abbrev costs : ℕ → ℕ → ℕ → ℕ
   costs = line_costs priced penalties widths xs
 
-  cost_from_start : 1 < length xs → costs 0 (length xs) 0 ≡ penalties.nline_penalty
-  cost_from_start two = grind (arith, eq-eqb, take_all, line_cost-one)
-
   cost_from : (i number : ℕ) → i < length xs → penalties.nline_penalty ≤ costs i (length xs) number
   cost_from i number within = grind (arith, line_cost-some, length-take-le, length-drop)
 
@@ -282,7 +270,7 @@ module _ {X : Type 0} (priced : X → PricedSizes) (penalties : Penalties) (widt
   last_start =
       let entries = fragments_table priced penalties widths xs in
       let table = table-is_table costs (length xs) in
-      grind (arith, start-at, cost_from_start, cost_from)
+      grind (arith, start-at, eq-eqb, take_all, line_cost-one, cost_from)
 
   by_table_one : IsByTable priced penalties widths xs (xs ∷ [])
   by_table_one = search (division_one, zero-add, last_start)
@@ -299,7 +287,7 @@ last-none penalties sizes (x ∷ y ∷ xs) none =
 pub IsDividedBy-one_line : {X : Type 0} (algorithm : Algorithm) (sizes : X → Sizes)
     (widths : List ℕ) (xs : List X) → All (λ x. (sizes x).penalty ≡ 0) xs
     → closed_width sizes xs ≤ line_width widths 0 → IsDividedBy algorithm sizes widths xs (xs ∷ [])
-IsDividedBy-one_line Greedy sizes widths xs none room = greedy_one sizes widths xs none room
+IsDividedBy-one_line Greedy sizes widths xs none room = grind (arith, division_one, closed-take)
 IsDividedBy-one_line {X = X} (LeastCost penalties) sizes widths xs none room =
     search (by_table_one, last-none, by_table-chosen)
 

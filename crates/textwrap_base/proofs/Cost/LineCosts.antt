@@ -4,7 +4,7 @@ use Rattle.textwrap_base.proofs.Common.{◌∙◌, add-zero, arith, cases_lt, na
 use Rattle.textwrap_base.proofs.Common.{Bool, eqb, List, [], ◌∷◌, ◌++◌, length, get_or, take}
 use Rattle.textwrap_base.proofs.Common.{slice_range, max, sym, ap, Sizes, closed_width, open_width}
 use Rattle.textwrap_base.proofs.Common.{PricedSizes, last_break_penalty, line_cost, map, length-map}
-use Rattle.textwrap_base.proofs.Common.{sum_by-cons, total_width, line_costs, All, subst}
+use Rattle.textwrap_base.proofs.Common.{sum_by-cons, total_width, line_costs, All, subst, take-map}
 use Rattle.textwrap_base.proofs.Common.{get_or-map, All-head, All-tail, All-map, measured}
 use Rattle.textwrap_base.proofs.Common.{AreAtMost, rules, line_width, NeverFalls, fragment_costs}
 use Rattle.std.proofs.Common.{ltb}
@@ -13,12 +13,12 @@ use Rattle.textwrap_base.proofs.Division.Greedy.{open_width-append, closed_width
 use Rattle.textwrap_base.proofs.Division.Greedy.{closed_width-map}
 use Rattle.textwrap_base.proofs.Lists.Parts.{take_slice, slice_push, length-slice}
 use mathlib.Core.Path.{fun_ext}
-use Rattle.textwrap_base.proofs.Lists.Elements.{slice-map}
 use Rattle.std.proofs.lemmas.List.Sums.{sum_by-take-le}
 use Rattle.std.proofs.Math.Nat.{mul-le-mul}
 use Rattle.textwrap_base.specs.declared.minima.line_costs.Measure.{Measure}
 use Rattle.textwrap_base.proofs.Numbers.{if_le}
 use Rattle.textwrap_base.specs.Queue.{AreConvex}
+use Rattle.std.proofs.lemmas.List.{drop-map}
 
 -- ---- what it costs to miss the target
 
@@ -138,7 +138,7 @@ pub line_costs-at : {X : Type 0} (priced : X → PricedSizes) (penalties : Penal
     (widths : List ℕ) (xs : List X) (i j number : ℕ)
     → line_costs (λ (s : PricedSizes). s) penalties widths (map priced xs) i j number
     ≡ line_costs priced penalties widths xs i j number
-line_costs-at priced penalties widths xs i j number = search (length-map, slice-map, line_cost-map)
+line_costs-at priced penalties widths xs i j number = search (length-map, drop-map, take-map, line_cost-map)
 
 -- the costs of the priced sizes are those of the fragments
 pub line_costs-map : {X : Type 0} (priced : X → PricedSizes) (penalties : Penalties)

@@ -113,8 +113,9 @@ module _ {X : Type 0} (priced : X → PricedSizes) (penalties : Penalties) (widt
       × (cost_of priced penalties widths xs lines ≡ cost_at priced penalties widths xs j)
   entry-reached zero l equal = ([] ∷ [], refl, sym first-costs_nothing)
   entry-reached (suc j) l equal =
+      let steady = line_costs-steady priced penalties widths xs equal in
       let (starts, h, f) = starts_to (line_costs priced penalties widths xs) (length xs)
-      line_costs-steady priced penalties widths xs equal (suc j) l in
+      steady (suc j) l in
       let tiles = joined_after starts xs (suc j) [] l h ∙ append-nil (take (suc j) xs) in
       let some = some_after starts xs (suc j) [] l h (All-nil (λ (line : List X). line ≢ [])) in
       let cost = cost_after_starts priced penalties widths starts xs (suc j) [] l h in

@@ -1,8 +1,8 @@
 -- The entries of the table, which are the least ones, where it overflows, and the starts of lines
 -- that it gives.
 use Rattle.textwrap_base.proofs.Common.{◌≡◌, ◌<◌, ℕ, ◌+◌, ◌≤◌, suc, ◌^◌, refl, ◌∙◌, ◌∷◌, ◌++◌, take}
-use Rattle.textwrap_base.proofs.Common.{arith, true, false, List, Some, None, Result, Sizes, subst}
-use Rattle.textwrap_base.proofs.Common.{counted, if◌then◌else◌, get_or_append_left, fragments_table}
+use Rattle.textwrap_base.proofs.Common.{arith, List, Some, None, Result, Sizes, subst}
+use Rattle.textwrap_base.proofs.Common.{counted, get_or_append_left, fragments_table}
 use Rattle.textwrap_base.proofs.Common.{table_steps, length, length_push, get_or_push, IsLeastBelow}
 use Rattle.textwrap_base.proofs.Common.{zero, cases_eq, IsErrAnd, AreAtMost, length-map, minimum_of}
 use Rattle.textwrap_base.proofs.Common.{Option, SomeIff, lt-ltb, le-ltb, add-one, get_or, All-take}
@@ -10,7 +10,6 @@ use Rattle.textwrap_base.proofs.Common.{first_entry, entry_from, entry_at, Price
 use Rattle.textwrap_base.proofs.Common.{[], inl, inr, ap, ◌-◌, eqb, min, All, Ok, Err, map, sym, ⊤}
 use Rattle.textwrap_base.proofs.Common.{line_width, Overflowed, line_costs, get_or-map, AreNoLater}
 use Rattle.std.proofs.Math.Nat.{mul-le-mul}
-use Rattle.std.proofs.Common.{ltb}
 use Rattle.textwrap_base.specs.Table.{cheaper, cheaper_of, cheapest, table, IsBestBelow, IsTable}
 use Rattle.textwrap_base.specs.declared.minima.table.Entry.{Entry}
 use Rattle.textwrap_base.proofs.Numbers.{past_from_not}
@@ -69,24 +68,7 @@ entry-table_first cost (suc n) = entry-table_more cost n 0 (omega arith) ∙ ent
 
 -- ---- one start more
 
-cheaper_fits : (e c : Entry) → e.cost < 2 ^ 128 → c.cost < 2 ^ 128 → (cheaper e c).cost < 2 ^ 128
-cheaper_fits e c h k = elim (ltb c.cost e.cost) as (λ b. (if b then c else e).cost < 2 ^ 128)
-    [ true ↦ k | false ↦ h ]
-
 module _ (cost : ℕ → ℕ → ℕ → ℕ) (entries : List Entry) (end : ℕ) where
-  -- the new start is the cheapest where all before it are dearer
-  pub least_new : (m : ℕ) → ((i : ℕ) → i < m
-      → (entry_from cost m (entry_at entries m) end).cost <
-      (entry_from cost i (entry_at entries i) end).cost)
-      → IsLeastBelow cost entries end (m + 1) (entry_from cost m (entry_at entries m) end)
-  least_new m dearer = grind arith
-
-  -- the old one stays where the new start is no cheaper
-  pub least_old : (m : ℕ) (e : Entry) → IsLeastBelow cost entries end m e
-      → e.cost ≤ (entry_from cost m (entry_at entries m) end).cost
-      → IsLeastBelow cost entries end (m + 1) e
-  least_old m e h dearer = grind arith
-
   pub least_cheaper : (m : ℕ) (e : Entry) → IsLeastBelow cost entries end m e
       → IsLeastBelow cost entries end (m + 1)
       (cheaper e (entry_from cost m (entry_at entries m) end))
@@ -98,12 +80,9 @@ module _ (cost : ℕ → ℕ → ℕ → ℕ) (entries : List Entry) (end : ℕ)
       (entry_from cost m (entry_at entries m) end)
       → IsBestBelow cost entries end (m + 1) (cheaper_of best other)
   best_more m None None h misses = λ i l. let past = past_from_not _ misses in grind (arith, h i)
-  best_more m None (Some c) h (fits, is) =
-      rw is (least_new m (λ i l. let k = h i l in omega (arith, fits)), fits)
-  best_more m (Some e) None (h, fits) misses =
-      (least_old m e h (let k = past_from_not _ misses in omega (arith, fits)), fits)
-  best_more m (Some e) (Some c) (h, fits) (fits_new, is) =
-      grind (arith, least_cheaper, cheaper_fits)
+  best_more m None (Some c) h (fits, is) = rw is (grind arith, fits)
+  best_more m (Some e) None (h, fits) misses = (grind arith, fits)
+  best_more m (Some e) (Some c) (h, fits) (fits_new, is) = grind (arith, least_cheaper)
 
 -- ---- each entry of the table is the least
 
@@ -144,7 +123,8 @@ number-table_upto : (bound : ℕ) (cost : ℕ → ℕ → ℕ → ℕ) (n j : �
 number-table_upto bound cost n zero b l = rw (entry-table_first cost n) (omega arith)
 number-table_upto zero cost n (suc j) b l = absurd (omega arith)
 number-table_upto (suc bound) cost n (suc j) b l =
-    let e = ap (λ (x : Entry). x.line_number) (table-least cost n j l).from_start in
+    let h = table-least cost n j l in
+    let e = ap (λ (x : Entry). x.line_number) h.from_start in
     let k = number-table_upto bound cost j (entry_at (table cost n) (suc j)).start (omega arith)
     (omega arith) in omega arith
 
@@ -311,10 +291,12 @@ module _ (cost : ℕ → ℕ → ℕ → ℕ) (n : ℕ) (steady : IsSteady cost)
   starts_upto bound zero b l = ([], refl, tt)
   starts_upto zero (suc j) b l = absurd (omega arith)
   starts_upto (suc bound) (suc j) b l =
+      let later = is.later (suc j) (omega arith) l in
+      let below = later.below in
       let (rest, h, f) = starts_upto bound (entry_at entries (suc j)).start (omega arith)
       (omega arith) in (
         (entry_at entries (suc j)).start ∷ rest,
-        ((is.later (suc j) (omega arith) l).below, h),
+        (below, h),
         (start-at cost n (suc j) l, f),
       )
 

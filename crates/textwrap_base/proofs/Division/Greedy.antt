@@ -8,7 +8,7 @@ use Rattle.textwrap_base.proofs.Common.{◌++◌, take, refl, arith, Sizes, zero
 use Rattle.textwrap_base.proofs.Common.{length, get_or, AllFit, AllFull, All-nil, cases_lt, drop_at}
 use Rattle.textwrap_base.proofs.Common.{ap, All, ◌≢◌, inl, inr}
 use Rattle.textwrap_base.proofs.Common.{sum_by-cons, add-one, length-drop, length_push, get_or-drop}
-use Rattle.textwrap_base.proofs.Common.{open_width, take-append-le, length-take-le, nil_from_length}
+use Rattle.textwrap_base.proofs.Common.{open_width, take-append-le, length-take-le}
 use Rattle.textwrap_base.proofs.Common.{All-cons, All-head, All-tail, add-zero, flat_map, take_all}
 use Rattle.textwrap_base.proofs.Lists.Parts.{some_from_nonempty, flat, same_parts}
 use Rattle.std.proofs.lemmas.List.{drop-append-le}
@@ -127,10 +127,6 @@ module _ {X : Type 0} (sizes : X → Sizes) where
   closed-take (x ∷ y ∷ xs) (suc (suc k)) none = let rest =
       closed-take (y ∷ xs) (suc k) (All-tail HasNone x (y ∷ xs) none) in omega (arith, rest)
 
-  pub greedy_one : (widths : List ℕ) (xs : List X) → All HasNone xs
-      → closed_width sizes xs ≤ line_width widths 0 → IsGreedy sizes widths xs (xs ∷ [])
-  greedy_one widths xs none room = grind (arith, division_one, closed-take)
-
 -- ---- lemmas on lines that fit, and on greedy divisions
 
 module _ {X : Type 0} (sizes : X → Sizes) where
@@ -189,10 +185,6 @@ pub record IsGreedyFrom {X : Type 0} (sizes : X → Sizes) (widths : List ℕ) (
   pub full : AllFull sizes widths number lines
 
 module _ {X : Type 0} (sizes : X → Sizes) (widths : List ℕ) where
-  pub IsGreedyFrom-nil : (number : ℕ) (xs : List X) → length xs ≡ 0
-      → IsGreedyFrom sizes widths number xs []
-  IsGreedyFrom-nil number xs empty = grind (arith, nil_from_length, All-nil)
-
   full-cons : (number : ℕ) (xs : List X) (n : ℕ)
       → (n < length xs → line_width widths number < closed_width sizes (take (n + 1) xs))
       → (tail : List (List X))

@@ -76,12 +76,6 @@ module _ {X : Type 0} (sizes : X → Sizes) (later : ℕ) (widths : List ℕ)
         → AllFit sizes widths n lines
     pub full : (n : ℕ) → line_width widths n ≡ width → AllFull sizes widths n lines
 
-  Fits-one : (width : ℕ) (x : X) → Fits sizes width (x ∷ [])
-  Fits-one width x k two within = absurd (omega (arith, two, within))
-
-  AreGrown-last : (width : ℕ) (line : List X) → AreGrown width [] line (line ∷ [])
-  AreGrown-last width line = grind (arith, All-cons, append-nil, All-nil)
-
   AreGrown-full : (width : ℕ) (x : X) (xs line : List X) → is_full sizes width line x ≡ true
       → AreGrown later xs (x ∷ []) (grown sizes later later xs (x ∷ []))
       → AreGrown width (x ∷ xs) line (line ∷ grown sizes later later xs (x ∷ []))
@@ -89,7 +83,7 @@ module _ {X : Type 0} (sizes : X → Sizes) (later : ℕ) (widths : List ℕ)
       let closed = closed_width sizes (line ++ x ∷ []) in
       let (some, over) = and_parts (nat_lt 0 (length line)) (nat_lt width closed) at_end in
       let (more, rest, is) = grown-begins sizes later later xs (x ∷ []) in
-      grind (arith, All-cons, ltb-true, Fits-one)
+      grind (arith, All-cons, ltb-true)
 
   AreGrown-room : (width : ℕ) (x : X) (xs line : List X) (lines : List (List X))
       → is_full sizes width line x ≡ false
@@ -98,7 +92,7 @@ module _ {X : Type 0} (sizes : X → Sizes) (later : ℕ) (widths : List ℕ)
 
   are_grown : (width : ℕ) (xs line : List X)
       → AreGrown width xs line (grown sizes later width xs line)
-  are_grown width [] line = AreGrown-last width line
+  are_grown width [] line = grind (arith, All-cons, append-nil, All-nil)
   are_grown width (x ∷ xs) line =
       let next = grown sizes later later xs (x ∷ []) in
       let same = grown sizes later width xs (line ++ x ∷ []) in

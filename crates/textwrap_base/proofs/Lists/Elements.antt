@@ -1,16 +1,16 @@
 -- The elements of lists: what functions make of them, what a list contains, and lists of numbers in
 -- order.
 use Rattle.textwrap_base.proofs.Common.{◌≡◌, ◌++◌, refl, take, arith, false, Result, eq-eqb, ne_eqb}
-use Rattle.textwrap_base.proofs.Common.{List, map_push, take-map, take_more, append-nil, false≢true}
+use Rattle.textwrap_base.proofs.Common.{List, map_push, take_more, append-nil, false≢true}
 use Rattle.textwrap_base.proofs.Common.{[], map-append, append_assoc, length-append, get_or_default}
 use Rattle.textwrap_base.proofs.Common.{◌∷◌, map, ◌∙◌, ◌-◌, drop, ◌+◌, Bool, true, cond, zero, ◌==◌}
 use Rattle.textwrap_base.proofs.Common.{ap, ◌<◌, sym, ◌≤◌, suc, All, ◌*◌, ◌⊎◌, inl, inr, Ok, Err}
 use Rattle.textwrap_base.proofs.Common.{reverse, ℕ, length, get_or, drop_at, map-id, filter, repeat}
-use Rattle.textwrap_base.proofs.Common.{slice_range, reverse-append, join_with_byte, range_with_len}
+use Rattle.textwrap_base.proofs.Common.{reverse-append, join_with_byte, range_with_len}
 use Rattle.textwrap_base.proofs.Common.{flat_map, Contains, list_any, cases_lt, eqb-true, cases_eq}
 use Rattle.textwrap_base.proofs.Common.{IsNonDecreasing, map-range_with_len_more, All-from_get_or}
 use Rattle.std.proofs.Common.{Iter}
-use Rattle.std.proofs.lemmas.List.{drop-map, flat_map_more}
+use Rattle.std.proofs.lemmas.List.{flat_map_more}
 use mathlib.Core.List.{reverse_aux}
 use Rattle.std.specs.Iterator.{Drains}
 use Rattle.std.specs.Iterator.Adapters.{copied_source, copied_steps}
@@ -44,10 +44,6 @@ reverse_aux-map f (x ∷ xs) front = reverse_aux-map f xs (x ∷ front)
 
 pub reverse-map : {X Y : Type 0} (f : X → Y) (xs : List X) → map f (reverse xs) ≡ reverse (map f xs)
 reverse-map f xs = reverse_aux-map f xs []
-
-pub slice-map : {X Y : Type 0} (f : X → Y) (xs : List X) (i j : ℕ)
-    → slice_range (map f xs) i j ≡ map f (slice_range xs i j)
-slice-map f xs i j = ap (take (j - i)) (drop-map f i xs) ∙ take-map f (j - i) (drop i xs)
 
 pub flat-map : (f : List ℕ → List ℕ) (parts : List (List ℕ))
     → flat_map (λ part. part) (map f parts) ≡ flat_map f parts
@@ -86,10 +82,6 @@ range-more a n =
     sym (map-id (range_with_len a (n + 1))) ∙ map-range_with_len_more (λ (x : ℕ). x) a n
     (a + n) refl ∙ ap (λ xs. xs ++ (a + n) ∷ []) (map-id (range_with_len a n))
 
-range-next : (point : ℕ) → 1 ≤ point
-    → range_with_len 1 (point + 1 - 1) ≡ range_with_len 1 (point - 1) ++ point ∷ []
-range-next point start = grind (arith, range-more)
-
 filter-one : (test : ℕ → Bool) (point : ℕ) (items : List ℕ) (b : Bool) → b ≡ test point
     → items ++ filter test (point ∷ []) ≡ cond b (items ++ point ∷ []) items
 filter-one test point items true is = rw (← is) refl
@@ -101,7 +93,7 @@ pub points-more : (test : ℕ → Bool) (point : ℕ) (items more : List ℕ) (b
     → b ≡ test point → more ≡ cond b (items ++ point ∷ []) items
     → more ≡ filter test (range_with_len 1 (point + 1 - 1))
 points-more test point items more b start so_far passes is =
-    grind (arith, filter-one, range-next, filter-append)
+    grind (arith, filter-one, range-more, filter-append)
 
 pub range-in_order : (a n : ℕ) → IsNonDecreasing (range_with_len a n)
 range-in_order a n = grind (arith, length-range_with_len, get_or-range_with_len)

@@ -4,9 +4,10 @@ use Rattle.textwrap_lines.proofs.Common.{line_view, line_bytes}
 use Rattle.textwrap.proofs.Common.{layout_view, padded, cell}
 use Rattle.textwrap.proofs.Text.Tables.{cell_is, length-gapped-more, gapped-past}
 use Rattle.textwrap_base.proofs.Numbers.{IfNone-always}
+use Rattle.textwrap.proofs.columns.later_len.Goals.{After-as_str}
 
 -- the bytes of the next cell
-padded_bytes : (g : _) (c : goal.After-as_str g)
+padded_bytes : (g : _) (c : After-as_str g)
     → length (padded (layout_view c.args.table.now).column_width c.as_str.result.now)
     ≡ length (padded (layout_view c.args.table.now).column_width
     (cell (map line_bytes (map line_view c.args.lines.now)) c.args.step c.args.first

@@ -5,9 +5,10 @@ use Rattle.textwrap_lines.proofs.Common.{line_bytes, settings_view}
 use Rattle.textwrap.specs.Columns.{at_column_width, table_rows}
 use Rattle.textwrap.proofs.Text.Unfilling.{columns-as}
 use Rattle.textwrap.proofs.Text.Tables.{AreTextLines-methods, SomeMayPass64Bits-methods}
+use Rattle.textwrap.proofs.columns.wrap_columns.Goals.{After-wrap_in_table}
 
 -- the options at the width of a column
-narrow : (g : _) (c : goal.After-wrap_in_table g) → settings_view c.width.result
+narrow : (g : _) (c : After-wrap_in_table g) → settings_view c.width.result
     ≡ at_column_width (settings_view c.args.options) c.args.columns c.args.left_gap.now
     c.args.middle_gap.now c.args.right_gap.now
 narrow g c = c.width.ensures.settings

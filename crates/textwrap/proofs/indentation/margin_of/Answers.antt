@@ -6,9 +6,10 @@ use Rattle.std.specs.Str.{chars}
 use Rattle.textwrap.proofs.Text.Margins.{margin_after, margin_after-blank, margin_after-first}
 use Rattle.textwrap.proofs.Text.Margins.{margin_after-end}
 use Rattle.textwrap_base.proofs.Lists.Parts.{lines-next}
+use Rattle.textwrap.proofs.indentation.margin_of.Goals.{In-Some}
 
 -- the lines to come, from this one on
-next : (c : goal.In-Some) → drop (length c.loop-line.yielded) (lines c.args.s.now)
+next : (c : In-Some) → drop (length c.loop-line.yielded) (lines c.args.s.now)
     ≡ c.in-Some.line.now ∷ drop (length c.loop-line.yielded + 1) (lines c.args.s.now)
 next c =
     let t = YieldsList-turn (YieldsList-from_lines {s = c.into_iter-line-iterator.result}

@@ -7,9 +7,10 @@ use Rattle.std.proofs.lemmas.Iterator.{YieldsList-from_zip}
 use Rattle.textwrap_base.proofs.Lists.Parts.{from_start}
 use Rattle.textwrap.proofs.Text.Margins.{AreAt, zip_at, narrowed-stop, narrowed-step, narrowed-done}
 use Rattle.textwrap_base.proofs.Texts.{IsCut, cut_text, encoded-more, encoded-within}
+use Rattle.textwrap.proofs.indentation.narrowed.Goals.{In-Some}
 
 -- the characters of this turn
-turn : (c : goal.In-Some) → AreAt (chars c.args.margin.now) (chars c.args.line.now)
+turn : (c : In-Some) → AreAt (chars c.args.margin.now) (chars c.args.line.now)
     (length c.loop-ours.yielded) c.in-Some.ours c.in-Some.theirs
 turn c =
     let t = YieldsList-turn (YieldsList-from_zip {s = c.into_iter-ours-iterator.result}
@@ -21,7 +22,7 @@ turn c =
     c.in-Some.ours c.in-Some.theirs t.0 t.1
 
 -- the margin before them
-cut : (c : goal.In-Some) → IsCut c.args.margin.now
+cut : (c : In-Some) → IsCut c.args.margin.now
     (take (length c.loop-ours.yielded) (chars c.args.margin.now))
     (drop (length c.loop-ours.yielded) (chars c.args.margin.now))
 cut c =

@@ -10,9 +10,10 @@ use Rattle.std.proofs.lemmas.List.FromFn.{length-enumerate_from}
 use Rattle.textwrap.specs.Indentation.{without_margin}
 use Rattle.textwrap.proofs.Text.Margins.{IsLineAt, line_at, joined-first, joined-more}
 use Rattle.textwrap.proofs.Text.Margins.{lines_begin_with_margin}
+use Rattle.textwrap.proofs.indentation.push_dedented.Goals.{In-Some, In-None}
 
 -- the line of this turn
-turn : (g : _) (c : goal.In-Some g) → IsLineAt (lines c.args.s.now) (length c.loop-i.yielded) c.in-Some.i
+turn : (g : _) (c : In-Some g) → IsLineAt (lines c.args.s.now) (length c.loop-i.yielded) c.in-Some.i
     c.in-Some.line.now
 turn g c =
     let t = YieldsList-turn (YieldsList-from_enumerate {s = c.into_iter-i-iterator.result}
@@ -60,7 +61,7 @@ loop-i-preserved g c =
     }
 
 -- all lines were pushed
-pushed-all : (g : _) (c : goal.In-None g) → g.S.TextSink.holds c.args.text.now c.loop-i.text
+pushed-all : (g : _) (c : In-None g) → g.S.TextSink.holds c.args.text.now c.loop-i.text
     (join_with_byte 10 (map (without_margin (margin_of c.args.s.now)) (lines c.args.s.now)))
 pushed-all g c =
     let t = YieldsList-end (YieldsList-from_enumerate {s = c.into_iter-i-iterator.result}

@@ -9,9 +9,10 @@ use Rattle.std.proofs.lemmas.Str.{IsUtf8-string_bytes}
 use Rattle.textwrap_lines.specs.declared.line_ending.LineEnding.TheVariants.{LF}
 use Rattle.textwrap.proofs.Text.InPlace.{feeds-within, filled-by_feeds, filled-keeps}
 use Rattle.textwrap.proofs.Text.InPlaceLines.{unchanged-fits}
+use Rattle.textwrap.proofs.inplace.fill_inplace.Goals.{After-put_line_feeds}
 
 -- the bytes with their line feeds fill the text
-filled : (g : _) (c : goal.After-put_line_feeds g)
+filled : (g : _) (c : After-put_line_feeds g)
     → IsFilledInPlace c.args.width (string_bytes c.args.text.now) c.put_line_feeds.new.bytes
 filled g c =
     let found = c.in_ok-breaks.ensures.breaks in
@@ -22,7 +23,7 @@ filled g c =
     ∙ ap string_bytes c.replace.ensures.value) c.deref.ensures.value c.put_line_feeds.ensures
 
 -- and are all bytes of the buffer
-all_bytes : (g : _) (c : goal.After-put_line_feeds g)
+all_bytes : (g : _) (c : After-put_line_feeds g)
     → (with_items c.into_bytes-bytes.result c.put_line_feeds.new.bytes).items
     ≡ c.put_line_feeds.new.bytes
 all_bytes g c =

@@ -9,9 +9,10 @@ use Rattle.std.proofs.lemmas.List.Sums.{common_prefix_len-le}
 use Rattle.std.proofs.lemmas.Str.{IsCharBoundary-from_ascii}
 use borrow.Author.Tests.{tests}
 use Rattle.textwrap_base.proofs.Lists.Parts.{from_start, zip-common}
+use Rattle.textwrap.proofs.refilling.common_start.Goals.{After-count-len}
 
 -- the bytes that are counted are those that both texts begin with
-counted : (c : goal.After-count-len)
+counted : (c : After-count-len)
     → c.count-len.result ≡ common_prefix_len nat_eq c.args.first.now c.args.second.now
 counted c =
     let first = c.args.first.now in

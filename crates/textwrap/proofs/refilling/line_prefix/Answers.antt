@@ -7,9 +7,10 @@ use Rattle.std.proofs.lemmas.Iterator.Search.{YieldsList-from_take_while}
 use Rattle.textwrap_base.proofs.Lists.Parts.{from_start}
 use borrow.Author.Tests.{tests}
 use Rattle.textwrap.proofs.Text.Unfilling.{line_prefix-boundary}
+use Rattle.textwrap.proofs.refilling.line_prefix.Goals.{After-count-len}
 
 -- the bytes that are counted are the prefix characters
-counted : (c : goal.After-count-len)
+counted : (c : After-count-len)
     → c.count-len.result ≡ prefix_len is_prefix_character c.args.line.now
 counted c = count_from_yields_List c.take_while.result _ c.count-len.ensures.ran
     (YieldsList-from_take_while _ is_prefix_character (YieldsList-from_bytes c.args.line.now (cc))

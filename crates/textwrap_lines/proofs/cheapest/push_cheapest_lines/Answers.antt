@@ -5,6 +5,7 @@ use Rattle.textwrap_lines.proofs.Common.{Took, layout_view, Span}
 use Rattle.textwrap_lines.specs.Direct.{places_of, words_cut}
 use Rattle.textwrap_lines.proofs.Paragraph.Pieces.{words_cut-texts}
 use Rattle.textwrap_lines.proofs.PlacedPieces.Cheapest.{are_searched, found-lines, FoundLines}
+use Rattle.textwrap_lines.proofs.cheapest.push_cheapest_lines.Goals.{After-deref-2}
 
 pub cheapest_lines-requires : goal.cheapest_lines-requires
 cheapest_lines-requires g c =
@@ -25,7 +26,7 @@ cheapest_lines-requires g c =
     }
 
 -- the lines that the table gives
-lines_found : (g : _) (c : goal.After-deref-2 g) → FoundLines (layout_view c.args.layout.now)
+lines_found : (g : _) (c : After-deref-2 g) → FoundLines (layout_view c.args.layout.now)
     (as_splitter c.args.cuts.now.splitter) c.args.is_later c.args.paragraph.now
     (words_cut (places_of c.args.cuts.now) c.args.paragraph.now) c.args.penalties.now c.utf8.paragraph
     (words_cut-texts (places_of c.args.cuts.now) c.args.paragraph.now c.utf8.paragraph c.requires.cuts)

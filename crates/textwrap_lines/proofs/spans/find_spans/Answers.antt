@@ -7,6 +7,7 @@ use Rattle.textwrap_lines.specs.Direct.{pieces_cut, places_of, words_cut}
 use Rattle.textwrap_lines.proofs.Paragraph.Pieces.{words_cut-texts, pieces_of_words-wide}
 use Rattle.textwrap_lines.proofs.PlacedPieces.Lines.{HasLeft, HasNext, Left-start, Left-next}
 use Rattle.textwrap_lines.proofs.PlacedPieces.Lines.{Left-end}
+use Rattle.textwrap_lines.proofs.spans.find_spans.Goals.{In-Some}
 
 pub loop-piece-init : goal.loop-piece-init
 loop-piece-init g c =
@@ -18,7 +19,7 @@ loop-piece-init g c =
     ∙ c.cut_paragraph-piece-items.ensures))
 
 -- the piece that the iterator gives, and those after it
-turn : (g : _) (c : goal.In-Some g)
+turn : (g : _) (c : In-Some g)
     → HasNext (pieces_cut (layout_view c.args.layout.now) c.args.cuts.now c.args.paragraph.now) c.loop-piece.spans.items c.loop-piece.opens c.in-Some.piece
     (left_standing c.next.new.self)
 turn g c =

@@ -6,13 +6,14 @@ use Rattle.textwrap_lines.proofs.Common.{covered}
 use Rattle.textwrap_lines.proofs.Paragraph.Covered.{cuts_before_whitespace, IsCharBoundary-cut}
 use Rattle.textwrap_lines.proofs.Paragraph.Covered.{IsCharBoundary-past_whitespace}
 use Rattle.textwrap_lines.proofs.Paragraph.Covered.{IsCharBoundary-whole, CutsBeforeWhitespace}
+use Rattle.textwrap_lines.proofs.wrapping.cut_line.Goals.{After-as_bytes}
 
 -- the text, cut before the whitespace of the last word
-cut : (c : goal.After-as_bytes) → CutsBeforeWhitespace c.args.text.now
+cut : (c : After-as_bytes) → CutsBeforeWhitespace c.args.text.now
     (c.args.front.now ++ c.args.last.now ∷ []) c.args.front.now c.args.last.now
 cut c = cuts_before_whitespace _ _ _ _ refl c.requires
 
-place : (c : goal.After-as_bytes) → c.tiled_len.result + length c.as_bytes.result.now
+place : (c : After-as_bytes) → c.tiled_len.result + length c.as_bytes.result.now
     ≡ length (tiled (map word_view c.args.front.now)) + length c.args.last.now.word.now
 place c = omega (arith, c.tiled_len.ensures.len, ap length c.as_bytes.ensures.value)
 

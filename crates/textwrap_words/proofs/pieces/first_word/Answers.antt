@@ -7,6 +7,7 @@ use Rattle.textwrap_words.specs.Pieces.{is_stop}
 use Rattle.textwrap_words.specs.declared.escapes.State.TheVariants.{Text}
 use Rattle.textwrap_words.proofs.Word.Scanned.{scanned-letters, stop-here, stops-between}
 use Rattle.textwrap_words.proofs.Word.FirstPieces.{first-word, no-word}
+use Rattle.textwrap_words.proofs.pieces.first_word.Goals.{After-letters_len-width}
 
 pub returns-then-bytes-start-eq32 : goal.returns-then-bytes-start-eq32
 returns-then-bytes-start-eq32 c =

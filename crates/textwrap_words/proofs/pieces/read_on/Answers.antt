@@ -17,6 +17,7 @@ use Rattle.textwrap_words.proofs.Word.Breaking.{due-true, due-false}
 use Rattle.textwrap_words.proofs.Word.Ahead.{ascii-here, left-after, plain-bytes, point-after}
 use Rattle.textwrap_words.proofs.Word.Scanned.{scanned-letters, IsScanned, GoesOn, scanned-step}
 use Rattle.textwrap_words.proofs.Word.Scanned.{no-stop, stop-full, stop-here, stops-between}
+use Rattle.textwrap_words.proofs.pieces.read_on.Goals.{In-Some, After-step-next, Joined-is_visible}
 
 pub range-requires-clause-start_boundary : goal.range-requires-clause-start_boundary
 range-requires-clause-start_boundary c = λ _.
@@ -44,14 +45,14 @@ loop-after-init c =
     })
 
 -- the character that the iterator gives stands at the place
-record IsHere (c : goal.In-Some) : Type 0 where
+record IsHere (c : In-Some) : Type 0 where
   stands : drop (c.args.at + c.args.letters + char_indices_offset c.loop-after.after-iterator)
       c.args.text.now
       ≡ encode_utf8 c.in-Some.ch ++ (char_indices_rest c.next.new.self ++ drop c.args.end c.args.text.now)
   within : c.args.at + c.args.letters + char_indices_offset c.loop-after.after-iterator
       + length (encode_utf8 c.in-Some.ch) ≤ c.args.end
 
-here : (c : goal.In-Some) → IsHere c
+here : (c : In-Some) → IsHere c
 here c =
     let text = c.args.text.now in
     let rest = char_indices_rest c.next.new.self in
@@ -112,7 +113,7 @@ overflow_add-width c = omega (
 )
 
 -- it does not stop there
-on : (c : goal.After-step-next) (after : List ℕ)
+on : (c : After-step-next) (after : List ℕ)
     → drop (c.args.at + c.args.letters + char_indices_offset c.loop-after.after-iterator) c.args.text.now
     ≡ encode_utf8 c.in-Some.ch ++ after → GoesOn (is_stop c.args.at_blanks (as_splitter c.args.splitter) c.args.text.now)
     c.args.text.now c.args.at
@@ -151,7 +152,7 @@ returns-then-width-columns c =
     c.if-width-gt0.true due)
 
 -- the reader is past the character
-past : (c : goal.Joined-is_visible) (after : List ℕ)
+past : (c : Joined-is_visible) (after : List ℕ)
     → drop (c.args.at + c.args.letters + char_indices_offset c.loop-after.after-iterator) c.args.text.now
     ≡ encode_utf8 c.in-Some.ch ++ after
     → GoesOn (is_stop c.args.at_blanks (as_splitter c.args.splitter) c.args.text.now) c.args.text.now

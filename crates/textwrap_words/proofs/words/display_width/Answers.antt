@@ -3,6 +3,7 @@ use Rattle.textwrap_base.proofs.Common.{◌≡◌, arith, eqb-true, length, sym}
 use Rattle.textwrap_words.proofs.Units.Reading.{text_width-le, columns_in-empty}
 use Rattle.textwrap_words.proofs.Common.{text_width}
 use Rattle.textwrap_words.specs.declared.escapes.State.TheVariants.{Text}
+use Rattle.textwrap_words.proofs.words.display_width.Goals.{After-loop-rest}
 
 pub overflow_add-width : goal.overflow_add-width
 overflow_add-width c = omega (
@@ -13,7 +14,7 @@ overflow_add-width c = omega (
 )
 
 -- at the end nothing is left
-whole : (c : goal.After-loop-rest) → c.loop-rest.width ≡ text_width c.args.text.now
+whole : (c : After-loop-rest) → c.loop-rest.width ≡ text_width c.args.text.now
 whole c =
     let none = eqb-true (length c.loop-rest.rest.now) 0 (sym c.loop-rest-test.ensures) in
     omega (arith, c.loop-rest.invariant.columns, columns_in-empty Text c.loop-rest.rest.now none)

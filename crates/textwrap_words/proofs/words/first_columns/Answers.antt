@@ -3,9 +3,10 @@ use Rattle.textwrap_base.proofs.Common.{arith, drop, subst, ap, length, get_or}
 use Rattle.textwrap_words.proofs.Common.{IsPrintableByte}
 use Rattle.textwrap_words.specs.declared.escapes.State.TheVariants.{Text}
 use Rattle.textwrap_words.proofs.Units.Reading.{IsMeasured, measured-printable}
+use Rattle.textwrap_words.proofs.words.first_columns.Goals.{Then-printable-gt0}
 
 -- the printable ASCII at the beginning
-read : (c : goal.Then-printable-gt0)
+read : (c : Then-printable-gt0)
     → IsMeasured c.args.text.now c.printable_len-printable.result
     (drop c.printable_len-printable.result c.args.text.now) Text c.printable_len-printable.result
 read c =

@@ -5,6 +5,7 @@ use Rattle.std.specs.Str.Iter.{char_indices_rest}
 use Rattle.textwrap_words.proofs.Units.Reading.{IsMeasured, measured-le, measured-start}
 use Rattle.textwrap_words.proofs.Units.Reading.{measured-step, added, columns_in-empty}
 use Rattle.textwrap_words.specs.declared.escapes.State.TheVariants.{Text}
+use Rattle.textwrap_words.proofs.words.sequence_columns.Goals.{Joined-is_visible}
 
 pub loop-at-init : goal.loop-at-init
 loop-at-init c =
@@ -12,7 +13,7 @@ loop-at-init c =
     rw (c.into_iter-at-iterator.ensures.into_iter_gives, items.offset, items.rest)
     (measured-start c.args.text.now c.utf8.text)
 
-past : (c : goal.Joined-is_visible)
+past : (c : Joined-is_visible)
     → IsMeasured c.args.text.now (char_indices_offset c.next.new.self)
     (char_indices_rest c.next.new.self) c.step-next.result.0 (c.loop-at.width + c.if-is_visible.width)
 past c =

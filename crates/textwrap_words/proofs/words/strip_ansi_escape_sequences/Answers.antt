@@ -5,6 +5,7 @@ use Rattle.textwrap_base.proofs.Common.{YieldsList-turn, YieldsList-end, at_drop
 use Rattle.textwrap_words.proofs.Common.{escape, next_of, stripped}
 use Rattle.std.specs.Str.{chars}
 use Rattle.textwrap_words.proofs.Units.Reading.{text_in, text_in-step, stripped-plain}
+use Rattle.textwrap_words.proofs.words.strip_ansi_escape_sequences.Goals.{In-None}
 
 pub loop-ch-preserved-in_ok-push : goal.loop-ch-preserved-in_ok-push
 loop-ch-preserved-in_ok-push g c =
@@ -27,7 +28,7 @@ loop-ch-preserved g c =
     (length c.loop-ch.yielded) c.in-Some.ch t) in
     rw (c.step-next.ensures, length_push) (step ∙ c.loop-ch.invariant)
 
-whole : (g : _) (c : goal.In-None g) → string_bytes c.loop-ch.plain ≡ stripped c.args.text.now
+whole : (g : _) (c : In-None g) → string_bytes c.loop-ch.plain ≡ stripped c.args.text.now
 whole g c =
     let t = YieldsList-end (YieldsList-from_chars c.args.text.now c.utf8.text cc) c.loop-ch.yielded
     _ c.loop-ch.yielded_by _ _ c.in-None.is c.next.ensures.steps in

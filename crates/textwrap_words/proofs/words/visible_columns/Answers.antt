@@ -6,6 +6,7 @@ use Rattle.textwrap_words.proofs.Units.Reading.{IsMeasured, measured-le, measure
 use Rattle.textwrap_words.proofs.Units.Reading.{measured-step}
 use Rattle.textwrap_words.proofs.Word.Ahead.{ascii-here}
 use Rattle.textwrap_words.specs.declared.escapes.State.TheVariants.{Text}
+use Rattle.textwrap_words.proofs.words.visible_columns.Goals.{After-columns-width}
 
 pub loop-at-init : goal.loop-at-init
 loop-at-init c =
@@ -13,7 +14,7 @@ loop-at-init c =
     rw (c.into_iter-at-iterator.ensures.into_iter_gives, items.offset, items.rest)
     (measured-start c.args.text.now c.utf8.text)
 
-other : (c : goal.After-columns-width) → c.in-Some.ch ≢ 27
+other : (c : After-columns-width) → c.in-Some.ch ≢ 27
 other c is = elim c.else-at-gt0.branch [
   | goal.else-at-gt0-via-else-at-gt0 w ↦
       let s = c.in-Some.ensures.steps in
@@ -26,7 +27,7 @@ other c is = elim c.else-at-gt0.branch [
   | goal.else-at-gt0-via-then-at-gt0+else-ch-eq27 w ↦ w.if-ch-eq27.false.1 is
 ]
 
-past : (c : goal.After-columns-width)
+past : (c : After-columns-width)
     → IsMeasured c.args.text.now (char_indices_offset c.next.new.self)
     (char_indices_rest c.next.new.self) Text (c.loop-at.width + c.columns-width.result)
 past c = rw c.columns-width.ensures (rw (ne_eqb c.in-Some.ch 27 (other c))

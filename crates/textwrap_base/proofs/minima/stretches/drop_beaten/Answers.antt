@@ -72,6 +72,7 @@ loop-stretches-preserved g c =
     let read = stretch_at-read c.loop-stretches.stretches.items
     (c.len-in-loop-stretches.result - 1) (n - 1) c.index-last.result.now c.index-last.ensures
     (omega arith) (omega arith) in
+    let from = ap (λ (s : Stretch). s.from) read in
     let last = stretch_at-left q old n (n - 1) i.left (omega arith) in
     let priced : IsPriced costs m c.index-last.result.now =
     rw (read, last) (c.requires.stretches.priced (n - 1) (omega arith)) in
@@ -104,7 +105,7 @@ loop-stretches-preserved g c =
       before = omega (arith, priced.before_last);
       priced = λ l. asked;
       best = HaveBest-take costs m c.loop-stretches.won.from (n - 1) c.index-last.result.now.from q
-          less i.best (omega arith) left (ap (λ (s : Stretch). s.from) read) (omega arith);
+          less i.best (omega arith) left from (omega arith);
       wins = IsBestFrom-beaten costs c.requires.suits m start (omega arith) q (n - 1)
           c.loop-stretches.won.from (omega arith) i.best c.index-last.result.now.from i.wins
           begins (omega arith) (λ _. cheaper);

@@ -5,9 +5,10 @@ use Rattle.textwrap_base.proofs.Common.{YieldsList-end, at_drop_all, length_push
 use Rattle.std.specs.Str.{chars}
 use Rattle.textwrap_words.proofs.Common.{next_of}
 use Rattle.textwrap_words.proofs.Units.Reading.{stripped-short, text_in, text_in-step}
+use Rattle.textwrap_words.proofs.word_separators.offsets.visible_len.Goals.{After-len_utf8-len}
 
 -- the bytes of a visible character, and those of what follows it
-counted : (c : goal.After-len_utf8-len) → c.len_utf8-len.result + length
+counted : (c : After-len_utf8-len) → c.len_utf8-len.result + length
     (text_in (next_of c.loop-ch.state c.in-Some.ch)
     (drop (length c.loop-ch.yielded + 1) (chars c.args.line.now)))
     ≡ length (text_in c.loop-ch.state (drop (length c.loop-ch.yielded) (chars c.args.line.now)))

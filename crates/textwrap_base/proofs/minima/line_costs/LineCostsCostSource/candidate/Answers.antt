@@ -1,9 +1,10 @@
 use Rattle.textwrap_base.proofs.minima.line_costs.LineCostsCostSource.candidate.Goals as goal
 use Rattle.textwrap_base.proofs.Common.{◌≡◌, arith, sym, ◌∙◌, PricedSizes, line_costs, measured}
 use Rattle.textwrap_base.proofs.Cost.LineCosts.{line_costs-at}
+use Rattle.textwrap_base.proofs.minima.line_costs.LineCostsCostSource.candidate.Goals.{After-line_cost}
 
 -- the view has the cost of the measures
-cost_is : (g : _) (c : goal.After-line_cost g)
+cost_is : (g : _) (c : After-line_cost g)
     → line_costs (λ (x : PricedSizes). x) c.args.self.now.penalties c.args.self.now.widths
     c.args.self.now.priced c.args.start c.args.end c.args.line_number
     ≡ line_costs measured c.self.inside.penalties c.deref-2.result.now c.deref.result.now

@@ -2,9 +2,10 @@ use Rattle.textwrap_words.proofs.word_separators.words.Words.at_cuts.Goals as go
 use Rattle.textwrap_base.proofs.Common.{refl, ap, map, ◌∙◌, sym, subst}
 use Rattle.textwrap_words.proofs.Common.{word_view, word_of, tiled, AreCuts, parts_between}
 use Rattle.textwrap_words.proofs.Word.Parts.{inner-cuts, MayCut-cuts, parts-texts}
+use Rattle.textwrap_words.proofs.word_separators.words.Words.at_cuts.Goals.{In_ok-cuts}
 
 -- what was answered is cuts of the line
-ready : (g : _) (c : goal.In_ok-cuts g) → AreCuts c.args.line.now c.in_ok-cuts.cuts.items
+ready : (g : _) (c : In_ok-cuts g) → AreCuts c.args.line.now c.in_ok-cuts.cuts.items
 ready g c = inner-cuts c.args.line.now c.in_ok-cuts.cuts.items
     (MayCut-cuts c.args.line_cuts c.args.line.now c.in_ok-cuts.cuts.items c.utf8.line
     (c.args.line_cuts.alloc, c.args.line, c.in_ok-cuts.cuts, refl, refl, c.in_ok-cuts.ensures.0))

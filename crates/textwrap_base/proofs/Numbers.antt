@@ -37,14 +37,12 @@ some_later true n = refl
 some_later false n = grind (arith, nat_tests)
 
 pub either_short : (a b n : ℕ) → n ≡ min a b → (a ≤ n) ⊎ (b ≤ n)
-either_short a b n is =
-    ⊎_elim {C = (a ≤ n) ⊎ (b ≤ n)} (λ (less : a < b). inl (omega arith))
+either_short a b n is = ⊎_elim {C = (a ≤ n) ⊎ (b ≤ n)} (λ (less : a < b). inl (omega arith))
     (λ (more : b ≤ a). inr (omega arith)) (cases_lt a b)
 
 -- no table has more rows than lines
 pub rows-le_lines : (lines columns : ℕ) → 1 ≤ columns → div_ceil lines columns ≤ lines
-rows-le_lines lines columns some =
-    grind (arith, le-mul_of_pos_right, mod-add-div', min-le_right)
+rows-le_lines lines columns some = grind (arith, le-mul_of_pos_right, mod-add-div', min-le_right)
 
 pub same-flag : (a b : Bool) (c : ℕ) → cond a (c ∷ []) [] ≡ cond b (c ∷ []) [] → a ≡ b
 same-flag true true c e = refl

@@ -1,14 +1,13 @@
 -- The search by a queue: its steps, the costs that suit it, and the stretches of ends that each
 -- start takes.
-use Rattle.textwrap_base.proofs.Common.{ℕ, zero, suc, ◌+◌, ◌/◌, ◌^◌, ◌<◌, ◌≤◌, arith, binary_digits}
-use Rattle.textwrap_base.proofs.Common.{◌≡◌, ◌*◌, ◌-◌, cases_lt, min, List, [], ◌∷◌, ◌++◌, length}
-use Rattle.textwrap_base.proofs.Common.{get_or, map, sym, ap, ◌∙◌, length-map, get_or-map}
-use Rattle.textwrap_base.proofs.Common.{length_push, get_or_push, get_or_append_left, Costs}
-use Rattle.textwrap_base.proofs.Common.{SuitQueue, least_entry, cost_from, first_entry, minimum_of}
-use Rattle.textwrap_base.proofs.Common.{inl, inr, refl, IsBestStart, entry_from, IsLeastBelow, max}
-use Rattle.textwrap_base.proofs.Common.{take, length-take, get_or-take, IsBestFrom, stretch_at}
-use Rattle.textwrap_base.proofs.Common.{HasEnd, HaveBest, drop, subst, length-drop, get_or-drop}
-use Rattle.textwrap_base.proofs.Common.{IsPriced, rules}
+use Rattle.textwrap_base.proofs.Common.{ℕ, suc, ◌+◌, ◌/◌, ◌^◌, ◌<◌, ◌≤◌, ◌≡◌, ◌*◌, refl, take, drop}
+use Rattle.textwrap_base.proofs.Common.{zero, List, [], ◌++◌, Costs, HasEnd, subst, IsPriced, rules}
+use Rattle.textwrap_base.proofs.Common.{arith, cases_lt, SuitQueue, cost_from, stretch_at, HaveBest}
+use Rattle.textwrap_base.proofs.Common.{binary_digits, length-map, get_or_append_left, IsLeastBelow}
+use Rattle.textwrap_base.proofs.Common.{◌-◌, min, ◌∷◌, map, sym, ap, ◌∙◌, inl, inr, max}
+use Rattle.textwrap_base.proofs.Common.{length, length_push, get_or_push, least_entry, first_entry}
+use Rattle.textwrap_base.proofs.Common.{get_or, IsBestStart, length-take, get_or-take, length-drop}
+use Rattle.textwrap_base.proofs.Common.{get_or-map, minimum_of, entry_from, IsBestFrom, get_or-drop}
 use Rattle.std.proofs.Math.Nat.{pow-suc, mul-le-mul_right}
 use Rattle.textwrap_base.specs.Queue.{digits_within}
 use Rattle.std.proofs.lemmas.List.{ext_get_or, get_or_read}
@@ -74,8 +73,7 @@ module _ (n m old before after had has : ℕ) (l : m < n)
   steps_more more is = rw is (omega (arith, fewer))
 
   pub steps_within : after ≤ old + n * (10 + 2 * binary_digits n)
-  steps_within =
-      grind (arith, mul-le-mul_right, fewer)
+  steps_within = grind (arith, mul-le-mul_right, fewer)
 
 -- ---- entries of the table
 
@@ -95,8 +93,7 @@ cost_from-first costs end = rw (least_entry-first costs) (omega arith)
 module _ (costs : Costs) (suits : SuitQueue costs) where
   pub cost_from-later : (start end : ℕ) → 0 < start → start < end → end ≤ costs.ends
       → cost_from costs start end ≡ (least_entry costs start).cost + costs.cost start end 1
-  cost_from-later start end some ordered l =
-      grind (arith, later_number)
+  cost_from-later start end some ordered l = grind (arith, later_number)
 
   -- one line is a division of each prefix
   pub small_entry : (end : ℕ) → end ≤ costs.ends → (least_entry costs end).cost ≤ 2 ^ 125
@@ -110,11 +107,6 @@ module _ (costs : Costs) (suits : SuitQueue costs) where
         suits.small 0 (suc end) 0 (omega arith) l,
       )
 
-  pub cost_from-fits : (start end : ℕ) → start < end → end ≤ costs.ends
-      → cost_from costs start end < 2 ^ 128
-  cost_from-fits start end ordered l =
-      grind (arith, small_entry)
-
   -- what the code asks for: the number 0 at start 0, and else 1
   pub cost_from-asked : (minima : List Minimum) (start end : ℕ) (d : Minimum)
       → AreMinima costs minima → start < length minima → start < end → end ≤ costs.ends
@@ -125,15 +117,14 @@ module _ (costs : Costs) (suits : SuitQueue costs) where
   -- a later start that gives a smaller cost at one end gives one at each later end
   pub cheaper_later : (a b c d : ℕ) → 0 < a → a < b → b < c → c < d → d < costs.ends
       → cost_from costs b c < cost_from costs a c → cost_from costs b d < cost_from costs a d
-  cheaper_later a b c d some ab bc cd dn cheaper =
-      omega (
-        arith,
-        suits.convex a b c d some ab bc cd dn,
-        cost_from-later a c some (omega arith) (omega arith),
-        cost_from-later b c (omega arith) bc (omega arith),
-        cost_from-later a d some (omega arith) (omega arith),
-        cost_from-later b d (omega arith) (omega arith) (omega arith),
-      )
+  cheaper_later a b c d some ab bc cd dn cheaper = omega (
+    arith,
+    suits.convex a b c d some ab bc cd dn,
+    cost_from-later a c some (omega arith) (omega arith),
+    cost_from-later b c (omega arith) bc (omega arith),
+    cost_from-later a d some (omega arith) (omega arith),
+    cost_from-later b d (omega arith) (omega arith) (omega arith),
+  )
 
 -- ---- the list that is reported
 
@@ -144,12 +135,8 @@ AreMinima-one costs minima is = rw is (grind (arith, least_entry-first))
 pub AreMinima-push : (costs : Costs) (minima more : List Minimum) (m : Minimum)
     → AreMinima costs minima → m ≡ minimum_of (least_entry costs (length minima))
     → more ≡ minima ++ m ∷ [] → AreMinima costs more
-AreMinima-push costs minima more m are is pushed = rw pushed (grind (
-  arith,
-  length_push,
-  get_or_append_left,
-  get_or_push,
-))
+AreMinima-push costs minima more m are is pushed =
+    rw pushed (grind (arith, length_push, get_or_append_left, get_or_push))
 
 -- all of them are the table's
 pub AreMinima-all : (costs : Costs) (minima : List Minimum) → AreMinima costs minima
@@ -165,10 +152,6 @@ AreMinima-all costs minima are len =
 -- ---- the best start of an end from 1 on, as one more start comes into question
 
 module _ (costs : Costs) (m start : ℕ) (next : start ≡ m + 1) where
-  best_kept : (end s : ℕ) → IsBestStart costs m end s
-      → cost_from costs s end ≤ cost_from costs start end → IsBestStart costs start end s
-  best_kept end s best dearer = grind arith
-
   best_new : (end s : ℕ) → IsBestStart costs m end s
       → cost_from costs start end < cost_from costs s end → IsBestStart costs start end start
   best_new end s best cheaper = grind arith
@@ -178,8 +161,7 @@ module _ (costs : Costs) (m start : ℕ) (next : start ≡ m + 1) where
     pub best_after : (a c end : ℕ) → IsBestStart costs m end a → start < c → c ≤ end
         → end < costs.ends → cost_from costs start c < cost_from costs a c
         → IsBestStart costs start end start
-    best_after a c end best after later l cheaper =
-        best_new end a best
+    best_after a c end best after later l cheaper = best_new end a best
         (grind (arith, cheaper_later costs suits a start c end, best.positive, best.within))
 
     -- the new start does not beat a at the end c, so it does not beat the best of an earlier end
@@ -190,7 +172,7 @@ module _ (costs : Costs) (m start : ℕ) (next : start ≡ m + 1) where
         elim (cases_lt (cost_from costs start end) (cost_from costs s end)) [
           | inl cheap ↦ absurd
               (grind (arith, cheaper_later costs suits a start end c, best.least a some within))
-          | inr dear ↦ best_kept end s best dear
+          | inr dear ↦ grind arith
         ]
 
 -- ---- the best start from 1 on, and start 0
@@ -204,23 +186,21 @@ module _ (costs : Costs) (m end s : ℕ) (last : end ≡ m + 1) (l : end ≤ cos
 
   pub least-later : cost_from costs s end < cost_from costs 0 end
       → minimum_of (least_entry costs end) ≡ record { start = s; cost = cost_from costs s end }
-  least-later cheaper =
-      least_is (entry_from costs.cost s (least_entry costs s) end) record {
-        below = omega (arith, best.within);
-        from_start = refl;
-        least = λ i k. grind (arith, best.least);
-        first = λ i k. grind (arith, best.first);
-      }
+  least-later cheaper = least_is (entry_from costs.cost s (least_entry costs s) end) record {
+    below = omega (arith, best.within);
+    from_start = refl;
+    least = λ i k. grind (arith, best.least);
+    first = λ i k. grind (arith, best.first);
+  }
 
   pub least-first : cost_from costs 0 end ≤ cost_from costs s end
       → minimum_of (least_entry costs end) ≡ record { start = 0; cost = cost_from costs 0 end }
-  least-first dearer =
-      least_is (entry_from costs.cost 0 (least_entry costs 0) end) record {
-        below = omega arith;
-        from_start = refl;
-        least = λ i k. grind (arith, best.least);
-        first = λ i k. absurd (omega arith);
-      }
+  least-first dearer = least_is (entry_from costs.cost 0 (least_entry costs 0) end) record {
+    below = omega arith;
+    from_start = refl;
+    least = λ i k. grind (arith, best.least);
+    first = λ i k. absurd (omega arith);
+  }
 
 -- ---- a stretch less
 
@@ -229,8 +209,7 @@ stretch_at-take q n k l = get_or-take n q k no_stretch l
 
 HasEnd-take : (q : List Stretch) (n end k : ℕ) → n + 1 ≡ length q → end < (stretch_at q n).from
     → HasEnd (take n q) end k → HasEnd q end k
-HasEnd-take q n end k len before has =
-    grind (arith, length-take, stretch_at-take)
+HasEnd-take q n end k len before has = grind (arith, length-take, stretch_at-take)
 
 pub HaveBest-take : (costs : Costs) (m high n from : ℕ) (q less : List Stretch)
     → HaveBest costs m high q → n + 1 ≡ length q → less ≡ take n q → from ≡ (stretch_at q n).from
@@ -275,13 +254,12 @@ module _ (costs : Costs) (suits : SuitQueue costs) (m start : ℕ) (next : start
       → (stretch_at q n).from ≤ c
       → (c < high → cost_from costs start c < cost_from costs (stretch_at q n).start c)
       → IsBestFrom costs start c
-  IsBestFrom-beaten c above after begun cheaper =
-      λ end later l. elim (cases_lt end high) [
-        | inl near ↦ best_after costs m start next suits (stretch_at q n).start c end
-            (best end n (omega arith) near (HasEnd-last q n end len (omega arith))) after later l
-            (cheaper (omega arith))
-        | inr far ↦ above end far l
-      ]
+  IsBestFrom-beaten c above after begun cheaper = λ end later l. elim (cases_lt end high) [
+    | inl near ↦ best_after costs m start next suits (stretch_at q n).start c end
+        (best end n (omega arith) near (HasEnd-last q n end len (omega arith))) after later l
+        (cheaper (omega arith))
+    | inr far ↦ above end far l
+  ]
 
   -- it does not beat the last stretch just before the end c, so none of the others before
   pub HaveBest-kept : (c : ℕ) → (stretch_at q n).from < c → c ≤ high → high ≤ costs.ends
@@ -313,8 +291,7 @@ module _ (costs : Costs) (suits : SuitQueue costs) (m start : ℕ) (next : start
 priced-left : (costs : Costs) (m start n : ℕ) (old q : List Stretch) → m ≤ start
     → AreStretches costs m old → q ≡ take n old → (k : ℕ) → k < length q
     → IsPriced costs start (stretch_at q k)
-priced-left costs m start n old q more are left k l =
-    grind (arith, length-take, stretch_at-left)
+priced-left costs m start n old q more are left k l = grind (arith, length-take, stretch_at-left)
 
 pub AreStretches-left : (costs : Costs) (m start n from : ℕ) (old q : List Stretch) → m ≤ start
     → AreStretches costs m old → q ≡ take n old → HaveBest costs start from q → from ≡ costs.ends
@@ -378,8 +355,7 @@ stretch_at-drop : (q : List Stretch) (n k : ℕ) → stretch_at (drop n q) k ≡
 stretch_at-drop q n k = get_or-drop n q k no_stretch
 
 HasEnd-whole : (q : List Stretch) (n end k : ℕ) → HasEnd (drop n q) end k → HasEnd q end (n + k)
-HasEnd-whole q n end k has =
-    grind (arith, length-drop, stretch_at-drop)
+HasEnd-whole q n end k has = grind (arith, length-drop, stretch_at-drop)
 
 pub AreStretches-drop : (costs : Costs) (m n : ℕ) (q : List Stretch) → AreStretches costs m q
     → AreStretches costs m (drop n q)

@@ -1,16 +1,15 @@
 -- Texts of UTF-8: where their characters end, what is left of one that is cut, and whitespace at
 -- its ends.
-use Rattle.textwrap_base.proofs.Common.{◌≡◌, ℕ, ◌≤◌, List, [], ◌∷◌, ◌++◌, length, refl, sym, ap}
-use Rattle.textwrap_base.proofs.Common.{◌∙◌, subst, arith, length-append, append-nil, ◌+◌, add-zero}
-use Rattle.textwrap_base.proofs.Common.{get_or, zero, suc, ◌<◌, add-one, ◌-◌, append_assoc, All}
-use Rattle.textwrap_base.proofs.Common.{encode_utf8_all, IsCharBoundary, IsUtf8, take_at, drop_at}
-use Rattle.textwrap_base.proofs.Common.{length_push, IsUtf8-take, IsCharBoundary-after_ascii}
-use Rattle.textwrap_base.proofs.Common.{IsUtf8-drop, IsCharBoundary-from_take, cond_both, ltb-true}
-use Rattle.textwrap_base.proofs.Common.{All-head, All-tail, StartsWith, starts_with_length, take}
-use Rattle.textwrap_base.proofs.Common.{drop, true, take-append-drop, take_more, encodes-append}
-use Rattle.textwrap_base.proofs.Common.{IsUtf8-past_char, encodes-chars, and_parts, and_from}
-use Rattle.textwrap_base.proofs.Common.{chars-IsAscii, length-encode, false, cond, ◌==◌, ◌&&◌}
-use Rattle.textwrap_base.proofs.Common.{prefix_len, list_all, ne_eqb}
+use Rattle.textwrap_base.proofs.Common.{◌≡◌, starts_with_length, take-append-drop, IsUtf8-past_char}
+use Rattle.textwrap_base.proofs.Common.{ℕ, arith, get_or, add-one, IsUtf8, take_at, drop_at, ne_eqb}
+use Rattle.textwrap_base.proofs.Common.{◌≤◌, ◌∷◌, sym, ap, ◌∙◌, ◌+◌, suc, ◌<◌, ◌-◌, All, ◌&&◌}
+use Rattle.textwrap_base.proofs.Common.{List, ◌++◌, refl, zero, take, drop, true, false, cond, ◌==◌}
+use Rattle.textwrap_base.proofs.Common.{[], cond_both, StartsWith, take_more, and_parts, prefix_len}
+use Rattle.textwrap_base.proofs.Common.{length, append_assoc, length_push, IsUtf8-take, IsUtf8-drop}
+use Rattle.textwrap_base.proofs.Common.{subst, IsCharBoundary-after_ascii, IsCharBoundary-from_take}
+use Rattle.textwrap_base.proofs.Common.{length-append, encodes-chars, chars-IsAscii, length-encode}
+use Rattle.textwrap_base.proofs.Common.{append-nil, encode_utf8_all, IsCharBoundary, encodes-append}
+use Rattle.textwrap_base.proofs.Common.{add-zero, ltb-true, All-head, All-tail, and_from, list_all}
 use Rattle.std.proofs.Common.{ltb}
 use Rattle.std.proofs.lemmas.List.{get_or-append-add, get_or_at}
 use lib.Utf8.{encode, scalar}
@@ -97,8 +96,7 @@ StartsWith-boundary xs p utf8 prefix starts =
 
 pub utf8-back : (xs ys : List ℕ) → IsUtf8 (encode_utf8_all (xs ++ ys)) → IsUtf8 (encode_utf8_all ys)
 utf8-back [] ys u = u
-utf8-back (x ∷ xs) ys u =
-    utf8-back xs ys (IsUtf8-past_char (encode_utf8_all (x ∷ xs ++ ys))
+utf8-back (x ∷ xs) ys u = utf8-back xs ys (IsUtf8-past_char (encode_utf8_all (x ∷ xs ++ ys))
     (encode_utf8_all (xs ++ ys)) x u refl)
 
 pub utf8-front : (xs ys : List ℕ) → IsUtf8 (encode_utf8_all (xs ++ ys)) → IsUtf8 (encode_utf8_all xs)
@@ -133,20 +131,16 @@ pub record IsCut (text cs ds : List ℕ) : Type 0 where
 
 pub cut_text : (text cs ds : List ℕ) → IsUtf8 text → chars text ≡ cs ++ ds → IsCut text cs ds
 cut_text text cs ds utf8 is =
-    let front = encode_utf8_all cs in
-    let back = encode_utf8_all ds in
-    let whole : text ≡ front ++ back =
+    let whole : text ≡ encode_utf8_all cs ++ encode_utf8_all ds =
     sym (encodes-chars text utf8) ∙ ap encode_utf8_all is ∙ encodes-append cs ds in
-    let all : all_scalars (cs ++ ds) ≡ true =
-    ap all_scalars (sym is) ∙ scalars-chars text utf8 in
+    let all : all_scalars (cs ++ ds) ≡ true = ap all_scalars (sym is) ∙ scalars-chars text utf8 in
     grind (arith, scalars-parts, take_at, drop_at, IsCharBoundary-at_seam)
 
 -- the bytes of one character more
 pub encoded-more : (ms : List ℕ) (n a : ℕ) → n < length ms → a ≡ get_or ms n a
     → length (encode_utf8_all (take (n + 1) ms))
     ≡ length (encode_utf8_all (take n ms)) + length (encode_utf8 a)
-encoded-more ms n a within is =
-    ap (λ l. length (encode_utf8_all l))
+encoded-more ms n a within is = ap (λ l. length (encode_utf8_all l))
     (take_more ms n a within ∙ ap (λ x. take n ms ++ x ∷ []) (sym is))
     ∙ ap length (encodes-append (take n ms) (a ∷ [])
     ∙ ap (λ l. encode_utf8_all (take n ms) ++ l) (append-nil (encode_utf8 a)))
@@ -192,8 +186,7 @@ pub leading-skipped : (cs : List ℕ) → cs ≡ take_while is_whitespace cs ++ 
 leading-skipped [] = refl
 leading-skipped (c ∷ cs) =
     let n = prefix_len is_whitespace cs in
-    let more : 1 + n ≡ suc n = omega arith in
-    grind (arith, leading-skipped cs)
+    let more : 1 + n ≡ suc n = omega arith in grind (arith, leading-skipped cs)
 
 pub skipped : (cs : List ℕ)
     → (length (encode_utf8_all (skip_leading_whitespace cs)) == 0) ≡ list_all is_whitespace cs

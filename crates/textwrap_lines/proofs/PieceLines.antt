@@ -66,30 +66,25 @@ module _ (text : List ℕ) (covered len n m : ℕ) (word gap after : List ℕ)
       sym (drop-drop m (len + n) text) ∙ ap (drop m) past_word ∙ drop_at gap after m (sym m_is)
 
   word_ends : IsCharBoundary (drop len text) n
-  word_ends =
-      IsCharBoundary-from_take (drop len text) n utf8
+  word_ends = IsCharBoundary-from_take (drop len text) n utf8
       (omega (arith, piece-within, length-drop len text)) (subst IsUtf8 (sym word_taken) word_utf8)
 
   pub slice-ends : IsCharBoundary text (len + n)
   slice-ends = IsCharBoundary-from_rest text len n within word_ends
 
   rest_utf8 : IsUtf8 (drop (len + n) text)
-  rest_utf8 =
-      subst IsUtf8 (drop-drop n len text) (IsUtf8-drop (drop len text) n utf8 word_ends)
+  rest_utf8 = subst IsUtf8 (drop-drop n len text) (IsUtf8-drop (drop len text) n utf8 word_ends)
 
   gap_ends : IsCharBoundary (drop (len + n) text) m
-  gap_ends =
-      IsCharBoundary-from_take (drop (len + n) text) m rest_utf8
+  gap_ends = IsCharBoundary-from_take (drop (len + n) text) m rest_utf8
       (omega (arith, piece-within, length-drop (len + n) text))
       (subst IsUtf8 (sym gap_taken) gap_utf8)
 
   pub piece-ends : IsCharBoundary text (len + n + m)
-  piece-ends =
-      IsCharBoundary-from_rest text (len + n) m (omega (arith, piece-within)) gap_ends
+  piece-ends = IsCharBoundary-from_rest text (len + n) m (omega (arith, piece-within)) gap_ends
 
   pub utf8-after : IsUtf8 (drop (len + n + m) text)
-  utf8-after =
-      subst IsUtf8 (drop-drop m (len + n) text)
+  utf8-after = subst IsUtf8 (drop-drop m (len + n) text)
       (IsUtf8-drop (drop (len + n) text) m rest_utf8 gap_ends)
 
 -- ---- the pieces of a text that stand after a place
@@ -119,11 +114,9 @@ module _ (text : List ℕ) where
           ends = ends;
           width = omega (arith, wide, width);
         },
-        all-come (at + n + m) ws
-            (search (rules, arith, place-after)) ends
+        all-come (at + n + m) ws (search (rules, arith, place-after)) ends
             (utf8-after text at at n m w.word w.whitespace (tiled ws) (omega arith) begins.0 utf8
-            here.utf8 space refl refl seam)
-            (All-tail IsMeasured w ws measured),
+            here.utf8 space refl refl seam) (All-tail IsMeasured w ws measured),
       )
 
 pub pieces-come : (settings : Settings) (splitter : Splitter) (paragraph : List ℕ)
@@ -309,16 +302,13 @@ module _ (settings : Settings) (text : List ℕ) where
   lines-are [] ps at width is_later seam none = search (rules, arith, line_of-pieces, all-left)
   lines-are (x ∷ left) ps at width is_later seam none =
       let later = later_width settings in
-      let keeps = settings.preserve_trailing_space in
       let indent = indent_of settings is_later in
       let here = so_far text at width indent ps in
       let after = at + length (tiled ps) in
       let p = stands_at after x in
       let rest = stand_from p.end left in
       let next = with_piece (no_pieces text after later settings.subsequent_indent) p in
-      let line = line_of keeps here in
-      let full = line ∷ lines_from settings next rest in
-      let more = lines_from settings (with_piece here p) rest in
+      let full = line_of settings.preserve_trailing_space here ∷ lines_from settings next rest in
       let own = cut_line at (line_from (parts_of settings is_later ps)) in
       let penalty : length x.penalty ≡ 0 =
       ap length (All-head HasNoPenalty x left (all-right HasNoPenalty ps (x ∷ left) none)) in
@@ -331,7 +321,7 @@ module _ (settings : Settings) (text : List ℕ) where
       let first_is : next ≡ so_far text after later settings.subsequent_indent (x ∷ []) =
       cc (at_none, so_far-push text after later settings.subsequent_indent [] x) in
       let next_end : p.end ≡ after + length (tiled (x ∷ [])) = ap (λ l. l.end) first_is in
-      cond_both (is_past here p) full more
+      cond_both (is_past here p) full (lines_from settings (with_piece here p) rest)
       (λ ls. ls ≡ cut_lines at (parts_from settings is_later
       (grown sizes_of later width (x ∷ left) ps)))
       (λ past.
@@ -348,11 +338,9 @@ module _ (settings : Settings) (text : List ℕ) where
         grown-full sizes_of later width x left ps (ltb-true 0 (length ps) some)
             (omega (arith, closed, ltb-true width (open_width sizes_of ps + x.width) over)),
       ))
-      (λ room.
-      ap (λ l. lines_from settings l rest) (so_far-push text at width indent ps x)
+      (λ room. ap (λ l. lines_from settings l rest) (so_far-push text at width indent ps x)
       ∙ ap (λ n. lines_from settings (so_far text at width indent (ps ++ x ∷ []))
-      (stand_from n left)) same_end
-      ∙ lines-are left (ps ++ x ∷ []) at width is_later
+      (stand_from n left)) same_end ∙ lines-are left (ps ++ x ∷ []) at width is_later
       (search (rules, arith, tiled-append, append_assoc))
       (subst (All HasNoPenalty) (sym (append_assoc ps (x ∷ []) left)) none)
       ∙ ap (λ ls. cut_lines at (parts_from settings is_later ls))

@@ -8,12 +8,10 @@ use Rattle.textwrap_program.specs.declared.filling.RunError.TheVariants.{Read, N
 -- what becomes of the writer after the whole input was read is the run's outcome
 pub Runs-read : (width : ℕ) (algorithm : Algorithm) (unread left old new : Option (List ℕ))
     (input : List ℕ) (fault : Option RunError) → ReadsAll unread left input
-    → FillsTo width algorithm input old new fault
-    → Runs width algorithm unread left old new fault
+    → FillsTo width algorithm input old new fault → Runs width algorithm unread left old new fault
 Runs-read width algorithm unread left old new input None reads fills = (input, reads, fills)
 Runs-read width algorithm unread left old new input (Some Read) reads fills = absurd fills
 Runs-read width algorithm unread left old new input (Some NotUtf8) reads fills =
     (input, reads, fills)
 Runs-read width algorithm unread left old new input (Some Memory) reads fills = fills.1
-Runs-read width algorithm unread left old new input (Some Write) reads fills =
-    (input, reads, fills)
+Runs-read width algorithm unread left old new input (Some Write) reads fills = (input, reads, fills)

@@ -38,8 +38,7 @@ WritesPrefix-nothing_more old mid new rest bytes so_far nothing =
 
 pub WritesPrefix-kept : (old mid new : Option (List ℕ)) (rest bytes : List ℕ)
     → WrittenSoFar old mid rest bytes → Keeps mid new → WritesPrefix old new bytes
-WritesPrefix-kept old mid new rest bytes so_far kept =
-    WritesPrefix-from old new rest bytes
+WritesPrefix-kept old mid new rest bytes so_far kept = WritesPrefix-from old new rest bytes
     record {
       written = so_far.written;
       whole = so_far.whole;
@@ -71,8 +70,7 @@ OnErr-from (Err error) p = p
 pub WritesPrefix-result : {A E : Type 0} (old new : Option (List ℕ)) (bytes : List ℕ)
     (result : Result A E) → OnOk result (Appends old new bytes)
     → OnErr result (WritesPrefix old new bytes) → WritesPrefix old new bytes
-WritesPrefix-result old new bytes (Ok value) appends prefix =
-    (bytes, [], append-nil bytes, appends)
+WritesPrefix-result old new bytes (Ok value) appends prefix = (bytes, [], append-nil bytes, appends)
 WritesPrefix-result old new bytes (Err error) appends prefix = prefix
 
 -- and one of what follows a line that was written goes on from it

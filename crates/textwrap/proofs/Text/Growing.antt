@@ -25,8 +25,7 @@ pub record IsPlain (word : WordText) : Type 0 where
 plain-chunks : (parts : List (List ℕ)) → All (λ part. part ≢ []) parts
     → All IsPlain (map word_of parts)
 plain-chunks [] some = All-nil IsPlain
-plain-chunks (part ∷ parts) some =
-    All-cons IsPlain (word_of part) (map word_of parts)
+plain-chunks (part ∷ parts) some = All-cons IsPlain (word_of part) (map word_of parts)
     (grind (arith, common_steps, tiled-word_of, append-nil, some_from_nonempty, All-head))
     (plain-chunks parts (All-tail (λ p. p ≢ []) part parts some))
 
@@ -103,17 +102,16 @@ module _ {width start : ℕ} {part old breaks : List ℕ} {begin end taken : ℕ
       → (begin < end → taken + x.width ≤ width) → from ≡ begin → len ≡ length (tile_of x)
       → more ≡ taken + (x.width + length x.whitespace) → kept ≡ breaks
       → HasLine width start part old kept from (end + len) more left (line ++ x ∷ [])
-  HasLine-join from len more kept within from_is len_is more_is kept_is =
-      grind (
-        arith,
-        common_steps,
-        closes has,
-        tiled-push line x,
-        length-append (tiled line) (tile_of x),
-        open_width-append sizes_of line (x ∷ []),
-        All-tail IsPlain x left has.plain,
-        passed has len len_is,
-      )
+  HasLine-join from len more kept within from_is len_is more_is kept_is = grind (
+    arith,
+    common_steps,
+    closes has,
+    tiled-push line x,
+    length-append (tiled line) (tile_of x),
+    open_width-append sizes_of line (x ∷ []),
+    All-tail IsPlain x left has.plain,
+    passed has len len_is,
+  )
 
   -- a line without bytes has no columns
   pub HasLine-none : end ≤ begin → taken ≡ 0
@@ -125,13 +123,12 @@ module _ {width start : ℕ} {part old breaks : List ℕ} {begin end taken : ℕ
 
   -- where all words fit one line, this one does
   pub HasLine-fits : FitsOneLine width part → begin < end → taken + x.width ≤ width
-  HasLine-fits fits began =
-      omega (
-        arith,
-        closes has,
-        prefix-closes sizes_of width line x left
-            (search (rules, arith)) (line_some line (omega (arith, began, has.end_is))),
-      )
+  HasLine-fits fits began = omega (
+    arith,
+    closes has,
+    prefix-closes sizes_of width line x left
+        (search (rules, arith)) (line_some line (omega (arith, began, has.end_is))),
+  )
 
 pub HasLine-end : {width start : ℕ} {part old breaks : List ℕ} {begin end taken : ℕ}
     {left line : List WordText} → HasLine width start part old breaks begin end taken left line

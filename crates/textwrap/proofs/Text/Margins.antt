@@ -1,17 +1,16 @@
 -- What texts begin with together, and the margin of a text.
-use Rattle.textwrap_base.proofs.Common.{◌≡◌, ℕ, ◌+◌, ◌≤◌, Bool, true, false, cond, nat_eq, List, []}
-use Rattle.textwrap_base.proofs.Common.{◌∷◌, length, take, drop, All, refl, arith, sym, ap, eq-eqb}
-use Rattle.textwrap_base.proofs.Common.{◌↔◌, StartsWith, starts_with_length, starts_with_of_append}
-use Rattle.textwrap_base.proofs.Common.{starts_with_of_eq, starts_with_trans, nat_tests}
-use Rattle.textwrap_base.proofs.Common.{common_prefix_len, fold, take-append-drop, take-take}
-use Rattle.textwrap_base.proofs.Common.{All-nil, All-cons, All-head, All-tail, rules, inl, inr}
-use Rattle.textwrap_base.proofs.Common.{◌==◌, Option, None, Some, ◌∙◌, list_all, prefix_len, Bor}
-use Rattle.textwrap_base.proofs.Common.{option_map, unwrap_or, lines, false≢true, chars-nil}
-use Rattle.textwrap_base.proofs.Common.{length-prefix_len, All-weaker, ◌++◌, get_or, map}
-use Rattle.textwrap_base.proofs.Common.{length-take, ◌-◌, ◌<◌, min, append_assoc, append-nil}
-use Rattle.textwrap_base.proofs.Common.{⊎_elim, join_with_byte, zip, IsUtf8, encode_utf8_all}
-use Rattle.textwrap_base.proofs.Common.{ne_eqb, take_all, drop_all, take_more, drop_more}
-use Rattle.textwrap_base.proofs.Common.{length-map}
+use Rattle.textwrap_base.proofs.Common.{◌≡◌, nat_eq, length, eq-eqb, Option, get_or, ⊎_elim, IsUtf8}
+use Rattle.textwrap_base.proofs.Common.{ℕ}
+use Rattle.textwrap_base.proofs.Common.{◌+◌, ◌≤◌, ◌∷◌, drop, refl, ap, fold, ◌==◌, None, Some, ◌++◌}
+use Rattle.textwrap_base.proofs.Common.{Bool, nat_tests, take-take, unwrap_or, chars-nil, take_more}
+use Rattle.textwrap_base.proofs.Common.{true, false, cond, List, take, arith, rules, lines, ne_eqb}
+use Rattle.textwrap_base.proofs.Common.{[], starts_with_of_eq, starts_with_trans, common_prefix_len}
+use Rattle.textwrap_base.proofs.Common.{All, sym, ◌↔◌, inl, inr, ◌∙◌, Bor, map, ◌-◌, ◌<◌, min, zip}
+use Rattle.textwrap_base.proofs.Common.{StartsWith, All-cons, prefix_len, length-take, append_assoc}
+use Rattle.textwrap_base.proofs.Common.{starts_with_length, starts_with_of_append, take-append-drop}
+use Rattle.textwrap_base.proofs.Common.{All-nil, length-prefix_len, join_with_byte, encode_utf8_all}
+use Rattle.textwrap_base.proofs.Common.{All-head, All-tail, list_all, take_all, drop_all, drop_more}
+use Rattle.textwrap_base.proofs.Common.{option_map, false≢true, All-weaker, append-nil, length-map}
 use Rattle.textwrap.proofs.Common.{common_start, common_prefix, narrowed, is_blank_line}
 use Rattle.textwrap.proofs.Common.{leading_whitespace, margin_of}
 use Rattle.textwrap.specs.Refilling.{IsCommonPrefix}
@@ -116,8 +115,7 @@ comparable-head : (c d : ℕ) (xs ys : List ℕ) → AreComparable (c ∷ xs) (d
 comparable-head c d xs ys (inl is) = starts-head c d xs ys is
 comparable-head c d xs ys (inr is) = sym (starts-head d c ys xs is)
 
-comparable-tail : (c d : ℕ) (xs ys : List ℕ) → AreComparable (c ∷ xs) (d ∷ ys)
-    → AreComparable xs ys
+comparable-tail : (c d : ℕ) (xs ys : List ℕ) → AreComparable (c ∷ xs) (d ∷ ys) → AreComparable xs ys
 comparable-tail c d xs ys (inl is) = inl (starts-tail c d xs ys is)
 comparable-tail c d xs ys (inr is) = inr (starts-tail d c ys xs is)
 
@@ -178,8 +176,7 @@ by-longest margin other (line ∷ later) starts all =
 is_margin : (first : List ℕ) (later : List (List ℕ))
     → IsMargin first later (narrowed_by (leading_whitespace first) later)
 is_margin first later =
-    let start = leading_whitespace first in
-    let margin = narrowed_by start later in
+    let margin = narrowed_by (leading_whitespace first) later in
     search (rules, by-front, by-comparable, starts_with_of_eq, starts_with_length, by-longest)
 
 margin_one : (first : List ℕ) (later : List (List ℕ)) (margin : List ℕ)
@@ -301,8 +298,7 @@ pub narrowed-done : (ms ls : List ℕ) (n : ℕ) → n ≡ length (zip ms ls)
     → take n ms ++ narrowed (drop n ms) (drop n ls) ≡ narrowed ms ls → ms ≡ narrowed ms ls
 narrowed-done ms ls n all so_far =
     let len : n ≡ min (length ms) (length ls) = all ∙ length-zip ms ls in
-    ⊎_elim
-    (search (rules, take_all, drop_all, append-nil))
+    ⊎_elim (search (rules, take_all, drop_all, append-nil))
     (search (rules, drop_all, narrowed-ended, take-append-drop))
     (either_short (length ms) (length ls) n len)
 

@@ -49,8 +49,7 @@ unfilled-lines (line ∷ next ∷ others) plain =
     unfilled-indented [] [] line next others no_indent no_indent plain
 
 pub unfilled-plain : (text : List ℕ) → IsPlain text → IsUnfilledAs [] [] (blanked text) text
-unfilled-plain text (lines, plain, is) =
-    subst (λ t. IsUnfilledAs [] [] (blanked t) t)
+unfilled-plain text (lines, plain, is) = subst (λ t. IsUnfilledAs [] [] (blanked t) t)
     (ap feed_joined (unindented_rows lines) ∙ sym is)
     (subst (λ j. IsUnfilledAs [] [] j (feed_joined (indented_rows [] [] lines)))
     (sym (rw (unindented_rows, blanked-joined))) (unfilled-lines lines plain))
@@ -77,11 +76,7 @@ module _ (Divides : Settings → Bool → List ℕ → List (List WordText) → 
         λ (filled, is, with_ending).
             subst (FilledBy indented joined) (sym (with_ending ∙ nothing filled))
             (search (rules, arith)),
-        λ is. (
-          refilled,
-          search (rules, arith),
-          sym (nothing refilled),
-        ),
+        λ is. (refilled, search (rules, arith), sym (nothing refilled)),
       )
 
   pub refilled-filled : (settings : Settings) (text refilled : List ℕ) → IsUnindented settings

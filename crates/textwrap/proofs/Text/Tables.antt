@@ -41,8 +41,7 @@ cell_is lines line step first c at place within is =
     ∙ get_or-map line_bytes (map line_view lines) at (line_view line) []
     (omega (arith, length-map lines line_view))
     ∙ ap line_bytes (get_or-map line_view lines at line (line_view line) within)
-    ∙ ap (λ l. line_bytes (line_view l)) (sym is)
-    ∙ line_bytes-line_view line
+    ∙ ap (λ l. line_bytes (line_view l)) (sym is) ∙ line_bytes-line_view line
 
 -- the later cells with one more
 pub gapped-more : (layout : Layout) (lines : List (List ℕ)) (step first later : ℕ)
@@ -158,12 +157,11 @@ pub gapped-past : (layout : Layout) (lines : List (List ℕ)) (step first later 
     → ¬ (part < 2 ^ 64)
     → 2 ^ 64
     ≤ length (gapped layout (map (cell lines step first) (range_with_len 1 (layout.columns - 1))))
-gapped-past layout lines step first later len part len_is room within past =
-    omega (
-      arith,
-      length-gapped-more layout lines step first later,
-      length-gapped-within layout lines step first (later + 1) (layout.columns - 1) room,
-    )
+gapped-past layout lines step first later len part len_is room within past = omega (
+  arith,
+  length-gapped-more layout lines step first later,
+  length-gapped-within layout lines step first (later + 1) (layout.columns - 1) room,
+)
 
 -- and all later cells are in the row
 pub length-gapped-row : (layout : Layout) (lines : List (List ℕ)) (step first : ℕ)
@@ -238,8 +236,7 @@ columns_kept lines columns some =
     let start : 0 * rows ≡ 0 = omega arith in (
       empty,
       columns-at lines columns 0 columns (omega arith)
-          ∙ ap (λ i. lines_at lines i (columns * rows)) start
-          ∙ ap (lines_at lines 0) (sym whole)
+          ∙ ap (λ i. lines_at lines i (columns * rows)) start ∙ ap (lines_at lines 0) (sym whole)
           ∙ lines-kept lines empty,
     )
 

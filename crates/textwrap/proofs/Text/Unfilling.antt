@@ -1,15 +1,14 @@
 -- The layout of a text and what unfilling gives; a text that is filled with the indents of another.
-use Rattle.textwrap_base.proofs.Common.{◌≡◌, ℕ, ◌+◌, Bool, true, false, cond, nat_eq, List, [], ◌∷◌}
-use Rattle.textwrap_base.proofs.Common.{take, arith, StartsWith, IsUtf8, IsAscii, IsCharBoundary}
-use Rattle.textwrap_base.proofs.Common.{prefix_len, common_prefix_len, IsUtf8-from_ascii}
-use Rattle.textwrap_base.proofs.Common.{IsCharBoundary-from_take, rules, ◌<◌, max, ◌++◌, length}
-use Rattle.textwrap_base.proofs.Common.{drop, map, get_or, refl, ◌∙◌, Option, Some, None, unwrap_or}
-use Rattle.textwrap_base.proofs.Common.{fold, lines, YieldsList-turn, YieldsList-end}
-use Rattle.textwrap_base.proofs.Common.{YieldsList-from_lines, drop_more, get_or_default, Bor}
-use Rattle.textwrap_base.proofs.Common.{filter, All, sym, append_assoc, append-nil, ◌==◌, flat_map}
-use Rattle.textwrap_base.proofs.Common.{slice_split, ends_with, starts_with_trans, nat_tests}
-use Rattle.textwrap_base.proofs.Common.{nil_from_length, All-nil, All-cons, All-head, All-tail, ap}
-use Rattle.textwrap_base.proofs.Common.{subst}
+use Rattle.textwrap_base.proofs.Common.{◌≡◌, ◌+◌, ◌∷◌, ◌<◌, max, drop, refl, Some, None, fold, ◌==◌}
+use Rattle.textwrap_base.proofs.Common.{ℕ, IsAscii, flat_map, All-nil, All-cons, All-head, All-tail}
+use Rattle.textwrap_base.proofs.Common.{Bool, false, nat_eq, IsUtf8, length, get_or, Option, filter}
+use Rattle.textwrap_base.proofs.Common.{true, cond, List, take, arith, rules, ◌++◌, lines, subst}
+use Rattle.textwrap_base.proofs.Common.{[], common_prefix_len, IsUtf8-from_ascii, starts_with_trans}
+use Rattle.textwrap_base.proofs.Common.{StartsWith, IsCharBoundary-from_take, YieldsList-from_lines}
+use Rattle.textwrap_base.proofs.Common.{IsCharBoundary, unwrap_or, YieldsList-turn, nil_from_length}
+use Rattle.textwrap_base.proofs.Common.{prefix_len, drop_more, append-nil, ends_with, nat_tests, ap}
+use Rattle.textwrap_base.proofs.Common.{map, ◌∙◌, Bor, All, sym}
+use Rattle.textwrap_base.proofs.Common.{YieldsList-end, get_or_default, append_assoc, slice_split}
 use Rattle.textwrap.proofs.Common.{is_prefix_character, line_prefix, common_start, common_prefix}
 use Rattle.textwrap.proofs.Common.{EndedLine, ended_lines_of, nonempty_lines, unfilled_initial}
 use Rattle.textwrap.proofs.Common.{unfilled_subsequent, joined_text, detected_among}
@@ -163,8 +162,7 @@ begins-each : (indent : List ℕ) (es : List EndedLine)
     → All (λ t. StartsWith t indent) (map line_prefix (texts_of es))
     → All (λ e. StartsWith e.line indent) es
 begins-each indent [] all = All-nil (λ e. StartsWith e.line indent)
-begins-each indent (e ∷ es) all =
-    All-cons (λ l. StartsWith l.line indent) e es
+begins-each indent (e ∷ es) all = All-cons (λ l. StartsWith l.line indent) e es
     (search (rules, starts_with_trans, line_prefix-begins, All-head))
     (begins-each indent es
     (All-tail (λ t. StartsWith t indent) (line_prefix e.line) (map line_prefix (texts_of es)) all))
@@ -236,8 +234,7 @@ detected_among-two (Some LF) None others = refl
 detected_among-two (Some LF) (Some CRLF) others = refl
 detected_among-two (Some LF) (Some LF) others = refl
 
-pub keeps_ending-some : (text : List ℕ) (ending : LineEnding)
-    → detected_ending text ≡ Some ending
+pub keeps_ending-some : (text : List ℕ) (ending : LineEnding) → detected_ending text ≡ Some ending
     → keeps_ending text ≡ ends_with nat_eq text (ending_bytes ending)
 keeps_ending-some text ending is = search (rules, nat_eq)
 
@@ -253,13 +250,12 @@ pub refilled-from : (settings : Settings)
     } in (filled : List ℕ) × IsFilled indented (Divides indented) joined filled
     × (refilled ≡ filled ++ added_ending keeps settings.line_ending)
     → IsRefilled settings Divides text refilled
-refilled-from settings Divides text refilled layout found joined joined_is keeps keeps_is is =
-    rw (
-      ap (λ s. s.initial_indent) found,
-      ap (λ s. s.subsequent_indent) found,
-      joined_is,
-      keeps_is,
-    ) at is
+refilled-from settings Divides text refilled layout found joined joined_is keeps keeps_is is = rw (
+  ap (λ s. s.initial_indent) found,
+  ap (λ s. s.subsequent_indent) found,
+  joined_is,
+  keeps_is,
+) at is
 
 -- ---- refilled texts and texts in columns under options with built-in parts: what they divide
 -- is what the parts do as values

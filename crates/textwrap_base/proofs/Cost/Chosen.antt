@@ -1,15 +1,14 @@
 -- The table gives the chosen division, if all lines but the first have one width.
-use Rattle.textwrap_base.proofs.Common.{◌≡◌, ℕ, suc, ◌+◌, ◌<◌, ◌≤◌, ◌≢◌, eqb, List, [], ◌∷◌, ◌++◌}
-use Rattle.textwrap_base.proofs.Common.{length, get_or, reverse, take, drop, drop-drop, take_at}
-use Rattle.textwrap_base.proofs.Common.{drop_at, ◌-◌, All, slice_range, refl, sym, ◌∙◌, ap}
-use Rattle.textwrap_base.proofs.Common.{add-zero, arith, append_assoc, length-append, flat_map}
-use Rattle.textwrap_base.proofs.Common.{All-head, All-tail, All-cons, drop_split, line_width}
-use Rattle.textwrap_base.proofs.Common.{IsDivision, PricedSizes, line_cost, line_costs}
-use Rattle.textwrap_base.proofs.Common.{FollowStarts, cases_lt, take-append-drop, length-take-le}
-use Rattle.textwrap_base.proofs.Common.{division_cost, AreEqualFromSecond, take_all, AreNoLater}
-use Rattle.textwrap_base.proofs.Common.{entry_at, fragments_table, IsByTable, Bool, true, zero-add}
-use Rattle.textwrap_base.proofs.Common.{eq-eqb, nat_tests, length-drop, Sizes, priced_at}
-use Rattle.textwrap_base.proofs.Common.{last_break_penalty, closed_width, map, length-map}
+use Rattle.textwrap_base.proofs.Common.{◌≡◌, suc, List, ◌++◌, take, drop, refl, Bool, true, Sizes}
+use Rattle.textwrap_base.proofs.Common.{ℕ, take-append-drop, AreEqualFromSecond, last_break_penalty}
+use Rattle.textwrap_base.proofs.Common.{◌+◌, ◌<◌, ◌≤◌, ◌≢◌, eqb, ◌∷◌, ◌-◌, All, sym, ◌∙◌, ap, map}
+use Rattle.textwrap_base.proofs.Common.{[], append_assoc, FollowStarts, division_cost, closed_width}
+use Rattle.textwrap_base.proofs.Common.{length, add-zero, flat_map, IsByTable, nat_tests, priced_at}
+use Rattle.textwrap_base.proofs.Common.{get_or, reverse, take_at, drop_at, arith, zero-add, eq-eqb}
+use Rattle.textwrap_base.proofs.Common.{drop-drop, drop_split, line_width, PricedSizes, length-drop}
+use Rattle.textwrap_base.proofs.Common.{slice_range, length-append, length-take-le, fragments_table}
+use Rattle.textwrap_base.proofs.Common.{All-head, All-tail, All-cons, cases_lt, take_all, entry_at}
+use Rattle.textwrap_base.proofs.Common.{IsDivision, line_cost, line_costs, AreNoLater, length-map}
 use mathlib.Core.List.{reverse_aux}
 use Rattle.textwrap_base.specs.Cost.{lines_cost, starts_from, IsChosen}
 use Rattle.textwrap_base.specs.declared.penalties.Penalties.{Penalties}
@@ -17,7 +16,7 @@ use Rattle.textwrap_base.proofs.Lists.Parts.{length-slice, some_from_nonempty, t
 use Rattle.textwrap_base.proofs.Cost.Table.{AreStarts, starts_cost, FollowBack, IsSteady}
 use Rattle.textwrap_base.proofs.Cost.Table.{table_starts, table_least, table_followed}
 use Rattle.textwrap_base.proofs.Cost.Table.{table_earliest, table-is_table, start-at}
-use Rattle.textwrap_base.proofs.Division.Greedy.{division_one, greedy_one}
+use Rattle.textwrap_base.proofs.Division.Greedy.{division_one, closed-take}
 use Rattle.textwrap_base.specs.Algorithms.{Algorithm, Greedy, LeastCost, IsDividedBy}
 use Rattle.std.proofs.lemmas.Simd.{map-map}
 use Rattle.textwrap_base.specs.Table.{table}
@@ -98,21 +97,16 @@ pub lines_more : {X : Type 0} (fragments : List X) (starts : List ℕ) (lines : 
     × All (λ line. line ≢ []) (slice_range fragments start end ∷ lines)
     × FollowStarts starts start (slice_range fragments start end ∷ lines)
 lines_more fragments starts lines start end below within at tiles some follow =
-    let len = length-slice fragments start end within in
-    grind (arith, drop_split, All-cons)
+    let len = length-slice fragments start end within in grind (arith, drop_split, All-cons)
 
 -- ---- divisions of a prefix, where all lines but the first have one width
-
-same_width : (widths : List ℕ) → AreEqualFromSecond widths → (l m : ℕ) → 1 ≤ l → 1 ≤ m
-    → line_width widths l ≡ line_width widths m
-same_width widths h l m p q = grind (arith, cases_lt)
 
 pub line_costs-steady : {X : Type 0} (priced : X → PricedSizes) (penalties : Penalties)
     (widths : List ℕ) (xs : List X) → AreEqualFromSecond widths
     → IsSteady (line_costs priced penalties widths xs)
 line_costs-steady priced penalties widths xs h i j l m p q =
     ap (λ w. line_cost priced penalties w (eqb j (length xs)) (slice_range xs i j))
-    (same_width widths h l m p q)
+    (grind (arith, cases_lt))
 
 module _ {X : Type 0} (xs : List X) (lines : List (List X)) (j : ℕ) (l : j ≤ length xs)
     (e : joined lines ≡ take j xs) where
@@ -174,10 +168,6 @@ cost_after_starts priced penalties widths (i ∷ rest) xs j after l (h, hs) =
 
 -- ---- the chosen division
 
-chosen-empty : {X : Type 0} (priced : X → PricedSizes) (penalties : Penalties) (widths : List ℕ)
-    (lines : List (List X)) → lines ≡ [] ∷ [] → IsChosen priced penalties widths [] lines
-chosen-empty {X = X} priced penalties widths lines e = grind arith
-
 -- a division of all fragments, as one of the prefix of all
 pub whole : {X : Type 0} (xs : List X) (lines : List (List X)) → 0 < length xs → IsDivision xs lines
     → (joined lines ≡ take (length xs) xs) × All (λ line. line ≢ []) lines
@@ -218,8 +208,7 @@ module _ {X : Type 0} (priced : X → PricedSizes) (penalties : Penalties) (widt
     by_table-cost : cost_of lines ≡ cost_at (length xs)
     by_table-cost =
         sym (begin_cost xs lines (length xs) (omega arith) (whole xs lines p by.division).0 priced
-        penalties widths)
-        ∙ table_followed (line_costs priced penalties widths xs) (length xs)
+        penalties widths) ∙ table_followed (line_costs priced penalties widths xs) (length xs)
         (line_costs-steady priced penalties widths xs equal)
         (starts_back lines) (length xs) (omega arith) begins follows
 
@@ -237,8 +226,7 @@ module _ {X : Type 0} (priced : X → PricedSizes) (penalties : Penalties) (widt
 pub by_table-chosen : {X : Type 0} (priced : X → PricedSizes) (penalties : Penalties)
     (widths : List ℕ) (xs : List X) (lines : List (List X)) → AreEqualFromSecond widths
     → IsByTable priced penalties widths xs lines → IsChosen priced penalties widths xs lines
-by_table-chosen priced penalties widths [] lines equal h =
-    chosen-empty priced penalties widths lines h.division
+by_table-chosen priced penalties widths [] lines equal h = grind arith
 by_table-chosen priced penalties widths (x ∷ xs) lines equal h =
     let p : 0 < length (x ∷ xs) = omega arith in
     let cost = by_table-cost priced penalties widths (x ∷ xs) lines p equal h in
@@ -274,24 +262,18 @@ module _ {X : Type 0} (priced : X → PricedSizes) (penalties : Penalties) (widt
   abbrev costs : ℕ → ℕ → ℕ → ℕ
   costs = line_costs priced penalties widths xs
 
-  cost_from_start : 1 < length xs → costs 0 (length xs) 0 ≡ penalties.nline_penalty
-  cost_from_start two =
-      grind (arith, eq-eqb, take_all, line_cost-one)
-
   cost_from : (i number : ℕ) → i < length xs → penalties.nline_penalty ≤ costs i (length xs) number
-  cost_from i number within =
-      grind (arith, line_cost-some, length-take-le, length-drop)
+  cost_from i number within = grind (arith, line_cost-some, length-take-le, length-drop)
 
   -- the table's last line starts first: a later start would have to be cheaper
   last_start : get_or (table_starts costs (length xs)) (length xs) 0 ≡ 0
   last_start =
       let entries = fragments_table priced penalties widths xs in
       let table = table-is_table costs (length xs) in
-      grind (arith, start-at, cost_from_start, cost_from)
+      grind (arith, start-at, eq-eqb, take_all, line_cost-one, cost_from)
 
   by_table_one : IsByTable priced penalties widths xs (xs ∷ [])
-  by_table_one =
-      search (division_one, zero-add, last_start)
+  by_table_one = search (division_one, zero-add, last_start)
 
 last-none : {X : Type 0} (penalties : Penalties) (sizes : X → Sizes) (xs : List X)
     → All (λ x. (sizes x).penalty ≡ 0) xs
@@ -304,9 +286,8 @@ last-none penalties sizes (x ∷ y ∷ xs) none =
 
 pub IsDividedBy-one_line : {X : Type 0} (algorithm : Algorithm) (sizes : X → Sizes)
     (widths : List ℕ) (xs : List X) → All (λ x. (sizes x).penalty ≡ 0) xs
-    → closed_width sizes xs ≤ line_width widths 0
-    → IsDividedBy algorithm sizes widths xs (xs ∷ [])
-IsDividedBy-one_line Greedy sizes widths xs none room = greedy_one sizes widths xs none room
+    → closed_width sizes xs ≤ line_width widths 0 → IsDividedBy algorithm sizes widths xs (xs ∷ [])
+IsDividedBy-one_line Greedy sizes widths xs none room = grind (arith, division_one, closed-take)
 IsDividedBy-one_line {X = X} (LeastCost penalties) sizes widths xs none room =
     search (by_table_one, last-none, by_table-chosen)
 
@@ -316,8 +297,7 @@ module _ {X Y : Type 0} (f : X → Y) (priced : Y → PricedSizes) where
   pub fragments_table-map : (penalties : Penalties) (widths : List ℕ) (xs : List X)
       → fragments_table (λ x. priced (f x)) penalties widths xs ≡ fragments_table priced penalties
       widths (map f xs)
-  fragments_table-map penalties widths xs =
-      ap (λ cost. table cost (length xs))
+  fragments_table-map penalties widths xs = ap (λ cost. table cost (length xs))
       (sym (line_costs-map (λ x. priced (f x)) penalties widths xs)
       ∙ ap (line_costs (λ (s : PricedSizes). s) penalties widths) (sym (map-map priced f xs))
       ∙ line_costs-map priced penalties widths (map f xs))
@@ -326,8 +306,7 @@ module _ {X Y : Type 0} (f : X → Y) (priced : Y → PricedSizes) where
   FollowStarts-map : (starts : List ℕ) (at : ℕ) (lines : List (List X))
       → FollowStarts starts at lines → FollowStarts starts at (map (map f) lines)
   FollowStarts-map starts at [] follow = tt
-  FollowStarts-map starts at (line ∷ lines) (here, follow) =
-      rw (length-map line f)
+  FollowStarts-map starts at (line ∷ lines) (here, follow) = rw (length-map line f)
       (here, FollowStarts-map starts (at + length line) lines follow)
 
   pub IsByOptimalFit-map : (penalties : Penalties) (widths : List ℕ) (xs : List X)

@@ -4,7 +4,7 @@ use Rattle.textwrap_base.proofs.Common.{◌∙◌, add-zero, arith, cases_lt, na
 use Rattle.textwrap_base.proofs.Common.{Bool, eqb, List, [], ◌∷◌, ◌++◌, length, get_or, take}
 use Rattle.textwrap_base.proofs.Common.{slice_range, max, sym, ap, Sizes, closed_width, open_width}
 use Rattle.textwrap_base.proofs.Common.{PricedSizes, last_break_penalty, line_cost, map, length-map}
-use Rattle.textwrap_base.proofs.Common.{sum_by-cons, total_width, line_costs, All, subst}
+use Rattle.textwrap_base.proofs.Common.{sum_by-cons, total_width, line_costs, All, subst, take-map}
 use Rattle.textwrap_base.proofs.Common.{get_or-map, All-head, All-tail, All-map, measured}
 use Rattle.textwrap_base.proofs.Common.{AreAtMost, rules, line_width, NeverFalls, fragment_costs}
 use Rattle.std.proofs.Common.{ltb}
@@ -13,12 +13,12 @@ use Rattle.textwrap_base.proofs.Division.Greedy.{open_width-append, closed_width
 use Rattle.textwrap_base.proofs.Division.Greedy.{closed_width-map}
 use Rattle.textwrap_base.proofs.Lists.Parts.{take_slice, slice_push, length-slice}
 use mathlib.Core.Path.{fun_ext}
-use Rattle.textwrap_base.proofs.Lists.Elements.{slice-map}
 use Rattle.std.proofs.lemmas.List.Sums.{sum_by-take-le}
 use Rattle.std.proofs.Math.Nat.{mul-le-mul}
 use Rattle.textwrap_base.specs.declared.minima.line_costs.Measure.{Measure}
 use Rattle.textwrap_base.proofs.Numbers.{if_le}
 use Rattle.textwrap_base.specs.Queue.{AreConvex}
+use Rattle.std.proofs.lemmas.List.{drop-map}
 
 -- ---- what it costs to miss the target
 
@@ -47,8 +47,7 @@ module _ (p : Penalties) (target : ℕ) where
   gap_cost-step : (closed more : ℕ) → gap_cost (closed + 1) + gap_cost (closed + more)
       ≤ gap_cost (closed + more + 1) + gap_cost closed
   gap_cost-step closed zero = rw add-zero (omega arith)
-  gap_cost-step closed (suc more) =
-      grind (arith, gap_cost-next, gap_cost-step closed more)
+  gap_cost-step closed (suc more) = grind (arith, gap_cost-next, gap_cost-step closed more)
 
   pub gap_cost-convex : (closed u v : ℕ) → gap_cost (closed + u) + gap_cost (closed + v)
       ≤ gap_cost (closed + u + v) + gap_cost closed
@@ -56,8 +55,7 @@ module _ (p : Penalties) (target : ℕ) where
   gap_cost-convex closed (suc u) v =
       let same : closed + suc u ≡ closed + u + 1 = omega arith in
       let next : closed + u + 1 + v ≡ closed + u + v + 1 = omega arith in
-      rw (same, next)
-      (omega (arith, gap_cost-convex closed u v, gap_cost-step (closed + u) v))
+      rw (same, next) (omega (arith, gap_cost-convex closed u v, gap_cost-step (closed + u) v))
 
 -- ---- the widths and the cost of a part of a list of fragments
 
@@ -140,16 +138,14 @@ pub line_costs-at : {X : Type 0} (priced : X → PricedSizes) (penalties : Penal
     (widths : List ℕ) (xs : List X) (i j number : ℕ)
     → line_costs (λ (s : PricedSizes). s) penalties widths (map priced xs) i j number
     ≡ line_costs priced penalties widths xs i j number
-line_costs-at priced penalties widths xs i j number =
-    search (length-map, slice-map, line_cost-map)
+line_costs-at priced penalties widths xs i j number = search (length-map, drop-map, take-map, line_cost-map)
 
 -- the costs of the priced sizes are those of the fragments
 pub line_costs-map : {X : Type 0} (priced : X → PricedSizes) (penalties : Penalties)
     (widths : List ℕ) (xs : List X)
     → line_costs (λ (s : PricedSizes). s) penalties widths (map priced xs)
     ≡ line_costs priced penalties widths xs
-line_costs-map priced penalties widths xs =
-    fun_ext (λ i. fun_ext (λ j. fun_ext
+line_costs-map priced penalties widths xs = fun_ext (λ i. fun_ext (λ j. fun_ext
     (λ number. line_costs-at priced penalties widths xs i j number)))
 
 -- ---- what one line costs at most, where its numbers keep to a limit
@@ -169,17 +165,14 @@ total_width-take {X = X} sizes xs j =
 
 module _ (limit : ℕ) where
   fit_cost-le : (p : Penalties) (t closed : ℕ) (is_last is_single : Bool) → AreAtMost limit p
-      → 1 ≤ t → t ≤ limit → closed ≤ limit
-      → fit_cost p t closed is_last is_single ≤ limit * limit
-  fit_cost-le p t closed is_last is_single h some k l =
-      grind (arith, mul-le-mul, if_le)
+      → 1 ≤ t → t ≤ limit → closed ≤ limit → fit_cost p t closed is_last is_single ≤ limit * limit
+  fit_cost-le p t closed is_last is_single h some k l = grind (arith, mul-le-mul, if_le)
 
   -- break penalties keep to the limit where those of the measures do
   break_penalties-map : {X : Type 0} (priced : X → PricedSizes) (xs : List X)
       → All (λ (p : PricedSizes). p.break_penalty ≤ limit) (map priced xs)
       → All (λ x. (priced x).break_penalty ≤ limit) xs
-  break_penalties-map priced xs all = λ k d l.
-      rw (get_or-map priced xs k d (priced d) l) at
+  break_penalties-map priced xs all = λ k d l. rw (get_or-map priced xs k d (priced d) l) at
       (all k (priced d) (omega (arith, length-map xs priced)))
 
   pub break_penalties-measured : {X : Type 0} (priced : X → PricedSizes) (measures : List Measure)
@@ -222,8 +215,7 @@ closed_width-prefix sizes xs i j d h l =
 closed_width-rises : {X : Type 0} (sizes : X → Sizes) (xs : List X) → NeverFalls sizes xs
     → (j more : ℕ) → 0 < j → j + more ≤ length xs
     → closed_width sizes (take j xs) ≤ closed_width sizes (take (j + more) xs)
-closed_width-rises sizes xs rising j zero some l =
-    rw add-zero (omega arith)
+closed_width-rises sizes xs rising j zero some l = rw add-zero (omega arith)
 closed_width-rises sizes xs rising j (suc more) some l =
     grind (arith, closed_width-rises sizes xs rising j more some (omega arith))
 
@@ -238,13 +230,11 @@ module _ {X : Type 0} (priced : X → PricedSizes) (penalties : Penalties) (widt
       ≡ penalties.nline_penalty + gap_cost penalties (max (line_width widths number) 1)
       (closed_width sizes (take j xs) - open_width sizes (take i xs)) +
       (priced (get_or xs (j - 1) d)).break_penalty
-  line_costs-inner i j number d h l =
-      grind (arith, nat_tests, closed_width-prefix, line_cost-slice)
+  line_costs-inner i j number d h l = grind (arith, nat_tests, closed_width-prefix, line_cost-slice)
 
   line_costs-convex : X → NeverFalls sizes xs
       → AreConvex (fragment_costs priced penalties widths xs)
   line_costs-convex x rising a b c d some ab bc cd within =
-      let target = max (line_width widths 1) 1 in
       let closed = closed_width sizes (take c xs) - open_width sizes (take b xs) in
       let u = open_width sizes (take b xs) - open_width sizes (take a xs) in
       let v = closed_width sizes (take d xs) - closed_width sizes (take c xs) in
@@ -268,7 +258,7 @@ module _ {X : Type 0} (priced : X → PricedSizes) (penalties : Penalties) (widt
         bd,
         ad,
       )
-      (omega (arith, gap_cost-convex penalties target closed u v))
+      (omega (arith, gap_cost-convex penalties (max (line_width widths 1) 1) closed u v))
 
 pub AreConvex-rising : {X : Type 0} (priced : X → PricedSizes) (penalties : Penalties)
     (widths : List ℕ) (xs : List X) → NeverFalls (λ x. (priced x).sizes) xs

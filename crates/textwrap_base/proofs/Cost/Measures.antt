@@ -23,8 +23,7 @@ pub open_width-total : {X : Type 0} (sizes : X → Sizes) (xs : List X) (k : ℕ
     → open_width sizes (take k xs) +
     ((sizes (get_or xs k d)).width + (sizes (get_or xs k d)).whitespace +
     (sizes (get_or xs k d)).penalty) ≤ total_width sizes xs
-open_width-total {X = X} sizes xs k d l =
-    grind (arith, sum_by_more_le_part)
+open_width-total {X = X} sizes xs k d l = grind (arith, sum_by_more_le_part)
 
 -- what a line takes by where its first fragment opens and its last one closes
 pub record TakesBySums {X : Type 0} (sizes : X → Sizes) (opened closed : ℕ) (line : List X)
@@ -47,8 +46,7 @@ pub sizes-same : {X Y : Type 0} (priced : X → PricedSizes) (others : Y → Pri
     (ys : List Y) → map priced xs ≡ map others ys
     → map (λ x. (priced x).sizes) xs ≡ map (λ y. (others y).sizes) ys
 sizes-same priced others xs ys e = sym (map-map (λ (p : PricedSizes). p.sizes) priced xs)
-    ∙ ap (map (λ (p : PricedSizes). p.sizes)) e
-    ∙ map-map (λ (p : PricedSizes). p.sizes) others ys
+    ∙ ap (map (λ (p : PricedSizes). p.sizes)) e ∙ map-map (λ (p : PricedSizes). p.sizes) others ys
 
 -- equal sizes have equal widths
 sums-same : {X Y : Type 0} (f : Sizes → ℕ) (sizes : X → Sizes) (others : Y → Sizes) (xs : List X)

@@ -18,8 +18,7 @@ target-small : (widths : List ℕ) (number : ℕ)
     → max (line_width widths number) 1 ≤ queue_limit
 target-small [] number small = omega arith
 target-small (width ∷ widths) number small =
-    let kept = small (min number (length (width ∷ widths) - 1)) (omega arith) in
-    omega (arith, kept)
+    omega (arith, small (min number (length (width ∷ widths) - 1)) (omega arith))
 
 -- the closed width of any line is at most all widths together
 closed_width-slice_le : {X : Type 0} (sizes : X → Sizes) (xs : List X) (i j : ℕ) → i ≤ j

@@ -47,8 +47,7 @@ lines_same (l ∷ m ∷ lines) (o ∷ []) at s j = cc
 lines_same (l ∷ m ∷ lines) (o ∷ p ∷ others) at s j =
     let t : starts_from (at + length l) (m ∷ lines) ≡ starts_from (at + length o) (p ∷ others) =
     ap (λ (x : List ℕ). drop 1 x) s in
-    let n = ap (λ (x : List ℕ). get_or x 0 0) t in
-    let len : length l ≡ length o = omega (arith, n) in
+    let len : length l ≡ length o = omega (arith, ap (λ (x : List ℕ). get_or x 0 0) t) in
     let parts = same_parts l o (joined (m ∷ lines)) (joined (p ∷ others)) j len in
     let next = lines_same (m ∷ lines) (p ∷ others) (at + length l)
     (t ∙ ap (λ k. starts_from (at + k) (p ∷ others)) (sym len)) parts.1 in
@@ -62,9 +61,8 @@ lines_back_same lines others back same =
     ∙ reverse-reverse (starts_from 0 others)) same
 
 pub chosen_one : {X : Type 0} (priced : X → PricedSizes) (penalties : Penalties) (widths : List ℕ)
-    (xs : List X) (lines others : List (List X))
-    → IsChosen priced penalties widths xs lines → IsChosen priced penalties widths xs others
-    → lines ≡ others
+    (xs : List X) (lines others : List (List X)) → IsChosen priced penalties widths xs lines
+    → IsChosen priced penalties widths xs others → lines ≡ others
 chosen_one priced penalties widths [] lines others h k = h.division ∙ sym k.division
 chosen_one priced penalties widths (x ∷ xs) lines others h k =
     grind (arith, starts_same, lines_back_same)
@@ -83,9 +81,8 @@ follow_one (s ∷ starts) (o ∷ others) follow j (h, hs) (k, ks) (f, fs) (g, gs
     ap (λ l. s ∷ l) rest ∙ ap (λ n. n ∷ others) (sym same)
 
 pub by_table_one : {X : Type 0} (priced : X → PricedSizes) (penalties : Penalties) (widths : List ℕ)
-    (xs : List X) (lines others : List (List X))
-    → IsByTable priced penalties widths xs lines → IsByTable priced penalties widths xs others
-    → lines ≡ others
+    (xs : List X) (lines others : List (List X)) → IsByTable priced penalties widths xs lines
+    → IsByTable priced penalties widths xs others → lines ≡ others
 by_table_one priced penalties widths [] lines others h k = h.division ∙ sym k.division
 by_table_one priced penalties widths (x ∷ xs) lines others h k =
     let all = x ∷ xs in
@@ -128,14 +125,12 @@ module _ {X : Type 0} (priced : X → PricedSizes) (penalties : Penalties) (widt
       → IsDivision (take j xs) others
       → cost_at priced penalties widths xs j ≤ cost_of priced penalties widths xs others
   entry-least zero l equal others o = omega (arith, first-costs_nothing)
-  entry-least (suc j) l equal others o =
-      grind (arith, length-take-le, division_joined, begin-least)
+  entry-least (suc j) l equal others o = grind (arith, length-take-le, division_joined, begin-least)
 
   entry-least_cost : (j : ℕ) → j ≤ length xs → AreEqualFromSecond widths
       → IsLeastCost priced penalties widths xs j (cost_at priced penalties widths xs j)
   entry-least_cost j l equal =
-      let (lines, division, reached) = entry-reached j l equal in
-      search (entry-least)
+      let (lines, division, reached) = entry-reached j l equal in search (entry-least)
 
   -- so has what is reported of it
   pub reported-least_cost : (minima : List Minimum)
@@ -177,8 +172,7 @@ module _ {X A : Type 0} (priced : X → PricedSizes) (penalties : Penalties) (wi
       → ¬ TableOverflows priced penalties widths xs
       → IsOptimalFitResult priced penalties widths xs lines (Ok value)
   optimal-returned value by none = record {
-    divided =
-        search (by_table-chosen);
+    divided = search (by_table-chosen);
     overflow_only = λ equal over. absurd over;
     ok_only = λ equal over. none (overflows-table priced penalties widths xs equal over);
     table_overflow_only = λ over. absurd over;

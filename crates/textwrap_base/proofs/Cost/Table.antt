@@ -1,17 +1,15 @@
 -- The entries of the table, which are the least ones, where it overflows, and the starts of lines
 -- that it gives.
-use Rattle.textwrap_base.proofs.Common.{◌≡◌, ◌<◌, ℕ, ◌+◌, ◌≤◌, arith, counted, table_steps, zero}
-use Rattle.textwrap_base.proofs.Common.{suc, ◌^◌, true, false, if◌then◌else◌, List, length, Option}
-use Rattle.textwrap_base.proofs.Common.{Some, None, SomeIff, refl, ◌∙◌, length_push, get_or_push}
-use Rattle.textwrap_base.proofs.Common.{get_or_append_left, lt-ltb, le-ltb, first_entry, entry_from}
-use Rattle.textwrap_base.proofs.Common.{entry_at, IsLeastBelow, [], ◌∷◌, ◌++◌, inl, inr, add-one}
-use Rattle.textwrap_base.proofs.Common.{ap, cases_eq, ◌-◌, eqb, get_or, take, min, All, Result, Ok}
-use Rattle.textwrap_base.proofs.Common.{Err, IsErrAnd, All-take, Sizes, line_width, PricedSizes}
-use Rattle.textwrap_base.proofs.Common.{total_width, Overflowed, AreAtMost, line_costs}
-use Rattle.textwrap_base.proofs.Common.{fragments_table, map, sym, subst, ⊤, get_or-map, AreNoLater}
-use Rattle.textwrap_base.proofs.Common.{length-map, minimum_of}
+use Rattle.textwrap_base.proofs.Common.{◌≡◌, ◌<◌, ℕ, ◌+◌, ◌≤◌, suc, ◌^◌, refl, ◌∙◌, ◌∷◌, ◌++◌, take}
+use Rattle.textwrap_base.proofs.Common.{arith, List, Some, None, Result, Sizes, subst}
+use Rattle.textwrap_base.proofs.Common.{counted, get_or_append_left, fragments_table}
+use Rattle.textwrap_base.proofs.Common.{table_steps, length, length_push, get_or_push, IsLeastBelow}
+use Rattle.textwrap_base.proofs.Common.{zero, cases_eq, IsErrAnd, AreAtMost, length-map, minimum_of}
+use Rattle.textwrap_base.proofs.Common.{Option, SomeIff, lt-ltb, le-ltb, add-one, get_or, All-take}
+use Rattle.textwrap_base.proofs.Common.{first_entry, entry_from, entry_at, PricedSizes, total_width}
+use Rattle.textwrap_base.proofs.Common.{[], inl, inr, ap, ◌-◌, eqb, min, All, Ok, Err, map, sym, ⊤}
+use Rattle.textwrap_base.proofs.Common.{line_width, Overflowed, line_costs, get_or-map, AreNoLater}
 use Rattle.std.proofs.Math.Nat.{mul-le-mul}
-use Rattle.std.proofs.Common.{ltb}
 use Rattle.textwrap_base.specs.Table.{cheaper, cheaper_of, cheapest, table, IsBestBelow, IsTable}
 use Rattle.textwrap_base.specs.declared.minima.table.Entry.{Entry}
 use Rattle.textwrap_base.proofs.Numbers.{past_from_not}
@@ -55,15 +53,13 @@ length-table cost (suc n) =
 pub entry-table_more : (cost : ℕ → ℕ → ℕ → ℕ) (n j : ℕ) → j ≤ n
     → entry_at (table cost (suc n)) j ≡ entry_at (table cost n) j
 unfolding table
-entry-table_more cost n j h =
-    grind (arith, length-table, get_or_append_left)
+entry-table_more cost n j h = grind (arith, length-table, get_or_append_left)
 
 -- its last entry is the cheapest
 pub entry-table_last : (cost : ℕ → ℕ → ℕ → ℕ) (n : ℕ)
     → entry_at (table cost (suc n)) (suc n) ≡ cheapest cost n (table cost n) (suc n)
 unfolding table
-entry-table_last cost n =
-    grind (arith, length-table, get_or_push)
+entry-table_last cost n = grind (arith, length-table, get_or_push)
 
 pub entry-table_first : (cost : ℕ → ℕ → ℕ → ℕ) (n : ℕ) → entry_at (table cost n) 0 ≡ first_entry
 unfolding table
@@ -72,24 +68,7 @@ entry-table_first cost (suc n) = entry-table_more cost n 0 (omega arith) ∙ ent
 
 -- ---- one start more
 
-cheaper_fits : (e c : Entry) → e.cost < 2 ^ 128 → c.cost < 2 ^ 128 → (cheaper e c).cost < 2 ^ 128
-cheaper_fits e c h k = elim (ltb c.cost e.cost) as (λ b. (if b then c else e).cost < 2 ^ 128)
-    [ true ↦ k | false ↦ h ]
-
 module _ (cost : ℕ → ℕ → ℕ → ℕ) (entries : List Entry) (end : ℕ) where
-  -- the new start is the cheapest where all before it are dearer
-  pub least_new : (m : ℕ) → ((i : ℕ) → i < m
-      → (entry_from cost m (entry_at entries m) end).cost <
-      (entry_from cost i (entry_at entries i) end).cost)
-      → IsLeastBelow cost entries end (m + 1) (entry_from cost m (entry_at entries m) end)
-  least_new m dearer = grind arith
-
-  -- the old one stays where the new start is no cheaper
-  pub least_old : (m : ℕ) (e : Entry) → IsLeastBelow cost entries end m e
-      → e.cost ≤ (entry_from cost m (entry_at entries m) end).cost
-      → IsLeastBelow cost entries end (m + 1) e
-  least_old m e h dearer = grind arith
-
   pub least_cheaper : (m : ℕ) (e : Entry) → IsLeastBelow cost entries end m e
       → IsLeastBelow cost entries end (m + 1)
       (cheaper e (entry_from cost m (entry_at entries m) end))
@@ -101,12 +80,9 @@ module _ (cost : ℕ → ℕ → ℕ → ℕ) (entries : List Entry) (end : ℕ)
       (entry_from cost m (entry_at entries m) end)
       → IsBestBelow cost entries end (m + 1) (cheaper_of best other)
   best_more m None None h misses = λ i l. let past = past_from_not _ misses in grind (arith, h i)
-  best_more m None (Some c) h (fits, is) =
-      rw is (least_new m (λ i l. let k = h i l in omega (arith, fits)), fits)
-  best_more m (Some e) None (h, fits) misses =
-      (least_old m e h (let k = past_from_not _ misses in omega (arith, fits)), fits)
-  best_more m (Some e) (Some c) (h, fits) (fits_new, is) =
-      grind (arith, least_cheaper, cheaper_fits)
+  best_more m None (Some c) h (fits, is) = rw is (grind arith, fits)
+  best_more m (Some e) None (h, fits) misses = (grind arith, fits)
+  best_more m (Some e) (Some c) (h, fits) (fits_new, is) = grind (arith, least_cheaper)
 
 -- ---- each entry of the table is the least
 
@@ -121,8 +97,7 @@ cheapest-least (suc m) cost entries end =
 -- only one entry is the least
 pub least_one : (cost : ℕ → ℕ → ℕ → ℕ) (entries : List Entry) (end m : ℕ) (e f : Entry)
     → IsLeastBelow cost entries end m e → IsLeastBelow cost entries end m f → e ≡ f
-least_one cost entries end m e f h k =
-    grind arith
+least_one cost entries end m e f h k = grind arith
 
 -- an entry of the table is the least of what the entries before it give
 pub table-least : (cost : ℕ → ℕ → ℕ → ℕ) (n j : ℕ) → j < n
@@ -139,8 +114,7 @@ pub entry-table_longer : (cost : ℕ → ℕ → ℕ → ℕ) (n j k : ℕ) → 
 entry-table_longer cost zero j k h l = let e : j ≡ zero = omega arith in rw e refl
 entry-table_longer cost (suc n) j k h l = elim (cases_eq j (suc n)) [
   | inl e ↦ rw e refl
-  | inr ne ↦ entry-table_more cost n k (omega arith)
-      ∙ entry-table_longer cost n j k h (omega arith)
+  | inr ne ↦ entry-table_more cost n k (omega arith) ∙ entry-table_longer cost n j k h (omega arith)
 ]
 
 -- the line after j fragments has a number of at most j
@@ -163,16 +137,14 @@ pub table_next : (cost : ℕ → ℕ → ℕ → ℕ) (n : ℕ) (e : Entry)
     → IsLeastBelow cost (table cost n) (n + 1) (n + 1) e
     → table cost n ++ e ∷ [] ≡ table cost (n + 1)
 unfolding table
-table_next cost n e h =
-    grind (arith, add-one, least_one, cheapest-least)
+table_next cost n e h = grind (arith, add-one, least_one, cheapest-least)
 
 -- where no start gives a cost that fits, the next entry does not fit
 pub table_past : (cost : ℕ → ℕ → ℕ → ℕ) (n m : ℕ) → n < m
     → ((i : ℕ) → i < n + 1 → 2 ^ 128 ≤ (entry_from cost i (entry_at (table cost n) i) (n + 1)).cost)
     → 2 ^ 128 ≤ (entry_at (table cost m) (n + 1)).cost
 table_past cost n m l past =
-    let h = table-least cost m n l in
-    grind (arith, add-one)
+    let h = table-least cost m n l in grind (arith, add-one)
 
 pub table_fits : (cost : ℕ → ℕ → ℕ → ℕ) (n : ℕ) (e : Entry)
     → table cost n ++ e ∷ [] ≡ table cost (n + 1) → e.cost < 2 ^ 128
@@ -188,8 +160,7 @@ table_fits cost n e is fits all j l = elim (cases_eq j (n + 1)) [
 -- one line is a division of each prefix
 pub one_line : (cost : ℕ → ℕ → ℕ → ℕ) (n j : ℕ) → j < n
     → (entry_at (table cost n) (suc j)).cost ≤ cost 0 (suc j) 0
-one_line cost n j l =
-    grind (arith, table-least, entry-table_first)
+one_line cost n j l = grind (arith, table-least, entry-table_first)
 
 -- where all widths together keep to 64 bits, each entry keeps to 128
 pub table-fits : {X : Type 0} (priced : X → PricedSizes) (p : Penalties) (widths : List ℕ)
@@ -199,14 +170,13 @@ pub table-fits : {X : Type 0} (priced : X → PricedSizes) (p : Penalties) (widt
 table-fits priced p widths xs h breaks k l zero b = grind (arith, entry-table_first)
 table-fits {X = X} priced p widths xs h breaks k l (suc j) b =
     let sizes : X → Sizes = λ x. (priced x).sizes in
-    let one = one_line (line_costs priced p widths xs) (length xs) j b in
     let part = total_width-take sizes xs (suc j - 0) in
     let closed = closed_width-le sizes (take (suc j - 0) xs) in
     let width = k (min 0 (length widths - 1)) in
     let fits = line_cost-le (2 ^ 64 - 1) priced p (line_width widths 0) (eqb (suc j) (length xs))
     (take (suc j - 0) xs) h (All-take (λ x. (priced x).break_penalty ≤ 2 ^ 64 - 1)
     (suc j - 0) xs breaks) (omega (arith, width)) (omega (arith, part, closed)) in
-    omega (arith, one, fits)
+    omega (arith, one_line (line_costs priced p widths xs) (length xs) j b, fits)
 
 -- an error that is passed on
 pub overflowed_on : {A : Type 0} (B : Type 0) (r : Result A WrapError) (e : WrapError)
@@ -245,11 +215,8 @@ least_entries : (cost : ℕ → ℕ → ℕ → ℕ) (entries others : List Entr
 least_entries cost entries others end m e same h = grind arith
 
 pub table-is_table : (cost : ℕ → ℕ → ℕ → ℕ) (n : ℕ) → IsTable cost n (table cost n)
-table-is_table cost n = record {
-  len = length-table cost n;
-  first = entry-table_first cost n;
-  later = later;
-}
+table-is_table cost n =
+    record { len = length-table cost n; first = entry-table_first cost n; later = later }
   where
     later : (j : ℕ) → 0 < j → j ≤ n
         → IsLeastBelow cost (table cost n) j j (entry_at (table cost n) j)
@@ -280,8 +247,7 @@ module _ (cost : ℕ → ℕ → ℕ → ℕ) (n : ℕ) (steady : IsSteady cost)
   cost_after : (rest : List ℕ) (i j : ℕ) → i ≤ n → AreStarts rest i
       → cost i j (length rest) ≡ cost i j (entry_at entries i).line_number
   cost_after [] i j l h = rw (h, is.first) refl
-  cost_after (k ∷ rest) i j l (h, hs) =
-      grind (arith, is)
+  cost_after (k ∷ rest) i j l (h, hs) = grind (arith, is)
 
   pub table_least : (starts : List ℕ) (j : ℕ) → j ≤ n → AreStarts starts j
       → (entry_at entries j).cost ≤ starts_cost starts cost j
@@ -308,9 +274,8 @@ module _ (cost : ℕ → ℕ → ℕ → ℕ) (n : ℕ) (steady : IsSteady cost)
       let before = table_least others i (omega arith) os in
       let no_less : i < s → ⊥ = λ k. let dearer = later.first i (omega (arith, start, k)) in
       omega (arith, dearer, after, before, e) in
-      let least = later.least i o in
       let same : starts_cost others cost i ≡ (entry_at entries i).cost =
-      omega (arith, least, after, before, e) in
+      omega (arith, later.least i o, after, before, e) in
       elim (cases_eq s i) [
         | inl q ↦ inr (
           q,
@@ -350,8 +315,7 @@ module _ (cost : ℕ → ℕ → ℕ → ℕ) (n : ℕ) (minima : List Minimum)
 
   pub cost_reported : (j : ℕ) → j ≤ n
       → get_or (map (λ (m : Minimum). m.cost) minima) j 0 ≡ (entry_at (table cost n) j).cost
-  cost_reported j l =
-      grind (arith, length-table, map-map, get_or-map)
+  cost_reported j l = grind (arith, length-table, map-map, get_or-map)
 
   pub length_reported : length minima ≡ n + 1
   length_reported = ap length reported ∙ length-map (table cost n) minimum_of ∙ length-table cost n

@@ -1,16 +1,15 @@
 -- First fit: the widths of lines, the greedy division, which is the only one and has the fewest
 -- lines.
-use Rattle.textwrap_base.proofs.Common.{◌≡◌, ℕ, ◌+◌, ◌-◌, ◌<◌, List, [], ◌∷◌, ◌++◌, length, get_or}
-use Rattle.textwrap_base.proofs.Common.{map, take, refl, sym, ap, ◌∙◌, arith, take_more}
-use Rattle.textwrap_base.proofs.Common.{sum_by-cons, sum_by-append, Sizes, closed_width, open_width}
-use Rattle.textwrap_base.proofs.Common.{zero, suc, min, add-one, line_width, AllFit, AllFull}
-use Rattle.textwrap_base.proofs.Common.{IsGreedy, AreEqualFromSecond, ◌≤◌, All, append-nil, All-nil}
-use Rattle.textwrap_base.proofs.Common.{All-cons, All-head, All-tail, IsDivision, ◌≢◌, drop, inl}
-use Rattle.textwrap_base.proofs.Common.{inr, add-zero, length-drop, length-append, take-append-drop}
-use Rattle.textwrap_base.proofs.Common.{append_assoc, flat_map, take-append-add, take_all}
-use Rattle.textwrap_base.proofs.Common.{take-append-le, length_push, length-take-le}
-use Rattle.textwrap_base.proofs.Common.{nil_from_length, get_or-drop, cases_lt, Fits, subst, rules}
-use Rattle.textwrap_base.proofs.Common.{drop_at}
+use Rattle.textwrap_base.proofs.Common.{◌≡◌, ◌+◌, ◌-◌, ◌<◌, ◌∷◌, map, sym, ◌∙◌, suc, min, ◌≤◌, Fits}
+use Rattle.textwrap_base.proofs.Common.{ℕ, sum_by-append, closed_width, length-append, append_assoc}
+use Rattle.textwrap_base.proofs.Common.{List, AreEqualFromSecond, take-append-drop, take-append-add}
+use Rattle.textwrap_base.proofs.Common.{[], take_more, line_width, IsGreedy, append-nil, IsDivision}
+use Rattle.textwrap_base.proofs.Common.{◌++◌, take, refl, arith, Sizes, zero, drop, subst, rules}
+use Rattle.textwrap_base.proofs.Common.{length, get_or, AllFit, AllFull, All-nil, cases_lt, drop_at}
+use Rattle.textwrap_base.proofs.Common.{ap, All, ◌≢◌, inl, inr}
+use Rattle.textwrap_base.proofs.Common.{sum_by-cons, add-one, length-drop, length_push, get_or-drop}
+use Rattle.textwrap_base.proofs.Common.{open_width, take-append-le, length-take-le}
+use Rattle.textwrap_base.proofs.Common.{All-cons, All-head, All-tail, add-zero, flat_map, take_all}
 use Rattle.textwrap_base.proofs.Lists.Parts.{some_from_nonempty, flat, same_parts}
 use Rattle.std.proofs.lemmas.List.{drop-append-le}
 use Rattle.textwrap_base.specs.Division.{IsAdmissible}
@@ -32,8 +31,7 @@ module _ {X : Type 0} (sizes : X → Sizes) where
   closed_width-push [] x = omega arith
   closed_width-push (y ∷ []) x = omega arith
   closed_width-push (y ∷ z ∷ xs) x =
-      let e = open_width-cons y (z ∷ xs) in
-      let h = closed_width-push (z ∷ xs) x in omega (arith, e, h)
+      let h = closed_width-push (z ∷ xs) x in omega (arith, open_width-cons y (z ∷ xs), h)
 
   -- the first i fragments and the one at i
   pub take_one_more : (xs : List X) (i : ℕ) (x : X) → i < length xs → x ≡ get_or xs i x
@@ -129,10 +127,6 @@ module _ {X : Type 0} (sizes : X → Sizes) where
   closed-take (x ∷ y ∷ xs) (suc (suc k)) none = let rest =
       closed-take (y ∷ xs) (suc k) (All-tail HasNone x (y ∷ xs) none) in omega (arith, rest)
 
-  pub greedy_one : (widths : List ℕ) (xs : List X) → All HasNone xs
-      → closed_width sizes xs ≤ line_width widths 0 → IsGreedy sizes widths xs (xs ∷ [])
-  greedy_one widths xs none room = grind (arith, division_one, closed-take)
-
 -- ---- lemmas on lines that fit, and on greedy divisions
 
 module _ {X : Type 0} (sizes : X → Sizes) where
@@ -191,11 +185,6 @@ pub record IsGreedyFrom {X : Type 0} (sizes : X → Sizes) (widths : List ℕ) (
   pub full : AllFull sizes widths number lines
 
 module _ {X : Type 0} (sizes : X → Sizes) (widths : List ℕ) where
-  pub IsGreedyFrom-nil : (number : ℕ) (xs : List X) → length xs ≡ 0
-      → IsGreedyFrom sizes widths number xs []
-  IsGreedyFrom-nil number xs empty =
-      grind (arith, nil_from_length, All-nil)
-
   full-cons : (number : ℕ) (xs : List X) (n : ℕ)
       → (n < length xs → line_width widths number < closed_width sizes (take (n + 1) xs))
       → (tail : List (List X))
@@ -215,8 +204,7 @@ module _ {X : Type 0} (sizes : X → Sizes) (widths : List ℕ) where
   pub IsGreedyFrom-cons : (number : ℕ) (xs : List X) (n : ℕ) → 0 < n → n ≤ length xs
       → Fits sizes (line_width widths number) (take n xs)
       → (n < length xs → line_width widths number < closed_width sizes (take (n + 1) xs))
-      → (tail : List (List X))
-      → IsGreedyFrom sizes widths (number + 1) (drop n xs) tail
+      → (tail : List (List X)) → IsGreedyFrom sizes widths (number + 1) (drop n xs) tail
       → IsGreedyFrom sizes widths number xs (take n xs ∷ tail)
   IsGreedyFrom-cons number xs n some within fits full tail rest =
       grind (arith, take-append-drop, full-cons)
@@ -224,8 +212,7 @@ module _ {X : Type 0} (sizes : X → Sizes) (widths : List ℕ) where
   pub IsGreedy-from : (xs : List X) (lines : List (List X)) → 0 < length xs
       → IsGreedyFrom sizes widths 0 xs lines → IsGreedy sizes widths xs lines
   IsGreedy-from [] lines some greedy = absurd (omega arith)
-  IsGreedy-from (x ∷ xs) lines some greedy =
-      grind arith
+  IsGreedy-from (x ∷ xs) lines some greedy = grind arith
 
 -- ---- a list of fragments has at most one greedy division
 
@@ -249,8 +236,7 @@ module _ {X : Type 0} (sizes : X → Sizes) (widths : List ℕ) where
   not_shorter : (number : ℕ) (xs line other : List X) (lines others : List (List X))
       → IsGreedyFrom sizes widths number xs (line ∷ lines)
       → IsGreedyFrom sizes widths number xs (other ∷ others) → length line < length other → ⊥
-  not_shorter number xs line other [] others first second short =
-      search (rules, length-append)
+  not_shorter number xs line other [] others first second short = search (rules, length-append)
   not_shorter number xs line other (next ∷ lines) others first second short =
       let later = All-tail (λ l. l ≢ []) line (next ∷ lines) first.nonempty in
       let within : length other ≤ length line =
@@ -287,8 +273,7 @@ module _ {X : Type 0} (sizes : X → Sizes) (widths : List ℕ) where
 
   from_IsGreedy : (x : X) (xs : List X) (lines : List (List X))
       → IsGreedy sizes widths (x ∷ xs) lines → IsGreedyFrom sizes widths 0 (x ∷ xs) lines
-  from_IsGreedy x xs lines greedy =
-      grind arith
+  from_IsGreedy x xs lines greedy = grind arith
 
   pub greedy_unique : (xs : List X) (first second : List (List X)) → IsGreedy sizes widths xs first
       → IsGreedy sizes widths xs second → first ≡ second
@@ -306,14 +291,13 @@ module _ {X : Type 0} (sizes : X → Sizes) (widths : List ℕ) where
       → AllFull sizes widths number lines → AllFit sizes widths number others
       → length lines ≤ length others
   fewest_from number before [] others same some full fit = omega arith
-  fewest_from number before (line ∷ lines) [] same some full fit =
-      omega (
-        arith,
-        ap length same,
-        length-append before (line ++ flat lines),
-        length-append line (flat lines),
-        some_from_nonempty line (All-head (λ l. l ≢ []) line lines some),
-      )
+  fewest_from number before (line ∷ lines) [] same some full fit = omega (
+    arith,
+    ap length same,
+    length-append before (line ++ flat lines),
+    length-append line (flat lines),
+    some_from_nonempty line (All-head (λ l. l ≢ []) line lines some),
+  )
   fewest_from number before (line ∷ []) (other ∷ others) same some full fit = omega arith
   fewest_from number before (line ∷ next ∷ lines) (other ∷ others) same some full fit =
       let later : All (λ l. l ≢ []) (next ∷ lines) =
@@ -329,12 +313,10 @@ module _ {X : Type 0} (sizes : X → Sizes) (widths : List ℕ) where
       others left later full.1 fit.1 in
       grind arith
 
-  pub greedy_fewest : (xs : List X) (lines others : List (List X))
-      → IsGreedy sizes widths xs lines → IsAdmissible sizes widths xs others
-      → length lines ≤ length others
+  pub greedy_fewest : (xs : List X) (lines others : List (List X)) → IsGreedy sizes widths xs lines
+      → IsAdmissible sizes widths xs others → length lines ≤ length others
   greedy_fewest [] lines others greedy admissible =
       omega (arith, ap length greedy.admissible.division, ap length admissible.division)
-  greedy_fewest (x ∷ xs) lines others greedy admissible =
-      fewest_from 0 [] lines others
+  greedy_fewest (x ∷ xs) lines others greedy admissible = fewest_from 0 [] lines others
       (admissible.division.0 ∙ sym greedy.admissible.division.0) greedy.admissible.division.1
       greedy.full admissible.fit

@@ -21,19 +21,16 @@ module _ {X : Type 0} (sizes : X → Sizes) where
   not_full : (width : ℕ) (x : X) (line : List X)
       → (0 < length line → closed_width sizes (line ++ x ∷ []) ≤ width) → is_full width line x ≡ false
   not_full width x [] room = refl
-  not_full width x (y ∷ line) room =
-      and_right (nat_lt 0 (length (y ∷ line))) _
+  not_full width x (y ∷ line) room = and_right (nat_lt 0 (length (y ∷ line))) _
       (le-ltb width (closed_width sizes ((y ∷ line) ++ x ∷ [])) (room (omega arith)))
 
   -- where all fragments fit one line, no prefix of them is full
   pub prefix-closes : (width : ℕ) (line : List X) (x : X) (xs : List X)
       → Fits sizes width (line ++ x ∷ xs)
       → 0 < length line → closed_width sizes (line ++ x ∷ []) ≤ width
-  prefix-closes width line x xs fits some =
-      let len = length_push line x in
-      subst (λ l. closed_width sizes l ≤ width)
+  prefix-closes width line x xs fits some = subst (λ l. closed_width sizes l ≤ width)
       (ap (take (length line + 1)) (sym (append_assoc line (x ∷ []) xs))
-      ∙ take_at (line ++ x ∷ []) xs (length line + 1) len)
+      ∙ take_at (line ++ x ∷ []) xs (length line + 1) (length_push line x))
       (fits (length line + 1) (omega (arith, some)) (omega (arith, length-append line (x ∷ xs))))
 
 module _ {X : Type 0} (sizes : X → Sizes) (later : ℕ) where
@@ -41,21 +38,18 @@ module _ {X : Type 0} (sizes : X → Sizes) (later : ℕ) where
   -- of its own, and the lines after it have the later one
   abbrev pub grown : ℕ → List X → List X → List (List X)
   grown width [] line = line ∷ []
-  grown width (x ∷ xs) line =
-      if is_full sizes width line x then line ∷ grown later xs (x ∷ [])
+  grown width (x ∷ xs) line = if is_full sizes width line x then line ∷ grown later xs (x ∷ [])
       else grown width xs (line ++ x ∷ [])
 
   pub grown-full : (width : ℕ) (x : X) (xs line : List X) → 0 < length line
       → width < closed_width sizes (line ++ x ∷ [])
       → grown width (x ∷ xs) line ≡ line ∷ grown later xs (x ∷ [])
-  grown-full width x xs line some over =
-      search (cond-true, and_from, lt-ltb)
+  grown-full width x xs line some over = search (cond-true, and_from, lt-ltb)
 
   pub grown-room : (width : ℕ) (x : X) (xs line : List X)
       → (0 < length line → closed_width sizes (line ++ x ∷ []) ≤ width)
       → grown width (x ∷ xs) line ≡ grown width xs (line ++ x ∷ [])
-  grown-room width x xs line room =
-      search (cond-false, not_full)
+  grown-room width x xs line room = search (cond-false, not_full)
 
   abbrev Begins : List X → List (List X) → Type 0
   Begins line lines = (more : List X) × (rest : List (List X)) × (lines ≡ (line ++ more) ∷ rest)
@@ -66,8 +60,7 @@ module _ {X : Type 0} (sizes : X → Sizes) (later : ℕ) where
   grown-begins width (x ∷ xs) line =
       let next = grown later xs (x ∷ []) in
       cond_both (is_full sizes width line x) (line ∷ next) (grown width xs (line ++ x ∷ []))
-      (Begins line)
-      (λ full. ([], next, ap (λ l. l ∷ next) (sym (append-nil line))))
+      (Begins line) (λ full. ([], next, ap (λ l. l ∷ next) (sym (append-nil line))))
       (grind (arith, append_assoc, grown-begins width xs (line ++ x ∷ [])))
 
 -- ---- lines that are found fragment by fragment are the greedy division
@@ -83,12 +76,6 @@ module _ {X : Type 0} (sizes : X → Sizes) (later : ℕ) (widths : List ℕ)
         → AllFit sizes widths n lines
     pub full : (n : ℕ) → line_width widths n ≡ width → AllFull sizes widths n lines
 
-  Fits-one : (width : ℕ) (x : X) → Fits sizes width (x ∷ [])
-  Fits-one width x k two within = absurd (omega (arith, two, within))
-
-  AreGrown-last : (width : ℕ) (line : List X) → AreGrown width [] line (line ∷ [])
-  AreGrown-last width line = grind (arith, All-cons, append-nil, All-nil)
-
   AreGrown-full : (width : ℕ) (x : X) (xs line : List X) → is_full sizes width line x ≡ true
       → AreGrown later xs (x ∷ []) (grown sizes later later xs (x ∷ []))
       → AreGrown width (x ∷ xs) line (line ∷ grown sizes later later xs (x ∷ []))
@@ -96,17 +83,16 @@ module _ {X : Type 0} (sizes : X → Sizes) (later : ℕ) (widths : List ℕ)
       let closed = closed_width sizes (line ++ x ∷ []) in
       let (some, over) = and_parts (nat_lt 0 (length line)) (nat_lt width closed) at_end in
       let (more, rest, is) = grown-begins sizes later later xs (x ∷ []) in
-      grind (arith, All-cons, ltb-true, Fits-one)
+      grind (arith, All-cons, ltb-true)
 
   AreGrown-room : (width : ℕ) (x : X) (xs line : List X) (lines : List (List X))
       → is_full sizes width line x ≡ false
       → AreGrown width xs (line ++ x ∷ []) lines → AreGrown width (x ∷ xs) line lines
-  AreGrown-room width x xs line lines room after =
-      grind (arith, append_assoc, Fits-push)
+  AreGrown-room width x xs line lines room after = grind (arith, append_assoc, Fits-push)
 
   are_grown : (width : ℕ) (xs line : List X)
       → AreGrown width xs line (grown sizes later width xs line)
-  are_grown width [] line = AreGrown-last width line
+  are_grown width [] line = grind (arith, All-cons, append-nil, All-nil)
   are_grown width (x ∷ xs) line =
       let next = grown sizes later later xs (x ∷ []) in
       let same = grown sizes later width xs (line ++ x ∷ []) in
@@ -122,5 +108,4 @@ module _ {X : Type 0} (sizes : X → Sizes) (later : ℕ) (widths : List ℕ)
       → IsGreedy sizes widths xs (grown sizes later first xs [])
   grown-greedy first same [] = search (Fits-none)
   grown-greedy first same (x ∷ xs) =
-      let lines = are_grown first (x ∷ xs) [] in
-      grind (arith, IsGreedy-from, Fits-none)
+      let lines = are_grown first (x ∷ xs) [] in grind (arith, IsGreedy-from, Fits-none)

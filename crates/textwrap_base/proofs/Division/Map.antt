@@ -1,36 +1,30 @@
 -- A division of fragments is one of what a function makes of them.
 use Rattle.textwrap_base.proofs.Common.{◌≡◌, ◌≢◌, ℕ, ◌+◌, ◌<◌, List, [], ◌∷◌, ◌++◌, take, map, All}
 use Rattle.textwrap_base.proofs.Common.{refl, sym, ap, ◌∙◌, arith, length, flat_map, map-append}
-use Rattle.textwrap_base.proofs.Common.{length-map, take-map, All-map, get_or, Sizes, line_width}
-use Rattle.textwrap_base.proofs.Common.{closed_width, IsDivision, Fits, AllFit, AllFull, IsGreedy}
+use Rattle.textwrap_base.proofs.Common.{length-map, take-map, All-map, get_or, Sizes}
+use Rattle.textwrap_base.proofs.Common.{closed_width, IsDivision, AllFit, AllFull}
 use Rattle.textwrap_base.proofs.Common.{priced_at}
 use Rattle.textwrap_base.specs.Algorithms.{Algorithm, Greedy, LeastCost, IsDividedBy}
 use Rattle.textwrap_base.proofs.Division.Greedy.{closed_width-map}
 use Rattle.textwrap_base.proofs.Cost.Chosen.{IsByOptimalFit-map}
 
 module _ {X Y : Type 0} (f : X → Y) (sizes : Y → Sizes) where
-  Fits-map : (width : ℕ) (line : List X) → Fits (λ x. sizes (f x)) width line
-      → Fits sizes width (map f line)
-  Fits-map width line fits k two within =
-      rw (take-map f k line, closed_width-map f sizes (take k line))
-      (fits k two (omega (arith, length-map line f)))
-
   AllFit-map : (widths : List ℕ) (number : ℕ) (lines : List (List X))
       → AllFit (λ x. sizes (f x)) widths number lines
       → AllFit sizes widths number (map (map f) lines)
   AllFit-map widths number [] fit = tt
   AllFit-map widths number (line ∷ lines) fit =
-      (Fits-map (line_width widths number) line fit.0, AllFit-map widths (number + 1) lines fit.1)
+      let rest = AllFit-map widths (number + 1) lines fit.1 in
+      (grind (arith, take-map, closed_width-map, length-map), rest)
 
   full-map : (width : ℕ) (line next : List X)
       → width < closed_width (λ x. sizes (f x)) (line ++ take 1 next)
       → width < closed_width sizes (map f line ++ take 1 (map f next))
-  full-map width line next full =
-      rw (
-        take-map f 1 next,
-        ← map-append f line (take 1 next),
-        closed_width-map f sizes (line ++ take 1 next),
-      ) full
+  full-map width line next full = rw (
+    take-map f 1 next,
+    ← map-append f line (take 1 next),
+    closed_width-map f sizes (line ++ take 1 next),
+  ) full
 
   AllFull-map : (widths : List ℕ) (number : ℕ) (lines : List (List X))
       → AllFull (λ x. sizes (f x)) widths number lines
@@ -61,15 +55,10 @@ module _ {X Y : Type 0} (f : X → Y) (sizes : Y → Sizes) where
   IsDivision-map (x ∷ xs) lines division =
       (join-map lines ∙ ap (map f) division.0, all_nonempty-map lines division.1)
 
-  pub IsGreedy-map : (widths : List ℕ) (xs : List X) (lines : List (List X))
-      → IsGreedy (λ x. sizes (f x)) widths xs lines
-      → IsGreedy sizes widths (map f xs) (map (map f) lines)
-  IsGreedy-map widths xs lines greedy = search (IsDivision-map, AllFit-map, AllFull-map)
-
   pub IsDividedBy-map : (algorithm : Algorithm) (widths : List ℕ) (xs : List X)
       (lines : List (List X)) → IsDividedBy algorithm (λ x. sizes (f x)) widths xs lines
       → IsDividedBy algorithm sizes widths (map f xs) (map (map f) lines)
-  IsDividedBy-map Greedy widths xs lines divided = IsGreedy-map widths xs lines divided
+  IsDividedBy-map Greedy widths xs lines divided = search (IsDivision-map, AllFit-map, AllFull-map)
   IsDividedBy-map (LeastCost penalties) widths xs lines divided =
       IsByOptimalFit-map f (λ y. priced_at penalties (sizes y)) penalties widths xs lines
       (IsDivision-map xs lines divided.by_table.division) divided

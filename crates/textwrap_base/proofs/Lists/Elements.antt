@@ -1,17 +1,16 @@
 -- The elements of lists: what functions make of them, what a list contains, and lists of numbers in
 -- order.
-use Rattle.textwrap_base.proofs.Common.{◌≡◌, List, [], ◌∷◌, ◌++◌, map, ap, ◌∙◌, reverse, refl, ℕ}
-use Rattle.textwrap_base.proofs.Common.{◌-◌, take, drop, slice_range, ◌+◌, ◌<◌, length, get_or, sym}
-use Rattle.textwrap_base.proofs.Common.{arith, map-append, append_assoc, map_push, reverse-append}
-use Rattle.textwrap_base.proofs.Common.{take-map, drop_at, take_more, map-id, flat_map}
-use Rattle.textwrap_base.proofs.Common.{join_with_byte, ◌≤◌, Bool, true, false, cond, zero, suc}
-use Rattle.textwrap_base.proofs.Common.{filter, All, range_with_len, IsNonDecreasing, append-nil}
-use Rattle.textwrap_base.proofs.Common.{map-range_with_len_more, ◌*◌, length-append, repeat, ◌⊎◌}
-use Rattle.textwrap_base.proofs.Common.{Contains, inl, inr, ◌==◌, Result, Ok, Err, list_any}
-use Rattle.textwrap_base.proofs.Common.{cases_lt, eqb-true, eq-eqb, ne_eqb, false≢true, cases_eq}
-use Rattle.textwrap_base.proofs.Common.{get_or_default, All-from_get_or}
+use Rattle.textwrap_base.proofs.Common.{◌≡◌, ◌++◌, refl, take, arith, false, Result, eq-eqb, ne_eqb}
+use Rattle.textwrap_base.proofs.Common.{List, map_push, take_more, append-nil, false≢true}
+use Rattle.textwrap_base.proofs.Common.{[], map-append, append_assoc, length-append, get_or_default}
+use Rattle.textwrap_base.proofs.Common.{◌∷◌, map, ◌∙◌, ◌-◌, drop, ◌+◌, Bool, true, cond, zero, ◌==◌}
+use Rattle.textwrap_base.proofs.Common.{ap, ◌<◌, sym, ◌≤◌, suc, All, ◌*◌, ◌⊎◌, inl, inr, Ok, Err}
+use Rattle.textwrap_base.proofs.Common.{reverse, ℕ, length, get_or, drop_at, map-id, filter, repeat}
+use Rattle.textwrap_base.proofs.Common.{reverse-append, join_with_byte, range_with_len}
+use Rattle.textwrap_base.proofs.Common.{flat_map, Contains, list_any, cases_lt, eqb-true, cases_eq}
+use Rattle.textwrap_base.proofs.Common.{IsNonDecreasing, map-range_with_len_more, All-from_get_or}
 use Rattle.std.proofs.Common.{Iter}
-use Rattle.std.proofs.lemmas.List.{drop-map, flat_map_more}
+use Rattle.std.proofs.lemmas.List.{flat_map_more}
 use mathlib.Core.List.{reverse_aux}
 use Rattle.std.specs.Iterator.{Drains}
 use Rattle.std.specs.Iterator.Adapters.{copied_source, copied_steps}
@@ -46,10 +45,6 @@ reverse_aux-map f (x ∷ xs) front = reverse_aux-map f xs (x ∷ front)
 pub reverse-map : {X Y : Type 0} (f : X → Y) (xs : List X) → map f (reverse xs) ≡ reverse (map f xs)
 reverse-map f xs = reverse_aux-map f xs []
 
-pub slice-map : {X Y : Type 0} (f : X → Y) (xs : List X) (i j : ℕ)
-    → slice_range (map f xs) i j ≡ map f (slice_range xs i j)
-slice-map f xs i j = ap (take (j - i)) (drop-map f i xs) ∙ take-map f (j - i) (drop i xs)
-
 pub flat-map : (f : List ℕ → List ℕ) (parts : List (List ℕ))
     → flat_map (λ part. part) (map f parts) ≡ flat_map f parts
 flat-map f [] = refl
@@ -70,8 +65,7 @@ indented-more f parts n part text within is so_far =
 
 pub given-copied : {A : Type 0} (it : Copied (Iter A)) (items xs : List A)
     → iter_rest (copied_source it) ≡ items → Drains (copied_steps iter_steps) it xs → xs ≡ items
-given-copied it items xs is drained =
-    sym (map-id xs)
+given-copied it items xs is drained = sym (map-id xs)
     ∙ items_from_drains {v = λ y. y} xs (drained.1.0, drained.1.1, λ _. (drained.0, drained.1.2))
     (YieldsList-from_copied (YieldsList-from_slice items is))
 
@@ -79,8 +73,7 @@ pub join-push : (xs : List (List ℕ)) (y : List ℕ) → 0 < length xs
     → (join_with_byte 10 xs ++ 10 ∷ []) ++ y ≡ join_with_byte 10 (xs ++ y ∷ [])
 join-push [] y some = absurd (omega arith)
 join-push (x ∷ []) y some = append_assoc x (10 ∷ []) y
-join-push (x ∷ z ∷ xs) y some =
-    search (append_assoc, join-push (z ∷ xs) y (omega arith))
+join-push (x ∷ z ∷ xs) y some = search (append_assoc, join-push (z ∷ xs) y (omega arith))
 
 -- ---- ranges of numbers, and those among them that pass a test
 
@@ -88,11 +81,6 @@ range-more : (a n : ℕ) → range_with_len a (n + 1) ≡ range_with_len a n ++ 
 range-more a n =
     sym (map-id (range_with_len a (n + 1))) ∙ map-range_with_len_more (λ (x : ℕ). x) a n
     (a + n) refl ∙ ap (λ xs. xs ++ (a + n) ∷ []) (map-id (range_with_len a n))
-
-range-next : (point : ℕ) → 1 ≤ point
-    → range_with_len 1 (point + 1 - 1) ≡ range_with_len 1 (point - 1) ++ point ∷ []
-range-next point start =
-    grind (arith, range-more)
 
 filter-one : (test : ℕ → Bool) (point : ℕ) (items : List ℕ) (b : Bool) → b ≡ test point
     → items ++ filter test (point ∷ []) ≡ cond b (items ++ point ∷ []) items
@@ -105,7 +93,7 @@ pub points-more : (test : ℕ → Bool) (point : ℕ) (items more : List ℕ) (b
     → b ≡ test point → more ≡ cond b (items ++ point ∷ []) items
     → more ≡ filter test (range_with_len 1 (point + 1 - 1))
 points-more test point items more b start so_far passes is =
-    grind (arith, filter-one, range-next, filter-append)
+    grind (arith, filter-one, range-more, filter-append)
 
 pub range-in_order : (a n : ℕ) → IsNonDecreasing (range_with_len a n)
 range-in_order a n = grind (arith, length-range_with_len, get_or-range_with_len)
@@ -126,14 +114,12 @@ range-split a (suc n) m =
 
 pub repeat_more : (n : ℕ) (xs : List ℕ) → repeat n xs ++ xs ≡ repeat (n + 1) xs
 repeat_more zero xs = sym (append-nil xs)
-repeat_more (suc n) xs =
-    grind (arith, append_assoc, repeat_more n xs)
+repeat_more (suc n) xs = grind (arith, append_assoc, repeat_more n xs)
 
 -- one more text after what stands before a run of it
 pub run_more : (before after xs : List ℕ) (n : ℕ) → after ≡ before ++ repeat n xs
     → after ++ xs ≡ before ++ repeat (n + 1) xs
-run_more before after xs n is =
-    rw (is, append_assoc before (repeat n xs) xs, repeat_more n xs) refl
+run_more before after xs n is = rw (is, append_assoc before (repeat n xs) xs, repeat_more n xs) refl
 
 pub length-repeat : (n : ℕ) (xs : List ℕ) → length (repeat n xs) ≡ n * length xs
 length-repeat zero xs = omega arith
@@ -231,11 +217,10 @@ rising-increasing xs rising = λ k within. rising k (k + 1) (omega arith) within
 pub increasing-le : (xs : List ℕ) → IsStrictlyIncreasing xs → (i j : ℕ) → i ≤ j → j < length xs
     → get_or xs i 0 ≤ get_or xs j 0
 increasing-le xs up i zero le within = let first : i ≡ 0 = omega arith in rw first (omega arith)
-increasing-le xs up i (suc j) le within =
-    elim (cases_eq i (suc j)) [
-      | inl same ↦ rw same (omega arith)
-      | inr other ↦ grind (arith, increasing-le xs up i j (omega (arith, other)) (omega arith))
-    ]
+increasing-le xs up i (suc j) le within = elim (cases_eq i (suc j)) [
+  | inl same ↦ rw same (omega arith)
+  | inr other ↦ grind (arith, increasing-le xs up i j (omega (arith, other)) (omega arith))
+]
 
 pub increasing-rising : (xs : List ℕ) → IsStrictlyIncreasing xs → IsRising xs
 increasing-rising xs up = λ i j lt within.

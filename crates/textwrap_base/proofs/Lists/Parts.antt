@@ -44,15 +44,13 @@ cons-some c cs none = omega (arith, ap length none)
 pub slice_push : {X : Type 0} (xs : List X) (i k : ℕ) (d : X) → i ≤ k → k < length xs
     → slice_range xs i (k + 1) ≡ slice_range xs i k ++ get_or xs k d ∷ []
 slice_push xs i k d h l =
-    let at : i + (k - i) ≡ k = omega arith in
-    grind (arith, length-drop, take_more, get_or-drop)
+    let at : i + (k - i) ≡ k = omega arith in grind (arith, length-drop, take_more, get_or-drop)
 
 -- the first j are the first i and what lies between
 pub take_slice : {X : Type 0} (xs : List X) (i j : ℕ) → i ≤ j
     → take j xs ≡ take i xs ++ slice_range xs i j
 take_slice xs i j h =
-    let at : i + (j - i) ≡ j = omega arith in
-    ap (λ n. take n xs) (sym at) ∙ take-add i (j - i) xs
+    let at : i + (j - i) ≡ j = omega arith in ap (λ n. take n xs) (sym at) ∙ take-add i (j - i) xs
 
 pub length-slice : {X : Type 0} (xs : List X) (i j : ℕ) → j ≤ length xs
     → length (slice_range xs i j) ≡ j - i
@@ -63,8 +61,7 @@ from_start text n = let same : n - 0 ≡ n = omega arith in ap (λ k. take k tex
 
 pub lines-next : (ls : List (List ℕ)) (n : ℕ) (line : List ℕ) → n < length ls
     → line ≡ get_or ls n line → drop n ls ≡ line ∷ drop (n + 1) ls
-lines-next ls n line within is =
-    drop_more ls n line within ∙ ap (λ l. l ∷ drop (n + 1) ls) (sym is)
+lines-next ls n line within is = drop_more ls n line within ∙ ap (λ l. l ∷ drop (n + 1) ls) (sym is)
 
 abbrev pub last_but_one : List ℕ → ℕ
 last_but_one cs = slice_index cs (length cs - 2)
@@ -79,8 +76,7 @@ last-push front c = let place : length front ≡ length (front ++ c ∷ []) - 1 
     omega (arith, length_push front c) in get_or_push front c 0 _ place
 
 pub last_but_one-push : (front : List ℕ) (b c : ℕ) → last_but_one ((front ++ b ∷ []) ++ c ∷ []) ≡ b
-last_but_one-push front b c =
-    grind (arith, length_push, get_or_append_left, get_or_push)
+last_but_one-push front b c = grind (arith, length_push, get_or_append_left, get_or_push)
 
 -- elements with which a list begins
 abbrev pub Begins : {X : Type 0} → List X → List X → Type 0
@@ -151,8 +147,7 @@ slice_before xs i j k then = take-take (j - i) (k - i) (drop i xs) (omega (arith
 
 pub slices_joined : {X : Type 0} (xs : List X) (i j k : ℕ) → i ≤ j → j ≤ k
     → slice_range xs i k ≡ slice_range xs i j ++ slice_range xs j k
-slices_joined xs i j k up then =
-    sym (take-append-drop (j - i) (slice_range xs i k))
+slices_joined xs i j k up then = sym (take-append-drop (j - i) (slice_range xs i k))
     ∙ ap (λ l. l ++ drop (j - i) (slice_range xs i k)) (slice_before xs i j k then)
     ∙ ap (λ l. slice_range xs i j ++ l) (slice_after xs i j k up then)
 
@@ -188,8 +183,7 @@ longest-step c d e rest other false is first second more =
 
 pub starts_with-true : (ending xs rest : List ℕ) → xs ≡ ending ++ rest
     → starts_with nat_eq xs ending ≡ true
-starts_with-true ending xs rest is =
-    (bytes_eq-Decides ending (take (length ending) xs)).1
+starts_with-true ending xs rest is = (bytes_eq-Decides ending (take (length ending) xs)).1
     (sym (ap (take (length ending)) is ∙ take_at ending rest (length ending) refl))
 
 pub starts_with-rest : (ending xs : List ℕ) → starts_with nat_eq xs ending ≡ true
@@ -220,8 +214,7 @@ zip-common (x ∷ xs) (y ∷ ys) = ap (λ n. cond (nat_eq x y) (1 + n) 0) (zip-c
 
 pub stripped_prefix : (start text rest : List ℕ) → StripsPrefix (FindsTextPrefix start) text rest
     → text ≡ start ++ rest
-stripped_prefix start text rest strips =
-    strips.1.1 ∙ ap (λ l. start ++ l) (sym strips.2)
+stripped_prefix start text rest strips = strips.1.1 ∙ ap (λ l. start ++ l) (sym strips.2)
 
 -- a test finds an element just where the first that passes has a place
 pub any-position : (test : ℕ → Bool) (xs : List ℕ)
@@ -231,8 +224,7 @@ any-position test (x ∷ xs) = grind (arith, nat_tests, cases_Bool, any-position
 
 pub stripped_suffix : (ending text front : List ℕ) → StripsSuffix (FindsTextSuffix ending) text front
     → text ≡ front ++ ending
-stripped_suffix ending text front strips =
-    strips.1.1 ∙ ap (λ l. l ++ ending) (sym strips.2)
+stripped_suffix ending text front strips = strips.1.1 ∙ ap (λ l. l ++ ending) (sym strips.2)
 
 pub ends_with-true : (ending xs front : List ℕ) → xs ≡ front ++ ending
     → ends_with nat_eq xs ending ≡ true
@@ -260,8 +252,7 @@ ends_with-after front rest ending fits lacks =
 -- a byte, where another one stands at the end
 pub ends_with-other : (xs front : List ℕ) (c d : ℕ) → c ≢ d → xs ≡ front ++ c ∷ []
     → ends_with nat_eq xs (d ∷ []) ≡ false
-ends_with-other xs front c d differ is =
-    false_from_ne_true (ends_with nat_eq xs (d ∷ [])) (λ ends.
+ends_with-other xs front c d differ is = false_from_ne_true (ends_with nat_eq xs (d ∷ [])) (λ ends.
     differ (sym (last-push front c) ∙ ap last (sym is ∙ ends_with-front (d ∷ []) xs ends)
     ∙ last-push (take (length xs - 1) xs) d))
 

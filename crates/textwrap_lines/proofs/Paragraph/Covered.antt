@@ -1,15 +1,13 @@
 -- What the words of a line cover: words and lines of words, cut in two.
-use Rattle.textwrap_base.proofs.Common.{◌≡◌, ℕ, ◌+◌, ◌≤◌, List, [], ◌∷◌, ◌++◌, length, take, drop}
-use Rattle.textwrap_base.proofs.Common.{map, refl, sym, ap, ◌∙◌, subst, append_assoc, append-nil}
-use Rattle.textwrap_base.proofs.Common.{length-append, take-append-drop, StartsWith, IsUtf8, arith}
-use Rattle.textwrap_base.proofs.Common.{IsCharBoundary, IsUtf8-append, IsUtf8-drop}
-use Rattle.textwrap_base.proofs.Common.{IsCharBoundary-from_take, map-append, take_at, drop_at}
-use Rattle.textwrap_base.proofs.Common.{rules, ◌≢◌, ◌<◌, All, and_parts, eqb-true, take-map}
-use Rattle.textwrap_base.proofs.Common.{All-head, All-tail, last, ◌-◌, ⊤, take_all, take_more}
-use Rattle.textwrap_base.proofs.Common.{IsDivision, IsGreedy}
-use Rattle.textwrap_words.proofs.Common.{WordText, word_view, tile_of, tiled, blank, word_of}
-use Rattle.textwrap_words.proofs.Common.{IsUncut, AreCutApart, AreWordsOf, sizes_of, words_of}
-use Rattle.textwrap_words.proofs.Common.{Greedy}
+use Rattle.textwrap_base.proofs.Common.{◌≡◌, ◌+◌, ◌≤◌, List, ◌++◌, take, drop, refl, rules, last, ⊤}
+use Rattle.textwrap_base.proofs.Common.{ℕ, length, subst, IsUtf8, arith, take_at, drop_at, IsGreedy}
+use Rattle.textwrap_base.proofs.Common.{[], append_assoc, length-append, IsUtf8-append, IsUtf8-drop}
+use Rattle.textwrap_base.proofs.Common.{◌∷◌, map, sym, ap, ◌∙◌, ◌≢◌, ◌<◌, All, ◌-◌}
+use Rattle.textwrap_base.proofs.Common.{append-nil, StartsWith, map-append, and_parts, IsDivision}
+use Rattle.textwrap_base.proofs.Common.{take-append-drop, IsCharBoundary, IsCharBoundary-from_take}
+use Rattle.textwrap_base.proofs.Common.{eqb-true, take-map, All-head, All-tail, take_all, take_more}
+use Rattle.textwrap_words.proofs.Common.{WordText, word_view, AreCutApart, AreWordsOf, sizes_of}
+use Rattle.textwrap_words.proofs.Common.{tile_of, tiled, blank, word_of, IsUncut, words_of, Greedy}
 use Rattle.textwrap_lines.proofs.Common.{covered, Word}
 use Rattle.std.proofs.lemmas.Str.{IsCharBoundary-from_rest}
 use Rattle.textwrap_words.proofs.Word.Words.{tiled-push, tiled-map, tiled-words_of, words_unique}
@@ -105,8 +103,7 @@ last-append text more some = search (rules, length-append, get_or-append_right)
 blank-before : (chunk : List ℕ) (chunks : List (List ℕ)) (next : List ℕ) (others : List (List ℕ))
     → All (λ part. part ≢ []) (chunk ∷ chunks)
     → AreCutApart ((chunk ∷ chunks) ++ next ∷ others) → last (flat (chunk ∷ chunks)) ≡ blank
-blank-before chunk [] next others some cut =
-    ap last (append-nil chunk)
+blank-before chunk [] next others some cut = ap last (append-nil chunk)
     ∙ eqb-true (last chunk) 32 (and_parts _ _ (cut [] others chunk next refl)).0
 blank-before chunk (more ∷ chunks) next others some cut =
     let rest = All-tail (λ part. part ≢ []) chunk (more ∷ chunks) some in

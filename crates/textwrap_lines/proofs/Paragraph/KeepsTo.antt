@@ -7,12 +7,11 @@ use Rattle.textwrap_base.proofs.Common.{length-map, ◌≢◌, All-weaker, None,
 use Rattle.textwrap_words.proofs.Common.{WordText, sizes_of, word_of, Greedy, IsDividedBy}
 use Rattle.textwrap_words.proofs.Common.{ends_in_hyphen, AreCuts, MaySeparate, Splitter, MaySplit}
 use Rattle.textwrap_words.proofs.Common.{splitter_view, MayDivide, algorithm_view, Algorithm}
-use Rattle.textwrap_lines.proofs.Common.{LineParts, indent_of, parts_of, parts_from, is_whole}
-use Rattle.textwrap_lines.proofs.Common.{AreIndented, Settings, OnlyCharactersPass, KeepsToWidth}
-use Rattle.textwrap_lines.proofs.Common.{first_width, later_width, width_after, widths_of}
-use Rattle.textwrap_lines.proofs.Common.{IsOneCharacter, IsDividedInto, AreParagraphParts}
-use Rattle.textwrap_lines.proofs.Common.{KeepToWidths, Line, line_from, pieces_of, DividesAs}
-use Rattle.textwrap_lines.proofs.Common.{AreDividedParts}
+use Rattle.textwrap_lines.proofs.Common.{LineParts, indent_of, parts_from, widths_of, line_from}
+use Rattle.textwrap_lines.proofs.Common.{parts_of, is_whole, Settings, pieces_of, DividesAs}
+use Rattle.textwrap_lines.proofs.Common.{AreIndented, first_width, later_width, width_after, Line}
+use Rattle.textwrap_lines.proofs.Common.{OnlyCharactersPass, AreParagraphParts, AreDividedParts}
+use Rattle.textwrap_lines.proofs.Common.{KeepsToWidth, IsOneCharacter, IsDividedInto, KeepToWidths}
 use Rattle.textwrap_base.proofs.Lists.Parts.{flat, all-left, all-right, Begins}
 use Rattle.textwrap_words.proofs.Word.Words.{closed_width-narrow, HasNoPenalty, IsMeasured}
 use Rattle.textwrap_words.proofs.Word.Words.{text_width-nil}
@@ -64,8 +63,7 @@ parts_of-no_hyphen settings is_later [] all = refl
 parts_of-no_hyphen settings is_later (w ∷ ws) all = last_piece-no_penalty w ws all
 
 pub parts_from-no_hyphen : (settings : Settings) (is_later : Bool) (division : List (List WordText))
-    → All HasNoPenalty (flat division)
-    → All HasNoHyphen (parts_from settings is_later division)
+    → All HasNoPenalty (flat division) → All HasNoHyphen (parts_from settings is_later division)
 parts_from-no_hyphen settings is_later [] all = All-nil HasNoHyphen
 parts_from-no_hyphen settings is_later (line ∷ lines) all =
     All-cons HasNoHyphen (parts_of settings is_later line) (parts_from settings true lines)
@@ -78,7 +76,6 @@ pub whole_line-within : (settings : Settings) (is_later : Bool) (paragraph : Lis
 whole_line-within settings is_later paragraph utf8 whole =
     let tests = and_parts (length (indent_of settings is_later) == 0)
     (nat_lt (length paragraph) settings.width) whole in
-    let shorter = ltb-true (length paragraph) settings.width tests.1 in
     let line = word_of paragraph ∷ [] in
     let measured : All IsMeasured line =
     search (rules, All-cons, without_final_blanks-utf8, word_of-blanks, All-nil) in
@@ -87,7 +84,7 @@ whole_line-within settings is_later paragraph utf8 whole =
     let within : closed_width sizes_of line ≤ length paragraph =
     rw (tiled-word_of paragraph) at (closed_width-narrow line
     (narrow_words line measured none)) in
-    omega (arith, within, shorter)
+    omega (arith, within, ltb-true (length paragraph) settings.width tests.1)
 
 -- ---- lemmas on lines that keep to the width, their indents with them: those of a paragraph
 -- whose first line is divided for the width that its own indent leaves
@@ -166,8 +163,7 @@ module _ (settings : Settings) (Words : List ℕ → List WordText → Type 0)
       search (rules, laid_out-cases)
 
   pub paragraph-indented : (is_later : Bool) (paragraph : List ℕ) (parts : List LineParts)
-      → IsUtf8 paragraph → AreParts is_later paragraph parts
-      → AreIndented settings is_later parts
+      → IsUtf8 paragraph → AreParts is_later paragraph parts → AreIndented settings is_later parts
   paragraph-indented is_later paragraph parts utf8 (division, laid_out, is) =
       search (rules, parts_from-indented)
 
@@ -229,8 +225,7 @@ module _ (settings : Settings) (Words : List ℕ → List WordText → Type 0)
         → (paragraph : List ℕ) (parts : List LineParts) → IsUtf8 paragraph
         → AreParts is_later paragraph parts → All (KeepsToWidth settings.width) parts
     paragraph-even hyphens greedy breaks is_later own paragraph parts utf8
-        (division, laid_out, is) =
-        subst (All (KeepsToWidth settings.width)) (sym is)
+        (division, laid_out, is) = subst (All (KeepsToWidth settings.width)) (sym is)
         (by_case (is_whole settings is_later paragraph) refl laid_out)
       where
         by_case : (whole : Bool) → is_whole settings is_later paragraph ≡ whole
@@ -256,8 +251,7 @@ first_width-unindented settings is_later unindented none =
 module _ (settings : Settings) (algorithm : Algorithm) (splitter : Splitter) where
   -- the lines of a paragraph are those of a division of its pieces
   abbrev pub HasDividedLines : Bool → List ℕ → List Line → Type 0
-  HasDividedLines is_later paragraph lines =
-      (parts : List LineParts) × AreDividedParts settings
+  HasDividedLines is_later paragraph lines = (parts : List LineParts) × AreDividedParts settings
       (DividesAs splitter algorithm settings) is_later
       paragraph parts × (map line_from parts ≡ lines)
 

@@ -13,24 +13,21 @@ use Rattle.textwrap_words.proofs.Common.{WordText, tile_of, tiled, word_of, trim
 use Rattle.textwrap_words.proofs.Common.{without_final_blanks, word_view, chunks, words_of}
 use Rattle.textwrap_words.proofs.Common.{is_blank, is_cut, final_blanks, Splitter, Whole, AtHyphens}
 use Rattle.textwrap_words.proofs.Common.{broken_word, sizes_of}
-use Rattle.textwrap_lines.proofs.Common.{Settings, LineParts, covered, indent_of, keeps_whitespace}
-use Rattle.textwrap_lines.proofs.Common.{last_piece, parts_of, parts_from, covered_by}
-use Rattle.textwrap_lines.proofs.Common.{assembled_line, line_from, is_whole, Slice}
-use Rattle.textwrap_lines.proofs.Common.{AreDividedParts, AreParagraphParts, line_bytes, Word}
-use Rattle.textwrap_lines.proofs.Common.{BeforeOthers, is_cut_by, last_space, later_width}
-use Rattle.textwrap_lines.proofs.Common.{pieces_of}
+use Rattle.textwrap_lines.proofs.Common.{Settings, indent_of, line_from, is_cut_by, pieces_of}
+use Rattle.textwrap_lines.proofs.Common.{LineParts, parts_from, covered_by, line_bytes, last_space}
+use Rattle.textwrap_lines.proofs.Common.{covered, parts_of, is_whole, Slice}
+use Rattle.textwrap_lines.proofs.Common.{keeps_whitespace, AreDividedParts, AreParagraphParts, Word}
+use Rattle.textwrap_lines.proofs.Common.{last_piece, assembled_line, BeforeOthers, later_width}
 use Rattle.textwrap_words.proofs.Word.Texts.{AreBlanks, final_blanks-blank, trimmed-past}
 use Rattle.textwrap_words.proofs.Word.Texts.{trimmed-front}
-use Rattle.textwrap_words.proofs.Word.Words.{EndsInBlanks, no_blanks, tiled-append, HasNoPenalty}
-use Rattle.textwrap_words.proofs.Word.Words.{AreChunks-chunks, tiled-words_of, IsMeasured}
-use Rattle.textwrap_words.proofs.Word.Words.{IsNarrowWord, IsNarrowWord-measured}
-use Rattle.textwrap_words.proofs.Word.Words.{closed_width-narrow}
+use Rattle.textwrap_words.proofs.Word.Words.{EndsInBlanks, AreChunks-chunks, tiled-words_of}
+use Rattle.textwrap_words.proofs.Word.Words.{no_blanks, tiled-append, HasNoPenalty, IsNarrowWord}
+use Rattle.textwrap_words.proofs.Word.Words.{IsMeasured, IsNarrowWord-measured, closed_width-narrow}
 use Rattle.textwrap_base.proofs.Lists.Parts.{all-left, all-right, some_from_nonempty}
-use Rattle.textwrap_lines.proofs.Paragraph.Pieces.{last_piece-append, last_space-append}
-use Rattle.textwrap_lines.proofs.Paragraph.Pieces.{split_pieces_of-measured, pieces_of-tile}
-use Rattle.textwrap_lines.proofs.Paragraph.Pieces.{flat_map-space, split_word-ends}
-use Rattle.textwrap_lines.proofs.Paragraph.Pieces.{broken_words-ends, pieces_of-measured}
-use Rattle.textwrap_lines.proofs.Paragraph.Pieces.{pieces_of-no_penalty}
+use Rattle.textwrap_lines.proofs.Paragraph.Pieces.{last_piece-append, pieces_of-measured}
+use Rattle.textwrap_lines.proofs.Paragraph.Pieces.{last_space-append, broken_words-ends}
+use Rattle.textwrap_lines.proofs.Paragraph.Pieces.{split_pieces_of-measured, pieces_of-no_penalty}
+use Rattle.textwrap_lines.proofs.Paragraph.Pieces.{pieces_of-tile, flat_map-space, split_word-ends}
 use Rattle.textwrap_words.specs.PieceCuts.{is_piece_cut, is_point, parts_by}
 use Rattle.textwrap_words.proofs.Word.Parts.{parts_by-some, parts_by-whole, parts_within}
 use Rattle.textwrap_words.proofs.Word.Parts.{parts_by-chunks}
@@ -97,8 +94,7 @@ pub parts_from-blanks : (settings : Settings) (is_later : Bool) (division : List
 parts_from-blanks settings is_later [] all = All-nil (LeavesBlanks settings)
 parts_from-blanks settings is_later (line ∷ lines) all =
     All-cons (LeavesBlanks settings) (parts_of settings is_later line)
-    (parts_from settings true lines)
-    (search (rules, parts_of-blanks, all-left))
+    (parts_from settings true lines) (search (rules, parts_of-blanks, all-left))
     (parts_from-blanks settings true lines
     (all-right EndsInBlanks line (flat_map (λ l. l) lines) all))
 
@@ -165,11 +161,7 @@ pub AreParagraphParts-whole : (settings : Settings) (Divides : Bool → List ℕ
     → AreParagraphParts settings Divides is_later paragraph
     (parts_of settings is_later (word_of paragraph ∷ []) ∷ [])
 AreParagraphParts-whole settings Divides is_later paragraph whole =
-    let division = (word_of paragraph ∷ []) ∷ [] in (
-      division,
-      rw whole refl,
-      refl,
-    )
+    let division = (word_of paragraph ∷ []) ∷ [] in (division, rw whole refl, refl)
 
 pub AreParagraphParts-divided : (settings : Settings) (Divides : Bool → List ℕ
     → List (List WordText) → Type 0) (is_later : Bool) (paragraph : List ℕ) (parts : List LineParts)
@@ -226,8 +218,7 @@ module _ (test : ℕ → Bool) (text : List ℕ) (before : BeforeOthers test tex
 
   parts-some : (at : ℕ) → at < length text → 0 < length (map word_of (parts_at at))
   parts-some at inside =
-      let more = drop_more text at 0 inside in
-      subst (λ l. 0 < length (map word_of (parts_by test at l))) (sym more)
+      subst (λ l. 0 < length (map word_of (parts_by test at l))) (sym (drop_more text at 0 inside))
       (omega (
         arith,
         parts_by-some test at (get_or text at 0) (drop (at + 1) text),
@@ -279,8 +270,7 @@ no_point AtHyphens text k inside blank = point-blank text k inside blank
 pub cut_by-others : (cuts : ℕ → Bool) (splitter : Splitter) (text : List ℕ)
     → BeforeOthers cuts text → BeforeOthers (is_cut_by cuts splitter text) text
 cut_by-others cuts splitter text before k some inside is =
-    let here = is_blank (get_or text k 0) in
-    false_from_ne_true here (λ blank.
+    false_from_ne_true (is_blank (get_or text k 0)) (λ blank.
     let seam : cuts k ≡ false =
     false_from_ne_true (cuts k) (λ cut. false≢true (sym (before k some inside cut) ∙ blank)) in
     let none : is_cut_by cuts splitter text k ≡ false =
@@ -335,8 +325,7 @@ covered-space (w ∷ ws) = covered-last w ws
 pub covered-tiled : (ws : List WordText) (text : List ℕ) → last_space ws ≡ final_blanks text
     → tiled ws ≡ text → covered ws ≡ without_final_blanks text
 covered-tiled ws text space tile =
-    let blanks = final_blanks text in
-    let whole : covered ws ++ blanks ≡ text =
+    let whole : covered ws ++ final_blanks text ≡ text =
     ap (λ l. covered ws ++ l) (sym space) ∙ covered-space ws ∙ tile in
     search (rules, length-append, length-drop, take_at)
 
@@ -377,8 +366,7 @@ pub same_line : (settings : Settings) (splitter : Splitter)
     → line_from (parts_of settings is_later (pieces_of settings splitter paragraph))
     ≡ line_from (parts_of settings is_later (word_of paragraph ∷ []))
 same_line settings splitter is_later paragraph utf8 unindented without whole =
-    let pieces = pieces_of settings splitter paragraph in
-    line_from-pieces settings is_later pieces without
+    line_from-pieces settings is_later (pieces_of settings splitter paragraph) without
     (pieces_of-no_penalty settings splitter paragraph utf8)
     ∙ ap Slice (search (rules, pieces_of-tile, covered-pieces_of))
     ∙ sym (line_from-whole settings is_later paragraph whole)

@@ -62,12 +62,10 @@ module _ (settings : Settings) (Words : List ℕ → List WordText → Type 0)
       → AreSplitWords Words Points texts cuts paragraph split
       → tiled (broken_words (later_width settings) split) ≡ paragraph
   broken-tile paragraph split utf8 are =
-      let limit = later_width settings in
       let measured = split-measured Words Points texts cuts paragraph split utf8 are in
-      tiled-broken_words limit split
+      tiled-broken_words (later_width settings) split
       (All-weaker IsMeasured (λ w. IsUtf8 w.word) (λ w m. m.utf8) split measured)
-      (search (rules, wide-some))
-      ∙ split-tile Words Points texts cuts paragraph split utf8 are
+      (search (rules, wide-some)) ∙ split-tile Words Points texts cuts paragraph split utf8 are
 
   pub pieces-tile : (paragraph : List ℕ) (pieces : List WordText) → IsUtf8 paragraph
       → ArePieces settings Words Points paragraph pieces → tiled pieces ≡ paragraph
@@ -143,8 +141,7 @@ ArePieces-by Words words named settings splitter paragraph pieces
 pub ArePieces-is : (settings : Settings) (splitter : Splitter) (paragraph : List ℕ)
     (pieces : List WordText) → ArePieces settings AreWordsOf (ArePoints splitter) paragraph pieces
     → pieces ≡ pieces_of settings splitter paragraph
-ArePieces-is =
-    ArePieces-by AreWordsOf words_of (λ line words are. (words_unique line words).0 are)
+ArePieces-is = ArePieces-by AreWordsOf words_of (λ line words are. (words_unique line words).0 are)
 
 pub ArePieces-computed : (settings : Settings) (splitter : Splitter) (paragraph : List ℕ)
     → ArePieces settings AreWordsOf (ArePoints splitter) paragraph
@@ -176,8 +173,7 @@ module _ (settings : Settings) (splitter : Splitter) (paragraph : List ℕ) (wor
   are = (words, split_words splitter words, texts, AreSplit-computed splitter words, refl)
 
   pub split_words-measured : All IsMeasured (split_words splitter words)
-  split_words-measured =
-      split-measured AreTexts (ArePoints splitter) (λ line ws whole given. given)
+  split_words-measured = split-measured AreTexts (ArePoints splitter) (λ line ws whole given. given)
       (ArePoints-cuts splitter) paragraph (split_words splitter words) utf8
       (words, texts, AreSplit-computed splitter words)
 
@@ -187,8 +183,7 @@ module _ (settings : Settings) (splitter : Splitter) (paragraph : List ℕ) (wor
       (split_words splitter words) texts.plain (AreSplit-computed splitter words)
 
   pub split_words-tile : tiled (split_words splitter words) ≡ paragraph
-  split_words-tile =
-      split-tile AreTexts (ArePoints splitter) (λ line ws whole given. given)
+  split_words-tile = split-tile AreTexts (ArePoints splitter) (λ line ws whole given. given)
       (ArePoints-cuts splitter) paragraph (split_words splitter words) utf8
       (words, texts, AreSplit-computed splitter words)
 
@@ -252,10 +247,8 @@ module _ (settings : Settings) (splitter : Splitter) (paragraph : List ℕ)
 
 -- its words are texts that tile it
 pub words_cut-texts : (cuts : Option (List ℕ)) (paragraph : List ℕ) → IsUtf8 paragraph
-    → CanBeCut cuts paragraph
-    → AreTexts paragraph (words_cut cuts paragraph)
-words_cut-texts None paragraph utf8 can =
-    words_of-texts paragraph utf8
+    → CanBeCut cuts paragraph → AreTexts paragraph (words_cut cuts paragraph)
+words_cut-texts None paragraph utf8 can = words_of-texts paragraph utf8
 words_cut-texts (Some cuts) paragraph utf8 can =
     parts-texts paragraph cuts utf8 (inner-cuts paragraph cuts can)
 
@@ -327,8 +320,7 @@ broken_word-ends limit w measured =
 
 pub broken_words-ends : (limit : ℕ) (words : List WordText) → All IsMeasured words
     → All (EndsAs (broken_word limit)) words
-broken_words-ends limit words measured =
-    All-weaker IsMeasured (EndsAs (broken_word limit))
+broken_words-ends limit words measured = All-weaker IsMeasured (EndsAs (broken_word limit))
     (λ w m. let ends = broken_word-ends limit w m in record { some = ends.0; space = ends.1 })
     words measured
 
@@ -343,8 +335,7 @@ points-as splitters.TheVariants.HyphenSplitter s is =
 points-as (splitters.TheVariants.Custom given) s is = cc
 
 pub division-as : {E : Type 0} {e : _} (algorithm : algorithms.WrapAlgorithm E e) (a : Algorithm)
-    → algorithm_view algorithm ≡ Some a
-    → MayDivide algorithm (λ w. w) ≡ IsDividedBy a sizes_of
+    → algorithm_view algorithm ≡ Some a → MayDivide algorithm (λ w. w) ≡ IsDividedBy a sizes_of
 division-as algorithms.TheVariants.FirstFit a is =
     let same : Greedy ≡ a = cc in ap (λ b. IsDividedBy b sizes_of) same
 division-as (algorithms.TheVariants.OptimalFit penalties) a is =

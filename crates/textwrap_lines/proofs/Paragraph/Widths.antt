@@ -12,11 +12,10 @@ use Rattle.textwrap_words.proofs.Common.{WordText, word_view, sizes_of, tiled, T
 use Rattle.textwrap_words.proofs.Common.{LeastCost, algorithm_view, MaySeparate, MaySplit}
 use Rattle.textwrap_words.proofs.Common.{splitter_view, broken_words, text_width, AreCuts}
 use Rattle.textwrap_words.proofs.Common.{ends_in_hyphen, Greedy, IsDividedBy}
-use Rattle.textwrap_lines.proofs.Common.{Settings, ArePieces, widths_of, IsDividedInto, Word}
-use Rattle.textwrap_lines.proofs.Common.{MayOverflow, settings_view, LineParts, line_view}
-use Rattle.textwrap_lines.proofs.Common.{line_from, Penalties, Options, empty_word}
-use Rattle.textwrap_lines.proofs.Common.{OnlyCharactersPass, IsOneCharacter, front_pieces}
-use Rattle.textwrap_lines.proofs.Common.{first_width, later_width}
+use Rattle.textwrap_lines.proofs.Common.{Settings, Word, line_view, line_from, Penalties}
+use Rattle.textwrap_lines.proofs.Common.{ArePieces, widths_of, LineParts, empty_word, later_width}
+use Rattle.textwrap_lines.proofs.Common.{IsDividedInto, Options, OnlyCharactersPass, IsOneCharacter}
+use Rattle.textwrap_lines.proofs.Common.{MayOverflow, settings_view, front_pieces, first_width}
 use Rattle.textwrap_words.specs.declared.wrap_algorithms.WrapAlgorithm.{WrapAlgorithm}
 use Rattle.textwrap_words.proofs.Word.Divisions.{MayDivide-begins, MayDivide-map}
 use Rattle.textwrap_base.proofs.Cost.Measures.{total_width-same}
@@ -112,8 +111,7 @@ pub overflow-optimal : {E X : Type 0} {e : _} (algorithm : algorithms.WrapAlgori
 overflow-optimal algorithms.TheVariants.FirstFit sizes widths xs overflows = absurd overflows
 overflow-optimal (algorithms.TheVariants.OptimalFit penalties) sizes widths xs overflows =
     (penalties, refl)
-overflow-optimal (algorithms.TheVariants.Custom given) sizes widths xs overflows =
-    absurd overflows
+overflow-optimal (algorithms.TheVariants.Custom given) sizes widths xs overflows = absurd overflows
 
 -- an error that is no overflow
 pub only-without : {A : Type 0} (result : Result A WrapError) → ¬ Overflowed result

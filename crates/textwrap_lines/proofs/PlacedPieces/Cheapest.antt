@@ -41,8 +41,7 @@ module _ (penalties : Penalties) (widths : List ℕ) (ws : List WordText)
   tables-same =
       fragments_table-map span_priced (λ (p : PricedSizes). p) penalties widths (spans_from 0 0 ws)
       ∙ ap (fragments_table (λ (p : PricedSizes). p) penalties widths)
-      (priced-spans penalties 0 0 ws none)
-      ∙ sym (search (rules, arith, fragments_table-map))
+      (priced-spans penalties 0 0 ws none) ∙ sym (search (rules, arith, fragments_table-map))
 
   found-division : (lines : List (List Span))
       → IsByTable span_priced penalties widths (spans_from 0 0 ws) lines
@@ -112,12 +111,10 @@ module _ (settings : Settings) (splitter : Splitter) (is_later : Bool) (text : L
       pub texts : HaveTexts text 0 lines
 
     pub found-lines : (lines : List (List Span))
-        → IsByTable span_priced penalties (widths_of settings is_later) all lines
-        → FoundLines lines
+        → IsByTable span_priced penalties (widths_of settings is_later) all lines → FoundLines lines
     found-lines lines by =
         let found = found-division penalties (widths_of settings is_later) pieces none
-        (tiled-some pieces text tile some) lines
-        (rw are at by) in
+        (tiled-some pieces text tile some) lines (rw are at by) in
         let result = lines-found settings text utf8 is_later 0 0 found.division lines found.stands
         (sym (ap tiled found.whole ∙ tile)) (IsCharBoundary-start text utf8)
         (subst (All IsMeasured) (sym found.whole) measured)

@@ -30,8 +30,7 @@ use Rattle.textwrap_lines.proofs.Text.Sinks.{cut_lines-next}
 pub length-spans : (at columns : ℕ) (ws : List WordText)
     → length (spans_from at columns ws) ≡ length ws
 length-spans at columns [] = refl
-length-spans at columns (w ∷ ws) =
-    ap suc (length-spans (at + length w.word + length w.whitespace)
+length-spans at columns (w ∷ ws) = ap suc (length-spans (at + length w.word + length w.whitespace)
     (columns + w.width + length w.whitespace) ws)
 
 pub spans-append : (at columns : ℕ) (xs ys : List WordText)
@@ -43,8 +42,7 @@ spans-append at columns (x ∷ xs) ys =
     let after = columns + x.width + length x.whitespace in
     let tile = length-append x.word x.whitespace in
     let whole = length-append (tile_of x) (tiled xs) in
-    let more = open_width-cons sizes_of x xs in
-    search (rules, arith, spans-append end after xs ys)
+    let more = open_width-cons sizes_of x xs in search (rules, arith, spans-append end after xs ys)
 
 -- ---- a list of spans that grows by a piece at a time
 
@@ -59,12 +57,8 @@ pub record HasLeft (all : List WordText) (spans : List Span) (opens : ℕ)
 
 -- the span of a piece after so many columns
 abbrev pub piece_span : ℕ → Piece → Span
-piece_span opens p = record {
-  word_end = p.word_end;
-  end = p.end;
-  opens = opens;
-  closes = opens + p.width;
-}
+piece_span opens p =
+    record { word_end = p.word_end; end = p.end; opens = opens; closes = opens + p.width }
 
 module _ (all : List WordText) where
   pub Left-start : (pieces : List Piece) → pieces ≡ stand_from 0 all → HasLeft all [] 0 pieces
@@ -87,11 +81,8 @@ module _ (all : List WordText) where
       by [] stand are room = absurd (omega (arith, ap length stand))
       by (w ∷ ws) stand are room =
           let end = h.at + length w.word + length w.whitespace in
-          let piece : Piece = record {
-            word_end = h.at + length w.word;
-            end = end;
-            width = w.width;
-          } in
+          let piece : Piece =
+          record { word_end = h.at + length w.word; end = end; width = w.width } in
           let same : p ≡ piece = ap (λ l. get_or l 0 p) stand in
           let gap : piece.end - piece.word_end ≡ length w.whitespace = omega arith in
           let more = total_width-cons sizes_of w ws in
@@ -138,8 +129,7 @@ stand at columns ws (line ∷ lines) some is =
     (sym (length-spans at columns front ∙ length-take-le n ws count)) in
     let rest = stand (at + length (tiled front)) (columns + open_width sizes_of front) back lines
     (All-tail (λ line. line ≢ []) line lines some) parts.1 in
-    let filled : front ≢ [] =
-    λ none. All-head (λ line. line ≢ []) line lines some
+    let filled : front ≢ [] = λ none. All-head (λ line. line ≢ []) line lines some
     (parts.0 ∙ ap (spans_from at columns) none) in (
       front ∷ rest.0,
       ap (λ l. front ++ l) rest.1 ∙ whole,
@@ -166,8 +156,7 @@ Stand-follow starts from at columns (words ∷ division) [] stands follow = absu
 Stand-follow starts from at columns (words ∷ division) (line ∷ lines) (some, here, stands)
     (start, follow) =
     let len : from + length line ≡ from + length words = rw (here, length-spans) in (
-      sym (ap (λ n. get_or starts n 0) len)
-          ∙ start,
+      sym (ap (λ n. get_or starts n 0) len) ∙ start,
       Stand-follow starts (from + length words) (at + length (tiled words))
           (columns + open_width sizes_of words) division lines stands
           (subst (λ n. FollowStarts starts n lines) len follow),
@@ -222,14 +211,13 @@ spans-case text penalties first later ws tile bounded suit =
     let total = total_width-same span_sizes sizes_of spans ws
     (sizes-same span_priced (λ w. priced_at penalties (sizes_of w)) spans ws
     (priced-spans penalties 0 0 ws (λ k d lt. (bounded k d lt).penalty))) in
-    let most = total_width-narrow ws bounded in
     let len = ap length tile in record {
       equal = two-equal first later;
       rising = never_falls spans;
       small_widths = suit.small_widths;
       small_penalties = suit.small_penalties;
       small_break_penalties = λ k d lt. omega arith;
-      small_sum = omega (arith, total, most, len, suit.small_len);
+      small_sum = omega (arith, total, total_width-narrow ws bounded, len, suit.small_len);
     }
 
 pub AreSpans-from : (penalties : Penalties) (widths : List ℕ) (ws : List WordText)
@@ -258,11 +246,9 @@ module _ (text : List ℕ) where
       let space = blanks-utf8 w.whitespace here.ending.blanks in
       let next : drop at text ≡ (w.word ++ w.whitespace) ++ after =
       seam ∙ ap (λ l. l ++ after) (append-nil (tile_of w)) in
-      let tile = length-append w.word w.whitespace in
-      let one = ap length (append-nil (tile_of w)) in
       record {
         word_end = refl;
-        end = omega (arith, tile, one);
+        end = omega (arith, length-append w.word w.whitespace, ap length (append-nil (tile_of w)));
         may = record {
           start = begins;
           word = slice-ends text at at (length w.word) (length w.whitespace) w.word w.whitespace
@@ -316,13 +302,11 @@ module _ (settings : Settings) (text : List ℕ) (utf8 : IsUtf8 text) where
       → AreLinesFound is_later at division lines
   lines-found is_later at columns [] [] stands tile begins measured none =
       record { are = refl; texts = tt }
-  lines-found is_later at columns [] (line ∷ lines) stands tile begins measured none =
-      absurd stands
+  lines-found is_later at columns [] (line ∷ lines) stands tile begins measured none = absurd stands
   lines-found is_later at columns (words ∷ division) [] stands tile begins measured none =
       absurd stands
   lines-found is_later at columns ([] ∷ division) (line ∷ lines) (some, here, stands) tile begins
-      measured none =
-      absurd (some refl)
+      measured none = absurd (some refl)
   lines-found is_later at columns ((w ∷ ws) ∷ division) (line ∷ lines) (some, here, stands) tile
       begins measured none =
       let words = w ∷ ws in
@@ -338,8 +322,7 @@ module _ (settings : Settings) (text : List ℕ) (utf8 : IsUtf8 text) where
       (all-right IsMeasured words (flat division) measured)
       (all-right HasNoPenalty words (flat division) none) in
       let line_is : span_line settings text is_later at last
-      ≡ cut_line at (line_from (parts_of settings is_later words)) =
-      rw (
+      ≡ cut_line at (line_from (parts_of settings is_later words)) = rw (
         slice-line text at words last rest settings.preserve_trailing_space seam ends,
         assembled-parts settings is_later w ws (all-left HasNoPenalty words (flat division) none),
       ) in

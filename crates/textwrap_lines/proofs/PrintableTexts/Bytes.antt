@@ -1,21 +1,19 @@
 -- Texts of printable ASCII: each byte is one column, and bytes tell where words are split and
 -- broken.
-use Rattle.textwrap_base.proofs.Common.{◌≡◌, List, [], ◌∷◌, ℕ, All, map, ap, ◌∙◌, IsUtf8, All-nil}
-use Rattle.textwrap_base.proofs.Common.{All-cons, IsUtf8-from_ascii, chars-IsAscii, refl, ◌≤◌}
-use Rattle.textwrap_base.proofs.Common.{length, arith, length-append, All-head, All-tail}
-use Rattle.textwrap_base.proofs.Common.{All-weaker, closed_width, open_width, Fits, zero, suc, ◌+◌}
-use Rattle.textwrap_base.proofs.Common.{◌<◌, take, drop, sym, All-take, All-drop, ◌≢◌, ◌++◌}
-use Rattle.textwrap_base.proofs.Common.{length-drop, take-append-add, ltb-true, ltb-false, take_at}
-use Rattle.textwrap_base.proofs.Common.{drop_at, length-take-le, All-append, cond_both, ◌-◌, true}
-use Rattle.textwrap_base.proofs.Common.{◌&&◌, ◌==◌, nat_lt, get_or, subst, reverse, reverse-append}
-use Rattle.textwrap_base.proofs.Common.{is_ascii_alphanumeric, drop_more, lt-ltb, inl, inr}
-use Rattle.textwrap_base.proofs.Common.{cases_lt, le-ltb, take-append-drop}
-use Rattle.textwrap_words.proofs.Common.{TextUnit, Visible, units, word_of, Whole, split_words}
-use Rattle.textwrap_words.proofs.Common.{WordText, sizes_of, tile_of, tiled, units_text}
-use Rattle.textwrap_words.proofs.Common.{broken_units, broken_texts, columns, trimmed_len}
-use Rattle.textwrap_words.proofs.Common.{without_final_blanks, final_blanks, broken_word}
-use Rattle.textwrap_words.proofs.Common.{broken_words, broken_pieces, pieces_with, piece}
-use Rattle.textwrap_words.proofs.Common.{is_hyphen_point}
+use Rattle.textwrap_base.proofs.Common.{◌≡◌, ◌∷◌, ℕ, Fits, zero, take, drop, ◌++◌, true, ◌&&◌, ◌==◌}
+use Rattle.textwrap_base.proofs.Common.{List, refl, length, nat_lt, get_or, subst, lt-ltb, le-ltb}
+use Rattle.textwrap_base.proofs.Common.{[], chars-IsAscii, length-append, closed_width, length-drop}
+use Rattle.textwrap_base.proofs.Common.{All, map, ◌∙◌, ◌≤◌, suc, ◌+◌, ◌<◌, sym, ◌≢◌, ◌-◌, inl, inr}
+use Rattle.textwrap_base.proofs.Common.{ap, open_width, ltb-false, All-append, cond_both, drop_more}
+use Rattle.textwrap_base.proofs.Common.{IsUtf8, All-nil, arith, take_at, drop_at, reverse, cases_lt}
+use Rattle.textwrap_base.proofs.Common.{All-cons, All-head, All-tail, All-take, All-drop, ltb-true}
+use Rattle.textwrap_base.proofs.Common.{IsUtf8-from_ascii, is_ascii_alphanumeric, take-append-drop}
+use Rattle.textwrap_base.proofs.Common.{All-weaker, take-append-add, length-take-le, reverse-append}
+use Rattle.textwrap_words.proofs.Common.{TextUnit, Visible, word_of, WordText, sizes_of, units_text}
+use Rattle.textwrap_words.proofs.Common.{units, split_words, trimmed_len, broken_word, pieces_with}
+use Rattle.textwrap_words.proofs.Common.{Whole, tile_of, tiled, columns, piece}
+use Rattle.textwrap_words.proofs.Common.{broken_units, broken_texts, final_blanks, broken_words}
+use Rattle.textwrap_words.proofs.Common.{without_final_blanks, broken_pieces, is_hyphen_point}
 use Rattle.textwrap_lines.proofs.Common.{IsPrintableByte, IsPrintable, covered}
 use Rattle.std.specs.Prelude.{chars}
 use Rattle.textwrap_words.proofs.Units.Reading.{units-printable, printable-width}
@@ -71,17 +69,14 @@ pub record IsExact (w : WordText) : Type 0 where
   pub penalty : HasNoPenalty w
 
 pub exact-words : (ws : List WordText) → All IsMeasured ws → All HasNoPenalty ws
-    → IsPrintable (tiled ws)
-    → All IsExact ws
+    → IsPrintable (tiled ws) → All IsExact ws
 exact-words [] measured none printable = All-nil IsExact
 exact-words (w ∷ ws) measured none printable =
-    let here = All-head IsMeasured w ws measured in
-    let word =
-    all-left IsPrintableByte w.word w.whitespace (all-left IsPrintableByte (tile_of w)
+    let word = all-left IsPrintableByte w.word w.whitespace (all-left IsPrintableByte (tile_of w)
     (tiled ws) printable) in
     All-cons IsExact w ws
     (record {
-      width = here.width ∙ printable-width w.word word;
+      width = (All-head IsMeasured w ws measured).width ∙ printable-width w.word word;
       penalty = All-head HasNoPenalty w ws none;
     })
     (exact-words ws (All-tail IsMeasured w ws measured) (All-tail HasNoPenalty w ws none)
@@ -94,11 +89,10 @@ closed-exact (w ∷ []) all =
     let here = All-head IsExact w [] all in
     let none : length w.penalty ≡ 0 = ap length here.penalty in omega (arith, here.width, none)
 closed-exact (w ∷ v ∷ ws) all =
-    let here = All-head IsExact w (v ∷ ws) all in
     let rest = closed-exact (v ∷ ws) (All-tail IsExact w (v ∷ ws) all) in
     let tile = length-append w.word w.whitespace in
     let whole = length-append (tile_of w) (covered (v ∷ ws)) in
-    omega (arith, here.width, rest, tile, whole)
+    omega (arith, (All-head IsExact w (v ∷ ws) all).width, rest, tile, whole)
 
 pub open-exact : (ws : List WordText) → All IsExact ws → open_width sizes_of ws ≡ length (tiled ws)
 open-exact [] all = refl
@@ -107,17 +101,14 @@ open-exact (w ∷ ws) all =
     let rest = open-exact ws (All-tail IsExact w ws all) in
     let tile = length-append w.word w.whitespace in
     let whole = length-append (tile_of w) (tiled ws) in
-    let more = open_width-cons sizes_of w ws in
-    omega (arith, here.width, rest, tile, whole, more)
+    let more = open_width-cons sizes_of w ws in omega (arith, here.width, rest, tile, whole, more)
 
 pub Fits-exact : (limit : ℕ) (ws : List WordText) → All IsExact ws → length (covered ws) ≤ limit
     → Fits sizes_of limit ws
 Fits-exact limit ws all room = λ k two within.
     let none = All-weaker IsExact (λ w. length w.penalty ≡ 0) (λ w exact. ap length exact.penalty)
     ws all in
-    let part = closed-take sizes_of ws k none in
-    let whole = closed-exact ws all in
-    omega (arith, part, whole, room)
+    let whole = closed-exact ws all in omega (arith, closed-take sizes_of ws k none, whole, room)
 
 -- ---- a printable text is broken after as many bytes as the limit has columns
 
@@ -168,13 +159,11 @@ broken_texts-printable (suc n) (c ∷ cs) printable room some =
     (ap (λ k. left_units limit k (map Visible cs)) first ∙ rest.1) in
     let parts : broken_units limit (map Visible text)
     ≡ map Visible (take limit text) ∷ broken_units limit (map Visible (drop limit text)) =
-    parts_after-is limit 0 (map Visible text)
-    ∙ cc in
-    let whole = units_of-printable text printable in
+    parts_after-is limit 0 (map Visible text) ∙ cc in
     let first_part = units_text-printable (take limit text) front in
     let others =
     units_of-printable (drop limit text) (All-drop IsPrintableByte limit text printable) in
-    ap (map units_text) (ap (broken_units limit) whole ∙ parts) ∙ cc
+    ap (map units_text) (ap (broken_units limit) (units_of-printable text printable) ∙ parts) ∙ cc
 
 -- ---- how wide the first piece of a printable text is, and a word that is broken
 
@@ -197,11 +186,9 @@ begins_wide-step limit n w ws room within printable width long =
     let front = take limit w.word in
     let back = drop limit w.word in
     let texts = broken_texts-printable limit w.word printable room (omega (arith, wider, width)) in
-    let left = length-drop limit w.word in
-    let some =
-    broken_texts-some limit back (printable-utf8 back
+    let some = broken_texts-some limit back (printable-utf8 back
     (All-drop IsPrintableByte limit w.word printable))
-    (λ e. let none = ap length e in omega (arith, none, left, wider, width)) in
+    (λ e. let none = ap length e in omega (arith, none, length-drop limit w.word, wider, width)) in
     let front_len = length-take-le limit w.word (omega (arith, wider, width)) in
     let front_width = printable-width front (All-take IsPrintableByte limit w.word printable) in
     record {
@@ -287,8 +274,7 @@ ends-printable text (suc m) printable inside =
     ∙ ap begins_alphanumeric (reverse-append (take m text) (here ∷ []))
     ∙ alphanumeric-printable here
     (All-head IsPrintableByte here [] (all-right IsPrintableByte (take m text) (here ∷ [])
-    front_printable))
-    ∙ ap (λ k. is_ascii_alphanumeric (get_or text k 0)) (sym place)
+    front_printable)) ∙ ap (λ k. is_ascii_alphanumeric (get_or text k 0)) (sym place)
     ∙ ap (λ t. t && is_ascii_alphanumeric (get_or text (suc m - 1) 0))
     (sym (lt-ltb 0 (suc m) (omega arith)))
 
@@ -306,8 +292,7 @@ point-printable text place printable some inside =
     let after = get_or text place 0 in
     let rest = drop place text in
     let rest_is : rest ≡ after ∷ drop (place + 1) text = drop_more text place 0 inside in
-    let shape : front ++ b ∷ rest ≡ text =
-    ap (λ n. front ++ b ∷ drop n text) (sym next)
+    let shape : front ++ b ∷ rest ≡ text = ap (λ n. front ++ b ∷ drop n text) (sym next)
     ∙ ap (λ l. front ++ l) (sym (drop_more text m 0 (omega (arith, some, inside))))
     ∙ take-append-drop m text in
     let point = point-is front rest b place
@@ -319,8 +304,7 @@ point-printable text place printable some inside =
     ∙ ap (λ k. nat_lt 0 m && is_ascii_alphanumeric (get_or text k 0)) two
     ∙ ap (λ t. t && is_ascii_alphanumeric (get_or text (place - 2) 0)) first in
     let later : begins_alphanumeric (chars rest) ≡ is_ascii_alphanumeric after =
-    ap (λ l. begins_alphanumeric (chars l)) rest_is
-    ∙ begins-printable after (drop (place + 1) text)
+    ap (λ l. begins_alphanumeric (chars l)) rest_is ∙ begins-printable after (drop (place + 1) text)
     (subst IsPrintable rest_is (All-drop IsPrintableByte place text printable)) in
     let same = ap (λ t. is_hyphen_point t place) (sym shape) in
     cc (same, point, ends, later)

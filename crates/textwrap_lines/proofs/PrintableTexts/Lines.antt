@@ -38,9 +38,8 @@ use Rattle.textwrap_lines.proofs.PieceLines.{lines-are}
 pub blanks-keep : (text : List ℕ) (at width end : ℕ) → end ≤ length text
     → BlanksBetween text (at + width) end → trimmed_len (slice_range text at end) ≤ width
 blanks-keep text at width end within blanks =
-    let slice = slice_range text at end in
     let len = length-slice text at end within in
-    trimmed-le slice width (λ k from inside.
+    trimmed-le (slice_range text at end) width (λ k from inside.
     ap is_blank (get_or-take (end - at) (drop at text) k 0 (omega (arith, inside, len))
     ∙ get_or-drop at text k 0)
     ∙ blanks (at + k) (omega (arith, from)) (omega (arith, inside, len)))
@@ -79,8 +78,7 @@ wide-first : (limit n : ℕ) (vs : List WordText) → BeginsWide limit n vs → 
 wide-first limit n vs wide w ws is =
     let are = wide.are in
     let same : w ≡ wide.first = cc in
-    let width = ap (λ v. v.width) same in
-    omega (arith, width, wide.wide)
+    let width = ap (λ v. v.width) same in omega (arith, width, wide.wide)
 
 module _ (test : ℕ → Bool) (limit width : ℕ) (text : List ℕ) (printable : IsPrintable text)
     (before : BeforeOthers test text) where
@@ -145,8 +143,7 @@ module _ (test : ℕ → Bool) (limit width : ℕ) (text : List ℕ) (printable 
       let n = at + width + 1 - end in
       let wide = begins_wide test limit text printable end place n from inside none other
       (omega (arith, room, order)) (omega (arith, some, order)) (omega (arith, from, past)) in
-      ends_at at end some (omega (arith, from, inside)) (λ _. is)
-      (keeps at end some most)
+      ends_at at end some (omega (arith, from, inside)) (λ _. is) (keeps at end some most)
       (λ w ws e. let here = wide-first limit n (pieces_from test limit text end) wide w ws e in
       omega (arith, here, some))
 
@@ -154,8 +151,7 @@ module _ (test : ℕ → Bool) (limit width : ℕ) (text : List ℕ) (printable 
   pub line-whole : (at end : ℕ) → at + width < end → end ≤ length text → length text ≤ limit
       → NoCutBetween test at (end - 1) → (end < length text → test end ≡ true)
       → IsFirstLine test limit width text at end false
-  line-whole at end past within short none ends =
-      ends_at at end (omega (arith, past)) within ends
+  line-whole at end past within short none ends = ends_at at end (omega (arith, past)) within ends
       (subst (Fits sizes_of width) (sym (one_piece test limit text printable at end
       (omega (arith, past)) within short none)) (λ k two le. absurd (omega (arith, two, le))))
       (λ w ws e. omega (arith, past))
@@ -188,8 +184,7 @@ line-broken test limit text printable at place room past inside none other =
 -- pieces that fit a line all stand on it
 grown-line : (later width : ℕ) (xs ys line : List WordText) → Fits sizes_of width (line ++ xs)
     → grown sizes_of later width (xs ++ ys) line ≡ grown sizes_of later width ys (line ++ xs)
-grown-line later width [] ys line fits =
-    ap (grown sizes_of later width ys) (sym (append-nil line))
+grown-line later width [] ys line fits = ap (grown sizes_of later width ys) (sym (append-nil line))
 grown-line later width (x ∷ xs) ys line fits =
     let same = append_assoc line (x ∷ []) xs in
     grown-room sizes_of later width x (xs ++ ys) line (prefix-closes sizes_of width line x xs fits)
@@ -229,8 +224,7 @@ module _ (settings : Settings) (text : List ℕ) where
       λ lines. cut_lines at (parts_from settings is_later lines) in
       let own = assembled-parts settings is_later w ws (all-left HasNoPenalty line vs none) in
       lines-divided at width is_later w (ws ++ vs) seam none
-      ∙ ap cuts (grown-line later width line vs [] fits)
-      ∙ by_rest vs seam none full
+      ∙ ap cuts (grown-line later width line vs [] fits) ∙ by_rest vs seam none full
       ∙ ap (λ l. cut_line at l ∷ lines_at after later true vs) (sym own)
     where
       by_rest : (vs : List WordText) → drop at text ≡ tiled (w ∷ ws ++ vs)
@@ -289,8 +283,7 @@ module _ (settings : Settings) (text : List ℕ) where
         ∙ lines-next at width is_later line others (sym tile ∙ ap tiled first.are)
         (subst (All HasNoPenalty) first.are
         (All-weaker IsExact HasNoPenalty (λ w exact. exact.penalty) _
-        (pieces-exact test limit text printable at)))
-        first.some first.fits first.full
+        (pieces-exact test limit text printable at))) first.some first.fits first.full
         ∙ ap (λ s. cut_line at (assembled_line (indent_of settings is_later) s [])
         ∷ lines_at (at + length (tiled line)) (later_width settings) true others)
         (slice-is line tiles goes_on settings.preserve_trailing_space first.covers)

@@ -17,8 +17,7 @@ pub slice-rest : (text : List ℕ) (at end : ℕ) → at ≤ end
 slice-rest text at end from =
     let place : at + (end - at) ≡ end = omega (arith, from) in
     ap (λ l. slice_range text at end ++ l) (ap (λ k. drop k text) (sym place)
-    ∙ sym (drop-drop (end - at) at text))
-    ∙ take-append-drop (end - at) (drop at text)
+    ∙ sym (drop-drop (end - at) at text)) ∙ take-append-drop (end - at) (drop at text)
 
 -- the front of a text from a place on
 pub front-slice : (text : List ℕ) (at end : ℕ) → at ≤ end
@@ -46,8 +45,7 @@ module _ (test : ℕ → Bool) where
       → parts_by test (at + 1) all ≡ parts_by test (at + 1) (c ∷ cs) ++ qs
       → next_by test here at b all ≡ next_by test here at b (c ∷ cs) ++ qs
   next-append true at b c cs all qs e = ap (λ ps. (b ∷ []) ∷ ps) e
-  next-append false at b c cs all qs e =
-      ap (onto_first b) e
+  next-append false at b c cs all qs e = ap (onto_first b) e
       ∙ onto_first-append b (parts_by test (at + 1) (c ∷ cs)) qs (parts_by-some test (at + 1) c cs)
 
   parts-at_cut : (rest : List ℕ) (at n : ℕ) → 0 < n → n < length rest → test (at + n) ≡ true

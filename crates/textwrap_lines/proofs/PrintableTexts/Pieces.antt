@@ -1,12 +1,11 @@
 -- The pieces of a text of printable ASCII, the first of them, and its words, split.
-use Rattle.textwrap_base.proofs.Common.{◌≡◌, ◌≢◌, ℕ, ◌<◌, ◌≤◌, Bool, List, [], ◌∷◌, ◌++◌, All}
-use Rattle.textwrap_base.proofs.Common.{length, map, drop, refl, sym, ap, ◌∙◌, subst, arith, IsUtf8}
-use Rattle.textwrap_base.proofs.Common.{All-map, All-weaker, All-take, All-drop, length-append}
-use Rattle.textwrap_base.proofs.Common.{take_at, Fits, ◌-◌, length-drop, length-take-le}
-use Rattle.textwrap_base.proofs.Common.{slice_range, take, ◌+◌, true, false, get_or, map-append}
-use Rattle.textwrap_base.proofs.Common.{cond, le-ltb, get_or-take, get_or-drop, flat_map-append}
-use Rattle.textwrap_base.proofs.Common.{inl, inr, zero, suc, ◌&&◌, ◌||◌, cases_lt, drop_all, nat_lt}
-use Rattle.textwrap_base.proofs.Common.{take-append-drop, and_right}
+use Rattle.textwrap_base.proofs.Common.{◌≡◌, ◌≢◌, ◌<◌, [], Fits, take, true, cond, zero, ◌&&◌, ◌||◌}
+use Rattle.textwrap_base.proofs.Common.{ℕ, All-weaker, All-drop, map-append, get_or-drop, and_right}
+use Rattle.textwrap_base.proofs.Common.{◌≤◌, ◌∷◌, All, map, sym, ap, ◌∙◌, ◌-◌, ◌+◌, inl, inr, suc}
+use Rattle.textwrap_base.proofs.Common.{Bool, List, ◌++◌, drop, refl, false, get_or, le-ltb, nat_lt}
+use Rattle.textwrap_base.proofs.Common.{length, arith, IsUtf8, All-map, take_at, cases_lt, drop_all}
+use Rattle.textwrap_base.proofs.Common.{subst, length-append, length-drop, slice_range, get_or-take}
+use Rattle.textwrap_base.proofs.Common.{All-take, length-take-le, flat_map-append, take-append-drop}
 use Rattle.textwrap_words.proofs.Common.{IsPrintable, IsPrintableByte, WordText, tiled, sizes_of}
 use Rattle.textwrap_words.proofs.Common.{word_of, broken_word, trimmed_len, without_final_blanks}
 use Rattle.textwrap_words.proofs.Common.{is_blank, broken_pieces, broken_words, piece, Splitter}
@@ -21,10 +20,9 @@ use Rattle.textwrap_words.proofs.Word.BrokenPieces.{tiled-broken_words, broken_w
 use Rattle.textwrap_words.proofs.Word.BrokenPieces.{broken_words-no_penalty}
 use Rattle.textwrap_lines.proofs.Paragraph.Pieces.{flat_map-space, broken_words-ends, wide-some}
 use Rattle.textwrap_lines.proofs.Paragraph.LeftOff.{last-part, covered-tiled}
-use Rattle.textwrap_lines.proofs.PrintableTexts.Bytes.{printable-utf8, flat-printable, IsExact}
-use Rattle.textwrap_lines.proofs.PrintableTexts.Bytes.{exact-words, Fits-exact, BeginsWide}
-use Rattle.textwrap_lines.proofs.PrintableTexts.Bytes.{begins_wide-step, broken-front}
-use Rattle.textwrap_lines.proofs.PrintableTexts.Bytes.{ends-printable}
+use Rattle.textwrap_lines.proofs.PrintableTexts.Bytes.{printable-utf8, Fits-exact, begins_wide-step}
+use Rattle.textwrap_lines.proofs.PrintableTexts.Bytes.{flat-printable, broken-front, ends-printable}
+use Rattle.textwrap_lines.proofs.PrintableTexts.Bytes.{IsExact, exact-words, BeginsWide}
 use Rattle.textwrap_lines.proofs.PrintableTexts.Parts.{flat-parts, front-slice, parts-split}
 use Rattle.textwrap_lines.proofs.PrintableTexts.Parts.{first-part, slice-rest}
 use Rattle.textwrap_base.proofs.Lists.Parts.{length-slice, slices_joined}
@@ -55,8 +53,7 @@ module _ (test : ℕ → Bool) (limit : ℕ) (text : List ℕ) (printable : IsPr
 
   words-all : (P : WordText → Type 0) → ((part : List ℕ) → IsPrintable part → P (word_of part))
       → All P words
-  words-all P each =
-      All-map P word_of parts
+  words-all P each = All-map P word_of parts
       (All-weaker IsPrintable (λ b. P (word_of b)) each parts
       (flat-printable parts (subst IsPrintable (sym (flat-parts test at rest)) rest-printable)))
 
@@ -74,12 +71,10 @@ module _ (test : ℕ → Bool) (limit : ℕ) (text : List ℕ) (printable : IsPr
   words-plain = words-all HasNoPenalty (λ b p. refl)
 
   pub pieces-tile : tiled pieces ≡ rest
-  pieces-tile =
-      tiled-broken_words limit words
+  pieces-tile = tiled-broken_words limit words
       (All-weaker IsMeasured (λ w. IsUtf8 w.word) (λ w m. m.utf8) words words-measured)
       (All-weaker IsMeasured (λ w. limit < w.width → w.word ≢ []) (λ w m. wide-some limit w m)
-      words words-measured)
-      ∙ words-tile
+      words words-measured) ∙ words-tile
 
   pub pieces-some : at < length text → 0 < length pieces
   pieces-some some = by pieces pieces-tile
@@ -89,8 +84,7 @@ module _ (test : ℕ → Bool) (limit : ℕ) (text : List ℕ) (printable : IsPr
       by (w ∷ ws) e = omega arith
 
   pub pieces-exact : All IsExact pieces
-  pieces-exact =
-      exact-words pieces (broken_words-measured limit words words-measured)
+  pieces-exact = exact-words pieces (broken_words-measured limit words words-measured)
       (broken_words-no_penalty limit words words-plain)
       (subst IsPrintable (sym pieces-tile) rest-printable)
 
@@ -99,18 +93,15 @@ module _ (test : ℕ → Bool) (limit : ℕ) (text : List ℕ) (printable : IsPr
   module _ (before : BeforeOthers test text) where
     -- the pieces cover the text without the blanks at its end
     pub pieces-cover : covered pieces ≡ without_final_blanks rest
-    pieces-cover =
-        covered-tiled pieces rest
+    pieces-cover = covered-tiled pieces rest
         (flat_map-space (broken_word limit) words (broken_words-ends limit words words-measured)
-        ∙ last-part test text before at)
-        pieces-tile
+        ∙ last-part test text before at) pieces-tile
 
     -- a text that keeps to the width fits one line
     pub pieces-fit : (width : ℕ) → trimmed_len rest ≤ width → Fits sizes_of width pieces
     pieces-fit width keeps =
         let len = length-take-le (trimmed_len rest) rest (omega arith) in
-        let covers = ap length pieces-cover in
-        Fits-exact width pieces pieces-exact (omega (arith, len, covers, keeps))
+        Fits-exact width pieces pieces-exact (omega (arith, len, ap length pieces-cover, keeps))
 
 pub words-texts : (test : ℕ → Bool) (text : List ℕ) → IsPrintable text
     → AreTexts text (map word_of (parts_by test 0 text))
@@ -131,10 +122,9 @@ pub first-tiles : (test : ℕ → Bool) (limit width : ℕ) (text : List ℕ) (a
 first-tiles test limit width text at end goes_on first printable from within =
     let line = first.line in
     let back = drop end text in
-    let others = pieces_from test limit text end in
     let whole : tiled line ++ back ≡ drop at text =
     ap (λ t. tiled line ++ t) (sym (pieces-tile test limit text printable end))
-    ∙ sym (tiled-append line others) ∙ ap tiled (sym first.are)
+    ∙ sym (tiled-append line (pieces_from test limit text end)) ∙ ap tiled (sym first.are)
     ∙ pieces-tile test limit text printable at in
     let len : length (tiled line) ≡ end - at = omega (
       arith,
@@ -189,15 +179,13 @@ module _ (test : ℕ → Bool) (limit : ℕ) (text : List ℕ) (printable : IsPr
       let found = first-part test text at place from inside none in
       let part = slice_range text at found.end in
       let part_printable = printable-slice text at found.end printable in
-      let w = word_of part in
       let past = past-byte text at place found.end from found.past found.part.within other in
-      let width = word-width part part_printable in
       let len = length-take-le (trimmed_len part) part (omega arith) in
       subst (λ ps. BeginsWide limit n (broken_words limit (map word_of ps)))
       (sym (parts-front test text at found.end found.part))
-      (begins_wide-step limit n w _ room most
+      (begins_wide-step limit n (word_of part) _ room most
       (All-take IsPrintableByte (trimmed_len part) part part_printable)
-      (width ∙ sym len) (omega (arith, len, past, up_to, from)))
+      (word-width part part_printable ∙ sym len) (omega (arith, len, past, up_to, from)))
 
   -- the first piece of any text
   pub begins_narrow : (at : ℕ) → at < length text → 0 < limit
@@ -207,13 +195,12 @@ module _ (test : ℕ → Bool) (limit : ℕ) (text : List ℕ) (printable : IsPr
       (λ k from to. absurd (omega (arith, from, to))) in
       let part = slice_range text at found.end in
       let part_printable = printable-slice text at found.end printable in
-      let width = word-width part part_printable in
       let len = length-take-le (trimmed_len part) part (omega arith) in
       subst (λ ps. BeginsWide limit 0 (broken_words limit (map word_of ps)))
       (sym (parts-front test text at found.end found.part))
       (begins_wide-step limit 0 (word_of part) _ room (omega arith)
       (All-take IsPrintableByte (trimmed_len part) part part_printable)
-      (width ∙ sym len) (omega arith))
+      (word-width part part_printable ∙ sym len) (omega arith))
 
   -- a part that keeps to the limit is one piece
   pub one_piece : (at end : ℕ) → at < end → end ≤ length text → length text ≤ limit
@@ -254,10 +241,9 @@ module _ (test : ℕ → Bool) (limit : ℕ) (text : List ℕ) (printable : IsPr
         ends = found.part.ends;
       } in
       let len = length-slice text at middle (omega (arith, from, inside)) in
-      let seen = past-byte text middle place end from past within other in
       let first = broken-front limit front back
       (subst IsPrintable whole (printable-slice text at end printable)) room (omega (arith, len))
-      (omega (arith, seen)) in
+      (omega (arith, past-byte text middle place end from past within other)) in
       ap (λ ps. broken_words limit (map word_of ps)) (parts-front test text at end found.part)
       ∙ ap (λ p. broken_word limit (word_of p) ++ pieces_from test limit text end) whole
       ∙ ap (λ ws. ws ++ pieces_from test limit text end) first
@@ -272,10 +258,8 @@ module _ (cuts : ℕ → Bool) (splitter : Splitter) (text : List ℕ) (printabl
   both = is_cut_by cuts splitter text
 
   plain-at : (end : ℕ) → 0 < end → end < length text → cuts end ≡ true → EndsPlain (take end text)
-  plain-at end some inside is =
-      ends-printable text end printable inside
-      ∙ ap (λ t. nat_lt 0 end && t) (after end some inside is)
-      ∙ and_right (nat_lt 0 end) false refl
+  plain-at end some inside is = ends-printable text end printable inside
+      ∙ ap (λ t. nat_lt 0 end && t) (after end some inside is) ∙ and_right (nat_lt 0 end) false refl
 
   split-end : (at : ℕ) → length text ≤ at
       → split_words splitter (map word_of (parts_by cuts at (drop at text)))
@@ -311,8 +295,7 @@ module _ (cuts : ℕ → Bool) (splitter : Splitter) (text : List ℕ) (printabl
         (printable-utf8 before (All-take IsPrintableByte at text printable)) (plain inside)
         (printable-utf8 q (printable-slice text at end printable)) (omega (arith, len, some))
         splitter in
-        let here : split_word splitter (word_of q) ≡ map word_of (parts_by both at q) =
-        word
+        let here : split_word splitter (word_of q) ≡ map word_of (parts_by both at q) = word
         ∙ ap (λ t. map word_of (parts_by (is_point splitter t) (length before) q)) whole
         ∙ ap (λ k. map word_of (parts_by (is_point splitter text) k q)) place
         ∙ ap (map word_of) (parts-same (is_point splitter text) both q at (λ k from to.

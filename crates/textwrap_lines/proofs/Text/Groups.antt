@@ -1,11 +1,10 @@
 -- The lines of a text, paragraph by paragraph: there is one list of them, and only blanks are left
 -- off.
-use Rattle.textwrap_base.proofs.Common.{ℕ, Bool, ◌||◌, nat_lt, List, [], ◌∷◌, All, length, sym}
-use Rattle.textwrap_base.proofs.Common.{subst, ◌<◌, true, false, ◌++◌, arith, length-append}
-use Rattle.textwrap_base.proofs.Common.{flat_map, All-nil, All-head, All-tail, All-append, ◌≡◌}
-use Rattle.textwrap_base.proofs.Common.{MatchBool, ⊤, map, ap, ◌∙◌, StartsWith, IsUtf8, rules}
-use Rattle.textwrap_base.proofs.Common.{starts_with_of_eq, All-cons, All-weaker, Sizes}
-use Rattle.textwrap_base.proofs.Common.{AreEqualFromSecond, priced_at}
+use Rattle.textwrap_base.proofs.Common.{ℕ, All-append, MatchBool, StartsWith, All-weaker, priced_at}
+use Rattle.textwrap_base.proofs.Common.{Bool, ◌||◌, ◌∷◌, length, false, arith, IsUtf8, rules, Sizes}
+use Rattle.textwrap_base.proofs.Common.{nat_lt, [], flat_map, All-nil, All-head, All-tail, All-cons}
+use Rattle.textwrap_base.proofs.Common.{List, All, sym, ◌<◌, true, ◌++◌, ◌≡◌, ⊤, map, ap, ◌∙◌}
+use Rattle.textwrap_base.proofs.Common.{subst, length-append, starts_with_of_eq, AreEqualFromSecond}
 use Rattle.textwrap_lines.proofs.Common.{LineParts, AreIndented, AreGroups, Settings}
 use Rattle.textwrap_lines.proofs.Common.{AreParagraphParts, AreTextLines, DividesAt, paragraphs_of}
 use Rattle.textwrap_lines.proofs.Common.{DividesBy, HasPartsAt, IsFilled, is_whole, Line, Options}
@@ -119,8 +118,7 @@ module _ {E C : Type 0} {e : _} {c : _} (options : Options E C e c)
       → DividesAt words splitter algorithm settings is_later paragraph division
   divides-at is_later paragraph division by =
       subst (λ s. DividesAt words splitter algorithm s is_later paragraph division)
-      parts.settings_are
-      (divides-under_at (settings_view options) is_later paragraph division by)
+      parts.settings_are (divides-under_at (settings_view options) is_later paragraph division by)
 
 -- ---- whatever holds of each division holds of what is made of them
 
@@ -168,10 +166,8 @@ module _ (settings : Settings) (Divides Others : Bool → List ℕ → List (Lis
   pub placed-map : (text : List ℕ) (lines : List Line) (places : List Place)
       → ArePlacedLines settings Divides text lines places
       → ArePlacedLines settings Others text lines places
-  placed-map text lines places placed = record {
-    are = text-map text lines placed.are;
-    places_are = placed.places_are;
-  }
+  placed-map text lines places placed =
+      record { are = text-map text lines placed.are; places_are = placed.places_are }
 
 -- ---- the lines of a paragraph that is divided so
 
@@ -185,8 +181,7 @@ module _ (settings : Settings) (Divides : Bool → List ℕ → List (List WordT
   parts-begin : (is_later : Bool) (paragraph : List ℕ) (parts : List LineParts)
       → IsUtf8 paragraph → AreParagraphParts settings Divides is_later paragraph parts
       → StartsWith paragraph (covered_by parts)
-  parts-begin is_later paragraph parts utf8 (division, laid_out, is) =
-      subst (StartsWith paragraph)
+  parts-begin is_later paragraph parts utf8 (division, laid_out, is) = subst (StartsWith paragraph)
       (sym (ap covered_by is ∙ covered_by-parts_from settings is_later division))
       (laid_out-cases (λ d. StartsWith paragraph (tiled (flat d))) paragraph _ division
       (starts_with_of_eq paragraph _ (sym (tiled-word_of paragraph)))
@@ -213,14 +208,13 @@ module _ (settings : Settings) (Divides : Bool → List ℕ → List (List WordT
   LosesOnlyBlanks-from text groups utf8 defined =
       let paragraphs = paragraphs_of settings.line_ending text in
       let all = paragraphs_of-utf8 settings.line_ending text utf8 in
-      let parts = flat groups in
       let leaves = groups-all (LeavesBlanks settings) false paragraphs groups
       (search (rules, arith, groups-map, parts-blanks)) in
       record {
         begin = search (rules, arith, groups-map, parts-begin);
         blanks = search (rules, arith, All-weaker);
         kept = λ preserved. All-weaker (LeavesBlanks settings) (λ p. p.left_off ≡ [])
-            (λ p left. left.kept preserved) parts leaves;
+            (λ p left. left.kept preserved) (flat groups) leaves;
       }
 
 -- ---- the lines of a text whose paragraphs are divided whole
@@ -324,11 +318,9 @@ module _ (settings : Settings) (Divides : Bool → List ℕ → List (List WordT
   groups_one is_later (paragraph ∷ paragraphs) (parts ∷ groups) [] is other = absurd other
   groups_one is_later (paragraph ∷ paragraphs) (parts ∷ groups) (more ∷ others) is other =
       let same = paragraph_one is_later paragraph parts more is.0 other.0 in
-      let rest =
-      groups_one
+      let rest = groups_one
       (is_later ||
-      nat_lt 0 (length parts)) paragraphs groups others is.1
-      (rw same other.1) in
+      nat_lt 0 (length parts)) paragraphs groups others is.1 (rw same other.1) in
       ap (λ ps. ps ∷ groups) same ∙ ap (λ gs. more ∷ gs) rest
 
   pub text_one : (text : List ℕ) (lines others : List Line)

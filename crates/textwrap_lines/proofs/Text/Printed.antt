@@ -14,13 +14,12 @@ use Rattle.textwrap_words.proofs.Units.Reading.{printable-ascii, printable-width
 use Rattle.textwrap_words.proofs.Word.Words.{IsMeasured, HasNoPenalty, text_width-nil}
 use Rattle.textwrap_words.proofs.Word.Words.{word_of-measured}
 use Rattle.textwrap_words.proofs.Word.Texts.{AreBlanks}
-use Rattle.textwrap_lines.proofs.Common.{Settings, LineParts, line_bytes, line_from, covered}
-use Rattle.textwrap_lines.proofs.Common.{indent_of, parts_of, parts_from, assembled_line}
-use Rattle.textwrap_lines.proofs.Common.{HasWholeSequences, HasNoEscape, CutsNoSequence, Line}
-use Rattle.textwrap_lines.proofs.Common.{is_whole, first_width, DividesAs, AreParagraphParts}
-use Rattle.textwrap_lines.proofs.Common.{IsDividedInto, widths_of, AreGroups, AreTextLines}
-use Rattle.textwrap_lines.proofs.Common.{paragraphs_of, KeepsToWidth, IsPrintedWithin}
-use Rattle.textwrap_lines.proofs.Common.{CanKeepToWidth, ArePrintedWithin}
+use Rattle.textwrap_lines.proofs.Common.{Settings, covered, parts_of, is_whole, AreGroups}
+use Rattle.textwrap_lines.proofs.Common.{LineParts, assembled_line, CutsNoSequence, IsPrintedWithin}
+use Rattle.textwrap_lines.proofs.Common.{line_bytes, HasNoEscape, Line, first_width, KeepsToWidth}
+use Rattle.textwrap_lines.proofs.Common.{line_from, indent_of, parts_from, DividesAs, widths_of}
+use Rattle.textwrap_lines.proofs.Common.{HasWholeSequences, AreParagraphParts, ArePrintedWithin}
+use Rattle.textwrap_lines.proofs.Common.{IsDividedInto, AreTextLines, paragraphs_of, CanKeepToWidth}
 use Rattle.textwrap_lines.proofs.Paragraph.LeftOff.{blanks-utf8, assembled-parts, bytes-assembled}
 use Rattle.textwrap_lines.proofs.Paragraph.LeftOff.{tiled-word_of, laid_out-cases}
 use Rattle.textwrap_lines.proofs.Text.Paragraphs.{each_part, units-plain, text_width-append}
@@ -43,8 +42,7 @@ blanks-whole bytes blanks =
     grind (arith, blanks-printable, chars-IsAscii, printable-ascii, units-plain, All-weaker)
 
 covered-width : (ws : List WordText) → All IsMeasured ws → All HasNoPenalty ws
-    → All (λ w. HasWholeSequences w.word) ws
-    → text_width (covered ws) ≡ closed_width sizes_of ws
+    → All (λ w. HasWholeSequences w.word) ws → text_width (covered ws) ≡ closed_width sizes_of ws
 covered-width [] measured none whole = text_width-nil
 covered-width (w ∷ []) measured none whole = grind (arith, All-head)
 covered-width (w ∷ v ∷ ws) measured none whole =
@@ -66,8 +64,7 @@ covered-width (w ∷ v ∷ ws) measured none whole =
 
 -- a line is as wide as its indent and what its pieces close at
 abbrev pub PrintsAsMeasured : LineParts → Type 0
-PrintsAsMeasured p =
-    CutsNoSequence p
+PrintsAsMeasured p = CutsNoSequence p
     → text_width (line_bytes (line_from p)) ≡ text_width p.indent + closed_width sizes_of p.pieces
 
 module _ (settings : Settings) (trims : settings.preserve_trailing_space ≡ false)
@@ -213,14 +210,12 @@ module _ (settings : Settings) (Words : List ℕ → List WordText → Type 0)
         (λ widths pieces division divided. (
           [],
           search (rules, arith, append-nil, division-whole),
-        ))
-        hyphens greedy can.breaks is_later own paragraph parts utf8 (division, laid_out, is) in
+        )) hyphens greedy can.breaks is_later own paragraph parts utf8 (division, laid_out, is) in
         λ k d lt. within (get_or parts k d) (keeps k d lt) (printed k d lt)
 
     -- one paragraph, or even ones
     groups-within : (paragraphs : List (List ℕ)) (groups : List (List LineParts))
-        → All IsUtf8 paragraphs
-        → (settings.even_paragraphs ≡ true) ⊎ (paragraphs ≡ text ∷ [])
+        → All IsUtf8 paragraphs → (settings.even_paragraphs ≡ true) ⊎ (paragraphs ≡ text ∷ [])
         → AreGroups AreParts false paragraphs groups → All Within (flat groups)
     groups-within paragraphs groups all even are = elim even [
       | inl even ↦ groups-all Within false paragraphs groups
@@ -243,7 +238,6 @@ module _ (settings : Settings) (Words : List ℕ → List WordText → Type 0)
   ArePrintedWithin-by text lines utf8 can are =
       let ending = settings.line_ending in
       let paragraphs = paragraphs_of ending text in
-      let all = paragraphs_of-utf8 ending text utf8 in
       record {
         are = are;
         within = search (rules, arith, groups-within);
@@ -253,7 +247,7 @@ module _ (settings : Settings) (Words : List ℕ → List WordText → Type 0)
             (groups-map (λ p. IsUtf8 p × HasNoEscape p) AreParts
             (λ is_later paragraph parts. All CutsNoSequence parts)
             (paragraph-whole initial subsequent) false paragraphs are.groups
-            (λ k d lt. (all k d lt, plain k d lt)) are.defined);
+            (λ k d lt. (paragraphs_of-utf8 ending text utf8 k d lt, plain k d lt)) are.defined);
       }
 
 pub ArePrintedWithin-from : (settings : Settings) (splitter : Splitter) (text : List ℕ)

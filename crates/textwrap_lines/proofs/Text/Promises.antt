@@ -135,10 +135,7 @@ pub IsWrapped-parts : (Words : List ℕ → List WordText → Type 0)
 IsWrapped-parts Words texts settings algorithm splitter text lines utf8 are =
     IsWrapped-by settings Words (ArePoints splitter) (IsDividedBy algorithm sizes_of)
     texts (ArePoints-cuts splitter)
-    (λ widths pieces division divided. (
-      [],
-      search (rules, arith, append-nil, IsDividedBy-whole),
-    ))
+    (λ widths pieces division divided. ([], search (rules, arith, append-nil, IsDividedBy-whole)))
     (Some splitter) (Some algorithm) (λ _. ArePoints-hyphens splitter)
     (λ _. IsDividedBy-whole sizes_of algorithm) (λ _. IsDividedBy-some sizes_of algorithm)
     (λ first widths pieces division divided.
@@ -160,10 +157,7 @@ pub LinesKeepToWidth-from : (settings : Settings) (splitter : Splitter) (text : 
 LinesKeepToWidth-from settings splitter text lines utf8 even breaks are =
     LinesKeepToWidth-by settings AreWordsOf (ArePoints splitter) (IsDividedBy Greedy sizes_of)
     AreTexts-words (ArePoints-cuts splitter)
-    (λ widths pieces division divided. (
-      [],
-      search (rules, arith, append-nil, IsDividedBy-whole),
-    ))
+    (λ widths pieces division divided. ([], search (rules, arith, append-nil, IsDividedBy-whole)))
     (ArePoints-hyphens splitter) (λ widths pieces division divided. divided)
     text lines utf8 even breaks are
 
@@ -185,8 +179,7 @@ module _ {E C : Type 0} {e : _} {c : _} (options : Options E C e c) where
       (λ built_in widths pieces division. MayDivide-some algorithm (λ w. w) widths pieces division
       built_in)
       (λ first widths pieces division. MayDivide-greedy algorithm (λ w. w) widths pieces division
-      first)
-      text lines utf8 are
+      first) text lines utf8 are
 
   pub LinesKeepToWidth-options : (text : List ℕ) (lines : List Line) → IsUtf8 text
       → options.even_paragraphs ≡ true → options.wrap_algorithm ≡ FirstFit
@@ -198,11 +191,9 @@ module _ {E C : Type 0} {e : _} {c : _} (options : Options E C e c) where
       LinesKeepToWidth-by (settings_view options) (MaySeparate options.word_separator)
       (MaySplit options.word_splitter) (MayDivide algorithm (λ w. w))
       (MaySeparate-texts options.word_separator) (MaySplit-cuts options.word_splitter)
-      (MayDivide-begins algorithm (λ w. w))
-      (MaySplit-hyphens options.word_splitter built_in)
+      (MayDivide-begins algorithm (λ w. w)) (MaySplit-hyphens options.word_splitter built_in)
       (λ widths pieces division. MayDivide-greedy algorithm (λ w. w) widths pieces division
-      (ap algorithm_view first))
-      text lines utf8 even breaks are
+      (ap algorithm_view first)) text lines utf8 even breaks are
 
   pub ArePrintedWithin-options : (text : List ℕ) (lines : List Line) → IsUtf8 text
       → options.wrap_algorithm ≡ FirstFit → splitter_view options.word_splitter ≢ None
@@ -216,5 +207,4 @@ module _ {E C : Type 0} {e : _} {c : _} (options : Options E C e c) where
       (MaySeparate-texts options.word_separator) (MaySplit-cuts options.word_splitter)
       (MaySplit-hyphens options.word_splitter built_in)
       (λ widths pieces division. MayDivide-greedy algorithm (λ w. w) widths pieces division
-      (ap algorithm_view first))
-      text lines utf8 can are
+      (ap algorithm_view first)) text lines utf8 can are

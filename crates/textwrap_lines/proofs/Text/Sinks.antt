@@ -1,17 +1,15 @@
 -- Lines, the places that they were cut from, and what takes them.
-use Rattle.textwrap_base.proofs.Common.{◌≡◌, ℕ, ◌+◌, Bool, true, List, [], ◌∷◌, ◌++◌, length, map}
-use Rattle.textwrap_base.proofs.Common.{refl, ap, arith, length-append, map-append, flat_map-append}
-use Rattle.textwrap_base.proofs.Common.{append-nil, cond, nat_lt, length-map, sym, ◌∙◌, subst}
-use Rattle.textwrap_base.proofs.Common.{append_assoc, lt-ltb, eqb-true, rules, length_push}
-use Rattle.textwrap_base.proofs.Common.{nil_from_length, OnOk, Result, Ok, Err, ◌<◌, ◌≤◌, ◌||◌}
-use Rattle.textwrap_base.proofs.Common.{false, flat_map}
+use Rattle.textwrap_base.proofs.Common.{◌≡◌, length, arith, nat_lt, subst, lt-ltb, Result, flat_map}
+use Rattle.textwrap_base.proofs.Common.{ℕ, [], ◌∷◌, map, ap, sym, ◌∙◌, Ok, Err, ◌<◌, ◌≤◌, ◌||◌}
+use Rattle.textwrap_base.proofs.Common.{◌+◌, Bool, true, List, ◌++◌, refl, cond, rules, OnOk, false}
+use Rattle.textwrap_base.proofs.Common.{length-append, map-append, flat_map-append, nil_from_length}
+use Rattle.textwrap_base.proofs.Common.{append-nil, length-map, append_assoc, eqb-true, length_push}
 use Rattle.textwrap_words.proofs.Common.{WordText, tiled}
-use Rattle.textwrap_lines.proofs.Common.{CutLine, cut_line, cut_lines, further, lines_of}
-use Rattle.textwrap_lines.proofs.Common.{built_bytes, built_text, place_of, places_of, Settings}
-use Rattle.textwrap_lines.proofs.Common.{LineParts, line_from, parts_from, parts_of, ending_bytes}
-use Rattle.textwrap_lines.proofs.Common.{join_with, Took, Line, line_bytes, assembled_line}
-use Rattle.textwrap_lines.proofs.Common.{AreCutLines, AreGroups, AreParagraphParts, paragraphs_of}
-use Rattle.textwrap_lines.proofs.Common.{text_cuts}
+use Rattle.textwrap_lines.proofs.Common.{CutLine, further, place_of, Settings, parts_of}
+use Rattle.textwrap_lines.proofs.Common.{cut_line, assembled_line, AreParagraphParts, paragraphs_of}
+use Rattle.textwrap_lines.proofs.Common.{cut_lines, places_of, LineParts, parts_from, line_bytes}
+use Rattle.textwrap_lines.proofs.Common.{lines_of, line_from, join_with, Took, AreGroups, text_cuts}
+use Rattle.textwrap_lines.proofs.Common.{built_bytes, built_text, ending_bytes, Line, AreCutLines}
 use Rattle.textwrap_lines.proofs.Paragraph.LeftOff.{parts_of-tile}
 use Rattle.textwrap_words.specs.LentText.{IsLent}
 use Rattle.textwrap_lines.specs.LentPlaces.{AddsPlace}
@@ -32,8 +30,7 @@ pub lines_of-more : (cuts : List CutLine) (start : ℕ) (more : List CutLine)
     → lines_of (cuts ++ map (further start) more) ≡ lines_of cuts ++ lines_of more
 lines_of-more [] start [] = refl
 lines_of-more [] start (cut ∷ more) = ap (λ ls. cut.line ∷ ls) (lines_of-more [] start more)
-lines_of-more (first ∷ cuts) start more =
-    ap (λ ls. first.line ∷ ls) (lines_of-more cuts start more)
+lines_of-more (first ∷ cuts) start more = ap (λ ls. first.line ∷ ls) (lines_of-more cuts start more)
 
 pub lines_of-cut_lines : (at : ℕ) (parts : List LineParts)
     → lines_of (cut_lines at parts) ≡ map line_from parts
@@ -58,8 +55,7 @@ cut_lines-next settings is_later at after pieces others is = grind (arith, parts
 
 -- ---- the places where they stand
 
-pub length-places_of : (used : ℕ) (cuts : List CutLine)
-    → length (places_of used cuts) ≡ length cuts
+pub length-places_of : (used : ℕ) (cuts : List CutLine) → length (places_of used cuts) ≡ length cuts
 length-places_of used [] = refl
 length-places_of used (cut ∷ cuts) =
     let more = length-places_of (used + length (built_bytes cut.line)) cuts in omega (arith, more)
@@ -263,20 +259,18 @@ module _ (settings : Settings) (Divides : Bool → List ℕ → List (List WordT
 
   pub HasParagraphs-start : (text : List ℕ) (sink : S) → Holds sink sink 0 []
       → HasParagraphs text sink sink (paragraphs_of settings.line_ending text) 0
-  HasParagraphs-start text sink none =
-      let whole = ap length (join-paragraphs_of settings.line_ending text) in
-      record {
-        done = [];
-        paragraphs = refl;
-        lines = [];
-        groups = [];
-        given = refl;
-        more = λ others are. are;
-        cuts = λ others. refl;
-        place = 0;
-        held = none;
-        within = λ some. omega (arith, whole);
-      }
+  HasParagraphs-start text sink none = record {
+    done = [];
+    paragraphs = refl;
+    lines = [];
+    groups = [];
+    given = refl;
+    more = λ others are. are;
+    cuts = λ others. refl;
+    place = 0;
+    held = none;
+    within = λ some. omega (arith, ap length (join-paragraphs_of settings.line_ending text));
+  }
 
   pub HasParagraphs-more : (text : List ℕ) (first now begun then : S)
       (after : List (List ℕ)) (start next : ℕ) (paragraph : List ℕ) (is_later : Bool)
@@ -296,14 +290,12 @@ module _ (settings : Settings) (Divides : Bool → List ℕ → List (List WordT
       let from_start : start + 0 ≡ start = omega arith in
       let cuts : map (further start) (cut_lines 0 parts) ≡ here =
       further-cut_lines start 0 parts ∙ ap (λ n. cut_lines n parts) from_start in
-      let count = length-append so_far.lines here in
-      let own : length here ≡ length parts =
-      sym (length-map here (λ (cut : CutLine). cut.line))
+      let own : length here ≡ length parts = sym (length-map here (λ (cut : CutLine). cut.line))
       ∙ ap length (lines_of-cut_lines start parts) ∙ length-map parts line_from in
       let later : nat_lt 0 (length (so_far.lines ++ here))
       ≡ nat_lt 0 (length so_far.lines) || nat_lt 0 (length parts) =
       is_later-or (length (so_far.lines ++ here)) (length so_far.lines) (length parts)
-      (omega (arith, count, own)) in
+      (omega (arith, length-append so_far.lines here, own)) in
       let ends : start + length paragraph + length (ending_bytes settings.line_ending) ≡ next =
       omega (arith, next_is) in
       record {
@@ -314,8 +306,7 @@ module _ (settings : Settings) (Divides : Bool → List ℕ → List (List WordT
         given = map-append (λ (cut : CutLine). cut.line) so_far.lines here
             ∙ ap (λ ls. ls ++ lines_of here) so_far.given
             ∙ ap (λ ls. map line_from (flat_map (λ ps. ps) so_far.groups) ++ ls)
-            (lines_of-cut_lines start parts)
-            ∙ sym (groups-push so_far.groups parts);
+            (lines_of-cut_lines start parts) ∙ sym (groups-push so_far.groups parts);
         more = λ others rest. rw append_assoc (so_far.more (parts ∷ others)
             (rw (is_out first start so_far.lines held) at are, rw later at rest));
         cuts = λ others. simp (append_assoc, so_far.cuts (parts ∷ others), ends);

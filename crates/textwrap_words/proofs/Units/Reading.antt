@@ -1,17 +1,16 @@
 -- The reader of characters: its states, what it shows, the columns of that, and how far it has
 -- come.
-use Rattle.textwrap_base.proofs.Common.{inl, inr, ◌≡◌, ◌≢◌, ℕ, suc, Bool, true, false, cond, eqb}
-use Rattle.textwrap_base.proofs.Common.{List, ◌∷◌, refl, ap, flat_map, cases_Bool, arith, ◌+◌, ◌≤◌}
-use Rattle.textwrap_base.proofs.Common.{[], ◌++◌, length, drop, sym, append-nil, chars_from_encodes}
-use Rattle.textwrap_base.proofs.Common.{encode_utf8_all, encodes-append, encodes-chars, ◌∙◌, subst}
-use Rattle.textwrap_base.proofs.Common.{chars-nil, chars_past_char, drop-drop, drop_at}
-use Rattle.textwrap_base.proofs.Common.{IsCharBoundary, IsCharBoundary-start, IsUtf8, IsUtf8-drop}
-use Rattle.textwrap_base.proofs.Common.{IsUtf8-past_char, length-append, length-drop}
-use Rattle.textwrap_base.proofs.Common.{nil_from_length, zero, ◌<◌, get_or, All, append_assoc}
-use Rattle.textwrap_base.proofs.Common.{All-nil, All-head, All-tail, All-append, All-from_get_or}
-use Rattle.textwrap_base.proofs.Common.{zero-add, map, sum_by, IsAscii, cases_lt, get_or_past}
-use Rattle.textwrap_base.proofs.Common.{nat_tests, sum_by-cons, sum_by-append, chars-IsAscii}
-use Rattle.textwrap_base.proofs.Common.{cases_eq, length-encode, ne_eqb, drop_more}
+use Rattle.textwrap_base.proofs.Common.{inl, inr, ◌≡◌, ◌≢◌, suc, cond, List, refl, ◌++◌, drop, zero}
+use Rattle.textwrap_base.proofs.Common.{ℕ, eqb, ◌∷◌, ◌+◌, ◌≤◌, [], sym, ◌∙◌, ◌<◌, All, map}
+use Rattle.textwrap_base.proofs.Common.{Bool, IsUtf8-drop, length-drop, append_assoc, length-encode}
+use Rattle.textwrap_base.proofs.Common.{true, false, arith, subst, IsUtf8, get_or, sum_by, ne_eqb}
+use Rattle.textwrap_base.proofs.Common.{ap, drop_at, All-nil, zero-add, IsAscii, cases_lt, cases_eq}
+use Rattle.textwrap_base.proofs.Common.{flat_map, encode_utf8_all, chars_past_char, nil_from_length}
+use Rattle.textwrap_base.proofs.Common.{cases_Bool, encodes-append, IsCharBoundary, All-from_get_or}
+use Rattle.textwrap_base.proofs.Common.{length, drop-drop, All-head, All-tail, nat_tests, drop_more}
+use Rattle.textwrap_base.proofs.Common.{append-nil, chars-nil, All-append, get_or_past, sum_by-cons}
+use Rattle.textwrap_base.proofs.Common.{chars_from_encodes, IsCharBoundary-start, IsUtf8-past_char}
+use Rattle.textwrap_base.proofs.Common.{encodes-chars, length-append, sum_by-append, chars-IsAscii}
 use Rattle.textwrap_words.proofs.Common.{TextUnit, is_control_end, is_command_end, next_of, shows}
 use Rattle.textwrap_words.proofs.Common.{taken_in, unit_at, units_past, visible_in, visible_of}
 use Rattle.textwrap_words.proofs.Common.{escape, escape_len, stripped, Visible, taken_at, columns}
@@ -50,8 +49,7 @@ units_in-inside s c cs inside = ap (λ n. units_past n (c ∷ cs)) (taken-step s
 
 pub units_in-text : (c : ℕ) (cs : List ℕ)
     → units_in Text (c ∷ cs) ≡ unit_at c cs ∷ units_in (next_of Text c) cs
-units_in-text c cs =
-    elim (cases_Bool (eqb c 27)) [ inl t ↦ rw t refl | inr f ↦ rw f refl ]
+units_in-text c cs = elim (cases_Bool (eqb c 27)) [ inl t ↦ rw t refl | inr f ↦ rw f refl ]
 
 -- what the reader shows of a text is visible in it
 pub visible-step : (s : State) (c : ℕ) (cs : List ℕ)
@@ -159,8 +157,7 @@ encode-plain c other = All-from_get_or (λ b. b ≢ escape) (encode c) 0 (λ k w
 encodes-plain : (cs : List ℕ) → All (λ c. c ≢ escape) cs → All (λ b. b ≢ escape)
     (encode_utf8_all cs)
 encodes-plain [] plain = All-nil (λ b. b ≢ escape)
-encodes-plain (c ∷ cs) plain =
-    All-append (λ b. b ≢ escape) (encode c) (encode_utf8_all cs)
+encodes-plain (c ∷ cs) plain = All-append (λ b. b ≢ escape) (encode c) (encode_utf8_all cs)
     (encode-plain c (All-head (λ d. d ≢ escape) c cs plain))
     (encodes-plain cs (All-tail (λ d. d ≢ escape) c cs plain))
 
@@ -171,8 +168,7 @@ visible-plain zero (c ∷ cs) = grind (arith, visible-plain (escape_len cs) cs, 
 visible-plain (suc n) (c ∷ cs) = visible-plain n cs
 
 pub stripped-plain : (bytes : List ℕ) → All (λ b. b ≢ escape) (stripped bytes)
-stripped-plain bytes =
-    encodes-plain (flat_map visible_of (units_past 0 (chars bytes)))
+stripped-plain bytes = encodes-plain (flat_map visible_of (units_past 0 (chars bytes)))
     (visible-plain 0 (chars bytes))
 
 -- ---- a text is no shorter than its visible characters
@@ -183,8 +179,7 @@ visible-short : (n : ℕ) (cs : List ℕ)
 visible-short n [] = omega arith
 visible-short zero (c ∷ cs) =
     grind (arith, length-append, visible-short (escape_len cs) cs, visible-short 0 cs)
-visible-short (suc n) (c ∷ cs) =
-    omega (arith, visible-short n cs, length-append {A = ℕ})
+visible-short (suc n) (c ∷ cs) = omega (arith, visible-short n cs, length-append {A = ℕ})
 
 pub stripped-short : (text : List ℕ) → IsUtf8 text → length (stripped text) ≤ length text
 stripped-short text utf8 =
@@ -203,8 +198,7 @@ added state c = cond (shows state c) (columns c) 0
 -- one step over a character
 pub columns_in-step : (state : State) (c : ℕ) (cs : List ℕ)
     → columns_in state (c ∷ cs) ≡ added state c + columns_in (next_of state c) cs
-columns_in-step state c cs =
-    ap (sum_by columns) (visible-step state c cs)
+columns_in-step state c cs = ap (sum_by columns) (visible-step state c cs)
     ∙ elim (cases_Bool (shows state c)) [
       | inl t ↦ rw t (sum_by-cons columns c (visible_in (next_of state c) cs))
       | inr f ↦ rw f (sym (zero-add (columns_in (next_of state c) cs)))
@@ -227,8 +221,7 @@ unit_at-le c cs = grind arith
 pub visible-le : (n : ℕ) (cs : List ℕ)
     → sum_by columns (flat_map visible_of (units_past n cs)) ≤ sum_by columns cs
 visible-le n [] = omega arith
-visible-le zero (c ∷ cs) =
-    simp (sum_by-cons, sum_by-append)
+visible-le zero (c ∷ cs) = simp (sum_by-cons, sum_by-append)
     (omega (arith, unit_at-le c cs, visible-le (taken_at c cs) cs))
 visible-le (suc n) (c ∷ cs) = simp sum_by-cons (omega (arith, visible-le n cs))
 
@@ -242,8 +235,7 @@ pub printable-no_escape : (c : ℕ) → IsPrintableByte c → eqb c 27 ≡ false
 printable-no_escape c (low, high) = grind (arith, nat_tests, low)
 
 pub printable-ascii : (text : List ℕ) → IsPrintable text → IsAscii text
-printable-ascii text printable i =
-    grind (arith, cases_lt, get_or_past)
+printable-ascii text printable i = grind (arith, cases_lt, get_or_past)
 
 pub units-printable : (cs : List ℕ) → IsPrintable cs → units cs ≡ map Visible cs
 units-printable [] printable = refl
@@ -289,14 +281,13 @@ unfolding char_width alone
 columns-other c other = grind (arith, of_kind-narrow c (kind c) other)
 
 pub columns-le : (c : ℕ) → columns c ≤ length (encode c)
-columns-le c =
-    elim (cases_lt c 128) [
-      | inl low ↦ rw length-encode (grind (arith, nat_tests, columns-ascii c low))
-      | inr high ↦ elim (cases_eq c 0x17D8) [
-        | inl same ↦ rw length-encode (grind (arith, nat_tests, width_or_zero-le false c, same))
-        | inr other ↦ rw length-encode (grind (arith, nat_tests, columns-other c other, high))
-      ]
-    ]
+columns-le c = elim (cases_lt c 128) [
+  | inl low ↦ rw length-encode (grind (arith, nat_tests, columns-ascii c low))
+  | inr high ↦ elim (cases_eq c 0x17D8) [
+    | inl same ↦ rw length-encode (grind (arith, nat_tests, width_or_zero-le false c, same))
+    | inr other ↦ rw length-encode (grind (arith, nat_tests, columns-other c other, high))
+  ]
+]
 
 pub added-le : (s : State) (c : ℕ) → added s c ≤ length (encode c)
 added-le s c = grind (arith, cases_Bool, columns-le c)

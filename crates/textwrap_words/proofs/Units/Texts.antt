@@ -67,8 +67,7 @@ units_past-end (suc n) (c ∷ cs) short = units_past-end n cs (omega arith)
 -- where more units come, a unit does not reach the end
 more-left : (n : ℕ) (cs : List ℕ) (xs ys : List TextUnit) → units_past n cs ≡ xs ++ ys → ys ≢ []
     → n < length cs
-more-left n cs xs ys e more =
-    grind (arith, cases_lt, nil_after, units_past-end)
+more-left n cs xs ys e more = grind (arith, cases_lt, nil_after, units_past-end)
 
 part-unit : (c : ℕ) (cs : List ℕ) (xs ys : List TextUnit) (b : Bool) → eqb c 27 ≡ b
     → units_past (cond b (escape_len cs) 0) cs ≡ xs ++ ys → ys ≢ []
@@ -117,8 +116,7 @@ pub record StopsAt (passes : List ℕ → Bool) (cs : List ℕ) (n : ℕ) : Type
 
 StopsAt-cons : (whole tail : List ℕ → Bool) (c : ℕ) (cs : List ℕ) (n : ℕ) → whole [] ≡ false
     → ((l : List ℕ) → whole (c ∷ l) ≡ tail l) → StopsAt tail cs n → StopsAt whole (c ∷ cs) (suc n)
-StopsAt-cons whole tail c cs n none along stops =
-    grind arith
+StopsAt-cons whole tail c cs n none along stops = grind arith
   where
     before : (k : ℕ) → k < suc n → whole (take k (c ∷ cs)) ≡ false
     before zero below = none
@@ -146,8 +144,7 @@ module _ (passes : List ℕ → Bool) (test : ℕ → ℕ → Bool) (len : ℕ �
               (record { within = omega arith; before = first; stop = inl (next c ∙ here) })
           | inr on ↦ rw (len-cons b c cs, on)
               (StopsAt-cons (λ l. passes (front ++ l)) (λ l. passes ((front ++ c ∷ []) ++ l)) c cs
-              (len c cs) (rw append-nil none)
-              (λ l. ap passes (sym (append_assoc front (c ∷ []) l)))
+              (len c cs) (rw append-nil none) (λ l. ap passes (sym (append_assoc front (c ∷ []) l)))
               (StopsAt-len cs (front ++ c ∷ []) c (next c ∙ on) (passes-push front c)))
         ]
 
@@ -174,13 +171,11 @@ escape-cons : (c : ℕ) (cs : List ℕ) (control command : Bool) → is_control_
 escape-cons c cs true command is_control is_command =
     rw is_control (StopsAt-cons ends (λ l. is_control_end (last l)) c cs (control_len cs) refl
     (λ l. rw is_control) (control-stops cs))
-escape-cons c cs false true is_control is_command =
-    rw (is_control, is_command)
+escape-cons c cs false true is_control is_command = rw (is_control, is_command)
     (StopsAt-cons ends (λ l. is_command_end (last_but_one l) (last l)) c cs
     (command_len c cs) refl (λ l. rw (is_control, is_command))
     (command-stops c is_command cs))
-escape-cons c cs false false is_control is_command =
-    grind (arith, StopsAt-cons)
+escape-cons c cs false false is_control is_command = grind (arith, StopsAt-cons)
 
 pub escape-stops : (cs : List ℕ) → StopsAt ends cs (escape_len cs)
 escape-stops [] = StopsAt-nil ends refl
@@ -201,8 +196,7 @@ sequence-units cs n stops rest =
     ⊎_elim
     (λ (passed : ends (take n cs) ≡ true). AreUnits-cons (Sequence (escape ∷ take n cs))
     (units_past n cs) (take n cs, refl, passed, λ k below. before k (omega arith)) rest)
-    (grind (arith, take_all, units_past-end))
-    stops.stop
+    (grind (arith, take_all, units_past-end)) stops.stop
 
 AreUnits-at : (c : ℕ) (cs : List ℕ) (b : Bool) → (c == escape) ≡ b
     → AreUnits (units_past (cond b (escape_len cs) 0) cs)
@@ -235,8 +229,7 @@ record Begins (cs : List ℕ) (us : List TextUnit) : Type 0 where
 Begins-from : (cs : List ℕ) (us : List TextUnit) → AreUnits (Sequence cs ∷ us) → Begins cs us
 Begins-from cs [] (inl whole) =
     record { body = whole.0; shape = whole.1; before = whole.3; stop = inl whole.2; rest = tt }
-Begins-from cs [] (inr open_last) =
-    grind arith
+Begins-from cs [] (inr open_last) = grind arith
 Begins-from cs (v ∷ us) (whole, rest) =
     record { body = whole.0; shape = whole.1; before = whole.3; stop = inl whole.2; rest = rest }
 
@@ -281,8 +274,7 @@ some_characters (Sequence cs) us are = let begins : Begins cs us = Begins-from c
 not_visible : (c : ℕ) (cs : List ℕ) (us vs : List TextUnit) → AreUnits (Visible c ∷ us)
     → AreUnits (Sequence cs ∷ vs) → flat_map characters (Visible c ∷ us) ≡ flat_map characters
     (Sequence cs ∷ vs) → ⊥
-not_visible c cs us vs visible sequence same =
-    grind (arith, Begins-from, AreUnits-visible)
+not_visible c cs us vs visible sequence same = grind (arith, Begins-from, AreUnits-visible)
 
 units_same : (us vs : List TextUnit) → AreUnits us → AreUnits vs
     → flat_map characters us ≡ flat_map characters vs → us ≡ vs
@@ -304,13 +296,11 @@ units_same (Sequence cs ∷ us) (Sequence ds ∷ vs) ours theirs same =
     let second : Begins ds vs = Begins-from ds vs theirs in
     let both : (cs ≡ ds) × (flat_map characters us ≡ flat_map characters vs) =
     same_sequence cs ds us vs first second same in
-    let tails : us ≡ vs = units_same us vs first.rest second.rest both.1 in
-    cc
+    let tails : us ≡ vs = units_same us vs first.rest second.rest both.1 in cc
 
 pub units_unique : (cs : List ℕ) (us : List TextUnit) → IsInUnits cs us ↔ (us ≡ units cs)
 units_unique cs us = (
-  λ is. units_same us (units cs) is.1 (IsInUnits-units cs).1
-      (is.0 ∙ sym (IsInUnits-units cs).0),
+  λ is. units_same us (units cs) is.1 (IsInUnits-units cs).1 (is.0 ∙ sym (IsInUnits-units cs).0),
   λ is. subst (IsInUnits cs) (sym is) (IsInUnits-units cs),
 )
 
@@ -333,8 +323,7 @@ module _ {V : Type 0} (range : Range) (rises : rises_from 0 (range_rows (range �
 
   pub passes-within : range.1 ≤ 0x10_FFFF → always passes_at passes_stepped ≡ true
       → (c : ℕ) → range.0 ≤ c → c ≤ range.1 → p (f c) ≡ true
-  passes-within last ok c low high =
-      rw (within-range c low high)
+  passes-within last ok c low high = rw (within-range c low high)
       at (Stepped-always passes_at passes_stepped ok c (omega (arith, last, high)))
 
 -- two columns, by the table of widths

@@ -37,10 +37,8 @@ IsInFirst-start limit cs =
 -- the reader goes over one unit of the text
 text-unit : (limit width c : ℕ) (cs : List ℕ)
     → (shows Text c ≡ true → is_due limit width (Visible c) ≡ false)
-    → (is_due limit width (unit_at c cs) ≡ false)
-    × (unit_width (unit_at c cs) ≡ added Text c)
-text-unit limit width c cs room =
-    grind (arith, cases_Bool)
+    → (is_due limit width (unit_at c cs) ≡ false) × (unit_width (unit_at c cs) ≡ added Text c)
+text-unit limit width c cs room = grind (arith, cases_Bool)
 
 -- what comes in the state after a character, with what that character adds
 record TakesUnit (limit width : ℕ) (us : List TextUnit) (more : ℕ) (vs : List TextUnit) : Type 0 where
@@ -91,8 +89,7 @@ pub IsInFirst-cut : (limit : ℕ) (cs : List ℕ) (s : State) (width c : ℕ) (r
     → IsInFirst limit cs s width (c ∷ rest) → shows s c ≡ true
     → is_due limit width (Visible c) ≡ true → EndsHere limit cs width (units (c ∷ rest))
 IsInFirst-cut limit cs Text width c rest h shown due =
-    let plain = not-true (eqb c 27) shown in
-    grind arith
+    let plain = not-true (eqb c 27) shown in grind arith
 IsInFirst-cut limit cs Escape width c rest h shown due = cc
 IsInFirst-cut limit cs Control width c rest h shown due = cc
 IsInFirst-cut limit cs (Command last) width c rest h shown due = cc

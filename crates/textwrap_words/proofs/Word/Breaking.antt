@@ -1,11 +1,10 @@
 -- The parts into which units are broken: the computed ones, and no others.
-use Rattle.textwrap_base.proofs.Common.{inl, inr, ◌≡◌, ℕ, ◌+◌, ◌<◌, ◌≤◌, true, false, cond, List}
-use Rattle.textwrap_base.proofs.Common.{[], ◌∷◌, ◌++◌, refl, ap, subst, zero-add, arith, ⊤}
-use Rattle.textwrap_base.proofs.Common.{onto_first, cases_Bool, nat_tests, sum_by-cons, ◌≢◌}
-use Rattle.textwrap_base.proofs.Common.{add-zero, All, All-head, All-tail, sym, ◌∙◌, and_parts}
-use Rattle.textwrap_base.proofs.Common.{ltb-true, All-nil, All-cons, zero, suc, ◌⊎◌, nat_lt, filter}
-use Rattle.textwrap_base.proofs.Common.{length, drop, append_assoc, flat_map, cases_lt}
-use Rattle.textwrap_base.proofs.Common.{sum_by-append}
+use Rattle.textwrap_base.proofs.Common.{inl, inr, ◌≡◌, ◌+◌, ◌<◌, ◌≤◌, ◌∷◌, ◌++◌, refl, zero, drop}
+use Rattle.textwrap_base.proofs.Common.{ℕ, true, cond, List, arith, All-nil, nat_lt, filter, length}
+use Rattle.textwrap_base.proofs.Common.{false, onto_first, sum_by-cons, append_assoc, sum_by-append}
+use Rattle.textwrap_base.proofs.Common.{[], ap, ⊤, ◌≢◌, All, sym, ◌∙◌, suc, ◌⊎◌}
+use Rattle.textwrap_base.proofs.Common.{subst, zero-add, cases_Bool, nat_tests, add-zero, and_parts}
+use Rattle.textwrap_base.proofs.Common.{All-head, All-tail, ltb-true, All-cons, flat_map, cases_lt}
 use Rattle.textwrap_words.proofs.Common.{TextUnit, Visible, Sequence, columns, unit_width}
 use Rattle.textwrap_words.proofs.Common.{units_width, IsKept, AllPartsFull, is_due, broken_units}
 use Rattle.textwrap_words.proofs.Common.{characters, taken_at, units_past, units, visible_of}
@@ -98,13 +97,11 @@ kept-at limit width (u ∷ before) after c k some =
     omega (arith, more, later)
 
 pub IsKept-after : (limit : ℕ) (part : List TextUnit) → IsKept limit part → IsKeptAfter limit 0 part
-IsKept-after limit part h =
-    kept-after limit 0 part (λ before after c e some.
+IsKept-after limit part h = kept-after limit 0 part (λ before after c e some.
     omega (arith, h before after c e (omega arith)))
 
 pub IsKept-from : (limit : ℕ) (part : List TextUnit) → IsKeptAfter limit 0 part → IsKept limit part
-IsKept-from limit part k =
-    λ before after c e some. omega
+IsKept-from limit part k = λ before after c e some. omega
     (arith, kept-at limit 0 before after c (subst (IsKeptAfter limit 0) e k) (omega arith))
 
 -- a part of `width` columns has no room for what begins the next
@@ -136,8 +133,7 @@ due-true limit width c some over = grind (arith, nat_tests)
 -- ---- no parts but the computed ones have the properties
 
 along : (limit width : ℕ) (first rest : List TextUnit) (more : List (List TextUnit))
-    → IsKeptAfter limit width first
-    → parts_after limit (width + units_width first) rest ≡ [] ∷ more
+    → IsKeptAfter limit width first → parts_after limit (width + units_width first) rest ≡ [] ∷ more
     → parts_after limit width (first ++ rest) ≡ first ∷ more
 along limit width [] rest more k e = rw add-zero at e
 along limit width (u ∷ first) rest more k e =
@@ -172,8 +168,7 @@ AreBroken-unique limit us ((u ∷ first) ∷ parts) h =
     rw zero-add (AllPartsFull-head limit (u ∷ first) parts h.full) in
     sym (whole limit 0 (u ∷ first) parts kept full
     (All-tail (IsKept limit) (u ∷ first) parts h.kept)
-    (AllPartsFull-tail limit (u ∷ first) parts h.full))
-    ∙ ap (broken_units limit) h.tiles
+    (AllPartsFull-tail limit (u ∷ first) parts h.full)) ∙ ap (broken_units limit) h.tiles
 
 -- ---- the computed parts have the properties
 
@@ -229,8 +224,7 @@ after-cut : (limit width : ℕ) (u : TextUnit) (us first : List TextUnit)
     (parts : List (List TextUnit)) → is_due limit width u ≡ true
     → AreBrokenAfter limit (unit_width u) us first parts
     → AreBrokenAfter limit width (u ∷ us) [] ((u ∷ first) ∷ parts)
-after-cut limit width u us first parts due h =
-    search (from-first, add-zero, due-parts)
+after-cut limit width u us first parts due h = search (from-first, add-zero, due-parts)
 
 first-next : (limit : ℕ) (u : TextUnit) (us : List TextUnit)
     → (u ∷ taken_units limit (unit_width u) us) ∷ broken_units limit
@@ -243,12 +237,11 @@ after-is : (limit width : ℕ) (us : List TextUnit)
     (broken_units limit (left_units limit width us))
 after-is limit width [] =
     record { tiles = refl; kept_first = tt; full_first = tt; others = nothing-broken limit }
-after-is limit width (u ∷ us) =
-    elim (cases_Bool (is_due limit width u)) [
-      | inl due ↦ rw due (subst (AreBrokenAfter limit width (u ∷ us) []) (first-next limit u us)
-          (after-cut limit width u us _ _ due (after-is limit (unit_width u) us)))
-      | inr on ↦ rw on (after-on limit width u us _ _ on (after-is limit (width + unit_width u) us))
-    ]
+after-is limit width (u ∷ us) = elim (cases_Bool (is_due limit width u)) [
+  | inl due ↦ rw due (subst (AreBrokenAfter limit width (u ∷ us) []) (first-next limit u us)
+      (after-cut limit width u us _ _ due (after-is limit (unit_width u) us)))
+  | inr on ↦ rw on (after-on limit width u us _ _ on (after-is limit (width + unit_width u) us))
+]
 
 pub AreBroken-exists : (limit : ℕ) (us : List TextUnit) → AreBroken limit us (broken_units limit us)
 AreBroken-exists limit [] = nothing-broken limit
@@ -349,12 +342,11 @@ module _ (limit : ℕ) where
       single (front ++ Sequence cs ∷ []) us (kept-push front (Sequence cs) us kept)
       (omega (arith, width-push front (Sequence cs)))
       (omega (arith, sum_by-cons unit_width (Sequence cs) us))
-  single front (Visible c ∷ us) kept none wide =
-      elim (cases_lt 0 (columns c)) [
-        | inl some ↦ rw (seen c some) (ap suc (single_after front c us kept none wide some))
-        | inr nothing ↦
-            rw (unseen c (omega arith))
-            (single (front ++ Visible c ∷ []) us (kept-push front (Visible c) us kept)
-            (omega (arith, width-push front (Visible c)))
-            (omega (arith, sum_by-cons unit_width (Visible c) us)))
-      ]
+  single front (Visible c ∷ us) kept none wide = elim (cases_lt 0 (columns c)) [
+    | inl some ↦ rw (seen c some) (ap suc (single_after front c us kept none wide some))
+    | inr nothing ↦
+        rw (unseen c (omega arith))
+        (single (front ++ Visible c ∷ []) us (kept-push front (Visible c) us kept)
+        (omega (arith, width-push front (Visible c)))
+        (omega (arith, sum_by-cons unit_width (Visible c) us)))
+  ]

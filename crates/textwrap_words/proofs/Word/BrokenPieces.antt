@@ -8,11 +8,10 @@ use Rattle.textwrap_base.proofs.Common.{◌<◌, All, nil_from_length, append-ni
 use Rattle.textwrap_base.proofs.Common.{All-head, All-tail, ⊤, Bool, true, cond, subst, All-nil}
 use Rattle.textwrap_base.proofs.Common.{All-cons, lt-ltb, ltb-false, cond_both, sum_by-append}
 use Rattle.textwrap_base.proofs.Common.{sum_by-cons, false≢true, chars_from_encodes}
-use Rattle.textwrap_words.proofs.Common.{TextUnit, characters, columns, units, visible_of}
-use Rattle.textwrap_words.proofs.Common.{text_width, units_text, broken_units, broken_texts}
-use Rattle.textwrap_words.proofs.Common.{WordText, tile_of, tiled, piece, pieces_with}
-use Rattle.textwrap_words.proofs.Common.{broken_pieces, broken_word, broken_words, Visible}
-use Rattle.textwrap_words.proofs.Common.{unit_width, units_width, IsKept}
+use Rattle.textwrap_words.proofs.Common.{TextUnit, visible_of, text_width, units_text, unit_width}
+use Rattle.textwrap_words.proofs.Common.{characters, columns, pieces_with, broken_word, units_width}
+use Rattle.textwrap_words.proofs.Common.{units, WordText, tile_of, tiled, piece, Visible, IsKept}
+use Rattle.textwrap_words.proofs.Common.{broken_units, broken_texts, broken_pieces, broken_words}
 use Rattle.textwrap_words.proofs.Word.Ahead.{EndsHere}
 use Rattle.std.specs.Prelude.{chars}
 use Rattle.std.proofs.lemmas.List.{append_cancel_right}
@@ -44,8 +43,7 @@ units_text-chars text utf8 = ap encode_utf8_all (units-tile (chars text)) ∙ en
 
 pub broken_texts-tile : (limit : ℕ) (text : List ℕ) → IsUtf8 text
     → flat_map (λ t. t) (broken_texts limit text) ≡ text
-broken_texts-tile limit text utf8 =
-    grind (arith, texts-flat, AreBroken-exists, units_text-chars)
+broken_texts-tile limit text utf8 = grind (arith, texts-flat, AreBroken-exists, units_text-chars)
 
 pub broken_texts-nil : (limit : ℕ) → broken_texts limit [] ≡ []
 broken_texts-nil limit = ap (λ cs. map units_text (broken_units limit (units cs))) chars-nil
@@ -85,8 +83,7 @@ IsFirstPiece-found limit text len width utf8 some within rest_utf8 found =
     let split : us ≡ part ++ rest = sym (taken-left limit 0 us)
     ∙ ap (λ vs. part ++ vs) found.leaves in
     let both : chars (take len text) ++ chars (drop len text) ≡ flat_map characters part ++ chars
-    (drop len text) =
-    sym (chars-append (take len text) (drop len text) front_utf8)
+    (drop len text) = sym (chars-append (take len text) (drop len text) front_utf8)
     ∙ ap chars (take-append-drop len text) ∙ sym (units-tile (chars text))
     ∙ ap (λ vs. flat_map characters vs) split ∙ flat_map-append characters part rest
     ∙ ap (λ ds. flat_map characters part ++ ds) (units-tile (chars (drop len text))) in
@@ -154,8 +151,7 @@ pub tiled-pieces_with : (whitespace penalty : List ℕ) (texts : List (List ℕ)
 tiled-pieces_with whitespace penalty [] some = absurd (some refl)
 tiled-pieces_with whitespace penalty (text ∷ []) some = simp append-nil
 tiled-pieces_with whitespace penalty (text ∷ next ∷ texts) some =
-    let rest = tiled-pieces_with whitespace penalty (next ∷ texts) (λ e. cc) in
-    rw (append-nil text, rest)
+    rw (append-nil text, tiled-pieces_with whitespace penalty (next ∷ texts) (λ e. cc))
     (sym (append_assoc text (flat_map (λ t. t) (next ∷ texts)) whitespace))
 
 -- ---- tiling
@@ -177,8 +173,7 @@ tiled-broken_words limit (w ∷ words) utf8 some =
     let first = tiled-broken_word limit w (All-head (λ v. IsUtf8 v.word) w words utf8)
     (All-head (λ v. limit < v.width → v.word ≢ []) w words some) in
     flat_map-append tile_of (broken_word limit w) (broken_words limit words)
-    ∙ ap (λ l. l ++ tiled (broken_words limit words)) first
-    ∙ ap (λ l. tile_of w ++ l)
+    ∙ ap (λ l. l ++ tiled (broken_words limit words)) first ∙ ap (λ l. tile_of w ++ l)
     (tiled-broken_words limit words (All-tail (λ v. IsUtf8 v.word) w words utf8)
     (All-tail (λ v. limit < v.width → v.word ≢ []) w words some))
 
@@ -204,8 +199,7 @@ texts-utf8 (part ∷ parts) u =
 
 pub broken_texts-utf8 : (limit : ℕ) (text : List ℕ) → IsUtf8 text
     → All IsUtf8 (broken_texts limit text)
-broken_texts-utf8 limit text utf8 =
-    grind (arith, texts-utf8, AreBroken-exists, units_text-chars)
+broken_texts-utf8 limit text utf8 = grind (arith, texts-utf8, AreBroken-exists, units_text-chars)
 
 -- ---- the pieces as words
 
@@ -226,8 +220,7 @@ broken_word-measured : (limit : ℕ) (w : WordText) → IsMeasured w → (b : Bo
     → All IsMeasured (cond b (broken_pieces limit w) (w ∷ []))
 broken_word-measured limit w measured true =
     let of_text : (whitespace penalty text : List ℕ) → EndsInBlanks (piece [] whitespace penalty)
-    → IsUtf8 text → IsMeasured (piece text whitespace penalty) =
-    grind arith in
+    → IsUtf8 text → IsMeasured (piece text whitespace penalty) = grind arith in
     pieces_with-all IsMeasured IsUtf8 w.whitespace w.penalty
     (λ text. of_text [] [] text (record { blanks = no_blanks; none = λ _. refl }))
     (λ text. of_text w.whitespace w.penalty text
@@ -237,8 +230,7 @@ broken_word-measured limit w measured false = All-cons IsMeasured w [] measured 
 
 pub broken_words-measured : (limit : ℕ) (words : List WordText) → All IsMeasured words
     → All IsMeasured (broken_words limit words)
-broken_words-measured limit =
-    All-each IsMeasured IsMeasured (broken_word limit)
+broken_words-measured limit = All-each IsMeasured IsMeasured (broken_word limit)
     (λ w measured. broken_word-measured limit w measured _)
 
 broken_word-no_penalty : (limit : ℕ) (w : WordText) → HasNoPenalty w → (b : Bool)
@@ -250,8 +242,7 @@ broken_word-no_penalty limit w none false = All-cons HasNoPenalty w [] none (All
 
 pub broken_words-no_penalty : (limit : ℕ) (words : List WordText) → All HasNoPenalty words
     → All HasNoPenalty (broken_words limit words)
-broken_words-no_penalty limit =
-    All-each HasNoPenalty HasNoPenalty (broken_word limit)
+broken_words-no_penalty limit = All-each HasNoPenalty HasNoPenalty (broken_word limit)
     (λ w none. broken_word-no_penalty limit w none _)
 
 -- ---- a text within the limit is one piece, and a word that is broken goes on as its rest does
@@ -349,6 +340,5 @@ module _ (limit : ℕ) where
 
   pub broken_words-tight : (words : List WordText) → All IsMeasured words
       → All IsTight (broken_words limit words)
-  broken_words-tight =
-      All-each IsMeasured IsTight (broken_word limit)
+  broken_words-tight = All-each IsMeasured IsTight (broken_word limit)
       (λ w measured. broken_word-tight w measured.utf8 (ltb limit w.width) refl)

@@ -1,10 +1,9 @@
 -- Lemmas on what an algorithm may divide, also one of a caller: its lines are the first elements in
 -- order, and along a view they are those of what the view gives.
-use Rattle.textwrap_base.proofs.Common.{◌≡◌, ◌≢◌, ℕ, suc, ◌-◌, ◌≤◌, ◌<◌, List, [], ◌∷◌, length, map}
-use Rattle.textwrap_base.proofs.Common.{drop, get_or, refl, sym, ap, ◌∙◌, subst, arith}
-use Rattle.textwrap_base.proofs.Common.{append_assoc, append-nil, Some, None, Ok, slice_range}
-use Rattle.textwrap_base.proofs.Common.{IsNonDecreasing, map-id, take-map, length-map, drop_split}
-use Rattle.textwrap_base.proofs.Common.{◌++◌}
+use Rattle.textwrap_base.proofs.Common.{◌≡◌, append_assoc, append-nil, slice_range, IsNonDecreasing}
+use Rattle.textwrap_base.proofs.Common.{◌≢◌, suc, List, drop, refl, subst, arith, Some, None, ◌++◌}
+use Rattle.textwrap_base.proofs.Common.{ℕ, length, get_or, map-id, take-map, length-map, drop_split}
+use Rattle.textwrap_base.proofs.Common.{◌-◌, ◌≤◌, ◌<◌, [], ◌∷◌, map, sym, ap, ◌∙◌, Ok}
 use Rattle.textwrap_words.proofs.Common.{WordText, sizes_of, Greedy, LeastCost, IsDividedBy}
 use Rattle.textwrap_words.proofs.Common.{MayDivide, algorithm_view}
 use Rattle.std.proofs.lemmas.List.{drop-map}
@@ -96,8 +95,7 @@ module _ {F : Type 0} {f : _} where
 
   pub MayDivide-greedy : {X : Type 0} (algorithm : WrapAlgorithm F f) (view : X → WordText)
       (widths : List ℕ) (xs : List X) (lines : List (List X))
-      → algorithm_view algorithm ≡ Some Greedy
-      → MayDivide algorithm view widths xs lines
+      → algorithm_view algorithm ≡ Some Greedy → MayDivide algorithm view widths xs lines
       → IsDividedBy Greedy (λ x. sizes_of (view x)) widths xs lines
   MayDivide-greedy FirstFit view widths xs lines is divided = divided
   MayDivide-greedy (OptimalFit penalties) view widths xs lines is divided = cc

@@ -1,10 +1,9 @@
 -- The pieces of a text from a place on, and the first of them, where the reader stopped.
-use Rattle.textwrap_base.proofs.Common.{inl, inr, ◌≡◌, ◌≢◌, ℕ, ◌+◌, ◌-◌, ◌<◌, ◌≤◌, Bool, List, []}
-use Rattle.textwrap_base.proofs.Common.{◌∷◌, ◌++◌, length, map, take, drop, get_or, sym, ap, ◌∙◌}
-use Rattle.textwrap_base.proofs.Common.{arith, slice_range, cases_lt, length-drop, drop-drop}
-use Rattle.textwrap_base.proofs.Common.{take-take, get_or-take, get_or-drop, IsUtf8, subst}
-use Rattle.textwrap_base.proofs.Common.{IsCharBoundary, IsUtf8-between, true, false, ◌&&◌, ◌||◌}
-use Rattle.textwrap_base.proofs.Common.{not, true≢false}
+use Rattle.textwrap_base.proofs.Common.{inl, inr, ◌≡◌, List, [], ◌++◌, take, drop, true, ◌&&◌, ◌||◌}
+use Rattle.textwrap_base.proofs.Common.{◌≢◌, ◌+◌, ◌-◌, ◌<◌, ◌≤◌, ◌∷◌, map, sym, ap, ◌∙◌, not}
+use Rattle.textwrap_base.proofs.Common.{ℕ, slice_range, length-drop, IsCharBoundary, IsUtf8-between}
+use Rattle.textwrap_base.proofs.Common.{Bool, length, get_or, arith, cases_lt, IsUtf8, subst, false}
+use Rattle.textwrap_base.proofs.Common.{drop-drop, take-take, get_or-take, get_or-drop, true≢false}
 use Rattle.textwrap_words.proofs.Common.{trimmed_len, without_final_blanks, word_of, piece}
 use Rattle.textwrap_words.proofs.Common.{broken_word, broken_words, broken_texts, text_width}
 use Rattle.textwrap_words.proofs.Common.{pieces_with, is_blank, Splitter, is_cut}
@@ -37,24 +36,21 @@ word_of-slice text at word_end end within are =
     let rest = drop at text in
     let n = end - at in
     let m = word_end - at in
-    let left = end - word_end in
     let slice = slice_range text at end in
     let len : length slice ≡ n = length-slice text at end within in
     let byte : (k : ℕ) → k < n → get_or slice k 0 ≡ get_or text (at + k) 0 =
     λ k below. get_or-take n rest k 0 below ∙ get_or-drop at text k 0 in
-    let most : trimmed_len slice ≤ m =
-    trimmed-le slice m (grind arith) in
+    let most : trimmed_len slice ≤ m = trimmed-le slice m (grind arith) in
     let trimmed : trimmed_len slice ≡ m = elim (cases_lt 0 m) [
       | inr none ↦ omega (arith, none, most)
       | inl some ↦
           let last : at + (m - 1) ≡ word_end - 1 = omega (arith, some) in
           grind (arith, trimmed-past)
     ] in
-    let from = are.from in
     let up_to = are.up_to in
     let word : without_final_blanks slice ≡ slice_range text at word_end =
     ap (λ k. take k slice) trimmed ∙ take-take m n rest (omega (arith, up_to)) in
-    let all : m + left ≡ n = omega (arith, from, up_to) in
+    let all : m + (end - word_end) ≡ n = omega (arith, are.from, up_to) in
     grind (arith, drop-take, drop-drop)
 
 module _ (test : ℕ → Bool) (text : List ℕ) where
@@ -67,8 +63,7 @@ module _ (test : ℕ → Bool) (text : List ℕ) where
       let within = part.within in
       let place : at + n ≡ end = omega (arith, some) in
       let left = length-drop at text in
-      parts_by-front test (drop at text) at n (omega (arith, some))
-      (omega (arith, left, within))
+      parts_by-front test (drop at text) at n (omega (arith, some)) (omega (arith, left, within))
       (λ k first below. part.uncut (at + k) (omega (arith, first)) (omega (arith, below)))
       (λ inside. ap test place ∙ part.ends (omega (arith, inside, left, some)))
       ∙ ap (λ l. slice_range text at end ∷ parts_by test (at + n) l) (drop-drop n at text)
@@ -94,8 +89,7 @@ module _ (test : ℕ → Bool) (text : List ℕ) where
         → pieces_from test limit text at
         ≡ piece (slice_range text at word_end) (slice_range text word_end end) []
         ∷ pieces_from test limit text end
-    pieces-whole at word_end end part are one =
-        pieces-part at word_end end part are
+    pieces-whole at word_end end part are one = pieces-part at word_end end part are
         ∙ ap (λ ws. ws ++ pieces_from test limit text end) one
 
     -- the first piece of a word that is wider than the limit, and those from where it stops
@@ -123,8 +117,7 @@ module _ (test : ℕ → Bool) (text : List ℕ) where
           other = λ _. are.other (omega (arith, after, inside));
           blanks = are.blanks;
         } in
-        pieces-part at word_end end part are
-        ∙ ap (λ ws. ws ++ pieces_from test limit text end)
+        pieces-part at word_end end part are ∙ ap (λ ws. ws ++ pieces_from test limit text end)
         (broken_word-front limit (slice_range text at word_end) (slice_range text at stop) rest
         (slice_range text word_end end) utf8 some wide texts)
         ∙ ap (λ ws. piece (slice_range text at stop) [] [] ∷ ws)

@@ -1,17 +1,15 @@
 -- Offsets of the visible text of a line, and the cuts of the line there.
-use Rattle.textwrap_base.proofs.Common.{inl, inr, cases_Bool, ◌≡◌, ◌≢◌, ℕ, ◌+◌, Bool, cond, eqb}
-use Rattle.textwrap_base.proofs.Common.{List, ◌∷◌, length, take, refl, ap, add-zero}
-use Rattle.textwrap_base.proofs.Common.{encode_utf8_all, true, [], ◌++◌, ◌∙◌, arith, length-append}
-use Rattle.textwrap_base.proofs.Common.{flat_map, Contains, encodes-append, subst, ◌↔◌, ◌<◌, map}
-use Rattle.textwrap_base.proofs.Common.{sym, zero-add, All, lt-ltb, All-nil, All-weaker}
-use Rattle.textwrap_base.proofs.Common.{length-encode, rules, ◌≤◌, IsUtf8, IsCharBoundary}
-use Rattle.textwrap_base.proofs.Common.{flat_map-append, encodes-chars, false, append-nil}
-use Rattle.textwrap_base.proofs.Common.{append_assoc}
-use Rattle.textwrap_words.proofs.Common.{ends_from, escape_len, next_of, shows, taken_in}
-use Rattle.textwrap_words.proofs.Common.{units_past, VisibleEnd, units_text, TextUnit, Visible}
-use Rattle.textwrap_words.proofs.Common.{Sequence, characters, shown_len, is_cut_after, cuts_among}
-use Rattle.textwrap_words.proofs.Common.{units, stripped, WordText, word_of, cuts_at, parts_between}
-use Rattle.textwrap_words.proofs.Common.{AreCuts}
+use Rattle.textwrap_base.proofs.Common.{inl, inr, ◌≡◌, ◌≢◌, ◌+◌, eqb, ◌∷◌, ◌++◌, ◌∙◌, ◌↔◌, ◌<◌, map}
+use Rattle.textwrap_base.proofs.Common.{cases_Bool, flat_map, All-weaker, append-nil, append_assoc}
+use Rattle.textwrap_base.proofs.Common.{ℕ, [], sym, All, ◌≤◌}
+use Rattle.textwrap_base.proofs.Common.{Bool, cond, List, take, refl, ap, true, subst, rules, false}
+use Rattle.textwrap_base.proofs.Common.{length, arith, Contains, zero-add, lt-ltb, All-nil, IsUtf8}
+use Rattle.textwrap_base.proofs.Common.{add-zero, encode_utf8_all, encodes-append, flat_map-append}
+use Rattle.textwrap_base.proofs.Common.{length-append, length-encode, IsCharBoundary, encodes-chars}
+use Rattle.textwrap_words.proofs.Common.{ends_from, VisibleEnd, units_text, characters, cuts_among}
+use Rattle.textwrap_words.proofs.Common.{escape_len, shows, units_past, is_cut_after, parts_between}
+use Rattle.textwrap_words.proofs.Common.{next_of, taken_in, TextUnit, Sequence, shown_len, stripped}
+use Rattle.textwrap_words.proofs.Common.{Visible, units, WordText, word_of, cuts_at, AreCuts}
 use lib.Utf8.{encode}
 use Rattle.textwrap_words.specs.declared.escapes.State.{State}
 use Rattle.textwrap_words.specs.declared.escapes.State.TheVariants.{Text, Escape, Control, Command}
@@ -50,17 +48,15 @@ ends_past (next, flag) at shown c cs =
 
 ends-inside : (s : State) (at shown c : ℕ) (cs : List ℕ) → s ≢ Text
     → ends_in s at shown (c ∷ cs) ≡ ends_in (next_of s c) (at + length (encode c)) shown cs
-ends-inside s at shown c cs inside =
-    search (taken-step, past-one)
+ends-inside s at shown c cs inside = search (taken-step, past-one)
 
 pub ends-step : (s : State) (at shown c : ℕ) (cs : List ℕ)
     → ends_in s at shown (c ∷ cs) ≡ ends_past (next_of s c, shows s c) at shown c cs
-ends-step Text at shown c cs =
-    elim (cases_Bool (eqb c 27)) [
-      | inl t ↦ rw (add-zero at, t) (ap (λ n. ends_from n shown (units_past (escape_len cs) cs))
-          (past-one at c (take (escape_len cs) cs)))
-      | inr f ↦ rw (add-zero at, f, add-zero (at + length (encode c))) refl
-    ]
+ends-step Text at shown c cs = elim (cases_Bool (eqb c 27)) [
+  | inl t ↦ rw (add-zero at, t) (ap (λ n. ends_from n shown (units_past (escape_len cs) cs))
+      (past-one at c (take (escape_len cs) cs)))
+  | inr f ↦ rw (add-zero at, f, add-zero (at + length (encode c))) refl
+]
 ends-step Escape at shown c cs = ends-inside Escape at shown c cs (λ e. cc)
 ends-step Control at shown c cs = ends-inside Control at shown c cs (λ e. cc)
 ends-step (Command last) at shown c cs = ends-inside (Command last) at shown c cs (λ e. cc)
@@ -83,8 +79,7 @@ found-visible : (offsets : List ℕ) (total at shown c : ℕ) (us : List TextUni
 found-visible offsets total at shown c us cut f =
     let front = f.before ++ Visible f.character ∷ [] in
     let further : shown + shown_len (Visible c ∷ front)
-    ≡ (shown + length (encode c)) + shown_len front =
-    omega (arith, length-append {A = ℕ}) in
+    ≡ (shown + length (encode c)) + shown_len front = omega (arith, length-append {A = ℕ}) in
     record {
       before = Visible c ∷ f.before;
       character = f.character;
@@ -150,8 +145,7 @@ pub found-contains : (offsets : List ℕ) (total : ℕ) (before after : List Tex
     → is_cut_after offsets total c (shown + shown_len (before ++ Visible c ∷ [])) ≡ true
     → Contains (cuts_among offsets total (ends_from at shown ((before ++ Visible c ∷ []) ++ after)))
     (at + length (units_text (before ++ Visible c ∷ [])))
-found-contains offsets total [] after c at shown passes =
-    grind (arith, one-text, contains-here)
+found-contains offsets total [] after c at shown passes = grind (arith, one-text, contains-here)
 found-contains offsets total (Visible d ∷ before) after c at shown passes =
     let len = length (encode d) in
     let front = before ++ Visible c ∷ [] in
@@ -178,8 +172,7 @@ among-above : (offsets : List ℕ) (total : ℕ) (us : List TextUnit) (at shown 
     → All (λ cut. at < cut) (cuts_among offsets total (ends_from at shown us))
 among-above offsets total [] at shown = All-nil (λ cut. at < cut)
 among-above offsets total (Sequence cs ∷ us) at shown =
-    let next = at + length (encode_utf8_all cs) in
-    grind (arith, All-weaker, among-above offsets total us next shown)
+    grind (arith, All-weaker, among-above offsets total us (at + length (encode_utf8_all cs)) shown)
 among-above offsets total (Visible c ∷ us) at shown =
     let len = length (encode c) in
     grind (arith, length-encode, among-above offsets total us (at + len) (shown + len))
@@ -196,8 +189,7 @@ among-rising offsets total (Visible c ∷ us) at shown =
 pub cut-found : (offsets line : List ℕ) (cut : ℕ) → Contains (cuts_at offsets line) cut
     → IsCutAt offsets line cut
 cut-found offsets line cut h =
-    let total = length (stripped line) in
-    let f = contains-found offsets total (units (chars line)) 0 0 cut h in
+    let f = contains-found offsets (length (stripped line)) (units (chars line)) 0 0 cut h in
     grind (arith, any-contains)
 
 cut-contained : (offsets line : List ℕ) (cut : ℕ) → IsCutAt offsets line cut
@@ -220,8 +212,7 @@ cuts_at-cuts offsets line = search (rising-increasing, among-rising, cut-found, 
 
 cuts-unique : (offsets line cuts : List ℕ) → AreCutsAt offsets line cuts
     → cuts ≡ cuts_at offsets line
-cuts-unique offsets line cuts h =
-    same-members (λ cut. cut) cuts (cuts_at offsets line)
+cuts-unique offsets line cuts h = same-members (λ cut. cut) cuts (cuts_at offsets line)
     (rising-in_order cuts (increasing-rising cuts h.in_order))
     (rising-in_order (cuts_at offsets line)
     (among-rising offsets (length (stripped line)) (units (chars line)) 0 0))
@@ -231,8 +222,7 @@ cuts-unique offsets line cuts h =
 pub words_at-unique : (offsets line : List ℕ) (words : List WordText)
     → AreWordsAt offsets line words ↔ (words ≡ words_at offsets line)
 words_at-unique offsets line words = (
-  λ h. h.2 ∙ ap (λ cuts. map word_of (parts_between cuts line))
-      (cuts-unique offsets line h.0 h.1),
+  λ h. h.2 ∙ ap (λ cuts. map word_of (parts_between cuts line)) (cuts-unique offsets line h.0 h.1),
   λ e. (cuts_at offsets line, cuts_at-cuts offsets line, e),
 )
 
@@ -241,8 +231,7 @@ words_at-unique offsets line words = (
 shown-short : (us : List TextUnit) → shown_len us ≤ length (units_text us)
 shown-short [] = omega arith
 shown-short (Visible c ∷ us) = omega (arith, shown-short us, length-append {A = ℕ})
-shown-short (Sequence cs ∷ us) =
-    rw (encodes-append cs (flat_map characters us))
+shown-short (Sequence cs ∷ us) = rw (encodes-append cs (flat_map characters us))
     (omega (arith, shown-short us, length-append {A = ℕ}))
 
 cut-inside : (offsets line : List ℕ) (cut : ℕ) → IsUtf8 line → IsCutAt offsets line cut
@@ -255,8 +244,7 @@ cut-inside offsets line cut utf8 h =
     let whole : line ≡ encode_utf8_all (flat_map characters front ++ flat_map characters h.after) =
     sym (encodes-chars line utf8) ∙ ap encode_utf8_all chars_are in
     let back : IsUtf8 (units_text h.after) =
-    utf8-back (flat_map characters front) (flat_map characters h.after)
-    (subst IsUtf8 whole utf8) in
+    utf8-back (flat_map characters front) (flat_map characters h.after) (subst IsUtf8 whole utf8) in
     search (
       rules,
       flat_map-append,
@@ -270,8 +258,7 @@ pub cuts_at-AreCuts : (offsets line : List ℕ) → IsUtf8 line → AreCuts line
 cuts_at-AreCuts offsets line utf8 =
     let cuts = cuts_at offsets line in
     let each : (P : ℕ → Type 0) → ((cut : ℕ) → (cut < length line) × IsCharBoundary line cut → P cut)
-    → All P cuts =
-    λ P use_it. All-weaker (Contains cuts) P
+    → All P cuts = λ P use_it. All-weaker (Contains cuts) P
     (λ cut h. use_it cut (cut-inside offsets line cut utf8 (cut-found offsets line cut h)))
     cuts (All-contains_itself cuts) in
     record {
@@ -327,5 +314,4 @@ IsFinding-step offsets line at rest s shown cuts c after h e at' shown' cuts' at
 pub IsFinding-end : (offsets line : List ℕ) (at : ℕ) (rest : List ℕ) (s : State) (shown : ℕ)
     (cuts : List ℕ) → IsFinding offsets line at rest s shown cuts → length rest ≡ 0
     → cuts ≡ cuts_at offsets line
-IsFinding-end offsets line at rest s shown cuts h none =
-    cc (read-none h.read none, append-nil cuts)
+IsFinding-end offsets line at rest s shown cuts h none = cc (read-none h.read none, append-nil cuts)

@@ -1,14 +1,13 @@
 -- The parts of a text between cuts, and between places that a test tells.
-use Rattle.textwrap_base.proofs.Common.{inl, inr, ◌≡◌, ℕ, suc, ◌<◌, ◌≤◌, List, [], ◌∷◌, ◌++◌, All}
-use Rattle.textwrap_base.proofs.Common.{map, length, get_or, drop, sym, ap, ◌∙◌, arith, append-nil}
-use Rattle.textwrap_base.proofs.Common.{◌==◌, slice_range, IsNonDecreasing, IsUtf8, IsCharBoundary}
-use Rattle.textwrap_base.proofs.Common.{cases_Bool, nil_from_length, drop_split, All-nil, All-cons}
-use Rattle.textwrap_base.proofs.Common.{All-head, All-tail, IsUtf8-drop, IsUtf8-between}
-use Rattle.textwrap_base.proofs.Common.{IsCharBoundary-start, ◌≢◌, true, take, refl, subst, None}
-use Rattle.textwrap_base.proofs.Common.{Ok, zero, ◌+◌, Bool, false, cond, ◌||◌, onto_first}
-use Rattle.textwrap_base.proofs.Common.{take_all, drop_all, append_assoc, length_push, ◌-◌}
-use Rattle.textwrap_base.proofs.Common.{if◌then◌else◌, All-weaker, add-zero, drop-drop, get_or-drop}
-use Rattle.textwrap_base.proofs.Common.{length-drop, nat_tests, cases_lt}
+use Rattle.textwrap_base.proofs.Common.{inl, IsNonDecreasing, nil_from_length, IsCharBoundary-start}
+use Rattle.textwrap_base.proofs.Common.{inr, ◌≡◌, suc, [], take, refl, None, zero, Bool, cond, ◌||◌}
+use Rattle.textwrap_base.proofs.Common.{ℕ, length, All-tail, take_all, drop_all, add-zero, cases_lt}
+use Rattle.textwrap_base.proofs.Common.{◌<◌, ◌≤◌, ◌∷◌, All, map, sym, ap, ◌∙◌, ◌≢◌, Ok, ◌+◌, ◌-◌}
+use Rattle.textwrap_base.proofs.Common.{List, ◌++◌, get_or, drop, ◌==◌, IsUtf8, true, subst, false}
+use Rattle.textwrap_base.proofs.Common.{arith, All-cons, All-head, All-weaker, drop-drop, nat_tests}
+use Rattle.textwrap_base.proofs.Common.{append-nil, cases_Bool, drop_split, onto_first, length-drop}
+use Rattle.textwrap_base.proofs.Common.{slice_range, All-nil, IsUtf8-drop, length_push, get_or-drop}
+use Rattle.textwrap_base.proofs.Common.{IsCharBoundary, IsUtf8-between, append_assoc, if◌then◌else◌}
 use Rattle.textwrap_words.proofs.Common.{tiled, word_of, AreCuts, AreInnerCuts, parts_between}
 use Rattle.textwrap_words.proofs.Common.{WordText, MaySeparate, MaySplit, ends_in_hyphen}
 use Rattle.textwrap_words.proofs.Common.{splitter_view, Whole, AtHyphens, chunks, is_cut, words_of}
@@ -46,8 +45,7 @@ parts_from-tile start (cut ∷ cuts) line in_order before =
 
 pub parts_between-tile : (cuts line : List ℕ) → IsNonDecreasing cuts
     → tiled (map word_of (parts_between cuts line)) ≡ line
-parts_between-tile cuts line in_order =
-    grind (arith, tiled-map, nil_from_length, parts_from-tile)
+parts_between-tile cuts line in_order = grind (arith, tiled-map, nil_from_length, parts_from-tile)
 
 -- ---- the parts are texts
 
@@ -121,8 +119,7 @@ module _ {F : Type 0} {f : _} where
   pub MaySeparate-texts : (separator : WordSeparator F f) (line : List ℕ) (words : List WordText)
       → IsUtf8 line → MaySeparate separator line words → AreTexts line words
   MaySeparate-texts AsciiSpace line words utf8 are = AreTexts-words line words utf8 are
-  MaySeparate-texts (Custom given) line words utf8 (cuts, may, is) =
-      subst (AreTexts line) (sym is)
+  MaySeparate-texts (Custom given) line words utf8 (cuts, may, is) = subst (AreTexts line) (sym is)
       (parts-texts line cuts utf8
       (inner-cuts line cuts (MayCut-cuts given line cuts utf8 may)))
 
@@ -162,8 +159,7 @@ module _ (test : ℕ → Bool) where
 
   -- the first part ends at the first place where the test holds
   pub parts_by-front : (rest : List ℕ) (at n : ℕ) → 0 < n → n ≤ length rest
-      → ((k : ℕ) → 0 < k → k < n → test (at + k) ≡ false)
-      → (n < length rest → test (at + n) ≡ true)
+      → ((k : ℕ) → 0 < k → k < n → test (at + k) ≡ false) → (n < length rest → test (at + n) ≡ true)
       → parts_by test at rest ≡ take n rest ∷ parts_by test (at + n) (drop n rest)
   parts_by-front rest at zero some within none ends = absurd (omega arith)
   parts_by-front [] at (suc n) some within none ends = absurd (omega arith)
@@ -208,8 +204,7 @@ module _ (text : List ℕ) (test point : ℕ → Bool)
       (onto_first b (parts_within point (at + 1) ((c ∷ q) ∷ qs)))
       ≡ next_by point t at b (c ∷ q) ++ parts_within point (at + 1 + length (c ∷ q)) qs
   within-step at b c q qs true = refl
-  within-step at b c q qs false =
-      onto_first-append b (parts_by point (at + 1) (c ∷ q))
+  within-step at b c q qs false = onto_first-append b (parts_by point (at + 1) (c ∷ q))
       (parts_within point (at + 1 + length (c ∷ q)) qs) (parts_by-some point (at + 1) c q)
 
   chunks-step : (at b c : ℕ) (cs : List ℕ) (t : Bool)
@@ -217,8 +212,7 @@ module _ (text : List ℕ) (test point : ℕ → Bool)
       → next_by test (t || point (at + 1)) at b (c ∷ cs)
       ≡ parts_within point at (cond t ((b ∷ []) ∷ chunks (c ∷ cs)) (onto_first b (chunks (c ∷ cs))))
   chunks-step at b c cs true rest = ap (λ ps. (b ∷ []) ∷ ps) rest
-  chunks-step at b c cs false rest =
-      grind (arith, chunks-from, within-step)
+  chunks-step at b c cs false rest = grind (arith, chunks-from, within-step)
 
   pub parts_by-chunks : (rest before : List ℕ) (at : ℕ) → text ≡ before ++ rest
       → length before ≡ at → parts_by test at rest ≡ parts_within point at (chunks rest)
@@ -305,13 +299,11 @@ module _ (test : ℕ → Bool) where
       ≡ (if t then (b ∷ []) ∷ parts else onto_first b parts)) [
         | true ↦
             ap (λ l. l ∷ parts_from (at + 1) places text)
-            (ap (λ n. take n (drop at text)) one ∙ ap (take 1) is)
-            ∙ ap (λ ps. (b ∷ []) ∷ ps) next
+            (ap (λ n. take n (drop at text)) one ∙ ap (take 1) is) ∙ ap (λ ps. (b ∷ []) ∷ ps) next
         | false ↦
             part-back text at b (c ∷ cs) is places
             (All-weaker (λ p. at + 1 < p) (λ p. at < p) (λ p h. omega (arith, h)) places
-            (places-above (at + 1) (c ∷ cs)))
-            ∙ ap (onto_first b) next
+            (places-above (at + 1) (c ∷ cs))) ∙ ap (onto_first b) next
       ]
 
   pub parts_between-places : (text : List ℕ)

@@ -1,12 +1,11 @@
 -- The pieces of split words: they tile their words, are texts, and stand one after another.
-use Rattle.textwrap_base.proofs.Common.{◌≡◌, ℕ, suc, ◌<◌, ◌≤◌, List, [], ◌∷◌, ◌++◌, refl, sym, ap}
-use Rattle.textwrap_base.proofs.Common.{◌∙◌, arith, length, drop, get_or, slice_range, All, IsUtf8}
-use Rattle.textwrap_base.proofs.Common.{IsNonDecreasing, append-nil, append_assoc, flat_map-append}
-use Rattle.textwrap_base.proofs.Common.{All-head, All-tail, drop_split, map, subst, true, cond}
-use Rattle.textwrap_base.proofs.Common.{take, IsCharBoundary, and_parts, All-nil, All-cons, All-map}
-use Rattle.textwrap_base.proofs.Common.{IsUtf8-drop, IsUtf8-between, rules, All-append}
-use Rattle.textwrap_base.proofs.Common.{IsCharBoundary-start, inl, inr, ◌+◌, false, cases_lt}
-use Rattle.textwrap_base.proofs.Common.{eqb-true}
+use Rattle.textwrap_base.proofs.Common.{◌≡◌, IsNonDecreasing, flat_map-append, IsCharBoundary-start}
+use Rattle.textwrap_base.proofs.Common.{ℕ, ◌∷◌, sym, ap, ◌∙◌, All, map, inl, inr, ◌+◌}
+use Rattle.textwrap_base.proofs.Common.{suc, ◌<◌, ◌≤◌, List, [], ◌++◌, refl, drop, true, cond, take}
+use Rattle.textwrap_base.proofs.Common.{arith, length, get_or, IsUtf8, subst, All-map, rules, false}
+use Rattle.textwrap_base.proofs.Common.{slice_range, append_assoc, IsCharBoundary, IsUtf8-between}
+use Rattle.textwrap_base.proofs.Common.{append-nil, drop_split, and_parts, IsUtf8-drop, All-append}
+use Rattle.textwrap_base.proofs.Common.{All-head, All-tail, All-nil, All-cons, cases_lt, eqb-true}
 use Rattle.textwrap_words.proofs.Common.{points_of, split_from, split_pieces, split_word}
 use Rattle.textwrap_words.proofs.Common.{split_words, AreSplit, Splitter, AreCuts, WordText}
 use Rattle.textwrap_words.proofs.Common.{tile_of, tiled, Whole, AtHyphens, hyphen, ends_in_hyphen}
@@ -49,8 +48,7 @@ tiled-split_words splitter (w ∷ words) utf8 =
     let first = tiled-split_pieces (points_of splitter w.word) w
     (points_of-cuts splitter w.word (All-head (λ v. IsUtf8 v.word) w words utf8)) in
     flat_map-append tile_of (split_word splitter w) (split_words splitter words)
-    ∙ ap (λ l. l ++ tiled (split_words splitter words)) first
-    ∙ ap (λ l. tile_of w ++ l)
+    ∙ ap (λ l. l ++ tiled (split_words splitter words)) first ∙ ap (λ l. tile_of w ++ l)
     (tiled-split_words splitter words (All-tail (λ v. IsUtf8 v.word) w words utf8))
 
 -- one word more is split
@@ -108,8 +106,7 @@ split_from-measured w start (point ∷ points) measured at in_order cuts before 
 points_of-hyphens : (splitter : Splitter) (text : List ℕ)
     → All (λ p. ends_in_hyphen (take p text) ≡ true) (points_of splitter text)
 points_of-hyphens Whole text = All-nil (λ p. ends_in_hyphen (take p text) ≡ true)
-points_of-hyphens AtHyphens text =
-    λ k d lt. (and_parts _ _ (and_parts _ _
+points_of-hyphens AtHyphens text = λ k d lt. (and_parts _ _ (and_parts _ _
     (filter_passes (is_hyphen_point text) (inner_offsets text) k d lt)).0).0
 
 pub split_from-no_penalty : (w : WordText) (start : ℕ) (points : List ℕ) → HasNoPenalty w
@@ -133,8 +130,7 @@ AreTexts-parts line parts tile utf8 = search (words-measured, All-map)
 
 pub AreTexts-words : (line : List ℕ) (words : List WordText) → IsUtf8 line → AreWordsOf line words
     → AreTexts line words
-AreTexts-words line words utf8 are =
-    subst (AreTexts line) (sym ((words_unique line words).0 are))
+AreTexts-words line words utf8 are = subst (AreTexts line) (sym ((words_unique line words).0 are))
     (AreTexts-parts line (chunks line) (tiled-words_of line) (chunks-utf8 line utf8))
 
 pub ArePoints-cuts : (splitter : Splitter) (text points : List ℕ) → IsUtf8 text
@@ -193,8 +189,7 @@ module _ (Points : List ℕ → List ℕ → Type 0) (hyphens : (text points : L
     → Points text points → All (λ p. ends_in_hyphen (take p text) ≡ true) points) where
   pub AreSplit-no_penalty : (words pieces : List WordText) → All HasNoPenalty words
       → AreSplit Points words pieces → All HasNoPenalty pieces
-  AreSplit-no_penalty [] pieces all are =
-      subst (All HasNoPenalty) (sym are) (All-nil HasNoPenalty)
+  AreSplit-no_penalty [] pieces all are = subst (All HasNoPenalty) (sym are) (All-nil HasNoPenalty)
   AreSplit-no_penalty (w ∷ words) pieces all (points, rest, points_are, rest_are, is) =
       subst (All HasNoPenalty) (sym is)
       (All-append HasNoPenalty (split_pieces points w) rest
@@ -214,10 +209,9 @@ module _ (splitter : Splitter) (limit : ℕ) (text : List ℕ) (at word_end widt
       ∷ stand_from end (pieces_at splitter limit text end)
   word-stands stops =
       let n = length (slice_range text at word_end) in
-      let m = length (slice_range text word_end end) in
       let one : at + n ≡ word_end =
       omega (arith, length-slice text at word_end word.boundary.0, word.from) in
-      let both : at + n + m ≡ end =
+      let both : at + n + (length (slice_range text word_end end)) ≡ end =
       omega (arith, one, length-slice text word_end end within, from) in
       grind arith
 

@@ -1,10 +1,9 @@
 -- The reader of the first piece from a place on: what it has seen, and where it stops.
-use Rattle.textwrap_base.proofs.Common.{◌≡◌, ◌≢◌, ℕ, ◌+◌, ◌≤◌, false, true, List, [], ◌++◌, sym}
-use Rattle.textwrap_base.proofs.Common.{subst, arith, length, IsUtf8, inl, inr, ◌-◌, ◌<◌, Bool, ◌∷◌}
-use Rattle.textwrap_base.proofs.Common.{drop, refl, cases_Bool, ap, ◌∙◌, slice_range, cases_lt}
+use Rattle.textwrap_base.proofs.Common.{◌≡◌, true, List, ◌++◌, subst, arith, Bool, drop, refl, zero}
+use Rattle.textwrap_base.proofs.Common.{◌≢◌, ◌+◌, ◌≤◌, sym, inl, inr, ◌-◌, ◌<◌, ◌∷◌, ap, ◌∙◌, suc}
+use Rattle.textwrap_base.proofs.Common.{ℕ, false, length, IsUtf8, take_at, get_or, eqb-true, ne_eqb}
+use Rattle.textwrap_base.proofs.Common.{[], cases_Bool, slice_range, cases_lt, chars-nil, drop_more}
 use Rattle.textwrap_base.proofs.Common.{append_assoc, IsCharBoundary, IsUtf8-between, chars-append}
-use Rattle.textwrap_base.proofs.Common.{chars-nil, take_at, get_or, eqb-true, zero, suc, drop_more}
-use Rattle.textwrap_base.proofs.Common.{ne_eqb}
 use Rattle.textwrap_words.proofs.Common.{Visible, units, is_due, next_of, shows, broken_texts}
 use Rattle.textwrap_words.proofs.Common.{is_blank, Splitter, text_width, columns}
 use Rattle.textwrap_words.proofs.Word.Ahead.{IsInFirst, IsInFirst-start, IsInFirst-step}
@@ -58,8 +57,7 @@ module _ (limit : ℕ) (text : List ℕ) where
     -- it is found where what follows begins the next piece
     found : IsUtf8 text → text ≢ [] → EndsHere limit (chars text) width (units (chars rest))
         → IsFirstPiece limit text at width
-    found utf8 some ends =
-        IsFirstPiece-found limit text at width utf8 some h.read.boundary.0
+    found utf8 some ends = IsFirstPiece-found limit text at width utf8 some h.read.boundary.0
         (subst IsUtf8 (sym h.read.place) h.read.utf8)
         (subst (λ bs. EndsHere limit (chars text) width (units (chars bs))) (sym h.read.place) ends)
 
@@ -72,8 +70,7 @@ module _ (limit : ℕ) (text : List ℕ) where
         (IsInFirst-cut limit (chars text) s width c (chars after)
         (subst (IsInFirst limit (chars text) s width) here h.inside) shown due))
 
-    pub IsReading-end : IsUtf8 text → text ≢ [] → length rest ≡ 0
-        → IsFirstPiece limit text at width
+    pub IsReading-end : IsUtf8 text → text ≢ [] → length rest ≡ 0 → IsFirstPiece limit text at width
     IsReading-end utf8 some none =
         let ended = read-none h.read none in
         found utf8 some (subst (λ cs. EndsHere limit (chars text) width (units cs)) (sym ended)
@@ -112,10 +109,8 @@ module _ (test : ℕ → Bool) (limit : ℕ) (text : List ℕ) (utf8 : IsUtf8 te
       let end = place + length (encode_utf8 c) in
       let from = h.from in
       let cut = (read-next (read-at text place utf8 h.boundary) c after is end refl).boundary in
-      let within = cut.0 in
       let front = slice_range text at place in
-      let part : slice_range text place end ≡ encode_utf8 c =
-      grind (arith, take_at) in
+      let part : slice_range text place end ≡ encode_utf8 c = grind (arith, take_at) in
       let joined = slices_joined text at place end from (omega arith) ∙ ap (λ l. front ++ l) part in
       let more_chars = ap chars joined
       ∙ chars-push front c (IsUtf8-between text at place utf8 from start h.boundary)
@@ -128,7 +123,7 @@ module _ (test : ℕ → Bool) (limit : ℕ) (text : List ℕ) (utf8 : IsUtf8 te
             | inr none ↦ none
             | inl cut_there ↦
                 let past_it = character-within text utf8 place c after h.boundary is k later
-                (stands k (omega (arith, later)) (omega (arith, below, within)) cut_there) in
+                (stands k (omega (arith, later)) (omega (arith, below, cut.0)) cut_there) in
                 absurd (omega (arith, past_it, below))
           ]
           | inr most ↦ elim (cases_lt k place) [
@@ -153,7 +148,6 @@ module _ (test : ℕ → Bool) (limit : ℕ) (text : List ℕ) (utf8 : IsUtf8 te
       → IsReading limit (slice_range text at v) (place - at) (slice_range text place v) state width
   scanned-reading place v state width h up_to cut =
       let from = h.from in
-      let front = slice_range text at place in
       let own = IsUtf8-between text place v utf8 up_to h.boundary cut in
       let place_is = slice_after text at place v from up_to in
       record {
@@ -167,7 +161,7 @@ module _ (test : ℕ → Bool) (limit : ℕ) (text : List ℕ) (utf8 : IsUtf8 te
         bound = h.bound;
         inside = subst (λ cs. IsInFirst limit cs state width (chars (slice_range text place v)))
             (sym (ap chars (slices_joined text at place v from up_to)
-            ∙ chars-append front (slice_range text place v)
+            ∙ chars-append (slice_range text at place) (slice_range text place v)
             (IsUtf8-between text at place utf8 from start h.boundary)))
             (h.reads (chars (slice_range text place v)));
       }

@@ -1,15 +1,14 @@
 -- Words that are split are the parts of the text wherever a test of places cuts it.
-use Rattle.textwrap_base.proofs.Common.{◌≡◌, ℕ, ◌+◌, ◌-◌, ◌<◌, ◌≤◌, Bool, true, false, cond, List}
-use Rattle.textwrap_base.proofs.Common.{[], ◌∷◌, ◌++◌, length, map, take, drop, refl, sym, ap, ◌∙◌}
-use Rattle.textwrap_base.proofs.Common.{arith, append_assoc, length-append, filter, slice_range}
-use Rattle.textwrap_base.proofs.Common.{range_with_len, take-append-add, eqb-true, drop_at, take_at}
-use Rattle.textwrap_base.proofs.Common.{length_push, last, rules, get_or, take-append-drop}
-use Rattle.textwrap_base.proofs.Common.{length-take-le, get_or-take, get_or_push}
-use Rattle.textwrap_base.proofs.Common.{get_or_append_left, IsUtf8, append-nil, drop_all}
-use Rattle.textwrap_base.proofs.Common.{flat_map-append, IsUtf8-nil, ◌≢◌, not, ◌||◌, All, subst}
-use Rattle.textwrap_base.proofs.Common.{slice_index, map-append, and_parts, take_all, take_more}
-use Rattle.textwrap_base.proofs.Common.{IsUtf8-append, All-head, All-tail, inl, inr, ◌&&◌, cases_lt}
-use Rattle.textwrap_base.proofs.Common.{le-ltb, and_right}
+use Rattle.textwrap_base.proofs.Common.{◌≡◌, false, length, filter, take_at, get_or, IsUtf8, le-ltb}
+use Rattle.textwrap_base.proofs.Common.{ℕ, true, cond, List, ◌++◌, take, drop, arith, rules, subst}
+use Rattle.textwrap_base.proofs.Common.{◌+◌, ◌-◌, ◌<◌, ◌≤◌, ◌∷◌, map, refl, sym, last, ◌||◌, ◌&&◌}
+use Rattle.textwrap_base.proofs.Common.{Bool, take-append-add, take-append-drop, get_or_append_left}
+use Rattle.textwrap_base.proofs.Common.{[], append_assoc, length-append, slice_range, IsUtf8-append}
+use Rattle.textwrap_base.proofs.Common.{ap, IsUtf8-nil, map-append, and_parts, take_more, and_right}
+use Rattle.textwrap_base.proofs.Common.{◌∙◌, ◌≢◌, not, All, inl, inr}
+use Rattle.textwrap_base.proofs.Common.{range_with_len, length-take-le, append-nil, flat_map-append}
+use Rattle.textwrap_base.proofs.Common.{eqb-true, drop_all, take_all, All-head, All-tail, cases_lt}
+use Rattle.textwrap_base.proofs.Common.{drop_at, length_push, get_or-take, get_or_push, slice_index}
 use Rattle.textwrap_words.proofs.Common.{is_blank, WordText, word_of, is_hyphen_point, split_from}
 use Rattle.textwrap_words.proofs.Common.{trimmed_len, without_final_blanks, final_blanks, Splitter}
 use Rattle.textwrap_words.proofs.Common.{Whole, AtHyphens, split_word, broken_word, broken_words}
@@ -48,8 +47,7 @@ module _ (w : WordText) (at : ℕ) (point : ℕ → Bool) (none : w.penalty ≡ 
   abbrev pub Splits : List ℕ → Type 0
   Splits rest = (before x : List ℕ) (b : ℕ) → w.word ≡ before ++ (x ++ b ∷ rest)
       → split_from w (length before)
-      (filter test (range_with_len (length before + length x + 1) (length rest)))
-      ≡ map word_of
+      (filter test (range_with_len (length before + length x + 1) (length rest))) ≡ map word_of
       (onto_front x (parts_by point (at + (length before + length x)) (b ∷ rest ++ w.whitespace)))
 
   split-at : (rest before x : List ℕ) (b c place : ℕ) (t : Bool) → Splits rest
@@ -63,22 +61,19 @@ module _ (w : WordText) (at : ℕ) (point : ℕ → Bool) (none : w.penalty ≡ 
   split-at rest before x b c place true splits is here cut =
       let part = x ++ b ∷ [] in
       let front = before ++ part in
-      let part_len = length_push x b in
       let front_len : length front ≡ place =
-      omega (arith, length-append before part, part_len, here) in
+      omega (arith, length-append before part, length_push x b, here) in
       let seen : w.word ≡ front ++ c ∷ rest =
       is ∙ ap (λ l. before ++ l) (sym (append_assoc x (b ∷ []) (c ∷ rest)))
       ∙ sym (append_assoc before part (c ∷ rest)) in
       let many : place - length before ≡ length x + 1 = omega (arith, here) in
       let slice : slice_range w.word (length before) place ≡ part =
       grind (arith, drop_at, take-append-add) in
-      let hyphened = hyphen-before-point w.word place cut in
-      let byte : b ≡ 45 =
-      cc (
+      let byte : b ≡ 45 = cc (
         last-push (before ++ x) b,
         append_assoc before x (b ∷ []),
         take_at front (c ∷ rest) place front_len,
-        eqb-true (last (take place w.word)) 45 hyphened,
+        eqb-true (last (take place w.word)) 45 (hyphen-before-point w.word place cut),
       ) in
       let other : is_blank b ≡ false = ap is_blank byte in
       let start : length front + 0 + 1 ≡ place + 1 = omega (arith, front_len) in
@@ -87,9 +82,8 @@ module _ (w : WordText) (at : ℕ) (point : ℕ → Bool) (none : w.penalty ≡ 
       let next = splits front [] c seen in
       grind (arith, onto_front-nil, parts_by-some, word_of-seam)
   split-at rest before x b c place false splits is here cut =
-      let part = x ++ b ∷ [] in
       let part_len = length_push x b in
-      let seen : w.word ≡ before ++ (part ++ c ∷ rest) =
+      let seen : w.word ≡ before ++ ((x ++ b ∷ []) ++ c ∷ rest) =
       is ∙ ap (λ l. before ++ l) (sym (append_assoc x (b ∷ []) (c ∷ rest))) in
       search (rules, onto_front-onto_first)
 
@@ -108,9 +102,8 @@ module _ (w : WordText) (at : ℕ) (point : ℕ → Bool) (none : w.penalty ≡ 
       (omega (arith, len, inside))) in
       cc (word_of-seam x w.whitespace b other blanks)
   split-from (c ∷ rest) = λ before x b is.
-      let here = at + (length before + length x) in
       let place = length before + length x + 1 in
-      let next : here + 1 ≡ at + place = omega arith in
+      let next : (at + (length before + length x)) + 1 ≡ at + place = omega arith in
       grind (arith, length-append, split-at, split-from rest)
 
 -- ---- a word and its blanks
@@ -123,8 +116,7 @@ ends-other q front b is =
     let len : length front + 1 ≡ n =
     sym (length_push front b) ∙ ap length (sym is) ∙ length-take-le n q (omega arith) in
     let some : 0 < n = omega (arith, len) in
-    let at : get_or q (n - 1) 0 ≡ b =
-    grind (arith, get_or-take, get_or_push) in
+    let at : get_or q (n - 1) 0 ≡ b = grind (arith, get_or-take, get_or_push) in
     ap is_blank (sym at) ∙ trimmed-other q some
 
 -- a chunk that stands in a text
@@ -147,8 +139,7 @@ module _ (before q after : List ℕ) (utf8 : IsUtf8 before) (plain : EndsPlain b
 
   same : (p : ℕ) → 0 < p → p < length w.word
       → is_hyphen_point text (at + p) ≡ is_hyphen_point w.word p
-  same p start inside =
-      grind (arith, whole, append_assoc, points-apart, without_final_blanks-utf8)
+  same p start inside = grind (arith, whole, append_assoc, points-apart, without_final_blanks-utf8)
 
   -- no point stands before a blank of the chunk
   past : (p : ℕ) → length w.word ≤ p → p < length w.word + length w.whitespace
@@ -222,16 +213,11 @@ module _ (splitter : Splitter) (limit : ℕ) where
       → start ≤ at
       → IsFirstWithin splitter limit text (at - start) piece
       → stand_from at (pieces_within splitter limit text (at - start) ++ others)
-      ≡ record {
-        word_end = start + piece.word_end;
-        end = start + piece.end;
-        width = piece.width;
-      }
+      ≡ record { word_end = start + piece.word_end; end = start + piece.end; width = piece.width }
       ∷ stand_from (start + piece.end) (pieces_within splitter limit text piece.end ++ others)
   within-stands text start at piece others from first =
       let k = at - start in
       let n = length (slice_range text k piece.word_end) in
-      let m = length (slice_range text piece.word_end piece.end) in
       let within = first.boundary.0 in
       let one : at + n ≡ start + piece.word_end = omega (
         arith,
@@ -240,10 +226,9 @@ module _ (splitter : Splitter) (limit : ℕ) where
         first.up_to,
         length-slice text k piece.word_end (omega (arith, within, first.up_to)),
       ) in
-      let both : at + n + m ≡ start + piece.end =
+      let both : at + n + (length (slice_range text piece.word_end piece.end)) ≡ start + piece.end =
       omega (arith, one, first.up_to, length-slice text piece.word_end piece.end within) in
-      ap (λ ws. stand_from at (ws ++ others)) first.first
-      ∙ grind arith
+      ap (λ ws. stand_from at (ws ++ others)) first.first ∙ grind arith
 
 -- ---- the words of a text, split by a built-in splitter, are the parts of the text as it is cut
 -- at places that a test tells
@@ -276,11 +261,9 @@ module _ (splitter : Splitter) (text : List ℕ) where
       ≡ map word_of (parts_within (is_point splitter text) (length before) qs)
   split-all [] before is utf8 plain all some apart = refl
   split-all (q ∷ qs) before is utf8 plain all some apart =
-      let q_utf8 = All-head IsUtf8 q qs all in
       let q_some = some_from_nonempty q (All-head (λ q. q ≢ []) q qs some) in
-      let both = IsUtf8-append before q utf8 q_utf8 in
-      let others =
-      split-all qs (before ++ q) (is ∙ sym (append_assoc before q (flat qs))) both
+      let both = IsUtf8-append before q utf8 (All-head IsUtf8 q qs all) in
+      let others = split-all qs (before ++ q) (is ∙ sym (append_assoc before q (flat qs))) both
       (λ more. ends-plain before q both q_some (chunk-blank q qs apart more))
       (All-tail IsUtf8 q qs all) (All-tail (λ q. q ≢ []) q qs some) (AreCutApart-tail q qs apart) in
       grind (arith, split-word, length-append, map-append)
@@ -316,8 +299,7 @@ point-none AtHyphens text place inside blank = point-blank text place inside bla
 module _ (splitter : Splitter) (text : List ℕ) where
   pub uncut-blank : (place : ℕ) → place < length text → is_blank (get_or text place 0) ≡ true
       → is_piece_cut splitter text place ≡ false
-  uncut-blank place inside blank =
-      grind (arith, and_right, point-none)
+  uncut-blank place inside blank = grind (arith, and_right, point-none)
 
   pub cut-after_blank : (place : ℕ) → is_blank (get_or text (place - 1) 0) ≡ true
       → is_blank (get_or text place 0) ≡ false → is_piece_cut splitter text place ≡ true
@@ -327,8 +309,7 @@ module _ (splitter : Splitter) (text : List ℕ) where
 
   -- a word and the blanks after it are a part
   pub word-part : (at word_end end : ℕ) → IsPartWord splitter text at word_end → word_end ≤ end
-      → end ≤ length text
-      → ((k : ℕ) → word_end ≤ k → k < end → is_blank (get_or text k 0) ≡ true)
+      → end ≤ length text → ((k : ℕ) → word_end ≤ k → k < end → is_blank (get_or text k 0) ≡ true)
       → (end < length text → is_blank (get_or text end 0) ≡ false)
       → IsPart (is_piece_cut splitter text) text at end × AreFinalBlanks text at word_end end
   word-part at word_end end word up_to within blanks other = (
@@ -378,7 +359,6 @@ module _ (splitter : Splitter) (text : List ℕ) where
     pieces-start utf8 = ap (broken_words limit) (sym (split_words-parts splitter text utf8))
 
 -- a word within the limit is one piece
-pub broken_word-narrow : (limit : ℕ) (w : WordText) → w.width ≤ limit
-    → broken_word limit w ≡ w ∷ []
+pub broken_word-narrow : (limit : ℕ) (w : WordText) → w.width ≤ limit → broken_word limit w ≡ w ∷ []
 broken_word-narrow limit w within =
     ap (λ b. cond b (broken_pieces limit w) (w ∷ [])) (le-ltb limit w.width within)

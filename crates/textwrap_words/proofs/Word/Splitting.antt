@@ -1,19 +1,18 @@
 -- The points at which words are split: characters end there, and those of a word are those of the
 -- text that it stands in.
-use Rattle.textwrap_base.proofs.Common.{◌≡◌, ℕ, ◌+◌, ◌-◌, ◌<◌, ◌≤◌, true, false, List, [], ◌∷◌}
-use Rattle.textwrap_base.proofs.Common.{◌++◌, refl, sym, ap, ◌∙◌, subst, arith, length, take, drop}
-use Rattle.textwrap_base.proofs.Common.{get_or, ◌==◌, ◌||◌, reverse, filter, All, IsUtf8}
-use Rattle.textwrap_base.proofs.Common.{IsCharBoundary, list_any, and_parts, false≢true}
-use Rattle.textwrap_base.proofs.Common.{reverse-append, append-nil, take-append-drop, length-take}
-use Rattle.textwrap_base.proofs.Common.{take_at, drop_at, get_or-take, nil_from_length, All-head}
-use Rattle.textwrap_base.proofs.Common.{IsUtf8-take, IsUtf8-drop, IsCharBoundary-after_ascii}
-use Rattle.textwrap_base.proofs.Common.{chars-append, chars-nil, chars_past_char, inl, inr, Bool}
-use Rattle.textwrap_base.proofs.Common.{cases_Bool, ◌&&◌, append_assoc, length-append}
-use Rattle.textwrap_base.proofs.Common.{take-append-add, and_right, eqb-true, drop_more}
-use Rattle.textwrap_base.proofs.Common.{length-take-le, length_push, encodes-chars, encode_utf8_all}
+use Rattle.textwrap_base.proofs.Common.{◌≡◌, List, ◌++◌, refl, take, drop, ◌==◌, ◌||◌, Bool, ◌&&◌}
+use Rattle.textwrap_base.proofs.Common.{ℕ, ◌+◌, ◌-◌, ◌<◌, ◌≤◌, [], ◌∷◌, sym, ap, ◌∙◌, All, inl, inr}
+use Rattle.textwrap_base.proofs.Common.{true, false, subst, arith, length, get_or, filter, IsUtf8}
+use Rattle.textwrap_base.proofs.Common.{reverse, length-take, get_or-take, IsUtf8-take, IsUtf8-drop}
+use Rattle.textwrap_base.proofs.Common.{IsCharBoundary, false≢true, reverse-append, encode_utf8_all}
+use Rattle.textwrap_base.proofs.Common.{list_any, nil_from_length, chars_past_char, take-append-add}
+use Rattle.textwrap_base.proofs.Common.{and_parts, append-nil, chars-nil, cases_Bool, length_push}
+use Rattle.textwrap_base.proofs.Common.{take-append-drop, IsCharBoundary-after_ascii, length-append}
+use Rattle.textwrap_base.proofs.Common.{take_at, drop_at, All-head, and_right, eqb-true, drop_more}
+use Rattle.textwrap_base.proofs.Common.{chars-append, append_assoc, length-take-le, encodes-chars}
 use Rattle.textwrap_words.proofs.Common.{is_hyphen_point, hyphen, ends_in_hyphen, hyphen_points}
 use Rattle.textwrap_words.proofs.Common.{points_of, Splitter, Whole, AtHyphens, AreCuts, is_blank}
-use Rattle.std.specs.Prelude.{chars}
+use Rattle.std.specs.Str.{chars}
 use lib.Utf8.{encode}
 use Rattle.std.proofs.lemmas.List.Elements.{All-filter, filter_passes}
 use Rattle.std.proofs.lemmas.List.Folds.{list_any_at, list_any-append}
@@ -47,21 +46,18 @@ ends-some text rest c utf8 e =
     (IsUtf8-drop text (length rest) utf8 cut) in
     let first = chars_past_char (encode c) [] c back (sym (append-nil (encode c))) in
     let second = chars-append rest (encode c) front in
-    let third = reverse-append (chars rest) (c ∷ []) in
-    cc chars-nil
+    let third = reverse-append (chars rest) (c ∷ []) in cc chars-nil
 
 -- ---- the points
 
 -- a text may be cut after a hyphen
 pub after-hyphen_byte : (text : List ℕ) (point : ℕ) → IsUtf8 text → 0 < point → point < length text
     → get_or text (point - 1) 0 ≡ 45 → IsCharBoundary text point
-after-hyphen_byte text point utf8 start inside here =
-    grind (arith, IsCharBoundary-after_ascii)
+after-hyphen_byte text point utf8 start inside here = grind (arith, IsCharBoundary-after_ascii)
 
 pub hyphen-before : (text : List ℕ) (point : ℕ) → 1 ≤ point → point ≤ length text
     → is_hyphen_point text point ≡ true → get_or text (point - 1) 0 ≡ 45
-hyphen-before text point start within is =
-    grind (arith, and_parts, length-take, get_or-take)
+hyphen-before text point start within is = grind (arith, and_parts, length-take, get_or-take)
 
 pub after-hyphen : (text : List ℕ) (point : ℕ) → IsUtf8 text → 1 ≤ point → point < length text
     → is_hyphen_point text point ≡ true → IsCharBoundary text point
@@ -112,8 +108,7 @@ hyphen_points-cuts text utf8 =
 
 pub points_of-cuts : (splitter : Splitter) (text : List ℕ) → IsUtf8 text
     → AreCuts text (points_of splitter text)
-points_of-cuts Whole text utf8 =
-    omega arith
+points_of-cuts Whole text utf8 = omega arith
 points_of-cuts AtHyphens text utf8 = hyphen_points-cuts text utf8
 
 -- ---- where a splitter has points, characters end, and none stands after a letter
@@ -142,8 +137,7 @@ module _ (splitter : Splitter) (text : List ℕ) where
 
 module _ (splitter : Splitter) (text : List ℕ) (utf8 : IsUtf8 text) where
   pub point-boundary : HoldsBetween (is_point splitter text) text
-  point-boundary place some inside is =
-      after-hyphen_byte text place utf8 some inside
+  point-boundary place some inside is = after-hyphen_byte text place utf8 some inside
       (point-hyphen splitter text place some inside is)
 
 -- ---- blanks are not alphanumeric
@@ -176,8 +170,7 @@ point-is front rest b p len =
     let second = last-push front b in
     let third = take_at front (b ∷ rest) (p - 1) (omega (arith, len)) in
     let fourth = append_assoc front (b ∷ []) rest in
-    let fifth = drop_at (front ++ b ∷ []) rest p (length_push front b ∙ len) in
-    cc
+    let fifth = drop_at (front ++ b ∷ []) rest p (length_push front b ∙ len) in cc
 
 begins-before : (front back : List ℕ) → begins_alphanumeric back ≡ false
     → begins_alphanumeric (front ++ back) ≡ begins_alphanumeric front
@@ -225,17 +218,15 @@ module _ (before tail : List ℕ) (utf8 : IsUtf8 before) (plain : EndsPlain befo
   points-apart w p word_utf8 some inside =
       let m = p - 1 in
       let front = take m w in
-      let b = get_or w m 0 in
       let rest = drop (m + 1) w in
-      let shape : w ≡ front ++ b ∷ rest = sym (take-append-drop m w)
+      let shape : w ≡ front ++ get_or w m 0 ∷ rest = sym (take-append-drop m w)
       ∙ ap (λ l. front ++ l) (drop_more w m 0 (omega (arith, some, inside))) in
       grind (arith, length-take-le, length-append, point-same)
 
 -- no point stands before a blank
 pub point-blank : (text : List ℕ) (p : ℕ) → p < length text → is_blank (get_or text p 0) ≡ true
     → is_hyphen_point text p ≡ false
-point-blank text p inside blank =
-    grind (arith, drop_more, begins-blank, and_right)
+point-blank text p inside blank = grind (arith, drop_more, begins-blank, and_right)
 
 -- a point stands after a hyphen
 pub hyphen-before-point : (text : List ℕ) (p : ℕ) → is_hyphen_point text p ≡ true

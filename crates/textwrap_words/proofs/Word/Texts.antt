@@ -1,11 +1,10 @@
 -- The chunks of a line are UTF-8; the blanks at the end of a text, and where it ends without them.
-use Rattle.textwrap_base.proofs.Common.{inl, inr, ◌≡◌, ℕ, zero, suc, ◌-◌, ◌<◌, ◌≤◌, Bool, true}
-use Rattle.textwrap_base.proofs.Common.{false, not, cond, List, [], ◌∷◌, ◌++◌, All, length, get_or}
-use Rattle.textwrap_base.proofs.Common.{drop, refl, sym, ap, ◌∙◌, subst, arith, append_assoc}
-use Rattle.textwrap_base.proofs.Common.{append-nil, length-drop, onto_first, suffix_len, IsUtf8}
-use Rattle.textwrap_base.proofs.Common.{IsCharBoundary, and_parts, cases_lt, eqb-true, false≢true}
-use Rattle.textwrap_base.proofs.Common.{get_or-drop, All-nil, All-cons, IsUtf8-take, ◌+◌}
-use Rattle.textwrap_base.proofs.Common.{take-append-add}
+use Rattle.textwrap_base.proofs.Common.{inl, inr, ◌≡◌, suc, ◌-◌, true, cond, List, ◌++◌, drop, refl}
+use Rattle.textwrap_base.proofs.Common.{ℕ, ◌<◌, ◌≤◌, not, [], ◌∷◌, All, sym, ap, ◌∙◌, ◌+◌}
+use Rattle.textwrap_base.proofs.Common.{zero, Bool, length, get_or, subst, arith, IsUtf8, All-nil}
+use Rattle.textwrap_base.proofs.Common.{false, suffix_len, cases_lt, eqb-true, false≢true, All-cons}
+use Rattle.textwrap_base.proofs.Common.{append_assoc, length-drop, IsCharBoundary, take-append-add}
+use Rattle.textwrap_base.proofs.Common.{append-nil, onto_first, and_parts, get_or-drop, IsUtf8-take}
 use Rattle.textwrap_words.proofs.Common.{is_cut, chunks, is_blank, trimmed_len}
 use Rattle.textwrap_words.proofs.Common.{without_final_blanks, final_blanks, piece, word_of}
 use Rattle.std.proofs.lemmas.List.{get_or-reverse, length-reverse}
@@ -57,8 +56,7 @@ AreBlanks bytes = All (λ c. is_blank c ≡ true) bytes
 pub trimmed-blank : (bytes : List ℕ) (k d : ℕ) → trimmed_len bytes ≤ k → k < length bytes
     → is_blank (get_or bytes k d) ≡ true
 trimmed-blank bytes k d from within =
-    let j = length bytes - 1 - k in
-    let back : length bytes - 1 - j ≡ k = omega arith in
+    let back : length bytes - 1 - (length bytes - 1 - k) ≡ k = omega arith in
     grind (arith, prefix_len_passes, get_or-reverse)
 
 -- and the byte before them is no blank
@@ -73,8 +71,7 @@ trimmed-other bytes some =
 -- they begin after each byte that is no blank
 pub trimmed-past : (bytes : List ℕ) (i : ℕ) → i < length bytes → is_blank (get_or bytes i 0) ≡ false
     → i < trimmed_len bytes
-trimmed-past bytes i within other =
-    grind (arith, cases_lt, false≢true, trimmed-blank)
+trimmed-past bytes i within other = grind (arith, cases_lt, false≢true, trimmed-blank)
 
 -- a byte in front of a text that is not all blanks changes nothing at its end
 pub final_blanks-more : (c : ℕ) (bytes : List ℕ) → 0 < trimmed_len bytes
@@ -127,13 +124,12 @@ trimmed-front (c ∷ front) rest some =
 pub trimmed-le : (bytes : List ℕ) (n : ℕ)
     → ((k : ℕ) → n ≤ k → k < length bytes → is_blank (get_or bytes k 0) ≡ true)
     → trimmed_len bytes ≤ n
-trimmed-le bytes n blanks =
-    elim (cases_lt n (trimmed_len bytes)) [
-      | inr le ↦ le
-      | inl past ↦
-          absurd (false≢true (sym (trimmed-other bytes (omega (arith, past)))
-          ∙ blanks (trimmed_len bytes - 1) (omega (arith, past)) (omega (arith, past))))
-    ]
+trimmed-le bytes n blanks = elim (cases_lt n (trimmed_len bytes)) [
+  | inr le ↦ le
+  | inl past ↦
+      absurd (false≢true (sym (trimmed-other bytes (omega (arith, past)))
+      ∙ blanks (trimmed_len bytes - 1) (omega (arith, past)) (omega (arith, past))))
+]
 
 -- the last byte of a word that is no blank, and the blanks after it
 pub word_of-seam : (x bl : List ℕ) (b : ℕ) → is_blank b ≡ false → AreBlanks bl

@@ -24,8 +24,7 @@ use Rattle.textwrap_words.proofs.Units.Reading.{text_width-le}
 pub join-chunks : (line : List ℕ) → flat (chunks line) ≡ line
 join-chunks [] = refl
 join-chunks (c ∷ []) = refl
-join-chunks (c ∷ d ∷ cs) =
-    grind (arith, cases_Bool, flat-onto_first, join-chunks (d ∷ cs))
+join-chunks (c ∷ d ∷ cs) = grind (arith, cases_Bool, flat-onto_first, join-chunks (d ∷ cs))
 
 -- the first chunk ends at the first cut
 pub chunks_first : (line : List ℕ) (n : ℕ) → 0 < n → n ≤ length line
@@ -41,8 +40,7 @@ chunks_first (c ∷ d ∷ cs) (suc zero) some within before at =
     (at 0 refl (omega arith))
 chunks_first (c ∷ d ∷ cs) (suc (suc n)) some within before at =
     ap (λ b. cond b ((c ∷ []) ∷ chunks (d ∷ cs)) (onto_first c (chunks (d ∷ cs))))
-    (before 0 (omega arith))
-    ∙ ap (onto_first c)
+    (before 0 (omega arith)) ∙ ap (onto_first c)
     (chunks_first (d ∷ cs) (suc n) (omega arith) (omega arith)
     (λ k h. rw add-one (rw (add-one) at (before (suc k) (omega arith))))
     (λ k h more. at (suc k) (omega arith) (omega arith)))
@@ -70,8 +68,7 @@ tiled-push ws w = tiled-append ws (w ∷ []) ∙ ap (λ l. tiled ws ++ l) (appen
 pub tiled-take : (words : List Word) (i : ℕ) (d : Word) (a b : List ℕ) → i < length words
     → a ≡ (get_or words i d).word.now → b ≡ (get_or words i d).whitespace.now
     → tiled (map word_view (take (i + 1) words)) ≡ tiled (map word_view (take i words)) ++ (a ++ b)
-tiled-take words i d a b within word whitespace =
-    rw (take_more words i d within, word, whitespace)
+tiled-take words i d a b within word whitespace = rw (take_more words i d within, word, whitespace)
     (ap tiled (map-append word_view (take i words) (get_or words i d ∷ []))
     ∙ tiled-push (map word_view (take i words)) (word_view (get_or words i d)))
 
@@ -101,8 +98,7 @@ chunks-first : (c : ℕ) (part rest : List ℕ) → IsUncut (c ∷ part) → Cut
     → chunks (c ∷ part ++ rest) ≡ (c ∷ part) ∷ chunks rest
 chunks-first c [] [] uncut cut = refl
 chunks-first c [] (d ∷ rest) uncut cut = rw cut refl
-chunks-first c (d ∷ part) rest uncut cut =
-    rw (uncut [] part c d refl)
+chunks-first c (d ∷ part) rest uncut cut = rw (uncut [] part c d refl)
     (ap (onto_first c) (chunks-first d part rest (IsUncut-tail c (d ∷ part) uncut)
     (CutAfter-tail c d part rest cut)))
 
@@ -154,8 +150,7 @@ IsUncut-cons c d part whole uncut (b ∷ before) after x y e = uncut before afte
 
 -- fewer than two parts have no place between them
 AreCutApart-few : (parts : List (List ℕ)) → length parts < 2 → AreCutApart parts
-AreCutApart-few parts few =
-    λ before after left right e. absurd
+AreCutApart-few parts few = λ before after left right e. absurd
     (omega (arith, ap length e, length-append before (left ∷ right ∷ after)))
 
 AreCutApart-cons : (part next : List ℕ) (parts : List (List ℕ))
@@ -213,13 +208,12 @@ chunks-from c (d ∷ cs) = step (is_cut c d) refl (chunks-from d cs)
     }
 
 pub AreChunks-chunks : (line : List ℕ) → AreChunks line (chunks line)
-AreChunks-chunks [] =
-    record {
-      tiles = refl;
-      nonempty = All-nil (λ part. part ≢ []);
-      uncut = All-nil IsUncut;
-      cut = AreCutApart-few [] (omega arith);
-    }
+AreChunks-chunks [] = record {
+  tiles = refl;
+  nonempty = All-nil (λ part. part ≢ []);
+  uncut = All-nil IsUncut;
+  cut = AreCutApart-few [] (omega arith);
+}
 AreChunks-chunks (c ∷ cs) =
     let h = chunks-from c cs in
     let same = sym h.shape in
@@ -255,8 +249,7 @@ pub word_of-measured : (bytes : List ℕ) → IsUtf8 bytes → IsMeasured (word_
 word_of-measured bytes utf8 = grind (arith, without_final_blanks-utf8, final_blanks-blank)
 
 pub words-measured : (parts : List (List ℕ)) → All IsUtf8 parts → All IsMeasured (map word_of parts)
-words-measured parts utf8 =
-    All-map IsMeasured word_of parts
+words-measured parts utf8 = All-map IsMeasured word_of parts
     (All-weaker IsUtf8 (λ part. IsMeasured (word_of part)) word_of-measured parts utf8)
 
 pub text_width-nil : text_width [] ≡ 0
@@ -285,8 +278,7 @@ pub record IsNarrowWord (w : WordText) : Type 0 where
   pub penalty : HasNoPenalty w
 
 pub IsNarrowWord-measured : (w : WordText) → IsMeasured w → HasNoPenalty w → IsNarrowWord w
-IsNarrowWord-measured w measured none =
-    grind (arith, text_width-le)
+IsNarrowWord-measured w measured none = grind (arith, text_width-le)
 
 pub total_width-narrow : (words : List WordText) → All IsNarrowWord words
     → total_width sizes_of words ≤ length (tiled words)
@@ -300,8 +292,7 @@ total_width-narrow (w ∷ words) all =
 pub closed_width-narrow : (words : List WordText) → All IsNarrowWord words
     → closed_width sizes_of words ≤ length (tiled words)
 closed_width-narrow [] all = omega arith
-closed_width-narrow (w ∷ []) all =
-    grind (arith, All-head, length-append)
+closed_width-narrow (w ∷ []) all = grind (arith, All-head, length-append)
 closed_width-narrow (w ∷ v ∷ words) all =
     let again = closed_width-narrow (v ∷ words) (All-tail IsNarrowWord w (v ∷ words) all) in
     grind (arith, All-head, length-append)

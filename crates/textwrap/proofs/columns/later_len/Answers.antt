@@ -33,8 +33,7 @@ returns-in_err-cell_len-clause-none g c =
     let bytes = padded_bytes g (goal.at.returns-in_err-cell_len-clause-none g c).After-as_str in
     IfNone-always c.from_residual.result _
     (gapped-past layout lines c.args.step c.args.first c.loop-later.later c.loop-later.len _ so_far.0
-    (omega (arith, c.loop-later-test.true))
-    (omega (arith, bytes))
+    (omega (arith, c.loop-later-test.true)) (omega (arith, bytes))
     c.in_err-cell_len.ensures)
 
 pub returns-in_err-checked_add-clause-none : goal.returns-in_err-checked_add-clause-none

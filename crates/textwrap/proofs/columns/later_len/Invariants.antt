@@ -6,8 +6,7 @@ use Rattle.textwrap.proofs.Common.{layout_view, gapped, cell}
 -- the bytes of the later cells so far, where the last line stands, and that there is a column for
 -- each
 abbrev pub invariant-loop-later : goal.invariant-loop-later
-invariant-loop-later g l =
-    (l.len ≡ length (gapped (layout_view l.table)
+invariant-loop-later g l = (l.len ≡ length (gapped (layout_view l.table)
     (map (cell (map line_bytes (map line_view l.lines)) l.step l.first)
     (range_with_len 1 l.later))))
     × (l.at ≡ l.first + l.later * l.step) × (l.at < length l.lines) × (l.later + 1 ≤ l.table.columns)

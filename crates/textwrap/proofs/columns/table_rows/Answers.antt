@@ -6,21 +6,19 @@ use Rattle.textwrap.proofs.Common.{layout_view, row_text, cells}
 use Rattle.textwrap_base.proofs.Numbers.{rows-le_lines}
 
 pub table_row-requires-clause-within : goal.table_row-requires-clause-within
-table_row-requires-clause-within g c =
-    omega (
-      arith,
-      c.div_ceil-count.ensures,
-      rows-le_lines (length c.args.lines.now) c.args.table.now.columns c.requires,
-      c.loop-r-test.true,
-    )
+table_row-requires-clause-within g c = omega (
+  arith,
+  c.div_ceil-count.ensures,
+  rows-le_lines (length c.args.lines.now) c.args.table.now.columns c.requires,
+  c.loop-r-test.true,
+)
 
 pub table_row-requires-clause-step_within : goal.table_row-requires-clause-step_within
-table_row-requires-clause-step_within g c =
-    omega (
-      arith,
-      c.div_ceil-count.ensures,
-      rows-le_lines (length c.args.lines.now) c.args.table.now.columns c.requires,
-    )
+table_row-requires-clause-step_within g c = omega (
+  arith,
+  c.div_ceil-count.ensures,
+  rows-le_lines (length c.args.lines.now) c.args.table.now.columns c.requires,
+)
 
 pub loop-r-preserved : goal.loop-r-preserved
 loop-r-preserved g c =

@@ -11,10 +11,8 @@ use Rattle.textwrap.proofs.columns.wrap_columns.Goals.{After-wrap_in_table}
 narrow : (g : _) (c : After-wrap_in_table g) → settings_view c.width.result
     ≡ at_column_width (settings_view c.args.options) c.args.columns c.args.left_gap.now
     c.args.middle_gap.now c.args.right_gap.now
-narrow g c =
-    c.width.ensures.settings
-    ∙ ap (λ l. record (settings_view c.args.options) { width = l.column_width })
-    c.new-table.ensures
+narrow g c = c.width.ensures.settings
+    ∙ ap (λ l. record (settings_view c.args.options) { width = l.column_width }) c.new-table.ensures
 
 pub returns-clause-rows : goal.returns-clause-rows
 returns-clause-rows g c = IfOk-weaker c.wrap_in_table.result _ _ (λ rows (lines, are, is). (

@@ -7,9 +7,8 @@ use Rattle.textwrap.proofs.Text.Margins.{leading-cut, leading-len}
 
 pub range-requires-clause-end_boundary : goal.range-requires-clause-end_boundary
 range-requires-clause-end_boundary c =
-    let line = c.args.line.now in
-    rw (c.trim_start.ensures.trim, leading-len line c.utf8.line)
-    (leading-cut line c.utf8.line).boundary
+    rw (c.trim_start.ensures.trim, leading-len c.args.line.now c.utf8.line)
+    (leading-cut c.args.line.now c.utf8.line).boundary
 
 pub returns : goal.returns
 returns c =

@@ -18,15 +18,13 @@ next c =
     lines-next (lines c.args.s.now) (length c.loop-line.yielded) c.in-Some.line.now t.0 t.1
 
 pub loop-line-preserved-in-Some-margin : goal.loop-line-preserved-in-Some-margin
-loop-line-preserved-in-Some-margin c =
-    rw (length_push, c.narrowed.ensures) (rw (
-      c.in-Some-margin.is,
-      next (goal.at.loop-line-preserved-in-Some-margin c).In-Some,
-    ) at c.loop-line.invariant)
+loop-line-preserved-in-Some-margin c = rw (length_push, c.narrowed.ensures) (rw (
+  c.in-Some-margin.is,
+  next (goal.at.loop-line-preserved-in-Some-margin c).In-Some,
+) at c.loop-line.invariant)
 
 pub loop-line-preserved-in-None-margin : goal.loop-line-preserved-in-None-margin
-loop-line-preserved-in-None-margin c =
-    rw length_push (sym (margin_after-blank c.in-Some.line.now
+loop-line-preserved-in-None-margin c = rw length_push (sym (margin_after-blank c.in-Some.line.now
     (drop (length c.loop-line.yielded + 1) (lines c.args.s.now))
     (sym c.is_blank_line.ensures ∙ c.if-is_blank_line.true))
     ∙ (rw (c.in-None-margin.is, next (goal.at.loop-line-preserved-in-None-margin c).In-Some)
@@ -48,5 +46,4 @@ returns c =
     c.next.ensures.steps in
     ap (λ m. chars m.now) c.unwrap_or.ensures ∙ margin_after-end c.loop-line.margin _ refl
     ∙ ap (margin_after (option_map (λ m. chars m.now) c.loop-line.margin))
-    (sym (drop_all (length c.loop-line.yielded) ls (omega (arith, t.1))))
-    ∙ c.loop-line.invariant
+    (sym (drop_all (length c.loop-line.yielded) ls (omega (arith, t.1)))) ∙ c.loop-line.invariant

@@ -1,8 +1,7 @@
 use Rattle.textwrap.proofs.indentation.narrowed.Goals as goal
-use Rattle.textwrap_base.proofs.Common.{◌+◌, length, take, drop, sym, ap, ◌∙◌, subst, arith}
-use Rattle.textwrap_base.proofs.Common.{take-append-drop, IsCharBoundary, YieldsList-from_chars}
-use Rattle.textwrap_base.proofs.Common.{YieldsList-turn, YieldsList-end, length_push}
-use Rattle.textwrap_base.proofs.Common.{chars_from_encodes}
+use Rattle.textwrap_base.proofs.Common.{◌+◌, take, drop, sym, ◌∙◌, subst, arith, length_push}
+use Rattle.textwrap_base.proofs.Common.{length, ap, IsCharBoundary, YieldsList-turn, YieldsList-end}
+use Rattle.textwrap_base.proofs.Common.{take-append-drop, YieldsList-from_chars, chars_from_encodes}
 use Rattle.std.specs.Str.{chars}
 use Rattle.std.proofs.lemmas.Iterator.{YieldsList-from_zip}
 use Rattle.textwrap_base.proofs.Lists.Parts.{from_start}
@@ -50,12 +49,11 @@ returns-then-ours-theirs c =
 
 pub overflow_add-len : goal.overflow_add-len
 overflow_add-len c =
-    let ms = chars c.args.margin.now in
     let n = length c.loop-ours.yielded in
     let here = turn (goal.at.overflow_add-len c).In-Some in
     omega (
       arith,
-      encoded-more ms n c.in-Some.ours here.in_margin here.ours,
+      encoded-more (chars c.args.margin.now) n c.in-Some.ours here.in_margin here.ours,
       encoded-within c.args.margin.now (n + 1) c.utf8.margin,
       c.len_utf8-len.ensures.len,
     )

@@ -9,6 +9,5 @@ invariant-loop-ours l = record {
   len : l.len ≡ length (encode_utf8_all (take (length l.yielded) (chars l.margin)));
   same : take (length l.yielded) (chars l.margin)
       ++ narrowed (drop (length l.yielded) (chars l.margin))
-      (drop (length l.yielded) (chars l.line))
-      ≡ narrowed (chars l.margin) (chars l.line);
+      (drop (length l.yielded) (chars l.line)) ≡ narrowed (chars l.margin) (chars l.line);
 }

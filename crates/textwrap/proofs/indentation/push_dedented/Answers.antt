@@ -11,7 +11,6 @@ use Rattle.textwrap.specs.Indentation.{without_margin}
 use Rattle.textwrap.proofs.Text.Margins.{IsLineAt, line_at, joined-first, joined-more}
 use Rattle.textwrap.proofs.Text.Margins.{lines_begin_with_margin}
 use Rattle.textwrap.proofs.indentation.push_dedented.Goals.{In-Some, In-None}
-use Rattle.textwrap.proofs.indentation.push_dedented.Goals.{then-i-gt0+in_ok-push_part, else-i-gt0}
 
 -- the line of this turn
 turn : (g : _) (c : In-Some g) → IsLineAt (lines c.args.s.now) (length c.loop-i.yielded) c.in-Some.i
@@ -34,7 +33,6 @@ without_margin-requires g c =
 pub loop-i-preserved : goal.loop-i-preserved
 loop-i-preserved g c =
     let here = turn g (goal.at.loop-i-preserved g c).In-Some in
-    let line = c.in-Some.line.now in
     let f = without_margin (chars c.margin_of-margin.result.now) in
     let ls = lines c.args.s.now in
     let n = length c.loop-i.yielded in
@@ -45,20 +43,20 @@ loop-i-preserved g c =
     (c.in_ok-push_part-2.ensures.took c.args.text.now so_far held) in
     record {
       text = rw length_push (elim c.if-i-gt0.branch [
-        | then-i-gt0+in_ok-push_part w ↦
+        | goal.then-i-gt0+in_ok-push_part w ↦
             subst (Holds c.push_part-in-loop-i.new.self)
-            (joined-more f ls n c.in-Some.i line before here w.if-i-gt0.true refl)
+            (joined-more f ls n c.in-Some.i c.in-Some.line.now before here w.if-i-gt0.true refl)
             (pushed (before ++ 10 ∷ []) (rw w.text-is
             (w.in_ok-push_part.ensures.took c.args.text.now before c.loop-i.invariant.text)))
-        | else-i-gt0 w ↦
+        | goal.else-i-gt0 w ↦
             subst (Holds c.push_part-in-loop-i.new.self)
-            (joined-first f ls n c.in-Some.i line before here (omega arith) refl)
+            (joined-first f ls n c.in-Some.i c.in-Some.line.now before here (omega arith) refl)
             (pushed before (rw w.text-is c.loop-i.invariant.text))
       ]);
       name = c.push_part-in-loop-i.ensures.name ∙ elim c.if-i-gt0.branch [
-        | then-i-gt0+in_ok-push_part w ↦
+        | goal.then-i-gt0+in_ok-push_part w ↦
             rw w.text-is (w.push_part.ensures.name ∙ c.loop-i.invariant.name)
-        | else-i-gt0 w ↦ rw w.text-is c.loop-i.invariant.name
+        | goal.else-i-gt0 w ↦ rw w.text-is c.loop-i.invariant.name
       ];
     }
 

@@ -6,7 +6,6 @@ use Rattle.textwrap.proofs.Common.{ended_parts}
 use Rattle.textwrap.specs.Indentation.{indent_of_part, indented_part}
 use Rattle.textwrap.proofs.Text.Indents.{YieldsList-from_split_inclusive}
 use Rattle.textwrap_base.proofs.Lists.Elements.{indented-more}
-use Rattle.textwrap.proofs.indentation.push_indented.Goals.{then-is_blank_line, else-is_blank_line}
 
 pub loop-part-preserved : goal.loop-part-preserved
 loop-part-preserved g c =
@@ -20,16 +19,15 @@ loop-part-preserved g c =
     c.next.ensures.steps in
     let indent : c.if-is_blank_line.indent.now ≡ indent_of_part prefix part =
     elim c.if-is_blank_line.branch [
-      | then-is_blank_line w ↦
+      | goal.then-is_blank_line w ↦
           rw (w.indent-is, ← c.is_blank_line.ensures, w.if-is_blank_line.true)
           c.trim_end-bare_prefix.ensures.trim
-      | else-is_blank_line w ↦
+      | goal.else-is_blank_line w ↦
           rw (w.indent-is, ← c.is_blank_line.ensures, w.if-is_blank_line.false)
     ] in
     let grown : (before ++ c.if-is_blank_line.indent.now) ++ part
     ≡ flat_map (indented_part prefix) (take (n + 1) parts) =
-    append_assoc before c.if-is_blank_line.indent.now part
-    ∙ ap (λ i. before ++ (i ++ part)) indent
+    append_assoc before c.if-is_blank_line.indent.now part ∙ ap (λ i. before ++ (i ++ part)) indent
     ∙ indented-more (indented_part prefix) parts n part before t.0 t.1 refl in
     record {
       text = rw length_push (subst (g.S.TextSink.holds c.args.text.now _) grown

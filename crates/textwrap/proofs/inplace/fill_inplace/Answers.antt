@@ -20,8 +20,7 @@ filled g c =
     c.deref_mut.result.now c.in_ok-breaks.breaks.items c.deref.result.now
     c.put_line_feeds.new.bytes found.0 found.1 found.2 c.as_str.ensures.value
     (c.deref_mut.ensures.value ∙ ap (λ v. v.items) c.into_bytes-bytes.ensures.value
-    ∙ ap string_bytes c.replace.ensures.value)
-    c.deref.ensures.value c.put_line_feeds.ensures
+    ∙ ap string_bytes c.replace.ensures.value) c.deref.ensures.value c.put_line_feeds.ensures
 
 -- and are all bytes of the buffer
 all_bytes : (g : _) (c : After-put_line_feeds g)

@@ -4,10 +4,6 @@ use Rattle.textwrap_base.proofs.Common.{length-append, ⊎_elim, cases_lt}
 use Rattle.textwrap_words.proofs.Common.{word_view}
 use Rattle.textwrap.proofs.Text.Growing.{HasLine-begin, HasLine-break, HasLine-join, HasLine-none}
 use Rattle.textwrap.proofs.Text.Growing.{HasLine-within, HasLine-fits, HasLine-end}
-use Rattle.textwrap.proofs.inplace.push_breaks.Goals.{then-line_start-end+then-open_width-word_width+in_ok-push}
-use Rattle.textwrap.proofs.inplace.push_breaks.Goals.{else-line_start-end}
-use Rattle.textwrap.proofs.inplace.push_breaks.Goals.{else-line_start-end-via-then-line_start-end+else-open_width-word_width}
-use Rattle.textwrap.proofs.inplace.push_breaks.Goals.{else-line_start-end-via-else-line_start-end}
 
 pub loop-word-init : goal.loop-word-init
 loop-word-init g c = (
@@ -38,7 +34,7 @@ loop-word-preserved g c =
     let here = rw c.in-Some.ensures.steps at has in
     let within = HasLine-within here in
     elim now.branch [
-      | then-line_start-end+then-open_width-word_width+in_ok-push w ↦ (
+      | goal.then-line_start-end+then-open_width-word_width+in_ok-push w ↦ (
         (
           word ∷ [],
           HasLine-break here now.line_start len taken now.breaks.items w.if-line_start-end.true
@@ -48,13 +44,12 @@ loop-word-preserved g c =
         ),
         omega (arith, within, w.open_width-is),
       )
-      | else-line_start-end w ↦
+      | goal.else-line_start-end w ↦
           let room : c.loop-word.line_start < c.loop-word.end
-          → c.loop-word.open_width + word.width ≤ c.args.width =
-          elim w.else-line_start-end.branch [
-            | else-line_start-end-via-then-line_start-end+else-open_width-word_width v ↦ λ began.
+          → c.loop-word.open_width + word.width ≤ c.args.width = elim w.else-line_start-end.branch [
+            | goal.else-line_start-end-via-then-line_start-end+else-open_width-word_width v ↦ λ began.
                 omega (arith, v.if-open_width-word_width.false)
-            | else-line_start-end-via-else-line_start-end v ↦ λ began.
+            | goal.else-line_start-end-via-else-line_start-end v ↦ λ began.
                 absurd (omega (arith, began, v.if-line_start-end.false))
           ] in (
             (

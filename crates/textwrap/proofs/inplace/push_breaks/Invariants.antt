@@ -7,5 +7,4 @@ use Rattle.textwrap.proofs.Text.Growing.{HasLine}
 abbrev pub invariant-loop-word : goal.invariant-loop-word
 invariant-loop-word g l =
     ((line : List WordText) × HasLine l.width l.start l.part l.fn.breaks.items l.breaks.items
-    l.line_start l.end l.open_width l.word-iterator line)
-    × (l.open_width < 2 ^ 65)
+    l.line_start l.end l.open_width l.word-iterator line) × (l.open_width < 2 ^ 65)

@@ -4,6 +4,5 @@ use Rattle.textwrap.proofs.Common.{with_line_feeds}
 
 -- line feeds in the places left make of the bytes what they are to become
 abbrev pub invariant-loop-place : goal.invariant-loop-place
-invariant-loop-place l =
-    (length l.bytes ≡ length l.fn.bytes)
+invariant-loop-place l = (length l.bytes ≡ length l.fn.bytes)
     × (with_line_feeds (drop l.place-index l.places) l.bytes ≡ with_line_feeds l.places l.fn.bytes)

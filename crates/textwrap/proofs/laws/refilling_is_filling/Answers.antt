@@ -4,8 +4,7 @@ use Rattle.textwrap.proofs.Text.Refilling.{refilled-filled, filled-is_plain, ref
 
 pub returns : goal.returns
 returns c = record {
-  refilled = λ settings splitter algorithm.
-      refilled-filled (DividesAs splitter algorithm) settings;
+  refilled = λ settings splitter algorithm. refilled-filled (DividesAs splitter algorithm) settings;
   plain = filled-is_plain;
   twice = refilled-twice;
 }

@@ -26,12 +26,10 @@ counted c =
 pub range-requires-clause-end_boundary : goal.range-requires-clause-end_boundary
 range-requires-clause-end_boundary c =
     let first = c.args.first.now in
-    let second = c.args.second.now in
     rw (counted (goal.at.range-requires-clause-end_boundary c).After-count-len)
-    (IsCharBoundary-from_ascii first (common_prefix_len nat_eq first second) c.requires
-    (common_prefix_len-le nat_eq first second).0)
+    (IsCharBoundary-from_ascii first (common_prefix_len nat_eq first c.args.second.now) c.requires
+    (common_prefix_len-le nat_eq first c.args.second.now).0)
 
 pub returns : goal.returns
-returns c =
-    c.range.ensures.value ∙ from_start c.args.first.now c.count-len.result
+returns c = c.range.ensures.value ∙ from_start c.args.first.now c.count-len.result
     ∙ ap (λ n. take n c.args.first.now) (counted (goal.at.returns c).After-count-len)

@@ -62,8 +62,7 @@ returns c =
     let first : c.unwrap_or-first.result.now ≡ get_or (lines text) 0 [] =
     ap (λ b. b.now) c.unwrap_or-first.ensures
     ∙ first_line _ _ text c.next.result _ c.lines.ensures.rest c.next.ensures.steps refl in
-    let width : c.loop-line.width ≡ unfilled_width text =
-    rw none at c.loop-line.invariant.width in
+    let width : c.loop-line.width ≡ unfilled_width text = rw none at c.loop-line.invariant.width in
     let initial : c.line_prefix-2.result.now ≡ unfilled_initial text =
     c.line_prefix-2.ensures ∙ ap line_prefix first in
     let subsequent : c.unwrap_or.result.now ≡ unfilled_subsequent text =

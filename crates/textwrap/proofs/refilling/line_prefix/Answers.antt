@@ -12,8 +12,7 @@ use Rattle.textwrap.proofs.refilling.line_prefix.Goals.{After-count-len}
 -- the bytes that are counted are the prefix characters
 counted : (c : After-count-len)
     → c.count-len.result ≡ prefix_len is_prefix_character c.args.line.now
-counted c =
-    count_from_yields_List c.take_while.result _ c.count-len.ensures.ran
+counted c = count_from_yields_List c.take_while.result _ c.count-len.ensures.ran
     (YieldsList-from_take_while _ is_prefix_character (YieldsList-from_bytes c.args.line.now (cc))
     c.take_while.ensures.closure c.take_while.ensures.done (λ x b q k. search (rules, tests)))
     ∙ length-prefix_len is_prefix_character c.args.line.now
@@ -24,6 +23,5 @@ range-requires-clause-end_boundary c =
     (line_prefix-boundary c.args.line.now c.utf8.line)
 
 pub returns : goal.returns
-returns c =
-    c.range.ensures.value ∙ from_start c.args.line.now c.count-len.result
+returns c = c.range.ensures.value ∙ from_start c.args.line.now c.count-len.result
     ∙ ap (λ n. take n c.args.line.now) (counted (goal.at.returns c).After-count-len)

@@ -7,7 +7,6 @@ pub returns-clause-keeps : goal.returns-clause-keeps
 returns-clause-keeps g c =
     let text = c.args.text.now in
     ends_text c.ends_with-keeps_ending.result c.as_str.result.now text
-    c.ends_with-keeps_ending.ensures.cases
-    ∙ ap (ends_with nat_eq text) c.as_str.ensures
+    c.ends_with-keeps_ending.ensures.cases ∙ ap (ends_with nat_eq text) c.as_str.ensures
     ∙ sym (keeps_ending-some text c.in-Some.ending
     (sym c.in_ok-ending.ensures.detected ∙ c.in-Some.is))

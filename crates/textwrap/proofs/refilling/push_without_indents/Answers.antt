@@ -7,8 +7,7 @@ use Rattle.textwrap.specs.Refilling.{ended_line_view}
 use Rattle.textwrap.proofs.Text.Unfilling.{lines-begin, joined_text-some, detected_among-two}
 
 pub without_indent-first-requires : goal.without_indent-first-requires
-without_indent-first-requires g c =
-    subst (StartsWith c.in-Some.first.now) (sym c.requires.initial)
+without_indent-first-requires g c = subst (StartsWith c.in-Some.first.now) (sym c.requires.initial)
     (lines-begin c.args.text.now (ended_line_view (c.in-Some.first, c.in-Some.ending))
     c.next.new.self c.in-Some.ensures.steps).0
 
@@ -28,8 +27,7 @@ loop-line-init g c =
             c.requires.subsequent steps),
       );
       name = c.push_part.ensures.name ∙ c.reserve_bytes.ensures.name;
-      begins = rw (left, c.requires.subsequent)
-          (lines-begin text first c.next.new.self steps).1;
+      begins = rw (left, c.requires.subsequent) (lines-begin text first c.next.new.self steps).1;
       detected = ap (λ es. detected_among (c.in-Some.ending ∷ map (λ e. e.ending) es)) left
           ∙ ap (λ es. detected_among (map (λ e. e.ending) es)) (sym steps);
     }
@@ -37,8 +35,7 @@ loop-line-init g c =
 pub without_indent-requires : goal.without_indent-requires
 without_indent-requires g c =
     let line = ended_line_view (c.in-Some-2.line, c.in-Some-2.ending) in
-    All-head (λ e. StartsWith e.line c.args.subsequent_indent.now) line
-    c.next-in-loop-line.new.self
+    All-head (λ e. StartsWith e.line c.args.subsequent_indent.now) line c.next-in-loop-line.new.self
     (rw c.in-Some-2.ensures.steps at c.loop-line.invariant.begins)
 
 pub loop-line-preserved : goal.loop-line-preserved
@@ -47,11 +44,10 @@ loop-line-preserved g c =
     let left = c.next-in-loop-line.new.self in
     let steps = c.in-Some-2.ensures.steps in
     let (before, held, joined) = c.loop-line.invariant.joined in
-    let piece = c.without_indent.result.now in
     let blank_pushed = c.in_ok-push_part-2.ensures.took c.args.joined.now before held in
     record {
       joined = (
-        (before ++ blank ∷ []) ++ piece,
+        (before ++ blank ∷ []) ++ c.without_indent.result.now,
         c.in_ok-push_part-3.ensures.took c.args.joined.now (before ++ blank ∷ []) blank_pushed,
         rw (c.without_indent.ensures, append_assoc, append_assoc) (rw steps at joined),
       );
@@ -61,8 +57,7 @@ loop-line-preserved g c =
           (rw steps at c.loop-line.invariant.begins);
       detected = ap (λ d. detected_among (d ∷ map (λ e. e.ending) left))
           c.stronger_ending-detected.ensures
-          ∙ detected_among-two c.loop-line.detected c.in-Some-2.ending
-          (map (λ e. e.ending) left)
+          ∙ detected_among-two c.loop-line.detected c.in-Some-2.ending (map (λ e. e.ending) left)
           ∙ ap (λ es. detected_among (c.loop-line.detected ∷ map (λ e. e.ending) es)) (sym steps)
           ∙ c.loop-line.invariant.detected;
     }

@@ -2,8 +2,6 @@ use Rattle.textwrap_base.proofs.first_fit.fitting_len.Goals as goal
 use Rattle.textwrap_base.proofs.Common.{◌≡◌, ◌+◌, ◌<◌, ◌≤◌, take, ap, arith, open_width}
 use Rattle.textwrap_base.proofs.Common.{closed_width}
 use Rattle.textwrap_base.proofs.Division.Greedy.{open_width-take, closed_width-take, Fits-take}
-use Rattle.textwrap_base.proofs.first_fit.fitting_len.Goals.{else-i-gt0-via-then-i-gt0+else-closed-line_width}
-use Rattle.textwrap_base.proofs.first_fit.fitting_len.Goals.{else-i-gt0-via-else-i-gt0}
 
 pub returns-then-closed-line_width-clause-full : goal.returns-then-closed-line_width-clause-full
 returns-then-closed-line_width-clause-full g c =
@@ -19,16 +17,14 @@ loop-i-preserved g c =
     c.index-fragments-i.result c.loop-i-test.true c.index-fragments-i.is in
     let bound : 0 < c.loop-i.i
     → closed_width g.T.Fragment.sizes (take (c.loop-i.i + 1) c.args.fragments.now) ≤
-    c.args.line_width =
-    elim c.else-i-gt0.branch [
-      | else-i-gt0-via-then-i-gt0+else-closed-line_width w ↦ λ _.
-          omega arith
-      | else-i-gt0-via-else-i-gt0 w ↦ λ some. absurd (omega arith)
+    c.args.line_width = elim c.else-i-gt0.branch [
+      | goal.else-i-gt0-via-then-i-gt0+else-closed-line_width w ↦ λ _. omega arith
+      | goal.else-i-gt0-via-else-i-gt0 w ↦ λ some. absurd (omega arith)
     ] in (
       omega arith,
       elim c.else-i-gt0.branch [
-        | else-i-gt0-via-then-i-gt0+else-closed-line_width w ↦ omega arith
-        | else-i-gt0-via-else-i-gt0 w ↦
+        | goal.else-i-gt0-via-then-i-gt0+else-closed-line_width w ↦ omega arith
+        | goal.else-i-gt0-via-else-i-gt0 w ↦
             let first : c.loop-i.i ≡ 0 = omega arith in
             let none = ap (λ n. open_width g.T.Fragment.sizes (take n c.args.fragments.now)) first
             in

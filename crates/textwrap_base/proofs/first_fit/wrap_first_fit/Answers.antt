@@ -1,9 +1,10 @@
 use Rattle.textwrap_base.proofs.first_fit.wrap_first_fit.Goals as goal
 use Rattle.textwrap_base.proofs.Common.{◌≡◌, [], ◌∷◌, ◌<◌, take, length, map, vec_len, sym, ap, ◌∙◌}
 use Rattle.textwrap_base.proofs.Common.{subst, arith, line_width, nat_tests, append-nil, length-map}
-use Rattle.textwrap_base.proofs.Division.Greedy.{greedy_fewest, IsGreedyFrom, IsGreedyFrom-nil}
+use Rattle.textwrap_base.proofs.Division.Greedy.{greedy_fewest, IsGreedyFrom}
 use Rattle.textwrap_base.proofs.Division.Greedy.{IsGreedyFrom-cons, IsGreedy-from}
 use Rattle.textwrap_base.proofs.Lists.Elements.{map-push-append}
+use Rattle.textwrap_base.proofs.Common.{nil_from_length, All-nil}
 
 pub loop-rest-preserved : goal.loop-rest-preserved
 loop-rest-preserved g c = (
@@ -30,12 +31,10 @@ returns g c =
     let greedy = IsGreedy-from g.T.Fragment.sizes c.args.line_widths.now c.args.fragments.now
     (map (λ line. line.now) c.loop-rest.lines.items) c.loop-rest.invariant.0
     (rw append-nil at (c.loop-rest.invariant.1 []
-    (IsGreedyFrom-nil g.T.Fragment.sizes c.args.line_widths.now
-    (vec_len c.loop-rest.lines) c.loop-rest.rest.now none))) in
+    (grind (arith, nil_from_length, All-nil)))) in
     record {
       greedy = greedy;
-      fewest = λ others admissible.
-          rw (length-map c.loop-rest.lines.items (λ line. line.now)) at
+      fewest = λ others admissible. rw (length-map c.loop-rest.lines.items (λ line. line.now)) at
           (greedy_fewest g.T.Fragment.sizes c.args.line_widths.now c.args.fragments.now
           (map (λ line. line.now) c.loop-rest.lines.items) others greedy admissible);
     }

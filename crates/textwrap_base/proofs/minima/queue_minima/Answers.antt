@@ -12,13 +12,11 @@ queue_search-minima-requires g c = record {
 }
 
 pub returns-clause-entries : goal.returns-clause-entries
-returns-clause-entries g c =
-    IfOk-weaker c.queue_search-minima.result _ _
+returns-clause-entries g c = IfOk-weaker c.queue_search-minima.result _ _
     (λ minima is. is ∙ ap (λ (l : Costs). map minimum_of (table l.cost l.ends)) c.in-Ok.ensures.costs)
     c.queue_search-minima.ensures.minima
 
 pub returns-clause-least : goal.returns-clause-least
-returns-clause-least g c =
-    IfOk-weaker c.queue_search-minima.result _ _
+returns-clause-least g c = IfOk-weaker c.queue_search-minima.result _ _
     (λ minima is. reported-least_cost _ _ _ c.args.fragments.now _ is c.requires.case.equal)
     (returns-clause-entries g c)

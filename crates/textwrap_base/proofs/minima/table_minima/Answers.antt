@@ -12,8 +12,7 @@ returns-in_err-entries-clause-no_overflow g c =
     λ narrow over.
     let fits = table-fits (priced_by g.T.Fragment.sizes g.T.Fragment.own_break_penalty c.in_range-penalties.result)
     c.in_range-penalties.result c.args.line_widths.now c.args.fragments.now
-    c.in_range-penalties.ensures.range
-    c.in_ok-costs.ensures.break_penalties
+    c.in_range-penalties.ensures.range c.in_ok-costs.ensures.break_penalties
     (λ i. omega (arith, c.type_inv.line_widths i)) narrow in
     let (i, first, steps) = c.in_err-entries.ensures.overflow
     (overflowed_on (Vec Entry g.row.A.Denot) c.from_residual-in_err-entries.result

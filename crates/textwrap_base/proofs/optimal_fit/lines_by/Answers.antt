@@ -13,8 +13,7 @@ loop-end-preserved g c =
     ∙ reverse_map_push (λ (line : Bor (List g.row.T.Denot)). line.now) c.loop-end.lines.items _ in
     let more = lines_more c.args.fragments.now (map (λ (m : Minimum). m.start) c.args.minima.now)
     (reverse (map (λ line. line.now) c.loop-end.lines.items)) c.line_start-start.result
-    c.loop-end.end
-    c.line_start-start.ensures.before c.loop-end.invariant.within
+    c.loop-end.end c.line_start-start.ensures.before c.loop-end.invariant.within
     (sym c.line_start-start.ensures.start) c.loop-end.invariant.tiles
     c.loop-end.invariant.nonempty c.loop-end.invariant.follow in
     record {

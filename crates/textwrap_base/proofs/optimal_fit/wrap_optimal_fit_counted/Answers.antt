@@ -21,8 +21,7 @@ pub returns-clause-fit : goal.returns-clause-fit
 returns-clause-fit g c =
     let starts = starts_reported _ _ _ (c.deref.ensures.value ∙ c.in_ok-minima.ensures.entries) in
     optimal-returned _ _ _ _ (λ (lines : Vec (Bor (List g.row.T.Denot)) g.row.A.Denot).
-    map (λ (line : Bor (List g.row.T.Denot)). line.now) lines.items)
-    c.in_ok-lines_by.field-0
+    map (λ (line : Bor (List g.row.T.Denot)). line.now) lines.items) c.in_ok-lines_by.field-0
     record {
       division = c.in_ok-lines_by.ensures.division;
       starts = rw starts at c.in_ok-lines_by.ensures.follow;

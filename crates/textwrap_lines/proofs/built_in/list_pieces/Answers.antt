@@ -14,10 +14,10 @@ use Rattle.textwrap_lines.proofs.Paragraph.Pieces.{pieces_of_words-tile, pieces_
 use Rattle.textwrap_lines.proofs.Paragraph.LeftOff.{blanks-utf8}
 use Rattle.textwrap_lines.proofs.PieceLines.{gap_taken, piece-ends, place-after, slice-ends}
 use Rattle.textwrap_lines.proofs.PieceLines.{word_taken}
-use Rattle.textwrap_lines.proofs.built_in.list_pieces.Goals.{In-Some}
 use Rattle.textwrap_lines.proofs.built_in.list_pieces.Invariants.{ArePiecesLeft}
 use Rattle.textwrap_lines.specs.Direct.{pieces_cut, places_of, words_cut}
 use Rattle.textwrap_lines.specs.PiecesLeft.{left_standing}
+use Rattle.textwrap_lines.proofs.built_in.list_pieces.Goals.{In-Some}
 
 module _ (text : List ℕ) (utf8 : IsUtf8 text) (all words : List WordText) where
   -- the text may be cut at the next piece, which is what stands there
@@ -101,8 +101,7 @@ turn : (g : _) (c : In-Some g) → HasNext c.args.paragraph.now c.utf8.paragraph
     (pieces_cut (layout_view c.args.layout.now) c.args.cuts.now c.args.paragraph.now)
     (map word_view c.loop-piece.pieces.items) c.loop-piece.start c.in-Some.piece
     (left_standing c.next.new.self)
-turn g c =
-    next-piece c.args.paragraph.now c.utf8.paragraph
+turn g c = next-piece c.args.paragraph.now c.utf8.paragraph
     (pieces_cut (layout_view c.args.layout.now) c.args.cuts.now c.args.paragraph.now)
     (map word_view c.loop-piece.pieces.items) c.loop-piece.start c.in-Some.piece
     (left_standing c.next.new.self)

@@ -17,8 +17,7 @@ lines_by-requires-clause-later g c =
     later_reported _ _ _ (c.deref.ensures.value ∙ c.in_ok-minima.ensures.minima)
 
 pub returns : goal.returns
-returns g c =
-    both c.lines_by.result _ _ _
+returns g c = both c.lines_by.result _ _ _
     (λ lines division follow. record {
       division = division;
       starts = subst (λ starts. FollowStarts starts 0 (map (λ line. line.now) lines.items))

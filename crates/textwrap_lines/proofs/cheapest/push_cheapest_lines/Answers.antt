@@ -15,8 +15,7 @@ cheapest_lines-requires g c =
     c.args.is_later c.args.paragraph.now (words_cut (places_of cuts) c.args.paragraph.now)
     c.args.penalties.now c.utf8.paragraph
     (words_cut-texts (places_of cuts) c.args.paragraph.now c.utf8.paragraph c.requires.cuts)
-    c.requires.some
-    c.deref.result.now is c.requires.suits in
+    c.requires.some c.deref.result.now is c.requires.suits in
     record {
       measured = searched.measured;
       some = searched.some_spans;

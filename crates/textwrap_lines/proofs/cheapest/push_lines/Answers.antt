@@ -5,27 +5,23 @@ use Rattle.textwrap_lines.proofs.Common.{layout_view, HaveTexts, span_lines, Spa
 use Rattle.textwrap_lines.proofs.Text.Sinks.{HasTaken, HasTaken-end, HasTaken-next, HasTaken-start}
 
 pub loop-line-init : goal.loop-line-init
-loop-line-init g c = record {
-  taken = HasTaken-start _ c.args.lines.now;
-  texts = c.requires;
-  name = refl;
-}
+loop-line-init g c =
+    record { taken = HasTaken-start _ c.args.lines.now; texts = c.requires; name = refl }
 
 pub loop-line-preserved : goal.loop-line-preserved
 loop-line-preserved g c =
     let now : Bor (List Span) → List Span = λ line. line.now in
     let settings = layout_view c.args.layout.now in
     let text = c.args.paragraph.now in
-    let start = c.loop-line.start in
     let all = span_lines settings text c.args.is_later 0 (map now c.args.division.now) in
     let more = ap (map now)
     (drop_more c.args.division.now c.loop-line.line-index _ c.loop-line-test.true) in
     record {
       taken = HasTaken-next all c.args.lines.now c.loop-line.lines c.push_line.new.lines _ _
           (subst (λ left. HasTaken g.S.LineSink.holds all c.args.lines.now c.loop-line.lines
-          (span_lines settings text c.loop-line.has_line start left)) more
+          (span_lines settings text c.loop-line.has_line c.loop-line.start left)) more
           c.loop-line.invariant.taken) c.in_ok-push_line.ensures.took;
-      texts = (subst (HaveTexts text start) more c.loop-line.invariant.texts).2;
+      texts = (subst (HaveTexts text c.loop-line.start) more c.loop-line.invariant.texts).2;
       name = c.push_line.ensures.name ∙ c.loop-line.invariant.name;
     }
 

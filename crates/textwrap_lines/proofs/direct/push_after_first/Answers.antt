@@ -15,11 +15,10 @@ returns-clause-took g c =
     (pieces_of settings splitter text) (pieces_of-tile settings splitter text c.utf8.paragraph)
     (pieces_of-no_penalty settings splitter text c.utf8.paragraph) in
     let (line, first, begins) = c.in_ok-end.ensures.first in
-    let is = sym begins ∙ found in
     on_ok_weaker c.push_printable_lines.result (λ took. (
       division,
       greedy,
-      subst (Took _ c.args.lines.now c.push_printable_lines.new.lines) is
+      subst (Took _ c.args.lines.now c.push_printable_lines.new.lines) (sym begins ∙ found)
           (Took-then c.args.lines.now c.push_first_line.new.lines
           c.push_printable_lines.new.lines (line ∷ []) _ first took),
     )) c.push_printable_lines.ensures.took

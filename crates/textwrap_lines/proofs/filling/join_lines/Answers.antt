@@ -2,15 +2,13 @@ use Rattle.textwrap_lines.proofs.filling.join_lines.Goals as goal
 use Rattle.textwrap_base.proofs.Common.{◌≡◌, ◌++◌, take, map, ap, sym, ◌∙◌, arith, string_bytes}
 use Rattle.textwrap_lines.proofs.Common.{ending_bytes, join_with, line_view, line_bytes}
 use Rattle.textwrap_lines.proofs.Text.Lines.{join-take_first, join-take_more}
-use Rattle.textwrap_lines.proofs.filling.join_lines.Goals.{then-i-gt0+in_ok-push_str, else-i-gt0}
 
 pub loop-i-preserved : goal.loop-i-preserved
 loop-i-preserved g c =
     let separator = ending_bytes c.args.line_ending in
     elim c.if-i-gt0.branch [
-      | then-i-gt0+in_ok-push_str w ↦
-          c.in_ok-push_str-2.ensures.bytes
-          ∙ ap (λ l. l ++ c.as_str-in-loop-i.result.now)
+      | goal.then-i-gt0+in_ok-push_str w ↦
+          c.in_ok-push_str-2.ensures.bytes ∙ ap (λ l. l ++ c.as_str-in-loop-i.result.now)
           (ap string_bytes w.joined-is ∙ w.in_ok-push_str.ensures.bytes
           ∙ ap (λ l. l ++ w.as_str.result.now) c.loop-i.invariant
           ∙ ap (λ l. join_with separator
@@ -21,10 +19,9 @@ loop-i-preserved g c =
           ++ l) c.as_str-in-loop-i.ensures.value
           ∙ sym (join-take_more separator c.args.lines.now c.loop-i.i c.index-lines-i.result
           c.loop-i-test.true c.index-lines-i.is w.if-i-gt0.true)
-      | else-i-gt0 w ↦
+      | goal.else-i-gt0 w ↦
           let first : c.loop-i.i ≡ 0 = omega arith in
-          c.in_ok-push_str-2.ensures.bytes
-          ∙ ap (λ l. l ++ c.as_str-in-loop-i.result.now)
+          c.in_ok-push_str-2.ensures.bytes ∙ ap (λ l. l ++ c.as_str-in-loop-i.result.now)
           (ap string_bytes w.joined-is ∙ c.loop-i.invariant
           ∙ ap (λ n. join_with separator
           (map line_bytes (map line_view (take n c.args.lines.now)))) first)

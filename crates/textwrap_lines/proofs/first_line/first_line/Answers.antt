@@ -12,8 +12,7 @@ loop-line-init c =
     let text = c.args.paragraph.now in
     let front = c.has_front.result in
     subst (HoldsFirst settings splitter text c.args.is_later)
-    (sym (c.first-line.ensures
-    ∙ ap (λ n. first_so_far text n c.next_indent-indent.result.now front)
+    (sym (c.first-line.ensures ∙ ap (λ n. first_so_far text n c.next_indent-indent.result.now front)
     c.line_widths-first_width.ensures.first
     ∙ ap (λ i. first_so_far text (first_width settings c.args.is_later) i front)
     c.next_indent-indent.ensures))

@@ -11,6 +11,5 @@ invariant-loop-line l =
 
 -- how many pieces are left
 abbrev pub decreases-loop-line : goal.decreases-loop-line
-decreases-loop-line l =
-    length (left_at (layout_view l.layout) (as_splitter l.splitter) l.paragraph
+decreases-loop-line l = length (left_at (layout_view l.layout) (as_splitter l.splitter) l.paragraph
     (line_so_far l.line).end)

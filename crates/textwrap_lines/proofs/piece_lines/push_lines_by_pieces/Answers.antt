@@ -12,8 +12,6 @@ use Rattle.textwrap_lines.proofs.Paragraph.Pieces.{words_cut-texts, pieces_of_wo
 use Rattle.textwrap_lines.proofs.Paragraph.Pieces.{pieces_of_words-tile}
 use Rattle.textwrap_lines.proofs.Text.Sinks.{HasTaken, HasTaken-end, HasTaken-next, HasTaken-start}
 use Rattle.textwrap_lines.proofs.PieceLines.{AllCome, pieces-come, lines-greedy}
-use Rattle.textwrap_lines.proofs.piece_lines.push_lines_by_pieces.Goals.{else-is_past}
-use Rattle.textwrap_lines.proofs.piece_lines.push_lines_by_pieces.Goals.{then-is_past+in_ok-push_to}
 
 pub at-line-requires : goal.at-line-requires
 at-line-requires g c = IsCharBoundary-start c.args.paragraph.now c.utf8.paragraph
@@ -29,8 +27,7 @@ loop-piece-init g c =
     ∙ c.cut_paragraph-piece-items.ensures in
     record {
       taken = HasTaken-start _ c.args.lines.now;
-      come = subst (λ (line : LineSoFar). AllCome line.text line.end left)
-          (sym c.at-line.ensures)
+      come = subst (λ (line : LineSoFar). AllCome line.text line.end left) (sym c.at-line.ensures)
           (subst (AllCome paragraph 0) (sym left_is)
           (pieces-come settings (as_splitter cuts.splitter) paragraph (words_cut (places_of cuts) paragraph)
           c.utf8.paragraph (words_cut-texts (places_of cuts) paragraph c.utf8.paragraph c.requires)));
@@ -57,7 +54,7 @@ loop-piece-preserved g c =
     let taken = subst (λ ps. HasTaken Holds all before now (lines_from settings here ps))
     c.in-Some.ensures.steps c.loop-piece.invariant.taken in
     elim c.if-is_past.branch [
-      | then-is_past+in_ok-push_to w ↦
+      | goal.then-is_past+in_ok-push_to w ↦
           let is : line_so_far c.take.new.self ≡ next =
           c.take.ensures ∙ ap (λ l. with_piece (line_so_far l) piece) w.line-is
           ∙ ap (λ l. with_piece l piece) w.at-line-then-is_past.ensures
@@ -74,7 +71,7 @@ loop-piece-preserved g c =
             come = subst (λ (line : LineSoFar). AllCome line.text line.end left) (sym is) come;
             name = w.push_to.ensures.name ∙ c.loop-piece.invariant.name;
           })
-      | else-is_past w ↦
+      | goal.else-is_past w ↦
           let is : line_so_far c.take.new.self ≡ more =
           c.take.ensures ∙ ap (λ l. with_piece (line_so_far l) piece) w.line-is in
           let room = subst (λ b. HasTaken Holds all before now (cond b
@@ -97,8 +94,7 @@ returns-clause-took g c =
     let pieces = pieces_cut settings cuts paragraph in
     let texts = words_cut-texts (places_of cuts) paragraph c.utf8.paragraph c.requires in
     let left = left_standing c.into_iter-piece-iterator.result in
-    let first = c.at-line.result in
-    let all = lines_from settings (line_so_far first) left in
+    let all = lines_from settings (line_so_far c.at-line.result) left in
     let now = c.loop-piece.lines in
     let last = line_of settings.preserve_trailing_space (line_so_far c.loop-piece.line) in
     let (division, greedy, found) = lines-greedy settings paragraph is_later pieces
@@ -109,10 +105,9 @@ returns-clause-took g c =
     let left_is : left ≡ stand_from 0 pieces =
     ap left_standing c.into_iter-piece-iterator.ensures.into_iter_gives
     ∙ c.cut_paragraph-piece-items.ensures in
-    let first_is : line_so_far first
+    let first_is : line_so_far c.at-line.result
     ≡ no_pieces paragraph 0 (first_width settings is_later) (indent_of settings is_later) =
-    c.at-line.ensures
-    ∙ ap (λ n. no_pieces paragraph 0 n c.next_indent.result.now)
+    c.at-line.ensures ∙ ap (λ n. no_pieces paragraph 0 n c.next_indent.result.now)
     c.line_widths-first_width.ensures.first
     ∙ ap (no_pieces paragraph 0 (first_width settings is_later)) c.next_indent.ensures in
     let taken = subst (λ ps. HasTaken g.S.LineSink.holds all c.args.lines.now now

@@ -1,6 +1,4 @@
 use Rattle.textwrap_lines.proofs.printable.line_end.Goals as goal
-use Rattle.textwrap_lines.proofs.printable.line_end.Goals.{then-past-text-via-then-past-text}
-use Rattle.textwrap_lines.proofs.printable.line_end.Goals.{then-past-text-via-else-past-text+then-is_cut_at}
 use Rattle.textwrap_base.proofs.Common.{◌≡◌, ℕ, ◌+◌, ◌-◌, ◌^◌, ◌<◌, ◌≤◌, Bool, true, false, length}
 use Rattle.textwrap_base.proofs.Common.{sym, ◌∙◌, subst, arith, ne_eqb, slice_range}
 use Rattle.textwrap_words.proofs.Common.{as_splitter, trimmed_len}
@@ -20,13 +18,11 @@ returns-then-text-at-clause-line g c =
     let text = c.args.text.now in
     let splitter = as_splitter c.args.splitter in
     let cuts = g.C.PrintableCuts.cuts c.args.cuts.now text in
-    let test = is_cut_by cuts splitter text in
     let before = cut_by-others cuts splitter text
     (g.met.C.PrintableCuts.before_others c.args.cuts.now text c.requires.printable) in
     let len = length-slice text c.args.at (length text) (omega arith) in
-    line-all test (limit_at c.args.breaks c.args.width) c.args.width text
-    c.requires.printable before c.args.at c.requires.inside
-    (omega (arith, len, c.if-text-at.true))
+    line-all (is_cut_by cuts splitter text) (limit_at c.args.breaks c.args.width) c.args.width text
+    c.requires.printable before c.args.at c.requires.inside (omega (arith, len, c.if-text-at.true))
 
 pub returns-then-past-text-clause-line : goal.returns-then-past-text-clause-line
 returns-then-past-text-clause-line g c =
@@ -43,12 +39,12 @@ returns-then-past-text-clause-line g c =
     let found = c.blanks_end-past.ensures in
     let keeps = blanks-keep text at width past found.within found.blanks in
     elim c.then-past-text.branch [
-      | then-past-text-via-then-past-text w ↦
+      | goal.then-past-text-via-then-past-text w ↦
           let end : length text ≡ past = sym w.if-past-text.true in
           let all = line-all test limit width text c.requires.printable before at c.requires.inside in
           subst (λ n. IsFirstLine test limit width text at n false) end
           (all (subst (λ n. trimmed_len (slice_range text at n) ≤ width) (sym end) keeps))
-      | then-past-text-via-else-past-text+then-is_cut_at w ↦
+      | goal.then-past-text-via-else-past-text+then-is_cut_at w ↦
           let inside : past < length text = omega (arith, found.within, w.if-past-text.false) in
           line-cut test limit width text c.requires.printable before at past past c.requires.width
           (above c.args.breaks width c.ranges.width.fits)
@@ -127,7 +123,6 @@ returns-clause-line g c =
     let short : length text ≤ limit_at c.args.breaks width =
     subst (λ b. length text ≤ limit_at b width) (sym c.if-breaks.false) (omega arith) in
     line-whole test (limit_at c.args.breaks width) width text c.requires.printable
-    before at c.next_cut.result (omega (arith, next.from, found.after))
-    next.within short
+    before at c.next_cut.result (omega (arith, next.from, found.after)) next.within short
     (none-then test at past (c.next_cut.result - 1) none
     (subst (λ n. NoCutBetween test n (c.next_cut.result - 1)) same next.first)) next.cut

@@ -4,18 +4,15 @@ use Rattle.textwrap_words.proofs.Common.{as_splitter}
 use Rattle.textwrap_lines.proofs.Common.{is_cut_by}
 
 pub loop-place-preserved : goal.loop-place-preserved
-loop-place-preserved g c =
-    let place = c.loop-place.place in
-    let so_far = c.loop-place.invariant in
-    record {
-      from = omega (arith, so_far.from);
-      within = omega (arith, c.loop-place-test.true);
-      none = λ k after up_to. elim (cases_lt k place) [
-        | inl below ↦ so_far.none k after (omega (arith, below))
-        | inr here ↦
-            let same : place ≡ k = omega (arith, up_to, here) in
-            ap (is_cut_by (g.C.PrintableCuts.cuts c.args.cuts.now c.args.text.now)
-            (as_splitter c.args.splitter) c.args.text.now) (sym same)
-            ∙ sym c.is_cut_at.ensures ∙ c.if-not-is_cut_at.true
-      ];
-    }
+loop-place-preserved g c = record {
+  from = omega (arith, c.loop-place.invariant.from);
+  within = omega (arith, c.loop-place-test.true);
+  none = λ k after up_to. elim (cases_lt k c.loop-place.place) [
+    | inl below ↦ c.loop-place.invariant.none k after (omega (arith, below))
+    | inr here ↦
+        let same : c.loop-place.place ≡ k = omega (arith, up_to, here) in
+        ap (is_cut_by (g.C.PrintableCuts.cuts c.args.cuts.now c.args.text.now)
+        (as_splitter c.args.splitter) c.args.text.now) (sym same)
+        ∙ sym c.is_cut_at.ensures ∙ c.if-not-is_cut_at.true
+  ];
+}

@@ -1,5 +1,4 @@
 use Rattle.textwrap_lines.proofs.printable.push_printable_lines.Goals as goal
-use Rattle.textwrap_lines.proofs.printable.push_printable_lines.Goals.{then-goes_on, else-goes_on}
 use Rattle.textwrap_base.proofs.Common.{◌≡◌, ◌≤◌, ◌||◌, [], ◌∷◌, length, refl, sym, ap, ◌∙◌, subst}
 use Rattle.textwrap_base.proofs.Common.{slice_range}
 use Rattle.textwrap_words.proofs.Common.{as_splitter}
@@ -41,17 +40,15 @@ loop-at-preserved g c =
     (limit_at c.args.layout.now.break_words n) n c.as_bytes-text.result.now at next goes_on)
     c.later_width-width.ensures c.line_end-next.ensures.line) in
     let keeps_blanks = settings.preserve_trailing_space in
-    let keeps : c.if-goes_on.slice_end ≡ (goes_on || keeps_blanks) =
-    elim c.if-goes_on.branch [
-      | then-goes_on w ↦
+    let keeps : c.if-goes_on.slice_end ≡ (goes_on || keeps_blanks) = elim c.if-goes_on.branch [
+      | goal.then-goes_on w ↦
           w.slice_end-is ∙ w.if-goes_on.true ∙ ap (λ b. b || keeps_blanks) (sym w.if-goes_on.true)
-      | else-goes_on w ↦ w.slice_end-is ∙ ap (λ b. b || keeps_blanks) (sym w.if-goes_on.false)
+      | goal.else-goes_on w ↦ w.slice_end-is ∙ ap (λ b. b || keeps_blanks) (sym w.if-goes_on.false)
     ] in
     let slice : c.range.result.now ≡ line_slice text at next (goes_on || keeps_blanks) =
     c.range.ensures.value
     ∙ subst (λ t. slice_range t at c.slice_end-end.result ≡ line_slice t at next c.if-goes_on.slice_end)
-    bytes c.slice_end-end.ensures.slice
-    ∙ ap (line_slice text at next) keeps in
+    bytes c.slice_end-end.ensures.slice ∙ ap (line_slice text at next) keeps in
     let all = lines_after settings test text c.args.start c.args.is_later in
     let took = subst (λ l. Took g.S.LineSink.holds c.loop-at.lines c.push_line.new.self (l ∷ []))
     (ap (λ i. cut_line at (assembled_line i c.range.result.now [])) c.next_indent-indent.ensures

@@ -56,8 +56,7 @@ overflow_add-opens g c =
 
 pub loop-piece-preserved : goal.loop-piece-preserved
 loop-piece-preserved g c =
-    let next = turn g (goal.at.loop-piece-preserved g c).In-Some in
-    rw (c.in_ok-push.ensures.items) next.next
+    rw (c.in_ok-push.ensures.items) (turn g (goal.at.loop-piece-preserved g c).In-Some).next
 
 pub returns : goal.returns
 returns g c =

@@ -6,6 +6,5 @@ use Rattle.textwrap_lines.proofs.PlacedPieces.Lines.{HasLeft}
 
 -- the spans so far and those of the pieces that are left are those of all pieces
 abbrev pub invariant-loop-piece : goal.invariant-loop-piece
-invariant-loop-piece g l =
-    HasLeft (pieces_cut (layout_view l.layout) l.cuts l.paragraph)
+invariant-loop-piece g l = HasLeft (pieces_cut (layout_view l.layout) l.cuts l.paragraph)
     l.spans.items l.opens (left_standing l.piece-iterator)

@@ -3,8 +3,6 @@ use Rattle.textwrap_base.proofs.Common.{◌≡◌, [], ◌∷◌, ◌++◌, cond
 use Rattle.textwrap_words.proofs.Common.{broken_words, word_view}
 use Rattle.textwrap_lines.proofs.Common.{settings_view, empty_word, front_pieces, later_width}
 use Rattle.textwrap_lines.proofs.Paragraph.Pieces.{word_of-nil}
-use Rattle.textwrap_lines.proofs.wrapping.break_pieces.Goals.{then-not-is_empty+in_ok-insert}
-use Rattle.textwrap_lines.proofs.wrapping.break_pieces.Goals.{else-not-is_empty}
 
 pub returns-then-not-options : goal.returns-then-not-options
 returns-then-not-options g c =
@@ -23,13 +21,13 @@ returns g c =
     ∙ ap later_width c.of.ensures) in
     let whole : map word_view c.if-not-is_empty.broken.items ≡ front_pieces settings ++ pieces =
     elim c.if-not-is_empty.branch [
-      | then-not-is_empty+in_ok-insert w ↦
+      | goal.then-not-is_empty+in_ok-insert w ↦
           ap (map word_view) (ap (λ v. v.items) w.broken-is ∙ w.in_ok-insert.ensures.items)
           ∙ ap (λ x. x ∷ map word_view c.in_ok-broken.broken.items)
           (w.from.ensures ∙ word_of-nil) ∙ ap (λ ws. empty_word ∷ ws) broken
           ∙ ap (λ b. cond b [] (empty_word ∷ []) ++ pieces) (sym w.if-not-is_empty.true
           ∙ c.is_empty.ensures)
-      | else-not-is_empty w ↦
+      | goal.else-not-is_empty w ↦
           ap (map word_view) (ap (λ v. v.items) w.broken-is) ∙ broken
           ∙ ap (λ b. cond b [] (empty_word ∷ []) ++ pieces) (sym w.if-not-is_empty.false
           ∙ c.is_empty.ensures)

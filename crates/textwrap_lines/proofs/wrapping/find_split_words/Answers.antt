@@ -8,13 +8,11 @@ use Rattle.textwrap_words.proofs.Word.Pieces.{AreSplit-push}
 
 pub loop-word-init : goal.loop-word-init
 loop-word-init g c =
-    let options = c.args.options.now in
-    let paragraph = c.args.paragraph.now in
-    let words = subst (MaySeparate options.word_separator paragraph)
+    let words = subst (MaySeparate c.args.options.now.word_separator c.args.paragraph.now)
     (sym c.into_iter-word-iterator.ensures.into_iter_gives) c.in_ok-word-items.ensures.words in
     record {
       words = ([], words, ap (map word_view) c.new-pieces.ensures.items);
-      measured = (MaySeparate-texts options.word_separator paragraph
+      measured = (MaySeparate-texts c.args.options.now.word_separator c.args.paragraph.now
           c.into_iter-word-iterator.result c.utf8.paragraph words).measured;
     }
 
@@ -41,10 +39,9 @@ loop-word-preserved g c =
 
 pub returns : goal.returns
 returns g c =
-    let options = c.args.options.now in
     let (before, words, split) = c.loop-word.invariant.words in (
       before,
-      subst (MaySeparate options.word_separator c.args.paragraph.now)
+      subst (MaySeparate c.args.options.now.word_separator c.args.paragraph.now)
           (ap (λ ws. before ++ ws) c.in-None.ensures.steps.0 ∙ append-nil before) words,
       split,
     )

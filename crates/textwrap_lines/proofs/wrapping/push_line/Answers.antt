@@ -3,16 +3,14 @@ use Rattle.textwrap_base.proofs.Common.{◌≡◌, ◌&&◌, ◌==◌, length, [
 use Rattle.textwrap_words.proofs.Common.{word_view}
 use Rattle.textwrap_lines.proofs.Common.{Took, cut_line, layout_view, keeps_whitespace}
 use Rattle.textwrap_lines.proofs.Paragraph.LeftOff.{line_from-parts_of}
-use Rattle.textwrap_lines.proofs.wrapping.push_line.Goals.{then-layout, else-layout}
 
 pub returns-clause-line : goal.returns-clause-line
 returns-clause-line g c =
     let keeps : c.if-layout.keeps_whitespace ≡ keeps_whitespace (layout_view c.args.layout.now)
-    (word_view c.in-Some.last.now) =
-    elim c.if-layout.branch [
-      | then-layout w ↦ w.keeps_whitespace-is ∙ w.is_empty-keeps_whitespace.ensures
+    (word_view c.in-Some.last.now) = elim c.if-layout.branch [
+      | goal.then-layout w ↦ w.keeps_whitespace-is ∙ w.is_empty-keeps_whitespace.ensures
           ∙ sym (ap (λ b. b && (length c.in-Some.last.now.penalty.now == 0)) w.if-layout.true)
-      | else-layout w ↦ w.keeps_whitespace-is ∙ w.if-layout.false
+      | goal.else-layout w ↦ w.keeps_whitespace-is ∙ w.if-layout.false
           ∙ sym (ap (λ b. b && (length c.in-Some.last.now.penalty.now == 0)) w.if-layout.false)
     ] in
     subst (λ line. Took g.S.LineSink.holds c.args.lines.now c.push_line-2.new.self

@@ -45,14 +45,13 @@ loop-pieces-preserved g c =
     let words : Bor (List Word) → List WordText = λ line. map word_view line.now in
     let settings = layout_view c.args.layout.now in
     let rest = c.loop-pieces.rest.now in
-    let after = c.in_ok-rest.rest.now in
     let at = length c.args.paragraph.now - length rest in
     let all = cut_lines 0 (parts_from settings c.args.is_later (map words c.args.division.now)) in
     let left = drop (c.loop-pieces.pieces-index + 1) c.args.division.now in
     let is = drop_more c.args.division.now c.loop-pieces.pieces-index _ c.loop-pieces-test.true in
     let begins = starts-parts rest _ _ (subst (StartsWith rest)
     (ap (flat_map (λ line. tiled (words line))) is) c.loop-pieces.invariant.1) in
-    let (within, next) = next-start c.args.paragraph.now rest after _ begins.0
+    let (within, next) = next-start c.args.paragraph.now rest c.in_ok-rest.rest.now _ begins.0
     c.loop-pieces.invariant.2 c.in_ok-rest.ensures.rest in (
       search rules,
       subst (λ text. StartsWith text (flat_map (λ line. tiled (words line)) left))

@@ -7,9 +7,7 @@ use Rattle.textwrap_lines.proofs.Text.Sinks.{HasTaken}
 
 -- the lines so far were taken, and the rest of the paragraph begins with what the others tile
 abbrev pub invariant-loop-pieces : goal.invariant-loop-pieces
-invariant-loop-pieces g l =
-    shadow (Utf8 l.rest)
-    × StartsWith l.rest
+invariant-loop-pieces g l = shadow (Utf8 l.rest) × StartsWith l.rest
     (flat_map (λ line. tiled (map word_view line.now)) (drop l.pieces-index l.division))
     × (length l.rest ≤ length l.paragraph)
     × HasTaken g.S.LineSink.holds (cut_lines 0 (parts_from (layout_view l.layout) l.is_later

@@ -27,12 +27,11 @@ pub returns-clause-taken : goal.returns-clause-taken
 returns-clause-taken g c =
     let settings = g.O.AnyOptions.settings c.args.options.now in
     let is_later = c.args.is_later in
-    let paragraph = c.args.paragraph.now in
     on_ok_weaker c.push_pieces.result (λ (division, divides, took). (
       parts_from settings is_later division,
       AreParagraphParts-divided settings (g.O.AnyOptions.divides c.args.options.now) is_later
-          paragraph (parts_from settings is_later division)
-          (ap (λ s. is_whole s is_later paragraph) (sym c.layout-layout.ensures)
+          c.args.paragraph.now (parts_from settings is_later division)
+          (ap (λ s. is_whole s is_later c.args.paragraph.now) (sym c.layout-layout.ensures)
           ∙ sym c.is_one_line.ensures ∙ c.if-is_one_line.false) (division, divides, refl),
       took,
     )) c.push_pieces.ensures.taken

@@ -16,10 +16,9 @@ push_directly-requires g c = λ k. (
 pub returns-then-pushed-clause-taken : goal.returns-then-pushed-clause-taken
 returns-then-pushed-clause-taken g c =
     let paragraph = c.args.paragraph.now in
-    let parts = c.in-Some.parts in
     let (division, divided, took) = subst (λ s. (division : List (List WordText))
-    × IsDividedBy (as_algorithm parts.algorithm) sizes_of (widths_of s c.args.is_later)
-    (pieces_of_words s (as_splitter parts.splitter)
+    × IsDividedBy (as_algorithm c.in-Some.parts.algorithm) sizes_of (widths_of s c.args.is_later)
+    (pieces_of_words s (as_splitter c.in-Some.parts.splitter)
     (words_cut (option_map (λ places. places.now) c.as_deref.result) paragraph)) division
     × Took g.S.LineSink.holds c.args.lines.now c.push_directly.new.lines
     (cut_lines 0 (parts_from s c.args.is_later division))) c.layout-layout.ensures
@@ -33,11 +32,10 @@ returns-then-pushed-clause-taken g c =
     )
 
 pub returns-clause-taken : goal.returns-clause-taken
-returns-clause-taken g c =
-    on_ok_weaker c.push_divided-2.result (λ (division, divides, took). (
-      division,
-      divides,
-      subst (λ sink. Took g.S.LineSink.holds sink c.push_divided-2.new.lines
-          (cut_lines 0 (parts_from (g.O.AnyOptions.settings c.args.options.now) c.args.is_later
-          division))) (c.in_ok-pushed.ensures.kept c.if-pushed.false) took,
-    )) c.push_divided-2.ensures.taken
+returns-clause-taken g c = on_ok_weaker c.push_divided-2.result (λ (division, divides, took). (
+  division,
+  divides,
+  subst (λ sink. Took g.S.LineSink.holds sink c.push_divided-2.new.lines
+      (cut_lines 0 (parts_from (g.O.AnyOptions.settings c.args.options.now) c.args.is_later
+      division))) (c.in_ok-pushed.ensures.kept c.if-pushed.false) took,
+)) c.push_divided-2.ensures.taken

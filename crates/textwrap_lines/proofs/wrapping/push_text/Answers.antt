@@ -36,8 +36,7 @@ loop-rest-preserved g c =
                 c.split_paragraph.ensures.paragraphs,
           ) at c.loop-rest.invariant.lines)
           (ap (λ bytes. c.loop-rest.start + (length paragraph + length bytes)) (c.as_str.ensures
-          ∙ ap ending_bytes ending))
-          c.begin_paragraph.ensures.held c.has_line-is_later.ensures
+          ∙ ap ending_bytes ending)) c.begin_paragraph.ensures.held c.has_line-is_later.ensures
           c.in_ok-push_paragraph.ensures.taken;
       name = c.push_paragraph.ensures.name ∙ c.begin_paragraph.ensures.name
           ∙ c.loop-rest.invariant.name;
@@ -46,17 +45,15 @@ loop-rest-preserved g c =
 pub returns-in_err-push_paragraph-clause-no_overflow : goal.returns-in_err-push_paragraph-clause-no_overflow
 returns-in_err-push_paragraph-clause-no_overflow g c = λ never.
     let ending = c.layout.result.line_ending in
-    let after = c.split_paragraph.result.1 in
     let left = ap (paragraphs_left ending) c.in-Some.is
-    ∙ paragraphs_left-split ending c.in-Some.text.now after
+    ∙ paragraphs_left-split ending c.in-Some.text.now c.split_paragraph.result.1
     c.split_paragraph.result.0.now c.split_paragraph.ensures.paragraphs in
     let so_far = c.loop-rest.invariant.lines in
-    passed-on c.from_residual.result c.in_err-push_paragraph.field-0.0
-    c.from_residual.ensures.1
+    passed-on c.from_residual.result c.in_err-push_paragraph.field-0.0 c.from_residual.ensures.1
     (c.in_err-push_paragraph.ensures.no_overflow (λ passes. never (
       so_far.done,
       c.split_paragraph.result.0.now,
-      paragraphs_left ending after,
+      paragraphs_left ending c.split_paragraph.result.1,
       so_far.paragraphs ∙ ap (λ ps. so_far.done ++ ps) left,
       passes,
     )))

@@ -15,9 +15,8 @@ returns-in-Some-clause-paragraphs c =
 
 pub returns-in-None-clause-paragraphs : goal.returns-in-None-clause-paragraphs
 returns-in-None-clause-paragraphs c =
-    let none = c.in-None.ensures.byte (omega arith) (λ w o found. found) in
     ap (λ e. parts_past (ending_bytes e) 0 c.args.text.now) c.in-LF.is
-    ∙ parts_past-no_feed c.args.text.now none
+    ∙ parts_past-no_feed c.args.text.now (c.in-None.ensures.byte (omega arith) (λ w o found. found))
 
 pub returns-in-Some-split_once-clause-paragraphs :
     goal.returns-in-Some-split_once-clause-paragraphs

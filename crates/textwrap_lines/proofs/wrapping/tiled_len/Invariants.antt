@@ -4,6 +4,5 @@ use Rattle.textwrap_words.proofs.Common.{word_view, tiled}
 
 -- the pieces so far are measured, and are text
 abbrev pub invariant-loop-piece : goal.invariant-loop-piece
-invariant-loop-piece l =
-    (l.len ≡ length (tiled (map word_view (take l.piece-index l.pieces))))
+invariant-loop-piece l = (l.len ≡ length (tiled (map word_view (take l.piece-index l.pieces))))
     × IsUtf8 (tiled (map word_view (take l.piece-index l.pieces)))

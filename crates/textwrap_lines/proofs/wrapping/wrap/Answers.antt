@@ -8,9 +8,8 @@ use Rattle.textwrap_lines.proofs.Paragraph.Pieces.{lines-as}
 
 pub returns-clause-lines : goal.returns-clause-lines
 returns-clause-lines g c =
-    let options = c.args.options in
     let lines = map line_view c.in_ok-lines.lines.items in
-    IsWrapped-options options c.args.text.now lines c.utf8.text c.in_ok-lines.ensures.lines
+    IsWrapped-options c.args.options c.args.text.now lines c.utf8.text c.in_ok-lines.ensures.lines
 
 pub returns-clause-even : goal.returns-clause-even
 returns-clause-even g c = λ even first built_in breaks.

@@ -25,9 +25,7 @@ returns-clause-appended g c =
     (omega arith) in
     let (parts, are, took) = c.in_ok-push_paragraph.ensures.taken in
     appends-own (g.O.AnyOptions.may_overflow options) (Are (nat_lt 0 (length start))) start
-    _ c.append.new.self.items parts c.in_ok-append.field-0
-    (subst (λ b. Are b parts) is_out are)
+    _ c.append.new.self.items parts c.in_ok-append.field-0 (subst (λ b. Are b parts) is_out are)
     (search rules ∙ took.held c.push_paragraph.new.lines 0 []
     (ap (map line_view) c.new-own.ensures.items) ∙ lines_of-more [] 0 (cut_lines 0 parts)
-    ∙ lines_of-cut_lines 0 parts)
-    c.in_ok-append.ensures.items
+    ∙ lines_of-cut_lines 0 parts) c.in_ok-append.ensures.items

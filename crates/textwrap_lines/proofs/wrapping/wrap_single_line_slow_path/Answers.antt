@@ -35,15 +35,13 @@ returns-clause-appended g c =
     (subst (λ b. Are b parts) is_out (division, divides, refl))
     (search rules ∙ took.held c.push_divided.new.lines 0 []
     (ap (map line_view) c.new-own.ensures.items) ∙ lines_of-more [] 0 (cut_lines 0 parts)
-    ∙ lines_of-cut_lines 0 parts)
-    c.in_ok-append.ensures.items
+    ∙ lines_of-cut_lines 0 parts) c.in_ok-append.ensures.items
 
 pub returns-clause-overlong : goal.returns-clause-overlong
 returns-clause-overlong g c =
     let options = c.args.options.now in
     let settings = settings_view options in
-    let start = c.args.lines.now.items in
-    let is_later = nat_lt 0 (length start) in
+    let is_later = nat_lt 0 (length c.args.lines.now.items) in
     let appended = returns-clause-appended g c in
     let (parts, (division, (pieces, are, divided), is), added) = appended.lines in
     λ first built_in breaks.
@@ -51,7 +49,7 @@ returns-clause-overlong g c =
     pieces division (ap algorithm_view first) divided in (
       division,
       (pieces, are, divided),
-      added ∙ ap (λ ps. map line_view start ++ map line_from ps) is,
+      added ∙ ap (λ ps. map line_view c.args.lines.now.items ++ map line_from ps) is,
       long_lines settings (MaySeparate options.word_separator) (MaySplit options.word_splitter)
           (MaySeparate-texts options.word_separator) (MaySplit-cuts options.word_splitter)
           (MaySplit-hyphens options.word_splitter built_in) is_later c.args.line.now division

@@ -25,13 +25,12 @@ after : {X : Type 0} (before written items : List X) (count : ℕ) → length wr
     → count ≡ min (length items) (length before - length written)
     → put_mid (length written) count (written_over before written) (take count items)
     ≡ written_over before (written ++ items)
-after before written items count within is =
-    rw (
-      take_all (length before) written within,
-      take-append_seam written (drop (length written) before),
-      drop-append_seam written (drop (length written) before),
-      drop-drop count (length written) before,
-    )
+after before written items count within is = rw (
+  take_all (length before) written within,
+  take-append_seam written (drop (length written) before),
+  drop-append_seam written (drop (length written) before),
+  drop-drop count (length written) before,
+)
     (elim (cases_lt (length before - length written) (length items)) [
       | inl past ↦
           let all : count ≡ length before - length written = omega (arith, is, past) in

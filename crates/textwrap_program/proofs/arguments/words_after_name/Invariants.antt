@@ -3,7 +3,5 @@ use Rattle.std.specs.Prelude.{◌≡◌}
 use Rattle.std.specs.Iterator.{IsFinite}
 
 abbrev pub invariant-loop-word : goal.invariant-loop-word
-invariant-loop-word g l =
-    g.I.Iterator.can_next l.word-iterator
-    × IsFinite (g.I.Iterator.remaining l.word-iterator)
-    × (l.words.items ≡ l.yielded)
+invariant-loop-word g l = g.I.Iterator.can_next l.word-iterator
+    × IsFinite (g.I.Iterator.remaining l.word-iterator) × (l.words.items ≡ l.yielded)

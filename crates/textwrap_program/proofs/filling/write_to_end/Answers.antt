@@ -7,17 +7,14 @@ use Rattle.textwrap_program.proofs.WriteLemmas.{WritesPrefix-kept, Appends-whole
 use Rattle.textwrap_program.proofs.filling.write_to_end.Goals as goal
 
 pub loop-rest-init : goal.loop-rest-init
-loop-rest-init g c =
-    record {
-      written = [];
-      whole = refl;
-      appends = Appends-nil
-          (g.W.Write.contents c.args.writer.now);
-    }
+loop-rest-init g c = record {
+  written = [];
+  whole = refl;
+  appends = Appends-nil (g.W.Write.contents c.args.writer.now);
+}
 
 pub loop-rest-preserved : goal.loop-rest-preserved
-loop-rest-preserved g c =
-    rw c.split_at.ensures.back
+loop-rest-preserved g c = rw c.split_at.ensures.back
     (WrittenSoFar-more _ _ _ c.loop-rest.rest.now c.args.bytes.now c.in-Ok.count
     c.loop-rest.invariant c.in-Ok.ensures.written)
 
@@ -36,5 +33,4 @@ returns-in-Ok-flush-clause-ok g c =
     let none : length c.loop-rest.rest.now ≡ 0 = grind (arith, nat_tests) in
     Appends-kept _ _ _ c.args.bytes.now
     (Appends-whole _ _ c.loop-rest.rest.now c.args.bytes.now c.loop-rest.invariant
-    (nil_from_length c.loop-rest.rest.now none))
-    c.flush.ensures.bytes
+    (nil_from_length c.loop-rest.rest.now none)) c.flush.ensures.bytes

@@ -8,8 +8,6 @@ use Rattle.textwrap_words.specs.declared.escapes.State.TheVariants.{Text}
 use Rattle.textwrap_words.proofs.Word.Scanned.{scanned-letters, stop-here, stops-between}
 use Rattle.textwrap_words.proofs.Word.FirstPieces.{first-word, no-word}
 use Rattle.textwrap_words.proofs.pieces.first_word.Goals.{After-letters_len-width}
-use Rattle.textwrap_words.proofs.pieces.first_word.Goals.{else-start-bytes-via-then-start-bytes+else-bytes-start-eq32}
-use Rattle.textwrap_words.proofs.pieces.first_word.Goals.{else-start-bytes-via-else-start-bytes}
 
 pub returns-then-bytes-start-eq32 : goal.returns-then-bytes-start-eq32
 returns-then-bytes-start-eq32 c =
@@ -55,9 +53,9 @@ returns c =
       | inr none ↦
           let same : c.letters_len-width.result ≡ 0 = omega (arith, none) in
           elim c.else-start-bytes.branch [
-            | else-start-bytes-via-then-start-bytes+else-bytes-start-eq32 w ↦
+            | goal.else-start-bytes-via-then-start-bytes+else-bytes-start-eq32 w ↦
                 rw (bytes, same, here) at w.if-bytes-start-eq32.false
-            | else-start-bytes-via-else-start-bytes w ↦ absurd (omega (
+            | goal.else-start-bytes-via-else-start-bytes w ↦ absurd (omega (
               arith,
               w.if-start-bytes.false,
               ap length bytes,

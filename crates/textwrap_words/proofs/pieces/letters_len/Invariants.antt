@@ -3,8 +3,7 @@ use Rattle.textwrap_base.proofs.Common.{ℕ, ◌+◌, ◌-◌, ◌≤◌, ◌<�
 use Rattle.textwrap_words.specs.Pieces.{IsLetter}
 
 abbrev pub invariant-loop-end : goal.invariant-loop-end
-invariant-loop-end l =
-    (l.at ≤ l.end) × (l.end ≤ length l.text) × (l.end ≤ l.at + l.most)
+invariant-loop-end l = (l.at ≤ l.end) × (l.end ≤ length l.text) × (l.end ≤ l.at + l.most)
     × ((k : ℕ) → l.at ≤ k → k < l.end → IsLetter (slice_index l.text k))
 
 abbrev pub decreases-loop-end : goal.decreases-loop-end

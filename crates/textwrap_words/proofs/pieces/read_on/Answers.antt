@@ -18,14 +18,6 @@ use Rattle.textwrap_words.proofs.Word.Ahead.{ascii-here, left-after, plain-bytes
 use Rattle.textwrap_words.proofs.Word.Scanned.{scanned-letters, IsScanned, GoesOn, scanned-step}
 use Rattle.textwrap_words.proofs.Word.Scanned.{no-stop, stop-full, stop-here, stops-between}
 use Rattle.textwrap_words.proofs.pieces.read_on.Goals.{In-Some, After-step-next, Joined-is_visible}
-use Rattle.textwrap_words.proofs.pieces.read_on.Goals.{else-at_blanks-via-then-at_blanks+else-ch-eq32}
-use Rattle.textwrap_words.proofs.pieces.read_on.Goals.{else-at_blanks-via-else-at_blanks}
-use Rattle.textwrap_words.proofs.pieces.read_on.Goals.{then-is_visible+else-width-gt0}
-use Rattle.textwrap_words.proofs.pieces.read_on.Goals.{else-is_visible}
-use Rattle.textwrap_words.proofs.pieces.read_on.Goals.{else-width-gt0-via-else-width-gt0}
-use Rattle.textwrap_words.proofs.pieces.read_on.Goals.{else-width-gt0-via-then-width-gt0+else-width-columns}
-use Rattle.textwrap_words.proofs.pieces.read_on.Goals.{else-ch-eq45-via-else-ch-eq45}
-use Rattle.textwrap_words.proofs.pieces.read_on.Goals.{else-ch-eq45-via-then-ch-eq45+else-is_point}
 
 pub range-requires-clause-start_boundary : goal.range-requires-clause-start_boundary
 range-requires-clause-start_boundary c = λ _.
@@ -86,7 +78,6 @@ here c =
 
 pub returns-then-ch-eq32 : goal.returns-then-ch-eq32
 returns-then-ch-eq32 c =
-    let s = c.in-Some.ensures.steps in
     let text = c.args.text.now in
     let start = c.args.at + c.args.letters in
     let place = start + char_indices_offset c.loop-after.after-iterator in
@@ -99,7 +90,7 @@ returns-then-ch-eq32 c =
     let stops : is_stop c.args.at_blanks splitter text place ≡ true =
     rw (c.if-at_blanks.true, blank) refl in
     subst (λ n. IsFirstStop (is_stop c.args.at_blanks splitter text) c.args.limit text c.args.at
-    c.args.end (start + n) c.loop-after.width) (sym s.0)
+    c.args.end (start + n) c.loop-after.width) (sym c.in-Some.ensures.steps.0)
     (stop-here c.args.at_blanks splitter text c.utf8.text c.args.limit c.args.at c.args.end
     c.requires.boundary c.requires.end place c.loop-after.state c.loop-after.width h
     (omega (arith, is.within)) (λ _. stops)
@@ -112,16 +103,14 @@ returns-then-ch-eq32 c =
     ]))
 
 pub overflow_add-width : goal.overflow_add-width
-overflow_add-width c =
-    let is = here (goal.at.overflow_add-width c).In-Some in
-    omega (
-      arith,
-      c.columns-columns.ensures,
-      columns-le c.in-Some.ch,
-      c.loop-after.invariant.scanned.bound,
-      is.within,
-      c.ranges.end.fits,
-    )
+overflow_add-width c = omega (
+  arith,
+  c.columns-columns.ensures,
+  columns-le c.in-Some.ch,
+  c.loop-after.invariant.scanned.bound,
+  (here (goal.at.overflow_add-width c).In-Some).within,
+  c.ranges.end.fits,
+)
 
 -- it does not stop there
 on : (c : After-step-next) (after : List ℕ)
@@ -137,16 +126,14 @@ on c after is past inside =
     let h = c.loop-after.invariant in
     let plain : c.args.at_blanks ≡ true → is_blank (get_or text place 0) ≡ false =
     λ at_blanks. elim c.else-at_blanks.branch [
-      | else-at_blanks-via-else-at_blanks w ↦ absurd (true≢false (sym at_blanks ∙ w.if-at_blanks.false))
-      | else-at_blanks-via-then-at_blanks+else-ch-eq32 w ↦ plain-bytes text c.utf8.text place ch _
-          h.scanned.boundary is w.if-ch-eq32.false place (omega arith)
-          (omega (arith, some)) inside
+      | goal.else-at_blanks-via-else-at_blanks w ↦ absurd (true≢false (sym at_blanks ∙ w.if-at_blanks.false))
+      | goal.else-at_blanks-via-then-at_blanks+else-ch-eq32 w ↦ plain-bytes text c.utf8.text place ch _
+          h.scanned.boundary is w.if-ch-eq32.false place (omega arith) (omega (arith, some)) inside
     ] in
     no-stop c.args.at_blanks (as_splitter c.args.splitter) text place plain (h.on past inside)
 
 pub returns-then-width-columns : goal.returns-then-width-columns
 returns-then-width-columns c =
-    let s = c.in-Some.ensures.steps in
     let text = c.args.text.now in
     let start = c.args.at + c.args.letters in
     let place = start + char_indices_offset c.loop-after.after-iterator in
@@ -157,7 +144,7 @@ returns-then-width-columns c =
     let due = due-true c.args.limit c.loop-after.width ch c.if-width-gt0.true
     (omega (arith, c.columns-columns.ensures, c.if-width-columns.true)) in
     subst (λ n. IsFirstStop (is_stop c.args.at_blanks splitter text) c.args.limit text c.args.at
-    c.args.end (start + n) c.loop-after.width) (sym s.0)
+    c.args.end (start + n) c.loop-after.width) (sym c.in-Some.ensures.steps.0)
     (stop-full c.args.at_blanks splitter text c.utf8.text c.args.limit c.args.at c.args.end
     c.requires.boundary c.requires.end place c.loop-after.state c.loop-after.width
     c.loop-after.invariant.scanned (on at.After-step-next _ is.stands) ch _ is.stands
@@ -183,20 +170,20 @@ past c after is on =
     let place = c.args.at + c.args.letters + char_indices_offset c.loop-after.after-iterator in
     let more : width + added c.loop-after.state ch ≡ c.if-is_visible.width =
     elim c.if-is_visible.branch [
-      | then-is_visible+else-width-gt0 w ↦ rw (rw c.step-next.ensures at w.if-is_visible.true)
+      | goal.then-is_visible+else-width-gt0 w ↦ rw (rw c.step-next.ensures at w.if-is_visible.true)
           (sym (w.width-is ∙ ap (λ n. width + n) w.columns-columns.ensures))
-      | else-is_visible w ↦ rw (rw c.step-next.ensures at w.if-is_visible.false)
+      | goal.else-is_visible w ↦ rw (rw c.step-next.ensures at w.if-is_visible.false)
           (omega (arith, w.width-is))
     ] in
     let room : shows c.loop-after.state ch ≡ true → is_due limit width (Visible ch) ≡ false =
     λ shown. elim c.if-is_visible.branch [
-      | else-is_visible w ↦ absurd (true≢false (sym shown
+      | goal.else-is_visible w ↦ absurd (true≢false (sym shown
           ∙ (rw c.step-next.ensures at w.if-is_visible.false)))
-      | then-is_visible+else-width-gt0 w ↦ due-false limit width ch
+      | goal.then-is_visible+else-width-gt0 w ↦ due-false limit width ch
           (λ some. elim w.else-width-gt0.branch [
-            | else-width-gt0-via-then-width-gt0+else-width-columns v ↦ omega
+            | goal.else-width-gt0-via-then-width-gt0+else-width-columns v ↦ omega
                 (arith, w.columns-columns.ensures, v.if-width-columns.false)
-            | else-width-gt0-via-else-width-gt0 v ↦ absurd (omega (arith, v.if-width-gt0.false, some))
+            | goal.else-width-gt0-via-else-width-gt0 v ↦ absurd (omega (arith, v.if-width-gt0.false, some))
           ])
     ] in
     rw (c.step-next.ensures, ← more)
@@ -244,10 +231,9 @@ loop-after-preserved c =
           point-after text c.utf8.text place ch _ c.loop-after.invariant.scanned.boundary is.stands
           splitter end (sym same) more
           (λ hyphen. elim c.else-ch-eq45.branch [
-            | else-ch-eq45-via-else-ch-eq45 w ↦ absurd (w.if-ch-eq45.false hyphen)
-            | else-ch-eq45-via-then-ch-eq45+else-is_point w ↦
-                let one : length (encode_utf8 ch) ≡ 1 =
-                ap (λ n. length (encode_utf8 n)) hyphen
+            | goal.else-ch-eq45-via-else-ch-eq45 w ↦ absurd (w.if-ch-eq45.false hyphen)
+            | goal.else-ch-eq45-via-then-ch-eq45+else-is_point w ↦
+                let one : length (encode_utf8 ch) ≡ 1 = ap (λ n. length (encode_utf8 n)) hyphen
                 ∙ ap length (encode_ascii 45 (omega arith)) in
                 let q = start + c.in-Some.after + 1 in
                 let next : q ≡ end = omega (arith, same, one, s.0) in
@@ -264,14 +250,13 @@ pub returns : goal.returns
 returns c =
     let text = c.args.text.now in
     let place = c.args.at + c.args.letters + char_indices_offset c.loop-after.after-iterator in
-    let rest = char_indices_rest c.loop-after.after-iterator in
     let splitter = as_splitter c.args.splitter in
     let h = c.loop-after.invariant.scanned in
     let end : place ≡ c.args.end = omega (
       arith,
       ap length c.loop-after.invariant.left,
       c.in-None.ensures.steps.0,
-      length-append rest (drop c.args.end text),
+      length-append (char_indices_rest c.loop-after.after-iterator) (drop c.args.end text),
       length-drop place text,
       length-drop c.args.end text,
       h.boundary.0,

@@ -17,9 +17,7 @@ read c =
     (λ k below. subst (λ bs. IsPrintableByte (get_or bs k 0)) bytes (found.printable k below))
 
 pub returns-then-printable-gt0-clause-boundary : goal.returns-then-printable-gt0-clause-boundary
-returns-then-printable-gt0-clause-boundary c =
-    (read c).read.boundary
+returns-then-printable-gt0-clause-boundary c = (read c).read.boundary
 
 pub returns-then-printable-gt0-clause-columns : goal.returns-then-printable-gt0-clause-columns
-returns-then-printable-gt0-clause-columns c =
-    (read c).columns
+returns-then-printable-gt0-clause-columns c = (read c).columns

@@ -5,8 +5,7 @@ use Rattle.std.specs.Str.Iter.{char_indices_rest}
 use Rattle.textwrap_words.proofs.Units.Reading.{IsMeasured, measured-le, measured-start}
 use Rattle.textwrap_words.proofs.Units.Reading.{measured-step, added, columns_in-empty}
 use Rattle.textwrap_words.specs.declared.escapes.State.TheVariants.{Text}
-use Rattle.textwrap_words.proofs.words.sequence_columns.Goals.{Joined-is_visible, then-is_visible}
-use Rattle.textwrap_words.proofs.words.sequence_columns.Goals.{else-is_visible}
+use Rattle.textwrap_words.proofs.words.sequence_columns.Goals.{Joined-is_visible}
 
 pub loop-at-init : goal.loop-at-init
 loop-at-init c =
@@ -21,9 +20,9 @@ past c =
     let s = c.in-Some.ensures.steps in
     let more : added c.loop-at.state c.in-Some.ch ≡ c.if-is_visible.width =
     elim c.if-is_visible.branch [
-      | then-is_visible w ↦ rw (rw c.step-next.ensures at w.if-is_visible.true)
+      | goal.then-is_visible w ↦ rw (rw c.step-next.ensures at w.if-is_visible.true)
           (sym (w.width-is ∙ w.columns.ensures))
-      | else-is_visible w ↦ rw (rw c.step-next.ensures at w.if-is_visible.false) (sym w.width-is)
+      | goal.else-is_visible w ↦ rw (rw c.step-next.ensures at w.if-is_visible.false) (sym w.width-is)
     ] in
     rw (c.step-next.ensures, ← more) (measured-step c.args.text.now _ _ c.in-Some.ch _ _
     c.loop-at.state c.loop-at.width c.loop-at.invariant s.1 s.2)

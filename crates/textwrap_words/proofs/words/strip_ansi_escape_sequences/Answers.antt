@@ -35,8 +35,7 @@ whole g c =
     sym (append-nil (string_bytes c.loop-ch.plain))
     ∙ ap (λ text. string_bytes c.loop-ch.plain ++ text)
     (sym (at_drop_all (text_in c.loop-ch.state) (chars c.args.text.now)
-    (length c.loop-ch.yielded) (omega (arith, t.1))))
-    ∙ c.loop-ch.invariant
+    (length c.loop-ch.yielded) (omega (arith, t.1)))) ∙ c.loop-ch.invariant
 
 pub returns-clause-stripped : goal.returns-clause-stripped
 returns-clause-stripped g c = whole g c

@@ -6,8 +6,7 @@ use Rattle.textwrap.proofs.Text.Indents.{ended_lines-one, ended_lines-cut, line_
 use Rattle.textwrap.proofs.Text.Indents.{line_before_feed-plain}
 
 pub returns-in_default-clause-line : goal.returns-in_default-clause-line
-returns-in_default-clause-line c =
-    ended_lines-one c.args.text.now c.requires
+returns-in_default-clause-line c = ended_lines-one c.args.text.now c.requires
     (split_once_first 10 c.args.text.now None c.in_default.ensures.cases (lit< tt))
 
 pub returns-in-Some-strip_suffix-clause-line : goal.returns-in-Some-strip_suffix-clause-line

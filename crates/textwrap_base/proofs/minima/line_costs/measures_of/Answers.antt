@@ -5,8 +5,7 @@ use Rattle.textwrap_base.proofs.Cost.Measures.{total_width-same, open_width-tota
 
 pub overflow_add-before-in-loop-fragment : goal.overflow_add-before-in-loop-fragment
 overflow_add-before-in-loop-fragment g c =
-    let sizes = sizes-same _ _ _ _ c.loop-fragment.invariant.priced in
-    let same = open_width-same _ _ _ _ sizes in
+    let same = open_width-same _ _ _ _ (sizes-same _ _ _ _ c.loop-fragment.invariant.priced) in
     let all = rw (← c.fragment-item.is) at (open_width-total g.T.Fragment.sizes c.args.fragments.now
     c.loop-fragment.fragment-index c.fragment-item.result (omega arith)) in
     omega (arith, same, all, c.requires)

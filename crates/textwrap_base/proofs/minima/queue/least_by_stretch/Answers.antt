@@ -17,9 +17,8 @@ pub returns-else-later-first-clause-least : goal.returns-else-later-first-clause
 returns-else-later-first-clause-least g c =
     let costs = g.C.CostSource.costs c.args.costs.now in
     let end = length c.args.minima.now in
-    let start = c.args.stretch.start in
-    let later : c.stretch_price-later.result ≡ cost_from costs start end =
+    let later : c.stretch_price-later.result ≡ cost_from costs c.args.stretch.start end =
     rw c.price-first.ensures.same at c.stretch_price-later.ensures.price in
-    rw c.price-first.ensures.price (sym (least-first costs (end - 1) end start
+    rw c.price-first.ensures.price (sym (least-first costs (end - 1) end c.args.stretch.start
     (omega (arith, c.requires.minima.some)) c.requires.within c.requires.best
     (omega (arith, later, c.price-first.ensures.price))))

@@ -9,9 +9,8 @@ next_stretch-current-requires-clause-rising g c =
 
 pub advance-requires-clause-stretches : goal.advance-requires-clause-stretches
 advance-requires-clause-stretches g c =
-    let dropped = c.drop_passed-current in
     let i = c.loop-stretches.invariant in
-    rw (i.same, dropped.ensures.left) (AreStretches-drop _ _ _ _ i.stretches)
+    rw (i.same, c.drop_passed-current.ensures.left) (AreStretches-drop _ _ _ _ i.stretches)
 
 pub loop-stretches-preserved : goal.loop-stretches-preserved
 loop-stretches-preserved g c =
@@ -42,15 +41,13 @@ loop-stretches-preserved g c =
 
 pub returns-in_err-advance-clause-steps : goal.returns-in_err-advance-clause-steps
 returns-in_err-advance-clause-steps g c =
-    let i = c.loop-stretches.invariant in
-    let a = c.in_err-advance.ensures in
     let same : (g.C.CostSource.costs c.loop-stretches.costs).ends ≡ c.ends-ends.result =
-    ap (λ (l : Costs). l.ends) i.same ∙ sym c.ends-ends.ensures in
+    ap (λ (l : Costs). l.ends) c.loop-stretches.invariant.same ∙ sym c.ends-ends.ensures in
     let step : g.C.CostSource.steps c.advance.new.costs + vec_len c.advance.new.stretches
     ≤ g.C.CostSource.steps c.loop-stretches.costs + vec_len c.loop-stretches.stretches + 10
     + 2 * binary_digits (c.ends-ends.result - (vec_len c.loop-stretches.minima + 1)) =
-    omega (arith, rw same at a.steps, c.drop_passed-current.ensures.fewer) in
+    omega (arith, rw same at c.in_err-advance.ensures.steps, c.drop_passed-current.ensures.fewer) in
     rw (← c.ends-ends.ensures) (steps_within c.ends-ends.result (vec_len c.loop-stretches.minima)
     (g.C.CostSource.steps c.args.costs.now) (g.C.CostSource.steps c.loop-stretches.costs)
     (g.C.CostSource.steps c.advance.new.costs) (vec_len c.loop-stretches.stretches)
-    (vec_len c.advance.new.stretches) (omega arith) i.steps step)
+    (vec_len c.advance.new.stretches) (omega arith) c.loop-stretches.invariant.steps step)

@@ -8,9 +8,7 @@ returns-then-gained-penalty_width g c =
     c.index-fragments-last.result c.index-fragments-last-in-loop-last.result (omega arith)
     (omega arith) c.index-fragments-last.is c.index-fragments-last-in-loop-last.is in (
       λ yes. absurd (false≢true yes),
-      λ rising.
-          let rise = rising c.loop-last.last (omega arith) (omega arith) in
-          absurd (omega (arith, next, rise)),
+      λ rising. absurd (omega (arith, next, rising c.loop-last.last (omega arith) (omega arith))),
     )
 
 pub loop-last-preserved : goal.loop-last-preserved

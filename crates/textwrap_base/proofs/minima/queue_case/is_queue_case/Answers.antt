@@ -13,6 +13,5 @@ pub returns-then-break_penalties_suit-clause-suits : goal.returns-then-break_pen
 returns-then-break_penalties_suit-clause-suits g c = λ yes.
     let case : IsQueueCase
     (priced_by g.T.Fragment.sizes g.T.Fragment.own_break_penalty c.args.penalties.now)
-    c.args.penalties.now c.args.line_widths.now
-    c.args.fragments.now = search (rules, yes) in
+    c.args.penalties.now c.args.line_widths.now c.args.fragments.now = search (rules, yes) in
     SuitQueue-queue_case _ _ _ _ case

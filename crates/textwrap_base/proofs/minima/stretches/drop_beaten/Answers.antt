@@ -9,17 +9,15 @@ use Rattle.textwrap_base.proofs.Search.{stretch_at-left, begins_after}
 pub loop-stretches-init : goal.loop-stretches-init
 loop-stretches-init g c =
     let n = vec_len c.args.stretches.now in
-    let stretches = c.args.stretches.now.items in
     let held = c.requires.current.within in
-    let last = c.requires.stretches.priced (n - 1) (omega arith) in
     record {
       same = search rules;
-      left = sym (take_all n stretches (omega arith));
+      left = sym (take_all n c.args.stretches.now.items (omega arith));
       current = omega arith;
       fewer = omega arith;
       start = search rules;
       after = omega arith;
-      later = omega (arith, last.before_last);
+      later = omega (arith, (c.requires.stretches.priced (n - 1) (omega arith)).before_last);
       before = omega arith;
       priced = λ l. absurd (omega arith);
       best = rw c.ends.ensures c.requires.stretches.best;

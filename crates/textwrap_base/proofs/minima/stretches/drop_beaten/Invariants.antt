@@ -14,8 +14,7 @@ invariant-loop-stretches g l =
       after : l.start < l.won.from;
       later : (stretch_at l.stretches.items (vec_len l.stretches - 1)).from < l.won.from;
       before : l.won.from ≤ costs.ends;
-      priced : l.won.from < costs.ends
-          → l.won.cost ≡ cost_from costs l.start l.won.from;
+      priced : l.won.from < costs.ends → l.won.cost ≡ cost_from costs l.start l.won.from;
       best : HaveBest costs (length l.minima - 2) l.won.from l.stretches.items;
       wins : IsBestFrom costs l.start l.won.from;
       steps : g.C.CostSource.steps l.costs + vec_len l.stretches

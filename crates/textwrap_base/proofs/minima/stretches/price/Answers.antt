@@ -1,6 +1,6 @@
 use Rattle.textwrap_base.proofs.minima.stretches.price.Goals as goal
-use Rattle.textwrap_base.proofs.Common.{◌∙◌}
-use Rattle.textwrap_base.proofs.Search.{cost_from-asked, cost_from-fits}
+use Rattle.textwrap_base.proofs.Common.{◌∙◌, arith}
+use Rattle.textwrap_base.proofs.Search.{cost_from-asked, small_entry}
 use Rattle.textwrap_base.proofs.Numbers.{some_where, value_where}
 
 pub unwrap-requires : goal.unwrap-requires
@@ -10,8 +10,7 @@ unwrap-requires g c =
     (record { start = 0; cost = 0 }) c.requires.minima c.requires.known c.requires.ordered
     c.requires.within in
     some_where _ _ _ c.candidate.ensures.cost (rw (c.min.ensures, asked)
-    (cost_from-fits costs c.requires.suits c.args.start c.args.end c.requires.ordered
-    c.requires.within))
+    (grind (arith, small_entry)))
 
 pub returns-clause-price : goal.returns-clause-price
 returns-clause-price g c =

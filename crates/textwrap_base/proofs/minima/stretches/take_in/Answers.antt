@@ -9,14 +9,10 @@ returns-in_ok-push-clause-stretches g c =
     let q = c.new_stretch-stretch.new.stretches.items in
     let is = c.new_stretch-stretch.ensures in
     let start = length c.args.minima.now - 1 in
-    let before_last : s.from < costs.ends =
-    omega (arith, ap (λ (l : Costs). l.ends) is.same) in
+    let before_last : s.from < costs.ends = omega (arith, ap (λ (l : Costs). l.ends) is.same) in
     let len : length q ≡ vec_len c.new_stretch-stretch.new.stretches = omega arith in
-    let priced : IsPriced costs start s = record {
-      within = omega arith;
-      before_last = before_last;
-      cost = λ _. is.priced before_last;
-    } in
+    let priced : IsPriced costs start s =
+    record { within = omega arith; before_last = before_last; cost = λ _. is.priced before_last } in
     AreStretches-push q c.push.new.self.items s c.in_ok-push.ensures.items costs
     (length c.args.minima.now - 2) start (vec_len c.new_stretch-stretch.new.stretches)
     c.args.stretches.now.items (omega arith) c.requires.stretches is.left (omega arith) priced is.start

@@ -29,8 +29,7 @@ returns-clause-left c =
     (omega (arith, length-slice text self.start self.end self.ends.0, c.requires.done)) in
     let start : self.at - self.end ≡ 0 = omega (arith, c.requires.done) in
     ap (λ k. stand_from self.at (front ++ (pieces_within splitter limit word k
-    ++ words (parts_after end later.now text)))) start
-    ∙ ap (λ ws. stand_from self.at (front ++ ws))
+    ++ words (parts_after end later.now text)))) start ∙ ap (λ ws. stand_from self.at (front ++ ws))
     (sym (words-first splitter limit word (parts_after end later.now text)
     (IsUtf8-between text self.end end utf8 (omega (arith, found.some)) self.ends found.boundary) some)
     ∙ ap words (sym found.parts))

@@ -6,8 +6,7 @@ use Rattle.textwrap_words.specs.LentText.{IsLent}
 pub loop-byte-preserved : goal.loop-byte-preserved
 loop-byte-preserved c = record {
   same = c.push_byte.ensures.same ∙ c.loop-byte.invariant.same;
-  text = λ text before is.
-      subst (λ bytes. IsLent c.push_byte.new.self bytes before)
+  text = λ text before is. subst (λ bytes. IsLent c.push_byte.new.self bytes before)
       (append_assoc text (take c.loop-byte.byte-index c.args.part.now) (_ ∷ [])
       ∙ ap (λ bytes. text ++ bytes) (sym (take_more c.args.part.now c.loop-byte.byte-index _
       c.loop-byte-test.true)))

@@ -4,8 +4,8 @@ use Rattle.textwrap_base.proofs.Common.{length-append, YieldsList-from_chars, Yi
 use Rattle.textwrap_base.proofs.Common.{YieldsList-end, at_drop_all, length_push}
 use Rattle.std.specs.Str.{chars}
 use Rattle.textwrap_words.proofs.Common.{next_of}
-use Rattle.textwrap_words.proofs.word_separators.offsets.visible_len.Goals.{After-len_utf8-len}
 use Rattle.textwrap_words.proofs.Units.Reading.{stripped-short, text_in, text_in-step}
+use Rattle.textwrap_words.proofs.word_separators.offsets.visible_len.Goals.{After-len_utf8-len}
 
 -- the bytes of a visible character, and those of what follows it
 counted : (c : After-len_utf8-len) → c.len_utf8-len.result + length
@@ -21,13 +21,12 @@ counted c =
     omega (arith, ap length step, length-append {A = ℕ}, c.len_utf8-len.ensures.len)
 
 pub overflow_add-len : goal.overflow_add-len
-overflow_add-len c =
-    omega (
-      arith,
-      counted (goal.at.overflow_add-len c).After-len_utf8-len,
-      c.loop-ch.invariant,
-      stripped-short c.args.line.now c.utf8.line,
-    )
+overflow_add-len c = omega (
+  arith,
+  counted (goal.at.overflow_add-len c).After-len_utf8-len,
+  c.loop-ch.invariant,
+  stripped-short c.args.line.now c.utf8.line,
+)
 
 pub loop-ch-preserved-then-is_visible : goal.loop-ch-preserved-then-is_visible
 loop-ch-preserved-then-is_visible c =

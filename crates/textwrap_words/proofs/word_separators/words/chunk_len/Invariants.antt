@@ -4,8 +4,7 @@ use Rattle.textwrap_words.proofs.Common.{is_cut}
 
 -- there is no cut before the end so far
 abbrev pub invariant-loop-end : goal.invariant-loop-end
-invariant-loop-end l =
-    (0 < l.end) × (l.end ≤ length l.line)
+invariant-loop-end l = (0 < l.end) × (l.end ≤ length l.line)
     × ((k : ℕ) → k + 1 < l.end → is_cut (get_or l.line k 0) (get_or l.line (k + 1) 0) ≡ false)
 
 abbrev pub decreases-loop-end : goal.decreases-loop-end

@@ -5,17 +5,14 @@ use Rattle.textwrap_words.proofs.Common.{parts_between}
 use Rattle.textwrap_words.proofs.Word.Parts.{inner-cuts}
 
 pub split_parts-requires : goal.split_parts-requires
-split_parts-requires g c =
-    let line = c.args.line.now in
-    subst (AreCuts line) (sym c.deref.ensures.value)
-    (inner-cuts line c.in_ok-cuts.cuts.items c.in_ok-cuts.ensures.inner)
+split_parts-requires g c = subst (AreCuts c.args.line.now) (sym c.deref.ensures.value)
+    (inner-cuts c.args.line.now c.in_ok-cuts.cuts.items c.in_ok-cuts.ensures.inner)
 
 pub returns : goal.returns
 returns g c =
-    let cuts = c.in_ok-cuts.cuts in
     let line = c.args.line.now in (
-      map word_of (parts_between cuts.items line),
-      (cuts.items, c.in_ok-cuts.ensures.given, refl),
+      map word_of (parts_between c.in_ok-cuts.cuts.items line),
+      (c.in_ok-cuts.cuts.items, c.in_ok-cuts.ensures.given, refl),
       subst (λ places. AreSplit (MaySplit c.args.word_splitter.now)
           (map word_of (parts_between places line)) (map word_view c.in_ok-pieces.pieces.items))
           c.deref.ensures.value c.in_ok-pieces.ensures,

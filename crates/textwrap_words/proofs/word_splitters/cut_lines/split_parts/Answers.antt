@@ -11,19 +11,17 @@ loop-cut-preserved g c =
     let line = c.args.line.now in
     let cuts = c.args.cuts.now in
     let i = c.loop-cut.cut-index in
-    let start = c.loop-cut.start in
     let cut = get_or cuts i 0 in
     let Points = MaySplit c.args.word_splitter.now in
     let pieces = map word_view c.loop-cut.pieces.items in
-    let word = word_of (slice_range line start cut) in
-    let rest = map word_of (parts_from cut (drop (i + 1) cuts) line) in
+    let word = word_of (slice_range line c.loop-cut.start cut) in
     let (words, are, split) = c.loop-cut.invariant.words in
     let (points, may, pushed) = rw c.range.ensures.value at c.in_ok-push_part.ensures in
     record {
       words = (
         words ++ word ∷ [],
-        append_assoc words (word ∷ []) rest
-            ∙ ap (λ cs. words ++ map word_of (parts_from start cs line))
+        append_assoc words (word ∷ []) (map word_of (parts_from cut (drop (i + 1) cuts) line))
+            ∙ ap (λ cs. words ++ map word_of (parts_from c.loop-cut.start cs line))
             (sym (drop_more cuts i 0 c.loop-cut-test.true)) ∙ are,
         subst (AreSplit Points (words ++ word ∷ [])) (sym pushed)
             (AreSplit-push Points words pieces word points split may),
@@ -37,17 +35,15 @@ returns g c =
     let line = c.args.line.now in
     let cuts = c.args.cuts.now in
     let i = c.loop-cut.cut-index in
-    let start = c.loop-cut.start in
     let Points = MaySplit c.args.word_splitter.now in
-    let pieces = map word_view c.loop-cut.pieces.items in
-    let word = word_of (drop start line) in
+    let word = word_of (drop c.loop-cut.start line) in
     let (words, are, split) = c.loop-cut.invariant.words in
     let (points, may, pushed) = rw c.range_from.ensures.value at c.in_ok-push_part-2.ensures in
     let some : (length line == 0) ≡ false = sym c.is_empty.ensures ∙ c.if-is_empty.false in
     let none : drop i cuts ≡ [] = drop_all i cuts (omega (arith, c.loop-cut-test.false)) in
     let all : words ++ word ∷ [] ≡ map word_of (parts_between cuts line) =
-    ap (λ cs. words ++ map word_of (parts_from start cs line)) (sym none) ∙ are
+    ap (λ cs. words ++ map word_of (parts_from c.loop-cut.start cs line)) (sym none) ∙ are
     ∙ ap (λ b. map word_of (if b then [] else parts_from 0 cuts line)) (sym some) in
     subst (λ ws. AreSplit Points ws (map word_view c.push_part-2.new.pieces.items)) all
     (subst (AreSplit Points (words ++ word ∷ [])) (sym pushed)
-    (AreSplit-push Points words pieces word points split may))
+    (AreSplit-push Points words (map word_view c.loop-cut.pieces.items) word points split may))

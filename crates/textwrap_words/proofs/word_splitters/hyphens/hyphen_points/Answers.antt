@@ -4,8 +4,6 @@ use Rattle.textwrap_base.proofs.Common.{◌∙◌, subst, arith, list_any, range
 use Rattle.textwrap_words.proofs.Common.{is_hyphen_point, hyphen, AreCuts}
 use Rattle.textwrap_base.proofs.Lists.Elements.{points-more}
 use Rattle.textwrap_words.proofs.Word.Splitting.{hyphen_points-cuts, hyphen_points-none}
-use Rattle.textwrap_words.proofs.word_splitters.hyphens.hyphen_points.Goals.{then-is_hyphen_point+in_ok-push}
-use Rattle.textwrap_words.proofs.word_splitters.hyphens.hyphen_points.Goals.{else-is_hyphen_point}
 
 pub loop-point-preserved : goal.loop-point-preserved
 loop-point-preserved g c =
@@ -13,9 +11,9 @@ loop-point-preserved g c =
     let grown : c.if-is_hyphen_point.points.items ≡ cond c.is_hyphen_point.result
     (c.loop-point.points.items ++ c.loop-point.point ∷ []) c.loop-point.points.items =
     elim c.if-is_hyphen_point.branch [
-      | then-is_hyphen_point+in_ok-push w ↦ rw w.if-is_hyphen_point.true
+      | goal.then-is_hyphen_point+in_ok-push w ↦ rw w.if-is_hyphen_point.true
           (ap (λ v. v.items) w.points-is ∙ w.in_ok-push.ensures.items)
-      | else-is_hyphen_point w ↦ rw w.if-is_hyphen_point.false (ap (λ v. v.items) w.points-is)
+      | goal.else-is_hyphen_point w ↦ rw w.if-is_hyphen_point.false (ap (λ v. v.items) w.points-is)
     ] in
     let more = points-more test c.loop-point.point c.loop-point.points.items
     c.if-is_hyphen_point.points.items c.is_hyphen_point.result c.loop-point.auto.point

@@ -5,8 +5,6 @@ use Rattle.textwrap_words.proofs.Units.Reading.{columns-le, read-all, read-room}
 use Rattle.textwrap_words.proofs.Word.Scanned.{IsReading-start, IsReading-step, IsReading-cut}
 use Rattle.textwrap_words.proofs.Word.Scanned.{IsReading-end}
 use Rattle.textwrap_words.proofs.Word.BrokenPieces.{IsFirstPiece}
-use Rattle.textwrap_words.proofs.words.breaking.first_piece.Goals.{else-width-gt0-via-then-width-gt0+else-width-columns}
-use Rattle.textwrap_words.proofs.words.breaking.first_piece.Goals.{else-width-gt0-via-else-width-gt0}
 
 pub loop-at-init : goal.loop-at-init
 loop-at-init c =
@@ -15,15 +13,13 @@ loop-at-init c =
     (IsReading-start c.args.line_width c.args.text.now c.utf8.text)
 
 pub overflow_add-width : goal.overflow_add-width
-overflow_add-width c =
-    let s = c.in-Some.ensures.steps in
-    omega (
-      arith,
-      c.columns-columns.ensures,
-      columns-le c.in-Some.ch,
-      c.loop-at.invariant.bound,
-      read-room c.loop-at.invariant.read _ _ s.1,
-    )
+overflow_add-width c = omega (
+  arith,
+  c.columns-columns.ensures,
+  columns-le c.in-Some.ch,
+  c.loop-at.invariant.bound,
+  read-room c.loop-at.invariant.read _ _ c.in-Some.ensures.steps.1,
+)
 
 pub returns-then-width-columns : goal.returns-then-width-columns
 returns-then-width-columns c =
@@ -40,9 +36,9 @@ loop-at-preserved-else-width-gt0 c =
     let s = c.in-Some.ensures.steps in
     let on = due-false c.args.line_width c.loop-at.width c.in-Some.ch
     (λ some. elim c.else-width-gt0.branch [
-      | else-width-gt0-via-then-width-gt0+else-width-columns w ↦ omega
+      | goal.else-width-gt0-via-then-width-gt0+else-width-columns w ↦ omega
           (arith, c.columns-columns.ensures)
-      | else-width-gt0-via-else-width-gt0 w ↦ omega arith
+      | goal.else-width-gt0-via-else-width-gt0 w ↦ omega arith
     ]) in
     let shown = rw c.step-next.ensures at c.if-is_visible.true in
     rw (c.step-next.ensures, c.columns-columns.ensures)
@@ -50,11 +46,10 @@ loop-at-preserved-else-width-gt0 c =
 
 pub loop-at-preserved : goal.loop-at-preserved
 loop-at-preserved c =
-    let s = c.in-Some.ensures.steps in
     let hidden = rw c.step-next.ensures at c.if-is_visible.false in
     rw c.step-next.ensures (rw (hidden, add-zero c.loop-at.width)
-    at (IsReading-step _ _ _ _ _ _ c.loop-at.invariant _ _ s.1
-    (λ shown. absurd (true≢false (sym shown ∙ hidden))) _ s.2))
+    at (IsReading-step _ _ _ _ _ _ c.loop-at.invariant _ _ c.in-Some.ensures.steps.1
+    (λ shown. absurd (true≢false (sym shown ∙ hidden))) _ c.in-Some.ensures.steps.2))
 
 pub returns : goal.returns
 returns c =

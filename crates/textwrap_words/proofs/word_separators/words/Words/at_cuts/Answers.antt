@@ -6,14 +6,12 @@ use Rattle.textwrap_words.proofs.word_separators.words.Words.at_cuts.Goals.{In_o
 
 -- what was answered is cuts of the line
 ready : (g : _) (c : In_ok-cuts g) → AreCuts c.args.line.now c.in_ok-cuts.cuts.items
-ready g c =
-    inner-cuts c.args.line.now c.in_ok-cuts.cuts.items
+ready g c = inner-cuts c.args.line.now c.in_ok-cuts.cuts.items
     (MayCut-cuts c.args.line_cuts c.args.line.now c.in_ok-cuts.cuts.items c.utf8.line
     (c.args.line_cuts.alloc, c.args.line, c.in_ok-cuts.cuts, refl, refl, c.in_ok-cuts.ensures.0))
 
 pub words_between-requires : goal.words_between-requires
-words_between-requires g c =
-    subst (AreCuts c.args.line.now) (sym c.deref.ensures.value)
+words_between-requires g c = subst (AreCuts c.args.line.now) (sym c.deref.ensures.value)
     (ready g (goal.at.words_between-requires g c).In_ok-cuts)
 
 pub returns-clause-words : goal.returns-clause-words

@@ -4,7 +4,7 @@ ghost use Rattle.textwrap_display.specs.JustifiedText.{IsJustifiedText};
 ghost use Rattle.textwrap_display.specs.Justifying.{justified};
 ghost use Rattle.textwrap_display.specs.Shortening.{IsShortened, texts_of};
 ghost use Rattle.textwrap_display.specs.Styles.{carried_lines};
-ghost use Rattle.textwrap_display.specs.Tables.{IsTable, gaps_view, texts_in};
+ghost use Rattle.textwrap_display.specs.Tables.{AreTableRows, gaps_view, texts_in};
 ghost use Rattle.textwrap_lines.specs.Options.{settings_view};
 ghost use Rattle.textwrap_lines.specs.Paragraph.{line_view, DividesBy};
 ghost use Rattle.textwrap_words.specs.Units.{text_width};
@@ -71,7 +71,7 @@ pub fn rows_of_table(
     gaps: &Gaps<'_>,
 ) -> Result<Vec<String>, WrapError>
     ensures rows { IfOk result (λ rows.
-        IsTable columns.now (gaps_view gaps.now) (texts_in cells.now)
+        AreTableRows columns.now (gaps_view gaps.now) (texts_in cells.now)
         (map string_bytes rows.items)) }
 {
     let rows = table(alloc, cells, columns, gaps)?;

@@ -1,14 +1,14 @@
 //! A paragraph in steps.
 ghost use Rattle.std.specs.Prelude.{◌≡◌, map, IfOk};
 ghost use Rattle.textwrap_lines.specs.Options.{settings_view};
-ghost use Rattle.textwrap_steps.specs.Steps.{pieces_at};
+ghost use Rattle.textwrap_lines.specs.Steps.{pieces_at};
 ghost use Rattle.textwrap_words.specs.Cuts.{AreInnerCuts};
 ghost use Rattle.textwrap_words.specs.Words.{word_view};
 
 use std::alloc::{AllocError, Global};
 use textwrap::Options;
 use textwrap::words::Word;
-use textwrap_steps::steps::pieces_at;
+use textwrap_lines::steps::pieces_at;
 
 /// As `pieces_at`.
 pub fn pieces_of_paragraph<'t>(

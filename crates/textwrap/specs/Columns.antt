@@ -28,7 +28,7 @@ column_width inner columns = max (inner / columns) 1
 
 -- what the rows of a table have in common: how many columns there are, how wide each is, how many
 -- blanks follow the last, and what stands before, between and after them
-pub record Layout : Type 0 where
+pub record RowLayout : Type 0 where
   pub columns : ℕ
   pub column_width : ℕ
   pub spare_width : ℕ
@@ -36,7 +36,7 @@ pub record Layout : Type 0 where
   pub middle : List ℕ
   pub right : List ℕ
 
-abbrev pub layout_view : Table → Layout
+abbrev pub layout_view : Table → RowLayout
 layout_view table = record {
   columns = table.columns;
   column_width = table.column_width;
@@ -47,7 +47,7 @@ layout_view table = record {
 }
 
 -- the inner width is divided evenly, and what is left over is spare
-abbrev pub layout_of : ℕ → ℕ → List ℕ → List ℕ → List ℕ → Layout
+abbrev pub layout_of : ℕ → ℕ → List ℕ → List ℕ → List ℕ → RowLayout
 layout_of width columns left middle right =
     let inner = inner_width width columns left middle right in
     record {
@@ -76,7 +76,7 @@ cells lines rows columns r = map (cell lines rows r) (range_with_len 0 columns)
 abbrev pub padded : ℕ → List ℕ → List ℕ
 padded width text = text ++ blanks (width - text_width text)
 
-module _ (layout : Layout) where
+module _ (layout : RowLayout) where
   abbrev pub row_text : List (List ℕ) → List ℕ
   row_text row =
       layout.left ++ join_with layout.middle (map (padded layout.column_width) row)
@@ -95,7 +95,7 @@ module _ (layout : Layout) where
 -- ---- a row, part by part
 
 -- the cells with their blanks, and the middle gap between each two
-abbrev pub cell_parts : Layout → List (List ℕ) → List (List ℕ)
+abbrev pub cell_parts : RowLayout → List (List ℕ) → List (List ℕ)
 cell_parts layout [] = []
 cell_parts layout (text ∷ []) =
     text ∷ blanks (layout.column_width - text_width text) ∷ []
@@ -103,7 +103,7 @@ cell_parts layout (text ∷ next ∷ texts) =
     text ∷ blanks (layout.column_width - text_width text) ∷ layout.middle
     ∷ cell_parts layout (next ∷ texts)
 
-abbrev pub row_parts : Layout → List (List ℕ) → List (List ℕ)
+abbrev pub row_parts : RowLayout → List (List ℕ) → List (List ℕ)
 row_parts layout row =
     layout.left ∷ (cell_parts layout row ++ (blanks layout.spare_width ∷ layout.right ∷ []))
 

@@ -15,7 +15,7 @@ use Rattle.textwrap_lines.specs.Paragraph.{DividesAs, Slice}
 use Rattle.textwrap_lines.specs.Text.{AreTextLines}
 use Rattle.textwrap_words.specs.WordSplitters.{Splitter, Whole}
 use Rattle.textwrap_lines.specs.declared.line_ending.LineEnding.TheVariants.{LF}
-use Rattle.textwrap.specs.Columns.{Layout, layout_of, inner_width, row_count, cells, row_text}
+use Rattle.textwrap.specs.Columns.{RowLayout, layout_of, inner_width, row_count, cells, row_text}
 use Rattle.textwrap.specs.Columns.{row_parts, cells_by_column}
 use Rattle.textwrap.specs.InPlace.{IsFilledInPlace}
 use Rattle.textwrap.specs.Indentation.{is_blank_line, ended_parts, indented, indented_part}
@@ -194,7 +194,7 @@ RefilledTwiceIsRefilledOnce =
 -- the parts of a row make its text
 abbrev pub RowsAreParts : Type 0
 RowsAreParts =
-    (layout : Layout) (row : List (List ℕ))
+    (layout : RowLayout) (row : List (List ℕ))
     → flat_map (λ part. part) (row_parts layout row) ≡ row_text layout row
 
 -- where no line is wider than a column, and the gaps leave room for all columns, the parts of each
@@ -203,7 +203,7 @@ abbrev pub RowsAreEven : Type 0
 RowsAreEven =
     (width columns : ℕ) (left middle right : List ℕ) (lines : List (List ℕ)) (r : ℕ)
     → let inner : ℕ = inner_width width columns left middle right in
-    let layout : Layout = layout_of width columns left middle right in
+    let layout : RowLayout = layout_of width columns left middle right in
     let row : List (List ℕ) = cells lines (row_count lines columns) columns r in
     let gaps : ℕ = text_width left + text_width right + (columns - 1) * text_width middle in
     1 ≤ columns → columns * layout.column_width ≤ inner

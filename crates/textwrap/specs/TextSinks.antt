@@ -4,6 +4,6 @@ use Rattle.textwrap_words.specs.LentText.{IsLent}
 use Rattle.textwrap_words.specs.declared.lent_text.LentText.{LentText}
 
 -- the room that it began with was written over by this text
-pub record HoldsLent (first now : LentText) (text : List ℕ) : Type 0 where
+pub record HoldsLentText (first now : LentText) (text : List ℕ) : Type 0 where
   pub same : now.room.ghost_name ≡ first.room.ghost_name
   pub lent : IsLent now text first.room.now

@@ -58,13 +58,13 @@ impl<A: Allocator> TextSink for String<A> {
 
 impl<'r> TextSink for LentText<'r> {
     ghost use Rattle.std.specs.Prelude.{⊤};
-    ghost use Rattle.textwrap.specs.TextSinks.{HoldsLent};
+    ghost use Rattle.textwrap.specs.TextSinks.{HoldsLentText};
 
     ghost name = { λ sink. sink.room.ghost_name };
 
     ghost never_fails = { ⊤ };
 
-    ghost holds = { λ first now text. HoldsLent first now text };
+    ghost holds = { λ first now text. HoldsLentText first now text };
 
     fn reserve_bytes(&mut self, len: usize) -> Result<(), AllocError> {
         Ok(())

@@ -9,8 +9,8 @@ use Rattle.textwrap_lines.proofs.Common.{Settings, parts_from, covered_by}
 use Rattle.textwrap_lines.proofs.Paragraph.LeftOff.{covered_by-parts_from}
 use Rattle.textwrap_lines.specs.Places.{ArePlacesOf, built_text, lines_of}
 use Rattle.textwrap_lines.specs.declared.places.Place.{Place}
-use Rattle.textwrap_steps.specs.Steps.{pieces_at}
-use Rattle.textwrap_steps.proofs.LineLemmas.{lines_between-begin}
+use Rattle.textwrap_lines.specs.Steps.{pieces_at}
+use Rattle.textwrap_lines.proofs.InSteps.{lines_between-begin}
 use Rattle.textwrap_calls.specs.Options.{says_yes}
 use Rattle.textwrap_calls.specs.Reported.{WritesReported}
 use Rattle.textwrap_calls.specs.Status.{done, too_small}

@@ -9,8 +9,8 @@ use Rattle.textwrap_base.proofs.Lists.Parts.{flat}
 use Rattle.textwrap_words.proofs.Common.{Tiles, tiled}
 use Rattle.textwrap_words.proofs.Word.Words.{tiled-append}
 use Rattle.textwrap_words.specs.LineEnds.{AreEnds, lines_between}
-use Rattle.textwrap_steps.specs.Steps.{pieces_at}
-use Rattle.textwrap_steps.proofs.LineLemmas.{lines_between-begin}
+use Rattle.textwrap_lines.specs.Steps.{pieces_at}
+use Rattle.textwrap_lines.proofs.InSteps.{lines_between-begin}
 use Rattle.textwrap_lines.specs.Places.{division_cuts, HasPlaces, HasPlacesMore, ArePlacesOf}
 use Rattle.textwrap_base.proofs.Numbers.{is_later-or}
 use Rattle.textwrap_lines.proofs.Common.{CutLine, cut_lines, ending_bytes, join_with, line_from}

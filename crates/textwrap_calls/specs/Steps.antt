@@ -6,7 +6,7 @@ use Rattle.textwrap.specs.Options.{Settings}
 use Rattle.textwrap.specs.Paragraph.{Line}
 use Rattle.textwrap_lines.specs.Places.{CutLine, division_cuts, lines_of, places_of}
 use Rattle.textwrap_lines.specs.declared.places.Place.{Place}
-use Rattle.textwrap_steps.specs.Steps.{pieces_at}
+use Rattle.textwrap_lines.specs.Steps.{pieces_at}
 use Rattle.textwrap_calls.specs.Options.{says_yes}
 
 -- the paragraph may be cut at these offsets, and its words split at these points

@@ -7,7 +7,7 @@ use Rattle.textwrap_lines.specs.LineEnding.{ending_bytes, join_with, paragraphs_
 use Rattle.textwrap_lines.specs.Options.{Settings}
 use Rattle.textwrap_lines.specs.Paragraph.{LineParts, is_whole, line_bytes, parts_from}
 use Rattle.textwrap_lines.specs.Places.{CutLine, lines_of, text_cuts}
-use Rattle.textwrap_steps.specs.Steps.{pieces_at}
+use Rattle.textwrap_lines.specs.Steps.{pieces_at}
 use Rattle.textwrap_calls.specs.Steps.{AreLineSteps}
 use Rattle.textwrap_calls.specs.declared.steps.TextwrapSteps.{TextwrapSteps}
 

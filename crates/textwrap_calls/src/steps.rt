@@ -11,7 +11,7 @@ ghost use Rattle.textwrap_calls.specs.Fragments.{AreEndsOf};
 ghost use Rattle.textwrap_lines.specs.Paragraph.{line_from, line_view, parts_from, text_limit};
 ghost use Rattle.textwrap_lines.specs.Paragraph.{widths_of};
 ghost use Rattle.textwrap_lines.specs.Places.{HasPlacesMore, division_cuts, further};
-ghost use Rattle.textwrap_steps.specs.Steps.{pieces_at};
+ghost use Rattle.textwrap_lines.specs.Steps.{pieces_at};
 ghost use Rattle.textwrap_calls.specs.Options.{algorithm_of, settings_of, says_yes};
 ghost use Rattle.textwrap_calls.specs.Options.{AreKnown, AreTexts};
 ghost use Rattle.textwrap_calls.specs.Pieces.{piece_places};
@@ -34,7 +34,7 @@ use textwrap::words::Word;
 use textwrap::{Options, WrapError};
 use textwrap_lines::inner::line_widths;
 use textwrap_lines::placed::PlacedLines;
-use textwrap_steps::steps::{are_ends, are_inner_cuts, list_lines_at, pieces_at, push_lines_at};
+use textwrap_lines::steps::{are_ends, are_inner_cuts, list_lines_at, pieces_at, push_lines_at};
 
 /// What a caller found of a paragraph: where it is cut into words, where these are split, and where its
 /// lines end.

@@ -8,7 +8,7 @@ use Rattle.textwrap_base.proofs.Common.{take_more, append_assoc}
 use Rattle.std.specs.Prelude.{encode_utf8, String}
 use Rattle.textwrap_words.proofs.Common.{text_width}
 use Rattle.textwrap_words.specs.declared.escapes.State.{State}
-use Rattle.textwrap_display.specs.Shortening.{IsKept, may_end, AreShortened, IsShortened, texts_of}
+use Rattle.textwrap_display.specs.Shortening.{IsKept, can_end, AreShortened, IsShortened, texts_of}
 use Rattle.textwrap_display.proofs.KeptWords.{is_after_blank, may_end-boundary, may_end-within}
 use Rattle.textwrap_display.proofs.KeptWords.{may_end-here, may_end-other, may_end-past}
 use Rattle.textwrap_display.proofs.KeptWords.{may_end-whole, may_end-blanks, IsReadTo, read-width}
@@ -27,9 +27,9 @@ HasRoom room line n = text_width (take n line) ≤ room
 
 -- the longest beginning before the place that may be kept
 pub record IsFound (room : ℕ) (line : List ℕ) (place kept : ℕ) : Type 0 where
-  pub ends : may_end line kept ≡ true
+  pub ends : can_end line kept ≡ true
   pub fits : (kept ≡ 0) ⊎ HasRoom room line kept
-  pub longest : (m : ℕ) → m < place → may_end line m ≡ true → HasRoom room line m → m ≤ kept
+  pub longest : (m : ℕ) → m < place → can_end line m ≡ true → HasRoom room line m → m ≤ kept
 
 pub found-none : (room : ℕ) (line : List ℕ) (place : ℕ) → place ≡ 0 → IsFound room line place 0
 found-none room line place start = record {
@@ -56,7 +56,7 @@ module _ (room : ℕ) (line : List ℕ) (utf8 : IsUtf8 line) (place : ℕ) (rest
     (found : IsFound room line place kept) where
   -- what else may have room before a later place is before this one
   found-until : (end : ℕ)
-      → ((m : ℕ) → place ≤ m → m < end → may_end line m ≡ true → HasRoom room line m → m ≡ 0)
+      → ((m : ℕ) → place ≤ m → m < end → can_end line m ≡ true → HasRoom room line m → m ≡ 0)
       → IsFound room line end kept
   found-until end none = record {
     ends = found.ends;
@@ -80,7 +80,7 @@ module _ (room : ℕ) (line : List ℕ) (utf8 : IsUtf8 line) (place : ℕ) (rest
     whole = read.read.place ∙ is
 
     -- in the character no beginning ends
-    outside : (m : ℕ) → m < end → may_end line m ≡ true → m ≤ place
+    outside : (m : ℕ) → m < end → can_end line m ≡ true → m ≤ place
     outside m before may = elim (cases_lt place m) [
       | inl inside ↦
           let end_of = may_end-past line utf8 place c after read.read.boundary whole m inside may in
@@ -103,7 +103,7 @@ module _ (room : ℕ) (line : List ℕ) (utf8 : IsUtf8 line) (place : ℕ) (rest
         let here : m ≡ place = omega (arith, later, outside m before may) in
         here ∙ may_end-other line utf8 place c after read.read.boundary whole
         (λ blank. sym read.blank ∙ follows (eqb-true c 32 blank) other)
-        (subst (λ n. may_end line n ≡ true) here may))
+        (subst (λ n. can_end line n ≡ true) here may))
       where
         follows : c ≡ 32 → ((c ≡ 32) × (after_blank ≡ true)) ⊎ (c ≢ 32) → after_blank ≡ true
         follows blank (inl (_, after)) = after
@@ -131,7 +131,7 @@ module _ (room : ℕ) (line : List ℕ) (utf8 : IsUtf8 line) (place : ℕ) (rest
     found-blank blank = found-until (length line + 1) (λ m later before may has.
         let here : m ≡ length line = omega (arith, later, before, at_end) in
         here ∙ may_end-blanks line (sym after_last ∙ blank)
-        (subst (λ n. may_end line n ≡ true) here may))
+        (subst (λ n. can_end line n ≡ true) here may))
 
 -- ---- the first lines as they are, and the one after them cut
 

@@ -17,7 +17,7 @@ use Rattle.std.proofs.lemmas.Str.{IsCharBoundary-start, IsCharBoundary-end, enco
 use Rattle.textwrap_base.proofs.Texts.{some-bytes}
 use Rattle.textwrap_words.proofs.Word.Ahead.{ascii-here, character-within, ends-within, plain-bytes}
 use Rattle.textwrap_words.proofs.Word.Ahead.{starts-within}
-use Rattle.textwrap_display.specs.Shortening.{may_end}
+use Rattle.textwrap_display.specs.Shortening.{can_end}
 use Rattle.textwrap_display.specs.Laws.{word_texts}
 use Rattle.textwrap_base.proofs.Lists.Parts.{take_slice}
 use Rattle.std.proofs.Math.Seq.{take-add}
@@ -147,15 +147,15 @@ first-chunks c (d ∷ cs) ys follows = by (is_cut c d) (first-chunks d cs ys fol
 -- ---- where a beginning of a line may end: these places are within the line, and characters end
 -- there
 
-pub may_end-cases : (line : List ℕ) (n : ℕ) → may_end line n ≡ true
+pub may_end-cases : (line : List ℕ) (n : ℕ) → can_end line n ≡ true
     → (n ≡ 0) ⊎ ((is_blank (get_or line (n - 1) 0) ≡ false)
     × ((n ≡ length line) ⊎ (is_blank (get_or line n 0) ≡ true)))
 may_end-cases line n may = grind (arith, cases_Bool, eqb-true)
 
-pub may_end-within : (line : List ℕ) (n : ℕ) → may_end line n ≡ true → n ≤ length line
+pub may_end-within : (line : List ℕ) (n : ℕ) → can_end line n ≡ true → n ≤ length line
 may_end-within line n may = grind (arith, may_end-cases, get_or_past, cases_lt)
 
-pub may_end-boundary : (line : List ℕ) (n : ℕ) → IsUtf8 line → may_end line n ≡ true
+pub may_end-boundary : (line : List ℕ) (n : ℕ) → IsUtf8 line → can_end line n ≡ true
     → IsCharBoundary line n
 may_end-boundary line n utf8 may = elim (may_end-cases line n may) [
   | inl none ↦ subst (IsCharBoundary line) (sym none) (IsCharBoundary-start line utf8)
@@ -192,15 +192,15 @@ module _ (line : List ℕ) (utf8 : IsUtf8 line) (place c : ℕ) (after : List �
   first-blank = byte-blank place (omega arith) (omega (arith, some-bytes c))
 
   pub may_end-here : eqb c 32 ≡ true → is_after_blank line place ≡ false
-      → may_end line place ≡ true
+      → can_end line place ≡ true
   may_end-here blank some = grind (arith, first-blank, cases_Bool)
 
   pub may_end-other : (eqb c 32 ≡ true → is_after_blank line place ≡ true)
-      → may_end line place ≡ true → place ≡ 0
+      → can_end line place ≡ true → place ≡ 0
   may_end-other none may = grind (arith, first-blank, may_end-cases, cases_Bool, starts-within)
 
   -- inside a character no line may end
-  pub may_end-past : (m : ℕ) → place < m → may_end line m ≡ true
+  pub may_end-past : (m : ℕ) → place < m → can_end line m ≡ true
       → place + length (encode_utf8 c) ≤ m
   may_end-past m past may =
       character-within line utf8 place c after here is m past (may_end-boundary line m utf8 may)
@@ -216,11 +216,11 @@ module _ (line : List ℕ) (utf8 : IsUtf8 line) (place c : ℕ) (after : List �
 -- ---- the end of the line
 
 pub may_end-whole : (line : List ℕ) → is_after_blank line (length line) ≡ false
-    → may_end line (length line) ≡ true
+    → can_end line (length line) ≡ true
 may_end-whole line some = grind (arith, cases_Bool, nat_tests)
 
 pub may_end-blanks : (line : List ℕ) → is_after_blank line (length line) ≡ true
-    → may_end line (length line) ≡ true → length line ≡ 0
+    → can_end line (length line) ≡ true → length line ≡ 0
 may_end-blanks line blank may = grind (arith, may_end-cases, cases_Bool)
 
 -- ---- the words of a line's beginning, where blanks follow it, are the first words of the line
@@ -267,7 +267,7 @@ word_texts-front (c ∷ cs) ys follows =
     ∙ sym front
 
 -- nothing or a blank follows where a beginning may end
-blank-follows : (line : List ℕ) (n : ℕ) → may_end line n ≡ true
+blank-follows : (line : List ℕ) (n : ℕ) → can_end line n ≡ true
     → (n ≡ 0) ⊎ BlankFollows (drop n line)
 blank-follows line n may = elim (may_end-cases line n may) [
   | inl none ↦ inl none
@@ -277,7 +277,7 @@ blank-follows line n may = elim (may_end-cases line n may) [
       inr (inr (ap is_blank first ∙ blank))
 ]
 
-pub word_texts-take : (line : List ℕ) (n : ℕ) → may_end line n ≡ true
+pub word_texts-take : (line : List ℕ) (n : ℕ) → can_end line n ≡ true
     → take (length (word_texts (take n line))) (word_texts line) ≡ word_texts (take n line)
 word_texts-take line n may = elim (blank-follows line n may) [
   | inl none ↦ rw none refl

@@ -13,7 +13,8 @@ use Rattle.textwrap.proofs.Text.Tables.{cell_is}
 use Rattle.textwrap_display.specs.Shortening.{texts_of}
 use Rattle.textwrap_display.specs.Tables.{cell_line, cell_texts, Shape, shown, shown_lines}
 use Rattle.textwrap_display.specs.Tables.{AreCells, group_rows, groups_of, IsTableBy, RowGaps}
-use Rattle.textwrap_display.specs.Tables.{texts_in, ColumnMakes, ColumnParts, HaveParts, IsTable}
+use Rattle.textwrap_display.specs.Tables.{texts_in, ColumnMakes, ColumnParts, HaveParts}
+use Rattle.textwrap_display.specs.Tables.{AreTableRows}
 use Rattle.textwrap_display.specs.Tables.{IsTableOf, PartsMake, shape_of, shape_of_parts}
 use Rattle.textwrap_display.specs.Tables.{rows_of_cells}
 use Rattle.std.proofs.Math.Nat.{add-div_right, div-eq_of_lt, div-le_self}
@@ -271,7 +272,7 @@ module _ {E C : Type 0} {e : _} {c : _} where
 
   pub table-as : (columns : List (Column E C e c)) (parts : List ColumnParts)
       → HaveParts columns parts → (gaps : RowGaps) (texts rows : List (List ℕ))
-      → IsTable columns gaps texts rows → IsTableOf parts gaps texts rows
+      → AreTableRows columns gaps texts rows → IsTableOf parts gaps texts rows
   table-as columns parts have =
       table-map ColumnMakes PartsMake shape_of shape_of_parts columns parts
       (parts-make columns parts have)

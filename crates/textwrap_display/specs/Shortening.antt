@@ -8,8 +8,8 @@ use Rattle.textwrap_words.specs.Units.{text_width}
 
 -- whether a beginning of a line may end after n bytes: it is empty, or it ends in no blank, and a
 -- blank or the end of the line follows
-abbrev pub may_end : List ℕ → ℕ → Bool
-may_end line n =
+abbrev pub can_end : List ℕ → ℕ → Bool
+can_end line n =
     (n == 0) || (not (is_blank (slice_index line (n - 1)))
     && ((n == length line) || is_blank (slice_index line n)))
 
@@ -21,9 +21,9 @@ LeavesRoom width placeholder line n = text_width (take n line) + text_width plac
 -- nothing
 pub record IsKept (width : ℕ) (placeholder line : List ℕ) (n : ℕ) : Type 0 where
   pub within : n ≤ length line
-  pub ends : may_end line n ≡ true
+  pub ends : can_end line n ≡ true
   pub room : (n ≡ 0) ⊎ LeavesRoom width placeholder line n
-  pub longest : (m : ℕ) → may_end line m ≡ true → LeavesRoom width placeholder line m → m ≤ n
+  pub longest : (m : ℕ) → can_end line m ≡ true → LeavesRoom width placeholder line m → m ≤ n
 
 -- what is kept of the line, and the placeholder
 pub record IsShortened (width : ℕ) (placeholder line : List ℕ) (short : Line) : Type 0 where

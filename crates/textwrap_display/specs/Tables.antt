@@ -113,9 +113,9 @@ abbrev pub ColumnMakes : {E C : Type 0} {e : _} {c : _} → Column E C e c → L
     → Type 0
 ColumnMakes column = AreTextLines (settings_view column.options) (DividesBy column.options)
 
-abbrev pub IsTable : {E C : Type 0} {e : _} {c : _} → List (Column E C e c) → RowGaps
+abbrev pub AreTableRows : {E C : Type 0} {e : _} {c : _} → List (Column E C e c) → RowGaps
     → List (List ℕ) → List (List ℕ) → Type 0
-IsTable = IsTableBy ColumnMakes shape_of
+AreTableRows = IsTableBy ColumnMakes shape_of
 
 -- no text passes in its column, where a relation says which may
 abbrev pub AllFit : {X : Type 0} → (X → List ℕ → Type 0) → List X → List (List ℕ) → Type 0

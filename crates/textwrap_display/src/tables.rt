@@ -4,7 +4,8 @@ ghost use Rattle.std.specs.Prelude.{slice_index_or, string_bytes, alloc_error, I
 ghost use Rattle.std.specs.Prelude.{SomeIff};
 ghost use Rattle.textwrap_display.specs.Tables.{AllFit, AllFit64Bits, AreCells, ColumnParts};
 ghost use Rattle.textwrap_display.specs.Tables.{HaveParts, groups_of};
-ghost use Rattle.textwrap_display.specs.Tables.{IsTable, IsTableBy, IsTableOf, cell_line, cell_texts};
+ghost use Rattle.textwrap_display.specs.Tables.{AreTableRows, IsTableBy, IsTableOf, cell_line};
+ghost use Rattle.textwrap_display.specs.Tables.{cell_texts};
 ghost use Rattle.textwrap_display.specs.Tables.{gap_before, gaps_view, group_rows, height};
 ghost use Rattle.textwrap_display.specs.Tables.{row_text, rows_of_cells, shape_of, texts_in};
 ghost use Rattle.textwrap_lines.specs.Options.{MayOverflow};
@@ -133,7 +134,7 @@ pub fn table<A: Allocator + Copy>(
     gaps: &Gaps<'_>,
 ) -> Result<Vec<String<A>, A>, WrapError>
     ensures rows { IfOk result (λ rows.
-        IsTable columns.now (gaps_view gaps.now) (texts_in cells.now)
+        AreTableRows columns.now (gaps_view gaps.now) (texts_in cells.now)
         (map string_bytes rows.items)) }
     // The same rows, where all parts are built in and can be named.
     ensures built_in { IfOk result (λ rows. (parts : List ColumnParts) → HaveParts columns.now parts

@@ -28,7 +28,7 @@ pub use Rattle.textwrap_lines.specs.Text.{AreGroups, AreTextLines, covered_by, I
 pub use Rattle.textwrap_lines.specs.Text.{LinesKeepToWidth, HasWholeSequences, HasNoEscape}
 pub use Rattle.textwrap_lines.specs.Text.{CutsNoSequence, IsPrintedWithin, CanKeepToWidth}
 pub use Rattle.textwrap_lines.specs.Text.{ArePrintedWithin}
-pub use Rattle.textwrap_lines.specs.PieceLines.{line_of, line_so_far, lines_from, LineSoFar}
+pub use Rattle.textwrap_lines.specs.PieceLines.{line_of, line_so_far, lines_past, LineSoFar}
 pub use Rattle.textwrap_lines.specs.PieceLines.{with_piece}
 pub use Rattle.textwrap_words.specs.Units.{IsPrintable, IsPrintableByte}
 pub use Rattle.textwrap_base.specs.declared.penalties.Penalties.{Penalties}

@@ -1,4 +1,5 @@
 pub mod Common
+pub mod InSteps
 pub mod Paragraph
 pub mod PieceLines
 pub mod PlacedPieces

@@ -19,7 +19,7 @@ use Rattle.textwrap_words.proofs.Word.Words.{tiled-append, HasNoPenalty}
 use Rattle.textwrap_words.proofs.Word.Pieces.{AreTexts}
 use Rattle.textwrap_lines.proofs.Common.{Settings, pieces_of_words, front_of, text_limit}
 use Rattle.textwrap_lines.proofs.Common.{broken_pieces_of, front_pieces, later_width, first_width}
-use Rattle.textwrap_lines.proofs.Common.{indent_of, lines_from, LineSoFar, pieces_of, covered}
+use Rattle.textwrap_lines.proofs.Common.{indent_of, lines_past, LineSoFar, pieces_of, covered}
 use Rattle.textwrap_lines.proofs.Common.{with_piece, assembled_line, line_from, parts_from}
 use Rattle.textwrap_lines.proofs.Common.{parts_of, widths_of, line_of, cut_line, cut_lines}
 use Rattle.textwrap_lines.specs.PieceLines.{ComesAt, first_so_far, is_past, no_pieces}
@@ -28,7 +28,7 @@ use Rattle.textwrap_lines.proofs.Paragraph.Pieces.{pieces_of_words-measured, pie
 use Rattle.textwrap_lines.proofs.Paragraph.Pieces.{split_words-measured, split_words-no_penalty}
 use Rattle.textwrap_lines.proofs.Paragraph.Pieces.{split_words-tile, words_of-texts}
 use Rattle.textwrap_lines.specs.Layout.{break_limit, limit_at}
-use Rattle.textwrap_words.specs.PieceCuts.{pieces_at}
+use Rattle.textwrap_words.specs.PieceCuts.{pieces_from_place}
 use Rattle.textwrap_words.proofs.Word.SplitParts.{pieces-start}
 use Rattle.textwrap_base.proofs.Division.Greedy.{open_width-append, closed_width-push}
 use Rattle.textwrap_lines.proofs.Paragraph.Covered.{covered-push}
@@ -171,7 +171,7 @@ limited-pieces settings splitter paragraph words utf8 texts short =
 module _ (settings : Settings) (splitter : Splitter) (text : List ℕ) where
   -- the pieces from a place on
   abbrev pub left_at : ℕ → List Piece
-  left_at at = stand_from at (pieces_at splitter (break_limit settings) text at)
+  left_at at = stand_from at (pieces_from_place splitter (break_limit settings) text at)
 
   module _ (is_later : Bool) where
     abbrev pub begun_line : Bool → LineSoFar
@@ -183,13 +183,13 @@ module _ (settings : Settings) (splitter : Splitter) (text : List ℕ) where
     -- the pieces so far all stand on this line, and the others are left
     pub record HoldsFirst (line : LineSoFar) : Type 0 where
       pub text_is : line.text ≡ text
-      pub lines : lines_from settings empty_line (stand_from 0 (pieces_of settings splitter text))
-          ≡ lines_from settings line (left_at line.end)
+      pub lines : lines_past settings empty_line (stand_from 0 (pieces_of settings splitter text))
+          ≡ lines_past settings line (left_at line.end)
       pub come : AllCome text line.end (left_at line.end)
 
     front-lines : (front : Bool) (ws : List WordText)
-        → lines_from settings empty_line (stand_from 0 (cond front empty_front [] ++ ws))
-        ≡ lines_from settings (begun_line front) (stand_from 0 ws)
+        → lines_past settings empty_line (stand_from 0 (cond front empty_front [] ++ ws))
+        ≡ lines_past settings (begun_line front) (stand_from 0 ws)
     front-lines true ws = refl
     front-lines false ws = refl
 
@@ -202,7 +202,7 @@ module _ (settings : Settings) (splitter : Splitter) (text : List ℕ) where
     pub goes_on-start : (front : Bool) → IsUtf8 text → length text < text_limit
         → cond front empty_front [] ≡ front_of settings → HoldsFirst (begun_line front)
     goes_on-start front utf8 short front_is =
-        let rest = pieces_at splitter (break_limit settings) text 0 in
+        let rest = pieces_from_place splitter (break_limit settings) text 0 in
         let are : pieces_of settings splitter text ≡ cond front empty_front [] ++ rest =
         sym (limited-pieces settings splitter text (words_of text) utf8 (words_of-texts text utf8) short)
         ∙ ap (λ ws. front_of settings ++ ws)
@@ -210,7 +210,7 @@ module _ (settings : Settings) (splitter : Splitter) (text : List ℕ) where
         ∙ ap (λ ws. ws ++ rest) (sym front_is) in
         record {
           text_is = refl;
-          lines = ap (λ ws. lines_from settings empty_line (stand_from 0 ws)) are
+          lines = ap (λ ws. lines_past settings empty_line (stand_from 0 ws)) are
               ∙ front-lines front rest;
           come = front-come front rest
               (subst (λ ws. AllCome text 0 (stand_from 0 ws)) are
@@ -291,7 +291,7 @@ module _ (settings : Settings) (text : List ℕ) where
 
   abbrev AreLines : ℕ → ℕ → Bool → List WordText → List WordText → Type 0
   AreLines at width is_later left ps =
-      lines_from settings (so_far text at width (indent_of settings is_later) ps)
+      lines_past settings (so_far text at width (indent_of settings is_later) ps)
       (stand_from (at + length (tiled ps)) left)
       ≡ cut_lines at (parts_from settings is_later
       (grown sizes_of (later_width settings) width left ps))
@@ -308,7 +308,7 @@ module _ (settings : Settings) (text : List ℕ) where
       let p = stands_at after x in
       let rest = stand_from p.end left in
       let next = with_piece (no_pieces text after later settings.subsequent_indent) p in
-      let full = line_of settings.preserve_trailing_space here ∷ lines_from settings next rest in
+      let full = line_of settings.preserve_trailing_space here ∷ lines_past settings next rest in
       let own = cut_line at (line_from (parts_of settings is_later ps)) in
       let penalty : length x.penalty ≡ 0 =
       ap length (All-head HasNoPenalty x left (all-right HasNoPenalty ps (x ∷ left) none)) in
@@ -321,7 +321,7 @@ module _ (settings : Settings) (text : List ℕ) where
       let first_is : next ≡ so_far text after later settings.subsequent_indent (x ∷ []) =
       cc (at_none, so_far-push text after later settings.subsequent_indent [] x) in
       let next_end : p.end ≡ after + length (tiled (x ∷ [])) = ap (λ l. l.end) first_is in
-      cond_both (is_past here p) full (lines_from settings (with_piece here p) rest)
+      cond_both (is_past here p) full (lines_past settings (with_piece here p) rest)
       (λ ls. ls ≡ cut_lines at (parts_from settings is_later
       (grown sizes_of later width (x ∷ left) ps)))
       (λ past.
@@ -338,8 +338,8 @@ module _ (settings : Settings) (text : List ℕ) where
         grown-full sizes_of later width x left ps (ltb-true 0 (length ps) some)
             (omega (arith, closed, ltb-true width (open_width sizes_of ps + x.width) over)),
       ))
-      (λ room. ap (λ l. lines_from settings l rest) (so_far-push text at width indent ps x)
-      ∙ ap (λ n. lines_from settings (so_far text at width indent (ps ++ x ∷ []))
+      (λ room. ap (λ l. lines_past settings l rest) (so_far-push text at width indent ps x)
+      ∙ ap (λ n. lines_past settings (so_far text at width indent (ps ++ x ∷ []))
       (stand_from n left)) same_end ∙ lines-are left (ps ++ x ∷ []) at width is_later
       (search (rules, arith, tiled-append, append_assoc))
       (subst (All HasNoPenalty) (sym (append_assoc ps (x ∷ []) left)) none)
@@ -351,7 +351,7 @@ module _ (settings : Settings) (text : List ℕ) where
       → All HasNoPenalty pieces
       → (division : List (List WordText))
       × IsGreedy sizes_of (widths_of settings is_later) pieces division
-      × (lines_from settings
+      × (lines_past settings
       (no_pieces text 0 (first_width settings is_later) (indent_of settings is_later))
       (stand_from 0 pieces)
       ≡ cut_lines 0 (parts_from settings is_later division))

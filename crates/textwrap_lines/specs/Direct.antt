@@ -36,13 +36,13 @@ words_cut (Some cuts) paragraph = map word_of (parts_between cuts paragraph)
 abbrev pub CanBeCut : Option (List ℕ) → List ℕ → Type 0
 CanBeCut cuts paragraph = IfSome cuts (AreInnerCuts paragraph)
 
-abbrev pub places_of : Cuts → Option (List ℕ)
-places_of cuts = option_map (λ places. places.now) cuts.words
+abbrev pub cuts_of : Cuts → Option (List ℕ)
+cuts_of cuts = option_map (λ places. places.now) cuts.words
 
 -- its pieces
 abbrev pub pieces_cut : Settings → Cuts → List ℕ → List WordText
 pieces_cut settings cuts paragraph =
-    pieces_of_words settings (as_splitter cuts.splitter) (words_cut (places_of cuts) paragraph)
+    pieces_of_words settings (as_splitter cuts.splitter) (words_cut (cuts_of cuts) paragraph)
 
 -- these are the pieces of a paragraph that can be cut there into the words that a function names
 pub record ArePiecesCut (words : List ℕ → List WordText) (settings : Settings) (splitter : Splitter)

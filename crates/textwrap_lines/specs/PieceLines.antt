@@ -1,7 +1,7 @@
 -- Lines by first fit that are found piece by piece, by where the pieces stand.
 use Rattle.std.specs.Prelude.{◌≡◌, ℕ, ◌+◌, ◌-◌, ◌≤◌, Bool, true, false, ◌&&◌, nat_lt, List, [], ◌∷◌}
 use Rattle.std.specs.Prelude.{if◌then◌else◌, slice_range, IsCharBoundary}
-use Rattle.textwrap_words.specs.PieceCuts.{pieces_at}
+use Rattle.textwrap_words.specs.PieceCuts.{pieces_from_place}
 use Rattle.textwrap_words.specs.Pieces.{stand_from}
 use Rattle.textwrap_words.specs.WordSplitters.{Splitter}
 use Rattle.textwrap_words.specs.declared.pieces.Piece.{Piece}
@@ -99,26 +99,26 @@ is_past line piece = line.begun && nat_lt line.width (line.columns + piece.width
 
 module _ (settings : Settings) where
   -- the lines, where these pieces follow those on the line
-  abbrev pub lines_from : LineSoFar → List Piece → List CutLine
-  lines_from line [] = line_of settings.preserve_trailing_space line ∷ []
-  lines_from line (p ∷ ps) =
+  abbrev pub lines_past : LineSoFar → List Piece → List CutLine
+  lines_past line [] = line_of settings.preserve_trailing_space line ∷ []
+  lines_past line (p ∷ ps) =
       if is_past line p
       then line_of settings.preserve_trailing_space line
-      ∷ lines_from (with_piece (no_pieces line.text line.end (later_width settings)
+      ∷ lines_past (with_piece (no_pieces line.text line.end (later_width settings)
       settings.subsequent_indent) p) ps
-      else lines_from (with_piece line p) ps
+      else lines_past (with_piece line p) ps
 
   -- the lines of these pieces, which follow those on the line: none where none is left
   abbrev pub lines_left : LineSoFar → List Piece → List CutLine
   lines_left line [] = []
-  lines_left line (p ∷ ps) = lines_from line (p ∷ ps)
+  lines_left line (p ∷ ps) = lines_past line (p ∷ ps)
 
   -- of the lines of a paragraph this is the first, and it goes up to a place: the others are those
   -- of the pieces from there on
   abbrev pub IsFirstUpTo : Splitter → Bool → List ℕ → CutLine → ℕ → Type 0
   IsFirstUpTo splitter is_later text line end =
-      lines_from (no_pieces text 0 (first_width settings is_later) (indent_of settings is_later))
+      lines_past (no_pieces text 0 (first_width settings is_later) (indent_of settings is_later))
       (stand_from 0 (pieces_of settings splitter text))
       ≡ line
       ∷ lines_left (no_pieces text end (later_width settings) settings.subsequent_indent)
-      (stand_from end (pieces_at splitter (break_limit settings) text end))
+      (stand_from end (pieces_from_place splitter (break_limit settings) text end))

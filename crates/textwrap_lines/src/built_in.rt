@@ -3,7 +3,7 @@
 ghost use Rattle.std.specs.Prelude.{◌≡◌, IfOk, Some, map};
 ghost use Rattle.textwrap_words.specs.Words.{Tiles, word_view};
 ghost use Rattle.textwrap_words.specs.WrapAlgorithms.{algorithm_view};
-ghost use Rattle.textwrap_lines.specs.Direct.{CanBeCut, as_algorithm, pieces_cut, places_of};
+ghost use Rattle.textwrap_lines.specs.Direct.{CanBeCut, as_algorithm, pieces_cut, cuts_of};
 ghost use Rattle.textwrap_lines.specs.Options.{layout_view};
 
 use crate::any_options::{AnyOptions, BuiltInAlgorithm, BuiltInParts};
@@ -116,7 +116,7 @@ fn list_pieces<'t, A: Allocator>(
     layout: &Layout<'_>,
     cuts: &Cuts<'_>,
 ) -> Result<Vec<Word<'t>, A>, AllocError>
-    requires { CanBeCut (places_of cuts.now) paragraph.now }
+    requires { CanBeCut (cuts_of cuts.now) paragraph.now }
     ensures pieces { IfOk result (λ pieces. map word_view pieces.items
         ≡ pieces_cut (layout_view layout.now) cuts.now paragraph.now) }
     ensures tiles { IfOk result (λ pieces. Tiles (map word_view pieces.items) paragraph.now) }

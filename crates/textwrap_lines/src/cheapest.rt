@@ -9,7 +9,7 @@ ghost use Rattle.textwrap_base.specs.Queue.{SuitQueue};
 ghost use Rattle.textwrap_base.specs.Table.{fragment_costs, FollowStarts, IsByTable};
 ghost use Rattle.textwrap_words.specs.Words.{WordText, sizes_of};
 ghost use Rattle.textwrap_lines.specs.Cheapest.{SuitSearch};
-ghost use Rattle.textwrap_lines.specs.Direct.{CanBeCut, pieces_cut, places_of};
+ghost use Rattle.textwrap_lines.specs.Direct.{CanBeCut, pieces_cut, cuts_of};
 ghost use Rattle.textwrap_lines.specs.LineSinks.{Took};
 ghost use Rattle.textwrap_lines.specs.Options.{layout_view};
 ghost use Rattle.textwrap_lines.specs.Paragraph.{parts_from, widths_of};
@@ -63,7 +63,7 @@ pub(crate) fn push_cheapest_lines<'t, A: Allocator + Copy, S: LineSink<'t, A>>(
     penalties: &Penalties,
     lines: &mut S,
 ) -> Result<(), AllocError>
-    requires cuts { CanBeCut (places_of cuts.now) paragraph.now }
+    requires cuts { CanBeCut (cuts_of cuts.now) paragraph.now }
     requires some { 0 < length paragraph.now }
     requires suits { SuitSearch (length paragraph.now)
         (widths_of (layout_view layout.now) is_later) penalties.now }

@@ -11,7 +11,7 @@ ghost use Rattle.textwrap_words.specs.Units.{IsPrintable};
 ghost use Rattle.textwrap_words.specs.Words.{WordText, sizes_of, word_of};
 ghost use Rattle.textwrap_words.specs.WrapAlgorithms.{IsDividedBy};
 ghost use Rattle.textwrap_lines.specs.Direct.{CanBeCut, HasMethods, IsDirect, as_algorithm, pieces_cut};
-ghost use Rattle.textwrap_lines.specs.Direct.{places_of};
+ghost use Rattle.textwrap_lines.specs.Direct.{cuts_of};
 ghost use Rattle.textwrap_lines.specs.LineSinks.{Took};
 ghost use Rattle.textwrap_lines.specs.Options.{layout_view};
 ghost use Rattle.textwrap_lines.specs.Paragraph.{first_width, later_width, parts_from};
@@ -56,7 +56,7 @@ pub(crate) fn push_directly<'t, A: Allocator + Copy, S: LineSink<'t, A>>(
     algorithm: BuiltInAlgorithm,
     lines: &mut S,
 ) -> Result<bool, AllocError>
-    requires { CanBeCut (places_of cuts.now) paragraph.now }
+    requires { CanBeCut (cuts_of cuts.now) paragraph.now }
     ensures name { S.name lines.new ≡ S.name lines.old }
     ensures done { S.never_fails → algorithm ≡ BuiltInAlgorithm.FirstFit
         → IsOkAnd result (λ pushed. pushed ≡ true) }

@@ -14,12 +14,11 @@ pub use crate::any_options::{AnyOptions, BuiltInAlgorithm, BuiltInParts};
 pub use crate::built_in::BuiltInOptions;
 pub use crate::filling::{fill_by, fill_into};
 pub use crate::layout::{Layout, next_indent};
-use crate::line_sinks::ListedLines;
 pub use crate::options::DEFAULTS;
 use crate::options::Options;
 pub use crate::placed::{place_into, place_lines_by};
 pub use crate::printable_cuts::PrintableCuts;
-pub use crate::wrapping::{break_pieces, wrap_by, wrap_paragraph};
+pub use crate::wrapping::{wrap_by, wrap_paragraph};
 use crate::{layout, wrapping};
 use std::alloc::{AllocError, Allocator};
 use std::borrow::CowStr;
@@ -60,29 +59,4 @@ pub fn whole_line<'t>(paragraph: &'t str, options: &Options<'_>) -> &'t str
         else without_final_blanks paragraph.now) }
 {
     wrapping::whole_line(paragraph, &Layout::of(options))
-}
-
-/// The line of each list of pieces, as [`wrap`](crate::wrap) lists lines. Together the pieces tile the
-/// paragraph, or its beginning. `is_later` says that a line stands before them.
-///
-/// # Errors
-/// [`AllocError`] where memory runs out.
-pub fn list_division<'t, A: Allocator + Copy>(
-    alloc: A,
-    paragraph: &'t str,
-    division: &[&[Word<'_>]],
-    options: &Options<'_>,
-    is_later: bool,
-) -> Result<Vec<CowStr<'t, A>, A>, AllocError>
-    requires { StartsWith paragraph.now
-        (flat_map (λ line. tiled (map word_view line.now)) division.now) }
-    ensures { IfOk result (λ lines. map line_view lines.items
-        ≡ map line_from (parts_from (settings_view options.now) is_later
-        (map (λ line. map word_view line.now) division.now))) }
-{
-    let layout = Layout::of(options);
-    let mut list = Vec::new(alloc);
-    let mut lines = ListedLines { lines: &mut list };
-    wrapping::push_lines(alloc, paragraph, division, &layout, is_later, &mut lines)?;
-    Ok(list)
 }

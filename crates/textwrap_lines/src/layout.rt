@@ -1,7 +1,7 @@
 //! The widths and the indents that the lines of a paragraph have, where its words are broken, and its
 //! pieces.
 ghost use Rattle.std.specs.Prelude.{◌≡◌, [], if◌then◌else◌};
-ghost use Rattle.textwrap_lines.specs.Direct.{CanBeCut, pieces_cut, places_of};
+ghost use Rattle.textwrap_lines.specs.Direct.{CanBeCut, pieces_cut, cuts_of};
 ghost use Rattle.textwrap_lines.specs.PiecesLeft.{left_standing};
 ghost use Rattle.textwrap_words.specs.Pieces.{as_splitter, empty_front, stand_from};
 ghost use Rattle.textwrap_words.specs.PiecesLeft.{standing_left};
@@ -177,7 +177,7 @@ pub(crate) fn cut_paragraph<'t, 'c>(
     layout: &Layout<'_>,
     cuts: &Cuts<'c>,
 ) -> ParagraphPieces<'t, 'c>
-    requires { CanBeCut (places_of cuts.now) paragraph.now }
+    requires { CanBeCut (cuts_of cuts.now) paragraph.now }
     ensures { left_standing result
         ≡ stand_from 0 (pieces_cut (layout_view layout.now) cuts.now paragraph.now) }
 {

@@ -1,6 +1,6 @@
 //! The middle of `textwrap`: a text cut into lines for a width, and these lines joined. The crate
-//! `textwrap` passes its public items on, but for the modules `inner`, `parts` and `placed`. The items
-//! have the examples.
+//! `textwrap` passes its public items on, but for the modules `inner`, `parts`, `placed` and
+//! `steps`. The items have the examples.
 #![tactic(auto)]
 
 pub use filling::fill;
@@ -29,5 +29,6 @@ mod places;
 mod printable;
 mod printable_cuts;
 mod spans;
+pub mod steps;
 mod wrapping;
 mod written;

@@ -4,7 +4,7 @@ ghost use Rattle.std.specs.Prelude.{◌≡◌, ℕ, ◌*◌, ◌^◌, ◌+◌, �
 ghost use Rattle.std.specs.Prelude.{IsCharBoundary, OnOk, IsOk};
 ghost use Rattle.textwrap_base.specs.Division.{IsGreedy};
 ghost use Rattle.textwrap_words.specs.Words.{WordText, sizes_of};
-ghost use Rattle.textwrap_lines.specs.Direct.{CanBeCut, pieces_cut, places_of};
+ghost use Rattle.textwrap_lines.specs.Direct.{CanBeCut, pieces_cut, cuts_of};
 ghost use Rattle.textwrap_lines.specs.LineSinks.{Took};
 ghost use Rattle.textwrap_lines.specs.Options.{layout_view};
 ghost use Rattle.textwrap_lines.specs.Paragraph.{parts_from, text_limit};
@@ -55,7 +55,7 @@ pub(crate) fn push_lines_by_pieces<'t, A: Allocator + Copy, S: LineSink<'t, A>>(
     cuts: &Cuts<'_>,
     lines: &mut S,
 ) -> Result<(), AllocError>
-    requires { CanBeCut (places_of cuts.now) paragraph.now }
+    requires { CanBeCut (cuts_of cuts.now) paragraph.now }
     ensures name { S.name lines.new ≡ S.name lines.old }
     ensures done { S.never_fails → IsOk result }
     ensures took { OnOk result ((division : List (List WordText))

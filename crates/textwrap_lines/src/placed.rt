@@ -147,7 +147,7 @@ fn reported_line(place: Place) -> TextwrapLine
 ///
 /// # Errors
 /// [`AllocError`] where memory runs out.
-pub fn push_division<A: Allocator + Copy>(
+pub(crate) fn push_division<A: Allocator + Copy>(
     alloc: A,
     lines: &mut PlacedLines<A>,
     start: usize,

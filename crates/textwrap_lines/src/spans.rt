@@ -1,6 +1,6 @@
 //! Where the pieces of a paragraph stand in it, and what those before them take.
 ghost use Rattle.std.specs.Prelude.{◌≡◌, IfOk};
-ghost use Rattle.textwrap_lines.specs.Direct.{CanBeCut, pieces_cut, places_of};
+ghost use Rattle.textwrap_lines.specs.Direct.{CanBeCut, pieces_cut, cuts_of};
 ghost use Rattle.textwrap_lines.specs.Options.{layout_view};
 ghost use Rattle.textwrap_lines.specs.Spans.{spans_from, span_priced};
 
@@ -47,7 +47,7 @@ pub(crate) fn find_spans<A: Allocator>(
     layout: &Layout<'_>,
     cuts: &Cuts<'_>,
 ) -> Result<Vec<Span, A>, AllocError>
-    requires { CanBeCut (places_of cuts.now) paragraph.now }
+    requires { CanBeCut (cuts_of cuts.now) paragraph.now }
     ensures { IfOk result (λ spans. spans.items ≡ spans_from 0 0
         (pieces_cut (layout_view layout.now) cuts.now paragraph.now)) }
 {

@@ -488,7 +488,7 @@ fn find_pieces<'t, A: Allocator + Copy>(
 ///
 /// # Errors
 /// [`AllocError`] where memory runs out.
-pub fn break_pieces<'t, A: Allocator + Copy>(
+pub(crate) fn break_pieces<'t, A: Allocator + Copy>(
     alloc: A,
     split: Vec<Word<'t>, A>,
     options: &Options<'_>,

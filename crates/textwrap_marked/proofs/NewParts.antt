@@ -6,7 +6,7 @@ use Rattle.textwrap_lines.specs.LineEnding.{ending_bytes}
 use Rattle.textwrap_marked.proofs.PlainLines.{IsPlainBlock, text-plain}
 use Rattle.textwrap_marked.proofs.TextParts.{text-parts}
 use Rattle.textwrap_marked.specs.Blocks.{blocks, is_beside}
-use Rattle.textwrap_marked.specs.Laws.{AreNewParts, AreOfParts, Part, parts_from, text_parts}
+use Rattle.textwrap_marked.specs.Laws.{AreNewParts, AreOfParts, Part, parts_of_blocks, text_parts}
 use Rattle.textwrap_marked.specs.Lines.{LineText, lines_of}
 use Rattle.textwrap_marked.specs.Reflow.{byte_order_mark, filled_ending, IsLaidOut, IsOfBlock}
 use Rattle.textwrap_marked.specs.Reflow.{IsReflowed, IsReflowedBehind, IsReflowedFrom}
@@ -18,7 +18,7 @@ module _ (options : ReflowOptions) (IsNew : List ℕ → Part → List ℕ → T
     → IsNew ending (record { stays = is_kept; first = first; lines = lines }) text) where
   laid-new : (ending : List ℕ) (beside : Bool) (bs : List (List LineText)) (text : List ℕ)
       → All IsPlainBlock bs → IsLaidOut options ending beside bs text
-      → AreNewParts (IsNew ending) (parts_from beside bs) text
+      → AreNewParts (IsNew ending) (parts_of_blocks beside bs) text
   laid-new ending beside [] text plain is = is
   laid-new ending beside ([] ∷ bs) text plain laid =
       laid-new ending beside bs text (All-tail IsPlainBlock [] bs plain) laid

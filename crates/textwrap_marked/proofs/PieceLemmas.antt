@@ -4,7 +4,7 @@ use Rattle.textwrap_base.proofs.Common.{List, [], ◌∷◌, ◌++◌, length, r
 use Rattle.textwrap_base.proofs.Common.{append_assoc, append-nil, length-append, drop, take}
 use Rattle.textwrap_base.proofs.Common.{slice_range, drop_at, take_at, ne_eqb, flat_map}
 use Rattle.textwrap_words.specs.Blanks.{blank}
-use Rattle.textwrap_words.specs.Cuts.{parts_between, parts_from}
+use Rattle.textwrap_words.specs.Cuts.{parts_between, parts_onward}
 use Rattle.textwrap_marked.specs.Pieces.{cuts_from, is_cut, onto_front, pieces}
 use Rattle.textwrap_marked.specs.Pieces.{with_blank}
 use Rattle.textwrap_marked.specs.declared.options.ReflowOptions.{ReflowOptions}
@@ -32,7 +32,7 @@ module _ (options : ReflowOptions) (starred : Bool) where
   parts-pieces : (text front chunk word : List ℕ) (words : List (List ℕ)) (start at : ℕ)
       → start ≡ length front → at ≡ length front + length chunk
       → text ≡ front ++ (chunk ++ flat_map with_blank (word ∷ words))
-      → parts_from start (cuts_from options starred at (word ∷ words)) text
+      → parts_onward start (cuts_from options starred at (word ∷ words)) text
       ≡ onto_front chunk (pieces options starred (word ∷ words))
   parts-pieces text front chunk word [] start at s a is =
       ap (λ l. l ∷ []) (ap (drop start) (is ∙ ap (λ l. front ++ (chunk ++ l)) (append-nil (with_blank word)))
@@ -47,7 +47,7 @@ module _ (options : ReflowOptions) (starred : Bool) where
       let later = pieces options starred (next ∷ words) in
       let cuts = cuts_from options starred end (next ∷ words) in
       elim (is_cut options starred word (next ∷ words)) as (λ b.
-      parts_from start (cond b (end ∷ cuts) cuts) text
+      parts_onward start (cond b (end ∷ cuts) cuts) text
       ≡ onto_front chunk (cond b (piece ∷ later) (onto_front piece later))) [
         | true ↦
             let cut : slice_range text start end ≡ chunk ++ piece =
@@ -55,7 +55,7 @@ module _ (options : ReflowOptions) (starred : Bool) where
             ∙ ap (take (end - start)) (drop_at front ((chunk ++ piece) ++ rest) start (sym s))
             ∙ take_at (chunk ++ piece) rest (end - start) (omega (arith, a, s, long)) in
             let past = length-append front (chunk ++ piece) in
-            ap (λ l. l ∷ parts_from end cuts text) cut
+            ap (λ l. l ∷ parts_onward end cuts text) cut
             ∙ ap (λ l. (chunk ++ piece) ∷ l) (parts-pieces text (front ++ (chunk ++ piece)) [] next
             words end end (omega (arith, a, long, past)) (omega (arith, a, long, past))
             (whole ∙ sym (append_assoc front (chunk ++ piece) rest)) ∙ onto_front-nil next words)

@@ -7,7 +7,7 @@ use Rattle.std.proofs.lemmas.Grind.{flat_map-append}
 use Rattle.textwrap_base.proofs.Lists.Parts.{flat}
 use Rattle.std.proofs.lemmas.List.Splits.{join_with_byte-slice_split}
 use Rattle.textwrap_marked.specs.Blocks.{blocks, goes_on, is_beside, with_line}
-use Rattle.textwrap_marked.specs.Laws.{parts_from, source, text_parts}
+use Rattle.textwrap_marked.specs.Laws.{parts_of_blocks, source, text_parts}
 use Rattle.textwrap_marked.specs.Lines.{entered, first_state, line_of, LineText, passed, read_lines}
 use Rattle.textwrap_marked.specs.Lines.{StateText, with_titles}
 use Rattle.textwrap_marked.specs.Reflow.{ending_if, kept_line}
@@ -52,7 +52,7 @@ blocks-flat (line ∷ lines) =
     with_line-flat line (blocks lines) ∙ ap (λ l. line ∷ l) (blocks-flat lines)
 
 parts-text : (beside : Bool) (bs : List (List LineText))
-    → flat_map source (parts_from beside bs) ≡ lines-text (flat bs)
+    → flat_map source (parts_of_blocks beside bs) ≡ lines-text (flat bs)
 parts-text beside [] = refl
 parts-text beside ([] ∷ bs) = parts-text beside bs
 parts-text beside ((first ∷ lines) ∷ bs) =

@@ -32,18 +32,18 @@ pub record Part : Type 0 where
   pub lines : List LineText
 
 -- blocks as parts, where a field stands beside the first of them, if it is one
-abbrev pub parts_from : Bool → List (List LineText) → List Part
-parts_from beside [] = []
-parts_from beside ([] ∷ blocks) = parts_from beside blocks
-parts_from beside ((first ∷ lines) ∷ blocks) =
+abbrev pub parts_of_blocks : Bool → List (List LineText) → List Part
+parts_of_blocks beside [] = []
+parts_of_blocks beside ([] ∷ blocks) = parts_of_blocks beside blocks
+parts_of_blocks beside ((first ∷ lines) ∷ blocks) =
     record {
       stays = stays (beside || is_beside first blocks) first;
       first = first;
       lines = first ∷ lines;
-    } ∷ parts_from (is_beside first blocks) blocks
+    } ∷ parts_of_blocks (is_beside first blocks) blocks
 
 abbrev pub text_parts : ReflowOptions → List ℕ → List Part
-text_parts options text = parts_from false (blocks (lines_of options text))
+text_parts options text = parts_of_blocks false (blocks (lines_of options text))
 
 -- a part as it stands in the text
 abbrev pub source : Part → List ℕ

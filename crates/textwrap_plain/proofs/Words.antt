@@ -12,7 +12,7 @@ use Rattle.textwrap_words.proofs.Word.Parts.{parts-texts, inner-cuts}
 use Rattle.textwrap_words.proofs.Word.Pieces.{AreTexts, AreTexts-words, ArePoints-cuts}
 use Rattle.textwrap_words.proofs.Word.Pieces.{ArePoints-hyphens}
 use Rattle.textwrap_words.proofs.Word.Words.{AreChunks-chunks, words_unique}
-use Rattle.textwrap_words.specs.Cuts.{AreInnerCuts, parts_between, parts_from}
+use Rattle.textwrap_words.specs.Cuts.{AreInnerCuts, parts_between, parts_onward}
 use Rattle.textwrap_unicode.proofs.CutLemmas.{cuts_at-AreInnerCuts}
 use Rattle.textwrap_unicode.specs.Breaks.{breaks_by}
 use Rattle.textwrap_unicode.specs.Cuts.{cuts_by, offsets_of}
@@ -45,7 +45,7 @@ words_by-texts (AtBreaks numbers) line utf8 =
 
 parts_from-some : (start : ℕ) (cuts line : List ℕ) → IsRising (start ∷ cuts)
     → start < length line → All (λ cut. cut < length line) cuts
-    → All (λ part. part ≢ []) (parts_from start cuts line)
+    → All (λ part. part ≢ []) (parts_onward start cuts line)
 parts_from-some start [] line rising within all =
     All-cons (λ part. part ≢ []) (drop start line) []
     (λ none. omega (arith, within, ap length none, length-drop start line))
@@ -53,7 +53,7 @@ parts_from-some start [] line rising within all =
 parts_from-some start (cut ∷ cuts) line rising within all =
     let before : start < cut = rising zero (suc zero) (omega arith) (omega arith) in
     let here = All-head (λ cut. cut < length line) cut cuts all in
-    All-cons (λ part. part ≢ []) (slice_range line start cut) (parts_from cut cuts line)
+    All-cons (λ part. part ≢ []) (slice_range line start cut) (parts_onward cut cuts line)
     (λ none. omega (arith, before, here, ap length none, length-slice line start cut (omega (arith, before))))
     (parts_from-some cut cuts line (λ i j lt within. rising (suc i) (suc j) (omega arith) (omega arith)) here
     (All-tail (λ cut. cut < length line) cut cuts all))

@@ -4,7 +4,7 @@ use Rattle.std.specs.Prelude.{if◌then◌else◌}
 use Rattle.textwrap.specs.Cuts.{AreInnerCuts}
 use Rattle.textwrap.specs.Options.{settings_at}
 use Rattle.textwrap.specs.Words.{WordText, tile_of, words_of}
-use Rattle.textwrap_steps.specs.Steps.{pieces_at}
+use Rattle.textwrap_lines.specs.Steps.{pieces_at}
 use Rattle.textwrap_uses.specs.declared.hyphens.Entry.{Entry}
 
 -- the points of the first entry with this text, or none

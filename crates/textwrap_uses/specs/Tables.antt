@@ -1,6 +1,6 @@
 -- What a table in columns shows of the lines of a text.
 use Rattle.std.specs.Prelude.{◌≡◌, ℕ, ◌*◌, ◌≤◌, List, [], ◌++◌, All, codes, replicate, sum_by}
-use Rattle.textwrap.specs.Columns.{Layout, layout_of, inner_width, row_count, cells}
+use Rattle.textwrap.specs.Columns.{RowLayout, layout_of, inner_width, row_count, cells}
 use Rattle.textwrap.specs.Columns.{row_parts, cells_by_column}
 use Rattle.textwrap.specs.Units.{text_width}
 
@@ -9,7 +9,7 @@ abbrev pub barred_width : ℕ → ℕ → ℕ
 barred_width width columns = inner_width width columns (codes "| ") (codes " | ") (codes " |")
 
 -- how wide each column is, and what bars stand around and between
-abbrev pub barred : ℕ → ℕ → Layout
+abbrev pub barred : ℕ → ℕ → RowLayout
 barred width columns = layout_of width columns (codes "| ") (codes " | ") (codes " |")
 
 -- the cells of the table, one column after another, are the lines, and then empty ones
@@ -21,7 +21,7 @@ IsEachShownOnce lines columns =
 -- bars leave room for all columns
 abbrev pub IsEven : ℕ → ℕ → List (List ℕ) → Type 0
 IsEven width columns lines =
-    let layout : Layout = barred width columns in
+    let layout : RowLayout = barred width columns in
     columns * layout.column_width ≤ barred_width width columns
     → All (λ line. text_width line ≤ layout.column_width) lines
     → (r : ℕ)

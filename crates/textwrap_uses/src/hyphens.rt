@@ -14,7 +14,7 @@ use textwrap::word_separators::Words;
 use textwrap::words::Word;
 use textwrap::{Options, WordSeparator, wrap_algorithms};
 use textwrap_lines::placed::PlacedLines;
-use textwrap_steps::steps::{are_inner_cuts, lines_at, pieces_at};
+use textwrap_lines::steps::{are_inner_cuts, lines_at, pieces_at};
 
 /// A word, and where it may be split: offsets in bytes.
 #[derive(Clone, Copy, Debug)]

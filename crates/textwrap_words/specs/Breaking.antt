@@ -67,15 +67,15 @@ is_due limit width (Visible c) = nat_lt 0 width && nat_lt limit (width + columns
 is_due limit width (Sequence cs) = false
 
 -- what a part that has `width` columns takes of the units that follow it, and the parts after it
-abbrev pub parts_after : ℕ → ℕ → List TextUnit → List (List TextUnit)
-parts_after limit width [] = [] ∷ []
-parts_after limit width (u ∷ us) =
-    if is_due limit width u then [] ∷ onto_first u (parts_after limit (unit_width u) us)
-    else onto_first u (parts_after limit (width + unit_width u) us)
+abbrev pub parts_left : ℕ → ℕ → List TextUnit → List (List TextUnit)
+parts_left limit width [] = [] ∷ []
+parts_left limit width (u ∷ us) =
+    if is_due limit width u then [] ∷ onto_first u (parts_left limit (unit_width u) us)
+    else onto_first u (parts_left limit (width + unit_width u) us)
 
 abbrev pub broken_units : ℕ → List TextUnit → List (List TextUnit)
 broken_units limit [] = []
-broken_units limit (u ∷ us) = parts_after limit 0 (u ∷ us)
+broken_units limit (u ∷ us) = parts_left limit 0 (u ∷ us)
 
 -- the texts of the pieces of a text
 abbrev pub broken_texts : ℕ → List ℕ → List (List ℕ)

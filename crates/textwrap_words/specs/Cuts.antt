@@ -21,13 +21,13 @@ abbrev pub AreInnerCuts : List ℕ → List ℕ → Type 0
 AreInnerCuts text cuts = AreLaterCuts 0 text cuts
 
 -- the parts of what follows an offset, between later cuts
-abbrev pub parts_from : ℕ → List ℕ → List ℕ → List (List ℕ)
-parts_from start [] text = drop start text ∷ []
-parts_from start (cut ∷ cuts) text = slice_range text start cut ∷ parts_from cut cuts text
+abbrev pub parts_onward : ℕ → List ℕ → List ℕ → List (List ℕ)
+parts_onward start [] text = drop start text ∷ []
+parts_onward start (cut ∷ cuts) text = slice_range text start cut ∷ parts_onward cut cuts text
 
 -- the same, where an empty rest has no parts
 abbrev pub parts_after : ℕ → List ℕ → List ℕ → List (List ℕ)
-parts_after start cuts text = if length text == start then [] else parts_from start cuts text
+parts_after start cuts text = if length text == start then [] else parts_onward start cuts text
 
 -- the parts of a text between these cuts, which increase, above 0 and below its length; an empty
 -- text has no parts

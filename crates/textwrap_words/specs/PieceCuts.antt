@@ -31,8 +31,8 @@ abbrev pub pieces_from : (ℕ → Bool) → ℕ → List ℕ → ℕ → List Wo
 pieces_from test limit text at = broken_words limit (map word_of (parts_by test at (drop at text)))
 
 -- the same of a text with words between blanks
-abbrev pub pieces_at : Splitter → ℕ → List ℕ → ℕ → List WordText
-pieces_at splitter limit text at = pieces_from (is_piece_cut splitter text) limit text at
+abbrev pub pieces_from_place : Splitter → ℕ → List ℕ → ℕ → List WordText
+pieces_from_place splitter limit text at = pieces_from (is_piece_cut splitter text) limit text at
 
 -- the same of a text that is one word with its blanks
 abbrev pub pieces_within : Splitter → ℕ → List ℕ → ℕ → List WordText

@@ -3,7 +3,7 @@ use Rattle.std.specs.Prelude.{◌≡◌, ◌≢◌, ℕ, ◌+◌, ◌<◌, ◌�
 use Rattle.std.specs.Prelude.{List, [], ◌∷◌, length, slice_index, slice_range, IsCharBoundary}
 use Rattle.textwrap_words.specs.Blanks.{blank, is_blank, BlanksBetween, trimmed_len}
 use Rattle.textwrap_words.specs.Breaking.{broken_texts}
-use Rattle.textwrap_words.specs.PieceCuts.{is_point, pieces_at, pieces_within}
+use Rattle.textwrap_words.specs.PieceCuts.{is_point, pieces_from_place, pieces_within}
 use Rattle.textwrap_words.specs.Units.{IsPrintableByte, text_width}
 use Rattle.textwrap_words.specs.WordSplitters.{hyphen, Splitter, Whole, AtHyphens}
 use Rattle.textwrap_words.specs.Words.{WordText}
@@ -67,14 +67,14 @@ pub record IsFirstWord (splitter : Splitter) (limit : ℕ) (text : List ℕ)
   pub boundary : IsCharBoundary text word_end
   pub first : (end : ℕ) → word_end ≤ end → end ≤ length text → BlanksBetween text word_end end
       → (end < length text → is_blank (slice_index text end) ≡ false)
-      → pieces_at splitter limit text at
+      → pieces_from_place splitter limit text at
       ≡ record {
         word = slice_range text at word_end;
         whitespace = slice_range text word_end end;
         penalty = [];
         width = width;
       }
-      ∷ pieces_at splitter limit text end
+      ∷ pieces_from_place splitter limit text end
 
 -- the first piece of a word with its blanks, from the place on
 pub record IsFirstWithin (splitter : Splitter) (limit : ℕ) (text : List ℕ) (at : ℕ)

@@ -3,7 +3,7 @@ ghost use Rattle.std.specs.Prelude.{◌≡◌, ◌≢◌, ℕ, ◌+◌, ◌<◌,
 ghost use Rattle.std.specs.Prelude.{slice_index, nat_lt, ◌&&◌, ◌∷◌, if◌then◌else◌, IsCharBoundary};
 ghost use Rattle.textwrap_words.specs.Blanks.{blank, is_blank};
 ghost use Rattle.textwrap_words.specs.Breaking.{broken_words};
-ghost use Rattle.textwrap_words.specs.PieceCuts.{is_point, pieces_at};
+ghost use Rattle.textwrap_words.specs.PieceCuts.{is_point, pieces_from_place};
 ghost use Rattle.textwrap_words.specs.Pieces.{as_splitter, stand_from, empty_front};
 ghost use Rattle.textwrap_words.specs.Pieces.{is_stop, IsFirstStop, IsFirstWord, IsLetter};
 ghost use Rattle.textwrap_words.specs.WordSplitters.{split_words};
@@ -101,9 +101,9 @@ pub fn next_piece(text: &str, at: usize, limit: usize, splitter: BuiltInSplitter
     requires boundary { IsCharBoundary text.now at }
     requires inside { at < length text.now }
     ensures boundary { IsCharBoundary text.now result.end }
-    ensures first { stand_from at (pieces_at (as_splitter splitter) limit text.now at)
+    ensures first { stand_from at (pieces_from_place (as_splitter splitter) limit text.now at)
         ≡ result ∷ stand_from result.end
-        (pieces_at (as_splitter splitter) limit text.now result.end) }
+        (pieces_from_place (as_splitter splitter) limit text.now result.end) }
 {
     let (word_end, width) = first_word(text, at, limit, splitter);
     Piece {

@@ -8,7 +8,8 @@ use Rattle.textwrap_base.proofs.Common.{length-append, ◌^◌, flat_map, All, s
 use Rattle.textwrap_base.proofs.Common.{All-tail, sum_by-cons, sum_by-append, Bool}
 use Rattle.textwrap_lines.proofs.Common.{join_with, line_view, line_bytes, Settings, settings_view}
 use Rattle.textwrap_lines.proofs.Common.{Line, IsDividedInto, DividesBy, AreTextLines}
-use Rattle.textwrap.proofs.Common.{Layout, blanks, cell, padded, gapped, cells, row_text, layout_of}
+use Rattle.textwrap.proofs.Common.{RowLayout, blanks, cell, padded, gapped, cells, row_text}
+use Rattle.textwrap.proofs.Common.{layout_of}
 use Rattle.textwrap.proofs.Common.{inner_width}
 use Rattle.std.specs.Cow.{cow_str_bytes}
 use Rattle.textwrap_words.proofs.Word.Words.{text_width-nil}
@@ -44,7 +45,7 @@ cell_is lines line step first c at place within is =
     ∙ ap (λ l. line_bytes (line_view l)) (sym is) ∙ line_bytes-line_view line
 
 -- the later cells with one more
-pub gapped-more : (layout : Layout) (lines : List (List ℕ)) (step first later : ℕ)
+pub gapped-more : (layout : RowLayout) (lines : List (List ℕ)) (step first later : ℕ)
     (before row : List ℕ)
     → row ≡ before ++ gapped layout (map (cell lines step first) (range_with_len 1 later))
     → (row ++ layout.middle) ++ padded layout.column_width (cell lines step first (later + 1))
@@ -57,7 +58,7 @@ padded-nil : (width : ℕ) → padded width [] ≡ blanks width
 padded-nil width = search (rules, text_width-nil)
 
 -- the cells after the last line
-gapped-missing : (layout : Layout) (lines : List (List ℕ)) (step first c count : ℕ)
+gapped-missing : (layout : RowLayout) (lines : List (List ℕ)) (step first c count : ℕ)
     → length lines ≤ first + c * step
     → gapped layout (map (cell lines step first) (range_with_len c count))
     ≡ repeat count (layout.middle ++ blanks layout.column_width)
@@ -71,14 +72,14 @@ gapped-missing layout lines step first c (suc count) past =
     )
 
 -- joined cells are the first, and the others after the middle gap each
-pub join-gapped : (layout : Layout) (x : List ℕ) (xs : List (List ℕ))
+pub join-gapped : (layout : RowLayout) (x : List ℕ) (xs : List (List ℕ))
     → join_with layout.middle (map (padded layout.column_width) (x ∷ xs))
     ≡ padded layout.column_width x ++ gapped layout xs
 join-gapped layout x [] = sym (append-nil (padded layout.column_width x))
 join-gapped layout x (y ∷ ys) = search (rules, append_assoc, join-gapped layout y ys)
 
 -- the later cells: those of lines, and a run of those without
-pub gapped-all : (layout : Layout) (lines : List (List ℕ)) (step first later count : ℕ)
+pub gapped-all : (layout : RowLayout) (lines : List (List ℕ)) (step first later count : ℕ)
     → (count ≡ 0) ⊎ (length lines ≤ first + (later + 1) * step)
     → gapped layout (map (cell lines step first) (range_with_len 1 later))
     ++ repeat count (layout.middle ++ blanks layout.column_width)
@@ -90,7 +91,7 @@ gapped-all layout lines step first later count (inr past) =
 -- ---- rows
 
 -- a row, part by part
-pub row_text-parts : (layout : Layout) (lines : List (List ℕ)) (step first later count : ℕ)
+pub row_text-parts : (layout : RowLayout) (lines : List (List ℕ)) (step first later count : ℕ)
     → (count ≡ 0) ⊎ (length lines ≤ first + (later + 1) * step)
     → layout.columns ≡ suc (later + count)
     → ((((layout.left ++ padded layout.column_width (cell lines step first 0))
@@ -102,7 +103,7 @@ row_text-parts layout lines step first later count all columns =
     search (rules, join-gapped, gapped-all, append_assoc)
 
 -- the same where the run fills the columns up
-pub row_text-written : (layout : Layout) (lines : List (List ℕ)) (step first later : ℕ)
+pub row_text-written : (layout : RowLayout) (lines : List (List ℕ)) (step first later : ℕ)
     → (later + 1 ≡ layout.columns) ⊎ (length lines ≤ first + (later + 1) * step)
     → later + 1 ≤ layout.columns
     → ((((layout.left ++ padded layout.column_width (cell lines step first 0))
@@ -115,7 +116,7 @@ row_text-written layout lines step first later (inr past) within = search (rules
 
 -- ---- how many bytes the rows of a table take
 
-pub length-gapped-more : (layout : Layout) (lines : List (List ℕ)) (step first later : ℕ)
+pub length-gapped-more : (layout : RowLayout) (lines : List (List ℕ)) (step first later : ℕ)
     → length (gapped layout (map (cell lines step first) (range_with_len 1 (later + 1))))
     ≡ length (gapped layout (map (cell lines step first) (range_with_len 1 later)))
     + (length layout.middle
@@ -127,7 +128,7 @@ length-gapped-more layout lines step first later =
 
 -- a row has the bytes of its gaps, its first cell, the later cells with a line, those without, and
 -- its spare blanks
-pub length-row_text : (layout : Layout) (lines : List (List ℕ)) (step first later : ℕ)
+pub length-row_text : (layout : RowLayout) (lines : List (List ℕ)) (step first later : ℕ)
     → (later + 1 ≡ layout.columns) ⊎ (length lines ≤ first + (later + 1) * step)
     → later + 1 ≤ layout.columns
     → length (row_text layout (cells lines step layout.columns first))
@@ -140,7 +141,7 @@ length-row_text layout lines step first later all within =
     (simp (length-append, length-repeat, length-replicate) (omega arith))
 
 -- the later cells with a line are among all later cells
-pub length-gapped-within : (layout : Layout) (lines : List (List ℕ)) (step first later more : ℕ)
+pub length-gapped-within : (layout : RowLayout) (lines : List (List ℕ)) (step first later more : ℕ)
     → later ≤ more
     → length (gapped layout (map (cell lines step first) (range_with_len 1 later)))
     ≤ length (gapped layout (map (cell lines step first) (range_with_len 1 more)))
@@ -149,7 +150,7 @@ length-gapped-within layout lines step first later more within =
     search (rules, range-split, map-append, flat_map-append, length-append)
 
 -- so where some bytes of theirs have no number, nor have all
-pub gapped-past : (layout : Layout) (lines : List (List ℕ)) (step first later len part : ℕ)
+pub gapped-past : (layout : RowLayout) (lines : List (List ℕ)) (step first later len part : ℕ)
     → len ≡ length (gapped layout (map (cell lines step first) (range_with_len 1 later)))
     → later + 1 ≤ layout.columns - 1
     → part ≤ len + length layout.middle
@@ -164,7 +165,7 @@ gapped-past layout lines step first later len part len_is room within past = ome
 )
 
 -- and all later cells are in the row
-pub length-gapped-row : (layout : Layout) (lines : List (List ℕ)) (step first : ℕ)
+pub length-gapped-row : (layout : RowLayout) (lines : List (List ℕ)) (step first : ℕ)
     → 1 ≤ layout.columns
     → length (gapped layout (map (cell lines step first) (range_with_len 1 (layout.columns - 1))))
     + length (padded layout.column_width (cell lines step first 0))
@@ -242,7 +243,7 @@ columns_kept lines columns some =
 
 -- ---- the parts of a row
 
-cell_parts-joined : (layout : Layout) (row : List (List ℕ))
+cell_parts-joined : (layout : RowLayout) (row : List (List ℕ))
     → flat_map (λ part. part) (cell_parts layout row)
     ≡ join_with layout.middle (map (padded layout.column_width) row)
 cell_parts-joined layout [] = refl
@@ -250,7 +251,7 @@ cell_parts-joined layout (text ∷ []) = search (rules, append-nil)
 cell_parts-joined layout (text ∷ next ∷ texts) =
     simp (append_assoc, cell_parts-joined layout (next ∷ texts))
 
-pub row_parts-joined : (layout : Layout) (row : List (List ℕ))
+pub row_parts-joined : (layout : RowLayout) (row : List (List ℕ))
     → flat_map (λ part. part) (row_parts layout row) ≡ row_text layout row
 row_parts-joined layout row = simp (append_assoc, append-nil, flat_map-append, cell_parts-joined)
 
@@ -266,7 +267,7 @@ cell-fits width (line ∷ lines) fits zero = All-head (λ l. text_width l ≤ wi
 cell-fits width (line ∷ lines) fits (suc i) =
     cell-fits width lines (All-tail (λ l. text_width l ≤ width) line lines fits) i
 
-module _ (layout : Layout) (lines : List (List ℕ)) (rows r : ℕ)
+module _ (layout : RowLayout) (lines : List (List ℕ)) (rows r : ℕ)
     (fits : (i : ℕ) → text_width (get_or lines i []) ≤ layout.column_width) where
   cell_parts-width : (c others : ℕ)
       → sum_by text_width (cell_parts layout (map (cell lines rows r)
@@ -278,7 +279,7 @@ module _ (layout : Layout) (lines : List (List ℕ)) (rows r : ℕ)
 
 pub rows_even : (width columns : ℕ) (left middle right : List ℕ) (lines : List (List ℕ)) (r : ℕ)
     → let inner : ℕ = inner_width width columns left middle right in
-    let layout : Layout = layout_of width columns left middle right in
+    let layout : RowLayout = layout_of width columns left middle right in
     let row : List (List ℕ) = cells lines (row_count lines columns) columns r in
     let gaps : ℕ = text_width left + text_width right + (columns - 1) * text_width middle in
     1 ≤ columns → columns * layout.column_width ≤ inner

@@ -8,7 +8,7 @@ use Rattle.std.proofs.lemmas.List.FromFn.{fill_by_all, length-range_with_len}
 use Rattle.std.proofs.lemmas.List.Folds.{sum_by-replicate}
 use Rattle.std.proofs.lemmas.List.Sums.{sum_by-le-sum_by}
 use Rattle.textwrap_words.specs.Units.{text_width}
-use Rattle.textwrap.proofs.Common.{Layout, cell, cells, padded, row_text}
+use Rattle.textwrap.proofs.Common.{RowLayout, cell, cells, padded, row_text}
 use Rattle.textwrap.specs.Columns.{row_count, table_rows, blanks}
 use Rattle.textwrap.proofs.Text.Tables.{columns_kept}
 use Rattle.textwrap_lines.proofs.Common.{join_with}
@@ -62,12 +62,12 @@ padded-length width text =
     )
 
 -- the gaps of a row, the columns and what is spare
-abbrev pub row_room : Layout → ℕ
+abbrev pub row_room : RowLayout → ℕ
 row_room layout =
     length layout.left + length layout.right + (layout.columns - 1) * length layout.middle
     + (layout.columns * layout.column_width + layout.spare_width)
 
-row-within : (layout : Layout) (row : List (List ℕ)) → 1 ≤ layout.columns
+row-within : (layout : RowLayout) (row : List (List ℕ)) → 1 ≤ layout.columns
     → length row ≡ layout.columns
     → length (row_text layout row) ≤ row_room layout + texts_length row
 row-within layout [] some is = absurd (omega (arith, some, is))
@@ -92,7 +92,7 @@ row-within layout (x ∷ xs) some is =
     )
 
 -- all rows, of such lines
-pub rows-length : (layout : Layout) (lines : List (List ℕ)) → 1 ≤ layout.columns
+pub rows-length : (layout : RowLayout) (lines : List (List ℕ)) → 1 ≤ layout.columns
     → texts_length (table_rows layout lines)
     ≤ row_count lines layout.columns * row_room layout + texts_length lines
 rows-length layout lines some =

@@ -2,7 +2,7 @@
 use Rattle.textwrap_base.proofs.Common.{◌≡◌, ℕ, zero, suc, ◌+◌, ◌<◌, List, [], ◌∷◌, arith, All-nil}
 use Rattle.textwrap_base.proofs.Common.{All-cons, All-head, All-tail, IsCharBoundary}
 use Rattle.std.specs.List.Sorted.{IsStrictlyIncreasing}
-use Rattle.textwrap_steps.specs.Offsets.{AreNext}
+use Rattle.textwrap_lines.specs.Offsets.{AreNext}
 use Rattle.textwrap_calls.specs.Pieces.{AreOffsets}
 
 increasing-first : (o p : ℕ) (ps : List ℕ) → o < p → IsStrictlyIncreasing (p ∷ ps)

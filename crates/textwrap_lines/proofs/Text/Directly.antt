@@ -9,7 +9,7 @@ use Rattle.textwrap_words.specs.PieceCuts.{parts_by}
 use Rattle.textwrap_words.proofs.Word.Pieces.{AreSplit-computed}
 use Rattle.textwrap_words.specs.Pieces.{stand_from}
 use Rattle.textwrap_lines.proofs.Common.{Settings, settings_view, CutLine, empty_word, front_of}
-use Rattle.textwrap_lines.proofs.Common.{broken_pieces_of, later_width, lines_from, pieces_from}
+use Rattle.textwrap_lines.proofs.Common.{broken_pieces_of, later_width, lines_past, pieces_from}
 use Rattle.textwrap_lines.proofs.Common.{text_limit, pieces_of_words, widths_of, IsDividedInto}
 use Rattle.textwrap_lines.proofs.Common.{Options}
 use Rattle.std.specs.Prelude.{IfErr, IfSome, alloc_error}
@@ -26,7 +26,7 @@ use Rattle.textwrap_lines.proofs.PieceLines.{limited-words}
 
 module _ (settings : Settings) (text : List ℕ) (width : ℕ) (indent : List ℕ) where
   abbrev pub lines_of_pieces : List WordText → List CutLine
-  lines_of_pieces ps = lines_from settings (no_pieces text 0 width indent) (stand_from 0 ps)
+  lines_of_pieces ps = lines_past settings (no_pieces text 0 width indent) (stand_from 0 ps)
 
   -- a word without text in front makes no difference, if the first piece has room
   without_front : (w : WordText) (ws : List WordText) (breaks none : Bool)

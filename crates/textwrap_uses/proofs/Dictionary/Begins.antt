@@ -11,8 +11,8 @@ use Rattle.textwrap.specs.Words.{WordText, chunks, tile_of, tiled, word_of, word
 use Rattle.textwrap_words.proofs.Word.Texts.{chunks-utf8}
 use Rattle.textwrap_words.proofs.Word.Words.{join-chunks, tile_of-word_of, tiled-words_of}
 use Rattle.textwrap_words.proofs.Word.Words.{AreChunks-chunks}
-use Rattle.textwrap_steps.specs.Offsets.{AreNext, IsNextCut}
-use Rattle.textwrap_steps.proofs.OffsetLemmas.{next-inner}
+use Rattle.textwrap_lines.specs.Offsets.{AreNext, IsNextCut}
+use Rattle.textwrap_lines.proofs.InSteps.{next-inner}
 use Rattle.textwrap_uses.specs.Hyphens.{begins_from, later_begins}
 use Rattle.textwrap_uses.proofs.Dictionary.Parts.{boundary-in, part-after, part-fits}
 

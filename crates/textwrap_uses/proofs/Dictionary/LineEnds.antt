@@ -7,8 +7,8 @@ use Rattle.textwrap.specs.Division.{IsDivision}
 use Rattle.textwrap.specs.LineEnds.{AreEnds, lines_between, lines_from}
 use Rattle.textwrap.proofs.Dividing.{IsDivision-whole}
 use Rattle.std.specs.List.{flat_map}
-use Rattle.textwrap_steps.specs.Offsets.{AreNext, IsNextEnd}
-use Rattle.textwrap_steps.proofs.OffsetLemmas.{next-ends}
+use Rattle.textwrap_lines.specs.Offsets.{AreNext, IsNextEnd}
+use Rattle.textwrap_lines.proofs.InSteps.{next-ends}
 
 module _ {X : Type 0} where
   -- the elements of lines, one after another

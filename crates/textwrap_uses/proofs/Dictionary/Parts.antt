@@ -3,7 +3,7 @@ use Rattle.std.proofs.Common.{◌≡◌, ℕ, ◌+◌, ◌<◌, ◌≤◌, List,
 use Rattle.std.proofs.Common.{get_or, drop, refl, sym, ap, ◌∙◌, arith, IsCharBoundary}
 use Rattle.std.proofs.Common.{length-append, length-drop}
 use Rattle.std.proofs.lemmas.List.{drop-drop, drop_at, get_or-drop, get_or_append_left}
-use Rattle.textwrap_steps.specs.Offsets.{AreNext, IsNextCut}
+use Rattle.textwrap_lines.specs.Offsets.{AreNext, IsNextCut}
 
 module _ (text part rest : List ℕ) (at : ℕ) (stands : drop at text ≡ part ++ rest) where
   pub part-fits : at ≤ length text → at + length part + length rest ≡ length text

@@ -5,8 +5,8 @@ use Rattle.std.proofs.lemmas.List.Elements.{All-cons, All-head, All-tail}
 use Rattle.textwrap.specs.Cuts.{AreInnerCuts}
 use Rattle.textwrap.specs.Words.{WordText, tile_of, tiled, words_of}
 use Rattle.textwrap_words.proofs.Word.Words.{tiled-words_of}
-use Rattle.textwrap_steps.specs.Offsets.{AreNext, IsNextCut}
-use Rattle.textwrap_steps.proofs.OffsetLemmas.{inner-next, next-inner}
+use Rattle.textwrap_lines.specs.Offsets.{AreNext, IsNextCut}
+use Rattle.textwrap_lines.proofs.InSteps.{inner-next, next-inner}
 use Rattle.textwrap_uses.specs.Hyphens.{HaveRightPoints, points_for, points_in}
 use Rattle.textwrap_uses.specs.declared.hyphens.Entry.{Entry}
 use Rattle.textwrap_uses.proofs.Dictionary.Parts.{boundary-in, cuts-lower, part-after, part-fits}

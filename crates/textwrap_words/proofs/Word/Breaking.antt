@@ -9,7 +9,7 @@ use Rattle.textwrap_words.proofs.Common.{TextUnit, Visible, Sequence, columns, u
 use Rattle.textwrap_words.proofs.Common.{units_width, IsKept, AllPartsFull, is_due, broken_units}
 use Rattle.textwrap_words.proofs.Common.{characters, taken_at, units_past, units, visible_of}
 use Rattle.std.proofs.Common.{ltb}
-use Rattle.textwrap_words.specs.Breaking.{parts_after, AreBroken}
+use Rattle.textwrap_words.specs.Breaking.{parts_left, AreBroken}
 use Rattle.textwrap_base.proofs.Lists.Parts.{flat}
 use Rattle.textwrap_words.proofs.Units.Texts.{units-tile, units-part}
 
@@ -32,11 +32,11 @@ is_due-first limit (Visible c) = refl
 is_due-first limit (Sequence cs) = refl
 
 pub broken_units-cons : (limit : ℕ) (u : TextUnit) (us : List TextUnit)
-    → broken_units limit (u ∷ us) ≡ onto_first u (parts_after limit (unit_width u) us)
+    → broken_units limit (u ∷ us) ≡ onto_first u (parts_left limit (unit_width u) us)
 broken_units-cons limit u us = rw (is_due-first limit u, zero-add) refl
 
 pub parts_after-is : (limit width : ℕ) (us : List TextUnit)
-    → parts_after limit width us ≡ taken_units limit width us ∷ broken_units limit
+    → parts_left limit width us ≡ taken_units limit width us ∷ broken_units limit
     (left_units limit width us)
 parts_after-is limit width [] = refl
 parts_after-is limit width (u ∷ us) =
@@ -133,8 +133,8 @@ due-true limit width c some over = grind (arith, nat_tests)
 -- ---- no parts but the computed ones have the properties
 
 along : (limit width : ℕ) (first rest : List TextUnit) (more : List (List TextUnit))
-    → IsKeptAfter limit width first → parts_after limit (width + units_width first) rest ≡ [] ∷ more
-    → parts_after limit width (first ++ rest) ≡ first ∷ more
+    → IsKeptAfter limit width first → parts_left limit (width + units_width first) rest ≡ [] ∷ more
+    → parts_left limit width (first ++ rest) ≡ first ∷ more
 along limit width [] rest more k e = rw add-zero at e
 along limit width (u ∷ first) rest more k e =
     let on : width + units_width (u ∷ first) ≡ width + unit_width u + units_width first =
@@ -144,7 +144,7 @@ along limit width (u ∷ first) rest more k e =
 whole : (limit width : ℕ) (first : List TextUnit) (parts : List (List TextUnit))
     → IsKeptAfter limit width first → IsFullAfter limit (width + units_width first) parts
     → All (IsKept limit) parts → AllPartsFull limit parts
-    → parts_after limit width (first ++ flat parts) ≡ first ∷ parts
+    → parts_left limit width (first ++ flat parts) ≡ first ∷ parts
 whole limit width first [] k f ks fs = along limit width first [] [] k refl
 whole limit width first (next ∷ parts) k (c, after, e, some, over) ks fs =
     let kept = IsKept-after limit (Visible c ∷ after)

@@ -9,7 +9,7 @@ use Rattle.textwrap_words.proofs.Common.{broken_word, broken_words, broken_texts
 use Rattle.textwrap_words.proofs.Common.{pieces_with, is_blank, Splitter, is_cut}
 use Rattle.std.proofs.lemmas.List.{drop-take}
 use Rattle.textwrap_words.specs.PieceCuts.{parts_by, pieces_from, IsPart, AreFinalBlanks, is_point}
-use Rattle.textwrap_words.specs.PieceCuts.{is_piece_cut, IsPartWord, pieces_at}
+use Rattle.textwrap_words.specs.PieceCuts.{is_piece_cut, IsPartWord, pieces_from_place}
 use Rattle.textwrap_base.proofs.Lists.Parts.{length-slice, slice-nil}
 use Rattle.textwrap_words.proofs.Word.Texts.{trimmed-past, trimmed-le, trimmed-blank, trimmed-other}
 use Rattle.textwrap_words.proofs.Word.BrokenPieces.{broken_word-front, broken_word-texts}
@@ -349,14 +349,14 @@ module _ (splitter : Splitter) (limit : ℕ) (text : List ℕ) (utf8 : IsUtf8 te
         | inl later ↦
             let part = part-of_word splitter text at r.stop word in
             let same : place ≡ end = grind (arith, cases_lt, true≢false, plain) in
-            subst (λ k. pieces_at splitter limit text at
+            subst (λ k. pieces_from_place splitter limit text at
             ≡ record {
               word = slice_range text at place;
               whitespace = slice_range text place k;
               penalty = [];
               width = width;
             }
-            ∷ pieces_at splitter limit text k) same
+            ∷ pieces_from_place splitter limit text k) same
             (part-stops (is_piece_cut splitter text) limit text utf8 at start (is_stop true splitter text)
             (length text) place width r inside part.0 part.1 part.2 later)
         | inr most ↦

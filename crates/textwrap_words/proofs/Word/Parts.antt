@@ -14,7 +14,7 @@ use Rattle.textwrap_words.proofs.Common.{splitter_view, Whole, AtHyphens, chunks
 use Rattle.std.proofs.lemmas.List.Sorted.{IsNonDecreasingBy-from_default}
 use Rattle.textwrap_base.proofs.Lists.Parts.{flat, onto_first-some, onto_first-append}
 use Rattle.textwrap_words.proofs.Word.Words.{tiled-map, chunks-from}
-use Rattle.textwrap_words.specs.Cuts.{AreLaterCuts, parts_from}
+use Rattle.textwrap_words.specs.Cuts.{AreLaterCuts, parts_onward}
 use Rattle.textwrap_base.proofs.Lists.Elements.{increasing-le, increasing-rising, rising-increasing}
 use Rattle.std.proofs.lemmas.List.Elements.{All-from_get_or}
 use Rattle.textwrap_words.specs.declared.word_splitters.WordSplitter as splitters
@@ -33,7 +33,7 @@ use Rattle.textwrap_words.specs.PieceCuts.{parts_by}
 
 parts_from-tile : (start : ℕ) (cuts line : List ℕ) → IsNonDecreasing cuts
     → ((k : ℕ) → k < length cuts → start ≤ get_or cuts k 0)
-    → flat (parts_from start cuts line) ≡ drop start line
+    → flat (parts_onward start cuts line) ≡ drop start line
 parts_from-tile start [] line in_order before = append-nil (drop start line)
 parts_from-tile start (cut ∷ cuts) line in_order before =
     let later : IsNonDecreasing cuts = λ i j d le lt. in_order (suc i) (suc j) d (omega arith)
@@ -51,12 +51,12 @@ parts_between-tile cuts line in_order = grind (arith, tiled-map, nil_from_length
 
 parts_from-utf8 : (start : ℕ) (cuts line : List ℕ) → IsUtf8 line → IsCharBoundary line start
     → IsNonDecreasing cuts → ((k : ℕ) → k < length cuts → start ≤ get_or cuts k 0)
-    → All (IsCharBoundary line) cuts → All IsUtf8 (parts_from start cuts line)
+    → All (IsCharBoundary line) cuts → All IsUtf8 (parts_onward start cuts line)
 parts_from-utf8 start [] line utf8 at in_order before between =
     All-cons IsUtf8 (drop start line) [] (IsUtf8-drop line start utf8 at) (All-nil IsUtf8)
 parts_from-utf8 start (cut ∷ cuts) line utf8 at in_order before between =
     let next = All-head (IsCharBoundary line) cut cuts between in
-    All-cons IsUtf8 (slice_range line start cut) (parts_from cut cuts line)
+    All-cons IsUtf8 (slice_range line start cut) (parts_onward cut cuts line)
     (IsUtf8-between line start cut utf8 (before 0 (omega arith)) at next)
     (parts_from-utf8 cut cuts line utf8 next
     (λ i j d le lt. in_order (suc i) (suc j) d (omega arith) (omega arith))
@@ -251,11 +251,11 @@ module _ (text : List ℕ) (at b : ℕ) (rest : List ℕ) (is : drop at text ≡
 
   -- a part that begins one byte earlier
   part-back : (cuts : List ℕ) → All (λ cut. at < cut) cuts
-      → parts_from at cuts text ≡ onto_first b (parts_from (at + 1) cuts text)
+      → parts_onward at cuts text ≡ onto_first b (parts_onward (at + 1) cuts text)
   part-back [] above = ap (λ l. l ∷ []) (is ∙ ap (λ l. b ∷ l) (sym bytes-after))
   part-back (cut ∷ cuts) above =
       let more : cut - at ≡ suc (cut - (at + 1)) = omega (arith, above 0 0 (omega arith)) in
-      ap (λ l. l ∷ parts_from cut cuts text)
+      ap (λ l. l ∷ parts_onward cut cuts text)
       (ap (λ l. take (cut - at) l) is ∙ ap (λ n. take n (b ∷ rest)) more
       ∙ ap (λ l. b ∷ take (cut - (at + 1)) l) (sym bytes-after))
 
@@ -288,17 +288,17 @@ module _ (test : ℕ → Bool) where
   -- ---- the parts
 
   parts-places : (text : List ℕ) (at b : ℕ) (rest : List ℕ) → drop at text ≡ b ∷ rest
-      → parts_from at (places_by test at (b ∷ rest)) text ≡ parts_by test at (b ∷ rest)
+      → parts_onward at (places_by test at (b ∷ rest)) text ≡ parts_by test at (b ∷ rest)
   parts-places text at b [] is = ap (λ l. l ∷ []) is
   parts-places text at b (c ∷ cs) is =
       let places = places_by test (at + 1) (c ∷ cs) in
       let parts = parts_by test (at + 1) (c ∷ cs) in
       let next = parts-places text (at + 1) c cs (bytes-after text at b (c ∷ cs) is) in
       let one : at + 1 - at ≡ 1 = omega arith in
-      elim (test (at + 1)) as (λ t. parts_from at (cut_here t (at + 1) ++ places) text
+      elim (test (at + 1)) as (λ t. parts_onward at (cut_here t (at + 1) ++ places) text
       ≡ (if t then (b ∷ []) ∷ parts else onto_first b parts)) [
         | true ↦
-            ap (λ l. l ∷ parts_from (at + 1) places text)
+            ap (λ l. l ∷ parts_onward (at + 1) places text)
             (ap (λ n. take n (drop at text)) one ∙ ap (take 1) is) ∙ ap (λ ps. (b ∷ []) ∷ ps) next
         | false ↦
             part-back text at b (c ∷ cs) is places

@@ -17,7 +17,7 @@ use Rattle.textwrap_words.specs.WordSplitters.{inner_offsets}
 use Rattle.textwrap_words.proofs.Word.Words.{IsMeasured, HasNoPenalty, words-measured}
 use Rattle.textwrap_words.proofs.Word.Words.{tiled-words_of, words_unique}
 use Rattle.textwrap_words.proofs.Word.Texts.{chunks-utf8}
-use Rattle.textwrap_words.specs.PieceCuts.{pieces_at}
+use Rattle.textwrap_words.specs.PieceCuts.{pieces_from_place}
 use Rattle.textwrap_words.specs.Pieces.{IsFirstWord, stand_from}
 use Rattle.textwrap_base.proofs.Lists.Parts.{length-slice}
 use Rattle.textwrap_base.proofs.Texts.{IsCharBoundary-after_blank}
@@ -204,9 +204,9 @@ module _ (splitter : Splitter) (limit : ℕ) (text : List ℕ) (at word_end widt
     (within : end ≤ length text) (blanks : BlanksBetween text word_end end) where
   -- the first piece, and those after it
   pub word-stands : (end < length text → is_blank (get_or text end 0) ≡ false)
-      → stand_from at (pieces_at splitter limit text at)
+      → stand_from at (pieces_from_place splitter limit text at)
       ≡ record { word_end = word_end; end = end; width = width }
-      ∷ stand_from end (pieces_at splitter limit text end)
+      ∷ stand_from end (pieces_from_place splitter limit text end)
   word-stands stops =
       let n = length (slice_range text at word_end) in
       let one : at + n ≡ word_end =

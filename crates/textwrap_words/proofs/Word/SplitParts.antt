@@ -15,7 +15,7 @@ use Rattle.textwrap_words.proofs.Common.{Whole, AtHyphens, split_word, broken_wo
 use Rattle.textwrap_words.proofs.Common.{split_words, chunks, words_of, is_cut, AreCutApart}
 use Rattle.textwrap_words.proofs.Common.{broken_pieces}
 use Rattle.textwrap_words.specs.PieceCuts.{parts_by, is_point, pieces_within, is_piece_cut}
-use Rattle.textwrap_words.specs.PieceCuts.{pieces_at, IsPart, AreFinalBlanks, IsPartWord}
+use Rattle.textwrap_words.specs.PieceCuts.{pieces_from_place, IsPart, AreFinalBlanks, IsPartWord}
 use Rattle.textwrap_base.proofs.Lists.Parts.{onto_front, onto_front-nil, onto_front-onto_first}
 use Rattle.textwrap_base.proofs.Lists.Parts.{last-push, length-slice, flat, some_from_nonempty}
 use Rattle.textwrap_words.proofs.Word.Texts.{AreBlanks, word_of-seam, final_blanks-blank}
@@ -354,7 +354,7 @@ module _ (splitter : Splitter) (text : List ℕ) where
   module _ (limit : ℕ) where
     -- all pieces of a text
     pub pieces-start : IsUtf8 text
-        → pieces_at splitter limit text 0
+        → pieces_from_place splitter limit text 0
         ≡ broken_words limit (split_words splitter (words_of text))
     pieces-start utf8 = ap (broken_words limit) (sym (split_words-parts splitter text utf8))
 

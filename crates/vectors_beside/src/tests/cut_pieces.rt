@@ -1,7 +1,7 @@
 //! The pieces of a text whose words end at given cuts.
 use super::plain::assert_holds;
 use BuiltInSplitter::{HyphenSplitter, NoHyphenation};
-use textwrap_steps::steps::are_inner_cuts;
+use textwrap_lines::steps::are_inner_cuts;
 use textwrap_words::inner::{BuiltInSplitter, CutPieces, Piece};
 
 /// A text, its cuts, the limit, the splitter, whether a piece without text stands before the words,

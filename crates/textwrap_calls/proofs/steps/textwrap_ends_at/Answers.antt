@@ -8,7 +8,7 @@ use Rattle.textwrap_words.specs.WrapAlgorithms.{algorithm_view, IsDividedBy, Ove
 use Rattle.textwrap_words.proofs.Word.Divisions.{MayDivide-map}
 use Rattle.textwrap_lines.proofs.Common.{first_width, settings_view, widths_of}
 use Rattle.textwrap_lines.proofs.Paragraph.Pieces.{division-as}
-use Rattle.textwrap_steps.specs.Steps.{pieces_at}
+use Rattle.textwrap_lines.specs.Steps.{pieces_at}
 use Rattle.textwrap_calls.specs.Options.{algorithm_of, says_yes, settings_of}
 use Rattle.textwrap_calls.specs.Fragments.{AreEndsOf, ends_of}
 use Rattle.textwrap_calls.proofs.EndLemmas.{ends_of-map, OverflowsBy-map}

@@ -4,7 +4,7 @@ use Rattle.textwrap_words.specs.LineEnds.{lines_between}
 use Rattle.textwrap_lines.proofs.Common.{parts_from, settings_view}
 use Rattle.textwrap_lines.proofs.Text.Sinks.{further-cut_lines}
 use Rattle.textwrap_lines.specs.Places.{HasPlaces}
-use Rattle.textwrap_steps.specs.Steps.{pieces_at}
+use Rattle.textwrap_lines.specs.Steps.{pieces_at}
 use Rattle.textwrap_calls.specs.Options.{says_yes, settings_of}
 use Rattle.textwrap_calls.proofs.StepLemmas.{AreStepLines, steps-written}
 

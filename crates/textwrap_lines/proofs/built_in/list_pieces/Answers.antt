@@ -15,7 +15,7 @@ use Rattle.textwrap_lines.proofs.Paragraph.LeftOff.{blanks-utf8}
 use Rattle.textwrap_lines.proofs.PieceLines.{gap_taken, piece-ends, place-after, slice-ends}
 use Rattle.textwrap_lines.proofs.PieceLines.{word_taken}
 use Rattle.textwrap_lines.proofs.built_in.list_pieces.Invariants.{ArePiecesLeft}
-use Rattle.textwrap_lines.specs.Direct.{pieces_cut, places_of, words_cut}
+use Rattle.textwrap_lines.specs.Direct.{pieces_cut, cuts_of, words_cut}
 use Rattle.textwrap_lines.specs.PiecesLeft.{left_standing}
 use Rattle.textwrap_lines.proofs.built_in.list_pieces.Goals.{In-Some}
 
@@ -84,8 +84,8 @@ loop-piece-init g c =
     let layout = layout_view c.args.layout.now in
     let splitter = as_splitter c.args.cuts.now.splitter in
     let text = c.args.paragraph.now in
-    let ws = words_cut (places_of c.args.cuts.now) text in
-    let texts = words_cut-texts (places_of c.args.cuts.now) text c.utf8.paragraph c.requires in
+    let ws = words_cut (cuts_of c.args.cuts.now) text in
+    let texts = words_cut-texts (cuts_of c.args.cuts.now) text c.utf8.paragraph c.requires in
     record {
       left = pieces_cut layout c.args.cuts.now text;
       are = search rules;
@@ -144,7 +144,7 @@ returns-clause-pieces g c =
 
 pub returns-clause-tiles : goal.returns-clause-tiles
 returns-clause-tiles g c =
-    let places = places_of c.args.cuts.now in
+    let places = cuts_of c.args.cuts.now in
     let text = c.args.paragraph.now in
     ap tiled (returns-clause-pieces g c) ∙ pieces_of_words-tile (layout_view c.args.layout.now)
     (as_splitter c.args.cuts.now.splitter) text (words_cut places text) c.utf8.paragraph

@@ -2,7 +2,7 @@ use Rattle.textwrap_lines.proofs.cheapest.push_cheapest_lines.Goals as goal
 use Rattle.textwrap_base.proofs.Common.{List, map, refl, ◌∙◌, subst, Bor, on_ok_weaker}
 use Rattle.textwrap_words.proofs.Common.{as_splitter}
 use Rattle.textwrap_lines.proofs.Common.{Took, layout_view, Span}
-use Rattle.textwrap_lines.specs.Direct.{places_of, words_cut}
+use Rattle.textwrap_lines.specs.Direct.{cuts_of, words_cut}
 use Rattle.textwrap_lines.proofs.Paragraph.Pieces.{words_cut-texts}
 use Rattle.textwrap_lines.proofs.PlacedPieces.Cheapest.{are_searched, found-lines, FoundLines}
 use Rattle.textwrap_lines.proofs.cheapest.push_cheapest_lines.Goals.{After-deref-2}
@@ -12,9 +12,9 @@ cheapest_lines-requires g c =
     let is = c.deref.ensures.value ∙ c.in_ok-spans.ensures in
     let cuts = c.args.cuts.now in
     let searched = are_searched (layout_view c.args.layout.now) (as_splitter cuts.splitter)
-    c.args.is_later c.args.paragraph.now (words_cut (places_of cuts) c.args.paragraph.now)
+    c.args.is_later c.args.paragraph.now (words_cut (cuts_of cuts) c.args.paragraph.now)
     c.args.penalties.now c.utf8.paragraph
-    (words_cut-texts (places_of cuts) c.args.paragraph.now c.utf8.paragraph c.requires.cuts)
+    (words_cut-texts (cuts_of cuts) c.args.paragraph.now c.utf8.paragraph c.requires.cuts)
     c.requires.some c.deref.result.now is c.requires.suits in
     record {
       measured = searched.measured;
@@ -28,8 +28,8 @@ cheapest_lines-requires g c =
 -- the lines that the table gives
 lines_found : (g : _) (c : After-deref-2 g) → FoundLines (layout_view c.args.layout.now)
     (as_splitter c.args.cuts.now.splitter) c.args.is_later c.args.paragraph.now
-    (words_cut (places_of c.args.cuts.now) c.args.paragraph.now) c.args.penalties.now c.utf8.paragraph
-    (words_cut-texts (places_of c.args.cuts.now) c.args.paragraph.now c.utf8.paragraph c.requires.cuts)
+    (words_cut (cuts_of c.args.cuts.now) c.args.paragraph.now) c.args.penalties.now c.utf8.paragraph
+    (words_cut-texts (cuts_of c.args.cuts.now) c.args.paragraph.now c.utf8.paragraph c.requires.cuts)
     c.requires.some c.deref.result.now
     (c.deref.ensures.value ∙ c.in_ok-spans.ensures)
     (map (λ (line : Bor (List Span)). line.now) c.deref-2.result.now)

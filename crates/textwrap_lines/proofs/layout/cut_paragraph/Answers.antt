@@ -4,7 +4,7 @@ use Rattle.std.specs.Option.{option_map}
 use Rattle.textwrap_words.proofs.Common.{as_splitter, broken_words, parts_between, split_words}
 use Rattle.textwrap_words.proofs.Common.{word_of}
 use Rattle.textwrap_words.specs.Pieces.{stand_from}
-use Rattle.textwrap_lines.specs.Direct.{CanBeCut, places_of, words_cut}
+use Rattle.textwrap_lines.specs.Direct.{CanBeCut, cuts_of, words_cut}
 use Rattle.textwrap_lines.specs.Layout.{break_limit}
 use Rattle.textwrap_lines.proofs.Common.{front_of, layout_view}
 use Rattle.textwrap_lines.proofs.Paragraph.Pieces.{words_cut-texts}
@@ -29,5 +29,5 @@ returns c =
     ∙ ap (λ n. stand_from 0 (front_of settings ++ broken_words n split)) c.break_limit.ensures
     ∙ ap (λ ws. stand_from 0 ws)
     (ap (λ ws. front_of settings ++ broken_words (break_limit settings) (split_words splitter ws)) (sym named)
-    ∙ limited-pieces settings splitter text (words_cut (places_of cuts) text) c.utf8.paragraph
-    (words_cut-texts (places_of cuts) text c.utf8.paragraph c.requires) (omega arith))
+    ∙ limited-pieces settings splitter text (words_cut (cuts_of cuts) text) c.utf8.paragraph
+    (words_cut-texts (cuts_of cuts) text c.utf8.paragraph c.requires) (omega arith))

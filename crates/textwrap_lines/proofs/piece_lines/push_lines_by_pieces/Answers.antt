@@ -4,9 +4,9 @@ use Rattle.textwrap_base.proofs.Common.{IsCharBoundary-start}
 use Rattle.textwrap_words.proofs.Common.{as_splitter}
 use Rattle.textwrap_words.specs.Pieces.{stand_from}
 use Rattle.textwrap_lines.specs.PiecesLeft.{left_standing}
-use Rattle.textwrap_lines.specs.Direct.{pieces_cut, places_of, words_cut}
+use Rattle.textwrap_lines.specs.Direct.{pieces_cut, cuts_of, words_cut}
 use Rattle.textwrap_lines.proofs.Common.{Took, layout_view, later_width, first_width, indent_of}
-use Rattle.textwrap_lines.proofs.Common.{line_so_far, lines_from, LineSoFar, line_of, with_piece}
+use Rattle.textwrap_lines.proofs.Common.{line_so_far, lines_past, LineSoFar, line_of, with_piece}
 use Rattle.textwrap_lines.specs.PieceLines.{no_pieces}
 use Rattle.textwrap_lines.proofs.Paragraph.Pieces.{words_cut-texts, pieces_of_words-no_penalty}
 use Rattle.textwrap_lines.proofs.Paragraph.Pieces.{pieces_of_words-tile}
@@ -29,8 +29,8 @@ loop-piece-init g c =
       taken = HasTaken-start _ c.args.lines.now;
       come = subst (λ (line : LineSoFar). AllCome line.text line.end left) (sym c.at-line.ensures)
           (subst (AllCome paragraph 0) (sym left_is)
-          (pieces-come settings (as_splitter cuts.splitter) paragraph (words_cut (places_of cuts) paragraph)
-          c.utf8.paragraph (words_cut-texts (places_of cuts) paragraph c.utf8.paragraph c.requires)));
+          (pieces-come settings (as_splitter cuts.splitter) paragraph (words_cut (cuts_of cuts) paragraph)
+          c.utf8.paragraph (words_cut-texts (cuts_of cuts) paragraph c.utf8.paragraph c.requires)));
       name = refl;
     }
 
@@ -39,7 +39,7 @@ loop-piece-preserved g c =
     let settings = layout_view c.args.layout.now in
     let keeps = settings.preserve_trailing_space in
     let Holds = g.S.LineSink.holds in
-    let all = lines_from settings (line_so_far c.at-line.result)
+    let all = lines_past settings (line_so_far c.at-line.result)
     (left_standing c.into_iter-piece-iterator.result) in
     let before = c.args.lines.now in
     let now = c.loop-piece.lines in
@@ -51,7 +51,7 @@ loop-piece-preserved g c =
     let more = with_piece here piece in
     let come = (subst (AllCome here.text here.end) c.in-Some.ensures.steps
     c.loop-piece.invariant.come).1 in
-    let taken = subst (λ ps. HasTaken Holds all before now (lines_from settings here ps))
+    let taken = subst (λ ps. HasTaken Holds all before now (lines_past settings here ps))
     c.in-Some.ensures.steps c.loop-piece.invariant.taken in
     elim c.if-is_past.branch [
       | goal.then-is_past+in_ok-push_to w ↦
@@ -61,13 +61,13 @@ loop-piece-preserved g c =
           ∙ ap (λ n. with_piece (no_pieces here.text here.end n settings.subsequent_indent) piece)
           c.line_widths-first_width.ensures.later in
           let full = subst (λ b. HasTaken Holds all before now (cond b
-          (line_of keeps here ∷ lines_from settings next left) (lines_from settings more left)))
+          (line_of keeps here ∷ lines_past settings next left) (lines_past settings more left)))
           (sym c.is_past.ensures ∙ w.if-is_past.true) taken in
           rw (w.lines-is) (record {
             taken = subst (λ l. HasTaken Holds all before w.push_to.new.lines
-                (lines_from settings l left)) (sym is)
+                (lines_past settings l left)) (sym is)
                 (HasTaken-next all before now w.push_to.new.lines (line_of keeps here)
-                (lines_from settings next left) full w.in_ok-push_to.ensures.took);
+                (lines_past settings next left) full w.in_ok-push_to.ensures.took);
             come = subst (λ (line : LineSoFar). AllCome line.text line.end left) (sym is) come;
             name = w.push_to.ensures.name ∙ c.loop-piece.invariant.name;
           })
@@ -75,10 +75,10 @@ loop-piece-preserved g c =
           let is : line_so_far c.take.new.self ≡ more =
           c.take.ensures ∙ ap (λ l. with_piece (line_so_far l) piece) w.line-is in
           let room = subst (λ b. HasTaken Holds all before now (cond b
-          (line_of keeps here ∷ lines_from settings next left) (lines_from settings more left)))
+          (line_of keeps here ∷ lines_past settings next left) (lines_past settings more left)))
           (sym c.is_past.ensures ∙ w.if-is_past.false) taken in
           rw (w.lines-is) (record {
-            taken = subst (λ l. HasTaken Holds all before now (lines_from settings l left))
+            taken = subst (λ l. HasTaken Holds all before now (lines_past settings l left))
                 (sym is) room;
             come = subst (λ (line : LineSoFar). AllCome line.text line.end left) (sym is) come;
             name = c.loop-piece.invariant.name;
@@ -92,16 +92,16 @@ returns-clause-took g c =
     let cuts = c.args.cuts.now in
     let paragraph = c.args.paragraph.now in
     let pieces = pieces_cut settings cuts paragraph in
-    let texts = words_cut-texts (places_of cuts) paragraph c.utf8.paragraph c.requires in
+    let texts = words_cut-texts (cuts_of cuts) paragraph c.utf8.paragraph c.requires in
     let left = left_standing c.into_iter-piece-iterator.result in
-    let all = lines_from settings (line_so_far c.at-line.result) left in
+    let all = lines_past settings (line_so_far c.at-line.result) left in
     let now = c.loop-piece.lines in
     let last = line_of settings.preserve_trailing_space (line_so_far c.loop-piece.line) in
     let (division, greedy, found) = lines-greedy settings paragraph is_later pieces
     (pieces_of_words-tile settings (as_splitter cuts.splitter) paragraph
-    (words_cut (places_of cuts) paragraph) c.utf8.paragraph texts)
+    (words_cut (cuts_of cuts) paragraph) c.utf8.paragraph texts)
     (pieces_of_words-no_penalty settings (as_splitter cuts.splitter) paragraph
-    (words_cut (places_of cuts) paragraph) c.utf8.paragraph texts) in
+    (words_cut (cuts_of cuts) paragraph) c.utf8.paragraph texts) in
     let left_is : left ≡ stand_from 0 pieces =
     ap left_standing c.into_iter-piece-iterator.ensures.into_iter_gives
     ∙ c.cut_paragraph-piece-items.ensures in
@@ -111,14 +111,14 @@ returns-clause-took g c =
     c.line_widths-first_width.ensures.first
     ∙ ap (no_pieces paragraph 0 (first_width settings is_later)) c.next_indent.ensures in
     let taken = subst (λ ps. HasTaken g.S.LineSink.holds all c.args.lines.now now
-    (lines_from settings (line_so_far c.loop-piece.line) ps)) c.in-None.ensures.steps.0
+    (lines_past settings (line_so_far c.loop-piece.line) ps)) c.in-None.ensures.steps.0
     c.loop-piece.invariant.taken in
     on_ok_weaker c.push_to-2.result (λ end. (
       division,
       greedy,
       subst (Took _ c.args.lines.now c.push_to-2.new.lines)
-          (ap (λ l. lines_from settings l left) first_is
-          ∙ ap (lines_from settings (no_pieces paragraph 0 (first_width settings is_later)
+          (ap (λ l. lines_past settings l left) first_is
+          ∙ ap (lines_past settings (no_pieces paragraph 0 (first_width settings is_later)
           (indent_of settings is_later))) left_is ∙ found)
           (HasTaken-end all c.args.lines.now c.push_to-2.new.lines
           (HasTaken-next all c.args.lines.now now c.push_to-2.new.lines last [] taken end)),

@@ -3,7 +3,7 @@ use Rattle.textwrap_base.proofs.Common.{sym, ap, ◌∙◌, subst, arith}
 use Rattle.textwrap_words.proofs.Common.{as_splitter}
 use Rattle.textwrap_lines.specs.PiecesLeft.{left_standing}
 use Rattle.textwrap_lines.proofs.Common.{layout_view}
-use Rattle.textwrap_lines.specs.Direct.{pieces_cut, places_of, words_cut}
+use Rattle.textwrap_lines.specs.Direct.{pieces_cut, cuts_of, words_cut}
 use Rattle.textwrap_lines.proofs.Paragraph.Pieces.{words_cut-texts, pieces_of_words-wide}
 use Rattle.textwrap_lines.proofs.PlacedPieces.Lines.{HasLeft, HasNext, Left-start, Left-next}
 use Rattle.textwrap_lines.proofs.PlacedPieces.Lines.{Left-end}
@@ -39,8 +39,8 @@ overflow_add-closes g c =
       arith,
       next.room,
       pieces_of_words-wide (layout_view c.args.layout.now) (as_splitter c.args.cuts.now.splitter)
-          c.args.paragraph.now (words_cut (places_of c.args.cuts.now) c.args.paragraph.now) c.utf8.paragraph
-          (words_cut-texts (places_of c.args.cuts.now) c.args.paragraph.now c.utf8.paragraph c.requires),
+          c.args.paragraph.now (words_cut (cuts_of c.args.cuts.now) c.args.paragraph.now) c.utf8.paragraph
+          (words_cut-texts (cuts_of c.args.cuts.now) c.args.paragraph.now c.utf8.paragraph c.requires),
     )
 
 pub overflow_add-opens : goal.overflow_add-opens
@@ -50,8 +50,8 @@ overflow_add-opens g c =
       arith,
       next.room,
       pieces_of_words-wide (layout_view c.args.layout.now) (as_splitter c.args.cuts.now.splitter)
-          c.args.paragraph.now (words_cut (places_of c.args.cuts.now) c.args.paragraph.now) c.utf8.paragraph
-          (words_cut-texts (places_of c.args.cuts.now) c.args.paragraph.now c.utf8.paragraph c.requires),
+          c.args.paragraph.now (words_cut (cuts_of c.args.cuts.now) c.args.paragraph.now) c.utf8.paragraph
+          (words_cut-texts (cuts_of c.args.cuts.now) c.args.paragraph.now c.utf8.paragraph c.requires),
     )
 
 pub loop-piece-preserved : goal.loop-piece-preserved

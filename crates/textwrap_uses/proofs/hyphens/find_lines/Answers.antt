@@ -11,8 +11,8 @@ use Rattle.textwrap_words.specs.declared.wrap_algorithms.WrapAlgorithm.TheVarian
 use Rattle.textwrap_words.proofs.Word.Divisions.{MayDivide-map}
 use Rattle.textwrap_lines.specs.Places.{ArePlacesOf, division_cuts}
 use Rattle.textwrap_lines.specs.declared.options.Options.{Options}
-use Rattle.textwrap_steps.specs.Steps.{pieces_at}
-use Rattle.textwrap_steps.proofs.LineLemmas.{lines_between-map}
+use Rattle.textwrap_lines.specs.Steps.{pieces_at}
+use Rattle.textwrap_lines.proofs.InSteps.{lines_between-map}
 use Rattle.textwrap_uses.specs.Hyphens.{hyphenated_pieces, later_begins}
 use Rattle.textwrap_uses.proofs.Dictionary.Begins.{cuts-are}
 use Rattle.textwrap_uses.proofs.Dictionary.Points.{points-are}

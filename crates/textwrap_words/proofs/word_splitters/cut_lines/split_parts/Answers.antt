@@ -2,7 +2,7 @@ use Rattle.textwrap_base.proofs.Common.{◌≡◌, ◌==◌, false, length, drop
 use Rattle.textwrap_base.proofs.Common.{◌++◌, ◌+◌, arith, drop, drop_more, map, subst, sym, ap, ◌∙◌}
 use Rattle.textwrap_base.proofs.Common.{append_assoc, slice_range, get_or}
 use Rattle.textwrap_words.proofs.Common.{AreSplit, MaySplit, word_of, word_view}
-use Rattle.textwrap_words.specs.Cuts.{parts_between, parts_from}
+use Rattle.textwrap_words.specs.Cuts.{parts_between, parts_onward}
 use Rattle.textwrap_words.proofs.Word.Pieces.{AreSplit-push}
 use Rattle.textwrap_words.proofs.word_splitters.cut_lines.split_parts.Goals as goal
 
@@ -20,8 +20,8 @@ loop-cut-preserved g c =
     record {
       words = (
         words ++ word ∷ [],
-        append_assoc words (word ∷ []) (map word_of (parts_from cut (drop (i + 1) cuts) line))
-            ∙ ap (λ cs. words ++ map word_of (parts_from c.loop-cut.start cs line))
+        append_assoc words (word ∷ []) (map word_of (parts_onward cut (drop (i + 1) cuts) line))
+            ∙ ap (λ cs. words ++ map word_of (parts_onward c.loop-cut.start cs line))
             (sym (drop_more cuts i 0 c.loop-cut-test.true)) ∙ are,
         subst (AreSplit Points (words ++ word ∷ [])) (sym pushed)
             (AreSplit-push Points words pieces word points split may),
@@ -42,8 +42,8 @@ returns g c =
     let some : (length line == 0) ≡ false = sym c.is_empty.ensures ∙ c.if-is_empty.false in
     let none : drop i cuts ≡ [] = drop_all i cuts (omega (arith, c.loop-cut-test.false)) in
     let all : words ++ word ∷ [] ≡ map word_of (parts_between cuts line) =
-    ap (λ cs. words ++ map word_of (parts_from c.loop-cut.start cs line)) (sym none) ∙ are
-    ∙ ap (λ b. map word_of (if b then [] else parts_from 0 cuts line)) (sym some) in
+    ap (λ cs. words ++ map word_of (parts_onward c.loop-cut.start cs line)) (sym none) ∙ are
+    ∙ ap (λ b. map word_of (if b then [] else parts_onward 0 cuts line)) (sym some) in
     subst (λ ws. AreSplit Points ws (map word_view c.push_part-2.new.pieces.items)) all
     (subst (AreSplit Points (words ++ word ∷ [])) (sym pushed)
     (AreSplit-push Points words (map word_view c.loop-cut.pieces.items) word points split may))

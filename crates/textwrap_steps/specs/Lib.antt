@@ -1,2 +1,0 @@
-pub mod Offsets
-pub mod Steps

@@ -1,18 +1,18 @@
 -- What the laws say of a part.
-use Rattle.textwrap_base.proofs.Common.{◌≡◌, ℕ, Bool, true, false, List, [], ◌∷◌, ◌++◌, ap, arith}
-use Rattle.textwrap_base.proofs.Common.{flat_map, length, map, None, subst, sym, ◌∙◌}
-use Rattle.std.proofs.lemmas.List.Folds.{flat_map-map}
+use Rattle.textwrap_base.proofs.Common.{◌≡◌, ℕ, Bool, true, false, List, [], ◌∷◌, ap, arith}
+use Rattle.textwrap_base.proofs.Common.{◌&&◌, flat_map, length, nat_lt, None, subst, sym, ◌∙◌}
 use Rattle.textwrap_base.specs.Division.{IsDivision}
 use Rattle.textwrap_base.specs.declared.penalties.Penalties.{Penalties}
 use Rattle.textwrap_words.proofs.Common.{Algorithm, Greedy, LeastCost, IsDividedBy, sizes_of, WordText}
-use Rattle.textwrap_lines.specs.Paragraph.{covered}
 use Rattle.textwrap_marked.proofs.KeptWords.{printed-words}
 use Rattle.textwrap_marked.proofs.PlainLines.{IsPlainBlock}
-use Rattle.textwrap_marked.proofs.PrintedWidths.{printed-within, two-widths}
-use Rattle.textwrap_marked.specs.Laws.{CostsLeast, IsKeptOrBehind, KeepsToWidth, KeepsWords}
-use Rattle.textwrap_marked.specs.Laws.{lines_behind, Part, piece_words, widths_left}
+use Rattle.textwrap_marked.proofs.PrintedWidths.{lines-as-wide, printed-within, two-widths}
+use Rattle.textwrap_marked.specs.Laws.{AreAsWide, CostsLeast, FillsWidth, IsKeptOrBehind}
+use Rattle.textwrap_marked.specs.Laws.{KeepsToWidth, KeepsWords}
+use Rattle.textwrap_marked.specs.Laws.{Part, piece_words, widths_left}
 use Rattle.textwrap_marked.specs.Lines.{LineText}
-use Rattle.textwrap_marked.specs.Reflow.{algorithm_of, filled_end, IsOfBlock, kept_line, printed}
+use Rattle.textwrap_marked.specs.Reflow.{algorithm_of, first_room, IsOfBlock, kept_line}
+use Rattle.textwrap_marked.specs.Reflow.{later_room, line_text, line_texts}
 use Rattle.textwrap_marked.specs.declared.options.Algorithm.TheVariants as by
 use Rattle.textwrap_marked.specs.declared.options.ReflowOptions.{ReflowOptions}
 
@@ -28,14 +28,6 @@ no-division : (xs : List WordText) → IsDivision xs [] → ⊥
 no-division [] is = absurd (omega (arith, ap length is))
 no-division (x ∷ xs) is = absurd (omega (arith, ap length is.0))
 
--- its lines, as they are printed
-printed-behind : (ending first later end : List ℕ) (line : List WordText) (lines : List (List WordText))
-    → printed ending first later (line ∷ lines) ++ end
-    ≡ lines_behind ending first later (covered line) (map covered lines) end
-printed-behind ending first later end line lines =
-    ap (λ l. ((first ++ covered line) ++ l) ++ end)
-    (sym (flat_map-map (λ l. (ending ++ later) ++ l) covered lines))
-
 abbrev part_of : Bool → LineText → List LineText → Part
 part_of is_kept first lines = record { stays = is_kept; first = first; lines = lines }
 
@@ -47,9 +39,9 @@ module _ (options : ReflowOptions) where
   kept-words ending false first lines text plain ([], divided, is) =
       absurd (no-division (piece_words options first lines) (divided-is _ _ _ [] divided))
   kept-words ending false first lines text plain (line ∷ others, divided, is) = (
-    covered line,
-    map covered others,
-    is ∙ printed-behind ending first.prefix first.hanging (filled_end ending lines) line others,
+    line_text (options.justify && nat_lt 0 (length others)) (first_room options first) line,
+    line_texts options.justify (later_room options first) (later_room options first) others,
+    is,
     printed-words options first lines (line ∷ others) plain
         (divided-is _ _ (piece_words options first lines) (line ∷ others) divided),
   )
@@ -87,3 +79,18 @@ module _ (options : ReflowOptions) where
       (piece_words options first lines) division) least divided in
       let chosen = cheapest.chosen (two-widths _ _) in
       (division, (chosen.division, is), chosen.least)
+
+  pub fills-width : options.justify ≡ true → (ending : List ℕ) (is_kept : Bool) (first : LineText)
+      (lines : List LineText) (text : List ℕ) → IsPlainBlock lines
+      → IsOfBlock options ending is_kept first lines text
+      → FillsWidth options ending (part_of is_kept first lines) text
+  fills-width justify ending true first lines text plain is = tt
+  fills-width justify ending false first lines text plain (division, divided, is) =
+      let whole = divided-is _ _ (piece_words options first lines) division divided in (
+        division,
+        (whole, is),
+        printed-words options first lines division plain whole,
+        subst (λ b. AreAsWide options.width first.prefix first.hanging division
+            (line_texts b (first_room options first) (later_room options first) division)) (sym justify)
+            (lines-as-wide options.width first.prefix first.hanging division),
+      )

@@ -9,12 +9,14 @@ use Rattle.textwrap_words.proofs.Common.{tile_of, trimmed_len, word_of, WordText
 use Rattle.textwrap_words.proofs.Word.Texts.{final_blanks-blank}
 use Rattle.textwrap_lines.specs.Paragraph.{covered}
 use Rattle.textwrap_marked.proofs.BlankPieces.{division-all, EndsInBlank, words-all}
+use Rattle.textwrap_marked.proofs.JustifiedTexts.{texts-words}
 use Rattle.textwrap_marked.proofs.PlainLines.{IsPlainBlock, IsPlainLine}
 use Rattle.textwrap_marked.proofs.WordsIn.{IsPiece, IsPlain, lines-words, pieces-words}
 use Rattle.textwrap_marked.proofs.WordsIn.{words_of_tile}
 use Rattle.textwrap_marked.specs.Laws.{piece_words, words_in}
 use Rattle.textwrap_marked.specs.Lines.{LineText}
 use Rattle.textwrap_marked.specs.Pieces.{pieces, words_of}
+use Rattle.textwrap_marked.specs.Reflow.{first_room, later_room, shown_lines}
 use Rattle.textwrap_marked.specs.declared.options.ReflowOptions.{ReflowOptions}
 
 tile-text : (text : List ℕ) → tile_of (word_of text) ≡ text
@@ -46,10 +48,11 @@ words-plain (line ∷ lines) all =
 pub printed-words : (options : ReflowOptions) (first : LineText) (lines : List LineText)
     (division : List (List WordText)) → IsPlainBlock lines
     → IsDivision (piece_words options first lines) division
-    → flat_map words_in (map covered division) ≡ words_of lines
+    → flat_map words_in (shown_lines options first division) ≡ words_of lines
 printed-words options first lines division plain is =
     let words = piece_words options first lines in
-    flat_map-map words_in covered division
+    texts-words options.justify (first_room options first) (later_room options first) division
+    ∙ flat_map-map words_in covered division
     ∙ lines-words division
     (division-all IsPiece words division (words-all IsPiece is-piece options first lines) is)
     ∙ ap (flat_map words_of_tile) (division-flat words division is)

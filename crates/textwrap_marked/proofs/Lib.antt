@@ -6,6 +6,7 @@ pub mod CoveredLemmas
 pub mod FilledParts
 pub mod FittingPieces
 pub mod JoinedTurns
+pub mod JustifiedTexts
 pub mod KeptWords
 pub mod LaidLemmas
 pub mod ListLemmas

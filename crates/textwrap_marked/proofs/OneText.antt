@@ -10,7 +10,7 @@ use Rattle.textwrap_marked.specs.Blocks.{blocks, is_beside}
 use Rattle.textwrap_marked.specs.Lines.{LineText, lines_of}
 use Rattle.textwrap_marked.specs.Reflow.{algorithm_of, byte_order_mark, filled_end, filled_ending}
 use Rattle.textwrap_marked.specs.Reflow.{IsLaidOut, IsOfBlock, IsReflowedBehind, IsReflowedFrom}
-use Rattle.textwrap_marked.specs.Reflow.{printed}
+use Rattle.textwrap_marked.specs.Reflow.{printed, shown_lines}
 use Rattle.textwrap_marked.specs.declared.options.ReflowOptions.{ReflowOptions}
 
 divided-one : (algorithm : Algorithm) (widths : List ℕ) (xs : List WordText)
@@ -28,7 +28,8 @@ module _ (options : ReflowOptions) (ending : List ℕ) where
       → IsOfBlock options ending stays first lines other → text ≡ other
   block-one true first lines text other is same = is ∙ sym same
   block-one false first lines text other (division, divided, is) (second, by, same) =
-      is ∙ ap (λ d. printed ending first.prefix first.hanging d ++ filled_end ending lines)
+      is ∙ ap (λ d. printed ending first.prefix first.hanging (shown_lines options first d)
+      ++ filled_end ending lines)
       (divided-one (algorithm_of options.algorithm) _ _ division second divided by) ∙ sym same
 
   laid-one : (beside : Bool) (bs : List (List LineText)) (text other : List ℕ)

@@ -1,18 +1,21 @@
 -- What the printed lines of a paragraph keep to.
-use Rattle.textwrap_base.proofs.Common.{◌≡◌, ℕ, ◌+◌, ◌-◌, ◌<◌, ◌≤◌, List, [], ◌∷◌, All, All-cons}
-use Rattle.textwrap_base.proofs.Common.{All-head, All-nil, All-tail, AllFit, AreEqualFromSecond}
-use Rattle.textwrap_base.proofs.Common.{arith, closed_width, Fits, inl, inr, length, length-drop}
-use Rattle.textwrap_base.proofs.Common.{refl, reverse, reverse-append, subst, sym, ap, ◌∙◌}
-use Rattle.textwrap_base.proofs.Common.{take_all}
+use Rattle.textwrap_base.proofs.Common.{◌≡◌, ℕ, ◌+◌, ◌-◌, ◌<◌, ◌≤◌, true, List, [], ◌∷◌, All}
+use Rattle.textwrap_base.proofs.Common.{All-cons, All-head, All-nil, All-tail, AllFit}
+use Rattle.textwrap_base.proofs.Common.{AreEqualFromSecond, arith, closed_width, Fits, inl, inr}
+use Rattle.textwrap_base.proofs.Common.{length, length-drop, lt-ltb, refl, reverse, reverse-append}
+use Rattle.textwrap_base.proofs.Common.{subst, sym, ap, ◌∙◌, take_all}
 use Rattle.std.specs.List.{prefix_len, suffix_len}
 use Rattle.std.proofs.lemmas.List.Sums.{suffix_len-le-length}
 use Rattle.textwrap_base.specs.Division.{IsDivision}
 use Rattle.textwrap_base.proofs.Division.Greedy.{line_width-later}
 use Rattle.textwrap_words.proofs.Common.{blank, is_blank, sizes_of, trimmed_len, word_of, WordText}
+use Rattle.textwrap_lines.specs.Paragraph.{covered}
+use Rattle.textwrap_display.proofs.Widths.{justified-width}
 use Rattle.textwrap_marked.proofs.BlankPieces.{division-all, EndsInBlank, words-all}
 use Rattle.textwrap_marked.specs.Columns.{columns}
-use Rattle.textwrap_marked.specs.Laws.{AreWithin, IsWithin, piece_words}
+use Rattle.textwrap_marked.specs.Laws.{AreAsWide, AreWithin, IsAsWide, IsWithin, piece_words}
 use Rattle.textwrap_marked.specs.Lines.{LineText}
+use Rattle.textwrap_marked.specs.Reflow.{line_text, line_texts}
 use Rattle.textwrap_marked.specs.declared.options.ReflowOptions.{ReflowOptions}
 
 abbrev HasBlank : WordText → Type 0
@@ -67,6 +70,28 @@ printed-within options first lines division is fit =
     lines-within options.width first.prefix first.hanging division
     (division-all HasBlank (piece_words options first lines) division
     (words-all HasBlank word-blank options first lines) is) fit
+
+-- ---- justified lines
+
+line-as-wide : (width : ℕ) (prefix : List ℕ) (line : List WordText)
+    → IsAsWide width prefix line (line_text true (width - columns prefix) line)
+line-as-wide width prefix line utf8 whole some fits =
+    omega (
+      arith,
+      fits,
+      justified-width (covered line) utf8 whole some (width - columns prefix) (omega (arith, fits)),
+    )
+
+pub lines-as-wide : (width : ℕ) (first later : List ℕ) (lines : List (List WordText))
+    → AreAsWide width first later lines
+    (line_texts true (width - columns first) (width - columns later) lines)
+lines-as-wide width first later [] = tt
+lines-as-wide width first later (line ∷ []) = tt
+lines-as-wide width first later (line ∷ next ∷ lines) = (
+  subst (λ b. IsAsWide width first line (line_text b (width - columns first) line))
+      (sym (lt-ltb 0 (length (next ∷ lines)) (omega arith))) (line-as-wide width first line),
+  lines-as-wide width later later (next ∷ lines),
+)
 
 -- ---- least cost
 

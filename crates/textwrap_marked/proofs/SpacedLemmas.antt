@@ -9,7 +9,7 @@ use Rattle.textwrap_marked.specs.Words.{is_ink, is_white}
 use Rattle.textwrap_marked.specs.Words.{spaced_view, spaced_words, SpacedText, with_byte}
 use Rattle.textwrap_marked.specs.declared.words.SpacedWord.{SpacedWord}
 
-up : (n : ℕ) → 1 + n ≡ suc n
+pub up : (n : ℕ) → 1 + n ≡ suc n
 up n = omega arith
 
 -- the first word of a text, the white behind it, and what follows

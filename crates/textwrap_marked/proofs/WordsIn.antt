@@ -32,18 +32,18 @@ split-white (x ∷ front) c rest white =
     ]
 
 -- the words before and behind white
-words-white : (front : List ℕ) (c : ℕ) (rest : List ℕ) → is_white c ≡ true
+pub words-white : (front : List ℕ) (c : ℕ) (rest : List ℕ) → is_white c ≡ true
     → words_in (front ++ c ∷ rest) ≡ words_in front ++ words_in rest
 words-white front c rest white =
     ap (flat_map (λ w. cond (has_bytes w) (w ∷ []) [])) (split-white front c rest white)
     ∙ flat_map-append (λ w. cond (has_bytes w) (w ∷ []) []) (slice_split is_white front)
     (slice_split is_white rest)
 
-blank-white : (c : ℕ) → is_blank c ≡ true → is_white c ≡ true
+pub blank-white : (c : ℕ) → is_blank c ≡ true → is_white c ≡ true
 blank-white c is = ap (λ b. b || c == 9) is
 
 -- blanks behind a text add none
-words-blanks : (front blanks : List ℕ) → AreBlanks blanks → words_in (front ++ blanks) ≡ words_in front
+pub words-blanks : (front blanks : List ℕ) → AreBlanks blanks → words_in (front ++ blanks) ≡ words_in front
 words-blanks front [] are = ap words_in (append-nil front)
 words-blanks front (c ∷ blanks) are =
     words-white front c blanks (blank-white c (All-head (λ b. is_blank b ≡ true) c blanks are))

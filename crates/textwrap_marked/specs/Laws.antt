@@ -1,18 +1,23 @@
 -- The statements of the laws, each under a name that a caller can cite.
-use Rattle.std.specs.Prelude.{◌≡◌, ℕ, ◌+◌, ◌-◌, ◌≤◌, ◌⊎◌, ◌||◌, Bool, true, false, List, [], ◌∷◌}
-use Rattle.std.specs.Prelude.{◌++◌, All, if◌then◌else◌, length, map, nat_eq, None, ⊤}
+use Rattle.std.specs.Prelude.{◌≡◌, ◌≢◌, ℕ, ◌+◌, ◌≤◌, ◌⊎◌, ◌||◌, Bool, true, false, List, [], ◌∷◌}
+use Rattle.std.specs.Prelude.{◌++◌, All, if◌then◌else◌, IsUtf8, length, map, nat_eq, None, ⊤}
 use Rattle.std.specs.List.{flat_map, slice_split, starts_with}
 use Rattle.textwrap_base.specs.Cost.{division_cost, priced_at}
 use Rattle.textwrap_base.specs.Division.{closed_width, IsDivision}
 use Rattle.textwrap_base.specs.declared.penalties.Penalties.{Penalties}
+use Rattle.textwrap_words.specs.Units.{text_width}
 use Rattle.textwrap_words.specs.Words.{WordText, sizes_of, word_of}
 use Rattle.textwrap_lines.specs.LineEnding.{ending_bytes}
+use Rattle.textwrap_lines.specs.Paragraph.{covered}
+use Rattle.textwrap_lines.specs.Text.{HasWholeSequences}
+use Rattle.textwrap_display.specs.Justifying.{gaps, line_words}
 use Rattle.textwrap_marked.specs.Blocks.{blocks, is_beside, stays}
 use Rattle.textwrap_marked.specs.Columns.{columns}
 use Rattle.textwrap_marked.specs.Lines.{LineText, lines_of}
 use Rattle.textwrap_marked.specs.Pieces.{pieces, words_of}
-use Rattle.textwrap_marked.specs.Reflow.{byte_order_mark, filled_end, filled_ending}
-use Rattle.textwrap_marked.specs.Reflow.{IsReflowed, kept_line, kept_text, printed}
+use Rattle.textwrap_marked.specs.Reflow.{byte_order_mark, filled_end, filled_ending, first_room}
+use Rattle.textwrap_marked.specs.Reflow.{IsReflowed, kept_line, kept_text, later_room, printed}
+use Rattle.textwrap_marked.specs.Reflow.{shown_lines}
 use Rattle.textwrap_marked.specs.Words.{has_bytes, is_white}
 use Rattle.textwrap_marked.specs.declared.options.Algorithm.TheVariants.{FirstFit, LeastCost}
 use Rattle.textwrap_marked.specs.declared.options.ReflowOptions.{ReflowOptions}
@@ -127,8 +132,8 @@ piece_words options first lines = map word_of (pieces options first.starred (wor
 abbrev pub IsPrinted : ReflowOptions → List ℕ → Part → List ℕ → List (List WordText) → Type 0
 IsPrinted options ending part text division =
     IsDivision (piece_words options part.first part.lines) division
-    × (text ≡ printed ending part.first.prefix part.first.hanging division
-    ++ filled_end ending part.lines)
+    × (text ≡ printed ending part.first.prefix part.first.hanging
+    (shown_lines options part.first division) ++ filled_end ending part.lines)
 
 -- one piece, or what takes no more than the width behind this prefix
 abbrev pub IsWithin : ℕ → List ℕ → List WordText → Type 0
@@ -160,8 +165,7 @@ FirstFitKeepsToWidth =
 
 -- what its prefixes leave of the width, for the first line and for the later ones
 abbrev pub widths_left : ReflowOptions → LineText → List ℕ
-widths_left options first =
-    (options.width - columns first.prefix) ∷ (options.width - columns first.hanging) ∷ []
+widths_left options first = first_room options first ∷ later_room options first ∷ []
 
 -- of a part that does not stay no other division of its pieces costs less, at these penalties
 abbrev pub CostsLeast : ReflowOptions → Penalties → List ℕ → Part → List ℕ → Type 0
@@ -182,3 +186,41 @@ LeastCostIsLeast =
     (options : ReflowOptions) (penalties : Penalties) (text reflowed : List ℕ)
     → options.algorithm ≡ LeastCost penalties → IsReflowed options text reflowed
     → AreOfParts (CostsLeast options penalties) options text reflowed
+
+-- ---- justified lines
+
+-- a line of these pieces, printed so behind a prefix, is as wide as the width, if it has a gap, its words
+-- fit, and each escape sequence of a word ends in that word
+abbrev pub IsAsWide : ℕ → List ℕ → List WordText → List ℕ → Type 0
+IsAsWide width prefix line text =
+    IsUtf8 (covered line) → All (λ w. HasWholeSequences w.word) (line_words (covered line))
+    → gaps (covered line) ≢ 0 → columns prefix + text_width (covered line) ≤ width
+    → columns prefix + text_width text ≡ width
+
+-- all lines but the last are: the first behind one prefix, and each later one behind the other
+abbrev pub AreAsWide : ℕ → List ℕ → List ℕ → List (List WordText) → List (List ℕ) → Type 0
+AreAsWide width first later [] texts = ⊤
+AreAsWide width first later (line ∷ []) texts = ⊤
+AreAsWide width first later (line ∷ next ∷ lines) [] = ⊥
+AreAsWide width first later (line ∷ next ∷ lines) (text ∷ texts) =
+    IsAsWide width first line text × AreAsWide width later later (next ∷ lines) texts
+
+-- the lines of a part that does not stay have its words, in order, and are as wide as the width
+abbrev pub FillsWidth : ReflowOptions → List ℕ → Part → List ℕ → Type 0
+FillsWidth options ending part text = of part.stays
+  where
+    of : Bool → Type 0
+    of true = ⊤
+    of false =
+        (division : List (List WordText)) × IsPrinted options ending part text division
+        × (flat_map words_in (shown_lines options part.first division) ≡ words_of part.lines)
+        × AreAsWide options.width part.first.prefix part.first.hanging division
+        (shown_lines options part.first division)
+
+-- where lines are justified, the words stay, and each printed line of a paragraph but its last, with its
+-- prefix, is as wide as the width, if it has a gap and its words fit
+abbrev pub JustifiedLinesAreAsWide : Type 0
+JustifiedLinesAreAsWide =
+    (options : ReflowOptions) (text reflowed : List ℕ)
+    → options.justify ≡ true → IsReflowed options text reflowed
+    → AreOfParts (FillsWidth options) options text reflowed

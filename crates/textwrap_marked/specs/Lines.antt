@@ -157,9 +157,9 @@ is_deep options state margin =
     deeper (Some before) = is_deeper state.by before (depth_of margin)
 
 -- by its words alone
-abbrev pub stands_apart : Bool → Bool → Bool → List SpacedText → Bool
-stands_apart in_block starred field words =
-    not (begins_text starred (first_word words)) || has_columns words
+abbrev pub stands_apart : Bool → Bool → Bool → Bool → List SpacedText → Bool
+stands_apart justify in_block starred field words =
+    not (begins_text starred (first_word words)) || has_columns justify words
     || (field && has_byte 45 (first_word words))
     || (in_block && closes_block words && closes_early words)
 
@@ -204,7 +204,7 @@ line_from options state raw fed all ends =
       deeper = deeper;
       apart =
           is_some state.fence || deeper || state.prompted
-          || stands_apart in_block starred field words;
+          || stands_apart options.justify in_block starred field words;
       field = field;
       ended = is_ended in_block words;
       chosen = is_chosen options (spaced_text (take ends.margin all));

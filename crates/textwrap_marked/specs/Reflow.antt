@@ -6,7 +6,8 @@ use Rattle.std.specs.List.{ends_with, flat_map, slice_split, starts_with}
 use Rattle.textwrap_base.specs.Algorithms as base
 use Rattle.textwrap_words.specs.Words.{WordText, sizes_of, word_of}
 use Rattle.textwrap_lines.specs.LineEnding.{ending_bytes}
-use Rattle.textwrap_lines.specs.Paragraph.{covered}
+use Rattle.textwrap_display.specs.Justifying.{justified}
+use Rattle.textwrap_lines.specs.Paragraph.{covered, line_bytes}
 use Rattle.textwrap_lines.specs.declared.line_ending.LineEnding.{LineEnding}
 use Rattle.textwrap_lines.specs.declared.line_ending.LineEnding.TheVariants.{CRLF, LF}
 use Rattle.textwrap_marked.specs.Blocks.{blocks, is_beside, stays}
@@ -38,12 +39,23 @@ kept_text options lines = flat_map (kept_line options.ending) lines
 
 -- ---- a paragraph, filled
 
--- the lines of a division: the first behind its prefix, each later one behind an ending and the
--- hanging form
-abbrev pub printed : List ℕ → List ℕ → List ℕ → List (List WordText) → List ℕ
+-- a line, with its gaps widened up to so many columns, if that is asked for
+abbrev pub line_text : Bool → ℕ → List WordText → List ℕ
+line_text justify room line =
+    if justify then line_bytes (justified room (covered line)) else covered line
+
+-- the lines of a division, of which the later ones have other room than the first: where lines are
+-- justified, all but the last are
+abbrev pub line_texts : Bool → ℕ → ℕ → List (List WordText) → List (List ℕ)
+line_texts justify room later [] = []
+line_texts justify room later (line ∷ lines) =
+    line_text (justify && nat_lt 0 (length lines)) room line ∷ line_texts justify later later lines
+
+-- lines: the first behind its prefix, each later one behind an ending and the hanging form
+abbrev pub printed : List ℕ → List ℕ → List ℕ → List (List ℕ) → List ℕ
 printed ending first later [] = []
 printed ending first later (line ∷ lines) =
-    (first ++ covered line) ++ flat_map (λ l. (ending ++ later) ++ covered l) lines
+    (first ++ line) ++ flat_map (λ l. (ending ++ later) ++ l) lines
 
 -- the white of a hard break
 abbrev pub break_white : LineText → List ℕ
@@ -58,15 +70,28 @@ filled_ends ending lines = flat_map (λ l. break_white l ++ ending_if l.fed endi
 abbrev pub filled_end : List ℕ → List LineText → List ℕ
 filled_end ending lines = filled_ends ending (drop (length lines - 1) lines)
 
+-- what the prefixes of a paragraph leave of the width, the first line's and the later ones'
+abbrev pub first_room : ReflowOptions → LineText → ℕ
+first_room options first = options.width - columns first.prefix
+
+abbrev pub later_room : ReflowOptions → LineText → ℕ
+later_room options first = options.width - columns first.hanging
+
+-- the lines of a paragraph, as they are printed
+abbrev pub shown_lines : ReflowOptions → LineText → List (List WordText) → List (List ℕ)
+shown_lines options first division =
+    line_texts options.justify (first_room options first) (later_room options first) division
+
 module _ (options : ReflowOptions) (ending : List ℕ) where
   -- the pieces of a paragraph are divided into lines of what its prefixes leave of the width
   abbrev pub IsFilled : LineText → List LineText → List ℕ → Type 0
   IsFilled first lines text =
       (division : List (List WordText))
       × base.IsDividedBy (algorithm_of options.algorithm) sizes_of
-      ((options.width - columns first.prefix) ∷ (options.width - columns first.hanging) ∷ [])
+      (first_room options first ∷ later_room options first ∷ [])
       (map word_of (pieces options first.starred (words_of lines))) division
-      × (text ≡ printed ending first.prefix first.hanging division ++ filled_end ending lines)
+      × (text ≡ printed ending first.prefix first.hanging (shown_lines options first division)
+      ++ filled_end ending lines)
 
   -- a block of this first line stays, or is filled
   abbrev pub IsOfBlock : Bool → LineText → List LineText → List ℕ → Type 0

@@ -89,11 +89,13 @@ is_end c = c == 46 || c == 63 || c == 33 || c == 58
 abbrev pub ends_sentence : List ℕ → Bool
 ends_sentence word = fold (λ ends c. if is_closing c then ends else is_end c) false (chars word)
 
--- a tab, three blanks or more, or two that do not follow the end of a sentence
-abbrev pub is_gap : SpacedText → Bool
-is_gap w =
-    has_byte 9 w.white || nat_lt 2 (length w.white)
-    || (length w.white == 2 && not (ends_sentence w.word))
+-- three blanks or more, or two that do not follow the end of a sentence
+abbrev pub is_wide : SpacedText → Bool
+is_wide w = nat_lt 2 (length w.white) || (length w.white == 2 && not (ends_sentence w.word))
+
+-- a tab, or so much white; where lines are justified, a tab alone
+abbrev pub is_gap : Bool → SpacedText → Bool
+is_gap justify w = has_byte 9 w.white || (not justify && is_wide w)
 
 -- `|`, a comment that code stands before, a carriage return, what ends a label of a link, or `<pre`
 abbrev pub is_column_word : List ℕ → Bool
@@ -107,9 +109,9 @@ abbrev pub front_of : List SpacedText → List SpacedText
 front_of words = take (length words - 1) words
 
 -- such a word, or a gap between two words
-abbrev pub has_columns : List SpacedText → Bool
-has_columns words =
-    list_any (λ w. is_column_word w.word) words || list_any is_gap (front_of words)
+abbrev pub has_columns : Bool → List SpacedText → Bool
+has_columns justify words =
+    list_any (λ w. is_column_word w.word) words || list_any (is_gap justify) (front_of words)
 
 -- this text stands in one of the words
 abbrev pub any_contains : List ℕ → List SpacedText → Bool

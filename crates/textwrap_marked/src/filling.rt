@@ -1,15 +1,18 @@
 //! The lines of a block: as they are, or filled.
 ghost use Rattle.std.specs.Prelude.{◌≡◌, ℕ, ◌++◌, ◌∷◌, [], List, map, IfOk, OnOk, codes};
 ghost use Rattle.std.specs.Prelude.{string_bytes};
+ghost use Rattle.std.specs.List.{flat_map};
 ghost use Rattle.textwrap_base.specs.Algorithms.{IsDividedBy, LeastCost};
 ghost use Rattle.textwrap_base.specs.Cost.{total_width};
 ghost use Rattle.textwrap_base.specs.Errors.{Fits64Bits, Overflowed};
-ghost use Rattle.textwrap_lines.specs.Paragraph.{covered};
+ghost use Rattle.textwrap_display.specs.Justifying.{justified};
+ghost use Rattle.textwrap_lines.specs.Paragraph.{covered, line_bytes};
 ghost use Rattle.textwrap_words.specs.Words.{sizes_of, word_view};
 ghost use Rattle.textwrap_marked.specs.Lines.{line_view};
 ghost use Rattle.textwrap_marked.specs.Reflow.{algorithm_of, break_white, ending_if, filled_end};
-ghost use Rattle.textwrap_marked.specs.Reflow.{filled_ends};
-ghost use Rattle.textwrap_marked.specs.Reflow.{IsFilled, kept_line, kept_text, printed};
+ghost use Rattle.textwrap_marked.specs.Reflow.{filled_ends, first_room, IsFilled, kept_line};
+ghost use Rattle.textwrap_marked.specs.Reflow.{kept_text, later_room, line_text, line_texts};
+ghost use Rattle.textwrap_marked.specs.Reflow.{printed, shown_lines};
 
 use crate::columns::columns;
 use crate::lines::{Line, without_returns};
@@ -18,6 +21,7 @@ use crate::pieces::{joined_of, words_of};
 use crate::signs::last_white;
 use crate::words::ends_with;
 use std::alloc::{AllocError, Global};
+use textwrap_display::justify;
 use textwrap_lines::LineEnding;
 use textwrap_words::inner::words_between;
 use textwrap_words::words::Word;
@@ -117,30 +121,110 @@ fn push_pieces(output: &mut String, line: &[Word<'_>]) -> Result<(), AllocError>
     Ok(())
 }
 
-/// Adds the lines of a division: the first behind its prefix, each later one behind an ending and
-/// the hanging form.
-fn push_division(
+/// Adds the pieces of a line, with the gaps between words widened up to so many columns.
+fn push_justified(
+    alloc: Global,
+    output: &mut String,
+    line: &[Word<'_>],
+    room: usize,
+) -> Result<(), AllocError>
+    ensures { OnOk result (string_bytes output.new
+        ≡ string_bytes output.old ++ line_bytes (justified room (covered (map word_view line.now)))) }
+{
+    let mut text = String::new(alloc);
+    push_pieces(&mut text, line)?;
+    let text = justify(alloc, text.as_str(), room)?;
+    output.push_str(&text)
+}
+
+/// Adds the pieces of a line, which is justified at so many columns, if that is asked for.
+fn push_text(
+    alloc: Global,
+    output: &mut String,
+    line: &[Word<'_>],
+    room: usize,
+    justify: bool,
+) -> Result<(), AllocError>
+    ensures { OnOk result (string_bytes output.new
+        ≡ string_bytes output.old ++ line_text justify room (map word_view line.now)) }
+{
+    if justify {
+        push_justified(alloc, output, line, room)
+    } else {
+        push_pieces(output, line)
+    }
+}
+
+/// What its prefix leaves of the width for the first line of a paragraph.
+fn first_room(first: &Line<'_>, options: &ReflowOptions<'_>) -> usize
+    ensures { result ≡ first_room options.now (line_view first.now) }
+{
+    options.width.saturating_sub(columns(first.prefix.as_str()))
+}
+
+/// What the hanging form leaves of it for the later lines.
+fn later_room(first: &Line<'_>, options: &ReflowOptions<'_>) -> usize
+    ensures { result ≡ later_room options.now (line_view first.now) }
+{
+    options
+        .width
+        .saturating_sub(columns(first.hanging.as_str()))
+}
+
+/// Adds the later lines of a division, each behind an ending and the hanging form.
+fn push_later(
+    alloc: Global,
     output: &mut String,
     lines: &[&[Word<'_>]],
     ending: &str,
-    prefix: &str,
     hanging: &str,
+    room: usize,
+    justify: bool,
 ) -> Result<(), AllocError>
-    ensures { OnOk result (string_bytes output.new
-        ≡ string_bytes output.old ++ printed ending.now prefix.now hanging.now
-        (map (map word_view) (map (λ line. line.now) lines.now))) }
+    ensures { OnOk result (string_bytes output.new ≡ string_bytes output.old
+        ++ flat_map (λ text. (ending.now ++ hanging.now) ++ text) (line_texts justify room room
+        (map (map word_view) (map (λ line. line.now) lines.now)))) }
 {
-    let [first, later @ ..] = lines else {
-        return Ok(());
-    };
-    output.push_str(prefix)?;
-    push_pieces(output, first)?;
-    for line in later {
+    for (i, line) in lines.iter().enumerate() {
         output.push_str(ending)?;
         output.push_str(hanging)?;
-        push_pieces(output, line)?;
+        push_text(alloc, output, line, room, justify & (i + 1 < lines.len()))?;
     }
     Ok(())
+}
+
+/// Adds the lines of a division: the first behind its prefix, each later one behind an ending and
+/// the hanging form.
+fn push_division(
+    alloc: Global,
+    output: &mut String,
+    lines: &[&[Word<'_>]],
+    ending: &str,
+    first: &Line<'_>,
+    options: &ReflowOptions<'_>,
+) -> Result<(), AllocError>
+    ensures { OnOk result (string_bytes output.new ≡ string_bytes output.old
+        ++ printed ending.now (line_view first.now).prefix (line_view first.now).hanging
+        (shown_lines options.now (line_view first.now)
+        (map (map word_view) (map (λ line. line.now) lines.now)))) }
+{
+    let [line, later @ ..] = lines else {
+        return Ok(());
+    };
+    let justify = options.justify;
+    let room = first_room(first, options);
+    output.push_str(first.prefix.as_str())?;
+    push_text(alloc, output, line, room, justify & !later.is_empty())?;
+    let room = later_room(first, options);
+    push_later(
+        alloc,
+        output,
+        later,
+        ending,
+        first.hanging.as_str(),
+        room,
+        justify,
+    )
 }
 
 /// Adds the white of a hard break.
@@ -194,14 +278,9 @@ pub(crate) fn push_filled(
     let words = words_of(alloc, lines)?;
     let joined = joined_of(alloc, &words, first.starred, options)?;
     let pieces = words_between(alloc, joined.text.as_str(), &joined.cuts)?;
-    let prefix = first.prefix.as_str();
-    let hanging = first.hanging.as_str();
-    let widths = [
-        options.width.saturating_sub(columns(prefix)),
-        options.width.saturating_sub(columns(hanging)),
-    ];
+    let widths = [first_room(first, options), later_room(first, options)];
     let division = divide(alloc, options.algorithm, &pieces, &widths)?;
-    push_division(output, &division, ending, prefix, hanging)?;
+    push_division(alloc, output, &division, ending, first, options)?;
     push_end(output, lines, ending)?;
     Ok(())
 }

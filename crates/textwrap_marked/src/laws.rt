@@ -3,7 +3,8 @@
 //!
 //! A law has no example: its statement is all there is to it. A call is written
 //! `reflowed_texts_are_unique();`.
-ghost use Rattle.textwrap_marked.specs.Laws.{FirstFitKeepsToWidth, LeastCostIsLeast};
+ghost use Rattle.textwrap_marked.specs.Laws.{FirstFitKeepsToWidth, JustifiedLinesAreAsWide};
+ghost use Rattle.textwrap_marked.specs.Laws.{LeastCostIsLeast};
 ghost use Rattle.textwrap_marked.specs.Laws.{ReflowedTextsAreUnique, WhatStandsApartStays, WordsAreKept};
 
 /// A text becomes one text at the same options: the one that `reflow` returns.
@@ -15,6 +16,12 @@ pub fn reflowed_texts_are_unique()
 /// or is one piece.
 pub fn first_fit_keeps_to_width()
     ensures { FirstFitKeepsToWidth }
+{}
+
+/// Where lines are justified, the words stay, and each printed line of a paragraph but its last is as
+/// wide as the width, with the columns of its prefix, if it has a gap and its words fit.
+pub fn justified_lines_are_as_wide()
+    ensures { JustifiedLinesAreAsWide }
 {}
 
 /// By least cost, the lines of a paragraph are the cheapest of all divisions of its pieces, at the

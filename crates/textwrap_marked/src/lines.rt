@@ -114,7 +114,8 @@ fn line_from<'t>(
     let field = is_key(first_word(text)) & (ends.margin == ends.text);
     push_hanging_bullets(&mut hanging, &all[ends.margin..ends.text])?;
     let fenced = state.fence.is_some();
-    let apart = fenced | deeper | state.prompted | stands_apart(in_block, starred, field, text);
+    let by_words = stands_apart(options.justify, in_block, starred, field, text);
+    let apart = fenced | deeper | state.prompted | by_words;
     let opens_block = opening & !closes_block(text);
     let ended = is_ended(in_block, text);
     let chosen = is_chosen(margin.as_str(), options);
@@ -157,11 +158,17 @@ fn is_deep(
 }
 
 /// Whether a line stands apart by its words alone.
-fn stands_apart(in_block: bool, starred: bool, field: bool, words: &[SpacedWord<'_>]) -> bool
-    ensures { result ≡ stands_apart in_block starred field (map spaced_view words.now) }
+fn stands_apart(
+    justify: bool,
+    in_block: bool,
+    starred: bool,
+    field: bool,
+    words: &[SpacedWord<'_>],
+) -> bool
+    ensures { result ≡ stands_apart justify in_block starred field (map spaced_view words.now) }
 {
     !begins_text(starred, first_word(words))
-        | has_columns(words)
+        | has_columns(justify, words)
         | field & has_byte(b'-', first_word(words).as_bytes())
         | in_block & closes_block(words) & closes_early(words)
 }

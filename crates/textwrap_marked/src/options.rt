@@ -36,6 +36,9 @@ pub struct ReflowOptions<'a> {
     pub prefixes: &'a [&'a str],
     /// Whether text is filled that is deeper than the text before it.
     pub indented: bool,
+    /// Whether each line of a paragraph but its last has its gaps widened up to the width. Gaps of
+    /// blanks in a text are then no columns, and no reason to let it stay.
+    pub justify: bool,
 }
 
 impl ReflowOptions<'static> {
@@ -43,7 +46,7 @@ impl ReflowOptions<'static> {
 
     /// Lines of so many columns, by first fit, that end as the text does. Nothing is declared: all
     /// marks of comments count, block comments have `*`, and all paragraphs are filled but the
-    /// deeper ones.
+    /// deeper ones, with single blanks.
     pub fn new(width: usize) -> Self
         ensures width { result.width ≡ width }
         ensures algorithm { result.algorithm ≡ FirstFit }
@@ -53,6 +56,7 @@ impl ReflowOptions<'static> {
         ensures bare { result.bare ≡ false }
         ensures prefixes { result.prefixes.now ≡ [] }
         ensures indented { result.indented ≡ false }
+        ensures justify { result.justify ≡ false }
     {
         ReflowOptions {
             width,
@@ -63,6 +67,7 @@ impl ReflowOptions<'static> {
             bare: false,
             prefixes: &[],
             indented: false,
+            justify: false,
         }
     }
 }

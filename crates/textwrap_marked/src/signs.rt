@@ -5,7 +5,7 @@ ghost use Rattle.textwrap_marked.specs.Signs.{any_contains, begins_text, closes_
 ghost use Rattle.textwrap_marked.specs.Signs.{closes_early};
 ghost use Rattle.textwrap_marked.specs.Signs.{ends_early, ends_sentence, first_word, front_of};
 ghost use Rattle.textwrap_marked.specs.Signs.{has_columns, is_closing, is_column_word};
-ghost use Rattle.textwrap_marked.specs.Signs.{is_end, is_gap, is_key, is_key_character, is_rule};
+ghost use Rattle.textwrap_marked.specs.Signs.{is_end, is_gap, is_key, is_key_character, is_rule, is_wide};
 ghost use Rattle.textwrap_marked.specs.Signs.{is_rule_characters, is_rule_of, is_sign};
 ghost use Rattle.textwrap_marked.specs.Signs.{is_sign_byte, last_of, last_white};
 ghost use Rattle.textwrap_marked.specs.Signs.{last_word, may_go_on};
@@ -148,13 +148,20 @@ fn ends_sentence(word: &str) -> bool
     )
 }
 
-/// Whether the white behind a word is a gap: a tab, three blanks or more, or two that do not follow
-/// the end of a sentence.
-fn is_gap(word: &SpacedWord<'_>) -> bool
-    ensures { result ≡ is_gap (spaced_view word.now) }
+/// Whether the white behind a word is wide: three blanks or more, or two that do not follow the end of
+/// a sentence.
+fn is_wide(word: &SpacedWord<'_>) -> bool
+    ensures { result ≡ is_wide (spaced_view word.now) }
 {
     let len = word.white.len();
-    has_byte(b'\t', word.white.as_bytes()) | (len > 2) | (len == 2) & !ends_sentence(word.word)
+    (len > 2) | (len == 2) & !ends_sentence(word.word)
+}
+
+/// Whether the white behind a word is a gap: a tab, or wide; where lines are justified, a tab alone.
+fn is_gap(justify: bool, word: &SpacedWord<'_>) -> bool
+    ensures { result ≡ is_gap justify (spaced_view word.now) }
+{
+    has_byte(b'\t', word.white.as_bytes()) | !justify & is_wide(word)
 }
 
 /// Whether no paragraph contains this word: `|`, a comment behind code, a carriage return, `]:` or
@@ -179,11 +186,11 @@ fn any_column_word(words: &[SpacedWord<'_>]) -> bool
     false
 }
 
-fn any_gap(words: &[SpacedWord<'_>]) -> bool
-    ensures { result ≡ list_any is_gap (map spaced_view words.now) }
+fn any_gap(justify: bool, words: &[SpacedWord<'_>]) -> bool
+    ensures { result ≡ list_any (is_gap justify) (map spaced_view words.now) }
 {
     for word in words {
-        if is_gap(word) {
+        if is_gap(justify, word) {
             return true;
         }
     }
@@ -191,11 +198,11 @@ fn any_gap(words: &[SpacedWord<'_>]) -> bool
 }
 
 /// Whether such a word is among these, or a gap between two.
-pub(crate) fn has_columns(words: &[SpacedWord<'_>]) -> bool
-    ensures { result ≡ has_columns (map spaced_view words.now) }
+pub(crate) fn has_columns(justify: bool, words: &[SpacedWord<'_>]) -> bool
+    ensures { result ≡ has_columns justify (map spaced_view words.now) }
 {
     let (front, _) = split_last(words);
-    any_column_word(words) | any_gap(front)
+    any_column_word(words) | any_gap(justify, front)
 }
 
 /// Whether a text stands in one of the words.

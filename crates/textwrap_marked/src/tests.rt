@@ -15,6 +15,7 @@ const AT_16: ReflowOptions<'_> = ReflowOptions {
     bare: false,
     prefixes: &[],
     indented: false,
+    justify: false,
 };
 
 /// The same at other widths.
@@ -34,6 +35,12 @@ const MARKDOWN: ReflowOptions<'_> = ReflowOptions {
 const BARE: ReflowOptions<'_> = ReflowOptions {
     bare: true,
     ..AT_20
+};
+
+/// Gaps that are widened up to the width.
+const JUSTIFIED: ReflowOptions<'_> = ReflowOptions {
+    justify: true,
+    ..AT_16
 };
 
 /// A kind of text, the options, and what becomes of a text; the empty text where it stays.
@@ -300,10 +307,59 @@ const DECLARED: &[Row] = &[
     ),
 ];
 
+/// Justified paragraphs: all lines but the last are as wide as 16 columns.
+const JUSTIFIED_ROWS: &[Row] = &[
+    (
+        "the first gaps get one blank more",
+        JUSTIFIED,
+        "> one two six ten red blue\n> four\n",
+        "> one   two  six\n> ten  red  blue\n> four\n",
+    ),
+    (
+        "a list; a single line stays",
+        JUSTIFIED,
+        "- one two three four five six\n- seven eight\n",
+        "- one  two three\n  four five six\n- seven eight\n",
+    ),
+    (
+        "wide gaps are no columns",
+        JUSTIFIED,
+        "One    two\nthree four five\n",
+        "One   two  three\nfour five\n",
+    ),
+    (
+        "a tab is one",
+        JUSTIFIED,
+        "one\ttwo three four five\n",
+        "one\ttwo three four five\n",
+    ),
+    (
+        "a tab in the prefix has its columns",
+        ReflowOptions {
+            width: 28,
+            ..JUSTIFIED
+        },
+        "\t// one two three four\n\t// five\n",
+        "\t// one   two   three\n\t// four five\n",
+    ),
+    (
+        "lines of one word stay",
+        ReflowOptions {
+            width: 8,
+            ..JUSTIFIED
+        },
+        "abcdefghijkl mnopqrstuvwxyz abc\n",
+        "abcdefghijkl\nmnopqrstuvwxyz\nabc\n",
+    ),
+];
+
 /// What a caller declares and asks for counts.
 #[test]
 fn what_is_declared_counts(rt: HostRuntime) {
     for &(kind, options, text, becomes) in DECLARED {
+        assert_becomes(&rt, kind, &options, text, becomes);
+    }
+    for &(kind, options, text, becomes) in JUSTIFIED_ROWS {
         assert_becomes(&rt, kind, &options, text, becomes);
     }
 }
@@ -320,5 +376,9 @@ fn a_large_text_is_filled(rt: HostRuntime) {
     let wanted = "> one two three\n> four five\n\n"
         .repeat(rt.alloc(), MANY)
         .expect(&rt, "text");
+    let justified = "> one  two three\n> four five\n\n"
+        .repeat(rt.alloc(), MANY)
+        .expect(&rt, "text");
     assert_becomes(&rt, "large", &ReflowOptions::new(16), &text, &wanted);
+    assert_becomes(&rt, "large, justified", &JUSTIFIED, &text, &justified);
 }

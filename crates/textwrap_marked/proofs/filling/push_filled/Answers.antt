@@ -1,5 +1,5 @@
 use Rattle.textwrap_marked.proofs.filling.push_filled.Goals as goal
-use Rattle.textwrap_base.proofs.Common.{◌≡◌, ◌-◌, ◌++◌, ◌∷◌, [], List, ℕ, map, ap, sym, ◌∙◌, subst}
+use Rattle.textwrap_base.proofs.Common.{◌≡◌, ◌++◌, ◌∷◌, [], List, ℕ, map, ap, sym, ◌∙◌, subst}
 use Rattle.textwrap_base.proofs.Common.{append_assoc, arith, IsUtf8, refl}
 use Rattle.textwrap_words.proofs.Common.{IsDividedBy, sizes_of, word_of, word_view}
 use Rattle.textwrap_words.specs.Cuts.{AreCuts, parts_between}
@@ -7,10 +7,9 @@ use Rattle.textwrap_marked.proofs.FittingPieces.{pieces-fit}
 use Rattle.textwrap_marked.proofs.PieceCuts.{joined-cuts}
 use Rattle.textwrap_marked.proofs.PieceLemmas.{joined-pieces}
 use Rattle.textwrap_marked.proofs.filling.push_filled.Goals.{After-deref-2}
-use Rattle.textwrap_marked.specs.Columns.{columns}
 use Rattle.textwrap_marked.specs.Lines.{line_view}
 use Rattle.textwrap_marked.specs.Pieces.{Joined, joined_of, joined_view, pieces, words_of}
-use Rattle.textwrap_marked.specs.Reflow.{algorithm_of, filled_end, printed}
+use Rattle.textwrap_marked.specs.Reflow.{algorithm_of, filled_end, printed, shown_lines}
 
 -- the text and its cuts are those of the words
 joined : (c : After-deref-2) → joined_view c.in_ok-joined.joined ≡ joined_of c.args.options.now
@@ -57,23 +56,16 @@ returns-clause-filled c =
     let cut : map word_view c.deref-3.result.now ≡ parts =
     ap (map word_view) c.deref-3.ensures.value ∙ c.in_ok-pieces.ensures
     ∙ ap (map word_of) (pieces-are (goal.at.returns-clause-filled c).After-deref-2) in
-    let room : c.saturating_sub.result ≡ options.width - columns first.prefix =
-    c.saturating_sub.ensures
-    ∙ ap (λ n. options.width - n) (c.columns.ensures ∙ ap columns c.as_str-prefix.ensures.value) in
-    let later : c.saturating_sub-2.result ≡ options.width - columns first.hanging =
-    c.saturating_sub-2.ensures
-    ∙ ap (λ n. options.width - n) (c.columns-2.ensures ∙ ap columns c.as_str-hanging.ensures.value) in
     let divided = subst (λ ps. IsDividedBy algorithm sizes_of
-    (c.saturating_sub.result ∷ c.saturating_sub-2.result ∷ []) ps division) cut
+    (c.first_room.result ∷ c.later_room.result ∷ []) ps division) cut
     c.in_ok-division.ensures.divided in
-    let shown = rw (c.deref-4.ensures.value, c.as_str-prefix.ensures.value, c.as_str-hanging.ensures.value)
-    at c.in_ok-push_division.ensures in
-    let text = printed ending first.prefix first.hanging division in (
+    let shown = rw c.deref-4.ensures.value at c.in_ok-push_division.ensures in
+    let text = printed ending first.prefix first.hanging (shown_lines options first division) in (
       text ++ filled_end ending lines,
       (
         division,
         subst (λ (ws : List ℕ). IsDividedBy algorithm sizes_of ws parts division)
-            (λ i. room i ∷ later i ∷ []) divided,
+            (λ i. c.first_room.ensures i ∷ c.later_room.ensures i ∷ []) divided,
         refl,
       ),
       c.in_ok-push_end.ensures ∙ ap (λ t. t ++ filled_end ending lines) shown

@@ -29,8 +29,8 @@ module _ (options : ReflowOptions) (state : StateText) (raw : List ℕ) (fed : B
       → words ≡ drop ends.text all → opening ≡ has_opening ends all → star ≡ has_byte 42 form
       → deeper ≡ is_deep options state form → key ≡ is_key (first_word words)
       → closes ≡ closes_block words → fenced ≡ is_some state.fence
-      → apart ≡ stands_apart (state.in_block || opening) ((state.in_block || opening) && not star)
-      (key && ends.margin == ends.text) words
+      → apart ≡ stands_apart options.justify (state.in_block || opening)
+      ((state.in_block || opening) && not star) (key && ends.margin == ends.text) words
       → ended ≡ is_ended (state.in_block || opening) words → chosen ≡ is_chosen options margin
       → record {
         raw = raw;
@@ -69,7 +69,7 @@ returns c =
     (string_bytes c.in_ok-hanging.hanging) (string_bytes c.push_hanging_bullets.new.text)
     (map spaced_view c.in_ok-words.words.items) c.has_opening-opening.result c.has_byte.result
     c.in_ok-deeper.deeper c.is_key.result c.closes_block.result c.is_some-fenced.result
-    c.stands_apart.result c.is_ended-ended.result c.is_chosen-chosen.result
+    c.stands_apart-by_words.result c.is_ended-ended.result c.is_chosen-chosen.result
     (c.in_ok-margin.ensures ∙ ap spaced_text (sym (take-map spaced_view ends.margin all)))
     (c.in_ok-prefix.ensures ∙ ap spaced_text (sym (take-map spaced_view ends.text all)))
     c.in_ok-hanging.ensures (c.in_ok-push_hanging_bullets.ensures
@@ -79,6 +79,6 @@ returns c =
     (c.is_key.ensures ∙ ap is_key (c.first_word.ensures ∙ ap first_word same))
     (c.closes_block.ensures ∙ ap closes_block same)
     (c.is_some-fenced.ensures ∙ is_some-view c.args.state.now.fence)
-    (c.stands_apart.ensures ∙ ap (stands_apart _ _ _) same)
+    (c.stands_apart-by_words.ensures ∙ ap (stands_apart _ _ _ _) same)
     (c.is_ended-ended.ensures ∙ ap (is_ended _) same)
     (c.is_chosen-chosen.ensures ∙ ap (is_chosen options) c.as_str.ensures.value)

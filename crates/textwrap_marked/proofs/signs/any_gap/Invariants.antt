@@ -5,5 +5,5 @@ use Rattle.textwrap_marked.specs.Words.{spaced_view}
 
 -- none of the words so far passes
 abbrev pub invariant-loop-word : goal.invariant-loop-word
-invariant-loop-word l = list_any (λ w. is_gap w) (map spaced_view (drop l.word-index l.words))
-    ≡ list_any (λ w. is_gap w) (map spaced_view l.words)
+invariant-loop-word l = list_any (λ w. is_gap l.justify w) (map spaced_view (drop l.word-index l.words))
+    ≡ list_any (λ w. is_gap l.justify w) (map spaced_view l.words)

@@ -1,0 +1,13 @@
+use Rattle.textwrap_marked.proofs.filling.push_later.Given as goal
+use Rattle.textwrap_base.proofs.Common.{◌≡◌, ◌++◌, drop, flat_map, map, string_bytes}
+use Rattle.textwrap_words.proofs.Common.{word_view}
+use Rattle.textwrap_marked.specs.Reflow.{line_texts}
+
+-- with the lines that are left, it is the whole
+abbrev pub invariant-loop-i : goal.invariant-loop-i
+invariant-loop-i l =
+    string_bytes l.output ++ flat_map (λ text. (l.ending ++ l.hanging) ++ text)
+    (line_texts l.justify l.room l.room
+    (map (map word_view) (map (λ line. line.now) (drop l.i l.lines))))
+    ≡ string_bytes l.fn.output ++ flat_map (λ text. (l.ending ++ l.hanging) ++ text)
+    (line_texts l.justify l.room l.room (map (map word_view) (map (λ line. line.now) l.lines)))

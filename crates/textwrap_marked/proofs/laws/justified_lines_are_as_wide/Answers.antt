@@ -1,0 +1,8 @@
+use Rattle.textwrap_marked.proofs.laws.justified_lines_are_as_wide.Goals as goal
+use Rattle.textwrap_marked.proofs.FilledParts.{fills-width}
+use Rattle.textwrap_marked.proofs.NewParts.{new-parts}
+use Rattle.textwrap_marked.specs.Laws.{FillsWidth}
+
+pub returns : goal.returns
+returns c = λ options text reflowed justify is.
+    new-parts options (FillsWidth options) (fills-width options justify) text reflowed is

@@ -5,20 +5,27 @@
 
 #define PROVED(name) extern __typeof__(textwrap_##name) proved_##name
 PROVED(display_width);
+PROVED(display_width_utf8);
 PROVED(strip_ansi_escape_sequences);
 PROVED(fill);
+PROVED(fill_utf8);
 PROVED(fill_bound);
 PROVED(fill_inplace);
 PROVED(wrap);
+PROVED(wrap_utf8);
 PROVED(wrap_room_bound);
 PROVED(wrap_columns);
 PROVED(wrap_columns_room_bound);
 PROVED(column_width);
 PROVED(rows_of_lines);
 PROVED(refill);
+PROVED(refill_utf8);
 PROVED(unfill);
+PROVED(unfill_utf8);
 PROVED(indent);
+PROVED(indent_utf8);
 PROVED(dedent);
+PROVED(dedent_utf8);
 PROVED(align);
 PROVED(justify);
 PROVED(fill_justified);
@@ -84,6 +91,10 @@ textwrap_status textwrap_display_width(const uint8_t *text, size_t text_len, siz
     return proved_display_width(ARRAY(text, text_len), columns);
 }
 
+textwrap_status textwrap_display_width_utf8(const uint8_t *text, size_t text_len, size_t *columns) {
+    return proved_display_width_utf8(ARRAY(text, text_len), columns);
+}
+
 textwrap_status textwrap_strip_ansi_escape_sequences(const uint8_t *text, size_t text_len,
                                                      uint8_t *room, size_t room_len, size_t *len) {
     return proved_strip_ansi_escape_sequences(ARRAY(text, text_len), ARRAY(room, room_len), len);
@@ -93,6 +104,13 @@ textwrap_status textwrap_fill(const uint8_t *text, size_t text_len, const textwr
                               uint8_t *room, size_t room_len, size_t *len) {
     textwrap_options some = some_options(options);
     return proved_fill(ARRAY(text, text_len), &some, ARRAY(room, room_len), len);
+}
+
+textwrap_status textwrap_fill_utf8(const uint8_t *text, size_t text_len,
+                                   const textwrap_options *options, uint8_t *room, size_t room_len,
+                                   size_t *len) {
+    textwrap_options some = some_options(options);
+    return proved_fill_utf8(ARRAY(text, text_len), &some, ARRAY(room, room_len), len);
 }
 
 size_t textwrap_fill_bound(size_t text_len, const textwrap_options *options) {
@@ -110,6 +128,15 @@ textwrap_status textwrap_wrap(const uint8_t *text, size_t text_len, const textwr
     textwrap_options some = some_options(options);
     return proved_wrap(ARRAY(text, text_len), &some, ARRAY(lines, lines_len), count,
                        ARRAY(room, room_len), len);
+}
+
+textwrap_status textwrap_wrap_utf8(const uint8_t *text, size_t text_len,
+                                   const textwrap_options *options, textwrap_line *lines,
+                                   size_t lines_len, size_t *count, uint8_t *room, size_t room_len,
+                                   size_t *len) {
+    textwrap_options some = some_options(options);
+    return proved_wrap_utf8(ARRAY(text, text_len), &some, ARRAY(lines, lines_len), count,
+                            ARRAY(room, room_len), len);
 }
 
 size_t textwrap_wrap_room_bound(size_t text_len, const textwrap_options *options) {
@@ -157,9 +184,21 @@ textwrap_status textwrap_refill(const uint8_t *text, size_t text_len,
     return proved_refill(ARRAY(text, text_len), &some, ARRAY(room, room_len), len);
 }
 
+textwrap_status textwrap_refill_utf8(const uint8_t *text, size_t text_len,
+                                     const textwrap_options *options, uint8_t *room,
+                                     size_t room_len, size_t *len) {
+    textwrap_options some = some_options(options);
+    return proved_refill_utf8(ARRAY(text, text_len), &some, ARRAY(room, room_len), len);
+}
+
 textwrap_status textwrap_unfill(const uint8_t *text, size_t text_len, uint8_t *room,
                                 size_t room_len, size_t *len, textwrap_layout *layout) {
     return proved_unfill(ARRAY(text, text_len), ARRAY(room, room_len), len, layout);
+}
+
+textwrap_status textwrap_unfill_utf8(const uint8_t *text, size_t text_len, uint8_t *room,
+                                     size_t room_len, size_t *len, textwrap_layout *layout) {
+    return proved_unfill_utf8(ARRAY(text, text_len), ARRAY(room, room_len), len, layout);
 }
 
 textwrap_status textwrap_indent(const uint8_t *text, size_t text_len, const uint8_t *prefix,
@@ -168,9 +207,21 @@ textwrap_status textwrap_indent(const uint8_t *text, size_t text_len, const uint
                          len);
 }
 
+textwrap_status textwrap_indent_utf8(const uint8_t *text, size_t text_len, const uint8_t *prefix,
+                                     size_t prefix_len, uint8_t *room, size_t room_len,
+                                     size_t *len) {
+    return proved_indent_utf8(ARRAY(text, text_len), ARRAY(prefix, prefix_len),
+                              ARRAY(room, room_len), len);
+}
+
 textwrap_status textwrap_dedent(const uint8_t *text, size_t text_len, uint8_t *room,
                                 size_t room_len, size_t *len) {
     return proved_dedent(ARRAY(text, text_len), ARRAY(room, room_len), len);
+}
+
+textwrap_status textwrap_dedent_utf8(const uint8_t *text, size_t text_len, uint8_t *room,
+                                     size_t room_len, size_t *len) {
+    return proved_dedent_utf8(ARRAY(text, text_len), ARRAY(room, room_len), len);
 }
 
 textwrap_status textwrap_align(const uint8_t *line, size_t line_len, size_t width,

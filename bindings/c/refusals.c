@@ -136,6 +136,28 @@ static textwrap_status measured(struct lent *lent) {
     return textwrap_display_width(bytes(TEXT), strlen(TEXT), &lent->len);
 }
 
+/* Of texts that are known to be UTF-8. */
+static textwrap_status known_filled(struct lent *lent) {
+    textwrap_options o = options_of(1, 1);
+    return textwrap_fill_utf8(bytes(TEXT), strlen(TEXT), &o, lent->room, 256, &lent->len);
+}
+
+static textwrap_status known_filled_by_first_fit(struct lent *lent) {
+    textwrap_options o = options_of(0, 1);
+    return textwrap_fill_utf8(bytes(TEXT), strlen(TEXT), &o, lent->room, 256, &lent->len);
+}
+
+static textwrap_status known_wrapped(struct lent *lent) {
+    textwrap_options o = options_of(1, 1);
+    return textwrap_wrap_utf8(bytes(TEXT), strlen(TEXT), &o, lent->lines, 16, &lent->count, lent->room,
+                              256, &lent->len);
+}
+
+static textwrap_status known_refilled(struct lent *lent) {
+    textwrap_options o = options_of(1, 0);
+    return textwrap_refill_utf8(bytes("* foo\n  bar\n"), 12, &o, lent->room, 256, &lent->len);
+}
+
 static textwrap_status aligned(struct lent *lent) {
     return textwrap_align(bytes("foo"), 3, 8, TEXTWRAP_CENTRE, lent->room, 256, &lent->len);
 }
@@ -385,6 +407,7 @@ static const struct call DIRECT[] = {
     {"unfill", unfilled},
     {"indent", indented},
     {"dedent", dedented},
+    {"fill_utf8 by first fit, with an indent", known_filled_by_first_fit},
 };
 
 static const struct call CALLS[] = {
@@ -396,6 +419,9 @@ static const struct call CALLS[] = {
     {"refill", refilled},
     {"fill_inplace", in_place},
     {"display_width", measured},
+    {"fill_utf8", known_filled},
+    {"wrap_utf8", known_wrapped},
+    {"refill_utf8", known_refilled},
     {"align", aligned},
     {"justify", justified},
     {"fill_justified", filled_justified},

@@ -44,11 +44,15 @@ static void a_long_text_is_filled(void) {
         CHECK(textwrap_fill(text, LONG, &o, room, LONG, &len) == TEXTWRAP_DONE);
         CHECK(is_equal(room, len, filled, LONG - 1));
         memset(room, 0, LONG);
+        CHECK(textwrap_fill_utf8(text, LONG, &o, room, LONG, &len) == TEXTWRAP_DONE);
+        CHECK(is_equal(room, len, filled, LONG - 1));
+        memset(room, 0, LONG);
         CHECK(textwrap_fill_by(text, LONG, &o, &none, room, LONG, &len) == TEXTWRAP_DONE);
         CHECK(is_equal(room, len, filled, LONG - 1));
     }
     size_t columns = 0;
     CHECK(textwrap_display_width(text, LONG, &columns) == TEXTWRAP_DONE && columns == LONG);
+    CHECK(textwrap_display_width_utf8(text, LONG, &columns) == TEXTWRAP_DONE && columns == LONG);
     CHECK(textwrap_fill_inplace(text, LONG - 1, 7) == TEXTWRAP_DONE);
     CHECK(is_equal(text, LONG - 1, filled, LONG - 1));
     free(text);

@@ -247,6 +247,95 @@ static void texts_are_indented_dedented_and_filled_in_place(void) {
     CHECK(memcmp(words, "a\nb\nc", 5) == 0);
 }
 
+/* What a call wrote and answered: a text, or lines and their texts, or a number. */
+struct answer {
+    uint8_t room[64];
+    textwrap_line lines[8];
+    textwrap_layout layout;
+    size_t count, len, status;
+};
+
+/* Each call that has a twin for texts that are known to be UTF-8, or that twin. */
+static struct answer answer_of(int call, int is_known, textwrap_text text, const textwrap_options *o,
+                               size_t room_len) {
+    struct answer a;
+    memset(&a, 7, sizeof a);
+    const uint8_t *at = text.at, *prefix = bytes("\xc2\xbb ");
+    uint8_t *room = a.room;
+    size_t len = text.len, *told = &a.len;
+    switch (call) {
+    case 0:
+        a.status = is_known ? textwrap_fill_utf8(at, len, o, room, room_len, told)
+                            : textwrap_fill(at, len, o, room, room_len, told);
+        break;
+    case 1:
+        a.status = is_known
+                       ? textwrap_wrap_utf8(at, len, o, a.lines, 8, &a.count, room, room_len, told)
+                       : textwrap_wrap(at, len, o, a.lines, 8, &a.count, room, room_len, told);
+        break;
+    case 2:
+        a.status = is_known ? textwrap_refill_utf8(at, len, o, room, room_len, told)
+                            : textwrap_refill(at, len, o, room, room_len, told);
+        break;
+    case 3:
+        a.status = is_known ? textwrap_unfill_utf8(at, len, room, room_len, told, &a.layout)
+                            : textwrap_unfill(at, len, room, room_len, told, &a.layout);
+        break;
+    case 4:
+        a.status = is_known ? textwrap_indent_utf8(at, len, prefix, 3, room, room_len, told)
+                            : textwrap_indent(at, len, prefix, 3, room, room_len, told);
+        break;
+    case 5:
+        a.status = is_known ? textwrap_dedent_utf8(at, len, room, room_len, told)
+                            : textwrap_dedent(at, len, room, room_len, told);
+        break;
+    default:
+        a.status = is_known ? textwrap_display_width_utf8(at, len, told)
+                            : textwrap_display_width(at, len, told);
+    }
+    return a;
+}
+
+/* Options whose indents are no texts are refused, though the text is known. */
+static void wrong_indents_are_refused_beside_known_texts(void) {
+    textwrap_options o = textwrap_options_new(10);
+    o.subsequent_indent = text_of("\xff");
+    for (int call = 0; call < 3; call++) {
+        const struct answer a = answer_of(call, 1, text_of("foo"), &o, 64);
+        CHECK(a.status == TEXTWRAP_NOT_UTF8 && a.room[0] == 7);
+    }
+    o.version = 2;
+    for (int call = 0; call < 3; call++)
+        CHECK(answer_of(call, 1, text_of("foo"), &o, 64).status == TEXTWRAP_UNKNOWN_OPTIONS);
+}
+
+static void known_texts_are_treated_as_others(void) {
+    static const char *texts[] = {"",
+                                  "foo bar baz",
+                                  "- foo",
+                                  "\xc3\xa9t\xc3\xa9  ",
+                                  "\xe6\x97\xa5\xe6\x9c\xac \xe6\x97\xa5",
+                                  "  \xc3\xa9\n  bar\n",
+                                  "* foo\r\n  b\xc3\xa9\r\n"};
+    for (int i = 0; i < 7; i++) {
+        for (int option = 0; option < 32; option++) {
+            textwrap_options o = textwrap_options_new(option & 1 ? 4 : 20);
+            o.optimal_fit = option >> 1 & 1;
+            o.unicode_breaks = option >> 2 & 1;
+            o.preserve_trailing_space = option >> 3 & 1;
+            if (option & 16) o.initial_indent = text_of("\xc2\xbb");
+            for (int call = 0; call < 7; call++) {
+                for (size_t room_len = 1; room_len <= 64; room_len *= 8) {
+                    const struct answer known = answer_of(call, 1, text_of(texts[i]), &o, room_len);
+                    const struct answer other = answer_of(call, 0, text_of(texts[i]), &o, room_len);
+                    CHECK(memcmp(&known, &other, sizeof known) == 0);
+                    CHECK(known.status == TEXTWRAP_DONE || known.status == TEXTWRAP_TOO_SMALL);
+                }
+            }
+        }
+    }
+}
+
 /* Whether these lines, which stand in the room one after another, are those of the text. There each
  * ends in a line feed. */
 static int are_lines(const textwrap_line *lines, size_t count, const uint8_t *room, size_t len,
@@ -1056,11 +1145,14 @@ static void a_pointer_to_nothing_may_be_null(void) {
     uint8_t room[10];
     size_t count = 9, len = 9, end[1];
     CHECK(textwrap_display_width(NULL, 0, &count) == TEXTWRAP_DONE && count == 0);
+    CHECK(textwrap_display_width_utf8(NULL, 0, &count) == TEXTWRAP_DONE && count == 0);
     CHECK(textwrap_fill(NULL, 0, &o, NULL, 0, &len) == TEXTWRAP_DONE && len == 0);
+    CHECK(textwrap_fill_utf8(NULL, 0, &o, NULL, 0, &len) == TEXTWRAP_DONE && len == 0);
     CHECK(textwrap_fill(bytes("foo"), 3, &o, NULL, 0, &len) == TEXTWRAP_TOO_SMALL && len == 3);
     CHECK(textwrap_fill_bound(3, &o) == 6);
     CHECK(textwrap_wrap(NULL, 0, &o, line, 1, &count, NULL, 0, &len) == TEXTWRAP_DONE && count == 1);
     CHECK(textwrap_wrap(NULL, 0, &o, NULL, 0, &count, NULL, 0, &len) == TEXTWRAP_TOO_SMALL);
+    CHECK(textwrap_wrap_utf8(NULL, 0, &o, NULL, 0, &count, NULL, 0, &len) == TEXTWRAP_TOO_SMALL);
     CHECK(textwrap_wrap_room_bound(3, &o) == 0);
     CHECK(textwrap_wrap_by(NULL, 0, &o, &functions, line, 1, &count, NULL, 0, &len) == TEXTWRAP_DONE);
     CHECK(count == 1 && line[0].offset == 0 && line[0].len == 0);
@@ -1078,6 +1170,10 @@ static void a_pointer_to_nothing_may_be_null(void) {
     CHECK(textwrap_unfill(NULL, 0, NULL, 0, &len, &layout) == TEXTWRAP_DONE && len == 0);
     CHECK(textwrap_indent(NULL, 0, NULL, 0, NULL, 0, &len) == TEXTWRAP_DONE && len == 0);
     CHECK(textwrap_dedent(NULL, 0, NULL, 0, &len) == TEXTWRAP_DONE && len == 0);
+    CHECK(textwrap_refill_utf8(NULL, 0, &o, NULL, 0, &len) == TEXTWRAP_DONE && len == 0);
+    CHECK(textwrap_unfill_utf8(NULL, 0, NULL, 0, &len, &layout) == TEXTWRAP_DONE && len == 0);
+    CHECK(textwrap_indent_utf8(NULL, 0, NULL, 0, NULL, 0, &len) == TEXTWRAP_DONE && len == 0);
+    CHECK(textwrap_dedent_utf8(NULL, 0, NULL, 0, &len) == TEXTWRAP_DONE && len == 0);
     CHECK(textwrap_fill_inplace(NULL, 0, 10) == TEXTWRAP_DONE);
     CHECK(textwrap_align(NULL, 0, 0, TEXTWRAP_LEFT, NULL, 0, &len) == TEXTWRAP_DONE && len == 0);
     CHECK(textwrap_align(NULL, 0, 3, TEXTWRAP_LEFT, room, 10, &len) == TEXTWRAP_DONE && len == 3);
@@ -1131,6 +1227,8 @@ int main(void) {
     rows_are_written();
     filled_texts_are_unfilled_and_refilled();
     texts_are_indented_dedented_and_filled_in_place();
+    known_texts_are_treated_as_others();
+    wrong_indents_are_refused_beside_known_texts();
     lines_are_aligned();
     lines_are_justified();
     texts_are_filled_and_justified();

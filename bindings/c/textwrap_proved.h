@@ -627,6 +627,46 @@ textwrap_status textwrap_fill_by(const uint8_t *text, size_t text_len,
                                  const textwrap_functions *functions, uint8_t *room,
                                  size_t room_len, size_t *len);
 
+/* ---- Texts that are known to be UTF-8. Each call above tests the texts that it is handed, which can be
+ * most of the time that a short one takes. These do not: they are for languages whose texts are UTF-8
+ * always, such as Rust. What the caller owes is that `text`, and of textwrap_indent_utf8 `prefix` too, is
+ * UTF-8; of any other bytes nothing is promised, not even that the call stays within its memory. All
+ * else is as in the call without _utf8 in its name: indents in the options are tested, and are what
+ * NOT_UTF8 is about. */
+
+TEXTWRAP_CHECKED
+textwrap_status textwrap_fill_utf8(const uint8_t *text, size_t text_len,
+                                   const textwrap_options *options, uint8_t *room, size_t room_len,
+                                   size_t *len);
+
+TEXTWRAP_CHECKED
+textwrap_status textwrap_wrap_utf8(const uint8_t *text, size_t text_len,
+                                   const textwrap_options *options, textwrap_line *lines,
+                                   size_t lines_len, size_t *count, uint8_t *room, size_t room_len,
+                                   size_t *len);
+
+TEXTWRAP_CHECKED
+textwrap_status textwrap_refill_utf8(const uint8_t *text, size_t text_len,
+                                     const textwrap_options *options, uint8_t *room,
+                                     size_t room_len, size_t *len);
+
+/* It returns DONE or TOO_SMALL, and so do the next two. */
+TEXTWRAP_CHECKED
+textwrap_status textwrap_unfill_utf8(const uint8_t *text, size_t text_len, uint8_t *room,
+                                     size_t room_len, size_t *len, textwrap_layout *layout);
+
+TEXTWRAP_CHECKED
+textwrap_status textwrap_indent_utf8(const uint8_t *text, size_t text_len, const uint8_t *prefix,
+                                     size_t prefix_len, uint8_t *room, size_t room_len, size_t *len);
+
+TEXTWRAP_CHECKED
+textwrap_status textwrap_dedent_utf8(const uint8_t *text, size_t text_len, uint8_t *room,
+                                     size_t room_len, size_t *len);
+
+/* It returns DONE. */
+TEXTWRAP_CHECKED
+textwrap_status textwrap_display_width_utf8(const uint8_t *text, size_t text_len, size_t *columns);
+
 /* ---- Room that is enough, by the length of a text alone: for a caller who would rather allocate once
  * than call twice. A bound that a size_t cannot hold is SIZE_MAX. Filling, wrapping and columns have
  * bounds. Each other call that has a `len` or a `count` tells it in a first call without room; of

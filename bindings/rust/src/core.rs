@@ -49,7 +49,7 @@ use core::ops::Deref;
 /// assert_eq!(display_width("你好"), 4);
 /// ```
 pub fn display_width(text: &str) -> usize {
-    value_by!(textwrap_display_width(text))
+    value_by!(textwrap_display_width_utf8(text))
 }
 
 /// The text without its escape sequences, as those for colours and links.

@@ -37,7 +37,7 @@ where
     // A short line takes so little time that it matters how the options get here. This is compiled where
     // it is called, and lends them to nothing; so they are written to memory once, as C has them.
     match width_or_options.into().built_in() {
-        Ok(with) => text_by!(guess::filled(text, 8, &with), textwrap_fill(text; &with)),
+        Ok(with) => text_by!(guess::filled(text, 8, &with), textwrap_fill_utf8(text; &with)),
         Err(options) => custom::filled(text, options),
     }
 }
@@ -59,7 +59,7 @@ where
     let guess = filled_text.len() + filled_text.len() / 4;
     // As in `fill`.
     match new_width_or_options.into().built_in() {
-        Ok(with) => text_by!(guess, textwrap_refill(filled_text; &with)),
+        Ok(with) => text_by!(guess, textwrap_refill_utf8(filled_text; &with)),
         Err(options) => custom::refilled(filled_text, options),
     }
 }
@@ -70,7 +70,7 @@ where
 /// [`OutOfMemory`] if memory runs out.
 pub fn indent(s: &str, prefix: &str) -> Result<String, OutOfMemory> {
     let guess = guess::with_more(s.len(), guess::line_feeds(s) + 1, prefix.len());
-    text_by!(guess, textwrap_indent(s, prefix))
+    text_by!(guess, textwrap_indent_utf8(s, prefix))
 }
 
 /// [`crate::dedent`].
@@ -78,7 +78,7 @@ pub fn indent(s: &str, prefix: &str) -> Result<String, OutOfMemory> {
 /// # Errors
 /// [`OutOfMemory`] if memory runs out.
 pub fn dedent(s: &str) -> Result<String, OutOfMemory> {
-    text_by!(s.len(), textwrap_dedent(s))
+    text_by!(s.len(), textwrap_dedent_utf8(s))
 }
 
 /// [`crate::fill_inplace`].
@@ -111,11 +111,11 @@ pub fn unfill(text: &str) -> Result<(String, Options<'_>), OutOfMemory> {
     let mut layout = sys::Layout::default();
     // The joined text and the indents mostly stand in the text, with a line ending at each line.
     let guess = text.len() + LineEnding::CRLF.as_str().len();
-    // SAFETY: a text with its length, room with its length, and a layout, of which nothing else borrows
+    // SAFETY: a `str` with its length, room with its length, and a layout, of which nothing else borrows
     // what is written to; the call writes what it reports, in UTF-8.
     let mut parts = unsafe {
         written(guess, |room, room_len, len| {
-            sys::textwrap_unfill(text.as_ptr(), text.len(), room, room_len, len, &mut layout)
+            sys::textwrap_unfill_utf8(text.as_ptr(), text.len(), room, room_len, len, &mut layout)
         })?
     };
     let (initial, subsequent) = (layout.initial_indent_len, layout.subsequent_indent_len);
@@ -155,7 +155,7 @@ pub(crate) fn wrapped<'t>(
     }
     let with = options.to_sys();
     let (lines, bytes) = guess::wrapped(text, &with);
-    lines_by!(lines, bytes, textwrap_wrap(text; &with))?.cows(text)
+    lines_by!(lines, bytes, textwrap_wrap_utf8(text; &with))?.cows(text)
 }
 
 /// [`crate::wrap_columns`].

@@ -147,8 +147,8 @@ pub(crate) unsafe fn written(
 /// the bytes of built ones follows that of the lines.
 macro_rules! list_by {
     ($guess:expr, $call:ident($($list:expr),+ $(; $($other:expr),+)?)) => {
-        // SAFETY: each list and the room are handed over with their lengths, nothing else borrows what is
-        // written to, and by the header the call writes what it reports.
+        // SAFETY: each list and the room are handed over with their lengths, each text is a `str` and so
+        // UTF-8, nothing else borrows what is written to, and by the header the call writes what it reports.
         unsafe {
             $crate::room::listed($guess, |room, room_len, count| {
                 $crate::sys::$call($($list.as_ptr(), $list.len(),)+ $($($other,)+)? room, room_len, count)
@@ -186,7 +186,8 @@ macro_rules! lines_by {
 macro_rules! value_by {
     ($call:ident($($list:expr),* $(; $($other:expr),+)?)) => {{
         let mut value = Default::default();
-        // SAFETY: each list is handed over with its length, and nothing else borrows the value.
+        // SAFETY: each list is handed over with its length, each text is a `str` and so UTF-8, and nothing
+        // else borrows the value.
         let status = unsafe {
             $crate::sys::$call($($list.as_ptr(), $list.len(),)* $($($other,)+)? &mut value)
         };

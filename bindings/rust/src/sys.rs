@@ -151,6 +151,9 @@ pub struct Piece {
     pub width: usize,
 }
 
+// SAFETY of each call: a pointer leads to as many items as is said, and what is written to is borrowed by
+// nothing else. A call whose name ends in `_utf8` does not test its texts, so they have to be UTF-8, as a
+// `str` always is.
 extern "C" {
     pub fn textwrap_strip_ansi_escape_sequences(
         text: *const u8,
@@ -160,9 +163,9 @@ extern "C" {
         len: *mut usize,
     ) -> u32;
 
-    pub fn textwrap_display_width(text: *const u8, text_len: usize, columns: *mut usize) -> u32;
+    pub fn textwrap_display_width_utf8(text: *const u8, text_len: usize, columns: *mut usize) -> u32;
 
-    pub fn textwrap_fill(
+    pub fn textwrap_fill_utf8(
         text: *const u8,
         text_len: usize,
         options: *const Options,
@@ -171,7 +174,7 @@ extern "C" {
         len: *mut usize,
     ) -> u32;
 
-    pub fn textwrap_wrap(
+    pub fn textwrap_wrap_utf8(
         text: *const u8,
         text_len: usize,
         options: *const Options,
@@ -218,7 +221,7 @@ extern "C" {
         len: *mut usize,
     ) -> u32;
 
-    pub fn textwrap_refill(
+    pub fn textwrap_refill_utf8(
         text: *const u8,
         text_len: usize,
         options: *const Options,
@@ -227,7 +230,7 @@ extern "C" {
         len: *mut usize,
     ) -> u32;
 
-    pub fn textwrap_unfill(
+    pub fn textwrap_unfill_utf8(
         text: *const u8,
         text_len: usize,
         room: *mut u8,
@@ -236,7 +239,7 @@ extern "C" {
         layout: *mut Layout,
     ) -> u32;
 
-    pub fn textwrap_indent(
+    pub fn textwrap_indent_utf8(
         text: *const u8,
         text_len: usize,
         prefix: *const u8,
@@ -246,7 +249,7 @@ extern "C" {
         len: *mut usize,
     ) -> u32;
 
-    pub fn textwrap_dedent(
+    pub fn textwrap_dedent_utf8(
         text: *const u8,
         text_len: usize,
         room: *mut u8,

@@ -32,6 +32,27 @@ pub extern "C" fn textwrap_fill(
     filling::textwrap_fill(alloc, text, options, room, len)
 }
 
+/// Exports [`textwrap_calls::filling::textwrap_fill_utf8`].
+#[unsafe(no_mangle)]
+pub extern "C" fn textwrap_fill_utf8(
+    alloc: Global,
+    text: &[u8],
+    options: &TextwrapOptions<'_>,
+    room: &mut [u8],
+    len: &mut usize,
+) -> u32
+    requires { IsUtf8 text.now }
+    ensures filled { WritesLong (IsFilled (settings_of options.now) (Divides options.now (settings_of options.now)) text.now)
+        result room.old room.new len.old len.new }
+    ensures unknown { result ≡ unknown_options ↔ ¬ AreKnown options.now }
+    ensures not_utf8 { result ≡ not_utf8 ↔ AreKnown options.now × ¬ AreTexts options.now }
+    ensures no_memory { options.now.unicode_breaks ≡ 0 → options.now.optimal_fit ≡ 0
+        → result ≢ out_of_memory }
+    ensures statuses { result ≤ unknown_options }
+{
+    filling::textwrap_fill_utf8(alloc, text, options, room, len)
+}
+
 /// Exports [`textwrap_calls::filling::textwrap_fill_inplace`].
 #[unsafe(no_mangle)]
 pub extern "C" fn textwrap_fill_inplace(alloc: Global, text: &mut [u8], width: usize) -> u32

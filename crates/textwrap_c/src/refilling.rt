@@ -1,5 +1,5 @@
 //! Unfilling and refilling a filled text.
-ghost use Rattle.std.specs.Prelude.{◌≡◌, ◌≢◌, ◌≤◌, ◌↔◌, IsUtf8};
+ghost use Rattle.std.specs.Prelude.{◌≡◌, ◌≢◌, ◌≤◌, ◌⊎◌, ◌↔◌, IsUtf8};
 ghost use Rattle.textwrap.specs.Refilling.{IsRefilled, unfilled_parts, unfilled_settings};
 ghost use Rattle.textwrap_calls.specs.Options.{settings_of, AreKnown, Divides};
 ghost use Rattle.textwrap_calls.specs.Options.{AreTexts};
@@ -32,6 +32,25 @@ pub extern "C" fn textwrap_refill(
     refilling::textwrap_refill(alloc, text, options, room, len)
 }
 
+/// Exports [`textwrap_calls::refilling::textwrap_refill_utf8`].
+#[unsafe(no_mangle)]
+pub extern "C" fn textwrap_refill_utf8(
+    alloc: Global,
+    text: &[u8],
+    options: &TextwrapOptions<'_>,
+    room: &mut [u8],
+    len: &mut usize,
+) -> u32
+    requires { IsUtf8 text.now }
+    ensures refilled { WritesText (IsRefilled (settings_of options.now) (Divides options.now) text.now)
+        result room.old room.new len.old len.new }
+    ensures unknown { result ≡ unknown_options ↔ ¬ AreKnown options.now }
+    ensures not_utf8 { result ≡ not_utf8 ↔ AreKnown options.now × ¬ AreTexts options.now }
+    ensures statuses { result ≤ unknown_options }
+{
+    refilling::textwrap_refill_utf8(alloc, text, options, room, len)
+}
+
 /// Exports [`textwrap_calls::refilling::textwrap_unfill`].
 #[unsafe(no_mangle)]
 pub extern "C" fn textwrap_unfill(
@@ -49,4 +68,22 @@ pub extern "C" fn textwrap_unfill(
     ensures statuses { result ≤ too_small }
 {
     refilling::textwrap_unfill(text, room, len, layout)
+}
+
+/// Exports [`textwrap_calls::refilling::textwrap_unfill_utf8`].
+#[unsafe(no_mangle)]
+pub extern "C" fn textwrap_unfill_utf8(
+    text: &[u8],
+    room: &mut [u8],
+    len: &mut usize,
+    layout: &mut TextwrapLayout,
+) -> u32
+    requires { IsUtf8 text.now }
+    ensures unfilled { WritesText (λ answer. answer ≡ unfilled_parts text.now)
+        result room.old room.new len.old len.new }
+    ensures layout { result ≡ done → IsLayout (unfilled_settings text.now) layout.new }
+    ensures kept { result ≢ done → layout.new ≡ layout.old }
+    ensures statuses { (result ≡ done) ⊎ (result ≡ too_small) }
+{
+    refilling::textwrap_unfill_utf8(text, room, len, layout)
 }

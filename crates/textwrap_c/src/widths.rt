@@ -18,6 +18,16 @@ pub extern "C" fn textwrap_display_width(text: &[u8], columns: &mut usize) -> u3
     widths::textwrap_display_width(text, columns)
 }
 
+/// Exports [`textwrap_calls::widths::textwrap_display_width_utf8`].
+#[unsafe(no_mangle)]
+pub extern "C" fn textwrap_display_width_utf8(text: &[u8], columns: &mut usize) -> u32
+    requires { IsUtf8 text.now }
+    ensures written { columns.new ≡ text_width text.now }
+    ensures done { result ≡ done }
+{
+    widths::textwrap_display_width_utf8(text, columns)
+}
+
 /// Exports [`textwrap_calls::widths::textwrap_strip_ansi_escape_sequences`].
 #[unsafe(no_mangle)]
 pub extern "C" fn textwrap_strip_ansi_escape_sequences(

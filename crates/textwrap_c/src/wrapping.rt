@@ -33,3 +33,26 @@ pub extern "C" fn textwrap_wrap(
 {
     wrapping::textwrap_wrap(alloc, text, options, lines, count, room, len)
 }
+
+/// Exports [`textwrap_calls::wrapping::textwrap_wrap_utf8`].
+#[unsafe(no_mangle)]
+pub extern "C" fn textwrap_wrap_utf8(
+    alloc: Global,
+    text: &[u8],
+    options: &TextwrapOptions<'_>,
+    lines: &mut [TextwrapLine],
+    count: &mut usize,
+    room: &mut [u8],
+    len: &mut usize,
+) -> u32
+    requires { IsUtf8 text.now }
+    ensures wrapped { WritesLongLines (ArePlacedLines (settings_of options.now) (Divides options.now (settings_of options.now)) text.now)
+        text.now result lines.old lines.new count.old count.new room.old room.new len.old len.new }
+    ensures unknown { result ≡ unknown_options ↔ ¬ AreKnown options.now }
+    ensures not_utf8 { result ≡ not_utf8 ↔ AreKnown options.now × ¬ AreTexts options.now }
+    ensures no_memory { options.now.unicode_breaks ≡ 0 → options.now.optimal_fit ≡ 0
+        → result ≢ out_of_memory }
+    ensures statuses { result ≤ unknown_options }
+{
+    wrapping::textwrap_wrap_utf8(alloc, text, options, lines, count, room, len)
+}

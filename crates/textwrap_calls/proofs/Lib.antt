@@ -11,6 +11,7 @@ pub mod PieceLemmas
 pub mod PlaceLemmas
 pub mod PrintableLines
 pub mod ReadOptions
+pub mod RefilledLine
 pub mod RoomLemmas
 pub mod RowLemmas
 pub mod StepLemmas

@@ -3,12 +3,13 @@ use Rattle.textwrap_base.proofs.Common.{◌≡◌, ◌≢◌, ℕ, ◌+◌, ◌-
 use Rattle.textwrap_base.proofs.Common.{◌∷◌, ◌++◌, length, drop, get_or, slice_range, cond, IsUtf8}
 use Rattle.textwrap_base.proofs.Common.{refl, sym, ap, subst, arith, nat_tests, lt-ltb, cases_lt}
 use Rattle.textwrap_base.proofs.Common.{inl, inr, append-nil, get_or-drop, get_or-take, All-drop}
-use Rattle.textwrap_base.proofs.Common.{All-from_get_or, ◌==◌, All-head, All-take, list_any}
+use Rattle.textwrap_base.proofs.Common.{All-from_get_or, ◌==◌, ◌⊎◌, All-head, All-take, list_any}
 use Rattle.textwrap_base.proofs.Common.{true≢false}
 use Rattle.std.specs.Char.{is_whitespace}
 use Rattle.std.proofs.lemmas.Str.{chars-IsAscii, IsUtf8-from_ascii}
 use Rattle.textwrap_base.proofs.Lists.Parts.{length-slice}
 use Rattle.textwrap_base.proofs.Lists.Elements.{contains-any}
+use Rattle.textwrap_words.specs.LentText.{as_len}
 use Rattle.textwrap_words.proofs.Common.{IsPrintable, IsPrintableByte, without_final_blanks}
 use Rattle.textwrap_words.proofs.Common.{word_of}
 use Rattle.textwrap_words.proofs.Units.Reading.{printable-ascii}
@@ -18,11 +19,18 @@ use Rattle.textwrap.proofs.Common.{is_blank_line}
 use Rattle.textwrap.proofs.Text.Indents.{ended_parts-whole}
 use Rattle.textwrap_lines.proofs.Paragraph.LeftOff.{AreParagraphParts-whole, line_from-whole}
 use Rattle.textwrap_lines.specs.LineEnding.{line_feed}
-use Rattle.textwrap_lines.specs.Places.{place_of}
+use Rattle.textwrap_lines.specs.Places.{ArePlacedLines, place_of}
+use Rattle.textwrap_lines.specs.declared.places.TextwrapLine.{TextwrapLine}
 use Rattle.textwrap_lines.proofs.Text.Paragraphs.{one-paragraph, printable-free}
-use Rattle.textwrap_calls.specs.Options.{Divides, says_yes, settings_of}
+use Rattle.textwrap_calls.specs.Options.{algorithm_of, Divides, says_yes, separator_of, settings_of}
+use Rattle.textwrap_calls.specs.Options.{splitter_of}
 use Rattle.textwrap_calls.specs.Printable.{IsOnlyLine}
+use Rattle.textwrap_calls.specs.Reported.{WritesReported}
+use Rattle.textwrap_calls.specs.Status.{done, too_small}
+use Rattle.textwrap_calls.specs.Wrapping.{WritesLongLines}
 use Rattle.textwrap_calls.specs.declared.options.TextwrapOptions.{TextwrapOptions}
+use Rattle.textwrap_calls.proofs.GroupLemmas.{placed-shown}
+use Rattle.textwrap_calls.proofs.LineLemmas.{WritesLines-reported}
 
 -- a byte of a printable block
 pub byte-in : (text : List ℕ) (from to k : ℕ) → to ≤ length text → from ≤ k → k < to
@@ -103,3 +111,22 @@ free-line o text line none short free is =
 pub only-line-filled : (o : TextwrapOptions) (text line : List ℕ) → IsOnlyLine o text line
     → IsFilled (settings_of o) (Divides o (settings_of o)) text line
 only-line-filled o text line only = (Slice line ∷ [], only.are, refl)
+
+-- and its one line is reported where it begins
+pub only-line-reported : (o : TextwrapOptions) (text line : List ℕ) (status : ℕ)
+    (lines_before lines_after : List TextwrapLine) (count_before count_after : ℕ)
+    (room_before room_after : List ℕ) (len_before len_after : ℕ) → IsUtf8 text
+    → IsOnlyLine o text line → (status ≡ done) ⊎ (status ≡ too_small)
+    → WritesReported as_len (place_of 0 0 (Slice line) ∷ []) [] status lines_before lines_after
+    count_after room_before room_after len_after
+    → WritesLongLines (ArePlacedLines (settings_of o) (Divides o (settings_of o)) text) text status
+    lines_before lines_after count_before count_after room_before room_after len_before len_after
+only-line-reported o text line status lines_before lines_after count_before count_after room_before
+    room_after len_before len_after utf8 only statuses writes =
+    let lines = Slice line ∷ [] in
+    let places = place_of 0 0 (Slice line) ∷ [] in
+    let shown = placed-shown (settings_of o) (separator_of o) (splitter_of o) (algorithm_of o) text
+    lines places utf8 only in
+    WritesLines-reported (ArePlacedLines (settings_of o) (Divides o (settings_of o)) text) text lines
+    places [] status lines_before lines_after count_before count_after room_before room_after len_before
+    len_after only refl shown statuses writes

@@ -7,8 +7,9 @@ ghost use Rattle.textwrap_calls.specs.Options.{AreTexts};
 ghost use Rattle.textwrap_calls.specs.Room.{WritesLong};
 ghost use Rattle.textwrap_calls.specs.Status.{done, not_utf8, out_of_memory, unknown_options};
 
-use crate::options::{TextwrapOptions, read_options};
-use crate::printable::only_line;
+use crate::known::known_text;
+use crate::options::{TextwrapOptions, read_options, refusal};
+use crate::printable::{only_known_line, only_line};
 use crate::room::{put, report};
 use crate::status::{DONE, NOT_UTF8, OUT_OF_MEMORY};
 use simdutf8::basic::from_utf8;
@@ -38,12 +39,54 @@ pub fn textwrap_fill(
     if let Some(line) = only_line(text, options) {
         return put(line, room, len);
     }
+    let Ok(text) = from_utf8(text) else {
+        return refusal(options);
+    };
+    fill_text(alloc, text, options, room, len)
+}
+
+/// [`textwrap_fill`] for a text that is known to be UTF-8. It is not tested.
+pub fn textwrap_fill_utf8(
+    alloc: Global,
+    text: &[u8],
+    options: &TextwrapOptions<'_>,
+    room: &mut [u8],
+    len: &mut usize,
+) -> u32
+    requires { IsUtf8 text.now }
+    ensures filled { WritesLong (IsFilled (settings_of options.now) (Divides options.now (settings_of options.now)) text.now)
+        result room.old room.new len.old len.new }
+    ensures unknown { result ≡ unknown_options ↔ ¬ AreKnown options.now }
+    ensures not_utf8 { result ≡ not_utf8 ↔ AreKnown options.now × ¬ AreTexts options.now }
+    ensures no_memory { options.now.unicode_breaks ≡ 0 → options.now.optimal_fit ≡ 0
+        → result ≢ out_of_memory }
+    ensures statuses { result ≤ unknown_options }
+{
+    if let Some(line) = only_known_line(text, options) {
+        return put(line, room, len);
+    }
+    fill_text(alloc, known_text(text), options, room, len)
+}
+
+/// [`textwrap_fill`] for a text.
+fn fill_text(
+    alloc: Global,
+    text: &str,
+    options: &TextwrapOptions<'_>,
+    room: &mut [u8],
+    len: &mut usize,
+) -> u32
+    ensures filled { WritesLong (IsFilled (settings_of options.now) (Divides options.now (settings_of options.now)) text.now)
+        result room.old room.new len.old len.new }
+    ensures unknown { result ≡ unknown_options ↔ ¬ AreKnown options.now }
+    ensures not_utf8 { result ≡ not_utf8 ↔ AreKnown options.now × ¬ AreTexts options.now }
+    ensures no_memory { options.now.unicode_breaks ≡ 0 → options.now.optimal_fit ≡ 0
+        → result ≢ out_of_memory }
+    ensures statuses { result ≤ unknown_options }
+{
     let options = match read_options(options) {
         Ok(options) => options,
         Err(status) => return status,
-    };
-    let Ok(text) = from_utf8(text) else {
-        return NOT_UTF8;
     };
     match fill_into(alloc, text, &options, room) {
         Ok(answer) => report(answer, room.len(), len),

@@ -15,6 +15,7 @@ pub mod filling;
 pub mod fragments;
 pub mod indentation;
 pub mod justified_steps;
+mod known;
 pub mod line_lists;
 pub mod options;
 pub mod paragraphs;

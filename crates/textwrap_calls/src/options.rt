@@ -111,6 +111,19 @@ fn read_indent(indent: &[u8]) -> Option<&str>
     }
 }
 
+/// The status of a call that is handed a text that is no UTF-8.
+pub(crate) fn refusal(given: &TextwrapOptions<'_>) -> u32
+    ensures unknown { result ≡ unknown_options ↔ ¬ AreKnown given.now }
+    ensures not_utf8 { result ≡ not_utf8 ↔ AreKnown given.now }
+    ensures statuses { (result ≡ unknown_options) ⊎ (result ≡ not_utf8) }
+{
+    if are_known(given) {
+        NOT_UTF8
+    } else {
+        UNKNOWN_OPTIONS
+    }
+}
+
 /// Whether the version is known, and each number means something.
 pub(crate) fn are_known(given: &TextwrapOptions<'_>) -> bool
     ensures { result ≡ true ↔ AreKnown given.now }

@@ -1,7 +1,8 @@
 //! Texts of printable ASCII, told many bytes at a time, and the line that a short text is.
-ghost use Rattle.std.specs.Prelude.{◌↔◌, ◌≤◌, IfSome, IsTrue, IsUtf8, length};
+ghost use Rattle.std.specs.Prelude.{◌≡◌, ◌↔◌, ◌<◌, ◌≤◌, [], IfSome, IsTrue, IsUtf8, length};
 ghost use Rattle.textwrap.specs.Filling.{IsFilled};
 ghost use Rattle.textwrap.specs.Indentation.{HasNoLineFeed};
+ghost use Rattle.textwrap.specs.Refilling.{IsRefilled, line_prefix};
 ghost use Rattle.textwrap_calls.specs.Options.{settings_of, AreKnown, AreTexts, Divides};
 ghost use Rattle.textwrap_calls.specs.Printable.{AreWithoutIndents, IsOnlyLine};
 ghost use Rattle.textwrap_words.specs.Units.{IsPrintable};
@@ -54,20 +55,53 @@ pub(crate) fn only_line<'t>(text: &'t [u8], options: &TextwrapOptions<'_>) -> Op
     ensures filled { IfSome result (λ line. IsFilled (settings_of options.now)
         (Divides options.now (settings_of options.now)) text.now line.now) }
     ensures line { IfSome result (λ line. IsOnlyLine options.now text.now line.now) }
+    ensures refilled { line_prefix text.now ≡ [] → IfSome result (λ line. IsRefilled
+        (settings_of options.now) (Divides options.now) text.now line.now) }
 {
-    if text.len() >= options.width {
+    if !is_short(text, options) || !is_one_line(text) {
         return None;
     }
-    if !are_without_indents(options) {
+    Some(line_of(text, options))
+}
+
+/// The same for a text that is known to be UTF-8.
+pub(crate) fn only_known_line<'t>(text: &'t [u8], options: &TextwrapOptions<'_>) -> Option<&'t [u8]>
+    ensures known { IfSome result (λ _. AreKnown options.now × AreTexts options.now) }
+    ensures filled { IfSome result (λ line. IsFilled (settings_of options.now)
+        (Divides options.now (settings_of options.now)) text.now line.now) }
+    ensures line { IfSome result (λ line. IsOnlyLine options.now text.now line.now) }
+    ensures refilled { line_prefix text.now ≡ [] → IfSome result (λ line. IsRefilled
+        (settings_of options.now) (Divides options.now) text.now line.now) }
+{
+    if !is_short(text, options) || text.contains(&b'\n') {
         return None;
     }
-    if !is_one_line(text) {
-        return None;
-    }
+    Some(line_of(text, options))
+}
+
+/// Whether a text has fewer bytes than the width, and the options are known and have no indents.
+fn is_short(text: &[u8], options: &TextwrapOptions<'_>) -> bool
+    ensures short { IsTrue result → length text.now < options.now.width }
+    ensures bare { IsTrue result → AreWithoutIndents options.now }
+{
+    text.len() < options.width && are_without_indents(options)
+}
+
+/// The line of such a text, if it has no line feed.
+fn line_of<'t>(text: &'t [u8], options: &TextwrapOptions<'_>) -> &'t [u8]
+    requires short { length text.now < options.now.width }
+    requires bare { AreWithoutIndents options.now }
+    requires free { HasNoLineFeed text.now }
+    ensures filled { IsFilled (settings_of options.now) (Divides options.now (settings_of options.now))
+        text.now result.now }
+    ensures line { IsOnlyLine options.now text.now result.now }
+    ensures refilled { line_prefix text.now ≡ []
+        → IsRefilled (settings_of options.now) (Divides options.now) text.now result.now }
+{
     if options.preserve_trailing_space != 0 {
-        return Some(text);
+        return text;
     }
-    Some(&text[..trimmed_len(text)])
+    &text[..trimmed_len(text)]
 }
 
 /// Whether a text is UTF-8 without a line feed. Printable ASCII is both, and is told soonest.

@@ -1,7 +1,7 @@
 //! Unfilling and refilling a filled text.
-ghost use Rattle.std.specs.Prelude.{◌≡◌, ◌≢◌, ◌≤◌, ◌↔◌, IsUtf8};
+ghost use Rattle.std.specs.Prelude.{◌≡◌, ◌≢◌, ◌≤◌, ◌⊎◌, ◌↔◌, [], false, IsUtf8};
 ghost use Rattle.textwrap.specs.Options.{settings_view};
-ghost use Rattle.textwrap.specs.Refilling.{IsRefilled, unfilled_parts, unfilled_settings};
+ghost use Rattle.textwrap.specs.Refilling.{IsRefilled, line_prefix, unfilled_parts, unfilled_settings};
 ghost use Rattle.textwrap_calls.specs.Options.{settings_of, AreKnown, Divides};
 ghost use Rattle.textwrap_calls.specs.Options.{AreTexts};
 ghost use Rattle.textwrap_calls.specs.Refilling.{IsLayout};
@@ -9,7 +9,9 @@ ghost use Rattle.textwrap_calls.specs.Room.{WritesText};
 ghost use Rattle.textwrap_calls.specs.Status.{done, not_utf8, out_of_memory, too_small};
 ghost use Rattle.textwrap_calls.specs.Status.{unknown_options};
 
-use crate::options::{TextwrapOptions, read_options};
+use crate::known::known_text;
+use crate::options::{TextwrapOptions, read_options, refusal};
+use crate::printable::{only_known_line, only_line};
 use crate::room::{put, report};
 use crate::status::{DONE, NOT_UTF8, OUT_OF_MEMORY};
 use simdutf8::basic::from_utf8;
@@ -34,12 +36,67 @@ pub fn textwrap_refill(
         × ¬ (IsUtf8 text.now × AreTexts options.now) }
     ensures statuses { result ≤ unknown_options }
 {
+    if !begins_with_prefix(text) {
+        if let Some(line) = only_line(text, options) {
+            return put(line, room, len);
+        }
+    }
+    let Ok(text) = from_utf8(text) else {
+        return refusal(options);
+    };
+    refill_text(alloc, text, options, room, len)
+}
+
+/// [`textwrap_refill`] for a text that is known to be UTF-8. It is not tested.
+pub fn textwrap_refill_utf8(
+    alloc: Global,
+    text: &[u8],
+    options: &TextwrapOptions<'_>,
+    room: &mut [u8],
+    len: &mut usize,
+) -> u32
+    requires { IsUtf8 text.now }
+    ensures refilled { WritesText (IsRefilled (settings_of options.now) (Divides options.now) text.now)
+        result room.old room.new len.old len.new }
+    ensures unknown { result ≡ unknown_options ↔ ¬ AreKnown options.now }
+    ensures not_utf8 { result ≡ not_utf8 ↔ AreKnown options.now × ¬ AreTexts options.now }
+    ensures statuses { result ≤ unknown_options }
+{
+    if !begins_with_prefix(text) {
+        if let Some(line) = only_known_line(text, options) {
+            return put(line, room, len);
+        }
+    }
+    refill_text(alloc, known_text(text), options, room, len)
+}
+
+/// Whether a text begins with a character of an indent.
+fn begins_with_prefix(text: &[u8]) -> bool
+    ensures { result ≡ false → line_prefix text.now ≡ [] }
+{
+    if text.is_empty() {
+        return false;
+    }
+    matches!(text[0], b' ' | b'-' | b'+' | b'*' | b'>' | b'#' | b'/')
+}
+
+/// [`textwrap_refill`] for a text.
+fn refill_text(
+    alloc: Global,
+    text: &str,
+    options: &TextwrapOptions<'_>,
+    room: &mut [u8],
+    len: &mut usize,
+) -> u32
+    ensures refilled { WritesText (IsRefilled (settings_of options.now) (Divides options.now) text.now)
+        result room.old room.new len.old len.new }
+    ensures unknown { result ≡ unknown_options ↔ ¬ AreKnown options.now }
+    ensures not_utf8 { result ≡ not_utf8 ↔ AreKnown options.now × ¬ AreTexts options.now }
+    ensures statuses { result ≤ unknown_options }
+{
     let options = match read_options(options) {
         Ok(options) => options,
         Err(status) => return status,
-    };
-    let Ok(text) = from_utf8(text) else {
-        return NOT_UTF8;
     };
     match refill(alloc, text, &options) {
         Ok(refilled) => put(refilled.as_bytes(), room, len),
@@ -83,6 +140,34 @@ pub fn textwrap_unfill(
     let Ok(text) = from_utf8(text) else {
         return NOT_UTF8;
     };
+    unfill_text(text, room, len, layout)
+}
+
+/// [`textwrap_unfill`] for a text that is known to be UTF-8. It is not tested.
+pub fn textwrap_unfill_utf8(
+    text: &[u8],
+    room: &mut [u8],
+    len: &mut usize,
+    layout: &mut TextwrapLayout,
+) -> u32
+    requires { IsUtf8 text.now }
+    ensures unfilled { WritesText (λ answer. answer ≡ unfilled_parts text.now)
+        result room.old room.new len.old len.new }
+    ensures layout { result ≡ done → IsLayout (unfilled_settings text.now) layout.new }
+    ensures kept { result ≢ done → layout.new ≡ layout.old }
+    ensures statuses { (result ≡ done) ⊎ (result ≡ too_small) }
+{
+    unfill_text(known_text(text), room, len, layout)
+}
+
+/// [`textwrap_unfill`] for a text.
+fn unfill_text(text: &str, room: &mut [u8], len: &mut usize, layout: &mut TextwrapLayout) -> u32
+    ensures unfilled { WritesText (λ answer. answer ≡ unfilled_parts text.now)
+        result room.old room.new len.old len.new }
+    ensures layout { result ≡ done → IsLayout (unfilled_settings text.now) layout.new }
+    ensures kept { result ≢ done → layout.new ≡ layout.old }
+    ensures statuses { (result ≡ done) ⊎ (result ≡ too_small) }
+{
     let (answer, options) = unfill_into(text, room);
     let status = report(answer, room.len(), len);
     if status == DONE {

@@ -1,12 +1,15 @@
 //! Lines as they are reported: where each was cut from, or stands in the room.
-ghost use Rattle.std.specs.Prelude.{◌≡◌, ◌⊎◌};
+ghost use Rattle.std.specs.Prelude.{◌≡◌, ◌⊎◌, ◌∷◌, []};
+ghost use Rattle.textwrap.specs.Paragraph.{Slice};
+ghost use Rattle.textwrap_lines.specs.Places.{place_of};
+ghost use Rattle.textwrap_words.specs.LentText.{as_len};
 ghost use Rattle.textwrap_calls.specs.Status.{done, too_small};
 ghost use Rattle.textwrap_calls.specs.Reported.{Reports, WritesReported};
 
 use crate::status::{DONE, TOO_SMALL};
 use std::alloc::Global;
 pub use textwrap_lines::placed::TextwrapLine;
-use textwrap_lines::placed::{LineCounts, PlacedLines, write_places};
+use textwrap_lines::placed::{LineCounts, Place, PlacedLines, write_places};
 
 /// Writes where the lines stand to the front of `lines`, and those that are no slices of the text
 /// to the front of the room, as much of both as has room; and how many they are, and how long.
@@ -23,6 +26,27 @@ pub(crate) fn put_lines(
 {
     let (places, built) = (reported.places.as_slice(), reported.built.as_slice());
     let counts = write_places(places, built, lines, room);
+    report_counts(counts, lines.len(), room.len(), count, len)
+}
+
+/// The same for a text that is one line, which begins where it does.
+pub(crate) fn put_line(
+    line: &[u8],
+    lines: &mut [TextwrapLine],
+    count: &mut usize,
+    room: &mut [u8],
+    len: &mut usize,
+) -> u32
+    ensures lines { WritesReported as_len (place_of 0 0 (Slice line.now) ∷ []) [] result
+        lines.old lines.new count.new room.old room.new len.new }
+    ensures statuses { (result ≡ done) ⊎ (result ≡ too_small) }
+{
+    let place = Place {
+        offset: 0,
+        len: line.len(),
+        is_built: false,
+    };
+    let counts = write_places(&[place], &[], lines, room);
     report_counts(counts, lines.len(), room.len(), count, len)
 }
 

@@ -4,6 +4,7 @@ ghost use Rattle.textwrap.specs.Units.{stripped, text_width};
 ghost use Rattle.textwrap_calls.specs.Room.{WritesText};
 ghost use Rattle.textwrap_calls.specs.Status.{done, not_utf8, too_small};
 
+use crate::known::known_text;
 use crate::room::put;
 use crate::status::{DONE, NOT_UTF8, OUT_OF_MEMORY};
 use simdutf8::basic::from_utf8;
@@ -21,6 +22,16 @@ pub fn textwrap_display_width(text: &[u8], columns: &mut usize) -> u32
         return NOT_UTF8;
     };
     *columns = display_width(text);
+    DONE
+}
+
+/// [`textwrap_display_width`] for a text that is known to be UTF-8. It is not tested.
+pub fn textwrap_display_width_utf8(text: &[u8], columns: &mut usize) -> u32
+    requires { IsUtf8 text.now }
+    ensures written { columns.new ≡ text_width text.now }
+    ensures done { result ≡ done }
+{
+    *columns = display_width(known_text(text));
     DONE
 }
 

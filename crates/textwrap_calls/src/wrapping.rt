@@ -6,14 +6,14 @@ ghost use Rattle.textwrap_calls.specs.Status.{not_utf8, out_of_memory, unknown_o
 ghost use Rattle.textwrap_calls.specs.Wrapping.{WritesLongLines};
 ghost use Rattle.textwrap_lines.specs.Places.{ArePlacedLines};
 
-use crate::options::{TextwrapOptions, read_options};
-use crate::printable::only_line;
+use crate::known::known_text;
+use crate::options::{TextwrapOptions, read_options, refusal};
+use crate::printable::{only_known_line, only_line};
 pub use crate::reported::TextwrapLine;
-use crate::reported::report_counts;
-use crate::status::{NOT_UTF8, OUT_OF_MEMORY};
+use crate::reported::{put_line, report_counts};
+use crate::status::OUT_OF_MEMORY;
 use simdutf8::basic::from_utf8;
 use std::alloc::Global;
-use textwrap_lines::placed::{Place, write_places};
 use textwrap_plain::placed::place_into;
 
 /// Writes where the lines of the text stand, and how many they are to `count`. A line that is a
@@ -40,20 +40,60 @@ pub fn textwrap_wrap(
     ensures statuses { result ≤ unknown_options }
 {
     if let Some(line) = only_line(text, options) {
-        let place = Place {
-            offset: 0,
-            len: line.len(),
-            is_built: false,
-        };
-        let counts = write_places(&[place], &[], lines, room);
-        return report_counts(counts, lines.len(), room.len(), count, len);
+        return put_line(line, lines, count, room, len);
     }
+    let Ok(text) = from_utf8(text) else {
+        return refusal(options);
+    };
+    wrap_text(alloc, text, options, lines, count, room, len)
+}
+
+/// [`textwrap_wrap`] for a text that is known to be UTF-8. It is not tested.
+pub fn textwrap_wrap_utf8(
+    alloc: Global,
+    text: &[u8],
+    options: &TextwrapOptions<'_>,
+    lines: &mut [TextwrapLine],
+    count: &mut usize,
+    room: &mut [u8],
+    len: &mut usize,
+) -> u32
+    requires { IsUtf8 text.now }
+    ensures wrapped { WritesLongLines (ArePlacedLines (settings_of options.now) (Divides options.now (settings_of options.now)) text.now)
+        text.now result lines.old lines.new count.old count.new room.old room.new len.old len.new }
+    ensures unknown { result ≡ unknown_options ↔ ¬ AreKnown options.now }
+    ensures not_utf8 { result ≡ not_utf8 ↔ AreKnown options.now × ¬ AreTexts options.now }
+    ensures no_memory { options.now.unicode_breaks ≡ 0 → options.now.optimal_fit ≡ 0
+        → result ≢ out_of_memory }
+    ensures statuses { result ≤ unknown_options }
+{
+    if let Some(line) = only_known_line(text, options) {
+        return put_line(line, lines, count, room, len);
+    }
+    wrap_text(alloc, known_text(text), options, lines, count, room, len)
+}
+
+/// [`textwrap_wrap`] for a text.
+fn wrap_text(
+    alloc: Global,
+    text: &str,
+    options: &TextwrapOptions<'_>,
+    lines: &mut [TextwrapLine],
+    count: &mut usize,
+    room: &mut [u8],
+    len: &mut usize,
+) -> u32
+    ensures wrapped { WritesLongLines (ArePlacedLines (settings_of options.now) (Divides options.now (settings_of options.now)) text.now)
+        text.now result lines.old lines.new count.old count.new room.old room.new len.old len.new }
+    ensures unknown { result ≡ unknown_options ↔ ¬ AreKnown options.now }
+    ensures not_utf8 { result ≡ not_utf8 ↔ AreKnown options.now × ¬ AreTexts options.now }
+    ensures no_memory { options.now.unicode_breaks ≡ 0 → options.now.optimal_fit ≡ 0
+        → result ≢ out_of_memory }
+    ensures statuses { result ≤ unknown_options }
+{
     let options = match read_options(options) {
         Ok(options) => options,
         Err(status) => return status,
-    };
-    let Ok(text) = from_utf8(text) else {
-        return NOT_UTF8;
     };
     match place_into(alloc, text, &options, lines, room) {
         Ok(counts) => report_counts(counts, lines.len(), room.len(), count, len),

@@ -3,6 +3,7 @@
 mod alone;
 mod bounds;
 mod fragments;
+mod known;
 mod large;
 mod large_lists;
 mod lines;

@@ -1,6 +1,7 @@
 //! A text of 1 MiB through each call, and other texts that make its answer large: first with no room, so
 //! that its length is reported, and then with just so much.
 use super::alone::told_width;
+use super::known::told_known_width;
 use super::places::{NO_PLACE, PiecePlace, is_piece};
 use super::plain::{
     AT_80, BARS, BEFORE, DEFAULTS, LinesCall, NO_GAPS, NO_PIECE, NOWHERE, PiecesCall, TextCall,
@@ -38,29 +39,44 @@ pub(super) fn assert_told_twice(rt: &impl Abort, row: usize, told: Told, len: us
 }
 
 /// Makes the call twice.
-fn write_text_twice(alloc: Global, call: TextCall<'_>, text: &[u8]) -> Result<Told, AllocError> {
+fn write_text_twice(
+    alloc: Global,
+    is_known: bool,
+    call: TextCall<'_>,
+    text: &[u8],
+) -> Result<Told, AllocError> {
     let mut len = BEFORE;
-    let without = write_text(alloc, call, text, &mut [], &mut len);
+    let without = write_text(alloc, is_known, call, text, &mut [], &mut len);
     let reported = len;
     let mut room = vec![in alloc; b'.'; reported]?;
-    let with = write_text(alloc, call, text, &mut room, &mut len);
+    let with = write_text(alloc, is_known, call, text, &mut room, &mut len);
     Ok(((without, reported), (with, len), !room.contains(&b'.')))
 }
 
 /// Makes the call twice, with so many lines.
 pub(super) fn write_lines_twice(
     alloc: Global,
+    is_known: bool,
     call: LinesCall<'_>,
     text: &[u8],
     most: usize,
 ) -> Result<Told, AllocError> {
     let mut lines = vec![in alloc; NOWHERE; most]?;
     let (mut count, mut len) = (BEFORE, BEFORE);
-    let without = write_lines(alloc, call, text, &mut lines, &mut count, &mut [], &mut len);
+    let without = write_lines(
+        alloc,
+        is_known,
+        call,
+        text,
+        &mut lines,
+        &mut count,
+        &mut [],
+        &mut len,
+    );
     let reported = len;
     let mut room = vec![in alloc; b'.'; reported]?;
     let with = write_lines(
-        alloc, call, text, &mut lines, &mut count, &mut room, &mut len,
+        alloc, is_known, call, text, &mut lines, &mut count, &mut room, &mut len,
     );
     Ok(((without, reported), (with, len), !room.contains(&b'.')))
 }
@@ -187,9 +203,13 @@ const LINES_AND_ROWS: &[LinesRow] = &[
 ];
 
 /// What the call of a row tells.
-fn told_of_text(alloc: Global, (call, part, times, _): TextRow) -> Result<Told, AllocError> {
+fn told_of_text(
+    alloc: Global,
+    is_known: bool,
+    (call, part, times, _): TextRow,
+) -> Result<Told, AllocError> {
     let text = part.repeat(alloc, times)?;
-    write_text_twice(alloc, call, text.as_bytes())
+    write_text_twice(alloc, is_known, call, text.as_bytes())
 }
 
 /// What the calls tell with a prefix and with a placeholder of 1,000 bytes, which leaves ten columns.
@@ -197,25 +217,26 @@ fn told_of_long(alloc: Global) -> Result<[Told; 2], AllocError> {
     let long = "+".repeat(alloc, 1_000)?;
     let text = LINE.repeat(alloc, 1_000)?;
     let (placeholder, text) = (long.as_bytes(), text.as_bytes());
-    let indented = write_text_twice(alloc, TextCall::Indent(placeholder), text)?;
+    let indented = write_text_twice(alloc, false, TextCall::Indent(placeholder), text)?;
     let width = 1_010;
-    let shortened = write_text_twice(alloc, TextCall::Shorten { width, placeholder }, text)?;
+    let shortened = write_text_twice(alloc, false, TextCall::Shorten { width, placeholder }, text)?;
     Ok([indented, shortened])
 }
 
 /// The same of lines and rows.
 fn told_of_lines(
     alloc: Global,
+    is_known: bool,
     (call, part, times, most, _): LinesRow,
 ) -> Result<Told, AllocError> {
     let text = part.repeat(alloc, times)?;
-    write_lines_twice(alloc, call, text.as_bytes(), most)
+    write_lines_twice(alloc, is_known, call, text.as_bytes(), most)
 }
 
 #[test]
 fn large_texts_are_written(rt: HostRuntime) {
     for (row, &texts) in TEXTS.iter().enumerate() {
-        let told = told_of_text(rt.alloc(), texts).expect(&rt, "memory");
+        let told = told_of_text(rt.alloc(), false, texts).expect(&rt, "memory");
         assert_told_twice(&rt, row, told, texts.3);
     }
     let [indented, shortened] = told_of_long(rt.alloc()).expect(&rt, "memory");
@@ -224,10 +245,20 @@ fn large_texts_are_written(rt: HostRuntime) {
 }
 
 #[test]
+fn large_texts_that_are_known_are_written(rt: HostRuntime) {
+    for (row, &texts) in TEXTS.iter().enumerate() {
+        let told = told_of_text(rt.alloc(), true, texts).expect(&rt, "memory");
+        assert_told_twice(&rt, row, told, texts.3);
+    }
+}
+
+#[test]
 fn large_texts_have_their_lines_and_rows(rt: HostRuntime) {
-    for (row, &lines) in LINES_AND_ROWS.iter().enumerate() {
-        let told = told_of_lines(rt.alloc(), lines).expect(&rt, "memory");
-        assert_told_twice(&rt, row, told, lines.4);
+    for is_known in [false, true] {
+        for (row, &lines) in LINES_AND_ROWS.iter().enumerate() {
+            let told = told_of_lines(rt.alloc(), is_known, lines).expect(&rt, "memory");
+            assert_told_twice(&rt, row, told, lines.4);
+        }
     }
 }
 
@@ -288,8 +319,8 @@ fn a_large_text_is_cut_split_and_broken(rt: HostRuntime) {
 #[test]
 fn a_large_text_is_measured(rt: HostRuntime) {
     let text = LINE.repeat(rt.alloc(), LINES).expect(&rt, "text");
-    let told = told_width(text.as_bytes());
-    assert_told(&rt, 0, told, (DONE, LEN - LINES));
+    assert_told(&rt, 0, told_width(text.as_bytes()), (DONE, LEN - LINES));
+    assert_told(&rt, 1, told_known_width(&text), (DONE, LEN - LINES));
 }
 
 /// The status, and whether a text is then this one.

@@ -37,7 +37,7 @@ fn shortened_lines(alloc: Global) -> Result<Told, AllocError> {
         width: 10,
         placeholder: b"+++",
     };
-    write_lines_twice(alloc, call, b"", LINES)
+    write_lines_twice(alloc, false, call, b"", LINES)
 }
 
 /// A line that leaves a style open.
@@ -62,7 +62,7 @@ fn carried(alloc: Global) -> Result<Told, AllocError> {
         lines: &lines,
         options: AT_11,
     };
-    write_lines_twice(alloc, call, b"", LINES)
+    write_lines_twice(alloc, false, call, b"", LINES)
 }
 
 /// A column of a line's width, whose lines stand at the left.
@@ -90,7 +90,7 @@ fn table(alloc: Global) -> Result<Told, AllocError> {
         columns: COLUMNS,
         gaps: BARS,
     };
-    write_lines_twice(alloc, call, b"", HALF)
+    write_lines_twice(alloc, false, call, b"", HALF)
 }
 
 /// The lines in two columns of a row of 25, with a bar beside each.
@@ -102,7 +102,7 @@ fn rows_of_lines(alloc: Global) -> Result<Told, AllocError> {
         width: 25,
         gaps: BARS,
     };
-    write_lines_twice(alloc, call, b"", HALF)
+    write_lines_twice(alloc, false, call, b"", HALF)
 }
 
 /// What is told of the same lines as those of two cells. They are of two lifetimes, so the call is
@@ -135,7 +135,7 @@ fn wide_table(alloc: Global) -> Result<Told, AllocError> {
         columns: &columns,
         gaps: BARS,
     };
-    write_lines_twice(alloc, call, b"", 2)
+    write_lines_twice(alloc, false, call, b"", 2)
 }
 
 #[test]

@@ -29,15 +29,31 @@ pub(super) type LinesRow = (
     &'static [u8],
 );
 
-/// Asserts what each row says.
+/// Asserts what each row says, also of its text where that is known.
 pub(super) fn assert_lines(rt: &(impl Abort + AllocGlobal), rows: &[LinesRow]) {
+    for is_known in [false, true] {
+        assert_lines_where(rt, is_known, rows);
+    }
+}
+
+/// The same of texts that are all known or not.
+fn assert_lines_where(rt: &(impl Abort + AllocGlobal), is_known: bool, rows: &[LinesRow]) {
     for (row, &(call, text, (status, count, len), places, expected)) in rows.iter().enumerate() {
         let mut lines = [NOWHERE; MOST];
         let lines = &mut lines[..places.len().min(MOST)];
         let mut room = [BLANK; MOST_ROOM];
         let room = &mut room[..expected.len().min(MOST_ROOM)];
         let (mut found, mut told) = (BEFORE, BEFORE);
-        let answer = write_lines(rt.alloc(), call, text, lines, &mut found, room, &mut told);
+        let answer = write_lines(
+            rt.alloc(),
+            is_known,
+            call,
+            text,
+            lines,
+            &mut found,
+            room,
+            &mut told,
+        );
         assert_told(rt, row, (answer, found), (status, count));
         assert_told(rt, row, (answer, told), (status, len));
         assert_holds(rt, row, are_lines(lines, places));

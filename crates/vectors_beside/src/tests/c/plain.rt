@@ -1,5 +1,6 @@
 //! What the tests share: options, the calls that write alike, and the assertions. A call is made here
 //! alone, in a function without clauses, so that no test has to prove what the call promises.
+use super::known::{write_known_lines, write_known_text};
 use std::alloc::Global;
 use std::process::Abort;
 use textwrap_calls::breaks::textwrap_unicode_cuts;
@@ -170,14 +171,21 @@ pub(super) enum TextCall<'a> {
     },
 }
 
-/// Makes the call. Answers the status.
+/// Makes the call. Answers the status. Where the text is known to be UTF-8, and there is a call for such
+/// texts, it is that.
 pub(super) fn write_text(
     alloc: Global,
+    is_known: bool,
     call: TextCall<'_>,
     text: &[u8],
     room: &mut [u8],
     len: &mut usize,
 ) -> u32 {
+    if is_known {
+        if let Some(status) = write_known_text(alloc, call, text, room, len) {
+            return status;
+        }
+    }
     match call {
         TextCall::Fill(options) => textwrap_fill(alloc, text, &options, room, len),
         TextCall::Refill(options) => textwrap_refill(alloc, text, &options, room, len),
@@ -259,9 +267,10 @@ pub(super) enum LinesCall<'a> {
     },
 }
 
-/// Makes the call. Answers the status.
+/// Makes the call, as `write_text` does.
 pub(super) fn write_lines(
     alloc: Global,
+    is_known: bool,
     call: LinesCall<'_>,
     text: &[u8],
     lines: &mut [TextwrapLine],
@@ -269,6 +278,11 @@ pub(super) fn write_lines(
     room: &mut [u8],
     len: &mut usize,
 ) -> u32 {
+    if is_known {
+        if let Some(status) = write_known_lines(alloc, call, text, lines, count, room, len) {
+            return status;
+        }
+    }
     match call {
         LinesCall::Wrap(options) => {
             textwrap_wrap(alloc, text, &options, lines, count, room, len)

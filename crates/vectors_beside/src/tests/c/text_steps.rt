@@ -556,11 +556,11 @@ fn many_paragraphs(alloc: Global) -> Result<(Told, (u32, usize), (u32, usize)), 
     };
     let bytes = text.as_bytes();
     let wrapped = write_lines(
-        alloc, wrap, bytes, &mut lines, &mut count, &mut room, &mut len,
+        alloc, false, wrap, bytes, &mut lines, &mut count, &mut room, &mut len,
     );
     let (mut filled_len, mut justified_len) = (BEFORE, BEFORE);
-    let filled = write_text(alloc, fill, bytes, &mut room, &mut filled_len);
-    let justified = write_text(alloc, justify, bytes, &mut room, &mut justified_len);
+    let filled = write_text(alloc, false, fill, bytes, &mut room, &mut filled_len);
+    let justified = write_text(alloc, false, justify, bytes, &mut room, &mut justified_len);
     Ok((
         (wrapped, count, len),
         (filled, filled_len),

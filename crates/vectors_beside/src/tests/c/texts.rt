@@ -13,26 +13,35 @@ pub(super) type TextRow = (TextCall<'static>, &'static [u8], u32, usize, &'stati
 /// How much room the longest row has.
 const MOST: usize = 64;
 
-/// Asserts what each row says.
+/// Asserts what each row says, also of its text where that is known.
 pub(super) fn assert_texts(rt: &(impl Abort + AllocGlobal), rows: &[TextRow]) {
-    for (row, &(call, text, status, len, expected)) in rows.iter().enumerate() {
-        let mut room = [BLANK; MOST];
-        let room = &mut room[..expected.len().min(MOST)];
-        let mut told = BEFORE;
-        let answer = write_text(rt.alloc(), call, text, room, &mut told);
-        assert_told(rt, row, (answer, told), (status, len));
-        assert_room(rt, row, room, expected);
+    for is_known in [false, true] {
+        for (row, &(call, text, status, len, expected)) in rows.iter().enumerate() {
+            let mut room = [BLANK; MOST];
+            let room = &mut room[..expected.len().min(MOST)];
+            let mut told = BEFORE;
+            let answer = write_text(rt.alloc(), is_known, call, text, room, &mut told);
+            assert_told(rt, row, (answer, told), (status, len));
+            assert_room(rt, row, room, expected);
+        }
     }
 }
 
 /// Asserts of each row that shorter room holds the beginning of what the row's room holds.
 fn assert_beginnings(rt: &(impl Abort + AllocGlobal), rows: &[TextRow]) {
+    for is_known in [false, true] {
+        assert_beginnings_where(rt, is_known, rows);
+    }
+}
+
+/// The same of texts that are all known or not.
+fn assert_beginnings_where(rt: &(impl Abort + AllocGlobal), is_known: bool, rows: &[TextRow]) {
     for (row, &(call, text, _status, len, expected)) in rows.iter().enumerate() {
         for has in 0..len.min(expected.len()).min(MOST) {
             let mut room = [BLANK; MOST];
             let room = &mut room[..has];
             let mut told = BEFORE;
-            let answer = write_text(rt.alloc(), call, text, room, &mut told);
+            let answer = write_text(rt.alloc(), is_known, call, text, room, &mut told);
             assert_told(rt, row, (answer, told), (TOO_SMALL, len));
             assert_room(rt, row, room, &expected[..has]);
         }

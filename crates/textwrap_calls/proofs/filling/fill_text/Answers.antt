@@ -1,4 +1,4 @@
-use Rattle.textwrap_calls.proofs.filling.textwrap_fill.Goals as goal
+use Rattle.textwrap_calls.proofs.filling.fill_text.Goals as goal
 use Rattle.textwrap_base.proofs.Common.{◌≡◌, ◌<◌, ◌↔◌, ◌∙◌, arith, length, rules}
 use Rattle.textwrap_lines.proofs.Common.{IsFilled}
 use Rattle.textwrap_calls.specs.Status.{too_small}
@@ -8,9 +8,8 @@ use Rattle.textwrap_calls.proofs.RoomLemmas.{short-reported}
 pub returns-in-Ok-fill_into-clause-filled : goal.returns-in-Ok-fill_into-clause-filled
 returns-in-Ok-fill_into-clause-filled c =
     let (filled, are, len, room) = c.in-Ok-fill_into.ensures.filled in
-    let text = c.in-Ok-from_utf8.text.now in
     let is = as-read c.args.options.now c.in-Ok.options c.in-Ok.ensures.read
-    (λ s Divides. IsFilled s (Divides s) text filled) are in
+    (λ s Divides. IsFilled s (Divides s) c.args.text.now filled) are in
     let same : length c.fill_into.new.room ≡ length c.args.room.now = search rules in
     let passed = short-reported (length c.args.room.now) (length filled) (omega arith) in
     let small : c.report.result ≡ too_small ↔ length c.args.room.now < length filled = (
@@ -18,13 +17,7 @@ returns-in-Ok-fill_into-clause-filled c =
       λ passes. c.report.ensures.small.1 (rw (same, len) (passed.1 passes)),
     ) in
     record {
-      written = λ answered. (
-        filled,
-        rw c.in-Ok-from_utf8.ensures.0 at is,
-        c.report.ensures.len ∙ len,
-        room,
-        small,
-      );
+      written = λ answered. (filled, is, c.report.ensures.len ∙ len, room, small);
       kept = λ other short. search rules;
       kept_len = λ other short. search rules;
     }

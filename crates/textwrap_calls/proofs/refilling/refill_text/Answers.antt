@@ -1,4 +1,4 @@
-use Rattle.textwrap_calls.proofs.refilling.textwrap_refill.Goals as goal
+use Rattle.textwrap_calls.proofs.refilling.refill_text.Goals as goal
 use Rattle.textwrap_base.proofs.Common.{string_bytes}
 use Rattle.textwrap.specs.Refilling.{IsRefilled}
 use Rattle.textwrap_calls.proofs.ReadOptions.{as-read}
@@ -6,9 +6,7 @@ use Rattle.textwrap_calls.proofs.RoomLemmas.{WritesText-answer}
 
 pub returns-in-Ok-refill-clause-refilled : goal.returns-in-Ok-refill-clause-refilled
 returns-in-Ok-refill-clause-refilled c =
-    let text = c.in-Ok-from_utf8.text.now in
     let refilled = as-read c.args.options.now c.in-Ok.options c.in-Ok.ensures.read
-    (λ s Divides. IsRefilled s Divides text (string_bytes c.in-Ok-refill.refilled))
+    (λ s Divides. IsRefilled s Divides c.args.text.now (string_bytes c.in-Ok-refill.refilled))
     c.in-Ok-refill.ensures.refilled in
-    WritesText-answer _ _ _ _ _ _ _ (rw c.in-Ok-from_utf8.ensures.0 at refilled)
-    (rw c.as_bytes.ensures.value at c.put.ensures.text)
+    WritesText-answer _ _ _ _ _ _ _ refilled (rw c.as_bytes.ensures.value at c.put.ensures.text)

@@ -1,13 +1,12 @@
-use Rattle.textwrap_calls.proofs.printable.only_line.Goals as goal
-use Rattle.textwrap_base.proofs.Common.{ap, arith, ne_eqb, refl, take}
+use Rattle.textwrap_calls.proofs.printable.line_of.Goals as goal
+use Rattle.textwrap_base.proofs.Common.{ap, ne_eqb, refl, take}
 use Rattle.textwrap_calls.proofs.PrintableLines.{free-line, only-line-filled}
+use Rattle.textwrap_calls.proofs.RefilledLine.{line-refilled}
 
 pub returns-then-options-ne0-clause-line : goal.returns-then-options-ne0-clause-line
 returns-then-options-ne0-clause-line c =
     let o = c.args.options.now in
-    free-line o c.args.text.now c.args.text.now
-    (c.are_without_indents.ensures.0 c.if-not-are_without_indents.false).initial (omega arith)
-    (c.is_one_line.ensures.free c.if-not-is_one_line.false)
+    free-line o c.args.text.now c.args.text.now c.requires.bare.initial c.requires.short c.requires.free
     (rw (ne_eqb o.preserve_trailing_space 0 c.if-options-ne0.true) refl)
 
 pub returns-then-options-ne0-clause-filled : goal.returns-then-options-ne0-clause-filled
@@ -15,16 +14,25 @@ returns-then-options-ne0-clause-filled c =
     only-line-filled c.args.options.now c.args.text.now c.args.text.now
     (returns-then-options-ne0-clause-line c)
 
+pub returns-then-options-ne0-clause-refilled : goal.returns-then-options-ne0-clause-refilled
+returns-then-options-ne0-clause-refilled c = λ none.
+    line-refilled c.args.options.now c.args.text.now c.args.text.now c.requires.bare c.requires.free none
+    (returns-then-options-ne0-clause-filled c)
+
 pub returns-clause-line : goal.returns-clause-line
 returns-clause-line c =
     let o = c.args.options.now in
     let text = c.args.text.now in
-    free-line o text (take c.trimmed_len.result text)
-    (c.are_without_indents.ensures.0 c.if-not-are_without_indents.false).initial (omega arith)
-    (c.is_one_line.ensures.free c.if-not-is_one_line.false)
+    free-line o text (take c.trimmed_len.result text) c.requires.bare.initial c.requires.short
+    c.requires.free
     (rw c.if-options-ne0.false (ap (λ n. take n text) c.trimmed_len.ensures.value))
 
 pub returns-clause-filled : goal.returns-clause-filled
 returns-clause-filled c =
     only-line-filled c.args.options.now c.args.text.now (take c.trimmed_len.result c.args.text.now)
     (returns-clause-line c)
+
+pub returns-clause-refilled : goal.returns-clause-refilled
+returns-clause-refilled c = λ none.
+    line-refilled c.args.options.now c.args.text.now (take c.trimmed_len.result c.args.text.now)
+    c.requires.bare c.requires.free none (returns-clause-filled c)

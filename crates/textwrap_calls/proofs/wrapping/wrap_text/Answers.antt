@@ -1,0 +1,29 @@
+use Rattle.textwrap_calls.proofs.wrapping.wrap_text.Goals as goal
+use Rattle.textwrap_base.proofs.Common.{◌<◌, ◌^◌, [], arith, length, refl, rules}
+use Rattle.textwrap_words.specs.LentText.{as_len}
+use Rattle.textwrap_lines.proofs.Common.{built_text}
+use Rattle.textwrap_lines.specs.Places.{ArePlacedLines}
+use Rattle.textwrap_calls.specs.Options.{algorithm_of, separator_of, settings_of, splitter_of}
+use Rattle.textwrap_calls.proofs.GroupLemmas.{placed-shown}
+use Rattle.textwrap_calls.proofs.Lengths.Bounded.{lines-bounded}
+use Rattle.textwrap_calls.proofs.LineLemmas.{ShowLines-length, WritesLines-reported}
+use Rattle.textwrap_calls.proofs.LineLemmas.{WritesReported-counts}
+use Rattle.textwrap_calls.proofs.ReadOptions.{as-read}
+
+pub returns-in-Ok-place_into-clause-wrapped : goal.returns-in-Ok-place_into-clause-wrapped
+returns-in-Ok-place_into-clause-wrapped c =
+    let given = c.args.options.now in
+    let text = c.args.text.now in
+    let (lines, places, are, writes) = c.in-Ok-place_into.ensures.lines in
+    let here = as-read given c.in-Ok.options c.in-Ok.ensures.read
+    (λ s Divides. ArePlacedLines s (Divides s) text lines places) are in
+    let shown = placed-shown (settings_of given) (separator_of given) (splitter_of given)
+    (algorithm_of given) text lines places c.utf8.text here in
+    let few = (lines-bounded given (settings_of given) (length text) text lines c.utf8.text refl
+    here.are).count in
+    let same = ShowLines-length _ _ _ _ lines places (shown []) in
+    let fits : length places < 2 ^ 64 = omega (arith, few, same) in
+    WritesLines-reported _ _ lines _ _ _ _ _ _ _ _ _ _ _ here refl shown
+    c.report_counts.ensures.statuses
+    (WritesReported-counts as_len places (built_text lines) _ _ _ _ _ _ _ _ _ _ fits refl writes
+    c.report_counts.ensures (search rules) (search rules) (omega arith))

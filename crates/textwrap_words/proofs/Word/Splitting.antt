@@ -13,7 +13,7 @@ use Rattle.textwrap_base.proofs.Common.{take-append-add, and_right, eqb-true, dr
 use Rattle.textwrap_base.proofs.Common.{length-take-le, length_push, encodes-chars, encode_utf8_all}
 use Rattle.textwrap_words.proofs.Common.{is_hyphen_point, hyphen, ends_in_hyphen, hyphen_points}
 use Rattle.textwrap_words.proofs.Common.{points_of, Splitter, Whole, AtHyphens, AreCuts, is_blank}
-use Rattle.std.specs.Prelude.{chars}
+use Rattle.std.specs.Str.{chars}
 use lib.Utf8.{encode}
 use Rattle.std.proofs.lemmas.List.Elements.{All-filter, filter_passes}
 use Rattle.std.proofs.lemmas.List.Folds.{list_any_at, list_any-append}

@@ -1,31 +1,24 @@
 -- The breaks that the iterator has still to give, and what the rules ask of the text before a place
 -- and past it.
-use Rattle.std.proofs.Common.{◌≡◌, Bool, true, false, not, ◌&&◌, List, [], ◌∷◌, refl, sym, ap, ◌∙◌}
-use Rattle.std.proofs.Common.{if◌then◌else◌, ℕ, ◌+◌, ◌<◌, length, drop, get_or, ◌++◌, arith}
-use Rattle.textwrap_unicode.specs.declared.classes.Unit.{Unit}
-use Rattle.textwrap_unicode.specs.Before.{Text, as_letter, before_of, first_class, is_empty}
-use Rattle.textwrap_unicode.specs.Before.{takes_marks, with_unit, nothing}
-use Rattle.textwrap_unicode.specs.BreaksLeft.{and, and_letter, breaks_after}
-use Rattle.textwrap_unicode.specs.ClassSets.{is_mark, is_zwj, takes_no_mark, is_number}
+use Rattle.textwrap_unicode.proofs.Common.{if◌then◌else◌, breaks_after, takes_no_mark, number_first}
+use Rattle.textwrap_unicode.proofs.Common.{◌≡◌, first_class, takes_marks, numbers_rule, breaks_from}
+use Rattle.textwrap_unicode.proofs.Common.{cases_Bool, is_empty, visible_in, Alphabetic, Prohibited}
+use Rattle.textwrap_unicode.proofs.Common.{ℕ, before_of, with_unit, is_number, read-next}
+use Rattle.textwrap_unicode.proofs.Common.{nothing, is_mark, class_of, unit_of, decide_by, break_at}
+use Rattle.textwrap_unicode.proofs.Common.{false, length, get_or, IsUtf8, Numbers, ByPairs, Verdict}
+use Rattle.textwrap_unicode.proofs.Common.{true, ◌&&◌, List, [], arith, chars, encode, Before}
+use Rattle.textwrap_unicode.proofs.Common.{not, ◌∷◌, refl, sym, ◌∙◌, ◌+◌, drop, ◌++◌, Unit, Text}
+use Rattle.textwrap_unicode.proofs.Common.{ap, ◌<◌, and}
+use Rattle.std.proofs.Math.Bool.{and_assoc}
 use Rattle.std.proofs.lemmas.List.{at_drop_more}
 use Rattle.textwrap_words.specs.declared.escapes.State.{State}
-use Rattle.textwrap_words.proofs.Units.Reading.{visible-step, IsRead, read-ahead, read-all}
-use Rattle.textwrap_words.proofs.Units.Reading.{read-next, read-none, read-start}
-use Rattle.textwrap_words.specs.Escapes.{next_of, shows, visible_in}
-use Rattle.textwrap_unicode.specs.Classes.{class_of, unit_of}
-use Rattle.textwrap_unicode.specs.Rules.{number_first, decide_by, numbers_rule}
-use Rattle.std.specs.Str.{chars, IsUtf8}
-use Rattle.std.proofs.lemmas.Str.{chars-nil}
-use lib.Utf8.{encode}
-use Rattle.unicode.specs.declared.properties.LineBreak.TheVariants.{Alphabetic}
-use Rattle.textwrap_unicode.specs.declared.before.Before.{Before}
+use Rattle.textwrap_words.proofs.Units.Reading.{visible-step, read-ahead, read-none, read-start}
+use Rattle.textwrap_words.proofs.Units.Reading.{IsRead, read-all}
+use Rattle.textwrap_words.specs.Escapes.{next_of, shows}
+use Rattle.textwrap_base.proofs.Common.{chars-nil}
 use Rattle.textwrap_unicode.specs.declared.breaks.LineBreak.{LineBreak}
-use Rattle.textwrap_unicode.specs.Breaks.{break_at, breaks_from}
 use Rattle.textwrap_unicode.specs.WordStarts.{plain_letter}
-use Rattle.textwrap_unicode.specs.declared.numbers.Numbers.{Numbers}
-use Rattle.textwrap_unicode.specs.declared.numbers.Numbers.TheVariants.{ByPairs, ByExpression}
-use Rattle.textwrap_unicode.specs.declared.rules.Verdict.{Verdict}
-use Rattle.textwrap_unicode.specs.declared.rules.Verdict.TheVariants.{Prohibited}
+use Rattle.textwrap_unicode.specs.declared.numbers.Numbers.TheVariants.{ByExpression}
 
 -- ---- what the rules ask of the text before a place, when a unit is added to it
 
@@ -34,28 +27,15 @@ takes_marks-is : (units : List Unit)
 takes_marks-is [] = refl
 takes_marks-is (unit ∷ units) = refl
 
-regroup : (m s t : Bool) → (m && s) && t ≡ m && (s && t)
-regroup true s t = refl
-regroup false s t = refl
-
 pub and-is : (text : Text) (next : Unit)
     → and (before_of text) next ≡ before_of (with_unit text next)
 and-is text next =
     let stands : is_mark next.class && not (is_empty text.units)
     && not (takes_no_mark (first_class text.units)) ≡ is_mark next.class && takes_marks text.units =
-    regroup (is_mark next.class) (not (is_empty text.units))
+    and_assoc (is_mark next.class) (not (is_empty text.units))
     (not (takes_no_mark (first_class text.units)))
     ∙ ap (λ b. is_mark next.class && b) (sym (takes_marks-is text.units)) in
-    rw stands (by (is_mark next.class && takes_marks text.units))
-  where
-    by : (b : Bool) → (if b then record (before_of text) { is_joined = is_zwj next.class }
-        else and_letter (before_of text) (as_letter next) (is_zwj next.class))
-        ≡ before_of (record {
-          units = if b then text.units else as_letter next ∷ text.units;
-          is_joined = is_zwj next.class;
-        })
-    by true = refl
-    by false = refl
+    rw stands (grind (arith, cases_Bool))
 
 -- ---- the look past the next unit for a number, as the text is read
 
@@ -111,10 +91,7 @@ pub reading-start : (numbers : Numbers) (rest : List ℕ) (start : ℕ) (first :
     (ahead : List ℕ) (before : Before) → IsUtf8 rest → offset ≡ 0 → ahead ≡ rest → before ≡ first
     → IsReading numbers rest start first offset ahead before
 reading-start numbers rest start first offset ahead before utf8 none whole same =
-    rw (none, whole, same) (record {
-      read = read-start rest utf8;
-      left = ap (λ n. breaks_after numbers first n (chars rest)) (omega arith);
-    })
+    grind (arith, read-start)
 
 module _ (numbers : Numbers) (rest : List ℕ) (start : ℕ) (first : Before) (offset : ℕ)
     (ahead : List ℕ) (before : Before)
@@ -130,13 +107,7 @@ module _ (numbers : Numbers) (rest : List ℕ) (start : ℕ) (first : Before) (o
     here : break_at verdict-here (start + offset)
         ++ breaks_after numbers (and before (unit_of c)) (start + end) (chars after)
         ≡ breaks_after numbers first start (chars rest)
-    here = rw (read-next h.read c after e _ refl).place
-        (ap (λ n. break_at (decide_by (numbers_rule numbers (chars after)) before (unit_of c))
-        (start + offset)
-        ++ breaks_after numbers (and before (unit_of c)) n (chars after)) (omega arith)
-        ∙ ap (λ cs. breaks_after numbers before (start + offset) cs)
-        (sym (read-ahead h.read c after e))
-        ∙ h.left)
+    here = grind (arith, (read-next h.read c after e _ refl).place, read-ahead, h.left)
 
     -- no line ends before the character
     pub reading-step : (offset' : ℕ) (before' : Before) → verdict-here ≡ Prohibited
@@ -155,8 +126,7 @@ module _ (numbers : Numbers) (rest : List ℕ) (start : ℕ) (first : Before) (o
         → breaks_after numbers first start (chars rest)
         ≡ place ∷ breaks_after numbers before' (start + end) (chars (drop end rest))
     reading-break verdict place before' said is before_is =
-        rw (before_is, (read-next h.read c after e _ refl).place)
-        (sym (rw (said, is) at here))
+        grind (arith, before_is, (read-next h.read c after e _ refl).place, said, is, here)
 
   -- nothing is ahead
   pub reading-end : length ahead ≡ 0
@@ -187,7 +157,6 @@ in_word = record {
 pub letter-step : (numbers : Numbers) (back : List ℕ) (before : Before) (unit : Unit)
     → before ≡ in_word → unit ≡ plain_letter
     → (decide_by (numbers_rule numbers back) before unit ≡ Prohibited) × (and before unit ≡ before)
-letter-step ByPairs back before unit in_word_is letter_is =
-    rw (in_word_is, letter_is) (refl, refl)
+letter-step ByPairs back before unit in_word_is letter_is = rw (in_word_is, letter_is) (refl, refl)
 letter-step ByExpression back before unit in_word_is letter_is =
     rw (in_word_is, letter_is) (refl, refl)

@@ -1,21 +1,17 @@
 -- The breaks of a text are one list in order, and what is said of one place.
-use Rattle.std.proofs.Common.{◌≡◌, ◌↔◌, ℕ, zero, suc, ◌+◌, ◌<◌, ◌≤◌, get_or, Bool, true, false}
-use Rattle.std.proofs.Common.{List, [], ◌∷◌, ◌++◌, length, sym, ap, subst, arith, if◌then◌else◌}
-use Rattle.std.proofs.Common.{inl, inr, take, refl, ◌∙◌, length-append}
-use Rattle.std.specs.Str.{chars, IsUtf8}
-use Rattle.std.proofs.lemmas.List.{append-nil, append_cancel_left}
+use Rattle.textwrap_base.proofs.Texts.{some-bytes}
+use Rattle.textwrap_unicode.proofs.Common.{if◌then◌else◌, length-append, breaks_from, numbers_rule}
+use Rattle.textwrap_unicode.proofs.Common.{Mandatory, Prohibited, before_of, with_unit, verdict_by}
+use Rattle.textwrap_unicode.proofs.Common.{false, Numbers, is_empty, break_at, breaks_by, decide_by}
+use Rattle.textwrap_unicode.proofs.Common.{zero, get_or, length, Verdict, Allowed, nothing, unit_of}
+use Rattle.textwrap_unicode.proofs.Common.{ℕ, Bool, true, List, subst, arith, chars, IsUtf8, encode}
+use Rattle.textwrap_unicode.proofs.Common.{◌≡◌, ◌↔◌, suc, ◌+◌, ◌<◌, ◌≤◌, [], ◌++◌, take, Text}
+use Rattle.textwrap_unicode.proofs.Common.{◌∷◌, sym, ap, inl, inr, ◌∙◌}
+use Rattle.std.proofs.lemmas.List.{append_cancel_left}
 use Rattle.std.proofs.lemmas.Str.{length-le-encodes, encodes_same}
-use lib.Utf8.{encode, encodes}
+use lib.Utf8.{encodes}
 use Rattle.textwrap_unicode.specs.declared.breaks.LineBreak.{LineBreak}
-use Rattle.textwrap_unicode.specs.declared.numbers.Numbers.{Numbers}
-use Rattle.textwrap_unicode.specs.declared.rules.Verdict.{Verdict}
-use Rattle.textwrap_unicode.specs.declared.rules.Verdict.TheVariants.{Mandatory, Allowed}
-use Rattle.textwrap_unicode.specs.declared.rules.Verdict.TheVariants.{Prohibited}
-use Rattle.textwrap_unicode.specs.Before.{Text, before_of, is_empty, nothing, with_unit}
-use Rattle.textwrap_unicode.specs.Breaks.{AreBreaksBy, break_at, breaks_from, breaks_by, IsPlaceBy}
-use Rattle.textwrap_unicode.specs.Breaks.{IsEnd, verdict_by}
-use Rattle.textwrap_unicode.specs.Classes.{unit_of}
-use Rattle.textwrap_unicode.specs.Rules.{decide_by, numbers_rule}
+use Rattle.textwrap_unicode.specs.Breaks.{AreBreaksBy, IsPlaceBy, IsEnd}
 use Rattle.textwrap_base.proofs.Lists.Elements.{IsInOrder, order-nil, order-cons, same-members}
 use Rattle.textwrap_unicode.proofs.TextBreaks.{contains-break, spelled, before-place}
 use Rattle.std.specs.List.{Contains}
@@ -57,13 +53,9 @@ from-there numbers text at (c ∷ cs) i none within =
     ))
     within
 
-encode-some : (c : ℕ) → 0 < length (encode c)
-encode-some c = omega (arith, length-le-encodes (c ∷ []), ap length (append-nil (encode c)))
-
 order-end : (at : ℕ) (is_start : Bool) → IsInOrder offset_of (end_at is_start at)
 order-end at true = order-nil offset_of
-order-end at false = order-cons offset_of _ [] (λ i none within. omega arith)
-    (order-nil offset_of)
+order-end at false = grind (arith, order-cons)
 
 order-place : (at : ℕ) (verdict : Verdict) (rest : List LineBreak)
     → ((i : ℕ) (none : LineBreak) → i < length rest → at < (get_or rest i none).at)
@@ -80,7 +72,7 @@ breaks-in-order numbers text at (c ∷ cs) =
     order-place at (decide_by (numbers_rule numbers cs) (before_of text) (unit_of c)) _
     (λ i none within. omega (
       arith,
-      encode-some c,
+      some-bytes c,
       from-there numbers (with_unit text (unit_of c)) (at + length (encode c)) cs i none within,
     ))
     (breaks-in-order numbers (with_unit text (unit_of c)) (at + length (encode c)) cs)
@@ -107,14 +99,7 @@ module _ (numbers : Numbers) (text front back : List ℕ) (next : ℕ) (utf8 : I
     (divided : chars text ≡ front ++ next ∷ back) where
   here-is : (verdict : Verdict) → verdict_by numbers front next back ≡ verdict
       → IsPlaceBy numbers text (length (encodes front)) verdict
-  here-is verdict said = record {
-    front = front;
-    next = next;
-    back = back;
-    divided = divided;
-    offset = refl;
-    said = said;
-  }
+  here-is verdict said = grind arith
 
   here-said : (verdict : Verdict) → IsPlaceBy numbers text (length (encodes front)) verdict
       → verdict_by numbers front next back ≡ verdict

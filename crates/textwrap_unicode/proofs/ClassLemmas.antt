@@ -1,17 +1,22 @@
 -- The classes of characters, told without the tables, their sets, and what the rules come to after
 -- each.
-use Rattle.std.proofs.Common.{◌≡◌, ℕ, ◌<◌, ◌≤◌, Bool, true, false, not, ◌&&◌, ◌==◌, slice_index_or}
-use Rattle.std.proofs.Common.{refl, sym, arith, eqb-true, ◌||◌, ◌-◌, List, [], ◌∷◌, ap, ◌∙◌}
-use Rattle.std.proofs.Common.{if◌then◌else◌, ◌≢◌}
+use Rattle.std.proofs.lemmas.Bool.{true_from_ne_false, cond-false, cond-true, or_left}
+use Rattle.textwrap_unicode.proofs.Common.{cases_Bool, slice_index_or, if◌then◌else◌, takes_no_mark}
+use Rattle.textwrap_unicode.proofs.Common.{[], Ideographic, first_class, takes_marks, is_after_text}
+use Rattle.textwrap_unicode.proofs.Common.{Ambiguous, Alphabetic, nat_tests, Prohibited}
+use Rattle.textwrap_unicode.proofs.Common.{ℕ, LineBreak, with_unit, as_letter, Mandatory, decide_by}
+use Rattle.textwrap_unicode.proofs.Common.{not-true, CLASSES, class_of, unit_of, is_mark, is_space}
+use Rattle.textwrap_unicode.proofs.Common.{false, arith, Space, nat_lt, Before, Verdict, Allowed}
+use Rattle.textwrap_unicode.proofs.Common.{Bool, true, ◌&&◌, ◌==◌, refl, ◌||◌, List, ap, Unit, Text}
+use Rattle.textwrap_unicode.proofs.Common.{◌≡◌, ◌<◌, ◌≤◌, not, sym, ◌-◌, ◌∷◌, ◌∙◌, ◌≢◌}
+use Rattle.std.proofs.Common.{eqb-true}
 use Rattle.unicode.specs.Binary.{is_extended_pictographic}
 use Rattle.unicode.specs.EastAsianWidth.{east_asian_width}
 use Rattle.unicode.specs.GeneralCategory.{general_category}
 use Rattle.unicode.specs.LineBreak.{line_break, line_break_number}
-use Rattle.unicode.specs.declared.properties.LineBreak.TheVariants.{Ambiguous, Ideographic}
-use Rattle.unicode.specs.declared.properties.LineBreak.TheVariants.{Alphabetic, CarriageReturn}
-use Rattle.unicode.specs.declared.properties.LineBreak.TheVariants.{CombiningMark, LineFeed}
-use Rattle.unicode.specs.declared.properties.LineBreak.TheVariants.{MandatoryBreak, NextLine, Space}
-use Rattle.unicode.specs.declared.properties.LineBreak.TheVariants.{ZWSpace, Zwj}
+use Rattle.unicode.specs.declared.properties.LineBreak.TheVariants.{CarriageReturn, MandatoryBreak}
+use Rattle.unicode.specs.declared.properties.LineBreak.TheVariants.{CombiningMark, LineFeed, Zwj}
+use Rattle.unicode.specs.declared.properties.LineBreak.TheVariants.{NextLine, ZWSpace}
 use Rattle.unicode.proofs.BinaryLemmas.{is_extended_pictographic_stepped}
 use Rattle.unicode.proofs.BreaksComputing.{ucd_breaks}
 use Rattle.unicode.proofs.CategoryComputing.{ucd_category}
@@ -23,23 +28,12 @@ use Rattle.unicode.proofs.GeneralCategoryLemmas.{general_category_stepped}
 use Rattle.unicode.proofs.LineBreakLemmas.{line_break_stepped, line_break_number_injective}
 use Rattle.unicode.proofs.Stepped.{Stepped, map_stepped, zip_stepped}
 use Rattle.textwrap_words.proofs.Units.Texts.{passes-within}
-use Rattle.textwrap_unicode.specs.declared.ascii.TheConstants.{CLASSES}
-use Rattle.textwrap_unicode.specs.declared.classes.Unit.{Unit}
-use Rattle.textwrap_unicode.specs.Classes.{class_of, is_unassigned, is_wide, resolve, unit_of}
-use Rattle.textwrap_base.proofs.Common.{nat_lt, nat_tests, true≢false}
+use Rattle.textwrap_unicode.specs.Classes.{is_unassigned, is_wide, resolve}
 use Rattle.textwrap_unicode.specs.declared.japanese.TheConstants.{SYLLABLES, WIDE}
-use Rattle.unicode.specs.declared.properties.LineBreak.{LineBreak}
-use Rattle.textwrap_unicode.specs.Before.{Text, class_past_spaces, first_class, takes_marks}
-use Rattle.textwrap_unicode.specs.Before.{with_unit, as_letter}
-use Rattle.textwrap_unicode.specs.ClassSets.{is_carriage_return, is_line_end, is_mark, is_space}
-use Rattle.textwrap_unicode.specs.ClassSets.{is_zero_width_space, takes_no_mark, is_after_text}
-use Rattle.textwrap_unicode.specs.declared.before.Before.{Before}
-use Rattle.textwrap_unicode.specs.declared.rules.Verdict.{Verdict}
-use Rattle.textwrap_unicode.specs.declared.rules.Verdict.TheVariants.{Mandatory, Allowed}
-use Rattle.textwrap_unicode.specs.declared.rules.Verdict.TheVariants.{Prohibited}
-use Rattle.textwrap_unicode.specs.Rules.{Rule, Saying, decide_by, first_said, is_glued, is_kept}
-use Rattle.textwrap_unicode.specs.Rules.{lb11, lb12, lb12a, lb13, lb14, lb15, lb16, lb17, lb4, lb8}
-use Rattle.textwrap_unicode.specs.Rules.{lb9, rules}
+use Rattle.textwrap_unicode.specs.Before.{class_past_spaces}
+use Rattle.textwrap_unicode.specs.ClassSets.{is_carriage_return, is_line_end, is_zero_width_space}
+use Rattle.textwrap_unicode.specs.Rules.{Rule, Saying, first_said, is_glued, is_kept, rules}
+use Rattle.textwrap_unicode.specs.Rules.{lb4, lb8, lb9}
 
 -- ---- what is asked of a character, as steps, over which proofs compute
 
@@ -61,10 +55,6 @@ unassigned_stepped = zip_stepped (λ p category. p && is_unassigned category)
     is_extended_pictographic general_category is_extended_pictographic_stepped
     general_category_stepped
 
-false-from : (b : Bool) → not b ≡ true → b ≡ false
-false-from true e = sym e
-false-from false e = refl
-
 -- ---- ASCII
 
 ascii-class : (c : ℕ) → c < 128 → slice_index_or CLASSES c Ambiguous ≡ class_of c
@@ -78,20 +68,19 @@ ascii-class c below =
 ascii-narrow : (c : ℕ) → c < 128 → wide_at c ≡ false
 unfolding ucd_east_asian
 ascii-narrow c below =
-    false-from _ (Stepped-below wide_at wide_stepped (λ x v. not v) 128 refl c below)
+    not-true _ (Stepped-below wide_at wide_stepped (λ x v. not v) 128 refl c below)
 
 ascii-assigned : (c : ℕ) → c < 128 → unassigned_at c ≡ false
 unfolding ucd_emoji ucd_category
 ascii-assigned c below =
-    false-from _ (Stepped-below unassigned_at unassigned_stepped (λ x v. not v) 128 refl c below)
+    not-true _ (Stepped-below unassigned_at unassigned_stepped (λ x v. not v) 128 refl c below)
 
 pub ascii-unit : (c : ℕ) → c < 128 → ◌≡◌ {A = Unit} (record {
   class = slice_index_or CLASSES c Ambiguous;
   is_wide = false;
   is_unassigned_pictograph = false;
 }) (unit_of c)
-ascii-unit c below =
-    rw (ascii-class c below, ascii-narrow c below, ascii-assigned c below) refl
+ascii-unit c below = rw (ascii-class c below, ascii-narrow c below, ascii-assigned c below) refl
 
 -- ---- ranges
 
@@ -110,7 +99,7 @@ ideograph-wide c low high =
 pub early-assigned : (c : ℕ) → c < 0x1_F000 → unassigned_at c ≡ false
 unfolding ucd_emoji ucd_category
 early-assigned c below =
-    false-from _
+    not-true _
     (passes-within (0, 0x1_EFFF) refl unassigned_at unassigned_stepped not (omega arith)
     refl c (omega arith) (omega (arith, below)))
 
@@ -119,30 +108,23 @@ pub ideograph-unit : (c : ℕ) → 0x4E00 ≤ c → c ≤ 0x9FFF → ◌≡◌ {
   is_wide = true;
   is_unassigned_pictograph = false;
 }) (unit_of c)
-ideograph-unit c low high =
-    rw (
-      sym (ideograph-class c low high),
-      ideograph-wide c low high,
-      early-assigned c (omega (arith, high)),
-    ) refl
+ideograph-unit c low high = grind (arith, ideograph-class, ideograph-wide, early-assigned)
 
 -- ---- what the tables of Unicode give for the signs and syllables of Japanese, which the code
 -- does not look up
 
+abbrev pub agree : Bool → Bool → Bool
+agree a b = if a then b else not b
+
+pub agree-same : (a b : Bool) → agree a b ≡ true → a ≡ b
+agree-same true b e = sym e
+agree-same false true e = cc
+agree-same false false e = refl
+
 -- the second, where the first fails
-or-other : (a b : Bool) → (a || b) ≡ true → a ≡ false → b ≡ true
-or-other true b e f = absurd (true≢false f)
-or-other false b e f = e
-
-abbrev same : Bool → Bool → Bool
-same true b = b
-same false true = false
-same false false = true
-
-same-is : (a b : Bool) → same a b ≡ true → a ≡ b
-same-is true b e = sym e
-same-is false true e = e
-same-is false false e = refl
+pub past-first : (a b : Bool) → a ≡ false → a || b ≡ true → b ≡ true
+past-first true b none e = cc
+past-first false b none e = e
 
 not-below : (c : ℕ) → 0x3000 ≤ c → nat_lt c 0x3000 ≡ false
 not-below c from = grind (arith, nat_tests, from)
@@ -152,22 +134,20 @@ syllable-class : (c : ℕ) → 0x3000 ≤ c → c ≤ 0x30FF
 unfolding ucd_breaks ucd_category
 syllable-class c from to =
     line_break_number_injective _ _ (eqb-true _ _
-    (or-other (nat_lt c 0x3000) _
+    (past-first (nat_lt c 0x3000) _ (not-below c from)
     (Stepped-below class_of class_stepped
     (λ x v. nat_lt x 0x3000
     || (line_break_number (slice_index_or SYLLABLES (x - 0x3000) Ambiguous) == line_break_number v)) 0x3100
-    refl c (omega (arith, to)))
-    (not-below c from)))
+    refl c (omega (arith, to)))))
 
 syllable-wide : (c : ℕ) → 0x3000 ≤ c → c ≤ 0x30FF → slice_index_or WIDE (c - 0x3000) false ≡ wide_at c
 unfolding ucd_east_asian
 syllable-wide c from to =
-    same-is _ _
-    (or-other (nat_lt c 0x3000) _
+    agree-same _ _
+    (past-first (nat_lt c 0x3000) _ (not-below c from)
     (Stepped-below wide_at wide_stepped
-    (λ x v. nat_lt x 0x3000 || same (slice_index_or WIDE (x - 0x3000) false) v) 0x3100
-    refl c (omega (arith, to)))
-    (not-below c from))
+    (λ x v. nat_lt x 0x3000 || agree (slice_index_or WIDE (x - 0x3000) false) v) 0x3100
+    refl c (omega (arith, to))))
 
 pub japanese-unit : (c : ℕ) → 0x3000 ≤ c → c ≤ 0x30FF → ◌≡◌ {A = Unit} (record {
   class = slice_index_or SYLLABLES (c - 0x3000) Ambiguous;
@@ -176,16 +156,6 @@ pub japanese-unit : (c : ℕ) → 0x3000 ≤ c → c ≤ 0x30FF → ◌≡◌ {A
 }) (unit_of c)
 japanese-unit c from to =
     rw (syllable-class c from to, syllable-wide c from to, early-assigned c (omega (arith, to))) refl
-
--- ---- tests
-
-pub if-true : {X : Type 0} (b : Bool) (x y : X) → b ≡ true → (if b then x else y) ≡ x
-if-true true x y e = refl
-if-true false x y e = cc
-
-pub if-false : {X : Type 0} (b : Bool) (x y : X) → b ≡ false → (if b then x else y) ≡ y
-if-false true x y e = cc
-if-false false x y e = refl
 
 -- ---- classes
 
@@ -216,17 +186,10 @@ not-zero_width : (class : LineBreak) → takes_no_mark class ≡ false
 not-zero_width ZWSpace e = cc
 not-zero_width class e = refl
 
-not-space : (class : LineBreak) → takes_no_mark class ≡ false → is_space class ≡ false
-not-space Space e = cc
-not-space class e = refl
-
 pub none-past : (units : List Unit) → takes_no_mark (first_class units) ≡ false
     → is_zero_width_space (class_past_spaces units) ≡ false
 none-past [] e = refl
-none-past (unit ∷ units) e =
-    ap is_zero_width_space
-    (if-false (is_space unit.class) (class_past_spaces units) unit.class (not-space unit.class e))
-    ∙ not-zero_width unit.class e
+none-past (unit ∷ units) e = grind (arith, cond-false, not-zero_width)
 
 -- a property that neither a mark nor a letter has
 module _ (has : LineBreak → Bool) (of_mark : has CombiningMark ≡ false) (of_zwj : has Zwj ≡ false)
@@ -239,34 +202,14 @@ module _ (has : LineBreak → Bool) (of_mark : has CombiningMark ≡ false) (of_
 
   of-first : (units : List Unit) → takes_marks units ≡ true → has (first_class units) ≡ false
   of-first [] e = cc
-  of-first (unit ∷ units) e = of_base unit.class (by (takes_no_mark unit.class) e)
-    where
-      by : (b : Bool) → not b ≡ true → b ≡ false
-      by true e = cc
-      by false e = refl
+  of-first (unit ∷ units) e = of_base unit.class (not-true (takes_no_mark unit.class) e)
 
   -- the last unit has it if and only if the last character does
   pub last-has : (text : Text) (unit : Unit)
       → has (first_class (with_unit text unit).units) ≡ has unit.class
-  last-has text unit = by (is_mark unit.class) (takes_marks text.units) refl refl
-    where
-      by : (m t : Bool) → is_mark unit.class ≡ m → takes_marks text.units ≡ t
-          → has (first_class (if m && t then text.units
-          else (if m then record unit { class = Alphabetic } else unit) ∷ text.units))
-          ≡ has unit.class
-      by false t mark takes = refl
-      by true true mark takes = of-first text.units takes ∙ sym (of-mark unit.class mark)
-      by true false mark takes = of_letter ∙ sym (of-mark unit.class mark)
+  last-has text unit = grind (arith, cases_Bool, of-first, of-mark, of_letter)
 
 -- ---- the rules
-
-or-right : (a b : Bool) → b ≡ true → a || b ≡ true
-or-right true b e = refl
-or-right false b e = e
-
-or-left : (a b : Bool) → a ≡ true → a || b ≡ true
-or-left true b e = refl
-or-left false b e = cc
 
 prohibited-or : (b : Bool) (rest : Verdict) → rest ≡ Prohibited
     → (if b then Prohibited else rest) ≡ Prohibited
@@ -294,21 +237,9 @@ abbrev tail : List Saying → List Saying
 tail [] = []
 tail (rule ∷ others) = others
 
--- the rules after LB2, after LB5, after LB7, after LB8 and after LB9
-abbrev past_start : Rule → List Saying
-past_start numbers = tail (rules numbers)
-
+-- the rules after LB5
 abbrev past_ends : Rule → List Saying
-past_ends numbers = tail (past_start numbers)
-
-abbrev past_spaces : Rule → List Saying
-past_spaces numbers = tail (past_ends numbers)
-
-abbrev past_zero_width : Rule → List Saying
-past_zero_width numbers = tail (past_spaces numbers)
-
-abbrev past_marks : Rule → List Saying
-past_marks numbers = tail (tail (past_zero_width numbers))
+past_ends numbers = tail (tail (rules numbers))
 
 no : Prohibited ≢ Mandatory
 no = λ e. cc
@@ -325,66 +256,38 @@ closing-mark Zwj e = cc
 closing-mark class e = refl
 
 same-letter : (unit : Unit) → is_mark unit.class ≡ false → as_letter unit ≡ unit
-same-letter unit e = if-false (is_mark unit.class) (record unit { class = Alphabetic }) unit e
+same-letter unit e = cond-false (is_mark unit.class) (record unit { class = Alphabetic }) unit e
 
 module _ (numbers : Rule) (before : Before) (next : Unit) (some : before.is_start ≡ false) where
-  started : decide_by numbers before next ≡ first_said (past_start numbers) before next
-  started = if-false before.is_start Prohibited (first_said (past_start numbers) before next) some
-
   pub decide-must : lb4 before next ≡ true → decide_by numbers before next ≡ Mandatory
-  decide-must must =
-      started ∙ if-true (lb4 before next) Mandatory (first_said (past_ends numbers) before next) must
+  decide-must must = rw (some, must) refl
 
-  past-must : lb4 before next ≡ false → decide_by numbers before next ≡ first_said (past_ends numbers) before next
-  past-must free =
-      started ∙ if-false (lb4 before next) Mandatory (first_said (past_ends numbers) before next) free
+  past-must : lb4 before next ≡ false
+      → decide_by numbers before next ≡ first_said (past_ends numbers) before next
+  past-must free = rw (some, free) refl
 
   pub must-only : decide_by numbers before next ≡ Mandatory → lb4 before next ≡ true
-  must-only e = by (lb4 before next) refl
-    where
-      by : (b : Bool) → lb4 before next ≡ b → b ≡ true
-      by true is = refl
-      by false is = absurd (never-must (past_ends numbers) before next (rest-never numbers) (sym (past-must is) ∙ e))
+  must-only e = true_from_ne_false (lb4 before next) (λ free.
+      never-must (past_ends numbers) before next (rest-never numbers) (sym (past-must free) ∙ e))
 
   pub decide-kept : lb4 before next ≡ false → is_kept before next ≡ true
       → decide_by numbers before next ≡ Prohibited
-  decide-kept free kept =
-      past-must free
-      ∙ if-true (is_kept before next) Prohibited (first_said (past_spaces numbers) before next) kept
-
-  -- what LB8a says, where neither LB8 nor a rule before it says that a line ends
-  past-zero_width : lb4 before next ≡ false → lb8 before next ≡ false
-      → first_said (past_zero_width numbers) before next ≡ Prohibited
-      → decide_by numbers before next ≡ Prohibited
-  past-zero_width free after rest =
-      past-must free
-      ∙ prohibited-or (is_kept before next) _
-      (if-false (lb8 before next) Allowed (first_said (past_zero_width numbers) before next) after
-      ∙ rest)
+  decide-kept free kept = rw (some, free, kept) refl
 
   pub decide-marked : lb4 before next ≡ false → lb8 before next ≡ false → lb9 before next ≡ true
       → decide_by numbers before next ≡ Prohibited
   decide-marked free after marked =
-      past-zero_width free after
-      (prohibited-or before.is_joined _
-      (if-true (lb9 before next) Prohibited
-      (first_said (past_marks numbers) before next) marked))
+      rw (some, free, after, marked)
+      (prohibited-or (is_kept before next) _ (prohibited-or before.is_joined _ refl))
 
   glued-closing : is_after_text next.class ≡ true → is_glued before next ≡ true
-  glued-closing closing =
-      let to_lb13 = or-right (lb11 before next || lb12 before next || lb12a before next)
-      (lb13 before next) closing in
-      let to_lb14 = or-left _ (lb14 before next) to_lb13 in
-      let to_lb15 = or-left _ (lb15 before next) to_lb14 in
-      let to_lb16 = or-left _ (lb16 before next) to_lb15 in
-      or-left _ (lb17 before next) to_lb16
+  glued-closing closing = grind (arith, or_left)
 
   pub decide-closing : lb4 before next ≡ false → lb8 before next ≡ false
       → is_after_text next.class ≡ true → decide_by numbers before next ≡ Prohibited
   decide-closing free after closing =
-      past-zero_width free after
-      (prohibited-or before.is_joined _
-      (prohibited-or (lb9 before next) _
-      (if-true (is_glued before (as_letter next)) Prohibited _
+      rw (some, free, after)
+      (prohibited-or (is_kept before next) _ (prohibited-or before.is_joined _ (prohibited-or
+      (lb9 before next) _ (cond-true (is_glued before (as_letter next)) Prohibited _
       (ap (is_glued before) (same-letter next (closing-mark next.class closing))
-      ∙ glued-closing closing))))
+      ∙ glued-closing closing)))))

@@ -1,40 +1,30 @@
 -- The code that cuts a line at its breaks: cuts at offsets, and where the pass over a line cuts it.
-use Rattle.textwrap_base.proofs.Common.{◌≡◌, ℕ, ◌<◌, List, [], ◌∷◌, ◌++◌, length, ap, ◌∙◌, arith}
-use Rattle.textwrap_base.proofs.Common.{All-weaker, Contains, IsUtf8, encode_utf8_all}
-use Rattle.textwrap_base.proofs.Common.{encodes-append, flat_map, flat_map-append, length-append}
-use Rattle.textwrap_base.proofs.Common.{◌≢◌, ◌+◌, ◌≤◌, ◌==◌, ◌&&◌, Bool, true, false, not}
-use Rattle.textwrap_base.proofs.Common.{if◌then◌else◌, map, refl, All, All-nil, All-cons, All-head}
-use Rattle.textwrap_base.proofs.Common.{All-tail, nat_tests, inl, inr, list_any, cases_eq, sym}
-use Rattle.textwrap_base.proofs.Common.{subst, append_assoc, IsUtf8-append, nat_lt, cond}
-use Rattle.textwrap_base.proofs.Common.{cases_Bool, append-nil, encodes-chars}
-use Rattle.std.proofs.lemmas.List.Elements.{All-contains_itself, All-append}
-use lib.Utf8.{encode}
+use Rattle.textwrap_base.proofs.Common.{encode_utf8_all, flat_map-append, cond, chars_from_encodes}
+use Rattle.textwrap_base.proofs.Common.{map-append, encodes-append, IsUtf8-append, encodes-chars}
+use Rattle.textwrap_base.proofs.Common.{All-weaker, Contains, flat_map, All, All-append, IsUtf8-nil}
+use Rattle.textwrap_base.proofs.Common.{IsUtf8, All-nil, All-cons, All-head, All-tail, cases_eq}
+use Rattle.textwrap_unicode.proofs.Common.{length-append, if◌then◌else◌, cases_Bool, is_any_hyphen}
+use Rattle.textwrap_unicode.proofs.Common.{[], append_assoc, append-nil, breaks_after, numbers_rule}
+use Rattle.textwrap_unicode.proofs.Common.{nat_tests, Mandatory, Prohibited, breaks_by, decide_by}
+use Rattle.textwrap_unicode.proofs.Common.{List, list_any, cut_here, break_at, before_of, read-next}
+use Rattle.textwrap_unicode.proofs.Common.{ap, Numbers, Verdict, Allowed, unit_of, may_end, nothing}
+use Rattle.textwrap_unicode.proofs.Common.{ne_eqb, ℕ, length, arith, false, encode, Before}
+use Rattle.textwrap_unicode.proofs.Common.{◌≡◌, ◌++◌, ◌==◌, ◌&&◌, Bool, true, refl, subst, chars}
+use Rattle.textwrap_unicode.proofs.Common.{◌<◌, ◌∷◌, ◌∙◌, ◌≢◌, ◌+◌, ◌≤◌, not, map, inl, inr, sym}
+use Rattle.textwrap_unicode.proofs.Common.{and}
+use Rattle.std.proofs.lemmas.List.Elements.{All-contains_itself}
 use Rattle.textwrap_base.proofs.Texts.{some-bytes, utf8-front, utf8-back}
-use Rattle.textwrap_words.proofs.Common.{characters, units_text, Visible, cuts_at, VisibleEnd}
-use Rattle.textwrap_words.proofs.Common.{TextUnit, Sequence, visible_of, ends_from, is_cut_after}
-use Rattle.textwrap_words.proofs.Common.{cuts_among, next_of, shows, stripped, units, visible_in}
-use Rattle.textwrap_words.proofs.Word.Offsets.{cut-found, cuts_at-cuts, cuts_at-AreCuts, end_of}
-use Rattle.textwrap_words.proofs.Word.Offsets.{ends_in, ends_past, ends-step}
+use Rattle.textwrap_words.proofs.Common.{characters, VisibleEnd, TextUnit, is_cut_after}
+use Rattle.textwrap_words.proofs.Common.{Sequence, visible_of, ends_from, cuts_among, visible_in}
+use Rattle.textwrap_words.proofs.Common.{Visible, cuts_at, next_of, shows, stripped, units}
+use Rattle.textwrap_words.proofs.Word.Offsets.{cut-found, cuts_at-cuts, cuts_at-AreCuts, ends_past}
+use Rattle.textwrap_words.proofs.Word.Offsets.{end_of, ends_in, ends-step}
 use Rattle.textwrap_words.specs.Cuts.{AreInnerCuts}
-use Rattle.textwrap_words.specs.WordOffsets.{IsCutAt, is_any_hyphen}
-use Rattle.textwrap_words.proofs.Word.Parts.{cut_here, places-above, places_by}
-use Rattle.textwrap_unicode.specs.declared.before.Before.{Before}
-use Rattle.textwrap_unicode.specs.declared.numbers.Numbers.{Numbers}
-use Rattle.textwrap_unicode.specs.declared.rules.Verdict.{Verdict}
-use Rattle.textwrap_unicode.specs.declared.rules.Verdict.TheVariants.{Mandatory, Allowed}
-use Rattle.textwrap_unicode.specs.declared.rules.Verdict.TheVariants.{Prohibited}
-use Rattle.textwrap_unicode.specs.Breaks.{break_at, breaks_by}
-use Rattle.textwrap_unicode.specs.BreaksLeft.{and, breaks_after}
-use Rattle.textwrap_unicode.specs.Classes.{unit_of}
-use Rattle.textwrap_unicode.specs.Cuts.{may_end, offsets_of, cuts_by}
-use Rattle.textwrap_unicode.specs.Rules.{decide_by, numbers_rule}
-use Rattle.std.proofs.lemmas.Str.{IsUtf8-nil, chars_from_encodes}
-use Rattle.textwrap_unicode.specs.declared.breaks.LineBreak.{LineBreak}
-use Rattle.textwrap_unicode.specs.Before.{before_of, nothing}
-use Rattle.std.specs.Str.{chars}
+use Rattle.textwrap_words.specs.WordOffsets.{IsCutAt}
+use Rattle.textwrap_words.proofs.Word.Parts.{places-above, places_by}
+use Rattle.textwrap_unicode.specs.Cuts.{offsets_of, cuts_by}
 use Rattle.textwrap_words.proofs.Units.Texts.{units-tile}
-use Rattle.textwrap_words.proofs.Units.Reading.{units_in, IsRead, read-ahead, read-next, read-none}
-use Rattle.textwrap_words.proofs.Units.Reading.{read-start}
+use Rattle.textwrap_words.proofs.Units.Reading.{units_in, IsRead, read-ahead, read-none, read-start}
 use Rattle.textwrap_words.specs.declared.escapes.State.{State}
 use Rattle.textwrap_words.specs.declared.escapes.State.TheVariants.{Text}
 use Rattle.textwrap_unicode.proofs.BreakLemmas.{breaks_after-from}
@@ -44,18 +34,7 @@ use Rattle.textwrap_unicode.proofs.BreakLemmas.{breaks_after-from}
 -- each is after a character
 cut-late : (offsets line : List ℕ) (cut : ℕ) → IsCutAt offsets line cut → 0 < cut
 cut-late offsets line cut h =
-    let last = Visible h.character ∷ [] in
-    let apart : units_text (h.before ++ last) ≡ units_text h.before ++ units_text last =
-    ap encode_utf8_all (flat_map-append characters h.before last)
-    ∙ encodes-append (flat_map characters h.before) (flat_map characters last) in
-    omega (
-      arith,
-      h.place,
-      ap length apart,
-      length-append (units_text h.before) (units_text last),
-      length-append (encode h.character) [],
-      some-bytes h.character,
-    )
+    grind (arith, flat_map-append, encodes-append, h.place, length-append, some-bytes)
 
 pub cuts_at-AreInnerCuts : (offsets line : List ℕ) → IsUtf8 line
     → AreInnerCuts line (cuts_at offsets line)
@@ -84,23 +63,20 @@ cuts_ahead numbers before end hyphen (e ∷ es) =
 
 -- ---- an offset among those of the breaks
 
-other : (o s : ℕ) → o ≢ s → (o == s) ≡ false
-other o s differ = grind (arith, nat_tests)
-
 pub any-below : (s : ℕ) (front rest : List ℕ) → All (λ o. o < s) front
     → list_any (λ o. o == s) (front ++ rest) ≡ list_any (λ o. o == s) rest
 any-below s [] rest below = refl
 any-below s (o ∷ os) rest below =
     let here = All-head (λ o. o < s) o os below in
     let differs : o ≢ s = λ e. omega (arith, here, e) in
-    rw (other o s differs) (any-below s os rest (All-tail (λ o. o < s) o os below))
+    rw (ne_eqb o s differs) (any-below s os rest (All-tail (λ o. o < s) o os below))
 
 pub any-above : (s : ℕ) (os : List ℕ) → All (λ o. s < o) os → list_any (λ o. o == s) os ≡ false
 any-above s [] above = refl
 any-above s (o ∷ os) above =
     let here = All-head (λ o. s < o) o os above in
     let differs : o ≢ s = λ e. omega (arith, here, e) in
-    rw (other o s differs) (any-above s os (All-tail (λ o. s < o) o os above))
+    rw (ne_eqb o s differs) (any-above s os (All-tail (λ o. s < o) o os above))
 
 pub breaks-above : (numbers : Numbers) (before : Before) (at : ℕ) (cs : List ℕ)
     → All (λ o. at ≤ o) (offsets_of (breaks_after numbers before at cs))
@@ -161,11 +137,6 @@ module _ (test : ℕ → Bool) where
 
 -- ---- the cuts at the breaks are those ahead
 
-offsets_of-append : (xs ys : List LineBreak)
-    → offsets_of (xs ++ ys) ≡ offsets_of xs ++ offsets_of ys
-offsets_of-append [] ys = refl
-offsets_of-append (x ∷ xs) ys = ap (λ os. x.at ∷ os) (offsets_of-append xs ys)
-
 here-below : (v : Verdict) (s next : ℕ) → s < next → All (λ o. o < next) (offsets_of (break_at v s))
 here-below Mandatory s next lt = All-cons (λ o. o < next) s [] lt (All-nil (λ o. o < next))
 here-below Allowed s next lt = All-cons (λ o. o < next) s [] lt (All-nil (λ o. o < next))
@@ -180,25 +151,11 @@ cut-after : (offsets : List ℕ) (total c s : ℕ) (v : Verdict) (front later : 
     → All (λ o. s < o) later → s < total
     → is_cut_after offsets total c s ≡ not (is_any_hyphen c) && may_end v
 cut-after offsets total c s v front later is below above inside =
-    let found : list_any (λ o. o == s) offsets ≡ may_end v =
-    ap (list_any (λ o. o == s)) is ∙ any-below s front (offsets_of (break_at v s) ++ later) below
-    ∙ any-here v s later above in
-    let lt : nat_lt s total ≡ true = grind (arith, nat_tests, inside) in
-    elim (is_any_hyphen c) as (λ h. not h && nat_lt s total && list_any (λ o. o == s) offsets
-    ≡ not h && may_end v) [
-      | true ↦ refl
-      | false ↦ rw lt found
-    ]
+    grind (arith, any-below, any-here, nat_tests)
 
 none-after : (offsets : List ℕ) (total c s : ℕ) → s ≡ total
     → is_cut_after offsets total c s ≡ false
-none-after offsets total c s end =
-    let ge : nat_lt s total ≡ false = grind (arith, nat_tests, end) in
-    elim (is_any_hyphen c) as (λ h. not h && nat_lt s total && list_any (λ o. o == s) offsets
-    ≡ false) [
-      | true ↦ refl
-      | false ↦ rw ge refl
-    ]
+none-after offsets total c s end = grind (arith, nat_tests)
 
 cuts-first : (offsets : List ℕ) (total : ℕ) (last : VisibleEnd) (es : List VisibleEnd) (b : Bool)
     → is_cut_after offsets total last.character last.shown ≡ b
@@ -238,7 +195,7 @@ ends-cuts numbers (Visible c ∷ us) at last before front offsets total is below
     let some = some-bytes c in
     let size = length-append (encode c) (encode_utf8_all (visible_among us)) in
     let parts : offsets ≡ front ++ (here ++ offsets_of more) =
-    is ∙ ap (λ l. front ++ l) (offsets_of-append (break_at v s) more) in
+    is ∙ ap (λ l. front ++ l) (map-append (λ b. b.at) (break_at v s) more) in
     let above : All (λ o. s < o) (offsets_of more) =
     All-weaker (λ o. s + len ≤ o) (λ o. s < o) (λ o h. omega (arith, h, some)) (offsets_of more)
     (breaks-above numbers after (s + len) (visible_among us)) in

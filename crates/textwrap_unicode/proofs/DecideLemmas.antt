@@ -1,33 +1,26 @@
 -- What the rules say after given characters, and places for which few of them are needed.
-use Rattle.std.proofs.Common.{◌≡◌, ◌↔◌, ℕ, Bool, true, false, not, List, [], ◌∷◌, ◌++◌, refl, sym}
-use Rattle.std.proofs.Common.{ap, ◌∙◌, ◌⊎◌, inl, inr, ◌&&◌, ◌||◌, if◌then◌else◌}
-use Rattle.std.proofs.lemmas.Bool.{and_from, and_left}
+use Rattle.textwrap_unicode.proofs.Common.{if◌then◌else◌, Ideographic, is_after_text, takes_no_mark}
+use Rattle.textwrap_unicode.proofs.Common.{cases_Bool, arith, Alphabetic, numbers_rule}
+use Rattle.textwrap_unicode.proofs.Common.{and-false, LineBreak, Prohibited, verdict_by, is_opening}
+use Rattle.textwrap_unicode.proofs.Common.{Bool, and_from, Mandatory, before_of, class_of}
+use Rattle.textwrap_unicode.proofs.Common.{true, Before, Numbers, Allowed, unit_of, is_mark, decide}
+use Rattle.textwrap_unicode.proofs.Common.{◌≡◌, ℕ, false, List, ◌++◌, refl, ◌&&◌, ◌||◌, Space, Unit}
+use Rattle.textwrap_unicode.proofs.Common.{◌↔◌, not, [], ◌∷◌, sym, ap, ◌∙◌, inl, inr}
+use Rattle.textwrap_base.proofs.Common.{◌⊎◌}
+use Rattle.std.proofs.lemmas.Bool.{and_left}
 use Rattle.unicode.proofs.BreaksComputing.{ucd_breaks}
-use Rattle.unicode.specs.declared.properties.LineBreak.{LineBreak}
-use Rattle.unicode.specs.declared.properties.LineBreak.TheVariants.{Alphabetic, CarriageReturn}
-use Rattle.unicode.specs.declared.properties.LineBreak.TheVariants.{CombiningMark, LineFeed, Zwj}
-use Rattle.unicode.specs.declared.properties.LineBreak.TheVariants.{ClosePunctuation, H2, H3}
-use Rattle.unicode.specs.declared.properties.LineBreak.TheVariants.{HebrewLetter, Ideographic}
-use Rattle.unicode.specs.declared.properties.LineBreak.TheVariants.{Numeric, Space}
-use Rattle.textwrap_unicode.specs.declared.before.Before.{Before}
-use Rattle.textwrap_unicode.specs.declared.numbers.Numbers.{Numbers}
-use Rattle.textwrap_unicode.specs.declared.rules.Verdict.TheVariants.{Mandatory, Prohibited}
-use Rattle.textwrap_unicode.specs.declared.rules.Verdict.TheVariants.{Allowed}
-use Rattle.textwrap_unicode.specs.Before.{before_of, class_past_spaces, first_class, is_empty}
-use Rattle.textwrap_unicode.specs.Before.{text_of}
-use Rattle.textwrap_unicode.specs.Breaks.{verdict_by}
-use Rattle.textwrap_unicode.specs.Classes.{class_of, unit_of}
-use Rattle.textwrap_unicode.specs.ClassSets.{is_after_text, is_carriage_return, is_line_end}
-use Rattle.textwrap_unicode.specs.ClassSets.{is_mark, is_zero_width_space, takes_no_mark}
-use Rattle.textwrap_unicode.specs.ClassSets.{breaks_on_both_sides, is_closing, is_opening}
-use Rattle.textwrap_unicode.specs.ClassSets.{is_quotation}
+use Rattle.unicode.specs.declared.properties.LineBreak.TheVariants.{CombiningMark, ClosePunctuation}
+use Rattle.unicode.specs.declared.properties.LineBreak.TheVariants.{CarriageReturn, HebrewLetter}
+use Rattle.unicode.specs.declared.properties.LineBreak.TheVariants.{LineFeed, Zwj, H2, H3, Numeric}
+use Rattle.textwrap_unicode.specs.Before.{class_past_spaces, text_of}
+use Rattle.textwrap_unicode.specs.ClassSets.{is_line_end, is_zero_width_space, breaks_on_both_sides}
+use Rattle.textwrap_unicode.specs.ClassSets.{is_carriage_return, is_closing, is_quotation}
 use Rattle.textwrap_unicode.specs.Laws.{ends_line}
-use Rattle.textwrap_unicode.specs.Rules.{Rule, lb4, numbers_rule, decide}
+use Rattle.textwrap_unicode.specs.Rules.{Rule, lb4}
 use Rattle.textwrap_unicode.proofs.TextBreaks.{not-empty, text_of-push}
-use Rattle.textwrap_unicode.proofs.ClassLemmas.{kept-class, last-has, line_end-takes, none-past}
-use Rattle.textwrap_unicode.proofs.ClassLemmas.{return-takes, decide-closing, decide-kept}
-use Rattle.textwrap_unicode.proofs.ClassLemmas.{decide-marked, decide-must, must-only}
-use Rattle.textwrap_unicode.specs.declared.classes.Unit.{Unit}
+use Rattle.textwrap_unicode.proofs.ClassLemmas.{line_end-takes, decide-closing, decide-marked}
+use Rattle.textwrap_unicode.proofs.ClassLemmas.{kept-class, return-takes, decide-kept, decide-must}
+use Rattle.textwrap_unicode.proofs.ClassLemmas.{last-has, none-past, must-only}
 
 -- ---- after a character
 
@@ -41,16 +34,13 @@ module _ (numbers : Numbers) (front back : List ℕ) (c : ℕ) where
   after = before_of (text_of (front ++ c ∷ []))
 
   after-started : after.is_start ≡ false
-  after-started = ap (λ text. is_empty text.units) (text_of-push front c)
-      ∙ not-empty (text_of front) (unit_of c)
+  after-started = grind (arith, text_of-push, not-empty)
 
   after-class : (has : LineBreak → Bool) → has CombiningMark ≡ false → has Zwj ≡ false
       → has Alphabetic ≡ false
       → ((class : LineBreak) → takes_no_mark class ≡ false → has class ≡ false)
       → has after.class ≡ has (class_of c)
-  after-class has of_mark of_zwj of_letter of_base =
-      ap (λ text. has (first_class text.units)) (text_of-push front c)
-      ∙ last-has has of_mark of_zwj of_letter of_base (text_of front) (unit_of c)
+  after-class has of_mark of_zwj of_letter of_base = grind (arith, text_of-push, last-has)
 
   after-ends : (next : ℕ) → lb4 after (unit_of next) ≡ ends_line c next
   after-ends next =
@@ -121,24 +111,13 @@ return-kept numbers front back =
 all-forbid : (starts joined glued : Bool) → Prohibited
     ≡ (if starts then Prohibited else if joined then Prohibited
     else if glued then Prohibited else Prohibited)
-all-forbid true joined glued = refl
-all-forbid false true glued = refl
-all-forbid false false true = refl
-all-forbid false false false = refl
+all-forbid starts joined glued = grind (arith, cases_Bool)
 
 none-forbids : (zero quoted closed both : Bool) → Allowed
     ≡ (if zero then Allowed
     else if (quoted && false) || (closed && false) || (both && false) then Prohibited
     else Allowed)
-none-forbids true quoted closed both = refl
-none-forbids false true true true = refl
-none-forbids false true true false = refl
-none-forbids false true false true = refl
-none-forbids false true false false = refl
-none-forbids false false true true = refl
-none-forbids false false true false = refl
-none-forbids false false false true = refl
-none-forbids false false false false = refl
+none-forbids zero quoted closed both = grind (arith, cases_Bool, and-false)
 
 -- LB15 to LB17, before a class of which these rules do not speak
 abbrev unglued : LineBreak → Bool
@@ -154,8 +133,7 @@ glued past =
 
 none-after : (past : LineBreak) → Allowed
     ≡ (if is_zero_width_space past then Allowed else if unglued past then Prohibited else Allowed)
-none-after past = none-forbids (is_zero_width_space past) (is_quotation past) (is_closing past)
-    (breaks_on_both_sides past)
+none-after past = grind (arith, none-forbids)
 
 -- nothing but the class of the last unit can forbid that a line ends there
 abbrev pub IsFree : Before → Type 0
@@ -164,10 +142,12 @@ IsFree before =
 
 both-false : (s j o : Bool) → not s && not j && not o ≡ true
     → (s ≡ false) × (j ≡ false) × (o ≡ false)
-both-false false false false e = (refl, refl, refl)
-both-false false false true e = cc e
-both-false false true o e = cc e
-both-false true j o e = cc e
+both-false s j o e = grind (arith, cases_Bool)
+
+of-three : {A B C X : Type 0} → A ⊎ (B ⊎ C) → (A → X) → (B → X) → (C → X) → X
+of-three (inl a) first second third = first a
+of-three (inr (inl b)) first second third = second b
+of-three (inr (inr c)) first second third = third c
 
 -- ---- a letter or a number after another
 
@@ -178,23 +158,10 @@ pub letters-stay : (before : Before) (next : Unit) → IsInWord next.class → I
     → is_zero_width_space before.past_spaces ≡ false → Prohibited ≡ decide before next
 letters-stay before next is last h =
     let kept = all-forbid before.is_start before.is_joined (glued before.past_spaces) in
-    elim is [
-      | inl e ↦ elim last [
-        | inl l ↦ rw (e, l, h) kept
-        | inr (inl l) ↦ rw (e, l, h) kept
-        | inr (inr l) ↦ rw (e, l, h) kept
-      ]
-      | inr (inl e) ↦ elim last [
-        | inl l ↦ rw (e, l, h) kept
-        | inr (inl l) ↦ rw (e, l, h) kept
-        | inr (inr l) ↦ rw (e, l, h) kept
-      ]
-      | inr (inr e) ↦ elim last [
-        | inl l ↦ rw (e, l, h) kept
-        | inr (inl l) ↦ rw (e, l, h) kept
-        | inr (inr l) ↦ rw (e, l, h) kept
-      ]
-    ]
+    of-three is
+    (λ e. of-three last (λ l. rw (e, l, h) kept) (λ l. rw (e, l, h) kept) (λ l. rw (e, l, h) kept))
+    (λ e. of-three last (λ l. rw (e, l, h) kept) (λ l. rw (e, l, h) kept) (λ l. rw (e, l, h) kept))
+    (λ e. of-three last (λ l. rw (e, l, h) kept) (λ l. rw (e, l, h) kept) (λ l. rw (e, l, h) kept))
 
 -- ---- an ideograph or a syllable after another, a space or the end of a bracket
 
@@ -209,26 +176,13 @@ pub ideographs-part : (before : Before) (next : Unit) → IsApart next.class
 ideographs-part before next is last h =
     let (s, j, o) = both-false before.is_start before.is_joined (is_opening before.past_spaces) h in
     let free = none-after before.past_spaces in
-    elim is [
-      | inl e ↦ elim last [
-        | inl l ↦ rw (e, l, s, j, o) free
-        | inr (inl l) ↦ rw (e, l, s, j, o) free
-        | inr (inr (inl l)) ↦ rw (e, l, s, j, o) free
-        | inr (inr (inr (inl l))) ↦ rw (e, l, s, j, o) free
-        | inr (inr (inr (inr l))) ↦ rw (e, l, s, j, o) free
-      ]
-      | inr (inl e) ↦ elim last [
-        | inl l ↦ rw (e, l, s, j, o) free
-        | inr (inl l) ↦ rw (e, l, s, j, o) free
-        | inr (inr (inl l)) ↦ rw (e, l, s, j, o) free
-        | inr (inr (inr (inl l))) ↦ rw (e, l, s, j, o) free
-        | inr (inr (inr (inr l))) ↦ rw (e, l, s, j, o) free
-      ]
-      | inr (inr e) ↦ elim last [
-        | inl l ↦ rw (e, l, s, j, o) free
-        | inr (inl l) ↦ rw (e, l, s, j, o) free
-        | inr (inr (inl l)) ↦ rw (e, l, s, j, o) free
-        | inr (inr (inr (inl l))) ↦ rw (e, l, s, j, o) free
-        | inr (inr (inr (inr l))) ↦ rw (e, l, s, j, o) free
-      ]
-    ]
+    of-three is
+    (λ e. of-three last (λ l. rw (e, l, s, j, o) free) (λ l. rw (e, l, s, j, o) free)
+    (λ apart. of-three apart (λ l. rw (e, l, s, j, o) free) (λ l. rw (e, l, s, j, o) free)
+    (λ l. rw (e, l, s, j, o) free)))
+    (λ e. of-three last (λ l. rw (e, l, s, j, o) free) (λ l. rw (e, l, s, j, o) free)
+    (λ apart. of-three apart (λ l. rw (e, l, s, j, o) free) (λ l. rw (e, l, s, j, o) free)
+    (λ l. rw (e, l, s, j, o) free)))
+    (λ e. of-three last (λ l. rw (e, l, s, j, o) free) (λ l. rw (e, l, s, j, o) free)
+    (λ apart. of-three apart (λ l. rw (e, l, s, j, o) free) (λ l. rw (e, l, s, j, o) free)
+    (λ l. rw (e, l, s, j, o) free)))

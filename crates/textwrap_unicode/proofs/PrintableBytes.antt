@@ -1,40 +1,32 @@
 -- The classes of printable bytes, what the rules say between them, and what stands before a place.
-use Rattle.textwrap_base.proofs.Common.{◌≡◌, ℕ, ◌≤◌, ◌==◌, ◌&&◌, ◌||◌, Bool, true, false, not}
-use Rattle.textwrap_base.proofs.Common.{if◌then◌else◌, List, [], ◌∷◌, refl, sym, ap, ◌∙◌, arith}
-use Rattle.textwrap_base.proofs.Common.{nat_lt, nat_tests, eqb-true, cases_Bool, inl, inr}
-use Rattle.textwrap_base.proofs.Common.{and_parts, list_all, list_any, ◌+◌, get_or, subst, add-one}
-use Rattle.textwrap_base.proofs.Common.{not-true}
-use Rattle.std.proofs.Common.{slice_index_or}
+use Rattle.textwrap_unicode.proofs.Common.{[], slice_index_or, may_follow_blanks, class_past_blanks}
+use Rattle.textwrap_unicode.proofs.Common.{if◌then◌else◌, cases_Bool, is_any_hyphen, is_after_text}
+use Rattle.textwrap_unicode.proofs.Common.{nat_tests, and_parts, Alphabetic, is_opening, is_unusual}
+use Rattle.textwrap_unicode.proofs.Common.{◌≡◌, list_any, not-true, LineBreak, before_of}
+use Rattle.textwrap_unicode.proofs.Common.{add-one, is_blank, is_space, is_mark, class_of, unit_of}
+use Rattle.textwrap_unicode.proofs.Common.{false, nat_lt, get_or, may_end, decide, Before, nothing}
+use Rattle.textwrap_unicode.proofs.Common.{◌==◌, ◌&&◌, ◌||◌, Bool, true, List, arith, subst, Space}
+use Rattle.textwrap_unicode.proofs.Common.{ℕ, ◌≤◌, not, ◌∷◌, refl, sym, ap, ◌∙◌, inl, inr, ◌+◌, and}
+use Rattle.textwrap_base.proofs.Common.{eqb-true, list_all}
 use Rattle.unicode.specs.LineBreak.{line_break_number}
-use Rattle.unicode.specs.declared.properties.LineBreak.{LineBreak}
-use Rattle.unicode.specs.declared.properties.LineBreak.TheVariants.{Alphabetic, BreakAfter}
-use Rattle.unicode.specs.declared.properties.LineBreak.TheVariants.{BreakSymbols, CloseParenthesis}
-use Rattle.unicode.specs.declared.properties.LineBreak.TheVariants.{ClosePunctuation, Exclamation}
-use Rattle.unicode.specs.declared.properties.LineBreak.TheVariants.{Hyphen, InfixNumeric, Numeric}
+use Rattle.unicode.specs.declared.properties.LineBreak.TheVariants.{CloseParenthesis, PrefixNumeric}
+use Rattle.unicode.specs.declared.properties.LineBreak.TheVariants.{BreakSymbols, ClosePunctuation}
 use Rattle.unicode.specs.declared.properties.LineBreak.TheVariants.{OpenPunctuation, PostfixNumeric}
-use Rattle.unicode.specs.declared.properties.LineBreak.TheVariants.{PrefixNumeric, Quotation, Space}
-use Rattle.unicode.specs.declared.properties.LineBreak.TheVariants.{Unknown}
+use Rattle.unicode.specs.declared.properties.LineBreak.TheVariants.{Exclamation, InfixNumeric}
+use Rattle.unicode.specs.declared.properties.LineBreak.TheVariants.{BreakAfter, Numeric, Quotation}
+use Rattle.unicode.specs.declared.properties.LineBreak.TheVariants.{Hyphen, Unknown}
 use Rattle.unicode.proofs.BreaksComputing.{ucd_breaks}
 use Rattle.unicode.proofs.CategoryComputing.{ucd_category}
 use Rattle.unicode.proofs.Facts.{Stepped-below}
 use Rattle.unicode.proofs.LineBreakLemmas.{line_break_number_injective}
-use Rattle.textwrap_words.proofs.Common.{is_blank, IsPrintableByte}
-use Rattle.textwrap_words.specs.WordOffsets.{is_any_hyphen}
+use Rattle.textwrap_words.proofs.Common.{IsPrintableByte}
 use Rattle.textwrap_unicode.specs.declared.pairs.TheConstants.{KINDS, UNUSUAL_AFTER}
-use Rattle.textwrap_unicode.specs.ClassSets.{is_space, is_after_text, is_opening, is_closing}
-use Rattle.textwrap_unicode.specs.ClassSets.{is_hebrew, is_inside_number, is_mark, is_number}
-use Rattle.textwrap_unicode.specs.ClassSets.{is_regional_indicator, is_zwj}
-use Rattle.textwrap_unicode.specs.Classes.{class_of, unit_of}
-use Rattle.textwrap_unicode.proofs.ClassLemmas.{class_stepped}
+use Rattle.textwrap_unicode.specs.ClassSets.{is_regional_indicator}
+use Rattle.textwrap_unicode.specs.ClassSets.{is_hebrew, is_zwj}
+use Rattle.textwrap_unicode.proofs.ClassLemmas.{agree, agree-same, class_stepped, past-first}
 use Rattle.std.specs.Prelude.{bit_and}
-use Rattle.textwrap_unicode.specs.Cuts.{may_end}
-use Rattle.textwrap_unicode.specs.Pairs.{behind_classes, is_cut_behind, is_unusual}
-use Rattle.textwrap_unicode.specs.Pairs.{may_follow_blanks, class_past_blanks}
-use Rattle.textwrap_unicode.specs.Rules.{decide}
+use Rattle.textwrap_unicode.specs.Pairs.{behind_classes, is_cut_behind}
 use Rattle.textwrap_unicode.proofs.WordVerdicts.{ascii-is, unit_with}
-use Rattle.textwrap_unicode.specs.declared.before.Before.{Before}
-use Rattle.textwrap_unicode.specs.Before.{before_of, nothing}
-use Rattle.textwrap_unicode.specs.BreaksLeft.{and}
 
 -- ---- the classes
 
@@ -97,14 +89,6 @@ unusual_after class = 0
 
 -- ---- the bytes
 
-abbrev pub agree : Bool → Bool → Bool
-agree a b = if a then b else not b
-
-pub agree-same : (a b : Bool) → agree a b ≡ true → a ≡ b
-agree-same true b e = sym e
-agree-same false true e = cc
-agree-same false false e = refl
-
 pub record IsTold (c : ℕ) : Type 0 where
   pub class : is_among printable_classes (class_of c) ≡ true
   pub hyphen : is_any_hyphen c ≡ is_hyphen_class (class_of c)
@@ -119,10 +103,6 @@ has_class c v = is_among printable_classes v && agree (is_any_hyphen c) (is_hyph
 abbrev in_tables : ℕ → LineBreak → Bool
 in_tables c v =
     (slice_index_or KINDS c 0 == kind_of v) && (slice_index_or UNUSUAL_AFTER c 0 == unusual_after v)
-
-pub past-first : (a b : Bool) → a ≡ false → a || b ≡ true → b ≡ true
-past-first true b none e = cc
-past-first false b none e = e
 
 past-control : (c : ℕ) (b : Bool) → 32 ≤ c → nat_lt c 32 || b ≡ true → b ≡ true
 past-control c b low = past-first (nat_lt c 32) b (grind (arith, nat_tests, low))
@@ -161,30 +141,17 @@ unusual_behind first next =
     if is_space first then is_after_text next || is_opening next
     else (is_opening first && is_space next) || cut_behind first first next
 
--- what passes for each two printable classes
-passes-pairs : (p : LineBreak → LineBreak → Bool) (firsts : List LineBreak)
-    → list_all (λ v. list_all (p v) printable_classes) firsts ≡ true
-    → (v w : LineBreak) → is_among firsts v ≡ true → is_among printable_classes w ≡ true
-    → p v w ≡ true
-passes-pairs p firsts all v w first next =
-    passes-among (p v) printable_classes
-    (passes-among (λ u. list_all (p u) printable_classes) firsts all v first) w next
-
 -- the tables have what is unusual
 bits-unusual : (v w : LineBreak) → is_among printable_classes v ≡ true
     → is_among printable_classes w ≡ true
     → not (bit_and (unusual_after v) (kind_of w) == 0) ≡ unusual_behind v w
-bits-unusual v w first next = agree-same _ _ (passes-pairs
-    (λ v w. agree (not (bit_and (unusual_after v) (kind_of w) == 0)) (unusual_behind v w))
-    printable_classes refl v w first next)
+bits-unusual v w first next = grind (arith, agree-same)
 
 -- behind a byte that is no blank the text is cut at what is unusual, but for a blank
 cut-words : (v w : LineBreak) → is_among printable_classes v ≡ true
     → is_among printable_classes w ≡ true → is_space v ≡ false
     → cut_behind v v w ≡ not (is_space w) && unusual_behind v w
-cut-words v w first next other = agree-same _ _ (past-first (is_space v) _ other (passes-pairs
-    (λ v w. is_space v || agree (cut_behind v v w) (not (is_space w) && unusual_behind v w))
-    printable_classes refl v w first next))
+cut-words v w first next other = grind (arith, agree-same)
 
 -- the classes before blanks, XX at the start
 abbrev pub past_classes : List LineBreak
@@ -193,26 +160,17 @@ past_classes = Unknown ∷ printable_classes
 cut-blanks : (past w : LineBreak) → is_among past_classes past ≡ true
     → is_among printable_classes w ≡ true
     → cut_behind past Space w ≡ not (is_space w) && may_follow_blanks past w
-cut-blanks past w first next = agree-same _ _ (passes-pairs
-    (λ v w. agree (cut_behind v Space w) (not (is_space w) && may_follow_blanks v w))
-    past_classes refl past w first next)
+cut-blanks past w first next = grind (arith, agree-same)
 
 -- ---- by bytes
 
 pub cut-classes : (past : LineBreak) (b c : ℕ) → IsPrintableByte b → IsPrintableByte c
     → is_cut_behind past b c ≡ cut_behind past (class_of b) (class_of c)
-cut-classes past b c first next =
-    let class = class_of b in
-    ap (λ h. not h && may_end (decide (behind_classes past class) (unit_of c))) (told b first).hyphen
-    ∙ ap (λ u. not (is_hyphen_class class) && may_end (decide (behind_classes past class) u))
-    (ascii-is c (omega (arith, next.1)))
+cut-classes past b c first next = grind (arith, (told b first).hyphen, ascii-is)
 
 unusual-classes : (b c : ℕ) → IsPrintableByte b → IsPrintableByte c
     → unusual_behind (class_of b) (class_of c) ≡ is_unusual b c
-unusual-classes b c first next =
-    ap (λ cut. if is_space (class_of b) then is_after_text (class_of c) || is_opening (class_of c)
-    else (is_opening (class_of b) && is_space (class_of c)) || cut)
-    (sym (cut-classes (class_of b) b c first next))
+unusual-classes b c first next = grind (arith, cut-classes)
 
 pub unusual-bits : (b c : ℕ) → IsPrintableByte b → IsPrintableByte c
     → not (bit_and (slice_index_or UNUSUAL_AFTER b 0) (slice_index_or KINDS c 0) == 0)
@@ -288,19 +246,11 @@ module _ (next : LineBreak) (class : is_among printable_classes next ≡ true) w
   unit-behind : (past first : LineBreak) (inside number : Bool) → is_hebrew first ≡ false
       → IsBehind (if is_space next then past else next) next
       (and (with_numbers (behind_classes past first) inside number) (unit_with next))
-  unit-behind past first inside number plain = record {
-    inside = is_number next || (is_inside_number next && inside);
-    number = (is_number next || (is_inside_number next && inside)) || (is_closing next && inside);
-    is = rw (mark, joiner, flag, plain) refl;
-  }
+  unit-behind past first inside number plain = grind (arith, mark, joiner, flag)
 
   unit-first : IsBehind (if is_space next then Unknown else next) next
       (and (before_of nothing) (unit_with next))
-  unit-first = record {
-    inside = is_number next || (is_inside_number next && false);
-    number = (is_number next || (is_inside_number next && false)) || (is_closing next && false);
-    is = rw (mark, joiner, flag) refl;
-  }
+  unit-first = grind (arith, mark, joiner, flag)
 
 pub byte-step : (past : LineBreak) (b c : ℕ) (before : Before) → IsBehind past (class_of b) before
     → IsPrintableByte b → IsPrintableByte c
@@ -324,6 +274,4 @@ byte-first b first =
 
 pub past-more : (text : List ℕ) (n c : ℕ) → get_or text n 0 ≡ c → class_past_blanks text (n + 1)
     ≡ (if is_space (class_of c) then class_past_blanks text n else class_of c)
-past-more text n c here =
-    ap (class_past_blanks text) (add-one n)
-    ∙ ap (λ d. if is_space (class_of d) then class_past_blanks text n else class_of d) here
+past-more text n c here = grind (arith, add-one, here)

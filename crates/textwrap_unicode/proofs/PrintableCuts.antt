@@ -1,45 +1,34 @@
 -- A printable text is cut where its bytes say so, also past blanks.
-use Rattle.textwrap_base.proofs.Common.{◌≡◌, ℕ, zero, suc, ◌+◌, ◌-◌, ◌<◌, ◌≤◌, true, false}
-use Rattle.textwrap_base.proofs.Common.{if◌then◌else◌, inl, inr, List, length, take, get_or, refl}
-use Rattle.textwrap_base.proofs.Common.{sym, ap, ◌∙◌, arith, add-zero, cases_Bool, get_or-drop}
-use Rattle.textwrap_base.proofs.Common.{get_or-take, length-drop, length-take-le, ◌&&◌, Bool, not}
-use Rattle.textwrap_base.proofs.Common.{[], ◌∷◌, ◌++◌, drop, map, subst, ◌==◌, chars-IsAscii}
-use Rattle.textwrap_base.proofs.Common.{IsUtf8-from_ascii, list_any, and_parts, not-true, eqb-true}
-use Rattle.textwrap_base.proofs.Common.{false_from_ne_true, false≢true, is_ascii_alphanumeric}
-use Rattle.textwrap_base.proofs.Common.{true≢false, cases_lt}
-use Rattle.std.proofs.lemmas.Bool.{or_right, agree_below, agree_below_at}
+use Rattle.std.proofs.lemmas.Bool.{not-false, or_right, agree_below, agree_below_at}
+use Rattle.textwrap_unicode.proofs.Common.{ap, class_past_blanks, may_follow_blanks, slice_index_or}
+use Rattle.textwrap_unicode.proofs.Common.{if◌then◌else◌, cases_Bool, is_after_text, is_any_hyphen}
+use Rattle.textwrap_unicode.proofs.Common.{and_parts, true≢false, is_opening, is_unusual, LineBreak}
+use Rattle.textwrap_unicode.proofs.Common.{zero, not-true, cases_lt, before_of, and-false}
+use Rattle.textwrap_unicode.proofs.Common.{is_blank, is_space, class_of, unit_of, IsUsual, cut_here}
+use Rattle.textwrap_unicode.proofs.Common.{false, length, get_or, encode, ByPairs, nothing, may_end}
+use Rattle.textwrap_unicode.proofs.Common.{true, List, take, refl, arith, [], subst, Before, decide}
+use Rattle.textwrap_unicode.proofs.Common.{◌≡◌, ℕ, suc, ◌+◌, ◌-◌, ◌<◌, ◌&&◌, Bool, ◌++◌, drop, ◌==◌}
+use Rattle.textwrap_unicode.proofs.Common.{◌≤◌, inl, inr, sym, ◌∙◌, not, ◌∷◌, map, and}
+use Rattle.textwrap_base.proofs.Common.{length-take-le, false_from_ne_true, is_ascii_alphanumeric}
+use Rattle.textwrap_base.proofs.Common.{get_or-drop, get_or-take, chars-IsAscii, IsUtf8-from_ascii}
+use Rattle.textwrap_base.proofs.Common.{add-zero, length-drop, eqb-true, false≢true}
 use Rattle.unicode.specs.declared.properties.LineBreak.TheVariants.{Unknown, OpenPunctuation}
-use Rattle.textwrap_words.proofs.Common.{is_blank, IsPrintable, trimmed_len, ends_from}
-use Rattle.textwrap_words.proofs.Common.{IsPrintableByte, Visible, is_cut, parts_between, word_of}
-use Rattle.textwrap_words.proofs.Common.{words_of}
+use Rattle.textwrap_words.proofs.Common.{IsPrintable, trimmed_len, IsPrintableByte, parts_between}
+use Rattle.textwrap_words.proofs.Common.{ends_from, Visible, is_cut, word_of, words_of}
 use Rattle.textwrap_words.proofs.Word.Texts.{final_blanks-blank, trimmed-other}
-use Rattle.textwrap_unicode.specs.ClassSets.{is_space, is_after_text, is_opening}
-use Rattle.textwrap_unicode.specs.Classes.{class_of, unit_of}
-use Rattle.textwrap_unicode.specs.Pairs.{class_past_blanks, at_breaks, is_cut_behind, printable_cut}
-use Rattle.textwrap_unicode.specs.Pairs.{is_unusual, may_follow_blanks, IsCutAtBlanks, IsUsual}
-use Rattle.textwrap_unicode.proofs.PrintableBytes.{is_among, told, past_classes, byte-first}
-use Rattle.textwrap_unicode.proofs.PrintableBytes.{byte-step, IsBehind, past-more, cut-behind}
-use Rattle.textwrap_unicode.proofs.PrintableBytes.{unusual-bits}
+use Rattle.textwrap_unicode.specs.Pairs.{at_breaks, is_cut_behind, printable_cut, IsCutAtBlanks}
+use Rattle.textwrap_unicode.proofs.PrintableBytes.{is_among, past_classes, byte-first, unusual-bits}
+use Rattle.textwrap_unicode.proofs.PrintableBytes.{told, byte-step, IsBehind, past-more, cut-behind}
 use Rattle.std.proofs.lemmas.Str.{encode_ascii}
-use lib.Utf8.{encode}
-use Rattle.unicode.specs.declared.properties.LineBreak.{LineBreak}
 use Rattle.textwrap_words.proofs.Units.Reading.{printable-ascii, units-printable}
 use Rattle.textwrap_words.proofs.Word.Offsets.{ends_in}
-use Rattle.textwrap_words.specs.WordOffsets.{is_any_hyphen}
 use Rattle.textwrap_words.specs.declared.escapes.State.TheVariants.{Text}
-use Rattle.textwrap_unicode.specs.declared.before.Before.{Before}
-use Rattle.textwrap_unicode.specs.declared.numbers.Numbers.TheVariants.{ByPairs}
-use Rattle.textwrap_unicode.specs.Before.{before_of, nothing}
-use Rattle.textwrap_unicode.specs.BreaksLeft.{and}
-use Rattle.textwrap_unicode.specs.Cuts.{may_end, unicode_cuts}
-use Rattle.textwrap_unicode.specs.Rules.{decide}
+use Rattle.textwrap_unicode.specs.Cuts.{unicode_cuts}
 use Rattle.textwrap_unicode.proofs.CutLemmas.{IsCutting-start, cuts_ahead, place-found}
-use Rattle.textwrap_words.proofs.Word.Parts.{byte-here, byte-inside, bytes-after, cut_here}
-use Rattle.textwrap_words.proofs.Word.Parts.{places_by, parts_between-places, parts-same}
-use Rattle.textwrap_words.proofs.Word.Parts.{parts-chunks}
-use Rattle.std.proofs.Math.Bool.{and-false}
+use Rattle.textwrap_words.proofs.Word.Parts.{byte-inside, parts_between-places, parts-chunks}
+use Rattle.textwrap_words.proofs.Word.Parts.{byte-here, bytes-after, places_by, parts-same}
 use Rattle.textwrap_words.specs.PieceCuts.{parts_by}
-use Rattle.std.proofs.Common.{slice_index_or, bit_and}
+use Rattle.std.proofs.Common.{bit_and}
 use Rattle.textwrap_unicode.specs.declared.pairs.TheConstants.{KINDS, UNUSUAL_AFTER}
 
 -- ---- the class of the last byte before blanks
@@ -52,15 +41,11 @@ module _ (text : List ℕ) (printable : IsPrintable text) where
   -- behind a byte that is no blank
   pub past-byte : (k : ℕ) → k < length text → is_blank (get_or text k 0) ≡ false
       → class_past_blanks text (suc k) ≡ class_of (get_or text k 0)
-  past-byte k inside other =
-      ap (λ b. if b then class_past_blanks text k else class_of (get_or text k 0))
-      (space-at k inside ∙ other)
+  past-byte k inside other = grind (arith, space-at, other)
 
   pub past-blank : (k : ℕ) → k < length text → is_blank (get_or text k 0) ≡ true
       → class_past_blanks text (suc k) ≡ class_past_blanks text k
-  past-blank k inside blank =
-      ap (λ b. if b then class_past_blanks text k else class_of (get_or text k 0))
-      (space-at k inside ∙ blank)
+  past-blank k inside blank = grind (arith, space-at, blank)
 
   -- behind blanks
   past-blanks : (end n : ℕ) → end + n ≤ length text
@@ -168,16 +153,7 @@ module _ (text : List ℕ) (printable : IsPrintable text) where
       → cuts_ahead ByPairs (before_of nothing) 0 false (ends_from 0 shown (map Visible bytes))
       ≡ places_by cut 0 bytes
   ahead-all [] is shown = refl
-  ahead-all (b ∷ rest) is shown =
-      let first = byte-at 0 b rest is in
-      let one : length (encode b) ≡ 1 = ap length (encode_ascii b (omega (arith, first.1))) in
-      let before = and (before_of nothing) (unit_of b) in
-      let behind : IsBehind (past 1) (class_of b) before =
-      subst (λ p. IsBehind p (class_of b) before)
-      (sym (past-more text 0 b (byte-here text 0 b rest is))) (byte-first b first) in
-      ap (λ k. cuts_ahead ByPairs before (0 + k) (is_any_hyphen b)
-      (ends_from (0 + k) (shown + length (encode b)) (map Visible rest))) one
-      ∙ ahead-behind 0 b rest is before behind (shown + length (encode b))
+  ahead-all (b ∷ rest) is shown = grind (arith, encode_ascii, past-more, byte-first, ahead-behind)
 
   pub cuts-places : unicode_cuts text ≡ places_by cut 0 text
   cuts-places =
@@ -195,9 +171,7 @@ module _ (text : List ℕ) (printable : IsPrintable text) where
   -- what the calls promise is what the bytes say
   pub breaks-cut : (place : ℕ) → 0 < place → place < length text
       → at_breaks text place ≡ cut place
-  breaks-cut place start inside =
-      ap (list_any (λ p. p == place)) cuts-places
-      ∙ place-found cut place 0 text start (omega (arith, inside))
+  breaks-cut place start inside = grind (arith, cuts-places, place-found)
 
 -- ---- whether a printable text is cut at a place, as the code tells it
 
@@ -221,8 +195,7 @@ module _ (text : List ℕ) (printable : IsPrintable text) where
       → is_blank (get_or text place 0) ≡ true
       → at_breaks text place ≡ is_cut (get_or text (place - 1) 0) (get_or text place 0)
   cut-at-blanks place start inside blank =
-      let told = cut-told place start inside in
-      rw blank at told ∙ sym (rw blank (and-false (is_blank (get_or text (place - 1) 0))))
+      grind (arith, blank, (cut-told place start inside), and-false)
 
   -- its words are the parts between its cuts
   pub parts-cut : parts_between (unicode_cuts text) text ≡ parts_by (at_breaks text) 0 text
@@ -242,10 +215,6 @@ letters-other = refl
 letters-usual : agree_below (λ c. is_ascii_alphanumeric c && not (slice_index_or UNUSUAL_AFTER c 0 == 0))
     (λ c. false) 128 ≡ true
 letters-usual = refl
-
-not-false : (t : Bool) → not t ≡ false → t ≡ true
-not-false true e = refl
-not-false false e = sym e
 
 module _ (text : List ℕ) (printable : IsPrintable text) (place : ℕ) (start : 0 < place)
     (inside : place < length text) (is : at_breaks text place ≡ true) where
@@ -375,13 +344,7 @@ module _ (text : List ℕ) (printable : IsPrintable text)
       ∙ final_blanks-blank text (k - end) 0 (omega (arith, length-drop end text, from, inside))
 
   pub usual-blanks : IsCutAtBlanks text
-  usual-blanks = record {
-    printable = printable;
-    cuts = λ k start inside. elim (cases_lt k (trimmed_len text)) [
-      | inl before ↦ (usual k start before).cut
-      | inr from ↦ cut-at-blanks text printable k start inside (last-blank k from inside)
-    ];
-  }
+  usual-blanks = grind (arith, cases_lt, cut-at-blanks, last-blank)
 
 pub words-same : (text : List ℕ) → IsCutAtBlanks text
     → map word_of (parts_between (unicode_cuts text) text) ≡ words_of text

@@ -1,52 +1,37 @@
 -- The breaks of a text that the definition computes are those that the rules name.
-use Rattle.std.proofs.Common.{◌≡◌, ◌⊎◌, inl, inr, ℕ, Bool, true, false, List, [], ◌∷◌, ◌++◌, length}
-use Rattle.std.proofs.Common.{map, refl, sym, ap, ◌∙◌, subst, append_assoc, if◌then◌else◌, ◌&&◌}
-use Rattle.std.proofs.Common.{◌≢◌, ◌+◌, length-append, ◌↔◌, ◌<◌, ◌≤◌, take, arith}
+use Rattle.textwrap_unicode.proofs.Common.{append_assoc, length-append}
+use Rattle.textwrap_unicode.proofs.Common.{cases_Bool, Numbers, verdict_by, breaks_from, Prohibited}
+use Rattle.textwrap_unicode.proofs.Common.{ℕ, with_unit, breaks_by, Mandatory, and_parts}
+use Rattle.textwrap_unicode.proofs.Common.{Verdict, is_empty, nothing, break_at, unit_of, and_from}
+use Rattle.textwrap_unicode.proofs.Common.{false, length, subst, encode, Allowed, IsUtf8}
+use Rattle.textwrap_unicode.proofs.Common.{Bool, true, List, ◌++◌, refl, take, arith, chars}
+use Rattle.textwrap_unicode.proofs.Common.{◌≡◌, inl, inr, ◌∷◌, map, sym, ◌∙◌, ◌≢◌, ◌+◌, Unit, Text}
+use Rattle.textwrap_unicode.proofs.Common.{[], ap, ◌↔◌, ◌<◌, ◌≤◌}
+use Rattle.textwrap_base.proofs.Common.{encodes-append, encodes-chars, IsCharBoundary-from_take}
+use Rattle.textwrap_base.proofs.Common.{◌⊎◌, map-append, chars-nil}
 use Rattle.std.specs.List.{fold, Contains}
-use Rattle.std.proofs.lemmas.List.{map-append, append-nil}
+use Rattle.std.proofs.lemmas.List.{append-nil}
 use Rattle.std.proofs.lemmas.List.Sums.{fold-append}
-use lib.Utf8.{encodes, encode, scalar, scalars}
-use Rattle.textwrap_unicode.specs.declared.classes.Unit.{Unit}
-use Rattle.textwrap_unicode.specs.declared.numbers.Numbers.{Numbers}
-use Rattle.textwrap_unicode.specs.declared.rules.Verdict.{Verdict}
-use Rattle.textwrap_unicode.specs.Before.{Text, as_letter, is_empty, nothing, takes_marks, text_of}
-use Rattle.textwrap_unicode.specs.Before.{with_unit}
-use Rattle.textwrap_unicode.specs.Breaks.{verdict_by, break_at, breaks_from, IsPlaceBy, IsEnd}
-use Rattle.textwrap_unicode.specs.Breaks.{EndsBy, IsBreakBy, breaks_by}
-use Rattle.textwrap_unicode.specs.Classes.{unit_of}
-use Rattle.textwrap_unicode.specs.ClassSets.{is_mark}
-use Rattle.std.proofs.lemmas.List.Elements.{Contains-append_left, Contains-append_right}
-use Rattle.std.proofs.lemmas.List.Elements.{Contains-append_cases}
-use Rattle.std.proofs.lemmas.Str.{encodes-append, chars-nil, encodes-chars, length-le-encodes}
-use Rattle.std.proofs.lemmas.Str.{scalars-chars, IsCharBoundary-from_take}
+use lib.Utf8.{encodes, scalar, scalars}
+use Rattle.textwrap_unicode.specs.Before.{text_of}
+use Rattle.textwrap_unicode.specs.Breaks.{IsPlaceBy, IsEnd, EndsBy, IsBreakBy}
+use Rattle.std.proofs.lemmas.List.Elements.{Contains-append_right, Contains-append_cases}
+use Rattle.std.proofs.lemmas.List.Elements.{Contains-append_left}
+use Rattle.std.proofs.lemmas.Str.{length-le-encodes, scalars-chars}
 use Rattle.textwrap_unicode.specs.declared.breaks.LineBreak.{LineBreak}
-use Rattle.textwrap_unicode.specs.declared.rules.Verdict.TheVariants.{Mandatory, Allowed}
-use Rattle.textwrap_unicode.specs.declared.rules.Verdict.TheVariants.{Prohibited}
 use Rattle.textwrap_base.proofs.Lists.Elements.{contains-cases, contains-here, contains-nil}
-use Rattle.std.proofs.lemmas.Bool.{and_from, and_parts}
-use Rattle.std.specs.Str.{chars, IsUtf8, IsCharBoundary}
+use Rattle.std.specs.Str.{IsCharBoundary}
 use Rattle.std.proofs.Math.Seq.{take-append_seam}
 
 -- ---- a place among the characters that are still to be read
 
 pub text_of-push : (front : List ℕ) (c : ℕ)
     → text_of (front ++ c ∷ []) ≡ with_unit (text_of front) (unit_of c)
-text_of-push front c = ap (fold with_unit nothing) (map-append unit_of front (c ∷ []))
-    ∙ fold-append with_unit nothing (map unit_of front) (unit_of c ∷ [])
+text_of-push front c = grind (arith, map-append, fold-append)
 
 -- after a character there is a unit
 pub not-empty : (text : Text) (unit : Unit) → is_empty (with_unit text unit).units ≡ false
-not-empty text unit = by (is_mark unit.class) text.units
-  where
-    by : (b : Bool) (units : List Unit)
-        → is_empty (if b && takes_marks units then units else as_letter unit ∷ units) ≡ false
-    by false units = refl
-    by true [] = refl
-    by true (u ∷ units) = both (takes_marks (u ∷ units))
-      where
-        both : (b : Bool) → is_empty (if b then u ∷ units else as_letter unit ∷ u ∷ units) ≡ false
-        both true = refl
-        both false = refl
+not-empty text unit = grind (arith, cases_Bool)
 
 stays : (text : Text) (units : List Unit) → is_empty text.units ≡ false
     → is_empty (fold with_unit text units).units ≡ false
@@ -83,14 +68,7 @@ module _ (numbers : Numbers) where
 
   pub later : (front : List ℕ) (c : ℕ) (cs : List ℕ) (at : ℕ) (verdict : Verdict)
       → IsAhead (front ++ c ∷ []) cs at verdict → IsAhead front (c ∷ cs) at verdict
-  later front c cs at verdict h = record {
-    middle = c ∷ h.middle;
-    next = h.next;
-    back = h.back;
-    divided = ap (λ ls. c ∷ ls) h.divided;
-    offset = rw append_assoc at h.offset;
-    said = rw append_assoc at h.said;
-  }
+  later front c cs at verdict h = grind (arith, append_assoc)
 
   pub nothing-ahead : (front : List ℕ) (at : ℕ) (verdict : Verdict) → IsAhead front [] at verdict → ⊥
   nothing-ahead front at verdict h = by h.middle h.divided
@@ -119,19 +97,7 @@ module _ (numbers : Numbers) where
                 (subst (λ n. verdict_by numbers front n h.back ≡ verdict) first
                 (rw append-nil at said)),
           )
-      by (m ∷ ms) e offset said =
-          let first : m ≡ c = cc in
-          let rest : cs ≡ ms ++ h.next ∷ h.back = cc in
-          let moved : front ++ m ∷ ms ≡ (front ++ c ∷ []) ++ ms =
-          rw first (sym (append_assoc front (c ∷ []) ms)) in
-          inr (record {
-            middle = ms;
-            next = h.next;
-            back = h.back;
-            divided = rest;
-            offset = rw moved at offset;
-            said = rw moved at said;
-          })
+      by (m ∷ ms) e offset said = grind (arith, append_assoc, inr)
 
 -- ---- the breaks that the definition computes are those that the rules name
 
@@ -146,24 +112,17 @@ module _ (numbers : Numbers) where
 
   length-push : (front : List ℕ) (c : ℕ)
       → length (encodes (front ++ c ∷ [])) ≡ length (encodes front) + length (encode c)
-  length-push front c = ap length (encodes-append front (c ∷ []))
-      ∙ length-append (encodes front) (encodes (c ∷ []))
-      ∙ ap (λ bs. length (encodes front) + length bs) (append-nil (encode c))
+  length-push front c = grind (arith, encodes-append, length-append, append-nil)
 
   -- the breaks after a character
   breaks-after : (front : List ℕ) (c : ℕ) (cs : List ℕ)
       → breaks_from numbers (text_of (front ++ c ∷ [])) (length (encodes (front ++ c ∷ []))) cs
       ≡ breaks_from numbers (with_unit (text_of front) (unit_of c))
       (length (encodes front) + length (encode c)) cs
-  breaks-after front c cs =
-      ap (λ text. breaks_from numbers text (length (encodes (front ++ c ∷ []))) cs) (text_of-push front c)
-      ∙ ap (λ n. breaks_from numbers (with_unit (text_of front) (unit_of c)) n cs) (length-push front c)
+  breaks-after front c cs = grind (arith, text_of-push, length-push)
 
   only : (x y : LineBreak) → Contains (x ∷ []) y → x ≡ y
-  only x y h = elim (contains-cases x y [] h) [
-    | inl e ↦ e
-    | inr none ↦ absurd (contains-nil y none)
-  ]
+  only x y h = grind (arith, contains-cases, contains-nil)
 
   ends-same : (front ahead : List ℕ) (x y : LineBreak) → x ≡ y
       → EndsAhead front ahead x.at x.is_mandatory → EndsAhead front ahead y.at y.is_mandatory
@@ -218,11 +177,7 @@ module _ (numbers : Numbers) where
   contains-before : (verdict : Verdict) (front : List ℕ) (c : ℕ) (cs : List ℕ) (place : LineBreak)
       → verdict_by numbers front c cs ≡ verdict → break_at verdict (length (encodes front)) ≡ place ∷ []
       → Contains (breaks_from numbers (text_of front) (length (encodes front)) (c ∷ cs)) place
-  contains-before verdict front c cs place said is =
-      Contains-append_left (break_at (verdict_by numbers front c cs) (length (encodes front))) _ place
-      (subst (λ breaks. Contains breaks place)
-      (sym (ap (λ v. break_at v (length (encodes front))) said ∙ is))
-      (contains-here place place [] refl))
+  contains-before verdict front c cs place said is = grind (arith, Contains-append_left)
 
   said-ahead : (front cs : List ℕ) (verdict : Verdict) (place : LineBreak)
       → break_at verdict place.at ≡ place ∷ [] → IsAhead numbers front cs place.at verdict
@@ -266,25 +221,11 @@ module _ (numbers : Numbers) where
 module _ (numbers : Numbers) (text : List ℕ) (utf8 : IsUtf8 text) where
   place-ahead : (at : ℕ) (verdict : Verdict) → IsPlaceBy numbers text at verdict
       → IsAhead numbers [] (chars text) at verdict
-  place-ahead at verdict h = record {
-    middle = h.front;
-    next = h.next;
-    back = h.back;
-    divided = h.divided;
-    offset = h.offset;
-    said = h.said;
-  }
+  place-ahead at verdict h = grind arith
 
   ahead-place : (at : ℕ) (verdict : Verdict) → IsAhead numbers [] (chars text) at verdict
       → IsPlaceBy numbers text at verdict
-  ahead-place at verdict h = record {
-    front = h.middle;
-    next = h.next;
-    back = h.back;
-    divided = h.divided;
-    offset = h.offset;
-    said = h.said;
-  }
+  ahead-place at verdict h = grind arith
 
   no-chars : chars text ≡ [] → text ≡ []
   no-chars none = sym (encodes-chars text utf8) ∙ ap encodes none
@@ -335,8 +276,7 @@ module _ (text : List ℕ) (utf8 : IsUtf8 text) (front back : List ℕ) (next : 
   spelled = sym (encodes-chars text utf8) ∙ ap encodes divided ∙ encodes-append front (next ∷ back)
 
   pub before-place : take (length (encodes front)) text ≡ encodes front
-  before-place = ap (take (length (encodes front))) spelled
-      ∙ take-append_seam (encodes front) (encodes (next ∷ back))
+  before-place = grind (arith, spelled, take-append_seam)
 
 module _ (numbers : Numbers) (text : List ℕ) (utf8 : IsUtf8 text) where
   place-within : (at : ℕ) (verdict : Verdict) → verdict ≢ Prohibited → IsPlaceBy numbers text at verdict
@@ -359,11 +299,7 @@ module _ (numbers : Numbers) (text : List ℕ) (utf8 : IsUtf8 text) where
       )
 
   end-within : (at : ℕ) → IsEnd text at → IsCharBoundary text at × (0 < at) × (at ≤ length text)
-  end-within at h = (
-    (omega (arith, h.1), λ inside. absurd (omega (arith, h.1, inside))),
-    some-bytes text at h.0 h.1,
-    omega (arith, h.1),
-  )
+  end-within at h = grind (arith, some-bytes)
 
   break-within : (at : ℕ) (is_mandatory : Bool) → EndsBy numbers text at is_mandatory
       → IsCharBoundary text at × (0 < at) × (at ≤ length text)

@@ -1,14 +1,15 @@
 -- Places of a printable text where it is cut as at its blanks, told from two bytes.
-use Rattle.textwrap_base.proofs.Common.{◌≡◌, ℕ, zero, suc, ◌-◌, ◌<◌, ◌&&◌, ◌↔◌, true, false, not}
-use Rattle.textwrap_base.proofs.Common.{Bool, List, length, get_or, refl, sym, ap, ◌∙◌, ◌+◌, ◌≤◌}
-use Rattle.textwrap_base.proofs.Common.{arith, cases_Bool, cases_lt, inl, inr, subst, true≢false}
-use Rattle.std.proofs.Math.Bool.{and-false, and-true}
+use Rattle.textwrap_unicode.proofs.Common.{◌≡◌, is_after_text, class_past_blanks, may_follow_blanks}
+use Rattle.textwrap_unicode.proofs.Common.{cases_Bool, cases_lt, true≢false, is_opening, is_unusual}
+use Rattle.textwrap_unicode.proofs.Common.{length, and-false, is_blank, is_space, class_of, IsUsual}
+use Rattle.textwrap_unicode.proofs.Common.{zero, suc, ◌&&◌, true, false, Bool, get_or, arith, subst}
+use Rattle.textwrap_unicode.proofs.Common.{◌-◌, ◌<◌, ◌↔◌, not, List, refl, sym, ◌∙◌, ◌+◌, ◌≤◌, inl}
+use Rattle.textwrap_unicode.proofs.Common.{ℕ, ap, inr}
+use Rattle.std.proofs.Math.Bool.{and-true}
 use Rattle.std.proofs.lemmas.Bool.{or_parts}
-use Rattle.textwrap_words.proofs.Common.{is_blank, IsPrintable}
-use Rattle.textwrap_unicode.specs.ClassSets.{is_after_text, is_opening, is_quotation, is_space}
-use Rattle.textwrap_unicode.specs.Classes.{class_of}
-use Rattle.textwrap_unicode.specs.Pairs.{at_breaks, class_past_blanks, is_unusual}
-use Rattle.textwrap_unicode.specs.Pairs.{may_follow_blanks, IsUsual}
+use Rattle.textwrap_words.proofs.Common.{IsPrintable}
+use Rattle.textwrap_unicode.specs.ClassSets.{is_quotation}
+use Rattle.textwrap_unicode.specs.Pairs.{at_breaks}
 use Rattle.textwrap_unicode.proofs.PrintableCuts.{past-blank, past-byte, space-at, cut-told}
 use Rattle.textwrap_unicode.proofs.PrintableBytes.{class-space, unusual-space}
 
@@ -83,20 +84,11 @@ module _ (text : List ℕ) (printable : IsPrintable text) where
 
     pub usual-pair : ((k : ℕ) → 0 < k → k < place → IsUsual text k)
         → is_unusual before after ≡ false → IsUsual text place
-    usual-pair usual none = elim (cases_Bool (is_blank before)) [
-      | inl blank ↦ usual-blank usual blank none
-      | inr other ↦ usual-word other none
-    ]
+    usual-pair usual none = grind (arith, cases_Bool, usual-blank, usual-word)
 
     cut-usual : is_blank after ≡ false → at_breaks text place ≡ is_blank before
         → IsUsual text place
-    cut-usual other cut =
-        let space : is_space (class_of after) ≡ false = space-at text printable place inside ∙ other in
-        record {
-          cut = cut ∙ sym (rw other (and-true (is_blank before)));
-          unopened = ap (λ b. is_opening (class_of before) && b) space
-              ∙ and-false (is_opening (class_of before));
-        }
+    cut-usual other cut = grind (arith, space-at, and-true, and-false)
 
     -- before a byte that is no blank
     pub usual-cut : is_blank after ≡ false

@@ -1,39 +1,29 @@
 -- What the rules say behind letters and ideographs, over which a line is read all at once.
-use Rattle.textwrap_base.proofs.Common.{◌≡◌, ℕ, zero, suc, ◌+◌, ◌<◌, ◌&&◌, false, if◌then◌else◌}
-use Rattle.textwrap_base.proofs.Common.{List, [], ◌∷◌, ◌++◌, get_or, refl, sym, ap, ◌∙◌, subst}
-use Rattle.textwrap_base.proofs.Common.{arith, add-zero, append-nil, ◌==◌, ◌||◌, Bool, true, inl}
-use Rattle.textwrap_base.proofs.Common.{inr, eqb, nat_tests, true≢false, ◌≤◌, length, drop, add-one}
-use Rattle.textwrap_base.proofs.Common.{append_assoc, drop_more, ◌*◌, nat_lt}
-use Rattle.textwrap_unicode.specs.ClassSets.{is_infix, is_letter, is_space}
-use Rattle.textwrap_unicode.specs.Classes.{class_of, unit_of}
-use Rattle.textwrap_unicode.specs.WordStarts.{IsPlainLetter, is_behind_blank, is_behind_sign}
-use Rattle.textwrap_unicode.specs.WordStarts.{word_starts, IsWordByte, IsWordClass, plain_letter}
-use Rattle.std.proofs.Common.{slice_index_or}
-use Rattle.unicode.specs.declared.properties.LineBreak.{LineBreak}
-use Rattle.unicode.specs.declared.properties.LineBreak.TheVariants.{Ambiguous, InfixNumeric, Space}
-use Rattle.unicode.specs.declared.properties.LineBreak.TheVariants.{Ideographic}
-use Rattle.textwrap_words.specs.WordOffsets.{is_any_hyphen}
-use Rattle.textwrap_unicode.specs.declared.ascii.TheConstants.{CLASSES}
-use Rattle.textwrap_unicode.specs.declared.before.Before.{Before}
-use Rattle.textwrap_unicode.specs.declared.classes.Unit.{Unit}
-use Rattle.textwrap_unicode.specs.declared.numbers.Numbers.{Numbers}
-use Rattle.textwrap_unicode.specs.declared.numbers.Numbers.TheVariants.{ByPairs, ByExpression}
-use Rattle.textwrap_unicode.specs.BreaksLeft.{and, and_words}
-use Rattle.textwrap_unicode.specs.Cuts.{may_end}
-use Rattle.textwrap_unicode.specs.Rules.{decide_by, numbers_rule}
+use Rattle.textwrap_unicode.proofs.Common.{false, is_behind_blank, is_behind_sign, ideograph_places}
+use Rattle.textwrap_unicode.proofs.Common.{Alphabetic, if◌then◌else◌, IsPlainLetter, slice_index_or}
+use Rattle.textwrap_unicode.proofs.Common.{append_assoc, is_any_hyphen, numbers_rule, IsIdeographAt}
+use Rattle.textwrap_unicode.proofs.Common.{get_or, append-nil, word_starts, Ideographic}
+use Rattle.textwrap_unicode.proofs.Common.{nat_tests, IsWordByte, LineBreak, Ambiguous, decide_by}
+use Rattle.textwrap_unicode.proofs.Common.{add-one, is_space, class_of, unit_of, CLASSES, cut_here}
+use Rattle.textwrap_unicode.proofs.Common.{subst, length, Before, Numbers, ByPairs, may_end}
+use Rattle.textwrap_unicode.proofs.Common.{◌≡◌, zero, ◌&&◌, List, ◌++◌, arith, Space, chars, encode}
+use Rattle.textwrap_unicode.proofs.Common.{suc, ◌+◌, ◌<◌, refl, ◌==◌, ◌||◌, Bool, true, drop, Unit}
+use Rattle.textwrap_unicode.proofs.Common.{ℕ, [], ◌∷◌, sym, ap, ◌∙◌, inl, inr, ◌≤◌, ◌*◌, and}
+use Rattle.textwrap_base.proofs.Common.{add-zero, eqb, drop_more, length-encode}
+use Rattle.textwrap_unicode.specs.ClassSets.{is_infix, is_letter}
+use Rattle.textwrap_unicode.specs.WordStarts.{IsWordClass}
+use Rattle.unicode.specs.declared.properties.LineBreak.TheVariants.{InfixNumeric}
+use Rattle.textwrap_unicode.specs.declared.numbers.Numbers.TheVariants.{ByExpression}
+use Rattle.textwrap_unicode.specs.BreaksLeft.{and_words}
 use Rattle.textwrap_unicode.proofs.BreakLemmas.{in_word}
 use Rattle.textwrap_unicode.proofs.ClassLemmas.{ascii-unit}
-use Rattle.std.specs.Str.{chars}
-use Rattle.std.proofs.lemmas.Str.{encode_ascii, length-encode}
-use lib.Utf8.{encode}
+use Rattle.std.proofs.lemmas.Str.{encode_ascii}
 use Rattle.textwrap_words.proofs.Common.{visible_in}
 use Rattle.textwrap_words.proofs.Units.Reading.{plain-step}
 use Rattle.textwrap_words.specs.declared.escapes.State.TheVariants.{Text}
 use Rattle.textwrap_unicode.proofs.CutLemmas.{IsCutting, IsCutting-step}
-use Rattle.textwrap_words.proofs.Word.Parts.{cut_here}
 use Rattle.std.specs.Char.{len_utf8}
-use Rattle.textwrap_unicode.specs.Ideographs.{IsCommonIdeograph, IsIdeographAt, ideograph_places}
-use Rattle.textwrap_unicode.specs.Ideographs.{wide_ideograph}
+use Rattle.textwrap_unicode.specs.Ideographs.{IsCommonIdeograph, wide_ideograph}
 
 -- ---- letters behind a letter, which are passed all at once
 
@@ -45,13 +35,7 @@ pub record IsSame (at : ℕ) (bytes : List ℕ) (n m : ℕ) : Type 0 where
 
 one-letter : (at : ℕ) (bytes : List ℕ) (n : ℕ) → IsPlainLetter (get_or bytes n 0)
     → is_behind_blank bytes n ≡ false → is_behind_sign bytes n ≡ false → IsSame at bytes n (suc n)
-one-letter at bytes n letter blank sign = record {
-  blank = ap is_space letter.class ∙ sym blank;
-  sign = ap (λ v. if is_space v then is_behind_sign bytes n else is_infix v) letter.class ∙ sym sign;
-  starts = ap (λ b. word_starts at bytes n
-      ++ (if b && is_letter (class_of (get_or bytes n 0)) then (at + n) ∷ [] else [])) blank
-      ∙ append-nil (word_starts at bytes n);
-}
+one-letter at bytes n letter blank sign = grind (arith, append-nil)
 
 pub letters-same : (at : ℕ) (bytes : List ℕ) (n k : ℕ)
     → (0 < k → (is_behind_blank bytes n ≡ false) × (is_behind_sign bytes n ≡ false))
@@ -83,12 +67,7 @@ is_of_word class = is_letter class || is_space class || is_infix class
 -- neither a hyphen nor ESC is of such a class
 not-same : (c d : ℕ) → is_of_word (class_of c) ≡ true → is_of_word (class_of d) ≡ false
     → (c == d) ≡ false
-not-same c d word other = elim (c == d) as (λ b. (c == d) ≡ b → b ≡ false) [
-  | false ↦ λ _. refl
-  | true ↦ λ e.
-      let same : c ≡ d = grind (arith, nat_tests) in
-      absurd (true≢false (sym word ∙ ap (λ n. is_of_word (class_of n)) same ∙ other))
-] refl
+not-same c d word other = grind (arith, nat_tests)
 
 -- ---- what the rules say
 
@@ -100,50 +79,6 @@ module _ (numbers : Numbers) (back : List ℕ) where
   abbrev pub ends : Bool → Bool → Unit → Bool
   ends blank sign unit = may_end (decide_by (numbers_rule numbers back) (behind blank sign) unit)
 
-blank-verdict : (numbers : Numbers) (back : List ℕ) (blank sign : Bool)
-    → (ends numbers back blank sign (unit_with Space) ≡ false)
-    × (and (behind blank sign) (unit_with Space) ≡ behind true sign)
-blank-verdict ByPairs back true true = (refl, refl)
-blank-verdict ByPairs back true false = (refl, refl)
-blank-verdict ByPairs back false true = (refl, refl)
-blank-verdict ByPairs back false false = (refl, refl)
-blank-verdict ByExpression back true true = (refl, refl)
-blank-verdict ByExpression back true false = (refl, refl)
-blank-verdict ByExpression back false true = (refl, refl)
-blank-verdict ByExpression back false false = (refl, refl)
-
-letter-verdict : (numbers : Numbers) (back : List ℕ) (blank sign : Bool)
-    → (ends numbers back blank sign plain_letter ≡ blank)
-    × (and (behind blank sign) plain_letter ≡ behind false false)
-letter-verdict ByPairs back true true = (refl, refl)
-letter-verdict ByPairs back true false = (refl, refl)
-letter-verdict ByPairs back false true = (refl, refl)
-letter-verdict ByPairs back false false = (refl, refl)
-letter-verdict ByExpression back true true = (refl, refl)
-letter-verdict ByExpression back true false = (refl, refl)
-letter-verdict ByExpression back false true = (refl, refl)
-letter-verdict ByExpression back false false = (refl, refl)
-
-sign-verdict : (numbers : Numbers) (back : List ℕ) (blank sign : Bool)
-    → (ends numbers back blank sign (unit_with InfixNumeric) ≡ false)
-    × (and (behind blank sign) (unit_with InfixNumeric) ≡ behind false true)
-sign-verdict ByPairs back true true = (refl, refl)
-sign-verdict ByPairs back true false = (refl, refl)
-sign-verdict ByPairs back false true = (refl, refl)
-sign-verdict ByPairs back false false = (refl, refl)
-sign-verdict ByExpression back true true = (refl, refl)
-sign-verdict ByExpression back true false = (refl, refl)
-sign-verdict ByExpression back false true = (refl, refl)
-sign-verdict ByExpression back false false = (refl, refl)
-
-and-false : (b : Bool) → (b && false) ≡ false
-and-false true = refl
-and-false false = refl
-
-and-true : (b : Bool) → (b && true) ≡ b
-and-true true = refl
-and-true false = refl
-
 -- the same of a character, by its class
 abbrev pub IsSaid : Numbers → List ℕ → Bool → Bool → LineBreak → Type 0
 IsSaid numbers back blank sign class =
@@ -151,17 +86,26 @@ IsSaid numbers back blank sign class =
     × (and (behind blank sign) (unit_with class)
     ≡ behind (is_space class) (if is_space class then sign else is_infix class))
 
+said-each : (numbers : Numbers) (back : List ℕ) (blank sign : Bool)
+    → IsSaid numbers back blank sign Alphabetic × IsSaid numbers back blank sign Space
+    × IsSaid numbers back blank sign InfixNumeric
+said-each ByPairs back true true = ((refl, refl), (refl, refl), (refl, refl))
+said-each ByPairs back true false = ((refl, refl), (refl, refl), (refl, refl))
+said-each ByPairs back false true = ((refl, refl), (refl, refl), (refl, refl))
+said-each ByPairs back false false = ((refl, refl), (refl, refl), (refl, refl))
+said-each ByExpression back true true = ((refl, refl), (refl, refl), (refl, refl))
+said-each ByExpression back true false = ((refl, refl), (refl, refl), (refl, refl))
+said-each ByExpression back false true = ((refl, refl), (refl, refl), (refl, refl))
+said-each ByExpression back false false = ((refl, refl), (refl, refl), (refl, refl))
+
 pub said : (numbers : Numbers) (back : List ℕ) (blank sign : Bool) (class : LineBreak)
     → IsWordClass class → IsSaid numbers back blank sign class
 said numbers back blank sign class (inl e) =
-    let (ends_is, and_is) = letter-verdict numbers back blank sign in
-    subst (IsSaid numbers back blank sign) (sym e) (ends_is ∙ sym (and-true blank), and_is)
+    subst (IsSaid numbers back blank sign) (sym e) (said-each numbers back blank sign).0
 said numbers back blank sign class (inr (inl e)) =
-    let (ends_is, and_is) = blank-verdict numbers back blank sign in
-    subst (IsSaid numbers back blank sign) (sym e) (ends_is ∙ sym (and-false blank), and_is)
+    subst (IsSaid numbers back blank sign) (sym e) (said-each numbers back blank sign).1
 said numbers back blank sign class (inr (inr e)) =
-    let (ends_is, and_is) = sign-verdict numbers back blank sign in
-    subst (IsSaid numbers back blank sign) (sym e) (ends_is ∙ sym (and-false blank), and_is)
+    subst (IsSaid numbers back blank sign) (sym e) (said-each numbers back blank sign).2
 
 of-word : (class : LineBreak) → IsWordClass class → is_of_word class ≡ true
 of-word class (inl e) = ap is_of_word e
@@ -177,11 +121,7 @@ no-escape c word =
     (ap is_of_word (sym (class-at 27 (omega arith))))
 
 pub no-hyphen : (c : ℕ) → IsWordByte c → is_any_hyphen c ≡ false
-no-hyphen c word =
-    let short = not-same c 45 (of-word (class_of c) word.class)
-    (ap is_of_word (sym (class-at 45 (omega arith)))) in
-    let soft : (c == 173) ≡ false = grind (arith, nat_tests, word.ascii) in
-    rw (short, soft) refl
+no-hyphen c word = grind (arith, not-same, of-word, class-at, nat_tests)
 
 -- ---- letters, blanks and signs behind a letter of a word, over which a line is read all at
 -- once
@@ -226,20 +166,13 @@ module _ (numbers : Numbers) (line : List ℕ) (at : ℕ) (rest : List ℕ) wher
 -- ---- the characters
 
 pub three-bytes : (c : ℕ) → IsCommonIdeograph c → len_utf8 c ≡ 3
-three-bytes c is =
-    let one : nat_lt c 0x80 ≡ false = grind (arith, nat_tests, is.from) in
-    let two : nat_lt c 0x800 ≡ false = grind (arith, nat_tests, is.from) in
-    let three : nat_lt c 0x1_0000 ≡ true = grind (arith, nat_tests, is.to) in
-    rw (one, two, three) refl
+three-bytes c is = grind (arith, nat_tests, is.from, is.from, is.to)
 
 ideograph-no-escape : (c : ℕ) → IsCommonIdeograph c → eqb c 27 ≡ false
 ideograph-no-escape c is = grind (arith, nat_tests, is.from)
 
 ideograph-no-hyphen : (c : ℕ) → IsCommonIdeograph c → is_any_hyphen c ≡ false
-ideograph-no-hyphen c is =
-    let short : eqb c 45 ≡ false = grind (arith, nat_tests, is.from) in
-    let soft : eqb c 173 ≡ false = grind (arith, nat_tests, is.from) in
-    rw (short, soft) refl
+ideograph-no-hyphen c is = grind (arith, nat_tests, is.from, is.from)
 
 -- ---- what the rules say
 
@@ -269,13 +202,13 @@ ideograph-verdict ByExpression back = (refl, refl)
 
 module _ (numbers : Numbers) (line : List ℕ) (at : ℕ) (rest : List ℕ) where
   -- the reader past so many of them
-  abbrev pub IsPast : ℕ → List ℕ → Type 0
-  IsPast n cuts = IsCutting numbers line (at + 3 * n) (drop (3 * n) rest) Text behind_ideograph
-      (at + 3 * n) false cuts
+  abbrev pub IsPastIdeographs : ℕ → List ℕ → Type 0
+  IsPastIdeographs n cuts = IsCutting numbers line (at + 3 * n) (drop (3 * n) rest) Text
+      behind_ideograph (at + 3 * n) false cuts
 
-  past-one : (n : ℕ) (cuts : List ℕ) → IsPast n cuts → IsIdeographAt rest (3 * n)
-      → IsPast (suc n) (cuts ++ (at + 3 * n) ∷ [])
-  past-one n cuts h here =
+  past-ideograph : (n : ℕ) (cuts : List ℕ) → IsPastIdeographs n cuts → IsIdeographAt rest (3 * n)
+      → IsPastIdeographs (suc n) (cuts ++ (at + 3 * n) ∷ [])
+  past-ideograph n cuts h here =
       let c = here.character in
       let after = drop (3 * n + 3) rest in
       let (ends_is, and_is) = ideograph-verdict numbers (visible_in Text (chars after)) in
@@ -295,9 +228,9 @@ module _ (numbers : Numbers) (line : List ℕ) (at : ℕ) (rest : List ℕ) wher
 
   pub past-ideographs : (cuts : List ℕ) → IsCutting numbers line at rest Text behind_ideograph at false cuts
       → (n : ℕ) → ((k : ℕ) → k < n → IsIdeographAt rest (3 * k))
-      → IsPast n (cuts ++ ideograph_places at n)
+      → IsPastIdeographs n (cuts ++ ideograph_places at n)
   past-ideographs cuts start zero ideographs = rw (append-nil cuts, add-zero at) start
   past-ideographs cuts start (suc n) ideographs =
       let h = past-ideographs cuts start n (λ k below. ideographs k (omega (arith, below))) in
-      subst (IsPast (suc n)) (append_assoc cuts (ideograph_places at n) _)
-      (past-one n _ h (ideographs n (omega arith)))
+      subst (IsPastIdeographs (suc n)) (append_assoc cuts (ideograph_places at n) _)
+      (past-ideograph n _ h (ideographs n (omega arith)))

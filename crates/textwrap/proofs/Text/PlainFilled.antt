@@ -177,6 +177,12 @@ whole_words initial subsequent even width = record {
 abbrev pub bytes_of : List LineParts → List (List ℕ)
 bytes_of parts = map line_bytes (map line_from parts)
 
+division-by : {X : Type 0} (algorithm : Algorithm) (sizes : X → Sizes) (widths : List ℕ)
+    (xs : List X) (lines : List (List X)) → IsDividedBy algorithm sizes widths xs lines
+    → IsDivision xs lines
+division-by Greedy sizes widths xs lines divided = divided.admissible.division
+division-by (LeastCost penalties) sizes widths xs lines divided = divided.by_table.division
+
 module _ (initial subsequent : List ℕ) (even : Bool) (width : ℕ) where
   abbrev settings : Settings
   settings = whole_words initial subsequent even width
@@ -232,17 +238,7 @@ module _ (initial subsequent : List ℕ) (even : Bool) (width : ℕ) where
         filled_is = ap feed_joined (bytes-broken false line lines division.1 apart);
       }
 
--- ---- a text without line feeds is cut at blanks where it is filled with whole words
-
-division-by : {X : Type 0} (algorithm : Algorithm) (sizes : X → Sizes) (widths : List ℕ)
-    (xs : List X) (lines : List (List X)) → IsDividedBy algorithm sizes widths xs lines
-    → IsDivision xs lines
-division-by Greedy sizes widths xs lines divided = divided.admissible.division
-division-by (LeastCost penalties) sizes widths xs lines divided = divided.by_table.division
-
-module _ (initial subsequent : List ℕ) (even : Bool) (width : ℕ) where
-  abbrev settings : Settings
-  settings = whole_words initial subsequent even width
+  -- ---- a text without line feeds is cut at blanks where it is filled with whole words
 
   module _ (algorithm : Algorithm) (text : List ℕ) where
     abbrev Divides : Bool → List ℕ → List (List WordText) → Type 0
@@ -253,7 +249,7 @@ module _ (initial subsequent : List ℕ) (even : Bool) (width : ℕ) where
     filled-cases : (Holds : List ℕ → Type 0)
         → (initial ≡ [] → Holds (without_final_blanks text))
         → ((division : List (List WordText)) → IsDivision (words_of text) division
-        → Holds (filled_of initial subsequent even width division))
+        → Holds (filled_of division))
         → (filled : List ℕ) → All (λ c. c ≢ line_feed) text
         → IsFilledWhole settings algorithm text filled → Holds filled
     filled-cases Holds whole divided filled none (lines, are, is) =
@@ -262,9 +258,9 @@ module _ (initial subsequent : List ℕ) (even : Bool) (width : ℕ) where
         by_case : (division : List (List WordText)) (b : Bool)
             → is_whole settings false text ≡ b
             → MatchBool b (division ≡ (word_of text ∷ []) ∷ []) (Divides false text division)
-            → Holds (filled_of initial subsequent even width division)
+            → Holds (filled_of division)
         by_case division true is_one is =
-            subst (λ d. Holds (filled_of initial subsequent even width d)) (sym is)
+            subst (λ d. Holds (filled_of d)) (sym is)
             (subst Holds (sym (ap line_bytes (line_from-whole settings false text is_one)))
             (whole (whole_unindented settings false text is_one)))
         by_case division false longer (pieces, are, lines) =
@@ -292,9 +288,9 @@ module _ (initial subsequent : List ℕ) (even : Bool) (width : ℕ) where
           text_is = refl;
           filled_is = ap (λ i. i ++ without_final_blanks text) (sym none);
         })
-        (λ division divided. subst (λ t. IsCutAtBlanks initial subsequent t (filled_of initial subsequent even width division))
+        (λ division divided. subst (λ t. IsCutAtBlanks initial subsequent t (filled_of division))
         (tiled-words_of text)
-        (cut-words initial subsequent even width (words_of text) division divided
+        (cut-words (words_of text) division divided
         (rw (tiled-words_of text) ((words_unique text (words_of text)).1 refl))
         (λ none. some (sym (tiled-words_of text) ∙ ap tiled none))))
         filled

@@ -311,9 +311,9 @@ IsDividedToo settings Divides = (is_later : Bool) (paragraph : List ℕ) (parts 
 
 -- the same by the parts of any options, where they are built in
 module _ {E C : Type 0} {e : _} {c : _} (settings : Settings) where
-  abbrev pub Divides : separators.WordSeparator C c → splitters.WordSplitter C c
+  abbrev pub DividesByParts : separators.WordSeparator C c → splitters.WordSplitter C c
       → algorithms.WrapAlgorithm E e → Bool → List ℕ → List (List WordText) → Type 0
-  Divides separator splitter algorithm =
+  DividesByParts separator splitter algorithm =
       IsDividedInto settings (MaySeparate separator) (MaySplit splitter)
       (MayDivide algorithm (λ w. w))
 
@@ -321,13 +321,13 @@ module _ {E C : Type 0} {e : _} {c : _} (settings : Settings) where
       (splitter : splitters.WordSplitter C c) (algorithm : algorithms.WrapAlgorithm E e)
       → separator ≡ separators.TheVariants.AsciiSpace → splitter_view splitter ≢ None
       → algorithm_view algorithm ≢ None
-      → IsDividedToo settings (Divides separator splitter algorithm)
+      → IsDividedToo settings (DividesByParts separator splitter algorithm)
   paragraph-divided-by separator splitter algorithm is s_built a_built =
       by (splitter_view splitter) refl (algorithm_view algorithm) refl
     where
       by : (s : Option Splitter) → splitter_view splitter ≡ s → (a : Option Algorithm)
           → algorithm_view algorithm ≡ a
-          → IsDividedToo settings (Divides separator splitter algorithm)
+          → IsDividedToo settings (DividesByParts separator splitter algorithm)
       by None s_is a a_is = absurd (s_built s_is)
       by (Some s) s_is None a_is = absurd (a_built a_is)
       by (Some s) s_is (Some a) a_is = subst (IsDividedToo settings)

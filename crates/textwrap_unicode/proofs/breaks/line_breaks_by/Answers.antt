@@ -1,7 +1,4 @@
-use Rattle.std.specs.Str.{chars}
-use Rattle.std.proofs.Common.{ap, ◌∙◌}
-use Rattle.textwrap_unicode.specs.Before.{nothing}
-use Rattle.textwrap_unicode.specs.BreaksLeft.{breaks_after}
+use Rattle.textwrap_unicode.proofs.Common.{chars, ap, ◌∙◌, nothing, breaks_after}
 use Rattle.textwrap_unicode.proofs.breaks.line_breaks_by.Goals as goal
 use Rattle.textwrap_unicode.proofs.BreakLemmas.{breaks_after-from}
 

@@ -1,4 +1,4 @@
-use Rattle.textwrap_base.proofs.Common.{ap}
+use Rattle.textwrap_unicode.proofs.Common.{ap}
 use Rattle.textwrap_unicode.proofs.ClassLemmas.{ascii-unit}
 use Rattle.textwrap_unicode.proofs.cuts.ascii_class.Goals as goal
 

@@ -1,25 +1,22 @@
-use Rattle.textwrap_base.proofs.Common.{◌≡◌, ℕ, ◌<◌, ◌*◌, slice_index, ◌+◌, ◌++◌, drop, length}
-use Rattle.textwrap_base.proofs.Common.{append-nil, ap, ◌∙◌, sym, subst, refl, arith, drop-drop}
-use Rattle.textwrap_base.proofs.Common.{true≢false}
+use Rattle.textwrap_unicode.proofs.Common.{slice_index, ◌++◌, append-nil, true≢false, IsIdeographAt}
+use Rattle.textwrap_unicode.proofs.Common.{length, subst, breaks_by, may_end, IsWordByte, read-next}
+use Rattle.textwrap_unicode.proofs.Common.{◌≡◌, ◌<◌, ◌*◌, ◌+◌, drop, ap, ◌∙◌, sym, refl, arith, and}
+use Rattle.textwrap_unicode.proofs.Common.{ℕ}
+use Rattle.textwrap_base.proofs.Common.{drop-drop}
 use Rattle.std.specs.Prelude.{encode_utf8}
 use Rattle.std.specs.Str.Iter.{chars_rest}
 use Rattle.textwrap_words.specs.Cuts.{AreInnerCuts}
 use Rattle.textwrap_words.specs.Units.{stripped}
 use Rattle.textwrap_words.specs.declared.escapes.State.TheVariants.{Text}
-use Rattle.textwrap_unicode.specs.Breaks.{breaks_by}
-use Rattle.textwrap_unicode.specs.BreaksLeft.{and}
-use Rattle.textwrap_unicode.specs.Cuts.{may_end, offsets_of}
-use Rattle.textwrap_unicode.specs.WordStarts.{IsWordByte}
-use Rattle.textwrap_unicode.proofs.CutLemmas.{IsCutting, IsCutting-start, IsCutting-step}
-use Rattle.textwrap_unicode.proofs.CutLemmas.{IsCutting-end, cuts_at-AreInnerCuts}
-use Rattle.textwrap_words.proofs.Units.Reading.{read-next}
+use Rattle.textwrap_unicode.specs.Cuts.{offsets_of}
+use Rattle.textwrap_unicode.proofs.CutLemmas.{IsCutting-start, IsCutting-step, cuts_at-AreInnerCuts}
+use Rattle.textwrap_unicode.proofs.CutLemmas.{IsCutting, IsCutting-end}
 use Rattle.textwrap_unicode.proofs.WordVerdicts.{past-ideographs, past-words}
-use Rattle.textwrap_unicode.specs.Ideographs.{IsIdeographAt}
 use Rattle.textwrap_unicode.proofs.cuts.find_cuts.Goals as goal
-use Rattle.textwrap_unicode.proofs.cuts.find_cuts.Goals.{In-Some, Joined-is_visible}
-use Rattle.textwrap_unicode.proofs.cuts.find_cuts.Goals.{then-is_visible, else-is_visible}
-use Rattle.textwrap_unicode.proofs.cuts.find_cuts.Goals.{then-is_cut+in_ok-push, else-is_cut}
-use Rattle.textwrap_unicode.proofs.cuts.find_cuts.Goals.{in-Text, in_default-matches}
+use Rattle.textwrap_unicode.proofs.cuts.find_cuts.Goals.{then-is_cut+in_ok-push, in_default-matches}
+use Rattle.textwrap_unicode.proofs.cuts.find_cuts.Goals.{Joined-is_visible, then-is_visible}
+use Rattle.textwrap_unicode.proofs.cuts.find_cuts.Goals.{In-Some, else-is_visible, else-is_cut}
+use Rattle.textwrap_unicode.proofs.cuts.find_cuts.Goals.{in-Text}
 
 pub loop-ch-init : goal.loop-ch-init
 loop-ch-init c = IsCutting-start _ _ _ _ _ _ c.utf8.line refl refl c.new-before.ensures

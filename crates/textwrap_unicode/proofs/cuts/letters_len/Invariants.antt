@@ -1,5 +1,5 @@
-use Rattle.textwrap_base.proofs.Common.{◌≡◌, ℕ, true, ◌+◌, ◌-◌, ◌<◌, ◌≤◌, length, slice_index}
-use Rattle.textwrap_unicode.specs.WordStarts.{IsPlainLetter}
+use Rattle.textwrap_unicode.proofs.Common.{◌≡◌, true, ◌+◌, ◌-◌, length, slice_index, IsPlainLetter}
+use Rattle.textwrap_unicode.proofs.Common.{ℕ, ◌<◌, ◌≤◌}
 use Rattle.textwrap_unicode.proofs.cuts.letters_len.Given as goal
 
 abbrev pub invariant-loop-len : goal.invariant-loop-len

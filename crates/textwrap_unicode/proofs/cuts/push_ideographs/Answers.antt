@@ -1,10 +1,9 @@
-use Rattle.textwrap_base.proofs.Common.{◌≡◌, ◌+◌, ◌*◌, ◌++◌, ◌∷◌, [], drop, length, sym, ap, ◌∙◌}
-use Rattle.textwrap_base.proofs.Common.{subst, arith, add-one, append_assoc, cases_lt, inl, inr}
-use Rattle.textwrap_base.proofs.Common.{length-drop, length-append}
-use Rattle.std.specs.Str.Iter.{char_indices_rest}
-use Rattle.std.proofs.lemmas.Str.{drop_past_char, length-encode}
-use lib.Utf8.{encode}
-use Rattle.textwrap_unicode.specs.Ideographs.{IsIdeographAt, ideograph_places}
+use Rattle.textwrap_unicode.proofs.Common.{◌++◌, length-append, char_indices_rest, ideograph_places}
+use Rattle.textwrap_unicode.proofs.Common.{length, add-one, append_assoc, cases_lt, IsIdeographAt}
+use Rattle.textwrap_unicode.proofs.Common.{◌≡◌, ◌+◌, ◌*◌, ◌∷◌, drop, sym, ◌∙◌, subst, arith, encode}
+use Rattle.textwrap_unicode.proofs.Common.{[], ap, inl, inr}
+use Rattle.textwrap_base.proofs.Common.{length-drop, length-encode}
+use Rattle.std.proofs.lemmas.Str.{drop_past_char}
 use Rattle.textwrap_unicode.proofs.WordVerdicts.{three-bytes}
 use Rattle.textwrap_unicode.proofs.cuts.push_ideographs.Goals as goal
 

@@ -1,24 +1,16 @@
-use Rattle.textwrap_base.proofs.Common.{◌≡◌, ℕ, ◌++◌, ◌+◌, ◌-◌, ◌<◌, ◌||◌, Bool, true, false, inl}
-use Rattle.textwrap_base.proofs.Common.{inr, [], ◌∷◌, sym, ap, ◌∙◌, refl, subst, arith, add-one}
-use Rattle.textwrap_base.proofs.Common.{append-nil, append_assoc, slice_index, if◌then◌else◌}
-use Rattle.textwrap_base.proofs.Common.{cases_lt}
-use Rattle.std.proofs.lemmas.Bool.{cases_eq}
-use Rattle.textwrap_unicode.specs.ClassSets.{is_infix, is_letter, is_space}
-use Rattle.textwrap_unicode.specs.Classes.{class_of}
-use Rattle.textwrap_unicode.specs.WordStarts.{IsPlainLetter, IsWordByte, is_behind_blank}
-use Rattle.textwrap_unicode.specs.WordStarts.{is_behind_sign, word_starts}
+use Rattle.textwrap_unicode.proofs.Common.{if◌then◌else◌, cases_lt, is_behind_blank, is_behind_sign}
+use Rattle.textwrap_unicode.proofs.Common.{ℕ, append_assoc, slice_index, IsPlainLetter, word_starts}
+use Rattle.textwrap_unicode.proofs.Common.{◌≡◌, add-one, append-nil, is_space, class_of, IsWordByte}
+use Rattle.textwrap_unicode.proofs.Common.{◌++◌, ◌+◌, ◌||◌, Bool, true, false, refl, subst, arith}
+use Rattle.textwrap_unicode.proofs.Common.{◌-◌, ◌<◌, inl, inr, [], ◌∷◌, sym, ap, ◌∙◌}
+use Rattle.textwrap_base.proofs.Common.{cases_eq}
+use Rattle.textwrap_unicode.specs.ClassSets.{is_infix, is_letter}
 use Rattle.textwrap_unicode.proofs.WordVerdicts.{letters-same}
 use Rattle.textwrap_unicode.proofs.cuts.push_words.Goals as goal
 use Rattle.textwrap_unicode.proofs.cuts.push_words.Goals.{then-is_start+in_ok-push, else-is_start}
 
 pub loop-len-init : goal.loop-len-init
-loop-len-init c = record {
-  within = omega arith;
-  words = λ k below. absurd (omega (arith, below));
-  blank = refl;
-  sign = refl;
-  cuts = sym (append-nil _);
-}
+loop-len-init c = grind (arith, append-nil)
 
 none-behind : (blank sign : Bool) (k : ℕ) → ((blank || sign) ≡ true → k ≡ 0) → 0 < k
     → (blank ≡ false) × (sign ≡ false)

@@ -1,5 +1,5 @@
-use Rattle.textwrap_base.proofs.Common.{◌≡◌, ℕ, ◌++◌, ◌-◌, ◌<◌, ◌≤◌, length, slice_index}
-use Rattle.textwrap_unicode.specs.WordStarts.{IsWordByte, is_behind_blank, is_behind_sign, word_starts}
+use Rattle.textwrap_unicode.proofs.Common.{slice_index, IsWordByte, is_behind_blank, is_behind_sign}
+use Rattle.textwrap_unicode.proofs.Common.{◌≡◌, ℕ, ◌++◌, ◌-◌, ◌<◌, ◌≤◌, length, word_starts}
 use Rattle.textwrap_unicode.proofs.cuts.push_words.Given as goal
 
 abbrev pub invariant-loop-len : goal.invariant-loop-len

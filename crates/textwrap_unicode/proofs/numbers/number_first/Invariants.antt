@@ -1,6 +1,4 @@
-use Rattle.std.proofs.Common.{◌≡◌, drop, length}
-use Rattle.std.specs.Str.{chars}
-use Rattle.textwrap_unicode.specs.Rules.{number_first}
+use Rattle.textwrap_unicode.proofs.Common.{◌≡◌, drop, length, chars, number_first}
 use Rattle.textwrap_unicode.proofs.numbers.number_first.Given as goal
 
 -- the characters to come give the answer

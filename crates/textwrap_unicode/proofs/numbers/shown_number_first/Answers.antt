@@ -1,9 +1,7 @@
-use Rattle.textwrap_base.proofs.Common.{sym, ap, ◌∙◌, arith, length, at_drop_all, length_push}
+use Rattle.textwrap_unicode.proofs.Common.{ap, length, visible_in, is_mark, is_number, number_first}
+use Rattle.textwrap_unicode.proofs.Common.{sym, ◌∙◌, arith, chars}
 use Rattle.textwrap_base.proofs.Common.{YieldsList-from_chars, YieldsList-turn, YieldsList-end}
-use Rattle.std.specs.Str.{chars}
-use Rattle.textwrap_words.specs.Escapes.{visible_in}
-use Rattle.textwrap_unicode.specs.ClassSets.{is_mark, is_number}
-use Rattle.textwrap_unicode.specs.Rules.{number_first}
+use Rattle.textwrap_base.proofs.Common.{at_drop_all, length_push}
 use Rattle.textwrap_unicode.proofs.BreakLemmas.{shown-step}
 use Rattle.textwrap_unicode.proofs.numbers.shown_number_first.Goals as goal
 

@@ -1,7 +1,4 @@
-use Rattle.std.proofs.Common.{◌≡◌, drop, length}
-use Rattle.std.specs.Str.{chars}
-use Rattle.textwrap_words.specs.Escapes.{visible_in}
-use Rattle.textwrap_unicode.specs.Rules.{number_first}
+use Rattle.textwrap_unicode.proofs.Common.{◌≡◌, drop, length, chars, visible_in, number_first}
 use Rattle.textwrap_unicode.proofs.numbers.shown_number_first.Given as goal
 
 -- the visible characters to come give the answer

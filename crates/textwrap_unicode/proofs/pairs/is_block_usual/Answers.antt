@@ -1,6 +1,6 @@
-use Rattle.textwrap_base.proofs.Common.{◌+◌, ◌-◌, ◌∙◌, ◌≡◌, and_from, and_parts, ap, arith, cases_lt}
-use Rattle.textwrap_base.proofs.Common.{false, get_or, inl, inr, not, not-true, refl, subst, sym, ℕ}
-use Rattle.textwrap_unicode.specs.Pairs.{is_unusual}
+use Rattle.textwrap_unicode.proofs.Common.{◌+◌, and_from, and_parts, cases_lt, not-true, is_unusual}
+use Rattle.textwrap_unicode.proofs.Common.{◌-◌, ◌∙◌, ◌≡◌, arith, false, get_or, inl, refl, subst, ℕ}
+use Rattle.textwrap_unicode.proofs.Common.{ap, inr, not, sym}
 use Rattle.textwrap_unicode.proofs.pairs.is_block_usual.Goals as goal
 
 pub loop-offset-init : goal.loop-offset-init

@@ -1,5 +1,5 @@
-use Rattle.textwrap_base.proofs.Common.{◌+◌, ◌-◌, ◌<◌, ◌↔◌, ◌≡◌, ◌≤◌, false, slice_index, true, ℕ}
-use Rattle.textwrap_unicode.specs.Pairs.{is_unusual}
+use Rattle.textwrap_unicode.proofs.Common.{◌+◌, ◌-◌, ◌<◌, ◌↔◌, false, slice_index, true, is_unusual}
+use Rattle.textwrap_unicode.proofs.Common.{◌≡◌, ◌≤◌, ℕ}
 use Rattle.textwrap_unicode.proofs.pairs.is_block_usual.Given as goal
 
 abbrev pub invariant-loop-offset : goal.invariant-loop-offset

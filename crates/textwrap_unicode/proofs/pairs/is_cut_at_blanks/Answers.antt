@@ -1,4 +1,4 @@
-use Rattle.textwrap_base.proofs.Common.{arith, subst, sym, true, ◌≡◌}
+use Rattle.textwrap_unicode.proofs.Common.{arith, subst, sym, true, ◌≡◌}
 use Rattle.textwrap_unicode.specs.Pairs.{IsCutAtBlanks}
 use Rattle.textwrap_unicode.proofs.PrintableCuts.{all-usual, usual-blanks, words-same}
 use Rattle.textwrap_unicode.proofs.pairs.is_cut_at_blanks.Goals as goal
@@ -6,12 +6,7 @@ use Rattle.textwrap_unicode.proofs.pairs.is_cut_at_blanks.Goals.{After-is_usual_
 
 so-cut : (c : After-is_usual_up_to) → c.is_usual_up_to.result ≡ true
     → IsCutAtBlanks c.args.text.now
-so-cut c usual =
-    let bytes = c.as_bytes-bytes.ensures.value in
-    let printable = c.is_printable.ensures.0 c.if-is_printable.true in
-    let len = c.trimmed_len.ensures.value in
-    subst IsCutAtBlanks bytes (usual-blanks c.as_bytes-bytes.result.now printable (λ k start below.
-    c.is_usual_up_to.ensures.0 usual k start (omega (arith, below, len))))
+so-cut c usual = grind (arith, c.as_bytes-bytes.ensures.value, usual-blanks)
 
 pub returns-then-is_printable : goal.returns-then-is_printable
 returns-then-is_printable c = record {

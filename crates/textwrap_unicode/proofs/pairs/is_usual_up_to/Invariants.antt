@@ -1,5 +1,4 @@
-use Rattle.textwrap_base.proofs.Common.{ℕ, ◌-◌, ◌<◌}
-use Rattle.textwrap_unicode.specs.Pairs.{IsUsual}
+use Rattle.textwrap_unicode.proofs.Common.{ℕ, ◌-◌, ◌<◌, IsUsual}
 use Rattle.textwrap_unicode.proofs.pairs.is_usual_up_to.Given as goal
 
 abbrev pub invariant-loop-place : goal.invariant-loop-place

@@ -1,12 +1,11 @@
-use Rattle.std.proofs.Common.{◌+◌, true, ◌∷◌, length, rules, refl, sym, ap, ◌∙◌, arith}
-use Rattle.std.specs.Str.{chars}
-use Rattle.std.specs.Str.Iter.{char_indices_offset, char_indices_rest}
+use Rattle.textwrap_unicode.proofs.Common.{true, length, char_indices_rest, read-next, breaks_after}
+use Rattle.textwrap_unicode.proofs.Common.{◌+◌, ◌∷◌, refl, sym, ap, ◌∙◌, arith, chars, and}
+use Rattle.textwrap_base.proofs.Common.{rules}
+use Rattle.std.specs.Str.Iter.{char_indices_offset}
 use Rattle.textwrap_unicode.proofs.breaks.LineBreaksIterator.next.Goals as goal
 use Rattle.textwrap_unicode.proofs.BreakLemmas.{reading-start, reading-step, reading-break}
 use Rattle.textwrap_unicode.proofs.BreakLemmas.{reading-end, letter-step, none-left}
-use Rattle.textwrap_words.proofs.Units.Reading.{read-next}
 use Rattle.textwrap_unicode.specs.declared.breaks.LineBreak.{LineBreak}
-use Rattle.textwrap_unicode.specs.BreaksLeft.{and, breaks_after}
 use Rattle.textwrap_unicode.proofs.breaks.LineBreaksIterator.next.Goals.{in-Allowed, in-Mandatory}
 
 pub loop-offset-init : goal.loop-offset-init

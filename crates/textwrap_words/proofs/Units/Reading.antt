@@ -2,7 +2,7 @@
 -- come.
 use Rattle.textwrap_base.proofs.Common.{inl, inr, ◌≡◌, ◌≢◌, suc, cond, List, refl, ◌++◌, drop, zero}
 use Rattle.textwrap_base.proofs.Common.{ℕ, eqb, ◌∷◌, ◌+◌, ◌≤◌, [], sym, ◌∙◌, ◌<◌, All, map}
-use Rattle.textwrap_base.proofs.Common.{Bool, IsUtf8-drop, length-drop, append_assoc, length-encode}
+use Rattle.textwrap_base.proofs.Common.{Bool, length-drop, append_assoc, length-encode}
 use Rattle.textwrap_base.proofs.Common.{true, false, arith, subst, IsUtf8, get_or, sum_by, ne_eqb}
 use Rattle.textwrap_base.proofs.Common.{ap, drop_at, All-nil, zero-add, IsAscii, cases_lt, cases_eq}
 use Rattle.textwrap_base.proofs.Common.{flat_map, encode_utf8_all, chars_past_char, nil_from_length}
@@ -21,7 +21,7 @@ use Rattle.std.specs.Prelude.{chars, encode_utf8}
 use Rattle.std.proofs.lemmas.Str.{IsCharBoundary-from_drop, inside_one, encode_ascii}
 use lib.Utf8.{encode, encodes}
 use Rattle.std.proofs.lemmas.List.{at_drop_more}
-use Rattle.unicode_width.specs.Width.{char_width, alone, of_kind, single}
+use Rattle.unicode_width.specs.Width.{char_width, alone, of_kind}
 use Rattle.unicode_width.proofs.Rules.{width_or_zero-le}
 use Rattle.unicode_width.specs.Kind.{kind}
 use Rattle.unicode_width.specs.declared.kind.Kind.{Kind}
@@ -85,11 +85,6 @@ pub record IsRead (text : List ℕ) (at : ℕ) (ahead : List ℕ) : Type 0 where
 pub read-start : (text : List ℕ) → IsUtf8 text → IsRead text 0 text
 read-start text utf8 =
     record { utf8 = utf8; place = refl; boundary = IsCharBoundary-start text utf8 }
-
-pub read-at : (text : List ℕ) (at : ℕ) → IsUtf8 text → IsCharBoundary text at
-    → IsRead text at (drop at text)
-read-at text at utf8 boundary =
-    record { utf8 = IsUtf8-drop text at utf8 boundary; place = refl; boundary = boundary }
 
 module _ {text : List ℕ} {at : ℕ} {ahead : List ℕ} (h : IsRead text at ahead) where
   pub read-none : length ahead ≡ 0 → chars ahead ≡ []
@@ -258,10 +253,6 @@ printable-width text printable =
 
 -- ---- no character takes more columns than its bytes, so no text does
 
--- one character alone has three columns
-single-narrow : (c : ℕ) → c ≢ 0x17D8 → (single false c).0 ≤ 2
-single-narrow c other = grind (arith, ne_eqb c 0x17D8 other)
-
 of_kind-narrow : (c : ℕ) (k : Kind) → c ≢ 0x17D8 → (of_kind false c k).0 ≤ 2
 of_kind-narrow c kinds.Zero other = omega arith
 of_kind-narrow c kinds.Narrow other = omega arith
@@ -274,7 +265,7 @@ of_kind-narrow c kinds.LisuTone other = omega arith
 of_kind-narrow c kinds.RegionalIndicator other = omega arith
 of_kind-narrow c kinds.EmojiModifier other = omega arith
 of_kind-narrow c kinds.Emoji other = omega arith
-of_kind-narrow c kinds.Single other = single-narrow c other
+of_kind-narrow c kinds.Single other = grind (arith, ne_eqb c 0x17D8 other)
 
 columns-other : (c : ℕ) → c ≢ 0x17D8 → columns c ≤ 2
 unfolding char_width alone

@@ -64,11 +64,6 @@ units_past-end n [] short = refl
 units_past-end zero (c ∷ cs) short = absurd (omega arith)
 units_past-end (suc n) (c ∷ cs) short = units_past-end n cs (omega arith)
 
--- where more units come, a unit does not reach the end
-more-left : (n : ℕ) (cs : List ℕ) (xs ys : List TextUnit) → units_past n cs ≡ xs ++ ys → ys ≢ []
-    → n < length cs
-more-left n cs xs ys e more = grind (arith, cases_lt, nil_after, units_past-end)
-
 part-unit : (c : ℕ) (cs : List ℕ) (xs ys : List TextUnit) (b : Bool) → eqb c 27 ≡ b
     → units_past (cond b (escape_len cs) 0) cs ≡ xs ++ ys → ys ≢ []
     → units_past (cond b (escape_len cs) 0)
@@ -77,7 +72,7 @@ part-unit : (c : ℕ) (cs : List ℕ) (xs ys : List TextUnit) (b : Bool) → eqb
     ++ flat_map characters xs) ≡ cond b (Sequence (c ∷ take (escape_len cs) cs))
     (Visible c) ∷ xs
 part-unit c cs xs ys true is e more rest =
-    grind (arith, more-left, escape-again, take_at, length-take-le)
+    grind (arith, cases_lt, nil_after, units_past-end, escape-again, take_at, length-take-le)
 part-unit c cs xs ys false is e more rest = rw (is, rest) refl
 
 units_past-part : (n : ℕ) (cs : List ℕ) (xs ys : List TextUnit) → units_past n cs ≡ xs ++ ys
@@ -154,9 +149,6 @@ control-stops cs =
     (λ b. refl) (λ b c l. refl)
     (λ front b c. ap is_control_end (last-push (front ++ b ∷ []) c)) cs [] 0 refl (λ c. refl)
 
-command_end-first : (c d : ℕ) → is_command_start c ≡ true → is_command_end d d ≡ is_command_end c d
-command_end-first c d start = grind (arith, nat_tests)
-
 command-stops : (c : ℕ) → is_command_start c ≡ true → (cs : List ℕ)
     → StopsAt (λ l. is_command_end (last_but_one l) (last l)) cs (command_len c cs)
 command-stops c start cs =
@@ -164,7 +156,7 @@ command-stops c start cs =
     (λ b. refl) (λ b d l. refl)
     (λ front b d. ap (λ x. is_command_end x (last ((front ++ b ∷ []) ++ d ∷ [])))
     (last_but_one-push front b d) ∙ ap (is_command_end b) (last-push (front ++ b ∷ []) d))
-    cs [] c refl (λ d. command_end-first c d start)
+    cs [] c refl (λ d. grind (arith, nat_tests))
 
 escape-cons : (c : ℕ) (cs : List ℕ) (control command : Bool) → is_control_start c ≡ control
     → is_command_start c ≡ command → StopsAt ends (c ∷ cs) (escape_len (c ∷ cs))

@@ -53,15 +53,11 @@ goes-unit limit width u us on = record {
   wide = rw on (sum_by-cons unit_width u (taken_units limit (width + unit_width u) us));
 }
 
-goes-nowhere : (limit width : ℕ) (us : List TextUnit) → TakesUnit limit width us 0 us
-goes-nowhere limit width us =
-    record { leaves = rw (add-zero width) refl; wide = rw (add-zero width, zero-add) refl }
-
 goes-inside : (limit width : ℕ) (s : State) (c : ℕ) (cs : List ℕ) → s ≢ Text
     → TakesUnit limit width (units_in s (c ∷ cs)) 0 (units_in (next_of s c) cs)
 goes-inside limit width s c cs inside =
     subst (λ us. TakesUnit limit width us 0 (units_in (next_of s c) cs))
-    (sym (units_in-inside s c cs inside)) (goes-nowhere limit width (units_in (next_of s c) cs))
+    (sym (units_in-inside s c cs inside)) (grind (arith, add-zero, zero-add))
 
 goes-on : (limit width : ℕ) (s : State) (c : ℕ) (cs : List ℕ)
     → (shows s c ≡ true → is_due limit width (Visible c) ≡ false)
@@ -93,10 +89,6 @@ IsInFirst-cut limit cs Text width c rest h shown due =
 IsInFirst-cut limit cs Escape width c rest h shown due = cc
 IsInFirst-cut limit cs Control width c rest h shown due = cc
 IsInFirst-cut limit cs (Command last) width c rest h shown due = cc
-
-pub IsInFirst-end : (limit : ℕ) (cs : List ℕ) (s : State) (width : ℕ)
-    → IsInFirst limit cs s width [] → EndsHere limit cs width (units [])
-IsInFirst-end limit cs s width h = record { leaves = h.leaves; wide = omega (arith, h.wide) }
 
 -- ---- a character that begins at a place of a text: where other characters end, and its bytes
 

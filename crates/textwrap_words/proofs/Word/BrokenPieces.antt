@@ -3,7 +3,7 @@ use Rattle.textwrap_base.proofs.Common.{◌≡◌, ◌≢◌, ℕ, ◌≤◌, Li
 use Rattle.textwrap_base.proofs.Common.{length, take, drop, map, IsUtf8, IsCharBoundary}
 use Rattle.textwrap_base.proofs.Common.{encode_utf8_all, flat_map, sum_by, take-append-drop}
 use Rattle.textwrap_base.proofs.Common.{flat_map-append, chars-nil, chars-append, encodes-append}
-use Rattle.textwrap_base.proofs.Common.{encodes-chars, IsUtf8-take, arith, false, nat_lt, nat_tests}
+use Rattle.textwrap_base.proofs.Common.{encodes-chars, IsUtf8-take, arith, false, nat_tests}
 use Rattle.textwrap_base.proofs.Common.{◌<◌, All, nil_from_length, append-nil, append_assoc}
 use Rattle.textwrap_base.proofs.Common.{All-head, All-tail, ⊤, Bool, true, cond, subst, All-nil}
 use Rattle.textwrap_base.proofs.Common.{All-cons, lt-ltb, ltb-false, cond_both, sum_by-append}
@@ -28,15 +28,11 @@ use Rattle.textwrap_words.specs.Units.{column_characters}
 
 -- ---- the texts of the pieces of a word
 
-units_text-append : (us vs : List TextUnit) → units_text (us ++ vs) ≡ units_text us ++ units_text vs
-units_text-append us vs = ap encode_utf8_all (flat_map-append characters us vs)
-    ∙ encodes-append (flat_map characters us) (flat_map characters vs)
-
 texts-flat : (parts : List (List TextUnit))
     → flat_map (λ text. text) (map units_text parts) ≡ units_text (flat_map (λ part. part) parts)
 texts-flat [] = refl
 texts-flat (part ∷ parts) = ap (λ text. units_text part ++ text) (texts-flat parts)
-    ∙ sym (units_text-append part (flat_map (λ p. p) parts))
+    ∙ sym (grind (arith, flat_map-append, encodes-append))
 
 pub units_text-chars : (text : List ℕ) → IsUtf8 text → units_text (units (chars text)) ≡ text
 units_text-chars text utf8 = ap encode_utf8_all (units-tile (chars text)) ∙ encodes-chars text utf8
@@ -59,9 +55,6 @@ broken-first : (limit : ℕ) (us vs : List TextUnit) → us ≢ [] → left_unit
 broken-first limit [] vs some e = absurd (some refl)
 broken-first limit (u ∷ us) vs some e = parts_after-is limit 0 (u ∷ us)
     ∙ ap (λ ws. taken_units limit 0 (u ∷ us) ∷ broken_units limit ws) e
-
-pub units-some : (text : List ℕ) → IsUtf8 text → text ≢ [] → units (chars text) ≢ []
-units-some text utf8 some e = some (sym (units_text-chars text utf8) ∙ ap units_text e)
 
 -- the first piece that a reader found is the first of the pieces
 pub record IsFirstPiece (limit : ℕ) (text : List ℕ) (len width : ℕ) : Type 0 where
@@ -96,7 +89,7 @@ IsFirstPiece-found limit text len width utf8 some within rest_utf8 found =
     ∙ encodes-chars (take len text) front_utf8 in
     record {
       first = ap (map units_text)
-          (broken-first limit us rest (units-some text utf8 some) found.leaves)
+          (broken-first limit us rest (grind (arith, units_text-chars)) found.leaves)
           ∙ ap (λ t. t ∷ broken_texts limit (drop len text)) text_is;
       wide = sym found.wide ∙ sym (units_width-is part)
           ∙ ap (λ vs. sum_by columns (flat_map visible_of vs)) (sym own);
@@ -118,26 +111,6 @@ pub turn-none : (limit : ℕ) (whitespace penalty text : List ℕ) → length te
 turn-none limit whitespace penalty text none =
     ap (λ t. pieces_with whitespace penalty (broken_texts limit t)) (nil_from_length text none)
     ∙ ap (pieces_with whitespace penalty) (broken_texts-nil limit)
-
-pub turn-last : (limit : ℕ) (whitespace penalty text front back : List ℕ) (len width : ℕ)
-    → broken_texts limit text ≡ take len text ∷ broken_texts limit (drop len text)
-    → width ≡ text_width (take len text) → front ≡ take len text → back ≡ drop len text
-    → length back ≡ 0
-    → pieces_with whitespace penalty (broken_texts limit text)
-    ≡ record { word = front; whitespace = whitespace; penalty = penalty; width = width } ∷
-    pieces_with whitespace penalty (broken_texts limit back)
-turn-last limit whitespace penalty text front back len width first wide front_is back_is none =
-    cc (nil_from_length back none, broken_texts-nil limit)
-
-pub turn-more : (limit : ℕ) (whitespace penalty text front back : List ℕ) (len width : ℕ)
-    → broken_texts limit text ≡ take len text ∷ broken_texts limit (drop len text)
-    → width ≡ text_width (take len text) → front ≡ take len text → back ≡ drop len text
-    → (length back ≡ 0 → ⊥) → IsUtf8 (drop len text)
-    → pieces_with whitespace penalty (broken_texts limit text)
-    ≡ record { word = front; whitespace = []; penalty = []; width = width } ∷ pieces_with
-    whitespace penalty (broken_texts limit back)
-turn-more limit whitespace penalty text front back len width first wide front_is back_is some utf8 =
-    rw (wide, front_is, back_is) (grind (arith, pieces_with-more, broken_texts-some))
 
 pub pieces_with-texts : (whitespace penalty : List ℕ) (texts : List (List ℕ))
     → flat_map (λ w. w.word) (pieces_with whitespace penalty texts) ≡ flat_map (λ text. text) texts
@@ -178,12 +151,6 @@ tiled-broken_words limit (w ∷ words) utf8 some =
     (All-tail (λ v. limit < v.width → v.word ≢ []) w words some))
 
 -- ---- words that stay whole
-
-pub broken_words-whole : (limit : ℕ) (w : WordText) (words : List WordText) → w.width ≤ limit
-    → broken_words limit words ≡ words → broken_words limit (w ∷ words) ≡ w ∷ words
-broken_words-whole limit w words fits rest =
-    let narrow : nat_lt limit w.width ≡ false = grind (arith, nat_tests, fits) in
-    rw narrow (ap (λ ws. w ∷ ws) rest)
 
 -- ---- the texts of broken pieces
 

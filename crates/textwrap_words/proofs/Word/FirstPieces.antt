@@ -6,7 +6,7 @@ use Rattle.textwrap_base.proofs.Common.{Bool, length, get_or, arith, cases_lt, I
 use Rattle.textwrap_base.proofs.Common.{drop-drop, take-take, get_or-take, get_or-drop, true≢false}
 use Rattle.textwrap_words.proofs.Common.{trimmed_len, without_final_blanks, word_of, piece}
 use Rattle.textwrap_words.proofs.Common.{broken_word, broken_words, broken_texts, text_width}
-use Rattle.textwrap_words.proofs.Common.{pieces_with, is_blank, Splitter, is_cut}
+use Rattle.textwrap_words.proofs.Common.{is_blank, Splitter, is_cut}
 use Rattle.std.proofs.lemmas.List.{drop-take}
 use Rattle.textwrap_words.specs.PieceCuts.{parts_by, pieces_from, IsPart, AreFinalBlanks, is_point}
 use Rattle.textwrap_words.specs.PieceCuts.{is_piece_cut, IsPartWord, pieces_from_place}
@@ -17,12 +17,13 @@ use Rattle.textwrap_words.proofs.Word.BrokenPieces.{broken_texts-narrow, broken_
 use Rattle.textwrap_words.proofs.Word.Parts.{parts_by-front}
 use Rattle.textwrap_words.specs.Pieces.{IsFirstStop, is_stop, IsFirstWithin, IsFirstWord}
 use Rattle.textwrap_words.proofs.Word.Words.{text_width-nil}
-use Rattle.textwrap_words.proofs.Word.SplitParts.{broken_word-narrow, point-none, blanks-part}
+use Rattle.textwrap_words.proofs.Word.SplitParts.{point-none, blanks-part}
 use Rattle.textwrap_words.proofs.Word.SplitParts.{part-of_word, word-part}
 use Rattle.std.proofs.lemmas.Str.{IsCharBoundary-end}
 use Rattle.textwrap_words.proofs.Word.Splitting.{point-hyphen}
 use Rattle.std.proofs.Math.Bool.{or-true}
 use Rattle.std.proofs.lemmas.Bool.{or_parts}
+use Rattle.textwrap_base.proofs.Common.{le-ltb}
 
 -- ---- the pieces of a text from a place on: those of the part that begins there, and those from
 -- its end on; and where the first of them stops inside the part
@@ -126,13 +127,6 @@ module _ (test : ℕ → Bool) (text : List ℕ) where
 -- ---- the pieces of a text from a place on, where the first part of the text up to the end of a
 -- word is known
 
--- a text that is one part is one piece
-one-piece : (limit : ℕ) (word whitespace : List ℕ) → IsUtf8 word → word ≢ []
-    → broken_texts limit word ≡ word ∷ []
-    → broken_word limit (piece word whitespace []) ≡ piece word whitespace [] ∷ []
-one-piece limit word whitespace utf8 some one =
-    sym (broken_word-texts limit word whitespace utf8 some) ∙ ap (pieces_with whitespace []) one
-
 same-piece : (word whitespace : List ℕ) (width : ℕ) → width ≡ text_width word
     → piece word whitespace []
     ≡ record { word = word; whitespace = whitespace; penalty = []; width = width }
@@ -155,7 +149,7 @@ module _ (test : ℕ → Bool) (limit : ℕ) (text : List ℕ) (utf8 : IsUtf8 te
       let slice = slice_range text at at in
       let none : slice ≡ [] = slice-nil text at in
       let wide : text_width slice ≡ 0 = ap text_width none ∙ text_width-nil in
-      grind (arith, pieces-whole, broken_word-narrow, same-piece)
+      grind (arith, pieces-whole, le-ltb, same-piece)
 
   module _ (stops : ℕ → Bool) (last place width : ℕ) (r : IsFirstStop stops limit text at last place width)
       (inside : at < last) (end : ℕ) (part : IsPart test text at end)
@@ -182,7 +176,7 @@ module _ (test : ℕ → Bool) (limit : ℕ) (text : List ℕ) (utf8 : IsUtf8 te
         ∙ ap (λ ls. slice ∷ ls) (broken_texts-nil limit) in
         let own = IsUtf8-between text at place utf8 r.from start r.boundary in
         pieces-whole test text limit at place end part (subst (λ v. AreFinalBlanks text at v end) same are)
-        (one-piece limit slice (slice_range text place end) own full one)
+        (grind (arith, broken_word-texts))
         ∙ ap (λ w. w ∷ pieces_from test limit text end)
         (same-piece slice (slice_range text place end) width r.wide)
 

@@ -7,26 +7,28 @@ use Rattle.textwrap_base.proofs.Common.{append_assoc, IsCharBoundary, IsUtf8-bet
 use Rattle.textwrap_words.proofs.Common.{Visible, units, is_due, next_of, shows, broken_texts}
 use Rattle.textwrap_words.proofs.Common.{is_blank, Splitter, text_width, columns}
 use Rattle.textwrap_words.proofs.Word.Ahead.{IsInFirst, IsInFirst-start, IsInFirst-step}
-use Rattle.textwrap_words.proofs.Word.Ahead.{IsInFirst-cut, EndsHere, IsInFirst-end}
+use Rattle.textwrap_words.proofs.Word.Ahead.{IsInFirst-cut, EndsHere}
 use Rattle.textwrap_words.proofs.Word.Ahead.{character-within, starts-within, first-bytes}
 use Rattle.textwrap_words.proofs.Word.BrokenPieces.{IsFirstPiece, IsFirstPiece-found}
 use Rattle.std.specs.Prelude.{chars, encode_utf8}
 use Rattle.textwrap_words.specs.declared.escapes.State.{State}
 use Rattle.textwrap_words.specs.declared.escapes.State.TheVariants.{Text}
 use Rattle.textwrap_words.proofs.Units.Reading.{added-le, IsRead, read-ahead, read-next, read-none}
-use Rattle.textwrap_words.proofs.Units.Reading.{read-start, added, chars-push, read-at}
+use Rattle.textwrap_words.proofs.Units.Reading.{read-start, added, chars-push}
 use Rattle.textwrap_words.proofs.Units.Reading.{columns-printable, printable-no_escape}
 use Rattle.std.proofs.lemmas.Str.{IsCharBoundary-from_drop, IsCharBoundary-before_ascii}
 use Rattle.std.proofs.lemmas.Str.{encode_ascii}
 use Rattle.textwrap_base.proofs.Lists.Parts.{length-slice, slices_joined, slice_after, slice-nil}
 use Rattle.textwrap_base.proofs.Lists.Parts.{slice_before}
-use Rattle.textwrap_words.proofs.Word.Splitting.{HoldsBetween, point-boundary, point-letter}
+use Rattle.textwrap_words.proofs.Word.Splitting.{HoldsBetween}
 use Rattle.std.proofs.lemmas.Bool.{or_cases}
 use Rattle.textwrap_words.specs.PieceCuts.{is_point}
 use Rattle.textwrap_words.specs.Pieces.{is_stop, IsFirstStop, IsLetter}
 use Rattle.textwrap_words.proofs.Word.Parts.{HasEnd, end-from}
 use Rattle.textwrap_words.proofs.Word.Words.{text_width-nil}
 use Rattle.textwrap_words.proofs.Word.Breaking.{due-false}
+use Rattle.textwrap_words.proofs.Word.Splitting.{point-hyphen, after-hyphen_byte}
+use Rattle.textwrap_base.proofs.Common.{IsUtf8-drop}
 
 -- ---- the reader of the first piece
 
@@ -74,8 +76,7 @@ module _ (limit : ℕ) (text : List ℕ) where
     IsReading-end utf8 some none =
         let ended = read-none h.read none in
         found utf8 some (subst (λ cs. EndsHere limit (chars text) width (units cs)) (sym ended)
-        (IsInFirst-end limit (chars text) s width
-        (subst (IsInFirst limit (chars text) s width) ended h.inside)))
+        (grind arith))
 
 -- ---- the reader of the first piece from a place on: what it has seen of it, whatever
 -- characters follow
@@ -108,7 +109,7 @@ module _ (test : ℕ → Bool) (limit : ℕ) (text : List ℕ) (utf8 : IsUtf8 te
   scanned-step place c after state width stands h on is room =
       let end = place + length (encode_utf8 c) in
       let from = h.from in
-      let cut = (read-next (read-at text place utf8 h.boundary) c after is end refl).boundary in
+      let cut = (read-next (grind (arith, IsUtf8-drop)) c after is end refl).boundary in
       let front = slice_range text at place in
       let part : slice_range text place end ≡ encode_utf8 c = grind (arith, take_at) in
       let joined = slices_joined text at place end from (omega arith) ∙ ap (λ l. front ++ l) part in
@@ -179,7 +180,7 @@ no-stop false splitter text place other none = none
 module _ (at_blanks : Bool) (splitter : Splitter) (text : List ℕ) (utf8 : IsUtf8 text) where
   pub stops-between : HoldsBetween (is_stop at_blanks splitter text) text
   stops-between place some inside is =
-      grind (arith, IsCharBoundary-before_ascii, eqb-true, or_cases, point-boundary)
+      grind (arith, IsCharBoundary-before_ascii, eqb-true, or_cases, after-hyphen_byte, point-hyphen)
 
   module _ (limit at end : ℕ) (start : IsCharBoundary text at) (last : IsCharBoundary text end)
       (place : ℕ) (state : State) (width : ℕ)
@@ -319,5 +320,5 @@ module _ (at_blanks : Bool) (splitter : Splitter) (limit : ℕ) (text : List ℕ
         scanned = rw (end, wide) at next;
         on = λ past inside.
             let step : place + 1 ≡ at + suc n = omega arith in
-            rw (← step) (point-letter splitter text place (omega (arith, inside)) letter);
+            rw (← step) (grind (arith, cases_Bool, point-hyphen));
       }

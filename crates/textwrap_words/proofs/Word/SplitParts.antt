@@ -1,5 +1,5 @@
 -- Words that are split are the parts of the text wherever a test of places cuts it.
-use Rattle.textwrap_base.proofs.Common.{◌≡◌, false, length, filter, take_at, get_or, IsUtf8, le-ltb}
+use Rattle.textwrap_base.proofs.Common.{◌≡◌, false, length, filter, take_at, get_or, IsUtf8}
 use Rattle.textwrap_base.proofs.Common.{ℕ, true, cond, List, ◌++◌, take, drop, arith, rules, subst}
 use Rattle.textwrap_base.proofs.Common.{◌+◌, ◌-◌, ◌<◌, ◌≤◌, ◌∷◌, map, refl, sym, last, ◌||◌, ◌&&◌}
 use Rattle.textwrap_base.proofs.Common.{Bool, take-append-add, take-append-drop, get_or_append_left}
@@ -13,7 +13,6 @@ use Rattle.textwrap_words.proofs.Common.{is_blank, WordText, word_of, is_hyphen_
 use Rattle.textwrap_words.proofs.Common.{trimmed_len, without_final_blanks, final_blanks, Splitter}
 use Rattle.textwrap_words.proofs.Common.{Whole, AtHyphens, split_word, broken_word, broken_words}
 use Rattle.textwrap_words.proofs.Common.{split_words, chunks, words_of, is_cut, AreCutApart}
-use Rattle.textwrap_words.proofs.Common.{broken_pieces}
 use Rattle.textwrap_words.specs.PieceCuts.{parts_by, is_point, pieces_within, is_piece_cut}
 use Rattle.textwrap_words.specs.PieceCuts.{pieces_from_place, IsPart, AreFinalBlanks, IsPartWord}
 use Rattle.textwrap_base.proofs.Lists.Parts.{onto_front, onto_front-nil, onto_front-onto_first}
@@ -61,19 +60,21 @@ module _ (w : WordText) (at : ℕ) (point : ℕ → Bool) (none : w.penalty ≡ 
   split-at rest before x b c place true splits is here cut =
       let part = x ++ b ∷ [] in
       let front = before ++ part in
+      let part_len = length_push x b in
       let front_len : length front ≡ place =
-      omega (arith, length-append before part, length_push x b, here) in
+      omega (arith, length-append before part, part_len, here) in
       let seen : w.word ≡ front ++ c ∷ rest =
       is ∙ ap (λ l. before ++ l) (sym (append_assoc x (b ∷ []) (c ∷ rest)))
       ∙ sym (append_assoc before part (c ∷ rest)) in
       let many : place - length before ≡ length x + 1 = omega (arith, here) in
       let slice : slice_range w.word (length before) place ≡ part =
       grind (arith, drop_at, take-append-add) in
+      let hyphened = hyphen-before-point w.word place cut in
       let byte : b ≡ 45 = cc (
         last-push (before ++ x) b,
         append_assoc before x (b ∷ []),
         take_at front (c ∷ rest) place front_len,
-        eqb-true (last (take place w.word)) 45 (hyphen-before-point w.word place cut),
+        eqb-true (last (take place w.word)) 45 hyphened,
       ) in
       let other : is_blank b ≡ false = ap is_blank byte in
       let start : length front + 0 + 1 ≡ place + 1 = omega (arith, front_len) in
@@ -82,8 +83,9 @@ module _ (w : WordText) (at : ℕ) (point : ℕ → Bool) (none : w.penalty ≡ 
       let next = splits front [] c seen in
       grind (arith, onto_front-nil, parts_by-some, word_of-seam)
   split-at rest before x b c place false splits is here cut =
+      let part = x ++ b ∷ [] in
       let part_len = length_push x b in
-      let seen : w.word ≡ before ++ ((x ++ b ∷ []) ++ c ∷ rest) =
+      let seen : w.word ≡ before ++ (part ++ c ∷ rest) =
       is ∙ ap (λ l. before ++ l) (sym (append_assoc x (b ∷ []) (c ∷ rest))) in
       search (rules, onto_front-onto_first)
 
@@ -261,8 +263,9 @@ module _ (splitter : Splitter) (text : List ℕ) where
       ≡ map word_of (parts_within (is_point splitter text) (length before) qs)
   split-all [] before is utf8 plain all some apart = refl
   split-all (q ∷ qs) before is utf8 plain all some apart =
+      let q_utf8 = All-head IsUtf8 q qs all in
       let q_some = some_from_nonempty q (All-head (λ q. q ≢ []) q qs some) in
-      let both = IsUtf8-append before q utf8 (All-head IsUtf8 q qs all) in
+      let both = IsUtf8-append before q utf8 q_utf8 in
       let others = split-all qs (before ++ q) (is ∙ sym (append_assoc before q (flat qs))) both
       (λ more. ends-plain before q both q_some (chunk-blank q qs apart more))
       (All-tail IsUtf8 q qs all) (All-tail (λ q. q ≢ []) q qs some) (AreCutApart-tail q qs apart) in
@@ -357,8 +360,3 @@ module _ (splitter : Splitter) (text : List ℕ) where
         → pieces_from_place splitter limit text 0
         ≡ broken_words limit (split_words splitter (words_of text))
     pieces-start utf8 = ap (broken_words limit) (sym (split_words-parts splitter text utf8))
-
--- a word within the limit is one piece
-pub broken_word-narrow : (limit : ℕ) (w : WordText) → w.width ≤ limit → broken_word limit w ≡ w ∷ []
-broken_word-narrow limit w within =
-    ap (λ b. cond b (broken_pieces limit w) (w ∷ [])) (le-ltb limit w.width within)

@@ -1,12 +1,12 @@
 -- The points at which words are split: characters end there, and those of a word are those of the
 -- text that it stands in.
 use Rattle.textwrap_base.proofs.Common.{◌≡◌, List, ◌++◌, refl, take, drop, ◌==◌, ◌||◌, Bool, ◌&&◌}
-use Rattle.textwrap_base.proofs.Common.{ℕ, ◌+◌, ◌-◌, ◌<◌, ◌≤◌, [], ◌∷◌, sym, ap, ◌∙◌, All, inl, inr}
+use Rattle.textwrap_base.proofs.Common.{ℕ, ◌+◌, ◌-◌, ◌<◌, ◌≤◌, [], ◌∷◌, sym, ap, ◌∙◌, All}
 use Rattle.textwrap_base.proofs.Common.{true, false, subst, arith, length, get_or, filter, IsUtf8}
 use Rattle.textwrap_base.proofs.Common.{reverse, length-take, get_or-take, IsUtf8-take, IsUtf8-drop}
 use Rattle.textwrap_base.proofs.Common.{IsCharBoundary, false≢true, reverse-append, encode_utf8_all}
 use Rattle.textwrap_base.proofs.Common.{list_any, nil_from_length, chars_past_char, take-append-add}
-use Rattle.textwrap_base.proofs.Common.{and_parts, append-nil, chars-nil, cases_Bool, length_push}
+use Rattle.textwrap_base.proofs.Common.{and_parts, append-nil, chars-nil, length_push}
 use Rattle.textwrap_base.proofs.Common.{take-append-drop, IsCharBoundary-after_ascii, length-append}
 use Rattle.textwrap_base.proofs.Common.{take_at, drop_at, All-head, and_right, eqb-true, drop_more}
 use Rattle.textwrap_base.proofs.Common.{chars-append, append_assoc, length-take-le, encodes-chars}
@@ -21,7 +21,6 @@ use Rattle.textwrap_words.specs.WordSplitters.{is_alphanumeric, begins_alphanume
 use Rattle.textwrap_base.proofs.Texts.{before-last, ascii_seam}
 use Rattle.textwrap_base.proofs.Lists.Elements.{range-within, range-in_order}
 use Rattle.textwrap_words.specs.PieceCuts.{is_point}
-use Rattle.textwrap_words.specs.Pieces.{IsLetter}
 use Rattle.unicode.proofs.CategoryComputing.{ucd_category}
 use Rattle.unicode.proofs.DerivedComputing.{ucd_derived}
 use Rattle.textwrap_base.proofs.Lists.Parts.{last-push}
@@ -123,22 +122,6 @@ point-hyphen AtHyphens text place some inside is =
 abbrev pub HoldsBetween : (ℕ → Bool) → List ℕ → Type 0
 HoldsBetween test text = (place : ℕ) → 0 < place → place < length text → test place ≡ true
     → IsCharBoundary text place
-
-module _ (splitter : Splitter) (text : List ℕ) where
-  pub point-letter : (place : ℕ) → place + 1 < length text → IsLetter (get_or text place 0)
-      → is_point splitter text (place + 1) ≡ false
-  point-letter place inside letter = elim (cases_Bool (is_point splitter text (place + 1))) [
-    | inr none ↦ none
-    | inl is ↦
-        let byte = point-hyphen splitter text (place + 1) (omega arith) inside is in
-        let same : place + 1 - 1 ≡ place = omega arith in
-        absurd (letter.not_hyphen (ap (λ k. get_or text k 0) (sym same) ∙ byte))
-  ]
-
-module _ (splitter : Splitter) (text : List ℕ) (utf8 : IsUtf8 text) where
-  pub point-boundary : HoldsBetween (is_point splitter text) text
-  point-boundary place some inside is = after-hyphen_byte text place utf8 some inside
-      (point-hyphen splitter text place some inside is)
 
 -- ---- blanks are not alphanumeric
 

@@ -1,16 +1,15 @@
 use Rattle.textwrap_words.proofs.words.breaking.stay_whole.Goals as goal
 use Rattle.textwrap_base.proofs.Common.{◌≡◌, ℕ, ◌+◌, ◌<◌, ◌≤◌, List, arith, drop, drop_all}
-use Rattle.textwrap_base.proofs.Common.{drop_more, get_or, length, map, refl}
+use Rattle.textwrap_base.proofs.Common.{drop_more, get_or, length, map, nat_tests, refl}
 use Rattle.textwrap_words.proofs.Common.{broken_words, word_view}
 use Rattle.textwrap_words.specs.declared.words.Word.{Word}
-use Rattle.textwrap_words.proofs.Word.BrokenPieces.{broken_words-whole}
 
 one-more : (limit : ℕ) (words : List Word) (i : ℕ) (d : Word) → i < length words
     → (get_or words i d).width ≤ limit
     → broken_words limit (map word_view (drop (i + 1) words)) ≡ map word_view (drop (i + 1) words)
     → broken_words limit (map word_view (drop i words)) ≡ map word_view (drop i words)
 one-more limit words i d inside fits later =
-    rw (drop_more words i d inside) (broken_words-whole limit _ _ fits later)
+    rw (drop_more words i d inside) (grind (arith, nat_tests))
 
 pub loop-word-init : goal.loop-word-init
 loop-word-init c = λ all. all

@@ -1,6 +1,8 @@
 use Rattle.textwrap_words.proofs.words.breaking.BreakApartIterator.next.Goals as goal
-use Rattle.textwrap_base.proofs.Common.{sym, eqb-true, eqb-false}
-use Rattle.textwrap_words.proofs.Word.BrokenPieces.{turn-none, turn-last, turn-more}
+use Rattle.textwrap_base.proofs.Common.{sym, eqb-true, nil_from_length, arith}
+use Rattle.textwrap_words.proofs.Word.BrokenPieces.{turn-none}
+use Rattle.textwrap_words.proofs.Word.BrokenPieces.{broken_texts-nil, pieces_with-more}
+use Rattle.textwrap_words.proofs.Word.BrokenPieces.{broken_texts-some}
 
 pub returns-then-is_empty-clause-steps : goal.returns-then-is_empty-clause-steps
 returns-then-is_empty-clause-steps c =
@@ -11,15 +13,8 @@ returns-then-is_empty-clause-steps c =
 
 pub returns-then-is_empty-2-clause-steps : goal.returns-then-is_empty-2-clause-steps
 returns-then-is_empty-2-clause-steps c =
-    let s = c.args.self.now in
-    turn-last s.line_width s.rest.whitespace.now s.rest.penalty.now s.rest.word.now _ _ _ _
-    c.first_piece-len.ensures.first c.first_piece-len.ensures.width c.split_at.ensures.front
-    c.split_at.ensures.back (eqb-true _ 0 (sym c.if-is_empty-2.ensures))
+    let none = nil_from_length _ (eqb-true _ 0 (sym c.if-is_empty-2.ensures)) in
+    grind (arith, none, broken_texts-nil c.args.self.now.line_width)
 
 pub returns-clause-steps : goal.returns-clause-steps
-returns-clause-steps c =
-    let s = c.args.self.now in
-    turn-more s.line_width s.rest.whitespace.now s.rest.penalty.now s.rest.word.now _ _ _ _
-    c.first_piece-len.ensures.first c.first_piece-len.ensures.width c.split_at.ensures.front
-    c.split_at.ensures.back (eqb-false _ 0 (sym c.if-is_empty-2.ensures))
-    c.first_piece-len.ensures.rest
+returns-clause-steps c = grind (arith, pieces_with-more, broken_texts-some)

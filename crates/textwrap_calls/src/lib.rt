@@ -4,7 +4,8 @@
 //! those of [`status`]. What it gives is written into room that the caller lends, and nothing that was
 //! allocated is left behind. Room that is too small holds the beginning of a text or a list; lines that
 //! come with their texts are not written then. A call that answers neither `DONE` nor `TOO_SMALL`
-//! leaves the room as it was. `textwrap_c` exports each call under its name.
+//! leaves the room as it was. A call whose name ends in `_utf8` does what the call without that does, but
+//! its texts have to be UTF-8, and are not tested. `textwrap_c` exports each call under its name.
 #![tactic(auto)]
 
 pub mod bounds;

@@ -26,7 +26,7 @@ pub(super) fn assert_texts(rt: &(impl Abort + AllocGlobal), rows: &[TextRow]) {
 }
 
 /// Asserts of each row that shorter room holds the beginning of what the row's room holds.
-fn assert_beginnings(rt: &(impl Abort + AllocGlobal), rows: &[TextRow]) {
+pub(super) fn assert_beginnings(rt: &(impl Abort + AllocGlobal), rows: &[TextRow]) {
     for (row, &(call, text, _status, len, expected)) in rows.iter().enumerate() {
         for has in 0..len.min(expected.len()).min(MOST) {
             let mut room = [BLANK; MOST];

@@ -22,6 +22,7 @@ PROVED(refill);
 PROVED(refill_utf8);
 PROVED(unfill);
 PROVED(unfill_utf8);
+PROVED(reflow);
 PROVED(indent);
 PROVED(indent_utf8);
 PROVED(dedent);
@@ -76,6 +77,14 @@ static textwrap_options some_options(const textwrap_options *options) {
     textwrap_options some = *options;
     some.initial_indent = some_text(options->initial_indent);
     some.subsequent_indent = some_text(options->subsequent_indent);
+    return some;
+}
+
+/* The options, with lists that are not null. */
+static textwrap_reflow_options some_reflow_options(const textwrap_reflow_options *options) {
+    textwrap_reflow_options some = *options;
+    if (some.markers_len == 0) some.markers = &nothing.text;
+    if (some.prefixes_len == 0) some.prefixes = &nothing.text;
     return some;
 }
 
@@ -199,6 +208,13 @@ textwrap_status textwrap_unfill(const uint8_t *text, size_t text_len, uint8_t *r
 textwrap_status textwrap_unfill_utf8(const uint8_t *text, size_t text_len, uint8_t *room,
                                      size_t room_len, size_t *len, textwrap_layout *layout) {
     return proved_unfill_utf8(ARRAY(text, text_len), ARRAY(room, room_len), len, layout);
+}
+
+textwrap_status textwrap_reflow(const uint8_t *text, size_t text_len,
+                                const textwrap_reflow_options *options, uint8_t *room,
+                                size_t room_len, size_t *len) {
+    textwrap_reflow_options some = some_reflow_options(options);
+    return proved_reflow(ARRAY(text, text_len), &some, ARRAY(room, room_len), len);
 }
 
 textwrap_status textwrap_indent(const uint8_t *text, size_t text_len, const uint8_t *prefix,

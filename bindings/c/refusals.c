@@ -171,6 +171,16 @@ static textwrap_status filled_justified(struct lent *lent) {
     return textwrap_fill_justified(bytes(TEXT), strlen(TEXT), &o, lent->room, 256, &lent->len);
 }
 
+static textwrap_status reflowed(struct lent *lent) {
+    textwrap_reflow_options o = textwrap_reflow_options_new(16);
+    const textwrap_text marks[1] = {text_of("!")};
+    o.justify = 1;
+    o.markers = o.prefixes = marks;
+    o.markers_len = o.prefixes_len = 1;
+    return textwrap_reflow(bytes("! one two three four five\n! six\n\nseven\n"), 39, &o, lent->room,
+                           256, &lent->len);
+}
+
 static textwrap_status shortened(struct lent *lent) {
     return textwrap_shorten(bytes("Hello world"), 11, 10, bytes("..."), 3, lent->room, 256,
                             &lent->len);
@@ -425,6 +435,7 @@ static const struct call CALLS[] = {
     {"align", aligned},
     {"justify", justified},
     {"fill_justified", filled_justified},
+    {"reflow", reflowed},
     {"shorten", shortened},
     {"shorten_lines", lines_shortened},
     {"carry_styles", styles_carried},

@@ -419,6 +419,73 @@ static void texts_are_filled_and_justified(void) {
     CHECK(is_text(room, len, "- - foo   ba\r\n  qu\r\n  a        b\r\n  foobar"));
 }
 
+/* A mail: a quote behind its mark, text, and a signature, which stays. */
+static const char MAIL[] = "> one two three four\n> five\nsix seven eight nine ten\n\n-- \nA. B.\n";
+
+/* Whether the text, reflowed by these options, is this. */
+static int is_reflowed(textwrap_reflow_options options, const char *text, const char *reflowed) {
+    uint8_t room[256];
+    size_t len = 0;
+    textwrap_status status =
+        textwrap_reflow(bytes(text), strlen(text), &options, room, sizeof room, &len);
+    return status == TEXTWRAP_DONE && is_text(room, len, reflowed);
+}
+
+static void texts_with_marks_are_reflowed(void) {
+    const textwrap_text marks[2] = {text_of("!"), text_of("dnl")};
+    textwrap_reflow_options o = textwrap_reflow_options_new(16);
+    CHECK(is_reflowed(o, MAIL, "> one two three\n> four five\nsix seven eight\nnine ten\n\n-- \nA. B.\n"));
+    o.justify = 1;
+    CHECK(is_reflowed(o, "> one two six ten red blue\n", "> one   two  six\n> ten red blue\n"));
+    o = textwrap_reflow_options_new(12);
+    o.optimal_fit = 1;
+    CHECK(is_reflowed(o, "To be, or not to be: that is\n", "To be, or\nnot to be:\nthat is\n"));
+    o = textwrap_reflow_options_new(16);
+    o.ending = 2;
+    CHECK(is_reflowed(o, "one two three four\n==\n", "one two three\r\nfour\r\n==\r\n"));
+    o = textwrap_reflow_options_new(16);
+    o.markdown = 1;
+    CHECK(is_reflowed(o, "# One two three four\n", "# One two three four\n"));
+    o = textwrap_reflow_options_new(16);
+    o.bare = 1;
+    CHECK(is_reflowed(o, "/* one two three four */\n", "/* one two three\n   four */\n"));
+    o = textwrap_reflow_options_new(16);
+    o.indented = 1;
+    CHECK(is_reflowed(o, "one\n\n    two three four five\n", "one\n\n    two three\n    four five\n"));
+    o = textwrap_reflow_options_new(16);
+    o.markers = marks;
+    o.markers_len = 2;
+    CHECK(is_reflowed(o, "dnl one two three four\n", "dnl one two\ndnl three four\n"));
+    o.prefixes = marks;
+    o.prefixes_len = 1;
+    CHECK(is_reflowed(o, "dnl one two three four\n! one two three four\n",
+                      "dnl one two three four\n! one two three\n! four\n"));
+}
+
+static void reflowing_is_refused(void) {
+    const textwrap_text wrong = text_of("\xff");
+    textwrap_reflow_options refused[8];
+    uint8_t room[16] = "...";
+    size_t len = 7;
+    for (int i = 0; i < 8; i++) refused[i] = textwrap_reflow_options_new(16);
+    refused[0].version = 2;
+    refused[1].ending = 3;
+    refused[2].justify = 2;
+    refused[3].reserved = 1;
+    refused[4].reserved_sizes[3] = 1;
+    for (int i = 0; i < 5; i++)
+        CHECK(textwrap_reflow(wrong.at, 1, &refused[i], room, sizeof room, &len)
+              == TEXTWRAP_UNKNOWN_OPTIONS);
+    refused[5].markers = refused[6].prefixes = &wrong;
+    refused[5].markers_len = refused[6].prefixes_len = 1;
+    for (int i = 5; i < 7; i++)
+        CHECK(textwrap_reflow(bytes("a"), 1, &refused[i], room, sizeof room, &len) == TEXTWRAP_NOT_UTF8);
+    CHECK(textwrap_reflow(wrong.at, 1, &refused[7], room, sizeof room, &len) == TEXTWRAP_NOT_UTF8);
+    CHECK(len == 7 && memcmp(room, "...", 4) == 0);
+    CHECK(textwrap_reflow(bytes(MAIL), strlen(MAIL), &refused[7], room, 2, &len) == TEXTWRAP_TOO_SMALL);
+    CHECK(len == strlen(MAIL) && memcmp(room, "> .", 4) == 0);
+}
+
 static void lines_are_shortened(void) {
     uint8_t room[16] = "...";
     size_t len = 7;
@@ -1179,6 +1246,9 @@ static void a_pointer_to_nothing_may_be_null(void) {
     CHECK(textwrap_align(NULL, 0, 3, TEXTWRAP_LEFT, room, 10, &len) == TEXTWRAP_DONE && len == 3);
     CHECK(textwrap_justify(NULL, 0, 3, NULL, 0, &len) == TEXTWRAP_DONE && len == 0);
     CHECK(textwrap_fill_justified(NULL, 0, &o, NULL, 0, &len) == TEXTWRAP_DONE && len == 0);
+    textwrap_reflow_options reflowed = textwrap_reflow_options_new(10);
+    reflowed.markers = reflowed.prefixes = NULL;
+    CHECK(textwrap_reflow(NULL, 0, &reflowed, NULL, 0, &len) == TEXTWRAP_DONE && len == 0);
     CHECK(textwrap_shorten(NULL, 0, 3, NULL, 0, NULL, 0, &len) == TEXTWRAP_DONE && len == 0);
     CHECK(textwrap_shorten(bytes("foo"), 3, 2, NULL, 0, NULL, 0, &len) == TEXTWRAP_DONE);
     CHECK(len == 0);
@@ -1232,6 +1302,8 @@ int main(void) {
     lines_are_aligned();
     lines_are_justified();
     texts_are_filled_and_justified();
+    texts_with_marks_are_reflowed();
+    reflowing_is_refused();
     lines_are_shortened();
     lists_of_lines_are_shortened();
     styles_are_carried();

@@ -40,7 +40,8 @@
  * A text is a pointer and a length in bytes. A pointer is aligned as its type asks, and is not null, but
  * for that of an array of length 0. (null.c sees to these. A program that links the library without it
  * hands in no null pointer.) Within an array no pointer is null, even that of a text without a byte: not
- * in a list of texts or of cells, and not in the indents of a table's columns.
+ * in a list of texts or of cells, nor in the lists of options, and not in the indents of a table's
+ * columns.
  * What a call gives is written into room that the caller hands in and owns; the library keeps no
  * pointer and leaves nothing allocated behind. The room may be uninitialised. It overlaps nothing
  * else that is handed to the same call, and `count` and `len` are two places. If the room is too small,
@@ -273,6 +274,66 @@ textwrap_status textwrap_indent(const uint8_t *text, size_t text_len, const uint
 /* Writes the text without the whitespace that all its lines begin with. Allocates nothing. */
 TEXTWRAP_CHECKED
 textwrap_status textwrap_dedent(const uint8_t *text, size_t text_len, uint8_t *room,
+                                size_t room_len, size_t *len);
+
+/* How a text of many paragraphs is laid out again. Take it from textwrap_reflow_options_new and change
+ * what has to differ, so that later options have their defaults. A number that says yes or no is 1 or
+ * 0. */
+typedef struct {
+    uint32_t version;              /* TEXTWRAP_VERSION */
+    uint32_t optimal_fit;          /* lines of the least cost, in place of first fit */
+    uint32_t ending;               /* all lines end in LF (1) or CRLF (2); by 0 as the text has it */
+    uint32_t markdown;             /* the text has no comments, and # is a heading */
+    uint32_t bare;                 /* the later lines of block comments stand behind blanks, not * */
+    uint32_t indented;             /* text is filled that is deeper than the text before it */
+    uint32_t justify;              /* lines but the last of a paragraph are justified */
+    uint32_t reserved;             /* 0 */
+    size_t width;                  /* the columns of a line, with its prefix */
+    const textwrap_text *markers;  /* further words that mark a comment */
+    size_t markers_len;            /* how many */
+    const textwrap_text *prefixes; /* only behind marks that begin with one of these text is filled; with
+                                    * none all is */
+    size_t prefixes_len;           /* how many */
+    /* The penalties, for lines of the least cost. */
+    size_t nline_penalty;            /* for each line */
+    size_t overflow_penalty;         /* for each column past the width */
+    size_t short_last_line_fraction; /* a last piece narrower than width / this is short */
+    size_t short_last_line_penalty;  /* for a short last line of one piece */
+    size_t hyphen_penalty;           /* for a line that ends in an added hyphen; here none does */
+    size_t reserved_sizes[4];        /* 0 */
+} textwrap_reflow_options;
+
+/* The defaults at a width: first fit, endings as the text has them, and nothing declared. */
+static inline textwrap_reflow_options textwrap_reflow_options_new(size_t width) {
+    static const textwrap_text none[1] = {{NULL, 0}};
+    textwrap_reflow_options options;
+    memset(&options, 0, sizeof options);
+    options.version = TEXTWRAP_VERSION;
+    options.width = width;
+    options.markers = none;
+    options.prefixes = none;
+    options.nline_penalty = 1000;
+    options.overflow_penalty = 2500;
+    options.short_last_line_fraction = 4;
+    options.short_last_line_penalty = 25;
+    options.hyphen_penalty = 25;
+    return options;
+}
+
+/* Fills the paragraphs of a text again, behind the marks that stand before their words: those of
+ * comments and quotes, and bullets. What a reader takes as it stands stays so, such as code, tables,
+ * headings and signatures. So a mail is filled, with the texts that it quotes:
+ *
+ *     static const uint8_t mail[] = "> one two three four\n> five\nsix seven eight nine ten\n";
+ *     const textwrap_reflow_options options = textwrap_reflow_options_new(16);
+ *     uint8_t room[80];
+ *     size_t len;
+ *     if (textwrap_reflow(mail, sizeof mail - 1, &options, room, sizeof room, &len)) return 1;
+ *     // "> one two three\n> four five\nsix seven eight\nnine ten\n"
+ */
+TEXTWRAP_CHECKED
+textwrap_status textwrap_reflow(const uint8_t *text, size_t text_len,
+                                const textwrap_reflow_options *options, uint8_t *room,
                                 size_t room_len, size_t *len);
 
 /* Fills a text in its own place: blanks of it become line feeds. It does so by first fit, keeps words

@@ -12,7 +12,8 @@
 //! ```
 use crate::display::Gaps;
 use crate::out_of_memory::BeforeCall;
-use crate::room::{lines_by, text_by, written};
+use crate::reflow::ReflowOptions;
+use crate::room::{lines_by, text_by, texts_of, written};
 use crate::{custom, guess, sys};
 use crate::{LineEnding, Options};
 use alloc::borrow::Cow;
@@ -62,6 +63,21 @@ where
         Ok(with) => text_by!(guess, textwrap_refill_utf8(filled_text; &with)),
         Err(options) => custom::refilled(filled_text, options),
     }
+}
+
+/// [`crate::reflow::reflow`].
+///
+/// # Errors
+/// [`OutOfMemory`] if memory runs out.
+pub fn reflow<'a, Opt>(text: &str, width_or_options: Opt) -> Result<String, OutOfMemory>
+where
+    Opt: Into<ReflowOptions<'a>>,
+{
+    let options = width_or_options.into();
+    let (markers, prefixes) = (texts_of(options.markers)?, texts_of(options.prefixes)?);
+    let with = options.to_sys(&markers, &prefixes);
+    // The prefixes of the text may be shown more often than in it.
+    text_by!(text.len() + text.len() / 4, textwrap_reflow(text; &with))
 }
 
 /// [`crate::indent`].

@@ -67,6 +67,16 @@
 //! assert_eq!(shorten("foo bar baz", 10, " .."), "foo bar ..");
 //! ```
 //!
+//! # Texts with marks
+//!
+//! The module [`reflow`] fills texts of many paragraphs behind the marks of quotes, comments and lists:
+//!
+//! ```
+//! use textwrap_proved::reflow::reflow;
+//!
+//! assert_eq!(reflow("> one two three four\n> five\n", 16), "> one two three\n> four five\n");
+//! ```
+//!
 //! # Differences from `textwrap`
 //!
 //! - Unicode line breaks are those of UAX #14 at Unicode 15.0, from which the original departs in
@@ -76,7 +86,7 @@
 //! - What a `Custom` function gives is checked, and a wrong answer panics with a message that says
 //!   [what is wrong](Options#functions-of-the-caller).
 //! - Of divisions that cost the same, the one whose lines start earliest is taken.
-//! - [`Options::even_paragraphs`] and the modules [`display`] and [`fallible`] are new.
+//! - [`Options::even_paragraphs`] and the modules [`display`], [`reflow`] and [`fallible`] are new.
 //! - Both algorithms and both separators are there without the features `smawk` and
 //!   `unicode-linebreak` too, so a `match` has an arm for each.
 //!
@@ -133,6 +143,7 @@ mod library;
 mod line_ending;
 mod options;
 mod out_of_memory;
+pub mod reflow;
 mod room;
 mod sys;
 #[cfg(feature = "terminal_size")]

@@ -47,6 +47,29 @@ pub struct Options {
 }
 
 #[repr(C)]
+pub struct ReflowOptions {
+    pub version: u32,
+    pub optimal_fit: u32,
+    pub ending: u32,
+    pub markdown: u32,
+    pub bare: u32,
+    pub indented: u32,
+    pub justify: u32,
+    pub reserved: u32,
+    pub width: usize,
+    pub markers: *const Text,
+    pub markers_len: usize,
+    pub prefixes: *const Text,
+    pub prefixes_len: usize,
+    pub nline_penalty: usize,
+    pub overflow_penalty: usize,
+    pub short_last_line_fraction: usize,
+    pub short_last_line_penalty: usize,
+    pub hyphen_penalty: usize,
+    pub reserved_sizes: [usize; 4],
+}
+
+#[repr(C)]
 #[derive(Clone, Copy)]
 pub struct Line {
     pub offset: usize,
@@ -237,6 +260,15 @@ extern "C" {
         room_len: usize,
         len: *mut usize,
         layout: *mut Layout,
+    ) -> u32;
+
+    pub fn textwrap_reflow(
+        text: *const u8,
+        text_len: usize,
+        options: *const ReflowOptions,
+        room: *mut u8,
+        room_len: usize,
+        len: *mut usize,
     ) -> u32;
 
     pub fn textwrap_indent_utf8(

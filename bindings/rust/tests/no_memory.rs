@@ -6,6 +6,7 @@ use std::cell::Cell;
 use std::fmt::Debug;
 use std::ptr::null_mut;
 use textwrap_proved::display::{self, Alignment, Column, Gaps};
+use textwrap_proved::reflow::ReflowOptions;
 use textwrap_proved::{fallible, Options, OutOfMemory, WordSeparator, WordSplitter};
 
 /// The heap of the system, but that it refuses an allocation where it is told to.
@@ -90,6 +91,9 @@ fn calls_on_texts() {
         refuse_each("wrap_columns", || fallible::wrap_columns(TEXT, 2, &options, "[", "│", "]"));
     }
     refuse_each("unfill", || fallible::unfill("> foo\n> bar\n").map(|(text, _)| text));
+    let quote = "! foo bar\n! baz\n\n> foo\n";
+    let options = ReflowOptions::new(8).markers(&["!"]).prefixes(&["!", ">"]).justify(true);
+    refuse_each("reflow", || fallible::reflow(quote, options));
     refuse_each("indent", || fallible::indent("foo\nbar", "> "));
     refuse_each("dedent", || fallible::dedent("  foo\n  bar"));
 }

@@ -16,6 +16,7 @@ pub mod line_lists;
 pub mod paragraphs;
 pub mod pieces;
 pub mod refilling;
+pub mod reflowing;
 pub mod steps;
 pub mod tables;
 pub mod text_steps;

@@ -9,6 +9,7 @@ pub mod Paragraphs
 pub mod Pieces
 pub mod Printable
 pub mod Refilling
+pub mod Reflowing
 pub mod Room
 pub mod Status
 pub mod Texts

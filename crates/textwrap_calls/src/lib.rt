@@ -23,6 +23,7 @@ pub mod paragraphs;
 pub mod pieces;
 mod printable;
 pub mod refilling;
+pub mod reflowing;
 mod reported;
 mod room;
 pub mod status;

@@ -10,6 +10,7 @@ mod lines;
 mod pieces;
 mod places;
 mod plain;
+mod reflowed;
 mod steps;
 mod text_steps;
 mod texts;

@@ -4,8 +4,8 @@ use super::alone::told_width;
 use super::known::told_known_width;
 use super::places::{NO_PLACE, PiecePlace, is_piece};
 use super::plain::{
-    AT_80, BARS, BEFORE, DEFAULTS, LinesCall, NO_GAPS, NO_PIECE, NOWHERE, PiecesCall, TextCall,
-    assert_holds, assert_told, write_lines, write_pieces, write_text,
+    AT_80, BARS, BEFORE, DEFAULTS, LinesCall, NO_GAPS, NO_PIECE, NOWHERE, PiecesCall, REFLOWED,
+    TextCall, assert_holds, assert_told, write_lines, write_pieces, write_text,
 };
 use std::alloc::{AllocError, Global};
 use std::process::Abort;
@@ -13,6 +13,7 @@ use textwrap_calls::columns::TextwrapGaps;
 use textwrap_calls::filling::textwrap_fill_inplace;
 use textwrap_calls::options::TextwrapOptions;
 use textwrap_calls::pieces::TextwrapPiece;
+use textwrap_calls::reflowing::TextwrapReflowOptions;
 use textwrap_calls::status::{DONE, TOO_SMALL};
 
 /// A line of the text.
@@ -116,6 +117,16 @@ const TEXTS: &[TextRow] = &[
         LINE,
         LINES,
         LEN + LINES,
+    ),
+    // One paragraph.
+    (
+        TextCall::Reflow(TextwrapReflowOptions {
+            width: 80,
+            ..REFLOWED
+        }),
+        LINE,
+        LINES,
+        LEN,
     ),
     // The text as one line, in which a line feed takes no columns.
     (

@@ -21,6 +21,7 @@ use textwrap_calls::pieces::{
     textwrap_split_points,
 };
 use textwrap_calls::refilling::{TextwrapLayout, textwrap_refill, textwrap_unfill};
+use textwrap_calls::reflowing::{TextwrapReflowOptions, textwrap_reflow};
 use textwrap_calls::steps::{
     TextwrapSteps, textwrap_ends_at, textwrap_lines_at, textwrap_pieces_at,
 };
@@ -45,6 +46,27 @@ pub(super) const DEFAULTS: TextwrapOptions<'_> = TextwrapOptions {
     width: 10,
     initial_indent: b"",
     subsequent_indent: b"",
+    nline_penalty: 1000,
+    overflow_penalty: 2500,
+    short_last_line_fraction: 4,
+    short_last_line_penalty: 25,
+    hyphen_penalty: 25,
+    reserved_sizes: [0; 4],
+};
+
+/// First fit at 16 columns with nothing declared, for texts with marks.
+pub(super) const REFLOWED: TextwrapReflowOptions<'_> = TextwrapReflowOptions {
+    version: VERSION,
+    optimal_fit: 0,
+    ending: 0,
+    markdown: 0,
+    bare: 0,
+    indented: 0,
+    justify: 0,
+    reserved: 0,
+    width: 16,
+    markers: &[],
+    prefixes: &[],
     nline_penalty: 1000,
     overflow_penalty: 2500,
     short_last_line_fraction: 4,
@@ -156,6 +178,7 @@ pub(super) enum TextCall<'a> {
     },
     Justify(usize),
     FillJustified(TextwrapOptions<'a>),
+    Reflow(TextwrapReflowOptions<'a>),
     Shorten {
         width: usize,
         placeholder: &'a [u8],
@@ -199,6 +222,7 @@ pub(super) fn write_text(
         TextCall::FillJustified(options) => {
             textwrap_fill_justified(alloc, text, &options, room, len)
         }
+        TextCall::Reflow(options) => textwrap_reflow(alloc, text, &options, room, len),
         TextCall::Shorten { width, placeholder } => {
             textwrap_shorten(alloc, text, width, placeholder, room, len)
         }

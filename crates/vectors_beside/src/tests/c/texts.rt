@@ -28,7 +28,7 @@ pub(super) fn assert_texts(rt: &(impl Abort + AllocGlobal), rows: &[TextRow]) {
 }
 
 /// Asserts of each row that shorter room holds the beginning of what the row's room holds.
-fn assert_beginnings(rt: &(impl Abort + AllocGlobal), rows: &[TextRow]) {
+pub(super) fn assert_beginnings(rt: &(impl Abort + AllocGlobal), rows: &[TextRow]) {
     for is_known in [false, true] {
         assert_beginnings_where(rt, is_known, rows);
     }

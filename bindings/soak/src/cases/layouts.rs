@@ -21,39 +21,39 @@ pub struct Layout {
     pub algorithm: Algorithm,
     /// What stands between two lines of the new text.
     pub line_ending: LineEnding,
-    /// Whether code stays as it is.
-    pub keeps_code: bool,
-    /// What the prefix of a paragraph has to begin with for it to be filled.
+    /// Whether text that is indented deeper is filled too.
+    pub indented: bool,
+    /// What the marks of a paragraph have to begin with for it to be filled.
     pub prefix: &'static str,
 }
 
 impl Layout {
-    /// Lines of so many columns, of least cost and ended by LF. All paragraphs are filled, code
-    /// too.
+    /// Lines of so many columns, of least cost and ended by LF. All paragraphs are filled but the
+    /// deeper ones.
     pub fn new(width: usize) -> Self {
         Layout {
             width,
             algorithm: Algorithm::LeastCost,
             line_ending: LineEnding::LF,
-            keeps_code: false,
+            indented: false,
             prefix: "",
         }
     }
 
-    /// Random options, by which code may stay as it is, and all that is no quote.
+    /// Random options, by which deeper text may be filled, and all that is no quote may stay.
     fn random(random: &mut Random) -> Self {
         Layout {
             width: random_width(random),
             algorithm: random.pick(&[Algorithm::FirstFit, Algorithm::LeastCost]),
             line_ending: random.pick(&[LineEnding::LF, LineEnding::CRLF]),
-            keeps_code: random.is_one_in(2),
+            indented: random.is_one_in(2),
             prefix: random.pick(&["", "", "", ">"]),
         }
     }
 
     /// These options, but by them all paragraphs are filled.
     pub fn filling_all(&self) -> Self {
-        Layout { keeps_code: false, prefix: "", ..*self }
+        Layout { indented: true, prefix: "", ..*self }
     }
 
     /// The arguments that say so.
@@ -64,11 +64,13 @@ impl Layout {
             Algorithm::LeastCost => "--least-cost",
         };
         arguments.push(algorithm.into());
-        if self.line_ending == LineEnding::CRLF {
-            arguments.push("--crlf".into());
-        }
-        if self.keeps_code {
-            arguments.push("--keep-code".into());
+        let ending = match self.line_ending {
+            LineEnding::LF => "--lf",
+            LineEnding::CRLF => "--crlf",
+        };
+        arguments.push(ending.into());
+        if self.indented {
+            arguments.push("--indented".into());
         }
         if !self.prefix.is_empty() {
             arguments.push(format!("--prefix={}", self.prefix));
@@ -91,7 +93,7 @@ impl Layouts {
     pub fn random(random: &mut Random) -> Self {
         let first = Layout::random(random);
         let other = Layout::random(random);
-        let other = Layout { keeps_code: first.keeps_code, prefix: first.prefix, ..other };
+        let other = Layout { indented: first.indented, prefix: first.prefix, ..other };
         Layouts { first, other }
     }
 }

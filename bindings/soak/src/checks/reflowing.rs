@@ -94,7 +94,7 @@ pub fn check_once(found: &Reflows) -> Finding {
     Finding::of(found.twice == found.once)
 }
 
-/// Checks that the words of the text are kept, and the lines of whitespace: where all paragraphs
+/// Checks that the words of the text are kept, and the lines without letters: where all paragraphs
 /// are filled, and where some may stay as they are.
 pub fn check_words(case: &Case, found: &Reflows) -> Finding {
     let words = words_of(&case.paragraphs);
@@ -103,19 +103,23 @@ pub fn check_words(case: &Case, found: &Reflows) -> Finding {
     Finding::of(are_kept && stay)
 }
 
-/// What stands between blanks behind the prefixes of the lines, without the blanks and carriage
-/// returns at their ends; and of a line that is whitespace alone there a line feed, which is in no
-/// word, and the line.
+/// Whether a letter or a digit is in the text.
+fn has_letter(text: &str) -> bool {
+    text.chars().any(char::is_alphanumeric)
+}
+
+/// The words of the lines, without those at a line's beginning that have no letter, which may be its
+/// marks; and of a line without letters a line feed, which is in no word, and the line.
 fn words_of(text: &str) -> Vec<&str> {
     let mut words = Vec::new();
     for line in text.split('\n') {
-        let rest = line.trim_start_matches([' ', '-', '+', '*', '>', '#', '/']);
-        if rest.trim().is_empty() {
-            words.extend(["\n", line.trim_end_matches('\r')]);
+        let line = line.trim_end_matches('\r');
+        if !has_letter(line) {
+            words.extend(["\n", line]);
             continue;
         }
-        let inside = rest.trim_end_matches([' ', '\r']);
-        words.extend(inside.split(' ').filter(|word| !word.is_empty()));
+        let all = line.split([' ', '\t']).filter(|word| !word.is_empty());
+        words.extend(all.skip_while(|word| !has_letter(word)));
     }
     words
 }

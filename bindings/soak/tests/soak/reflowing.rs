@@ -6,7 +6,7 @@ use textwrap_soak::cases::Case;
 use textwrap_soak::checks::reflowing::{check_words, Reflow, Reflows};
 use textwrap_soak::checks::Finding;
 
-/// A text, what it was made by reflowing, and whether its words and lines of whitespace are kept.
+/// A text, what it was made by reflowing, and whether its words and lines without letters are kept.
 const WORDS_KEPT: &[(&str, &str, bool)] = &[
     ("- foo bar", "- foo\n  bar", true),
     ("- foo bar", "- foo\n  baz", false),
@@ -24,9 +24,9 @@ const WORDS_KEPT: &[(&str, &str, bool)] = &[
     ("foo\n\nbar", "foo bar\n", false),
     ("foo\n\nbar", "foo\n\n\nbar", false),
     ("foo -", "foo\n-", false),
-    ("foo -1", "foo\n-1", false),
-    ("foo *bar*", "foo\n*bar*", false),
-    ("foo\n-1", "foo 1", true),
+    ("foo -1", "foo\n-1", true),
+    ("foo *bar*", "foo\n*bar*", true),
+    ("foo\n-1", "foo 1", false),
     ("foo  \r\r\n   bar \r", "foo\nbar", true),
     ("foo", "foo\n", false),
     ("foo\r bar", "foo\r bar", true),
@@ -36,16 +36,15 @@ const WORDS_KEPT: &[(&str, &str, bool)] = &[
     ("> \t\n \u{3000}\r\n", "> \t\n \u{3000}\n", true),
     ("> \t\n \u{3000}\r\n", "", false),
     ("> \t_\n", "> _\n", false),
-    ("``` foo", "```\nfoo", true),
+    ("``` foo", "```\nfoo", false),
     ("漢字 \u{301}é", "漢字\n\u{301}é", true),
     ("漢字 \u{301}é", "漢字\né", false),
     ("", "", true),
     ("", "foo", false),
 ];
 
-/// No word or line of whitespace may be lost, changed, moved or added. No word may be taken for a
-/// prefix, nor a prefix for a word. That holds of the text that is reflowed by the options, and of
-/// that of which all is filled.
+/// No word or line without letters may be lost, changed, moved or added. That holds of the text that
+/// is reflowed by the options, and of that of which all is filled.
 #[test]
 fn other_words_are_noticed() {
     for &(text, made, are_kept) in WORDS_KEPT {
@@ -60,23 +59,23 @@ fn other_words_are_noticed() {
     }
 }
 
-/// Options by which quotes alone are filled, and code stays.
+/// Options by which quotes alone are filled, the deeper ones too.
 fn of_quotes(width: usize) -> Layout {
-    Layout { keeps_code: true, prefix: ">", ..by_first_fit(width) }
+    Layout { indented: true, prefix: ">", ..by_first_fit(width) }
 }
 
 /// Each option is an argument of its own.
 #[test]
 fn each_option_is_an_argument() {
-    assert_eq!(Layout::new(80).arguments(), ["--width=80", "--least-cost"]);
+    assert_eq!(Layout::new(80).arguments(), ["--width=80", "--least-cost", "--lf"]);
     let layout = Layout { line_ending: LineEnding::CRLF, ..of_quotes(usize::MAX) };
     assert_eq!(
         layout.arguments(),
-        ["--width=18446744073709551615", "--first-fit", "--crlf", "--keep-code", "--prefix=>"]
+        ["--width=18446744073709551615", "--first-fit", "--crlf", "--indented", "--prefix=>"]
     );
     assert_eq!(
         layout.filling_all().arguments(),
-        ["--width=18446744073709551615", "--first-fit", "--crlf"]
+        ["--width=18446744073709551615", "--first-fit", "--crlf", "--indented"]
     );
 }
 
@@ -102,7 +101,7 @@ fn each_layout_is_asked() {
     let once = "foo\r\nbar\r\n> foo bar baz\r\n> ```\r\n> qux\r\n";
     assert_eq!(reflows.once, once);
     assert_eq!(reflows.twice, once);
-    assert_eq!(reflows.filled, "foo bar\n> foo bar\n> baz ```\n> qux\n");
+    assert_eq!(reflows.filled, "foo bar\n> foo bar\n> baz\n> ```\n> qux\n");
 }
 
 /// The program makes of the paragraphs of the small case what the other tests say.

@@ -1,13 +1,12 @@
 //! What the program `reflow` does with a file.
-ghost use Rattle.std.specs.Result.{result_err};
 ghost use Rattle.reflow_program.specs.Inputs.{ChecksFile, Replaces};
 
+use reflow_program::faults::Fault;
 use reflow_program::files::Files;
-use reflow_program::inputs::{check_file, replace_file};
+use reflow_program::inputs::{Treated, check_file, replace_file};
 use reflow_program::layout::Layout;
 use std::alloc::Global;
 use std::io::Write;
-use textwrap_program::filling::RunError;
 
 /// As `check_file`.
 pub fn checked_file<F: Files, W: Write>(
@@ -16,7 +15,7 @@ pub fn checked_file<F: Files, W: Write>(
     files: &mut F,
     writer: &mut W,
     layout: &Layout<'_>,
-) -> Result<bool, RunError>
+) -> Result<Treated, Fault>
     ensures checked { ChecksFile layout.now name.now (F.bytes files.old name.now)
         (W.contents writer.old) (W.contents writer.new) result }
 {
@@ -29,9 +28,9 @@ pub fn replaced_file<F: Files>(
     name: &str,
     files: &mut F,
     layout: &Layout<'_>,
-) -> Result<(), RunError>
+) -> Result<Treated, Fault>
     ensures { Replaces layout.now name.now
-        (F.bytes files.old) (F.bytes files.new) (result_err result) }
+        (F.bytes files.old) (F.bytes files.new) result }
 {
     replace_file(alloc, name, files, layout)
 }

@@ -1,17 +1,17 @@
 -- Lemmas on what becomes of one input: whether its output is another text, and what is written of it.
-use Rattle.std.proofs.Common.{◌≡◌, ◌≢◌, ◌∙◌, sym, subst, inr, true, false, ℕ, Bool, List}
-use Rattle.std.proofs.Common.{Option, Some, Result, Ok, Err, OnOk, OnErr, IfErr}
+use Rattle.std.proofs.Common.{◌≡◌, ◌≢◌, ◌∙◌, sym, subst, true, false, ℕ, List}
+use Rattle.std.proofs.Common.{Option, Err}
+use Rattle.std.proofs.KnownBytes.{Keeps-refl}
 use Rattle.std.proofs.lemmas.Bool.{false≢true}
 use Rattle.std.proofs.lemmas.Slice.Eq.{bytes_eq-Decides}
-use Rattle.std.specs.Io.KnownBytes.{Appends}
-use Rattle.std.specs.Result.{IsErrAnd, result_err}
 use Rattle.std.specs.Str.{bytes_eq}
-use Rattle.textwrap_program.specs.Filling.{WritesPrefix}
+use Rattle.textwrap_program.specs.Filling.{ReadsAll, WritesPrefix}
 use Rattle.textwrap_program.specs.Program.{TriesLine}
-use Rattle.textwrap_program.specs.declared.filling.RunError.{RunError}
-use Rattle.textwrap_program.specs.declared.filling.RunError.TheVariants.{Write}
+use Rattle.reflow_program.specs.Faults.{IsOfDraft, IsOfOutput}
 use Rattle.reflow_program.specs.Files.{Becomes, KnownFiles, SameFiles}
-use Rattle.reflow_program.specs.Inputs.{Checks, IsReplaced, Prints, ReadsText, Replaces}
+use Rattle.reflow_program.specs.Inputs.{Checks, IsReplaced, Prints, Reads, ReadsText, Replaces}
+use Rattle.reflow_program.specs.declared.faults.Fault.{Fault}
+use Rattle.reflow_program.specs.declared.faults.Fault.TheVariants.{Read, NotUtf8, Memory, Write}
 use Rattle.reflow_program.specs.declared.layout.Layout.{Layout}
 
 -- ---- two texts that were compared
@@ -26,37 +26,62 @@ pub compared-other : (xs ys input output : List ℕ) → xs ≡ input → ys ≡
 compared-other xs ys input output x y differ same =
     false≢true (differ ∙ (bytes_eq-Decides xs ys).1 (x ∙ sym same ∙ sym y))
 
--- ---- what is read, and what is written
+-- ---- faults
 
--- what was read of the reader of a file was read of the file
-pub ReadsText-of : (layout : Layout) (unread known left : Option (List ℕ))
-    (input output : List ℕ) → unread ≡ known → ReadsText layout unread left input output
-    → ReadsText layout known left input output
-ReadsText-of layout unread known left input output =
-    subst (λ bytes. ReadsText layout bytes left input output)
+module _ (layout : Layout) (unread left : Option (List ℕ)) where
+  -- nothing is written where the input is not read
+  pub prints-unread : (old : Option (List ℕ)) (fault : Fault) → Reads layout unread left (Err fault)
+      → Prints layout unread left old old (Err fault)
+  prints-unread old (Read reason) none = Keeps-refl old
+  prints-unread old (NotUtf8 valid) none = (none, Keeps-refl old)
+  prints-unread old Memory none = Keeps-refl old
+  prints-unread old (Write reason) none = absurd none
 
-module _ (layout : Layout) (unread left : Option (List ℕ)) (input output : List ℕ)
-    (reads : ReadsText layout unread left input output) where
-  -- an output that is written, or of which a prefix is
-  pub prints-written : {A : Type 0} (old new : Option (List ℕ)) (bytes : List ℕ)
-      (result : Result A RunError) → bytes ≡ output → OnOk result (Appends old new bytes)
-      → OnErr result (WritesPrefix old new bytes) → IfErr result (λ error. error ≡ Write)
-      → Prints layout unread left old new (result_err result)
-  prints-written old new bytes (Ok value) is appends prefix write =
-      (input, output, reads, subst (Appends old new) is appends)
-  prints-written old new bytes (Err error) is appends prefix write =
-      subst (λ e. Prints layout unread left old new (Some e)) (sym write)
-      (input, output, reads, subst (WritesPrefix old new) is prefix)
+  pub checks-unread : (name : List ℕ) (old : Option (List ℕ)) (fault : Fault)
+      → Reads layout unread left (Err fault) → Checks layout name unread left old old (Err fault)
+  checks-unread name old (Read reason) none = Keeps-refl old
+  checks-unread name old (NotUtf8 valid) none = (none, Keeps-refl old)
+  checks-unread name old Memory none = Keeps-refl old
+  checks-unread name old (Write reason) none = absurd none
 
-  -- the name of a file that would change, of which a prefix is written
-  pub checks-unwritten : (name : List ℕ) (old new : Option (List ℕ)) (result : Result Bool RunError)
-      (error : RunError) → output ≢ input → TriesLine old new name
-      → IsErrAnd result (λ e. e ≡ error) → error ≡ Write
-      → Checks layout name unread left old new result
-  checks-unwritten name old new (Ok changes) error differs tries same write = absurd same
-  checks-unwritten name old new (Err e) error differs tries same write =
-      subst (λ e. Checks layout name unread left old new (Err e)) (sym (same ∙ write))
-      (input, output, reads, differs, tries)
+  module _ (input output : List ℕ) (reads : ReadsText layout unread left input output) where
+    -- an output of which a prefix is written
+    pub prints-unwritten : (old new : Option (List ℕ)) (bytes : List ℕ) (fault : Fault)
+        → bytes ≡ output → WritesPrefix old new bytes → IsOfOutput fault
+        → Prints layout unread left old new (Err fault)
+    prints-unwritten old new bytes (Write reason) is prefix of =
+        (input, output, reads, subst (WritesPrefix old new) is prefix)
+    prints-unwritten old new bytes (Read reason) is prefix of = absurd of
+    prints-unwritten old new bytes (NotUtf8 valid) is prefix of = absurd of
+    prints-unwritten old new bytes Memory is prefix of = absurd of
+
+    -- the name of a file that would change, of which a prefix is written
+    pub checks-unwritten : (name : List ℕ) (old new : Option (List ℕ)) (fault : Fault)
+        → output ≢ input → TriesLine old new name → IsOfOutput fault
+        → Checks layout name unread left old new (Err fault)
+    checks-unwritten name old new (Write reason) differs tries of =
+        (input, output, reads, differs, tries)
+    checks-unwritten name old new (Read reason) differs tries of = absurd of
+    checks-unwritten name old new (NotUtf8 valid) differs tries of = absurd of
+    checks-unwritten name old new Memory differs tries of = absurd of
+
+-- a file that cannot be replaced
+pub replaces-unput : (layout : Layout) (name : List ℕ) (old new : KnownFiles) (fault : Fault)
+    → SameFiles old new → IsOfDraft fault → Replaces layout name old new (Err fault)
+replaces-unput layout name old new (Write reason) same of = same
+replaces-unput layout name old new Memory same of = same
+replaces-unput layout name old new (Read reason) same of = absurd of
+replaces-unput layout name old new (NotUtf8 valid) same of = absurd of
+
+-- nor one that is not read
+pub replaces-unread : (layout : Layout) (name : List ℕ) (old new : KnownFiles)
+    (unread left : Option (List ℕ)) (fault : Fault) → unread ≡ old name → SameFiles old new
+    → Reads layout unread left (Err fault) → Replaces layout name old new (Err fault)
+replaces-unread layout name old new unread left (Read reason) known same none = same
+replaces-unread layout name old new unread left (NotUtf8 valid) known same (input, all, none) =
+    ((left, (input, subst (λ u. ReadsAll u left input) known all, none)), same)
+replaces-unread layout name old new unread left Memory known same none = same
+replaces-unread layout name old new unread left (Write reason) known same none = absurd none
 
 -- ---- files
 
@@ -65,32 +90,16 @@ pub SameFiles-trans : (old mid new : KnownFiles) → SameFiles old mid → SameF
 SameFiles-trans old mid new first second = λ name. second name ∙ first name
 
 -- a file that is put in its place after others were read
-IsReplaced-after : (name bytes : List ℕ) (old mid new : KnownFiles) → SameFiles old mid
+pub IsReplaced-after : (name bytes : List ℕ) (old mid new : KnownFiles) → SameFiles old mid
     → IsReplaced name bytes mid new → IsReplaced name bytes old new
 IsReplaced-after name bytes old mid new same (put, others) = (
   subst (λ known. Becomes known (new name) bytes) (same name) put,
   λ other differs. others other differs ∙ same other,
 )
 
--- an output that is put in the place of its input, or cannot be
-pub replaces-put : {A : Type 0} (layout : Layout) (name : List ℕ) (old mid new : KnownFiles)
-    (left : Option (List ℕ)) (input output bytes : List ℕ) (result : Result A RunError)
-    → ReadsText layout (old name) left input output → output ≢ input → SameFiles old mid
-    → bytes ≡ output → OnOk result (IsReplaced name bytes mid new)
-    → OnErr result (SameFiles mid new) → IfErr result (λ error. error ≡ Write)
-    → Replaces layout name old new (result_err result)
-replaces-put layout name old mid new left input output bytes (Ok value) reads differs same is put
-    kept write = (
-      left,
-      input,
-      output,
-      reads,
-      inr (
-        differs,
-        subst (λ b. IsReplaced name b old new) is (IsReplaced-after name bytes old mid new same put),
-      ),
-    )
-replaces-put layout name old mid new left input output bytes (Err error) reads differs same is put
-    kept write =
-    subst (λ e. Replaces layout name old new (Some e)) (sym write)
-    (SameFiles-trans old mid new same kept)
+-- what was read of the reader of a file was read of the file
+pub ReadsText-of : (layout : Layout) (unread known left : Option (List ℕ))
+    (input output : List ℕ) → unread ≡ known → ReadsText layout unread left input output
+    → ReadsText layout known left input output
+ReadsText-of layout unread known left input output =
+    subst (λ bytes. ReadsText layout bytes left input output)

@@ -1,3 +1,4 @@
 pub mod CommandLemmas
-pub mod FileLemmas
 pub mod InputLemmas
+pub mod MessageLemmas
+pub mod TreatedInputs

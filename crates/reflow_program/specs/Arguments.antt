@@ -1,24 +1,27 @@
 -- What the program's arguments mean.
 use Rattle.std.specs.Prelude.{◌≡◌, ℕ, Bool, ◌&&◌, not, true, false, List, [], ◌∷◌, ◌++◌, map, codes}
 use Rattle.std.specs.Prelude.{Option, Some, None, unwrap_or, option_and_then, if◌then◌else◌}
+use Rattle.textwrap_base.specs.Penalties.{default_penalties}
 use Rattle.std.specs.List.{flat_map}
 use Rattle.std.specs.Option.{option_map_or}
 use Rattle.std.specs.Str.{bytes_eq}
-use Rattle.clap.specs.Words.{App, HasKind, Row, Rule, Text, all_of, fault_of, first_of, kind_of, matches_of}
-use Rattle.clap.specs.Words.{new_app, new_rule}
+use Rattle.clap.specs.Words.{App, Row, Rule, Text, all_of, first_of, new_app, new_rule}
 use Rattle.clap.specs.declared.builder.action.ArgAction.TheVariants.{Append, SetTrue}
-use Rattle.clap.specs.declared.error.kind.ErrorKind.TheVariants.{OutOfMemory}
 use Rattle.textwrap_lines.specs.declared.line_ending.LineEnding.{LineEnding}
 use Rattle.textwrap_lines.specs.declared.line_ending.LineEnding.TheVariants.{CRLF, LF}
 use Rattle.textwrap_program.specs.Arguments.{width_of}
 use Rattle.textwrap_program.specs.Program.{line_feed}
-use Rattle.textwrap_reflow.specs.declared.options.Algorithm.{Algorithm}
-use Rattle.textwrap_reflow.specs.declared.options.Algorithm.TheVariants.{FirstFit, LeastCost}
-use Rattle.reflow_program.specs.declared.arguments.ArgumentError.{ArgumentError}
-use Rattle.reflow_program.specs.declared.arguments.ArgumentError.TheVariants as refused
+use Rattle.textwrap_marked.specs.declared.options.Algorithm.{Algorithm}
+use Rattle.textwrap_marked.specs.declared.options.Algorithm.TheVariants.{FirstFit, LeastCost}
+use Rattle.textwrap_marked.specs.declared.options.ReflowOptions.{ReflowOptions}
+use Rattle.textwrap_marked.specs.declared.within.LineRange.{LineRange}
+use Rattle.std.specs.List.{after_first, before_first, position_or_len}
+use Rattle.std.specs.Prelude.{◌==◌, length, nat_lt, option_map}
 use Rattle.reflow_program.specs.declared.arguments.Mode.{Mode}
 use Rattle.reflow_program.specs.declared.arguments.Mode.TheVariants.{Print, Check, InPlace}
 use Rattle.reflow_program.specs.declared.arguments.Request.{Request}
+use Rattle.reflow_program.specs.declared.arguments.Unfit.{Unfit}
+use Rattle.reflow_program.specs.declared.arguments.Unfit.TheVariants as unfit
 
 -- ---- the command line
 
@@ -34,29 +37,33 @@ width_rule = record (new_rule (codes "width")) {
   defaults = codes "80" ∷ [];
 }
 
-abbrev pub prefix_rule : Rule
-prefix_rule = record (new_rule (codes "prefix")) {
-  long = Some (codes "prefix");
-  value_names = 1;
-}
+-- an argument with a text, which may come several times, and whose id is its long name
+abbrev pub text_rule : Text → Rule
+text_rule name =
+    record (new_rule name) { long = Some name; value_names = 1; action = Some Append }
 
--- what stands by itself is a file
+abbrev pub lines_rule : Rule
+lines_rule = record (new_rule (codes "lines")) { long = Some (codes "lines"); value_names = 1 }
+
+-- what stands by itself is an input; without any the standard input is the one
 abbrev pub file_rule : Rule
-file_rule = record (new_rule (codes "FILE")) { action = Some Append }
+file_rule = record (new_rule (codes "FILE")) { action = Some Append; defaults = codes "-" ∷ [] }
 
 abbrev pub reflow_rules : List Rule
 reflow_rules =
     width_rule ∷ flag_rule (codes "first-fit") ∷ flag_rule (codes "least-cost")
-    ∷ flag_rule (codes "justify") ∷ flag_rule (codes "crlf") ∷ prefix_rule
-    ∷ flag_rule (codes "keep-code") ∷ flag_rule (codes "check") ∷ flag_rule (codes "in-place")
-    ∷ file_rule ∷ []
+    ∷ flag_rule (codes "justify") ∷ flag_rule (codes "markdown") ∷ text_rule (codes "marker")
+    ∷ flag_rule (codes "bare") ∷ text_rule (codes "prefix") ∷ flag_rule (codes "indented")
+    ∷ lines_rule ∷ flag_rule (codes "lf") ∷ flag_rule (codes "crlf") ∷ flag_rule (codes "check")
+    ∷ flag_rule (codes "in-place") ∷ flag_rule (codes "keep-code") ∷ file_rule ∷ []
 
--- the words are those after the program's name
+-- the words are those after the program's name, and of what may stand once the last use counts
 abbrev pub reflow_app : App
 reflow_app = record {
   top = record (new_app (codes "reflow")).top {
     rules = reflow_rules;
     no_binary_name = true;
+    args_override_self = true;
     has_version = true;
   };
   subs = [];
@@ -66,22 +73,36 @@ reflow_app = record {
 
 abbrev pub help_lines : List Text
 help_lines =
-    codes "Fills the paragraphs of a text, each under its own prefix." ∷ codes ""
-    ∷ codes "Usage: reflow [OPTIONS] [FILE]..." ∷ codes ""
+    codes "Fills the paragraphs of a text, each behind its own marks."
+    ∷ codes ""
+    ∷ codes "Usage: reflow [OPTIONS] [FILE]..."
+    ∷ codes ""
     ∷ codes "Arguments:"
-    ∷ codes "  [FILE]...  Files; the standard input if there are none" ∷ codes ""
+    ∷ codes "  [FILE]...  Files; - is the standard input [default: -]"
+    ∷ codes ""
     ∷ codes "Options:"
-    ∷ codes "  -w, --width <N>      Columns of a line [default: 80]"
+    ∷ codes "  -w, --width <N>      Columns of a line, also -N [default: 80]"
     ∷ codes "      --first-fit      Fill each line with as many words as fit"
     ∷ codes "      --least-cost     Choose the least ragged lines (default)"
     ∷ codes "      --justify        Widen the gaps of lines to the width"
-    ∷ codes "      --crlf           End lines with CR LF"
-    ∷ codes "      --prefix <TEXT>  Fill only paragraphs whose prefix begins with TEXT"
-    ∷ codes "      --keep-code      Leave fenced and indented code as it is"
+    ∷ codes "      --markdown       There are no comments, and # is a heading"
+    ∷ codes "      --marker <TEXT>  One more word that marks a comment"
+    ∷ codes "      --bare           Block comments have no * before their lines"
+    ∷ codes "      --prefix <TEXT>  Fill only paragraphs whose marks begin with TEXT"
+    ∷ codes "      --indented       Fill also text that is indented deeper"
+    ∷ codes "      --lines <A:B>    Fill only the paragraphs at the lines A to B"
+    ∷ codes "      --lf             End all lines with LF"
+    ∷ codes "      --crlf           End all lines with CR LF"
     ∷ codes "      --check          Print the names of files that would change"
     ∷ codes "      --in-place       Replace each file, by way of a new file FILE.reflow"
     ∷ codes "  -h, --help           Print help"
-    ∷ codes "  -V, --version        Print version" ∷ []
+    ∷ codes "  -V, --version        Print version"
+    ∷ codes ""
+    ∷ codes "Examples:"
+    ∷ codes "  reflow -72 < mail.txt                       A text on standard input, at 72 columns"
+    ∷ codes "  reflow --check --markdown *.md              Which of these files would change"
+    ∷ codes "  reflow --in-place --prefix // src/*.rs      Comments of lines alone"
+    ∷ codes "  reflow --prefix=-- --prefix '/*' query.sql  A text with a hyphen stands behind =" ∷ []
 
 abbrev pub help_text : Text
 help_text = flat_map (λ line. line ++ line_feed ∷ []) help_lines
@@ -94,8 +115,8 @@ version_text = codes "reflow 2.0.0" ++ line_feed ∷ []
 abbrev pub flag_in : Text → List Row → Bool
 flag_in name rows = option_map_or (λ text. bytes_eq text (codes "true")) (first_of name rows) false
 
-abbrev pub text_in : Text → List Row → Text
-text_in name rows = unwrap_or (first_of name rows) []
+abbrev pub texts_in : Text → List Row → List Text
+texts_in name rows = unwrap_or (all_of name rows) []
 
 -- digits that are a number of 64 bits
 abbrev pub width_in : List Row → Option ℕ
@@ -105,10 +126,40 @@ width_in rows = option_and_then width_of (first_of (codes "width") rows)
 abbrev pub algorithm_in : List Row → Algorithm
 algorithm_in rows =
     if flag_in (codes "first-fit") rows && not (flag_in (codes "least-cost") rows) then FirstFit
-    else LeastCost
+    else LeastCost default_penalties
 
-abbrev pub ending_in : List Row → LineEnding
-ending_in rows = if flag_in (codes "crlf") rows then CRLF else LF
+-- the ending of all lines, if one is asked for; LF counts for more than CR LF
+abbrev pub ending_in : List Row → Option LineEnding
+ending_in rows =
+    if flag_in (codes "lf") rows then Some LF
+    else if flag_in (codes "crlf") rows then Some CRLF
+    else None
+
+-- two numbers of 64 bits
+abbrev pub range_between : Option ℕ → Option ℕ → Option LineRange
+range_between (Some first) (Some last) = Some (record { first = first; last = last })
+range_between _ _ = None
+
+-- they stand before and behind the first colon
+abbrev pub range_of : Text → Option LineRange
+range_of text =
+    if nat_lt (position_or_len (λ c. c == 58) text) (length text)
+    then range_between (width_of (before_first (λ c. c == 58) text))
+    (width_of (after_first (λ c. c == 58) text))
+    else None
+
+-- the lines at which paragraphs are filled, if they are given; `None` if they are none
+abbrev pub lines_in_text : Option Text → Option (Option LineRange)
+lines_in_text None = Some None
+lines_in_text (Some text) = option_map (λ range. Some range) (range_of text)
+
+abbrev pub lines_in : List Row → Option (Option LineRange)
+lines_in rows = lines_in_text (first_of (codes "lines") rows)
+
+-- where only some lines are to change, no ending does
+abbrev pub ending_beside : Option LineRange → Option LineEnding → Option LineEnding
+ending_beside (Some range) ending = None
+ending_beside None ending = ending
 
 -- a check counts for more than replacing
 abbrev pub mode_in : List Row → Mode
@@ -117,32 +168,27 @@ mode_in rows =
     else if flag_in (codes "in-place") rows then InPlace
     else Print
 
-abbrev pub files_in : List Row → List Text
-files_in rows = unwrap_or (all_of (codes "FILE") rows) []
+-- these matches mean these options
+pub record AreOptions (rows : List Row) (lines : Option LineRange) (options : ReflowOptions)
+    : Type 0 where
+  pub width : width_in rows ≡ Some options.width
+  pub algorithm : options.algorithm ≡ algorithm_in rows
+  pub ending : options.ending ≡ ending_beside lines (ending_in rows)
+  pub markdown : options.markdown ≡ flag_in (codes "markdown") rows
+  pub markers : map (λ marker. marker.now) options.markers.now ≡ texts_in (codes "marker") rows
+  pub bare : options.bare ≡ flag_in (codes "bare") rows
+  pub prefixes : map (λ prefix. prefix.now) options.prefixes.now ≡ texts_in (codes "prefix") rows
+  pub indented : options.indented ≡ flag_in (codes "indented") rows
 
 -- these matches mean this request
 pub record IsRequest (rows : List Row) (request : Request) : Type 0 where
-  pub width : width_in rows ≡ Some request.layout.options.width
-  pub algorithm : request.layout.options.algorithm ≡ algorithm_in rows
-  pub justifies : request.layout.justifies ≡ flag_in (codes "justify") rows
-  pub ending : request.layout.options.line_ending ≡ ending_in rows
-  pub code : request.layout.options.keeps_code ≡ flag_in (codes "keep-code") rows
-  pub prefix : request.layout.options.prefix.now ≡ text_in (codes "prefix") rows
+  pub lines : lines_in rows ≡ Some request.layout.lines
+  pub options : AreOptions rows request.layout.lines request.layout.options
+  pub justifies : request.justifies ≡ flag_in (codes "justify") rows
   pub mode : request.mode ≡ mode_in rows
-  pub files : map (λ file. file.now) request.files.items ≡ files_in rows
+  pub names : map (λ name. name.now) request.names.now ≡ texts_in (codes "FILE") rows
 
--- memory ran out
-abbrev pub IsMemory : ArgumentError → Type 0
-IsMemory (refused.Clap error) = kind_of error ≡ OutOfMemory
-IsMemory refused.Width = ⊥
-
--- these matches mean no request, since they have no width, or memory ran out
-abbrev pub IsUnfit : List Row → ArgumentError → Type 0
-IsUnfit rows (refused.Clap error) = kind_of error ≡ OutOfMemory
-IsUnfit rows refused.Width = width_in rows ≡ None
-
--- these words mean no request: they are not the program's, or have no width, or memory ran out
-abbrev pub Refuses : List Text → ArgumentError → Type 0
-Refuses words (refused.Clap error) = HasKind (fault_of reflow_app words) error
-Refuses words refused.Width =
-    (fault_of reflow_app words ≡ []) × (width_in (matches_of reflow_app words) ≡ None)
+-- these matches mean no request, since they have no width or no lines
+abbrev pub IsUnfit : List Row → Unfit → Type 0
+IsUnfit rows unfit.Width = width_in rows ≡ None
+IsUnfit rows unfit.Lines = lines_in rows ≡ None

@@ -1,15 +1,18 @@
 -- What becomes of one input, where texts are laid out so.
-use Rattle.std.specs.Prelude.{◌≡◌, ◌≢◌, ℕ, Bool, true, false, List, Option, None, Some, Result, Ok, Err}
+use Rattle.std.specs.Prelude.{◌≡◌, ◌≢◌, ℕ, Bool, true, false, List, Option, Result, Ok, Err}
 use Rattle.std.specs.Prelude.{[], ◌∷◌, ◌++◌, ◌⊎◌, ⊤, string_bytes}
 use Rattle.std.specs.Str.{IsUtf8}
+use Rattle.std.specs.Str.Lossy.{utf8_valid_len}
 use Rattle.std.specs.Io.KnownBytes.{Appends, Keeps}
 use Rattle.textwrap_program.specs.Filling.{ReadsAll, WritesPrefix}
 use Rattle.textwrap_program.specs.Program.{TriesLine, line_feed}
-use Rattle.textwrap_program.specs.declared.filling.RunError.{RunError}
-use Rattle.textwrap_program.specs.declared.filling.RunError.TheVariants.{Read, NotUtf8, Memory, Write}
 use Rattle.reflow_program.specs.Files.{Becomes, KnownFiles, SameFiles}
-use Rattle.reflow_program.specs.Layout.{IsLaidOut}
+use Rattle.reflow_program.specs.Layout.{IsLaidOut, has_marks}
+use Rattle.reflow_program.specs.declared.faults.Fault.{Fault}
+use Rattle.reflow_program.specs.declared.faults.Fault.TheVariants.{Read, NotUtf8, Memory, Write}
 use Rattle.reflow_program.specs.declared.inputs.Reflowed.{Reflowed}
+use Rattle.reflow_program.specs.declared.inputs.Treated.{Treated}
+use Rattle.reflow_program.specs.declared.layout.LaidOut.{LaidOut}
 use Rattle.reflow_program.specs.declared.layout.Layout.{Layout}
 
 -- the file of this name has these bytes, where those that it had were known; all other files are as
@@ -19,72 +22,90 @@ IsReplaced name bytes old new =
     Becomes (old name) (new name) bytes
     × ((other : List ℕ) → other ≢ name → new other ≡ old other)
 
+-- this is no text, and so many bytes before the first that is none are one
+abbrev pub IsNoText : List ℕ → ℕ → Type 0
+IsNoText input valid = (¬ IsUtf8 input) × (valid ≡ utf8_valid_len input)
+
 -- an input that is no text was read whole
-abbrev pub ReadsNoText : Option (List ℕ) → Option (List ℕ) → Type 0
-ReadsNoText unread left = (input : List ℕ) × ReadsAll unread left input × (¬ IsUtf8 input)
+abbrev pub ReadsNoText : Option (List ℕ) → Option (List ℕ) → ℕ → Type 0
+ReadsNoText unread left valid = (input : List ℕ) × ReadsAll unread left input × IsNoText input valid
+
+-- what a check writes: the name exactly if the output is another text
+abbrev pub Tells : List ℕ → Option (List ℕ) → Option (List ℕ) → List ℕ → List ℕ → Bool → Type 0
+Tells name old new input output false = (output ≡ input) × Keeps old new
+Tells name old new input output true = (output ≢ input) × Appends old new (name ++ line_feed ∷ [])
 
 module _ (layout : Layout) where
+  -- what a text becomes, or a fault: `NotUtf8` exactly if it is none
+  abbrev pub Reflows : List ℕ → Result LaidOut Fault → Type 0
+  Reflows input (Ok laid) =
+      IsUtf8 input × IsLaidOut layout input (string_bytes laid.text)
+      × (laid.has_marks ≡ has_marks layout.options input)
+  Reflows input (Err (NotUtf8 valid)) = IsNoText input valid
+  Reflows input (Err Memory) = ⊤
+  Reflows input (Err _) = ⊥
+
   -- the input was read whole, is a text, and is reflowed to this output
   abbrev pub ReadsText : Option (List ℕ) → Option (List ℕ) → List ℕ → List ℕ → Type 0
   ReadsText unread left input output =
       ReadsAll unread left input × IsUtf8 input × IsLaidOut layout input output
 
   -- what is read, or a fault: never `Write`, and `NotUtf8` exactly if the input is no text
-  abbrev pub Reads : {A : Type 0} → Option (List ℕ) → Option (List ℕ)
-      → Result (Reflowed A) RunError → Type 0
-  Reads unread left (Ok r) = ReadsText unread left r.input.items (string_bytes r.output)
-  Reads unread left (Err Read) = ⊤
-  Reads unread left (Err NotUtf8) = ReadsNoText unread left
-  Reads unread left (Err Memory) = ⊤
-  Reads unread left (Err Write) = ⊥
+  abbrev pub Reads : Option (List ℕ) → Option (List ℕ) → Result Reflowed Fault → Type 0
+  Reads unread left (Ok r) =
+      ReadsText unread left r.input.items (string_bytes r.output.text)
+      × (r.output.has_marks ≡ has_marks layout.options r.input.items)
+  Reads unread left (Err (NotUtf8 valid)) = ReadsNoText unread left valid
+  Reads unread left (Err (Write reason)) = ⊥
+  Reads unread left (Err _) = ⊤
 
   -- an input is printed: the whole output is written, at the fault `Write` a prefix of it, and at
-  -- another nothing
+  -- another nothing; it never counts as one that would change
   abbrev pub Prints : Option (List ℕ) → Option (List ℕ) → Option (List ℕ) → Option (List ℕ)
-      → Option RunError → Type 0
-  Prints unread left old new None =
+      → Result Treated Fault → Type 0
+  Prints unread left old new (Ok treated) =
       (input : List ℕ) × (output : List ℕ) × ReadsText unread left input output
-      × Appends old new output
-  Prints unread left old new (Some Read) = Keeps old new
-  Prints unread left old new (Some NotUtf8) = ReadsNoText unread left × Keeps old new
-  Prints unread left old new (Some Memory) = Keeps old new
-  Prints unread left old new (Some Write) =
+      × Appends old new output × (treated.changes ≡ false)
+      × (treated.has_marks ≡ has_marks layout.options input)
+  Prints unread left old new (Err (NotUtf8 valid)) = ReadsNoText unread left valid × Keeps old new
+  Prints unread left old new (Err (Write reason)) =
       (input : List ℕ) × (output : List ℕ) × ReadsText unread left input output
       × WritesPrefix old new output
+  Prints unread left old new (Err _) = Keeps old new
 
   -- so is a file, of which nothing is read if it cannot be opened
-  abbrev pub PrintsFile : Option (List ℕ) → Option (List ℕ) → Option (List ℕ) → Option RunError
-      → Type 0
-  PrintsFile unread old new fault = (left : Option (List ℕ)) × Prints unread left old new fault
+  abbrev pub PrintsFile : Option (List ℕ) → Option (List ℕ) → Option (List ℕ)
+      → Result Treated Fault → Type 0
+  PrintsFile unread old new result = (left : Option (List ℕ)) × Prints unread left old new result
 
   -- a check of an input of this name: the name is written exactly if the output is another text
   abbrev pub Checks : List ℕ → Option (List ℕ) → Option (List ℕ)
-      → Option (List ℕ) → Option (List ℕ) → Result Bool RunError → Type 0
-  Checks name unread left old new (Ok false) =
-      (input : List ℕ) × ReadsText unread left input input × Keeps old new
-  Checks name unread left old new (Ok true) =
+      → Option (List ℕ) → Option (List ℕ) → Result Treated Fault → Type 0
+  Checks name unread left old new (Ok treated) =
       (input : List ℕ) × (output : List ℕ) × ReadsText unread left input output
-      × (output ≢ input) × Appends old new (name ++ line_feed ∷ [])
-  Checks name unread left old new (Err Read) = Keeps old new
-  Checks name unread left old new (Err NotUtf8) = ReadsNoText unread left × Keeps old new
-  Checks name unread left old new (Err Memory) = Keeps old new
-  Checks name unread left old new (Err Write) =
+      × Tells name old new input output treated.changes
+      × (treated.has_marks ≡ has_marks layout.options input)
+  Checks name unread left old new (Err (NotUtf8 valid)) =
+      ReadsNoText unread left valid × Keeps old new
+  Checks name unread left old new (Err (Write reason)) =
       (input : List ℕ) × (output : List ℕ) × ReadsText unread left input output
       × (output ≢ input) × TriesLine old new name
+  Checks name unread left old new (Err _) = Keeps old new
 
   abbrev pub ChecksFile : List ℕ → Option (List ℕ) → Option (List ℕ) → Option (List ℕ)
-      → Result Bool RunError → Type 0
+      → Result Treated Fault → Type 0
   ChecksFile name unread old new result =
       (left : Option (List ℕ)) × Checks name unread left old new result
 
   -- a file in its place: it is replaced exactly if the output is another text, and at a fault all
   -- files are as they were
-  abbrev pub Replaces : List ℕ → KnownFiles → KnownFiles → Option RunError → Type 0
-  Replaces name old new None =
+  abbrev pub Replaces : List ℕ → KnownFiles → KnownFiles → Result Treated Fault → Type 0
+  Replaces name old new (Ok treated) =
       (left : Option (List ℕ)) × (input : List ℕ) × (output : List ℕ)
       × ReadsText (old name) left input output
       × (((output ≡ input) × SameFiles old new)
       ⊎ ((output ≢ input) × IsReplaced name output old new))
-  Replaces name old new (Some NotUtf8) =
-      ((left : Option (List ℕ)) × ReadsNoText (old name) left) × SameFiles old new
-  Replaces name old new (Some fault) = SameFiles old new
+      × (treated.changes ≡ false) × (treated.has_marks ≡ has_marks layout.options input)
+  Replaces name old new (Err (NotUtf8 valid)) =
+      ((left : Option (List ℕ)) × ReadsNoText (old name) left valid) × SameFiles old new
+  Replaces name old new (Err _) = SameFiles old new

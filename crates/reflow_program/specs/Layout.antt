@@ -1,11 +1,20 @@
 -- How the program lays out a text.
-use Rattle.std.specs.Prelude.{◌≡◌, ℕ, List, if◌then◌else◌}
-use Rattle.textwrap_reflow.specs.Justifying.{justified_text}
-use Rattle.textwrap_reflow.specs.Reflow.{IsReflowed}
+use Rattle.std.specs.Prelude.{ℕ, ◌==◌, ◌||◌, Bool, List, None, Option, Some, length}
+use Rattle.textwrap_marked.specs.Choosing.{has_chosen}
+use Rattle.textwrap_marked.specs.Reflow.{IsReflowed}
+use Rattle.textwrap_marked.specs.Within.{IsReflowedWithin}
+use Rattle.textwrap_marked.specs.declared.options.ReflowOptions.{ReflowOptions}
+use Rattle.textwrap_marked.specs.declared.within.LineRange.{LineRange}
 use Rattle.reflow_program.specs.declared.layout.Layout.{Layout}
 
--- the text is reflowed, and if this is asked for, its paragraphs are justified then
+-- the paragraphs of the text are filled again, those at some lines or all
+abbrev pub IsLaidOutAt : Option LineRange → ReflowOptions → List ℕ → List ℕ → Type 0
+IsLaidOutAt None options text output = IsReflowed options text output
+IsLaidOutAt (Some range) options text output = IsReflowedWithin options range text output
+
 abbrev pub IsLaidOut : Layout → List ℕ → List ℕ → Type 0
-IsLaidOut layout text output =
-    (reflowed : List ℕ) × IsReflowed layout.options text reflowed
-    × (output ≡ (if layout.justifies then justified_text layout.options reflowed else reflowed))
+IsLaidOut layout text output = IsLaidOutAt layout.lines layout.options text output
+
+-- some line of the text has marks that are filled; each line does, if there are no prefixes
+abbrev pub has_marks : ReflowOptions → List ℕ → Bool
+has_marks options text = length options.prefixes.now == 0 || has_chosen options text

@@ -1,44 +1,46 @@
 -- What the program leaves behind, and how it ends.
 use Rattle.std.specs.Prelude.{◌≡◌, ◌⊎◌, ◌&&◌, ℕ, max, Bool, true, false, List, [], ◌∷◌, ◌++◌, map, codes}
-use Rattle.std.specs.Prelude.{Option, None, Some, Result, Ok, Err, IfOk}
+use Rattle.std.specs.Prelude.{Option, None, Some, Result, Ok, Err, IfOk, bytes_eq, if◌then◌else◌}
 use Rattle.std.specs.Result.{result_err}
 use Rattle.std.specs.Io.KnownBytes.{Appends, Keeps}
-use Rattle.clap.specs.Words.{fault_of, kind_of, matches_of}
+use Rattle.clap.specs.Words.{HasKind, Row, Text, fault_of, kind_of, matches_of}
+use Rattle.clap.specs.declared.error.Error.{Error}
 use Rattle.clap.specs.declared.error.kind.ErrorKind.{ErrorKind}
 use Rattle.clap.specs.declared.error.kind.ErrorKind.TheVariants.{DisplayHelp, DisplayVersion, OutOfMemory}
 use Rattle.textwrap_program.specs.Filling.{WritesPrefix}
 use Rattle.textwrap_program.specs.Program.{line_feed}
-use Rattle.textwrap_program.specs.declared.filling.RunError.{RunError}
-use Rattle.textwrap_program.specs.declared.filling.RunError.TheVariants.{Read, NotUtf8, Memory, Write}
-use Rattle.reflow_program.specs.Arguments.{IsRequest, Refuses, help_text, reflow_app, version_text}
+use Rattle.reflow_program.specs.Arguments.{IsRequest, IsUnfit, help_text, reflow_app, version_text}
 use Rattle.reflow_program.specs.Files.{KnownFiles, SameFiles}
 use Rattle.reflow_program.specs.Inputs.{Checks, ChecksFile, Prints, PrintsFile, Replaces}
-use Rattle.reflow_program.specs.declared.arguments.ArgumentError.{ArgumentError}
-use Rattle.reflow_program.specs.declared.arguments.ArgumentError.TheVariants as refused
+use Rattle.reflow_program.specs.Messages.{is_closed, message_line, says_nothing, texts_of}
+use Rattle.reflow_program.specs.Words.{spelled_out}
 use Rattle.reflow_program.specs.declared.arguments.Mode.{Mode}
 use Rattle.reflow_program.specs.declared.arguments.Mode.TheVariants.{Print, Check, InPlace}
 use Rattle.reflow_program.specs.declared.arguments.Request.{Request}
+use Rattle.reflow_program.specs.declared.arguments.Unfit.{Unfit}
+use Rattle.reflow_program.specs.declared.arguments.Unfit.TheVariants as unfit
+use Rattle.reflow_program.specs.declared.faults.Fault.{Fault}
+use Rattle.reflow_program.specs.declared.inputs.Treated.{Treated}
 use Rattle.reflow_program.specs.declared.layout.Layout.{Layout}
 use Rattle.reflow_program.specs.declared.program.Ending.{Ending}
 
--- what is known of the files, and what two writers hold, where that is known
+-- what the reader has left, what is known of the files, and what two writers hold, where that is known
 pub record World : Type 0 where
+  pub unread : Option (List ℕ)
   pub files : KnownFiles
   pub output : Option (List ℕ)
   pub messages : Option (List ℕ)
 
--- ---- faults
+-- nothing was read, replaced, written or said
+abbrev pub SameWorld : World → World → Type 0
+SameWorld old new =
+    Keeps old.unread new.unread × SameFiles old.files new.files × Keeps old.output new.output
+    × Keeps old.messages new.messages
 
-abbrev pub fault_text : RunError → List ℕ
-fault_text Read = codes "cannot read"
-fault_text NotUtf8 = codes "not UTF-8"
-fault_text Memory = codes "out of memory"
-fault_text Write = codes "cannot write"
-
--- the line that says of a fault at which input it came
-abbrev pub fault_line : List ℕ → RunError → List ℕ
-fault_line name fault =
-    codes "reflow: " ++ (name ++ (codes ": " ++ (fault_text fault ++ line_feed ∷ [])))
+-- nothing was read, replaced or printed
+abbrev pub OnlySays : World → World → Type 0
+OnlySays old new =
+    Keeps old.unread new.unread × SameFiles old.files new.files × Keeps old.output new.output
 
 -- ---- what is said, and how a run ends
 
@@ -50,22 +52,22 @@ Says text old new false = WritesPrefix old new text
 abbrev pub SaysLine : List ℕ → Option (List ℕ) → Option (List ℕ) → Bool → Type 0
 SaysLine line = Says (line ++ line_feed ∷ [])
 
--- nothing is said without a fault
-abbrev pub SaysFault : List ℕ → Option RunError → Option (List ℕ) → Option (List ℕ) → Bool → Type 0
-SaysFault name None old new said = Keeps old new × (said ≡ true)
-SaysFault name (Some fault) old new said = Says (fault_line name fault) old new said
+-- unless nothing is to be said
+abbrev pub SaysUnless : Bool → List ℕ → Option (List ℕ) → Option (List ℕ) → Bool → Type 0
+SaysUnless true text old new said = Keeps old new × (said ≡ true)
+SaysUnless false text old new said = Says text old new said
 
 -- 0 if all went well, 1 if a check found that an input would change, 2 after a fault
-abbrev pub status_of : Result Bool RunError → ℕ
-status_of (Ok false) = 0
-status_of (Ok true) = 1
+abbrev pub status_of : Result Treated Fault → ℕ
+status_of (Ok treated) = if treated.changes then 1 else 0
 status_of (Err fault) = 2
 
 -- how a run ends with an input of which this became
-abbrev pub Reports : List ℕ → Result Bool RunError → Option (List ℕ) → Option (List ℕ) → Ending
+abbrev pub Reports : List ℕ → Result Treated Fault → Option (List ℕ) → Option (List ℕ) → Ending
     → Type 0
 Reports name result old new ending =
-    SaysFault name (result_err result) old new ending.said × (ending.status ≡ status_of result)
+    SaysUnless (says_nothing result) (message_line name (texts_of name result)) old new ending.said
+    × (ending.status ≡ status_of result)
 
 abbrev pub all_well : Ending
 all_well = record { status = 0; said = true }
@@ -82,61 +84,54 @@ joined first rest = record {
 abbrev pub standard_input : List ℕ
 standard_input = codes "standard input"
 
-module _ (layout : Layout) where
-  -- what is printed of an input; it never counts as one that would change
-  abbrev pub PrintsAll : Option (List ℕ) → Option (List ℕ) → Option (List ℕ) → Option (List ℕ)
-      → Result Bool RunError → Type 0
-  PrintsAll unread left old new result =
-      Prints layout unread left old new (result_err result)
-      × IfOk result (λ changes. changes ≡ false)
+-- what an input of this name is called in messages
+abbrev pub shown_name : List ℕ → List ℕ
+shown_name name = if bytes_eq name (codes "-") then standard_input else name
 
+module _ (layout : Layout) where
   -- the standard input is printed also where files would be replaced
   abbrev pub TreatsInput : Mode → Option (List ℕ) → Option (List ℕ) → Option (List ℕ)
-      → Option (List ℕ) → Result Bool RunError → Type 0
-  TreatsInput Print unread left old new result = PrintsAll unread left old new result
-  TreatsInput InPlace unread left old new result = PrintsAll unread left old new result
+      → Option (List ℕ) → Result Treated Fault → Type 0
+  TreatsInput Print unread left old new result = Prints layout unread left old new result
+  TreatsInput InPlace unread left old new result = Prints layout unread left old new result
   TreatsInput Check unread left old new result =
       Checks layout standard_input unread left old new result
 
   -- a file is read from its known bytes; only `InPlace` changes it, and then nothing is printed
   abbrev pub TreatsFile : Mode → List ℕ → KnownFiles → KnownFiles
-      → Option (List ℕ) → Option (List ℕ) → Result Bool RunError → Type 0
+      → Option (List ℕ) → Option (List ℕ) → Result Treated Fault → Type 0
   TreatsFile Print name was is old new result =
-      SameFiles was is × PrintsFile layout (was name) old new (result_err result)
-      × IfOk result (λ changes. changes ≡ false)
+      SameFiles was is × PrintsFile layout (was name) old new result
   TreatsFile Check name was is old new result =
       SameFiles was is × ChecksFile layout name (was name) old new result
   TreatsFile InPlace name was is old new result =
-      Replaces layout name was is (result_err result) × Keeps old new
-      × IfOk result (λ changes. changes ≡ false)
+      Replaces layout name was is result × Keeps old new
 
-  -- the files are treated one after another, each with its message
-  abbrev pub TreatsFiles : Mode → List (List ℕ) → World → World → Ending → Type 0
-  TreatsFiles mode [] old new ending =
-      SameFiles old.files new.files × Keeps old.output new.output
-      × Keeps old.messages new.messages × (ending ≡ all_well)
-  TreatsFiles mode (name ∷ names) old new ending =
-      (mid : World) × (result : Result Bool RunError) × (first : Ending) × (rest : Ending)
-      × TreatsFile mode name old.files mid.files old.output mid.output result
-      × Reports name result old.messages mid.messages first
-      × TreatsFiles mode names mid new rest
+  -- an input is the standard input, or a file
+  abbrev pub Treats : Mode → Bool → List ℕ → Option (List ℕ) → Option (List ℕ)
+      → KnownFiles → KnownFiles → Option (List ℕ) → Option (List ℕ) → Result Treated Fault → Type 0
+  Treats mode true name unread left was is old new result =
+      SameFiles was is × TreatsInput mode unread left old new result
+  Treats mode false name unread left was is old new result =
+      Keeps unread left × TreatsFile mode name was is old new result
+
+  -- the input of this name; `-` is the standard input
+  abbrev pub TreatsName : Mode → List ℕ → World → World → Result Treated Fault → Type 0
+  TreatsName mode name old new result =
+      Treats mode (bytes_eq name (codes "-")) name old.unread new.unread old.files new.files
+      old.output new.output result
+
+  -- the inputs are treated one after another, each with its message; where nobody reads the output any
+  -- more, no further one is
+  abbrev pub TreatsAll : Mode → List (List ℕ) → Bool → World → World → Ending → Type 0
+  TreatsAll mode [] closed old new ending = SameWorld old new × (ending ≡ all_well)
+  TreatsAll mode (name ∷ names) true old new ending = SameWorld old new × (ending ≡ all_well)
+  TreatsAll mode (name ∷ names) false old new ending =
+      (mid : World) × (result : Result Treated Fault) × (first : Ending) × (rest : Ending)
+      × TreatsName mode name old mid result
+      × Reports (shown_name name) result old.messages mid.messages first
+      × TreatsAll mode names (is_closed result) mid new rest
       × (ending ≡ joined first rest)
-
--- ---- where there is a request
-
--- without files the standard input is the one input, and else it is not read
-abbrev pub ServesNames : Request → List (List ℕ) → Option (List ℕ) → Option (List ℕ) → World → World
-    → Ending → Type 0
-ServesNames request [] unread left old new ending =
-    (result : Result Bool RunError) × SameFiles old.files new.files
-    × TreatsInput request.layout request.mode unread left old.output new.output result
-    × Reports standard_input result old.messages new.messages ending
-ServesNames request (name ∷ names) unread left old new ending =
-    Keeps unread left
-    × TreatsFiles request.layout request.mode (name ∷ names) old new ending
-
-abbrev pub Serves : Request → Option (List ℕ) → Option (List ℕ) → World → World → Ending → Type 0
-Serves request = ServesNames request (map (λ name. name.now) request.files.items)
 
 -- ---- where there is no request
 
@@ -172,25 +167,33 @@ ExplainsParse OutOfMemory shown old new was is ending =
 ExplainsParse _ shown old new was is ending =
     Keeps old new × Warns shown was is ending.said × (ending.status ≡ 2)
 
--- what is written where there is no request; what an error displays, `clap` does not promise
-abbrev pub Explains : ArgumentError → Option (List ℕ) → Option (List ℕ) → Option (List ℕ)
-    → Option (List ℕ) → Ending → Type 0
-Explains refused.Width old new was is ending =
-    Keeps old new
-    × SaysLine (codes "reflow: the width is not a number of 64 bits") was is ending.said
-    × (ending.status ≡ 2)
-Explains (refused.Clap error) old new was is ending =
-    ExplainsParse (kind_of error) None old new was is ending
-
 -- ---- the whole run
 
--- the words mean a request, which is served, or they mean none, and nothing is read or replaced
-abbrev pub Executes : List (List ℕ) → Option (List ℕ) → Option (List ℕ) → World → World → Ending
-    → Type 0
-Executes words unread left old new ending =
-    ((request : Request) × (fault_of reflow_app words ≡ [])
-    × IsRequest (matches_of reflow_app words) request
-    × Serves request unread left old new ending)
-    ⊎ ((error : ArgumentError) × Refuses words error × SameFiles old.files new.files
-    × Keeps unread left
-    × Explains error old.output new.output old.messages new.messages ending)
+abbrev pub unfit_line : Unfit → List ℕ
+unfit_line unfit.Width = codes "reflow: the width is not a number of 64 bits"
+unfit_line unfit.Lines = codes "reflow: the lines are not two numbers of 64 bits, A:B"
+
+-- these matches mean a request, of which each input is treated, or none, of which a line is said
+abbrev pub ServesRows : List Row → World → World → Ending → Type 0
+ServesRows rows old new ending =
+    ((request : Request) × IsRequest rows request
+    × TreatsAll request.layout request.mode (map (λ name. name.now) request.names.now) false old new
+    ending)
+    ⊎ ((unfit : Unfit) × IsUnfit rows unfit × OnlySays old new
+    × SaysLine (unfit_line unfit) old.messages new.messages ending.said × (ending.status ≡ 2))
+
+-- these words have matches on the command line, or there is an error, and nothing is read or
+-- replaced; what an error displays, `clap` does not promise
+abbrev pub ServesWords : List Text → World → World → Ending → Type 0
+ServesWords words old new ending =
+    ((fault_of reflow_app words ≡ []) × ServesRows (matches_of reflow_app words) old new ending)
+    ⊎ ((error : Error) × HasKind (fault_of reflow_app words) error
+    × Keeps old.unread new.unread × SameFiles old.files new.files
+    × ExplainsParse (kind_of error) None old.output new.output old.messages new.messages ending)
+
+-- the words do so as they are written for the command line, or memory runs out for that
+abbrev pub Executes : List (List ℕ) → World → World → Ending → Type 0
+Executes words old new ending =
+    ServesWords (spelled_out false words) old new ending
+    ⊎ (OnlySays old new × SaysMemory old.messages new.messages ending.said
+    × (ending.status ≡ 2))

@@ -1,39 +1,62 @@
 //! The program's arguments.
 ghost use Rattle.std.specs.Prelude.{◌≡◌, [], map, string_bytes, IfOk, IfErr, option_map, false};
 ghost use Rattle.clap.specs.Words.{FailsBy, all_of, app_of, fault_of, first_of, found_of, matches_of, rows_of, rule_of};
-ghost use Rattle.reflow_program.specs.Arguments.{IsMemory, IsRequest, IsUnfit, Refuses, algorithm_in, ending_in};
-ghost use Rattle.reflow_program.specs.Arguments.{file_rule, files_in, flag_in, flag_rule, mode_in};
-ghost use Rattle.reflow_program.specs.Arguments.{prefix_rule, reflow_app, width_in};
+ghost use Rattle.reflow_program.specs.Arguments.{ending_beside, lines_in, lines_rule, range_between, range_of};
+ghost use Rattle.reflow_program.specs.Arguments.{IsRequest, IsUnfit, algorithm_in, ending_in};
+ghost use Rattle.reflow_program.specs.Arguments.{file_rule, flag_in, flag_rule, mode_in};
+ghost use Rattle.reflow_program.specs.Arguments.{reflow_app, text_rule, texts_in, width_in};
 ghost use Rattle.reflow_program.specs.Arguments.{width_rule};
 
 use crate::layout::Layout;
 use clap::{Arg, ArgAction, ArgMatches, Command};
 use std::alloc::{AllocError, Global};
 use textwrap_lines::LineEnding;
+use textwrap_marked::{Algorithm, LineRange, ReflowOptions};
 use textwrap_program::arguments::parse_width;
-use textwrap_reflow::{Algorithm, ReflowOptions};
+use textwrap_words::wrap_algorithms::Penalties;
 
 /// What `--help` shows, which is what `clap` makes of the command line.
-pub const HELP: &str = "Fills the paragraphs of a text, each under its own prefix.
+pub const HELP: &str = "Fills the paragraphs of a text, each behind its own marks.
 
 Usage: reflow [OPTIONS] [FILE]...
 
 Arguments:
-  [FILE]...  Files; the standard input if there are none
+  [FILE]...  Files; - is the standard input [default: -]
 
 Options:
-  -w, --width <N>      Columns of a line [default: 80]
+  -w, --width <N>      Columns of a line, also -N [default: 80]
       --first-fit      Fill each line with as many words as fit
       --least-cost     Choose the least ragged lines (default)
       --justify        Widen the gaps of lines to the width
-      --crlf           End lines with CR LF
-      --prefix <TEXT>  Fill only paragraphs whose prefix begins with TEXT
-      --keep-code      Leave fenced and indented code as it is
+      --markdown       There are no comments, and # is a heading
+      --marker <TEXT>  One more word that marks a comment
+      --bare           Block comments have no * before their lines
+      --prefix <TEXT>  Fill only paragraphs whose marks begin with TEXT
+      --indented       Fill also text that is indented deeper
+      --lines <A:B>    Fill only the paragraphs at the lines A to B
+      --lf             End all lines with LF
+      --crlf           End all lines with CR LF
       --check          Print the names of files that would change
       --in-place       Replace each file, by way of a new file FILE.reflow
   -h, --help           Print help
   -V, --version        Print version
+
+Examples:
+  reflow -72 < mail.txt                       A text on standard input, at 72 columns
+  reflow --check --markdown *.md              Which of these files would change
+  reflow --in-place --prefix // src/*.rs      Comments of lines alone
+  reflow --prefix=-- --prefix '/*' query.sql  A text with a hyphen stands behind =
 ";
+
+/// What the program does, in a line of its help.
+const ABOUT: &str = "Fills the paragraphs of a text, each behind its own marks.";
+
+/// What stands at the end of its help.
+const EXAMPLES: &str = "Examples:
+  reflow -72 < mail.txt                       A text on standard input, at 72 columns
+  reflow --check --markdown *.md              Which of these files would change
+  reflow --in-place --prefix // src/*.rs      Comments of lines alone
+  reflow --prefix=-- --prefix '/*' query.sql  A text with a hyphen stands behind =";
 
 /// What `--version` shows, which is what `clap` makes of it.
 pub const VERSION: &str = "reflow 2.0.0\n";
@@ -50,56 +73,35 @@ pub enum Mode {
 }
 
 /// What the arguments ask for.
-#[derive(Drop)]
+#[derive(Clone, Copy, Debug)]
 pub struct Request<'a> {
     /// How texts are laid out.
     pub layout: Layout<'a>,
     /// What is done with each input.
     pub mode: Mode,
-    /// The names of the files. Without any, the standard input is the one input.
-    pub files: Vec<&'a str>,
+    /// Whether lines are to be justified.
+    pub justifies: bool,
+    /// The names of the inputs. `-` is the standard input.
+    pub names: &'a [&'a str],
 }
 
-/// Why the arguments mean no request.
-#[derive(Drop)]
-pub enum ArgumentError {
-    /// They are no arguments of the program, or ask for its help or version, or memory ran out.
-    Clap(clap::Error),
+/// Why the arguments mean no request, though they are those of the program.
+#[derive(Clone, Copy, Debug, PartialEq, Eq)]
+pub enum Unfit {
     /// The width has characters beside ASCII digits, or does not fit in 64 bits.
     Width,
+    /// The lines are not two such numbers with a colon between.
+    Lines,
 }
 
-impl From<AllocError> for ArgumentError {
-    ghost from_gives = { λ _ error. IsMemory error };
-
-    fn from(error: AllocError) -> ArgumentError {
-        ArgumentError::Clap(clap::Error::from(error))
-    }
-}
-
-/// The request that the words after the program's name mean.
+/// What these words match on the command line of the program.
 ///
 /// # Errors
-/// That of the first argument that is wrong, or a request for help.
-pub fn parse<'a>(alloc: Global, words: &'a [String]) -> Result<Request<'a>, ArgumentError>
-    ensures ok { IfOk result (λ request.
-        IsRequest (matches_of reflow_app (map string_bytes words.entry.now)) request) }
-    ensures fits { IfOk result (λ _.
-        fault_of reflow_app (map string_bytes words.entry.now) ≡ []) }
-    ensures refused { IfErr result (Refuses (map string_bytes words.entry.now)) }
-{
-    let matches = match matches_in(alloc, words) {
-        Ok(matches) => matches,
-        Err(error) => return Err(ArgumentError::Clap(error)),
-    };
-    request_in(alloc, &matches)
-}
-
-/// What the words after the program's name match on its command line.
-fn matches_in<'a>(alloc: Global, words: &'a [String]) -> Result<ArgMatches<'a>, clap::Error>
+/// That of the first word that is wrong, or a request for help.
+pub fn matches_in<'a>(alloc: Global, words: &'a [&'a str]) -> Result<ArgMatches<'a>, clap::Error>
     ensures matches { IfOk result (λ matches. rows_of (found_of matches)
-        ≡ matches_of reflow_app (map string_bytes words.entry.now)) }
-    ensures kinds { FailsBy (fault_of reflow_app (map string_bytes words.entry.now)) result }
+        ≡ matches_of reflow_app (map (λ word. word.now) words.entry.now)) }
+    ensures kinds { FailsBy (fault_of reflow_app (map (λ word. word.now) words.entry.now)) result }
 {
     let command = command(alloc)?;
     command.try_get_matches_from(words)
@@ -111,8 +113,10 @@ fn command<'a>(alloc: Global) -> Result<Command<'a>, AllocError>
 {
     Command::new(alloc, "reflow")
         .version("2.0.0")
-        .about("Fills the paragraphs of a text, each under its own prefix.")
+        .about(ABOUT)
+        .after_help(EXAMPLES)
         .no_binary_name(true)
+        .args_override_self(true)
         .arg(width_argument(alloc))?
         .arg(flag(
             alloc,
@@ -125,19 +129,29 @@ fn command<'a>(alloc: Global) -> Result<Command<'a>, AllocError>
             "Choose the least ragged lines (default)",
         ))?
         .arg(flag(alloc, "justify", "Widen the gaps of lines to the width"))?
-        .arg(flag(alloc, "crlf", "End lines with CR LF"))?
-        .arg(prefix_argument(alloc))?
         .arg(flag(
             alloc,
-            "keep-code",
-            "Leave fenced and indented code as it is",
+            "markdown",
+            "There are no comments, and # is a heading",
         ))?
+        .arg(text(alloc, "marker", "One more word that marks a comment"))?
+        .arg(flag(alloc, "bare", "Block comments have no * before their lines"))?
+        .arg(text(
+            alloc,
+            "prefix",
+            "Fill only paragraphs whose marks begin with TEXT",
+        ))?
+        .arg(flag(alloc, "indented", "Fill also text that is indented deeper"))?
+        .arg(lines_argument(alloc))?
+        .arg(flag(alloc, "lf", "End all lines with LF"))?
+        .arg(flag(alloc, "crlf", "End all lines with CR LF"))?
         .arg(flag(alloc, "check", "Print the names of files that would change"))?
         .arg(flag(
             alloc,
             "in-place",
             "Replace each file, by way of a new file FILE.reflow",
         ))?
+        .arg(flag(alloc, "keep-code", "Code is always kept").hide(true))?
         .arg(file_argument(alloc))
 }
 
@@ -152,6 +166,18 @@ fn flag<'a>(alloc: Global, name: &'a str, help: &'a str) -> Arg<'a>
         .help(help)
 }
 
+/// An argument with a text, which may come several times.
+fn text<'a>(alloc: Global, name: &'a str, help: &'a str) -> Arg<'a>
+    ensures rule { rule_of result ≡ text_rule name.entry.now }
+    ensures local { result.global ≡ false }
+{
+    Arg::new(alloc, name)
+        .long(name)
+        .value_name("TEXT")
+        .action(ArgAction::Append)
+        .help(help)
+}
+
 /// The argument that gives the width.
 fn width_argument<'a>(alloc: Global) -> Arg<'a>
     ensures rule { rule_of result ≡ width_rule }
@@ -162,59 +188,61 @@ fn width_argument<'a>(alloc: Global) -> Arg<'a>
         .long("width")
         .value_name("N")
         .default_value("80")
-        .help("Columns of a line")
+        .help("Columns of a line, also -N")
 }
 
-/// The argument that gives the prefix of the paragraphs that are filled.
-fn prefix_argument<'a>(alloc: Global) -> Arg<'a>
-    ensures rule { rule_of result ≡ prefix_rule }
+/// The argument that gives the lines at which paragraphs are filled.
+fn lines_argument<'a>(alloc: Global) -> Arg<'a>
+    ensures rule { rule_of result ≡ lines_rule }
     ensures local { result.global ≡ false }
 {
-    Arg::new(alloc, "prefix")
-        .long("prefix")
-        .value_name("TEXT")
-        .help("Fill only paragraphs whose prefix begins with TEXT")
+    Arg::new(alloc, "lines")
+        .long("lines")
+        .value_name("A:B")
+        .help("Fill only the paragraphs at the lines A to B")
 }
 
-/// The argument that gives the files.
+/// The argument that gives the names of the inputs.
 fn file_argument<'a>(alloc: Global) -> Arg<'a>
     ensures rule { rule_of result ≡ file_rule }
     ensures local { result.global ≡ false }
 {
     Arg::new(alloc, "FILE")
         .action(ArgAction::Append)
-        .help("Files; the standard input if there are none")
+        .default_value("-")
+        .help("Files; - is the standard input")
 }
 
 /// The request of what a parse found.
-fn request_in<'a>(alloc: Global, matches: &ArgMatches<'a>) -> Result<Request<'a>, ArgumentError>
+pub fn request_in<'m, 'a>(matches: &'m ArgMatches<'a>) -> Result<Request<'m>, Unfit>
     ensures ok { IfOk result (IsRequest (rows_of (found_of matches.now))) }
     ensures unfit { IfErr result (IsUnfit (rows_of (found_of matches.now))) }
 {
     let Some(width) = width(matches) else {
-        return Err(ArgumentError::Width);
+        return Err(Unfit::Width);
+    };
+    let Some(lines) = lines(matches) else {
+        return Err(Unfit::Lines);
     };
     let options = ReflowOptions {
         width,
         algorithm: algorithm_of(matches),
-        line_ending: line_ending(matches),
-        keeps_code: is_set(matches, "keep-code"),
-        prefix: text_of(matches, "prefix").unwrap_or(""),
+        ending: ending_beside(lines, ending(matches)),
+        markdown: is_set(matches, "markdown"),
+        markers: texts_of(matches, "marker"),
+        bare: is_set(matches, "bare"),
+        prefixes: texts_of(matches, "prefix"),
+        indented: is_set(matches, "indented"),
     };
-    let layout = Layout {
-        options,
-        justifies: is_set(matches, "justify"),
-    };
-    let mode = mode_of(matches);
-    let files = files(alloc, matches)?;
     Ok(Request {
-        layout,
-        mode,
-        files,
+        layout: Layout { options, lines },
+        mode: mode_of(matches),
+        justifies: is_set(matches, "justify"),
+        names: texts_of(matches, "FILE"),
     })
 }
 
-/// The first value of an argument.
+/// The last value of an argument.
 fn text_of<'a>(matches: &ArgMatches<'a>, id: &str) -> Option<&'a str>
     ensures { option_map (λ text. text.now) result
         ≡ first_of id.now (rows_of (found_of matches.now)) }
@@ -223,11 +251,10 @@ fn text_of<'a>(matches: &ArgMatches<'a>, id: &str) -> Option<&'a str>
 }
 
 /// The values of an argument.
-fn texts_of<'m, 'a>(matches: &'m ArgMatches<'a>, id: &str) -> Option<&'m [&'a str]>
-    ensures { option_map (λ texts. map (λ text. text.now) texts.now) result
-        ≡ all_of id.now (rows_of (found_of matches.now)) }
+fn texts_of<'m, 'a>(matches: &'m ArgMatches<'a>, id: &str) -> &'m [&'m str]
+    ensures { map (λ text. text.now) result.now ≡ texts_in id.now (rows_of (found_of matches.now)) }
 {
-    matches.get_strs(id)
+    matches.get_strs(id).unwrap_or(&[])
 }
 
 /// The width, where it is a number.
@@ -237,6 +264,49 @@ fn width(matches: &ArgMatches<'_>) -> Option<usize>
     match text_of(matches, "width") {
         Some(text) => parse_width(text),
         None => None,
+    }
+}
+
+/// The lines at which paragraphs are filled, if they are given and are such.
+fn lines(matches: &ArgMatches<'_>) -> Option<Option<LineRange>>
+    ensures { result ≡ lines_in (rows_of (found_of matches.now)) }
+{
+    match text_of(matches, "lines") {
+        Some(text) => match range_of(text) {
+            Some(range) => Some(Some(range)),
+            None => None,
+        },
+        None => Some(None),
+    }
+}
+
+/// The lines that a text names: two numbers with a colon between.
+fn range_of(text: &str) -> Option<LineRange>
+    ensures { result ≡ range_of text.now }
+{
+    match text.split_once(':') {
+        Some((first, last)) => range_between(parse_width(first), parse_width(last)),
+        None => None,
+    }
+}
+
+/// The lines from the one to the other, where both are numbers.
+fn range_between(first: Option<usize>, last: Option<usize>) -> Option<LineRange>
+    ensures { result ≡ range_between first last }
+{
+    match (first, last) {
+        (Some(first), Some(last)) => Some(LineRange { first, last }),
+        _ => None,
+    }
+}
+
+/// The ending of all lines, which none has where only some lines are to change.
+fn ending_beside(lines: Option<LineRange>, ending: Option<LineEnding>) -> Option<LineEnding>
+    ensures { result ≡ ending_beside lines ending }
+{
+    match lines {
+        Some(_) => None,
+        None => ending,
     }
 }
 
@@ -257,18 +327,20 @@ fn algorithm_of(matches: &ArgMatches<'_>) -> Algorithm
     if is_set(matches, "first-fit") && !is_set(matches, "least-cost") {
         Algorithm::FirstFit
     } else {
-        Algorithm::LeastCost
+        Algorithm::LeastCost(Penalties::new())
     }
 }
 
-/// The line ending.
-fn line_ending(matches: &ArgMatches<'_>) -> LineEnding
+/// The ending of all lines, if one is asked for. `--lf` counts for more than `--crlf`.
+fn ending(matches: &ArgMatches<'_>) -> Option<LineEnding>
     ensures { result ≡ ending_in (rows_of (found_of matches.now)) }
 {
-    if is_set(matches, "crlf") {
-        LineEnding::CRLF
+    if is_set(matches, "lf") {
+        Some(LineEnding::LF)
+    } else if is_set(matches, "crlf") {
+        Some(LineEnding::CRLF)
     } else {
-        LineEnding::LF
+        None
     }
 }
 
@@ -283,17 +355,4 @@ fn mode_of(matches: &ArgMatches<'_>) -> Mode
     } else {
         Mode::Print
     }
-}
-
-/// The names of the files.
-fn files<'a>(alloc: Global, matches: &ArgMatches<'a>) -> Result<Vec<&'a str>, AllocError>
-    ensures { IfOk result (λ files.
-        map (λ file. file.now) files.items ≡ files_in (rows_of (found_of matches.now))) }
-{
-    let mut files = Vec::new(alloc);
-    let Some(names) = texts_of(matches, "FILE") else {
-        return Ok(files);
-    };
-    files.extend_from_slice(names)?;
-    Ok(files)
 }

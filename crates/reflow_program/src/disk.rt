@@ -11,8 +11,8 @@ const DRAFT_SUFFIX: &str = ".reflow";
 
 /// The files of the file system, by their paths.
 ///
-/// A file is replaced by a new one, which has its owner, its group and its mode. So other hard links
-/// to it keep the old text. A link to a file is followed: the file is replaced, and the link stays.
+/// A file is replaced by a new one, which has its mode, and its owner and its group, if the system permits
+/// that. So other hard links to it keep the old text. A link to a file is followed: the file is replaced, and the link stays.
 #[derive(Drop)]
 pub struct Disk<'r, R> {
     runtime: &'r R,
@@ -68,11 +68,12 @@ impl<'r, R: rt::Files + AllocGlobal> Disk<'r, R> {
             .open(self.runtime, path)
     }
 
-    /// Gives a draft the owner, the group and the mode of its file, and puts it in the place of that,
-    /// once it is all on the disk.
+    /// Gives a draft the group and the owner of its file, as far as the system permits it, and the mode,
+    /// and puts it in the place of that, once it is all on the disk.
     fn put(&self, draft: &DraftFile<R::File>) -> io::Result<()> {
         let (owner, group) = (Some(draft.old.uid()), Some(draft.old.gid()));
-        lchown(self.runtime, draft.path.as_str(), owner, group)?;
+        let _grouped = lchown(self.runtime, draft.path.as_str(), None, group);
+        let _owned = lchown(self.runtime, draft.path.as_str(), owner, None);
         draft.file.set_permissions(draft.old.permissions())?;
         draft.file.sync_all()?;
         fs::rename(self.runtime, draft.path.as_str(), draft.target.as_str())
@@ -91,6 +92,10 @@ impl<'r, R: rt::Files + AllocGlobal> Files for Disk<'r, R> {
 
     fn open(&mut self, name: &str) -> io::Result<InputFile<R::File>> {
         let file = File::open(self.runtime, name)?;
+        // The system opens a folder too, and only a read of it fails.
+        if file.metadata()?.is_dir() {
+            return Err(Error::from(ErrorKind::IsADirectory));
+        }
         Ok(InputFile { file })
     }
 

@@ -1,26 +1,37 @@
-//! What the program does with one input. To reflow it is to lay it out as the [`Layout`] says: its
-//! lines are justified too, if this is asked for.
-ghost use Rattle.std.specs.Prelude.{◌≡◌, ◌≢◌, Err, IfOk, IfErr, OnOk, OnErr, IsUtf8, string_bytes};
-ghost use Rattle.std.specs.Result.{result_err};
+//! What the program does with one input. To reflow it is to lay it out as the [`Layout`] says.
+ghost use Rattle.std.specs.Prelude.{◌≡◌, ◌++◌, ◌∷◌, [], IfOk, IfErr, OnOk, OnErr};
+ghost use Rattle.std.specs.Io.KnownBytes.{Appends};
+ghost use Rattle.textwrap_program.specs.Filling.{ReadsAll, WritesPrefix};
+ghost use Rattle.textwrap_program.specs.Program.{TriesLine, line_feed};
+ghost use Rattle.reflow_program.specs.Faults.{IsOfDraft, IsOfOutput, IsOfReading};
 ghost use Rattle.reflow_program.specs.Files.{SameFiles};
 ghost use Rattle.reflow_program.specs.Inputs.{Checks, ChecksFile, IsReplaced, Prints, PrintsFile};
-ghost use Rattle.reflow_program.specs.Inputs.{Reads, Replaces};
-ghost use Rattle.reflow_program.specs.Layout.{IsLaidOut};
+ghost use Rattle.reflow_program.specs.Inputs.{Reads, Reflows, Replaces};
 
+use crate::faults::{Fault, Reason, draft_fault, file_reason, output_reason};
 use crate::files::Files;
-use crate::layout::{Layout, lay_out};
-use simdutf8::basic::from_utf8;
-use std::alloc::Allocator;
+use crate::layout::{LaidOut, Layout, lay_out};
+use simdutf8::compat::from_utf8;
+use std::alloc::Global;
 use std::io::{Read, Write};
-use textwrap_program::filling::{RunError, read_to_end, write_line, write_to_end};
+use textwrap_program::filling::{RunError, read_to_end, write_whole};
+
+/// What became of an input.
+#[derive(Clone, Copy, Debug, PartialEq, Eq)]
+pub struct Treated {
+    /// Whether a check found that it would change.
+    pub changes: bool,
+    /// Whether some line of it has marks that are filled.
+    pub has_marks: bool,
+}
 
 /// An input, and what it is reflowed to.
 #[derive(Drop)]
-pub struct Reflowed<A: Allocator> {
+pub struct Reflowed {
     /// The bytes that were read.
-    pub input: Vec<u8, A>,
+    pub input: Vec<u8>,
     /// The input, reflowed.
-    pub output: String<A>,
+    pub output: LaidOut,
 }
 
 /// Reads the reader to its end, and reflows what it gave.
@@ -28,36 +39,42 @@ pub struct Reflowed<A: Allocator> {
 /// # Errors
 /// `Read` where a read fails, `NotUtf8` exactly where the input is not UTF-8, `Memory` where memory
 /// runs out.
-pub fn read_reflowed<A: Allocator + Copy, R: Read>(
-    alloc: A,
+pub fn read_reflowed<R: Read>(
+    alloc: Global,
     reader: &mut R,
     layout: &Layout<'_>,
-) -> Result<Reflowed<A>, RunError>
-    ensures { Reads layout.now
-        (R.remaining reader.old) (R.remaining reader.new) result }
+) -> Result<Reflowed, Fault>
+    ensures { Reads layout.now (R.remaining reader.old) (R.remaining reader.new) result }
 {
-    let input = read_to_end(alloc, reader)?;
+    let input = read_input(alloc, reader)?;
     let output = reflow_input(alloc, &input, layout)?;
     Ok(Reflowed { input, output })
 }
 
-/// The input, reflowed.
-fn reflow_input<A: Allocator + Copy>(
-    alloc: A,
-    input: &[u8],
-    layout: &Layout<'_>,
-) -> Result<String<A>, RunError>
-    ensures text { result ≢ Err RunError.NotUtf8 → IsUtf8 input.now }
-    ensures reflowed { IfOk result (λ output.
-        IsLaidOut layout.now input.now (string_bytes output)) }
-    ensures not_utf8 { result ≡ Err RunError.NotUtf8 → ¬ IsUtf8 input.now }
-    ensures not_read { IfErr result (λ error. error ≢ RunError.Read) }
-    ensures not_write { IfErr result (λ error. error ≢ RunError.Write) }
+/// Reads the reader to its end.
+fn read_input<R: Read>(alloc: Global, reader: &mut R) -> Result<Vec<u8>, Fault>
+    ensures ok { IfOk result (λ input.
+        ReadsAll (R.remaining reader.old) (R.remaining reader.new) input.items) }
+    ensures only_reading { IfErr result IsOfReading }
 {
-    let Ok(text) = from_utf8(input) else {
-        return Err(RunError::NotUtf8);
-    };
-    lay_out(alloc, text, layout).map_err(|_| RunError::Memory)
+    match read_to_end(alloc, reader) {
+        Ok(input) => Ok(input),
+        Err(RunError::Memory) => Err(Fault::Memory),
+        Err(_) => Err(Fault::Read(Reason::Other)),
+    }
+}
+
+/// The input, reflowed.
+fn reflow_input(alloc: Global, input: &[u8], layout: &Layout<'_>) -> Result<LaidOut, Fault>
+    ensures { Reflows layout.now input.now result }
+{
+    match from_utf8(input) {
+        Ok(text) => match lay_out(alloc, text, layout) {
+            Ok(laid) => Ok(laid),
+            Err(_) => Err(Fault::Memory),
+        },
+        Err(error) => Err(Fault::NotUtf8(error.valid_up_to())),
+    }
 }
 
 /// Writes what the reader gives, reflowed. The text is written only after all of it is known.
@@ -65,17 +82,39 @@ fn reflow_input<A: Allocator + Copy>(
 /// # Errors
 /// That of the first step that fails. Nothing is written but at `Write`, where the writer took a
 /// prefix of the text.
-pub fn print_input<A: Allocator + Copy, R: Read, W: Write>(
-    alloc: A,
+pub fn print_input<R: Read, W: Write>(
+    alloc: Global,
     reader: &mut R,
     writer: &mut W,
     layout: &Layout<'_>,
-) -> Result<(), RunError>
+) -> Result<Treated, Fault>
     ensures { Prints layout.now (R.remaining reader.old) (R.remaining reader.new)
-        (W.contents writer.old) (W.contents writer.new) (result_err result) }
+        (W.contents writer.old) (W.contents writer.new) result }
 {
     let reflowed = read_reflowed(alloc, reader, layout)?;
-    write_to_end(writer, reflowed.output.as_bytes())
+    match write_output(writer, reflowed.output.text.as_bytes()) {
+        Ok(()) => Ok(Treated {
+            changes: false,
+            has_marks: reflowed.output.has_marks,
+        }),
+        Err(fault) => Err(fault),
+    }
+}
+
+/// Writes the bytes to the output.
+///
+/// # Errors
+/// `Write`. Some of the bytes may then be written.
+fn write_output<W: Write>(writer: &mut W, bytes: &[u8]) -> Result<(), Fault>
+    ensures ok { OnOk result (Appends (W.contents writer.old) (W.contents writer.new) bytes.now) }
+    ensures prefix { OnErr result
+        (WritesPrefix (W.contents writer.old) (W.contents writer.new) bytes.now) }
+    ensures only_output { IfErr result IsOfOutput }
+{
+    match write_whole(writer, bytes) {
+        Ok(()) => Ok(()),
+        Err(kind) => Err(Fault::Write(output_reason(kind))),
+    }
 }
 
 /// Whether what the reader gives would change if it were reflowed. If so, the writer takes a line
@@ -84,65 +123,89 @@ pub fn print_input<A: Allocator + Copy, R: Read, W: Write>(
 /// # Errors
 /// That of the first step that fails. Nothing is written but at `Write`, where the writer took a
 /// prefix of the line.
-pub fn check_input<A: Allocator + Copy, R: Read, W: Write>(
-    alloc: A,
+pub fn check_input<R: Read, W: Write>(
+    alloc: Global,
     name: &str,
     reader: &mut R,
     writer: &mut W,
     layout: &Layout<'_>,
-) -> Result<bool, RunError>
+) -> Result<Treated, Fault>
     ensures { Checks layout.now name.now
         (R.remaining reader.old) (R.remaining reader.new)
         (W.contents writer.old) (W.contents writer.new) result }
 {
     let reflowed = read_reflowed(alloc, reader, layout)?;
-    if reflowed.input.as_slice() == reflowed.output.as_bytes() {
-        return Ok(false);
+    let has_marks = reflowed.output.has_marks;
+    if reflowed.input.as_slice() == reflowed.output.text.as_bytes() {
+        return Ok(Treated {
+            changes: false,
+            has_marks,
+        });
     }
-    write_line(writer, name)?;
-    Ok(true)
+    match write_name(writer, name) {
+        Ok(()) => Ok(Treated {
+            changes: true,
+            has_marks,
+        }),
+        Err(fault) => Err(fault),
+    }
+}
+
+/// Writes a line with the name to the output.
+///
+/// # Errors
+/// `Write`. A prefix of the line may then be written.
+fn write_name<W: Write>(writer: &mut W, name: &str) -> Result<(), Fault>
+    ensures ok { OnOk result
+        (Appends (W.contents writer.old) (W.contents writer.new) (name.now ++ line_feed ∷ [])) }
+    ensures prefix { OnErr result
+        (TriesLine (W.contents writer.old) (W.contents writer.new) name.now) }
+    ensures only_output { IfErr result IsOfOutput }
+{
+    write_output(writer, name.as_bytes())?;
+    write_output(writer, b"\n")
 }
 
 /// Writes what the file of this name has, reflowed, as [`print_input`] does.
 ///
 /// # Errors
 /// Those of [`print_input`], and `Read` also where the file cannot be opened.
-pub fn print_file<A: Allocator + Copy, F: Files, W: Write>(
-    alloc: A,
+pub fn print_file<F: Files, W: Write>(
+    alloc: Global,
     name: &str,
     files: &mut F,
     writer: &mut W,
     layout: &Layout<'_>,
-) -> Result<(), RunError>
+) -> Result<Treated, Fault>
     ensures kept { SameFiles (F.bytes files.old) (F.bytes files.new) }
     ensures printed { PrintsFile layout.now (F.bytes files.old name.now)
-        (W.contents writer.old) (W.contents writer.new) (result_err result) }
+        (W.contents writer.old) (W.contents writer.new) result }
 {
-    let Ok(mut reader) = files.open(name) else {
-        return Err(RunError::Read);
-    };
-    print_input(alloc, &mut reader, writer, layout)
+    match files.open(name) {
+        Ok(mut reader) => print_input(alloc, &mut reader, writer, layout),
+        Err(error) => Err(Fault::Read(file_reason(error.kind()))),
+    }
 }
 
 /// Whether the file of this name would change if it were reflowed, as [`check_input`] does.
 ///
 /// # Errors
 /// Those of [`check_input`], and `Read` also where the file cannot be opened.
-pub fn check_file<A: Allocator + Copy, F: Files, W: Write>(
-    alloc: A,
+pub fn check_file<F: Files, W: Write>(
+    alloc: Global,
     name: &str,
     files: &mut F,
     writer: &mut W,
     layout: &Layout<'_>,
-) -> Result<bool, RunError>
+) -> Result<Treated, Fault>
     ensures kept { SameFiles (F.bytes files.old) (F.bytes files.new) }
     ensures checked { ChecksFile layout.now name.now (F.bytes files.old name.now)
         (W.contents writer.old) (W.contents writer.new) result }
 {
-    let Ok(mut reader) = files.open(name) else {
-        return Err(RunError::Read);
-    };
-    check_input(alloc, name, &mut reader, writer, layout)
+    match files.open(name) {
+        Ok(mut reader) => check_input(alloc, name, &mut reader, writer, layout),
+        Err(error) => Err(Fault::Read(file_reason(error.kind()))),
+    }
 }
 
 /// Reflows the file of this name in its place. A file that would not change is left alone. It is
@@ -151,38 +214,51 @@ pub fn check_file<A: Allocator + Copy, F: Files, W: Write>(
 /// # Errors
 /// That of the first step that fails; `Read` also where the file cannot be opened, `Write` where no
 /// draft can be made or put in its place. All files are then as they were.
-pub fn replace_file<A: Allocator + Copy, F: Files>(
-    alloc: A,
+pub fn replace_file<F: Files>(
+    alloc: Global,
     name: &str,
     files: &mut F,
     layout: &Layout<'_>,
-) -> Result<(), RunError>
-    ensures { Replaces layout.now name.now
-        (F.bytes files.old) (F.bytes files.new) (result_err result) }
+) -> Result<Treated, Fault>
+    ensures { Replaces layout.now name.now (F.bytes files.old) (F.bytes files.new) result }
 {
-    let Ok(mut reader) = files.open(name) else {
-        return Err(RunError::Read);
+    let mut reader = match files.open(name) {
+        Ok(reader) => reader,
+        Err(error) => return Err(Fault::Read(file_reason(error.kind()))),
     };
     let reflowed = read_reflowed(alloc, &mut reader, layout)?;
-    if reflowed.input.as_slice() == reflowed.output.as_bytes() {
-        return Ok(());
+    let treated = Treated {
+        changes: false,
+        has_marks: reflowed.output.has_marks,
+    };
+    if reflowed.input.as_slice() == reflowed.output.text.as_bytes() {
+        return Ok(treated);
     }
-    put_bytes(name, files, reflowed.output.as_bytes())
+    match put_bytes(name, files, reflowed.output.text.as_bytes()) {
+        Ok(()) => Ok(treated),
+        Err(fault) => Err(fault),
+    }
 }
 
 /// Puts these bytes in the place of the file of this name, once all are written beside it.
 ///
 /// # Errors
-/// `Write`. All files are then as they were.
-fn put_bytes<F: Files>(name: &str, files: &mut F, bytes: &[u8]) -> Result<(), RunError>
+/// `Write`, or `Memory` where that runs out for the draft. All files are then as they were.
+fn put_bytes<F: Files>(name: &str, files: &mut F, bytes: &[u8]) -> Result<(), Fault>
     ensures ok { OnOk result (IsReplaced name.now bytes.now (F.bytes files.old) (F.bytes files.new)) }
     ensures kept { OnErr result (SameFiles (F.bytes files.old) (F.bytes files.new)) }
-    ensures only_write { IfErr result (λ error. error ≡ RunError.Write) }
+    ensures only_draft { IfErr result IsOfDraft }
 {
-    let mut draft = files.draft(name).map_err(|_| RunError::Write)?;
-    if let Err(error) = write_to_end(&mut draft, bytes) {
+    let mut draft = match files.draft(name) {
+        Ok(draft) => draft,
+        Err(error) => return Err(draft_fault(error.kind())),
+    };
+    if let Err(kind) = write_whole(&mut draft, bytes) {
         files.discard(name, draft);
-        return Err(error);
+        return Err(draft_fault(kind));
     }
-    files.replace(name, draft).map_err(|_| RunError::Write)
+    match files.replace(name, draft) {
+        Ok(()) => Ok(()),
+        Err(error) => Err(draft_fault(error.kind())),
+    }
 }

@@ -4,7 +4,9 @@
 
 pub mod arguments;
 pub mod disk;
+pub mod faults;
 pub mod files;
 pub mod inputs;
 pub mod layout;
 pub mod program;
+pub mod words;

@@ -1,15 +1,23 @@
 //! The program, over its arguments, its files, a reader and two writers.
-ghost use Rattle.std.specs.Prelude.{◌≡◌, map, string_bytes, OnOk, OnErr};
+ghost use Rattle.std.specs.Prelude.{◌≡◌, map, string_bytes, bytes_eq, codes, false, OnOk, OnErr};
 ghost use Rattle.std.specs.Io.KnownBytes.{Appends};
+ghost use Rattle.clap.specs.Words.{found_of, rows_of};
 ghost use Rattle.textwrap_program.specs.Filling.{WritesPrefix};
-ghost use Rattle.reflow_program.specs.Program.{Executes, Explains, ExplainsParse, SaysLine, Serves};
-ghost use Rattle.reflow_program.specs.Program.{TreatsFile, TreatsFiles, TreatsInput, Reports, all_well};
-ghost use Rattle.reflow_program.specs.Program.{Shows, Warns, fault_line, fault_text, joined};
+ghost use Rattle.reflow_program.specs.Messages.{draft_of, fault_texts, is_closed, is_quiet, joined_texts};
+ghost use Rattle.reflow_program.specs.Messages.{message_line, reading_text, says_nothing, texts_of};
+ghost use Rattle.reflow_program.specs.Messages.{writing_text};
+ghost use Rattle.reflow_program.specs.Program.{Executes, ExplainsParse, Reports, Says, SaysLine, ServesRows};
+ghost use Rattle.reflow_program.specs.Program.{ServesWords, Shows, Treats, TreatsAll, TreatsFile};
+ghost use Rattle.reflow_program.specs.Program.{TreatsInput, Warns, all_well, joined, shown_name, status_of};
 
-use crate::arguments::{ArgumentError, HELP, Mode, Request, VERSION, parse};
+use crate::arguments::{HELP, Mode, Request, Unfit, VERSION, matches_in, request_in};
+use crate::faults::{Fault, Reason};
 use crate::files::Files;
-use crate::inputs::{check_file, check_input, print_file, print_input, replace_file};
+use crate::inputs::{Treated, check_file, check_input, print_file, print_input, replace_file};
+use crate::words::spelled_out;
+use clap::ArgMatches;
 use clap::error::ErrorKind;
+use itoa::Buffer;
 use std::alloc::Global;
 use std::fmt::Display;
 use std::io::{Read, Write};
@@ -18,14 +26,23 @@ use textwrap_program::filling::{RunError, write_line, write_to_end};
 /// What the program says where the width is no number.
 const WIDTH_LINE: &str = "reflow: the width is not a number of 64 bits";
 
+/// What the program says where the lines are no numbers.
+const LINES_LINE: &str = "reflow: the lines are not two numbers of 64 bits, A:B";
+
 /// What the program says where memory runs out before the first input.
 const MEMORY_LINE: &str = "reflow: out of memory";
 
 /// What the program says where its help or its version cannot be written.
 const WRITE_LINE: &str = "reflow: cannot write";
 
+/// The name of the standard input among the arguments.
+const STANDARD_INPUT_NAME: &str = "-";
+
 /// What the standard input is called in messages.
 const STANDARD_INPUT: &str = "standard input";
+
+/// What the program says of an input none of whose lines has the marks that are filled.
+const NO_MARKS: &str = "no line begins with what --prefix says";
 
 /// How a run ended.
 #[derive(Clone, Copy, Debug, PartialEq, Eq)]
@@ -69,26 +86,89 @@ pub fn execute<F: Files, R: Read, W: Write, M: Write>(
     messages: &mut M,
 ) -> Ending
     ensures { Executes (map string_bytes words.now)
-        (R.remaining reader.old) (R.remaining reader.new)
         (record {
+          unread = R.remaining reader.old;
           files = F.bytes files.old;
           output = W.contents output.old;
           messages = M.contents messages.old;
         })
         (record {
+          unread = R.remaining reader.new;
           files = F.bytes files.new;
           output = W.contents output.new;
           messages = M.contents messages.new;
         })
         result }
 {
-    match parse(alloc, words) {
-        Ok(request) => serve(alloc, &request, files, reader, output, messages),
-        Err(error) => explain(alloc, &error, output, messages),
+    match spelled_out(alloc, words) {
+        Ok(words) => execute_words(alloc, &words, files, reader, output, messages),
+        Err(_) => complain(messages, MEMORY_LINE),
     }
 }
 
-/// Does what the request asks for.
+/// Does what the words ask for, as they are written for the command line.
+fn execute_words<F: Files, R: Read, W: Write, M: Write>(
+    alloc: Global,
+    words: &[&str],
+    files: &mut F,
+    reader: &mut R,
+    output: &mut W,
+    messages: &mut M,
+) -> Ending
+    ensures { ServesWords (map (λ word. word.now) words.now)
+        (record {
+          unread = R.remaining reader.old;
+          files = F.bytes files.old;
+          output = W.contents output.old;
+          messages = M.contents messages.old;
+        })
+        (record {
+          unread = R.remaining reader.new;
+          files = F.bytes files.new;
+          output = W.contents output.new;
+          messages = M.contents messages.new;
+        })
+        result }
+{
+    match matches_in(alloc, words) {
+        Ok(matches) => serve_matches(alloc, &matches, files, reader, output, messages),
+        Err(error) => explain_parse(alloc, error.kind(), &error, output, messages),
+    }
+}
+
+/// Does what a parse found, if it is a request.
+fn serve_matches<F: Files, R: Read, W: Write, M: Write>(
+    alloc: Global,
+    matches: &ArgMatches<'_>,
+    files: &mut F,
+    reader: &mut R,
+    output: &mut W,
+    messages: &mut M,
+) -> Ending
+    ensures { ServesRows (rows_of (found_of matches.now))
+        (record {
+          unread = R.remaining reader.old;
+          files = F.bytes files.old;
+          output = W.contents output.old;
+          messages = M.contents messages.old;
+        })
+        (record {
+          unread = R.remaining reader.new;
+          files = F.bytes files.new;
+          output = W.contents output.new;
+          messages = M.contents messages.new;
+        })
+        result }
+{
+    match request_in(matches) {
+        Ok(request) => serve(alloc, &request, files, reader, output, messages),
+        Err(Unfit::Width) => complain(messages, WIDTH_LINE),
+        Err(Unfit::Lines) => complain(messages, LINES_LINE),
+    }
+}
+
+/// Treats one input after another, whatever becomes of those before it, unless nobody reads the output
+/// any more.
 fn serve<F: Files, R: Read, W: Write, M: Write>(
     alloc: Global,
     request: &Request<'_>,
@@ -97,43 +177,16 @@ fn serve<F: Files, R: Read, W: Write, M: Write>(
     output: &mut W,
     messages: &mut M,
 ) -> Ending
-    ensures { Serves request.now
-        (R.remaining reader.old) (R.remaining reader.new)
+    ensures { TreatsAll request.now.layout request.now.mode
+        (map (λ name. name.now) request.now.names.now) false
         (record {
+          unread = R.remaining reader.old;
           files = F.bytes files.old;
           output = W.contents output.old;
           messages = M.contents messages.old;
         })
         (record {
-          files = F.bytes files.new;
-          output = W.contents output.new;
-          messages = M.contents messages.new;
-        })
-        result }
-{
-    if request.files.is_empty() {
-        let treated = treat_input(alloc, request, reader, output);
-        return report(STANDARD_INPUT, treated, messages);
-    }
-    treat_files(alloc, request, files, output, messages)
-}
-
-/// Treats one file after another, whatever becomes of those before it.
-fn treat_files<F: Files, W: Write, M: Write>(
-    alloc: Global,
-    request: &Request<'_>,
-    files: &mut F,
-    output: &mut W,
-    messages: &mut M,
-) -> Ending
-    ensures { TreatsFiles request.now.layout request.now.mode
-        (map (λ name. name.now) request.now.files.items)
-        (record {
-          files = F.bytes files.old;
-          output = W.contents output.old;
-          messages = M.contents messages.old;
-        })
-        (record {
+          unread = R.remaining reader.new;
           files = F.bytes files.new;
           output = W.contents output.new;
           messages = M.contents messages.new;
@@ -141,11 +194,57 @@ fn treat_files<F: Files, W: Write, M: Write>(
         result }
 {
     let mut ending = Ending::well();
-    for name in &request.files {
-        let treated = treat_file(alloc, request, name, files, output);
-        ending = ending.and(report(name, treated, messages));
+    for name in request.names {
+        let treated = treat(alloc, request, name, files, reader, output);
+        ending = ending.and(report(shown_name(name), treated, messages));
+        if is_closed(treated) {
+            return ending;
+        }
     }
     ending
+}
+
+/// Whether nobody reads the output any more.
+fn is_closed(treated: Result<Treated, Fault>) -> bool
+    ensures { result ≡ is_closed treated }
+{
+    match treated {
+        Ok(_) => false,
+        Err(fault) => is_quiet(fault),
+    }
+}
+
+/// The name of an input in messages.
+fn shown_name(name: &str) -> &str
+    ensures { result.now ≡ shown_name name.now }
+{
+    if name == STANDARD_INPUT_NAME {
+        STANDARD_INPUT
+    } else {
+        name
+    }
+}
+
+/// Does with an input what the request asks for. The result says whether a check found that it would
+/// change.
+fn treat<F: Files, R: Read, W: Write>(
+    alloc: Global,
+    request: &Request<'_>,
+    name: &str,
+    files: &mut F,
+    reader: &mut R,
+    output: &mut W,
+) -> Result<Treated, Fault>
+    ensures { Treats request.now.layout request.now.mode (bytes_eq name.now (codes "-")) name.now
+        (R.remaining reader.old) (R.remaining reader.new)
+        (F.bytes files.old) (F.bytes files.new)
+        (W.contents output.old) (W.contents output.new) result }
+{
+    if name == STANDARD_INPUT_NAME {
+        treat_input(alloc, request, reader, output)
+    } else {
+        treat_file(alloc, request, name, files, output)
+    }
 }
 
 /// Does with the standard input what the request asks for; it cannot be replaced, so it is printed
@@ -155,16 +254,14 @@ fn treat_input<R: Read, W: Write>(
     request: &Request<'_>,
     reader: &mut R,
     output: &mut W,
-) -> Result<bool, RunError>
+) -> Result<Treated, Fault>
     ensures { TreatsInput request.now.layout request.now.mode
         (R.remaining reader.old) (R.remaining reader.new)
         (W.contents output.old) (W.contents output.new) result }
 {
     match request.mode {
         Mode::Check => check_input(alloc, STANDARD_INPUT, reader, output, &request.layout),
-        Mode::Print | Mode::InPlace => {
-            print_input(alloc, reader, output, &request.layout).map(|()| false)
-        }
+        Mode::Print | Mode::InPlace => { print_input(alloc, reader, output, &request.layout) }
     }
 }
 
@@ -176,74 +273,151 @@ fn treat_file<F: Files, W: Write>(
     name: &str,
     files: &mut F,
     output: &mut W,
-) -> Result<bool, RunError>
+) -> Result<Treated, Fault>
     ensures { TreatsFile request.now.layout request.now.mode name.now
         (F.bytes files.old) (F.bytes files.new)
         (W.contents output.old) (W.contents output.new) result }
 {
     match request.mode {
-        Mode::Print => print_file(alloc, name, files, output, &request.layout).map(|()| false),
+        Mode::Print => print_file(alloc, name, files, output, &request.layout),
         Mode::Check => check_file(alloc, name, files, output, &request.layout),
-        Mode::InPlace => replace_file(alloc, name, files, &request.layout).map(|()| false),
+        Mode::InPlace => replace_file(alloc, name, files, &request.layout),
     }
 }
 
-/// Says what became of an input of this name, if there was a fault.
-fn report<M: Write>(name: &str, treated: Result<bool, RunError>, messages: &mut M) -> Ending
+/// Says what became of an input of this name, if there is something to say: a fault, or that no line
+/// of it has the marks that are filled.
+fn report<M: Write>(name: &str, treated: Result<Treated, Fault>, messages: &mut M) -> Ending
     ensures { Reports name.now treated (M.contents messages.old) (M.contents messages.new) result }
 {
-    match treated {
-        Ok(false) => Ending::well(),
-        Ok(true) => Ending {
-            status: 1,
-            said: true,
-        },
-        Err(error) => Ending {
-            status: 2,
-            said: write_fault(name, &error, messages).is_ok(),
-        },
+    Ending {
+        status: status_of(treated),
+        said: says_nothing(treated) || says(name, treated, messages),
     }
+}
+
+/// The status of a run with one input, of which this became.
+fn status_of(treated: Result<Treated, Fault>) -> u8
+    ensures { result ≡ status_of treated }
+{
+    match treated {
+        Ok(treated) => u8::from(treated.changes),
+        Err(_) => 2,
+    }
+}
+
+/// Whether nothing is said of an input, of which this became.
+fn says_nothing(treated: Result<Treated, Fault>) -> bool
+    ensures { result ≡ says_nothing treated }
+{
+    match treated {
+        Ok(treated) => treated.has_marks,
+        Err(fault) => is_quiet(fault),
+    }
+}
+
+/// Says what is to be said of an input. The result says whether that was written whole.
+fn says<M: Write>(name: &str, treated: Result<Treated, Fault>, messages: &mut M) -> bool
+    ensures { Says (message_line name.now (texts_of name.now treated))
+        (M.contents messages.old) (M.contents messages.new) result }
+{
+    match treated {
+        Ok(_) => write_message(messages, name, &[NO_MARKS]).is_ok(),
+        Err(fault) => write_fault(name, fault, messages).is_ok(),
+    }
+}
+
+/// Whether nothing is said of a fault: nobody reads the output any more.
+fn is_quiet(fault: Fault) -> bool
+    ensures { result ≡ is_quiet fault }
+{
+    matches!(fault, Fault::Write(Reason::Closed))
 }
 
 /// Writes the line of a fault.
-fn write_fault<M: Write>(name: &str, error: &RunError, messages: &mut M) -> Result<(), RunError>
+fn write_fault<M: Write>(name: &str, fault: Fault, messages: &mut M) -> Result<(), RunError>
     ensures ok { OnOk result (Appends (M.contents messages.old) (M.contents messages.new)
-        (fault_line name.now error.now)) }
+        (message_line name.now (fault_texts name.now fault))) }
     ensures prefix { OnErr result (WritesPrefix (M.contents messages.old) (M.contents messages.new)
-        (fault_line name.now error.now)) }
+        (message_line name.now (fault_texts name.now fault))) }
 {
-    write_to_end(messages, b"reflow: ")?;
-    write_to_end(messages, name.as_bytes())?;
-    write_to_end(messages, b": ")?;
-    write_line(messages, fault(error))
-}
-
-/// What the program says of a fault, after the input's name.
-pub fn fault(error: &RunError) -> &'static str
-    ensures { result.now ≡ fault_text error.now }
-{
-    match error {
-        RunError::Read => "cannot read",
-        RunError::NotUtf8 => "not UTF-8",
-        RunError::Memory => "out of memory",
-        RunError::Write => "cannot write",
+    match fault {
+        Fault::Read(reason) => write_message(messages, name, &[reading_text(reason)]),
+        Fault::NotUtf8(valid) => {
+            let mut buffer = Buffer::new();
+            let number = buffer.format(valid);
+            write_message(messages, name, &["not UTF-8 after ", number, " bytes"])
+        }
+        Fault::Memory => write_message(messages, name, &["out of memory"]),
+        Fault::Write(reason) => {
+            write_message(
+                messages,
+                name,
+                &[draft_of(name, reason), writing_text(reason)],
+            )
+        }
     }
 }
 
-/// Says why the arguments mean no request, or shows the help or the version.
-fn explain<W: Write, M: Write>(
-    alloc: Global,
-    error: &ArgumentError,
-    output: &mut W,
-    messages: &mut M,
-) -> Ending
-    ensures { Explains error.now (W.contents output.old) (W.contents output.new)
-        (M.contents messages.old) (M.contents messages.new) result }
+/// What the name of a draft begins with, where it is told of that.
+fn draft_of(name: &str, reason: Reason) -> &str
+    ensures { result.now ≡ draft_of name.now reason }
 {
-    match error {
-        ArgumentError::Width => complain(messages, WIDTH_LINE),
-        ArgumentError::Clap(error) => explain_parse(alloc, error.kind(), error, output, messages),
+    match reason {
+        Reason::HasDraft => name,
+        _ => "",
     }
+}
+
+/// What the program says of an input that cannot be read.
+fn reading_text(reason: Reason) -> &'static str
+    ensures { result.now ≡ reading_text reason }
+{
+    match reason {
+        Reason::NotFound => "not found",
+        Reason::NotPermitted => "may not be read",
+        Reason::IsFolder => "is a folder",
+        _ => "cannot read",
+    }
+}
+
+/// What the program says of a file or an output that cannot be written.
+fn writing_text<'a>(reason: Reason) -> &'a str
+    ensures { result.now ≡ writing_text reason }
+{
+    match reason {
+        Reason::NotFound => "not found",
+        Reason::NotPermitted => "may not be written",
+        Reason::IsFolder => "is a folder",
+        Reason::HasDraft => ".reflow is there already",
+        Reason::NoSpace => "no space is left",
+        _ => "cannot write",
+    }
+}
+
+/// Writes a line of a message on an input.
+fn write_message<M: Write>(messages: &mut M, name: &str, texts: &[&str]) -> Result<(), RunError>
+    ensures ok { OnOk result (Appends (M.contents messages.old) (M.contents messages.new)
+        (message_line name.now (map (λ text. text.now) texts.now))) }
+    ensures prefix { OnErr result (WritesPrefix (M.contents messages.old) (M.contents messages.new)
+        (message_line name.now (map (λ text. text.now) texts.now))) }
+{
+    write_texts(messages, &["reflow: ", name, ": "])?;
+    write_texts(messages, texts)?;
+    write_to_end(messages, b"\n")
+}
+
+/// Writes texts one after another.
+fn write_texts<M: Write>(messages: &mut M, texts: &[&str]) -> Result<(), RunError>
+    ensures ok { OnOk result (Appends (M.contents messages.old) (M.contents messages.new)
+        (joined_texts (map (λ text. text.now) texts.now))) }
+    ensures prefix { OnErr result (WritesPrefix (M.contents messages.old) (M.contents messages.new)
+        (joined_texts (map (λ text. text.now) texts.now))) }
+{
+    for text in texts {
+        write_to_end(messages, text.as_bytes())?;
+    }
+    Ok(())
 }
 
 /// Shows the help or the version, or says why the arguments are not those of the program, by the

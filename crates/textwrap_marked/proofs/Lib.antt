@@ -19,4 +19,5 @@ pub mod PrintedWidths
 pub mod ReadLemmas
 pub mod SpacedLemmas
 pub mod TextParts
+pub mod WithinLemmas
 pub mod WordsIn

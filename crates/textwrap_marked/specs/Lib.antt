@@ -8,4 +8,6 @@ pub mod Lines
 pub mod Blocks
 pub mod Pieces
 pub mod Reflow
+pub mod Choosing
+pub mod Within
 pub mod Laws

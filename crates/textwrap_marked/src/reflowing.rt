@@ -65,7 +65,7 @@ fn push_text(
 }
 
 /// The ending of filled lines: the one that is asked for, else that of the first line.
-fn filled_ending(ending: Option<LineEnding>, text: &str) -> LineEnding
+pub(crate) fn filled_ending(ending: Option<LineEnding>, text: &str) -> LineEnding
     ensures { result ≡ filled_ending ending text.now }
 {
     match ending {
@@ -124,7 +124,7 @@ fn push_blocks(
 }
 
 /// Adds a block: as it is, or filled. It may stand beside a block that begins with a key as it does.
-fn push_block(
+pub(crate) fn push_block(
     alloc: Global,
     output: &mut String,
     first: &Line<'_>,
@@ -155,7 +155,7 @@ fn stays(beside: bool, first: &Line<'_>) -> bool
 }
 
 /// Whether a line is a field, and these later lines begin with another one.
-fn is_beside(first: &Line<'_>, later: &[Line<'_>]) -> bool
+pub(crate) fn is_beside(first: &Line<'_>, later: &[Line<'_>]) -> bool
     ensures { result ≡ is_beside (line_view first.now) (blocks (map line_view later.now)) }
 {
     match later {

@@ -10,7 +10,7 @@ ghost use Rattle.textwrap_program.specs.Program.{line_feed, TriesLine};
 
 use crate::arguments::Algorithm;
 use std::alloc::Allocator;
-use std::io::{Read, Write};
+use std::io::{ErrorKind, Read, Write};
 use std::str::from_utf8;
 use textwrap_lines::{Options, fill};
 use textwrap_words::wrap_algorithms::{Penalties, WrapAlgorithm, WrapError};
@@ -159,6 +159,19 @@ pub fn write_to_end<W: Write>(writer: &mut W, bytes: &[u8]) -> Result<(), RunErr
         (WritesPrefix (W.contents writer.old) (W.contents writer.new) bytes.now) }
     ensures only_write { IfErr result (λ error. error ≡ RunError.Write) }
 {
+    write_whole(writer, bytes).map_err(|_| RunError::Write)
+}
+
+/// Writes the bytes and flushes, as [`write_to_end`], and tells why it failed.
+///
+/// # Errors
+/// The kind of the first error of the writer, or `WriteZero` where a write takes nothing. Some of the
+/// bytes may then be written.
+pub fn write_whole<W: Write>(writer: &mut W, bytes: &[u8]) -> Result<(), ErrorKind>
+    ensures ok { OnOk result (Appends (W.contents writer.old) (W.contents writer.new) bytes.now) }
+    ensures prefix { OnErr result
+        (WritesPrefix (W.contents writer.old) (W.contents writer.new) bytes.now) }
+{
     let mut rest = bytes;
     while !rest.is_empty() {
         match write_some(writer, rest) {
@@ -166,26 +179,26 @@ pub fn write_to_end<W: Write>(writer: &mut W, bytes: &[u8]) -> Result<(), RunErr
                 let (_written, after) = rest.split_at(count);
                 rest = after;
             }
-            Err(error) => return Err(error),
+            Err(kind) => return Err(kind),
         }
     }
     match writer.flush() {
         Ok(()) => Ok(()),
-        Err(_) => Err(RunError::Write),
+        Err(error) => Err(error.kind()),
     }
 }
 
 /// Writes some of the bytes, at least one, and returns how many.
-fn write_some<W: Write>(writer: &mut W, bytes: &[u8]) -> Result<usize, RunError>
+fn write_some<W: Write>(writer: &mut W, bytes: &[u8]) -> Result<usize, ErrorKind>
     ensures some { IfOk result (λ count. 0 < count) }
     ensures within { IfOk result (λ count. count ≤ length bytes.now) }
     ensures written { IfOk result (λ count.
         Appends (W.contents writer.old) (W.contents writer.new) (take count bytes.now)) }
     ensures nothing { OnErr result (Appends (W.contents writer.old) (W.contents writer.new) []) }
-    ensures only_write { IfErr result (λ error. error ≡ RunError.Write) }
 {
     match writer.write(bytes) {
         Ok(count) if count > 0 => Ok(count),
-        _ => Err(RunError::Write),
+        Ok(_) => Err(ErrorKind::WriteZero),
+        Err(error) => Err(error.kind()),
     }
 }

@@ -4,7 +4,5 @@ mod disk;
 mod faults;
 mod files;
 mod folder;
-mod justifying;
-mod memory;
 mod plain;
 mod words;

@@ -1,9 +1,9 @@
 use Rattle.std.proofs.Common.{◌∙◌, ap, ap₂}
 use Rattle.std.proofs.lemmas.Result.{IfOk-weaker}
-use Rattle.clap.specs.Words.{with_rule}
+use Rattle.clap.specs.Words.{rule_of, with_rule}
 use Rattle.clap.specs.declared.builder.command.Command.TheViews.{out-Command}
-use Rattle.reflow_program.proofs.CommandLemmas.{about-is, nameless, nameless-is, versioned}
-use Rattle.reflow_program.proofs.CommandLemmas.{versioned-is}
+use Rattle.reflow_program.proofs.CommandLemmas.{about-is, after_help-is, nameless, nameless-is}
+use Rattle.reflow_program.proofs.CommandLemmas.{overriding, overriding-is, versioned, versioned-is}
 use Rattle.reflow_program.proofs.arguments.command.Goals as goal
 
 pub returns : goal.returns
@@ -11,9 +11,14 @@ returns c =
     let new = out-Command c.new.result in
     let version = out-Command c.version.result in
     let about = out-Command c.about.result in
-    let app_0 = nameless-is about (out-Command c.no_binary_name.result) c.no_binary_name.ensures
-    ∙ ap nameless (about-is version about _ c.about.ensures
-    ∙ versioned-is new version _ c.version.ensures ∙ ap versioned c.new.ensures.app) in
+    let examples = out-Command c.after_help.result in
+    let nameless_one = out-Command c.no_binary_name.result in
+    let app_0 = overriding-is nameless_one (out-Command c.args_override_self.result)
+    c.args_override_self.ensures
+    ∙ ap overriding (nameless-is examples nameless_one c.no_binary_name.ensures
+    ∙ ap nameless (after_help-is about examples _ c.after_help.ensures
+    ∙ about-is version about _ c.about.ensures
+    ∙ versioned-is new version _ c.version.ensures ∙ ap versioned c.new.ensures.app)) in
     let app_1 = c.in_ok-arg.ensures.shape c.width_argument.ensures.local
     ∙ ap₂ with_rule app_0 c.width_argument.ensures.rule in
     let app_2 = c.in_ok-arg-2.ensures.shape c.flag.ensures.local
@@ -24,13 +29,25 @@ returns c =
     ∙ ap₂ with_rule app_3 c.flag-3.ensures.rule in
     let app_5 = c.in_ok-arg-5.ensures.shape c.flag-4.ensures.local
     ∙ ap₂ with_rule app_4 c.flag-4.ensures.rule in
-    let app_6 = c.in_ok-arg-6.ensures.shape c.prefix_argument.ensures.local
-    ∙ ap₂ with_rule app_5 c.prefix_argument.ensures.rule in
+    let app_6 = c.in_ok-arg-6.ensures.shape c.text.ensures.local
+    ∙ ap₂ with_rule app_5 c.text.ensures.rule in
     let app_7 = c.in_ok-arg-7.ensures.shape c.flag-5.ensures.local
     ∙ ap₂ with_rule app_6 c.flag-5.ensures.rule in
-    let app_8 = c.in_ok-arg-8.ensures.shape c.flag-6.ensures.local
-    ∙ ap₂ with_rule app_7 c.flag-6.ensures.rule in
-    let app_9 = c.in_ok-arg-9.ensures.shape c.flag-7.ensures.local
-    ∙ ap₂ with_rule app_8 c.flag-7.ensures.rule in
-    IfOk-weaker c.arg-10.result _ _ (λ command adds. adds.shape c.file_argument.ensures.local
-    ∙ ap₂ with_rule app_9 c.file_argument.ensures.rule) c.arg-10.ensures
+    let app_8 = c.in_ok-arg-8.ensures.shape c.text-2.ensures.local
+    ∙ ap₂ with_rule app_7 c.text-2.ensures.rule in
+    let app_9 = c.in_ok-arg-9.ensures.shape c.flag-6.ensures.local
+    ∙ ap₂ with_rule app_8 c.flag-6.ensures.rule in
+    let app_10 = c.in_ok-arg-10.ensures.shape c.lines_argument.ensures.local
+    ∙ ap₂ with_rule app_9 c.lines_argument.ensures.rule in
+    let app_11 = c.in_ok-arg-11.ensures.shape c.flag-7.ensures.local
+    ∙ ap₂ with_rule app_10 c.flag-7.ensures.rule in
+    let app_12 = c.in_ok-arg-12.ensures.shape c.flag-8.ensures.local
+    ∙ ap₂ with_rule app_11 c.flag-8.ensures.rule in
+    let app_13 = c.in_ok-arg-13.ensures.shape c.flag-9.ensures.local
+    ∙ ap₂ with_rule app_12 c.flag-9.ensures.rule in
+    let app_14 = c.in_ok-arg-14.ensures.shape c.flag-10.ensures.local
+    ∙ ap₂ with_rule app_13 c.flag-10.ensures.rule in
+    let app_15 = c.in_ok-arg-15.ensures.shape (ap (λ arg. arg.global) c.hide.ensures ∙ c.flag-11.ensures.local)
+    ∙ ap₂ with_rule app_14 (ap rule_of c.hide.ensures ∙ c.flag-11.ensures.rule) in
+    IfOk-weaker c.arg-16.result _ _ (λ command adds. adds.shape c.file_argument.ensures.local
+    ∙ ap₂ with_rule app_15 c.file_argument.ensures.rule) c.arg-16.ensures

@@ -2,8 +2,8 @@ use Rattle.std.proofs.Common.{subst}
 use Rattle.reflow_program.specs.Inputs.{Checks}
 use Rattle.reflow_program.proofs.inputs.check_file.Goals as goal
 
-pub returns-clause-checked : goal.returns-clause-checked
-returns-clause-checked g c =
+pub returns-in-Ok-clause-checked : goal.returns-in-Ok-clause-checked
+returns-in-Ok-clause-checked g c =
     let left = g.F.Input.Read.remaining c.check_input.new.reader in
     let old = g.W.Write.contents c.args.writer.now in
     let new = g.W.Write.contents c.check_input.new.writer in (

@@ -121,13 +121,14 @@ fn run(
 /// A way, the name of a file, the output, the end of the messages, and the status.
 const RUNS: &[(&str, &str, &str, &str, u8)] = &[
     ("--first-fit", "a", COUNT_AT_10, "", 0),
-    ("--in-place", "none", "", "/none: cannot read\n", 2),
-    ("--in-place", "", "", "/: cannot read\n", 2),
+    ("--in-place", "none", "", "/none: not found\n", 2),
+    ("--in-place", "", "", "/: is a folder\n", 2),
     // The draft of `b` is there already.
-    ("--in-place", "b", "", "/b: cannot write\n", 2),
+    ("--in-place", "b", "", "/b.reflow is there already\n", 2),
     ("--in-place", "link", "", "", 0),
     ("--in-place", "a", "", "", 0),
     ("--first-fit", "link", COUNT_AT_10, "", 0),
+    ("--check", "none", "", "/none: not found\n", 2),
 ];
 
 /// Asserts what comes of the runs.
@@ -179,7 +180,7 @@ fn is_closed_file_kept(rt: &(impl rt::Files + AllocGlobal), folder: &str) -> io:
         rt,
         folder,
         ("--in-place", "closed"),
-        ("", "/closed: cannot write\n"),
+        ("", "/closed: may not be written\n"),
     )?;
     Ok(may_write || (ended == (2, true) && holds(rt, folder, "closed", COUNT)?))
 }

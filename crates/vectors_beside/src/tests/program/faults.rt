@@ -31,7 +31,7 @@ const FAULT_RUNS: &[FaultRun] = &[
         &["-w", "10"],
         b"one two three four\n",
         (
-            FeedFault::Fails(6, ErrorKind::BrokenPipe),
+            FeedFault::Fails(6, ErrorKind::Other),
             SinkFault::Nothing,
             SinkFault::Nothing,
         ),
@@ -44,7 +44,7 @@ const FAULT_RUNS: &[FaultRun] = &[
         &["-w", "10", "--check"],
         b"one two three four\n",
         (
-            FeedFault::Fails(0, ErrorKind::BrokenPipe),
+            FeedFault::Fails(0, ErrorKind::Other),
             SinkFault::Nothing,
             SinkFault::Nothing,
         ),
@@ -58,7 +58,7 @@ const FAULT_RUNS: &[FaultRun] = &[
         b"one \xE3\x81",
         SOUND,
         "",
-        "reflow: standard input: not UTF-8\n",
+        "reflow: standard input: not UTF-8 after 4 bytes\n",
         2,
     ),
     (
@@ -85,7 +85,7 @@ const FAULT_RUNS: &[FaultRun] = &[
         b"one two three four\n",
         (
             FeedFault::Nothing,
-            SinkFault::Fails(12, ErrorKind::BrokenPipe),
+            SinkFault::Fails(12, ErrorKind::Other),
             SinkFault::Nothing,
         ),
         "one two\nthre",
@@ -106,7 +106,7 @@ const FAULT_RUNS: &[FaultRun] = &[
         2,
     ),
     (
-        "the output cannot be flushed",
+        "nobody reads the output when it is flushed",
         &["-w", "10"],
         b"one two three four\n",
         (
@@ -115,11 +115,11 @@ const FAULT_RUNS: &[FaultRun] = &[
             SinkFault::Nothing,
         ),
         "one two\nthree four\n",
-        "reflow: standard input: cannot write\n",
+        "",
         2,
     ),
     (
-        "the output cannot be flushed, where there is nothing to write",
+        "nobody reads the output, where there is nothing to write",
         &["-w", "10"],
         b"",
         (
@@ -128,11 +128,11 @@ const FAULT_RUNS: &[FaultRun] = &[
             SinkFault::Nothing,
         ),
         "",
-        "reflow: standard input: cannot write\n",
+        "",
         2,
     ),
     (
-        "the same of a file",
+        "the same of a file: no further one is read",
         &["-w", "10", "empty", "a"],
         b"",
         (
@@ -140,8 +140,8 @@ const FAULT_RUNS: &[FaultRun] = &[
             SinkFault::FlushFails,
             SinkFault::Nothing,
         ),
-        "one two\nthree four\n",
-        "reflow: empty: cannot write\n",
+        "",
+        "",
         2,
     ),
     (
@@ -150,7 +150,7 @@ const FAULT_RUNS: &[FaultRun] = &[
         b"",
         (
             FeedFault::Nothing,
-            SinkFault::Fails(4, ErrorKind::BrokenPipe),
+            SinkFault::Fails(4, ErrorKind::Other),
             SinkFault::Nothing,
         ),
         "one five six\nseven\n",
@@ -158,12 +158,57 @@ const FAULT_RUNS: &[FaultRun] = &[
         2,
     ),
     (
+        "where nobody reads the output any more, nothing is said, and no further file is read",
+        &["-w", "10", "a", "b"],
+        b"",
+        (
+            FeedFault::Nothing,
+            SinkFault::Fails(4, ErrorKind::BrokenPipe),
+            SinkFault::Nothing,
+        ),
+        "one ",
+        "",
+        2,
+    ),
+    (
+        "where there is no space",
+        &["-w", "10", "a"],
+        b"",
+        (
+            FeedFault::Nothing,
+            SinkFault::Fails(4, ErrorKind::StorageFull),
+            SinkFault::Nothing,
+        ),
+        "one ",
+        "reflow: a: no space is left\n",
+        2,
+    ),
+    (
+        "no line has the marks that are filled",
+        &["-w", "10", "--prefix", "//", "-", "empty"],
+        b"one two three\n",
+        SOUND,
+        "one two three\n",
+        "reflow: standard input: no line begins with what --prefix says\n\
+reflow: empty: no line begins with what --prefix says\n",
+        0,
+    ),
+    (
+        "some line has",
+        &["-w", "10", "--prefix", "#", "--prefix", "//"],
+        b"one two three\n// four five six\n",
+        SOUND,
+        "one two three\n// four\n// five\n// six\n",
+        "",
+        0,
+    ),
+    (
         "a write fails at a name",
         &["-w", "10", "--check", "a", "b"],
         b"",
         (
             FeedFault::Nothing,
-            SinkFault::Fails(1, ErrorKind::BrokenPipe),
+            SinkFault::Fails(1, ErrorKind::Other),
             SinkFault::Nothing,
         ),
         "ab\n",
@@ -177,7 +222,7 @@ const FAULT_RUNS: &[FaultRun] = &[
         (
             FeedFault::Nothing,
             SinkFault::Nothing,
-            SinkFault::Fails(11, ErrorKind::BrokenPipe),
+            SinkFault::Fails(11, ErrorKind::Other),
         ),
         "one two\nthree four\n",
         "reflow: x: ",
@@ -203,7 +248,7 @@ const FAULT_RUNS: &[FaultRun] = &[
         (
             FeedFault::Nothing,
             SinkFault::Nothing,
-            SinkFault::Fails(0, ErrorKind::BrokenPipe),
+            SinkFault::Fails(0, ErrorKind::Other),
         ),
         "",
         "",

@@ -77,16 +77,6 @@ const NOT_RENAMED: &[Given] = &[
 /// A file with a name like an option.
 const ODD_NAME: &[Given] = &[("--check", COUNT, FileFault::Nothing)];
 
-/// Two lines that are justified at 10 columns, and that are only reflowed.
-const JUSTIFIED: &[u8] = b"one    two\nthree four\n";
-
-const REFLOWED: &[u8] = b"one two\nthree four\n";
-
-const JUSTIFIED_FIRST: &[Given] = &[
-    ("a", JUSTIFIED, FileFault::Nothing),
-    ("b", REFLOWED, FileFault::Nothing),
-];
-
 /// A run over files, and what has to come of it.
 struct FileRun {
     /// What it shows.
@@ -138,7 +128,7 @@ const FILE_RUNS: &[FileRun] = &[
         words: &["-w", "10", "x", "c"],
         files: SOUND_FILES,
         output: "eight\n",
-        messages: "reflow: x: cannot read\n",
+        messages: "reflow: x: not found\n",
         status: 2,
         after: &[COUNT, FIVE, EIGHT],
         replaced: 0,
@@ -168,7 +158,7 @@ const FILE_RUNS: &[FileRun] = &[
         words: &["-w", "10", "a", "b", "c"],
         files: NO_UTF8,
         output: "one two\nthree four\neight\n",
-        messages: "reflow: b: not UTF-8\n",
+        messages: "reflow: b: not UTF-8 after 4 bytes\n",
         status: 2,
         after: &[COUNT, NO_TEXT, EIGHT],
         replaced: 0,
@@ -178,7 +168,7 @@ const FILE_RUNS: &[FileRun] = &[
         words: &["-w", "10", "y", "b", "x"],
         files: NO_UTF8,
         output: "",
-        messages: "reflow: y: cannot read\nreflow: b: not UTF-8\nreflow: x: cannot read\n",
+        messages: "reflow: y: not found\nreflow: b: not UTF-8 after 4 bytes\nreflow: x: not found\n",
         status: 2,
         after: &[COUNT, NO_TEXT, EIGHT],
         replaced: 0,
@@ -208,7 +198,7 @@ const FILE_RUNS: &[FileRun] = &[
         words: &["-w", "10", "--check", "b", "a", "c"],
         files: NO_UTF8,
         output: "a\n",
-        messages: "reflow: b: not UTF-8\n",
+        messages: "reflow: b: not UTF-8 after 4 bytes\n",
         status: 2,
         after: &[COUNT, NO_TEXT, EIGHT],
         replaced: 0,
@@ -218,7 +208,7 @@ const FILE_RUNS: &[FileRun] = &[
         words: &["-w", "10", "--check", "b", "x", "a", "c"],
         files: CLOSED,
         output: "a\n",
-        messages: "reflow: b: cannot read\nreflow: x: cannot read\n",
+        messages: "reflow: b: cannot read\nreflow: x: not found\n",
         status: 2,
         after: &[COUNT, FIVE, EIGHT],
         replaced: 0,
@@ -268,7 +258,7 @@ const FILE_RUNS: &[FileRun] = &[
         words: &["-w", "10", "--in-place", "a", "b"],
         files: NO_UTF8,
         output: "",
-        messages: "reflow: b: not UTF-8\n",
+        messages: "reflow: b: not UTF-8 after 4 bytes\n",
         status: 2,
         after: &[b"one two\nthree four\n", NO_TEXT, EIGHT],
         replaced: 1,
@@ -333,26 +323,16 @@ const FILE_RUNS: &[FileRun] = &[
         after: &[COUNT, b"five six\nseven\n"],
         replaced: 1,
     },
-    // A check finds what a run would change, which is nothing of a file that is justified.
     FileRun {
-        rule: "a check of a file that is justified, and of one that is only reflowed",
-        words: &["-w", "10", "--justify", "--check", "a", "b"],
-        files: JUSTIFIED_FIRST,
-        output: "b\n",
-        messages: "",
-        status: 1,
-        after: &[JUSTIFIED, REFLOWED],
-        replaced: 0,
-    },
-    FileRun {
-        rule: "a file that is justified is not replaced, and one that is only reflowed is",
-        words: &["-w", "10", "--justify", "--in-place", "a", "b"],
-        files: JUSTIFIED_FIRST,
+        rule: "no line has the marks that are filled",
+        words: &["-w", "10", "--in-place", "--prefix", "//", "a", "c"],
+        files: SOUND_FILES,
         output: "",
-        messages: "",
+        messages: "reflow: a: no line begins with what --prefix says\n\
+reflow: c: no line begins with what --prefix says\n",
         status: 0,
-        after: &[JUSTIFIED, JUSTIFIED],
-        replaced: 1,
+        after: &[COUNT, FIVE, EIGHT],
+        replaced: 0,
     },
 ];
 

@@ -1,9 +1,7 @@
 //! What the words after the program's name mean, seen by what is done with the standard input.
-use super::plain::{
-    SOUND, Start, assert_bytes, assert_reflowed, assert_spans, assert_unread, run, strings,
-};
+use super::plain::{SOUND, Start, assert_bytes, assert_reflowed, assert_spans, assert_unread, run};
 use fakes::streams::{FeedFault, SinkFault};
-use reflow_program::arguments::{ArgumentError, HELP, VERSION, parse};
+use reflow_program::arguments::{HELP, VERSION, matches_in};
 use std::alloc::{AllocError, Global};
 use std::io::ErrorKind;
 use std::process::Abort;
@@ -16,11 +14,11 @@ const TO_SIX: &str = "one two three four five six\n";
 
 const TO_SIX_AT_20: &str = "one two three four\nfive six\n";
 
-const HAMLET: &str = "To be, or not to be: that is the question";
+const HAMLET: &str = "To be, or not to be; that is the question";
 
-const HAMLET_BY_FIRST_FIT: &str = "To be, or\nnot to be:\nthat is\nthe\nquestion";
+const HAMLET_BY_FIRST_FIT: &str = "To be, or\nnot to be;\nthat is\nthe\nquestion";
 
-const HAMLET_BY_LEAST_COST: &str = "To be,\nor not to\nbe: that\nis the\nquestion";
+const HAMLET_BY_LEAST_COST: &str = "To be,\nor not to\nbe; that\nis the\nquestion";
 
 /// Eight words of nine letters and one of two, of 82 columns.
 const EIGHTY_TWO: &str = "aaaaaaaaa aaaaaaaaa aaaaaaaaa aaaaaaaaa aaaaaaaaa aaaaaaaaa aaaaaaaaa \
@@ -90,58 +88,180 @@ const READ_AND_WRITTEN: &[(&str, &[&str], &str, &str)] = &[
         HAMLET_BY_LEAST_COST,
     ),
     (
+        "of two widths the last one counts",
+        &["-w", "80", "--width=10"],
+        COUNT,
+        COUNT_AT_10,
+    ),
+    ("a width behind a hyphen", &["-10"], COUNT, COUNT_AT_10),
+    (
+        "which counts as the others do",
+        &["-80", "-w", "80", "-10"],
+        COUNT,
+        COUNT_AT_10,
+    ),
+    (
+        "a flag may come twice",
+        &["-10", "--first-fit", "--first-fit"],
+        COUNT,
+        COUNT_AT_10,
+    ),
+    (
+        "lines end as they did",
+        &["-10"],
+        "one two three four\r\n",
+        "one two\r\nthree four\r\n",
+    ),
+    (
         "CR LF",
-        &["-w", "10", "--crlf"],
+        &["-10", "--crlf"],
         COUNT,
         "one two\r\nthree four\r\n",
     ),
     (
-        "no CR LF",
-        &["-w", "10"],
+        "LF, which counts for more",
+        &["-10", "--crlf", "--lf"],
         "one two three four\r\n",
         COUNT_AT_10,
     ),
     (
         "a prefix",
-        &["-w", "12", "--prefix", ">"],
-        "> one two three four\n\n- one two three four\n",
-        "> one two\n> three four\n\n- one two three four\n",
+        &["-12", "--prefix", ">"],
+        "> one two three four\n\n// one two three four\n",
+        "> one two\n> three four\n\n// one two three four\n",
+    ),
+    (
+        "two prefixes",
+        &["-12", "--prefix", ">", "--prefix=//"],
+        "> one two three four\n\n// one two three four\n\none two three four\n",
+        "> one two\n> three four\n\n// one two\n// three\n// four\n\none two three four\n",
     ),
     (
         "a prefix that begins with a hyphen",
-        &["-w", "12", "--prefix=- "],
-        "> one two three four\n\n- one two three four\n",
-        "> one two three four\n\n- one two\n  three four\n",
+        &["-12", "--prefix=--"],
+        "-- one two three four\n\none two three four\n",
+        "-- one two\n-- three\n-- four\n\none two three four\n",
     ),
     (
-        "a prefix that is a hyphen",
-        &["-w", "12", "--prefix=-"],
-        "> one two three four\n\n- one two three four\n",
-        "> one two three four\n\n- one two\n  three four\n",
-    ),
-    (
-        "a hyphen alone is a value",
-        &["-w", "12", "--prefix", "-"],
-        "> one two three four\n\n- one two three four\n",
-        "> one two three four\n\n- one two\n  three four\n",
-    ),
-    (
-        "no text of a prefix",
-        &["-w", "12", "--prefix="],
+        "no text of a prefix, with which all marks begin",
+        &["-12", "--prefix="],
         "> one two three four\n",
         "> one two\n> three four\n",
     ),
     (
-        "code is kept",
-        &["-w", "10", "--keep-code"],
+        "a comment",
+        &["-12"],
+        "# one two three four\n",
+        "# one two\n# three four\n",
+    ),
+    (
+        "a heading",
+        &["-12", "--markdown"],
+        "# one two three four\n",
+        "# one two three four\n",
+    ),
+    (
+        "one more mark",
+        &["-12", "--marker", "dnl"],
+        "dnl one two three\ndnl four\n",
+        "dnl one two\ndnl three\ndnl four\n",
+    ),
+    (
+        "a block comment without a margin of asterisks",
+        &["-12", "--bare"],
+        "/* one two\n   three.  */\n",
+        "/* one two\n   three. */\n",
+    ),
+    (
+        "text that is deeper stays",
+        &["-12"],
+        "one\n\n    two three four\n",
+        "one\n\n    two three four\n",
+    ),
+    (
+        "unless it is to be filled",
+        &["-12", "--indented"],
+        "one\n\n    two three four\n",
+        "one\n\n    two\n    three\n    four\n",
+    ),
+    (
+        "code is always kept, and may be asked for",
+        &["-10", "--keep-code"],
         "```\none two three four\n```\n\n    one two three\n\none two three four\n",
         "```\none two three four\n```\n\n    one two three\n\none two\nthree four\n",
     ),
     (
-        "code is not kept",
-        &["-w", "10"],
-        "```\none two three four\n```\n",
-        "``` one\ntwo three\nfour ```\n",
+        "a quote",
+        &["-16", "--first-fit"],
+        "> one two three four\n> five\n",
+        "> one two three\n> four five\n",
+    ),
+    (
+        "a table",
+        &["-16", "--first-fit"],
+        "a | b\n--|--\n1 | 2\n",
+        "a | b\n--|--\n1 | 2\n",
+    ),
+    (
+        "hard breaks",
+        &["-16", "--first-fit"],
+        "one  \ntwo\\\nthree\nfour\n",
+        "one  \ntwo\\\nthree four\n",
+    ),
+    (
+        "words with a letter begin lines, bullets do not",
+        &["-12", "--first-fit"],
+        "Use --all --force or -1 and *note* now\n",
+        "Use --all\n--force or\n-1 and\n*note* now\n",
+    ),
+    (
+        "a comment of one line",
+        &["-16", "--first-fit"],
+        "# One two three four five\n",
+        "# One two three\n# four five\n",
+    ),
+    (
+        "the paragraph at one line",
+        &["-8", "--first-fit", "--lines", "4:4"],
+        "one two\nthree\n\none two three\n",
+        "one two\nthree\n\none two\nthree\n",
+    ),
+    (
+        "the paragraph at some lines",
+        &["-8", "--lines", "2:3"],
+        "one two three\n\none two\nthree\n\none two three\n",
+        "one two three\n\none two\nthree\n\none two three\n",
+    ),
+    (
+        "at one line, where a paragraph has more",
+        &["-8", "--lines=1:1"],
+        "one two three\nfour\n\none two three\n",
+        "one two\nthree\nfour\n\none two three\n",
+    ),
+    (
+        "at the last line, and past it",
+        &["-8", "--lines", "3:9", "--lf"],
+        "one two three\r\n\none two three\r\n",
+        "one two three\r\n\none two\r\nthree\r\n",
+    ),
+    (
+        "at no line",
+        &["-8", "--lines", "3:2"],
+        "one two three\none\ntwo\n",
+        "one two three\none\ntwo\n",
+    ),
+    (
+        "the name of the standard input",
+        &["-10", "-"],
+        COUNT,
+        COUNT_AT_10,
+    ),
+    ("which is read once", &["-10", "-", "-"], COUNT, COUNT_AT_10),
+    (
+        "behind the end of the options too",
+        &["-10", "--", "-"],
+        COUNT,
+        COUNT_AT_10,
     ),
     (
         "an end of the options",
@@ -155,12 +275,6 @@ const READ_AND_WRITTEN: &[(&str, &[&str], &str, &str)] = &[
         COUNT,
         COUNT_AT_10,
     ),
-    (
-        "lines that are justified are filled again, without the flag",
-        &["-w", "10"],
-        "one    two\nthree four\n",
-        COUNT_AT_10,
-    ),
     ("no input", &["-w", "10"], "", ""),
 ];
 
@@ -172,6 +286,8 @@ fn options_lay_out_the_standard_input(rt: HostRuntime) {
 }
 
 const WIDTH: &str = "reflow: the width is not a number of 64 bits\n";
+
+const LINES: &str = "reflow: the lines are not two numbers of 64 bits, A:B\n";
 
 /// What a row shows, its words, how the messages begin, and how they end.
 type Refused = (
@@ -198,10 +314,10 @@ const REFUSED: &[Refused] = &[
         "try '--help'.\n",
     ),
     (
-        "two widths",
-        &["-w", "3", "-w", "4"],
-        "error: the argument '--width <N>' cannot be used multiple times\n",
-        "try '--help'.\n",
+        "a width with a letter, behind a hyphen",
+        &["-7x"],
+        WIDTH,
+        WIDTH,
     ),
     (
         "an unknown option",
@@ -263,7 +379,7 @@ const SHOWN: &[(&[&str], &str)] = &[
 const SHOWING_FAULTS: &[(SinkFault, &[u8], u8)] = &[
     (SinkFault::Nothing, b"", 0),
     (
-        SinkFault::Fails(4, ErrorKind::BrokenPipe),
+        SinkFault::Fails(4, ErrorKind::Other),
         b"reflow: cannot write\n",
         2,
     ),
@@ -310,10 +426,9 @@ const RENDERED: &[(&[&str], &str)] = &[
 
 /// What `clap` makes of words that mean no request.
 fn rendered(alloc: Global, words: &[&str]) -> Result<String, AllocError> {
-    let words = strings(alloc, words)?;
-    match parse(alloc, &words) {
-        Err(ArgumentError::Clap(error)) => format!(in alloc; "{error}"),
-        _ => Ok(String::new(alloc)),
+    match matches_in(alloc, words) {
+        Err(error) => format!(in alloc; "{error}"),
+        Ok(_) => Ok(String::new(alloc)),
     }
 }
 

@@ -4,7 +4,7 @@ use Rattle.std.proofs.lemmas.List.{nil_from_length}
 use Rattle.std.proofs.KnownBytes.{Appends-nil, Appends-kept}
 use Rattle.textwrap_program.proofs.WriteLemmas.{WrittenSoFar-more, WritesPrefix-nothing_more}
 use Rattle.textwrap_program.proofs.WriteLemmas.{WritesPrefix-kept, Appends-whole}
-use Rattle.textwrap_program.proofs.filling.write_to_end.Goals as goal
+use Rattle.textwrap_program.proofs.filling.write_whole.Goals as goal
 
 pub loop-rest-init : goal.loop-rest-init
 loop-rest-init g c = record {

@@ -1,17 +1,19 @@
-use Rattle.std.proofs.Common.{drop}
-use Rattle.reflow_program.proofs.FileLemmas.{HasTreated, texts}
-use Rattle.reflow_program.proofs.program.treat_files.Given as goal
+use Rattle.std.proofs.Common.{drop, false}
+use Rattle.reflow_program.proofs.TreatedInputs.{HasTreated, texts}
+use Rattle.reflow_program.proofs.program.serve.Given as goal
 
 abbrev pub invariant-loop-name : goal.invariant-loop-name
 invariant-loop-name g l =
-    HasTreated l.request.layout l.request.mode (texts l.request.files.items)
-    (texts (drop l.name-index l.name-items))
+    HasTreated l.request.layout l.request.mode (texts l.request.names.now)
+    (texts (drop l.name-index l.name-items)) false
     (record {
+      unread = g.R.Read.remaining l.fn.reader;
       files = g.F.Files.bytes l.fn.files;
       output = g.W.Write.contents l.fn.output;
       messages = g.M.Write.contents l.fn.messages;
     })
     (record {
+      unread = g.R.Read.remaining l.reader;
       files = g.F.Files.bytes l.files;
       output = g.W.Write.contents l.output;
       messages = g.M.Write.contents l.messages;

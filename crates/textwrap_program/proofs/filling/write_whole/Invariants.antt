@@ -1,6 +1,6 @@
 use Rattle.std.proofs.Common.{length}
 use Rattle.textwrap_program.proofs.WriteLemmas.{WrittenSoFar}
-use Rattle.textwrap_program.proofs.filling.write_to_end.Given as goal
+use Rattle.textwrap_program.proofs.filling.write_whole.Given as goal
 
 abbrev pub invariant-loop-rest : goal.invariant-loop-rest
 invariant-loop-rest g l = WrittenSoFar (g.W.Write.contents l.fn.writer)

@@ -1,0 +1,67 @@
+-- What the program says of an input.
+use Rattle.std.specs.Prelude.{◌≡◌, ℕ, Bool, true, false, List, [], ◌∷◌, ◌++◌, codes, decimal}
+use Rattle.std.specs.Prelude.{Result, Ok, Err}
+use Rattle.std.specs.List.{flat_map}
+use Rattle.textwrap_program.specs.Program.{line_feed}
+use Rattle.reflow_program.specs.declared.faults.Fault.{Fault}
+use Rattle.reflow_program.specs.declared.faults.Fault.TheVariants.{Read, NotUtf8, Memory, Write}
+use Rattle.reflow_program.specs.declared.faults.Reason.{Reason}
+use Rattle.reflow_program.specs.declared.faults.Reason.TheVariants.{NotFound, NotPermitted, IsFolder}
+use Rattle.reflow_program.specs.declared.faults.Reason.TheVariants.{HasDraft, NoSpace, Closed}
+use Rattle.reflow_program.specs.declared.inputs.Treated.{Treated}
+
+abbrev pub joined_texts : List (List ℕ) → List ℕ
+joined_texts = flat_map (λ text. text)
+
+-- the line of these texts on the input of a name
+abbrev pub message_line : List ℕ → List (List ℕ) → List ℕ
+message_line name texts =
+    joined_texts (codes "reflow: " ∷ name ∷ codes ": " ∷ [])
+    ++ (joined_texts texts ++ line_feed ∷ [])
+
+-- nothing is said where nobody reads the output any more
+abbrev pub is_quiet : Fault → Bool
+is_quiet (Write Closed) = true
+is_quiet _ = false
+
+abbrev pub reading_text : Reason → List ℕ
+reading_text NotFound = codes "not found"
+reading_text NotPermitted = codes "may not be read"
+reading_text IsFolder = codes "is a folder"
+reading_text _ = codes "cannot read"
+
+abbrev pub writing_text : Reason → List ℕ
+writing_text NotFound = codes "not found"
+writing_text NotPermitted = codes "may not be written"
+writing_text IsFolder = codes "is a folder"
+writing_text HasDraft = codes ".reflow is there already"
+writing_text NoSpace = codes "no space is left"
+writing_text _ = codes "cannot write"
+
+-- what the name of a draft begins with, where that is told of it
+abbrev pub draft_of : List ℕ → Reason → List ℕ
+draft_of name HasDraft = name
+draft_of name _ = []
+
+-- what is said of a fault, at the input of this name
+abbrev pub fault_texts : List ℕ → Fault → List (List ℕ)
+fault_texts name (Read reason) = reading_text reason ∷ []
+fault_texts name (NotUtf8 valid) =
+    codes "not UTF-8 after " ∷ decimal valid ∷ codes " bytes" ∷ []
+fault_texts name Memory = codes "out of memory" ∷ []
+fault_texts name (Write reason) = draft_of name reason ∷ writing_text reason ∷ []
+
+-- what is said of an input, and whether it is nothing: of one without a fault that no line has the marks
+-- that are filled, if none has
+abbrev pub texts_of : List ℕ → Result Treated Fault → List (List ℕ)
+texts_of name (Ok treated) = codes "no line begins with what --prefix says" ∷ []
+texts_of name (Err fault) = fault_texts name fault
+
+abbrev pub says_nothing : Result Treated Fault → Bool
+says_nothing (Ok treated) = treated.has_marks
+says_nothing (Err fault) = is_quiet fault
+
+-- nobody reads the output any more
+abbrev pub is_closed : Result Treated Fault → Bool
+is_closed (Ok treated) = false
+is_closed (Err fault) = is_quiet fault

@@ -1,0 +1,44 @@
+-- The text of which only the paragraphs at some lines are filled again.
+use Rattle.std.specs.Prelude.{◌≡◌, ℕ, ◌+◌, ◌&&◌, ◌||◌, Bool, true, false, nat_eq, nat_le, nat_lt, not}
+use Rattle.std.specs.Prelude.{List, [], ◌∷◌, ◌++◌, drop, length}
+use Rattle.std.specs.List.{starts_with}
+use Rattle.textwrap_lines.specs.LineEnding.{ending_bytes}
+use Rattle.textwrap_marked.specs.Blocks.{blocks, is_beside, stays}
+use Rattle.textwrap_marked.specs.Lines.{LineText, lines_of}
+use Rattle.textwrap_marked.specs.Reflow.{IsOfBlock, byte_order_mark, filled_ending}
+use Rattle.textwrap_marked.specs.declared.options.ReflowOptions.{ReflowOptions}
+use Rattle.textwrap_marked.specs.declared.within.LineRange.{LineRange}
+
+-- of the lines behind the first `start`, up to the line `end`, one is in the range
+abbrev pub touches : LineRange → ℕ → ℕ → Bool
+touches range start end = nat_lt start range.last && nat_le range.first end
+
+module _ (options : ReflowOptions) (range : LineRange) (ending : List ℕ) where
+  -- one block after the other, behind so many lines: those that have no line in the range stay
+  abbrev pub IsLaidOutWithin : ℕ → Bool → List (List LineText) → List ℕ → Type 0
+  IsLaidOutWithin start beside [] text = text ≡ []
+  IsLaidOutWithin start beside ([] ∷ blocks) text = IsLaidOutWithin start beside blocks text
+  IsLaidOutWithin start beside ((first ∷ lines) ∷ blocks) text =
+      let end = start + length (first ∷ lines) in
+      (front : List ℕ) × (back : List ℕ)
+      × IsOfBlock options ending
+      (stays (beside || is_beside first blocks || not (touches range start end)) first) first
+      (first ∷ lines) front
+      × IsLaidOutWithin end (is_beside first blocks) blocks back × (text ≡ front ++ back)
+
+-- a text without a byte order mark
+abbrev pub IsReflowedWithinFrom : ReflowOptions → LineRange → List ℕ → List ℕ → Type 0
+IsReflowedWithinFrom options range text reflowed =
+    IsLaidOutWithin options range (ending_bytes (filled_ending options.ending text)) 0 false
+    (blocks (lines_of options text)) reflowed
+
+abbrev pub IsReflowedWithinBehind : Bool → ReflowOptions → LineRange → List ℕ → List ℕ → Type 0
+IsReflowedWithinBehind true options range text reflowed =
+    (rest : List ℕ) × IsReflowedWithinFrom options range (drop 3 text) rest
+    × (reflowed ≡ byte_order_mark ++ rest)
+IsReflowedWithinBehind false options range text reflowed =
+    IsReflowedWithinFrom options range text reflowed
+
+abbrev pub IsReflowedWithin : ReflowOptions → LineRange → List ℕ → List ℕ → Type 0
+IsReflowedWithin options range text reflowed =
+    IsReflowedWithinBehind (starts_with nat_eq text byte_order_mark) options range text reflowed

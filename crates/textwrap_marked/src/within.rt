@@ -1,0 +1,123 @@
+//! Filling only the paragraphs at some lines of a text.
+ghost use Rattle.std.specs.Prelude.{◌≡◌, ℕ, ◌++◌, false, List, map, IfOk, OnOk, string_bytes};
+ghost use Rattle.textwrap_base.specs.Errors.{Overflowed};
+ghost use Rattle.textwrap_marked.specs.Blocks.{blocks};
+ghost use Rattle.textwrap_marked.specs.Lines.{line_view};
+ghost use Rattle.textwrap_marked.specs.Within.{IsLaidOutWithin, IsReflowedWithin, IsReflowedWithinFrom};
+ghost use Rattle.textwrap_marked.specs.Within.{touches};
+
+use crate::blocks::block_len;
+use crate::lines::Line;
+use crate::options::ReflowOptions;
+use crate::reading::lines_of;
+use crate::reflowing::{filled_ending, is_beside, push_block};
+use crate::words::without_start;
+use std::alloc::Global;
+use textwrap_words::wrap_algorithms::WrapError;
+
+/// Lines of a text, counted from 1.
+#[derive(Clone, Copy, Debug, PartialEq, Eq)]
+pub struct LineRange {
+    /// The first of them.
+    pub first: usize,
+    /// The last of them.
+    pub last: usize,
+}
+
+impl LineRange {
+    /// Whether one of the lines behind the first `start`, up to the line `end`, is among these.
+    fn touches(&self, start: usize, end: usize) -> bool
+        ensures { result ≡ touches self.now start end }
+    {
+        (start < self.last) & (self.first <= end)
+    }
+}
+
+/// The text with those paragraphs filled again that have a line in this range. All else stays as
+/// `reflow` lets stay what stands apart: byte for byte, if the options name no ending.
+///
+/// By first fit at 8 columns, `"one two\nthree\n\none two three\n"` at the lines 1 to 2 becomes
+/// `"one two\nthree\n\none two three\n"`, and at the line 4 `"one two\nthree\n\none two\nthree\n"`.
+///
+/// # Errors
+/// [`WrapError::Memory`] where memory runs out, and no other.
+pub fn reflow_within(
+    alloc: Global,
+    text: &str,
+    range: &LineRange,
+    options: &ReflowOptions<'_>,
+) -> Result<String, WrapError>
+    ensures reflowed { IfOk result (λ filled.
+        IsReflowedWithin options.now range.now text.now (string_bytes filled)) }
+    ensures only_memory { ¬ Overflowed result }
+{
+    match without_start(text, "\u{feff}") {
+        Some(rest) => {
+            let mut output = String::from_str(alloc, "\u{feff}")?;
+            push_text(alloc, &mut output, rest, range, options)?;
+            Ok(output)
+        }
+        None => {
+            let mut output = String::new(alloc);
+            push_text(alloc, &mut output, text, range, options)?;
+            Ok(output)
+        }
+    }
+}
+
+/// Adds what becomes of a text without a byte order mark.
+fn push_text(
+    alloc: Global,
+    output: &mut String,
+    text: &str,
+    range: &LineRange,
+    options: &ReflowOptions<'_>,
+) -> Result<(), WrapError>
+    ensures reflowed { OnOk result ((reflowed : List ℕ)
+        × IsReflowedWithinFrom options.now range.now text.now reflowed
+        × (string_bytes output.new ≡ string_bytes output.old ++ reflowed)) }
+    ensures only_memory { ¬ Overflowed result }
+{
+    let ending = filled_ending(options.ending, text);
+    let lines = lines_of(alloc, text, options)?;
+    push_blocks(alloc, output, &lines, range, ending.as_str(), options)
+}
+
+/// Adds the blocks of these lines.
+fn push_blocks(
+    alloc: Global,
+    output: &mut String,
+    lines: &[Line<'_>],
+    range: &LineRange,
+    ending: &str,
+    options: &ReflowOptions<'_>,
+) -> Result<(), WrapError>
+    ensures laid_out { OnOk result ((text : List ℕ)
+        × IsLaidOutWithin options.now range.now ending.now 0 false
+        (blocks (map line_view lines.now)) text
+        × (string_bytes output.new ≡ string_bytes output.old ++ text)) }
+    ensures only_memory { ¬ Overflowed result }
+{
+    let mut beside = false;
+    let mut start = 0;
+    while start < lines.len() {
+        let rest = &lines[start..];
+        let first = &rest[0];
+        let len = block_len(rest);
+        let next = is_beside(first, &rest[len..]);
+        let end = start + len;
+        let is_outside = !range.touches(start, end);
+        push_block(
+            alloc,
+            output,
+            first,
+            &rest[..len],
+            beside | next | is_outside,
+            ending,
+            options,
+        )?;
+        beside = next;
+        start = end;
+    }
+    Ok(())
+}

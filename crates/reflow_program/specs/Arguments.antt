@@ -179,12 +179,12 @@ pub record AreOptions (rows : List Row) (lines : Option LineRange) (options : Re
   pub bare : options.bare ≡ flag_in (codes "bare") rows
   pub prefixes : map (λ prefix. prefix.now) options.prefixes.now ≡ texts_in (codes "prefix") rows
   pub indented : options.indented ≡ flag_in (codes "indented") rows
+  pub justify : options.justify ≡ flag_in (codes "justify") rows
 
 -- these matches mean this request
 pub record IsRequest (rows : List Row) (request : Request) : Type 0 where
   pub lines : lines_in rows ≡ Some request.layout.lines
   pub options : AreOptions rows request.layout.lines request.layout.options
-  pub justifies : request.justifies ≡ flag_in (codes "justify") rows
   pub mode : request.mode ≡ mode_in rows
   pub names : map (λ name. name.now) request.names.now ≡ texts_in (codes "FILE") rows
 

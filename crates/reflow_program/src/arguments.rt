@@ -79,8 +79,6 @@ pub struct Request<'a> {
     pub layout: Layout<'a>,
     /// What is done with each input.
     pub mode: Mode,
-    /// Whether lines are to be justified.
-    pub justifies: bool,
     /// The names of the inputs. `-` is the standard input.
     pub names: &'a [&'a str],
 }
@@ -233,11 +231,11 @@ pub fn request_in<'m, 'a>(matches: &'m ArgMatches<'a>) -> Result<Request<'m>, Un
         bare: is_set(matches, "bare"),
         prefixes: texts_of(matches, "prefix"),
         indented: is_set(matches, "indented"),
+        justify: is_set(matches, "justify"),
     };
     Ok(Request {
         layout: Layout { options, lines },
         mode: mode_of(matches),
-        justifies: is_set(matches, "justify"),
         names: texts_of(matches, "FILE"),
     })
 }

@@ -1,11 +1,13 @@
 -- A text that is one line and begins with no indent is refilled as it is filled.
-use Rattle.textwrap_base.proofs.Common.{◌≡◌, ◌≢◌, ◌==◌, ◌∙◌, ℕ, List, [], ◌∷◌, All-weaker, ap, append-nil, arith}
-use Rattle.textwrap_base.proofs.Common.{cond, false, length, lines, lt-ltb, ne_eqb, None, refl, slice_split, subst, sym}
+use Rattle.textwrap_base.proofs.Common.{◌≡◌, ◌≢◌, ◌==◌, ◌∙◌, ℕ, List, [], ◌∷◌, All-weaker, ap}
+use Rattle.textwrap_base.proofs.Common.{append-nil, arith, cond, false, length, lines, lt-ltb}
+use Rattle.textwrap_base.proofs.Common.{ne_eqb, None, refl, slice_split, subst, sym}
 use Rattle.std.specs.Str.Lines.{lines_of_parts}
 use Rattle.std.proofs.lemmas.List.Splits.{slice_split_none}
 use Rattle.textwrap.specs.Indentation.{HasNoLineFeed}
-use Rattle.textwrap.specs.Refilling.{ended_lines, ended_lines_of, IsRefilled, joined_text, keeps_ending}
-use Rattle.textwrap.specs.Refilling.{line_prefix, unfilled_initial, unfilled_subsequent, with_indents_of}
+use Rattle.textwrap.specs.Refilling.{ended_lines, ended_lines_of, IsRefilled, joined_text}
+use Rattle.textwrap.specs.Refilling.{keeps_ending, line_prefix, unfilled_initial}
+use Rattle.textwrap.specs.Refilling.{unfilled_subsequent, with_indents_of}
 use Rattle.textwrap_lines.proofs.Common.{IsFilled}
 use Rattle.textwrap_calls.specs.Options.{Divides, settings_of}
 use Rattle.textwrap_calls.specs.Printable.{AreWithoutIndents}

@@ -70,7 +70,7 @@ pub fn textwrap_refill_utf8(
     refill_text(alloc, known_text(text), options, room, len)
 }
 
-/// Whether a text begins with a character of an indent.
+/// Whether a text begins with a character of an indent, as `unfill` knows them.
 fn begins_with_prefix(text: &[u8]) -> bool
     ensures { result ≡ false → line_prefix text.now ≡ [] }
 {

@@ -1,6 +1,8 @@
 -- Lemmas on texts that are written one after another.
 use Rattle.std.proofs.Common.{◌≡◌, ◌∙◌, ℕ, ◌+◌, ◌<◌, ◌≤◌, List, [], ◌++◌, map, drop, get_or, Bor, Option}
-use Rattle.std.proofs.Common.{append_assoc, ap, length, refl, subst, sym}
+use Rattle.std.proofs.Common.{append_assoc, ap, length, refl, subst, sym, Bool, Result, Ok, Err}
+use Rattle.std.proofs.Common.{OnOk, OnErr}
+use Rattle.std.specs.Result.{is_ok}
 use Rattle.std.proofs.KnownBytes.{Appends-nil, Appends-trans}
 use Rattle.std.proofs.lemmas.List.{at_drop_more, drop_all}
 use Rattle.std.specs.Io.KnownBytes.{Appends}
@@ -8,6 +10,7 @@ use Rattle.textwrap_program.proofs.WriteLemmas.{Appends-whole, WritesPrefix-afte
 use Rattle.textwrap_program.proofs.WriteLemmas.{WrittenSoFar}
 use Rattle.textwrap_program.specs.Filling.{WritesPrefix}
 use Rattle.reflow_program.specs.Messages.{joined_texts}
+use Rattle.reflow_program.specs.Program.{Says}
 
 abbrev pub joined : List (Bor (List ℕ)) → List ℕ
 joined texts = joined_texts (map (λ text. text.now) texts)
@@ -56,3 +59,16 @@ pub IsWritten-all : (old new : Option (List ℕ)) (texts : List (Bor (List ℕ))
 IsWritten-all old new texts index past so_far =
     Appends-whole old new (joined (drop index texts)) (joined texts) so_far
     (ap joined (drop_all index texts past))
+
+-- what a result of writing says
+says-of : {A E : Type 0} (text : List ℕ) (old new : Option (List ℕ)) (result : Result A E)
+    → OnOk result (Appends old new text) → OnErr result (WritesPrefix old new text)
+    → Says text old new (is_ok result)
+says-of text old new (Ok value) appends prefix = appends
+says-of text old new (Err error) appends prefix = prefix
+
+pub says-result : {A E : Type 0} (text : List ℕ) (old new : Option (List ℕ)) (result : Result A E)
+    (said : Bool) → said ≡ is_ok result → OnOk result (Appends old new text)
+    → OnErr result (WritesPrefix old new text) → Says text old new said
+says-result text old new result said is appends prefix =
+    subst (Says text old new) (sym is) (says-of text old new result appends prefix)

@@ -1,0 +1,13 @@
+use Rattle.std.proofs.Common.{◌≡◌, Bool, List, ℕ, Option, Result, subst, sym}
+use Rattle.reflow_program.proofs.MessageLemmas.{says-result}
+use Rattle.reflow_program.proofs.program.says.Goals as goal
+
+pub returns-in-Ok : goal.returns-in-Ok
+returns-in-Ok g c =
+    rw c.in-Ok.is (says-result _ _ _ c.write_message.result c.is_ok.result c.is_ok.ensures.value
+    c.write_message.ensures.ok c.write_message.ensures.prefix)
+
+pub returns-in-Err : goal.returns-in-Err
+returns-in-Err g c =
+    rw c.in-Err.is (says-result _ _ _ c.write_fault.result c.is_ok-in-Err.result
+    c.is_ok-in-Err.ensures.value c.write_fault.ensures.ok c.write_fault.ensures.prefix)

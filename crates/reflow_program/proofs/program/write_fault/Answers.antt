@@ -1,0 +1,36 @@
+use Rattle.std.proofs.Common.{[], ◌∷◌, codes, subst, OnErr, OnOk}
+use Rattle.std.specs.Io.KnownBytes.{Appends}
+use Rattle.textwrap_program.specs.Filling.{WritesPrefix}
+use Rattle.reflow_program.specs.Messages.{message_line}
+use Rattle.reflow_program.proofs.program.write_fault.Goals as goal
+
+pub returns-in-NotUtf8-clause-ok : goal.returns-in-NotUtf8-clause-ok
+returns-in-NotUtf8-clause-ok g c =
+    let old = g.M.Write.contents c.args.messages.now in
+    let new = g.M.Write.contents c.write_message-in-NotUtf8.new.messages in
+    rw c.in-NotUtf8.is
+    (subst (λ number. OnOk c.write_message-in-NotUtf8.result (Appends old new
+    (message_line c.args.name.now (codes "not UTF-8 after " ∷ number ∷ codes " bytes" ∷ []))))
+    c.format-number.ensures.text c.write_message-in-NotUtf8.ensures.ok)
+
+pub returns-in-NotUtf8-clause-prefix : goal.returns-in-NotUtf8-clause-prefix
+returns-in-NotUtf8-clause-prefix g c =
+    let old = g.M.Write.contents c.args.messages.now in
+    let new = g.M.Write.contents c.write_message-in-NotUtf8.new.messages in
+    rw c.in-NotUtf8.is
+    (subst (λ number. OnErr c.write_message-in-NotUtf8.result (WritesPrefix old new
+    (message_line c.args.name.now (codes "not UTF-8 after " ∷ number ∷ codes " bytes" ∷ []))))
+    c.format-number.ensures.text c.write_message-in-NotUtf8.ensures.prefix)
+
+pub returns-in-Memory-clause-prefix : goal.returns-in-Memory-clause-prefix
+returns-in-Memory-clause-prefix g c =
+    rw c.in-Memory.is c.write_message-in-Memory.ensures.prefix
+
+pub returns-in-Write-clause-prefix : goal.returns-in-Write-clause-prefix
+returns-in-Write-clause-prefix g c =
+    let old = g.M.Write.contents c.args.messages.now in
+    let new = g.M.Write.contents c.write_message-in-Write.new.messages in
+    rw c.in-Write.is
+    (subst (λ draft. OnErr c.write_message-in-Write.result (WritesPrefix old new
+    (message_line c.args.name.now (draft ∷ c.writing_text.result.now ∷ [])))) c.draft_of.ensures
+    c.write_message-in-Write.ensures.prefix)

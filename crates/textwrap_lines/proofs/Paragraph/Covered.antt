@@ -76,10 +76,6 @@ module _ (text : List ℕ) (words front : List Word) (last : Word)
 
 -- ---- the words of a line, cut in two: each part has the words of its own text
 
-AreCutApart-front : (parts others : List (List ℕ)) → AreCutApart (parts ++ others)
-    → AreCutApart parts
-AreCutApart-front parts others cut = search (rules, append_assoc)
-
 AreCutApart-back : (parts others : List (List ℕ)) → AreCutApart (parts ++ others)
     → AreCutApart others
 AreCutApart-back parts others cut = λ before after left right is.
@@ -134,7 +130,7 @@ words_apart ws vs line (chunks, are, is) =
     let some_first = all-left (λ part. part ≢ []) first others some in
     record {
       front = AreWordsOf-chunks first ws first_is some_first (all-left IsUncut first others uncut)
-          (AreCutApart-front first others cut);
+          (search (rules, append_assoc));
       back = AreWordsOf-chunks others vs others_is (all-right (λ part. part ≢ []) first others some)
           (all-right IsUncut first others uncut) (AreCutApart-back first others cut);
       some = λ any. subst (λ l. 0 < length l) (sym (tiled-map first) ∙ ap tiled (sym first_is))
@@ -164,10 +160,6 @@ words_apart ws vs line (chunks, are, is) =
 abbrev pub shortened : List ℕ → List ℕ
 shortened text = take (length text - 1) text
 
-ends_in_last : (text : List ℕ) → 0 < length text → last text ≡ blank
-    → text ≡ shortened text ++ blank ∷ []
-ends_in_last text some is = search (rules, take_all, take_more)
-
 -- each line but the last ends in a blank, and has the words of its own text
 abbrev pub AreLinesApart : List (List WordText) → Type 0
 AreLinesApart [] = ⊤
@@ -186,7 +178,7 @@ lines_apart (line ∷ next ∷ lines) some are =
     let apart = words_apart line (flat (next ∷ lines)) (tiled (flat (line ∷ next ∷ lines))) are in
     let more : flat (next ∷ lines) ≢ [] =
     not_nil next (flat lines) (All-head (λ l. l ≢ []) next lines rest) in
-    search (rules, arith, lines_apart (next ∷ lines) rest apart.back, ends_in_last)
+    search (rules, arith, lines_apart (next ∷ lines) rest apart.back, take_all, take_more)
   where
     not_nil : (ws vs : List WordText) → ws ≢ [] → ws ++ vs ≢ []
     not_nil [] vs some is = some refl

@@ -121,11 +121,6 @@ module _ (settings : Settings) where
   first_width-own even false = ap (λ b. cond (b && false) (later_width settings)
       (width_after settings settings.initial_indent)) even
 
-  -- and so has the first line of a text
-  pub first_width-first : first_width settings false ≡ own_width false
-  first_width-first = elim settings.even_paragraphs as (λ b. cond (b && false) (later_width settings)
-      (own_width false) ≡ own_width false) [ true ↦ refl | false ↦ refl ]
-
   -- the lines of a division
   pub division-even : (is_later : Bool) → first_width settings is_later ≡ own_width is_later
       → (division : List (List WordText))
@@ -133,14 +128,6 @@ module _ (settings : Settings) where
       → All Keeps (parts_from settings is_later division)
   division-even is_later own [] only = All-nil Keeps
   division-even is_later own (line ∷ lines) only = grind (arith, All-cons, line-even, lines-even)
-
-  -- the line of a whole paragraph, which has no indent
-  pub whole-even : (is_later : Bool) (paragraph : List ℕ)
-      → is_whole settings is_later paragraph ≡ true
-      → closed_width sizes_of (word_of paragraph ∷ []) ≤ settings.width
-      → All Keeps (parts_from settings is_later ((word_of paragraph ∷ []) ∷ []))
-  whole-even is_later paragraph whole within =
-      grind (arith, whole_unindented, text_width-nil, All-cons, All-nil)
 
 -- ---- what the lines of a paragraph keep to
 
@@ -234,7 +221,8 @@ module _ (settings : Settings) (Words : List ℕ → List WordText → Type 0)
             → All (KeepsToWidth settings.width) (parts_from settings is_later division)
         by_case true whole one =
             subst (λ lines. All (KeepsToWidth settings.width) (parts_from settings is_later lines))
-            (sym one) (search (rules, arith, whole-even, whole_line-within))
+            (sym one)
+            (search (rules, arith, whole_unindented, text_width-nil, All-cons, All-nil, whole_line-within))
         by_case false whole (pieces, are, divided) =
             division-even settings is_later own division
             (long_lines settings Words Points texts cuts hyphens is_later paragraph division utf8

@@ -184,13 +184,6 @@ parts_of-push : (settings : Settings) (is_later : Bool) (ws : List WordText) (la
 parts_of-push settings is_later [] last = refl
 parts_of-push settings is_later (w ∷ ws) last = search (rules, last_piece-append)
 
-ending_line : (settings : Settings) (is_later : Bool) (line : List WordText) (last : WordText)
-    (indent slice : List ℕ) (keeps : Bool) → indent ≡ indent_of settings is_later
-    → keeps ≡ keeps_whitespace settings last
-    → slice ≡ cond keeps (tiled line) (covered line)
-    → assembled_line indent slice last.penalty ≡ line_from (parts_ending settings is_later line last)
-ending_line settings is_later line last indent slice keeps indent_is keeps_is slice_is = cc
-
 -- a line made of the slice that its pieces cover
 pub line_from-parts_of : (settings : Settings) (is_later : Bool) (pieces front : List Word)
     (last : Word) (indent slice : List ℕ) (keeps : Bool) → pieces ≡ front ++ last ∷ []
@@ -201,7 +194,7 @@ pub line_from-parts_of : (settings : Settings) (is_later : Bool) (pieces front :
     → assembled_line indent slice last.penalty.now
     ≡ line_from (parts_of settings is_later (map word_view pieces))
 line_from-parts_of settings is_later pieces front last indent slice keeps is indent_is keeps_is
-    slice_is = search (rules, map-append, parts_of-push, ending_line)
+    slice_is = search (rules, map-append, parts_of-push)
 
 -- ---- a text that is cut only before bytes that are no blanks
 
@@ -332,13 +325,6 @@ covered-tiled ws text space tile =
 pub covered-words_of : (line : List ℕ) → covered (words_of line) ≡ without_final_blanks line
 covered-words_of line = search (rules, covered-tiled, words_of-space, tiled-words_of)
 
--- the pieces of the whole paragraph cover it without the blanks at its end
-pub covered-pieces_of : (settings : Settings) (splitter : Splitter)
-    (paragraph : List ℕ) → IsUtf8 paragraph → settings.initial_indent ≡ []
-    → covered (pieces_of settings splitter paragraph) ≡ without_final_blanks paragraph
-covered-pieces_of settings splitter paragraph utf8 unindented =
-    search (rules, covered-tiled, pieces_of-space, pieces_of-tile)
-
 -- ---- a paragraph closes within its bytes, so its pieces are one line
 
 pub blanks-utf8 : (bytes : List ℕ) → AreBlanks bytes → IsUtf8 bytes
@@ -368,5 +354,5 @@ pub same_line : (settings : Settings) (splitter : Splitter)
 same_line settings splitter is_later paragraph utf8 unindented without whole =
     line_from-pieces settings is_later (pieces_of settings splitter paragraph) without
     (pieces_of-no_penalty settings splitter paragraph utf8)
-    ∙ ap Slice (search (rules, pieces_of-tile, covered-pieces_of))
+    ∙ ap Slice (search (rules, covered-tiled, pieces_of-space, pieces_of-tile))
     ∙ sym (line_from-whole settings is_later paragraph whole)

@@ -257,10 +257,6 @@ module _ (cuts : ℕ → Bool) (splitter : Splitter) (text : List ℕ) (printabl
   abbrev both : ℕ → Bool
   both = is_cut_by cuts splitter text
 
-  plain-at : (end : ℕ) → 0 < end → end < length text → cuts end ≡ true → EndsPlain (take end text)
-  plain-at end some inside is = ends-printable text end printable inside
-      ∙ ap (λ t. nat_lt 0 end && t) (after end some inside is) ∙ and_right (nat_lt 0 end) false refl
-
   split-end : (at : ℕ) → length text ≤ at
       → split_words splitter (map word_of (parts_by cuts at (drop at text)))
       ≡ map word_of (parts_by both at (drop at text))
@@ -302,7 +298,7 @@ module _ (cuts : ℕ → Bool) (splitter : Splitter) (text : List ℕ) (printabl
         ap (λ t. t || is_point splitter text k)
         (sym (part.uncut k from (omega (arith, to, len, some)))))) in
         let rest = split-from n end (omega (arith, short, some))
-        (λ more. plain-at end (omega (arith, some)) more (part.ends more)) in
+        (λ more. grind (arith, ends-printable, and_right)) in
         ap (λ ps. split_words splitter (map word_of ps)) (parts-front cuts text at end part)
         ∙ ap (λ ws. ws ++ split_words splitter (map word_of (parts_by cuts end back))) here
         ∙ ap (λ ws. map word_of (parts_by both at q) ++ ws) rest

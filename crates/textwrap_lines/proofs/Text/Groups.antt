@@ -95,30 +95,12 @@ groups-some settings (paragraph ∷ paragraphs) (parts ∷ groups) some are =
 module _ {E C : Type 0} {e : _} {c : _} (options : Options E C e c)
     (words : List ℕ → List WordText) (settings : Settings) (splitter : Splitter)
     (algorithm : Algorithm) (parts : HasPartsAt options words settings splitter algorithm) where
-  -- under any settings
-  pub divides-under_at : (s : Settings) (is_later : Bool) (paragraph : List ℕ)
-      (division : List (List WordText)) → DividesUnder options s is_later paragraph division
-      → DividesAt words splitter algorithm s is_later paragraph division
-  divides-under_at s is_later paragraph division (pieces, (ws, split, ws_are, split_are, is), by) = (
-    pieces,
-    (
-      ws,
-      split,
-      parts.separates paragraph ws ws_are,
-      subst (λ Points. AreSplit Points ws split)
-          (points-as options.word_splitter splitter parts.splitter_is) split_are,
-      is,
-    ),
-    subst (λ Lines. Lines (widths_of s is_later) pieces division)
-        (division-as options.wrap_algorithm algorithm parts.algorithm_is) by,
-  )
-
   pub divides-at : (is_later : Bool) (paragraph : List ℕ) (division : List (List WordText))
       → DividesBy options is_later paragraph division
       → DividesAt words splitter algorithm settings is_later paragraph division
   divides-at is_later paragraph division by =
       subst (λ s. DividesAt words splitter algorithm s is_later paragraph division)
-      parts.settings_are (divides-under_at (settings_view options) is_later paragraph division by)
+      parts.settings_are (grind (arith, points-as, division-as))
 
 -- ---- whatever holds of each division holds of what is made of them
 
@@ -134,21 +116,12 @@ module _ (settings : Settings) (Divides Others : Bool → List ℕ → List (Lis
   laid_out-map is_later paragraph division true is = is
   laid_out-map is_later paragraph division false by = each is_later paragraph division by
 
-  pub paragraph-map : (is_later : Bool) (paragraph : List ℕ) (parts : List LineParts)
-      → AreParagraphParts settings Divides is_later paragraph parts
-      → AreParagraphParts settings Others is_later paragraph parts
-  paragraph-map is_later paragraph parts (division, laid_out, is) = (
-    division,
-    laid_out-map is_later paragraph division (is_whole settings is_later paragraph) laid_out,
-    is,
-  )
-
   pub groups-others : (paragraphs : List (List ℕ)) (groups : List (List LineParts))
       → AreGroups (AreParagraphParts settings Divides) false paragraphs groups
       → AreGroups (AreParagraphParts settings Others) false paragraphs groups
   groups-others paragraphs groups =
       groups-map (λ _. ⊤) (AreParagraphParts settings Divides) (AreParagraphParts settings Others)
-      (λ is_later paragraph parts _. paragraph-map is_later paragraph parts) false paragraphs groups
+      (λ is_later paragraph parts _. grind (arith, laid_out-map)) false paragraphs groups
       (λ k d lt. tt)
 
   abbrev pub text-map : (text : List ℕ) (lines : List Line) → AreTextLines settings Divides text lines

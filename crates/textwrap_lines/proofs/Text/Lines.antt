@@ -59,12 +59,6 @@ abbrev pub bytes_left : Option (Bor (List ℕ)) → ℕ
 bytes_left None = 0
 bytes_left (Some rest) = length rest.now + 1
 
--- one more group of lines
-pub groups-push : (groups : List (List LineParts)) (parts : List LineParts)
-    → map line_from (flat_map (λ ps. ps) (groups ++ parts ∷ []))
-    ≡ map line_from (flat_map (λ ps. ps) groups) ++ map line_from parts
-groups-push groups parts = grind (arith, flat_map-append, append-nil, map-append)
-
 pub paragraphs_left-split : (ending : LineEnding) (rest : List ℕ) (after : Option (Bor (List ℕ)))
     (paragraph : List ℕ)
     → MatchOption after (paragraphs_of ending rest ≡ paragraph ∷ [])

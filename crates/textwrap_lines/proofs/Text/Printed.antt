@@ -27,7 +27,7 @@ use Rattle.textwrap_lines.proofs.Text.Paragraphs.{paragraphs_of-utf8, paragraphs
 use Rattle.textwrap_base.proofs.Division.Map.{IsDividedBy-whole}
 use Rattle.textwrap_words.proofs.Word.Pieces.{AreTexts, AreTexts-words, ArePoints-cuts}
 use Rattle.textwrap_words.proofs.Word.Pieces.{ArePoints-hyphens}
-use Rattle.textwrap_lines.proofs.Paragraph.KeepsTo.{own_width, first_width-own, first_width-first}
+use Rattle.textwrap_lines.proofs.Paragraph.KeepsTo.{own_width, first_width-own}
 use Rattle.textwrap_lines.proofs.Paragraph.KeepsTo.{paragraph-even}
 use Rattle.textwrap_lines.proofs.Paragraph.Pieces.{pieces-measured, pieces-no_penalty, pieces-tile}
 use Rattle.textwrap_lines.proofs.Text.Groups.{groups-all, groups-map}
@@ -229,7 +229,7 @@ module _ (settings : Settings) (Words : List ℕ → List WordText → Type 0)
             → AreGroups AreParts false (text ∷ []) groups → All Within (flat groups)
         one_group [] all are = absurd are
         one_group (parts ∷ groups) all (here, none) =
-            rw (none, append-nil) (paragraph-within false (first_width-first settings) text parts
+            rw (none, append-nil) (paragraph-within false (grind arith) text parts
             (All-head IsUtf8 text [] all) here)
 
   pub ArePrintedWithin-by : (text : List ℕ) (lines : List Line) → IsUtf8 text
@@ -238,6 +238,7 @@ module _ (settings : Settings) (Words : List ℕ → List WordText → Type 0)
   ArePrintedWithin-by text lines utf8 can are =
       let ending = settings.line_ending in
       let paragraphs = paragraphs_of ending text in
+      let all = paragraphs_of-utf8 ending text utf8 in
       record {
         are = are;
         within = search (rules, arith, groups-within);
@@ -247,7 +248,7 @@ module _ (settings : Settings) (Words : List ℕ → List WordText → Type 0)
             (groups-map (λ p. IsUtf8 p × HasNoEscape p) AreParts
             (λ is_later paragraph parts. All CutsNoSequence parts)
             (paragraph-whole initial subsequent) false paragraphs are.groups
-            (λ k d lt. (paragraphs_of-utf8 ending text utf8 k d lt, plain k d lt)) are.defined);
+            (λ k d lt. (all k d lt, plain k d lt)) are.defined);
       }
 
 pub ArePrintedWithin-from : (settings : Settings) (splitter : Splitter) (text : List ℕ)

@@ -20,7 +20,7 @@ use Rattle.textwrap_lines.specs.declared.lent_places.LentLinePlaces.{LentLinePla
 use Rattle.textwrap_lines.specs.declared.line_sinks.JoinedLines.{JoinedLines}
 use Rattle.textwrap_lines.specs.declared.line_sinks.LentLines.{LentLines}
 use Rattle.textwrap_lines.specs.declared.places.PlacedLines.{PlacedLines}
-use Rattle.textwrap_lines.proofs.Text.Lines.{join-push, groups-push}
+use Rattle.textwrap_lines.proofs.Text.Lines.{join-push}
 use Rattle.textwrap_base.proofs.Numbers.{is_later-or}
 use Rattle.textwrap_lines.proofs.Text.Paragraphs.{join-paragraphs_of, rest-within}
 
@@ -178,11 +178,6 @@ pub record HasTaken {S : Type 0} (Holds : S → S → ℕ → List CutLine → T
 -- ---- one after another
 
 module _ {S : Type 0} {Holds : S → S → ℕ → List CutLine → Type 0} where
-  Took-none : (sink : S) → Took Holds sink sink []
-  Took-none sink = record {
-    held = λ first start before. subst (Holds first sink start) (sym (append-nil before));
-  }
-
   pub Took-then : (first next last : S) (xs ys : List CutLine) → Took Holds first next xs
       → Took Holds next last ys → Took Holds first last (xs ++ ys)
   Took-then first next last xs ys one two = record {
@@ -192,7 +187,7 @@ module _ {S : Type 0} {Holds : S → S → ℕ → List CutLine → Type 0} wher
   }
 
   pub HasTaken-start : (all : List CutLine) (sink : S) → HasTaken Holds all sink sink all
-  HasTaken-start all sink = record { taken = []; took = Took-none sink; are = refl }
+  HasTaken-start all sink = record { taken = []; took = grind (arith, append-nil); are = refl }
 
   pub HasTaken-next : (all : List CutLine) (old now next : S) (cut : CutLine)
       (left : List CutLine) → HasTaken Holds all old now (cut ∷ left)
@@ -306,7 +301,8 @@ module _ (settings : Settings) (Divides : Bool → List ℕ → List (List WordT
         given = map-append (λ (cut : CutLine). cut.line) so_far.lines here
             ∙ ap (λ ls. ls ++ lines_of here) so_far.given
             ∙ ap (λ ls. map line_from (flat_map (λ ps. ps) so_far.groups) ++ ls)
-            (lines_of-cut_lines start parts) ∙ sym (groups-push so_far.groups parts);
+            (lines_of-cut_lines start parts)
+            ∙ sym (grind (arith, flat_map-append, append-nil, map-append));
         more = λ others rest. rw append_assoc (so_far.more (parts ∷ others)
             (rw (is_out first start so_far.lines held) at are, rw later at rest));
         cuts = λ others. simp (append_assoc, so_far.cuts (parts ∷ others), ends);

@@ -47,8 +47,8 @@ loop-word-preserved g c =
       | goal.else-line_start-end w ↦
           let room : c.loop-word.line_start < c.loop-word.end
           → c.loop-word.open_width + word.width ≤ c.args.width = elim w.else-line_start-end.branch [
-            | goal.else-line_start-end-via-then-line_start-end+else-open_width-word_width v ↦ λ began.
-                omega (arith, v.if-open_width-word_width.false)
+            | goal.else-line_start-end-via-then-line_start-end+else-open_width-word_width v ↦
+                λ began. omega (arith, v.if-open_width-word_width.false)
             | goal.else-line_start-end-via-else-line_start-end v ↦ λ began.
                 absurd (omega (arith, began, v.if-line_start-end.false))
           ] in (

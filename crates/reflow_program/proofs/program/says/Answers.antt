@@ -1,4 +1,3 @@
-use Rattle.std.proofs.Common.{◌≡◌, Bool, List, ℕ, Option, Result, subst, sym}
 use Rattle.reflow_program.proofs.MessageLemmas.{says-result}
 use Rattle.reflow_program.proofs.program.says.Goals as goal
 

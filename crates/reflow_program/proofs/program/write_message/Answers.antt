@@ -1,10 +1,6 @@
-use Rattle.std.proofs.Common.{[], ◌∷◌, map}
 use Rattle.std.proofs.KnownBytes.{Appends-trans}
 use Rattle.std.proofs.lemmas.Result.{on_err_weaker, on_ok_weaker}
-use Rattle.std.proofs.Common.{codes}
 use Rattle.textwrap_program.proofs.WriteLemmas.{OnErr-from, WritesPrefix-after, WritesPrefix-longer}
-use Rattle.textwrap_program.specs.Program.{line_feed}
-use Rattle.reflow_program.specs.Messages.{joined_texts}
 use Rattle.reflow_program.proofs.program.write_message.Goals as goal
 
 pub returns-in_err-write_texts-clause-prefix : goal.returns-in_err-write_texts-clause-prefix

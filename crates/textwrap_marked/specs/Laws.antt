@@ -1,6 +1,6 @@
 -- The statements of the laws, each under a name that a caller can cite.
 use Rattle.std.specs.Prelude.{◌≡◌, ℕ, ◌+◌, ◌-◌, ◌≤◌, ◌⊎◌, ◌||◌, Bool, true, false, List, [], ◌∷◌}
-use Rattle.std.specs.Prelude.{◌++◌, All, if◌then◌else◌, length, map, nat_eq, None, ⊤}
+use Rattle.std.specs.Prelude.{◌++◌, All, drop, if◌then◌else◌, length, map, nat_eq, None, ⊤}
 use Rattle.std.specs.List.{flat_map, slice_split, starts_with}
 use Rattle.textwrap_base.specs.Cost.{division_cost, priced_at}
 use Rattle.textwrap_base.specs.Division.{closed_width, IsDivision}
@@ -13,7 +13,8 @@ use Rattle.textwrap_marked.specs.Lines.{LineText, lines_of}
 use Rattle.textwrap_marked.specs.Pieces.{pieces, words_of}
 use Rattle.textwrap_marked.specs.Reflow.{byte_order_mark, filled_end, filled_ending}
 use Rattle.textwrap_marked.specs.Reflow.{IsReflowed, kept_line, kept_text, printed}
-use Rattle.textwrap_marked.specs.Words.{has_bytes, is_white}
+use Rattle.textwrap_marked.specs.Words.{has_byte, has_bytes, has_letter, is_white}
+use Rattle.textwrap_marked.specs.declared.options.Algorithm.{Algorithm}
 use Rattle.textwrap_marked.specs.declared.options.Algorithm.TheVariants.{FirstFit, LeastCost}
 use Rattle.textwrap_marked.specs.declared.options.ReflowOptions.{ReflowOptions}
 
@@ -182,3 +183,70 @@ LeastCostIsLeast =
     (options : ReflowOptions) (penalties : Penalties) (text reflowed : List ℕ)
     → options.algorithm ≡ LeastCost penalties → IsReflowed options text reflowed
     → AreOfParts (CostsLeast options penalties) options text reflowed
+
+-- ---- the new text, read again
+
+-- the same paragraph of two texts: all that its lines are made of, but for how its words are divided
+pub record IsSameParagraph (part other : Part) : Type 0 where
+  pub prefix : other.first.prefix ≡ part.first.prefix
+  pub hanging : other.first.hanging ≡ part.first.hanging
+  pub starred : other.first.starred ≡ part.first.starred
+  pub words : words_of other.lines ≡ words_of part.lines
+  -- what stands behind its last line, whatever the ending
+  pub end : (ending : List ℕ) → filled_end ending other.lines ≡ filled_end ending part.lines
+
+-- the same lines that stay, or the same paragraph
+abbrev pub IsSameBy : Bool → Part → Part → Type 0
+IsSameBy true part other = other ≡ part
+IsSameBy false part other = (other.stays ≡ false) × IsSameParagraph part other
+
+abbrev pub AreSameParts : List Part → List Part → Type 0
+AreSameParts [] [] = ⊤
+AreSameParts [] (other ∷ others) = ⊥
+AreSameParts (part ∷ parts) [] = ⊥
+AreSameParts (part ∷ parts) (other ∷ others) =
+    IsSameBy part.stays part other × AreSameParts parts others
+
+-- no declared mark has a letter, a digit or a carriage return
+abbrev pub AreSigns : ReflowOptions → Type 0
+AreSigns options =
+    All (λ mark. (has_letter mark.now ≡ false) × (has_byte 13 mark.now ≡ false)) options.markers.now
+
+-- what follows a byte order mark, if there is one
+abbrev pub behind_mark : List ℕ → List ℕ
+behind_mark text = if starts_with nat_eq text byte_order_mark then drop 3 text else text
+
+-- both begin with a byte order mark, or neither does
+abbrev pub BeginAlike : List ℕ → List ℕ → Type 0
+BeginAlike text other =
+    starts_with nat_eq other byte_order_mark ≡ starts_with nat_eq text byte_order_mark
+
+-- filled lines of both end the same
+abbrev pub EndAlike : ReflowOptions → List ℕ → List ℕ → Type 0
+EndAlike options text other =
+    filled_ending options.ending (behind_mark other) ≡ filled_ending options.ending (behind_mark text)
+
+-- the new text, read again, has the parts of the text, if no ending is asked for
+abbrev pub PartsAreKept : Type 0
+PartsAreKept =
+    (options : ReflowOptions) (text reflowed : List ℕ)
+    → AreSigns options → options.ending ≡ None → BeginAlike text reflowed
+    → IsReflowed options text reflowed
+    → AreSameParts (text_parts options (behind_mark text)) (text_parts options (behind_mark reflowed))
+
+-- the new text, reflowed by the same options, stays as it is
+abbrev pub ReflowedTextsStay : Type 0
+ReflowedTextsStay =
+    (options : ReflowOptions) (text reflowed : List ℕ)
+    → AreSigns options → options.ending ≡ None → BeginAlike text reflowed
+    → EndAlike options text reflowed → IsReflowed options text reflowed
+    → IsReflowed options reflowed reflowed
+
+-- what a text becomes that was reflowed at another width, by any algorithm, it becomes at once
+abbrev pub EarlierWidthsMakeNoDifference : Type 0
+EarlierWidthsMakeNoDifference =
+    (options : ReflowOptions) (width : ℕ) (algorithm : Algorithm) (text between reflowed : List ℕ)
+    → AreSigns options → options.ending ≡ None → BeginAlike text between
+    → EndAlike options text between
+    → IsReflowed (record options { width = width; algorithm = algorithm }) text between
+    → IsReflowed options between reflowed → IsReflowed options text reflowed

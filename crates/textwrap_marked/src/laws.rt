@@ -3,8 +3,9 @@
 //!
 //! A law has no example: its statement is all there is to it. A call is written
 //! `reflowed_texts_are_unique();`.
-ghost use Rattle.textwrap_marked.specs.Laws.{FirstFitKeepsToWidth, LeastCostIsLeast};
-ghost use Rattle.textwrap_marked.specs.Laws.{ReflowedTextsAreUnique, WhatStandsApartStays, WordsAreKept};
+ghost use Rattle.textwrap_marked.specs.Laws.{EarlierWidthsMakeNoDifference, FirstFitKeepsToWidth, LeastCostIsLeast};
+ghost use Rattle.textwrap_marked.specs.Laws.{PartsAreKept, ReflowedTextsAreUnique, ReflowedTextsStay};
+ghost use Rattle.textwrap_marked.specs.Laws.{WhatStandsApartStays, WordsAreKept};
 
 /// A text becomes one text at the same options: the one that `reflow` returns.
 pub fn reflowed_texts_are_unique()
@@ -35,4 +36,25 @@ pub fn what_stands_apart_stays()
 /// form, have the words of its lines in order.
 pub fn words_are_kept()
     ensures { WordsAreKept }
+{}
+
+/// The new text, read again, is read as the text was, if no ending is asked for: block by block and in
+/// order the same lines that stay, byte for byte, and the same paragraphs, each with its prefix, its
+/// hanging form, its words, and what stands behind its last line.
+///
+/// No declared mark may have a letter, a digit or a carriage return, since a line that begins with such
+/// a one may say where a fence ends.
+pub fn parts_are_kept()
+    ensures { PartsAreKept }
+{}
+
+/// Twice is once: a new text stays as it is at the same options.
+pub fn reflowed_twice_is_once()
+    ensures { ReflowedTextsStay }
+{}
+
+/// Another width or algorithm first makes no difference: what a text becomes that was reflowed by them
+/// before, it becomes at once.
+pub fn earlier_widths_make_no_difference()
+    ensures { EarlierWidthsMakeNoDifference }
 {}

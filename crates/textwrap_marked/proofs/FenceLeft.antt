@@ -1,0 +1,261 @@
+-- A line that begins as another one leaves the fence that it leaves.
+use Rattle.textwrap_base.proofs.Common.{◌≡◌, ℕ, ◌-◌, ◌<◌, ◌⊎◌, ◌||◌, not, Bool, true, false, cond, List}
+use Rattle.textwrap_base.proofs.Common.{[], ◌∷◌, ◌++◌, ◌==◌, All, All-head, All-nil, ap, append-nil}
+use Rattle.textwrap_base.proofs.Common.{append_assoc, arith, drop, false_from_ne_true, inl, inr, length}
+use Rattle.textwrap_base.proofs.Common.{list_any, nat_eq, None, Option, refl, Some, starts_with, subst, suffix_len}
+use Rattle.textwrap_base.proofs.Common.{All-append, length-append, sym, take-append-drop, true≢false, ⊤, ◌∙◌}
+use Rattle.textwrap_base.proofs.Lists.Parts.{all-right}
+use Rattle.textwrap_base.proofs.Lists.Prefixes.{starts_with-rest, starts_with-true}
+use Rattle.textwrap_marked.proofs.FenceMarks.{AreSafeMarks, behind-lead, behind-words, IsMarkWord, IsSafe, IsSafeFence}
+use Rattle.textwrap_marked.proofs.HangingKinds.{before-full, full-before, IsFull}
+use Rattle.textwrap_marked.proofs.LaterLines.{IsRead}
+use Rattle.textwrap_marked.proofs.ParagraphLines.{regroup, text-parts}
+use Rattle.textwrap_marked.proofs.SpacedBack.{AreSpaced, IsInk, IsLineText, IsSpaced, IsWhite, line-text}
+use Rattle.textwrap_marked.proofs.SpacedBack.{spaced-back}
+use Rattle.textwrap_marked.proofs.WordsIn.{IsPlain}
+use Rattle.textwrap_marked.specs.Columns.{behind_white}
+use Rattle.textwrap_marked.specs.Fences.{FenceText, is_left_by}
+use Rattle.textwrap_marked.specs.Lines.{entered, fence_at, is_return, StateText}
+use Rattle.textwrap_marked.specs.Signs.{begins_text, first_word}
+use Rattle.textwrap_marked.specs.Words.{has_byte, is_white, spaced_text, SpacedText, spaced_words}
+use Rattle.textwrap_marked.specs.declared.options.ReflowOptions.{ReflowOptions}
+
+-- nothing, or white or a carriage return first
+abbrev pub EndsWord : List ℕ → Type 0
+EndsWord [] = ⊤
+EndsWord (c ∷ cs) = (is_white c || is_return c) ≡ true
+
+-- ---- one text in two parts, twice
+
+abbrev Splits : List ℕ → List ℕ → List ℕ → List ℕ → Type 0
+Splits xs ys zs ws =
+    ((d : List ℕ) × (xs ≡ zs ++ d))
+    ⊎ ((c : ℕ) × (d : List ℕ) × (zs ≡ xs ++ c ∷ d) × (ys ≡ c ∷ (d ++ ws)))
+
+abbrev first_byte : List ℕ → ℕ
+first_byte [] = 0
+first_byte (c ∷ cs) = c
+
+splits : (xs ys zs ws : List ℕ) → xs ++ ys ≡ zs ++ ws → Splits xs ys zs ws
+splits [] ys [] ws is = inl ([], refl)
+splits [] ys (z ∷ zs) ws is = inr (z, zs, refl, is)
+splits (x ∷ xs) ys [] ws is = inl (x ∷ xs, refl)
+splits (x ∷ xs) ys (z ∷ zs) ws is =
+    more (ap first_byte is) (splits xs ys zs ws (ap (drop 1) is))
+  where
+    more : x ≡ z → Splits xs ys zs ws → Splits (x ∷ xs) ys (z ∷ zs) ws
+    more same (inl (d, e)) = inl (d, λ i. same i ∷ e i)
+    more same (inr (c, d, e, f)) = inr (c, d, (λ i. sym same i ∷ e i), f)
+
+-- ---- no mark goes on with a word of a text
+
+any-later : (test : ℕ → Bool) (front : List ℕ) (c : ℕ) (cs : List ℕ) → test c ≡ true
+    → list_any test (front ++ c ∷ cs) ≡ true
+any-later test [] c cs is = ap (λ b. b || list_any test cs) is
+any-later test (x ∷ front) c cs is =
+    ap (λ b. test x || b) (any-later test front c cs is) ∙ either (test x)
+  where
+    either : (b : Bool) → (b || true) ≡ true
+    either true = refl
+    either false = refl
+
+word-spaced : (w : SpacedText) (vs : List SpacedText) → IsSpaced w → 0 < length w.white → AreSpaced vs
+    → AreSpaced (w ∷ vs)
+word-spaced w [] is some are = is
+word-spaced w (v ∷ vs) is some are = (is, some, are)
+
+longer-spaced : (word : List ℕ) (v : SpacedText) (vs : List SpacedText) → IsPlain word
+    → AreSpaced (v ∷ vs) → AreSpaced (record { word = word ++ v.word; white = v.white } ∷ vs)
+longer-spaced word v [] plain are = record {
+  word = record {
+    some = omega (arith, plain.some, length-append word v.word);
+    ink = All-append IsInk word v.word plain.ink are.word.ink;
+  };
+  white = are.white;
+}
+longer-spaced word v (u ∷ vs) plain (here, some, later) = (
+  record {
+    word = record {
+      some = omega (arith, plain.some, length-append word v.word);
+      ink = All-append IsInk word v.word plain.ink here.word.ink;
+    };
+    white = here.white;
+  },
+  some,
+  later,
+)
+
+first-plain : (v : SpacedText) (vs : List SpacedText) → AreSpaced (v ∷ vs) → IsPlain v.word
+first-plain v [] are = are.word
+first-plain v (u ∷ vs) are = are.0.word
+
+module _ (marks ks : List SpacedText) (word : List ℕ) (full : All IsFull marks) (spaced : AreSpaced ks)
+    (all : All (λ k. IsMarkWord k.word) ks) (plain : IsPlain word) where
+  -- the words that the marks would have
+  marked : (w : SpacedText) (vs : List SpacedText) → AreSpaced (w ∷ vs)
+      → spaced_text ks ≡ spaced_text marks ++ ((w.word ++ w.white) ++ spaced_text vs) → IsMarkWord w.word
+  marked w vs are is =
+      let list = marks ++ (w ∷ vs) in
+      let same : ks ≡ list =
+      sym (spaced-back ks spaced) ∙ ap spaced_words (is ∙ sym (text-parts marks (w ∷ vs)))
+      ∙ spaced-back list (full-before marks (w ∷ vs) full are) in
+      All-head (λ k. IsMarkWord k.word) w vs
+      (all-right (λ k. IsMarkWord k.word) marks (w ∷ vs) (subst (All (λ k. IsMarkWord k.word)) same all))
+
+  no-text : (starred : Bool) (c : ℕ) (cs : List ℕ) → begins_text starred word ≡ true
+      → (is_white c || is_return c) ≡ true
+      → spaced_text ks ≡ spaced_text marks ++ (word ++ c ∷ cs) → ⊥
+  no-text starred c cs begins ends is =
+      let (lead, vs, text) = line-text (c ∷ cs) in cut (is_white c) refl lead vs text
+    where
+      white-text : (lead : List ℕ) (vs : List SpacedText) → c ∷ cs ≡ lead ++ spaced_text vs
+          → All IsWhite lead → 0 < length lead → AreSpaced vs → ⊥
+      white-text lead vs text white some are =
+          let w : SpacedText = record { word = word; white = lead } in
+          let mark = marked w vs (word-spaced w vs (record { word = plain; white = white }) some are)
+          (is ∙ ap (λ l. spaced_text marks ++ (word ++ l)) text
+          ∙ ap (λ l. spaced_text marks ++ l) (sym (append_assoc word lead (spaced_text vs)))) in
+          true≢false (sym begins ∙ mark.begins starred)
+
+      returned : is_white c ≡ false → (v : SpacedText) (vs : List SpacedText) (x : ℕ) (xs : List ℕ)
+          → v.word ≡ x ∷ xs → c ∷ cs ≡ (v.word ++ v.white) ++ spaced_text vs → AreSpaced (v ∷ vs) → ⊥
+      returned ink v vs x xs first text are =
+          let back : is_return c ≡ true = sym (ap (λ b. b || is_return c) ink) ∙ ends in
+          let same : c ≡ x = ap first_byte (text ∙ ap (λ w. (w ++ v.white) ++ spaced_text vs) first) in
+          let mark = marked (record { word = word ++ v.word; white = v.white }) vs
+          (longer-spaced word v vs plain are)
+          (is ∙ ap (λ l. spaced_text marks ++ (word ++ l)) text
+          ∙ ap (λ l. spaced_text marks ++ l) (simp append_assoc)) in
+          true≢false (sym (any-later (λ b. b == 13) word x xs (ap is_return (sym same) ∙ back))
+          ∙ ap (λ w. has_byte 13 (word ++ w)) (sym first) ∙ mark.returns)
+
+      cut : (b : Bool) → is_white c ≡ b → (lead : List ℕ) (vs : List SpacedText)
+          → IsLineText (c ∷ cs) lead vs → ⊥
+      cut true white (y ∷ ys) vs text =
+          white-text (y ∷ ys) vs text.is text.white (omega arith) text.spaced
+      cut true white [] [] text = omega (arith, ap length text.is)
+      cut true white [] (v ∷ vs) text = inked v.word refl
+        where
+          inked : (w : List ℕ) → v.word ≡ w → ⊥
+          inked [] same = omega (arith, (first-plain v vs text.spaced).some, ap length same)
+          inked (x ∷ xs) same =
+              let ink : is_white x ≡ false =
+              All-head IsInk x xs (subst (All IsInk) same (first-plain v vs text.spaced).ink) in
+              let eq : c ≡ x =
+              ap first_byte (text.is ∙ ap (λ w. (w ++ v.white) ++ spaced_text vs) same) in
+              true≢false (sym white ∙ ap is_white eq ∙ ink)
+      cut false ink (y ∷ ys) vs text =
+          let eq : c ≡ y = ap first_byte text.is in
+          true≢false (sym (All-head IsWhite y ys text.white) ∙ ap is_white (sym eq) ∙ ink)
+      cut false ink [] [] text = omega (arith, ap length text.is)
+      cut false ink [] (v ∷ vs) text = found v.word refl
+        where
+          found : (w : List ℕ) → v.word ≡ w → ⊥
+          found [] same = omega (arith, (first-plain v vs text.spaced).some, ap length same)
+          found (x ∷ xs) same = returned ink v vs x xs same text.is text.spaced
+
+-- ---- the fence
+
+left-by : (fence : FenceText) (raw : List ℕ) → fence_at (Some fence) raw ≡ None
+    → is_left_by fence raw ≡ true
+left-by fence raw is = cut (is_left_by fence raw) refl
+  where
+    never : ◌≡◌ {A = Option FenceText} (Some fence) None → ⊥
+    never bad = cc
+
+    cut : (b : Bool) → is_left_by fence raw ≡ b → is_left_by fence raw ≡ true
+    cut true left = left
+    cut false left = absurd (never (sym (ap (λ b. cond b None (Some fence)) left) ∙ is))
+
+not-true : (b : Bool) → not b ≡ true → b ≡ false
+not-true false is = refl
+not-true true is = sym is
+
+module _ (marks : List SpacedText) (word lead : List ℕ) (full : All IsFull marks) (plain : IsPlain word)
+    (white : All IsWhite lead) where
+  abbrev begun : List SpacedText
+  begun = marks ++ (record { word = word; white = [] } ∷ [])
+
+  begun-text : spaced_text begun ≡ spaced_text marks ++ word
+  begun-text =
+      text-parts marks (record { word = word; white = [] } ∷ [])
+      ∙ ap (λ l. spaced_text marks ++ l) (append-nil (word ++ []) ∙ append-nil word)
+
+  behind-begun : (more : List ℕ)
+      → behind_white (lead ++ (spaced_text begun ++ more)) ≡ spaced_text begun ++ more
+  behind-begun more =
+      behind-lead lead (spaced_text begun ++ more) white
+      (behind-words begun more (full-before marks (record { word = word; white = [] } ∷ []) full
+      (record { word = plain; white = All-nil IsWhite }))
+      (omega (arith, length-append marks (record { word = word; white = [] } ∷ []))))
+
+  same-left : (starred : Bool) (fence : FenceText) (rest tail : List ℕ) → AreSafeMarks fence.marks
+      → begins_text starred word ≡ true → EndsWord tail
+      → is_left_by fence (lead ++ (spaced_text begun ++ rest)) ≡ true
+      → is_left_by fence (lead ++ (spaced_text begun ++ tail)) ≡ true
+  same-left starred fence rest tail (ks, others, is, spaced, all) begins ends left =
+      ap not (ap (λ l. starts_with nat_eq l fence.marks) (behind-begun tail)
+      ∙ false_from_ne_true (starts_with nat_eq (spaced_text begun ++ tail) fence.marks) (λ starts.
+      parted (splits (spaced_text begun) tail fence.marks
+      (drop (length fence.marks) (spaced_text begun ++ tail))
+      (starts_with-rest fence.marks (spaced_text begun ++ tail) starts))))
+    where
+      outside : starts_with nat_eq (spaced_text begun ++ rest) fence.marks ≡ false
+      outside =
+          sym (ap (λ l. starts_with nat_eq l fence.marks) (behind-begun rest))
+          ∙ not-true (starts_with nat_eq (behind_white (lead ++ (spaced_text begun ++ rest))) fence.marks)
+          left
+
+      parted : Splits (spaced_text begun) tail fence.marks
+          (drop (length fence.marks) (spaced_text begun ++ tail)) → ⊥
+      parted (inl (d, same)) =
+          true≢false (sym (starts_with-true fence.marks (spaced_text begun ++ rest) (d ++ rest)
+          (ap (λ l. l ++ rest) same ∙ append_assoc fence.marks d rest)) ∙ outside)
+      parted (inr (c, d, same, more)) =
+          no-text marks ks word full spaced all plain starred c (d ++ others) begins
+          (subst EndsWord more ends)
+          (sym is ∙ ap (λ l. l ++ others) same
+          ∙ append_assoc (spaced_text begun) (c ∷ d) others
+          ∙ ap (λ l. l ++ (c ∷ (d ++ others))) begun-text
+          ∙ append_assoc (spaced_text marks) word (c ∷ (d ++ others)))
+
+pub still-left : (options : ReflowOptions) (state : StateText) (raw lead : List ℕ)
+    (cs qs bs ws : List SpacedText) (starred : Bool) (tail : List ℕ)
+    → IsRead options (entered state raw) raw lead cs qs bs ws → 0 < length ws
+    → begins_text starred (first_word ws) ≡ true → IsSafe options state → EndsWord tail
+    → fence_at state.fence raw ≡ None
+    → fence_at state.fence ((lead ++ spaced_text (cs ++ (qs ++ bs))) ++ (first_word ws ++ tail)) ≡ None
+still-left options state raw lead cs qs bs [] starred tail read some begins safe ends left =
+    absurd (omega (arith, some))
+still-left options state raw lead cs qs bs (w ∷ ws) starred tail read some begins (signs, safe) ends left =
+    by_fence state.fence safe left
+  where
+    parts : All IsFull (cs ++ (qs ++ bs)) × AreSpaced (w ∷ ws)
+    parts = before-full (cs ++ (qs ++ bs)) (w ∷ ws) some
+        (subst AreSpaced (regroup cs qs bs (w ∷ ws)) read.text.spaced)
+
+    by_fence : (f : Option FenceText) → IsSafeFence f → fence_at f raw ≡ None
+        → fence_at f ((lead ++ spaced_text (cs ++ (qs ++ bs))) ++ (w.word ++ tail)) ≡ None
+    by_fence None safe left = refl
+    by_fence (Some fence) safe left =
+        let plain = first-plain w ws parts.1 in
+        let list = cs ++ (qs ++ bs) in
+        let whole = spaced_text (begun list w.word lead parts.0 plain read.text.white) in
+        let text : whole ≡ spaced_text list ++ w.word =
+        begun-text list w.word lead parts.0 plain read.text.white in
+        let back = drop (length raw - suffix_len is_return raw) raw in
+        let rest = (w.white ++ spaced_text ws) ++ back in
+        let grouped : (lead ++ (spaced_text list ++ ((w.word ++ w.white) ++ spaced_text ws))) ++ back
+        ≡ lead ++ ((spaced_text list ++ w.word) ++ rest) = simp append_assoc in
+        let old : raw ≡ lead ++ (whole ++ rest) =
+        sym (take-append-drop (length raw - suffix_len is_return raw) raw)
+        ∙ ap (λ l. l ++ back) (read.text.is
+        ∙ ap (λ l. lead ++ l) (ap spaced_text (regroup cs qs bs (w ∷ ws)) ∙ text-parts list (w ∷ ws)))
+        ∙ grouped ∙ ap (λ t. lead ++ (t ++ rest)) (sym text) in
+        let new : (lead ++ spaced_text list) ++ (w.word ++ tail) ≡ lead ++ (whole ++ tail) =
+        append_assoc lead (spaced_text list) (w.word ++ tail)
+        ∙ ap (λ l. lead ++ l) (sym (append_assoc (spaced_text list) w.word tail))
+        ∙ ap (λ t. lead ++ (t ++ tail)) (sym text) in
+        ap (λ b. cond b None (Some fence)) (ap (is_left_by fence) new
+        ∙ same-left list w.word lead parts.0 plain read.text.white starred fence rest tail safe begins ends
+        (sym (ap (is_left_by fence) old) ∙ left-by fence raw left))

@@ -1,0 +1,274 @@
+-- The marks before an open fence are no words of a text.
+use Rattle.textwrap_base.proofs.Common.{◌≡◌, ℕ, ◌+◌, ◌-◌, ◌<◌, ◌&&◌, ◌||◌, not, Bool, true, false, cond}
+use Rattle.textwrap_base.proofs.Common.{List, [], ◌∷◌, ◌++◌, ◌==◌, All, All-append, All-head, All-tail, ap, arith}
+use Rattle.textwrap_base.proofs.Common.{All-weaker, Bor, cases_Bool, codes, drop, eqb-true, false_from_ne_true, length}
+use Rattle.textwrap_base.proofs.Common.{None, Option, option_map, prefix_len, refl, Some, subst, suc, suffix_len, sym, take-append-drop}
+use Rattle.textwrap_base.proofs.Common.{append-nil, true≢false, ⊤, ◌∙◌}
+use Rattle.std.proofs.lemmas.Slice.Eq.{bytes_eq-Decides}
+use Rattle.std.specs.Prelude.{bytes_eq}
+use Rattle.textwrap_marked.proofs.HangingForms.{IsHanging, hanging-is}
+use Rattle.textwrap_marked.proofs.HangingKinds.{AreMarks, before-full}
+use Rattle.textwrap_marked.proofs.LaterLines.{line-read}
+use Rattle.textwrap_marked.proofs.Letterless.{star-plain}
+use Rattle.textwrap_marked.proofs.LineKinds.{line-is}
+use Rattle.textwrap_marked.proofs.OpenBehind.{text-letter}
+use Rattle.textwrap_marked.proofs.ParagraphLines.{all-spaced, regroup}
+use Rattle.textwrap_marked.proofs.SpacedBack.{AreSpaced, IsInk, IsWhite}
+use Rattle.textwrap_marked.proofs.SpreadWords.{middle, no-comment, text-no-quote}
+use Rattle.textwrap_marked.specs.Columns.{behind_white, marks_of}
+use Rattle.textwrap_marked.proofs.WordsIn.{IsPlain}
+use Rattle.textwrap_marked.specs.Fences.{FenceText, is_closed_by, is_left_by, opened}
+use Rattle.textwrap_marked.specs.Laws.{AreSigns}
+use Rattle.textwrap_marked.specs.Lines.{entered, fence_at, line_of, LineText, new_fence, passed, StateText}
+use Rattle.textwrap_marked.specs.Marks.{is_among, is_comment_at, is_line_comment, is_opening, is_quote}
+use Rattle.textwrap_marked.specs.Signs.{begins_text}
+use Rattle.textwrap_marked.specs.Words.{has_byte, has_bytes, has_letter, is_made_of, is_white, spaced_text, SpacedText}
+use Rattle.textwrap_marked.specs.declared.fences.FenceKind.{FenceKind}
+use Rattle.textwrap_marked.specs.declared.options.ReflowOptions.{ReflowOptions}
+
+-- a word that no text begins with, and without a carriage return
+pub record IsMarkWord (word : List ℕ) : Type 0 where
+  pub begins : (starred : Bool) → begins_text starred word ≡ false
+  pub returns : has_byte 13 word ≡ false
+
+-- what such words begin with
+abbrev pub AreSafeMarks : List ℕ → Type 0
+AreSafeMarks text =
+    (ks : List SpacedText) × (rest : List ℕ) × (text ++ rest ≡ spaced_text ks) × AreSpaced ks
+    × All (λ k. IsMarkWord k.word) ks
+
+abbrev pub IsSafeFence : Option FenceText → Type 0
+IsSafeFence None = ⊤
+IsSafeFence (Some fence) = AreSafeMarks fence.marks
+
+abbrev pub IsSafe : ReflowOptions → StateText → Type 0
+IsSafe options state = AreSigns options × IsSafeFence state.fence
+
+pub safe-none : (options : ReflowOptions) (state : StateText) → AreSigns options → state.fence ≡ None
+    → IsSafe options state
+safe-none options state signs none = (signs, subst IsSafeFence (sym none) tt)
+
+-- ---- marks
+
+letterless-begins : (word : List ℕ) → has_letter word ≡ false → (starred : Bool)
+    → begins_text starred word ≡ false
+letterless-begins word none starred =
+    false_from_ne_true (begins_text starred word)
+    (λ begins. true≢false (sym (text-letter starred word begins) ∙ none))
+
+among-signs : (marks : List (Bor (List ℕ))) (word : List ℕ)
+    → All (λ mark. (has_letter mark.now ≡ false) × (has_byte 13 mark.now ≡ false)) marks
+    → is_among word marks ≡ true → (has_letter word ≡ false) × (has_byte 13 word ≡ false)
+among-signs [] word signs is = absurd (true≢false (sym is))
+among-signs (mark ∷ marks) word signs is =
+    cut (bytes_eq word mark.now) refl is
+    (among-signs marks word (All-tail (λ mark. (has_letter mark.now ≡ false)
+    × (has_byte 13 mark.now ≡ false)) mark marks signs))
+    (All-head (λ mark. (has_letter mark.now ≡ false) × (has_byte 13 mark.now ≡ false)) mark marks signs)
+  where
+    cut : (b : Bool) → bytes_eq word mark.now ≡ b → (b || is_among word marks) ≡ true
+        → (is_among word marks ≡ true → (has_letter word ≡ false) × (has_byte 13 word ≡ false))
+        → (has_letter mark.now ≡ false) × (has_byte 13 mark.now ≡ false)
+        → (has_letter word ≡ false) × (has_byte 13 word ≡ false)
+    cut true same is later here =
+        let eq = (bytes_eq-Decides word mark.now).0 same in
+        (ap has_letter eq ∙ here.0, ap (has_byte 13) eq ∙ here.1)
+    cut false same is later here = later is
+
+byte-other : (word other : List ℕ) → has_byte 13 word ≡ true → has_byte 13 other ≡ false
+    → bytes_eq word other ≡ false
+byte-other word other is none =
+    false_from_ne_true (bytes_eq word other) (λ same.
+    true≢false (sym is ∙ ap (has_byte 13) ((bytes_eq-Decides word other).0 same) ∙ none))
+
+comment-returns : (word : List ℕ) → is_line_comment word ≡ true → has_byte 13 word ≡ false
+comment-returns word comment =
+    false_from_ne_true (has_byte 13 word) (λ is. true≢false (sym comment ∙ none is))
+  where
+    none : has_byte 13 word ≡ true → is_line_comment word ≡ false
+    none is = rw (
+      byte-other word (codes "//") is refl,
+      byte-other word (codes "///") is refl,
+      byte-other word (codes "//!") is refl,
+      byte-other word (codes "#") is refl,
+      byte-other word (codes "--") is refl,
+      byte-other word (codes ";") is refl,
+      byte-other word (codes ";;") is refl,
+      byte-other word (codes ";;;") is refl,
+      byte-other word (codes ";;;;") is refl,
+      byte-other word (codes "%") is refl,
+      byte-other word (codes "%%") is refl,
+      byte-other word (codes "%%%") is refl,
+    ) refl
+
+made-returns : (word : List ℕ) → is_made_of 62 word ≡ true → has_byte 13 word ≡ false
+made-returns [] is = refl
+made-returns (c ∷ cs) is =
+    cut (c == 62) refl is (made-returns cs)
+  where
+    cut : (b : Bool) → (c == 62) ≡ b → (b && is_made_of 62 cs) ≡ true
+        → (is_made_of 62 cs ≡ true → has_byte 13 cs ≡ false) → has_byte 13 (c ∷ cs) ≡ false
+    cut true same is later =
+        ap (λ x. x == 13 || has_byte 13 cs) (eqb-true c 62 same) ∙ later is
+    cut false same is later = absurd (true≢false (sym is))
+
+quote-mark : (word : List ℕ) → is_quote word ≡ true → IsMarkWord word
+quote-mark word quote = record {
+  begins = λ starred. false_from_ne_true (begins_text starred word)
+      (λ begins. true≢false (sym quote ∙ text-no-quote starred word begins));
+  returns = made-returns word
+      (middle (has_bytes word) (is_made_of 62 word) (length word == 3) quote);
+}
+
+comment-mark : (options : ReflowOptions) (in_block : Bool) (word : List ℕ) → AreSigns options
+    → is_comment_at options in_block word ≡ true → is_opening word ≡ false → IsMarkWord word
+comment-mark options true word signs comment opening =
+    let same = (bytes_eq-Decides word (codes "*")).0 comment in record {
+      begins = letterless-begins word (ap has_letter same ∙ star-plain);
+      returns = ap (has_byte 13) same;
+    }
+comment-mark options false word signs comment opening = cut (is_among word options.markers.now) refl
+  where
+    line : (a m c o : Bool) → a ≡ false → o ≡ false → (a || (not m && (c || o))) ≡ true → c ≡ true
+    line a m c o p q is = grind (arith, cases_Bool)
+
+    cut : (b : Bool) → is_among word options.markers.now ≡ b → IsMarkWord word
+    cut true among =
+        let (letters, returns) = among-signs options.markers.now word signs among in
+        record { begins = letterless-begins word letters; returns = returns }
+    cut false among = record {
+      begins = λ starred. false_from_ne_true (begins_text starred word) (λ begins.
+          true≢false (sym comment ∙ no-comment options false starred word begins among));
+      returns = comment-returns word (line (is_among word options.markers.now) options.markdown
+          (is_line_comment word) (is_opening word) among opening comment);
+    }
+
+all-both : (P Q R : List ℕ → Type 0) → ((w : List ℕ) → P w → Q w → R w) → (ws : List SpacedText)
+    → All (λ w. P w.word) ws → All (λ w. Q w.word) ws → All (λ w. R w.word) ws
+all-both P Q R each ws p q = λ k d within. each _ (p k d within) (q k d within)
+
+marks-safe : (options : ReflowOptions) (in_block : Bool) (ds rs : List SpacedText) → AreSigns options
+    → AreMarks options in_block ds rs → All (λ k. IsMarkWord k.word) (ds ++ rs)
+marks-safe options in_block ds rs signs are =
+    All-append (λ k. IsMarkWord k.word) ds rs
+    (all-both (λ w. is_comment_at options in_block w ≡ true) (λ w. is_opening w ≡ false) IsMarkWord
+    (λ w comment opening. comment-mark options in_block w signs comment opening) ds are.comment
+    are.no_opening)
+    (All-weaker (λ w. is_quote w.word ≡ true) (λ w. IsMarkWord w.word) (λ w quote. quote-mark w.word quote)
+    rs are.quote)
+
+-- ---- white before a text
+
+behind-ink : (c : ℕ) (cs : List ℕ) → IsInk c → behind_white (c ∷ cs) ≡ c ∷ cs
+behind-ink c cs ink = ap (λ b. drop (cond b (1 + prefix_len is_white cs) 0) (c ∷ cs)) ink
+
+pub behind-lead : (lead text : List ℕ) → All IsWhite lead → behind_white text ≡ text
+    → behind_white (lead ++ text) ≡ text
+behind-lead [] text white is = is
+behind-lead (c ∷ lead) text white is =
+    let rest = lead ++ text in
+    let next : 1 + prefix_len is_white rest ≡ suc (prefix_len is_white rest) = omega arith in
+    ap (λ b. drop (cond b (1 + prefix_len is_white rest) 0) (c ∷ rest)) (All-head IsWhite c lead white)
+    ∙ ap (λ n. drop n (c ∷ rest)) next ∙ behind-lead lead text (All-tail IsWhite c lead white) is
+
+pub behind-words : (ks : List SpacedText) (more : List ℕ) → AreSpaced ks → 0 < length ks
+    → behind_white (spaced_text ks ++ more) ≡ spaced_text ks ++ more
+behind-words [] more are some = absurd (omega (arith, some))
+behind-words (k ∷ ks) more are some = first k.word refl (plain ks are)
+  where
+    plain : (ks : List SpacedText) → AreSpaced (k ∷ ks) → IsPlain k.word
+    plain [] are = are.word
+    plain (v ∷ vs) are = are.0.word
+
+    first : (word : List ℕ) → k.word ≡ word → IsPlain k.word
+        → behind_white (((k.word ++ k.white) ++ spaced_text ks) ++ more)
+        ≡ ((k.word ++ k.white) ++ spaced_text ks) ++ more
+    first [] same is = absurd (omega (arith, is.some, ap length same))
+    first (c ∷ cs) same is =
+        subst (λ w. behind_white (((w ++ k.white) ++ spaced_text ks) ++ more)
+        ≡ ((w ++ k.white) ++ spaced_text ks) ++ more) (sym same)
+        (behind-ink c (((cs ++ k.white) ++ spaced_text ks) ++ more)
+        (All-head IsInk c cs (subst (All IsInk) same is.ink)))
+
+hanging-safe : (options : ReflowOptions) (in_block : Bool) (text lead : List ℕ) (ds rs : List SpacedText)
+    → AreSigns options → IsHanging options in_block text lead ds rs → AreSafeMarks (marks_of text)
+hanging-safe options in_block text lead ds rs signs hang =
+    let ks = ds ++ rs in
+    let behind = behind_white text in
+    let spaced = all-spaced ks hang.full in
+    let n = length behind - suffix_len is_white behind in
+    let whole : behind ≡ spaced_text ks =
+    ap behind_white hang.is ∙ behind-lead lead (spaced_text ks) hang.white (words ks spaced) in (
+      ks,
+      drop n behind,
+      take-append-drop n behind ∙ whole,
+      spaced,
+      marks-safe options in_block ds rs signs hang.marks,
+    )
+  where
+    words : (ks : List SpacedText) → AreSpaced ks → behind_white (spaced_text ks) ≡ spaced_text ks
+    words [] are = refl
+    words (k ∷ ks) are =
+        subst (λ t. behind_white t ≡ t) (append-nil (spaced_text (k ∷ ks)))
+        (behind-words (k ∷ ks) [] are (omega arith))
+
+-- ---- behind a line
+
+opened-some : (words : List SpacedText) (kind : FenceKind) → opened words ≡ Some kind → 0 < length words
+opened-some [] kind is = absurd (none-some kind is)
+  where
+    none-some : (kind : FenceKind) → ◌≡◌ {A = Option FenceKind} None (Some kind) → ⊥
+    none-some kind is = cc
+opened-some (w ∷ ws) kind is = omega arith
+
+line-marks : (options : ReflowOptions) (state : StateText) (raw : List ℕ) (fed : Bool) → AreSigns options
+    → 0 < length (line_of options state raw fed).words
+    → AreSafeMarks (marks_of (line_of options state raw fed).hanging)
+line-marks options state raw fed signs some =
+    let (lead, cs, qs, bs, ws, read) = line-read options state raw in
+    let is = line-is lead cs qs bs ws options state raw fed read.text read.have in
+    let has : 0 < length ws = subst (λ (l : LineText). 0 < length l.words) is some in
+    let (full, spaced) =
+    before-full (cs ++ (qs ++ bs)) ws has (subst AreSpaced (regroup cs qs bs ws) read.text.spaced) in
+    let (front, ds, rs, hang) =
+    hanging-is options state.in_block lead cs qs bs ws read.text.white full read.have in
+    subst (λ (l : LineText). AreSafeMarks (marks_of l.hanging)) (sym is)
+    (hanging-safe options _ _ front ds rs signs hang)
+
+pub safe-passed : (options : ReflowOptions) (state : StateText) (raw : List ℕ) (fed : Bool)
+    → IsSafe options state
+    → IsSafe options (passed (entered state raw) (line_of options (entered state raw) raw fed))
+safe-passed options state raw fed (signs, safe) =
+    (signs, behind (fence_at state.fence raw) (at state.fence safe))
+  where
+    at : (f : Option FenceText) → IsSafeFence f → IsSafeFence (fence_at f raw)
+    at None safe = tt
+    at (Some fence) safe =
+        elim (is_left_by fence raw) as (λ b. IsSafeFence (cond b None (Some fence)))
+        [ true ↦ tt | false ↦ safe ]
+
+    kind_of : (here : LineText) (kind : Option FenceKind) → opened here.words ≡ kind
+        → (0 < length here.words → AreSafeMarks (marks_of here.hanging))
+        → IsSafeFence (option_map (λ k. record { marks = marks_of here.hanging; kind = k })
+        (opened here.words))
+    kind_of here None is marks =
+        subst (λ k. IsSafeFence (option_map (λ k. record { marks = marks_of here.hanging; kind = k }) k))
+        (sym is) tt
+    kind_of here (Some kind) is marks =
+        subst (λ k. IsSafeFence (option_map (λ k. record { marks = marks_of here.hanging; kind = k }) k))
+        (sym is) (marks (opened-some here.words kind is))
+
+    behind : (f : Option FenceText) → IsSafeFence f
+        → IsSafeFence (new_fence f (line_of options (entered state raw) raw fed))
+    behind (Some fence) safe =
+        elim (is_closed_by fence (line_of options (entered state raw) raw fed).hanging
+        (line_of options (entered state raw) raw fed).words)
+        as (λ b. IsSafeFence (cond b None (Some fence))) [ true ↦ tt | false ↦ safe ]
+    behind None safe =
+        let here = line_of options (entered state raw) raw fed in
+        elim here.deeper as (λ b. IsSafeFence (cond b None (option_map
+        (λ k. record { marks = marks_of here.hanging; kind = k }) (opened here.words)))) [
+          | true ↦ tt
+          | false ↦ kind_of here (opened here.words) refl
+              (λ some. line-marks options (entered state raw) raw fed signs some)
+        ]

@@ -1,0 +1,82 @@
+-- What is printed of the blocks of a text, read again.
+use Rattle.textwrap_base.proofs.Common.{◌≡◌, ℕ, ◌||◌, Bool, true, false, List, []}
+use Rattle.textwrap_base.proofs.Common.{◌∷◌, ◌++◌, All, All-append, ap}
+use Rattle.textwrap_base.proofs.Common.{flat_map, join_with_byte, length}
+use Rattle.textwrap_base.proofs.Common.{nat_lt, None, refl, subst, sym, true≢false, ◌∙◌}
+use Rattle.textwrap_base.proofs.Lists.Parts.{all-left, all-right, flat}
+use Rattle.textwrap_marked.proofs.BlockOrder.{AreBlocks}
+use Rattle.textwrap_marked.proofs.BlocksAlike.{part-cons, part_of, stops-same}
+use Rattle.textwrap_marked.proofs.Feedless.{IsFeedless}
+use Rattle.textwrap_marked.proofs.FenceMarks.{IsSafe}
+use Rattle.textwrap_marked.proofs.KeptLines.{AreHeads, head-same, keep, some-behind}
+use Rattle.textwrap_marked.proofs.ReturnsOff.{return_if}
+use Rattle.textwrap_marked.proofs.TextBlocks.{last_line, read}
+use Rattle.textwrap_marked.specs.Blocks.{is_beside, stays}
+use Rattle.textwrap_marked.specs.Laws.{AreSameParts, IsSameBy, parts_from}
+use Rattle.textwrap_marked.specs.Lines.{LineText, StateText}
+use Rattle.textwrap_marked.specs.Reflow.{IsLaidOut, kept_line, kept_text}
+use Rattle.textwrap_marked.specs.declared.options.ReflowOptions.{ReflowOptions}
+
+module _ (options : ReflowOptions) (none : options.ending ≡ None) (returns : Bool) where
+  abbrev pub ending : List ℕ
+  ending = return_if returns ++ 10 ∷ []
+
+  -- the lines of a new text, and its blocks
+  pub record IsReadBack (state : StateText) (beside : Bool) (bs : List (List LineText))
+      (raws : List (List ℕ)) (text : List ℕ) : Type 0 where
+    pub again : List (List ℕ)
+    pub blocks : List (List LineText)
+    pub reads : flat blocks ≡ read options state again
+    pub are : AreBlocks blocks
+    pub same : AreSameParts (parts_from beside bs) (parts_from beside blocks)
+    pub text_is : text ≡ join_with_byte 10 again
+    pub feedless : All IsFeedless again
+    pub heads : AreHeads (flat bs) (flat blocks)
+    pub some : nat_lt 0 (length again) ≡ nat_lt 0 (length raws)
+
+  abbrev pub Walks : Bool → List (List LineText) → Type 0
+  Walks beside bs =
+      (state : StateText) (raws : List (List ℕ)) (text : List ℕ) → flat bs ≡ read options state raws
+      → IsLaidOut options ending beside bs text → IsSafe options state → All IsFeedless raws
+      → IsReadBack state beside bs raws text
+
+  -- a block that stays
+  pub kept-step : (beside : Bool) (first : LineText) (lines : List LineText) (bs : List (List LineText))
+      → Walks (is_beside first bs) bs → AreBlocks ((first ∷ lines) ∷ bs)
+      → stays (beside || is_beside first bs) first ≡ true
+      → (state : StateText) (raws : List (List ℕ)) (front back : List ℕ)
+      → (first ∷ lines) ++ flat bs ≡ read options state raws → front ≡ kept_text options (first ∷ lines)
+      → IsLaidOut options ending (is_beside first bs) bs back → IsSafe options state
+      → All IsFeedless raws
+      → IsReadBack state beside ((first ∷ lines) ∷ bs) raws (front ++ back)
+  kept-step beside first lines bs walks (one, stops, are) stay state raws front back reads is laid safe
+      free =
+      let all = first ∷ lines in
+      let k = keep options all state raws (flat bs) safe reads in
+      let parts = subst (All IsFeedless) k.whole free in
+      let later = walks k.behind k.left back k.reads laid k.safe (all-right IsFeedless k.kept k.left parts)
+      in
+      let last = last_line first lines in record {
+        again = k.kept ++ later.again;
+        blocks = all ∷ later.blocks;
+        reads = k.again (flat later.blocks) later.again later.reads later.heads later.some;
+        are = (
+          one,
+          stops-same last last bs later.blocks are later.are later.heads
+              (record { hangs = refl; ended = refl; apart = refl }) stops,
+          later.are,
+        );
+        same = part-cons beside first first lines lines bs later.blocks (head-same first) are later.are
+            later.heads later.same (kept (stays (beside || is_beside first bs) first) stay);
+        text_is = ap (λ l. l ++ back) (is ∙ ap (λ e. flat_map (kept_line e) all) none)
+            ∙ ap (λ l. flat_map (kept_line None) all ++ l) later.text_is ∙ k.text later.again later.some;
+        feedless = All-append IsFeedless k.kept later.again (all-left IsFeedless k.kept k.left parts)
+            later.feedless;
+        heads = head-same first;
+        some = some-behind k.kept later.again k.left later.some
+            ∙ ap (λ l. nat_lt 0 (length l)) (sym k.whole);
+      }
+    where
+      kept : (b : Bool) → b ≡ true → IsSameBy b (part_of b first lines) (part_of b first lines)
+      kept true is = refl
+      kept false is = absurd (true≢false (sym is))

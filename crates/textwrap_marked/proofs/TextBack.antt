@@ -1,0 +1,125 @@
+-- A new text, read again, has the parts of the text.
+use Rattle.textwrap_base.proofs.Common.{◌≡◌, ℕ, ◌<◌, ◌||◌, not, Bool, true, false, List, [], ◌∷◌, ◌++◌, ◌==◌}
+use Rattle.textwrap_base.proofs.Common.{All, All-nil, ap, arith, join_with_byte, length, nat_lt, lt-ltb}
+use Rattle.textwrap_base.proofs.Common.{cases_Bool, None, refl, slice_split, subst, sym, true≢false, ◌∙◌}
+use Rattle.textwrap_base.proofs.Lists.Parts.{all-left, flat}
+use Rattle.std.proofs.lemmas.List.Splits.{length-slice_split}
+use Rattle.textwrap_lines.specs.LineEnding.{ending_bytes}
+use Rattle.textwrap_lines.specs.declared.line_ending.LineEnding.{LineEnding}
+use Rattle.textwrap_lines.specs.declared.line_ending.LineEnding.TheVariants.{CRLF, LF}
+use Rattle.textwrap_marked.proofs.BlockOrder.{AreBlocks, blocks-are, blocks-back}
+use Rattle.textwrap_marked.proofs.Feedless.{IsFeedless, IsFeedlessLine, read-feedless, split-feedless, split-joined}
+use Rattle.textwrap_marked.proofs.FenceMarks.{IsSafe, safe-none}
+use Rattle.textwrap_marked.proofs.FilledBack.{filled-step}
+use Rattle.textwrap_marked.proofs.NewBlock.{paragraph-at}
+use Rattle.textwrap_marked.proofs.ReadBack.{ending, IsReadBack, kept-step}
+use Rattle.textwrap_marked.proofs.ReturnsOff.{return_if}
+use Rattle.textwrap_marked.proofs.TextBlocks.{read, read-more}
+use Rattle.textwrap_marked.proofs.TextParts.{blocks-flat}
+use Rattle.textwrap_marked.specs.Blocks.{blocks, is_beside, stays}
+use Rattle.textwrap_marked.specs.Laws.{AreSameParts, AreSigns, parts_from, text_parts}
+use Rattle.textwrap_marked.specs.Lines.{first_state, lines_of, LineText, StateText}
+use Rattle.textwrap_marked.specs.Reflow.{filled_ending, IsLaidOut, IsOfBlock, IsReflowedFrom}
+use Rattle.textwrap_marked.specs.declared.options.ReflowOptions.{ReflowOptions}
+
+level-first : (a b c : Bool) → (a || not b || c) ≡ false → a ≡ false
+level-first a b c is = grind (arith, cases_Bool)
+
+module _ (options : ReflowOptions) (none : options.ending ≡ None) (returns : Bool) where
+  read-none : (state : StateText) (raws : List (List ℕ)) → [] ≡ read options state raws
+      → nat_lt 0 0 ≡ nat_lt 0 (length raws)
+  read-none state [] is = refl
+  read-none state (raw ∷ raws) is =
+      absurd (omega (arith, ap length is, ap length (read-more options state raw raws)))
+
+  pub walk-blocks : (bs : List (List LineText)) (beside : Bool) → AreBlocks bs → (state : StateText)
+      (raws : List (List ℕ)) (text : List ℕ) → flat bs ≡ read options state raws
+      → IsLaidOut options (ending options none returns) beside bs text → IsSafe options state
+      → All IsFeedless raws → IsReadBack options none returns state beside bs raws text
+  walk-blocks [] beside are state raws text reads laid safe free = record {
+    again = [];
+    blocks = [];
+    reads = refl;
+    are = tt;
+    same = tt;
+    text_is = laid;
+    feedless = All-nil IsFeedless;
+    heads = tt;
+    some = read-none state raws reads;
+  }
+  walk-blocks ([] ∷ bs) beside are state raws text reads laid safe free = absurd are
+  walk-blocks ((first ∷ lines) ∷ bs) beside are state raws text reads (front, back, of, later, is) safe
+      free =
+      subst (IsReadBack options none returns state beside ((first ∷ lines) ∷ bs) raws) (sym is)
+      (step (stays (beside || is_beside first bs) first) refl of
+      (walk-blocks bs (is_beside first bs) are.2))
+    where
+      step : (b : Bool) → stays (beside || is_beside first bs) first ≡ b
+          → IsOfBlock options (ending options none returns) b first (first ∷ lines) front
+          → ((state : StateText) (raws : List (List ℕ)) (text : List ℕ) → flat bs ≡ read options state raws
+          → IsLaidOut options (ending options none returns) (is_beside first bs) bs text
+          → IsSafe options state → All IsFeedless raws
+          → IsReadBack options none returns state (is_beside first bs) bs raws text)
+          → IsReadBack options none returns state beside ((first ∷ lines) ∷ bs) raws (front ++ back)
+      step true stay of walks =
+          kept-step options none returns beside first lines bs walks are stay state raws front back reads of
+          later safe free
+      step false stay of walks =
+          let apart = level-first first.apart first.chosen (beside || is_beside first bs) stay in
+          let (raw, left, whole, p, same) =
+          paragraph-at options state raws first lines (flat bs) reads apart are.0 in
+          let lines_free = all-left IsFeedlessLine (first ∷ lines) (flat bs)
+          (subst (All IsFeedlessLine) (sym reads) (read-feedless options raws state free)) in
+          filled-step options none returns state raw first lines bs p beside front back raws left whole same
+          are stay of later walks safe free lines_free
+
+  parts-again : (text reflowed : List ℕ) (raw : List ℕ) (raws : List (List ℕ))
+      → (r : IsReadBack options none returns first_state false (blocks (lines_of options text))
+      (slice_split (λ c. c == 10) text) reflowed) → r.again ≡ raw ∷ raws
+      → AreSameParts (text_parts options text) (text_parts options reflowed)
+  parts-again text reflowed raw raws r some =
+      let split : slice_split (λ c. c == 10) reflowed ≡ r.again =
+      ap (slice_split (λ c. c == 10)) (r.text_is ∙ ap (join_with_byte 10) some)
+      ∙ split-joined raw raws (subst (All IsFeedless) some r.feedless) ∙ sym some in
+      let again : blocks (lines_of options reflowed) ≡ r.blocks =
+      ap (λ l. blocks (read options first_state l)) split ∙ ap blocks (sym r.reads)
+      ∙ blocks-back r.blocks r.are in
+      subst (λ bs. AreSameParts (text_parts options text) (parts_from false bs)) (sym again) r.same
+
+  pub parts-back : AreSigns options → (text reflowed : List ℕ)
+      → IsLaidOut options (ending options none returns) false (blocks (lines_of options text)) reflowed
+      → AreSameParts (text_parts options text) (text_parts options reflowed)
+  parts-back signs text reflowed laid =
+      let raws = slice_split (λ c. c == 10) text in
+      let r = walk-blocks (blocks (lines_of options text)) false (blocks-are (lines_of options text))
+      first_state raws reflowed (blocks-flat (lines_of options text)) laid
+      (safe-none options first_state signs refl) (split-feedless text) in
+      some r r.again refl
+    where
+      some : (r : IsReadBack options none returns first_state false (blocks (lines_of options text))
+          (slice_split (λ c. c == 10) text) reflowed) (again : List (List ℕ)) → r.again ≡ again
+          → AreSameParts (text_parts options text) (text_parts options reflowed)
+      some r [] is =
+          let long : 0 < length (slice_split (λ c. c == 10) text) =
+          omega (arith, length-slice_split (λ c. c == 10) text) in
+          absurd (true≢false (sym (lt-ltb 0 (length (slice_split (λ c. c == 10) text)) long) ∙ sym r.some
+          ∙ ap (λ l. nat_lt 0 (length l)) is))
+      some r (raw ∷ raws) is = parts-again text reflowed raw raws r is
+
+-- ---- by the ending of the text
+
+abbrev returns_by : LineEnding → Bool
+returns_by LF = false
+returns_by CRLF = true
+
+bytes-by : (e : LineEnding) → ending_bytes e ≡ return_if (returns_by e) ++ 10 ∷ []
+bytes-by LF = refl
+bytes-by CRLF = refl
+
+pub text-back : (options : ReflowOptions) → options.ending ≡ None → AreSigns options → (text reflowed : List ℕ)
+    → IsReflowedFrom options text reflowed
+    → AreSameParts (text_parts options text) (text_parts options reflowed)
+text-back options none signs text reflowed laid =
+    let e = filled_ending options.ending text in
+    parts-back options none (returns_by e) signs text reflowed
+    (subst (λ b. IsLaidOut options b false (blocks (lines_of options text)) reflowed) (bytes-by e) laid)

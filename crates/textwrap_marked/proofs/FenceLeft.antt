@@ -2,10 +2,13 @@
 use Rattle.textwrap_base.proofs.Common.{◌≡◌, ℕ, ◌-◌, ◌<◌, ◌⊎◌, ◌||◌, not, Bool, true, false, cond, List}
 use Rattle.textwrap_base.proofs.Common.{[], ◌∷◌, ◌++◌, ◌==◌, All, All-head, All-nil, ap, append-nil}
 use Rattle.textwrap_base.proofs.Common.{append_assoc, arith, drop, false_from_ne_true, inl, inr, length}
+use Rattle.textwrap_base.proofs.Common.{drop_all, drop_more, get_or, reverse, suc, zero}
 use Rattle.textwrap_base.proofs.Common.{list_any, nat_eq, None, Option, refl, Some, starts_with, subst, suffix_len}
 use Rattle.textwrap_base.proofs.Common.{All-append, length-append, sym, take-append-drop, true≢false, ⊤, ◌∙◌}
 use Rattle.textwrap_base.proofs.Lists.Parts.{all-right}
 use Rattle.textwrap_base.proofs.Lists.Prefixes.{starts_with-rest, starts_with-true}
+use Rattle.std.proofs.lemmas.List.{get_or-reverse}
+use Rattle.std.proofs.lemmas.List.Sums.{prefix_len_passes, suffix_len-le-length}
 use Rattle.textwrap_marked.proofs.FenceMarks.{AreSafeMarks, behind-lead, behind-words, IsMarkWord, IsSafe, IsSafeFence}
 use Rattle.textwrap_marked.proofs.HangingKinds.{before-full, full-before, IsFull}
 use Rattle.textwrap_marked.proofs.LaterLines.{IsRead}
@@ -15,7 +18,7 @@ use Rattle.textwrap_marked.proofs.SpacedBack.{spaced-back}
 use Rattle.textwrap_marked.proofs.WordsIn.{IsPlain}
 use Rattle.textwrap_marked.specs.Columns.{behind_white}
 use Rattle.textwrap_marked.specs.Fences.{FenceText, is_left_by}
-use Rattle.textwrap_marked.specs.Lines.{entered, fence_at, is_return, StateText}
+use Rattle.textwrap_marked.specs.Lines.{entered, fence_at, is_return, StateText, without_returns}
 use Rattle.textwrap_marked.specs.Signs.{begins_text, first_word}
 use Rattle.textwrap_marked.specs.Words.{has_byte, is_white, spaced_text, SpacedText, spaced_words}
 use Rattle.textwrap_marked.specs.declared.options.ReflowOptions.{ReflowOptions}
@@ -218,6 +221,53 @@ module _ (marks : List SpacedText) (word lead : List ℕ) (full : All IsFull mar
           ∙ append_assoc (spaced_text begun) (c ∷ d) others
           ∙ ap (λ l. l ++ (c ∷ (d ++ others))) begun-text
           ∙ append_assoc (spaced_text marks) word (c ∷ (d ++ others)))
+
+-- what follows the first word of a line's text
+pub text-tail : (raw lead : List ℕ) (list ws : List SpacedText) → 0 < length ws
+    → without_returns raw ≡ lead ++ spaced_text (list ++ ws) → AreSpaced ws
+    → (tail : List ℕ) × (raw ≡ (lead ++ spaced_text list) ++ (first_word ws ++ tail)) × EndsWord tail
+text-tail raw lead list [] some is are = absurd (omega (arith, some))
+text-tail raw lead list (w ∷ ws) some is are =
+    let n = length raw - suffix_len is_return raw in
+    let back = drop n raw in
+    let grouped : (lead ++ (spaced_text list ++ ((w.word ++ w.white) ++ spaced_text ws))) ++ back
+    ≡ (lead ++ spaced_text list) ++ (w.word ++ ((w.white ++ spaced_text ws) ++ back)) =
+    simp append_assoc in (
+      (w.white ++ spaced_text ws) ++ back,
+      sym (take-append-drop n raw)
+          ∙ ap (λ l. l ++ back) (is ∙ ap (λ l. lead ++ l) (text-parts list (w ∷ ws))) ∙ grouped,
+      ends w.white ws refl are (returned (suffix_len is_return raw) refl),
+    )
+  where
+    returned : (s : ℕ) → suffix_len is_return raw ≡ s
+        → EndsWord (drop (length raw - suffix_len is_return raw) raw)
+    returned zero is =
+        subst EndsWord (sym (drop_all (length raw - suffix_len is_return raw) raw (omega (arith, is)))) tt
+    returned (suc m) is =
+        let le = suffix_len-le-length is_return raw in
+        let n = length raw - suffix_len is_return raw in
+        let place : length raw - 1 - m ≡ n = omega (arith, is) in
+        let passes : is_return (get_or raw n 0) ≡ true =
+        sym (ap is_return (get_or-reverse raw m 0 (omega (arith, is, le)) ∙ ap (λ k. get_or raw k 0) place))
+        ∙ prefix_len_passes is_return (reverse raw) m 0 (omega (arith, is)) in
+        subst EndsWord (sym (drop_more raw n 0 (omega (arith, is, le))))
+        (ap (λ b. is_white (get_or raw n 0) || b) passes ∙ either (is_white (get_or raw n 0)))
+      where
+        either : (b : Bool) → (b || true) ≡ true
+        either true = refl
+        either false = refl
+
+    ends : (white : List ℕ) (vs : List SpacedText) → w.white ≡ white → AreSpaced (w ∷ vs)
+        → EndsWord (drop (length raw - suffix_len is_return raw) raw)
+        → EndsWord ((white ++ spaced_text vs) ++ drop (length raw - suffix_len is_return raw) raw)
+    ends [] [] same are back = back
+    ends [] (v ∷ vs) same are back = absurd (omega (arith, are.1, ap length same))
+    ends (c ∷ cs) vs same are back =
+        ap (λ b. b || is_return c) (All-head IsWhite c cs (subst (All IsWhite) same (white-of vs are)))
+      where
+        white-of : (vs : List SpacedText) → AreSpaced (w ∷ vs) → All IsWhite w.white
+        white-of [] are = are.white
+        white-of (v ∷ vs) are = are.0.white
 
 pub still-left : (options : ReflowOptions) (state : StateText) (raw lead : List ℕ)
     (cs qs bs ws : List SpacedText) (starred : Bool) (tail : List ℕ)

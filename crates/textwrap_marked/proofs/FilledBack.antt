@@ -1,30 +1,32 @@
 -- What is printed of a paragraph before other blocks, read again.
 use Rattle.textwrap_base.proofs.Common.{◌≡◌, ◌≢◌, ℕ, ◌&&◌, ◌||◌, Bool, true, false, List, []}
 use Rattle.textwrap_base.proofs.Common.{◌∷◌, ◌++◌, All, All-append, All-cons, All-head, All-nil, All-tail}
-use Rattle.textwrap_base.proofs.Common.{ap, append-nil, append_assoc, arith, join_with_byte}
+use Rattle.textwrap_base.proofs.Common.{inr, ap, append-nil, append_assoc, arith, join_with_byte}
 use Rattle.textwrap_base.proofs.Common.{length, lt-ltb, map, nat_lt, None, refl, subst, sym, ◌∙◌}
 use Rattle.textwrap_base.proofs.Lists.Parts.{all-right, flat}
 use Rattle.textwrap_words.proofs.Common.{blank, WordText}
 use Rattle.textwrap_lines.specs.Paragraph.{covered}
+use Rattle.textwrap_marked.proofs.BegunAlike.{AreBegun, IsInPlace, return-ends}
 use Rattle.textwrap_marked.proofs.BlockOrder.{AreBlocks}
 use Rattle.textwrap_marked.proofs.BlocksAlike.{part-cons, part_of, stops-same}
 use Rattle.textwrap_marked.proofs.Feedless.{IsFeedless, IsFeedlessLine}
-use Rattle.textwrap_marked.proofs.FenceLeft.{EndsWord, still-left}
+use Rattle.textwrap_marked.proofs.FenceLeft.{EndsWord, still-left, text-tail}
 use Rattle.textwrap_marked.proofs.FenceMarks.{IsSafe, safe-none}
 use Rattle.textwrap_marked.proofs.FilledParts.{divided-is}
 use Rattle.textwrap_marked.proofs.KeptLines.{IsHeadAlike, title-heads}
 use Rattle.textwrap_marked.proofs.LineTests.{letter-no-rule}
 use Rattle.textwrap_marked.proofs.LineWords.{AreCutInto, division-words, joined, MayPart, spread}
 use Rattle.textwrap_marked.proofs.NewBlock.{block_of, first-of-words, first_of, IsParagraph, renew}
-use Rattle.textwrap_marked.proofs.NewLines.{later_raws, line_raw, returns_at, text_end}
+use Rattle.textwrap_marked.proofs.NewLines.{here-words, later_raws, line_raw, returns_at, text_end}
 use Rattle.textwrap_marked.proofs.OpenBehind.{behind_text, text-letter}
-use Rattle.textwrap_marked.proofs.ParagraphLines.{first-begins, first-text, first-unfenced}
+use Rattle.textwrap_marked.proofs.ParagraphLines.{first-begins, first-text, first-unfenced, regroup}
 use Rattle.textwrap_marked.proofs.PrintedText.{break-again, break-same, break-spaced, ends_as, filled-last}
 use Rattle.textwrap_marked.proofs.PrintedText.{printed-joined, raws-feedless, text-joined}
 use Rattle.textwrap_marked.proofs.ReadBack.{ending, IsReadBack, Walks}
-use Rattle.textwrap_marked.proofs.ReturnsOff.{return_if}
+use Rattle.textwrap_marked.proofs.ReturnsOff.{ends-behind, EndsWell, joined-end, return_if, white-end}
 use Rattle.textwrap_marked.proofs.SpacedBack.{IsWhite}
-use Rattle.textwrap_marked.proofs.TextBlocks.{as-title-none, last_line, read, read-more, title_of}
+use Rattle.textwrap_marked.proofs.TextBlocks.{AreTextWords, as-title-none, last_line, read, read-more, title_of}
+use Rattle.textwrap_marked.proofs.SpreadWords.{spread-end}
 use Rattle.textwrap_marked.specs.Blocks.{is_beside, stays}
 use Rattle.textwrap_marked.specs.Laws.{IsSameBy, IsSameParagraph}
 use Rattle.textwrap_marked.specs.Lines.{as_title, entered, fence_at, is_return, line_of, LineText, passed, StateText}
@@ -63,6 +65,17 @@ end-white : (end : List ℕ) → All IsWhite end → (lines : List (List (List �
     → All IsWhite (text_end end lines)
 end-white end white [] = white
 end-white end white (line ∷ lines) = All-nil IsWhite
+
+-- where lines follow, the ending is the one that they have
+followed : (returns : Bool) (end hanging : List ℕ) (left : List (List ℕ)) (ls : List (List (List ℕ)))
+    → nat_lt 0 (length (later_raws returns (returns && nat_lt 0 (length left)) end hanging ls ++ left)) ≡ true
+    → returns_at returns (returns && nat_lt 0 (length left)) ls ≡ returns
+followed returns end hanging left [] some = ap (λ b. returns && b) some ∙ same returns
+  where
+    same : (b : Bool) → (b && true) ≡ b
+    same true = refl
+    same false = refl
+followed returns end hanging left (line ∷ ls) some = refl
 
 cut-some : (options : ReflowOptions) (starred : Bool) (lines : List (List (List ℕ)))
     (later : List (List ℕ)) → AreCutInto options starred later lines → All (λ l. l ≢ []) lines
@@ -113,6 +126,33 @@ module _ (options : ReflowOptions) (none : options.ending ≡ None) (returns : B
       ∙ still-left options state raw p.lead p.cs p.qs p.bs p.ws text.starred tail p.has text.some text.begins
       safe ends old in
       ap (λ f. record state { fence = f }) (left ∙ sym old)
+
+  -- its first line, in the place of that of the text
+  in-place : (word : List ℕ) (words : List (List ℕ)) (end : List ℕ) (r : Bool) (news : List (List ℕ))
+      → All IsWhite end → first_word p.ws ≡ word → AreTextWords block_here (word ∷ words)
+      → (nat_lt 0 (length news) ≡ true → r ≡ returns)
+      → IsInPlace returns raw ((here.prefix ++ spaced_text (spread (word ∷ words) end)) ++ return_if r) news
+  in-place word words end r news white same are ends =
+      let text = spaced_text (spread (word ∷ words) end) in
+      let (tail, is, ends_word) = spread-tail word words end r white in
+      let own = first-text options (entered state raw) raw p.fed p.lead p.cs p.qs p.bs p.ws p.has p.apart in
+      let list = p.cs ++ (p.qs ++ p.bs) in
+      let (old_tail, old, old_ends) = text-tail raw p.lead list p.ws own.some
+      (p.has.text.is ∙ ap (λ l. p.lead ++ spaced_text l) (regroup p.cs p.qs p.bs p.ws)) own.spaced in
+      let well = ends-behind here.prefix text (subst EndsWell (sym (spread-end word words end))
+      (white-end (joined (word ∷ words)) end (joined-end word words are.plain are.columns) white)) in
+      record {
+        common = here.prefix ++ word;
+        old_end = old_tail;
+        new_end = tail;
+        old = old ∙ ap (λ w. here.prefix ++ (w ++ old_tail)) same
+            ∙ sym (append_assoc here.prefix word old_tail);
+        is = append_assoc here.prefix text (return_if r) ∙ ap (λ l. here.prefix ++ l) is
+            ∙ sym (append_assoc here.prefix word tail);
+        old_ends = old_ends;
+        new_ends = ends_word;
+        ends = λ some. return-ends (here.prefix ++ text) r well ∙ ends some;
+      }
 
   filled-lines : (front back : List ℕ) (word : List ℕ) (words later_words : List (List ℕ))
       (ls : List (List (List ℕ))) (line : List WordText) (division : List (List WordText))
@@ -222,6 +262,12 @@ module _ (options : ReflowOptions) (none : options.ending ≡ None) (returns : B
         some = lt-ltb 0 (length (new_raw ∷ raws_new)) (omega arith)
             ∙ sym (lt-ltb 0 (length (raw ∷ left)) (omega arith))
             ∙ ap (λ l. nat_lt 0 (length l)) (sym whole);
+        begun = subst (λ l. AreBegun returns l (new_raw ∷ raws_new)) (sym whole)
+            (inr (in-place word words (text_end end ls) (returns_at returns more ls) raws_new
+            (end-white end white ls) first_is
+            (here-words options block_here here.starred word words later_words ls cut
+            (subst (AreTextWords block_here) parts p.walked.words))
+            (followed returns end here.hanging later.again ls)));
       }
 
   -- by the lines of a division of its pieces

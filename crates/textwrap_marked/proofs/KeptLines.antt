@@ -1,7 +1,7 @@
 -- Lines that stay, read again before others that begin alike.
 use Rattle.textwrap_base.proofs.Common.{◌≡◌, ℕ, ◌&&◌, List, [], ◌∷◌, ◌++◌}
 use Rattle.textwrap_base.proofs.Common.{ap, append-nil, append_assoc, arith, codes, flat_map, join_with_byte}
-use Rattle.textwrap_base.proofs.Common.{length, lt-ltb, nat_lt, None, refl, sym, ⊤, ◌∙◌}
+use Rattle.textwrap_base.proofs.Common.{length, lt-ltb, nat_lt, suc, None, refl, sym, ⊤, ◌∙◌}
 use Rattle.std.specs.Prelude.{bytes_eq}
 use Rattle.textwrap_marked.proofs.FenceMarks.{IsSafe, safe-passed}
 use Rattle.textwrap_marked.proofs.TextBlocks.{line_at, peel, read, read-more, title_of}
@@ -76,6 +76,7 @@ module _ (options : ReflowOptions) where
       pub left : List (List ℕ)
       pub behind : StateText
       pub whole : raws ≡ kept ++ left
+      pub long : length kept ≡ length lines
       pub reads : rest ≡ read options behind left
       pub safe : IsSafe options behind
       pub again : (others : List LineText) (more : List (List ℕ)) → others ≡ read options behind more
@@ -91,6 +92,7 @@ module _ (options : ReflowOptions) where
     left = raws;
     behind = state;
     whole = refl;
+    long = refl;
     reads = is;
     safe = safe;
     again = λ others more read heads same. read;
@@ -110,6 +112,7 @@ module _ (options : ReflowOptions) where
         left = later.left;
         behind = later.behind;
         whole = peeled.whole ∙ ap (λ l. raw ∷ l) later.whole;
+        long = ap suc later.long;
         reads = later.reads;
         safe = later.safe;
         again = λ others more read_others heads same.

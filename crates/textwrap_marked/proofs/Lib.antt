@@ -1,3 +1,4 @@
+pub mod BegunAlike
 pub mod BlankPieces
 pub mod BlockLemmas
 pub mod BlockOrder
@@ -5,6 +6,7 @@ pub mod BlocksAlike
 pub mod BulletLemmas
 pub mod ContainedTexts
 pub mod CoveredLemmas
+pub mod EndsAlike
 pub mod Feedless
 pub mod FenceLeft
 pub mod FenceMarks
@@ -27,6 +29,7 @@ pub mod ListLemmas
 pub mod NewBlock
 pub mod NewLines
 pub mod NewParts
+pub mod NewTexts
 pub mod OneText
 pub mod OpenBehind
 pub mod ParagraphLines

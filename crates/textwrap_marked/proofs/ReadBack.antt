@@ -1,9 +1,10 @@
 -- What is printed of the blocks of a text, read again.
 use Rattle.textwrap_base.proofs.Common.{◌≡◌, ℕ, ◌||◌, Bool, true, false, List, []}
 use Rattle.textwrap_base.proofs.Common.{◌∷◌, ◌++◌, All, All-append, ap}
-use Rattle.textwrap_base.proofs.Common.{flat_map, join_with_byte, length}
+use Rattle.textwrap_base.proofs.Common.{arith, flat_map, inl, join_with_byte, length}
 use Rattle.textwrap_base.proofs.Common.{nat_lt, None, refl, subst, sym, true≢false, ◌∙◌}
 use Rattle.textwrap_base.proofs.Lists.Parts.{all-left, all-right, flat}
+use Rattle.textwrap_marked.proofs.BegunAlike.{AreBegun}
 use Rattle.textwrap_marked.proofs.BlockOrder.{AreBlocks}
 use Rattle.textwrap_marked.proofs.BlocksAlike.{part-cons, part_of, stops-same}
 use Rattle.textwrap_marked.proofs.Feedless.{IsFeedless}
@@ -33,6 +34,7 @@ module _ (options : ReflowOptions) (none : options.ending ≡ None) (returns : B
     pub feedless : All IsFeedless again
     pub heads : AreHeads (flat bs) (flat blocks)
     pub some : nat_lt 0 (length again) ≡ nat_lt 0 (length raws)
+    pub begun : AreBegun returns raws again
 
   abbrev pub Walks : Bool → List (List LineText) → Type 0
   Walks beside bs =
@@ -75,8 +77,16 @@ module _ (options : ReflowOptions) (none : options.ending ≡ None) (returns : B
         heads = head-same first;
         some = some-behind k.kept later.again k.left later.some
             ∙ ap (λ l. nat_lt 0 (length l)) (sym k.whole);
+        begun = subst (λ l. AreBegun returns l (k.kept ++ later.again)) (sym k.whole)
+            (same-first k.kept k.left later.again k.long later.some);
       }
     where
+      same-first : (kept left more : List (List ℕ)) → length kept ≡ length (first ∷ lines)
+          → nat_lt 0 (length more) ≡ nat_lt 0 (length left)
+          → AreBegun returns (kept ++ left) (kept ++ more)
+      same-first [] left more long some = absurd (omega (arith, long))
+      same-first (raw ∷ kept) left more long some = inl (refl, sym (some-behind kept more left some))
+
       kept : (b : Bool) → b ≡ true → IsSameBy b (part_of b first lines) (part_of b first lines)
       kept true is = refl
       kept false is = absurd (true≢false (sym is))

@@ -1,19 +1,19 @@
 -- What becomes of two texts of the same parts is the same.
-use Rattle.textwrap_base.proofs.Common.{◌≡◌, ℕ, ◌-◌, Bool, true, false, cond, List, [], ◌∷◌, ◌++◌, ap, drop}
-use Rattle.textwrap_base.proofs.Common.{length, map, nat_eq, nat_lt, None, refl, slice_split, starts_with, subst}
-use Rattle.textwrap_base.proofs.Common.{sym, ◌==◌, ◌∙◌}
+use Rattle.textwrap_base.proofs.Common.{◌≡◌, ℕ, ◌-◌, Bool, true, false, List, [], ◌∷◌, ◌++◌, ap}
+use Rattle.textwrap_base.proofs.Common.{length, map, nat_lt, None, refl, slice_split, subst}
+use Rattle.textwrap_base.proofs.Common.{sym, ◌==◌}
 use Rattle.textwrap_words.proofs.Common.{IsDividedBy, sizes_of, word_of, WordText}
 use Rattle.textwrap_lines.specs.LineEnding.{ending_bytes}
 use Rattle.textwrap_marked.proofs.TextBack.{text-back}
 use Rattle.textwrap_marked.specs.Blocks.{blocks, is_beside}
 use Rattle.textwrap_marked.specs.Columns.{columns}
-use Rattle.textwrap_marked.specs.Laws.{AreNewParts, AreSameParts, AreSigns, behind_mark, BeginAlike, EndAlike}
+use Rattle.textwrap_marked.specs.Laws.{AreNewParts, AreSameParts, AreSigns}
 use Rattle.textwrap_marked.specs.Laws.{IsSameBy, Part, parts_from, text_parts}
 use Rattle.textwrap_marked.specs.Lines.{entered, first_state, line_of, lines_of, LineText, passed, read_lines}
 use Rattle.textwrap_marked.specs.Lines.{StateText, with_titles}
 use Rattle.textwrap_marked.specs.Pieces.{pieces, words_of}
-use Rattle.textwrap_marked.specs.Reflow.{algorithm_of, byte_order_mark, filled_end, filled_ending}
-use Rattle.textwrap_marked.specs.Reflow.{IsLaidOut, IsOfBlock, IsReflowed, IsReflowedBehind, IsReflowedFrom}
+use Rattle.textwrap_marked.specs.Reflow.{algorithm_of, filled_end, filled_ending}
+use Rattle.textwrap_marked.specs.Reflow.{IsLaidOut, IsOfBlock, IsReflowedFrom}
 use Rattle.textwrap_marked.specs.Reflow.{printed}
 use Rattle.textwrap_marked.specs.declared.options.Algorithm.{Algorithm}
 use Rattle.textwrap_marked.specs.declared.options.ReflowOptions.{ReflowOptions}
@@ -112,14 +112,14 @@ module _ (options : ReflowOptions) (ending : List ℕ) where
 -- ---- texts
 
 module _ (options : ReflowOptions) (text other : List ℕ)
-    (same : AreSameParts (text_parts options text) (text_parts options other))
-    (ends : filled_ending options.ending other ≡ filled_ending options.ending text) where
+    (same : AreSameParts (text_parts options text) (text_parts options other)) where
   abbrev end_of : List ℕ → List ℕ
   end_of t = ending_bytes (filled_ending options.ending t)
 
-  pub from-other : (reflowed : List ℕ) → IsReflowedFrom options other reflowed
+  pub from-other : filled_ending options.ending other ≡ filled_ending options.ending text
+      → (reflowed : List ℕ) → IsReflowedFrom options other reflowed
       → IsReflowedFrom options text reflowed
-  from-other reflowed laid =
+  from-other ends reflowed laid =
       let e = end_of text in
       news-laid options e (blocks (lines_of options text)) false reflowed
       (news-other options e (text_parts options text) (text_parts options other) reflowed same
@@ -127,14 +127,13 @@ module _ (options : ReflowOptions) (text other : List ℕ)
       (subst (λ x. IsLaidOut options (ending_bytes x) false (blocks (lines_of options other)) reflowed)
       ends laid)))
 
-  pub from-text : (reflowed : List ℕ) → IsReflowedFrom options text reflowed
-      → IsReflowedFrom options other reflowed
-  from-text reflowed laid =
+  pub laid-other : (reflowed : List ℕ) → IsReflowedFrom options text reflowed
+      → IsLaidOut options (end_of text) false (blocks (lines_of options other)) reflowed
+  laid-other reflowed laid =
       let e = end_of text in
-      subst (λ x. IsLaidOut options (ending_bytes x) false (blocks (lines_of options other)) reflowed)
-      (sym ends) (news-laid options e (blocks (lines_of options other)) false reflowed
+      news-laid options e (blocks (lines_of options other)) false reflowed
       (news-part options e (text_parts options text) (text_parts options other) reflowed same
-      (laid-news options e (blocks (lines_of options text)) false reflowed laid)))
+      (laid-news options e (blocks (lines_of options text)) false reflowed laid))
 
 -- ---- another width
 
@@ -161,95 +160,4 @@ module _ (options : ReflowOptions) (width : ℕ) (algorithm : Algorithm) where
   width-same none signs text between laid =
       subst (λ p. AreSameParts p (text_parts options between)) (parts-same text)
       (subst (AreSameParts (text_parts others text)) (parts-same between)
-      (text-back others none signs text between laid))
-
--- ---- behind a byte order mark
-
-begins-so : (text : List ℕ) (b : Bool) → starts_with nat_eq text byte_order_mark ≡ b
-    → behind_mark text ≡ cond b (drop 3 text) text
-begins-so text b is = ap (λ b. cond b (drop 3 text) text) is
-
-pub parts-kept : (options : ReflowOptions) (text reflowed : List ℕ) → AreSigns options
-    → options.ending ≡ None → BeginAlike text reflowed → IsReflowed options text reflowed
-    → AreSameParts (text_parts options (behind_mark text)) (text_parts options (behind_mark reflowed))
-parts-kept options text reflowed signs none alike =
-    cut (starts_with nat_eq text byte_order_mark) refl
-  where
-    goal : (a b : List ℕ) → behind_mark text ≡ a → behind_mark reflowed ≡ b
-        → AreSameParts (text_parts options a) (text_parts options b)
-        → AreSameParts (text_parts options (behind_mark text)) (text_parts options (behind_mark reflowed))
-    goal a b p q same =
-        subst (λ t. AreSameParts (text_parts options t) (text_parts options (behind_mark reflowed))) (sym p)
-        (subst (λ t. AreSameParts (text_parts options a) (text_parts options t)) (sym q) same)
-
-    cut : (b : Bool) → starts_with nat_eq text byte_order_mark ≡ b
-        → IsReflowedBehind b options text reflowed
-        → AreSameParts (text_parts options (behind_mark text)) (text_parts options (behind_mark reflowed))
-    cut true is (rest, laid, whole) =
-        goal (drop 3 text) rest (begins-so text true is)
-        (begins-so reflowed true (alike ∙ is) ∙ ap (drop 3) whole)
-        (text-back options none signs (drop 3 text) rest laid)
-    cut false is laid =
-        goal text reflowed (begins-so text false is) (begins-so reflowed false (alike ∙ is))
-        (text-back options none signs text reflowed laid)
-
-pub texts-stay : (options : ReflowOptions) (text reflowed : List ℕ) → AreSigns options
-    → options.ending ≡ None → BeginAlike text reflowed → EndAlike options text reflowed
-    → IsReflowed options text reflowed → IsReflowed options reflowed reflowed
-texts-stay options text reflowed signs none alike ends =
-    cut (starts_with nat_eq text byte_order_mark) refl
-  where
-    cut : (b : Bool) → starts_with nat_eq text byte_order_mark ≡ b
-        → IsReflowedBehind b options text reflowed → IsReflowed options reflowed reflowed
-    cut true is (rest, laid, whole) =
-        let same = text-back options none signs (drop 3 text) rest laid in
-        let behind : behind_mark reflowed ≡ rest =
-        begins-so reflowed true (alike ∙ is) ∙ ap (drop 3) whole in
-        let end : filled_ending options.ending rest ≡ filled_ending options.ending (drop 3 text) =
-        ap (filled_ending options.ending) (sym behind) ∙ ends
-        ∙ ap (filled_ending options.ending) (begins-so text true is) in
-        subst (λ b. IsReflowedBehind b options reflowed reflowed) (sym (alike ∙ is)) (
-          rest,
-          subst (λ t. IsReflowedFrom options t rest) (sym (ap (drop 3) whole))
-              (from-text options (drop 3 text) rest same end rest laid),
-          whole,
-        )
-    cut false is laid =
-        let same = text-back options none signs text reflowed laid in
-        let end : filled_ending options.ending reflowed ≡ filled_ending options.ending text =
-        ap (filled_ending options.ending) (sym (begins-so reflowed false (alike ∙ is))) ∙ ends
-        ∙ ap (filled_ending options.ending) (begins-so text false is) in
-        subst (λ b. IsReflowedBehind b options reflowed reflowed) (sym (alike ∙ is))
-        (from-text options text reflowed same end reflowed laid)
-
-pub widths-same : (options : ReflowOptions) (width : ℕ) (algorithm : Algorithm)
-    (text between reflowed : List ℕ) → AreSigns options → options.ending ≡ None → BeginAlike text between
-    → EndAlike options text between
-    → IsReflowed (record options { width = width; algorithm = algorithm }) text between
-    → IsReflowed options between reflowed → IsReflowed options text reflowed
-widths-same options width algorithm text between reflowed signs none alike ends =
-    cut (starts_with nat_eq text byte_order_mark) refl
-  where
-    cut : (b : Bool) → starts_with nat_eq text byte_order_mark ≡ b
-        → IsReflowedBehind b (record options { width = width; algorithm = algorithm }) text between
-        → IsReflowed options between reflowed → IsReflowedBehind b options text reflowed
-    cut true is (rest, laid, whole) second =
-        let (more, again, shown) = subst (λ b. IsReflowedBehind b options between reflowed) (alike ∙ is) second
-        in
-        let behind : behind_mark between ≡ rest =
-        begins-so between true (alike ∙ is) ∙ ap (drop 3) whole in
-        let end : filled_ending options.ending rest ≡ filled_ending options.ending (drop 3 text) =
-        ap (filled_ending options.ending) (sym behind) ∙ ends
-        ∙ ap (filled_ending options.ending) (begins-so text true is) in (
-          more,
-          from-other options (drop 3 text) rest
-              (width-same options width algorithm none signs (drop 3 text) rest laid) end more
-              (subst (λ t. IsReflowedFrom options t more) (ap (drop 3) whole) again),
-          shown,
-        )
-    cut false is laid second =
-        let end : filled_ending options.ending between ≡ filled_ending options.ending text =
-        ap (filled_ending options.ending) (sym (begins-so between false (alike ∙ is))) ∙ ends
-        ∙ ap (filled_ending options.ending) (begins-so text false is) in
-        from-other options text between (width-same options width algorithm none signs text between laid) end
-        reflowed (subst (λ b. IsReflowedBehind b options between reflowed) (alike ∙ is) second)
+      (text-back others none signs text between laid).same)

@@ -7,6 +7,7 @@ use Rattle.std.proofs.lemmas.List.Splits.{length-slice_split}
 use Rattle.textwrap_lines.specs.LineEnding.{ending_bytes}
 use Rattle.textwrap_lines.specs.declared.line_ending.LineEnding.{LineEnding}
 use Rattle.textwrap_lines.specs.declared.line_ending.LineEnding.TheVariants.{CRLF, LF}
+use Rattle.textwrap_marked.proofs.BegunAlike.{AreBegun}
 use Rattle.textwrap_marked.proofs.BlockOrder.{AreBlocks, blocks-are, blocks-back}
 use Rattle.textwrap_marked.proofs.Feedless.{IsFeedless, IsFeedlessLine, read-feedless, split-feedless, split-joined}
 use Rattle.textwrap_marked.proofs.FenceMarks.{IsSafe, safe-none}
@@ -32,6 +33,19 @@ module _ (options : ReflowOptions) (none : options.ending ≡ None) (returns : B
   read-none state (raw ∷ raws) is =
       absurd (omega (arith, ap length is, ap length (read-more options state raw raws)))
 
+  none-begun : (raws : List (List ℕ)) → AreBegun returns raws []
+  none-begun [] = tt
+  none-begun (raw ∷ raws) = tt
+
+  -- the same parts, and a first line that is the same or stands in its place
+  pub record AreReadBack (text reflowed : List ℕ) : Type 0 where
+    pub same : AreSameParts (text_parts options text) (text_parts options reflowed)
+    pub raw : List ℕ
+    pub raws : List (List ℕ)
+    pub split : slice_split (λ c. c == 10) reflowed ≡ raw ∷ raws
+    pub begun : AreBegun returns (slice_split (λ c. c == 10) text) (raw ∷ raws)
+    pub feedless : All IsFeedless (raw ∷ raws)
+
   pub walk-blocks : (bs : List (List LineText)) (beside : Bool) → AreBlocks bs → (state : StateText)
       (raws : List (List ℕ)) (text : List ℕ) → flat bs ≡ read options state raws
       → IsLaidOut options (ending options none returns) beside bs text → IsSafe options state
@@ -46,6 +60,7 @@ module _ (options : ReflowOptions) (none : options.ending ≡ None) (returns : B
     feedless = All-nil IsFeedless;
     heads = tt;
     some = read-none state raws reads;
+    begun = none-begun raws;
   }
   walk-blocks ([] ∷ bs) beside are state raws text reads laid safe free = absurd are
   walk-blocks ((first ∷ lines) ∷ bs) beside are state raws text reads (front, back, of, later, is) safe
@@ -76,7 +91,7 @@ module _ (options : ReflowOptions) (none : options.ending ≡ None) (returns : B
   parts-again : (text reflowed : List ℕ) (raw : List ℕ) (raws : List (List ℕ))
       → (r : IsReadBack options none returns first_state false (blocks (lines_of options text))
       (slice_split (λ c. c == 10) text) reflowed) → r.again ≡ raw ∷ raws
-      → AreSameParts (text_parts options text) (text_parts options reflowed)
+      → AreReadBack text reflowed
   parts-again text reflowed raw raws r some =
       let split : slice_split (λ c. c == 10) reflowed ≡ r.again =
       ap (slice_split (λ c. c == 10)) (r.text_is ∙ ap (join_with_byte 10) some)
@@ -84,11 +99,18 @@ module _ (options : ReflowOptions) (none : options.ending ≡ None) (returns : B
       let again : blocks (lines_of options reflowed) ≡ r.blocks =
       ap (λ l. blocks (read options first_state l)) split ∙ ap blocks (sym r.reads)
       ∙ blocks-back r.blocks r.are in
-      subst (λ bs. AreSameParts (text_parts options text) (parts_from false bs)) (sym again) r.same
+      record {
+        same = subst (λ bs. AreSameParts (text_parts options text) (parts_from false bs)) (sym again) r.same;
+        raw = raw;
+        raws = raws;
+        split = split ∙ some;
+        begun = subst (AreBegun returns (slice_split (λ c. c == 10) text)) some r.begun;
+        feedless = subst (All IsFeedless) some r.feedless;
+      }
 
   pub parts-back : AreSigns options → (text reflowed : List ℕ)
       → IsLaidOut options (ending options none returns) false (blocks (lines_of options text)) reflowed
-      → AreSameParts (text_parts options text) (text_parts options reflowed)
+      → AreReadBack text reflowed
   parts-back signs text reflowed laid =
       let raws = slice_split (λ c. c == 10) text in
       let r = walk-blocks (blocks (lines_of options text)) false (blocks-are (lines_of options text))
@@ -98,7 +120,7 @@ module _ (options : ReflowOptions) (none : options.ending ≡ None) (returns : B
     where
       some : (r : IsReadBack options none returns first_state false (blocks (lines_of options text))
           (slice_split (λ c. c == 10) text) reflowed) (again : List (List ℕ)) → r.again ≡ again
-          → AreSameParts (text_parts options text) (text_parts options reflowed)
+          → AreReadBack text reflowed
       some r [] is =
           let long : 0 < length (slice_split (λ c. c == 10) text) =
           omega (arith, length-slice_split (λ c. c == 10) text) in
@@ -108,7 +130,7 @@ module _ (options : ReflowOptions) (none : options.ending ≡ None) (returns : B
 
 -- ---- by the ending of the text
 
-abbrev returns_by : LineEnding → Bool
+abbrev pub returns_by : LineEnding → Bool
 returns_by LF = false
 returns_by CRLF = true
 
@@ -116,9 +138,9 @@ bytes-by : (e : LineEnding) → ending_bytes e ≡ return_if (returns_by e) ++ 1
 bytes-by LF = refl
 bytes-by CRLF = refl
 
-pub text-back : (options : ReflowOptions) → options.ending ≡ None → AreSigns options → (text reflowed : List ℕ)
+pub text-back : (options : ReflowOptions) (none : options.ending ≡ None) → AreSigns options → (text reflowed : List ℕ)
     → IsReflowedFrom options text reflowed
-    → AreSameParts (text_parts options text) (text_parts options reflowed)
+    → AreReadBack options none (returns_by (filled_ending options.ending text)) text reflowed
 text-back options none signs text reflowed laid =
     let e = filled_ending options.ending text in
     parts-back options none (returns_by e) signs text reflowed

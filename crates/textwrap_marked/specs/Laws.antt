@@ -1,5 +1,5 @@
 -- The statements of the laws, each under a name that a caller can cite.
-use Rattle.std.specs.Prelude.{◌≡◌, ℕ, ◌+◌, ◌-◌, ◌≤◌, ◌⊎◌, ◌||◌, Bool, true, false, List, [], ◌∷◌}
+use Rattle.std.specs.Prelude.{◌≡◌, ℕ, ◌+◌, ◌-◌, ◌≤◌, ◌⊎◌, ◌==◌, ◌||◌, Bool, true, false, List, [], ◌∷◌}
 use Rattle.std.specs.Prelude.{◌++◌, All, drop, if◌then◌else◌, length, map, nat_eq, None, ⊤}
 use Rattle.std.specs.List.{flat_map, slice_split, starts_with}
 use Rattle.textwrap_base.specs.Cost.{division_cost, priced_at}
@@ -216,37 +216,35 @@ AreSigns options =
 abbrev pub behind_mark : List ℕ → List ℕ
 behind_mark text = if starts_with nat_eq text byte_order_mark then drop 3 text else text
 
--- both begin with a byte order mark, or neither does
-abbrev pub BeginAlike : List ℕ → List ℕ → Type 0
-BeginAlike text other =
-    starts_with nat_eq other byte_order_mark ≡ starts_with nat_eq text byte_order_mark
-
 -- filled lines of both end the same
 abbrev pub EndAlike : ReflowOptions → List ℕ → List ℕ → Type 0
 EndAlike options text other =
     filled_ending options.ending (behind_mark other) ≡ filled_ending options.ending (behind_mark text)
 
+-- if the other text is a single line, which may not say how lines end, it is as if it did
+abbrev pub KeepsEnding : ReflowOptions → List ℕ → List ℕ → Type 0
+KeepsEnding options text other =
+    length (slice_split (λ c. c == 10) (behind_mark other)) ≡ 1 → EndAlike options text other
+
 -- the new text, read again, has the parts of the text, if no ending is asked for
 abbrev pub PartsAreKept : Type 0
 PartsAreKept =
-    (options : ReflowOptions) (text reflowed : List ℕ)
-    → AreSigns options → options.ending ≡ None → BeginAlike text reflowed
-    → IsReflowed options text reflowed
+    (options : ReflowOptions) → options.ending ≡ None → AreSigns options
+    → (text reflowed : List ℕ) → IsReflowed options text reflowed
     → AreSameParts (text_parts options (behind_mark text)) (text_parts options (behind_mark reflowed))
 
 -- the new text, reflowed by the same options, stays as it is
 abbrev pub ReflowedTextsStay : Type 0
 ReflowedTextsStay =
-    (options : ReflowOptions) (text reflowed : List ℕ)
-    → AreSigns options → options.ending ≡ None → BeginAlike text reflowed
-    → EndAlike options text reflowed → IsReflowed options text reflowed
+    (options : ReflowOptions) → options.ending ≡ None → AreSigns options
+    → (text reflowed : List ℕ) → IsReflowed options text reflowed
     → IsReflowed options reflowed reflowed
 
 -- what a text becomes that was reflowed at another width, by any algorithm, it becomes at once
 abbrev pub EarlierWidthsMakeNoDifference : Type 0
 EarlierWidthsMakeNoDifference =
-    (options : ReflowOptions) (width : ℕ) (algorithm : Algorithm) (text between reflowed : List ℕ)
-    → AreSigns options → options.ending ≡ None → BeginAlike text between
-    → EndAlike options text between
+    (options : ReflowOptions) → options.ending ≡ None → AreSigns options
+    → (width : ℕ) (algorithm : Algorithm) (text between reflowed : List ℕ)
+    → KeepsEnding options text between
     → IsReflowed (record options { width = width; algorithm = algorithm }) text between
     → IsReflowed options between reflowed → IsReflowed options text reflowed

@@ -9,9 +9,11 @@ use Rattle.textwrap_base.proofs.Lists.Parts.{all-right}
 use Rattle.textwrap_base.proofs.Lists.Prefixes.{starts_with-rest, starts_with-true}
 use Rattle.std.proofs.lemmas.List.{get_or-reverse}
 use Rattle.std.proofs.lemmas.List.Sums.{prefix_len_passes, suffix_len-le-length}
-use Rattle.textwrap_marked.proofs.FenceMarks.{AreSafeMarks, behind-lead, behind-words, IsMarkWord, IsSafe, IsSafeFence}
+use Rattle.textwrap_marked.proofs.FenceMarks.{AreMarkWords, AreSafeMarks, behind-lead, behind-words, IsFirstMark}
+use Rattle.textwrap_marked.proofs.FenceMarks.{IsMarkWord, IsSafe, IsSafeFence, mark-first}
 use Rattle.textwrap_marked.proofs.HangingKinds.{before-full, full-before, IsFull}
 use Rattle.textwrap_marked.proofs.LaterLines.{IsRead}
+use Rattle.textwrap_marked.proofs.LineKinds.{one_if}
 use Rattle.textwrap_marked.proofs.ParagraphLines.{regroup, text-parts}
 use Rattle.textwrap_marked.proofs.SpacedBack.{AreSpaced, IsInk, IsLineText, IsSpaced, IsWhite, line-text}
 use Rattle.textwrap_marked.proofs.SpacedBack.{spaced-back}
@@ -19,6 +21,8 @@ use Rattle.textwrap_marked.proofs.WordsIn.{IsPlain}
 use Rattle.textwrap_marked.specs.Columns.{behind_white}
 use Rattle.textwrap_marked.specs.Fences.{FenceText, is_left_by}
 use Rattle.textwrap_marked.specs.Lines.{entered, fence_at, is_return, StateText, without_returns}
+use Rattle.textwrap_marked.specs.Marks.{is_comment_at}
+use Rattle.textwrap_marked.specs.Prefixes.{comment_len}
 use Rattle.textwrap_marked.specs.Signs.{begins_text, first_word}
 use Rattle.textwrap_marked.specs.Words.{has_byte, is_white, spaced_text, SpacedText, spaced_words}
 use Rattle.textwrap_marked.specs.declared.options.ReflowOptions.{ReflowOptions}
@@ -92,18 +96,37 @@ first-plain : (v : SpacedText) (vs : List SpacedText) → AreSpaced (v ∷ vs) �
 first-plain v [] are = are.word
 first-plain v (u ∷ vs) are = are.0.word
 
-module _ (marks ks : List SpacedText) (word : List ℕ) (full : All IsFull marks) (spaced : AreSpaced ks)
-    (all : All (λ k. IsMarkWord k.word) ks) (plain : IsPlain word) where
+module _ (options : ReflowOptions) (in_block : Bool) (marks ks : List SpacedText) (word : List ℕ)
+    (full : All IsFull marks) (spaced : AreSpaced ks) (all : AreMarkWords options in_block ks)
+    (plain : IsPlain word)
+    (other : length marks ≡ 0 → in_block ≡ false → is_comment_at options false word ≡ true → ⊥) where
+  -- one of them alone, or behind these
+  found : (ms : List SpacedText) (w : SpacedText) (vs : List SpacedText)
+      → AreMarkWords options in_block (ms ++ (w ∷ vs))
+      → IsFirstMark options in_block w.word × (0 < length ms → IsMarkWord w.word)
+  found [] w vs all = (all.0, λ some. absurd (omega (arith, some)))
+  found (m ∷ ms) w vs (first, all) =
+      let mark = All-head (λ k. IsMarkWord k.word) w vs
+      (all-right (λ k. IsMarkWord k.word) ms (w ∷ vs) all) in
+      (mark-first options in_block w.word mark, λ some. mark)
+
   -- the words that the marks would have
   marked : (w : SpacedText) (vs : List SpacedText) → AreSpaced (w ∷ vs)
-      → spaced_text ks ≡ spaced_text marks ++ ((w.word ++ w.white) ++ spaced_text vs) → IsMarkWord w.word
+      → spaced_text ks ≡ spaced_text marks ++ ((w.word ++ w.white) ++ spaced_text vs)
+      → IsFirstMark options in_block w.word × (0 < length marks → IsMarkWord w.word)
   marked w vs are is =
       let list = marks ++ (w ∷ vs) in
       let same : ks ≡ list =
       sym (spaced-back ks spaced) ∙ ap spaced_words (is ∙ sym (text-parts marks (w ∷ vs)))
       ∙ spaced-back list (full-before marks (w ∷ vs) full are) in
-      All-head (λ k. IsMarkWord k.word) w vs
-      (all-right (λ k. IsMarkWord k.word) marks (w ∷ vs) (subst (All (λ k. IsMarkWord k.word)) same all))
+      found marks w vs (subst (AreMarkWords options in_block) same all)
+
+  never : (starred : Bool) → begins_text starred word ≡ true → (list : List SpacedText) → marks ≡ list
+      → IsFirstMark options in_block word → (0 < length marks → IsMarkWord word) → ⊥
+  never starred begins [] is first later =
+      let (out, comment) = first.begins starred begins in other (ap length is) out comment
+  never starred begins (m ∷ ms) is first later =
+      true≢false (sym begins ∙ (later (omega (arith, ap length is))).begins starred)
 
   no-text : (starred : Bool) (c : ℕ) (cs : List ℕ) → begins_text starred word ≡ true
       → (is_white c || is_return c) ≡ true
@@ -115,17 +138,17 @@ module _ (marks ks : List SpacedText) (word : List ℕ) (full : All IsFull marks
           → All IsWhite lead → 0 < length lead → AreSpaced vs → ⊥
       white-text lead vs text white some are =
           let w : SpacedText = record { word = word; white = lead } in
-          let mark = marked w vs (word-spaced w vs (record { word = plain; white = white }) some are)
+          let (first, later) = marked w vs (word-spaced w vs (record { word = plain; white = white }) some are)
           (is ∙ ap (λ l. spaced_text marks ++ (word ++ l)) text
           ∙ ap (λ l. spaced_text marks ++ l) (sym (append_assoc word lead (spaced_text vs)))) in
-          true≢false (sym begins ∙ mark.begins starred)
+          never starred begins marks refl first later
 
       returned : is_white c ≡ false → (v : SpacedText) (vs : List SpacedText) (x : ℕ) (xs : List ℕ)
           → v.word ≡ x ∷ xs → c ∷ cs ≡ (v.word ++ v.white) ++ spaced_text vs → AreSpaced (v ∷ vs) → ⊥
       returned ink v vs x xs first text are =
           let back : is_return c ≡ true = sym (ap (λ b. b || is_return c) ink) ∙ ends in
           let same : c ≡ x = ap first_byte (text ∙ ap (λ w. (w ++ v.white) ++ spaced_text vs) first) in
-          let mark = marked (record { word = word ++ v.word; white = v.white }) vs
+          let (mark, later) = marked (record { word = word ++ v.word; white = v.white }) vs
           (longer-spaced word v vs plain are)
           (is ∙ ap (λ l. spaced_text marks ++ (word ++ l)) text
           ∙ ap (λ l. spaced_text marks ++ l) (simp append_assoc)) in
@@ -174,8 +197,9 @@ not-true : (b : Bool) → not b ≡ true → b ≡ false
 not-true false is = refl
 not-true true is = sym is
 
-module _ (marks : List SpacedText) (word lead : List ℕ) (full : All IsFull marks) (plain : IsPlain word)
-    (white : All IsWhite lead) where
+module _ (options : ReflowOptions) (in_block : Bool) (marks : List SpacedText) (word lead : List ℕ)
+    (full : All IsFull marks) (plain : IsPlain word) (white : All IsWhite lead)
+    (other : length marks ≡ 0 → in_block ≡ false → is_comment_at options false word ≡ true → ⊥) where
   abbrev begun : List SpacedText
   begun = marks ++ (record { word = word; white = [] } ∷ [])
 
@@ -192,7 +216,7 @@ module _ (marks : List SpacedText) (word lead : List ℕ) (full : All IsFull mar
       (record { word = plain; white = All-nil IsWhite }))
       (omega (arith, length-append marks (record { word = word; white = [] } ∷ []))))
 
-  same-left : (starred : Bool) (fence : FenceText) (rest tail : List ℕ) → AreSafeMarks fence.marks
+  same-left : (starred : Bool) (fence : FenceText) (rest tail : List ℕ) → AreSafeMarks options in_block fence.marks
       → begins_text starred word ≡ true → EndsWord tail
       → is_left_by fence (lead ++ (spaced_text begun ++ rest)) ≡ true
       → is_left_by fence (lead ++ (spaced_text begun ++ tail)) ≡ true
@@ -215,7 +239,7 @@ module _ (marks : List SpacedText) (word lead : List ℕ) (full : All IsFull mar
           true≢false (sym (starts_with-true fence.marks (spaced_text begun ++ rest) (d ++ rest)
           (ap (λ l. l ++ rest) same ∙ append_assoc fence.marks d rest)) ∙ outside)
       parted (inr (c, d, same, more)) =
-          no-text marks ks word full spaced all plain starred c (d ++ others) begins
+          no-text options in_block marks ks word full spaced all plain other starred c (d ++ others) begins
           (subst EndsWord more ends)
           (sym is ∙ ap (λ l. l ++ others) same
           ∙ append_assoc (spaced_text begun) (c ∷ d) others
@@ -284,15 +308,30 @@ still-left options state raw lead cs qs bs (w ∷ ws) starred tail read some beg
     parts = before-full (cs ++ (qs ++ bs)) (w ∷ ws) some
         (subst AreSpaced (regroup cs qs bs (w ∷ ws)) read.text.spaced)
 
-    by_fence : (f : Option FenceText) → IsSafeFence f → fence_at f raw ≡ None
+    -- such a word would be a comment mark of the line
+    other : (cs qs bs : List SpacedText)
+        → comment_len options state.in_block (cs ++ (qs ++ (bs ++ (w ∷ ws)))) ≡ length cs
+        → length (cs ++ (qs ++ bs)) ≡ 0 → state.in_block ≡ false
+        → is_comment_at options false w.word ≡ true → ⊥
+    other (c ∷ cs) qs bs count none out comment = omega (arith, none)
+    other [] (q ∷ qs) bs count none out comment = omega (arith, none)
+    other [] [] (b ∷ bs) count none out comment = omega (arith, none)
+    other [] [] [] count none out comment =
+        let one : 1 ≡ 0 =
+        sym (ap one_if (ap (λ b. is_comment_at options b w.word) out ∙ comment)) ∙ count in
+        omega (arith, one)
+
+    by_fence : (f : Option FenceText) → IsSafeFence options state.in_block f → fence_at f raw ≡ None
         → fence_at f ((lead ++ spaced_text (cs ++ (qs ++ bs))) ++ (w.word ++ tail)) ≡ None
     by_fence None safe left = refl
     by_fence (Some fence) safe left =
         let plain = first-plain w ws parts.1 in
         let list = cs ++ (qs ++ bs) in
-        let whole = spaced_text (begun list w.word lead parts.0 plain read.text.white) in
+        let apart = other cs qs bs read.have.comment in
+        let whole =
+        spaced_text (begun options state.in_block list w.word lead parts.0 plain read.text.white apart) in
         let text : whole ≡ spaced_text list ++ w.word =
-        begun-text list w.word lead parts.0 plain read.text.white in
+        begun-text options state.in_block list w.word lead parts.0 plain read.text.white apart in
         let back = drop (length raw - suffix_len is_return raw) raw in
         let rest = (w.white ++ spaced_text ws) ++ back in
         let grouped : (lead ++ (spaced_text list ++ ((w.word ++ w.white) ++ spaced_text ws))) ++ back
@@ -307,5 +346,5 @@ still-left options state raw lead cs qs bs (w ∷ ws) starred tail read some beg
         ∙ ap (λ l. lead ++ l) (sym (append_assoc (spaced_text list) w.word tail))
         ∙ ap (λ t. lead ++ (t ++ tail)) (sym text) in
         ap (λ b. cond b None (Some fence)) (ap (is_left_by fence) new
-        ∙ same-left list w.word lead parts.0 plain read.text.white starred fence rest tail safe begins ends
+        ∙ same-left options state.in_block list w.word lead parts.0 plain read.text.white apart starred fence rest tail safe begins ends
         (sym (ap (is_left_by fence) old) ∙ left-by fence raw left))

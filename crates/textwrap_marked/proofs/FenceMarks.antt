@@ -1,27 +1,27 @@
 -- The marks before an open fence are no words of a text.
 use Rattle.textwrap_base.proofs.Common.{◌≡◌, ℕ, ◌+◌, ◌-◌, ◌<◌, ◌&&◌, ◌||◌, not, Bool, true, false, cond}
-use Rattle.textwrap_base.proofs.Common.{List, [], ◌∷◌, ◌++◌, ◌==◌, All, All-append, All-head, All-tail, ap, arith}
+use Rattle.textwrap_base.proofs.Common.{List, [], ◌∷◌, ◌++◌, ◌==◌, All, All-head, All-tail, ap, arith}
 use Rattle.textwrap_base.proofs.Common.{All-weaker, Bor, cases_Bool, codes, drop, eqb-true, false_from_ne_true, length}
 use Rattle.textwrap_base.proofs.Common.{None, Option, option_map, prefix_len, refl, Some, subst, suc, suffix_len, sym, take-append-drop}
 use Rattle.textwrap_base.proofs.Common.{append-nil, true≢false, ⊤, ◌∙◌}
 use Rattle.std.proofs.lemmas.Slice.Eq.{bytes_eq-Decides}
-use Rattle.std.specs.Prelude.{bytes_eq}
+use Rattle.std.specs.Prelude.{bytes_eq, is_some}
 use Rattle.textwrap_marked.proofs.HangingForms.{IsHanging, hanging-is}
 use Rattle.textwrap_marked.proofs.HangingKinds.{AreMarks, before-full}
 use Rattle.textwrap_marked.proofs.LaterLines.{line-read}
 use Rattle.textwrap_marked.proofs.Letterless.{star-plain}
-use Rattle.textwrap_marked.proofs.LineKinds.{line-is}
+use Rattle.textwrap_marked.proofs.LineKinds.{has_opening_in, kinds, line-is, line_by}
 use Rattle.textwrap_marked.proofs.OpenBehind.{text-letter}
 use Rattle.textwrap_marked.proofs.ParagraphLines.{all-spaced, regroup}
 use Rattle.textwrap_marked.proofs.SpacedBack.{AreSpaced, IsInk, IsWhite}
-use Rattle.textwrap_marked.proofs.SpreadWords.{middle, no-comment, text-no-quote}
+use Rattle.textwrap_marked.proofs.SpreadWords.{middle, text-no-quote}
 use Rattle.textwrap_marked.specs.Columns.{behind_white, marks_of}
 use Rattle.textwrap_marked.proofs.WordsIn.{IsPlain}
 use Rattle.textwrap_marked.specs.Fences.{FenceText, is_closed_by, is_left_by, opened}
-use Rattle.textwrap_marked.specs.Laws.{AreSigns}
-use Rattle.textwrap_marked.specs.Lines.{entered, fence_at, line_of, LineText, new_fence, passed, StateText}
+use Rattle.textwrap_marked.specs.Laws.{LackReturns}
+use Rattle.textwrap_marked.specs.Lines.{entered, fence_at, is_in_block, line_of, LineText, new_fence, passed, StateText}
 use Rattle.textwrap_marked.specs.Marks.{is_among, is_comment_at, is_line_comment, is_opening, is_quote}
-use Rattle.textwrap_marked.specs.Signs.{begins_text}
+use Rattle.textwrap_marked.specs.Signs.{begins_text, closes_block}
 use Rattle.textwrap_marked.specs.Words.{has_byte, has_bytes, has_letter, is_made_of, is_white, spaced_text, SpacedText}
 use Rattle.textwrap_marked.specs.declared.fences.FenceKind.{FenceKind}
 use Rattle.textwrap_marked.specs.declared.options.ReflowOptions.{ReflowOptions}
@@ -32,21 +32,32 @@ pub record IsMarkWord (word : List ℕ) : Type 0 where
   pub returns : has_byte 13 word ≡ false
 
 -- what such words begin with
-abbrev pub AreSafeMarks : List ℕ → Type 0
-AreSafeMarks text =
-    (ks : List SpacedText) × (rest : List ℕ) × (text ++ rest ≡ spaced_text ks) × AreSpaced ks
-    × All (λ k. IsMarkWord k.word) ks
+-- the first of them may begin a text where it is no comment mark: in a block comment
+pub record IsFirstMark (options : ReflowOptions) (in_block : Bool) (word : List ℕ) : Type 0 where
+  pub begins : (starred : Bool) → begins_text starred word ≡ true
+      → (in_block ≡ false) × (is_comment_at options false word ≡ true)
+  pub returns : has_byte 13 word ≡ false
 
-abbrev pub IsSafeFence : Option FenceText → Type 0
-IsSafeFence None = ⊤
-IsSafeFence (Some fence) = AreSafeMarks fence.marks
+abbrev pub AreMarkWords : ReflowOptions → Bool → List SpacedText → Type 0
+AreMarkWords options in_block [] = ⊤
+AreMarkWords options in_block (k ∷ ks) =
+    IsFirstMark options in_block k.word × All (λ k. IsMarkWord k.word) ks
+
+abbrev pub AreSafeMarks : ReflowOptions → Bool → List ℕ → Type 0
+AreSafeMarks options in_block text =
+    (ks : List SpacedText) × (rest : List ℕ) × (text ++ rest ≡ spaced_text ks) × AreSpaced ks
+    × AreMarkWords options in_block ks
+
+abbrev pub IsSafeFence : ReflowOptions → Bool → Option FenceText → Type 0
+IsSafeFence options in_block None = ⊤
+IsSafeFence options in_block (Some fence) = AreSafeMarks options in_block fence.marks
 
 abbrev pub IsSafe : ReflowOptions → StateText → Type 0
-IsSafe options state = AreSigns options × IsSafeFence state.fence
+IsSafe options state = LackReturns options × IsSafeFence options state.in_block state.fence
 
-pub safe-none : (options : ReflowOptions) (state : StateText) → AreSigns options → state.fence ≡ None
+pub safe-none : (options : ReflowOptions) (state : StateText) → LackReturns options → state.fence ≡ None
     → IsSafe options state
-safe-none options state signs none = (signs, subst IsSafeFence (sym none) tt)
+safe-none options state signs none = (signs, subst (IsSafeFence options state.in_block) (sym none) tt)
 
 -- ---- marks
 
@@ -57,22 +68,18 @@ letterless-begins word none starred =
     (λ begins. true≢false (sym (text-letter starred word begins) ∙ none))
 
 among-signs : (marks : List (Bor (List ℕ))) (word : List ℕ)
-    → All (λ mark. (has_letter mark.now ≡ false) × (has_byte 13 mark.now ≡ false)) marks
-    → is_among word marks ≡ true → (has_letter word ≡ false) × (has_byte 13 word ≡ false)
+    → All (λ mark. has_byte 13 mark.now ≡ false) marks → is_among word marks ≡ true
+    → has_byte 13 word ≡ false
 among-signs [] word signs is = absurd (true≢false (sym is))
 among-signs (mark ∷ marks) word signs is =
     cut (bytes_eq word mark.now) refl is
-    (among-signs marks word (All-tail (λ mark. (has_letter mark.now ≡ false)
-    × (has_byte 13 mark.now ≡ false)) mark marks signs))
-    (All-head (λ mark. (has_letter mark.now ≡ false) × (has_byte 13 mark.now ≡ false)) mark marks signs)
+    (among-signs marks word (All-tail (λ mark. has_byte 13 mark.now ≡ false) mark marks signs))
+    (All-head (λ mark. has_byte 13 mark.now ≡ false) mark marks signs)
   where
     cut : (b : Bool) → bytes_eq word mark.now ≡ b → (b || is_among word marks) ≡ true
-        → (is_among word marks ≡ true → (has_letter word ≡ false) × (has_byte 13 word ≡ false))
-        → (has_letter mark.now ≡ false) × (has_byte 13 mark.now ≡ false)
-        → (has_letter word ≡ false) × (has_byte 13 word ≡ false)
-    cut true same is later here =
-        let eq = (bytes_eq-Decides word mark.now).0 same in
-        (ap has_letter eq ∙ here.0, ap (has_byte 13) eq ∙ here.1)
+        → (is_among word marks ≡ true → has_byte 13 word ≡ false) → has_byte 13 mark.now ≡ false
+        → has_byte 13 word ≡ false
+    cut true same is later here = ap (has_byte 13) ((bytes_eq-Decides word mark.now).0 same) ∙ here
     cut false same is later here = later is
 
 byte-other : (word other : List ℕ) → has_byte 13 word ≡ true → has_byte 13 other ≡ false
@@ -120,42 +127,74 @@ quote-mark word quote = record {
       (middle (has_bytes word) (is_made_of 62 word) (length word == 3) quote);
 }
 
-comment-mark : (options : ReflowOptions) (in_block : Bool) (word : List ℕ) → AreSigns options
-    → is_comment_at options in_block word ≡ true → is_opening word ≡ false → IsMarkWord word
+-- such a word is one wherever it stands
+pub mark-first : (options : ReflowOptions) (in_block : Bool) (word : List ℕ) → IsMarkWord word
+    → IsFirstMark options in_block word
+mark-first options in_block word mark = record {
+  begins = λ starred begins. absurd (true≢false (sym begins ∙ mark.begins starred));
+  returns = mark.returns;
+}
+
+comment-mark : (options : ReflowOptions) (in_block : Bool) (word : List ℕ) → LackReturns options
+    → is_comment_at options in_block word ≡ true → is_opening word ≡ false
+    → IsFirstMark options in_block word
 comment-mark options true word signs comment opening =
-    let same = (bytes_eq-Decides word (codes "*")).0 comment in record {
+    let same = (bytes_eq-Decides word (codes "*")).0 comment in
+    mark-first options true word (record {
       begins = letterless-begins word (ap has_letter same ∙ star-plain);
       returns = ap (has_byte 13) same;
-    }
-comment-mark options false word signs comment opening = cut (is_among word options.markers.now) refl
+    })
+comment-mark options false word signs comment opening = record {
+  begins = λ starred begins. (refl, comment);
+  returns = cut (is_among word options.markers.now) refl;
+}
   where
     line : (a m c o : Bool) → a ≡ false → o ≡ false → (a || (not m && (c || o))) ≡ true → c ≡ true
     line a m c o p q is = grind (arith, cases_Bool)
 
-    cut : (b : Bool) → is_among word options.markers.now ≡ b → IsMarkWord word
-    cut true among =
-        let (letters, returns) = among-signs options.markers.now word signs among in
-        record { begins = letterless-begins word letters; returns = returns }
-    cut false among = record {
-      begins = λ starred. false_from_ne_true (begins_text starred word) (λ begins.
-          true≢false (sym comment ∙ no-comment options false starred word begins among));
-      returns = comment-returns word (line (is_among word options.markers.now) options.markdown
-          (is_line_comment word) (is_opening word) among opening comment);
-    }
+    cut : (b : Bool) → is_among word options.markers.now ≡ b → has_byte 13 word ≡ false
+    cut true among = among-signs options.markers.now word signs among
+    cut false among =
+        comment-returns word (line (is_among word options.markers.now) options.markdown
+        (is_line_comment word) (is_opening word) among opening comment)
 
-all-both : (P Q R : List ℕ → Type 0) → ((w : List ℕ) → P w → Q w → R w) → (ws : List SpacedText)
-    → All (λ w. P w.word) ws → All (λ w. Q w.word) ws → All (λ w. R w.word) ws
-all-both P Q R each ws p q = λ k d within. each _ (p k d within) (q k d within)
+quotes-safe : (rs : List SpacedText) → All (λ w. is_quote w.word ≡ true) rs
+    → All (λ k. IsMarkWord k.word) rs
+quotes-safe rs quote =
+    All-weaker (λ w. is_quote w.word ≡ true) (λ w. IsMarkWord w.word) (λ w is. quote-mark w.word is) rs
+    quote
 
-marks-safe : (options : ReflowOptions) (in_block : Bool) (ds rs : List SpacedText) → AreSigns options
-    → AreMarks options in_block ds rs → All (λ k. IsMarkWord k.word) (ds ++ rs)
-marks-safe options in_block ds rs signs are =
-    All-append (λ k. IsMarkWord k.word) ds rs
-    (all-both (λ w. is_comment_at options in_block w ≡ true) (λ w. is_opening w ≡ false) IsMarkWord
-    (λ w comment opening. comment-mark options in_block w signs comment opening) ds are.comment
-    are.no_opening)
-    (All-weaker (λ w. is_quote w.word ≡ true) (λ w. IsMarkWord w.word) (λ w quote. quote-mark w.word quote)
-    rs are.quote)
+marks-safe : (options : ReflowOptions) (in_block : Bool) (ds rs : List SpacedText)
+    → LackReturns options → AreMarks options in_block ds rs → AreMarkWords options in_block (ds ++ rs)
+marks-safe options in_block [] [] signs are = tt
+marks-safe options in_block [] (r ∷ rs) signs are = (
+  mark-first options in_block r.word
+      (quote-mark r.word (All-head (λ w. is_quote w.word ≡ true) r rs are.quote)),
+  quotes-safe rs (All-tail (λ w. is_quote w.word ≡ true) r rs are.quote),
+)
+marks-safe options in_block (d ∷ []) rs signs are = (
+  comment-mark options in_block d.word signs
+      (All-head (λ w. is_comment_at options in_block w.word ≡ true) d [] are.comment)
+      (All-head (λ w. is_opening w.word ≡ false) d [] are.no_opening),
+  quotes-safe rs are.quote,
+)
+marks-safe options in_block (d ∷ e ∷ ds) rs signs are = absurd (omega (arith, are.one))
+
+-- marks are safe where a block comment is closed, if they were
+carry : (options : ReflowOptions) (a b : Bool) (text : List ℕ) → (a ≡ false → b ≡ false)
+    → AreSafeMarks options a text → AreSafeMarks options b text
+carry options a b text down (ks, rest, is, spaced, marks) = (ks, rest, is, spaced, words ks marks)
+  where
+    words : (ks : List SpacedText) → AreMarkWords options a ks → AreMarkWords options b ks
+    words [] marks = tt
+    words (k ∷ ks) (first, all) = (
+      record {
+        begins = λ starred begins. let (out, comment) = first.begins starred begins in
+            (down out, comment);
+        returns = first.returns;
+      },
+      all,
+    )
 
 -- ---- white before a text
 
@@ -191,7 +230,7 @@ behind-words (k ∷ ks) more are some = first k.word refl (plain ks are)
         (All-head IsInk c cs (subst (All IsInk) same is.ink)))
 
 hanging-safe : (options : ReflowOptions) (in_block : Bool) (text lead : List ℕ) (ds rs : List SpacedText)
-    → AreSigns options → IsHanging options in_block text lead ds rs → AreSafeMarks (marks_of text)
+    → LackReturns options → IsHanging options in_block text lead ds rs → AreSafeMarks options in_block (marks_of text)
 hanging-safe options in_block text lead ds rs signs hang =
     let ks = ds ++ rs in
     let behind = behind_white text in
@@ -221,19 +260,29 @@ opened-some [] kind is = absurd (none-some kind is)
     none-some kind is = cc
 opened-some (w ∷ ws) kind is = omega arith
 
-line-marks : (options : ReflowOptions) (state : StateText) (raw : List ℕ) (fed : Bool) → AreSigns options
-    → 0 < length (line_of options state raw fed).words
-    → AreSafeMarks (marks_of (line_of options state raw fed).hanging)
+outside : (i o c : Bool) → (i || o) ≡ false → cond i c (true && (o && c)) ≡ false
+outside true o c is = absurd (true≢false is)
+outside false o c is = ap (λ b. true && (b && c)) is
+
+line-marks : (options : ReflowOptions) (state : StateText) (raw : List ℕ) (fed : Bool)
+    → LackReturns options → 0 < length (line_of options state raw fed).words
+    → AreSafeMarks options (is_in_block state.in_block false (line_of options state raw fed))
+    (marks_of (line_of options state raw fed).hanging)
 line-marks options state raw fed signs some =
     let (lead, cs, qs, bs, ws, read) = line-read options state raw in
     let is = line-is lead cs qs bs ws options state raw fed read.text read.have in
+    let here = line_by options state raw fed (kinds lead cs qs bs ws) in
     let has : 0 < length ws = subst (λ (l : LineText). 0 < length l.words) is some in
     let (full, spaced) =
     before-full (cs ++ (qs ++ bs)) ws has (subst AreSpaced (regroup cs qs bs ws) read.text.spaced) in
     let (front, ds, rs, hang) =
     hanging-is options state.in_block lead cs qs bs ws read.text.white full read.have in
-    subst (λ (l : LineText). AreSafeMarks (marks_of l.hanging)) (sym is)
-    (hanging-safe options _ _ front ds rs signs hang)
+    subst (λ (l : LineText). AreSafeMarks options (is_in_block state.in_block false l) (marks_of l.hanging))
+    (sym is)
+    (carry options (state.in_block || has_opening_in cs) (is_in_block state.in_block false here)
+    (marks_of here.hanging)
+    (λ out. outside state.in_block (has_opening_in cs) (not (closes_block ws)) out)
+    (hanging-safe options _ _ front ds rs signs hang))
 
 pub safe-passed : (options : ReflowOptions) (state : StateText) (raw : List ℕ) (fed : Bool)
     → IsSafe options state
@@ -241,34 +290,48 @@ pub safe-passed : (options : ReflowOptions) (state : StateText) (raw : List ℕ)
 safe-passed options state raw fed (signs, safe) =
     (signs, behind (fence_at state.fence raw) (at state.fence safe))
   where
-    at : (f : Option FenceText) → IsSafeFence f → IsSafeFence (fence_at f raw)
+    at : (f : Option FenceText) → IsSafeFence options state.in_block f
+        → IsSafeFence options state.in_block (fence_at f raw)
     at None safe = tt
     at (Some fence) safe =
-        elim (is_left_by fence raw) as (λ b. IsSafeFence (cond b None (Some fence)))
+        elim (is_left_by fence raw) as (λ b. IsSafeFence options state.in_block (cond b None (Some fence)))
         [ true ↦ tt | false ↦ safe ]
 
-    kind_of : (here : LineText) (kind : Option FenceKind) → opened here.words ≡ kind
-        → (0 < length here.words → AreSafeMarks (marks_of here.hanging))
-        → IsSafeFence (option_map (λ k. record { marks = marks_of here.hanging; kind = k })
+    kind_of : (block : Bool) (here : LineText) (kind : Option FenceKind) → opened here.words ≡ kind
+        → (0 < length here.words → AreSafeMarks options block (marks_of here.hanging))
+        → IsSafeFence options block (option_map (λ k. record { marks = marks_of here.hanging; kind = k })
         (opened here.words))
-    kind_of here None is marks =
-        subst (λ k. IsSafeFence (option_map (λ k. record { marks = marks_of here.hanging; kind = k }) k))
-        (sym is) tt
-    kind_of here (Some kind) is marks =
-        subst (λ k. IsSafeFence (option_map (λ k. record { marks = marks_of here.hanging; kind = k }) k))
-        (sym is) (marks (opened-some here.words kind is))
+    kind_of block here None is marks =
+        subst (λ k. IsSafeFence options block
+        (option_map (λ k. record { marks = marks_of here.hanging; kind = k }) k)) (sym is) tt
+    kind_of block here (Some kind) is marks =
+        subst (λ k. IsSafeFence options block
+        (option_map (λ k. record { marks = marks_of here.hanging; kind = k }) k)) (sym is)
+        (marks (opened-some here.words kind is))
 
-    behind : (f : Option FenceText) → IsSafeFence f
-        → IsSafeFence (new_fence f (line_of options (entered state raw) raw fed))
+    stays_out : (i c o : Bool) → i ≡ false → cond i c (not true && o) ≡ false
+    stays_out true c o is = absurd (true≢false is)
+    stays_out false c o is = refl
+
+    behind : (f : Option FenceText) → IsSafeFence options state.in_block f
+        → IsSafeFence options
+        (is_in_block state.in_block (is_some f) (line_of options (entered state raw) raw fed))
+        (new_fence f (line_of options (entered state raw) raw fed))
     behind (Some fence) safe =
-        elim (is_closed_by fence (line_of options (entered state raw) raw fed).hanging
-        (line_of options (entered state raw) raw fed).words)
-        as (λ b. IsSafeFence (cond b None (Some fence))) [ true ↦ tt | false ↦ safe ]
+        let here = line_of options (entered state raw) raw fed in
+        let block = is_in_block state.in_block true here in
+        elim (is_closed_by fence here.hanging here.words)
+        as (λ b. IsSafeFence options block (cond b None (Some fence))) [
+          | true ↦ tt
+          | false ↦ carry options state.in_block block fence.marks
+              (λ out. stays_out state.in_block (not (closes_block here.words)) here.opens_block out) safe
+        ]
     behind None safe =
         let here = line_of options (entered state raw) raw fed in
-        elim here.deeper as (λ b. IsSafeFence (cond b None (option_map
+        let block = is_in_block state.in_block false here in
+        elim here.deeper as (λ b. IsSafeFence options block (cond b None (option_map
         (λ k. record { marks = marks_of here.hanging; kind = k }) (opened here.words)))) [
           | true ↦ tt
-          | false ↦ kind_of here (opened here.words) refl
+          | false ↦ kind_of block here (opened here.words) refl
               (λ some. line-marks options (entered state raw) raw fed signs some)
         ]

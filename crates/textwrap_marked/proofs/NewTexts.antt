@@ -12,7 +12,7 @@ use Rattle.textwrap_marked.proofs.Feedless.{IsFeedless}
 use Rattle.textwrap_marked.proofs.SameParts.{from-other, laid-other, width-same}
 use Rattle.textwrap_marked.proofs.TextBack.{AreReadBack, returns_by, text-back}
 use Rattle.textwrap_marked.specs.Blocks.{blocks}
-use Rattle.textwrap_marked.specs.Laws.{AreSameParts, AreSigns, behind_mark, KeepsEnding, text_parts}
+use Rattle.textwrap_marked.specs.Laws.{AreSameParts, LackReturns, behind_mark, KeepsEnding, text_parts}
 use Rattle.textwrap_marked.specs.Lines.{first_state, lines_of, read_lines, with_titles}
 use Rattle.textwrap_marked.specs.Reflow.{byte_order_mark, filled_ending, IsLaidOut, IsReflowed}
 use Rattle.textwrap_marked.specs.Reflow.{IsReflowedBehind, IsReflowedFrom}
@@ -46,7 +46,7 @@ ends-feed LF = ([], refl)
 ends-feed CRLF = (13 ∷ [], refl)
 
 -- the new text stays, whatever its own ending is
-from-stays : (options : ReflowOptions) → options.ending ≡ None → AreSigns options
+from-stays : (options : ReflowOptions) → options.ending ≡ None → LackReturns options
     → (text reflowed : List ℕ) → IsReflowedFrom options text reflowed
     → IsReflowedFrom options reflowed reflowed
 from-stays options none signs text reflowed laid =
@@ -98,7 +98,7 @@ marked : (rest whole : List ℕ) → whole ≡ byte_order_mark ++ rest
     → starts_with nat_eq whole byte_order_mark ≡ true
 marked rest whole is = ap (λ t. starts_with nat_eq t byte_order_mark) is
 
-module _ (options : ReflowOptions) (none : options.ending ≡ None) (signs : AreSigns options) where
+module _ (options : ReflowOptions) (none : options.ending ≡ None) (signs : LackReturns options) where
   pub parts-kept : (text reflowed : List ℕ) → IsReflowed options text reflowed
       → AreSameParts (text_parts options (behind_mark text)) (text_parts options (behind_mark reflowed))
   parts-kept text reflowed = cut (starts_with nat_eq text byte_order_mark) refl

@@ -7,7 +7,7 @@ use Rattle.textwrap_lines.specs.LineEnding.{ending_bytes}
 use Rattle.textwrap_marked.proofs.TextBack.{text-back}
 use Rattle.textwrap_marked.specs.Blocks.{blocks, is_beside}
 use Rattle.textwrap_marked.specs.Columns.{columns}
-use Rattle.textwrap_marked.specs.Laws.{AreNewParts, AreSameParts, AreSigns}
+use Rattle.textwrap_marked.specs.Laws.{AreNewParts, AreSameParts, LackReturns}
 use Rattle.textwrap_marked.specs.Laws.{IsSameBy, Part, parts_from, text_parts}
 use Rattle.textwrap_marked.specs.Lines.{entered, first_state, line_of, lines_of, LineText, passed, read_lines}
 use Rattle.textwrap_marked.specs.Lines.{StateText, with_titles}
@@ -154,7 +154,7 @@ module _ (options : ReflowOptions) (width : ℕ) (algorithm : Algorithm) where
       ap (λ ls. parts_from false (blocks (with_titles ls)))
       (lines-same (slice_split (λ c. c == 10) text) first_state)
 
-  pub width-same : options.ending ≡ None → AreSigns options → (text between : List ℕ)
+  pub width-same : options.ending ≡ None → LackReturns options → (text between : List ℕ)
       → IsReflowedFrom others text between
       → AreSameParts (text_parts options text) (text_parts options between)
   width-same none signs text between laid =

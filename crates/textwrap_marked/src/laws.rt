@@ -3,7 +3,8 @@
 //!
 //! A law has no example: its statement is all there is to it. A call is written
 //! `reflowed_texts_are_unique();`.
-ghost use Rattle.textwrap_marked.specs.Laws.{EarlierWidthsMakeNoDifference, FirstFitKeepsToWidth, LeastCostIsLeast};
+ghost use Rattle.textwrap_marked.specs.Laws.{EarlierWidthsMakeNoDifference, FirstFitKeepsToWidth};
+ghost use Rattle.textwrap_marked.specs.Laws.{LeastCostIsLeast};
 ghost use Rattle.textwrap_marked.specs.Laws.{PartsAreKept, ReflowedTextsAreUnique, ReflowedTextsStay};
 ghost use Rattle.textwrap_marked.specs.Laws.{WhatStandsApartStays, WordsAreKept};
 
@@ -42,8 +43,8 @@ pub fn words_are_kept()
 /// order the same lines that stay, byte for byte, and the same paragraphs, each with its prefix, its
 /// hanging form, its words, and what stands behind its last line.
 ///
-/// No declared mark may have a letter, a digit or a carriage return, since a line that begins with such
-/// a one may say where a fence ends.
+/// No declared mark may have a carriage return: that of a line's ending would be taken for its own where
+/// the marks before a fence are looked for.
 pub fn parts_are_kept()
     ensures { PartsAreKept }
 {}
@@ -54,7 +55,8 @@ pub fn reflowed_twice_is_once()
 {}
 
 /// Another width or algorithm first makes no difference: what a text becomes that was reflowed by them
-/// before, it becomes at once.
+/// before, it becomes at once. Only where the text between is a single line, filled lines of it and of
+/// the text have to end the same: a text of CR LF lines without a final one has forgotten its ending then.
 pub fn earlier_widths_make_no_difference()
     ensures { EarlierWidthsMakeNoDifference }
 {}

@@ -9,6 +9,7 @@ use Rattle.textwrap_words.specs.Units.{text_width}
 use Rattle.textwrap_marked.proofs.LaterLines.{line-read}
 use Rattle.textwrap_marked.proofs.LineKinds.{line-is}
 use Rattle.textwrap_marked.proofs.TextBlocks.{line_at, read, read-more, title_of}
+use Rattle.textwrap_marked.specs.Lines.{without_returns}
 use Rattle.textwrap_marked.specs.Lines.{as_title, entered, is_return, line_of, LineText, passed, StateText}
 use Rattle.textwrap_marked.specs.Marks.{is_opening}
 use Rattle.textwrap_marked.specs.Prefixes.{blanks, hanging_bullets, hanging_comments, hanging_mark}
@@ -111,13 +112,13 @@ pub read-feedless : (options : ReflowOptions) (raws : List (List ℕ)) (state : 
 read-feedless options [] state all = All-nil IsFeedlessLine
 read-feedless options (raw ∷ raws) state all =
     let line = line_at options state raw raws in
-    let later = read options (passed (entered state raw) line) raws in
-    let is = line-feedless options (entered state raw) raw (nat_lt 0 (length raws))
+    let later = read options (passed (entered state (without_returns raw)) line) raws in
+    let is = line-feedless options (entered state (without_returns raw)) raw (nat_lt 0 (length raws))
     (All-head IsFeedless raw raws all) in
     subst (All IsFeedlessLine) (sym (read-more options state raw raws))
     (All-cons IsFeedlessLine (as_title (title_of line later) line) later
     (record { prefix = is.prefix; hanging = is.hanging; words = is.words })
-    (read-feedless options raws (passed (entered state raw) line) (All-tail IsFeedless raw raws all)))
+    (read-feedless options raws (passed (entered state (without_returns raw)) line) (All-tail IsFeedless raw raws all)))
 
 -- ---- lines between line feeds
 

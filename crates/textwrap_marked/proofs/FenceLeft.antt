@@ -1,10 +1,10 @@
 -- A line that begins as another one leaves the fence that it leaves.
 use Rattle.textwrap_base.proofs.Common.{◌≡◌, ℕ, ◌-◌, ◌<◌, ◌⊎◌, ◌||◌, not, Bool, true, false, cond, List}
-use Rattle.textwrap_base.proofs.Common.{[], ◌∷◌, ◌++◌, ◌==◌, All, All-head, All-nil, ap, append-nil}
+use Rattle.textwrap_base.proofs.Common.{[], ◌∷◌, ◌++◌, All, All-head, All-nil, ap, append-nil}
 use Rattle.textwrap_base.proofs.Common.{append_assoc, arith, drop, false_from_ne_true, inl, inr, length}
 use Rattle.textwrap_base.proofs.Common.{drop_all, drop_more, get_or, reverse, suc, zero}
-use Rattle.textwrap_base.proofs.Common.{list_any, nat_eq, None, Option, refl, Some, starts_with, subst, suffix_len}
-use Rattle.textwrap_base.proofs.Common.{All-append, length-append, sym, take-append-drop, true≢false, ⊤, ◌∙◌}
+use Rattle.textwrap_base.proofs.Common.{nat_eq, None, Option, refl, Some, starts_with, subst, suffix_len}
+use Rattle.textwrap_base.proofs.Common.{length-append, sym, take-append-drop, true≢false, ⊤, ◌∙◌}
 use Rattle.textwrap_base.proofs.Lists.Parts.{all-right}
 use Rattle.textwrap_base.proofs.Lists.Prefixes.{starts_with-rest, starts_with-true}
 use Rattle.std.proofs.lemmas.List.{get_or-reverse}
@@ -24,10 +24,15 @@ use Rattle.textwrap_marked.specs.Lines.{entered, fence_at, is_return, StateText,
 use Rattle.textwrap_marked.specs.Marks.{is_comment_at}
 use Rattle.textwrap_marked.specs.Prefixes.{comment_len}
 use Rattle.textwrap_marked.specs.Signs.{begins_text, first_word}
-use Rattle.textwrap_marked.specs.Words.{has_byte, is_white, spaced_text, SpacedText, spaced_words}
+use Rattle.textwrap_marked.specs.Words.{is_white, spaced_text, SpacedText, spaced_words}
 use Rattle.textwrap_marked.specs.declared.options.ReflowOptions.{ReflowOptions}
 
--- nothing, or white or a carriage return first
+-- nothing, or white first
+abbrev pub EndsText : List ℕ → Type 0
+EndsText [] = ⊤
+EndsText (c ∷ cs) = is_white c ≡ true
+
+-- or a carriage return first
 abbrev pub EndsWord : List ℕ → Type 0
 EndsWord [] = ⊤
 EndsWord (c ∷ cs) = (is_white c || is_return c) ≡ true
@@ -56,41 +61,10 @@ splits (x ∷ xs) ys (z ∷ zs) ws is =
 
 -- ---- no mark goes on with a word of a text
 
-any-later : (test : ℕ → Bool) (front : List ℕ) (c : ℕ) (cs : List ℕ) → test c ≡ true
-    → list_any test (front ++ c ∷ cs) ≡ true
-any-later test [] c cs is = ap (λ b. b || list_any test cs) is
-any-later test (x ∷ front) c cs is =
-    ap (λ b. test x || b) (any-later test front c cs is) ∙ either (test x)
-  where
-    either : (b : Bool) → (b || true) ≡ true
-    either true = refl
-    either false = refl
-
 word-spaced : (w : SpacedText) (vs : List SpacedText) → IsSpaced w → 0 < length w.white → AreSpaced vs
     → AreSpaced (w ∷ vs)
 word-spaced w [] is some are = is
 word-spaced w (v ∷ vs) is some are = (is, some, are)
-
-longer-spaced : (word : List ℕ) (v : SpacedText) (vs : List SpacedText) → IsPlain word
-    → AreSpaced (v ∷ vs) → AreSpaced (record { word = word ++ v.word; white = v.white } ∷ vs)
-longer-spaced word v [] plain are = record {
-  word = record {
-    some = omega (arith, plain.some, length-append word v.word);
-    ink = All-append IsInk word v.word plain.ink are.word.ink;
-  };
-  white = are.white;
-}
-longer-spaced word v (u ∷ vs) plain (here, some, later) = (
-  record {
-    word = record {
-      some = omega (arith, plain.some, length-append word v.word);
-      ink = All-append IsInk word v.word plain.ink here.word.ink;
-    };
-    white = here.white;
-  },
-  some,
-  later,
-)
 
 first-plain : (v : SpacedText) (vs : List SpacedText) → AreSpaced (v ∷ vs) → IsPlain v.word
 first-plain v [] are = are.word
@@ -124,15 +98,14 @@ module _ (options : ReflowOptions) (in_block : Bool) (marks ks : List SpacedText
   never : (starred : Bool) → begins_text starred word ≡ true → (list : List SpacedText) → marks ≡ list
       → IsFirstMark options in_block word → (0 < length marks → IsMarkWord word) → ⊥
   never starred begins [] is first later =
-      let (out, comment) = first.begins starred begins in other (ap length is) out comment
+      let (out, comment) = first starred begins in other (ap length is) out comment
   never starred begins (m ∷ ms) is first later =
-      true≢false (sym begins ∙ (later (omega (arith, ap length is))).begins starred)
+      true≢false (sym begins ∙ later (omega (arith, ap length is)) starred)
 
   no-text : (starred : Bool) (c : ℕ) (cs : List ℕ) → begins_text starred word ≡ true
-      → (is_white c || is_return c) ≡ true
-      → spaced_text ks ≡ spaced_text marks ++ (word ++ c ∷ cs) → ⊥
-  no-text starred c cs begins ends is =
-      let (lead, vs, text) = line-text (c ∷ cs) in cut (is_white c) refl lead vs text
+      → is_white c ≡ true → spaced_text ks ≡ spaced_text marks ++ (word ++ c ∷ cs) → ⊥
+  no-text starred c cs begins white is =
+      let (lead, vs, text) = line-text (c ∷ cs) in cut lead vs text
     where
       white-text : (lead : List ℕ) (vs : List SpacedText) → c ∷ cs ≡ lead ++ spaced_text vs
           → All IsWhite lead → 0 < length lead → AreSpaced vs → ⊥
@@ -143,24 +116,10 @@ module _ (options : ReflowOptions) (in_block : Bool) (marks ks : List SpacedText
           ∙ ap (λ l. spaced_text marks ++ l) (sym (append_assoc word lead (spaced_text vs)))) in
           never starred begins marks refl first later
 
-      returned : is_white c ≡ false → (v : SpacedText) (vs : List SpacedText) (x : ℕ) (xs : List ℕ)
-          → v.word ≡ x ∷ xs → c ∷ cs ≡ (v.word ++ v.white) ++ spaced_text vs → AreSpaced (v ∷ vs) → ⊥
-      returned ink v vs x xs first text are =
-          let back : is_return c ≡ true = sym (ap (λ b. b || is_return c) ink) ∙ ends in
-          let same : c ≡ x = ap first_byte (text ∙ ap (λ w. (w ++ v.white) ++ spaced_text vs) first) in
-          let (mark, later) = marked (record { word = word ++ v.word; white = v.white }) vs
-          (longer-spaced word v vs plain are)
-          (is ∙ ap (λ l. spaced_text marks ++ (word ++ l)) text
-          ∙ ap (λ l. spaced_text marks ++ l) (simp append_assoc)) in
-          true≢false (sym (any-later (λ b. b == 13) word x xs (ap is_return (sym same) ∙ back))
-          ∙ ap (λ w. has_byte 13 (word ++ w)) (sym first) ∙ mark.returns)
-
-      cut : (b : Bool) → is_white c ≡ b → (lead : List ℕ) (vs : List SpacedText)
-          → IsLineText (c ∷ cs) lead vs → ⊥
-      cut true white (y ∷ ys) vs text =
-          white-text (y ∷ ys) vs text.is text.white (omega arith) text.spaced
-      cut true white [] [] text = omega (arith, ap length text.is)
-      cut true white [] (v ∷ vs) text = inked v.word refl
+      cut : (lead : List ℕ) (vs : List SpacedText) → IsLineText (c ∷ cs) lead vs → ⊥
+      cut (y ∷ ys) vs text = white-text (y ∷ ys) vs text.is text.white (omega arith) text.spaced
+      cut [] [] text = omega (arith, ap length text.is)
+      cut [] (v ∷ vs) text = inked v.word refl
         where
           inked : (w : List ℕ) → v.word ≡ w → ⊥
           inked [] same = omega (arith, (first-plain v vs text.spaced).some, ap length same)
@@ -170,15 +129,6 @@ module _ (options : ReflowOptions) (in_block : Bool) (marks ks : List SpacedText
               let eq : c ≡ x =
               ap first_byte (text.is ∙ ap (λ w. (w ++ v.white) ++ spaced_text vs) same) in
               true≢false (sym white ∙ ap is_white eq ∙ ink)
-      cut false ink (y ∷ ys) vs text =
-          let eq : c ≡ y = ap first_byte text.is in
-          true≢false (sym (All-head IsWhite y ys text.white) ∙ ap is_white (sym eq) ∙ ink)
-      cut false ink [] [] text = omega (arith, ap length text.is)
-      cut false ink [] (v ∷ vs) text = found v.word refl
-        where
-          found : (w : List ℕ) → v.word ≡ w → ⊥
-          found [] same = omega (arith, (first-plain v vs text.spaced).some, ap length same)
-          found (x ∷ xs) same = returned ink v vs x xs same text.is text.spaced
 
 -- ---- the fence
 
@@ -217,7 +167,7 @@ module _ (options : ReflowOptions) (in_block : Bool) (marks : List SpacedText) (
       (omega (arith, length-append marks (record { word = word; white = [] } ∷ []))))
 
   same-left : (starred : Bool) (fence : FenceText) (rest tail : List ℕ) → AreSafeMarks options in_block fence.marks
-      → begins_text starred word ≡ true → EndsWord tail
+      → begins_text starred word ≡ true → EndsText tail
       → is_left_by fence (lead ++ (spaced_text begun ++ rest)) ≡ true
       → is_left_by fence (lead ++ (spaced_text begun ++ tail)) ≡ true
   same-left starred fence rest tail (ks, others, is, spaced, all) begins ends left =
@@ -240,7 +190,7 @@ module _ (options : ReflowOptions) (in_block : Bool) (marks : List SpacedText) (
           (ap (λ l. l ++ rest) same ∙ append_assoc fence.marks d rest)) ∙ outside)
       parted (inr (c, d, same, more)) =
           no-text options in_block marks ks word full spaced all plain other starred c (d ++ others) begins
-          (subst EndsWord more ends)
+          (subst EndsText more ends)
           (sym is ∙ ap (λ l. l ++ others) same
           ∙ append_assoc (spaced_text begun) (c ∷ d) others
           ∙ ap (λ l. l ++ (c ∷ (d ++ others))) begun-text
@@ -295,13 +245,13 @@ text-tail raw lead list (w ∷ ws) some is are =
 
 pub still-left : (options : ReflowOptions) (state : StateText) (raw lead : List ℕ)
     (cs qs bs ws : List SpacedText) (starred : Bool) (tail : List ℕ)
-    → IsRead options (entered state raw) raw lead cs qs bs ws → 0 < length ws
-    → begins_text starred (first_word ws) ≡ true → IsSafe options state → EndsWord tail
-    → fence_at state.fence raw ≡ None
+    → IsRead options (entered state (without_returns raw)) raw lead cs qs bs ws → 0 < length ws
+    → begins_text starred (first_word ws) ≡ true → IsSafe options state → EndsText tail
+    → fence_at state.fence (without_returns raw) ≡ None
     → fence_at state.fence ((lead ++ spaced_text (cs ++ (qs ++ bs))) ++ (first_word ws ++ tail)) ≡ None
 still-left options state raw lead cs qs bs [] starred tail read some begins safe ends left =
     absurd (omega (arith, some))
-still-left options state raw lead cs qs bs (w ∷ ws) starred tail read some begins (signs, safe) ends left =
+still-left options state raw lead cs qs bs (w ∷ ws) starred tail read some begins safe ends left =
     by_fence state.fence safe left
   where
     parts : All IsFull (cs ++ (qs ++ bs)) × AreSpaced (w ∷ ws)
@@ -321,7 +271,7 @@ still-left options state raw lead cs qs bs (w ∷ ws) starred tail read some beg
         sym (ap one_if (ap (λ b. is_comment_at options b w.word) out ∙ comment)) ∙ count in
         omega (arith, one)
 
-    by_fence : (f : Option FenceText) → IsSafeFence options state.in_block f → fence_at f raw ≡ None
+    by_fence : (f : Option FenceText) → IsSafeFence options state.in_block f → fence_at f (without_returns raw) ≡ None
         → fence_at f ((lead ++ spaced_text (cs ++ (qs ++ bs))) ++ (w.word ++ tail)) ≡ None
     by_fence None safe left = refl
     by_fence (Some fence) safe left =
@@ -332,19 +282,16 @@ still-left options state raw lead cs qs bs (w ∷ ws) starred tail read some beg
         spaced_text (begun options state.in_block list w.word lead parts.0 plain read.text.white apart) in
         let text : whole ≡ spaced_text list ++ w.word =
         begun-text options state.in_block list w.word lead parts.0 plain read.text.white apart in
-        let back = drop (length raw - suffix_len is_return raw) raw in
-        let rest = (w.white ++ spaced_text ws) ++ back in
-        let grouped : (lead ++ (spaced_text list ++ ((w.word ++ w.white) ++ spaced_text ws))) ++ back
+        let rest = w.white ++ spaced_text ws in
+        let grouped : lead ++ (spaced_text list ++ ((w.word ++ w.white) ++ spaced_text ws))
         ≡ lead ++ ((spaced_text list ++ w.word) ++ rest) = simp append_assoc in
-        let old : raw ≡ lead ++ (whole ++ rest) =
-        sym (take-append-drop (length raw - suffix_len is_return raw) raw)
-        ∙ ap (λ l. l ++ back) (read.text.is
-        ∙ ap (λ l. lead ++ l) (ap spaced_text (regroup cs qs bs (w ∷ ws)) ∙ text-parts list (w ∷ ws)))
-        ∙ grouped ∙ ap (λ t. lead ++ (t ++ rest)) (sym text) in
+        let old : without_returns raw ≡ lead ++ (whole ++ rest) =
+        read.text.is ∙ ap (λ l. lead ++ l) (ap spaced_text (regroup cs qs bs (w ∷ ws))
+        ∙ text-parts list (w ∷ ws)) ∙ grouped ∙ ap (λ t. lead ++ (t ++ rest)) (sym text) in
         let new : (lead ++ spaced_text list) ++ (w.word ++ tail) ≡ lead ++ (whole ++ tail) =
         append_assoc lead (spaced_text list) (w.word ++ tail)
         ∙ ap (λ l. lead ++ l) (sym (append_assoc (spaced_text list) w.word tail))
         ∙ ap (λ t. lead ++ (t ++ tail)) (sym text) in
         ap (λ b. cond b None (Some fence)) (ap (is_left_by fence) new
         ∙ same-left options state.in_block list w.word lead parts.0 plain read.text.white apart starred fence rest tail safe begins ends
-        (sym (ap (is_left_by fence) old) ∙ left-by fence raw left))
+        (sym (ap (is_left_by fence) old) ∙ left-by fence (without_returns raw) left))

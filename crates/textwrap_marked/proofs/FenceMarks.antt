@@ -1,11 +1,11 @@
 -- The marks before an open fence are no words of a text.
 use Rattle.textwrap_base.proofs.Common.{◌≡◌, ℕ, ◌+◌, ◌-◌, ◌<◌, ◌&&◌, ◌||◌, not, Bool, true, false, cond}
-use Rattle.textwrap_base.proofs.Common.{List, [], ◌∷◌, ◌++◌, ◌==◌, All, All-head, All-tail, ap, arith}
-use Rattle.textwrap_base.proofs.Common.{All-weaker, Bor, cases_Bool, codes, drop, eqb-true, false_from_ne_true, length}
+use Rattle.textwrap_base.proofs.Common.{List, [], ◌∷◌, ◌++◌, All, All-head, All-tail, ap, arith}
+use Rattle.textwrap_base.proofs.Common.{All-weaker, codes, drop, false_from_ne_true, length}
 use Rattle.textwrap_base.proofs.Common.{None, Option, option_map, prefix_len, refl, Some, subst, suc, suffix_len, sym, take-append-drop}
 use Rattle.textwrap_base.proofs.Common.{append-nil, true≢false, ⊤, ◌∙◌}
 use Rattle.std.proofs.lemmas.Slice.Eq.{bytes_eq-Decides}
-use Rattle.std.specs.Prelude.{bytes_eq, is_some}
+use Rattle.std.specs.Prelude.{is_some}
 use Rattle.textwrap_marked.proofs.HangingForms.{IsHanging, hanging-is}
 use Rattle.textwrap_marked.proofs.HangingKinds.{AreMarks, before-full}
 use Rattle.textwrap_marked.proofs.LaterLines.{line-read}
@@ -14,29 +14,27 @@ use Rattle.textwrap_marked.proofs.LineKinds.{has_opening_in, kinds, line-is, lin
 use Rattle.textwrap_marked.proofs.OpenBehind.{text-letter}
 use Rattle.textwrap_marked.proofs.ParagraphLines.{all-spaced, regroup}
 use Rattle.textwrap_marked.proofs.SpacedBack.{AreSpaced, IsInk, IsWhite}
-use Rattle.textwrap_marked.proofs.SpreadWords.{middle, text-no-quote}
+use Rattle.textwrap_marked.proofs.SpreadWords.{text-no-quote}
 use Rattle.textwrap_marked.specs.Columns.{behind_white, marks_of}
 use Rattle.textwrap_marked.proofs.WordsIn.{IsPlain}
 use Rattle.textwrap_marked.specs.Fences.{FenceText, is_closed_by, is_left_by, opened}
-use Rattle.textwrap_marked.specs.Laws.{LackReturns}
-use Rattle.textwrap_marked.specs.Lines.{entered, fence_at, is_in_block, line_of, LineText, new_fence, passed, StateText}
-use Rattle.textwrap_marked.specs.Marks.{is_among, is_comment_at, is_line_comment, is_opening, is_quote}
+use Rattle.textwrap_marked.specs.Lines.{entered, fence_at, is_in_block, line_of, LineText, new_fence, passed, StateText, without_returns}
+use Rattle.textwrap_marked.specs.Marks.{is_comment_at, is_quote}
 use Rattle.textwrap_marked.specs.Signs.{begins_text, closes_block}
-use Rattle.textwrap_marked.specs.Words.{has_byte, has_bytes, has_letter, is_made_of, is_white, spaced_text, SpacedText}
+use Rattle.textwrap_marked.specs.Words.{has_letter, is_white, spaced_text, SpacedText}
 use Rattle.textwrap_marked.specs.declared.fences.FenceKind.{FenceKind}
 use Rattle.textwrap_marked.specs.declared.options.ReflowOptions.{ReflowOptions}
 
--- a word that no text begins with, and without a carriage return
-pub record IsMarkWord (word : List ℕ) : Type 0 where
-  pub begins : (starred : Bool) → begins_text starred word ≡ false
-  pub returns : has_byte 13 word ≡ false
+-- a word that no text begins with
+abbrev pub IsMarkWord : List ℕ → Type 0
+IsMarkWord word = (starred : Bool) → begins_text starred word ≡ false
 
 -- what such words begin with
 -- the first of them may begin a text where it is no comment mark: in a block comment
-pub record IsFirstMark (options : ReflowOptions) (in_block : Bool) (word : List ℕ) : Type 0 where
-  pub begins : (starred : Bool) → begins_text starred word ≡ true
-      → (in_block ≡ false) × (is_comment_at options false word ≡ true)
-  pub returns : has_byte 13 word ≡ false
+abbrev pub IsFirstMark : ReflowOptions → Bool → List ℕ → Type 0
+IsFirstMark options in_block word =
+    (starred : Bool) → begins_text starred word ≡ true
+    → (in_block ≡ false) × (is_comment_at options false word ≡ true)
 
 abbrev pub AreMarkWords : ReflowOptions → Bool → List SpacedText → Type 0
 AreMarkWords options in_block [] = ⊤
@@ -53,11 +51,11 @@ IsSafeFence options in_block None = ⊤
 IsSafeFence options in_block (Some fence) = AreSafeMarks options in_block fence.marks
 
 abbrev pub IsSafe : ReflowOptions → StateText → Type 0
-IsSafe options state = LackReturns options × IsSafeFence options state.in_block state.fence
+IsSafe options state = IsSafeFence options state.in_block state.fence
 
-pub safe-none : (options : ReflowOptions) (state : StateText) → LackReturns options → state.fence ≡ None
+pub safe-none : (options : ReflowOptions) (state : StateText) → state.fence ≡ None
     → IsSafe options state
-safe-none options state signs none = (signs, subst (IsSafeFence options state.in_block) (sym none) tt)
+safe-none options state none = subst (IsSafeFence options state.in_block) (sym none) tt
 
 -- ---- marks
 
@@ -67,96 +65,23 @@ letterless-begins word none starred =
     false_from_ne_true (begins_text starred word)
     (λ begins. true≢false (sym (text-letter starred word begins) ∙ none))
 
-among-signs : (marks : List (Bor (List ℕ))) (word : List ℕ)
-    → All (λ mark. has_byte 13 mark.now ≡ false) marks → is_among word marks ≡ true
-    → has_byte 13 word ≡ false
-among-signs [] word signs is = absurd (true≢false (sym is))
-among-signs (mark ∷ marks) word signs is =
-    cut (bytes_eq word mark.now) refl is
-    (among-signs marks word (All-tail (λ mark. has_byte 13 mark.now ≡ false) mark marks signs))
-    (All-head (λ mark. has_byte 13 mark.now ≡ false) mark marks signs)
-  where
-    cut : (b : Bool) → bytes_eq word mark.now ≡ b → (b || is_among word marks) ≡ true
-        → (is_among word marks ≡ true → has_byte 13 word ≡ false) → has_byte 13 mark.now ≡ false
-        → has_byte 13 word ≡ false
-    cut true same is later here = ap (has_byte 13) ((bytes_eq-Decides word mark.now).0 same) ∙ here
-    cut false same is later here = later is
-
-byte-other : (word other : List ℕ) → has_byte 13 word ≡ true → has_byte 13 other ≡ false
-    → bytes_eq word other ≡ false
-byte-other word other is none =
-    false_from_ne_true (bytes_eq word other) (λ same.
-    true≢false (sym is ∙ ap (has_byte 13) ((bytes_eq-Decides word other).0 same) ∙ none))
-
-comment-returns : (word : List ℕ) → is_line_comment word ≡ true → has_byte 13 word ≡ false
-comment-returns word comment =
-    false_from_ne_true (has_byte 13 word) (λ is. true≢false (sym comment ∙ none is))
-  where
-    none : has_byte 13 word ≡ true → is_line_comment word ≡ false
-    none is = rw (
-      byte-other word (codes "//") is refl,
-      byte-other word (codes "///") is refl,
-      byte-other word (codes "//!") is refl,
-      byte-other word (codes "#") is refl,
-      byte-other word (codes "--") is refl,
-      byte-other word (codes ";") is refl,
-      byte-other word (codes ";;") is refl,
-      byte-other word (codes ";;;") is refl,
-      byte-other word (codes ";;;;") is refl,
-      byte-other word (codes "%") is refl,
-      byte-other word (codes "%%") is refl,
-      byte-other word (codes "%%%") is refl,
-    ) refl
-
-made-returns : (word : List ℕ) → is_made_of 62 word ≡ true → has_byte 13 word ≡ false
-made-returns [] is = refl
-made-returns (c ∷ cs) is =
-    cut (c == 62) refl is (made-returns cs)
-  where
-    cut : (b : Bool) → (c == 62) ≡ b → (b && is_made_of 62 cs) ≡ true
-        → (is_made_of 62 cs ≡ true → has_byte 13 cs ≡ false) → has_byte 13 (c ∷ cs) ≡ false
-    cut true same is later =
-        ap (λ x. x == 13 || has_byte 13 cs) (eqb-true c 62 same) ∙ later is
-    cut false same is later = absurd (true≢false (sym is))
-
 quote-mark : (word : List ℕ) → is_quote word ≡ true → IsMarkWord word
-quote-mark word quote = record {
-  begins = λ starred. false_from_ne_true (begins_text starred word)
-      (λ begins. true≢false (sym quote ∙ text-no-quote starred word begins));
-  returns = made-returns word
-      (middle (has_bytes word) (is_made_of 62 word) (length word == 3) quote);
-}
+quote-mark word quote starred =
+    false_from_ne_true (begins_text starred word)
+    (λ begins. true≢false (sym quote ∙ text-no-quote starred word begins))
 
 -- such a word is one wherever it stands
 pub mark-first : (options : ReflowOptions) (in_block : Bool) (word : List ℕ) → IsMarkWord word
     → IsFirstMark options in_block word
-mark-first options in_block word mark = record {
-  begins = λ starred begins. absurd (true≢false (sym begins ∙ mark.begins starred));
-  returns = mark.returns;
-}
+mark-first options in_block word mark =
+    λ starred begins. absurd (true≢false (sym begins ∙ mark starred))
 
-comment-mark : (options : ReflowOptions) (in_block : Bool) (word : List ℕ) → LackReturns options
-    → is_comment_at options in_block word ≡ true → is_opening word ≡ false
-    → IsFirstMark options in_block word
-comment-mark options true word signs comment opening =
-    let same = (bytes_eq-Decides word (codes "*")).0 comment in
-    mark-first options true word (record {
-      begins = letterless-begins word (ap has_letter same ∙ star-plain);
-      returns = ap (has_byte 13) same;
-    })
-comment-mark options false word signs comment opening = record {
-  begins = λ starred begins. (refl, comment);
-  returns = cut (is_among word options.markers.now) refl;
-}
-  where
-    line : (a m c o : Bool) → a ≡ false → o ≡ false → (a || (not m && (c || o))) ≡ true → c ≡ true
-    line a m c o p q is = grind (arith, cases_Bool)
-
-    cut : (b : Bool) → is_among word options.markers.now ≡ b → has_byte 13 word ≡ false
-    cut true among = among-signs options.markers.now word signs among
-    cut false among =
-        comment-returns word (line (is_among word options.markers.now) options.markdown
-        (is_line_comment word) (is_opening word) among opening comment)
+comment-mark : (options : ReflowOptions) (in_block : Bool) (word : List ℕ)
+    → is_comment_at options in_block word ≡ true → IsFirstMark options in_block word
+comment-mark options true word comment =
+    mark-first options true word
+    (letterless-begins word (ap has_letter ((bytes_eq-Decides word (codes "*")).0 comment) ∙ star-plain))
+comment-mark options false word comment = λ starred begins. (refl, comment)
 
 quotes-safe : (rs : List SpacedText) → All (λ w. is_quote w.word ≡ true) rs
     → All (λ k. IsMarkWord k.word) rs
@@ -165,20 +90,19 @@ quotes-safe rs quote =
     quote
 
 marks-safe : (options : ReflowOptions) (in_block : Bool) (ds rs : List SpacedText)
-    → LackReturns options → AreMarks options in_block ds rs → AreMarkWords options in_block (ds ++ rs)
-marks-safe options in_block [] [] signs are = tt
-marks-safe options in_block [] (r ∷ rs) signs are = (
+    → AreMarks options in_block ds rs → AreMarkWords options in_block (ds ++ rs)
+marks-safe options in_block [] [] are = tt
+marks-safe options in_block [] (r ∷ rs) are = (
   mark-first options in_block r.word
       (quote-mark r.word (All-head (λ w. is_quote w.word ≡ true) r rs are.quote)),
   quotes-safe rs (All-tail (λ w. is_quote w.word ≡ true) r rs are.quote),
 )
-marks-safe options in_block (d ∷ []) rs signs are = (
-  comment-mark options in_block d.word signs
-      (All-head (λ w. is_comment_at options in_block w.word ≡ true) d [] are.comment)
-      (All-head (λ w. is_opening w.word ≡ false) d [] are.no_opening),
+marks-safe options in_block (d ∷ []) rs are = (
+  comment-mark options in_block d.word
+      (All-head (λ w. is_comment_at options in_block w.word ≡ true) d [] are.comment),
   quotes-safe rs are.quote,
 )
-marks-safe options in_block (d ∷ e ∷ ds) rs signs are = absurd (omega (arith, are.one))
+marks-safe options in_block (d ∷ e ∷ ds) rs are = absurd (omega (arith, are.one))
 
 -- marks are safe where a block comment is closed, if they were
 carry : (options : ReflowOptions) (a b : Bool) (text : List ℕ) → (a ≡ false → b ≡ false)
@@ -187,14 +111,8 @@ carry options a b text down (ks, rest, is, spaced, marks) = (ks, rest, is, space
   where
     words : (ks : List SpacedText) → AreMarkWords options a ks → AreMarkWords options b ks
     words [] marks = tt
-    words (k ∷ ks) (first, all) = (
-      record {
-        begins = λ starred begins. let (out, comment) = first.begins starred begins in
-            (down out, comment);
-        returns = first.returns;
-      },
-      all,
-    )
+    words (k ∷ ks) (first, all) =
+        ((λ starred begins. let (out, comment) = first starred begins in (down out, comment)), all)
 
 -- ---- white before a text
 
@@ -230,8 +148,8 @@ behind-words (k ∷ ks) more are some = first k.word refl (plain ks are)
         (All-head IsInk c cs (subst (All IsInk) same is.ink)))
 
 hanging-safe : (options : ReflowOptions) (in_block : Bool) (text lead : List ℕ) (ds rs : List SpacedText)
-    → LackReturns options → IsHanging options in_block text lead ds rs → AreSafeMarks options in_block (marks_of text)
-hanging-safe options in_block text lead ds rs signs hang =
+    → IsHanging options in_block text lead ds rs → AreSafeMarks options in_block (marks_of text)
+hanging-safe options in_block text lead ds rs hang =
     let ks = ds ++ rs in
     let behind = behind_white text in
     let spaced = all-spaced ks hang.full in
@@ -242,7 +160,7 @@ hanging-safe options in_block text lead ds rs signs hang =
       drop n behind,
       take-append-drop n behind ∙ whole,
       spaced,
-      marks-safe options in_block ds rs signs hang.marks,
+      marks-safe options in_block ds rs hang.marks,
     )
   where
     words : (ks : List SpacedText) → AreSpaced ks → behind_white (spaced_text ks) ≡ spaced_text ks
@@ -265,10 +183,10 @@ outside true o c is = absurd (true≢false is)
 outside false o c is = ap (λ b. true && (b && c)) is
 
 line-marks : (options : ReflowOptions) (state : StateText) (raw : List ℕ) (fed : Bool)
-    → LackReturns options → 0 < length (line_of options state raw fed).words
+    → 0 < length (line_of options state raw fed).words
     → AreSafeMarks options (is_in_block state.in_block false (line_of options state raw fed))
     (marks_of (line_of options state raw fed).hanging)
-line-marks options state raw fed signs some =
+line-marks options state raw fed some =
     let (lead, cs, qs, bs, ws, read) = line-read options state raw in
     let is = line-is lead cs qs bs ws options state raw fed read.text read.have in
     let here = line_by options state raw fed (kinds lead cs qs bs ws) in
@@ -282,19 +200,19 @@ line-marks options state raw fed signs some =
     (carry options (state.in_block || has_opening_in cs) (is_in_block state.in_block false here)
     (marks_of here.hanging)
     (λ out. outside state.in_block (has_opening_in cs) (not (closes_block ws)) out)
-    (hanging-safe options _ _ front ds rs signs hang))
+    (hanging-safe options _ _ front ds rs hang))
 
 pub safe-passed : (options : ReflowOptions) (state : StateText) (raw : List ℕ) (fed : Bool)
     → IsSafe options state
-    → IsSafe options (passed (entered state raw) (line_of options (entered state raw) raw fed))
-safe-passed options state raw fed (signs, safe) =
-    (signs, behind (fence_at state.fence raw) (at state.fence safe))
+    → IsSafe options (passed (entered state (without_returns raw)) (line_of options (entered state (without_returns raw)) raw fed))
+safe-passed options state raw fed safe =
+    behind (fence_at state.fence (without_returns raw)) (at state.fence safe)
   where
     at : (f : Option FenceText) → IsSafeFence options state.in_block f
-        → IsSafeFence options state.in_block (fence_at f raw)
+        → IsSafeFence options state.in_block (fence_at f (without_returns raw))
     at None safe = tt
     at (Some fence) safe =
-        elim (is_left_by fence raw) as (λ b. IsSafeFence options state.in_block (cond b None (Some fence)))
+        elim (is_left_by fence (without_returns raw)) as (λ b. IsSafeFence options state.in_block (cond b None (Some fence)))
         [ true ↦ tt | false ↦ safe ]
 
     kind_of : (block : Bool) (here : LineText) (kind : Option FenceKind) → opened here.words ≡ kind
@@ -315,10 +233,10 @@ safe-passed options state raw fed (signs, safe) =
 
     behind : (f : Option FenceText) → IsSafeFence options state.in_block f
         → IsSafeFence options
-        (is_in_block state.in_block (is_some f) (line_of options (entered state raw) raw fed))
-        (new_fence f (line_of options (entered state raw) raw fed))
+        (is_in_block state.in_block (is_some f) (line_of options (entered state (without_returns raw)) raw fed))
+        (new_fence f (line_of options (entered state (without_returns raw)) raw fed))
     behind (Some fence) safe =
-        let here = line_of options (entered state raw) raw fed in
+        let here = line_of options (entered state (without_returns raw)) raw fed in
         let block = is_in_block state.in_block true here in
         elim (is_closed_by fence here.hanging here.words)
         as (λ b. IsSafeFence options block (cond b None (Some fence))) [
@@ -327,11 +245,11 @@ safe-passed options state raw fed (signs, safe) =
               (λ out. stays_out state.in_block (not (closes_block here.words)) here.opens_block out) safe
         ]
     behind None safe =
-        let here = line_of options (entered state raw) raw fed in
+        let here = line_of options (entered state (without_returns raw)) raw fed in
         let block = is_in_block state.in_block false here in
         elim here.deeper as (λ b. IsSafeFence options block (cond b None (option_map
         (λ k. record { marks = marks_of here.hanging; kind = k }) (opened here.words)))) [
           | true ↦ tt
           | false ↦ kind_of block here (opened here.words) refl
-              (λ some. line-marks options (entered state raw) raw fed signs some)
+              (λ some. line-marks options (entered state (without_returns raw)) raw fed some)
         ]

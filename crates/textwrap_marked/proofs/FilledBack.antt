@@ -10,14 +10,14 @@ use Rattle.textwrap_marked.proofs.BegunAlike.{AreBegun, IsInPlace, return-ends}
 use Rattle.textwrap_marked.proofs.BlockOrder.{AreBlocks}
 use Rattle.textwrap_marked.proofs.BlocksAlike.{part-cons, part_of, stops-same}
 use Rattle.textwrap_marked.proofs.Feedless.{IsFeedless, IsFeedlessLine}
-use Rattle.textwrap_marked.proofs.FenceLeft.{EndsWord, still-left, text-tail}
+use Rattle.textwrap_marked.proofs.FenceLeft.{EndsText, EndsWord, still-left, text-tail}
 use Rattle.textwrap_marked.proofs.FenceMarks.{IsSafe, safe-none}
 use Rattle.textwrap_marked.proofs.FilledParts.{divided-is}
 use Rattle.textwrap_marked.proofs.KeptLines.{IsHeadAlike, title-heads}
 use Rattle.textwrap_marked.proofs.LineTests.{letter-no-rule}
 use Rattle.textwrap_marked.proofs.LineWords.{AreCutInto, division-words, joined, MayPart, spread}
 use Rattle.textwrap_marked.proofs.NewBlock.{block_of, first-of-words, first_of, IsParagraph, renew}
-use Rattle.textwrap_marked.proofs.NewLines.{here-words, later_raws, line_raw, returns_at, text_end}
+use Rattle.textwrap_marked.proofs.NewLines.{here-words, later_raws, line_raw, raw-text, returns_at, text_end}
 use Rattle.textwrap_marked.proofs.OpenBehind.{behind_text, text-letter}
 use Rattle.textwrap_marked.proofs.ParagraphLines.{first-begins, first-text, first-unfenced, regroup}
 use Rattle.textwrap_marked.proofs.PrintedText.{break-again, break-same, break-spaced, ends_as, filled-last}
@@ -29,7 +29,7 @@ use Rattle.textwrap_marked.proofs.TextBlocks.{AreTextWords, as-title-none, last_
 use Rattle.textwrap_marked.proofs.SpreadWords.{spread-end}
 use Rattle.textwrap_marked.specs.Blocks.{is_beside, stays}
 use Rattle.textwrap_marked.specs.Laws.{IsSameBy, IsSameParagraph}
-use Rattle.textwrap_marked.specs.Lines.{as_title, entered, fence_at, is_return, line_of, LineText, passed, StateText}
+use Rattle.textwrap_marked.specs.Lines.{as_title, entered, fence_at, is_return, line_of, LineText, passed, StateText, without_returns}
 use Rattle.textwrap_marked.specs.Pieces.{words_of}
 use Rattle.textwrap_marked.specs.Reflow.{break_white, ending_if, filled_end, IsFilled, IsLaidOut, printed}
 use Rattle.textwrap_marked.specs.Signs.{first_word, opens_paragraph}
@@ -60,6 +60,16 @@ spread-tail word (next ∷ words) end r white =
           ∙ append_assoc word (blank ∷ []) (rest ++ return_if r),
       refl,
     )
+
+-- the same of its text alone
+text-end : (word : List ℕ) (words : List (List ℕ)) (end : List ℕ) → All IsWhite end
+    → (tail : List ℕ) × (spaced_text (spread (word ∷ words) end) ≡ word ++ tail) × EndsText tail
+text-end word [] [] white = ([], append-nil (word ++ []), tt)
+text-end word [] (c ∷ end) white =
+    (c ∷ end, append-nil (word ++ c ∷ end), All-head IsWhite c end white)
+text-end word (next ∷ words) end white =
+    let rest = spaced_text (spread (next ∷ words) end) in
+    (blank ∷ rest, append_assoc word (blank ∷ []) rest, refl)
 
 end-white : (end : List ℕ) → All IsWhite end → (lines : List (List (List ℕ)))
     → All IsWhite (text_end end lines)
@@ -92,37 +102,39 @@ words-feedless (line ∷ lines) all =
 
 module _ (options : ReflowOptions) (none : options.ending ≡ None) (returns : Bool) (state : StateText)
     (raw : List ℕ) (first : LineText) (lines : List LineText) (bs : List (List LineText))
-    (p : IsParagraph options (entered state raw) raw first lines (flat bs)) (beside : Bool) where
+    (p : IsParagraph options (entered state (without_returns raw)) raw first lines (flat bs)) (beside : Bool) where
   abbrev here : LineText
-  here = first_of options (entered state raw) raw first lines (flat bs) p
+  here = first_of options (entered state (without_returns raw)) raw first lines (flat bs) p
 
   abbrev block_here : Bool
-  block_here = block_of options (entered state raw) raw first lines (flat bs) p
+  block_here = block_of options (entered state (without_returns raw)) raw first lines (flat bs) p
 
   abbrev final : LineText
   final = last_line here lines
 
   letter : has_letter (first_word p.ws) ≡ true
   letter =
-      text-letter here.starred (first_word p.ws) (first-begins options (entered state raw) raw p.fed p.lead
+      text-letter here.starred (first_word p.ws) (first-begins options (entered state (without_returns raw)) raw p.fed p.lead
       p.cs p.qs p.bs p.ws p.has p.apart)
 
   -- where its first line is another one, no fence is open either
   enters-same : (word : List ℕ) (words : List (List ℕ)) (end : List ℕ) (r : Bool) → All IsWhite end
-      → first_word p.ws ≡ word → IsSafe options state
-      → entered state ((here.prefix ++ spaced_text (spread (word ∷ words) end)) ++ return_if r)
-      ≡ entered state raw
-  enters-same word words end r white same safe =
-      let at = entered state raw in
-      let (tail, is, ends) = spread-tail word words end r white in
-      let new = (here.prefix ++ spaced_text (spread (word ∷ words) end)) ++ return_if r in
+      → first_word p.ws ≡ word → AreTextWords block_here (word ∷ words) → IsSafe options state
+      → entered state (without_returns
+      ((here.prefix ++ spaced_text (spread (word ∷ words) end)) ++ return_if r))
+      ≡ entered state (without_returns raw)
+  enters-same word words end r white same are safe =
+      let at = entered state (without_returns raw) in
+      let spaced = spaced_text (spread (word ∷ words) end) in
+      let (tail, is, ends) = text-end word words end white in
       let old = first-unfenced options at raw p.fed p.lead p.cs p.qs p.bs p.ws p.has p.apart in
       let text = first-text options at raw p.fed p.lead p.cs p.qs p.bs p.ws p.has p.apart in
-      let whole : here.prefix ++ (first_word p.ws ++ tail) ≡ new =
-      ap (λ w. here.prefix ++ (w ++ tail)) same ∙ ap (λ l. here.prefix ++ l) (sym is)
-      ∙ sym (append_assoc here.prefix (spaced_text (spread (word ∷ words) end)) (return_if r)) in
-      let left : fence_at state.fence new ≡ None =
-      ap (fence_at state.fence) (sym whole)
+      let cut : without_returns ((here.prefix ++ spaced) ++ return_if r) ≡ here.prefix ++ spaced =
+      raw-text block_here here.prefix word words end r are.plain are.columns white in
+      let whole : here.prefix ++ (first_word p.ws ++ tail) ≡ here.prefix ++ spaced =
+      ap (λ w. here.prefix ++ (w ++ tail)) same ∙ ap (λ l. here.prefix ++ l) (sym is) in
+      let left : fence_at state.fence (without_returns ((here.prefix ++ spaced) ++ return_if r)) ≡ None =
+      ap (fence_at state.fence) (cut ∙ sym whole)
       ∙ still-left options state raw p.lead p.cs p.qs p.bs p.ws text.starred tail p.has text.some text.begins
       safe ends old in
       ap (λ f. record state { fence = f }) (left ∙ sym old)
@@ -135,7 +147,7 @@ module _ (options : ReflowOptions) (none : options.ending ≡ None) (returns : B
   in-place word words end r news white same are ends =
       let text = spaced_text (spread (word ∷ words) end) in
       let (tail, is, ends_word) = spread-tail word words end r white in
-      let own = first-text options (entered state raw) raw p.fed p.lead p.cs p.qs p.bs p.ws p.has p.apart in
+      let own = first-text options (entered state (without_returns raw)) raw p.fed p.lead p.cs p.qs p.bs p.ws p.has p.apart in
       let list = p.cs ++ (p.qs ++ p.bs) in
       let (old_tail, old, old_ends) = text-tail raw p.lead list p.ws own.some
       (p.has.text.is ∙ ap (λ l. p.lead ++ spaced_text l) (regroup p.cs p.qs p.bs p.ws)) own.spaced in
@@ -170,7 +182,7 @@ module _ (options : ReflowOptions) (none : options.ending ≡ None) (returns : B
       → IsReadBack options none returns state beside ((here ∷ lines) ∷ bs) raws (front ++ back)
   filled-lines front back word words later_words ls line division raws left whole (one, stops, are) stay
       is may cut parts shown safe free later =
-      let at = entered state raw in
+      let at = entered state (without_returns raw) in
       let rest = flat bs in
       let others = flat later.blocks in
       let end = break_white final in
@@ -190,9 +202,11 @@ module _ (options : ReflowOptions) (none : options.ending ≡ None) (returns : B
       let first_is : first_word p.ws ≡ word =
       first-of-words p.ws (words_of lines) word (words ++ later_words)
       (first-text options at raw p.fed p.lead p.cs p.qs p.bs p.ws p.has p.apart).some parts in
-      let enters : entered state new_raw ≡ at =
+      let mine = here-words options block_here here.starred word words later_words ls cut
+      (subst (AreTextWords block_here) parts p.walked.words) in
+      let enters : entered state (without_returns new_raw) ≡ at =
       enters-same word words (text_end end ls) (returns_at returns more ls) (end-white end white ls) first_is
-      safe in
+      mine safe in
       let head : IsHeadAlike here new = record {
         prefix = alike.prefix;
         hangs = alike.hangs;
@@ -265,9 +279,7 @@ module _ (options : ReflowOptions) (none : options.ending ≡ None) (returns : B
         begun = subst (λ l. AreBegun returns l (new_raw ∷ raws_new)) (sym whole)
             (inr (in-place word words (text_end end ls) (returns_at returns more ls) raws_new
             (end-white end white ls) first_is
-            (here-words options block_here here.starred word words later_words ls cut
-            (subst (AreTextWords block_here) parts p.walked.words))
-            (followed returns end here.hanging later.again ls)));
+            mine (followed returns end here.hanging later.again ls)));
       }
 
   -- by the lines of a division of its pieces
@@ -313,7 +325,7 @@ module _ (options : ReflowOptions) (none : options.ending ≡ None) (returns : B
       all-right IsFeedless p.walked.done p.walked.left
       (subst (All IsFeedless) (sym same ∙ p.walked.whole) all_left) in
       filled-division front back ls division raws left whole blocks stay is cut shown safe lines_free
-      (walks behind p.walked.left back p.walked.reads laid (safe-none options behind safe.0 refl) free_left)
+      (walks behind p.walked.left back p.walked.reads laid (safe-none options behind refl) free_left)
 
   -- the same of the line that is read
   pub filled-step : (front back : List ℕ) (raws left : List (List ℕ)) → raws ≡ raw ∷ left

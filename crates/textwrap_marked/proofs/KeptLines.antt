@@ -5,6 +5,7 @@ use Rattle.textwrap_base.proofs.Common.{length, lt-ltb, nat_lt, suc, None, refl,
 use Rattle.std.specs.Prelude.{bytes_eq}
 use Rattle.textwrap_marked.proofs.FenceMarks.{IsSafe, safe-passed}
 use Rattle.textwrap_marked.proofs.TextBlocks.{line_at, peel, read, read-more, title_of}
+use Rattle.textwrap_marked.specs.Lines.{without_returns}
 use Rattle.textwrap_marked.specs.Lines.{as_title, entered, line_of, LineText, passed, StateText}
 use Rattle.textwrap_marked.specs.Reflow.{ending_if, kept_line}
 use Rattle.textwrap_marked.specs.Signs.{first_word, is_rule, opens_paragraph}
@@ -102,7 +103,7 @@ module _ (options : ReflowOptions) where
       let peeled = peel options state raws line (lines ++ rest) is in
       let raw = peeled.raw in
       let here = line_at options state raw peeled.left in
-      let later = keep lines (passed (entered state raw) here) peeled.left rest
+      let later = keep lines (passed (entered state (without_returns raw)) here) peeled.left rest
       (safe-passed options state raw (nat_lt 0 (length peeled.left)) safe) peeled.later in
       let fed : (more : List (List ℕ)) → nat_lt 0 (length more) ≡ nat_lt 0 (length later.left)
       → nat_lt 0 (length (later.kept ++ more)) ≡ nat_lt 0 (length peeled.left) =
@@ -120,9 +121,9 @@ module _ (options : ReflowOptions) where
             ∙ ap (λ b. as_title b here) (sym (title-heads here here (lines ++ rest) (lines ++ others)
             (heads-behind lines rest others heads) refl)))
             ∙ ap (λ l. as_title (title_of here l) here ∷ l) (later.again others more read_others heads same)
-            ∙ ap (λ l. as_title (title_of l (read options (passed (entered state raw) l) (later.kept ++ more))) l
-            ∷ read options (passed (entered state raw) l) (later.kept ++ more))
-            (ap (λ b. line_of options (entered state raw) raw b) (sym (fed more same)))
+            ∙ ap (λ l. as_title (title_of l (read options (passed (entered state (without_returns raw)) l) (later.kept ++ more))) l
+            ∷ read options (passed (entered state (without_returns raw)) l) (later.kept ++ more))
+            (ap (λ b. line_of options (entered state (without_returns raw)) raw b) (sym (fed more same)))
             ∙ sym (read-more options state raw (later.kept ++ more));
         text = λ more same.
             append_assoc (kept_line None line) (flat_map (kept_line None) lines) (join_with_byte 10 more)

@@ -17,6 +17,7 @@ use Rattle.textwrap_marked.proofs.SpreadWords.{last_text, spread-columns, spread
 use Rattle.textwrap_marked.proofs.TextBlocks.{AreOneBlock, AreTextWords, IsWalked, last_line}
 use Rattle.textwrap_marked.proofs.TextBlocks.{line_at, peel, read, title_of, untitled, walk}
 use Rattle.textwrap_marked.proofs.WordEnds.{spread-free}
+use Rattle.textwrap_marked.specs.Lines.{without_returns}
 use Rattle.textwrap_marked.specs.Lines.{entered, line_of, LineText, passed, StateText}
 use Rattle.textwrap_marked.specs.Pieces.{words_of}
 use Rattle.textwrap_marked.specs.Signs.{begins_text, first_word, last_white}
@@ -50,11 +51,11 @@ module _ (options : ReflowOptions) where
       (lines rest : List LineText) → first ∷ (lines ++ rest) ≡ read options state raws
       → first.apart ≡ false → AreOneBlock first lines
       → (raw : List ℕ) × (left : List (List ℕ)) × (raws ≡ raw ∷ left)
-      × (p : IsParagraph (entered state raw) raw first lines rest) × (p.behind ≡ left)
+      × (p : IsParagraph (entered state (without_returns raw)) raw first lines rest) × (p.behind ≡ left)
   paragraph-at state raws first lines rest reads apart one =
       let peeled = peel options state raws first (lines ++ rest) reads in
       let raw = peeled.raw in
-      let at = entered state raw in
+      let at = entered state (without_returns raw) in
       let fed = nat_lt 0 (length peeled.left) in
       let read_line = line_at options state raw peeled.left in
       let (same, free, plain) =

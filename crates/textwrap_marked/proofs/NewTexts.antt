@@ -12,7 +12,7 @@ use Rattle.textwrap_marked.proofs.Feedless.{IsFeedless}
 use Rattle.textwrap_marked.proofs.SameParts.{from-other, laid-other, width-same}
 use Rattle.textwrap_marked.proofs.TextBack.{AreReadBack, returns_by, text-back}
 use Rattle.textwrap_marked.specs.Blocks.{blocks}
-use Rattle.textwrap_marked.specs.Laws.{AreSameParts, LackReturns, behind_mark, KeepsEnding, text_parts}
+use Rattle.textwrap_marked.specs.Laws.{AreSameParts, behind_mark, KeepsEnding, text_parts}
 use Rattle.textwrap_marked.specs.Lines.{first_state, lines_of, read_lines, with_titles}
 use Rattle.textwrap_marked.specs.Reflow.{byte_order_mark, filled_ending, IsLaidOut, IsReflowed}
 use Rattle.textwrap_marked.specs.Reflow.{IsReflowedBehind, IsReflowedFrom}
@@ -46,14 +46,13 @@ ends-feed LF = ([], refl)
 ends-feed CRLF = (13 ∷ [], refl)
 
 -- the new text stays, whatever its own ending is
-from-stays : (options : ReflowOptions) → options.ending ≡ None → LackReturns options
-    → (text reflowed : List ℕ) → IsReflowedFrom options text reflowed
+from-stays : (options : ReflowOptions) → options.ending ≡ None → (text reflowed : List ℕ) → IsReflowedFrom options text reflowed
     → IsReflowedFrom options reflowed reflowed
-from-stays options none signs text reflowed laid =
+from-stays options none text reflowed laid =
     more (nat_lt 0 (length r.raws)) refl r.raws refl
   where
     r : AreReadBack options none (returns_by (filled_ending options.ending text)) text reflowed
-    r = text-back options none signs text reflowed laid
+    r = text-back options none text reflowed laid
 
     again : IsLaidOut options (ending_bytes (filled_ending options.ending text)) false
         (blocks (lines_of options reflowed)) reflowed
@@ -98,7 +97,7 @@ marked : (rest whole : List ℕ) → whole ≡ byte_order_mark ++ rest
     → starts_with nat_eq whole byte_order_mark ≡ true
 marked rest whole is = ap (λ t. starts_with nat_eq t byte_order_mark) is
 
-module _ (options : ReflowOptions) (none : options.ending ≡ None) (signs : LackReturns options) where
+module _ (options : ReflowOptions) (none : options.ending ≡ None) where
   pub parts-kept : (text reflowed : List ℕ) → IsReflowed options text reflowed
       → AreSameParts (text_parts options (behind_mark text)) (text_parts options (behind_mark reflowed))
   parts-kept text reflowed = cut (starts_with nat_eq text byte_order_mark) refl
@@ -116,9 +115,9 @@ module _ (options : ReflowOptions) (none : options.ending ≡ None) (signs : Lac
       cut true is (rest, laid, whole) =
           goal (drop 3 text) rest (begins-so text true is)
           (begins-so reflowed true (marked rest reflowed whole) ∙ ap (drop 3) whole)
-          (text-back options none signs (drop 3 text) rest laid).same
+          (text-back options none (drop 3 text) rest laid).same
       cut false is laid =
-          let r = text-back options none signs text reflowed laid in
+          let r = text-back options none text reflowed laid in
           goal text reflowed (begins-so text false is)
           (begins-so reflowed false (begins-alike options none _ text reflowed r ∙ is)) r.same
 
@@ -132,14 +131,14 @@ module _ (options : ReflowOptions) (none : options.ending ≡ None) (signs : Lac
           subst (λ b. IsReflowedBehind b options reflowed reflowed) (sym (marked rest reflowed whole)) (
             rest,
             subst (λ t. IsReflowedFrom options t rest) (sym (ap (drop 3) whole))
-                (from-stays options none signs (drop 3 text) rest laid),
+                (from-stays options none (drop 3 text) rest laid),
             whole,
           )
       cut false is laid =
-          let r = text-back options none signs text reflowed laid in
+          let r = text-back options none text reflowed laid in
           subst (λ b. IsReflowedBehind b options reflowed reflowed)
           (sym (begins-alike options none _ text reflowed r ∙ is))
-          (from-stays options none signs text reflowed laid)
+          (from-stays options none text reflowed laid)
 
   -- ---- another width first
 
@@ -149,12 +148,12 @@ module _ (options : ReflowOptions) (none : options.ending ≡ None) (signs : Lac
       → IsReflowedFrom (record options { width = width; algorithm = algorithm }) text between
       → IsReflowedFrom options between reflowed → IsReflowedFrom options text reflowed
   widths-from width algorithm text between reflowed ends laid second =
-      from-other options text between (width-same options width algorithm none signs text between laid)
+      from-other options text between (width-same options width algorithm none text between laid)
       (same (nat_lt 0 (length r.raws)) refl r.raws refl) reflowed second
     where
       r : AreReadBack (record options { width = width; algorithm = algorithm }) none
           (returns_by (filled_ending options.ending text)) text between
-      r = text-back (record options { width = width; algorithm = algorithm }) none signs text between laid
+      r = text-back (record options { width = width; algorithm = algorithm }) none text between laid
 
       same : (b : Bool) → nat_lt 0 (length r.raws) ≡ b → (raws : List (List ℕ)) → r.raws ≡ raws
           → filled_ending options.ending between ≡ filled_ending options.ending text
@@ -199,7 +198,7 @@ module _ (options : ReflowOptions) (none : options.ending ≡ None) (signs : Lac
             shown,
           )
       cut false is laid second =
-          let r = text-back (record options { width = width; algorithm = algorithm }) none signs text
+          let r = text-back (record options { width = width; algorithm = algorithm }) none text
           between laid in
           let begins = begins-alike (record options { width = width; algorithm = algorithm }) none _ text
           between r ∙ is in

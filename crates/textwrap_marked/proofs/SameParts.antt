@@ -7,8 +7,9 @@ use Rattle.textwrap_lines.specs.LineEnding.{ending_bytes}
 use Rattle.textwrap_marked.proofs.TextBack.{text-back}
 use Rattle.textwrap_marked.specs.Blocks.{blocks, is_beside}
 use Rattle.textwrap_marked.specs.Columns.{columns}
-use Rattle.textwrap_marked.specs.Laws.{AreNewParts, AreSameParts, LackReturns}
+use Rattle.textwrap_marked.specs.Laws.{AreNewParts, AreSameParts}
 use Rattle.textwrap_marked.specs.Laws.{IsSameBy, Part, parts_from, text_parts}
+use Rattle.textwrap_marked.specs.Lines.{without_returns}
 use Rattle.textwrap_marked.specs.Lines.{entered, first_state, line_of, lines_of, LineText, passed, read_lines}
 use Rattle.textwrap_marked.specs.Lines.{StateText, with_titles}
 use Rattle.textwrap_marked.specs.Pieces.{pieces, words_of}
@@ -145,7 +146,7 @@ module _ (options : ReflowOptions) (width : ℕ) (algorithm : Algorithm) where
       → read_lines others state raws ≡ read_lines options state raws
   lines-same [] state = refl
   lines-same (raw ∷ raws) state =
-      let at = entered state raw in
+      let at = entered state (without_returns raw) in
       let line = line_of options at raw (nat_lt 0 (length raws)) in
       ap (λ ls. line ∷ ls) (lines-same raws (passed at line))
 
@@ -154,10 +155,10 @@ module _ (options : ReflowOptions) (width : ℕ) (algorithm : Algorithm) where
       ap (λ ls. parts_from false (blocks (with_titles ls)))
       (lines-same (slice_split (λ c. c == 10) text) first_state)
 
-  pub width-same : options.ending ≡ None → LackReturns options → (text between : List ℕ)
+  pub width-same : options.ending ≡ None → (text between : List ℕ)
       → IsReflowedFrom others text between
       → AreSameParts (text_parts options text) (text_parts options between)
-  width-same none signs text between laid =
+  width-same none text between laid =
       subst (λ p. AreSameParts p (text_parts options between)) (parts-same text)
       (subst (AreSameParts (text_parts others text)) (parts-same between)
-      (text-back others none signs text between laid).same)
+      (text-back others none text between laid).same)

@@ -18,7 +18,7 @@ use Rattle.textwrap_marked.proofs.ReturnsOff.{return_if}
 use Rattle.textwrap_marked.proofs.TextBlocks.{read, read-more}
 use Rattle.textwrap_marked.proofs.TextParts.{blocks-flat}
 use Rattle.textwrap_marked.specs.Blocks.{blocks, is_beside, stays}
-use Rattle.textwrap_marked.specs.Laws.{AreSameParts, LackReturns, parts_from, text_parts}
+use Rattle.textwrap_marked.specs.Laws.{AreSameParts, parts_from, text_parts}
 use Rattle.textwrap_marked.specs.Lines.{first_state, lines_of, LineText, StateText}
 use Rattle.textwrap_marked.specs.Reflow.{filled_ending, IsLaidOut, IsOfBlock, IsReflowedFrom}
 use Rattle.textwrap_marked.specs.declared.options.ReflowOptions.{ReflowOptions}
@@ -108,14 +108,14 @@ module _ (options : ReflowOptions) (none : options.ending ≡ None) (returns : B
         feedless = subst (All IsFeedless) some r.feedless;
       }
 
-  pub parts-back : LackReturns options → (text reflowed : List ℕ)
+  pub parts-back : (text reflowed : List ℕ)
       → IsLaidOut options (ending options none returns) false (blocks (lines_of options text)) reflowed
       → AreReadBack text reflowed
-  parts-back signs text reflowed laid =
+  parts-back text reflowed laid =
       let raws = slice_split (λ c. c == 10) text in
       let r = walk-blocks (blocks (lines_of options text)) false (blocks-are (lines_of options text))
       first_state raws reflowed (blocks-flat (lines_of options text)) laid
-      (safe-none options first_state signs refl) (split-feedless text) in
+      (safe-none options first_state refl) (split-feedless text) in
       some r r.again refl
     where
       some : (r : IsReadBack options none returns first_state false (blocks (lines_of options text))
@@ -138,10 +138,10 @@ bytes-by : (e : LineEnding) → ending_bytes e ≡ return_if (returns_by e) ++ 1
 bytes-by LF = refl
 bytes-by CRLF = refl
 
-pub text-back : (options : ReflowOptions) (none : options.ending ≡ None) → LackReturns options → (text reflowed : List ℕ)
+pub text-back : (options : ReflowOptions) (none : options.ending ≡ None) → (text reflowed : List ℕ)
     → IsReflowedFrom options text reflowed
     → AreReadBack options none (returns_by (filled_ending options.ending text)) text reflowed
-text-back options none signs text reflowed laid =
+text-back options none text reflowed laid =
     let e = filled_ending options.ending text in
-    parts-back options none (returns_by e) signs text reflowed
+    parts-back options none (returns_by e) text reflowed
     (subst (λ b. IsLaidOut options b false (blocks (lines_of options text)) reflowed) (bytes-by e) laid)

@@ -12,6 +12,7 @@ use Rattle.textwrap_marked.proofs.SpacedBack.{AreSpaced}
 use Rattle.textwrap_marked.proofs.SpreadWords.{front-more, last-more, last_text}
 use Rattle.textwrap_marked.proofs.WordsIn.{IsPlain}
 use Rattle.textwrap_marked.specs.Blocks.{goes_on}
+use Rattle.textwrap_marked.specs.Lines.{without_returns}
 use Rattle.textwrap_marked.specs.Lines.{as_title, entered, is_ended, is_title, line_of, LineText, passed}
 use Rattle.textwrap_marked.specs.Lines.{read_lines, StateText, with_titles}
 use Rattle.textwrap_marked.specs.Pieces.{words_of}
@@ -60,15 +61,15 @@ module _ (options : ReflowOptions) where
   read state raws = with_titles (read_lines options state raws)
 
   abbrev pub line_at : StateText → List ℕ → List (List ℕ) → LineText
-  line_at state raw raws = line_of options (entered state raw) raw (nat_lt 0 (length raws))
+  line_at state raw raws = line_of options (entered state (without_returns raw)) raw (nat_lt 0 (length raws))
 
   pub read-more : (state : StateText) (raw : List ℕ) (raws : List (List ℕ))
       → let line = line_at state raw raws in
-      let later = read (passed (entered state raw) line) raws in
+      let later = read (passed (entered state (without_returns raw)) line) raws in
       read state (raw ∷ raws) ≡ as_title (title_of line later) line ∷ later
   read-more state raw raws =
       let line = line_at state raw raws in
-      let later = read_lines options (passed (entered state raw) line) raws in
+      let later = read_lines options (passed (entered state (without_returns raw)) line) raws in
       titles-more line later
       ∙ ap (λ b. as_title b line ∷ with_titles later) (sym (title-same line later))
 
@@ -79,14 +80,14 @@ module _ (options : ReflowOptions) where
     pub left : List (List ℕ)
     pub whole : raws ≡ raw ∷ left
     pub here : line ≡ as_title (title_of (line_at state raw left) lines) (line_at state raw left)
-    pub later : lines ≡ read (passed (entered state raw) (line_at state raw left)) left
+    pub later : lines ≡ read (passed (entered state (without_returns raw)) (line_at state raw left)) left
 
   pub peel : (state : StateText) (raws : List (List ℕ)) (line : LineText) (lines : List LineText)
       → line ∷ lines ≡ read state raws → IsPeeled state line lines raws
   peel state [] line lines is = absurd (omega (arith, ap length is))
   peel state (raw ∷ raws) line lines is =
       let here = line_at state raw raws in
-      let behind = read (passed (entered state raw) here) raws in
+      let behind = read (passed (entered state (without_returns raw)) here) raws in
       let whole : line ∷ lines ≡ as_title (title_of here behind) here ∷ behind =
       is ∙ read-more state raw raws in
       let later : lines ≡ behind = ap rest_of whole in record {

@@ -13,7 +13,7 @@ use Rattle.textwrap_marked.specs.Lines.{LineText, lines_of}
 use Rattle.textwrap_marked.specs.Pieces.{pieces, words_of}
 use Rattle.textwrap_marked.specs.Reflow.{byte_order_mark, filled_end, filled_ending}
 use Rattle.textwrap_marked.specs.Reflow.{IsReflowed, kept_line, kept_text, printed}
-use Rattle.textwrap_marked.specs.Words.{has_byte, has_bytes, is_white}
+use Rattle.textwrap_marked.specs.Words.{has_bytes, is_white}
 use Rattle.textwrap_marked.specs.declared.options.Algorithm.{Algorithm}
 use Rattle.textwrap_marked.specs.declared.options.Algorithm.TheVariants.{FirstFit, LeastCost}
 use Rattle.textwrap_marked.specs.declared.options.ReflowOptions.{ReflowOptions}
@@ -207,10 +207,6 @@ AreSameParts (part ∷ parts) [] = ⊥
 AreSameParts (part ∷ parts) (other ∷ others) =
     IsSameBy part.stays part other × AreSameParts parts others
 
--- no declared mark has a carriage return
-abbrev pub LackReturns : ReflowOptions → Type 0
-LackReturns options = All (λ mark. has_byte 13 mark.now ≡ false) options.markers.now
-
 -- what follows a byte order mark, if there is one
 abbrev pub behind_mark : List ℕ → List ℕ
 behind_mark text = if starts_with nat_eq text byte_order_mark then drop 3 text else text
@@ -228,21 +224,21 @@ KeepsEnding options text other =
 -- the new text, read again, has the parts of the text, if no ending is asked for
 abbrev pub PartsAreKept : Type 0
 PartsAreKept =
-    (options : ReflowOptions) → options.ending ≡ None → LackReturns options
+    (options : ReflowOptions) → options.ending ≡ None
     → (text reflowed : List ℕ) → IsReflowed options text reflowed
     → AreSameParts (text_parts options (behind_mark text)) (text_parts options (behind_mark reflowed))
 
 -- the new text, reflowed by the same options, stays as it is
 abbrev pub ReflowedTextsStay : Type 0
 ReflowedTextsStay =
-    (options : ReflowOptions) → options.ending ≡ None → LackReturns options
+    (options : ReflowOptions) → options.ending ≡ None
     → (text reflowed : List ℕ) → IsReflowed options text reflowed
     → IsReflowed options reflowed reflowed
 
 -- what a text becomes that was reflowed at another width, by any algorithm, it becomes at once
 abbrev pub EarlierWidthsMakeNoDifference : Type 0
 EarlierWidthsMakeNoDifference =
-    (options : ReflowOptions) → options.ending ≡ None → LackReturns options
+    (options : ReflowOptions) → options.ending ≡ None
     → (width : ℕ) (algorithm : Algorithm) (text between reflowed : List ℕ)
     → KeepsEnding options text between
     → IsReflowed (record options { width = width; algorithm = algorithm }) text between

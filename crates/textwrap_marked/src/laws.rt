@@ -42,9 +42,6 @@ pub fn words_are_kept()
 /// The new text, read again, is read as the text was, if no ending is asked for: block by block and in
 /// order the same lines that stay, byte for byte, and the same paragraphs, each with its prefix, its
 /// hanging form, its words, and what stands behind its last line.
-///
-/// No declared mark may have a carriage return: that of a line's ending would be taken for its own where
-/// the marks before a fence are looked for.
 pub fn parts_are_kept()
     ensures { PartsAreKept }
 {}

@@ -1,7 +1,8 @@
 -- Blocks in the place of others that begin alike.
-use Rattle.textwrap_base.proofs.Common.{◌≡◌, ◌||◌, not, Bool, List, [], ◌∷◌, ap}
+use Rattle.textwrap_base.proofs.Common.{Option, ◌≡◌, ◌||◌, not, Bool, List, [], ◌∷◌, ap}
 use Rattle.textwrap_base.proofs.Common.{refl, subst, sym, ◌∙◌}
 use Rattle.textwrap_base.proofs.Lists.Parts.{flat}
+use Rattle.textwrap_lines.specs.declared.line_ending.LineEnding.{LineEnding}
 use Rattle.textwrap_marked.proofs.BlockOrder.{AreBlocks, StopsAt}
 use Rattle.textwrap_marked.proofs.KeptLines.{AreHeads, IsHeadAlike}
 use Rattle.textwrap_marked.specs.Blocks.{goes_on, is_beside, stays}
@@ -41,22 +42,22 @@ beside-same line other ((next ∷ lines) ∷ bs) ((one ∷ ones) ∷ cs) are be 
 abbrev pub part_of : Bool → LineText → List LineText → Part
 part_of is_kept first lines = record { stays = is_kept; first = first; lines = first ∷ lines }
 
-pub part-cons : (beside : Bool) (first other : LineText) (lines others : List LineText)
+pub part-cons : (e : Option LineEnding) (beside : Bool) (first other : LineText) (lines others : List LineText)
     (bs cs : List (List LineText)) → IsHeadAlike first other → AreBlocks bs → AreBlocks cs
     → AreHeads (flat bs) (flat cs)
-    → AreSameParts (parts_from (is_beside first bs) bs) (parts_from (is_beside first bs) cs)
-    → IsSameBy (stays (beside || is_beside first bs) first)
+    → AreSameParts e (parts_from (is_beside first bs) bs) (parts_from (is_beside first bs) cs)
+    → IsSameBy e (stays (beside || is_beside first bs) first)
     (part_of (stays (beside || is_beside first bs) first) first lines)
     (part_of (stays (beside || is_beside first bs) first) other others)
-    → AreSameParts (parts_from beside ((first ∷ lines) ∷ bs)) (parts_from beside ((other ∷ others) ∷ cs))
-part-cons beside first other lines others bs cs same are be heads later here =
+    → AreSameParts e (parts_from beside ((first ∷ lines) ∷ bs)) (parts_from beside ((other ∷ others) ∷ cs))
+part-cons e beside first other lines others bs cs same are be heads later here =
     let next = beside-same first other bs cs are be heads same in
     let kept : stays (beside || is_beside other cs) other ≡ stays (beside || is_beside first bs) first =
     ap (λ n. other.apart || not other.chosen || (beside || n)) next
     ∙ ap (λ a. a || not other.chosen || (beside || is_beside first bs)) same.apart
     ∙ ap (λ c. first.apart || not c || (beside || is_beside first bs)) same.chosen in (
-      subst (λ k. IsSameBy (stays (beside || is_beside first bs) first)
+      subst (λ k. IsSameBy e (stays (beside || is_beside first bs) first)
           (part_of (stays (beside || is_beside first bs) first) first lines) (part_of k other others))
           (sym kept) here,
-      subst (λ n. AreSameParts (parts_from (is_beside first bs) bs) (parts_from n cs)) (sym next) later,
+      subst (λ n. AreSameParts e (parts_from (is_beside first bs) bs) (parts_from n cs)) (sym next) later,
     )

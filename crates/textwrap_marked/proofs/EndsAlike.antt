@@ -1,5 +1,5 @@
 -- How filled lines of a new text end.
-use Rattle.textwrap_base.proofs.Common.{◌≡◌, ℕ, ◌&&◌, Bool, true, false, cond, List, [], ◌∷◌, ◌++◌, ◌==◌}
+use Rattle.textwrap_base.proofs.Common.{Option, Some, ◌≡◌, ℕ, ◌&&◌, Bool, true, false, cond, List, [], ◌∷◌, ◌++◌, ◌==◌}
 use Rattle.textwrap_base.proofs.Common.{All, All-head, ap, append_assoc, arith, codes, ends_with, flat_map, inl, inr, length}
 use Rattle.textwrap_base.proofs.Common.{nat_eq, nat_lt, None, refl, slice_split, subst, sym, true≢false, ◌∙◌}
 use Rattle.textwrap_base.proofs.Lists.Parts.{all-left, all-right}
@@ -11,7 +11,8 @@ use Rattle.textwrap_lines.specs.declared.line_ending.LineEnding.TheVariants.{CRL
 use Rattle.textwrap_marked.proofs.BegunAlike.{AreBegun}
 use Rattle.textwrap_marked.proofs.Feedless.{NoFeed}
 use Rattle.textwrap_marked.proofs.PrintedText.{filled-last}
-use Rattle.textwrap_marked.proofs.TextBack.{AreReadBack, returns_by}
+use Rattle.textwrap_marked.proofs.AnewLines.{returns_by}
+use Rattle.textwrap_marked.proofs.TextBack.{IsTextBack}
 use Rattle.textwrap_marked.specs.Blocks.{stays}
 use Rattle.textwrap_marked.specs.Lines.{LineText}
 use Rattle.textwrap_marked.specs.Reflow.{break_white, ending_if, ending_of, filled_end, filled_ending, first_ending}
@@ -34,27 +35,36 @@ first-same raw new raws news (inr place) some =
     ∙ ap (λ b. cond (true && b) CRLF LF) (place.ends some)
     ∙ ending-by (ending_of raw (nat_lt 0 (length raws)))
 
-pub ends-alike : (options : ReflowOptions) (none : options.ending ≡ None) (text reflowed : List ℕ)
-    → (r : AreReadBack options none (returns_by (filled_ending options.ending text)) text reflowed)
-    → nat_lt 0 (length r.raws) ≡ true
-    → filled_ending options.ending reflowed ≡ filled_ending options.ending text
-ends-alike options none text reflowed r some =
-    ap (λ e. filled_ending e reflowed) none ∙ ap first_ending r.split
-    ∙ first (slice_split (λ c. c == 10) text) refl
-    (subst (λ e. AreBegun (returns_by (filled_ending e text)) (slice_split (λ c. c == 10) text)
-    (r.raw ∷ r.raws)) none r.begun)
-    ∙ sym (ap (λ e. filled_ending e text) none)
+first-ends : (text : List ℕ) (raw : List ℕ) (raws : List (List ℕ))
+    → AreBegun (returns_by (first_ending (slice_split (λ c. c == 10) text)))
+    (slice_split (λ c. c == 10) text) (raw ∷ raws) → nat_lt 0 (length raws) ≡ true
+    → first_ending (raw ∷ raws) ≡ first_ending (slice_split (λ c. c == 10) text)
+first-ends text raw raws begun some = first (slice_split (λ c. c == 10) text) refl begun
   where
     first : (parts : List (List ℕ)) → slice_split (λ c. c == 10) text ≡ parts
         → AreBegun (returns_by (first_ending (slice_split (λ c. c == 10) text)))
-        (slice_split (λ c. c == 10) text) (r.raw ∷ r.raws)
-        → first_ending (r.raw ∷ r.raws) ≡ first_ending (slice_split (λ c. c == 10) text)
+        (slice_split (λ c. c == 10) text) (raw ∷ raws)
+        → first_ending (raw ∷ raws) ≡ first_ending (slice_split (λ c. c == 10) text)
     first [] is begun =
         absurd (omega (arith, length-slice_split (λ c. c == 10) text, ap length is))
     first (part ∷ parts) is begun =
-        first-same part r.raw parts r.raws
-        (subst (λ l. AreBegun (returns_by (first_ending l)) l (r.raw ∷ r.raws)) is begun) some
+        first-same part raw parts raws
+        (subst (λ l. AreBegun (returns_by (first_ending l)) l (raw ∷ raws)) is begun) some
         ∙ ap first_ending (sym is)
+
+ends-by : (e : Option LineEnding) (text reflowed raw : List ℕ) (raws : List (List ℕ))
+    → slice_split (λ c. c == 10) reflowed ≡ raw ∷ raws
+    → AreBegun (returns_by (filled_ending e text)) (slice_split (λ c. c == 10) text) (raw ∷ raws)
+    → nat_lt 0 (length raws) ≡ true → filled_ending e reflowed ≡ filled_ending e text
+ends-by (Some e) text reflowed raw raws split begun some = refl
+ends-by None text reflowed raw raws split begun some =
+    ap first_ending split ∙ first-ends text raw raws begun some
+
+pub ends-alike : (options : ReflowOptions) (text reflowed : List ℕ)
+    → (r : IsTextBack options text reflowed) → nat_lt 0 (length r.raws) ≡ true
+    → filled_ending options.ending reflowed ≡ filled_ending options.ending text
+ends-alike options text reflowed r some =
+    ends-by options.ending text reflowed r.raw r.raws r.split r.begun some
 
 -- ---- a single line has no ending
 

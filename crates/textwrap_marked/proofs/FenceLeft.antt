@@ -196,6 +196,28 @@ module _ (options : ReflowOptions) (in_block : Bool) (marks : List SpacedText) (
           ∙ ap (λ l. l ++ (c ∷ (d ++ others))) begun-text
           ∙ append_assoc (spaced_text marks) word (c ∷ (d ++ others)))
 
+-- the carriage returns at the end of a line
+pub returned : (raw : List ℕ) → EndsWord (drop (length raw - suffix_len is_return raw) raw)
+returned raw = cut (suffix_len is_return raw) refl
+  where
+    either : (b : Bool) → (b || true) ≡ true
+    either true = refl
+    either false = refl
+
+    cut : (s : ℕ) → suffix_len is_return raw ≡ s
+        → EndsWord (drop (length raw - suffix_len is_return raw) raw)
+    cut zero is =
+        subst EndsWord (sym (drop_all (length raw - suffix_len is_return raw) raw (omega (arith, is)))) tt
+    cut (suc m) is =
+        let le = suffix_len-le-length is_return raw in
+        let n = length raw - suffix_len is_return raw in
+        let place : length raw - 1 - m ≡ n = omega (arith, is) in
+        let passes : is_return (get_or raw n 0) ≡ true =
+        sym (ap is_return (get_or-reverse raw m 0 (omega (arith, is, le)) ∙ ap (λ k. get_or raw k 0) place))
+        ∙ prefix_len_passes is_return (reverse raw) m 0 (omega (arith, is)) in
+        subst EndsWord (sym (drop_more raw n 0 (omega (arith, is, le))))
+        (ap (λ b. is_white (get_or raw n 0) || b) passes ∙ either (is_white (get_or raw n 0)))
+
 -- what follows the first word of a line's text
 pub text-tail : (raw lead : List ℕ) (list ws : List SpacedText) → 0 < length ws
     → without_returns raw ≡ lead ++ spaced_text (list ++ ws) → AreSpaced ws
@@ -210,27 +232,9 @@ text-tail raw lead list (w ∷ ws) some is are =
       (w.white ++ spaced_text ws) ++ back,
       sym (take-append-drop n raw)
           ∙ ap (λ l. l ++ back) (is ∙ ap (λ l. lead ++ l) (text-parts list (w ∷ ws))) ∙ grouped,
-      ends w.white ws refl are (returned (suffix_len is_return raw) refl),
+      ends w.white ws refl are (returned raw),
     )
   where
-    returned : (s : ℕ) → suffix_len is_return raw ≡ s
-        → EndsWord (drop (length raw - suffix_len is_return raw) raw)
-    returned zero is =
-        subst EndsWord (sym (drop_all (length raw - suffix_len is_return raw) raw (omega (arith, is)))) tt
-    returned (suc m) is =
-        let le = suffix_len-le-length is_return raw in
-        let n = length raw - suffix_len is_return raw in
-        let place : length raw - 1 - m ≡ n = omega (arith, is) in
-        let passes : is_return (get_or raw n 0) ≡ true =
-        sym (ap is_return (get_or-reverse raw m 0 (omega (arith, is, le)) ∙ ap (λ k. get_or raw k 0) place))
-        ∙ prefix_len_passes is_return (reverse raw) m 0 (omega (arith, is)) in
-        subst EndsWord (sym (drop_more raw n 0 (omega (arith, is, le))))
-        (ap (λ b. is_white (get_or raw n 0) || b) passes ∙ either (is_white (get_or raw n 0)))
-      where
-        either : (b : Bool) → (b || true) ≡ true
-        either true = refl
-        either false = refl
-
     ends : (white : List ℕ) (vs : List SpacedText) → w.white ≡ white → AreSpaced (w ∷ vs)
         → EndsWord (drop (length raw - suffix_len is_return raw) raw)
         → EndsWord ((white ++ spaced_text vs) ++ drop (length raw - suffix_len is_return raw) raw)

@@ -6,6 +6,7 @@ use Rattle.textwrap_base.proofs.Common.{length, lt-ltb, map, nat_lt, None, refl,
 use Rattle.textwrap_base.proofs.Lists.Parts.{all-right, flat}
 use Rattle.textwrap_words.proofs.Common.{blank, WordText}
 use Rattle.textwrap_lines.specs.Paragraph.{covered}
+use Rattle.textwrap_marked.proofs.AnewLines.{IsTold}
 use Rattle.textwrap_marked.proofs.BegunAlike.{AreBegun, IsInPlace, return-ends}
 use Rattle.textwrap_marked.proofs.BlockOrder.{AreBlocks}
 use Rattle.textwrap_marked.proofs.BlocksAlike.{part-cons, part_of, stops-same}
@@ -100,7 +101,7 @@ words-feedless (line ∷ lines) all =
     (All-head IsFeedlessLine line lines all).words
     (words-feedless lines (All-tail IsFeedlessLine line lines all))
 
-module _ (options : ReflowOptions) (none : options.ending ≡ None) (returns : Bool) (state : StateText)
+module _ (options : ReflowOptions) (returns : Bool) (told : IsTold options.ending returns) (state : StateText)
     (raw : List ℕ) (first : LineText) (lines : List LineText) (bs : List (List LineText))
     (p : IsParagraph options (entered state (without_returns raw)) raw first lines (flat bs)) (beside : Bool) where
   abbrev here : LineText
@@ -170,16 +171,16 @@ module _ (options : ReflowOptions) (none : options.ending ≡ None) (returns : B
       (ls : List (List (List ℕ))) (line : List WordText) (division : List (List WordText))
       (raws left : List (List ℕ)) → raws ≡ raw ∷ left
       → AreBlocks ((here ∷ lines) ∷ bs) → stays (beside || is_beside here bs) here ≡ false
-      → front ≡ printed (ending options none returns) here.prefix here.hanging (line ∷ division)
-      ++ filled_end (ending options none returns) (here ∷ lines)
+      → front ≡ printed (ending options returns told) here.prefix here.hanging (line ∷ division)
+      ++ filled_end (ending options returns told) (here ∷ lines)
       → MayPart options here.starred (word ∷ words) later_words
       → AreCutInto options here.starred later_words ls
       → words_of (here ∷ lines) ≡ (word ∷ words) ++ later_words
       → map covered (line ∷ division) ≡ map joined ((word ∷ words) ∷ ls) → IsSafe options state
       → All IsFeedlessLine (here ∷ lines)
-      → IsReadBack options none returns (behind_text block_here here.hanging final.words)
+      → IsReadBack options returns told (behind_text block_here here.hanging final.words)
       (is_beside here bs) bs p.walked.left back
-      → IsReadBack options none returns state beside ((here ∷ lines) ∷ bs) raws (front ++ back)
+      → IsReadBack options returns told state beside ((here ∷ lines) ∷ bs) raws (front ++ back)
   filled-lines front back word words later_words ls line division raws left whole (one, stops, are) stay
       is may cut parts shown safe free later =
       let at = entered state (without_returns raw) in
@@ -248,8 +249,8 @@ module _ (options : ReflowOptions) (none : options.ending ≡ None) (returns : B
           }) stops,
           later.are,
         );
-        same = part-cons beside here new lines n.lines bs later.blocks head are later.are later.heads
-            later.same (subst (λ b. IsSameBy b (part_of b here lines) (part_of b new n.lines)) (sym stay)
+        same = part-cons options.ending beside here new lines n.lines bs later.blocks head are later.are later.heads
+            later.same (subst (λ b. IsSameBy options.ending b (part_of b here lines) (part_of b new n.lines)) (sym stay)
             (refl, same));
         text_is = ap (λ f. f ++ back) is
             ∙ ap (λ e. (printed ends here.prefix here.hanging (line ∷ division) ++ e) ++ back)
@@ -286,13 +287,13 @@ module _ (options : ReflowOptions) (none : options.ending ≡ None) (returns : B
   filled-division : (front back : List ℕ) (ls : List (List (List ℕ)))
       (division : List (List WordText)) (raws left : List (List ℕ)) → raws ≡ raw ∷ left
       → AreBlocks ((here ∷ lines) ∷ bs) → stays (beside || is_beside here bs) here ≡ false
-      → front ≡ printed (ending options none returns) here.prefix here.hanging division
-      ++ filled_end (ending options none returns) (here ∷ lines)
+      → front ≡ printed (ending options returns told) here.prefix here.hanging division
+      ++ filled_end (ending options returns told) (here ∷ lines)
       → AreCutInto options here.starred (words_of (here ∷ lines)) ls
       → map covered division ≡ map joined ls → IsSafe options state → All IsFeedlessLine (here ∷ lines)
-      → IsReadBack options none returns (behind_text block_here here.hanging final.words)
+      → IsReadBack options returns told (behind_text block_here here.hanging final.words)
       (is_beside here bs) bs p.walked.left back
-      → IsReadBack options none returns state beside ((here ∷ lines) ∷ bs) raws (front ++ back)
+      → IsReadBack options returns told state beside ((here ∷ lines) ∷ bs) raws (front ++ back)
   filled-division front back [] division raws left whole blocks stay is cut shown safe free later =
       absurd (omega (arith, p.walked.words_some, ap length cut))
   filled-division front back ([] ∷ ls) division raws left whole blocks stay is (behind, some, parts, may, cut)
@@ -309,11 +310,11 @@ module _ (options : ReflowOptions) (none : options.ending ≡ None) (returns : B
 
   filled-here : (front back : List ℕ) (raws left : List (List ℕ)) → raws ≡ raw ∷ left → p.behind ≡ left
       → AreBlocks ((here ∷ lines) ∷ bs) → stays (beside || is_beside here bs) here ≡ false
-      → IsFilled options (ending options none returns) here (here ∷ lines) front
-      → IsLaidOut options (ending options none returns) (is_beside here bs) bs back
-      → Walks options none returns (is_beside here bs) bs → IsSafe options state
+      → IsFilled options (ending options returns told) here (here ∷ lines) front
+      → IsLaidOut options (ending options returns told) (is_beside here bs) bs back
+      → Walks options returns told (is_beside here bs) bs → IsSafe options state
       → All IsFeedless raws → All IsFeedlessLine (here ∷ lines)
-      → IsReadBack options none returns state beside ((here ∷ lines) ∷ bs) raws (front ++ back)
+      → IsReadBack options returns told state beside ((here ∷ lines) ∷ bs) raws (front ++ back)
   filled-here front back raws left whole same blocks stay (division, divided, is) laid walks safe free
       lines_free =
       let (ls, cut, shown) = division-words options here.starred (words_of (here ∷ lines)) words-some
@@ -331,16 +332,16 @@ module _ (options : ReflowOptions) (none : options.ending ≡ None) (returns : B
   pub filled-step : (front back : List ℕ) (raws left : List (List ℕ)) → raws ≡ raw ∷ left
       → p.behind ≡ left → AreBlocks ((first ∷ lines) ∷ bs)
       → stays (beside || is_beside first bs) first ≡ false
-      → IsFilled options (ending options none returns) first (first ∷ lines) front
-      → IsLaidOut options (ending options none returns) (is_beside first bs) bs back
-      → Walks options none returns (is_beside first bs) bs → IsSafe options state
+      → IsFilled options (ending options returns told) first (first ∷ lines) front
+      → IsLaidOut options (ending options returns told) (is_beside first bs) bs back
+      → Walks options returns told (is_beside first bs) bs → IsSafe options state
       → All IsFeedless raws → All IsFeedlessLine (first ∷ lines)
-      → IsReadBack options none returns state beside ((first ∷ lines) ∷ bs) raws (front ++ back)
+      → IsReadBack options returns told state beside ((first ∷ lines) ∷ bs) raws (front ++ back)
   filled-step front back raws left whole same =
       subst (λ l. AreBlocks ((l ∷ lines) ∷ bs) → stays (beside || is_beside l bs) l ≡ false
-      → IsFilled options (ending options none returns) l (l ∷ lines) front
-      → IsLaidOut options (ending options none returns) (is_beside l bs) bs back
-      → Walks options none returns (is_beside l bs) bs → IsSafe options state → All IsFeedless raws
+      → IsFilled options (ending options returns told) l (l ∷ lines) front
+      → IsLaidOut options (ending options returns told) (is_beside l bs) bs back
+      → Walks options returns told (is_beside l bs) bs → IsSafe options state → All IsFeedless raws
       → All IsFeedlessLine (l ∷ lines)
-      → IsReadBack options none returns state beside ((l ∷ lines) ∷ bs) raws (front ++ back)) (sym p.is)
+      → IsReadBack options returns told state beside ((l ∷ lines) ∷ bs) raws (front ++ back)) (sym p.is)
       (filled-here front back raws left whole same)

@@ -1,3 +1,4 @@
+pub mod AnewLines
 pub mod BegunAlike
 pub mod BlankPieces
 pub mod BlockLemmas

@@ -1,16 +1,17 @@
 -- Texts that were reflowed, reflowed again.
 use Rattle.textwrap_base.proofs.Common.{◌≡◌, ℕ, Bool, true, false, cond, List, [], ◌∷◌, ◌++◌, ◌==◌}
-use Rattle.textwrap_base.proofs.Common.{All-head, ap, arith, drop, join_with_byte, length, nat_eq, nat_lt, None}
+use Rattle.textwrap_base.proofs.Common.{All-head, ap, arith, drop, join_with_byte, length, nat_eq, nat_lt}
 use Rattle.textwrap_base.proofs.Common.{refl, slice_split, starts_with, subst, sym, true≢false, ◌∙◌, lt-ltb}
 use Rattle.std.proofs.lemmas.List.Splits.{join_with_byte-slice_split, length-slice_split}
 use Rattle.textwrap_lines.specs.LineEnding.{ending_bytes}
 use Rattle.textwrap_lines.specs.declared.line_ending.LineEnding.{LineEnding}
 use Rattle.textwrap_lines.specs.declared.line_ending.LineEnding.TheVariants.{CRLF, LF}
+use Rattle.textwrap_marked.proofs.AnewLines.{IsTold}
 use Rattle.textwrap_marked.proofs.BegunAlike.{AreBegun, marks-same}
 use Rattle.textwrap_marked.proofs.EndsAlike.{ends-alike, one-line}
 use Rattle.textwrap_marked.proofs.Feedless.{IsFeedless}
 use Rattle.textwrap_marked.proofs.SameParts.{from-other, laid-other, width-same}
-use Rattle.textwrap_marked.proofs.TextBack.{AreReadBack, returns_by, text-back}
+use Rattle.textwrap_marked.proofs.TextBack.{AreReadBack, IsTextBack, text-back}
 use Rattle.textwrap_marked.specs.Blocks.{blocks}
 use Rattle.textwrap_marked.specs.Laws.{AreSameParts, behind_mark, KeepsEnding, text_parts}
 use Rattle.textwrap_marked.specs.Lines.{first_state, lines_of, read_lines, with_titles}
@@ -22,10 +23,10 @@ use Rattle.textwrap_marked.specs.declared.options.ReflowOptions.{ReflowOptions}
 -- ---- without a byte order mark
 
 -- both begin with one, or neither does
-begins-alike : (options : ReflowOptions) (none : options.ending ≡ None) (returns : Bool)
-    (text reflowed : List ℕ) → AreReadBack options none returns text reflowed
+begins-alike : (options : ReflowOptions) (returns : Bool) (told : IsTold options.ending returns)
+    (text reflowed : List ℕ) → AreReadBack options returns told text reflowed
     → starts_with nat_eq reflowed byte_order_mark ≡ starts_with nat_eq text byte_order_mark
-begins-alike options none returns text reflowed r =
+begins-alike options returns told text reflowed r =
     ap (λ t. starts_with nat_eq t byte_order_mark)
     (sym (join_with_byte-slice_split 10 reflowed) ∙ ap (join_with_byte 10) r.split)
     ∙ first (slice_split (λ c. c == 10) text) refl r.begun
@@ -46,13 +47,13 @@ ends-feed LF = ([], refl)
 ends-feed CRLF = (13 ∷ [], refl)
 
 -- the new text stays, whatever its own ending is
-from-stays : (options : ReflowOptions) → options.ending ≡ None → (text reflowed : List ℕ) → IsReflowedFrom options text reflowed
+from-stays : (options : ReflowOptions) (text reflowed : List ℕ) → IsReflowedFrom options text reflowed
     → IsReflowedFrom options reflowed reflowed
-from-stays options none text reflowed laid =
+from-stays options text reflowed laid =
     more (nat_lt 0 (length r.raws)) refl r.raws refl
   where
-    r : AreReadBack options none (returns_by (filled_ending options.ending text)) text reflowed
-    r = text-back options none text reflowed laid
+    r : IsTextBack options text reflowed
+    r = text-back options text reflowed laid
 
     again : IsLaidOut options (ending_bytes (filled_ending options.ending text)) false
         (blocks (lines_of options reflowed)) reflowed
@@ -81,7 +82,7 @@ from-stays options none text reflowed laid =
         → IsReflowedFrom options reflowed reflowed
     more true some raws is =
         subst (λ e. IsLaidOut options (ending_bytes e) false (blocks (lines_of options reflowed)) reflowed)
-        (sym (ends-alike options none text reflowed r some)) again
+        (sym (ends-alike options text reflowed r some)) again
     more false some [] is = single [] is refl
     more false some (raw ∷ raws) is =
         absurd (true≢false (sym (lt-ltb 0 (length (raw ∷ raws)) (omega arith))
@@ -97,29 +98,29 @@ marked : (rest whole : List ℕ) → whole ≡ byte_order_mark ++ rest
     → starts_with nat_eq whole byte_order_mark ≡ true
 marked rest whole is = ap (λ t. starts_with nat_eq t byte_order_mark) is
 
-module _ (options : ReflowOptions) (none : options.ending ≡ None) where
+module _ (options : ReflowOptions) where
   pub parts-kept : (text reflowed : List ℕ) → IsReflowed options text reflowed
-      → AreSameParts (text_parts options (behind_mark text)) (text_parts options (behind_mark reflowed))
+      → AreSameParts options.ending (text_parts options (behind_mark text)) (text_parts options (behind_mark reflowed))
   parts-kept text reflowed = cut (starts_with nat_eq text byte_order_mark) refl
     where
       goal : (a b : List ℕ) → behind_mark text ≡ a → behind_mark reflowed ≡ b
-          → AreSameParts (text_parts options a) (text_parts options b)
-          → AreSameParts (text_parts options (behind_mark text)) (text_parts options (behind_mark reflowed))
+          → AreSameParts options.ending (text_parts options a) (text_parts options b)
+          → AreSameParts options.ending (text_parts options (behind_mark text)) (text_parts options (behind_mark reflowed))
       goal a b p q same =
-          subst (λ t. AreSameParts (text_parts options t) (text_parts options (behind_mark reflowed)))
-          (sym p) (subst (λ t. AreSameParts (text_parts options a) (text_parts options t)) (sym q) same)
+          subst (λ t. AreSameParts options.ending (text_parts options t) (text_parts options (behind_mark reflowed)))
+          (sym p) (subst (λ t. AreSameParts options.ending (text_parts options a) (text_parts options t)) (sym q) same)
 
       cut : (b : Bool) → starts_with nat_eq text byte_order_mark ≡ b
           → IsReflowedBehind b options text reflowed
-          → AreSameParts (text_parts options (behind_mark text)) (text_parts options (behind_mark reflowed))
+          → AreSameParts options.ending (text_parts options (behind_mark text)) (text_parts options (behind_mark reflowed))
       cut true is (rest, laid, whole) =
           goal (drop 3 text) rest (begins-so text true is)
           (begins-so reflowed true (marked rest reflowed whole) ∙ ap (drop 3) whole)
-          (text-back options none (drop 3 text) rest laid).same
+          (text-back options (drop 3 text) rest laid).same
       cut false is laid =
-          let r = text-back options none text reflowed laid in
+          let r = text-back options text reflowed laid in
           goal text reflowed (begins-so text false is)
-          (begins-so reflowed false (begins-alike options none _ text reflowed r ∙ is)) r.same
+          (begins-so reflowed false (begins-alike options _ _ text reflowed r ∙ is)) r.same
 
   pub texts-stay : (text reflowed : List ℕ) → IsReflowed options text reflowed
       → IsReflowed options reflowed reflowed
@@ -131,14 +132,14 @@ module _ (options : ReflowOptions) (none : options.ending ≡ None) where
           subst (λ b. IsReflowedBehind b options reflowed reflowed) (sym (marked rest reflowed whole)) (
             rest,
             subst (λ t. IsReflowedFrom options t rest) (sym (ap (drop 3) whole))
-                (from-stays options none (drop 3 text) rest laid),
+                (from-stays options (drop 3 text) rest laid),
             whole,
           )
       cut false is laid =
-          let r = text-back options none text reflowed laid in
+          let r = text-back options text reflowed laid in
           subst (λ b. IsReflowedBehind b options reflowed reflowed)
-          (sym (begins-alike options none _ text reflowed r ∙ is))
-          (from-stays options none text reflowed laid)
+          (sym (begins-alike options _ _ text reflowed r ∙ is))
+          (from-stays options text reflowed laid)
 
   -- ---- another width first
 
@@ -148,17 +149,16 @@ module _ (options : ReflowOptions) (none : options.ending ≡ None) where
       → IsReflowedFrom (record options { width = width; algorithm = algorithm }) text between
       → IsReflowedFrom options between reflowed → IsReflowedFrom options text reflowed
   widths-from width algorithm text between reflowed ends laid second =
-      from-other options text between (width-same options width algorithm none text between laid)
+      from-other options text between (width-same options width algorithm text between laid)
       (same (nat_lt 0 (length r.raws)) refl r.raws refl) reflowed second
     where
-      r : AreReadBack (record options { width = width; algorithm = algorithm }) none
-          (returns_by (filled_ending options.ending text)) text between
-      r = text-back (record options { width = width; algorithm = algorithm }) none text between laid
+      r : IsTextBack (record options { width = width; algorithm = algorithm }) text between
+      r = text-back (record options { width = width; algorithm = algorithm }) text between laid
 
       same : (b : Bool) → nat_lt 0 (length r.raws) ≡ b → (raws : List (List ℕ)) → r.raws ≡ raws
           → filled_ending options.ending between ≡ filled_ending options.ending text
       same true some raws is =
-          ends-alike (record options { width = width; algorithm = algorithm }) none text between r some
+          ends-alike (record options { width = width; algorithm = algorithm }) text between r some
       same false some [] is =
           ends (ap length (r.split ∙ ap (λ l. r.raw ∷ l) is))
       same false some (raw ∷ raws) is =
@@ -198,9 +198,9 @@ module _ (options : ReflowOptions) (none : options.ending ≡ None) where
             shown,
           )
       cut false is laid second =
-          let r = text-back (record options { width = width; algorithm = algorithm }) none text
+          let r = text-back (record options { width = width; algorithm = algorithm }) text
           between laid in
-          let begins = begins-alike (record options { width = width; algorithm = algorithm }) none _ text
+          let begins = begins-alike (record options { width = width; algorithm = algorithm }) _ _ text
           between r ∙ is in
           widths-from width algorithm text between reflowed
           (told text between (begins-so text false is) (begins-so between false begins)) laid

@@ -8,6 +8,7 @@ use Rattle.std.proofs.lemmas.List.Folds.{flat_map-map}
 use Rattle.textwrap_base.proofs.Lists.Parts.{all-left, all-right}
 use Rattle.textwrap_words.proofs.Common.{blank, WordText}
 use Rattle.textwrap_lines.specs.Paragraph.{covered}
+use Rattle.textwrap_marked.proofs.AnewLines.{return-feedless}
 use Rattle.textwrap_marked.proofs.Feedless.{IsFeedless, NoFeed}
 use Rattle.textwrap_marked.proofs.KeptLines.{join-more}
 use Rattle.textwrap_marked.proofs.LineWords.{AreCutInto, joined, spread}
@@ -171,10 +172,6 @@ spread-feedless (word ∷ next ∷ words) end all free =
     (All-append NoFeed word (blank ∷ []) (All-head IsFeedless word (next ∷ words) all)
     (All-cons NoFeed blank [] refl (All-nil NoFeed)))
     (spread-feedless (next ∷ words) end (All-tail IsFeedless word (next ∷ words) all) free)
-
-return-feedless : (b : Bool) → IsFeedless (return_if b)
-return-feedless true = All-cons NoFeed 13 [] refl (All-nil NoFeed)
-return-feedless false = All-nil NoFeed
 
 module _ (options : ReflowOptions) (starred returns more : Bool) (end hanging : List ℕ)
     (white : All IsWhite end) (hung : IsFeedless hanging) where

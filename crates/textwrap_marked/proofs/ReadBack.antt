@@ -1,15 +1,16 @@
 -- What is printed of the blocks of a text, read again.
 use Rattle.textwrap_base.proofs.Common.{◌≡◌, ℕ, ◌||◌, Bool, true, false, List, []}
 use Rattle.textwrap_base.proofs.Common.{◌∷◌, ◌++◌, All, All-append, ap}
-use Rattle.textwrap_base.proofs.Common.{arith, flat_map, inl, join_with_byte, length}
-use Rattle.textwrap_base.proofs.Common.{nat_lt, None, refl, subst, sym, true≢false, ◌∙◌}
+use Rattle.textwrap_base.proofs.Common.{arith, flat_map, join_with_byte, length}
+use Rattle.textwrap_base.proofs.Common.{map, nat_lt, refl, subst, sym, true≢false, ◌∙◌}
 use Rattle.textwrap_base.proofs.Lists.Parts.{all-left, all-right, flat}
+use Rattle.textwrap_marked.proofs.AnewLines.{anew, IsTold, kept-anew, last-anew, one-anew}
 use Rattle.textwrap_marked.proofs.BegunAlike.{AreBegun}
 use Rattle.textwrap_marked.proofs.BlockOrder.{AreBlocks}
 use Rattle.textwrap_marked.proofs.BlocksAlike.{part-cons, part_of, stops-same}
 use Rattle.textwrap_marked.proofs.Feedless.{IsFeedless}
 use Rattle.textwrap_marked.proofs.FenceMarks.{IsSafe}
-use Rattle.textwrap_marked.proofs.KeptLines.{AreHeads, head-same, keep, some-behind}
+use Rattle.textwrap_marked.proofs.KeptLines.{AreHeads, IsHeadAlike, keep}
 use Rattle.textwrap_marked.proofs.ReturnsOff.{return_if}
 use Rattle.textwrap_marked.proofs.TextBlocks.{last_line, read}
 use Rattle.textwrap_marked.specs.Blocks.{is_beside, stays}
@@ -18,7 +19,7 @@ use Rattle.textwrap_marked.specs.Lines.{LineText, StateText}
 use Rattle.textwrap_marked.specs.Reflow.{IsLaidOut, kept_line, kept_text}
 use Rattle.textwrap_marked.specs.declared.options.ReflowOptions.{ReflowOptions}
 
-module _ (options : ReflowOptions) (none : options.ending ≡ None) (returns : Bool) where
+module _ (options : ReflowOptions) (returns : Bool) (told : IsTold options.ending returns) where
   abbrev pub ending : List ℕ
   ending = return_if returns ++ 10 ∷ []
 
@@ -29,7 +30,7 @@ module _ (options : ReflowOptions) (none : options.ending ≡ None) (returns : B
     pub blocks : List (List LineText)
     pub reads : flat blocks ≡ read options state again
     pub are : AreBlocks blocks
-    pub same : AreSameParts (parts_from beside bs) (parts_from beside blocks)
+    pub same : AreSameParts options.ending (parts_from beside bs) (parts_from beside blocks)
     pub text_is : text ≡ join_with_byte 10 again
     pub feedless : All IsFeedless again
     pub heads : AreHeads (flat bs) (flat blocks)
@@ -54,39 +55,52 @@ module _ (options : ReflowOptions) (none : options.ending ≡ None) (returns : B
   kept-step beside first lines bs walks (one, stops, are) stay state raws front back reads is laid safe
       free =
       let all = first ∷ lines in
-      let k = keep options all state raws (flat bs) safe reads in
+      let e = options.ending in
+      let k = keep options returns told all state raws (flat bs) safe reads in
       let parts = subst (All IsFeedless) k.whole free in
       let later = walks k.behind k.left back k.reads laid k.safe (all-right IsFeedless k.kept k.left parts)
       in
-      let last = last_line first lines in record {
-        again = k.kept ++ later.again;
-        blocks = all ∷ later.blocks;
+      let last = last_line first lines in
+      let news = map (anew e returns) lines in record {
+        again = k.news ++ later.again;
+        blocks = (anew e returns first ∷ news) ∷ later.blocks;
         reads = k.again (flat later.blocks) later.again later.reads later.heads later.some;
         are = (
-          one,
-          stops-same last last bs later.blocks are later.are later.heads
-              (record { hangs = refl; ended = refl; apart = refl }) stops,
+          one-anew e returns first lines one,
+          stops-same last (last_line (anew e returns first) news) bs later.blocks are later.are later.heads
+              (record {
+                hangs = ap (λ (l : LineText). l.hanging) (last-anew e returns first lines);
+                ended = ap (λ (l : LineText). l.ended) (last-anew e returns first lines);
+                apart = ap (λ (l : LineText). l.apart) (last-anew e returns first lines);
+              }) stops,
           later.are,
         );
-        same = part-cons beside first first lines lines bs later.blocks (head-same first) are later.are
-            later.heads later.same (kept (stays (beside || is_beside first bs) first) stay);
-        text_is = ap (λ l. l ++ back) (is ∙ ap (λ e. flat_map (kept_line e) all) none)
-            ∙ ap (λ l. flat_map (kept_line None) all ++ l) later.text_is ∙ k.text later.again later.some;
-        feedless = All-append IsFeedless k.kept later.again (all-left IsFeedless k.kept k.left parts)
-            later.feedless;
-        heads = head-same first;
-        some = some-behind k.kept later.again k.left later.some
-            ∙ ap (λ l. nat_lt 0 (length l)) (sym k.whole);
-        begun = subst (λ l. AreBegun returns l (k.kept ++ later.again)) (sym k.whole)
-            (same-first k.kept k.left later.again k.long later.some);
+        same = part-cons e beside first (anew e returns first) lines news bs later.blocks
+            (head-anew first) are later.are later.heads later.same
+            (kept (stays (beside || is_beside first bs) first) stay);
+        text_is = ap (λ l. l ++ back) is
+            ∙ ap (λ l. flat_map (kept_line e) all ++ l) later.text_is ∙ k.text later.again later.some;
+        feedless = All-append IsFeedless k.news later.again
+            (k.feedless (all-left IsFeedless k.kept k.left parts)) later.feedless;
+        heads = head-anew first;
+        some = k.fed_same later.again later.some ∙ ap (λ l. nat_lt 0 (length l)) (sym k.whole);
+        begun = subst (λ l. AreBegun returns l (k.news ++ later.again)) (sym k.whole)
+            (k.begun later.again later.some (omega arith));
       }
     where
-      same-first : (kept left more : List (List ℕ)) → length kept ≡ length (first ∷ lines)
-          → nat_lt 0 (length more) ≡ nat_lt 0 (length left)
-          → AreBegun returns (kept ++ left) (kept ++ more)
-      same-first [] left more long some = absurd (omega (arith, long))
-      same-first (raw ∷ kept) left more long some = inl (refl, sym (some-behind kept more left some))
+      head-anew : (line : LineText) → IsHeadAlike line (anew options.ending returns line)
+      head-anew line = record {
+        prefix = refl;
+        hangs = refl;
+        field = refl;
+        chosen = refl;
+        apart = refl;
+        rule = refl;
+        opens = refl;
+      }
 
-      kept : (b : Bool) → b ≡ true → IsSameBy b (part_of b first lines) (part_of b first lines)
-      kept true is = refl
+      kept : (b : Bool) → b ≡ true
+          → IsSameBy options.ending b (part_of b first lines)
+          (part_of b (anew options.ending returns first) (map (anew options.ending returns) lines))
+      kept true is = (refl, kept-anew options.ending returns (first ∷ lines))
       kept false is = absurd (true≢false (sym is))

@@ -1,6 +1,6 @@
 -- What becomes of two texts of the same parts is the same.
-use Rattle.textwrap_base.proofs.Common.{◌≡◌, ℕ, ◌-◌, Bool, true, false, List, [], ◌∷◌, ◌++◌, ap}
-use Rattle.textwrap_base.proofs.Common.{length, map, nat_lt, None, refl, slice_split, subst}
+use Rattle.textwrap_base.proofs.Common.{◌∙◌, ◌≡◌, ℕ, ◌-◌, Bool, true, false, List, [], ◌∷◌, ◌++◌, ap}
+use Rattle.textwrap_base.proofs.Common.{length, map, nat_lt, refl, slice_split, subst}
 use Rattle.textwrap_base.proofs.Common.{sym, ◌==◌}
 use Rattle.textwrap_words.proofs.Common.{IsDividedBy, sizes_of, word_of, WordText}
 use Rattle.textwrap_lines.specs.LineEnding.{ending_bytes}
@@ -40,12 +40,14 @@ module _ (options : ReflowOptions) (ending : List ℕ) where
   abbrev OfPart : Part → List ℕ → Type 0
   OfPart part text = IsOfBlock options ending part.stays part.first part.lines text
 
-  of-other : (part other : Part) (text : List ℕ) → IsSameBy part.stays part other
+  of-other : (part other : Part) (text : List ℕ) → IsSameBy options.ending part.stays part other
       → OfPart other text → OfPart part text
   of-other part other text same of = cut part.stays refl same
     where
-      cut : (b : Bool) → part.stays ≡ b → IsSameBy b part other → OfPart part text
-      cut true stay same = subst (λ p. OfPart p text) same of
+      cut : (b : Bool) → part.stays ≡ b → IsSameBy options.ending b part other → OfPart part text
+      cut true stay (leaves, kept) =
+          subst (λ b. IsOfBlock options ending b part.first part.lines text) (sym stay)
+          (subst (λ b. IsOfBlock options ending b other.first other.lines text) leaves of ∙ kept)
       cut false stay (leaves, para) =
           subst (λ b. IsOfBlock options ending b part.first part.lines text) (sym stay)
           (filled-same other.first.prefix part.first.prefix other.first.hanging part.first.hanging
@@ -54,12 +56,14 @@ module _ (options : ReflowOptions) (ending : List ℕ) where
           para.starred para.words (para.end ending)
           (subst (λ b. IsOfBlock options ending b other.first other.lines text) leaves of))
 
-  of-part : (part other : Part) (text : List ℕ) → IsSameBy part.stays part other
+  of-part : (part other : Part) (text : List ℕ) → IsSameBy options.ending part.stays part other
       → OfPart part text → OfPart other text
   of-part part other text same of = cut part.stays refl same
     where
-      cut : (b : Bool) → part.stays ≡ b → IsSameBy b part other → OfPart other text
-      cut true stay same = subst (λ p. OfPart p text) (sym same) of
+      cut : (b : Bool) → part.stays ≡ b → IsSameBy options.ending b part other → OfPart other text
+      cut true stay (leaves, kept) =
+          subst (λ b. IsOfBlock options ending b other.first other.lines text) (sym leaves)
+          (subst (λ b. IsOfBlock options ending b part.first part.lines text) stay of ∙ sym kept)
       cut false stay (leaves, para) =
           subst (λ b. IsOfBlock options ending b other.first other.lines text) (sym leaves)
           (filled-same part.first.prefix other.first.prefix part.first.hanging other.first.hanging
@@ -70,7 +74,7 @@ module _ (options : ReflowOptions) (ending : List ℕ) where
 
   -- ---- all of them
 
-  news-other : (parts others : List Part) (text : List ℕ) → AreSameParts parts others
+  news-other : (parts others : List Part) (text : List ℕ) → AreSameParts options.ending parts others
       → AreNewParts OfPart others text → AreNewParts OfPart parts text
   news-other [] [] text same new = new
   news-other [] (other ∷ others) text same new = absurd same
@@ -83,7 +87,7 @@ module _ (options : ReflowOptions) (ending : List ℕ) where
     is,
   )
 
-  news-part : (parts others : List Part) (text : List ℕ) → AreSameParts parts others
+  news-part : (parts others : List Part) (text : List ℕ) → AreSameParts options.ending parts others
       → AreNewParts OfPart parts text → AreNewParts OfPart others text
   news-part [] [] text same new = new
   news-part [] (other ∷ others) text same new = absurd same
@@ -113,7 +117,7 @@ module _ (options : ReflowOptions) (ending : List ℕ) where
 -- ---- texts
 
 module _ (options : ReflowOptions) (text other : List ℕ)
-    (same : AreSameParts (text_parts options text) (text_parts options other)) where
+    (same : AreSameParts options.ending (text_parts options text) (text_parts options other)) where
   abbrev end_of : List ℕ → List ℕ
   end_of t = ending_bytes (filled_ending options.ending t)
 
@@ -155,10 +159,10 @@ module _ (options : ReflowOptions) (width : ℕ) (algorithm : Algorithm) where
       ap (λ ls. parts_from false (blocks (with_titles ls)))
       (lines-same (slice_split (λ c. c == 10) text) first_state)
 
-  pub width-same : options.ending ≡ None → (text between : List ℕ)
+  pub width-same : (text between : List ℕ)
       → IsReflowedFrom others text between
-      → AreSameParts (text_parts options text) (text_parts options between)
-  width-same none text between laid =
-      subst (λ p. AreSameParts p (text_parts options between)) (parts-same text)
-      (subst (AreSameParts (text_parts others text)) (parts-same between)
-      (text-back others none text between laid).same)
+      → AreSameParts options.ending (text_parts options text) (text_parts options between)
+  width-same text between laid =
+      subst (λ p. AreSameParts options.ending p (text_parts options between)) (parts-same text)
+      (subst (AreSameParts options.ending (text_parts others text)) (parts-same between)
+      (text-back others text between laid).same)

@@ -1,12 +1,11 @@
 -- A new text, read again, has the parts of the text.
-use Rattle.textwrap_base.proofs.Common.{◌≡◌, ℕ, ◌<◌, ◌||◌, not, Bool, true, false, List, [], ◌∷◌, ◌++◌, ◌==◌}
+use Rattle.textwrap_base.proofs.Common.{None, Option, Some, ◌≡◌, ℕ, ◌<◌, ◌||◌, not, Bool, true, false, List, [], ◌∷◌, ◌++◌, ◌==◌}
 use Rattle.textwrap_base.proofs.Common.{All, All-nil, ap, arith, join_with_byte, length, nat_lt, lt-ltb}
-use Rattle.textwrap_base.proofs.Common.{cases_Bool, None, refl, slice_split, subst, sym, true≢false, ◌∙◌}
+use Rattle.textwrap_base.proofs.Common.{cases_Bool, refl, slice_split, subst, sym, true≢false, ◌∙◌}
 use Rattle.textwrap_base.proofs.Lists.Parts.{all-left, flat}
 use Rattle.std.proofs.lemmas.List.Splits.{length-slice_split}
-use Rattle.textwrap_lines.specs.LineEnding.{ending_bytes}
 use Rattle.textwrap_lines.specs.declared.line_ending.LineEnding.{LineEnding}
-use Rattle.textwrap_lines.specs.declared.line_ending.LineEnding.TheVariants.{CRLF, LF}
+use Rattle.textwrap_marked.proofs.AnewLines.{bytes-by, IsTold, returns_by}
 use Rattle.textwrap_marked.proofs.BegunAlike.{AreBegun}
 use Rattle.textwrap_marked.proofs.BlockOrder.{AreBlocks, blocks-are, blocks-back}
 use Rattle.textwrap_marked.proofs.Feedless.{IsFeedless, IsFeedlessLine, read-feedless, split-feedless, split-joined}
@@ -14,7 +13,6 @@ use Rattle.textwrap_marked.proofs.FenceMarks.{IsSafe, safe-none}
 use Rattle.textwrap_marked.proofs.FilledBack.{filled-step}
 use Rattle.textwrap_marked.proofs.NewBlock.{paragraph-at}
 use Rattle.textwrap_marked.proofs.ReadBack.{ending, IsReadBack, kept-step}
-use Rattle.textwrap_marked.proofs.ReturnsOff.{return_if}
 use Rattle.textwrap_marked.proofs.TextBlocks.{read, read-more}
 use Rattle.textwrap_marked.proofs.TextParts.{blocks-flat}
 use Rattle.textwrap_marked.specs.Blocks.{blocks, is_beside, stays}
@@ -26,7 +24,7 @@ use Rattle.textwrap_marked.specs.declared.options.ReflowOptions.{ReflowOptions}
 level-first : (a b c : Bool) → (a || not b || c) ≡ false → a ≡ false
 level-first a b c is = grind (arith, cases_Bool)
 
-module _ (options : ReflowOptions) (none : options.ending ≡ None) (returns : Bool) where
+module _ (options : ReflowOptions) (returns : Bool) (told : IsTold options.ending returns) where
   read-none : (state : StateText) (raws : List (List ℕ)) → [] ≡ read options state raws
       → nat_lt 0 0 ≡ nat_lt 0 (length raws)
   read-none state [] is = refl
@@ -39,7 +37,7 @@ module _ (options : ReflowOptions) (none : options.ending ≡ None) (returns : B
 
   -- the same parts, and a first line that is the same or stands in its place
   pub record AreReadBack (text reflowed : List ℕ) : Type 0 where
-    pub same : AreSameParts (text_parts options text) (text_parts options reflowed)
+    pub same : AreSameParts options.ending (text_parts options text) (text_parts options reflowed)
     pub raw : List ℕ
     pub raws : List (List ℕ)
     pub split : slice_split (λ c. c == 10) reflowed ≡ raw ∷ raws
@@ -48,8 +46,8 @@ module _ (options : ReflowOptions) (none : options.ending ≡ None) (returns : B
 
   pub walk-blocks : (bs : List (List LineText)) (beside : Bool) → AreBlocks bs → (state : StateText)
       (raws : List (List ℕ)) (text : List ℕ) → flat bs ≡ read options state raws
-      → IsLaidOut options (ending options none returns) beside bs text → IsSafe options state
-      → All IsFeedless raws → IsReadBack options none returns state beside bs raws text
+      → IsLaidOut options (ending options returns told) beside bs text → IsSafe options state
+      → All IsFeedless raws → IsReadBack options returns told state beside bs raws text
   walk-blocks [] beside are state raws text reads laid safe free = record {
     again = [];
     blocks = [];
@@ -65,19 +63,19 @@ module _ (options : ReflowOptions) (none : options.ending ≡ None) (returns : B
   walk-blocks ([] ∷ bs) beside are state raws text reads laid safe free = absurd are
   walk-blocks ((first ∷ lines) ∷ bs) beside are state raws text reads (front, back, of, later, is) safe
       free =
-      subst (IsReadBack options none returns state beside ((first ∷ lines) ∷ bs) raws) (sym is)
+      subst (IsReadBack options returns told state beside ((first ∷ lines) ∷ bs) raws) (sym is)
       (step (stays (beside || is_beside first bs) first) refl of
       (walk-blocks bs (is_beside first bs) are.2))
     where
       step : (b : Bool) → stays (beside || is_beside first bs) first ≡ b
-          → IsOfBlock options (ending options none returns) b first (first ∷ lines) front
+          → IsOfBlock options (ending options returns told) b first (first ∷ lines) front
           → ((state : StateText) (raws : List (List ℕ)) (text : List ℕ) → flat bs ≡ read options state raws
-          → IsLaidOut options (ending options none returns) (is_beside first bs) bs text
+          → IsLaidOut options (ending options returns told) (is_beside first bs) bs text
           → IsSafe options state → All IsFeedless raws
-          → IsReadBack options none returns state (is_beside first bs) bs raws text)
-          → IsReadBack options none returns state beside ((first ∷ lines) ∷ bs) raws (front ++ back)
+          → IsReadBack options returns told state (is_beside first bs) bs raws text)
+          → IsReadBack options returns told state beside ((first ∷ lines) ∷ bs) raws (front ++ back)
       step true stay of walks =
-          kept-step options none returns beside first lines bs walks are stay state raws front back reads of
+          kept-step options returns told beside first lines bs walks are stay state raws front back reads of
           later safe free
       step false stay of walks =
           let apart = level-first first.apart first.chosen (beside || is_beside first bs) stay in
@@ -85,11 +83,11 @@ module _ (options : ReflowOptions) (none : options.ending ≡ None) (returns : B
           paragraph-at options state raws first lines (flat bs) reads apart are.0 in
           let lines_free = all-left IsFeedlessLine (first ∷ lines) (flat bs)
           (subst (All IsFeedlessLine) (sym reads) (read-feedless options raws state free)) in
-          filled-step options none returns state raw first lines bs p beside front back raws left whole same
+          filled-step options returns told state raw first lines bs p beside front back raws left whole same
           are stay of later walks safe free lines_free
 
   parts-again : (text reflowed : List ℕ) (raw : List ℕ) (raws : List (List ℕ))
-      → (r : IsReadBack options none returns first_state false (blocks (lines_of options text))
+      → (r : IsReadBack options returns told first_state false (blocks (lines_of options text))
       (slice_split (λ c. c == 10) text) reflowed) → r.again ≡ raw ∷ raws
       → AreReadBack text reflowed
   parts-again text reflowed raw raws r some =
@@ -100,7 +98,7 @@ module _ (options : ReflowOptions) (none : options.ending ≡ None) (returns : B
       ap (λ l. blocks (read options first_state l)) split ∙ ap blocks (sym r.reads)
       ∙ blocks-back r.blocks r.are in
       record {
-        same = subst (λ bs. AreSameParts (text_parts options text) (parts_from false bs)) (sym again) r.same;
+        same = subst (λ bs. AreSameParts options.ending (text_parts options text) (parts_from false bs)) (sym again) r.same;
         raw = raw;
         raws = raws;
         split = split ∙ some;
@@ -109,7 +107,7 @@ module _ (options : ReflowOptions) (none : options.ending ≡ None) (returns : B
       }
 
   pub parts-back : (text reflowed : List ℕ)
-      → IsLaidOut options (ending options none returns) false (blocks (lines_of options text)) reflowed
+      → IsLaidOut options (ending options returns told) false (blocks (lines_of options text)) reflowed
       → AreReadBack text reflowed
   parts-back text reflowed laid =
       let raws = slice_split (λ c. c == 10) text in
@@ -118,7 +116,7 @@ module _ (options : ReflowOptions) (none : options.ending ≡ None) (returns : B
       (safe-none options first_state refl) (split-feedless text) in
       some r r.again refl
     where
-      some : (r : IsReadBack options none returns first_state false (blocks (lines_of options text))
+      some : (r : IsReadBack options returns told first_state false (blocks (lines_of options text))
           (slice_split (λ c. c == 10) text) reflowed) (again : List (List ℕ)) → r.again ≡ again
           → AreReadBack text reflowed
       some r [] is =
@@ -130,18 +128,19 @@ module _ (options : ReflowOptions) (none : options.ending ≡ None) (returns : B
 
 -- ---- by the ending of the text
 
-abbrev pub returns_by : LineEnding → Bool
-returns_by LF = false
-returns_by CRLF = true
+pub told-by : (e : Option LineEnding) (text : List ℕ) → IsTold e (returns_by (filled_ending e text))
+told-by None text = tt
+told-by (Some e) text = refl
 
-bytes-by : (e : LineEnding) → ending_bytes e ≡ return_if (returns_by e) ++ 10 ∷ []
-bytes-by LF = refl
-bytes-by CRLF = refl
+-- what is read of a new text
+abbrev pub IsTextBack : ReflowOptions → List ℕ → List ℕ → Type 0
+IsTextBack options text reflowed =
+    AreReadBack options (returns_by (filled_ending options.ending text)) (told-by options.ending text) text
+    reflowed
 
-pub text-back : (options : ReflowOptions) (none : options.ending ≡ None) → (text reflowed : List ℕ)
-    → IsReflowedFrom options text reflowed
-    → AreReadBack options none (returns_by (filled_ending options.ending text)) text reflowed
-text-back options none text reflowed laid =
+pub text-back : (options : ReflowOptions) (text reflowed : List ℕ) → IsReflowedFrom options text reflowed
+    → IsTextBack options text reflowed
+text-back options text reflowed laid =
     let e = filled_ending options.ending text in
-    parts-back options none (returns_by e) text reflowed
+    parts-back options (returns_by e) (told-by options.ending text) text reflowed
     (subst (λ b. IsLaidOut options b false (blocks (lines_of options text)) reflowed) (bytes-by e) laid)

@@ -1,12 +1,13 @@
 -- The statements of the laws, each under a name that a caller can cite.
 use Rattle.std.specs.Prelude.{◌≡◌, ℕ, ◌+◌, ◌-◌, ◌≤◌, ◌⊎◌, ◌==◌, ◌||◌, Bool, true, false, List, [], ◌∷◌}
-use Rattle.std.specs.Prelude.{◌++◌, All, drop, if◌then◌else◌, length, map, nat_eq, None, ⊤}
+use Rattle.std.specs.Prelude.{◌++◌, All, drop, if◌then◌else◌, length, map, nat_eq, None, Option, ⊤}
 use Rattle.std.specs.List.{flat_map, slice_split, starts_with}
 use Rattle.textwrap_base.specs.Cost.{division_cost, priced_at}
 use Rattle.textwrap_base.specs.Division.{closed_width, IsDivision}
 use Rattle.textwrap_base.specs.declared.penalties.Penalties.{Penalties}
 use Rattle.textwrap_words.specs.Words.{WordText, sizes_of, word_of}
 use Rattle.textwrap_lines.specs.LineEnding.{ending_bytes}
+use Rattle.textwrap_lines.specs.declared.line_ending.LineEnding.{LineEnding}
 use Rattle.textwrap_marked.specs.Blocks.{blocks, is_beside, stays}
 use Rattle.textwrap_marked.specs.Columns.{columns}
 use Rattle.textwrap_marked.specs.Lines.{LineText, lines_of}
@@ -195,17 +196,19 @@ pub record IsSameParagraph (part other : Part) : Type 0 where
   -- what stands behind its last line, whatever the ending
   pub end : (ending : List ℕ) → filled_end ending other.lines ≡ filled_end ending part.lines
 
--- the same lines that stay, or the same paragraph
-abbrev pub IsSameBy : Bool → Part → Part → Type 0
-IsSameBy true part other = other ≡ part
-IsSameBy false part other = (other.stays ≡ false) × IsSameParagraph part other
+-- the same lines that stay, but for their endings where another one is asked for, or the same paragraph
+abbrev pub IsSameBy : Option LineEnding → Bool → Part → Part → Type 0
+IsSameBy ending true part other =
+    (other.stays ≡ true)
+    × (flat_map (kept_line ending) other.lines ≡ flat_map (kept_line ending) part.lines)
+IsSameBy ending false part other = (other.stays ≡ false) × IsSameParagraph part other
 
-abbrev pub AreSameParts : List Part → List Part → Type 0
-AreSameParts [] [] = ⊤
-AreSameParts [] (other ∷ others) = ⊥
-AreSameParts (part ∷ parts) [] = ⊥
-AreSameParts (part ∷ parts) (other ∷ others) =
-    IsSameBy part.stays part other × AreSameParts parts others
+abbrev pub AreSameParts : Option LineEnding → List Part → List Part → Type 0
+AreSameParts ending [] [] = ⊤
+AreSameParts ending [] (other ∷ others) = ⊥
+AreSameParts ending (part ∷ parts) [] = ⊥
+AreSameParts ending (part ∷ parts) (other ∷ others) =
+    IsSameBy ending part.stays part other × AreSameParts ending parts others
 
 -- what follows a byte order mark, if there is one
 abbrev pub behind_mark : List ℕ → List ℕ
@@ -221,25 +224,23 @@ abbrev pub KeepsEnding : ReflowOptions → List ℕ → List ℕ → Type 0
 KeepsEnding options text other =
     length (slice_split (λ c. c == 10) (behind_mark other)) ≡ 1 → EndAlike options text other
 
--- the new text, read again, has the parts of the text, if no ending is asked for
+-- the new text, read again, has the parts of the text
 abbrev pub PartsAreKept : Type 0
 PartsAreKept =
-    (options : ReflowOptions) → options.ending ≡ None
-    → (text reflowed : List ℕ) → IsReflowed options text reflowed
-    → AreSameParts (text_parts options (behind_mark text)) (text_parts options (behind_mark reflowed))
+    (options : ReflowOptions) (text reflowed : List ℕ) → IsReflowed options text reflowed
+    → AreSameParts options.ending (text_parts options (behind_mark text))
+    (text_parts options (behind_mark reflowed))
 
 -- the new text, reflowed by the same options, stays as it is
 abbrev pub ReflowedTextsStay : Type 0
 ReflowedTextsStay =
-    (options : ReflowOptions) → options.ending ≡ None
-    → (text reflowed : List ℕ) → IsReflowed options text reflowed
+    (options : ReflowOptions) (text reflowed : List ℕ) → IsReflowed options text reflowed
     → IsReflowed options reflowed reflowed
 
 -- what a text becomes that was reflowed at another width, by any algorithm, it becomes at once
 abbrev pub EarlierWidthsMakeNoDifference : Type 0
 EarlierWidthsMakeNoDifference =
-    (options : ReflowOptions) → options.ending ≡ None
-    → (width : ℕ) (algorithm : Algorithm) (text between reflowed : List ℕ)
+    (options : ReflowOptions) (width : ℕ) (algorithm : Algorithm) (text between reflowed : List ℕ)
     → KeepsEnding options text between
     → IsReflowed (record options { width = width; algorithm = algorithm }) text between
     → IsReflowed options between reflowed → IsReflowed options text reflowed

@@ -39,9 +39,9 @@ pub fn words_are_kept()
     ensures { WordsAreKept }
 {}
 
-/// The new text, read again, is read as the text was, if no ending is asked for: block by block and in
-/// order the same lines that stay, byte for byte, and the same paragraphs, each with its prefix, its
-/// hanging form, its words, and what stands behind its last line.
+/// The new text, read again, is read as the text was: block by block and in order the same lines that
+/// stay, but for their endings where another one is asked for, and the same paragraphs, each with its
+/// prefix, its hanging form, its words, and what stands behind its last line.
 pub fn parts_are_kept()
     ensures { PartsAreKept }
 {}

@@ -81,7 +81,7 @@ read-plain : (options : ReflowOptions) (state : StateText) (raws : List (List �
     → All IsPlainLine (read_lines options state raws)
 read-plain options state [] = All-nil IsPlainLine
 read-plain options state (raw ∷ raws) =
-    let at = entered state raw in
+    let at = entered state (without_returns raw) in
     let line = line_of options at raw (nat_lt 0 (length raws)) in
     All-cons IsPlainLine line (read_lines options (passed at line) raws)
     (line-plain options at raw (nat_lt 0 (length raws))) (read-plain options (passed at line) raws)

@@ -4,7 +4,7 @@ use Rattle.textwrap_base.proofs.Common.{refl, sym}
 use Rattle.textwrap_base.proofs.Common.{arith, nat_lt, Option, Some, None, Bor, lt-ltb}
 use Rattle.std.proofs.lemmas.List.Splits.{length-slice_split}
 use Rattle.std.specs.Prelude.{is_some}
-use Rattle.textwrap_marked.specs.Lines.{entered, line_of, LineText, passed}
+use Rattle.textwrap_marked.specs.Lines.{entered, line_of, LineText, passed, without_returns}
 use Rattle.textwrap_marked.specs.Lines.{read_lines, StateText}
 use Rattle.textwrap_marked.specs.Words.{parts_left}
 use Rattle.textwrap_marked.specs.declared.options.ReflowOptions.{ReflowOptions}
@@ -18,7 +18,7 @@ fed-is (Some rest) =
 
 module _ (options : ReflowOptions) where
   pub reads-line : (state at behind : StateText) (raw : List ℕ) (parts : List (List ℕ)) (fed : Bool)
-      (line : LineText) → at ≡ entered state raw → fed ≡ nat_lt 0 (length parts)
+      (line : LineText) → at ≡ entered state (without_returns raw) → fed ≡ nat_lt 0 (length parts)
       → line ≡ line_of options at raw fed → behind ≡ passed at line
       → read_lines options state (raw ∷ parts) ≡ line ∷ read_lines options behind parts
   reads-line state at behind raw parts fed line a f l b = rw (b, l, f, a) refl

@@ -8,6 +8,7 @@ use Rattle.textwrap_base.proofs.Lists.Parts.{flat}
 use Rattle.std.proofs.lemmas.List.Splits.{join_with_byte-slice_split}
 use Rattle.textwrap_marked.specs.Blocks.{blocks, goes_on, is_beside, with_line}
 use Rattle.textwrap_marked.specs.Laws.{parts_of_blocks, source, text_parts}
+use Rattle.textwrap_marked.specs.Lines.{without_returns}
 use Rattle.textwrap_marked.specs.Lines.{entered, first_state, line_of, LineText, passed, read_lines}
 use Rattle.textwrap_marked.specs.Lines.{StateText, with_titles}
 use Rattle.textwrap_marked.specs.Reflow.{ending_if, kept_line}
@@ -21,7 +22,7 @@ read-text : (options : ReflowOptions) (state : StateText) (raws : List (List ℕ
 read-text options state [] = refl
 read-text options state (raw ∷ []) = append-nil (raw ++ []) ∙ append-nil raw
 read-text options state (raw ∷ next ∷ raws) =
-    let at = entered state raw in
+    let at = entered state (without_returns raw) in
     let fed = nat_lt 0 (length (next ∷ raws)) in
     let behind = passed at (line_of options at raw fed) in
     let later = lines-text (read_lines options behind (next ∷ raws)) in

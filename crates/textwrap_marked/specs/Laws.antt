@@ -1,6 +1,7 @@
 -- The statements of the laws, each under a name that a caller can cite.
-use Rattle.std.specs.Prelude.{◌≡◌, ◌≢◌, ℕ, ◌+◌, ◌≤◌, ◌⊎◌, ◌||◌, Bool, true, false, List, [], ◌∷◌}
-use Rattle.std.specs.Prelude.{◌++◌, All, if◌then◌else◌, IsUtf8, length, map, nat_eq, None, ⊤}
+use Rattle.std.specs.Prelude.{◌≡◌, ◌≢◌, ℕ, ◌+◌, ◌≤◌, ◌⊎◌, ◌==◌, ◌||◌, Bool, true, false, List, []}
+use Rattle.std.specs.Prelude.{◌∷◌, ◌++◌, All, drop, if◌then◌else◌, IsUtf8, length, map, nat_eq, None}
+use Rattle.std.specs.Prelude.{Option, ⊤}
 use Rattle.std.specs.List.{flat_map, slice_split, starts_with}
 use Rattle.textwrap_base.specs.Cost.{division_cost, priced_at}
 use Rattle.textwrap_base.specs.Division.{closed_width, IsDivision}
@@ -11,6 +12,7 @@ use Rattle.textwrap_lines.specs.LineEnding.{ending_bytes}
 use Rattle.textwrap_lines.specs.Paragraph.{covered}
 use Rattle.textwrap_lines.specs.Text.{HasWholeSequences}
 use Rattle.textwrap_display.specs.Justifying.{gaps, line_words}
+use Rattle.textwrap_lines.specs.declared.line_ending.LineEnding.{LineEnding}
 use Rattle.textwrap_marked.specs.Blocks.{blocks, is_beside, stays}
 use Rattle.textwrap_marked.specs.Columns.{columns}
 use Rattle.textwrap_marked.specs.Lines.{LineText, lines_of}
@@ -19,6 +21,7 @@ use Rattle.textwrap_marked.specs.Reflow.{byte_order_mark, filled_end, filled_end
 use Rattle.textwrap_marked.specs.Reflow.{IsReflowed, kept_line, kept_text, later_room, printed}
 use Rattle.textwrap_marked.specs.Reflow.{shown_lines}
 use Rattle.textwrap_marked.specs.Words.{has_bytes, is_white}
+use Rattle.textwrap_marked.specs.declared.options.Algorithm.{Algorithm}
 use Rattle.textwrap_marked.specs.declared.options.Algorithm.TheVariants.{FirstFit, LeastCost}
 use Rattle.textwrap_marked.specs.declared.options.ReflowOptions.{ReflowOptions}
 
@@ -224,3 +227,65 @@ JustifiedLinesAreAsWide =
     (options : ReflowOptions) (text reflowed : List ℕ)
     → options.justify ≡ true → IsReflowed options text reflowed
     → AreOfParts (FillsWidth options) options text reflowed
+
+-- ---- the new text, read again
+
+-- the same paragraph of two texts: all that its lines are made of, but for how its words are divided
+pub record IsSameParagraph (part other : Part) : Type 0 where
+  pub prefix : other.first.prefix ≡ part.first.prefix
+  pub hanging : other.first.hanging ≡ part.first.hanging
+  pub starred : other.first.starred ≡ part.first.starred
+  pub words : words_of other.lines ≡ words_of part.lines
+  -- what stands behind its last line, whatever the ending
+  pub end : (ending : List ℕ) → filled_end ending other.lines ≡ filled_end ending part.lines
+
+-- the same lines that stay, but for their endings where another one is asked for, or the same paragraph
+abbrev pub IsSameBy : Option LineEnding → Bool → Part → Part → Type 0
+IsSameBy ending true part other =
+    (other.stays ≡ true)
+    × (flat_map (kept_line ending) other.lines ≡ flat_map (kept_line ending) part.lines)
+IsSameBy ending false part other = (other.stays ≡ false) × IsSameParagraph part other
+
+abbrev pub AreSameParts : Option LineEnding → List Part → List Part → Type 0
+AreSameParts ending [] [] = ⊤
+AreSameParts ending [] (other ∷ others) = ⊥
+AreSameParts ending (part ∷ parts) [] = ⊥
+AreSameParts ending (part ∷ parts) (other ∷ others) =
+    IsSameBy ending part.stays part other × AreSameParts ending parts others
+
+-- what follows a byte order mark, if there is one
+abbrev pub behind_mark : List ℕ → List ℕ
+behind_mark text = if starts_with nat_eq text byte_order_mark then drop 3 text else text
+
+-- filled lines of both end the same
+abbrev pub EndAlike : ReflowOptions → List ℕ → List ℕ → Type 0
+EndAlike options text other =
+    filled_ending options.ending (behind_mark other) ≡ filled_ending options.ending (behind_mark text)
+
+-- if the other text is a single line, which may not say how lines end, it is as if it did
+abbrev pub KeepsEnding : ReflowOptions → List ℕ → List ℕ → Type 0
+KeepsEnding options text other =
+    length (slice_split (λ c. c == 10) (behind_mark other)) ≡ 1 → EndAlike options text other
+
+-- the new text, read again, has the parts of the text, if lines are not justified
+abbrev pub PartsAreKept : Type 0
+PartsAreKept =
+    (options : ReflowOptions) → options.justify ≡ false → (text reflowed : List ℕ)
+    → IsReflowed options text reflowed
+    → AreSameParts options.ending (text_parts options (behind_mark text))
+    (text_parts options (behind_mark reflowed))
+
+-- the new text, reflowed by the same options, stays as it is, if lines are not justified
+abbrev pub ReflowedTextsStay : Type 0
+ReflowedTextsStay =
+    (options : ReflowOptions) → options.justify ≡ false → (text reflowed : List ℕ)
+    → IsReflowed options text reflowed → IsReflowed options reflowed reflowed
+
+-- what a text becomes that was reflowed at another width, by any algorithm, it becomes at once
+abbrev pub EarlierWidthsMakeNoDifference : Type 0
+EarlierWidthsMakeNoDifference =
+    (options : ReflowOptions) → options.justify ≡ false
+    → (width : ℕ) (algorithm : Algorithm) (text between reflowed : List ℕ)
+    → KeepsEnding options text between
+    → IsReflowed (record options { width = width; algorithm = algorithm }) text between
+    → IsReflowed options between reflowed → IsReflowed options text reflowed

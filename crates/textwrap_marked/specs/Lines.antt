@@ -222,7 +222,7 @@ line_of options state raw fed =
 abbrev pub read_lines : ReflowOptions → StateText → List (List ℕ) → List LineText
 read_lines options state [] = []
 read_lines options state (raw ∷ parts) =
-    let at = entered state raw in
+    let at = entered state (without_returns raw) in
     let line = line_of options at raw (nat_lt 0 (length parts)) in
     line ∷ read_lines options (passed at line) parts
 

@@ -3,9 +3,10 @@
 //!
 //! A law has no example: its statement is all there is to it. A call is written
 //! `reflowed_texts_are_unique();`.
-ghost use Rattle.textwrap_marked.specs.Laws.{FirstFitKeepsToWidth, JustifiedLinesAreAsWide};
-ghost use Rattle.textwrap_marked.specs.Laws.{LeastCostIsLeast};
-ghost use Rattle.textwrap_marked.specs.Laws.{ReflowedTextsAreUnique, WhatStandsApartStays, WordsAreKept};
+ghost use Rattle.textwrap_marked.specs.Laws.{EarlierWidthsMakeNoDifference, FirstFitKeepsToWidth};
+ghost use Rattle.textwrap_marked.specs.Laws.{JustifiedLinesAreAsWide, LeastCostIsLeast};
+ghost use Rattle.textwrap_marked.specs.Laws.{PartsAreKept, ReflowedTextsAreUnique, ReflowedTextsStay};
+ghost use Rattle.textwrap_marked.specs.Laws.{WhatStandsApartStays, WordsAreKept};
 
 /// A text becomes one text at the same options: the one that `reflow` returns.
 pub fn reflowed_texts_are_unique()
@@ -42,4 +43,24 @@ pub fn what_stands_apart_stays()
 /// form, have the words of its lines in order.
 pub fn words_are_kept()
     ensures { WordsAreKept }
+{}
+
+/// The new text, read again, is read as the text was: block by block and in order the same lines that
+/// stay, but for their endings where another one is asked for, and the same paragraphs, each with its
+/// prefix, its hanging form, its words, and what stands behind its last line. Lines are not justified,
+/// here and in the next two laws.
+pub fn parts_are_kept()
+    ensures { PartsAreKept }
+{}
+
+/// Twice is once: a new text stays as it is at the same options.
+pub fn reflowed_twice_is_once()
+    ensures { ReflowedTextsStay }
+{}
+
+/// Another width or algorithm first makes no difference: what a text becomes that was reflowed by them
+/// before, it becomes at once. Only where the text between is a single line, filled lines of it and of
+/// the text have to end the same: a text of CR LF lines without a final one has forgotten its ending then.
+pub fn earlier_widths_make_no_difference()
+    ensures { EarlierWidthsMakeNoDifference }
 {}

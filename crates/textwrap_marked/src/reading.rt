@@ -4,7 +4,7 @@ ghost use Rattle.std.specs.List.{slice_split};
 ghost use Rattle.textwrap_marked.specs.Lines.{line_view, lines_of, read_lines, state_view};
 ghost use Rattle.textwrap_marked.specs.Words.{bytes_left, parts_left};
 
-use crate::lines::{Line, is_title, read_line};
+use crate::lines::{Line, is_title, read_line, without_returns};
 use crate::options::ReflowOptions;
 use crate::states::State;
 use crate::words::split_at;
@@ -23,7 +23,7 @@ fn next_line<'t>(
     ensures shorter { IfOk result (λ read. bytes_left read.1 ≤ length text.now) }
 {
     let (raw, rest) = split_at(text, '\n');
-    let state = state.enter(raw);
+    let state = state.enter(without_returns(raw));
     let line = read_line(alloc, raw, rest.is_some(), &state, options)?;
     let state = state.pass(alloc, &line)?;
     Ok((line, rest, state))

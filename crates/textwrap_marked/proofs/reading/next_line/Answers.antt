@@ -1,7 +1,7 @@
 use Rattle.textwrap_marked.proofs.reading.next_line.Goals as goal
 use Rattle.textwrap_base.proofs.Common.{ap, ◌∙◌}
 use Rattle.textwrap_marked.proofs.ReadLemmas.{fed-is, reads-line}
-use Rattle.textwrap_marked.specs.Lines.{line_view, read_lines, state_view}
+use Rattle.textwrap_marked.specs.Lines.{entered, line_view, read_lines, state_view}
 use Rattle.textwrap_marked.specs.Words.{parts_left}
 
 pub returns-clause-lines : goal.returns-clause-lines
@@ -11,5 +11,5 @@ returns-clause-lines c =
     ap (read_lines options state) c.split_at.ensures.parts
     ∙ reads-line options state (state_view c.enter-state.result) (state_view c.in_ok-state.state)
     c.split_at.result.0.now (parts_left 10 c.split_at.result.1) c.is_some.result
-    (line_view c.in_ok-line.line) c.enter-state.ensures
+    (line_view c.in_ok-line.line) (c.enter-state.ensures ∙ ap (entered state) c.without_returns.ensures)
     (c.is_some.ensures ∙ fed-is c.split_at.result.1) c.in_ok-line.ensures c.in_ok-state.ensures

@@ -1,0 +1,172 @@
+-- Lines that stay, with the ending that is asked for.
+use Rattle.textwrap_base.proofs.Common.{◌≡◌, ℕ, ◌+◌, ◌-◌, ◌⊎◌, ◌&&◌, Bool, true, false, List}
+use Rattle.textwrap_base.proofs.Common.{[], ◌∷◌, ◌++◌, All-append, All-cons, All-nil, All-take, ap, append-nil}
+use Rattle.textwrap_base.proofs.Common.{append_assoc, arith, codes, ends_with, flat_map, get_or, inl, inr, length}
+use Rattle.textwrap_base.proofs.Common.{map, nat_eq, None, Option, refl, reverse, Some, suc, suffix_len}
+use Rattle.textwrap_base.proofs.Common.{sym, take, take_more, zero, ⊤, ◌∙◌}
+use Rattle.std.proofs.Common.{ap₂}
+use Rattle.std.proofs.lemmas.List.{get_or-reverse, length-reverse}
+use Rattle.std.proofs.lemmas.List.Sums.{prefix_len_stops, suffix_len-le-length}
+use Rattle.textwrap_lines.specs.LineEnding.{ending_bytes}
+use Rattle.textwrap_lines.specs.declared.line_ending.LineEnding.{LineEnding}
+use Rattle.textwrap_lines.specs.declared.line_ending.LineEnding.TheVariants.{CRLF, LF}
+use Rattle.textwrap_marked.proofs.BegunAlike.{return-ends}
+use Rattle.textwrap_marked.proofs.Feedless.{IsFeedless, NoFeed}
+use Rattle.textwrap_marked.proofs.ReturnsOff.{EndsWell, return_if, returns-off}
+use Rattle.textwrap_marked.proofs.TextBlocks.{AreOneBlock, last_line}
+use Rattle.textwrap_marked.specs.Fences.{FenceText}
+use Rattle.textwrap_marked.specs.Lines.{is_return, line_from, line_of, LineText, new_fence, passed, StateText}
+use Rattle.textwrap_marked.specs.Lines.{without_returns}
+use Rattle.textwrap_marked.specs.Prefixes.{prefix_ends}
+use Rattle.textwrap_marked.specs.Reflow.{ending_if, kept_line}
+use Rattle.textwrap_marked.specs.Words.{spaced_words}
+use Rattle.textwrap_marked.specs.declared.options.ReflowOptions.{ReflowOptions}
+
+abbrev pub returns_by : LineEnding → Bool
+returns_by LF = false
+returns_by CRLF = true
+
+pub bytes-by : (e : LineEnding) → ending_bytes e ≡ return_if (returns_by e) ++ 10 ∷ []
+bytes-by LF = refl
+bytes-by CRLF = refl
+
+-- whether filled lines end in a carriage return before the line feed, as the ending that is asked for says
+abbrev pub IsTold : Option LineEnding → Bool → Type 0
+IsTold None returns = ⊤
+IsTold (Some e) returns = returns_by e ≡ returns
+
+-- a line between line feeds, with the ending that is asked for
+abbrev pub anew_raw : Option LineEnding → Bool → Bool → List ℕ → List ℕ
+anew_raw None returns fed raw = raw
+anew_raw (Some e) returns fed raw = without_returns raw ++ return_if (returns && fed)
+
+abbrev pub anew : Option LineEnding → Bool → LineText → LineText
+anew e returns line = record line { raw = anew_raw e returns line.fed line.raw }
+
+-- ---- its content
+
+content-ends : (raw : List ℕ) → (without_returns raw ≡ []) ⊎ EndsWell (without_returns raw)
+content-ends raw = cut (length raw - suffix_len is_return raw) refl
+  where
+    cut : (n : ℕ) → length raw - suffix_len is_return raw ≡ n
+        → (without_returns raw ≡ []) ⊎ EndsWell (without_returns raw)
+    cut zero is = inl (ap (λ k. take k raw) is)
+    cut (suc m) is =
+        let le = suffix_len-le-length is_return raw in
+        let place : length raw - 1 - suffix_len is_return raw ≡ m = omega (arith, is) in
+        let next : length raw - suffix_len is_return raw ≡ m + 1 = omega (arith, is) in
+        inr (
+          take m raw,
+          get_or raw m 0,
+          ap (λ k. take k raw) next ∙ take_more raw m 0 (omega (arith, is)),
+          sym (ap is_return (get_or-reverse raw (suffix_len is_return raw) 0 (omega (arith, is))
+              ∙ ap (λ k. get_or raw k 0) place))
+              ∙ prefix_len_stops is_return (reverse raw) 0 (omega (arith, is, length-reverse raw)),
+        )
+
+content-same : (raw : List ℕ) (b : Bool)
+    → without_returns (without_returns raw ++ return_if b) ≡ without_returns raw
+content-same raw b = cut (content-ends raw) b
+  where
+    cut : (without_returns raw ≡ []) ⊎ EndsWell (without_returns raw) → (b : Bool)
+        → without_returns (without_returns raw ++ return_if b) ≡ without_returns raw
+    cut (inl none) true = ap (λ t. without_returns (t ++ 13 ∷ [])) none ∙ sym none
+    cut (inl none) false = ap (λ t. without_returns (t ++ [])) none ∙ sym none
+    cut (inr ends) b = returns-off (without_returns raw) b ends
+
+pub content-return : (raw : List ℕ) (b : Bool)
+    → ends_with nat_eq (without_returns raw ++ return_if b) (codes "\r") ≡ b
+content-return raw b = cut (content-ends raw) b
+  where
+    cut : (without_returns raw ≡ []) ⊎ EndsWell (without_returns raw) → (b : Bool)
+        → ends_with nat_eq (without_returns raw ++ return_if b) (codes "\r") ≡ b
+    cut (inl none) true = ap (λ t. ends_with nat_eq (t ++ 13 ∷ []) (codes "\r")) none
+    cut (inl none) false = ap (λ t. ends_with nat_eq (t ++ []) (codes "\r")) none
+    cut (inr ends) b = return-ends (without_returns raw) b ends
+
+pub anew-content : (e : Option LineEnding) (returns fed : Bool) (raw : List ℕ)
+    → without_returns (anew_raw e returns fed raw) ≡ without_returns raw
+anew-content None returns fed raw = refl
+anew-content (Some e) returns fed raw = content-same raw (returns && fed)
+
+-- all else that is read of it stays
+pub anew-line : (options : ReflowOptions) (state : StateText) (e : Option LineEnding) (returns : Bool)
+    (raw : List ℕ) (fed : Bool)
+    → line_of options state (anew_raw e returns fed raw) fed ≡ anew e returns (line_of options state raw fed)
+anew-line options state e returns raw fed =
+    ap (λ c. line_from options state (anew_raw e returns fed raw) fed (spaced_words c)
+    (prefix_ends options state.in_block (spaced_words c))) (anew-content e returns fed raw)
+
+-- nor does it change what is open behind it
+fence-anew : (fence : Option FenceText) (e : Option LineEnding) (returns : Bool) (line : LineText)
+    → new_fence fence (anew e returns line) ≡ new_fence fence line
+fence-anew None e returns line = refl
+fence-anew (Some fence) e returns line = refl
+
+pub passed-anew : (state : StateText) (e : Option LineEnding) (returns : Bool) (line : LineText)
+    → passed state (anew e returns line) ≡ passed state line
+passed-anew state e returns line =
+    λ i. record (passed state line) { fence = fence-anew state.fence e returns line i }
+
+-- ---- its text
+
+anew-kept : (e : Option LineEnding) (returns : Bool) (line : LineText)
+    → kept_line e (anew e returns line) ≡ kept_line e line
+anew-kept None returns line = refl
+anew-kept (Some e) returns line =
+    ap (λ c. c ++ ending_if line.fed (ending_bytes e)) (content-same line.raw (returns && line.fed))
+
+pub kept-anew : (e : Option LineEnding) (returns : Bool) (lines : List LineText)
+    → flat_map (kept_line e) (map (anew e returns) lines) ≡ flat_map (kept_line e) lines
+kept-anew e returns [] = refl
+kept-anew e returns (line ∷ lines) =
+    ap₂ (λ a b. a ++ b) (anew-kept e returns line) (kept-anew e returns lines)
+
+pub anew-text : (e : Option LineEnding) (returns : Bool) → IsTold e returns → (raw : List ℕ) (fed : Bool)
+    (line : LineText) → line.raw ≡ raw → line.fed ≡ fed
+    → kept_line e line ≡ anew_raw e returns fed raw ++ ending_if fed (10 ∷ [])
+anew-text None returns told raw fed line r f = ap₂ (λ a b. a ++ ending_if b (10 ∷ [])) r f
+anew-text (Some e) returns told raw fed line r f =
+    ap₂ (λ a b. without_returns a ++ ending_if b (ending_bytes e)) r f
+    ∙ ap (λ b. without_returns raw ++ ending_if fed b) (bytes-by e ∙ ap (λ b. return_if b ++ 10 ∷ []) told)
+    ∙ parts fed
+  where
+    yes : (b : Bool) → b ≡ (b && true)
+    yes true = refl
+    yes false = refl
+
+    none : (b : Bool) → false ≡ (b && false)
+    none true = refl
+    none false = refl
+
+    parts : (fed : Bool) → without_returns raw ++ ending_if fed (return_if returns ++ 10 ∷ [])
+        ≡ (without_returns raw ++ return_if (returns && fed)) ++ ending_if fed (10 ∷ [])
+    parts true =
+        ap (λ b. without_returns raw ++ (return_if b ++ 10 ∷ [])) (yes returns)
+        ∙ sym (append_assoc (without_returns raw) (return_if (returns && true)) (10 ∷ []))
+    parts false =
+        ap (λ b. without_returns raw ++ return_if b) (none returns)
+        ∙ sym (append-nil (without_returns raw ++ return_if (returns && false)))
+
+-- ---- several of them
+
+pub one-anew : (e : Option LineEnding) (returns : Bool) (line : LineText) (lines : List LineText)
+    → AreOneBlock line lines → AreOneBlock (anew e returns line) (map (anew e returns) lines)
+one-anew e returns line [] one = tt
+one-anew e returns line (next ∷ lines) (goes, one) = (goes, one-anew e returns next lines one)
+
+pub last-anew : (e : Option LineEnding) (returns : Bool) (line : LineText) (lines : List LineText)
+    → last_line (anew e returns line) (map (anew e returns) lines) ≡ anew e returns (last_line line lines)
+last-anew e returns line [] = refl
+last-anew e returns line (next ∷ lines) = last-anew e returns next lines
+
+pub return-feedless : (b : Bool) → IsFeedless (return_if b)
+return-feedless true = All-cons NoFeed 13 [] refl (All-nil NoFeed)
+return-feedless false = All-nil NoFeed
+
+pub anew-feedless : (e : Option LineEnding) (returns fed : Bool) (raw : List ℕ) → IsFeedless raw
+    → IsFeedless (anew_raw e returns fed raw)
+anew-feedless None returns fed raw free = free
+anew-feedless (Some e) returns fed raw free =
+    All-append NoFeed (without_returns raw) (return_if (returns && fed))
+    (All-take NoFeed (length raw - suffix_len is_return raw) raw free) (return-feedless (returns && fed))

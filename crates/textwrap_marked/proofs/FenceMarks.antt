@@ -1,0 +1,255 @@
+-- The marks before an open fence are no words of a text.
+use Rattle.textwrap_base.proofs.Common.{◌≡◌, ℕ, ◌+◌, ◌-◌, ◌<◌, ◌&&◌, ◌||◌, not, Bool, true, false, cond}
+use Rattle.textwrap_base.proofs.Common.{List, [], ◌∷◌, ◌++◌, All, All-head, All-tail, ap, arith}
+use Rattle.textwrap_base.proofs.Common.{All-weaker, codes, drop, false_from_ne_true, length}
+use Rattle.textwrap_base.proofs.Common.{None, Option, option_map, prefix_len, refl, Some, subst, suc, suffix_len, sym, take-append-drop}
+use Rattle.textwrap_base.proofs.Common.{append-nil, true≢false, ⊤, ◌∙◌}
+use Rattle.std.proofs.lemmas.Slice.Eq.{bytes_eq-Decides}
+use Rattle.std.specs.Prelude.{is_some}
+use Rattle.textwrap_marked.proofs.HangingForms.{IsHanging, hanging-is}
+use Rattle.textwrap_marked.proofs.HangingKinds.{AreMarks, before-full}
+use Rattle.textwrap_marked.proofs.LaterLines.{line-read}
+use Rattle.textwrap_marked.proofs.Letterless.{star-plain}
+use Rattle.textwrap_marked.proofs.LineKinds.{has_opening_in, kinds, line-is, line_by}
+use Rattle.textwrap_marked.proofs.OpenBehind.{text-letter}
+use Rattle.textwrap_marked.proofs.ParagraphLines.{all-spaced, regroup}
+use Rattle.textwrap_marked.proofs.SpacedBack.{AreSpaced, IsInk, IsWhite}
+use Rattle.textwrap_marked.proofs.SpreadWords.{text-no-quote}
+use Rattle.textwrap_marked.specs.Columns.{behind_white, marks_of}
+use Rattle.textwrap_marked.proofs.WordsIn.{IsPlain}
+use Rattle.textwrap_marked.specs.Fences.{FenceText, is_closed_by, is_left_by, opened}
+use Rattle.textwrap_marked.specs.Lines.{entered, fence_at, is_in_block, line_of, LineText, new_fence, passed, StateText, without_returns}
+use Rattle.textwrap_marked.specs.Marks.{is_comment_at, is_quote}
+use Rattle.textwrap_marked.specs.Signs.{begins_text, closes_block}
+use Rattle.textwrap_marked.specs.Words.{has_letter, is_white, spaced_text, SpacedText}
+use Rattle.textwrap_marked.specs.declared.fences.FenceKind.{FenceKind}
+use Rattle.textwrap_marked.specs.declared.options.ReflowOptions.{ReflowOptions}
+
+-- a word that no text begins with
+abbrev pub IsMarkWord : List ℕ → Type 0
+IsMarkWord word = (starred : Bool) → begins_text starred word ≡ false
+
+-- what such words begin with
+-- the first of them may begin a text where it is no comment mark: in a block comment
+abbrev pub IsFirstMark : ReflowOptions → Bool → List ℕ → Type 0
+IsFirstMark options in_block word =
+    (starred : Bool) → begins_text starred word ≡ true
+    → (in_block ≡ false) × (is_comment_at options false word ≡ true)
+
+abbrev pub AreMarkWords : ReflowOptions → Bool → List SpacedText → Type 0
+AreMarkWords options in_block [] = ⊤
+AreMarkWords options in_block (k ∷ ks) =
+    IsFirstMark options in_block k.word × All (λ k. IsMarkWord k.word) ks
+
+abbrev pub AreSafeMarks : ReflowOptions → Bool → List ℕ → Type 0
+AreSafeMarks options in_block text =
+    (ks : List SpacedText) × (rest : List ℕ) × (text ++ rest ≡ spaced_text ks) × AreSpaced ks
+    × AreMarkWords options in_block ks
+
+abbrev pub IsSafeFence : ReflowOptions → Bool → Option FenceText → Type 0
+IsSafeFence options in_block None = ⊤
+IsSafeFence options in_block (Some fence) = AreSafeMarks options in_block fence.marks
+
+abbrev pub IsSafe : ReflowOptions → StateText → Type 0
+IsSafe options state = IsSafeFence options state.in_block state.fence
+
+pub safe-none : (options : ReflowOptions) (state : StateText) → state.fence ≡ None
+    → IsSafe options state
+safe-none options state none = subst (IsSafeFence options state.in_block) (sym none) tt
+
+-- ---- marks
+
+letterless-begins : (word : List ℕ) → has_letter word ≡ false → (starred : Bool)
+    → begins_text starred word ≡ false
+letterless-begins word none starred =
+    false_from_ne_true (begins_text starred word)
+    (λ begins. true≢false (sym (text-letter starred word begins) ∙ none))
+
+quote-mark : (word : List ℕ) → is_quote word ≡ true → IsMarkWord word
+quote-mark word quote starred =
+    false_from_ne_true (begins_text starred word)
+    (λ begins. true≢false (sym quote ∙ text-no-quote starred word begins))
+
+-- such a word is one wherever it stands
+pub mark-first : (options : ReflowOptions) (in_block : Bool) (word : List ℕ) → IsMarkWord word
+    → IsFirstMark options in_block word
+mark-first options in_block word mark =
+    λ starred begins. absurd (true≢false (sym begins ∙ mark starred))
+
+comment-mark : (options : ReflowOptions) (in_block : Bool) (word : List ℕ)
+    → is_comment_at options in_block word ≡ true → IsFirstMark options in_block word
+comment-mark options true word comment =
+    mark-first options true word
+    (letterless-begins word (ap has_letter ((bytes_eq-Decides word (codes "*")).0 comment) ∙ star-plain))
+comment-mark options false word comment = λ starred begins. (refl, comment)
+
+quotes-safe : (rs : List SpacedText) → All (λ w. is_quote w.word ≡ true) rs
+    → All (λ k. IsMarkWord k.word) rs
+quotes-safe rs quote =
+    All-weaker (λ w. is_quote w.word ≡ true) (λ w. IsMarkWord w.word) (λ w is. quote-mark w.word is) rs
+    quote
+
+marks-safe : (options : ReflowOptions) (in_block : Bool) (ds rs : List SpacedText)
+    → AreMarks options in_block ds rs → AreMarkWords options in_block (ds ++ rs)
+marks-safe options in_block [] [] are = tt
+marks-safe options in_block [] (r ∷ rs) are = (
+  mark-first options in_block r.word
+      (quote-mark r.word (All-head (λ w. is_quote w.word ≡ true) r rs are.quote)),
+  quotes-safe rs (All-tail (λ w. is_quote w.word ≡ true) r rs are.quote),
+)
+marks-safe options in_block (d ∷ []) rs are = (
+  comment-mark options in_block d.word
+      (All-head (λ w. is_comment_at options in_block w.word ≡ true) d [] are.comment),
+  quotes-safe rs are.quote,
+)
+marks-safe options in_block (d ∷ e ∷ ds) rs are = absurd (omega (arith, are.one))
+
+-- marks are safe where a block comment is closed, if they were
+carry : (options : ReflowOptions) (a b : Bool) (text : List ℕ) → (a ≡ false → b ≡ false)
+    → AreSafeMarks options a text → AreSafeMarks options b text
+carry options a b text down (ks, rest, is, spaced, marks) = (ks, rest, is, spaced, words ks marks)
+  where
+    words : (ks : List SpacedText) → AreMarkWords options a ks → AreMarkWords options b ks
+    words [] marks = tt
+    words (k ∷ ks) (first, all) =
+        ((λ starred begins. let (out, comment) = first starred begins in (down out, comment)), all)
+
+-- ---- white before a text
+
+behind-ink : (c : ℕ) (cs : List ℕ) → IsInk c → behind_white (c ∷ cs) ≡ c ∷ cs
+behind-ink c cs ink = ap (λ b. drop (cond b (1 + prefix_len is_white cs) 0) (c ∷ cs)) ink
+
+pub behind-lead : (lead text : List ℕ) → All IsWhite lead → behind_white text ≡ text
+    → behind_white (lead ++ text) ≡ text
+behind-lead [] text white is = is
+behind-lead (c ∷ lead) text white is =
+    let rest = lead ++ text in
+    let next : 1 + prefix_len is_white rest ≡ suc (prefix_len is_white rest) = omega arith in
+    ap (λ b. drop (cond b (1 + prefix_len is_white rest) 0) (c ∷ rest)) (All-head IsWhite c lead white)
+    ∙ ap (λ n. drop n (c ∷ rest)) next ∙ behind-lead lead text (All-tail IsWhite c lead white) is
+
+pub behind-words : (ks : List SpacedText) (more : List ℕ) → AreSpaced ks → 0 < length ks
+    → behind_white (spaced_text ks ++ more) ≡ spaced_text ks ++ more
+behind-words [] more are some = absurd (omega (arith, some))
+behind-words (k ∷ ks) more are some = first k.word refl (plain ks are)
+  where
+    plain : (ks : List SpacedText) → AreSpaced (k ∷ ks) → IsPlain k.word
+    plain [] are = are.word
+    plain (v ∷ vs) are = are.0.word
+
+    first : (word : List ℕ) → k.word ≡ word → IsPlain k.word
+        → behind_white (((k.word ++ k.white) ++ spaced_text ks) ++ more)
+        ≡ ((k.word ++ k.white) ++ spaced_text ks) ++ more
+    first [] same is = absurd (omega (arith, is.some, ap length same))
+    first (c ∷ cs) same is =
+        subst (λ w. behind_white (((w ++ k.white) ++ spaced_text ks) ++ more)
+        ≡ ((w ++ k.white) ++ spaced_text ks) ++ more) (sym same)
+        (behind-ink c (((cs ++ k.white) ++ spaced_text ks) ++ more)
+        (All-head IsInk c cs (subst (All IsInk) same is.ink)))
+
+hanging-safe : (options : ReflowOptions) (in_block : Bool) (text lead : List ℕ) (ds rs : List SpacedText)
+    → IsHanging options in_block text lead ds rs → AreSafeMarks options in_block (marks_of text)
+hanging-safe options in_block text lead ds rs hang =
+    let ks = ds ++ rs in
+    let behind = behind_white text in
+    let spaced = all-spaced ks hang.full in
+    let n = length behind - suffix_len is_white behind in
+    let whole : behind ≡ spaced_text ks =
+    ap behind_white hang.is ∙ behind-lead lead (spaced_text ks) hang.white (words ks spaced) in (
+      ks,
+      drop n behind,
+      take-append-drop n behind ∙ whole,
+      spaced,
+      marks-safe options in_block ds rs hang.marks,
+    )
+  where
+    words : (ks : List SpacedText) → AreSpaced ks → behind_white (spaced_text ks) ≡ spaced_text ks
+    words [] are = refl
+    words (k ∷ ks) are =
+        subst (λ t. behind_white t ≡ t) (append-nil (spaced_text (k ∷ ks)))
+        (behind-words (k ∷ ks) [] are (omega arith))
+
+-- ---- behind a line
+
+opened-some : (words : List SpacedText) (kind : FenceKind) → opened words ≡ Some kind → 0 < length words
+opened-some [] kind is = absurd (none-some kind is)
+  where
+    none-some : (kind : FenceKind) → ◌≡◌ {A = Option FenceKind} None (Some kind) → ⊥
+    none-some kind is = cc
+opened-some (w ∷ ws) kind is = omega arith
+
+outside : (i o c : Bool) → (i || o) ≡ false → cond i c (true && (o && c)) ≡ false
+outside true o c is = absurd (true≢false is)
+outside false o c is = ap (λ b. true && (b && c)) is
+
+line-marks : (options : ReflowOptions) (state : StateText) (raw : List ℕ) (fed : Bool)
+    → 0 < length (line_of options state raw fed).words
+    → AreSafeMarks options (is_in_block state.in_block false (line_of options state raw fed))
+    (marks_of (line_of options state raw fed).hanging)
+line-marks options state raw fed some =
+    let (lead, cs, qs, bs, ws, read) = line-read options state raw in
+    let is = line-is lead cs qs bs ws options state raw fed read.text read.have in
+    let here = line_by options state raw fed (kinds lead cs qs bs ws) in
+    let has : 0 < length ws = subst (λ (l : LineText). 0 < length l.words) is some in
+    let (full, spaced) =
+    before-full (cs ++ (qs ++ bs)) ws has (subst AreSpaced (regroup cs qs bs ws) read.text.spaced) in
+    let (front, ds, rs, hang) =
+    hanging-is options state.in_block lead cs qs bs ws read.text.white full read.have in
+    subst (λ (l : LineText). AreSafeMarks options (is_in_block state.in_block false l) (marks_of l.hanging))
+    (sym is)
+    (carry options (state.in_block || has_opening_in cs) (is_in_block state.in_block false here)
+    (marks_of here.hanging)
+    (λ out. outside state.in_block (has_opening_in cs) (not (closes_block ws)) out)
+    (hanging-safe options _ _ front ds rs hang))
+
+pub safe-passed : (options : ReflowOptions) (state : StateText) (raw : List ℕ) (fed : Bool)
+    → IsSafe options state
+    → IsSafe options (passed (entered state (without_returns raw)) (line_of options (entered state (without_returns raw)) raw fed))
+safe-passed options state raw fed safe =
+    behind (fence_at state.fence (without_returns raw)) (at state.fence safe)
+  where
+    at : (f : Option FenceText) → IsSafeFence options state.in_block f
+        → IsSafeFence options state.in_block (fence_at f (without_returns raw))
+    at None safe = tt
+    at (Some fence) safe =
+        elim (is_left_by fence (without_returns raw)) as (λ b. IsSafeFence options state.in_block (cond b None (Some fence)))
+        [ true ↦ tt | false ↦ safe ]
+
+    kind_of : (block : Bool) (here : LineText) (kind : Option FenceKind) → opened here.words ≡ kind
+        → (0 < length here.words → AreSafeMarks options block (marks_of here.hanging))
+        → IsSafeFence options block (option_map (λ k. record { marks = marks_of here.hanging; kind = k })
+        (opened here.words))
+    kind_of block here None is marks =
+        subst (λ k. IsSafeFence options block
+        (option_map (λ k. record { marks = marks_of here.hanging; kind = k }) k)) (sym is) tt
+    kind_of block here (Some kind) is marks =
+        subst (λ k. IsSafeFence options block
+        (option_map (λ k. record { marks = marks_of here.hanging; kind = k }) k)) (sym is)
+        (marks (opened-some here.words kind is))
+
+    stays_out : (i c o : Bool) → i ≡ false → cond i c (not true && o) ≡ false
+    stays_out true c o is = absurd (true≢false is)
+    stays_out false c o is = refl
+
+    behind : (f : Option FenceText) → IsSafeFence options state.in_block f
+        → IsSafeFence options
+        (is_in_block state.in_block (is_some f) (line_of options (entered state (without_returns raw)) raw fed))
+        (new_fence f (line_of options (entered state (without_returns raw)) raw fed))
+    behind (Some fence) safe =
+        let here = line_of options (entered state (without_returns raw)) raw fed in
+        let block = is_in_block state.in_block true here in
+        elim (is_closed_by fence here.hanging here.words)
+        as (λ b. IsSafeFence options block (cond b None (Some fence))) [
+          | true ↦ tt
+          | false ↦ carry options state.in_block block fence.marks
+              (λ out. stays_out state.in_block (not (closes_block here.words)) here.opens_block out) safe
+        ]
+    behind None safe =
+        let here = line_of options (entered state (without_returns raw)) raw fed in
+        let block = is_in_block state.in_block false here in
+        elim here.deeper as (λ b. IsSafeFence options block (cond b None (option_map
+        (λ k. record { marks = marks_of here.hanging; kind = k }) (opened here.words)))) [
+          | true ↦ tt
+          | false ↦ kind_of block here (opened here.words) refl
+              (λ some. line-marks options (entered state (without_returns raw)) raw fed some)
+        ]

@@ -1,0 +1,350 @@
+-- What is printed of a paragraph before other blocks, read again.
+use Rattle.textwrap_base.proofs.Common.{◌≡◌, ◌≢◌, ℕ, ◌&&◌, ◌||◌, Bool, true, false, List, []}
+use Rattle.textwrap_base.proofs.Common.{◌∷◌, ◌++◌, All, All-append, All-cons, All-head, All-nil, All-tail}
+use Rattle.textwrap_base.proofs.Common.{inr, ap, append-nil, append_assoc, arith, join_with_byte}
+use Rattle.textwrap_base.proofs.Common.{length, lt-ltb, map, nat_lt, None, refl, subst, sym, ◌∙◌}
+use Rattle.textwrap_base.proofs.Lists.Parts.{all-right, flat}
+use Rattle.textwrap_words.proofs.Common.{blank, WordText}
+use Rattle.textwrap_lines.specs.Paragraph.{covered}
+use Rattle.textwrap_marked.proofs.AnewLines.{IsTold}
+use Rattle.textwrap_marked.proofs.BegunAlike.{AreBegun, IsInPlace, return-ends}
+use Rattle.textwrap_marked.proofs.BlockOrder.{AreBlocks}
+use Rattle.textwrap_marked.proofs.BlocksAlike.{part-cons, part_of, stops-same}
+use Rattle.textwrap_marked.proofs.Feedless.{IsFeedless, IsFeedlessLine}
+use Rattle.textwrap_marked.proofs.FenceLeft.{EndsText, EndsWord, still-left, text-tail}
+use Rattle.textwrap_marked.proofs.FenceMarks.{IsSafe, safe-none}
+use Rattle.textwrap_marked.proofs.FilledParts.{divided-is}
+use Rattle.textwrap_marked.proofs.KeptLines.{IsHeadAlike, title-heads}
+use Rattle.textwrap_marked.proofs.LineTests.{letter-no-rule}
+use Rattle.textwrap_marked.proofs.LineWords.{AreCutInto, division-words, joined, MayPart, spread}
+use Rattle.textwrap_marked.proofs.NewBlock.{block_of, first-of-words, first_of, IsParagraph, renew}
+use Rattle.textwrap_marked.proofs.NewLines.{here-words, later_raws, line_raw, raw-text, returns_at, text_end}
+use Rattle.textwrap_marked.proofs.OpenBehind.{behind_text, text-letter}
+use Rattle.textwrap_marked.proofs.ParagraphLines.{first-begins, first-text, first-unfenced, regroup}
+use Rattle.textwrap_marked.proofs.PrintedText.{break-again, break-same, break-spaced, ends_as, filled-last}
+use Rattle.textwrap_marked.proofs.PrintedText.{printed-joined, raws-feedless, shown-plain, text-joined}
+use Rattle.textwrap_marked.proofs.ReadBack.{ending, IsReadBack, Walks}
+use Rattle.textwrap_marked.proofs.ReturnsOff.{ends-behind, EndsWell, joined-end, return_if, white-end}
+use Rattle.textwrap_marked.proofs.SpacedBack.{IsWhite}
+use Rattle.textwrap_marked.proofs.TextBlocks.{AreTextWords, as-title-none, last_line, read, read-more, title_of}
+use Rattle.textwrap_marked.proofs.SpreadWords.{spread-end}
+use Rattle.textwrap_marked.specs.Blocks.{is_beside, stays}
+use Rattle.textwrap_marked.specs.Laws.{IsSameBy, IsSameParagraph}
+use Rattle.textwrap_marked.specs.Lines.{as_title, entered, fence_at, is_return, line_of, LineText, passed, StateText, without_returns}
+use Rattle.textwrap_marked.specs.Pieces.{words_of}
+use Rattle.textwrap_marked.specs.Reflow.{break_white, ending_if, filled_end, IsFilled, IsLaidOut, printed}
+use Rattle.textwrap_marked.specs.Signs.{first_word, opens_paragraph}
+use Rattle.textwrap_marked.specs.Words.{has_letter, spaced_text}
+use Rattle.textwrap_marked.specs.declared.options.ReflowOptions.{ReflowOptions}
+
+-- what follows the first word of a line
+abbrev HasTail : List ℕ → List (List ℕ) → List ℕ → Bool → Type 0
+HasTail word words end r =
+    (tail : List ℕ) × (spaced_text (spread (word ∷ words) end) ++ return_if r ≡ word ++ tail)
+    × EndsWord tail
+
+spread-tail : (word : List ℕ) (words : List (List ℕ)) (end : List ℕ) (r : Bool) → All IsWhite end
+    → HasTail word words end r
+spread-tail word [] [] true white =
+    (13 ∷ [], ap (λ l. l ++ 13 ∷ []) (append-nil (word ++ []) ∙ append-nil word), refl)
+spread-tail word [] [] false white =
+    ([], ap (λ l. l ++ []) (append-nil (word ++ []) ∙ append-nil word), tt)
+spread-tail word [] (c ∷ end) r white = (
+  (c ∷ end) ++ return_if r,
+  ap (λ l. l ++ return_if r) (append-nil (word ++ c ∷ end)) ∙ append_assoc word (c ∷ end) (return_if r),
+  ap (λ b. b || is_return c) (All-head IsWhite c end white),
+)
+spread-tail word (next ∷ words) end r white =
+    let rest = spaced_text (spread (next ∷ words) end) in (
+      blank ∷ (rest ++ return_if r),
+      append_assoc (word ++ blank ∷ []) rest (return_if r)
+          ∙ append_assoc word (blank ∷ []) (rest ++ return_if r),
+      refl,
+    )
+
+-- the same of its text alone
+text-end : (word : List ℕ) (words : List (List ℕ)) (end : List ℕ) → All IsWhite end
+    → (tail : List ℕ) × (spaced_text (spread (word ∷ words) end) ≡ word ++ tail) × EndsText tail
+text-end word [] [] white = ([], append-nil (word ++ []), tt)
+text-end word [] (c ∷ end) white =
+    (c ∷ end, append-nil (word ++ c ∷ end), All-head IsWhite c end white)
+text-end word (next ∷ words) end white =
+    let rest = spaced_text (spread (next ∷ words) end) in
+    (blank ∷ rest, append_assoc word (blank ∷ []) rest, refl)
+
+end-white : (end : List ℕ) → All IsWhite end → (lines : List (List (List ℕ)))
+    → All IsWhite (text_end end lines)
+end-white end white [] = white
+end-white end white (line ∷ lines) = All-nil IsWhite
+
+-- where lines follow, the ending is the one that they have
+followed : (returns : Bool) (end hanging : List ℕ) (left : List (List ℕ)) (ls : List (List (List ℕ)))
+    → nat_lt 0 (length (later_raws returns (returns && nat_lt 0 (length left)) end hanging ls ++ left)) ≡ true
+    → returns_at returns (returns && nat_lt 0 (length left)) ls ≡ returns
+followed returns end hanging left [] some = ap (λ b. returns && b) some ∙ same returns
+  where
+    same : (b : Bool) → (b && true) ≡ b
+    same true = refl
+    same false = refl
+followed returns end hanging left (line ∷ ls) some = refl
+
+cut-some : (options : ReflowOptions) (starred : Bool) (lines : List (List (List ℕ)))
+    (later : List (List ℕ)) → AreCutInto options starred later lines → All (λ l. l ≢ []) lines
+cut-some options starred [] later cut = All-nil (λ l. l ≢ [])
+cut-some options starred (line ∷ lines) later (behind, some, is, may, cut) =
+    All-cons (λ l. l ≢ []) line lines some (cut-some options starred lines behind cut)
+
+words-feedless : (lines : List LineText) → All IsFeedlessLine lines → All IsFeedless (words_of lines)
+words-feedless [] all = All-nil IsFeedless
+words-feedless (line ∷ lines) all =
+    All-append IsFeedless (map (λ w. w.word) line.words) (words_of lines)
+    (All-head IsFeedlessLine line lines all).words
+    (words-feedless lines (All-tail IsFeedlessLine line lines all))
+
+module _ (options : ReflowOptions) (returns : Bool) (told : IsTold options.ending returns) (state : StateText)
+    (raw : List ℕ) (first : LineText) (lines : List LineText) (bs : List (List LineText))
+    (p : IsParagraph options (entered state (without_returns raw)) raw first lines (flat bs)) (beside : Bool) where
+  abbrev here : LineText
+  here = first_of options (entered state (without_returns raw)) raw first lines (flat bs) p
+
+  abbrev block_here : Bool
+  block_here = block_of options (entered state (without_returns raw)) raw first lines (flat bs) p
+
+  abbrev final : LineText
+  final = last_line here lines
+
+  letter : has_letter (first_word p.ws) ≡ true
+  letter =
+      text-letter here.starred (first_word p.ws) (first-begins options (entered state (without_returns raw)) raw p.fed p.lead
+      p.cs p.qs p.bs p.ws p.has p.apart)
+
+  -- where its first line is another one, no fence is open either
+  enters-same : (word : List ℕ) (words : List (List ℕ)) (end : List ℕ) (r : Bool) → All IsWhite end
+      → first_word p.ws ≡ word → AreTextWords block_here (word ∷ words) → IsSafe options state
+      → entered state (without_returns
+      ((here.prefix ++ spaced_text (spread (word ∷ words) end)) ++ return_if r))
+      ≡ entered state (without_returns raw)
+  enters-same word words end r white same are safe =
+      let at = entered state (without_returns raw) in
+      let spaced = spaced_text (spread (word ∷ words) end) in
+      let (tail, is, ends) = text-end word words end white in
+      let old = first-unfenced options at raw p.fed p.lead p.cs p.qs p.bs p.ws p.has p.apart in
+      let text = first-text options at raw p.fed p.lead p.cs p.qs p.bs p.ws p.has p.apart in
+      let cut : without_returns ((here.prefix ++ spaced) ++ return_if r) ≡ here.prefix ++ spaced =
+      raw-text block_here here.prefix word words end r are.plain are.columns white in
+      let whole : here.prefix ++ (first_word p.ws ++ tail) ≡ here.prefix ++ spaced =
+      ap (λ w. here.prefix ++ (w ++ tail)) same ∙ ap (λ l. here.prefix ++ l) (sym is) in
+      let left : fence_at state.fence (without_returns ((here.prefix ++ spaced) ++ return_if r)) ≡ None =
+      ap (fence_at state.fence) (cut ∙ sym whole)
+      ∙ still-left options state raw p.lead p.cs p.qs p.bs p.ws text.starred tail p.has text.some text.begins
+      safe ends old in
+      ap (λ f. record state { fence = f }) (left ∙ sym old)
+
+  -- its first line, in the place of that of the text
+  in-place : (word : List ℕ) (words : List (List ℕ)) (end : List ℕ) (r : Bool) (news : List (List ℕ))
+      → All IsWhite end → first_word p.ws ≡ word → AreTextWords block_here (word ∷ words)
+      → (nat_lt 0 (length news) ≡ true → r ≡ returns)
+      → IsInPlace returns raw ((here.prefix ++ spaced_text (spread (word ∷ words) end)) ++ return_if r) news
+  in-place word words end r news white same are ends =
+      let text = spaced_text (spread (word ∷ words) end) in
+      let (tail, is, ends_word) = spread-tail word words end r white in
+      let own = first-text options (entered state (without_returns raw)) raw p.fed p.lead p.cs p.qs p.bs p.ws p.has p.apart in
+      let list = p.cs ++ (p.qs ++ p.bs) in
+      let (old_tail, old, old_ends) = text-tail raw p.lead list p.ws own.some
+      (p.has.text.is ∙ ap (λ l. p.lead ++ spaced_text l) (regroup p.cs p.qs p.bs p.ws)) own.spaced in
+      let well = ends-behind here.prefix text (subst EndsWell (sym (spread-end word words end))
+      (white-end (joined (word ∷ words)) end (joined-end word words are.plain are.columns) white)) in
+      record {
+        common = here.prefix ++ word;
+        old_end = old_tail;
+        new_end = tail;
+        old = old ∙ ap (λ w. here.prefix ++ (w ++ old_tail)) same
+            ∙ sym (append_assoc here.prefix word old_tail);
+        is = append_assoc here.prefix text (return_if r) ∙ ap (λ l. here.prefix ++ l) is
+            ∙ sym (append_assoc here.prefix word tail);
+        old_ends = old_ends;
+        new_ends = ends_word;
+        ends = λ some. return-ends (here.prefix ++ text) r well ∙ ends some;
+      }
+
+  filled-lines : (front back : List ℕ) (word : List ℕ) (words later_words : List (List ℕ))
+      (ls : List (List (List ℕ))) (line : List WordText) (division : List (List WordText))
+      (raws left : List (List ℕ)) → raws ≡ raw ∷ left
+      → AreBlocks ((here ∷ lines) ∷ bs) → stays (beside || is_beside here bs) here ≡ false
+      → front ≡ printed (ending options returns told) here.prefix here.hanging
+      (map covered (line ∷ division))
+      ++ filled_end (ending options returns told) (here ∷ lines)
+      → MayPart options here.starred (word ∷ words) later_words
+      → AreCutInto options here.starred later_words ls
+      → words_of (here ∷ lines) ≡ (word ∷ words) ++ later_words
+      → map covered (line ∷ division) ≡ map joined ((word ∷ words) ∷ ls) → IsSafe options state
+      → All IsFeedlessLine (here ∷ lines)
+      → IsReadBack options returns told (behind_text block_here here.hanging final.words)
+      (is_beside here bs) bs p.walked.left back
+      → IsReadBack options returns told state beside ((here ∷ lines) ∷ bs) raws (front ++ back)
+  filled-lines front back word words later_words ls line division raws left whole (one, stops, are) stay
+      is may cut parts shown safe free later =
+      let at = entered state (without_returns raw) in
+      let rest = flat bs in
+      let others = flat later.blocks in
+      let end = break_white final in
+      let white = break-spaced final p.walked.spaced in
+      let fed = nat_lt 0 (length later.again) in
+      let more = returns && fed in
+      let ends = return_if returns ++ 10 ∷ [] in
+      let title : (l : LineText) → l.hanging ≡ here.hanging → title_of l others ≡ false =
+      λ l same. title-heads final l rest others later.heads (same ∙ sym p.walked.hangs) ∙ p.walked.title in
+      let (alike, n) = renew options at raw first lines rest p returns end white (break-same final)
+      later.again others later.reads title word words later_words ls may cut parts in
+      let new_raw = line_raw returns more end here.prefix (word ∷ words) ls in
+      let raws_new = later_raws returns more end here.hanging ls ++ later.again in
+      let fed_new = nat_lt 0 (length raws_new) in
+      let new = line_of options at new_raw fed_new in
+      let last_new = last_line new n.lines in
+      let first_is : first_word p.ws ≡ word =
+      first-of-words p.ws (words_of lines) word (words ++ later_words)
+      (first-text options at raw p.fed p.lead p.cs p.qs p.bs p.ws p.has p.apart).some parts in
+      let mine = here-words options block_here here.starred word words later_words ls cut
+      (subst (AreTextWords block_here) parts p.walked.words) in
+      let enters : entered state (without_returns new_raw) ≡ at =
+      enters-same word words (text_end end ls) (returns_at returns more ls) (end-white end white ls) first_is
+      mine safe in
+      let head : IsHeadAlike here new = record {
+        prefix = alike.prefix;
+        hangs = alike.hangs;
+        field = alike.field;
+        chosen = alike.chosen;
+        apart = alike.apart;
+        rule = letter-no-rule new.words (ap has_letter alike.first ∙ letter)
+            ∙ sym (letter-no-rule here.words letter);
+        opens = ap opens_paragraph alike.first;
+      } in
+      let break_is : break_white last_new ≡ end = break-again final last_new n.space in
+      let fed_is : final.fed ≡ fed = p.walked.fed ∙ sym later.some in
+      let same : IsSameParagraph (part_of false here lines) (part_of false new n.lines) = record {
+        prefix = alike.prefix;
+        hanging = alike.hangs;
+        starred = alike.starred;
+        words = n.spells ∙ sym parts;
+        end = λ e. filled-last e new n.lines
+            ∙ ap (λ w. w ++ ending_if last_new.fed e) break_is
+            ∙ ap (λ f. end ++ ending_if f e) (n.fed ∙ sym fed_is)
+            ∙ sym (filled-last e here lines);
+      } in
+      let behind : StateText → List LineText = λ s.
+      let l = line_of options s new_raw fed_new in
+      let ls = read options (passed s l) raws_new in
+      as_title (title_of l ls) l ∷ ls in record {
+        again = new_raw ∷ raws_new;
+        blocks = (new ∷ n.lines) ∷ later.blocks;
+        reads = sym (read-more options state new_raw raws_new ∙ ap behind enters
+            ∙ ap (λ ls. as_title (title_of new ls) new ∷ ls) n.read_is
+            ∙ ap (λ b. as_title b new ∷ (n.lines ++ others)) n.untitled
+            ∙ ap (λ l. l ∷ (n.lines ++ others)) (as-title-none new));
+        are = (
+          n.one,
+          stops-same final last_new bs later.blocks are later.are later.heads (record {
+            hangs = n.hangs ∙ sym p.walked.hangs;
+            ended = n.ends ∙ sym p.walked.ends;
+            apart = n.apart ∙ sym p.walked.apart;
+          }) stops,
+          later.are,
+        );
+        same = part-cons options.ending beside here new lines n.lines bs later.blocks head are later.are later.heads
+            later.same (subst (λ b. IsSameBy options.ending b (part_of b here lines) (part_of b new n.lines)) (sym stay)
+            (refl, same));
+        text_is = ap (λ f. f ++ back) is
+            ∙ ap (λ e. (printed ends here.prefix here.hanging (map covered (line ∷ division)) ++ e) ++ back)
+            (filled-last ends here lines)
+            ∙ append_assoc (printed ends here.prefix here.hanging (map covered (line ∷ division))) (ends_as ends final)
+            back
+            ∙ ap (λ f. printed ends here.prefix here.hanging (map covered (line ∷ division))
+            ++ ((end ++ ending_if f ends) ++ back)) fed_is
+            ∙ ap (λ b. printed ends here.prefix here.hanging (map covered (line ∷ division))
+            ++ ((end ++ ending_if fed ends) ++ b)) later.text_is
+            ∙ printed-joined ends here.prefix here.hanging
+            ((end ++ ending_if fed ends) ++ join_with_byte 10 later.again) line division (word ∷ words) ls
+            shown
+            ∙ text-joined returns end here.hanging later.again ls here.prefix word words
+            (cut-some options here.starred ls later_words cut);
+        feedless = All-append IsFeedless
+            (new_raw ∷ later_raws returns more end here.hanging ls) later.again
+            (raws-feedless options here.starred returns more end here.hanging white
+            (All-head IsFeedlessLine here lines free).hanging ls here.prefix (word ∷ words) later_words
+            (All-head IsFeedlessLine here lines free).prefix cut
+            (subst (All IsFeedless) parts (words-feedless (here ∷ lines) free)))
+            later.feedless;
+        heads = head;
+        some = lt-ltb 0 (length (new_raw ∷ raws_new)) (omega arith)
+            ∙ sym (lt-ltb 0 (length (raw ∷ left)) (omega arith))
+            ∙ ap (λ l. nat_lt 0 (length l)) (sym whole);
+        begun = subst (λ l. AreBegun returns l (new_raw ∷ raws_new)) (sym whole)
+            (inr (in-place word words (text_end end ls) (returns_at returns more ls) raws_new
+            (end-white end white ls) first_is
+            mine (followed returns end here.hanging later.again ls)));
+      }
+
+  -- by the lines of a division of its pieces
+  filled-division : (front back : List ℕ) (ls : List (List (List ℕ)))
+      (division : List (List WordText)) (raws left : List (List ℕ)) → raws ≡ raw ∷ left
+      → AreBlocks ((here ∷ lines) ∷ bs) → stays (beside || is_beside here bs) here ≡ false
+      → front ≡ printed (ending options returns told) here.prefix here.hanging (map covered division)
+      ++ filled_end (ending options returns told) (here ∷ lines)
+      → AreCutInto options here.starred (words_of (here ∷ lines)) ls
+      → map covered division ≡ map joined ls → IsSafe options state → All IsFeedlessLine (here ∷ lines)
+      → IsReadBack options returns told (behind_text block_here here.hanging final.words)
+      (is_beside here bs) bs p.walked.left back
+      → IsReadBack options returns told state beside ((here ∷ lines) ∷ bs) raws (front ++ back)
+  filled-division front back [] division raws left whole blocks stay is cut shown safe free later =
+      absurd (omega (arith, p.walked.words_some, ap length cut))
+  filled-division front back ([] ∷ ls) division raws left whole blocks stay is (behind, some, parts, may, cut)
+      shown safe free later = absurd (some refl)
+  filled-division front back ((word ∷ words) ∷ ls) [] raws left whole blocks stay is cut shown safe free
+      later = absurd (omega (arith, ap length shown))
+  filled-division front back ((word ∷ words) ∷ ls) (line ∷ division) raws left whole blocks stay is
+      (behind, some, parts, may, cut) shown safe free later =
+      filled-lines front back word words behind ls line division raws left whole blocks stay is may cut
+      parts shown safe free later
+
+  words-some : words_of (here ∷ lines) ≢ []
+  words-some none = omega (arith, p.walked.words_some, ap length none)
+
+  filled-here : options.justify ≡ false → (front back : List ℕ) (raws left : List (List ℕ)) → raws ≡ raw ∷ left → p.behind ≡ left
+      → AreBlocks ((here ∷ lines) ∷ bs) → stays (beside || is_beside here bs) here ≡ false
+      → IsFilled options (ending options returns told) here (here ∷ lines) front
+      → IsLaidOut options (ending options returns told) (is_beside here bs) bs back
+      → Walks options returns told (is_beside here bs) bs → IsSafe options state
+      → All IsFeedless raws → All IsFeedlessLine (here ∷ lines)
+      → IsReadBack options returns told state beside ((here ∷ lines) ∷ bs) raws (front ++ back)
+  filled-here plain front back raws left whole same blocks stay (division, divided, is) laid walks safe free
+      lines_free =
+      let (ls, cut, shown) = division-words options here.starred (words_of (here ∷ lines)) words-some
+      p.walked.words.plain division (divided-is _ _ _ division divided) in
+      let behind = behind_text block_here here.hanging final.words in
+      let all_left : All IsFeedless left =
+      All-tail IsFeedless raw left (subst (All IsFeedless) whole free) in
+      let free_left : All IsFeedless p.walked.left =
+      all-right IsFeedless p.walked.done p.walked.left
+      (subst (All IsFeedless) (sym same ∙ p.walked.whole) all_left) in
+      let printed_is = is ∙ ap (λ l. printed (ending options returns told) here.prefix here.hanging l
+      ++ filled_end (ending options returns told) (here ∷ lines)) (shown-plain options here division plain) in
+      filled-division front back ls division raws left whole blocks stay printed_is cut shown safe lines_free
+      (walks behind p.walked.left back p.walked.reads laid (safe-none options behind refl) free_left)
+
+  -- the same of the line that is read
+  pub filled-step : options.justify ≡ false → (front back : List ℕ) (raws left : List (List ℕ)) → raws ≡ raw ∷ left
+      → p.behind ≡ left → AreBlocks ((first ∷ lines) ∷ bs)
+      → stays (beside || is_beside first bs) first ≡ false
+      → IsFilled options (ending options returns told) first (first ∷ lines) front
+      → IsLaidOut options (ending options returns told) (is_beside first bs) bs back
+      → Walks options returns told (is_beside first bs) bs → IsSafe options state
+      → All IsFeedless raws → All IsFeedlessLine (first ∷ lines)
+      → IsReadBack options returns told state beside ((first ∷ lines) ∷ bs) raws (front ++ back)
+  filled-step plain front back raws left whole same =
+      subst (λ l. AreBlocks ((l ∷ lines) ∷ bs) → stays (beside || is_beside l bs) l ≡ false
+      → IsFilled options (ending options returns told) l (l ∷ lines) front
+      → IsLaidOut options (ending options returns told) (is_beside l bs) bs back
+      → Walks options returns told (is_beside l bs) bs → IsSafe options state → All IsFeedless raws
+      → All IsFeedlessLine (l ∷ lines)
+      → IsReadBack options returns told state beside ((l ∷ lines) ∷ bs) raws (front ++ back)) (sym p.is)
+      (filled-here plain front back raws left whole same)

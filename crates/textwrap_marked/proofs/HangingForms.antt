@@ -1,0 +1,270 @@
+-- A hanging form is white and marks that a line behind it is read with.
+use Rattle.textwrap_base.proofs.Common.{◌≡◌, ℕ, suc, ◌≤◌, ◌||◌, Bool, true, false, cond, List}
+use Rattle.textwrap_base.proofs.Common.{[], ◌∷◌, ◌++◌, All, All-append, All-cons, All-head, All-nil}
+use Rattle.textwrap_base.proofs.Common.{All-tail, ap, arith}
+use Rattle.textwrap_base.proofs.Common.{zero, length, refl, subst, sym, take, true≢false, ◌∙◌}
+use Rattle.textwrap_base.proofs.Lists.Parts.{all-left, all-right}
+use Rattle.textwrap_words.specs.Units.{text_width}
+use Rattle.textwrap_marked.proofs.HangingKinds.{AreMarks, end-text, end_comments, end_lead, hang-text}
+use Rattle.textwrap_marked.proofs.HangingKinds.{hang_lead, hang_marks, IsFull, last-all, last-full, onto_last}
+use Rattle.textwrap_marked.proofs.HangingKinds.{quote-no-star, quotes-are, star, star-no-opening}
+use Rattle.textwrap_marked.proofs.LineKinds.{hanging_of, has_opening_in, HaveKinds, kinds, one_if}
+use Rattle.textwrap_marked.proofs.SpacedBack.{IsWhite, plain-one}
+use Rattle.textwrap_marked.specs.Marks.{is_comment_at, is_opening, is_quote}
+use Rattle.textwrap_marked.specs.Prefixes.{blanks, comment_len, hanging_bullets}
+use Rattle.textwrap_marked.specs.Words.{spaced_text, SpacedText}
+use Rattle.textwrap_marked.specs.declared.options.ReflowOptions.{ReflowOptions}
+
+blanks-white : (n : ℕ) → All IsWhite (blanks n)
+blanks-white zero = All-nil IsWhite
+blanks-white (suc n) = All-cons IsWhite 32 (blanks n) refl (blanks-white n)
+
+pub bullets-white : (bs : List SpacedText) → All IsFull bs → All IsWhite (hanging_bullets bs)
+bullets-white [] full = All-nil IsWhite
+bullets-white (b ∷ bs) full =
+    All-append IsWhite (blanks (text_width b.word) ++ b.white) (hanging_bullets bs)
+    (All-append IsWhite (blanks (text_width b.word)) b.white (blanks-white (text_width b.word))
+    (All-head IsFull b bs full).spaced.white) (bullets-white bs (All-tail IsFull b bs full))
+
+-- ---- marks
+
+comment-one : (options : ReflowOptions) (in_block : Bool) (c : SpacedText) (ws : List SpacedText)
+    (n : ℕ) → comment_len options in_block (c ∷ ws) ≡ suc n
+    → is_comment_at options in_block c.word ≡ true
+comment-one options in_block c ws n is = cut (is_comment_at options in_block c.word) refl
+  where
+    cut : (b : Bool) → is_comment_at options in_block c.word ≡ b
+        → is_comment_at options in_block c.word ≡ true
+    cut true comment = comment
+    cut false comment =
+        let none : 0 ≡ suc n = sym (ap one_if comment) ∙ is in absurd (omega (arith, none))
+
+comment-none : (options : ReflowOptions) (in_block : Bool) (c : SpacedText) (ws : List SpacedText)
+    → comment_len options in_block (c ∷ ws) ≡ 0 → is_comment_at options in_block c.word ≡ false
+comment-none options in_block c ws is = cut (is_comment_at options in_block c.word) refl
+  where
+    cut : (b : Bool) → is_comment_at options in_block c.word ≡ b
+        → is_comment_at options in_block c.word ≡ false
+    cut false comment = comment
+    cut true comment =
+        let one : 1 ≡ 0 = sym (ap one_if comment) ∙ is in absurd (omega (arith, one))
+
+comment-most : (options : ReflowOptions) (in_block : Bool) (ws : List SpacedText)
+    → comment_len options in_block ws ≤ 1
+comment-most options in_block [] = omega arith
+comment-most options in_block (w ∷ ws) =
+    elim (is_comment_at options in_block w.word) as (λ b. one_if b ≤ 1) [
+      | true ↦ omega arith
+      | false ↦ omega arith
+    ]
+
+no-star : (options : ReflowOptions) (qs : List SpacedText) → All (λ w. is_quote w.word ≡ true) qs
+    → All (λ w. is_comment_at options true w.word ≡ false) (take 1 qs)
+no-star options [] quote = All-nil (λ w. is_comment_at options true w.word ≡ false)
+no-star options (q ∷ qs) quote =
+    All-cons (λ w. is_comment_at options true w.word ≡ false) q []
+    (quote-no-star q.word (All-head (λ w. is_quote w.word ≡ true) q qs quote))
+    (All-nil (λ w. is_comment_at options true w.word ≡ false))
+
+-- no opening is the mark inside a block comment
+opening-outside : (options : ReflowOptions) (in_block : Bool) (word : List ℕ)
+    → is_comment_at options in_block word ≡ true → is_opening word ≡ true → in_block ≡ false
+opening-outside options false word comment opening = refl
+opening-outside options true word comment opening =
+    absurd (true≢false (sym opening ∙ star-no-opening word comment))
+
+pub or-false : (b : Bool) → (b || false) ≡ b
+or-false true = refl
+or-false false = refl
+
+abbrev marks_by : SpacedText → Bool → Bool → List SpacedText
+marks_by c o b = cond o (cond b [] (star c ∷ [])) (c ∷ [])
+
+hang-marks : (options : ReflowOptions) (in_block bare : Bool) (cs qs rest : List SpacedText)
+    → comment_len options in_block (cs ++ (qs ++ rest)) ≡ length cs
+    → All (λ w. is_quote w.word ≡ true) qs
+    → AreMarks options (in_block || has_opening_in cs) (hang_marks bare cs) qs
+hang-marks options in_block bare [] qs rest count quote =
+    subst (λ b. AreMarks options b [] qs) (sym (or-false in_block)) (record {
+      one = omega arith;
+      comment = All-nil (λ w. is_comment_at options in_block w.word ≡ true);
+      no_opening = All-nil (λ w. is_opening w.word ≡ false);
+      quote = quote;
+      no_comment = λ none. first qs count;
+    })
+  where
+    first : (qs : List SpacedText) → comment_len options in_block (qs ++ rest) ≡ 0
+        → All (λ w. is_comment_at options in_block w.word ≡ false) (take 1 qs)
+    first [] is = All-nil (λ w. is_comment_at options in_block w.word ≡ false)
+    first (q ∷ qs) is =
+        All-cons (λ w. is_comment_at options in_block w.word ≡ false) q []
+        (comment-none options in_block q (qs ++ rest) is)
+        (All-nil (λ w. is_comment_at options in_block w.word ≡ false))
+hang-marks options in_block bare (c ∷ d ∷ cs) qs rest count quote =
+    absurd (omega (arith, count, comment-most options in_block (c ∷ d ∷ (cs ++ (qs ++ rest)))))
+hang-marks options in_block bare (c ∷ []) qs rest count quote =
+    cut (is_opening c.word) bare refl (comment-one options in_block c (qs ++ rest) 0 count)
+  where
+    cut : (o b : Bool) → is_opening c.word ≡ o → is_comment_at options in_block c.word ≡ true
+        → AreMarks options (in_block || (is_opening c.word || false)) (marks_by c (is_opening c.word) b) qs
+    cut true b opening comment =
+        let out = opening-outside options in_block c.word comment opening in
+        subst (λ o. AreMarks options (in_block || (o || false)) (marks_by c o b) qs) (sym opening)
+        (subst (λ k. AreMarks options (k || true) (marks_by c true b) qs) (sym out) (inside b))
+      where
+        inside : (b : Bool) → AreMarks options true (marks_by c true b) qs
+        inside true = record {
+          one = omega arith;
+          comment = All-nil (λ w. is_comment_at options true w.word ≡ true);
+          no_opening = All-nil (λ w. is_opening w.word ≡ false);
+          quote = quote;
+          no_comment = λ none. no-star options qs quote;
+        }
+        inside false = record {
+          one = omega arith;
+          comment = All-cons (λ w. is_comment_at options true w.word ≡ true) (star c) [] refl
+              (All-nil (λ w. is_comment_at options true w.word ≡ true));
+          no_opening = All-cons (λ w. is_opening w.word ≡ false) (star c) [] refl
+              (All-nil (λ w. is_opening w.word ≡ false));
+          quote = quote;
+          no_comment = λ none. absurd (omega (arith, none));
+        }
+    cut false b opening comment =
+        subst (λ o. AreMarks options (in_block || (o || false)) (marks_by c o b) qs) (sym opening)
+        (subst (λ k. AreMarks options k (c ∷ []) qs) (sym (or-false in_block)) (record {
+          one = omega arith;
+          comment = All-cons (λ w. is_comment_at options in_block w.word ≡ true) c [] comment
+              (All-nil (λ w. is_comment_at options in_block w.word ≡ true));
+          no_opening = All-cons (λ w. is_opening w.word ≡ false) c [] opening
+              (All-nil (λ w. is_opening w.word ≡ false));
+          quote = quote;
+          no_comment = λ none. absurd (omega (arith, none));
+        }))
+
+last-len : (ws : List SpacedText) (more : List ℕ) → length (onto_last ws more) ≡ length ws
+last-len [] more = refl
+last-len (w ∷ []) more = refl
+last-len (w ∷ v ∷ ws) more = ap suc (last-len (v ∷ ws) more)
+
+end-len : (cs qs : List SpacedText) (more : List ℕ) → length (end_comments cs qs more) ≡ length cs
+end-len cs [] more = last-len cs more
+end-len cs (q ∷ qs) more = refl
+
+end-all : (P : List ℕ → Type 0) (cs qs : List SpacedText) (more : List ℕ) → All (λ w. P w.word) cs
+    → All (λ w. P w.word) (end_comments cs qs more)
+end-all P cs [] more all = last-all P cs more all
+end-all P cs (q ∷ qs) more all = all
+
+first-all : (P : List ℕ → Type 0) (ws : List SpacedText) (more : List ℕ)
+    → All (λ w. P w.word) (take 1 ws) → All (λ w. P w.word) (take 1 (onto_last ws more))
+first-all P [] more all = all
+first-all P (w ∷ []) more all =
+    All-cons (λ w. P w.word) _ [] (All-head (λ w. P w.word) w [] all) (All-nil (λ w. P w.word))
+first-all P (w ∷ v ∷ ws) more all = all
+
+-- white behind marks changes none of them
+end-marks : (options : ReflowOptions) (in_block : Bool) (cs qs : List SpacedText) (more : List ℕ)
+    → AreMarks options in_block cs qs
+    → AreMarks options in_block (end_comments cs qs more) (onto_last qs more)
+end-marks options in_block cs qs more are = record {
+  one = omega (arith, end-len cs qs more, are.one);
+  comment = end-all (λ w. is_comment_at options in_block w ≡ true) cs qs more are.comment;
+  no_opening = end-all (λ w. is_opening w ≡ false) cs qs more are.no_opening;
+  quote = last-all (λ w. is_quote w ≡ true) qs more are.quote;
+  no_comment = λ none. first-all (λ w. is_comment_at options in_block w ≡ false) qs more
+      (are.no_comment (omega (arith, none, end-len cs qs more)));
+}
+
+-- ---- white and words
+
+hang-white : (bare : Bool) (lead : List ℕ) (cs : List SpacedText) → All IsWhite lead → All IsFull cs
+    → All IsWhite (hang_lead bare lead cs)
+hang-white bare lead [] white full = white
+hang-white bare lead (c ∷ cs) white full = cut (is_opening c.word) bare
+  where
+    cut : (o b : Bool)
+        → All IsWhite (cond o (cond b (lead ++ (blanks (text_width c.word) ++ c.white)) (lead ++ 32 ∷ []))
+        lead)
+    cut true true =
+        All-append IsWhite lead (blanks (text_width c.word) ++ c.white) white
+        (All-append IsWhite (blanks (text_width c.word)) c.white (blanks-white (text_width c.word))
+        (All-head IsFull c cs full).spaced.white)
+    cut true false =
+        All-append IsWhite lead (32 ∷ []) white (All-cons IsWhite 32 [] refl (All-nil IsWhite))
+    cut false b = white
+
+hang-full : (bare : Bool) (cs : List SpacedText) → All IsFull cs → All IsFull (hang_marks bare cs)
+hang-full bare [] full = full
+hang-full bare (c ∷ cs) full = cut (is_opening c.word) bare (All-head IsFull c cs full)
+  where
+    cut : (o b : Bool) → IsFull c → All IsFull (cond o (cond b [] (star c ∷ [])) (c ∷ []))
+    cut true true is = All-nil IsFull
+    cut true false is =
+        All-cons IsFull (star c) [] (record {
+          spaced = record { word = plain-one 42 refl; white = is.spaced.white };
+          some = is.some;
+        }) (All-nil IsFull)
+    cut false b is = All-cons IsFull c [] is (All-nil IsFull)
+
+end-white : (lead : List ℕ) (cs qs : List SpacedText) (more : List ℕ) → All IsWhite lead
+    → All IsWhite more → All IsWhite (end_lead lead cs qs more)
+end-white lead [] [] more white blank = All-append IsWhite lead more white blank
+end-white lead [] (q ∷ qs) more white blank = white
+end-white lead (c ∷ cs) qs more white blank = white
+
+end-full : (cs qs : List SpacedText) (more : List ℕ) → All IsWhite more → All IsFull cs
+    → All IsFull (end_comments cs qs more)
+end-full cs [] more white full = last-full cs more white full
+end-full cs (q ∷ qs) more white full = full
+
+-- ---- the whole
+
+-- white and marks that a text is
+pub record IsHanging (options : ReflowOptions) (in_block : Bool) (text lead : List ℕ)
+    (cs qs : List SpacedText) : Type 0 where
+  pub white : All IsWhite lead
+  pub full : All IsFull (cs ++ qs)
+  pub marks : AreMarks options in_block cs qs
+  pub is : text ≡ lead ++ spaced_text (cs ++ qs)
+
+-- that of a line's hanging form
+module _ (options : ReflowOptions) (in_block : Bool) (lead : List ℕ) (cs qs bs ws : List SpacedText)
+    (white : All IsWhite lead) (full : All IsFull (cs ++ (qs ++ bs)))
+    (have : HaveKinds options in_block cs qs bs ws) where
+  abbrev hung_lead : List ℕ
+  hung_lead = hang_lead options.bare lead cs
+
+  abbrev hung_marks : List SpacedText
+  hung_marks = hang_marks options.bare cs
+
+  abbrev behind : List ℕ
+  behind = hanging_bullets bs
+
+  pub hanging-is : (front : List ℕ) × (ds : List SpacedText) × (rs : List SpacedText)
+      × IsHanging options (in_block || has_opening_in cs)
+      (hanging_of options.bare (kinds lead cs qs bs ws) ++ hanging_bullets bs) front ds rs
+  hanging-is =
+      let full_c = all-left IsFull cs (qs ++ bs) full in
+      let full_qb = all-right IsFull cs (qs ++ bs) full in
+      let full_q = all-left IsFull qs bs full_qb in
+      let full_b = all-right IsFull qs bs full_qb in
+      let blank = bullets-white bs full_b in
+      let count = have.comment in
+      let one : length cs ≤ 1 =
+      omega (arith, count, comment-most options in_block (cs ++ (qs ++ (bs ++ ws)))) in
+      let marks = hang-marks options in_block options.bare cs qs (bs ++ ws) count
+      (quotes-are qs (bs ++ ws) have.quote) in (
+        end_lead hung_lead hung_marks qs behind,
+        end_comments hung_marks qs behind,
+        onto_last qs behind,
+        record {
+          white = end-white hung_lead hung_marks qs behind
+              (hang-white options.bare lead cs white full_c) blank;
+          full = All-append IsFull (end_comments hung_marks qs behind) (onto_last qs behind)
+              (end-full hung_marks qs behind blank (hang-full options.bare cs full_c))
+              (last-full qs behind blank full_q);
+          marks = end-marks options (in_block || has_opening_in cs) hung_marks qs behind marks;
+          is = ap (λ l. l ++ behind) (hang-text options.bare lead cs qs one)
+              ∙ sym (end-text hung_lead hung_marks qs behind);
+        },
+      )

@@ -1,0 +1,121 @@
+-- What the lines of a paragraph are not: rules, or deeper than those before them.
+use Rattle.textwrap_base.proofs.Common.{◌≡◌, ℕ, ◌-◌, ◌<◌, ◌&&◌, ◌||◌, not, Bool, true, false, cond}
+use Rattle.textwrap_base.proofs.Common.{List, [], ◌∷◌, ◌==◌, ap, arith}
+use Rattle.textwrap_base.proofs.Common.{cases_Bool, codes, ends_with, length, list_all}
+use Rattle.textwrap_base.proofs.Common.{list_any, nat_eq, nat_lt, nat_tests, None, refl, Some, sym, true≢false, eqb-true, ◌∙◌}
+use Rattle.std.proofs.lemmas.Slice.Eq.{bytes_eq-Decides}
+use Rattle.std.specs.Prelude.{bytes_eq, nat_le}
+use Rattle.std.specs.Str.{chars}
+use Rattle.textwrap_marked.proofs.FreeLines.{IsOpen}
+use Rattle.textwrap_marked.proofs.OpenBehind.{behind_text}
+use Rattle.textwrap_marked.specs.Blocks.{goes_on}
+use Rattle.textwrap_marked.specs.Columns.{depth_of, DepthText, is_deeper}
+use Rattle.textwrap_marked.specs.Lines.{deeper_by}
+use Rattle.textwrap_marked.specs.Lines.{LineText}
+use Rattle.textwrap_marked.specs.Signs.{closes_block, first_word, is_rule}
+use Rattle.textwrap_marked.specs.Signs.{is_rule_characters, last_word, opens_paragraph}
+use Rattle.textwrap_marked.specs.Words.{has_bytes, has_letter, is_alphanumeric, SpacedText}
+use Rattle.textwrap_marked.specs.declared.options.ReflowOptions.{ReflowOptions}
+
+-- ---- no rule begins with a letter
+
+same-any : (test : ℕ → Bool) (c : ℕ) (cs : List ℕ) → list_all (λ x. x == c) cs ≡ true
+    → list_any test cs ≡ true → test c ≡ true
+same-any test c [] all some = absurd (true≢false (sym some))
+same-any test c (x ∷ cs) all some = cut (x == c) (test x) refl refl all some (same-any test c cs)
+  where
+    cut : (a b : Bool) → (x == c) ≡ a → test x ≡ b → (a && list_all (λ x. x == c) cs) ≡ true
+        → (b || list_any test cs) ≡ true
+        → (list_all (λ x. x == c) cs ≡ true → list_any test cs ≡ true → test c ≡ true) → test c ≡ true
+    cut false b p q all some later = absurd (true≢false (sym all))
+    cut true true p q all some later = ap test (sym (eqb-true x c p)) ∙ q
+    cut true false p q all some later = later all some
+
+rule-none : (cs : List ℕ) → list_any is_alphanumeric cs ≡ true → is_rule_characters cs ≡ false
+rule-none [] some = absurd (true≢false (sym some))
+rule-none (c ∷ cs) some = cut (list_all (λ x. x == c) (c ∷ cs)) refl
+  where
+    ended : (a b d : Bool) → b ≡ false → (a && b && d) ≡ false
+    ended a b d is = grind (arith, cases_Bool, is)
+
+    marked : (a b x y z : Bool) → x ≡ true → (a && b && not (x || y || z)) ≡ false
+    marked a b x y z is = grind (arith, cases_Bool, is)
+
+    cut : (t : Bool) → list_all (λ x. x == c) (c ∷ cs) ≡ t → is_rule_characters (c ∷ cs) ≡ false
+    cut false is =
+        ended (nat_lt 2 (length (c ∷ cs))) (list_all (λ x. x == c) (c ∷ cs))
+        (not (is_alphanumeric c || c == 96 || c == 126)) is
+    cut true is =
+        marked (nat_lt 2 (length (c ∷ cs))) (list_all (λ x. x == c) (c ∷ cs)) (is_alphanumeric c)
+        (c == 96) (c == 126) (same-any is_alphanumeric c (c ∷ cs) is some)
+
+pub letter-no-rule : (words : List SpacedText) → has_letter (first_word words) ≡ true
+    → is_rule words ≡ false
+letter-no-rule [] some = refl
+letter-no-rule (w ∷ []) some = rule-none (chars w.word) some
+letter-no-rule (w ∷ v ∷ ws) some = refl
+
+-- ---- what is behind a line is not deeper
+
+no-less : (by x : ℕ) → 0 < by → nat_le by (x - x) ≡ false
+no-less by x some = grind (arith, nat_tests, cases_Bool)
+
+never-deeper : (by : ℕ) (d : DepthText) → 0 < by → is_deeper by d d ≡ false
+never-deeper by d some =
+    elim (has_bytes d.marks) as (λ b. cond b (bytes_eq d.marks d.marks && d.lead == d.lead
+    && nat_le by (d.behind - d.behind)) (nat_le by (d.lead - d.lead)) ≡ false) [
+      | true ↦ ap (λ t. bytes_eq d.marks d.marks && d.lead == d.lead && t) (no-less by d.behind some)
+          ∙ none (bytes_eq d.marks d.marks && d.lead == d.lead)
+      | false ↦ no-less by d.lead some
+    ]
+  where
+    none : (b : Bool) → (b && false) ≡ false
+    none true = refl
+    none false = refl
+
+depth-some : (words : List SpacedText) → 0 < deeper_by words
+depth-some words =
+    elim (ends_with nat_eq (last_word words) (codes "::") || bytes_eq (first_word words) (codes ".."))
+    as (λ b. 0 < cond b 1 4) [ true ↦ omega arith | false ↦ omega arith ]
+
+pub open-behind : (options : ReflowOptions) (in_block : Bool) (hanging : List ℕ) (words : List SpacedText)
+    → IsOpen options (behind_text in_block hanging words) hanging
+open-behind options in_block hanging words = record {
+  fence = refl;
+  level = deep options.indented;
+  prompt = refl;
+}
+  where
+    deep : (b : Bool)
+        → cond b false (is_deeper (deeper_by words) (depth_of hanging) (depth_of hanging)) ≡ false
+    deep true = refl
+    deep false = never-deeper (deeper_by words) (depth_of hanging) (depth-some words)
+
+pub behind-same : (in_block : Bool) (hanging : List ℕ) (words others : List SpacedText)
+    → (in_block && closes_block words) ≡ (in_block && closes_block others)
+    → deeper_by words ≡ deeper_by others
+    → behind_text in_block hanging words ≡ behind_text in_block hanging others
+behind-same in_block hanging words others closes deeper =
+    λ i. record {
+      in_block = masked in_block (closes_block words) (closes_block others) closes i;
+      fence = None;
+      prompted = false;
+      before = Some (depth_of hanging);
+      by = deeper i;
+    }
+  where
+    masked : (a b c : Bool) → (a && b) ≡ (a && c) → (a && not b) ≡ (a && not c)
+    masked true b c is = ap not is
+    masked false b c is = refl
+
+pub goes-true : (line next : LineText) → line.apart ≡ false → next.apart ≡ false → line.ended ≡ false
+    → next.prefix ≡ line.hanging → opens_paragraph (first_word next.words) ≡ false
+    → goes_on line next ≡ true
+goes-true line next a b c d e =
+    all (line.apart) (next.apart) (line.ended) (bytes_eq next.prefix line.hanging)
+    (opens_paragraph (first_word next.words)) a b c
+    ((bytes_eq-Decides next.prefix line.hanging).1 d) e
+  where
+    all : (a b c d e : Bool) → a ≡ false → b ≡ false → c ≡ false → d ≡ true → e ≡ false
+        → (not a && not b && not c && d && not e) ≡ true
+    all a b c d e p q r s t = rw (p, q, r, s, t) refl

@@ -1,0 +1,207 @@
+-- Texts that were reflowed, reflowed again.
+use Rattle.textwrap_base.proofs.Common.{◌≡◌, ℕ, Bool, true, false, cond, List, [], ◌∷◌, ◌++◌, ◌==◌}
+use Rattle.textwrap_base.proofs.Common.{All-head, ap, arith, drop, join_with_byte, length, nat_eq, nat_lt}
+use Rattle.textwrap_base.proofs.Common.{refl, slice_split, starts_with, subst, sym, true≢false, ◌∙◌, lt-ltb}
+use Rattle.std.proofs.lemmas.List.Splits.{join_with_byte-slice_split, length-slice_split}
+use Rattle.textwrap_lines.specs.LineEnding.{ending_bytes}
+use Rattle.textwrap_lines.specs.declared.line_ending.LineEnding.{LineEnding}
+use Rattle.textwrap_lines.specs.declared.line_ending.LineEnding.TheVariants.{CRLF, LF}
+use Rattle.textwrap_marked.proofs.AnewLines.{IsTold}
+use Rattle.textwrap_marked.proofs.BegunAlike.{AreBegun, marks-same}
+use Rattle.textwrap_marked.proofs.EndsAlike.{ends-alike, one-line}
+use Rattle.textwrap_marked.proofs.Feedless.{IsFeedless}
+use Rattle.textwrap_marked.proofs.SameParts.{from-other, laid-other, width-same}
+use Rattle.textwrap_marked.proofs.TextBack.{AreReadBack, IsTextBack, text-back}
+use Rattle.textwrap_marked.specs.Blocks.{blocks}
+use Rattle.textwrap_marked.specs.Laws.{AreSameParts, behind_mark, KeepsEnding, text_parts}
+use Rattle.textwrap_marked.specs.Lines.{first_state, lines_of, read_lines, with_titles}
+use Rattle.textwrap_marked.specs.Reflow.{byte_order_mark, filled_ending, IsLaidOut, IsReflowed}
+use Rattle.textwrap_marked.specs.Reflow.{IsReflowedBehind, IsReflowedFrom}
+use Rattle.textwrap_marked.specs.declared.options.Algorithm.{Algorithm}
+use Rattle.textwrap_marked.specs.declared.options.ReflowOptions.{ReflowOptions}
+
+-- ---- without a byte order mark
+
+-- both begin with one, or neither does
+begins-alike : (options : ReflowOptions) (returns : Bool) (told : IsTold options.ending returns)
+    (text reflowed : List ℕ) → AreReadBack options returns told text reflowed
+    → starts_with nat_eq reflowed byte_order_mark ≡ starts_with nat_eq text byte_order_mark
+begins-alike options returns told text reflowed r =
+    ap (λ t. starts_with nat_eq t byte_order_mark)
+    (sym (join_with_byte-slice_split 10 reflowed) ∙ ap (join_with_byte 10) r.split)
+    ∙ first (slice_split (λ c. c == 10) text) refl r.begun
+    ∙ ap (λ t. starts_with nat_eq t byte_order_mark) (join_with_byte-slice_split 10 text)
+  where
+    first : (parts : List (List ℕ)) → slice_split (λ c. c == 10) text ≡ parts
+        → AreBegun returns (slice_split (λ c. c == 10) text) (r.raw ∷ r.raws)
+        → starts_with nat_eq (join_with_byte 10 (r.raw ∷ r.raws)) byte_order_mark
+        ≡ starts_with nat_eq (join_with_byte 10 (slice_split (λ c. c == 10) text)) byte_order_mark
+    first [] is begun = absurd (omega (arith, length-slice_split (λ c. c == 10) text, ap length is))
+    first (part ∷ parts) is begun =
+        marks-same returns part r.raw parts r.raws
+        (subst (λ l. AreBegun returns l (r.raw ∷ r.raws)) is begun)
+        ∙ ap (λ l. starts_with nat_eq (join_with_byte 10 l) byte_order_mark) (sym is)
+
+ends-feed : (e : LineEnding) → (front : List ℕ) × (ending_bytes e ≡ front ++ 10 ∷ [])
+ends-feed LF = ([], refl)
+ends-feed CRLF = (13 ∷ [], refl)
+
+-- the new text stays, whatever its own ending is
+from-stays : (options : ReflowOptions) → options.justify ≡ false → (text reflowed : List ℕ)
+    → IsReflowedFrom options text reflowed → IsReflowedFrom options reflowed reflowed
+from-stays options plain text reflowed laid =
+    more (nat_lt 0 (length r.raws)) refl r.raws refl
+  where
+    r : IsTextBack options text reflowed
+    r = text-back options plain text reflowed laid
+
+    again : IsLaidOut options (ending_bytes (filled_ending options.ending text)) false
+        (blocks (lines_of options reflowed)) reflowed
+    again = laid-other options text reflowed r.same reflowed laid
+
+    single : (raws : List (List ℕ)) → r.raws ≡ raws → length raws ≡ 0
+        → IsReflowedFrom options reflowed reflowed
+    single (raw ∷ raws) is long = absurd (omega (arith, long))
+    single [] is long =
+        let split : slice_split (λ c. c == 10) reflowed ≡ r.raw ∷ [] =
+        r.split ∙ ap (λ l. r.raw ∷ l) is in
+        let whole : reflowed ≡ r.raw =
+        sym (join_with_byte-slice_split 10 reflowed) ∙ ap (join_with_byte 10) split in
+        let old = ending_bytes (filled_ending options.ending text) in
+        let new = ending_bytes (filled_ending options.ending reflowed) in
+        let (front, feed) = ends-feed (filled_ending options.ending text) in
+        let shown : lines_of options reflowed
+        ≡ with_titles (read_lines options first_state (r.raw ∷ [])) =
+        ap (λ l. with_titles (read_lines options first_state l)) split in
+        subst (λ ls. IsLaidOut options new false (blocks ls) reflowed) (sym shown)
+        (one-line options old new front feed _ refl reflowed
+        (subst (λ t. IsFeedless t) (sym whole) (All-head IsFeedless r.raw r.raws r.feedless))
+        (subst (λ ls. IsLaidOut options old false (blocks ls) reflowed) shown again))
+
+    more : (b : Bool) → nat_lt 0 (length r.raws) ≡ b → (raws : List (List ℕ)) → r.raws ≡ raws
+        → IsReflowedFrom options reflowed reflowed
+    more true some raws is =
+        subst (λ e. IsLaidOut options (ending_bytes e) false (blocks (lines_of options reflowed)) reflowed)
+        (sym (ends-alike options text reflowed r some)) again
+    more false some [] is = single [] is refl
+    more false some (raw ∷ raws) is =
+        absurd (true≢false (sym (lt-ltb 0 (length (raw ∷ raws)) (omega arith))
+        ∙ ap (λ l. nat_lt 0 (length l)) (sym is) ∙ some))
+
+-- ---- behind one
+
+begins-so : (text : List ℕ) (b : Bool) → starts_with nat_eq text byte_order_mark ≡ b
+    → behind_mark text ≡ cond b (drop 3 text) text
+begins-so text b is = ap (λ b. cond b (drop 3 text) text) is
+
+marked : (rest whole : List ℕ) → whole ≡ byte_order_mark ++ rest
+    → starts_with nat_eq whole byte_order_mark ≡ true
+marked rest whole is = ap (λ t. starts_with nat_eq t byte_order_mark) is
+
+module _ (options : ReflowOptions) (plain : options.justify ≡ false) where
+  pub parts-kept : (text reflowed : List ℕ) → IsReflowed options text reflowed
+      → AreSameParts options.ending (text_parts options (behind_mark text)) (text_parts options (behind_mark reflowed))
+  parts-kept text reflowed = cut (starts_with nat_eq text byte_order_mark) refl
+    where
+      goal : (a b : List ℕ) → behind_mark text ≡ a → behind_mark reflowed ≡ b
+          → AreSameParts options.ending (text_parts options a) (text_parts options b)
+          → AreSameParts options.ending (text_parts options (behind_mark text)) (text_parts options (behind_mark reflowed))
+      goal a b p q same =
+          subst (λ t. AreSameParts options.ending (text_parts options t) (text_parts options (behind_mark reflowed)))
+          (sym p) (subst (λ t. AreSameParts options.ending (text_parts options a) (text_parts options t)) (sym q) same)
+
+      cut : (b : Bool) → starts_with nat_eq text byte_order_mark ≡ b
+          → IsReflowedBehind b options text reflowed
+          → AreSameParts options.ending (text_parts options (behind_mark text)) (text_parts options (behind_mark reflowed))
+      cut true is (rest, laid, whole) =
+          goal (drop 3 text) rest (begins-so text true is)
+          (begins-so reflowed true (marked rest reflowed whole) ∙ ap (drop 3) whole)
+          (text-back options plain (drop 3 text) rest laid).same
+      cut false is laid =
+          let r = text-back options plain text reflowed laid in
+          goal text reflowed (begins-so text false is)
+          (begins-so reflowed false (begins-alike options _ _ text reflowed r ∙ is)) r.same
+
+  pub texts-stay : (text reflowed : List ℕ) → IsReflowed options text reflowed
+      → IsReflowed options reflowed reflowed
+  texts-stay text reflowed = cut (starts_with nat_eq text byte_order_mark) refl
+    where
+      cut : (b : Bool) → starts_with nat_eq text byte_order_mark ≡ b
+          → IsReflowedBehind b options text reflowed → IsReflowed options reflowed reflowed
+      cut true is (rest, laid, whole) =
+          subst (λ b. IsReflowedBehind b options reflowed reflowed) (sym (marked rest reflowed whole)) (
+            rest,
+            subst (λ t. IsReflowedFrom options t rest) (sym (ap (drop 3) whole))
+                (from-stays options plain (drop 3 text) rest laid),
+            whole,
+          )
+      cut false is laid =
+          let r = text-back options plain text reflowed laid in
+          subst (λ b. IsReflowedBehind b options reflowed reflowed)
+          (sym (begins-alike options _ _ text reflowed r ∙ is))
+          (from-stays options plain text reflowed laid)
+
+  -- ---- another width first
+
+  widths-from : (width : ℕ) (algorithm : Algorithm) (text between reflowed : List ℕ)
+      → (length (slice_split (λ c. c == 10) between) ≡ 1
+      → filled_ending options.ending between ≡ filled_ending options.ending text)
+      → IsReflowedFrom (record options { width = width; algorithm = algorithm }) text between
+      → IsReflowedFrom options between reflowed → IsReflowedFrom options text reflowed
+  widths-from width algorithm text between reflowed ends laid second =
+      from-other options text between (width-same options width algorithm plain text between laid)
+      (same (nat_lt 0 (length r.raws)) refl r.raws refl) reflowed second
+    where
+      r : IsTextBack (record options { width = width; algorithm = algorithm }) text between
+      r = text-back (record options { width = width; algorithm = algorithm }) plain text between laid
+
+      same : (b : Bool) → nat_lt 0 (length r.raws) ≡ b → (raws : List (List ℕ)) → r.raws ≡ raws
+          → filled_ending options.ending between ≡ filled_ending options.ending text
+      same true some raws is =
+          ends-alike (record options { width = width; algorithm = algorithm }) text between r some
+      same false some [] is =
+          ends (ap length (r.split ∙ ap (λ l. r.raw ∷ l) is))
+      same false some (raw ∷ raws) is =
+          absurd (true≢false (sym (lt-ltb 0 (length (raw ∷ raws)) (omega arith))
+          ∙ ap (λ l. nat_lt 0 (length l)) (sym is) ∙ some))
+
+  pub widths-same : (width : ℕ) (algorithm : Algorithm) (text between reflowed : List ℕ)
+      → KeepsEnding options text between
+      → IsReflowed (record options { width = width; algorithm = algorithm }) text between
+      → IsReflowed options between reflowed → IsReflowed options text reflowed
+  widths-same width algorithm text between reflowed ends =
+      cut (starts_with nat_eq text byte_order_mark) refl
+    where
+      others : ReflowOptions
+      others = record options { width = width; algorithm = algorithm }
+
+      told : (t b : List ℕ) → behind_mark text ≡ t → behind_mark between ≡ b
+          → length (slice_split (λ c. c == 10) b) ≡ 1
+          → filled_ending options.ending b ≡ filled_ending options.ending t
+      told t b p q long =
+          ap (filled_ending options.ending) (sym q)
+          ∙ ends (ap (λ l. length (slice_split (λ c. c == 10) l)) q ∙ long)
+          ∙ ap (filled_ending options.ending) p
+
+      cut : (b : Bool) → starts_with nat_eq text byte_order_mark ≡ b
+          → IsReflowedBehind b (record options { width = width; algorithm = algorithm }) text between
+          → IsReflowed options between reflowed → IsReflowedBehind b options text reflowed
+      cut true is (rest, laid, whole) second =
+          let begins = marked rest between whole in
+          let (more, again, shown) = subst (λ b. IsReflowedBehind b options between reflowed) begins second
+          in (
+            more,
+            widths-from width algorithm (drop 3 text) rest more
+                (told (drop 3 text) rest (begins-so text true is)
+                (begins-so between true begins ∙ ap (drop 3) whole)) laid
+                (subst (λ t. IsReflowedFrom options t more) (ap (drop 3) whole) again),
+            shown,
+          )
+      cut false is laid second =
+          let r = text-back (record options { width = width; algorithm = algorithm }) plain text
+          between laid in
+          let begins = begins-alike (record options { width = width; algorithm = algorithm }) _ _ text
+          between r ∙ is in
+          widths-from width algorithm text between reflowed
+          (told text between (begins-so text false is) (begins-so between false begins)) laid
+          (subst (λ b. IsReflowedBehind b options between reflowed) begins second)

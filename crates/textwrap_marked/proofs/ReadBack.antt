@@ -1,0 +1,106 @@
+-- What is printed of the blocks of a text, read again.
+use Rattle.textwrap_base.proofs.Common.{◌≡◌, ℕ, ◌||◌, Bool, true, false, List, []}
+use Rattle.textwrap_base.proofs.Common.{◌∷◌, ◌++◌, All, All-append, ap}
+use Rattle.textwrap_base.proofs.Common.{arith, flat_map, join_with_byte, length}
+use Rattle.textwrap_base.proofs.Common.{map, nat_lt, refl, subst, sym, true≢false, ◌∙◌}
+use Rattle.textwrap_base.proofs.Lists.Parts.{all-left, all-right, flat}
+use Rattle.textwrap_marked.proofs.AnewLines.{anew, IsTold, kept-anew, last-anew, one-anew}
+use Rattle.textwrap_marked.proofs.BegunAlike.{AreBegun}
+use Rattle.textwrap_marked.proofs.BlockOrder.{AreBlocks}
+use Rattle.textwrap_marked.proofs.BlocksAlike.{part-cons, part_of, stops-same}
+use Rattle.textwrap_marked.proofs.Feedless.{IsFeedless}
+use Rattle.textwrap_marked.proofs.FenceMarks.{IsSafe}
+use Rattle.textwrap_marked.proofs.KeptLines.{AreHeads, IsHeadAlike, keep}
+use Rattle.textwrap_marked.proofs.ReturnsOff.{return_if}
+use Rattle.textwrap_marked.proofs.TextBlocks.{last_line, read}
+use Rattle.textwrap_marked.specs.Blocks.{is_beside, stays}
+use Rattle.textwrap_marked.specs.Laws.{AreSameParts, IsSameBy, parts_of_blocks}
+use Rattle.textwrap_marked.specs.Lines.{LineText, StateText}
+use Rattle.textwrap_marked.specs.Reflow.{IsLaidOut, kept_line, kept_text}
+use Rattle.textwrap_marked.specs.declared.options.ReflowOptions.{ReflowOptions}
+
+module _ (options : ReflowOptions) (returns : Bool) (told : IsTold options.ending returns) where
+  abbrev pub ending : List ℕ
+  ending = return_if returns ++ 10 ∷ []
+
+  -- the lines of a new text, and its blocks
+  pub record IsReadBack (state : StateText) (beside : Bool) (bs : List (List LineText))
+      (raws : List (List ℕ)) (text : List ℕ) : Type 0 where
+    pub again : List (List ℕ)
+    pub blocks : List (List LineText)
+    pub reads : flat blocks ≡ read options state again
+    pub are : AreBlocks blocks
+    pub same : AreSameParts options.ending (parts_of_blocks beside bs) (parts_of_blocks beside blocks)
+    pub text_is : text ≡ join_with_byte 10 again
+    pub feedless : All IsFeedless again
+    pub heads : AreHeads (flat bs) (flat blocks)
+    pub some : nat_lt 0 (length again) ≡ nat_lt 0 (length raws)
+    pub begun : AreBegun returns raws again
+
+  abbrev pub Walks : Bool → List (List LineText) → Type 0
+  Walks beside bs =
+      (state : StateText) (raws : List (List ℕ)) (text : List ℕ) → flat bs ≡ read options state raws
+      → IsLaidOut options ending beside bs text → IsSafe options state → All IsFeedless raws
+      → IsReadBack state beside bs raws text
+
+  -- a block that stays
+  pub kept-step : (beside : Bool) (first : LineText) (lines : List LineText) (bs : List (List LineText))
+      → Walks (is_beside first bs) bs → AreBlocks ((first ∷ lines) ∷ bs)
+      → stays (beside || is_beside first bs) first ≡ true
+      → (state : StateText) (raws : List (List ℕ)) (front back : List ℕ)
+      → (first ∷ lines) ++ flat bs ≡ read options state raws → front ≡ kept_text options (first ∷ lines)
+      → IsLaidOut options ending (is_beside first bs) bs back → IsSafe options state
+      → All IsFeedless raws
+      → IsReadBack state beside ((first ∷ lines) ∷ bs) raws (front ++ back)
+  kept-step beside first lines bs walks (one, stops, are) stay state raws front back reads is laid safe
+      free =
+      let all = first ∷ lines in
+      let e = options.ending in
+      let k = keep options returns told all state raws (flat bs) safe reads in
+      let parts = subst (All IsFeedless) k.whole free in
+      let later = walks k.behind k.left back k.reads laid k.safe (all-right IsFeedless k.kept k.left parts)
+      in
+      let last = last_line first lines in
+      let news = map (anew e returns) lines in record {
+        again = k.news ++ later.again;
+        blocks = (anew e returns first ∷ news) ∷ later.blocks;
+        reads = k.again (flat later.blocks) later.again later.reads later.heads later.some;
+        are = (
+          one-anew e returns first lines one,
+          stops-same last (last_line (anew e returns first) news) bs later.blocks are later.are later.heads
+              (record {
+                hangs = ap (λ (l : LineText). l.hanging) (last-anew e returns first lines);
+                ended = ap (λ (l : LineText). l.ended) (last-anew e returns first lines);
+                apart = ap (λ (l : LineText). l.apart) (last-anew e returns first lines);
+              }) stops,
+          later.are,
+        );
+        same = part-cons e beside first (anew e returns first) lines news bs later.blocks
+            (head-anew first) are later.are later.heads later.same
+            (kept (stays (beside || is_beside first bs) first) stay);
+        text_is = ap (λ l. l ++ back) is
+            ∙ ap (λ l. flat_map (kept_line e) all ++ l) later.text_is ∙ k.text later.again later.some;
+        feedless = All-append IsFeedless k.news later.again
+            (k.feedless (all-left IsFeedless k.kept k.left parts)) later.feedless;
+        heads = head-anew first;
+        some = k.fed_same later.again later.some ∙ ap (λ l. nat_lt 0 (length l)) (sym k.whole);
+        begun = subst (λ l. AreBegun returns l (k.news ++ later.again)) (sym k.whole)
+            (k.begun later.again later.some (omega arith));
+      }
+    where
+      head-anew : (line : LineText) → IsHeadAlike line (anew options.ending returns line)
+      head-anew line = record {
+        prefix = refl;
+        hangs = refl;
+        field = refl;
+        chosen = refl;
+        apart = refl;
+        rule = refl;
+        opens = refl;
+      }
+
+      kept : (b : Bool) → b ≡ true
+          → IsSameBy options.ending b (part_of b first lines)
+          (part_of b (anew options.ending returns first) (map (anew options.ending returns) lines))
+      kept true is = (refl, kept-anew options.ending returns (first ∷ lines))
+      kept false is = absurd (true≢false (sym is))

@@ -1,0 +1,202 @@
+-- Words with white between them are read back from their text.
+use Rattle.textwrap_base.proofs.Common.{◌≡◌, ℕ, ◌<◌, Bool, true, false, List, [], ◌∷◌, ◌++◌, All}
+use Rattle.textwrap_base.proofs.Common.{All-cons, All-head, All-nil, All-tail, ap, append_assoc, append-nil}
+use Rattle.textwrap_base.proofs.Common.{arith, length, refl, sym, ⊤, ◌∙◌}
+use Rattle.textwrap_marked.proofs.WordsIn.{IsPlain}
+use Rattle.textwrap_marked.specs.Words.{is_white, onto_word, spaced_text, spaced_words, SpacedText}
+use Rattle.textwrap_marked.specs.Words.{with_byte}
+
+abbrev pub IsWhite : ℕ → Type 0
+IsWhite c = is_white c ≡ true
+
+abbrev pub IsInk : ℕ → Type 0
+IsInk c = is_white c ≡ false
+
+-- a word and white behind it
+pub record IsSpaced (w : SpacedText) : Type 0 where
+  pub word : IsPlain w.word
+  pub white : All IsWhite w.white
+
+-- words, each but the last with white behind it
+abbrev pub AreSpaced : List SpacedText → Type 0
+AreSpaced [] = ⊤
+AreSpaced (w ∷ []) = IsSpaced w
+AreSpaced (w ∷ v ∷ ws) = IsSpaced w × (0 < length w.white) × AreSpaced (v ∷ ws)
+
+-- the words of a line that begins with this white
+abbrev pub with_lead : List ℕ → List SpacedText → List SpacedText
+with_lead [] ws = ws
+with_lead (c ∷ cs) ws = record { word = []; white = c ∷ cs } ∷ ws
+
+abbrev pub BeginsPlain : List SpacedText → Type 0
+BeginsPlain [] = ⊤
+BeginsPlain (w ∷ ws) = 0 < length w.word
+
+pub begins-plain : (ws : List SpacedText) → AreSpaced ws → BeginsPlain ws
+begins-plain [] are = tt
+begins-plain (w ∷ []) are = are.word.some
+begins-plain (w ∷ v ∷ ws) are = are.0.word.some
+
+white-alone : (c : ℕ) (ws : List SpacedText) → IsWhite c → BeginsPlain ws
+    → with_byte c ws ≡ with_lead (c ∷ []) ws
+white-alone c [] white begins = simp white
+white-alone c (w ∷ ws) white begins = cut w.word refl begins
+  where
+    cut : (word : List ℕ) → w.word ≡ word → 0 < length word
+        → with_byte c (w ∷ ws) ≡ with_lead (c ∷ []) (w ∷ ws)
+    cut [] is some = absurd (omega (arith, some))
+    cut (x ∷ xs) is some = simp (white, is)
+
+-- white before words
+white-before : (lead text : List ℕ) (ws : List SpacedText) → All IsWhite lead → BeginsPlain ws
+    → spaced_words text ≡ ws → spaced_words (lead ++ text) ≡ with_lead lead ws
+white-before [] text ws white begins is = is
+white-before (c ∷ []) text ws white begins is =
+    ap (with_byte c) is ∙ white-alone c ws (All-head IsWhite c [] white) begins
+white-before (c ∷ d ∷ lead) text ws white begins is =
+    let here : IsWhite c = All-head IsWhite c (d ∷ lead) white in
+    ap (with_byte c)
+    (white-before (d ∷ lead) text ws (All-tail IsWhite c (d ∷ lead) white) begins is)
+    ∙ simp here
+
+-- a word before white, or at the end
+word-before : (word lead text : List ℕ) (ws : List SpacedText) → IsPlain word
+    → (length lead ≡ 0 → ws ≡ []) → spaced_words text ≡ with_lead lead ws
+    → spaced_words (word ++ text) ≡ record { word = word; white = lead } ∷ ws
+word-before [] lead text ws plain ends is = absurd (omega (arith, plain.some))
+word-before (c ∷ []) [] text ws plain ends is =
+    let here : IsInk c = All-head IsInk c [] plain.ink in
+    let alone : with_byte c [] ≡ record { word = c ∷ []; white = [] } ∷ [] = simp here in
+    ap (with_byte c) (is ∙ ends refl) ∙ alone
+    ∙ ap (λ l. record { word = c ∷ []; white = [] } ∷ l) (sym (ends refl))
+word-before (c ∷ []) (x ∷ lead) text ws plain ends is =
+    let here : IsInk c = All-head IsInk c [] plain.ink in ap (with_byte c) is ∙ simp here
+word-before (c ∷ d ∷ word) lead text ws plain ends is =
+    let here : IsInk c = All-head IsInk c (d ∷ word) plain.ink in
+    ap (with_byte c) (word-before (d ∷ word) lead text ws
+    (record { some = omega arith; ink = All-tail IsInk c (d ∷ word) plain.ink }) ends is)
+    ∙ simp here
+
+pub spaced-back : (ws : List SpacedText) → AreSpaced ws → spaced_words (spaced_text ws) ≡ ws
+spaced-back [] are = refl
+spaced-back (w ∷ []) are =
+    ap spaced_words (append-nil (w.word ++ w.white))
+    ∙ word-before w.word w.white w.white [] are.word (λ e. refl)
+    (ap spaced_words (sym (append-nil w.white)) ∙ white-before w.white [] [] are.white tt refl)
+spaced-back (w ∷ v ∷ ws) (here, some, later) =
+    let rest = spaced_text (v ∷ ws) in
+    ap spaced_words (append_assoc w.word w.white rest)
+    ∙ word-before w.word w.white (w.white ++ rest) (v ∷ ws) here.word
+    (λ none. absurd (omega (arith, some, none)))
+    (white-before w.white rest (v ∷ ws) here.white (begins-plain (v ∷ ws) later)
+    (spaced-back (v ∷ ws) later))
+
+-- the words of a line, from its text
+pub line-back : (lead : List ℕ) (ws : List SpacedText) → All IsWhite lead → AreSpaced ws
+    → spaced_words (lead ++ spaced_text ws) ≡ with_lead lead ws
+line-back lead ws white are =
+    white-before lead (spaced_text ws) ws white (begins-plain ws are) (spaced-back ws are)
+
+-- ---- each line is white and words
+
+pub record IsLineText (text lead : List ℕ) (ws : List SpacedText) : Type 0 where
+  pub white : All IsWhite lead
+  pub spaced : AreSpaced ws
+  pub is : text ≡ lead ++ spaced_text ws
+
+pub plain-one : (c : ℕ) → IsInk c → IsPlain (c ∷ [])
+plain-one c ink = record { some = omega arith; ink = All-cons IsInk c [] ink (All-nil IsInk) }
+
+plain-more : (c : ℕ) (word : List ℕ) → IsInk c → IsPlain word → IsPlain (c ∷ word)
+plain-more c word ink plain =
+    record { some = omega arith; ink = All-cons IsInk c word ink plain.ink }
+
+onto-spaced : (c : ℕ) (w : SpacedText) (ws : List SpacedText) → IsInk c → AreSpaced (w ∷ ws)
+    → AreSpaced (onto_word c w ∷ ws)
+onto-spaced c w [] ink are =
+    record { word = plain-more c w.word ink are.word; white = are.white }
+onto-spaced c w (v ∷ ws) ink (here, some, later) =
+    (record { word = plain-more c w.word ink here.word; white = here.white }, some, later)
+
+word-spaced : (c d : ℕ) (lead : List ℕ) (ws : List SpacedText) → IsInk c → All IsWhite (d ∷ lead)
+    → AreSpaced ws → AreSpaced (record { word = c ∷ []; white = d ∷ lead } ∷ ws)
+word-spaced c d lead [] ink white are = record { word = plain-one c ink; white = white }
+word-spaced c d lead (v ∷ ws) ink white are =
+    (record { word = plain-one c ink; white = white }, omega arith, are)
+
+pub line-text : (text : List ℕ)
+    → (lead : List ℕ) × (ws : List SpacedText) × IsLineText text lead ws
+line-text [] = ([], [], record { white = All-nil IsWhite; spaced = tt; is = refl })
+line-text (c ∷ cs) =
+    let (lead, ws, is) = line-text cs in more (is_white c) refl lead ws is
+  where
+    more : (w : Bool) → is_white c ≡ w → (lead : List ℕ) (ws : List SpacedText)
+        → IsLineText cs lead ws
+        → (lead : List ℕ) × (ws : List SpacedText) × IsLineText (c ∷ cs) lead ws
+    more true white lead ws is = (
+      c ∷ lead,
+      ws,
+      record {
+        white = All-cons IsWhite c lead white is.white;
+        spaced = is.spaced;
+        is = ap (λ l. c ∷ l) is.is;
+      },
+    )
+    more false ink [] [] is = (
+      [],
+      record { word = c ∷ []; white = [] } ∷ [],
+      record {
+        white = All-nil IsWhite;
+        spaced = record { word = plain-one c ink; white = All-nil IsWhite };
+        is = ap (λ l. c ∷ l) is.is;
+      },
+    )
+    more false ink [] (w ∷ ws) is = (
+      [],
+      onto_word c w ∷ ws,
+      record {
+        white = All-nil IsWhite;
+        spaced = onto-spaced c w ws ink is.spaced;
+        is = ap (λ l. c ∷ l) is.is;
+      },
+    )
+    more false ink (d ∷ lead) ws is = (
+      [],
+      record { word = c ∷ []; white = d ∷ lead } ∷ ws,
+      record {
+        white = All-nil IsWhite;
+        spaced = word-spaced c d lead ws ink is.white is.spaced;
+        is = ap (λ l. c ∷ l) is.is;
+      },
+    )
+
+-- ---- one line has one lead and one list of words
+
+pub lead-one : (lead other : List ℕ) (ws vs : List SpacedText) → AreSpaced ws → AreSpaced vs
+    → with_lead lead ws ≡ with_lead other vs → (lead ≡ other) × (ws ≡ vs)
+lead-one [] [] ws vs are be is = (refl, is)
+lead-one [] (d ∷ other) [] vs are be is = absurd (omega (arith, ap length is))
+lead-one [] (d ∷ other) (w ∷ ws) vs are be is =
+    let some = begins-plain (w ∷ ws) are in
+    absurd (omega (arith, some, ap (λ l. word_lens l) is))
+  where
+    word_lens : List SpacedText → ℕ
+    word_lens [] = 0
+    word_lens (w ∷ ws) = length w.word
+lead-one (c ∷ lead) [] ws [] are be is = absurd (omega (arith, ap length is))
+lead-one (c ∷ lead) [] ws (v ∷ vs) are be is =
+    let some = begins-plain (v ∷ vs) be in
+    absurd (omega (arith, some, ap (λ l. word_lens l) is))
+  where
+    word_lens : List SpacedText → ℕ
+    word_lens [] = 0
+    word_lens (w ∷ ws) = length w.word
+lead-one (c ∷ lead) (d ∷ other) ws vs are be is = (ap lead_of is, ap rest_of is)
+  where
+    lead_of : List SpacedText → List ℕ
+    lead_of [] = []
+    lead_of (w ∷ ws) = w.white
+
+    rest_of : List SpacedText → List SpacedText
+    rest_of [] = []
+    rest_of (w ∷ ws) = ws

@@ -1,0 +1,245 @@
+-- Words with blanks between them, as the words of a line's text.
+use Rattle.textwrap_base.proofs.Common.{◌≡◌, ℕ, ◌-◌, ◌&&◌, ◌||◌, not, Bool, true, false}
+use Rattle.textwrap_base.proofs.Common.{cond, List, [], ◌∷◌, ◌++◌, All, All-cons, All-head, All-nil}
+use Rattle.textwrap_base.proofs.Common.{All-tail, ap, append-nil, append_assoc, arith, cases_Bool, codes}
+use Rattle.textwrap_base.proofs.Common.{drop, length, list_any, map, refl, sym, take}
+use Rattle.textwrap_base.proofs.Common.{nat_eq, starts_with, true≢false, false_from_ne_true, eqb-true, suc, ◌==◌, ◌∙◌}
+use Rattle.std.specs.Prelude.{bytes_eq}
+use Rattle.textwrap_words.proofs.Common.{blank}
+use Rattle.textwrap_marked.proofs.HangingKinds.{HasNoMark}
+use Rattle.textwrap_marked.proofs.LaterLines.{bullets-none}
+use Rattle.textwrap_marked.proofs.Letterless.{box-plain, no-line-comment, star-plain}
+use Rattle.textwrap_marked.proofs.LineKinds.{one_if}
+use Rattle.textwrap_marked.proofs.LineWords.{joined, spread}
+use Rattle.textwrap_marked.proofs.OpenBehind.{and-left, none-any, not-yes, text-letter, text-no-sign, text-other}
+use Rattle.textwrap_marked.proofs.SpacedBack.{AreSpaced, IsWhite}
+use Rattle.textwrap_marked.proofs.WordsIn.{IsPlain}
+use Rattle.textwrap_marked.specs.Marks.{is_among, is_bullet, is_comment_at, is_line_comment}
+use Rattle.textwrap_marked.specs.Marks.{is_opening, is_quote}
+use Rattle.textwrap_marked.specs.Prefixes.{quotes_len}
+use Rattle.textwrap_marked.specs.Signs.{begins_text, first_white}
+use Rattle.textwrap_marked.specs.Signs.{first_word, front_of, has_columns, is_column_word, is_gap, last_of}
+use Rattle.textwrap_marked.specs.Signs.{is_sign_byte, last_white, last_word, may_go_on, opens_paragraph}
+use Rattle.textwrap_marked.specs.Words.{contains, has_bytes, has_letter, is_made_of, spaced_text, SpacedText}
+use Rattle.textwrap_marked.specs.declared.options.ReflowOptions.{ReflowOptions}
+
+pub spread-first : (word : List ℕ) (words : List (List ℕ)) (end : List ℕ)
+    → first_word (spread (word ∷ words) end) ≡ word
+spread-first word [] end = refl
+spread-first word (next ∷ words) end = refl
+
+pub spread-len : (words : List (List ℕ)) (end : List ℕ)
+    → length (spread words end) ≡ length words
+spread-len [] end = refl
+spread-len (word ∷ []) end = refl
+spread-len (word ∷ next ∷ words) end = ap suc (spread-len (next ∷ words) end)
+
+pub spread-words : (words : List (List ℕ)) (end : List ℕ) → map (λ w. w.word) (spread words end) ≡ words
+spread-words [] end = refl
+spread-words (word ∷ []) end = refl
+spread-words (word ∷ next ∷ words) end = ap (λ l. word ∷ l) (spread-words (next ∷ words) end)
+
+pub spread-spaced : (words : List (List ℕ)) (end : List ℕ) → All IsPlain words → All IsWhite end
+    → AreSpaced (spread words end)
+spread-spaced [] end plain white = tt
+spread-spaced (word ∷ []) end plain white =
+    record { word = All-head IsPlain word [] plain; white = white }
+spread-spaced (word ∷ next ∷ words) end plain white =
+    more (spread (next ∷ words) end)
+    (spread-spaced (next ∷ words) end (All-tail IsPlain word (next ∷ words) plain) white)
+  where
+    more : (l : List SpacedText) → AreSpaced l
+        → AreSpaced (record { word = word; white = blank ∷ [] } ∷ l)
+    more [] are =
+        record {
+          word = All-head IsPlain word (next ∷ words) plain;
+          white = All-cons IsWhite blank [] refl (All-nil IsWhite);
+        }
+    more (v ∷ l) are = (
+      record {
+        word = All-head IsPlain word (next ∷ words) plain;
+        white = All-cons IsWhite blank [] refl (All-nil IsWhite);
+      },
+      omega arith,
+      are,
+    )
+
+-- the white at the end stands behind the text
+pub spread-end : (word : List ℕ) (words : List (List ℕ)) (end : List ℕ)
+    → spaced_text (spread (word ∷ words) end) ≡ joined (word ∷ words) ++ end
+spread-end word [] end =
+    append-nil (word ++ end) ∙ ap (λ l. l ++ end) (sym (append-nil (word ++ []) ∙ append-nil word))
+spread-end word (next ∷ words) end =
+    ap (λ l. (word ++ blank ∷ []) ++ l) (spread-end next words end)
+    ∙ sym (append_assoc (word ++ blank ∷ []) (joined (next ∷ words)) end)
+
+-- what is asked of each word
+pub spread-any : (test : List ℕ → Bool) (words : List (List ℕ)) (end : List ℕ)
+    → list_any (λ w. test w.word) (spread words end) ≡ list_any test words
+spread-any test [] end = refl
+spread-any test (word ∷ []) end = refl
+spread-any test (word ∷ next ∷ words) end =
+    ap (λ b. test word || b) (spread-any test (next ∷ words) end)
+
+-- ---- the last of them
+
+less-one : {X : Type 0} (x y : X) (xs : List X) → length (x ∷ y ∷ xs) - 1 ≡ suc (length (y ∷ xs) - 1)
+less-one x y xs = omega arith
+
+pub last-more : (w v : SpacedText) (ws : List SpacedText) → last_of (w ∷ v ∷ ws) ≡ last_of (v ∷ ws)
+last-more w v ws = ap (λ n. drop n (w ∷ v ∷ ws)) (less-one w v ws)
+
+pub front-more : (w v : SpacedText) (ws : List SpacedText)
+    → front_of (w ∷ v ∷ ws) ≡ w ∷ front_of (v ∷ ws)
+front-more w v ws = ap (λ n. take n (w ∷ v ∷ ws)) (less-one w v ws)
+
+-- the last of some texts
+abbrev pub last_text : List (List ℕ) → List ℕ
+last_text [] = []
+last_text (word ∷ []) = word
+last_text (word ∷ next ∷ words) = last_text (next ∷ words)
+
+pub last-word : (ws : List SpacedText) → last_word ws ≡ last_text (map (λ w. w.word) ws)
+last-word [] = refl
+last-word (w ∷ []) = refl
+last-word (w ∷ v ∷ ws) = ap first_word (last-more w v ws) ∙ last-word (v ∷ ws)
+
+pub spread-last : (words : List (List ℕ)) (end : List ℕ)
+    → last_word (spread words end) ≡ last_text words
+spread-last words end = last-word (spread words end) ∙ ap last_text (spread-words words end)
+
+pub spread-white : (word : List ℕ) (words : List (List ℕ)) (end : List ℕ)
+    → last_white (spread (word ∷ words) end) ≡ end
+spread-white word [] end = refl
+spread-white word (next ∷ words) end =
+    white (spread (next ∷ words) end) refl ∙ spread-white next words end
+  where
+    white : (l : List SpacedText) → spread (next ∷ words) end ≡ l
+        → last_white (record { word = word; white = blank ∷ [] } ∷ l) ≡ last_white l
+    white [] is = absurd (omega (arith, ap length is, spread-len (next ∷ words) end))
+    white (v ∷ l) is = ap first_white (last-more (record { word = word; white = blank ∷ [] }) v l)
+
+-- ---- no columns
+
+-- a blank is no gap
+blank-none : (justify : Bool) (word : List ℕ)
+    → is_gap justify (record { word = word; white = blank ∷ [] }) ≡ false
+blank-none true word = refl
+blank-none false word = refl
+
+gaps-none : (justify : Bool) (words : List (List ℕ)) (end : List ℕ)
+    → list_any (is_gap justify) (front_of (spread words end)) ≡ false
+gaps-none justify [] end = refl
+gaps-none justify (word ∷ []) end = refl
+gaps-none justify (word ∷ next ∷ words) end =
+    more (spread (next ∷ words) end) (gaps-none justify (next ∷ words) end)
+  where
+    more : (l : List SpacedText) → list_any (is_gap justify) (front_of l) ≡ false
+        → list_any (is_gap justify) (front_of (record { word = word; white = blank ∷ [] } ∷ l)) ≡ false
+    more [] is = refl
+    more (v ∷ l) is =
+        ap (list_any (is_gap justify)) (front-more (record { word = word; white = blank ∷ [] }) v l)
+        ∙ ap (λ b. b || list_any (is_gap justify) (front_of (v ∷ l))) (blank-none justify word) ∙ is
+
+pub spread-columns : (justify : Bool) (words : List (List ℕ)) (end : List ℕ)
+    → All (λ w. is_column_word w ≡ false) words → has_columns justify (spread words end) ≡ false
+spread-columns justify words end none =
+    ap (λ b. b || list_any (is_gap justify) (front_of (spread words end)))
+    (spread-any is_column_word words end ∙ none-any is_column_word words none)
+    ∙ gaps-none justify words end
+
+-- ---- what may not begin a line
+
+three-parts : (a b c d : Bool) → (a && b && c && d) ≡ true
+    → (a ≡ true) × (b ≡ true) × (c ≡ true) × (d ≡ true)
+three-parts a b c d is = grind (arith, cases_Bool)
+
+-- a word that may go on with a paragraph
+pub record MayGoOn (options : ReflowOptions) (starred : Bool) (word : List ℕ) : Type 0 where
+  pub begins : begins_text starred word ≡ true
+  pub opens : opens_paragraph word ≡ false
+  pub bullet : is_bullet word ≡ false
+  pub marker : is_among word options.markers.now ≡ false
+
+pub goes-on : (options : ReflowOptions) (starred : Bool) (word : List ℕ)
+    → may_go_on options starred word ≡ true → MayGoOn options starred word
+goes-on options starred word is =
+    let parts = three-parts (begins_text starred word) (not (opens_paragraph word))
+    (not (is_bullet word)) (not (is_among word options.markers.now)) is in record {
+      begins = parts.0;
+      opens = not-yes (opens_paragraph word) parts.1;
+      bullet = not-yes (is_bullet word) parts.2;
+      marker = not-yes (is_among word options.markers.now) parts.3;
+    }
+
+pub middle : (a b c : Bool) → (a && b && not c) ≡ true → b ≡ true
+middle a b c is = grind (arith, cases_Bool)
+
+first-none : (a b c d e : Bool) → (a || b || c || d || e) ≡ false → a ≡ false
+first-none a b c d e is = grind (arith, cases_Bool)
+
+pub text-no-quote : (starred : Bool) (word : List ℕ) → begins_text starred word ≡ true
+    → is_quote word ≡ false
+text-no-quote starred [] begins = refl
+text-no-quote starred (c ∷ cs) begins =
+    let word = c ∷ cs in
+    let plain : is_sign_byte c ≡ false =
+    first-none (is_sign_byte c) (starts_with nat_eq word (codes "//")) (starts_with nat_eq word (codes "/*"))
+    (starts_with nat_eq word (codes "```")) (starts_with nat_eq word (codes "~~~"))
+    (text-no-sign starred word begins) in
+    false_from_ne_true (is_quote word) (λ quote.
+    let made : is_made_of 62 word ≡ true =
+    middle (has_bytes word) (is_made_of 62 word) (length word == 3) quote in
+    let first : (c == 62) ≡ true = and-left (c == 62) (is_made_of 62 cs) made in
+    true≢false (sym (ap is_sign_byte (eqb-true c 62 first)) ∙ plain))
+
+pub no-comment : (options : ReflowOptions) (in_block starred : Bool) (word : List ℕ)
+    → begins_text starred word ≡ true → is_among word options.markers.now ≡ false
+    → is_comment_at options in_block word ≡ false
+no-comment options true starred word begins marker = text-other starred word (codes "*") begins star-plain
+no-comment options false starred word begins marker =
+    ap (λ b. b || (not options.markdown && (is_line_comment word || is_opening word))) marker
+    ∙ ap (λ b. not options.markdown && b) (both (is_line_comment word) (is_opening word) line opening)
+    ∙ none (not options.markdown)
+  where
+    none : (b : Bool) → (b && false) ≡ false
+    none true = refl
+    none false = refl
+
+    both : (a b : Bool) → a ≡ false → b ≡ false → (a || b) ≡ false
+    both a b p q = rw (p, q) refl
+
+    opening : is_opening word ≡ false
+    opening =
+        third (starts_with nat_eq word (codes "/*")) (has_letter word) (contains (codes "*/") word)
+        (text-letter starred word begins)
+      where
+        third : (a b c : Bool) → b ≡ true → (a && not b && not c) ≡ false
+        third a b c is = grind (arith, cases_Bool, is)
+
+    line : is_line_comment word ≡ false
+    line = no-line-comment word (text-letter starred word begins)
+
+-- words that begin with such a one are no marks
+pub no-mark : (options : ReflowOptions) (in_block starred : Bool) (word : List ℕ) (words : List (List ℕ))
+    (end : List ℕ) → begins_text starred word ≡ true → is_bullet word ≡ false
+    → is_comment_at options in_block word ≡ false
+    → HasNoMark options in_block (spread (word ∷ words) end)
+no-mark options in_block starred word words end begins bullet comment =
+    spread-mark words (text-other starred word (codes "[") begins box-plain)
+    (text-no-quote starred word begins)
+  where
+    of : (w : SpacedText) (l : List SpacedText) → bytes_eq w.word (codes "[") ≡ false
+        → is_quote w.word ≡ false → is_bullet w.word ≡ false
+        → is_comment_at options in_block w.word ≡ false → HasNoMark options in_block (w ∷ l)
+    of w l box quote bullet comment = record {
+      comment = ap one_if comment;
+      quote = ap (λ b. cond b (suc (quotes_len l)) 0) quote;
+      bullet = bullets-none w l bullet box;
+    }
+
+    spread-mark : (words : List (List ℕ)) → bytes_eq word (codes "[") ≡ false
+        → is_quote word ≡ false → HasNoMark options in_block (spread (word ∷ words) end)
+    spread-mark [] box quote = of _ [] box quote bullet comment
+    spread-mark (next ∷ words) box quote =
+        of _ (spread (next ∷ words) end) box quote bullet comment

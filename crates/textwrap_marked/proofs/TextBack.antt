@@ -1,0 +1,146 @@
+-- A new text, read again, has the parts of the text.
+use Rattle.textwrap_base.proofs.Common.{None, Option, Some, ◌≡◌, ℕ, ◌<◌, ◌||◌, not, Bool, true, false, List, [], ◌∷◌, ◌++◌, ◌==◌}
+use Rattle.textwrap_base.proofs.Common.{All, All-nil, ap, arith, join_with_byte, length, nat_lt, lt-ltb}
+use Rattle.textwrap_base.proofs.Common.{cases_Bool, refl, slice_split, subst, sym, true≢false, ◌∙◌}
+use Rattle.textwrap_base.proofs.Lists.Parts.{all-left, flat}
+use Rattle.std.proofs.lemmas.List.Splits.{length-slice_split}
+use Rattle.textwrap_lines.specs.declared.line_ending.LineEnding.{LineEnding}
+use Rattle.textwrap_marked.proofs.AnewLines.{bytes-by, IsTold, returns_by}
+use Rattle.textwrap_marked.proofs.BegunAlike.{AreBegun}
+use Rattle.textwrap_marked.proofs.BlockOrder.{AreBlocks, blocks-are, blocks-back}
+use Rattle.textwrap_marked.proofs.Feedless.{IsFeedless, IsFeedlessLine, read-feedless, split-feedless, split-joined}
+use Rattle.textwrap_marked.proofs.FenceMarks.{IsSafe, safe-none}
+use Rattle.textwrap_marked.proofs.FilledBack.{filled-step}
+use Rattle.textwrap_marked.proofs.NewBlock.{paragraph-at}
+use Rattle.textwrap_marked.proofs.ReadBack.{ending, IsReadBack, kept-step}
+use Rattle.textwrap_marked.proofs.TextBlocks.{read, read-more}
+use Rattle.textwrap_marked.proofs.TextParts.{blocks-flat}
+use Rattle.textwrap_marked.specs.Blocks.{blocks, is_beside, stays}
+use Rattle.textwrap_marked.specs.Laws.{AreSameParts, parts_of_blocks, text_parts}
+use Rattle.textwrap_marked.specs.Lines.{first_state, lines_of, LineText, StateText}
+use Rattle.textwrap_marked.specs.Reflow.{filled_ending, IsLaidOut, IsOfBlock, IsReflowedFrom}
+use Rattle.textwrap_marked.specs.declared.options.ReflowOptions.{ReflowOptions}
+
+level-first : (a b c : Bool) → (a || not b || c) ≡ false → a ≡ false
+level-first a b c is = grind (arith, cases_Bool)
+
+module _ (options : ReflowOptions) (returns : Bool) (told : IsTold options.ending returns) where
+  read-none : (state : StateText) (raws : List (List ℕ)) → [] ≡ read options state raws
+      → nat_lt 0 0 ≡ nat_lt 0 (length raws)
+  read-none state [] is = refl
+  read-none state (raw ∷ raws) is =
+      absurd (omega (arith, ap length is, ap length (read-more options state raw raws)))
+
+  none-begun : (raws : List (List ℕ)) → AreBegun returns raws []
+  none-begun [] = tt
+  none-begun (raw ∷ raws) = tt
+
+  -- the same parts, and a first line that is the same or stands in its place
+  pub record AreReadBack (text reflowed : List ℕ) : Type 0 where
+    pub same : AreSameParts options.ending (text_parts options text) (text_parts options reflowed)
+    pub raw : List ℕ
+    pub raws : List (List ℕ)
+    pub split : slice_split (λ c. c == 10) reflowed ≡ raw ∷ raws
+    pub begun : AreBegun returns (slice_split (λ c. c == 10) text) (raw ∷ raws)
+    pub feedless : All IsFeedless (raw ∷ raws)
+
+  pub walk-blocks : options.justify ≡ false → (bs : List (List LineText)) (beside : Bool) → AreBlocks bs → (state : StateText)
+      (raws : List (List ℕ)) (text : List ℕ) → flat bs ≡ read options state raws
+      → IsLaidOut options (ending options returns told) beside bs text → IsSafe options state
+      → All IsFeedless raws → IsReadBack options returns told state beside bs raws text
+  walk-blocks plain [] beside are state raws text reads laid safe free = record {
+    again = [];
+    blocks = [];
+    reads = refl;
+    are = tt;
+    same = tt;
+    text_is = laid;
+    feedless = All-nil IsFeedless;
+    heads = tt;
+    some = read-none state raws reads;
+    begun = none-begun raws;
+  }
+  walk-blocks plain ([] ∷ bs) beside are state raws text reads laid safe free = absurd are
+  walk-blocks plain ((first ∷ lines) ∷ bs) beside are state raws text reads (front, back, of, later, is) safe
+      free =
+      subst (IsReadBack options returns told state beside ((first ∷ lines) ∷ bs) raws) (sym is)
+      (step (stays (beside || is_beside first bs) first) refl of
+      (walk-blocks plain bs (is_beside first bs) are.2))
+    where
+      step : (b : Bool) → stays (beside || is_beside first bs) first ≡ b
+          → IsOfBlock options (ending options returns told) b first (first ∷ lines) front
+          → ((state : StateText) (raws : List (List ℕ)) (text : List ℕ) → flat bs ≡ read options state raws
+          → IsLaidOut options (ending options returns told) (is_beside first bs) bs text
+          → IsSafe options state → All IsFeedless raws
+          → IsReadBack options returns told state (is_beside first bs) bs raws text)
+          → IsReadBack options returns told state beside ((first ∷ lines) ∷ bs) raws (front ++ back)
+      step true stay of walks =
+          kept-step options returns told beside first lines bs walks are stay state raws front back reads of
+          later safe free
+      step false stay of walks =
+          let apart = level-first first.apart first.chosen (beside || is_beside first bs) stay in
+          let (raw, left, whole, p, same) =
+          paragraph-at options state raws first lines (flat bs) reads apart are.0 in
+          let lines_free = all-left IsFeedlessLine (first ∷ lines) (flat bs)
+          (subst (All IsFeedlessLine) (sym reads) (read-feedless options raws state free)) in
+          filled-step options returns told state raw first lines bs p beside plain front back raws left whole same
+          are stay of later walks safe free lines_free
+
+  parts-again : (text reflowed : List ℕ) (raw : List ℕ) (raws : List (List ℕ))
+      → (r : IsReadBack options returns told first_state false (blocks (lines_of options text))
+      (slice_split (λ c. c == 10) text) reflowed) → r.again ≡ raw ∷ raws
+      → AreReadBack text reflowed
+  parts-again text reflowed raw raws r some =
+      let split : slice_split (λ c. c == 10) reflowed ≡ r.again =
+      ap (slice_split (λ c. c == 10)) (r.text_is ∙ ap (join_with_byte 10) some)
+      ∙ split-joined raw raws (subst (All IsFeedless) some r.feedless) ∙ sym some in
+      let again : blocks (lines_of options reflowed) ≡ r.blocks =
+      ap (λ l. blocks (read options first_state l)) split ∙ ap blocks (sym r.reads)
+      ∙ blocks-back r.blocks r.are in
+      record {
+        same = subst (λ bs. AreSameParts options.ending (text_parts options text) (parts_of_blocks false bs)) (sym again) r.same;
+        raw = raw;
+        raws = raws;
+        split = split ∙ some;
+        begun = subst (AreBegun returns (slice_split (λ c. c == 10) text)) some r.begun;
+        feedless = subst (All IsFeedless) some r.feedless;
+      }
+
+  pub parts-back : options.justify ≡ false → (text reflowed : List ℕ)
+      → IsLaidOut options (ending options returns told) false (blocks (lines_of options text)) reflowed
+      → AreReadBack text reflowed
+  parts-back plain text reflowed laid =
+      let raws = slice_split (λ c. c == 10) text in
+      let r = walk-blocks plain (blocks (lines_of options text)) false (blocks-are (lines_of options text))
+      first_state raws reflowed (blocks-flat (lines_of options text)) laid
+      (safe-none options first_state refl) (split-feedless text) in
+      some r r.again refl
+    where
+      some : (r : IsReadBack options returns told first_state false (blocks (lines_of options text))
+          (slice_split (λ c. c == 10) text) reflowed) (again : List (List ℕ)) → r.again ≡ again
+          → AreReadBack text reflowed
+      some r [] is =
+          let long : 0 < length (slice_split (λ c. c == 10) text) =
+          omega (arith, length-slice_split (λ c. c == 10) text) in
+          absurd (true≢false (sym (lt-ltb 0 (length (slice_split (λ c. c == 10) text)) long) ∙ sym r.some
+          ∙ ap (λ l. nat_lt 0 (length l)) is))
+      some r (raw ∷ raws) is = parts-again text reflowed raw raws r is
+
+-- ---- by the ending of the text
+
+pub told-by : (e : Option LineEnding) (text : List ℕ) → IsTold e (returns_by (filled_ending e text))
+told-by None text = tt
+told-by (Some e) text = refl
+
+-- what is read of a new text
+abbrev pub IsTextBack : ReflowOptions → List ℕ → List ℕ → Type 0
+IsTextBack options text reflowed =
+    AreReadBack options (returns_by (filled_ending options.ending text)) (told-by options.ending text) text
+    reflowed
+
+pub text-back : (options : ReflowOptions) → options.justify ≡ false → (text reflowed : List ℕ)
+    → IsReflowedFrom options text reflowed → IsTextBack options text reflowed
+text-back options plain text reflowed laid =
+    let e = filled_ending options.ending text in
+    parts-back options (returns_by e) (told-by options.ending text) plain text reflowed
+    (subst (λ b. IsLaidOut options b false (blocks (lines_of options text)) reflowed) (bytes-by e) laid)

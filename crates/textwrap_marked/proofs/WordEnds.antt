@@ -1,0 +1,128 @@
+-- The words of a paragraph's last line, and the last of them.
+use Rattle.textwrap_base.proofs.Common.{◌≡◌, ◌≢◌, ℕ, ◌<◌, ◌&&◌, ◌||◌, not, Bool, true, false, cond, List}
+use Rattle.textwrap_base.proofs.Common.{[], ◌∷◌, ◌++◌, All, All-cons, All-nil, ap}
+use Rattle.textwrap_base.proofs.Common.{append-nil, arith, cases_Bool, codes, ends_with, length, map, nat_eq, refl, subst, sym, ◌∙◌}
+use Rattle.textwrap_marked.proofs.Letterless.{dots-plain}
+use Rattle.textwrap_marked.proofs.LineWords.{MayPart, spread}
+use Rattle.textwrap_marked.proofs.OpenBehind.{none-any, text-other}
+use Rattle.textwrap_marked.proofs.SpreadWords.{front-more, last-more, last_text, spread-any, spread-words}
+use Rattle.textwrap_marked.proofs.TextBlocks.{AreClosing, closing-before, NoClose}
+use Rattle.textwrap_marked.specs.Lines.{deeper_by}
+use Rattle.textwrap_marked.specs.Pieces.{is_cut}
+use Rattle.textwrap_marked.specs.Signs.{begins_text, closes_block, closes_early, ends_early, first_word, front_of}
+use Rattle.textwrap_marked.specs.Signs.{last_word, may_go_on}
+use Rattle.textwrap_marked.specs.Words.{contains, SpacedText}
+use Rattle.textwrap_marked.specs.declared.options.ReflowOptions.{ReflowOptions}
+
+-- ---- the last of some texts
+
+-- a line may end behind the last of these words, where they are parted from those
+pub part-cut : (options : ReflowOptions) (starred : Bool) (words : List (List ℕ)) (word : List ℕ)
+    (later : List (List ℕ)) → words ≢ [] → MayPart options starred words (word ∷ later)
+    → is_cut options starred (last_text words) (word ∷ later) ≡ true
+part-cut options starred [] word later some may = absurd (some refl)
+part-cut options starred (v ∷ []) word later some may = may
+part-cut options starred (v ∷ w ∷ words) word later some may =
+    part-cut options starred (w ∷ words) word later (λ none. cc) may
+
+pub cut-facts : (options : ReflowOptions) (starred : Bool) (last word : List ℕ) (later : List (List ℕ))
+    → is_cut options starred last (word ∷ later) ≡ true
+    → (ends_with nat_eq last (codes "\\") ≡ false) × (may_go_on options starred word ≡ true)
+cut-facts options starred last word later is =
+    facts (ends_with nat_eq last (codes "\\")) (may_go_on options starred word) is
+  where
+    facts : (a b : Bool) → not (a || not b) ≡ true → (a ≡ false) × (b ≡ true)
+    facts a b is = grind (arith, cases_Bool)
+
+-- ---- what closes a block comment
+
+pub closing-after : (in_block : Bool) (words : List (List ℕ)) (word : List ℕ) (later : List (List ℕ))
+    → AreClosing in_block (words ++ word ∷ later)
+    → All (NoClose in_block) words × AreClosing in_block (word ∷ later)
+closing-after in_block [] word later are = (All-nil (NoClose in_block), are)
+closing-after in_block (v ∷ []) word later (none, are) =
+    (All-cons (NoClose in_block) v [] none (All-nil (NoClose in_block)), are)
+closing-after in_block (v ∷ w ∷ words) word later (none, are) =
+    let (all, rest) = closing-after in_block (w ∷ words) word later are in
+    (All-cons (NoClose in_block) v (w ∷ words) none all, rest)
+
+pub closing-alone : (in_block : Bool) (words : List (List ℕ)) → All (NoClose in_block) words
+    → AreClosing in_block words
+closing-alone in_block words all =
+    subst (AreClosing in_block) (append-nil words) (closing-before in_block words [] all tt)
+
+pub spread-none : (in_block : Bool) (words : List (List ℕ)) (end : List ℕ)
+    → All (NoClose in_block) words → (in_block && closes_block (spread words end)) ≡ false
+spread-none false words end all = refl
+spread-none true words end all =
+    spread-any (λ w. contains (codes "*/") w) words end ∙ none-any (λ w. contains (codes "*/") w) words all
+
+closing-free : (in_block : Bool) (words : List SpacedText)
+    → AreClosing in_block (map (λ w. w.word) words)
+    → (in_block && closes_block words && closes_early words) ≡ false
+closing-free in_block [] are = none in_block (closes_early [])
+  where
+    none : (a b : Bool) → (a && false && b) ≡ false
+    none a b = grind (arith, cases_Bool)
+closing-free in_block (w ∷ []) are =
+    one in_block (contains (codes "*/") w.word) (ends_early w.word) are
+  where
+    one : (a b c : Bool) → (a && b && c) ≡ false → (a && (b || false) && (false || c)) ≡ false
+    one a b c is = grind (arith, cases_Bool)
+closing-free in_block (w ∷ v ∷ ws) (none, are) =
+    ap (λ e. in_block && (contains (codes "*/") w.word || closes_block (v ∷ ws)) && e) early
+    ∙ more in_block (contains (codes "*/") w.word) (closes_block (v ∷ ws))
+    (closes_block (front_of (v ∷ ws))) (ends_early (last_word (v ∷ ws))) none
+    (closing-free in_block (v ∷ ws) are)
+  where
+    early : closes_early (w ∷ v ∷ ws)
+        ≡ ((contains (codes "*/") w.word || closes_block (front_of (v ∷ ws))) || ends_early (last_word (v ∷ ws)))
+    early =
+        ap (λ l. closes_block l || ends_early (last_word (w ∷ v ∷ ws))) (front-more w v ws)
+        ∙ ap (λ l. (contains (codes "*/") w.word || closes_block (front_of (v ∷ ws)))
+        || ends_early (first_word l)) (last-more w v ws)
+
+    more : (a c b f e : Bool) → (a && c) ≡ false → (a && b && (f || e)) ≡ false
+        → (a && (c || b) && ((c || f) || e)) ≡ false
+    more a c b f e none is = grind (arith, cases_Bool)
+
+pub spread-free : (in_block : Bool) (words : List (List ℕ)) (end : List ℕ) → AreClosing in_block words
+    → (in_block && closes_block (spread words end) && closes_early (spread words end)) ≡ false
+spread-free in_block words end are =
+    closing-free in_block (spread words end) (subst (AreClosing in_block) (sym (spread-words words end)) are)
+
+-- whether they close one, the last says
+pub closes-last : (in_block : Bool) (words : List SpacedText) → 0 < length words
+    → AreClosing in_block (map (λ w. w.word) words)
+    → (in_block && closes_block words)
+    ≡ (in_block && contains (codes "*/") (last_text (map (λ w. w.word) words)))
+closes-last in_block [] some are = absurd (omega (arith, some))
+closes-last in_block (w ∷ []) some are = one in_block (contains (codes "*/") w.word)
+  where
+    one : (a b : Bool) → (a && (b || false)) ≡ (a && b)
+    one a b = grind (arith, cases_Bool)
+closes-last in_block (w ∷ v ∷ ws) some (none, are) =
+    more in_block (contains (codes "*/") w.word) (closes_block (v ∷ ws)) none
+    ∙ closes-last in_block (v ∷ ws) (omega arith) are
+  where
+    more : (a b c : Bool) → (a && b) ≡ false → (a && (b || c)) ≡ (a && c)
+    more a b c is = grind (arith, cases_Bool)
+
+-- ---- by how much later text is deeper
+
+abbrev depth_if : Bool → ℕ
+depth_if b = cond b 1 4
+
+deeper-one : (starred : Bool) (words : List SpacedText) → begins_text starred (first_word words) ≡ true
+    → deeper_by words ≡ depth_if (ends_with nat_eq (last_word words) (codes "::") || false)
+deeper-one starred words begins =
+    ap (λ b. depth_if (ends_with nat_eq (last_word words) (codes "::") || b))
+    (text-other starred (first_word words) (codes "..") begins dots-plain)
+
+pub deeper-same : (starred other : Bool) (words others : List SpacedText)
+    → begins_text starred (first_word words) ≡ true → begins_text other (first_word others) ≡ true
+    → last_word words ≡ last_word others → deeper_by words ≡ deeper_by others
+deeper-same starred other words others begins begin same =
+    deeper-one starred words begins
+    ∙ ap (λ w. depth_if (ends_with nat_eq w (codes "::") || false)) same
+    ∙ sym (deeper-one other others begin)

@@ -91,7 +91,7 @@ module _ (options : ReflowOptions) (state : StateText) (raw : List ℕ) (fed : B
       k.words) is in (
         record { fence = parts.0; level = parts.1; prompt = parts.2 },
         words-free options.justify (block_at state k) (starred_at options state k) (field_of k) k.words
-        parts.3,
+            parts.3,
       )
 
   pub free-apart : IsOpen options state (hanging_of options.bare k)

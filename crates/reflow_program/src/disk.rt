@@ -11,8 +11,9 @@ const DRAFT_SUFFIX: &str = ".reflow";
 
 /// The files of the file system, by their paths.
 ///
-/// A file is replaced by a new one, which has its mode, and its owner and its group, if the system permits
-/// that. So other hard links to it keep the old text. A link to a file is followed: the file is replaced, and the link stays.
+/// A file is replaced by a new one, which has its mode, and its owner and its group, if the system
+/// permits that. So other hard links to it keep the old text. A link to a file is followed: the file
+/// is replaced, and the link stays.
 #[derive(Drop)]
 pub struct Disk<'r, R> {
     runtime: &'r R,

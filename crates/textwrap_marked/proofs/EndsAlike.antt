@@ -4,8 +4,6 @@ use Rattle.textwrap_base.proofs.Common.{All, All-head, ap, append_assoc, arith, 
 use Rattle.textwrap_base.proofs.Common.{nat_eq, nat_lt, None, refl, slice_split, subst, sym, true≢false, ◌∙◌}
 use Rattle.textwrap_base.proofs.Lists.Parts.{all-left, all-right}
 use Rattle.std.proofs.lemmas.List.Splits.{length-slice_split}
-use Rattle.textwrap_words.proofs.Common.{WordText}
-use Rattle.textwrap_lines.specs.Paragraph.{covered}
 use Rattle.textwrap_lines.specs.declared.line_ending.LineEnding.{LineEnding}
 use Rattle.textwrap_lines.specs.declared.line_ending.LineEnding.TheVariants.{CRLF, LF}
 use Rattle.textwrap_marked.proofs.BegunAlike.{AreBegun}
@@ -16,7 +14,8 @@ use Rattle.textwrap_marked.proofs.TextBack.{IsTextBack}
 use Rattle.textwrap_marked.specs.Blocks.{stays}
 use Rattle.textwrap_marked.specs.Lines.{LineText}
 use Rattle.textwrap_marked.specs.Reflow.{break_white, ending_if, ending_of, filled_end, filled_ending, first_ending}
-use Rattle.textwrap_marked.specs.Reflow.{IsLaidOut, IsOfBlock}
+use Rattle.textwrap_marked.specs.Reflow.{first_room, IsLaidOut, IsOfBlock, later_room, line_text}
+use Rattle.textwrap_marked.specs.Reflow.{line_texts, printed, shown_lines}
 use Rattle.textwrap_marked.specs.declared.options.ReflowOptions.{ReflowOptions}
 
 -- ---- the first line says it, if lines follow
@@ -87,14 +86,19 @@ module _ (options : ReflowOptions) (ending other front_end : List ℕ) (feed : e
   one-block true text all is = is
   one-block false text all ([], divided, is) = ([], divided, is ∙ end-same)
   one-block false text all (l ∷ [], divided, is) =
-      (l ∷ [], divided, is ∙ ap (λ e. ((line.prefix ++ covered l) ++ []) ++ e) end-same)
+      (l ∷ [], divided, is ∙ ap (λ e. printed ending line.prefix line.hanging
+      (shown_lines options line (l ∷ [])) ++ e) end-same)
   one-block false text all (l ∷ m ∷ ls, divided, is) =
-      let first = line.prefix ++ covered l in
-      let later = flat_map (λ (x : List WordText). (ending ++ line.hanging) ++ covered x) ls in
+      let room = later_room options line in
+      let first = line.prefix ++ line_text (options.justify && nat_lt 0 (length (m ∷ ls)))
+      (first_room options line) l in
+      let next = line_text (options.justify && nat_lt 0 (length ls)) room m in
+      let later = flat_map (λ (x : List ℕ). (ending ++ line.hanging) ++ x)
+      (line_texts options.justify room room ls) in
       let end = filled_end ending (line ∷ []) in
-      let grouped : (first ++ (((ending ++ line.hanging) ++ covered m) ++ later)) ++ end
-      ≡ first ++ (ending ++ (((line.hanging ++ covered m) ++ later) ++ end)) = simp append_assoc in
-      absurd (fed-none first (((line.hanging ++ covered m) ++ later) ++ end)
+      let grouped : (first ++ (((ending ++ line.hanging) ++ next) ++ later)) ++ end
+      ≡ first ++ (ending ++ (((line.hanging ++ next) ++ later) ++ end)) = simp append_assoc in
+      absurd (fed-none first (((line.hanging ++ next) ++ later) ++ end)
       (subst (All NoFeed) (is ∙ grouped) all))
 
   pub one-line : (text : List ℕ) → All NoFeed text

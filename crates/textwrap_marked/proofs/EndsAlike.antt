@@ -85,9 +85,12 @@ module _ (options : ReflowOptions) (ending other front_end : List ℕ) (feed : e
       → IsOfBlock options other b line (line ∷ []) text
   one-block true text all is = is
   one-block false text all ([], divided, is) = ([], divided, is ∙ end-same)
-  one-block false text all (l ∷ [], divided, is) =
-      (l ∷ [], divided, is ∙ ap (λ e. printed ending line.prefix line.hanging
-      (shown_lines options line (l ∷ [])) ++ e) end-same)
+  one-block false text all (l ∷ [], divided, is) = (
+    l ∷ [],
+    divided,
+    is ∙ ap (λ e. printed ending line.prefix line.hanging
+        (shown_lines options line (l ∷ [])) ++ e) end-same,
+  )
   one-block false text all (l ∷ m ∷ ls, divided, is) =
       let room = later_room options line in
       let first = line.prefix ++ line_text (options.justify && nat_lt 0 (length (m ∷ ls)))

@@ -245,10 +245,22 @@ const READ_AND_WRITTEN: &[(&str, &[&str], &str, &str)] = &[
         "one two three\r\n\none two\r\nthree\r\n",
     ),
     (
-        "at no line",
-        &["-8", "--lines", "3:2"],
+        "at no line, between a paragraph and an empty one",
+        &["-8", "--lines", "2:1"],
+        "one two three\n\none two three\n",
+        "one two three\n\none two three\n",
+    ),
+    (
+        "and between two lines of a paragraph",
+        &["-8", "--first-fit", "--lines", "3:2"],
         "one two three\none\ntwo\n",
-        "one two three\none\ntwo\n",
+        "one two\nthree\none two\n",
+    ),
+    (
+        "lines are justified",
+        &["-16", "--first-fit", "--justify"],
+        "one two three four five\n",
+        "one   two  three\nfour five\n",
     ),
     (
         "the name of the standard input",

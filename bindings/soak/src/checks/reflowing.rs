@@ -38,6 +38,8 @@ impl Reflow {
             .args(layout.arguments())
             .stdin(Stdio::piped())
             .stdout(Stdio::piped())
+            // That no line has the marks of a prefix is said there, and is no fault.
+            .stderr(Stdio::null())
             .spawn()?;
         // It reads all of its input before it writes. The pipe is closed at the end of this line.
         let fed = child.stdin.take().map_or(Ok(()), |mut input| input.write_all(text.as_bytes()));

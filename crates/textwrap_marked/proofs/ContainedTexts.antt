@@ -1,7 +1,7 @@
 -- Where a text stands in another: somewhere, in front or at the end.
 use Rattle.textwrap_base.proofs.Common.{◌≡◌, ℕ, ◌+◌, ◌-◌, Bool, true, false, ◌||◌, List, [], ◌∷◌}
 use Rattle.textwrap_base.proofs.Common.{◌++◌, length, take, drop, refl, ap, sym, ◌∙◌, arith, nat_eq}
-use Rattle.textwrap_base.proofs.Common.{starts_with, false_from_ne_true, ◌↔◌, ends_with, None}
+use Rattle.textwrap_base.proofs.Common.{starts_with, false_from_ne_true, ◌↔◌, ends_with, None, nat_tests}
 use Rattle.textwrap_base.proofs.Common.{Option, Some, take_at, Bor, length-append}
 use Rattle.textwrap_base.proofs.Lists.Parts.{starts_with-false, starts_with-rest, starts_with-true}
 use Rattle.textwrap_base.proofs.Lists.Parts.{ends_with-front, ends_with-true, stripped_suffix}
@@ -9,7 +9,8 @@ use Rattle.std.proofs.Common.{ap₂}
 use Rattle.std.specs.Option.{MatchOption}
 use Rattle.std.specs.Str.Iter.{HasSubslice}
 use Rattle.std.specs.Str.Pattern.{FindsTextPrefix, FindsTextSuffix, StripsPrefix, StripsSuffix}
-use Rattle.textwrap_marked.specs.Words.{contains}
+use Rattle.std.specs.Prelude.{◌<◌, ◌==◌, ◌&&◌, slice_index_or}
+use Rattle.textwrap_marked.specs.Words.{contains, has_byte}
 
 module _ (part : List ℕ) where
   contains-from : (text a b : List ℕ) → text ≡ a ++ (part ++ b) → contains part text ≡ true
@@ -70,3 +71,28 @@ without-end end text (Some x) strips =
       sym (ap₂ (λ n t. take (n - length end) t) (ap length is ∙ length-append x.now end) is
           ∙ take_at x.now end ((length x.now + length end) - length end) (omega arith)),
     )
+
+-- each text has the empty one
+pub contains-nothing : (part text : List ℕ) → length part < 1 → contains part text ≡ true
+contains-nothing [] [] none = refl
+contains-nothing [] (c ∷ cs) none = refl
+contains-nothing (byte ∷ part) text none = absurd (omega (arith, none))
+
+flip : (a b : ℕ) → (a == b) ≡ false → (b == a) ≡ false
+flip a b is = grind (arith, nat_tests, is)
+
+-- a text without the first byte of a part does not have the part
+pub contains-lacks : (part text : List ℕ) → 0 < length part
+    → has_byte (slice_index_or part 0 0) text ≡ false → contains part text ≡ false
+contains-lacks [] text some lacks = absurd (omega (arith, some))
+contains-lacks (byte ∷ part) [] some lacks = refl
+contains-lacks (byte ∷ part) (c ∷ cs) some lacks =
+    split (c == byte) refl lacks (contains-lacks (byte ∷ part) cs some)
+  where
+    split : (t : Bool) → (c == byte) ≡ t → (t || has_byte byte cs) ≡ false
+        → (has_byte byte cs ≡ false → contains (byte ∷ part) cs ≡ false)
+        → contains (byte ∷ part) (c ∷ cs) ≡ false
+    split true is bad later = let no : true ≡ false = bad in cc
+    split false is lacks later =
+        ap (λ t. (t && starts_with nat_eq cs part) || contains (byte ∷ part) cs) (flip c byte is)
+        ∙ later lacks

@@ -108,7 +108,7 @@ fn opened_by(run: Option<FenceRun>, words: &[SpacedWord<'_>]) -> Option<FenceKin
             }
         }
         None => {
-            if has_pre(words) & !has_pre_end(words) {
+            if has_pre(words) && !has_pre_end(words) {
                 Some(FenceKind::Pre)
             } else {
                 None

@@ -1,10 +1,11 @@
 //! What is read of a line.
-ghost use Rattle.std.specs.Prelude.{◌≡◌, ◌≤◌, length, map, nat_eq, IfOk};
+ghost use Rattle.std.specs.Prelude.{◌≡◌, ◌≤◌, ◌&&◌, length, map, nat_eq, not, IfOk};
 ghost use Rattle.std.specs.List.{list_any, starts_with};
 ghost use Rattle.textwrap_marked.specs.Lines.{is_chosen, is_deep, is_ended, is_title, line_from};
 ghost use Rattle.textwrap_marked.specs.Lines.{line_of};
 ghost use Rattle.textwrap_marked.specs.Lines.{is_return, line_view, stands_apart, state_view};
 ghost use Rattle.textwrap_marked.specs.Lines.{without_returns};
+ghost use Rattle.textwrap_marked.specs.Signs.{closes_block};
 ghost use Rattle.textwrap_marked.specs.Words.{spaced_view};
 
 use crate::columns::{depth_of, is_deeper};
@@ -17,9 +18,7 @@ use crate::signs::{
     last_word,
 };
 use crate::states::State;
-use crate::words::{
-    SpacedWord, copied, ends_with, has_byte, spaced_words, split_white, starts_with,
-};
+use crate::words::{SpacedWord, ends_with, has_byte, spaced_words, split_white, starts_with};
 use std::alloc::{AllocError, Global};
 
 /// A line, and what is read of it.
@@ -116,10 +115,10 @@ fn line_from<'t>(
     let fenced = state.fence.is_some();
     let by_words = stands_apart(options.justify, in_block, starred, field, text);
     let apart = fenced | deeper | state.prompted | by_words;
-    let opens_block = opening & !closes_block(text);
+    let opens_block = stays_open(opening, text);
     let ended = is_ended(in_block, text);
     let chosen = is_chosen(margin.as_str(), options);
-    let words = copied(alloc, text)?;
+    let words = Vec::from_slice(alloc, text)?;
     Ok(Line {
         raw,
         fed,
@@ -157,6 +156,13 @@ fn is_deep(
     }
 }
 
+/// Whether a block comment that opens before these words stays open behind them.
+fn stays_open(opening: bool, words: &[SpacedWord<'_>]) -> bool
+    ensures { result ≡ (opening && not (closes_block (map spaced_view words.now))) }
+{
+    opening && !closes_block(words)
+}
+
 /// Whether a line stands apart by its words alone.
 fn stands_apart(
     justify: bool,
@@ -168,9 +174,9 @@ fn stands_apart(
     ensures { result ≡ stands_apart justify in_block starred field (map spaced_view words.now) }
 {
     !begins_text(starred, first_word(words))
-        | has_columns(justify, words)
-        | field & has_byte(b'-', first_word(words).as_bytes())
-        | in_block & closes_block(words) & closes_early(words)
+        || has_columns(justify, words)
+        || field && has_byte(b'-', first_word(words).as_bytes())
+        || in_block && closes_block(words) && closes_early(words)
 }
 
 /// Whether the line behind these words begins another paragraph: they end in a backslash or two
@@ -179,8 +185,8 @@ fn is_ended(in_block: bool, words: &[SpacedWord<'_>]) -> bool
     ensures { result ≡ is_ended in_block (map spaced_view words.now) }
 {
     ends_with(last_word(words), "\\")
-        | ends_with(last_white(words), "  ")
-        | in_block & closes_block(words)
+        || ends_with(last_white(words), "  ")
+        || in_block && closes_block(words)
 }
 
 /// Whether a paragraph behind this margin is filled.

@@ -12,6 +12,12 @@ use crate::signs::may_go_on;
 use crate::words::{SpacedWord, ends_with};
 use std::alloc::{AllocError, Global};
 
+/// How many bytes a word has with its blank, at a guess, for which room is asked at once.
+const USUAL_LEN: usize = 6;
+
+/// How many words a line has, at a guess.
+const USUAL_WORDS: usize = 16;
+
 /// Words, each with a blank behind it.
 #[derive(Drop)]
 pub(crate) struct JoinedWords {
@@ -68,8 +74,8 @@ pub(crate) fn joined_of(
         ≡ joined_of options.now starred (map (λ word. word.now) words.now)) }
 {
     let mut joined = JoinedWords {
-        text: String::new(alloc),
-        cuts: Vec::new(alloc),
+        text: String::with_capacity(alloc, words.len().saturating_mul(USUAL_LEN))?,
+        cuts: Vec::with_capacity(alloc, words.len())?,
     };
     for (i, word) in words.iter().enumerate() {
         let is_cut = is_cut(options, starred, word, &words[i + 1..]);
@@ -94,7 +100,7 @@ pub(crate) fn words_of<'t>(alloc: Global, lines: &[Line<'t>]) -> Result<Vec<&'t 
     ensures { IfOk result (λ words.
         map (λ word. word.now) words.items ≡ words_of (map line_view lines.now)) }
 {
-    let mut words = Vec::new(alloc);
+    let mut words = Vec::with_capacity(alloc, lines.len().saturating_mul(USUAL_WORDS))?;
     for line in lines {
         push_words(&mut words, &line.words)?;
     }

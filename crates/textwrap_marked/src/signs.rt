@@ -1,5 +1,5 @@
 //! How a text begins, and what no paragraph contains.
-ghost use Rattle.std.specs.Prelude.{◌≡◌, ◌==◌, length, map, chars, slice_get};
+ghost use Rattle.std.specs.Prelude.{◌≡◌, ◌==◌, true, false, length, map, chars, slice_get, slice_index};
 ghost use Rattle.std.specs.List.{list_all, list_any};
 ghost use Rattle.textwrap_marked.specs.Signs.{any_contains, begins_text, closes_block};
 ghost use Rattle.textwrap_marked.specs.Signs.{closes_early};
@@ -8,6 +8,7 @@ ghost use Rattle.textwrap_marked.specs.Signs.{has_columns, is_closing, is_column
 ghost use Rattle.textwrap_marked.specs.Signs.{is_end, is_gap, is_key, is_key_character, is_rule, is_wide};
 ghost use Rattle.textwrap_marked.specs.Signs.{is_rule_characters, is_rule_of, is_sign};
 ghost use Rattle.textwrap_marked.specs.Signs.{is_sign_byte, last_of, last_white};
+ghost use Rattle.textwrap_marked.specs.Marks.{is_bullet};
 ghost use Rattle.textwrap_marked.specs.Signs.{last_word, may_go_on};
 ghost use Rattle.textwrap_marked.specs.Signs.{opens_paragraph};
 ghost use Rattle.textwrap_marked.specs.Words.{is_alphanumeric, spaced_view};
@@ -114,14 +115,32 @@ pub(crate) fn begins_text(starred: bool, word: &str) -> bool
     has_letter(word) & !is_sign(word) & !(starred & (first_byte(word) == b'*'))
 }
 
+/// Whether a word begins with a small letter of ASCII and ends with another one or a comma, as most
+/// words do: then it is no sign and no bullet, and opens no paragraph.
+fn is_usual(word: &str) -> bool
+    ensures sign { result ≡ true → is_sign word.now ≡ false }
+    ensures first { result ≡ true → (slice_index word.now 0 == 42) ≡ false }
+    ensures opens { result ≡ true → opens_paragraph word.now ≡ false }
+    ensures bullet { result ≡ true → is_bullet word.now ≡ false }
+{
+    match word.as_bytes() {
+        [first, .., last] => {
+            first.is_ascii_lowercase() && (last.is_ascii_lowercase() || *last == b',')
+        }
+        _ => false,
+    }
+}
+
 /// Whether a paragraph may have a line that this word begins, after its first one.
 pub(crate) fn may_go_on(options: &ReflowOptions<'_>, starred: bool, word: &str) -> bool
     ensures { result ≡ may_go_on options.now starred word.now }
 {
-    begins_text(starred, word)
-        & !opens_paragraph(word)
-        & !is_bullet(word)
-        & !options.is_marker(word)
+    let may_begin = if is_usual(word) {
+        has_letter(word)
+    } else {
+        begins_text(starred, word) && !opens_paragraph(word) && !is_bullet(word)
+    };
+    may_begin && !options.is_marker(word)
 }
 
 /// Whether a character closes a quote or a bracket.
@@ -154,14 +173,14 @@ fn is_wide(word: &SpacedWord<'_>) -> bool
     ensures { result ≡ is_wide (spaced_view word.now) }
 {
     let len = word.white.len();
-    (len > 2) | (len == 2) & !ends_sentence(word.word)
+    len > 2 || len == 2 && !ends_sentence(word.word)
 }
 
 /// Whether the white behind a word is a gap: a tab, or wide; where lines are justified, a tab alone.
 fn is_gap(justify: bool, word: &SpacedWord<'_>) -> bool
     ensures { result ≡ is_gap justify (spaced_view word.now) }
 {
-    has_byte(b'\t', word.white.as_bytes()) | !justify & is_wide(word)
+    has_byte(b'\t', word.white.as_bytes()) || !justify && is_wide(word)
 }
 
 /// Whether no paragraph contains this word: `|`, a comment behind code, a carriage return, `]:` or
@@ -170,9 +189,9 @@ fn is_column_word(word: &str) -> bool
     ensures { result ≡ is_column_word word.now }
 {
     matches!(word, "|" | "//" | "/*" | "#")
-        | has_byte(b'\r', word.as_bytes())
-        | contains(word, "]:")
-        | contains(word, "<pre")
+        || has_byte(b'\r', word.as_bytes())
+        || contains(word, "]:")
+        || contains(word, "<pre")
 }
 
 fn any_column_word(words: &[SpacedWord<'_>]) -> bool
@@ -202,7 +221,7 @@ pub(crate) fn has_columns(justify: bool, words: &[SpacedWord<'_>]) -> bool
     ensures { result ≡ has_columns justify (map spaced_view words.now) }
 {
     let (front, _) = split_last(words);
-    any_column_word(words) | any_gap(justify, front)
+    any_column_word(words) || any_gap(justify, front)
 }
 
 /// Whether a text stands in one of the words.

@@ -66,7 +66,7 @@ pub(crate) fn split_white(text: &str) -> (&str, &str)
 pub(crate) fn spaced_words(alloc: Global, line: &str) -> Result<Vec<SpacedWord<'_>>, AllocError>
     ensures { IfOk result (λ words. map spaced_view words.items ≡ spaced_words line.now) }
 {
-    let mut words = Vec::new(alloc);
+    let mut words = Vec::with_capacity(alloc, (line.len() / 4).min(32))?;
     let mut rest = line;
     while !rest.is_empty() {
         let (word, after) = split_word(rest);
@@ -75,20 +75,6 @@ pub(crate) fn spaced_words(alloc: Global, line: &str) -> Result<Vec<SpacedWord<'
         rest = after;
     }
     Ok(words)
-}
-
-/// A list of these words.
-pub(crate) fn copied<'t>(
-    alloc: Global,
-    words: &[SpacedWord<'t>],
-) -> Result<Vec<SpacedWord<'t>>, AllocError>
-    ensures { IfOk result (λ list. list.items ≡ words.now) }
-{
-    let mut list = Vec::new(alloc);
-    for word in words {
-        list.push(*word)?;
-    }
-    Ok(list)
 }
 
 /// Whether a letter or a digit is among the characters of a word.
@@ -152,8 +138,12 @@ pub(crate) fn without_end<'t>(text: &'t str, end: &str) -> Option<&'t str>
     text.strip_suffix(end)
 }
 
+/// Whether a part stands in a text. Its first byte, which is quickly told, is looked for first.
 pub(crate) fn contains(text: &str, part: &str) -> bool
     ensures { result ≡ contains part.now text.now }
 {
-    text.contains(part)
+    match part.as_bytes() {
+        [first, ..] => has_byte(*first, text.as_bytes()) && text.contains(part),
+        [] => true,
+    }
 }

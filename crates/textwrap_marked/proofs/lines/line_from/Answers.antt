@@ -22,13 +22,13 @@ is_some-view (Some fence) = refl
 module _ (options : ReflowOptions) (state : StateText) (raw : List ℕ) (fed : Bool)
     (all : List SpacedText) (ends : PrefixEnds) where
   line-is : (margin prefix form hanging : List ℕ) (words : List SpacedText)
-      (opening star deeper key closes fenced apart ended chosen : Bool)
+      (opening star deeper key opens fenced apart ended chosen : Bool)
       → margin ≡ spaced_text (take ends.margin all) → prefix ≡ spaced_text (take ends.text all)
       → form ≡ hanging_margin options.bare ends all
       → hanging ≡ form ++ hanging_bullets (slice_range all ends.margin ends.text)
       → words ≡ drop ends.text all → opening ≡ has_opening ends all → star ≡ has_byte 42 form
       → deeper ≡ is_deep options state form → key ≡ is_key (first_word words)
-      → closes ≡ closes_block words → fenced ≡ is_some state.fence
+      → opens ≡ (opening && not (closes_block words)) → fenced ≡ is_some state.fence
       → apart ≡ stands_apart options.justify (state.in_block || opening)
       ((state.in_block || opening) && not star) (key && ends.margin == ends.text) words
       → ended ≡ is_ended (state.in_block || opening) words → chosen ≡ is_chosen options margin
@@ -39,14 +39,14 @@ module _ (options : ReflowOptions) (state : StateText) (raw : List ℕ) (fed : B
         hanging = hanging;
         words = words;
         starred = (state.in_block || opening) && not star;
-        opens_block = opening && not closes;
+        opens_block = opens;
         deeper = deeper;
         apart = fenced || deeper || state.prompted || apart;
         field = key && ends.margin == ends.text;
         ended = ended;
         chosen = chosen;
       } ≡ line_from options state raw fed all ends
-  line-is margin prefix form hanging words opening star deeper key closes fenced apart ended chosen
+  line-is margin prefix form hanging words opening star deeper key opens fenced apart ended chosen
       m p f h w o s d k c n a e x = rw (x, e, a, n, c, k, d, s, o, w, h, f, p, m) refl
 
 pub returns : goal.returns
@@ -56,9 +56,9 @@ returns c =
     let all = c.args.all.now in
     let ends = c.args.ends.now in
     let text : map spaced_view c.in_ok-words.words.items ≡ drop ends.text (map spaced_view all) =
-    ap (map spaced_view) (c.in_ok-words.ensures ∙ take_rest all ends.text)
+    ap (map spaced_view) (c.in_ok-words.ensures.items ∙ take_rest all ends.text)
     ∙ sym (drop-map spaced_view ends.text all) in
-    let same = ap (map spaced_view) (sym c.in_ok-words.ensures) in
+    let same = ap (map spaced_view) (sym c.in_ok-words.ensures.items) in
     let wide = ends.text - ends.margin in
     let cut : map spaced_view (slice_range all ends.margin ends.text)
     ≡ slice_range (map spaced_view all) ends.margin ends.text =
@@ -68,7 +68,7 @@ returns c =
     (string_bytes c.in_ok-margin.margin) (string_bytes c.in_ok-prefix.prefix)
     (string_bytes c.in_ok-hanging.hanging) (string_bytes c.push_hanging_bullets.new.text)
     (map spaced_view c.in_ok-words.words.items) c.has_opening-opening.result c.has_byte.result
-    c.in_ok-deeper.deeper c.is_key.result c.closes_block.result c.is_some-fenced.result
+    c.in_ok-deeper.deeper c.is_key.result c.stays_open-opens_block.result c.is_some-fenced.result
     c.stands_apart-by_words.result c.is_ended-ended.result c.is_chosen-chosen.result
     (c.in_ok-margin.ensures ∙ ap spaced_text (sym (take-map spaced_view ends.margin all)))
     (c.in_ok-prefix.ensures ∙ ap spaced_text (sym (take-map spaced_view ends.text all)))
@@ -77,7 +77,8 @@ returns c =
     (c.has_byte.ensures ∙ ap (has_byte 42) (c.as_bytes.ensures.value ∙ c.as_str-form.ensures.value))
     (c.in_ok-deeper.ensures ∙ ap (is_deep options state) c.as_str-form.ensures.value)
     (c.is_key.ensures ∙ ap is_key (c.first_word.ensures ∙ ap first_word same))
-    (c.closes_block.ensures ∙ ap closes_block same)
+    (c.stays_open-opens_block.ensures
+    ∙ ap (λ ws. c.has_opening-opening.result && not (closes_block ws)) same)
     (c.is_some-fenced.ensures ∙ is_some-view c.args.state.now.fence)
     (c.stands_apart-by_words.ensures ∙ ap (stands_apart _ _ _ _) same)
     (c.is_ended-ended.ensures ∙ ap (is_ended _) same)

@@ -1,6 +1,6 @@
 -- The blocks of a text: lines that stand apart, and paragraphs.
 use Rattle.std.specs.Prelude.{ℕ, ◌&&◌, ◌||◌, Bool, false, not, bytes_eq, List, [], ◌∷◌, suc}
-use Rattle.std.specs.Prelude.{if◌then◌else◌}
+use Rattle.std.specs.Prelude.{if◌then◌else◌, take, drop}
 use Rattle.textwrap_marked.specs.Lines.{LineText}
 use Rattle.textwrap_marked.specs.Signs.{first_word, opens_paragraph}
 
@@ -32,6 +32,12 @@ later_len line (next ∷ lines) = if goes_on line next then suc (later_len next 
 abbrev pub block_len : List LineText → ℕ
 block_len [] = 0
 block_len (line ∷ lines) = suc (later_len line lines)
+
+abbrev pub first_block : List LineText → List LineText
+first_block lines = take (block_len lines) lines
+
+abbrev pub behind_block : List LineText → List LineText
+behind_block lines = drop (block_len lines) lines
 
 -- both begin with a key, behind the same hanging form
 abbrev pub are_fields : LineText → LineText → Bool

@@ -1,6 +1,7 @@
 pub mod Words
 pub mod Marks
 pub mod Prefixes
+pub mod Reading
 pub mod Columns
 pub mod Signs
 pub mod Fences

@@ -1,10 +1,14 @@
 //! The blocks of a text: lines that stand apart, and paragraphs.
-ghost use Rattle.std.specs.Prelude.{◌≡◌, ◌<◌, ◌≤◌, length, map};
-ghost use Rattle.textwrap_marked.specs.Blocks.{are_fields, block_len, goes_on};
-ghost use Rattle.textwrap_marked.specs.Lines.{line_view};
+ghost use Rattle.std.specs.Prelude.{◌≡◌, ◌<◌, ◌≤◌, length, map, IfOk, Some};
+ghost use Rattle.textwrap_marked.specs.Blocks.{are_fields, behind_block, block_len, first_block, goes_on};
+ghost use Rattle.textwrap_marked.specs.Lines.{line_view, lines_of};
+ghost use Rattle.textwrap_marked.specs.Reading.{lines_left, measure_left};
 
 use crate::lines::Line;
+use crate::options::ReflowOptions;
+use crate::reading::LinesAhead;
 use crate::signs::{first_word, opens_paragraph};
+use std::alloc::{AllocError, Global};
 
 /// Whether a line goes on with the one before it.
 fn goes_on(line: &Line<'_>, next: &Line<'_>) -> bool
@@ -36,4 +40,62 @@ pub(crate) fn are_fields(one: &Line<'_>, two: &Line<'_>) -> bool
     ensures { result ≡ are_fields (line_view one.now) (line_view two.now) }
 {
     one.field & two.field & (one.hanging.as_str() == two.hanging.as_str())
+}
+
+/// The line that the next block begins with, and the lines behind it, which are still to be read.
+#[derive(Drop)]
+pub(crate) struct BlocksAhead<'t> {
+    pub first: Line<'t>,
+    later: Option<LinesAhead<'t>>,
+}
+
+impl<'t> BlocksAhead<'t> {
+    /// The blocks of a text.
+    pub fn new(
+        alloc: Global,
+        text: &'t str,
+        options: &ReflowOptions<'_>,
+    ) -> Result<BlocksAhead<'t>, AllocError>
+        ensures { IfOk result (λ ahead. lines_left options.now (Some ahead)
+            ≡ lines_of options.now text.now) }
+    {
+        let (first, later) = LinesAhead::new(alloc, text, options)?.next(alloc, options)?;
+        Ok(BlocksAhead { first, later })
+    }
+
+    /// The lines of the first block, and the blocks behind it, if there are any.
+    pub fn next(
+        self,
+        alloc: Global,
+        options: &ReflowOptions<'_>,
+    ) -> Result<(Vec<Line<'t>>, Option<BlocksAhead<'t>>), AllocError>
+        ensures block { IfOk result (λ read. map line_view read.0.items
+            ≡ first_block (lines_left options.now (Some self.entry))) }
+        ensures rest { IfOk result (λ read. lines_left options.now read.1
+            ≡ behind_block (lines_left options.now (Some self.entry))) }
+        ensures fewer { IfOk result (λ read. measure_left read.1 < measure_left (Some self.entry)) }
+    {
+        let BlocksAhead { first, later } = self;
+        let mut block = Vec::new(alloc);
+        let mut line = first;
+        let mut later = later;
+        while let Some(ahead) = later {
+            let (next, after) = ahead.next(alloc, options)?;
+            if !goes_on(&line, &next) {
+                block.push(line)?;
+                return Ok((
+                    block,
+                    Some(BlocksAhead {
+                        first: next,
+                        later: after,
+                    }),
+                ));
+            }
+            block.push(line)?;
+            line = next;
+            later = after;
+        }
+        block.push(line)?;
+        Ok((block, None))
+    }
 }

@@ -1,7 +1,8 @@
 //! The lines of a text, read one after another.
-ghost use Rattle.std.specs.Prelude.{◌≡◌, ◌==◌, ◌≤◌, ◌∷◌, length, map, IfOk};
+ghost use Rattle.std.specs.Prelude.{◌≡◌, ◌==◌, ◌<◌, ◌≤◌, ◌∷◌, length, map, IfOk, Some};
 ghost use Rattle.std.specs.List.{slice_split};
 ghost use Rattle.textwrap_marked.specs.Lines.{line_view, lines_of, read_lines, state_view};
+ghost use Rattle.textwrap_marked.specs.Reading.{bytes_ahead, lines_ahead};
 ghost use Rattle.textwrap_marked.specs.Words.{bytes_left, parts_left};
 
 use crate::lines::{Line, is_title, read_line, without_returns};
@@ -29,7 +30,58 @@ fn next_line<'t>(
     Ok((line, rest, state))
 }
 
-/// The lines of a text. Titles stand apart.
+/// A line that was read, what follows it, and what is open there. Only the next line tells whether it
+/// is a title.
+#[derive(Drop)]
+pub(crate) struct LinesAhead<'t> {
+    line: Line<'t>,
+    rest: Option<&'t str>,
+    state: State,
+}
+
+impl<'t> LinesAhead<'t> {
+    /// The lines of a text.
+    pub fn new(
+        alloc: Global,
+        text: &'t str,
+        options: &ReflowOptions<'_>,
+    ) -> Result<LinesAhead<'t>, AllocError>
+        ensures { IfOk result (λ ahead. lines_ahead options.now (Some ahead) ≡ lines_of options.now text.now) }
+    {
+        let (line, rest, state) = next_line(alloc, text, State::new(), options)?;
+        Ok(LinesAhead { line, rest, state })
+    }
+
+    /// The first of the lines, and those behind it, if there are any. A title stands apart.
+    pub fn next(
+        self,
+        alloc: Global,
+        options: &ReflowOptions<'_>,
+    ) -> Result<(Line<'t>, Option<LinesAhead<'t>>), AllocError>
+        ensures lines { IfOk result (λ read. lines_ahead options.now (Some self.entry)
+            ≡ line_view read.0 ∷ lines_ahead options.now read.1) }
+        ensures fewer { IfOk result (λ read. bytes_ahead read.1 < bytes_ahead (Some self.entry)) }
+    {
+        let LinesAhead {
+            mut line,
+            rest,
+            state,
+        } = self;
+        let Some(left) = rest else {
+            return Ok((line, None));
+        };
+        let (next, rest, state) = next_line(alloc, left, state, options)?;
+        line.apart = line.apart | is_title(&line, &next);
+        let ahead = LinesAhead {
+            line: next,
+            rest,
+            state,
+        };
+        Ok((line, Some(ahead)))
+    }
+}
+
+/// The lines of a text, as a list.
 pub(crate) fn lines_of<'t>(
     alloc: Global,
     text: &'t str,
@@ -38,15 +90,11 @@ pub(crate) fn lines_of<'t>(
     ensures { IfOk result (λ lines. map line_view lines.items ≡ lines_of options.now text.now) }
 {
     let mut lines = Vec::new(alloc);
-    let (mut line, mut rest, mut state) = next_line(alloc, text, State::new(), options)?;
-    while let Some(left) = rest {
-        let (next, after, behind) = next_line(alloc, left, state, options)?;
-        line.apart = line.apart | is_title(&line, &next);
+    let mut ahead = Some(LinesAhead::new(alloc, text, options)?);
+    while let Some(left) = ahead {
+        let (line, after) = left.next(alloc, options)?;
         lines.push(line)?;
-        line = next;
-        rest = after;
-        state = behind;
+        ahead = after;
     }
-    lines.push(line)?;
     Ok(lines)
 }

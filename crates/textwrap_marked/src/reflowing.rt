@@ -1,17 +1,17 @@
 //! Filling the paragraphs of a text again.
-ghost use Rattle.std.specs.Prelude.{◌≡◌, ℕ, ◌++◌, ◌||◌, false, List, map, IfOk, OnOk, string_bytes};
+ghost use Rattle.std.specs.Prelude.{◌≡◌, ℕ, ◌++◌, ◌||◌, false, List, map, IfOk, OnOk, Some, string_bytes};
 ghost use Rattle.textwrap_base.specs.Errors.{Overflowed};
 ghost use Rattle.textwrap_lines.specs.LineEnding.{ending_bytes};
 ghost use Rattle.textwrap_marked.specs.Blocks.{blocks, is_beside, stays};
 ghost use Rattle.textwrap_marked.specs.Lines.{line_view};
+ghost use Rattle.textwrap_marked.specs.Reading.{lines_left};
 ghost use Rattle.textwrap_marked.specs.Reflow.{ending_of, filled_ending, IsLaidOut, IsOfBlock};
 ghost use Rattle.textwrap_marked.specs.Reflow.{IsReflowed, IsReflowedFrom};
 
-use crate::blocks::{are_fields, block_len};
+use crate::blocks::{BlocksAhead, are_fields};
 use crate::filling::{push_filled, push_kept};
 use crate::lines::Line;
 use crate::options::ReflowOptions;
-use crate::reading::lines_of;
 use crate::words::{ends_with, split_at, without_start};
 use std::alloc::Global;
 use textwrap_lines::LineEnding;
@@ -60,8 +60,8 @@ fn push_text(
     ensures only_memory { ¬ Overflowed result }
 {
     let ending = filled_ending(options.ending, text);
-    let lines = lines_of(alloc, text, options)?;
-    push_blocks(alloc, output, &lines, ending.as_str(), options)
+    let all = BlocksAhead::new(alloc, text, options)?;
+    push_blocks(alloc, output, all, ending.as_str(), options)
 }
 
 /// The ending of filled lines: the one that is asked for, else that of the first line.
@@ -88,37 +88,28 @@ fn ending_of(line: &str, fed: bool) -> LineEnding
     }
 }
 
-/// Adds the blocks of these lines.
+/// Adds these blocks, one after another: only the lines of one are held at a time.
 fn push_blocks(
     alloc: Global,
     output: &mut String,
-    lines: &[Line<'_>],
+    all: BlocksAhead<'_>,
     ending: &str,
     options: &ReflowOptions<'_>,
 ) -> Result<(), WrapError>
     ensures laid_out { OnOk result ((text : List ℕ)
-        × IsLaidOut options.now ending.now false (blocks (map line_view lines.now)) text
+        × IsLaidOut options.now ending.now false (blocks (lines_left options.now (Some all.entry))) text
         × (string_bytes output.new ≡ string_bytes output.old ++ text)) }
     ensures only_memory { ¬ Overflowed result }
 {
     let mut beside = false;
-    let mut start = 0;
-    while start < lines.len() {
-        let rest = &lines[start..];
-        let first = &rest[0];
-        let len = block_len(rest);
-        let next = is_beside(first, &rest[len..]);
-        push_block(
-            alloc,
-            output,
-            first,
-            &rest[..len],
-            beside | next,
-            ending,
-            options,
-        )?;
+    let mut ahead = Some(all);
+    while let Some(left) = ahead {
+        let (block, after) = left.next(alloc, options)?;
+        let first = &block[0];
+        let next = is_beside(first, &after);
+        push_block(alloc, output, first, &block, beside | next, ending, options)?;
         beside = next;
-        start += len;
+        ahead = after;
     }
     Ok(())
 }
@@ -154,12 +145,13 @@ fn stays(beside: bool, first: &Line<'_>) -> bool
     first.apart | !first.chosen | beside
 }
 
-/// Whether a line is a field, and these later lines begin with another one.
-pub(crate) fn is_beside(first: &Line<'_>, later: &[Line<'_>]) -> bool
-    ensures { result ≡ is_beside (line_view first.now) (blocks (map line_view later.now)) }
+/// Whether a line is a field, and the blocks behind it begin with another one.
+pub(crate) fn is_beside(first: &Line<'_>, later: &Option<BlocksAhead<'_>>) -> bool
+    ensures { (options : ReflowOptions)
+        → result ≡ is_beside (line_view first.now) (blocks (lines_left options later.now)) }
 {
     match later {
-        [line, ..] => are_fields(first, line),
-        [] => false,
+        Some(ahead) => are_fields(first, &ahead.first),
+        None => false,
     }
 }

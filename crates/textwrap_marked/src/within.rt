@@ -1,15 +1,13 @@
 //! Filling only the paragraphs at some lines of a text.
-ghost use Rattle.std.specs.Prelude.{◌≡◌, ℕ, ◌++◌, false, List, map, IfOk, OnOk, string_bytes};
+ghost use Rattle.std.specs.Prelude.{◌≡◌, ℕ, ◌++◌, false, List, map, IfOk, OnOk, Some, string_bytes};
 ghost use Rattle.textwrap_base.specs.Errors.{Overflowed};
 ghost use Rattle.textwrap_marked.specs.Blocks.{blocks};
-ghost use Rattle.textwrap_marked.specs.Lines.{line_view};
+ghost use Rattle.textwrap_marked.specs.Reading.{lines_left};
 ghost use Rattle.textwrap_marked.specs.Within.{IsLaidOutWithin, IsReflowedWithin, IsReflowedWithinFrom};
 ghost use Rattle.textwrap_marked.specs.Within.{touches};
 
-use crate::blocks::block_len;
-use crate::lines::Line;
+use crate::blocks::BlocksAhead;
 use crate::options::ReflowOptions;
-use crate::reading::lines_of;
 use crate::reflowing::{filled_ending, is_beside, push_block};
 use crate::words::without_start;
 use std::alloc::Global;
@@ -79,45 +77,46 @@ fn push_text(
     ensures only_memory { ¬ Overflowed result }
 {
     let ending = filled_ending(options.ending, text);
-    let lines = lines_of(alloc, text, options)?;
-    push_blocks(alloc, output, &lines, range, ending.as_str(), options)
+    let all = BlocksAhead::new(alloc, text, options)?;
+    push_blocks(alloc, output, all, range, ending.as_str(), options)
 }
 
-/// Adds the blocks of these lines.
+/// Adds these blocks, one after another.
 fn push_blocks(
     alloc: Global,
     output: &mut String,
-    lines: &[Line<'_>],
+    all: BlocksAhead<'_>,
     range: &LineRange,
     ending: &str,
     options: &ReflowOptions<'_>,
 ) -> Result<(), WrapError>
     ensures laid_out { OnOk result ((text : List ℕ)
         × IsLaidOutWithin options.now range.now ending.now 0 false
-        (blocks (map line_view lines.now)) text
+        (blocks (lines_left options.now (Some all.entry))) text
         × (string_bytes output.new ≡ string_bytes output.old ++ text)) }
     ensures only_memory { ¬ Overflowed result }
 {
     let mut beside = false;
-    let mut start = 0;
-    while start < lines.len() {
-        let rest = &lines[start..];
-        let first = &rest[0];
-        let len = block_len(rest);
-        let next = is_beside(first, &rest[len..]);
-        let end = start + len;
+    let mut start: usize = 0;
+    let mut ahead = Some(all);
+    while let Some(left) = ahead {
+        let (block, after) = left.next(alloc, options)?;
+        let first = &block[0];
+        let next = is_beside(first, &after);
+        let end = start.saturating_add(block.len());
         let is_outside = !range.touches(start, end);
         push_block(
             alloc,
             output,
             first,
-            &rest[..len],
+            &block,
             beside | next | is_outside,
             ending,
             options,
         )?;
         beside = next;
         start = end;
+        ahead = after;
     }
     Ok(())
 }

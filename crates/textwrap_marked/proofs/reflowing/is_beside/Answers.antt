@@ -1,11 +1,14 @@
 use Rattle.textwrap_marked.proofs.reflowing.is_beside.Goals as goal
-use Rattle.textwrap_base.proofs.Common.{ap, arith, sym, ◌∙◌}
-use Rattle.textwrap_marked.proofs.BlockLemmas.{beside-first}
-use Rattle.textwrap_marked.specs.Blocks.{are_fields}
+use Rattle.textwrap_base.proofs.Common.{ap, sym, ◌∙◌}
+use Rattle.textwrap_marked.proofs.BlockLemmas.{blocks-first}
+use Rattle.textwrap_marked.specs.Blocks.{blocks, is_beside}
 use Rattle.textwrap_marked.specs.Lines.{line_view}
+use Rattle.textwrap_marked.specs.Reading.{lines_ahead, lines_left}
 
-pub returns-in-len1-up : goal.returns-in-len1-up
-returns-in-len1-up c =
+pub returns-in-Some : goal.returns-in-Some
+returns-in-Some c = λ options.
     let first = line_view c.args.first.now in
-    c.are_fields.ensures ∙ ap (λ l. are_fields first (line_view l)) c.line-item.is
-    ∙ sym (beside-first first c.args.later.now c.line-item.result (omega arith))
+    let ahead = c.in-Some.ahead in
+    c.are_fields.ensures
+    ∙ sym (ap (is_beside first) (ap (λ a. blocks (lines_left options a)) c.in-Some.is
+    ∙ blocks-first (line_view ahead.first) (lines_ahead options ahead.later)))

@@ -1,44 +1,47 @@
 use Rattle.textwrap_marked.proofs.within.push_blocks.Goals as goal
-use Rattle.textwrap_base.proofs.Common.{◌≡◌, ◌-◌, ◌++◌, [], length, take, drop, map, refl, sym, ap, subst}
-use Rattle.textwrap_base.proofs.Common.{append_assoc, append-nil, arith, drop_all, length-drop, ◌∙◌}
-use Rattle.std.proofs.lemmas.List.{take_rest}
-use Rattle.std.specs.Prelude.{◌+◌, not}
-use Rattle.textwrap_marked.proofs.WithinLemmas.{within-next}
-use Rattle.textwrap_marked.specs.Blocks.{blocks}
+use Rattle.textwrap_base.proofs.Common.{◌≡◌, ◌++◌, ◌∷◌, [], ◌||◌, ap, append_assoc, append-nil, map, refl}
+use Rattle.textwrap_base.proofs.Common.{subst, sym, ◌∙◌}
+use Rattle.std.specs.Prelude.{not}
+use Rattle.textwrap_marked.proofs.LaidLemmas.{block-begins}
+use Rattle.textwrap_marked.proofs.WithinLemmas.{within-first}
+use Rattle.textwrap_marked.specs.Blocks.{blocks, is_beside, stays}
 use Rattle.textwrap_marked.specs.Lines.{line_view}
+use Rattle.textwrap_marked.specs.Reading.{lines_ahead, lines_left}
+use Rattle.textwrap_marked.specs.Reflow.{IsOfBlock}
 use Rattle.textwrap_marked.specs.Within.{IsLaidOutWithin}
 
-pub loop-start-preserved : goal.loop-start-preserved
-loop-start-preserved c =
-    let lines = c.args.lines.now in
-    let start = c.loop-start.start in
-    let n = c.block_len-len.result in
-    let rest = take (length lines - start) (drop start lines) in
-    let left : rest ≡ drop start lines = take_rest lines start in (
-      omega (
-        arith,
-        c.block_len-len.ensures.within,
-        ap length left,
-        length-drop start lines,
-        c.loop-start-test.true,
-      ),
-      λ back laid.
-          let (front, of, bytes) = c.in_ok-push_block.ensures.laid_out in
-          let (whole, all, is) = c.loop-start.invariant.1 (front ++ back)
-          (within-next c.args.options.now c.args.range.now c.args.ending.now lines start n (start + n)
-          c.index-rest-0.result c.loop-start.beside c.is_beside-next.result (not c.touches-is_outside.result)
-          rest (take n rest) _ front back left refl (take_rest rest n) c.loop-start-test.true
-          c.block_len-len.ensures.within c.block_len-len.ensures.len c.index-rest-0.is refl
-          c.is_beside-next.ensures (ap not c.touches-is_outside.ensures) of laid) in
-          (whole, all, ap (λ t. t ++ back) bytes ∙ append_assoc _ front back ∙ is),
-    )
+pub loop-ahead-preserved : goal.loop-ahead-preserved
+loop-ahead-preserved c = λ back laid.
+    let options = c.args.options.now in
+    let ending = c.args.ending.now in
+    let line = line_view c.in-Some.left.first in
+    let rest = lines_ahead options c.in-Some.left.later in
+    let block = map line_view c.deref.result.now in
+    let beside = c.loop-ahead.beside in
+    let range = c.args.range.now in
+    let start = c.loop-ahead.start in
+    let next = c.is_beside-next.result in
+    let (front, of, bytes) = c.in_ok-push_block.ensures.laid_out in
+    let begins : line_view c.index-first.result.now ≡ line =
+    ap line_view c.index-first.ensures
+    ∙ (block-begins c.in_ok-block.block.items line rest _ c.in_ok-block.ensures.block).1 in
+    let told = c.is_beside-next.ensures options
+    ∙ ap (λ l. is_beside l (blocks (lines_left options c.in_ok-block.after))) begins
+    ∙ ap (λ ls. is_beside line (blocks ls)) c.in_ok-block.ensures.rest in
+    let first = within-first options range ending start _ beside next _ line rest block front back
+    (ap (map line_view) c.deref.ensures.value ∙ c.in_ok-block.ensures.block) told ?
+    (ap not c.touches-is_outside.ensures)
+    (subst (λ l. IsOfBlock options ending (stays (beside || next || not c.touches-is_outside.result) l) l block front) begins of)
+    (subst (λ ls. IsLaidOutWithin options range ending _ next (blocks ls) back) c.in_ok-block.ensures.rest laid) in
+    let (whole, all, is) = c.loop-ahead.invariant (front ++ back)
+    (subst (λ a. IsLaidOutWithin options range ending start beside (blocks (lines_left options a)) (front ++ back))
+    (sym c.in-Some.is) first) in
+    (whole, all, ap (λ t. t ++ back) bytes ∙ append_assoc _ front back ∙ is)
 
 pub returns-clause-laid_out : goal.returns-clause-laid_out
 returns-clause-laid_out c =
-    let lines = c.args.lines.now in
-    let start = c.loop-start.start in
-    let none : drop start lines ≡ [] = drop_all start lines c.loop-start-test.false in
-    let (whole, laid, bytes) = c.loop-start.invariant.1 [] (subst (λ l. IsLaidOutWithin
-    c.args.options.now c.args.range.now c.args.ending.now start c.loop-start.beside
-    (blocks (map line_view l)) []) (sym none) refl) in
+    let options = c.args.options.now in
+    let (whole, laid, bytes) = c.loop-ahead.invariant []
+    (subst (λ a. IsLaidOutWithin options c.args.range.now c.args.ending.now c.loop-ahead.start c.loop-ahead.beside (blocks (lines_left options a)) [])
+    (sym c.in_default.is) refl) in
     (whole, laid, sym (append-nil _) ∙ bytes)

@@ -1,8 +1,8 @@
 -- Blocks that are laid out, one after another.
 use Rattle.textwrap_base.proofs.Common.{◌≡◌, ℕ, ◌<◌, ◌++◌, ◌||◌, Bool, List, [], ◌∷◌, map, ap, arith}
-use Rattle.textwrap_base.proofs.Common.{get_or, length, refl, subst, sym, ◌∙◌}
+use Rattle.textwrap_base.proofs.Common.{get_or, length, refl, subst, sym}
 use Rattle.textwrap_marked.proofs.BlockLemmas.{blocks-first}
-use Rattle.textwrap_marked.specs.Blocks.{behind_block, blocks, first_block, is_beside, later_len}
+use Rattle.textwrap_marked.specs.Blocks.{behind_block, blocks, first_block, is_beside}
 use Rattle.textwrap_marked.specs.Blocks.{stays}
 use Rattle.textwrap_marked.specs.Lines.{LineText, line_view}
 use Rattle.textwrap_marked.specs.Reflow.{IsLaidOut, IsOfBlock}

@@ -1,14 +1,33 @@
 -- Blocks that are laid out, one after another, where some lines are filled.
-use Rattle.textwrap_base.proofs.Common.{◌≡◌, ℕ, ◌+◌, ◌++◌, ◌||◌, Bool, List, [], ◌∷◌, ap, length, refl}
+use Rattle.textwrap_base.proofs.Common.{◌≡◌, ℕ, ◌+◌, ◌++◌, ◌||◌, Bool, List, ◌∷◌, ap, length, refl}
 use Rattle.textwrap_base.proofs.Common.{subst, sym, ◌∙◌}
-use Rattle.std.specs.Prelude.{not}
+use Rattle.textwrap_base.proofs.Common.{◌-◌, ◌&&◌, arith, nat_lt, nat_tests}
+use Rattle.std.proofs.Common.{ap₂}
+use Rattle.std.specs.Prelude.{nat_le, not}
 use Rattle.textwrap_marked.proofs.BlockLemmas.{blocks-first}
 use Rattle.textwrap_marked.specs.Blocks.{behind_block, blocks, first_block, is_beside, stays}
 use Rattle.textwrap_marked.specs.Lines.{LineText}
 use Rattle.textwrap_marked.specs.Reflow.{IsOfBlock}
-use Rattle.textwrap_marked.specs.Within.{IsLaidOutWithin, touches}
+use Rattle.textwrap_marked.specs.Within.{IsLaidOutWithin, range_behind, touches}
 use Rattle.textwrap_marked.specs.declared.options.ReflowOptions.{ReflowOptions}
 use Rattle.textwrap_marked.specs.declared.within.LineRange.{LineRange}
+
+touched : (first last start len : ℕ)
+    → (nat_lt 0 (last - start) && nat_le (first - start) len)
+    ≡ (nat_lt start last && nat_le first (start + len))
+touched first last start len = grind (arith, nat_tests)
+
+-- a range that is counted behind no line, and behind some
+pub behind-none : (range : LineRange) → range ≡ range_behind range 0
+behind-none range = ap₂ (λ a b. record { first = a; last = b }) (omega arith) (omega arith)
+
+module _ (range : LineRange) (start len : ℕ) where
+  pub touches-behind : touches (range_behind range start) 0 len ≡ touches range start (start + len)
+  touches-behind = touched range.first range.last start len
+
+  pub behind-more : range_behind (range_behind range start) len ≡ range_behind range (start + len)
+  behind-more =
+      ap₂ (λ a b. record { first = a; last = b }) (omega arith) (omega arith)
 
 -- the first block of these lines is laid out, and those behind it are
 pub within-first : (options : ReflowOptions) (range : LineRange) (ending : List ℕ) (start end : ℕ)

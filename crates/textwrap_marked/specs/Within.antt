@@ -1,5 +1,5 @@
 -- The text of which only the paragraphs at some lines are filled again.
-use Rattle.std.specs.Prelude.{◌≡◌, ℕ, ◌+◌, ◌&&◌, ◌||◌, Bool, true, false, nat_eq, nat_le, nat_lt, not}
+use Rattle.std.specs.Prelude.{◌≡◌, ℕ, ◌+◌, ◌-◌, ◌&&◌, ◌||◌, Bool, true, false, nat_eq, nat_le, nat_lt, not}
 use Rattle.std.specs.Prelude.{List, [], ◌∷◌, ◌++◌, drop, length}
 use Rattle.std.specs.List.{starts_with}
 use Rattle.textwrap_lines.specs.LineEnding.{ending_bytes}
@@ -12,6 +12,10 @@ use Rattle.textwrap_marked.specs.declared.within.LineRange.{LineRange}
 -- of the lines behind the first `start`, up to the line `end`, one is in the range
 abbrev pub touches : LineRange → ℕ → ℕ → Bool
 touches range start end = nat_lt start range.last && nat_le range.first end
+
+-- the range, counted behind so many lines
+abbrev pub range_behind : LineRange → ℕ → LineRange
+range_behind range n = record { first = range.first - n; last = range.last - n }
 
 module _ (options : ReflowOptions) (range : LineRange) (ending : List ℕ) where
   -- one block after the other, behind so many lines: those that have no line in the range stay

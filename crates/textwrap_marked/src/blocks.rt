@@ -1,6 +1,6 @@
 //! The blocks of a text: lines that stand apart, and paragraphs.
-ghost use Rattle.std.specs.Prelude.{◌≡◌, ◌<◌, ◌≤◌, length, map, IfOk, Some};
-ghost use Rattle.textwrap_marked.specs.Blocks.{are_fields, behind_block, block_len, first_block, goes_on};
+ghost use Rattle.std.specs.Prelude.{◌≡◌, ◌<◌, map, IfOk, Some};
+ghost use Rattle.textwrap_marked.specs.Blocks.{are_fields, behind_block, first_block, goes_on};
 ghost use Rattle.textwrap_marked.specs.Lines.{line_view, lines_of};
 ghost use Rattle.textwrap_marked.specs.Reading.{lines_left, measure_left};
 
@@ -19,20 +19,6 @@ fn goes_on(line: &Line<'_>, next: &Line<'_>) -> bool
         & !line.ended
         & (next.prefix.as_str() == line.hanging.as_str())
         & !opens_paragraph(first_word(&next.words))
-}
-
-/// How many lines the first block has.
-pub(crate) fn block_len(lines: &[Line<'_>]) -> usize
-    requires { 0 < length lines.now }
-    ensures len { result ≡ block_len (map line_view lines.now) }
-    ensures some { 0 < result }
-    ensures within { result ≤ length lines.now }
-{
-    let mut len = 1;
-    while len < lines.len() && goes_on(&lines[len - 1], &lines[len]) {
-        len += 1;
-    }
-    len
 }
 
 /// Whether both begin with a key, behind the same hanging form.

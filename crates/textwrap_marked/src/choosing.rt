@@ -1,12 +1,11 @@
 //! Whether a text has marks that are filled.
-ghost use Rattle.std.specs.Prelude.{◌≡◌, map, IfOk};
+ghost use Rattle.std.specs.Prelude.{◌≡◌, IfOk, Some};
 ghost use Rattle.std.specs.List.{list_any};
 ghost use Rattle.textwrap_marked.specs.Choosing.{has_chosen};
-ghost use Rattle.textwrap_marked.specs.Lines.{line_view};
+ghost use Rattle.textwrap_marked.specs.Reading.{lines_ahead};
 
-use crate::lines::Line;
 use crate::options::ReflowOptions;
-use crate::reading::lines_of;
+use crate::reading::LinesAhead;
 use crate::words::without_start;
 use std::alloc::{AllocError, Global};
 
@@ -24,21 +23,29 @@ pub fn has_chosen(
 ) -> Result<bool, AllocError>
     ensures { IfOk result (λ has. has ≡ has_chosen options.now text.now) }
 {
-    let lines = match without_start(text, "\u{feff}") {
-        Some(rest) => lines_of(alloc, rest, options)?,
-        None => lines_of(alloc, text, options)?,
+    let all = match without_start(text, "\u{feff}") {
+        Some(rest) => LinesAhead::new(alloc, rest, options)?,
+        None => LinesAhead::new(alloc, text, options)?,
     };
-    Ok(any_chosen(&lines))
+    any_chosen(alloc, all, options)
 }
 
 /// Whether one of the lines is such.
-fn any_chosen(lines: &[Line<'_>]) -> bool
-    ensures { result ≡ list_any (λ line. line.chosen) (map line_view lines.now) }
+fn any_chosen(
+    alloc: Global,
+    all: LinesAhead<'_>,
+    options: &ReflowOptions<'_>,
+) -> Result<bool, AllocError>
+    ensures { IfOk result (λ any. any
+        ≡ list_any (λ line. line.chosen) (lines_ahead options.now (Some all.entry))) }
 {
-    for line in lines {
+    let mut ahead = Some(all);
+    while let Some(left) = ahead {
+        let (line, after) = left.next(alloc, options)?;
         if line.chosen {
-            return true;
+            return Ok(true);
         }
+        ahead = after;
     }
-    false
+    Ok(false)
 }

@@ -80,21 +80,3 @@ impl<'t> LinesAhead<'t> {
         Ok((line, Some(ahead)))
     }
 }
-
-/// The lines of a text, as a list.
-pub(crate) fn lines_of<'t>(
-    alloc: Global,
-    text: &'t str,
-    options: &ReflowOptions<'_>,
-) -> Result<Vec<Line<'t>>, AllocError>
-    ensures { IfOk result (λ lines. map line_view lines.items ≡ lines_of options.now text.now) }
-{
-    let mut lines = Vec::new(alloc);
-    let mut ahead = Some(LinesAhead::new(alloc, text, options)?);
-    while let Some(left) = ahead {
-        let (line, after) = left.next(alloc, options)?;
-        lines.push(line)?;
-        ahead = after;
-    }
-    Ok(lines)
-}

@@ -4,7 +4,7 @@ ghost use Rattle.textwrap_base.specs.Errors.{Overflowed};
 ghost use Rattle.textwrap_marked.specs.Blocks.{blocks};
 ghost use Rattle.textwrap_marked.specs.Reading.{lines_left};
 ghost use Rattle.textwrap_marked.specs.Within.{IsLaidOutWithin, IsReflowedWithin, IsReflowedWithinFrom};
-ghost use Rattle.textwrap_marked.specs.Within.{touches};
+ghost use Rattle.textwrap_marked.specs.Within.{range_behind, touches};
 
 use crate::blocks::BlocksAhead;
 use crate::options::ReflowOptions;
@@ -23,11 +23,21 @@ pub struct LineRange {
 }
 
 impl LineRange {
-    /// Whether one of the lines behind the first `start`, up to the line `end`, is among these.
-    fn touches(&self, start: usize, end: usize) -> bool
-        ensures { result ≡ touches self.now start end }
+    /// Whether one of the first `len` lines is among these.
+    fn touches(self, len: usize) -> bool
+        ensures { result ≡ touches self 0 len }
     {
-        (start < self.last) & (self.first <= end)
+        (0 < self.last) & (self.first <= len)
+    }
+
+    /// These lines, counted behind the first `len` of the text.
+    fn behind(self, len: usize) -> LineRange
+        ensures { result ≡ range_behind self len }
+    {
+        LineRange {
+            first: self.first.saturating_sub(len),
+            last: self.last.saturating_sub(len),
+        }
     }
 }
 
@@ -78,7 +88,7 @@ fn push_text(
 {
     let ending = filled_ending(options.ending, text);
     let all = BlocksAhead::new(alloc, text, options)?;
-    push_blocks(alloc, output, all, range, ending.as_str(), options)
+    push_blocks(alloc, output, all, *range, ending.as_str(), options)
 }
 
 /// Adds these blocks, one after another.
@@ -86,25 +96,25 @@ fn push_blocks(
     alloc: Global,
     output: &mut String,
     all: BlocksAhead<'_>,
-    range: &LineRange,
+    range: LineRange,
     ending: &str,
     options: &ReflowOptions<'_>,
 ) -> Result<(), WrapError>
     ensures laid_out { OnOk result ((text : List ℕ)
-        × IsLaidOutWithin options.now range.now ending.now 0 false
+        × IsLaidOutWithin options.now range ending.now 0 false
         (blocks (lines_left options.now (Some all.entry))) text
         × (string_bytes output.new ≡ string_bytes output.old ++ text)) }
     ensures only_memory { ¬ Overflowed result }
 {
     let mut beside = false;
-    let mut start: usize = 0;
+    let mut range = range;
     let mut ahead = Some(all);
     while let Some(left) = ahead {
         let (block, after) = left.next(alloc, options)?;
         let first = &block[0];
         let next = is_beside(first, &after);
-        let end = start.saturating_add(block.len());
-        let is_outside = !range.touches(start, end);
+        let len = block.len();
+        let is_outside = !range.touches(len);
         push_block(
             alloc,
             output,
@@ -115,7 +125,7 @@ fn push_blocks(
             options,
         )?;
         beside = next;
-        start = end;
+        range = range.behind(len);
         ahead = after;
     }
     Ok(())

@@ -1,8 +1,11 @@
 use Rattle.textwrap_marked.proofs.choosing.any_chosen.Given as goal
-use Rattle.textwrap_base.proofs.Common.{◌≡◌, drop, list_any, map}
-use Rattle.textwrap_marked.specs.Lines.{line_view}
+use Rattle.textwrap_base.proofs.Common.{◌≡◌, list_any, Some}
+use Rattle.textwrap_marked.specs.Reading.{bytes_ahead, lines_ahead}
 
 -- none of the lines so far is such
-abbrev pub invariant-loop-line : goal.invariant-loop-line
-invariant-loop-line l = list_any (λ line. line.chosen) (map line_view (drop l.line-index l.lines))
-    ≡ list_any (λ line. line.chosen) (map line_view l.lines)
+abbrev pub invariant-loop-ahead : goal.invariant-loop-ahead
+invariant-loop-ahead l = list_any (λ line. line.chosen) (lines_ahead l.options l.ahead)
+    ≡ list_any (λ line. line.chosen) (lines_ahead l.options (Some l.fn.all))
+
+abbrev pub decreases-loop-ahead : goal.decreases-loop-ahead
+decreases-loop-ahead l = bytes_ahead l.ahead

@@ -1,47 +1,61 @@
 use Rattle.textwrap_marked.proofs.within.push_blocks.Goals as goal
-use Rattle.textwrap_base.proofs.Common.{◌≡◌, ◌++◌, ◌∷◌, [], ◌||◌, ap, append_assoc, append-nil, map, refl}
-use Rattle.textwrap_base.proofs.Common.{subst, sym, ◌∙◌}
+use Rattle.textwrap_base.proofs.Common.{◌≡◌, ◌++◌, [], ◌||◌, ap, append_assoc, append-nil, map, refl}
+use Rattle.textwrap_base.proofs.Common.{length, length-map, subst, sym, ◌∙◌, ◌+◌}
+use Rattle.std.proofs.Common.{ap₂}
 use Rattle.std.specs.Prelude.{not}
 use Rattle.textwrap_marked.proofs.LaidLemmas.{block-begins}
-use Rattle.textwrap_marked.proofs.WithinLemmas.{within-first}
+use Rattle.textwrap_marked.proofs.WithinLemmas.{behind-more, behind-none, touches-behind, within-first}
 use Rattle.textwrap_marked.specs.Blocks.{blocks, is_beside, stays}
 use Rattle.textwrap_marked.specs.Lines.{line_view}
 use Rattle.textwrap_marked.specs.Reading.{lines_ahead, lines_left}
 use Rattle.textwrap_marked.specs.Reflow.{IsOfBlock}
-use Rattle.textwrap_marked.specs.Within.{IsLaidOutWithin}
+use Rattle.textwrap_marked.specs.Within.{IsLaidOutWithin, range_behind, touches}
+
+pub loop-ahead-init : goal.loop-ahead-init
+loop-ahead-init c = (0, behind-none c.args.range, λ back laid. (back, laid, refl))
 
 pub loop-ahead-preserved : goal.loop-ahead-preserved
-loop-ahead-preserved c = λ back laid.
+loop-ahead-preserved c =
     let options = c.args.options.now in
     let ending = c.args.ending.now in
+    let range = c.args.range in
     let line = line_view c.in-Some.left.first in
     let rest = lines_ahead options c.in-Some.left.later in
     let block = map line_view c.deref.result.now in
     let beside = c.loop-ahead.beside in
-    let range = c.args.range.now in
-    let start = c.loop-ahead.start in
     let next = c.is_beside-next.result in
-    let (front, of, bytes) = c.in_ok-push_block.ensures.laid_out in
-    let begins : line_view c.index-first.result.now ≡ line =
-    ap line_view c.index-first.ensures
-    ∙ (block-begins c.in_ok-block.block.items line rest _ c.in_ok-block.ensures.block).1 in
-    let told = c.is_beside-next.ensures options
-    ∙ ap (λ l. is_beside l (blocks (lines_left options c.in_ok-block.after))) begins
-    ∙ ap (λ ls. is_beside line (blocks ls)) c.in_ok-block.ensures.rest in
-    let first = within-first options range ending start _ beside next _ line rest block front back
-    (ap (map line_view) c.deref.ensures.value ∙ c.in_ok-block.ensures.block) told ?
-    (ap not c.touches-is_outside.ensures)
-    (subst (λ l. IsOfBlock options ending (stays (beside || next || not c.touches-is_outside.result) l) l block front) begins of)
-    (subst (λ ls. IsLaidOutWithin options range ending _ next (blocks ls) back) c.in_ok-block.ensures.rest laid) in
-    let (whole, all, is) = c.loop-ahead.invariant (front ++ back)
-    (subst (λ a. IsLaidOutWithin options range ending start beside (blocks (lines_left options a)) (front ++ back))
-    (sym c.in-Some.is) first) in
-    (whole, all, ap (λ t. t ++ back) bytes ∙ append_assoc _ front back ∙ is)
+    let outside = not c.touches-is_outside.result in
+    let (start, counted, becomes) = c.loop-ahead.invariant in
+    let len : c.len-len.result ≡ length block = c.len-len.ensures ∙ sym c.deref.ensures.len
+    ∙ sym (length-map c.deref.result.now line_view) in (
+      start + length block,
+      c.behind-range.ensures ∙ ap₂ range_behind counted len ∙ behind-more range start (length block),
+      λ back laid.
+          let (front, of, bytes) = c.in_ok-push_block.ensures.laid_out in
+          let begins : line_view c.index-first.result.now ≡ line =
+          ap line_view c.index-first.ensures
+          ∙ (block-begins c.in_ok-block.block.items line rest _ c.in_ok-block.ensures.block).1 in
+          let told = c.is_beside-next.ensures options
+          ∙ ap (λ l. is_beside l (blocks (lines_left options c.in_ok-block.after))) begins
+          ∙ ap (λ ls. is_beside line (blocks ls)) c.in_ok-block.ensures.rest in
+          let first = within-first options range ending start (start + length block) beside next outside line
+          rest block front back
+          (ap (map line_view) c.deref.ensures.value ∙ c.in_ok-block.ensures.block) told refl (ap not (c.touches-is_outside.ensures ∙ ap₂ (λ r n. touches r 0 n) counted len
+          ∙ touches-behind range start (length block)))
+          (subst (λ l. IsOfBlock options ending (stays (beside || next || outside) l) l block front) begins of)
+          (subst (λ ls. IsLaidOutWithin options range ending (start + length block) next (blocks ls) back)
+          c.in_ok-block.ensures.rest laid) in
+          let (whole, all, is) = becomes (front ++ back)
+          (subst (λ a. IsLaidOutWithin options range ending start beside (blocks (lines_left options a))
+          (front ++ back)) (sym c.in-Some.is) first) in
+          (whole, all, ap (λ t. t ++ back) bytes ∙ append_assoc _ front back ∙ is),
+    )
 
 pub returns-clause-laid_out : goal.returns-clause-laid_out
 returns-clause-laid_out c =
     let options = c.args.options.now in
-    let (whole, laid, bytes) = c.loop-ahead.invariant []
-    (subst (λ a. IsLaidOutWithin options c.args.range.now c.args.ending.now c.loop-ahead.start c.loop-ahead.beside (blocks (lines_left options a)) [])
-    (sym c.in_default.is) refl) in
+    let (start, counted, becomes) = c.loop-ahead.invariant in
+    let (whole, laid, bytes) = becomes []
+    (subst (λ a. IsLaidOutWithin options c.args.range c.args.ending.now start c.loop-ahead.beside
+    (blocks (lines_left options a)) []) (sym c.in_default.is) refl) in
     (whole, laid, sym (append-nil _) ∙ bytes)

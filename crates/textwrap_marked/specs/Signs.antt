@@ -104,6 +104,10 @@ is_column_word word =
     || bytes_eq word (codes "#") || has_byte 13 word || contains (codes "]:") word
     || contains (codes "<pre") word
 
+-- | / # carriage return ] <
+abbrev pub is_column_byte : ℕ → Bool
+is_column_byte c = c == 124 || c == 47 || c == 35 || c == 13 || c == 93 || c == 60
+
 -- all words but the last
 abbrev pub front_of : List SpacedText → List SpacedText
 front_of words = take (length words - 1) words

@@ -4,7 +4,7 @@ ghost use Rattle.std.specs.List.{list_all, list_any};
 ghost use Rattle.textwrap_marked.specs.Signs.{any_contains, begins_text, closes_block};
 ghost use Rattle.textwrap_marked.specs.Signs.{closes_early};
 ghost use Rattle.textwrap_marked.specs.Signs.{ends_early, ends_sentence, first_word, front_of};
-ghost use Rattle.textwrap_marked.specs.Signs.{has_columns, is_closing, is_column_word};
+ghost use Rattle.textwrap_marked.specs.Signs.{has_columns, is_closing, is_column_byte, is_column_word};
 ghost use Rattle.textwrap_marked.specs.Signs.{is_end, is_gap, is_key, is_key_character, is_rule, is_wide};
 ghost use Rattle.textwrap_marked.specs.Signs.{is_rule_characters, is_rule_of, is_sign};
 ghost use Rattle.textwrap_marked.specs.Signs.{is_sign_byte, last_of, last_white};
@@ -183,15 +183,29 @@ fn is_gap(justify: bool, word: &SpacedWord<'_>) -> bool
     has_byte(b'\t', word.white.as_bytes()) || !justify && is_wide(word)
 }
 
+/// Whether one of the bytes is there without which a word is none of those that no paragraph contains.
+fn has_column_byte(bytes: &[u8]) -> bool
+    ensures { result ≡ list_any is_column_byte bytes.now }
+{
+    bytes.iter().any(|byte| is_column_byte(*byte))
+}
+
+fn is_column_byte(byte: u8) -> bool
+    ensures { result ≡ is_column_byte byte }
+{
+    matches!(byte, b'|' | b'/' | b'#' | b'\r' | b']' | b'<')
+}
+
 /// Whether no paragraph contains this word: `|`, a comment behind code, a carriage return, `]:` or
 /// `<pre`.
 fn is_column_word(word: &str) -> bool
     ensures { result ≡ is_column_word word.now }
 {
-    matches!(word, "|" | "//" | "/*" | "#")
-        || has_byte(b'\r', word.as_bytes())
-        || contains(word, "]:")
-        || contains(word, "<pre")
+    has_column_byte(word.as_bytes())
+        && (matches!(word, "|" | "//" | "/*" | "#")
+            || has_byte(b'\r', word.as_bytes())
+            || contains(word, "]:")
+            || contains(word, "<pre"))
 }
 
 fn any_column_word(words: &[SpacedWord<'_>]) -> bool

@@ -3,6 +3,7 @@ use Rattle.textwrap_base.proofs.Common.{◌≡◌, ℕ, ◌-◌, ◌<◌, ◌&&�
 use Rattle.textwrap_base.proofs.Common.{All, All-cons, All-head, All-tail, ap, append-nil, append_assoc, arith}
 use Rattle.textwrap_base.proofs.Common.{codes, drop, flat_map, inl, inr, join_with_byte, length, lt-ltb, map}
 use Rattle.textwrap_base.proofs.Common.{nat_lt, None, Option, refl, Some, suc, suffix_len, sym, take-append-drop, ⊤, ◌∙◌}
+use Rattle.std.proofs.Common.{ap₂}
 use Rattle.std.specs.Prelude.{bytes_eq}
 use Rattle.textwrap_lines.specs.declared.line_ending.LineEnding.{LineEnding}
 use Rattle.textwrap_marked.proofs.AnewLines.{anew, anew-content, anew-feedless, anew-line, anew-text, anew_raw}
@@ -13,6 +14,7 @@ use Rattle.textwrap_marked.proofs.FenceLeft.{EndsWord, returned}
 use Rattle.textwrap_marked.proofs.FenceMarks.{IsSafe, safe-passed}
 use Rattle.textwrap_marked.proofs.ReturnsOff.{return_if}
 use Rattle.textwrap_marked.proofs.TextBlocks.{line_at, peel, read, read-more, title_of}
+use Rattle.textwrap_marked.specs.Laws.{from_letter, line_sense, words_in}
 use Rattle.textwrap_marked.specs.Lines.{as_title, entered, is_return, line_of, LineText, passed, StateText}
 use Rattle.textwrap_marked.specs.Lines.{without_returns}
 use Rattle.textwrap_marked.specs.Reflow.{ending_if, kept_line}
@@ -115,6 +117,7 @@ module _ (options : ReflowOptions) (returns : Bool) (told : IsTold options.endin
       pub whole : raws ≡ kept ++ left
       pub long : length news ≡ length lines
       pub feedless : All IsFeedless kept → All IsFeedless news
+      pub sense : flat_map line_sense news ≡ flat_map line_sense kept
       pub reads : rest ≡ read options behind left
       pub safe : IsSafe options behind
       pub again : (others : List LineText) (more : List (List ℕ)) → others ≡ read options behind more
@@ -138,6 +141,7 @@ module _ (options : ReflowOptions) (returns : Bool) (told : IsTold options.endin
     whole = refl;
     long = refl;
     feedless = λ free. free;
+    sense = refl;
     reads = is;
     safe = safe;
     again = λ others more read heads same. read;
@@ -172,6 +176,7 @@ module _ (options : ReflowOptions) (returns : Bool) (told : IsTold options.endin
         feedless = λ free. All-cons IsFeedless new later.news
             (anew-feedless e returns fed raw (All-head IsFeedless raw later.kept free))
             (later.feedless (All-tail IsFeedless raw later.kept free));
+        sense = ap₂ (λ t l. from_letter (words_in t) ++ l) (anew-content e returns fed raw) later.sense;
         reads = later.reads;
         safe = later.safe;
         again = λ others more read_others heads same.

@@ -1,5 +1,6 @@
 -- Texts without a letter or digit.
-use Rattle.textwrap_base.proofs.Common.{◌≡◌, ℕ, true, false, codes, List, refl, sym, ap, ◌∙◌}
+use Rattle.textwrap_base.proofs.Common.{◌≡◌, ℕ, ◌&&◌, not, Bool, true, false, arith, cases_Bool, codes}
+use Rattle.textwrap_base.proofs.Common.{List, nat_eq, refl, starts_with, sym, ap, ◌∙◌}
 use Rattle.textwrap_base.proofs.Common.{false_from_ne_true, true≢false}
 use Rattle.std.proofs.lemmas.Slice.Eq.{bytes_eq-Decides}
 use Rattle.std.specs.Char.Unicode.Alphabetic.{is_alphabetic, alphabetic_ranges}
@@ -7,8 +8,9 @@ use Rattle.std.specs.Char.Unicode.Numeric.{is_numeric, numeric_ranges}
 use Rattle.std.specs.Char.Unicode.Rows.{in_ranges}
 use Rattle.std.specs.Prelude.{bytes_eq}
 use Rattle.std.specs.Str.{chars}
-use Rattle.textwrap_marked.specs.Marks.{is_line_comment}
-use Rattle.textwrap_marked.specs.Words.{has_letter}
+use Rattle.textwrap_marked.specs.Marks.{is_among, is_comment_at, is_line_comment, is_opening}
+use Rattle.textwrap_marked.specs.Words.{contains, has_letter}
+use Rattle.textwrap_marked.specs.declared.options.ReflowOptions.{ReflowOptions}
 
 pub dollar-plain : has_letter (codes "$") ≡ false
 unfolding chars is_alphabetic in_ranges alphabetic_ranges is_numeric numeric_ranges
@@ -85,7 +87,7 @@ three_percents : has_letter (codes "%%%") ≡ false
 unfolding chars is_alphabetic in_ranges alphabetic_ranges is_numeric numeric_ranges
 three_percents = refl
 
-pub no-line-comment : (word : List ℕ) → has_letter word ≡ true → is_line_comment word ≡ false
+no-line-comment : (word : List ℕ) → has_letter word ≡ true → is_line_comment word ≡ false
 no-line-comment word is = rw (
   lettered-other word (codes "//") is slashes,
   lettered-other word (codes "///") is three_slashes,
@@ -100,3 +102,18 @@ no-line-comment word is = rw (
   lettered-other word (codes "%%") is percents,
   lettered-other word (codes "%%%") is three_percents,
 ) refl
+
+-- nor is it an opening, or another comment mark
+pub no-comment : (options : ReflowOptions) (in_block : Bool) (word : List ℕ) → has_letter word ≡ true
+    → is_among word options.markers.now ≡ false → is_comment_at options in_block word ≡ false
+no-comment options true word letter marker = lettered-other word (codes "*") letter star-plain
+no-comment options false word letter marker =
+    let opening : is_opening word ≡ false =
+    third (starts_with nat_eq word (codes "/*")) (has_letter word) (contains (codes "*/") word) letter in
+    rw (marker, no-line-comment word letter, opening) (none (not options.markdown))
+  where
+    none : (b : Bool) → (b && false) ≡ false
+    none b = grind (arith, cases_Bool)
+
+    third : (a b c : Bool) → b ≡ true → (a && not b && not c) ≡ false
+    third a b c is = grind (arith, cases_Bool, is)

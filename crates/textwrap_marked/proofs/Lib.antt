@@ -25,6 +25,7 @@ pub mod LaidLemmas
 pub mod LaterLines
 pub mod Letterless
 pub mod LineKinds
+pub mod LineSenses
 pub mod LineTests
 pub mod LineWords
 pub mod ListLemmas

@@ -15,22 +15,39 @@ use Rattle.textwrap_lines.specs.Paragraph.{covered}
 use Rattle.textwrap_marked.proofs.SpacedBack.{IsInk}
 use Rattle.textwrap_marked.proofs.WordsIn.{IsPlain}
 use Rattle.textwrap_marked.specs.Pieces.{is_cut, onto_front, pieces, with_blank}
+use Rattle.textwrap_marked.specs.Prefixes.{blanks}
 use Rattle.textwrap_marked.specs.Words.{spaced_text, SpacedText}
 use Rattle.textwrap_marked.specs.declared.options.ReflowOptions.{ReflowOptions}
 
--- words with a blank behind each but the last, and this behind that one
-abbrev pub spread : List (List ℕ) → List ℕ → List SpacedText
-spread [] end = []
-spread (word ∷ []) end = record { word = word; white = end } ∷ []
-spread (word ∷ next ∷ words) end =
-    record { word = word; white = blank ∷ [] } ∷ spread (next ∷ words) end
+-- the gap before a word with so many others behind it: a blank, and more where lines are justified
+abbrev pub gap : Bool → (ℕ → ℕ) → ℕ → List ℕ
+gap justify gaps n = blank ∷ cond justify (blanks (gaps n)) []
 
+-- words with a gap behind each but the last, and this behind that one
+abbrev pub spread : Bool → (ℕ → ℕ) → List (List ℕ) → List ℕ → List SpacedText
+spread justify gaps [] end = []
+spread justify gaps (word ∷ []) end = record { word = word; white = end } ∷ []
+spread justify gaps (word ∷ next ∷ words) end =
+    record { word = word; white = gap justify gaps (length words) }
+    ∷ spread justify gaps (next ∷ words) end
+
+-- the text of a line of these words
+abbrev pub shown : Bool → (ℕ → ℕ) → List (List ℕ) → List ℕ
+shown justify gaps words = spaced_text (spread justify gaps words [])
+
+-- the texts of such lines, where the gaps of each are those for so many lines behind it
+abbrev pub all_shown : Bool → (ℕ → ℕ → ℕ) → List (List (List ℕ)) → List (List ℕ)
+all_shown justify wide [] = []
+all_shown justify wide (words ∷ lines) =
+    shown justify (wide (length lines)) words ∷ all_shown justify wide lines
+
+-- with a blank between each two
 abbrev pub joined : List (List ℕ) → List ℕ
-joined words = spaced_text (spread words [])
+joined words = shown false (λ n. 0) words
 
 -- ---- one word
 
-ink-blank : (c : ℕ) → IsInk c → is_blank c ≡ false
+pub ink-blank : (c : ℕ) → IsInk c → is_blank c ≡ false
 ink-blank c ink = cut (is_blank c) refl
   where
     cut : (b : Bool) → is_blank c ≡ b → is_blank c ≡ false

@@ -11,7 +11,7 @@ use Rattle.textwrap_marked.proofs.NewLines.{AreNewBehind, here-words, later_raws
 use Rattle.textwrap_marked.proofs.NewLines.{raw-text, returns_at, text_end}
 use Rattle.textwrap_marked.proofs.OpenBehind.{behind_text}
 use Rattle.textwrap_marked.proofs.ParagraphLines.{first-begins, first-hangs, first-keyed, first-new}
-use Rattle.textwrap_marked.proofs.ParagraphLines.{first-starred, first-text, IsFirstAlike}
+use Rattle.textwrap_marked.proofs.ParagraphLines.{first-starred, first-text, IsFirstAlike, IsNew}
 use Rattle.textwrap_marked.proofs.SpacedBack.{IsWhite}
 use Rattle.textwrap_marked.proofs.SpreadWords.{last_text, spread-columns, spread-first, spread-len, spread-spaced}
 use Rattle.textwrap_marked.proofs.TextBlocks.{AreOneBlock, AreTextWords, IsWalked, last_line}
@@ -117,7 +117,7 @@ module _ (options : ReflowOptions) (state : StateText) (raw : List ℕ) (first :
   abbrev pub last_of : LineText
   last_of = last_line first_of lines
 
-  module _ (returns : Bool) (end : List ℕ) (white : All IsWhite end)
+  module _ (wide : ℕ → ℕ → ℕ) (returns : Bool) (end : List ℕ) (white : All IsWhite end)
       (breaks : ends_with nat_eq end (codes "  ") ≡ ends_with nat_eq (last_white last_of.words) (codes "  "))
       (left : List (List ℕ)) (others : List LineText)
       (reads : others ≡ read options (behind_text block_of first_of.hanging last_of.words) left)
@@ -133,20 +133,23 @@ module _ (options : ReflowOptions) (state : StateText) (raw : List ℕ) (first :
         → MayPart options first_of.starred (word ∷ words) later
         → AreCutInto options first_of.starred later ls
         → words_of (first_of ∷ lines) ≡ (word ∷ words) ++ later
-        → let new_raw = line_raw returns more_of end first_of.prefix (word ∷ words) ls in
-        let raws = later_raws returns more_of end first_of.hanging ls ++ left in
+        → let new_raw = line_raw options.justify wide returns more_of end first_of.prefix (word ∷ words) ls in
+        let raws = later_raws options.justify wide returns more_of end first_of.hanging ls ++ left in
         let new = line_of options state new_raw (nat_lt 0 (length raws)) in
         IsFirstAlike first_of new
-        × AreNewBehind options block_of first_of.starred first_of.hanging p.front p.ds p.rs p.hang
+        × IsNew options block_of first_of.hanging state new first_of.prefix
+        (spread options.justify (wide (length ls)) (word ∷ words) (text_end end ls))
+        × AreNewBehind options block_of first_of.starred wide first_of.hanging p.front p.ds p.rs p.hang
         (first-starred options state raw p.fed p.lead p.cs p.qs p.bs p.ws p.has p.apart) returns more_of
         end white last_of.words left others reads title p.walked.closing p.walked.some p.walked.starred
         p.walked.begins breaks state new ((word ∷ words) ++ later) raws
     renew word words later ls may cut is =
         let in_block = block_of in
         let starred = first_of.starred in
-        let new_raw = line_raw returns more_of end first_of.prefix (word ∷ words) ls in
-        let raws = later_raws returns more_of end first_of.hanging ls ++ left in
-        let own = spread (word ∷ words) (text_end end ls) in
+        let new_raw = line_raw options.justify wide returns more_of end first_of.prefix (word ∷ words) ls in
+        let raws = later_raws options.justify wide returns more_of end first_of.hanging ls ++ left in
+        let gaps = wide (length ls) in
+        let own = spread options.justify gaps (word ∷ words) (text_end end ls) in
         let all = subst (AreTextWords in_block) is p.walked.words in
         let mine = here-words options in_block starred word words later ls cut all in
         let some : 0 < length p.ws =
@@ -154,25 +157,26 @@ module _ (options : ReflowOptions) (state : StateText) (raw : List ℕ) (first :
         let first_is : first_word p.ws ≡ word =
         first-of-words p.ws (words_of lines) word (words ++ later) some is in
         let same : first_word p.ws ≡ first_word own =
-        first_is ∙ sym (spread-first word words (text_end end ls)) in
+        first_is ∙ sym (spread-first options.justify gaps word words (text_end end ls)) in
         let begins : begins_text starred word ≡ true =
         sym (ap (begins_text starred) first_is)
         ∙ first-begins options state raw p.fed p.lead p.cs p.qs p.bs p.ws p.has p.apart in
         let free : AreFree options.justify in_block starred first_of.field own = record {
-          begins = ap (begins_text starred) (spread-first word words (text_end end ls)) ∙ begins;
-          columns = spread-columns options.justify (word ∷ words) (text_end end ls) mine.columns;
+          begins = ap (begins_text starred) (spread-first options.justify gaps word words (text_end end ls)) ∙ begins;
+          columns = spread-columns options.justify gaps (word ∷ words) (text_end end ls) mine.columns;
           field = ap (λ w. first_of.field && has_byte 45 w) (sym same)
               ∙ first-keyed options state raw p.fed p.lead p.cs p.qs p.bs p.ws p.has p.apart;
-          closes = spread-free in_block (word ∷ words) (text_end end ls) mine.closing;
+          closes = spread-free in_block options.justify gaps (word ∷ words) (text_end end ls) mine.closing;
         } in
         let (new, alike) = first-new options state raw p.fed p.lead p.cs p.qs p.bs p.ws p.has p.apart own
         new_raw (nat_lt 0 (length raws))
-        (raw-text in_block first_of.prefix word words (text_end end ls) (returns_at returns more_of ls)
+        (raw-text options.justify gaps first_of.prefix word words (text_end end ls) (returns_at returns more_of ls)
         mine.plain mine.columns (end-white ls))
-        (spread-spaced (word ∷ words) (text_end end ls) mine.plain (end-white ls))
-        (omega (arith, spread-len (word ∷ words) (text_end end ls))) same free in (
+        (spread-spaced options.justify gaps (word ∷ words) (text_end end ls) mine.plain (end-white ls))
+        (omega (arith, spread-len options.justify gaps (word ∷ words) (text_end end ls))) same free in (
           alike,
-          new-behind options in_block starred first_of.hanging p.front p.ds p.rs p.hang
+          new,
+          new-behind options in_block starred wide first_of.hanging p.front p.ds p.rs p.hang
               (first-starred options state raw p.fed p.lead p.cs p.qs p.bs p.ws p.has p.apart) returns
               more_of end white last_of.words left others reads title p.walked.closing p.walked.some
               p.walked.starred p.walked.begins breaks ls word words later state

@@ -1,6 +1,6 @@
 -- Texts that were reflowed, reflowed again.
 use Rattle.textwrap_base.proofs.Common.{◌≡◌, ℕ, Bool, true, false, cond, List, [], ◌∷◌, ◌++◌, ◌==◌}
-use Rattle.textwrap_base.proofs.Common.{All-head, ap, arith, drop, join_with_byte, length, nat_eq, nat_lt}
+use Rattle.textwrap_base.proofs.Common.{All-head, ap, arith, drop, flat_map, join_with_byte, length, nat_eq, nat_lt}
 use Rattle.textwrap_base.proofs.Common.{refl, slice_split, starts_with, subst, sym, true≢false, ◌∙◌, lt-ltb}
 use Rattle.std.proofs.lemmas.List.Splits.{join_with_byte-slice_split, length-slice_split}
 use Rattle.textwrap_lines.specs.LineEnding.{ending_bytes}
@@ -13,7 +13,8 @@ use Rattle.textwrap_marked.proofs.Feedless.{IsFeedless}
 use Rattle.textwrap_marked.proofs.SameParts.{from-other, laid-other, width-same}
 use Rattle.textwrap_marked.proofs.TextBack.{AreReadBack, IsTextBack, text-back}
 use Rattle.textwrap_marked.specs.Blocks.{blocks}
-use Rattle.textwrap_marked.specs.Laws.{AreSameParts, behind_mark, KeepsEnding, text_parts}
+use Rattle.textwrap_marked.specs.Laws.{AreSameParts, behind_mark, HasPlainMarkers, KeepsEnding, line_sense}
+use Rattle.textwrap_marked.specs.Laws.{text_parts, text_sense}
 use Rattle.textwrap_marked.specs.Lines.{first_state, lines_of, read_lines, with_titles}
 use Rattle.textwrap_marked.specs.Reflow.{byte_order_mark, filled_ending, IsLaidOut, IsReflowed}
 use Rattle.textwrap_marked.specs.Reflow.{IsReflowedBehind, IsReflowedFrom}
@@ -47,13 +48,13 @@ ends-feed LF = ([], refl)
 ends-feed CRLF = (13 ∷ [], refl)
 
 -- the new text stays, whatever its own ending is
-from-stays : (options : ReflowOptions) → options.justify ≡ false → (text reflowed : List ℕ)
+from-stays : (options : ReflowOptions) → (text reflowed : List ℕ)
     → IsReflowedFrom options text reflowed → IsReflowedFrom options reflowed reflowed
-from-stays options plain text reflowed laid =
+from-stays options text reflowed laid =
     more (nat_lt 0 (length r.raws)) refl r.raws refl
   where
     r : IsTextBack options text reflowed
-    r = text-back options plain text reflowed laid
+    r = text-back options text reflowed laid
 
     again : IsLaidOut options (ending_bytes (filled_ending options.ending text)) false
         (blocks (lines_of options reflowed)) reflowed
@@ -98,29 +99,44 @@ marked : (rest whole : List ℕ) → whole ≡ byte_order_mark ++ rest
     → starts_with nat_eq whole byte_order_mark ≡ true
 marked rest whole is = ap (λ t. starts_with nat_eq t byte_order_mark) is
 
-module _ (options : ReflowOptions) (plain : options.justify ≡ false) where
-  pub parts-kept : (text reflowed : List ℕ) → IsReflowed options text reflowed
-      → AreSameParts options.ending (text_parts options (behind_mark text)) (text_parts options (behind_mark reflowed))
-  parts-kept text reflowed = cut (starts_with nat_eq text byte_order_mark) refl
+module _ (options : ReflowOptions) where
+  -- what holds of texts that become others holds behind the byte order mark of both
+  kept-by : (Kept : List ℕ → List ℕ → Type 0)
+      → ((text reflowed : List ℕ) → IsReflowedFrom options text reflowed → Kept text reflowed)
+      → (text reflowed : List ℕ) → IsReflowed options text reflowed
+      → Kept (behind_mark text) (behind_mark reflowed)
+  kept-by Kept each text reflowed = cut (starts_with nat_eq text byte_order_mark) refl
     where
-      goal : (a b : List ℕ) → behind_mark text ≡ a → behind_mark reflowed ≡ b
-          → AreSameParts options.ending (text_parts options a) (text_parts options b)
-          → AreSameParts options.ending (text_parts options (behind_mark text)) (text_parts options (behind_mark reflowed))
-      goal a b p q same =
-          subst (λ t. AreSameParts options.ending (text_parts options t) (text_parts options (behind_mark reflowed)))
-          (sym p) (subst (λ t. AreSameParts options.ending (text_parts options a) (text_parts options t)) (sym q) same)
+      goal : (a b : List ℕ) → behind_mark text ≡ a → behind_mark reflowed ≡ b → Kept a b
+          → Kept (behind_mark text) (behind_mark reflowed)
+      goal a b p q kept =
+          subst (λ t. Kept t (behind_mark reflowed)) (sym p) (subst (λ t. Kept a t) (sym q) kept)
 
       cut : (b : Bool) → starts_with nat_eq text byte_order_mark ≡ b
-          → IsReflowedBehind b options text reflowed
-          → AreSameParts options.ending (text_parts options (behind_mark text)) (text_parts options (behind_mark reflowed))
+          → IsReflowedBehind b options text reflowed → Kept (behind_mark text) (behind_mark reflowed)
       cut true is (rest, laid, whole) =
           goal (drop 3 text) rest (begins-so text true is)
           (begins-so reflowed true (marked rest reflowed whole) ∙ ap (drop 3) whole)
-          (text-back options plain (drop 3 text) rest laid).same
+          (each (drop 3 text) rest laid)
       cut false is laid =
-          let r = text-back options plain text reflowed laid in
+          let r = text-back options text reflowed laid in
           goal text reflowed (begins-so text false is)
-          (begins-so reflowed false (begins-alike options _ _ text reflowed r ∙ is)) r.same
+          (begins-so reflowed false (begins-alike options _ _ text reflowed r ∙ is)) (each text reflowed laid)
+
+  pub parts-kept : (text reflowed : List ℕ) → IsReflowed options text reflowed
+      → AreSameParts options.ending (text_parts options (behind_mark text)) (text_parts options (behind_mark reflowed))
+  parts-kept =
+      kept-by (λ a b. AreSameParts options.ending (text_parts options a) (text_parts options b))
+      (λ text reflowed laid. (text-back options text reflowed laid).same)
+
+  pub nothing-lost : (text reflowed : List ℕ) → HasPlainMarkers options → IsReflowed options text reflowed
+      → text_sense reflowed ≡ text_sense text
+  nothing-lost text reflowed plain =
+      kept-by (λ a b. flat_map line_sense (slice_split (λ c. c == 10) b)
+      ≡ flat_map line_sense (slice_split (λ c. c == 10) a))
+      (λ text reflowed laid.
+      let r = text-back options text reflowed laid in
+      ap (flat_map line_sense) r.split ∙ r.sense plain) text reflowed
 
   pub texts-stay : (text reflowed : List ℕ) → IsReflowed options text reflowed
       → IsReflowed options reflowed reflowed
@@ -132,14 +148,14 @@ module _ (options : ReflowOptions) (plain : options.justify ≡ false) where
           subst (λ b. IsReflowedBehind b options reflowed reflowed) (sym (marked rest reflowed whole)) (
             rest,
             subst (λ t. IsReflowedFrom options t rest) (sym (ap (drop 3) whole))
-                (from-stays options plain (drop 3 text) rest laid),
+                (from-stays options (drop 3 text) rest laid),
             whole,
           )
       cut false is laid =
-          let r = text-back options plain text reflowed laid in
+          let r = text-back options text reflowed laid in
           subst (λ b. IsReflowedBehind b options reflowed reflowed)
           (sym (begins-alike options _ _ text reflowed r ∙ is))
-          (from-stays options plain text reflowed laid)
+          (from-stays options text reflowed laid)
 
   -- ---- another width first
 
@@ -149,11 +165,11 @@ module _ (options : ReflowOptions) (plain : options.justify ≡ false) where
       → IsReflowedFrom (record options { width = width; algorithm = algorithm }) text between
       → IsReflowedFrom options between reflowed → IsReflowedFrom options text reflowed
   widths-from width algorithm text between reflowed ends laid second =
-      from-other options text between (width-same options width algorithm plain text between laid)
+      from-other options text between (width-same options width algorithm text between laid)
       (same (nat_lt 0 (length r.raws)) refl r.raws refl) reflowed second
     where
       r : IsTextBack (record options { width = width; algorithm = algorithm }) text between
-      r = text-back (record options { width = width; algorithm = algorithm }) plain text between laid
+      r = text-back (record options { width = width; algorithm = algorithm }) text between laid
 
       same : (b : Bool) → nat_lt 0 (length r.raws) ≡ b → (raws : List (List ℕ)) → r.raws ≡ raws
           → filled_ending options.ending between ≡ filled_ending options.ending text
@@ -198,7 +214,7 @@ module _ (options : ReflowOptions) (plain : options.justify ≡ false) where
             shown,
           )
       cut false is laid second =
-          let r = text-back (record options { width = width; algorithm = algorithm }) plain text
+          let r = text-back (record options { width = width; algorithm = algorithm }) text
           between laid in
           let begins = begins-alike (record options { width = width; algorithm = algorithm }) _ _ text
           between r ∙ is in

@@ -167,7 +167,7 @@ module _ (options : ReflowOptions) (state : StateText) (raw : List ℕ) (fed : B
   first-some =
       words-some ws (begun (starred_at options state (kinds lead cs qs bs ws)) ws first-free.1.begins)
 
-  first-parts : All IsFull (cs ++ (qs ++ bs)) × AreSpaced ws
+  pub first-parts : All IsFull (cs ++ (qs ++ bs)) × AreSpaced ws
   first-parts =
       before-full (cs ++ (qs ++ bs)) ws first-some
       (subst AreSpaced (regroup cs qs bs ws) read.text.spaced)

@@ -4,6 +4,8 @@ use Rattle.textwrap_base.proofs.Common.{◌∷◌, ◌++◌, All, All-append, ap
 use Rattle.textwrap_base.proofs.Common.{arith, flat_map, join_with_byte, length}
 use Rattle.textwrap_base.proofs.Common.{map, nat_lt, refl, subst, sym, true≢false, ◌∙◌}
 use Rattle.textwrap_base.proofs.Lists.Parts.{all-left, all-right, flat}
+use Rattle.std.proofs.Common.{ap₂}
+use Rattle.std.proofs.lemmas.Grind.{flat_map-append}
 use Rattle.textwrap_marked.proofs.AnewLines.{anew, IsTold, kept-anew, last-anew, one-anew}
 use Rattle.textwrap_marked.proofs.BegunAlike.{AreBegun}
 use Rattle.textwrap_marked.proofs.BlockOrder.{AreBlocks}
@@ -14,7 +16,7 @@ use Rattle.textwrap_marked.proofs.KeptLines.{AreHeads, IsHeadAlike, keep}
 use Rattle.textwrap_marked.proofs.ReturnsOff.{return_if}
 use Rattle.textwrap_marked.proofs.TextBlocks.{last_line, read}
 use Rattle.textwrap_marked.specs.Blocks.{is_beside, stays}
-use Rattle.textwrap_marked.specs.Laws.{AreSameParts, IsSameBy, parts_of_blocks}
+use Rattle.textwrap_marked.specs.Laws.{AreSameParts, HasPlainMarkers, IsSameBy, line_sense, parts_of_blocks}
 use Rattle.textwrap_marked.specs.Lines.{LineText, StateText}
 use Rattle.textwrap_marked.specs.Reflow.{IsLaidOut, kept_line, kept_text}
 use Rattle.textwrap_marked.specs.declared.options.ReflowOptions.{ReflowOptions}
@@ -36,6 +38,7 @@ module _ (options : ReflowOptions) (returns : Bool) (told : IsTold options.endin
     pub heads : AreHeads (flat bs) (flat blocks)
     pub some : nat_lt 0 (length again) ≡ nat_lt 0 (length raws)
     pub begun : AreBegun returns raws again
+    pub sense : HasPlainMarkers options → flat_map line_sense again ≡ flat_map line_sense raws
 
   abbrev pub Walks : Bool → List (List LineText) → Type 0
   Walks beside bs =
@@ -86,6 +89,10 @@ module _ (options : ReflowOptions) (returns : Bool) (told : IsTold options.endin
         some = k.fed_same later.again later.some ∙ ap (λ l. nat_lt 0 (length l)) (sym k.whole);
         begun = subst (λ l. AreBegun returns l (k.news ++ later.again)) (sym k.whole)
             (k.begun later.again later.some (omega arith));
+        sense = λ plain.
+            flat_map-append line_sense k.news later.again
+            ∙ ap₂ (λ a b. a ++ b) k.sense (later.sense plain)
+            ∙ sym (ap (flat_map line_sense) k.whole ∙ flat_map-append line_sense k.kept k.left);
       }
     where
       head-anew : (line : LineText) → IsHeadAlike line (anew options.ending returns line)

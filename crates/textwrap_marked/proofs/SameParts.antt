@@ -160,10 +160,10 @@ module _ (options : ReflowOptions) (width : ℕ) (algorithm : Algorithm) where
       ap (λ ls. parts_of_blocks false (blocks (with_titles ls)))
       (lines-same (slice_split (λ c. c == 10) text) first_state)
 
-  pub width-same : options.justify ≡ false → (text between : List ℕ)
+  pub width-same : (text between : List ℕ)
       → IsReflowedFrom others text between
       → AreSameParts options.ending (text_parts options text) (text_parts options between)
-  width-same plain text between laid =
+  width-same text between laid =
       subst (λ p. AreSameParts options.ending p (text_parts options between)) (parts-same text)
       (subst (AreSameParts options.ending (text_parts others text)) (parts-same between)
-      (text-back others plain text between laid).same)
+      (text-back others text between laid).same)

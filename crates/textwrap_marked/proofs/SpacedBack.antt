@@ -1,8 +1,9 @@
 -- Words with white between them are read back from their text.
 use Rattle.textwrap_base.proofs.Common.{◌≡◌, ℕ, ◌<◌, Bool, true, false, List, [], ◌∷◌, ◌++◌, All}
 use Rattle.textwrap_base.proofs.Common.{All-cons, All-head, All-nil, All-tail, ap, append_assoc, append-nil}
-use Rattle.textwrap_base.proofs.Common.{arith, length, refl, sym, ⊤, ◌∙◌}
-use Rattle.textwrap_marked.proofs.WordsIn.{IsPlain}
+use Rattle.textwrap_base.proofs.Common.{arith, length, map, refl, sym, ⊤, ◌∙◌}
+use Rattle.textwrap_marked.proofs.WordsIn.{IsPlain, white-words, word-alone, words-white}
+use Rattle.textwrap_marked.specs.Laws.{words_in}
 use Rattle.textwrap_marked.specs.Words.{is_white, onto_word, spaced_text, spaced_words, SpacedText}
 use Rattle.textwrap_marked.specs.Words.{with_byte}
 
@@ -169,6 +170,34 @@ line-text (c ∷ cs) =
         is = ap (λ l. c ∷ l) is.is;
       },
     )
+
+-- ---- its words between white
+
+word-in : (word white rest : List ℕ) → IsPlain word → All IsWhite white → 0 < length white
+    → words_in ((word ++ white) ++ rest) ≡ word ∷ words_in rest
+word-in word [] rest plain all some = absurd (omega (arith, some))
+word-in word (c ∷ white) rest plain all some =
+    ap words_in (append_assoc word (c ∷ white) rest)
+    ∙ words-white word c (white ++ rest) (All-head IsWhite c white all)
+    ∙ ap (λ l. l ++ words_in (white ++ rest)) (word-alone word plain)
+    ∙ ap (λ l. word ∷ l) (white-words white rest (All-tail IsWhite c white all))
+
+pub spaced-in : (ws : List SpacedText) → AreSpaced ws → words_in (spaced_text ws) ≡ map (λ w. w.word) ws
+spaced-in [] are = refl
+spaced-in (w ∷ []) are = cut w.white are.white
+  where
+    cut : (white : List ℕ) → All IsWhite white → words_in ((w.word ++ white) ++ []) ≡ w.word ∷ []
+    cut [] all =
+        ap words_in (append-nil (w.word ++ []) ∙ append-nil w.word) ∙ word-alone w.word are.word
+    cut (c ∷ white) all = word-in w.word (c ∷ white) [] are.word all (omega arith)
+spaced-in (w ∷ v ∷ ws) (here, some, later) =
+    word-in w.word w.white (spaced_text (v ∷ ws)) here.word here.white some
+    ∙ ap (λ l. w.word ∷ l) (spaced-in (v ∷ ws) later)
+
+pub text-words : (text lead : List ℕ) (ws : List SpacedText) → IsLineText text lead ws
+    → words_in text ≡ map (λ w. w.word) ws
+text-words text lead ws is =
+    ap words_in is.is ∙ white-words lead (spaced_text ws) is.white ∙ spaced-in ws is.spaced
 
 -- ---- one line has one lead and one list of words
 

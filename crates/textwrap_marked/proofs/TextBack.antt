@@ -1,6 +1,6 @@
 -- A new text, read again, has the parts of the text.
 use Rattle.textwrap_base.proofs.Common.{None, Option, Some, ◌≡◌, ℕ, ◌<◌, ◌||◌, not, Bool, true, false, List, [], ◌∷◌, ◌++◌, ◌==◌}
-use Rattle.textwrap_base.proofs.Common.{All, All-nil, ap, arith, join_with_byte, length, nat_lt, lt-ltb}
+use Rattle.textwrap_base.proofs.Common.{All, All-nil, ap, arith, flat_map, join_with_byte, length, nat_lt, lt-ltb}
 use Rattle.textwrap_base.proofs.Common.{cases_Bool, refl, slice_split, subst, sym, true≢false, ◌∙◌}
 use Rattle.textwrap_base.proofs.Lists.Parts.{all-left, flat}
 use Rattle.std.proofs.lemmas.List.Splits.{length-slice_split}
@@ -16,7 +16,7 @@ use Rattle.textwrap_marked.proofs.ReadBack.{ending, IsReadBack, kept-step}
 use Rattle.textwrap_marked.proofs.TextBlocks.{read, read-more}
 use Rattle.textwrap_marked.proofs.TextParts.{blocks-flat}
 use Rattle.textwrap_marked.specs.Blocks.{blocks, is_beside, stays}
-use Rattle.textwrap_marked.specs.Laws.{AreSameParts, parts_of_blocks, text_parts}
+use Rattle.textwrap_marked.specs.Laws.{AreSameParts, HasPlainMarkers, line_sense, parts_of_blocks, text_parts}
 use Rattle.textwrap_marked.specs.Lines.{first_state, lines_of, LineText, StateText}
 use Rattle.textwrap_marked.specs.Reflow.{filled_ending, IsLaidOut, IsOfBlock, IsReflowedFrom}
 use Rattle.textwrap_marked.specs.declared.options.ReflowOptions.{ReflowOptions}
@@ -31,6 +31,12 @@ module _ (options : ReflowOptions) (returns : Bool) (told : IsTold options.endin
   read-none state (raw ∷ raws) is =
       absurd (omega (arith, ap length is, ap length (read-more options state raw raws)))
 
+  none-sense : (state : StateText) (raws : List (List ℕ)) → [] ≡ read options state raws
+      → [] ≡ flat_map line_sense raws
+  none-sense state [] is = refl
+  none-sense state (raw ∷ raws) is =
+      absurd (omega (arith, ap length is, ap length (read-more options state raw raws)))
+
   none-begun : (raws : List (List ℕ)) → AreBegun returns raws []
   none-begun [] = tt
   none-begun (raw ∷ raws) = tt
@@ -43,12 +49,14 @@ module _ (options : ReflowOptions) (returns : Bool) (told : IsTold options.endin
     pub split : slice_split (λ c. c == 10) reflowed ≡ raw ∷ raws
     pub begun : AreBegun returns (slice_split (λ c. c == 10) text) (raw ∷ raws)
     pub feedless : All IsFeedless (raw ∷ raws)
+    pub sense : HasPlainMarkers options
+        → flat_map line_sense (raw ∷ raws) ≡ flat_map line_sense (slice_split (λ c. c == 10) text)
 
-  pub walk-blocks : options.justify ≡ false → (bs : List (List LineText)) (beside : Bool) → AreBlocks bs → (state : StateText)
+  pub walk-blocks : (bs : List (List LineText)) (beside : Bool) → AreBlocks bs → (state : StateText)
       (raws : List (List ℕ)) (text : List ℕ) → flat bs ≡ read options state raws
       → IsLaidOut options (ending options returns told) beside bs text → IsSafe options state
       → All IsFeedless raws → IsReadBack options returns told state beside bs raws text
-  walk-blocks plain [] beside are state raws text reads laid safe free = record {
+  walk-blocks [] beside are state raws text reads laid safe free = record {
     again = [];
     blocks = [];
     reads = refl;
@@ -59,13 +67,14 @@ module _ (options : ReflowOptions) (returns : Bool) (told : IsTold options.endin
     heads = tt;
     some = read-none state raws reads;
     begun = none-begun raws;
+    sense = λ plain. none-sense state raws reads;
   }
-  walk-blocks plain ([] ∷ bs) beside are state raws text reads laid safe free = absurd are
-  walk-blocks plain ((first ∷ lines) ∷ bs) beside are state raws text reads (front, back, of, later, is) safe
+  walk-blocks ([] ∷ bs) beside are state raws text reads laid safe free = absurd are
+  walk-blocks ((first ∷ lines) ∷ bs) beside are state raws text reads (front, back, of, later, is) safe
       free =
       subst (IsReadBack options returns told state beside ((first ∷ lines) ∷ bs) raws) (sym is)
       (step (stays (beside || is_beside first bs) first) refl of
-      (walk-blocks plain bs (is_beside first bs) are.2))
+      (walk-blocks bs (is_beside first bs) are.2))
     where
       step : (b : Bool) → stays (beside || is_beside first bs) first ≡ b
           → IsOfBlock options (ending options returns told) b first (first ∷ lines) front
@@ -83,7 +92,7 @@ module _ (options : ReflowOptions) (returns : Bool) (told : IsTold options.endin
           paragraph-at options state raws first lines (flat bs) reads apart are.0 in
           let lines_free = all-left IsFeedlessLine (first ∷ lines) (flat bs)
           (subst (All IsFeedlessLine) (sym reads) (read-feedless options raws state free)) in
-          filled-step options returns told state raw first lines bs p beside plain front back raws left whole same
+          filled-step options returns told state raw first lines bs p beside front back raws left whole same
           are stay of later walks safe free lines_free
 
   parts-again : (text reflowed : List ℕ) (raw : List ℕ) (raws : List (List ℕ))
@@ -104,14 +113,15 @@ module _ (options : ReflowOptions) (returns : Bool) (told : IsTold options.endin
         split = split ∙ some;
         begun = subst (AreBegun returns (slice_split (λ c. c == 10) text)) some r.begun;
         feedless = subst (All IsFeedless) some r.feedless;
+        sense = λ plain. ap (flat_map line_sense) (sym some) ∙ r.sense plain;
       }
 
-  pub parts-back : options.justify ≡ false → (text reflowed : List ℕ)
+  pub parts-back : (text reflowed : List ℕ)
       → IsLaidOut options (ending options returns told) false (blocks (lines_of options text)) reflowed
       → AreReadBack text reflowed
-  parts-back plain text reflowed laid =
+  parts-back text reflowed laid =
       let raws = slice_split (λ c. c == 10) text in
-      let r = walk-blocks plain (blocks (lines_of options text)) false (blocks-are (lines_of options text))
+      let r = walk-blocks (blocks (lines_of options text)) false (blocks-are (lines_of options text))
       first_state raws reflowed (blocks-flat (lines_of options text)) laid
       (safe-none options first_state refl) (split-feedless text) in
       some r r.again refl
@@ -138,9 +148,9 @@ IsTextBack options text reflowed =
     AreReadBack options (returns_by (filled_ending options.ending text)) (told-by options.ending text) text
     reflowed
 
-pub text-back : (options : ReflowOptions) → options.justify ≡ false → (text reflowed : List ℕ)
+pub text-back : (options : ReflowOptions) → (text reflowed : List ℕ)
     → IsReflowedFrom options text reflowed → IsTextBack options text reflowed
-text-back options plain text reflowed laid =
+text-back options text reflowed laid =
     let e = filled_ending options.ending text in
-    parts-back options (returns_by e) (told-by options.ending text) plain text reflowed
+    parts-back options (returns_by e) (told-by options.ending text) text reflowed
     (subst (λ b. IsLaidOut options b false (blocks (lines_of options text)) reflowed) (bytes-by e) laid)

@@ -1,17 +1,20 @@
 -- The lines of a paragraph of a text, one after another.
 use Rattle.textwrap_base.proofs.Common.{◌≡◌, ℕ, ◌<◌, ◌&&◌, ◌||◌, not, Bool, true, false, List, []}
 use Rattle.textwrap_base.proofs.Common.{◌∷◌, ◌++◌, All, All-append, All-map, All-head, All-tail, ap, append-nil, arith, codes}
-use Rattle.textwrap_base.proofs.Common.{All-cons, All-nil, cases_Bool, length, length-append, length-map, map, nat_lt, refl, subst, sym, ⊤, ◌∙◌}
+use Rattle.textwrap_base.proofs.Common.{All-cons, All-nil, cases_Bool, flat_map, length, length-append, length-map, map, nat_lt, refl, subst, sym, ⊤, ◌∙◌}
+use Rattle.std.proofs.Common.{ap₂}
 use Rattle.std.proofs.lemmas.Slice.Eq.{bytes_eq-Decides}
 use Rattle.std.specs.Prelude.{bytes_eq}
 use Rattle.textwrap_marked.proofs.HangingForms.{IsHanging, or-false}
 use Rattle.textwrap_marked.proofs.LaterLines.{IsOfText}
+use Rattle.textwrap_marked.proofs.LineSenses.{later-sense}
 use Rattle.textwrap_marked.proofs.OpenBehind.{any-none, behind_text, no-columns, or-left, or-right}
 use Rattle.textwrap_marked.proofs.ParagraphLines.{later-line}
 use Rattle.textwrap_marked.proofs.SpacedBack.{AreSpaced}
 use Rattle.textwrap_marked.proofs.SpreadWords.{front-more, last-more, last_text}
 use Rattle.textwrap_marked.proofs.WordsIn.{IsPlain}
 use Rattle.textwrap_marked.specs.Blocks.{goes_on}
+use Rattle.textwrap_marked.specs.Laws.{HasPlainMarkers, line_sense}
 use Rattle.textwrap_marked.specs.Lines.{without_returns}
 use Rattle.textwrap_marked.specs.Lines.{as_title, entered, is_ended, is_title, line_of, LineText, passed}
 use Rattle.textwrap_marked.specs.Lines.{read_lines, StateText, with_titles}
@@ -247,6 +250,7 @@ module _ (options : ReflowOptions) (in_block : Bool) (hanging lead : List ℕ) (
     pub final : last_text (words_of (line ∷ lines))
         ≡ last_text (map (λ w. w.word) (last_line line lines).words)
     pub words : AreTextWords in_block (words_of (line ∷ lines))
+    pub sense : HasPlainMarkers options → flat_map line_sense done ≡ words_of lines
 
   walked-last : (mine others : List (List ℕ)) → 0 < length others
       → last_text (mine ++ others) ≡ last_text others
@@ -265,8 +269,9 @@ module _ (options : ReflowOptions) (in_block : Bool) (hanging lead : List ℕ) (
   walk-more : (state : StateText) (line next : LineText) (lines rest : List LineText)
       (raw : List ℕ) (raws left : List (List ℕ)) → raws ≡ raw ∷ left
       → IsOfText options in_block hanging state line → line.ended ≡ false
+      → (HasPlainMarkers options → line_sense raw ≡ map (λ w. w.word) next.words)
       → IsWalked next lines rest left → IsWalked line (next ∷ lines) rest raws
-  walk-more state line next lines rest raw raws left whole of ended walked =
+  walk-more state line next lines rest raw raws left whole of ended sense walked =
       let own = line-words state line of in
       let none = masked-all in_block line.words
       (ended-none in_block line.words (sym of.ends ∙ ended)) in
@@ -293,6 +298,7 @@ module _ (options : ReflowOptions) (in_block : Bool) (hanging lead : List ℕ) (
           columns = All-append NoColumn mine others own.columns walked.words.columns;
           closing = closing-before in_block mine others none walked.words.closing;
         };
+        sense = λ plain. ap₂ (λ a b. a ++ b) (sense plain) (walked.sense plain);
       }
 
   pub walk : (lines : List LineText) (line : LineText) (state : StateText) (rest : List LineText)
@@ -324,6 +330,7 @@ module _ (options : ReflowOptions) (in_block : Bool) (hanging lead : List ℕ) (
     final = ap last_text (append-nil (map (λ w. w.word) line.words));
     words = subst (AreTextWords in_block) (sym (append-nil (map (λ w. w.word) line.words)))
         (line-words state line of);
+    sense = λ plain. refl;
   }
   walk (next ∷ lines) line state rest raws of apart title (goes, one) fed is =
       let (level, ended, prefix, opens) = goes-facts line next goes in
@@ -336,13 +343,17 @@ module _ (options : ReflowOptions) (in_block : Bool) (hanging lead : List ℕ) (
       let block : (in_block && not (closes_block line.words)) ≡ in_block =
       open_still in_block (closes_block line.words)
       (ended-none in_block line.words (sym of.ends ∙ ended)) in
-      let of_read = later-line options in_block hanging lead ds rs hang behind peeled.raw
-      (nat_lt 0 (length peeled.left)) block free
-      (sym (ap (λ (l : LineText). l.prefix) same) ∙ prefix ∙ of.hangs) in
+      let hung : read_line.prefix ≡ hanging =
+      sym (ap (λ (l : LineText). l.prefix) same) ∙ prefix ∙ of.hangs in
+      let fed_next = nat_lt 0 (length peeled.left) in
+      let of_read =
+      later-line options in_block hanging lead ds rs hang behind peeled.raw fed_next block free hung in
       let of_next = subst (IsOfText options in_block hanging behind) (sym same) of_read in
       let title_next : title_of next (lines ++ rest) ≡ false =
       ap (λ l. title_of l (lines ++ rest)) same ∙ plain in
       walk-more state line next lines rest peeled.raw raws peeled.left peeled.whole of ended
+      (λ plain. later-sense options plain in_block hanging lead ds rs hang behind peeled.raw fed_next of_read hung
+      ∙ ap (λ (l : LineText). map (λ w. w.word) l.words) (sym same))
       (walk lines next behind rest peeled.left of_next level title_next one
       (ap (λ (l : LineText). l.fed) same)
       (peeled.later ∙ ap (λ l. read options (passed behind l) peeled.left) (sym same)))

@@ -51,11 +51,12 @@ pub closing-alone : (in_block : Bool) (words : List (List ℕ)) → All (NoClose
 closing-alone in_block words all =
     subst (AreClosing in_block) (append-nil words) (closing-before in_block words [] all tt)
 
-pub spread-none : (in_block : Bool) (words : List (List ℕ)) (end : List ℕ)
-    → All (NoClose in_block) words → (in_block && closes_block (spread words end)) ≡ false
-spread-none false words end all = refl
-spread-none true words end all =
-    spread-any (λ w. contains (codes "*/") w) words end ∙ none-any (λ w. contains (codes "*/") w) words all
+pub spread-none : (in_block justify : Bool) (gaps : ℕ → ℕ) (words : List (List ℕ)) (end : List ℕ)
+    → All (NoClose in_block) words → (in_block && closes_block (spread justify gaps words end)) ≡ false
+spread-none false justify gaps words end all = refl
+spread-none true justify gaps words end all =
+    spread-any justify gaps (λ w. contains (codes "*/") w) words end
+    ∙ none-any (λ w. contains (codes "*/") w) words all
 
 closing-free : (in_block : Bool) (words : List SpacedText)
     → AreClosing in_block (map (λ w. w.word) words)
@@ -86,10 +87,12 @@ closing-free in_block (w ∷ v ∷ ws) (none, are) =
         → (a && (c || b) && ((c || f) || e)) ≡ false
     more a c b f e none is = grind (arith, cases_Bool)
 
-pub spread-free : (in_block : Bool) (words : List (List ℕ)) (end : List ℕ) → AreClosing in_block words
-    → (in_block && closes_block (spread words end) && closes_early (spread words end)) ≡ false
-spread-free in_block words end are =
-    closing-free in_block (spread words end) (subst (AreClosing in_block) (sym (spread-words words end)) are)
+pub spread-free : (in_block justify : Bool) (gaps : ℕ → ℕ) (words : List (List ℕ)) (end : List ℕ)
+    → AreClosing in_block words → let ws = spread justify gaps words end in
+    (in_block && closes_block ws && closes_early ws) ≡ false
+spread-free in_block justify gaps words end are =
+    closing-free in_block (spread justify gaps words end)
+    (subst (AreClosing in_block) (sym (spread-words justify gaps words end)) are)
 
 -- whether they close one, the last says
 pub closes-last : (in_block : Bool) (words : List SpacedText) → 0 < length words

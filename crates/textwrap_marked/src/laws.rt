@@ -5,7 +5,8 @@
 //! `reflowed_texts_are_unique();`.
 ghost use Rattle.textwrap_marked.specs.Laws.{EarlierWidthsMakeNoDifference, FirstFitKeepsToWidth};
 ghost use Rattle.textwrap_marked.specs.Laws.{JustifiedLinesAreAsWide, LeastCostIsLeast};
-ghost use Rattle.textwrap_marked.specs.Laws.{PartsAreKept, ReflowedTextsAreUnique, ReflowedTextsStay};
+ghost use Rattle.textwrap_marked.specs.Laws.{NothingIsLost, PartsAreKept, ReflowedTextsAreUnique};
+ghost use Rattle.textwrap_marked.specs.Laws.{ReflowedTextsStay};
 ghost use Rattle.textwrap_marked.specs.Laws.{WhatStandsApartStays, WordsAreKept};
 
 /// A text becomes one text at the same options: the one that `reflow` returns.
@@ -45,10 +46,17 @@ pub fn words_are_kept()
     ensures { WordsAreKept }
 {}
 
+/// Nothing is lost, mixed or added, told without a word on prefixes or paragraphs: both texts have the
+/// same words in order, where of each line the words in front that have no letter or digit are left out,
+/// and so is a byte order mark. So all that may come and go is line ends, white, and marks at the
+/// beginning of lines. It holds if no mark that the caller declared has a letter or digit, as `dnl` has.
+pub fn nothing_is_lost()
+    ensures { NothingIsLost }
+{}
+
 /// The new text, read again, is read as the text was: block by block and in order the same lines that
 /// stay, but for their endings where another one is asked for, and the same paragraphs, each with its
-/// prefix, its hanging form, its words, and what stands behind its last line. Lines are not justified,
-/// here and in the next two laws.
+/// prefix, its hanging form, its words, and what stands behind its last line.
 pub fn parts_are_kept()
     ensures { PartsAreKept }
 {}

@@ -1,7 +1,7 @@
 -- What is printed of a paragraph before other blocks, read again.
 use Rattle.textwrap_base.proofs.Common.{◌≡◌, ◌≢◌, ℕ, ◌&&◌, ◌||◌, Bool, true, false, List, []}
 use Rattle.textwrap_base.proofs.Common.{◌∷◌, ◌++◌, All, All-append, All-cons, All-head, All-nil, All-tail}
-use Rattle.textwrap_base.proofs.Common.{inr, ap, append-nil, append_assoc, arith, flat_map, join_with_byte}
+use Rattle.textwrap_base.proofs.Common.{inr, ap, append-nil, append_assoc, arith, flat_map}
 use Rattle.textwrap_base.proofs.Common.{length, lt-ltb, map, nat_lt, None, refl, subst, sym, ◌∙◌}
 use Rattle.textwrap_base.proofs.Lists.Parts.{all-right, flat}
 use Rattle.std.proofs.Common.{ap₂}

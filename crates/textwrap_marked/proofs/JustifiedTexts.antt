@@ -2,7 +2,7 @@
 use Rattle.textwrap_base.proofs.Common.{◌≡◌, ◌≢◌, ℕ, ◌+◌, ◌-◌, ◌<◌, ◌≤◌, min, Bool, true, false, cond}
 use Rattle.textwrap_base.proofs.Common.{List, [], ◌∷◌, ◌++◌, All, All-head, All-tail, ap, append_assoc}
 use Rattle.textwrap_base.proofs.Common.{append-nil, arith, cond_both, drop, eq-eqb, IsDivision, length}
-use Rattle.textwrap_base.proofs.Common.{map, nat_lt, ne_eqb, onto_first, refl, subst, suc, sym, take}
+use Rattle.textwrap_base.proofs.Common.{map, nat_lt, ne_eqb, onto_first, refl, subst, sym, take}
 use Rattle.textwrap_base.proofs.Common.{◌==◌, ◌&&◌, ◌||◌, ◌/◌, not, ◌∙◌}
 use Rattle.textwrap_base.proofs.Lists.Parts.{all-left, all-right, flat}
 use Rattle.std.specs.Prelude.{◌%◌}

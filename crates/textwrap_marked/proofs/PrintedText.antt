@@ -2,7 +2,7 @@
 use Rattle.textwrap_base.proofs.Common.{◌≡◌, ◌≢◌, ℕ, ◌-◌, ◌&&◌, Bool, true, false, cond, List, []}
 use Rattle.textwrap_base.proofs.Common.{◌∷◌, ◌++◌, All, All-append, All-cons, All-head, All-nil, All-tail}
 use Rattle.textwrap_base.proofs.Common.{ap, append-nil, append_assoc, arith, codes, drop, ends_with, flat_map}
-use Rattle.textwrap_base.proofs.Common.{join_with_byte, length, map, nat_eq, nat_lt, refl, subst, suc, sym, ◌∙◌, ◌==◌}
+use Rattle.textwrap_base.proofs.Common.{join_with_byte, length, nat_eq, nat_lt, refl, subst, suc, sym, ◌∙◌, ◌==◌}
 use Rattle.textwrap_base.proofs.Common.{eqb-true, false_from_ne_true, true≢false, All-weaker}
 use Rattle.textwrap_base.proofs.Lists.Parts.{all-left, all-right}
 use Rattle.textwrap_marked.proofs.AnewLines.{return-feedless}

@@ -12,7 +12,7 @@ use Rattle.textwrap_marked.proofs.LaterLines.{bullets-none}
 use Rattle.textwrap_marked.proofs.Letterless.{box-plain}
 use Rattle.textwrap_marked.proofs.LineKinds.{one_if}
 use Rattle.textwrap_marked.proofs.LineWords.{gap, shown, spread}
-use Rattle.textwrap_marked.proofs.OpenBehind.{and-left, none-any, not-yes, text-letter, text-no-sign, text-other}
+use Rattle.textwrap_marked.proofs.OpenBehind.{and-left, none-any, not-yes, text-no-sign, text-other}
 use Rattle.textwrap_marked.proofs.SpacedBack.{AreSpaced, IsSpaced, IsWhite}
 use Rattle.textwrap_marked.proofs.WordsIn.{IsPlain}
 use Rattle.textwrap_marked.specs.Marks.{is_among, is_bullet, is_comment_at, is_quote}
@@ -20,7 +20,7 @@ use Rattle.textwrap_marked.specs.Prefixes.{blanks, quotes_len}
 use Rattle.textwrap_marked.specs.Signs.{begins_text, first_white}
 use Rattle.textwrap_marked.specs.Signs.{first_word, front_of, has_columns, is_column_word, is_gap, last_of}
 use Rattle.textwrap_marked.specs.Signs.{is_sign_byte, last_white, last_word, may_go_on, opens_paragraph}
-use Rattle.textwrap_marked.specs.Words.{contains, has_bytes, has_letter, is_made_of, spaced_text, SpacedText}
+use Rattle.textwrap_marked.specs.Words.{has_bytes, is_made_of, spaced_text, SpacedText}
 use Rattle.textwrap_marked.specs.declared.options.ReflowOptions.{ReflowOptions}
 
 -- a gap is white

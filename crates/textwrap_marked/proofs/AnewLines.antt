@@ -122,6 +122,14 @@ kept-anew e returns [] = refl
 kept-anew e returns (line ∷ lines) =
     ap₂ (λ a b. a ++ b) (anew-kept e returns line) (kept-anew e returns lines)
 
+-- an ending is a carriage return, if it has one, and a line feed
+pub end-parts : (returns fed : Bool)
+    → ending_if fed (return_if returns ++ 10 ∷ []) ≡ return_if (returns && fed) ++ ending_if fed (10 ∷ [])
+end-parts true true = refl
+end-parts true false = refl
+end-parts false true = refl
+end-parts false false = refl
+
 pub anew-text : (e : Option LineEnding) (returns : Bool) → IsTold e returns → (raw : List ℕ) (fed : Bool)
     (line : LineText) → line.raw ≡ raw → line.fed ≡ fed
     → kept_line e line ≡ anew_raw e returns fed raw ++ ending_if fed (10 ∷ [])
@@ -129,24 +137,8 @@ anew-text None returns told raw fed line r f = ap₂ (λ a b. a ++ ending_if b (
 anew-text (Some e) returns told raw fed line r f =
     ap₂ (λ a b. without_returns a ++ ending_if b (ending_bytes e)) r f
     ∙ ap (λ b. without_returns raw ++ ending_if fed b) (bytes-by e ∙ ap (λ b. return_if b ++ 10 ∷ []) told)
-    ∙ parts fed
-  where
-    yes : (b : Bool) → b ≡ (b && true)
-    yes true = refl
-    yes false = refl
-
-    none : (b : Bool) → false ≡ (b && false)
-    none true = refl
-    none false = refl
-
-    parts : (fed : Bool) → without_returns raw ++ ending_if fed (return_if returns ++ 10 ∷ [])
-        ≡ (without_returns raw ++ return_if (returns && fed)) ++ ending_if fed (10 ∷ [])
-    parts true =
-        ap (λ b. without_returns raw ++ (return_if b ++ 10 ∷ [])) (yes returns)
-        ∙ sym (append_assoc (without_returns raw) (return_if (returns && true)) (10 ∷ []))
-    parts false =
-        ap (λ b. without_returns raw ++ return_if b) (none returns)
-        ∙ sym (append-nil (without_returns raw ++ return_if (returns && false)))
+    ∙ ap (λ t. without_returns raw ++ t) (end-parts returns fed)
+    ∙ sym (append_assoc (without_returns raw) (return_if (returns && fed)) (ending_if fed (10 ∷ [])))
 
 -- ---- several of them
 

@@ -4,6 +4,7 @@ use Rattle.textwrap_base.proofs.Common.{◌∷◌, ◌++◌, ◌==◌, All, All-
 use Rattle.textwrap_base.proofs.Common.{All-tail, All-take, ap, codes, length, map, nat_lt, refl, slice_split, suc, subst}
 use Rattle.textwrap_base.proofs.Common.{join_with_byte, onto_first, suffix_len, sym, zero, ◌∙◌}
 use Rattle.textwrap_base.proofs.Lists.Parts.{all-left, all-right}
+use Rattle.std.proofs.lemmas.List.Elements.{All-replicate}
 use Rattle.std.proofs.lemmas.List.Splits.{slice_split_at, slice_split_none}
 use Rattle.textwrap_words.specs.Units.{text_width}
 use Rattle.textwrap_marked.proofs.LaterLines.{line-read}
@@ -46,8 +47,7 @@ text-of-words (w ∷ ws) all =
     (text-of-words ws (All-tail IsFeedlessWord w ws all))
 
 blanks-feedless : (n : ℕ) → IsFeedless (blanks n)
-blanks-feedless zero = All-nil NoFeed
-blanks-feedless (suc n) = All-cons NoFeed 32 (blanks n) refl (blanks-feedless n)
+blanks-feedless n = All-replicate NoFeed n 32 refl
 
 bullets-feedless : (bs : List SpacedText) → All IsFeedlessWord bs → IsFeedless (hanging_bullets bs)
 bullets-feedless [] all = All-nil NoFeed

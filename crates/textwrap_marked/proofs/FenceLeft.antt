@@ -7,6 +7,7 @@ use Rattle.textwrap_base.proofs.Common.{nat_eq, None, Option, refl, Some, starts
 use Rattle.textwrap_base.proofs.Common.{suffix_len, length-append, sym, take-append-drop}
 use Rattle.textwrap_base.proofs.Common.{true≢false, ⊤, ◌∙◌}
 use Rattle.textwrap_base.proofs.Lists.Parts.{all-right, starts_with-rest, starts_with-true}
+use Rattle.std.proofs.Math.Bool.{or-true}
 use Rattle.std.proofs.lemmas.List.{get_or-reverse}
 use Rattle.std.proofs.lemmas.List.Sums.{prefix_len_passes, suffix_len-le-length}
 use Rattle.textwrap_marked.proofs.FenceMarks.{AreMarkWords, AreSafeMarks, behind-lead, behind-words}
@@ -15,6 +16,7 @@ use Rattle.textwrap_marked.proofs.FenceMarks.{mark-first}
 use Rattle.textwrap_marked.proofs.HangingKinds.{before-full, full-before, IsFull}
 use Rattle.textwrap_marked.proofs.LaterLines.{IsRead}
 use Rattle.textwrap_marked.proofs.LineKinds.{one_if}
+use Rattle.textwrap_marked.proofs.OpenBehind.{not-yes}
 use Rattle.textwrap_marked.proofs.ParagraphLines.{regroup, text-parts}
 use Rattle.textwrap_marked.proofs.SpacedBack.{AreSpaced, IsInk, IsLineText, IsSpaced, IsWhite}
 use Rattle.textwrap_marked.proofs.SpacedBack.{line-text, spaced-back}
@@ -144,10 +146,6 @@ left-by fence raw is = cut (is_left_by fence raw) refl
     cut true left = left
     cut false left = absurd (never (sym (ap (λ b. cond b None (Some fence)) left) ∙ is))
 
-not-true : (b : Bool) → not b ≡ true → b ≡ false
-not-true false is = refl
-not-true true is = sym is
-
 module _ (options : ReflowOptions) (in_block : Bool) (marks : List SpacedText) (word lead : List ℕ)
     (full : All IsFull marks) (plain : IsPlain word) (white : All IsWhite lead)
     (other : length marks ≡ 0 → in_block ≡ false → is_comment_at options false word ≡ true → ⊥) where
@@ -181,7 +179,7 @@ module _ (options : ReflowOptions) (in_block : Bool) (marks : List SpacedText) (
       outside : starts_with nat_eq (spaced_text begun ++ rest) fence.marks ≡ false
       outside =
           sym (ap (λ l. starts_with nat_eq l fence.marks) (behind-begun rest))
-          ∙ not-true (starts_with nat_eq (behind_white (lead ++ (spaced_text begun ++ rest))) fence.marks)
+          ∙ not-yes (starts_with nat_eq (behind_white (lead ++ (spaced_text begun ++ rest))) fence.marks)
           left
 
       parted : Splits (spaced_text begun) tail fence.marks
@@ -201,10 +199,6 @@ module _ (options : ReflowOptions) (in_block : Bool) (marks : List SpacedText) (
 pub returned : (raw : List ℕ) → EndsWord (drop (length raw - suffix_len is_return raw) raw)
 returned raw = cut (suffix_len is_return raw) refl
   where
-    either : (b : Bool) → (b || true) ≡ true
-    either true = refl
-    either false = refl
-
     cut : (s : ℕ) → suffix_len is_return raw ≡ s
         → EndsWord (drop (length raw - suffix_len is_return raw) raw)
     cut zero is =
@@ -217,7 +211,7 @@ returned raw = cut (suffix_len is_return raw) refl
         sym (ap is_return (get_or-reverse raw m 0 (omega (arith, is, le)) ∙ ap (λ k. get_or raw k 0) place))
         ∙ prefix_len_passes is_return (reverse raw) m 0 (omega (arith, is)) in
         subst EndsWord (sym (drop_more raw n 0 (omega (arith, is, le))))
-        (ap (λ b. is_white (get_or raw n 0) || b) passes ∙ either (is_white (get_or raw n 0)))
+        (ap (λ b. is_white (get_or raw n 0) || b) passes ∙ or-true (is_white (get_or raw n 0)))
 
 -- what follows the first word of a line's text
 pub text-tail : (raw lead : List ℕ) (list ws : List SpacedText) → 0 < length ws

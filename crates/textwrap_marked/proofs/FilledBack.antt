@@ -5,6 +5,7 @@ use Rattle.textwrap_base.proofs.Common.{inr, ap, append-nil, append_assoc, arith
 use Rattle.textwrap_base.proofs.Common.{length, lt-ltb, map, nat_lt, None, refl, subst, sym, ◌∙◌}
 use Rattle.textwrap_base.proofs.Lists.Parts.{all-right, flat}
 use Rattle.std.proofs.Common.{ap₂}
+use Rattle.std.proofs.Math.Bool.{and-true}
 use Rattle.std.proofs.lemmas.Grind.{flat_map-append}
 use Rattle.textwrap_marked.proofs.AnewLines.{IsTold}
 use Rattle.textwrap_marked.proofs.BegunAlike.{AreBegun, IsInPlace, return-ends}
@@ -21,6 +22,7 @@ use Rattle.textwrap_marked.proofs.LineTests.{letter-no-rule}
 use Rattle.textwrap_marked.proofs.LineWords.{all_shown, AreCutInto, gap, MayPart, spread}
 use Rattle.textwrap_marked.proofs.NewBlock.{block_of, first-of-words, first_of, IsParagraph, renew}
 use Rattle.textwrap_marked.proofs.NewLines.{here-words, later_raws, line_raw, raw-text, returns_at, text-ends, text_end}
+use Rattle.textwrap_marked.proofs.NewLines.{end-white}
 use Rattle.textwrap_marked.proofs.OpenBehind.{behind_text, text-letter}
 use Rattle.textwrap_marked.proofs.ParagraphLines.{first-begins, first-parts, first-text, first-unfenced}
 use Rattle.textwrap_marked.proofs.ParagraphLines.{regroup, text-parts}
@@ -74,21 +76,12 @@ module _ (justify : Bool) (gaps : ℕ → ℕ) where
       let rest = spaced_text (spread justify gaps (next ∷ words) end) in
       (white ++ rest, append_assoc word white rest, refl)
 
-end-white : (end : List ℕ) → All IsWhite end → (lines : List (List (List ℕ)))
-    → All IsWhite (text_end end lines)
-end-white end white [] = white
-end-white end white (line ∷ lines) = All-nil IsWhite
-
 -- where lines follow, the ending is the one that they have
 followed : (justify : Bool) (wide : ℕ → ℕ → ℕ) (returns : Bool) (end hanging : List ℕ)
     (left : List (List ℕ)) (ls : List (List (List ℕ))) → let more = returns && nat_lt 0 (length left) in
     nat_lt 0 (length (later_raws justify wide returns more end hanging ls ++ left)) ≡ true
     → returns_at returns more ls ≡ returns
-followed justify wide returns end hanging left [] some = ap (λ b. returns && b) some ∙ same returns
-  where
-    same : (b : Bool) → (b && true) ≡ b
-    same true = refl
-    same false = refl
+followed justify wide returns end hanging left [] some = ap (λ b. returns && b) some ∙ and-true returns
 followed justify wide returns end hanging left (line ∷ ls) some = refl
 
 cut-some : (options : ReflowOptions) (starred : Bool) (lines : List (List (List ℕ)))

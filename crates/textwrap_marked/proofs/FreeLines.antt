@@ -4,6 +4,7 @@ use Rattle.textwrap_base.proofs.Common.{◌∷◌, ap, arith, cases_Bool, codes,
 use Rattle.textwrap_base.proofs.Common.{refl, Some, sym, true≢false, ◌∙◌}
 use Rattle.std.specs.Prelude.{bytes_eq, is_some}
 use Rattle.std.specs.Str.{chars}
+use Rattle.std.proofs.Math.Bool.{and-false}
 use Rattle.textwrap_marked.proofs.LineKinds.{hanging_of, has_opening_in, Kinds, line_by}
 use Rattle.textwrap_marked.proofs.Letterless.{dollar-plain, prompt-plain}
 use Rattle.textwrap_marked.proofs.OpenBehind.{behind_text, no-columns, opened-none, passed-is, text-other}
@@ -116,17 +117,13 @@ module _ (options : ReflowOptions) (state : StateText) (raw : List ℕ) (fed : B
       ∙ text-other starred first (codes ">>>") are.begins prompt-plain in
       let prompts : is_prompted state.prompted k.words ≡ false =
       ap (λ b. has_words k.words && (b || is_prompt first)) at.prompt
-      ∙ ap (λ b. has_words k.words && b) prompt ∙ none (has_words k.words) in
+      ∙ ap (λ b. has_words k.words && b) prompt ∙ and-false (has_words k.words) in
       passed-is state (line_by options state raw fed k) (block_at state k)
       (some-none state.fence at.fence) at.level
       (opened-none starred k.words are.begins (no-columns options.justify k.words are.columns))
       (begun starred k.words are.begins) prompts
       (block state.in_block (has_opening_in k.comments) (closes_block k.words))
     where
-      none : (b : Bool) → (b && false) ≡ false
-      none true = refl
-      none false = refl
-
       block : (i o c : Bool)
           → cond i (not c) (true && (o && not c)) ≡ ((i || o) && not c)
       block true o c = refl

@@ -4,6 +4,8 @@ use Rattle.textwrap_base.proofs.Common.{[], ◌∷◌, ◌++◌, All, All-append
 use Rattle.textwrap_base.proofs.Common.{All-tail, ap, arith}
 use Rattle.textwrap_base.proofs.Common.{zero, length, refl, subst, sym, take, true≢false, ◌∙◌}
 use Rattle.textwrap_base.proofs.Lists.Parts.{all-left, all-right}
+use Rattle.std.proofs.Math.Bool.{or-false}
+use Rattle.std.proofs.lemmas.List.Elements.{All-replicate}
 use Rattle.textwrap_words.specs.Units.{text_width}
 use Rattle.textwrap_marked.proofs.HangingKinds.{AreMarks, end-text, end_comments, end_lead, hang-text}
 use Rattle.textwrap_marked.proofs.HangingKinds.{hang_lead, hang_marks, IsFull, last-all, last-full, onto_last}
@@ -16,8 +18,7 @@ use Rattle.textwrap_marked.specs.Words.{spaced_text, SpacedText}
 use Rattle.textwrap_marked.specs.declared.options.ReflowOptions.{ReflowOptions}
 
 blanks-white : (n : ℕ) → All IsWhite (blanks n)
-blanks-white zero = All-nil IsWhite
-blanks-white (suc n) = All-cons IsWhite 32 (blanks n) refl (blanks-white n)
+blanks-white n = All-replicate IsWhite n 32 refl
 
 pub bullets-white : (bs : List SpacedText) → All IsFull bs → All IsWhite (hanging_bullets bs)
 bullets-white [] full = All-nil IsWhite
@@ -72,10 +73,6 @@ opening-outside : (options : ReflowOptions) (in_block : Bool) (word : List ℕ)
 opening-outside options false word comment opening = refl
 opening-outside options true word comment opening =
     absurd (true≢false (sym opening ∙ star-no-opening word comment))
-
-pub or-false : (b : Bool) → (b || false) ≡ b
-or-false true = refl
-or-false false = refl
 
 abbrev marks_by : SpacedText → Bool → Bool → List SpacedText
 marks_by c o b = cond o (cond b [] (star c ∷ [])) (c ∷ [])

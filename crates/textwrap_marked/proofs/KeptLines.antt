@@ -4,6 +4,7 @@ use Rattle.textwrap_base.proofs.Common.{All, All-cons, All-head, All-tail, ap, a
 use Rattle.textwrap_base.proofs.Common.{codes, drop, flat_map, inl, inr, join_with_byte, length, lt-ltb, map}
 use Rattle.textwrap_base.proofs.Common.{nat_lt, None, Option, refl, Some, suc, suffix_len, sym, take-append-drop, ⊤, ◌∙◌}
 use Rattle.std.proofs.Common.{ap₂}
+use Rattle.std.proofs.Math.Bool.{and-true}
 use Rattle.std.specs.Prelude.{bytes_eq}
 use Rattle.textwrap_lines.specs.declared.line_ending.LineEnding.{LineEnding}
 use Rattle.textwrap_marked.proofs.AnewLines.{anew, anew-content, anew-feedless, anew-line, anew-text, anew_raw}
@@ -31,8 +32,9 @@ pub record IsHeadAlike (line other : LineText) : Type 0 where
   pub rule : is_rule other.words ≡ is_rule line.words
   pub opens : opens_paragraph (first_word other.words) ≡ opens_paragraph (first_word line.words)
 
-pub head-same : (line : LineText) → IsHeadAlike line line
-head-same line = record {
+-- whatever its bytes are
+pub head-same : (line : LineText) (raw : List ℕ) → IsHeadAlike line (record line { raw = raw })
+head-same line raw = record {
   prefix = refl;
   hangs = refl;
   field = refl;
@@ -61,7 +63,7 @@ title-heads line other (one ∷ lines) (two ∷ others) heads hangs =
 heads-behind : (lines rest others : List LineText) → AreHeads rest others
     → AreHeads (lines ++ rest) (lines ++ others)
 heads-behind [] rest others heads = heads
-heads-behind (line ∷ lines) rest others heads = head-same line
+heads-behind (line ∷ lines) rest others heads = head-same line line.raw
 
 pub some-behind : {X : Type 0} (kept more left : List X)
     → nat_lt 0 (length more) ≡ nat_lt 0 (length left)
@@ -93,16 +95,12 @@ anew-begun (Some e) returns fed raw raws news is same = inr (record {
   is = refl;
   old_ends = returned raw;
   new_ends = ends (returns && fed);
-  ends = λ some. content-return raw (returns && fed) ∙ ap (λ b. returns && b) (is ∙ some) ∙ whole returns;
+  ends = λ some. content-return raw (returns && fed) ∙ ap (λ b. returns && b) (is ∙ some) ∙ and-true returns;
 })
   where
     ends : (b : Bool) → EndsWord (return_if b)
     ends true = refl
     ends false = tt
-
-    whole : (b : Bool) → (b && true) ≡ b
-    whole true = refl
-    whole false = refl
 
 module _ (options : ReflowOptions) (returns : Bool) (told : IsTold options.ending returns) where
   abbrev anew_lines : List LineText → List LineText
@@ -214,12 +212,5 @@ module _ (options : ReflowOptions) (returns : Bool) (told : IsTold options.endin
       anew-heads : (lines rest others : List LineText) → AreHeads rest others
           → AreHeads (lines ++ rest) (map (anew options.ending returns) lines ++ others)
       anew-heads [] rest others heads = heads
-      anew-heads (line ∷ lines) rest others heads = record {
-        prefix = refl;
-        hangs = refl;
-        field = refl;
-        chosen = refl;
-        apart = refl;
-        rule = refl;
-        opens = refl;
-      }
+      anew-heads (line ∷ lines) rest others heads =
+          head-same line (anew_raw options.ending returns line.fed line.raw)

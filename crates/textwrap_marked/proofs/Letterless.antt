@@ -12,7 +12,10 @@ use Rattle.textwrap_marked.specs.Marks.{is_among, is_comment_at, is_line_comment
 use Rattle.textwrap_marked.specs.Words.{contains, has_letter}
 use Rattle.textwrap_marked.specs.declared.options.ReflowOptions.{ReflowOptions}
 
-pub dollar-plain : has_letter (codes "$") ≡ false
+abbrev pub IsPlainMark : List ℕ → Type 0
+IsPlainMark mark = has_letter mark ≡ false
+
+pub dollar-plain : IsPlainMark (codes "$")
 unfolding chars is_alphabetic in_ranges alphabetic_ranges is_numeric numeric_ranges
 dollar-plain = refl
 
@@ -39,69 +42,23 @@ lettered-other word other is none =
     false_from_ne_true (bytes_eq word other) (λ same.
     true≢false (sym is ∙ ap has_letter ((bytes_eq-Decides word other).0 same) ∙ none))
 
-slashes : has_letter (codes "//") ≡ false
+-- the comment marks of lines
+comments-plain : IsPlainMark (codes "//") × IsPlainMark (codes "///") × IsPlainMark (codes "//!")
+    × IsPlainMark (codes "#") × IsPlainMark (codes "--") × IsPlainMark (codes ";")
+    × IsPlainMark (codes ";;") × IsPlainMark (codes ";;;") × IsPlainMark (codes ";;;;")
+    × IsPlainMark (codes "%") × IsPlainMark (codes "%%") × IsPlainMark (codes "%%%")
 unfolding chars is_alphabetic in_ranges alphabetic_ranges is_numeric numeric_ranges
-slashes = refl
-
-three_slashes : has_letter (codes "///") ≡ false
-unfolding chars is_alphabetic in_ranges alphabetic_ranges is_numeric numeric_ranges
-three_slashes = refl
-
-slashes_mark : has_letter (codes "//!") ≡ false
-unfolding chars is_alphabetic in_ranges alphabetic_ranges is_numeric numeric_ranges
-slashes_mark = refl
-
-hash : has_letter (codes "#") ≡ false
-unfolding chars is_alphabetic in_ranges alphabetic_ranges is_numeric numeric_ranges
-hash = refl
-
-dashes : has_letter (codes "--") ≡ false
-unfolding chars is_alphabetic in_ranges alphabetic_ranges is_numeric numeric_ranges
-dashes = refl
-
-semi : has_letter (codes ";") ≡ false
-unfolding chars is_alphabetic in_ranges alphabetic_ranges is_numeric numeric_ranges
-semi = refl
-
-semis : has_letter (codes ";;") ≡ false
-unfolding chars is_alphabetic in_ranges alphabetic_ranges is_numeric numeric_ranges
-semis = refl
-
-three_semis : has_letter (codes ";;;") ≡ false
-unfolding chars is_alphabetic in_ranges alphabetic_ranges is_numeric numeric_ranges
-three_semis = refl
-
-four_semis : has_letter (codes ";;;;") ≡ false
-unfolding chars is_alphabetic in_ranges alphabetic_ranges is_numeric numeric_ranges
-four_semis = refl
-
-percent : has_letter (codes "%") ≡ false
-unfolding chars is_alphabetic in_ranges alphabetic_ranges is_numeric numeric_ranges
-percent = refl
-
-percents : has_letter (codes "%%") ≡ false
-unfolding chars is_alphabetic in_ranges alphabetic_ranges is_numeric numeric_ranges
-percents = refl
-
-three_percents : has_letter (codes "%%%") ≡ false
-unfolding chars is_alphabetic in_ranges alphabetic_ranges is_numeric numeric_ranges
-three_percents = refl
+comments-plain = (refl, refl, refl, refl, refl, refl, refl, refl, refl, refl, refl, refl)
 
 no-line-comment : (word : List ℕ) → has_letter word ≡ true → is_line_comment word ≡ false
-no-line-comment word is = rw (
-  lettered-other word (codes "//") is slashes,
-  lettered-other word (codes "///") is three_slashes,
-  lettered-other word (codes "//!") is slashes_mark,
-  lettered-other word (codes "#") is hash,
-  lettered-other word (codes "--") is dashes,
-  lettered-other word (codes ";") is semi,
-  lettered-other word (codes ";;") is semis,
-  lettered-other word (codes ";;;") is three_semis,
-  lettered-other word (codes ";;;;") is four_semis,
-  lettered-other word (codes "%") is percent,
-  lettered-other word (codes "%%") is percents,
-  lettered-other word (codes "%%%") is three_percents,
-) refl
+no-line-comment word is =
+    let (a, b, c, d, e, f, g, h, i, j, k, l) = comments-plain in
+    let other : (mark : List ℕ) → IsPlainMark mark → bytes_eq word mark ≡ false =
+    λ mark none. lettered-other word mark is none in
+    rw (
+      other _ a, other _ b, other _ c, other _ d, other _ e, other _ f, other _ g, other _ h, other _ i,
+      other _ j, other _ k, other _ l,
+    ) refl
 
 -- nor is it an opening, or another comment mark
 pub no-comment : (options : ReflowOptions) (in_block : Bool) (word : List ℕ) → has_letter word ≡ true

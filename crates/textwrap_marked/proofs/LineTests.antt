@@ -4,6 +4,7 @@ use Rattle.textwrap_base.proofs.Common.{List, [], ◌∷◌, ◌==◌, ap, arith
 use Rattle.textwrap_base.proofs.Common.{cases_Bool, codes, ends_with, length, list_all}
 use Rattle.textwrap_base.proofs.Common.{list_any, nat_eq, nat_lt, nat_tests, None, refl, Some, sym, true≢false, eqb-true, ◌∙◌}
 use Rattle.std.proofs.lemmas.Slice.Eq.{bytes_eq-Decides}
+use Rattle.std.proofs.Math.Bool.{and-false}
 use Rattle.std.specs.Prelude.{bytes_eq, nat_le}
 use Rattle.std.specs.Str.{chars}
 use Rattle.textwrap_marked.proofs.FreeLines.{IsOpen}
@@ -65,13 +66,9 @@ never-deeper by d some =
     elim (has_bytes d.marks) as (λ b. cond b (bytes_eq d.marks d.marks && d.lead == d.lead
     && nat_le by (d.behind - d.behind)) (nat_le by (d.lead - d.lead)) ≡ false) [
       | true ↦ ap (λ t. bytes_eq d.marks d.marks && d.lead == d.lead && t) (no-less by d.behind some)
-          ∙ none (bytes_eq d.marks d.marks && d.lead == d.lead)
+          ∙ and-false (bytes_eq d.marks d.marks && d.lead == d.lead)
       | false ↦ no-less by d.lead some
     ]
-  where
-    none : (b : Bool) → (b && false) ≡ false
-    none true = refl
-    none false = refl
 
 depth-some : (words : List SpacedText) → 0 < deeper_by words
 depth-some words =

@@ -7,7 +7,7 @@ use Rattle.textwrap_marked.proofs.HangingForms.{IsHanging}
 use Rattle.textwrap_marked.proofs.LaterLines.{IsRead, line-read}
 use Rattle.textwrap_marked.proofs.LineKinds.{kinds, line-is, line_by}
 use Rattle.textwrap_marked.proofs.LineWords.{AreCutInto, MayPart, spread}
-use Rattle.textwrap_marked.proofs.NewLines.{AreNewBehind, here-words, later_raws, line_raw, new-behind}
+use Rattle.textwrap_marked.proofs.NewLines.{AreNewBehind, end-white, here-words, later_raws, line_raw, new-behind}
 use Rattle.textwrap_marked.proofs.NewLines.{raw-text, returns_at, text_end}
 use Rattle.textwrap_marked.proofs.OpenBehind.{behind_text}
 use Rattle.textwrap_marked.proofs.ParagraphLines.{first-begins, first-hangs, first-keyed, first-new}
@@ -125,10 +125,6 @@ module _ (options : ReflowOptions) (state : StateText) (raw : List ℕ) (first :
     abbrev pub more_of : Bool
     more_of = returns && nat_lt 0 (length left)
 
-    end-white : (ls : List (List (List ℕ))) → All IsWhite (text_end end ls)
-    end-white [] = white
-    end-white (line ∷ ls) = All-nil IsWhite
-
     pub renew : (word : List ℕ) (words later : List (List ℕ)) (ls : List (List (List ℕ)))
         → MayPart options first_of.starred (word ∷ words) later
         → AreCutInto options first_of.starred later ls
@@ -171,8 +167,8 @@ module _ (options : ReflowOptions) (state : StateText) (raw : List ℕ) (first :
         let (new, alike) = first-new options state raw p.fed p.lead p.cs p.qs p.bs p.ws p.has p.apart own
         new_raw (nat_lt 0 (length raws))
         (raw-text options.justify gaps first_of.prefix word words (text_end end ls) (returns_at returns more_of ls)
-        mine.plain mine.columns (end-white ls))
-        (spread-spaced options.justify gaps (word ∷ words) (text_end end ls) mine.plain (end-white ls))
+        mine.plain mine.columns (end-white end white ls))
+        (spread-spaced options.justify gaps (word ∷ words) (text_end end ls) mine.plain (end-white end white ls))
         (omega (arith, spread-len options.justify gaps (word ∷ words) (text_end end ls))) same free in (
           alike,
           new,

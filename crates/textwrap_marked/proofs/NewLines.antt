@@ -94,6 +94,11 @@ abbrev pub text_end : List ℕ → List (List (List ℕ)) → List ℕ
 text_end end [] = end
 text_end end (line ∷ lines) = []
 
+pub end-white : (end : List ℕ) → All IsWhite end → (lines : List (List (List ℕ)))
+    → All IsWhite (text_end end lines)
+end-white end white [] = white
+end-white end white (line ∷ lines) = All-nil IsWhite
+
 abbrev pub returns_at : Bool → Bool → List (List (List ℕ)) → Bool
 returns_at returns more [] = more
 returns_at returns more (line ∷ lines) = returns
@@ -139,10 +144,6 @@ module _ (options : ReflowOptions) (in_block starred : Bool) (wide : ℕ → ℕ
     -- words of a line with these gaps
     abbrev laid : (ℕ → ℕ) → List (List ℕ) → List ℕ → List SpacedText
     laid gaps words tail = spread options.justify gaps words tail
-
-    end-white : (lines : List (List (List ℕ))) → All IsWhite (end_of lines)
-    end-white [] = white
-    end-white (line ∷ lines) = All-nil IsWhite
 
     pub record AreNewBehind (state : StateText) (line : LineText) (words : List (List ℕ))
         (raws : List (List ℕ)) : Type 0 where
@@ -336,8 +337,8 @@ module _ (options : ReflowOptions) (in_block starred : Bool) (wide : ℕ → ℕ
         later-new options in_block hanging lead ds rs hang here raw (nat_lt 0 (length raws))
         (laid next_gaps others tail) block
         (raw-text options.justify next_gaps hanging next more_words tail (returns_of lines) own_words.plain own_words.columns
-        (end-white lines))
-        (spread-spaced options.justify next_gaps others tail own_words.plain (end-white lines))
+        (end-white end white lines))
+        (spread-spaced options.justify next_gaps others tail own_words.plain (end-white end white lines))
         (no-mark options in_block starred options.justify next_gaps next more_words tail goer.begins goer.bullet
         (no-comment options in_block next (text-letter starred next goer.begins) goer.marker))
         (open-behind options in_block hanging (laid gaps own []))

@@ -4,11 +4,12 @@ use Rattle.textwrap_base.proofs.Common.{List, [], ◌∷◌, ◌++◌, All, ap, 
 use Rattle.textwrap_base.proofs.Common.{length, refl, subst, sym, ◌∙◌, ◌==◌}
 use Rattle.textwrap_base.proofs.Common.{All-weaker, eqb-true, false_from_ne_true, list_any, true≢false}
 use Rattle.textwrap_base.proofs.Lists.Parts.{all-right}
+use Rattle.std.proofs.Math.Bool.{or-false}
 use Rattle.std.proofs.lemmas.Grind.{flat_map-append}
 use Rattle.std.specs.Prelude.{None}
 use Rattle.textwrap_marked.proofs.FreeLines.{apart-free, AreFree, block_at, begun, field_of, free-apart}
 use Rattle.textwrap_marked.proofs.FreeLines.{IsOpen, some-none, starred_at}
-use Rattle.textwrap_marked.proofs.HangingForms.{bullets-white, IsHanging, hanging-is, or-false}
+use Rattle.textwrap_marked.proofs.HangingForms.{bullets-white, IsHanging, hanging-is}
 use Rattle.textwrap_marked.proofs.HangingKinds.{before-full, full-before, hangs-same, HasNoMark, IsFull}
 use Rattle.textwrap_marked.proofs.HangingKinds.{kinds-same, marks-kinds, opens-none}
 use Rattle.textwrap_marked.proofs.LaterLines.{IsOfText, IsRead, kinds-first, line-read, text-line, words-some}

@@ -5,7 +5,7 @@ use Rattle.textwrap_base.proofs.Common.{ap, append-nil, append_assoc, arith, cod
 use Rattle.textwrap_base.proofs.Common.{join_with_byte, length, nat_eq, nat_lt, refl, subst, suc, sym, ◌∙◌, ◌==◌}
 use Rattle.textwrap_base.proofs.Common.{eqb-true, false_from_ne_true, true≢false, All-weaker}
 use Rattle.textwrap_base.proofs.Lists.Parts.{all-left, all-right}
-use Rattle.textwrap_marked.proofs.AnewLines.{return-feedless}
+use Rattle.textwrap_marked.proofs.AnewLines.{end-parts, return-feedless}
 use Rattle.textwrap_marked.proofs.Feedless.{IsFeedless, NoFeed}
 use Rattle.textwrap_marked.proofs.KeptLines.{join-more}
 use Rattle.textwrap_marked.proofs.LineWords.{all_shown, AreCutInto, gap, shown, spread}
@@ -92,19 +92,6 @@ module _ (justify : Bool) (wide : ℕ → ℕ → ℕ) (returns : Bool) (end han
   abbrev tail : List ℕ
   tail = (end ++ ending_if (nat_lt 0 (length left)) ending) ++ join_with_byte 10 left
 
-  end-parts : (fed : Bool)
-      → ending_if fed ending ≡ return_if (returns && fed) ++ ending_if fed (10 ∷ [])
-  end-parts true = ap (λ b. return_if b ++ 10 ∷ []) (yes returns)
-    where
-      yes : (b : Bool) → b ≡ (b && true)
-      yes true = refl
-      yes false = refl
-  end-parts false = ap (λ b. return_if b ++ []) (none returns)
-    where
-      none : (b : Bool) → false ≡ (b && false)
-      none true = refl
-      none false = refl
-
   pub text-joined : (lines : List (List (List ℕ))) (prefix word : List ℕ) (words : List (List ℕ))
       → All (λ l. l ≢ []) lines
       → ((prefix ++ shown justify (wide (length lines)) (word ∷ words))
@@ -118,7 +105,7 @@ module _ (justify : Bool) (wide : ℕ → ℕ → ℕ) (returns : Bool) (end han
       let grouped : ((prefix ++ text) ++ []) ++ ((end ++ (return_if more ++ ending_if fed (10 ∷ []))) ++ rest)
       ≡ (((prefix ++ (text ++ end)) ++ return_if more) ++ ending_if fed (10 ∷ [])) ++ rest =
       simp (append_assoc, append-nil) in
-      ap (λ e. ((prefix ++ text) ++ []) ++ ((end ++ e) ++ rest)) (end-parts fed)
+      ap (λ e. ((prefix ++ text) ++ []) ++ ((end ++ e) ++ rest)) (end-parts returns fed)
       ∙ grouped
       ∙ ap (λ t. (((prefix ++ t) ++ return_if more) ++ ending_if fed (10 ∷ [])) ++ rest)
       (sym (spread-end justify (wide 0) word words end))

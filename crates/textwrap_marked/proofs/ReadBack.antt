@@ -6,13 +6,13 @@ use Rattle.textwrap_base.proofs.Common.{map, nat_lt, refl, subst, sym, true≢fa
 use Rattle.textwrap_base.proofs.Lists.Parts.{all-left, all-right, flat}
 use Rattle.std.proofs.Common.{ap₂}
 use Rattle.std.proofs.lemmas.Grind.{flat_map-append}
-use Rattle.textwrap_marked.proofs.AnewLines.{anew, IsTold, kept-anew, last-anew, one-anew}
+use Rattle.textwrap_marked.proofs.AnewLines.{anew, anew_raw, IsTold, kept-anew, last-anew, one-anew}
 use Rattle.textwrap_marked.proofs.BegunAlike.{AreBegun}
 use Rattle.textwrap_marked.proofs.BlockOrder.{AreBlocks}
 use Rattle.textwrap_marked.proofs.BlocksAlike.{part-cons, part_of, stops-same}
 use Rattle.textwrap_marked.proofs.Feedless.{IsFeedless}
 use Rattle.textwrap_marked.proofs.FenceMarks.{IsSafe}
-use Rattle.textwrap_marked.proofs.KeptLines.{AreHeads, IsHeadAlike, keep}
+use Rattle.textwrap_marked.proofs.KeptLines.{AreHeads, head-same, keep}
 use Rattle.textwrap_marked.proofs.ReturnsOff.{return_if}
 use Rattle.textwrap_marked.proofs.TextBlocks.{last_line, read}
 use Rattle.textwrap_marked.specs.Blocks.{is_beside, stays}
@@ -64,6 +64,7 @@ module _ (options : ReflowOptions) (returns : Bool) (told : IsTold options.endin
       let later = walks k.behind k.left back k.reads laid k.safe (all-right IsFeedless k.kept k.left parts)
       in
       let last = last_line first lines in
+      let head = head-same first (anew_raw e returns first.fed first.raw) in
       let news = map (anew e returns) lines in record {
         again = k.news ++ later.again;
         blocks = (anew e returns first ∷ news) ∷ later.blocks;
@@ -79,13 +80,13 @@ module _ (options : ReflowOptions) (returns : Bool) (told : IsTold options.endin
           later.are,
         );
         same = part-cons e beside first (anew e returns first) lines news bs later.blocks
-            (head-anew first) are later.are later.heads later.same
+            head are later.are later.heads later.same
             (kept (stays (beside || is_beside first bs) first) stay);
         text_is = ap (λ l. l ++ back) is
             ∙ ap (λ l. flat_map (kept_line e) all ++ l) later.text_is ∙ k.text later.again later.some;
         feedless = All-append IsFeedless k.news later.again
             (k.feedless (all-left IsFeedless k.kept k.left parts)) later.feedless;
-        heads = head-anew first;
+        heads = head;
         some = k.fed_same later.again later.some ∙ ap (λ l. nat_lt 0 (length l)) (sym k.whole);
         begun = subst (λ l. AreBegun returns l (k.news ++ later.again)) (sym k.whole)
             (k.begun later.again later.some (omega arith));
@@ -95,17 +96,6 @@ module _ (options : ReflowOptions) (returns : Bool) (told : IsTold options.endin
             ∙ sym (ap (flat_map line_sense) k.whole ∙ flat_map-append line_sense k.kept k.left);
       }
     where
-      head-anew : (line : LineText) → IsHeadAlike line (anew options.ending returns line)
-      head-anew line = record {
-        prefix = refl;
-        hangs = refl;
-        field = refl;
-        chosen = refl;
-        apart = refl;
-        rule = refl;
-        opens = refl;
-      }
-
       kept : (b : Bool) → b ≡ true
           → IsSameBy options.ending b (part_of b first lines)
           (part_of b (anew options.ending returns first) (map (anew options.ending returns) lines))

@@ -3,9 +3,10 @@ use Rattle.textwrap_base.proofs.Common.{◌≡◌, ℕ, ◌<◌, ◌&&◌, ◌||
 use Rattle.textwrap_base.proofs.Common.{◌∷◌, ◌++◌, All, All-append, All-map, All-head, All-tail, ap, append-nil, arith, codes}
 use Rattle.textwrap_base.proofs.Common.{All-cons, All-nil, cases_Bool, flat_map, length, length-append, length-map, map, nat_lt, refl, subst, sym, ⊤, ◌∙◌}
 use Rattle.std.proofs.Common.{ap₂}
+use Rattle.std.proofs.Math.Bool.{or-false}
 use Rattle.std.proofs.lemmas.Slice.Eq.{bytes_eq-Decides}
 use Rattle.std.specs.Prelude.{bytes_eq}
-use Rattle.textwrap_marked.proofs.HangingForms.{IsHanging, or-false}
+use Rattle.textwrap_marked.proofs.HangingForms.{IsHanging}
 use Rattle.textwrap_marked.proofs.LaterLines.{IsOfText}
 use Rattle.textwrap_marked.proofs.LineSenses.{later-sense}
 use Rattle.textwrap_marked.proofs.OpenBehind.{any-none, behind_text, no-columns, or-left, or-right}

@@ -19,7 +19,7 @@ use Rattle.textwrap_marked.proofs.LineKinds.{one_if}
 use Rattle.textwrap_marked.proofs.OpenBehind.{not-yes}
 use Rattle.textwrap_marked.proofs.ParagraphLines.{regroup, text-parts}
 use Rattle.textwrap_marked.proofs.SpacedBack.{AreSpaced, IsInk, IsLineText, IsSpaced, IsWhite}
-use Rattle.textwrap_marked.proofs.SpacedBack.{line-text, spaced-back}
+use Rattle.textwrap_marked.proofs.SpacedBack.{line-text, spaced-back, spaced-first}
 use Rattle.textwrap_marked.proofs.WordsIn.{IsPlain}
 use Rattle.textwrap_marked.specs.Columns.{behind_white}
 use Rattle.textwrap_marked.specs.Fences.{FenceText, is_left_by}
@@ -68,10 +68,6 @@ word-spaced : (w : SpacedText) (vs : List SpacedText) → IsSpaced w → 0 < len
     → AreSpaced (w ∷ vs)
 word-spaced w [] is some are = is
 word-spaced w (v ∷ vs) is some are = (is, some, are)
-
-first-plain : (v : SpacedText) (vs : List SpacedText) → AreSpaced (v ∷ vs) → IsPlain v.word
-first-plain v [] are = are.word
-first-plain v (u ∷ vs) are = are.0.word
 
 module _ (options : ReflowOptions) (in_block : Bool) (marks ks : List SpacedText) (word : List ℕ)
     (full : All IsFull marks) (spaced : AreSpaced ks) (all : AreMarkWords options in_block ks)
@@ -125,10 +121,10 @@ module _ (options : ReflowOptions) (in_block : Bool) (marks ks : List SpacedText
       cut [] (v ∷ vs) text = inked v.word refl
         where
           inked : (w : List ℕ) → v.word ≡ w → ⊥
-          inked [] same = omega (arith, (first-plain v vs text.spaced).some, ap length same)
+          inked [] same = omega (arith, (spaced-first v vs text.spaced).word.some, ap length same)
           inked (x ∷ xs) same =
               let ink : is_white x ≡ false =
-              All-head IsInk x xs (subst (All IsInk) same (first-plain v vs text.spaced).ink) in
+              All-head IsInk x xs (subst (All IsInk) same (spaced-first v vs text.spaced).word.ink) in
               let eq : c ≡ x =
               ap first_byte (text.is ∙ ap (λ w. (w ++ v.white) ++ spaced_text vs) same) in
               true≢false (sym white ∙ ap is_white eq ∙ ink)
@@ -236,11 +232,7 @@ text-tail raw lead list (w ∷ ws) some is are =
     ends [] [] same are back = back
     ends [] (v ∷ vs) same are back = absurd (omega (arith, are.1, ap length same))
     ends (c ∷ cs) vs same are back =
-        ap (λ b. b || is_return c) (All-head IsWhite c cs (subst (All IsWhite) same (white-of vs are)))
-      where
-        white-of : (vs : List SpacedText) → AreSpaced (w ∷ vs) → All IsWhite w.white
-        white-of [] are = are.white
-        white-of (v ∷ vs) are = are.0.white
+        ap (λ b. b || is_return c) (All-head IsWhite c cs (subst (All IsWhite) same (spaced-first w vs are).white))
 
 pub still-left : (options : ReflowOptions) (state : StateText) (raw lead : List ℕ)
     (cs qs bs ws : List SpacedText) (starred : Bool) (tail : List ℕ)
@@ -274,7 +266,7 @@ still-left options state raw lead cs qs bs (w ∷ ws) starred tail read some beg
         → fence_at f ((lead ++ spaced_text (cs ++ (qs ++ bs))) ++ (w.word ++ tail)) ≡ None
     by_fence None safe left = refl
     by_fence (Some fence) safe left =
-        let plain = first-plain w ws parts.1 in
+        let plain = (spaced-first w ws parts.1).word in
         let list = cs ++ (qs ++ bs) in
         let apart = other cs qs bs read.have.comment in
         let whole =

@@ -10,7 +10,7 @@ use Rattle.textwrap_words.specs.Units.{text_width}
 use Rattle.textwrap_marked.proofs.HangingKinds.{AreMarks, end-text, end_comments, end_lead, hang-text}
 use Rattle.textwrap_marked.proofs.HangingKinds.{hang_lead, hang_marks, IsFull, last-all, last-full, onto_last}
 use Rattle.textwrap_marked.proofs.HangingKinds.{quote-no-star, quotes-are, star, star-no-opening}
-use Rattle.textwrap_marked.proofs.LineKinds.{hanging_of, has_opening_in, HaveKinds, kinds, one_if}
+use Rattle.textwrap_marked.proofs.LineKinds.{hanging_of, has_opening_in, HaveKinds, kinds, none-if, one_if, some-if}
 use Rattle.textwrap_marked.proofs.SpacedBack.{IsWhite, plain-one}
 use Rattle.textwrap_marked.specs.Marks.{is_comment_at, is_opening, is_quote}
 use Rattle.textwrap_marked.specs.Prefixes.{blanks, comment_len, hanging_bullets}
@@ -32,23 +32,11 @@ bullets-white (b ∷ bs) full =
 comment-one : (options : ReflowOptions) (in_block : Bool) (c : SpacedText) (ws : List SpacedText)
     (n : ℕ) → comment_len options in_block (c ∷ ws) ≡ suc n
     → is_comment_at options in_block c.word ≡ true
-comment-one options in_block c ws n is = cut (is_comment_at options in_block c.word) refl
-  where
-    cut : (b : Bool) → is_comment_at options in_block c.word ≡ b
-        → is_comment_at options in_block c.word ≡ true
-    cut true comment = comment
-    cut false comment =
-        let none : 0 ≡ suc n = sym (ap one_if comment) ∙ is in absurd (omega (arith, none))
+comment-one options in_block c ws n is = (some-if (is_comment_at options in_block c.word) 0 n is).0
 
 comment-none : (options : ReflowOptions) (in_block : Bool) (c : SpacedText) (ws : List SpacedText)
     → comment_len options in_block (c ∷ ws) ≡ 0 → is_comment_at options in_block c.word ≡ false
-comment-none options in_block c ws is = cut (is_comment_at options in_block c.word) refl
-  where
-    cut : (b : Bool) → is_comment_at options in_block c.word ≡ b
-        → is_comment_at options in_block c.word ≡ false
-    cut false comment = comment
-    cut true comment =
-        let one : 1 ≡ 0 = sym (ap one_if comment) ∙ is in absurd (omega (arith, one))
+comment-none options in_block c ws is = none-if (is_comment_at options in_block c.word) 0 0 is
 
 comment-most : (options : ReflowOptions) (in_block : Bool) (ws : List SpacedText)
     → comment_len options in_block ws ≤ 1

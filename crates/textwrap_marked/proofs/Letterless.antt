@@ -1,6 +1,6 @@
 -- Texts without a letter or digit.
-use Rattle.textwrap_base.proofs.Common.{◌≡◌, ℕ, ◌&&◌, not, Bool, true, false, arith, cases_Bool, codes}
-use Rattle.textwrap_base.proofs.Common.{List, nat_eq, refl, starts_with, sym, ap, ◌∙◌}
+use Rattle.textwrap_base.proofs.Common.{◌≡◌, ℕ, ◌&&◌, ◌==◌, not, Bool, true, false, [], ◌∷◌, and_parts, arith, cases_Bool, codes}
+use Rattle.textwrap_base.proofs.Common.{List, eqb-true, length, nat_eq, refl, starts_with, sym, ap, ◌∙◌}
 use Rattle.textwrap_base.proofs.Common.{false_from_ne_true, true≢false}
 use Rattle.std.proofs.lemmas.Slice.Eq.{bytes_eq-Decides}
 use Rattle.std.specs.Char.Unicode.Alphabetic.{is_alphabetic, alphabetic_ranges}
@@ -8,8 +8,8 @@ use Rattle.std.specs.Char.Unicode.Numeric.{is_numeric, numeric_ranges}
 use Rattle.std.specs.Char.Unicode.Rows.{in_ranges}
 use Rattle.std.specs.Prelude.{bytes_eq}
 use Rattle.std.specs.Str.{chars}
-use Rattle.textwrap_marked.specs.Marks.{is_among, is_comment_at, is_line_comment, is_opening}
-use Rattle.textwrap_marked.specs.Words.{contains, has_letter}
+use Rattle.textwrap_marked.specs.Marks.{is_among, is_comment_at, is_line_comment, is_opening, is_quote}
+use Rattle.textwrap_marked.specs.Words.{contains, has_bytes, has_letter, is_made_of}
 use Rattle.textwrap_marked.specs.declared.options.ReflowOptions.{ReflowOptions}
 
 abbrev pub IsPlainMark : List ℕ → Type 0
@@ -59,6 +59,23 @@ no-line-comment word is =
       other _ a, other _ b, other _ c, other _ d, other _ e, other _ f, other _ g, other _ h, other _ i,
       other _ j, other _ k, other _ l,
     ) refl
+
+-- quote marks have no letter
+signs-plain : (cs : List ℕ) → is_made_of 62 cs ≡ true → has_letter cs ≡ false
+unfolding chars is_alphabetic in_ranges alphabetic_ranges is_numeric numeric_ranges
+signs-plain [] made = refl
+signs-plain (c ∷ []) made =
+    ap (λ b. has_letter (b ∷ [])) (eqb-true c 62 (and_parts (c == 62) true made).0)
+signs-plain (c ∷ d ∷ cs) made =
+    let both = and_parts (c == 62) (is_made_of 62 (d ∷ cs)) made in
+    ap (λ b. has_letter (b ∷ d ∷ cs)) (eqb-true c 62 both.0) ∙ signs-plain (d ∷ cs) both.1
+
+pub quote-plain : (word : List ℕ) → is_quote word ≡ true → IsPlainMark word
+quote-plain word is =
+    signs-plain word (middle (has_bytes word) (is_made_of 62 word) (length word == 3) is)
+  where
+    middle : (a b c : Bool) → (a && b && not c) ≡ true → b ≡ true
+    middle a b c is = grind (arith, cases_Bool)
 
 -- nor is it an opening, or another comment mark
 pub no-comment : (options : ReflowOptions) (in_block : Bool) (word : List ℕ) → has_letter word ≡ true

@@ -13,12 +13,11 @@ use Rattle.std.specs.Str.{chars}
 use Rattle.textwrap_marked.proofs.HangingForms.{IsHanging}
 use Rattle.textwrap_marked.proofs.HangingKinds.{AreMarks, full-before, IsFull}
 use Rattle.textwrap_marked.proofs.LaterLines.{IsOfText, line-read}
-use Rattle.textwrap_marked.proofs.Letterless.{no-comment}
+use Rattle.textwrap_marked.proofs.Letterless.{IsPlainMark, no-comment, quote-plain}
 use Rattle.textwrap_marked.proofs.LineKinds.{line-is}
 use Rattle.textwrap_marked.proofs.OpenBehind.{text-letter}
 use Rattle.textwrap_marked.proofs.ParagraphLines.{regroup, text-parts}
 use Rattle.textwrap_marked.proofs.SpacedBack.{AreSpaced, IsLineText, IsWhite, text-words}
-use Rattle.textwrap_marked.proofs.SpreadWords.{middle}
 use Rattle.textwrap_marked.specs.Laws.{from_letter, HasPlainMarkers, line_sense}
 use Rattle.textwrap_marked.specs.Lines.{line_of, LineText, StateText, without_returns}
 use Rattle.textwrap_marked.specs.Marks.{is_among, is_comment_at, is_quote}
@@ -28,23 +27,7 @@ use Rattle.textwrap_marked.specs.Words.{SpacedText}
 use Rattle.textwrap_marked.specs.declared.options.ReflowOptions.{ReflowOptions}
 use denote.Ref.{Bor}
 
-abbrev IsPlainMark : List ℕ → Type 0
-IsPlainMark word = has_letter word ≡ false
-
 -- ---- marks have no letter
-
-signs-plain : (cs : List ℕ) → is_made_of 62 cs ≡ true → has_letter cs ≡ false
-unfolding chars is_alphabetic in_ranges alphabetic_ranges is_numeric numeric_ranges
-signs-plain [] made = refl
-signs-plain (c ∷ []) made =
-    ap (λ b. has_letter (b ∷ [])) (eqb-true c 62 (and_parts (c == 62) true made).0)
-signs-plain (c ∷ d ∷ cs) made =
-    let both = and_parts (c == 62) (is_made_of 62 (d ∷ cs)) made in
-    ap (λ b. has_letter (b ∷ d ∷ cs)) (eqb-true c 62 both.0) ∙ signs-plain (d ∷ cs) both.1
-
-quote-plain : (word : List ℕ) → is_quote word ≡ true → IsPlainMark word
-quote-plain word is =
-    signs-plain word (middle (has_bytes word) (is_made_of 62 word) (length word == 3) is)
 
 among-plain : (word : List ℕ) (marks : List (Bor (List ℕ)))
     → All (λ mark. has_letter mark.now ≡ false) marks → has_letter word ≡ true

@@ -6,6 +6,7 @@ use Rattle.textwrap_base.proofs.Common.{None, option_map, prefix_len, refl, Some
 use Rattle.textwrap_base.proofs.Common.{slice_index, sym, true≢false, false_from_ne_true, ◌∙◌, ◌==◌}
 use Rattle.std.proofs.lemmas.Slice.Eq.{bytes_eq-Decides}
 use Rattle.std.specs.Prelude.{bytes_eq, is_some}
+use Rattle.textwrap_marked.proofs.Letterless.{lettered-other}
 use Rattle.textwrap_marked.specs.Columns.{depth_of, marks_of}
 use Rattle.textwrap_marked.specs.Fences.{has_pre_end, opened, opened_by, run_of}
 use Rattle.textwrap_marked.specs.Lines.{deeper_by, has_words, is_before, is_in_block, is_prompted, LineText}
@@ -54,9 +55,7 @@ text-no-sign starred word is =
 pub text-other : (starred : Bool) (word other : List ℕ) → begins_text starred word ≡ true
     → has_letter other ≡ false → bytes_eq word other ≡ false
 text-other starred word other is none =
-    false_from_ne_true (bytes_eq word other) (λ same.
-    true≢false (sym (text-letter starred word is) ∙ ap has_letter ((bytes_eq-Decides word other).0 same)
-    ∙ none))
+    lettered-other word other (text-letter starred word is) none
 
 -- ---- tests that no element passes
 

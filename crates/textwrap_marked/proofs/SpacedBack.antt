@@ -24,6 +24,10 @@ AreSpaced [] = ⊤
 AreSpaced (w ∷ []) = IsSpaced w
 AreSpaced (w ∷ v ∷ ws) = IsSpaced w × (0 < length w.white) × AreSpaced (v ∷ ws)
 
+pub spaced-first : (w : SpacedText) (ws : List SpacedText) → AreSpaced (w ∷ ws) → IsSpaced w
+spaced-first w [] are = are
+spaced-first w (v ∷ ws) are = are.0
+
 -- the words of a line that begins with this white
 abbrev pub with_lead : List ℕ → List SpacedText → List SpacedText
 with_lead [] ws = ws
@@ -35,8 +39,7 @@ BeginsPlain (w ∷ ws) = 0 < length w.word
 
 pub begins-plain : (ws : List SpacedText) → AreSpaced ws → BeginsPlain ws
 begins-plain [] are = tt
-begins-plain (w ∷ []) are = are.word.some
-begins-plain (w ∷ v ∷ ws) are = are.0.word.some
+begins-plain (w ∷ ws) are = (spaced-first w ws are).word.some
 
 white-alone : (c : ℕ) (ws : List SpacedText) → IsWhite c → BeginsPlain ws
     → with_byte c ws ≡ with_lead (c ∷ []) ws

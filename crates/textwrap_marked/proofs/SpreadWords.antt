@@ -9,10 +9,10 @@ use Rattle.std.specs.Prelude.{bytes_eq}
 use Rattle.textwrap_words.proofs.Common.{blank}
 use Rattle.textwrap_marked.proofs.HangingKinds.{HasNoMark}
 use Rattle.textwrap_marked.proofs.LaterLines.{bullets-none}
-use Rattle.textwrap_marked.proofs.Letterless.{box-plain}
+use Rattle.textwrap_marked.proofs.Letterless.{box-plain, quote-plain}
 use Rattle.textwrap_marked.proofs.LineKinds.{one_if}
 use Rattle.textwrap_marked.proofs.LineWords.{gap, shown, spread}
-use Rattle.textwrap_marked.proofs.OpenBehind.{and-left, none-any, not-yes, text-no-sign, text-other}
+use Rattle.textwrap_marked.proofs.OpenBehind.{and-left, none-any, not-yes, text-letter, text-other}
 use Rattle.textwrap_marked.proofs.SpacedBack.{AreSpaced, IsSpaced, IsWhite}
 use Rattle.textwrap_marked.proofs.WordsIn.{IsPlain}
 use Rattle.textwrap_marked.specs.Marks.{is_among, is_bullet, is_comment_at, is_quote}
@@ -187,26 +187,11 @@ goes-on options starred word is =
       marker = not-yes (is_among word options.markers.now) parts.3;
     }
 
-pub middle : (a b c : Bool) → (a && b && not c) ≡ true → b ≡ true
-middle a b c is = grind (arith, cases_Bool)
-
-first-none : (a b c d e : Bool) → (a || b || c || d || e) ≡ false → a ≡ false
-first-none a b c d e is = grind (arith, cases_Bool)
-
 pub text-no-quote : (starred : Bool) (word : List ℕ) → begins_text starred word ≡ true
     → is_quote word ≡ false
-text-no-quote starred [] begins = refl
-text-no-quote starred (c ∷ cs) begins =
-    let word = c ∷ cs in
-    let plain : is_sign_byte c ≡ false =
-    first-none (is_sign_byte c) (starts_with nat_eq word (codes "//")) (starts_with nat_eq word (codes "/*"))
-    (starts_with nat_eq word (codes "```")) (starts_with nat_eq word (codes "~~~"))
-    (text-no-sign starred word begins) in
-    false_from_ne_true (is_quote word) (λ quote.
-    let made : is_made_of 62 word ≡ true =
-    middle (has_bytes word) (is_made_of 62 word) (length word == 3) quote in
-    let first : (c == 62) ≡ true = and-left (c == 62) (is_made_of 62 cs) made in
-    true≢false (sym (ap is_sign_byte (eqb-true c 62 first)) ∙ plain))
+text-no-quote starred word begins =
+    false_from_ne_true (is_quote word)
+    (λ quote. true≢false (sym (text-letter starred word begins) ∙ quote-plain word quote))
 
 -- words that begin with such a one are no marks
 pub no-mark : (options : ReflowOptions) (in_block starred justify : Bool) (gaps : ℕ → ℕ)

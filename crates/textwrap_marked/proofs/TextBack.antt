@@ -25,16 +25,9 @@ level-first : (a b c : Bool) → (a || not b || c) ≡ false → a ≡ false
 level-first a b c is = grind (arith, cases_Bool)
 
 module _ (options : ReflowOptions) (returns : Bool) (told : IsTold options.ending returns) where
-  read-none : (state : StateText) (raws : List (List ℕ)) → [] ≡ read options state raws
-      → nat_lt 0 0 ≡ nat_lt 0 (length raws)
+  read-none : (state : StateText) (raws : List (List ℕ)) → [] ≡ read options state raws → [] ≡ raws
   read-none state [] is = refl
   read-none state (raw ∷ raws) is =
-      absurd (omega (arith, ap length is, ap length (read-more options state raw raws)))
-
-  none-sense : (state : StateText) (raws : List (List ℕ)) → [] ≡ read options state raws
-      → [] ≡ flat_map line_sense raws
-  none-sense state [] is = refl
-  none-sense state (raw ∷ raws) is =
       absurd (omega (arith, ap length is, ap length (read-more options state raw raws)))
 
   none-begun : (raws : List (List ℕ)) → AreBegun returns raws []
@@ -65,9 +58,9 @@ module _ (options : ReflowOptions) (returns : Bool) (told : IsTold options.endin
     text_is = laid;
     feedless = All-nil IsFeedless;
     heads = tt;
-    some = read-none state raws reads;
+    some = ap (λ l. nat_lt 0 (length l)) (read-none state raws reads);
     begun = none-begun raws;
-    sense = λ plain. none-sense state raws reads;
+    sense = λ plain. ap (flat_map line_sense) (read-none state raws reads);
   }
   walk-blocks ([] ∷ bs) beside are state raws text reads laid safe free = absurd are
   walk-blocks ((first ∷ lines) ∷ bs) beside are state raws text reads (front, back, of, later, is) safe

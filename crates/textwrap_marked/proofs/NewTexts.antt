@@ -2,6 +2,7 @@
 use Rattle.textwrap_base.proofs.Common.{◌≡◌, ℕ, Bool, true, false, cond, List, [], ◌∷◌, ◌++◌, ◌==◌}
 use Rattle.textwrap_base.proofs.Common.{All-head, ap, arith, drop, flat_map, join_with_byte, length, nat_eq, nat_lt}
 use Rattle.textwrap_base.proofs.Common.{refl, slice_split, starts_with, subst, sym, true≢false, ◌∙◌, lt-ltb}
+use Rattle.textwrap_base.proofs.Lists.Parts.{starts_with-rest}
 use Rattle.std.proofs.lemmas.List.Splits.{join_with_byte-slice_split, length-slice_split}
 use Rattle.textwrap_lines.specs.LineEnding.{ending_bytes}
 use Rattle.textwrap_lines.specs.declared.line_ending.LineEnding.{LineEnding}
@@ -99,125 +100,96 @@ marked : (rest whole : List ℕ) → whole ≡ byte_order_mark ++ rest
     → starts_with nat_eq whole byte_order_mark ≡ true
 marked rest whole is = ap (λ t. starts_with nat_eq t byte_order_mark) is
 
-module _ (options : ReflowOptions) where
-  -- what holds of texts that become others holds behind the byte order mark of both
-  kept-by : (Kept : List ℕ → List ℕ → Type 0)
-      → ((text reflowed : List ℕ) → IsReflowedFrom options text reflowed → Kept text reflowed)
-      → (text reflowed : List ℕ) → IsReflowed options text reflowed
-      → Kept (behind_mark text) (behind_mark reflowed)
-  kept-by Kept each text reflowed = cut (starts_with nat_eq text byte_order_mark) refl
+module _ (options : ReflowOptions) (text reflowed : List ℕ) where
+  -- both begin with the same byte order mark, or none, and what follows in the one becomes the other's
+  abbrev IsBehind : Type 0
+  IsBehind =
+      (starts_with nat_eq reflowed byte_order_mark ≡ starts_with nat_eq text byte_order_mark)
+      × IsReflowedFrom options (behind_mark text) (behind_mark reflowed)
+
+  unmarked : IsReflowed options text reflowed → IsBehind
+  unmarked = cut (starts_with nat_eq text byte_order_mark) refl
     where
-      goal : (a b : List ℕ) → behind_mark text ≡ a → behind_mark reflowed ≡ b → Kept a b
-          → Kept (behind_mark text) (behind_mark reflowed)
-      goal a b p q kept =
-          subst (λ t. Kept t (behind_mark reflowed)) (sym p) (subst (λ t. Kept a t) (sym q) kept)
+      from : (a b : List ℕ) → behind_mark text ≡ a → behind_mark reflowed ≡ b
+          → IsReflowedFrom options a b → IsReflowedFrom options (behind_mark text) (behind_mark reflowed)
+      from a b p q laid =
+          subst (λ t. IsReflowedFrom options t (behind_mark reflowed)) (sym p)
+          (subst (IsReflowedFrom options a) (sym q) laid)
 
       cut : (b : Bool) → starts_with nat_eq text byte_order_mark ≡ b
-          → IsReflowedBehind b options text reflowed → Kept (behind_mark text) (behind_mark reflowed)
+          → IsReflowedBehind b options text reflowed → IsBehind
       cut true is (rest, laid, whole) =
-          goal (drop 3 text) rest (begins-so text true is)
-          (begins-so reflowed true (marked rest reflowed whole) ∙ ap (drop 3) whole)
-          (each (drop 3 text) rest laid)
-      cut false is laid =
-          let r = text-back options text reflowed laid in
-          goal text reflowed (begins-so text false is)
-          (begins-so reflowed false (begins-alike options _ _ text reflowed r ∙ is)) (each text reflowed laid)
-
-  pub parts-kept : (text reflowed : List ℕ) → IsReflowed options text reflowed
-      → AreSameParts options.ending (text_parts options (behind_mark text)) (text_parts options (behind_mark reflowed))
-  parts-kept =
-      kept-by (λ a b. AreSameParts options.ending (text_parts options a) (text_parts options b))
-      (λ text reflowed laid. (text-back options text reflowed laid).same)
-
-  pub nothing-lost : (text reflowed : List ℕ) → HasPlainMarkers options → IsReflowed options text reflowed
-      → text_sense reflowed ≡ text_sense text
-  nothing-lost text reflowed plain =
-      kept-by (λ a b. flat_map line_sense (slice_split (λ c. c == 10) b)
-      ≡ flat_map line_sense (slice_split (λ c. c == 10) a))
-      (λ text reflowed laid.
-      let r = text-back options text reflowed laid in
-      ap (flat_map line_sense) r.split ∙ r.sense plain) text reflowed
-
-  pub texts-stay : (text reflowed : List ℕ) → IsReflowed options text reflowed
-      → IsReflowed options reflowed reflowed
-  texts-stay text reflowed = cut (starts_with nat_eq text byte_order_mark) refl
-    where
-      cut : (b : Bool) → starts_with nat_eq text byte_order_mark ≡ b
-          → IsReflowedBehind b options text reflowed → IsReflowed options reflowed reflowed
-      cut true is (rest, laid, whole) =
-          subst (λ b. IsReflowedBehind b options reflowed reflowed) (sym (marked rest reflowed whole)) (
-            rest,
-            subst (λ t. IsReflowedFrom options t rest) (sym (ap (drop 3) whole))
-                (from-stays options (drop 3 text) rest laid),
-            whole,
+          let begins = marked rest reflowed whole in (
+            begins ∙ sym is,
+            from (drop 3 text) rest (begins-so text true is) (begins-so reflowed true begins ∙ ap (drop 3) whole)
+                laid,
           )
       cut false is laid =
-          let r = text-back options text reflowed laid in
-          subst (λ b. IsReflowedBehind b options reflowed reflowed)
-          (sym (begins-alike options _ _ text reflowed r ∙ is))
-          (from-stays options text reflowed laid)
+          let same = begins-alike options _ _ text reflowed (text-back options text reflowed laid) in
+          (same, from text reflowed (begins-so text false is) (begins-so reflowed false (same ∙ is)) laid)
 
-  -- ---- another width first
+  remarked : IsBehind → IsReflowed options text reflowed
+  remarked (same, laid) = cut (starts_with nat_eq text byte_order_mark) refl
+    where
+      cut : (b : Bool) → starts_with nat_eq text byte_order_mark ≡ b
+          → IsReflowedBehind b options text reflowed
+      cut true is = (
+        behind_mark reflowed,
+        subst (λ t. IsReflowedFrom options t (behind_mark reflowed)) (begins-so text true is) laid,
+        starts_with-rest byte_order_mark reflowed (same ∙ is)
+            ∙ ap (λ t. byte_order_mark ++ t) (sym (begins-so reflowed true (same ∙ is))),
+      )
+      cut false is =
+          subst (λ t. IsReflowedFrom options t reflowed) (begins-so text false is)
+          (subst (IsReflowedFrom options (behind_mark text)) (begins-so reflowed false (same ∙ is)) laid)
 
-  widths-from : (width : ℕ) (algorithm : Algorithm) (text between reflowed : List ℕ)
+  back : IsReflowed options text reflowed → IsTextBack options (behind_mark text) (behind_mark reflowed)
+  back is = text-back options (behind_mark text) (behind_mark reflowed) (unmarked is).1
+
+  pub parts-kept : IsReflowed options text reflowed
+      → AreSameParts options.ending (text_parts options (behind_mark text)) (text_parts options (behind_mark reflowed))
+  parts-kept is = (back is).same
+
+  pub nothing-lost : HasPlainMarkers options → IsReflowed options text reflowed
+      → text_sense reflowed ≡ text_sense text
+  nothing-lost plain is = ap (flat_map line_sense) (back is).split ∙ (back is).sense plain
+
+pub texts-stay : (options : ReflowOptions) (text reflowed : List ℕ) → IsReflowed options text reflowed
+    → IsReflowed options reflowed reflowed
+texts-stay options text reflowed is =
+    remarked options reflowed reflowed
+    (refl, from-stays options (behind_mark text) (behind_mark reflowed) (unmarked options text reflowed is).1)
+
+-- ---- another width first
+
+module _ (options : ReflowOptions) (width : ℕ) (algorithm : Algorithm) (text between reflowed : List ℕ) where
+  abbrev others : ReflowOptions
+  others = record options { width = width; algorithm = algorithm }
+
+  widths-from : (text between reflowed : List ℕ)
       → (length (slice_split (λ c. c == 10) between) ≡ 1
       → filled_ending options.ending between ≡ filled_ending options.ending text)
-      → IsReflowedFrom (record options { width = width; algorithm = algorithm }) text between
-      → IsReflowedFrom options between reflowed → IsReflowedFrom options text reflowed
-  widths-from width algorithm text between reflowed ends laid second =
+      → IsReflowedFrom others text between → IsReflowedFrom options between reflowed
+      → IsReflowedFrom options text reflowed
+  widths-from text between reflowed ends laid second =
       from-other options text between (width-same options width algorithm text between laid)
       (same (nat_lt 0 (length r.raws)) refl r.raws refl) reflowed second
     where
-      r : IsTextBack (record options { width = width; algorithm = algorithm }) text between
-      r = text-back (record options { width = width; algorithm = algorithm }) text between laid
+      r : IsTextBack others text between
+      r = text-back others text between laid
 
       same : (b : Bool) → nat_lt 0 (length r.raws) ≡ b → (raws : List (List ℕ)) → r.raws ≡ raws
           → filled_ending options.ending between ≡ filled_ending options.ending text
-      same true some raws is =
-          ends-alike (record options { width = width; algorithm = algorithm }) text between r some
-      same false some [] is =
-          ends (ap length (r.split ∙ ap (λ l. r.raw ∷ l) is))
+      same true some raws is = ends-alike others text between r some
+      same false some [] is = ends (ap length (r.split ∙ ap (λ l. r.raw ∷ l) is))
       same false some (raw ∷ raws) is =
           absurd (true≢false (sym (lt-ltb 0 (length (raw ∷ raws)) (omega arith))
           ∙ ap (λ l. nat_lt 0 (length l)) (sym is) ∙ some))
 
-  pub widths-same : (width : ℕ) (algorithm : Algorithm) (text between reflowed : List ℕ)
-      → KeepsEnding options text between
-      → IsReflowed (record options { width = width; algorithm = algorithm }) text between
+  pub widths-same : KeepsEnding options text between → IsReflowed others text between
       → IsReflowed options between reflowed → IsReflowed options text reflowed
-  widths-same width algorithm text between reflowed ends =
-      cut (starts_with nat_eq text byte_order_mark) refl
-    where
-      others : ReflowOptions
-      others = record options { width = width; algorithm = algorithm }
-
-      told : (t b : List ℕ) → behind_mark text ≡ t → behind_mark between ≡ b
-          → length (slice_split (λ c. c == 10) b) ≡ 1
-          → filled_ending options.ending b ≡ filled_ending options.ending t
-      told t b p q long =
-          ap (filled_ending options.ending) (sym q)
-          ∙ ends (ap (λ l. length (slice_split (λ c. c == 10) l)) q ∙ long)
-          ∙ ap (filled_ending options.ending) p
-
-      cut : (b : Bool) → starts_with nat_eq text byte_order_mark ≡ b
-          → IsReflowedBehind b (record options { width = width; algorithm = algorithm }) text between
-          → IsReflowed options between reflowed → IsReflowedBehind b options text reflowed
-      cut true is (rest, laid, whole) second =
-          let begins = marked rest between whole in
-          let (more, again, shown) = subst (λ b. IsReflowedBehind b options between reflowed) begins second
-          in (
-            more,
-            widths-from width algorithm (drop 3 text) rest more
-                (told (drop 3 text) rest (begins-so text true is)
-                (begins-so between true begins ∙ ap (drop 3) whole)) laid
-                (subst (λ t. IsReflowedFrom options t more) (ap (drop 3) whole) again),
-            shown,
-          )
-      cut false is laid second =
-          let r = text-back (record options { width = width; algorithm = algorithm }) text
-          between laid in
-          let begins = begins-alike (record options { width = width; algorithm = algorithm }) _ _ text
-          between r ∙ is in
-          widths-from width algorithm text between reflowed
-          (told text between (begins-so text false is) (begins-so between false begins)) laid
-          (subst (λ b. IsReflowedBehind b options between reflowed) begins second)
+  widths-same ends first second =
+      let (mark, laid) = unmarked others text between first in
+      let (same, again) = unmarked options between reflowed second in
+      remarked options text reflowed
+      (same ∙ mark, widths-from (behind_mark text) (behind_mark between) (behind_mark reflowed) ends laid again)

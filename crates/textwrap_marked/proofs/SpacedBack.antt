@@ -28,6 +28,12 @@ pub spaced-first : (w : SpacedText) (ws : List SpacedText) → AreSpaced (w ∷ 
 spaced-first w [] are = are
 spaced-first w (v ∷ ws) are = are.0
 
+pub spaced-plain : (ws : List SpacedText) → AreSpaced ws → All (λ w. IsPlain w.word) ws
+spaced-plain [] are = All-nil (λ w. IsPlain w.word)
+spaced-plain (w ∷ []) are = All-cons (λ w. IsPlain w.word) w [] are.word (All-nil (λ w. IsPlain w.word))
+spaced-plain (w ∷ v ∷ ws) are =
+    All-cons (λ w. IsPlain w.word) w (v ∷ ws) are.0.word (spaced-plain (v ∷ ws) are.2)
+
 -- the words of a line that begins with this white
 abbrev pub with_lead : List ℕ → List SpacedText → List SpacedText
 with_lead [] ws = ws

@@ -11,7 +11,7 @@ use Rattle.textwrap_marked.proofs.LaterLines.{IsOfText}
 use Rattle.textwrap_marked.proofs.LineSenses.{later-sense}
 use Rattle.textwrap_marked.proofs.OpenBehind.{any-none, behind_text, no-columns, or-left, or-right}
 use Rattle.textwrap_marked.proofs.ParagraphLines.{later-line}
-use Rattle.textwrap_marked.proofs.SpacedBack.{AreSpaced}
+use Rattle.textwrap_marked.proofs.SpacedBack.{AreSpaced, spaced-plain}
 use Rattle.textwrap_marked.proofs.SpreadWords.{front-more, last-more, last_text}
 use Rattle.textwrap_marked.proofs.WordsIn.{IsPlain}
 use Rattle.textwrap_marked.specs.Blocks.{goes_on}
@@ -151,6 +151,11 @@ masked-all false words is =
 masked-all true words is =
     All-map (NoClose true) (λ w. w.word) words (any-none (λ w. contains (codes "*/") w.word) words is)
 
+pub early-more : (w v : SpacedText) (ws : List SpacedText) → closes_early (w ∷ v ∷ ws)
+    ≡ ((contains (codes "*/") w.word || closes_block (front_of (v ∷ ws))) || ends_early (last_word (v ∷ ws)))
+early-more w v ws =
+    ap₂ (λ l k. closes_block l || ends_early (first_word k)) (front-more w v ws) (last-more w v ws)
+
 last-closing : (in_block : Bool) (words : List SpacedText)
     → (in_block && closes_block words && closes_early words) ≡ false
     → AreClosing in_block (map (λ w. w.word) words)
@@ -174,17 +179,10 @@ last-closing in_block (w ∷ v ∷ ws) is = (
         → (a && b && (f || e)) ≡ false
     behind a c b f e is = grind (arith, cases_Bool)
 
-    early : closes_early (w ∷ v ∷ ws)
-        ≡ ((contains (codes "*/") w.word || closes_block (front_of (v ∷ ws))) || ends_early (last_word (v ∷ ws)))
-    early =
-        ap (λ l. closes_block l || ends_early (last_word (w ∷ v ∷ ws))) (front-more w v ws)
-        ∙ ap (λ l. (contains (codes "*/") w.word || closes_block (front_of (v ∷ ws)))
-        || ends_early (first_word l)) (last-more w v ws)
-
     shown : (in_block && (contains (codes "*/") w.word || closes_block (v ∷ ws))
         && ((contains (codes "*/") w.word || closes_block (front_of (v ∷ ws)))
         || ends_early (last_word (v ∷ ws)))) ≡ false
-    shown = ap (λ e. in_block && (contains (codes "*/") w.word || closes_block (v ∷ ws)) && e) (sym early) ∙ is
+    shown = ap (λ e. in_block && (contains (codes "*/") w.word || closes_block (v ∷ ws)) && e) (sym (early-more w v ws)) ∙ is
 
 -- ---- the lines of a paragraph
 
@@ -218,12 +216,6 @@ goes-facts line next is =
     let facts = going line.apart next.apart line.ended (bytes_eq next.prefix line.hanging)
     (opens_paragraph (first_word next.words)) is in
     (facts.0, facts.1, (bytes_eq-Decides next.prefix line.hanging).0 facts.2, facts.3)
-
-spaced-plain : (ws : List SpacedText) → AreSpaced ws → All IsPlain (map (λ w. w.word) ws)
-spaced-plain [] are = All-nil IsPlain
-spaced-plain (w ∷ []) are = All-cons IsPlain w.word [] are.word (All-nil IsPlain)
-spaced-plain (w ∷ v ∷ ws) are =
-    All-cons IsPlain w.word (map (λ w. w.word) (v ∷ ws)) are.0.word (spaced-plain (v ∷ ws) are.2)
 
 ended-none : (in_block : Bool) (words : List SpacedText) → is_ended in_block words ≡ false
     → (in_block && closes_block words) ≡ false
@@ -261,7 +253,7 @@ module _ (options : ReflowOptions) (in_block : Bool) (hanging lead : List ℕ) (
   line-words : (state : StateText) (line : LineText) → IsOfText options in_block hanging state line
       → AreTextWords in_block (map (λ w. w.word) line.words)
   line-words state line of = record {
-    plain = spaced-plain line.words of.spaced;
+    plain = All-map IsPlain (λ w. w.word) line.words (spaced-plain line.words of.spaced);
     columns = All-map (λ w. is_column_word w ≡ false) (λ w. w.word) line.words
         (no-columns options.justify line.words of.columns);
     closing = last-closing in_block line.words of.closes;

@@ -6,7 +6,7 @@ use Rattle.textwrap_marked.proofs.Letterless.{dots-plain}
 use Rattle.textwrap_marked.proofs.LineWords.{MayPart, spread}
 use Rattle.textwrap_marked.proofs.OpenBehind.{none-any, text-other}
 use Rattle.textwrap_marked.proofs.SpreadWords.{front-more, last-more, last_text, spread-any, spread-words}
-use Rattle.textwrap_marked.proofs.TextBlocks.{AreClosing, closing-before, NoClose}
+use Rattle.textwrap_marked.proofs.TextBlocks.{AreClosing, closing-before, early-more, NoClose}
 use Rattle.textwrap_marked.specs.Lines.{deeper_by}
 use Rattle.textwrap_marked.specs.Pieces.{is_cut}
 use Rattle.textwrap_marked.specs.Signs.{begins_text, closes_block, closes_early, ends_early, first_word, front_of}
@@ -71,18 +71,11 @@ closing-free in_block (w ∷ []) are =
     one : (a b c : Bool) → (a && b && c) ≡ false → (a && (b || false) && (false || c)) ≡ false
     one a b c is = grind (arith, cases_Bool)
 closing-free in_block (w ∷ v ∷ ws) (none, are) =
-    ap (λ e. in_block && (contains (codes "*/") w.word || closes_block (v ∷ ws)) && e) early
+    ap (λ e. in_block && (contains (codes "*/") w.word || closes_block (v ∷ ws)) && e) (early-more w v ws)
     ∙ more in_block (contains (codes "*/") w.word) (closes_block (v ∷ ws))
     (closes_block (front_of (v ∷ ws))) (ends_early (last_word (v ∷ ws))) none
     (closing-free in_block (v ∷ ws) are)
   where
-    early : closes_early (w ∷ v ∷ ws)
-        ≡ ((contains (codes "*/") w.word || closes_block (front_of (v ∷ ws))) || ends_early (last_word (v ∷ ws)))
-    early =
-        ap (λ l. closes_block l || ends_early (last_word (w ∷ v ∷ ws))) (front-more w v ws)
-        ∙ ap (λ l. (contains (codes "*/") w.word || closes_block (front_of (v ∷ ws)))
-        || ends_early (first_word l)) (last-more w v ws)
-
     more : (a c b f e : Bool) → (a && c) ≡ false → (a && b && (f || e)) ≡ false
         → (a && (c || b) && ((c || f) || e)) ≡ false
     more a c b f e none is = grind (arith, cases_Bool)

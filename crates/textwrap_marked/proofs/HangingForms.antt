@@ -65,18 +65,38 @@ opening-outside options true word comment opening =
 abbrev marks_by : SpacedText → Bool → Bool → List SpacedText
 marks_by c o b = cond o (cond b [] (star c ∷ [])) (c ∷ [])
 
+-- quote marks alone, or behind one comment mark
+quotes-marks : (options : ReflowOptions) (in_block : Bool) (qs : List SpacedText)
+    → All (λ w. is_quote w.word ≡ true) qs
+    → All (λ w. is_comment_at options in_block w.word ≡ false) (take 1 qs) → AreMarks options in_block [] qs
+quotes-marks options in_block qs quote none = record {
+  one = omega arith;
+  comment = All-nil (λ w. is_comment_at options in_block w.word ≡ true);
+  no_opening = All-nil (λ w. is_opening w.word ≡ false);
+  quote = quote;
+  no_comment = λ empty. none;
+}
+
+one-mark : (options : ReflowOptions) (in_block : Bool) (c : SpacedText) (qs : List SpacedText)
+    → is_comment_at options in_block c.word ≡ true → is_opening c.word ≡ false
+    → All (λ w. is_quote w.word ≡ true) qs → AreMarks options in_block (c ∷ []) qs
+one-mark options in_block c qs comment opening quote = record {
+  one = omega arith;
+  comment = All-cons (λ w. is_comment_at options in_block w.word ≡ true) c [] comment
+      (All-nil (λ w. is_comment_at options in_block w.word ≡ true));
+  no_opening = All-cons (λ w. is_opening w.word ≡ false) c [] opening
+      (All-nil (λ w. is_opening w.word ≡ false));
+  quote = quote;
+  no_comment = λ none. absurd (omega (arith, none));
+}
+
 hang-marks : (options : ReflowOptions) (in_block bare : Bool) (cs qs rest : List SpacedText)
     → comment_len options in_block (cs ++ (qs ++ rest)) ≡ length cs
     → All (λ w. is_quote w.word ≡ true) qs
     → AreMarks options (in_block || has_opening_in cs) (hang_marks bare cs) qs
 hang-marks options in_block bare [] qs rest count quote =
-    subst (λ b. AreMarks options b [] qs) (sym (or-false in_block)) (record {
-      one = omega arith;
-      comment = All-nil (λ w. is_comment_at options in_block w.word ≡ true);
-      no_opening = All-nil (λ w. is_opening w.word ≡ false);
-      quote = quote;
-      no_comment = λ none. first qs count;
-    })
+    subst (λ b. AreMarks options b [] qs) (sym (or-false in_block))
+    (quotes-marks options in_block qs quote (first qs count))
   where
     first : (qs : List SpacedText) → comment_len options in_block (qs ++ rest) ≡ 0
         → All (λ w. is_comment_at options in_block w.word ≡ false) (take 1 qs)
@@ -98,33 +118,12 @@ hang-marks options in_block bare (c ∷ []) qs rest count quote =
         (subst (λ k. AreMarks options (k || true) (marks_by c true b) qs) (sym out) (inside b))
       where
         inside : (b : Bool) → AreMarks options true (marks_by c true b) qs
-        inside true = record {
-          one = omega arith;
-          comment = All-nil (λ w. is_comment_at options true w.word ≡ true);
-          no_opening = All-nil (λ w. is_opening w.word ≡ false);
-          quote = quote;
-          no_comment = λ none. no-star options qs quote;
-        }
-        inside false = record {
-          one = omega arith;
-          comment = All-cons (λ w. is_comment_at options true w.word ≡ true) (star c) [] refl
-              (All-nil (λ w. is_comment_at options true w.word ≡ true));
-          no_opening = All-cons (λ w. is_opening w.word ≡ false) (star c) [] refl
-              (All-nil (λ w. is_opening w.word ≡ false));
-          quote = quote;
-          no_comment = λ none. absurd (omega (arith, none));
-        }
+        inside true = quotes-marks options true qs quote (no-star options qs quote)
+        inside false = one-mark options true (star c) qs refl refl quote
     cut false b opening comment =
         subst (λ o. AreMarks options (in_block || (o || false)) (marks_by c o b) qs) (sym opening)
-        (subst (λ k. AreMarks options k (c ∷ []) qs) (sym (or-false in_block)) (record {
-          one = omega arith;
-          comment = All-cons (λ w. is_comment_at options in_block w.word ≡ true) c [] comment
-              (All-nil (λ w. is_comment_at options in_block w.word ≡ true));
-          no_opening = All-cons (λ w. is_opening w.word ≡ false) c [] opening
-              (All-nil (λ w. is_opening w.word ≡ false));
-          quote = quote;
-          no_comment = λ none. absurd (omega (arith, none));
-        }))
+        (subst (λ k. AreMarks options k (c ∷ []) qs) (sym (or-false in_block))
+        (one-mark options in_block c qs comment opening quote))
 
 last-len : (ws : List SpacedText) (more : List ℕ) → length (onto_last ws more) ≡ length ws
 last-len [] more = refl

@@ -1,6 +1,6 @@
 -- Lines that stay, with the ending that is asked for.
 use Rattle.textwrap_base.proofs.Common.{◌≡◌, ℕ, ◌+◌, ◌-◌, ◌⊎◌, ◌&&◌, Bool, true, false, List}
-use Rattle.textwrap_base.proofs.Common.{[], ◌∷◌, ◌++◌, All-append, All-cons, All-nil, All-take, ap, append-nil}
+use Rattle.textwrap_base.proofs.Common.{[], ◌∷◌, ◌++◌, All-append, All-cons, All-nil, All-take, ap}
 use Rattle.textwrap_base.proofs.Common.{append_assoc, arith, codes, ends_with, flat_map, get_or, inl, inr, length}
 use Rattle.textwrap_base.proofs.Common.{map, nat_eq, None, Option, refl, reverse, Some, suc, suffix_len}
 use Rattle.textwrap_base.proofs.Common.{sym, take, take_more, zero, ⊤, ◌∙◌}

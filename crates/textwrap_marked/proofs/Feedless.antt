@@ -1,8 +1,8 @@
 -- The words, the prefixes and the hanging forms of the lines of a text have no line feed.
 use Rattle.textwrap_base.proofs.Common.{◌≡◌, ℕ, ◌-◌, Bool, true, false, cond, List, []}
 use Rattle.textwrap_base.proofs.Common.{◌∷◌, ◌++◌, ◌==◌, All, All-append, All-cons, All-head, All-map, All-nil}
-use Rattle.textwrap_base.proofs.Common.{All-tail, All-take, ap, codes, length, map, nat_lt, refl, slice_split, suc, subst}
-use Rattle.textwrap_base.proofs.Common.{join_with_byte, onto_first, suffix_len, sym, zero, ◌∙◌}
+use Rattle.textwrap_base.proofs.Common.{All-tail, All-take, ap, codes, length, map, nat_lt, refl, slice_split, subst}
+use Rattle.textwrap_base.proofs.Common.{join_with_byte, onto_first, suffix_len, sym, ◌∙◌}
 use Rattle.textwrap_base.proofs.Lists.Parts.{all-left, all-right}
 use Rattle.std.proofs.lemmas.List.Elements.{All-replicate}
 use Rattle.std.proofs.lemmas.List.Splits.{slice_split_at, slice_split_none}

@@ -2,7 +2,7 @@
 use Rattle.textwrap_base.proofs.Common.{◌≡◌, ℕ, suc, ◌≤◌, ◌||◌, Bool, true, false, cond, List}
 use Rattle.textwrap_base.proofs.Common.{[], ◌∷◌, ◌++◌, All, All-append, All-cons, All-head, All-nil}
 use Rattle.textwrap_base.proofs.Common.{All-tail, ap, arith}
-use Rattle.textwrap_base.proofs.Common.{zero, length, refl, subst, sym, take, true≢false, ◌∙◌}
+use Rattle.textwrap_base.proofs.Common.{length, refl, subst, sym, take, true≢false, ◌∙◌}
 use Rattle.textwrap_base.proofs.Lists.Parts.{all-left, all-right}
 use Rattle.std.proofs.Math.Bool.{or-false}
 use Rattle.std.proofs.lemmas.List.Elements.{All-replicate}

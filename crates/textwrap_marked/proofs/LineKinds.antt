@@ -9,7 +9,7 @@ use Rattle.textwrap_marked.proofs.SpacedBack.{begins-plain, BeginsPlain, IsLineT
 use Rattle.textwrap_marked.proofs.SpacedBack.{with_lead}
 use Rattle.textwrap_marked.specs.Lines.{is_chosen, is_deep, is_ended, line_from, line_of, LineText}
 use Rattle.textwrap_marked.specs.Lines.{stands_apart, StateText, without_returns}
-use Rattle.textwrap_marked.specs.Marks.{is_bullet, is_comment_at, is_opening, is_quote}
+use Rattle.textwrap_marked.specs.Marks.{is_bullet, is_comment_at, is_opening}
 use Rattle.textwrap_marked.specs.Prefixes.{bullets_len, comment_len, hanging_bullets, hanging_comments}
 use Rattle.textwrap_marked.specs.Prefixes.{is_box, lead_len, prefix_ends, quotes_len}
 use Rattle.textwrap_marked.specs.Signs.{closes_block, first_word, is_key}

@@ -1,15 +1,11 @@
 -- The words of a line from the first on that has a letter: those of a text behind marks.
-use Rattle.textwrap_base.proofs.Common.{◌≡◌, ℕ, ◌==◌, ◌||◌, Bool, true, false, cond, List, []}
+use Rattle.textwrap_base.proofs.Common.{◌≡◌, ℕ, ◌||◌, Bool, true, false, cond, List, []}
 use Rattle.textwrap_base.proofs.Common.{◌∷◌, ◌++◌, All, All-append, All-head, All-map, All-tail}
-use Rattle.textwrap_base.proofs.Common.{All-weaker, and_parts, ap, append_assoc, eqb-true}
-use Rattle.textwrap_base.proofs.Common.{false_from_ne_true, length, map, map-append, refl}
+use Rattle.textwrap_base.proofs.Common.{All-weaker, ap, append_assoc}
+use Rattle.textwrap_base.proofs.Common.{false_from_ne_true, map, map-append, refl}
 use Rattle.textwrap_base.proofs.Common.{sym, true≢false, ◌∙◌}
 use Rattle.std.proofs.lemmas.Slice.Eq.{bytes_eq-Decides}
-use Rattle.std.specs.Char.Unicode.Alphabetic.{is_alphabetic, alphabetic_ranges}
-use Rattle.std.specs.Char.Unicode.Numeric.{is_numeric, numeric_ranges}
-use Rattle.std.specs.Char.Unicode.Rows.{in_ranges}
 use Rattle.std.specs.Prelude.{bytes_eq}
-use Rattle.std.specs.Str.{chars}
 use Rattle.textwrap_marked.proofs.HangingForms.{IsHanging}
 use Rattle.textwrap_marked.proofs.HangingKinds.{AreMarks, full-before, IsFull}
 use Rattle.textwrap_marked.proofs.LaterLines.{IsOfText, line-read}
@@ -22,7 +18,7 @@ use Rattle.textwrap_marked.specs.Laws.{from_letter, HasPlainMarkers, line_sense}
 use Rattle.textwrap_marked.specs.Lines.{line_of, LineText, StateText, without_returns}
 use Rattle.textwrap_marked.specs.Marks.{is_among, is_comment_at, is_quote}
 use Rattle.textwrap_marked.specs.Signs.{begins_text, first_word}
-use Rattle.textwrap_marked.specs.Words.{has_bytes, has_letter, is_made_of, spaced_text}
+use Rattle.textwrap_marked.specs.Words.{has_letter, spaced_text}
 use Rattle.textwrap_marked.specs.Words.{SpacedText}
 use Rattle.textwrap_marked.specs.declared.options.ReflowOptions.{ReflowOptions}
 use denote.Ref.{Bor}

@@ -1,6 +1,6 @@
 -- A paragraph of a text, and its lines as they are printed, read again.
 use Rattle.textwrap_base.proofs.Common.{◌≡◌, ℕ, ◌<◌, ◌&&◌, Bool, true, false, List, []}
-use Rattle.textwrap_base.proofs.Common.{◌∷◌, ◌++◌, All, All-nil, ap, arith, codes, ends_with, length, map}
+use Rattle.textwrap_base.proofs.Common.{◌∷◌, ◌++◌, All, ap, arith, codes, ends_with, length, map}
 use Rattle.textwrap_base.proofs.Common.{nat_eq, nat_lt, refl, subst, sym, ◌∙◌}
 use Rattle.textwrap_marked.proofs.FreeLines.{AreFree, block_at}
 use Rattle.textwrap_marked.proofs.HangingForms.{IsHanging}

@@ -4,7 +4,6 @@ use Rattle.textwrap_base.proofs.Common.{[], ◌∷◌, All, All-cons, All-head, 
 use Rattle.textwrap_base.proofs.Common.{cases_Bool, codes, eqb-true, list_any, nat_eq, nat_lt, nat_tests}
 use Rattle.textwrap_base.proofs.Common.{None, option_map, prefix_len, refl, Some, starts_with}
 use Rattle.textwrap_base.proofs.Common.{slice_index, sym, true≢false, false_from_ne_true, ◌∙◌, ◌==◌}
-use Rattle.std.proofs.lemmas.Slice.Eq.{bytes_eq-Decides}
 use Rattle.std.specs.Prelude.{bytes_eq, is_some}
 use Rattle.textwrap_marked.proofs.Letterless.{lettered-other}
 use Rattle.textwrap_marked.specs.Columns.{depth_of, marks_of}

@@ -1,8 +1,8 @@
 -- The words of the lines of a text are plain: bytes between white.
-use Rattle.textwrap_base.proofs.Common.{◌≡◌, ℕ, ◌+◌, ◌-◌, ◌≤◌, Bool, true, false, cond, List, []}
-use Rattle.textwrap_base.proofs.Common.{◌∷◌, ◌++◌, All, All-cons, All-drop, All-head, All-nil, All-tail, ap}
-use Rattle.textwrap_base.proofs.Common.{arith, sym, drop, drop-drop, length, ltb-true, nat_lt, refl, ◌==◌}
-use Rattle.textwrap_base.proofs.Common.{slice_split, subst, ⊤}
+use Rattle.textwrap_base.proofs.Common.{ℕ, Bool, List, []}
+use Rattle.textwrap_base.proofs.Common.{◌∷◌, ◌++◌, All, All-cons, All-head, All-nil, All-tail}
+use Rattle.textwrap_base.proofs.Common.{sym, length, nat_lt, ◌==◌}
+use Rattle.textwrap_base.proofs.Common.{slice_split, subst}
 use Rattle.textwrap_base.proofs.Lists.Parts.{all-right}
 use Rattle.textwrap_marked.proofs.BlankPieces.{flat-all}
 use Rattle.textwrap_marked.proofs.LaterLines.{line-read}
@@ -14,9 +14,7 @@ use Rattle.textwrap_marked.proofs.WordsIn.{IsPlain}
 use Rattle.textwrap_marked.specs.Blocks.{blocks}
 use Rattle.textwrap_marked.specs.Lines.{entered, first_state, line_of, lines_of, LineText, passed}
 use Rattle.textwrap_marked.specs.Lines.{read_lines, StateText, with_titles, without_returns}
-use Rattle.textwrap_marked.specs.Prefixes.{lead_len, prefix_ends}
-use Rattle.textwrap_marked.specs.Words.{has_bytes, is_white, of_byte}
-use Rattle.textwrap_marked.specs.Words.{spaced_words, SpacedText, with_byte}
+use Rattle.textwrap_marked.specs.Words.{SpacedText}
 use Rattle.textwrap_marked.specs.declared.options.ReflowOptions.{ReflowOptions}
 
 abbrev IsPlainWord : SpacedText → Type 0

@@ -12,8 +12,8 @@ use Rattle.textwrap_marked.specs.Laws.{IsSameBy, Part, parts_of_blocks, text_par
 use Rattle.textwrap_marked.specs.Lines.{without_returns}
 use Rattle.textwrap_marked.specs.Lines.{entered, first_state, line_of, lines_of, LineText, passed, read_lines}
 use Rattle.textwrap_marked.specs.Lines.{StateText, with_titles}
-use Rattle.textwrap_marked.specs.Pieces.{pieces, words_of}
-use Rattle.textwrap_marked.specs.Reflow.{algorithm_of, filled_end, filled_ending}
+use Rattle.textwrap_marked.specs.Pieces.{pieces}
+use Rattle.textwrap_marked.specs.Reflow.{algorithm_of, filled_ending}
 use Rattle.textwrap_marked.specs.Reflow.{IsLaidOut, IsOfBlock, IsReflowedFrom}
 use Rattle.textwrap_marked.specs.Reflow.{line_texts, printed}
 use Rattle.textwrap_marked.specs.declared.options.Algorithm.{Algorithm}

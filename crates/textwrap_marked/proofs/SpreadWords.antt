@@ -3,7 +3,7 @@ use Rattle.textwrap_base.proofs.Common.{◌≡◌, ℕ, ◌-◌, ◌&&◌, ◌||
 use Rattle.textwrap_base.proofs.Common.{cond, List, [], ◌∷◌, ◌++◌, All, All-cons, All-head, All-nil}
 use Rattle.textwrap_base.proofs.Common.{All-tail, ap, append-nil, append_assoc, arith, cases_Bool, codes}
 use Rattle.textwrap_base.proofs.Common.{drop, length, list_any, map, refl, sym, take}
-use Rattle.textwrap_base.proofs.Common.{nat_eq, starts_with, true≢false, false_from_ne_true, eqb-true, suc, ◌==◌, ◌∙◌}
+use Rattle.textwrap_base.proofs.Common.{true≢false, false_from_ne_true, suc, ◌==◌, ◌∙◌}
 use Rattle.std.proofs.lemmas.List.Elements.{All-replicate}
 use Rattle.std.specs.Prelude.{bytes_eq}
 use Rattle.textwrap_words.proofs.Common.{blank}
@@ -12,15 +12,15 @@ use Rattle.textwrap_marked.proofs.LaterLines.{bullets-none}
 use Rattle.textwrap_marked.proofs.Letterless.{box-plain, quote-plain}
 use Rattle.textwrap_marked.proofs.LineKinds.{one_if}
 use Rattle.textwrap_marked.proofs.LineWords.{gap, shown, spread}
-use Rattle.textwrap_marked.proofs.OpenBehind.{and-left, none-any, not-yes, text-letter, text-other}
+use Rattle.textwrap_marked.proofs.OpenBehind.{none-any, not-yes, text-letter, text-other}
 use Rattle.textwrap_marked.proofs.SpacedBack.{AreSpaced, IsSpaced, IsWhite}
 use Rattle.textwrap_marked.proofs.WordsIn.{IsPlain}
 use Rattle.textwrap_marked.specs.Marks.{is_among, is_bullet, is_comment_at, is_quote}
 use Rattle.textwrap_marked.specs.Prefixes.{blanks, quotes_len}
 use Rattle.textwrap_marked.specs.Signs.{begins_text, first_white}
 use Rattle.textwrap_marked.specs.Signs.{first_word, front_of, has_columns, is_column_word, is_gap, last_of}
-use Rattle.textwrap_marked.specs.Signs.{is_sign_byte, last_white, last_word, may_go_on, opens_paragraph}
-use Rattle.textwrap_marked.specs.Words.{has_bytes, is_made_of, spaced_text, SpacedText}
+use Rattle.textwrap_marked.specs.Signs.{last_white, last_word, may_go_on, opens_paragraph}
+use Rattle.textwrap_marked.specs.Words.{spaced_text, SpacedText}
 use Rattle.textwrap_marked.specs.declared.options.ReflowOptions.{ReflowOptions}
 
 -- a gap is white

@@ -1,7 +1,7 @@
 -- The lines of a paragraph of a text, one after another.
 use Rattle.textwrap_base.proofs.Common.{◌≡◌, ℕ, ◌<◌, ◌&&◌, ◌||◌, not, Bool, true, false, List, []}
 use Rattle.textwrap_base.proofs.Common.{◌∷◌, ◌++◌, All, All-append, All-map, All-head, All-tail, ap, append-nil, arith, codes}
-use Rattle.textwrap_base.proofs.Common.{All-cons, All-nil, cases_Bool, flat_map, length, length-append, length-map, map, nat_lt, refl, subst, sym, ⊤, ◌∙◌}
+use Rattle.textwrap_base.proofs.Common.{cases_Bool, flat_map, length, length-append, length-map, map, nat_lt, refl, subst, sym, ⊤, ◌∙◌}
 use Rattle.std.proofs.Common.{ap₂}
 use Rattle.std.proofs.Math.Bool.{or-false}
 use Rattle.std.proofs.lemmas.Slice.Eq.{bytes_eq-Decides}

@@ -5,7 +5,7 @@ use Rattle.textwrap_base.proofs.Common.{append-nil, arith, cases_Bool, codes, en
 use Rattle.textwrap_marked.proofs.Letterless.{dots-plain}
 use Rattle.textwrap_marked.proofs.LineWords.{MayPart, spread}
 use Rattle.textwrap_marked.proofs.OpenBehind.{none-any, text-other}
-use Rattle.textwrap_marked.proofs.SpreadWords.{front-more, last-more, last_text, spread-any, spread-words}
+use Rattle.textwrap_marked.proofs.SpreadWords.{last_text, spread-any, spread-words}
 use Rattle.textwrap_marked.proofs.TextBlocks.{AreClosing, closing-before, early-more, NoClose}
 use Rattle.textwrap_marked.specs.Lines.{deeper_by}
 use Rattle.textwrap_marked.specs.Pieces.{is_cut}

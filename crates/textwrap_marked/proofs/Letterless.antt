@@ -56,8 +56,18 @@ no-line-comment word is =
     let other : (mark : List ℕ) → IsPlainMark mark → bytes_eq word mark ≡ false =
     λ mark none. lettered-other word mark is none in
     rw (
-      other _ a, other _ b, other _ c, other _ d, other _ e, other _ f, other _ g, other _ h, other _ i,
-      other _ j, other _ k, other _ l,
+      other _ a,
+      other _ b,
+      other _ c,
+      other _ d,
+      other _ e,
+      other _ f,
+      other _ g,
+      other _ h,
+      other _ i,
+      other _ j,
+      other _ k,
+      other _ l,
     ) refl
 
 -- quote marks have no letter

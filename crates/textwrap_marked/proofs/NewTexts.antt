@@ -3,6 +3,7 @@ use Rattle.textwrap_base.proofs.Common.{◌≡◌, ℕ, Bool, true, false, cond,
 use Rattle.textwrap_base.proofs.Common.{All-head, ap, arith, drop, flat_map, join_with_byte, length, nat_eq, nat_lt}
 use Rattle.textwrap_base.proofs.Common.{refl, slice_split, starts_with, subst, sym, true≢false, ◌∙◌, lt-ltb}
 use Rattle.textwrap_base.proofs.Lists.Parts.{starts_with-rest}
+use Rattle.std.proofs.Common.{ap₂}
 use Rattle.std.proofs.lemmas.List.Splits.{join_with_byte-slice_split, length-slice_split}
 use Rattle.textwrap_lines.specs.LineEnding.{ending_bytes}
 use Rattle.textwrap_lines.specs.declared.line_ending.LineEnding.{LineEnding}
@@ -15,7 +16,7 @@ use Rattle.textwrap_marked.proofs.SameParts.{from-other, laid-other, width-same}
 use Rattle.textwrap_marked.proofs.TextBack.{AreReadBack, IsTextBack, text-back}
 use Rattle.textwrap_marked.specs.Blocks.{blocks}
 use Rattle.textwrap_marked.specs.Laws.{AreSameParts, behind_mark, HasPlainMarkers, KeepsEnding, line_sense}
-use Rattle.textwrap_marked.specs.Laws.{text_parts, text_sense}
+use Rattle.textwrap_marked.specs.Laws.{mark_of, text_parts, text_sense}
 use Rattle.textwrap_marked.specs.Lines.{first_state, lines_of, read_lines, with_titles}
 use Rattle.textwrap_marked.specs.Reflow.{byte_order_mark, filled_ending, IsLaidOut, IsReflowed}
 use Rattle.textwrap_marked.specs.Reflow.{IsReflowedBehind, IsReflowedFrom}
@@ -152,7 +153,9 @@ module _ (options : ReflowOptions) (text reflowed : List ℕ) where
 
   pub nothing-lost : HasPlainMarkers options → IsReflowed options text reflowed
       → text_sense reflowed ≡ text_sense text
-  nothing-lost plain is = ap (flat_map line_sense) (back is).split ∙ (back is).sense plain
+  nothing-lost plain is =
+      ap₂ (λ b words. mark_of b ++ words) (unmarked is).0
+      (ap (flat_map line_sense) (back is).split ∙ (back is).sense plain)
 
 pub texts-stay : (options : ReflowOptions) (text reflowed : List ℕ) → IsReflowed options text reflowed
     → IsReflowed options reflowed reflowed

@@ -140,16 +140,22 @@ line_sense line = from_letter (words_in (without_returns line))
 abbrev pub behind_mark : List ℕ → List ℕ
 behind_mark text = if starts_with nat_eq text byte_order_mark then drop 3 text else text
 
--- those of each line of a text, one line after the other
+-- a byte order mark by itself, if there is one
+abbrev pub mark_of : Bool → List (List ℕ)
+mark_of marked = if marked then byte_order_mark ∷ [] else []
+
+-- a byte order mark, and then those words of each line, one line after the other
 abbrev pub text_sense : List ℕ → List (List ℕ)
-text_sense text = flat_map line_sense (slice_split (λ c. c == 10) (behind_mark text))
+text_sense text =
+    mark_of (starts_with nat_eq text byte_order_mark)
+    ++ flat_map line_sense (slice_split (λ c. c == 10) (behind_mark text))
 
 -- no mark that the caller declared has a letter or digit
 abbrev pub HasPlainMarkers : ReflowOptions → Type 0
 HasPlainMarkers options = All (λ mark. has_letter mark.now ≡ false) options.markers.now
 
 -- where no declared mark has a letter or digit, no word of a text is lost, added or moved, but for words
--- without one in front of a line
+-- in front of a line that have none either
 abbrev pub NothingIsLost : Type 0
 NothingIsLost =
     (options : ReflowOptions) (text reflowed : List ℕ)

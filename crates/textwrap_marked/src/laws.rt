@@ -47,9 +47,10 @@ pub fn words_are_kept()
 {}
 
 /// Nothing is lost, mixed or added, told without a word on prefixes or paragraphs: both texts have the
-/// same words in order, where of each line the words in front that have no letter or digit are left out,
-/// and so is a byte order mark. So all that may come and go is line ends, white, and marks at the
-/// beginning of lines. It holds if no mark that the caller declared has a letter or digit, as `dnl` has.
+/// same words in order, where of each line the words in front that have no letter or digit are left out.
+/// (A byte order mark counts as a word by itself.) So all that may come and go is line ends, white, and
+/// marks at the beginning of lines. It holds if no mark that the caller declared has a letter or digit,
+/// as `dnl` has.
 pub fn nothing_is_lost()
     ensures { NothingIsLost }
 {}

@@ -1,10 +1,10 @@
 -- Words with white between them are read back from their text.
 use Rattle.textwrap_base.proofs.Common.{◌≡◌, ℕ, ◌<◌, Bool, true, false, List, [], ◌∷◌, ◌++◌, All}
 use Rattle.textwrap_base.proofs.Common.{All-cons, All-head, All-nil, All-tail, ap, append_assoc, append-nil}
-use Rattle.textwrap_base.proofs.Common.{arith, length, map, refl, sym, ⊤, ◌∙◌}
+use Rattle.textwrap_base.proofs.Common.{arith, cond, length, lt-ltb, map, refl, sym, ⊤, ◌∙◌}
 use Rattle.textwrap_marked.proofs.WordsIn.{IsPlain, white-words, word-alone, words-white}
 use Rattle.textwrap_marked.specs.Laws.{words_in}
-use Rattle.textwrap_marked.specs.Words.{is_white, onto_word, spaced_text, spaced_words, SpacedText}
+use Rattle.textwrap_marked.specs.Words.{has_bytes, is_white, onto_word, spaced_text, spaced_words, SpacedText}
 use Rattle.textwrap_marked.specs.Words.{with_byte}
 
 abbrev pub IsWhite : ℕ → Type 0
@@ -210,31 +210,26 @@ text-words text lead ws is =
 
 -- ---- one line has one lead and one list of words
 
+-- the white in front of a line, and its words
+abbrev lead_of : List SpacedText → List ℕ
+lead_of [] = []
+lead_of (w ∷ ws) = cond (has_bytes w.word) [] w.white
+
+abbrev behind_lead : List SpacedText → List SpacedText
+behind_lead [] = []
+behind_lead (w ∷ ws) = cond (has_bytes w.word) (w ∷ ws) ws
+
+lead-parts : (lead : List ℕ) (ws : List SpacedText) → AreSpaced ws
+    → (lead_of (with_lead lead ws) ≡ lead) × (behind_lead (with_lead lead ws) ≡ ws)
+lead-parts [] [] are = (refl, refl)
+lead-parts [] (w ∷ ws) are =
+    let some = lt-ltb 0 (length w.word) (begins-plain (w ∷ ws) are) in
+    (ap (λ b. cond b [] w.white) some, ap (λ b. cond b (w ∷ ws) ws) some)
+lead-parts (c ∷ lead) ws are = (refl, refl)
+
 pub lead-one : (lead other : List ℕ) (ws vs : List SpacedText) → AreSpaced ws → AreSpaced vs
     → with_lead lead ws ≡ with_lead other vs → (lead ≡ other) × (ws ≡ vs)
-lead-one [] [] ws vs are be is = (refl, is)
-lead-one [] (d ∷ other) [] vs are be is = absurd (omega (arith, ap length is))
-lead-one [] (d ∷ other) (w ∷ ws) vs are be is =
-    let some = begins-plain (w ∷ ws) are in
-    absurd (omega (arith, some, ap (λ l. word_lens l) is))
-  where
-    word_lens : List SpacedText → ℕ
-    word_lens [] = 0
-    word_lens (w ∷ ws) = length w.word
-lead-one (c ∷ lead) [] ws [] are be is = absurd (omega (arith, ap length is))
-lead-one (c ∷ lead) [] ws (v ∷ vs) are be is =
-    let some = begins-plain (v ∷ vs) be in
-    absurd (omega (arith, some, ap (λ l. word_lens l) is))
-  where
-    word_lens : List SpacedText → ℕ
-    word_lens [] = 0
-    word_lens (w ∷ ws) = length w.word
-lead-one (c ∷ lead) (d ∷ other) ws vs are be is = (ap lead_of is, ap rest_of is)
-  where
-    lead_of : List SpacedText → List ℕ
-    lead_of [] = []
-    lead_of (w ∷ ws) = w.white
-
-    rest_of : List SpacedText → List SpacedText
-    rest_of [] = []
-    rest_of (w ∷ ws) = ws
+lead-one lead other ws vs are be is =
+    let (front, words) = lead-parts lead ws are in
+    let (begin, behind) = lead-parts other vs be in
+    (sym front ∙ ap lead_of is ∙ begin, sym words ∙ ap behind_lead is ∙ behind)

@@ -1,15 +1,20 @@
 -- A line that begins as another one leaves the fence that it leaves.
-use Rattle.textwrap_base.proofs.Common.{◌≡◌, ℕ, ◌-◌, ◌<◌, ◌⊎◌, ◌||◌, not, Bool, true, false, cond}
-use Rattle.textwrap_base.proofs.Common.{List, [], ◌∷◌, ◌++◌, All, All-head, All-nil, ap, append-nil}
-use Rattle.textwrap_base.proofs.Common.{append_assoc, arith, drop, false_from_ne_true, inl, inr}
-use Rattle.textwrap_base.proofs.Common.{length, drop_all, drop_more, get_or, reverse, suc, zero}
-use Rattle.textwrap_base.proofs.Common.{nat_eq, None, Option, refl, Some, starts_with, subst}
-use Rattle.textwrap_base.proofs.Common.{suffix_len, length-append, sym, take-append-drop}
-use Rattle.textwrap_base.proofs.Common.{true≢false, ⊤, ◌∙◌}
-use Rattle.textwrap_base.proofs.Lists.Parts.{all-right, starts_with-rest, starts_with-true}
+use Rattle.textwrap_marked.proofs.Common.{◌≡◌, ℕ, ◌-◌, ◌<◌, ◌⊎◌, ◌||◌, not, Bool, true, false, cond}
+use Rattle.textwrap_marked.proofs.Common.{List, [], ◌∷◌, ◌++◌, All, All-head, All-nil, ap}
+use Rattle.textwrap_marked.proofs.Common.{append-nil, append_assoc, arith, drop, false_from_ne_true}
+use Rattle.textwrap_marked.proofs.Common.{inl, inr, length, get_or, reverse, suc, zero, nat_eq}
+use Rattle.textwrap_marked.proofs.Common.{None, Option, refl, Some, starts_with, subst, suffix_len}
+use Rattle.textwrap_marked.proofs.Common.{length-append, sym, take-append-drop, true≢false, ⊤, ◌∙◌}
+use Rattle.textwrap_marked.proofs.Common.{all-right, starts_with-rest, suffix_len-le-length}
+use Rattle.textwrap_marked.proofs.Common.{FenceText, entered, fence_at, is_return, StateText}
+use Rattle.textwrap_marked.proofs.Common.{without_returns, is_comment_at, comment_len, begins_text}
+use Rattle.textwrap_marked.proofs.Common.{first_word, is_white, spaced_text, SpacedText}
+use Rattle.textwrap_marked.proofs.Common.{spaced_words, ReflowOptions}
+use Rattle.textwrap_base.proofs.Common.{drop_all, drop_more}
+use Rattle.textwrap_base.proofs.Lists.Parts.{starts_with-true}
 use Rattle.std.proofs.Math.Bool.{or-true}
 use Rattle.std.proofs.lemmas.List.{get_or-reverse}
-use Rattle.std.proofs.lemmas.List.Sums.{prefix_len_passes, suffix_len-le-length}
+use Rattle.std.proofs.lemmas.List.Sums.{prefix_len_passes}
 use Rattle.textwrap_marked.proofs.FenceMarks.{AreMarkWords, AreSafeMarks, behind-lead, behind-words}
 use Rattle.textwrap_marked.proofs.FenceMarks.{IsFirstMark, IsMarkWord, IsSafe, IsSafeFence}
 use Rattle.textwrap_marked.proofs.FenceMarks.{mark-first}
@@ -22,13 +27,7 @@ use Rattle.textwrap_marked.proofs.SpacedBack.{AreSpaced, IsInk, IsLineText, IsSp
 use Rattle.textwrap_marked.proofs.SpacedBack.{line-text, spaced-back, spaced-first}
 use Rattle.textwrap_marked.proofs.WordsIn.{IsPlain}
 use Rattle.textwrap_marked.specs.Columns.{behind_white}
-use Rattle.textwrap_marked.specs.Fences.{FenceText, is_left_by}
-use Rattle.textwrap_marked.specs.Lines.{entered, fence_at, is_return, StateText, without_returns}
-use Rattle.textwrap_marked.specs.Marks.{is_comment_at}
-use Rattle.textwrap_marked.specs.Prefixes.{comment_len}
-use Rattle.textwrap_marked.specs.Signs.{begins_text, first_word}
-use Rattle.textwrap_marked.specs.Words.{is_white, spaced_text, SpacedText, spaced_words}
-use Rattle.textwrap_marked.specs.declared.options.ReflowOptions.{ReflowOptions}
+use Rattle.textwrap_marked.specs.Fences.{is_left_by}
 
 -- nothing, or white first
 abbrev pub EndsText : List ℕ → Type 0

@@ -1,12 +1,16 @@
 -- What is printed of a paragraph before other blocks, read again.
-use Rattle.textwrap_base.proofs.Common.{◌≡◌, ◌≢◌, ℕ, ◌&&◌, ◌||◌, Bool, true, false, List, []}
-use Rattle.textwrap_base.proofs.Common.{◌∷◌, ◌++◌, All, All-append, All-cons, All-head, All-nil, All-tail}
-use Rattle.textwrap_base.proofs.Common.{inr, ap, append-nil, append_assoc, arith, flat_map}
-use Rattle.textwrap_base.proofs.Common.{length, lt-ltb, map, nat_lt, None, refl, subst, sym, ◌∙◌}
-use Rattle.textwrap_base.proofs.Lists.Parts.{all-right, flat}
-use Rattle.std.proofs.Common.{ap₂}
+use Rattle.textwrap_marked.proofs.Common.{◌≡◌, ◌≢◌, ℕ, ◌&&◌, ◌||◌, Bool, true, false, List, [], ◌∷◌}
+use Rattle.textwrap_marked.proofs.Common.{◌++◌, All, All-append, All-cons, All-head, All-nil}
+use Rattle.textwrap_marked.proofs.Common.{All-tail, inr, ap, append-nil, append_assoc, arith}
+use Rattle.textwrap_marked.proofs.Common.{flat_map, length, lt-ltb, map, nat_lt, None, refl, subst}
+use Rattle.textwrap_marked.proofs.Common.{sym, ◌∙◌, all-right, flat, ap₂, flat_map-append}
+use Rattle.textwrap_marked.proofs.Common.{is_beside, stays, from_letter, HasPlainMarkers, IsSameBy}
+use Rattle.textwrap_marked.proofs.Common.{line_sense, as_title, entered, fence_at, is_return}
+use Rattle.textwrap_marked.proofs.Common.{line_of, LineText, passed, StateText, without_returns}
+use Rattle.textwrap_marked.proofs.Common.{words_of, break_white, ending_if, filled_end, IsLaidOut}
+use Rattle.textwrap_marked.proofs.Common.{printed, begins_text, first_word, opens_paragraph}
+use Rattle.textwrap_marked.proofs.Common.{has_letter, spaced_text, SpacedText, ReflowOptions}
 use Rattle.std.proofs.Math.Bool.{and-true}
-use Rattle.std.proofs.lemmas.Grind.{flat_map-append}
 use Rattle.textwrap_marked.proofs.AnewLines.{IsTold}
 use Rattle.textwrap_marked.proofs.BegunAlike.{AreBegun, IsInPlace, return-ends}
 use Rattle.textwrap_marked.proofs.BlockOrder.{AreBlocks}
@@ -21,25 +25,20 @@ use Rattle.textwrap_marked.proofs.LineSenses.{line-sense, line-split}
 use Rattle.textwrap_marked.proofs.LineTests.{letter-no-rule}
 use Rattle.textwrap_marked.proofs.LineWords.{all_shown, AreCutInto, gap, MayPart, spread}
 use Rattle.textwrap_marked.proofs.NewBlock.{block_of, first-of-words, first_of, IsParagraph, renew}
-use Rattle.textwrap_marked.proofs.NewLines.{here-words, later_raws, line_raw, raw-text, returns_at, text-ends, text_end}
-use Rattle.textwrap_marked.proofs.NewLines.{end-white}
+use Rattle.textwrap_marked.proofs.NewLines.{here-words, later_raws, line_raw, raw-text, returns_at}
+use Rattle.textwrap_marked.proofs.NewLines.{text-ends, text_end, end-white}
 use Rattle.textwrap_marked.proofs.OpenBehind.{behind_text, text-letter}
-use Rattle.textwrap_marked.proofs.ParagraphLines.{first-begins, first-parts, first-text, first-unfenced}
-use Rattle.textwrap_marked.proofs.ParagraphLines.{regroup, text-parts}
-use Rattle.textwrap_marked.proofs.PrintedText.{break-again, break-same, break-spaced, ends_as, filled-last}
-use Rattle.textwrap_marked.proofs.PrintedText.{raws-feedless, text-joined}
+use Rattle.textwrap_marked.proofs.ParagraphLines.{first-begins, first-parts, first-text}
+use Rattle.textwrap_marked.proofs.ParagraphLines.{first-unfenced, regroup, text-parts}
+use Rattle.textwrap_marked.proofs.PrintedText.{break-again, break-same, break-spaced, ends_as}
+use Rattle.textwrap_marked.proofs.PrintedText.{filled-last, raws-feedless, text-joined}
 use Rattle.textwrap_marked.proofs.ReadBack.{ending, IsReadBack, Walks}
 use Rattle.textwrap_marked.proofs.ReturnsOff.{return_if}
 use Rattle.textwrap_marked.proofs.SpacedBack.{AreSpaced, IsWhite}
-use Rattle.textwrap_marked.proofs.TextBlocks.{AreTextWords, as-title-none, last_line, read, read-more, title_of}
-use Rattle.textwrap_marked.specs.Blocks.{is_beside, stays}
-use Rattle.textwrap_marked.specs.Laws.{from_letter, HasPlainMarkers, IsSameBy, IsSameParagraph, line_sense}
-use Rattle.textwrap_marked.specs.Lines.{as_title, entered, fence_at, is_return, line_of, LineText, passed, StateText, without_returns}
-use Rattle.textwrap_marked.specs.Pieces.{words_of}
-use Rattle.textwrap_marked.specs.Reflow.{break_white, ending_if, filled_end, IsFilled, IsLaidOut, printed}
-use Rattle.textwrap_marked.specs.Signs.{begins_text, first_word, opens_paragraph}
-use Rattle.textwrap_marked.specs.Words.{has_letter, spaced_text, SpacedText}
-use Rattle.textwrap_marked.specs.declared.options.ReflowOptions.{ReflowOptions}
+use Rattle.textwrap_marked.proofs.TextBlocks.{AreTextWords, as-title-none, last_line, read}
+use Rattle.textwrap_marked.proofs.TextBlocks.{read-more, title_of}
+use Rattle.textwrap_marked.specs.Laws.{IsSameParagraph}
+use Rattle.textwrap_marked.specs.Reflow.{IsFilled}
 
 module _ (justify : Bool) (gaps : ℕ → ℕ) where
   -- what follows the first word of a line

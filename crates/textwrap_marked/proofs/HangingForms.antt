@@ -1,21 +1,18 @@
 -- A hanging form is white and marks that a line behind it is read with.
-use Rattle.textwrap_base.proofs.Common.{◌≡◌, ℕ, suc, ◌≤◌, ◌||◌, Bool, true, false, cond, List}
-use Rattle.textwrap_base.proofs.Common.{[], ◌∷◌, ◌++◌, All, All-append, All-cons, All-head, All-nil}
-use Rattle.textwrap_base.proofs.Common.{All-tail, ap, arith}
-use Rattle.textwrap_base.proofs.Common.{length, refl, subst, sym, take, true≢false, ◌∙◌}
-use Rattle.textwrap_base.proofs.Lists.Parts.{all-left, all-right}
-use Rattle.std.proofs.Math.Bool.{or-false}
-use Rattle.std.proofs.lemmas.List.Elements.{All-replicate}
-use Rattle.textwrap_words.specs.Units.{text_width}
-use Rattle.textwrap_marked.proofs.HangingKinds.{AreMarks, end-text, end_comments, end_lead, hang-text}
-use Rattle.textwrap_marked.proofs.HangingKinds.{hang_lead, hang_marks, IsFull, last-all, last-full, onto_last}
-use Rattle.textwrap_marked.proofs.HangingKinds.{quote-no-star, quotes-are, star, star-no-opening}
-use Rattle.textwrap_marked.proofs.LineKinds.{hanging_of, has_opening_in, HaveKinds, kinds, none-if, one_if, some-if}
+use Rattle.textwrap_marked.proofs.Common.{◌≡◌, ℕ, suc, ◌≤◌, ◌||◌, Bool, true, false, cond, List, []}
+use Rattle.textwrap_marked.proofs.Common.{◌∷◌, ◌++◌, All, All-append, All-cons, All-head, All-nil}
+use Rattle.textwrap_marked.proofs.Common.{All-tail, ap, arith, length, refl, subst, sym, take}
+use Rattle.textwrap_marked.proofs.Common.{true≢false, ◌∙◌, all-left, all-right, or-false}
+use Rattle.textwrap_marked.proofs.Common.{All-replicate, text_width, is_comment_at, is_opening}
+use Rattle.textwrap_marked.proofs.Common.{is_quote, blanks, comment_len, hanging_bullets}
+use Rattle.textwrap_marked.proofs.Common.{spaced_text, SpacedText, ReflowOptions}
+use Rattle.textwrap_marked.proofs.HangingKinds.{AreMarks, end-text, end_comments, end_lead}
+use Rattle.textwrap_marked.proofs.HangingKinds.{hang-text, hang_lead, hang_marks, IsFull, last-all}
+use Rattle.textwrap_marked.proofs.HangingKinds.{last-full, onto_last, quote-no-star, quotes-are}
+use Rattle.textwrap_marked.proofs.HangingKinds.{star, star-no-opening}
+use Rattle.textwrap_marked.proofs.LineKinds.{hanging_of, has_opening_in, HaveKinds, kinds, none-if}
+use Rattle.textwrap_marked.proofs.LineKinds.{one_if, some-if}
 use Rattle.textwrap_marked.proofs.SpacedBack.{IsWhite, plain-one}
-use Rattle.textwrap_marked.specs.Marks.{is_comment_at, is_opening, is_quote}
-use Rattle.textwrap_marked.specs.Prefixes.{blanks, comment_len, hanging_bullets}
-use Rattle.textwrap_marked.specs.Words.{spaced_text, SpacedText}
-use Rattle.textwrap_marked.specs.declared.options.ReflowOptions.{ReflowOptions}
 
 blanks-white : (n : ℕ) → All IsWhite (blanks n)
 blanks-white n = All-replicate IsWhite n 32 refl

@@ -1,25 +1,23 @@
 -- The printed lines of a division are lines of the paragraph's words, with blanks between them.
-use Rattle.textwrap_base.proofs.Common.{◌≡◌, ◌≢◌, ℕ, ◌+◌, ◌-◌, ◌<◌, ◌≤◌, min, Bool, true, false, cond}
-use Rattle.textwrap_base.proofs.Common.{List, [], ◌∷◌, ◌++◌, All, All-head, All-tail, ap, append_assoc}
-use Rattle.textwrap_base.proofs.Common.{append-nil, arith, cond_both, drop, eq-eqb, IsDivision, length}
-use Rattle.textwrap_base.proofs.Common.{map, nat_lt, ne_eqb, onto_first, refl, subst, sym, take}
-use Rattle.textwrap_base.proofs.Common.{◌==◌, ◌&&◌, ◌||◌, ◌/◌, not, ◌∙◌}
-use Rattle.textwrap_base.proofs.Lists.Parts.{all-left, all-right, flat}
+use Rattle.textwrap_marked.proofs.Common.{◌≡◌, ◌≢◌, ℕ, ◌+◌, ◌-◌, ◌<◌, ◌≤◌, Bool, true, false, cond}
+use Rattle.textwrap_marked.proofs.Common.{List, [], ◌∷◌, ◌++◌, All, All-head, All-tail, ap}
+use Rattle.textwrap_marked.proofs.Common.{append_assoc, append-nil, arith, drop, length, map}
+use Rattle.textwrap_marked.proofs.Common.{nat_lt, ne_eqb, onto_first, refl, subst, sym, take, ◌==◌}
+use Rattle.textwrap_marked.proofs.Common.{◌&&◌, ◌||◌, not, ◌∙◌, all-left, all-right, flat, blank}
+use Rattle.textwrap_marked.proofs.Common.{is_blank, word_of, WordText, covered, LineText, pieces}
+use Rattle.textwrap_marked.proofs.Common.{blanks, first_room, later_room, line_text, line_texts}
+use Rattle.textwrap_marked.proofs.Common.{shown_lines, ReflowOptions}
+use Rattle.textwrap_base.proofs.Common.{min, cond_both, eq-eqb, IsDivision, ◌/◌}
 use Rattle.std.specs.Prelude.{◌%◌}
-use Rattle.textwrap_words.proofs.Common.{blank, chunks, is_blank, word_of, words_of, WordText}
-use Rattle.textwrap_words.proofs.Common.{text_width, tiled}
+use Rattle.textwrap_words.proofs.Common.{chunks, words_of, text_width, tiled}
 use Rattle.textwrap_words.proofs.Word.Words.{chunks-from}
-use Rattle.textwrap_lines.specs.Paragraph.{covered, line_bytes, Slice}
+use Rattle.textwrap_lines.specs.Paragraph.{line_bytes, Slice}
 use Rattle.textwrap_display.proofs.WidenedWords.{widened_chunks, widened-text}
 use Rattle.textwrap_display.specs.Justifying.{gaps, indent_len, justified, widened_words}
-use Rattle.textwrap_marked.proofs.LineWords.{all_shown, AreCutInto, division-words, ink-blank, joined, shown}
+use Rattle.textwrap_marked.proofs.LineWords.{all_shown, AreCutInto, division-words, ink-blank}
+use Rattle.textwrap_marked.proofs.LineWords.{joined, shown}
 use Rattle.textwrap_marked.proofs.SpacedBack.{IsInk}
 use Rattle.textwrap_marked.proofs.WordsIn.{IsPlain}
-use Rattle.textwrap_marked.specs.Lines.{LineText}
-use Rattle.textwrap_marked.specs.Pieces.{pieces}
-use Rattle.textwrap_marked.specs.Prefixes.{blanks}
-use Rattle.textwrap_marked.specs.Reflow.{first_room, later_room, line_text, line_texts, shown_lines}
-use Rattle.textwrap_marked.specs.declared.options.ReflowOptions.{ReflowOptions}
 
 -- ---- the chunks of a line
 

@@ -1,26 +1,24 @@
 -- Lines that stay, read again before others that begin alike.
-use Rattle.textwrap_base.proofs.Common.{◌≡◌, ℕ, ◌-◌, ◌<◌, ◌&&◌, Bool, true, false, List, [], ◌∷◌, ◌++◌}
-use Rattle.textwrap_base.proofs.Common.{All, All-cons, All-head, All-tail, ap, append-nil, append_assoc, arith}
-use Rattle.textwrap_base.proofs.Common.{codes, drop, flat_map, inl, inr, join_with_byte, length, lt-ltb, map}
-use Rattle.textwrap_base.proofs.Common.{nat_lt, None, Option, refl, Some, suc, suffix_len, sym, take-append-drop, ⊤, ◌∙◌}
-use Rattle.std.proofs.Common.{ap₂}
+use Rattle.textwrap_marked.proofs.Common.{◌≡◌, ℕ, ◌-◌, ◌<◌, ◌&&◌, Bool, true, false, List, [], ◌∷◌}
+use Rattle.textwrap_marked.proofs.Common.{◌++◌, All, All-cons, All-head, All-tail, ap, append-nil}
+use Rattle.textwrap_marked.proofs.Common.{append_assoc, arith, codes, drop, flat_map, inl, inr}
+use Rattle.textwrap_marked.proofs.Common.{join_with_byte, length, lt-ltb, map, nat_lt, None, Option}
+use Rattle.textwrap_marked.proofs.Common.{refl, Some, suc, suffix_len, sym, take-append-drop, ⊤}
+use Rattle.textwrap_marked.proofs.Common.{◌∙◌, ap₂, bytes_eq, LineEnding, from_letter, line_sense}
+use Rattle.textwrap_marked.proofs.Common.{words_in, as_title, entered, is_return, line_of, LineText}
+use Rattle.textwrap_marked.proofs.Common.{passed, StateText, without_returns, ending_if, kept_line}
+use Rattle.textwrap_marked.proofs.Common.{first_word, opens_paragraph, ReflowOptions}
 use Rattle.std.proofs.Math.Bool.{and-true}
-use Rattle.std.specs.Prelude.{bytes_eq}
-use Rattle.textwrap_lines.specs.declared.line_ending.LineEnding.{LineEnding}
-use Rattle.textwrap_marked.proofs.AnewLines.{anew, anew-content, anew-feedless, anew-line, anew-text, anew_raw}
-use Rattle.textwrap_marked.proofs.AnewLines.{content-return, IsTold, passed-anew}
+use Rattle.textwrap_marked.proofs.AnewLines.{anew, anew-content, anew-feedless, anew-line}
+use Rattle.textwrap_marked.proofs.AnewLines.{anew-text, anew_raw, content-return, IsTold}
+use Rattle.textwrap_marked.proofs.AnewLines.{passed-anew}
 use Rattle.textwrap_marked.proofs.BegunAlike.{AreBegun}
 use Rattle.textwrap_marked.proofs.Feedless.{IsFeedless}
 use Rattle.textwrap_marked.proofs.FenceLeft.{EndsWord, returned}
 use Rattle.textwrap_marked.proofs.FenceMarks.{IsSafe, safe-passed}
 use Rattle.textwrap_marked.proofs.ReturnsOff.{return_if}
 use Rattle.textwrap_marked.proofs.TextBlocks.{line_at, peel, read, read-more, title_of}
-use Rattle.textwrap_marked.specs.Laws.{from_letter, line_sense, words_in}
-use Rattle.textwrap_marked.specs.Lines.{as_title, entered, is_return, line_of, LineText, passed, StateText}
-use Rattle.textwrap_marked.specs.Lines.{without_returns}
-use Rattle.textwrap_marked.specs.Reflow.{ending_if, kept_line}
-use Rattle.textwrap_marked.specs.Signs.{first_word, is_rule, opens_paragraph}
-use Rattle.textwrap_marked.specs.declared.options.ReflowOptions.{ReflowOptions}
+use Rattle.textwrap_marked.specs.Signs.{is_rule}
 
 -- all that the lines before it ask of a line, and of the first of a block
 pub record IsHeadAlike (line other : LineText) : Type 0 where

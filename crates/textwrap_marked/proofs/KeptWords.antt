@@ -1,20 +1,17 @@
 -- The lines of a paragraph, as they are printed, have its words in order.
-use Rattle.textwrap_base.proofs.Common.{◌≡◌, ℕ, Bool, true, false, List, [], ◌∷◌, ◌++◌, All}
-use Rattle.textwrap_base.proofs.Common.{All-append, All-head, All-map, All-nil, All-tail, ap}
-use Rattle.textwrap_base.proofs.Common.{flat_map, IsDivision, length, map, refl, subst, sym, ◌∙◌}
-use Rattle.textwrap_base.proofs.Lists.Parts.{all-left, all-right}
-use Rattle.textwrap_words.proofs.Common.{word_of, WordText}
+use Rattle.textwrap_marked.proofs.Common.{◌≡◌, ℕ, Bool, true, false, List, [], ◌∷◌, ◌++◌, All}
+use Rattle.textwrap_marked.proofs.Common.{All-append, All-head, All-map, All-nil, All-tail, ap}
+use Rattle.textwrap_marked.proofs.Common.{flat_map, length, map, refl, subst, sym, ◌∙◌, all-left}
+use Rattle.textwrap_marked.proofs.Common.{all-right, word_of, WordText, piece_words, words_in}
+use Rattle.textwrap_marked.proofs.Common.{LineText, pieces, words_of, first_room, later_room}
+use Rattle.textwrap_marked.proofs.Common.{line_texts, shown_lines, ReflowOptions}
+use Rattle.textwrap_base.proofs.Common.{IsDivision}
 use Rattle.textwrap_marked.proofs.JustifiedTexts.{lines-shown}
 use Rattle.textwrap_marked.proofs.LineWords.{all_shown, AreCutInto, shown, spread}
 use Rattle.textwrap_marked.proofs.PlainLines.{IsPlainBlock, IsPlainLine}
 use Rattle.textwrap_marked.proofs.SpacedBack.{IsWhite, spaced-in}
 use Rattle.textwrap_marked.proofs.SpreadWords.{spread-spaced, spread-words}
 use Rattle.textwrap_marked.proofs.WordsIn.{IsPlain}
-use Rattle.textwrap_marked.specs.Laws.{piece_words, words_in}
-use Rattle.textwrap_marked.specs.Lines.{LineText}
-use Rattle.textwrap_marked.specs.Pieces.{pieces, words_of}
-use Rattle.textwrap_marked.specs.Reflow.{first_room, later_room, line_texts, shown_lines}
-use Rattle.textwrap_marked.specs.declared.options.ReflowOptions.{ReflowOptions}
 
 module _ (justify : Bool) where
   -- a line has its words

@@ -1,16 +1,17 @@
 -- Texts without a letter or digit.
-use Rattle.textwrap_base.proofs.Common.{◌≡◌, ℕ, ◌&&◌, ◌==◌, not, Bool, true, false, [], ◌∷◌, and_parts, arith, cases_Bool, codes}
-use Rattle.textwrap_base.proofs.Common.{List, eqb-true, length, nat_eq, refl, starts_with, sym, ap, ◌∙◌}
-use Rattle.textwrap_base.proofs.Common.{false_from_ne_true, true≢false}
-use Rattle.std.proofs.lemmas.Slice.Eq.{bytes_eq-Decides}
+use Rattle.textwrap_marked.proofs.Common.{◌≡◌, ℕ, ◌&&◌, ◌==◌, not, Bool, true, false, [], ◌∷◌}
+use Rattle.textwrap_marked.proofs.Common.{arith, cases_Bool, codes, List, eqb-true, length, nat_eq}
+use Rattle.textwrap_marked.proofs.Common.{refl, starts_with, sym, ap, ◌∙◌, false_from_ne_true}
+use Rattle.textwrap_marked.proofs.Common.{true≢false, bytes_eq-Decides, bytes_eq, is_among}
+use Rattle.textwrap_marked.proofs.Common.{is_comment_at, is_opening, is_quote, contains, has_bytes}
+use Rattle.textwrap_marked.proofs.Common.{has_letter, ReflowOptions}
+use Rattle.textwrap_base.proofs.Common.{and_parts}
 use Rattle.std.specs.Char.Unicode.Alphabetic.{is_alphabetic, alphabetic_ranges}
 use Rattle.std.specs.Char.Unicode.Numeric.{is_numeric, numeric_ranges}
 use Rattle.std.specs.Char.Unicode.Rows.{in_ranges}
-use Rattle.std.specs.Prelude.{bytes_eq}
 use Rattle.std.specs.Str.{chars}
-use Rattle.textwrap_marked.specs.Marks.{is_among, is_comment_at, is_line_comment, is_opening, is_quote}
-use Rattle.textwrap_marked.specs.Words.{contains, has_bytes, has_letter, is_made_of}
-use Rattle.textwrap_marked.specs.declared.options.ReflowOptions.{ReflowOptions}
+use Rattle.textwrap_marked.specs.Marks.{is_line_comment}
+use Rattle.textwrap_marked.specs.Words.{is_made_of}
 
 abbrev pub IsPlainMark : List ℕ → Type 0
 IsPlainMark mark = has_letter mark ≡ false

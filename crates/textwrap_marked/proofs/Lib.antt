@@ -5,6 +5,7 @@ pub mod BlockLemmas
 pub mod BlockOrder
 pub mod BlocksAlike
 pub mod BulletLemmas
+pub mod Common
 pub mod ContainedTexts
 pub mod CoveredLemmas
 pub mod EndsAlike

@@ -1,20 +1,19 @@
 -- What is read of a line, from its words by kind: a comment mark, quote marks, bullets and text.
-use Rattle.textwrap_base.proofs.Common.{◌≡◌, ℕ, suc, ◌+◌, ◌-◌, ◌==◌, ◌&&◌, ◌||◌, not, Bool, true, false}
-use Rattle.textwrap_base.proofs.Common.{cond, List, [], ◌∷◌, ◌++◌, ap, append_assoc, append-nil, arith}
-use Rattle.textwrap_base.proofs.Common.{drop, drop_at, length, length-append, list_any, refl}
-use Rattle.textwrap_base.proofs.Common.{cases_Bool, length-take-le, take-append-drop, ◌≤◌}
-use Rattle.textwrap_base.proofs.Common.{slice_range, sym, take, take_at, ◌∙◌, nat_lt, lt-ltb, ne_eqb, eq-eqb, ◌<◌}
-use Rattle.std.specs.Prelude.{is_some}
+use Rattle.textwrap_marked.proofs.Common.{◌≡◌, ℕ, suc, ◌+◌, ◌-◌, ◌==◌, ◌&&◌, ◌||◌, not, Bool, true}
+use Rattle.textwrap_marked.proofs.Common.{false, cond, List, [], ◌∷◌, ◌++◌, ap, append_assoc}
+use Rattle.textwrap_marked.proofs.Common.{append-nil, arith, drop, length, length-append, list_any}
+use Rattle.textwrap_marked.proofs.Common.{refl, cases_Bool, take-append-drop, ◌≤◌, sym, take, ◌∙◌}
+use Rattle.textwrap_marked.proofs.Common.{nat_lt, lt-ltb, ne_eqb, ◌<◌, is_some, is_ended, line_of}
+use Rattle.textwrap_marked.proofs.Common.{LineText, StateText, without_returns, is_bullet}
+use Rattle.textwrap_marked.proofs.Common.{is_comment_at, is_opening, bullets_len, comment_len}
+use Rattle.textwrap_marked.proofs.Common.{hanging_bullets, hanging_comments, quotes_len}
+use Rattle.textwrap_marked.proofs.Common.{closes_block, first_word, is_key, has_byte, spaced_text}
+use Rattle.textwrap_marked.proofs.Common.{SpacedText, spaced_words, ReflowOptions}
+use Rattle.textwrap_base.proofs.Common.{drop_at, length-take-le, slice_range, take_at, eq-eqb}
 use Rattle.textwrap_marked.proofs.SpacedBack.{begins-plain, BeginsPlain, IsLineText, line-back}
 use Rattle.textwrap_marked.proofs.SpacedBack.{with_lead}
-use Rattle.textwrap_marked.specs.Lines.{is_chosen, is_deep, is_ended, line_from, line_of, LineText}
-use Rattle.textwrap_marked.specs.Lines.{stands_apart, StateText, without_returns}
-use Rattle.textwrap_marked.specs.Marks.{is_bullet, is_comment_at, is_opening}
-use Rattle.textwrap_marked.specs.Prefixes.{bullets_len, comment_len, hanging_bullets, hanging_comments}
-use Rattle.textwrap_marked.specs.Prefixes.{is_box, lead_len, prefix_ends, quotes_len}
-use Rattle.textwrap_marked.specs.Signs.{closes_block, first_word, is_key}
-use Rattle.textwrap_marked.specs.Words.{has_byte, spaced_text, SpacedText, spaced_words}
-use Rattle.textwrap_marked.specs.declared.options.ReflowOptions.{ReflowOptions}
+use Rattle.textwrap_marked.specs.Lines.{is_chosen, is_deep, line_from, stands_apart}
+use Rattle.textwrap_marked.specs.Prefixes.{is_box, lead_len, prefix_ends}
 use Rattle.textwrap_marked.specs.declared.prefixes.PrefixEnds.{PrefixEnds}
 
 -- ---- what is read of words by kind

@@ -1,11 +1,13 @@
 -- The words of a line from the first on that has a letter: those of a text behind marks.
-use Rattle.textwrap_base.proofs.Common.{◌≡◌, ℕ, ◌||◌, Bool, true, false, cond, List, []}
-use Rattle.textwrap_base.proofs.Common.{◌∷◌, ◌++◌, All, All-append, All-head, All-map, All-tail}
-use Rattle.textwrap_base.proofs.Common.{All-weaker, ap, append_assoc}
-use Rattle.textwrap_base.proofs.Common.{false_from_ne_true, map, map-append, refl}
-use Rattle.textwrap_base.proofs.Common.{sym, true≢false, ◌∙◌}
-use Rattle.std.proofs.lemmas.Slice.Eq.{bytes_eq-Decides}
-use Rattle.std.specs.Prelude.{bytes_eq}
+use Rattle.textwrap_marked.proofs.Common.{◌≡◌, ℕ, ◌||◌, Bool, true, false, cond, List, [], ◌∷◌}
+use Rattle.textwrap_marked.proofs.Common.{◌++◌, All, All-append, All-head, All-map, All-tail}
+use Rattle.textwrap_marked.proofs.Common.{All-weaker, ap, append_assoc, false_from_ne_true, map}
+use Rattle.textwrap_marked.proofs.Common.{refl, sym, true≢false, ◌∙◌, bytes_eq-Decides, bytes_eq}
+use Rattle.textwrap_marked.proofs.Common.{from_letter, HasPlainMarkers, line_sense, line_of}
+use Rattle.textwrap_marked.proofs.Common.{LineText, StateText, without_returns, is_among}
+use Rattle.textwrap_marked.proofs.Common.{is_comment_at, is_quote, begins_text, first_word}
+use Rattle.textwrap_marked.proofs.Common.{has_letter, spaced_text, SpacedText, ReflowOptions}
+use Rattle.textwrap_base.proofs.Common.{map-append}
 use Rattle.textwrap_marked.proofs.HangingForms.{IsHanging}
 use Rattle.textwrap_marked.proofs.HangingKinds.{AreMarks, full-before, IsFull}
 use Rattle.textwrap_marked.proofs.LaterLines.{IsOfText, line-read}
@@ -14,13 +16,6 @@ use Rattle.textwrap_marked.proofs.LineKinds.{line-is}
 use Rattle.textwrap_marked.proofs.OpenBehind.{text-letter}
 use Rattle.textwrap_marked.proofs.ParagraphLines.{regroup, text-parts}
 use Rattle.textwrap_marked.proofs.SpacedBack.{AreSpaced, IsLineText, IsWhite, text-words}
-use Rattle.textwrap_marked.specs.Laws.{from_letter, HasPlainMarkers, line_sense}
-use Rattle.textwrap_marked.specs.Lines.{line_of, LineText, StateText, without_returns}
-use Rattle.textwrap_marked.specs.Marks.{is_among, is_comment_at, is_quote}
-use Rattle.textwrap_marked.specs.Signs.{begins_text, first_word}
-use Rattle.textwrap_marked.specs.Words.{has_letter, spaced_text}
-use Rattle.textwrap_marked.specs.Words.{SpacedText}
-use Rattle.textwrap_marked.specs.declared.options.ReflowOptions.{ReflowOptions}
 use denote.Ref.{Bor}
 
 -- ---- marks have no letter

@@ -1,28 +1,26 @@
 -- A paragraph of a text, and its lines as they are printed, read again.
-use Rattle.textwrap_base.proofs.Common.{◌≡◌, ℕ, ◌<◌, ◌&&◌, Bool, true, false, List, []}
-use Rattle.textwrap_base.proofs.Common.{◌∷◌, ◌++◌, All, ap, arith, codes, ends_with, length, map}
-use Rattle.textwrap_base.proofs.Common.{nat_eq, nat_lt, refl, subst, sym, ◌∙◌}
+use Rattle.textwrap_marked.proofs.Common.{◌≡◌, ℕ, ◌<◌, ◌&&◌, Bool, true, false, List, [], ◌∷◌, ◌++◌}
+use Rattle.textwrap_marked.proofs.Common.{All, ap, arith, codes, ends_with, length, map, nat_eq}
+use Rattle.textwrap_marked.proofs.Common.{nat_lt, refl, subst, sym, ◌∙◌, without_returns, entered}
+use Rattle.textwrap_marked.proofs.Common.{line_of, LineText, passed, StateText, words_of}
+use Rattle.textwrap_marked.proofs.Common.{begins_text, first_word, last_white, has_byte, SpacedText}
+use Rattle.textwrap_marked.proofs.Common.{ReflowOptions}
 use Rattle.textwrap_marked.proofs.FreeLines.{AreFree, block_at}
 use Rattle.textwrap_marked.proofs.HangingForms.{IsHanging}
 use Rattle.textwrap_marked.proofs.LaterLines.{IsRead, line-read}
 use Rattle.textwrap_marked.proofs.LineKinds.{kinds, line-is, line_by}
 use Rattle.textwrap_marked.proofs.LineWords.{AreCutInto, MayPart, spread}
-use Rattle.textwrap_marked.proofs.NewLines.{AreNewBehind, end-white, here-words, later_raws, line_raw, new-behind}
-use Rattle.textwrap_marked.proofs.NewLines.{raw-text, returns_at, text_end}
+use Rattle.textwrap_marked.proofs.NewLines.{AreNewBehind, end-white, here-words, later_raws}
+use Rattle.textwrap_marked.proofs.NewLines.{line_raw, new-behind, raw-text, returns_at, text_end}
 use Rattle.textwrap_marked.proofs.OpenBehind.{behind_text}
 use Rattle.textwrap_marked.proofs.ParagraphLines.{first-begins, first-hangs, first-keyed, first-new}
 use Rattle.textwrap_marked.proofs.ParagraphLines.{first-starred, first-text, IsFirstAlike, IsNew}
 use Rattle.textwrap_marked.proofs.SpacedBack.{IsWhite}
-use Rattle.textwrap_marked.proofs.SpreadWords.{last_text, spread-columns, spread-first, spread-len, spread-spaced}
+use Rattle.textwrap_marked.proofs.SpreadWords.{last_text, spread-columns, spread-first, spread-len}
+use Rattle.textwrap_marked.proofs.SpreadWords.{spread-spaced}
 use Rattle.textwrap_marked.proofs.TextBlocks.{AreOneBlock, AreTextWords, IsWalked, last_line}
 use Rattle.textwrap_marked.proofs.TextBlocks.{line_at, peel, read, title_of, untitled, walk}
 use Rattle.textwrap_marked.proofs.WordEnds.{spread-free}
-use Rattle.textwrap_marked.specs.Lines.{without_returns}
-use Rattle.textwrap_marked.specs.Lines.{entered, line_of, LineText, passed, StateText}
-use Rattle.textwrap_marked.specs.Pieces.{words_of}
-use Rattle.textwrap_marked.specs.Signs.{begins_text, first_word, last_white}
-use Rattle.textwrap_marked.specs.Words.{has_byte, SpacedText}
-use Rattle.textwrap_marked.specs.declared.options.ReflowOptions.{ReflowOptions}
 
 module _ (options : ReflowOptions) where
   -- a paragraph's first line as it is read, and the walk over the others

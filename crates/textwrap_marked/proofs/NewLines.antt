@@ -1,10 +1,15 @@
 -- The lines of a paragraph as they are printed, read again: behind the first of them.
-use Rattle.textwrap_base.proofs.Common.{◌≡◌, ℕ, ◌<◌, ◌&&◌, ◌||◌, not, Bool, true, false}
-use Rattle.textwrap_base.proofs.Common.{List, [], ◌∷◌, ◌++◌, ◌==◌, All, All-nil, ap, append-nil, append_assoc}
-use Rattle.textwrap_base.proofs.Common.{arith, cases_Bool, codes, ends_with, flat_map, length}
-use Rattle.textwrap_base.proofs.Common.{map, nat_eq, nat_lt, slice_index, refl, subst, sym, ◌∙◌}
-use Rattle.textwrap_base.proofs.Lists.Parts.{all-left, all-right}
-use Rattle.std.specs.Prelude.{bytes_eq}
+use Rattle.textwrap_marked.proofs.Common.{◌≡◌, ℕ, ◌<◌, ◌&&◌, ◌||◌, not, Bool, true, false, List, []}
+use Rattle.textwrap_marked.proofs.Common.{◌∷◌, ◌++◌, ◌==◌, All, All-nil, ap, append-nil}
+use Rattle.textwrap_marked.proofs.Common.{append_assoc, arith, cases_Bool, codes, ends_with}
+use Rattle.textwrap_marked.proofs.Common.{flat_map, length, map, nat_eq, nat_lt, refl, subst, sym}
+use Rattle.textwrap_marked.proofs.Common.{◌∙◌, all-left, all-right, bytes_eq, HasPlainMarkers}
+use Rattle.textwrap_marked.proofs.Common.{line_sense, as_title, entered, is_ended, LineText, passed}
+use Rattle.textwrap_marked.proofs.Common.{StateText, without_returns, words_of, begins_text}
+use Rattle.textwrap_marked.proofs.Common.{closes_block, first_word, is_key, last_white, last_word}
+use Rattle.textwrap_marked.proofs.Common.{opens_paragraph, contains, has_byte, has_letter}
+use Rattle.textwrap_marked.proofs.Common.{spaced_text, SpacedText, ReflowOptions}
+use Rattle.textwrap_base.proofs.Common.{slice_index}
 use Rattle.textwrap_marked.proofs.FreeLines.{AreFree}
 use Rattle.textwrap_marked.proofs.HangingForms.{IsHanging}
 use Rattle.textwrap_marked.proofs.Letterless.{no-comment}
@@ -13,24 +18,19 @@ use Rattle.textwrap_marked.proofs.LineTests.{behind-same, goes-true, letter-no-r
 use Rattle.textwrap_marked.proofs.LineWords.{AreCutInto, MayPart, shown, spread}
 use Rattle.textwrap_marked.proofs.OpenBehind.{behind_text, text-letter}
 use Rattle.textwrap_marked.proofs.ParagraphLines.{IsNew, later-new}
-use Rattle.textwrap_marked.proofs.ReturnsOff.{ends-behind, EndsWell, return_if, shown-end, returns-off, white-end}
+use Rattle.textwrap_marked.proofs.ReturnsOff.{ends-behind, EndsWell, return_if, shown-end}
+use Rattle.textwrap_marked.proofs.ReturnsOff.{returns-off, white-end}
 use Rattle.textwrap_marked.proofs.SpacedBack.{IsWhite}
 use Rattle.textwrap_marked.proofs.SpreadWords.{goes-on, last_text, last-word, MayGoOn, no-mark}
-use Rattle.textwrap_marked.proofs.SpreadWords.{spread-columns, spread-end, spread-first, spread-last, spread-len}
-use Rattle.textwrap_marked.proofs.SpreadWords.{spread-spaced, spread-white, spread-words}
-use Rattle.textwrap_marked.proofs.TextBlocks.{AreClosing, AreOneBlock, AreTextWords, as-title-none, last-behind, last_line}
-use Rattle.textwrap_marked.proofs.TextBlocks.{line_at, NoClose, NoColumn, read, read-more, title_of}
-use Rattle.textwrap_marked.proofs.WordEnds.{closes-last, closing-after, closing-alone, cut-facts, deeper-same}
-use Rattle.textwrap_marked.proofs.WordEnds.{part-cut, spread-free, spread-none}
+use Rattle.textwrap_marked.proofs.SpreadWords.{spread-columns, spread-end, spread-first}
+use Rattle.textwrap_marked.proofs.SpreadWords.{spread-last, spread-len, spread-spaced, spread-white}
+use Rattle.textwrap_marked.proofs.SpreadWords.{spread-words}
+use Rattle.textwrap_marked.proofs.TextBlocks.{AreClosing, AreOneBlock, AreTextWords, as-title-none}
+use Rattle.textwrap_marked.proofs.TextBlocks.{last-behind, last_line, line_at, NoClose, NoColumn}
+use Rattle.textwrap_marked.proofs.TextBlocks.{read, read-more, title_of}
+use Rattle.textwrap_marked.proofs.WordEnds.{closes-last, closing-after, closing-alone, cut-facts}
+use Rattle.textwrap_marked.proofs.WordEnds.{deeper-same, part-cut, spread-free, spread-none}
 use Rattle.textwrap_marked.proofs.WordsIn.{IsPlain}
-use Rattle.textwrap_marked.specs.Laws.{HasPlainMarkers, line_sense}
-use Rattle.textwrap_marked.specs.Lines.{as_title, entered, is_ended}
-use Rattle.textwrap_marked.specs.Lines.{LineText, passed, StateText, without_returns}
-use Rattle.textwrap_marked.specs.Pieces.{words_of}
-use Rattle.textwrap_marked.specs.Signs.{begins_text, closes_block, first_word, is_key}
-use Rattle.textwrap_marked.specs.Signs.{last_white, last_word, opens_paragraph}
-use Rattle.textwrap_marked.specs.Words.{contains, has_byte, has_letter, spaced_text, SpacedText}
-use Rattle.textwrap_marked.specs.declared.options.ReflowOptions.{ReflowOptions}
 
 -- ---- the text of a printed line
 

@@ -1,27 +1,23 @@
 -- Texts that were reflowed, reflowed again.
-use Rattle.textwrap_base.proofs.Common.{◌≡◌, ℕ, Bool, true, false, cond, List, [], ◌∷◌, ◌++◌, ◌==◌}
-use Rattle.textwrap_base.proofs.Common.{All-head, ap, arith, drop, flat_map, join_with_byte, length, nat_eq, nat_lt}
-use Rattle.textwrap_base.proofs.Common.{refl, slice_split, starts_with, subst, sym, true≢false, ◌∙◌, lt-ltb}
-use Rattle.textwrap_base.proofs.Lists.Parts.{starts_with-rest}
-use Rattle.std.proofs.Common.{ap₂}
-use Rattle.std.proofs.lemmas.List.Splits.{join_with_byte-slice_split, length-slice_split}
-use Rattle.textwrap_lines.specs.LineEnding.{ending_bytes}
-use Rattle.textwrap_lines.specs.declared.line_ending.LineEnding.{LineEnding}
-use Rattle.textwrap_lines.specs.declared.line_ending.LineEnding.TheVariants.{CRLF, LF}
+use Rattle.textwrap_marked.proofs.Common.{◌≡◌, ℕ, Bool, true, false, cond, List, [], ◌∷◌, ◌++◌}
+use Rattle.textwrap_marked.proofs.Common.{◌==◌, All-head, ap, arith, drop, flat_map, join_with_byte}
+use Rattle.textwrap_marked.proofs.Common.{length, nat_eq, nat_lt, refl, slice_split, starts_with}
+use Rattle.textwrap_marked.proofs.Common.{subst, sym, true≢false, ◌∙◌, lt-ltb, starts_with-rest}
+use Rattle.textwrap_marked.proofs.Common.{ap₂, length-slice_split, ending_bytes, LineEnding, CRLF}
+use Rattle.textwrap_marked.proofs.Common.{LF, blocks, AreSameParts, HasPlainMarkers, line_sense}
+use Rattle.textwrap_marked.proofs.Common.{text_parts, first_state, lines_of, read_lines}
+use Rattle.textwrap_marked.proofs.Common.{with_titles, byte_order_mark, filled_ending, IsLaidOut}
+use Rattle.textwrap_marked.proofs.Common.{IsReflowedBehind, IsReflowedFrom, ReflowOptions}
+use Rattle.std.proofs.lemmas.List.Splits.{join_with_byte-slice_split}
 use Rattle.textwrap_marked.proofs.AnewLines.{IsTold}
 use Rattle.textwrap_marked.proofs.BegunAlike.{AreBegun, marks-same}
 use Rattle.textwrap_marked.proofs.EndsAlike.{ends-alike, one-line}
 use Rattle.textwrap_marked.proofs.Feedless.{IsFeedless}
 use Rattle.textwrap_marked.proofs.SameParts.{from-other, laid-other, width-same}
 use Rattle.textwrap_marked.proofs.TextBack.{AreReadBack, IsTextBack, text-back}
-use Rattle.textwrap_marked.specs.Blocks.{blocks}
-use Rattle.textwrap_marked.specs.Laws.{AreSameParts, behind_mark, HasPlainMarkers, KeepsEnding, line_sense}
-use Rattle.textwrap_marked.specs.Laws.{mark_of, text_parts, text_sense}
-use Rattle.textwrap_marked.specs.Lines.{first_state, lines_of, read_lines, with_titles}
-use Rattle.textwrap_marked.specs.Reflow.{byte_order_mark, filled_ending, IsLaidOut, IsReflowed}
-use Rattle.textwrap_marked.specs.Reflow.{IsReflowedBehind, IsReflowedFrom}
+use Rattle.textwrap_marked.specs.Laws.{behind_mark, KeepsEnding, mark_of, text_sense}
+use Rattle.textwrap_marked.specs.Reflow.{IsReflowed}
 use Rattle.textwrap_marked.specs.declared.options.Algorithm.{Algorithm}
-use Rattle.textwrap_marked.specs.declared.options.ReflowOptions.{ReflowOptions}
 
 -- ---- without a byte order mark
 

@@ -1,9 +1,9 @@
 -- The words of the lines of a text are plain: bytes between white.
-use Rattle.textwrap_base.proofs.Common.{ℕ, Bool, List, []}
-use Rattle.textwrap_base.proofs.Common.{◌∷◌, ◌++◌, All, All-cons, All-head, All-nil, All-tail}
-use Rattle.textwrap_base.proofs.Common.{sym, length, nat_lt, ◌==◌}
-use Rattle.textwrap_base.proofs.Common.{slice_split, subst}
-use Rattle.textwrap_base.proofs.Lists.Parts.{all-right}
+use Rattle.textwrap_marked.proofs.Common.{ℕ, Bool, List, [], ◌∷◌, ◌++◌, All, All-cons, All-head}
+use Rattle.textwrap_marked.proofs.Common.{All-nil, All-tail, sym, length, nat_lt, ◌==◌, slice_split}
+use Rattle.textwrap_marked.proofs.Common.{subst, all-right, blocks, entered, first_state, line_of}
+use Rattle.textwrap_marked.proofs.Common.{lines_of, LineText, passed, read_lines, StateText}
+use Rattle.textwrap_marked.proofs.Common.{with_titles, without_returns, SpacedText, ReflowOptions}
 use Rattle.textwrap_marked.proofs.BlankPieces.{flat-all}
 use Rattle.textwrap_marked.proofs.LaterLines.{line-read}
 use Rattle.textwrap_marked.proofs.LineKinds.{line-is}
@@ -11,11 +11,6 @@ use Rattle.textwrap_marked.proofs.ParagraphLines.{regroup}
 use Rattle.textwrap_marked.proofs.SpacedBack.{AreSpaced, spaced-plain}
 use Rattle.textwrap_marked.proofs.TextParts.{blocks-flat}
 use Rattle.textwrap_marked.proofs.WordsIn.{IsPlain}
-use Rattle.textwrap_marked.specs.Blocks.{blocks}
-use Rattle.textwrap_marked.specs.Lines.{entered, first_state, line_of, lines_of, LineText, passed}
-use Rattle.textwrap_marked.specs.Lines.{read_lines, StateText, with_titles, without_returns}
-use Rattle.textwrap_marked.specs.Words.{SpacedText}
-use Rattle.textwrap_marked.specs.declared.options.ReflowOptions.{ReflowOptions}
 
 abbrev IsPlainWord : SpacedText → Type 0
 IsPlainWord w = IsPlain w.word

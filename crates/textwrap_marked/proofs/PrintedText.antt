@@ -1,10 +1,13 @@
 -- The text of a paragraph as it is printed is its lines, with a line feed between each two.
-use Rattle.textwrap_base.proofs.Common.{◌≡◌, ◌≢◌, ℕ, ◌-◌, ◌&&◌, Bool, true, false, cond, List, []}
-use Rattle.textwrap_base.proofs.Common.{◌∷◌, ◌++◌, All, All-append, All-cons, All-head, All-nil, All-tail}
-use Rattle.textwrap_base.proofs.Common.{ap, append-nil, append_assoc, arith, codes, drop, ends_with, flat_map}
-use Rattle.textwrap_base.proofs.Common.{join_with_byte, length, nat_eq, nat_lt, refl, subst, suc, sym, ◌∙◌, ◌==◌}
-use Rattle.textwrap_base.proofs.Common.{eqb-true, false_from_ne_true, true≢false, All-weaker}
-use Rattle.textwrap_base.proofs.Lists.Parts.{all-left, all-right}
+use Rattle.textwrap_marked.proofs.Common.{◌≡◌, ◌≢◌, ℕ, ◌-◌, ◌&&◌, Bool, true, false, cond, List, []}
+use Rattle.textwrap_marked.proofs.Common.{◌∷◌, ◌++◌, All, All-append, All-cons, All-head, All-nil}
+use Rattle.textwrap_marked.proofs.Common.{All-tail, ap, append-nil, append_assoc, arith, codes}
+use Rattle.textwrap_marked.proofs.Common.{drop, ends_with, flat_map, join_with_byte, length, nat_eq}
+use Rattle.textwrap_marked.proofs.Common.{nat_lt, refl, subst, suc, sym, ◌∙◌, ◌==◌, eqb-true}
+use Rattle.textwrap_marked.proofs.Common.{false_from_ne_true, true≢false, All-weaker, all-left}
+use Rattle.textwrap_marked.proofs.Common.{all-right, LineText, break_white, ending_if, filled_end}
+use Rattle.textwrap_marked.proofs.Common.{last_white, is_white, spaced_text, SpacedText}
+use Rattle.textwrap_marked.proofs.Common.{ReflowOptions}
 use Rattle.textwrap_marked.proofs.AnewLines.{end-parts, return-feedless}
 use Rattle.textwrap_marked.proofs.Feedless.{IsFeedless, NoFeed}
 use Rattle.textwrap_marked.proofs.KeptLines.{join-more}
@@ -14,11 +17,7 @@ use Rattle.textwrap_marked.proofs.ReturnsOff.{return_if}
 use Rattle.textwrap_marked.proofs.SpacedBack.{AreSpaced, IsWhite}
 use Rattle.textwrap_marked.proofs.SpreadWords.{gap-white, last-more, spread-end}
 use Rattle.textwrap_marked.proofs.TextBlocks.{last_line}
-use Rattle.textwrap_marked.specs.Lines.{LineText}
-use Rattle.textwrap_marked.specs.Reflow.{break_white, ending_if, filled_end}
-use Rattle.textwrap_marked.specs.Signs.{first_white, last_white}
-use Rattle.textwrap_marked.specs.Words.{is_white, spaced_text, SpacedText}
-use Rattle.textwrap_marked.specs.declared.options.ReflowOptions.{ReflowOptions}
+use Rattle.textwrap_marked.specs.Signs.{first_white}
 
 -- ---- what stands behind the last line
 

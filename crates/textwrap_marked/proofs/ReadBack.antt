@@ -1,11 +1,11 @@
 -- What is printed of the blocks of a text, read again.
-use Rattle.textwrap_base.proofs.Common.{◌≡◌, ℕ, ◌||◌, Bool, true, false, List, []}
-use Rattle.textwrap_base.proofs.Common.{◌∷◌, ◌++◌, All, All-append, ap}
-use Rattle.textwrap_base.proofs.Common.{arith, flat_map, join_with_byte, length}
-use Rattle.textwrap_base.proofs.Common.{map, nat_lt, refl, subst, sym, true≢false, ◌∙◌}
-use Rattle.textwrap_base.proofs.Lists.Parts.{all-left, all-right, flat}
-use Rattle.std.proofs.Common.{ap₂}
-use Rattle.std.proofs.lemmas.Grind.{flat_map-append}
+use Rattle.textwrap_marked.proofs.Common.{◌≡◌, ℕ, ◌||◌, Bool, true, false, List, [], ◌∷◌, ◌++◌, All}
+use Rattle.textwrap_marked.proofs.Common.{All-append, ap, arith, flat_map, join_with_byte, length}
+use Rattle.textwrap_marked.proofs.Common.{map, nat_lt, refl, subst, sym, true≢false, ◌∙◌, all-left}
+use Rattle.textwrap_marked.proofs.Common.{all-right, flat, ap₂, flat_map-append, is_beside, stays}
+use Rattle.textwrap_marked.proofs.Common.{AreSameParts, HasPlainMarkers, IsSameBy, line_sense}
+use Rattle.textwrap_marked.proofs.Common.{parts_of_blocks, LineText, StateText, IsLaidOut}
+use Rattle.textwrap_marked.proofs.Common.{kept_line, ReflowOptions}
 use Rattle.textwrap_marked.proofs.AnewLines.{anew, anew_raw, IsTold, kept-anew, last-anew, one-anew}
 use Rattle.textwrap_marked.proofs.BegunAlike.{AreBegun}
 use Rattle.textwrap_marked.proofs.BlockOrder.{AreBlocks}
@@ -15,11 +15,7 @@ use Rattle.textwrap_marked.proofs.FenceMarks.{IsSafe}
 use Rattle.textwrap_marked.proofs.KeptLines.{AreHeads, head-same, keep}
 use Rattle.textwrap_marked.proofs.ReturnsOff.{return_if}
 use Rattle.textwrap_marked.proofs.TextBlocks.{last_line, read}
-use Rattle.textwrap_marked.specs.Blocks.{is_beside, stays}
-use Rattle.textwrap_marked.specs.Laws.{AreSameParts, HasPlainMarkers, IsSameBy, line_sense, parts_of_blocks}
-use Rattle.textwrap_marked.specs.Lines.{LineText, StateText}
-use Rattle.textwrap_marked.specs.Reflow.{IsLaidOut, kept_line, kept_text}
-use Rattle.textwrap_marked.specs.declared.options.ReflowOptions.{ReflowOptions}
+use Rattle.textwrap_marked.specs.Reflow.{kept_text}
 
 module _ (options : ReflowOptions) (returns : Bool) (told : IsTold options.ending returns) where
   abbrev pub ending : List ℕ

@@ -1,23 +1,17 @@
 -- What becomes of two texts of the same parts is the same.
-use Rattle.textwrap_base.proofs.Common.{◌∙◌, ◌≡◌, ℕ, ◌-◌, ◌||◌, Bool, true, false, List, [], ◌∷◌, ◌++◌, ap}
-use Rattle.textwrap_base.proofs.Common.{length, map, nat_lt, refl, slice_split, subst}
-use Rattle.textwrap_base.proofs.Common.{sym, ◌==◌}
-use Rattle.textwrap_words.proofs.Common.{IsDividedBy, sizes_of, word_of, WordText}
-use Rattle.textwrap_lines.specs.LineEnding.{ending_bytes}
+use Rattle.textwrap_marked.proofs.Common.{◌∙◌, ◌≡◌, ℕ, ◌-◌, ◌||◌, Bool, true, false, List, [], ◌∷◌}
+use Rattle.textwrap_marked.proofs.Common.{◌++◌, ap, length, map, nat_lt, refl, slice_split, subst}
+use Rattle.textwrap_marked.proofs.Common.{sym, ◌==◌, IsDividedBy, sizes_of, word_of, WordText}
+use Rattle.textwrap_marked.proofs.Common.{ending_bytes, blocks, is_beside, stays, AreSameParts}
+use Rattle.textwrap_marked.proofs.Common.{IsSameBy, Part, parts_of_blocks, text_parts}
+use Rattle.textwrap_marked.proofs.Common.{without_returns, entered, first_state, line_of, lines_of}
+use Rattle.textwrap_marked.proofs.Common.{LineText, passed, read_lines, StateText, with_titles}
+use Rattle.textwrap_marked.proofs.Common.{pieces, algorithm_of, filled_ending, IsLaidOut, IsOfBlock}
+use Rattle.textwrap_marked.proofs.Common.{IsReflowedFrom, line_texts, printed, ReflowOptions}
 use Rattle.textwrap_marked.proofs.TextBack.{text-back}
-use Rattle.textwrap_marked.specs.Blocks.{blocks, is_beside, stays}
 use Rattle.textwrap_marked.specs.Columns.{columns}
-use Rattle.textwrap_marked.specs.Laws.{AreNewParts, AreSameParts}
-use Rattle.textwrap_marked.specs.Laws.{IsSameBy, Part, parts_of_blocks, text_parts}
-use Rattle.textwrap_marked.specs.Lines.{without_returns}
-use Rattle.textwrap_marked.specs.Lines.{entered, first_state, line_of, lines_of, LineText, passed, read_lines}
-use Rattle.textwrap_marked.specs.Lines.{StateText, with_titles}
-use Rattle.textwrap_marked.specs.Pieces.{pieces}
-use Rattle.textwrap_marked.specs.Reflow.{algorithm_of, filled_ending}
-use Rattle.textwrap_marked.specs.Reflow.{IsLaidOut, IsOfBlock, IsReflowedFrom}
-use Rattle.textwrap_marked.specs.Reflow.{line_texts, printed}
+use Rattle.textwrap_marked.specs.Laws.{AreNewParts}
 use Rattle.textwrap_marked.specs.declared.options.Algorithm.{Algorithm}
-use Rattle.textwrap_marked.specs.declared.options.ReflowOptions.{ReflowOptions}
 
 module _ (options : ReflowOptions) (ending : List ℕ) where
   -- ---- one part

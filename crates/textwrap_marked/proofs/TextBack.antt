@@ -1,25 +1,24 @@
 -- A new text, read again, has the parts of the text.
-use Rattle.textwrap_base.proofs.Common.{None, Option, Some, ◌≡◌, ℕ, ◌<◌, ◌||◌, not, Bool, true, false, List, [], ◌∷◌, ◌++◌, ◌==◌}
-use Rattle.textwrap_base.proofs.Common.{All, All-nil, ap, arith, flat_map, join_with_byte, length, nat_lt, lt-ltb}
-use Rattle.textwrap_base.proofs.Common.{cases_Bool, refl, slice_split, subst, sym, true≢false, ◌∙◌}
-use Rattle.textwrap_base.proofs.Lists.Parts.{all-left, flat}
-use Rattle.std.proofs.lemmas.List.Splits.{length-slice_split}
-use Rattle.textwrap_lines.specs.declared.line_ending.LineEnding.{LineEnding}
+use Rattle.textwrap_marked.proofs.Common.{None, Option, Some, ◌≡◌, ℕ, ◌<◌, ◌||◌, not, Bool, true}
+use Rattle.textwrap_marked.proofs.Common.{false, List, [], ◌∷◌, ◌++◌, ◌==◌, All, All-nil, ap, arith}
+use Rattle.textwrap_marked.proofs.Common.{flat_map, join_with_byte, length, nat_lt, lt-ltb}
+use Rattle.textwrap_marked.proofs.Common.{cases_Bool, refl, slice_split, subst, sym, true≢false}
+use Rattle.textwrap_marked.proofs.Common.{◌∙◌, all-left, flat, length-slice_split, LineEnding}
+use Rattle.textwrap_marked.proofs.Common.{blocks, is_beside, stays, AreSameParts, HasPlainMarkers}
+use Rattle.textwrap_marked.proofs.Common.{line_sense, parts_of_blocks, text_parts, first_state}
+use Rattle.textwrap_marked.proofs.Common.{lines_of, LineText, StateText, filled_ending, IsLaidOut}
+use Rattle.textwrap_marked.proofs.Common.{IsOfBlock, IsReflowedFrom, ReflowOptions}
 use Rattle.textwrap_marked.proofs.AnewLines.{bytes-by, IsTold, returns_by}
 use Rattle.textwrap_marked.proofs.BegunAlike.{AreBegun}
 use Rattle.textwrap_marked.proofs.BlockOrder.{AreBlocks, blocks-are, blocks-back}
-use Rattle.textwrap_marked.proofs.Feedless.{IsFeedless, IsFeedlessLine, read-feedless, split-feedless, split-joined}
+use Rattle.textwrap_marked.proofs.Feedless.{IsFeedless, IsFeedlessLine, read-feedless}
+use Rattle.textwrap_marked.proofs.Feedless.{split-feedless, split-joined}
 use Rattle.textwrap_marked.proofs.FenceMarks.{IsSafe, safe-none}
 use Rattle.textwrap_marked.proofs.FilledBack.{filled-step}
 use Rattle.textwrap_marked.proofs.NewBlock.{paragraph-at}
 use Rattle.textwrap_marked.proofs.ReadBack.{ending, IsReadBack, kept-step}
 use Rattle.textwrap_marked.proofs.TextBlocks.{read, read-more}
 use Rattle.textwrap_marked.proofs.TextParts.{blocks-flat}
-use Rattle.textwrap_marked.specs.Blocks.{blocks, is_beside, stays}
-use Rattle.textwrap_marked.specs.Laws.{AreSameParts, HasPlainMarkers, line_sense, parts_of_blocks, text_parts}
-use Rattle.textwrap_marked.specs.Lines.{first_state, lines_of, LineText, StateText}
-use Rattle.textwrap_marked.specs.Reflow.{filled_ending, IsLaidOut, IsOfBlock, IsReflowedFrom}
-use Rattle.textwrap_marked.specs.declared.options.ReflowOptions.{ReflowOptions}
 
 level-first : (a b c : Bool) → (a || not b || c) ≡ false → a ≡ false
 level-first a b c is = grind (arith, cases_Bool)

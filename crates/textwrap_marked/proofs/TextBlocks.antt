@@ -1,11 +1,16 @@
 -- The lines of a paragraph of a text, one after another.
-use Rattle.textwrap_base.proofs.Common.{◌≡◌, ℕ, ◌<◌, ◌&&◌, ◌||◌, not, Bool, true, false, List, []}
-use Rattle.textwrap_base.proofs.Common.{◌∷◌, ◌++◌, All, All-append, All-map, All-head, All-tail, ap, append-nil, arith, codes}
-use Rattle.textwrap_base.proofs.Common.{cases_Bool, flat_map, length, length-append, length-map, map, nat_lt, refl, subst, sym, ⊤, ◌∙◌}
-use Rattle.std.proofs.Common.{ap₂}
-use Rattle.std.proofs.Math.Bool.{or-false}
-use Rattle.std.proofs.lemmas.Slice.Eq.{bytes_eq-Decides}
-use Rattle.std.specs.Prelude.{bytes_eq}
+use Rattle.textwrap_marked.proofs.Common.{◌≡◌, ℕ, ◌<◌, ◌&&◌, ◌||◌, not, Bool, true, false, List, []}
+use Rattle.textwrap_marked.proofs.Common.{◌∷◌, ◌++◌, All, All-append, All-map, All-head, All-tail}
+use Rattle.textwrap_marked.proofs.Common.{ap, append-nil, arith, codes, cases_Bool, flat_map}
+use Rattle.textwrap_marked.proofs.Common.{length, length-append, map, nat_lt, refl, subst, sym, ⊤}
+use Rattle.textwrap_marked.proofs.Common.{◌∙◌, ap₂, or-false, bytes_eq-Decides, bytes_eq, goes_on}
+use Rattle.textwrap_marked.proofs.Common.{HasPlainMarkers, line_sense, without_returns, as_title}
+use Rattle.textwrap_marked.proofs.Common.{entered, is_ended, line_of, LineText, passed, read_lines}
+use Rattle.textwrap_marked.proofs.Common.{StateText, with_titles, words_of, closes_block}
+use Rattle.textwrap_marked.proofs.Common.{begins_text, closes_early, first_word, front_of}
+use Rattle.textwrap_marked.proofs.Common.{is_column_word, last_word, opens_paragraph, contains}
+use Rattle.textwrap_marked.proofs.Common.{SpacedText, ReflowOptions}
+use Rattle.textwrap_base.proofs.Common.{length-map}
 use Rattle.textwrap_marked.proofs.HangingForms.{IsHanging}
 use Rattle.textwrap_marked.proofs.LaterLines.{IsOfText}
 use Rattle.textwrap_marked.proofs.LineSenses.{later-sense}
@@ -14,16 +19,8 @@ use Rattle.textwrap_marked.proofs.ParagraphLines.{later-line}
 use Rattle.textwrap_marked.proofs.SpacedBack.{AreSpaced, spaced-plain}
 use Rattle.textwrap_marked.proofs.SpreadWords.{front-more, last-more, last_text}
 use Rattle.textwrap_marked.proofs.WordsIn.{IsPlain}
-use Rattle.textwrap_marked.specs.Blocks.{goes_on}
-use Rattle.textwrap_marked.specs.Laws.{HasPlainMarkers, line_sense}
-use Rattle.textwrap_marked.specs.Lines.{without_returns}
-use Rattle.textwrap_marked.specs.Lines.{as_title, entered, is_ended, is_title, line_of, LineText, passed}
-use Rattle.textwrap_marked.specs.Lines.{read_lines, StateText, with_titles}
-use Rattle.textwrap_marked.specs.Pieces.{words_of}
-use Rattle.textwrap_marked.specs.Signs.{closes_block, begins_text, closes_early, ends_early, first_word, front_of}
-use Rattle.textwrap_marked.specs.Signs.{is_column_word, last_word, opens_paragraph}
-use Rattle.textwrap_marked.specs.Words.{contains, SpacedText}
-use Rattle.textwrap_marked.specs.declared.options.ReflowOptions.{ReflowOptions}
+use Rattle.textwrap_marked.specs.Lines.{is_title}
+use Rattle.textwrap_marked.specs.Signs.{ends_early}
 
 -- the last of some texts is that of those behind others
 pub last-behind : (words : List (List ℕ)) (word : List ℕ) (later : List (List ℕ))

@@ -1,18 +1,16 @@
 -- The words of a paragraph's last line, and the last of them.
-use Rattle.textwrap_base.proofs.Common.{◌≡◌, ◌≢◌, ℕ, ◌<◌, ◌&&◌, ◌||◌, not, Bool, true, false, cond, List}
-use Rattle.textwrap_base.proofs.Common.{[], ◌∷◌, ◌++◌, All, All-cons, All-nil, ap}
-use Rattle.textwrap_base.proofs.Common.{append-nil, arith, cases_Bool, codes, ends_with, length, map, nat_eq, refl, subst, sym, ◌∙◌}
+use Rattle.textwrap_marked.proofs.Common.{◌≡◌, ◌≢◌, ℕ, ◌<◌, ◌&&◌, ◌||◌, not, Bool, true, false}
+use Rattle.textwrap_marked.proofs.Common.{cond, List, [], ◌∷◌, ◌++◌, All, All-cons, All-nil, ap}
+use Rattle.textwrap_marked.proofs.Common.{append-nil, arith, cases_Bool, codes, ends_with, length}
+use Rattle.textwrap_marked.proofs.Common.{map, nat_eq, refl, subst, sym, ◌∙◌, deeper_by, is_cut}
+use Rattle.textwrap_marked.proofs.Common.{begins_text, closes_block, closes_early, first_word}
+use Rattle.textwrap_marked.proofs.Common.{front_of, last_word, contains, SpacedText, ReflowOptions}
 use Rattle.textwrap_marked.proofs.Letterless.{dots-plain}
 use Rattle.textwrap_marked.proofs.LineWords.{MayPart, spread}
 use Rattle.textwrap_marked.proofs.OpenBehind.{none-any, text-other}
 use Rattle.textwrap_marked.proofs.SpreadWords.{last_text, spread-any, spread-words}
 use Rattle.textwrap_marked.proofs.TextBlocks.{AreClosing, closing-before, early-more, NoClose}
-use Rattle.textwrap_marked.specs.Lines.{deeper_by}
-use Rattle.textwrap_marked.specs.Pieces.{is_cut}
-use Rattle.textwrap_marked.specs.Signs.{begins_text, closes_block, closes_early, ends_early, first_word, front_of}
-use Rattle.textwrap_marked.specs.Signs.{last_word, may_go_on}
-use Rattle.textwrap_marked.specs.Words.{contains, SpacedText}
-use Rattle.textwrap_marked.specs.declared.options.ReflowOptions.{ReflowOptions}
+use Rattle.textwrap_marked.specs.Signs.{ends_early, may_go_on}
 
 -- ---- the last of some texts
 

@@ -1,12 +1,10 @@
 -- The words between white of a text that is put together.
-use Rattle.textwrap_base.proofs.Common.{◌≡◌, ℕ, ◌<◌, true, false, cond, List, [], ◌∷◌, ◌++◌, All}
-use Rattle.textwrap_base.proofs.Common.{All-head, All-tail, ap, arith, flat_map, length, lt-ltb}
-use Rattle.textwrap_base.proofs.Common.{onto_first, refl, slice_split, ◌∙◌}
-use Rattle.std.proofs.lemmas.Grind.{flat_map-append}
-use Rattle.std.proofs.lemmas.List.Splits.{length-slice_split, slice_split_none}
+use Rattle.textwrap_marked.proofs.Common.{◌≡◌, ℕ, ◌<◌, true, false, cond, List, [], ◌∷◌, ◌++◌, All}
+use Rattle.textwrap_marked.proofs.Common.{All-head, All-tail, ap, arith, flat_map, length, lt-ltb}
+use Rattle.textwrap_marked.proofs.Common.{onto_first, refl, slice_split, ◌∙◌, flat_map-append}
+use Rattle.textwrap_marked.proofs.Common.{length-slice_split, words_in, has_bytes, is_white}
+use Rattle.std.proofs.lemmas.List.Splits.{slice_split_none}
 use Rattle.textwrap_base.proofs.Lists.Parts.{onto_first-append}
-use Rattle.textwrap_marked.specs.Laws.{words_in}
-use Rattle.textwrap_marked.specs.Words.{has_bytes, is_white}
 
 -- ---- texts
 

@@ -212,13 +212,13 @@ module _ (options : ReflowOptions) (returns : Bool) (told : IsTold options.endin
       let rest = flat bs in
       let others = flat later.blocks in
       let end = break_white final in
-      let white = break-spaced final p.walked.spaced in
+      let white = break-spaced final p.walked.of.spaced in
       let fed = nat_lt 0 (length later.again) in
       let more = returns && fed in
       let ends = return_if returns ++ 10 ∷ [] in
       let lines_shown = all_shown options.justify wide ((word ∷ words) ∷ ls) in
       let title : (l : LineText) → l.hanging ≡ here.hanging → title_of l others ≡ false =
-      λ l same. title-heads final l rest others later.heads (same ∙ sym p.walked.hangs) ∙ p.walked.title in
+      λ l same. title-heads final l rest others later.heads (same ∙ sym p.walked.of.hangs) ∙ p.walked.title in
       let (alike, new_is, n) = renew options at raw first lines rest p wide returns end white (break-same final)
       later.again others later.reads title word words later_words ls may cut parts in
       let new_raw = line_raw options.justify wide returns more end here.prefix (word ∷ words) ls in
@@ -269,8 +269,8 @@ module _ (options : ReflowOptions) (returns : Bool) (told : IsTold options.endin
         are = (
           n.one,
           stops-same final last_new bs later.blocks are later.are later.heads (record {
-            hangs = n.hangs ∙ sym p.walked.hangs;
-            ended = n.ends ∙ sym p.walked.ends;
+            hangs = n.hangs ∙ sym p.walked.of.hangs;
+            ended = n.ends ∙ sym p.walked.of.ends;
             apart = n.apart ∙ sym p.walked.apart;
           }) stops,
           later.are,

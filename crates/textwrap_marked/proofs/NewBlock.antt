@@ -135,8 +135,8 @@ module _ (options : ReflowOptions) (state : StateText) (raw : List ℕ) (first :
         (spread options.justify (wide (length ls)) (word ∷ words) (text_end end ls))
         × AreNewBehind options block_of first_of.starred wide first_of.hanging p.front p.ds p.rs p.hang
         (first-starred options state raw p.fed p.lead p.cs p.qs p.bs p.ws p.has p.apart) returns more_of
-        end white last_of.words left others reads title p.walked.closing p.walked.some p.walked.starred
-        p.walked.begins breaks state new ((word ∷ words) ++ later) raws
+        end white last_of.words left others reads title p.walked.closing p.walked.of.some p.walked.of.starred
+        p.walked.of.begins breaks state new ((word ∷ words) ++ later) raws
     renew word words later ls may cut is =
         let in_block = block_of in
         let starred = first_of.starred in
@@ -172,8 +172,8 @@ module _ (options : ReflowOptions) (state : StateText) (raw : List ℕ) (first :
           new,
           new-behind options in_block starred wide first_of.hanging p.front p.ds p.rs p.hang
               (first-starred options state raw p.fed p.lead p.cs p.qs p.bs p.ws p.has p.apart) returns
-              more_of end white last_of.words left others reads title p.walked.closing p.walked.some
-              p.walked.starred p.walked.begins breaks ls word words later state
+              more_of end white last_of.words left others reads title p.walked.closing p.walked.of.some
+              p.walked.of.starred p.walked.of.begins breaks ls word words later state
               (line_of options state new_raw (nat_lt 0 (length raws))) first_of.prefix may cut all
               (sym (ap last_text is) ∙ p.walked.final) begins new refl,
         )

@@ -7,7 +7,7 @@ use Rattle.textwrap_marked.proofs.Common.{◌∙◌, ap₂, or-false, bytes_eq-D
 use Rattle.textwrap_marked.proofs.Common.{HasPlainMarkers, line_sense, without_returns, as_title}
 use Rattle.textwrap_marked.proofs.Common.{entered, is_ended, line_of, LineText, passed, read_lines}
 use Rattle.textwrap_marked.proofs.Common.{StateText, with_titles, words_of, closes_block}
-use Rattle.textwrap_marked.proofs.Common.{begins_text, closes_early, first_word, front_of}
+use Rattle.textwrap_marked.proofs.Common.{closes_early, first_word, front_of}
 use Rattle.textwrap_marked.proofs.Common.{is_column_word, last_word, opens_paragraph, contains}
 use Rattle.textwrap_marked.proofs.Common.{SpacedText, ReflowOptions}
 use Rattle.textwrap_base.proofs.Common.{length-map}
@@ -16,7 +16,7 @@ use Rattle.textwrap_marked.proofs.LaterLines.{IsOfText}
 use Rattle.textwrap_marked.proofs.LineSenses.{later-sense}
 use Rattle.textwrap_marked.proofs.OpenBehind.{any-none, behind_text, no-columns, or-left, or-right}
 use Rattle.textwrap_marked.proofs.ParagraphLines.{later-line}
-use Rattle.textwrap_marked.proofs.SpacedBack.{AreSpaced, spaced-plain}
+use Rattle.textwrap_marked.proofs.SpacedBack.{spaced-plain}
 use Rattle.textwrap_marked.proofs.SpreadWords.{front-more, last-more, last_text}
 use Rattle.textwrap_marked.proofs.WordsIn.{IsPlain}
 use Rattle.textwrap_marked.specs.Lines.{is_title}
@@ -226,15 +226,11 @@ module _ (options : ReflowOptions) (in_block : Bool) (hanging lead : List ℕ) (
     pub left : List (List ℕ)
     pub whole : raws ≡ done ++ left
     pub reads : rest ≡ read options (behind_text in_block hanging (last_line line lines).words) left
-    pub hangs : (last_line line lines).hanging ≡ hanging
+    pub at : StateText
+    pub of : IsOfText options in_block hanging at (last_line line lines)
     pub apart : (last_line line lines).apart ≡ false
-    pub ends : (last_line line lines).ended ≡ is_ended in_block (last_line line lines).words
     pub title : title_of (last_line line lines) rest ≡ false
     pub fed : (last_line line lines).fed ≡ nat_lt 0 (length left)
-    pub some : 0 < length (last_line line lines).words
-    pub spaced : AreSpaced (last_line line lines).words
-    pub starred : Bool
-    pub begins : begins_text starred (first_word (last_line line lines).words) ≡ true
     pub closing : AreClosing in_block (map (λ w. w.word) (last_line line lines).words)
     pub words_some : 0 < length (words_of (line ∷ lines))
     pub final : last_text (words_of (line ∷ lines))
@@ -271,15 +267,11 @@ module _ (options : ReflowOptions) (in_block : Bool) (hanging lead : List ℕ) (
         left = walked.left;
         whole = whole ∙ ap (λ l. raw ∷ l) walked.whole;
         reads = walked.reads;
-        hangs = walked.hangs;
+        at = walked.at;
+        of = walked.of;
         apart = walked.apart;
-        ends = walked.ends;
         title = walked.title;
         fed = walked.fed;
-        some = walked.some;
-        spaced = walked.spaced;
-        starred = walked.starred;
-        begins = walked.begins;
         closing = walked.closing;
         words_some = omega (arith, walked.words_some, length-append mine others);
         final = walked-last mine others walked.words_some ∙ walked.final;
@@ -301,15 +293,11 @@ module _ (options : ReflowOptions) (in_block : Bool) (hanging lead : List ℕ) (
     left = raws;
     whole = refl;
     reads = is ∙ ap (λ s. read options s raws) of.behind;
-    hangs = of.hangs;
+    at = state;
+    of = of;
     apart = apart;
-    ends = of.ends;
     title = title;
     fed = fed;
-    some = of.some;
-    spaced = of.spaced;
-    starred = of.starred;
-    begins = of.begins;
     closing = last-closing in_block line.words of.closes;
     words_some = omega (
       arith,

@@ -39,9 +39,9 @@ pub fn what_stands_apart_stays()
     ensures { WhatStandsApartStays }
 {}
 
-/// Nothing is lost or mixed: the new text is, part by part, the blocks of the text in order. Those that
-/// stay have at most other endings, and the lines of each paragraph, behind its prefix and the hanging
-/// form, have the words of its lines in order.
+/// The words of each paragraph stay: the new text is, part by part, the blocks of the text in order.
+/// Those that stay have at most other endings, and the lines of each paragraph, behind its prefix and the
+/// hanging form, have the words of its lines in order.
 pub fn words_are_kept()
     ensures { WordsAreKept }
 {}
@@ -68,8 +68,9 @@ pub fn reflowed_twice_is_once()
 {}
 
 /// Another width or algorithm first makes no difference: what a text becomes that was reflowed by them
-/// before, it becomes at once. Only where the text between is a single line, filled lines of it and of
-/// the text have to end the same: a text of CR LF lines without a final one has forgotten its ending then.
+/// before, it becomes at once. All other options are the same in both runs. Only where the text between is
+/// a single line, filled lines of it and of the text have to end the same: a text of CR LF lines without a
+/// final one has forgotten its ending then.
 pub fn earlier_widths_make_no_difference()
     ensures { EarlierWidthsMakeNoDifference }
 {}

@@ -14,9 +14,11 @@ use Rattle.textwrap_marked.proofs.BegunAlike.{AreBegun, marks-same}
 use Rattle.textwrap_marked.proofs.EndsAlike.{ends-alike, one-line}
 use Rattle.textwrap_marked.proofs.Feedless.{IsFeedless}
 use Rattle.textwrap_marked.proofs.SameParts.{from-other, laid-other, width-same}
-use Rattle.textwrap_marked.proofs.TextBack.{AreReadBack, IsTextBack, text-back}
+use Rattle.textwrap_marked.proofs.TextBack.{AreReadBack, IsTextBack, text-back, within-back}
 use Rattle.textwrap_marked.specs.Laws.{behind_mark, KeepsEnding, mark_of, text_sense}
 use Rattle.textwrap_marked.specs.Reflow.{IsReflowed}
+use Rattle.textwrap_marked.specs.Within.{IsReflowedWithin, IsReflowedWithinBehind, IsReflowedWithinFrom}
+use Rattle.textwrap_marked.specs.declared.within.LineRange.{LineRange}
 use Rattle.textwrap_marked.specs.declared.options.Algorithm.{Algorithm}
 
 -- ---- without a byte order mark
@@ -97,24 +99,30 @@ marked : (rest whole : List ℕ) → whole ≡ byte_order_mark ++ rest
     → starts_with nat_eq whole byte_order_mark ≡ true
 marked rest whole is = ap (λ t. starts_with nat_eq t byte_order_mark) is
 
-module _ (options : ReflowOptions) (text reflowed : List ℕ) where
-  -- both begin with the same byte order mark, or none, and what follows in the one becomes the other's
+-- what follows a byte order mark in a text, if there is one, becomes what follows it in the other
+module _ (options : ReflowOptions) (From : List ℕ → List ℕ → Type 0)
+    (each : (text reflowed : List ℕ) → From text reflowed → IsTextBack options text reflowed)
+    (text reflowed : List ℕ) where
+  abbrev BecomesBy : Bool → Type 0
+  BecomesBy true =
+      (rest : List ℕ) × From (drop 3 text) rest × (reflowed ≡ byte_order_mark ++ rest)
+  BecomesBy false = From text reflowed
+
+  -- both begin with the same one, or none
   abbrev IsBehind : Type 0
   IsBehind =
       (starts_with nat_eq reflowed byte_order_mark ≡ starts_with nat_eq text byte_order_mark)
-      × IsReflowedFrom options (behind_mark text) (behind_mark reflowed)
+      × From (behind_mark text) (behind_mark reflowed)
 
-  unmarked : IsReflowed options text reflowed → IsBehind
-  unmarked = cut (starts_with nat_eq text byte_order_mark) refl
+  unmarked : (b : Bool) → starts_with nat_eq text byte_order_mark ≡ b → BecomesBy b → IsBehind
+  unmarked b is becomes = cut b is becomes
     where
-      from : (a b : List ℕ) → behind_mark text ≡ a → behind_mark reflowed ≡ b
-          → IsReflowedFrom options a b → IsReflowedFrom options (behind_mark text) (behind_mark reflowed)
+      from : (a b : List ℕ) → behind_mark text ≡ a → behind_mark reflowed ≡ b → From a b
+          → From (behind_mark text) (behind_mark reflowed)
       from a b p q laid =
-          subst (λ t. IsReflowedFrom options t (behind_mark reflowed)) (sym p)
-          (subst (IsReflowedFrom options a) (sym q) laid)
+          subst (λ t. From t (behind_mark reflowed)) (sym p) (subst (From a) (sym q) laid)
 
-      cut : (b : Bool) → starts_with nat_eq text byte_order_mark ≡ b
-          → IsReflowedBehind b options text reflowed → IsBehind
+      cut : (b : Bool) → starts_with nat_eq text byte_order_mark ≡ b → BecomesBy b → IsBehind
       cut true is (rest, laid, whole) =
           let begins = marked rest reflowed whole in (
             begins ∙ sym is,
@@ -122,42 +130,74 @@ module _ (options : ReflowOptions) (text reflowed : List ℕ) where
                 laid,
           )
       cut false is laid =
-          let same = begins-alike options _ _ text reflowed (text-back options text reflowed laid) in
+          let same = begins-alike options _ _ text reflowed (each text reflowed laid) in
           (same, from text reflowed (begins-so text false is) (begins-so reflowed false (same ∙ is)) laid)
 
-  remarked : IsBehind → IsReflowed options text reflowed
-  remarked (same, laid) = cut (starts_with nat_eq text byte_order_mark) refl
-    where
-      cut : (b : Bool) → starts_with nat_eq text byte_order_mark ≡ b
-          → IsReflowedBehind b options text reflowed
-      cut true is = (
-        behind_mark reflowed,
-        subst (λ t. IsReflowedFrom options t (behind_mark reflowed)) (begins-so text true is) laid,
-        starts_with-rest byte_order_mark reflowed (same ∙ is)
-            ∙ ap (λ t. byte_order_mark ++ t) (sym (begins-so reflowed true (same ∙ is))),
-      )
-      cut false is =
-          subst (λ t. IsReflowedFrom options t reflowed) (begins-so text false is)
-          (subst (IsReflowedFrom options (behind_mark text)) (begins-so reflowed false (same ∙ is)) laid)
+  remarked : IsBehind → (b : Bool) → starts_with nat_eq text byte_order_mark ≡ b → BecomesBy b
+  remarked (same, laid) true is = (
+    behind_mark reflowed,
+    subst (λ t. From t (behind_mark reflowed)) (begins-so text true is) laid,
+    starts_with-rest byte_order_mark reflowed (same ∙ is)
+        ∙ ap (λ t. byte_order_mark ++ t) (sym (begins-so reflowed true (same ∙ is))),
+  )
+  remarked (same, laid) false is =
+      subst (λ t. From t reflowed) (begins-so text false is)
+      (subst (From (behind_mark text)) (begins-so reflowed false (same ∙ is)) laid)
 
-  back : IsReflowed options text reflowed → IsTextBack options (behind_mark text) (behind_mark reflowed)
-  back is = text-back options (behind_mark text) (behind_mark reflowed) (unmarked is).1
+  parts-same : IsBehind
+      → AreSameParts options.ending (text_parts options (behind_mark text)) (text_parts options (behind_mark reflowed))
+  parts-same behind = (each (behind_mark text) (behind_mark reflowed) behind.1).same
+
+  sense-same : HasPlainMarkers options → IsBehind → text_sense reflowed ≡ text_sense text
+  sense-same plain behind =
+      let r = each (behind_mark text) (behind_mark reflowed) behind.1 in
+      ap₂ (λ b words. mark_of b ++ words) behind.0 (ap (flat_map line_sense) r.split ∙ r.sense plain)
+
+module _ (options : ReflowOptions) (text reflowed : List ℕ) where
+  opened : (b : Bool) → starts_with nat_eq text byte_order_mark ≡ b → IsReflowedBehind b options text reflowed
+      → IsBehind options (IsReflowedFrom options) (text-back options) text reflowed
+  opened true is of = unmarked options (IsReflowedFrom options) (text-back options) text reflowed true is of
+  opened false is of = unmarked options (IsReflowedFrom options) (text-back options) text reflowed false is of
+
+  closed : IsBehind options (IsReflowedFrom options) (text-back options) text reflowed
+      → (b : Bool) → starts_with nat_eq text byte_order_mark ≡ b → IsReflowedBehind b options text reflowed
+  closed of true is = remarked options (IsReflowedFrom options) (text-back options) text reflowed of true is
+  closed of false is = remarked options (IsReflowedFrom options) (text-back options) text reflowed of false is
 
   pub parts-kept : IsReflowed options text reflowed
       → AreSameParts options.ending (text_parts options (behind_mark text)) (text_parts options (behind_mark reflowed))
-  parts-kept is = (back is).same
+  parts-kept is =
+      parts-same options (IsReflowedFrom options) (text-back options) text reflowed (opened _ refl is)
 
   pub nothing-lost : HasPlainMarkers options → IsReflowed options text reflowed
       → text_sense reflowed ≡ text_sense text
   nothing-lost plain is =
-      ap₂ (λ b words. mark_of b ++ words) (unmarked is).0
-      (ap (flat_map line_sense) (back is).split ∙ (back is).sense plain)
+      sense-same options (IsReflowedFrom options) (text-back options) text reflowed plain (opened _ refl is)
+
+-- the same where only some lines are filled
+module _ (options : ReflowOptions) (range : LineRange) (text reflowed : List ℕ) where
+  opened-within : (b : Bool) → starts_with nat_eq text byte_order_mark ≡ b
+      → IsReflowedWithinBehind b options range text reflowed
+      → IsBehind options (IsReflowedWithinFrom options range) (within-back options range) text reflowed
+  opened-within true is of = unmarked options _ (within-back options range) text reflowed true is of
+  opened-within false is of = unmarked options _ (within-back options range) text reflowed false is of
+
+  pub parts-kept-within : IsReflowedWithin options range text reflowed
+      → AreSameParts options.ending (text_parts options (behind_mark text)) (text_parts options (behind_mark reflowed))
+  parts-kept-within is =
+      parts-same options _ (within-back options range) text reflowed (opened-within _ refl is)
+
+  pub nothing-lost-within : HasPlainMarkers options → IsReflowedWithin options range text reflowed
+      → text_sense reflowed ≡ text_sense text
+  nothing-lost-within plain is =
+      sense-same options _ (within-back options range) text reflowed plain (opened-within _ refl is)
 
 pub texts-stay : (options : ReflowOptions) (text reflowed : List ℕ) → IsReflowed options text reflowed
     → IsReflowed options reflowed reflowed
 texts-stay options text reflowed is =
-    remarked options reflowed reflowed
-    (refl, from-stays options (behind_mark text) (behind_mark reflowed) (unmarked options text reflowed is).1)
+    closed options reflowed reflowed
+    (refl, from-stays options (behind_mark text) (behind_mark reflowed) (opened options text reflowed _ refl is).1)
+    _ refl
 
 -- ---- another width first
 
@@ -188,7 +228,8 @@ module _ (options : ReflowOptions) (width : ℕ) (algorithm : Algorithm) (text b
   pub widths-same : KeepsEnding options text between → IsReflowed others text between
       → IsReflowed options between reflowed → IsReflowed options text reflowed
   widths-same ends first second =
-      let (mark, laid) = unmarked others text between first in
-      let (same, again) = unmarked options between reflowed second in
-      remarked options text reflowed
+      let (mark, laid) = opened others text between _ refl first in
+      let (same, again) = opened options between reflowed _ refl second in
+      closed options text reflowed
       (same ∙ mark, widths-from (behind_mark text) (behind_mark between) (behind_mark reflowed) ends laid again)
+      _ refl

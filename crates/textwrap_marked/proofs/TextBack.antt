@@ -16,7 +16,11 @@ use Rattle.textwrap_marked.proofs.Feedless.{split-feedless, split-joined}
 use Rattle.textwrap_marked.proofs.FenceMarks.{IsSafe, safe-none}
 use Rattle.textwrap_marked.proofs.FilledBack.{filled-step}
 use Rattle.textwrap_marked.proofs.NewBlock.{paragraph-at}
-use Rattle.textwrap_marked.proofs.ReadBack.{ending, IsReadBack, kept-step}
+use Rattle.textwrap_marked.proofs.ReadBack.{ending, IsLaidOutAny, IsReadBack, kept-step, laid-any}
+use Rattle.textwrap_marked.proofs.ReadBack.{within-any}
+use Rattle.textwrap_marked.proofs.Common.{false_from_ne_true}
+use Rattle.textwrap_marked.specs.Within.{IsLaidOutWithin, IsReflowedWithinFrom}
+use Rattle.textwrap_marked.specs.declared.within.LineRange.{LineRange}
 use Rattle.textwrap_marked.proofs.TextBlocks.{read, read-more}
 use Rattle.textwrap_marked.proofs.TextParts.{blocks-flat}
 
@@ -46,7 +50,7 @@ module _ (options : ReflowOptions) (returns : Bool) (told : IsTold options.endin
 
   pub walk-blocks : (bs : List (List LineText)) (beside : Bool) → AreBlocks bs → (state : StateText)
       (raws : List (List ℕ)) (text : List ℕ) → flat bs ≡ read options state raws
-      → IsLaidOut options (ending options returns told) beside bs text → IsSafe options state
+      → IsLaidOutAny options returns told beside bs text → IsSafe options state
       → All IsFeedless raws → IsReadBack options returns told state beside bs raws text
   walk-blocks [] beside are state raws text reads laid safe free = record {
     again = [];
@@ -62,23 +66,25 @@ module _ (options : ReflowOptions) (returns : Bool) (told : IsTold options.endin
     sense = λ plain. ap (flat_map line_sense) (read-none state raws reads);
   }
   walk-blocks ([] ∷ bs) beside are state raws text reads laid safe free = absurd are
-  walk-blocks ((first ∷ lines) ∷ bs) beside are state raws text reads (front, back, of, later, is) safe
+  walk-blocks ((first ∷ lines) ∷ bs) beside are state raws text reads (is_kept, stay, front, back, of, later, is) safe
       free =
       subst (IsReadBack options returns told state beside ((first ∷ lines) ∷ bs) raws) (sym is)
-      (step (stays (beside || is_beside first bs) first) refl of
+      (step is_kept stay of
       (walk-blocks bs (is_beside first bs) are.2))
     where
-      step : (b : Bool) → stays (beside || is_beside first bs) first ≡ b
+      step : (b : Bool) → (stays (beside || is_beside first bs) first ≡ true → b ≡ true)
           → IsOfBlock options (ending options returns told) b first (first ∷ lines) front
           → ((state : StateText) (raws : List (List ℕ)) (text : List ℕ) → flat bs ≡ read options state raws
-          → IsLaidOut options (ending options returns told) (is_beside first bs) bs text
+          → IsLaidOutAny options returns told (is_beside first bs) bs text
           → IsSafe options state → All IsFeedless raws
           → IsReadBack options returns told state (is_beside first bs) bs raws text)
           → IsReadBack options returns told state beside ((first ∷ lines) ∷ bs) raws (front ++ back)
       step true stay of walks =
-          kept-step options returns told beside first lines bs walks are stay state raws front back reads of
+          kept-step options returns told beside first lines bs walks are state raws front back reads of
           later safe free
-      step false stay of walks =
+      step false kept of walks =
+          let stay : stays (beside || is_beside first bs) first ≡ false =
+          false_from_ne_true _ (λ so. true≢false (sym (kept so))) in
           let apart = level-first first.apart first.chosen (beside || is_beside first bs) stay in
           let (raw, left, whole, p, same) =
           paragraph-at options state raws first lines (flat bs) reads apart are.0 in
@@ -109,7 +115,7 @@ module _ (options : ReflowOptions) (returns : Bool) (told : IsTold options.endin
       }
 
   pub parts-back : (text reflowed : List ℕ)
-      → IsLaidOut options (ending options returns told) false (blocks (lines_of options text)) reflowed
+      → IsLaidOutAny options returns told false (blocks (lines_of options text)) reflowed
       → AreReadBack text reflowed
   parts-back text reflowed laid =
       let raws = slice_split (λ c. c == 10) text in
@@ -144,5 +150,18 @@ pub text-back : (options : ReflowOptions) → (text reflowed : List ℕ)
     → IsReflowedFrom options text reflowed → IsTextBack options text reflowed
 text-back options text reflowed laid =
     let e = filled_ending options.ending text in
-    parts-back options (returns_by e) (told-by options.ending text) text reflowed
-    (subst (λ b. IsLaidOut options b false (blocks (lines_of options text)) reflowed) (bytes-by e) laid)
+    let bs = blocks (lines_of options text) in
+    let told = told-by options.ending text in
+    parts-back options (returns_by e) told text reflowed (laid-any options (returns_by e) told bs false reflowed
+    (subst (λ b. IsLaidOut options b false bs reflowed) (bytes-by e) laid))
+
+-- where only some lines are filled
+pub within-back : (options : ReflowOptions) (range : LineRange) (text reflowed : List ℕ)
+    → IsReflowedWithinFrom options range text reflowed → IsTextBack options text reflowed
+within-back options range text reflowed laid =
+    let e = filled_ending options.ending text in
+    let bs = blocks (lines_of options text) in
+    let told = told-by options.ending text in
+    parts-back options (returns_by e) told text reflowed
+    (within-any options (returns_by e) told range 0 bs false reflowed
+    (subst (λ b. IsLaidOutWithin options range b 0 false bs reflowed) (bytes-by e) laid))

@@ -20,10 +20,12 @@ use Rattle.textwrap_marked.specs.Pieces.{pieces, words_of}
 use Rattle.textwrap_marked.specs.Reflow.{byte_order_mark, filled_end, filled_ending, first_room}
 use Rattle.textwrap_marked.specs.Reflow.{IsReflowed, kept_line, kept_text, later_room, printed}
 use Rattle.textwrap_marked.specs.Reflow.{shown_lines}
+use Rattle.textwrap_marked.specs.Within.{IsReflowedWithin}
 use Rattle.textwrap_marked.specs.Words.{has_bytes, has_letter, is_white}
 use Rattle.textwrap_marked.specs.declared.options.Algorithm.{Algorithm}
 use Rattle.textwrap_marked.specs.declared.options.Algorithm.TheVariants.{FirstFit, LeastCost}
 use Rattle.textwrap_marked.specs.declared.options.ReflowOptions.{ReflowOptions}
+use Rattle.textwrap_marked.specs.declared.within.LineRange.{LineRange}
 
 -- a text becomes one text at the same options
 abbrev pub ReflowedTextsAreUnique : Type 0
@@ -160,6 +162,13 @@ abbrev pub NothingIsLost : Type 0
 NothingIsLost =
     (options : ReflowOptions) (text reflowed : List ℕ)
     → HasPlainMarkers options → IsReflowed options text reflowed → text_sense reflowed ≡ text_sense text
+
+-- nor where only the paragraphs at some lines are filled
+abbrev pub NothingIsLostWithin : Type 0
+NothingIsLostWithin =
+    (options : ReflowOptions) (range : LineRange) (text reflowed : List ℕ)
+    → HasPlainMarkers options → IsReflowedWithin options range text reflowed
+    → text_sense reflowed ≡ text_sense text
 
 -- ---- the lines of a paragraph
 
@@ -304,6 +313,14 @@ abbrev pub PartsAreKept : Type 0
 PartsAreKept =
     (options : ReflowOptions) (text reflowed : List ℕ)
     → IsReflowed options text reflowed
+    → AreSameParts options.ending (text_parts options (behind_mark text))
+    (text_parts options (behind_mark reflowed))
+
+-- so it has where only the paragraphs at some lines are filled
+abbrev pub PartsAreKeptWithin : Type 0
+PartsAreKeptWithin =
+    (options : ReflowOptions) (range : LineRange) (text reflowed : List ℕ)
+    → IsReflowedWithin options range text reflowed
     → AreSameParts options.ending (text_parts options (behind_mark text))
     (text_parts options (behind_mark reflowed))
 

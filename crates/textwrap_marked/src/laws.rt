@@ -5,7 +5,8 @@
 //! `reflowed_texts_are_unique();`.
 ghost use Rattle.textwrap_marked.specs.Laws.{EarlierWidthsMakeNoDifference, FirstFitKeepsToWidth};
 ghost use Rattle.textwrap_marked.specs.Laws.{JustifiedLinesAreAsWide, LeastCostIsLeast};
-ghost use Rattle.textwrap_marked.specs.Laws.{NothingIsLost, PartsAreKept, ReflowedTextsAreUnique};
+ghost use Rattle.textwrap_marked.specs.Laws.{NothingIsLost, NothingIsLostWithin, PartsAreKept};
+ghost use Rattle.textwrap_marked.specs.Laws.{PartsAreKeptWithin, ReflowedTextsAreUnique};
 ghost use Rattle.textwrap_marked.specs.Laws.{ReflowedTextsStay};
 ghost use Rattle.textwrap_marked.specs.Laws.{WhatStandsApartStays, WordsAreKept};
 
@@ -55,11 +56,22 @@ pub fn nothing_is_lost()
     ensures { NothingIsLost }
 {}
 
+/// Nor is anything lost where only the paragraphs at some lines are filled (`reflow_within`).
+pub fn nothing_is_lost_within()
+    ensures { NothingIsLostWithin }
+{}
+
 /// The new text, read again, is read as the text was: block by block and in order the same lines that
 /// stay, but for their endings where another one is asked for, and the same paragraphs, each with its
 /// prefix, its hanging form, its words, and what stands behind its last line.
 pub fn parts_are_kept()
     ensures { PartsAreKept }
+{}
+
+/// So is a text of which only the paragraphs at some lines were filled (`reflow_within`): the others are
+/// read as they were.
+pub fn parts_are_kept_within()
+    ensures { PartsAreKeptWithin }
 {}
 
 /// Twice is once: a new text stays as it is at the same options.

@@ -4,9 +4,8 @@ use Rattle.textwrap_marked.proofs.Common.{All-append, ap, arith, flat_map, join_
 use Rattle.textwrap_marked.proofs.Common.{map, nat_lt, refl, subst, sym, ◌∙◌, all-left}
 use Rattle.textwrap_marked.proofs.Common.{all-right, flat, ap₂, flat_map-append, is_beside, stays}
 use Rattle.textwrap_marked.proofs.Common.{AreSameParts, HasPlainMarkers, IsSameBy, line_sense}
-use Rattle.textwrap_marked.proofs.Common.{parts_of_blocks, LineText, StateText, IsLaidOut}
-use Rattle.textwrap_marked.proofs.Common.{kept_line, ReflowOptions}
-use Rattle.textwrap_marked.proofs.Common.{◌+◌, cases_Bool, IsOfBlock, not, words_of}
+use Rattle.textwrap_marked.proofs.Common.{parts_of_blocks, LineText, StateText, IsLaidOut, words_of}
+use Rattle.textwrap_marked.proofs.Common.{kept_line, ReflowOptions, ◌+◌, cases_Bool, IsOfBlock, not}
 use Rattle.textwrap_marked.proofs.PrintedText.{ends_as, filled-last}
 use Rattle.textwrap_marked.specs.Within.{IsLaidOutWithin, touches}
 use Rattle.textwrap_marked.specs.declared.within.LineRange.{LineRange}

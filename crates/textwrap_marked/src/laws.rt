@@ -7,8 +7,7 @@ ghost use Rattle.textwrap_marked.specs.Laws.{EarlierWidthsMakeNoDifference, Firs
 ghost use Rattle.textwrap_marked.specs.Laws.{JustifiedLinesAreAsWide, LeastCostIsLeast};
 ghost use Rattle.textwrap_marked.specs.Laws.{NothingIsLost, NothingIsLostWithin, PartsAreKept};
 ghost use Rattle.textwrap_marked.specs.Laws.{PartsAreKeptWithin, ReflowedTextsAreUnique};
-ghost use Rattle.textwrap_marked.specs.Laws.{ReflowedTextsStay};
-ghost use Rattle.textwrap_marked.specs.Laws.{WhatStandsApartStays, WordsAreKept};
+ghost use Rattle.textwrap_marked.specs.Laws.{ReflowedTextsStay, WhatStandsApartStays, WordsAreKept};
 
 /// A text becomes one text at the same options: the one that `reflow` returns.
 pub fn reflowed_texts_are_unique()

@@ -2,12 +2,14 @@
 use Rattle.textwrap_marked.proofs.Common.{◌≡◌, ℕ, Bool, true, false, cond, List, [], ◌∷◌, ◌++◌}
 use Rattle.textwrap_marked.proofs.Common.{◌==◌, All-head, ap, arith, drop, flat_map, join_with_byte}
 use Rattle.textwrap_marked.proofs.Common.{length, nat_eq, nat_lt, refl, slice_split, starts_with}
-use Rattle.textwrap_marked.proofs.Common.{subst, sym, true≢false, ◌∙◌, lt-ltb, starts_with-rest}
+use Rattle.textwrap_marked.proofs.Common.{subst, sym, ◌∙◌, lt-ltb, starts_with-rest}
 use Rattle.textwrap_marked.proofs.Common.{ap₂, length-slice_split, ending_bytes, LineEnding, CRLF}
 use Rattle.textwrap_marked.proofs.Common.{LF, blocks, AreSameParts, HasPlainMarkers, line_sense}
 use Rattle.textwrap_marked.proofs.Common.{text_parts, first_state, lines_of, read_lines}
 use Rattle.textwrap_marked.proofs.Common.{with_titles, byte_order_mark, filled_ending, IsLaidOut}
 use Rattle.textwrap_marked.proofs.Common.{IsReflowedBehind, IsReflowedFrom, ReflowOptions}
+use Rattle.textwrap_base.proofs.Common.{⊎_elim}
+use Rattle.textwrap_marked.proofs.Common.{inl, inr, ◌⊎◌}
 use Rattle.std.proofs.lemmas.List.Splits.{join_with_byte-slice_split}
 use Rattle.textwrap_marked.proofs.AnewLines.{IsTold}
 use Rattle.textwrap_marked.proofs.BegunAlike.{AreBegun, marks-same}
@@ -47,11 +49,23 @@ ends-feed : (e : LineEnding) → (front : List ℕ) × (ending_bytes e ≡ front
 ends-feed LF = ([], refl)
 ends-feed CRLF = (13 ∷ [], refl)
 
+-- it is a single line, or its filled lines end as those of the text
+one-or-alike : (options : ReflowOptions) (text reflowed : List ℕ) (r : IsTextBack options text reflowed)
+    → (slice_split (λ c. c == 10) reflowed ≡ r.raw ∷ [])
+    ⊎ (filled_ending options.ending reflowed ≡ filled_ending options.ending text)
+one-or-alike options text reflowed r = cut r.raws refl
+  where
+    cut : (raws : List (List ℕ)) → r.raws ≡ raws → (slice_split (λ c. c == 10) reflowed ≡ r.raw ∷ [])
+        ⊎ (filled_ending options.ending reflowed ≡ filled_ending options.ending text)
+    cut [] is = inl (r.split ∙ ap (λ l. r.raw ∷ l) is)
+    cut (raw ∷ raws) is =
+        inr (ends-alike options text reflowed r (ap (λ l. nat_lt 0 (length l)) is
+        ∙ lt-ltb 0 (length (raw ∷ raws)) (omega arith)))
+
 -- the new text stays, whatever its own ending is
-from-stays : (options : ReflowOptions) → (text reflowed : List ℕ)
+from-stays : (options : ReflowOptions) (text reflowed : List ℕ)
     → IsReflowedFrom options text reflowed → IsReflowedFrom options reflowed reflowed
-from-stays options text reflowed laid =
-    more (nat_lt 0 (length r.raws)) refl r.raws refl
+from-stays options text reflowed laid = cut (one-or-alike options text reflowed r)
   where
     r : IsTextBack options text reflowed
     r = text-back options text reflowed laid
@@ -60,12 +74,13 @@ from-stays options text reflowed laid =
         (blocks (lines_of options reflowed)) reflowed
     again = laid-other options text reflowed r.same reflowed laid
 
-    single : (raws : List (List ℕ)) → r.raws ≡ raws → length raws ≡ 0
+    cut : (slice_split (λ c. c == 10) reflowed ≡ r.raw ∷ [])
+        ⊎ (filled_ending options.ending reflowed ≡ filled_ending options.ending text)
         → IsReflowedFrom options reflowed reflowed
-    single (raw ∷ raws) is long = absurd (omega (arith, long))
-    single [] is long =
-        let split : slice_split (λ c. c == 10) reflowed ≡ r.raw ∷ [] =
-        r.split ∙ ap (λ l. r.raw ∷ l) is in
+    cut (inr same) =
+        subst (λ e. IsLaidOut options (ending_bytes e) false (blocks (lines_of options reflowed)) reflowed)
+        (sym same) again
+    cut (inl split) =
         let whole : reflowed ≡ r.raw =
         sym (join_with_byte-slice_split 10 reflowed) ∙ ap (join_with_byte 10) split in
         let old = ending_bytes (filled_ending options.ending text) in
@@ -78,16 +93,6 @@ from-stays options text reflowed laid =
         (one-line options old new front feed _ refl reflowed
         (subst (λ t. IsFeedless t) (sym whole) (All-head IsFeedless r.raw r.raws r.feedless))
         (subst (λ ls. IsLaidOut options old false (blocks ls) reflowed) shown again))
-
-    more : (b : Bool) → nat_lt 0 (length r.raws) ≡ b → (raws : List (List ℕ)) → r.raws ≡ raws
-        → IsReflowedFrom options reflowed reflowed
-    more true some raws is =
-        subst (λ e. IsLaidOut options (ending_bytes e) false (blocks (lines_of options reflowed)) reflowed)
-        (sym (ends-alike options text reflowed r some)) again
-    more false some [] is = single [] is refl
-    more false some (raw ∷ raws) is =
-        absurd (true≢false (sym (lt-ltb 0 (length (raw ∷ raws)) (omega arith))
-        ∙ ap (λ l. nat_lt 0 (length l)) (sym is) ∙ some))
 
 -- ---- behind one
 
@@ -212,18 +217,8 @@ module _ (options : ReflowOptions) (width : ℕ) (algorithm : Algorithm) (text b
       → IsReflowedFrom options text reflowed
   widths-from text between reflowed ends laid second =
       from-other options text between (width-same options width algorithm text between laid)
-      (same (nat_lt 0 (length r.raws)) refl r.raws refl) reflowed second
-    where
-      r : IsTextBack others text between
-      r = text-back others text between laid
-
-      same : (b : Bool) → nat_lt 0 (length r.raws) ≡ b → (raws : List (List ℕ)) → r.raws ≡ raws
-          → filled_ending options.ending between ≡ filled_ending options.ending text
-      same true some raws is = ends-alike others text between r some
-      same false some [] is = ends (ap length (r.split ∙ ap (λ l. r.raw ∷ l) is))
-      same false some (raw ∷ raws) is =
-          absurd (true≢false (sym (lt-ltb 0 (length (raw ∷ raws)) (omega arith))
-          ∙ ap (λ l. nat_lt 0 (length l)) (sym is) ∙ some))
+      (⊎_elim (λ split. ends (ap length split)) (λ same. same)
+      (one-or-alike others text between (text-back others text between laid))) reflowed second
 
   pub widths-same : KeepsEnding options text between → IsReflowed others text between
       → IsReflowed options between reflowed → IsReflowed options text reflowed

@@ -55,7 +55,8 @@ pub fn nothing_is_lost()
     ensures { NothingIsLost }
 {}
 
-/// Nor is anything lost where only the paragraphs at some lines are filled (`reflow_within`).
+/// Where only the paragraphs at some lines are filled (`reflow_within`), nothing is lost, mixed or
+/// added either, told in the same way.
 pub fn nothing_is_lost_within()
     ensures { NothingIsLostWithin }
 {}
@@ -67,8 +68,8 @@ pub fn parts_are_kept()
     ensures { PartsAreKept }
 {}
 
-/// So is a text of which only the paragraphs at some lines were filled (`reflow_within`): the
-/// others are read as they were.
+/// A text of which only the paragraphs at some lines were filled (`reflow_within`), read again, is
+/// read as it was before in the same way.
 pub fn parts_are_kept_within()
     ensures { PartsAreKeptWithin }
 {}

@@ -1,26 +1,22 @@
 -- Lines that stay, with the ending that is asked for.
-use Rattle.textwrap_base.proofs.Common.{◌≡◌, ℕ, ◌+◌, ◌-◌, ◌⊎◌, ◌&&◌, Bool, true, false, List}
-use Rattle.textwrap_base.proofs.Common.{[], ◌∷◌, ◌++◌, All-append, All-cons, All-nil, All-take, ap, append-nil}
-use Rattle.textwrap_base.proofs.Common.{append_assoc, arith, codes, ends_with, flat_map, get_or, inl, inr, length}
-use Rattle.textwrap_base.proofs.Common.{map, nat_eq, None, Option, refl, reverse, Some, suc, suffix_len}
-use Rattle.textwrap_base.proofs.Common.{sym, take, take_more, zero, ⊤, ◌∙◌}
-use Rattle.std.proofs.Common.{ap₂}
+use Rattle.textwrap_marked.proofs.Common.{◌≡◌, ℕ, ◌+◌, ◌-◌, ◌⊎◌, ◌&&◌, Bool, true, false, List, []}
+use Rattle.textwrap_marked.proofs.Common.{◌∷◌, ◌++◌, All-append, All-cons, All-nil, ap}
+use Rattle.textwrap_marked.proofs.Common.{append_assoc, arith, codes, ends_with, flat_map, get_or}
+use Rattle.textwrap_marked.proofs.Common.{inl, inr, length, map, nat_eq, None, Option, refl}
+use Rattle.textwrap_marked.proofs.Common.{reverse, Some, suc, suffix_len, sym, take, take_more}
+use Rattle.textwrap_marked.proofs.Common.{zero, ⊤, ◌∙◌, ap₂, suffix_len-le-length, ending_bytes}
+use Rattle.textwrap_marked.proofs.Common.{LineEnding, CRLF, LF, FenceText, is_return, line_of}
+use Rattle.textwrap_marked.proofs.Common.{LineText, new_fence, passed, StateText, without_returns}
+use Rattle.textwrap_marked.proofs.Common.{ending_if, kept_line, spaced_words, ReflowOptions}
+use Rattle.textwrap_base.proofs.Common.{All-take}
 use Rattle.std.proofs.lemmas.List.{get_or-reverse, length-reverse}
-use Rattle.std.proofs.lemmas.List.Sums.{prefix_len_stops, suffix_len-le-length}
-use Rattle.textwrap_lines.specs.LineEnding.{ending_bytes}
-use Rattle.textwrap_lines.specs.declared.line_ending.LineEnding.{LineEnding}
-use Rattle.textwrap_lines.specs.declared.line_ending.LineEnding.TheVariants.{CRLF, LF}
+use Rattle.std.proofs.lemmas.List.Sums.{prefix_len_stops}
 use Rattle.textwrap_marked.proofs.BegunAlike.{return-ends}
 use Rattle.textwrap_marked.proofs.Feedless.{IsFeedless, NoFeed}
 use Rattle.textwrap_marked.proofs.ReturnsOff.{EndsWell, return_if, returns-off}
 use Rattle.textwrap_marked.proofs.TextBlocks.{AreOneBlock, last_line}
-use Rattle.textwrap_marked.specs.Fences.{FenceText}
-use Rattle.textwrap_marked.specs.Lines.{is_return, line_from, line_of, LineText, new_fence, passed, StateText}
-use Rattle.textwrap_marked.specs.Lines.{without_returns}
+use Rattle.textwrap_marked.specs.Lines.{line_from}
 use Rattle.textwrap_marked.specs.Prefixes.{prefix_ends}
-use Rattle.textwrap_marked.specs.Reflow.{ending_if, kept_line}
-use Rattle.textwrap_marked.specs.Words.{spaced_words}
-use Rattle.textwrap_marked.specs.declared.options.ReflowOptions.{ReflowOptions}
 
 abbrev pub returns_by : LineEnding → Bool
 returns_by LF = false
@@ -122,6 +118,14 @@ kept-anew e returns [] = refl
 kept-anew e returns (line ∷ lines) =
     ap₂ (λ a b. a ++ b) (anew-kept e returns line) (kept-anew e returns lines)
 
+-- an ending is a carriage return, if it has one, and a line feed
+pub end-parts : (returns fed : Bool)
+    → ending_if fed (return_if returns ++ 10 ∷ []) ≡ return_if (returns && fed) ++ ending_if fed (10 ∷ [])
+end-parts true true = refl
+end-parts true false = refl
+end-parts false true = refl
+end-parts false false = refl
+
 pub anew-text : (e : Option LineEnding) (returns : Bool) → IsTold e returns → (raw : List ℕ) (fed : Bool)
     (line : LineText) → line.raw ≡ raw → line.fed ≡ fed
     → kept_line e line ≡ anew_raw e returns fed raw ++ ending_if fed (10 ∷ [])
@@ -129,24 +133,8 @@ anew-text None returns told raw fed line r f = ap₂ (λ a b. a ++ ending_if b (
 anew-text (Some e) returns told raw fed line r f =
     ap₂ (λ a b. without_returns a ++ ending_if b (ending_bytes e)) r f
     ∙ ap (λ b. without_returns raw ++ ending_if fed b) (bytes-by e ∙ ap (λ b. return_if b ++ 10 ∷ []) told)
-    ∙ parts fed
-  where
-    yes : (b : Bool) → b ≡ (b && true)
-    yes true = refl
-    yes false = refl
-
-    none : (b : Bool) → false ≡ (b && false)
-    none true = refl
-    none false = refl
-
-    parts : (fed : Bool) → without_returns raw ++ ending_if fed (return_if returns ++ 10 ∷ [])
-        ≡ (without_returns raw ++ return_if (returns && fed)) ++ ending_if fed (10 ∷ [])
-    parts true =
-        ap (λ b. without_returns raw ++ (return_if b ++ 10 ∷ [])) (yes returns)
-        ∙ sym (append_assoc (without_returns raw) (return_if (returns && true)) (10 ∷ []))
-    parts false =
-        ap (λ b. without_returns raw ++ return_if b) (none returns)
-        ∙ sym (append-nil (without_returns raw ++ return_if (returns && false)))
+    ∙ ap (λ t. without_returns raw ++ t) (end-parts returns fed)
+    ∙ sym (append_assoc (without_returns raw) (return_if (returns && fed)) (ending_if fed (10 ∷ [])))
 
 -- ---- several of them
 

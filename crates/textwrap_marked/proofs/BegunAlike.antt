@@ -1,15 +1,13 @@
 -- How a new text begins, and how its first line ends.
-use Rattle.textwrap_base.proofs.Common.{◌≡◌, ℕ, ◌<◌, ◌≤◌, ◌⊎◌, ◌&&◌, ◌||◌, Bool, true, false, List}
-use Rattle.textwrap_base.proofs.Common.{[], ◌∷◌, ◌++◌, ap, append-nil, append_assoc, arith, codes}
-use Rattle.textwrap_base.proofs.Common.{ends_with, inl, inr, join_with_byte, length, nat_eq, nat_lt}
-use Rattle.textwrap_base.proofs.Common.{nat_tests, cases_Bool, ne_eqb, refl, starts_with, sym}
-use Rattle.textwrap_base.proofs.Common.{true≢false, ⊤, ◌∙◌}
+use Rattle.textwrap_marked.proofs.Common.{◌≡◌, ℕ, ◌<◌, ◌≤◌, ◌⊎◌, ◌&&◌, ◌||◌, Bool, true, false}
+use Rattle.textwrap_marked.proofs.Common.{List, [], ◌∷◌, ◌++◌, ap, append-nil, append_assoc, arith}
+use Rattle.textwrap_marked.proofs.Common.{codes, ends_with, inl, inr, join_with_byte, length}
+use Rattle.textwrap_marked.proofs.Common.{nat_eq, nat_lt, nat_tests, cases_Bool, ne_eqb, refl}
+use Rattle.textwrap_marked.proofs.Common.{starts_with, sym, true≢false, ⊤, ◌∙◌, is_return}
+use Rattle.textwrap_marked.proofs.Common.{byte_order_mark, is_white}
 use Rattle.textwrap_base.proofs.Lists.Parts.{ends_with-other, ends_with-true}
 use Rattle.textwrap_marked.proofs.FenceLeft.{EndsWord}
 use Rattle.textwrap_marked.proofs.ReturnsOff.{EndsWell, return_if}
-use Rattle.textwrap_marked.specs.Lines.{is_return}
-use Rattle.textwrap_marked.specs.Reflow.{byte_order_mark}
-use Rattle.textwrap_marked.specs.Words.{is_white}
 
 -- a first line in the place of another: what both begin with goes up to the end of a word, and if lines
 -- follow, it ends in a carriage return where the others do

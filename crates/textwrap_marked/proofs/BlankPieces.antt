@@ -1,14 +1,11 @@
 -- Each piece ends in a blank; what holds of all pieces holds of those of each line.
-use Rattle.textwrap_base.proofs.Common.{◌≡◌, ℕ, Bool, true, false, cond, List, [], ◌∷◌, ◌++◌, All}
-use Rattle.textwrap_base.proofs.Common.{All-cons, All-head, All-map, All-nil, All-tail, All-weaker}
-use Rattle.textwrap_base.proofs.Common.{ap, append_assoc, flat_map, refl, subst, sym, ◌∙◌}
-use Rattle.textwrap_base.specs.Division.{IsDivision}
-use Rattle.textwrap_base.proofs.Lists.Parts.{all-left, all-right}
-use Rattle.textwrap_words.proofs.Common.{blank, word_of, WordText}
-use Rattle.textwrap_marked.specs.Laws.{piece_words}
-use Rattle.textwrap_marked.specs.Lines.{LineText}
-use Rattle.textwrap_marked.specs.Pieces.{is_cut, onto_front, pieces, with_blank, words_of}
-use Rattle.textwrap_marked.specs.declared.options.ReflowOptions.{ReflowOptions}
+use Rattle.textwrap_marked.proofs.Common.{◌≡◌, ℕ, Bool, true, false, cond, List, [], ◌∷◌, ◌++◌, All}
+use Rattle.textwrap_marked.proofs.Common.{All-cons, All-head, All-map, All-nil, All-tail}
+use Rattle.textwrap_marked.proofs.Common.{All-weaker, ap, append_assoc, flat_map, refl, subst, sym}
+use Rattle.textwrap_marked.proofs.Common.{◌∙◌, IsDivision, all-left, all-right, blank, word_of}
+use Rattle.textwrap_marked.proofs.Common.{WordText, piece_words, LineText, is_cut, pieces, words_of}
+use Rattle.textwrap_marked.proofs.Common.{ReflowOptions}
+use Rattle.textwrap_marked.specs.Pieces.{onto_front, with_blank}
 
 abbrev pub EndsInBlank : List ℕ → Type 0
 EndsInBlank text = (front : List ℕ) × (text ≡ front ++ blank ∷ [])

@@ -1,10 +1,8 @@
 -- What a list of blocks keeps to, if it is that of some lines.
-use Rattle.textwrap_base.proofs.Common.{◌≡◌, Bool, true, false, cond, List, [], ◌∷◌, ◌++◌, ap}
-use Rattle.textwrap_base.proofs.Common.{refl, ⊤, ◌∙◌}
-use Rattle.textwrap_base.proofs.Lists.Parts.{flat}
+use Rattle.textwrap_marked.proofs.Common.{◌≡◌, Bool, true, false, cond, List, [], ◌∷◌, ◌++◌, ap}
+use Rattle.textwrap_marked.proofs.Common.{refl, ⊤, ◌∙◌, flat, blocks, goes_on, LineText}
 use Rattle.textwrap_marked.proofs.TextBlocks.{AreOneBlock, last_line}
-use Rattle.textwrap_marked.specs.Blocks.{blocks, goes_on, with_line}
-use Rattle.textwrap_marked.specs.Lines.{LineText}
+use Rattle.textwrap_marked.specs.Blocks.{with_line}
 
 -- the first of the blocks does not go on with a line
 abbrev pub StopsAt : LineText → List (List LineText) → Type 0

@@ -1,13 +1,10 @@
 -- Blocks in the place of others that begin alike.
-use Rattle.textwrap_base.proofs.Common.{Option, ◌≡◌, ◌||◌, not, Bool, List, [], ◌∷◌, ap}
-use Rattle.textwrap_base.proofs.Common.{refl, subst, sym, ◌∙◌}
-use Rattle.textwrap_base.proofs.Lists.Parts.{flat}
-use Rattle.textwrap_lines.specs.declared.line_ending.LineEnding.{LineEnding}
+use Rattle.textwrap_marked.proofs.Common.{Option, ◌≡◌, ◌||◌, not, Bool, List, [], ◌∷◌, ap, refl}
+use Rattle.textwrap_marked.proofs.Common.{subst, sym, ◌∙◌, flat, LineEnding, goes_on, is_beside}
+use Rattle.textwrap_marked.proofs.Common.{stays, AreSameParts, IsSameBy, Part, parts_of_blocks}
+use Rattle.textwrap_marked.proofs.Common.{LineText}
 use Rattle.textwrap_marked.proofs.BlockOrder.{AreBlocks, StopsAt}
 use Rattle.textwrap_marked.proofs.KeptLines.{AreHeads, IsHeadAlike}
-use Rattle.textwrap_marked.specs.Blocks.{goes_on, is_beside, stays}
-use Rattle.textwrap_marked.specs.Laws.{AreSameParts, IsSameBy, Part, parts_of_blocks}
-use Rattle.textwrap_marked.specs.Lines.{LineText}
 
 -- all that the lines behind it ask of a line
 pub record IsBackAlike (line other : LineText) : Type 0 where

@@ -1,22 +1,19 @@
 -- How filled lines of a new text end.
-use Rattle.textwrap_base.proofs.Common.{Option, Some, ◌≡◌, ℕ, ◌&&◌, Bool, true, false, cond, List, [], ◌∷◌, ◌++◌, ◌==◌}
-use Rattle.textwrap_base.proofs.Common.{All, All-head, ap, append_assoc, arith, codes, ends_with, flat_map, inl, inr, length}
-use Rattle.textwrap_base.proofs.Common.{nat_eq, nat_lt, None, refl, slice_split, subst, sym, true≢false, ◌∙◌}
-use Rattle.textwrap_base.proofs.Lists.Parts.{all-left, all-right}
-use Rattle.std.proofs.lemmas.List.Splits.{length-slice_split}
-use Rattle.textwrap_lines.specs.declared.line_ending.LineEnding.{LineEnding}
-use Rattle.textwrap_lines.specs.declared.line_ending.LineEnding.TheVariants.{CRLF, LF}
+use Rattle.textwrap_marked.proofs.Common.{Option, Some, ◌≡◌, ℕ, ◌&&◌, Bool, true, false, cond, List}
+use Rattle.textwrap_marked.proofs.Common.{[], ◌∷◌, ◌++◌, ◌==◌, All, All-head, ap, append_assoc}
+use Rattle.textwrap_marked.proofs.Common.{arith, codes, ends_with, flat_map, inl, inr, length}
+use Rattle.textwrap_marked.proofs.Common.{nat_eq, nat_lt, None, refl, slice_split, subst, sym}
+use Rattle.textwrap_marked.proofs.Common.{true≢false, ◌∙◌, all-left, all-right, length-slice_split}
+use Rattle.textwrap_marked.proofs.Common.{LineEnding, CRLF, LF, stays, LineText, break_white}
+use Rattle.textwrap_marked.proofs.Common.{ending_if, filled_end, filled_ending, first_room}
+use Rattle.textwrap_marked.proofs.Common.{IsLaidOut, IsOfBlock, later_room, line_text, line_texts}
+use Rattle.textwrap_marked.proofs.Common.{printed, shown_lines, ReflowOptions}
 use Rattle.textwrap_marked.proofs.BegunAlike.{AreBegun}
 use Rattle.textwrap_marked.proofs.Feedless.{NoFeed}
 use Rattle.textwrap_marked.proofs.PrintedText.{filled-last}
 use Rattle.textwrap_marked.proofs.AnewLines.{returns_by}
 use Rattle.textwrap_marked.proofs.TextBack.{IsTextBack}
-use Rattle.textwrap_marked.specs.Blocks.{stays}
-use Rattle.textwrap_marked.specs.Lines.{LineText}
-use Rattle.textwrap_marked.specs.Reflow.{break_white, ending_if, ending_of, filled_end, filled_ending, first_ending}
-use Rattle.textwrap_marked.specs.Reflow.{first_room, IsLaidOut, IsOfBlock, later_room, line_text}
-use Rattle.textwrap_marked.specs.Reflow.{line_texts, printed, shown_lines}
-use Rattle.textwrap_marked.specs.declared.options.ReflowOptions.{ReflowOptions}
+use Rattle.textwrap_marked.specs.Reflow.{ending_of, first_ending}
 
 -- ---- the first line says it, if lines follow
 

@@ -1,20 +1,19 @@
 -- The words, the prefixes and the hanging forms of the lines of a text have no line feed.
-use Rattle.textwrap_base.proofs.Common.{◌≡◌, ℕ, ◌-◌, Bool, true, false, cond, List, []}
-use Rattle.textwrap_base.proofs.Common.{◌∷◌, ◌++◌, ◌==◌, All, All-append, All-cons, All-head, All-map, All-nil}
-use Rattle.textwrap_base.proofs.Common.{All-tail, All-take, ap, codes, length, map, nat_lt, refl, slice_split, suc, subst}
-use Rattle.textwrap_base.proofs.Common.{join_with_byte, onto_first, suffix_len, sym, zero, ◌∙◌}
-use Rattle.textwrap_base.proofs.Lists.Parts.{all-left, all-right}
+use Rattle.textwrap_marked.proofs.Common.{◌≡◌, ℕ, ◌-◌, Bool, true, false, cond, List, [], ◌∷◌, ◌++◌}
+use Rattle.textwrap_marked.proofs.Common.{◌==◌, All, All-append, All-cons, All-head, All-map}
+use Rattle.textwrap_marked.proofs.Common.{All-nil, All-tail, ap, codes, length, map, nat_lt, refl}
+use Rattle.textwrap_marked.proofs.Common.{slice_split, subst, join_with_byte, onto_first}
+use Rattle.textwrap_marked.proofs.Common.{suffix_len, sym, ◌∙◌, all-left, all-right, All-replicate}
+use Rattle.textwrap_marked.proofs.Common.{text_width, without_returns, as_title, entered, is_return}
+use Rattle.textwrap_marked.proofs.Common.{line_of, LineText, passed, StateText, is_opening, blanks}
+use Rattle.textwrap_marked.proofs.Common.{hanging_bullets, hanging_comments, spaced_text}
+use Rattle.textwrap_marked.proofs.Common.{SpacedText, ReflowOptions}
+use Rattle.textwrap_base.proofs.Common.{All-take}
 use Rattle.std.proofs.lemmas.List.Splits.{slice_split_at, slice_split_none}
-use Rattle.textwrap_words.specs.Units.{text_width}
 use Rattle.textwrap_marked.proofs.LaterLines.{line-read}
 use Rattle.textwrap_marked.proofs.LineKinds.{line-is}
 use Rattle.textwrap_marked.proofs.TextBlocks.{line_at, read, read-more, title_of}
-use Rattle.textwrap_marked.specs.Lines.{without_returns}
-use Rattle.textwrap_marked.specs.Lines.{as_title, entered, is_return, line_of, LineText, passed, StateText}
-use Rattle.textwrap_marked.specs.Marks.{is_opening}
-use Rattle.textwrap_marked.specs.Prefixes.{blanks, hanging_bullets, hanging_comments, hanging_mark}
-use Rattle.textwrap_marked.specs.Words.{spaced_text, SpacedText}
-use Rattle.textwrap_marked.specs.declared.options.ReflowOptions.{ReflowOptions}
+use Rattle.textwrap_marked.specs.Prefixes.{hanging_mark}
 
 abbrev pub NoFeed : ℕ → Type 0
 NoFeed c = (c == 10) ≡ false
@@ -46,8 +45,7 @@ text-of-words (w ∷ ws) all =
     (text-of-words ws (All-tail IsFeedlessWord w ws all))
 
 blanks-feedless : (n : ℕ) → IsFeedless (blanks n)
-blanks-feedless zero = All-nil NoFeed
-blanks-feedless (suc n) = All-cons NoFeed 32 (blanks n) refl (blanks-feedless n)
+blanks-feedless n = All-replicate NoFeed n 32 refl
 
 bullets-feedless : (bs : List SpacedText) → All IsFeedlessWord bs → IsFeedless (hanging_bullets bs)
 bullets-feedless [] all = All-nil NoFeed

@@ -1,32 +1,33 @@
 -- A line that begins as another one leaves the fence that it leaves.
-use Rattle.textwrap_base.proofs.Common.{◌≡◌, ℕ, ◌-◌, ◌<◌, ◌⊎◌, ◌||◌, not, Bool, true, false, cond}
-use Rattle.textwrap_base.proofs.Common.{List, [], ◌∷◌, ◌++◌, All, All-head, All-nil, ap, append-nil}
-use Rattle.textwrap_base.proofs.Common.{append_assoc, arith, drop, false_from_ne_true, inl, inr}
-use Rattle.textwrap_base.proofs.Common.{length, drop_all, drop_more, get_or, reverse, suc, zero}
-use Rattle.textwrap_base.proofs.Common.{nat_eq, None, Option, refl, Some, starts_with, subst}
-use Rattle.textwrap_base.proofs.Common.{suffix_len, length-append, sym, take-append-drop}
-use Rattle.textwrap_base.proofs.Common.{true≢false, ⊤, ◌∙◌}
-use Rattle.textwrap_base.proofs.Lists.Parts.{all-right, starts_with-rest, starts_with-true}
+use Rattle.textwrap_marked.proofs.Common.{◌≡◌, ℕ, ◌-◌, ◌<◌, ◌⊎◌, ◌||◌, not, Bool, true, false, cond}
+use Rattle.textwrap_marked.proofs.Common.{List, [], ◌∷◌, ◌++◌, All, All-head, All-nil, ap}
+use Rattle.textwrap_marked.proofs.Common.{append-nil, append_assoc, arith, drop, false_from_ne_true}
+use Rattle.textwrap_marked.proofs.Common.{inl, inr, length, get_or, reverse, suc, zero, nat_eq}
+use Rattle.textwrap_marked.proofs.Common.{None, Option, refl, Some, starts_with, subst, suffix_len}
+use Rattle.textwrap_marked.proofs.Common.{length-append, sym, take-append-drop, true≢false, ⊤, ◌∙◌}
+use Rattle.textwrap_marked.proofs.Common.{all-right, starts_with-rest, suffix_len-le-length}
+use Rattle.textwrap_marked.proofs.Common.{FenceText, entered, fence_at, is_return, StateText}
+use Rattle.textwrap_marked.proofs.Common.{without_returns, is_comment_at, comment_len, begins_text}
+use Rattle.textwrap_marked.proofs.Common.{first_word, is_white, spaced_text, SpacedText}
+use Rattle.textwrap_marked.proofs.Common.{spaced_words, ReflowOptions}
+use Rattle.textwrap_base.proofs.Common.{drop_all, drop_more}
+use Rattle.textwrap_base.proofs.Lists.Parts.{starts_with-true}
+use Rattle.std.proofs.Math.Bool.{or-true}
 use Rattle.std.proofs.lemmas.List.{get_or-reverse}
-use Rattle.std.proofs.lemmas.List.Sums.{prefix_len_passes, suffix_len-le-length}
+use Rattle.std.proofs.lemmas.List.Sums.{prefix_len_passes}
 use Rattle.textwrap_marked.proofs.FenceMarks.{AreMarkWords, AreSafeMarks, behind-lead, behind-words}
 use Rattle.textwrap_marked.proofs.FenceMarks.{IsFirstMark, IsMarkWord, IsSafe, IsSafeFence}
 use Rattle.textwrap_marked.proofs.FenceMarks.{mark-first}
 use Rattle.textwrap_marked.proofs.HangingKinds.{before-full, full-before, IsFull}
 use Rattle.textwrap_marked.proofs.LaterLines.{IsRead}
 use Rattle.textwrap_marked.proofs.LineKinds.{one_if}
+use Rattle.textwrap_marked.proofs.OpenBehind.{not-yes}
 use Rattle.textwrap_marked.proofs.ParagraphLines.{regroup, text-parts}
 use Rattle.textwrap_marked.proofs.SpacedBack.{AreSpaced, IsInk, IsLineText, IsSpaced, IsWhite}
-use Rattle.textwrap_marked.proofs.SpacedBack.{line-text, spaced-back}
+use Rattle.textwrap_marked.proofs.SpacedBack.{line-text, spaced-back, spaced-first}
 use Rattle.textwrap_marked.proofs.WordsIn.{IsPlain}
 use Rattle.textwrap_marked.specs.Columns.{behind_white}
-use Rattle.textwrap_marked.specs.Fences.{FenceText, is_left_by}
-use Rattle.textwrap_marked.specs.Lines.{entered, fence_at, is_return, StateText, without_returns}
-use Rattle.textwrap_marked.specs.Marks.{is_comment_at}
-use Rattle.textwrap_marked.specs.Prefixes.{comment_len}
-use Rattle.textwrap_marked.specs.Signs.{begins_text, first_word}
-use Rattle.textwrap_marked.specs.Words.{is_white, spaced_text, SpacedText, spaced_words}
-use Rattle.textwrap_marked.specs.declared.options.ReflowOptions.{ReflowOptions}
+use Rattle.textwrap_marked.specs.Fences.{is_left_by}
 
 -- nothing, or white first
 abbrev pub EndsText : List ℕ → Type 0
@@ -66,10 +67,6 @@ word-spaced : (w : SpacedText) (vs : List SpacedText) → IsSpaced w → 0 < len
     → AreSpaced (w ∷ vs)
 word-spaced w [] is some are = is
 word-spaced w (v ∷ vs) is some are = (is, some, are)
-
-first-plain : (v : SpacedText) (vs : List SpacedText) → AreSpaced (v ∷ vs) → IsPlain v.word
-first-plain v [] are = are.word
-first-plain v (u ∷ vs) are = are.0.word
 
 module _ (options : ReflowOptions) (in_block : Bool) (marks ks : List SpacedText) (word : List ℕ)
     (full : All IsFull marks) (spaced : AreSpaced ks) (all : AreMarkWords options in_block ks)
@@ -123,10 +120,10 @@ module _ (options : ReflowOptions) (in_block : Bool) (marks ks : List SpacedText
       cut [] (v ∷ vs) text = inked v.word refl
         where
           inked : (w : List ℕ) → v.word ≡ w → ⊥
-          inked [] same = omega (arith, (first-plain v vs text.spaced).some, ap length same)
+          inked [] same = omega (arith, (spaced-first v vs text.spaced).word.some, ap length same)
           inked (x ∷ xs) same =
               let ink : is_white x ≡ false =
-              All-head IsInk x xs (subst (All IsInk) same (first-plain v vs text.spaced).ink) in
+              All-head IsInk x xs (subst (All IsInk) same (spaced-first v vs text.spaced).word.ink) in
               let eq : c ≡ x =
               ap first_byte (text.is ∙ ap (λ w. (w ++ v.white) ++ spaced_text vs) same) in
               true≢false (sym white ∙ ap is_white eq ∙ ink)
@@ -143,10 +140,6 @@ left-by fence raw is = cut (is_left_by fence raw) refl
     cut : (b : Bool) → is_left_by fence raw ≡ b → is_left_by fence raw ≡ true
     cut true left = left
     cut false left = absurd (never (sym (ap (λ b. cond b None (Some fence)) left) ∙ is))
-
-not-true : (b : Bool) → not b ≡ true → b ≡ false
-not-true false is = refl
-not-true true is = sym is
 
 module _ (options : ReflowOptions) (in_block : Bool) (marks : List SpacedText) (word lead : List ℕ)
     (full : All IsFull marks) (plain : IsPlain word) (white : All IsWhite lead)
@@ -181,7 +174,7 @@ module _ (options : ReflowOptions) (in_block : Bool) (marks : List SpacedText) (
       outside : starts_with nat_eq (spaced_text begun ++ rest) fence.marks ≡ false
       outside =
           sym (ap (λ l. starts_with nat_eq l fence.marks) (behind-begun rest))
-          ∙ not-true (starts_with nat_eq (behind_white (lead ++ (spaced_text begun ++ rest))) fence.marks)
+          ∙ not-yes (starts_with nat_eq (behind_white (lead ++ (spaced_text begun ++ rest))) fence.marks)
           left
 
       parted : Splits (spaced_text begun) tail fence.marks
@@ -201,10 +194,6 @@ module _ (options : ReflowOptions) (in_block : Bool) (marks : List SpacedText) (
 pub returned : (raw : List ℕ) → EndsWord (drop (length raw - suffix_len is_return raw) raw)
 returned raw = cut (suffix_len is_return raw) refl
   where
-    either : (b : Bool) → (b || true) ≡ true
-    either true = refl
-    either false = refl
-
     cut : (s : ℕ) → suffix_len is_return raw ≡ s
         → EndsWord (drop (length raw - suffix_len is_return raw) raw)
     cut zero is =
@@ -217,7 +206,7 @@ returned raw = cut (suffix_len is_return raw) refl
         sym (ap is_return (get_or-reverse raw m 0 (omega (arith, is, le)) ∙ ap (λ k. get_or raw k 0) place))
         ∙ prefix_len_passes is_return (reverse raw) m 0 (omega (arith, is)) in
         subst EndsWord (sym (drop_more raw n 0 (omega (arith, is, le))))
-        (ap (λ b. is_white (get_or raw n 0) || b) passes ∙ either (is_white (get_or raw n 0)))
+        (ap (λ b. is_white (get_or raw n 0) || b) passes ∙ or-true (is_white (get_or raw n 0)))
 
 -- what follows the first word of a line's text
 pub text-tail : (raw lead : List ℕ) (list ws : List SpacedText) → 0 < length ws
@@ -242,11 +231,7 @@ text-tail raw lead list (w ∷ ws) some is are =
     ends [] [] same are back = back
     ends [] (v ∷ vs) same are back = absurd (omega (arith, are.1, ap length same))
     ends (c ∷ cs) vs same are back =
-        ap (λ b. b || is_return c) (All-head IsWhite c cs (subst (All IsWhite) same (white-of vs are)))
-      where
-        white-of : (vs : List SpacedText) → AreSpaced (w ∷ vs) → All IsWhite w.white
-        white-of [] are = are.white
-        white-of (v ∷ vs) are = are.0.white
+        ap (λ b. b || is_return c) (All-head IsWhite c cs (subst (All IsWhite) same (spaced-first w vs are).white))
 
 pub still-left : (options : ReflowOptions) (state : StateText) (raw lead : List ℕ)
     (cs qs bs ws : List SpacedText) (starred : Bool) (tail : List ℕ)
@@ -280,7 +265,7 @@ still-left options state raw lead cs qs bs (w ∷ ws) starred tail read some beg
         → fence_at f ((lead ++ spaced_text (cs ++ (qs ++ bs))) ++ (w.word ++ tail)) ≡ None
     by_fence None safe left = refl
     by_fence (Some fence) safe left =
-        let plain = first-plain w ws parts.1 in
+        let plain = (spaced-first w ws parts.1).word in
         let list = cs ++ (qs ++ bs) in
         let apart = other cs qs bs read.have.comment in
         let whole =

@@ -1,29 +1,28 @@
 -- The marks before an open fence are no words of a text.
-use Rattle.textwrap_base.proofs.Common.{◌≡◌, ℕ, ◌+◌, ◌-◌, ◌<◌, ◌&&◌, ◌||◌, not, Bool, true, false, cond}
-use Rattle.textwrap_base.proofs.Common.{List, [], ◌∷◌, ◌++◌, All, All-head, All-tail, ap, arith}
-use Rattle.textwrap_base.proofs.Common.{All-weaker, codes, drop, false_from_ne_true, length}
-use Rattle.textwrap_base.proofs.Common.{None, Option, option_map, prefix_len, refl, Some, subst, suc, suffix_len, sym, take-append-drop}
-use Rattle.textwrap_base.proofs.Common.{append-nil, true≢false, ⊤, ◌∙◌}
-use Rattle.std.proofs.lemmas.Slice.Eq.{bytes_eq-Decides}
-use Rattle.std.specs.Prelude.{is_some}
+use Rattle.textwrap_marked.proofs.Common.{◌≡◌, ℕ, ◌+◌, ◌-◌, ◌<◌, ◌&&◌, ◌||◌, not, Bool, true, false}
+use Rattle.textwrap_marked.proofs.Common.{cond, List, [], ◌∷◌, ◌++◌, All, All-head, All-tail, ap}
+use Rattle.textwrap_marked.proofs.Common.{arith, All-weaker, codes, drop, false_from_ne_true}
+use Rattle.textwrap_marked.proofs.Common.{length, None, Option, prefix_len, refl, Some, subst, suc}
+use Rattle.textwrap_marked.proofs.Common.{suffix_len, sym, take-append-drop, append-nil, true≢false}
+use Rattle.textwrap_marked.proofs.Common.{⊤, ◌∙◌, bytes_eq-Decides, is_some, FenceText, entered}
+use Rattle.textwrap_marked.proofs.Common.{fence_at, line_of, LineText, new_fence, passed, StateText}
+use Rattle.textwrap_marked.proofs.Common.{without_returns, is_comment_at, is_quote, begins_text}
+use Rattle.textwrap_marked.proofs.Common.{closes_block, has_letter, is_white, spaced_text}
+use Rattle.textwrap_marked.proofs.Common.{SpacedText, ReflowOptions}
+use Rattle.textwrap_base.proofs.Common.{option_map}
 use Rattle.textwrap_marked.proofs.HangingForms.{IsHanging, hanging-is}
 use Rattle.textwrap_marked.proofs.HangingKinds.{AreMarks, before-full}
 use Rattle.textwrap_marked.proofs.LaterLines.{line-read}
-use Rattle.textwrap_marked.proofs.Letterless.{star-plain}
+use Rattle.textwrap_marked.proofs.Letterless.{quote-plain, star-plain}
 use Rattle.textwrap_marked.proofs.LineKinds.{has_opening_in, kinds, line-is, line_by}
 use Rattle.textwrap_marked.proofs.OpenBehind.{text-letter}
 use Rattle.textwrap_marked.proofs.ParagraphLines.{all-spaced, regroup}
-use Rattle.textwrap_marked.proofs.SpacedBack.{AreSpaced, IsInk, IsWhite}
-use Rattle.textwrap_marked.proofs.SpreadWords.{text-no-quote}
+use Rattle.textwrap_marked.proofs.SpacedBack.{AreSpaced, IsInk, IsWhite, spaced-first}
 use Rattle.textwrap_marked.specs.Columns.{behind_white, marks_of}
 use Rattle.textwrap_marked.proofs.WordsIn.{IsPlain}
-use Rattle.textwrap_marked.specs.Fences.{FenceText, is_closed_by, is_left_by, opened}
-use Rattle.textwrap_marked.specs.Lines.{entered, fence_at, is_in_block, line_of, LineText, new_fence, passed, StateText, without_returns}
-use Rattle.textwrap_marked.specs.Marks.{is_comment_at, is_quote}
-use Rattle.textwrap_marked.specs.Signs.{begins_text, closes_block}
-use Rattle.textwrap_marked.specs.Words.{has_letter, is_white, spaced_text, SpacedText}
+use Rattle.textwrap_marked.specs.Fences.{is_closed_by, is_left_by, opened}
+use Rattle.textwrap_marked.specs.Lines.{is_in_block}
 use Rattle.textwrap_marked.specs.declared.fences.FenceKind.{FenceKind}
-use Rattle.textwrap_marked.specs.declared.options.ReflowOptions.{ReflowOptions}
 
 -- a word that no text begins with
 abbrev pub IsMarkWord : List ℕ → Type 0
@@ -66,9 +65,7 @@ letterless-begins word none starred =
     (λ begins. true≢false (sym (text-letter starred word begins) ∙ none))
 
 quote-mark : (word : List ℕ) → is_quote word ≡ true → IsMarkWord word
-quote-mark word quote starred =
-    false_from_ne_true (begins_text starred word)
-    (λ begins. true≢false (sym quote ∙ text-no-quote starred word begins))
+quote-mark word quote = letterless-begins word (quote-plain word quote)
 
 -- such a word is one wherever it stands
 pub mark-first : (options : ReflowOptions) (in_block : Bool) (word : List ℕ) → IsMarkWord word
@@ -131,12 +128,8 @@ behind-lead (c ∷ lead) text white is =
 pub behind-words : (ks : List SpacedText) (more : List ℕ) → AreSpaced ks → 0 < length ks
     → behind_white (spaced_text ks ++ more) ≡ spaced_text ks ++ more
 behind-words [] more are some = absurd (omega (arith, some))
-behind-words (k ∷ ks) more are some = first k.word refl (plain ks are)
+behind-words (k ∷ ks) more are some = first k.word refl (spaced-first k ks are).word
   where
-    plain : (ks : List SpacedText) → AreSpaced (k ∷ ks) → IsPlain k.word
-    plain [] are = are.word
-    plain (v ∷ vs) are = are.0.word
-
     first : (word : List ℕ) → k.word ≡ word → IsPlain k.word
         → behind_white (((k.word ++ k.white) ++ spaced_text ks) ++ more)
         ≡ ((k.word ++ k.white) ++ spaced_text ks) ++ more

@@ -1,11 +1,16 @@
 -- What is printed of a paragraph before other blocks, read again.
-use Rattle.textwrap_base.proofs.Common.{◌≡◌, ◌≢◌, ℕ, ◌&&◌, ◌||◌, Bool, true, false, List, []}
-use Rattle.textwrap_base.proofs.Common.{◌∷◌, ◌++◌, All, All-append, All-cons, All-head, All-nil, All-tail}
-use Rattle.textwrap_base.proofs.Common.{inr, ap, append-nil, append_assoc, arith, join_with_byte}
-use Rattle.textwrap_base.proofs.Common.{length, lt-ltb, map, nat_lt, None, refl, subst, sym, ◌∙◌}
-use Rattle.textwrap_base.proofs.Lists.Parts.{all-right, flat}
-use Rattle.textwrap_words.proofs.Common.{blank, WordText}
-use Rattle.textwrap_lines.specs.Paragraph.{covered}
+use Rattle.textwrap_marked.proofs.Common.{◌≡◌, ◌≢◌, ℕ, ◌&&◌, ◌||◌, Bool, true, false, List, [], ◌∷◌}
+use Rattle.textwrap_marked.proofs.Common.{◌++◌, All, All-append, All-cons, All-head, All-nil}
+use Rattle.textwrap_marked.proofs.Common.{All-tail, inr, ap, append-nil, append_assoc, arith}
+use Rattle.textwrap_marked.proofs.Common.{flat_map, length, lt-ltb, map, nat_lt, None, refl, subst}
+use Rattle.textwrap_marked.proofs.Common.{sym, ◌∙◌, all-right, flat, ap₂, flat_map-append}
+use Rattle.textwrap_marked.proofs.Common.{is_beside, stays, from_letter, HasPlainMarkers, IsSameBy}
+use Rattle.textwrap_marked.proofs.Common.{line_sense, as_title, entered, fence_at, is_return}
+use Rattle.textwrap_marked.proofs.Common.{line_of, LineText, passed, StateText, without_returns}
+use Rattle.textwrap_marked.proofs.Common.{words_of, break_white, ending_if, filled_end}
+use Rattle.textwrap_marked.proofs.Common.{printed, begins_text, first_word, opens_paragraph}
+use Rattle.textwrap_marked.proofs.Common.{has_letter, spaced_text, SpacedText, ReflowOptions}
+use Rattle.std.proofs.Math.Bool.{and-true}
 use Rattle.textwrap_marked.proofs.AnewLines.{IsTold}
 use Rattle.textwrap_marked.proofs.BegunAlike.{AreBegun, IsInPlace, return-ends}
 use Rattle.textwrap_marked.proofs.BlockOrder.{AreBlocks}
@@ -15,78 +20,68 @@ use Rattle.textwrap_marked.proofs.FenceLeft.{EndsText, EndsWord, still-left, tex
 use Rattle.textwrap_marked.proofs.FenceMarks.{IsSafe, safe-none}
 use Rattle.textwrap_marked.proofs.FilledParts.{divided-is}
 use Rattle.textwrap_marked.proofs.KeptLines.{IsHeadAlike, title-heads}
+use Rattle.textwrap_marked.proofs.JustifiedTexts.{lines-shown}
+use Rattle.textwrap_marked.proofs.LineSenses.{line-sense, line-split}
 use Rattle.textwrap_marked.proofs.LineTests.{letter-no-rule}
-use Rattle.textwrap_marked.proofs.LineWords.{AreCutInto, division-words, joined, MayPart, spread}
+use Rattle.textwrap_marked.proofs.LineWords.{all_shown, AreCutInto, gap, MayPart, spread}
 use Rattle.textwrap_marked.proofs.NewBlock.{block_of, first-of-words, first_of, IsParagraph, renew}
-use Rattle.textwrap_marked.proofs.NewLines.{here-words, later_raws, line_raw, raw-text, returns_at, text_end}
+use Rattle.textwrap_marked.proofs.NewLines.{here-words, later_raws, line_raw, raw-text, returns_at}
+use Rattle.textwrap_marked.proofs.NewLines.{text-ends, text_end, end-white}
 use Rattle.textwrap_marked.proofs.OpenBehind.{behind_text, text-letter}
-use Rattle.textwrap_marked.proofs.ParagraphLines.{first-begins, first-text, first-unfenced, regroup}
-use Rattle.textwrap_marked.proofs.PrintedText.{break-again, break-same, break-spaced, ends_as, filled-last}
-use Rattle.textwrap_marked.proofs.PrintedText.{printed-joined, raws-feedless, shown-plain, text-joined}
-use Rattle.textwrap_marked.proofs.ReadBack.{ending, IsReadBack, Walks}
-use Rattle.textwrap_marked.proofs.ReturnsOff.{ends-behind, EndsWell, joined-end, return_if, white-end}
-use Rattle.textwrap_marked.proofs.SpacedBack.{IsWhite}
-use Rattle.textwrap_marked.proofs.TextBlocks.{AreTextWords, as-title-none, last_line, read, read-more, title_of}
-use Rattle.textwrap_marked.proofs.SpreadWords.{spread-end}
-use Rattle.textwrap_marked.specs.Blocks.{is_beside, stays}
-use Rattle.textwrap_marked.specs.Laws.{IsSameBy, IsSameParagraph}
-use Rattle.textwrap_marked.specs.Lines.{as_title, entered, fence_at, is_return, line_of, LineText, passed, StateText, without_returns}
-use Rattle.textwrap_marked.specs.Pieces.{words_of}
-use Rattle.textwrap_marked.specs.Reflow.{break_white, ending_if, filled_end, IsFilled, IsLaidOut, printed}
-use Rattle.textwrap_marked.specs.Signs.{first_word, opens_paragraph}
-use Rattle.textwrap_marked.specs.Words.{has_letter, spaced_text}
-use Rattle.textwrap_marked.specs.declared.options.ReflowOptions.{ReflowOptions}
+use Rattle.textwrap_marked.proofs.ParagraphLines.{first-begins, first-parts, first-text}
+use Rattle.textwrap_marked.proofs.ParagraphLines.{first-unfenced, regroup, text-parts}
+use Rattle.textwrap_marked.proofs.PrintedText.{break-again, break-same, break-spaced, ends_as}
+use Rattle.textwrap_marked.proofs.PrintedText.{filled-last, raws-feedless, text-joined}
+use Rattle.textwrap_marked.proofs.ReadBack.{ending, IsLaidOutAny, IsReadBack, Walks}
+use Rattle.textwrap_marked.proofs.ReturnsOff.{return_if}
+use Rattle.textwrap_marked.proofs.SpacedBack.{AreSpaced, IsWhite}
+use Rattle.textwrap_marked.proofs.TextBlocks.{AreTextWords, as-title-none, last_line, read}
+use Rattle.textwrap_marked.proofs.TextBlocks.{read-more, title_of}
+use Rattle.textwrap_marked.specs.Laws.{IsSameParagraph}
+use Rattle.textwrap_marked.specs.Reflow.{IsFilled}
 
--- what follows the first word of a line
-abbrev HasTail : List ℕ → List (List ℕ) → List ℕ → Bool → Type 0
-HasTail word words end r =
-    (tail : List ℕ) × (spaced_text (spread (word ∷ words) end) ++ return_if r ≡ word ++ tail)
-    × EndsWord tail
+module _ (justify : Bool) (gaps : ℕ → ℕ) where
+  -- what follows the first word of a line
+  spread-tail : (word : List ℕ) (words : List (List ℕ)) (end : List ℕ) (r : Bool) → All IsWhite end
+      → (tail : List ℕ)
+      × (spaced_text (spread justify gaps (word ∷ words) end) ++ return_if r ≡ word ++ tail)
+      × EndsWord tail
+  spread-tail word [] [] true white =
+      (13 ∷ [], ap (λ l. l ++ 13 ∷ []) (append-nil (word ++ []) ∙ append-nil word), refl)
+  spread-tail word [] [] false white =
+      ([], ap (λ l. l ++ []) (append-nil (word ++ []) ∙ append-nil word), tt)
+  spread-tail word [] (c ∷ end) r white = (
+    (c ∷ end) ++ return_if r,
+    ap (λ l. l ++ return_if r) (append-nil (word ++ c ∷ end)) ∙ append_assoc word (c ∷ end) (return_if r),
+    ap (λ b. b || is_return c) (All-head IsWhite c end white),
+  )
+  spread-tail word (next ∷ words) end r white =
+      let white = gap justify gaps (length words) in
+      let rest = spaced_text (spread justify gaps (next ∷ words) end) in (
+        white ++ (rest ++ return_if r),
+        append_assoc (word ++ white) rest (return_if r) ∙ append_assoc word white (rest ++ return_if r),
+        refl,
+      )
 
-spread-tail : (word : List ℕ) (words : List (List ℕ)) (end : List ℕ) (r : Bool) → All IsWhite end
-    → HasTail word words end r
-spread-tail word [] [] true white =
-    (13 ∷ [], ap (λ l. l ++ 13 ∷ []) (append-nil (word ++ []) ∙ append-nil word), refl)
-spread-tail word [] [] false white =
-    ([], ap (λ l. l ++ []) (append-nil (word ++ []) ∙ append-nil word), tt)
-spread-tail word [] (c ∷ end) r white = (
-  (c ∷ end) ++ return_if r,
-  ap (λ l. l ++ return_if r) (append-nil (word ++ c ∷ end)) ∙ append_assoc word (c ∷ end) (return_if r),
-  ap (λ b. b || is_return c) (All-head IsWhite c end white),
-)
-spread-tail word (next ∷ words) end r white =
-    let rest = spaced_text (spread (next ∷ words) end) in (
-      blank ∷ (rest ++ return_if r),
-      append_assoc (word ++ blank ∷ []) rest (return_if r)
-          ∙ append_assoc word (blank ∷ []) (rest ++ return_if r),
-      refl,
-    )
-
--- the same of its text alone
-text-end : (word : List ℕ) (words : List (List ℕ)) (end : List ℕ) → All IsWhite end
-    → (tail : List ℕ) × (spaced_text (spread (word ∷ words) end) ≡ word ++ tail) × EndsText tail
-text-end word [] [] white = ([], append-nil (word ++ []), tt)
-text-end word [] (c ∷ end) white =
-    (c ∷ end, append-nil (word ++ c ∷ end), All-head IsWhite c end white)
-text-end word (next ∷ words) end white =
-    let rest = spaced_text (spread (next ∷ words) end) in
-    (blank ∷ rest, append_assoc word (blank ∷ []) rest, refl)
-
-end-white : (end : List ℕ) → All IsWhite end → (lines : List (List (List ℕ)))
-    → All IsWhite (text_end end lines)
-end-white end white [] = white
-end-white end white (line ∷ lines) = All-nil IsWhite
+  -- the same of its text alone
+  text-end : (word : List ℕ) (words : List (List ℕ)) (end : List ℕ) → All IsWhite end
+      → (tail : List ℕ) × (spaced_text (spread justify gaps (word ∷ words) end) ≡ word ++ tail)
+      × EndsText tail
+  text-end word [] [] white = ([], append-nil (word ++ []), tt)
+  text-end word [] (c ∷ end) white =
+      (c ∷ end, append-nil (word ++ c ∷ end), All-head IsWhite c end white)
+  text-end word (next ∷ words) end white =
+      let white = gap justify gaps (length words) in
+      let rest = spaced_text (spread justify gaps (next ∷ words) end) in
+      (white ++ rest, append_assoc word white rest, refl)
 
 -- where lines follow, the ending is the one that they have
-followed : (returns : Bool) (end hanging : List ℕ) (left : List (List ℕ)) (ls : List (List (List ℕ)))
-    → nat_lt 0 (length (later_raws returns (returns && nat_lt 0 (length left)) end hanging ls ++ left)) ≡ true
-    → returns_at returns (returns && nat_lt 0 (length left)) ls ≡ returns
-followed returns end hanging left [] some = ap (λ b. returns && b) some ∙ same returns
-  where
-    same : (b : Bool) → (b && true) ≡ b
-    same true = refl
-    same false = refl
-followed returns end hanging left (line ∷ ls) some = refl
+followed : (justify : Bool) (wide : ℕ → ℕ → ℕ) (returns : Bool) (end hanging : List ℕ)
+    (left : List (List ℕ)) (ls : List (List (List ℕ))) → let more = returns && nat_lt 0 (length left) in
+    nat_lt 0 (length (later_raws justify wide returns more end hanging ls ++ left)) ≡ true
+    → returns_at returns more ls ≡ returns
+followed justify wide returns end hanging left [] some = ap (λ b. returns && b) some ∙ and-true returns
+followed justify wide returns end hanging left (line ∷ ls) some = refl
 
 cut-some : (options : ReflowOptions) (starred : Bool) (lines : List (List (List ℕ)))
     (later : List (List ℕ)) → AreCutInto options starred later lines → All (λ l. l ≢ []) lines
@@ -118,20 +113,51 @@ module _ (options : ReflowOptions) (returns : Bool) (told : IsTold options.endin
       text-letter here.starred (first_word p.ws) (first-begins options (entered state (without_returns raw)) raw p.fed p.lead
       p.cs p.qs p.bs p.ws p.has p.apart)
 
+  -- the words of its marks from the first letter on
+  abbrev marks_sense : List (List ℕ)
+  marks_sense = from_letter (map (λ w. w.word) (p.cs ++ (p.qs ++ p.bs)))
+
+  first-sense : (text : List ℕ) (starred : Bool) (ws : List SpacedText) → AreSpaced ws
+      → begins_text starred (first_word ws) ≡ true → without_returns text ≡ here.prefix ++ spaced_text ws
+      → line_sense text ≡ marks_sense ++ map (λ w. w.word) ws
+  first-sense text starred ws =
+      line-sense text p.lead (p.cs ++ (p.qs ++ p.bs)) starred ws p.has.text.white
+      (first-parts options (entered state (without_returns raw)) raw p.fed p.lead p.cs p.qs p.bs p.ws p.has p.apart).0
+
+  lines-sense : (left : List (List ℕ)) → left ≡ p.walked.done ++ p.walked.left → HasPlainMarkers options
+      → flat_map line_sense (raw ∷ left)
+      ≡ marks_sense ++ (words_of (here ∷ lines) ++ flat_map line_sense p.walked.left)
+  lines-sense left whole plain =
+      let at = entered state (without_returns raw) in
+      let marks = p.cs ++ (p.qs ++ p.bs) in
+      let of = first-text options at raw p.fed p.lead p.cs p.qs p.bs p.ws p.has p.apart in
+      let own = map (λ (w : SpacedText). w.word) p.ws in
+      let rest = flat_map line_sense p.walked.left in
+      let grouped : (marks_sense ++ own) ++ (words_of lines ++ rest)
+      ≡ marks_sense ++ ((own ++ words_of lines) ++ rest) = simp append_assoc in
+      ap₂ (λ a b. a ++ b)
+      (first-sense raw of.starred p.ws of.spaced of.begins
+      (p.has.text.is ∙ ap (λ l. p.lead ++ spaced_text l) (regroup p.cs p.qs p.bs p.ws)
+      ∙ ap (λ l. p.lead ++ l) (text-parts marks p.ws)
+      ∙ sym (append_assoc p.lead (spaced_text marks) (spaced_text p.ws))))
+      (ap (flat_map line_sense) whole ∙ flat_map-append line_sense p.walked.done p.walked.left
+      ∙ ap (λ l. l ++ rest) (p.walked.sense plain))
+      ∙ grouped
+
   -- where its first line is another one, no fence is open either
-  enters-same : (word : List ℕ) (words : List (List ℕ)) (end : List ℕ) (r : Bool) → All IsWhite end
+  enters-same : (gaps : ℕ → ℕ) (word : List ℕ) (words : List (List ℕ)) (end : List ℕ) (r : Bool) → All IsWhite end
       → first_word p.ws ≡ word → AreTextWords block_here (word ∷ words) → IsSafe options state
       → entered state (without_returns
-      ((here.prefix ++ spaced_text (spread (word ∷ words) end)) ++ return_if r))
+      ((here.prefix ++ spaced_text (spread options.justify gaps (word ∷ words) end)) ++ return_if r))
       ≡ entered state (without_returns raw)
-  enters-same word words end r white same are safe =
+  enters-same gaps word words end r white same are safe =
       let at = entered state (without_returns raw) in
-      let spaced = spaced_text (spread (word ∷ words) end) in
-      let (tail, is, ends) = text-end word words end white in
+      let spaced = spaced_text (spread options.justify gaps (word ∷ words) end) in
+      let (tail, is, ends) = text-end options.justify gaps word words end white in
       let old = first-unfenced options at raw p.fed p.lead p.cs p.qs p.bs p.ws p.has p.apart in
       let text = first-text options at raw p.fed p.lead p.cs p.qs p.bs p.ws p.has p.apart in
       let cut : without_returns ((here.prefix ++ spaced) ++ return_if r) ≡ here.prefix ++ spaced =
-      raw-text block_here here.prefix word words end r are.plain are.columns white in
+      raw-text options.justify gaps here.prefix word words end r are.plain are.columns white in
       let whole : here.prefix ++ (first_word p.ws ++ tail) ≡ here.prefix ++ spaced =
       ap (λ w. here.prefix ++ (w ++ tail)) same ∙ ap (λ l. here.prefix ++ l) (sym is) in
       let left : fence_at state.fence (without_returns ((here.prefix ++ spaced) ++ return_if r)) ≡ None =
@@ -141,19 +167,18 @@ module _ (options : ReflowOptions) (returns : Bool) (told : IsTold options.endin
       ap (λ f. record state { fence = f }) (left ∙ sym old)
 
   -- its first line, in the place of that of the text
-  in-place : (word : List ℕ) (words : List (List ℕ)) (end : List ℕ) (r : Bool) (news : List (List ℕ))
+  in-place : (gaps : ℕ → ℕ) (word : List ℕ) (words : List (List ℕ)) (end : List ℕ) (r : Bool) (news : List (List ℕ))
       → All IsWhite end → first_word p.ws ≡ word → AreTextWords block_here (word ∷ words)
       → (nat_lt 0 (length news) ≡ true → r ≡ returns)
-      → IsInPlace returns raw ((here.prefix ++ spaced_text (spread (word ∷ words) end)) ++ return_if r) news
-  in-place word words end r news white same are ends =
-      let text = spaced_text (spread (word ∷ words) end) in
-      let (tail, is, ends_word) = spread-tail word words end r white in
+      → IsInPlace returns raw ((here.prefix ++ spaced_text (spread options.justify gaps (word ∷ words) end)) ++ return_if r) news
+  in-place gaps word words end r news white same are ends =
+      let text = spaced_text (spread options.justify gaps (word ∷ words) end) in
+      let (tail, is, ends_word) = spread-tail options.justify gaps word words end r white in
       let own = first-text options (entered state (without_returns raw)) raw p.fed p.lead p.cs p.qs p.bs p.ws p.has p.apart in
       let list = p.cs ++ (p.qs ++ p.bs) in
       let (old_tail, old, old_ends) = text-tail raw p.lead list p.ws own.some
       (p.has.text.is ∙ ap (λ l. p.lead ++ spaced_text l) (regroup p.cs p.qs p.bs p.ws)) own.spaced in
-      let well = ends-behind here.prefix text (subst EndsWell (sym (spread-end word words end))
-      (white-end (joined (word ∷ words)) end (joined-end word words are.plain are.columns) white)) in
+      let well = text-ends options.justify gaps here.prefix word words end are.plain are.columns white in
       record {
         common = here.prefix ++ word;
         old_end = old_tail;
@@ -168,36 +193,36 @@ module _ (options : ReflowOptions) (returns : Bool) (told : IsTold options.endin
       }
 
   filled-lines : (front back : List ℕ) (word : List ℕ) (words later_words : List (List ℕ))
-      (ls : List (List (List ℕ))) (line : List WordText) (division : List (List WordText))
-      (raws left : List (List ℕ)) → raws ≡ raw ∷ left
-      → AreBlocks ((here ∷ lines) ∷ bs) → stays (beside || is_beside here bs) here ≡ false
+      (ls : List (List (List ℕ))) (wide : ℕ → ℕ → ℕ) (raws left : List (List ℕ)) → raws ≡ raw ∷ left
+      → left ≡ p.walked.done ++ p.walked.left → AreBlocks ((here ∷ lines) ∷ bs) → stays (beside || is_beside here bs) here ≡ false
       → front ≡ printed (ending options returns told) here.prefix here.hanging
-      (map covered (line ∷ division))
+      (all_shown options.justify wide ((word ∷ words) ∷ ls))
       ++ filled_end (ending options returns told) (here ∷ lines)
       → MayPart options here.starred (word ∷ words) later_words
       → AreCutInto options here.starred later_words ls
       → words_of (here ∷ lines) ≡ (word ∷ words) ++ later_words
-      → map covered (line ∷ division) ≡ map joined ((word ∷ words) ∷ ls) → IsSafe options state
+      → IsSafe options state
       → All IsFeedlessLine (here ∷ lines)
       → IsReadBack options returns told (behind_text block_here here.hanging final.words)
       (is_beside here bs) bs p.walked.left back
       → IsReadBack options returns told state beside ((here ∷ lines) ∷ bs) raws (front ++ back)
-  filled-lines front back word words later_words ls line division raws left whole (one, stops, are) stay
-      is may cut parts shown safe free later =
+  filled-lines front back word words later_words ls wide raws left whole walked (one, stops, are) stay is may cut
+      parts safe free later =
       let at = entered state (without_returns raw) in
       let rest = flat bs in
       let others = flat later.blocks in
       let end = break_white final in
-      let white = break-spaced final p.walked.spaced in
+      let white = break-spaced final p.walked.of.spaced in
       let fed = nat_lt 0 (length later.again) in
       let more = returns && fed in
       let ends = return_if returns ++ 10 ∷ [] in
+      let lines_shown = all_shown options.justify wide ((word ∷ words) ∷ ls) in
       let title : (l : LineText) → l.hanging ≡ here.hanging → title_of l others ≡ false =
-      λ l same. title-heads final l rest others later.heads (same ∙ sym p.walked.hangs) ∙ p.walked.title in
-      let (alike, n) = renew options at raw first lines rest p returns end white (break-same final)
+      λ l same. title-heads final l rest others later.heads (same ∙ sym p.walked.of.hangs) ∙ p.walked.title in
+      let (alike, new_is, n) = renew options at raw first lines rest p wide returns end white (break-same final)
       later.again others later.reads title word words later_words ls may cut parts in
-      let new_raw = line_raw returns more end here.prefix (word ∷ words) ls in
-      let raws_new = later_raws returns more end here.hanging ls ++ later.again in
+      let new_raw = line_raw options.justify wide returns more end here.prefix (word ∷ words) ls in
+      let raws_new = later_raws options.justify wide returns more end here.hanging ls ++ later.again in
       let fed_new = nat_lt 0 (length raws_new) in
       let new = line_of options at new_raw fed_new in
       let last_new = last_line new n.lines in
@@ -207,7 +232,7 @@ module _ (options : ReflowOptions) (returns : Bool) (told : IsTold options.endin
       let mine = here-words options block_here here.starred word words later_words ls cut
       (subst (AreTextWords block_here) parts p.walked.words) in
       let enters : entered state (without_returns new_raw) ≡ at =
-      enters-same word words (text_end end ls) (returns_at returns more ls) (end-white end white ls) first_is
+      enters-same (wide (length ls)) word words (text_end end ls) (returns_at returns more ls) (end-white end white ls) first_is
       mine safe in
       let head : IsHeadAlike here new = record {
         prefix = alike.prefix;
@@ -244,8 +269,8 @@ module _ (options : ReflowOptions) (returns : Bool) (told : IsTold options.endin
         are = (
           n.one,
           stops-same final last_new bs later.blocks are later.are later.heads (record {
-            hangs = n.hangs ∙ sym p.walked.hangs;
-            ended = n.ends ∙ sym p.walked.ends;
+            hangs = n.hangs ∙ sym p.walked.of.hangs;
+            ended = n.ends ∙ sym p.walked.of.ends;
             apart = n.apart ∙ sym p.walked.apart;
           }) stops,
           later.are,
@@ -254,22 +279,19 @@ module _ (options : ReflowOptions) (returns : Bool) (told : IsTold options.endin
             later.same (subst (λ b. IsSameBy options.ending b (part_of b here lines) (part_of b new n.lines)) (sym stay)
             (refl, same));
         text_is = ap (λ f. f ++ back) is
-            ∙ ap (λ e. (printed ends here.prefix here.hanging (map covered (line ∷ division)) ++ e) ++ back)
+            ∙ ap (λ e. (printed ends here.prefix here.hanging lines_shown ++ e) ++ back)
             (filled-last ends here lines)
-            ∙ append_assoc (printed ends here.prefix here.hanging (map covered (line ∷ division))) (ends_as ends final)
+            ∙ append_assoc (printed ends here.prefix here.hanging lines_shown) (ends_as ends final)
             back
-            ∙ ap (λ f. printed ends here.prefix here.hanging (map covered (line ∷ division))
+            ∙ ap (λ f. printed ends here.prefix here.hanging lines_shown
             ++ ((end ++ ending_if f ends) ++ back)) fed_is
-            ∙ ap (λ b. printed ends here.prefix here.hanging (map covered (line ∷ division))
+            ∙ ap (λ b. printed ends here.prefix here.hanging lines_shown
             ++ ((end ++ ending_if fed ends) ++ b)) later.text_is
-            ∙ printed-joined ends here.prefix here.hanging
-            ((end ++ ending_if fed ends) ++ join_with_byte 10 later.again) line division (word ∷ words) ls
-            shown
-            ∙ text-joined returns end here.hanging later.again ls here.prefix word words
+            ∙ text-joined options.justify wide returns end here.hanging later.again ls here.prefix word words
             (cut-some options here.starred ls later_words cut);
         feedless = All-append IsFeedless
-            (new_raw ∷ later_raws returns more end here.hanging ls) later.again
-            (raws-feedless options here.starred returns more end here.hanging white
+            (new_raw ∷ later_raws options.justify wide returns more end here.hanging ls) later.again
+            (raws-feedless options here.starred wide returns more end here.hanging white
             (All-head IsFeedlessLine here lines free).hanging ls here.prefix (word ∷ words) later_words
             (All-head IsFeedlessLine here lines free).prefix cut
             (subst (All IsFeedless) parts (words-feedless (here ∷ lines) free)))
@@ -279,46 +301,51 @@ module _ (options : ReflowOptions) (returns : Bool) (told : IsTold options.endin
             ∙ sym (lt-ltb 0 (length (raw ∷ left)) (omega arith))
             ∙ ap (λ l. nat_lt 0 (length l)) (sym whole);
         begun = subst (λ l. AreBegun returns l (new_raw ∷ raws_new)) (sym whole)
-            (inr (in-place word words (text_end end ls) (returns_at returns more ls) raws_new
+            (inr (in-place (wide (length ls)) word words (text_end end ls) (returns_at returns more ls) raws_new
             (end-white end white ls) first_is
-            mine (followed returns end here.hanging later.again ls)));
+            mine (followed options.justify wide returns end here.hanging later.again ls)));
+        sense = λ plain.
+            let own = map (λ (w : SpacedText). w.word) new.words in
+            ap (λ l. l ++ flat_map line_sense raws_new)
+            (first-sense new_raw new_is.of.starred new.words new_is.of.spaced new_is.of.begins
+            (line-split options at new_raw fed_new ∙ ap (λ q. q ++ spaced_text new.words) new_is.prefixed))
+            ∙ append_assoc marks_sense own (flat_map line_sense raws_new)
+            ∙ ap (λ l. marks_sense ++ l) (n.sense plain)
+            ∙ ap₂ (λ a b. marks_sense ++ (a ++ b)) (sym parts) (later.sense plain)
+            ∙ sym (ap (flat_map line_sense) whole ∙ lines-sense left walked plain);
       }
 
   -- by the lines of a division of its pieces
-  filled-division : (front back : List ℕ) (ls : List (List (List ℕ)))
-      (division : List (List WordText)) (raws left : List (List ℕ)) → raws ≡ raw ∷ left
+  filled-division : (front back : List ℕ) (ls : List (List (List ℕ))) (wide : ℕ → ℕ → ℕ)
+      (raws left : List (List ℕ)) → raws ≡ raw ∷ left → left ≡ p.walked.done ++ p.walked.left
       → AreBlocks ((here ∷ lines) ∷ bs) → stays (beside || is_beside here bs) here ≡ false
-      → front ≡ printed (ending options returns told) here.prefix here.hanging (map covered division)
-      ++ filled_end (ending options returns told) (here ∷ lines)
-      → AreCutInto options here.starred (words_of (here ∷ lines)) ls
-      → map covered division ≡ map joined ls → IsSafe options state → All IsFeedlessLine (here ∷ lines)
+      → front ≡ printed (ending options returns told) here.prefix here.hanging
+      (all_shown options.justify wide ls) ++ filled_end (ending options returns told) (here ∷ lines)
+      → AreCutInto options here.starred (words_of (here ∷ lines)) ls → IsSafe options state
+      → All IsFeedlessLine (here ∷ lines)
       → IsReadBack options returns told (behind_text block_here here.hanging final.words)
       (is_beside here bs) bs p.walked.left back
       → IsReadBack options returns told state beside ((here ∷ lines) ∷ bs) raws (front ++ back)
-  filled-division front back [] division raws left whole blocks stay is cut shown safe free later =
+  filled-division front back [] wide raws left whole walked blocks stay is cut safe free later =
       absurd (omega (arith, p.walked.words_some, ap length cut))
-  filled-division front back ([] ∷ ls) division raws left whole blocks stay is (behind, some, parts, may, cut)
-      shown safe free later = absurd (some refl)
-  filled-division front back ((word ∷ words) ∷ ls) [] raws left whole blocks stay is cut shown safe free
-      later = absurd (omega (arith, ap length shown))
-  filled-division front back ((word ∷ words) ∷ ls) (line ∷ division) raws left whole blocks stay is
-      (behind, some, parts, may, cut) shown safe free later =
-      filled-lines front back word words behind ls line division raws left whole blocks stay is may cut
-      parts shown safe free later
+  filled-division front back ([] ∷ ls) wide raws left whole walked blocks stay is (behind, some, parts, may, cut)
+      safe free later = absurd (some refl)
+  filled-division front back ((word ∷ words) ∷ ls) wide raws left whole walked blocks stay is
+      (behind, some, parts, may, cut) safe free later =
+      filled-lines front back word words behind ls wide raws left whole walked blocks stay is may cut parts safe
+      free later
 
-  words-some : words_of (here ∷ lines) ≢ []
-  words-some none = omega (arith, p.walked.words_some, ap length none)
-
-  filled-here : options.justify ≡ false → (front back : List ℕ) (raws left : List (List ℕ)) → raws ≡ raw ∷ left → p.behind ≡ left
+  filled-here : (front back : List ℕ) (raws left : List (List ℕ)) → raws ≡ raw ∷ left → p.behind ≡ left
       → AreBlocks ((here ∷ lines) ∷ bs) → stays (beside || is_beside here bs) here ≡ false
       → IsFilled options (ending options returns told) here (here ∷ lines) front
-      → IsLaidOut options (ending options returns told) (is_beside here bs) bs back
+      → IsLaidOutAny options returns told (is_beside here bs) bs back
       → Walks options returns told (is_beside here bs) bs → IsSafe options state
       → All IsFeedless raws → All IsFeedlessLine (here ∷ lines)
       → IsReadBack options returns told state beside ((here ∷ lines) ∷ bs) raws (front ++ back)
-  filled-here plain front back raws left whole same blocks stay (division, divided, is) laid walks safe free
+  filled-here front back raws left whole same blocks stay (division, divided, is) laid walks safe free
       lines_free =
-      let (ls, cut, shown) = division-words options here.starred (words_of (here ∷ lines)) words-some
+      let (ls, wide, cut, shown) = lines-shown options here (words_of (here ∷ lines))
+      (λ none. omega (arith, p.walked.words_some, ap length none))
       p.walked.words.plain division (divided-is _ _ _ division divided) in
       let behind = behind_text block_here here.hanging final.words in
       let all_left : All IsFeedless left =
@@ -327,24 +354,24 @@ module _ (options : ReflowOptions) (returns : Bool) (told : IsTold options.endin
       all-right IsFeedless p.walked.done p.walked.left
       (subst (All IsFeedless) (sym same ∙ p.walked.whole) all_left) in
       let printed_is = is ∙ ap (λ l. printed (ending options returns told) here.prefix here.hanging l
-      ++ filled_end (ending options returns told) (here ∷ lines)) (shown-plain options here division plain) in
-      filled-division front back ls division raws left whole blocks stay printed_is cut shown safe lines_free
+      ++ filled_end (ending options returns told) (here ∷ lines)) shown in
+      filled-division front back ls wide raws left whole (sym same ∙ p.walked.whole) blocks stay printed_is cut safe lines_free
       (walks behind p.walked.left back p.walked.reads laid (safe-none options behind refl) free_left)
 
   -- the same of the line that is read
-  pub filled-step : options.justify ≡ false → (front back : List ℕ) (raws left : List (List ℕ)) → raws ≡ raw ∷ left
+  pub filled-step : (front back : List ℕ) (raws left : List (List ℕ)) → raws ≡ raw ∷ left
       → p.behind ≡ left → AreBlocks ((first ∷ lines) ∷ bs)
       → stays (beside || is_beside first bs) first ≡ false
       → IsFilled options (ending options returns told) first (first ∷ lines) front
-      → IsLaidOut options (ending options returns told) (is_beside first bs) bs back
+      → IsLaidOutAny options returns told (is_beside first bs) bs back
       → Walks options returns told (is_beside first bs) bs → IsSafe options state
       → All IsFeedless raws → All IsFeedlessLine (first ∷ lines)
       → IsReadBack options returns told state beside ((first ∷ lines) ∷ bs) raws (front ++ back)
-  filled-step plain front back raws left whole same =
+  filled-step front back raws left whole same =
       subst (λ l. AreBlocks ((l ∷ lines) ∷ bs) → stays (beside || is_beside l bs) l ≡ false
       → IsFilled options (ending options returns told) l (l ∷ lines) front
-      → IsLaidOut options (ending options returns told) (is_beside l bs) bs back
+      → IsLaidOutAny options returns told (is_beside l bs) bs back
       → Walks options returns told (is_beside l bs) bs → IsSafe options state → All IsFeedless raws
       → All IsFeedlessLine (l ∷ lines)
       → IsReadBack options returns told state beside ((l ∷ lines) ∷ bs) raws (front ++ back)) (sym p.is)
-      (filled-here plain front back raws left whole same)
+      (filled-here front back raws left whole same)

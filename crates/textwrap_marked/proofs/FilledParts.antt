@@ -1,20 +1,18 @@
 -- What the laws say of a part.
-use Rattle.textwrap_base.proofs.Common.{◌≡◌, ℕ, Bool, true, false, List, [], ◌∷◌, ap, arith}
-use Rattle.textwrap_base.proofs.Common.{◌&&◌, flat_map, length, nat_lt, None, subst, sym, ◌∙◌}
-use Rattle.textwrap_base.specs.Division.{IsDivision}
+use Rattle.textwrap_marked.proofs.Common.{◌≡◌, ℕ, Bool, true, false, List, [], ◌∷◌, ap, arith, ◌&&◌}
+use Rattle.textwrap_marked.proofs.Common.{flat_map, length, nat_lt, None, subst, sym, ◌∙◌}
+use Rattle.textwrap_marked.proofs.Common.{IsDivision, IsDividedBy, sizes_of, WordText, Part}
+use Rattle.textwrap_marked.proofs.Common.{piece_words, LineText, algorithm_of, first_room}
+use Rattle.textwrap_marked.proofs.Common.{IsOfBlock, kept_line, later_room, line_text, line_texts}
+use Rattle.textwrap_marked.proofs.Common.{ReflowOptions}
 use Rattle.textwrap_base.specs.declared.penalties.Penalties.{Penalties}
-use Rattle.textwrap_words.proofs.Common.{Algorithm, Greedy, LeastCost, IsDividedBy, sizes_of, WordText}
+use Rattle.textwrap_words.proofs.Common.{Algorithm, Greedy, LeastCost}
 use Rattle.textwrap_marked.proofs.KeptWords.{printed-words}
 use Rattle.textwrap_marked.proofs.PlainLines.{IsPlainBlock}
 use Rattle.textwrap_marked.proofs.PrintedWidths.{lines-as-wide, printed-within, two-widths}
 use Rattle.textwrap_marked.specs.Laws.{AreAsWide, CostsLeast, FillsWidth, IsKeptOrBehind}
-use Rattle.textwrap_marked.specs.Laws.{KeepsToWidth, KeepsWords}
-use Rattle.textwrap_marked.specs.Laws.{Part, piece_words, widths_left}
-use Rattle.textwrap_marked.specs.Lines.{LineText}
-use Rattle.textwrap_marked.specs.Reflow.{algorithm_of, first_room, IsOfBlock, kept_line}
-use Rattle.textwrap_marked.specs.Reflow.{later_room, line_text, line_texts}
+use Rattle.textwrap_marked.specs.Laws.{KeepsToWidth, KeepsWords, widths_left}
 use Rattle.textwrap_marked.specs.declared.options.Algorithm.TheVariants as by
-use Rattle.textwrap_marked.specs.declared.options.ReflowOptions.{ReflowOptions}
 
 -- either algorithm divides
 pub divided-is : (algorithm : Algorithm) (widths : List ℕ) (xs : List WordText)

@@ -1,19 +1,17 @@
 -- Lines that do not stand apart, by themselves, and what is open behind them.
-use Rattle.textwrap_base.proofs.Common.{◌≡◌, ℕ, ◌&&◌, ◌||◌, not, Bool, true, false, cond, List, []}
-use Rattle.textwrap_base.proofs.Common.{◌∷◌, ap, arith, cases_Bool, codes, length, ne_eqb, None, Option}
-use Rattle.textwrap_base.proofs.Common.{refl, Some, sym, true≢false, ◌∙◌}
-use Rattle.std.specs.Prelude.{bytes_eq, is_some}
+use Rattle.textwrap_marked.proofs.Common.{◌≡◌, ℕ, ◌&&◌, ◌||◌, not, Bool, true, false, cond, List}
+use Rattle.textwrap_marked.proofs.Common.{[], ◌∷◌, ap, arith, cases_Bool, codes, length, ne_eqb}
+use Rattle.textwrap_marked.proofs.Common.{None, Option, refl, Some, sym, true≢false, ◌∙◌, bytes_eq}
+use Rattle.textwrap_marked.proofs.Common.{is_some, FenceText, has_words, passed, StateText}
+use Rattle.textwrap_marked.proofs.Common.{begins_text, closes_block, closes_early, first_word}
+use Rattle.textwrap_marked.proofs.Common.{has_columns, is_key, has_byte, SpacedText, ReflowOptions}
 use Rattle.std.specs.Str.{chars}
+use Rattle.std.proofs.Math.Bool.{and-false}
 use Rattle.textwrap_marked.proofs.LineKinds.{hanging_of, has_opening_in, Kinds, line_by}
 use Rattle.textwrap_marked.proofs.Letterless.{dollar-plain, prompt-plain}
-use Rattle.textwrap_marked.proofs.OpenBehind.{behind_text, no-columns, opened-none, passed-is, text-other}
-use Rattle.textwrap_marked.specs.Fences.{FenceText}
-use Rattle.textwrap_marked.specs.Lines.{has_words, is_deep, is_prompt, is_prompted, passed, stands_apart}
-use Rattle.textwrap_marked.specs.Lines.{StateText}
-use Rattle.textwrap_marked.specs.Signs.{begins_text, closes_block, closes_early, first_word, has_columns}
-use Rattle.textwrap_marked.specs.Signs.{is_key}
-use Rattle.textwrap_marked.specs.Words.{has_byte, SpacedText}
-use Rattle.textwrap_marked.specs.declared.options.ReflowOptions.{ReflowOptions}
+use Rattle.textwrap_marked.proofs.OpenBehind.{behind_text, no-columns, opened-none, passed-is}
+use Rattle.textwrap_marked.proofs.OpenBehind.{text-other}
+use Rattle.textwrap_marked.specs.Lines.{is_deep, is_prompt, is_prompted, stands_apart}
 
 abbrev pub block_at : StateText → Kinds → Bool
 block_at state k = state.in_block || has_opening_in k.comments
@@ -116,17 +114,13 @@ module _ (options : ReflowOptions) (state : StateText) (raw : List ℕ) (fed : B
       ∙ text-other starred first (codes ">>>") are.begins prompt-plain in
       let prompts : is_prompted state.prompted k.words ≡ false =
       ap (λ b. has_words k.words && (b || is_prompt first)) at.prompt
-      ∙ ap (λ b. has_words k.words && b) prompt ∙ none (has_words k.words) in
+      ∙ ap (λ b. has_words k.words && b) prompt ∙ and-false (has_words k.words) in
       passed-is state (line_by options state raw fed k) (block_at state k)
       (some-none state.fence at.fence) at.level
       (opened-none starred k.words are.begins (no-columns options.justify k.words are.columns))
       (begun starred k.words are.begins) prompts
       (block state.in_block (has_opening_in k.comments) (closes_block k.words))
     where
-      none : (b : Bool) → (b && false) ≡ false
-      none true = refl
-      none false = refl
-
       block : (i o c : Bool)
           → cond i (not c) (true && (o && not c)) ≡ ((i || o) && not c)
       block true o c = refl

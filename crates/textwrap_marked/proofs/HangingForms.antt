@@ -1,23 +1,21 @@
 -- A hanging form is white and marks that a line behind it is read with.
-use Rattle.textwrap_base.proofs.Common.{◌≡◌, ℕ, suc, ◌≤◌, ◌||◌, Bool, true, false, cond, List}
-use Rattle.textwrap_base.proofs.Common.{[], ◌∷◌, ◌++◌, All, All-append, All-cons, All-head, All-nil}
-use Rattle.textwrap_base.proofs.Common.{All-tail, ap, arith}
-use Rattle.textwrap_base.proofs.Common.{zero, length, refl, subst, sym, take, true≢false, ◌∙◌}
-use Rattle.textwrap_base.proofs.Lists.Parts.{all-left, all-right}
-use Rattle.textwrap_words.specs.Units.{text_width}
-use Rattle.textwrap_marked.proofs.HangingKinds.{AreMarks, end-text, end_comments, end_lead, hang-text}
-use Rattle.textwrap_marked.proofs.HangingKinds.{hang_lead, hang_marks, IsFull, last-all, last-full, onto_last}
-use Rattle.textwrap_marked.proofs.HangingKinds.{quote-no-star, quotes-are, star, star-no-opening}
-use Rattle.textwrap_marked.proofs.LineKinds.{hanging_of, has_opening_in, HaveKinds, kinds, one_if}
+use Rattle.textwrap_marked.proofs.Common.{◌≡◌, ℕ, suc, ◌≤◌, ◌||◌, Bool, true, false, cond, List, []}
+use Rattle.textwrap_marked.proofs.Common.{◌∷◌, ◌++◌, All, All-append, All-cons, All-head, All-nil}
+use Rattle.textwrap_marked.proofs.Common.{All-tail, ap, arith, length, refl, subst, sym, take}
+use Rattle.textwrap_marked.proofs.Common.{true≢false, ◌∙◌, all-left, all-right, or-false}
+use Rattle.textwrap_marked.proofs.Common.{All-replicate, text_width, is_comment_at, is_opening}
+use Rattle.textwrap_marked.proofs.Common.{is_quote, blanks, comment_len, hanging_bullets}
+use Rattle.textwrap_marked.proofs.Common.{spaced_text, SpacedText, ReflowOptions}
+use Rattle.textwrap_marked.proofs.HangingKinds.{AreMarks, end-text, end_comments, end_lead}
+use Rattle.textwrap_marked.proofs.HangingKinds.{hang-text, hang_lead, hang_marks, IsFull, last-all}
+use Rattle.textwrap_marked.proofs.HangingKinds.{last-full, onto_last, quote-no-star, quotes-are}
+use Rattle.textwrap_marked.proofs.HangingKinds.{star, star-no-opening}
+use Rattle.textwrap_marked.proofs.LineKinds.{hanging_of, has_opening_in, HaveKinds, kinds, none-if}
+use Rattle.textwrap_marked.proofs.LineKinds.{one_if, some-if}
 use Rattle.textwrap_marked.proofs.SpacedBack.{IsWhite, plain-one}
-use Rattle.textwrap_marked.specs.Marks.{is_comment_at, is_opening, is_quote}
-use Rattle.textwrap_marked.specs.Prefixes.{blanks, comment_len, hanging_bullets}
-use Rattle.textwrap_marked.specs.Words.{spaced_text, SpacedText}
-use Rattle.textwrap_marked.specs.declared.options.ReflowOptions.{ReflowOptions}
 
 blanks-white : (n : ℕ) → All IsWhite (blanks n)
-blanks-white zero = All-nil IsWhite
-blanks-white (suc n) = All-cons IsWhite 32 (blanks n) refl (blanks-white n)
+blanks-white n = All-replicate IsWhite n 32 refl
 
 pub bullets-white : (bs : List SpacedText) → All IsFull bs → All IsWhite (hanging_bullets bs)
 bullets-white [] full = All-nil IsWhite
@@ -31,23 +29,11 @@ bullets-white (b ∷ bs) full =
 comment-one : (options : ReflowOptions) (in_block : Bool) (c : SpacedText) (ws : List SpacedText)
     (n : ℕ) → comment_len options in_block (c ∷ ws) ≡ suc n
     → is_comment_at options in_block c.word ≡ true
-comment-one options in_block c ws n is = cut (is_comment_at options in_block c.word) refl
-  where
-    cut : (b : Bool) → is_comment_at options in_block c.word ≡ b
-        → is_comment_at options in_block c.word ≡ true
-    cut true comment = comment
-    cut false comment =
-        let none : 0 ≡ suc n = sym (ap one_if comment) ∙ is in absurd (omega (arith, none))
+comment-one options in_block c ws n is = (some-if (is_comment_at options in_block c.word) 0 n is).0
 
 comment-none : (options : ReflowOptions) (in_block : Bool) (c : SpacedText) (ws : List SpacedText)
     → comment_len options in_block (c ∷ ws) ≡ 0 → is_comment_at options in_block c.word ≡ false
-comment-none options in_block c ws is = cut (is_comment_at options in_block c.word) refl
-  where
-    cut : (b : Bool) → is_comment_at options in_block c.word ≡ b
-        → is_comment_at options in_block c.word ≡ false
-    cut false comment = comment
-    cut true comment =
-        let one : 1 ≡ 0 = sym (ap one_if comment) ∙ is in absurd (omega (arith, one))
+comment-none options in_block c ws is = none-if (is_comment_at options in_block c.word) 0 0 is
 
 comment-most : (options : ReflowOptions) (in_block : Bool) (ws : List SpacedText)
     → comment_len options in_block ws ≤ 1
@@ -73,25 +59,41 @@ opening-outside options false word comment opening = refl
 opening-outside options true word comment opening =
     absurd (true≢false (sym opening ∙ star-no-opening word comment))
 
-pub or-false : (b : Bool) → (b || false) ≡ b
-or-false true = refl
-or-false false = refl
-
 abbrev marks_by : SpacedText → Bool → Bool → List SpacedText
 marks_by c o b = cond o (cond b [] (star c ∷ [])) (c ∷ [])
+
+-- quote marks alone, or behind one comment mark
+quotes-marks : (options : ReflowOptions) (in_block : Bool) (qs : List SpacedText)
+    → All (λ w. is_quote w.word ≡ true) qs
+    → All (λ w. is_comment_at options in_block w.word ≡ false) (take 1 qs) → AreMarks options in_block [] qs
+quotes-marks options in_block qs quote none = record {
+  one = omega arith;
+  comment = All-nil (λ w. is_comment_at options in_block w.word ≡ true);
+  no_opening = All-nil (λ w. is_opening w.word ≡ false);
+  quote = quote;
+  no_comment = λ empty. none;
+}
+
+one-mark : (options : ReflowOptions) (in_block : Bool) (c : SpacedText) (qs : List SpacedText)
+    → is_comment_at options in_block c.word ≡ true → is_opening c.word ≡ false
+    → All (λ w. is_quote w.word ≡ true) qs → AreMarks options in_block (c ∷ []) qs
+one-mark options in_block c qs comment opening quote = record {
+  one = omega arith;
+  comment = All-cons (λ w. is_comment_at options in_block w.word ≡ true) c [] comment
+      (All-nil (λ w. is_comment_at options in_block w.word ≡ true));
+  no_opening = All-cons (λ w. is_opening w.word ≡ false) c [] opening
+      (All-nil (λ w. is_opening w.word ≡ false));
+  quote = quote;
+  no_comment = λ none. absurd (omega (arith, none));
+}
 
 hang-marks : (options : ReflowOptions) (in_block bare : Bool) (cs qs rest : List SpacedText)
     → comment_len options in_block (cs ++ (qs ++ rest)) ≡ length cs
     → All (λ w. is_quote w.word ≡ true) qs
     → AreMarks options (in_block || has_opening_in cs) (hang_marks bare cs) qs
 hang-marks options in_block bare [] qs rest count quote =
-    subst (λ b. AreMarks options b [] qs) (sym (or-false in_block)) (record {
-      one = omega arith;
-      comment = All-nil (λ w. is_comment_at options in_block w.word ≡ true);
-      no_opening = All-nil (λ w. is_opening w.word ≡ false);
-      quote = quote;
-      no_comment = λ none. first qs count;
-    })
+    subst (λ b. AreMarks options b [] qs) (sym (or-false in_block))
+    (quotes-marks options in_block qs quote (first qs count))
   where
     first : (qs : List SpacedText) → comment_len options in_block (qs ++ rest) ≡ 0
         → All (λ w. is_comment_at options in_block w.word ≡ false) (take 1 qs)
@@ -113,33 +115,12 @@ hang-marks options in_block bare (c ∷ []) qs rest count quote =
         (subst (λ k. AreMarks options (k || true) (marks_by c true b) qs) (sym out) (inside b))
       where
         inside : (b : Bool) → AreMarks options true (marks_by c true b) qs
-        inside true = record {
-          one = omega arith;
-          comment = All-nil (λ w. is_comment_at options true w.word ≡ true);
-          no_opening = All-nil (λ w. is_opening w.word ≡ false);
-          quote = quote;
-          no_comment = λ none. no-star options qs quote;
-        }
-        inside false = record {
-          one = omega arith;
-          comment = All-cons (λ w. is_comment_at options true w.word ≡ true) (star c) [] refl
-              (All-nil (λ w. is_comment_at options true w.word ≡ true));
-          no_opening = All-cons (λ w. is_opening w.word ≡ false) (star c) [] refl
-              (All-nil (λ w. is_opening w.word ≡ false));
-          quote = quote;
-          no_comment = λ none. absurd (omega (arith, none));
-        }
+        inside true = quotes-marks options true qs quote (no-star options qs quote)
+        inside false = one-mark options true (star c) qs refl refl quote
     cut false b opening comment =
         subst (λ o. AreMarks options (in_block || (o || false)) (marks_by c o b) qs) (sym opening)
-        (subst (λ k. AreMarks options k (c ∷ []) qs) (sym (or-false in_block)) (record {
-          one = omega arith;
-          comment = All-cons (λ w. is_comment_at options in_block w.word ≡ true) c [] comment
-              (All-nil (λ w. is_comment_at options in_block w.word ≡ true));
-          no_opening = All-cons (λ w. is_opening w.word ≡ false) c [] opening
-              (All-nil (λ w. is_opening w.word ≡ false));
-          quote = quote;
-          no_comment = λ none. absurd (omega (arith, none));
-        }))
+        (subst (λ k. AreMarks options k (c ∷ []) qs) (sym (or-false in_block))
+        (one-mark options in_block c qs comment opening quote))
 
 last-len : (ws : List SpacedText) (more : List ℕ) → length (onto_last ws more) ≡ length ws
 last-len [] more = refl

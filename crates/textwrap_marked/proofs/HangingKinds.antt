@@ -1,21 +1,18 @@
 -- The words of a hanging form by kind, and how a line behind one is read.
-use Rattle.textwrap_base.proofs.Common.{◌≡◌, ℕ, suc, ◌+◌, ◌<◌, ◌≤◌, ◌||◌, Bool, true, false, cond, List}
-use Rattle.textwrap_base.proofs.Common.{[], ◌∷◌, ◌++◌, All, All-append, All-cons, All-head, All-nil}
-use Rattle.textwrap_base.proofs.Common.{All-tail, ap, append_assoc, append-nil, arith, codes}
-use Rattle.textwrap_base.proofs.Common.{if◌then◌else◌, length, length-append, refl, subst, sym, take, true≢false, ◌∙◌}
-use Rattle.textwrap_base.proofs.Common.{false_from_ne_true, nil_from_length, zero}
-use Rattle.std.specs.Prelude.{bytes_eq}
+use Rattle.textwrap_marked.proofs.Common.{◌≡◌, ℕ, suc, ◌+◌, ◌<◌, ◌≤◌, ◌||◌, Bool, true, false, cond}
+use Rattle.textwrap_marked.proofs.Common.{List, [], ◌∷◌, ◌++◌, All, All-append, All-cons, All-head}
+use Rattle.textwrap_marked.proofs.Common.{All-nil, All-tail, ap, append_assoc, append-nil, arith}
+use Rattle.textwrap_marked.proofs.Common.{codes, length, length-append, refl, subst, sym, take}
+use Rattle.textwrap_marked.proofs.Common.{true≢false, ◌∙◌, false_from_ne_true, zero, bytes_eq}
+use Rattle.textwrap_marked.proofs.Common.{flat_map-append, bytes_eq-Decides, text_width}
+use Rattle.textwrap_marked.proofs.Common.{is_comment_at, is_opening, is_quote, blanks, bullets_len}
+use Rattle.textwrap_marked.proofs.Common.{comment_len, hanging_comments, quotes_len, spaced_text}
+use Rattle.textwrap_marked.proofs.Common.{SpacedText, ReflowOptions}
+use Rattle.textwrap_base.proofs.Common.{if◌then◌else◌, nil_from_length}
 use Rattle.textwrap_base.proofs.Lists.Parts.{same_parts}
-use Rattle.std.proofs.lemmas.Grind.{flat_map-append}
-use Rattle.std.proofs.lemmas.Slice.Eq.{bytes_eq-Decides}
-use Rattle.textwrap_words.specs.Units.{text_width}
 use Rattle.textwrap_marked.proofs.LineKinds.{hanging_of, has_opening_in, HaveKinds, kinds, one_if}
+use Rattle.textwrap_marked.proofs.LineKinds.{some-if}
 use Rattle.textwrap_marked.proofs.SpacedBack.{AreSpaced, IsSpaced, IsWhite}
-use Rattle.textwrap_marked.specs.Marks.{is_comment_at, is_opening, is_quote}
-use Rattle.textwrap_marked.specs.Prefixes.{blanks, bullets_len, comment_len}
-use Rattle.textwrap_marked.specs.Prefixes.{hanging_comments, quotes_len}
-use Rattle.textwrap_marked.specs.Words.{spaced_text, SpacedText}
-use Rattle.textwrap_marked.specs.declared.options.ReflowOptions.{ReflowOptions}
 
 -- ---- words with white behind each
 
@@ -100,19 +97,9 @@ quotes-all (q ∷ qs) rest all =
 pub quotes-are : (qs rest : List SpacedText) → quotes_len (qs ++ rest) ≡ length qs
     → All (λ w. is_quote w.word ≡ true) qs
 quotes-are [] rest is = All-nil (λ w. is_quote w.word ≡ true)
-quotes-are (q ∷ qs) rest is = cut (is_quote q.word) refl (quotes-are qs rest)
-  where
-    cut : (b : Bool) → is_quote q.word ≡ b
-        → (quotes_len (qs ++ rest) ≡ length qs → All (λ w. is_quote w.word ≡ true) qs)
-        → All (λ w. is_quote w.word ≡ true) (q ∷ qs)
-    cut true quote step =
-        let len : suc (quotes_len (qs ++ rest)) ≡ suc (length qs) =
-        sym (ap (λ b. cond b (suc (quotes_len (qs ++ rest))) 0) quote) ∙ is in
-        All-cons (λ w. is_quote w.word ≡ true) q qs quote (step (omega (arith, len)))
-    cut false quote step =
-        let none : 0 ≡ suc (length qs) =
-        sym (ap (λ b. cond b (suc (quotes_len (qs ++ rest))) 0) quote) ∙ is in
-        absurd (omega (arith, none))
+quotes-are (q ∷ qs) rest is =
+    let (quote, len) = some-if (is_quote q.word) (quotes_len (qs ++ rest)) (length qs) is in
+    All-cons (λ w. is_quote w.word ≡ true) q qs quote (quotes-are qs rest len)
 
 -- `*` is no quote mark
 pub quote-no-star : (word : List ℕ) → is_quote word ≡ true → bytes_eq word (codes "*") ≡ false

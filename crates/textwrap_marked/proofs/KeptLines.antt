@@ -1,23 +1,24 @@
 -- Lines that stay, read again before others that begin alike.
-use Rattle.textwrap_base.proofs.Common.{◌≡◌, ℕ, ◌-◌, ◌<◌, ◌&&◌, Bool, true, false, List, [], ◌∷◌, ◌++◌}
-use Rattle.textwrap_base.proofs.Common.{All, All-cons, All-head, All-tail, ap, append-nil, append_assoc, arith}
-use Rattle.textwrap_base.proofs.Common.{codes, drop, flat_map, inl, inr, join_with_byte, length, lt-ltb, map}
-use Rattle.textwrap_base.proofs.Common.{nat_lt, None, Option, refl, Some, suc, suffix_len, sym, take-append-drop, ⊤, ◌∙◌}
-use Rattle.std.specs.Prelude.{bytes_eq}
-use Rattle.textwrap_lines.specs.declared.line_ending.LineEnding.{LineEnding}
-use Rattle.textwrap_marked.proofs.AnewLines.{anew, anew-content, anew-feedless, anew-line, anew-text, anew_raw}
-use Rattle.textwrap_marked.proofs.AnewLines.{content-return, IsTold, passed-anew}
+use Rattle.textwrap_marked.proofs.Common.{◌≡◌, ℕ, ◌-◌, ◌<◌, ◌&&◌, Bool, true, false, List, [], ◌∷◌}
+use Rattle.textwrap_marked.proofs.Common.{◌++◌, All, All-cons, All-head, All-tail, ap, append-nil}
+use Rattle.textwrap_marked.proofs.Common.{append_assoc, arith, codes, drop, flat_map, inl, inr}
+use Rattle.textwrap_marked.proofs.Common.{join_with_byte, length, lt-ltb, map, nat_lt, None, Option}
+use Rattle.textwrap_marked.proofs.Common.{refl, Some, suc, suffix_len, sym, take-append-drop, ⊤}
+use Rattle.textwrap_marked.proofs.Common.{◌∙◌, ap₂, bytes_eq, LineEnding, from_letter, line_sense}
+use Rattle.textwrap_marked.proofs.Common.{words_in, as_title, entered, is_return, line_of, LineText}
+use Rattle.textwrap_marked.proofs.Common.{passed, StateText, without_returns, ending_if, kept_line}
+use Rattle.textwrap_marked.proofs.Common.{first_word, opens_paragraph, ReflowOptions}
+use Rattle.std.proofs.Math.Bool.{and-true}
+use Rattle.textwrap_marked.proofs.AnewLines.{anew, anew-content, anew-feedless, anew-line}
+use Rattle.textwrap_marked.proofs.AnewLines.{anew-text, anew_raw, content-return, IsTold}
+use Rattle.textwrap_marked.proofs.AnewLines.{passed-anew}
 use Rattle.textwrap_marked.proofs.BegunAlike.{AreBegun}
 use Rattle.textwrap_marked.proofs.Feedless.{IsFeedless}
 use Rattle.textwrap_marked.proofs.FenceLeft.{EndsWord, returned}
 use Rattle.textwrap_marked.proofs.FenceMarks.{IsSafe, safe-passed}
 use Rattle.textwrap_marked.proofs.ReturnsOff.{return_if}
 use Rattle.textwrap_marked.proofs.TextBlocks.{line_at, peel, read, read-more, title_of}
-use Rattle.textwrap_marked.specs.Lines.{as_title, entered, is_return, line_of, LineText, passed, StateText}
-use Rattle.textwrap_marked.specs.Lines.{without_returns}
-use Rattle.textwrap_marked.specs.Reflow.{ending_if, kept_line}
-use Rattle.textwrap_marked.specs.Signs.{first_word, is_rule, opens_paragraph}
-use Rattle.textwrap_marked.specs.declared.options.ReflowOptions.{ReflowOptions}
+use Rattle.textwrap_marked.specs.Signs.{is_rule}
 
 -- all that the lines before it ask of a line, and of the first of a block
 pub record IsHeadAlike (line other : LineText) : Type 0 where
@@ -29,8 +30,9 @@ pub record IsHeadAlike (line other : LineText) : Type 0 where
   pub rule : is_rule other.words ≡ is_rule line.words
   pub opens : opens_paragraph (first_word other.words) ≡ opens_paragraph (first_word line.words)
 
-pub head-same : (line : LineText) → IsHeadAlike line line
-head-same line = record {
+-- whatever its bytes are
+pub head-same : (line : LineText) (raw : List ℕ) → IsHeadAlike line (record line { raw = raw })
+head-same line raw = record {
   prefix = refl;
   hangs = refl;
   field = refl;
@@ -59,7 +61,7 @@ title-heads line other (one ∷ lines) (two ∷ others) heads hangs =
 heads-behind : (lines rest others : List LineText) → AreHeads rest others
     → AreHeads (lines ++ rest) (lines ++ others)
 heads-behind [] rest others heads = heads
-heads-behind (line ∷ lines) rest others heads = head-same line
+heads-behind (line ∷ lines) rest others heads = head-same line line.raw
 
 pub some-behind : {X : Type 0} (kept more left : List X)
     → nat_lt 0 (length more) ≡ nat_lt 0 (length left)
@@ -91,16 +93,12 @@ anew-begun (Some e) returns fed raw raws news is same = inr (record {
   is = refl;
   old_ends = returned raw;
   new_ends = ends (returns && fed);
-  ends = λ some. content-return raw (returns && fed) ∙ ap (λ b. returns && b) (is ∙ some) ∙ whole returns;
+  ends = λ some. content-return raw (returns && fed) ∙ ap (λ b. returns && b) (is ∙ some) ∙ and-true returns;
 })
   where
     ends : (b : Bool) → EndsWord (return_if b)
     ends true = refl
     ends false = tt
-
-    whole : (b : Bool) → (b && true) ≡ b
-    whole true = refl
-    whole false = refl
 
 module _ (options : ReflowOptions) (returns : Bool) (told : IsTold options.ending returns) where
   abbrev anew_lines : List LineText → List LineText
@@ -115,6 +113,7 @@ module _ (options : ReflowOptions) (returns : Bool) (told : IsTold options.endin
       pub whole : raws ≡ kept ++ left
       pub long : length news ≡ length lines
       pub feedless : All IsFeedless kept → All IsFeedless news
+      pub sense : flat_map line_sense news ≡ flat_map line_sense kept
       pub reads : rest ≡ read options behind left
       pub safe : IsSafe options behind
       pub again : (others : List LineText) (more : List (List ℕ)) → others ≡ read options behind more
@@ -138,6 +137,7 @@ module _ (options : ReflowOptions) (returns : Bool) (told : IsTold options.endin
     whole = refl;
     long = refl;
     feedless = λ free. free;
+    sense = refl;
     reads = is;
     safe = safe;
     again = λ others more read heads same. read;
@@ -172,6 +172,7 @@ module _ (options : ReflowOptions) (returns : Bool) (told : IsTold options.endin
         feedless = λ free. All-cons IsFeedless new later.news
             (anew-feedless e returns fed raw (All-head IsFeedless raw later.kept free))
             (later.feedless (All-tail IsFeedless raw later.kept free));
+        sense = ap₂ (λ t l. from_letter (words_in t) ++ l) (anew-content e returns fed raw) later.sense;
         reads = later.reads;
         safe = later.safe;
         again = λ others more read_others heads same.
@@ -209,12 +210,5 @@ module _ (options : ReflowOptions) (returns : Bool) (told : IsTold options.endin
       anew-heads : (lines rest others : List LineText) → AreHeads rest others
           → AreHeads (lines ++ rest) (map (anew options.ending returns) lines ++ others)
       anew-heads [] rest others heads = heads
-      anew-heads (line ∷ lines) rest others heads = record {
-        prefix = refl;
-        hangs = refl;
-        field = refl;
-        chosen = refl;
-        apart = refl;
-        rule = refl;
-        opens = refl;
-      }
+      anew-heads (line ∷ lines) rest others heads =
+          head-same line (anew_raw options.ending returns line.fed line.raw)

@@ -1,42 +1,36 @@
 -- The lines of a paragraph, as they are printed, have its words in order.
-use Rattle.textwrap_base.proofs.Common.{◌≡◌, ℕ, List, [], ◌∷◌, ◌++◌, All, All-append, All-head}
-use Rattle.textwrap_base.proofs.Common.{All-map, All-nil, All-tail, ap, flat_map, map, refl, ◌∙◌}
-use Rattle.textwrap_base.proofs.Common.{take-append-drop}
-use Rattle.textwrap_base.specs.Division.{IsDivision}
-use Rattle.textwrap_base.proofs.Lists.Parts.{flat}
-use Rattle.std.proofs.lemmas.List.Folds.{flat_map-map}
-use Rattle.textwrap_words.proofs.Common.{tile_of, trimmed_len, word_of, WordText}
-use Rattle.textwrap_words.proofs.Word.Texts.{final_blanks-blank}
-use Rattle.textwrap_lines.specs.Paragraph.{covered}
-use Rattle.textwrap_marked.proofs.BlankPieces.{division-all, EndsInBlank, words-all}
-use Rattle.textwrap_marked.proofs.JustifiedTexts.{texts-words}
+use Rattle.textwrap_marked.proofs.Common.{◌≡◌, ℕ, Bool, true, false, List, [], ◌∷◌, ◌++◌, All}
+use Rattle.textwrap_marked.proofs.Common.{All-append, All-head, All-map, All-nil, All-tail, ap}
+use Rattle.textwrap_marked.proofs.Common.{flat_map, length, map, refl, subst, sym, ◌∙◌, all-left}
+use Rattle.textwrap_marked.proofs.Common.{all-right, word_of, WordText, piece_words, words_in}
+use Rattle.textwrap_marked.proofs.Common.{LineText, pieces, words_of, first_room, later_room}
+use Rattle.textwrap_marked.proofs.Common.{line_texts, shown_lines, ReflowOptions}
+use Rattle.textwrap_base.proofs.Common.{IsDivision}
+use Rattle.textwrap_marked.proofs.JustifiedTexts.{lines-shown}
+use Rattle.textwrap_marked.proofs.LineWords.{all_shown, AreCutInto, shown, spread}
 use Rattle.textwrap_marked.proofs.PlainLines.{IsPlainBlock, IsPlainLine}
-use Rattle.textwrap_marked.proofs.WordsIn.{IsPiece, IsPlain, lines-words, pieces-words}
-use Rattle.textwrap_marked.proofs.WordsIn.{words_of_tile}
-use Rattle.textwrap_marked.specs.Laws.{piece_words, words_in}
-use Rattle.textwrap_marked.specs.Lines.{LineText}
-use Rattle.textwrap_marked.specs.Pieces.{pieces, words_of}
-use Rattle.textwrap_marked.specs.Reflow.{first_room, later_room, shown_lines}
-use Rattle.textwrap_marked.specs.declared.options.ReflowOptions.{ReflowOptions}
+use Rattle.textwrap_marked.proofs.SpacedBack.{IsWhite, spaced-in}
+use Rattle.textwrap_marked.proofs.SpreadWords.{spread-spaced, spread-words}
+use Rattle.textwrap_marked.proofs.WordsIn.{IsPlain}
 
-tile-text : (text : List ℕ) → tile_of (word_of text) ≡ text
-tile-text text = take-append-drop (trimmed_len text) text
+module _ (justify : Bool) where
+  -- a line has its words
+  shown-words : (more : ℕ → ℕ) (words : List (List ℕ)) → All IsPlain words
+      → words_in (shown justify more words) ≡ words
+  shown-words more words plain =
+      spaced-in (spread justify more words []) (spread-spaced justify more words [] plain (All-nil IsWhite))
+      ∙ spread-words justify more words []
 
-is-piece : (text : List ℕ) → EndsInBlank text → IsPiece (word_of text)
-is-piece text (front, is) =
-    record { ends = (front, tile-text text ∙ is); blanks = final_blanks-blank text }
-
-tiles-words : (texts : List (List ℕ))
-    → flat_map words_of_tile (map word_of texts) ≡ flat_map words_in texts
-tiles-words [] = refl
-tiles-words (text ∷ texts) =
-    ap (λ t. words_in t ++ flat_map words_of_tile (map word_of texts)) (tile-text text)
-    ∙ ap (λ l. words_in text ++ l) (tiles-words texts)
-
-division-flat : (xs : List WordText) (lines : List (List WordText)) → IsDivision xs lines
-    → flat lines ≡ xs
-division-flat [] lines is = ap flat is
-division-flat (x ∷ xs) lines is = is.0
+  all-words : (options : ReflowOptions) (starred : Bool) (wide : ℕ → ℕ → ℕ) (words : List (List ℕ))
+      (lines : List (List (List ℕ))) → All IsPlain words → AreCutInto options starred words lines
+      → flat_map words_in (all_shown justify wide lines) ≡ words
+  all-words options starred wide words [] plain none = sym none
+  all-words options starred wide words (own ∷ lines) plain (later, some, is, may, cut) =
+      let each = subst (All IsPlain) is plain in
+      ap (λ l. l ++ flat_map words_in (all_shown justify wide lines))
+      (shown-words (wide (length lines)) own (all-left IsPlain own later each))
+      ∙ ap (λ l. own ++ l) (all-words options starred wide later lines (all-right IsPlain own later each) cut)
+      ∙ sym is
 
 words-plain : (lines : List LineText) → IsPlainBlock lines → All IsPlain (words_of lines)
 words-plain [] all = All-nil IsPlain
@@ -49,12 +43,20 @@ pub printed-words : (options : ReflowOptions) (first : LineText) (lines : List L
     (division : List (List WordText)) → IsPlainBlock lines
     → IsDivision (piece_words options first lines) division
     → flat_map words_in (shown_lines options first division) ≡ words_of lines
-printed-words options first lines division plain is =
-    let words = piece_words options first lines in
-    texts-words options.justify (first_room options first) (later_room options first) division
-    ∙ flat_map-map words_in covered division
-    ∙ lines-words division
-    (division-all IsPiece words division (words-all IsPiece is-piece options first lines) is)
-    ∙ ap (flat_map words_of_tile) (division-flat words division is)
-    ∙ tiles-words (pieces options first.starred (words_of lines))
-    ∙ pieces-words options first.starred (words_of lines) (words-plain lines plain)
+printed-words options first lines division plain = cut (words_of lines) (words-plain lines plain)
+  where
+    none : (justify : Bool) (room later : ℕ)
+        → flat_map words_in (line_texts justify room later ([] ∷ [])) ≡ []
+    none true room later = refl
+    none false room later = refl
+
+    cut : (words : List (List ℕ)) → All IsPlain words
+        → IsDivision (map word_of (pieces options first.starred words)) division
+        → flat_map words_in (shown_lines options first division) ≡ words
+    cut [] each is =
+        ap (λ d. flat_map words_in (shown_lines options first d)) is
+        ∙ none options.justify (first_room options first) (later_room options first)
+    cut (word ∷ words) each is =
+        let all = word ∷ words in
+        let (ls, wide, cut, shown) = lines-shown options first all (λ none. cc) each division is in
+        ap (flat_map words_in) shown ∙ all-words options.justify options first.starred wide all ls each cut

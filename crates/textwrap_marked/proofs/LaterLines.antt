@@ -1,22 +1,19 @@
 -- Lines of a paragraph, and lines of other words behind the same marks.
-use Rattle.textwrap_base.proofs.Common.{◌≡◌, ℕ, suc, ◌+◌, ◌<◌, ◌&&◌, Bool, true, false, cond}
-use Rattle.textwrap_base.proofs.Common.{List, [], ◌∷◌, ◌++◌, ap, arith, codes}
-use Rattle.textwrap_base.proofs.Common.{length, length-append, refl, subst, sym, true≢false, ◌∙◌}
-use Rattle.std.specs.Prelude.{bytes_eq}
-use Rattle.textwrap_marked.proofs.FreeLines.{apart-free, behind-free, block_at, begun}
-use Rattle.textwrap_marked.proofs.FreeLines.{starred_at}
+use Rattle.textwrap_marked.proofs.Common.{◌≡◌, ℕ, suc, ◌+◌, ◌<◌, ◌&&◌, Bool, true, false, cond}
+use Rattle.textwrap_marked.proofs.Common.{List, [], ◌∷◌, ◌++◌, ap, arith, codes, length}
+use Rattle.textwrap_marked.proofs.Common.{length-append, refl, subst, sym, true≢false, ◌∙◌}
+use Rattle.textwrap_marked.proofs.Common.{bytes_eq, has_words, is_ended, LineText, passed}
+use Rattle.textwrap_marked.proofs.Common.{StateText, without_returns, is_bullet, is_comment_at}
+use Rattle.textwrap_marked.proofs.Common.{is_quote, bullets_len, comment_len, hanging_bullets}
+use Rattle.textwrap_marked.proofs.Common.{quotes_len, begins_text, closes_block, closes_early}
+use Rattle.textwrap_marked.proofs.Common.{first_word, has_columns, SpacedText, ReflowOptions}
+use Rattle.textwrap_marked.proofs.FreeLines.{apart-free, behind-free, block_at, begun, starred_at}
 use Rattle.textwrap_marked.proofs.HangingKinds.{quotes-all, quotes-are}
-use Rattle.textwrap_marked.proofs.LineKinds.{hanging_of, HaveKinds, Kinds, kinds-cut}
+use Rattle.textwrap_marked.proofs.LineKinds.{none-if, hanging_of, HaveKinds, Kinds, kinds-cut}
 use Rattle.textwrap_marked.proofs.LineKinds.{line_by, one_if}
 use Rattle.textwrap_marked.proofs.OpenBehind.{behind_text}
 use Rattle.textwrap_marked.proofs.SpacedBack.{AreSpaced, IsLineText, line-text}
-use Rattle.textwrap_marked.specs.Lines.{has_words, is_ended, LineText, passed, StateText}
-use Rattle.textwrap_marked.specs.Lines.{without_returns}
-use Rattle.textwrap_marked.specs.Marks.{is_bullet, is_comment_at, is_quote}
-use Rattle.textwrap_marked.specs.Prefixes.{bullets_len, comment_len, hanging_bullets, is_box, quotes_len}
-use Rattle.textwrap_marked.specs.Signs.{begins_text, closes_block, closes_early, first_word, has_columns}
-use Rattle.textwrap_marked.specs.Words.{SpacedText}
-use Rattle.textwrap_marked.specs.declared.options.ReflowOptions.{ReflowOptions}
+use Rattle.textwrap_marked.specs.Prefixes.{is_box}
 
 -- ---- what is read of a line
 
@@ -97,13 +94,9 @@ quote-none : (xs bs : List SpacedText) → 0 < length xs → quotes_len xs ≡ 0
     → first_word xs ≡ first_word bs → quotes_len bs ≡ 0
 quote-none [] bs some none same = absurd (omega (arith, some))
 quote-none (a ∷ xs) [] some none same = refl
-quote-none (a ∷ xs) (b ∷ bs) some none same = cut (is_quote a.word) refl
-  where
-    cut : (t : Bool) → is_quote a.word ≡ t → quotes_len (b ∷ bs) ≡ 0
-    cut true is =
-        let len : suc (quotes_len xs) ≡ 0 =
-        sym (ap (λ t. cond t (suc (quotes_len xs)) 0) is) ∙ none in absurd (omega (arith, len))
-    cut false is = ap (λ t. cond t (suc (quotes_len bs)) 0) (ap is_quote (sym same) ∙ is)
+quote-none (a ∷ xs) (b ∷ bs) some none same =
+    ap (λ t. cond t (suc (quotes_len bs)) 0)
+    (ap is_quote (sym same) ∙ none-if (is_quote a.word) (quotes_len xs) 0 none)
 
 -- no bullet begins these words
 pub bullets-none : (w : SpacedText) (ws : List SpacedText) → is_bullet w.word ≡ false
@@ -124,19 +117,8 @@ bullet-none (a ∷ xs) (b ∷ bs) some none same box =
     (ap (λ w. bytes_eq w (codes "[")) (sym same) ∙ box)
   where
     first : (xs : List SpacedText) → bullets_len (a ∷ xs) ≡ 0 → is_bullet a.word ≡ false
-    first [] is = cut (is_bullet a.word) refl
-      where
-        cut : (t : Bool) → is_bullet a.word ≡ t → is_bullet a.word ≡ false
-        cut false none = none
-        cut true is_one = let len : 1 ≡ 0 = sym (ap one_if is_one) ∙ is in absurd (omega (arith, len))
-    first (v ∷ xs) is = cut (is_bullet a.word) refl
-      where
-        cut : (t : Bool) → is_bullet a.word ≡ t → is_bullet a.word ≡ false
-        cut false none = none
-        cut true is_one =
-            let len : suc (bullets_len (v ∷ xs)) ≡ 0 =
-            sym (ap (λ t. cond t (suc (bullets_len (v ∷ xs))) (cond (is_box a v)
-            (suc (suc (bullets_len xs))) 0)) is_one) ∙ is in absurd (omega (arith, len))
+    first [] is = none-if (is_bullet a.word) 0 0 is
+    first (v ∷ xs) is = none-if (is_bullet a.word) (bullets_len (v ∷ xs)) _ is
 
 -- these are all the bullets, whatever follows that begins with none
 abbrev Behind : List SpacedText → List SpacedText → Type 0
@@ -146,57 +128,42 @@ Behind bs xs = (bullets_len xs ≡ 0)
 abbrev bullets_by : SpacedText → SpacedText → List SpacedText → Bool → Bool → ℕ
 bullets_by b c ws t u = cond t (suc (bullets_len (c ∷ ws))) (cond u (suc (suc (bullets_len ws))) 0)
 
+one-bullet : (t u : Bool) (n m : ℕ) → cond t (suc n) (cond u (suc (suc m)) 0) ≡ 1
+    → (t ≡ true) × (n ≡ 0)
+one-bullet true u n m is = (refl, omega (arith, is))
+one-bullet false true n m is = absurd (omega (arith, is))
+one-bullet false false n m is = absurd (omega (arith, is))
+
 bullets-behind : (bs xs : List SpacedText) → 0 < length xs → bullets_len (bs ++ xs) ≡ length bs
     → Behind bs xs
 bullets-behind [] xs some is = (is, λ others none. none)
 bullets-behind (b ∷ []) [] some is = absurd (omega (arith, some))
-bullets-behind (b ∷ []) (a ∷ xs) some is = cut (is_bullet b.word) (is_box b a) refl refl
+bullets-behind (b ∷ []) (a ∷ xs) some is =
+    let (first, len) =
+    one-bullet (is_bullet b.word) (is_box b a) (bullets_len (a ∷ xs)) (bullets_len xs) is in
+    (len, one first)
   where
     one : is_bullet b.word ≡ true → (others : List SpacedText) → bullets_len others ≡ 0
         → bullets_len (b ∷ others) ≡ 1
     one is_one [] none = ap one_if is_one
     one is_one (v ∷ others) none =
         ap (λ t. bullets_by b v others t (is_box b v)) is_one ∙ ap suc none
-
-    cut : (t u : Bool) → is_bullet b.word ≡ t → is_box b a ≡ u → Behind (b ∷ []) (a ∷ xs)
-    cut true u p q =
-        let len : suc (bullets_len (a ∷ xs)) ≡ 1 =
-        sym (ap (λ t. bullets_by b a xs t (is_box b a)) p) ∙ is in (omega (arith, len), one p)
-    cut false true p q =
-        let len : suc (suc (bullets_len xs)) ≡ 1 =
-        sym (ap (λ t. bullets_by b a xs t (is_box b a)) p ∙ ap (bullets_by b a xs false) q) ∙ is in
-        absurd (omega (arith, len))
-    cut false false p q =
-        let len : 0 ≡ 1 =
-        sym (ap (λ t. bullets_by b a xs t (is_box b a)) p ∙ ap (bullets_by b a xs false) q) ∙ is in
-        absurd (omega (arith, len))
 bullets-behind (b ∷ c ∷ bs) xs some is =
-    cut (is_bullet b.word) (is_box b c) refl refl (bullets-behind (c ∷ bs) xs some)
+    cut (is_bullet b.word) (is_box b c) (λ others. refl) (bullets-behind (c ∷ bs) xs some)
     (bullets-behind bs xs some)
   where
-    cut : (t u : Bool) → is_bullet b.word ≡ t → is_box b c ≡ u
+    cut : (t u : Bool)
+        → ((others : List SpacedText)
+        → bullets_len (b ∷ c ∷ (bs ++ others)) ≡ bullets_by b c (bs ++ others) t u)
         → (bullets_len (c ∷ (bs ++ xs)) ≡ length (c ∷ bs) → Behind (c ∷ bs) xs)
         → (bullets_len (bs ++ xs) ≡ length bs → Behind bs xs) → Behind (b ∷ c ∷ bs) xs
-    cut true u p q one two =
-        let len : suc (bullets_len (c ∷ (bs ++ xs))) ≡ suc (length (c ∷ bs)) =
-        sym (ap (λ t. bullets_by b c (bs ++ xs) t (is_box b c)) p) ∙ is in
-        let (none, later) = one (omega (arith, len)) in (
-          none,
-          λ others ends. ap (λ t. bullets_by b c (bs ++ others) t (is_box b c)) p ∙ ap suc (later others ends),
-        )
-    cut false true p q one two =
-        let len : suc (suc (bullets_len (bs ++ xs))) ≡ suc (suc (length bs)) =
-        sym (ap (λ t. bullets_by b c (bs ++ xs) t (is_box b c)) p
-        ∙ ap (bullets_by b c (bs ++ xs) false) q) ∙ is in
-        let (none, later) = two (omega (arith, len)) in (
-          none,
-          λ others ends. ap (λ t. bullets_by b c (bs ++ others) t (is_box b c)) p
-              ∙ ap (bullets_by b c (bs ++ others) false) q ∙ ap (λ n. suc (suc n)) (later others ends),
-        )
-    cut false false p q one two =
-        let len : 0 ≡ suc (suc (length bs)) =
-        sym (ap (λ t. bullets_by b c (bs ++ xs) t (is_box b c)) p
-        ∙ ap (bullets_by b c (bs ++ xs) false) q) ∙ is in absurd (omega (arith, len))
+    cut true u by one two =
+        let (none, later) = one (omega (arith, sym (by xs) ∙ is)) in
+        (none, λ others ends. by others ∙ ap suc (later others ends))
+    cut false true by one two =
+        let (none, later) = two (omega (arith, sym (by xs) ∙ is)) in
+        (none, λ others ends. by others ∙ ap (λ n. suc (suc n)) (later others ends))
+    cut false false by one two = absurd (omega (arith, sym (by xs) ∙ is))
 
 -- words that begin with the same one have the same marks before them
 pub kinds-first : (options : ReflowOptions) (in_block : Bool) (cs qs bs ws others : List SpacedText)

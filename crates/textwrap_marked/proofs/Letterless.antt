@@ -1,16 +1,22 @@
 -- Texts without a letter or digit.
-use Rattle.textwrap_base.proofs.Common.{◌≡◌, ℕ, true, false, codes, List, refl, sym, ap, ◌∙◌}
-use Rattle.textwrap_base.proofs.Common.{false_from_ne_true, true≢false}
-use Rattle.std.proofs.lemmas.Slice.Eq.{bytes_eq-Decides}
+use Rattle.textwrap_marked.proofs.Common.{◌≡◌, ℕ, ◌&&◌, ◌==◌, not, Bool, true, false, [], ◌∷◌}
+use Rattle.textwrap_marked.proofs.Common.{arith, cases_Bool, codes, List, eqb-true, length, nat_eq}
+use Rattle.textwrap_marked.proofs.Common.{refl, starts_with, sym, ap, ◌∙◌, false_from_ne_true}
+use Rattle.textwrap_marked.proofs.Common.{true≢false, bytes_eq-Decides, bytes_eq, is_among}
+use Rattle.textwrap_marked.proofs.Common.{is_comment_at, is_opening, is_quote, contains, has_bytes}
+use Rattle.textwrap_marked.proofs.Common.{has_letter, ReflowOptions}
+use Rattle.textwrap_base.proofs.Common.{and_parts}
 use Rattle.std.specs.Char.Unicode.Alphabetic.{is_alphabetic, alphabetic_ranges}
 use Rattle.std.specs.Char.Unicode.Numeric.{is_numeric, numeric_ranges}
 use Rattle.std.specs.Char.Unicode.Rows.{in_ranges}
-use Rattle.std.specs.Prelude.{bytes_eq}
 use Rattle.std.specs.Str.{chars}
 use Rattle.textwrap_marked.specs.Marks.{is_line_comment}
-use Rattle.textwrap_marked.specs.Words.{has_letter}
+use Rattle.textwrap_marked.specs.Words.{is_made_of}
 
-pub dollar-plain : has_letter (codes "$") ≡ false
+abbrev pub IsPlainMark : List ℕ → Type 0
+IsPlainMark mark = has_letter mark ≡ false
+
+pub dollar-plain : IsPlainMark (codes "$")
 unfolding chars is_alphabetic in_ranges alphabetic_ranges is_numeric numeric_ranges
 dollar-plain = refl
 
@@ -37,66 +43,62 @@ lettered-other word other is none =
     false_from_ne_true (bytes_eq word other) (λ same.
     true≢false (sym is ∙ ap has_letter ((bytes_eq-Decides word other).0 same) ∙ none))
 
-slashes : has_letter (codes "//") ≡ false
+-- the comment marks of lines
+comments-plain : IsPlainMark (codes "//") × IsPlainMark (codes "///") × IsPlainMark (codes "//!")
+    × IsPlainMark (codes "#") × IsPlainMark (codes "--") × IsPlainMark (codes ";")
+    × IsPlainMark (codes ";;") × IsPlainMark (codes ";;;") × IsPlainMark (codes ";;;;")
+    × IsPlainMark (codes "%") × IsPlainMark (codes "%%") × IsPlainMark (codes "%%%")
 unfolding chars is_alphabetic in_ranges alphabetic_ranges is_numeric numeric_ranges
-slashes = refl
+comments-plain = (refl, refl, refl, refl, refl, refl, refl, refl, refl, refl, refl, refl)
 
-three_slashes : has_letter (codes "///") ≡ false
+no-line-comment : (word : List ℕ) → has_letter word ≡ true → is_line_comment word ≡ false
+no-line-comment word is =
+    let (a, b, c, d, e, f, g, h, i, j, k, l) = comments-plain in
+    let other : (mark : List ℕ) → IsPlainMark mark → bytes_eq word mark ≡ false =
+    λ mark none. lettered-other word mark is none in
+    rw (
+      other _ a,
+      other _ b,
+      other _ c,
+      other _ d,
+      other _ e,
+      other _ f,
+      other _ g,
+      other _ h,
+      other _ i,
+      other _ j,
+      other _ k,
+      other _ l,
+    ) refl
+
+-- quote marks have no letter
+signs-plain : (cs : List ℕ) → is_made_of 62 cs ≡ true → has_letter cs ≡ false
 unfolding chars is_alphabetic in_ranges alphabetic_ranges is_numeric numeric_ranges
-three_slashes = refl
+signs-plain [] made = refl
+signs-plain (c ∷ []) made =
+    ap (λ b. has_letter (b ∷ [])) (eqb-true c 62 (and_parts (c == 62) true made).0)
+signs-plain (c ∷ d ∷ cs) made =
+    let both = and_parts (c == 62) (is_made_of 62 (d ∷ cs)) made in
+    ap (λ b. has_letter (b ∷ d ∷ cs)) (eqb-true c 62 both.0) ∙ signs-plain (d ∷ cs) both.1
 
-slashes_mark : has_letter (codes "//!") ≡ false
-unfolding chars is_alphabetic in_ranges alphabetic_ranges is_numeric numeric_ranges
-slashes_mark = refl
+pub quote-plain : (word : List ℕ) → is_quote word ≡ true → IsPlainMark word
+quote-plain word is =
+    signs-plain word (middle (has_bytes word) (is_made_of 62 word) (length word == 3) is)
+  where
+    middle : (a b c : Bool) → (a && b && not c) ≡ true → b ≡ true
+    middle a b c is = grind (arith, cases_Bool)
 
-hash : has_letter (codes "#") ≡ false
-unfolding chars is_alphabetic in_ranges alphabetic_ranges is_numeric numeric_ranges
-hash = refl
+-- nor is it an opening, or another comment mark
+pub no-comment : (options : ReflowOptions) (in_block : Bool) (word : List ℕ) → has_letter word ≡ true
+    → is_among word options.markers.now ≡ false → is_comment_at options in_block word ≡ false
+no-comment options true word letter marker = lettered-other word (codes "*") letter star-plain
+no-comment options false word letter marker =
+    let opening : is_opening word ≡ false =
+    third (starts_with nat_eq word (codes "/*")) (has_letter word) (contains (codes "*/") word) letter in
+    rw (marker, no-line-comment word letter, opening) (none (not options.markdown))
+  where
+    none : (b : Bool) → (b && false) ≡ false
+    none b = grind (arith, cases_Bool)
 
-dashes : has_letter (codes "--") ≡ false
-unfolding chars is_alphabetic in_ranges alphabetic_ranges is_numeric numeric_ranges
-dashes = refl
-
-semi : has_letter (codes ";") ≡ false
-unfolding chars is_alphabetic in_ranges alphabetic_ranges is_numeric numeric_ranges
-semi = refl
-
-semis : has_letter (codes ";;") ≡ false
-unfolding chars is_alphabetic in_ranges alphabetic_ranges is_numeric numeric_ranges
-semis = refl
-
-three_semis : has_letter (codes ";;;") ≡ false
-unfolding chars is_alphabetic in_ranges alphabetic_ranges is_numeric numeric_ranges
-three_semis = refl
-
-four_semis : has_letter (codes ";;;;") ≡ false
-unfolding chars is_alphabetic in_ranges alphabetic_ranges is_numeric numeric_ranges
-four_semis = refl
-
-percent : has_letter (codes "%") ≡ false
-unfolding chars is_alphabetic in_ranges alphabetic_ranges is_numeric numeric_ranges
-percent = refl
-
-percents : has_letter (codes "%%") ≡ false
-unfolding chars is_alphabetic in_ranges alphabetic_ranges is_numeric numeric_ranges
-percents = refl
-
-three_percents : has_letter (codes "%%%") ≡ false
-unfolding chars is_alphabetic in_ranges alphabetic_ranges is_numeric numeric_ranges
-three_percents = refl
-
-pub no-line-comment : (word : List ℕ) → has_letter word ≡ true → is_line_comment word ≡ false
-no-line-comment word is = rw (
-  lettered-other word (codes "//") is slashes,
-  lettered-other word (codes "///") is three_slashes,
-  lettered-other word (codes "//!") is slashes_mark,
-  lettered-other word (codes "#") is hash,
-  lettered-other word (codes "--") is dashes,
-  lettered-other word (codes ";") is semi,
-  lettered-other word (codes ";;") is semis,
-  lettered-other word (codes ";;;") is three_semis,
-  lettered-other word (codes ";;;;") is four_semis,
-  lettered-other word (codes "%") is percent,
-  lettered-other word (codes "%%") is percents,
-  lettered-other word (codes "%%%") is three_percents,
-) refl
+    third : (a b c : Bool) → b ≡ true → (a && not b && not c) ≡ false
+    third a b c is = grind (arith, cases_Bool, is)

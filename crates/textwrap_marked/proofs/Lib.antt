@@ -5,6 +5,7 @@ pub mod BlockLemmas
 pub mod BlockOrder
 pub mod BlocksAlike
 pub mod BulletLemmas
+pub mod Common
 pub mod ContainedTexts
 pub mod CoveredLemmas
 pub mod EndsAlike
@@ -25,6 +26,7 @@ pub mod LaidLemmas
 pub mod LaterLines
 pub mod Letterless
 pub mod LineKinds
+pub mod LineSenses
 pub mod LineTests
 pub mod LineWords
 pub mod ListLemmas

@@ -1,19 +1,19 @@
 -- What is read of a line, from its words by kind: a comment mark, quote marks, bullets and text.
-use Rattle.textwrap_base.proofs.Common.{◌≡◌, ℕ, suc, ◌+◌, ◌-◌, ◌==◌, ◌&&◌, ◌||◌, not, Bool, true, false}
-use Rattle.textwrap_base.proofs.Common.{cond, List, [], ◌∷◌, ◌++◌, ap, append_assoc, append-nil, arith}
-use Rattle.textwrap_base.proofs.Common.{drop, drop_at, length, length-append, list_any, refl}
-use Rattle.textwrap_base.proofs.Common.{slice_range, sym, take, take_at, ◌∙◌, nat_lt, lt-ltb, ne_eqb, eq-eqb, ◌<◌}
-use Rattle.std.specs.Prelude.{is_some}
+use Rattle.textwrap_marked.proofs.Common.{◌≡◌, ℕ, suc, ◌+◌, ◌-◌, ◌==◌, ◌&&◌, ◌||◌, not, Bool, true}
+use Rattle.textwrap_marked.proofs.Common.{false, cond, List, [], ◌∷◌, ◌++◌, ap, append_assoc}
+use Rattle.textwrap_marked.proofs.Common.{append-nil, arith, drop, length, length-append, list_any}
+use Rattle.textwrap_marked.proofs.Common.{refl, cases_Bool, take-append-drop, ◌≤◌, sym, take, ◌∙◌}
+use Rattle.textwrap_marked.proofs.Common.{nat_lt, lt-ltb, ne_eqb, ◌<◌, is_some, is_ended, line_of}
+use Rattle.textwrap_marked.proofs.Common.{LineText, StateText, without_returns, is_bullet}
+use Rattle.textwrap_marked.proofs.Common.{is_comment_at, is_opening, bullets_len, comment_len}
+use Rattle.textwrap_marked.proofs.Common.{hanging_bullets, hanging_comments, quotes_len}
+use Rattle.textwrap_marked.proofs.Common.{closes_block, first_word, is_key, has_byte, spaced_text}
+use Rattle.textwrap_marked.proofs.Common.{SpacedText, spaced_words, ReflowOptions}
+use Rattle.textwrap_base.proofs.Common.{drop_at, length-take-le, slice_range, take_at, eq-eqb}
 use Rattle.textwrap_marked.proofs.SpacedBack.{begins-plain, BeginsPlain, IsLineText, line-back}
 use Rattle.textwrap_marked.proofs.SpacedBack.{with_lead}
-use Rattle.textwrap_marked.specs.Lines.{is_chosen, is_deep, is_ended, line_from, line_of, LineText}
-use Rattle.textwrap_marked.specs.Lines.{stands_apart, StateText, without_returns}
-use Rattle.textwrap_marked.specs.Marks.{is_bullet, is_comment_at, is_opening, is_quote}
-use Rattle.textwrap_marked.specs.Prefixes.{bullets_len, comment_len, hanging_bullets, hanging_comments}
-use Rattle.textwrap_marked.specs.Prefixes.{is_box, lead_len, prefix_ends, quotes_len}
-use Rattle.textwrap_marked.specs.Signs.{closes_block, first_word, is_key}
-use Rattle.textwrap_marked.specs.Words.{has_byte, spaced_text, SpacedText, spaced_words}
-use Rattle.textwrap_marked.specs.declared.options.ReflowOptions.{ReflowOptions}
+use Rattle.textwrap_marked.specs.Lines.{is_chosen, is_deep, line_from, stands_apart}
+use Rattle.textwrap_marked.specs.Prefixes.{is_box, lead_len, prefix_ends}
 use Rattle.textwrap_marked.specs.declared.prefixes.PrefixEnds.{PrefixEnds}
 
 -- ---- what is read of words by kind
@@ -109,6 +109,15 @@ one_if b = cond b 1 0
 
 abbrev one_unless : Bool → ℕ
 one_unless b = cond b 0 1
+
+-- what is counted where a test holds
+pub none-if : (b : Bool) (n m : ℕ) → cond b (suc n) m ≡ 0 → b ≡ false
+none-if true n m is = absurd (omega (arith, is))
+none-if false n m is = refl
+
+pub some-if : (b : Bool) (n m : ℕ) → cond b (suc n) 0 ≡ suc m → (b ≡ true) × (n ≡ m)
+some-if true n m is = (refl, omega (arith, is))
+some-if false n m is = absurd (omega (arith, is))
 
 lead-len : (lead : List ℕ) (ws : List SpacedText) → BeginsPlain ws
     → lead_len (with_lead lead ws) ≡ lead_count lead
@@ -283,78 +292,50 @@ module _ (lead : List ℕ) (cs qs bs ws : List SpacedText) where
 
 -- ---- each line has such words
 
-module _ (options : ReflowOptions) (in_block : Bool) where
-  comment-cut : (ws : List SpacedText) → (cs : List SpacedText) × (rest : List SpacedText)
-      × (ws ≡ cs ++ rest) × (comment_len options in_block ws ≡ length cs)
-  comment-cut [] = ([], [], refl, refl)
-  comment-cut (w ∷ ws) = cut (is_comment_at options in_block w.word) refl
-    where
-      cut : (b : Bool) → is_comment_at options in_block w.word ≡ b
-          → (cs : List SpacedText) × (rest : List SpacedText) × (w ∷ ws ≡ cs ++ rest)
-          × (comment_len options in_block (w ∷ ws) ≡ length cs)
-      cut true is = (w ∷ [], ws, refl, ap one_if is)
-      cut false is = ([], w ∷ ws, refl, ap one_if is)
+-- as many words in front as are counted, and the others
+abbrev IsCut : (List SpacedText → ℕ) → List SpacedText → Type 0
+IsCut count ws = (front : List SpacedText) × (rest : List SpacedText) × (ws ≡ front ++ rest)
+    × (count ws ≡ length front)
 
-abbrev IsQuotesCut : List SpacedText → Type 0
-IsQuotesCut l = (qs : List SpacedText) × (rest : List SpacedText) × (l ≡ qs ++ rest)
-    × (quotes_len l ≡ length qs)
+cut-at : (count : List SpacedText → ℕ) (ws : List SpacedText) → count ws ≤ length ws → IsCut count ws
+cut-at count ws few = (
+  take (count ws) ws,
+  drop (count ws) ws,
+  sym (take-append-drop (count ws) ws),
+  sym (length-take-le (count ws) ws few),
+)
 
-quotes-cut : (ws : List SpacedText) → IsQuotesCut ws
-quotes-cut [] = ([], [], refl, refl)
-quotes-cut (w ∷ ws) = cut (is_quote w.word) refl (quotes-cut ws)
-  where
-    cut : (b : Bool) → is_quote w.word ≡ b → IsQuotesCut ws → IsQuotesCut (w ∷ ws)
-    cut true is (qs, rest, parts, len) = (
-      w ∷ qs,
-      rest,
-      ap (λ l. w ∷ l) parts,
-      ap (λ b. cond b (suc (quotes_len ws)) 0) is ∙ ap suc len,
-    )
-    cut false is later = ([], w ∷ ws, refl, ap (λ b. cond b (suc (quotes_len ws)) 0) is)
+if-few : (b : Bool) (n m most : ℕ) → n ≤ most → m ≤ most → cond b n m ≤ most
+if-few true n m most few less = few
+if-few false n m most few less = less
 
-abbrev IsBulletsCut : List SpacedText → Type 0
-IsBulletsCut l = (bs : List SpacedText) × (rest : List SpacedText) × (l ≡ bs ++ rest)
-    × (bullets_len l ≡ length bs)
+comment-few : (options : ReflowOptions) (in_block : Bool) (ws : List SpacedText)
+    → comment_len options in_block ws ≤ length ws
+comment-few options in_block [] = omega arith
+comment-few options in_block (w ∷ ws) =
+    if-few (is_comment_at options in_block w.word) 1 0 (length (w ∷ ws)) (omega arith) (omega arith)
 
--- how many there are, where the first is one, or the first two are
-abbrev len_by : SpacedText → List SpacedText → Bool → Bool → ℕ
-len_by v ws a b = cond a (suc (bullets_len (v ∷ ws))) (cond b (suc (suc (bullets_len ws))) 0)
+quotes-few : (ws : List SpacedText) → quotes_len ws ≤ length ws
+quotes-few [] = omega arith
+quotes-few (w ∷ ws) = grind (arith, cases_Bool, quotes-few ws)
 
-bullets-cut : (ws : List SpacedText) → IsBulletsCut ws
-bullets-cut [] = ([], [], refl, refl)
-bullets-cut (w ∷ []) = cut (is_bullet w.word) refl
-  where
-    cut : (b : Bool) → is_bullet w.word ≡ b → IsBulletsCut (w ∷ [])
-    cut true is = (w ∷ [], [], refl, ap one_if is)
-    cut false is = ([], w ∷ [], refl, ap one_if is)
-bullets-cut (w ∷ v ∷ ws) =
-    cut (is_bullet w.word) (is_box w v) refl refl (bullets-cut (v ∷ ws)) (bullets-cut ws)
-  where
-    cut : (a b : Bool) → is_bullet w.word ≡ a → is_box w v ≡ b → IsBulletsCut (v ∷ ws)
-        → IsBulletsCut ws → IsBulletsCut (w ∷ v ∷ ws)
-    cut true b is box (bs, rest, parts, len) more = (
-      w ∷ bs,
-      rest,
-      ap (λ l. w ∷ l) parts,
-      ap (λ t. len_by v ws t (is_box w v)) is ∙ ap suc len,
-    )
-    cut false true is box later (bs, rest, parts, len) = (
-      w ∷ v ∷ bs,
-      rest,
-      ap (λ l. w ∷ v ∷ l) parts,
-      ap (λ t. len_by v ws t (is_box w v)) is ∙ ap (len_by v ws false) box ∙ ap (λ n. suc (suc n)) len,
-    )
-    cut false false is box later more =
-        ([], w ∷ v ∷ ws, refl, ap (λ t. len_by v ws t (is_box w v)) is ∙ ap (len_by v ws false) box)
+bullets-few : (ws : List SpacedText) → bullets_len ws ≤ length ws
+bullets-few [] = omega arith
+bullets-few (w ∷ []) = grind (arith, cases_Bool)
+bullets-few (w ∷ v ∷ ws) =
+    let most = length (w ∷ v ∷ ws) in
+    if-few (is_bullet w.word) (suc (bullets_len (v ∷ ws))) _ most (omega (arith, bullets-few (v ∷ ws)))
+    (if-few (is_box w v) (suc (suc (bullets_len ws))) 0 most (omega (arith, bullets-few ws)) (omega arith))
 
 pub kinds-cut : (options : ReflowOptions) (in_block : Bool) (ws : List SpacedText)
     → (cs : List SpacedText) × (qs : List SpacedText) × (bs : List SpacedText)
     × (words : List SpacedText) × (ws ≡ cs ++ (qs ++ (bs ++ words)))
     × HaveKinds options in_block cs qs bs words
 kinds-cut options in_block ws =
-    let (cs, behind, is_c, len_c) = comment-cut options in_block ws in
-    let (qs, later, is_q, len_q) = quotes-cut behind in
-    let (bs, words, is_b, len_b) = bullets-cut later in
+    let (cs, behind, is_c, len_c) =
+    cut-at (comment_len options in_block) ws (comment-few options in_block ws) in
+    let (qs, later, is_q, len_q) = cut-at quotes_len behind (quotes-few behind) in
+    let (bs, words, is_b, len_b) = cut-at bullets_len later (bullets-few later) in
     let at_q : behind ≡ qs ++ (bs ++ words) = is_q ∙ ap (λ l. qs ++ l) is_b in
     let at_c : ws ≡ cs ++ (qs ++ (bs ++ words)) = is_c ∙ ap (λ l. cs ++ l) at_q in (
       cs,

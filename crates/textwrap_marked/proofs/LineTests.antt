@@ -1,21 +1,20 @@
 -- What the lines of a paragraph are not: rules, or deeper than those before them.
-use Rattle.textwrap_base.proofs.Common.{◌≡◌, ℕ, ◌-◌, ◌<◌, ◌&&◌, ◌||◌, not, Bool, true, false, cond}
-use Rattle.textwrap_base.proofs.Common.{List, [], ◌∷◌, ◌==◌, ap, arith}
-use Rattle.textwrap_base.proofs.Common.{cases_Bool, codes, ends_with, length, list_all}
-use Rattle.textwrap_base.proofs.Common.{list_any, nat_eq, nat_lt, nat_tests, None, refl, Some, sym, true≢false, eqb-true, ◌∙◌}
-use Rattle.std.proofs.lemmas.Slice.Eq.{bytes_eq-Decides}
-use Rattle.std.specs.Prelude.{bytes_eq, nat_le}
+use Rattle.textwrap_marked.proofs.Common.{◌≡◌, ℕ, ◌-◌, ◌<◌, ◌&&◌, ◌||◌, not, Bool, true, false}
+use Rattle.textwrap_marked.proofs.Common.{cond, List, [], ◌∷◌, ◌==◌, ap, arith, cases_Bool, codes}
+use Rattle.textwrap_marked.proofs.Common.{ends_with, length, list_any, nat_eq, nat_lt, nat_tests}
+use Rattle.textwrap_marked.proofs.Common.{None, refl, Some, sym, true≢false, eqb-true, ◌∙◌}
+use Rattle.textwrap_marked.proofs.Common.{bytes_eq-Decides, bytes_eq, goes_on, deeper_by, LineText}
+use Rattle.textwrap_marked.proofs.Common.{closes_block, first_word, last_word, opens_paragraph}
+use Rattle.textwrap_marked.proofs.Common.{has_bytes, has_letter, SpacedText, ReflowOptions}
+use Rattle.textwrap_base.proofs.Common.{list_all}
+use Rattle.std.proofs.Math.Bool.{and-false}
+use Rattle.std.specs.Prelude.{nat_le}
 use Rattle.std.specs.Str.{chars}
 use Rattle.textwrap_marked.proofs.FreeLines.{IsOpen}
 use Rattle.textwrap_marked.proofs.OpenBehind.{behind_text}
-use Rattle.textwrap_marked.specs.Blocks.{goes_on}
 use Rattle.textwrap_marked.specs.Columns.{depth_of, DepthText, is_deeper}
-use Rattle.textwrap_marked.specs.Lines.{deeper_by}
-use Rattle.textwrap_marked.specs.Lines.{LineText}
-use Rattle.textwrap_marked.specs.Signs.{closes_block, first_word, is_rule}
-use Rattle.textwrap_marked.specs.Signs.{is_rule_characters, last_word, opens_paragraph}
-use Rattle.textwrap_marked.specs.Words.{has_bytes, has_letter, is_alphanumeric, SpacedText}
-use Rattle.textwrap_marked.specs.declared.options.ReflowOptions.{ReflowOptions}
+use Rattle.textwrap_marked.specs.Signs.{is_rule, is_rule_characters}
+use Rattle.textwrap_marked.specs.Words.{is_alphanumeric}
 
 -- ---- no rule begins with a letter
 
@@ -65,13 +64,9 @@ never-deeper by d some =
     elim (has_bytes d.marks) as (λ b. cond b (bytes_eq d.marks d.marks && d.lead == d.lead
     && nat_le by (d.behind - d.behind)) (nat_le by (d.lead - d.lead)) ≡ false) [
       | true ↦ ap (λ t. bytes_eq d.marks d.marks && d.lead == d.lead && t) (no-less by d.behind some)
-          ∙ none (bytes_eq d.marks d.marks && d.lead == d.lead)
+          ∙ and-false (bytes_eq d.marks d.marks && d.lead == d.lead)
       | false ↦ no-less by d.lead some
     ]
-  where
-    none : (b : Bool) → (b && false) ≡ false
-    none true = refl
-    none false = refl
 
 depth-some : (words : List SpacedText) → 0 < deeper_by words
 depth-some words =

@@ -1,36 +1,50 @@
 -- The lines of a division of a paragraph's pieces are lines of its words, parted where they may be.
-use Rattle.textwrap_base.proofs.Common.{◌≡◌, ◌≢◌, ℕ, ◌+◌, ◌-◌, ◌<◌, Bool, true, false, cond, List}
-use Rattle.textwrap_base.proofs.Common.{[], ◌∷◌, ◌++◌, All, All-cons, All-head, All-nil, All-tail}
-use Rattle.textwrap_base.proofs.Common.{ap, append_assoc, append-nil, arith, get_or, IsDivision}
-use Rattle.textwrap_base.proofs.Common.{length, length-append, length-take, map, refl, subst, sym}
-use Rattle.textwrap_base.proofs.Common.{take, take_all, take_more, take-append-add, ⊤, ◌∙◌, ◌||◌}
-use Rattle.textwrap_base.proofs.Common.{◌==◌}
+use Rattle.textwrap_marked.proofs.Common.{◌≡◌, ◌≢◌, ℕ, ◌+◌, ◌-◌, ◌<◌, Bool, true, false, cond, List}
+use Rattle.textwrap_marked.proofs.Common.{[], ◌∷◌, ◌++◌, All, All-cons, All-head, All-nil, All-tail}
+use Rattle.textwrap_marked.proofs.Common.{ap, append_assoc, append-nil, arith, get_or, length}
+use Rattle.textwrap_marked.proofs.Common.{length-append, map, refl, subst, sym, take, take_all}
+use Rattle.textwrap_marked.proofs.Common.{take_more, ⊤, ◌∙◌, ◌||◌, ◌==◌, all-right, flat, blank}
+use Rattle.textwrap_marked.proofs.Common.{is_blank, word_of, WordText, covered, is_cut, pieces}
+use Rattle.textwrap_marked.proofs.Common.{blanks, spaced_text, SpacedText, ReflowOptions}
+use Rattle.textwrap_base.proofs.Common.{IsDivision, length-take, take-append-add}
 use Rattle.textwrap_base.proofs.Cost.Chosen.{division_joined}
-use Rattle.textwrap_base.proofs.Lists.Parts.{all-right, flat, some_from_nonempty}
+use Rattle.textwrap_base.proofs.Lists.Parts.{some_from_nonempty}
 use Rattle.std.proofs.lemmas.List.Elements.{All-get_or}
-use Rattle.textwrap_words.proofs.Common.{blank, final_blanks, is_blank, piece, trimmed_len}
-use Rattle.textwrap_words.proofs.Common.{without_final_blanks, word_of, WordText}
+use Rattle.textwrap_words.proofs.Common.{final_blanks, piece, trimmed_len, without_final_blanks}
 use Rattle.textwrap_words.proofs.Word.Texts.{AreBlanks, trimmed-front, word_of-seam}
-use Rattle.textwrap_lines.specs.Paragraph.{covered}
 use Rattle.textwrap_marked.proofs.SpacedBack.{IsInk}
 use Rattle.textwrap_marked.proofs.WordsIn.{IsPlain}
-use Rattle.textwrap_marked.specs.Pieces.{is_cut, onto_front, pieces, with_blank}
-use Rattle.textwrap_marked.specs.Words.{spaced_text, SpacedText}
-use Rattle.textwrap_marked.specs.declared.options.ReflowOptions.{ReflowOptions}
+use Rattle.textwrap_marked.specs.Pieces.{onto_front, with_blank}
 
--- words with a blank behind each but the last, and this behind that one
-abbrev pub spread : List (List ℕ) → List ℕ → List SpacedText
-spread [] end = []
-spread (word ∷ []) end = record { word = word; white = end } ∷ []
-spread (word ∷ next ∷ words) end =
-    record { word = word; white = blank ∷ [] } ∷ spread (next ∷ words) end
+-- the gap before a word with so many others behind it: a blank, and more where lines are justified
+abbrev pub gap : Bool → (ℕ → ℕ) → ℕ → List ℕ
+gap justify gaps n = blank ∷ cond justify (blanks (gaps n)) []
 
+-- words with a gap behind each but the last, and this behind that one
+abbrev pub spread : Bool → (ℕ → ℕ) → List (List ℕ) → List ℕ → List SpacedText
+spread justify gaps [] end = []
+spread justify gaps (word ∷ []) end = record { word = word; white = end } ∷ []
+spread justify gaps (word ∷ next ∷ words) end =
+    record { word = word; white = gap justify gaps (length words) }
+    ∷ spread justify gaps (next ∷ words) end
+
+-- the text of a line of these words
+abbrev pub shown : Bool → (ℕ → ℕ) → List (List ℕ) → List ℕ
+shown justify gaps words = spaced_text (spread justify gaps words [])
+
+-- the texts of such lines, where the gaps of each are those for so many lines behind it
+abbrev pub all_shown : Bool → (ℕ → ℕ → ℕ) → List (List (List ℕ)) → List (List ℕ)
+all_shown justify wide [] = []
+all_shown justify wide (words ∷ lines) =
+    shown justify (wide (length lines)) words ∷ all_shown justify wide lines
+
+-- with a blank between each two
 abbrev pub joined : List (List ℕ) → List ℕ
-joined words = spaced_text (spread words [])
+joined words = shown false (λ n. 0) words
 
 -- ---- one word
 
-ink-blank : (c : ℕ) → IsInk c → is_blank c ≡ false
+pub ink-blank : (c : ℕ) → IsInk c → is_blank c ≡ false
 ink-blank c ink = cut (is_blank c) refl
   where
     cut : (b : Bool) → is_blank c ≡ b → is_blank c ≡ false

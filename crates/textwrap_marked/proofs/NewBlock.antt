@@ -1,28 +1,26 @@
 -- A paragraph of a text, and its lines as they are printed, read again.
-use Rattle.textwrap_base.proofs.Common.{◌≡◌, ℕ, ◌<◌, ◌&&◌, Bool, true, false, List, []}
-use Rattle.textwrap_base.proofs.Common.{◌∷◌, ◌++◌, All, All-nil, ap, arith, codes, ends_with, length, map}
-use Rattle.textwrap_base.proofs.Common.{nat_eq, nat_lt, refl, subst, sym, ◌∙◌}
+use Rattle.textwrap_marked.proofs.Common.{◌≡◌, ℕ, ◌<◌, ◌&&◌, Bool, true, false, List, [], ◌∷◌, ◌++◌}
+use Rattle.textwrap_marked.proofs.Common.{All, ap, arith, codes, ends_with, length, map, nat_eq}
+use Rattle.textwrap_marked.proofs.Common.{nat_lt, refl, subst, sym, ◌∙◌, without_returns, entered}
+use Rattle.textwrap_marked.proofs.Common.{line_of, LineText, passed, StateText, words_of}
+use Rattle.textwrap_marked.proofs.Common.{begins_text, first_word, last_white, has_byte, SpacedText}
+use Rattle.textwrap_marked.proofs.Common.{ReflowOptions}
 use Rattle.textwrap_marked.proofs.FreeLines.{AreFree, block_at}
 use Rattle.textwrap_marked.proofs.HangingForms.{IsHanging}
 use Rattle.textwrap_marked.proofs.LaterLines.{IsRead, line-read}
 use Rattle.textwrap_marked.proofs.LineKinds.{kinds, line-is, line_by}
 use Rattle.textwrap_marked.proofs.LineWords.{AreCutInto, MayPart, spread}
-use Rattle.textwrap_marked.proofs.NewLines.{AreNewBehind, here-words, later_raws, line_raw, new-behind}
-use Rattle.textwrap_marked.proofs.NewLines.{raw-text, returns_at, text_end}
+use Rattle.textwrap_marked.proofs.NewLines.{AreNewBehind, end-white, here-words, later_raws}
+use Rattle.textwrap_marked.proofs.NewLines.{line_raw, new-behind, raw-text, returns_at, text_end}
 use Rattle.textwrap_marked.proofs.OpenBehind.{behind_text}
 use Rattle.textwrap_marked.proofs.ParagraphLines.{first-begins, first-hangs, first-keyed, first-new}
-use Rattle.textwrap_marked.proofs.ParagraphLines.{first-starred, first-text, IsFirstAlike}
+use Rattle.textwrap_marked.proofs.ParagraphLines.{first-starred, first-text, IsFirstAlike, IsNew}
 use Rattle.textwrap_marked.proofs.SpacedBack.{IsWhite}
-use Rattle.textwrap_marked.proofs.SpreadWords.{last_text, spread-columns, spread-first, spread-len, spread-spaced}
+use Rattle.textwrap_marked.proofs.SpreadWords.{last_text, spread-columns, spread-first, spread-len}
+use Rattle.textwrap_marked.proofs.SpreadWords.{spread-spaced}
 use Rattle.textwrap_marked.proofs.TextBlocks.{AreOneBlock, AreTextWords, IsWalked, last_line}
 use Rattle.textwrap_marked.proofs.TextBlocks.{line_at, peel, read, title_of, untitled, walk}
 use Rattle.textwrap_marked.proofs.WordEnds.{spread-free}
-use Rattle.textwrap_marked.specs.Lines.{without_returns}
-use Rattle.textwrap_marked.specs.Lines.{entered, line_of, LineText, passed, StateText}
-use Rattle.textwrap_marked.specs.Pieces.{words_of}
-use Rattle.textwrap_marked.specs.Signs.{begins_text, first_word, last_white}
-use Rattle.textwrap_marked.specs.Words.{has_byte, SpacedText}
-use Rattle.textwrap_marked.specs.declared.options.ReflowOptions.{ReflowOptions}
 
 module _ (options : ReflowOptions) where
   -- a paragraph's first line as it is read, and the walk over the others
@@ -117,7 +115,7 @@ module _ (options : ReflowOptions) (state : StateText) (raw : List ℕ) (first :
   abbrev pub last_of : LineText
   last_of = last_line first_of lines
 
-  module _ (returns : Bool) (end : List ℕ) (white : All IsWhite end)
+  module _ (wide : ℕ → ℕ → ℕ) (returns : Bool) (end : List ℕ) (white : All IsWhite end)
       (breaks : ends_with nat_eq end (codes "  ") ≡ ends_with nat_eq (last_white last_of.words) (codes "  "))
       (left : List (List ℕ)) (others : List LineText)
       (reads : others ≡ read options (behind_text block_of first_of.hanging last_of.words) left)
@@ -125,28 +123,27 @@ module _ (options : ReflowOptions) (state : StateText) (raw : List ℕ) (first :
     abbrev pub more_of : Bool
     more_of = returns && nat_lt 0 (length left)
 
-    end-white : (ls : List (List (List ℕ))) → All IsWhite (text_end end ls)
-    end-white [] = white
-    end-white (line ∷ ls) = All-nil IsWhite
-
     pub renew : (word : List ℕ) (words later : List (List ℕ)) (ls : List (List (List ℕ)))
         → MayPart options first_of.starred (word ∷ words) later
         → AreCutInto options first_of.starred later ls
         → words_of (first_of ∷ lines) ≡ (word ∷ words) ++ later
-        → let new_raw = line_raw returns more_of end first_of.prefix (word ∷ words) ls in
-        let raws = later_raws returns more_of end first_of.hanging ls ++ left in
+        → let new_raw = line_raw options.justify wide returns more_of end first_of.prefix (word ∷ words) ls in
+        let raws = later_raws options.justify wide returns more_of end first_of.hanging ls ++ left in
         let new = line_of options state new_raw (nat_lt 0 (length raws)) in
         IsFirstAlike first_of new
-        × AreNewBehind options block_of first_of.starred first_of.hanging p.front p.ds p.rs p.hang
+        × IsNew options block_of first_of.hanging state new first_of.prefix
+        (spread options.justify (wide (length ls)) (word ∷ words) (text_end end ls))
+        × AreNewBehind options block_of first_of.starred wide first_of.hanging p.front p.ds p.rs p.hang
         (first-starred options state raw p.fed p.lead p.cs p.qs p.bs p.ws p.has p.apart) returns more_of
-        end white last_of.words left others reads title p.walked.closing p.walked.some p.walked.starred
-        p.walked.begins breaks state new ((word ∷ words) ++ later) raws
+        end white last_of.words left others reads title p.walked.closing p.walked.of.some p.walked.of.starred
+        p.walked.of.begins breaks state new ((word ∷ words) ++ later) raws
     renew word words later ls may cut is =
         let in_block = block_of in
         let starred = first_of.starred in
-        let new_raw = line_raw returns more_of end first_of.prefix (word ∷ words) ls in
-        let raws = later_raws returns more_of end first_of.hanging ls ++ left in
-        let own = spread (word ∷ words) (text_end end ls) in
+        let new_raw = line_raw options.justify wide returns more_of end first_of.prefix (word ∷ words) ls in
+        let raws = later_raws options.justify wide returns more_of end first_of.hanging ls ++ left in
+        let gaps = wide (length ls) in
+        let own = spread options.justify gaps (word ∷ words) (text_end end ls) in
         let all = subst (AreTextWords in_block) is p.walked.words in
         let mine = here-words options in_block starred word words later ls cut all in
         let some : 0 < length p.ws =
@@ -154,28 +151,29 @@ module _ (options : ReflowOptions) (state : StateText) (raw : List ℕ) (first :
         let first_is : first_word p.ws ≡ word =
         first-of-words p.ws (words_of lines) word (words ++ later) some is in
         let same : first_word p.ws ≡ first_word own =
-        first_is ∙ sym (spread-first word words (text_end end ls)) in
+        first_is ∙ sym (spread-first options.justify gaps word words (text_end end ls)) in
         let begins : begins_text starred word ≡ true =
         sym (ap (begins_text starred) first_is)
         ∙ first-begins options state raw p.fed p.lead p.cs p.qs p.bs p.ws p.has p.apart in
         let free : AreFree options.justify in_block starred first_of.field own = record {
-          begins = ap (begins_text starred) (spread-first word words (text_end end ls)) ∙ begins;
-          columns = spread-columns options.justify (word ∷ words) (text_end end ls) mine.columns;
+          begins = ap (begins_text starred) (spread-first options.justify gaps word words (text_end end ls)) ∙ begins;
+          columns = spread-columns options.justify gaps (word ∷ words) (text_end end ls) mine.columns;
           field = ap (λ w. first_of.field && has_byte 45 w) (sym same)
               ∙ first-keyed options state raw p.fed p.lead p.cs p.qs p.bs p.ws p.has p.apart;
-          closes = spread-free in_block (word ∷ words) (text_end end ls) mine.closing;
+          closes = spread-free in_block options.justify gaps (word ∷ words) (text_end end ls) mine.closing;
         } in
         let (new, alike) = first-new options state raw p.fed p.lead p.cs p.qs p.bs p.ws p.has p.apart own
         new_raw (nat_lt 0 (length raws))
-        (raw-text in_block first_of.prefix word words (text_end end ls) (returns_at returns more_of ls)
-        mine.plain mine.columns (end-white ls))
-        (spread-spaced (word ∷ words) (text_end end ls) mine.plain (end-white ls))
-        (omega (arith, spread-len (word ∷ words) (text_end end ls))) same free in (
+        (raw-text options.justify gaps first_of.prefix word words (text_end end ls) (returns_at returns more_of ls)
+        mine.plain mine.columns (end-white end white ls))
+        (spread-spaced options.justify gaps (word ∷ words) (text_end end ls) mine.plain (end-white end white ls))
+        (omega (arith, spread-len options.justify gaps (word ∷ words) (text_end end ls))) same free in (
           alike,
-          new-behind options in_block starred first_of.hanging p.front p.ds p.rs p.hang
+          new,
+          new-behind options in_block starred wide first_of.hanging p.front p.ds p.rs p.hang
               (first-starred options state raw p.fed p.lead p.cs p.qs p.bs p.ws p.has p.apart) returns
-              more_of end white last_of.words left others reads title p.walked.closing p.walked.some
-              p.walked.starred p.walked.begins breaks ls word words later state
+              more_of end white last_of.words left others reads title p.walked.closing p.walked.of.some
+              p.walked.of.starred p.walked.of.begins breaks ls word words later state
               (line_of options state new_raw (nat_lt 0 (length raws))) first_of.prefix may cut all
               (sym (ap last_text is) ∙ p.walked.final) begins new refl,
         )

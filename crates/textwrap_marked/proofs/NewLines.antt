@@ -1,46 +1,54 @@
 -- The lines of a paragraph as they are printed, read again: behind the first of them.
-use Rattle.textwrap_base.proofs.Common.{◌≡◌, ℕ, ◌<◌, ◌&&◌, ◌||◌, not, Bool, true, false}
-use Rattle.textwrap_base.proofs.Common.{List, [], ◌∷◌, ◌++◌, ◌==◌, All, All-nil, ap, append-nil, arith}
-use Rattle.textwrap_base.proofs.Common.{cases_Bool, codes, ends_with, length}
-use Rattle.textwrap_base.proofs.Common.{map, nat_eq, nat_lt, slice_index, refl, subst, sym, ◌∙◌}
-use Rattle.textwrap_base.proofs.Lists.Parts.{all-left, all-right}
-use Rattle.std.specs.Prelude.{bytes_eq}
+use Rattle.textwrap_marked.proofs.Common.{◌≡◌, ℕ, ◌<◌, ◌&&◌, ◌||◌, not, Bool, true, false, List, []}
+use Rattle.textwrap_marked.proofs.Common.{◌∷◌, ◌++◌, ◌==◌, All, All-nil, ap, append-nil}
+use Rattle.textwrap_marked.proofs.Common.{append_assoc, arith, cases_Bool, codes, ends_with}
+use Rattle.textwrap_marked.proofs.Common.{flat_map, length, map, nat_eq, nat_lt, refl, subst, sym}
+use Rattle.textwrap_marked.proofs.Common.{◌∙◌, all-left, all-right, bytes_eq, HasPlainMarkers}
+use Rattle.textwrap_marked.proofs.Common.{line_sense, as_title, entered, is_ended, LineText, passed}
+use Rattle.textwrap_marked.proofs.Common.{StateText, without_returns, words_of, begins_text}
+use Rattle.textwrap_marked.proofs.Common.{closes_block, first_word, is_key, last_white, last_word}
+use Rattle.textwrap_marked.proofs.Common.{opens_paragraph, contains, has_byte, has_letter}
+use Rattle.textwrap_marked.proofs.Common.{spaced_text, SpacedText, ReflowOptions}
+use Rattle.textwrap_base.proofs.Common.{slice_index}
 use Rattle.textwrap_marked.proofs.FreeLines.{AreFree}
 use Rattle.textwrap_marked.proofs.HangingForms.{IsHanging}
+use Rattle.textwrap_marked.proofs.Letterless.{no-comment}
+use Rattle.textwrap_marked.proofs.LineSenses.{later-sense}
 use Rattle.textwrap_marked.proofs.LineTests.{behind-same, goes-true, letter-no-rule, open-behind}
-use Rattle.textwrap_marked.proofs.LineWords.{AreCutInto, joined, MayPart, spread}
+use Rattle.textwrap_marked.proofs.LineWords.{AreCutInto, MayPart, shown, spread}
 use Rattle.textwrap_marked.proofs.OpenBehind.{behind_text, text-letter}
 use Rattle.textwrap_marked.proofs.ParagraphLines.{IsNew, later-new}
-use Rattle.textwrap_marked.proofs.ReturnsOff.{ends-behind, EndsWell, joined-end, return_if, returns-off, white-end}
+use Rattle.textwrap_marked.proofs.ReturnsOff.{ends-behind, EndsWell, return_if, shown-end}
+use Rattle.textwrap_marked.proofs.ReturnsOff.{returns-off, white-end}
 use Rattle.textwrap_marked.proofs.SpacedBack.{IsWhite}
-use Rattle.textwrap_marked.proofs.SpreadWords.{goes-on, last_text, last-word, MayGoOn, no-comment, no-mark}
-use Rattle.textwrap_marked.proofs.SpreadWords.{spread-columns, spread-end, spread-first, spread-last, spread-len}
-use Rattle.textwrap_marked.proofs.SpreadWords.{spread-spaced, spread-white, spread-words}
-use Rattle.textwrap_marked.proofs.TextBlocks.{AreClosing, AreOneBlock, AreTextWords, as-title-none, last-behind, last_line}
-use Rattle.textwrap_marked.proofs.TextBlocks.{line_at, NoClose, NoColumn, read, read-more, title_of}
-use Rattle.textwrap_marked.proofs.WordEnds.{closes-last, closing-after, closing-alone, cut-facts, deeper-same}
-use Rattle.textwrap_marked.proofs.WordEnds.{part-cut, spread-free, spread-none}
+use Rattle.textwrap_marked.proofs.SpreadWords.{goes-on, last_text, last-word, MayGoOn, no-mark}
+use Rattle.textwrap_marked.proofs.SpreadWords.{spread-columns, spread-end, spread-first}
+use Rattle.textwrap_marked.proofs.SpreadWords.{spread-last, spread-len, spread-spaced, spread-white}
+use Rattle.textwrap_marked.proofs.SpreadWords.{spread-words}
+use Rattle.textwrap_marked.proofs.TextBlocks.{AreClosing, AreOneBlock, AreTextWords, as-title-none}
+use Rattle.textwrap_marked.proofs.TextBlocks.{last-behind, last_line, line_at, NoClose, NoColumn}
+use Rattle.textwrap_marked.proofs.TextBlocks.{read, read-more, title_of}
+use Rattle.textwrap_marked.proofs.WordEnds.{closes-last, closing-after, closing-alone, cut-facts}
+use Rattle.textwrap_marked.proofs.WordEnds.{deeper-same, part-cut, spread-free, spread-none}
 use Rattle.textwrap_marked.proofs.WordsIn.{IsPlain}
-use Rattle.textwrap_marked.specs.Lines.{as_title, is_ended}
-use Rattle.textwrap_marked.specs.Lines.{LineText, passed, StateText, without_returns}
-use Rattle.textwrap_marked.specs.Pieces.{words_of}
-use Rattle.textwrap_marked.specs.Signs.{begins_text, closes_block, first_word, is_key}
-use Rattle.textwrap_marked.specs.Signs.{last_white, last_word, opens_paragraph}
-use Rattle.textwrap_marked.specs.Words.{contains, has_byte, has_letter, spaced_text, SpacedText}
-use Rattle.textwrap_marked.specs.declared.options.ReflowOptions.{ReflowOptions}
 
 -- ---- the text of a printed line
 
-module _ (in_block : Bool) where
-  pub raw-text : (prefix : List ℕ) (word : List ℕ) (words : List (List ℕ)) (end : List ℕ) (b : Bool)
-      → All IsPlain (word ∷ words) → All NoColumn (word ∷ words) → All IsWhite end
-      → without_returns ((prefix ++ spaced_text (spread (word ∷ words) end)) ++ return_if b)
-      ≡ prefix ++ spaced_text (spread (word ∷ words) end)
-  raw-text prefix word words end b plain none white =
-      let text = spaced_text (spread (word ∷ words) end) in
-      returns-off (prefix ++ text) b (ends-behind prefix text
-      (subst EndsWell (sym (spread-end word words end))
-      (white-end (joined (word ∷ words)) end (joined-end word words plain none) white)))
+pub text-ends : (justify : Bool) (gaps : ℕ → ℕ) (prefix word : List ℕ) (words : List (List ℕ))
+    (end : List ℕ) → All IsPlain (word ∷ words) → All NoColumn (word ∷ words) → All IsWhite end
+    → EndsWell (prefix ++ spaced_text (spread justify gaps (word ∷ words) end))
+text-ends justify gaps prefix word words end plain none white =
+    ends-behind prefix (spaced_text (spread justify gaps (word ∷ words) end))
+    (subst EndsWell (sym (spread-end justify gaps word words end))
+    (white-end (shown justify gaps (word ∷ words)) end (shown-end justify gaps word words plain none) white))
+
+pub raw-text : (justify : Bool) (gaps : ℕ → ℕ) (prefix word : List ℕ) (words : List (List ℕ))
+    (end : List ℕ) (b : Bool) → All IsPlain (word ∷ words) → All NoColumn (word ∷ words) → All IsWhite end
+    → without_returns ((prefix ++ spaced_text (spread justify gaps (word ∷ words) end)) ++ return_if b)
+    ≡ prefix ++ spaced_text (spread justify gaps (word ∷ words) end)
+raw-text justify gaps prefix word words end b plain none white =
+    returns-off (prefix ++ spaced_text (spread justify gaps (word ∷ words) end)) b
+    (text-ends justify gaps prefix word words end plain none white)
 
 -- ---- the words of lines
 
@@ -86,22 +94,32 @@ abbrev pub text_end : List ℕ → List (List (List ℕ)) → List ℕ
 text_end end [] = end
 text_end end (line ∷ lines) = []
 
+pub end-white : (end : List ℕ) → All IsWhite end → (lines : List (List (List ℕ)))
+    → All IsWhite (text_end end lines)
+end-white end white [] = white
+end-white end white (line ∷ lines) = All-nil IsWhite
+
 abbrev pub returns_at : Bool → Bool → List (List (List ℕ)) → Bool
 returns_at returns more [] = more
 returns_at returns more (line ∷ lines) = returns
 
-abbrev pub line_raw : Bool → Bool → List ℕ → List ℕ → List (List ℕ) → List (List (List ℕ)) → List ℕ
-line_raw returns more end prefix words lines =
-    (prefix ++ spaced_text (spread words (text_end end lines))) ++ return_if (returns_at returns more lines)
+-- the gaps of a line are those for so many lines behind it
+module _ (justify : Bool) (wide : ℕ → ℕ → ℕ) (returns more : Bool) (end : List ℕ) where
+  -- the words of a line
+  abbrev pub line_words : List (List ℕ) → List (List (List ℕ)) → List SpacedText
+  line_words words lines = spread justify (wide (length lines)) words (text_end end lines)
 
-abbrev pub later_raws : Bool → Bool → List ℕ → List ℕ → List (List (List ℕ)) → List (List ℕ)
-later_raws returns more end hanging [] = []
-later_raws returns more end hanging (words ∷ lines) =
-    line_raw returns more end hanging words lines ∷ later_raws returns more end hanging lines
+  abbrev pub line_raw : List ℕ → List (List ℕ) → List (List (List ℕ)) → List ℕ
+  line_raw prefix words lines =
+      (prefix ++ spaced_text (line_words words lines)) ++ return_if (returns_at returns more lines)
+
+  abbrev pub later_raws : List ℕ → List (List (List ℕ)) → List (List ℕ)
+  later_raws hanging [] = []
+  later_raws hanging (words ∷ lines) = line_raw hanging words lines ∷ later_raws hanging lines
 
 -- ---- the lines behind the first
 
-module _ (options : ReflowOptions) (in_block starred : Bool) (hanging lead : List ℕ)
+module _ (options : ReflowOptions) (in_block starred : Bool) (wide : ℕ → ℕ → ℕ) (hanging lead : List ℕ)
     (ds rs : List SpacedText) (hang : IsHanging options in_block hanging lead ds rs)
     (margin : starred ≡ (in_block && not (has_byte 42 hanging))) (returns more : Bool) (end : List ℕ)
     (white : All IsWhite end) (last : List SpacedText) (left : List (List ℕ)) (rest : List LineText)
@@ -118,14 +136,14 @@ module _ (options : ReflowOptions) (in_block starred : Bool) (hanging lead : Lis
     returns_of lines = returns_at returns more lines
 
     abbrev raw_of : List ℕ → List (List ℕ) → List (List (List ℕ)) → List ℕ
-    raw_of prefix words lines = line_raw returns more end prefix words lines
+    raw_of prefix words lines = line_raw options.justify wide returns more end prefix words lines
 
     abbrev raws_behind : List (List (List ℕ)) → List (List ℕ)
-    raws_behind lines = later_raws returns more end hanging lines
+    raws_behind lines = later_raws options.justify wide returns more end hanging lines
 
-    end-white : (lines : List (List (List ℕ))) → All IsWhite (end_of lines)
-    end-white [] = white
-    end-white (line ∷ lines) = All-nil IsWhite
+    -- words of a line with these gaps
+    abbrev laid : (ℕ → ℕ) → List (List ℕ) → List ℕ → List SpacedText
+    laid gaps words tail = spread options.justify gaps words tail
 
     pub record AreNewBehind (state : StateText) (line : LineText) (words : List (List ℕ))
         (raws : List (List ℕ)) : Type 0 where
@@ -139,28 +157,33 @@ module _ (options : ReflowOptions) (in_block starred : Bool) (hanging lead : Lis
       pub space : last_white (last_line line lines).words ≡ end
       pub fed : (last_line line lines).fed ≡ nat_lt 0 (length left)
       pub spells : words_of (line ∷ lines) ≡ words
+      pub sense : HasPlainMarkers options
+          → map (λ w. w.word) line.words ++ flat_map line_sense raws ≡ words ++ flat_map line_sense left
 
     last-new : (word : List ℕ) (words : List (List ℕ)) (state : StateText) (line : LineText)
         (prefix : List ℕ) → AreTextWords in_block (word ∷ words)
         → last_text (word ∷ words) ≡ last_text (map (λ w. w.word) last)
         → begins_text starred word ≡ true
-        → IsNew options in_block hanging state line prefix (spread (word ∷ words) end)
+        → IsNew options in_block hanging state line prefix (laid (wide 0) (word ∷ words) end)
         → line.fed ≡ nat_lt 0 (length left) → AreNewBehind state line (word ∷ words) left
     last-new word words state line prefix are final begins new fed =
-        let own = spread (word ∷ words) end in
+        let gaps = wide 0 in
+        let own = laid gaps (word ∷ words) end in
         let finish : last_word own ≡ last_word last =
-        spread-last (word ∷ words) end ∙ final ∙ sym (last-word last) in
-        let closing = subst (AreClosing in_block) (sym (spread-words (word ∷ words) end)) are.closing in
+        spread-last options.justify gaps (word ∷ words) end ∙ final ∙ sym (last-word last) in
+        let closing = subst (AreClosing in_block) (sym (spread-words options.justify gaps (word ∷ words) end)) are.closing in
         let closes : (in_block && closes_block own) ≡ (in_block && closes_block last) =
-        closes-last in_block own (omega (arith, spread-len (word ∷ words) end)) closing
+        closes-last in_block own (omega (arith, spread-len options.justify gaps (word ∷ words) end)) closing
         ∙ ap (λ w. in_block && contains (codes "*/") w)
-        (ap last_text (spread-words (word ∷ words) end) ∙ final)
+        (ap last_text (spread-words options.justify gaps (word ∷ words) end) ∙ final)
         ∙ sym (closes-last in_block last last_some last_closing) in
         let deeper = deeper-same starred last_starred own last
-        (ap (begins_text starred) (spread-first word words end) ∙ begins) last_begins finish in
+        (ap (begins_text starred) (spread-first options.justify gaps word words end) ∙ begins) last_begins finish in
         let state_is : passed state line ≡ behind_text in_block hanging last =
         new.of.behind ∙ ap (behind_text in_block hanging) new.has
-        ∙ behind-same in_block hanging own last closes deeper in record {
+        ∙ behind-same in_block hanging own last closes deeper in
+        let spelled : map (λ w. w.word) line.words ≡ word ∷ words =
+        ap (map (λ w. w.word)) new.has ∙ spread-words options.justify gaps (word ∷ words) end in record {
           lines = [];
           read_is = ap (λ s. read options s left) state_is ∙ sym reads;
           untitled = title line new.of.hangs;
@@ -172,33 +195,34 @@ module _ (options : ReflowOptions) (in_block starred : Bool) (hanging lead : Lis
               || (in_block && closes_block own)) finish
               ∙ ap (λ b. ends_with nat_eq (last_word last) (codes "\\") || b
               || (in_block && closes_block own))
-              (ap (λ w. ends_with nat_eq w (codes "  ")) (spread-white word words end) ∙ breaks)
+              (ap (λ w. ends_with nat_eq w (codes "  ")) (spread-white options.justify gaps word words end) ∙ breaks)
               ∙ ap (λ b. ends_with nat_eq (last_word last) (codes "\\")
               || ends_with nat_eq (last_white last) (codes "  ") || b) closes;
-          space = ap last_white new.has ∙ spread-white word words end;
+          space = ap last_white new.has ∙ spread-white options.justify gaps word words end;
           fed = fed;
-          spells = append-nil (map (λ w. w.word) line.words) ∙ ap (map (λ w. w.word)) new.has
-              ∙ spread-words (word ∷ words) end;
+          spells = append-nil (map (λ w. w.word) line.words) ∙ spelled;
+          sense = λ plain. ap (λ l. l ++ flat_map line_sense left) spelled;
         }
 
     -- another line behind one
-    more-new : (state : StateText) (line : LineText) (prefix : List ℕ) (own : List (List ℕ))
+    more-new : (gaps others : ℕ → ℕ) (state : StateText) (line : LineText) (prefix : List ℕ) (own : List (List ℕ))
         (word : List ℕ) (words later : List (List ℕ)) (raw : List ℕ) (raws : List (List ℕ)) (tail : List ℕ)
-        → IsNew options in_block hanging state line prefix (spread own [])
+        → IsNew options in_block hanging state line prefix (laid gaps own [])
         → line.ended ≡ false → opens_paragraph word ≡ false → has_letter word ≡ true
-        → let behind = behind_text in_block hanging (spread own []) in
+        → let behind = behind_text in_block hanging (laid gaps own []) in
         let next = line_at options behind raw raws in
-        IsNew options in_block hanging behind next hanging (spread (word ∷ words) tail)
+        IsNew options in_block hanging behind next hanging (laid others (word ∷ words) tail)
         → AreNewBehind behind next later raws
         → AreNewBehind state line (own ++ later) (raw ∷ raws)
-    more-new state line prefix own word words later raw raws tail new ended opens letter next_new are =
-        let behind = behind_text in_block hanging (spread own []) in
+    more-new gaps others state line prefix own word words later raw raws tail new ended opens letter next_new are =
+        let behind = behind_text in_block hanging (laid gaps own []) in
         let next = line_at options behind raw raws in
         let first : first_word next.words ≡ word =
-        ap first_word next_new.has ∙ spread-first word words tail in
+        ap first_word next_new.has ∙ spread-first options.justify others word words tail in
         let state_is : passed state line ≡ behind =
         new.of.behind ∙ ap (behind_text in_block hanging) new.has in
-        let later_lines = read options (passed behind next) raws in record {
+        let spelled : map (λ w. w.word) line.words ≡ own =
+        ap (map (λ w. w.word)) new.has ∙ spread-words options.justify gaps own [] in record {
           lines = next ∷ are.lines;
           read_is = ap (λ s. read options s (raw ∷ raws)) state_is ∙ read-more options behind raw raws
               ∙ ap (λ ls. as_title (title_of next ls) next ∷ ls) are.read_is
@@ -216,44 +240,49 @@ module _ (options : ReflowOptions) (in_block starred : Bool) (hanging lead : Lis
           ends = are.ends;
           space = are.space;
           fed = are.fed;
-          spells = ap (λ l. l ++ words_of (next ∷ are.lines))
-              (ap (map (λ w. w.word)) new.has ∙ spread-words own [])
-              ∙ ap (λ l. own ++ l) are.spells;
+          spells = ap (λ l. l ++ words_of (next ∷ are.lines)) spelled ∙ ap (λ l. own ++ l) are.spells;
+          sense = λ plain.
+              let here = later-sense options plain in_block hanging lead ds rs hang
+              (entered behind (without_returns raw)) raw (nat_lt 0 (length raws)) next_new.of next_new.prefixed in
+              ap (λ l. l ++ (line_sense raw ++ flat_map line_sense raws)) spelled
+              ∙ ap (λ l. own ++ (l ++ flat_map line_sense raws)) here
+              ∙ ap (λ l. own ++ l) (are.sense plain)
+              ∙ sym (append_assoc own later (flat_map line_sense left));
         }
 
     -- a line that others follow does not end its paragraph
-    goes-further : (word : List ℕ) (words : List (List ℕ)) (state : StateText) (line : LineText)
+    goes-further : (gaps : ℕ → ℕ) (word : List ℕ) (words : List (List ℕ)) (state : StateText) (line : LineText)
         (prefix : List ℕ) → All (NoClose in_block) (word ∷ words)
         → ends_with nat_eq (last_text (word ∷ words)) (codes "\\") ≡ false
-        → IsNew options in_block hanging state line prefix (spread (word ∷ words) [])
+        → IsNew options in_block hanging state line prefix (laid gaps (word ∷ words) [])
         → line.ended ≡ false
-    goes-further word words state line prefix none slash new =
-        let own = spread (word ∷ words) [] in
+    goes-further gaps word words state line prefix none slash new =
+        let own = laid gaps (word ∷ words) [] in
         new.of.ends ∙ ap (is_ended in_block) new.has
         ∙ three (ends_with nat_eq (last_word own) (codes "\\"))
         (ends_with nat_eq (last_white own) (codes "  ")) (in_block && closes_block own)
-        (ap (λ w. ends_with nat_eq w (codes "\\")) (spread-last (word ∷ words) []) ∙ slash)
-        (ap (λ w. ends_with nat_eq w (codes "  ")) (spread-white word words []))
-        (spread-none in_block (word ∷ words) [] none)
+        (ap (λ w. ends_with nat_eq w (codes "\\")) (spread-last options.justify gaps (word ∷ words) []) ∙ slash)
+        (ap (λ w. ends_with nat_eq w (codes "  ")) (spread-white options.justify gaps word words []))
+        (spread-none in_block options.justify gaps (word ∷ words) [] none)
       where
         three : (a b c : Bool) → a ≡ false → b ≡ false → c ≡ false → (a || b || c) ≡ false
         three a b c p q r = rw (p, q, r) refl
 
     -- what a later line keeps to
-    later-free : (word : List ℕ) (words : List (List ℕ)) (tail : List ℕ)
+    later-free : (gaps : ℕ → ℕ) (word : List ℕ) (words : List (List ℕ)) (tail : List ℕ)
         → MayGoOn options starred word → All NoColumn (word ∷ words)
         → AreClosing in_block (word ∷ words)
-        → let own = spread (word ∷ words) tail in
+        → let own = laid gaps (word ∷ words) tail in
         AreFree options.justify in_block (in_block && not (has_byte 42 hanging)) (is_key (first_word own) && true) own
-    later-free word words tail may none closing =
-        let own = spread (word ∷ words) tail in
-        let first = spread-first word words tail in record {
+    later-free gaps word words tail may none closing =
+        let own = laid gaps (word ∷ words) tail in
+        let first = spread-first options.justify gaps word words tail in record {
           begins = ap (λ b. begins_text b (first_word own)) (sym margin)
               ∙ ap (begins_text starred) first ∙ may.begins;
-          columns = spread-columns options.justify (word ∷ words) tail none;
+          columns = spread-columns options.justify gaps (word ∷ words) tail none;
           field = ap (λ w. is_key w && true && has_byte 45 w) first
               ∙ ap (λ b. b && true && has_byte 45 word) (keyless word may.opens);
-          closes = spread-free in_block (word ∷ words) tail closing;
+          closes = spread-free in_block options.justify gaps (word ∷ words) tail closing;
         }
       where
         first-none : (a b c d e : Bool) → (a || b || c || d || e) ≡ false → a ≡ false
@@ -266,7 +295,7 @@ module _ (options : ReflowOptions) (in_block starred : Bool) (hanging lead : Lis
 
     abbrev IsLineOf : StateText → LineText → List ℕ → List (List ℕ) → List (List (List ℕ)) → Type 0
     IsLineOf state line prefix words lines =
-        IsNew options in_block hanging state line prefix (spread words (end_of lines))
+        IsNew options in_block hanging state line prefix (laid (wide (length lines)) words (end_of lines))
 
     pub new-behind : (lines : List (List (List ℕ))) (word : List ℕ) (words later : List (List ℕ))
         (state : StateText) (line : LineText) (prefix : List ℕ)
@@ -291,7 +320,9 @@ module _ (options : ReflowOptions) (in_block starred : Bool) (hanging lead : Lis
         let raws = raws_behind lines ++ left in
         let raw = raw_of hanging others lines in
         let tail = end_of lines in
-        let here = behind_text in_block hanging (spread own []) in
+        let gaps = wide (length (others ∷ lines)) in
+        let next_gaps = wide (length lines) in
+        let here = behind_text in_block hanging (laid gaps own []) in
         let read_next = line_at options here raw raws in
         let (none, mine, theirs) = parted options in_block starred word words next (more_words ++ behind)
         (subst (λ l. AreTextWords in_block (own ++ l)) is are) in
@@ -300,24 +331,24 @@ module _ (options : ReflowOptions) (in_block starred : Bool) (hanging lead : Lis
         (subst (MayPart options starred own) is may)) in
         let goer = goes-on options starred next goes in
         let own_words = here-words options in_block starred next more_words behind lines cut theirs in
-        let block : (in_block && not (closes_block (spread own []))) ≡ in_block =
-        open_still in_block (closes_block (spread own [])) (spread-none in_block own [] none) in
+        let block : (in_block && not (closes_block (laid gaps own []))) ≡ in_block =
+        open_still in_block (closes_block (laid gaps own [])) (spread-none in_block options.justify gaps own [] none) in
         let next_new : IsLineOf here read_next hanging others lines =
         later-new options in_block hanging lead ds rs hang here raw (nat_lt 0 (length raws))
-        (spread others tail) block
-        (raw-text in_block hanging next more_words tail (returns_of lines) own_words.plain own_words.columns
-        (end-white lines))
-        (spread-spaced others tail own_words.plain (end-white lines))
-        (no-mark options in_block starred next more_words tail goer.begins goer.bullet
-        (no-comment options in_block starred next goer.begins goer.marker))
-        (open-behind options in_block hanging (spread own []))
-        (later-free next more_words tail goer own_words.columns own_words.closing) in
+        (laid next_gaps others tail) block
+        (raw-text options.justify next_gaps hanging next more_words tail (returns_of lines) own_words.plain own_words.columns
+        (end-white end white lines))
+        (spread-spaced options.justify next_gaps others tail own_words.plain (end-white end white lines))
+        (no-mark options in_block starred options.justify next_gaps next more_words tail goer.begins goer.bullet
+        (no-comment options in_block next (text-letter starred next goer.begins) goer.marker))
+        (open-behind options in_block hanging (laid gaps own []))
+        (later-free next_gaps next more_words tail goer own_words.columns own_words.closing) in
         let behind_next = new-behind lines next more_words behind here read_next hanging part cut theirs
         (sym (ap (λ l. last_text (own ++ l)) is ∙ last-behind own next (more_words ++ behind)) ∙ final)
         goer.begins next_new refl in
         subst (λ l. AreNewBehind state line (own ++ l) (raw ∷ raws)) (sym is)
-        (more-new state line prefix own next more_words (others ++ behind) raw raws tail new
-        (goes-further word words state line prefix none slash new) goer.opens
+        (more-new gaps next_gaps state line prefix own next more_words (others ++ behind) raw raws tail new
+        (goes-further gaps word words state line prefix none slash new) goer.opens
         (text-letter starred next goer.begins) next_new behind_next)
       where
         open_still : (a c : Bool) → (a && c) ≡ false → (a && not c) ≡ a

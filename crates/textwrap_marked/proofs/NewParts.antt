@@ -1,16 +1,14 @@
 -- What becomes of the parts of a text, if it is known of each.
-use Rattle.textwrap_base.proofs.Common.{◌≡◌, ℕ, Bool, true, false, List, [], ◌∷◌, All, All-head}
-use Rattle.textwrap_base.proofs.Common.{All-tail, drop, nat_eq, refl, starts_with}
-use Rattle.textwrap_base.proofs.Lists.Parts.{starts_with-rest}
-use Rattle.textwrap_lines.specs.LineEnding.{ending_bytes}
+use Rattle.textwrap_marked.proofs.Common.{◌≡◌, ℕ, Bool, true, false, List, [], ◌∷◌, All, All-head}
+use Rattle.textwrap_marked.proofs.Common.{All-tail, drop, nat_eq, refl, starts_with}
+use Rattle.textwrap_marked.proofs.Common.{starts_with-rest, ending_bytes, blocks, is_beside, Part}
+use Rattle.textwrap_marked.proofs.Common.{parts_of_blocks, text_parts, LineText, lines_of}
+use Rattle.textwrap_marked.proofs.Common.{byte_order_mark, filled_ending, IsLaidOut, IsOfBlock}
+use Rattle.textwrap_marked.proofs.Common.{IsReflowedBehind, IsReflowedFrom, ReflowOptions}
 use Rattle.textwrap_marked.proofs.PlainLines.{IsPlainBlock, text-plain}
 use Rattle.textwrap_marked.proofs.TextParts.{text-parts}
-use Rattle.textwrap_marked.specs.Blocks.{blocks, is_beside}
-use Rattle.textwrap_marked.specs.Laws.{AreNewParts, AreOfParts, Part, parts_of_blocks, text_parts}
-use Rattle.textwrap_marked.specs.Lines.{LineText, lines_of}
-use Rattle.textwrap_marked.specs.Reflow.{byte_order_mark, filled_ending, IsLaidOut, IsOfBlock}
-use Rattle.textwrap_marked.specs.Reflow.{IsReflowed, IsReflowedBehind, IsReflowedFrom}
-use Rattle.textwrap_marked.specs.declared.options.ReflowOptions.{ReflowOptions}
+use Rattle.textwrap_marked.specs.Laws.{AreNewParts, AreOfParts}
+use Rattle.textwrap_marked.specs.Reflow.{IsReflowed}
 
 module _ (options : ReflowOptions) (IsNew : List ℕ → Part → List ℕ → Type 0)
     (each : (ending : List ℕ) (is_kept : Bool) (first : LineText) (lines : List LineText)

@@ -1,24 +1,27 @@
 -- Texts that were reflowed, reflowed again.
-use Rattle.textwrap_base.proofs.Common.{◌≡◌, ℕ, Bool, true, false, cond, List, [], ◌∷◌, ◌++◌, ◌==◌}
-use Rattle.textwrap_base.proofs.Common.{All-head, ap, arith, drop, join_with_byte, length, nat_eq, nat_lt}
-use Rattle.textwrap_base.proofs.Common.{refl, slice_split, starts_with, subst, sym, true≢false, ◌∙◌, lt-ltb}
-use Rattle.std.proofs.lemmas.List.Splits.{join_with_byte-slice_split, length-slice_split}
-use Rattle.textwrap_lines.specs.LineEnding.{ending_bytes}
-use Rattle.textwrap_lines.specs.declared.line_ending.LineEnding.{LineEnding}
-use Rattle.textwrap_lines.specs.declared.line_ending.LineEnding.TheVariants.{CRLF, LF}
+use Rattle.textwrap_marked.proofs.Common.{◌≡◌, ℕ, Bool, true, false, cond, List, [], ◌∷◌, ◌++◌}
+use Rattle.textwrap_marked.proofs.Common.{◌==◌, All-head, ap, arith, drop, flat_map, join_with_byte}
+use Rattle.textwrap_marked.proofs.Common.{length, nat_eq, nat_lt, refl, slice_split, starts_with}
+use Rattle.textwrap_marked.proofs.Common.{subst, sym, ◌∙◌, lt-ltb, starts_with-rest}
+use Rattle.textwrap_marked.proofs.Common.{ap₂, length-slice_split, ending_bytes, LineEnding, CRLF}
+use Rattle.textwrap_marked.proofs.Common.{LF, blocks, AreSameParts, HasPlainMarkers, line_sense}
+use Rattle.textwrap_marked.proofs.Common.{text_parts, first_state, lines_of, read_lines}
+use Rattle.textwrap_marked.proofs.Common.{with_titles, byte_order_mark, filled_ending, IsLaidOut}
+use Rattle.textwrap_marked.proofs.Common.{IsReflowedBehind, IsReflowedFrom, ReflowOptions}
+use Rattle.textwrap_base.proofs.Common.{⊎_elim}
+use Rattle.textwrap_marked.proofs.Common.{inl, inr, ◌⊎◌}
+use Rattle.std.proofs.lemmas.List.Splits.{join_with_byte-slice_split}
 use Rattle.textwrap_marked.proofs.AnewLines.{IsTold}
 use Rattle.textwrap_marked.proofs.BegunAlike.{AreBegun, marks-same}
 use Rattle.textwrap_marked.proofs.EndsAlike.{ends-alike, one-line}
 use Rattle.textwrap_marked.proofs.Feedless.{IsFeedless}
 use Rattle.textwrap_marked.proofs.SameParts.{from-other, laid-other, width-same}
-use Rattle.textwrap_marked.proofs.TextBack.{AreReadBack, IsTextBack, text-back}
-use Rattle.textwrap_marked.specs.Blocks.{blocks}
-use Rattle.textwrap_marked.specs.Laws.{AreSameParts, behind_mark, KeepsEnding, text_parts}
-use Rattle.textwrap_marked.specs.Lines.{first_state, lines_of, read_lines, with_titles}
-use Rattle.textwrap_marked.specs.Reflow.{byte_order_mark, filled_ending, IsLaidOut, IsReflowed}
-use Rattle.textwrap_marked.specs.Reflow.{IsReflowedBehind, IsReflowedFrom}
+use Rattle.textwrap_marked.proofs.TextBack.{AreReadBack, IsTextBack, text-back, within-back}
+use Rattle.textwrap_marked.specs.Laws.{behind_mark, KeepsEnding, mark_of, text_sense}
+use Rattle.textwrap_marked.specs.Reflow.{IsReflowed}
+use Rattle.textwrap_marked.specs.Within.{IsReflowedWithin, IsReflowedWithinBehind, IsReflowedWithinFrom}
+use Rattle.textwrap_marked.specs.declared.within.LineRange.{LineRange}
 use Rattle.textwrap_marked.specs.declared.options.Algorithm.{Algorithm}
-use Rattle.textwrap_marked.specs.declared.options.ReflowOptions.{ReflowOptions}
 
 -- ---- without a byte order mark
 
@@ -46,25 +49,38 @@ ends-feed : (e : LineEnding) → (front : List ℕ) × (ending_bytes e ≡ front
 ends-feed LF = ([], refl)
 ends-feed CRLF = (13 ∷ [], refl)
 
+-- it is a single line, or its filled lines end as those of the text
+one-or-alike : (options : ReflowOptions) (text reflowed : List ℕ) (r : IsTextBack options text reflowed)
+    → (slice_split (λ c. c == 10) reflowed ≡ r.raw ∷ [])
+    ⊎ (filled_ending options.ending reflowed ≡ filled_ending options.ending text)
+one-or-alike options text reflowed r = cut r.raws refl
+  where
+    cut : (raws : List (List ℕ)) → r.raws ≡ raws → (slice_split (λ c. c == 10) reflowed ≡ r.raw ∷ [])
+        ⊎ (filled_ending options.ending reflowed ≡ filled_ending options.ending text)
+    cut [] is = inl (r.split ∙ ap (λ l. r.raw ∷ l) is)
+    cut (raw ∷ raws) is =
+        inr (ends-alike options text reflowed r (ap (λ l. nat_lt 0 (length l)) is
+        ∙ lt-ltb 0 (length (raw ∷ raws)) (omega arith)))
+
 -- the new text stays, whatever its own ending is
-from-stays : (options : ReflowOptions) → options.justify ≡ false → (text reflowed : List ℕ)
+from-stays : (options : ReflowOptions) (text reflowed : List ℕ)
     → IsReflowedFrom options text reflowed → IsReflowedFrom options reflowed reflowed
-from-stays options plain text reflowed laid =
-    more (nat_lt 0 (length r.raws)) refl r.raws refl
+from-stays options text reflowed laid = cut (one-or-alike options text reflowed r)
   where
     r : IsTextBack options text reflowed
-    r = text-back options plain text reflowed laid
+    r = text-back options text reflowed laid
 
     again : IsLaidOut options (ending_bytes (filled_ending options.ending text)) false
         (blocks (lines_of options reflowed)) reflowed
     again = laid-other options text reflowed r.same reflowed laid
 
-    single : (raws : List (List ℕ)) → r.raws ≡ raws → length raws ≡ 0
+    cut : (slice_split (λ c. c == 10) reflowed ≡ r.raw ∷ [])
+        ⊎ (filled_ending options.ending reflowed ≡ filled_ending options.ending text)
         → IsReflowedFrom options reflowed reflowed
-    single (raw ∷ raws) is long = absurd (omega (arith, long))
-    single [] is long =
-        let split : slice_split (λ c. c == 10) reflowed ≡ r.raw ∷ [] =
-        r.split ∙ ap (λ l. r.raw ∷ l) is in
+    cut (inr same) =
+        subst (λ e. IsLaidOut options (ending_bytes e) false (blocks (lines_of options reflowed)) reflowed)
+        (sym same) again
+    cut (inl split) =
         let whole : reflowed ≡ r.raw =
         sym (join_with_byte-slice_split 10 reflowed) ∙ ap (join_with_byte 10) split in
         let old = ending_bytes (filled_ending options.ending text) in
@@ -78,16 +94,6 @@ from-stays options plain text reflowed laid =
         (subst (λ t. IsFeedless t) (sym whole) (All-head IsFeedless r.raw r.raws r.feedless))
         (subst (λ ls. IsLaidOut options old false (blocks ls) reflowed) shown again))
 
-    more : (b : Bool) → nat_lt 0 (length r.raws) ≡ b → (raws : List (List ℕ)) → r.raws ≡ raws
-        → IsReflowedFrom options reflowed reflowed
-    more true some raws is =
-        subst (λ e. IsLaidOut options (ending_bytes e) false (blocks (lines_of options reflowed)) reflowed)
-        (sym (ends-alike options text reflowed r some)) again
-    more false some [] is = single [] is refl
-    more false some (raw ∷ raws) is =
-        absurd (true≢false (sym (lt-ltb 0 (length (raw ∷ raws)) (omega arith))
-        ∙ ap (λ l. nat_lt 0 (length l)) (sym is) ∙ some))
-
 -- ---- behind one
 
 begins-so : (text : List ℕ) (b : Bool) → starts_with nat_eq text byte_order_mark ≡ b
@@ -98,110 +104,127 @@ marked : (rest whole : List ℕ) → whole ≡ byte_order_mark ++ rest
     → starts_with nat_eq whole byte_order_mark ≡ true
 marked rest whole is = ap (λ t. starts_with nat_eq t byte_order_mark) is
 
-module _ (options : ReflowOptions) (plain : options.justify ≡ false) where
-  pub parts-kept : (text reflowed : List ℕ) → IsReflowed options text reflowed
-      → AreSameParts options.ending (text_parts options (behind_mark text)) (text_parts options (behind_mark reflowed))
-  parts-kept text reflowed = cut (starts_with nat_eq text byte_order_mark) refl
-    where
-      goal : (a b : List ℕ) → behind_mark text ≡ a → behind_mark reflowed ≡ b
-          → AreSameParts options.ending (text_parts options a) (text_parts options b)
-          → AreSameParts options.ending (text_parts options (behind_mark text)) (text_parts options (behind_mark reflowed))
-      goal a b p q same =
-          subst (λ t. AreSameParts options.ending (text_parts options t) (text_parts options (behind_mark reflowed)))
-          (sym p) (subst (λ t. AreSameParts options.ending (text_parts options a) (text_parts options t)) (sym q) same)
+-- what follows a byte order mark in a text, if there is one, becomes what follows it in the other
+module _ (options : ReflowOptions) (From : List ℕ → List ℕ → Type 0)
+    (each : (text reflowed : List ℕ) → From text reflowed → IsTextBack options text reflowed)
+    (text reflowed : List ℕ) where
+  abbrev BecomesBy : Bool → Type 0
+  BecomesBy true =
+      (rest : List ℕ) × From (drop 3 text) rest × (reflowed ≡ byte_order_mark ++ rest)
+  BecomesBy false = From text reflowed
 
-      cut : (b : Bool) → starts_with nat_eq text byte_order_mark ≡ b
-          → IsReflowedBehind b options text reflowed
-          → AreSameParts options.ending (text_parts options (behind_mark text)) (text_parts options (behind_mark reflowed))
-      cut true is (rest, laid, whole) =
-          goal (drop 3 text) rest (begins-so text true is)
-          (begins-so reflowed true (marked rest reflowed whole) ∙ ap (drop 3) whole)
-          (text-back options plain (drop 3 text) rest laid).same
-      cut false is laid =
-          let r = text-back options plain text reflowed laid in
-          goal text reflowed (begins-so text false is)
-          (begins-so reflowed false (begins-alike options _ _ text reflowed r ∙ is)) r.same
+  -- both begin with the same one, or none
+  abbrev IsBehind : Type 0
+  IsBehind =
+      (starts_with nat_eq reflowed byte_order_mark ≡ starts_with nat_eq text byte_order_mark)
+      × From (behind_mark text) (behind_mark reflowed)
 
-  pub texts-stay : (text reflowed : List ℕ) → IsReflowed options text reflowed
-      → IsReflowed options reflowed reflowed
-  texts-stay text reflowed = cut (starts_with nat_eq text byte_order_mark) refl
+  unmarked : (b : Bool) → starts_with nat_eq text byte_order_mark ≡ b → BecomesBy b → IsBehind
+  unmarked b is becomes = cut b is becomes
     where
-      cut : (b : Bool) → starts_with nat_eq text byte_order_mark ≡ b
-          → IsReflowedBehind b options text reflowed → IsReflowed options reflowed reflowed
+      from : (a b : List ℕ) → behind_mark text ≡ a → behind_mark reflowed ≡ b → From a b
+          → From (behind_mark text) (behind_mark reflowed)
+      from a b p q laid =
+          subst (λ t. From t (behind_mark reflowed)) (sym p) (subst (From a) (sym q) laid)
+
+      cut : (b : Bool) → starts_with nat_eq text byte_order_mark ≡ b → BecomesBy b → IsBehind
       cut true is (rest, laid, whole) =
-          subst (λ b. IsReflowedBehind b options reflowed reflowed) (sym (marked rest reflowed whole)) (
-            rest,
-            subst (λ t. IsReflowedFrom options t rest) (sym (ap (drop 3) whole))
-                (from-stays options plain (drop 3 text) rest laid),
-            whole,
+          let begins = marked rest reflowed whole in (
+            begins ∙ sym is,
+            from (drop 3 text) rest (begins-so text true is) (begins-so reflowed true begins ∙ ap (drop 3) whole)
+                laid,
           )
       cut false is laid =
-          let r = text-back options plain text reflowed laid in
-          subst (λ b. IsReflowedBehind b options reflowed reflowed)
-          (sym (begins-alike options _ _ text reflowed r ∙ is))
-          (from-stays options plain text reflowed laid)
+          let same = begins-alike options _ _ text reflowed (each text reflowed laid) in
+          (same, from text reflowed (begins-so text false is) (begins-so reflowed false (same ∙ is)) laid)
 
-  -- ---- another width first
+  remarked : IsBehind → (b : Bool) → starts_with nat_eq text byte_order_mark ≡ b → BecomesBy b
+  remarked (same, laid) true is = (
+    behind_mark reflowed,
+    subst (λ t. From t (behind_mark reflowed)) (begins-so text true is) laid,
+    starts_with-rest byte_order_mark reflowed (same ∙ is)
+        ∙ ap (λ t. byte_order_mark ++ t) (sym (begins-so reflowed true (same ∙ is))),
+  )
+  remarked (same, laid) false is =
+      subst (λ t. From t reflowed) (begins-so text false is)
+      (subst (From (behind_mark text)) (begins-so reflowed false (same ∙ is)) laid)
 
-  widths-from : (width : ℕ) (algorithm : Algorithm) (text between reflowed : List ℕ)
+  parts-same : IsBehind
+      → AreSameParts options.ending (text_parts options (behind_mark text)) (text_parts options (behind_mark reflowed))
+  parts-same behind = (each (behind_mark text) (behind_mark reflowed) behind.1).same
+
+  sense-same : HasPlainMarkers options → IsBehind → text_sense reflowed ≡ text_sense text
+  sense-same plain behind =
+      let r = each (behind_mark text) (behind_mark reflowed) behind.1 in
+      ap₂ (λ b words. mark_of b ++ words) behind.0 (ap (flat_map line_sense) r.split ∙ r.sense plain)
+
+module _ (options : ReflowOptions) (text reflowed : List ℕ) where
+  opened : (b : Bool) → starts_with nat_eq text byte_order_mark ≡ b → IsReflowedBehind b options text reflowed
+      → IsBehind options (IsReflowedFrom options) (text-back options) text reflowed
+  opened true is of = unmarked options (IsReflowedFrom options) (text-back options) text reflowed true is of
+  opened false is of = unmarked options (IsReflowedFrom options) (text-back options) text reflowed false is of
+
+  closed : IsBehind options (IsReflowedFrom options) (text-back options) text reflowed
+      → (b : Bool) → starts_with nat_eq text byte_order_mark ≡ b → IsReflowedBehind b options text reflowed
+  closed of true is = remarked options (IsReflowedFrom options) (text-back options) text reflowed of true is
+  closed of false is = remarked options (IsReflowedFrom options) (text-back options) text reflowed of false is
+
+  pub parts-kept : IsReflowed options text reflowed
+      → AreSameParts options.ending (text_parts options (behind_mark text)) (text_parts options (behind_mark reflowed))
+  parts-kept is =
+      parts-same options (IsReflowedFrom options) (text-back options) text reflowed (opened _ refl is)
+
+  pub nothing-lost : HasPlainMarkers options → IsReflowed options text reflowed
+      → text_sense reflowed ≡ text_sense text
+  nothing-lost plain is =
+      sense-same options (IsReflowedFrom options) (text-back options) text reflowed plain (opened _ refl is)
+
+-- the same where only some lines are filled
+module _ (options : ReflowOptions) (range : LineRange) (text reflowed : List ℕ) where
+  opened-within : (b : Bool) → starts_with nat_eq text byte_order_mark ≡ b
+      → IsReflowedWithinBehind b options range text reflowed
+      → IsBehind options (IsReflowedWithinFrom options range) (within-back options range) text reflowed
+  opened-within true is of = unmarked options _ (within-back options range) text reflowed true is of
+  opened-within false is of = unmarked options _ (within-back options range) text reflowed false is of
+
+  pub parts-kept-within : IsReflowedWithin options range text reflowed
+      → AreSameParts options.ending (text_parts options (behind_mark text)) (text_parts options (behind_mark reflowed))
+  parts-kept-within is =
+      parts-same options _ (within-back options range) text reflowed (opened-within _ refl is)
+
+  pub nothing-lost-within : HasPlainMarkers options → IsReflowedWithin options range text reflowed
+      → text_sense reflowed ≡ text_sense text
+  nothing-lost-within plain is =
+      sense-same options _ (within-back options range) text reflowed plain (opened-within _ refl is)
+
+pub texts-stay : (options : ReflowOptions) (text reflowed : List ℕ) → IsReflowed options text reflowed
+    → IsReflowed options reflowed reflowed
+texts-stay options text reflowed is =
+    closed options reflowed reflowed
+    (refl, from-stays options (behind_mark text) (behind_mark reflowed) (opened options text reflowed _ refl is).1)
+    _ refl
+
+-- ---- another width first
+
+module _ (options : ReflowOptions) (width : ℕ) (algorithm : Algorithm) (text between reflowed : List ℕ) where
+  abbrev others : ReflowOptions
+  others = record options { width = width; algorithm = algorithm }
+
+  widths-from : (text between reflowed : List ℕ)
       → (length (slice_split (λ c. c == 10) between) ≡ 1
       → filled_ending options.ending between ≡ filled_ending options.ending text)
-      → IsReflowedFrom (record options { width = width; algorithm = algorithm }) text between
-      → IsReflowedFrom options between reflowed → IsReflowedFrom options text reflowed
-  widths-from width algorithm text between reflowed ends laid second =
-      from-other options text between (width-same options width algorithm plain text between laid)
-      (same (nat_lt 0 (length r.raws)) refl r.raws refl) reflowed second
-    where
-      r : IsTextBack (record options { width = width; algorithm = algorithm }) text between
-      r = text-back (record options { width = width; algorithm = algorithm }) plain text between laid
+      → IsReflowedFrom others text between → IsReflowedFrom options between reflowed
+      → IsReflowedFrom options text reflowed
+  widths-from text between reflowed ends laid second =
+      from-other options text between (width-same options width algorithm text between laid)
+      (⊎_elim (λ split. ends (ap length split)) (λ same. same)
+      (one-or-alike others text between (text-back others text between laid))) reflowed second
 
-      same : (b : Bool) → nat_lt 0 (length r.raws) ≡ b → (raws : List (List ℕ)) → r.raws ≡ raws
-          → filled_ending options.ending between ≡ filled_ending options.ending text
-      same true some raws is =
-          ends-alike (record options { width = width; algorithm = algorithm }) text between r some
-      same false some [] is =
-          ends (ap length (r.split ∙ ap (λ l. r.raw ∷ l) is))
-      same false some (raw ∷ raws) is =
-          absurd (true≢false (sym (lt-ltb 0 (length (raw ∷ raws)) (omega arith))
-          ∙ ap (λ l. nat_lt 0 (length l)) (sym is) ∙ some))
-
-  pub widths-same : (width : ℕ) (algorithm : Algorithm) (text between reflowed : List ℕ)
-      → KeepsEnding options text between
-      → IsReflowed (record options { width = width; algorithm = algorithm }) text between
+  pub widths-same : KeepsEnding options text between → IsReflowed others text between
       → IsReflowed options between reflowed → IsReflowed options text reflowed
-  widths-same width algorithm text between reflowed ends =
-      cut (starts_with nat_eq text byte_order_mark) refl
-    where
-      others : ReflowOptions
-      others = record options { width = width; algorithm = algorithm }
-
-      told : (t b : List ℕ) → behind_mark text ≡ t → behind_mark between ≡ b
-          → length (slice_split (λ c. c == 10) b) ≡ 1
-          → filled_ending options.ending b ≡ filled_ending options.ending t
-      told t b p q long =
-          ap (filled_ending options.ending) (sym q)
-          ∙ ends (ap (λ l. length (slice_split (λ c. c == 10) l)) q ∙ long)
-          ∙ ap (filled_ending options.ending) p
-
-      cut : (b : Bool) → starts_with nat_eq text byte_order_mark ≡ b
-          → IsReflowedBehind b (record options { width = width; algorithm = algorithm }) text between
-          → IsReflowed options between reflowed → IsReflowedBehind b options text reflowed
-      cut true is (rest, laid, whole) second =
-          let begins = marked rest between whole in
-          let (more, again, shown) = subst (λ b. IsReflowedBehind b options between reflowed) begins second
-          in (
-            more,
-            widths-from width algorithm (drop 3 text) rest more
-                (told (drop 3 text) rest (begins-so text true is)
-                (begins-so between true begins ∙ ap (drop 3) whole)) laid
-                (subst (λ t. IsReflowedFrom options t more) (ap (drop 3) whole) again),
-            shown,
-          )
-      cut false is laid second =
-          let r = text-back (record options { width = width; algorithm = algorithm }) plain text
-          between laid in
-          let begins = begins-alike (record options { width = width; algorithm = algorithm }) _ _ text
-          between r ∙ is in
-          widths-from width algorithm text between reflowed
-          (told text between (begins-so text false is) (begins-so between false begins)) laid
-          (subst (λ b. IsReflowedBehind b options between reflowed) begins second)
+  widths-same ends first second =
+      let (mark, laid) = opened others text between _ refl first in
+      let (same, again) = opened options between reflowed _ refl second in
+      closed options text reflowed
+      (same ∙ mark, widths-from (behind_mark text) (behind_mark between) (behind_mark reflowed) ends laid again)
+      _ refl

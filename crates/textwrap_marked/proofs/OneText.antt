@@ -1,17 +1,14 @@
 -- What becomes of a text is one text.
-use Rattle.textwrap_base.proofs.Common.{◌≡◌, ℕ, Bool, true, false, List, [], ◌∷◌, ◌++◌, sym, ap}
-use Rattle.textwrap_base.proofs.Common.{◌∙◌, priced_at, drop}
+use Rattle.textwrap_marked.proofs.Common.{◌≡◌, ℕ, Bool, true, false, List, [], ◌∷◌, ◌++◌, sym, ap}
+use Rattle.textwrap_marked.proofs.Common.{◌∙◌, drop, IsDividedBy, sizes_of, WordText, ending_bytes}
+use Rattle.textwrap_marked.proofs.Common.{blocks, is_beside, LineText, lines_of, algorithm_of}
+use Rattle.textwrap_marked.proofs.Common.{byte_order_mark, filled_end, filled_ending, IsLaidOut}
+use Rattle.textwrap_marked.proofs.Common.{IsOfBlock, IsReflowedBehind, IsReflowedFrom, printed}
+use Rattle.textwrap_marked.proofs.Common.{shown_lines, ReflowOptions}
+use Rattle.textwrap_base.proofs.Common.{priced_at}
 use Rattle.textwrap_base.proofs.Cost.Results.{by_table_one}
 use Rattle.textwrap_base.proofs.Division.Greedy.{greedy_unique}
-use Rattle.textwrap_words.proofs.Common.{Algorithm, Greedy, LeastCost, IsDividedBy, sizes_of}
-use Rattle.textwrap_words.proofs.Common.{WordText}
-use Rattle.textwrap_lines.specs.LineEnding.{ending_bytes}
-use Rattle.textwrap_marked.specs.Blocks.{blocks, is_beside}
-use Rattle.textwrap_marked.specs.Lines.{LineText, lines_of}
-use Rattle.textwrap_marked.specs.Reflow.{algorithm_of, byte_order_mark, filled_end, filled_ending}
-use Rattle.textwrap_marked.specs.Reflow.{IsLaidOut, IsOfBlock, IsReflowedBehind, IsReflowedFrom}
-use Rattle.textwrap_marked.specs.Reflow.{printed, shown_lines}
-use Rattle.textwrap_marked.specs.declared.options.ReflowOptions.{ReflowOptions}
+use Rattle.textwrap_words.proofs.Common.{Algorithm, Greedy, LeastCost}
 
 divided-one : (algorithm : Algorithm) (widths : List ℕ) (xs : List WordText)
     (lines others : List (List WordText)) → IsDividedBy algorithm sizes_of widths xs lines

@@ -1,18 +1,20 @@
 -- What is open behind a line that does not stand apart.
-use Rattle.textwrap_base.proofs.Common.{◌≡◌, ℕ, ◌&&◌, ◌||◌, not, Bool, true, false, cond, List}
-use Rattle.textwrap_base.proofs.Common.{[], ◌∷◌, All, All-cons, All-head, All-nil, All-tail, All-weaker, ap, arith}
-use Rattle.textwrap_base.proofs.Common.{cases_Bool, codes, eqb-true, list_any, nat_eq, nat_lt, nat_tests}
-use Rattle.textwrap_base.proofs.Common.{None, option_map, prefix_len, refl, Some, starts_with}
-use Rattle.textwrap_base.proofs.Common.{slice_index, sym, true≢false, false_from_ne_true, ◌∙◌, ◌==◌}
-use Rattle.std.proofs.lemmas.Slice.Eq.{bytes_eq-Decides}
-use Rattle.std.specs.Prelude.{bytes_eq, is_some}
+use Rattle.textwrap_marked.proofs.Common.{◌≡◌, ℕ, ◌&&◌, ◌||◌, not, Bool, true, false, cond, List}
+use Rattle.textwrap_marked.proofs.Common.{[], ◌∷◌, All, All-cons, All-head, All-nil, All-tail}
+use Rattle.textwrap_marked.proofs.Common.{All-weaker, ap, arith, cases_Bool, codes, eqb-true}
+use Rattle.textwrap_marked.proofs.Common.{list_any, nat_eq, nat_lt, nat_tests, None, prefix_len}
+use Rattle.textwrap_marked.proofs.Common.{refl, Some, starts_with, sym, true≢false}
+use Rattle.textwrap_marked.proofs.Common.{false_from_ne_true, ◌∙◌, ◌==◌, bytes_eq, is_some}
+use Rattle.textwrap_marked.proofs.Common.{deeper_by, has_words, LineText, new_fence, passed}
+use Rattle.textwrap_marked.proofs.Common.{StateText, begins_text, closes_block, first_word}
+use Rattle.textwrap_marked.proofs.Common.{front_of, has_columns, is_column_word, contains, has_byte}
+use Rattle.textwrap_marked.proofs.Common.{has_letter, SpacedText}
+use Rattle.textwrap_base.proofs.Common.{option_map, slice_index}
+use Rattle.textwrap_marked.proofs.Letterless.{lettered-other}
 use Rattle.textwrap_marked.specs.Columns.{depth_of, marks_of}
 use Rattle.textwrap_marked.specs.Fences.{has_pre_end, opened, opened_by, run_of}
-use Rattle.textwrap_marked.specs.Lines.{deeper_by, has_words, is_before, is_in_block, is_prompted, LineText}
-use Rattle.textwrap_marked.specs.Lines.{new_before, new_by, new_fence, passed, StateText}
-use Rattle.textwrap_marked.specs.Signs.{begins_text, closes_block, first_word, front_of, has_columns}
-use Rattle.textwrap_marked.specs.Signs.{is_column_word, is_gap, is_sign, is_sign_byte}
-use Rattle.textwrap_marked.specs.Words.{contains, has_byte, has_letter, SpacedText}
+use Rattle.textwrap_marked.specs.Lines.{is_before, is_in_block, is_prompted, new_before, new_by}
+use Rattle.textwrap_marked.specs.Signs.{is_gap, is_sign, is_sign_byte}
 use Rattle.textwrap_marked.specs.declared.fences.FenceKind.TheVariants.{Pre}
 
 pub or-left : (a b : Bool) → (a || b) ≡ false → a ≡ false
@@ -54,9 +56,7 @@ text-no-sign starred word is =
 pub text-other : (starred : Bool) (word other : List ℕ) → begins_text starred word ≡ true
     → has_letter other ≡ false → bytes_eq word other ≡ false
 text-other starred word other is none =
-    false_from_ne_true (bytes_eq word other) (λ same.
-    true≢false (sym (text-letter starred word is) ∙ ap has_letter ((bytes_eq-Decides word other).0 same)
-    ∙ none))
+    lettered-other word other (text-letter starred word is) none
 
 -- ---- tests that no element passes
 

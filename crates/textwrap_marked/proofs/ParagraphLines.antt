@@ -1,26 +1,26 @@
 -- The lines of a paragraph: the first one, those behind its hanging form, and others in their place.
-use Rattle.textwrap_base.proofs.Common.{◌≡◌, ℕ, ◌<◌, ◌&&◌, ◌||◌, not, Bool, true, false}
-use Rattle.textwrap_base.proofs.Common.{List, [], ◌∷◌, ◌++◌, All, ap, append-nil, append_assoc, codes}
-use Rattle.textwrap_base.proofs.Common.{length, refl, subst, sym, ◌∙◌, ◌==◌}
-use Rattle.textwrap_base.proofs.Common.{All-weaker, eqb-true, false_from_ne_true, list_any, true≢false}
-use Rattle.textwrap_base.proofs.Lists.Parts.{all-right}
-use Rattle.std.proofs.lemmas.Grind.{flat_map-append}
+use Rattle.textwrap_marked.proofs.Common.{◌≡◌, ℕ, ◌<◌, ◌&&◌, ◌||◌, not, Bool, true, false, List, []}
+use Rattle.textwrap_marked.proofs.Common.{◌∷◌, ◌++◌, All, ap, append-nil, append_assoc, codes}
+use Rattle.textwrap_marked.proofs.Common.{length, refl, subst, sym, ◌∙◌, ◌==◌, All-weaker, eqb-true}
+use Rattle.textwrap_marked.proofs.Common.{false_from_ne_true, list_any, true≢false, all-right}
+use Rattle.textwrap_marked.proofs.Common.{or-false, flat_map-append, line_of, LineText, StateText}
+use Rattle.textwrap_marked.proofs.Common.{without_returns, hanging_bullets, begins_text, first_word}
+use Rattle.textwrap_marked.proofs.Common.{is_key, has_byte, is_white, spaced_text, SpacedText}
+use Rattle.textwrap_marked.proofs.Common.{spaced_words, ReflowOptions}
 use Rattle.std.specs.Prelude.{None}
-use Rattle.textwrap_marked.proofs.FreeLines.{apart-free, AreFree, block_at, begun, field_of, free-apart}
-use Rattle.textwrap_marked.proofs.FreeLines.{IsOpen, some-none, starred_at}
-use Rattle.textwrap_marked.proofs.HangingForms.{bullets-white, IsHanging, hanging-is, or-false}
-use Rattle.textwrap_marked.proofs.HangingKinds.{before-full, full-before, hangs-same, HasNoMark, IsFull}
-use Rattle.textwrap_marked.proofs.HangingKinds.{kinds-same, marks-kinds, opens-none}
-use Rattle.textwrap_marked.proofs.LaterLines.{IsOfText, IsRead, kinds-first, line-read, text-line, words-some}
+use Rattle.textwrap_marked.proofs.FreeLines.{apart-free, AreFree, block_at, begun, field_of}
+use Rattle.textwrap_marked.proofs.FreeLines.{free-apart, IsOpen, some-none, starred_at}
+use Rattle.textwrap_marked.proofs.HangingForms.{bullets-white, IsHanging, hanging-is}
+use Rattle.textwrap_marked.proofs.HangingKinds.{before-full, full-before, hangs-same, HasNoMark}
+use Rattle.textwrap_marked.proofs.HangingKinds.{IsFull, kinds-same, marks-kinds, opens-none}
+use Rattle.textwrap_marked.proofs.LaterLines.{IsOfText, IsRead, kinds-first, line-read, text-line}
+use Rattle.textwrap_marked.proofs.LaterLines.{words-some}
 use Rattle.textwrap_marked.proofs.Letterless.{box-plain}
-use Rattle.textwrap_marked.proofs.LineKinds.{hanging_of, has_opening_in, HaveKinds, kinds, line-is, line_by}
+use Rattle.textwrap_marked.proofs.LineKinds.{hanging_of, has_opening_in, HaveKinds, kinds, line-is}
+use Rattle.textwrap_marked.proofs.LineKinds.{line_by}
 use Rattle.textwrap_marked.proofs.OpenBehind.{none-any, text-other}
-use Rattle.textwrap_marked.proofs.SpacedBack.{AreSpaced, IsLineText, IsWhite, lead-one, line-back, with_lead}
-use Rattle.textwrap_marked.specs.Lines.{line_of, LineText, StateText, without_returns}
-use Rattle.textwrap_marked.specs.Prefixes.{hanging_bullets}
-use Rattle.textwrap_marked.specs.Signs.{begins_text, first_word, is_key}
-use Rattle.textwrap_marked.specs.Words.{has_byte, is_white, spaced_text, SpacedText, spaced_words}
-use Rattle.textwrap_marked.specs.declared.options.ReflowOptions.{ReflowOptions}
+use Rattle.textwrap_marked.proofs.SpacedBack.{AreSpaced, IsLineText, IsWhite, lead-one, line-back}
+use Rattle.textwrap_marked.proofs.SpacedBack.{with_lead}
 
 pub all-spaced : (ks : List SpacedText) → All IsFull ks → AreSpaced ks
 all-spaced ks full = subst AreSpaced (append-nil ks) (full-before ks [] full tt)
@@ -167,7 +167,7 @@ module _ (options : ReflowOptions) (state : StateText) (raw : List ℕ) (fed : B
   first-some =
       words-some ws (begun (starred_at options state (kinds lead cs qs bs ws)) ws first-free.1.begins)
 
-  first-parts : All IsFull (cs ++ (qs ++ bs)) × AreSpaced ws
+  pub first-parts : All IsFull (cs ++ (qs ++ bs)) × AreSpaced ws
   first-parts =
       before-full (cs ++ (qs ++ bs)) ws first-some
       (subst AreSpaced (regroup cs qs bs ws) read.text.spaced)

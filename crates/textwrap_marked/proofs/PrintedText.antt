@@ -1,27 +1,23 @@
 -- The text of a paragraph as it is printed is its lines, with a line feed between each two.
-use Rattle.textwrap_base.proofs.Common.{◌≡◌, ◌≢◌, ℕ, ◌-◌, ◌&&◌, Bool, true, false, cond, List, []}
-use Rattle.textwrap_base.proofs.Common.{◌∷◌, ◌++◌, All, All-append, All-cons, All-head, All-nil, All-tail}
-use Rattle.textwrap_base.proofs.Common.{ap, append-nil, append_assoc, arith, codes, drop, ends_with, flat_map}
-use Rattle.textwrap_base.proofs.Common.{join_with_byte, length, map, nat_eq, nat_lt, refl, subst, suc, sym, ◌∙◌, ◌==◌}
-use Rattle.textwrap_base.proofs.Common.{eqb-true, false_from_ne_true, get_or, true≢false}
-use Rattle.textwrap_base.proofs.Lists.Parts.{all-left, all-right}
-use Rattle.textwrap_words.proofs.Common.{blank, WordText}
-use Rattle.textwrap_lines.specs.Paragraph.{covered}
-use Rattle.textwrap_marked.proofs.AnewLines.{return-feedless}
+use Rattle.textwrap_marked.proofs.Common.{◌≡◌, ◌≢◌, ℕ, ◌-◌, ◌&&◌, Bool, true, false, cond, List, []}
+use Rattle.textwrap_marked.proofs.Common.{◌∷◌, ◌++◌, All, All-append, All-cons, All-head, All-nil}
+use Rattle.textwrap_marked.proofs.Common.{All-tail, ap, append-nil, append_assoc, arith, codes}
+use Rattle.textwrap_marked.proofs.Common.{drop, ends_with, flat_map, join_with_byte, length, nat_eq}
+use Rattle.textwrap_marked.proofs.Common.{nat_lt, refl, subst, suc, sym, ◌∙◌, ◌==◌, eqb-true}
+use Rattle.textwrap_marked.proofs.Common.{false_from_ne_true, true≢false, All-weaker, all-left}
+use Rattle.textwrap_marked.proofs.Common.{all-right, LineText, break_white, ending_if, filled_end}
+use Rattle.textwrap_marked.proofs.Common.{last_white, is_white, spaced_text, SpacedText}
+use Rattle.textwrap_marked.proofs.Common.{ReflowOptions}
+use Rattle.textwrap_marked.proofs.AnewLines.{end-parts, return-feedless}
 use Rattle.textwrap_marked.proofs.Feedless.{IsFeedless, NoFeed}
 use Rattle.textwrap_marked.proofs.KeptLines.{join-more}
-use Rattle.textwrap_marked.proofs.LineWords.{AreCutInto, joined, spread}
+use Rattle.textwrap_marked.proofs.LineWords.{all_shown, AreCutInto, gap, shown, spread}
 use Rattle.textwrap_marked.proofs.NewLines.{later_raws, line_raw, returns_at, text_end}
 use Rattle.textwrap_marked.proofs.ReturnsOff.{return_if}
 use Rattle.textwrap_marked.proofs.SpacedBack.{AreSpaced, IsWhite}
-use Rattle.textwrap_marked.proofs.SpreadWords.{last-more, spread-end}
+use Rattle.textwrap_marked.proofs.SpreadWords.{gap-white, last-more, spread-end}
 use Rattle.textwrap_marked.proofs.TextBlocks.{last_line}
-use Rattle.textwrap_marked.specs.Lines.{LineText}
-use Rattle.textwrap_marked.specs.Reflow.{break_white, ending_if, filled_end, first_room, later_room}
-use Rattle.textwrap_marked.specs.Reflow.{line_texts, printed, shown_lines}
-use Rattle.textwrap_marked.specs.Signs.{first_white, last_white}
-use Rattle.textwrap_marked.specs.Words.{is_white, spaced_text, SpacedText}
-use Rattle.textwrap_marked.specs.declared.options.ReflowOptions.{ReflowOptions}
+use Rattle.textwrap_marked.specs.Signs.{first_white}
 
 -- ---- what stands behind the last line
 
@@ -84,7 +80,8 @@ break-spaced line are =
 
 -- ---- the lines
 
-module _ (returns : Bool) (end hanging : List ℕ) (left : List (List ℕ)) where
+module _ (justify : Bool) (wide : ℕ → ℕ → ℕ) (returns : Bool) (end hanging : List ℕ)
+    (left : List (List ℕ)) where
   abbrev more : Bool
   more = returns && nat_lt 0 (length left)
 
@@ -94,76 +91,34 @@ module _ (returns : Bool) (end hanging : List ℕ) (left : List (List ℕ)) wher
   abbrev tail : List ℕ
   tail = (end ++ ending_if (nat_lt 0 (length left)) ending) ++ join_with_byte 10 left
 
-  end-parts : (fed : Bool)
-      → ending_if fed ending ≡ return_if (returns && fed) ++ ending_if fed (10 ∷ [])
-  end-parts true = ap (λ b. return_if b ++ 10 ∷ []) (yes returns)
-    where
-      yes : (b : Bool) → b ≡ (b && true)
-      yes true = refl
-      yes false = refl
-  end-parts false = ap (λ b. return_if b ++ []) (none returns)
-    where
-      none : (b : Bool) → false ≡ (b && false)
-      none true = refl
-      none false = refl
-
   pub text-joined : (lines : List (List (List ℕ))) (prefix word : List ℕ) (words : List (List ℕ))
       → All (λ l. l ≢ []) lines
-      → ((prefix ++ joined (word ∷ words))
-      ++ flat_map (λ t. (ending ++ hanging) ++ t) (map joined lines)) ++ tail
-      ≡ join_with_byte 10 (line_raw returns more end prefix (word ∷ words) lines
-      ∷ (later_raws returns more end hanging lines ++ left))
+      → ((prefix ++ shown justify (wide (length lines)) (word ∷ words))
+      ++ flat_map (λ t. (ending ++ hanging) ++ t) (all_shown justify wide lines)) ++ tail
+      ≡ join_with_byte 10 (line_raw justify wide returns more end prefix (word ∷ words) lines
+      ∷ (later_raws justify wide returns more end hanging lines ++ left))
   text-joined [] prefix word words some =
-      let text = joined (word ∷ words) in
+      let text = shown justify (wide 0) (word ∷ words) in
       let fed = nat_lt 0 (length left) in
       let rest = join_with_byte 10 left in
-      let shown : ((prefix ++ text) ++ []) ++ ((end ++ (return_if more ++ ending_if fed (10 ∷ []))) ++ rest)
+      let grouped : ((prefix ++ text) ++ []) ++ ((end ++ (return_if more ++ ending_if fed (10 ∷ []))) ++ rest)
       ≡ (((prefix ++ (text ++ end)) ++ return_if more) ++ ending_if fed (10 ∷ [])) ++ rest =
       simp (append_assoc, append-nil) in
-      ap (λ e. ((prefix ++ text) ++ []) ++ ((end ++ e) ++ rest)) (end-parts fed)
-      ∙ shown
+      ap (λ e. ((prefix ++ text) ++ []) ++ ((end ++ e) ++ rest)) (end-parts returns fed)
+      ∙ grouped
       ∙ ap (λ t. (((prefix ++ t) ++ return_if more) ++ ending_if fed (10 ∷ [])) ++ rest)
-      (sym (spread-end word words end))
-      ∙ sym (join-more (line_raw returns more end prefix (word ∷ words) []) left)
+      (sym (spread-end justify (wide 0) word words end))
+      ∙ sym (join-more (line_raw justify wide returns more end prefix (word ∷ words) []) left)
   text-joined ([] ∷ lines) prefix word words some = absurd (All-head (λ l. l ≢ []) [] lines some refl)
   text-joined ((next ∷ others) ∷ lines) prefix word words some =
-      let text = joined (word ∷ words) in
-      let after = joined (next ∷ others) in
-      let flat = flat_map (λ t. (ending ++ hanging) ++ t) (map joined lines) in
-      let shown : ((prefix ++ text) ++ (((ending ++ hanging) ++ after) ++ flat)) ++ tail
+      let text = shown justify (wide (length ((next ∷ others) ∷ lines))) (word ∷ words) in
+      let after = shown justify (wide (length lines)) (next ∷ others) in
+      let flat = flat_map (λ t. (ending ++ hanging) ++ t) (all_shown justify wide lines) in
+      let grouped : ((prefix ++ text) ++ (((ending ++ hanging) ++ after) ++ flat)) ++ tail
       ≡ ((prefix ++ text) ++ return_if returns) ++ (10 ∷ (((hanging ++ after) ++ flat) ++ tail)) =
       simp append_assoc in
-      shown ∙ ap (λ l. ((prefix ++ text) ++ return_if returns) ++ (10 ∷ l))
+      grouped ∙ ap (λ l. ((prefix ++ text) ++ return_if returns) ++ (10 ∷ l))
       (text-joined lines hanging next others (All-tail (λ l. l ≢ []) (next ∷ others) lines some))
-
--- lines that are not justified are printed as they are
-pub shown-plain : (options : ReflowOptions) (first : LineText) (division : List (List WordText))
-    → options.justify ≡ false → shown_lines options first division ≡ map covered division
-shown-plain options first division plain =
-    ap (λ j. line_texts j (first_room options first) (later_room options first) division) plain
-    ∙ all (first_room options first) (later_room options first) division
-  where
-    all : (room later : ℕ) (lines : List (List WordText))
-        → line_texts false room later lines ≡ map covered lines
-    all room later [] = refl
-    all room later (line ∷ lines) = ap (λ l. covered line ∷ l) (all later later lines)
-
--- the text of a division of which this is the rest of the lines
-pub printed-joined : (ending first later end : List ℕ) (line : List WordText)
-    (division : List (List WordText)) (words : List (List ℕ)) (lines : List (List (List ℕ)))
-    → map covered (line ∷ division) ≡ map joined (words ∷ lines)
-    → printed ending first later (map covered (line ∷ division)) ++ end
-    ≡ ((first ++ joined words) ++ flat_map (λ t. (ending ++ later) ++ t) (map joined lines)) ++ end
-printed-joined ending first later end line division words lines is =
-    ap (λ l. ((first ++ first_of l) ++ flat_map (λ t. (ending ++ later) ++ t) (rest_of l)) ++ end) is
-  where
-    first_of : List (List ℕ) → List ℕ
-    first_of [] = []
-    first_of (l ∷ ls) = l
-
-    rest_of : List (List ℕ) → List (List ℕ)
-    rest_of [] = []
-    rest_of (l ∷ ls) = ls
 
 -- ---- no line feed
 
@@ -171,41 +126,43 @@ white-feedless : (c : ℕ) → IsWhite c → NoFeed c
 white-feedless c white =
     false_from_ne_true (c == 10) (λ is. true≢false (sym white ∙ ap is_white (eqb-true c 10 is)))
 
-spread-feedless : (words : List (List ℕ)) (end : List ℕ) → All IsFeedless words → IsFeedless end
-    → IsFeedless (spaced_text (spread words end))
-spread-feedless [] end all free = All-nil NoFeed
-spread-feedless (word ∷ []) end all free =
+spread-feedless : (justify : Bool) (gaps : ℕ → ℕ) (words : List (List ℕ)) (end : List ℕ)
+    → All IsFeedless words → IsFeedless end → IsFeedless (spaced_text (spread justify gaps words end))
+spread-feedless justify gaps [] end all free = All-nil NoFeed
+spread-feedless justify gaps (word ∷ []) end all free =
     All-append NoFeed (word ++ end) []
     (All-append NoFeed word end (All-head IsFeedless word [] all) free) (All-nil NoFeed)
-spread-feedless (word ∷ next ∷ words) end all free =
-    All-append NoFeed (word ++ blank ∷ []) (spaced_text (spread (next ∷ words) end))
-    (All-append NoFeed word (blank ∷ []) (All-head IsFeedless word (next ∷ words) all)
-    (All-cons NoFeed blank [] refl (All-nil NoFeed)))
-    (spread-feedless (next ∷ words) end (All-tail IsFeedless word (next ∷ words) all) free)
+spread-feedless justify gaps (word ∷ next ∷ words) end all free =
+    let white = gap justify gaps (length words) in
+    All-append NoFeed (word ++ white) (spaced_text (spread justify gaps (next ∷ words) end))
+    (All-append NoFeed word white (All-head IsFeedless word (next ∷ words) all)
+    (All-weaker IsWhite NoFeed white-feedless white (gap-white justify gaps (length words))))
+    (spread-feedless justify gaps (next ∷ words) end (All-tail IsFeedless word (next ∷ words) all) free)
 
-module _ (options : ReflowOptions) (starred returns more : Bool) (end hanging : List ℕ)
-    (white : All IsWhite end) (hung : IsFeedless hanging) where
+module _ (options : ReflowOptions) (starred : Bool) (wide : ℕ → ℕ → ℕ) (returns more : Bool)
+    (end hanging : List ℕ) (white : All IsWhite end) (hung : IsFeedless hanging) where
   end-feedless : (lines : List (List (List ℕ))) → IsFeedless (text_end end lines)
-  end-feedless [] = λ k d within. white-feedless (get_or end k d) (white k d within)
+  end-feedless [] = All-weaker IsWhite NoFeed white-feedless end white
   end-feedless (line ∷ lines) = All-nil NoFeed
 
   line-feedless : (lines : List (List (List ℕ))) (prefix : List ℕ) (words later : List (List ℕ))
       → IsFeedless prefix → All IsFeedless (words ++ later)
-      → All IsFeedless (later_raws returns more end hanging lines)
+      → All IsFeedless (later_raws options.justify wide returns more end hanging lines)
       → All IsFeedless
-      (line_raw returns more end prefix words lines ∷ later_raws returns more end hanging lines)
+      (line_raw options.justify wide returns more end prefix words lines ∷ later_raws options.justify wide returns more end hanging lines)
   line-feedless lines prefix words later free all behind =
-      let text = spaced_text (spread words (text_end end lines)) in
-      All-cons IsFeedless (line_raw returns more end prefix words lines)
-      (later_raws returns more end hanging lines)
+      let gaps = wide (length lines) in
+      let text = spaced_text (spread options.justify gaps words (text_end end lines)) in
+      All-cons IsFeedless (line_raw options.justify wide returns more end prefix words lines)
+      (later_raws options.justify wide returns more end hanging lines)
       (All-append NoFeed (prefix ++ text) (return_if (returns_at returns more lines))
       (All-append NoFeed prefix text free
-      (spread-feedless words (text_end end lines) (all-left IsFeedless words later all) (end-feedless lines)))
+      (spread-feedless options.justify gaps words (text_end end lines) (all-left IsFeedless words later all) (end-feedless lines)))
       (return-feedless (returns_at returns more lines))) behind
 
   later-feedless : (lines : List (List (List ℕ))) (later : List (List ℕ))
       → AreCutInto options starred later lines → All IsFeedless later
-      → All IsFeedless (later_raws returns more end hanging lines)
+      → All IsFeedless (later_raws options.justify wide returns more end hanging lines)
   later-feedless [] later cut all = All-nil IsFeedless
   later-feedless (words ∷ lines) later (behind, some, is, may, cut) all =
       let each = subst (All IsFeedless) is all in
@@ -215,7 +172,7 @@ module _ (options : ReflowOptions) (starred returns more : Bool) (end hanging : 
   pub raws-feedless : (lines : List (List (List ℕ))) (prefix : List ℕ) (words later : List (List ℕ))
       → IsFeedless prefix → AreCutInto options starred later lines → All IsFeedless (words ++ later)
       → All IsFeedless
-      (line_raw returns more end prefix words lines ∷ later_raws returns more end hanging lines)
+      (line_raw options.justify wide returns more end prefix words lines ∷ later_raws options.justify wide returns more end hanging lines)
   raws-feedless lines prefix words later free cut all =
       line-feedless lines prefix words later free all
       (later-feedless lines later cut (all-right IsFeedless words later all))

@@ -1,22 +1,20 @@
 -- What the printed lines of a paragraph keep to.
-use Rattle.textwrap_base.proofs.Common.{◌≡◌, ℕ, ◌+◌, ◌-◌, ◌<◌, ◌≤◌, true, List, [], ◌∷◌, All}
-use Rattle.textwrap_base.proofs.Common.{All-cons, All-head, All-nil, All-tail, AllFit}
-use Rattle.textwrap_base.proofs.Common.{AreEqualFromSecond, arith, closed_width, Fits, inl, inr}
-use Rattle.textwrap_base.proofs.Common.{length, length-drop, lt-ltb, refl, reverse, reverse-append}
-use Rattle.textwrap_base.proofs.Common.{subst, sym, ap, ◌∙◌, take_all}
+use Rattle.textwrap_marked.proofs.Common.{◌≡◌, ℕ, ◌+◌, ◌-◌, ◌<◌, ◌≤◌, true, List, [], ◌∷◌, All}
+use Rattle.textwrap_marked.proofs.Common.{All-cons, All-head, All-nil, All-tail, arith, inl, inr}
+use Rattle.textwrap_marked.proofs.Common.{length, lt-ltb, refl, reverse, subst, sym, ap, ◌∙◌}
+use Rattle.textwrap_marked.proofs.Common.{take_all, suffix_len-le-length, IsDivision, blank}
+use Rattle.textwrap_marked.proofs.Common.{is_blank, sizes_of, word_of, WordText, covered}
+use Rattle.textwrap_marked.proofs.Common.{piece_words, LineText, line_text, line_texts}
+use Rattle.textwrap_marked.proofs.Common.{ReflowOptions}
+use Rattle.textwrap_base.proofs.Common.{AllFit, AreEqualFromSecond, closed_width, Fits, length-drop}
+use Rattle.textwrap_base.proofs.Common.{reverse-append}
 use Rattle.std.specs.List.{prefix_len, suffix_len}
-use Rattle.std.proofs.lemmas.List.Sums.{suffix_len-le-length}
-use Rattle.textwrap_base.specs.Division.{IsDivision}
 use Rattle.textwrap_base.proofs.Division.Greedy.{line_width-later}
-use Rattle.textwrap_words.proofs.Common.{blank, is_blank, sizes_of, trimmed_len, word_of, WordText}
-use Rattle.textwrap_lines.specs.Paragraph.{covered}
+use Rattle.textwrap_words.proofs.Common.{trimmed_len}
 use Rattle.textwrap_display.proofs.Widths.{justified-width}
 use Rattle.textwrap_marked.proofs.BlankPieces.{division-all, EndsInBlank, words-all}
 use Rattle.textwrap_marked.specs.Columns.{columns}
-use Rattle.textwrap_marked.specs.Laws.{AreAsWide, AreWithin, IsAsWide, IsWithin, piece_words}
-use Rattle.textwrap_marked.specs.Lines.{LineText}
-use Rattle.textwrap_marked.specs.Reflow.{line_text, line_texts}
-use Rattle.textwrap_marked.specs.declared.options.ReflowOptions.{ReflowOptions}
+use Rattle.textwrap_marked.specs.Laws.{AreAsWide, AreWithin, IsAsWide, IsWithin}
 
 abbrev HasBlank : WordText → Type 0
 HasBlank w = 0 < length w.whitespace

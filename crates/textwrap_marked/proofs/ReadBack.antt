@@ -1,23 +1,24 @@
 -- What is printed of the blocks of a text, read again.
-use Rattle.textwrap_base.proofs.Common.{◌≡◌, ℕ, ◌||◌, Bool, true, false, List, []}
-use Rattle.textwrap_base.proofs.Common.{◌∷◌, ◌++◌, All, All-append, ap}
-use Rattle.textwrap_base.proofs.Common.{arith, flat_map, join_with_byte, length}
-use Rattle.textwrap_base.proofs.Common.{map, nat_lt, refl, subst, sym, true≢false, ◌∙◌}
-use Rattle.textwrap_base.proofs.Lists.Parts.{all-left, all-right, flat}
-use Rattle.textwrap_marked.proofs.AnewLines.{anew, IsTold, kept-anew, last-anew, one-anew}
+use Rattle.textwrap_marked.proofs.Common.{◌≡◌, ℕ, ◌||◌, Bool, true, false, List, [], ◌∷◌, ◌++◌, All}
+use Rattle.textwrap_marked.proofs.Common.{All-append, ap, arith, flat_map, join_with_byte, length}
+use Rattle.textwrap_marked.proofs.Common.{map, nat_lt, refl, subst, sym, ◌∙◌, all-left}
+use Rattle.textwrap_marked.proofs.Common.{all-right, flat, ap₂, flat_map-append, is_beside, stays}
+use Rattle.textwrap_marked.proofs.Common.{AreSameParts, HasPlainMarkers, IsSameBy, line_sense}
+use Rattle.textwrap_marked.proofs.Common.{parts_of_blocks, LineText, StateText, IsLaidOut, words_of}
+use Rattle.textwrap_marked.proofs.Common.{kept_line, ReflowOptions, ◌+◌, cases_Bool, IsOfBlock, not}
+use Rattle.textwrap_marked.proofs.PrintedText.{ends_as, filled-last}
+use Rattle.textwrap_marked.specs.Within.{IsLaidOutWithin, touches}
+use Rattle.textwrap_marked.specs.declared.within.LineRange.{LineRange}
+use Rattle.textwrap_marked.proofs.AnewLines.{anew, anew_raw, IsTold, kept-anew, last-anew, one-anew}
 use Rattle.textwrap_marked.proofs.BegunAlike.{AreBegun}
 use Rattle.textwrap_marked.proofs.BlockOrder.{AreBlocks}
 use Rattle.textwrap_marked.proofs.BlocksAlike.{part-cons, part_of, stops-same}
 use Rattle.textwrap_marked.proofs.Feedless.{IsFeedless}
 use Rattle.textwrap_marked.proofs.FenceMarks.{IsSafe}
-use Rattle.textwrap_marked.proofs.KeptLines.{AreHeads, IsHeadAlike, keep}
+use Rattle.textwrap_marked.proofs.KeptLines.{AreHeads, head-same, keep}
 use Rattle.textwrap_marked.proofs.ReturnsOff.{return_if}
 use Rattle.textwrap_marked.proofs.TextBlocks.{last_line, read}
-use Rattle.textwrap_marked.specs.Blocks.{is_beside, stays}
-use Rattle.textwrap_marked.specs.Laws.{AreSameParts, IsSameBy, parts_of_blocks}
-use Rattle.textwrap_marked.specs.Lines.{LineText, StateText}
-use Rattle.textwrap_marked.specs.Reflow.{IsLaidOut, kept_line, kept_text}
-use Rattle.textwrap_marked.specs.declared.options.ReflowOptions.{ReflowOptions}
+use Rattle.textwrap_marked.specs.Reflow.{kept_text}
 
 module _ (options : ReflowOptions) (returns : Bool) (told : IsTold options.ending returns) where
   abbrev pub ending : List ℕ
@@ -36,24 +37,64 @@ module _ (options : ReflowOptions) (returns : Bool) (told : IsTold options.endin
     pub heads : AreHeads (flat bs) (flat blocks)
     pub some : nat_lt 0 (length again) ≡ nat_lt 0 (length raws)
     pub begun : AreBegun returns raws again
+    pub sense : HasPlainMarkers options → flat_map line_sense again ≡ flat_map line_sense raws
+
+  -- one block after the other: those that stay, and others or none, are as they were
+  abbrev pub IsLaidOutAny : Bool → List (List LineText) → List ℕ → Type 0
+  IsLaidOutAny beside [] text = text ≡ []
+  IsLaidOutAny beside ([] ∷ bs) text = IsLaidOutAny beside bs text
+  IsLaidOutAny beside ((first ∷ lines) ∷ bs) text =
+      (is_kept : Bool) × (stays (beside || is_beside first bs) first ≡ true → is_kept ≡ true)
+      × (front : List ℕ) × (back : List ℕ) × IsOfBlock options ending is_kept first (first ∷ lines) front
+      × IsLaidOutAny (is_beside first bs) bs back × (text ≡ front ++ back)
+
+  pub laid-any : (bs : List (List LineText)) (beside : Bool) (text : List ℕ)
+      → IsLaidOut options ending beside bs text → IsLaidOutAny beside bs text
+  laid-any [] beside text laid = laid
+  laid-any ([] ∷ bs) beside text laid = laid-any bs beside text laid
+  laid-any ((first ∷ lines) ∷ bs) beside text (front, back, of, later, is) = (
+    stays (beside || is_beside first bs) first,
+    (λ kept. kept),
+    front,
+    back,
+    of,
+    laid-any bs (is_beside first bs) back later,
+    is,
+  )
+
+  pub within-any : (range : LineRange) (start : ℕ) (bs : List (List LineText)) (beside : Bool) (text : List ℕ)
+      → IsLaidOutWithin options range ending start beside bs text → IsLaidOutAny beside bs text
+  within-any range start [] beside text laid = laid
+  within-any range start ([] ∷ bs) beside text laid = within-any range start bs beside text laid
+  within-any range start ((first ∷ lines) ∷ bs) beside text (front, back, of, later, is) =
+      let end = start + length (first ∷ lines) in (
+        stays (beside || is_beside first bs || not (touches range start end)) first,
+        more first.apart first.chosen beside (is_beside first bs) (not (touches range start end)),
+        front,
+        back,
+        of,
+        within-any range end bs (is_beside first bs) back later,
+        is,
+      )
+    where
+      more : (a c b n o : Bool) → (a || not c || (b || n)) ≡ true → (a || not c || (b || n || o)) ≡ true
+      more a c b n o is = grind (arith, cases_Bool)
 
   abbrev pub Walks : Bool → List (List LineText) → Type 0
   Walks beside bs =
       (state : StateText) (raws : List (List ℕ)) (text : List ℕ) → flat bs ≡ read options state raws
-      → IsLaidOut options ending beside bs text → IsSafe options state → All IsFeedless raws
+      → IsLaidOutAny beside bs text → IsSafe options state → All IsFeedless raws
       → IsReadBack state beside bs raws text
 
-  -- a block that stays
+  -- a block that is as it was
   pub kept-step : (beside : Bool) (first : LineText) (lines : List LineText) (bs : List (List LineText))
       → Walks (is_beside first bs) bs → AreBlocks ((first ∷ lines) ∷ bs)
-      → stays (beside || is_beside first bs) first ≡ true
       → (state : StateText) (raws : List (List ℕ)) (front back : List ℕ)
       → (first ∷ lines) ++ flat bs ≡ read options state raws → front ≡ kept_text options (first ∷ lines)
-      → IsLaidOut options ending (is_beside first bs) bs back → IsSafe options state
+      → IsLaidOutAny (is_beside first bs) bs back → IsSafe options state
       → All IsFeedless raws
       → IsReadBack state beside ((first ∷ lines) ∷ bs) raws (front ++ back)
-  kept-step beside first lines bs walks (one, stops, are) stay state raws front back reads is laid safe
-      free =
+  kept-step beside first lines bs walks (one, stops, are) state raws front back reads is laid safe free =
       let all = first ∷ lines in
       let e = options.ending in
       let k = keep options returns told all state raws (flat bs) safe reads in
@@ -61,6 +102,7 @@ module _ (options : ReflowOptions) (returns : Bool) (told : IsTold options.endin
       let later = walks k.behind k.left back k.reads laid k.safe (all-right IsFeedless k.kept k.left parts)
       in
       let last = last_line first lines in
+      let head = head-same first (anew_raw e returns first.fed first.raw) in
       let news = map (anew e returns) lines in record {
         again = k.news ++ later.again;
         blocks = (anew e returns first ∷ news) ∷ later.blocks;
@@ -76,31 +118,40 @@ module _ (options : ReflowOptions) (returns : Bool) (told : IsTold options.endin
           later.are,
         );
         same = part-cons e beside first (anew e returns first) lines news bs later.blocks
-            (head-anew first) are later.are later.heads later.same
-            (kept (stays (beside || is_beside first bs) first) stay);
+            head are later.are later.heads later.same
+            (kept (stays (beside || is_beside first bs) first));
         text_is = ap (λ l. l ++ back) is
             ∙ ap (λ l. flat_map (kept_line e) all ++ l) later.text_is ∙ k.text later.again later.some;
         feedless = All-append IsFeedless k.news later.again
             (k.feedless (all-left IsFeedless k.kept k.left parts)) later.feedless;
-        heads = head-anew first;
+        heads = head;
         some = k.fed_same later.again later.some ∙ ap (λ l. nat_lt 0 (length l)) (sym k.whole);
         begun = subst (λ l. AreBegun returns l (k.news ++ later.again)) (sym k.whole)
             (k.begun later.again later.some (omega arith));
+        sense = λ plain.
+            flat_map-append line_sense k.news later.again
+            ∙ ap₂ (λ a b. a ++ b) k.sense (later.sense plain)
+            ∙ sym (ap (flat_map line_sense) k.whole ∙ flat_map-append line_sense k.kept k.left);
       }
     where
-      head-anew : (line : LineText) → IsHeadAlike line (anew options.ending returns line)
-      head-anew line = record {
-        prefix = refl;
-        hangs = refl;
-        field = refl;
-        chosen = refl;
-        apart = refl;
-        rule = refl;
-        opens = refl;
-      }
+      new : LineText → LineText
+      new line = anew options.ending returns line
 
-      kept : (b : Bool) → b ≡ true
-          → IsSameBy options.ending b (part_of b first lines)
-          (part_of b (anew options.ending returns first) (map (anew options.ending returns) lines))
-      kept true is = (refl, kept-anew options.ending returns (first ∷ lines))
-      kept false is = absurd (true≢false (sym is))
+      same-words : (lines : List LineText) → words_of (map new lines) ≡ words_of lines
+      same-words [] = refl
+      same-words (line ∷ lines) = ap (λ l. map (λ w. w.word) line.words ++ l) (same-words lines)
+
+      kept : (b : Bool) → IsSameBy options.ending b (part_of b first lines) (part_of b (new first) (map new lines))
+      kept true = (refl, kept-anew options.ending returns (first ∷ lines))
+      kept false = (
+        refl,
+        record {
+          prefix = refl;
+          hanging = refl;
+          starred = refl;
+          words = same-words (first ∷ lines);
+          end = λ ending. filled-last ending (new first) (map new lines)
+              ∙ ap (ends_as ending) (last-anew options.ending returns first lines)
+              ∙ sym (filled-last ending first lines);
+        },
+      )

@@ -1,18 +1,16 @@
 -- Carriage returns behind a line of words are no part of it.
-use Rattle.textwrap_base.proofs.Common.{◌≡◌, ℕ, ◌+◌, ◌-◌, ◌<◌, Bool, true, false, cond, List, [], ◌∷◌}
-use Rattle.textwrap_base.proofs.Common.{◌++◌, All, All-head, All-tail, ap, append-nil, append_assoc}
-use Rattle.textwrap_base.proofs.Common.{arith, get_or, length, length-append, prefix_len, refl, reverse}
-use Rattle.textwrap_base.proofs.Common.{reverse-append, suffix_len, sym, take, take_all, take_at, take_more}
-use Rattle.textwrap_base.proofs.Common.{true≢false, eqb-true, ◌∙◌}
+use Rattle.textwrap_marked.proofs.Common.{◌≡◌, ℕ, ◌+◌, ◌-◌, ◌<◌, Bool, true, false, cond, List, []}
+use Rattle.textwrap_marked.proofs.Common.{◌∷◌, ◌++◌, All, All-head, All-tail, ap, append-nil}
+use Rattle.textwrap_marked.proofs.Common.{append_assoc, arith, get_or, length, length-append}
+use Rattle.textwrap_marked.proofs.Common.{prefix_len, refl, reverse, suffix_len, sym, take}
+use Rattle.textwrap_marked.proofs.Common.{take_all, take_more, true≢false, eqb-true, ◌∙◌, is_return}
+use Rattle.textwrap_marked.proofs.Common.{without_returns, is_column_word, is_white}
+use Rattle.textwrap_base.proofs.Common.{reverse-append, take_at}
 use Rattle.std.proofs.lemmas.List.Elements.{All-get_or}
-use Rattle.textwrap_words.proofs.Common.{blank}
-use Rattle.textwrap_marked.proofs.LineWords.{joined}
+use Rattle.textwrap_marked.proofs.LineWords.{gap, shown}
 use Rattle.textwrap_marked.proofs.OpenBehind.{any-none, no-return}
 use Rattle.textwrap_marked.proofs.SpacedBack.{IsWhite}
 use Rattle.textwrap_marked.proofs.WordsIn.{IsPlain}
-use Rattle.textwrap_marked.specs.Lines.{is_return, without_returns}
-use Rattle.textwrap_marked.specs.Signs.{is_column_word}
-use Rattle.textwrap_marked.specs.Words.{is_white}
 
 -- a text whose last byte is no carriage return
 abbrev pub EndsWell : List ℕ → Type 0
@@ -44,16 +42,17 @@ white-return c white = cut (is_return c) refl
         let bad : is_white 13 ≡ true = sym (ap is_white (eqb-true c 13 is)) ∙ white in
         absurd (true≢false (sym bad))
 
--- a word and others with blanks between them, and white behind them
-pub joined-end : (word : List ℕ) (words : List (List ℕ)) → All IsPlain (word ∷ words)
-    → All (λ w. is_column_word w ≡ false) (word ∷ words) → EndsWell (joined (word ∷ words))
-joined-end word [] plain none =
+-- the text of a line, and white behind it
+pub shown-end : (justify : Bool) (gaps : ℕ → ℕ) (word : List ℕ) (words : List (List ℕ))
+    → All IsPlain (word ∷ words) → All (λ w. is_column_word w ≡ false) (word ∷ words)
+    → EndsWell (shown justify gaps (word ∷ words))
+shown-end justify gaps word [] plain none =
     let (front, c, is, other) = word-end word (All-head IsPlain word [] plain)
     (All-head (λ w. is_column_word w ≡ false) word [] none) in
     (front, c, append-nil (word ++ []) ∙ append-nil word ∙ is, other)
-joined-end word (next ∷ words) plain none =
-    ends-behind (word ++ blank ∷ []) (joined (next ∷ words))
-    (joined-end next words (All-tail IsPlain word (next ∷ words) plain)
+shown-end justify gaps word (next ∷ words) plain none =
+    ends-behind (word ++ gap justify gaps (length words)) (shown justify gaps (next ∷ words))
+    (shown-end justify gaps next words (All-tail IsPlain word (next ∷ words) plain)
     (All-tail (λ w. is_column_word w ≡ false) word (next ∷ words) none))
 
 pub white-end : (text end : List ℕ) → EndsWell text → All IsWhite end → EndsWell (text ++ end)

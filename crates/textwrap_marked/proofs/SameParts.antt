@@ -1,23 +1,17 @@
 -- What becomes of two texts of the same parts is the same.
-use Rattle.textwrap_base.proofs.Common.{◌∙◌, ◌≡◌, ℕ, ◌-◌, Bool, true, false, List, [], ◌∷◌, ◌++◌, ap}
-use Rattle.textwrap_base.proofs.Common.{length, map, nat_lt, refl, slice_split, subst}
-use Rattle.textwrap_base.proofs.Common.{sym, ◌==◌}
-use Rattle.textwrap_words.proofs.Common.{IsDividedBy, sizes_of, word_of, WordText}
-use Rattle.textwrap_lines.specs.LineEnding.{ending_bytes}
+use Rattle.textwrap_marked.proofs.Common.{◌∙◌, ◌≡◌, ℕ, ◌-◌, ◌||◌, Bool, true, false, List, [], ◌∷◌}
+use Rattle.textwrap_marked.proofs.Common.{◌++◌, ap, length, map, nat_lt, refl, slice_split, subst}
+use Rattle.textwrap_marked.proofs.Common.{sym, ◌==◌, IsDividedBy, sizes_of, word_of, WordText}
+use Rattle.textwrap_marked.proofs.Common.{ending_bytes, blocks, is_beside, stays, AreSameParts}
+use Rattle.textwrap_marked.proofs.Common.{IsSameBy, Part, parts_of_blocks, text_parts}
+use Rattle.textwrap_marked.proofs.Common.{without_returns, entered, first_state, line_of, lines_of}
+use Rattle.textwrap_marked.proofs.Common.{LineText, passed, read_lines, StateText, with_titles}
+use Rattle.textwrap_marked.proofs.Common.{pieces, algorithm_of, filled_ending, IsLaidOut, IsOfBlock}
+use Rattle.textwrap_marked.proofs.Common.{IsReflowedFrom, line_texts, printed, ReflowOptions}
 use Rattle.textwrap_marked.proofs.TextBack.{text-back}
-use Rattle.textwrap_marked.specs.Blocks.{blocks, is_beside}
 use Rattle.textwrap_marked.specs.Columns.{columns}
-use Rattle.textwrap_marked.specs.Laws.{AreNewParts, AreSameParts}
-use Rattle.textwrap_marked.specs.Laws.{IsSameBy, Part, parts_of_blocks, text_parts}
-use Rattle.textwrap_marked.specs.Lines.{without_returns}
-use Rattle.textwrap_marked.specs.Lines.{entered, first_state, line_of, lines_of, LineText, passed, read_lines}
-use Rattle.textwrap_marked.specs.Lines.{StateText, with_titles}
-use Rattle.textwrap_marked.specs.Pieces.{pieces, words_of}
-use Rattle.textwrap_marked.specs.Reflow.{algorithm_of, filled_end, filled_ending}
-use Rattle.textwrap_marked.specs.Reflow.{IsLaidOut, IsOfBlock, IsReflowedFrom}
-use Rattle.textwrap_marked.specs.Reflow.{line_texts, printed}
+use Rattle.textwrap_marked.specs.Laws.{AreNewParts}
 use Rattle.textwrap_marked.specs.declared.options.Algorithm.{Algorithm}
-use Rattle.textwrap_marked.specs.declared.options.ReflowOptions.{ReflowOptions}
 
 module _ (options : ReflowOptions) (ending : List ℕ) where
   -- ---- one part
@@ -31,89 +25,42 @@ module _ (options : ReflowOptions) (ending : List ℕ) where
       × (text ≡ printed ending prefix hanging (line_texts options.justify
       (options.width - columns prefix) (options.width - columns hanging) division) ++ end)
 
-  filled-same : (p q h k : List ℕ) (s t : Bool) (w v : List (List ℕ)) (e f text : List ℕ) → p ≡ q
-      → h ≡ k → s ≡ t → w ≡ v → e ≡ f → IsFilledBy p h s w e text → IsFilledBy q k t v f text
-  filled-same p q h k s t w v e f text pp hh ss ww ee is =
-      subst (λ x. IsFilledBy q k t v x text) ee (subst (λ x. IsFilledBy q k t x e text) ww
-      (subst (λ x. IsFilledBy q k x w e text) ss (subst (λ x. IsFilledBy q x s w e text) hh
-      (subst (λ x. IsFilledBy x h s w e text) pp is))))
+  abbrev OfPart : Bool → Part → List ℕ → Type 0
+  OfPart is_kept part text = IsOfBlock options ending is_kept part.first part.lines text
 
-  abbrev OfPart : Part → List ℕ → Type 0
-  OfPart part text = IsOfBlock options ending part.stays part.first part.lines text
+  abbrev Of : Part → List ℕ → Type 0
+  Of part text = OfPart part.stays part text
 
-  of-other : (part other : Part) (text : List ℕ) → IsSameBy options.ending part.stays part other
-      → OfPart other text → OfPart part text
-  of-other part other text same of = cut part.stays refl same
-    where
-      cut : (b : Bool) → part.stays ≡ b → IsSameBy options.ending b part other → OfPart part text
-      cut true stay (leaves, kept) =
-          subst (λ b. IsOfBlock options ending b part.first part.lines text) (sym stay)
-          (subst (λ b. IsOfBlock options ending b other.first other.lines text) leaves of ∙ kept)
-      cut false stay (leaves, para) =
-          subst (λ b. IsOfBlock options ending b part.first part.lines text) (sym stay)
-          (filled-same other.first.prefix part.first.prefix other.first.hanging part.first.hanging
-          other.first.starred part.first.starred (words_of other.lines) (words_of part.lines)
-          (filled_end ending other.lines) (filled_end ending part.lines) text para.prefix para.hanging
-          para.starred para.words (para.end ending)
-          (subst (λ b. IsOfBlock options ending b other.first other.lines text) leaves of))
-
-  of-part : (part other : Part) (text : List ℕ) → IsSameBy options.ending part.stays part other
-      → OfPart part text → OfPart other text
-  of-part part other text same of = cut part.stays refl same
-    where
-      cut : (b : Bool) → part.stays ≡ b → IsSameBy options.ending b part other → OfPart other text
-      cut true stay (leaves, kept) =
-          subst (λ b. IsOfBlock options ending b other.first other.lines text) (sym leaves)
-          (subst (λ b. IsOfBlock options ending b part.first part.lines text) stay of ∙ sym kept)
-      cut false stay (leaves, para) =
-          subst (λ b. IsOfBlock options ending b other.first other.lines text) (sym leaves)
-          (filled-same part.first.prefix other.first.prefix part.first.hanging other.first.hanging
-          part.first.starred other.first.starred (words_of part.lines) (words_of other.lines)
-          (filled_end ending part.lines) (filled_end ending other.lines) text (sym para.prefix)
-          (sym para.hanging) (sym para.starred) (sym para.words) (sym (para.end ending))
-          (subst (λ b. IsOfBlock options ending b part.first part.lines text) stay of))
+  of-same : (is_kept : Bool) (part other : Part) → part.stays ≡ is_kept
+      → IsSameBy options.ending is_kept part other → Of part ≡ Of other
+  of-same true part other stay (leaves, kept) =
+      let same : OfPart true part ≡ OfPart true other = λ i text. text ≡ sym kept i in
+      ap (λ b. OfPart b part) stay ∙ same ∙ sym (ap (λ b. OfPart b other) leaves)
+  of-same false part other stay (leaves, para) =
+      let same : OfPart false part ≡ OfPart false other =
+      λ i text. IsFilledBy (sym para.prefix i) (sym para.hanging i) (sym para.starred i) (sym para.words i)
+      (sym (para.end ending) i) text in
+      ap (λ b. OfPart b part) stay ∙ same ∙ sym (ap (λ b. OfPart b other) leaves)
 
   -- ---- all of them
 
-  news-other : (parts others : List Part) (text : List ℕ) → AreSameParts options.ending parts others
-      → AreNewParts OfPart others text → AreNewParts OfPart parts text
-  news-other [] [] text same new = new
-  news-other [] (other ∷ others) text same new = absurd same
-  news-other (part ∷ parts) [] text same new = absurd same
-  news-other (part ∷ parts) (other ∷ others) text (same, more) (front, back, of, later, is) = (
-    front,
-    back,
-    of-other part other front same of,
-    news-other parts others back more later,
-    is,
-  )
+  news-same : (parts others : List Part) → AreSameParts options.ending parts others
+      → AreNewParts Of parts ≡ AreNewParts Of others
+  news-same [] [] same = refl
+  news-same [] (other ∷ others) same = absurd same
+  news-same (part ∷ parts) [] same = absurd same
+  news-same (part ∷ parts) (other ∷ others) (same, more) =
+      λ i text. (front : List ℕ) × (back : List ℕ) × of-same part.stays part other refl same i front
+      × news-same parts others more i back × (text ≡ front ++ back)
 
-  news-part : (parts others : List Part) (text : List ℕ) → AreSameParts options.ending parts others
-      → AreNewParts OfPart parts text → AreNewParts OfPart others text
-  news-part [] [] text same new = new
-  news-part [] (other ∷ others) text same new = absurd same
-  news-part (part ∷ parts) [] text same new = absurd same
-  news-part (part ∷ parts) (other ∷ others) text (same, more) (front, back, of, later, is) = (
-    front,
-    back,
-    of-part part other front same of,
-    news-part parts others back more later,
-    is,
-  )
-
-  laid-news : (bs : List (List LineText)) (beside : Bool) (text : List ℕ)
-      → IsLaidOut options ending beside bs text → AreNewParts OfPart (parts_of_blocks beside bs) text
-  laid-news [] beside text laid = laid
-  laid-news ([] ∷ bs) beside text laid = laid-news bs beside text laid
-  laid-news ((first ∷ lines) ∷ bs) beside text (front, back, of, later, is) =
-      (front, back, of, laid-news bs (is_beside first bs) back later, is)
-
-  news-laid : (bs : List (List LineText)) (beside : Bool) (text : List ℕ)
-      → AreNewParts OfPart (parts_of_blocks beside bs) text → IsLaidOut options ending beside bs text
-  news-laid [] beside text new = new
-  news-laid ([] ∷ bs) beside text new = news-laid bs beside text new
-  news-laid ((first ∷ lines) ∷ bs) beside text (front, back, of, later, is) =
-      (front, back, of, news-laid bs (is_beside first bs) back later, is)
+  laid-news : (bs : List (List LineText)) (beside : Bool)
+      → IsLaidOut options ending beside bs ≡ AreNewParts Of (parts_of_blocks beside bs)
+  laid-news [] beside = refl
+  laid-news ([] ∷ bs) beside = laid-news bs beside
+  laid-news ((first ∷ lines) ∷ bs) beside =
+      λ i text. (front : List ℕ) × (back : List ℕ)
+      × IsOfBlock options ending (stays (beside || is_beside first bs) first) first (first ∷ lines) front
+      × laid-news bs (is_beside first bs) i back × (text ≡ front ++ back)
 
 -- ---- texts
 
@@ -122,24 +69,23 @@ module _ (options : ReflowOptions) (text other : List ℕ)
   abbrev end_of : List ℕ → List ℕ
   end_of t = ending_bytes (filled_ending options.ending t)
 
+  laid-same : (e : List ℕ) → IsLaidOut options e false (blocks (lines_of options text))
+      ≡ IsLaidOut options e false (blocks (lines_of options other))
+  laid-same e =
+      laid-news options e (blocks (lines_of options text)) false ∙ news-same options e _ _ same
+      ∙ sym (laid-news options e (blocks (lines_of options other)) false)
+
   pub from-other : filled_ending options.ending other ≡ filled_ending options.ending text
       → (reflowed : List ℕ) → IsReflowedFrom options other reflowed
       → IsReflowedFrom options text reflowed
   from-other ends reflowed laid =
-      let e = end_of text in
-      news-laid options e (blocks (lines_of options text)) false reflowed
-      (news-other options e (text_parts options text) (text_parts options other) reflowed same
-      (laid-news options e (blocks (lines_of options other)) false reflowed
+      subst (λ New. New reflowed) (sym (laid-same (end_of text)))
       (subst (λ x. IsLaidOut options (ending_bytes x) false (blocks (lines_of options other)) reflowed)
-      ends laid)))
+      ends laid)
 
   pub laid-other : (reflowed : List ℕ) → IsReflowedFrom options text reflowed
       → IsLaidOut options (end_of text) false (blocks (lines_of options other)) reflowed
-  laid-other reflowed laid =
-      let e = end_of text in
-      news-laid options e (blocks (lines_of options other)) false reflowed
-      (news-part options e (text_parts options text) (text_parts options other) reflowed same
-      (laid-news options e (blocks (lines_of options text)) false reflowed laid))
+  laid-other reflowed laid = subst (λ New. New reflowed) (laid-same (end_of text)) laid
 
 -- ---- another width
 
@@ -160,10 +106,10 @@ module _ (options : ReflowOptions) (width : ℕ) (algorithm : Algorithm) where
       ap (λ ls. parts_of_blocks false (blocks (with_titles ls)))
       (lines-same (slice_split (λ c. c == 10) text) first_state)
 
-  pub width-same : options.justify ≡ false → (text between : List ℕ)
+  pub width-same : (text between : List ℕ)
       → IsReflowedFrom others text between
       → AreSameParts options.ending (text_parts options text) (text_parts options between)
-  width-same plain text between laid =
+  width-same text between laid =
       subst (λ p. AreSameParts options.ending p (text_parts options between)) (parts-same text)
       (subst (AreSameParts options.ending (text_parts others text)) (parts-same between)
-      (text-back others plain text between laid).same)
+      (text-back others text between laid).same)

@@ -1,10 +1,11 @@
 -- Words with white between them are read back from their text.
-use Rattle.textwrap_base.proofs.Common.{◌≡◌, ℕ, ◌<◌, Bool, true, false, List, [], ◌∷◌, ◌++◌, All}
-use Rattle.textwrap_base.proofs.Common.{All-cons, All-head, All-nil, All-tail, ap, append_assoc, append-nil}
-use Rattle.textwrap_base.proofs.Common.{arith, length, refl, sym, ⊤, ◌∙◌}
-use Rattle.textwrap_marked.proofs.WordsIn.{IsPlain}
-use Rattle.textwrap_marked.specs.Words.{is_white, onto_word, spaced_text, spaced_words, SpacedText}
-use Rattle.textwrap_marked.specs.Words.{with_byte}
+use Rattle.textwrap_marked.proofs.Common.{◌≡◌, ℕ, ◌<◌, Bool, true, false, List, [], ◌∷◌, ◌++◌, All}
+use Rattle.textwrap_marked.proofs.Common.{All-cons, All-head, All-nil, All-tail, ap, append_assoc}
+use Rattle.textwrap_marked.proofs.Common.{append-nil, arith, cond, length, lt-ltb, map, refl, sym}
+use Rattle.textwrap_marked.proofs.Common.{⊤, ◌∙◌, words_in, has_bytes, is_white, spaced_text}
+use Rattle.textwrap_marked.proofs.Common.{spaced_words, SpacedText}
+use Rattle.textwrap_marked.proofs.WordsIn.{IsPlain, white-words, word-alone, words-white}
+use Rattle.textwrap_marked.specs.Words.{onto_word, with_byte}
 
 abbrev pub IsWhite : ℕ → Type 0
 IsWhite c = is_white c ≡ true
@@ -23,6 +24,16 @@ AreSpaced [] = ⊤
 AreSpaced (w ∷ []) = IsSpaced w
 AreSpaced (w ∷ v ∷ ws) = IsSpaced w × (0 < length w.white) × AreSpaced (v ∷ ws)
 
+pub spaced-first : (w : SpacedText) (ws : List SpacedText) → AreSpaced (w ∷ ws) → IsSpaced w
+spaced-first w [] are = are
+spaced-first w (v ∷ ws) are = are.0
+
+pub spaced-plain : (ws : List SpacedText) → AreSpaced ws → All (λ w. IsPlain w.word) ws
+spaced-plain [] are = All-nil (λ w. IsPlain w.word)
+spaced-plain (w ∷ []) are = All-cons (λ w. IsPlain w.word) w [] are.word (All-nil (λ w. IsPlain w.word))
+spaced-plain (w ∷ v ∷ ws) are =
+    All-cons (λ w. IsPlain w.word) w (v ∷ ws) are.0.word (spaced-plain (v ∷ ws) are.2)
+
 -- the words of a line that begins with this white
 abbrev pub with_lead : List ℕ → List SpacedText → List SpacedText
 with_lead [] ws = ws
@@ -34,8 +45,7 @@ BeginsPlain (w ∷ ws) = 0 < length w.word
 
 pub begins-plain : (ws : List SpacedText) → AreSpaced ws → BeginsPlain ws
 begins-plain [] are = tt
-begins-plain (w ∷ []) are = are.word.some
-begins-plain (w ∷ v ∷ ws) are = are.0.word.some
+begins-plain (w ∷ ws) are = (spaced-first w ws are).word.some
 
 white-alone : (c : ℕ) (ws : List SpacedText) → IsWhite c → BeginsPlain ws
     → with_byte c ws ≡ with_lead (c ∷ []) ws
@@ -170,33 +180,56 @@ line-text (c ∷ cs) =
       },
     )
 
+-- ---- its words between white
+
+word-in : (word white rest : List ℕ) → IsPlain word → All IsWhite white → 0 < length white
+    → words_in ((word ++ white) ++ rest) ≡ word ∷ words_in rest
+word-in word [] rest plain all some = absurd (omega (arith, some))
+word-in word (c ∷ white) rest plain all some =
+    ap words_in (append_assoc word (c ∷ white) rest)
+    ∙ words-white word c (white ++ rest) (All-head IsWhite c white all)
+    ∙ ap (λ l. l ++ words_in (white ++ rest)) (word-alone word plain)
+    ∙ ap (λ l. word ∷ l) (white-words white rest (All-tail IsWhite c white all))
+
+pub spaced-in : (ws : List SpacedText) → AreSpaced ws → words_in (spaced_text ws) ≡ map (λ w. w.word) ws
+spaced-in [] are = refl
+spaced-in (w ∷ []) are = cut w.white are.white
+  where
+    cut : (white : List ℕ) → All IsWhite white → words_in ((w.word ++ white) ++ []) ≡ w.word ∷ []
+    cut [] all =
+        ap words_in (append-nil (w.word ++ []) ∙ append-nil w.word) ∙ word-alone w.word are.word
+    cut (c ∷ white) all = word-in w.word (c ∷ white) [] are.word all (omega arith)
+spaced-in (w ∷ v ∷ ws) (here, some, later) =
+    word-in w.word w.white (spaced_text (v ∷ ws)) here.word here.white some
+    ∙ ap (λ l. w.word ∷ l) (spaced-in (v ∷ ws) later)
+
+pub text-words : (text lead : List ℕ) (ws : List SpacedText) → IsLineText text lead ws
+    → words_in text ≡ map (λ w. w.word) ws
+text-words text lead ws is =
+    ap words_in is.is ∙ white-words lead (spaced_text ws) is.white ∙ spaced-in ws is.spaced
+
 -- ---- one line has one lead and one list of words
+
+-- the white in front of a line, and its words
+abbrev lead_of : List SpacedText → List ℕ
+lead_of [] = []
+lead_of (w ∷ ws) = cond (has_bytes w.word) [] w.white
+
+abbrev behind_lead : List SpacedText → List SpacedText
+behind_lead [] = []
+behind_lead (w ∷ ws) = cond (has_bytes w.word) (w ∷ ws) ws
+
+lead-parts : (lead : List ℕ) (ws : List SpacedText) → AreSpaced ws
+    → (lead_of (with_lead lead ws) ≡ lead) × (behind_lead (with_lead lead ws) ≡ ws)
+lead-parts [] [] are = (refl, refl)
+lead-parts [] (w ∷ ws) are =
+    let some = lt-ltb 0 (length w.word) (begins-plain (w ∷ ws) are) in
+    (ap (λ b. cond b [] w.white) some, ap (λ b. cond b (w ∷ ws) ws) some)
+lead-parts (c ∷ lead) ws are = (refl, refl)
 
 pub lead-one : (lead other : List ℕ) (ws vs : List SpacedText) → AreSpaced ws → AreSpaced vs
     → with_lead lead ws ≡ with_lead other vs → (lead ≡ other) × (ws ≡ vs)
-lead-one [] [] ws vs are be is = (refl, is)
-lead-one [] (d ∷ other) [] vs are be is = absurd (omega (arith, ap length is))
-lead-one [] (d ∷ other) (w ∷ ws) vs are be is =
-    let some = begins-plain (w ∷ ws) are in
-    absurd (omega (arith, some, ap (λ l. word_lens l) is))
-  where
-    word_lens : List SpacedText → ℕ
-    word_lens [] = 0
-    word_lens (w ∷ ws) = length w.word
-lead-one (c ∷ lead) [] ws [] are be is = absurd (omega (arith, ap length is))
-lead-one (c ∷ lead) [] ws (v ∷ vs) are be is =
-    let some = begins-plain (v ∷ vs) be in
-    absurd (omega (arith, some, ap (λ l. word_lens l) is))
-  where
-    word_lens : List SpacedText → ℕ
-    word_lens [] = 0
-    word_lens (w ∷ ws) = length w.word
-lead-one (c ∷ lead) (d ∷ other) ws vs are be is = (ap lead_of is, ap rest_of is)
-  where
-    lead_of : List SpacedText → List ℕ
-    lead_of [] = []
-    lead_of (w ∷ ws) = w.white
-
-    rest_of : List SpacedText → List SpacedText
-    rest_of [] = []
-    rest_of (w ∷ ws) = ws
+lead-one lead other ws vs are be is =
+    let (front, words) = lead-parts lead ws are in
+    let (begin, behind) = lead-parts other vs be in
+    (sym front ∙ ap lead_of is ∙ begin, sym words ∙ ap behind_lead is ∙ behind)

@@ -1,85 +1,87 @@
 -- Words with blanks between them, as the words of a line's text.
-use Rattle.textwrap_base.proofs.Common.{◌≡◌, ℕ, ◌-◌, ◌&&◌, ◌||◌, not, Bool, true, false}
-use Rattle.textwrap_base.proofs.Common.{cond, List, [], ◌∷◌, ◌++◌, All, All-cons, All-head, All-nil}
-use Rattle.textwrap_base.proofs.Common.{All-tail, ap, append-nil, append_assoc, arith, cases_Bool, codes}
-use Rattle.textwrap_base.proofs.Common.{drop, length, list_any, map, refl, sym, take}
-use Rattle.textwrap_base.proofs.Common.{nat_eq, starts_with, true≢false, false_from_ne_true, eqb-true, suc, ◌==◌, ◌∙◌}
-use Rattle.std.specs.Prelude.{bytes_eq}
-use Rattle.textwrap_words.proofs.Common.{blank}
+use Rattle.textwrap_marked.proofs.Common.{◌≡◌, ℕ, ◌-◌, ◌&&◌, ◌||◌, not, Bool, true, false, cond}
+use Rattle.textwrap_marked.proofs.Common.{List, [], ◌∷◌, ◌++◌, All, All-cons, All-head, All-nil}
+use Rattle.textwrap_marked.proofs.Common.{All-tail, ap, append-nil, append_assoc, arith, cases_Bool}
+use Rattle.textwrap_marked.proofs.Common.{codes, drop, length, list_any, map, refl, sym, take}
+use Rattle.textwrap_marked.proofs.Common.{true≢false, false_from_ne_true, suc, ◌==◌, ◌∙◌}
+use Rattle.textwrap_marked.proofs.Common.{All-replicate, bytes_eq, blank, is_among, is_bullet}
+use Rattle.textwrap_marked.proofs.Common.{is_comment_at, is_quote, blanks, quotes_len, begins_text}
+use Rattle.textwrap_marked.proofs.Common.{first_word, front_of, has_columns, is_column_word}
+use Rattle.textwrap_marked.proofs.Common.{last_white, last_word, opens_paragraph, spaced_text}
+use Rattle.textwrap_marked.proofs.Common.{SpacedText, ReflowOptions}
 use Rattle.textwrap_marked.proofs.HangingKinds.{HasNoMark}
 use Rattle.textwrap_marked.proofs.LaterLines.{bullets-none}
-use Rattle.textwrap_marked.proofs.Letterless.{box-plain, no-line-comment, star-plain}
+use Rattle.textwrap_marked.proofs.Letterless.{box-plain, quote-plain}
 use Rattle.textwrap_marked.proofs.LineKinds.{one_if}
-use Rattle.textwrap_marked.proofs.LineWords.{joined, spread}
-use Rattle.textwrap_marked.proofs.OpenBehind.{and-left, none-any, not-yes, text-letter, text-no-sign, text-other}
-use Rattle.textwrap_marked.proofs.SpacedBack.{AreSpaced, IsWhite}
+use Rattle.textwrap_marked.proofs.LineWords.{gap, shown, spread}
+use Rattle.textwrap_marked.proofs.OpenBehind.{none-any, not-yes, text-letter, text-other}
+use Rattle.textwrap_marked.proofs.SpacedBack.{AreSpaced, IsSpaced, IsWhite}
 use Rattle.textwrap_marked.proofs.WordsIn.{IsPlain}
-use Rattle.textwrap_marked.specs.Marks.{is_among, is_bullet, is_comment_at, is_line_comment}
-use Rattle.textwrap_marked.specs.Marks.{is_opening, is_quote}
-use Rattle.textwrap_marked.specs.Prefixes.{quotes_len}
-use Rattle.textwrap_marked.specs.Signs.{begins_text, first_white}
-use Rattle.textwrap_marked.specs.Signs.{first_word, front_of, has_columns, is_column_word, is_gap, last_of}
-use Rattle.textwrap_marked.specs.Signs.{is_sign_byte, last_white, last_word, may_go_on, opens_paragraph}
-use Rattle.textwrap_marked.specs.Words.{contains, has_bytes, has_letter, is_made_of, spaced_text, SpacedText}
-use Rattle.textwrap_marked.specs.declared.options.ReflowOptions.{ReflowOptions}
+use Rattle.textwrap_marked.specs.Signs.{first_white, is_gap, last_of, may_go_on}
 
-pub spread-first : (word : List ℕ) (words : List (List ℕ)) (end : List ℕ)
-    → first_word (spread (word ∷ words) end) ≡ word
-spread-first word [] end = refl
-spread-first word (next ∷ words) end = refl
+-- a gap is white
+pub gap-white : (justify : Bool) (gaps : ℕ → ℕ) (n : ℕ) → All IsWhite (gap justify gaps n)
+gap-white true gaps n =
+    All-cons IsWhite blank (blanks (gaps n)) refl (All-replicate IsWhite (gaps n) blank refl)
+gap-white false gaps n = All-cons IsWhite blank [] refl (All-nil IsWhite)
 
-pub spread-len : (words : List (List ℕ)) (end : List ℕ)
-    → length (spread words end) ≡ length words
-spread-len [] end = refl
-spread-len (word ∷ []) end = refl
-spread-len (word ∷ next ∷ words) end = ap suc (spread-len (next ∷ words) end)
+module _ (justify : Bool) (gaps : ℕ → ℕ) where
+  pub spread-first : (word : List ℕ) (words : List (List ℕ)) (end : List ℕ)
+      → first_word (spread justify gaps (word ∷ words) end) ≡ word
+  spread-first word [] end = refl
+  spread-first word (next ∷ words) end = refl
 
-pub spread-words : (words : List (List ℕ)) (end : List ℕ) → map (λ w. w.word) (spread words end) ≡ words
-spread-words [] end = refl
-spread-words (word ∷ []) end = refl
-spread-words (word ∷ next ∷ words) end = ap (λ l. word ∷ l) (spread-words (next ∷ words) end)
+  pub spread-len : (words : List (List ℕ)) (end : List ℕ)
+      → length (spread justify gaps words end) ≡ length words
+  spread-len [] end = refl
+  spread-len (word ∷ []) end = refl
+  spread-len (word ∷ next ∷ words) end = ap suc (spread-len (next ∷ words) end)
 
-pub spread-spaced : (words : List (List ℕ)) (end : List ℕ) → All IsPlain words → All IsWhite end
-    → AreSpaced (spread words end)
-spread-spaced [] end plain white = tt
-spread-spaced (word ∷ []) end plain white =
-    record { word = All-head IsPlain word [] plain; white = white }
-spread-spaced (word ∷ next ∷ words) end plain white =
-    more (spread (next ∷ words) end)
-    (spread-spaced (next ∷ words) end (All-tail IsPlain word (next ∷ words) plain) white)
-  where
-    more : (l : List SpacedText) → AreSpaced l
-        → AreSpaced (record { word = word; white = blank ∷ [] } ∷ l)
-    more [] are =
-        record {
-          word = All-head IsPlain word (next ∷ words) plain;
-          white = All-cons IsWhite blank [] refl (All-nil IsWhite);
-        }
-    more (v ∷ l) are = (
-      record {
+  pub spread-words : (words : List (List ℕ)) (end : List ℕ)
+      → map (λ w. w.word) (spread justify gaps words end) ≡ words
+  spread-words [] end = refl
+  spread-words (word ∷ []) end = refl
+  spread-words (word ∷ next ∷ words) end = ap (λ l. word ∷ l) (spread-words (next ∷ words) end)
+
+  pub spread-spaced : (words : List (List ℕ)) (end : List ℕ) → All IsPlain words → All IsWhite end
+      → AreSpaced (spread justify gaps words end)
+  spread-spaced [] end plain white = tt
+  spread-spaced (word ∷ []) end plain white =
+      record { word = All-head IsPlain word [] plain; white = white }
+  spread-spaced (word ∷ next ∷ words) end plain white =
+      more (spread justify gaps (next ∷ words) end)
+      (spread-spaced (next ∷ words) end (All-tail IsPlain word (next ∷ words) plain) white)
+    where
+      first : SpacedText
+      first = record { word = word; white = gap justify gaps (length words) }
+
+      spaced : IsSpaced first
+      spaced = record {
         word = All-head IsPlain word (next ∷ words) plain;
-        white = All-cons IsWhite blank [] refl (All-nil IsWhite);
-      },
-      omega arith,
-      are,
-    )
+        white = gap-white justify gaps (length words);
+      }
 
--- the white at the end stands behind the text
-pub spread-end : (word : List ℕ) (words : List (List ℕ)) (end : List ℕ)
-    → spaced_text (spread (word ∷ words) end) ≡ joined (word ∷ words) ++ end
-spread-end word [] end =
-    append-nil (word ++ end) ∙ ap (λ l. l ++ end) (sym (append-nil (word ++ []) ∙ append-nil word))
-spread-end word (next ∷ words) end =
-    ap (λ l. (word ++ blank ∷ []) ++ l) (spread-end next words end)
-    ∙ sym (append_assoc (word ++ blank ∷ []) (joined (next ∷ words)) end)
+      more : (l : List SpacedText) → AreSpaced l → AreSpaced (first ∷ l)
+      more [] are = spaced
+      more (v ∷ l) are = (spaced, omega arith, are)
 
--- what is asked of each word
-pub spread-any : (test : List ℕ → Bool) (words : List (List ℕ)) (end : List ℕ)
-    → list_any (λ w. test w.word) (spread words end) ≡ list_any test words
-spread-any test [] end = refl
-spread-any test (word ∷ []) end = refl
-spread-any test (word ∷ next ∷ words) end =
-    ap (λ b. test word || b) (spread-any test (next ∷ words) end)
+  -- the white at the end stands behind the text
+  pub spread-end : (word : List ℕ) (words : List (List ℕ)) (end : List ℕ)
+      → spaced_text (spread justify gaps (word ∷ words) end) ≡ shown justify gaps (word ∷ words) ++ end
+  spread-end word [] end =
+      append-nil (word ++ end) ∙ ap (λ l. l ++ end) (sym (append-nil (word ++ []) ∙ append-nil word))
+  spread-end word (next ∷ words) end =
+      let first = word ++ gap justify gaps (length words) in
+      ap (λ l. first ++ l) (spread-end next words end)
+      ∙ sym (append_assoc first (shown justify gaps (next ∷ words)) end)
+
+  -- what is asked of each word
+  pub spread-any : (test : List ℕ → Bool) (words : List (List ℕ)) (end : List ℕ)
+      → list_any (λ w. test w.word) (spread justify gaps words end) ≡ list_any test words
+  spread-any test [] end = refl
+  spread-any test (word ∷ []) end = refl
+  spread-any test (word ∷ next ∷ words) end =
+      ap (λ b. test word || b) (spread-any test (next ∷ words) end)
 
 -- ---- the last of them
 
@@ -104,49 +106,58 @@ last-word [] = refl
 last-word (w ∷ []) = refl
 last-word (w ∷ v ∷ ws) = ap first_word (last-more w v ws) ∙ last-word (v ∷ ws)
 
-pub spread-last : (words : List (List ℕ)) (end : List ℕ)
-    → last_word (spread words end) ≡ last_text words
-spread-last words end = last-word (spread words end) ∙ ap last_text (spread-words words end)
+pub spread-last : (justify : Bool) (gaps : ℕ → ℕ) (words : List (List ℕ)) (end : List ℕ)
+    → last_word (spread justify gaps words end) ≡ last_text words
+spread-last justify gaps words end =
+    last-word (spread justify gaps words end) ∙ ap last_text (spread-words justify gaps words end)
 
-pub spread-white : (word : List ℕ) (words : List (List ℕ)) (end : List ℕ)
-    → last_white (spread (word ∷ words) end) ≡ end
-spread-white word [] end = refl
-spread-white word (next ∷ words) end =
-    white (spread (next ∷ words) end) refl ∙ spread-white next words end
+pub spread-white : (justify : Bool) (gaps : ℕ → ℕ) (word : List ℕ) (words : List (List ℕ)) (end : List ℕ)
+    → last_white (spread justify gaps (word ∷ words) end) ≡ end
+spread-white justify gaps word [] end = refl
+spread-white justify gaps word (next ∷ words) end =
+    white (spread justify gaps (next ∷ words) end) refl ∙ spread-white justify gaps next words end
   where
-    white : (l : List SpacedText) → spread (next ∷ words) end ≡ l
-        → last_white (record { word = word; white = blank ∷ [] } ∷ l) ≡ last_white l
-    white [] is = absurd (omega (arith, ap length is, spread-len (next ∷ words) end))
-    white (v ∷ l) is = ap first_white (last-more (record { word = word; white = blank ∷ [] }) v l)
+    white : (l : List SpacedText) → spread justify gaps (next ∷ words) end ≡ l
+        → last_white (record { word = word; white = gap justify gaps (length words) } ∷ l)
+        ≡ last_white l
+    white [] is = absurd (omega (arith, ap length is, spread-len justify gaps (next ∷ words) end))
+    white (v ∷ l) is =
+        ap first_white (last-more (record { word = word; white = gap justify gaps (length words) }) v l)
 
 -- ---- no columns
 
--- a blank is no gap
-blank-none : (justify : Bool) (word : List ℕ)
-    → is_gap justify (record { word = word; white = blank ∷ [] }) ≡ false
-blank-none true word = refl
-blank-none false word = refl
+-- blanks are no gap where lines are justified, and one is none anywhere
+gap-none : (justify : Bool) (gaps : ℕ → ℕ) (n : ℕ) (word : List ℕ)
+    → is_gap justify (record { word = word; white = gap justify gaps n }) ≡ false
+gap-none true gaps n word =
+    ap (λ b. b || false) (none-any (λ c. c == 9) (blanks (gaps n))
+    (All-replicate (λ c. (c == 9) ≡ false) (gaps n) blank refl))
+gap-none false gaps n word = refl
 
-gaps-none : (justify : Bool) (words : List (List ℕ)) (end : List ℕ)
-    → list_any (is_gap justify) (front_of (spread words end)) ≡ false
-gaps-none justify [] end = refl
-gaps-none justify (word ∷ []) end = refl
-gaps-none justify (word ∷ next ∷ words) end =
-    more (spread (next ∷ words) end) (gaps-none justify (next ∷ words) end)
+gaps-none : (justify : Bool) (gaps : ℕ → ℕ) (words : List (List ℕ)) (end : List ℕ)
+    → list_any (is_gap justify) (front_of (spread justify gaps words end)) ≡ false
+gaps-none justify gaps [] end = refl
+gaps-none justify gaps (word ∷ []) end = refl
+gaps-none justify gaps (word ∷ next ∷ words) end =
+    more (spread justify gaps (next ∷ words) end) (gaps-none justify gaps (next ∷ words) end)
   where
+    first : SpacedText
+    first = record { word = word; white = gap justify gaps (length words) }
+
     more : (l : List SpacedText) → list_any (is_gap justify) (front_of l) ≡ false
-        → list_any (is_gap justify) (front_of (record { word = word; white = blank ∷ [] } ∷ l)) ≡ false
+        → list_any (is_gap justify) (front_of (first ∷ l)) ≡ false
     more [] is = refl
     more (v ∷ l) is =
-        ap (list_any (is_gap justify)) (front-more (record { word = word; white = blank ∷ [] }) v l)
-        ∙ ap (λ b. b || list_any (is_gap justify) (front_of (v ∷ l))) (blank-none justify word) ∙ is
+        ap (list_any (is_gap justify)) (front-more first v l)
+        ∙ ap (λ b. b || list_any (is_gap justify) (front_of (v ∷ l)))
+        (gap-none justify gaps (length words) word) ∙ is
 
-pub spread-columns : (justify : Bool) (words : List (List ℕ)) (end : List ℕ)
-    → All (λ w. is_column_word w ≡ false) words → has_columns justify (spread words end) ≡ false
-spread-columns justify words end none =
-    ap (λ b. b || list_any (is_gap justify) (front_of (spread words end)))
-    (spread-any is_column_word words end ∙ none-any is_column_word words none)
-    ∙ gaps-none justify words end
+pub spread-columns : (justify : Bool) (gaps : ℕ → ℕ) (words : List (List ℕ)) (end : List ℕ)
+    → All (λ w. is_column_word w ≡ false) words → has_columns justify (spread justify gaps words end) ≡ false
+spread-columns justify gaps words end none =
+    ap (λ b. b || list_any (is_gap justify) (front_of (spread justify gaps words end)))
+    (spread-any justify gaps is_column_word words end ∙ none-any is_column_word words none)
+    ∙ gaps-none justify gaps words end
 
 -- ---- what may not begin a line
 
@@ -172,60 +183,18 @@ goes-on options starred word is =
       marker = not-yes (is_among word options.markers.now) parts.3;
     }
 
-pub middle : (a b c : Bool) → (a && b && not c) ≡ true → b ≡ true
-middle a b c is = grind (arith, cases_Bool)
-
-first-none : (a b c d e : Bool) → (a || b || c || d || e) ≡ false → a ≡ false
-first-none a b c d e is = grind (arith, cases_Bool)
-
 pub text-no-quote : (starred : Bool) (word : List ℕ) → begins_text starred word ≡ true
     → is_quote word ≡ false
-text-no-quote starred [] begins = refl
-text-no-quote starred (c ∷ cs) begins =
-    let word = c ∷ cs in
-    let plain : is_sign_byte c ≡ false =
-    first-none (is_sign_byte c) (starts_with nat_eq word (codes "//")) (starts_with nat_eq word (codes "/*"))
-    (starts_with nat_eq word (codes "```")) (starts_with nat_eq word (codes "~~~"))
-    (text-no-sign starred word begins) in
-    false_from_ne_true (is_quote word) (λ quote.
-    let made : is_made_of 62 word ≡ true =
-    middle (has_bytes word) (is_made_of 62 word) (length word == 3) quote in
-    let first : (c == 62) ≡ true = and-left (c == 62) (is_made_of 62 cs) made in
-    true≢false (sym (ap is_sign_byte (eqb-true c 62 first)) ∙ plain))
-
-pub no-comment : (options : ReflowOptions) (in_block starred : Bool) (word : List ℕ)
-    → begins_text starred word ≡ true → is_among word options.markers.now ≡ false
-    → is_comment_at options in_block word ≡ false
-no-comment options true starred word begins marker = text-other starred word (codes "*") begins star-plain
-no-comment options false starred word begins marker =
-    ap (λ b. b || (not options.markdown && (is_line_comment word || is_opening word))) marker
-    ∙ ap (λ b. not options.markdown && b) (both (is_line_comment word) (is_opening word) line opening)
-    ∙ none (not options.markdown)
-  where
-    none : (b : Bool) → (b && false) ≡ false
-    none true = refl
-    none false = refl
-
-    both : (a b : Bool) → a ≡ false → b ≡ false → (a || b) ≡ false
-    both a b p q = rw (p, q) refl
-
-    opening : is_opening word ≡ false
-    opening =
-        third (starts_with nat_eq word (codes "/*")) (has_letter word) (contains (codes "*/") word)
-        (text-letter starred word begins)
-      where
-        third : (a b c : Bool) → b ≡ true → (a && not b && not c) ≡ false
-        third a b c is = grind (arith, cases_Bool, is)
-
-    line : is_line_comment word ≡ false
-    line = no-line-comment word (text-letter starred word begins)
+text-no-quote starred word begins =
+    false_from_ne_true (is_quote word)
+    (λ quote. true≢false (sym (text-letter starred word begins) ∙ quote-plain word quote))
 
 -- words that begin with such a one are no marks
-pub no-mark : (options : ReflowOptions) (in_block starred : Bool) (word : List ℕ) (words : List (List ℕ))
-    (end : List ℕ) → begins_text starred word ≡ true → is_bullet word ≡ false
-    → is_comment_at options in_block word ≡ false
-    → HasNoMark options in_block (spread (word ∷ words) end)
-no-mark options in_block starred word words end begins bullet comment =
+pub no-mark : (options : ReflowOptions) (in_block starred justify : Bool) (gaps : ℕ → ℕ)
+    (word : List ℕ) (words : List (List ℕ)) (end : List ℕ) → begins_text starred word ≡ true
+    → is_bullet word ≡ false → is_comment_at options in_block word ≡ false
+    → HasNoMark options in_block (spread justify gaps (word ∷ words) end)
+no-mark options in_block starred justify gaps word words end begins bullet comment =
     spread-mark words (text-other starred word (codes "[") begins box-plain)
     (text-no-quote starred word begins)
   where
@@ -239,7 +208,7 @@ no-mark options in_block starred word words end begins bullet comment =
     }
 
     spread-mark : (words : List (List ℕ)) → bytes_eq word (codes "[") ≡ false
-        → is_quote word ≡ false → HasNoMark options in_block (spread (word ∷ words) end)
+        → is_quote word ≡ false → HasNoMark options in_block (spread justify gaps (word ∷ words) end)
     spread-mark [] box quote = of _ [] box quote bullet comment
     spread-mark (next ∷ words) box quote =
-        of _ (spread (next ∷ words) end) box quote bullet comment
+        of _ (spread justify gaps (next ∷ words) end) box quote bullet comment

@@ -1,32 +1,34 @@
 -- A new text, read again, has the parts of the text.
-use Rattle.textwrap_base.proofs.Common.{None, Option, Some, ◌≡◌, ℕ, ◌<◌, ◌||◌, not, Bool, true, false, List, [], ◌∷◌, ◌++◌, ◌==◌}
-use Rattle.textwrap_base.proofs.Common.{All, All-nil, ap, arith, join_with_byte, length, nat_lt, lt-ltb}
-use Rattle.textwrap_base.proofs.Common.{cases_Bool, refl, slice_split, subst, sym, true≢false, ◌∙◌}
-use Rattle.textwrap_base.proofs.Lists.Parts.{all-left, flat}
-use Rattle.std.proofs.lemmas.List.Splits.{length-slice_split}
-use Rattle.textwrap_lines.specs.declared.line_ending.LineEnding.{LineEnding}
+use Rattle.textwrap_marked.proofs.Common.{None, Option, Some, ◌≡◌, ℕ, ◌<◌, ◌||◌, not, Bool, true}
+use Rattle.textwrap_marked.proofs.Common.{false, List, [], ◌∷◌, ◌++◌, ◌==◌, All, All-nil, ap, arith}
+use Rattle.textwrap_marked.proofs.Common.{flat_map, join_with_byte, length, nat_lt, lt-ltb}
+use Rattle.textwrap_marked.proofs.Common.{cases_Bool, refl, slice_split, subst, sym, true≢false}
+use Rattle.textwrap_marked.proofs.Common.{◌∙◌, all-left, flat, length-slice_split, LineEnding}
+use Rattle.textwrap_marked.proofs.Common.{blocks, is_beside, stays, AreSameParts, HasPlainMarkers}
+use Rattle.textwrap_marked.proofs.Common.{line_sense, parts_of_blocks, text_parts, first_state}
+use Rattle.textwrap_marked.proofs.Common.{lines_of, LineText, StateText, filled_ending, IsLaidOut}
+use Rattle.textwrap_marked.proofs.Common.{IsOfBlock, IsReflowedFrom, ReflowOptions}
 use Rattle.textwrap_marked.proofs.AnewLines.{bytes-by, IsTold, returns_by}
 use Rattle.textwrap_marked.proofs.BegunAlike.{AreBegun}
 use Rattle.textwrap_marked.proofs.BlockOrder.{AreBlocks, blocks-are, blocks-back}
-use Rattle.textwrap_marked.proofs.Feedless.{IsFeedless, IsFeedlessLine, read-feedless, split-feedless, split-joined}
+use Rattle.textwrap_marked.proofs.Feedless.{IsFeedless, IsFeedlessLine, read-feedless}
+use Rattle.textwrap_marked.proofs.Feedless.{split-feedless, split-joined}
 use Rattle.textwrap_marked.proofs.FenceMarks.{IsSafe, safe-none}
 use Rattle.textwrap_marked.proofs.FilledBack.{filled-step}
 use Rattle.textwrap_marked.proofs.NewBlock.{paragraph-at}
-use Rattle.textwrap_marked.proofs.ReadBack.{ending, IsReadBack, kept-step}
+use Rattle.textwrap_marked.proofs.ReadBack.{ending, IsLaidOutAny, IsReadBack, kept-step, laid-any}
+use Rattle.textwrap_marked.proofs.ReadBack.{within-any}
+use Rattle.textwrap_marked.proofs.Common.{false_from_ne_true}
+use Rattle.textwrap_marked.specs.Within.{IsLaidOutWithin, IsReflowedWithinFrom}
+use Rattle.textwrap_marked.specs.declared.within.LineRange.{LineRange}
 use Rattle.textwrap_marked.proofs.TextBlocks.{read, read-more}
 use Rattle.textwrap_marked.proofs.TextParts.{blocks-flat}
-use Rattle.textwrap_marked.specs.Blocks.{blocks, is_beside, stays}
-use Rattle.textwrap_marked.specs.Laws.{AreSameParts, parts_of_blocks, text_parts}
-use Rattle.textwrap_marked.specs.Lines.{first_state, lines_of, LineText, StateText}
-use Rattle.textwrap_marked.specs.Reflow.{filled_ending, IsLaidOut, IsOfBlock, IsReflowedFrom}
-use Rattle.textwrap_marked.specs.declared.options.ReflowOptions.{ReflowOptions}
 
 level-first : (a b c : Bool) → (a || not b || c) ≡ false → a ≡ false
 level-first a b c is = grind (arith, cases_Bool)
 
 module _ (options : ReflowOptions) (returns : Bool) (told : IsTold options.ending returns) where
-  read-none : (state : StateText) (raws : List (List ℕ)) → [] ≡ read options state raws
-      → nat_lt 0 0 ≡ nat_lt 0 (length raws)
+  read-none : (state : StateText) (raws : List (List ℕ)) → [] ≡ read options state raws → [] ≡ raws
   read-none state [] is = refl
   read-none state (raw ∷ raws) is =
       absurd (omega (arith, ap length is, ap length (read-more options state raw raws)))
@@ -43,12 +45,14 @@ module _ (options : ReflowOptions) (returns : Bool) (told : IsTold options.endin
     pub split : slice_split (λ c. c == 10) reflowed ≡ raw ∷ raws
     pub begun : AreBegun returns (slice_split (λ c. c == 10) text) (raw ∷ raws)
     pub feedless : All IsFeedless (raw ∷ raws)
+    pub sense : HasPlainMarkers options
+        → flat_map line_sense (raw ∷ raws) ≡ flat_map line_sense (slice_split (λ c. c == 10) text)
 
-  pub walk-blocks : options.justify ≡ false → (bs : List (List LineText)) (beside : Bool) → AreBlocks bs → (state : StateText)
+  pub walk-blocks : (bs : List (List LineText)) (beside : Bool) → AreBlocks bs → (state : StateText)
       (raws : List (List ℕ)) (text : List ℕ) → flat bs ≡ read options state raws
-      → IsLaidOut options (ending options returns told) beside bs text → IsSafe options state
+      → IsLaidOutAny options returns told beside bs text → IsSafe options state
       → All IsFeedless raws → IsReadBack options returns told state beside bs raws text
-  walk-blocks plain [] beside are state raws text reads laid safe free = record {
+  walk-blocks [] beside are state raws text reads laid safe free = record {
     again = [];
     blocks = [];
     reads = refl;
@@ -57,33 +61,36 @@ module _ (options : ReflowOptions) (returns : Bool) (told : IsTold options.endin
     text_is = laid;
     feedless = All-nil IsFeedless;
     heads = tt;
-    some = read-none state raws reads;
+    some = ap (λ l. nat_lt 0 (length l)) (read-none state raws reads);
     begun = none-begun raws;
+    sense = λ plain. ap (flat_map line_sense) (read-none state raws reads);
   }
-  walk-blocks plain ([] ∷ bs) beside are state raws text reads laid safe free = absurd are
-  walk-blocks plain ((first ∷ lines) ∷ bs) beside are state raws text reads (front, back, of, later, is) safe
+  walk-blocks ([] ∷ bs) beside are state raws text reads laid safe free = absurd are
+  walk-blocks ((first ∷ lines) ∷ bs) beside are state raws text reads (is_kept, stay, front, back, of, later, is) safe
       free =
       subst (IsReadBack options returns told state beside ((first ∷ lines) ∷ bs) raws) (sym is)
-      (step (stays (beside || is_beside first bs) first) refl of
-      (walk-blocks plain bs (is_beside first bs) are.2))
+      (step is_kept stay of
+      (walk-blocks bs (is_beside first bs) are.2))
     where
-      step : (b : Bool) → stays (beside || is_beside first bs) first ≡ b
+      step : (b : Bool) → (stays (beside || is_beside first bs) first ≡ true → b ≡ true)
           → IsOfBlock options (ending options returns told) b first (first ∷ lines) front
           → ((state : StateText) (raws : List (List ℕ)) (text : List ℕ) → flat bs ≡ read options state raws
-          → IsLaidOut options (ending options returns told) (is_beside first bs) bs text
+          → IsLaidOutAny options returns told (is_beside first bs) bs text
           → IsSafe options state → All IsFeedless raws
           → IsReadBack options returns told state (is_beside first bs) bs raws text)
           → IsReadBack options returns told state beside ((first ∷ lines) ∷ bs) raws (front ++ back)
       step true stay of walks =
-          kept-step options returns told beside first lines bs walks are stay state raws front back reads of
+          kept-step options returns told beside first lines bs walks are state raws front back reads of
           later safe free
-      step false stay of walks =
+      step false kept of walks =
+          let stay : stays (beside || is_beside first bs) first ≡ false =
+          false_from_ne_true _ (λ so. true≢false (sym (kept so))) in
           let apart = level-first first.apart first.chosen (beside || is_beside first bs) stay in
           let (raw, left, whole, p, same) =
           paragraph-at options state raws first lines (flat bs) reads apart are.0 in
           let lines_free = all-left IsFeedlessLine (first ∷ lines) (flat bs)
           (subst (All IsFeedlessLine) (sym reads) (read-feedless options raws state free)) in
-          filled-step options returns told state raw first lines bs p beside plain front back raws left whole same
+          filled-step options returns told state raw first lines bs p beside front back raws left whole same
           are stay of later walks safe free lines_free
 
   parts-again : (text reflowed : List ℕ) (raw : List ℕ) (raws : List (List ℕ))
@@ -104,14 +111,15 @@ module _ (options : ReflowOptions) (returns : Bool) (told : IsTold options.endin
         split = split ∙ some;
         begun = subst (AreBegun returns (slice_split (λ c. c == 10) text)) some r.begun;
         feedless = subst (All IsFeedless) some r.feedless;
+        sense = λ plain. ap (flat_map line_sense) (sym some) ∙ r.sense plain;
       }
 
-  pub parts-back : options.justify ≡ false → (text reflowed : List ℕ)
-      → IsLaidOut options (ending options returns told) false (blocks (lines_of options text)) reflowed
+  pub parts-back : (text reflowed : List ℕ)
+      → IsLaidOutAny options returns told false (blocks (lines_of options text)) reflowed
       → AreReadBack text reflowed
-  parts-back plain text reflowed laid =
+  parts-back text reflowed laid =
       let raws = slice_split (λ c. c == 10) text in
-      let r = walk-blocks plain (blocks (lines_of options text)) false (blocks-are (lines_of options text))
+      let r = walk-blocks (blocks (lines_of options text)) false (blocks-are (lines_of options text))
       first_state raws reflowed (blocks-flat (lines_of options text)) laid
       (safe-none options first_state refl) (split-feedless text) in
       some r r.again refl
@@ -138,9 +146,22 @@ IsTextBack options text reflowed =
     AreReadBack options (returns_by (filled_ending options.ending text)) (told-by options.ending text) text
     reflowed
 
-pub text-back : (options : ReflowOptions) → options.justify ≡ false → (text reflowed : List ℕ)
+pub text-back : (options : ReflowOptions) → (text reflowed : List ℕ)
     → IsReflowedFrom options text reflowed → IsTextBack options text reflowed
-text-back options plain text reflowed laid =
+text-back options text reflowed laid =
     let e = filled_ending options.ending text in
-    parts-back options (returns_by e) (told-by options.ending text) plain text reflowed
-    (subst (λ b. IsLaidOut options b false (blocks (lines_of options text)) reflowed) (bytes-by e) laid)
+    let bs = blocks (lines_of options text) in
+    let told = told-by options.ending text in
+    parts-back options (returns_by e) told text reflowed (laid-any options (returns_by e) told bs false reflowed
+    (subst (λ b. IsLaidOut options b false bs reflowed) (bytes-by e) laid))
+
+-- where only some lines are filled
+pub within-back : (options : ReflowOptions) (range : LineRange) (text reflowed : List ℕ)
+    → IsReflowedWithinFrom options range text reflowed → IsTextBack options text reflowed
+within-back options range text reflowed laid =
+    let e = filled_ending options.ending text in
+    let bs = blocks (lines_of options text) in
+    let told = told-by options.ending text in
+    parts-back options (returns_by e) told text reflowed
+    (within-any options (returns_by e) told range 0 bs false reflowed
+    (subst (λ b. IsLaidOutWithin options range b 0 false bs reflowed) (bytes-by e) laid))

@@ -1,25 +1,26 @@
 -- The lines of a paragraph of a text, one after another.
-use Rattle.textwrap_base.proofs.Common.{◌≡◌, ℕ, ◌<◌, ◌&&◌, ◌||◌, not, Bool, true, false, List, []}
-use Rattle.textwrap_base.proofs.Common.{◌∷◌, ◌++◌, All, All-append, All-map, All-head, All-tail, ap, append-nil, arith, codes}
-use Rattle.textwrap_base.proofs.Common.{All-cons, All-nil, cases_Bool, length, length-append, length-map, map, nat_lt, refl, subst, sym, ⊤, ◌∙◌}
-use Rattle.std.proofs.lemmas.Slice.Eq.{bytes_eq-Decides}
-use Rattle.std.specs.Prelude.{bytes_eq}
-use Rattle.textwrap_marked.proofs.HangingForms.{IsHanging, or-false}
+use Rattle.textwrap_marked.proofs.Common.{◌≡◌, ℕ, ◌<◌, ◌&&◌, ◌||◌, not, Bool, true, false, List, []}
+use Rattle.textwrap_marked.proofs.Common.{◌∷◌, ◌++◌, All, All-append, All-map, All-head, All-tail}
+use Rattle.textwrap_marked.proofs.Common.{ap, append-nil, arith, codes, cases_Bool, flat_map}
+use Rattle.textwrap_marked.proofs.Common.{length, length-append, map, nat_lt, refl, subst, sym, ⊤}
+use Rattle.textwrap_marked.proofs.Common.{◌∙◌, ap₂, or-false, bytes_eq-Decides, bytes_eq, goes_on}
+use Rattle.textwrap_marked.proofs.Common.{HasPlainMarkers, line_sense, without_returns, as_title}
+use Rattle.textwrap_marked.proofs.Common.{entered, is_ended, line_of, LineText, passed, read_lines}
+use Rattle.textwrap_marked.proofs.Common.{StateText, with_titles, words_of, closes_block}
+use Rattle.textwrap_marked.proofs.Common.{closes_early, first_word, front_of}
+use Rattle.textwrap_marked.proofs.Common.{is_column_word, last_word, opens_paragraph, contains}
+use Rattle.textwrap_marked.proofs.Common.{SpacedText, ReflowOptions}
+use Rattle.textwrap_base.proofs.Common.{length-map}
+use Rattle.textwrap_marked.proofs.HangingForms.{IsHanging}
 use Rattle.textwrap_marked.proofs.LaterLines.{IsOfText}
+use Rattle.textwrap_marked.proofs.LineSenses.{later-sense}
 use Rattle.textwrap_marked.proofs.OpenBehind.{any-none, behind_text, no-columns, or-left, or-right}
 use Rattle.textwrap_marked.proofs.ParagraphLines.{later-line}
-use Rattle.textwrap_marked.proofs.SpacedBack.{AreSpaced}
+use Rattle.textwrap_marked.proofs.SpacedBack.{spaced-plain}
 use Rattle.textwrap_marked.proofs.SpreadWords.{front-more, last-more, last_text}
 use Rattle.textwrap_marked.proofs.WordsIn.{IsPlain}
-use Rattle.textwrap_marked.specs.Blocks.{goes_on}
-use Rattle.textwrap_marked.specs.Lines.{without_returns}
-use Rattle.textwrap_marked.specs.Lines.{as_title, entered, is_ended, is_title, line_of, LineText, passed}
-use Rattle.textwrap_marked.specs.Lines.{read_lines, StateText, with_titles}
-use Rattle.textwrap_marked.specs.Pieces.{words_of}
-use Rattle.textwrap_marked.specs.Signs.{closes_block, begins_text, closes_early, ends_early, first_word, front_of}
-use Rattle.textwrap_marked.specs.Signs.{is_column_word, last_word, opens_paragraph}
-use Rattle.textwrap_marked.specs.Words.{contains, SpacedText}
-use Rattle.textwrap_marked.specs.declared.options.ReflowOptions.{ReflowOptions}
+use Rattle.textwrap_marked.specs.Lines.{is_title}
+use Rattle.textwrap_marked.specs.Signs.{ends_early}
 
 -- the last of some texts is that of those behind others
 pub last-behind : (words : List (List ℕ)) (word : List ℕ) (later : List (List ℕ))
@@ -147,6 +148,11 @@ masked-all false words is =
 masked-all true words is =
     All-map (NoClose true) (λ w. w.word) words (any-none (λ w. contains (codes "*/") w.word) words is)
 
+pub early-more : (w v : SpacedText) (ws : List SpacedText) → closes_early (w ∷ v ∷ ws)
+    ≡ ((contains (codes "*/") w.word || closes_block (front_of (v ∷ ws))) || ends_early (last_word (v ∷ ws)))
+early-more w v ws =
+    ap₂ (λ l k. closes_block l || ends_early (first_word k)) (front-more w v ws) (last-more w v ws)
+
 last-closing : (in_block : Bool) (words : List SpacedText)
     → (in_block && closes_block words && closes_early words) ≡ false
     → AreClosing in_block (map (λ w. w.word) words)
@@ -170,17 +176,10 @@ last-closing in_block (w ∷ v ∷ ws) is = (
         → (a && b && (f || e)) ≡ false
     behind a c b f e is = grind (arith, cases_Bool)
 
-    early : closes_early (w ∷ v ∷ ws)
-        ≡ ((contains (codes "*/") w.word || closes_block (front_of (v ∷ ws))) || ends_early (last_word (v ∷ ws)))
-    early =
-        ap (λ l. closes_block l || ends_early (last_word (w ∷ v ∷ ws))) (front-more w v ws)
-        ∙ ap (λ l. (contains (codes "*/") w.word || closes_block (front_of (v ∷ ws)))
-        || ends_early (first_word l)) (last-more w v ws)
-
     shown : (in_block && (contains (codes "*/") w.word || closes_block (v ∷ ws))
         && ((contains (codes "*/") w.word || closes_block (front_of (v ∷ ws)))
         || ends_early (last_word (v ∷ ws)))) ≡ false
-    shown = ap (λ e. in_block && (contains (codes "*/") w.word || closes_block (v ∷ ws)) && e) (sym early) ∙ is
+    shown = ap (λ e. in_block && (contains (codes "*/") w.word || closes_block (v ∷ ws)) && e) (sym (early-more w v ws)) ∙ is
 
 -- ---- the lines of a paragraph
 
@@ -215,12 +214,6 @@ goes-facts line next is =
     (opens_paragraph (first_word next.words)) is in
     (facts.0, facts.1, (bytes_eq-Decides next.prefix line.hanging).0 facts.2, facts.3)
 
-spaced-plain : (ws : List SpacedText) → AreSpaced ws → All IsPlain (map (λ w. w.word) ws)
-spaced-plain [] are = All-nil IsPlain
-spaced-plain (w ∷ []) are = All-cons IsPlain w.word [] are.word (All-nil IsPlain)
-spaced-plain (w ∷ v ∷ ws) are =
-    All-cons IsPlain w.word (map (λ w. w.word) (v ∷ ws)) are.0.word (spaced-plain (v ∷ ws) are.2)
-
 ended-none : (in_block : Bool) (words : List SpacedText) → is_ended in_block words ≡ false
     → (in_block && closes_block words) ≡ false
 ended-none in_block words is = or-right _ (in_block && closes_block words) is
@@ -233,20 +226,17 @@ module _ (options : ReflowOptions) (in_block : Bool) (hanging lead : List ℕ) (
     pub left : List (List ℕ)
     pub whole : raws ≡ done ++ left
     pub reads : rest ≡ read options (behind_text in_block hanging (last_line line lines).words) left
-    pub hangs : (last_line line lines).hanging ≡ hanging
+    pub at : StateText
+    pub of : IsOfText options in_block hanging at (last_line line lines)
     pub apart : (last_line line lines).apart ≡ false
-    pub ends : (last_line line lines).ended ≡ is_ended in_block (last_line line lines).words
     pub title : title_of (last_line line lines) rest ≡ false
     pub fed : (last_line line lines).fed ≡ nat_lt 0 (length left)
-    pub some : 0 < length (last_line line lines).words
-    pub spaced : AreSpaced (last_line line lines).words
-    pub starred : Bool
-    pub begins : begins_text starred (first_word (last_line line lines).words) ≡ true
     pub closing : AreClosing in_block (map (λ w. w.word) (last_line line lines).words)
     pub words_some : 0 < length (words_of (line ∷ lines))
     pub final : last_text (words_of (line ∷ lines))
         ≡ last_text (map (λ w. w.word) (last_line line lines).words)
     pub words : AreTextWords in_block (words_of (line ∷ lines))
+    pub sense : HasPlainMarkers options → flat_map line_sense done ≡ words_of lines
 
   walked-last : (mine others : List (List ℕ)) → 0 < length others
       → last_text (mine ++ others) ≡ last_text others
@@ -256,7 +246,7 @@ module _ (options : ReflowOptions) (in_block : Bool) (hanging lead : List ℕ) (
   line-words : (state : StateText) (line : LineText) → IsOfText options in_block hanging state line
       → AreTextWords in_block (map (λ w. w.word) line.words)
   line-words state line of = record {
-    plain = spaced-plain line.words of.spaced;
+    plain = All-map IsPlain (λ w. w.word) line.words (spaced-plain line.words of.spaced);
     columns = All-map (λ w. is_column_word w ≡ false) (λ w. w.word) line.words
         (no-columns options.justify line.words of.columns);
     closing = last-closing in_block line.words of.closes;
@@ -265,8 +255,9 @@ module _ (options : ReflowOptions) (in_block : Bool) (hanging lead : List ℕ) (
   walk-more : (state : StateText) (line next : LineText) (lines rest : List LineText)
       (raw : List ℕ) (raws left : List (List ℕ)) → raws ≡ raw ∷ left
       → IsOfText options in_block hanging state line → line.ended ≡ false
+      → (HasPlainMarkers options → line_sense raw ≡ map (λ w. w.word) next.words)
       → IsWalked next lines rest left → IsWalked line (next ∷ lines) rest raws
-  walk-more state line next lines rest raw raws left whole of ended walked =
+  walk-more state line next lines rest raw raws left whole of ended sense walked =
       let own = line-words state line of in
       let none = masked-all in_block line.words
       (ended-none in_block line.words (sym of.ends ∙ ended)) in
@@ -276,15 +267,11 @@ module _ (options : ReflowOptions) (in_block : Bool) (hanging lead : List ℕ) (
         left = walked.left;
         whole = whole ∙ ap (λ l. raw ∷ l) walked.whole;
         reads = walked.reads;
-        hangs = walked.hangs;
+        at = walked.at;
+        of = walked.of;
         apart = walked.apart;
-        ends = walked.ends;
         title = walked.title;
         fed = walked.fed;
-        some = walked.some;
-        spaced = walked.spaced;
-        starred = walked.starred;
-        begins = walked.begins;
         closing = walked.closing;
         words_some = omega (arith, walked.words_some, length-append mine others);
         final = walked-last mine others walked.words_some ∙ walked.final;
@@ -293,6 +280,7 @@ module _ (options : ReflowOptions) (in_block : Bool) (hanging lead : List ℕ) (
           columns = All-append NoColumn mine others own.columns walked.words.columns;
           closing = closing-before in_block mine others none walked.words.closing;
         };
+        sense = λ plain. ap₂ (λ a b. a ++ b) (sense plain) (walked.sense plain);
       }
 
   pub walk : (lines : List LineText) (line : LineText) (state : StateText) (rest : List LineText)
@@ -305,15 +293,11 @@ module _ (options : ReflowOptions) (in_block : Bool) (hanging lead : List ℕ) (
     left = raws;
     whole = refl;
     reads = is ∙ ap (λ s. read options s raws) of.behind;
-    hangs = of.hangs;
+    at = state;
+    of = of;
     apart = apart;
-    ends = of.ends;
     title = title;
     fed = fed;
-    some = of.some;
-    spaced = of.spaced;
-    starred = of.starred;
-    begins = of.begins;
     closing = last-closing in_block line.words of.closes;
     words_some = omega (
       arith,
@@ -324,6 +308,7 @@ module _ (options : ReflowOptions) (in_block : Bool) (hanging lead : List ℕ) (
     final = ap last_text (append-nil (map (λ w. w.word) line.words));
     words = subst (AreTextWords in_block) (sym (append-nil (map (λ w. w.word) line.words)))
         (line-words state line of);
+    sense = λ plain. refl;
   }
   walk (next ∷ lines) line state rest raws of apart title (goes, one) fed is =
       let (level, ended, prefix, opens) = goes-facts line next goes in
@@ -336,13 +321,17 @@ module _ (options : ReflowOptions) (in_block : Bool) (hanging lead : List ℕ) (
       let block : (in_block && not (closes_block line.words)) ≡ in_block =
       open_still in_block (closes_block line.words)
       (ended-none in_block line.words (sym of.ends ∙ ended)) in
-      let of_read = later-line options in_block hanging lead ds rs hang behind peeled.raw
-      (nat_lt 0 (length peeled.left)) block free
-      (sym (ap (λ (l : LineText). l.prefix) same) ∙ prefix ∙ of.hangs) in
+      let hung : read_line.prefix ≡ hanging =
+      sym (ap (λ (l : LineText). l.prefix) same) ∙ prefix ∙ of.hangs in
+      let fed_next = nat_lt 0 (length peeled.left) in
+      let of_read =
+      later-line options in_block hanging lead ds rs hang behind peeled.raw fed_next block free hung in
       let of_next = subst (IsOfText options in_block hanging behind) (sym same) of_read in
       let title_next : title_of next (lines ++ rest) ≡ false =
       ap (λ l. title_of l (lines ++ rest)) same ∙ plain in
       walk-more state line next lines rest peeled.raw raws peeled.left peeled.whole of ended
+      (λ plain. later-sense options plain in_block hanging lead ds rs hang behind peeled.raw fed_next of_read hung
+      ∙ ap (λ (l : LineText). map (λ w. w.word) l.words) (sym same))
       (walk lines next behind rest peeled.left of_next level title_next one
       (ap (λ (l : LineText). l.fed) same)
       (peeled.later ∙ ap (λ l. read options (passed behind l) peeled.left) (sym same)))

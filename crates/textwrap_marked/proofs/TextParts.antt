@@ -1,18 +1,15 @@
 -- A text is its parts, one after another.
-use Rattle.textwrap_base.proofs.Common.{◌≡◌, ℕ, Bool, true, false, cond, List, [], ◌∷◌, ◌++◌}
-use Rattle.textwrap_base.proofs.Common.{append_assoc, append-nil, ap, flat_map, None, refl, sym}
-use Rattle.textwrap_base.proofs.Common.{◌∙◌, arith, join_with_byte, length, lt-ltb, nat_lt}
-use Rattle.textwrap_base.proofs.Common.{slice_split, ◌==◌}
-use Rattle.std.proofs.lemmas.Grind.{flat_map-append}
-use Rattle.textwrap_base.proofs.Lists.Parts.{flat}
+use Rattle.textwrap_marked.proofs.Common.{◌≡◌, ℕ, Bool, true, false, cond, List, [], ◌∷◌, ◌++◌}
+use Rattle.textwrap_marked.proofs.Common.{append_assoc, append-nil, ap, flat_map, None, refl, sym}
+use Rattle.textwrap_marked.proofs.Common.{◌∙◌, arith, join_with_byte, length, lt-ltb, nat_lt}
+use Rattle.textwrap_marked.proofs.Common.{slice_split, ◌==◌, flat_map-append, flat, blocks, goes_on}
+use Rattle.textwrap_marked.proofs.Common.{is_beside, parts_of_blocks, text_parts, without_returns}
+use Rattle.textwrap_marked.proofs.Common.{entered, first_state, line_of, LineText, passed}
+use Rattle.textwrap_marked.proofs.Common.{read_lines, StateText, with_titles, ending_if, kept_line}
+use Rattle.textwrap_marked.proofs.Common.{ReflowOptions}
 use Rattle.std.proofs.lemmas.List.Splits.{join_with_byte-slice_split}
-use Rattle.textwrap_marked.specs.Blocks.{blocks, goes_on, is_beside, with_line}
-use Rattle.textwrap_marked.specs.Laws.{parts_of_blocks, source, text_parts}
-use Rattle.textwrap_marked.specs.Lines.{without_returns}
-use Rattle.textwrap_marked.specs.Lines.{entered, first_state, line_of, LineText, passed, read_lines}
-use Rattle.textwrap_marked.specs.Lines.{StateText, with_titles}
-use Rattle.textwrap_marked.specs.Reflow.{ending_if, kept_line}
-use Rattle.textwrap_marked.specs.declared.options.ReflowOptions.{ReflowOptions}
+use Rattle.textwrap_marked.specs.Blocks.{with_line}
+use Rattle.textwrap_marked.specs.Laws.{source}
 
 abbrev lines-text : List LineText → List ℕ
 lines-text lines = flat_map (kept_line None) lines

@@ -1,18 +1,16 @@
 -- The words of a paragraph's last line, and the last of them.
-use Rattle.textwrap_base.proofs.Common.{◌≡◌, ◌≢◌, ℕ, ◌<◌, ◌&&◌, ◌||◌, not, Bool, true, false, cond, List}
-use Rattle.textwrap_base.proofs.Common.{[], ◌∷◌, ◌++◌, All, All-cons, All-nil, ap}
-use Rattle.textwrap_base.proofs.Common.{append-nil, arith, cases_Bool, codes, ends_with, length, map, nat_eq, refl, subst, sym, ◌∙◌}
+use Rattle.textwrap_marked.proofs.Common.{◌≡◌, ◌≢◌, ℕ, ◌<◌, ◌&&◌, ◌||◌, not, Bool, true, false}
+use Rattle.textwrap_marked.proofs.Common.{cond, List, [], ◌∷◌, ◌++◌, All, All-cons, All-nil, ap}
+use Rattle.textwrap_marked.proofs.Common.{append-nil, arith, cases_Bool, codes, ends_with, length}
+use Rattle.textwrap_marked.proofs.Common.{map, nat_eq, refl, subst, sym, ◌∙◌, deeper_by, is_cut}
+use Rattle.textwrap_marked.proofs.Common.{begins_text, closes_block, closes_early, first_word}
+use Rattle.textwrap_marked.proofs.Common.{front_of, last_word, contains, SpacedText, ReflowOptions}
 use Rattle.textwrap_marked.proofs.Letterless.{dots-plain}
 use Rattle.textwrap_marked.proofs.LineWords.{MayPart, spread}
 use Rattle.textwrap_marked.proofs.OpenBehind.{none-any, text-other}
-use Rattle.textwrap_marked.proofs.SpreadWords.{front-more, last-more, last_text, spread-any, spread-words}
-use Rattle.textwrap_marked.proofs.TextBlocks.{AreClosing, closing-before, NoClose}
-use Rattle.textwrap_marked.specs.Lines.{deeper_by}
-use Rattle.textwrap_marked.specs.Pieces.{is_cut}
-use Rattle.textwrap_marked.specs.Signs.{begins_text, closes_block, closes_early, ends_early, first_word, front_of}
-use Rattle.textwrap_marked.specs.Signs.{last_word, may_go_on}
-use Rattle.textwrap_marked.specs.Words.{contains, SpacedText}
-use Rattle.textwrap_marked.specs.declared.options.ReflowOptions.{ReflowOptions}
+use Rattle.textwrap_marked.proofs.SpreadWords.{last_text, spread-any, spread-words}
+use Rattle.textwrap_marked.proofs.TextBlocks.{AreClosing, closing-before, early-more, NoClose}
+use Rattle.textwrap_marked.specs.Signs.{ends_early, may_go_on}
 
 -- ---- the last of some texts
 
@@ -51,11 +49,12 @@ pub closing-alone : (in_block : Bool) (words : List (List ℕ)) → All (NoClose
 closing-alone in_block words all =
     subst (AreClosing in_block) (append-nil words) (closing-before in_block words [] all tt)
 
-pub spread-none : (in_block : Bool) (words : List (List ℕ)) (end : List ℕ)
-    → All (NoClose in_block) words → (in_block && closes_block (spread words end)) ≡ false
-spread-none false words end all = refl
-spread-none true words end all =
-    spread-any (λ w. contains (codes "*/") w) words end ∙ none-any (λ w. contains (codes "*/") w) words all
+pub spread-none : (in_block justify : Bool) (gaps : ℕ → ℕ) (words : List (List ℕ)) (end : List ℕ)
+    → All (NoClose in_block) words → (in_block && closes_block (spread justify gaps words end)) ≡ false
+spread-none false justify gaps words end all = refl
+spread-none true justify gaps words end all =
+    spread-any justify gaps (λ w. contains (codes "*/") w) words end
+    ∙ none-any (λ w. contains (codes "*/") w) words all
 
 closing-free : (in_block : Bool) (words : List SpacedText)
     → AreClosing in_block (map (λ w. w.word) words)
@@ -70,26 +69,21 @@ closing-free in_block (w ∷ []) are =
     one : (a b c : Bool) → (a && b && c) ≡ false → (a && (b || false) && (false || c)) ≡ false
     one a b c is = grind (arith, cases_Bool)
 closing-free in_block (w ∷ v ∷ ws) (none, are) =
-    ap (λ e. in_block && (contains (codes "*/") w.word || closes_block (v ∷ ws)) && e) early
+    ap (λ e. in_block && (contains (codes "*/") w.word || closes_block (v ∷ ws)) && e) (early-more w v ws)
     ∙ more in_block (contains (codes "*/") w.word) (closes_block (v ∷ ws))
     (closes_block (front_of (v ∷ ws))) (ends_early (last_word (v ∷ ws))) none
     (closing-free in_block (v ∷ ws) are)
   where
-    early : closes_early (w ∷ v ∷ ws)
-        ≡ ((contains (codes "*/") w.word || closes_block (front_of (v ∷ ws))) || ends_early (last_word (v ∷ ws)))
-    early =
-        ap (λ l. closes_block l || ends_early (last_word (w ∷ v ∷ ws))) (front-more w v ws)
-        ∙ ap (λ l. (contains (codes "*/") w.word || closes_block (front_of (v ∷ ws)))
-        || ends_early (first_word l)) (last-more w v ws)
-
     more : (a c b f e : Bool) → (a && c) ≡ false → (a && b && (f || e)) ≡ false
         → (a && (c || b) && ((c || f) || e)) ≡ false
     more a c b f e none is = grind (arith, cases_Bool)
 
-pub spread-free : (in_block : Bool) (words : List (List ℕ)) (end : List ℕ) → AreClosing in_block words
-    → (in_block && closes_block (spread words end) && closes_early (spread words end)) ≡ false
-spread-free in_block words end are =
-    closing-free in_block (spread words end) (subst (AreClosing in_block) (sym (spread-words words end)) are)
+pub spread-free : (in_block justify : Bool) (gaps : ℕ → ℕ) (words : List (List ℕ)) (end : List ℕ)
+    → AreClosing in_block words → let ws = spread justify gaps words end in
+    (in_block && closes_block ws && closes_early ws) ≡ false
+spread-free in_block justify gaps words end are =
+    closing-free in_block (spread justify gaps words end)
+    (subst (AreClosing in_block) (sym (spread-words justify gaps words end)) are)
 
 -- whether they close one, the last says
 pub closes-last : (in_block : Bool) (words : List SpacedText) → 0 < length words

@@ -15,15 +15,17 @@ use Rattle.textwrap_display.specs.Justifying.{gaps, line_words}
 use Rattle.textwrap_lines.specs.declared.line_ending.LineEnding.{LineEnding}
 use Rattle.textwrap_marked.specs.Blocks.{blocks, is_beside, stays}
 use Rattle.textwrap_marked.specs.Columns.{columns}
-use Rattle.textwrap_marked.specs.Lines.{LineText, lines_of}
+use Rattle.textwrap_marked.specs.Lines.{LineText, lines_of, without_returns}
 use Rattle.textwrap_marked.specs.Pieces.{pieces, words_of}
 use Rattle.textwrap_marked.specs.Reflow.{byte_order_mark, filled_end, filled_ending, first_room}
 use Rattle.textwrap_marked.specs.Reflow.{IsReflowed, kept_line, kept_text, later_room, printed}
 use Rattle.textwrap_marked.specs.Reflow.{shown_lines}
-use Rattle.textwrap_marked.specs.Words.{has_bytes, is_white}
+use Rattle.textwrap_marked.specs.Within.{IsReflowedWithin}
+use Rattle.textwrap_marked.specs.Words.{has_bytes, has_letter, is_white}
 use Rattle.textwrap_marked.specs.declared.options.Algorithm.{Algorithm}
 use Rattle.textwrap_marked.specs.declared.options.Algorithm.TheVariants.{FirstFit, LeastCost}
 use Rattle.textwrap_marked.specs.declared.options.ReflowOptions.{ReflowOptions}
+use Rattle.textwrap_marked.specs.declared.within.LineRange.{LineRange}
 
 -- a text becomes one text at the same options
 abbrev pub ReflowedTextsAreUnique : Type 0
@@ -124,6 +126,49 @@ abbrev pub WordsAreKept : Type 0
 WordsAreKept =
     (options : ReflowOptions) (text reflowed : List ℕ)
     → IsReflowed options text reflowed → AreOfParts (KeepsWords options) options text reflowed
+
+-- ---- nothing is lost
+
+-- from the first word on that has a letter or digit
+abbrev pub from_letter : List (List ℕ) → List (List ℕ)
+from_letter [] = []
+from_letter (word ∷ words) = if has_letter word then word ∷ words else from_letter words
+
+-- the words of a line, up to its ending, but for those in front without a letter or digit
+abbrev pub line_sense : List ℕ → List (List ℕ)
+line_sense line = from_letter (words_in (without_returns line))
+
+-- what follows a byte order mark, if there is one
+abbrev pub behind_mark : List ℕ → List ℕ
+behind_mark text = if starts_with nat_eq text byte_order_mark then drop 3 text else text
+
+-- a byte order mark by itself, if there is one
+abbrev pub mark_of : Bool → List (List ℕ)
+mark_of marked = if marked then byte_order_mark ∷ [] else []
+
+-- a byte order mark, and then those words of each line, one line after the other
+abbrev pub text_sense : List ℕ → List (List ℕ)
+text_sense text =
+    mark_of (starts_with nat_eq text byte_order_mark)
+    ++ flat_map line_sense (slice_split (λ c. c == 10) (behind_mark text))
+
+-- no mark that the caller declared has a letter or digit
+abbrev pub HasPlainMarkers : ReflowOptions → Type 0
+HasPlainMarkers options = All (λ mark. has_letter mark.now ≡ false) options.markers.now
+
+-- where no declared mark has a letter or digit, no word of a text is lost, added or moved, but for words
+-- in front of a line that have none either
+abbrev pub NothingIsLost : Type 0
+NothingIsLost =
+    (options : ReflowOptions) (text reflowed : List ℕ)
+    → HasPlainMarkers options → IsReflowed options text reflowed → text_sense reflowed ≡ text_sense text
+
+-- nor where only the paragraphs at some lines are filled
+abbrev pub NothingIsLostWithin : Type 0
+NothingIsLostWithin =
+    (options : ReflowOptions) (range : LineRange) (text reflowed : List ℕ)
+    → HasPlainMarkers options → IsReflowedWithin options range text reflowed
+    → text_sense reflowed ≡ text_sense text
 
 -- ---- the lines of a paragraph
 
@@ -253,10 +298,6 @@ AreSameParts ending (part ∷ parts) [] = ⊥
 AreSameParts ending (part ∷ parts) (other ∷ others) =
     IsSameBy ending part.stays part other × AreSameParts ending parts others
 
--- what follows a byte order mark, if there is one
-abbrev pub behind_mark : List ℕ → List ℕ
-behind_mark text = if starts_with nat_eq text byte_order_mark then drop 3 text else text
-
 -- filled lines of both end the same
 abbrev pub EndAlike : ReflowOptions → List ℕ → List ℕ → Type 0
 EndAlike options text other =
@@ -267,25 +308,32 @@ abbrev pub KeepsEnding : ReflowOptions → List ℕ → List ℕ → Type 0
 KeepsEnding options text other =
     length (slice_split (λ c. c == 10) (behind_mark other)) ≡ 1 → EndAlike options text other
 
--- the new text, read again, has the parts of the text, if lines are not justified
+-- the new text, read again, has the parts of the text
 abbrev pub PartsAreKept : Type 0
 PartsAreKept =
-    (options : ReflowOptions) → options.justify ≡ false → (text reflowed : List ℕ)
+    (options : ReflowOptions) (text reflowed : List ℕ)
     → IsReflowed options text reflowed
     → AreSameParts options.ending (text_parts options (behind_mark text))
     (text_parts options (behind_mark reflowed))
 
--- the new text, reflowed by the same options, stays as it is, if lines are not justified
+-- so it has where only the paragraphs at some lines are filled
+abbrev pub PartsAreKeptWithin : Type 0
+PartsAreKeptWithin =
+    (options : ReflowOptions) (range : LineRange) (text reflowed : List ℕ)
+    → IsReflowedWithin options range text reflowed
+    → AreSameParts options.ending (text_parts options (behind_mark text))
+    (text_parts options (behind_mark reflowed))
+
+-- the new text, reflowed by the same options, stays as it is
 abbrev pub ReflowedTextsStay : Type 0
 ReflowedTextsStay =
-    (options : ReflowOptions) → options.justify ≡ false → (text reflowed : List ℕ)
+    (options : ReflowOptions) (text reflowed : List ℕ)
     → IsReflowed options text reflowed → IsReflowed options reflowed reflowed
 
 -- what a text becomes that was reflowed at another width, by any algorithm, it becomes at once
 abbrev pub EarlierWidthsMakeNoDifference : Type 0
 EarlierWidthsMakeNoDifference =
-    (options : ReflowOptions) → options.justify ≡ false
-    → (width : ℕ) (algorithm : Algorithm) (text between reflowed : List ℕ)
+    (options : ReflowOptions) (width : ℕ) (algorithm : Algorithm) (text between reflowed : List ℕ)
     → KeepsEnding options text between
     → IsReflowed (record options { width = width; algorithm = algorithm }) text between
     → IsReflowed options between reflowed → IsReflowed options text reflowed

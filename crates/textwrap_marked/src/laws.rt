@@ -5,22 +5,23 @@
 //! `reflowed_texts_are_unique();`.
 ghost use Rattle.textwrap_marked.specs.Laws.{EarlierWidthsMakeNoDifference, FirstFitKeepsToWidth};
 ghost use Rattle.textwrap_marked.specs.Laws.{JustifiedLinesAreAsWide, LeastCostIsLeast};
-ghost use Rattle.textwrap_marked.specs.Laws.{PartsAreKept, ReflowedTextsAreUnique, ReflowedTextsStay};
-ghost use Rattle.textwrap_marked.specs.Laws.{WhatStandsApartStays, WordsAreKept};
+ghost use Rattle.textwrap_marked.specs.Laws.{NothingIsLost, NothingIsLostWithin, PartsAreKept};
+ghost use Rattle.textwrap_marked.specs.Laws.{PartsAreKeptWithin, ReflowedTextsAreUnique};
+ghost use Rattle.textwrap_marked.specs.Laws.{ReflowedTextsStay, WhatStandsApartStays, WordsAreKept};
 
 /// A text becomes one text at the same options: the one that `reflow` returns.
 pub fn reflowed_texts_are_unique()
     ensures { ReflowedTextsAreUnique }
 {}
 
-/// By first fit, each printed line of a paragraph keeps to the width, with the columns of its prefix,
-/// or is one piece.
+/// By first fit, each printed line of a paragraph keeps to the width, with the columns of its
+/// prefix, or is one piece.
 pub fn first_fit_keeps_to_width()
     ensures { FirstFitKeepsToWidth }
 {}
 
-/// Where lines are justified, the words stay, and each printed line of a paragraph but its last is as
-/// wide as the width, with the columns of its prefix, if it has a gap and its words fit.
+/// Where lines are justified, the words stay, and each printed line of a paragraph but its last is
+/// as wide as the width, with the columns of its prefix, if it has a gap and its words fit.
 pub fn justified_lines_are_as_wide()
     ensures { JustifiedLinesAreAsWide }
 {}
@@ -31,26 +32,46 @@ pub fn least_cost_is_least()
     ensures { LeastCostIsLeast }
 {}
 
-/// The new text is, part by part, the blocks of the text in order: a block that stays is in it byte for
-/// byte, if no ending is asked for, and each other begins with its prefix, and each later line of it
-/// with the hanging form.
+/// The new text is, part by part, the blocks of the text in order: a block that stays is in it byte
+/// for byte, if no ending is asked for, and each other begins with its prefix, and each later line
+/// of it with the hanging form.
 pub fn what_stands_apart_stays()
     ensures { WhatStandsApartStays }
 {}
 
-/// Nothing is lost or mixed: the new text is, part by part, the blocks of the text in order. Those that
-/// stay have at most other endings, and the lines of each paragraph, behind its prefix and the hanging
-/// form, have the words of its lines in order.
+/// The words of each paragraph stay: the new text is, part by part, the blocks of the text in
+/// order. Those that stay have at most other endings, and the lines of each paragraph, behind its
+/// prefix and the hanging form, have the words of its lines in order.
 pub fn words_are_kept()
     ensures { WordsAreKept }
 {}
 
-/// The new text, read again, is read as the text was: block by block and in order the same lines that
-/// stay, but for their endings where another one is asked for, and the same paragraphs, each with its
-/// prefix, its hanging form, its words, and what stands behind its last line. Lines are not justified,
-/// here and in the next two laws.
+/// Nothing is lost, mixed or added, told without a word on prefixes or paragraphs: both texts have
+/// the same words in order, where of each line the words in front that have no letter or digit are
+/// left out. (A byte order mark counts as a word by itself.) So all that may come and go is line
+/// ends, white, and marks at the beginning of lines. It holds if no mark that the caller declared
+/// has a letter or digit, as `dnl` has.
+pub fn nothing_is_lost()
+    ensures { NothingIsLost }
+{}
+
+/// Where only the paragraphs at some lines are filled (`reflow_within`), nothing is lost, mixed or
+/// added either, told in the same way.
+pub fn nothing_is_lost_within()
+    ensures { NothingIsLostWithin }
+{}
+
+/// The new text, read again, is read as the text was: block by block and in order the same lines
+/// that stay, but for their endings where another one is asked for, and the same paragraphs, each
+/// with its prefix, its hanging form, its words, and what stands behind its last line.
 pub fn parts_are_kept()
     ensures { PartsAreKept }
+{}
+
+/// A text of which only the paragraphs at some lines were filled (`reflow_within`), read again, is
+/// read as it was before in the same way.
+pub fn parts_are_kept_within()
+    ensures { PartsAreKeptWithin }
 {}
 
 /// Twice is once: a new text stays as it is at the same options.
@@ -58,9 +79,10 @@ pub fn reflowed_twice_is_once()
     ensures { ReflowedTextsStay }
 {}
 
-/// Another width or algorithm first makes no difference: what a text becomes that was reflowed by them
-/// before, it becomes at once. Only where the text between is a single line, filled lines of it and of
-/// the text have to end the same: a text of CR LF lines without a final one has forgotten its ending then.
+/// Another width or algorithm first makes no difference: what a text becomes that was reflowed by
+/// them before, it becomes at once. All other options are the same in both runs. Only where the
+/// text between is a single line, filled lines of it and of the text have to end the same: a text
+/// of CR LF lines without a final one has forgotten its ending then.
 pub fn earlier_widths_make_no_difference()
     ensures { EarlierWidthsMakeNoDifference }
 {}

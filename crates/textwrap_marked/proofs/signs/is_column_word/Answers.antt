@@ -4,7 +4,7 @@ use Rattle.textwrap_base.proofs.Common.{list_any, nat_tests, refl, ◌∙◌, ar
 use Rattle.std.specs.Prelude.{bytes_eq, codes}
 use Rattle.textwrap_marked.proofs.ContainedTexts.{contains-lacks}
 use Rattle.textwrap_marked.specs.Signs.{is_column_byte, is_column_word}
-use Rattle.textwrap_marked.specs.Words.{contains, has_byte}
+use Rattle.textwrap_marked.specs.Words.{has_byte}
 
 same : (c k : ℕ) → (c == k) ≡ true → c ≡ k
 same c k is = grind (arith, nat_tests, is)

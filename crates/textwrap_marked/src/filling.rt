@@ -107,6 +107,17 @@ fn divide_at_least_cost<'p, 't>(
     WrapAlgorithm::OptimalFit(penalties).wrap(alloc, pieces, widths)
 }
 
+/// Adds the white behind a piece: a single blank, in nearly all texts, is pushed at less cost alone.
+fn push_white(output: &mut String, white: &str) -> Result<(), AllocError>
+    ensures { OnOk result (string_bytes output.new ≡ string_bytes output.old ++ white.now) }
+{
+    if white == " " {
+        output.push(' ')
+    } else {
+        output.push_str(white)
+    }
+}
+
 /// Adds the pieces of a line, without the last one's blank.
 fn push_pieces(output: &mut String, line: &[Word<'_>]) -> Result<(), AllocError>
     ensures { OnOk result (string_bytes output.new
@@ -115,7 +126,7 @@ fn push_pieces(output: &mut String, line: &[Word<'_>]) -> Result<(), AllocError>
     for (i, piece) in line.iter().enumerate() {
         output.push_str(piece.word)?;
         if i + 1 < line.len() {
-            output.push_str(piece.whitespace)?;
+            push_white(output, piece.whitespace)?;
         }
     }
     Ok(())

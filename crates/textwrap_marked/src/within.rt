@@ -13,7 +13,8 @@ use crate::words::without_start;
 use std::alloc::Global;
 use textwrap_words::wrap_algorithms::WrapError;
 
-/// Lines of a text, counted from 1.
+/// Lines of a text, counted from 1. If the first is one behind the last, they are the place between the
+/// two, and a paragraph that goes over it has a line there.
 #[derive(Clone, Copy, Debug, PartialEq, Eq)]
 pub struct LineRange {
     /// The first of them.

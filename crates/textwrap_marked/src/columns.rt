@@ -66,6 +66,14 @@ pub(crate) struct Depth {
 pub(crate) fn depth_of(alloc: Global, prefix: &str) -> Result<Depth, AllocError>
     ensures { IfOk result (λ depth. depth_view depth ≡ depth_of prefix.now) }
 {
+    // As most lines of prose have none.
+    if prefix.is_empty() {
+        return Ok(Depth {
+            marks: String::new(alloc),
+            lead: 0,
+            behind: 0,
+        });
+    }
     let (white, _) = split_white(prefix);
     let marks = String::from_str(alloc, marks_of(prefix))?;
     Ok(Depth {

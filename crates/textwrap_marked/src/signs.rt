@@ -11,7 +11,7 @@ ghost use Rattle.textwrap_marked.specs.Signs.{is_sign_byte, last_of, last_white}
 ghost use Rattle.textwrap_marked.specs.Marks.{is_bullet};
 ghost use Rattle.textwrap_marked.specs.Signs.{last_word, may_go_on};
 ghost use Rattle.textwrap_marked.specs.Signs.{opens_paragraph};
-ghost use Rattle.textwrap_marked.specs.Words.{is_alphanumeric, spaced_view};
+ghost use Rattle.textwrap_marked.specs.Words.{has_letter, is_alphanumeric, spaced_view};
 
 use crate::marks::is_bullet;
 use crate::options::ReflowOptions;
@@ -116,8 +116,9 @@ pub(crate) fn begins_text(starred: bool, word: &str) -> bool
 }
 
 /// Whether a word begins with a small letter of ASCII and ends with another one or a comma, as most
-/// words do: then it is no sign and no bullet, and opens no paragraph.
+/// words do: then it has a letter, is no sign and no bullet, and opens no paragraph.
 fn is_usual(word: &str) -> bool
+    ensures letter { result ≡ true → has_letter word.now ≡ true }
     ensures sign { result ≡ true → is_sign word.now ≡ false }
     ensures first { result ≡ true → (slice_index word.now 0 == 42) ≡ false }
     ensures opens { result ≡ true → opens_paragraph word.now ≡ false }
@@ -135,11 +136,8 @@ fn is_usual(word: &str) -> bool
 pub(crate) fn may_go_on(options: &ReflowOptions<'_>, starred: bool, word: &str) -> bool
     ensures { result ≡ may_go_on options.now starred word.now }
 {
-    let may_begin = if is_usual(word) {
-        has_letter(word)
-    } else {
-        begins_text(starred, word) && !opens_paragraph(word) && !is_bullet(word)
-    };
+    let may_begin = is_usual(word)
+        || begins_text(starred, word) && !opens_paragraph(word) && !is_bullet(word);
     may_begin && !options.is_marker(word)
 }
 

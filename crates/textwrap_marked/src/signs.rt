@@ -1,5 +1,6 @@
 //! How a text begins, and what no paragraph contains.
-ghost use Rattle.std.specs.Prelude.{◌≡◌, ◌==◌, true, false, length, map, chars, slice_get, slice_index};
+ghost use Rattle.std.specs.Char.{is_ascii_lowercase};
+ghost use Rattle.std.specs.Prelude.{◌≡◌, ◌==◌, ◌||◌, true, false, length, map, chars, slice_get, slice_index};
 ghost use Rattle.std.specs.List.{list_all, list_any};
 ghost use Rattle.textwrap_marked.specs.Signs.{AreNoColumns, any_contains, begins_text, closes_block};
 ghost use Rattle.textwrap_marked.specs.Signs.{closes_early};
@@ -115,8 +116,15 @@ pub(crate) fn begins_text(starred: bool, word: &str) -> bool
     has_letter(word) & !is_sign(word) & !(starred & (first_byte(word) == b'*'))
 }
 
-/// Whether a word begins with a small letter of ASCII and ends with another one or a comma, as most
-/// words do: then it has a letter, is no sign and no bullet, and opens no paragraph.
+/// Whether a word that begins with a small letter may end so, and is no bullet or key then.
+fn is_usual_end(byte: u8) -> bool
+    ensures { result ≡ (is_ascii_lowercase byte || byte == 44 || byte == 46) }
+{
+    matches!(byte, b'a'..=b'z' | b',' | b'.')
+}
+
+/// Whether a word begins with a small letter of ASCII and ends with another one, a comma or a full
+/// stop, as most words do: then it has a letter, is no sign and no bullet, and opens no paragraph.
 fn is_usual(word: &str) -> bool
     ensures letter { result ≡ true → has_letter word.now ≡ true }
     ensures sign { result ≡ true → is_sign word.now ≡ false }
@@ -125,9 +133,7 @@ fn is_usual(word: &str) -> bool
     ensures bullet { result ≡ true → is_bullet word.now ≡ false }
 {
     match word.as_bytes() {
-        [first, .., last] => {
-            first.is_ascii_lowercase() && (last.is_ascii_lowercase() || *last == b',')
-        }
+        [first, .., last] => { first.is_ascii_lowercase() && is_usual_end(*last) }
         _ => false,
     }
 }

@@ -24,16 +24,9 @@ letter-first (c ∷ cs) utf8 some small =
     (sym (ap (λ l. l ++ cs) (encode_ascii c ascii))))
     ∙ ap (λ b. b || has_letter cs) (small-letter c small)
 
-pub returns-then-is_ascii_lowercase-2-clause-letter :
-    goal.returns-then-is_ascii_lowercase-2-clause-letter
-returns-then-is_ascii_lowercase-2-clause-letter c =
-    let same = c.as_bytes.ensures.value in
-    λ is. letter-first c.args.word.now c.utf8.word (rw same at c.in-len2-up.len_at_least)
-    (rw same at (sym c.is_ascii_lowercase.ensures.value ∙ c.if-is_ascii_lowercase.true))
-
-pub returns-else-is_ascii_lowercase-2-clause-letter :
-    goal.returns-else-is_ascii_lowercase-2-clause-letter
-returns-else-is_ascii_lowercase-2-clause-letter c =
+pub returns-then-is_ascii_lowercase-clause-letter :
+    goal.returns-then-is_ascii_lowercase-clause-letter
+returns-then-is_ascii_lowercase-clause-letter c =
     let same = c.as_bytes.ensures.value in
     λ is. letter-first c.args.word.now c.utf8.word (rw same at c.in-len2-up.len_at_least)
     (rw same at (sym c.is_ascii_lowercase.ensures.value ∙ c.if-is_ascii_lowercase.true))

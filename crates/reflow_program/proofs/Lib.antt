@@ -1,4 +1,6 @@
 pub mod CommandLemmas
+pub mod DiffHunks
+pub mod DiffLines
 pub mod InputLemmas
 pub mod MessageLemmas
 pub mod TreatedInputs

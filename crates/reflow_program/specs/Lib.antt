@@ -3,6 +3,7 @@ pub mod Arguments
 pub mod Faults
 pub mod Files
 pub mod Layout
+pub mod Differences
 pub mod Inputs
 pub mod Messages
 pub mod Program

@@ -11,11 +11,12 @@ use Rattle.textwrap_program.specs.Filling.{WritesPrefix}
 use Rattle.textwrap_program.specs.Program.{line_feed}
 use Rattle.reflow_program.specs.Arguments.{IsRequest, IsUnfit, help_text, reflow_app, version_text}
 use Rattle.reflow_program.specs.Files.{KnownFiles, SameFiles}
-use Rattle.reflow_program.specs.Inputs.{Checks, ChecksFile, Prints, PrintsFile, Replaces}
+use Rattle.reflow_program.specs.Inputs.{Checks, ChecksFile, Differs, DiffersFile, Prints, PrintsFile}
+use Rattle.reflow_program.specs.Inputs.{Replaces}
 use Rattle.reflow_program.specs.Messages.{is_closed, message_line, says_nothing, texts_of}
 use Rattle.reflow_program.specs.Words.{spelled_out}
 use Rattle.reflow_program.specs.declared.arguments.Mode.{Mode}
-use Rattle.reflow_program.specs.declared.arguments.Mode.TheVariants.{Print, Check, InPlace}
+use Rattle.reflow_program.specs.declared.arguments.Mode.TheVariants.{Print, Check, CheckDiff, Diff, InPlace}
 use Rattle.reflow_program.specs.declared.arguments.Request.{Request}
 use Rattle.reflow_program.specs.declared.arguments.Unfit.{Unfit}
 use Rattle.reflow_program.specs.declared.arguments.Unfit.TheVariants as unfit
@@ -96,6 +97,10 @@ module _ (layout : Layout) where
   TreatsInput InPlace unread left old new result = Prints layout unread left old new result
   TreatsInput Check unread left old new result =
       Checks layout standard_input unread left old new result
+  TreatsInput Diff unread left old new result =
+      Differs layout false (codes "-") unread left old new result
+  TreatsInput CheckDiff unread left old new result =
+      Differs layout true (codes "-") unread left old new result
 
   -- a file is read from its known bytes; only `InPlace` changes it, and then nothing is printed
   abbrev pub TreatsFile : Mode → List ℕ → KnownFiles → KnownFiles
@@ -104,6 +109,10 @@ module _ (layout : Layout) where
       SameFiles was is × PrintsFile layout (was name) old new result
   TreatsFile Check name was is old new result =
       SameFiles was is × ChecksFile layout name (was name) old new result
+  TreatsFile Diff name was is old new result =
+      SameFiles was is × DiffersFile layout false name (was name) old new result
+  TreatsFile CheckDiff name was is old new result =
+      SameFiles was is × DiffersFile layout true name (was name) old new result
   TreatsFile InPlace name was is old new result =
       Replaces layout name was is result × Keeps old new
 

@@ -3,6 +3,7 @@
 #![tactic(auto)]
 
 pub mod arguments;
+pub mod differences;
 pub mod disk;
 pub mod faults;
 pub mod files;

@@ -13,7 +13,9 @@ ghost use Rattle.reflow_program.specs.Program.{TreatsInput, Warns, all_well, joi
 use crate::arguments::{HELP, Mode, Request, Unfit, VERSION, matches_in, request_in};
 use crate::faults::{Fault, Reason};
 use crate::files::Files;
-use crate::inputs::{Treated, check_file, check_input, print_file, print_input, replace_file};
+use crate::inputs::{
+    Treated, check_file, check_input, diff_file, diff_input, print_file, print_input, replace_file,
+};
 use crate::words::spelled_out;
 use clap::ArgMatches;
 use clap::error::ErrorKind;
@@ -261,6 +263,22 @@ fn treat_input<R: Read, W: Write>(
 {
     match request.mode {
         Mode::Check => check_input(alloc, STANDARD_INPUT, reader, output, &request.layout),
+        Mode::Diff => diff_input(
+            alloc,
+            STANDARD_INPUT_NAME,
+            false,
+            reader,
+            output,
+            &request.layout,
+        ),
+        Mode::CheckDiff => diff_input(
+            alloc,
+            STANDARD_INPUT_NAME,
+            true,
+            reader,
+            output,
+            &request.layout,
+        ),
         Mode::Print | Mode::InPlace => { print_input(alloc, reader, output, &request.layout) }
     }
 }
@@ -281,6 +299,8 @@ fn treat_file<F: Files, W: Write>(
     match request.mode {
         Mode::Print => print_file(alloc, name, files, output, &request.layout),
         Mode::Check => check_file(alloc, name, files, output, &request.layout),
+        Mode::Diff => diff_file(alloc, name, false, files, output, &request.layout),
+        Mode::CheckDiff => diff_file(alloc, name, true, files, output, &request.layout),
         Mode::InPlace => replace_file(alloc, name, files, &request.layout),
     }
 }

@@ -17,10 +17,10 @@ const OF_INPUT: &[(&str, &str, &str)] = &[
     ("one line", "one two three four\n", "--- -\n+++ -\n@@ -1,1 +1,2 @@\n-one two three four\n+one two\n+three four\n"),
     ("lines before and behind", "- a\n\n- b\n\n- c\n\n- one two three\n\n- d\n\n- e\n\n- f\n", "\
 --- -\n+++ -\n@@ -4,7 +4,8 @@\n \n - c\n \n-- one two three\n+- one two\n+  three\n \n - d\n \n"),
-    ("two hunks", "one two three four\n\n- a\n- b\n- c\n- d\n- e\n\nfive six\nseven\n", "\
---- -\n+++ -\n@@ -1,4 +1,5 @@\n-one two three four\n+one two\n+three four\n \n - a\n - b\n@@ -6,5 +7,4 @@\n - d\n - e\n \n-five six\n-seven\n+five\n+six seven\n"),
-    ("one hunk, where six lines lie between", "one two three four\n\n- a\n- b\n- c\n- d\n\nfive six\nseven\n", "\
---- -\n+++ -\n@@ -1,9 +1,10 @@\n-one two three four\n+one two\n+three four\n \n - a\n - b\n - c\n - d\n \n-five six\n-seven\n+five\n+six seven\n"),
+    ("two hunks", "one two three four\n\n- a\n- b\n- c\n- d\n- e\n\nfive six seven\n", "\
+--- -\n+++ -\n@@ -1,4 +1,5 @@\n-one two three four\n+one two\n+three four\n \n - a\n - b\n@@ -6,4 +7,5 @@\n - d\n - e\n \n-five six seven\n+five six\n+seven\n"),
+    ("one hunk, where six lines lie between", "one two three four\n\n- a\n- b\n- c\n- d\n\nfive six seven\n", "\
+--- -\n+++ -\n@@ -1,8 +1,10 @@\n-one two three four\n+one two\n+three four\n \n - a\n - b\n - c\n - d\n \n-five six seven\n+five six\n+seven\n"),
     ("no line feed at the end", "one two three four", "\
 --- -\n+++ -\n@@ -1,1 +1,2 @@\n-one two three four\n\\ No newline at end of file\n+one two\n+three four\n\\ No newline at end of file\n"),
     ("none behind a line that stays", "one two three four\n\nfive", "\
@@ -46,14 +46,14 @@ const OF_TEXTS: &[(&str, &str, &str, &str)] = &[
     ("a line feed goes", "a\nb\n", "a\nb", "@@ -1,2 +1,2 @@\n a\n-b\n+b\n\\ No newline at end of file\n"),
     ("a line comes in front", "a\nb\nc\nd\n", "x\na\nb\nc\nd\n", "@@ -1,3 +1,4 @@\n+x\n a\n b\n c\n"),
     ("a line goes at the end", "a\nb\nc\nd\ne\n", "a\nb\nc\nd\n", "@@ -2,4 +2,3 @@\n b\n c\n d\n-e\n"),
-    ("lines with signs of their own", "-a\n+b\n\\ c\n", "-a\n@@ b\n\\ c\n", "@@ -1,3 +1,3 @@\n --a\n-+b\n+@@ b\n \\ c\n"),
+    ("lines with signs of their own", "-a\n+b\n\\ c\n", "-a\n@@ b\n\\ c\n", "@@ -1,3 +1,3 @@\n -a\n-+b\n+@@ b\n \\ c\n"),
 ];
 
 #[test]
 fn diffs_of_two_texts(rt: HostRuntime) {
     for &(rule, old, new, diff) in OF_TEXTS {
         let found = diff_text(rt.alloc(), "a b", old.as_bytes(), new.as_bytes()).expect(&rt, rule);
-        let (names, hunks) = found.split_at(found.len().min(16));
+        let (names, hunks) = found.split_at(found.len().min(18));
         assert_bytes(&rt, rule, names, b"--- a b\t\n+++ a b\t\n");
         assert_bytes(&rt, rule, hunks, diff.as_bytes());
     }
@@ -78,9 +78,11 @@ const FILES: &[Given] = &[
     ("no text", b"one \xFF", FileFault::Nothing),
 ];
 
-const DIFF_OF_A: &str = "--- a\n+++ a\n@@ -1,1 +1,2 @@\n-one two three four\n+one two\n+three four\n";
+const DIFF_OF_A: &str =
+    "--- a\n+++ a\n@@ -1,1 +1,2 @@\n-one two three four\n+one two\n+three four\n";
 
-const DIFF_OF_B: &str = "--- my b\t\n+++ my b\t\n@@ -1,1 +1,2 @@\n-five six seven\n+five\n+six seven\n";
+const DIFF_OF_B: &str =
+    "--- my b\t\n+++ my b\t\n@@ -1,1 +1,2 @@\n-five six seven\n+five six\n+seven\n";
 
 /// A rule, the words, what goes wrong with the output, the output in two parts, the messages, and the
 /// status.

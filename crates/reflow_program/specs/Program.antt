@@ -63,11 +63,13 @@ abbrev pub status_of : Result Treated Fault → ℕ
 status_of (Ok treated) = if treated.changes then 1 else 0
 status_of (Err fault) = 2
 
--- how a run ends with an input of which this became
+-- how a run ends with an input of which this became; what its draft is called, where one is told of,
+-- is what the files say
 abbrev pub Reports : List ℕ → Result Treated Fault → Option (List ℕ) → Option (List ℕ) → Ending
     → Type 0
 Reports name result old new ending =
-    SaysUnless (says_nothing result) (message_line name (texts_of name result)) old new ending.said
+    ((draft : List ℕ)
+    × SaysUnless (says_nothing result) (message_line name (texts_of draft result)) old new ending.said)
     × (ending.status ≡ status_of result)
 
 abbrev pub all_well : Ending

@@ -7,12 +7,12 @@ ghost use Rattle.reflow_program.specs.Differences.{IsDiffText, IsNearIf, ArePush
 ghost use Rattle.reflow_program.specs.Differences.{name_end, names_text, news, olds, range_text, sign_byte, signed_text, signed_view, text_lines};
 
 use itoa::Buffer;
-use std::alloc::{AllocError, Global};
+use std::alloc::{AllocError, Allocator};
 
 /// How many lines before and behind a change are shown with it.
 const CONTEXT: usize = 3;
 
-/// How many lines of both texts are looked through at a change for the next line that both have.
+/// How many changed lines of both texts may lie before the next line that both have.
 const REACH: usize = 1000;
 
 /// What becomes of a line.
@@ -40,7 +40,12 @@ pub struct SignedLine<'t> {
 ///
 /// # Errors
 /// [`AllocError`] where memory runs out.
-pub fn diff_text(alloc: Global, name: &str, old: &[u8], new: &[u8]) -> Result<Vec<u8>, AllocError>
+pub fn diff_text<A: Allocator + Copy>(
+    alloc: A,
+    name: &str,
+    old: &[u8],
+    new: &[u8],
+) -> Result<Vec<u8, A>, AllocError>
     ensures { IfOk result (λ text. IsDiffText name.now old.now new.now text.items) }
 {
     let old = lines_of(alloc, old)?;
@@ -55,7 +60,7 @@ pub fn diff_text(alloc: Global, name: &str, old: &[u8], new: &[u8]) -> Result<Ve
 // ---- lines
 
 /// The lines of a text, each with its line feed, which only the last may lack.
-fn lines_of<'t>(alloc: Global, text: &'t [u8]) -> Result<Vec<&'t [u8]>, AllocError>
+fn lines_of<'t, A: Allocator>(alloc: A, text: &'t [u8]) -> Result<Vec<&'t [u8], A>, AllocError>
     ensures { IfOk result (λ lines. map (λ line. line.now) lines.items ≡ text_lines text.now) }
 {
     let mut lines = Vec::new(alloc);
@@ -84,11 +89,11 @@ fn line_len(text: &[u8]) -> usize
 }
 
 /// All lines of both texts, in an order that is the one of each.
-fn signed_lines<'t>(
-    alloc: Global,
+fn signed_lines<'t, A: Allocator>(
+    alloc: A,
     old: &[&'t [u8]],
     new: &[&'t [u8]],
-) -> Result<Vec<SignedLine<'t>>, AllocError>
+) -> Result<Vec<SignedLine<'t>, A>, AllocError>
     ensures olds { IfOk result (λ signed.
         olds (map signed_view signed.items) ≡ map (λ line. line.now) old.now) }
     ensures news { IfOk result (λ signed.
@@ -106,8 +111,8 @@ fn signed_lines<'t>(
 
 /// Adds the lines that both texts begin with, and the change behind them. Returns how many lines of
 /// either these are.
-fn push_next<'t>(
-    signed: &mut Vec<SignedLine<'t>>,
+fn push_next<'t, A: Allocator>(
+    signed: &mut Vec<SignedLine<'t>, A>,
     old: &[&'t [u8]],
     new: &[&'t [u8]],
 ) -> Result<(usize, usize), AllocError>
@@ -130,8 +135,8 @@ fn push_next<'t>(
 }
 
 /// Adds lines, of all of which the same becomes.
-fn push_signed<'t>(
-    signed: &mut Vec<SignedLine<'t>>,
+fn push_signed<'t, A: Allocator>(
+    signed: &mut Vec<SignedLine<'t>, A>,
     sign: Sign,
     lines: &[&'t [u8]],
 ) -> Result<(), AllocError>
@@ -160,7 +165,7 @@ fn common_len(old: &[&[u8]], new: &[&[u8]]) -> usize
 }
 
 /// How many lines are removed, and how many added, before the next line that both have: the nearest
-/// within reach, or else all.
+/// within reach, or else as many as are half of it.
 fn change_lens(old: &[&[u8]], new: &[&[u8]]) -> (usize, usize)
     ensures old { result.0 ≤ length old.now }
     ensures new { result.1 ≤ length new.now }
@@ -171,7 +176,8 @@ fn change_lens(old: &[&[u8]], new: &[&[u8]]) -> (usize, usize)
             return (removed, changed - removed);
         }
     }
-    (old.len(), new.len())
+    // So the time that is lost grows with the text, and not with its square.
+    (old.len().min(REACH / 2), new.len().min(REACH / 2))
 }
 
 /// How many of so many changed lines are removed, the others being added, if a line that both have
@@ -269,7 +275,10 @@ fn next_place(lines: &[SignedLine<'_>], from: usize, near: bool) -> usize
 }
 
 /// Adds the hunks of these lines.
-fn push_hunks(text: &mut Vec<u8>, lines: &[SignedLine<'_>]) -> Result<(), AllocError>
+fn push_hunks<A: Allocator>(
+    text: &mut Vec<u8, A>,
+    lines: &[SignedLine<'_>],
+) -> Result<(), AllocError>
     ensures { OnOk result (ArePushed (map signed_view lines.now) text.old.items text.new.items) }
 {
     let (mut old_start, mut new_start) = (0, 0);
@@ -310,7 +319,7 @@ fn new_len(lines: &[SignedLine<'_>]) -> usize
 // ---- how they are written
 
 /// Adds the lines that say of which file the texts are.
-fn push_names(text: &mut Vec<u8>, name: &str) -> Result<(), AllocError>
+fn push_names<A: Allocator>(text: &mut Vec<u8, A>, name: &str) -> Result<(), AllocError>
     ensures { OnOk result (text.new.items ≡ text.old.items ++ names_text name.now) }
 {
     let end = name_end(name);
@@ -335,7 +344,11 @@ fn name_end(name: &str) -> &'static [u8]
 
 /// Adds the line that a hunk begins with: for either text how many lines stand before the hunk, and
 /// how many it has.
-fn push_head(text: &mut Vec<u8>, old: (usize, usize), new: (usize, usize)) -> Result<(), AllocError>
+fn push_head<A: Allocator>(
+    text: &mut Vec<u8, A>,
+    old: (usize, usize),
+    new: (usize, usize),
+) -> Result<(), AllocError>
     requires old { old.0 < 2 ^ 63 }
     requires new { new.0 < 2 ^ 63 }
     ensures { OnOk result (text.new.items
@@ -350,7 +363,11 @@ fn push_head(text: &mut Vec<u8>, old: (usize, usize), new: (usize, usize)) -> Re
 
 /// Adds the number of the first of so many lines that stand behind so many others, and how many they
 /// are. Of no lines, it is the number of the line before them.
-fn push_range(text: &mut Vec<u8>, start: usize, len: usize) -> Result<(), AllocError>
+fn push_range<A: Allocator>(
+    text: &mut Vec<u8, A>,
+    start: usize,
+    len: usize,
+) -> Result<(), AllocError>
     requires { start < 2 ^ 63 }
     ensures { OnOk result (text.new.items ≡ text.old.items ++ range_text start len) }
 {
@@ -361,7 +378,10 @@ fn push_range(text: &mut Vec<u8>, start: usize, len: usize) -> Result<(), AllocE
 }
 
 /// Adds the lines of a hunk.
-fn push_lines(text: &mut Vec<u8>, lines: &[SignedLine<'_>]) -> Result<(), AllocError>
+fn push_lines<A: Allocator>(
+    text: &mut Vec<u8, A>,
+    lines: &[SignedLine<'_>],
+) -> Result<(), AllocError>
     ensures { OnOk result (text.new.items
         ≡ text.old.items ++ flat_map line_text (map signed_view lines.now)) }
 {
@@ -372,7 +392,7 @@ fn push_lines(text: &mut Vec<u8>, lines: &[SignedLine<'_>]) -> Result<(), AllocE
 }
 
 /// Adds a line behind its sign.
-fn push_line(text: &mut Vec<u8>, signed: &SignedLine<'_>) -> Result<(), AllocError>
+fn push_line<A: Allocator>(text: &mut Vec<u8, A>, signed: &SignedLine<'_>) -> Result<(), AllocError>
     ensures { OnOk result (text.new.items
         ≡ text.old.items ++ line_text (signed_view signed.now)) }
 {

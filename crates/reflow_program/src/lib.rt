@@ -8,6 +8,7 @@ pub mod disk;
 pub mod faults;
 pub mod files;
 pub mod inputs;
+pub mod laws;
 pub mod layout;
 pub mod program;
 pub mod words;

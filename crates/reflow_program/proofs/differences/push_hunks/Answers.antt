@@ -25,7 +25,7 @@ lens-view lines first last old_len new_len order within old_is new_is =
 
 -- a line near a change is followed by one that is not, or by none
 pub returns-then-first-last : goal.returns-then-first-last
-returns-then-first-last c =
+returns-then-first-last g c =
     let lines : List SignedText = map signed_view c.args.lines.now in
     let first = c.next_place-first.result in
     let same : first ≡ c.next_place-last.result = omega arith in
@@ -38,21 +38,21 @@ returns-then-first-last c =
     (let len = length-lines c.args.lines.now in omega arith) from)
 
 pub overflow_add-old_start-in-loop-at : goal.overflow_add-old_start-in-loop-at
-overflow_add-old_start-in-loop-at c =
+overflow_add-old_start-in-loop-at g c =
     let lens = lens-view c.args.lines.now c.next_place-first.result c.next_place-last.result
     c.old_len-old_len.result c.new_len-new_len.result (omega arith) (omega arith) c.old_len-old_len.ensures
     c.new_len-new_len.ensures in
     omega arith
 
 pub overflow_add-new_start-in-loop-at : goal.overflow_add-new_start-in-loop-at
-overflow_add-new_start-in-loop-at c =
+overflow_add-new_start-in-loop-at g c =
     let lens = lens-view c.args.lines.now c.next_place-first.result c.next_place-last.result
     c.old_len-old_len.result c.new_len-new_len.result (omega arith) (omega arith) c.old_len-old_len.ensures
     c.new_len-new_len.ensures in
     omega arith
 
 pub loop-at-preserved : goal.loop-at-preserved
-loop-at-preserved c =
+loop-at-preserved g c =
     let lines : List SignedText = map signed_view c.args.lines.now in
     let at = c.loop-at.at in
     let first = c.next_place-first.result in
@@ -81,7 +81,7 @@ loop-at-preserved c =
     }
 
 pub returns : goal.returns
-returns c =
+returns g c =
     HasPushed-all (map signed_view c.args.lines.now) _ _ c.loop-at.at c.loop-at.old_start c.loop-at.new_start
     c.loop-at.invariant.pushed
     (λ k below from. absurd (let len = length-lines c.args.lines.now in omega arith))

@@ -5,7 +5,7 @@ use Rattle.reflow_program.proofs.differences.push_hunks.Given as goal
 
 -- the hunks before this place were pushed, and the last one ends there
 abbrev pub invariant-loop-at : goal.invariant-loop-at
-invariant-loop-at l = record {
+invariant-loop-at g l = record {
   within : l.at ≤ length l.lines;
   old : l.old_start ≤ l.at;
   new : l.new_start ≤ l.at;
@@ -15,4 +15,4 @@ invariant-loop-at l = record {
 }
 
 abbrev pub decreases-loop-at : goal.decreases-loop-at
-decreases-loop-at l = length l.lines - l.at
+decreases-loop-at g l = length l.lines - l.at

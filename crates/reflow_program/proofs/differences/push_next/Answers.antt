@@ -5,7 +5,7 @@ use Rattle.reflow_program.proofs.DiffLines.{news-grown, olds-grown, taken-lines,
 use Rattle.reflow_program.proofs.differences.push_next.Goals as goal
 
 pub returns-clause-olds : goal.returns-clause-olds
-returns-clause-olds c =
+returns-clause-olds g c =
     let before = olds (map signed_view c.args.signed.now.items) in
     let kept = c.common_len-kept_len.result in
     let removed = c.change_lens-removed_len.result.0 in
@@ -16,7 +16,7 @@ returns-clause-olds c =
     (rw (c.split_at.ensures.front, c.split_at.ensures.back) (taken-lines old kept removed))
 
 pub returns-clause-news : goal.returns-clause-news
-returns-clause-news c =
+returns-clause-news g c =
     let before = news (map signed_view c.args.signed.now.items) in
     let kept = c.common_len-kept_len.result in
     let added = c.change_lens-removed_len.result.1 in

@@ -4,7 +4,7 @@ use Rattle.reflow_program.proofs.differences.push_signed.Given as goal
 
 -- the lines so far were added
 abbrev pub invariant-loop-line : goal.invariant-loop-line
-invariant-loop-line l =
+invariant-loop-line g l =
     map signed_view l.signed.items
     ≡ map signed_view l.initial.signed.items
     ++ map (signed_text l.sign) (map (λ line. line.now) (take l.line-index l.lines))

@@ -3,7 +3,7 @@ use Rattle.reflow_program.proofs.DiffLines.{taken-further}
 use Rattle.reflow_program.proofs.differences.signed_lines.Goals as goal
 
 pub loop-old_at-preserved : goal.loop-old_at-preserved
-loop-old_at-preserved c = record {
+loop-old_at-preserved g c = record {
   old = omega (arith, c.in_ok-old_len.ensures.within_old);
   new = omega (arith, c.in_ok-old_len.ensures.within_new);
   olds = taken-further c.args.old.now c.loop-old_at.old_at c.in_ok-old_len.old_len _ _

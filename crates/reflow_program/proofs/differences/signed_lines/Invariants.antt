@@ -4,7 +4,7 @@ use Rattle.reflow_program.proofs.differences.signed_lines.Given as goal
 
 -- so many lines of either text were taken
 abbrev pub invariant-loop-old_at : goal.invariant-loop-old_at
-invariant-loop-old_at l = record {
+invariant-loop-old_at g l = record {
   old : l.old_at ≤ length l.old;
   new : l.new_at ≤ length l.new;
   olds : olds (map signed_view l.signed.items) ≡ take l.old_at (map (λ line. line.now) l.old);
@@ -12,4 +12,4 @@ invariant-loop-old_at l = record {
 }
 
 abbrev pub decreases-loop-old_at : goal.decreases-loop-old_at
-decreases-loop-old_at l = (length l.old - l.old_at) + (length l.new - l.new_at)
+decreases-loop-old_at g l = (length l.old - l.old_at) + (length l.new - l.new_at)

@@ -4,10 +4,12 @@ use super::folder::{FileFault, Given};
 use super::plain::{
     Start, assert_bytes, assert_ending, assert_left, assert_number, assert_reflowed, run,
 };
-use fakes::streams::{FeedFault, SinkFault};
+use fakes::heap::Heap;
+use fakes::streams::{Feed, FeedFault, SinkFault};
 use reflow_program::differences::diff_text;
 use std::io::ErrorKind;
 use std::process::Abort;
+use textwrap_program::filling::{RunError, read_to_end};
 
 /// A rule, the standard input, and the diff at ten columns.
 #[rattlefmt::skip]
@@ -59,16 +61,16 @@ fn diffs_of_two_texts(rt: HostRuntime) {
     }
 }
 
-/// A diff of lines of which no two are the same is one change, however many they are.
+/// A diff of lines of which no two are the same is one hunk, however many they are.
 #[test]
 fn a_large_text_without_a_common_line(rt: HostRuntime) {
     let old = "one two three four\n"
-        .repeat(rt.alloc(), 2_000)
+        .repeat(rt.alloc(), 600)
         .expect(&rt, "old");
-    let new = "one two\n".repeat(rt.alloc(), 3_000).expect(&rt, "new");
+    let new = "one two\n".repeat(rt.alloc(), 700).expect(&rt, "new");
     let found = diff_text(rt.alloc(), "a", old.as_bytes(), new.as_bytes()).expect(&rt, "a diff");
-    assert!(rt; found.starts_with(b"--- a\n+++ a\n@@ -1,2000 +1,3000 @@\n-one two three four\n"));
-    assert_number(&rt, "its length", found.len(), 34 + 2_000 * 20 + 3_000 * 9);
+    assert!(rt; found.starts_with(b"--- a\n+++ a\n@@ -1,600 +1,700 @@\n-one two three four\n"));
+    assert_number(&rt, "its length", found.len(), 32 + 600 * 20 + 700 * 9);
 }
 
 const FILES: &[Given] = &[
@@ -129,4 +131,51 @@ fn diffs_of_files(rt: HostRuntime) {
     for row in RUNS {
         assert_run(&rt, row);
     }
+}
+
+const OLD: &str = "- a\n- b\n\none two three four\n\n- c\n- d\n- e\n- f\n- g\n- h\n\nfive six seven\n";
+
+const NEW: &str = "- a\n- b\n\none two\nthree four\n\n- c\n- d\n- e\n- f\n- g\n- h\n\nfive six\nseven\n";
+
+const OLD_TO_NEW: &str = "--- a\n+++ a\n@@ -1,7 +1,8 @@\n - a\n - b\n \n-one two three four\n+one two\n+three four\n \n - c\n - d\n\
+@@ -10,4 +11,5 @@\n - g\n - h\n \n-five six seven\n+five six\n+seven\n";
+
+/// Each allocation of a diff is refused in turn: then it is out of memory, and never another text.
+#[test]
+fn refused_allocations_of_a_diff_are_told(rt: HostRuntime) {
+    let heap = Heap::new(rt.alloc(), 0);
+    for allowed in 0..100 {
+        heap.allow(allowed);
+        if let Ok(diff) = diff_text(&heap, "a", OLD.as_bytes(), NEW.as_bytes()) {
+            assert_bytes(&rt, "a diff", &diff, OLD_TO_NEW.as_bytes());
+            assert_number(&rt, "allocations left", heap.left(), 0);
+            assert!(rt; 10 < allowed, "{allowed} allocations");
+            return;
+        }
+        assert!(rt; heap.left() == usize::MAX, "{allowed} allocations");
+    }
+    assert!(rt; false, "a diff takes more than a hundred allocations");
+}
+
+/// The same of a reader that is read to its end.
+#[test]
+fn refused_allocations_of_reading_are_told(rt: HostRuntime) {
+    let heap = Heap::new(rt.alloc(), 0);
+    for allowed in 0..100 {
+        heap.allow(allowed);
+        let mut reader =
+            Feed::new(rt.alloc(), OLD.as_bytes(), 3, FeedFault::Nothing).expect(&rt, "a reader");
+        match read_to_end(&heap, &mut reader) {
+            Ok(input) => {
+                assert_bytes(&rt, "the input", &input, OLD.as_bytes());
+                assert_number(&rt, "allocations left", heap.left(), 0);
+                return;
+            }
+            Err(error) => {
+                assert!(rt; error == RunError::Memory, "{allowed} allocations");
+                assert!(rt; heap.left() == usize::MAX, "{allowed} allocations");
+            }
+        }
+    }
+    assert!(rt; false, "reading takes more than a hundred allocations");
 }

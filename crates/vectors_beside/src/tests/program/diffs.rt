@@ -133,11 +133,14 @@ fn diffs_of_files(rt: HostRuntime) {
     }
 }
 
-const OLD: &str = "- a\n- b\n\none two three four\n\n- c\n- d\n- e\n- f\n- g\n- h\n\nfive six seven\n";
+const OLD: &str =
+    "- a\n- b\n\none two three four\n\n- c\n- d\n- e\n- f\n- g\n- h\n\nfive six seven\n";
 
-const NEW: &str = "- a\n- b\n\none two\nthree four\n\n- c\n- d\n- e\n- f\n- g\n- h\n\nfive six\nseven\n";
+const NEW: &str =
+    "- a\n- b\n\none two\nthree four\n\n- c\n- d\n- e\n- f\n- g\n- h\n\nfive six\nseven\n";
 
-const OLD_TO_NEW: &str = "--- a\n+++ a\n@@ -1,7 +1,8 @@\n - a\n - b\n \n-one two three four\n+one two\n+three four\n \n - c\n - d\n\
+const OLD_TO_NEW: &str =
+    "--- a\n+++ a\n@@ -1,7 +1,8 @@\n - a\n - b\n \n-one two three four\n+one two\n+three four\n \n - c\n - d\n\
 @@ -10,4 +11,5 @@\n - g\n - h\n \n-five six seven\n+five six\n+seven\n";
 
 /// Each allocation of a diff is refused in turn: then it is out of memory, and never another text.
@@ -163,8 +166,9 @@ fn refused_allocations_of_reading_are_told(rt: HostRuntime) {
     let heap = Heap::new(rt.alloc(), 0);
     for allowed in 0..100 {
         heap.allow(allowed);
-        let mut reader =
-            Feed::new(rt.alloc(), OLD.as_bytes(), 3, FeedFault::Nothing).expect(&rt, "a reader");
+        let mut reader = Feed::new(rt.alloc(), OLD.as_bytes(), 3, FeedFault::Nothing).expect(
+            &rt, "a reader",
+        );
         match read_to_end(&heap, &mut reader) {
             Ok(input) => {
                 assert_bytes(&rt, "the input", &input, OLD.as_bytes());

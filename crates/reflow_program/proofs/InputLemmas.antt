@@ -1,5 +1,5 @@
 -- Lemmas on what becomes of one input: whether its output is another text, and what is written of it.
-use Rattle.std.proofs.Common.{◌≡◌, ◌≢◌, ◌∙◌, sym, subst, true, false, ℕ, List}
+use Rattle.std.proofs.Common.{◌≡◌, ◌≢◌, ◌∙◌, sym, subst, true, false, ℕ, List, Bool}
 use Rattle.std.proofs.Common.{Option, Err}
 use Rattle.std.proofs.KnownBytes.{Keeps-refl}
 use Rattle.std.proofs.lemmas.Bool.{false≢true}
@@ -9,7 +9,8 @@ use Rattle.textwrap_program.specs.Filling.{ReadsAll, WritesPrefix}
 use Rattle.textwrap_program.specs.Program.{TriesLine}
 use Rattle.reflow_program.specs.Faults.{IsOfDraft, IsOfOutput}
 use Rattle.reflow_program.specs.Files.{Becomes, KnownFiles, SameFiles}
-use Rattle.reflow_program.specs.Inputs.{Checks, IsReplaced, Prints, Reads, ReadsText, Replaces}
+use Rattle.reflow_program.specs.Differences.{IsDiffText}
+use Rattle.reflow_program.specs.Inputs.{Checks, Differs, IsReplaced, Prints, Reads, ReadsText, Replaces}
 use Rattle.reflow_program.specs.declared.faults.Fault.{Fault}
 use Rattle.reflow_program.specs.declared.faults.Fault.TheVariants.{Read, NotUtf8, Memory, Write}
 use Rattle.reflow_program.specs.declared.layout.Layout.{Layout}
@@ -25,6 +26,12 @@ pub compared-other : (xs ys input output : List ℕ) → xs ≡ input → ys ≡
     → false ≡ bytes_eq xs ys → output ≢ input
 compared-other xs ys input output x y differ same =
     false≢true (differ ∙ (bytes_eq-Decides xs ys).1 (x ∙ sym same ∙ sym y))
+
+-- the diff of two texts is that of the same texts
+pub IsDiffText-of : (name input output old new text : List ℕ) → old ≡ input → new ≡ output
+    → IsDiffText name old new text → IsDiffText name input output text
+IsDiffText-of name input output old new text x y is =
+    subst (λ t. IsDiffText name input t text) y (subst (λ t. IsDiffText name t new text) x is)
 
 -- ---- faults
 
@@ -64,6 +71,17 @@ module _ (layout : Layout) (unread left : Option (List ℕ)) where
     checks-unwritten name old new (Read reason) differs tries of = absurd of
     checks-unwritten name old new (NotUtf8 valid) differs tries of = absurd of
     checks-unwritten name old new Memory differs tries of = absurd of
+
+    -- a diff of which a prefix is written
+    pub differs-unwritten : (counts : Bool) (name text : List ℕ) (old new : Option (List ℕ))
+        (fault : Fault) → output ≢ input → IsDiffText name input output text
+        → WritesPrefix old new text → IsOfOutput fault
+        → Differs layout counts name unread left old new (Err fault)
+    differs-unwritten counts name text old new (Write reason) differ is prefix of =
+        (input, output, text, reads, differ, is, prefix)
+    differs-unwritten counts name text old new (Read reason) differ is prefix of = absurd of
+    differs-unwritten counts name text old new (NotUtf8 valid) differ is prefix of = absurd of
+    differs-unwritten counts name text old new Memory differ is prefix of = absurd of
 
 -- a file that cannot be replaced
 pub replaces-unput : (layout : Layout) (name : List ℕ) (old new : KnownFiles) (fault : Fault)

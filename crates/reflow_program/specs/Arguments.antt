@@ -18,7 +18,7 @@ use Rattle.textwrap_marked.specs.declared.within.LineRange.{LineRange}
 use Rattle.std.specs.List.{after_first, before_first, position_or_len}
 use Rattle.std.specs.Prelude.{◌==◌, length, nat_lt, option_map}
 use Rattle.reflow_program.specs.declared.arguments.Mode.{Mode}
-use Rattle.reflow_program.specs.declared.arguments.Mode.TheVariants.{Print, Check, InPlace}
+use Rattle.reflow_program.specs.declared.arguments.Mode.TheVariants.{Print, Check, CheckDiff, Diff, InPlace}
 use Rattle.reflow_program.specs.declared.arguments.Request.{Request}
 use Rattle.reflow_program.specs.declared.arguments.Unfit.{Unfit}
 use Rattle.reflow_program.specs.declared.arguments.Unfit.TheVariants as unfit
@@ -55,6 +55,7 @@ reflow_rules =
     ∷ flag_rule (codes "justify") ∷ flag_rule (codes "markdown") ∷ text_rule (codes "marker")
     ∷ flag_rule (codes "bare") ∷ text_rule (codes "prefix") ∷ flag_rule (codes "indented")
     ∷ lines_rule ∷ flag_rule (codes "lf") ∷ flag_rule (codes "crlf") ∷ flag_rule (codes "check")
+    ∷ flag_rule (codes "diff")
     ∷ flag_rule (codes "in-place") ∷ flag_rule (codes "keep-code") ∷ file_rule ∷ []
 
 -- the words are those after the program's name, and of what may stand once the last use counts
@@ -94,6 +95,7 @@ help_lines =
     ∷ codes "      --lf             End all lines with LF"
     ∷ codes "      --crlf           End all lines with CR LF"
     ∷ codes "      --check          Print the names of files that would change"
+    ∷ codes "      --diff           Print what would change, as a unified diff"
     ∷ codes "      --in-place       Replace each file, by way of a new file FILE.reflow"
     ∷ codes "  -h, --help           Print help"
     ∷ codes "  -V, --version        Print version"
@@ -161,10 +163,12 @@ abbrev pub ending_beside : Option LineRange → Option LineEnding → Option Lin
 ending_beside (Some range) ending = None
 ending_beside None ending = ending
 
--- a check counts for more than replacing
+-- a diff counts for more than a check alone, and that for more than replacing
 abbrev pub mode_in : List Row → Mode
 mode_in rows =
-    if flag_in (codes "check") rows then Check
+    if flag_in (codes "diff") rows && flag_in (codes "check") rows then CheckDiff
+    else if flag_in (codes "diff") rows then Diff
+    else if flag_in (codes "check") rows then Check
     else if flag_in (codes "in-place") rows then InPlace
     else Print
 

@@ -1,11 +1,12 @@
 -- What becomes of one input, where texts are laid out so.
-use Rattle.std.specs.Prelude.{◌≡◌, ◌≢◌, ℕ, Bool, true, false, List, Option, Result, Ok, Err}
+use Rattle.std.specs.Prelude.{◌≡◌, ◌≢◌, ◌&&◌, ℕ, Bool, true, false, List, Option, Result, Ok, Err}
 use Rattle.std.specs.Prelude.{[], ◌∷◌, ◌++◌, ◌⊎◌, ⊤, string_bytes}
 use Rattle.std.specs.Str.{IsUtf8}
 use Rattle.std.specs.Str.Lossy.{utf8_valid_len}
 use Rattle.std.specs.Io.KnownBytes.{Appends, Keeps}
 use Rattle.textwrap_program.specs.Filling.{ReadsAll, WritesPrefix}
 use Rattle.textwrap_program.specs.Program.{TriesLine, line_feed}
+use Rattle.reflow_program.specs.Differences.{IsDiffText}
 use Rattle.reflow_program.specs.Files.{Becomes, KnownFiles, SameFiles}
 use Rattle.reflow_program.specs.Layout.{IsLaidOut, has_marks}
 use Rattle.reflow_program.specs.declared.faults.Fault.{Fault}
@@ -34,6 +35,13 @@ ReadsNoText unread left valid = (input : List ℕ) × ReadsAll unread left input
 abbrev pub Tells : List ℕ → Option (List ℕ) → Option (List ℕ) → List ℕ → List ℕ → Bool → Type 0
 Tells name old new input output false = (output ≡ input) × Keeps old new
 Tells name old new input output true = (output ≢ input) × Appends old new (name ++ line_feed ∷ [])
+
+-- what a diff writes: the text of one exactly if the output is another text
+abbrev pub TellsDiff : List ℕ → Option (List ℕ) → Option (List ℕ) → List ℕ → List ℕ → Bool → Type 0
+TellsDiff name old new input output false = (output ≡ input) × Keeps old new
+TellsDiff name old new input output true =
+    (output ≢ input)
+    × ((text : List ℕ) × IsDiffText name input output text × Appends old new text)
 
 module _ (layout : Layout) where
   -- what a text becomes, or a fault: `NotUtf8` exactly if it is none
@@ -96,6 +104,28 @@ module _ (layout : Layout) where
       → Result Treated Fault → Type 0
   ChecksFile name unread old new result =
       (left : Option (List ℕ)) × Checks name unread left old new result
+
+  -- a diff of an input of this name: it is written exactly if the output is another text, which counts
+  -- as a change if that is asked for
+  abbrev pub Differs : Bool → List ℕ → Option (List ℕ) → Option (List ℕ)
+      → Option (List ℕ) → Option (List ℕ) → Result Treated Fault → Type 0
+  Differs counts name unread left old new (Ok treated) =
+      (input : List ℕ) × (output : List ℕ) × (differs : Bool)
+      × ReadsText unread left input output × TellsDiff name old new input output differs
+      × (treated.changes ≡ (counts && differs))
+      × (treated.has_marks ≡ has_marks layout.options input)
+  Differs counts name unread left old new (Err (NotUtf8 valid)) =
+      ReadsNoText unread left valid × Keeps old new
+  Differs counts name unread left old new (Err (Write reason)) =
+      (input : List ℕ) × (output : List ℕ) × (text : List ℕ)
+      × ReadsText unread left input output × (output ≢ input)
+      × IsDiffText name input output text × WritesPrefix old new text
+  Differs counts name unread left old new (Err _) = Keeps old new
+
+  abbrev pub DiffersFile : Bool → List ℕ → Option (List ℕ) → Option (List ℕ) → Option (List ℕ)
+      → Result Treated Fault → Type 0
+  DiffersFile counts name unread old new result =
+      (left : Option (List ℕ)) × Differs counts name unread left old new result
 
   -- a file in its place: it is replaced exactly if the output is another text, and at a fault all
   -- files are as they were

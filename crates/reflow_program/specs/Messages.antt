@@ -34,28 +34,28 @@ abbrev pub writing_text : Reason → List ℕ
 writing_text NotFound = codes "not found"
 writing_text NotPermitted = codes "may not be written"
 writing_text IsFolder = codes "is a folder"
-writing_text HasDraft = codes ".reflow is there already"
+writing_text HasDraft = codes " is there already"
 writing_text NoSpace = codes "no space is left"
 writing_text _ = codes "cannot write"
 
--- what the name of a draft begins with, where that is told of it
+-- the draft, where that is told of it
 abbrev pub draft_of : List ℕ → Reason → List ℕ
-draft_of name HasDraft = name
-draft_of name _ = []
+draft_of draft HasDraft = draft
+draft_of draft _ = []
 
--- what is said of a fault, at the input of this name
+-- what is said of a fault, where the draft of the file is called so
 abbrev pub fault_texts : List ℕ → Fault → List (List ℕ)
-fault_texts name (Read reason) = reading_text reason ∷ []
-fault_texts name (NotUtf8 valid) =
+fault_texts draft (Read reason) = reading_text reason ∷ []
+fault_texts draft (NotUtf8 valid) =
     codes "not UTF-8 after " ∷ decimal valid ∷ codes " bytes" ∷ []
-fault_texts name Memory = codes "out of memory" ∷ []
-fault_texts name (Write reason) = draft_of name reason ∷ writing_text reason ∷ []
+fault_texts draft Memory = codes "out of memory" ∷ []
+fault_texts draft (Write reason) = draft_of draft reason ∷ writing_text reason ∷ []
 
 -- what is said of an input, and whether it is nothing: of one without a fault that no line has the marks
 -- that are filled, if none has
 abbrev pub texts_of : List ℕ → Result Treated Fault → List (List ℕ)
-texts_of name (Ok treated) = codes "no line begins with what --prefix says" ∷ []
-texts_of name (Err fault) = fault_texts name fault
+texts_of draft (Ok treated) = codes "no line begins with what --prefix says" ∷ []
+texts_of draft (Err fault) = fault_texts draft fault
 
 abbrev pub says_nothing : Result Treated Fault → Bool
 says_nothing (Ok treated) = treated.has_marks

@@ -11,11 +11,12 @@ use Rattle.textwrap_program.specs.Filling.{WritesPrefix}
 use Rattle.textwrap_program.specs.Program.{line_feed}
 use Rattle.reflow_program.specs.Arguments.{IsRequest, IsUnfit, help_text, reflow_app, version_text}
 use Rattle.reflow_program.specs.Files.{KnownFiles, SameFiles}
-use Rattle.reflow_program.specs.Inputs.{Checks, ChecksFile, Prints, PrintsFile, Replaces}
+use Rattle.reflow_program.specs.Inputs.{Checks, ChecksFile, Differs, DiffersFile, Prints, PrintsFile}
+use Rattle.reflow_program.specs.Inputs.{Replaces}
 use Rattle.reflow_program.specs.Messages.{is_closed, message_line, says_nothing, texts_of}
 use Rattle.reflow_program.specs.Words.{spelled_out}
 use Rattle.reflow_program.specs.declared.arguments.Mode.{Mode}
-use Rattle.reflow_program.specs.declared.arguments.Mode.TheVariants.{Print, Check, InPlace}
+use Rattle.reflow_program.specs.declared.arguments.Mode.TheVariants.{Print, Check, CheckDiff, Diff, InPlace}
 use Rattle.reflow_program.specs.declared.arguments.Request.{Request}
 use Rattle.reflow_program.specs.declared.arguments.Unfit.{Unfit}
 use Rattle.reflow_program.specs.declared.arguments.Unfit.TheVariants as unfit
@@ -62,11 +63,13 @@ abbrev pub status_of : Result Treated Fault → ℕ
 status_of (Ok treated) = if treated.changes then 1 else 0
 status_of (Err fault) = 2
 
--- how a run ends with an input of which this became
+-- how a run ends with an input of which this became; what its draft is called, where one is told of,
+-- is what the files say
 abbrev pub Reports : List ℕ → Result Treated Fault → Option (List ℕ) → Option (List ℕ) → Ending
     → Type 0
 Reports name result old new ending =
-    SaysUnless (says_nothing result) (message_line name (texts_of name result)) old new ending.said
+    ((draft : List ℕ)
+    × SaysUnless (says_nothing result) (message_line name (texts_of draft result)) old new ending.said)
     × (ending.status ≡ status_of result)
 
 abbrev pub all_well : Ending
@@ -96,6 +99,10 @@ module _ (layout : Layout) where
   TreatsInput InPlace unread left old new result = Prints layout unread left old new result
   TreatsInput Check unread left old new result =
       Checks layout standard_input unread left old new result
+  TreatsInput Diff unread left old new result =
+      Differs layout false (codes "-") unread left old new result
+  TreatsInput CheckDiff unread left old new result =
+      Differs layout true (codes "-") unread left old new result
 
   -- a file is read from its known bytes; only `InPlace` changes it, and then nothing is printed
   abbrev pub TreatsFile : Mode → List ℕ → KnownFiles → KnownFiles
@@ -104,6 +111,10 @@ module _ (layout : Layout) where
       SameFiles was is × PrintsFile layout (was name) old new result
   TreatsFile Check name was is old new result =
       SameFiles was is × ChecksFile layout name (was name) old new result
+  TreatsFile Diff name was is old new result =
+      SameFiles was is × DiffersFile layout false name (was name) old new result
+  TreatsFile CheckDiff name was is old new result =
+      SameFiles was is × DiffersFile layout true name (was name) old new result
   TreatsFile InPlace name was is old new result =
       Replaces layout name was is result × Keeps old new
 

@@ -37,6 +37,7 @@ Options:
       --lf             End all lines with LF
       --crlf           End all lines with CR LF
       --check          Print the names of files that would change
+      --diff           Print what would change, as a unified diff
       --in-place       Replace each file, by way of a new file FILE.reflow
   -h, --help           Print help
   -V, --version        Print version
@@ -68,6 +69,10 @@ pub enum Mode {
     Print,
     /// Its name is printed, if it would change.
     Check,
+    /// What would change in it is printed, as a unified diff.
+    Diff,
+    /// The same, and a change counts as one that a check found.
+    CheckDiff,
     /// It is replaced, if it is a file.
     InPlace,
 }
@@ -144,6 +149,7 @@ fn command<'a>(alloc: Global) -> Result<Command<'a>, AllocError>
         .arg(flag(alloc, "lf", "End all lines with LF"))?
         .arg(flag(alloc, "crlf", "End all lines with CR LF"))?
         .arg(flag(alloc, "check", "Print the names of files that would change"))?
+        .arg(flag(alloc, "diff", "Print what would change, as a unified diff"))?
         .arg(flag(
             alloc,
             "in-place",
@@ -342,11 +348,16 @@ fn ending(matches: &ArgMatches<'_>) -> Option<LineEnding>
     }
 }
 
-/// What is done with each input. `--check` counts for more than `--in-place`.
+/// What is done with each input. `--check` counts for more than `--in-place`, and so does `--diff`,
+/// also beside `--check`.
 fn mode_of(matches: &ArgMatches<'_>) -> Mode
     ensures { result ≡ mode_in (rows_of (found_of matches.now)) }
 {
-    if is_set(matches, "check") {
+    if is_set(matches, "diff") && is_set(matches, "check") {
+        Mode::CheckDiff
+    } else if is_set(matches, "diff") {
+        Mode::Diff
+    } else if is_set(matches, "check") {
         Mode::Check
     } else if is_set(matches, "in-place") {
         Mode::InPlace

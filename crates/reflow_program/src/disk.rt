@@ -49,6 +49,11 @@ impl<'r, R: rt::Files + AllocGlobal> Disk<'r, R> {
         Ok(String::from_str(self.runtime.alloc(), name)?)
     }
 
+    /// The path of the draft for the file of this path.
+    fn draft_path(&self, target: &str) -> io::Result<String> {
+        Ok(format!(in self.runtime.alloc(); "{target}{DRAFT_SUFFIX}")?)
+    }
+
     /// What the system says of the file of this path, if it is a file that may be written.
     fn writable(&self, path: &str) -> io::Result<Metadata> {
         let metadata = fs::metadata(self.runtime, path)?;
@@ -100,11 +105,12 @@ impl<'r, R: rt::Files + AllocGlobal> Files for Disk<'r, R> {
         Ok(InputFile { file })
     }
 
-    /// Makes the draft beside the file, under its name with `.reflow`. No file may be there yet.
+    /// Makes the draft beside the file, or beside the one that a link leads to, under its name with
+    /// `.reflow`. No file may be there yet.
     fn draft(&mut self, name: &str) -> io::Result<DraftFile<R::File>> {
         let target = self.target(name)?;
         let old = self.writable(&target)?;
-        let path = format!(in self.runtime.alloc(); "{target}{DRAFT_SUFFIX}")?;
+        let path = self.draft_path(&target)?;
         let file = self.create(&path)?;
         Ok(DraftFile {
             file,
@@ -112,6 +118,11 @@ impl<'r, R: rt::Files + AllocGlobal> Files for Disk<'r, R> {
             target,
             old,
         })
+    }
+
+    fn draft_name(&self, name: &str) -> io::Result<String> {
+        let target = self.target(name)?;
+        self.draft_path(&target)
     }
 
     fn replace(&mut self, _name: &str, draft: DraftFile<R::File>) -> io::Result<()> {

@@ -33,6 +33,12 @@ pub trait Files {
             IsNewDraft (bytes self.old name.now) (Self.Draft.contents draft)) }
         ensures kept { SameFiles (bytes self.old) (bytes self.new) };
 
+    /// What the draft for the file of this name is called.
+    ///
+    /// # Errors
+    /// That of the file system, or want of memory.
+    fn draft_name(&self, name: &str) -> io::Result<String>;
+
     /// Puts the draft in the place of the file of this name.
     ///
     /// # Errors

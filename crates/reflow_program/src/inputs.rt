@@ -5,9 +5,12 @@ ghost use Rattle.textwrap_program.specs.Filling.{ReadsAll, WritesPrefix};
 ghost use Rattle.textwrap_program.specs.Program.{TriesLine, line_feed};
 ghost use Rattle.reflow_program.specs.Faults.{IsOfDraft, IsOfOutput, IsOfReading};
 ghost use Rattle.reflow_program.specs.Files.{SameFiles};
-ghost use Rattle.reflow_program.specs.Inputs.{Checks, ChecksFile, IsReplaced, Prints, PrintsFile};
+ghost use Rattle.reflow_program.specs.Differences.{IsDiffText};
+ghost use Rattle.reflow_program.specs.Inputs.{Checks, ChecksFile, Differs, DiffersFile, IsReplaced};
+ghost use Rattle.reflow_program.specs.Inputs.{Prints, PrintsFile};
 ghost use Rattle.reflow_program.specs.Inputs.{Reads, Reflows, Replaces};
 
+use crate::differences::diff_text;
 use crate::faults::{Fault, Reason, draft_fault, file_reason, output_reason};
 use crate::files::Files;
 use crate::layout::{LaidOut, Layout, lay_out};
@@ -166,6 +169,49 @@ fn write_name<W: Write>(writer: &mut W, name: &str) -> Result<(), Fault>
     write_output(writer, b"\n")
 }
 
+/// Writes what would change in what the reader gives if it were reflowed, as a unified diff under the
+/// name. If `counts` is set, a change is told as one that a check found.
+///
+/// # Errors
+/// That of the first step that fails. Nothing is written but at `Write`, where the writer took a
+/// prefix of the diff.
+pub fn diff_input<R: Read, W: Write>(
+    alloc: Global,
+    name: &str,
+    counts: bool,
+    reader: &mut R,
+    writer: &mut W,
+    layout: &Layout<'_>,
+) -> Result<Treated, Fault>
+    ensures { Differs layout.now counts name.now
+        (R.remaining reader.old) (R.remaining reader.new)
+        (W.contents writer.old) (W.contents writer.new) result }
+{
+    let reflowed = read_reflowed(alloc, reader, layout)?;
+    let has_marks = reflowed.output.has_marks;
+    if reflowed.input.as_slice() == reflowed.output.text.as_bytes() {
+        return Ok(Treated {
+            changes: false,
+            has_marks,
+        });
+    }
+    let Ok(text) = diff_text(
+        alloc,
+        name,
+        &reflowed.input,
+        reflowed.output.text.as_bytes(),
+    ) else {
+        return Err(Fault::Memory);
+    };
+    match write_output(writer, &text) {
+        Ok(()) => Ok(Treated {
+            changes: counts,
+            has_marks,
+        }),
+        Err(fault) => Err(fault),
+    }
+}
+
 /// Writes what the file of this name has, reflowed, as [`print_input`] does.
 ///
 /// # Errors
@@ -204,6 +250,28 @@ pub fn check_file<F: Files, W: Write>(
 {
     match files.open(name) {
         Ok(mut reader) => check_input(alloc, name, &mut reader, writer, layout),
+        Err(error) => Err(Fault::Read(file_reason(error.kind()))),
+    }
+}
+
+/// Writes what would change in the file of this name if it were reflowed, as [`diff_input`] does.
+///
+/// # Errors
+/// Those of [`diff_input`], and `Read` also where the file cannot be opened.
+pub fn diff_file<F: Files, W: Write>(
+    alloc: Global,
+    name: &str,
+    counts: bool,
+    files: &mut F,
+    writer: &mut W,
+    layout: &Layout<'_>,
+) -> Result<Treated, Fault>
+    ensures kept { SameFiles (F.bytes files.old) (F.bytes files.new) }
+    ensures told { DiffersFile layout.now counts name.now (F.bytes files.old name.now)
+        (W.contents writer.old) (W.contents writer.new) result }
+{
+    match files.open(name) {
+        Ok(mut reader) => diff_input(alloc, name, counts, &mut reader, writer, layout),
         Err(error) => Err(Fault::Read(file_reason(error.kind()))),
     }
 }

@@ -13,7 +13,9 @@ ghost use Rattle.reflow_program.specs.Program.{TreatsInput, Warns, all_well, joi
 use crate::arguments::{HELP, Mode, Request, Unfit, VERSION, matches_in, request_in};
 use crate::faults::{Fault, Reason};
 use crate::files::Files;
-use crate::inputs::{Treated, check_file, check_input, print_file, print_input, replace_file};
+use crate::inputs::{
+    Treated, check_file, check_input, diff_file, diff_input, print_file, print_input, replace_file,
+};
 use crate::words::spelled_out;
 use clap::ArgMatches;
 use clap::error::ErrorKind;
@@ -43,6 +45,9 @@ const STANDARD_INPUT: &str = "standard input";
 
 /// What the program says of an input none of whose lines has the marks that are filled.
 const NO_MARKS: &str = "no line begins with what --prefix says";
+
+/// What a draft is called whose name is not known.
+const SOME_DRAFT: &str = "its draft";
 
 /// How a run ended.
 #[derive(Clone, Copy, Debug, PartialEq, Eq)]
@@ -196,7 +201,7 @@ fn serve<F: Files, R: Read, W: Write, M: Write>(
     let mut ending = Ending::well();
     for name in request.names {
         let treated = treat(alloc, request, name, files, reader, output);
-        ending = ending.and(report(shown_name(name), treated, messages));
+        ending = ending.and(tell(files, name, treated, messages));
         if is_closed(treated) {
             return ending;
         }
@@ -261,6 +266,22 @@ fn treat_input<R: Read, W: Write>(
 {
     match request.mode {
         Mode::Check => check_input(alloc, STANDARD_INPUT, reader, output, &request.layout),
+        Mode::Diff => diff_input(
+            alloc,
+            STANDARD_INPUT_NAME,
+            false,
+            reader,
+            output,
+            &request.layout,
+        ),
+        Mode::CheckDiff => diff_input(
+            alloc,
+            STANDARD_INPUT_NAME,
+            true,
+            reader,
+            output,
+            &request.layout,
+        ),
         Mode::Print | Mode::InPlace => { print_input(alloc, reader, output, &request.layout) }
     }
 }
@@ -281,18 +302,45 @@ fn treat_file<F: Files, W: Write>(
     match request.mode {
         Mode::Print => print_file(alloc, name, files, output, &request.layout),
         Mode::Check => check_file(alloc, name, files, output, &request.layout),
+        Mode::Diff => diff_file(alloc, name, false, files, output, &request.layout),
+        Mode::CheckDiff => diff_file(alloc, name, true, files, output, &request.layout),
         Mode::InPlace => replace_file(alloc, name, files, &request.layout),
+    }
+}
+
+/// Says what became of an input of this name, if there is something to say, with the draft's name
+/// where that is there already.
+fn tell<F: Files, M: Write>(
+    files: &F,
+    name: &str,
+    treated: Result<Treated, Fault>,
+    messages: &mut M,
+) -> Ending
+    ensures { Reports (shown_name name.now) treated
+        (M.contents messages.old) (M.contents messages.new) result }
+{
+    if treated != Err(Fault::Write(Reason::HasDraft)) {
+        return report(shown_name(name), SOME_DRAFT, treated, messages);
+    }
+    match files.draft_name(name) {
+        Ok(draft) => report(shown_name(name), &draft, treated, messages),
+        Err(_) => report(shown_name(name), SOME_DRAFT, treated, messages),
     }
 }
 
 /// Says what became of an input of this name, if there is something to say: a fault, or that no line
 /// of it has the marks that are filled.
-fn report<M: Write>(name: &str, treated: Result<Treated, Fault>, messages: &mut M) -> Ending
+fn report<M: Write>(
+    name: &str,
+    draft: &str,
+    treated: Result<Treated, Fault>,
+    messages: &mut M,
+) -> Ending
     ensures { Reports name.now treated (M.contents messages.old) (M.contents messages.new) result }
 {
     Ending {
         status: status_of(treated),
-        said: says_nothing(treated) || says(name, treated, messages),
+        said: says_nothing(treated) || says(name, draft, treated, messages),
     }
 }
 
@@ -317,13 +365,18 @@ fn says_nothing(treated: Result<Treated, Fault>) -> bool
 }
 
 /// Says what is to be said of an input. The result says whether that was written whole.
-fn says<M: Write>(name: &str, treated: Result<Treated, Fault>, messages: &mut M) -> bool
-    ensures { Says (message_line name.now (texts_of name.now treated))
+fn says<M: Write>(
+    name: &str,
+    draft: &str,
+    treated: Result<Treated, Fault>,
+    messages: &mut M,
+) -> bool
+    ensures { Says (message_line name.now (texts_of draft.now treated))
         (M.contents messages.old) (M.contents messages.new) result }
 {
     match treated {
         Ok(_) => write_message(messages, name, &[NO_MARKS]).is_ok(),
-        Err(fault) => write_fault(name, fault, messages).is_ok(),
+        Err(fault) => write_fault(name, draft, fault, messages).is_ok(),
     }
 }
 
@@ -335,11 +388,16 @@ fn is_quiet(fault: Fault) -> bool
 }
 
 /// Writes the line of a fault.
-fn write_fault<M: Write>(name: &str, fault: Fault, messages: &mut M) -> Result<(), RunError>
+fn write_fault<M: Write>(
+    name: &str,
+    draft: &str,
+    fault: Fault,
+    messages: &mut M,
+) -> Result<(), RunError>
     ensures ok { OnOk result (Appends (M.contents messages.old) (M.contents messages.new)
-        (message_line name.now (fault_texts name.now fault))) }
+        (message_line name.now (fault_texts draft.now fault))) }
     ensures prefix { OnErr result (WritesPrefix (M.contents messages.old) (M.contents messages.new)
-        (message_line name.now (fault_texts name.now fault))) }
+        (message_line name.now (fault_texts draft.now fault))) }
 {
     match fault {
         Fault::Read(reason) => write_message(messages, name, &[reading_text(reason)]),
@@ -353,18 +411,18 @@ fn write_fault<M: Write>(name: &str, fault: Fault, messages: &mut M) -> Result<(
             write_message(
                 messages,
                 name,
-                &[draft_of(name, reason), writing_text(reason)],
+                &[draft_of(draft, reason), writing_text(reason)],
             )
         }
     }
 }
 
-/// What the name of a draft begins with, where it is told of that.
-fn draft_of(name: &str, reason: Reason) -> &str
-    ensures { result.now ≡ draft_of name.now reason }
+/// The draft, where that is told of it.
+fn draft_of(draft: &str, reason: Reason) -> &str
+    ensures { result.now ≡ draft_of draft.now reason }
 {
     match reason {
-        Reason::HasDraft => name,
+        Reason::HasDraft => draft,
         _ => "",
     }
 }
@@ -389,7 +447,7 @@ fn writing_text<'a>(reason: Reason) -> &'a str
         Reason::NotFound => "not found",
         Reason::NotPermitted => "may not be written",
         Reason::IsFolder => "is a folder",
-        Reason::HasDraft => ".reflow is there already",
+        Reason::HasDraft => " is there already",
         Reason::NoSpace => "no space is left",
         _ => "cannot write",
     }

@@ -1,5 +1,6 @@
 //! The program `reflow`: what its words mean, what becomes of its files, of what it reads and writes,
 //! and what it says.
+mod diffs;
 mod disk;
 mod faults;
 mod files;

@@ -32,7 +32,7 @@ returns-in-Write-clause-prefix g c =
     let new = g.M.Write.contents c.write_message-in-Write.new.messages in
     rw c.in-Write.is
     (subst (λ text. OnErr c.write_message-in-Write.result (WritesPrefix old new
-    (message_line c.args.name.now (draft_of c.args.name.now c.in-Write.reason ∷ text ∷ []))))
+    (message_line c.args.name.now (draft_of c.args.draft.now c.in-Write.reason ∷ text ∷ []))))
     c.writing_text.ensures
     (subst (λ draft. OnErr c.write_message-in-Write.result (WritesPrefix old new
     (message_line c.args.name.now (draft ∷ c.writing_text.result.now ∷ [])))) c.draft_of.ensures

@@ -76,10 +76,12 @@ fn make_files(rt: &(impl rt::Files + AllocGlobal), folder: &str) -> io::Result<(
     Ok(())
 }
 
-/// Makes a link to the file `a`.
-fn make_link(rt: &(impl rt::Files + AllocGlobal), folder: &str) -> io::Result<()> {
+/// Makes links to the files `a` and `b`.
+fn make_links(rt: &(impl rt::Files + AllocGlobal), folder: &str) -> io::Result<()> {
     let link = path(rt, folder, "link")?;
-    symlink(rt, "a", link.as_str())
+    symlink(rt, "a", link.as_str())?;
+    let to_b = path(rt, folder, "to_b")?;
+    symlink(rt, "b", to_b.as_str())
 }
 
 /// Gives the file `a` to another owner and another group, if the tests may do that: only the
@@ -125,6 +127,7 @@ const RUNS: &[(&str, &str, &str, &str, u8)] = &[
     ("--in-place", "", "", "/: is a folder\n", 2),
     // The draft of `b` is there already.
     ("--in-place", "b", "", "/b.reflow is there already\n", 2),
+    ("--in-place", "to_b", "", "/b.reflow is there already\n", 2),
     ("--in-place", "link", "", "", 0),
     ("--in-place", "a", "", "", 0),
     ("--first-fit", "link", COUNT_AT_10, "", 0),
@@ -164,7 +167,7 @@ fn assert_replaced(rt: &(impl rt::Runtime + AllocGlobal + Abort), folder: &str) 
     let is_link = is_link(rt, folder)?;
     assert!(rt; is_link);
     let count = count_files(rt, folder)?;
-    assert_number(rt, "files and the link", count, BEFORE.len() + 1);
+    assert_number(rt, "files and links", count, BEFORE.len() + 2);
     Ok(())
 }
 
@@ -192,7 +195,7 @@ fn assert_files_are_replaced(
     folder: &str,
 ) -> io::Result<()> {
     make_files(rt, folder)?;
-    make_link(rt, folder)?;
+    make_links(rt, folder)?;
     give_away(rt, folder)?;
     let before = rights(rt, folder, "a")?;
     assert_runs(rt, folder)?;

@@ -109,6 +109,10 @@ impl Files for Folder {
         Ok(Sink::new(self.alloc, WRITTEN_AT_ONCE, fault))
     }
 
+    fn draft_name(&self, name: &str) -> io::Result<String> {
+        Ok(format!(in self.alloc; "{name}.reflow")?)
+    }
+
     fn replace(&mut self, name: &str, draft: Sink) -> io::Result<()> {
         self.drafts = self.drafts.saturating_sub(1);
         for held in self.held.iter_mut() {

@@ -1,0 +1,11 @@
+use Rattle.std.proofs.Common.{[], arith, sym}
+use Rattle.reflow_program.proofs.DiffLines.{same-more}
+use Rattle.reflow_program.proofs.differences.common_len.Goals as goal
+
+pub loop-len-preserved : goal.loop-len-preserved
+loop-len-preserved c = record {
+  old = omega arith;
+  new = omega arith;
+  same = same-more c.args.old.now c.args.new.now c.loop-len.len (record { ref_ptr = (0, 0); now = [] })
+      (omega arith) (omega arith) c.loop-len.invariant.same (sym c.if-eq.ensures);
+}

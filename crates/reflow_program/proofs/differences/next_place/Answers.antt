@@ -1,0 +1,11 @@
+use Rattle.std.proofs.Common.{below_more}
+use Rattle.reflow_program.specs.Differences.{signed_view}
+use Rattle.std.proofs.Common.{map}
+use Rattle.reflow_program.proofs.DiffLines.{IsNearIf-other, IsNearIf-same}
+use Rattle.reflow_program.proofs.differences.next_place.Goals as goal
+
+pub loop-at-preserved : goal.loop-at-preserved
+loop-at-preserved c =
+    below_more _ _ c.loop-at.invariant
+    (λ from. IsNearIf-other (map signed_view c.args.lines.now) c.loop-at.at c.is_near.result c.args.near
+    c.if-is_near-near.false c.is_near.ensures)

@@ -1,6 +1,7 @@
 pub mod Cheapest
 pub mod Direct
 pub mod Filling
+pub mod Frame
 pub mod Fuzzing
 pub mod Laws
 pub mod Layout

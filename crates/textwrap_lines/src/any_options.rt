@@ -108,7 +108,7 @@ pub trait AnyOptions<A: Allocator> {
             (map word_view pieces.items)) }
         ensures tiles { IfOk result (λ pieces. Tiles (map word_view pieces.items) paragraph.now) };
 
-    /// The pieces divided by the algorithm.
+    /// The pieces divided by the algorithm, for lines of these widths.
     ///
     /// # Errors
     /// Those of [`wrap`](crate::wrap).
@@ -116,11 +116,12 @@ pub trait AnyOptions<A: Allocator> {
         &self,
         alloc: A,
         pieces: &'w [Word<'a>],
-        is_later: bool,
+        line_widths: &[usize],
     ) -> Result<Vec<&'w [Word<'a>], A>, WrapError>
         ensures begins { IfOk result (λ lines. StartsWith (tiled (map word_view pieces.now))
             (flat_map (λ line. tiled (map word_view line.now)) lines.items)) }
-        ensures divides { IfOk result (λ lines. (paragraph : List ℕ)
+        ensures divides { IfOk result (λ lines. (is_later : Bool) (paragraph : List ℕ)
+            → line_widths.now ≡ widths_of (settings self.now) is_later
             → has_pieces self.now paragraph (map word_view pieces.now)
             → divides self.now is_later paragraph
             (map (λ line. map word_view line.now) lines.items)) }

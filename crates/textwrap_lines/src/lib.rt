@@ -14,6 +14,7 @@ mod cheapest;
 mod direct;
 mod filling;
 mod first_line;
+mod frame;
 pub mod fuzzing;
 pub mod inner;
 pub mod laws;

@@ -5,13 +5,12 @@ ghost use Rattle.std.specs.Prelude.{IsCharBoundary, OnOk, IsOk};
 ghost use Rattle.textwrap_base.specs.Division.{IsGreedy};
 ghost use Rattle.textwrap_words.specs.Words.{WordText, sizes_of};
 ghost use Rattle.textwrap_lines.specs.Direct.{CanBeCut, pieces_cut, cuts_of};
+ghost use Rattle.textwrap_lines.specs.Frame.{frame_lines, frame_settings, frame_widths};
 ghost use Rattle.textwrap_lines.specs.LineSinks.{Took};
-ghost use Rattle.textwrap_lines.specs.Options.{layout_view};
-ghost use Rattle.textwrap_lines.specs.Paragraph.{parts_from, text_limit};
-ghost use Rattle.textwrap_lines.specs.Paragraph.{widths_of};
-ghost use Rattle.textwrap_lines.specs.Places.{cut_lines};
+ghost use Rattle.textwrap_lines.specs.Paragraph.{text_limit};
 
-use crate::layout::{Cuts, Layout, cut_paragraph, line_widths, next_indent};
+use crate::frame::Frame;
+use crate::layout::{Cuts, cut_paragraph};
 use crate::line_sinks::LineSink;
 use std::alloc::{AllocError, Allocator};
 use textwrap_words::inner::Piece;
@@ -42,16 +41,14 @@ pub(crate) struct OpenLine<'t, 'a> {
     ghost bounded: { columns ≤ end },
 }
 
-/// Pushes the lines of a paragraph by first fit, where it is cut there. `is_later` says that a line
-/// stands before it.
+/// Pushes the lines of a paragraph by first fit, where it is cut there.
 ///
 /// # Errors
 /// [`AllocError`] where memory runs out.
 pub(crate) fn push_lines_by_pieces<'t, A: Allocator + Copy, S: LineSink<'t, A>>(
     alloc: A,
     paragraph: &'t str,
-    layout: &Layout<'_>,
-    is_later: bool,
+    frame: &Frame<'_>,
     cuts: &Cuts<'_>,
     lines: &mut S,
 ) -> Result<(), AllocError>
@@ -59,17 +56,21 @@ pub(crate) fn push_lines_by_pieces<'t, A: Allocator + Copy, S: LineSink<'t, A>>(
     ensures name { S.name lines.new ≡ S.name lines.old }
     ensures done { S.never_fails → IsOk result }
     ensures took { OnOk result ((division : List (List WordText))
-        × IsGreedy sizes_of (widths_of (layout_view layout.now) is_later)
-        (pieces_cut (layout_view layout.now) cuts.now paragraph.now) division
-        × Took S.holds lines.old lines.new (cut_lines 0
-        (parts_from (layout_view layout.now) is_later division))) }
+        × IsGreedy sizes_of (frame_widths frame.now)
+        (pieces_cut (frame_settings frame.now) cuts.now paragraph.now) division
+        × Took S.holds lines.old lines.new (frame_lines frame.now division)) }
 {
-    let (first_width, later_width) = line_widths(layout, is_later);
-    let mut line = OpenLine::at(paragraph, 0, first_width, next_indent(layout, is_later));
-    for piece in cut_paragraph(paragraph, layout, cuts) {
+    let layout = &frame.layout;
+    let mut line = OpenLine::at(paragraph, 0, frame.first_columns, frame.indent);
+    for piece in cut_paragraph(paragraph, frame, cuts) {
         if line.is_past(&piece) {
             line.push_to(alloc, layout.preserve_trailing_space, lines)?;
-            line = OpenLine::at(line.text, line.end, later_width, layout.subsequent_indent);
+            line = OpenLine::at(
+                line.text,
+                line.end,
+                frame.later_columns,
+                layout.subsequent_indent,
+            );
         }
         line.take(&piece);
     }

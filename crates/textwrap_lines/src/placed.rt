@@ -17,6 +17,7 @@ ghost use Rattle.textwrap_words.specs.Words.{tiled, word_view};
 ghost use Rattle.textwrap_words.specs.WrapAlgorithms.{Algorithm};
 
 use crate::any_options::AnyOptions;
+use crate::frame::Frame;
 use crate::layout::Layout;
 pub use crate::lent_places::LineCounts;
 use crate::lent_places::{LentLinePlaces, LentPlaces};
@@ -164,8 +165,8 @@ pub(crate) fn push_division<A: Allocator + Copy>(
         (map (λ line. map word_view line.now) division.now)))) }
 {
     lines.begin_paragraph(start);
-    let layout = Layout::of(options);
-    push_lines(alloc, paragraph, division, &layout, is_later, lines)
+    let frame = Frame::at(Layout::of(options), is_later);
+    push_lines(alloc, paragraph, division, &frame, lines)
 }
 
 /// Adds a slice of the text that so many bytes come before, as a line.

@@ -17,6 +17,7 @@ ghost use Rattle.textwrap_words.specs.WrapAlgorithms.{MayDivide};
 ghost use Rattle.textwrap_words.specs.Words.{WordText, word_view, sizes_of, tiled, Tiles};
 ghost use Rattle.textwrap_base.specs.declared.penalties.Penalties.{Penalties};
 ghost use Rattle.textwrap_words.specs.declared.wrap_algorithms.WrapAlgorithm.TheVariants.{FirstFit};
+ghost use Rattle.textwrap_lines.specs.Frame.{frame_lines, frame_settings};
 ghost use Rattle.textwrap_lines.specs.Fuzzing.{AppendsLines};
 ghost use Rattle.textwrap_lines.specs.LineEnding.{paragraphs_of};
 ghost use Rattle.textwrap_lines.specs.LineSinks.{Took};
@@ -24,7 +25,7 @@ ghost use Rattle.textwrap_lines.specs.Options.{Settings, layout_view, settings_v
 ghost use Rattle.textwrap_lines.specs.Options.{HasParts, MayOverflow};
 ghost use Rattle.textwrap_lines.specs.Paragraph.{text_limit, LineParts, line_view};
 ghost use Rattle.textwrap_lines.specs.Paragraph.{broken_pieces_of, covered};
-ghost use Rattle.textwrap_lines.specs.Paragraph.{ArePieces, widths_of, width_after, indent_of};
+ghost use Rattle.textwrap_lines.specs.Paragraph.{ArePieces, widths_of};
 ghost use Rattle.textwrap_lines.specs.Paragraph.{is_whole, parts_of, parts_from, Adds, DividesBy};
 ghost use Rattle.textwrap_lines.specs.Paragraph.{AreDividedParts, AreParagraphParts};
 ghost use Rattle.textwrap_lines.specs.Paragraph.{DividesAs, MayPass64Bits, OnlyCharactersPass};
@@ -37,7 +38,8 @@ ghost use Rattle.textwrap_words.specs.WordSplitters.{AreSplit, MaySplit, Splitte
 
 use crate::any_options::{AnyOptions, BuiltInParts};
 use crate::direct::{built_in_parts, jump_cuts, push_by_jumps, push_directly};
-use crate::layout::{Cuts, Layout, later_width, line_widths, next_indent};
+use crate::frame::Frame;
+use crate::layout::{Cuts, Layout, next_indent};
 use crate::line_ending::LineEnding;
 use crate::line_sinks::{LineSink, ListedLines};
 use crate::options::Options;
@@ -170,21 +172,24 @@ pub(crate) fn push_text<'t, A: Allocator + Copy, S: LineSink<'t, A>, O: AnyOptio
         (O.settings options.now).line_ending text.now
         → IfErr result (λ error. error ≡ WrapError.Memory alloc_error) }
 {
-    let line_ending = options.layout().line_ending;
+    let layout = options.layout();
+    let line_ending = layout.line_ending;
+    let first = Frame::of(layout);
+    let later = first.later();
     let mut start = 0;
     let mut rest = Some(text);
     while let Some(text) = rest {
         let (paragraph, after) = split_paragraph(text, line_ending);
         lines.begin_paragraph(start);
-        let is_later = lines.has_line();
-        push_paragraph(alloc, paragraph, options, is_later, way, lines)?;
+        let frame = first.choose(&later, lines.has_line());
+        push_paragraph(alloc, paragraph, options, frame, way, lines)?;
         start += paragraph.len() + line_ending.as_str().len();
         rest = after;
     }
     Ok(())
 }
 
-/// Pushes the lines of one paragraph. `is_later` says that a line stands before it.
+/// Pushes the lines of one paragraph.
 ///
 /// # Errors
 /// Those of [`wrap`].
@@ -192,14 +197,15 @@ fn push_paragraph<'t, A: Allocator + Copy, S: LineSink<'t, A>, O: AnyOptions<A>>
     alloc: A,
     paragraph: &'t str,
     options: &O,
-    is_later: bool,
+    frame: &Frame<'_>,
     way: Way,
     lines: &mut S,
 ) -> Result<(), WrapError>
+    requires { frame_settings frame.now ≡ O.settings options.now }
     ensures name { S.name lines.new ≡ S.name lines.old }
     ensures done { S.never_fails → O.is_direct options.now → way ≡ Way.Shortest → IsOk result }
     ensures taken { OnOk result ((parts : List LineParts)
-        × AreParagraphParts (O.settings options.now) (O.divides options.now) is_later
+        × AreParagraphParts (frame_settings frame.now) (O.divides options.now) frame.now.is_later
         paragraph.now parts
         × Took S.holds lines.old lines.new (cut_lines 0 parts)) }
     ensures only_memory { ¬ O.may_overflow options.now
@@ -207,12 +213,11 @@ fn push_paragraph<'t, A: Allocator + Copy, S: LineSink<'t, A>, O: AnyOptions<A>>
     ensures no_overflow { ¬ O.may_pass options.now paragraph.now
         → IfErr result (λ error. error ≡ WrapError.Memory alloc_error) }
 {
-    let layout = options.layout();
-    if is_one_line(paragraph, &layout, is_later) {
-        let slice = whole_line(paragraph, &layout);
+    if is_one_line(paragraph, &frame.layout, frame.is_later) {
+        let slice = whole_line(paragraph, &frame.layout);
         return Ok(lines.push_line(alloc, "", 0, slice, "")?);
     }
-    push_pieces(alloc, paragraph, options, is_later, way, lines)
+    push_pieces(alloc, paragraph, options, frame, way, lines)
 }
 
 /// Pushes the lines of the pieces of a paragraph, in this way.
@@ -223,50 +228,41 @@ fn push_pieces<'t, A: Allocator + Copy, S: LineSink<'t, A>, O: AnyOptions<A>>(
     alloc: A,
     paragraph: &'t str,
     options: &O,
-    is_later: bool,
+    frame: &Frame<'_>,
     way: Way,
     lines: &mut S,
 ) -> Result<(), WrapError>
+    requires { frame_settings frame.now ≡ O.settings options.now }
     ensures name { S.name lines.new ≡ S.name lines.old }
     ensures done { S.never_fails → O.is_direct options.now → way ≡ Way.Shortest → IsOk result }
     ensures taken { OnOk result ((division : List (List WordText))
-        × O.divides options.now is_later paragraph.now division
-        × Took S.holds lines.old lines.new (cut_lines 0
-        (parts_from (O.settings options.now) is_later division))) }
+        × O.divides options.now frame.now.is_later paragraph.now division
+        × Took S.holds lines.old lines.new (frame_lines frame.now division)) }
     ensures only_memory { ¬ O.may_overflow options.now
         → IfErr result (λ error. error ≡ WrapError.Memory alloc_error) }
     ensures no_overflow { ¬ O.may_pass options.now paragraph.now
         → IfErr result (λ error. error ≡ WrapError.Memory alloc_error) }
 {
     if matches!(way, Way::ByLists) {
-        return push_divided(alloc, paragraph, options, is_later, lines);
+        return push_divided(alloc, paragraph, options, frame, lines);
     }
     let Some(parts) = options.built_in_parts() else {
-        return push_divided(alloc, paragraph, options, is_later, lines);
+        return push_divided(alloc, paragraph, options, frame, lines);
     };
-    let layout = options.layout();
-    if let Some(cuts) = jump_cuts(options, parts.algorithm, paragraph, &layout, is_later) {
+    if let Some(cuts) = jump_cuts(options, parts.algorithm, paragraph, frame) {
         let splitter = parts.splitter;
-        return Ok(push_by_jumps(alloc, paragraph, &layout, is_later, &cuts, splitter, lines)?);
+        return Ok(push_by_jumps(alloc, paragraph, frame, &cuts, splitter, lines)?);
     }
     let found = options.word_cuts(paragraph)?;
     let cuts = Cuts {
         words: found.as_deref(),
         splitter: parts.splitter,
     };
-    let pushed = push_directly(
-        alloc,
-        paragraph,
-        &layout,
-        is_later,
-        &cuts,
-        parts.algorithm,
-        lines,
-    )?;
+    let pushed = push_directly(alloc, paragraph, frame, &cuts, parts.algorithm, lines)?;
     if pushed {
         return Ok(());
     }
-    push_divided(alloc, paragraph, options, is_later, lines)
+    push_divided(alloc, paragraph, options, frame, lines)
 }
 
 /// The same by lists of its words and pieces.
@@ -277,29 +273,23 @@ fn push_divided<'t, A: Allocator + Copy, S: LineSink<'t, A>, O: AnyOptions<A>>(
     alloc: A,
     paragraph: &'t str,
     options: &O,
-    is_later: bool,
+    frame: &Frame<'_>,
     lines: &mut S,
 ) -> Result<(), WrapError>
+    requires { frame_settings frame.now ≡ O.settings options.now }
     ensures name { S.name lines.new ≡ S.name lines.old }
     ensures taken { OnOk result ((division : List (List WordText))
-        × O.divides options.now is_later paragraph.now division
-        × Took S.holds lines.old lines.new (cut_lines 0
-        (parts_from (O.settings options.now) is_later division))) }
+        × O.divides options.now frame.now.is_later paragraph.now division
+        × Took S.holds lines.old lines.new (frame_lines frame.now division)) }
     ensures only_memory { ¬ O.may_overflow options.now
         → IfErr result (λ error. error ≡ WrapError.Memory alloc_error) }
     ensures no_overflow { ¬ O.may_pass options.now paragraph.now
         → IfErr result (λ error. error ≡ WrapError.Memory alloc_error) }
 {
     let pieces = options.find_pieces(alloc, paragraph)?;
-    let division = options.divide(alloc, &pieces, is_later)?;
-    Ok(push_lines(
-        alloc,
-        paragraph,
-        &division,
-        &options.layout(),
-        is_later,
-        lines,
-    )?)
+    let line_widths = [frame.first_columns, frame.later_columns];
+    let division = options.divide(alloc, &pieces, &line_widths)?;
+    Ok(push_lines(alloc, paragraph, &division, frame, lines)?)
 }
 
 /// The first paragraph of the text, and what follows its ending, if it has one. Cut at LF, the text
@@ -373,17 +363,10 @@ pub fn wrap_paragraph<'t, A: Allocator + Copy, O: AnyOptions<A>>(
         → IfErr result (λ error. error ≡ WrapError.Memory alloc_error) }
 {
     // A list of its own, so that an error leaves the other as it was.
-    let is_later = !lines.is_empty();
+    let frame = Frame::at(options.layout(), !lines.is_empty());
     let mut own = Vec::new(alloc);
     let mut found = ListedLines { lines: &mut own };
-    push_paragraph(
-        alloc,
-        paragraph,
-        options,
-        is_later,
-        Way::Shortest,
-        &mut found,
-    )?;
+    push_paragraph(alloc, paragraph, options, &frame, Way::Shortest, &mut found)?;
     Ok(lines.append(&mut own)?)
 }
 
@@ -439,10 +422,10 @@ pub fn wrap_single_line_slow_path<'t, A: Allocator + Copy>(
         × OnlyCharactersPass (widths_of (settings_view options.now)
         (nat_lt 0 (length lines.old.items))) 0 division) }
 {
-    let is_later = !lines.is_empty();
+    let frame = Frame::at(Layout::of(options), !lines.is_empty());
     let mut own = Vec::new(alloc);
     let mut found = ListedLines { lines: &mut own };
-    push_divided(alloc, line, options, is_later, &mut found)?;
+    push_divided(alloc, line, options, &frame, &mut found)?;
     Ok(lines.append(&mut own)?)
 }
 
@@ -499,8 +482,8 @@ pub(crate) fn break_pieces<'t, A: Allocator + Copy>(
     if !options.break_words {
         return Ok(split);
     }
-    let width = later_width(&Layout::of(options));
-    let mut broken = break_wide(alloc, split, width)?;
+    let frame = Frame::of(Layout::of(options));
+    let mut broken = break_wide(alloc, split, frame.later_columns)?;
     if !options.initial_indent.is_empty() {
         // Where the first word has no room beside the indent, the first line is the indent alone.
         broken.insert(0, Word::from(""))?;
@@ -545,26 +528,6 @@ fn find_split_words<'t, A: Allocator + Copy>(
         push_measured(alloc, &mut pieces, word, &options.word_splitter)?;
     }
     Ok(pieces)
-}
-
-/// The pieces divided by the algorithm of the options.
-fn divide<'a, 'w, A: Allocator + Copy>(
-    alloc: A,
-    pieces: &'w [Word<'a>],
-    options: &Options<'_>,
-    is_later: bool,
-) -> Result<Vec<&'w [Word<'a>], A>, WrapError>
-    ensures divided { IfOk result (λ lines. MayDivide options.now.wrap_algorithm word_view
-        (widths_of (settings_view options.now) is_later) pieces.now
-        (map (λ line. line.now) lines.items)) }
-    ensures overflow_only { Overflowed result → (penalties : Penalties)
-        × (algorithm_view options.now.wrap_algorithm ≡ Some (LeastCost penalties)) }
-    ensures no_overflow { Fits64Bits (total_width (λ word. sizes_of (word_view word)) pieces.now)
-        → ¬ Overflowed result }
-{
-    let (first_width, later_width) = line_widths(&Layout::of(options), is_later);
-    let line_widths = [first_width, later_width];
-    options.wrap_algorithm.wrap(alloc, pieces, &line_widths)
 }
 
 impl<A: Allocator + Copy> AnyOptions<A> for Options<'_> {
@@ -616,9 +579,9 @@ impl<A: Allocator + Copy> AnyOptions<A> for Options<'_> {
         &self,
         alloc: A,
         pieces: &'w [Word<'a>],
-        is_later: bool,
+        line_widths: &[usize],
     ) -> Result<Vec<&'w [Word<'a>], A>, WrapError> {
-        divide(alloc, pieces, self, is_later)
+        self.wrap_algorithm.wrap(alloc, pieces, line_widths)
     }
 }
 
@@ -627,22 +590,20 @@ pub(crate) fn push_lines<'t, A: Allocator + Copy, S: LineSink<'t, A>>(
     alloc: A,
     paragraph: &'t str,
     division: &[&[Word<'_>]],
-    layout: &Layout<'_>,
-    is_later: bool,
+    frame: &Frame<'_>,
     lines: &mut S,
 ) -> Result<(), AllocError>
     requires { StartsWith paragraph.now
         (flat_map (λ line. tiled (map word_view line.now)) division.now) }
     ensures name { S.name lines.new ≡ S.name lines.old }
-    ensures took { OnOk result (Took S.holds lines.old lines.new (cut_lines 0
-        (parts_from (layout_view layout.now) is_later
-        (map (λ line. map word_view line.now) division.now)))) }
+    ensures took { OnOk result (Took S.holds lines.old lines.new (frame_lines frame.now
+        (map (λ line. map word_view line.now) division.now))) }
 {
     let mut rest = paragraph;
-    let mut has_line = is_later;
+    let mut has_line = frame.is_later;
     for pieces in division {
         let start = paragraph.len() - rest.len();
-        rest = push_line(alloc, start, rest, pieces, layout, has_line, lines)?;
+        rest = push_line(alloc, start, rest, pieces, &frame.layout, has_line, lines)?;
         has_line = true;
     }
     Ok(())

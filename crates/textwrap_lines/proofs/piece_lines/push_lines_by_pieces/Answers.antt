@@ -5,7 +5,7 @@ use Rattle.textwrap_words.proofs.Common.{as_splitter}
 use Rattle.textwrap_words.specs.Pieces.{stand_from}
 use Rattle.textwrap_lines.specs.PiecesLeft.{left_standing}
 use Rattle.textwrap_lines.specs.Direct.{pieces_cut, cuts_of, words_cut}
-use Rattle.textwrap_lines.proofs.Common.{Took, layout_view, later_width, first_width, indent_of}
+use Rattle.textwrap_lines.proofs.Common.{Took, frame_settings, later_width, first_width, indent_of}
 use Rattle.textwrap_lines.proofs.Common.{line_so_far, lines_past, LineSoFar, line_of, with_piece}
 use Rattle.textwrap_lines.specs.PieceLines.{no_pieces}
 use Rattle.textwrap_lines.proofs.Paragraph.Pieces.{words_cut-texts, pieces_of_words-no_penalty}
@@ -18,7 +18,7 @@ at-line-requires g c = IsCharBoundary-start c.args.paragraph.now c.utf8.paragrap
 
 pub loop-piece-init : goal.loop-piece-init
 loop-piece-init g c =
-    let settings = layout_view c.args.layout.now in
+    let settings = frame_settings c.args.frame.now in
     let cuts = c.args.cuts.now in
     let paragraph = c.args.paragraph.now in
     let left = left_standing c.into_iter-piece-iterator.result in
@@ -36,7 +36,7 @@ loop-piece-init g c =
 
 pub loop-piece-preserved : goal.loop-piece-preserved
 loop-piece-preserved g c =
-    let settings = layout_view c.args.layout.now in
+    let settings = frame_settings c.args.frame.now in
     let keeps = settings.preserve_trailing_space in
     let Holds = g.S.LineSink.holds in
     let all = lines_past settings (line_so_far c.at-line.result)
@@ -59,7 +59,7 @@ loop-piece-preserved g c =
           c.take.ensures ∙ ap (λ l. with_piece (line_so_far l) piece) w.line-is
           ∙ ap (λ l. with_piece l piece) w.at-line-then-is_past.ensures
           ∙ ap (λ n. with_piece (no_pieces here.text here.end n settings.subsequent_indent) piece)
-          c.line_widths-first_width.ensures.later in
+          c.args.frame.now.later in
           let full = subst (λ b. HasTaken Holds all before now (cond b
           (line_of keeps here ∷ lines_past settings next left) (lines_past settings more left)))
           (sym c.is_past.ensures ∙ w.if-is_past.true) taken in
@@ -87,8 +87,8 @@ loop-piece-preserved g c =
 
 pub returns-clause-took : goal.returns-clause-took
 returns-clause-took g c =
-    let settings = layout_view c.args.layout.now in
-    let is_later = c.args.is_later in
+    let settings = frame_settings c.args.frame.now in
+    let is_later = c.args.frame.now.is_later in
     let cuts = c.args.cuts.now in
     let paragraph = c.args.paragraph.now in
     let pieces = pieces_cut settings cuts paragraph in
@@ -107,9 +107,9 @@ returns-clause-took g c =
     ∙ c.cut_paragraph-piece-items.ensures in
     let first_is : line_so_far c.at-line.result
     ≡ no_pieces paragraph 0 (first_width settings is_later) (indent_of settings is_later) =
-    c.at-line.ensures ∙ ap (λ n. no_pieces paragraph 0 n c.next_indent.result.now)
-    c.line_widths-first_width.ensures.first
-    ∙ ap (no_pieces paragraph 0 (first_width settings is_later)) c.next_indent.ensures in
+    c.at-line.ensures ∙ ap (λ n. no_pieces paragraph 0 n c.args.frame.now.indent.now)
+    c.args.frame.now.first
+    ∙ ap (no_pieces paragraph 0 (first_width settings is_later)) c.args.frame.now.indented in
     let taken = subst (λ ps. HasTaken g.S.LineSink.holds all c.args.lines.now now
     (lines_past settings (line_so_far c.loop-piece.line) ps)) c.in-None.ensures.steps.0
     c.loop-piece.invariant.taken in

@@ -3,7 +3,7 @@ use Rattle.textwrap_base.proofs.Common.{◌≡◌, ℕ, ◌+◌, ◌-◌, ◌≤
 use Rattle.textwrap_base.proofs.Common.{rules, subst, sym, ap, arith, ◌∙◌, StartsWith, flat_map}
 use Rattle.textwrap_base.proofs.Common.{drop_all, drop_more, length-drop, length-take}
 use Rattle.textwrap_words.proofs.Common.{word_view, tiled, WordText}
-use Rattle.textwrap_lines.proofs.Common.{cut_lines, parts_from, layout_view, Word}
+use Rattle.textwrap_lines.proofs.Common.{cut_lines, parts_from, frame_settings, Word}
 use Rattle.textwrap_base.proofs.Lists.Parts.{starts-parts}
 use Rattle.textwrap_lines.proofs.Text.Sinks.{cut_lines-next, HasTaken, HasTaken-end, HasTaken-next}
 use Rattle.textwrap_lines.proofs.Text.Sinks.{HasTaken-start}
@@ -11,7 +11,7 @@ use Rattle.textwrap_lines.proofs.Text.Sinks.{HasTaken-start}
 pub loop-pieces-init : goal.loop-pieces-init
 loop-pieces-init g c =
     let none : length c.args.paragraph.now - length c.args.paragraph.now ≡ 0 = omega arith in
-    let all = parts_from (layout_view c.args.layout.now) c.args.is_later
+    let all = parts_from (frame_settings c.args.frame.now) c.args.frame.now.is_later
     (map (λ line. map word_view line.now) c.args.division.now) in (
       c.utf8.paragraph,
       c.requires,
@@ -43,10 +43,10 @@ next-start paragraph rest after here begins within is =
 pub loop-pieces-preserved : goal.loop-pieces-preserved
 loop-pieces-preserved g c =
     let words : Bor (List Word) → List WordText = λ line. map word_view line.now in
-    let settings = layout_view c.args.layout.now in
+    let settings = frame_settings c.args.frame.now in
     let rest = c.loop-pieces.rest.now in
     let at = length c.args.paragraph.now - length rest in
-    let all = cut_lines 0 (parts_from settings c.args.is_later (map words c.args.division.now)) in
+    let all = cut_lines 0 (parts_from settings c.args.frame.now.is_later (map words c.args.division.now)) in
     let left = drop (c.loop-pieces.pieces-index + 1) c.args.division.now in
     let is = drop_more c.args.division.now c.loop-pieces.pieces-index _ c.loop-pieces-test.true in
     let begins = starts-parts rest _ _ (subst (StartsWith rest)
@@ -68,9 +68,9 @@ loop-pieces-preserved g c =
 pub returns-clause-took : goal.returns-clause-took
 returns-clause-took g c =
     let words : Bor (List Word) → List WordText = λ line. map word_view line.now in
-    let settings = layout_view c.args.layout.now in
+    let settings = frame_settings c.args.frame.now in
     let at = length c.args.paragraph.now - length c.loop-pieces.rest.now in
-    let all = cut_lines 0 (parts_from settings c.args.is_later (map words c.args.division.now)) in
+    let all = cut_lines 0 (parts_from settings c.args.frame.now.is_later (map words c.args.division.now)) in
     HasTaken-end all c.args.lines.now c.loop-pieces.lines
     (subst (λ left. HasTaken g.S.LineSink.holds all c.args.lines.now c.loop-pieces.lines
     (cut_lines at (parts_from settings c.loop-pieces.has_line (map words left))))

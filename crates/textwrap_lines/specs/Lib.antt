@@ -17,6 +17,7 @@ pub mod Places
 pub mod Printable
 pub mod Spans
 pub mod Steps
+pub mod Stretches
 pub mod Text
 pub mod Written
 pub use Rattle.textwrap_base.specs.Cost

@@ -1,15 +1,16 @@
 -- Lines by first fit that are found piece by piece, by where the pieces stand.
 use Rattle.std.specs.Prelude.{◌≡◌, ℕ, ◌+◌, ◌-◌, ◌≤◌, Bool, true, false, ◌&&◌, nat_lt, List, [], ◌∷◌}
-use Rattle.std.specs.Prelude.{if◌then◌else◌, slice_range, IsCharBoundary}
+use Rattle.std.specs.Prelude.{if◌then◌else◌, IsCharBoundary}
 use Rattle.textwrap_words.specs.PieceCuts.{pieces_from_place}
 use Rattle.textwrap_words.specs.Pieces.{stand_from}
 use Rattle.textwrap_words.specs.WordSplitters.{Splitter}
 use Rattle.textwrap_words.specs.declared.pieces.Piece.{Piece}
 use Rattle.textwrap_lines.specs.Layout.{break_limit}
 use Rattle.textwrap_lines.specs.Options.{Settings}
-use Rattle.textwrap_lines.specs.Paragraph.{assembled_line, first_width, indent_of, later_width}
+use Rattle.textwrap_lines.specs.Paragraph.{first_width, indent_of, later_width}
 use Rattle.textwrap_lines.specs.Paragraph.{pieces_of}
-use Rattle.textwrap_lines.specs.Places.{CutLine, cut_line}
+use Rattle.textwrap_lines.specs.Places.{CutLine}
+use Rattle.textwrap_lines.specs.Stretches.{stretch_line}
 use Rattle.textwrap_lines.specs.declared.piece_lines.OpenLine.{OpenLine}
 
 -- ---- the line that takes the next piece
@@ -90,8 +91,8 @@ pub record ComesAt (text : List ℕ) (at : ℕ) (piece : Piece) : Type 0 where
 -- a line without pieces is empty
 abbrev pub line_of : Bool → LineSoFar → CutLine
 line_of keeps_blanks line =
-    cut_line line.start (assembled_line (if line.begun then line.indent else [])
-    (slice_range line.text line.start (if keeps_blanks then line.end else line.word_end)) [])
+    stretch_line keeps_blanks line.text (if line.begun then line.indent else [])
+    (record { start = line.start; word_end = line.word_end; end = line.end })
 
 -- the line has a piece, and no room for one more
 abbrev pub is_past : LineSoFar → Piece → Bool

@@ -5,25 +5,24 @@ ghost use Rattle.std.specs.Prelude.{map, length, slice_index, IsTrue, IfOk, OnOk
 ghost use Rattle.textwrap_base.specs.Cost.{priced_at};
 ghost use Rattle.textwrap_base.specs.Division.{IsDivision};
 ghost use Rattle.textwrap_base.specs.OptimalFit.{IsByOptimalFit};
-ghost use Rattle.textwrap_base.specs.Queue.{SuitQueue};
+ghost use Rattle.textwrap_base.specs.Queue.{AreAtMost, SuitQueue, queue_limit};
 ghost use Rattle.textwrap_base.specs.Table.{fragment_costs, FollowStarts, IsByTable};
 ghost use Rattle.textwrap_words.specs.Words.{WordText, sizes_of};
 ghost use Rattle.textwrap_lines.specs.Cheapest.{SuitSearch};
 ghost use Rattle.textwrap_lines.specs.Direct.{CanBeCut, pieces_cut, cuts_of};
 ghost use Rattle.textwrap_lines.specs.Frame.{frame_lines, frame_settings, frame_widths};
 ghost use Rattle.textwrap_lines.specs.LineSinks.{Took};
-ghost use Rattle.textwrap_lines.specs.Options.{layout_view};
-ghost use Rattle.textwrap_lines.specs.Spans.{AreSpans, HaveTexts, MayBeLast, span_line, span_lines};
+ghost use Rattle.textwrap_lines.specs.Spans.{AreSpans, HaveTexts, span_lines};
 ghost use Rattle.textwrap_lines.specs.Spans.{span_priced};
 
 use crate::frame::Frame;
-use crate::layout::{Cuts, Layout, next_indent};
+use crate::layout::{Cuts, next_indent};
 use crate::line_sinks::LineSink;
 use crate::spans::{Span, find_spans};
+use crate::stretches::{Stretch, push_stretch};
 use std::alloc::{AllocError, Allocator};
 use textwrap_base::inner::{line_cost, lines_by};
-use textwrap_base::minima::{CostSource, is_queue_case, queue_search};
-use textwrap_words::words::Word;
+use textwrap_base::minima::{CostSource, queue_search};
 use textwrap_words::wrap_algorithms::Penalties;
 
 /// The greatest length of a text whose lines are searched for. It has at most as many columns, and
@@ -37,9 +36,22 @@ pub(crate) fn suits_search(paragraph: &str, frame: &Frame<'_>, penalties: &Penal
     ensures suits { IsTrue result → SuitSearch (length paragraph.now) (frame_widths frame.now)
         penalties.now }
 {
-    let none: [Word<'_>; 0] = [];
-    let line_widths = [frame.first_columns, frame.later_columns];
-    0 < paragraph.len() && paragraph.len() <= LIMIT && is_queue_case(&none, &line_widths, penalties)
+    0 < paragraph.len()
+        && paragraph.len() <= LIMIT
+        && frame.first_columns <= LIMIT
+        && frame.later_columns <= LIMIT
+        && penalties_suit(penalties)
+}
+
+/// Whether none of the penalties is too great.
+fn penalties_suit(penalties: &Penalties) -> bool
+    ensures { IsTrue result → AreAtMost queue_limit penalties.now }
+{
+    penalties.nline_penalty <= LIMIT
+        && penalties.overflow_penalty <= LIMIT
+        && penalties.short_last_line_fraction <= LIMIT
+        && penalties.short_last_line_penalty <= LIMIT
+        && penalties.hyphen_penalty <= LIMIT
 }
 
 /// Pushes the lines of least cost of a paragraph that is cut there.
@@ -147,41 +159,16 @@ fn push_lines<'t, A: Allocator + Copy, S: LineSink<'t, A>>(
     let mut has_line = frame.is_later;
     for line in division {
         let last = &line[line.len() - 1];
-        push_line(
-            alloc,
-            paragraph,
+        let stretch = Stretch {
             start,
-            last,
-            &frame.layout,
-            has_line,
-            lines,
-        )?;
+            word_end: last.word_end,
+            end: last.end,
+        };
+        let keeps_blanks = frame.layout.preserve_trailing_space;
+        let indent = next_indent(&frame.layout, has_line);
+        push_stretch(alloc, paragraph, stretch, keeps_blanks, indent, lines)?;
         start = last.end;
         has_line = true;
     }
     Ok(())
-}
-
-/// Pushes the line that begins at `start` and ends with the piece `last`.
-fn push_line<'t, A: Allocator + Copy, S: LineSink<'t, A>>(
-    alloc: A,
-    paragraph: &'t str,
-    start: usize,
-    last: &Span,
-    layout: &Layout<'_>,
-    is_later: bool,
-    lines: &mut S,
-) -> Result<(), AllocError>
-    requires { MayBeLast paragraph.now start last.now }
-    ensures name { S.name lines.new ≡ S.name lines.old }
-    ensures took { OnOk result (Took S.holds lines.old lines.new
-        (span_line (layout_view layout.now) paragraph.now is_later start last.now ∷ [])) }
-{
-    let end = if layout.preserve_trailing_space {
-        last.end
-    } else {
-        last.word_end
-    };
-    let slice = &paragraph[start..end];
-    lines.push_line(alloc, next_indent(layout, is_later), start, slice, "")
 }

@@ -31,5 +31,6 @@ mod printable;
 mod printable_cuts;
 mod spans;
 pub mod steps;
+mod stretches;
 mod wrapping;
 mod written;

@@ -12,6 +12,7 @@ ghost use Rattle.textwrap_lines.specs.Paragraph.{text_limit};
 use crate::frame::Frame;
 use crate::layout::{Cuts, cut_paragraph};
 use crate::line_sinks::LineSink;
+use crate::stretches::{Stretch, push_stretch};
 use std::alloc::{AllocError, Allocator};
 use textwrap_words::inner::Piece;
 
@@ -160,11 +161,11 @@ impl<'t, 'a> OpenLine<'t, 'a> {
             (line_of keeps_blanks (line_so_far self.now) ∷ [])) }
     {
         let indent = if self.begun { self.indent } else { "" };
-        let end = if keeps_blanks {
-            self.end
-        } else {
-            self.word_end
+        let stretch = Stretch {
+            start: self.start,
+            word_end: self.word_end,
+            end: self.end,
         };
-        lines.push_line(alloc, indent, self.start, &self.text[self.start..end], "")
+        push_stretch(alloc, self.text, stretch, keeps_blanks, indent, lines)
     }
 }

@@ -17,6 +17,7 @@ use crate::frame::Frame;
 use crate::layout::next_indent;
 use crate::line_sinks::LineSink;
 use crate::printable_cuts::PrintableCuts;
+use crate::stretches::{Stretch, push_stretch};
 use std::alloc::{AllocError, Allocator};
 use textwrap_words::blanks::{blanks_end, trimmed_len};
 use textwrap_words::inner::BuiltInSplitter;
@@ -59,25 +60,30 @@ pub(crate) fn push_printable_lines<'t, A: Allocator + Copy, C: PrintableCuts, S:
             splitter,
             layout.break_words,
         );
-        let end = slice_end(text, at, next, goes_on || layout.preserve_trailing_space);
+        let stretch = Stretch {
+            start: at,
+            word_end: word_end(text, at, next, goes_on),
+            end: next,
+        };
+        let keeps_blanks = layout.preserve_trailing_space;
         let indent = next_indent(layout, has_line);
-        lines.push_line(alloc, indent, at, &paragraph[at..end], "")?;
+        push_stretch(alloc, paragraph, stretch, keeps_blanks, indent, lines)?;
         at = next;
         has_line = true;
     }
     Ok(())
 }
 
-/// Where the slice of a line ends that goes from the one place to the other: there, or before the
-/// blanks at its end.
-fn slice_end(text: &[u8], at: usize, next: usize, keeps_blanks: bool) -> usize
+/// Where the last word ends of a line that goes from the one place to the other: there if a word goes
+/// on after it, and else before the blanks at its end.
+fn word_end(text: &[u8], at: usize, next: usize, goes_on: bool) -> usize
     requires order { at ≤ next }
     requires inside { next ≤ length text.now }
-    ensures slice { slice_range text.now at result ≡ line_slice text.now at next keeps_blanks }
+    ensures slice { slice_range text.now at result ≡ line_slice text.now at next goes_on }
     ensures from { at ≤ result }
     ensures within { result ≤ next }
 {
-    if keeps_blanks {
+    if goes_on {
         return next;
     }
     at + trimmed_len(&text[at..next])

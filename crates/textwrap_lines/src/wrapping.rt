@@ -1,21 +1,15 @@
 //! Wrapping a text into lines.
 ghost use Rattle.std.specs.Prelude.{◌≡◌, ℕ, List, ◌∷◌, [], ◌++◌, ◌^◌, ◌<◌, length, take, drop, map};
 ghost use Rattle.std.specs.Prelude.{nat_lt, if◌then◌else◌, alloc_error, true, IfOk, IfErr, IfSome};
-ghost use Rattle.std.specs.Prelude.{◌≢◌, OnOk, IsOk, IsOkAnd, MatchOption, Some, None};
-ghost use Rattle.std.specs.Option.{option_map};
-ghost use Rattle.textwrap_lines.specs.Direct.{CanBeCut, IsDirect, words_cut};
-ghost use Rattle.textwrap_words.specs.declared.word_separators.WordSeparator.TheVariants.{AsciiSpace};
+ghost use Rattle.std.specs.Prelude.{◌≢◌, OnOk, IsOk, MatchOption, None};
+ghost use Rattle.textwrap_lines.specs.Direct.{IsDirect};
 ghost use Rattle.std.specs.List.{flat_map};
 ghost use Rattle.std.specs.Str.{IsUtf8};
 ghost use Rattle.std.specs.Io.{StartsWith};
 ghost use Rattle.textwrap_words.specs.Blanks.{without_final_blanks};
 ghost use Rattle.textwrap_words.specs.Breaking.{broken_words};
-ghost use Rattle.textwrap_base.specs.Cost.{total_width};
-ghost use Rattle.textwrap_base.specs.Errors.{Fits64Bits, Overflowed};
-ghost use Rattle.textwrap_words.specs.WrapAlgorithms.{Algorithm, algorithm_view, Greedy, LeastCost};
-ghost use Rattle.textwrap_words.specs.WrapAlgorithms.{MayDivide};
-ghost use Rattle.textwrap_words.specs.Words.{WordText, word_view, sizes_of, tiled, Tiles};
-ghost use Rattle.textwrap_base.specs.declared.penalties.Penalties.{Penalties};
+ghost use Rattle.textwrap_words.specs.WrapAlgorithms.{Algorithm, algorithm_view, Greedy};
+ghost use Rattle.textwrap_words.specs.Words.{WordText, word_view, tiled, Tiles};
 ghost use Rattle.textwrap_words.specs.declared.wrap_algorithms.WrapAlgorithm.TheVariants.{FirstFit};
 ghost use Rattle.textwrap_lines.specs.Frame.{frame_lines, frame_settings};
 ghost use Rattle.textwrap_lines.specs.Fuzzing.{AppendsLines};
@@ -49,7 +43,7 @@ use std::borrow::CowStr;
 use textwrap_words::blanks::split_final_blanks;
 use textwrap_words::inner::{given_cuts, push_measured, split_at_cuts, stay_whole};
 use textwrap_words::word_separators::WordSeparator;
-use textwrap_words::words::{Word, break_words, display_width};
+use textwrap_words::words::{Word, break_words};
 use textwrap_words::wrap_algorithms::WrapError;
 
 /// Wraps a text and returns its lines.
@@ -429,24 +423,6 @@ pub fn wrap_single_line_slow_path<'t, A: Allocator + Copy>(
     Ok(lines.append(&mut own)?)
 }
 
-/// Where the words of a paragraph end but the last, if they do not stand between blanks.
-///
-/// # Errors
-/// [`AllocError`] where memory runs out, or a function of the caller says so.
-fn word_cuts(paragraph: &str, options: &Options<'_>) -> Result<Option<Vec<usize>>, AllocError>
-    ensures words { IfOk result (λ found. MaySeparate options.now.word_separator paragraph.now
-        (words_cut (option_map (λ cuts. cuts.items) found) paragraph.now)) }
-    ensures cuts { IfOk result (λ found. CanBeCut (option_map (λ cuts. cuts.items) found)
-        paragraph.now) }
-    ensures direct { options.now.word_separator ≡ AsciiSpace
-        → IsOkAnd result (λ found. found ≡ None) }
-{
-    match options.word_separator {
-        WordSeparator::AsciiSpace => Ok(None),
-        WordSeparator::Custom(line_cuts) => Ok(Some(given_cuts(line_cuts, paragraph)?)),
-    }
-}
-
 /// The pieces of a paragraph that are divided.
 ///
 /// # Errors
@@ -564,7 +540,10 @@ impl<A: Allocator + Copy> AnyOptions<A> for Options<'_> {
     }
 
     fn word_cuts(&self, paragraph: &str) -> Result<Option<Vec<usize>>, AllocError> {
-        word_cuts(paragraph, self)
+        match self.word_separator {
+            WordSeparator::AsciiSpace => Ok(None),
+            WordSeparator::Custom(line_cuts) => Ok(Some(given_cuts(line_cuts, paragraph)?)),
+        }
     }
 
     fn find_pieces<'t>(

@@ -6,6 +6,7 @@ pub mod Fuzzing
 pub mod Laws
 pub mod Layout
 pub mod LentPlaces
+pub mod LineBounds
 pub mod LineEnding
 pub mod LineSinks
 pub mod Offsets
@@ -17,7 +18,6 @@ pub mod Places
 pub mod Printable
 pub mod Spans
 pub mod Steps
-pub mod Stretches
 pub mod Text
 pub mod Written
 pub use Rattle.textwrap_base.specs.Cost

@@ -10,7 +10,7 @@ use Rattle.textwrap_lines.specs.Options.{Settings}
 use Rattle.textwrap_lines.specs.Paragraph.{first_width, indent_of, later_width}
 use Rattle.textwrap_lines.specs.Paragraph.{pieces_of}
 use Rattle.textwrap_lines.specs.Places.{CutLine}
-use Rattle.textwrap_lines.specs.Stretches.{stretch_line}
+use Rattle.textwrap_lines.specs.LineBounds.{line_between}
 use Rattle.textwrap_lines.specs.declared.piece_lines.OpenLine.{OpenLine}
 
 -- ---- the line that takes the next piece
@@ -91,7 +91,7 @@ pub record ComesAt (text : List ℕ) (at : ℕ) (piece : Piece) : Type 0 where
 -- a line without pieces is empty
 abbrev pub line_of : Bool → LineSoFar → CutLine
 line_of keeps_blanks line =
-    stretch_line keeps_blanks line.text (if line.begun then line.indent else [])
+    line_between keeps_blanks line.text (if line.begun then line.indent else [])
     (record { start = line.start; word_end = line.word_end; end = line.end })
 
 -- the line has a piece, and no room for one more

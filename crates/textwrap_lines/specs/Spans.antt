@@ -8,9 +8,9 @@ use Rattle.textwrap_words.specs.Words.{WordText}
 use Rattle.textwrap_lines.specs.Options.{Settings}
 use Rattle.textwrap_lines.specs.Paragraph.{indent_of}
 use Rattle.textwrap_lines.specs.Places.{CutLine}
-use Rattle.textwrap_lines.specs.Stretches.{IsStretch, stretch_line}
+use Rattle.textwrap_lines.specs.LineBounds.{AreBounds, line_between}
 use Rattle.textwrap_lines.specs.declared.spans.Span.{Span}
-use Rattle.textwrap_lines.specs.declared.stretches.Stretch.{Stretch}
+use Rattle.textwrap_lines.specs.declared.line_bounds.LineBounds.{LineBounds}
 
 -- where a piece stands that follows so many bytes and so many columns
 abbrev pub span_of : ℕ → ℕ → WordText → Span
@@ -56,13 +56,13 @@ abbrev pub last_span : List Span → Span
 last_span line = slice_index_or line (length line - 1) no_span
 
 -- where a line stands that begins after so many bytes and ends with this piece
-abbrev pub stretch_to : ℕ → Span → Stretch
-stretch_to at last = record { start = at; word_end = last.word_end; end = last.end }
+abbrev pub bounds_to : ℕ → Span → LineBounds
+bounds_to at last = record { start = at; word_end = last.word_end; end = last.end }
 
 abbrev pub span_line : Settings → List ℕ → Bool → ℕ → Span → CutLine
 span_line settings text is_later at last =
-    stretch_line settings.preserve_trailing_space text (indent_of settings is_later)
-    (stretch_to at last)
+    line_between settings.preserve_trailing_space text (indent_of settings is_later)
+    (bounds_to at last)
 
 abbrev pub span_lines : Settings → List ℕ → Bool → ℕ → List (List Span) → List CutLine
 span_lines settings text is_later at [] = []
@@ -74,5 +74,5 @@ span_lines settings text is_later at (line ∷ lines) =
 abbrev pub HaveTexts : List ℕ → ℕ → List (List Span) → Type 0
 HaveTexts text at [] = ⊤
 HaveTexts text at (line ∷ lines) =
-    (0 < length line) × IsStretch text (stretch_to at (last_span line))
+    (0 < length line) × AreBounds text (bounds_to at (last_span line))
     × HaveTexts text (last_span line).end lines

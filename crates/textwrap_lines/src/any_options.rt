@@ -37,14 +37,12 @@ pub trait AnyOptions<A: Allocator> {
     ghost use Rattle.std.specs.Io.{StartsWith};
     ghost use Rattle.std.specs.List.{flat_map};
     ghost use Rattle.std.specs.Str.{IsUtf8};
-    ghost use Rattle.textwrap_words.specs.Pieces.{as_splitter};
     ghost use Rattle.textwrap_words.specs.PieceCuts.{parts_by};
     ghost use Rattle.textwrap_words.specs.Units.{IsPrintable};
-    ghost use Rattle.textwrap_words.specs.WrapAlgorithms.{IsDividedBy};
-    ghost use Rattle.textwrap_words.specs.Words.{WordText, Tiles, sizes_of, tiled, word_of, word_view};
-    ghost use Rattle.textwrap_lines.specs.Direct.{CanBeCut, as_algorithm, words_cut};
+    ghost use Rattle.textwrap_words.specs.Words.{WordText, Tiles, tiled, word_of, word_view};
+    ghost use Rattle.textwrap_lines.specs.Direct.{AreParts, CanBeCut, words_cut};
     ghost use Rattle.textwrap_lines.specs.Options.{Settings, layout_view};
-    ghost use Rattle.textwrap_lines.specs.Paragraph.{pieces_of_words, widths_of};
+    ghost use Rattle.textwrap_lines.specs.Paragraph.{widths_of};
 
     // What they say, but for the algorithm, the separator and the splitter.
     ghost settings: { Self → Settings };
@@ -72,13 +70,8 @@ pub trait AnyOptions<A: Allocator> {
 
     /// The algorithm and the splitter, if they are built in.
     fn built_in_parts(&self) -> Option<BuiltInParts>
-        ensures parts { IfSome result (λ parts. (is_later : Bool) (paragraph : List ℕ)
-            (words : List WordText) (division : List (List WordText))
-            → may_separate self.now paragraph words
-            → IsDividedBy (as_algorithm parts.algorithm) sizes_of
-            (widths_of (settings self.now) is_later)
-            (pieces_of_words (settings self.now) (as_splitter parts.splitter) words) division
-            → divides self.now is_later paragraph division) }
+        ensures parts { IfSome result
+            (AreParts (settings self.now) (may_separate self.now) (divides self.now)) }
         ensures first_fit { is_direct self.now
             → IsSomeAnd result (λ parts. parts.algorithm ≡ BuiltInAlgorithm.FirstFit) };
 

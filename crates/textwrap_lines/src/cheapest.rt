@@ -19,7 +19,7 @@ use crate::frame::Frame;
 use crate::layout::{Cuts, next_indent};
 use crate::line_sinks::LineSink;
 use crate::spans::{Span, find_spans};
-use crate::stretches::{Stretch, push_stretch};
+use crate::line_bounds::{LineBounds, push_between};
 use std::alloc::{AllocError, Allocator};
 use textwrap_base::inner::{line_cost, lines_by};
 use textwrap_base::minima::{CostSource, queue_search};
@@ -159,14 +159,14 @@ fn push_lines<'t, A: Allocator + Copy, S: LineSink<'t, A>>(
     let mut has_line = frame.is_later;
     for line in division {
         let last = &line[line.len() - 1];
-        let stretch = Stretch {
+        let bounds = LineBounds {
             start,
             word_end: last.word_end,
             end: last.end,
         };
         let keeps_blanks = frame.layout.preserve_trailing_space;
         let indent = next_indent(&frame.layout, has_line);
-        push_stretch(alloc, paragraph, stretch, keeps_blanks, indent, lines)?;
+        push_between(alloc, paragraph, bounds, keeps_blanks, indent, lines)?;
         start = last.end;
         has_line = true;
     }

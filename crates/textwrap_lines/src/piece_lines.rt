@@ -12,7 +12,7 @@ ghost use Rattle.textwrap_lines.specs.Paragraph.{text_limit};
 use crate::frame::Frame;
 use crate::layout::{Cuts, cut_paragraph};
 use crate::line_sinks::LineSink;
-use crate::stretches::{Stretch, push_stretch};
+use crate::line_bounds::{LineBounds, push_between};
 use std::alloc::{AllocError, Allocator};
 use textwrap_words::inner::Piece;
 
@@ -161,11 +161,11 @@ impl<'t, 'a> OpenLine<'t, 'a> {
             (line_of keeps_blanks (line_so_far self.now) ∷ [])) }
     {
         let indent = if self.begun { self.indent } else { "" };
-        let stretch = Stretch {
+        let bounds = LineBounds {
             start: self.start,
             word_end: self.word_end,
             end: self.end,
         };
-        push_stretch(alloc, self.text, stretch, keeps_blanks, indent, lines)
+        push_between(alloc, self.text, bounds, keeps_blanks, indent, lines)
     }
 }

@@ -17,7 +17,7 @@ use crate::frame::Frame;
 use crate::layout::next_indent;
 use crate::line_sinks::LineSink;
 use crate::printable_cuts::PrintableCuts;
-use crate::stretches::{Stretch, push_stretch};
+use crate::line_bounds::{LineBounds, push_between};
 use std::alloc::{AllocError, Allocator};
 use textwrap_words::blanks::{blanks_end, trimmed_len};
 use textwrap_words::inner::BuiltInSplitter;
@@ -60,14 +60,14 @@ pub(crate) fn push_printable_lines<'t, A: Allocator + Copy, C: PrintableCuts, S:
             splitter,
             layout.break_words,
         );
-        let stretch = Stretch {
+        let bounds = LineBounds {
             start: at,
             word_end: word_end(text, at, next, goes_on),
             end: next,
         };
         let keeps_blanks = layout.preserve_trailing_space;
         let indent = next_indent(layout, has_line);
-        push_stretch(alloc, paragraph, stretch, keeps_blanks, indent, lines)?;
+        push_between(alloc, paragraph, bounds, keeps_blanks, indent, lines)?;
         at = next;
         has_line = true;
     }

@@ -1,8 +1,8 @@
 //! Wrapping a text into lines.
 ghost use Rattle.std.specs.Prelude.{◌≡◌, ℕ, List, ◌∷◌, [], ◌++◌, ◌^◌, ◌<◌, length, take, drop, map};
 ghost use Rattle.std.specs.Prelude.{nat_lt, if◌then◌else◌, alloc_error, true, IfOk, IfErr, IfSome};
-ghost use Rattle.std.specs.Prelude.{◌≢◌, OnOk, IsOk, MatchOption, None};
-ghost use Rattle.textwrap_lines.specs.Direct.{IsDirect};
+ghost use Rattle.std.specs.Prelude.{◌≢◌, OnOk, IsOk, IsSomeAnd, MatchOption, None};
+ghost use Rattle.textwrap_lines.specs.Direct.{AreParts, IsDirect};
 ghost use Rattle.std.specs.List.{flat_map};
 ghost use Rattle.std.specs.Str.{IsUtf8};
 ghost use Rattle.std.specs.Io.{StartsWith};
@@ -30,7 +30,7 @@ ghost use Rattle.textwrap_lines.specs.Text.{HasParagraphThat, SomeMayPass64Bits}
 ghost use Rattle.textwrap_words.specs.WordSeparators.{MaySeparate};
 ghost use Rattle.textwrap_words.specs.WordSplitters.{AreSplit, MaySplit, Splitter, splitter_view};
 
-use crate::any_options::{AnyOptions, BuiltInParts};
+use crate::any_options::{AnyOptions, BuiltInAlgorithm, BuiltInParts};
 use crate::direct::{built_in_parts, jump_cuts, push_by_jumps, push_directly};
 use crate::frame::Frame;
 use crate::layout::{Cuts, Layout, next_indent};
@@ -143,6 +143,19 @@ pub(crate) enum Way {
     ByLists,
 }
 
+/// The splitter and the algorithm by which lines are found in this way, where they are built in.
+fn parts_of_way<A: Allocator, O: AnyOptions<A>>(options: &O, way: Way) -> Option<BuiltInParts>
+    ensures parts { IfSome result
+        (AreParts (O.settings options.now) (O.may_separate options.now) (O.divides options.now)) }
+    ensures first_fit { O.is_direct options.now → way ≡ Way.Shortest
+        → IsSomeAnd result (λ parts. parts.algorithm ≡ BuiltInAlgorithm.FirstFit) }
+{
+    match way {
+        Way::Shortest => options.built_in_parts(),
+        Way::ByLists => None,
+    }
+}
+
 /// Pushes the lines of a text to what has taken none.
 ///
 /// # Errors
@@ -166,6 +179,7 @@ pub(crate) fn push_text<'t, A: Allocator + Copy, S: LineSink<'t, A>, O: AnyOptio
         (O.settings options.now).line_ending text.now
         → IfErr result (λ error. error ≡ WrapError.Memory alloc_error) }
 {
+    let parts = parts_of_way(options, way);
     let layout = options.layout();
     let line_ending = layout.line_ending;
     let first = Frame::of(layout);
@@ -176,7 +190,7 @@ pub(crate) fn push_text<'t, A: Allocator + Copy, S: LineSink<'t, A>, O: AnyOptio
         let (paragraph, after) = split_paragraph(text, line_ending);
         lines.begin_paragraph(start);
         let frame = first.choose(&later, lines.has_line());
-        push_paragraph(alloc, paragraph, options, frame, way, lines)?;
+        push_paragraph(alloc, paragraph, options, frame, &parts, lines)?;
         start += paragraph.len() + line_ending.as_str().len();
         rest = after;
     }
@@ -192,12 +206,15 @@ fn push_paragraph<'t, A: Allocator + Copy, S: LineSink<'t, A>, O: AnyOptions<A>>
     paragraph: &'t str,
     options: &O,
     frame: &Frame<'_>,
-    way: Way,
+    parts: &Option<BuiltInParts>,
     lines: &mut S,
 ) -> Result<(), WrapError>
-    requires { frame_settings frame.now ≡ O.settings options.now }
+    requires framed { frame_settings frame.now ≡ O.settings options.now }
+    requires parts { IfSome parts.now
+        (AreParts (O.settings options.now) (O.may_separate options.now) (O.divides options.now)) }
     ensures name { S.name lines.new ≡ S.name lines.old }
-    ensures done { S.never_fails → O.is_direct options.now → way ≡ Way.Shortest → IsOk result }
+    ensures done { S.never_fails → O.is_direct options.now
+        → IsSomeAnd parts.now (λ parts. parts.algorithm ≡ BuiltInAlgorithm.FirstFit) → IsOk result }
     ensures taken { OnOk result ((parts : List LineParts)
         × AreParagraphParts (frame_settings frame.now) (O.divides options.now) frame.now.is_later
         paragraph.now parts
@@ -211,10 +228,11 @@ fn push_paragraph<'t, A: Allocator + Copy, S: LineSink<'t, A>, O: AnyOptions<A>>
         let slice = whole_line(paragraph, &frame.layout);
         return Ok(lines.push_line(alloc, "", 0, slice, "")?);
     }
-    push_pieces(alloc, paragraph, options, frame, way, lines)
+    push_pieces(alloc, paragraph, options, frame, parts, lines)
 }
 
-/// Pushes the lines of the pieces of a paragraph, in this way.
+/// Pushes the lines of the pieces of a paragraph: without a list of its words, where the parts are
+/// built in.
 ///
 /// # Errors
 /// Those of [`wrap`].
@@ -223,12 +241,15 @@ fn push_pieces<'t, A: Allocator + Copy, S: LineSink<'t, A>, O: AnyOptions<A>>(
     paragraph: &'t str,
     options: &O,
     frame: &Frame<'_>,
-    way: Way,
+    parts: &Option<BuiltInParts>,
     lines: &mut S,
 ) -> Result<(), WrapError>
-    requires { frame_settings frame.now ≡ O.settings options.now }
+    requires framed { frame_settings frame.now ≡ O.settings options.now }
+    requires parts { IfSome parts.now
+        (AreParts (O.settings options.now) (O.may_separate options.now) (O.divides options.now)) }
     ensures name { S.name lines.new ≡ S.name lines.old }
-    ensures done { S.never_fails → O.is_direct options.now → way ≡ Way.Shortest → IsOk result }
+    ensures done { S.never_fails → O.is_direct options.now
+        → IsSomeAnd parts.now (λ parts. parts.algorithm ≡ BuiltInAlgorithm.FirstFit) → IsOk result }
     ensures taken { OnOk result ((division : List (List WordText))
         × O.divides options.now frame.now.is_later paragraph.now division
         × Took S.holds lines.old lines.new (frame_lines frame.now division)) }
@@ -237,10 +258,7 @@ fn push_pieces<'t, A: Allocator + Copy, S: LineSink<'t, A>, O: AnyOptions<A>>(
     ensures no_overflow { ¬ O.may_pass options.now paragraph.now
         → IfErr result (λ error. error ≡ WrapError.Memory alloc_error) }
 {
-    if matches!(way, Way::ByLists) {
-        return push_divided(alloc, paragraph, options, frame, lines);
-    }
-    let Some(parts) = options.built_in_parts() else {
+    let Some(parts) = parts else {
         return push_divided(alloc, paragraph, options, frame, lines);
     };
     if let Some(cuts) = jump_cuts(options, parts.algorithm, paragraph, frame) {
@@ -360,7 +378,8 @@ pub fn wrap_paragraph<'t, A: Allocator + Copy, O: AnyOptions<A>>(
     let frame = Frame::at(options.layout(), !lines.is_empty());
     let mut own = Vec::new(alloc);
     let mut found = ListedLines { lines: &mut own };
-    push_paragraph(alloc, paragraph, options, &frame, Way::Shortest, &mut found)?;
+    let parts = options.built_in_parts();
+    push_paragraph(alloc, paragraph, options, &frame, &parts, &mut found)?;
     Ok(lines.append(&mut own)?)
 }
 

@@ -17,12 +17,12 @@ loop-line-preserved g c =
     let more = ap (map now)
     (drop_more c.args.division.now c.loop-line.line-index _ c.loop-line-test.true) in
     record {
-      taken = HasTaken-next all c.args.lines.now c.loop-line.lines c.push_stretch.new.lines _ _
+      taken = HasTaken-next all c.args.lines.now c.loop-line.lines c.push_between.new.lines _ _
           (subst (λ left. HasTaken g.S.LineSink.holds all c.args.lines.now c.loop-line.lines
           (span_lines settings text c.loop-line.has_line c.loop-line.start left)) more
-          c.loop-line.invariant.taken) (rw c.next_indent-indent.ensures at c.in_ok-push_stretch.ensures.took);
+          c.loop-line.invariant.taken) (rw c.next_indent-indent.ensures at c.in_ok-push_between.ensures.took);
       texts = (subst (HaveTexts text c.loop-line.start) more c.loop-line.invariant.texts).2;
-      name = c.push_stretch.ensures.name ∙ c.loop-line.invariant.name;
+      name = c.push_between.ensures.name ∙ c.loop-line.invariant.name;
     }
 
 pub returns-clause-took : goal.returns-clause-took

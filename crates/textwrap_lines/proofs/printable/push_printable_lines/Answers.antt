@@ -48,8 +48,8 @@ loop-at-preserved g c =
     c.loop-at.has_line c.requires.printable c.line_end-next.ensures.some within slice first in
     record {
       within = within;
-      taken = HasTaken-next all c.args.lines.now c.loop-at.lines c.push_stretch.new.lines _ _
+      taken = HasTaken-next all c.args.lines.now c.loop-at.lines c.push_between.new.lines _ _
           (subst (HasTaken _ all c.args.lines.now c.loop-at.lines) step so_far.taken)
-          (rw c.next_indent-indent.ensures at c.in_ok-push_stretch.ensures.took);
-      name = c.push_stretch.ensures.name ∙ so_far.name;
+          (rw c.next_indent-indent.ensures at c.in_ok-push_between.ensures.took);
+      name = c.push_between.ensures.name ∙ so_far.name;
     }

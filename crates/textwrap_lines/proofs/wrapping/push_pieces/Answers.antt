@@ -18,7 +18,7 @@ returns-then-pushed-clause-taken g c =
     let paragraph = c.args.paragraph.now in
     let (division, divided, took) = c.in_ok-pushed.ensures.pushed c.if-pushed.true in (
       division,
-      c.in-Some.ensures.parts c.args.frame.now.is_later paragraph _ division
+      (rw c.in-Some.is at c.requires.parts) c.args.frame.now.is_later paragraph _ division
           (subst (λ (places : Option (List ℕ)). g.O.AnyOptions.may_separate c.args.options.now
           paragraph (words_cut places paragraph)) (sym c.as_deref.ensures.value)
           c.in_ok-found.ensures.words)
@@ -26,7 +26,7 @@ returns-then-pushed-clause-taken g c =
           (widths_of s c.args.frame.now.is_later) (pieces_of_words s
           (as_splitter c.in-Some.parts.splitter)
           (words_cut (option_map (λ places. places.now) c.as_deref.result) paragraph)) division)
-          c.requires divided),
+          c.requires.framed divided),
       took,
     )
 

@@ -1,14 +1,14 @@
 //! Lines of a paragraph by where they stand in it.
 ghost use Rattle.std.specs.Prelude.{◌≡◌, [], ◌∷◌, IsOk, OnOk};
 ghost use Rattle.textwrap_lines.specs.LineSinks.{Took};
-ghost use Rattle.textwrap_lines.specs.Stretches.{IsStretch, stretch_line};
+ghost use Rattle.textwrap_lines.specs.LineBounds.{AreBounds, line_between};
 
 use crate::line_sinks::LineSink;
 use std::alloc::{AllocError, Allocator};
 
 /// Where a line stands in its paragraph.
 #[derive(Clone, Copy)]
-pub(crate) struct Stretch {
+pub(crate) struct LineBounds {
     /// Where it begins.
     pub(crate) start: usize,
     /// Where its last word ends.
@@ -22,25 +22,25 @@ pub(crate) struct Stretch {
 ///
 /// # Errors
 /// [`AllocError`] where memory runs out.
-pub(crate) fn push_stretch<'t, A: Allocator + Copy, S: LineSink<'t, A>>(
+pub(crate) fn push_between<'t, A: Allocator + Copy, S: LineSink<'t, A>>(
     alloc: A,
     paragraph: &'t str,
-    stretch: Stretch,
+    bounds: LineBounds,
     keeps_blanks: bool,
     indent: &str,
     lines: &mut S,
 ) -> Result<(), AllocError>
-    requires { IsStretch paragraph.now stretch }
+    requires { AreBounds paragraph.now bounds }
     ensures name { S.name lines.new ≡ S.name lines.old }
     ensures done { S.never_fails → IsOk result }
     ensures took { OnOk result (Took S.holds lines.old lines.new
-        (stretch_line keeps_blanks paragraph.now indent.now stretch ∷ [])) }
+        (line_between keeps_blanks paragraph.now indent.now bounds ∷ [])) }
 {
-    let Stretch {
+    let LineBounds {
         start,
         word_end,
         end,
-    } = stretch;
+    } = bounds;
     let end = if keeps_blanks { end } else { word_end };
     lines.push_line(alloc, indent, start, &paragraph[start..end], "")
 }

@@ -91,7 +91,7 @@ pub record ComesAt (text : List ℕ) (at : ℕ) (piece : Piece) : Type 0 where
 -- a line without pieces is empty
 abbrev pub line_of : Bool → LineSoFar → CutLine
 line_of keeps_blanks line =
-    line_between keeps_blanks line.text (if line.begun then line.indent else [])
+    line_between keeps_blanks line.text (if line.begun then line.indent else []) []
     (record { start = line.start; word_end = line.word_end; end = line.end })
 
 -- the line has a piece, and no room for one more

@@ -61,7 +61,7 @@ bounds_to at last = record { start = at; word_end = last.word_end; end = last.en
 
 abbrev pub span_line : Settings → List ℕ → Bool → ℕ → Span → CutLine
 span_line settings text is_later at last =
-    line_between settings.preserve_trailing_space text (indent_of settings is_later)
+    line_between settings.preserve_trailing_space text (indent_of settings is_later) []
     (bounds_to at last)
 
 abbrev pub span_lines : Settings → List ℕ → Bool → ℕ → List (List Span) → List CutLine

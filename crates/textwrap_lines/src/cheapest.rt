@@ -17,9 +17,9 @@ ghost use Rattle.textwrap_lines.specs.Spans.{span_priced};
 
 use crate::frame::Frame;
 use crate::layout::{Cuts, next_indent};
+use crate::line_bounds::{LineBounds, push_between};
 use crate::line_sinks::LineSink;
 use crate::spans::{Span, find_spans};
-use crate::line_bounds::{LineBounds, push_between};
 use std::alloc::{AllocError, Allocator};
 use textwrap_base::inner::{line_cost, lines_by};
 use textwrap_base::minima::{CostSource, queue_search};
@@ -166,7 +166,7 @@ fn push_lines<'t, A: Allocator + Copy, S: LineSink<'t, A>>(
         };
         let keeps_blanks = frame.layout.preserve_trailing_space;
         let indent = next_indent(&frame.layout, has_line);
-        push_between(alloc, paragraph, bounds, keeps_blanks, indent, lines)?;
+        push_between(alloc, paragraph, bounds, keeps_blanks, indent, "", lines)?;
         start = last.end;
         has_line = true;
     }

@@ -17,7 +17,7 @@ pub(crate) struct LineBounds {
     pub(crate) end: usize,
 }
 
-/// Pushes the line that stands there, with its indent. It goes up to its end where blanks are kept,
+/// Pushes the line that stands there, with the indent before it and the penalty after it. It goes up to its end where blanks are kept,
 /// and else up to the end of its last word.
 ///
 /// # Errors
@@ -28,13 +28,14 @@ pub(crate) fn push_between<'t, A: Allocator + Copy, S: LineSink<'t, A>>(
     bounds: LineBounds,
     keeps_blanks: bool,
     indent: &str,
+    penalty: &str,
     lines: &mut S,
 ) -> Result<(), AllocError>
     requires { AreBounds paragraph.now bounds }
     ensures name { S.name lines.new ≡ S.name lines.old }
     ensures done { S.never_fails → IsOk result }
     ensures took { OnOk result (Took S.holds lines.old lines.new
-        (line_between keeps_blanks paragraph.now indent.now bounds ∷ [])) }
+        (line_between keeps_blanks paragraph.now indent.now penalty.now bounds ∷ [])) }
 {
     let LineBounds {
         start,
@@ -42,5 +43,5 @@ pub(crate) fn push_between<'t, A: Allocator + Copy, S: LineSink<'t, A>>(
         end,
     } = bounds;
     let end = if keeps_blanks { end } else { word_end };
-    lines.push_line(alloc, indent, start, &paragraph[start..end], "")
+    lines.push_line(alloc, indent, start, &paragraph[start..end], penalty)
 }

@@ -11,8 +11,8 @@ ghost use Rattle.textwrap_lines.specs.Paragraph.{text_limit};
 
 use crate::frame::Frame;
 use crate::layout::{Cuts, cut_paragraph};
-use crate::line_sinks::LineSink;
 use crate::line_bounds::{LineBounds, push_between};
+use crate::line_sinks::LineSink;
 use std::alloc::{AllocError, Allocator};
 use textwrap_words::inner::Piece;
 
@@ -166,6 +166,6 @@ impl<'t, 'a> OpenLine<'t, 'a> {
             word_end: self.word_end,
             end: self.end,
         };
-        push_between(alloc, self.text, bounds, keeps_blanks, indent, lines)
+        push_between(alloc, self.text, bounds, keeps_blanks, indent, "", lines)
     }
 }

@@ -15,9 +15,9 @@ ghost use Rattle.textwrap_lines.specs.PieceLines.{lines_left, no_pieces};
 
 use crate::frame::Frame;
 use crate::layout::next_indent;
+use crate::line_bounds::{LineBounds, push_between};
 use crate::line_sinks::LineSink;
 use crate::printable_cuts::PrintableCuts;
-use crate::line_bounds::{LineBounds, push_between};
 use std::alloc::{AllocError, Allocator};
 use textwrap_words::blanks::{blanks_end, trimmed_len};
 use textwrap_words::inner::BuiltInSplitter;
@@ -67,7 +67,7 @@ pub(crate) fn push_printable_lines<'t, A: Allocator + Copy, C: PrintableCuts, S:
         };
         let keeps_blanks = layout.preserve_trailing_space;
         let indent = next_indent(layout, has_line);
-        push_between(alloc, paragraph, bounds, keeps_blanks, indent, lines)?;
+        push_between(alloc, paragraph, bounds, keeps_blanks, indent, "", lines)?;
         at = next;
         has_line = true;
     }

@@ -1,6 +1,6 @@
 //! Wrapping a text into lines.
 ghost use Rattle.std.specs.Prelude.{◌≡◌, ℕ, List, ◌∷◌, [], ◌++◌, ◌^◌, ◌<◌, length, take, drop, map};
-ghost use Rattle.std.specs.Prelude.{nat_lt, if◌then◌else◌, alloc_error, true, IfOk, IfErr, IfSome};
+ghost use Rattle.std.specs.Prelude.{◌+◌, IsCharBoundary, nat_lt, if◌then◌else◌, alloc_error, true, IfOk, IfErr, IfSome};
 ghost use Rattle.std.specs.Prelude.{◌≢◌, OnOk, IsOk, IsSomeAnd, MatchOption, None};
 ghost use Rattle.textwrap_lines.specs.Direct.{AreParts, IsDirect};
 ghost use Rattle.std.specs.List.{flat_map};
@@ -13,6 +13,7 @@ ghost use Rattle.textwrap_words.specs.Words.{WordText, word_view, tiled, Tiles};
 ghost use Rattle.textwrap_words.specs.declared.wrap_algorithms.WrapAlgorithm.TheVariants.{FirstFit};
 ghost use Rattle.textwrap_lines.specs.Frame.{frame_lines, frame_settings};
 ghost use Rattle.textwrap_lines.specs.Fuzzing.{AppendsLines};
+ghost use Rattle.textwrap_lines.specs.LineBounds.{AreBounds};
 ghost use Rattle.textwrap_lines.specs.LineEnding.{paragraphs_of};
 ghost use Rattle.textwrap_lines.specs.LineSinks.{Took};
 ghost use Rattle.textwrap_lines.specs.Options.{Settings, layout_view, settings_view, HasBuiltInParts};
@@ -34,6 +35,7 @@ use crate::any_options::{AnyOptions, BuiltInAlgorithm, BuiltInParts};
 use crate::direct::{built_in_parts, jump_cuts, push_by_jumps, push_directly};
 use crate::frame::Frame;
 use crate::layout::{Cuts, Layout, next_indent};
+use crate::line_bounds::{LineBounds, push_between};
 use crate::line_ending::LineEnding;
 use crate::line_sinks::{LineSink, ListedLines};
 use crate::options::Options;
@@ -597,69 +599,80 @@ pub(crate) fn push_lines<'t, A: Allocator + Copy, S: LineSink<'t, A>>(
     ensures took { OnOk result (Took S.holds lines.old lines.new (frame_lines frame.now
         (map (λ line. map word_view line.now) division.now))) }
 {
-    let mut rest = paragraph;
+    let mut start = 0;
     let mut has_line = frame.is_later;
     for pieces in division {
-        let start = paragraph.len() - rest.len();
-        rest = push_line(alloc, start, rest, pieces, &frame.layout, has_line, lines)?;
+        start = push_line(
+            alloc,
+            paragraph,
+            start,
+            pieces,
+            &frame.layout,
+            has_line,
+            lines,
+        )?;
         has_line = true;
     }
     Ok(())
 }
 
-/// Pushes the line of the pieces with which the text begins, and returns the text after them.
-/// `start` bytes of the paragraph come before it.
+/// Pushes the line of the pieces that stand in the paragraph from `start` on, and returns where they
+/// end.
 fn push_line<'t, A: Allocator + Copy, S: LineSink<'t, A>>(
     alloc: A,
+    paragraph: &'t str,
     start: usize,
-    text: &'t str,
     pieces: &[Word<'_>],
     layout: &Layout<'_>,
     is_later: bool,
     lines: &mut S,
-) -> Result<&'t str, AllocError>
-    requires begins { StartsWith text.now (tiled (map word_view pieces.now)) }
-    requires start { start < text_limit }
+) -> Result<usize, AllocError>
+    requires start { IsCharBoundary paragraph.now start }
+    requires begins { StartsWith (drop start paragraph.now) (tiled (map word_view pieces.now)) }
     ensures name { S.name lines.new ≡ S.name lines.old }
     ensures line { OnOk result (Took S.holds lines.old lines.new (cut_lines start
         (parts_of (layout_view layout.now) is_later (map word_view pieces.now) ∷ []))) }
-    ensures rest { IfOk result (λ rest. rest.now
-        ≡ drop (length (tiled (map word_view pieces.now))) text.now) }
+    ensures end { IfOk result (λ end. end ≡ start + length (tiled (map word_view pieces.now))) }
+    ensures boundary { IfOk result (λ end. IsCharBoundary paragraph.now end) }
 {
     let Some((last, front)) = pieces.split_last() else {
         lines.push_line(alloc, "", start, "", "")?;
-        return Ok(text);
+        return Ok(start);
     };
+    let bounds = bounds_of(paragraph, start, front, last);
     let indent = next_indent(layout, is_later);
-    let keeps_whitespace = layout.preserve_trailing_space && last.penalty.is_empty();
-    let (slice, rest) = cut_line(text, front, last, keeps_whitespace);
-    lines.push_line(alloc, indent, start, slice, last.penalty)?;
-    Ok(rest)
+    // A penalty stands in the place of the blanks.
+    let keeps_blanks = layout.preserve_trailing_space && last.penalty.is_empty();
+    push_between(
+        alloc,
+        paragraph,
+        bounds,
+        keeps_blanks,
+        indent,
+        last.penalty,
+        lines,
+    )?;
+    Ok(bounds.end)
 }
 
-/// The slice of the text that the pieces cover, with or without the last whitespace, and the text
-/// after that whitespace.
-fn cut_line<'t>(
-    text: &'t str,
-    front: &[Word<'_>],
-    last: &Word<'_>,
-    keeps_whitespace: bool,
-) -> (&'t str, &'t str)
-    requires { StartsWith text.now (tiled (map word_view (front.now ++ last.now ∷ []))) }
-    ensures slice { result.0.now
-        ≡ (if keeps_whitespace then tiled (map word_view (front.now ++ last.now ∷ []))
-        else covered (map word_view (front.now ++ last.now ∷ []))) }
-    ensures rest { result.1.now
-        ≡ drop (length (tiled (map word_view (front.now ++ last.now ∷ [])))) text.now }
+/// Where the line of the pieces stands, of which this is the last.
+fn bounds_of(paragraph: &str, start: usize, front: &[Word<'_>], last: &Word<'_>) -> LineBounds
+    requires start { IsCharBoundary paragraph.now start }
+    requires begins { StartsWith (drop start paragraph.now)
+        (tiled (map word_view (front.now ++ last.now ∷ []))) }
+    ensures bounds { AreBounds paragraph.now result }
+    ensures start { result.start ≡ start }
+    ensures word_end { result.word_end
+        ≡ start + length (covered (map word_view (front.now ++ last.now ∷ []))) }
+    ensures end { result.end
+        ≡ start + length (tiled (map word_view (front.now ++ last.now ∷ []))) }
 {
-    let whitespace_len = last.whitespace.as_bytes().len();
-    let covered_len = tiled_len(front) + last.word.as_bytes().len();
-    if keeps_whitespace {
-        return text.split_at(covered_len + whitespace_len);
+    let word_end = start + tiled_len(front) + last.word.as_bytes().len();
+    LineBounds {
+        start,
+        word_end,
+        end: word_end + last.whitespace.as_bytes().len(),
     }
-    let (slice, rest) = text.split_at(covered_len);
-    let (_whitespace, rest) = rest.split_at(whitespace_len);
-    (slice, rest)
 }
 
 /// The bytes of the pieces with their whitespace.

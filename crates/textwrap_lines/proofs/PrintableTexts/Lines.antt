@@ -268,7 +268,7 @@ module _ (settings : Settings) (text : List ℕ) where
 
     pub lines-step : (first : IsFirstLine test limit width text at end goes_on)
         → lines_at at width is_later (pieces_from test limit text at)
-        ≡ line_between settings.preserve_trailing_space text (indent_of settings is_later)
+        ≡ line_between settings.preserve_trailing_space text (indent_of settings is_later) []
         (record { start = at; word_end = word_end; end = end })
         ∷ lines_at end (later_width settings) true (pieces_from test limit text end)
     lines-step first =
@@ -287,6 +287,6 @@ module _ (settings : Settings) (text : List ℕ) where
         ∙ ap (λ s. cut_line at (assembled_line (indent_of settings is_later) s [])
         ∷ lines_at (at + length (tiled line)) (later_width settings) true others)
         (slice-is line tiles settings.preserve_trailing_space (first.covers ∙ sym slice))
-        ∙ ap (λ n. line_between settings.preserve_trailing_space text (indent_of settings is_later)
+        ∙ ap (λ n. line_between settings.preserve_trailing_space text (indent_of settings is_later) []
         (record { start = at; word_end = word_end; end = end })
         ∷ lines_at n (later_width settings) true others) len

@@ -155,6 +155,7 @@ fn push_lines<'t, A: Allocator + Copy, S: LineSink<'t, A>>(
     ensures took { OnOk result (Took S.holds lines.old lines.new (span_lines (frame_settings frame.now)
         paragraph.now frame.now.is_later 0 (map (λ line. line.now) division.now))) }
 {
+    let layout = &frame.layout;
     let mut start = 0;
     let mut has_line = frame.is_later;
     for line in division {
@@ -164,9 +165,8 @@ fn push_lines<'t, A: Allocator + Copy, S: LineSink<'t, A>>(
             word_end: last.word_end,
             end: last.end,
         };
-        let keeps_blanks = frame.layout.preserve_trailing_space;
-        let indent = next_indent(&frame.layout, has_line);
-        push_between(alloc, paragraph, bounds, keeps_blanks, indent, "", lines)?;
+        let indent = next_indent(layout, has_line);
+        push_between(alloc, paragraph, bounds, layout, indent, "", lines)?;
         start = last.end;
         has_line = true;
     }

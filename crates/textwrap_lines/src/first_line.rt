@@ -33,8 +33,8 @@ pub(crate) fn push_first_line<'t, A: Allocator + Copy, S: LineSink<'t, A>>(
         (as_splitter splitter) frame.now.is_later paragraph.now line end) }
 {
     let line = first_line(paragraph, frame, splitter);
-    line.push_to(alloc, frame.layout.preserve_trailing_space, lines)?;
-    Ok(line.end)
+    line.push_to(alloc, &frame.layout, lines)?;
+    Ok(line.bounds.end)
 }
 
 /// The first line of a paragraph, with all pieces that have room on it.
@@ -46,16 +46,12 @@ fn first_line<'t, 'a>(
     ensures text { result.text.now ≡ paragraph.now }
     ensures first { IsFirstUpTo (frame_settings frame.now) (as_splitter splitter) frame.now.is_later
         paragraph.now (line_of (frame_settings frame.now).preserve_trailing_space
-        (line_so_far result)) result.end }
+        (line_so_far result)) result.bounds.end }
 {
-    let mut line = OpenLine::first(
-        paragraph,
-        frame.first_columns,
-        frame.indent,
-        frame.has_front,
-    );
-    while line.end < paragraph.len() {
-        let piece = next_piece(paragraph, line.end, frame.limit, splitter);
+    let columns = frame.first_columns;
+    let mut line = OpenLine::at(paragraph, 0, columns, frame.indent, frame.has_front);
+    while line.bounds.end < paragraph.len() {
+        let piece = next_piece(paragraph, line.bounds.end, frame.limit, splitter);
         if line.is_past(&piece) {
             return line;
         }

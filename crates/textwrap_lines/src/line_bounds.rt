@@ -3,6 +3,7 @@ ghost use Rattle.std.specs.Prelude.{◌≡◌, [], ◌∷◌, IsOk, OnOk};
 ghost use Rattle.textwrap_lines.specs.LineSinks.{Took};
 ghost use Rattle.textwrap_lines.specs.LineBounds.{AreBounds, line_between};
 
+use crate::layout::Layout;
 use crate::line_sinks::LineSink;
 use std::alloc::{AllocError, Allocator};
 
@@ -17,8 +18,9 @@ pub(crate) struct LineBounds {
     pub(crate) end: usize,
 }
 
-/// Pushes the line that stands there, with the indent before it and the penalty after it. It goes up to its end where blanks are kept,
-/// and else up to the end of its last word.
+/// Pushes the line that stands there, with the indent before it and the penalty after it. It goes up
+/// to its end where blanks are kept, unless a penalty stands in their place, and else up to the end
+/// of its last word.
 ///
 /// # Errors
 /// [`AllocError`] where memory runs out.
@@ -26,7 +28,7 @@ pub(crate) fn push_between<'t, A: Allocator + Copy, S: LineSink<'t, A>>(
     alloc: A,
     paragraph: &'t str,
     bounds: LineBounds,
-    keeps_blanks: bool,
+    layout: &Layout<'_>,
     indent: &str,
     penalty: &str,
     lines: &mut S,
@@ -35,13 +37,14 @@ pub(crate) fn push_between<'t, A: Allocator + Copy, S: LineSink<'t, A>>(
     ensures name { S.name lines.new ≡ S.name lines.old }
     ensures done { S.never_fails → IsOk result }
     ensures took { OnOk result (Took S.holds lines.old lines.new
-        (line_between keeps_blanks paragraph.now indent.now penalty.now bounds ∷ [])) }
+        (line_between layout.now.preserve_trailing_space paragraph.now indent.now penalty.now bounds
+        ∷ [])) }
 {
-    let LineBounds {
-        start,
-        word_end,
-        end,
-    } = bounds;
-    let end = if keeps_blanks { end } else { word_end };
-    lines.push_line(alloc, indent, start, &paragraph[start..end], penalty)
+    let end = if penalty.is_empty() && layout.preserve_trailing_space {
+        bounds.end
+    } else {
+        bounds.word_end
+    };
+    let slice = &paragraph[bounds.start..end];
+    lines.push_line(alloc, indent, bounds.start, slice, penalty)
 }

@@ -24,7 +24,7 @@ use crate::lent_places::{LentLinePlaces, LentPlaces};
 use crate::line_sinks::LineSink;
 use crate::options::Options;
 pub use crate::places::{Place, PlacedLines, TextwrapLine};
-use crate::wrapping::{Way, push_lines, push_text};
+use crate::wrapping::{push_lines, push_text};
 use std::alloc::{AllocError, Allocator};
 use textwrap_words::words::Word;
 use textwrap_words::wrap_algorithms::WrapError;
@@ -75,7 +75,7 @@ pub fn place_lines_by<A: Allocator + Copy, O: AnyOptions<A>>(
         → IfErr result (λ error. error ≡ WrapError.Memory alloc_error) }
 {
     let mut lines = PlacedLines::new(alloc);
-    push_text(alloc, text, options, Way::Shortest, &mut lines)?;
+    push_text(alloc, text, options, options.built_in_parts(), &mut lines)?;
     Ok(lines)
 }
 
@@ -108,7 +108,8 @@ pub fn place_into<A: Allocator + Copy>(
     let mut sink = LentLinePlaces {
         placed: &mut placed,
     };
-    push_text(alloc, text, options, Way::Shortest, &mut sink)?;
+    let parts = AnyOptions::<A>::built_in_parts(options);
+    push_text(alloc, text, options, parts, &mut sink)?;
     Ok(placed.counts())
 }
 

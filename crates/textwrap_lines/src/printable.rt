@@ -48,26 +48,19 @@ pub(crate) fn push_printable_lines<'t, A: Allocator + Copy, C: PrintableCuts, S:
         paragraph.now) (break_limit (frame_settings frame.now)) paragraph.now start)))) }
 {
     let layout = &frame.layout;
+    let width = frame.later_columns;
     let text = paragraph.as_bytes();
     let mut at = start;
     let mut has_line = frame.is_later;
     while at < text.len() {
-        let (next, goes_on) = line_end(
-            text,
-            at,
-            frame.later_columns,
-            cuts,
-            splitter,
-            layout.break_words,
-        );
+        let (next, goes_on) = line_end(text, at, width, cuts, splitter, layout.break_words);
         let bounds = LineBounds {
             start: at,
             word_end: word_end(text, at, next, goes_on),
             end: next,
         };
-        let keeps_blanks = layout.preserve_trailing_space;
         let indent = next_indent(layout, has_line);
-        push_between(alloc, paragraph, bounds, keeps_blanks, indent, "", lines)?;
+        push_between(alloc, paragraph, bounds, layout, indent, "", lines)?;
         at = next;
         has_line = true;
     }

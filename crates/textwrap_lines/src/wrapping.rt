@@ -132,33 +132,12 @@ pub fn wrap_by<'t, A: Allocator + Copy, O: AnyOptions<A>>(
 {
     let mut list = Vec::new(alloc);
     let mut lines = ListedLines { lines: &mut list };
-    push_text(alloc, text, options, Way::Shortest, &mut lines)?;
+    push_text(alloc, text, options, options.built_in_parts(), &mut lines)?;
     Ok(list)
 }
 
-/// How the lines of a paragraph are found that is not one line as a whole.
-#[derive(Clone, Copy)]
-pub(crate) enum Way {
-    /// Without a list of its words, where its splitter and its algorithm are built in.
-    Shortest,
-    /// By lists of its words and pieces, whatever the parts are.
-    ByLists,
-}
-
-/// The splitter and the algorithm by which lines are found in this way, where they are built in.
-fn parts_of_way<A: Allocator, O: AnyOptions<A>>(options: &O, way: Way) -> Option<BuiltInParts>
-    ensures parts { IfSome result
-        (AreParts (O.settings options.now) (O.may_separate options.now) (O.divides options.now)) }
-    ensures first_fit { O.is_direct options.now → way ≡ Way.Shortest
-        → IsSomeAnd result (λ parts. parts.algorithm ≡ BuiltInAlgorithm.FirstFit) }
-{
-    match way {
-        Way::Shortest => options.built_in_parts(),
-        Way::ByLists => None,
-    }
-}
-
-/// Pushes the lines of a text to what has taken none.
+/// Pushes the lines of a text to what has taken none: by lists of words and pieces, where no parts are
+/// given.
 ///
 /// # Errors
 /// Those of [`wrap`].
@@ -166,12 +145,15 @@ pub(crate) fn push_text<'t, A: Allocator + Copy, S: LineSink<'t, A>, O: AnyOptio
     alloc: A,
     text: &'t str,
     options: &O,
-    way: Way,
+    parts: Option<BuiltInParts>,
     lines: &mut S,
 ) -> Result<(), WrapError>
+    requires parts { IfSome parts
+        (AreParts (O.settings options.now) (O.may_separate options.now) (O.divides options.now)) }
     requires none { S.holds lines.now lines.now 0 [] }
     ensures name { S.name lines.new ≡ S.name lines.old }
-    ensures done { S.never_fails → O.is_direct options.now → way ≡ Way.Shortest → IsOk result }
+    ensures done { S.never_fails → O.is_direct options.now
+        → IsSomeAnd parts (λ parts. parts.algorithm ≡ BuiltInAlgorithm.FirstFit) → IsOk result }
     ensures lines { OnOk result ((taken : List CutLine) × AreCutLines (O.settings options.now)
         (O.divides options.now) text.now taken
         × (end : ℕ) × S.holds lines.old lines.new end taken) }
@@ -181,7 +163,6 @@ pub(crate) fn push_text<'t, A: Allocator + Copy, S: LineSink<'t, A>, O: AnyOptio
         (O.settings options.now).line_ending text.now
         → IfErr result (λ error. error ≡ WrapError.Memory alloc_error) }
 {
-    let parts = parts_of_way(options, way);
     let layout = options.layout();
     let line_ending = layout.line_ending;
     let first = Frame::of(layout);
@@ -599,18 +580,11 @@ pub(crate) fn push_lines<'t, A: Allocator + Copy, S: LineSink<'t, A>>(
     ensures took { OnOk result (Took S.holds lines.old lines.new (frame_lines frame.now
         (map (λ line. map word_view line.now) division.now))) }
 {
+    let layout = &frame.layout;
     let mut start = 0;
     let mut has_line = frame.is_later;
     for pieces in division {
-        start = push_line(
-            alloc,
-            paragraph,
-            start,
-            pieces,
-            &frame.layout,
-            has_line,
-            lines,
-        )?;
+        start = push_line(alloc, paragraph, start, pieces, layout, has_line, lines)?;
         has_line = true;
     }
     Ok(())
@@ -641,13 +615,11 @@ fn push_line<'t, A: Allocator + Copy, S: LineSink<'t, A>>(
     };
     let bounds = bounds_of(paragraph, start, front, last);
     let indent = next_indent(layout, is_later);
-    // A penalty stands in the place of the blanks.
-    let keeps_blanks = layout.preserve_trailing_space && last.penalty.is_empty();
     push_between(
         alloc,
         paragraph,
         bounds,
-        keeps_blanks,
+        layout,
         indent,
         last.penalty,
         lines,

@@ -12,4 +12,4 @@ invariant-loop-line l =
 -- how many pieces are left
 abbrev pub decreases-loop-line : goal.decreases-loop-line
 decreases-loop-line l = length (left_at (frame_settings l.frame) (as_splitter l.splitter) l.paragraph
-    (line_so_far l.line).end)
+    l.line.bounds.end)

@@ -27,7 +27,7 @@ loop-piece-init g c =
     ∙ c.cut_paragraph-piece-items.ensures in
     record {
       taken = HasTaken-start _ c.args.lines.now;
-      come = subst (λ (line : LineSoFar). AllCome line.text line.end left) (sym c.at-line.ensures)
+      come = subst (λ (line : LineSoFar). AllCome line.text line.bounds.end left) (sym c.at-line.ensures)
           (subst (AllCome paragraph 0) (sym left_is)
           (pieces-come settings (as_splitter cuts.splitter) paragraph (words_cut (cuts_of cuts) paragraph)
           c.utf8.paragraph (words_cut-texts (cuts_of cuts) paragraph c.utf8.paragraph c.requires)));
@@ -46,10 +46,10 @@ loop-piece-preserved g c =
     let here = line_so_far c.loop-piece.line in
     let piece = c.in-Some.piece in
     let left = left_standing c.next.new.self in
-    let next = with_piece (no_pieces here.text here.end (later_width settings)
+    let next = with_piece (no_pieces here.text here.bounds.end (later_width settings)
     settings.subsequent_indent) piece in
     let more = with_piece here piece in
-    let come = (subst (AllCome here.text here.end) c.in-Some.ensures.steps
+    let come = (subst (AllCome here.text here.bounds.end) c.in-Some.ensures.steps
     c.loop-piece.invariant.come).1 in
     let taken = subst (λ ps. HasTaken Holds all before now (lines_past settings here ps))
     c.in-Some.ensures.steps c.loop-piece.invariant.taken in
@@ -58,7 +58,7 @@ loop-piece-preserved g c =
           let is : line_so_far c.take.new.self ≡ next =
           c.take.ensures ∙ ap (λ l. with_piece (line_so_far l) piece) w.line-is
           ∙ ap (λ l. with_piece l piece) w.at-line-then-is_past.ensures
-          ∙ ap (λ n. with_piece (no_pieces here.text here.end n settings.subsequent_indent) piece)
+          ∙ ap (λ n. with_piece (no_pieces here.text here.bounds.end n settings.subsequent_indent) piece)
           c.args.frame.now.later in
           let full = subst (λ b. HasTaken Holds all before now (cond b
           (line_of keeps here ∷ lines_past settings next left) (lines_past settings more left)))
@@ -68,7 +68,7 @@ loop-piece-preserved g c =
                 (lines_past settings l left)) (sym is)
                 (HasTaken-next all before now w.push_to.new.lines (line_of keeps here)
                 (lines_past settings next left) full w.in_ok-push_to.ensures.took);
-            come = subst (λ (line : LineSoFar). AllCome line.text line.end left) (sym is) come;
+            come = subst (λ (line : LineSoFar). AllCome line.text line.bounds.end left) (sym is) come;
             name = w.push_to.ensures.name ∙ c.loop-piece.invariant.name;
           })
       | goal.else-is_past w ↦
@@ -80,7 +80,7 @@ loop-piece-preserved g c =
           rw (w.lines-is) (record {
             taken = subst (λ l. HasTaken Holds all before now (lines_past settings l left))
                 (sym is) room;
-            come = subst (λ (line : LineSoFar). AllCome line.text line.end left) (sym is) come;
+            come = subst (λ (line : LineSoFar). AllCome line.text line.bounds.end left) (sym is) come;
             name = c.loop-piece.invariant.name;
           })
     ]

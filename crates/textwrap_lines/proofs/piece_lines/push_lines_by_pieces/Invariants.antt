@@ -11,6 +11,6 @@ invariant-loop-piece g l = record {
   taken : HasTaken g.S.LineSink.holds (lines_past (frame_settings l.frame)
       (line_so_far l.initial.line) (left_standing l.initial.piece-iterator)) l.initial.lines l.lines
       (lines_past (frame_settings l.frame) (line_so_far l.line) (left_standing l.piece-iterator));
-  come : AllCome l.line.text.now l.line.end (left_standing l.piece-iterator);
+  come : AllCome l.line.text.now l.line.bounds.end (left_standing l.piece-iterator);
   name : g.S.LineSink.name l.lines ≡ g.S.LineSink.name l.initial.lines;
 }

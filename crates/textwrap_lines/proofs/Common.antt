@@ -1,5 +1,6 @@
 -- The names of the definitions of this crate that most proofs cite. Declares nothing.
 pub use Rattle.textwrap_lines.specs.Filling.{IsFilled}
+pub use Rattle.textwrap_lines.specs.Frame.{frame_lines, frame_settings, frame_widths}
 pub use Rattle.textwrap_lines.specs.Layout.{front_of}
 pub use Rattle.textwrap_lines.specs.LineEnding.{ending_bytes, join_with, line_feed, paragraphs_of}
 pub use Rattle.textwrap_lines.specs.LineEnding.{parts_past}

@@ -22,7 +22,7 @@ use Rattle.textwrap_lines.proofs.Common.{broken_pieces_of, front_pieces, later_w
 use Rattle.textwrap_lines.proofs.Common.{indent_of, lines_past, LineSoFar, pieces_of, covered}
 use Rattle.textwrap_lines.proofs.Common.{with_piece, assembled_line, line_from, parts_from}
 use Rattle.textwrap_lines.proofs.Common.{parts_of, widths_of, line_of, cut_line, cut_lines}
-use Rattle.textwrap_lines.specs.PieceLines.{ComesAt, first_so_far, is_past, no_pieces}
+use Rattle.textwrap_lines.specs.PieceLines.{ComesAt, is_past, line_opened, no_pieces}
 use Rattle.textwrap_lines.proofs.Paragraph.LeftOff.{blanks-utf8, covered-space, assembled-parts}
 use Rattle.textwrap_lines.proofs.Paragraph.Pieces.{pieces_of_words-measured, pieces_of_words-tile}
 use Rattle.textwrap_lines.proofs.Paragraph.Pieces.{split_words-measured, split_words-no_penalty}
@@ -175,7 +175,7 @@ module _ (settings : Settings) (splitter : Splitter) (text : List ℕ) where
 
   module _ (is_later : Bool) where
     abbrev pub begun_line : Bool → LineSoFar
-    begun_line = first_so_far text (first_width settings is_later) (indent_of settings is_later)
+    begun_line = line_opened text 0 (first_width settings is_later) (indent_of settings is_later)
 
     abbrev empty_line : LineSoFar
     empty_line = begun_line false
@@ -184,8 +184,8 @@ module _ (settings : Settings) (splitter : Splitter) (text : List ℕ) where
     pub record HoldsFirst (line : LineSoFar) : Type 0 where
       pub text_is : line.text ≡ text
       pub lines : lines_past settings empty_line (stand_from 0 (pieces_of settings splitter text))
-          ≡ lines_past settings line (left_at line.end)
-      pub come : AllCome text line.end (left_at line.end)
+          ≡ lines_past settings line (left_at line.bounds.end)
+      pub come : AllCome text line.bounds.end (left_at line.bounds.end)
 
     front-lines : (front : Bool) (ws : List WordText)
         → lines_past settings empty_line (stand_from 0 (cond front empty_front [] ++ ws))
@@ -234,9 +234,11 @@ module _ (text : List ℕ) where
     text = text;
     width = width;
     indent = indent;
-    start = at;
-    word_end = at + length (covered ps);
-    end = at + length (tiled ps);
+    bounds = record {
+      start = at;
+      word_end = at + length (covered ps);
+      end = at + length (tiled ps);
+    };
     columns = open_width sizes_of ps;
     begun = nat_lt 0 (length ps);
   }
@@ -316,11 +318,11 @@ module _ (settings : Settings) (text : List ℕ) where
       omega (arith, closed_width-push sizes_of ps x, penalty) in
       let begins : drop after text ≡ tiled (x ∷ left) = rw (← drop-drop, seam, drop_at) in
       let same_end : p.end ≡ at + length (tiled (ps ++ x ∷ [])) =
-      ap (λ l. l.end) (so_far-push text at width indent ps x) in
+      ap (λ l. l.bounds.end) (so_far-push text at width indent ps x) in
       let at_none : after ≡ after + 0 = omega arith in
       let first_is : next ≡ so_far text after later settings.subsequent_indent (x ∷ []) =
       cc (at_none, so_far-push text after later settings.subsequent_indent [] x) in
-      let next_end : p.end ≡ after + length (tiled (x ∷ [])) = ap (λ l. l.end) first_is in
+      let next_end : p.end ≡ after + length (tiled (x ∷ [])) = ap (λ l. l.bounds.end) first_is in
       cond_both (is_past here p) full (lines_past settings (with_piece here p) rest)
       (λ ls. ls ≡ cut_lines at (parts_from settings is_later
       (grown sizes_of later width (x ∷ left) ps)))

@@ -1,14 +1,16 @@
 -- What is divided without a list of words.
-use Rattle.std.specs.Prelude.{◌≡◌, ◌≢◌, ℕ, IfSome, List, None, Option, Some, map}
+use Rattle.std.specs.Prelude.{◌≡◌, ◌≢◌, ℕ, Bool, IfSome, List, None, Option, Some, map}
 use Rattle.std.specs.Option.{option_map}
 use Rattle.textwrap_words.specs.Cuts.{AreInnerCuts, parts_between}
 use Rattle.textwrap_words.specs.Pieces.{as_splitter}
 use Rattle.textwrap_words.specs.WordSplitters.{Splitter, splitter_view}
-use Rattle.textwrap_words.specs.Words.{WordText, word_of, words_of}
-use Rattle.textwrap_words.specs.WrapAlgorithms.{Algorithm, Greedy, LeastCost, algorithm_view}
+use Rattle.textwrap_words.specs.Words.{WordText, sizes_of, word_of, words_of}
+use Rattle.textwrap_words.specs.WrapAlgorithms.{Algorithm, Greedy, IsDividedBy, LeastCost}
+use Rattle.textwrap_words.specs.WrapAlgorithms.{algorithm_view}
 use Rattle.textwrap_lines.specs.Options.{Settings}
-use Rattle.textwrap_lines.specs.Paragraph.{pieces_by, pieces_of_words}
+use Rattle.textwrap_lines.specs.Paragraph.{pieces_by, pieces_of_words, widths_of}
 use Rattle.textwrap_lines.specs.declared.any_options.BuiltInAlgorithm as algorithms
+use Rattle.textwrap_lines.specs.declared.any_options.BuiltInParts.{BuiltInParts}
 use Rattle.textwrap_lines.specs.declared.options.Options.{Options}
 use Rattle.textwrap_lines.specs.declared.layout.Cuts.{Cuts}
 use Rattle.textwrap_words.specs.declared.word_separators.WordSeparator.TheVariants.{AsciiSpace}
@@ -51,6 +53,16 @@ pub record ArePiecesCut (words : List ℕ → List WordText) (settings : Setting
   pub can : CanBeCut cuts paragraph
   pub words_are : words_cut cuts paragraph ≡ words paragraph
   pub pieces_are : pieces ≡ pieces_by settings words splitter paragraph
+
+-- by these relations, words that may be found are divided so by a built-in splitter and algorithm
+abbrev pub AreParts : Settings → (List ℕ → List WordText → Type 0)
+    → (Bool → List ℕ → List (List WordText) → Type 0) → BuiltInParts → Type 0
+AreParts settings Separates Divides parts =
+    (is_later : Bool) (paragraph : List ℕ) (words : List WordText) (division : List (List WordText))
+    → Separates paragraph words
+    → IsDividedBy (as_algorithm parts.algorithm) sizes_of (widths_of settings is_later)
+    (pieces_of_words settings (as_splitter parts.splitter) words) division
+    → Divides is_later paragraph division
 
 -- these are the splitter and the algorithm, both built in
 pub record HasMethods {E C : Type 0} {e : _} {c : _} (o : Options E C e c) (splitter : Splitter)

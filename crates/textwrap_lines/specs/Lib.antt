@@ -1,10 +1,12 @@
 pub mod Cheapest
 pub mod Direct
 pub mod Filling
+pub mod Frame
 pub mod Fuzzing
 pub mod Laws
 pub mod Layout
 pub mod LentPlaces
+pub mod LineBounds
 pub mod LineEnding
 pub mod LineSinks
 pub mod Offsets

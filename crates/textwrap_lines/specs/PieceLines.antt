@@ -1,65 +1,55 @@
 -- Lines by first fit that are found piece by piece, by where the pieces stand.
 use Rattle.std.specs.Prelude.{◌≡◌, ℕ, ◌+◌, ◌-◌, ◌≤◌, Bool, true, false, ◌&&◌, nat_lt, List, [], ◌∷◌}
-use Rattle.std.specs.Prelude.{if◌then◌else◌, slice_range, IsCharBoundary}
+use Rattle.std.specs.Prelude.{if◌then◌else◌, IsCharBoundary}
 use Rattle.textwrap_words.specs.PieceCuts.{pieces_from_place}
 use Rattle.textwrap_words.specs.Pieces.{stand_from}
 use Rattle.textwrap_words.specs.WordSplitters.{Splitter}
 use Rattle.textwrap_words.specs.declared.pieces.Piece.{Piece}
 use Rattle.textwrap_lines.specs.Layout.{break_limit}
 use Rattle.textwrap_lines.specs.Options.{Settings}
-use Rattle.textwrap_lines.specs.Paragraph.{assembled_line, first_width, indent_of, later_width}
+use Rattle.textwrap_lines.specs.Paragraph.{first_width, indent_of, later_width}
 use Rattle.textwrap_lines.specs.Paragraph.{pieces_of}
-use Rattle.textwrap_lines.specs.Places.{CutLine, cut_line}
+use Rattle.textwrap_lines.specs.Places.{CutLine}
+use Rattle.textwrap_lines.specs.LineBounds.{line_between}
+use Rattle.textwrap_lines.specs.declared.line_bounds.LineBounds.{LineBounds}
 use Rattle.textwrap_lines.specs.declared.piece_lines.OpenLine.{OpenLine}
 
 -- ---- the line that takes the next piece
 
--- the text that it stands in, its width and indent, where it begins, where its pieces end without
--- the whitespace of the last and with it, the columns of all that, and whether it has a piece
+-- the text that it stands in, its width and indent, where its pieces stand, their columns with all
+-- their whitespace, and whether it has a piece
 pub record LineSoFar : Type 0 where
   pub text : List ℕ
   pub width : ℕ
   pub indent : List ℕ
-  pub start : ℕ
-  pub word_end : ℕ
-  pub end : ℕ
+  pub bounds : LineBounds
   pub columns : ℕ
   pub begun : Bool
 
-abbrev pub no_pieces : List ℕ → ℕ → ℕ → List ℕ → LineSoFar
-no_pieces text start width indent = record {
+-- a line from a place on without pieces, or of one without text where that is asked
+abbrev pub line_opened : List ℕ → ℕ → ℕ → List ℕ → Bool → LineSoFar
+line_opened text start width indent begun = record {
   text = text;
   width = width;
   indent = indent;
-  start = start;
-  word_end = start;
-  end = start;
+  bounds = record { start = start; word_end = start; end = start };
   columns = 0;
-  begun = false;
+  begun = begun;
 }
 
--- a line at the beginning of a text, of a piece without text if that is asked, and else without
--- pieces
-abbrev pub first_so_far : List ℕ → ℕ → List ℕ → Bool → LineSoFar
-first_so_far text width indent has_front = record {
-  text = text;
-  width = width;
-  indent = indent;
-  start = 0;
-  word_end = 0;
-  end = 0;
-  columns = 0;
-  begun = has_front;
-}
+abbrev pub no_pieces : List ℕ → ℕ → ℕ → List ℕ → LineSoFar
+no_pieces text start width indent = line_opened text start width indent false
 
 abbrev pub with_piece : LineSoFar → Piece → LineSoFar
 with_piece line piece = record {
   text = line.text;
   width = line.width;
   indent = line.indent;
-  start = line.start;
-  word_end = piece.word_end;
-  end = piece.end;
+  bounds = record {
+    start = line.bounds.start;
+    word_end = piece.word_end;
+    end = piece.end;
+  };
   columns = line.columns + (piece.width + (piece.end - piece.word_end));
   begun = true;
 }
@@ -69,9 +59,7 @@ line_so_far line = record {
   text = line.text.now;
   width = line.width;
   indent = line.indent.now;
-  start = line.start;
-  word_end = line.word_end;
-  end = line.end;
+  bounds = line.bounds;
   columns = line.columns;
   begun = line.begun;
 }
@@ -90,8 +78,7 @@ pub record ComesAt (text : List ℕ) (at : ℕ) (piece : Piece) : Type 0 where
 -- a line without pieces is empty
 abbrev pub line_of : Bool → LineSoFar → CutLine
 line_of keeps_blanks line =
-    cut_line line.start (assembled_line (if line.begun then line.indent else [])
-    (slice_range line.text line.start (if keeps_blanks then line.end else line.word_end)) [])
+    line_between keeps_blanks line.text (if line.begun then line.indent else []) [] line.bounds
 
 -- the line has a piece, and no room for one more
 abbrev pub is_past : LineSoFar → Piece → Bool
@@ -104,7 +91,7 @@ module _ (settings : Settings) where
   lines_past line (p ∷ ps) =
       if is_past line p
       then line_of settings.preserve_trailing_space line
-      ∷ lines_past (with_piece (no_pieces line.text line.end (later_width settings)
+      ∷ lines_past (with_piece (no_pieces line.text line.bounds.end (later_width settings)
       settings.subsequent_indent) p) ps
       else lines_past (with_piece line p) ps
 

@@ -1,14 +1,16 @@
 -- The pieces of a text by where they stand in it.
-use Rattle.std.specs.Prelude.{ℕ, ◌+◌, ◌-◌, ◌<◌, ◌≤◌, Bool, true, List, [], ◌∷◌, length}
-use Rattle.std.specs.Prelude.{slice_index_or, slice_range, if◌then◌else◌, IsCharBoundary, ⊤}
+use Rattle.std.specs.Prelude.{ℕ, ◌+◌, ◌-◌, ◌<◌, Bool, true, List, [], ◌∷◌, length, ⊤}
+use Rattle.std.specs.Prelude.{slice_index_or}
 use Rattle.textwrap_base.specs.Cost.{PricedSizes}
 use Rattle.textwrap_base.specs.Measured.{AreMeasured}
 use Rattle.textwrap_base.specs.Sizes.{Sizes}
 use Rattle.textwrap_words.specs.Words.{WordText}
 use Rattle.textwrap_lines.specs.Options.{Settings}
-use Rattle.textwrap_lines.specs.Paragraph.{assembled_line, indent_of}
-use Rattle.textwrap_lines.specs.Places.{CutLine, cut_line}
+use Rattle.textwrap_lines.specs.Paragraph.{indent_of}
+use Rattle.textwrap_lines.specs.Places.{CutLine}
+use Rattle.textwrap_lines.specs.LineBounds.{AreBounds, line_between}
 use Rattle.textwrap_lines.specs.declared.spans.Span.{Span}
+use Rattle.textwrap_lines.specs.declared.line_bounds.LineBounds.{LineBounds}
 
 -- where a piece stands that follows so many bytes and so many columns
 abbrev pub span_of : ℕ → ℕ → WordText → Span
@@ -53,11 +55,14 @@ no_span = record { word_end = 0; end = 0; opens = 0; closes = 0 }
 abbrev pub last_span : List Span → Span
 last_span line = slice_index_or line (length line - 1) no_span
 
--- the line that begins after so many bytes and ends with this piece
+-- where a line stands that begins after so many bytes and ends with this piece
+abbrev pub bounds_to : ℕ → Span → LineBounds
+bounds_to at last = record { start = at; word_end = last.word_end; end = last.end }
+
 abbrev pub span_line : Settings → List ℕ → Bool → ℕ → Span → CutLine
 span_line settings text is_later at last =
-    cut_line at (assembled_line (indent_of settings is_later)
-    (slice_range text at (if settings.preserve_trailing_space then last.end else last.word_end)) [])
+    line_between settings.preserve_trailing_space text (indent_of settings is_later) []
+    (bounds_to at last)
 
 abbrev pub span_lines : Settings → List ℕ → Bool → ℕ → List (List Span) → List CutLine
 span_lines settings text is_later at [] = []
@@ -65,17 +70,9 @@ span_lines settings text is_later at (line ∷ lines) =
     span_line settings text is_later at (last_span line)
     ∷ span_lines settings text true (last_span line).end lines
 
--- the text may be cut after so many bytes, and before and after the whitespace of this piece
-pub record MayBeLast (text : List ℕ) (at : ℕ) (last : Span) : Type 0 where
-  pub start : IsCharBoundary text at
-  pub word : IsCharBoundary text last.word_end
-  pub end : IsCharBoundary text last.end
-  pub some : at ≤ last.word_end
-  pub order : last.word_end ≤ last.end
-
 -- each line has pieces, and the text may be cut at it
 abbrev pub HaveTexts : List ℕ → ℕ → List (List Span) → Type 0
 HaveTexts text at [] = ⊤
 HaveTexts text at (line ∷ lines) =
-    (0 < length line) × MayBeLast text at (last_span line)
+    (0 < length line) × AreBounds text (bounds_to at (last_span line))
     × HaveTexts text (last_span line).end lines

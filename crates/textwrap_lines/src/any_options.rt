@@ -37,14 +37,12 @@ pub trait AnyOptions<A: Allocator> {
     ghost use Rattle.std.specs.Io.{StartsWith};
     ghost use Rattle.std.specs.List.{flat_map};
     ghost use Rattle.std.specs.Str.{IsUtf8};
-    ghost use Rattle.textwrap_words.specs.Pieces.{as_splitter};
     ghost use Rattle.textwrap_words.specs.PieceCuts.{parts_by};
     ghost use Rattle.textwrap_words.specs.Units.{IsPrintable};
-    ghost use Rattle.textwrap_words.specs.WrapAlgorithms.{IsDividedBy};
-    ghost use Rattle.textwrap_words.specs.Words.{WordText, Tiles, sizes_of, tiled, word_of, word_view};
-    ghost use Rattle.textwrap_lines.specs.Direct.{CanBeCut, as_algorithm, words_cut};
+    ghost use Rattle.textwrap_words.specs.Words.{WordText, Tiles, tiled, word_of, word_view};
+    ghost use Rattle.textwrap_lines.specs.Direct.{AreParts, CanBeCut, words_cut};
     ghost use Rattle.textwrap_lines.specs.Options.{Settings, layout_view};
-    ghost use Rattle.textwrap_lines.specs.Paragraph.{pieces_of_words, widths_of};
+    ghost use Rattle.textwrap_lines.specs.Paragraph.{widths_of};
 
     // What they say, but for the algorithm, the separator and the splitter.
     ghost settings: { Self → Settings };
@@ -72,13 +70,8 @@ pub trait AnyOptions<A: Allocator> {
 
     /// The algorithm and the splitter, if they are built in.
     fn built_in_parts(&self) -> Option<BuiltInParts>
-        ensures parts { IfSome result (λ parts. (is_later : Bool) (paragraph : List ℕ)
-            (words : List WordText) (division : List (List WordText))
-            → may_separate self.now paragraph words
-            → IsDividedBy (as_algorithm parts.algorithm) sizes_of
-            (widths_of (settings self.now) is_later)
-            (pieces_of_words (settings self.now) (as_splitter parts.splitter) words) division
-            → divides self.now is_later paragraph division) }
+        ensures parts { IfSome result
+            (AreParts (settings self.now) (may_separate self.now) (divides self.now)) }
         ensures first_fit { is_direct self.now
             → IsSomeAnd result (λ parts. parts.algorithm ≡ BuiltInAlgorithm.FirstFit) };
 
@@ -108,7 +101,7 @@ pub trait AnyOptions<A: Allocator> {
             (map word_view pieces.items)) }
         ensures tiles { IfOk result (λ pieces. Tiles (map word_view pieces.items) paragraph.now) };
 
-    /// The pieces divided by the algorithm.
+    /// The pieces divided by the algorithm, for lines of these widths.
     ///
     /// # Errors
     /// Those of [`wrap`](crate::wrap).
@@ -116,11 +109,12 @@ pub trait AnyOptions<A: Allocator> {
         &self,
         alloc: A,
         pieces: &'w [Word<'a>],
-        is_later: bool,
+        line_widths: &[usize],
     ) -> Result<Vec<&'w [Word<'a>], A>, WrapError>
         ensures begins { IfOk result (λ lines. StartsWith (tiled (map word_view pieces.now))
             (flat_map (λ line. tiled (map word_view line.now)) lines.items)) }
-        ensures divides { IfOk result (λ lines. (paragraph : List ℕ)
+        ensures divides { IfOk result (λ lines. (is_later : Bool) (paragraph : List ℕ)
+            → line_widths.now ≡ widths_of (settings self.now) is_later
             → has_pieces self.now paragraph (map word_view pieces.now)
             → divides self.now is_later paragraph
             (map (λ line. map word_view line.now) lines.items)) }

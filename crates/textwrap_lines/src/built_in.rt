@@ -4,10 +4,11 @@ ghost use Rattle.std.specs.Prelude.{◌≡◌, IfOk, Some, map};
 ghost use Rattle.textwrap_words.specs.Words.{Tiles, word_view};
 ghost use Rattle.textwrap_words.specs.WrapAlgorithms.{algorithm_view};
 ghost use Rattle.textwrap_lines.specs.Direct.{CanBeCut, as_algorithm, pieces_cut, cuts_of};
-ghost use Rattle.textwrap_lines.specs.Options.{layout_view};
+ghost use Rattle.textwrap_lines.specs.Frame.{frame_settings};
 
 use crate::any_options::{AnyOptions, BuiltInAlgorithm, BuiltInParts};
-use crate::layout::{Cuts, Layout, cut_paragraph, line_widths};
+use crate::frame::Frame;
+use crate::layout::{Cuts, Layout, cut_paragraph};
 use crate::printable_cuts::PrintableCuts;
 use std::alloc::{AllocError, Allocator};
 use textwrap_words::words::Word;
@@ -81,18 +82,16 @@ impl<A: Allocator + Copy, W: PrintableCuts + Copy> AnyOptions<A> for BuiltInOpti
             words: found.as_deref(),
             splitter: self.parts.splitter,
         };
-        list_pieces(alloc, paragraph, &self.layout, &cuts)
+        list_pieces(alloc, paragraph, &Frame::of(self.layout), &cuts)
     }
 
     fn divide<'p, 'w>(
         &self,
         alloc: A,
         pieces: &'w [Word<'p>],
-        is_later: bool,
+        line_widths: &[usize],
     ) -> Result<Vec<&'w [Word<'p>], A>, WrapError> {
-        let (first_width, later_width) = line_widths(&self.layout, is_later);
-        let line_widths = [first_width, later_width];
-        wrap_algorithm(self.parts.algorithm).wrap(alloc, pieces, &line_widths)
+        wrap_algorithm(self.parts.algorithm).wrap(alloc, pieces, line_widths)
     }
 }
 
@@ -113,17 +112,17 @@ fn wrap_algorithm(algorithm: BuiltInAlgorithm) -> WrapAlgorithm
 fn list_pieces<'t, A: Allocator>(
     alloc: A,
     paragraph: &'t str,
-    layout: &Layout<'_>,
+    frame: &Frame<'_>,
     cuts: &Cuts<'_>,
 ) -> Result<Vec<Word<'t>, A>, AllocError>
     requires { CanBeCut (cuts_of cuts.now) paragraph.now }
     ensures pieces { IfOk result (λ pieces. map word_view pieces.items
-        ≡ pieces_cut (layout_view layout.now) cuts.now paragraph.now) }
+        ≡ pieces_cut (frame_settings frame.now) cuts.now paragraph.now) }
     ensures tiles { IfOk result (λ pieces. Tiles (map word_view pieces.items) paragraph.now) }
 {
     let mut pieces = Vec::new(alloc);
     let mut start = 0;
-    for piece in cut_paragraph(paragraph, layout, cuts) {
+    for piece in cut_paragraph(paragraph, frame, cuts) {
         pieces.push(Word {
             word: &paragraph[start..piece.word_end],
             whitespace: &paragraph[piece.word_end..piece.end],

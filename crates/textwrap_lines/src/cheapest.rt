@@ -5,25 +5,24 @@ ghost use Rattle.std.specs.Prelude.{map, length, slice_index, IsTrue, IfOk, OnOk
 ghost use Rattle.textwrap_base.specs.Cost.{priced_at};
 ghost use Rattle.textwrap_base.specs.Division.{IsDivision};
 ghost use Rattle.textwrap_base.specs.OptimalFit.{IsByOptimalFit};
-ghost use Rattle.textwrap_base.specs.Queue.{SuitQueue};
+ghost use Rattle.textwrap_base.specs.Queue.{AreAtMost, SuitQueue, queue_limit};
 ghost use Rattle.textwrap_base.specs.Table.{fragment_costs, FollowStarts, IsByTable};
 ghost use Rattle.textwrap_words.specs.Words.{WordText, sizes_of};
 ghost use Rattle.textwrap_lines.specs.Cheapest.{SuitSearch};
 ghost use Rattle.textwrap_lines.specs.Direct.{CanBeCut, pieces_cut, cuts_of};
+ghost use Rattle.textwrap_lines.specs.Frame.{frame_lines, frame_settings, frame_widths};
 ghost use Rattle.textwrap_lines.specs.LineSinks.{Took};
-ghost use Rattle.textwrap_lines.specs.Options.{layout_view};
-ghost use Rattle.textwrap_lines.specs.Paragraph.{parts_from, widths_of};
-ghost use Rattle.textwrap_lines.specs.Places.{cut_lines};
-ghost use Rattle.textwrap_lines.specs.Spans.{AreSpans, HaveTexts, MayBeLast, span_line, span_lines};
+ghost use Rattle.textwrap_lines.specs.Spans.{AreSpans, HaveTexts, span_lines};
 ghost use Rattle.textwrap_lines.specs.Spans.{span_priced};
 
-use crate::layout::{Cuts, Layout, line_widths, next_indent};
+use crate::frame::Frame;
+use crate::layout::{Cuts, next_indent};
+use crate::line_bounds::{LineBounds, push_between};
 use crate::line_sinks::LineSink;
 use crate::spans::{Span, find_spans};
 use std::alloc::{AllocError, Allocator};
 use textwrap_base::inner::{line_cost, lines_by};
-use textwrap_base::minima::{CostSource, is_queue_case, queue_search};
-use textwrap_words::words::Word;
+use textwrap_base::minima::{CostSource, queue_search};
 use textwrap_words::wrap_algorithms::Penalties;
 
 /// The greatest length of a text whose lines are searched for. It has at most as many columns, and
@@ -31,54 +30,56 @@ use textwrap_words::wrap_algorithms::Penalties;
 const LIMIT: usize = 1 << 62;
 
 /// Whether the lines of least cost of a paragraph can be searched for: not in an empty one, and not
-/// where a number is too great. `is_later` says that a line stands before it.
-pub(crate) fn suits_search(
-    paragraph: &str,
-    layout: &Layout<'_>,
-    is_later: bool,
-    penalties: &Penalties,
-) -> bool
+/// where a number is too great.
+pub(crate) fn suits_search(paragraph: &str, frame: &Frame<'_>, penalties: &Penalties) -> bool
     ensures some { IsTrue result → 0 < length paragraph.now }
-    ensures suits { IsTrue result → SuitSearch (length paragraph.now)
-        (widths_of (layout_view layout.now) is_later) penalties.now }
+    ensures suits { IsTrue result → SuitSearch (length paragraph.now) (frame_widths frame.now)
+        penalties.now }
 {
-    let none: [Word<'_>; 0] = [];
-    let (first_width, later_width) = line_widths(layout, is_later);
     0 < paragraph.len()
         && paragraph.len() <= LIMIT
-        && is_queue_case(&none, &[first_width, later_width], penalties)
+        && frame.first_columns <= LIMIT
+        && frame.later_columns <= LIMIT
+        && penalties_suit(penalties)
 }
 
-/// Pushes the lines of least cost of a paragraph that is cut there. `is_later` says that a line stands
-/// before it.
+/// Whether none of the penalties is too great.
+fn penalties_suit(penalties: &Penalties) -> bool
+    ensures { IsTrue result → AreAtMost queue_limit penalties.now }
+{
+    penalties.nline_penalty <= LIMIT
+        && penalties.overflow_penalty <= LIMIT
+        && penalties.short_last_line_fraction <= LIMIT
+        && penalties.short_last_line_penalty <= LIMIT
+        && penalties.hyphen_penalty <= LIMIT
+}
+
+/// Pushes the lines of least cost of a paragraph that is cut there.
 ///
 /// # Errors
 /// [`AllocError`] where memory runs out.
 pub(crate) fn push_cheapest_lines<'t, A: Allocator + Copy, S: LineSink<'t, A>>(
     alloc: A,
     paragraph: &'t str,
-    layout: &Layout<'_>,
-    is_later: bool,
+    frame: &Frame<'_>,
     cuts: &Cuts<'_>,
     penalties: &Penalties,
     lines: &mut S,
 ) -> Result<(), AllocError>
     requires cuts { CanBeCut (cuts_of cuts.now) paragraph.now }
     requires some { 0 < length paragraph.now }
-    requires suits { SuitSearch (length paragraph.now)
-        (widths_of (layout_view layout.now) is_later) penalties.now }
+    requires suits { SuitSearch (length paragraph.now) (frame_widths frame.now) penalties.now }
     ensures name { S.name lines.new ≡ S.name lines.old }
     ensures took { OnOk result ((division : List (List WordText))
         × IsByOptimalFit (λ w. priced_at penalties.now (sizes_of w)) penalties.now
-        (widths_of (layout_view layout.now) is_later)
-        (pieces_cut (layout_view layout.now) cuts.now paragraph.now) division
-        × Took S.holds lines.old lines.new (cut_lines 0
-        (parts_from (layout_view layout.now) is_later division))) }
+        (frame_widths frame.now) (pieces_cut (frame_settings frame.now) cuts.now paragraph.now)
+        division
+        × Took S.holds lines.old lines.new (frame_lines frame.now division)) }
 {
-    let spans = find_spans(alloc, paragraph, layout, cuts)?;
-    let (first_width, later_width) = line_widths(layout, is_later);
-    let division = cheapest_lines(alloc, &spans, &[first_width, later_width], penalties)?;
-    push_lines(alloc, paragraph, &division, layout, is_later, lines)
+    let spans = find_spans(alloc, paragraph, frame, cuts)?;
+    let line_widths = [frame.first_columns, frame.later_columns];
+    let division = cheapest_lines(alloc, &spans, &line_widths, penalties)?;
+    push_lines(alloc, paragraph, &division, frame, lines)
 }
 
 /// The lines of least cost of some pieces.
@@ -146,46 +147,28 @@ fn push_lines<'t, A: Allocator + Copy, S: LineSink<'t, A>>(
     alloc: A,
     paragraph: &'t str,
     division: &[&[Span]],
-    layout: &Layout<'_>,
-    is_later: bool,
+    frame: &Frame<'_>,
     lines: &mut S,
 ) -> Result<(), AllocError>
     requires { HaveTexts paragraph.now 0 (map (λ line. line.now) division.now) }
     ensures name { S.name lines.new ≡ S.name lines.old }
-    ensures took { OnOk result (Took S.holds lines.old lines.new (span_lines (layout_view layout.now)
-        paragraph.now is_later 0 (map (λ line. line.now) division.now))) }
+    ensures took { OnOk result (Took S.holds lines.old lines.new (span_lines (frame_settings frame.now)
+        paragraph.now frame.now.is_later 0 (map (λ line. line.now) division.now))) }
 {
+    let layout = &frame.layout;
     let mut start = 0;
-    let mut has_line = is_later;
+    let mut has_line = frame.is_later;
     for line in division {
         let last = &line[line.len() - 1];
-        push_line(alloc, paragraph, start, last, layout, has_line, lines)?;
+        let bounds = LineBounds {
+            start,
+            word_end: last.word_end,
+            end: last.end,
+        };
+        let indent = next_indent(layout, has_line);
+        push_between(alloc, paragraph, bounds, layout, indent, "", lines)?;
         start = last.end;
         has_line = true;
     }
     Ok(())
-}
-
-/// Pushes the line that begins at `start` and ends with the piece `last`.
-fn push_line<'t, A: Allocator + Copy, S: LineSink<'t, A>>(
-    alloc: A,
-    paragraph: &'t str,
-    start: usize,
-    last: &Span,
-    layout: &Layout<'_>,
-    is_later: bool,
-    lines: &mut S,
-) -> Result<(), AllocError>
-    requires { MayBeLast paragraph.now start last.now }
-    ensures name { S.name lines.new ≡ S.name lines.old }
-    ensures took { OnOk result (Took S.holds lines.old lines.new
-        (span_line (layout_view layout.now) paragraph.now is_later start last.now ∷ [])) }
-{
-    let end = if layout.preserve_trailing_space {
-        last.end
-    } else {
-        last.word_end
-    };
-    let slice = &paragraph[start..end];
-    lines.push_line(alloc, next_indent(layout, is_later), start, slice, "")
 }

@@ -13,15 +13,14 @@ ghost use Rattle.textwrap_words.specs.WrapAlgorithms.{IsDividedBy};
 ghost use Rattle.textwrap_lines.specs.Direct.{CanBeCut, HasMethods, IsDirect, as_algorithm, pieces_cut};
 ghost use Rattle.textwrap_lines.specs.Direct.{cuts_of};
 ghost use Rattle.textwrap_lines.specs.LineSinks.{Took};
-ghost use Rattle.textwrap_lines.specs.Options.{layout_view};
-ghost use Rattle.textwrap_lines.specs.Paragraph.{first_width, later_width, parts_from};
-ghost use Rattle.textwrap_lines.specs.Paragraph.{pieces_of, pieces_of_words, widths_of};
-ghost use Rattle.textwrap_lines.specs.Places.{cut_lines};
+ghost use Rattle.textwrap_lines.specs.Frame.{frame_lines, frame_settings, frame_widths};
+ghost use Rattle.textwrap_lines.specs.Paragraph.{first_width, later_width, pieces_of, pieces_of_words};
 
 use crate::any_options::{AnyOptions, BuiltInAlgorithm, BuiltInParts};
 use crate::cheapest::{push_cheapest_lines, suits_search};
 use crate::first_line::push_first_line;
-use crate::layout::{Cuts, Layout, later_width, line_widths};
+use crate::frame::Frame;
+use crate::layout::Cuts;
 use crate::line_sinks::LineSink;
 use crate::options::Options;
 use crate::piece_lines::push_lines_by_pieces;
@@ -33,7 +32,7 @@ use textwrap_words::word_splitters::WordSplitter;
 use textwrap_words::wrap_algorithms::WrapAlgorithm;
 
 /// Pushes the lines of a paragraph that is cut there, by a built-in algorithm, and returns whether it
-/// has; if not, it has pushed none. `is_later` says that a line stands before it.
+/// has; if not, it has pushed none.
 ///
 /// This is where the way of a paragraph is chosen. What comes first in the table is taken; before all of
 /// these comes [`push_by_jumps`], wherever [`jump_cuts`] finds how:
@@ -50,8 +49,7 @@ use textwrap_words::wrap_algorithms::WrapAlgorithm;
 pub(crate) fn push_directly<'t, A: Allocator + Copy, S: LineSink<'t, A>>(
     alloc: A,
     paragraph: &'t str,
-    layout: &Layout<'_>,
-    is_later: bool,
+    frame: &Frame<'_>,
     cuts: &Cuts<'_>,
     algorithm: BuiltInAlgorithm,
     lines: &mut S,
@@ -61,25 +59,23 @@ pub(crate) fn push_directly<'t, A: Allocator + Copy, S: LineSink<'t, A>>(
     ensures done { S.never_fails → algorithm ≡ BuiltInAlgorithm.FirstFit
         → IsOkAnd result (λ pushed. pushed ≡ true) }
     ensures pushed { IfOk result (λ pushed. IsTrue pushed → (division : List (List WordText))
-        × IsDividedBy (as_algorithm algorithm) sizes_of
-        (widths_of (layout_view layout.now) is_later)
-        (pieces_cut (layout_view layout.now) cuts.now paragraph.now) division
-        × Took S.holds lines.old lines.new (cut_lines 0
-        (parts_from (layout_view layout.now) is_later division))) }
+        × IsDividedBy (as_algorithm algorithm) sizes_of (frame_widths frame.now)
+        (pieces_cut (frame_settings frame.now) cuts.now paragraph.now) division
+        × Took S.holds lines.old lines.new (frame_lines frame.now division)) }
     ensures kept { IfOk result (λ pushed. pushed ≡ false → lines.new ≡ lines.old) }
 {
     match algorithm {
-        BuiltInAlgorithm::FirstFit if cuts.words.is_none() && can_jump(paragraph, layout) => {
-            push_after_first(alloc, paragraph, layout, is_later, cuts.splitter, lines)?;
+        BuiltInAlgorithm::FirstFit if cuts.words.is_none() && can_jump(paragraph, frame) => {
+            push_after_first(alloc, paragraph, frame, cuts.splitter, lines)?;
         }
         BuiltInAlgorithm::FirstFit => {
-            push_lines_by_pieces(alloc, paragraph, layout, is_later, cuts, lines)?;
+            push_lines_by_pieces(alloc, paragraph, frame, cuts, lines)?;
         }
         BuiltInAlgorithm::LeastCost(penalties) => {
-            if !suits_search(paragraph, layout, is_later, &penalties) {
+            if !suits_search(paragraph, frame, &penalties) {
                 return Ok(false);
             }
-            push_cheapest_lines(alloc, paragraph, layout, is_later, cuts, &penalties, lines)?;
+            push_cheapest_lines(alloc, paragraph, frame, cuts, &penalties, lines)?;
         }
     }
     Ok(true)
@@ -110,99 +106,99 @@ pub(crate) fn built_in_parts(options: &Options<'_>) -> Option<BuiltInParts>
 
 /// Whether the lines of a paragraph are found from their starts by their widths: if it is printable
 /// ASCII, not empty, and its later lines have room beside their indent.
-fn can_jump(paragraph: &str, layout: &Layout<'_>) -> bool
+fn can_jump(paragraph: &str, frame: &Frame<'_>) -> bool
     ensures printable { IsTrue result → IsPrintable paragraph.now }
     ensures some { IsTrue result → 0 < length paragraph.now }
-    ensures room { IsTrue result → 0 < later_width (layout_view layout.now) }
+    ensures room { IsTrue result → 0 < later_width (frame_settings frame.now) }
 {
-    later_width(layout) > 0 && !paragraph.is_empty() && is_printable(paragraph.as_bytes())
+    frame.later_columns > 0 && !paragraph.is_empty() && is_printable(paragraph.as_bytes())
 }
 
 /// Where a paragraph is cut into words, if its lines are found from there: by first fit, where it is
-/// printable and all its lines have one width. `is_later` says that a line stands before it.
+/// printable and all its lines have one width.
 pub(crate) fn jump_cuts<A: Allocator, O: AnyOptions<A>>(
     options: &O,
     algorithm: BuiltInAlgorithm,
     paragraph: &str,
-    layout: &Layout<'_>,
-    is_later: bool,
+    frame: &Frame<'_>,
 ) -> Option<O::Words>
     ensures words { IfSome result (λ cuts. O.may_separate options.now paragraph.now
         (map word_of (parts_by (O.Words.cuts cuts paragraph.now) 0 paragraph.now))) }
     ensures first_fit { IfSome result (λ _. algorithm ≡ BuiltInAlgorithm.FirstFit) }
     ensures printable { IfSome result (λ _. IsPrintable paragraph.now) }
     ensures some { IfSome result (λ _. 0 < length paragraph.now) }
-    ensures room { IfSome result (λ _. 0 < later_width (layout_view layout.now)) }
-    ensures even { IfSome result (λ _. first_width (layout_view layout.now) is_later
-        ≡ later_width (layout_view layout.now)) }
+    ensures room { IfSome result (λ _. 0 < later_width (frame_settings frame.now)) }
+    ensures even { IfSome result (λ _. first_width (frame_settings frame.now) frame.now.is_later
+        ≡ later_width (frame_settings frame.now)) }
 {
-    if !matches!(algorithm, BuiltInAlgorithm::FirstFit) || !can_jump(paragraph, layout) {
+    if !matches!(algorithm, BuiltInAlgorithm::FirstFit) || !can_jump(paragraph, frame) {
         return None;
     }
-    let (first_width, later_width) = line_widths(layout, is_later);
-    if first_width != later_width {
+    if frame.first_columns != frame.later_columns {
         return None;
     }
     options.printable_cuts()
 }
 
 /// Pushes the lines of a printable paragraph by first fit, where it is cut there and words are split
-/// by the splitter, without a look at each word. All its lines have one width. `is_later` says that a
-/// line stands before it.
+/// by the splitter, without a look at each word. All its lines have one width.
 ///
 /// # Errors
 /// [`AllocError`] where memory runs out.
 pub(crate) fn push_by_jumps<'t, A: Allocator + Copy, C: PrintableCuts, S: LineSink<'t, A>>(
     alloc: A,
     paragraph: &'t str,
-    layout: &Layout<'_>,
-    is_later: bool,
+    frame: &Frame<'_>,
     cuts: &C,
     splitter: BuiltInSplitter,
     lines: &mut S,
 ) -> Result<(), AllocError>
     requires printable { IsPrintable paragraph.now }
     requires some { 0 < length paragraph.now }
-    requires room { 0 < later_width (layout_view layout.now) }
-    requires even { first_width (layout_view layout.now) is_later
-        ≡ later_width (layout_view layout.now) }
+    requires room { 0 < later_width (frame_settings frame.now) }
+    requires even { first_width (frame_settings frame.now) frame.now.is_later
+        ≡ later_width (frame_settings frame.now) }
     ensures name { S.name lines.new ≡ S.name lines.old }
     ensures done { S.never_fails → IsOk result }
     ensures took { OnOk result ((division : List (List WordText))
-        × IsGreedy sizes_of (widths_of (layout_view layout.now) is_later)
-        (pieces_of_words (layout_view layout.now) (as_splitter splitter)
+        × IsGreedy sizes_of (frame_widths frame.now)
+        (pieces_of_words (frame_settings frame.now) (as_splitter splitter)
         (map word_of (parts_by (C.cuts cuts.now paragraph.now) 0 paragraph.now))) division
-        × Took S.holds lines.old lines.new (cut_lines 0
-        (parts_from (layout_view layout.now) is_later division))) }
+        × Took S.holds lines.old lines.new (frame_lines frame.now division)) }
 {
-    push_printable_lines(alloc, paragraph, 0, layout, is_later, cuts, splitter, lines)
+    push_printable_lines(alloc, paragraph, 0, frame, cuts, splitter, lines)
 }
 
 /// Pushes the lines of a printable paragraph by first fit, with words between blanks, which are split
-/// by the splitter. The first line, which has a width of its own, is found piece by piece. `is_later`
-/// says that a line stands before it.
+/// by the splitter. The first line, which has a width of its own, is found piece by piece.
 ///
 /// # Errors
 /// [`AllocError`] where memory runs out.
 fn push_after_first<'t, A: Allocator + Copy, S: LineSink<'t, A>>(
     alloc: A,
     paragraph: &'t str,
-    layout: &Layout<'_>,
-    is_later: bool,
+    frame: &Frame<'_>,
     splitter: BuiltInSplitter,
     lines: &mut S,
 ) -> Result<(), AllocError>
     requires printable { IsPrintable paragraph.now }
-    requires room { 0 < later_width (layout_view layout.now) }
+    requires room { 0 < later_width (frame_settings frame.now) }
     ensures name { S.name lines.new ≡ S.name lines.old }
     ensures done { S.never_fails → IsOk result }
     ensures took { OnOk result ((division : List (List WordText))
-        × IsGreedy sizes_of (widths_of (layout_view layout.now) is_later)
-        (pieces_of (layout_view layout.now) (as_splitter splitter) paragraph.now) division
-        × Took S.holds lines.old lines.new (cut_lines 0
-        (parts_from (layout_view layout.now) is_later division))) }
+        × IsGreedy sizes_of (frame_widths frame.now)
+        (pieces_of (frame_settings frame.now) (as_splitter splitter) paragraph.now) division
+        × Took S.holds lines.old lines.new (frame_lines frame.now division)) }
 {
-    let end = push_first_line(alloc, paragraph, layout, is_later, splitter, lines)?;
+    let end = push_first_line(alloc, paragraph, frame, splitter, lines)?;
     let cuts = BlankCuts {};
-    push_printable_lines(alloc, paragraph, end, layout, true, &cuts, splitter, lines)
+    push_printable_lines(
+        alloc,
+        paragraph,
+        end,
+        &frame.later(),
+        &cuts,
+        splitter,
+        lines,
+    )
 }

@@ -15,7 +15,7 @@ use crate::any_options::AnyOptions;
 use crate::line_ending::LineEnding;
 use crate::line_sinks::{JoinedLines, LentLines, ListedLines};
 use crate::options::Options;
-use crate::wrapping::{Way, push_text};
+use crate::wrapping::push_text;
 use std::alloc::{AllocError, Allocator};
 use std::borrow::CowStr;
 use textwrap_words::inner::LentText;
@@ -71,7 +71,7 @@ pub fn fill_by<A: Allocator + Copy, O: AnyOptions<A>>(
         line_ending: options.layout().line_ending,
         begun: false,
     };
-    push_text(alloc, text, options, Way::Shortest, &mut lines)?;
+    push_text(alloc, text, options, options.built_in_parts(), &mut lines)?;
     Ok(lines.text)
 }
 
@@ -104,7 +104,8 @@ pub fn fill_into<A: Allocator + Copy>(
         line_ending: options.line_ending,
         begun: false,
     };
-    push_text(alloc, text, options, Way::Shortest, &mut lines)?;
+    let parts = AnyOptions::<A>::built_in_parts(options);
+    push_text(alloc, text, options, parts, &mut lines)?;
     Ok(filled.len())
 }
 
@@ -134,7 +135,7 @@ pub fn fill_slow_path<A: Allocator + Copy>(
 {
     let mut list = Vec::new(alloc);
     let mut lines = ListedLines { lines: &mut list };
-    push_text(alloc, text, &options, Way::ByLists, &mut lines)?;
+    push_text(alloc, text, &options, None, &mut lines)?;
     Ok(join_lines(alloc, &list, options.line_ending)?)
 }
 

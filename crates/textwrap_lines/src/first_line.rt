@@ -2,27 +2,26 @@
 //! after it do not depend on it, so the other lines can be found in another way.
 ghost use Rattle.std.specs.Prelude.{◌≡◌, List, [], ◌∷◌, IsCharBoundary, IfOk, IsOk};
 ghost use Rattle.textwrap_words.specs.Pieces.{as_splitter};
+ghost use Rattle.textwrap_lines.specs.Frame.{frame_settings};
 ghost use Rattle.textwrap_lines.specs.LineSinks.{Took};
-ghost use Rattle.textwrap_lines.specs.Options.{layout_view};
 ghost use Rattle.textwrap_lines.specs.Places.{CutLine};
 ghost use Rattle.textwrap_lines.specs.PieceLines.{IsFirstUpTo, line_of, line_so_far};
 
-use crate::layout::{Layout, break_limit, has_front, line_widths, next_indent};
+use crate::frame::Frame;
 use crate::line_sinks::LineSink;
 use crate::piece_lines::OpenLine;
 use std::alloc::{AllocError, Allocator};
 use textwrap_words::inner::{BuiltInSplitter, next_piece};
 
 /// Pushes the first line of a paragraph by first fit, with words split by the splitter, and returns
-/// where it ends. `is_later` says that a line stands before it.
+/// where it ends.
 ///
 /// # Errors
 /// [`AllocError`] where memory runs out.
 pub(crate) fn push_first_line<'t, A: Allocator + Copy, S: LineSink<'t, A>>(
     alloc: A,
     paragraph: &'t str,
-    layout: &Layout<'_>,
-    is_later: bool,
+    frame: &Frame<'_>,
     splitter: BuiltInSplitter,
     lines: &mut S,
 ) -> Result<usize, AllocError>
@@ -30,32 +29,29 @@ pub(crate) fn push_first_line<'t, A: Allocator + Copy, S: LineSink<'t, A>>(
     ensures done { S.never_fails → IsOk result }
     ensures boundary { IfOk result (λ end. IsCharBoundary paragraph.now end) }
     ensures first { IfOk result (λ end. (line : CutLine)
-        × Took S.holds lines.old lines.new (line ∷ []) × IsFirstUpTo (layout_view layout.now)
-        (as_splitter splitter) is_later paragraph.now line end) }
+        × Took S.holds lines.old lines.new (line ∷ []) × IsFirstUpTo (frame_settings frame.now)
+        (as_splitter splitter) frame.now.is_later paragraph.now line end) }
 {
-    let line = first_line(paragraph, layout, is_later, splitter);
-    line.push_to(alloc, layout.preserve_trailing_space, lines)?;
-    Ok(line.end)
+    let line = first_line(paragraph, frame, splitter);
+    line.push_to(alloc, &frame.layout, lines)?;
+    Ok(line.bounds.end)
 }
 
 /// The first line of a paragraph, with all pieces that have room on it.
 fn first_line<'t, 'a>(
     paragraph: &'t str,
-    layout: &Layout<'a>,
-    is_later: bool,
+    frame: &Frame<'a>,
     splitter: BuiltInSplitter,
 ) -> OpenLine<'t, 'a>
     ensures text { result.text.now ≡ paragraph.now }
-    ensures first { IsFirstUpTo (layout_view layout.now) (as_splitter splitter) is_later
-        paragraph.now (line_of (layout_view layout.now).preserve_trailing_space
-        (line_so_far result)) result.end }
+    ensures first { IsFirstUpTo (frame_settings frame.now) (as_splitter splitter) frame.now.is_later
+        paragraph.now (line_of (frame_settings frame.now).preserve_trailing_space
+        (line_so_far result)) result.bounds.end }
 {
-    let (first_width, _) = line_widths(layout, is_later);
-    let limit = break_limit(layout);
-    let indent = next_indent(layout, is_later);
-    let mut line = OpenLine::first(paragraph, first_width, indent, has_front(layout));
-    while line.end < paragraph.len() {
-        let piece = next_piece(paragraph, line.end, limit, splitter);
+    let columns = frame.first_columns;
+    let mut line = OpenLine::at(paragraph, 0, columns, frame.indent, frame.has_front);
+    while line.bounds.end < paragraph.len() {
+        let piece = next_piece(paragraph, line.bounds.end, frame.limit, splitter);
         if line.is_past(&piece) {
             return line;
         }

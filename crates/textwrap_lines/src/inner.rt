@@ -13,6 +13,7 @@ ghost use Rattle.textwrap_lines.specs.Paragraph.{line_from, line_view, parts_fro
 pub use crate::any_options::{AnyOptions, BuiltInAlgorithm, BuiltInParts};
 pub use crate::built_in::BuiltInOptions;
 pub use crate::filling::{fill_by, fill_into};
+use crate::frame::Frame;
 pub use crate::layout::{Layout, next_indent};
 pub use crate::options::DEFAULTS;
 use crate::options::Options;
@@ -34,7 +35,7 @@ pub fn paragraph_pieces<'t>(
     ensures { standing_left result ≡ stand_from 0
         (pieces_of (settings_view options.now) (as_splitter splitter) paragraph.now) }
 {
-    layout::paragraph_pieces(paragraph, &Layout::of(options), splitter)
+    layout::paragraph_pieces(paragraph, &Frame::of(Layout::of(options)), splitter)
 }
 
 /// The width of a paragraph's first line, and that of its others. `is_later` says that a line stands
@@ -43,7 +44,8 @@ pub fn line_widths(options: &Options<'_>, is_later: bool) -> (usize, usize)
     ensures first { result.0 ≡ first_width (settings_view options.now) is_later }
     ensures later { result.1 ≡ later_width (settings_view options.now) }
 {
-    layout::line_widths(&Layout::of(options), is_later)
+    let frame = Frame::at(Layout::of(options), is_later);
+    (frame.first_columns, frame.later_columns)
 }
 
 /// Whether a paragraph is one line as a whole. `is_later` says that a line stands before it.

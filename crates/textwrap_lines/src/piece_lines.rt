@@ -5,13 +5,14 @@ ghost use Rattle.std.specs.Prelude.{IsCharBoundary, OnOk, IsOk};
 ghost use Rattle.textwrap_base.specs.Division.{IsGreedy};
 ghost use Rattle.textwrap_words.specs.Words.{WordText, sizes_of};
 ghost use Rattle.textwrap_lines.specs.Direct.{CanBeCut, pieces_cut, cuts_of};
+ghost use Rattle.textwrap_lines.specs.Frame.{frame_lines, frame_settings, frame_widths};
+ghost use Rattle.textwrap_lines.specs.LineBounds.{AreBounds};
 ghost use Rattle.textwrap_lines.specs.LineSinks.{Took};
-ghost use Rattle.textwrap_lines.specs.Options.{layout_view};
-ghost use Rattle.textwrap_lines.specs.Paragraph.{parts_from, text_limit};
-ghost use Rattle.textwrap_lines.specs.Paragraph.{widths_of};
-ghost use Rattle.textwrap_lines.specs.Places.{cut_lines};
+ghost use Rattle.textwrap_lines.specs.Paragraph.{text_limit};
 
-use crate::layout::{Cuts, Layout, cut_paragraph, line_widths, next_indent};
+use crate::frame::Frame;
+use crate::layout::{Cuts, Layout, cut_paragraph};
+use crate::line_bounds::{LineBounds, push_between};
 use crate::line_sinks::LineSink;
 use std::alloc::{AllocError, Allocator};
 use textwrap_words::inner::Piece;
@@ -23,35 +24,25 @@ pub(crate) struct OpenLine<'t, 'a> {
     text: &'t str,
     width: usize,
     indent: &'a str,
-    /// Where it begins.
-    start: usize,
-    /// Where its pieces end, without the whitespace of the last.
-    word_end: usize,
-    /// Where they end with it.
-    pub(crate) end: usize,
+    /// Where its pieces stand.
+    pub(crate) bounds: LineBounds,
     /// The columns of the pieces and of all their whitespace.
     columns: usize,
     /// Whether the line has a piece.
     begun: bool,
     ghost limit: { length text.now < text_limit },
-    ghost starts: { IsCharBoundary text.now start },
-    ghost word_ends: { IsCharBoundary text.now word_end },
-    ghost ends: { IsCharBoundary text.now end },
-    ghost some: { start ≤ word_end },
-    ghost order: { word_end ≤ end },
-    ghost bounded: { columns ≤ end },
+    ghost stands: { AreBounds text.now bounds },
+    ghost bounded: { columns ≤ bounds.end },
 }
 
-/// Pushes the lines of a paragraph by first fit, where it is cut there. `is_later` says that a line
-/// stands before it.
+/// Pushes the lines of a paragraph by first fit, where it is cut there.
 ///
 /// # Errors
 /// [`AllocError`] where memory runs out.
 pub(crate) fn push_lines_by_pieces<'t, A: Allocator + Copy, S: LineSink<'t, A>>(
     alloc: A,
     paragraph: &'t str,
-    layout: &Layout<'_>,
-    is_later: bool,
+    frame: &Frame<'_>,
     cuts: &Cuts<'_>,
     lines: &mut S,
 ) -> Result<(), AllocError>
@@ -59,68 +50,56 @@ pub(crate) fn push_lines_by_pieces<'t, A: Allocator + Copy, S: LineSink<'t, A>>(
     ensures name { S.name lines.new ≡ S.name lines.old }
     ensures done { S.never_fails → IsOk result }
     ensures took { OnOk result ((division : List (List WordText))
-        × IsGreedy sizes_of (widths_of (layout_view layout.now) is_later)
-        (pieces_cut (layout_view layout.now) cuts.now paragraph.now) division
-        × Took S.holds lines.old lines.new (cut_lines 0
-        (parts_from (layout_view layout.now) is_later division))) }
+        × IsGreedy sizes_of (frame_widths frame.now)
+        (pieces_cut (frame_settings frame.now) cuts.now paragraph.now) division
+        × Took S.holds lines.old lines.new (frame_lines frame.now division)) }
 {
-    let (first_width, later_width) = line_widths(layout, is_later);
-    let mut line = OpenLine::at(paragraph, 0, first_width, next_indent(layout, is_later));
-    for piece in cut_paragraph(paragraph, layout, cuts) {
+    let layout = &frame.layout;
+    let width = frame.later_columns;
+    let mut line = OpenLine::at(paragraph, 0, frame.first_columns, frame.indent, false);
+    for piece in cut_paragraph(paragraph, frame, cuts) {
         if line.is_past(&piece) {
-            line.push_to(alloc, layout.preserve_trailing_space, lines)?;
-            line = OpenLine::at(line.text, line.end, later_width, layout.subsequent_indent);
+            line.push_to(alloc, layout, lines)?;
+            let end = line.bounds.end;
+            line = OpenLine::at(line.text, end, width, layout.subsequent_indent, false);
         }
         line.take(&piece);
     }
-    line.push_to(alloc, layout.preserve_trailing_space, lines)
+    line.push_to(alloc, layout, lines)
 }
 
 impl<'t, 'a> OpenLine<'t, 'a> {
-    ghost use Rattle.textwrap_lines.specs.PieceLines.{first_so_far, is_past, line_of, line_so_far};
-    ghost use Rattle.textwrap_lines.specs.PieceLines.{no_pieces, with_piece, ComesAt};
+    ghost use Rattle.textwrap_lines.specs.PieceLines.{is_past, line_of, line_opened, line_so_far};
+    ghost use Rattle.textwrap_lines.specs.PieceLines.{with_piece, ComesAt};
 
-    /// A line without pieces, from a place in a text on.
-    fn at(text: &'t str, start: usize, width: usize, indent: &'a str) -> OpenLine<'t, 'a>
-        requires { IsCharBoundary text.now start }
-        ensures { line_so_far result ≡ no_pieces text.now start width indent.now }
-    {
-        OpenLine {
-            text,
-            width,
-            indent,
-            start,
-            word_end: start,
-            end: start,
-            columns: 0,
-            begun: false,
-        }
-    }
-
-    /// A line at the beginning of a text, of a piece without text if `has_front` says so.
-    pub(crate) fn first(
+    /// A line from a place in a text on: without pieces, or of a piece without text if `begun` says so.
+    pub(crate) fn at(
         text: &'t str,
+        start: usize,
         width: usize,
         indent: &'a str,
-        has_front: bool,
+        begun: bool,
     ) -> OpenLine<'t, 'a>
-        ensures { line_so_far result ≡ first_so_far text.now width indent.now has_front }
+        requires { IsCharBoundary text.now start }
+        ensures { line_so_far result ≡ line_opened text.now start width indent.now begun }
     {
         OpenLine {
             text,
             width,
             indent,
-            start: 0,
-            word_end: 0,
-            end: 0,
+            bounds: LineBounds {
+                start,
+                word_end: start,
+                end: start,
+            },
             columns: 0,
-            begun: has_front,
+            begun,
         }
     }
 
     /// Whether the line has a piece already, and no room for this one.
     pub(crate) fn is_past(&self, piece: &Piece) -> bool
-        requires { ComesAt self.now.text.now self.now.end piece.now }
+        requires { ComesAt self.now.text.now self.now.bounds.end piece.now }
         ensures { result ≡ is_past (line_so_far self.now) piece.now }
     {
         self.begun && self.columns + piece.width > self.width
@@ -128,16 +107,18 @@ impl<'t, 'a> OpenLine<'t, 'a> {
 
     /// Takes one more piece.
     pub(crate) fn take(&mut self, piece: &Piece)
-        requires { ComesAt self.old.text.now self.old.end piece.now }
+        requires { ComesAt self.old.text.now self.old.bounds.end piece.now }
         ensures { line_so_far self.new ≡ with_piece (line_so_far self.old) piece.now }
     {
         *self = OpenLine {
             text: self.text,
             width: self.width,
             indent: self.indent,
-            start: self.start,
-            word_end: piece.word_end,
-            end: piece.end,
+            bounds: LineBounds {
+                start: self.bounds.start,
+                word_end: piece.word_end,
+                end: piece.end,
+            },
             columns: self.columns + (piece.width + (piece.end - piece.word_end)),
             begun: true,
         };
@@ -150,20 +131,15 @@ impl<'t, 'a> OpenLine<'t, 'a> {
     pub(crate) fn push_to<A: Allocator + Copy, S: LineSink<'t, A>>(
         &self,
         alloc: A,
-        keeps_blanks: bool,
+        layout: &Layout<'_>,
         lines: &mut S,
     ) -> Result<(), AllocError>
         ensures name { S.name lines.new ≡ S.name lines.old }
         ensures done { S.never_fails → IsOk result }
         ensures took { OnOk result (Took S.holds lines.old lines.new
-            (line_of keeps_blanks (line_so_far self.now) ∷ [])) }
+            (line_of layout.now.preserve_trailing_space (line_so_far self.now) ∷ [])) }
     {
         let indent = if self.begun { self.indent } else { "" };
-        let end = if keeps_blanks {
-            self.end
-        } else {
-            self.word_end
-        };
-        lines.push_line(alloc, indent, self.start, &self.text[self.start..end], "")
+        push_between(alloc, self.text, self.bounds, layout, indent, "", lines)
     }
 }

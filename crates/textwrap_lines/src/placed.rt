@@ -17,13 +17,14 @@ ghost use Rattle.textwrap_words.specs.Words.{tiled, word_view};
 ghost use Rattle.textwrap_words.specs.WrapAlgorithms.{Algorithm};
 
 use crate::any_options::AnyOptions;
+use crate::frame::Frame;
 use crate::layout::Layout;
 pub use crate::lent_places::LineCounts;
 use crate::lent_places::{LentLinePlaces, LentPlaces};
 use crate::line_sinks::LineSink;
 use crate::options::Options;
 pub use crate::places::{Place, PlacedLines, TextwrapLine};
-use crate::wrapping::{Way, push_lines, push_text};
+use crate::wrapping::{push_lines, push_text};
 use std::alloc::{AllocError, Allocator};
 use textwrap_words::words::Word;
 use textwrap_words::wrap_algorithms::WrapError;
@@ -74,7 +75,7 @@ pub fn place_lines_by<A: Allocator + Copy, O: AnyOptions<A>>(
         → IfErr result (λ error. error ≡ WrapError.Memory alloc_error) }
 {
     let mut lines = PlacedLines::new(alloc);
-    push_text(alloc, text, options, Way::Shortest, &mut lines)?;
+    push_text(alloc, text, options, options.built_in_parts(), &mut lines)?;
     Ok(lines)
 }
 
@@ -107,7 +108,8 @@ pub fn place_into<A: Allocator + Copy>(
     let mut sink = LentLinePlaces {
         placed: &mut placed,
     };
-    push_text(alloc, text, options, Way::Shortest, &mut sink)?;
+    let parts = AnyOptions::<A>::built_in_parts(options);
+    push_text(alloc, text, options, parts, &mut sink)?;
     Ok(placed.counts())
 }
 
@@ -164,8 +166,8 @@ pub(crate) fn push_division<A: Allocator + Copy>(
         (map (λ line. map word_view line.now) division.now)))) }
 {
     lines.begin_paragraph(start);
-    let layout = Layout::of(options);
-    push_lines(alloc, paragraph, division, &layout, is_later, lines)
+    let frame = Frame::at(Layout::of(options), is_later);
+    push_lines(alloc, paragraph, division, &frame, lines)
 }
 
 /// Adds a slice of the text that so many bytes come before, as a line.

@@ -5,15 +5,17 @@ ghost use Rattle.std.specs.Prelude.{◌≡◌, ◌<◌, ◌≤◌, ◌-◌, leng
 ghost use Rattle.std.specs.Prelude.{OnOk, IsOk};
 ghost use Rattle.textwrap_words.specs.PieceCuts.{is_point, pieces_from};
 ghost use Rattle.textwrap_words.specs.Pieces.{as_splitter, stand_from};
+ghost use Rattle.textwrap_lines.specs.Frame.{frame_settings};
 ghost use Rattle.textwrap_lines.specs.Layout.{break_limit, limit_at};
 ghost use Rattle.textwrap_lines.specs.LineSinks.{Took};
-ghost use Rattle.textwrap_lines.specs.Options.{layout_view};
 ghost use Rattle.textwrap_lines.specs.Paragraph.{indent_of, later_width};
 ghost use Rattle.textwrap_words.specs.Units.{IsPrintable};
 ghost use Rattle.textwrap_lines.specs.Printable.{IsFirstLine, NoCutBetween, is_cut_by, line_slice};
 ghost use Rattle.textwrap_lines.specs.PieceLines.{lines_left, no_pieces};
 
-use crate::layout::{Layout, later_width, next_indent};
+use crate::frame::Frame;
+use crate::layout::next_indent;
+use crate::line_bounds::{LineBounds, push_between};
 use crate::line_sinks::LineSink;
 use crate::printable_cuts::PrintableCuts;
 use std::alloc::{AllocError, Allocator};
@@ -21,7 +23,7 @@ use textwrap_words::blanks::{blanks_end, trimmed_len};
 use textwrap_words::inner::BuiltInSplitter;
 
 /// Pushes the lines of a printable paragraph from a place on by first fit, where they all have the
-/// width of the later ones. `is_later` says that a line stands before them.
+/// width of the later ones.
 ///
 /// # Errors
 /// [`AllocError`] where memory runs out.
@@ -29,48 +31,52 @@ pub(crate) fn push_printable_lines<'t, A: Allocator + Copy, C: PrintableCuts, S:
     alloc: A,
     paragraph: &'t str,
     start: usize,
-    layout: &Layout<'_>,
-    is_later: bool,
+    frame: &Frame<'_>,
     cuts: &C,
     splitter: BuiltInSplitter,
     lines: &mut S,
 ) -> Result<(), AllocError>
     requires printable { IsPrintable paragraph.now }
     requires start { start ≤ length paragraph.now }
-    requires room { 0 < later_width (layout_view layout.now) }
+    requires room { 0 < later_width (frame_settings frame.now) }
     ensures name { S.name lines.new ≡ S.name lines.old }
     ensures done { S.never_fails → IsOk result }
-    ensures took { OnOk result (Took S.holds lines.old lines.new (lines_left (layout_view layout.now)
-        (no_pieces paragraph.now start (later_width (layout_view layout.now))
-        (indent_of (layout_view layout.now) is_later)) (stand_from start
+    ensures took { OnOk result (Took S.holds lines.old lines.new (lines_left (frame_settings frame.now)
+        (no_pieces paragraph.now start (later_width (frame_settings frame.now))
+        (indent_of (frame_settings frame.now) frame.now.is_later)) (stand_from start
         (pieces_from (is_cut_by (C.cuts cuts.now paragraph.now) (as_splitter splitter)
-        paragraph.now) (break_limit (layout_view layout.now)) paragraph.now start)))) }
+        paragraph.now) (break_limit (frame_settings frame.now)) paragraph.now start)))) }
 {
-    let width = later_width(layout);
+    let layout = &frame.layout;
+    let width = frame.later_columns;
     let text = paragraph.as_bytes();
     let mut at = start;
-    let mut has_line = is_later;
+    let mut has_line = frame.is_later;
     while at < text.len() {
         let (next, goes_on) = line_end(text, at, width, cuts, splitter, layout.break_words);
-        let end = slice_end(text, at, next, goes_on || layout.preserve_trailing_space);
+        let bounds = LineBounds {
+            start: at,
+            word_end: word_end(text, at, next, goes_on),
+            end: next,
+        };
         let indent = next_indent(layout, has_line);
-        lines.push_line(alloc, indent, at, &paragraph[at..end], "")?;
+        push_between(alloc, paragraph, bounds, layout, indent, "", lines)?;
         at = next;
         has_line = true;
     }
     Ok(())
 }
 
-/// Where the slice of a line ends that goes from the one place to the other: there, or before the
-/// blanks at its end.
-fn slice_end(text: &[u8], at: usize, next: usize, keeps_blanks: bool) -> usize
+/// Where the last word ends of a line that goes from the one place to the other: there if a word goes
+/// on after it, and else before the blanks at its end.
+fn word_end(text: &[u8], at: usize, next: usize, goes_on: bool) -> usize
     requires order { at ≤ next }
     requires inside { next ≤ length text.now }
-    ensures slice { slice_range text.now at result ≡ line_slice text.now at next keeps_blanks }
+    ensures slice { slice_range text.now at result ≡ line_slice text.now at next goes_on }
     ensures from { at ≤ result }
     ensures within { result ≤ next }
 {
-    if keeps_blanks {
+    if goes_on {
         return next;
     }
     at + trimmed_len(&text[at..next])

@@ -1,10 +1,11 @@
 //! Where the pieces of a paragraph stand in it, and what those before them take.
 ghost use Rattle.std.specs.Prelude.{◌≡◌, IfOk};
 ghost use Rattle.textwrap_lines.specs.Direct.{CanBeCut, pieces_cut, cuts_of};
-ghost use Rattle.textwrap_lines.specs.Options.{layout_view};
+ghost use Rattle.textwrap_lines.specs.Frame.{frame_settings};
 ghost use Rattle.textwrap_lines.specs.Spans.{spans_from, span_priced};
 
-use crate::layout::{Cuts, Layout, cut_paragraph};
+use crate::frame::Frame;
+use crate::layout::{Cuts, cut_paragraph};
 use std::alloc::{AllocError, Allocator};
 use textwrap_base::inner::Measured;
 
@@ -44,16 +45,16 @@ impl Measured for Span {
 pub(crate) fn find_spans<A: Allocator>(
     alloc: A,
     paragraph: &str,
-    layout: &Layout<'_>,
+    frame: &Frame<'_>,
     cuts: &Cuts<'_>,
 ) -> Result<Vec<Span, A>, AllocError>
     requires { CanBeCut (cuts_of cuts.now) paragraph.now }
     ensures { IfOk result (λ spans. spans.items ≡ spans_from 0 0
-        (pieces_cut (layout_view layout.now) cuts.now paragraph.now)) }
+        (pieces_cut (frame_settings frame.now) cuts.now paragraph.now)) }
 {
     let mut spans = Vec::new(alloc);
     let mut opens = 0;
-    for piece in cut_paragraph(paragraph, layout, cuts) {
+    for piece in cut_paragraph(paragraph, frame, cuts) {
         let closes = opens + piece.width;
         spans.push(Span {
             word_end: piece.word_end,

@@ -13,6 +13,7 @@ ghost use Rattle.textwrap_lines.specs.Places.{ArePlacesOf, HasPlacesMore, divisi
 ghost use Rattle.textwrap_lines.specs.Offsets.{IsNextCut, IsNextEnd};
 ghost use Rattle.textwrap_lines.specs.Steps.{AreWordsBetween, pieces_at, split_at};
 
+use crate::frame::Frame;
 use crate::layout::Layout;
 use crate::line_sinks::ListedLines;
 use crate::options::Options;
@@ -233,9 +234,9 @@ fn list_division<'t, A: Allocator + Copy>(
         ≡ map line_from (parts_from (settings_view options.now) is_later
         (map (λ line. map word_view line.now) division.now))) }
 {
-    let layout = Layout::of(options);
+    let frame = Frame::at(Layout::of(options), is_later);
     let mut list = Vec::new(alloc);
     let mut lines = ListedLines { lines: &mut list };
-    push_lines(alloc, paragraph, division, &layout, is_later, &mut lines)?;
+    push_lines(alloc, paragraph, division, &frame, &mut lines)?;
     Ok(list)
 }

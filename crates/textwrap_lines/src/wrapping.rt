@@ -1,30 +1,26 @@
 //! Wrapping a text into lines.
 ghost use Rattle.std.specs.Prelude.{◌≡◌, ℕ, List, ◌∷◌, [], ◌++◌, ◌^◌, ◌<◌, length, take, drop, map};
-ghost use Rattle.std.specs.Prelude.{nat_lt, if◌then◌else◌, alloc_error, true, IfOk, IfErr, IfSome};
-ghost use Rattle.std.specs.Prelude.{◌≢◌, OnOk, IsOk, IsOkAnd, MatchOption, Some, None};
-ghost use Rattle.std.specs.Option.{option_map};
-ghost use Rattle.textwrap_lines.specs.Direct.{CanBeCut, IsDirect, words_cut};
-ghost use Rattle.textwrap_words.specs.declared.word_separators.WordSeparator.TheVariants.{AsciiSpace};
+ghost use Rattle.std.specs.Prelude.{◌+◌, IsCharBoundary, nat_lt, if◌then◌else◌, alloc_error, true, IfOk, IfErr, IfSome};
+ghost use Rattle.std.specs.Prelude.{◌≢◌, OnOk, IsOk, IsSomeAnd, MatchOption, None};
+ghost use Rattle.textwrap_lines.specs.Direct.{AreParts, IsDirect};
 ghost use Rattle.std.specs.List.{flat_map};
 ghost use Rattle.std.specs.Str.{IsUtf8};
 ghost use Rattle.std.specs.Io.{StartsWith};
 ghost use Rattle.textwrap_words.specs.Blanks.{without_final_blanks};
 ghost use Rattle.textwrap_words.specs.Breaking.{broken_words};
-ghost use Rattle.textwrap_base.specs.Cost.{total_width};
-ghost use Rattle.textwrap_base.specs.Errors.{Fits64Bits, Overflowed};
-ghost use Rattle.textwrap_words.specs.WrapAlgorithms.{Algorithm, algorithm_view, Greedy, LeastCost};
-ghost use Rattle.textwrap_words.specs.WrapAlgorithms.{MayDivide};
-ghost use Rattle.textwrap_words.specs.Words.{WordText, word_view, sizes_of, tiled, Tiles};
-ghost use Rattle.textwrap_base.specs.declared.penalties.Penalties.{Penalties};
+ghost use Rattle.textwrap_words.specs.WrapAlgorithms.{Algorithm, algorithm_view, Greedy};
+ghost use Rattle.textwrap_words.specs.Words.{WordText, word_view, tiled, Tiles};
 ghost use Rattle.textwrap_words.specs.declared.wrap_algorithms.WrapAlgorithm.TheVariants.{FirstFit};
+ghost use Rattle.textwrap_lines.specs.Frame.{frame_lines, frame_settings};
 ghost use Rattle.textwrap_lines.specs.Fuzzing.{AppendsLines};
+ghost use Rattle.textwrap_lines.specs.LineBounds.{AreBounds};
 ghost use Rattle.textwrap_lines.specs.LineEnding.{paragraphs_of};
 ghost use Rattle.textwrap_lines.specs.LineSinks.{Took};
 ghost use Rattle.textwrap_lines.specs.Options.{Settings, layout_view, settings_view, HasBuiltInParts};
 ghost use Rattle.textwrap_lines.specs.Options.{HasParts, MayOverflow};
 ghost use Rattle.textwrap_lines.specs.Paragraph.{text_limit, LineParts, line_view};
 ghost use Rattle.textwrap_lines.specs.Paragraph.{broken_pieces_of, covered};
-ghost use Rattle.textwrap_lines.specs.Paragraph.{ArePieces, widths_of, width_after, indent_of};
+ghost use Rattle.textwrap_lines.specs.Paragraph.{ArePieces, widths_of};
 ghost use Rattle.textwrap_lines.specs.Paragraph.{is_whole, parts_of, parts_from, Adds, DividesBy};
 ghost use Rattle.textwrap_lines.specs.Paragraph.{AreDividedParts, AreParagraphParts};
 ghost use Rattle.textwrap_lines.specs.Paragraph.{DividesAs, MayPass64Bits, OnlyCharactersPass};
@@ -35,9 +31,11 @@ ghost use Rattle.textwrap_lines.specs.Text.{HasParagraphThat, SomeMayPass64Bits}
 ghost use Rattle.textwrap_words.specs.WordSeparators.{MaySeparate};
 ghost use Rattle.textwrap_words.specs.WordSplitters.{AreSplit, MaySplit, Splitter, splitter_view};
 
-use crate::any_options::{AnyOptions, BuiltInParts};
+use crate::any_options::{AnyOptions, BuiltInAlgorithm, BuiltInParts};
 use crate::direct::{built_in_parts, jump_cuts, push_by_jumps, push_directly};
-use crate::layout::{Cuts, Layout, later_width, line_widths, next_indent};
+use crate::frame::Frame;
+use crate::layout::{Cuts, Layout, next_indent};
+use crate::line_bounds::{LineBounds, push_between};
 use crate::line_ending::LineEnding;
 use crate::line_sinks::{LineSink, ListedLines};
 use crate::options::Options;
@@ -47,7 +45,7 @@ use std::borrow::CowStr;
 use textwrap_words::blanks::split_final_blanks;
 use textwrap_words::inner::{given_cuts, push_measured, split_at_cuts, stay_whole};
 use textwrap_words::word_separators::WordSeparator;
-use textwrap_words::words::{Word, break_words, display_width};
+use textwrap_words::words::{Word, break_words};
 use textwrap_words::wrap_algorithms::WrapError;
 
 /// Wraps a text and returns its lines.
@@ -134,20 +132,12 @@ pub fn wrap_by<'t, A: Allocator + Copy, O: AnyOptions<A>>(
 {
     let mut list = Vec::new(alloc);
     let mut lines = ListedLines { lines: &mut list };
-    push_text(alloc, text, options, Way::Shortest, &mut lines)?;
+    push_text(alloc, text, options, options.built_in_parts(), &mut lines)?;
     Ok(list)
 }
 
-/// How the lines of a paragraph are found that is not one line as a whole.
-#[derive(Clone, Copy)]
-pub(crate) enum Way {
-    /// Without a list of its words, where its splitter and its algorithm are built in.
-    Shortest,
-    /// By lists of its words and pieces, whatever the parts are.
-    ByLists,
-}
-
-/// Pushes the lines of a text to what has taken none.
+/// Pushes the lines of a text to what has taken none: by lists of words and pieces, where no parts are
+/// given.
 ///
 /// # Errors
 /// Those of [`wrap`].
@@ -155,12 +145,15 @@ pub(crate) fn push_text<'t, A: Allocator + Copy, S: LineSink<'t, A>, O: AnyOptio
     alloc: A,
     text: &'t str,
     options: &O,
-    way: Way,
+    parts: Option<BuiltInParts>,
     lines: &mut S,
 ) -> Result<(), WrapError>
+    requires parts { IfSome parts
+        (AreParts (O.settings options.now) (O.may_separate options.now) (O.divides options.now)) }
     requires none { S.holds lines.now lines.now 0 [] }
     ensures name { S.name lines.new ≡ S.name lines.old }
-    ensures done { S.never_fails → O.is_direct options.now → way ≡ Way.Shortest → IsOk result }
+    ensures done { S.never_fails → O.is_direct options.now
+        → IsSomeAnd parts (λ parts. parts.algorithm ≡ BuiltInAlgorithm.FirstFit) → IsOk result }
     ensures lines { OnOk result ((taken : List CutLine) × AreCutLines (O.settings options.now)
         (O.divides options.now) text.now taken
         × (end : ℕ) × S.holds lines.old lines.new end taken) }
@@ -170,21 +163,24 @@ pub(crate) fn push_text<'t, A: Allocator + Copy, S: LineSink<'t, A>, O: AnyOptio
         (O.settings options.now).line_ending text.now
         → IfErr result (λ error. error ≡ WrapError.Memory alloc_error) }
 {
-    let line_ending = options.layout().line_ending;
+    let layout = options.layout();
+    let line_ending = layout.line_ending;
+    let first = Frame::of(layout);
+    let later = first.later();
     let mut start = 0;
     let mut rest = Some(text);
     while let Some(text) = rest {
         let (paragraph, after) = split_paragraph(text, line_ending);
         lines.begin_paragraph(start);
-        let is_later = lines.has_line();
-        push_paragraph(alloc, paragraph, options, is_later, way, lines)?;
+        let frame = first.choose(&later, lines.has_line());
+        push_paragraph(alloc, paragraph, options, frame, &parts, lines)?;
         start += paragraph.len() + line_ending.as_str().len();
         rest = after;
     }
     Ok(())
 }
 
-/// Pushes the lines of one paragraph. `is_later` says that a line stands before it.
+/// Pushes the lines of one paragraph.
 ///
 /// # Errors
 /// Those of [`wrap`].
@@ -192,14 +188,18 @@ fn push_paragraph<'t, A: Allocator + Copy, S: LineSink<'t, A>, O: AnyOptions<A>>
     alloc: A,
     paragraph: &'t str,
     options: &O,
-    is_later: bool,
-    way: Way,
+    frame: &Frame<'_>,
+    parts: &Option<BuiltInParts>,
     lines: &mut S,
 ) -> Result<(), WrapError>
+    requires framed { frame_settings frame.now ≡ O.settings options.now }
+    requires parts { IfSome parts.now
+        (AreParts (O.settings options.now) (O.may_separate options.now) (O.divides options.now)) }
     ensures name { S.name lines.new ≡ S.name lines.old }
-    ensures done { S.never_fails → O.is_direct options.now → way ≡ Way.Shortest → IsOk result }
+    ensures done { S.never_fails → O.is_direct options.now
+        → IsSomeAnd parts.now (λ parts. parts.algorithm ≡ BuiltInAlgorithm.FirstFit) → IsOk result }
     ensures taken { OnOk result ((parts : List LineParts)
-        × AreParagraphParts (O.settings options.now) (O.divides options.now) is_later
+        × AreParagraphParts (frame_settings frame.now) (O.divides options.now) frame.now.is_later
         paragraph.now parts
         × Took S.holds lines.old lines.new (cut_lines 0 parts)) }
     ensures only_memory { ¬ O.may_overflow options.now
@@ -207,15 +207,15 @@ fn push_paragraph<'t, A: Allocator + Copy, S: LineSink<'t, A>, O: AnyOptions<A>>
     ensures no_overflow { ¬ O.may_pass options.now paragraph.now
         → IfErr result (λ error. error ≡ WrapError.Memory alloc_error) }
 {
-    let layout = options.layout();
-    if is_one_line(paragraph, &layout, is_later) {
-        let slice = whole_line(paragraph, &layout);
+    if is_one_line(paragraph, &frame.layout, frame.is_later) {
+        let slice = whole_line(paragraph, &frame.layout);
         return Ok(lines.push_line(alloc, "", 0, slice, "")?);
     }
-    push_pieces(alloc, paragraph, options, is_later, way, lines)
+    push_pieces(alloc, paragraph, options, frame, parts, lines)
 }
 
-/// Pushes the lines of the pieces of a paragraph, in this way.
+/// Pushes the lines of the pieces of a paragraph: without a list of its words, where the parts are
+/// built in.
 ///
 /// # Errors
 /// Those of [`wrap`].
@@ -223,50 +223,41 @@ fn push_pieces<'t, A: Allocator + Copy, S: LineSink<'t, A>, O: AnyOptions<A>>(
     alloc: A,
     paragraph: &'t str,
     options: &O,
-    is_later: bool,
-    way: Way,
+    frame: &Frame<'_>,
+    parts: &Option<BuiltInParts>,
     lines: &mut S,
 ) -> Result<(), WrapError>
+    requires framed { frame_settings frame.now ≡ O.settings options.now }
+    requires parts { IfSome parts.now
+        (AreParts (O.settings options.now) (O.may_separate options.now) (O.divides options.now)) }
     ensures name { S.name lines.new ≡ S.name lines.old }
-    ensures done { S.never_fails → O.is_direct options.now → way ≡ Way.Shortest → IsOk result }
+    ensures done { S.never_fails → O.is_direct options.now
+        → IsSomeAnd parts.now (λ parts. parts.algorithm ≡ BuiltInAlgorithm.FirstFit) → IsOk result }
     ensures taken { OnOk result ((division : List (List WordText))
-        × O.divides options.now is_later paragraph.now division
-        × Took S.holds lines.old lines.new (cut_lines 0
-        (parts_from (O.settings options.now) is_later division))) }
+        × O.divides options.now frame.now.is_later paragraph.now division
+        × Took S.holds lines.old lines.new (frame_lines frame.now division)) }
     ensures only_memory { ¬ O.may_overflow options.now
         → IfErr result (λ error. error ≡ WrapError.Memory alloc_error) }
     ensures no_overflow { ¬ O.may_pass options.now paragraph.now
         → IfErr result (λ error. error ≡ WrapError.Memory alloc_error) }
 {
-    if matches!(way, Way::ByLists) {
-        return push_divided(alloc, paragraph, options, is_later, lines);
-    }
-    let Some(parts) = options.built_in_parts() else {
-        return push_divided(alloc, paragraph, options, is_later, lines);
+    let Some(parts) = parts else {
+        return push_divided(alloc, paragraph, options, frame, lines);
     };
-    let layout = options.layout();
-    if let Some(cuts) = jump_cuts(options, parts.algorithm, paragraph, &layout, is_later) {
+    if let Some(cuts) = jump_cuts(options, parts.algorithm, paragraph, frame) {
         let splitter = parts.splitter;
-        return Ok(push_by_jumps(alloc, paragraph, &layout, is_later, &cuts, splitter, lines)?);
+        return Ok(push_by_jumps(alloc, paragraph, frame, &cuts, splitter, lines)?);
     }
     let found = options.word_cuts(paragraph)?;
     let cuts = Cuts {
         words: found.as_deref(),
         splitter: parts.splitter,
     };
-    let pushed = push_directly(
-        alloc,
-        paragraph,
-        &layout,
-        is_later,
-        &cuts,
-        parts.algorithm,
-        lines,
-    )?;
+    let pushed = push_directly(alloc, paragraph, frame, &cuts, parts.algorithm, lines)?;
     if pushed {
         return Ok(());
     }
-    push_divided(alloc, paragraph, options, is_later, lines)
+    push_divided(alloc, paragraph, options, frame, lines)
 }
 
 /// The same by lists of its words and pieces.
@@ -277,29 +268,23 @@ fn push_divided<'t, A: Allocator + Copy, S: LineSink<'t, A>, O: AnyOptions<A>>(
     alloc: A,
     paragraph: &'t str,
     options: &O,
-    is_later: bool,
+    frame: &Frame<'_>,
     lines: &mut S,
 ) -> Result<(), WrapError>
+    requires { frame_settings frame.now ≡ O.settings options.now }
     ensures name { S.name lines.new ≡ S.name lines.old }
     ensures taken { OnOk result ((division : List (List WordText))
-        × O.divides options.now is_later paragraph.now division
-        × Took S.holds lines.old lines.new (cut_lines 0
-        (parts_from (O.settings options.now) is_later division))) }
+        × O.divides options.now frame.now.is_later paragraph.now division
+        × Took S.holds lines.old lines.new (frame_lines frame.now division)) }
     ensures only_memory { ¬ O.may_overflow options.now
         → IfErr result (λ error. error ≡ WrapError.Memory alloc_error) }
     ensures no_overflow { ¬ O.may_pass options.now paragraph.now
         → IfErr result (λ error. error ≡ WrapError.Memory alloc_error) }
 {
     let pieces = options.find_pieces(alloc, paragraph)?;
-    let division = options.divide(alloc, &pieces, is_later)?;
-    Ok(push_lines(
-        alloc,
-        paragraph,
-        &division,
-        &options.layout(),
-        is_later,
-        lines,
-    )?)
+    let line_widths = [frame.first_columns, frame.later_columns];
+    let division = options.divide(alloc, &pieces, &line_widths)?;
+    Ok(push_lines(alloc, paragraph, &division, frame, lines)?)
 }
 
 /// The first paragraph of the text, and what follows its ending, if it has one. Cut at LF, the text
@@ -373,17 +358,11 @@ pub fn wrap_paragraph<'t, A: Allocator + Copy, O: AnyOptions<A>>(
         → IfErr result (λ error. error ≡ WrapError.Memory alloc_error) }
 {
     // A list of its own, so that an error leaves the other as it was.
-    let is_later = !lines.is_empty();
+    let frame = Frame::at(options.layout(), !lines.is_empty());
     let mut own = Vec::new(alloc);
     let mut found = ListedLines { lines: &mut own };
-    push_paragraph(
-        alloc,
-        paragraph,
-        options,
-        is_later,
-        Way::Shortest,
-        &mut found,
-    )?;
+    let parts = options.built_in_parts();
+    push_paragraph(alloc, paragraph, options, &frame, &parts, &mut found)?;
     Ok(lines.append(&mut own)?)
 }
 
@@ -439,29 +418,11 @@ pub fn wrap_single_line_slow_path<'t, A: Allocator + Copy>(
         × OnlyCharactersPass (widths_of (settings_view options.now)
         (nat_lt 0 (length lines.old.items))) 0 division) }
 {
-    let is_later = !lines.is_empty();
+    let frame = Frame::at(Layout::of(options), !lines.is_empty());
     let mut own = Vec::new(alloc);
     let mut found = ListedLines { lines: &mut own };
-    push_divided(alloc, line, options, is_later, &mut found)?;
+    push_divided(alloc, line, options, &frame, &mut found)?;
     Ok(lines.append(&mut own)?)
-}
-
-/// Where the words of a paragraph end but the last, if they do not stand between blanks.
-///
-/// # Errors
-/// [`AllocError`] where memory runs out, or a function of the caller says so.
-fn word_cuts(paragraph: &str, options: &Options<'_>) -> Result<Option<Vec<usize>>, AllocError>
-    ensures words { IfOk result (λ found. MaySeparate options.now.word_separator paragraph.now
-        (words_cut (option_map (λ cuts. cuts.items) found) paragraph.now)) }
-    ensures cuts { IfOk result (λ found. CanBeCut (option_map (λ cuts. cuts.items) found)
-        paragraph.now) }
-    ensures direct { options.now.word_separator ≡ AsciiSpace
-        → IsOkAnd result (λ found. found ≡ None) }
-{
-    match options.word_separator {
-        WordSeparator::AsciiSpace => Ok(None),
-        WordSeparator::Custom(line_cuts) => Ok(Some(given_cuts(line_cuts, paragraph)?)),
-    }
 }
 
 /// The pieces of a paragraph that are divided.
@@ -499,8 +460,8 @@ pub(crate) fn break_pieces<'t, A: Allocator + Copy>(
     if !options.break_words {
         return Ok(split);
     }
-    let width = later_width(&Layout::of(options));
-    let mut broken = break_wide(alloc, split, width)?;
+    let frame = Frame::of(Layout::of(options));
+    let mut broken = break_wide(alloc, split, frame.later_columns)?;
     if !options.initial_indent.is_empty() {
         // Where the first word has no room beside the indent, the first line is the indent alone.
         broken.insert(0, Word::from(""))?;
@@ -547,26 +508,6 @@ fn find_split_words<'t, A: Allocator + Copy>(
     Ok(pieces)
 }
 
-/// The pieces divided by the algorithm of the options.
-fn divide<'a, 'w, A: Allocator + Copy>(
-    alloc: A,
-    pieces: &'w [Word<'a>],
-    options: &Options<'_>,
-    is_later: bool,
-) -> Result<Vec<&'w [Word<'a>], A>, WrapError>
-    ensures divided { IfOk result (λ lines. MayDivide options.now.wrap_algorithm word_view
-        (widths_of (settings_view options.now) is_later) pieces.now
-        (map (λ line. line.now) lines.items)) }
-    ensures overflow_only { Overflowed result → (penalties : Penalties)
-        × (algorithm_view options.now.wrap_algorithm ≡ Some (LeastCost penalties)) }
-    ensures no_overflow { Fits64Bits (total_width (λ word. sizes_of (word_view word)) pieces.now)
-        → ¬ Overflowed result }
-{
-    let (first_width, later_width) = line_widths(&Layout::of(options), is_later);
-    let line_widths = [first_width, later_width];
-    options.wrap_algorithm.wrap(alloc, pieces, &line_widths)
-}
-
 impl<A: Allocator + Copy> AnyOptions<A> for Options<'_> {
     type Words = BlankCuts;
 
@@ -601,7 +542,10 @@ impl<A: Allocator + Copy> AnyOptions<A> for Options<'_> {
     }
 
     fn word_cuts(&self, paragraph: &str) -> Result<Option<Vec<usize>>, AllocError> {
-        word_cuts(paragraph, self)
+        match self.word_separator {
+            WordSeparator::AsciiSpace => Ok(None),
+            WordSeparator::Custom(line_cuts) => Ok(Some(given_cuts(line_cuts, paragraph)?)),
+        }
     }
 
     fn find_pieces<'t>(
@@ -616,9 +560,9 @@ impl<A: Allocator + Copy> AnyOptions<A> for Options<'_> {
         &self,
         alloc: A,
         pieces: &'w [Word<'a>],
-        is_later: bool,
+        line_widths: &[usize],
     ) -> Result<Vec<&'w [Word<'a>], A>, WrapError> {
-        divide(alloc, pieces, self, is_later)
+        self.wrap_algorithm.wrap(alloc, pieces, line_widths)
     }
 }
 
@@ -627,80 +571,80 @@ pub(crate) fn push_lines<'t, A: Allocator + Copy, S: LineSink<'t, A>>(
     alloc: A,
     paragraph: &'t str,
     division: &[&[Word<'_>]],
-    layout: &Layout<'_>,
-    is_later: bool,
+    frame: &Frame<'_>,
     lines: &mut S,
 ) -> Result<(), AllocError>
     requires { StartsWith paragraph.now
         (flat_map (λ line. tiled (map word_view line.now)) division.now) }
     ensures name { S.name lines.new ≡ S.name lines.old }
-    ensures took { OnOk result (Took S.holds lines.old lines.new (cut_lines 0
-        (parts_from (layout_view layout.now) is_later
-        (map (λ line. map word_view line.now) division.now)))) }
+    ensures took { OnOk result (Took S.holds lines.old lines.new (frame_lines frame.now
+        (map (λ line. map word_view line.now) division.now))) }
 {
-    let mut rest = paragraph;
-    let mut has_line = is_later;
+    let layout = &frame.layout;
+    let mut start = 0;
+    let mut has_line = frame.is_later;
     for pieces in division {
-        let start = paragraph.len() - rest.len();
-        rest = push_line(alloc, start, rest, pieces, layout, has_line, lines)?;
+        start = push_line(alloc, paragraph, start, pieces, layout, has_line, lines)?;
         has_line = true;
     }
     Ok(())
 }
 
-/// Pushes the line of the pieces with which the text begins, and returns the text after them.
-/// `start` bytes of the paragraph come before it.
+/// Pushes the line of the pieces that stand in the paragraph from `start` on, and returns where they
+/// end.
 fn push_line<'t, A: Allocator + Copy, S: LineSink<'t, A>>(
     alloc: A,
+    paragraph: &'t str,
     start: usize,
-    text: &'t str,
     pieces: &[Word<'_>],
     layout: &Layout<'_>,
     is_later: bool,
     lines: &mut S,
-) -> Result<&'t str, AllocError>
-    requires begins { StartsWith text.now (tiled (map word_view pieces.now)) }
-    requires start { start < text_limit }
+) -> Result<usize, AllocError>
+    requires start { IsCharBoundary paragraph.now start }
+    requires begins { StartsWith (drop start paragraph.now) (tiled (map word_view pieces.now)) }
     ensures name { S.name lines.new ≡ S.name lines.old }
     ensures line { OnOk result (Took S.holds lines.old lines.new (cut_lines start
         (parts_of (layout_view layout.now) is_later (map word_view pieces.now) ∷ []))) }
-    ensures rest { IfOk result (λ rest. rest.now
-        ≡ drop (length (tiled (map word_view pieces.now))) text.now) }
+    ensures end { IfOk result (λ end. end ≡ start + length (tiled (map word_view pieces.now))) }
+    ensures boundary { IfOk result (λ end. IsCharBoundary paragraph.now end) }
 {
     let Some((last, front)) = pieces.split_last() else {
         lines.push_line(alloc, "", start, "", "")?;
-        return Ok(text);
+        return Ok(start);
     };
+    let bounds = bounds_of(paragraph, start, front, last);
     let indent = next_indent(layout, is_later);
-    let keeps_whitespace = layout.preserve_trailing_space && last.penalty.is_empty();
-    let (slice, rest) = cut_line(text, front, last, keeps_whitespace);
-    lines.push_line(alloc, indent, start, slice, last.penalty)?;
-    Ok(rest)
+    push_between(
+        alloc,
+        paragraph,
+        bounds,
+        layout,
+        indent,
+        last.penalty,
+        lines,
+    )?;
+    Ok(bounds.end)
 }
 
-/// The slice of the text that the pieces cover, with or without the last whitespace, and the text
-/// after that whitespace.
-fn cut_line<'t>(
-    text: &'t str,
-    front: &[Word<'_>],
-    last: &Word<'_>,
-    keeps_whitespace: bool,
-) -> (&'t str, &'t str)
-    requires { StartsWith text.now (tiled (map word_view (front.now ++ last.now ∷ []))) }
-    ensures slice { result.0.now
-        ≡ (if keeps_whitespace then tiled (map word_view (front.now ++ last.now ∷ []))
-        else covered (map word_view (front.now ++ last.now ∷ []))) }
-    ensures rest { result.1.now
-        ≡ drop (length (tiled (map word_view (front.now ++ last.now ∷ [])))) text.now }
+/// Where the line of the pieces stands, of which this is the last.
+fn bounds_of(paragraph: &str, start: usize, front: &[Word<'_>], last: &Word<'_>) -> LineBounds
+    requires start { IsCharBoundary paragraph.now start }
+    requires begins { StartsWith (drop start paragraph.now)
+        (tiled (map word_view (front.now ++ last.now ∷ []))) }
+    ensures bounds { AreBounds paragraph.now result }
+    ensures start { result.start ≡ start }
+    ensures word_end { result.word_end
+        ≡ start + length (covered (map word_view (front.now ++ last.now ∷ []))) }
+    ensures end { result.end
+        ≡ start + length (tiled (map word_view (front.now ++ last.now ∷ []))) }
 {
-    let whitespace_len = last.whitespace.as_bytes().len();
-    let covered_len = tiled_len(front) + last.word.as_bytes().len();
-    if keeps_whitespace {
-        return text.split_at(covered_len + whitespace_len);
+    let word_end = start + tiled_len(front) + last.word.as_bytes().len();
+    LineBounds {
+        start,
+        word_end,
+        end: word_end + last.whitespace.as_bytes().len(),
     }
-    let (slice, rest) = text.split_at(covered_len);
-    let (_whitespace, rest) = rest.split_at(whitespace_len);
-    (slice, rest)
 }
 
 /// The bytes of the pieces with their whitespace.

@@ -57,7 +57,7 @@ module _ (text : List ℕ) (words front : List Word) (last : Word)
       (subst IsUtf8 (sym cut.line)
       (IsUtf8-append (tiled (map word_view front)) last.word.now front_utf8 word_utf8))
 
-  pub IsCharBoundary-past_whitespace : (rest whitespace : List ℕ)
+  IsCharBoundary-past_whitespace : (rest whitespace : List ℕ)
       → rest ≡ drop (length (tiled (map word_view front)) + length last.word.now) text
       → whitespace ≡ last.whitespace.now → IsUtf8 whitespace
       → IsCharBoundary rest (length whitespace)

@@ -20,7 +20,8 @@ use Rattle.textwrap_base.proofs.Cost.Measures.{sizes-same, total_width-same}
 use Rattle.textwrap_words.proofs.Word.Words.{IsNarrowWord, total_width-narrow, HasNoPenalty}
 use Rattle.textwrap_words.proofs.Word.Words.{IsMeasured, tiled-append}
 use Rattle.textwrap_lines.specs.Cheapest.{SuitSearch}
-use Rattle.textwrap_lines.specs.Spans.{span_sizes, MayBeLast, span_line}
+use Rattle.textwrap_lines.specs.Spans.{span_sizes, span_line, bounds_to}
+use Rattle.textwrap_lines.specs.LineBounds.{AreBounds}
 use Rattle.textwrap_lines.proofs.PieceLines.{piece-ends, slice-ends, utf8-after, slice-pieces}
 use Rattle.textwrap_lines.proofs.Paragraph.LeftOff.{blanks-utf8, assembled-parts}
 use Rattle.textwrap_lines.proofs.Text.Sinks.{cut_lines-next}
@@ -234,7 +235,7 @@ last_span-cons s t spans = grind arith
 pub record EndsLine (text : List ℕ) (at : ℕ) (words : List WordText) (last : Span) : Type 0 where
   pub word_end : last.word_end ≡ at + length (covered words)
   pub end : last.end ≡ at + length (tiled words)
-  pub may : MayBeLast text at last
+  pub may : AreBounds text (bounds_to at last)
 
 module _ (text : List ℕ) where
   pub ends-line : (at columns : ℕ) (w : WordText) (ws : List WordText) (after : List ℕ)

@@ -4,7 +4,7 @@ use Rattle.textwrap_base.proofs.Common.{length, drop, sym, ap, ◌∙◌, arith,
 use Rattle.textwrap_base.proofs.Common.{false_from_ne_true, slice_range, get_or-take, get_or-drop}
 use Rattle.textwrap_base.proofs.Common.{true, [], ◌∷◌, map, take, get_or, refl, subst, drop_all}
 use Rattle.textwrap_base.proofs.Common.{length-take, length-take-le, All-take, open_width, Fits}
-use Rattle.textwrap_base.proofs.Common.{◌||◌, cond, ◌++◌, All, append-nil, append_assoc, add-zero}
+use Rattle.textwrap_base.proofs.Common.{cond, ◌++◌, All, append-nil, append_assoc, add-zero}
 use Rattle.textwrap_base.proofs.Common.{drop-drop, drop_at, All-weaker, closed_width}
 use Rattle.textwrap_words.proofs.Common.{BlanksBetween, is_blank, trimmed_len, piece, WordText}
 use Rattle.textwrap_words.proofs.Common.{sizes_of, IsPrintable, broken_words, word_of}
@@ -28,6 +28,7 @@ use Rattle.textwrap_words.specs.Pieces.{stand_from}
 use Rattle.textwrap_base.proofs.Division.Grown.{grown, grown-full, grown-room, prefix-closes}
 use Rattle.textwrap_words.proofs.Word.Words.{HasNoPenalty, tiled-append}
 use Rattle.textwrap_lines.specs.PieceLines.{lines_left, no_pieces}
+use Rattle.textwrap_lines.specs.LineBounds.{line_between}
 use Rattle.textwrap_lines.proofs.Paragraph.LeftOff.{assembled-parts}
 use Rattle.textwrap_lines.proofs.Text.Sinks.{cut_lines-next}
 use Rattle.textwrap_lines.proofs.PieceLines.{lines-are}
@@ -256,20 +257,19 @@ module _ (settings : Settings) (text : List ℕ) where
           (all-right HasNoPenalty line (v ∷ others) none)))
 
   -- the lines from a place on, of which the first is found
-  module _ (test : ℕ → Bool) (limit width at end : ℕ) (goes_on is_later : Bool)
-      (printable : IsPrintable text) (from : at < end) (within : end ≤ length text) where
-    slice-is : (line : List WordText) → tiled line ≡ slice_range text at end → (on keeps : Bool)
-        → covered line ≡ line_slice text at end on
-        → cond keeps (tiled line) (covered line) ≡ line_slice text at end (on || keeps)
-    slice-is line tiles true true covers = tiles
-    slice-is line tiles true false covers = covers
-    slice-is line tiles false true covers = tiles
-    slice-is line tiles false false covers = covers
+  module _ (test : ℕ → Bool) (limit width at end word_end : ℕ) (goes_on is_later : Bool)
+      (printable : IsPrintable text) (from : at < end) (within : end ≤ length text)
+      (slice : slice_range text at word_end ≡ line_slice text at end goes_on) where
+    slice-is : (line : List WordText) → tiled line ≡ slice_range text at end → (keeps : Bool)
+        → covered line ≡ slice_range text at word_end
+        → cond keeps (tiled line) (covered line) ≡ slice_range text at (cond keeps end word_end)
+    slice-is line tiles true covers = tiles
+    slice-is line tiles false covers = covers
 
     pub lines-step : (first : IsFirstLine test limit width text at end goes_on)
         → lines_at at width is_later (pieces_from test limit text at)
-        ≡ cut_line at (assembled_line (indent_of settings is_later)
-        (line_slice text at end (goes_on || settings.preserve_trailing_space)) [])
+        ≡ line_between settings.preserve_trailing_space text (indent_of settings is_later) []
+        (record { start = at; word_end = word_end; end = end })
         ∷ lines_at end (later_width settings) true (pieces_from test limit text end)
     lines-step first =
         let line = first.line in
@@ -286,7 +286,7 @@ module _ (settings : Settings) (text : List ℕ) where
         (pieces-exact test limit text printable at))) first.some first.fits first.full
         ∙ ap (λ s. cut_line at (assembled_line (indent_of settings is_later) s [])
         ∷ lines_at (at + length (tiled line)) (later_width settings) true others)
-        (slice-is line tiles goes_on settings.preserve_trailing_space first.covers)
-        ∙ ap (λ n. cut_line at (assembled_line (indent_of settings is_later)
-        (line_slice text at end (goes_on || settings.preserve_trailing_space)) [])
+        (slice-is line tiles settings.preserve_trailing_space (first.covers ∙ sym slice))
+        ∙ ap (λ n. line_between settings.preserve_trailing_space text (indent_of settings is_later) []
+        (record { start = at; word_end = word_end; end = end })
         ∷ lines_at n (later_width settings) true others) len

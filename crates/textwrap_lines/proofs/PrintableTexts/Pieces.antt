@@ -1,8 +1,8 @@
 -- The pieces of a text of printable ASCII, the first of them, and its words, split.
-use Rattle.textwrap_base.proofs.Common.{◌≡◌, ◌≢◌, ◌<◌, [], Fits, take, true, cond, zero, ◌&&◌, ◌||◌}
+use Rattle.textwrap_base.proofs.Common.{◌≡◌, ◌≢◌, ◌<◌, [], Fits, take, true, cond, zero, ◌||◌}
 use Rattle.textwrap_base.proofs.Common.{ℕ, All-weaker, All-drop, map-append, get_or-drop, and_right}
 use Rattle.textwrap_base.proofs.Common.{◌≤◌, ◌∷◌, All, map, sym, ap, ◌∙◌, ◌-◌, ◌+◌, inl, inr, suc}
-use Rattle.textwrap_base.proofs.Common.{Bool, List, ◌++◌, drop, refl, false, get_or, le-ltb, nat_lt}
+use Rattle.textwrap_base.proofs.Common.{Bool, List, ◌++◌, drop, refl, false, get_or, le-ltb}
 use Rattle.textwrap_base.proofs.Common.{length, arith, IsUtf8, All-map, take_at, cases_lt, drop_all}
 use Rattle.textwrap_base.proofs.Common.{subst, length-append, length-drop, slice_range, get_or-take}
 use Rattle.textwrap_base.proofs.Common.{All-take, length-take-le, flat_map-append, take-append-drop}

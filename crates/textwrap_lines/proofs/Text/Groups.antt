@@ -8,15 +8,14 @@ use Rattle.textwrap_base.proofs.Common.{subst, length-append, starts_with_of_eq,
 use Rattle.textwrap_lines.proofs.Common.{LineParts, AreIndented, AreGroups, Settings}
 use Rattle.textwrap_lines.proofs.Common.{AreParagraphParts, AreTextLines, DividesAt, paragraphs_of}
 use Rattle.textwrap_lines.proofs.Common.{DividesBy, HasPartsAt, IsFilled, is_whole, Line, Options}
-use Rattle.textwrap_lines.proofs.Common.{settings_view, widths_of, covered_by, DividesAs}
+use Rattle.textwrap_lines.proofs.Common.{covered_by, DividesAs}
 use Rattle.textwrap_lines.proofs.Common.{AreDividedParts, IsDividedInto}
 use Rattle.textwrap_base.proofs.Lists.Parts.{flat}
 use Rattle.textwrap_base.proofs.Numbers.{or_false, some_later}
-use Rattle.textwrap_words.proofs.Common.{AreSplit, Algorithm, Splitter, WordText, word_of, tiled}
+use Rattle.textwrap_words.proofs.Common.{Algorithm, Splitter, WordText, word_of, tiled}
 use Rattle.textwrap_words.proofs.Common.{Greedy, LeastCost, IsDividedBy, words_of, AreWordsOf}
 use Rattle.textwrap_words.proofs.Common.{ArePoints, sizes_of}
 use Rattle.textwrap_lines.proofs.Paragraph.Pieces.{division-as, points-as, ArePieces-by}
-use Rattle.textwrap_lines.specs.Paragraph.{DividesUnder}
 use Rattle.textwrap_lines.specs.Places.{ArePlacedLines}
 use Rattle.textwrap_lines.specs.declared.places.Place.{Place}
 use Rattle.textwrap_words.proofs.Word.Words.{EndsInBlanks, words_unique}

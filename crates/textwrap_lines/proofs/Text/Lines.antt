@@ -1,9 +1,9 @@
 -- Lemmas on the lines of a text.
 use Rattle.textwrap_base.proofs.Common.{◌≡◌, ℕ, zero, suc, ◌+◌, ◌<◌, Option, None, Some, List, []}
 use Rattle.textwrap_base.proofs.Common.{◌∷◌, ◌++◌, length, get_or, take, map, refl, sym, ap, ◌∙◌}
-use Rattle.textwrap_base.proofs.Common.{arith, append_assoc, append-nil, flat_map, flat_map-append}
+use Rattle.textwrap_base.proofs.Common.{arith, append_assoc}
 use Rattle.textwrap_base.proofs.Common.{Bor, CowStr, take_more, map-append}
-use Rattle.textwrap_lines.proofs.Common.{paragraphs_of, join_with, LineParts, line_view, line_from}
+use Rattle.textwrap_lines.proofs.Common.{paragraphs_of, join_with, line_view}
 use Rattle.textwrap_lines.proofs.Common.{line_bytes, LineEnding}
 use Rattle.std.proofs.Common.{MatchOption}
 use Rattle.std.specs.Cow.{cow_str_bytes}

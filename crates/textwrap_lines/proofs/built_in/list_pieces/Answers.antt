@@ -8,7 +8,7 @@ use Rattle.textwrap_words.proofs.Common.{as_splitter, tiled, WordText, word_view
 use Rattle.textwrap_words.proofs.Word.Words.{HasNoPenalty, IsMeasured}
 use Rattle.textwrap_words.specs.Pieces.{stand_from}
 use Rattle.textwrap_words.specs.declared.pieces.Piece.{Piece}
-use Rattle.textwrap_lines.proofs.Common.{layout_view}
+use Rattle.textwrap_lines.proofs.Common.{frame_settings}
 use Rattle.textwrap_lines.proofs.Paragraph.Pieces.{words_cut-texts, pieces_of_words-measured}
 use Rattle.textwrap_lines.proofs.Paragraph.Pieces.{pieces_of_words-tile, pieces_of_words-no_penalty}
 use Rattle.textwrap_lines.proofs.Paragraph.LeftOff.{blanks-utf8}
@@ -81,7 +81,7 @@ module _ (text : List ℕ) (utf8 : IsUtf8 text) (all words : List WordText) wher
 
 pub loop-piece-init : goal.loop-piece-init
 loop-piece-init g c =
-    let layout = layout_view c.args.layout.now in
+    let layout = frame_settings c.args.frame.now in
     let splitter = as_splitter c.args.cuts.now.splitter in
     let text = c.args.paragraph.now in
     let ws = words_cut (cuts_of c.args.cuts.now) text in
@@ -98,11 +98,11 @@ loop-piece-init g c =
 
 -- the piece that the iterator gives
 turn : (g : _) (c : In-Some g) → HasNext c.args.paragraph.now c.utf8.paragraph
-    (pieces_cut (layout_view c.args.layout.now) c.args.cuts.now c.args.paragraph.now)
+    (pieces_cut (frame_settings c.args.frame.now) c.args.cuts.now c.args.paragraph.now)
     (map word_view c.loop-piece.pieces.items) c.loop-piece.start c.in-Some.piece
     (left_standing c.next.new.self)
 turn g c = next-piece c.args.paragraph.now c.utf8.paragraph
-    (pieces_cut (layout_view c.args.layout.now) c.args.cuts.now c.args.paragraph.now)
+    (pieces_cut (frame_settings c.args.frame.now) c.args.cuts.now c.args.paragraph.now)
     (map word_view c.loop-piece.pieces.items) c.loop-piece.start c.in-Some.piece
     (left_standing c.next.new.self)
     (subst (ArePiecesLeft c.args.paragraph.now _ _ c.loop-piece.start) c.in-Some.ensures.steps
@@ -136,9 +136,9 @@ returns-clause-pieces g c =
     let h = c.loop-piece.invariant in ended h.left h.are (sym c.in-None.ensures.steps.0 ∙ h.stand)
   where
     ended : (left : List WordText) → map word_view c.loop-piece.pieces.items ++ left
-        ≡ pieces_cut (layout_view c.args.layout.now) c.args.cuts.now c.args.paragraph.now
+        ≡ pieces_cut (frame_settings c.args.frame.now) c.args.cuts.now c.args.paragraph.now
         → [] ≡ stand_from c.loop-piece.start left → map word_view c.loop-piece.pieces.items
-        ≡ pieces_cut (layout_view c.args.layout.now) c.args.cuts.now c.args.paragraph.now
+        ≡ pieces_cut (frame_settings c.args.frame.now) c.args.cuts.now c.args.paragraph.now
     ended [] are none = sym (append-nil _) ∙ are
     ended (w ∷ ws) are none = absurd (omega (arith, ap length none))
 
@@ -146,6 +146,6 @@ pub returns-clause-tiles : goal.returns-clause-tiles
 returns-clause-tiles g c =
     let places = cuts_of c.args.cuts.now in
     let text = c.args.paragraph.now in
-    ap tiled (returns-clause-pieces g c) ∙ pieces_of_words-tile (layout_view c.args.layout.now)
+    ap tiled (returns-clause-pieces g c) ∙ pieces_of_words-tile (frame_settings c.args.frame.now)
     (as_splitter c.args.cuts.now.splitter) text (words_cut places text) c.utf8.paragraph
     (words_cut-texts places text c.utf8.paragraph c.requires)

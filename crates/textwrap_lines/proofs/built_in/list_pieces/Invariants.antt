@@ -4,7 +4,7 @@ use Rattle.textwrap_words.proofs.Common.{tiled, WordText, word_view}
 use Rattle.textwrap_words.proofs.Word.Words.{HasNoPenalty, IsMeasured}
 use Rattle.textwrap_words.specs.Pieces.{stand_from}
 use Rattle.textwrap_words.specs.declared.pieces.Piece.{Piece}
-use Rattle.textwrap_lines.proofs.Common.{layout_view}
+use Rattle.textwrap_lines.proofs.Common.{frame_settings}
 use Rattle.textwrap_lines.specs.Direct.{pieces_cut}
 use Rattle.textwrap_lines.specs.PiecesLeft.{left_standing}
 
@@ -21,5 +21,5 @@ pub record ArePiecesLeft (text : List ℕ) (all words : List WordText) (at : ℕ
 
 abbrev pub invariant-loop-piece : goal.invariant-loop-piece
 invariant-loop-piece g l =
-    ArePiecesLeft l.paragraph (pieces_cut (layout_view l.layout) l.cuts l.paragraph)
+    ArePiecesLeft l.paragraph (pieces_cut (frame_settings l.frame) l.cuts l.paragraph)
     (map word_view l.pieces.items) l.start (left_standing l.piece-iterator)

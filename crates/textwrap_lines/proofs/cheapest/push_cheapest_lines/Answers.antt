@@ -1,7 +1,7 @@
 use Rattle.textwrap_lines.proofs.cheapest.push_cheapest_lines.Goals as goal
 use Rattle.textwrap_base.proofs.Common.{List, map, refl, ◌∙◌, subst, Bor, on_ok_weaker}
 use Rattle.textwrap_words.proofs.Common.{as_splitter}
-use Rattle.textwrap_lines.proofs.Common.{Took, layout_view, Span}
+use Rattle.textwrap_lines.proofs.Common.{Took, frame_settings, Span}
 use Rattle.textwrap_lines.specs.Direct.{cuts_of, words_cut}
 use Rattle.textwrap_lines.proofs.Paragraph.Pieces.{words_cut-texts}
 use Rattle.textwrap_lines.proofs.PlacedPieces.Cheapest.{are_searched, found-lines, FoundLines}
@@ -11,8 +11,8 @@ pub cheapest_lines-requires : goal.cheapest_lines-requires
 cheapest_lines-requires g c =
     let is = c.deref.ensures.value ∙ c.in_ok-spans.ensures in
     let cuts = c.args.cuts.now in
-    let searched = are_searched (layout_view c.args.layout.now) (as_splitter cuts.splitter)
-    c.args.is_later c.args.paragraph.now (words_cut (cuts_of cuts) c.args.paragraph.now)
+    let searched = are_searched (frame_settings c.args.frame.now) (as_splitter cuts.splitter)
+    c.args.frame.now.is_later c.args.paragraph.now (words_cut (cuts_of cuts) c.args.paragraph.now)
     c.args.penalties.now c.utf8.paragraph
     (words_cut-texts (cuts_of cuts) c.args.paragraph.now c.utf8.paragraph c.requires.cuts)
     c.requires.some c.deref.result.now is c.requires.suits in
@@ -20,14 +20,14 @@ cheapest_lines-requires g c =
       measured = searched.measured;
       some = searched.some_spans;
       suits = rw (
-        c.line_widths-first_width.ensures.first,
-        c.line_widths-first_width.ensures.later,
+        c.args.frame.now.first,
+        c.args.frame.now.later,
       ) searched.suits;
     }
 
 -- the lines that the table gives
-lines_found : (g : _) (c : After-deref-2 g) → FoundLines (layout_view c.args.layout.now)
-    (as_splitter c.args.cuts.now.splitter) c.args.is_later c.args.paragraph.now
+lines_found : (g : _) (c : After-deref-2 g) → FoundLines (frame_settings c.args.frame.now)
+    (as_splitter c.args.cuts.now.splitter) c.args.frame.now.is_later c.args.paragraph.now
     (words_cut (cuts_of c.args.cuts.now) c.args.paragraph.now) c.args.penalties.now c.utf8.paragraph
     (words_cut-texts (cuts_of c.args.cuts.now) c.args.paragraph.now c.utf8.paragraph c.requires.cuts)
     c.requires.some c.deref.result.now
@@ -35,8 +35,8 @@ lines_found : (g : _) (c : After-deref-2 g) → FoundLines (layout_view c.args.l
     (map (λ (line : Bor (List Span)). line.now) c.deref-2.result.now)
 lines_found g c = found-lines _ _ _ _ _ _ _ _ _ _ _ _
     (rw (
-      ← c.line_widths-first_width.ensures.first,
-      ← c.line_widths-first_width.ensures.later,
+      ← c.args.frame.now.first,
+      ← c.args.frame.now.later,
       c.deref-2.ensures.value,
     ) c.in_ok-division.ensures)
 

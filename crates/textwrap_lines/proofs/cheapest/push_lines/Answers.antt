@@ -1,7 +1,7 @@
 use Rattle.textwrap_lines.proofs.cheapest.push_lines.Goals as goal
 use Rattle.textwrap_base.proofs.Common.{List, Bor, map, refl, ap, ◌∙◌, subst, arith, drop_more}
 use Rattle.textwrap_base.proofs.Common.{drop_all}
-use Rattle.textwrap_lines.proofs.Common.{layout_view, HaveTexts, span_lines, Span}
+use Rattle.textwrap_lines.proofs.Common.{frame_settings, HaveTexts, span_lines, Span}
 use Rattle.textwrap_lines.proofs.Text.Sinks.{HasTaken, HasTaken-end, HasTaken-next, HasTaken-start}
 
 pub loop-line-init : goal.loop-line-init
@@ -11,26 +11,26 @@ loop-line-init g c =
 pub loop-line-preserved : goal.loop-line-preserved
 loop-line-preserved g c =
     let now : Bor (List Span) → List Span = λ line. line.now in
-    let settings = layout_view c.args.layout.now in
+    let settings = frame_settings c.args.frame.now in
     let text = c.args.paragraph.now in
-    let all = span_lines settings text c.args.is_later 0 (map now c.args.division.now) in
+    let all = span_lines settings text c.args.frame.now.is_later 0 (map now c.args.division.now) in
     let more = ap (map now)
     (drop_more c.args.division.now c.loop-line.line-index _ c.loop-line-test.true) in
     record {
-      taken = HasTaken-next all c.args.lines.now c.loop-line.lines c.push_line.new.lines _ _
+      taken = HasTaken-next all c.args.lines.now c.loop-line.lines c.push_between.new.lines _ _
           (subst (λ left. HasTaken g.S.LineSink.holds all c.args.lines.now c.loop-line.lines
           (span_lines settings text c.loop-line.has_line c.loop-line.start left)) more
-          c.loop-line.invariant.taken) c.in_ok-push_line.ensures.took;
+          c.loop-line.invariant.taken) (rw c.next_indent-indent.ensures at c.in_ok-push_between.ensures.took);
       texts = (subst (HaveTexts text c.loop-line.start) more c.loop-line.invariant.texts).2;
-      name = c.push_line.ensures.name ∙ c.loop-line.invariant.name;
+      name = c.push_between.ensures.name ∙ c.loop-line.invariant.name;
     }
 
 pub returns-clause-took : goal.returns-clause-took
 returns-clause-took g c =
     let now : Bor (List Span) → List Span = λ line. line.now in
-    let settings = layout_view c.args.layout.now in
+    let settings = frame_settings c.args.frame.now in
     let text = c.args.paragraph.now in
-    let all = span_lines settings text c.args.is_later 0 (map now c.args.division.now) in
+    let all = span_lines settings text c.args.frame.now.is_later 0 (map now c.args.division.now) in
     HasTaken-end all c.args.lines.now c.loop-line.lines
     (subst (λ left. HasTaken g.S.LineSink.holds all c.args.lines.now c.loop-line.lines
     (span_lines settings text c.loop-line.has_line c.loop-line.start (map now left)))

@@ -1,17 +1,17 @@
 use Rattle.textwrap_lines.proofs.direct.push_after_first.Goals as goal
 use Rattle.textwrap_base.proofs.Common.{[], ◌∷◌, sym, ◌∙◌, subst, on_ok_weaker}
 use Rattle.textwrap_words.proofs.Common.{as_splitter}
-use Rattle.textwrap_lines.proofs.Common.{Took, layout_view, pieces_of}
+use Rattle.textwrap_lines.proofs.Common.{Took, frame_settings, pieces_of}
 use Rattle.textwrap_lines.proofs.Paragraph.Pieces.{pieces_of-no_penalty, pieces_of-tile}
 use Rattle.textwrap_lines.proofs.Text.Sinks.{Took-then}
 use Rattle.textwrap_lines.proofs.PieceLines.{lines-greedy}
 
 pub returns-clause-took : goal.returns-clause-took
 returns-clause-took g c =
-    let settings = layout_view c.args.layout.now in
+    let settings = frame_settings c.args.frame.now in
     let splitter = as_splitter c.args.splitter in
     let text = c.args.paragraph.now in
-    let (division, greedy, found) = lines-greedy settings text c.args.is_later
+    let (division, greedy, found) = lines-greedy settings text c.args.frame.now.is_later
     (pieces_of settings splitter text) (pieces_of-tile settings splitter text c.utf8.paragraph)
     (pieces_of-no_penalty settings splitter text c.utf8.paragraph) in
     let (line, first, begins) = c.in_ok-end.ensures.first in
@@ -21,4 +21,4 @@ returns-clause-took g c =
       subst (Took _ c.args.lines.now c.push_printable_lines.new.lines) (sym begins ∙ found)
           (Took-then c.args.lines.now c.push_first_line.new.lines
           c.push_printable_lines.new.lines (line ∷ []) _ first took),
-    )) c.push_printable_lines.ensures.took
+    )) (rw (c.later.ensures.layout, c.later.ensures.later) at c.push_printable_lines.ensures.took)

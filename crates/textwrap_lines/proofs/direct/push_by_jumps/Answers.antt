@@ -2,7 +2,7 @@ use Rattle.textwrap_lines.proofs.direct.push_by_jumps.Goals as goal
 use Rattle.textwrap_base.proofs.Common.{map, ap, ◌∙◌, sym, subst, arith, on_ok_weaker}
 use Rattle.textwrap_words.proofs.Common.{as_splitter, split_words, word_of}
 use Rattle.textwrap_words.specs.PieceCuts.{parts_by}
-use Rattle.textwrap_lines.proofs.Common.{Took, indent_of, is_cut_by, layout_view, pieces_of_words}
+use Rattle.textwrap_lines.proofs.Common.{Took, indent_of, is_cut_by, frame_settings, pieces_of_words}
 use Rattle.textwrap_lines.proofs.Paragraph.Pieces.{pieces_of_words-no_penalty, pieces_of_words-tile}
 use Rattle.textwrap_lines.proofs.PieceLines.{lines-greedy}
 use Rattle.textwrap_lines.proofs.PrintableTexts.Pieces.{words-texts, split-cuts}
@@ -10,16 +10,16 @@ use Rattle.textwrap_lines.proofs.Text.Directly.{lines-by_bytes, lines_of_pieces}
 
 pub returns-clause-took : goal.returns-clause-took
 returns-clause-took g c =
-    let settings = layout_view c.args.layout.now in
+    let settings = frame_settings c.args.frame.now in
     let splitter = as_splitter c.args.splitter in
     let text = c.args.paragraph.now in
     let printable = c.requires.printable in
     let cuts = g.C.PrintableCuts.cuts c.args.cuts.now text in
     let words = map word_of (parts_by cuts 0 text) in
     let pieces = pieces_of_words settings splitter words in
-    let indent = indent_of settings c.args.is_later in
+    let indent = indent_of settings c.args.frame.now.is_later in
     let texts = words-texts cuts text printable in
-    let (division, greedy, found) = lines-greedy settings text c.args.is_later pieces
+    let (division, greedy, found) = lines-greedy settings text c.args.frame.now.is_later pieces
     (pieces_of_words-tile settings splitter text words c.utf8.paragraph texts)
     (pieces_of_words-no_penalty settings splitter text words c.utf8.paragraph texts) in
     let is = lines-by_bytes settings (is_cut_by cuts splitter text) (split_words splitter words)

@@ -1,20 +1,23 @@
 use Rattle.textwrap_lines.proofs.first_line.first_line.Goals as goal
-use Rattle.textwrap_base.proofs.Common.{sym, ap, ◌∙◌, subst, arith}
+use Rattle.textwrap_base.proofs.Common.{IsCharBoundary-start, sym, ap, ◌∙◌, subst, arith}
 use Rattle.textwrap_words.proofs.Common.{as_splitter}
-use Rattle.textwrap_lines.proofs.Common.{first_width, layout_view}
-use Rattle.textwrap_lines.specs.PieceLines.{first_so_far}
+use Rattle.textwrap_lines.proofs.Common.{first_width, frame_settings}
+use Rattle.textwrap_lines.specs.PieceLines.{line_opened}
 use Rattle.textwrap_lines.proofs.PieceLines.{HoldsFirst, goes_on-start}
+
+pub at-line-requires : goal.at-line-requires
+at-line-requires c = IsCharBoundary-start c.args.paragraph.now c.utf8.paragraph
 
 pub loop-line-init : goal.loop-line-init
 loop-line-init c =
-    let settings = layout_view c.args.layout.now in
+    let settings = frame_settings c.args.frame.now in
     let splitter = as_splitter c.args.splitter in
     let text = c.args.paragraph.now in
-    let front = c.has_front.result in
-    subst (HoldsFirst settings splitter text c.args.is_later)
-    (sym (c.first-line.ensures ∙ ap (λ n. first_so_far text n c.next_indent-indent.result.now front)
-    c.line_widths-first_width.ensures.first
-    ∙ ap (λ i. first_so_far text (first_width settings c.args.is_later) i front)
-    c.next_indent-indent.ensures))
-    (goes_on-start settings splitter text c.args.is_later front c.utf8.paragraph (omega arith)
-    c.has_front.ensures)
+    let front = c.args.frame.now.has_front in
+    subst (HoldsFirst settings splitter text c.args.frame.now.is_later)
+    (sym (c.at-line.ensures ∙ ap (λ n. line_opened text 0 n c.args.frame.now.indent.now front)
+    c.args.frame.now.first
+    ∙ ap (λ i. line_opened text 0 (first_width settings c.args.frame.now.is_later) i front)
+    c.args.frame.now.indented))
+    (goes_on-start settings splitter text c.args.frame.now.is_later front c.utf8.paragraph (omega arith)
+    c.args.frame.now.front)

@@ -1,15 +1,15 @@
 use Rattle.textwrap_lines.proofs.first_line.first_line.Given as goal
 use Rattle.textwrap_base.proofs.Common.{length}
 use Rattle.textwrap_words.proofs.Common.{as_splitter}
-use Rattle.textwrap_lines.proofs.Common.{line_so_far, layout_view}
+use Rattle.textwrap_lines.proofs.Common.{line_so_far, frame_settings}
 use Rattle.textwrap_lines.proofs.PieceLines.{HoldsFirst, left_at}
 
 abbrev pub invariant-loop-line : goal.invariant-loop-line
 invariant-loop-line l =
-    HoldsFirst (layout_view l.layout) (as_splitter l.splitter) l.paragraph l.is_later
+    HoldsFirst (frame_settings l.frame) (as_splitter l.splitter) l.paragraph l.frame.is_later
     (line_so_far l.line)
 
 -- how many pieces are left
 abbrev pub decreases-loop-line : goal.decreases-loop-line
-decreases-loop-line l = length (left_at (layout_view l.layout) (as_splitter l.splitter) l.paragraph
-    (line_so_far l.line).end)
+decreases-loop-line l = length (left_at (frame_settings l.frame) (as_splitter l.splitter) l.paragraph
+    l.line.bounds.end)

@@ -6,7 +6,7 @@ use Rattle.textwrap_words.proofs.Common.{word_of}
 use Rattle.textwrap_words.specs.Pieces.{stand_from}
 use Rattle.textwrap_lines.specs.Direct.{CanBeCut, cuts_of, words_cut}
 use Rattle.textwrap_lines.specs.Layout.{break_limit}
-use Rattle.textwrap_lines.proofs.Common.{front_of, layout_view}
+use Rattle.textwrap_lines.proofs.Common.{front_of, frame_settings}
 use Rattle.textwrap_lines.proofs.Paragraph.Pieces.{words_cut-texts}
 use Rattle.textwrap_lines.proofs.PieceLines.{limited-pieces}
 
@@ -16,7 +16,7 @@ of-requires c = subst (λ (places : Option (List ℕ)). CanBeCut places c.args.p
 
 pub returns : goal.returns
 returns c =
-    let settings = layout_view c.args.layout.now in
+    let settings = frame_settings c.args.frame.now in
     let text = c.args.paragraph.now in
     let cuts = c.args.cuts.now in
     let splitter = as_splitter cuts.splitter in
@@ -25,8 +25,8 @@ returns c =
     let named = ap (λ places. words_cut (option_map (λ given. given.now) places) text)
     c.in-Some.is in
     c.of.ensures
-    ∙ ap (λ ws. stand_from 0 (ws ++ broken_words c.break_limit.result split)) c.has_front.ensures
-    ∙ ap (λ n. stand_from 0 (front_of settings ++ broken_words n split)) c.break_limit.ensures
+    ∙ ap (λ ws. stand_from 0 (ws ++ broken_words c.args.frame.now.limit split)) c.args.frame.now.front
+    ∙ ap (λ n. stand_from 0 (front_of settings ++ broken_words n split)) c.args.frame.now.limited
     ∙ ap (λ ws. stand_from 0 ws)
     (ap (λ ws. front_of settings ++ broken_words (break_limit settings) (split_words splitter ws)) (sym named)
     ∙ limited-pieces settings splitter text (words_cut (cuts_of cuts) text) c.utf8.paragraph

@@ -5,7 +5,7 @@ use Rattle.textwrap_words.proofs.Common.{as_splitter}
 use Rattle.textwrap_words.specs.Pieces.{stand_from}
 use Rattle.textwrap_lines.specs.PiecesLeft.{left_standing}
 use Rattle.textwrap_lines.specs.Direct.{pieces_cut, cuts_of, words_cut}
-use Rattle.textwrap_lines.proofs.Common.{Took, layout_view, later_width, first_width, indent_of}
+use Rattle.textwrap_lines.proofs.Common.{Took, frame_settings, later_width, first_width, indent_of}
 use Rattle.textwrap_lines.proofs.Common.{line_so_far, lines_past, LineSoFar, line_of, with_piece}
 use Rattle.textwrap_lines.specs.PieceLines.{no_pieces}
 use Rattle.textwrap_lines.proofs.Paragraph.Pieces.{words_cut-texts, pieces_of_words-no_penalty}
@@ -18,7 +18,7 @@ at-line-requires g c = IsCharBoundary-start c.args.paragraph.now c.utf8.paragrap
 
 pub loop-piece-init : goal.loop-piece-init
 loop-piece-init g c =
-    let settings = layout_view c.args.layout.now in
+    let settings = frame_settings c.args.frame.now in
     let cuts = c.args.cuts.now in
     let paragraph = c.args.paragraph.now in
     let left = left_standing c.into_iter-piece-iterator.result in
@@ -27,7 +27,7 @@ loop-piece-init g c =
     ∙ c.cut_paragraph-piece-items.ensures in
     record {
       taken = HasTaken-start _ c.args.lines.now;
-      come = subst (λ (line : LineSoFar). AllCome line.text line.end left) (sym c.at-line.ensures)
+      come = subst (λ (line : LineSoFar). AllCome line.text line.bounds.end left) (sym c.at-line.ensures)
           (subst (AllCome paragraph 0) (sym left_is)
           (pieces-come settings (as_splitter cuts.splitter) paragraph (words_cut (cuts_of cuts) paragraph)
           c.utf8.paragraph (words_cut-texts (cuts_of cuts) paragraph c.utf8.paragraph c.requires)));
@@ -36,7 +36,7 @@ loop-piece-init g c =
 
 pub loop-piece-preserved : goal.loop-piece-preserved
 loop-piece-preserved g c =
-    let settings = layout_view c.args.layout.now in
+    let settings = frame_settings c.args.frame.now in
     let keeps = settings.preserve_trailing_space in
     let Holds = g.S.LineSink.holds in
     let all = lines_past settings (line_so_far c.at-line.result)
@@ -46,10 +46,10 @@ loop-piece-preserved g c =
     let here = line_so_far c.loop-piece.line in
     let piece = c.in-Some.piece in
     let left = left_standing c.next.new.self in
-    let next = with_piece (no_pieces here.text here.end (later_width settings)
+    let next = with_piece (no_pieces here.text here.bounds.end (later_width settings)
     settings.subsequent_indent) piece in
     let more = with_piece here piece in
-    let come = (subst (AllCome here.text here.end) c.in-Some.ensures.steps
+    let come = (subst (AllCome here.text here.bounds.end) c.in-Some.ensures.steps
     c.loop-piece.invariant.come).1 in
     let taken = subst (λ ps. HasTaken Holds all before now (lines_past settings here ps))
     c.in-Some.ensures.steps c.loop-piece.invariant.taken in
@@ -58,8 +58,8 @@ loop-piece-preserved g c =
           let is : line_so_far c.take.new.self ≡ next =
           c.take.ensures ∙ ap (λ l. with_piece (line_so_far l) piece) w.line-is
           ∙ ap (λ l. with_piece l piece) w.at-line-then-is_past.ensures
-          ∙ ap (λ n. with_piece (no_pieces here.text here.end n settings.subsequent_indent) piece)
-          c.line_widths-first_width.ensures.later in
+          ∙ ap (λ n. with_piece (no_pieces here.text here.bounds.end n settings.subsequent_indent) piece)
+          c.args.frame.now.later in
           let full = subst (λ b. HasTaken Holds all before now (cond b
           (line_of keeps here ∷ lines_past settings next left) (lines_past settings more left)))
           (sym c.is_past.ensures ∙ w.if-is_past.true) taken in
@@ -68,7 +68,7 @@ loop-piece-preserved g c =
                 (lines_past settings l left)) (sym is)
                 (HasTaken-next all before now w.push_to.new.lines (line_of keeps here)
                 (lines_past settings next left) full w.in_ok-push_to.ensures.took);
-            come = subst (λ (line : LineSoFar). AllCome line.text line.end left) (sym is) come;
+            come = subst (λ (line : LineSoFar). AllCome line.text line.bounds.end left) (sym is) come;
             name = w.push_to.ensures.name ∙ c.loop-piece.invariant.name;
           })
       | goal.else-is_past w ↦
@@ -80,15 +80,15 @@ loop-piece-preserved g c =
           rw (w.lines-is) (record {
             taken = subst (λ l. HasTaken Holds all before now (lines_past settings l left))
                 (sym is) room;
-            come = subst (λ (line : LineSoFar). AllCome line.text line.end left) (sym is) come;
+            come = subst (λ (line : LineSoFar). AllCome line.text line.bounds.end left) (sym is) come;
             name = c.loop-piece.invariant.name;
           })
     ]
 
 pub returns-clause-took : goal.returns-clause-took
 returns-clause-took g c =
-    let settings = layout_view c.args.layout.now in
-    let is_later = c.args.is_later in
+    let settings = frame_settings c.args.frame.now in
+    let is_later = c.args.frame.now.is_later in
     let cuts = c.args.cuts.now in
     let paragraph = c.args.paragraph.now in
     let pieces = pieces_cut settings cuts paragraph in
@@ -107,9 +107,9 @@ returns-clause-took g c =
     ∙ c.cut_paragraph-piece-items.ensures in
     let first_is : line_so_far c.at-line.result
     ≡ no_pieces paragraph 0 (first_width settings is_later) (indent_of settings is_later) =
-    c.at-line.ensures ∙ ap (λ n. no_pieces paragraph 0 n c.next_indent.result.now)
-    c.line_widths-first_width.ensures.first
-    ∙ ap (no_pieces paragraph 0 (first_width settings is_later)) c.next_indent.ensures in
+    c.at-line.ensures ∙ ap (λ n. no_pieces paragraph 0 n c.args.frame.now.indent.now)
+    c.args.frame.now.first
+    ∙ ap (no_pieces paragraph 0 (first_width settings is_later)) c.args.frame.now.indented in
     let taken = subst (λ ps. HasTaken g.S.LineSink.holds all c.args.lines.now now
     (lines_past settings (line_so_far c.loop-piece.line) ps)) c.in-None.ensures.steps.0
     c.loop-piece.invariant.taken in

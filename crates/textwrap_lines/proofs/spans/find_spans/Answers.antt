@@ -2,7 +2,7 @@ use Rattle.textwrap_lines.proofs.spans.find_spans.Goals as goal
 use Rattle.textwrap_base.proofs.Common.{sym, ap, ◌∙◌, subst, arith}
 use Rattle.textwrap_words.proofs.Common.{as_splitter}
 use Rattle.textwrap_lines.specs.PiecesLeft.{left_standing}
-use Rattle.textwrap_lines.proofs.Common.{layout_view}
+use Rattle.textwrap_lines.proofs.Common.{frame_settings}
 use Rattle.textwrap_lines.specs.Direct.{pieces_cut, cuts_of, words_cut}
 use Rattle.textwrap_lines.proofs.Paragraph.Pieces.{words_cut-texts, pieces_of_words-wide}
 use Rattle.textwrap_lines.proofs.PlacedPieces.Lines.{HasLeft, HasNext, Left-start, Left-next}
@@ -11,7 +11,7 @@ use Rattle.textwrap_lines.proofs.spans.find_spans.Goals.{In-Some}
 
 pub loop-piece-init : goal.loop-piece-init
 loop-piece-init g c =
-    let all = pieces_cut (layout_view c.args.layout.now) c.args.cuts.now c.args.paragraph.now in
+    let all = pieces_cut (frame_settings c.args.frame.now) c.args.cuts.now c.args.paragraph.now in
     subst (λ spans. HasLeft all spans 0 (left_standing c.into_iter-piece-iterator.result))
     (sym c.new-spans.ensures.items)
     (Left-start all (left_standing c.into_iter-piece-iterator.result)
@@ -20,10 +20,10 @@ loop-piece-init g c =
 
 -- the piece that the iterator gives, and those after it
 turn : (g : _) (c : In-Some g)
-    → HasNext (pieces_cut (layout_view c.args.layout.now) c.args.cuts.now c.args.paragraph.now) c.loop-piece.spans.items c.loop-piece.opens c.in-Some.piece
+    → HasNext (pieces_cut (frame_settings c.args.frame.now) c.args.cuts.now c.args.paragraph.now) c.loop-piece.spans.items c.loop-piece.opens c.in-Some.piece
     (left_standing c.next.new.self)
 turn g c =
-    let all = pieces_cut (layout_view c.args.layout.now) c.args.cuts.now c.args.paragraph.now in
+    let all = pieces_cut (frame_settings c.args.frame.now) c.args.cuts.now c.args.paragraph.now in
     Left-next all c.loop-piece.spans.items c.loop-piece.opens c.in-Some.piece
     (left_standing c.next.new.self)
     (subst (HasLeft all c.loop-piece.spans.items c.loop-piece.opens) c.in-Some.ensures.steps
@@ -38,7 +38,7 @@ overflow_add-closes g c =
     omega (
       arith,
       next.room,
-      pieces_of_words-wide (layout_view c.args.layout.now) (as_splitter c.args.cuts.now.splitter)
+      pieces_of_words-wide (frame_settings c.args.frame.now) (as_splitter c.args.cuts.now.splitter)
           c.args.paragraph.now (words_cut (cuts_of c.args.cuts.now) c.args.paragraph.now) c.utf8.paragraph
           (words_cut-texts (cuts_of c.args.cuts.now) c.args.paragraph.now c.utf8.paragraph c.requires),
     )
@@ -49,7 +49,7 @@ overflow_add-opens g c =
     omega (
       arith,
       next.room,
-      pieces_of_words-wide (layout_view c.args.layout.now) (as_splitter c.args.cuts.now.splitter)
+      pieces_of_words-wide (frame_settings c.args.frame.now) (as_splitter c.args.cuts.now.splitter)
           c.args.paragraph.now (words_cut (cuts_of c.args.cuts.now) c.args.paragraph.now) c.utf8.paragraph
           (words_cut-texts (cuts_of c.args.cuts.now) c.args.paragraph.now c.utf8.paragraph c.requires),
     )
@@ -60,7 +60,7 @@ loop-piece-preserved g c =
 
 pub returns : goal.returns
 returns g c =
-    let all = pieces_cut (layout_view c.args.layout.now) c.args.cuts.now c.args.paragraph.now in
+    let all = pieces_cut (frame_settings c.args.frame.now) c.args.cuts.now c.args.paragraph.now in
     Left-end all c.loop-piece.spans.items c.loop-piece.opens
     (subst (HasLeft all c.loop-piece.spans.items c.loop-piece.opens) c.in-None.ensures.steps.0
     c.loop-piece.invariant)

@@ -3,17 +3,15 @@ use Rattle.textwrap_base.proofs.Common.{◌≡◌, [], ap, map, ◌∙◌, rules
 use Rattle.textwrap_words.proofs.Common.{word_view}
 use Rattle.textwrap_lines.proofs.Common.{cut_lines, line_from, line_view, parts_from, settings_view}
 use Rattle.textwrap_lines.proofs.Text.Sinks.{lines_of-cut_lines, lines_of-more}
-use Rattle.textwrap_lines.specs.Options.{layout_view}
 
 pub returns : goal.returns
 returns g c =
     let lines = map (λ line. map word_view line.now) c.args.division.now in
-    let parts = parts_from (layout_view c.of-layout.result) c.args.is_later lines in
-    let held : map line_view c.push_lines.new.lines.lines.now.items ≡ map line_from parts =
-    c.in_ok-push_lines.ensures.took.held c.push_lines.new.lines 0 []
+    let parts = parts_from (settings_view c.args.options.now) c.args.is_later lines in
+    let took = c.in_ok-push_lines.ensures.took in
+    let are : map line_view c.push_lines.new.lines.lines.now.items ≡ map line_from parts =
+    (rw (c.at-frame.ensures.layout, c.at-frame.ensures.later, c.of.ensures) at took).held
+    c.push_lines.new.lines 0 []
     (ap (map line_view) c.new-list.ensures.items) ∙ lines_of-more [] 0 (cut_lines 0 parts)
     ∙ lines_of-cut_lines 0 parts in
-    let are : map line_view c.push_lines.new.lines.lines.now.items
-    ≡ map line_from (parts_from (settings_view c.args.options.now) c.args.is_later lines) =
-    held ∙ ap (λ s. map line_from (parts_from s c.args.is_later lines)) c.of-layout.ensures in
     search rules ∙ are

@@ -1,7 +1,7 @@
 use Rattle.textwrap_lines.proofs.wrapping.break_pieces.Goals as goal
 use Rattle.textwrap_base.proofs.Common.{◌≡◌, [], ◌∷◌, ◌++◌, cond, map, sym, ap, ◌∙◌}
 use Rattle.textwrap_words.proofs.Common.{broken_words, word_view}
-use Rattle.textwrap_lines.proofs.Common.{settings_view, empty_word, front_pieces, later_width}
+use Rattle.textwrap_lines.proofs.Common.{layout_view, settings_view, empty_word, front_pieces, later_width}
 use Rattle.textwrap_lines.proofs.Paragraph.Pieces.{word_of-nil}
 
 pub returns-then-not-options : goal.returns-then-not-options
@@ -17,8 +17,8 @@ returns g c =
     let split = map word_view c.args.split.items in
     let pieces = broken_words (later_width settings) split in
     let broken : map word_view c.in_ok-broken.broken.items ≡ pieces =
-    c.in_ok-broken.ensures ∙ ap (λ n. broken_words n split) (c.later_width-width.ensures
-    ∙ ap later_width c.of.ensures) in
+    c.in_ok-broken.ensures ∙ ap (λ n. broken_words n split) (c.of-frame.result.later
+    ∙ ap (λ l. later_width (layout_view l)) c.of-frame.ensures.layout ∙ ap later_width c.of.ensures) in
     let whole : map word_view c.if-not-is_empty.broken.items ≡ front_pieces settings ++ pieces =
     elim c.if-not-is_empty.branch [
       | goal.then-not-is_empty+in_ok-insert w ↦

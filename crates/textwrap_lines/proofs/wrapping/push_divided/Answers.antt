@@ -1,7 +1,7 @@
 use Rattle.textwrap_lines.proofs.wrapping.push_divided.Goals as goal
-use Rattle.textwrap_base.proofs.Common.{map, refl, ap, ◌∙◌, sym, subst, arith, flat_map, StartsWith}
+use Rattle.textwrap_base.proofs.Common.{[], ◌∷◌, map, refl, ap, ◌∙◌, sym, subst, arith, flat_map, StartsWith}
 use Rattle.textwrap_words.proofs.Common.{word_view, tiled, Tiles}
-use Rattle.textwrap_lines.proofs.Common.{Took, cut_lines, parts_from}
+use Rattle.textwrap_lines.proofs.Common.{first_width, frame_lines, frame_settings, Took, widths_of}
 use Rattle.textwrap_lines.proofs.Text.Directly.{passed-on}
 
 pub push_lines-requires : goal.push_lines-requires
@@ -35,16 +35,16 @@ returns-in_err-division-clause-no_overflow g c = λ never.
 
 pub returns-clause-taken : goal.returns-clause-taken
 returns-clause-taken g c =
-    let division = map (λ line. map word_view line.now) c.in_ok-division.division.items in (
+    let division = map (λ line. map word_view line.now) c.in_ok-division.division.items in
+    let frame = c.args.frame.now in
+    let widths = ap (λ n. n ∷ frame.later_columns ∷ []) frame.first
+    ∙ ap (λ n. first_width (frame_settings frame) frame.is_later ∷ n ∷ []) frame.later
+    ∙ ap (λ s. widths_of s frame.is_later) c.requires in (
       division,
-      c.in_ok-division.ensures.divides c.args.paragraph.now
+      c.in_ok-division.ensures.divides c.args.frame.now.is_later c.args.paragraph.now widths
           (subst (g.O.AnyOptions.has_pieces c.args.options.now c.args.paragraph.now)
           (sym (ap (map word_view) c.deref.ensures.value)) c.in_ok-pieces.ensures.pieces),
-      subst (λ parts. Took g.S.LineSink.holds c.args.lines.now c.push_lines.new.lines
-          (cut_lines 0 parts))
-          (ap (λ s. parts_from s c.args.is_later
-          (map (λ line. map word_view line.now) c.deref-2.result.now)) c.layout.ensures
-          ∙ ap (λ ls. parts_from (g.O.AnyOptions.settings c.args.options.now) c.args.is_later
-          (map (λ line. map word_view line.now) ls)) c.deref-2.ensures.value)
-          c.in_ok-push_lines.ensures.took,
+      subst (λ ls. Took g.S.LineSink.holds c.args.lines.now c.push_lines.new.lines
+          (frame_lines c.args.frame.now (map (λ line. map word_view line.now) ls)))
+          c.deref-2.ensures.value c.in_ok-push_lines.ensures.took,
     )

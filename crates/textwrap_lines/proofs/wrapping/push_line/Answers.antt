@@ -1,22 +1,36 @@
 use Rattle.textwrap_lines.proofs.wrapping.push_line.Goals as goal
-use Rattle.textwrap_base.proofs.Common.{◌≡◌, ◌&&◌, ◌==◌, length, [], ◌∷◌, ◌∙◌, ap, sym, subst}
-use Rattle.textwrap_words.proofs.Common.{word_view}
-use Rattle.textwrap_lines.proofs.Common.{Took, cut_line, layout_view, keeps_whitespace}
+use Rattle.textwrap_base.proofs.Common.{◌≡◌, ◌+◌, ◌++◌, ◌&&◌, ◌==◌, length, [], ◌∷◌, ◌∙◌, ap, sym}
+use Rattle.textwrap_base.proofs.Common.{cond, drop, map, slice_range, StartsWith, subst}
+use Rattle.textwrap_base.proofs.Common.{take-append-drop}
+use Rattle.std.proofs.Math.Bool.{and_comm}
+use Rattle.textwrap_words.proofs.Common.{tiled, word_view}
+use Rattle.textwrap_lines.proofs.Common.{Took, covered, cut_line, layout_view}
 use Rattle.textwrap_lines.proofs.Paragraph.LeftOff.{line_from-parts_of}
+use Rattle.textwrap_lines.proofs.PieceLines.{slice-pieces}
 
 pub returns-clause-line : goal.returns-clause-line
 returns-clause-line g c =
-    let keeps : c.if-layout.keeps_whitespace ≡ keeps_whitespace (layout_view c.args.layout.now)
-    (word_view c.in-Some.last.now) = elim c.if-layout.branch [
-      | goal.then-layout w ↦ w.keeps_whitespace-is ∙ w.is_empty-keeps_whitespace.ensures
-          ∙ sym (ap (λ b. b && (length c.in-Some.last.now.penalty.now == 0)) w.if-layout.true)
-      | goal.else-layout w ↦ w.keeps_whitespace-is ∙ w.if-layout.false
-          ∙ sym (ap (λ b. b && (length c.in-Some.last.now.penalty.now == 0)) w.if-layout.false)
-    ] in
-    subst (λ line. Took g.S.LineSink.holds c.args.lines.now c.push_line-2.new.self
-    (cut_line c.args.start line ∷ []))
-    (line_from-parts_of (layout_view c.args.layout.now) c.args.is_later c.args.pieces.now
-    c.in-Some.front.now c.in-Some.last.now c.next_indent-indent.result.now
-    c.cut_line.result.0.now c.if-layout.keeps_whitespace
-    c.in-Some.ensures.cases.0 c.next_indent-indent.ensures keeps c.cut_line.ensures.slice)
-    c.in_ok-push_line-2.ensures.took
+    let settings = layout_view c.args.layout.now in
+    let last = c.in-Some.last.now in
+    let words = map word_view (c.in-Some.front.now ++ last ∷ []) in
+    let start = c.args.start in
+    let rest = drop start c.args.paragraph.now in
+    let bounds = c.bounds_of-bounds.result in
+    let keeps = (length last.penalty.now == 0) && settings.preserve_trailing_space in
+    let begins = subst (λ ps. StartsWith rest (tiled (map word_view ps))) c.in-Some.ensures.cases.0
+    c.requires.begins in
+    let seam = sym (take-append-drop (length (tiled words)) rest)
+    ∙ ap (λ l. l ++ drop (length (tiled words)) rest) begins in
+    let slice : slice_range c.args.paragraph.now start (cond keeps bounds.end bounds.word_end)
+    ≡ cond keeps (tiled words) (covered words) =
+    ap (λ e. slice_range c.args.paragraph.now start (cond keeps e bounds.word_end))
+    c.bounds_of-bounds.ensures.end
+    ∙ ap (λ e. slice_range c.args.paragraph.now start (cond keeps (start + length (tiled words)) e))
+    c.bounds_of-bounds.ensures.word_end
+    ∙ slice-pieces c.args.paragraph.now start words _ keeps seam in
+    subst (λ line. Took g.S.LineSink.holds c.args.lines.now c.push_between.new.lines
+    (cut_line start line ∷ []))
+    (line_from-parts_of settings c.args.is_later c.args.pieces.now c.in-Some.front.now last
+    c.next_indent-indent.result.now _ keeps c.in-Some.ensures.cases.0 c.next_indent-indent.ensures
+    (and_comm (length last.penalty.now == 0) settings.preserve_trailing_space) slice)
+    (rw c.bounds_of-bounds.ensures.start at c.in_ok-push_between.ensures.took)

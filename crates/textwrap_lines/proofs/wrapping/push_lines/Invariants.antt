@@ -1,17 +1,18 @@
 use Rattle.textwrap_lines.proofs.wrapping.push_lines.Given as goal
-use Rattle.textwrap_base.proofs.Common.{◌≡◌, ◌-◌, ◌≤◌, drop, length, map, Utf8, shadow, StartsWith}
-use Rattle.textwrap_base.proofs.Common.{flat_map}
+use Rattle.textwrap_base.proofs.Common.{◌≡◌, drop, map, IsCharBoundary, StartsWith, flat_map}
 use Rattle.textwrap_words.proofs.Common.{word_view, tiled}
-use Rattle.textwrap_lines.proofs.Common.{cut_lines, layout_view, parts_from}
+use Rattle.textwrap_lines.proofs.Common.{cut_lines, frame_lines, frame_settings, parts_from}
 use Rattle.textwrap_lines.proofs.Text.Sinks.{HasTaken}
 
 -- the lines so far were taken, and the rest of the paragraph begins with what the others tile
 abbrev pub invariant-loop-pieces : goal.invariant-loop-pieces
-invariant-loop-pieces g l = shadow (Utf8 l.rest) × StartsWith l.rest
-    (flat_map (λ line. tiled (map word_view line.now)) (drop l.pieces-index l.division))
-    × (length l.rest ≤ length l.paragraph)
-    × HasTaken g.S.LineSink.holds (cut_lines 0 (parts_from (layout_view l.layout) l.is_later
-    (map (λ line. map word_view line.now) l.division))) l.initial.lines l.lines
-    (cut_lines (length l.paragraph - length l.rest) (parts_from (layout_view l.layout) l.has_line
-    (map (λ line. map word_view line.now) (drop l.pieces-index l.division))))
-    × (g.S.LineSink.name l.lines ≡ g.S.LineSink.name l.initial.lines)
+invariant-loop-pieces g l = record {
+  begins : IsCharBoundary l.paragraph l.start;
+  starts : StartsWith (drop l.start l.paragraph)
+      (flat_map (λ line. tiled (map word_view line.now)) (drop l.pieces-index l.division));
+  taken : HasTaken g.S.LineSink.holds
+      (frame_lines l.frame (map (λ line. map word_view line.now) l.division))
+      l.initial.lines l.lines (cut_lines l.start (parts_from (frame_settings l.frame) l.has_line
+      (map (λ line. map word_view line.now) (drop l.pieces-index l.division))));
+  name : g.S.LineSink.name l.lines ≡ g.S.LineSink.name l.initial.lines;
+}

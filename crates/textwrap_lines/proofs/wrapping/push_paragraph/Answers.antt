@@ -1,37 +1,34 @@
 use Rattle.textwrap_lines.proofs.wrapping.push_paragraph.Goals as goal
-use Rattle.textwrap_base.proofs.Common.{[], ◌∷◌, cond, ap, sym, refl, ◌∙◌, subst, on_ok_weaker}
-use Rattle.textwrap_words.proofs.Common.{word_of, without_final_blanks}
-use Rattle.textwrap_lines.proofs.Common.{Took, cut_line, is_whole, Slice, parts_of, parts_from}
+use Rattle.textwrap_base.proofs.Common.{[], ◌∷◌, ap, sym, refl, ◌∙◌, subst, on_ok_weaker}
+use Rattle.textwrap_words.proofs.Common.{word_of}
+use Rattle.textwrap_lines.proofs.Common.{frame_settings}
+use Rattle.textwrap_lines.proofs.Common.{Took, cut_line, Slice, parts_of, parts_from}
 use Rattle.textwrap_lines.proofs.Paragraph.LeftOff.{line_from-whole, AreParagraphParts-whole}
 use Rattle.textwrap_lines.proofs.Paragraph.LeftOff.{AreParagraphParts-divided}
 
 pub returns-then-is_one_line-clause-taken : goal.returns-then-is_one_line-clause-taken
 returns-then-is_one_line-clause-taken g c =
-    let settings = g.O.AnyOptions.settings c.args.options.now in
-    let is_later = c.args.is_later in
+    let settings = frame_settings c.args.frame.now in
+    let is_later = c.args.frame.now.is_later in
     let paragraph = c.args.paragraph.now in
-    let whole = ap (λ s. is_whole s is_later paragraph) (sym c.layout-layout.ensures)
-    ∙ sym c.is_one_line.ensures ∙ c.if-is_one_line.true in (
+    let whole = sym c.is_one_line.ensures ∙ c.if-is_one_line.true in (
       parts_of settings is_later (word_of paragraph ∷ []) ∷ [],
       AreParagraphParts-whole settings (g.O.AnyOptions.divides c.args.options.now) is_later
           paragraph whole,
       subst (λ line. Took g.S.LineSink.holds c.args.lines.now c.push_line.new.self
           (cut_line 0 line ∷ []))
-          (ap Slice (c.whole_line-slice.ensures
-          ∙ ap (λ s. cond s.preserve_trailing_space paragraph (without_final_blanks paragraph))
-          c.layout-layout.ensures) ∙ sym (line_from-whole settings is_later paragraph whole))
+          (ap Slice c.whole_line-slice.ensures ∙ sym (line_from-whole settings is_later paragraph whole))
           c.in_ok-push_line.ensures.took,
     )
 
 pub returns-clause-taken : goal.returns-clause-taken
 returns-clause-taken g c =
-    let settings = g.O.AnyOptions.settings c.args.options.now in
-    let is_later = c.args.is_later in
+    let settings = frame_settings c.args.frame.now in
+    let is_later = c.args.frame.now.is_later in
     on_ok_weaker c.push_pieces.result (λ (division, divides, took). (
       parts_from settings is_later division,
       AreParagraphParts-divided settings (g.O.AnyOptions.divides c.args.options.now) is_later
           c.args.paragraph.now (parts_from settings is_later division)
-          (ap (λ s. is_whole s is_later c.args.paragraph.now) (sym c.layout-layout.ensures)
-          ∙ sym c.is_one_line.ensures ∙ c.if-is_one_line.false) (division, divides, refl),
+          (sym c.is_one_line.ensures ∙ c.if-is_one_line.false) (division, divides, refl),
       took,
     )) c.push_pieces.ensures.taken

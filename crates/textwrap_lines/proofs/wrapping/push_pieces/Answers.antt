@@ -1,8 +1,8 @@
 use Rattle.textwrap_lines.proofs.wrapping.push_pieces.Goals as goal
 use Rattle.textwrap_base.proofs.Common.{List, Option, ℕ, refl, subst, sym, on_ok_weaker}
 use Rattle.std.specs.Option.{option_map}
-use Rattle.textwrap_words.proofs.Common.{IsDividedBy, WordText, as_splitter, sizes_of}
-use Rattle.textwrap_lines.proofs.Common.{Took, cut_lines, parts_from, pieces_of_words, widths_of}
+use Rattle.textwrap_words.proofs.Common.{IsDividedBy, as_splitter, sizes_of}
+use Rattle.textwrap_lines.proofs.Common.{frame_lines, Took, pieces_of_words, widths_of}
 use Rattle.textwrap_lines.specs.Direct.{CanBeCut, as_algorithm, words_cut}
 
 pub push_directly-requires : goal.push_directly-requires
@@ -16,18 +16,17 @@ push_directly-requires g c = λ k. (
 pub returns-then-pushed-clause-taken : goal.returns-then-pushed-clause-taken
 returns-then-pushed-clause-taken g c =
     let paragraph = c.args.paragraph.now in
-    let (division, divided, took) = subst (λ s. (division : List (List WordText))
-    × IsDividedBy (as_algorithm c.in-Some.parts.algorithm) sizes_of (widths_of s c.args.is_later)
-    (pieces_of_words s (as_splitter c.in-Some.parts.splitter)
-    (words_cut (option_map (λ places. places.now) c.as_deref.result) paragraph)) division
-    × Took g.S.LineSink.holds c.args.lines.now c.push_directly.new.lines
-    (cut_lines 0 (parts_from s c.args.is_later division))) c.layout-layout.ensures
-    (c.in_ok-pushed.ensures.pushed c.if-pushed.true) in (
+    let (division, divided, took) = c.in_ok-pushed.ensures.pushed c.if-pushed.true in (
       division,
-      c.in-Some.ensures.parts c.args.is_later paragraph _ division
+      (rw c.in-Some.is at c.requires.parts) c.args.frame.now.is_later paragraph _ division
           (subst (λ (places : Option (List ℕ)). g.O.AnyOptions.may_separate c.args.options.now
           paragraph (words_cut places paragraph)) (sym c.as_deref.ensures.value)
-          c.in_ok-found.ensures.words) divided,
+          c.in_ok-found.ensures.words)
+          (subst (λ s. IsDividedBy (as_algorithm c.in-Some.parts.algorithm) sizes_of
+          (widths_of s c.args.frame.now.is_later) (pieces_of_words s
+          (as_splitter c.in-Some.parts.splitter)
+          (words_cut (option_map (λ places. places.now) c.as_deref.result) paragraph)) division)
+          c.requires.framed divided),
       took,
     )
 
@@ -36,6 +35,5 @@ returns-clause-taken g c = on_ok_weaker c.push_divided-2.result (λ (division, d
   division,
   divides,
   subst (λ sink. Took g.S.LineSink.holds sink c.push_divided-2.new.lines
-      (cut_lines 0 (parts_from (g.O.AnyOptions.settings c.args.options.now) c.args.is_later
-      division))) (c.in_ok-pushed.ensures.kept c.if-pushed.false) took,
+      (frame_lines c.args.frame.now division)) (c.in_ok-pushed.ensures.kept c.if-pushed.false) took,
 )) c.push_divided-2.ensures.taken

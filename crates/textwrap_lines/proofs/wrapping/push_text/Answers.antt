@@ -1,6 +1,7 @@
 use Rattle.textwrap_lines.proofs.wrapping.push_text.Goals as goal
-use Rattle.textwrap_base.proofs.Common.{◌+◌, ◌++◌, refl, sym, ap, length, ◌∙◌, subst}
-use Rattle.textwrap_lines.proofs.Common.{ending_bytes, paragraphs_of}
+use Rattle.textwrap_base.proofs.Common.{◌≡◌, ◌+◌, ◌++◌, refl, sym, ap, length, ◌∙◌, subst}
+use Rattle.textwrap_lines.proofs.Common.{AreParagraphParts, ending_bytes, frame_settings}
+use Rattle.textwrap_lines.proofs.Common.{layout_view, paragraphs_of}
 use Rattle.textwrap_lines.proofs.Text.Directly.{passed-on}
 use Rattle.textwrap_lines.proofs.Text.Lines.{paragraphs_left, paragraphs_left-split}
 use Rattle.textwrap_lines.proofs.Text.Sinks.{HasParagraphs, HasParagraphs-end, HasParagraphs-more}
@@ -10,7 +11,7 @@ pub loop-rest-init : goal.loop-rest-init
 loop-rest-init g c =
     let settings = g.O.AnyOptions.settings c.args.options.now in
     let divides = g.O.AnyOptions.divides c.args.options.now in
-    let ending = ap (λ s. s.line_ending) c.layout.ensures in
+    let ending = ap (λ s. s.line_ending) c.layout-layout.ensures in
     record {
       lines = subst (λ e. HasParagraphs settings divides g.S.LineSink.holds c.args.text.now
           c.args.lines.now c.args.lines.now (paragraphs_of e c.args.text.now) 0) (sym ending)
@@ -24,27 +25,38 @@ loop-rest-preserved g c =
     let options = c.args.options.now in
     let paragraph = c.split_paragraph.result.0.now in
     let after = c.split_paragraph.result.1 in
-    let ending = ap (λ s. s.line_ending) c.layout.ensures in
+    let settings = g.O.AnyOptions.settings options in
+    let divides = g.O.AnyOptions.divides options in
+    let framed : frame_settings c.choose-frame.result.now ≡ settings =
+    ap layout_view (c.choose-frame.ensures.layout ∙ c.of-first.ensures.layout)
+    ∙ c.layout-layout.ensures in
+    let (parts, are, took) = c.in_ok-push_paragraph.ensures.taken in
+    let ending = ap (λ s. s.line_ending) c.layout-layout.ensures in
     record {
-      lines = HasParagraphs-more (g.O.AnyOptions.settings options)
-          (g.O.AnyOptions.divides options) g.S.LineSink.holds c.args.text.now c.args.lines.now
+      lines = HasParagraphs-more settings divides g.S.LineSink.holds c.args.text.now c.args.lines.now
           c.loop-rest.lines c.begin_paragraph.new.self c.push_paragraph.new.lines _
-          c.loop-rest.start _ paragraph c.has_line-is_later.result
+          c.loop-rest.start _ paragraph c.has_line.result
           (rw (
             c.in-Some.is,
-            paragraphs_left-split c.layout.result.line_ending c.in-Some.text.now after paragraph
+            paragraphs_left-split c.layout-layout.result.line_ending c.in-Some.text.now after paragraph
                 c.split_paragraph.ensures.paragraphs,
           ) at c.loop-rest.invariant.lines)
           (ap (λ bytes. c.loop-rest.start + (length paragraph + length bytes)) (c.as_str.ensures
-          ∙ ap ending_bytes ending)) c.begin_paragraph.ensures.held c.has_line-is_later.ensures
-          c.in_ok-push_paragraph.ensures.taken;
+          ∙ ap ending_bytes ending)) c.begin_paragraph.ensures.held c.has_line.ensures (
+            parts,
+            subst (λ later. AreParagraphParts settings divides later paragraph parts)
+                c.choose-frame.ensures.later
+                (subst (λ s. AreParagraphParts s divides c.choose-frame.result.now.is_later
+                paragraph parts) framed are),
+            took,
+          );
       name = c.push_paragraph.ensures.name ∙ c.begin_paragraph.ensures.name
           ∙ c.loop-rest.invariant.name;
     }
 
 pub returns-in_err-push_paragraph-clause-no_overflow : goal.returns-in_err-push_paragraph-clause-no_overflow
 returns-in_err-push_paragraph-clause-no_overflow g c = λ never.
-    let ending = c.layout.result.line_ending in
+    let ending = c.layout-layout.result.line_ending in
     let left = ap (paragraphs_left ending) c.in-Some.is
     ∙ paragraphs_left-split ending c.in-Some.text.now c.split_paragraph.result.1
     c.split_paragraph.result.0.now c.split_paragraph.ensures.paragraphs in

@@ -1,7 +1,8 @@
 use Rattle.textwrap_lines.proofs.wrapping.wrap_paragraph.Goals as goal
 use Rattle.textwrap_base.proofs.Common.{Bool, List, not, nat_lt, length, [], map, ap, ◌∙◌, subst}
 use Rattle.textwrap_base.proofs.Common.{arith, rules}
-use Rattle.textwrap_lines.proofs.Common.{AreParagraphParts, LineParts, cut_lines, line_view}
+use Rattle.textwrap_lines.proofs.Common.{AreParagraphParts, LineParts, cut_lines, layout_view}
+use Rattle.textwrap_lines.proofs.Common.{line_view}
 use Rattle.textwrap_base.proofs.Numbers.{not_empty}
 use Rattle.textwrap_lines.proofs.Paragraph.Widths.{appends-none, appends-own}
 use Rattle.textwrap_lines.proofs.Text.Sinks.{lines_of-cut_lines, lines_of-more}
@@ -21,11 +22,13 @@ returns-clause-appended g c =
     let start = c.args.lines.now.items in
     let Are : Bool → List LineParts → Type 0 =
     λ b. AreParagraphParts (g.O.AnyOptions.settings options) (g.O.AnyOptions.divides options) b c.args.paragraph.now in
-    let is_out = ap not c.is_empty-is_later.ensures ∙ not_empty c.args.lines.now.len (length start)
+    let is_out = c.at-frame.ensures.later ∙ ap not c.is_empty.ensures ∙ not_empty c.args.lines.now.len (length start)
     (omega arith) in
     let (parts, are, took) = c.in_ok-push_paragraph.ensures.taken in
     appends-own (g.O.AnyOptions.may_overflow options) (Are (nat_lt 0 (length start))) start
-    _ c.append.new.self.items parts c.in_ok-append.field-0 (subst (λ b. Are b parts) is_out are)
+    _ c.append.new.self.items parts c.in_ok-append.field-0 (subst (λ b. Are b parts) is_out
+    (subst (λ s. AreParagraphParts s (g.O.AnyOptions.divides options) c.at-frame.result.is_later
+    c.args.paragraph.now parts) (ap layout_view c.at-frame.ensures.layout ∙ c.layout.ensures) are))
     (search rules ∙ took.held c.push_paragraph.new.lines 0 []
     (ap (map line_view) c.new-own.ensures.items) ∙ lines_of-more [] 0 (cut_lines 0 parts)
     ∙ lines_of-cut_lines 0 parts) c.in_ok-append.ensures.items

@@ -26,14 +26,14 @@ returns-clause-appended g c =
     let start = c.args.lines.now.items in
     let Are : Bool → List LineParts → Type 0 =
     λ b. AreDividedParts settings (DividesBy options) b c.args.line.now in
-    let is_out = ap not c.is_empty-is_later.ensures ∙ not_empty c.args.lines.now.len (length start)
+    let is_out = c.at-frame.ensures.later ∙ ap not c.is_empty.ensures ∙ not_empty c.args.lines.now.len (length start)
     (omega arith) in
     let (division, divides, took) = c.in_ok-push_divided.ensures.taken in
-    let parts = parts_from settings (not c.is_empty-is_later.result) division in
+    let parts = parts_from settings c.at-frame.result.is_later division in
     appends-own (MayOverflow options) (Are (nat_lt 0 (length start))) start _
     c.append.new.self.items parts c.in_ok-append.field-0
     (subst (λ b. Are b parts) is_out (division, divides, refl))
-    (search rules ∙ took.held c.push_divided.new.lines 0 []
+    (search rules ∙ (rw (c.at-frame.ensures.layout, c.of.ensures) at took).held c.push_divided.new.lines 0 []
     (ap (map line_view) c.new-own.ensures.items) ∙ lines_of-more [] 0 (cut_lines 0 parts)
     ∙ lines_of-cut_lines 0 parts) c.in_ok-append.ensures.items
 

@@ -23,14 +23,14 @@ returns-clause-divides g c =
     let settings = layout_view options.layout in
     let splitter = as_splitter options.parts.splitter in
     let words = g.W.PrintableCuts.words options.words in
-    IfOk-weaker c.wrap.result _ _ (λ lines divided paragraph pieces.
+    IfOk-weaker c.wrap.result _ _ (λ lines divided is_later paragraph widths pieces.
     subst (λ Lines. IsDividedInto settings (λ line ws. ws ≡ words line) (ArePoints splitter) Lines
-    c.args.is_later paragraph (map (λ line. map word_view line.now) lines.items))
+    is_later paragraph (map (λ line. map word_view line.now) lines.items))
     (division-as c.wrap_algorithm.result (as_algorithm options.parts.algorithm) c.wrap_algorithm.ensures)
     (divides-from (λ (line : Bor (List Word)). line.now) settings (λ line ws. ws ≡ words line)
-    (ArePoints splitter) c.wrap_algorithm.result c.args.is_later paragraph c.args.pieces.now
+    (ArePoints splitter) c.wrap_algorithm.result is_later paragraph c.args.pieces.now
     lines.items (words paragraph, split_words splitter (words paragraph), refl, AreSplit-computed splitter (words paragraph), pieces.pieces_are)
-    (rw (c.line_widths-first_width.ensures.first, c.line_widths-first_width.ensures.later) at divided))) c.wrap.ensures.divided
+    (rw widths at divided))) c.wrap.ensures.divided
 
 pub returns-clause-only_memory : goal.returns-clause-only_memory
 returns-clause-only_memory g c = λ paragraph utf8 short pieces tiles never.

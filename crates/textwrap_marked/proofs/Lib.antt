@@ -6,7 +6,6 @@ pub mod BlockOrder
 pub mod BlocksAlike
 pub mod BulletLemmas
 pub mod Common
-pub mod ColumnBytes
 pub mod ContainedTexts
 pub mod CoveredLemmas
 pub mod EndsAlike

@@ -1,5 +1,5 @@
 -- How a text begins, and what no paragraph contains.
-use Rattle.std.specs.Prelude.{◌≡◌, ℕ, ◌-◌, ◌==◌, ◌&&◌, ◌||◌, Bool, true, false, not, nat_eq, nat_lt}
+use Rattle.std.specs.Prelude.{ℕ, ◌-◌, ◌==◌, ◌&&◌, ◌||◌, Bool, true, false, not, nat_eq, nat_lt}
 use Rattle.std.specs.Prelude.{List}
 use Rattle.std.specs.Prelude.{[], ◌∷◌, length, take, drop, slice_get, slice_index, chars, codes}
 use Rattle.std.specs.Prelude.{bytes_eq}
@@ -107,10 +107,6 @@ is_column_word word =
 -- | / # carriage return ] <
 abbrev pub is_column_byte : ℕ → Bool
 is_column_byte c = c == 124 || c == 47 || c == 35 || c == 13 || c == 93 || c == 60
-
--- none of the words is such
-abbrev pub AreNoColumns : List SpacedText → Type 0
-AreNoColumns words = list_any (λ w. is_column_word w.word) words ≡ false
 
 -- all words but the last
 abbrev pub front_of : List SpacedText → List SpacedText

@@ -1,11 +1,11 @@
 //! What is read of a line.
-ghost use Rattle.std.specs.Prelude.{◌≡◌, ◌≤◌, ◌&&◌, false, length, map, nat_eq, not, IfOk};
+ghost use Rattle.std.specs.Prelude.{◌≡◌, ◌≤◌, ◌&&◌, length, map, nat_eq, not, IfOk};
 ghost use Rattle.std.specs.List.{list_any, starts_with};
 ghost use Rattle.textwrap_marked.specs.Lines.{is_chosen, is_deep, is_ended, is_title, line_from};
 ghost use Rattle.textwrap_marked.specs.Lines.{line_of};
 ghost use Rattle.textwrap_marked.specs.Lines.{is_return, line_view, stands_apart, state_view};
 ghost use Rattle.textwrap_marked.specs.Lines.{without_returns};
-ghost use Rattle.textwrap_marked.specs.Signs.{AreNoColumns, closes_block};
+ghost use Rattle.textwrap_marked.specs.Signs.{closes_block};
 ghost use Rattle.textwrap_marked.specs.Words.{spaced_view};
 
 use crate::columns::{depth_of, is_deeper};
@@ -14,8 +14,8 @@ use crate::prefixes::{
     PrefixEnds, hanging_margin, has_opening, prefix_ends, push_hanging_bullets, spaced_text,
 };
 use crate::signs::{
-    begins_text, closes_block, closes_early, first_word, has_column_byte, has_columns, is_key,
-    is_rule, last_white, last_word,
+    begins_text, closes_block, closes_early, first_word, has_columns, is_key, is_rule, last_white,
+    last_word,
 };
 use crate::states::State;
 use crate::words::{SpacedWord, ends_with, has_byte, spaced_words, split_white, starts_with};
@@ -79,20 +79,9 @@ pub(crate) fn read_line<'t>(
     ensures { IfOk result (λ line. line_view line
         ≡ line_of options.now (state_view state.now) raw.now fed) }
 {
-    let line = without_returns(raw);
-    let all = spaced_words(alloc, line)?;
+    let all = spaced_words(alloc, without_returns(raw))?;
     let ends = prefix_ends(&all, state.in_block, options);
-    let may_have_columns = has_column_byte(line.as_bytes());
-    line_from(
-        alloc,
-        raw,
-        fed,
-        &all,
-        &ends,
-        may_have_columns,
-        state,
-        options,
-    )
+    line_from(alloc, raw, fed, &all, &ends, state, options)
 }
 
 /// A line of these words, where this is open.
@@ -102,7 +91,6 @@ fn line_from<'t>(
     fed: bool,
     all: &[SpacedWord<'t>],
     ends: &PrefixEnds,
-    may_have_columns: bool,
     state: &State,
     options: &ReflowOptions<'_>,
 ) -> Result<Line<'t>, AllocError>
@@ -110,7 +98,6 @@ fn line_from<'t>(
     requires comment { ends.now.comment ≤ ends.now.margin }
     requires margin { ends.now.margin ≤ ends.now.text }
     requires within { ends.now.text ≤ length all.now }
-    requires columns { may_have_columns ≡ false → AreNoColumns (map spaced_view all.now) }
     ensures { IfOk result (λ line. line_view line ≡ line_from options.now (state_view state.now)
         raw.now fed (map spaced_view all.now) ends.now) }
 {
@@ -126,14 +113,7 @@ fn line_from<'t>(
     let field = is_key(first_word(text)) & (ends.margin == ends.text);
     push_hanging_bullets(&mut hanging, &all[ends.margin..ends.text])?;
     let fenced = state.fence.is_some();
-    let by_words = stands_apart(
-        options.justify,
-        may_have_columns,
-        in_block,
-        starred,
-        field,
-        text,
-    );
+    let by_words = stands_apart(options.justify, in_block, starred, field, text);
     let apart = fenced | deeper | state.prompted | by_words;
     let opens_block = stays_open(opening, text);
     let ended = is_ended(in_block, text);
@@ -183,21 +163,18 @@ fn stays_open(opening: bool, words: &[SpacedWord<'_>]) -> bool
     opening && !closes_block(words)
 }
 
-/// Whether a line stands apart by its words alone. It is known whether one may be such as no
-/// paragraph contains.
+/// Whether a line stands apart by its words alone.
 fn stands_apart(
     justify: bool,
-    may_have_columns: bool,
     in_block: bool,
     starred: bool,
     field: bool,
     words: &[SpacedWord<'_>],
 ) -> bool
-    requires { may_have_columns ≡ false → AreNoColumns (map spaced_view words.now) }
     ensures { result ≡ stands_apart justify in_block starred field (map spaced_view words.now) }
 {
     !begins_text(starred, first_word(words))
-        || has_columns(justify, may_have_columns, words)
+        || has_columns(justify, words)
         || field && has_byte(b'-', first_word(words).as_bytes())
         || in_block && closes_block(words) && closes_early(words)
 }

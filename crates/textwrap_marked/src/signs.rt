@@ -2,7 +2,7 @@
 ghost use Rattle.std.specs.Char.{is_ascii_lowercase};
 ghost use Rattle.std.specs.Prelude.{◌≡◌, ◌==◌, ◌||◌, true, false, length, map, chars, slice_get, slice_index};
 ghost use Rattle.std.specs.List.{list_all, list_any};
-ghost use Rattle.textwrap_marked.specs.Signs.{AreNoColumns, any_contains, begins_text, closes_block};
+ghost use Rattle.textwrap_marked.specs.Signs.{any_contains, begins_text, closes_block};
 ghost use Rattle.textwrap_marked.specs.Signs.{closes_early};
 ghost use Rattle.textwrap_marked.specs.Signs.{ends_early, ends_sentence, first_word, front_of};
 ghost use Rattle.textwrap_marked.specs.Signs.{has_columns, is_closing, is_column_byte, is_column_word};
@@ -187,11 +187,11 @@ fn is_gap(justify: bool, word: &SpacedWord<'_>) -> bool
     has_byte(b'\t', word.white.as_bytes()) || !justify && is_wide(word)
 }
 
-/// Whether a line has one of the bytes of which each word has one that no paragraph contains.
-pub(crate) fn has_column_byte(line: &[u8]) -> bool
-    ensures { result ≡ list_any is_column_byte line.now }
+/// Whether one of the bytes is there without which a word is none of those that no paragraph contains.
+fn has_column_byte(bytes: &[u8]) -> bool
+    ensures { result ≡ list_any is_column_byte bytes.now }
 {
-    line.iter().any(|byte| is_column_byte(*byte))
+    bytes.iter().any(|byte| is_column_byte(*byte))
 }
 
 fn is_column_byte(byte: u8) -> bool
@@ -205,10 +205,11 @@ fn is_column_byte(byte: u8) -> bool
 fn is_column_word(word: &str) -> bool
     ensures { result ≡ is_column_word word.now }
 {
-    matches!(word, "|" | "//" | "/*" | "#")
-        || has_byte(b'\r', word.as_bytes())
-        || contains(word, "]:")
-        || contains(word, "<pre")
+    has_column_byte(word.as_bytes())
+        && (matches!(word, "|" | "//" | "/*" | "#")
+            || has_byte(b'\r', word.as_bytes())
+            || contains(word, "]:")
+            || contains(word, "<pre"))
 }
 
 fn any_column_word(words: &[SpacedWord<'_>]) -> bool
@@ -233,13 +234,12 @@ fn any_gap(justify: bool, words: &[SpacedWord<'_>]) -> bool
     false
 }
 
-/// Whether such a word is among these, or a gap between two. It is known whether one may be.
-pub(crate) fn has_columns(justify: bool, may_have: bool, words: &[SpacedWord<'_>]) -> bool
-    requires { may_have ≡ false → AreNoColumns (map spaced_view words.now) }
+/// Whether such a word is among these, or a gap between two.
+pub(crate) fn has_columns(justify: bool, words: &[SpacedWord<'_>]) -> bool
     ensures { result ≡ has_columns justify (map spaced_view words.now) }
 {
     let (front, _) = split_last(words);
-    may_have && any_column_word(words) || any_gap(justify, front)
+    any_column_word(words) || any_gap(justify, front)
 }
 
 /// Whether a text stands in one of the words.

@@ -5,7 +5,7 @@ use textwrap::WrapError;
 /// Why a call gives nothing.
 #[derive(Debug, Drop)]
 pub enum Fault {
-    /// The library refused since it was out of memory, or memory ran out here.
+    /// The library refused for want of memory, or memory ran out here.
     Memory,
     /// The library refused, since costs pass 128 bits.
     Overflow,

@@ -1,6 +1,6 @@
 use Rattle.textwrap_marked.proofs.lines.line_from.Goals as goal
 use Rattle.textwrap_base.proofs.Common.{◌≡◌, ℕ, ◌-◌, ◌++◌, ◌==◌, ◌&&◌, ◌||◌, Bool, not, List, map, take, drop}
-use Rattle.textwrap_base.proofs.Common.{slice_range, subst, string_bytes, refl, sym, ap, ◌∙◌, take-map, Option}
+use Rattle.textwrap_base.proofs.Common.{slice_range, string_bytes, refl, sym, ap, ◌∙◌, take-map, Option}
 use Rattle.textwrap_base.proofs.Common.{Some, None, option_map}
 use Rattle.std.proofs.lemmas.List.{drop-map, take_rest}
 use Rattle.std.specs.Prelude.{is_some}
@@ -8,8 +8,7 @@ use Rattle.textwrap_marked.specs.Fences.{fence_view}
 use Rattle.textwrap_marked.specs.Lines.{is_chosen, is_deep, is_ended, line_from, stands_apart}
 use Rattle.textwrap_marked.specs.Lines.{state_view, StateText}
 use Rattle.textwrap_marked.specs.Prefixes.{hanging_bullets, hanging_margin, has_opening}
-use Rattle.textwrap_marked.proofs.ColumnBytes.{later-lack}
-use Rattle.textwrap_marked.specs.Signs.{AreNoColumns, closes_block, first_word, is_key}
+use Rattle.textwrap_marked.specs.Signs.{closes_block, first_word, is_key}
 use Rattle.textwrap_marked.specs.Words.{has_byte, spaced_text, SpacedText, spaced_view}
 use Rattle.textwrap_marked.specs.declared.fences.Fence.{Fence}
 use Rattle.textwrap_marked.specs.declared.options.ReflowOptions.{ReflowOptions}
@@ -49,13 +48,6 @@ module _ (options : ReflowOptions) (state : StateText) (raw : List ℕ) (fed : B
       } ≡ line_from options state raw fed all ends
   line-is margin prefix form hanging words opening star deeper key opens fenced apart ended chosen
       m p f h w o s d k c n a e x = rw (x, e, a, n, c, k, d, s, o, w, h, f, p, m) refl
-
-pub stands_apart-by_words-requires : goal.stands_apart-by_words-requires
-stands_apart-by_words-requires c = λ none.
-    let text = c.args.ends.now.text in
-    let all = c.args.all.now in
-    subst AreNoColumns (drop-map spaced_view text all ∙ ap (map spaced_view) (sym (take_rest all text)))
-    (later-lack text (map spaced_view all) (c.requires.columns none))
 
 pub returns : goal.returns
 returns c =

@@ -1,12 +1,12 @@
 //! What is read of a line.
-ghost use Rattle.std.specs.Prelude.{◌≡◌, ◌≤◌, ◌&&◌, length, map, nat_eq, not, IfOk};
+ghost use Rattle.std.specs.Prelude.{◌≡◌, ◌≤◌, ◌&&◌, length, map, nat_eq, not, true, IfOk};
 ghost use Rattle.std.specs.List.{list_any, starts_with};
 ghost use Rattle.textwrap_marked.specs.Lines.{is_chosen, is_deep, is_ended, is_title, line_from};
 ghost use Rattle.textwrap_marked.specs.Lines.{line_of};
 ghost use Rattle.textwrap_marked.specs.Lines.{is_return, line_view, stands_apart, state_view};
 ghost use Rattle.textwrap_marked.specs.Lines.{without_returns};
-ghost use Rattle.textwrap_marked.specs.Signs.{closes_block};
-ghost use Rattle.textwrap_marked.specs.Words.{spaced_view};
+ghost use Rattle.textwrap_marked.specs.Signs.{ArePlain, closes_block};
+ghost use Rattle.textwrap_marked.specs.Words.{spaced_view, spaced_words};
 
 use crate::columns::{depth_of, is_deeper};
 use crate::options::ReflowOptions;
@@ -14,8 +14,8 @@ use crate::prefixes::{
     PrefixEnds, hanging_margin, has_opening, prefix_ends, push_hanging_bullets, spaced_text,
 };
 use crate::signs::{
-    begins_text, closes_block, closes_early, first_word, has_columns, is_key, is_rule, last_white,
-    last_word,
+    begins_text, closes_block, closes_early, first_word, has_column_byte, has_columns, is_key,
+    is_rule, last_white, last_word,
 };
 use crate::states::State;
 use crate::words::{SpacedWord, ends_with, has_byte, spaced_words, split_white, starts_with};
@@ -94,6 +94,7 @@ fn line_from<'t>(
     state: &State,
     options: &ReflowOptions<'_>,
 ) -> Result<Line<'t>, AllocError>
+    requires words { map spaced_view all.now ≡ spaced_words (without_returns raw.now) }
     requires lead { ends.now.lead ≤ ends.now.comment }
     requires comment { ends.now.comment ≤ ends.now.margin }
     requires margin { ends.now.margin ≤ ends.now.text }
@@ -113,7 +114,8 @@ fn line_from<'t>(
     let field = is_key(first_word(text)) & (ends.margin == ends.text);
     push_hanging_bullets(&mut hanging, &all[ends.margin..ends.text])?;
     let fenced = state.fence.is_some();
-    let by_words = stands_apart(options.justify, in_block, starred, field, text);
+    let plain = !has_column_byte(without_returns(raw).as_bytes());
+    let by_words = stands_apart(options.justify, in_block, starred, field, plain, text);
     let apart = fenced | deeper | state.prompted | by_words;
     let opens_block = stays_open(opening, text);
     let ended = is_ended(in_block, text);
@@ -169,12 +171,14 @@ fn stands_apart(
     in_block: bool,
     starred: bool,
     field: bool,
+    plain: bool,
     words: &[SpacedWord<'_>],
 ) -> bool
+    requires { plain ≡ true → ArePlain (map spaced_view words.now) }
     ensures { result ≡ stands_apart justify in_block starred field (map spaced_view words.now) }
 {
     !begins_text(starred, first_word(words))
-        || has_columns(justify, words)
+        || has_columns(justify, plain, words)
         || field && has_byte(b'-', first_word(words).as_bytes())
         || in_block && closes_block(words) && closes_early(words)
 }

@@ -1,15 +1,18 @@
 use Rattle.textwrap_marked.proofs.lines.line_from.Goals as goal
 use Rattle.textwrap_base.proofs.Common.{◌≡◌, ℕ, ◌-◌, ◌++◌, ◌==◌, ◌&&◌, ◌||◌, Bool, not, List, map, take, drop}
 use Rattle.textwrap_base.proofs.Common.{slice_range, string_bytes, refl, sym, ap, ◌∙◌, take-map, Option}
-use Rattle.textwrap_base.proofs.Common.{Some, None, option_map}
+use Rattle.textwrap_base.proofs.Common.{Some, None, option_map, arith, cases_Bool, false, length, list_any}
+use Rattle.textwrap_base.proofs.Common.{subst}
 use Rattle.std.proofs.lemmas.List.{drop-map, take_rest}
+use Rattle.std.proofs.lemmas.List.Elements.{All-drop}
 use Rattle.std.specs.Prelude.{is_some}
+use Rattle.textwrap_marked.proofs.PlainWords.{words-plain}
 use Rattle.textwrap_marked.specs.Fences.{fence_view}
 use Rattle.textwrap_marked.specs.Lines.{is_chosen, is_deep, is_ended, line_from, stands_apart}
-use Rattle.textwrap_marked.specs.Lines.{state_view, StateText}
+use Rattle.textwrap_marked.specs.Lines.{state_view, StateText, without_returns}
 use Rattle.textwrap_marked.specs.Prefixes.{hanging_bullets, hanging_margin, has_opening}
-use Rattle.textwrap_marked.specs.Signs.{closes_block, first_word, is_key}
-use Rattle.textwrap_marked.specs.Words.{has_byte, spaced_text, SpacedText, spaced_view}
+use Rattle.textwrap_marked.specs.Signs.{ArePlain, closes_block, first_word, is_column_byte, is_key}
+use Rattle.textwrap_marked.specs.Words.{has_byte, spaced_text, SpacedText, spaced_view, spaced_words}
 use Rattle.textwrap_marked.specs.declared.fences.Fence.{Fence}
 use Rattle.textwrap_marked.specs.declared.options.ReflowOptions.{ReflowOptions}
 use Rattle.textwrap_marked.specs.declared.prefixes.PrefixEnds.{PrefixEnds}
@@ -48,6 +51,21 @@ module _ (options : ReflowOptions) (state : StateText) (raw : List ℕ) (fed : B
       } ≡ line_from options state raw fed all ends
   line-is margin prefix form hanging words opening star deeper key opens fenced apart ended chosen
       m p f h w o s d k c n a e x = rw (x, e, a, n, c, k, d, s, o, w, h, f, p, m) refl
+
+pub stands_apart-by_words-requires : goal.stands_apart-by_words-requires
+stands_apart-by_words-requires c = λ plain.
+    let all = c.args.all.now in
+    let at = c.args.ends.now.text in
+    let line = without_returns c.args.raw.now in
+    let lacks : c.has_column_byte-plain.result ≡ false = grind (arith, cases_Bool, plain) in
+    let none : list_any is_column_byte line ≡ false =
+    ap (list_any is_column_byte) (sym c.without_returns.ensures ∙ sym c.as_bytes-2.ensures.value)
+    ∙ sym c.has_column_byte-plain.ensures ∙ lacks in
+    let words : map spaced_view (take (length all - at) (drop at all)) ≡ drop at (spaced_words line) =
+    ap (map spaced_view) (take_rest all at) ∙ sym (drop-map spaced_view at all)
+    ∙ ap (drop at) c.requires.words in
+    subst ArePlain (sym words) (All-drop (λ w. list_any is_column_byte w.word ≡ false) at
+    (spaced_words line) (words-plain line none))
 
 pub returns : goal.returns
 returns c =

@@ -1,10 +1,11 @@
 -- Words of bytes without which a word is none of those that no paragraph contains.
 use Rattle.textwrap_marked.proofs.Common.{◌≡◌, ℕ, ◌==◌, ◌&&◌, ◌||◌, Bool, true, false, List, [], ◌∷◌, ap, sym}
 use Rattle.textwrap_marked.proofs.Common.{All, All-cons, All-head, All-nil, All-tail, All-weaker}
-use Rattle.textwrap_marked.proofs.Common.{arith, bytes_eq, codes, cond, has_byte, is_column_word, is_white}
+use Rattle.textwrap_marked.proofs.Common.{arith, bytes_eq, codes, cond, contains, has_byte, is_column_word, is_white}
 use Rattle.textwrap_marked.proofs.Common.{list_any, nat_tests, not, refl, spaced_words, SpacedText, ◌∙◌}
 use Rattle.textwrap_marked.proofs.ContainedTexts.{contains-lacks}
 use Rattle.textwrap_marked.proofs.OpenBehind.{none-any, or-left, or-right}
+use Rattle.textwrap_marked.specs.Fences.{has_pre}
 use Rattle.textwrap_marked.specs.Signs.{ArePlain, is_column_byte}
 use Rattle.textwrap_marked.specs.Words.{of_byte, onto_white, onto_word, onto_words, with_byte}
 
@@ -64,6 +65,13 @@ plain-byte c none = split (is_white c)
         (record { word = c ∷ []; white = [] }))
     split true = refl
     split false = ap (λ b. b || false) none
+
+pub plain-pre : (words : List SpacedText) → ArePlain words → has_pre words ≡ false
+plain-pre words plain =
+    none-any (λ w. contains (codes "<pre") w.word) words
+    (All-weaker (λ w. list_any is_column_byte w.word ≡ false)
+    (λ w. contains (codes "<pre") w.word ≡ false)
+    (λ w none. contains-lacks (codes "<pre") w.word (omega arith) (lacks 60 w.word refl none)) words plain)
 
 -- one byte more before plain words
 plain-onto : (c : ℕ) (word : List ℕ) (w : SpacedText) (ws : List SpacedText)

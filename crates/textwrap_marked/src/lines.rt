@@ -34,6 +34,8 @@ pub(crate) struct Line<'t> {
     pub hanging: String,
     /// The words of its text.
     pub words: Vec<SpacedWord<'t>>,
+    /// Whether its words have no byte without which none is one that no paragraph contains.
+    pub plain: bool,
     /// Whether it is, or begins, in a block comment without a mark of its own here.
     pub starred: bool,
     /// Whether it leaves a block comment open.
@@ -76,8 +78,9 @@ pub(crate) fn read_line<'t>(
     state: &State,
     options: &ReflowOptions<'_>,
 ) -> Result<Line<'t>, AllocError>
-    ensures { IfOk result (λ line. line_view line
+    ensures line { IfOk result (λ line. line_view line
         ≡ line_of options.now (state_view state.now) raw.now fed) }
+    ensures plain { IfOk result (λ line. line.plain ≡ true → ArePlain (line_view line).words) }
 {
     let all = spaced_words(alloc, without_returns(raw))?;
     let ends = prefix_ends(&all, state.in_block, options);
@@ -99,8 +102,9 @@ fn line_from<'t>(
     requires comment { ends.now.comment ≤ ends.now.margin }
     requires margin { ends.now.margin ≤ ends.now.text }
     requires within { ends.now.text ≤ length all.now }
-    ensures { IfOk result (λ line. line_view line ≡ line_from options.now (state_view state.now)
+    ensures line { IfOk result (λ line. line_view line ≡ line_from options.now (state_view state.now)
         raw.now fed (map spaced_view all.now) ends.now) }
+    ensures plain { IfOk result (λ line. line.plain ≡ true → ArePlain (line_view line).words) }
 {
     let text = &all[ends.text..];
     let margin = spaced_text(alloc, &all[..ends.margin])?;
@@ -127,6 +131,7 @@ fn line_from<'t>(
         prefix,
         hanging,
         words,
+        plain,
         starred,
         opens_block,
         deeper,

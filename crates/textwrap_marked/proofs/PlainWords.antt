@@ -1,6 +1,6 @@
 -- Words of bytes without which a word is none of those that no paragraph contains.
 use Rattle.textwrap_marked.proofs.Common.{◌≡◌, ℕ, ◌==◌, ◌&&◌, ◌||◌, Bool, true, false, List, [], ◌∷◌, ap, sym}
-use Rattle.textwrap_marked.proofs.Common.{All, All-cons, All-head, All-nil, All-tail, All-weaker}
+use Rattle.textwrap_marked.proofs.Common.{All-cons, All-head, All-nil, All-tail, All-weaker}
 use Rattle.textwrap_marked.proofs.Common.{arith, bytes_eq, codes, cond, contains, has_byte, is_column_word, is_white}
 use Rattle.textwrap_marked.proofs.Common.{list_any, nat_tests, not, refl, spaced_words, SpacedText, ◌∙◌}
 use Rattle.textwrap_marked.proofs.ContainedTexts.{contains-lacks}

@@ -1,5 +1,5 @@
 //! What is read of a line.
-ghost use Rattle.std.specs.Prelude.{◌≡◌, ◌≤◌, ◌&&◌, length, map, nat_eq, not, true, IfOk};
+ghost use Rattle.std.specs.Prelude.{◌≡◌, ◌≤◌, ◌&&◌, drop, length, map, nat_eq, not, true, IfOk};
 ghost use Rattle.std.specs.List.{list_any, starts_with};
 ghost use Rattle.textwrap_marked.specs.Lines.{is_chosen, is_deep, is_ended, is_title, line_from};
 ghost use Rattle.textwrap_marked.specs.Lines.{line_of};
@@ -84,7 +84,23 @@ pub(crate) fn read_line<'t>(
 {
     let all = spaced_words(alloc, without_returns(raw))?;
     let ends = prefix_ends(&all, state.in_block, options);
-    line_from(alloc, raw, fed, &all, &ends, state, options)
+    line_from(alloc, raw, fed, all, &ends, state, options)
+}
+
+/// The words from a place on. Those from the first on are not copied.
+fn words_from<'t>(
+    alloc: Global,
+    words: Vec<SpacedWord<'t>>,
+    start: usize,
+) -> Result<Vec<SpacedWord<'t>>, AllocError>
+    requires { start ≤ length words.items }
+    ensures { IfOk result (λ rest. rest.items ≡ drop start words.entry.items) }
+{
+    if start == 0 {
+        Ok(words)
+    } else {
+        Vec::from_slice(alloc, &words[start..])
+    }
 }
 
 /// A line of these words, where this is open.
@@ -92,20 +108,21 @@ fn line_from<'t>(
     alloc: Global,
     raw: &'t str,
     fed: bool,
-    all: &[SpacedWord<'t>],
+    words: Vec<SpacedWord<'t>>,
     ends: &PrefixEnds,
     state: &State,
     options: &ReflowOptions<'_>,
 ) -> Result<Line<'t>, AllocError>
-    requires words { map spaced_view all.now ≡ spaced_words (without_returns raw.now) }
+    requires words { map spaced_view words.items ≡ spaced_words (without_returns raw.now) }
     requires lead { ends.now.lead ≤ ends.now.comment }
     requires comment { ends.now.comment ≤ ends.now.margin }
     requires margin { ends.now.margin ≤ ends.now.text }
-    requires within { ends.now.text ≤ length all.now }
+    requires within { ends.now.text ≤ length words.items }
     ensures line { IfOk result (λ line. line_view line ≡ line_from options.now (state_view state.now)
-        raw.now fed (map spaced_view all.now) ends.now) }
+        raw.now fed (map spaced_view words.entry.items) ends.now) }
     ensures plain { IfOk result (λ line. line.plain ≡ true → ArePlain (line_view line).words) }
 {
+    let all = words.as_slice();
     let text = &all[ends.text..];
     let margin = spaced_text(alloc, &all[..ends.margin])?;
     let prefix = spaced_text(alloc, &all[..ends.text])?;
@@ -124,7 +141,7 @@ fn line_from<'t>(
     let opens_block = stays_open(opening, text);
     let ended = is_ended(in_block, text);
     let chosen = is_chosen(margin.as_str(), options);
-    let words = Vec::from_slice(alloc, text)?;
+    let words = words_from(alloc, words, ends.text)?;
     Ok(Line {
         raw,
         fed,

@@ -65,20 +65,19 @@ text-plain all raw bytes at has words same is plain =
 
 pub stands_apart-by_words-requires : goal.stands_apart-by_words-requires
 stands_apart-by_words-requires c = λ plain.
-    let all = c.args.all.now in
+    let all = c.as_slice-all.result.now in
     let at = c.args.ends.now.text in
     let text : map spaced_view (take (length all - at) (drop at all)) ≡ drop at (map spaced_view all) =
     ap (map spaced_view) (take_rest all at) ∙ sym (drop-map spaced_view at all) in
-    subst ArePlain (sym text) (text-plain all c.args.raw.now _ at _ c.requires.words
-    (c.as_bytes-2.ensures.value ∙ c.without_returns.ensures) c.has_column_byte-plain.ensures plain)
+    subst ArePlain (sym text) (text-plain all c.args.raw.now _ at _ (ap (map spaced_view) c.as_slice-all.ensures.value
+    ∙ c.requires.words) (c.as_bytes-2.ensures.value ∙ c.without_returns.ensures) c.has_column_byte-plain.ensures plain)
 
 pub returns-clause-plain : goal.returns-clause-plain
 returns-clause-plain c = λ plain.
-    let all = c.args.all.now in
+    let all = c.args.words.items in
     let at = c.args.ends.now.text in
     let text : map spaced_view c.in_ok-words.words.items ≡ drop at (map spaced_view all) =
-    ap (map spaced_view) (c.in_ok-words.ensures.items ∙ take_rest all at)
-    ∙ sym (drop-map spaced_view at all) in
+    ap (map spaced_view) c.in_ok-words.ensures ∙ sym (drop-map spaced_view at all) in
     subst ArePlain (sym text) (text-plain all c.args.raw.now _ at _ c.requires.words
     (c.as_bytes-2.ensures.value ∙ c.without_returns.ensures) c.has_column_byte-plain.ensures plain)
 
@@ -86,12 +85,13 @@ pub returns-clause-line : goal.returns-clause-line
 returns-clause-line c =
     let options = c.args.options.now in
     let state = state_view c.args.state.now in
-    let all = c.args.all.now in
+    let all = c.as_slice-all.result.now in
+    let whole : all ≡ c.args.words.items = c.as_slice-all.ensures.value in
     let ends = c.args.ends.now in
+    let left = c.in_ok-words.ensures ∙ ap (drop ends.text) (sym whole) in
     let text : map spaced_view c.in_ok-words.words.items ≡ drop ends.text (map spaced_view all) =
-    ap (map spaced_view) (c.in_ok-words.ensures.items ∙ take_rest all ends.text)
-    ∙ sym (drop-map spaced_view ends.text all) in
-    let same = ap (map spaced_view) (sym c.in_ok-words.ensures.items) in
+    ap (map spaced_view) left ∙ sym (drop-map spaced_view ends.text all) in
+    let same = ap (map spaced_view) (take_rest all ends.text ∙ sym left) in
     let wide = ends.text - ends.margin in
     let cut : map spaced_view (slice_range all ends.margin ends.text)
     ≡ slice_range (map spaced_view all) ends.margin ends.text =
@@ -116,3 +116,4 @@ returns-clause-line c =
     (c.stands_apart-by_words.ensures ∙ ap (stands_apart _ _ _ _) same)
     (c.is_ended-ended.ensures ∙ ap (is_ended _) same)
     (c.is_chosen-chosen.ensures ∙ ap (is_chosen options) c.as_str.ensures.value)
+    ∙ ap (λ l. line_from options state c.args.raw.now c.args.fed (map spaced_view l) ends) whole

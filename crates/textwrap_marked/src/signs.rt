@@ -178,7 +178,7 @@ fn is_wide(word: &SpacedWord<'_>) -> bool
 fn is_gap(justify: bool, word: &SpacedWord<'_>) -> bool
     ensures { result ≡ is_gap justify (spaced_view word.now) }
 {
-    has_byte(b'\t', word.white.as_bytes()) || !justify && is_wide(word)
+    word.white != " " && (has_byte(b'\t', word.white.as_bytes()) || !justify && is_wide(word))
 }
 
 /// Whether one of the bytes is there without which a word is none of those that no paragraph contains.

@@ -1,4 +1,4 @@
--- Words of bytes without which a word is none of those that no paragraph contains.
+-- Plain words: each word that no paragraph contains has one of a few bytes, and they have none.
 use Rattle.textwrap_marked.proofs.Common.{◌≡◌, ℕ, ◌==◌, ◌&&◌, ◌||◌, Bool, true, false, List, [], ◌∷◌, ap, sym}
 use Rattle.textwrap_marked.proofs.Common.{All-cons, All-head, All-nil, All-tail, All-weaker}
 use Rattle.textwrap_marked.proofs.Common.{arith, bytes_eq, codes, cond, contains, has_byte, is_column_word, is_white}

@@ -34,7 +34,8 @@ pub(crate) struct Line<'t> {
     pub hanging: String,
     /// The words of its text.
     pub words: Vec<SpacedWord<'t>>,
-    /// Whether its words have no byte without which none is one that no paragraph contains.
+    /// Whether its words have no byte of those of which each word that no paragraph contains has
+    /// one.
     pub plain: bool,
     /// Whether it is, or begins, in a block comment without a mark of its own here.
     pub starred: bool,
@@ -118,8 +119,8 @@ fn line_from<'t>(
     requires comment { ends.now.comment ≤ ends.now.margin }
     requires margin { ends.now.margin ≤ ends.now.text }
     requires within { ends.now.text ≤ length words.items }
-    ensures line { IfOk result (λ line. line_view line ≡ line_from options.now (state_view state.now)
-        raw.now fed (map spaced_view words.entry.items) ends.now) }
+    ensures line { IfOk result (λ line. line_view line ≡ line_from options.now
+        (state_view state.now) raw.now fed (map spaced_view words.entry.items) ends.now) }
     ensures plain { IfOk result (λ line. line.plain ≡ true → ArePlain (line_view line).words) }
 {
     let all = words.as_slice();

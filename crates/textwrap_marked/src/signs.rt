@@ -181,7 +181,7 @@ fn is_gap(justify: bool, word: &SpacedWord<'_>) -> bool
     word.white != " " && (has_byte(b'\t', word.white.as_bytes()) || !justify && is_wide(word))
 }
 
-/// Whether one of the bytes is there without which a word is none of those that no paragraph contains.
+/// Whether one of the bytes is there of which each word that no paragraph contains has one.
 pub(crate) fn has_column_byte(bytes: &[u8]) -> bool
     ensures { result ≡ list_any is_column_byte bytes.now }
 {

@@ -112,7 +112,7 @@ pub(crate) fn opens_paragraph(word: &str) -> bool
 pub(crate) fn begins_text(starred: bool, word: &str) -> bool
     ensures { result ≡ begins_text starred word.now }
 {
-    has_letter(word) & !is_sign(word) & !(starred & (first_byte(word) == b'*'))
+    is_usual(word) || has_letter(word) & !is_sign(word) & !(starred & (first_byte(word) == b'*'))
 }
 
 /// Whether a word begins with a small letter of ASCII and ends with another one or a comma, as most

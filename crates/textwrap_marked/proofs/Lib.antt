@@ -40,6 +40,7 @@ pub mod ParagraphLines
 pub mod PieceCuts
 pub mod PieceLemmas
 pub mod PlainLines
+pub mod PlainWords
 pub mod PrintedText
 pub mod PrintedWidths
 pub mod ReadBack

@@ -1,10 +1,10 @@
 -- How a text begins, and what no paragraph contains.
-use Rattle.std.specs.Prelude.{ℕ, ◌-◌, ◌==◌, ◌&&◌, ◌||◌, Bool, true, false, not, nat_eq, nat_lt}
+use Rattle.std.specs.Prelude.{◌≡◌, ℕ, ◌-◌, ◌==◌, ◌&&◌, ◌||◌, Bool, true, false, not, nat_eq, nat_lt}
 use Rattle.std.specs.Prelude.{List}
 use Rattle.std.specs.Prelude.{[], ◌∷◌, length, take, drop, slice_get, slice_index, chars, codes}
 use Rattle.std.specs.Prelude.{bytes_eq}
 use Rattle.std.specs.Prelude.{if◌then◌else◌, Option, Some, None}
-use Rattle.std.specs.List.{ends_with, fold, list_all, list_any, starts_with}
+use Rattle.std.specs.List.{All, ends_with, fold, list_all, list_any, starts_with}
 use Rattle.textwrap_marked.specs.Marks.{is_among, is_bullet}
 use Rattle.textwrap_marked.specs.Words.{contains, has_byte, has_bytes, has_letter}
 use Rattle.textwrap_marked.specs.Words.{is_alphanumeric}
@@ -107,6 +107,10 @@ is_column_word word =
 -- | / # carriage return ] <
 abbrev pub is_column_byte : ℕ → Bool
 is_column_byte c = c == 124 || c == 47 || c == 35 || c == 13 || c == 93 || c == 60
+
+-- none of these bytes is in the words
+abbrev pub ArePlain : List SpacedText → Type 0
+ArePlain words = All (λ w. list_any is_column_byte w.word ≡ false) words
 
 -- all words but the last
 abbrev pub front_of : List SpacedText → List SpacedText

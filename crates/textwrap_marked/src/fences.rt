@@ -1,10 +1,11 @@
 //! Fences of code.
-ghost use Rattle.std.specs.Prelude.{◌≡◌, ◌==◌, map};
+ghost use Rattle.std.specs.Prelude.{◌≡◌, ◌==◌, map, true};
 ghost use Rattle.std.specs.List.{list_any, prefix_len};
 ghost use Rattle.textwrap_marked.specs.Fences.{fence_view, has_backtick_behind, has_pre};
 ghost use Rattle.textwrap_marked.specs.Fences.{has_pre_end};
 ghost use Rattle.textwrap_marked.specs.Fences.{is_closed_by, is_left_by, is_long_run, opened};
 ghost use Rattle.textwrap_marked.specs.Fences.{opened_by, run_of};
+ghost use Rattle.textwrap_marked.specs.Signs.{ArePlain};
 ghost use Rattle.textwrap_marked.specs.Words.{has_byte, spaced_view};
 
 use crate::columns::marks_of;
@@ -58,10 +59,11 @@ fn run_of(word: &str) -> Option<FenceRun>
     }
 }
 
-fn has_pre(words: &[SpacedWord<'_>]) -> bool
+fn has_pre(plain: bool, words: &[SpacedWord<'_>]) -> bool
+    requires { plain ≡ true → ArePlain (map spaced_view words.now) }
     ensures { result ≡ has_pre (map spaced_view words.now) }
 {
-    any_contains(words, "<pre")
+    !plain && any_contains(words, "<pre")
 }
 
 fn has_pre_end(words: &[SpacedWord<'_>]) -> bool
@@ -89,14 +91,16 @@ fn has_backtick_behind(len: usize, words: &[SpacedWord<'_>]) -> bool
     has_byte(b'`', &bytes[len.min(bytes.len())..]) | any_backtick(&words[words.len().min(1)..])
 }
 
-/// The fence that these words open, if they do.
-pub(crate) fn opened(words: &[SpacedWord<'_>]) -> Option<FenceKind>
+/// The fence that these words, which may be known to be plain, open, if they do.
+pub(crate) fn opened(plain: bool, words: &[SpacedWord<'_>]) -> Option<FenceKind>
+    requires { plain ≡ true → ArePlain (map spaced_view words.now) }
     ensures { result ≡ opened (map spaced_view words.now) }
 {
-    opened_by(run_of(first_word(words)), words)
+    opened_by(run_of(first_word(words)), plain, words)
 }
 
-fn opened_by(run: Option<FenceRun>, words: &[SpacedWord<'_>]) -> Option<FenceKind>
+fn opened_by(run: Option<FenceRun>, plain: bool, words: &[SpacedWord<'_>]) -> Option<FenceKind>
+    requires { plain ≡ true → ArePlain (map spaced_view words.now) }
     ensures { result ≡ opened_by run (map spaced_view words.now) }
 {
     match run {
@@ -108,7 +112,7 @@ fn opened_by(run: Option<FenceRun>, words: &[SpacedWord<'_>]) -> Option<FenceKin
             }
         }
         None => {
-            if has_pre(words) && !has_pre_end(words) {
+            if has_pre(plain, words) && !has_pre_end(words) {
                 Some(FenceKind::Pre)
             } else {
                 None

@@ -1,12 +1,12 @@
 //! What is read of a line.
-ghost use Rattle.std.specs.Prelude.{◌≡◌, ◌≤◌, ◌&&◌, length, map, nat_eq, not, IfOk};
+ghost use Rattle.std.specs.Prelude.{◌≡◌, ◌≤◌, ◌&&◌, drop, length, map, nat_eq, not, true, IfOk};
 ghost use Rattle.std.specs.List.{list_any, starts_with};
 ghost use Rattle.textwrap_marked.specs.Lines.{is_chosen, is_deep, is_ended, is_title, line_from};
 ghost use Rattle.textwrap_marked.specs.Lines.{line_of};
 ghost use Rattle.textwrap_marked.specs.Lines.{is_return, line_view, stands_apart, state_view};
 ghost use Rattle.textwrap_marked.specs.Lines.{without_returns};
-ghost use Rattle.textwrap_marked.specs.Signs.{closes_block};
-ghost use Rattle.textwrap_marked.specs.Words.{spaced_view};
+ghost use Rattle.textwrap_marked.specs.Signs.{ArePlain, closes_block};
+ghost use Rattle.textwrap_marked.specs.Words.{spaced_view, spaced_words};
 
 use crate::columns::{depth_of, is_deeper};
 use crate::options::ReflowOptions;
@@ -14,8 +14,8 @@ use crate::prefixes::{
     PrefixEnds, hanging_margin, has_opening, prefix_ends, push_hanging_bullets, spaced_text,
 };
 use crate::signs::{
-    begins_text, closes_block, closes_early, first_word, has_columns, is_key, is_rule, last_white,
-    last_word,
+    begins_text, closes_block, closes_early, first_word, has_column_byte, has_columns, is_key,
+    is_rule, last_white, last_word,
 };
 use crate::states::State;
 use crate::words::{SpacedWord, ends_with, has_byte, spaced_words, split_white, starts_with};
@@ -34,6 +34,9 @@ pub(crate) struct Line<'t> {
     pub hanging: String,
     /// The words of its text.
     pub words: Vec<SpacedWord<'t>>,
+    /// Whether its words have no byte of those of which each word that no paragraph contains has
+    /// one.
+    pub plain: bool,
     /// Whether it is, or begins, in a block comment without a mark of its own here.
     pub starred: bool,
     /// Whether it leaves a block comment open.
@@ -76,12 +79,29 @@ pub(crate) fn read_line<'t>(
     state: &State,
     options: &ReflowOptions<'_>,
 ) -> Result<Line<'t>, AllocError>
-    ensures { IfOk result (λ line. line_view line
+    ensures line { IfOk result (λ line. line_view line
         ≡ line_of options.now (state_view state.now) raw.now fed) }
+    ensures plain { IfOk result (λ line. line.plain ≡ true → ArePlain (line_view line).words) }
 {
     let all = spaced_words(alloc, without_returns(raw))?;
     let ends = prefix_ends(&all, state.in_block, options);
-    line_from(alloc, raw, fed, &all, &ends, state, options)
+    line_from(alloc, raw, fed, all, &ends, state, options)
+}
+
+/// The words from a place on. Those from the first on are not copied.
+fn words_from<'t>(
+    alloc: Global,
+    words: Vec<SpacedWord<'t>>,
+    start: usize,
+) -> Result<Vec<SpacedWord<'t>>, AllocError>
+    requires { start ≤ length words.items }
+    ensures { IfOk result (λ rest. rest.items ≡ drop start words.entry.items) }
+{
+    if start == 0 {
+        Ok(words)
+    } else {
+        Vec::from_slice(alloc, &words[start..])
+    }
 }
 
 /// A line of these words, where this is open.
@@ -89,18 +109,21 @@ fn line_from<'t>(
     alloc: Global,
     raw: &'t str,
     fed: bool,
-    all: &[SpacedWord<'t>],
+    words: Vec<SpacedWord<'t>>,
     ends: &PrefixEnds,
     state: &State,
     options: &ReflowOptions<'_>,
 ) -> Result<Line<'t>, AllocError>
+    requires words { map spaced_view words.items ≡ spaced_words (without_returns raw.now) }
     requires lead { ends.now.lead ≤ ends.now.comment }
     requires comment { ends.now.comment ≤ ends.now.margin }
     requires margin { ends.now.margin ≤ ends.now.text }
-    requires within { ends.now.text ≤ length all.now }
-    ensures { IfOk result (λ line. line_view line ≡ line_from options.now (state_view state.now)
-        raw.now fed (map spaced_view all.now) ends.now) }
+    requires within { ends.now.text ≤ length words.items }
+    ensures line { IfOk result (λ line. line_view line ≡ line_from options.now
+        (state_view state.now) raw.now fed (map spaced_view words.entry.items) ends.now) }
+    ensures plain { IfOk result (λ line. line.plain ≡ true → ArePlain (line_view line).words) }
 {
+    let all = words.as_slice();
     let text = &all[ends.text..];
     let margin = spaced_text(alloc, &all[..ends.margin])?;
     let prefix = spaced_text(alloc, &all[..ends.text])?;
@@ -113,18 +136,20 @@ fn line_from<'t>(
     let field = is_key(first_word(text)) & (ends.margin == ends.text);
     push_hanging_bullets(&mut hanging, &all[ends.margin..ends.text])?;
     let fenced = state.fence.is_some();
-    let by_words = stands_apart(options.justify, in_block, starred, field, text);
+    let plain = !has_column_byte(without_returns(raw).as_bytes());
+    let by_words = stands_apart(options.justify, in_block, starred, field, plain, text);
     let apart = fenced | deeper | state.prompted | by_words;
     let opens_block = stays_open(opening, text);
     let ended = is_ended(in_block, text);
     let chosen = is_chosen(margin.as_str(), options);
-    let words = Vec::from_slice(alloc, text)?;
+    let words = words_from(alloc, words, ends.text)?;
     Ok(Line {
         raw,
         fed,
         prefix,
         hanging,
         words,
+        plain,
         starred,
         opens_block,
         deeper,
@@ -169,12 +194,14 @@ fn stands_apart(
     in_block: bool,
     starred: bool,
     field: bool,
+    plain: bool,
     words: &[SpacedWord<'_>],
 ) -> bool
+    requires { plain ≡ true → ArePlain (map spaced_view words.now) }
     ensures { result ≡ stands_apart justify in_block starred field (map spaced_view words.now) }
 {
     !begins_text(starred, first_word(words))
-        || has_columns(justify, words)
+        || has_columns(justify, plain, words)
         || field && has_byte(b'-', first_word(words).as_bytes())
         || in_block && closes_block(words) && closes_early(words)
 }

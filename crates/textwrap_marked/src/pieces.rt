@@ -9,7 +9,7 @@ ghost use Rattle.textwrap_marked.specs.Words.{spaced_view};
 use crate::lines::Line;
 use crate::options::ReflowOptions;
 use crate::signs::may_go_on;
-use crate::words::{SpacedWord, ends_with};
+use crate::words::SpacedWord;
 use std::alloc::{AllocError, Global};
 
 /// How many bytes a word has with its blank, at a guess, for which room is asked at once.
@@ -50,7 +50,7 @@ impl JoinedWords {
 fn is_kept_together(options: &ReflowOptions<'_>, starred: bool, word: &str, next: &str) -> bool
     ensures { result ≡ is_kept_together options.now starred word.now next.now }
 {
-    ends_with(word, "\\") | !may_go_on(options, starred, next)
+    matches!(word.as_bytes(), [.., b'\\']) | !may_go_on(options, starred, next)
 }
 
 /// Whether a line may end behind a word, before these.

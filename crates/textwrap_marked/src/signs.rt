@@ -2,7 +2,7 @@
 ghost use Rattle.std.specs.Char.{is_ascii_lowercase};
 ghost use Rattle.std.specs.Prelude.{◌≡◌, ◌==◌, ◌||◌, true, false, length, map, chars, slice_get, slice_index};
 ghost use Rattle.std.specs.List.{list_all, list_any};
-ghost use Rattle.textwrap_marked.specs.Signs.{any_contains, begins_text, closes_block};
+ghost use Rattle.textwrap_marked.specs.Signs.{any_contains, ArePlain, begins_text, closes_block};
 ghost use Rattle.textwrap_marked.specs.Signs.{closes_early};
 ghost use Rattle.textwrap_marked.specs.Signs.{ends_early, ends_sentence, first_word, front_of};
 ghost use Rattle.textwrap_marked.specs.Signs.{has_columns, is_closing, is_column_byte, is_column_word};
@@ -113,7 +113,7 @@ pub(crate) fn opens_paragraph(word: &str) -> bool
 pub(crate) fn begins_text(starred: bool, word: &str) -> bool
     ensures { result ≡ begins_text starred word.now }
 {
-    has_letter(word) & !is_sign(word) & !(starred & (first_byte(word) == b'*'))
+    is_usual(word) || has_letter(word) & !is_sign(word) & !(starred & (first_byte(word) == b'*'))
 }
 
 /// Whether a word that begins with a small letter may end so, and is no bullet or key then.
@@ -184,20 +184,30 @@ fn is_wide(word: &SpacedWord<'_>) -> bool
 fn is_gap(justify: bool, word: &SpacedWord<'_>) -> bool
     ensures { result ≡ is_gap justify (spaced_view word.now) }
 {
-    has_byte(b'\t', word.white.as_bytes()) || !justify && is_wide(word)
+    word.white != " " && (has_byte(b'\t', word.white.as_bytes()) || !justify && is_wide(word))
 }
 
-/// Whether one of the bytes is there without which a word is none of those that no paragraph contains.
-fn has_column_byte(bytes: &[u8]) -> bool
+/// Whether one of the bytes is there of which each word that no paragraph contains has one.
+pub(crate) fn has_column_byte(bytes: &[u8]) -> bool
     ensures { result ≡ list_any is_column_byte bytes.now }
 {
-    bytes.iter().any(|byte| is_column_byte(*byte))
+    // Without a stop at the first that is, the processor can look at many bytes at once.
+    let mut any = false;
+    for byte in bytes {
+        any |= is_column_byte(*byte);
+    }
+    any
 }
 
 fn is_column_byte(byte: u8) -> bool
     ensures { result ≡ is_column_byte byte }
 {
-    matches!(byte, b'|' | b'/' | b'#' | b'\r' | b']' | b'<')
+    (byte == b'|')
+        | (byte == b'/')
+        | (byte == b'#')
+        | (byte == b'\r')
+        | (byte == b']')
+        | (byte == b'<')
 }
 
 /// Whether no paragraph contains this word: `|`, a comment behind code, a carriage return, `]:` or
@@ -205,16 +215,20 @@ fn is_column_byte(byte: u8) -> bool
 fn is_column_word(word: &str) -> bool
     ensures { result ≡ is_column_word word.now }
 {
-    has_column_byte(word.as_bytes())
-        && (matches!(word, "|" | "//" | "/*" | "#")
-            || has_byte(b'\r', word.as_bytes())
-            || contains(word, "]:")
-            || contains(word, "<pre"))
+    matches!(word, "|" | "//" | "/*" | "#")
+        || has_byte(b'\r', word.as_bytes())
+        || contains(word, "]:")
+        || contains(word, "<pre")
 }
 
-fn any_column_word(words: &[SpacedWord<'_>]) -> bool
+/// Whether such a word is among these. If they are known to be plain, none is looked at.
+fn any_column_word(plain: bool, words: &[SpacedWord<'_>]) -> bool
+    requires { plain ≡ true → ArePlain (map spaced_view words.now) }
     ensures { result ≡ list_any (λ w. is_column_word w.word) (map spaced_view words.now) }
 {
+    if plain {
+        return false;
+    }
     for word in words {
         if is_column_word(word.word) {
             return true;
@@ -234,12 +248,13 @@ fn any_gap(justify: bool, words: &[SpacedWord<'_>]) -> bool
     false
 }
 
-/// Whether such a word is among these, or a gap between two.
-pub(crate) fn has_columns(justify: bool, words: &[SpacedWord<'_>]) -> bool
+/// Whether such a word is among these, which may be known to be plain, or a gap between two.
+pub(crate) fn has_columns(justify: bool, plain: bool, words: &[SpacedWord<'_>]) -> bool
+    requires { plain ≡ true → ArePlain (map spaced_view words.now) }
     ensures { result ≡ has_columns justify (map spaced_view words.now) }
 {
     let (front, _) = split_last(words);
-    any_column_word(words) || any_gap(justify, front)
+    any_column_word(plain, words) || any_gap(justify, front)
 }
 
 /// Whether a text stands in one of the words.

@@ -1,5 +1,5 @@
 //! What is open at a line.
-ghost use Rattle.std.specs.Prelude.{◌≡◌, map, IfOk};
+ghost use Rattle.std.specs.Prelude.{◌≡◌, map, true, IfOk};
 ghost use Rattle.std.specs.Option.{option_map};
 ghost use Rattle.textwrap_marked.specs.Fences.{fence_view};
 ghost use Rattle.textwrap_marked.specs.Columns.{depth_view};
@@ -7,6 +7,7 @@ ghost use Rattle.textwrap_marked.specs.Lines.{deeper_by, entered, fence_at, firs
 ghost use Rattle.textwrap_marked.specs.Lines.{is_in_block, is_prompt, is_prompted, line_view};
 ghost use Rattle.textwrap_marked.specs.Lines.{new_before};
 ghost use Rattle.textwrap_marked.specs.Lines.{new_by, new_fence, opened_fence, passed, state_view};
+ghost use Rattle.textwrap_marked.specs.Signs.{ArePlain};
 ghost use Rattle.textwrap_marked.specs.Words.{spaced_view};
 
 use crate::columns::{Depth, depth_of, marks_of};
@@ -63,6 +64,7 @@ impl State {
 
     /// What is open behind a line.
     pub fn pass(self, alloc: Global, line: &Line<'_>) -> Result<Self, AllocError>
+        requires { line.now.plain ≡ true → ArePlain (line_view line.now).words }
         ensures { IfOk result (λ state. state_view state
             ≡ passed (state_view self) (line_view line.now)) }
     {
@@ -109,6 +111,7 @@ fn new_fence(
     fence: Option<Fence>,
     line: &Line<'_>,
 ) -> Result<Option<Fence>, AllocError>
+    requires { line.now.plain ≡ true → ArePlain (line_view line.now).words }
     ensures { IfOk result (λ new. option_map fence_view new
         ≡ new_fence (option_map fence_view fence) (line_view line.now)) }
 {
@@ -126,12 +129,13 @@ fn new_fence(
 
 /// The fence that a line opens, if it does.
 fn opened_fence(alloc: Global, line: &Line<'_>) -> Result<Option<Fence>, AllocError>
+    requires { line.now.plain ≡ true → ArePlain (line_view line.now).words }
     ensures { IfOk result (λ new. option_map fence_view new ≡ opened_fence (line_view line.now)) }
 {
     if line.deeper {
         return Ok(None);
     }
-    match opened(&line.words) {
+    match opened(line.plain, &line.words) {
         Some(kind) => {
             let marks = String::from_str(alloc, marks_of(line.hanging.as_str()))?;
             Ok(Some(Fence { marks, kind }))

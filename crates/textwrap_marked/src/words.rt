@@ -33,7 +33,8 @@ pub(crate) fn split_at(text: &str, mark: char) -> (&str, Option<&str>)
 pub(crate) fn is_white(byte: u8) -> bool
     ensures { result ≡ is_white byte }
 {
-    (byte == b' ') | (byte == b'\t')
+    // Most bytes are past both, which one comparison tells.
+    byte <= b' ' && ((byte == b' ') | (byte == b'\t'))
 }
 
 /// The text up to its first white, and what follows.

@@ -1,18 +1,22 @@
 use Rattle.textwrap_marked.proofs.lines.line_from.Goals as goal
 use Rattle.textwrap_base.proofs.Common.{◌≡◌, ℕ, ◌-◌, ◌++◌, ◌==◌, ◌&&◌, ◌||◌, Bool, not, List, map, take, drop}
 use Rattle.textwrap_base.proofs.Common.{slice_range, string_bytes, refl, sym, ap, ◌∙◌, take-map, Option}
-use Rattle.textwrap_base.proofs.Common.{Some, None, option_map}
+use Rattle.textwrap_base.proofs.Common.{Some, None, option_map, arith, cases_Bool, false, length, list_any, true}
+use Rattle.textwrap_base.proofs.Common.{subst}
 use Rattle.std.proofs.lemmas.List.{drop-map, take_rest}
+use Rattle.std.proofs.lemmas.List.Elements.{All-drop}
 use Rattle.std.specs.Prelude.{is_some}
+use Rattle.textwrap_marked.proofs.PlainWords.{words-plain}
 use Rattle.textwrap_marked.specs.Fences.{fence_view}
 use Rattle.textwrap_marked.specs.Lines.{is_chosen, is_deep, is_ended, line_from, stands_apart}
-use Rattle.textwrap_marked.specs.Lines.{state_view, StateText}
+use Rattle.textwrap_marked.specs.Lines.{state_view, StateText, without_returns}
 use Rattle.textwrap_marked.specs.Prefixes.{hanging_bullets, hanging_margin, has_opening}
-use Rattle.textwrap_marked.specs.Signs.{closes_block, first_word, is_key}
-use Rattle.textwrap_marked.specs.Words.{has_byte, spaced_text, SpacedText, spaced_view}
+use Rattle.textwrap_marked.specs.Signs.{ArePlain, closes_block, first_word, is_column_byte, is_key}
+use Rattle.textwrap_marked.specs.Words.{has_byte, spaced_text, SpacedText, spaced_view, spaced_words}
 use Rattle.textwrap_marked.specs.declared.fences.Fence.{Fence}
 use Rattle.textwrap_marked.specs.declared.options.ReflowOptions.{ReflowOptions}
 use Rattle.textwrap_marked.specs.declared.prefixes.PrefixEnds.{PrefixEnds}
+use Rattle.textwrap_marked.specs.declared.words.SpacedWord.{SpacedWord}
 
 is_some-view : (fence : Option Fence) → is_some fence ≡ is_some (option_map fence_view fence)
 is_some-view None = refl
@@ -49,16 +53,45 @@ module _ (options : ReflowOptions) (state : StateText) (raw : List ℕ) (fed : B
   line-is margin prefix form hanging words opening star deeper key opens fenced apart ended chosen
       m p f h w o s d k c n a e x = rw (x, e, a, n, c, k, d, s, o, w, h, f, p, m) refl
 
-pub returns : goal.returns
-returns c =
+-- if the line has none of the bytes, its text is plain
+text-plain : (all : List SpacedWord) (raw bytes : List ℕ) (at : ℕ) (has : Bool)
+    → map spaced_view all ≡ spaced_words (without_returns raw) → bytes ≡ without_returns raw
+    → has ≡ list_any is_column_byte bytes → not has ≡ true → ArePlain (drop at (map spaced_view all))
+text-plain all raw bytes at has words same is plain =
+    let none : has ≡ false = grind (arith, cases_Bool, plain) in
+    subst ArePlain (sym (ap (drop at) words)) (All-drop (λ w. list_any is_column_byte w.word ≡ false) at
+    (spaced_words (without_returns raw)) (words-plain (without_returns raw)
+    (ap (list_any is_column_byte) (sym same) ∙ sym is ∙ none)))
+
+pub stands_apart-by_words-requires : goal.stands_apart-by_words-requires
+stands_apart-by_words-requires c = λ plain.
+    let all = c.as_slice-all.result.now in
+    let at = c.args.ends.now.text in
+    let text : map spaced_view (take (length all - at) (drop at all)) ≡ drop at (map spaced_view all) =
+    ap (map spaced_view) (take_rest all at) ∙ sym (drop-map spaced_view at all) in
+    subst ArePlain (sym text) (text-plain all c.args.raw.now _ at _ (ap (map spaced_view) c.as_slice-all.ensures.value
+    ∙ c.requires.words) (c.as_bytes-2.ensures.value ∙ c.without_returns.ensures) c.has_column_byte-plain.ensures plain)
+
+pub returns-clause-plain : goal.returns-clause-plain
+returns-clause-plain c = λ plain.
+    let all = c.args.words.items in
+    let at = c.args.ends.now.text in
+    let text : map spaced_view c.in_ok-words.words.items ≡ drop at (map spaced_view all) =
+    ap (map spaced_view) c.in_ok-words.ensures ∙ sym (drop-map spaced_view at all) in
+    subst ArePlain (sym text) (text-plain all c.args.raw.now _ at _ c.requires.words
+    (c.as_bytes-2.ensures.value ∙ c.without_returns.ensures) c.has_column_byte-plain.ensures plain)
+
+pub returns-clause-line : goal.returns-clause-line
+returns-clause-line c =
     let options = c.args.options.now in
     let state = state_view c.args.state.now in
-    let all = c.args.all.now in
+    let all = c.as_slice-all.result.now in
+    let whole : all ≡ c.args.words.items = c.as_slice-all.ensures.value in
     let ends = c.args.ends.now in
+    let left = c.in_ok-words.ensures ∙ ap (drop ends.text) (sym whole) in
     let text : map spaced_view c.in_ok-words.words.items ≡ drop ends.text (map spaced_view all) =
-    ap (map spaced_view) (c.in_ok-words.ensures.items ∙ take_rest all ends.text)
-    ∙ sym (drop-map spaced_view ends.text all) in
-    let same = ap (map spaced_view) (sym c.in_ok-words.ensures.items) in
+    ap (map spaced_view) left ∙ sym (drop-map spaced_view ends.text all) in
+    let same = ap (map spaced_view) (take_rest all ends.text ∙ sym left) in
     let wide = ends.text - ends.margin in
     let cut : map spaced_view (slice_range all ends.margin ends.text)
     ≡ slice_range (map spaced_view all) ends.margin ends.text =
@@ -83,3 +116,4 @@ returns c =
     (c.stands_apart-by_words.ensures ∙ ap (stands_apart _ _ _ _) same)
     (c.is_ended-ended.ensures ∙ ap (is_ended _) same)
     (c.is_chosen-chosen.ensures ∙ ap (is_chosen options) c.as_str.ensures.value)
+    ∙ ap (λ l. line_from options state c.args.raw.now c.args.fed (map spaced_view l) ends) whole

@@ -12,4 +12,4 @@ returns-clause-lines c =
     ∙ reads-line options state (state_view c.enter-state.result) (state_view c.in_ok-state.state)
     c.split_at.result.0.now (parts_left 10 c.split_at.result.1) c.is_some.result
     (line_view c.in_ok-line.line) (c.enter-state.ensures ∙ ap (entered state) c.without_returns.ensures)
-    (c.is_some.ensures ∙ fed-is c.split_at.result.1) c.in_ok-line.ensures c.in_ok-state.ensures
+    (c.is_some.ensures ∙ fed-is c.split_at.result.1) c.in_ok-line.ensures.line c.in_ok-state.ensures

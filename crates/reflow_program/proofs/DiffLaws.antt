@@ -1,10 +1,10 @@
 -- What diffs do: their hunks patch the old text into the new one, and turned round the new one into the old.
-use Rattle.std.proofs.Common.{◌≡◌, ◌∙◌, ap, ap₂, refl, sym, ℕ, ◌+◌, ◌-◌, arith, Bool, true, false}
+use Rattle.std.proofs.Common.{◌≡◌, ◌∙◌, ap, ap₂, refl, sym, ℕ, ◌+◌, ◌-◌, arith, true, false}
 use Rattle.std.proofs.Common.{List, [], ◌∷◌, ◌++◌, length, take, drop, map, cond}
 use Rattle.std.specs.Prelude.{◌==◌}
 use Rattle.std.specs.List.{flat_map, onto_first}
-use Rattle.std.proofs.lemmas.List.{append_assoc, drop-drop, drop_at, take_at, length-append}
-use Rattle.reflow_program.specs.Differences.{HunkText, IsDiff, Patches, SignedText, new_end, news}
+use Rattle.std.proofs.lemmas.List.{append_assoc, drop_at, take_at, length-append}
+use Rattle.reflow_program.specs.Differences.{HunkText, Patches, SignedText, new_end, news}
 use Rattle.reflow_program.specs.Differences.{old_end, olds, signed_text, text_lines}
 use Rattle.reflow_program.specs.Laws.{DiffsLeadBack, DiffsLeadOn, TextsAreTheirLines, patched, turned}
 use Rattle.reflow_program.specs.Laws.{turned_line}

@@ -1,6 +1,6 @@
 -- The lines of a text, and lines with signs: those that the old and the new text have, and their changes.
 use Rattle.std.proofs.Math.Bool.{beq}
-use Rattle.std.proofs.Common.{◌≡◌, ◌≢◌, ◌∙◌, ap, ap₂, refl, sym, subst, ℕ, zero, suc, ◌+◌, ◌-◌, ◌<◌, ◌≤◌, arith, Bool, true, false}
+use Rattle.std.proofs.Common.{◌≡◌, ◌≢◌, ◌∙◌, ap, ap₂, refl, sym, ℕ, zero, suc, ◌+◌, ◌-◌, ◌<◌, ◌≤◌, arith, Bool, true, false}
 use Rattle.std.proofs.Common.{List, [], ◌∷◌, ◌++◌, length, take, drop, map, get_or, ne_eqb, add-one, Bor, IsTrue, cond, not}
 use Rattle.std.proofs.lemmas.Slice.Eq.{bytes_eq-Decides}
 use Rattle.std.specs.Str.{bytes_eq}
@@ -10,8 +10,7 @@ use Rattle.std.proofs.lemmas.List.Sums.{count_by-le-length, length-filter}
 use Rattle.std.proofs.Math.Seq.{take-add}
 use Rattle.std.proofs.lemmas.List.Elements.{filter-append}
 use Rattle.std.specs.Prelude.{count_by, filter}
-use Rattle.std.specs.List.{onto_first}
-use Rattle.reflow_program.specs.Differences.{IsNear, IsNearIf, SignedText, is_change, is_new, is_old, news, olds, sign_at, signed_text}
+use Rattle.reflow_program.specs.Differences.{IsNearIf, SignedText, is_change, is_new, is_old, news, olds, sign_at, signed_text}
 use Rattle.reflow_program.specs.Differences.{signed_view, text_lines}
 use Rattle.reflow_program.specs.declared.differences.Sign.{Sign}
 use Rattle.reflow_program.specs.declared.differences.Sign.TheVariants.{Kept, Removed, Added}

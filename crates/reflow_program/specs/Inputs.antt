@@ -10,7 +10,7 @@ use Rattle.reflow_program.specs.Differences.{IsDiffText}
 use Rattle.reflow_program.specs.Files.{Becomes, KnownFiles, SameFiles}
 use Rattle.reflow_program.specs.Layout.{IsLaidOut, has_marks}
 use Rattle.reflow_program.specs.declared.faults.Fault.{Fault}
-use Rattle.reflow_program.specs.declared.faults.Fault.TheVariants.{Read, NotUtf8, Memory, Write}
+use Rattle.reflow_program.specs.declared.faults.Fault.TheVariants.{NotUtf8, Memory, Write}
 use Rattle.reflow_program.specs.declared.inputs.Reflowed.{Reflowed}
 use Rattle.reflow_program.specs.declared.inputs.Treated.{Treated}
 use Rattle.reflow_program.specs.declared.layout.LaidOut.{LaidOut}

@@ -1,4 +1,4 @@
-use Rattle.std.proofs.Common.{◌≡◌, ◌∙◌, ap, arith, below_more, false, length, map, sym, true, ◌<◌, ◌≤◌, ℕ}
+use Rattle.std.proofs.Common.{◌≡◌, ◌∙◌, ap, arith, below_more, length, map, sym, ◌<◌}
 use Rattle.std.proofs.lemmas.List.{length-map}
 use Rattle.reflow_program.specs.Differences.{is_change, signed_view}
 use Rattle.reflow_program.proofs.DiffLines.{change-within, sign_at-view}

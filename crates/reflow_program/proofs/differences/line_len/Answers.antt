@@ -1,4 +1,4 @@
-use Rattle.std.proofs.Common.{◌≡◌, ◌∙◌, ◌∷◌, ap₂, rules, refl, arith, length, sym, ◌<◌, ℕ}
+use Rattle.std.proofs.Common.{◌∙◌, ◌∷◌, ap₂, rules, arith, length, sym}
 use Rattle.std.proofs.lemmas.List.{drop_all, take_all}
 use Rattle.reflow_program.specs.Differences.{text_lines}
 use Rattle.reflow_program.proofs.DiffLines.{text_lines-first, text_lines-one}

@@ -1,7 +1,7 @@
 use Rattle.std.proofs.Common.{below_more}
 use Rattle.reflow_program.specs.Differences.{signed_view}
 use Rattle.std.proofs.Common.{map}
-use Rattle.reflow_program.proofs.DiffLines.{IsNearIf-other, IsNearIf-same}
+use Rattle.reflow_program.proofs.DiffLines.{IsNearIf-other}
 use Rattle.reflow_program.proofs.differences.next_place.Goals as goal
 
 pub loop-at-preserved : goal.loop-at-preserved

@@ -1,5 +1,4 @@
-use Rattle.std.proofs.Common.{◌≡◌, ◌∙◌, ◌+◌, ◌++◌, ap, ap₂, drop, map, refl, take, sym, subst}
-use Rattle.std.proofs.lemmas.List.{take-map}
+use Rattle.std.proofs.Common.{◌∙◌, ◌++◌, ap, map}
 use Rattle.reflow_program.specs.Differences.{news, olds, signed_view}
 use Rattle.reflow_program.proofs.DiffLines.{news-grown, olds-grown, taken-lines, taken-same}
 use Rattle.reflow_program.proofs.differences.push_next.Goals as goal

@@ -14,7 +14,6 @@ ghost use Rattle.textwrap_lines.specs.Printable.{IsFirstLine, NoCutBetween, is_c
 ghost use Rattle.textwrap_lines.specs.PieceLines.{lines_left, no_pieces};
 
 use crate::frame::Frame;
-use crate::layout::next_indent;
 use crate::line_bounds::{LineBounds, push_between};
 use crate::line_sinks::LineSink;
 use crate::printable_cuts::PrintableCuts;
@@ -51,7 +50,7 @@ pub(crate) fn push_printable_lines<'t, A: Allocator + Copy, C: PrintableCuts, S:
     let width = frame.later_columns;
     let text = paragraph.as_bytes();
     let mut at = start;
-    let mut has_line = frame.is_later;
+    let mut indent = frame.indent;
     while at < text.len() {
         let (next, goes_on) = line_end(text, at, width, cuts, splitter, layout.break_words);
         let bounds = LineBounds {
@@ -59,10 +58,9 @@ pub(crate) fn push_printable_lines<'t, A: Allocator + Copy, C: PrintableCuts, S:
             word_end: word_end(text, at, next, goes_on),
             end: next,
         };
-        let indent = next_indent(layout, has_line);
         push_between(alloc, paragraph, bounds, layout, indent, "", lines)?;
         at = next;
-        has_line = true;
+        indent = layout.subsequent_indent;
     }
     Ok(())
 }

@@ -1,5 +1,5 @@
 use Rattle.textwrap_lines.proofs.printable.push_printable_lines.Goals as goal
-use Rattle.textwrap_base.proofs.Common.{◌≡◌, ◌≤◌, length, refl, ◌∙◌, subst}
+use Rattle.textwrap_base.proofs.Common.{◌≡◌, ◌≤◌, length, refl, ◌∙◌, subst, true}
 use Rattle.textwrap_base.proofs.Common.{slice_range}
 use Rattle.textwrap_words.proofs.Common.{as_splitter}
 use Rattle.textwrap_lines.proofs.Common.{is_cut_by, IsFirstLine, line_slice, frame_settings}
@@ -12,9 +12,11 @@ use Rattle.textwrap_lines.proofs.printable.push_printable_lines.Invariants.{line
 pub loop-at-init : goal.loop-at-init
 loop-at-init g c = record {
   within = c.requires.start;
-  taken = HasTaken-start (lines_after (frame_settings c.args.frame.now)
-      (is_cut_by (g.C.PrintableCuts.cuts c.args.cuts.now c.args.paragraph.now)
-      (as_splitter c.args.splitter) c.args.paragraph.now) c.args.paragraph.now c.args.start c.args.frame.now.is_later) c.args.lines.now;
+  taken = (
+    c.args.frame.now.is_later,
+    c.args.frame.now.indented,
+    HasTaken-start _ c.args.lines.now,
+  );
   name = refl;
 }
 
@@ -44,12 +46,17 @@ loop-at-preserved g c =
     subst (λ t. slice_range t at word_end ≡ line_slice t at next goes_on) bytes
     c.word_end.ensures.slice in
     let all = lines_after settings test text c.args.start c.args.frame.now.is_later in
-    let step = lines-step settings text test limit width at next word_end goes_on
-    c.loop-at.has_line c.requires.printable c.line_end-next.ensures.some within slice first in
+    let (is_later, indented, taken) = so_far.taken in
+    let step = lines-step settings text test limit width at next word_end goes_on is_later
+    c.requires.printable c.line_end-next.ensures.some within slice first in
     record {
       within = within;
-      taken = HasTaken-next all c.args.lines.now c.loop-at.lines c.push_between.new.lines _ _
-          (subst (HasTaken _ all c.args.lines.now c.loop-at.lines) step so_far.taken)
-          (rw c.next_indent-indent.ensures at c.in_ok-push_between.ensures.took);
+      taken = (
+        true,
+        refl,
+        HasTaken-next all c.args.lines.now c.loop-at.lines c.push_between.new.lines _ _
+            (subst (HasTaken _ all c.args.lines.now c.loop-at.lines) step taken)
+            (rw indented at c.in_ok-push_between.ensures.took),
+      );
       name = c.push_between.ensures.name ∙ so_far.name;
     }

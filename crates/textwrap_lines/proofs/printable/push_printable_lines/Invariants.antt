@@ -2,7 +2,7 @@ use Rattle.textwrap_lines.proofs.printable.push_printable_lines.Given as goal
 use Rattle.textwrap_base.proofs.Common.{◌≡◌, ◌-◌, ◌≤◌, ℕ, Bool, List, length}
 use Rattle.textwrap_words.proofs.Common.{as_splitter}
 use Rattle.textwrap_lines.proofs.Common.{is_cut_by, Settings, frame_settings, later_width, CutLine}
-use Rattle.textwrap_lines.proofs.Common.{pieces_from}
+use Rattle.textwrap_lines.proofs.Common.{indent_of, pieces_from}
 use Rattle.textwrap_lines.specs.Layout.{break_limit}
 use Rattle.textwrap_lines.proofs.PrintableTexts.Lines.{lines_at}
 use Rattle.textwrap_lines.proofs.Text.Sinks.{HasTaken}
@@ -17,11 +17,12 @@ lines_after settings test text at is_later =
 abbrev pub invariant-loop-at : goal.invariant-loop-at
 invariant-loop-at g l = record {
   within : l.at ≤ length l.paragraph;
-  taken : HasTaken g.S.LineSink.holds (lines_after (frame_settings l.frame)
+  taken : (is_later : Bool) × (l.indent ≡ indent_of (frame_settings l.frame) is_later)
+      × HasTaken g.S.LineSink.holds (lines_after (frame_settings l.frame)
       (is_cut_by (g.C.PrintableCuts.cuts l.cuts l.paragraph) (as_splitter l.splitter) l.paragraph)
       l.paragraph l.start l.frame.is_later) l.initial.lines l.lines (lines_after (frame_settings l.frame)
       (is_cut_by (g.C.PrintableCuts.cuts l.cuts l.paragraph) (as_splitter l.splitter) l.paragraph)
-      l.paragraph l.at l.has_line);
+      l.paragraph l.at is_later);
   name : g.S.LineSink.name l.lines ≡ g.S.LineSink.name l.initial.lines;
 }
 

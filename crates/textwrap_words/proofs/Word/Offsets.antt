@@ -21,7 +21,9 @@ use Rattle.textwrap_base.proofs.Lists.Elements.{rising-increasing, increasing-ri
 use Rattle.textwrap_base.proofs.Lists.Elements.{rising-in_order, same-members, increasing-le}
 use Rattle.std.specs.Str.{chars}
 use Rattle.std.specs.Prelude.{◌&&◌}
-use Rattle.textwrap_words.specs.Characters.{characters_from, characters_of}
+use Rattle.textwrap_words.specs.Characters.{characters_from, characters_of, shown_text}
+use Rattle.textwrap_words.proofs.Units.Characters.{AreAhead, ahead-next, ahead-start, shown-all}
+use Rattle.textwrap_words.proofs.Units.Characters.{shown-next}
 use Rattle.textwrap_words.specs.declared.characters.Character.{Character}
 use Rattle.std.proofs.lemmas.Bool.{not_from_false}
 use Rattle.textwrap_words.specs.WordOffsets.{IsCutAt, AreCutsAt, AreWordsAt, words_at}
@@ -292,14 +294,8 @@ ends-among s at shown (c ∷ cs) =
           (sym (rw f at (ends-step s at shown c cs)))
     ]
 
-pub cuts-all : (offsets line : List ℕ)
-    → cuts_among offsets (length (stripped line)) (ends_among 0 (characters_of line))
-    ≡ cuts_at offsets line
-cuts-all offsets line =
-    ap (cuts_among offsets (length (stripped line))) (ends-among Text 0 0 (chars line))
-
--- a character is read: the cut after it is found, if there is one
-pub cuts-next : (offsets : List ℕ) (total shown : ℕ) (c : Character) (left : List Character)
+-- the cuts so far, and those among the ends from this character on
+cuts-next : (offsets : List ℕ) (total shown : ℕ) (c : Character) (left : List Character)
     (cuts : List ℕ) (visible passes : Bool) → c.is_visible ≡ visible
     → is_cut_after offsets total c.ch (shown + length (encode c.ch)) ≡ passes
     → cond (visible && passes) (cuts ++ (c.at + length (encode c.ch)) ∷ []) cuts
@@ -310,3 +306,33 @@ cuts-next offsets total shown c left cuts true true see is = rw (see, is) (appen
     (cuts_among offsets total (ends_among (shown + length (encode c.ch)) left)))
 cuts-next offsets total shown c left cuts true false see is = rw (see, is) refl
 cuts-next offsets total shown c left cuts false passes see is = rw see refl
+
+-- the visible bytes so far and those of the characters to come are all, and so are the cuts
+pub record IsFinding (offsets line : List ℕ) (left : List Character) (shown : ℕ) (cuts : List ℕ)
+    : Type 0 where
+  pub ahead : AreAhead line left
+  pub bytes : shown + length (shown_text left) ≡ length (stripped line)
+  pub found : cuts ++ cuts_among offsets (length (stripped line)) (ends_among shown left)
+      ≡ cuts_at offsets line
+
+module _ (offsets line : List ℕ) where
+  pub IsFinding-start : IsUtf8 line → IsFinding offsets line (characters_of line) 0 []
+  IsFinding-start utf8 = record {
+    ahead = ahead-start line utf8;
+    bytes = omega (arith, ap length (shown-all line));
+    found = ap (cuts_among offsets (length (stripped line))) (ends-among Text 0 0 (chars line));
+  }
+
+  -- a character is read: the cut after it is found, if there is one
+  pub IsFinding-step : (c : Character) (left : List Character) (shown : ℕ) (cuts : List ℕ)
+      (visible passes : Bool) → IsFinding offsets line (c ∷ left) shown cuts
+      → c.is_visible ≡ visible
+      → is_cut_after offsets (length (stripped line)) c.ch (shown + length (encode c.ch)) ≡ passes
+      → IsFinding offsets line left (cond visible (shown + length (encode c.ch)) shown)
+      (cond (visible && passes) (cuts ++ (c.at + length (encode c.ch)) ∷ []) cuts)
+  IsFinding-step c left shown cuts visible passes h see is = record {
+    ahead = (ahead-next line c left h.ahead).after;
+    bytes = grind (arith, cases_Bool, h.bytes, rw see at (shown-next c left));
+    found = cuts-next offsets (length (stripped line)) shown c left cuts visible passes see is
+        ∙ h.found;
+  }

@@ -28,8 +28,7 @@ use textwrap::words::{BreakApart, Word, display_width};
 use textwrap_lines::inner::paragraph_pieces;
 use textwrap_plain::placed::paragraph_pieces as paragraph_pieces_by;
 use textwrap_plain::{PlainOptions, PlainSeparator, PlainSplitter};
-use textwrap_words::escapes::State;
-use textwrap_words::inner::BuiltInSplitter;
+use textwrap_words::inner::{BuiltInSplitter, Characters};
 
 /// Where a word stands, or a part of one.
 #[repr(C)]
@@ -164,16 +163,13 @@ pub fn textwrap_find_words_at(
 fn are_offsets(line: &str, offsets: &[usize]) -> bool
     ensures { result ≡ true ↔ AreOffsets (stripped line.now) offsets.now }
 {
-    let mut state = State::Text;
     let mut shown = 0;
     let mut left = offsets_past(shown, offsets);
-    for ch in line.chars() {
-        let (next, is_visible) = state.step(ch);
-        if is_visible {
-            shown += ch.len_utf8();
+    for character in Characters::of(line) {
+        if character.is_visible {
+            shown += character.ch.len_utf8();
             left = offsets_past(shown, left);
         }
-        state = next;
     }
     left.is_empty()
 }

@@ -2,7 +2,7 @@
 -- and past it.
 use Rattle.textwrap_unicode.proofs.Common.{if◌then◌else◌, breaks_after, takes_no_mark, number_first}
 use Rattle.textwrap_unicode.proofs.Common.{◌≡◌, first_class, takes_marks, numbers_rule, breaks_from}
-use Rattle.textwrap_unicode.proofs.Common.{cases_Bool, is_empty, visible_in, Alphabetic, Prohibited}
+use Rattle.textwrap_unicode.proofs.Common.{cases_Bool, is_empty, Alphabetic, Prohibited}
 use Rattle.textwrap_unicode.proofs.Common.{ℕ, before_of, with_unit, is_number, read-next}
 use Rattle.textwrap_unicode.proofs.Common.{nothing, is_mark, class_of, unit_of, decide_by, break_at}
 use Rattle.textwrap_unicode.proofs.Common.{false, length, get_or, IsUtf8, Numbers, ByPairs, Verdict}
@@ -11,10 +11,8 @@ use Rattle.textwrap_unicode.proofs.Common.{not, ◌∷◌, refl, sym, ◌∙◌,
 use Rattle.textwrap_unicode.proofs.Common.{ap, ◌<◌, and}
 use Rattle.std.proofs.Math.Bool.{and_assoc}
 use Rattle.std.proofs.lemmas.List.{at_drop_more}
-use Rattle.textwrap_words.specs.declared.escapes.State.{State}
-use Rattle.textwrap_words.proofs.Units.Reading.{visible-step, read-ahead, read-none, read-start}
+use Rattle.textwrap_words.proofs.Units.Reading.{read-ahead, read-none, read-start}
 use Rattle.textwrap_words.proofs.Units.Reading.{IsRead, read-all}
-use Rattle.textwrap_words.specs.Escapes.{next_of, shows}
 use Rattle.textwrap_base.proofs.Common.{chars-nil}
 use Rattle.textwrap_unicode.specs.declared.breaks.LineBreak.{LineBreak}
 use Rattle.textwrap_unicode.specs.WordStarts.{plain_letter}
@@ -45,22 +43,6 @@ pub number-step : (cs : List ℕ) (n c : ℕ) → (n < length cs) × (c ≡ get_
     ≡ (if is_mark (class_of c) then number_first (drop (n + 1) cs) else is_number (class_of c))
 number-step cs n c here = at_drop_more number_first cs n c here.0
     ∙ ap (λ x. number_first (x ∷ drop (n + 1) cs)) (sym here.1)
-
--- the same among the visible characters
-pub shown-step : (state : State) (cs : List ℕ) (n c : ℕ) → (n < length cs) × (c ≡ get_or cs n c)
-    → number_first (visible_in state (drop n cs))
-    ≡ (let rest = visible_in (next_of state c) (drop (n + 1) cs) in
-    if shows state c then
-    if is_mark (class_of c) then number_first rest else is_number (class_of c)
-    else number_first rest)
-shown-step state cs n c here =
-    let rest = visible_in (next_of state c) (drop (n + 1) cs) in
-    at_drop_more (λ ls. number_first (visible_in state ls)) cs n c here.0
-    ∙ ap (λ x. number_first (visible_in state (x ∷ drop (n + 1) cs))) (sym here.1)
-    ∙ ap number_first (visible-step state c (drop (n + 1) cs))
-    ∙ elim (shows state c) as (λ b. number_first (if b then c ∷ rest else rest)
-    ≡ (if b then if is_mark (class_of c) then number_first rest else is_number (class_of c)
-    else number_first rest)) [ true ↦ refl | false ↦ refl ]
 
 -- ---- the breaks that the iterator has still to give
 

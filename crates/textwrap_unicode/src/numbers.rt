@@ -8,6 +8,7 @@ use crate::class_sets::{is_mark, is_number};
 use crate::classes::{Unit, class_of};
 use crate::rules::{Verdict, asks_behind, decide, decide_by_expression};
 use textwrap_words::escapes::State;
+use textwrap_words::inner::Characters;
 
 /// How numbers are kept together: the two forms of LB25 in the annex at Unicode 15.0.
 #[derive(Clone, Copy, Debug, PartialEq, Eq)]
@@ -84,16 +85,13 @@ fn number_first(text: &str) -> bool
 fn shown_number_first(state: State, text: &str) -> bool
     ensures { result ≡ number_first (visible_in state (chars text.now)) }
 {
-    let mut state = state;
-    for c in text.chars() {
-        let (next, is_visible) = state.step(c);
-        if is_visible {
-            let class = class_of(c);
+    for character in Characters::read_on(state, text) {
+        if character.is_visible {
+            let class = class_of(character.ch);
             if !is_mark(class) {
                 return is_number(class);
             }
         }
-        state = next;
     }
     false
 }

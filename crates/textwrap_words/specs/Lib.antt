@@ -1,5 +1,7 @@
 pub mod Blanks
 pub mod Breaking
+pub mod Characters
+pub mod CharactersLeft
 pub mod CutPiecesLeft
 pub mod Cuts
 pub mod Escapes

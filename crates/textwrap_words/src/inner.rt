@@ -2,7 +2,7 @@
 ghost use Rattle.std.specs.Prelude.{◌≡◌};
 ghost use Rattle.textwrap_words.specs.Words.{words_of};
 
-pub use crate::characters::columns;
+pub use crate::characters::{Character, Characters, columns};
 pub use crate::cut_pieces::CutPieces;
 pub use crate::lent_text::LentText;
 pub use crate::pieces::{BuiltInSplitter, Piece, Pieces, next_piece};

@@ -3,7 +3,12 @@ use Rattle.textwrap_base.proofs.Common.{◌≡◌, ℕ, ◌+◌, ◌<◌, ◌↔
 use Rattle.textwrap_base.proofs.Common.{sym, ap, subst, arith, inl, inr, cases_Bool, eqb, eqb-true}
 use Rattle.textwrap_base.proofs.Common.{eqb-false, All-nil, All-head, IsUtf8, IsUtf8-drop}
 use Rattle.textwrap_base.proofs.Common.{IsCharBoundary, IsCharBoundary-start, IsUtf8-past_char}
-use Rattle.textwrap_base.proofs.Common.{encode_utf8_all, length-drop}
+use Rattle.textwrap_base.proofs.Common.{encode_utf8_all, encodes-chars, length-drop}
+use Rattle.std.specs.Str.{chars}
+use Rattle.textwrap_words.proofs.Common.{stripped, units}
+use Rattle.textwrap_words.proofs.Units.Texts.{units-tile}
+use Rattle.textwrap_words.specs.Units.{visible}
+use Rattle.textwrap_unicode.proofs.CutLemmas.{visible-utf8}
 use Rattle.std.proofs.lemmas.Str.{IsCharBoundary-from_drop}
 use lib.Utf8.{encode}
 use Rattle.textwrap_base.proofs.Texts.{some-bytes}
@@ -118,6 +123,20 @@ module _ (text : List ℕ) (utf8 : IsUtf8 text) where
               offsets-first text os o are.0.1 are.1
         ]
 
-    pub offsets-passed : (offsets : List ℕ)
+    offsets-passed : (offsets : List ℕ)
         → (left_after 0 cs (offsets_past 0 offsets) ≡ []) ↔ AreOffsets text offsets
     offsets-passed offsets = (left-offsets offsets, offsets-left offsets)
+
+-- ---- the offsets of a line, by its visible characters
+
+stripped-utf8 : (line : List ℕ) → IsUtf8 line → IsUtf8 (stripped line)
+stripped-utf8 line utf8 =
+    visible-utf8 (units (chars line))
+    (subst (λ cs. IsUtf8 (encode_utf8_all cs)) (sym (units-tile (chars line)))
+    (subst IsUtf8 (sym (encodes-chars line utf8)) utf8))
+
+pub offsets-read : (line offsets : List ℕ) → IsUtf8 line
+    → (left_after 0 (visible (chars line)) (offsets_past 0 offsets) ≡ [])
+    ↔ AreOffsets (stripped line) offsets
+offsets-read line offsets utf8 =
+    offsets-passed (stripped line) (stripped-utf8 line utf8) (visible (chars line)) refl offsets

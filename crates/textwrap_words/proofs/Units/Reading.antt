@@ -2,7 +2,7 @@
 -- come.
 use Rattle.textwrap_base.proofs.Common.{inl, inr, ◌≡◌, ◌≢◌, suc, cond, List, refl, ◌++◌, drop, zero}
 use Rattle.textwrap_base.proofs.Common.{ℕ, eqb, ◌∷◌, ◌+◌, ◌≤◌, [], sym, ◌∙◌, ◌<◌, All, map}
-use Rattle.textwrap_base.proofs.Common.{Bool, length-drop, append_assoc, length-encode}
+use Rattle.textwrap_base.proofs.Common.{Bool, length-drop, length-encode}
 use Rattle.textwrap_base.proofs.Common.{true, false, arith, subst, IsUtf8, get_or, sum_by, ne_eqb}
 use Rattle.textwrap_base.proofs.Common.{ap, drop_at, All-nil, zero-add, IsAscii, cases_lt, cases_eq}
 use Rattle.textwrap_base.proofs.Common.{flat_map, encode_utf8_all, chars_past_char, nil_from_length}
@@ -20,7 +20,6 @@ use Rattle.textwrap_words.specs.declared.escapes.State.TheVariants.{Text, Escape
 use Rattle.std.specs.Prelude.{chars, encode_utf8}
 use Rattle.std.proofs.lemmas.Str.{IsCharBoundary-from_drop, inside_one, encode_ascii}
 use lib.Utf8.{encode, encodes}
-use Rattle.std.proofs.lemmas.List.{at_drop_more}
 use Rattle.unicode_width.specs.Width.{char_width, alone, of_kind}
 use Rattle.unicode_width.proofs.Rules.{width_or_zero-le}
 use Rattle.unicode_width.specs.Kind.{kind}
@@ -120,26 +119,6 @@ module _ {text : List ℕ} {at : ℕ} {ahead : List ℕ} (h : IsRead text at ahe
           boundary = IsCharBoundary-from_drop text end (omega (arith, past, read-room))
               (subst IsUtf8 (sym place) utf8);
         }
-
--- ---- lemmas on the text of the visible characters
-
--- the text of the visible ones among the characters to come
-abbrev pub text_in : State → List ℕ → List ℕ
-text_in state cs = encode_utf8_all (visible_in state cs)
-
--- a step over the character at place n moves it from there to the text so far, if it is visible
-pub text_in-step : (state : State) (text : List ℕ) (cs : List ℕ) (n c : ℕ)
-    → (n < length cs) × (c ≡ get_or cs n c)
-    → cond (shows state c) (text ++ encode c) text ++ text_in (next_of state c) (drop (n + 1) cs)
-    ≡ text ++ text_in state (drop n cs)
-text_in-step state text cs n c here =
-    let rest = drop (n + 1) cs in
-    let shown = at_drop_more (text_in state) cs n c here.0 ∙ ap (λ x. text_in state (x ∷ rest)) (sym here.1)
-    ∙ ap encode_utf8_all (visible-step state c rest) in
-    elim (cases_Bool (shows state c)) [
-      | inl t ↦ rw t (append_assoc text (encode c) _ ∙ ap (λ l. text ++ l) (sym (rw t at shown)))
-      | inr f ↦ rw f (ap (λ l. text ++ l) (sym (rw f at shown)))
-    ]
 
 -- ---- no escape character is left
 
@@ -322,10 +301,6 @@ module _ (text : List ℕ) where
       columns_in-step state c (chars after),
     );
   }
-
-  pub measured-le : (place : ℕ) (rest : List ℕ) (state : State) (width : ℕ) → IsUtf8 text
-      → IsMeasured text place rest state width → width ≤ length text
-  measured-le place rest state width utf8 h = omega (arith, h.columns, text_width-le text utf8)
 
   -- it goes over printable ASCII
   pub measured-printable : IsUtf8 text → (n : ℕ) → n ≤ length text

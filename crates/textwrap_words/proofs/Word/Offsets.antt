@@ -1,6 +1,6 @@
 -- Offsets of the visible text of a line, and the cuts of the line there.
 use Rattle.textwrap_base.proofs.Common.{inl, inr, ◌≡◌, ◌≢◌, ◌+◌, eqb, ◌∷◌, ◌++◌, ◌∙◌, ◌↔◌, ◌<◌, map}
-use Rattle.textwrap_base.proofs.Common.{cases_Bool, flat_map, All-weaker, append-nil, append_assoc}
+use Rattle.textwrap_base.proofs.Common.{cases_Bool, flat_map, All-weaker, append_assoc}
 use Rattle.textwrap_base.proofs.Common.{ℕ, [], sym, All, ◌≤◌}
 use Rattle.textwrap_base.proofs.Common.{Bool, cond, List, take, refl, ap, true, subst, rules, false}
 use Rattle.textwrap_base.proofs.Common.{length, arith, Contains, zero-add, lt-ltb, All-nil, IsUtf8}
@@ -13,14 +13,18 @@ use Rattle.textwrap_words.proofs.Common.{Visible, units, WordText, word_of, cuts
 use lib.Utf8.{encode}
 use Rattle.textwrap_words.specs.declared.escapes.State.{State}
 use Rattle.textwrap_words.specs.declared.escapes.State.TheVariants.{Text, Escape, Control, Command}
-use Rattle.textwrap_words.proofs.Units.Reading.{taken-step, units_in, IsRead, read-ahead, read-next}
-use Rattle.textwrap_words.proofs.Units.Reading.{read-none}
+use Rattle.textwrap_words.proofs.Units.Reading.{taken-step, units_in}
 use Rattle.textwrap_base.proofs.Texts.{past-one, one-text, utf8-back}
 use Rattle.textwrap_base.proofs.Lists.Elements.{contains-nil, contains-cases, contains-later}
 use Rattle.textwrap_base.proofs.Lists.Elements.{contains-here, IsRising, any-contains, contains-any}
 use Rattle.textwrap_base.proofs.Lists.Elements.{rising-increasing, increasing-rising}
 use Rattle.textwrap_base.proofs.Lists.Elements.{rising-in_order, same-members, increasing-le}
 use Rattle.std.specs.Str.{chars}
+use Rattle.std.specs.Prelude.{◌&&◌}
+use Rattle.textwrap_words.specs.Characters.{characters_from, characters_of, shown_text}
+use Rattle.textwrap_words.proofs.Units.Characters.{AreAhead, ahead-next, ahead-start, shown-all}
+use Rattle.textwrap_words.proofs.Units.Characters.{shown-next}
+use Rattle.textwrap_words.specs.declared.characters.Character.{Character}
 use Rattle.std.proofs.lemmas.Bool.{not_from_false}
 use Rattle.textwrap_words.specs.WordOffsets.{IsCutAt, AreCutsAt, AreWordsAt, words_at}
 use Rattle.std.proofs.lemmas.List.Elements.{All-contains_itself}
@@ -270,48 +274,65 @@ cuts_at-AreCuts offsets line utf8 =
 
 -- ---- the cuts
 
--- the cuts so far, and those among the ends from this one on
-cuts-more : (offsets : List ℕ) (total : ℕ) (e : VisibleEnd) (ends : List VisibleEnd) (cuts : List ℕ)
-    (b : Bool) → is_cut_after offsets total e.character e.shown ≡ b
-    → cond b (cuts ++ e.end ∷ []) cuts ++ cuts_among offsets total ends
-    ≡ cuts ++ cuts_among offsets total (e ∷ ends)
-cuts-more offsets total e ends cuts true is =
-    rw is (append_assoc cuts (e.end ∷ []) (cuts_among offsets total ends))
-cuts-more offsets total e ends cuts false is = rw is refl
+-- where the visible ones among characters end, of which the first begins after so many bytes of
+-- the visible text
+abbrev pub ends_among : ℕ → List Character → List VisibleEnd
+ends_among shown [] = []
+ends_among shown (c ∷ cs) =
+    cond c.is_visible (end_of c.at shown c.ch ∷ ends_among (shown + length (encode c.ch)) cs)
+    (ends_among shown cs)
 
--- the reader at byte `at` of the line, with the bytes `rest` to come
-pub record IsFinding (offsets line : List ℕ) (at : ℕ) (rest : List ℕ) (state : State) (shown : ℕ)
-    (cuts : List ℕ) : Type 0 where
-  pub read : IsRead line at rest
-  pub behind : shown ≤ at
-  pub found : cuts ++ cuts_among offsets (length (stripped line)) (ends_in state at shown (chars rest))
+ends-among : (s : State) (at shown : ℕ) (cs : List ℕ)
+    → ends_among shown (characters_from s at cs) ≡ ends_in s at shown cs
+ends-among s at shown [] = refl
+ends-among s at shown (c ∷ cs) =
+    let len = length (encode c) in
+    elim (cases_Bool (shows s c)) [
+      | inl t ↦ rw (t, ends-among (next_of s c) (at + len) (shown + len) cs)
+          (sym (rw t at (ends-step s at shown c cs)))
+      | inr f ↦ rw (f, ends-among (next_of s c) (at + len) shown cs)
+          (sym (rw f at (ends-step s at shown c cs)))
+    ]
+
+-- the cuts so far, and those among the ends from this character on
+cuts-next : (offsets : List ℕ) (total shown : ℕ) (c : Character) (left : List Character)
+    (cuts : List ℕ) (visible passes : Bool) → c.is_visible ≡ visible
+    → is_cut_after offsets total c.ch (shown + length (encode c.ch)) ≡ passes
+    → cond (visible && passes) (cuts ++ (c.at + length (encode c.ch)) ∷ []) cuts
+    ++ cuts_among offsets total (ends_among (cond visible (shown + length (encode c.ch)) shown) left)
+    ≡ cuts ++ cuts_among offsets total (ends_among shown (c ∷ left))
+cuts-next offsets total shown c left cuts true true see is = rw (see, is) (append_assoc cuts
+    ((c.at + length (encode c.ch)) ∷ [])
+    (cuts_among offsets total (ends_among (shown + length (encode c.ch)) left)))
+cuts-next offsets total shown c left cuts true false see is = rw (see, is) refl
+cuts-next offsets total shown c left cuts false passes see is = rw see refl
+
+-- the visible bytes so far and those of the characters to come are all, and so are the cuts
+pub record IsFinding (offsets line : List ℕ) (left : List Character) (shown : ℕ) (cuts : List ℕ)
+    : Type 0 where
+  pub ahead : AreAhead line left
+  pub bytes : shown + length (shown_text left) ≡ length (stripped line)
+  pub found : cuts ++ cuts_among offsets (length (stripped line)) (ends_among shown left)
       ≡ cuts_at offsets line
 
--- a character is read: the cut after it is found, if there is one
-pub IsFinding-step : (offsets line : List ℕ) (at : ℕ) (rest : List ℕ) (s : State) (shown : ℕ)
-    (cuts : List ℕ) (c : ℕ) (after : List ℕ) → IsFinding offsets line at rest s shown cuts
-    → rest ≡ encode c ++ after → (at' shown' : ℕ) (cuts' : List ℕ) → at' ≡ at + length (encode c)
-    → shown' ≡ cond (shows s c) (shown + length (encode c)) shown
-    → cuts' ≡ cond (cond (shows s c) (is_cut_after offsets (length (stripped line)) c
-    (shown + length (encode c))) false) (cuts ++ (at + length (encode c)) ∷ []) cuts
-    → IsFinding offsets line at' after (next_of s c) shown' cuts'
-IsFinding-step offsets line at rest s shown cuts c after h e at' shown' cuts' at_is shown_is cuts_is =
-    let total = length (stripped line) in
-    let before = ap (λ es. cuts ++ cuts_among offsets total es)
-    (sym (ap (ends_in s at shown) (read-ahead h.read c after e) ∙ ends-step s at shown c (chars after)))
-    ∙ h.found in
-    rw (at_is, shown_is, cuts_is) (record {
-      read = read-next h.read c after e _ refl;
-      behind = grind (arith, cases_Bool);
-      found = elim (cases_Bool (shows s c)) [
-        | inl t ↦ rw t (cuts-more offsets total (end_of at shown c)
-            (ends_in (next_of s c) (at + length (encode c)) (shown + length (encode c)) (chars after))
-            cuts _ refl ∙ (rw t at before))
-        | inr f ↦ rw f (rw f at before)
-      ];
-    })
+module _ (offsets line : List ℕ) where
+  pub IsFinding-start : IsUtf8 line → IsFinding offsets line (characters_of line) 0 []
+  IsFinding-start utf8 = record {
+    ahead = ahead-start line utf8;
+    bytes = omega (arith, ap length (shown-all line));
+    found = ap (cuts_among offsets (length (stripped line))) (ends-among Text 0 0 (chars line));
+  }
 
-pub IsFinding-end : (offsets line : List ℕ) (at : ℕ) (rest : List ℕ) (s : State) (shown : ℕ)
-    (cuts : List ℕ) → IsFinding offsets line at rest s shown cuts → length rest ≡ 0
-    → cuts ≡ cuts_at offsets line
-IsFinding-end offsets line at rest s shown cuts h none = cc (read-none h.read none, append-nil cuts)
+  -- a character is read: the cut after it is found, if there is one
+  pub IsFinding-step : (c : Character) (left : List Character) (shown : ℕ) (cuts : List ℕ)
+      (visible passes : Bool) → IsFinding offsets line (c ∷ left) shown cuts
+      → c.is_visible ≡ visible
+      → is_cut_after offsets (length (stripped line)) c.ch (shown + length (encode c.ch)) ≡ passes
+      → IsFinding offsets line left (cond visible (shown + length (encode c.ch)) shown)
+      (cond (visible && passes) (cuts ++ (c.at + length (encode c.ch)) ∷ []) cuts)
+  IsFinding-step c left shown cuts visible passes h see is = record {
+    ahead = (ahead-next line c left h.ahead).after;
+    bytes = grind (arith, cases_Bool, h.bytes, rw see at (shown-next c left));
+    found = cuts-next offsets (length (stripped line)) shown c left cuts visible passes see is
+        ∙ h.found;
+  }

@@ -7,7 +7,7 @@ ghost use Rattle.textwrap_words.specs.Words.{word_view, word_of, Tiles};
 ghost use Rattle.textwrap_words.specs.WordOffsets.{is_cut_after, cuts_at, words_at};
 
 use super::words::words_between;
-use crate::escapes::State;
+use crate::characters::Characters;
 use crate::words::Word;
 use std::alloc::{AllocError, Allocator};
 
@@ -52,17 +52,15 @@ fn find_cuts<A: Allocator>(
 {
     let total = visible_len(line);
     let mut cuts = Vec::new(alloc);
-    let mut state = State::Text;
     let mut shown = 0;
-    for (at, ch) in line.char_indices() {
-        let (next, is_visible) = state.step(ch);
-        if is_visible {
-            shown += ch.len_utf8();
-            if is_cut_after(ch, shown, total, offsets) {
-                cuts.push(at + ch.len_utf8())?;
+    for character in Characters::of(line) {
+        if character.is_visible {
+            let len = character.ch.len_utf8();
+            shown += len;
+            if is_cut_after(character.ch, shown, total, offsets) {
+                cuts.push(character.at + len)?;
             }
         }
-        state = next;
     }
     Ok(cuts)
 }
@@ -71,14 +69,11 @@ fn find_cuts<A: Allocator>(
 fn visible_len(line: &str) -> usize
     ensures { result ≡ length (stripped line.now) }
 {
-    let mut state = State::Text;
     let mut len = 0;
-    for ch in line.chars() {
-        let (next, is_visible) = state.step(ch);
-        if is_visible {
-            len += ch.len_utf8();
+    for character in Characters::of(line) {
+        if character.is_visible {
+            len += character.ch.len_utf8();
         }
-        state = next;
     }
     len
 }

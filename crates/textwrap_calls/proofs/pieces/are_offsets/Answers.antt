@@ -1,71 +1,40 @@
 use Rattle.textwrap_calls.proofs.pieces.are_offsets.Goals as goal
-use Rattle.textwrap_base.proofs.Common.{◌≡◌, ℕ, ◌+◌, ◌<◌, ◌++◌, List, [], ◌∷◌, cond, length, get_or}
-use Rattle.textwrap_base.proofs.Common.{ap, ◌∙◌, sym, arith, refl, nil_from_length, length_push}
-use Rattle.textwrap_base.proofs.Common.{YieldsList-from_chars, YieldsList-turn, YieldsList-end}
-use Rattle.textwrap_base.proofs.Common.{eqb-true, eq-eqb}
+use Rattle.textwrap_base.proofs.Common.{◌∙◌, ap, arith, eq-eqb, eqb-true, length, nil_from_length, sym}
 use Rattle.std.specs.Str.{chars}
-use lib.Utf8.{encode}
+use Rattle.textwrap_words.proofs.Units.Characters.{shown-all, shown-from, shown-next}
 use Rattle.textwrap_words.proofs.Units.Reading.{stripped-short}
-use Rattle.textwrap_words.proofs.Common.{shows}
+use Rattle.textwrap_words.specs.Characters.{shown, shown_text}
+use Rattle.textwrap_words.specs.CharactersLeft.{characters_left}
+use Rattle.textwrap_words.specs.declared.escapes.State.TheVariants.{Text}
 use Rattle.textwrap_calls.specs.Pieces.{offsets_past}
-use Rattle.textwrap_calls.proofs.Offsets.Reading.{IsReading, IsReading-room, IsReading-step}
-use Rattle.textwrap_calls.proofs.Offsets.Reading.{IsReading-end}
-use Rattle.textwrap_calls.proofs.pieces.are_offsets.Goals.{After-step-next}
+use Rattle.textwrap_calls.proofs.Offsets.Passed.{left_after, offsets-read}
 
--- the character that is read
-here : (c : After-step-next) → (length c.loop-ch.yielded < length (chars c.args.line.now))
-    × (c.in-Some.ch ≡ get_or (chars c.args.line.now) (length c.loop-ch.yielded) c.in-Some.ch)
-here c =
-    YieldsList-turn (YieldsList-from_chars c.args.line.now c.utf8.line cc) c.loop-ch.yielded
-    _ c.loop-ch.yielded_by _ _ c.in-Some.ch c.in-Some.is c.next.ensures.steps
-
--- the line after it
-after : (c : After-step-next) (shown : ℕ) (left : List ℕ)
-    → shown ≡ cond (shows c.loop-ch.state c.in-Some.ch)
-    (c.loop-ch.shown + length (encode c.in-Some.ch)) c.loop-ch.shown
-    → left ≡ cond (shows c.loop-ch.state c.in-Some.ch)
-    (offsets_past (c.loop-ch.shown + length (encode c.in-Some.ch)) c.loop-ch.left.now)
-    c.loop-ch.left.now
-    → IsReading c.args.line.now c.args.offsets.now
-    (length (c.loop-ch.yielded ++ c.in-Some.ch ∷ [])) c.step-next.result.0 shown left
-after c shown left shown_is left_is =
-    rw (c.step-next.ensures, length_push) (IsReading-step _ _ _ _ _ _ c.loop-ch.invariant
-    c.in-Some.ch (here c) shown left shown_is left_is)
+pub loop-character-init : goal.loop-character-init
+loop-character-init c =
+    let line = c.args.line.now in
+    rw (c.into_iter-character-iterator.ensures.into_iter_gives, c.of-character-items.ensures) (record {
+      bytes = omega (arith, ap length (shown-all line));
+      offsets = rw c.offsets_past-left.ensures
+          (ap (λ cs. left_after 0 cs (offsets_past 0 c.args.offsets.now))
+          (shown-from Text 0 (chars line)));
+    })
 
 pub overflow_add-shown : goal.overflow_add-shown
-overflow_add-shown c =
-    let line = c.args.line.now in
-    let room = IsReading-room _ _ _ _ _ _ c.loop-ch.invariant c.in-Some.ch
-    (here (goal.at.overflow_add-shown c).After-step-next)
-    (rw c.step-next.ensures at c.if-is_visible.true) in
-    omega (
-      arith,
-      room,
-      c.len_utf8-shown.ensures.len,
-      stripped-short line c.utf8.line,
-    )
-
-pub loop-ch-preserved-then-is_visible : goal.loop-ch-preserved-then-is_visible
-loop-ch-preserved-then-is_visible c =
-    let end = ap (λ n. c.loop-ch.shown + n) c.len_utf8-shown.ensures.len in
-    let shown = rw c.step-next.ensures at c.if-is_visible.true in
-    after (goal.at.loop-ch-preserved-then-is_visible c).After-step-next _ _
-    (rw shown end)
-    (rw shown (c.offsets_past-left-then-is_visible.ensures
-    ∙ ap (λ place. offsets_past place c.loop-ch.left.now) end))
-
-pub loop-ch-preserved : goal.loop-ch-preserved
-loop-ch-preserved c =
-    let hidden = rw c.step-next.ensures at c.if-is_visible.false in
-    after (goal.at.loop-ch-preserved c).After-step-next _ _ (rw hidden refl) (rw hidden refl)
+overflow_add-shown c = omega (
+  arith,
+  c.loop-character.invariant.bytes,
+  ap (λ cs. length (shown_text cs)) c.in-Some.ensures.steps,
+  rw c.if-character.true at (shown-next c.in-Some.character (characters_left c.next.new.self)),
+  c.len_utf8-shown.ensures.len,
+  stripped-short c.args.line.now c.utf8.line,
+)
 
 pub returns : goal.returns
 returns c =
-    let line = c.args.line.now in
-    let left = c.loop-ch.left.now in
-    let end = YieldsList-end (YieldsList-from_chars line c.utf8.line cc) c.loop-ch.yielded
-    _ c.loop-ch.yielded_by _ _ c.in-None.is c.next.ensures.steps in
-    let are = IsReading-end _ _ _ _ _ _ c.loop-ch.invariant c.utf8.line (omega (arith, end.1)) in (
-      λ empty. are.0 (nil_from_length left (eqb-true (length left) 0 (sym c.is_empty.ensures ∙ empty))),
-      λ offsets. c.is_empty.ensures ∙ eq-eqb (length left) 0 (ap length (are.1 offsets)),
+    let left = c.loop-character.left.now in
+    let is = sym (ap (λ cs. left_after c.loop-character.shown (shown cs) left) c.in-None.ensures.steps.0)
+    ∙ c.loop-character.invariant.offsets in
+    let are = offsets-read c.args.line.now c.args.offsets.now c.utf8.line in (
+      λ empty. are.0 (sym is ∙ nil_from_length left (eqb-true (length left) 0 (sym c.is_empty.ensures ∙ empty))),
+      λ offsets. c.is_empty.ensures ∙ eq-eqb (length left) 0 (ap length (is ∙ are.1 offsets)),
     )

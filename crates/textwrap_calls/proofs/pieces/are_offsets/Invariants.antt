@@ -1,8 +1,19 @@
 use Rattle.textwrap_calls.proofs.pieces.are_offsets.Given as goal
-use Rattle.textwrap_base.proofs.Common.{length}
-use Rattle.textwrap_calls.proofs.Offsets.Reading.{IsReading}
+use Rattle.textwrap_base.proofs.Common.{◌≡◌, ◌+◌, length}
+use Rattle.std.specs.Str.{chars}
+use Rattle.textwrap_words.proofs.Common.{stripped}
+use Rattle.textwrap_words.specs.Characters.{shown, shown_text}
+use Rattle.textwrap_words.specs.CharactersLeft.{characters_left}
+use Rattle.textwrap_words.specs.Units.{visible}
+use Rattle.textwrap_calls.specs.Pieces.{offsets_past}
+use Rattle.textwrap_calls.proofs.Offsets.Passed.{left_after}
 
 -- the bytes that are shown so far and those ahead are all, and the offsets that are left are those
 -- that the characters ahead have still to pass
-abbrev pub invariant-loop-ch : goal.invariant-loop-ch
-invariant-loop-ch l = IsReading l.line l.offsets (length l.yielded) l.state l.shown l.left
+abbrev pub invariant-loop-character : goal.invariant-loop-character
+invariant-loop-character l =
+    let ahead = characters_left l.character-iterator in record {
+      bytes : l.shown + length (shown_text ahead) ≡ length (stripped l.line);
+      offsets : left_after l.shown (shown ahead) l.left
+          ≡ left_after 0 (visible (chars l.line)) (offsets_past 0 l.offsets);
+    }

@@ -1,46 +1,8 @@
-use Rattle.textwrap_unicode.proofs.Common.{ap, length, visible_in, is_mark, is_number, number_first}
-use Rattle.textwrap_unicode.proofs.Common.{sym, ◌∙◌, arith, chars}
-use Rattle.textwrap_base.proofs.Common.{YieldsList-from_chars, YieldsList-turn, YieldsList-end}
-use Rattle.textwrap_base.proofs.Common.{at_drop_all, length_push}
-use Rattle.textwrap_unicode.proofs.BreakLemmas.{shown-step}
+use Rattle.textwrap_unicode.proofs.Common.{ap, chars, number_first}
 use Rattle.textwrap_unicode.proofs.numbers.shown_number_first.Goals as goal
+use Rattle.textwrap_words.proofs.Units.Characters.{shown-from}
 
-pub returns-then-not-is_mark : goal.returns-then-not-is_mark
-returns-then-not-is_mark c =
-    let text = c.args.text.now in
-    let t = YieldsList-turn (YieldsList-from_chars text c.utf8.text cc) c.loop-c.yielded
-    _ c.loop-c.yielded_by _ _ c.in-Some.c c.in-Some.is c.next.ensures.steps in
-    let other = sym (c.is_mark.ensures ∙ ap is_mark c.class_of-class.ensures)
-    ∙ c.if-not-is_mark.true in
-    let step = rw (rw c.step-next.ensures at c.if-is_visible.true, other)
-    at (shown-step c.loop-c.state (chars text) (length c.loop-c.yielded) c.in-Some.c t) in
-    c.is_number.ensures ∙ ap is_number c.class_of-class.ensures ∙ sym step ∙ c.loop-c.invariant
-
-pub loop-c-preserved-else-not-is_mark : goal.loop-c-preserved-else-not-is_mark
-loop-c-preserved-else-not-is_mark c =
-    let text = c.args.text.now in
-    let t = YieldsList-turn (YieldsList-from_chars text c.utf8.text cc) c.loop-c.yielded
-    _ c.loop-c.yielded_by _ _ c.in-Some.c c.in-Some.is c.next.ensures.steps in
-    let mark = sym (c.is_mark.ensures ∙ ap is_mark c.class_of-class.ensures)
-    ∙ c.if-not-is_mark.false in
-    let step = rw (rw c.step-next.ensures at c.if-is_visible.true, mark)
-    at (shown-step c.loop-c.state (chars text) (length c.loop-c.yielded) c.in-Some.c t) in
-    rw (c.step-next.ensures, length_push) (sym step ∙ c.loop-c.invariant)
-
-pub loop-c-preserved : goal.loop-c-preserved
-loop-c-preserved c =
-    let text = c.args.text.now in
-    let t = YieldsList-turn (YieldsList-from_chars text c.utf8.text cc) c.loop-c.yielded
-    _ c.loop-c.yielded_by _ _ c.in-Some.c c.in-Some.is c.next.ensures.steps in
-    let step = rw (rw c.step-next.ensures at c.if-is_visible.false)
-    at (shown-step c.loop-c.state (chars text) (length c.loop-c.yielded) c.in-Some.c t) in
-    rw (c.step-next.ensures, length_push) (sym step ∙ c.loop-c.invariant)
-
-pub returns : goal.returns
-returns c =
-    let text = c.args.text.now in
-    let t = YieldsList-end (YieldsList-from_chars text c.utf8.text cc) c.loop-c.yielded
-    _ c.loop-c.yielded_by _ _ c.in-None.is c.next.ensures.steps in
-    sym (at_drop_all (λ cs. number_first (visible_in c.loop-c.state cs)) (chars text)
-    (length c.loop-c.yielded) (omega (arith, t.1)))
-    ∙ c.loop-c.invariant
+pub loop-character-init : goal.loop-character-init
+loop-character-init c =
+    rw (c.into_iter-character-iterator.ensures.into_iter_gives, c.read_on-character-items.ensures)
+    (ap number_first (shown-from c.args.state 0 (chars c.args.text.now)))

@@ -1,8 +1,9 @@
-use Rattle.textwrap_unicode.proofs.Common.{◌≡◌, drop, length, chars, visible_in, number_first}
+use Rattle.textwrap_unicode.proofs.Common.{◌≡◌, chars, number_first, visible_in}
 use Rattle.textwrap_unicode.proofs.numbers.shown_number_first.Given as goal
+use Rattle.textwrap_words.specs.Characters.{shown}
+use Rattle.textwrap_words.specs.CharactersLeft.{characters_left}
 
 -- the visible characters to come give the answer
-abbrev pub invariant-loop-c : goal.invariant-loop-c
-invariant-loop-c l =
-    number_first (visible_in l.state (drop (length l.yielded) (chars l.text)))
+abbrev pub invariant-loop-character : goal.invariant-loop-character
+invariant-loop-character l = number_first (shown (characters_left l.character-iterator))
     ≡ number_first (visible_in l.fn.state (chars l.text))

@@ -1,10 +1,10 @@
 use Rattle.textwrap_words.proofs.words.strip_ansi_escape_sequences.Given as goal
-use Rattle.textwrap_base.proofs.Common.{◌≡◌, ◌++◌, length, drop, string_bytes}
+use Rattle.textwrap_base.proofs.Common.{◌≡◌, ◌++◌, string_bytes}
 use Rattle.textwrap_words.proofs.Common.{stripped}
-use Rattle.std.specs.Str.{chars}
-use Rattle.textwrap_words.proofs.Units.Reading.{text_in}
+use Rattle.textwrap_words.specs.Characters.{shown_text}
+use Rattle.textwrap_words.specs.CharactersLeft.{characters_left}
 
 -- the text so far, and that of the characters to come, are the whole
-abbrev pub invariant-loop-ch : goal.invariant-loop-ch
-invariant-loop-ch g l = string_bytes l.plain ++ text_in l.state (drop (length l.yielded) (chars l.text))
-    ≡ stripped l.text
+abbrev pub invariant-loop-character : goal.invariant-loop-character
+invariant-loop-character g l =
+    string_bytes l.plain ++ shown_text (characters_left l.character-iterator) ≡ stripped l.text

@@ -1,8 +1,7 @@
 use Rattle.textwrap_words.proofs.word_separators.offsets.find_cuts.Given as goal
-use Rattle.textwrap_base.proofs.Common.{char_indices_offset}
-use Rattle.std.specs.Str.Iter.{char_indices_rest}
 use Rattle.textwrap_words.proofs.Word.Offsets.{IsFinding}
+use Rattle.textwrap_words.specs.CharactersLeft.{characters_left}
 
-abbrev pub invariant-loop-at : goal.invariant-loop-at
-invariant-loop-at g l = IsFinding l.offsets l.line (char_indices_offset l.at-iterator)
-    (char_indices_rest l.at-iterator) l.state l.shown l.cuts.items
+abbrev pub invariant-loop-character : goal.invariant-loop-character
+invariant-loop-character g l =
+    IsFinding l.offsets l.line (characters_left l.character-iterator) l.shown l.cuts.items

@@ -1,10 +1,10 @@
 use Rattle.textwrap_words.proofs.word_separators.offsets.visible_len.Given as goal
-use Rattle.textwrap_base.proofs.Common.{◌≡◌, ◌+◌, length, drop}
+use Rattle.textwrap_base.proofs.Common.{◌≡◌, ◌+◌, length}
 use Rattle.textwrap_words.proofs.Common.{stripped}
-use Rattle.std.specs.Str.{chars}
-use Rattle.textwrap_words.proofs.Units.Reading.{text_in}
+use Rattle.textwrap_words.specs.Characters.{shown_text}
+use Rattle.textwrap_words.specs.CharactersLeft.{characters_left}
 
 -- the bytes so far, and those of the characters to come, are the whole
-abbrev pub invariant-loop-ch : goal.invariant-loop-ch
-invariant-loop-ch l = l.len + length (text_in l.state (drop (length l.yielded) (chars l.line)))
-    ≡ length (stripped l.line)
+abbrev pub invariant-loop-character : goal.invariant-loop-character
+invariant-loop-character l =
+    l.len + length (shown_text (characters_left l.character-iterator)) ≡ length (stripped l.line)

@@ -1,0 +1,107 @@
+-- The characters of a text, one after another: what is shown of them, and where they stand.
+use Rattle.textwrap_base.proofs.Common.{inl, inr, ◌≡◌, ◌+◌, ◌++◌, ◌∙◌, ◌∷◌, ◌≤◌, ℕ, List, [], true}
+use Rattle.textwrap_base.proofs.Common.{ap, arith, cases_Bool, drop, encode_utf8_all, encodes-chars}
+use Rattle.textwrap_base.proofs.Common.{get_or, IsCharBoundary, IsUtf8, length, refl, sum_by, sum_by-cons}
+use Rattle.textwrap_base.proofs.Common.{cond, length-append, sym}
+use Rattle.textwrap_words.proofs.Common.{columns, next_of, shows, stripped, text_width, visible_in}
+use Rattle.std.specs.Prelude.{chars, encode_utf8}
+use Rattle.textwrap_words.proofs.Units.Reading.{IsRead, read-ahead, read-next, read-room, read-start}
+use Rattle.textwrap_words.proofs.Units.Reading.{visible-step}
+use Rattle.textwrap_words.specs.Characters.{characters_from, characters_of, shown, shown_text}
+use Rattle.textwrap_words.specs.declared.characters.Character.{Character}
+use Rattle.textwrap_words.specs.declared.escapes.State.{State}
+use Rattle.textwrap_words.specs.declared.escapes.State.TheVariants.{Text, Escape, Control, Command}
+
+-- ---- what is shown of them
+
+pub shown-from : (s : State) (at : ℕ) (cs : List ℕ)
+    → shown (characters_from s at cs) ≡ visible_in s cs
+shown-from s at [] = refl
+shown-from s at (c ∷ cs) =
+    let rest = shown-from (next_of s c) (at + length (encode_utf8 c)) cs in
+    elim (cases_Bool (shows s c)) [
+      | inl t ↦ rw (t, rest) (sym (rw t at (visible-step s c cs)))
+      | inr f ↦ rw (f, rest) (sym (rw f at (visible-step s c cs)))
+    ]
+
+-- the visible characters of a text are those that are shown among its characters
+pub shown-all : (text : List ℕ) → shown_text (characters_of text) ≡ stripped text
+shown-all text = ap encode_utf8_all (shown-from Text 0 (chars text))
+
+pub shown-next : (c : Character) (left : List Character) → length (shown_text (c ∷ left))
+    ≡ cond c.is_visible (length (encode_utf8 c.ch)) 0 + length (shown_text left)
+shown-next c left = elim (cases_Bool c.is_visible) [
+  | inl t ↦ rw t (length-append (encode_utf8 c.ch) (shown_text left))
+  | inr f ↦ rw f (omega arith)
+]
+
+-- the columns of those that are shown
+abbrev pub shown_columns : List Character → ℕ
+shown_columns cs = sum_by columns (shown cs)
+
+pub columns-all : (text : List ℕ) → text_width text ≡ shown_columns (characters_of text)
+columns-all text = ap (sum_by columns) (sym (shown-from Text 0 (chars text)))
+
+pub columns-next : (c : Character) (left : List Character)
+    → shown_columns (c ∷ left) ≡ cond c.is_visible (columns c.ch) 0 + shown_columns left
+columns-next c left = elim (cases_Bool c.is_visible) [
+  | inl t ↦ rw t (sum_by-cons columns c.ch (shown left))
+  | inr f ↦ rw f (omega arith)
+]
+
+-- ---- the characters that are ahead in a text, of which the first so many bytes were read
+
+pub record AreAhead (text : List ℕ) (left : List Character) : Type 0 where
+  pub state : State
+  pub place : ℕ
+  pub rest : List ℕ
+  pub read : IsRead text place rest
+  pub are : left ≡ characters_from state place (chars rest)
+
+pub ahead-start : (text : List ℕ) → IsUtf8 text → AreAhead text (characters_of text)
+ahead-start text utf8 = record {
+  state = Text;
+  place = 0;
+  rest = text;
+  read = read-start text utf8;
+  are = refl;
+}
+
+shows-text : (s : State) (c : ℕ) → shows s c ≡ true → s ≡ Text
+shows-text Text c visible = refl
+shows-text Escape c visible = absurd cc
+shows-text Control c visible = absurd cc
+shows-text (Command last) c visible = absurd cc
+
+-- the next of them stands there, and a visible one begins a text
+pub record IsNext (text : List ℕ) (c : Character) (left : List Character) : Type 0 where
+  pub begins : IsCharBoundary text c.at
+  pub room : c.at + length (encode_utf8 c.ch) ≤ length text
+  pub columns : c.is_visible ≡ true → text_width (drop c.at text) ≡ shown_columns (c ∷ left)
+  pub after : AreAhead text left
+
+pub ahead-next : (text : List ℕ) (c : Character) (left : List Character)
+    → AreAhead text (c ∷ left) → IsNext text c left
+ahead-next text c left h = by (chars h.rest) refl h.are
+  where
+    by : (cs : List ℕ) → chars h.rest ≡ cs → c ∷ left ≡ characters_from h.state h.place cs
+        → IsNext text c left
+    by [] none is = absurd (omega (arith, ap length is))
+    by (d ∷ ds) some is =
+        let e : h.rest ≡ encode_utf8 d ++ encode_utf8_all ds =
+        sym (encodes-chars h.rest h.read.utf8) ∙ ap encode_utf8_all some in
+        let more : ds ≡ chars (encode_utf8_all ds) =
+        ap (drop 1) (sym some ∙ read-ahead h.read d (encode_utf8_all ds) e) in
+        rw (ap (λ l. get_or l 0 c) is, ap (drop 1) is) (record {
+          begins = h.read.boundary;
+          room = read-room h.read d (encode_utf8_all ds) e;
+          columns = λ visible. rw (h.read.place, some) (rw (shows-text h.state d visible)
+              (ap (sum_by columns) (sym (shown-from Text h.place (d ∷ ds)))));
+          after = record {
+            state = next_of h.state d;
+            place = h.place + length (encode_utf8 d);
+            rest = encode_utf8_all ds;
+            read = read-next h.read d (encode_utf8_all ds) e _ refl;
+            are = ap (characters_from (next_of h.state d) (h.place + length (encode_utf8 d))) more;
+          };
+        })

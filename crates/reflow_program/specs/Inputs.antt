@@ -8,7 +8,7 @@ use Rattle.textwrap_program.specs.Filling.{ReadsAll, WritesPrefix}
 use Rattle.textwrap_program.specs.Program.{TriesLine, line_feed}
 use Rattle.reflow_program.specs.Differences.{IsDiffText}
 use Rattle.reflow_program.specs.Files.{Becomes, KnownFiles, SameFiles}
-use Rattle.reflow_program.specs.Layout.{IsLaidOut, has_marks}
+use Rattle.reflow_program.specs.Layout.{LaysOut, has_marks}
 use Rattle.reflow_program.specs.declared.faults.Fault.{Fault}
 use Rattle.reflow_program.specs.declared.faults.Fault.TheVariants.{NotUtf8, Memory, Write}
 use Rattle.reflow_program.specs.declared.inputs.Reflowed.{Reflowed}
@@ -47,7 +47,7 @@ module _ (layout : Layout) where
   -- what a text becomes, or a fault: `NotUtf8` exactly if it is none
   abbrev pub Reflows : List ℕ → Result LaidOut Fault → Type 0
   Reflows input (Ok laid) =
-      IsUtf8 input × IsLaidOut layout input (string_bytes laid.text)
+      IsUtf8 input × LaysOut layout input (string_bytes laid.text)
       × (laid.has_marks ≡ has_marks layout.options input)
   Reflows input (Err (NotUtf8 valid)) = IsNoText input valid
   Reflows input (Err Memory) = ⊤
@@ -56,7 +56,7 @@ module _ (layout : Layout) where
   -- the input was read whole, is a text, and is reflowed to this output
   abbrev pub ReadsText : Option (List ℕ) → Option (List ℕ) → List ℕ → List ℕ → Type 0
   ReadsText unread left input output =
-      ReadsAll unread left input × IsUtf8 input × IsLaidOut layout input output
+      ReadsAll unread left input × IsUtf8 input × LaysOut layout input output
 
   -- what is read, or a fault: never `Write`, and `NotUtf8` exactly if the input is no text
   abbrev pub Reads : Option (List ℕ) → Option (List ℕ) → Result Reflowed Fault → Type 0

@@ -12,8 +12,8 @@ abbrev pub IsLaidOutAt : Option LineRange → ReflowOptions → List ℕ → Lis
 IsLaidOutAt None options text output = IsReflowed options text output
 IsLaidOutAt (Some range) options text output = IsReflowedWithin options range text output
 
-abbrev pub IsLaidOut : Layout → List ℕ → List ℕ → Type 0
-IsLaidOut layout text output = IsLaidOutAt layout.lines layout.options text output
+abbrev pub LaysOut : Layout → List ℕ → List ℕ → Type 0
+LaysOut layout text output = IsLaidOutAt layout.lines layout.options text output
 
 -- some line of the text has marks that are filled; each line does, if there are no prefixes
 abbrev pub has_marks : ReflowOptions → List ℕ → Bool

@@ -36,7 +36,7 @@ pub trait Files {
     /// What the draft for the file of this name is called.
     ///
     /// # Errors
-    /// That of the file system, or want of memory.
+    /// That of the file system, or out of memory.
     fn draft_name(&self, name: &str) -> io::Result<String>;
 
     /// Puts the draft in the place of the file of this name.

@@ -1,6 +1,6 @@
 //! How the program lays out a text.
 ghost use Rattle.std.specs.Prelude.{◌≡◌, IfOk, string_bytes};
-ghost use Rattle.reflow_program.specs.Layout.{IsLaidOut, has_marks};
+ghost use Rattle.reflow_program.specs.Layout.{LaysOut, has_marks};
 
 use std::alloc::{AllocError, Global};
 use textwrap_marked::{LineRange, ReflowOptions, has_chosen, reflow, reflow_within};
@@ -29,7 +29,7 @@ pub struct LaidOut {
 /// # Errors
 /// [`WrapError::Memory`] where memory runs out, and no other.
 pub fn lay_out(alloc: Global, text: &str, layout: &Layout<'_>) -> Result<LaidOut, WrapError>
-    ensures text { IfOk result (λ laid. IsLaidOut layout.now text.now (string_bytes laid.text)) }
+    ensures text { IfOk result (λ laid. LaysOut layout.now text.now (string_bytes laid.text)) }
     ensures marks { IfOk result (λ laid. laid.has_marks ≡ has_marks layout.now.options text.now) }
 {
     let has_marks = has_marks(alloc, text, &layout.options)?;
@@ -39,7 +39,7 @@ pub fn lay_out(alloc: Global, text: &str, layout: &Layout<'_>) -> Result<LaidOut
 
 /// What the text becomes.
 fn lay_out_text(alloc: Global, text: &str, layout: &Layout<'_>) -> Result<String, WrapError>
-    ensures { IfOk result (λ output. IsLaidOut layout.now text.now (string_bytes output)) }
+    ensures { IfOk result (λ output. LaysOut layout.now text.now (string_bytes output)) }
 {
     match &layout.lines {
         Some(range) => reflow_within(alloc, text, range, &layout.options),

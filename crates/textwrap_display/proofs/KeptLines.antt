@@ -8,7 +8,7 @@ use Rattle.textwrap_base.proofs.Common.{take_more, append_assoc}
 use Rattle.std.specs.Prelude.{encode_utf8, String}
 use Rattle.textwrap_words.proofs.Common.{text_width}
 use Rattle.textwrap_words.specs.declared.escapes.State.{State}
-use Rattle.textwrap_display.specs.Shortening.{IsKept, can_end, AreShortened, IsShortened, texts_of}
+use Rattle.textwrap_display.specs.Shortening.{IsKeptBeginning, can_end, AreShortened, IsShortened, texts_of}
 use Rattle.textwrap_display.proofs.KeptWords.{is_after_blank, may_end-boundary, may_end-within}
 use Rattle.textwrap_display.proofs.KeptWords.{may_end-here, may_end-other, may_end-past}
 use Rattle.textwrap_display.proofs.KeptWords.{may_end-whole, may_end-blanks, IsReadTo, read-width}
@@ -41,7 +41,7 @@ found-none room line place start = record {
 -- what is found at the end is kept, where this is the room beside the placeholder
 pub found-kept : (room width : ℕ) (placeholder line : List ℕ) (n : ℕ)
     → room + text_width placeholder ≡ width → IsFound room line (length line + 1) n
-    → IsKept width placeholder line n
+    → IsKeptBeginning width placeholder line n
 found-kept room width placeholder line n is h = record {
   within = may_end-within line n h.ends;
   ends = h.ends;
@@ -201,15 +201,15 @@ views-more lines n line before after old text within is same so_far more =
 
 -- ---- only one number of bytes may be kept of a line
 
-kept-le : (width : ℕ) (placeholder line : List ℕ) (m n : ℕ) → IsKept width placeholder line m
-    → IsKept width placeholder line n → m ≤ n
+kept-le : (width : ℕ) (placeholder line : List ℕ) (m n : ℕ) → IsKeptBeginning width placeholder line m
+    → IsKeptBeginning width placeholder line n → m ≤ n
 kept-le width placeholder line m n first second = elim first.room [
   | inl none ↦ omega (arith, none)
   | inr has ↦ second.longest m first.ends has
 ]
 
 pub kept-unique : (width : ℕ) (placeholder line : List ℕ) (m n : ℕ)
-    → IsKept width placeholder line m → IsKept width placeholder line n → m ≡ n
+    → IsKeptBeginning width placeholder line m → IsKeptBeginning width placeholder line n → m ≡ n
 kept-unique width placeholder line m n first second =
     let up = kept-le width placeholder line m n first second in
     let down = kept-le width placeholder line n m second first in

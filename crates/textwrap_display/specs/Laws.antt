@@ -5,7 +5,7 @@ use Rattle.std.specs.List.{concat, flat_map, zip}
 use Rattle.textwrap_display.specs.Alignment.{aligned}
 use Rattle.textwrap_display.specs.Justifying.{gaps, indent_len, justified, line_words}
 use Rattle.textwrap_display.specs.Justifying.{widened_words}
-use Rattle.textwrap_display.specs.Shortening.{IsKept, IsShortened}
+use Rattle.textwrap_display.specs.Shortening.{IsKeptBeginning, IsShortened}
 use Rattle.textwrap_display.specs.Tables.{group_rows, height, RowGaps, Shape}
 use Rattle.textwrap_display.specs.declared.alignment.Alignment.{Alignment}
 use Rattle.textwrap_lines.specs.LineEnding.{join_with}
@@ -52,7 +52,7 @@ JustifiedLinesKeepWords =
 abbrev pub KeptBeginningsAreUnique : Type 0
 KeptBeginningsAreUnique =
     (width : ℕ) (placeholder line : List ℕ) (first second : ℕ)
-    → IsKept width placeholder line first → IsKept width placeholder line second → first ≡ second
+    → IsKeptBeginning width placeholder line first → IsKeptBeginning width placeholder line second → first ≡ second
 
 -- a shortened line takes no more than the width, if the placeholder alone does not, and each escape
 -- sequence of what is kept ends in it
@@ -70,7 +70,7 @@ word_texts line = map (λ w. w.word) (words_of line)
 -- the words of what is kept are the first words of the line
 abbrev pub KeptWordsAreTheFirst : Type 0
 KeptWordsAreTheFirst =
-    (width : ℕ) (placeholder line : List ℕ) (n : ℕ) → IsKept width placeholder line n
+    (width : ℕ) (placeholder line : List ℕ) (n : ℕ) → IsKeptBeginning width placeholder line n
     → let kept = word_texts (take n line) in take (length kept) (word_texts line) ≡ kept
 
 -- ---- styles that are carried over the ends of lines

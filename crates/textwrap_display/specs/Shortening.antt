@@ -19,7 +19,7 @@ LeavesRoom width placeholder line n = text_width (take n line) + text_width plac
 
 -- so many bytes of a line are kept: the longest beginning that may end there and leaves room, or
 -- nothing
-pub record IsKept (width : ℕ) (placeholder line : List ℕ) (n : ℕ) : Type 0 where
+pub record IsKeptBeginning (width : ℕ) (placeholder line : List ℕ) (n : ℕ) : Type 0 where
   pub within : n ≤ length line
   pub ends : can_end line n ≡ true
   pub room : (n ≡ 0) ⊎ LeavesRoom width placeholder line n
@@ -28,7 +28,7 @@ pub record IsKept (width : ℕ) (placeholder line : List ℕ) (n : ℕ) : Type 0
 -- what is kept of the line, and the placeholder
 pub record IsShortened (width : ℕ) (placeholder line : List ℕ) (short : Line) : Type 0 where
   pub len : ℕ
-  pub kept : IsKept width placeholder line len
+  pub kept : IsKeptBeginning width placeholder line len
   pub is : short ≡ Built (take len line ++ placeholder)
 
 -- the texts of lines

@@ -118,13 +118,13 @@ abbrev pub AreTableRows : {E C : Type 0} {e : _} {c : _} → List (Column E C e 
 AreTableRows = IsTableBy ColumnMakes shape_of
 
 -- no text passes in its column, where a relation says which may
-abbrev pub AllFit : {X : Type 0} → (X → List ℕ → Type 0) → List X → List (List ℕ) → Type 0
-AllFit MayPass columns texts = All (λ p. ¬ MayPass p.0 p.1) (zip columns texts)
+abbrev pub NonePasses : {X : Type 0} → (X → List ℕ → Type 0) → List X → List (List ℕ) → Type 0
+NonePasses MayPass columns texts = All (λ p. ¬ MayPass p.0 p.1) (zip columns texts)
 
 -- no text may have, in its column, a paragraph whose pieces pass 64 bits together
 abbrev pub AllFit64Bits : {E C : Type 0} {e : _} {c : _} → List (Column E C e c) → List (List ℕ)
     → Type 0
-AllFit64Bits = AllFit (λ column. SomeMayPass64Bits column.options)
+AllFit64Bits = NonePasses (λ column. SomeMayPass64Bits column.options)
 
 -- ---- the same by built-in parts
 

@@ -1,6 +1,6 @@
 //! Lines that are cut, and end in a placeholder.
 ghost use Rattle.std.specs.Prelude.{◌≡◌, ◌++◌, ◌<◌, ◌≤◌, [], length, map, string_bytes, IfOk, OnOk};
-ghost use Rattle.textwrap_display.specs.Shortening.{AreShortened, IsKept, IsShortened};
+ghost use Rattle.textwrap_display.specs.Shortening.{AreShortened, IsKeptBeginning, IsShortened};
 ghost use Rattle.textwrap_display.specs.Shortening.{texts_of};
 ghost use Rattle.textwrap_lines.specs.Paragraph.{Built, Slice, line_view};
 ghost use Rattle.textwrap_words.specs.Units.{text_width};
@@ -108,7 +108,7 @@ fn shortened<A: Allocator>(
 /// How many bytes of a line are kept before the placeholder. The line is read once, and only as far
 /// as it has room.
 fn kept_len(line: &str, width: usize, placeholder: &str) -> usize
-    ensures { IsKept width placeholder.now line.now result }
+    ensures { IsKeptBeginning width placeholder.now line.now result }
 {
     let Some(room) = width.checked_sub(display_width(placeholder)) else {
         return 0;

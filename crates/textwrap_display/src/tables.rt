@@ -2,7 +2,7 @@
 ghost use Rattle.std.specs.Prelude.{◌≡◌, ◌<◌, ◌^◌, List, [], ◌++◌, All, length, map};
 ghost use Rattle.std.specs.Prelude.{slice_index_or, string_bytes, alloc_error, IfErr, IfOk, OnOk};
 ghost use Rattle.std.specs.Prelude.{SomeIff};
-ghost use Rattle.textwrap_display.specs.Tables.{AllFit, AllFit64Bits, AreCells, ColumnParts};
+ghost use Rattle.textwrap_display.specs.Tables.{NonePasses, AllFit64Bits, AreCells, ColumnParts};
 ghost use Rattle.textwrap_display.specs.Tables.{HaveParts, groups_of};
 ghost use Rattle.textwrap_display.specs.Tables.{AreTableRows, IsTableBy, IsTableOf, cell_line};
 ghost use Rattle.textwrap_display.specs.Tables.{cell_texts};
@@ -162,7 +162,7 @@ pub fn table_by<A: Allocator + Copy, C: AnyColumn<A>>(
         (texts_in cells.now) (map string_bytes rows.items)) }
     ensures only_memory { All (λ column. ¬ C.may_overflow column) columns.now
         → IfErr result (λ error. error ≡ WrapError.Memory alloc_error) }
-    ensures no_overflow { All (AllFit C.may_pass columns.now)
+    ensures no_overflow { All (NonePasses C.may_pass columns.now)
         (groups_of (length columns.now) (texts_in cells.now))
         → IfErr result (λ error. error ≡ WrapError.Memory alloc_error) }
 {
@@ -216,7 +216,7 @@ fn wrap_cells<'t, A: Allocator + Copy, C: AnyColumn<A>>(
         AreCells C.makes columns.now (texts_in texts.now) (cell_texts cells.items)) }
     ensures only_memory { All (λ column. ¬ C.may_overflow column) columns.now
         → IfErr result (λ error. error ≡ WrapError.Memory alloc_error) }
-    ensures no_overflow { AllFit C.may_pass columns.now (texts_in texts.now)
+    ensures no_overflow { NonePasses C.may_pass columns.now (texts_in texts.now)
         → IfErr result (λ error. error ≡ WrapError.Memory alloc_error) }
 {
     let mut cells = Vec::new(alloc);

@@ -40,7 +40,7 @@ pub use Rattle.textwrap_marked.specs.Marks.{is_quote}
 pub use Rattle.textwrap_marked.specs.Pieces.{is_cut, pieces, words_of}
 pub use Rattle.textwrap_marked.specs.Prefixes.{blanks, bullets_len, comment_len, hanging_bullets}
 pub use Rattle.textwrap_marked.specs.Prefixes.{hanging_comments, quotes_len}
-pub use Rattle.textwrap_marked.specs.Reflow.{IsLaidOut, IsOfBlock, IsReflowedBehind, IsReflowedFrom}
+pub use Rattle.textwrap_marked.specs.Reflow.{AreOfBlocks, IsOfBlock, IsReflowedBehind, IsReflowedFrom}
 pub use Rattle.textwrap_marked.specs.Reflow.{algorithm_of, break_white, byte_order_mark, ending_if}
 pub use Rattle.textwrap_marked.specs.Reflow.{filled_end, filled_ending, first_room, kept_line}
 pub use Rattle.textwrap_marked.specs.Reflow.{later_room, line_text, line_texts, printed}

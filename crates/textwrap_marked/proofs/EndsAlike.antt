@@ -6,7 +6,7 @@ use Rattle.textwrap_marked.proofs.Common.{nat_eq, nat_lt, None, refl, slice_spli
 use Rattle.textwrap_marked.proofs.Common.{true≢false, ◌∙◌, all-left, all-right, length-slice_split}
 use Rattle.textwrap_marked.proofs.Common.{LineEnding, CRLF, LF, stays, LineText, break_white}
 use Rattle.textwrap_marked.proofs.Common.{ending_if, filled_end, filled_ending, first_room}
-use Rattle.textwrap_marked.proofs.Common.{IsLaidOut, IsOfBlock, later_room, line_text, line_texts}
+use Rattle.textwrap_marked.proofs.Common.{AreOfBlocks, IsOfBlock, later_room, line_text, line_texts}
 use Rattle.textwrap_marked.proofs.Common.{printed, shown_lines, ReflowOptions}
 use Rattle.textwrap_marked.proofs.BegunAlike.{AreBegun}
 use Rattle.textwrap_marked.proofs.Feedless.{NoFeed}
@@ -102,8 +102,8 @@ module _ (options : ReflowOptions) (ending other front_end : List ℕ) (feed : e
       (subst (All NoFeed) (is ∙ grouped) all))
 
   pub one-line : (text : List ℕ) → All NoFeed text
-      → IsLaidOut options ending false ((line ∷ []) ∷ []) text
-      → IsLaidOut options other false ((line ∷ []) ∷ []) text
+      → AreOfBlocks options ending false ((line ∷ []) ∷ []) text
+      → AreOfBlocks options other false ((line ∷ []) ∷ []) text
   one-line text all (front, back, of, later, is) = (
     front,
     back,

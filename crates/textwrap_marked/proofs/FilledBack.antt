@@ -32,7 +32,7 @@ use Rattle.textwrap_marked.proofs.ParagraphLines.{first-begins, first-parts, fir
 use Rattle.textwrap_marked.proofs.ParagraphLines.{first-unfenced, regroup, text-parts}
 use Rattle.textwrap_marked.proofs.PrintedText.{break-again, break-same, break-spaced, ends_as}
 use Rattle.textwrap_marked.proofs.PrintedText.{filled-last, raws-feedless, text-joined}
-use Rattle.textwrap_marked.proofs.ReadBack.{ending, IsLaidOutAny, IsReadBack, Walks}
+use Rattle.textwrap_marked.proofs.ReadBack.{ending, AreOfBlocksAny, IsReadBack, Walks}
 use Rattle.textwrap_marked.proofs.ReturnsOff.{return_if}
 use Rattle.textwrap_marked.proofs.SpacedBack.{AreSpaced, IsWhite}
 use Rattle.textwrap_marked.proofs.TextBlocks.{AreTextWords, as-title-none, last_line, read}
@@ -338,7 +338,7 @@ module _ (options : ReflowOptions) (returns : Bool) (told : IsTold options.endin
   filled-here : (front back : List ℕ) (raws left : List (List ℕ)) → raws ≡ raw ∷ left → p.behind ≡ left
       → AreBlocks ((here ∷ lines) ∷ bs) → stays (beside || is_beside here bs) here ≡ false
       → IsFilled options (ending options returns told) here (here ∷ lines) front
-      → IsLaidOutAny options returns told (is_beside here bs) bs back
+      → AreOfBlocksAny options returns told (is_beside here bs) bs back
       → Walks options returns told (is_beside here bs) bs → IsSafe options state
       → All IsFeedless raws → All IsFeedlessLine (here ∷ lines)
       → IsReadBack options returns told state beside ((here ∷ lines) ∷ bs) raws (front ++ back)
@@ -363,14 +363,14 @@ module _ (options : ReflowOptions) (returns : Bool) (told : IsTold options.endin
       → p.behind ≡ left → AreBlocks ((first ∷ lines) ∷ bs)
       → stays (beside || is_beside first bs) first ≡ false
       → IsFilled options (ending options returns told) first (first ∷ lines) front
-      → IsLaidOutAny options returns told (is_beside first bs) bs back
+      → AreOfBlocksAny options returns told (is_beside first bs) bs back
       → Walks options returns told (is_beside first bs) bs → IsSafe options state
       → All IsFeedless raws → All IsFeedlessLine (first ∷ lines)
       → IsReadBack options returns told state beside ((first ∷ lines) ∷ bs) raws (front ++ back)
   filled-step front back raws left whole same =
       subst (λ l. AreBlocks ((l ∷ lines) ∷ bs) → stays (beside || is_beside l bs) l ≡ false
       → IsFilled options (ending options returns told) l (l ∷ lines) front
-      → IsLaidOutAny options returns told (is_beside l bs) bs back
+      → AreOfBlocksAny options returns told (is_beside l bs) bs back
       → Walks options returns told (is_beside l bs) bs → IsSafe options state → All IsFeedless raws
       → All IsFeedlessLine (l ∷ lines)
       → IsReadBack options returns told state beside ((l ∷ lines) ∷ bs) raws (front ++ back)) (sym p.is)

@@ -5,7 +5,7 @@ use Rattle.textwrap_marked.proofs.BlockLemmas.{blocks-first}
 use Rattle.textwrap_marked.specs.Blocks.{behind_block, blocks, first_block, is_beside}
 use Rattle.textwrap_marked.specs.Blocks.{stays}
 use Rattle.textwrap_marked.specs.Lines.{LineText, line_view}
-use Rattle.textwrap_marked.specs.Reflow.{IsLaidOut, IsOfBlock}
+use Rattle.textwrap_marked.specs.Reflow.{AreOfBlocks, IsOfBlock}
 use Rattle.textwrap_marked.specs.declared.lines.Line.{Line}
 use Rattle.textwrap_marked.specs.declared.options.ReflowOptions.{ReflowOptions}
 
@@ -25,15 +25,15 @@ pub laid-first : (options : ReflowOptions) (ending : List ℕ) (beside next : Bo
     (rest block : List LineText) (front back : List ℕ) → block ≡ first_block (line ∷ rest)
     → next ≡ is_beside line (blocks (behind_block (line ∷ rest)))
     → IsOfBlock options ending (stays (beside || next) line) line block front
-    → IsLaidOut options ending next (blocks (behind_block (line ∷ rest))) back
-    → IsLaidOut options ending beside (blocks (line ∷ rest)) (front ++ back)
+    → AreOfBlocks options ending next (blocks (behind_block (line ∷ rest))) back
+    → AreOfBlocks options ending beside (blocks (line ∷ rest)) (front ++ back)
 laid-first options ending beside next line rest block front back part told of laid =
     let later = blocks (behind_block (line ∷ rest)) in
-    subst (λ bs. IsLaidOut options ending beside bs (front ++ back)) (sym (blocks-first line rest)) (
+    subst (λ bs. AreOfBlocks options ending beside bs (front ++ back)) (sym (blocks-first line rest)) (
       front,
       back,
       subst (λ b. IsOfBlock options ending (stays (beside || is_beside line later) line) line b front) part
           (subst (λ n. IsOfBlock options ending (stays (beside || n) line) line block front) told of),
-      subst (λ n. IsLaidOut options ending n later back) told laid,
+      subst (λ n. AreOfBlocks options ending n later back) told laid,
       refl,
     )

@@ -3,7 +3,7 @@ use Rattle.textwrap_marked.proofs.Common.{◌≡◌, ℕ, Bool, true, false, Lis
 use Rattle.textwrap_marked.proofs.Common.{All-tail, drop, nat_eq, refl, starts_with}
 use Rattle.textwrap_marked.proofs.Common.{starts_with-rest, ending_bytes, blocks, is_beside, Part}
 use Rattle.textwrap_marked.proofs.Common.{parts_of_blocks, text_parts, LineText, lines_of}
-use Rattle.textwrap_marked.proofs.Common.{byte_order_mark, filled_ending, IsLaidOut, IsOfBlock}
+use Rattle.textwrap_marked.proofs.Common.{byte_order_mark, filled_ending, AreOfBlocks, IsOfBlock}
 use Rattle.textwrap_marked.proofs.Common.{IsReflowedBehind, IsReflowedFrom, ReflowOptions}
 use Rattle.textwrap_marked.proofs.PlainLines.{IsPlainBlock, text-plain}
 use Rattle.textwrap_marked.proofs.TextParts.{text-parts}
@@ -15,7 +15,7 @@ module _ (options : ReflowOptions) (IsNew : List ℕ → Part → List ℕ → T
     (text : List ℕ) → IsPlainBlock lines → IsOfBlock options ending is_kept first lines text
     → IsNew ending (record { stays = is_kept; first = first; lines = lines }) text) where
   laid-new : (ending : List ℕ) (beside : Bool) (bs : List (List LineText)) (text : List ℕ)
-      → All IsPlainBlock bs → IsLaidOut options ending beside bs text
+      → All IsPlainBlock bs → AreOfBlocks options ending beside bs text
       → AreNewParts (IsNew ending) (parts_of_blocks beside bs) text
   laid-new ending beside [] text plain is = is
   laid-new ending beside ([] ∷ bs) text plain laid =

@@ -6,7 +6,7 @@ use Rattle.textwrap_marked.proofs.Common.{subst, sym, ◌∙◌, lt-ltb, starts_
 use Rattle.textwrap_marked.proofs.Common.{ap₂, length-slice_split, ending_bytes, LineEnding, CRLF}
 use Rattle.textwrap_marked.proofs.Common.{LF, blocks, AreSameParts, HasPlainMarkers, line_sense}
 use Rattle.textwrap_marked.proofs.Common.{text_parts, first_state, lines_of, read_lines}
-use Rattle.textwrap_marked.proofs.Common.{with_titles, byte_order_mark, filled_ending, IsLaidOut}
+use Rattle.textwrap_marked.proofs.Common.{with_titles, byte_order_mark, filled_ending, AreOfBlocks}
 use Rattle.textwrap_marked.proofs.Common.{IsReflowedBehind, IsReflowedFrom, ReflowOptions}
 use Rattle.textwrap_base.proofs.Common.{⊎_elim}
 use Rattle.textwrap_marked.proofs.Common.{inl, inr, ◌⊎◌}
@@ -70,7 +70,7 @@ from-stays options text reflowed laid = cut (one-or-alike options text reflowed 
     r : IsTextBack options text reflowed
     r = text-back options text reflowed laid
 
-    again : IsLaidOut options (ending_bytes (filled_ending options.ending text)) false
+    again : AreOfBlocks options (ending_bytes (filled_ending options.ending text)) false
         (blocks (lines_of options reflowed)) reflowed
     again = laid-other options text reflowed r.same reflowed laid
 
@@ -78,7 +78,7 @@ from-stays options text reflowed laid = cut (one-or-alike options text reflowed 
         ⊎ (filled_ending options.ending reflowed ≡ filled_ending options.ending text)
         → IsReflowedFrom options reflowed reflowed
     cut (inr same) =
-        subst (λ e. IsLaidOut options (ending_bytes e) false (blocks (lines_of options reflowed)) reflowed)
+        subst (λ e. AreOfBlocks options (ending_bytes e) false (blocks (lines_of options reflowed)) reflowed)
         (sym same) again
     cut (inl split) =
         let whole : reflowed ≡ r.raw =
@@ -89,10 +89,10 @@ from-stays options text reflowed laid = cut (one-or-alike options text reflowed 
         let shown : lines_of options reflowed
         ≡ with_titles (read_lines options first_state (r.raw ∷ [])) =
         ap (λ l. with_titles (read_lines options first_state l)) split in
-        subst (λ ls. IsLaidOut options new false (blocks ls) reflowed) (sym shown)
+        subst (λ ls. AreOfBlocks options new false (blocks ls) reflowed) (sym shown)
         (one-line options old new front feed _ refl reflowed
         (subst (λ t. IsFeedless t) (sym whole) (All-head IsFeedless r.raw r.raws r.feedless))
-        (subst (λ ls. IsLaidOut options old false (blocks ls) reflowed) shown again))
+        (subst (λ ls. AreOfBlocks options old false (blocks ls) reflowed) shown again))
 
 -- ---- behind one
 

@@ -2,7 +2,7 @@
 use Rattle.textwrap_marked.proofs.Common.{◌≡◌, ℕ, Bool, true, false, List, [], ◌∷◌, ◌++◌, sym, ap}
 use Rattle.textwrap_marked.proofs.Common.{◌∙◌, drop, IsDividedBy, sizes_of, WordText, ending_bytes}
 use Rattle.textwrap_marked.proofs.Common.{blocks, is_beside, LineText, lines_of, algorithm_of}
-use Rattle.textwrap_marked.proofs.Common.{byte_order_mark, filled_end, filled_ending, IsLaidOut}
+use Rattle.textwrap_marked.proofs.Common.{byte_order_mark, filled_end, filled_ending, AreOfBlocks}
 use Rattle.textwrap_marked.proofs.Common.{IsOfBlock, IsReflowedBehind, IsReflowedFrom, printed}
 use Rattle.textwrap_marked.proofs.Common.{shown_lines, ReflowOptions}
 use Rattle.textwrap_base.proofs.Common.{priced_at}
@@ -30,7 +30,7 @@ module _ (options : ReflowOptions) (ending : List ℕ) where
       (divided-one (algorithm_of options.algorithm) _ _ division second divided by) ∙ sym same
 
   laid-one : (beside : Bool) (bs : List (List LineText)) (text other : List ℕ)
-      → IsLaidOut options ending beside bs text → IsLaidOut options ending beside bs other
+      → AreOfBlocks options ending beside bs text → AreOfBlocks options ending beside bs other
       → text ≡ other
   laid-one beside [] text other is same = is ∙ sym same
   laid-one beside ([] ∷ bs) text other is same = laid-one beside bs text other is same

@@ -4,10 +4,10 @@ use Rattle.textwrap_marked.proofs.Common.{All-append, ap, arith, flat_map, join_
 use Rattle.textwrap_marked.proofs.Common.{map, nat_lt, refl, subst, sym, ◌∙◌, all-left}
 use Rattle.textwrap_marked.proofs.Common.{all-right, flat, ap₂, flat_map-append, is_beside, stays}
 use Rattle.textwrap_marked.proofs.Common.{AreSameParts, HasPlainMarkers, IsSameBy, line_sense}
-use Rattle.textwrap_marked.proofs.Common.{parts_of_blocks, LineText, StateText, IsLaidOut, words_of}
+use Rattle.textwrap_marked.proofs.Common.{parts_of_blocks, LineText, StateText, AreOfBlocks, words_of}
 use Rattle.textwrap_marked.proofs.Common.{kept_line, ReflowOptions, ◌+◌, cases_Bool, IsOfBlock, not}
 use Rattle.textwrap_marked.proofs.PrintedText.{ends_as, filled-last}
-use Rattle.textwrap_marked.specs.Within.{IsLaidOutWithin, touches}
+use Rattle.textwrap_marked.specs.Within.{AreOfBlocksWithin, touches}
 use Rattle.textwrap_marked.specs.declared.within.LineRange.{LineRange}
 use Rattle.textwrap_marked.proofs.AnewLines.{anew, anew_raw, IsTold, kept-anew, last-anew, one-anew}
 use Rattle.textwrap_marked.proofs.BegunAlike.{AreBegun}
@@ -40,16 +40,16 @@ module _ (options : ReflowOptions) (returns : Bool) (told : IsTold options.endin
     pub sense : HasPlainMarkers options → flat_map line_sense again ≡ flat_map line_sense raws
 
   -- one block after the other: those that stay, and others or none, are as they were
-  abbrev pub IsLaidOutAny : Bool → List (List LineText) → List ℕ → Type 0
-  IsLaidOutAny beside [] text = text ≡ []
-  IsLaidOutAny beside ([] ∷ bs) text = IsLaidOutAny beside bs text
-  IsLaidOutAny beside ((first ∷ lines) ∷ bs) text =
+  abbrev pub AreOfBlocksAny : Bool → List (List LineText) → List ℕ → Type 0
+  AreOfBlocksAny beside [] text = text ≡ []
+  AreOfBlocksAny beside ([] ∷ bs) text = AreOfBlocksAny beside bs text
+  AreOfBlocksAny beside ((first ∷ lines) ∷ bs) text =
       (is_kept : Bool) × (stays (beside || is_beside first bs) first ≡ true → is_kept ≡ true)
       × (front : List ℕ) × (back : List ℕ) × IsOfBlock options ending is_kept first (first ∷ lines) front
-      × IsLaidOutAny (is_beside first bs) bs back × (text ≡ front ++ back)
+      × AreOfBlocksAny (is_beside first bs) bs back × (text ≡ front ++ back)
 
   pub laid-any : (bs : List (List LineText)) (beside : Bool) (text : List ℕ)
-      → IsLaidOut options ending beside bs text → IsLaidOutAny beside bs text
+      → AreOfBlocks options ending beside bs text → AreOfBlocksAny beside bs text
   laid-any [] beside text laid = laid
   laid-any ([] ∷ bs) beside text laid = laid-any bs beside text laid
   laid-any ((first ∷ lines) ∷ bs) beside text (front, back, of, later, is) = (
@@ -63,7 +63,7 @@ module _ (options : ReflowOptions) (returns : Bool) (told : IsTold options.endin
   )
 
   pub within-any : (range : LineRange) (start : ℕ) (bs : List (List LineText)) (beside : Bool) (text : List ℕ)
-      → IsLaidOutWithin options range ending start beside bs text → IsLaidOutAny beside bs text
+      → AreOfBlocksWithin options range ending start beside bs text → AreOfBlocksAny beside bs text
   within-any range start [] beside text laid = laid
   within-any range start ([] ∷ bs) beside text laid = within-any range start bs beside text laid
   within-any range start ((first ∷ lines) ∷ bs) beside text (front, back, of, later, is) =
@@ -83,7 +83,7 @@ module _ (options : ReflowOptions) (returns : Bool) (told : IsTold options.endin
   abbrev pub Walks : Bool → List (List LineText) → Type 0
   Walks beside bs =
       (state : StateText) (raws : List (List ℕ)) (text : List ℕ) → flat bs ≡ read options state raws
-      → IsLaidOutAny beside bs text → IsSafe options state → All IsFeedless raws
+      → AreOfBlocksAny beside bs text → IsSafe options state → All IsFeedless raws
       → IsReadBack state beside bs raws text
 
   -- a block that is as it was
@@ -91,7 +91,7 @@ module _ (options : ReflowOptions) (returns : Bool) (told : IsTold options.endin
       → Walks (is_beside first bs) bs → AreBlocks ((first ∷ lines) ∷ bs)
       → (state : StateText) (raws : List (List ℕ)) (front back : List ℕ)
       → (first ∷ lines) ++ flat bs ≡ read options state raws → front ≡ kept_text options (first ∷ lines)
-      → IsLaidOutAny (is_beside first bs) bs back → IsSafe options state
+      → AreOfBlocksAny (is_beside first bs) bs back → IsSafe options state
       → All IsFeedless raws
       → IsReadBack state beside ((first ∷ lines) ∷ bs) raws (front ++ back)
   kept-step beside first lines bs walks (one, stops, are) state raws front back reads is laid safe free =

@@ -6,7 +6,7 @@ use Rattle.textwrap_marked.proofs.Common.{ending_bytes, blocks, is_beside, stays
 use Rattle.textwrap_marked.proofs.Common.{IsSameBy, Part, parts_of_blocks, text_parts}
 use Rattle.textwrap_marked.proofs.Common.{without_returns, entered, first_state, line_of, lines_of}
 use Rattle.textwrap_marked.proofs.Common.{LineText, passed, read_lines, StateText, with_titles}
-use Rattle.textwrap_marked.proofs.Common.{pieces, algorithm_of, filled_ending, IsLaidOut, IsOfBlock}
+use Rattle.textwrap_marked.proofs.Common.{pieces, algorithm_of, filled_ending, AreOfBlocks, IsOfBlock}
 use Rattle.textwrap_marked.proofs.Common.{IsReflowedFrom, line_texts, printed, ReflowOptions}
 use Rattle.textwrap_marked.proofs.TextBack.{text-back}
 use Rattle.textwrap_marked.specs.Columns.{columns}
@@ -54,7 +54,7 @@ module _ (options : ReflowOptions) (ending : List ℕ) where
       × news-same parts others more i back × (text ≡ front ++ back)
 
   laid-news : (bs : List (List LineText)) (beside : Bool)
-      → IsLaidOut options ending beside bs ≡ AreNewParts Of (parts_of_blocks beside bs)
+      → AreOfBlocks options ending beside bs ≡ AreNewParts Of (parts_of_blocks beside bs)
   laid-news [] beside = refl
   laid-news ([] ∷ bs) beside = laid-news bs beside
   laid-news ((first ∷ lines) ∷ bs) beside =
@@ -69,8 +69,8 @@ module _ (options : ReflowOptions) (text other : List ℕ)
   abbrev end_of : List ℕ → List ℕ
   end_of t = ending_bytes (filled_ending options.ending t)
 
-  laid-same : (e : List ℕ) → IsLaidOut options e false (blocks (lines_of options text))
-      ≡ IsLaidOut options e false (blocks (lines_of options other))
+  laid-same : (e : List ℕ) → AreOfBlocks options e false (blocks (lines_of options text))
+      ≡ AreOfBlocks options e false (blocks (lines_of options other))
   laid-same e =
       laid-news options e (blocks (lines_of options text)) false ∙ news-same options e _ _ same
       ∙ sym (laid-news options e (blocks (lines_of options other)) false)
@@ -80,11 +80,11 @@ module _ (options : ReflowOptions) (text other : List ℕ)
       → IsReflowedFrom options text reflowed
   from-other ends reflowed laid =
       subst (λ New. New reflowed) (sym (laid-same (end_of text)))
-      (subst (λ x. IsLaidOut options (ending_bytes x) false (blocks (lines_of options other)) reflowed)
+      (subst (λ x. AreOfBlocks options (ending_bytes x) false (blocks (lines_of options other)) reflowed)
       ends laid)
 
   pub laid-other : (reflowed : List ℕ) → IsReflowedFrom options text reflowed
-      → IsLaidOut options (end_of text) false (blocks (lines_of options other)) reflowed
+      → AreOfBlocks options (end_of text) false (blocks (lines_of options other)) reflowed
   laid-other reflowed laid = subst (λ New. New reflowed) (laid-same (end_of text)) laid
 
 -- ---- another width

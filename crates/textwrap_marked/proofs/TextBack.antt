@@ -6,7 +6,7 @@ use Rattle.textwrap_marked.proofs.Common.{cases_Bool, refl, slice_split, subst, 
 use Rattle.textwrap_marked.proofs.Common.{◌∙◌, all-left, flat, length-slice_split, LineEnding}
 use Rattle.textwrap_marked.proofs.Common.{blocks, is_beside, stays, AreSameParts, HasPlainMarkers}
 use Rattle.textwrap_marked.proofs.Common.{line_sense, parts_of_blocks, text_parts, first_state}
-use Rattle.textwrap_marked.proofs.Common.{lines_of, LineText, StateText, filled_ending, IsLaidOut}
+use Rattle.textwrap_marked.proofs.Common.{lines_of, LineText, StateText, filled_ending, AreOfBlocks}
 use Rattle.textwrap_marked.proofs.Common.{IsOfBlock, IsReflowedFrom, ReflowOptions}
 use Rattle.textwrap_marked.proofs.AnewLines.{bytes-by, IsTold, returns_by}
 use Rattle.textwrap_marked.proofs.BegunAlike.{AreBegun}
@@ -16,10 +16,10 @@ use Rattle.textwrap_marked.proofs.Feedless.{split-feedless, split-joined}
 use Rattle.textwrap_marked.proofs.FenceMarks.{IsSafe, safe-none}
 use Rattle.textwrap_marked.proofs.FilledBack.{filled-step}
 use Rattle.textwrap_marked.proofs.NewBlock.{paragraph-at}
-use Rattle.textwrap_marked.proofs.ReadBack.{ending, IsLaidOutAny, IsReadBack, kept-step, laid-any}
+use Rattle.textwrap_marked.proofs.ReadBack.{ending, AreOfBlocksAny, IsReadBack, kept-step, laid-any}
 use Rattle.textwrap_marked.proofs.ReadBack.{within-any}
 use Rattle.textwrap_marked.proofs.Common.{false_from_ne_true}
-use Rattle.textwrap_marked.specs.Within.{IsLaidOutWithin, IsReflowedWithinFrom}
+use Rattle.textwrap_marked.specs.Within.{AreOfBlocksWithin, IsReflowedWithinFrom}
 use Rattle.textwrap_marked.specs.declared.within.LineRange.{LineRange}
 use Rattle.textwrap_marked.proofs.TextBlocks.{read, read-more}
 use Rattle.textwrap_marked.proofs.TextParts.{blocks-flat}
@@ -50,7 +50,7 @@ module _ (options : ReflowOptions) (returns : Bool) (told : IsTold options.endin
 
   pub walk-blocks : (bs : List (List LineText)) (beside : Bool) → AreBlocks bs → (state : StateText)
       (raws : List (List ℕ)) (text : List ℕ) → flat bs ≡ read options state raws
-      → IsLaidOutAny options returns told beside bs text → IsSafe options state
+      → AreOfBlocksAny options returns told beside bs text → IsSafe options state
       → All IsFeedless raws → IsReadBack options returns told state beside bs raws text
   walk-blocks [] beside are state raws text reads laid safe free = record {
     again = [];
@@ -75,7 +75,7 @@ module _ (options : ReflowOptions) (returns : Bool) (told : IsTold options.endin
       step : (b : Bool) → (stays (beside || is_beside first bs) first ≡ true → b ≡ true)
           → IsOfBlock options (ending options returns told) b first (first ∷ lines) front
           → ((state : StateText) (raws : List (List ℕ)) (text : List ℕ) → flat bs ≡ read options state raws
-          → IsLaidOutAny options returns told (is_beside first bs) bs text
+          → AreOfBlocksAny options returns told (is_beside first bs) bs text
           → IsSafe options state → All IsFeedless raws
           → IsReadBack options returns told state (is_beside first bs) bs raws text)
           → IsReadBack options returns told state beside ((first ∷ lines) ∷ bs) raws (front ++ back)
@@ -115,7 +115,7 @@ module _ (options : ReflowOptions) (returns : Bool) (told : IsTold options.endin
       }
 
   pub parts-back : (text reflowed : List ℕ)
-      → IsLaidOutAny options returns told false (blocks (lines_of options text)) reflowed
+      → AreOfBlocksAny options returns told false (blocks (lines_of options text)) reflowed
       → AreReadBack text reflowed
   parts-back text reflowed laid =
       let raws = slice_split (λ c. c == 10) text in
@@ -153,7 +153,7 @@ text-back options text reflowed laid =
     let bs = blocks (lines_of options text) in
     let told = told-by options.ending text in
     parts-back options (returns_by e) told text reflowed (laid-any options (returns_by e) told bs false reflowed
-    (subst (λ b. IsLaidOut options b false bs reflowed) (bytes-by e) laid))
+    (subst (λ b. AreOfBlocks options b false bs reflowed) (bytes-by e) laid))
 
 -- where only some lines are filled
 pub within-back : (options : ReflowOptions) (range : LineRange) (text reflowed : List ℕ)
@@ -164,4 +164,4 @@ within-back options range text reflowed laid =
     let told = told-by options.ending text in
     parts-back options (returns_by e) told text reflowed
     (within-any options (returns_by e) told range 0 bs false reflowed
-    (subst (λ b. IsLaidOutWithin options range b 0 false bs reflowed) (bytes-by e) laid))
+    (subst (λ b. AreOfBlocksWithin options range b 0 false bs reflowed) (bytes-by e) laid))

@@ -8,7 +8,7 @@ use Rattle.textwrap_marked.proofs.BlockLemmas.{blocks-first}
 use Rattle.textwrap_marked.specs.Blocks.{behind_block, blocks, first_block, is_beside, stays}
 use Rattle.textwrap_marked.specs.Lines.{LineText}
 use Rattle.textwrap_marked.specs.Reflow.{IsOfBlock}
-use Rattle.textwrap_marked.specs.Within.{IsLaidOutWithin, range_behind, touches}
+use Rattle.textwrap_marked.specs.Within.{AreOfBlocksWithin, range_behind, touches}
 use Rattle.textwrap_marked.specs.declared.options.ReflowOptions.{ReflowOptions}
 use Rattle.textwrap_marked.specs.declared.within.LineRange.{LineRange}
 
@@ -35,8 +35,8 @@ pub within-first : (options : ReflowOptions) (range : LineRange) (ending : List 
     → block ≡ first_block (line ∷ rest) → next ≡ is_beside line (blocks (behind_block (line ∷ rest)))
     → end ≡ start + length block → outside ≡ not (touches range start end)
     → IsOfBlock options ending (stays (beside || next || outside) line) line block front
-    → IsLaidOutWithin options range ending end next (blocks (behind_block (line ∷ rest))) back
-    → IsLaidOutWithin options range ending start beside (blocks (line ∷ rest)) (front ++ back)
+    → AreOfBlocksWithin options range ending end next (blocks (behind_block (line ∷ rest))) back
+    → AreOfBlocksWithin options range ending start beside (blocks (line ∷ rest)) (front ++ back)
 within-first options range ending start end beside next outside line rest block front back part told
     ends out of laid =
     let later = blocks (behind_block (line ∷ rest)) in
@@ -47,16 +47,16 @@ within-first options range ending start end beside next outside line rest block 
     (stays (beside || n || not (touches range start (start + length block))) line) line block front) told
     (subst (λ o. IsOfBlock options ending (stays (beside || next || o) line) line block front)
     (out ∙ ap (λ e. not (touches range start e)) ends) of) in
-    let more = subst (λ e. IsLaidOutWithin options range ending e (is_beside line later) later back) ends
-    (subst (λ n. IsLaidOutWithin options range ending end n later back) told laid) in
-    subst (λ bs. IsLaidOutWithin options range ending start beside bs (front ++ back))
+    let more = subst (λ e. AreOfBlocksWithin options range ending e (is_beside line later) later back) ends
+    (subst (λ n. AreOfBlocksWithin options range ending end n later back) told laid) in
+    subst (λ bs. AreOfBlocksWithin options range ending start beside bs (front ++ back))
     (sym (blocks-first line rest)) (
       front,
       back,
       subst (λ b. IsOfBlock options ending
           (stays (beside || is_beside line later || not (touches range start (start + length b))) line)
           line b front) part shown,
-      subst (λ b. IsLaidOutWithin options range ending (start + length b) (is_beside line later) later
+      subst (λ b. AreOfBlocksWithin options range ending (start + length b) (is_beside line later) later
           back) part more,
       refl,
     )

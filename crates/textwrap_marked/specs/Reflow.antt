@@ -99,13 +99,13 @@ module _ (options : ReflowOptions) (ending : List ℕ) where
   IsOfBlock false first lines text = IsFilled first lines text
 
   -- one block after the other, where a field stands beside the first, if it is one
-  abbrev pub IsLaidOut : Bool → List (List LineText) → List ℕ → Type 0
-  IsLaidOut beside [] text = text ≡ []
-  IsLaidOut beside ([] ∷ blocks) text = IsLaidOut beside blocks text
-  IsLaidOut beside ((first ∷ lines) ∷ blocks) text =
+  abbrev pub AreOfBlocks : Bool → List (List LineText) → List ℕ → Type 0
+  AreOfBlocks beside [] text = text ≡ []
+  AreOfBlocks beside ([] ∷ blocks) text = AreOfBlocks beside blocks text
+  AreOfBlocks beside ((first ∷ lines) ∷ blocks) text =
       (front : List ℕ) × (back : List ℕ)
       × IsOfBlock (stays (beside || is_beside first blocks) first) first (first ∷ lines) front
-      × IsLaidOut (is_beside first blocks) blocks back × (text ≡ front ++ back)
+      × AreOfBlocks (is_beside first blocks) blocks back × (text ≡ front ++ back)
 
 -- ---- the whole text
 
@@ -128,7 +128,7 @@ byte_order_mark = 0xEF ∷ 0xBB ∷ 0xBF ∷ []
 -- a text without a byte order mark
 abbrev pub IsReflowedFrom : ReflowOptions → List ℕ → List ℕ → Type 0
 IsReflowedFrom options text reflowed =
-    IsLaidOut options (ending_bytes (filled_ending options.ending text)) false
+    AreOfBlocks options (ending_bytes (filled_ending options.ending text)) false
     (blocks (lines_of options text)) reflowed
 
 -- a byte order mark stays, if there is one, and what follows it is reflowed

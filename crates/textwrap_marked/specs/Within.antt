@@ -19,21 +19,21 @@ range_behind range n = record { first = range.first - n; last = range.last - n }
 
 module _ (options : ReflowOptions) (range : LineRange) (ending : List ℕ) where
   -- one block after the other, behind so many lines: those that have no line in the range stay
-  abbrev pub IsLaidOutWithin : ℕ → Bool → List (List LineText) → List ℕ → Type 0
-  IsLaidOutWithin start beside [] text = text ≡ []
-  IsLaidOutWithin start beside ([] ∷ blocks) text = IsLaidOutWithin start beside blocks text
-  IsLaidOutWithin start beside ((first ∷ lines) ∷ blocks) text =
+  abbrev pub AreOfBlocksWithin : ℕ → Bool → List (List LineText) → List ℕ → Type 0
+  AreOfBlocksWithin start beside [] text = text ≡ []
+  AreOfBlocksWithin start beside ([] ∷ blocks) text = AreOfBlocksWithin start beside blocks text
+  AreOfBlocksWithin start beside ((first ∷ lines) ∷ blocks) text =
       let end = start + length (first ∷ lines) in
       (front : List ℕ) × (back : List ℕ)
       × IsOfBlock options ending
       (stays (beside || is_beside first blocks || not (touches range start end)) first) first
       (first ∷ lines) front
-      × IsLaidOutWithin end (is_beside first blocks) blocks back × (text ≡ front ++ back)
+      × AreOfBlocksWithin end (is_beside first blocks) blocks back × (text ≡ front ++ back)
 
 -- a text without a byte order mark
 abbrev pub IsReflowedWithinFrom : ReflowOptions → LineRange → List ℕ → List ℕ → Type 0
 IsReflowedWithinFrom options range text reflowed =
-    IsLaidOutWithin options range (ending_bytes (filled_ending options.ending text)) 0 false
+    AreOfBlocksWithin options range (ending_bytes (filled_ending options.ending text)) 0 false
     (blocks (lines_of options text)) reflowed
 
 abbrev pub IsReflowedWithinBehind : Bool → ReflowOptions → LineRange → List ℕ → List ℕ → Type 0

@@ -5,7 +5,7 @@ ghost use Rattle.textwrap_lines.specs.LineEnding.{ending_bytes};
 ghost use Rattle.textwrap_marked.specs.Blocks.{blocks, is_beside, stays};
 ghost use Rattle.textwrap_marked.specs.Lines.{line_view};
 ghost use Rattle.textwrap_marked.specs.Reading.{lines_left};
-ghost use Rattle.textwrap_marked.specs.Reflow.{ending_of, filled_ending, IsLaidOut, IsOfBlock};
+ghost use Rattle.textwrap_marked.specs.Reflow.{ending_of, filled_ending, AreOfBlocks, IsOfBlock};
 ghost use Rattle.textwrap_marked.specs.Reflow.{IsReflowed, IsReflowedFrom};
 
 use crate::blocks::{BlocksAhead, are_fields};
@@ -97,7 +97,7 @@ fn push_blocks(
     options: &ReflowOptions<'_>,
 ) -> Result<(), WrapError>
     ensures laid_out { OnOk result ((text : List ℕ)
-        × IsLaidOut options.now ending.now false (blocks (lines_left options.now (Some all.entry))) text
+        × AreOfBlocks options.now ending.now false (blocks (lines_left options.now (Some all.entry))) text
         × (string_bytes output.new ≡ string_bytes output.old ++ text)) }
     ensures only_memory { ¬ Overflowed result }
 {

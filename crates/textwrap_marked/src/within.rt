@@ -3,7 +3,7 @@ ghost use Rattle.std.specs.Prelude.{◌≡◌, ℕ, ◌++◌, false, List, map, 
 ghost use Rattle.textwrap_base.specs.Errors.{Overflowed};
 ghost use Rattle.textwrap_marked.specs.Blocks.{blocks};
 ghost use Rattle.textwrap_marked.specs.Reading.{lines_left};
-ghost use Rattle.textwrap_marked.specs.Within.{IsLaidOutWithin, IsReflowedWithin, IsReflowedWithinFrom};
+ghost use Rattle.textwrap_marked.specs.Within.{AreOfBlocksWithin, IsReflowedWithin, IsReflowedWithinFrom};
 ghost use Rattle.textwrap_marked.specs.Within.{range_behind, touches};
 
 use crate::blocks::BlocksAhead;
@@ -102,7 +102,7 @@ fn push_blocks(
     options: &ReflowOptions<'_>,
 ) -> Result<(), WrapError>
     ensures laid_out { OnOk result ((text : List ℕ)
-        × IsLaidOutWithin options.now range ending.now 0 false
+        × AreOfBlocksWithin options.now range ending.now 0 false
         (blocks (lines_left options.now (Some all.entry))) text
         × (string_bytes output.new ≡ string_bytes output.old ++ text)) }
     ensures only_memory { ¬ Overflowed result }

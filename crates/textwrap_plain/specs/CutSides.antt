@@ -7,12 +7,12 @@ use Rattle.textwrap_words.proofs.Common.{IsPrintable, is_blank}
 use Rattle.textwrap_lines.specs.Printable.{AfterOthers, BeforeOthers}
 use Rattle.textwrap_unicode.proofs.PrintableCuts.{cut-after_other, cut-before_other}
 use Rattle.textwrap_unicode.specs.declared.numbers.Numbers.TheVariants.{ByExpression, ByPairs}
-use Rattle.textwrap_plain.specs.Options.{is_cut_by}
+use Rattle.textwrap_plain.specs.Options.{is_cut_plainly}
 use Rattle.textwrap_plain.specs.declared.options.PlainSeparator.{PlainSeparator}
 use Rattle.textwrap_plain.specs.declared.options.PlainSeparator.TheVariants.{AtBlanks, AtBreaks}
 
 pub cuts-before_others : (separator : PlainSeparator) (text : List ℕ) → IsPrintable text
-    → BeforeOthers (is_cut_by separator text) text
+    → BeforeOthers (is_cut_plainly separator text) text
 cuts-before_others AtBlanks text printable place after inside cut = not-true _ (and_parts _ _ cut).1
 cuts-before_others (AtBreaks ByPairs) text printable place after inside cut =
     cut-before_other text printable place after inside cut
@@ -20,7 +20,7 @@ cuts-before_others (AtBreaks ByExpression) text printable place after inside cut
     absurd (false≢true cut)
 
 pub cuts-after_others : (separator : PlainSeparator) (text : List ℕ) → IsPrintable text
-    → AfterOthers (is_cut_by separator text) text
+    → AfterOthers (is_cut_plainly separator text) text
 cuts-after_others AtBlanks text printable place after inside cut =
     ap is_ascii_alphanumeric (eqb-true (slice_index text (place - 1)) 32
     (and_parts (is_blank (slice_index text (place - 1))) _ cut).0)

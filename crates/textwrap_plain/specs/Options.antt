@@ -23,10 +23,10 @@ words_by AtBlanks line = words_of line
 words_by (AtBreaks numbers) line = map word_of (parts_between (cuts_by numbers line) line)
 
 -- whether a printable text is cut at a place; by the expression of numbers that is not told
-abbrev pub is_cut_by : PlainSeparator → List ℕ → ℕ → Bool
-is_cut_by AtBlanks text place = is_cut (slice_index text (place - 1)) (slice_index text place)
-is_cut_by (AtBreaks ByPairs) text place = at_breaks text place
-is_cut_by (AtBreaks ByExpression) text place = false
+abbrev pub is_cut_plainly : PlainSeparator → List ℕ → ℕ → Bool
+is_cut_plainly AtBlanks text place = is_cut (slice_index text (place - 1)) (slice_index text place)
+is_cut_plainly (AtBreaks ByPairs) text place = at_breaks text place
+is_cut_plainly (AtBreaks ByExpression) text place = false
 
 abbrev pub splitter_as : PlainSplitter → Splitter
 splitter_as NoHyphenation = Whole

@@ -14,12 +14,12 @@ pub(crate) struct PlainWords {
 }
 
 impl PrintableCuts for PlainWords {
-    ghost use Rattle.textwrap_plain.specs.Options.{is_cut_by, words_by};
+    ghost use Rattle.textwrap_plain.specs.Options.{is_cut_plainly, words_by};
     ghost use Rattle.textwrap_plain.specs.CutSides.{cuts-after_others, cuts-before_others};
 
     ghost words = { λ words. words_by words.separator };
 
-    ghost cuts = { λ words. is_cut_by words.separator };
+    ghost cuts = { λ words. is_cut_plainly words.separator };
 
     ghost before_others = { λ words. cuts-before_others words.separator };
 

@@ -4,7 +4,7 @@ use Rattle.textwrap_base.proofs.Common.{length-map, map, map-append, rules, stri
 use Rattle.textwrap_base.proofs.Common.{sym}
 use Rattle.std.specs.Slice.Iter.{chunks_rest, chunks_size}
 use Rattle.textwrap_lines.proofs.Text.Directly.{passed-on}
-use Rattle.textwrap_display.specs.Tables.{AllFit, AreCells, cell_texts, gaps_view, group_rows}
+use Rattle.textwrap_display.specs.Tables.{NonePasses, AreCells, cell_texts, gaps_view, group_rows}
 use Rattle.textwrap_display.specs.Tables.{IsTableBy, texts_in}
 use Rattle.textwrap_display.proofs.TableGroups.{group_fits, groups_fit, rows-more, table-more}
 use Rattle.textwrap_display.proofs.TableGroups.{table-none}
@@ -43,7 +43,7 @@ loop-texts-preserved g c =
           (subst (λ cs. AreCells g.C.AnyColumn.makes columns (texts_in first) (cell_texts cs))
           (sym c.deref.ensures.value) c.in_ok-group.ensures.cells)
           after)),
-      λ fit. groups_fit (AllFit g.C.AnyColumn.may_pass columns) (length columns) (texts_in texts) (texts_in first)
+      λ fit. groups_fit (NonePasses g.C.AnyColumn.may_pass columns) (length columns) (texts_in texts) (texts_in first)
           (texts_in rest) (omega (arith, c.loop-texts.iterator.0, c.loop-texts.invariant.0))
           (ap texts_in whole ∙ map-append (λ text. text.now) first rest) (omega (arith, count, some))
           (omega (arith, first_count, count, front, c.loop-texts.invariant.0))
@@ -66,7 +66,7 @@ returns-in_err-group-clause-no_overflow g c = λ fit.
     let first_count = length-map first (λ text. text.now) in
     passed-on c.from_residual.result c.in_err-group.field-0.0 c.from_residual.ensures.1
     (c.in_err-group.ensures.no_overflow
-    (group_fits (AllFit g.C.AnyColumn.may_pass columns) (length columns) (texts_in texts) (texts_in first)
+    (group_fits (NonePasses g.C.AnyColumn.may_pass columns) (length columns) (texts_in texts) (texts_in first)
     (texts_in rest) (omega (arith, c.loop-texts.iterator.0, c.loop-texts.invariant.0))
     (ap texts_in whole ∙ map-append (λ text. text.now) first rest) (omega (arith, count, some))
     (omega (arith, first_count, count, front, c.loop-texts.invariant.0))

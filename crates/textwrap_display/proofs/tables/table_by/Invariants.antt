@@ -1,7 +1,7 @@
 use Rattle.textwrap_display.proofs.tables.table_by.Given as goal
 use Rattle.textwrap_base.proofs.Common.{◌≡◌, ℕ, List, ◌++◌, All, length, map, string_bytes}
 use Rattle.std.specs.Slice.Iter.{chunks_rest, chunks_size}
-use Rattle.textwrap_display.specs.Tables.{AllFit, gaps_view, groups_of, IsTableBy, texts_in}
+use Rattle.textwrap_display.specs.Tables.{NonePasses, gaps_view, groups_of, IsTableBy, texts_in}
 
 -- with any table of the texts that are left, the rows so far are that of all; and if all texts fit,
 -- those that are left do
@@ -12,6 +12,6 @@ invariant-loop-texts g l =
     → IsTableBy g.C.AnyColumn.makes g.C.AnyColumn.shape l.columns (gaps_view l.gaps) (texts_in (chunks_rest l.texts-iterator)) others
     → IsTableBy g.C.AnyColumn.makes g.C.AnyColumn.shape l.columns (gaps_view l.gaps) (texts_in l.cells)
     (map string_bytes l.rows.items ++ others))
-    × (All (AllFit g.C.AnyColumn.may_pass l.columns) (groups_of (length l.columns) (texts_in l.cells))
-    → All (AllFit g.C.AnyColumn.may_pass l.columns)
+    × (All (NonePasses g.C.AnyColumn.may_pass l.columns) (groups_of (length l.columns) (texts_in l.cells))
+    → All (NonePasses g.C.AnyColumn.may_pass l.columns)
     (groups_of (length l.columns) (texts_in (chunks_rest l.texts-iterator))))

@@ -5,7 +5,7 @@ use Rattle.textwrap_marked.proofs.LaidLemmas.{block-begins, laid-first}
 use Rattle.textwrap_marked.specs.Blocks.{blocks, is_beside, stays}
 use Rattle.textwrap_marked.specs.Lines.{line_view}
 use Rattle.textwrap_marked.specs.Reading.{lines_ahead, lines_left}
-use Rattle.textwrap_marked.specs.Reflow.{IsLaidOut, IsOfBlock}
+use Rattle.textwrap_marked.specs.Reflow.{AreOfBlocks, IsOfBlock}
 
 pub loop-ahead-preserved : goal.loop-ahead-preserved
 loop-ahead-preserved c = λ back laid.
@@ -26,9 +26,9 @@ loop-ahead-preserved c = λ back laid.
     let first = laid-first options ending beside next line rest block front back
     (ap (map line_view) c.deref.ensures.value ∙ c.in_ok-block.ensures.block) told
     (subst (λ l. IsOfBlock options ending (stays (beside || next) l) l block front) begins of)
-    (subst (λ ls. IsLaidOut options ending next (blocks ls) back) c.in_ok-block.ensures.rest laid) in
+    (subst (λ ls. AreOfBlocks options ending next (blocks ls) back) c.in_ok-block.ensures.rest laid) in
     let (whole, all, is) = c.loop-ahead.invariant (front ++ back)
-    (subst (λ a. IsLaidOut options ending beside (blocks (lines_left options a)) (front ++ back))
+    (subst (λ a. AreOfBlocks options ending beside (blocks (lines_left options a)) (front ++ back))
     (sym c.in-Some.is) first) in
     (whole, all, ap (λ t. t ++ back) bytes ∙ append_assoc _ front back ∙ is)
 
@@ -36,6 +36,6 @@ pub returns-clause-laid_out : goal.returns-clause-laid_out
 returns-clause-laid_out c =
     let options = c.args.options.now in
     let (whole, laid, bytes) = c.loop-ahead.invariant []
-    (subst (λ a. IsLaidOut options c.args.ending.now c.loop-ahead.beside (blocks (lines_left options a)) [])
+    (subst (λ a. AreOfBlocks options c.args.ending.now c.loop-ahead.beside (blocks (lines_left options a)) [])
     (sym c.in_default.is) refl) in
     (whole, laid, sym (append-nil _) ∙ bytes)

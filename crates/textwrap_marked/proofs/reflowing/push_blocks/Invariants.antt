@@ -2,14 +2,14 @@ use Rattle.textwrap_marked.proofs.reflowing.push_blocks.Given as goal
 use Rattle.textwrap_base.proofs.Common.{◌≡◌, ◌++◌, ℕ, false, List, Some, string_bytes}
 use Rattle.textwrap_marked.specs.Blocks.{blocks}
 use Rattle.textwrap_marked.specs.Reading.{lines_left, measure_left}
-use Rattle.textwrap_marked.specs.Reflow.{IsLaidOut}
+use Rattle.textwrap_marked.specs.Reflow.{AreOfBlocks}
 
 -- with whatever becomes of the blocks that are left, it is what becomes of all
 abbrev pub invariant-loop-ahead : goal.invariant-loop-ahead
 invariant-loop-ahead l = (back : List ℕ)
-    → IsLaidOut l.options l.ending l.beside (blocks (lines_left l.options l.ahead)) back
+    → AreOfBlocks l.options l.ending l.beside (blocks (lines_left l.options l.ahead)) back
     → (whole : List ℕ)
-    × IsLaidOut l.options l.ending false (blocks (lines_left l.options (Some l.fn.all))) whole
+    × AreOfBlocks l.options l.ending false (blocks (lines_left l.options (Some l.fn.all))) whole
     × (string_bytes l.output ++ back ≡ string_bytes l.fn.output ++ whole)
 
 abbrev pub decreases-loop-ahead : goal.decreases-loop-ahead

@@ -9,7 +9,7 @@ use Rattle.textwrap_marked.specs.Blocks.{blocks, is_beside, stays}
 use Rattle.textwrap_marked.specs.Lines.{line_view}
 use Rattle.textwrap_marked.specs.Reading.{lines_ahead, lines_left}
 use Rattle.textwrap_marked.specs.Reflow.{IsOfBlock}
-use Rattle.textwrap_marked.specs.Within.{IsLaidOutWithin, range_behind, touches}
+use Rattle.textwrap_marked.specs.Within.{AreOfBlocksWithin, range_behind, touches}
 
 pub loop-ahead-init : goal.loop-ahead-init
 loop-ahead-init c = (0, behind-none c.args.range, λ back laid. (back, laid, refl))
@@ -43,10 +43,10 @@ loop-ahead-preserved c =
           (ap (map line_view) c.deref.ensures.value ∙ c.in_ok-block.ensures.block) told refl (ap not (c.touches-is_outside.ensures ∙ ap₂ (λ r n. touches r 0 n) counted len
           ∙ touches-behind range start (length block)))
           (subst (λ l. IsOfBlock options ending (stays (beside || next || outside) l) l block front) begins of)
-          (subst (λ ls. IsLaidOutWithin options range ending (start + length block) next (blocks ls) back)
+          (subst (λ ls. AreOfBlocksWithin options range ending (start + length block) next (blocks ls) back)
           c.in_ok-block.ensures.rest laid) in
           let (whole, all, is) = becomes (front ++ back)
-          (subst (λ a. IsLaidOutWithin options range ending start beside (blocks (lines_left options a))
+          (subst (λ a. AreOfBlocksWithin options range ending start beside (blocks (lines_left options a))
           (front ++ back)) (sym c.in-Some.is) first) in
           (whole, all, ap (λ t. t ++ back) bytes ∙ append_assoc _ front back ∙ is),
     )
@@ -56,6 +56,6 @@ returns-clause-laid_out c =
     let options = c.args.options.now in
     let (start, counted, becomes) = c.loop-ahead.invariant in
     let (whole, laid, bytes) = becomes []
-    (subst (λ a. IsLaidOutWithin options c.args.range c.args.ending.now start c.loop-ahead.beside
+    (subst (λ a. AreOfBlocksWithin options c.args.range c.args.ending.now start c.loop-ahead.beside
     (blocks (lines_left options a)) []) (sym c.in_default.is) refl) in
     (whole, laid, sym (append-nil _) ∙ bytes)

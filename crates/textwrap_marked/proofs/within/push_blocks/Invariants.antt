@@ -2,15 +2,15 @@ use Rattle.textwrap_marked.proofs.within.push_blocks.Given as goal
 use Rattle.textwrap_base.proofs.Common.{◌≡◌, ◌++◌, ℕ, false, List, Some, string_bytes}
 use Rattle.textwrap_marked.specs.Blocks.{blocks}
 use Rattle.textwrap_marked.specs.Reading.{lines_left, measure_left}
-use Rattle.textwrap_marked.specs.Within.{IsLaidOutWithin, range_behind}
+use Rattle.textwrap_marked.specs.Within.{AreOfBlocksWithin, range_behind}
 
 -- behind so many lines, with whatever becomes of the blocks that are left, it is what becomes of all
 abbrev pub invariant-loop-ahead : goal.invariant-loop-ahead
 invariant-loop-ahead l = (start : ℕ) × (l.range ≡ range_behind l.fn.range start) × ((back : List ℕ)
-    → IsLaidOutWithin l.options l.fn.range l.ending start l.beside
+    → AreOfBlocksWithin l.options l.fn.range l.ending start l.beside
     (blocks (lines_left l.options l.ahead)) back
     → (whole : List ℕ)
-    × IsLaidOutWithin l.options l.fn.range l.ending 0 false
+    × AreOfBlocksWithin l.options l.fn.range l.ending 0 false
     (blocks (lines_left l.options (Some l.fn.all))) whole
     × (string_bytes l.output ++ back ≡ string_bytes l.fn.output ++ whole))
 

@@ -61,6 +61,7 @@ impl<'t> Iterator for Characters<'t> {
 
     ghost remaining = { item_count characters_left };
 
+    #[inline(always)]
     fn next(&mut self) -> Option<Character> {
         let Some((at, ch)) = self.rest.next() else {
             return None;

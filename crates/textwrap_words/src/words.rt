@@ -1,12 +1,13 @@
 //! The columns of a text, fragments and words: what the original has in its module `core`. The text
 //! `foo bar` has 7 columns, and its word `foo` is a fragment of width 3, with a blank after it.
-ghost use Rattle.std.specs.Prelude.{◌≡◌, ◌≢◌, ℕ, ◌+◌, ◌<◌, ◌≤◌, length, drop};
+ghost use Rattle.std.specs.Prelude.{◌≡◌, ◌≢◌, ℕ, ◌+◌, ◌<◌, ◌≤◌, length, drop, slice_index};
 ghost use Rattle.std.specs.Prelude.{All, IfOk, IsCharBoundary, string_bytes};
 ghost use Rattle.textwrap_words.specs.Units.{text_width, escape, stripped};
 ghost use Rattle.textwrap_words.specs.Words.{word_view, sizes_of, word_of};
 
 use crate::blanks::split_final_blanks;
 use crate::characters::{Characters, columns};
+use crate::escapes::State;
 use crate::printable::printable_len;
 pub use breaking::{BreakApart, break_words};
 use std::alloc::{AllocError, Allocator};
@@ -36,37 +37,59 @@ pub fn display_width(text: &str) -> usize
 }
 
 /// How many bytes at the beginning of a text are measured at once, and their columns: as much as is
-/// printable ASCII, or escape sequences, or other characters.
+/// printable ASCII, or an escape sequence, or other characters.
 fn first_columns(text: &str) -> (usize, usize)
     requires { 0 < length text.now }
     ensures boundary { IsCharBoundary text.now result.0 }
     ensures some { 0 < result.0 }
     ensures columns { text_width text.now ≡ result.1 + text_width (drop result.0 text.now) }
 {
-    let printable = printable_len(text.as_bytes());
+    let bytes = text.as_bytes();
+    let printable = printable_len(bytes);
     if printable > 0 {
         (printable, printable)
+    } else if bytes[0] == 0x1b {
+        sequence_columns(text)
     } else {
-        character_columns(text)
+        visible_columns(text)
     }
 }
 
-/// The bytes and the columns of the characters that a text begins with: of its escape sequences, or
-/// of those up to a visible blank.
-fn character_columns(text: &str) -> (usize, usize)
+/// The bytes and the columns of the first character of a text, or of the escape sequence that it
+/// begins with.
+fn sequence_columns(text: &str) -> (usize, usize)
     requires { 0 < length text.now }
     ensures boundary { IsCharBoundary text.now result.0 }
     ensures some { 0 < result.0 }
     ensures columns { text_width text.now ≡ result.1 + text_width (drop result.0 text.now) }
 {
+    let mut state = State::Text;
     let mut width = 0;
-    for character in Characters::of(text) {
-        if character.is_visible {
-            if character.at > 0 && (width == 0 || character.ch == ' ') {
-                return (character.at, width);
-            }
-            width += columns(character.ch);
+    for (at, ch) in text.char_indices() {
+        if at > 0 && matches!(state, State::Text) {
+            return (at, width);
         }
+        let (next, is_visible) = state.step(ch);
+        width += if is_visible { columns(ch) } else { 0 };
+        state = next;
+    }
+    (text.len(), width)
+}
+
+/// The bytes and the columns of the visible characters that a text begins with, up to a blank.
+fn visible_columns(text: &str) -> (usize, usize)
+    requires some { 0 < length text.now }
+    requires visible { slice_index text.now 0 ≢ escape }
+    ensures boundary { IsCharBoundary text.now result.0 }
+    ensures some { 0 < result.0 }
+    ensures columns { text_width text.now ≡ result.1 + text_width (drop result.0 text.now) }
+{
+    let mut width = 0;
+    for (at, ch) in text.char_indices() {
+        if at > 0 && (ch == ' ' || ch == '\x1b') {
+            return (at, width);
+        }
+        width += columns(ch);
     }
     (text.len(), width)
 }

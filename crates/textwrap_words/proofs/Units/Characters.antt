@@ -1,16 +1,16 @@
 -- The characters of a text, one after another: what is shown of them, and where they stand.
-use Rattle.textwrap_base.proofs.Common.{inl, inr, ◌≡◌, ◌+◌, ◌++◌, ◌∙◌, ◌∷◌, ◌≤◌, ℕ, List, [], true}
+use Rattle.textwrap_base.proofs.Common.{inl, inr, ◌≡◌, ◌+◌, ◌++◌, ◌∙◌, ◌∷◌, ◌≤◌, ℕ, List, []}
 use Rattle.textwrap_base.proofs.Common.{ap, arith, cases_Bool, drop, encode_utf8_all, encodes-chars}
-use Rattle.textwrap_base.proofs.Common.{get_or, IsCharBoundary, IsUtf8, length, refl, sum_by, sum_by-cons}
+use Rattle.textwrap_base.proofs.Common.{get_or, IsCharBoundary, IsUtf8, length, refl}
 use Rattle.textwrap_base.proofs.Common.{cond, length-append, sym}
-use Rattle.textwrap_words.proofs.Common.{columns, next_of, shows, stripped, text_width, visible_in}
+use Rattle.textwrap_words.proofs.Common.{next_of, shows, stripped, visible_in}
 use Rattle.std.specs.Prelude.{chars, encode_utf8}
 use Rattle.textwrap_words.proofs.Units.Reading.{IsRead, read-ahead, read-next, read-room, read-start}
 use Rattle.textwrap_words.proofs.Units.Reading.{visible-step}
 use Rattle.textwrap_words.specs.Characters.{characters_from, characters_of, shown, shown_text}
 use Rattle.textwrap_words.specs.declared.characters.Character.{Character}
 use Rattle.textwrap_words.specs.declared.escapes.State.{State}
-use Rattle.textwrap_words.specs.declared.escapes.State.TheVariants.{Text, Escape, Control, Command}
+use Rattle.textwrap_words.specs.declared.escapes.State.TheVariants.{Text}
 
 -- ---- what is shown of them
 
@@ -35,20 +35,6 @@ shown-next c left = elim (cases_Bool c.is_visible) [
   | inr f ↦ rw f (omega arith)
 ]
 
--- the columns of those that are shown
-abbrev pub shown_columns : List Character → ℕ
-shown_columns cs = sum_by columns (shown cs)
-
-pub columns-all : (text : List ℕ) → text_width text ≡ shown_columns (characters_of text)
-columns-all text = ap (sum_by columns) (sym (shown-from Text 0 (chars text)))
-
-pub columns-next : (c : Character) (left : List Character)
-    → shown_columns (c ∷ left) ≡ cond c.is_visible (columns c.ch) 0 + shown_columns left
-columns-next c left = elim (cases_Bool c.is_visible) [
-  | inl t ↦ rw t (sum_by-cons columns c.ch (shown left))
-  | inr f ↦ rw f (omega arith)
-]
-
 -- ---- the characters that are ahead in a text, of which the first so many bytes were read
 
 pub record AreAhead (text : List ℕ) (left : List Character) : Type 0 where
@@ -67,17 +53,10 @@ ahead-start text utf8 = record {
   are = refl;
 }
 
-shows-text : (s : State) (c : ℕ) → shows s c ≡ true → s ≡ Text
-shows-text Text c visible = refl
-shows-text Escape c visible = absurd cc
-shows-text Control c visible = absurd cc
-shows-text (Command last) c visible = absurd cc
-
--- the next of them stands there, and a visible one begins a text
+-- the next of them stands there
 pub record IsNext (text : List ℕ) (c : Character) (left : List Character) : Type 0 where
   pub begins : IsCharBoundary text c.at
   pub room : c.at + length (encode_utf8 c.ch) ≤ length text
-  pub columns : c.is_visible ≡ true → text_width (drop c.at text) ≡ shown_columns (c ∷ left)
   pub after : AreAhead text left
 
 pub ahead-next : (text : List ℕ) (c : Character) (left : List Character)
@@ -95,8 +74,6 @@ ahead-next text c left h = by (chars h.rest) refl h.are
         rw (ap (λ l. get_or l 0 c) is, ap (drop 1) is) (record {
           begins = h.read.boundary;
           room = read-room h.read d (encode_utf8_all ds) e;
-          columns = λ visible. rw (h.read.place, some) (rw (shows-text h.state d visible)
-              (ap (sum_by columns) (sym (shown-from Text h.place (d ∷ ds)))));
           after = record {
             state = next_of h.state d;
             place = h.place + length (encode_utf8 d);

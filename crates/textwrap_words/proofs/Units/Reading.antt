@@ -302,6 +302,10 @@ module _ (text : List ℕ) where
     );
   }
 
+  pub measured-le : (place : ℕ) (rest : List ℕ) (state : State) (width : ℕ) → IsUtf8 text
+      → IsMeasured text place rest state width → width ≤ length text
+  measured-le place rest state width utf8 h = omega (arith, h.columns, text_width-le text utf8)
+
   -- it goes over printable ASCII
   pub measured-printable : IsUtf8 text → (n : ℕ) → n ≤ length text
       → ((k : ℕ) → k < n → IsPrintableByte (get_or text k 0))

@@ -10,7 +10,7 @@ read : (c : Then-printable-gt0)
     → IsMeasured c.args.text.now c.printable_len-printable.result
     (drop c.printable_len-printable.result c.args.text.now) Text c.printable_len-printable.result
 read c =
-    let bytes = c.as_bytes.ensures.value in
+    let bytes = c.as_bytes-bytes.ensures.value in
     let found = c.printable_len-printable.ensures in
     measured-printable c.args.text.now c.utf8.text c.printable_len-printable.result
     (omega (arith, found.within, ap length bytes))

@@ -16,6 +16,15 @@ text_lines [] = []
 text_lines (c ∷ cs) =
     if c == line_feed then (c ∷ []) ∷ text_lines cs else onto_first c (text_lines cs)
 
+-- this line stands at a place
+abbrev pub IsLineAt : List (List ℕ) → ℕ → List ℕ → Type 0
+IsLineAt lines at line = (at < length lines) × (slice_index_or lines at [] ≡ line)
+
+-- the line at the one place is that at the other
+abbrev pub AreSameAt : List (List ℕ) → ℕ → List (List ℕ) → ℕ → Type 0
+AreSameAt old old_at new new_at =
+    (old_at < length old) × IsLineAt new new_at (slice_index_or old old_at [])
+
 -- a line, and what becomes of it
 pub record SignedText : Type 0 where
   pub sign : Sign

@@ -1,9 +1,9 @@
 //! What changes from one text to another, written as a unified diff: the form that POSIX gives for
 //! `diff -u`, which `patch` and `git apply` read.
-ghost use Rattle.std.specs.Prelude.{◌≡◌, ◌+◌, ◌<◌, ◌≤◌, ◌++◌, ◌∷◌, ◌-◌, ◌^◌, ℕ, length, map, drop, take, not};
-ghost use Rattle.std.specs.Prelude.{IfOk, IfSome, IsTrue, OnOk};
+ghost use Rattle.std.specs.Prelude.{◌≡◌, ◌↔◌, ◌+◌, ◌<◌, ◌≤◌, ◌++◌, ◌∷◌, ◌-◌, ◌^◌, ℕ, length, map, drop, take, not};
+ghost use Rattle.std.specs.Prelude.{IfNone, IfOk, IfSome, IsTrue, OnOk};
 ghost use Rattle.std.specs.List.{flat_map};
-ghost use Rattle.reflow_program.specs.Differences.{IsDiffText, IsNearIf, ArePushed, head_text, is_change, is_new, is_old, line_text, missing_feed};
+ghost use Rattle.reflow_program.specs.Differences.{AreSameAt, IsDiffText, IsLineAt, IsNearIf, ArePushed, head_text, is_change, is_new, is_old, line_text, missing_feed};
 ghost use Rattle.reflow_program.specs.Differences.{name_end, names_text, news, olds, range_text, sign_byte, signed_text, signed_view, text_lines};
 
 use itoa::Buffer;
@@ -186,6 +186,11 @@ fn removed_len(old: &[&[u8]], new: &[&[u8]], changed: usize) -> Option<usize>
     ensures changed { IfSome result (λ removed. removed ≤ changed) }
     ensures old { IfSome result (λ removed. removed ≤ length old.now) }
     ensures new { IfSome result (λ removed. changed - removed ≤ length new.now) }
+    ensures same { IfSome result (λ removed. AreSameAt (map (λ line. line.now) old.now) removed
+        (map (λ line. line.now) new.now) (changed - removed)) }
+    ensures none { IfNone result ((removed : ℕ) → removed ≤ changed
+        → ¬ AreSameAt (map (λ line. line.now) old.now) removed
+        (map (λ line. line.now) new.now) (changed - removed)) }
 {
     for (removed, line) in old.iter().enumerate() {
         if removed > changed {
@@ -200,7 +205,7 @@ fn removed_len(old: &[&[u8]], new: &[&[u8]], changed: usize) -> Option<usize>
 
 /// Whether this line stands at a place.
 fn is_at(lines: &[&[u8]], at: usize, line: &[u8]) -> bool
-    ensures { IsTrue result → at < length lines.now }
+    ensures { IsTrue result ↔ IsLineAt (map (λ line. line.now) lines.now) at line.now }
 {
     match lines.get(at) {
         Some(found) => *found == line,

@@ -170,6 +170,10 @@ fn change_lens(old: &[&[u8]], new: &[&[u8]]) -> (usize, usize)
     ensures old { result.0 ≤ length old.now }
     ensures new { result.1 ≤ length new.now }
     ensures some { 0 < length old.now + length new.now → 0 < result.0 + result.1 }
+    ensures nearest { (removed added : ℕ) → 0 < removed + added
+        → removed + added < result.0 + result.1
+        → ¬ AreSameAt (map (λ line. line.now) old.now) removed
+        (map (λ line. line.now) new.now) added }
 {
     for changed in 1..REACH {
         if let Some(removed) = removed_len(old, new, changed) {

@@ -1,7 +1,8 @@
 -- Laws of the definitions on diffs.
 use Rattle.std.specs.Prelude.{◌≡◌, ℕ, ◌-◌, List, [], ◌∷◌, ◌++◌, drop, map, take}
 use Rattle.std.specs.List.{flat_map}
-use Rattle.reflow_program.specs.Differences.{HunkText, IsDiff, SignedText, news, old_end, text_lines}
+use Rattle.reflow_program.specs.Differences.{HunkText, IsDiff, SignedText, news, old_end}
+use Rattle.reflow_program.specs.Differences.{text_lines}
 use Rattle.reflow_program.specs.declared.differences.Sign.{Sign}
 use Rattle.reflow_program.specs.declared.differences.Sign.TheVariants.{Kept, Removed, Added}
 

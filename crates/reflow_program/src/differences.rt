@@ -1,10 +1,14 @@
 //! What changes from one text to another, written as a unified diff: the form that POSIX gives for
 //! `diff -u`, which `patch` and `git apply` read.
-ghost use Rattle.std.specs.Prelude.{◌≡◌, ◌↔◌, ◌+◌, ◌<◌, ◌≤◌, ◌++◌, ◌∷◌, ◌-◌, ◌^◌, ℕ, length, map, drop, take, not};
+ghost use Rattle.std.specs.Prelude.{◌≡◌, ◌↔◌, ◌+◌, ◌<◌, ◌≤◌, ◌++◌, ◌∷◌, ◌-◌, ◌^◌, ℕ, length, map};
+ghost use Rattle.std.specs.Prelude.{drop, take, not};
 ghost use Rattle.std.specs.Prelude.{IfNone, IfOk, IfSome, IsTrue, OnOk};
 ghost use Rattle.std.specs.List.{flat_map};
-ghost use Rattle.reflow_program.specs.Differences.{AreSameAt, IsDiffText, IsLineAt, IsNearIf, ArePushed, head_text, is_change, is_new, is_old, line_text, missing_feed};
-ghost use Rattle.reflow_program.specs.Differences.{name_end, names_text, news, olds, range_text, sign_byte, signed_text, signed_view, text_lines};
+ghost use Rattle.reflow_program.specs.Differences.{AreSameAt, IsDiffText, IsLineAt, IsNearIf};
+ghost use Rattle.reflow_program.specs.Differences.{ArePushed, head_text, is_change, is_new, is_old};
+ghost use Rattle.reflow_program.specs.Differences.{line_text, missing_feed};
+ghost use Rattle.reflow_program.specs.Differences.{name_end, names_text, news, olds, range_text};
+ghost use Rattle.reflow_program.specs.Differences.{sign_byte, signed_text, signed_view, text_lines};
 
 use itoa::Buffer;
 use std::alloc::{AllocError, Allocator};
@@ -156,6 +160,8 @@ fn common_len(old: &[&[u8]], new: &[&[u8]]) -> usize
     ensures new { result ≤ length new.now }
     ensures same { take result (map (λ line. line.now) old.now)
         ≡ take result (map (λ line. line.now) new.now) }
+    ensures longest { ¬ AreSameAt (map (λ line. line.now) old.now) result
+        (map (λ line. line.now) new.now) result }
 {
     let mut len = 0;
     while len < old.len() && len < new.len() && old[len] == new[len] {

@@ -1,4 +1,4 @@
--- The hunks of lines with signs: stretches that are near a change, one after another, patch one text.
+-- The hunks of lines with signs: stretches that are near a change, which patch the text.
 use Rattle.std.proofs.Common.{◌≡◌, ◌∙◌, ap, refl, sym, subst, ℕ, ◌+◌, ◌-◌, ◌<◌, ◌≤◌, arith, false}
 use Rattle.std.proofs.Common.{true}
 use Rattle.std.proofs.Common.{List, [], ◌∷◌, ◌++◌, length, take, drop, map, get_or, IsTrue, All}

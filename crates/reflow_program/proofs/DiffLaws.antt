@@ -1,4 +1,4 @@
--- What diffs do: their hunks patch the old text into the new one, and turned round the new one into the old.
+-- The laws of diffs: their hunks patch the old text into the new one, and turned round back.
 use Rattle.std.proofs.Common.{◌≡◌, ◌∙◌, ap, ap₂, refl, sym, ℕ, ◌+◌, ◌-◌, arith, true, false}
 use Rattle.std.proofs.Common.{List, [], ◌∷◌, ◌++◌, length, take, drop, map, cond}
 use Rattle.std.specs.Prelude.{◌==◌}

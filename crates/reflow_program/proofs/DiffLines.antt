@@ -1,4 +1,4 @@
--- The lines of a text, and lines with signs: those that the old and the new text have, and their changes.
+-- The lines of a text, lines with signs, those that either text has, and where they change.
 use Rattle.std.proofs.Math.Bool.{beq}
 use Rattle.std.proofs.Common.{◌≡◌, ◌≢◌, ◌∙◌, ap, ap₂, refl, subst, sym, ℕ, zero, suc, ◌+◌, ◌-◌, ◌<◌}
 use Rattle.std.proofs.Common.{◌≤◌, arith, Bool, true, false}

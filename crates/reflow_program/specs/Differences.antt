@@ -70,8 +70,8 @@ old_end hunk = hunk.old_start + length (olds hunk.lines)
 abbrev pub new_end : HunkText → ℕ
 new_end hunk = hunk.new_start + length (news hunk.lines)
 
--- the hunks lead from the old lines to the new ones, and back: before and behind each the same lines
--- stand in both, and at its places its own. So many lines of both texts came before
+-- the hunks lead from the old lines to the new ones, and back: before and behind each the same
+-- lines stand in both, and at its places its own. So many lines of both texts came before
 abbrev pub Patches : ℕ → ℕ → List (List ℕ) → List (List ℕ) → List HunkText → Type 0
 Patches old_at new_at old new [] = new ≡ old
 Patches old_at new_at old new (hunk ∷ hunks) =
@@ -86,7 +86,9 @@ sign_at lines at = slice_index_or (map (λ s. s.sign) lines) at Kept
 
 -- the line at a place is changed, or at most three lines away from one that is
 abbrev pub IsNear : List SignedText → ℕ → Type 0
-IsNear lines at = (change : ℕ) × IsTrue (is_change (sign_at lines change)) × (change ≤ at + 3) × (at ≤ change + 3)
+IsNear lines at =
+    (change : ℕ) × IsTrue (is_change (sign_at lines change)) × (change ≤ at + 3)
+    × (at ≤ change + 3)
 
 abbrev pub IsNearIf : Bool → List SignedText → ℕ → Type 0
 IsNearIf true lines at = IsNear lines at

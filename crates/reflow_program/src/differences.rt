@@ -376,8 +376,8 @@ fn push_head<A: Allocator>(
     text.extend_from_slice(b" @@\n")
 }
 
-/// Adds the number of the first of so many lines that stand behind so many others, and how many they
-/// are. Of no lines, it is the number of the line before them.
+/// Adds the number of the first of so many lines that stand behind so many others, and how many
+/// they are. Of no lines, it is the number of the line before them.
 fn push_range<A: Allocator>(
     text: &mut Vec<u8, A>,
     start: usize,

@@ -1,19 +1,23 @@
--- The hunks of lines with signs: stretches that are near a change, one after another, patch one text.
-use Rattle.std.proofs.Common.{◌≡◌, ◌∙◌, ap, refl, sym, subst, ℕ, ◌+◌, ◌-◌, ◌<◌, ◌≤◌, arith, false, true}
+-- The hunks of lines with signs: stretches that are near a change, which patch the text.
+use Rattle.std.proofs.Common.{◌≡◌, ◌∙◌, ap, refl, sym, subst, ℕ, ◌+◌, ◌-◌, ◌<◌, ◌≤◌, arith, false}
+use Rattle.std.proofs.Common.{true}
 use Rattle.std.proofs.Common.{List, [], ◌∷◌, ◌++◌, length, take, drop, map, get_or, IsTrue, All}
 use Rattle.std.proofs.Common.{ap₂, suc, Bool}
 use Rattle.std.proofs.lemmas.List.Elements.{All-cons, All-nil}
 use Rattle.std.specs.List.{flat_map, slice_range}
-use Rattle.std.proofs.lemmas.List.{append_assoc, append-nil, get_or-drop, get_or-take, length-drop, take_rest}
+use Rattle.std.proofs.lemmas.List.{append_assoc, append-nil, get_or-drop, get_or-take, length-drop}
+use Rattle.std.proofs.lemmas.List.{take_rest}
 use Rattle.std.proofs.lemmas.List.{length-take, drop-map, take-map}
 use Rattle.std.proofs.lemmas.List.Folds.{drop_split}
-use Rattle.reflow_program.specs.Differences.{ArePushed, AreApart, HunkText, IsDiff, IsNear, IsTight, Patches, SignedText, hunk_text}
+use Rattle.reflow_program.specs.Differences.{ArePushed, AreApart, HunkText, IsDiff, IsNear, IsTight}
+use Rattle.reflow_program.specs.Differences.{Patches, SignedText, hunk_text}
 use Rattle.reflow_program.specs.Differences.{head_text, line_text, range_text, signed_view}
 use Rattle.reflow_program.specs.declared.differences.SignedLine.{SignedLine}
 use Rattle.reflow_program.specs.Differences.{is_change, new_end, news, old_end, olds, sign_at}
 use Rattle.reflow_program.specs.declared.differences.Sign.{Sign}
 use Rattle.reflow_program.specs.declared.differences.Sign.TheVariants.{Kept}
-use Rattle.reflow_program.proofs.DiffLines.{change-within, news-append, news-le, olds-append, olds-le}
+use Rattle.reflow_program.proofs.DiffLines.{change-within, news-append, news-le, olds-append}
+use Rattle.reflow_program.proofs.DiffLines.{olds-le}
 
 -- ---- lines that are kept
 

@@ -1,4 +1,4 @@
--- What diffs do: their hunks patch the old text into the new one, and turned round the new one into the old.
+-- The laws of diffs: their hunks patch the old text into the new one, and turned round back.
 use Rattle.std.proofs.Common.{◌≡◌, ◌∙◌, ap, ap₂, refl, sym, ℕ, ◌+◌, ◌-◌, arith, true, false}
 use Rattle.std.proofs.Common.{List, [], ◌∷◌, ◌++◌, length, take, drop, map, cond}
 use Rattle.std.specs.Prelude.{◌==◌}
@@ -6,7 +6,8 @@ use Rattle.std.specs.List.{flat_map, onto_first}
 use Rattle.std.proofs.lemmas.List.{append_assoc, drop_at, take_at, length-append}
 use Rattle.reflow_program.specs.Differences.{HunkText, Patches, SignedText, new_end, news}
 use Rattle.reflow_program.specs.Differences.{old_end, olds, signed_text, text_lines}
-use Rattle.reflow_program.specs.Laws.{DiffsLeadBack, DiffsLeadOn, TextsAreTheirLines, patched, turned}
+use Rattle.reflow_program.specs.Laws.{DiffsLeadBack, DiffsLeadOn, TextsAreTheirLines, patched}
+use Rattle.reflow_program.specs.Laws.{turned}
 use Rattle.reflow_program.specs.Laws.{turned_line}
 use Rattle.reflow_program.specs.declared.differences.Sign.{Sign}
 use Rattle.reflow_program.specs.declared.differences.Sign.TheVariants.{Kept, Removed, Added}

@@ -1,16 +1,21 @@
--- The lines of a text, and lines with signs: those that the old and the new text have, and their changes.
+-- The lines of a text, lines with signs, those that either text has, and where they change.
 use Rattle.std.proofs.Math.Bool.{beq}
-use Rattle.std.proofs.Common.{◌≡◌, ◌≢◌, ◌∙◌, ap, ap₂, refl, sym, ℕ, zero, suc, ◌+◌, ◌-◌, ◌<◌, ◌≤◌, arith, Bool, true, false}
-use Rattle.std.proofs.Common.{List, [], ◌∷◌, ◌++◌, length, take, drop, map, get_or, ne_eqb, add-one, Bor, IsTrue, cond, not}
+use Rattle.std.proofs.Common.{◌≡◌, ◌≢◌, ◌∙◌, ap, ap₂, refl, subst, sym, ℕ, zero, suc, ◌+◌, ◌-◌, ◌<◌}
+use Rattle.std.proofs.Common.{◌≤◌, arith, Bool, true, false}
+use Rattle.std.proofs.Common.{List, [], ◌∷◌, ◌++◌, length, take, drop, map, get_or, ne_eqb, add-one}
+use Rattle.std.proofs.Common.{Bor, IsTrue, cond, not}
 use Rattle.std.proofs.lemmas.Slice.Eq.{bytes_eq-Decides}
 use Rattle.std.specs.Str.{bytes_eq}
+use Rattle.std.proofs.lemmas.Bool.{false≢true}
 use Rattle.std.proofs.lemmas.List.{drop-map, get_or-map, take_more_same, take_rest}
 use Rattle.std.proofs.lemmas.List.{append-nil, append_assoc, length-map, map-append, take-map}
 use Rattle.std.proofs.lemmas.List.Sums.{count_by-le-length, length-filter}
 use Rattle.std.proofs.Math.Seq.{take-add}
 use Rattle.std.proofs.lemmas.List.Elements.{filter-append}
 use Rattle.std.specs.Prelude.{count_by, filter}
-use Rattle.reflow_program.specs.Differences.{IsNearIf, SignedText, is_change, is_new, is_old, news, olds, sign_at, signed_text}
+use Rattle.reflow_program.specs.Differences.{AreSameAt, IsLineAt}
+use Rattle.reflow_program.specs.Differences.{IsNearIf, SignedText, is_change, is_new, is_old, news}
+use Rattle.reflow_program.specs.Differences.{olds, sign_at, signed_text}
 use Rattle.reflow_program.specs.Differences.{signed_view, text_lines}
 use Rattle.reflow_program.specs.declared.differences.Sign.{Sign}
 use Rattle.reflow_program.specs.declared.differences.Sign.TheVariants.{Kept, Removed, Added}
@@ -222,3 +227,44 @@ taken-further lines at more before after was is =
     ap (map (λ line. line.now)) (take_rest lines at) ∙ sym (drop-map (λ line. line.now) at lines) in
     is ∙ ap₂ (λ ls ms. ls ++ take more ms) was rest
     ∙ sym (take-add at more (map (λ line. line.now) lines))
+
+-- ---- lines at places
+
+pub line-at : (lines : List (Bor (List ℕ))) (at : ℕ) (found : Bor (List ℕ)) (line : List ℕ)
+    (equal : Bool) → at < length lines → found ≡ get_or lines at found
+    → equal ≡ bytes_eq found.now line
+    → (IsTrue equal → IsLineAt (map (λ l. l.now) lines) at line)
+    × (IsLineAt (map (λ l. l.now) lines) at line → IsTrue equal)
+line-at lines at found line equal within is equal_is =
+    let all : List (List ℕ) = map (λ l. l.now) lines in
+    let here : get_or all at [] ≡ found.now =
+    get_or-map (λ l. l.now) lines at found [] within ∙ ap (λ l. l.now) (sym is) in (
+      λ yes. (rw length-map within, here ∙ (bytes_eq-Decides found.now line).0 (sym equal_is ∙ yes)),
+      λ same. equal_is ∙ (bytes_eq-Decides found.now line).1 (sym here ∙ same.1),
+    )
+
+-- what stands at a place of the one list is what stands at a place of the other
+pub same-at : (old new : List (Bor (List ℕ))) (k m : ℕ) (found : Bor (List ℕ)) → k < length old
+    → found ≡ get_or old k found
+    → (IsLineAt (map (λ l. l.now) new) m found.now
+    → AreSameAt (map (λ l. l.now) old) k (map (λ l. l.now) new) m)
+    × (AreSameAt (map (λ l. l.now) old) k (map (λ l. l.now) new) m
+    → IsLineAt (map (λ l. l.now) new) m found.now)
+same-at old new k m found within is =
+    let olds : List (List ℕ) = map (λ l. l.now) old in
+    let news : List (List ℕ) = map (λ l. l.now) new in
+    let here : get_or olds k [] ≡ found.now =
+    get_or-map (λ l. l.now) old k found [] within ∙ ap (λ l. l.now) (sym is) in (
+      λ at. (rw length-map within, subst (IsLineAt news m) (sym here) at),
+      λ same. subst (IsLineAt news m) here same.1,
+    )
+
+pub other-at : (old new : List (Bor (List ℕ))) (n : ℕ) (none : Bor (List ℕ))
+    → n < length old → n < length new
+    → bytes_eq (get_or old n none).now (get_or new n none).now ≡ false
+    → ¬ AreSameAt (map (λ l. l.now) old) n (map (λ l. l.now) new) n
+other-at old new n none in_old in_new differ same =
+    let equal = (bytes_eq-Decides (get_or old n none).now (get_or new n none).now).1
+    (sym (get_or-map (λ l. l.now) old n none [] in_old) ∙ sym same.1.1
+    ∙ get_or-map (λ l. l.now) new n none [] in_new) in
+    false≢true (sym differ ∙ equal)

@@ -16,6 +16,15 @@ text_lines [] = []
 text_lines (c ∷ cs) =
     if c == line_feed then (c ∷ []) ∷ text_lines cs else onto_first c (text_lines cs)
 
+-- this line stands at a place
+abbrev pub IsLineAt : List (List ℕ) → ℕ → List ℕ → Type 0
+IsLineAt lines at line = (at < length lines) × (slice_index_or lines at [] ≡ line)
+
+-- the line at the one place is that at the other
+abbrev pub AreSameAt : List (List ℕ) → ℕ → List (List ℕ) → ℕ → Type 0
+AreSameAt old old_at new new_at =
+    (old_at < length old) × IsLineAt new new_at (slice_index_or old old_at [])
+
 -- a line, and what becomes of it
 pub record SignedText : Type 0 where
   pub sign : Sign
@@ -61,8 +70,8 @@ old_end hunk = hunk.old_start + length (olds hunk.lines)
 abbrev pub new_end : HunkText → ℕ
 new_end hunk = hunk.new_start + length (news hunk.lines)
 
--- the hunks lead from the old lines to the new ones, and back: before and behind each the same lines
--- stand in both, and at its places its own. So many lines of both texts came before
+-- the hunks lead from the old lines to the new ones, and back: before and behind each the same
+-- lines stand in both, and at its places its own. So many lines of both texts came before
 abbrev pub Patches : ℕ → ℕ → List (List ℕ) → List (List ℕ) → List HunkText → Type 0
 Patches old_at new_at old new [] = new ≡ old
 Patches old_at new_at old new (hunk ∷ hunks) =
@@ -77,7 +86,9 @@ sign_at lines at = slice_index_or (map (λ s. s.sign) lines) at Kept
 
 -- the line at a place is changed, or at most three lines away from one that is
 abbrev pub IsNear : List SignedText → ℕ → Type 0
-IsNear lines at = (change : ℕ) × IsTrue (is_change (sign_at lines change)) × (change ≤ at + 3) × (at ≤ change + 3)
+IsNear lines at =
+    (change : ℕ) × IsTrue (is_change (sign_at lines change)) × (change ≤ at + 3)
+    × (at ≤ change + 3)
 
 abbrev pub IsNearIf : Bool → List SignedText → ℕ → Type 0
 IsNearIf true lines at = IsNear lines at

@@ -1,12 +1,13 @@
 -- Laws of the definitions on diffs.
 use Rattle.std.specs.Prelude.{◌≡◌, ℕ, ◌-◌, List, [], ◌∷◌, ◌++◌, drop, map, take}
 use Rattle.std.specs.List.{flat_map}
-use Rattle.reflow_program.specs.Differences.{HunkText, IsDiff, SignedText, news, old_end, text_lines}
+use Rattle.reflow_program.specs.Differences.{HunkText, IsDiff, SignedText, news, old_end}
+use Rattle.reflow_program.specs.Differences.{text_lines}
 use Rattle.reflow_program.specs.declared.differences.Sign.{Sign}
 use Rattle.reflow_program.specs.declared.differences.Sign.TheVariants.{Kept, Removed, Added}
 
--- what hunks make of lines of which so many came before: at its place, each puts its new lines for its
--- old ones
+-- what hunks make of lines of which so many came before: at its place, each puts its new lines for
+-- its old ones
 abbrev pub patched : List HunkText → ℕ → List (List ℕ) → List (List ℕ)
 patched [] at old = old
 patched (hunk ∷ hunks) at old =

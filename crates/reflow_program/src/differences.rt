@@ -1,10 +1,14 @@
 //! What changes from one text to another, written as a unified diff: the form that POSIX gives for
 //! `diff -u`, which `patch` and `git apply` read.
-ghost use Rattle.std.specs.Prelude.{◌≡◌, ◌+◌, ◌<◌, ◌≤◌, ◌++◌, ◌∷◌, ◌-◌, ◌^◌, ℕ, length, map, drop, take, not};
-ghost use Rattle.std.specs.Prelude.{IfOk, IfSome, IsTrue, OnOk};
+ghost use Rattle.std.specs.Prelude.{◌≡◌, ◌↔◌, ◌+◌, ◌<◌, ◌≤◌, ◌++◌, ◌∷◌, ◌-◌, ◌^◌, ℕ, length, map};
+ghost use Rattle.std.specs.Prelude.{drop, take, not};
+ghost use Rattle.std.specs.Prelude.{IfNone, IfOk, IfSome, IsTrue, OnOk};
 ghost use Rattle.std.specs.List.{flat_map};
-ghost use Rattle.reflow_program.specs.Differences.{IsDiffText, IsNearIf, ArePushed, head_text, is_change, is_new, is_old, line_text, missing_feed};
-ghost use Rattle.reflow_program.specs.Differences.{name_end, names_text, news, olds, range_text, sign_byte, signed_text, signed_view, text_lines};
+ghost use Rattle.reflow_program.specs.Differences.{AreSameAt, IsDiffText, IsLineAt, IsNearIf};
+ghost use Rattle.reflow_program.specs.Differences.{ArePushed, head_text, is_change, is_new, is_old};
+ghost use Rattle.reflow_program.specs.Differences.{line_text, missing_feed};
+ghost use Rattle.reflow_program.specs.Differences.{name_end, names_text, news, olds, range_text};
+ghost use Rattle.reflow_program.specs.Differences.{sign_byte, signed_text, signed_view, text_lines};
 
 use itoa::Buffer;
 use std::alloc::{AllocError, Allocator};
@@ -156,6 +160,8 @@ fn common_len(old: &[&[u8]], new: &[&[u8]]) -> usize
     ensures new { result ≤ length new.now }
     ensures same { take result (map (λ line. line.now) old.now)
         ≡ take result (map (λ line. line.now) new.now) }
+    ensures longest { ¬ AreSameAt (map (λ line. line.now) old.now) result
+        (map (λ line. line.now) new.now) result }
 {
     let mut len = 0;
     while len < old.len() && len < new.len() && old[len] == new[len] {
@@ -170,6 +176,10 @@ fn change_lens(old: &[&[u8]], new: &[&[u8]]) -> (usize, usize)
     ensures old { result.0 ≤ length old.now }
     ensures new { result.1 ≤ length new.now }
     ensures some { 0 < length old.now + length new.now → 0 < result.0 + result.1 }
+    ensures nearest { (removed added : ℕ) → 0 < removed + added
+        → removed + added < result.0 + result.1
+        → ¬ AreSameAt (map (λ line. line.now) old.now) removed
+        (map (λ line. line.now) new.now) added }
 {
     for changed in 1..REACH {
         if let Some(removed) = removed_len(old, new, changed) {
@@ -186,6 +196,11 @@ fn removed_len(old: &[&[u8]], new: &[&[u8]], changed: usize) -> Option<usize>
     ensures changed { IfSome result (λ removed. removed ≤ changed) }
     ensures old { IfSome result (λ removed. removed ≤ length old.now) }
     ensures new { IfSome result (λ removed. changed - removed ≤ length new.now) }
+    ensures same { IfSome result (λ removed. AreSameAt (map (λ line. line.now) old.now) removed
+        (map (λ line. line.now) new.now) (changed - removed)) }
+    ensures none { IfNone result ((removed : ℕ) → removed ≤ changed
+        → ¬ AreSameAt (map (λ line. line.now) old.now) removed
+        (map (λ line. line.now) new.now) (changed - removed)) }
 {
     for (removed, line) in old.iter().enumerate() {
         if removed > changed {
@@ -200,7 +215,7 @@ fn removed_len(old: &[&[u8]], new: &[&[u8]], changed: usize) -> Option<usize>
 
 /// Whether this line stands at a place.
 fn is_at(lines: &[&[u8]], at: usize, line: &[u8]) -> bool
-    ensures { IsTrue result → at < length lines.now }
+    ensures { IsTrue result ↔ IsLineAt (map (λ line. line.now) lines.now) at line.now }
 {
     match lines.get(at) {
         Some(found) => *found == line,
@@ -361,8 +376,8 @@ fn push_head<A: Allocator>(
     text.extend_from_slice(b" @@\n")
 }
 
-/// Adds the number of the first of so many lines that stand behind so many others, and how many they
-/// are. Of no lines, it is the number of the line before them.
+/// Adds the number of the first of so many lines that stand behind so many others, and how many
+/// they are. Of no lines, it is the number of the line before them.
 fn push_range<A: Allocator>(
     text: &mut Vec<u8, A>,
     start: usize,

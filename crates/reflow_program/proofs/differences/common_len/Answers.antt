@@ -1,5 +1,5 @@
 use Rattle.std.proofs.Common.{[], arith, sym}
-use Rattle.reflow_program.proofs.DiffLines.{same-more}
+use Rattle.reflow_program.proofs.DiffLines.{other-at, same-more}
 use Rattle.reflow_program.proofs.differences.common_len.Goals as goal
 
 pub loop-len-preserved : goal.loop-len-preserved
@@ -9,3 +9,8 @@ loop-len-preserved c = record {
   same = same-more c.args.old.now c.args.new.now c.loop-len.len (record { ref_ptr = (0, 0); now = [] })
       (omega arith) (omega arith) c.loop-len.invariant.same (sym c.if-eq.ensures);
 }
+
+pub returns-else-eq-clause-longest : goal.returns-else-eq-clause-longest
+returns-else-eq-clause-longest c =
+    other-at c.args.old.now c.args.new.now c.loop-len.len (record { ref_ptr = (0, 0); now = [] })
+    (omega arith) (omega arith) (sym c.if-eq.ensures)

@@ -1,7 +1,9 @@
-use Rattle.std.proofs.Common.{◌≡◌, ◌∙◌, ◌-◌, ◌<◌, ◌≤◌, ap, arith, drop, length, map, subst, sym, take, ℕ, List}
+use Rattle.std.proofs.Common.{◌≡◌, ◌∙◌, ◌-◌, ◌<◌, ◌≤◌, ap, arith, drop, length, map, subst, sym}
+use Rattle.std.proofs.Common.{take, ℕ, List}
 use Rattle.std.proofs.lemmas.List.{length-map}
 use Rattle.reflow_program.specs.Differences.{IsNear, SignedText, news, olds, signed_view}
-use Rattle.reflow_program.proofs.DiffHunks.{HasPushed-all, HasPushed-next, hunk-found, lens-part, not_below, view-part}
+use Rattle.reflow_program.proofs.DiffHunks.{HasPushed-all, HasPushed-next, hunk-found, lens-part}
+use Rattle.reflow_program.proofs.DiffHunks.{not_below, view-part}
 use Rattle.reflow_program.proofs.differences.push_hunks.Goals as goal
 use Rattle.reflow_program.specs.declared.differences.SignedLine.{SignedLine}
 

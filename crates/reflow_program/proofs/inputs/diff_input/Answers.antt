@@ -4,7 +4,8 @@ use Rattle.std.proofs.KnownBytes.{Keeps-refl}
 use Rattle.std.specs.Io.KnownBytes.{Appends}
 use Rattle.std.specs.String.{string_bytes}
 use Rattle.textwrap_program.specs.Filling.{WritesPrefix}
-use Rattle.reflow_program.proofs.InputLemmas.{IsDiffText-of, compared-other, compared-same, differs-unwritten}
+use Rattle.reflow_program.proofs.InputLemmas.{IsDiffText-of, compared-other, compared-same}
+use Rattle.reflow_program.proofs.InputLemmas.{differs-unwritten}
 use Rattle.reflow_program.proofs.inputs.diff_input.Goals as goal
 
 pub returns-then-eq : goal.returns-then-eq

@@ -1,9 +1,9 @@
 //! What the program `reflow` does with a file.
-ghost use Rattle.reflow_program.specs.Inputs.{ChecksFile, DiffersFile, Replaces};
+ghost use Rattle.reflow_program.specs.Inputs.{ChecksFile, Replaces};
 
 use reflow_program::faults::Fault;
 use reflow_program::files::Files;
-use reflow_program::inputs::{Treated, check_file, diff_file, replace_file};
+use reflow_program::inputs::{Treated, check_file, replace_file};
 use reflow_program::layout::Layout;
 use std::alloc::Global;
 use std::io::Write;
@@ -20,21 +20,6 @@ pub fn checked_file<F: Files, W: Write>(
         (W.contents writer.old) (W.contents writer.new) result }
 {
     check_file(alloc, name, files, writer, layout)
-}
-
-/// As `diff_file`.
-pub fn differing_file<F: Files, W: Write>(
-    alloc: Global,
-    name: &str,
-    counts: bool,
-    files: &mut F,
-    writer: &mut W,
-    layout: &Layout<'_>,
-) -> Result<Treated, Fault>
-    ensures told { DiffersFile layout.now counts name.now (F.bytes files.old name.now)
-        (W.contents writer.old) (W.contents writer.new) result }
-{
-    diff_file(alloc, name, counts, files, writer, layout)
 }
 
 /// As `replace_file`.

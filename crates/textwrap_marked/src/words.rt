@@ -67,6 +67,7 @@ pub(crate) fn split_white(text: &str) -> (&str, &str)
 pub(crate) fn spaced_words(alloc: Global, line: &str) -> Result<Vec<SpacedWord<'_>>, AllocError>
     ensures { IfOk result (λ words. map spaced_view words.items ≡ spaced_words line.now) }
 {
+    // Room for all words of a usual line at once.
     let mut words = Vec::with_capacity(alloc, (line.len() / 4).min(32))?;
     let mut rest = line;
     while !rest.is_empty() {

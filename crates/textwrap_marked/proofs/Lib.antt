@@ -8,6 +8,7 @@ pub mod BulletLemmas
 pub mod Common
 pub mod ContainedTexts
 pub mod CoveredLemmas
+pub mod EarlierEndings
 pub mod EndsAlike
 pub mod Feedless
 pub mod FenceLeft

@@ -8,11 +8,12 @@ use Rattle.textwrap_marked.proofs.Common.{LF, blocks, AreSameParts, HasPlainMark
 use Rattle.textwrap_marked.proofs.Common.{text_parts, first_state, lines_of, read_lines}
 use Rattle.textwrap_marked.proofs.Common.{with_titles, byte_order_mark, filled_ending, AreOfBlocks}
 use Rattle.textwrap_marked.proofs.Common.{IsReflowedBehind, IsReflowedFrom, ReflowOptions}
-use Rattle.textwrap_base.proofs.Common.{⊎_elim}
+use Rattle.textwrap_base.proofs.Common.{⊎_elim, Option, Some}
 use Rattle.textwrap_marked.proofs.Common.{inl, inr, ◌⊎◌}
 use Rattle.std.proofs.lemmas.List.Splits.{join_with_byte-slice_split}
 use Rattle.textwrap_marked.proofs.AnewLines.{IsTold}
 use Rattle.textwrap_marked.proofs.BegunAlike.{AreBegun, marks-same}
+use Rattle.textwrap_marked.proofs.EarlierEndings.{same-renewed}
 use Rattle.textwrap_marked.proofs.EndsAlike.{ends-alike, one-line}
 use Rattle.textwrap_marked.proofs.Feedless.{IsFeedless}
 use Rattle.textwrap_marked.proofs.SameParts.{from-other, laid-other, width-same}
@@ -216,7 +217,7 @@ module _ (options : ReflowOptions) (width : ℕ) (algorithm : Algorithm) (text b
       → IsReflowedFrom others text between → IsReflowedFrom options between reflowed
       → IsReflowedFrom options text reflowed
   widths-from text between reflowed ends laid second =
-      from-other options text between (width-same options width algorithm text between laid)
+      from-other options text between (width-same options width algorithm options.ending text between laid)
       (⊎_elim (λ split. ends (ap length split)) (λ same. same)
       (one-or-alike others text between (text-back others text between laid))) reflowed second
 
@@ -227,4 +228,28 @@ module _ (options : ReflowOptions) (width : ℕ) (algorithm : Algorithm) (text b
       let (same, again) = opened options between reflowed _ refl second in
       closed options text reflowed
       (same ∙ mark, widths-from (behind_mark text) (behind_mark between) (behind_mark reflowed) ends laid again)
+      _ refl
+
+-- ---- another ending first, too
+
+module _ (options : ReflowOptions) (width : ℕ) (algorithm : Algorithm) (before : Option LineEnding)
+    (e : LineEnding) (asked : options.ending ≡ Some e) where
+  abbrev before_options : ReflowOptions
+  before_options = record options { width = width; algorithm = algorithm; ending = before }
+
+  endings-from : (text between reflowed : List ℕ) → IsReflowedFrom before_options text between
+      → IsReflowedFrom options between reflowed → IsReflowedFrom options text reflowed
+  endings-from text between reflowed laid second =
+      from-other options text between
+      (subst (λ x. AreSameParts x (text_parts options text) (text_parts options between)) (sym asked)
+      (same-renewed options e before text between (width-same options width algorithm before text between laid)))
+      (ap (λ x. filled_ending x between) asked ∙ sym (ap (λ x. filled_ending x text) asked)) reflowed second
+
+  pub endings-same : (text between reflowed : List ℕ) → IsReflowed before_options text between
+      → IsReflowed options between reflowed → IsReflowed options text reflowed
+  endings-same text between reflowed first second =
+      let (mark, laid) = opened before_options text between _ refl first in
+      let (same, again) = opened options between reflowed _ refl second in
+      closed options text reflowed
+      (same ∙ mark, endings-from (behind_mark text) (behind_mark between) (behind_mark reflowed) laid again)
       _ refl

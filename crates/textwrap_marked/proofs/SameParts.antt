@@ -7,7 +7,7 @@ use Rattle.textwrap_marked.proofs.Common.{IsSameBy, Part, parts_of_blocks, text_
 use Rattle.textwrap_marked.proofs.Common.{without_returns, entered, first_state, line_of, lines_of}
 use Rattle.textwrap_marked.proofs.Common.{LineText, passed, read_lines, StateText, with_titles}
 use Rattle.textwrap_marked.proofs.Common.{pieces, algorithm_of, filled_ending, AreOfBlocks, IsOfBlock}
-use Rattle.textwrap_marked.proofs.Common.{IsReflowedFrom, line_texts, printed, ReflowOptions}
+use Rattle.textwrap_marked.proofs.Common.{IsReflowedFrom, line_texts, LineEnding, Option, printed, ReflowOptions}
 use Rattle.textwrap_marked.proofs.TextBack.{text-back}
 use Rattle.textwrap_marked.specs.Columns.{columns}
 use Rattle.textwrap_marked.specs.Laws.{AreNewParts}
@@ -87,11 +87,11 @@ module _ (options : ReflowOptions) (text other : List ℕ)
       → AreOfBlocks options (end_of text) false (blocks (lines_of options other)) reflowed
   laid-other reflowed laid = subst (λ New. New reflowed) (laid-same (end_of text)) laid
 
--- ---- another width
+-- ---- another width and another ending
 
-module _ (options : ReflowOptions) (width : ℕ) (algorithm : Algorithm) where
+module _ (options : ReflowOptions) (width : ℕ) (algorithm : Algorithm) (ending : Option LineEnding) where
   abbrev others : ReflowOptions
-  others = record options { width = width; algorithm = algorithm }
+  others = record options { width = width; algorithm = algorithm; ending = ending }
 
   lines-same : (raws : List (List ℕ)) (state : StateText)
       → read_lines others state raws ≡ read_lines options state raws
@@ -108,8 +108,8 @@ module _ (options : ReflowOptions) (width : ℕ) (algorithm : Algorithm) where
 
   pub width-same : (text between : List ℕ)
       → IsReflowedFrom others text between
-      → AreSameParts options.ending (text_parts options text) (text_parts options between)
+      → AreSameParts ending (text_parts options text) (text_parts options between)
   width-same text between laid =
-      subst (λ p. AreSameParts options.ending p (text_parts options between)) (parts-same text)
-      (subst (AreSameParts options.ending (text_parts others text)) (parts-same between)
+      subst (λ p. AreSameParts ending p (text_parts options between)) (parts-same text)
+      (subst (AreSameParts ending (text_parts others text)) (parts-same between)
       (text-back others text between laid).same)

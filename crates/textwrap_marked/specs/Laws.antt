@@ -1,7 +1,7 @@
 -- The statements of the laws, each under a name that a caller can cite.
 use Rattle.std.specs.Prelude.{◌≡◌, ◌≢◌, ℕ, ◌+◌, ◌≤◌, ◌⊎◌, ◌==◌, ◌||◌, Bool, true, false, List, []}
 use Rattle.std.specs.Prelude.{◌∷◌, ◌++◌, All, drop, if◌then◌else◌, IsUtf8, length, map, nat_eq, None}
-use Rattle.std.specs.Prelude.{Option, ⊤}
+use Rattle.std.specs.Prelude.{Option, Some, ⊤}
 use Rattle.std.specs.List.{flat_map, slice_split, starts_with}
 use Rattle.textwrap_base.specs.Cost.{division_cost, priced_at}
 use Rattle.textwrap_base.specs.Division.{closed_width, IsDivision}
@@ -336,4 +336,13 @@ EarlierWidthsMakeNoDifference =
     (options : ReflowOptions) (width : ℕ) (algorithm : Algorithm) (text between reflowed : List ℕ)
     → KeepsEnding options text between
     → IsReflowed (record options { width = width; algorithm = algorithm }) text between
+    → IsReflowed options between reflowed → IsReflowed options text reflowed
+
+-- what a text becomes that was reflowed with any ending, at another width and by any algorithm, it
+-- becomes at once, if an ending is asked for then
+abbrev pub EarlierEndingsMakeNoDifference : Type 0
+EarlierEndingsMakeNoDifference =
+    (options : ReflowOptions) (width : ℕ) (algorithm : Algorithm) (before : Option LineEnding)
+    (ending : LineEnding) → options.ending ≡ Some ending → (text between reflowed : List ℕ)
+    → IsReflowed (record options { width = width; algorithm = algorithm; ending = before }) text between
     → IsReflowed options between reflowed → IsReflowed options text reflowed

@@ -3,6 +3,7 @@
 //!
 //! A law has no example: its statement is all there is to it. A call is written
 //! `reflowed_texts_are_unique();`.
+ghost use Rattle.textwrap_marked.specs.Laws.{EarlierEndingsMakeNoDifference};
 ghost use Rattle.textwrap_marked.specs.Laws.{EarlierWidthsMakeNoDifference, FirstFitKeepsToWidth};
 ghost use Rattle.textwrap_marked.specs.Laws.{JustifiedLinesAreAsWide, LeastCostIsLeast};
 ghost use Rattle.textwrap_marked.specs.Laws.{NothingIsLost, NothingIsLostWithin, PartsAreKept};
@@ -85,4 +86,11 @@ pub fn reflowed_twice_is_once()
 /// of CR LF lines without a final one has forgotten its ending then.
 pub fn earlier_widths_make_no_difference()
     ensures { EarlierWidthsMakeNoDifference }
+{}
+
+/// Another ending first makes no difference either, if one is asked for then: what a text becomes
+/// that was reflowed before with any ending, at another width or by another algorithm, it becomes
+/// at once. All other options are the same in both runs.
+pub fn earlier_endings_make_no_difference()
+    ensures { EarlierEndingsMakeNoDifference }
 {}

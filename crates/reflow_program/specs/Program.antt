@@ -12,7 +12,7 @@ use Rattle.reflow_program.specs.Arguments.{IsRequest, IsUnfit, help_text, reflow
 use Rattle.reflow_program.specs.Files.{KnownFiles, SameFiles}
 use Rattle.reflow_program.specs.Inputs.{Checks, ChecksFile, Differs, DiffersFile, Prints, PrintsFile}
 use Rattle.reflow_program.specs.Inputs.{Replaces}
-use Rattle.reflow_program.specs.Messages.{is_closed, message_line, says_nothing, texts_of}
+use Rattle.reflow_program.specs.Messages.{is_closed, is_quiet, message_line, says_nothing, texts_of}
 use Rattle.reflow_program.specs.Words.{spelled_out}
 use Rattle.reflow_program.specs.declared.arguments.Mode.{Mode}
 use Rattle.reflow_program.specs.declared.arguments.Mode.TheVariants.{Print, Check, CheckDiff, Diff, InPlace}
@@ -60,7 +60,7 @@ SaysUnless false text old new said = Says text old new said
 -- 0 if all went well, 1 if a check found that an input would change, 2 after a fault
 abbrev pub status_of : Result Treated Fault → ℕ
 status_of (Ok treated) = if treated.changes then 1 else 0
-status_of (Err fault) = 2
+status_of (Err fault) = if is_quiet fault then 0 else 2
 
 -- how a run ends with an input of which this became; what its draft is called, where one is told of,
 -- is what the files say

@@ -344,13 +344,14 @@ fn report<M: Write>(
     }
 }
 
-/// The status of a run with one input, of which this became.
+/// The status of a run with one input, of which this became. That nobody reads the output any more is
+/// no fault: the reader has what it wanted.
 fn status_of(treated: Result<Treated, Fault>) -> u8
     ensures { result ≡ status_of treated }
 {
     match treated {
         Ok(treated) => u8::from(treated.changes),
-        Err(_) => 2,
+        Err(fault) => if is_quiet(fault) { 0 } else { 2 },
     }
 }
 

@@ -168,7 +168,7 @@ const FAULT_RUNS: &[FaultRun] = &[
         ),
         "one ",
         "",
-        2,
+        0,
     ),
     (
         "where there is no space",

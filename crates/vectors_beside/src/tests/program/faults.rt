@@ -116,7 +116,7 @@ const FAULT_RUNS: &[FaultRun] = &[
         ),
         "one two\nthree four\n",
         "",
-        2,
+        0,
     ),
     (
         "nobody reads the output, where there is nothing to write",
@@ -129,7 +129,7 @@ const FAULT_RUNS: &[FaultRun] = &[
         ),
         "",
         "",
-        2,
+        0,
     ),
     (
         "the same of a file: no further one is read",
@@ -142,7 +142,7 @@ const FAULT_RUNS: &[FaultRun] = &[
         ),
         "",
         "",
-        2,
+        0,
     ),
     (
         "a write fails at the first of two files",

@@ -1,30 +1,15 @@
 -- The statements of the laws, each under a name that a caller can cite.
-use Rattle.std.specs.Prelude.{◌≡◌, ◌≢◌, ◌↔◌, ℕ, ◌<◌, List, [], ◌∷◌, All, IsUtf8, if◌then◌else◌}
+use Rattle.std.specs.Prelude.{◌≡◌, ◌≢◌, ◌↔◌, ℕ, ◌<◌, List, [], All, IsUtf8}
 use Rattle.std.specs.List.{flat_map}
 use Rattle.textwrap_words.specs.Breaking.{AreBrokenPieces, broken_pieces, broken_words}
 use Rattle.textwrap_words.specs.Cuts.{AreCuts}
-use Rattle.textwrap_words.specs.Escapes.{next_of, shows, visible_in}
-use Rattle.textwrap_words.specs.Units.{TextUnit, IsInUnits, IsNarrow, units}
-use Rattle.textwrap_words.specs.declared.escapes.State.{State}
 use Rattle.textwrap_words.specs.WordOffsets.{AreWordsAt, words_at}
 use Rattle.textwrap_words.specs.WordSplitters.{Splitter, points_of, split_pieces, split_words}
 use Rattle.textwrap_words.specs.Words.{WordText, tile_of, tiled, AreWordsOf, words_of}
+pub use Rattle.textwrap_words.specs.TextLaws.{ReaderShowsVisible, TextsAreNarrow, UnitsAreUnique}
 pub use Rattle.textwrap_base.specs.Laws.{GreedyDivisionIsUnique, ChosenDivisionIsUnique}
 pub use Rattle.textwrap_base.specs.Laws.{TableDivisionIsUnique, TableOverflowIsOverflow}
 pub use Rattle.textwrap_base.specs.Laws.{TableHasLeastCosts}
-
--- a text has one list of units, the computed one
-abbrev pub UnitsAreUnique : Type 0
-UnitsAreUnique = (cs : List ℕ) (us : List TextUnit) → IsInUnits cs us ↔ (us ≡ units cs)
-
--- the reader of a text shows its visible characters, one after another
-abbrev pub ReaderShowsVisible : Type 0
-ReaderShowsVisible = (state : State) (c : ℕ) (cs : List ℕ) → visible_in state (c ∷ cs)
-    ≡ (if shows state c then c ∷ visible_in (next_of state c) cs else visible_in (next_of state c) cs)
-
--- no character takes more columns than its bytes
-abbrev pub TextsAreNarrow : Type 0
-TextsAreNarrow = (text : List ℕ) → IsNarrow text
 
 -- a line has one list of words, the computed one
 abbrev pub WordsAreUnique : Type 0

@@ -11,6 +11,7 @@ pub mod LineEnds
 pub mod PieceCuts
 pub mod Pieces
 pub mod PiecesLeft
+pub mod TextLaws
 pub mod Units
 pub mod WordOffsets
 pub mod WordSeparators

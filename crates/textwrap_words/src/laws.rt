@@ -2,34 +2,17 @@
 //! nothing, so that a proof may call on it.
 //!
 //! A law has no example: its statement is all there is to it. A call is written
-//! `units_are_unique();`.
-ghost use Rattle.textwrap_words.specs.Laws.{ReaderShowsVisible, UnitsAreUnique};
+//! `words_are_unique();`.
 ghost use Rattle.textwrap_words.specs.Laws.{WordsAreUnique, WordsAtAreUnique};
 ghost use Rattle.textwrap_words.specs.Laws.{BrokenPiecesAreUnique, BrokenTextsTile};
 ghost use Rattle.textwrap_words.specs.Laws.{BrokenPiecesTile, BrokenWordsTile, PointsAreCuts};
-ghost use Rattle.textwrap_words.specs.Laws.{SplitPiecesTile, SplitWordsTile, TextsAreNarrow};
+ghost use Rattle.textwrap_words.specs.Laws.{SplitPiecesTile, SplitWordsTile};
 
+pub use crate::text_laws::{reader_shows_visible, texts_are_narrow, units_are_unique};
 pub use textwrap_base::laws::{
     chosen_division_is_unique, greedy_division_is_unique, table_division_is_unique,
     table_has_least_costs, table_overflow_is_overflow,
 };
-
-/// A text has exactly one list of units: whole ones, of which the last may be an escape sequence
-/// without an end. It is what `units` gives.
-pub fn units_are_unique()
-    ensures { UnitsAreUnique }
-{}
-
-/// The visible characters of a text are those that `State::step` shows, one after another: from each
-/// state on, the first of them is the next character, or they are those after it.
-pub fn reader_shows_visible()
-    ensures { ReaderShowsVisible }
-{}
-
-/// No character takes more columns than its bytes in UTF-8.
-pub fn texts_are_narrow()
-    ensures { TextsAreNarrow }
-{}
 
 /// A line has exactly one list of words: it is cut between a blank and a byte that is none, and
 /// nowhere else. It is what `words_of` gives.

@@ -12,6 +12,8 @@ pub mod laws;
 mod lent_text;
 mod pieces;
 mod printable;
+mod text_laws;
+mod widths;
 pub mod word_separators;
 pub mod word_splitters;
 pub mod words;

@@ -8,6 +8,7 @@ ghost use Rattle.textwrap_words.specs.WordOffsets.{is_cut_after, cuts_at, words_
 
 use super::words::words_between;
 use crate::characters::Characters;
+use crate::widths::visible_len;
 use crate::words::Word;
 use std::alloc::{AllocError, Allocator};
 
@@ -63,19 +64,6 @@ fn find_cuts<A: Allocator>(
         }
     }
     Ok(cuts)
-}
-
-/// The bytes of a line without its escape sequences.
-fn visible_len(line: &str) -> usize
-    ensures { result ≡ length (stripped line.now) }
-{
-    let mut len = 0;
-    for character in Characters::of(line) {
-        if character.is_visible {
-            len += character.ch.len_utf8();
-        }
-    }
-    len
 }
 
 /// Whether the line is cut after a visible character, which ends after `shown` of the `total` bytes

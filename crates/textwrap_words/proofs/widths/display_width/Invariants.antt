@@ -1,4 +1,4 @@
-use Rattle.textwrap_words.proofs.words.display_width.Given as goal
+use Rattle.textwrap_words.proofs.widths.display_width.Given as goal
 use Rattle.textwrap_base.proofs.Common.{◌≡◌, ◌+◌, length, shadow, Utf8}
 use Rattle.textwrap_words.proofs.Common.{text_width}
 

@@ -1,4 +1,4 @@
-use Rattle.textwrap_words.proofs.words.strip_ansi_escape_sequences.Given as goal
+use Rattle.textwrap_words.proofs.widths.strip_ansi_escape_sequences.Given as goal
 use Rattle.textwrap_base.proofs.Common.{◌≡◌, ◌++◌, string_bytes}
 use Rattle.textwrap_words.proofs.Common.{stripped}
 use Rattle.textwrap_words.specs.Characters.{shown_text}

@@ -1,4 +1,4 @@
-use Rattle.textwrap_words.proofs.words.visible_columns.Goals as goal
+use Rattle.textwrap_words.proofs.widths.visible_columns.Goals as goal
 use Rattle.textwrap_base.proofs.Common.{◌≡◌, ◌≢◌, ◌+◌, sym, ap, ◌∙◌, arith, get_or, ne_eqb}
 use Rattle.textwrap_base.proofs.Common.{char_indices_offset}
 use Rattle.std.specs.Str.Iter.{char_indices_rest}
@@ -6,7 +6,7 @@ use Rattle.textwrap_words.proofs.Units.Reading.{IsMeasured, measured-le, measure
 use Rattle.textwrap_words.proofs.Units.Reading.{measured-step}
 use Rattle.textwrap_words.proofs.Word.Ahead.{ascii-here}
 use Rattle.textwrap_words.specs.declared.escapes.State.TheVariants.{Text}
-use Rattle.textwrap_words.proofs.words.visible_columns.Goals.{After-columns-width}
+use Rattle.textwrap_words.proofs.widths.visible_columns.Goals.{After-columns-width}
 
 pub loop-at-init : goal.loop-at-init
 loop-at-init c =

@@ -1,9 +1,9 @@
-use Rattle.textwrap_words.proofs.words.display_width.Goals as goal
+use Rattle.textwrap_words.proofs.widths.display_width.Goals as goal
 use Rattle.textwrap_base.proofs.Common.{◌≡◌, arith, eqb-true, length, sym}
 use Rattle.textwrap_words.proofs.Units.Reading.{text_width-le, columns_in-empty}
 use Rattle.textwrap_words.proofs.Common.{text_width}
 use Rattle.textwrap_words.specs.declared.escapes.State.TheVariants.{Text}
-use Rattle.textwrap_words.proofs.words.display_width.Goals.{After-loop-rest}
+use Rattle.textwrap_words.proofs.widths.display_width.Goals.{After-loop-rest}
 
 pub overflow_add-width : goal.overflow_add-width
 overflow_add-width c = omega (

@@ -1,4 +1,4 @@
-use Rattle.textwrap_words.proofs.word_separators.offsets.visible_len.Given as goal
+use Rattle.textwrap_words.proofs.widths.visible_len.Given as goal
 use Rattle.textwrap_base.proofs.Common.{◌≡◌, ◌+◌, length}
 use Rattle.textwrap_words.proofs.Common.{stripped}
 use Rattle.textwrap_words.specs.Characters.{shown_text}
@@ -7,4 +7,4 @@ use Rattle.textwrap_words.specs.CharactersLeft.{characters_left}
 -- the bytes so far, and those of the characters to come, are the whole
 abbrev pub invariant-loop-character : goal.invariant-loop-character
 invariant-loop-character l =
-    l.len + length (shown_text (characters_left l.character-iterator)) ≡ length (stripped l.line)
+    l.len + length (shown_text (characters_left l.character-iterator)) ≡ length (stripped l.text)

@@ -1,11 +1,11 @@
-use Rattle.textwrap_words.proofs.words.strip_ansi_escape_sequences.Goals as goal
+use Rattle.textwrap_words.proofs.widths.strip_ansi_escape_sequences.Goals as goal
 use Rattle.textwrap_base.proofs.Common.{◌≡◌, ◌≢◌, ◌++◌, string_bytes, append-nil, All}
 use Rattle.textwrap_base.proofs.Common.{sym, ap, ◌∙◌, subst}
 use Rattle.textwrap_words.proofs.Common.{escape, stripped}
 use Rattle.textwrap_words.specs.Characters.{shown_text}
 use Rattle.textwrap_words.proofs.Units.Characters.{shown-all}
 use Rattle.textwrap_words.proofs.Units.Reading.{stripped-plain}
-use Rattle.textwrap_words.proofs.words.strip_ansi_escape_sequences.Goals.{In-None}
+use Rattle.textwrap_words.proofs.widths.strip_ansi_escape_sequences.Goals.{In-None}
 
 pub loop-character-init : goal.loop-character-init
 loop-character-init g c =

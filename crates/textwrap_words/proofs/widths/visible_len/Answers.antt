@@ -1,4 +1,4 @@
-use Rattle.textwrap_words.proofs.word_separators.offsets.visible_len.Goals as goal
+use Rattle.textwrap_words.proofs.widths.visible_len.Goals as goal
 use Rattle.textwrap_base.proofs.Common.{ap, arith, length, ℕ}
 use Rattle.textwrap_base.proofs.Common.{length-append}
 use Rattle.textwrap_words.specs.Characters.{shown_text}
@@ -8,7 +8,7 @@ use Rattle.textwrap_words.proofs.Units.Reading.{stripped-short}
 pub loop-character-init : goal.loop-character-init
 loop-character-init c =
     rw (c.into_iter-character-iterator.ensures.into_iter_gives, c.of-character-items.ensures)
-    (omega (arith, ap length (shown-all c.args.line.now)))
+    (omega (arith, ap length (shown-all c.args.text.now)))
 
 pub overflow_add-len : goal.overflow_add-len
 overflow_add-len c = omega (
@@ -17,5 +17,5 @@ overflow_add-len c = omega (
   c.loop-character.invariant,
   c.len_utf8-len.ensures.len,
   length-append {A = ℕ},
-  stripped-short c.args.line.now c.utf8.line,
+  stripped-short c.args.text.now c.utf8.text,
 )

@@ -1,4 +1,4 @@
-use Rattle.textwrap_words.proofs.words.visible_columns.Given as goal
+use Rattle.textwrap_words.proofs.widths.visible_columns.Given as goal
 use Rattle.textwrap_base.proofs.Common.{char_indices_offset}
 use Rattle.std.specs.Str.Iter.{char_indices_rest}
 use Rattle.textwrap_words.specs.declared.escapes.State.TheVariants.{Text}

@@ -1,9 +1,9 @@
-use Rattle.textwrap_words.proofs.words.first_columns.Goals as goal
+use Rattle.textwrap_words.proofs.widths.first_columns.Goals as goal
 use Rattle.textwrap_base.proofs.Common.{arith, drop, subst, ap, length, get_or}
 use Rattle.textwrap_words.proofs.Common.{IsPrintableByte}
 use Rattle.textwrap_words.specs.declared.escapes.State.TheVariants.{Text}
 use Rattle.textwrap_words.proofs.Units.Reading.{IsMeasured, measured-printable}
-use Rattle.textwrap_words.proofs.words.first_columns.Goals.{Then-printable-gt0}
+use Rattle.textwrap_words.proofs.widths.first_columns.Goals.{Then-printable-gt0}
 
 -- the printable ASCII at the beginning
 read : (c : Then-printable-gt0)

@@ -1,11 +1,11 @@
-use Rattle.textwrap_words.proofs.words.sequence_columns.Goals as goal
+use Rattle.textwrap_words.proofs.widths.sequence_columns.Goals as goal
 use Rattle.textwrap_base.proofs.Common.{◌≡◌, ◌+◌, sym, ◌∙◌, arith, drop, length, length-drop}
 use Rattle.textwrap_base.proofs.Common.{char_indices_offset}
 use Rattle.std.specs.Str.Iter.{char_indices_rest}
 use Rattle.textwrap_words.proofs.Units.Reading.{IsMeasured, measured-le, measured-start}
 use Rattle.textwrap_words.proofs.Units.Reading.{measured-step, added, columns_in-empty}
 use Rattle.textwrap_words.specs.declared.escapes.State.TheVariants.{Text}
-use Rattle.textwrap_words.proofs.words.sequence_columns.Goals.{Joined-is_visible}
+use Rattle.textwrap_words.proofs.widths.sequence_columns.Goals.{Joined-is_visible}
 
 pub loop-at-init : goal.loop-at-init
 loop-at-init c =

@@ -1,4 +1,4 @@
-use Rattle.textwrap_words.proofs.words.sequence_columns.Given as goal
+use Rattle.textwrap_words.proofs.widths.sequence_columns.Given as goal
 use Rattle.textwrap_base.proofs.Common.{char_indices_offset}
 use Rattle.std.specs.Str.Iter.{char_indices_rest}
 use Rattle.textwrap_words.proofs.Units.Reading.{IsMeasured}

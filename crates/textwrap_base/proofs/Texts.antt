@@ -10,13 +10,14 @@ use Rattle.textwrap_base.proofs.Common.{subst, IsCharBoundary-after_ascii, IsCha
 use Rattle.textwrap_base.proofs.Common.{length-append, encodes-chars, chars-IsAscii, length-encode}
 use Rattle.textwrap_base.proofs.Common.{append-nil, encode_utf8_all, IsCharBoundary, encodes-append}
 use Rattle.textwrap_base.proofs.Common.{add-zero, ltb-true, All-head, All-tail, and_from, list_all}
+use Rattle.textwrap_base.proofs.Common.{drop-drop, get_or-drop, length-drop}
 use Rattle.std.proofs.Common.{ltb}
 use Rattle.std.proofs.lemmas.List.{get_or-append-add, get_or_at}
 use lib.Utf8.{encode, scalar}
 use Rattle.std.specs.Str.{all_scalars, chars, skip_leading_whitespace, trim_end}
 use Rattle.std.specs.Str.{drop_trailing_whitespace}
 use Rattle.std.proofs.lemmas.Str.{IsCharBoundary-from_drop, IsCharBoundary-at_seam, scalars-chars}
-use Rattle.std.proofs.lemmas.Str.{len_utf8_bounds}
+use Rattle.std.proofs.lemmas.Str.{encode_ascii, len_utf8_bounds}
 use Rattle.std.specs.Char.{encode_utf8, is_whitespace}
 use Rattle.textwrap_base.proofs.Lists.Parts.{nothing-starts, starts-head, starts-tail}
 use Rattle.std.specs.List.{take_while}
@@ -232,3 +233,30 @@ white-leading (c ∷ cs) =
     let more : 1 + n ≡ suc n = omega arith in
     cond_both (is_whitespace c) (1 + n) 0 (λ k. list_all is_whitespace (take k (c ∷ cs)) ≡ true)
     (λ white. rw more (and_from (is_whitespace c) _ white (white-leading cs))) (λ other. refl)
+
+-- ---- a character that begins at a place of a text
+
+module _ (text : List ℕ) (place c : ℕ) (after : List ℕ)
+    (is : drop place text ≡ encode_utf8 c ++ after) where
+  pub ends-within : place + length (encode_utf8 c) ≤ length text
+  ends-within = omega (
+    arith,
+    length-drop place text,
+    ap length is,
+    length-append (encode_utf8 c) after,
+    some-bytes c,
+  )
+
+  pub starts-within : place < length text
+  starts-within = omega (arith, ends-within, some-bytes c)
+
+  pub left-after : drop (place + length (encode_utf8 c)) text ≡ after
+  left-after =
+      let len = length (encode_utf8 c) in
+      sym (drop-drop len place text) ∙ ap (drop len) is ∙ drop_at (encode_utf8 c) after len refl
+
+  pub ascii-here : c < 128 → get_or text place 0 ≡ c
+  ascii-here low =
+      let at : place ≡ place + 0 = omega arith in
+      ap (λ k. get_or text k 0) at ∙ sym (get_or-drop place text 0 0)
+      ∙ ap (λ l. get_or l 0 0) is ∙ ap (λ bs. get_or (bs ++ after) 0 0) (encode_ascii c low)

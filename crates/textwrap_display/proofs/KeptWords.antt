@@ -15,8 +15,9 @@ use Rattle.textwrap_words.proofs.Word.Texts.{AreBlanks}
 use Rattle.std.specs.Prelude.{encode_utf8, chars}
 use Rattle.std.proofs.lemmas.Str.{IsCharBoundary-start, IsCharBoundary-end, encode_ascii}
 use Rattle.textwrap_base.proofs.Texts.{some-bytes}
-use Rattle.textwrap_words.proofs.Word.Ahead.{ascii-here, character-within, ends-within, plain-bytes}
-use Rattle.textwrap_words.proofs.Word.Ahead.{starts-within}
+use Rattle.textwrap_base.proofs.Texts.{ascii-here, ends-within}
+use Rattle.textwrap_words.proofs.Word.Ahead.{character-within, plain-bytes}
+use Rattle.textwrap_base.proofs.Texts.{starts-within}
 use Rattle.textwrap_display.specs.Shortening.{can_end}
 use Rattle.textwrap_display.specs.Laws.{word_texts}
 use Rattle.textwrap_base.proofs.Lists.Parts.{take_slice}

@@ -1,20 +1,13 @@
 -- The pieces of a word that is too wide for a line.
 use Rattle.std.specs.Prelude.{◌≡◌, ◌≢◌, ℕ, ◌+◌, ◌<◌, ◌≤◌, Bool, false, nat_lt, ◌&&◌, List, [], ◌∷◌}
-use Rattle.std.specs.Prelude.{◌++◌, All, map, if◌then◌else◌, chars, encode_utf8_all, sum_by, ⊤}
+use Rattle.std.specs.Prelude.{◌++◌, All, map, if◌then◌else◌, chars, encode_utf8_all, ⊤}
 use Rattle.std.specs.List.{flat_map, onto_first}
-use Rattle.textwrap_words.specs.Units.{TextUnit, Visible, Sequence, characters, columns, units}
+use Rattle.textwrap_words.specs.Units.{TextUnit, Visible, characters, columns, units, unit_width}
+use Rattle.textwrap_words.specs.Units.{Sequence, units_width}
 use Rattle.textwrap_words.specs.Words.{WordText, word_view, piece}
 use Rattle.textwrap_words.specs.declared.words.breaking.BreakApart.{BreakApart}
 
 -- ---- the parts into which the units of a text are broken
-
--- the columns of a unit
-abbrev pub unit_width : TextUnit → ℕ
-unit_width (Visible c) = columns c
-unit_width (Sequence cs) = 0
-
-abbrev pub units_width : List TextUnit → ℕ
-units_width us = sum_by unit_width us
 
 -- with each visible character that has columns before it, the part keeps to the limit
 abbrev pub IsKept : ℕ → List TextUnit → Type 0

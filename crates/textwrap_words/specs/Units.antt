@@ -123,6 +123,14 @@ stripped bytes = encode_utf8_all (visible (chars bytes))
 abbrev pub columns : ℕ → ℕ
 columns c = unwrap_or (char_width false c) 0
 
+-- the columns of a unit
+abbrev pub unit_width : TextUnit → ℕ
+unit_width (Visible c) = columns c
+unit_width (Sequence cs) = 0
+
+abbrev pub units_width : List TextUnit → ℕ
+units_width us = sum_by unit_width us
+
 -- the columns of a text, given by its bytes
 abbrev pub text_width : List ℕ → ℕ
 text_width bytes = sum_by columns (visible (chars bytes))

@@ -12,7 +12,8 @@ use Rattle.textwrap_unicode.proofs.CutLemmas.{visible-utf8}
 use Rattle.std.proofs.lemmas.Str.{IsCharBoundary-from_drop}
 use lib.Utf8.{encode}
 use Rattle.textwrap_base.proofs.Texts.{some-bytes}
-use Rattle.textwrap_words.proofs.Word.Ahead.{character-within, ends-within, left-after}
+use Rattle.textwrap_base.proofs.Texts.{ends-within, left-after}
+use Rattle.textwrap_words.proofs.Word.Ahead.{character-within}
 use Rattle.textwrap_lines.specs.Offsets.{AreNext}
 use Rattle.textwrap_calls.specs.Pieces.{AreOffsets, offsets_past}
 use Rattle.textwrap_calls.proofs.Offsets.Later.{IsLaterEnd, offsets-later, offsets-first}

@@ -6,7 +6,7 @@ use Rattle.textwrap_base.proofs.Common.{get_or, ap, ◌∙◌, slice_range, case
 use Rattle.textwrap_base.proofs.Common.{length-append, drop_split, get_or-take, get_or-drop, IsUtf8}
 use Rattle.textwrap_base.proofs.Common.{IsCharBoundary, IsUtf8-between, IsUtf8-drop, chars-append}
 use Rattle.textwrap_base.proofs.Common.{chars_past_char, encodes-chars, encode_utf8_all}
-use Rattle.textwrap_base.proofs.Common.{length-drop, IsCharBoundary-after_ascii, drop_at, drop-drop}
+use Rattle.textwrap_base.proofs.Common.{IsCharBoundary-after_ascii}
 use Rattle.textwrap_words.proofs.Common.{TextUnit, Visible, unit_at, units, unit_width, units_width}
 use Rattle.textwrap_words.proofs.Common.{is_due, next_of, shows, is_blank, Splitter}
 use Rattle.textwrap_words.specs.declared.escapes.State.{State}
@@ -14,7 +14,7 @@ use Rattle.textwrap_words.specs.declared.escapes.State.TheVariants.{Text, Escape
 use Rattle.textwrap_words.proofs.Word.Breaking.{taken_units, left_units}
 use Rattle.textwrap_words.proofs.Units.Reading.{units_in, units_in-text, units_in-inside, added}
 use Rattle.std.specs.Prelude.{chars, encode_utf8}
-use Rattle.std.proofs.lemmas.Str.{encode_ascii, IsCharBoundary-before_ascii}
+use Rattle.std.proofs.lemmas.Str.{IsCharBoundary-before_ascii}
 use Rattle.textwrap_words.specs.PieceCuts.{is_point}
 use Rattle.textwrap_base.proofs.Texts.{one-byte, some-bytes}
 use Rattle.textwrap_base.proofs.Lists.Parts.{length-slice}
@@ -91,31 +91,6 @@ IsInFirst-cut limit cs Control width c rest h shown due = cc
 IsInFirst-cut limit cs (Command last) width c rest h shown due = cc
 
 -- ---- a character that begins at a place of a text: where other characters end, and its bytes
-
-module _ (text : List ℕ) (place c : ℕ) (after : List ℕ)
-    (is : drop place text ≡ encode_utf8 c ++ after) where
-  pub ends-within : place + length (encode_utf8 c) ≤ length text
-  ends-within = omega (
-    arith,
-    length-drop place text,
-    ap length is,
-    length-append (encode_utf8 c) after,
-    some-bytes c,
-  )
-
-  pub starts-within : place < length text
-  starts-within = omega (arith, ends-within, some-bytes c)
-
-  pub left-after : drop (place + length (encode_utf8 c)) text ≡ after
-  left-after =
-      let len = length (encode_utf8 c) in
-      sym (drop-drop len place text) ∙ ap (drop len) is ∙ drop_at (encode_utf8 c) after len refl
-
-  pub ascii-here : c < 128 → get_or text place 0 ≡ c
-  ascii-here low =
-      let at : place ≡ place + 0 = omega arith in
-      ap (λ k. get_or text k 0) at ∙ sym (get_or-drop place text 0 0)
-      ∙ ap (λ l. get_or l 0 0) is ∙ ap (λ bs. get_or (bs ++ after) 0 0) (encode_ascii c low)
 
 module _ (text : List ℕ) (utf8 : IsUtf8 text) (place c : ℕ) (after : List ℕ)
     (here : IsCharBoundary text place) (is : drop place text ≡ encode_utf8 c ++ after) where

@@ -8,7 +8,8 @@ use Rattle.textwrap_words.proofs.Common.{Visible, units, is_due, next_of, shows,
 use Rattle.textwrap_words.proofs.Common.{is_blank, Splitter, text_width, columns}
 use Rattle.textwrap_words.proofs.Word.Ahead.{IsInFirst, IsInFirst-start, IsInFirst-step}
 use Rattle.textwrap_words.proofs.Word.Ahead.{IsInFirst-cut, EndsHere}
-use Rattle.textwrap_words.proofs.Word.Ahead.{character-within, starts-within, first-bytes}
+use Rattle.textwrap_base.proofs.Texts.{starts-within}
+use Rattle.textwrap_words.proofs.Word.Ahead.{character-within, first-bytes}
 use Rattle.textwrap_words.proofs.Word.BrokenPieces.{IsFirstPiece, IsFirstPiece-found}
 use Rattle.std.specs.Prelude.{chars, encode_utf8}
 use Rattle.textwrap_words.specs.declared.escapes.State.{State}

@@ -14,7 +14,8 @@ use Rattle.textwrap_words.specs.PieceCuts.{is_point}
 use Rattle.textwrap_words.specs.Pieces.{is_stop, IsFirstStop}
 use Rattle.textwrap_words.proofs.Units.Reading.{columns-le, added}
 use Rattle.textwrap_words.proofs.Word.Breaking.{due-true, due-false}
-use Rattle.textwrap_words.proofs.Word.Ahead.{ascii-here, left-after, plain-bytes, point-after}
+use Rattle.textwrap_base.proofs.Texts.{ascii-here, left-after}
+use Rattle.textwrap_words.proofs.Word.Ahead.{plain-bytes, point-after}
 use Rattle.textwrap_words.proofs.Word.Scanned.{scanned-letters, IsScanned, GoesOn, scanned-step}
 use Rattle.textwrap_words.proofs.Word.Scanned.{no-stop, stop-full, stop-here, stops-between}
 use Rattle.textwrap_words.proofs.pieces.read_on.Goals.{In-Some, After-step-next, Joined-is_visible}

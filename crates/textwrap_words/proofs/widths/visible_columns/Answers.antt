@@ -4,7 +4,7 @@ use Rattle.textwrap_base.proofs.Common.{char_indices_offset}
 use Rattle.std.specs.Str.Iter.{char_indices_rest}
 use Rattle.textwrap_words.proofs.Units.Reading.{IsMeasured, measured-le, measured-start}
 use Rattle.textwrap_words.proofs.Units.Reading.{measured-step}
-use Rattle.textwrap_words.proofs.Word.Ahead.{ascii-here}
+use Rattle.textwrap_base.proofs.Texts.{ascii-here}
 use Rattle.textwrap_words.specs.declared.escapes.State.TheVariants.{Text}
 use Rattle.textwrap_words.proofs.widths.visible_columns.Goals.{After-columns-width}
 

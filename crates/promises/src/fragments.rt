@@ -1,9 +1,9 @@
 //! The division of fragments, and its least costs.
 ghost use Rattle.std.specs.Prelude.{◌≡◌, length, map, IfOk};
-ghost use Rattle.textwrap_base.specs.Cost.{priced_by};
 ghost use Rattle.textwrap_base.specs.Division.{IsGreedy};
 ghost use Rattle.textwrap_base.specs.Errors.{Overflowed};
 ghost use Rattle.textwrap_base.specs.OptimalFit.{IsOptimalFitResult};
+ghost use Rattle.textwrap_base.specs.Problem.{problem_of};
 ghost use Rattle.textwrap_base.specs.Queue.{IsQueueCase, CountsSearch};
 ghost use Rattle.textwrap_base.specs.Table.{fragments_table, minimum_of, TableOverflows};
 
@@ -34,8 +34,9 @@ pub fn optimal_fit<'a, T: Fragment>(
     line_widths: &[usize],
     penalties: &Penalties,
 ) -> Result<Vec<&'a [T]>, WrapError>
-    ensures fit { IsOptimalFitResult (priced_by T.sizes T.own_break_penalty penalties.now) penalties.now
-        line_widths.now fragments.now (λ lines. map (λ line. line.now) lines.items) result }
+    ensures fit { IsOptimalFitResult
+        (problem_of T.Fragment.own penalties.now line_widths.now fragments.now)
+        (λ lines. map (λ line. line.now) lines.items) result }
 {
     wrap_optimal_fit(alloc, fragments, line_widths, penalties)
 }
@@ -48,8 +49,8 @@ pub fn optimal_fit_counted<'a, T: Fragment>(
     penalties: &Penalties,
     steps: &mut Steps,
 ) -> Result<Vec<&'a [T]>, WrapError>
-    ensures queue_steps { IsQueueCase (priced_by T.sizes T.own_break_penalty penalties.now) penalties.now
-        line_widths.now fragments.now
+    ensures queue_steps { IsQueueCase
+        (problem_of T.Fragment.own penalties.now line_widths.now fragments.now)
         → CountsSearch (length fragments.now) steps.old steps.new result }
 {
     wrap_optimal_fit_counted(alloc, fragments, line_widths, penalties, steps)
@@ -64,8 +65,7 @@ pub fn minima_of_table<T: Fragment>(
     steps: &mut Steps,
 ) -> Result<Vec<Minimum>, WrapError>
     ensures entries { IfOk result (λ minima. minima.items ≡ map minimum_of
-        (fragments_table (priced_by T.sizes T.own_break_penalty penalties.now) penalties.now
-        line_widths.now fragments.now)) }
+        (fragments_table (problem_of T.Fragment.own penalties.now line_widths.now fragments.now))) }
 {
     let minima = table_minima(alloc, fragments, line_widths, penalties, steps)?;
     Ok(minima)
@@ -80,8 +80,7 @@ pub fn overflow_of_table<T: Fragment>(
     steps: &mut Steps,
 ) -> Result<Vec<Minimum>, WrapError>
     ensures overflow_only { Overflowed result
-        → TableOverflows (priced_by T.sizes T.own_break_penalty penalties.now) penalties.now
-        line_widths.now fragments.now }
+        → TableOverflows (problem_of T.Fragment.own penalties.now line_widths.now fragments.now) }
 {
     table_minima(alloc, fragments, line_widths, penalties, steps)
 }
@@ -95,8 +94,7 @@ pub fn minima<T: Fragment>(
     steps: &mut Steps,
 ) -> Result<Vec<Minimum>, WrapError>
     ensures entries { IfOk result (λ minima. minima.items ≡ map minimum_of
-        (fragments_table (priced_by T.sizes T.own_break_penalty penalties.now) penalties.now
-        line_widths.now fragments.now)) }
+        (fragments_table (problem_of T.Fragment.own penalties.now line_widths.now fragments.now))) }
 {
     if !is_queue_case(fragments, line_widths, penalties) {
         return table_minima(alloc, fragments, line_widths, penalties, steps);

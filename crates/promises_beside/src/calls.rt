@@ -1,9 +1,7 @@
 //! What is written for a caller in C.
-ghost use Rattle.textwrap.specs.Filling.{IsFilled};
-ghost use Rattle.textwrap_calls.specs.Options.{Divides, settings_of};
+ghost use Rattle.textwrap_calls.specs.Options.{IsFilledBy, ArePlacedBy};
 ghost use Rattle.textwrap_calls.specs.Room.{WritesLong};
 ghost use Rattle.textwrap_calls.specs.Wrapping.{WritesLongLines};
-ghost use Rattle.textwrap_lines.specs.Places.{ArePlacedLines};
 
 use std::alloc::Global;
 use textwrap_calls::filling::textwrap_fill;
@@ -18,7 +16,7 @@ pub fn written_text(
     room: &mut [u8],
     len: &mut usize,
 ) -> u32
-    ensures filled { WritesLong (IsFilled (settings_of options.now) (Divides options.now (settings_of options.now)) text.now)
+    ensures filled { WritesLong (IsFilledBy options.now text.now)
         result room.old room.new len.old len.new }
 {
     textwrap_fill(alloc, text, options, room, len)
@@ -34,7 +32,7 @@ pub fn written_lines(
     room: &mut [u8],
     len: &mut usize,
 ) -> u32
-    ensures wrapped { WritesLongLines (ArePlacedLines (settings_of options.now) (Divides options.now (settings_of options.now)) text.now)
+    ensures wrapped { WritesLongLines (ArePlacedBy options.now text.now)
         text.now result lines.old lines.new count.old count.new room.old room.new len.old len.new }
 {
     textwrap_wrap(alloc, text, options, lines, count, room, len)

@@ -12,6 +12,7 @@ pub use Rattle.textwrap_base.specs.Lists
 pub use Rattle.textwrap_base.specs.Minima
 pub use Rattle.textwrap_base.specs.OptimalFit
 pub use Rattle.textwrap_base.specs.Penalties
+pub use Rattle.textwrap_base.specs.Problem
 pub use Rattle.textwrap_base.specs.Queue
 pub use Rattle.textwrap_base.specs.Sizes
 pub use Rattle.textwrap_base.specs.Table

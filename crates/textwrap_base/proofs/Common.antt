@@ -57,7 +57,8 @@ pub use Rattle.std.proofs.lemmas.Str.{IsUtf8-drop, IsUtf8-from_ascii, IsUtf8-nil
 pub use Rattle.std.proofs.lemmas.Str.{IsUtf8-take, length-encode}
 pub use Rattle.textwrap_base.specs.Cost.{AreEqualFromSecond, AreNoLater, division_cost, fit_cost}
 pub use Rattle.textwrap_base.specs.Cost.{IsLeastCost, last_break_penalty, line_cost, priced_at}
-pub use Rattle.textwrap_base.specs.Cost.{priced_by, PricedSizes, total_width}
+pub use Rattle.textwrap_base.specs.Cost.{priced_by, PricedSizes, Problem, problem_at, problem_by}
+pub use Rattle.textwrap_base.specs.Cost.{total_width}
 pub use Rattle.textwrap_base.specs.Division.{AllFit, AllFull, closed_width, Fits, IsDivision}
 pub use Rattle.textwrap_base.specs.Division.{IsGreedy, line_width, open_width}
 pub use Rattle.textwrap_base.specs.Errors.{Overflowed}
@@ -65,6 +66,7 @@ pub use Rattle.textwrap_base.specs.LineCosts.{measured}
 pub use Rattle.textwrap_base.specs.Lists.{last}
 pub use Rattle.textwrap_base.specs.Minima.{Costs, counted, table_steps}
 pub use Rattle.textwrap_base.specs.Penalties.{default_penalties}
+pub use Rattle.textwrap_base.specs.Problem.{problem_of}
 pub use Rattle.textwrap_base.specs.Queue.{AreAtMost, binary_digits, IsQueueCase, NeverFalls}
 pub use Rattle.textwrap_base.specs.Queue.{queue_limit, SuitQueue}
 pub use Rattle.textwrap_base.specs.Search.{cost_from, IsBestFrom, IsBestStart, least_entry}

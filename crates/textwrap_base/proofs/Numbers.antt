@@ -1,9 +1,8 @@
 -- Numbers, tests of them, and results that hold them.
 use Rattle.textwrap_base.proofs.Common.{◌≡◌, ℕ, ◌<◌, eqb, false, arith, ◌+◌, ◌≤◌, Bool, true}
 use Rattle.textwrap_base.proofs.Common.{if◌then◌else◌, ◌^◌, not, ◌==◌, nat_lt, ◌||◌, suc, refl, ◌⊎◌}
-use Rattle.textwrap_base.proofs.Common.{inl, inr, min, ◌∙◌, cond, [], ◌∷◌, rules}
-use Rattle.textwrap_base.proofs.Common.{eqb-false, cases_lt, nat_tests, ⊎_elim, Option, None, Some}
-use Rattle.textwrap_base.proofs.Common.{SomeIff, Result, Ok, Err}
+use Rattle.textwrap_base.proofs.Common.{inl, inr, min, ◌∙◌, rules, eqb-false, cases_lt, nat_tests}
+use Rattle.textwrap_base.proofs.Common.{⊎_elim, Option, None, Some, SomeIff, Result, Ok, Err}
 use Rattle.std.proofs.Common.{IsSome}
 use Rattle.std.proofs.Math.Nat.{le-mul_of_pos_right, min-le_right, mod-add-div'}
 use Rattle.std.specs.Int.{div_ceil}
@@ -43,12 +42,6 @@ either_short a b n is = ⊎_elim {C = (a ≤ n) ⊎ (b ≤ n)} (λ (less : a < b
 -- no table has more rows than lines
 pub rows-le_lines : (lines columns : ℕ) → 1 ≤ columns → div_ceil lines columns ≤ lines
 rows-le_lines lines columns some = grind (arith, le-mul_of_pos_right, mod-add-div', min-le_right)
-
-pub same-flag : (a b : Bool) (c : ℕ) → cond a (c ∷ []) [] ≡ cond b (c ∷ []) [] → a ≡ b
-same-flag true true c e = refl
-same-flag true false c e = cc
-same-flag false true c e = cc
-same-flag false false c e = refl
 
 pub some_where : (o : Option ℕ) (P : Type 0) (v : ℕ) → SomeIff o P v → P → IsSome o
 some_where None P v h p = absurd (h p)

@@ -1,8 +1,8 @@
 -- Worked rows on the widths of lines, on divisions, on what lines cost, and on tables of costs.
 use Rattle.textwrap_base.proofs.Common.{◌≡◌, ◌≢◌, ℕ, List, [], ◌∷◌, refl, All-head, Sizes}
-use Rattle.textwrap_base.proofs.Common.{default_penalties, priced_at, division_cost, line_width}
-use Rattle.textwrap_base.proofs.Common.{closed_width, IsDivision, map, take, fragments_table}
-use Rattle.textwrap_base.proofs.Common.{fragment_costs, arith}
+use Rattle.textwrap_base.proofs.Common.{default_penalties, division_cost, line_width, closed_width}
+use Rattle.textwrap_base.proofs.Common.{IsDivision, map, take, fragments_table, fragment_costs}
+use Rattle.textwrap_base.proofs.Common.{arith, problem_by, problem_at, flat_map}
 use Rattle.textwrap_base.specs.Queue.{AreConvex}
 use Rattle.textwrap_base.specs.Table.{table}
 use Rattle.textwrap_base.specs.declared.minima.table.Entry.{Entry}
@@ -64,8 +64,8 @@ IsDivision-not_empty_line division =
 
 -- two fragments on one line, or on two
 abbrev fragments_at : ℕ → List (List Sizes) → ℕ
-fragments_at width lines = division_cost (priced_at default_penalties) default_penalties
-    (width ∷ []) 2 lines
+fragments_at width lines = division_cost (problem_at default_penalties (λ (s : Sizes). s)
+    (width ∷ []) (flat_map (λ line. line) lines)) lines
 
 cost-one_line : fragments_at 53 ((sized 3 1 0 ∷ sized 50 0 0 ∷ []) ∷ []) ≡ 3500
 cost-one_line = refl
@@ -85,7 +85,7 @@ cost-two_lines_narrower = refl
 -- the start and the cost of each entry
 abbrev starts_and_costs : List ℕ → List Sizes → List (ℕ × ℕ)
 starts_and_costs widths fragments = map (λ (entry : Entry). (entry.start, entry.cost))
-    (fragments_table (priced_at default_penalties) default_penalties widths fragments)
+    (fragments_table (problem_at default_penalties (λ (s : Sizes). s) widths fragments))
 
 -- ---- fragments whose closed width falls with the fourth
 
@@ -102,8 +102,8 @@ unfolding table
 table-falling = refl
 
 -- the second and third cost 13525, the third and fourth 1025, all three 1000, and the third 1025
-not_convex-falling : ¬ AreConvex (fragment_costs (priced_at default_penalties) default_penalties
-    (10 ∷ []) falling)
+not_convex-falling : ¬ AreConvex (fragment_costs (problem_at default_penalties
+    (λ (s : Sizes). s) (10 ∷ []) falling))
 not_convex-falling convex =
     omega (arith, convex 1 2 3 4 (omega arith) (omega arith) (omega arith) (omega arith) (omega arith))
 
@@ -117,16 +117,17 @@ table-uneven : starts_and_costs (10 ∷ 5 ∷ 100 ∷ []) uneven ≡ (0, 0) ∷ 
 unfolding table
 table-uneven = refl
 
-cost-uneven_lines : division_cost (priced_at default_penalties) default_penalties
-    (10 ∷ 5 ∷ 100 ∷ []) 3 ((sized 5 0 0 ∷ []) ∷ (sized 5 0 0 ∷ []) ∷ (sized 20 0 0 ∷ []) ∷ [])
+cost-uneven_lines : division_cost (problem_at default_penalties (λ (s : Sizes). s)
+    (10 ∷ 5 ∷ 100 ∷ []) uneven) ((sized 5 0 0 ∷ []) ∷ (sized 5 0 0 ∷ []) ∷ (sized 20 0 0 ∷ []) ∷ [])
     ≡ 3050
 cost-uneven_lines = refl
 
 -- ---- three cards (4, 1, 0) by their break penalties, in lines of 9
 
 abbrev card_cost : List (List ℕ) → ℕ
-card_cost lines = division_cost (λ keep. record { sizes = sized 4 1 0; break_penalty = keep })
-    default_penalties (9 ∷ []) 3 lines
+card_cost lines = division_cost
+    (problem_by (λ keep. record { sizes = sized 4 1 0; break_penalty = keep })
+    default_penalties (9 ∷ []) (flat_map (λ line. line) lines)) lines
 
 cost-kept_little : card_cost ((0 ∷ 24 ∷ []) ∷ (0 ∷ []) ∷ []) ≡ 2024
 cost-kept_little = refl

@@ -36,9 +36,7 @@ digits_least : (most n : ℕ) → n ≤ most → n < 2 ^ digits_within most n
 digits_least zero zero l = omega arith
 digits_least zero (suc n) l = absurd (omega arith)
 digits_least (suc most) zero l = omega arith
-digits_least (suc most) (suc n) l =
-    let half = digits_least most (suc n / 2) (omega arith) in
-    omega (arith, half, pow-suc 2 (digits_within most (suc n / 2)))
+digits_least (suc most) (suc n) l = grind (arith, digits_least most (suc n / 2) (omega arith))
 
 below_digits : (n : ℕ) → n < 2 ^ binary_digits n
 below_digits n = digits_least n n (omega arith)

@@ -90,8 +90,7 @@ after_ascii (c ∷ front) rest ascii utf8 =
 pub StartsWith-boundary : (xs p : List ℕ) → IsUtf8 xs → IsUtf8 p → StartsWith xs p
     → IsCharBoundary xs (length p)
 StartsWith-boundary xs p utf8 prefix starts =
-    IsCharBoundary-from_take xs (length p) utf8 (starts_with_length xs p starts)
-    (subst IsUtf8 (sym starts) prefix)
+    grind (arith, IsCharBoundary-from_take, starts_with_length)
 
 -- ---- texts that are cut after some of their characters
 

@@ -1,6 +1,6 @@
 -- The built-in algorithms: how each divides fragments, and what it refuses.
 use Rattle.std.specs.Prelude.{ℕ, List}
-use Rattle.textwrap_base.specs.Cost.{priced_at}
+use Rattle.textwrap_base.specs.Cost.{problem_at}
 use Rattle.textwrap_base.specs.Division.{IsGreedy}
 use Rattle.textwrap_base.specs.OptimalFit.{IsByOptimalFit}
 use Rattle.textwrap_base.specs.Sizes.{Sizes}
@@ -17,11 +17,11 @@ module _ {X : Type 0} where
   abbrev pub IsDividedBy : Algorithm → (X → Sizes) → List ℕ → List X → List (List X) → Type 0
   IsDividedBy Greedy sizes widths fragments lines = IsGreedy sizes widths fragments lines
   IsDividedBy (LeastCost penalties) sizes widths fragments lines =
-      IsByOptimalFit (λ x. priced_at penalties (sizes x)) penalties widths fragments lines
+      IsByOptimalFit (problem_at penalties sizes widths fragments) lines
 
   -- the algorithm refuses these with Overflow: the greedy one refuses none, the one of least cost
   -- where its table overflows
   abbrev pub OverflowsBy : Algorithm → (X → Sizes) → List ℕ → List X → Type 0
   OverflowsBy Greedy sizes widths fragments = ⊥
   OverflowsBy (LeastCost penalties) sizes widths fragments =
-      TableOverflows (λ x. priced_at penalties (sizes x)) penalties widths fragments
+      TableOverflows (problem_at penalties sizes widths fragments)

@@ -84,40 +84,61 @@ AreNoLater (s ∷ starts) (other ∷ others) = (s < other) ⊎ ((s ≡ other) ×
 abbrev pub AreEqualFromSecond : List ℕ → Type 0
 AreEqualFromSecond ws = (k : ℕ) → 1 ≤ k → k < length ws → slice_index ws k ≡ slice_index ws 1
 
-module _ {X : Type 0} (priced : X → PricedSizes) (penalties : Penalties) (widths : List ℕ) where
-  -- the cost of the lines that follow `number` lines of `at` fragments, where there are n in all
-  abbrev pub lines_cost : ℕ → ℕ → ℕ → List (List X) → ℕ
-  lines_cost n number at [] = 0
-  lines_cost n number at (line ∷ lines) =
-      line_cost priced penalties (line_width widths number) (at + length line == n) line
-      + lines_cost n (number + 1) (at + length line) lines
+-- fragments to be divided at the least cost: what is divided, priced how, with which penalties, and
+-- at which line widths
+pub record Problem (X : Type 0) : Type 0 where
+  pub priced : X → PricedSizes
+  pub penalties : Penalties
+  pub widths : List ℕ
+  pub fragments : List X
 
-  -- the cost of a division of some prefix of the fragments, which are n in all
-  abbrev pub division_cost : ℕ → List (List X) → ℕ
-  division_cost n lines = lines_cost n 0 0 lines
+abbrev pub problem_by : {X : Type 0} → (X → PricedSizes) → Penalties → List ℕ → List X → Problem X
+problem_by priced penalties widths fragments =
+    record { priced = priced; penalties = penalties; widths = widths; fragments = fragments }
+
+-- the same where each fragment has the usual break penalty
+abbrev pub problem_at : {X : Type 0} → Penalties → (X → Sizes) → List ℕ → List X → Problem X
+problem_at penalties sizes = problem_by (λ x. priced_at penalties (sizes x)) penalties
+
+module _ {X : Type 0} (problem : Problem X) where
+  -- the cost of the lines that follow `number` lines of `at` fragments
+  abbrev pub lines_cost : ℕ → ℕ → List (List X) → ℕ
+  lines_cost number at [] = 0
+  lines_cost number at (line ∷ lines) =
+      line_cost problem.priced problem.penalties (line_width problem.widths number)
+      (at + length line == length problem.fragments) line
+      + lines_cost (number + 1) (at + length line) lines
+
+  -- the cost of a division of some prefix of the fragments
+  abbrev pub division_cost : List (List X) → ℕ
+  division_cost lines = lines_cost 0 0 lines
 
   -- no division costs less, and of those that cost the same the last line starts earliest, then
   -- the line before it, and so on
-  pub record IsChosen (fragments : List X) (lines : List (List X)) : Type 0 where
-    pub division : IsDivision fragments lines
-    pub least : (others : List (List X)) → IsDivision fragments others
-        → division_cost (length fragments) lines ≤ division_cost (length fragments) others
-    pub earliest : (others : List (List X)) → IsDivision fragments others
-        → division_cost (length fragments) others ≡ division_cost (length fragments) lines
+  pub record IsChosen (lines : List (List X)) : Type 0 where
+    pub division : IsDivision problem.fragments lines
+    pub least : (others : List (List X)) → IsDivision problem.fragments others
+        → division_cost lines ≤ division_cost others
+    pub earliest : (others : List (List X)) → IsDivision problem.fragments others
+        → division_cost others ≡ division_cost lines
         → AreNoLater (reverse (starts_from 0 lines)) (reverse (starts_from 0 others))
+
+  -- the sum of all widths passes 128 bits
+  abbrev pub IsTooWide : Type 0
+  IsTooWide = Passes128Bits (total_width (λ x. (problem.priced x).sizes) problem.fragments)
 
   -- the sum of all widths passes 128 bits, or the cost of each division of some prefix does, and
   -- so the least one
-  abbrev pub Overflows : List X → Type 0
-  Overflows xs =
-      Passes128Bits (total_width (λ x. (priced x).sizes) xs)
-      ⊎ ((j : ℕ) × (j ≤ length xs) × ((lines : List (List X)) → IsDivision (take j xs) lines
-      → Passes128Bits (division_cost (length xs) lines)))
+  abbrev pub Overflows : Type 0
+  Overflows =
+      IsTooWide
+      ⊎ ((j : ℕ) × (j ≤ length problem.fragments) × ((lines : List (List X))
+      → IsDivision (take j problem.fragments) lines → Passes128Bits (division_cost lines)))
 
   -- a division of the first j fragments has this cost, and none has less
-  pub record IsLeastCost (xs : List X) (j cost : ℕ) : Type 0 where
+  pub record IsLeastCost (j cost : ℕ) : Type 0 where
     pub lines : List (List X)
-    pub division : IsDivision (take j xs) lines
-    pub reached : division_cost (length xs) lines ≡ cost
-    pub least : (others : List (List X)) → IsDivision (take j xs) others
-        → cost ≤ division_cost (length xs) others
+    pub division : IsDivision (take j problem.fragments) lines
+    pub reached : division_cost lines ≡ cost
+    pub least : (others : List (List X)) → IsDivision (take j problem.fragments) others
+        → cost ≤ division_cost others

@@ -9,6 +9,7 @@ pub mod Measured
 pub mod Minima
 pub mod OptimalFit
 pub mod Penalties
+pub mod Problem
 pub mod Queue
 pub mod Search
 pub mod Sizes

@@ -1,7 +1,7 @@
 -- The search for least costs by a queue: which line costs it takes, and which fragments have them.
 use Rattle.std.specs.Prelude.{◌≡◌, ℕ, zero, suc, ◌+◌, ◌/◌, ◌^◌, ◌<◌, ◌≤◌, List, length, slice_index}
 use Rattle.std.specs.Prelude.{◌*◌, take, Result, OnOk, All}
-use Rattle.textwrap_base.specs.Cost.{PricedSizes, AreEqualFromSecond, total_width}
+use Rattle.textwrap_base.specs.Cost.{Problem, AreEqualFromSecond, total_width}
 use Rattle.textwrap_base.specs.Division.{closed_width}
 use Rattle.textwrap_base.specs.Minima.{Costs, counted}
 use Rattle.textwrap_base.specs.Sizes.{Sizes}
@@ -70,11 +70,12 @@ pub record AreAtMost (limit : ℕ) (p : Penalties) : Type 0 where
   pub hyphen : p.hyphen_penalty ≤ limit
 
 -- all lines but the first have one width, closed widths never fall, and all numbers are small
-pub record IsQueueCase {X : Type 0} (priced : X → PricedSizes) (penalties : Penalties)
-    (widths : List ℕ) (xs : List X) : Type 0 where
-  pub equal : AreEqualFromSecond widths
-  pub rising : NeverFalls (λ x. (priced x).sizes) xs
-  pub small_widths : (l : ℕ) → l < length widths → slice_index widths l ≤ queue_limit
-  pub small_penalties : AreAtMost queue_limit penalties
-  pub small_break_penalties : All (λ x. (priced x).break_penalty ≤ queue_limit) xs
-  pub small_sum : total_width (λ x. (priced x).sizes) xs ≤ queue_limit
+pub record IsQueueCase {X : Type 0} (problem : Problem X) : Type 0 where
+  pub equal : AreEqualFromSecond problem.widths
+  pub rising : NeverFalls (λ x. (problem.priced x).sizes) problem.fragments
+  pub small_widths : (l : ℕ) → l < length problem.widths
+      → slice_index problem.widths l ≤ queue_limit
+  pub small_penalties : AreAtMost queue_limit problem.penalties
+  pub small_break_penalties : All (λ x. (problem.priced x).break_penalty ≤ queue_limit)
+      problem.fragments
+  pub small_sum : total_width (λ x. (problem.priced x).sizes) problem.fragments ≤ queue_limit

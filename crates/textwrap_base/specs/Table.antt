@@ -4,10 +4,9 @@ use Rattle.std.specs.Prelude.{[], ◌∷◌, ◌++◌, length, map, slice_index,
 use Rattle.std.specs.Prelude.{Option, None, Some, MatchOption, Result, OnOk, ⊤, ◌⊎◌}
 use Rattle.textwrap_base.specs.Minima.{Costs, counted, table_steps}
 use Rattle.textwrap_base.specs.Division.{line_width, IsDivision}
-use Rattle.textwrap_base.specs.Cost.{PricedSizes, line_cost, total_width}
+use Rattle.textwrap_base.specs.Cost.{Problem, line_cost, total_width, IsTooWide}
 use Rattle.textwrap_base.specs.Errors.{Fits128Bits, Passes128Bits, Overflowed}
 use Rattle.textwrap_base.specs.declared.errors.WrapError.{WrapError}
-use Rattle.textwrap_base.specs.declared.penalties.Penalties.{Penalties}
 use Rattle.textwrap_base.specs.declared.minima.Minimum.{Minimum}
 use Rattle.textwrap_base.specs.declared.minima.table.Entry.{Entry}
 
@@ -90,37 +89,39 @@ FollowStarts starts at [] = ⊤
 FollowStarts starts at (line ∷ lines) =
     (slice_index starts (at + length line) ≡ at) × FollowStarts starts (at + length line) lines
 
-module _ {X : Type 0} (priced : X → PricedSizes) (penalties : Penalties) (widths : List ℕ) where
+module _ {X : Type 0} (problem : Problem X) where
   -- the cost of the line from fragment i to before j, by its number
-  abbrev pub line_costs : List X → ℕ → ℕ → ℕ → ℕ
-  line_costs xs i j number =
-      line_cost priced penalties (line_width widths number) (j == length xs) (slice_range xs i j)
+  abbrev pub line_costs : ℕ → ℕ → ℕ → ℕ
+  line_costs i j number =
+      line_cost problem.priced problem.penalties (line_width problem.widths number)
+      (j == length problem.fragments) (slice_range problem.fragments i j)
 
-  abbrev pub fragment_costs : List X → Costs
-  fragment_costs fragments = record { ends = length fragments; cost = line_costs fragments }
+  abbrev pub fragment_costs : Costs
+  fragment_costs = record { ends = length problem.fragments; cost = line_costs }
 
-  abbrev pub fragments_table : List X → List Entry
-  fragments_table fragments = table (line_costs fragments) (length fragments)
+  abbrev pub fragments_table : List Entry
+  fragments_table = table line_costs (length problem.fragments)
 
   -- the sum of all widths passes 128 bits, or the cost of an entry does
-  abbrev pub TableOverflows : List X → Type 0
-  TableOverflows xs =
-      Passes128Bits (total_width (λ x. (priced x).sizes) xs)
-      ⊎ ((j : ℕ) × (j ≤ length xs) × Passes128Bits (entry_at (fragments_table xs) j).cost)
+  abbrev pub TableOverflows : Type 0
+  TableOverflows =
+      IsTooWide problem
+      ⊎ ((j : ℕ) × (j ≤ length problem.fragments)
+      × Passes128Bits (entry_at fragments_table j).cost)
 
   -- the division that follows the starts of the table back from its end
-  pub record IsByTable (fragments : List X) (lines : List (List X)) : Type 0 where
-    pub division : IsDivision fragments lines
-    pub starts : FollowStarts (map (λ entry. entry.start) (fragments_table fragments)) 0 lines
+  pub record IsByTable (lines : List (List X)) : Type 0 where
+    pub division : IsDivision problem.fragments lines
+    pub starts : FollowStarts (map (λ entry. entry.start) fragments_table) 0 lines
 
   -- the count went from old to new by the steps of the whole table, at an error by no more: by
   -- those up to the first entry that passes 128 bits, or by none where the sum of all widths passes
-  pub record CountsSteps {A : Type 0} (xs : List X) (old new : ℕ) (result : Result A WrapError)
-      : Type 0 where
-    pub ok : OnOk result (new ≡ counted old (table_steps (length xs)))
-    pub exact : OnOk result (old ≡ 0 → new ≡ table_steps (length xs))
-    pub most : new ≤ old + table_steps (length xs)
+  pub record CountsSteps {A : Type 0} (old new : ℕ) (result : Result A WrapError) : Type 0 where
+    pub ok : OnOk result (new ≡ counted old (table_steps (length problem.fragments)))
+    pub exact : OnOk result (old ≡ 0 → new ≡ table_steps (length problem.fragments))
+    pub most : new ≤ old + table_steps (length problem.fragments)
     pub least : old ≤ new
-    pub too_wide : Passes128Bits (total_width (λ x. (priced x).sizes) xs) → new ≡ old
-    pub overflow : Fits128Bits (total_width (λ x. (priced x).sizes) xs) → Overflowed result
-        → StopsAtOverflow (fragments_table xs) (length xs) old new
+    pub too_wide : IsTooWide problem → new ≡ old
+    pub overflow : Fits128Bits (total_width (λ x. (problem.priced x).sizes) problem.fragments)
+        → Overflowed result
+        → StopsAtOverflow fragments_table (length problem.fragments) old new

@@ -4,7 +4,7 @@
 //! A law has no example: its statement is all there is to it. A call is written
 //! `table_has_least_costs();`, or where the law is about given values
 //! `chosen_division_is_unique(&words, &[10], &penalties);`.
-ghost use Rattle.textwrap_base.specs.Cost.{priced_by};
+ghost use Rattle.textwrap_base.specs.Problem.{problem_of};
 ghost use Rattle.textwrap_base.specs.Laws.{GreedyDivisionIsUnique};
 ghost use Rattle.textwrap_base.specs.Laws.{ChosenDivisionIsUnique, TableDivisionIsUnique};
 ghost use Rattle.textwrap_base.specs.Laws.{TableOverflowIsOverflow, TableHasLeastCosts};
@@ -23,8 +23,8 @@ pub fn chosen_division_is_unique<T: Fragment>(
     line_widths: &[usize],
     penalties: &Penalties,
 )
-    ensures { ChosenDivisionIsUnique (priced_by T.sizes T.own_break_penalty penalties.now) penalties.now
-        line_widths.now fragments.now }
+    ensures { ChosenDivisionIsUnique
+        (problem_of T.Fragment.own penalties.now line_widths.now fragments.now) }
 {}
 
 /// Fragments have at most one division by the table, whatever the line widths. So
@@ -34,8 +34,8 @@ pub fn table_division_is_unique<T: Fragment>(
     line_widths: &[usize],
     penalties: &Penalties,
 )
-    ensures { TableDivisionIsUnique (priced_by T.sizes T.own_break_penalty penalties.now) penalties.now
-        line_widths.now fragments.now }
+    ensures { TableDivisionIsUnique
+        (problem_of T.Fragment.own penalties.now line_widths.now fragments.now) }
 {}
 
 /// Where all lines but the first have one width, the table overflows exactly where all widths
@@ -45,8 +45,8 @@ pub fn table_overflow_is_overflow<T: Fragment>(
     line_widths: &[usize],
     penalties: &Penalties,
 )
-    ensures { TableOverflowIsOverflow (priced_by T.sizes T.own_break_penalty penalties.now) penalties.now
-        line_widths.now fragments.now }
+    ensures { TableOverflowIsOverflow
+        (problem_of T.Fragment.own penalties.now line_widths.now fragments.now) }
 {}
 
 /// Each entry of a table but the first is the least of what the entries before it give.

@@ -2,7 +2,7 @@
 //! place of a sum over the line.
 ghost use Rattle.std.specs.Prelude.{◌≡◌, ◌+◌, ◌<◌, ◌≤◌, length, SomeIff};
 ghost use Rattle.std.specs.Prelude.{◌-◌, ◌*◌, ◌^◌};
-ghost use Rattle.textwrap_base.specs.Cost.{fit_cost};
+ghost use Rattle.textwrap_base.specs.Cost.{fit_cost, problem_by};
 ghost use Rattle.textwrap_base.specs.Errors.{Fits128Bits};
 ghost use Rattle.textwrap_base.specs.Measured.{AreMeasured};
 ghost use Rattle.textwrap_base.specs.Table.{line_costs};
@@ -50,7 +50,8 @@ pub fn line_cost<M: Measured>(
     requires ordered { start < end }
     requires within { end ≤ length fragments.now }
     requires measured { AreMeasured M.priced M.opens M.closes fragments.now }
-    ensures { let cost = line_costs M.priced penalties.now line_widths.now fragments.now start end number
+    ensures { let cost = line_costs
+        (problem_by M.priced penalties.now line_widths.now fragments.now) start end number
         in SomeIff result (Fits128Bits cost) cost }
 {
     let last = &fragments[end - 1];

@@ -6,7 +6,8 @@ ghost use Rattle.std.specs.Prelude.{◌≡◌, ℕ, ◌+◌, ◌-◌, ◌^◌, �
 ghost use Rattle.std.specs.Prelude.{OnOk, SomeIff};
 ghost use Rattle.textwrap_base.specs.Minima.{Costs, counted};
 ghost use Rattle.textwrap_base.specs.Queue.{AreAtMost, IsQueueCase, CountsSearch};
-ghost use Rattle.textwrap_base.specs.Cost.{priced_by, total_width, AreEqualFromSecond, IsLeastCost};
+ghost use Rattle.textwrap_base.specs.Cost.{total_width, AreEqualFromSecond, IsLeastCost};
+ghost use Rattle.textwrap_base.specs.Problem.{problem_of};
 ghost use Rattle.textwrap_base.specs.Errors.{Fits64Bits, Fits128Bits, Passes128Bits, Overflowed};
 ghost use Rattle.textwrap_base.specs.Table.{fragments_table, minimum_of, TableOverflows};
 ghost use Rattle.textwrap_base.specs.Table.{CountsSteps};
@@ -140,24 +141,21 @@ pub fn table_minima<A: Allocator + Copy, T: Fragment>(
     steps: &mut Steps,
 ) -> Result<Vec<Minimum, A>, WrapError>
     ensures entries { IfOk result (λ minima. minima.items ≡ map minimum_of
-        (fragments_table (priced_by T.sizes T.own_break_penalty penalties.now) penalties.now
-        line_widths.now fragments.now)) }
+        (fragments_table (problem_of T.Fragment.own penalties.now line_widths.now fragments.now))) }
     ensures overflow_only { Overflowed result
-        → TableOverflows (priced_by T.sizes T.own_break_penalty penalties.now) penalties.now
-        line_widths.now fragments.now }
+        → TableOverflows (problem_of T.Fragment.own penalties.now line_widths.now fragments.now) }
     ensures ok_only { OnOk result
-        (¬ TableOverflows (priced_by T.sizes T.own_break_penalty penalties.now) penalties.now
-        line_widths.now fragments.now) }
+        (¬ TableOverflows (problem_of T.Fragment.own penalties.now line_widths.now fragments.now)) }
     ensures too_wide { Passes128Bits (total_width T.sizes fragments.now) → Overflowed result }
     ensures no_overflow { Fits64Bits (total_width T.sizes fragments.now) → ¬ Overflowed result }
     // Where all lines but the first have one width, each cost is the least of its prefix.
     ensures least { IfOk result (λ minima. AreEqualFromSecond line_widths.now
         → (j : ℕ) → j ≤ length fragments.now
-        → IsLeastCost (priced_by T.sizes T.own_break_penalty penalties.now) penalties.now
-        line_widths.now
-        fragments.now j (slice_index (map (λ minimum. minimum.cost) minima.items) j)) }
-    ensures steps { CountsSteps (priced_by T.sizes T.own_break_penalty penalties.now) penalties.now
-        line_widths.now fragments.now steps.old steps.new result }
+        → IsLeastCost (problem_of T.Fragment.own penalties.now line_widths.now fragments.now)
+        j (slice_index (map (λ minimum. minimum.cost) minima.items) j)) }
+    ensures steps { CountsSteps
+        (problem_of T.Fragment.own penalties.now line_widths.now fragments.now)
+        steps.old steps.new result }
 {
     let penalties = in_range(*penalties);
     let mut costs = LineCosts::new(alloc, fragments, line_widths, &penalties)?;
@@ -182,16 +180,14 @@ pub fn queue_minima<A: Allocator + Copy, T: Fragment>(
     penalties: &Penalties,
     steps: &mut Steps,
 ) -> Result<Vec<Minimum, A>, AllocError>
-    requires case { IsQueueCase (priced_by T.sizes T.own_break_penalty penalties.now) penalties.now
-        line_widths.now fragments.now }
+    requires case { IsQueueCase
+        (problem_of T.Fragment.own penalties.now line_widths.now fragments.now) }
     ensures entries { IfOk result (λ minima. minima.items ≡ map minimum_of
-        (fragments_table (priced_by T.sizes T.own_break_penalty penalties.now) penalties.now
-        line_widths.now fragments.now)) }
+        (fragments_table (problem_of T.Fragment.own penalties.now line_widths.now fragments.now))) }
     // Each cost is the least of its prefix.
     ensures least { IfOk result (λ minima. (j : ℕ) → j ≤ length fragments.now
-        → IsLeastCost (priced_by T.sizes T.own_break_penalty penalties.now) penalties.now
-        line_widths.now
-        fragments.now j (slice_index (map (λ minimum. minimum.cost) minima.items) j)) }
+        → IsLeastCost (problem_of T.Fragment.own penalties.now line_widths.now fragments.now)
+        j (slice_index (map (λ minimum. minimum.cost) minima.items) j)) }
     ensures steps { CountsSearch (length fragments.now) steps.old steps.new result }
 {
     let mut costs = match LineCosts::new(alloc, fragments, line_widths, penalties) {

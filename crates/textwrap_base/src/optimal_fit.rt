@@ -1,11 +1,12 @@
 //! Optimal fit: the division of least cost.
 ghost use Rattle.std.specs.Prelude.{◌≡◌, ℕ, ◌+◌, ◌<◌, ◌≤◌, length, map, slice_index, IfOk, OnOk};
-ghost use Rattle.textwrap_base.specs.Cost.{priced_by, total_width};
+ghost use Rattle.textwrap_base.specs.Cost.{total_width};
 ghost use Rattle.textwrap_base.specs.Division.{IsDivision};
 ghost use Rattle.textwrap_base.specs.Errors.{Fits64Bits, Passes128Bits, Overflowed};
 ghost use Rattle.textwrap_base.specs.Queue.{IsQueueCase, CountsSearch};
 ghost use Rattle.textwrap_base.specs.Table.{fragments_table, minimum_of, FollowStarts};
 ghost use Rattle.textwrap_base.specs.Table.{TableOverflows, CountsSteps};
+ghost use Rattle.textwrap_base.specs.Problem.{problem_of};
 ghost use Rattle.textwrap_base.specs.OptimalFit.{IsOptimalFitResult, IsTheResult};
 
 use crate::errors::WrapError;
@@ -38,8 +39,9 @@ pub fn wrap_optimal_fit<'a, A: Allocator + Copy, T: Fragment>(
     line_widths: &[usize],
     penalties: &Penalties,
 ) -> Result<Vec<&'a [T], A>, WrapError>
-    ensures fit { IsOptimalFitResult (priced_by T.sizes T.own_break_penalty penalties.now) penalties.now
-        line_widths.now fragments.now (λ lines. map (λ line. line.now) lines.items) result }
+    ensures fit { IsOptimalFitResult
+        (problem_of T.Fragment.own penalties.now line_widths.now fragments.now)
+        (λ lines. map (λ line. line.now) lines.items) result }
 {
     let mut steps = Steps::new();
     wrap_optimal_fit_counted(alloc, fragments, line_widths, penalties, &mut steps)
@@ -59,17 +61,19 @@ pub fn wrap_optimal_fit_counted<'a, A: Allocator + Copy, T: Fragment>(
     penalties: &Penalties,
     steps: &mut Steps,
 ) -> Result<Vec<&'a [T], A>, WrapError>
-    ensures fit { IsOptimalFitResult (priced_by T.sizes T.own_break_penalty penalties.now) penalties.now
-        line_widths.now fragments.now (λ lines. map (λ line. line.now) lines.items) result }
+    ensures fit { IsOptimalFitResult
+        (problem_of T.Fragment.own penalties.now line_widths.now fragments.now)
+        (λ lines. map (λ line. line.now) lines.items) result }
     // No other result of `wrap_optimal_fit` is right, but for memory that runs out.
-    ensures same { IsTheResult (priced_by T.sizes T.own_break_penalty penalties.now) penalties.now
-        line_widths.now fragments.now (λ lines. map (λ line. line.now) lines.items) result }
-    ensures steps { ¬ IsQueueCase (priced_by T.sizes T.own_break_penalty penalties.now) penalties.now
-        line_widths.now fragments.now
-        → CountsSteps (priced_by T.sizes T.own_break_penalty penalties.now) penalties.now
-        line_widths.now fragments.now steps.old steps.new result }
-    ensures queue_steps { IsQueueCase (priced_by T.sizes T.own_break_penalty penalties.now) penalties.now
-        line_widths.now fragments.now
+    ensures same { IsTheResult
+        (problem_of T.Fragment.own penalties.now line_widths.now fragments.now)
+        (λ lines. map (λ line. line.now) lines.items) result }
+    ensures steps { ¬ IsQueueCase
+        (problem_of T.Fragment.own penalties.now line_widths.now fragments.now)
+        → CountsSteps (problem_of T.Fragment.own penalties.now line_widths.now fragments.now)
+        steps.old steps.new result }
+    ensures queue_steps { IsQueueCase
+        (problem_of T.Fragment.own penalties.now line_widths.now fragments.now)
         → CountsSearch (length fragments.now) steps.old steps.new result }
 {
     let minima = find_minima(alloc, fragments, line_widths, penalties, steps)?;
@@ -85,22 +89,19 @@ fn find_minima<A: Allocator + Copy, T: Fragment>(
     steps: &mut Steps,
 ) -> Result<Vec<Minimum, A>, WrapError>
     ensures entries { IfOk result (λ minima. minima.items ≡ map minimum_of
-        (fragments_table (priced_by T.sizes T.own_break_penalty penalties.now) penalties.now
-        line_widths.now fragments.now)) }
+        (fragments_table (problem_of T.Fragment.own penalties.now line_widths.now fragments.now))) }
     ensures overflow_only { Overflowed result
-        → TableOverflows (priced_by T.sizes T.own_break_penalty penalties.now) penalties.now
-        line_widths.now fragments.now }
+        → TableOverflows (problem_of T.Fragment.own penalties.now line_widths.now fragments.now) }
     ensures ok_only { OnOk result
-        (¬ TableOverflows (priced_by T.sizes T.own_break_penalty penalties.now) penalties.now
-        line_widths.now fragments.now) }
+        (¬ TableOverflows (problem_of T.Fragment.own penalties.now line_widths.now fragments.now)) }
     ensures too_wide { Passes128Bits (total_width T.sizes fragments.now) → Overflowed result }
     ensures no_overflow { Fits64Bits (total_width T.sizes fragments.now) → ¬ Overflowed result }
-    ensures steps { ¬ IsQueueCase (priced_by T.sizes T.own_break_penalty penalties.now) penalties.now
-        line_widths.now fragments.now
-        → CountsSteps (priced_by T.sizes T.own_break_penalty penalties.now) penalties.now
-        line_widths.now fragments.now steps.old steps.new result }
-    ensures queue_steps { IsQueueCase (priced_by T.sizes T.own_break_penalty penalties.now) penalties.now
-        line_widths.now fragments.now
+    ensures steps { ¬ IsQueueCase
+        (problem_of T.Fragment.own penalties.now line_widths.now fragments.now)
+        → CountsSteps (problem_of T.Fragment.own penalties.now line_widths.now fragments.now)
+        steps.old steps.new result }
+    ensures queue_steps { IsQueueCase
+        (problem_of T.Fragment.own penalties.now line_widths.now fragments.now)
         → CountsSearch (length fragments.now) steps.old steps.new result }
 {
     if is_queue_case(fragments, line_widths, penalties) {

@@ -1,9 +1,9 @@
 //! Filling a text.
 ghost use Rattle.std.specs.Prelude.{◌≡◌, ◌≢◌, ◌≤◌, ◌↔◌, IsUtf8};
-ghost use Rattle.textwrap.specs.Filling.{IsFilled};
 ghost use Rattle.textwrap.specs.InPlace.{IsFilledInPlace};
-ghost use Rattle.textwrap_calls.specs.Options.{settings_of, AreKnown, Divides};
-ghost use Rattle.textwrap_calls.specs.Options.{AreTexts};
+ghost use Rattle.textwrap_calls.specs.Options.{AreKnown};
+ghost use Rattle.textwrap_calls.specs.Options.{AreTexts, TellsUnknown, TellsNotUtf8, NeedsNoMemory};
+ghost use Rattle.textwrap_calls.specs.Options.{IsFilledBy};
 ghost use Rattle.textwrap_calls.specs.Room.{WritesLong};
 ghost use Rattle.textwrap_calls.specs.Status.{done, not_utf8, out_of_memory, unknown_options};
 
@@ -20,13 +20,11 @@ pub extern "C" fn textwrap_fill(
     room: &mut [u8],
     len: &mut usize,
 ) -> u32
-    ensures filled { WritesLong (IsFilled (settings_of options.now) (Divides options.now (settings_of options.now)) text.now)
+    ensures filled { WritesLong (IsFilledBy options.now text.now)
         result room.old room.new len.old len.new }
-    ensures unknown { result ≡ unknown_options ↔ ¬ AreKnown options.now }
-    ensures not_utf8 { result ≡ not_utf8 ↔ AreKnown options.now
-        × ¬ (IsUtf8 text.now × AreTexts options.now) }
-    ensures no_memory { options.now.unicode_breaks ≡ 0 → options.now.optimal_fit ≡ 0
-        → result ≢ out_of_memory }
+    ensures unknown { TellsUnknown result options.now }
+    ensures not_utf8 { TellsNotUtf8 result options.now text.now }
+    ensures no_memory { NeedsNoMemory result options.now }
     ensures statuses { result ≤ unknown_options }
 {
     filling::textwrap_fill(alloc, text, options, room, len)
@@ -42,12 +40,11 @@ pub extern "C" fn textwrap_fill_utf8(
     len: &mut usize,
 ) -> u32
     requires { IsUtf8 text.now }
-    ensures filled { WritesLong (IsFilled (settings_of options.now) (Divides options.now (settings_of options.now)) text.now)
+    ensures filled { WritesLong (IsFilledBy options.now text.now)
         result room.old room.new len.old len.new }
-    ensures unknown { result ≡ unknown_options ↔ ¬ AreKnown options.now }
+    ensures unknown { TellsUnknown result options.now }
     ensures not_utf8 { result ≡ not_utf8 ↔ AreKnown options.now × ¬ AreTexts options.now }
-    ensures no_memory { options.now.unicode_breaks ≡ 0 → options.now.optimal_fit ≡ 0
-        → result ≢ out_of_memory }
+    ensures no_memory { NeedsNoMemory result options.now }
     ensures statuses { result ≤ unknown_options }
 {
     filling::textwrap_fill_utf8(alloc, text, options, room, len)

@@ -5,7 +5,7 @@ ghost use Rattle.textwrap_base.specs.Division.{IsGreedy};
 ghost use Rattle.textwrap_base.specs.Errors.{Fits64Bits, Passes128Bits};
 ghost use Rattle.textwrap_base.specs.OptimalFit.{IsByOptimalFit};
 ghost use Rattle.textwrap_base.specs.Table.{TableOverflows};
-ghost use Rattle.textwrap_calls.specs.Fragments.{sizes_of, priced_of, penalties_of, AreEndsOf};
+ghost use Rattle.textwrap_calls.specs.Fragments.{sizes_of, problem_of, AreEndsOf};
 ghost use Rattle.textwrap_calls.specs.Fragments.{AreKnownPenalties};
 ghost use Rattle.textwrap_calls.specs.Room.{WritesText};
 ghost use Rattle.textwrap_calls.specs.Status.{done, out_of_memory, too_small, unknown_options};
@@ -41,17 +41,17 @@ pub extern "C" fn textwrap_wrap_optimal_fit(
     ends: &mut [usize],
     count: &mut usize,
 ) -> u32
-    ensures fit { WritesText (AreEndsOf (IsByOptimalFit priced_of (penalties_of penalties.now)
-        line_widths.now fragments.now)) result ends.old ends.new count.old count.new }
+    ensures fit { WritesText (AreEndsOf (IsByOptimalFit
+        (problem_of penalties.now line_widths.now fragments.now))) result ends.old ends.new count.old count.new }
     ensures overflow_only { result ≡ overflow → AreEqualFromSecond line_widths.now
-        → Overflows priced_of (penalties_of penalties.now) line_widths.now fragments.now }
+        → Overflows (problem_of penalties.now line_widths.now fragments.now) }
     ensures written_only { (result ≡ done) ⊎ (result ≡ too_small)
         → AreEqualFromSecond line_widths.now
-        → ¬ Overflows priced_of (penalties_of penalties.now) line_widths.now fragments.now }
+        → ¬ Overflows (problem_of penalties.now line_widths.now fragments.now) }
     ensures table_overflow_only { result ≡ overflow
-        → TableOverflows priced_of (penalties_of penalties.now) line_widths.now fragments.now }
+        → TableOverflows (problem_of penalties.now line_widths.now fragments.now) }
     ensures table_written_only { (result ≡ done) ⊎ (result ≡ too_small)
-        → ¬ TableOverflows priced_of (penalties_of penalties.now) line_widths.now fragments.now }
+        → ¬ TableOverflows (problem_of penalties.now line_widths.now fragments.now) }
     ensures too_wide { AreKnownPenalties penalties.now
         → Passes128Bits (total_width sizes_of fragments.now) → result ≡ overflow }
     ensures no_overflow { Fits64Bits (total_width sizes_of fragments.now) → result ≢ overflow }

@@ -3,7 +3,7 @@ ghost use Rattle.std.specs.Prelude.{◌≡◌, ◌≤◌, ◌↔◌, [], map, Al
 ghost use Rattle.textwrap.specs.Paragraph.{line_bytes};
 ghost use Rattle.textwrap_calls.specs.Columns.{AreRows};
 ghost use Rattle.textwrap_calls.specs.Display.{AreShort};
-ghost use Rattle.textwrap_calls.specs.Options.{settings_of, AreKnown, AreTexts};
+ghost use Rattle.textwrap_calls.specs.Options.{settings_of, AreKnown, AreTexts, TellsUnknown};
 ghost use Rattle.textwrap_calls.specs.Status.{not_utf8, too_small, unknown_options};
 ghost use Rattle.textwrap_calls.specs.Texts.{bytes_of, IsText};
 ghost use Rattle.textwrap_calls.specs.Wrapping.{WritesLines};
@@ -63,7 +63,7 @@ pub extern "C" fn textwrap_carry_styles(
         WritesLines (λ answer _. AreRows (λ rows. rows ≡ map line_bytes (carried_lines
         settings.initial_indent settings.subsequent_indent [] (bytes_of lines.now))) answer)
         [] result places.old places.new count.old count.new room.old room.new len.old len.new }
-    ensures unknown { result ≡ unknown_options ↔ ¬ AreKnown options.now }
+    ensures unknown { TellsUnknown result options.now }
     ensures not_utf8 { result ≡ not_utf8 ↔ AreKnown options.now
         × ¬ (All IsText lines.now × AreTexts options.now) }
     ensures statuses { result ≤ unknown_options }

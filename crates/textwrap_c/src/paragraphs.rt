@@ -1,6 +1,7 @@
 //! The paragraphs of a text, each of which is wrapped by itself.
 ghost use Rattle.std.specs.Prelude.{◌≡◌, ◌≢◌, ◌≤◌, ◌<◌, ◌↔◌, ◌⊎◌, IsUtf8, length};
 ghost use Rattle.textwrap_calls.specs.Options.{settings_of, AreKnown, AreTexts, says_yes};
+ghost use Rattle.textwrap_calls.specs.Options.{TellsUnknown, TellsNotUtf8};
 ghost use Rattle.textwrap_calls.specs.Paragraphs.{paragraph_places, widths_view};
 ghost use Rattle.textwrap_calls.specs.Room.{WritesText};
 ghost use Rattle.textwrap_calls.specs.Status.{done, not_utf8, unknown_options};
@@ -24,9 +25,8 @@ pub extern "C" fn textwrap_paragraphs(
         ≡ paragraph_places (length (ending_bytes (settings_of options.now).line_ending)) 0
         (paragraphs_of (settings_of options.now).line_ending text.now))
         result paragraphs.old paragraphs.new count.old count.new }
-    ensures unknown { result ≡ unknown_options ↔ ¬ AreKnown options.now }
-    ensures not_utf8 { result ≡ not_utf8 ↔ AreKnown options.now
-        × ¬ (IsUtf8 text.now × AreTexts options.now) }
+    ensures unknown { TellsUnknown result options.now }
+    ensures not_utf8 { TellsNotUtf8 result options.now text.now }
     ensures statuses { result ≤ unknown_options }
 {
     paragraphs::textwrap_paragraphs(alloc, text, options, paragraphs, count)

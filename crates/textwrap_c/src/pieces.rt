@@ -2,10 +2,11 @@
 ghost use Rattle.std.specs.Prelude.{◌≡◌, ◌⊎◌, ◌↔◌, ◌≤◌, []};
 ghost use Rattle.std.specs.Prelude.{IsUtf8};
 ghost use Rattle.textwrap_calls.specs.Options.{separator_of, settings_of, splitter_of};
-ghost use Rattle.textwrap_calls.specs.Options.{AreKnown, AreTexts};
+ghost use Rattle.textwrap_calls.specs.Options.{TellsUnknown, TellsNotUtf8};
 ghost use Rattle.textwrap_calls.specs.Pieces.{AreOffsets, piece_places};
 ghost use Rattle.textwrap_calls.specs.Room.{WritesText};
-ghost use Rattle.textwrap_calls.specs.Status.{done, not_utf8, too_small, unknown_options, wrong_places};
+ghost use Rattle.textwrap_calls.specs.Status.{done, not_utf8, too_small, unknown_options};
+ghost use Rattle.textwrap_calls.specs.Status.{wrong_places};
 ghost use Rattle.textwrap_lines.specs.Paragraph.{pieces_by};
 ghost use Rattle.textwrap_plain.specs.Options.{words_by};
 ghost use Rattle.textwrap_words.specs.Breaking.{broken_pieces};
@@ -31,9 +32,8 @@ pub extern "C" fn textwrap_pieces(
     ensures pieces { WritesText (λ answer. answer ≡ piece_places 0 (pieces_by
         (settings_of options.now) (words_by (separator_of options.now)) (splitter_of options.now)
         paragraph.now)) result pieces.old pieces.new count.old count.new }
-    ensures unknown { result ≡ unknown_options ↔ ¬ AreKnown options.now }
-    ensures not_utf8 { result ≡ not_utf8 ↔ AreKnown options.now
-        × ¬ (IsUtf8 paragraph.now × AreTexts options.now) }
+    ensures unknown { TellsUnknown result options.now }
+    ensures not_utf8 { TellsNotUtf8 result options.now paragraph.now }
     ensures statuses { result ≤ unknown_options }
 {
     pieces::textwrap_pieces(alloc, paragraph, options, pieces, count)

@@ -1,8 +1,8 @@
 //! Unfilling and refilling a filled text.
 ghost use Rattle.std.specs.Prelude.{◌≡◌, ◌≢◌, ◌≤◌, ◌⊎◌, ◌↔◌, IsUtf8};
-ghost use Rattle.textwrap.specs.Refilling.{IsRefilled, unfilled_parts, unfilled_settings};
-ghost use Rattle.textwrap_calls.specs.Options.{settings_of, AreKnown, Divides};
-ghost use Rattle.textwrap_calls.specs.Options.{AreTexts};
+ghost use Rattle.textwrap.specs.Refilling.{unfilled_parts, unfilled_settings};
+ghost use Rattle.textwrap_calls.specs.Options.{AreKnown};
+ghost use Rattle.textwrap_calls.specs.Options.{AreTexts, TellsUnknown, TellsNotUtf8, IsRefilledBy};
 ghost use Rattle.textwrap_calls.specs.Refilling.{IsLayout};
 ghost use Rattle.textwrap_calls.specs.Room.{WritesText};
 ghost use Rattle.textwrap_calls.specs.Status.{done, not_utf8, out_of_memory, too_small};
@@ -22,11 +22,10 @@ pub extern "C" fn textwrap_refill(
     room: &mut [u8],
     len: &mut usize,
 ) -> u32
-    ensures refilled { WritesText (IsRefilled (settings_of options.now) (Divides options.now) text.now)
+    ensures refilled { WritesText (IsRefilledBy options.now text.now)
         result room.old room.new len.old len.new }
-    ensures unknown { result ≡ unknown_options ↔ ¬ AreKnown options.now }
-    ensures not_utf8 { result ≡ not_utf8 ↔ AreKnown options.now
-        × ¬ (IsUtf8 text.now × AreTexts options.now) }
+    ensures unknown { TellsUnknown result options.now }
+    ensures not_utf8 { TellsNotUtf8 result options.now text.now }
     ensures statuses { result ≤ unknown_options }
 {
     refilling::textwrap_refill(alloc, text, options, room, len)
@@ -42,9 +41,9 @@ pub extern "C" fn textwrap_refill_utf8(
     len: &mut usize,
 ) -> u32
     requires { IsUtf8 text.now }
-    ensures refilled { WritesText (IsRefilled (settings_of options.now) (Divides options.now) text.now)
+    ensures refilled { WritesText (IsRefilledBy options.now text.now)
         result room.old room.new len.old len.new }
-    ensures unknown { result ≡ unknown_options ↔ ¬ AreKnown options.now }
+    ensures unknown { TellsUnknown result options.now }
     ensures not_utf8 { result ≡ not_utf8 ↔ AreKnown options.now × ¬ AreTexts options.now }
     ensures statuses { result ≤ unknown_options }
 {

@@ -1,13 +1,14 @@
 //! A whole text in steps: each of its paragraphs comes with what a caller found of it.
-ghost use Rattle.std.specs.Prelude.{◌≡◌, ◌≢◌, ◌≤◌, ◌↔◌, ◌⊎◌, IsUtf8, false};
+ghost use Rattle.std.specs.Prelude.{◌≡◌, ◌≢◌, ◌≤◌, ◌⊎◌, IsUtf8};
 ghost use Rattle.textwrap_calls.specs.JustifiedSteps.{justified_at};
-ghost use Rattle.textwrap_calls.specs.Options.{settings_of, AreKnown, AreTexts};
+ghost use Rattle.textwrap_calls.specs.Options.{settings_of, AreKnown, AreTexts, TellsUnknown};
+ghost use Rattle.textwrap_calls.specs.Options.{TellsNotUtf8};
 ghost use Rattle.textwrap_calls.specs.Room.{WritesText};
-ghost use Rattle.textwrap_calls.specs.Status.{not_utf8, out_of_memory, unknown_options, wrong_places};
+ghost use Rattle.textwrap_calls.specs.Status.{out_of_memory, unknown_options};
+ghost use Rattle.textwrap_calls.specs.Status.{wrong_places};
 ghost use Rattle.textwrap_calls.specs.Steps.{ArePlacedCuts};
-ghost use Rattle.textwrap_calls.specs.TextSteps.{AreTextSteps, filled_at, text_step_cuts};
+ghost use Rattle.textwrap_calls.specs.TextSteps.{filled_at, text_step_cuts, AreStepsOf};
 ghost use Rattle.textwrap_calls.specs.Wrapping.{WritesLines};
-ghost use Rattle.textwrap_lines.specs.LineEnding.{paragraphs_of};
 
 use std::alloc::Global;
 use textwrap_calls::options::TextwrapOptions;
@@ -30,18 +31,15 @@ pub extern "C" fn textwrap_wrap_at(
     ensures lines { WritesLines (ArePlacedCuts (text_step_cuts (settings_of options.now) steps.now
         text.now)) text.now result lines.old lines.new count.old count.new room.old room.new len.old
         len.new }
-    ensures unknown { result ≡ unknown_options ↔ ¬ AreKnown options.now }
-    ensures not_utf8 { result ≡ not_utf8 ↔ AreKnown options.now
-        × ¬ (IsUtf8 text.now × AreTexts options.now) }
+    ensures unknown { TellsUnknown result options.now }
+    ensures not_utf8 { TellsNotUtf8 result options.now text.now }
     // That ends are more than the pieces is found out only if there is memory for these.
     ensures wrong_places { result ≡ wrong_places → AreKnown options.now
         × (IsUtf8 text.now × AreTexts options.now)
-        × ¬ AreTextSteps (settings_of options.now) false
-        (paragraphs_of (settings_of options.now).line_ending text.now) steps.now }
+        × ¬ AreStepsOf options.now text.now steps.now }
     ensures right_places { result ≢ wrong_places → result ≢ out_of_memory → AreKnown options.now
         → IsUtf8 text.now × AreTexts options.now
-        → AreTextSteps (settings_of options.now) false
-        (paragraphs_of (settings_of options.now).line_ending text.now) steps.now }
+        → AreStepsOf options.now text.now steps.now }
     ensures statuses { (result ≤ unknown_options) ⊎ (result ≡ wrong_places) }
 {
     text_steps::textwrap_wrap_at(alloc, text, steps, options, lines, count, room, len)
@@ -59,18 +57,15 @@ pub extern "C" fn textwrap_fill_at(
 ) -> u32
     ensures filled { WritesText (λ answer. answer ≡ filled_at (settings_of options.now) steps.now
         text.now) result room.old room.new len.old len.new }
-    ensures unknown { result ≡ unknown_options ↔ ¬ AreKnown options.now }
-    ensures not_utf8 { result ≡ not_utf8 ↔ AreKnown options.now
-        × ¬ (IsUtf8 text.now × AreTexts options.now) }
+    ensures unknown { TellsUnknown result options.now }
+    ensures not_utf8 { TellsNotUtf8 result options.now text.now }
     // As in `textwrap_wrap_at`.
     ensures wrong_places { result ≡ wrong_places → AreKnown options.now
         × (IsUtf8 text.now × AreTexts options.now)
-        × ¬ AreTextSteps (settings_of options.now) false
-        (paragraphs_of (settings_of options.now).line_ending text.now) steps.now }
+        × ¬ AreStepsOf options.now text.now steps.now }
     ensures right_places { result ≢ wrong_places → result ≢ out_of_memory → AreKnown options.now
         → IsUtf8 text.now × AreTexts options.now
-        → AreTextSteps (settings_of options.now) false
-        (paragraphs_of (settings_of options.now).line_ending text.now) steps.now }
+        → AreStepsOf options.now text.now steps.now }
     ensures statuses { (result ≤ unknown_options) ⊎ (result ≡ wrong_places) }
 {
     text_steps::textwrap_fill_at(alloc, text, steps, options, room, len)
@@ -88,18 +83,15 @@ pub extern "C" fn textwrap_fill_justified_at(
 ) -> u32
     ensures filled { WritesText (λ answer. answer ≡ justified_at (settings_of options.now) steps.now
         text.now) result room.old room.new len.old len.new }
-    ensures unknown { result ≡ unknown_options ↔ ¬ AreKnown options.now }
-    ensures not_utf8 { result ≡ not_utf8 ↔ AreKnown options.now
-        × ¬ (IsUtf8 text.now × AreTexts options.now) }
+    ensures unknown { TellsUnknown result options.now }
+    ensures not_utf8 { TellsNotUtf8 result options.now text.now }
     // As in `textwrap_wrap_at`.
     ensures wrong_places { result ≡ wrong_places → AreKnown options.now
         × (IsUtf8 text.now × AreTexts options.now)
-        × ¬ AreTextSteps (settings_of options.now) false
-        (paragraphs_of (settings_of options.now).line_ending text.now) steps.now }
+        × ¬ AreStepsOf options.now text.now steps.now }
     ensures right_places { result ≢ wrong_places → result ≢ out_of_memory → AreKnown options.now
         → IsUtf8 text.now × AreTexts options.now
-        → AreTextSteps (settings_of options.now) false
-        (paragraphs_of (settings_of options.now).line_ending text.now) steps.now }
+        → AreStepsOf options.now text.now steps.now }
     ensures statuses { (result ≤ unknown_options) ⊎ (result ≡ wrong_places) }
 {
     justified_steps::textwrap_fill_justified_at(alloc, text, steps, options, room, len)

@@ -1,14 +1,13 @@
 -- Where lines end that a built-in algorithm finds of pieces, seen by their words.
-use Rattle.textwrap_base.proofs.Common.{◌≡◌, ℕ, ◌+◌, ◌≤◌, ◌⊎◌, List, [], ◌∷◌, length, map, refl}
-use Rattle.textwrap_base.proofs.Common.{sym, ap, ◌∙◌, length-map, Sizes, fragments_table, priced_at}
-use Rattle.textwrap_base.proofs.Common.{total_width}
+use Rattle.textwrap_calls.proofs.Common.{◌≡◌, ℕ, ◌+◌, ◌≤◌, ◌⊎◌, List, [], ◌∷◌, length, map, refl}
+use Rattle.textwrap_calls.proofs.Common.{sym, ap, ◌∙◌, length-map, total_width, total_width-same}
+use Rattle.textwrap_calls.proofs.Common.{ends_from, ends_of}
+use Rattle.textwrap_base.proofs.Common.{Sizes, fragments_table, priced_at, problem_by}
 use Rattle.std.proofs.lemmas.Simd.{map-map}
 use Rattle.textwrap_base.specs.Algorithms.{Algorithm, Greedy, LeastCost, OverflowsBy}
 use Rattle.textwrap_base.specs.Errors.{Passes128Bits}
 use Rattle.textwrap_base.specs.Table.{entry_at}
 use Rattle.textwrap_base.proofs.Cost.Chosen.{fragments_table-map}
-use Rattle.textwrap_base.proofs.Cost.Measures.{total_width-same}
-use Rattle.textwrap_calls.specs.Fragments.{ends_from, ends_of}
 
 module _ {X Y : Type 0} (f : X → Y) where
   ends_from-map : (at : ℕ) (lines : List (List X))
@@ -29,7 +28,7 @@ module _ {X Y : Type 0} (f : X → Y) where
   OverflowsBy-map (LeastCost penalties) sizes widths xs =
       let priced = λ (y : Y). priced_at penalties (sizes y) in
       let wide = total_width-same (λ (x : X). sizes (f x)) sizes xs (map f xs) (sym (map-map sizes f xs)) in
-      let entries = fragments_table (λ (x : X). priced (f x)) penalties widths xs in
+      let entries = fragments_table (problem_by (λ (x : X). priced (f x)) penalties widths xs) in
       ap (λ w. Passes128Bits w ⊎ ((j : ℕ) × (j ≤ length xs)
       × Passes128Bits (entry_at entries j).cost)) wide
       ∙ ap (λ n. Passes128Bits (total_width sizes (map f xs)) ⊎ ((j : ℕ) × (j ≤ n)

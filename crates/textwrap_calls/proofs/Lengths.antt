@@ -1,14 +1,4 @@
-pub mod Bounded
-pub mod Columns
-pub mod Dedented
-pub mod Filled
-pub mod Joined
-pub mod Limit
+pub mod Bounds
 pub mod Lines
-pub mod Paragraphs
-pub mod Pieces
-pub mod Rows
-pub mod Split
 pub mod Sums
-pub mod TextLines
-pub mod Unfilled
+pub mod Texts

@@ -1,15 +1,21 @@
--- Where pieces stand: those of a paragraph, and those of a word.
-use Rattle.textwrap_base.proofs.Common.{rules, ◌≡◌, ℕ, ◌+◌, ◌-◌, ◌≤◌, List, [], ◌∷◌, ◌++◌, All}
-use Rattle.textwrap_base.proofs.Common.{All-head, All-tail, ap, append-nil, append_assoc, arith}
-use Rattle.textwrap_base.proofs.Common.{flat_map, get_or, length, refl, sym, IsUtf8, ◌∙◌}
-use Rattle.textwrap_words.proofs.Common.{broken_pieces, broken_texts, piece, tiled, WordText}
+-- Where the paragraphs of a text stand, and pieces: those of a paragraph, and those of a word.
+use Rattle.textwrap_calls.proofs.Common.{rules, ◌≡◌, ℕ, ◌+◌, ◌-◌, ◌≤◌, List, [], ◌∷◌, ◌++◌, All}
+use Rattle.textwrap_calls.proofs.Common.{All-head, All-tail, ap, append-nil, append_assoc, arith}
+use Rattle.textwrap_calls.proofs.Common.{flat_map, get_or, length, refl, sym, IsUtf8, ◌∙◌, ◌<◌}
+use Rattle.textwrap_calls.proofs.Common.{broken_texts, tiled, WordText, ending_bytes, join_with}
+use Rattle.textwrap_calls.proofs.Common.{paragraphs_of, join-paragraphs_of, rest-within, LineEnding}
+use Rattle.textwrap_calls.proofs.Common.{piece_places}
+use Rattle.textwrap_words.proofs.Common.{broken_pieces, piece}
 use Rattle.textwrap_words.proofs.Word.BrokenPieces.{tiled-pieces_with, broken_texts-tile}
 use Rattle.textwrap_words.proofs.Word.Words.{HasNoPenalty}
 use Rattle.textwrap_words.specs.Breaking.{pieces_with}
 use Rattle.textwrap_words.specs.Pieces.{stand_from}
 use Rattle.textwrap_words.specs.declared.pieces.Piece.{Piece}
-use Rattle.textwrap_calls.specs.Pieces.{piece_places}
+use Rattle.textwrap_calls.specs.Paragraphs.{paragraph_places}
+use Rattle.textwrap_calls.specs.declared.paragraphs.TextwrapParagraph.{TextwrapParagraph}
 use Rattle.textwrap_calls.specs.declared.pieces.TextwrapPiece.{TextwrapPiece}
+
+-- ---- where pieces stand: those of a paragraph, and those of a word
 
 -- the places of the pieces that are left complete those of all pieces
 pub record HasLeft (all : List WordText) (places : List TextwrapPiece) (offset : ℕ)
@@ -82,3 +88,45 @@ tiled-broken_text limit text utf8 = by (broken_texts limit text) (broken_texts-t
     by (t ∷ ts) tile =
         tiled-pieces_with [] [] (t ∷ ts) (λ none. omega (arith, ap length none))
         ∙ append-nil (flat_map (λ u. u) (t ∷ ts)) ∙ tile
+
+-- ---- where the paragraphs of a text stand, one after another
+
+-- with the places of the paragraphs that are left, of which the first begins at the offset, these are
+-- the places of all
+pub record HasPlaced (ending : LineEnding) (text : List ℕ) (places : List TextwrapParagraph)
+    (offset : ℕ) (left : List (List ℕ)) : Type 0 where
+  pub whole : places ++ paragraph_places (length (ending_bytes ending)) offset left
+      ≡ paragraph_places (length (ending_bytes ending)) 0 (paragraphs_of ending text)
+  pub within : 0 < length left
+      → offset + length (join_with (ending_bytes ending) left) ≤ length text
+
+module _ (ending : LineEnding) (text : List ℕ) where
+  pub HasPlaced-start : (places : List TextwrapParagraph) → places ≡ []
+      → HasPlaced ending text places 0 (paragraphs_of ending text)
+  HasPlaced-start places none =
+      let whole = ap length (join-paragraphs_of ending text) in
+      let n = length (ending_bytes ending) in
+      record {
+        whole = ap (λ ps. ps ++ paragraph_places n 0 (paragraphs_of ending text)) none;
+        within = λ some. omega (arith, whole);
+      }
+
+  pub HasPlaced-more : (places : List TextwrapParagraph) (offset next : ℕ) (paragraph : List ℕ)
+      (after : List (List ℕ)) → HasPlaced ending text places offset (paragraph ∷ after)
+      → next ≡ offset + (length paragraph + length (ending_bytes ending))
+      → HasPlaced ending text
+      (places ++ record { offset = offset; len = length paragraph } ∷ []) next after
+  HasPlaced-more places offset next paragraph after so_far next_is =
+      let n = length (ending_bytes ending) in
+      let same : next ≡ offset + length paragraph + n = omega (arith, next_is) in
+      record {
+        whole = append_assoc places (record { offset = offset; len = length paragraph } ∷ [])
+            (paragraph_places n next after)
+            ∙ ap (λ at. places ++ record { offset = offset; len = length paragraph }
+            ∷ paragraph_places n at after) same
+            ∙ so_far.whole;
+        within = λ some.
+            let rest = rest-within (ending_bytes ending) paragraph after offset (length text)
+            (so_far.within (omega arith)) some in
+            omega (arith, rest, next_is);
+      }

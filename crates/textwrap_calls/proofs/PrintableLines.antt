@@ -1,36 +1,38 @@
 -- Texts of printable ASCII, block by block, and texts that are one line.
-use Rattle.textwrap_base.proofs.Common.{◌≡◌, ◌≢◌, ℕ, ◌+◌, ◌-◌, ◌<◌, ◌≤◌, ◌∙◌, true, false, List, []}
-use Rattle.textwrap_base.proofs.Common.{◌∷◌, ◌++◌, length, drop, get_or, slice_range, cond, IsUtf8}
-use Rattle.textwrap_base.proofs.Common.{refl, sym, ap, subst, arith, nat_tests, lt-ltb, cases_lt}
-use Rattle.textwrap_base.proofs.Common.{inl, inr, append-nil, get_or-drop, get_or-take, All-drop}
-use Rattle.textwrap_base.proofs.Common.{All-from_get_or, ◌==◌, ◌⊎◌, All-head, All-take, list_any}
-use Rattle.textwrap_base.proofs.Common.{true≢false}
-use Rattle.std.specs.Char.{is_whitespace}
+use Rattle.textwrap_calls.proofs.Common.{◌≡◌, ◌≢◌, ℕ, ◌+◌, ◌-◌, ◌<◌, ◌≤◌, ◌∙◌, true, false, List}
+use Rattle.textwrap_calls.proofs.Common.{[], ◌∷◌, ◌++◌, length, drop, get_or, slice_range, cond}
+use Rattle.textwrap_calls.proofs.Common.{IsUtf8, refl, sym, ap, subst, arith, nat_tests, cases_lt}
+use Rattle.textwrap_calls.proofs.Common.{inl, inr, append-nil, All-from_get_or, ◌==◌, ◌⊎◌, All-head}
+use Rattle.textwrap_calls.proofs.Common.{true≢false, All-weaker, lines, ne_eqb, slice_split}
+use Rattle.textwrap_calls.proofs.Common.{IsPrintableByte, word_of, is_whole, IsFilled}
+use Rattle.textwrap_calls.proofs.Common.{is_blank_line, lines_of_parts, length-slice, as_len}
+use Rattle.textwrap_calls.proofs.Common.{ArePlacedLines, place_of, TextwrapLine, IsRefilled}
+use Rattle.textwrap_calls.proofs.Common.{algorithm_of, Divides, says_yes, separator_of, settings_of}
+use Rattle.textwrap_calls.proofs.Common.{splitter_of, WritesReported, done, too_small}
+use Rattle.textwrap_calls.proofs.Common.{TextwrapOptions}
+use Rattle.textwrap_base.proofs.Common.{lt-ltb, get_or-drop, get_or-take, All-drop, All-take}
+use Rattle.textwrap_base.proofs.Common.{list_any, None}
+use Rattle.textwrap_words.proofs.Common.{IsPrintable, without_final_blanks}
+use Rattle.textwrap_lines.proofs.Common.{parts_of, Slice}
+use Rattle.std.proofs.lemmas.List.Splits.{slice_split_none}
 use Rattle.std.proofs.lemmas.Str.{chars-IsAscii, IsUtf8-from_ascii}
-use Rattle.textwrap_base.proofs.Lists.Parts.{length-slice}
+use Rattle.std.specs.Char.{is_whitespace}
 use Rattle.textwrap_base.proofs.Lists.Elements.{contains-any}
-use Rattle.textwrap_words.specs.LentText.{as_len}
-use Rattle.textwrap_words.proofs.Common.{IsPrintable, IsPrintableByte, without_final_blanks}
-use Rattle.textwrap_words.proofs.Common.{word_of}
 use Rattle.textwrap_words.proofs.Units.Reading.{printable-ascii}
-use Rattle.textwrap_lines.proofs.Common.{is_whole, parts_of, IsFilled, Slice}
-use Rattle.textwrap.specs.Indentation.{HasNoLineFeed, indented}
-use Rattle.textwrap.proofs.Common.{is_blank_line}
-use Rattle.textwrap.proofs.Text.Indents.{ended_parts-whole}
 use Rattle.textwrap_lines.proofs.Paragraph.LeftOff.{AreParagraphParts-whole, line_from-whole}
-use Rattle.textwrap_lines.specs.LineEnding.{line_feed}
-use Rattle.textwrap_lines.specs.Places.{ArePlacedLines, place_of}
-use Rattle.textwrap_lines.specs.declared.places.TextwrapLine.{TextwrapLine}
 use Rattle.textwrap_lines.proofs.Text.Paragraphs.{one-paragraph, printable-free}
-use Rattle.textwrap_calls.specs.Options.{algorithm_of, Divides, says_yes, separator_of, settings_of}
-use Rattle.textwrap_calls.specs.Options.{splitter_of}
-use Rattle.textwrap_calls.specs.Printable.{IsOnlyLine}
-use Rattle.textwrap_calls.specs.Reported.{WritesReported}
-use Rattle.textwrap_calls.specs.Status.{done, too_small}
+use Rattle.textwrap_lines.specs.LineEnding.{line_feed}
+use Rattle.textwrap.proofs.Text.Indents.{ended_parts-whole}
+use Rattle.textwrap.specs.Indentation.{HasNoLineFeed, indented}
+use Rattle.textwrap.specs.Refilling.{ended_lines, ended_lines_of, joined_text, keeps_ending}
+use Rattle.textwrap.specs.Refilling.{line_prefix, unfilled_initial, unfilled_subsequent}
+use Rattle.textwrap.specs.Refilling.{with_indents_of}
+use Rattle.textwrap_calls.proofs.PlaceLemmas.{placed-shown}
+use Rattle.textwrap_calls.proofs.RoomLemmas.{WritesLines-reported}
+use Rattle.textwrap_calls.specs.Printable.{IsOnlyLine, AreWithoutIndents}
 use Rattle.textwrap_calls.specs.Wrapping.{WritesLongLines}
-use Rattle.textwrap_calls.specs.declared.options.TextwrapOptions.{TextwrapOptions}
-use Rattle.textwrap_calls.proofs.GroupLemmas.{placed-shown}
-use Rattle.textwrap_calls.proofs.LineLemmas.{WritesLines-reported}
+
+-- ---- texts of printable ASCII, block by block, and texts that are one line
 
 -- a byte of a printable block
 pub byte-in : (text : List ℕ) (from to k : ℕ) → to ≤ length text → from ≤ k → k < to
@@ -130,3 +132,51 @@ only-line-reported o text line status lines_before lines_after count_before coun
     WritesLines-reported (ArePlacedLines (settings_of o) (Divides o (settings_of o)) text) text lines
     places [] status lines_before lines_after count_before count_after room_before room_after len_before
     len_after only refl shown statuses writes
+
+-- ---- A text that is one line and begins with no indent is refilled as it is filled
+
+-- what is got back from such a text: no indents, the text itself, and no ending
+record IsUnfilledAsItIs (text : List ℕ) : Type 0 where
+  initial : unfilled_initial text ≡ []
+  subsequent : unfilled_subsequent text ≡ []
+  joined : joined_text text ≡ text
+  bare : keeps_ending text ≡ false
+
+one-part : (text : List ℕ) → HasNoLineFeed text → slice_split (λ b. b == 10) text ≡ text ∷ []
+one-part text free =
+    slice_split_none (λ b. b == 10) text
+    (All-weaker (λ c. c ≢ 10) (λ c. (c == 10) ≡ false) (λ c other. ne_eqb c 10 other) text free)
+
+unfilled-as-it-is : (text : List ℕ) → HasNoLineFeed text → line_prefix text ≡ []
+    → IsUnfilledAsItIs text
+unfilled-as-it-is [] free none = record { initial = refl; subsequent = refl; joined = refl; bare = refl }
+unfilled-as-it-is (c ∷ cs) free none =
+    let text = c ∷ cs in
+    let some : (length text == 0) ≡ false = ne_eqb (length text) 0 (λ empty. omega (arith, empty)) in
+    let line : lines text ≡ text ∷ [] =
+    ap lines_of_parts (one-part text free) ∙ ap (λ b. cond b [] (text ∷ [])) some in
+    let ended : ended_lines text ≡ record { line = text; ending = None } ∷ [] =
+    ap ended_lines_of (one-part text free)
+    ∙ ap (λ b. cond b [] (record { line = text; ending = None } ∷ [])) some in
+    let full = lt-ltb 0 (length text) (omega arith) in
+    record {
+      initial = rw line none;
+      subsequent = rw line refl;
+      joined = rw (ended, full, line, none) refl;
+      bare = rw (ended, full) refl;
+    }
+
+pub line-refilled : (o : TextwrapOptions) (text line : List ℕ) → AreWithoutIndents o
+    → HasNoLineFeed text → line_prefix text ≡ []
+    → IsFilled (settings_of o) (Divides o (settings_of o)) text line
+    → IsRefilled (settings_of o) (Divides o) text line
+line-refilled o text line bare free none filled =
+    let settings = settings_of o in
+    let got = unfilled-as-it-is text free none in
+    let same : with_indents_of text settings ≡ settings =
+    rw (got.initial ∙ sym bare.initial, got.subsequent ∙ sym bare.subsequent) refl in
+    let indented = subst (λ s. IsFilled s (Divides o s) text line) (sym same) filled in (
+      line,
+      rw got.joined indented,
+      rw got.bare (sym (append-nil line)),
+    )

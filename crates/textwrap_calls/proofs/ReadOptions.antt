@@ -1,17 +1,13 @@
 -- What is made by options as the library has them is made by the numbers that they were read from.
-use Rattle.textwrap_base.proofs.Common.{◌≡◌, ℕ, Bool, List, subst}
-use Rattle.textwrap_words.proofs.Common.{WordText}
-use Rattle.textwrap_lines.proofs.Common.{DividesAt, Settings}
-use Rattle.textwrap_calls.specs.Options.{algorithm_of, AreRead, Divides, settings_of, splitter_of}
-use Rattle.textwrap_calls.specs.Display.{alignment_of}
-use Rattle.textwrap_calls.specs.Tables.{parts_of_column}
-use Rattle.textwrap_calls.specs.declared.options.TextwrapOptions.{TextwrapOptions}
-use Rattle.textwrap_calls.specs.declared.tables.TextwrapColumn.{TextwrapColumn}
-use Rattle.textwrap_plain.specs.Options as plain
-use Rattle.textwrap_plain.specs.Options.{DividesPlainly, words_by}
+use Rattle.textwrap_calls.proofs.Common.{◌≡◌, ℕ, Bool, List, subst, WordText, Settings}
+use Rattle.textwrap_calls.proofs.Common.{algorithm_of, Divides, settings_of, splitter_of}
+use Rattle.textwrap_calls.proofs.Common.{alignment_of, parts_of_column, TextwrapOptions}
+use Rattle.textwrap_calls.proofs.Common.{TextwrapColumn, words_by, PlainColumn, plain_parts}
+use Rattle.textwrap_lines.proofs.Common.{DividesAt}
+use Rattle.textwrap_calls.specs.Options.{AreRead}
+use Rattle.textwrap_plain.specs.Options.{DividesPlainly}
 use Rattle.textwrap_plain.specs.declared.options.PlainOptions.{PlainOptions}
-use Rattle.textwrap_plain.specs.declared.display.PlainColumn.{PlainColumn}
-use Rattle.textwrap_plain.specs.Tables.{plain_parts}
+use Rattle.textwrap_plain.specs.Options as plain
 
 module _ (o : TextwrapOptions) (read : PlainOptions) (are : AreRead o read) where
   pub as-read : (P : Settings → (Settings → Bool → List ℕ → List (List WordText) → Type 0) → Type 0)

@@ -1,15 +1,23 @@
--- The texts of lines: one more of them.
-use Rattle.textwrap_base.proofs.Common.{◌≡◌, ℕ, ◌+◌, ◌<◌, List, [], ◌∷◌, ◌++◌, length, get_or, map}
-use Rattle.textwrap_base.proofs.Common.{refl, sym, ap, ◌∙◌, take, map_push, Bor, CowStr}
-use Rattle.std.proofs.lemmas.List.{map_more}
+-- Lists of texts and of lines, and columns of a table, as C has them.
+use Rattle.textwrap_calls.proofs.Common.{◌≡◌, ℕ, ◌+◌, ◌<◌, List, [], ◌∷◌, ◌++◌, length, get_or, map}
+use Rattle.textwrap_calls.proofs.Common.{refl, sym, ap, ◌∙◌, take, map_push, ◌≤◌, length-map, subst}
+use Rattle.textwrap_calls.proofs.Common.{◌≢◌, ◌⊎◌, arith, inl, inr, Line, Slice, map_more, texts_of}
+use Rattle.textwrap_calls.proofs.Common.{texts_in, shape_of, alignment_of, done, too_small}
+use Rattle.textwrap_calls.proofs.Common.{shape_of_column, bytes_of, TextwrapColumn, TextwrapText}
+use Rattle.textwrap_base.proofs.Common.{Bor, CowStr}
 use Rattle.std.specs.Cow.{cow_str_bytes}
 use Rattle.std.specs.declared.borrow.CowStr.TheVariants.{Borrowed}
-use Rattle.textwrap_lines.specs.Paragraph.{line_bytes, line_view}
 use Rattle.textwrap_lines.proofs.Text.Lines.{line_bytes-line_view}
-use Rattle.textwrap_display.specs.Shortening.{texts_of}
-use Rattle.textwrap_display.specs.Tables.{texts_in}
-use Rattle.textwrap_calls.specs.Texts.{bytes_of}
-use Rattle.textwrap_calls.specs.declared.texts.TextwrapText.{TextwrapText}
+use Rattle.textwrap_lines.specs.Options.{settings_at, settings_view}
+use Rattle.textwrap_lines.specs.Paragraph.{line_bytes, line_view}
+use Rattle.textwrap_display.specs.Shortening.{AreShortened}
+use Rattle.textwrap_display.specs.Tables.{Shape}
+use Rattle.textwrap_display.specs.declared.alignment.Alignment.{Alignment}
+use Rattle.textwrap_display.specs.declared.tables.Column.{Column}
+use Rattle.textwrap_calls.specs.Display.{AreShort}
+use Rattle.textwrap_calls.specs.Status.{not_utf8, unknown_options}
+
+-- ---- the texts of lines: one more of them
 
 pub texts-push : {Z : Type 0} (lines : List (CowStr Z)) (line : CowStr Z) (bytes : List ℕ)
     → bytes ≡ cow_str_bytes line → texts_of lines ++ bytes ∷ [] ≡ texts_of (lines ++ line ∷ [])
@@ -44,3 +52,57 @@ pub strs-more : (texts : List TextwrapText) (n : ℕ) (d : TextwrapText)
 strs-more texts n d before after str within same so_far more =
     ap texts_in more ∙ map_push (λ (text : Bor (List ℕ)). text.now) before str
     ∙ bytes-more texts n d (texts_in before) str.now within same so_far
+
+-- ---- lists of lines that were shortened, as C has them
+
+slices-bytes : (texts : List (List ℕ)) → map line_bytes (map Slice texts) ≡ texts
+slices-bytes [] = refl
+slices-bytes (text ∷ texts) = ap (λ ts. text ∷ ts) (slices-bytes texts)
+
+pub lines-short : {Z : Type 0} (most width : ℕ) (placeholder : List ℕ) (lines : List (CowStr Z))
+    (texts : List (List ℕ)) (short : List Line) → texts_of lines ≡ texts
+    → (most ≡ 0 → short ≡ [])
+    → (length lines ≤ most → short ≡ map Slice (texts_of lines))
+    → (0 < most → most < length lines
+    → AreShortened most width placeholder (texts_of lines) short)
+    → AreShort most width placeholder texts (map line_bytes short)
+lines-short most width placeholder lines texts short are none whole cut =
+    let count : length (texts_of lines) ≡ length lines =
+    length-map (map line_view lines) line_bytes ∙ length-map lines line_view in
+    subst (λ ts. AreShort most width placeholder ts (map line_bytes short)) are (record {
+      none = λ nothing. ap (map line_bytes) (none nothing);
+      whole = λ few. ap (map line_bytes) (whole (subst (λ n. n ≤ most) count few))
+          ∙ slices-bytes (texts_of lines);
+      cut = λ some more. (
+        short,
+        cut some (subst (λ n. most < n) count more),
+        refl,
+      );
+    })
+
+-- ---- what a call may return that reads columns of a table, and the shapes of these
+
+-- what was laid out is written, or has no room
+pub written-apart : (status : ℕ) → (status ≡ done) ⊎ (status ≡ too_small)
+    → (status ≢ not_utf8) × (status ≢ unknown_options)
+written-apart status (inl is) = (λ same. omega (arith, is, same), λ same. omega (arith, is, same))
+written-apart status (inr is) = (λ same. omega (arith, is, same), λ same. omega (arith, is, same))
+
+abbrev shape : ℕ → Alignment → Shape
+shape width alignment = record { width = width; alignment = alignment }
+
+-- a column of the default options was added
+pub shapes-more : {E C : Type 0} {e : _} {c : _} (given : List TextwrapColumn) (n : ℕ)
+    (d : TextwrapColumn) (before after : List (Column E C e c)) (made : Column E C e c)
+    → n < length given → settings_view made.options ≡ settings_at (get_or given n d).options.width
+    → made.alignment ≡ alignment_of (get_or given n d).alignment
+    → map shape_of before ≡ map shape_of_column (take n given) → after ≡ before ++ made ∷ []
+    → map shape_of after ≡ map shape_of_column (take (n + 1) given)
+shapes-more given n d before after made within settings alignment so_far more =
+    ap (map shape_of) more
+    ∙ map_push shape_of before made
+    ∙ ap (λ shapes. shapes ++ shape_of made ∷ []) so_far
+    ∙ ap (λ s. map shape_of_column (take n given) ++ s ∷ [])
+    (ap (λ s. shape s.width made.alignment) settings
+    ∙ ap (shape (get_or given n d).options.width) alignment)
+    ∙ sym (map_more shape_of_column given n d within)

@@ -1,40 +1,36 @@
--- The lines of a text, each paragraph of which comes with its steps.
-use Rattle.textwrap_base.proofs.Common.{◌≡◌, ℕ, ◌+◌, ◌<◌, ◌≤◌, ◌||◌, nat_lt, Bool, false, List, []}
-use Rattle.textwrap_base.proofs.Common.{◌∷◌, ◌++◌, length, map, refl, sym, ap, subst, ◌∙◌, arith}
-use Rattle.textwrap_base.proofs.Common.{append_assoc, append-nil, drop, length-append, length-map}
-use Rattle.textwrap_base.proofs.Common.{starts_with_length, take-append-drop, Err, Ok, Result}
-use Rattle.textwrap_base.proofs.Common.{StartsWith, starts_with_of_append, ◌^◌, ◌⊎◌}
-use Rattle.std.specs.Result.{IfOk}
-use Rattle.textwrap_base.proofs.Lists.Parts.{flat}
-use Rattle.textwrap_words.proofs.Common.{Tiles, tiled}
-use Rattle.textwrap_words.proofs.Word.Words.{tiled-append}
-use Rattle.textwrap_words.specs.LineEnds.{AreEnds, lines_between}
-use Rattle.textwrap_lines.specs.Steps.{pieces_at}
-use Rattle.textwrap_lines.proofs.InSteps.{lines_between-begin}
-use Rattle.textwrap_lines.specs.Places.{division_cuts, HasPlaces, HasPlacesMore, ArePlacesOf}
-use Rattle.textwrap_base.proofs.Numbers.{is_later-or}
-use Rattle.textwrap_lines.proofs.Common.{CutLine, cut_lines, ending_bytes, join_with, line_from}
-use Rattle.textwrap_lines.proofs.Common.{covered_by, paragraphs_of, Settings, text_cuts, further}
-use Rattle.textwrap_lines.proofs.Common.{is_whole, lines_of, parts_from}
-use Rattle.textwrap_lines.proofs.Paragraph.LeftOff.{covered_by-parts_from}
-use Rattle.textwrap_lines.proofs.Text.Sinks.{further-cut_lines, length-places_of}
-use Rattle.textwrap_lines.proofs.Text.Sinks.{lines_of-cut_lines}
-use Rattle.textwrap_lines.proofs.Text.Paragraphs.{rest-within, join-paragraphs_of}
-use Rattle.textwrap_lines.specs.declared.places.PlacedLines.{PlacedLines}
-use Rattle.textwrap_calls.specs.Steps.{AreLineSteps, ArePlacedCuts}
-use Rattle.textwrap_calls.specs.TextSteps.{AreTextSteps, groups_at, parts_at, text_step_cuts}
-use Rattle.textwrap_calls.specs.declared.steps.TextwrapSteps.{TextwrapSteps}
+-- The lines of a text, each paragraph of which comes with its steps, as they are or justified.
+use Rattle.textwrap_calls.proofs.Common.{◌≡◌, ℕ, ◌+◌, ◌<◌, ◌≤◌, ◌||◌, nat_lt, Bool, false, List, []}
+use Rattle.textwrap_calls.proofs.Common.{◌∷◌, ◌++◌, length, map, refl, sym, ap, subst, ◌∙◌, arith}
+use Rattle.textwrap_calls.proofs.Common.{append_assoc, append-nil, drop, length-append, length-map}
+use Rattle.textwrap_calls.proofs.Common.{starts_with_length, take-append-drop, StartsWith, ◌^◌, ◌⊎◌}
+use Rattle.textwrap_calls.proofs.Common.{Tiles, tiled, ending_bytes, join_with, line_from}
+use Rattle.textwrap_calls.proofs.Common.{covered_by, paragraphs_of, Settings, is_whole, parts_from}
+use Rattle.textwrap_calls.proofs.Common.{line_view, flat, tiled-append, AreEnds, lines_between}
+use Rattle.textwrap_calls.proofs.Common.{lines_between-begin, covered_by-parts_from, rest-within}
+use Rattle.textwrap_calls.proofs.Common.{join-paragraphs_of, further-cut_lines, lines_of-cut_lines}
+use Rattle.textwrap_calls.proofs.Common.{HasPlaces, HasPlacesMore, ArePlacesOf, pieces_at}
+use Rattle.textwrap_calls.proofs.Common.{LineEnding, Place, TextwrapLine, joined_on}
+use Rattle.textwrap_calls.proofs.Common.{justified_after_indents, justified_at, WritesReported}
+use Rattle.textwrap_calls.proofs.Common.{done, too_small, ArePlacedCuts, text_step_cuts, ShowLines}
+use Rattle.textwrap_calls.proofs.Common.{WritesLines}
+use Rattle.textwrap_base.proofs.Common.{Err, Ok, Result, starts_with_of_append}
+use Rattle.textwrap_lines.proofs.Common.{CutLine, cut_lines, text_cuts, further, lines_of}
 use Rattle.std.proofs.Common.{Fits, w64}
-use Rattle.textwrap_lines.specs.declared.line_ending.LineEnding.{LineEnding}
-use Rattle.textwrap_calls.proofs.GroupLemmas.{paragraph-cut}
-use Rattle.textwrap_calls.proofs.Lengths.Unfilled.{ending-length}
-use Rattle.textwrap_calls.proofs.PlaceLemmas.{AreCut, HasRest, passes, shown}
-use Rattle.textwrap_calls.specs.Wrapping.{ShowLines, WritesLines}
-use Rattle.textwrap_lines.specs.declared.places.Place.{Place}
-use Rattle.textwrap_calls.specs.Reported.{WritesReported}
-use Rattle.textwrap_calls.specs.Status.{done, too_small}
-use Rattle.textwrap_lines.specs.declared.places.TextwrapLine.{TextwrapLine}
-use Rattle.textwrap_calls.proofs.LineLemmas.{WritesLines-reported}
+use Rattle.std.specs.Result.{IfOk}
+use Rattle.std.specs.declared.borrow.CowStr.{CowStr}
+use Rattle.textwrap_base.proofs.Numbers.{is_later-or}
+use Rattle.textwrap_lines.proofs.Text.Sinks.{length-places_of}
+use Rattle.textwrap_lines.specs.Places.{division_cuts}
+use Rattle.textwrap_lines.specs.declared.places.PlacedLines.{PlacedLines}
+use Rattle.textwrap_display.proofs.JustifiedLines.{join-on, rows, rows-more}
+use Rattle.textwrap_calls.proofs.Lengths.Texts.{ending-length}
+use Rattle.textwrap_calls.proofs.PlaceLemmas.{paragraph-cut, AreCut, HasRest, passes, shown}
+use Rattle.textwrap_calls.proofs.RoomLemmas.{WritesLines-reported}
+use Rattle.textwrap_calls.specs.Steps.{AreLineSteps}
+use Rattle.textwrap_calls.specs.TextSteps.{AreTextSteps, groups_at, parts_at, division_at}
+use Rattle.textwrap_calls.specs.declared.steps.TextwrapSteps.{TextwrapSteps}
+
+-- ---- the lines of a text, each paragraph of which comes with its steps
 
 -- ---- a paragraph that is divided
 
@@ -303,3 +299,79 @@ shown-written settings steps text places built placed shows status lines_before 
     (refl, placed.0) placed.1
     (λ rest. subst (λ b. ShowLines text (b ++ rest) 0 0 (lines_of cuts) places) placed.1 (shows rest))
     statuses writes
+
+-- ---- a text at steps whose lines are justified, one paragraph after another
+
+module _ (settings : Settings) (steps : List TextwrapSteps) (text : List ℕ) where
+  -- with the lines of the paragraphs that are left it is the whole, and their steps are right where
+  -- all are
+  pub record IsJustifiedTo (filled : List ℕ) (is_later : Bool) (left : List (List ℕ))
+      (unused : List TextwrapSteps) : Type 0 where
+    pub whole : justified_at settings steps text
+        ≡ filled ++ rows settings is_later (groups_at settings is_later left unused)
+    pub right : AreTextSteps settings is_later left unused
+        → AreTextSteps settings false (paragraphs_of settings.line_ending text) steps
+    pub needs : AreTextSteps settings false (paragraphs_of settings.line_ending text) steps
+        → AreTextSteps settings is_later left unused
+
+  pub justified-start : (filled : List ℕ) → filled ≡ []
+      → IsJustifiedTo filled false (paragraphs_of settings.line_ending text) steps
+  justified-start filled none = record {
+    whole = join-on (ending_bytes settings.line_ending) _
+        ∙ ap (λ f. f ++ rows settings false (groups_at settings false
+        (paragraphs_of settings.line_ending text) steps)) (sym none);
+    right = λ are. are;
+    needs = λ are. are;
+  }
+
+  -- the lines of one more paragraph
+  pub justified-more : {Z : Type 0} (filled new : List ℕ) (is_later then_later : Bool)
+      (paragraph : List ℕ) (after : List (List ℕ)) (one : TextwrapSteps)
+      (others : List TextwrapSteps) (lines : List (CowStr Z))
+      → IsJustifiedTo filled is_later (paragraph ∷ after) (one ∷ others)
+      → map line_view lines ≡ map line_from (parts_at settings is_later paragraph one)
+      → new ≡ filled ++ joined_on (ending_bytes settings.line_ending) is_later
+      (justified_after_indents settings is_later (map line_view lines))
+      → then_later ≡ is_later || nat_lt 0 (length lines)
+      → (is_whole settings is_later paragraph ≡ false → AreLineSteps settings one.cuts.now
+      one.points.now one.ends.now paragraph)
+      → IsJustifiedTo new then_later after others
+  justified-more filled new is_later then_later paragraph after one others lines so_far views is
+      later own =
+      let parts = parts_at settings is_later paragraph one in
+      let count : length lines ≡ length parts =
+      sym (length-map lines line_view) ∙ ap length views ∙ length-map parts line_from in
+      let then : then_later ≡ is_later || nat_lt 0 (length parts) =
+      later ∙ ap (λ n. is_later || nat_lt 0 n) count in
+      let added = is ∙ ap (λ ls. filled ++ joined_on (ending_bytes settings.line_ending) is_later
+      (justified_after_indents settings is_later ls)) views in
+      record {
+        whole = so_far.whole ∙ rows-more settings filled new is_later then_later
+            (division_at settings is_later paragraph one)
+            (groups_at settings (is_later || nat_lt 0 (length parts)) after others) added then
+            ∙ ap (λ b. new ++ rows settings then_later (groups_at settings b after others)) (sym then);
+        right = λ are. so_far.right (own, subst (λ b. AreTextSteps settings b after others) then are);
+        needs = λ all.
+            subst (λ b. AreTextSteps settings b after others) (sym then) (so_far.needs all).1;
+      }
+
+  pub justified-end : (filled : List ℕ) (is_later : Bool) (unused : List TextwrapSteps)
+      → IsJustifiedTo filled is_later [] unused → filled ≡ justified_at settings steps text
+  justified-end filled is_later unused all = sym (all.whole ∙ append-nil filled)
+
+  -- steps that are wrong for a paragraph are wrong for the text
+  pub justified-wrong : (filled : List ℕ) (is_later : Bool) (paragraph : List ℕ)
+      (after : List (List ℕ)) (one : TextwrapSteps) (others : List TextwrapSteps)
+      → IsJustifiedTo filled is_later (paragraph ∷ after) (one ∷ others)
+      → is_whole settings is_later paragraph ≡ false
+      → ¬ AreLineSteps settings one.cuts.now one.points.now one.ends.now paragraph
+      → ¬ AreTextSteps settings false (paragraphs_of settings.line_ending text) steps
+  justified-wrong filled is_later paragraph after one others so_far divided wrong all =
+      wrong ((so_far.needs all).0 divided)
+
+  -- and so are more steps than paragraphs
+  pub justified-many : (filled : List ℕ) (is_later : Bool) (unused : List TextwrapSteps)
+      → IsJustifiedTo filled is_later [] unused → 0 < length unused
+      → ¬ AreTextSteps settings false (paragraphs_of settings.line_ending text) steps
+  justified-many filled is_later unused all more are =
+      let none : length unused ≡ 0 = ap length (all.needs are) in absurd (omega (arith, none, more))

@@ -1,6 +1,6 @@
 -- What the numbers of a caller's fragments mean, and where lines of them end.
 use Rattle.std.specs.Prelude.{◌≡◌, ℕ, ◌+◌, List, [], ◌∷◌, length}
-use Rattle.textwrap_base.specs.Cost.{PricedSizes}
+use Rattle.textwrap_base.specs.Cost.{PricedSizes, Problem, problem_by}
 use Rattle.textwrap_base.specs.Sizes.{Sizes}
 use Rattle.textwrap_base.specs.declared.penalties.Penalties.{Penalties}
 use Rattle.textwrap_calls.specs.declared.fragments.TextwrapFragment.{TextwrapFragment}
@@ -26,6 +26,10 @@ penalties_of p = record {
   short_last_line_penalty = p.short_last_line_penalty;
   hyphen_penalty = 0;
 }
+
+abbrev pub problem_of : TextwrapPenalties → List ℕ → List TextwrapFragment
+    → Problem TextwrapFragment
+problem_of penalties = problem_by priced_of (penalties_of penalties)
 
 -- the numbers in reserve are 0
 pub record AreKnownPenalties (p : TextwrapPenalties) : Type 0 where

@@ -1,5 +1,5 @@
 -- What the numbers of the options mean.
-use Rattle.std.specs.Prelude.{◌≡◌, ℕ, ◌≤◌, ◌==◌, List, [], ◌∷◌, Bool, not, IsUtf8}
+use Rattle.std.specs.Prelude.{◌≡◌, ◌≢◌, ◌↔◌, ℕ, ◌≤◌, ◌==◌, List, [], ◌∷◌, Bool, not, IsUtf8}
 use Rattle.std.specs.Prelude.{if◌then◌else◌}
 use Rattle.textwrap_plain.specs.Options as plain
 use Rattle.textwrap_plain.specs.Options.{words_by}
@@ -8,13 +8,18 @@ use Rattle.textwrap_plain.specs.declared.options.PlainSeparator.{PlainSeparator}
 use Rattle.textwrap_plain.specs.declared.options.PlainSeparator.TheVariants.{AtBlanks, AtBreaks}
 use Rattle.textwrap_unicode.specs.declared.numbers.Numbers.{Numbers}
 use Rattle.textwrap_unicode.specs.declared.numbers.Numbers.TheVariants.{ByExpression, ByPairs}
-use Rattle.textwrap.specs.Paragraph.{DividesAt}
+use Rattle.textwrap.specs.Filling.{IsFilled}
+use Rattle.textwrap.specs.Paragraph.{DividesAt, Line}
+use Rattle.textwrap.specs.Refilling.{IsRefilled}
 use Rattle.textwrap.specs.Words.{WordText}
 use Rattle.textwrap.specs.Options.{Settings, settings_at}
 use Rattle.textwrap.specs.WordSplitters.{Splitter, Whole, AtHyphens}
 use Rattle.textwrap.specs.WrapAlgorithms.{Algorithm, Greedy, LeastCost}
 use Rattle.textwrap_base.specs.declared.penalties.Penalties.{Penalties}
+use Rattle.textwrap_lines.specs.Places.{ArePlacedLines}
+use Rattle.textwrap_lines.specs.declared.places.Place.{Place}
 use Rattle.textwrap_lines.specs.declared.line_ending.LineEnding.TheVariants.{LF, CRLF}
+use Rattle.textwrap_calls.specs.Status.{not_utf8, out_of_memory, unknown_options}
 use Rattle.textwrap_calls.specs.declared.options.TextwrapOptions.{TextwrapOptions}
 
 -- a number that says yes or no
@@ -59,6 +64,19 @@ settings_of o = record (settings_at o.width) {
 abbrev pub Divides : TextwrapOptions → Settings → Bool → List ℕ → List (List WordText) → Type 0
 Divides o = DividesAt (words_by (separator_of o)) (splitter_of o) (algorithm_of o)
 
+-- the text, filled by the options
+abbrev pub IsFilledBy : TextwrapOptions → List ℕ → List ℕ → Type 0
+IsFilledBy o text filled = IsFilled (settings_of o) (Divides o (settings_of o)) text filled
+
+-- and filled again
+abbrev pub IsRefilledBy : TextwrapOptions → List ℕ → List ℕ → Type 0
+IsRefilledBy o text refilled = IsRefilled (settings_of o) (Divides o) text refilled
+
+-- its lines by the options, and where they stand
+abbrev pub ArePlacedBy : TextwrapOptions → List ℕ → List Line → List Place → Type 0
+ArePlacedBy o text lines places =
+    ArePlacedLines (settings_of o) (Divides o (settings_of o)) text lines places
+
 -- these are the options as the library has them
 pub record AreRead (o : TextwrapOptions) (read : PlainOptions) : Type 0 where
   pub settings : plain.settings_of read ≡ settings_of o
@@ -82,3 +100,17 @@ pub record AreKnown (o : TextwrapOptions) : Type 0 where
 pub record AreTexts (o : TextwrapOptions) : Type 0 where
   pub initial : IsUtf8 o.initial_indent.now
   pub subsequent : IsUtf8 o.subsequent_indent.now
+
+-- ---- what the status of a call by options says
+
+-- UNKNOWN_OPTIONS: these are not known
+abbrev pub TellsUnknown : ℕ → TextwrapOptions → Type 0
+TellsUnknown status o = status ≡ unknown_options ↔ ¬ AreKnown o
+
+-- NOT_UTF8: they are known, but the text or an indent is not UTF-8
+abbrev pub TellsNotUtf8 : ℕ → TextwrapOptions → List ℕ → Type 0
+TellsNotUtf8 status o text = status ≡ not_utf8 ↔ AreKnown o × ¬ (IsUtf8 text × AreTexts o)
+
+-- at blanks and by first fit it is never OUT_OF_MEMORY
+abbrev pub NeedsNoMemory : ℕ → TextwrapOptions → Type 0
+NeedsNoMemory status o = o.unicode_breaks ≡ 0 → o.optimal_fit ≡ 0 → status ≢ out_of_memory

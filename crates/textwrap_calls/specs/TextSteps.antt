@@ -8,7 +8,9 @@ use Rattle.textwrap_lines.specs.Options.{Settings}
 use Rattle.textwrap_lines.specs.Paragraph.{LineParts, is_whole, line_bytes, parts_from}
 use Rattle.textwrap_lines.specs.Places.{CutLine, lines_of, text_cuts}
 use Rattle.textwrap_lines.specs.Steps.{pieces_at}
+use Rattle.textwrap_calls.specs.Options.{settings_of}
 use Rattle.textwrap_calls.specs.Steps.{AreLineSteps}
+use Rattle.textwrap_calls.specs.declared.options.TextwrapOptions.{TextwrapOptions}
 use Rattle.textwrap_calls.specs.declared.steps.TextwrapSteps.{TextwrapSteps}
 
 module _ (settings : Settings) where
@@ -54,3 +56,9 @@ module _ (settings : Settings) where
   filled_at steps text =
       join_with (ending_bytes settings.line_ending)
       (map line_bytes (lines_of (text_step_cuts steps text)))
+
+-- the steps of a text by the options
+abbrev pub AreStepsOf : TextwrapOptions → List ℕ → List TextwrapSteps → Type 0
+AreStepsOf o text steps =
+    let settings = settings_of o in
+    AreTextSteps settings false (paragraphs_of settings.line_ending text) steps

@@ -2,8 +2,8 @@
 ghost use Rattle.std.specs.Prelude.{◌≡◌, ◌<◌, ◌≤◌, ◌↔◌, IsUtf8, IfSome, IfNone};
 ghost use Rattle.textwrap.specs.Paragraph.{line_bytes};
 ghost use Rattle.textwrap_calls.specs.Display.{alignment_of, IsShort};
-ghost use Rattle.textwrap_calls.specs.Options.{settings_of, AreKnown, Divides};
-ghost use Rattle.textwrap_calls.specs.Options.{AreTexts};
+ghost use Rattle.textwrap_calls.specs.Options.{settings_of, Divides};
+ghost use Rattle.textwrap_calls.specs.Options.{TellsUnknown, TellsNotUtf8};
 ghost use Rattle.textwrap_calls.specs.Room.{WritesText};
 ghost use Rattle.textwrap_calls.specs.Status.{not_utf8, too_small, unknown_options};
 ghost use Rattle.textwrap_display.specs.Alignment.{aligned};
@@ -96,9 +96,8 @@ pub fn textwrap_fill_justified(
 ) -> u32
     ensures filled { WritesText (IsJustifiedText (settings_of options.now) (Divides options.now (settings_of options.now)) text.now)
         result room.old room.new len.old len.new }
-    ensures unknown { result ≡ unknown_options ↔ ¬ AreKnown options.now }
-    ensures not_utf8 { result ≡ not_utf8 ↔ AreKnown options.now
-        × ¬ (IsUtf8 text.now × AreTexts options.now) }
+    ensures unknown { TellsUnknown result options.now }
+    ensures not_utf8 { TellsNotUtf8 result options.now text.now }
     ensures statuses { result ≤ unknown_options }
 {
     let options = match read_options(options) {

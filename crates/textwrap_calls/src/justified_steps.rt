@@ -1,12 +1,14 @@
 //! A whole text in steps, with its lines justified.
-ghost use Rattle.std.specs.Prelude.{◌≡◌, ◌≢◌, ◌≤◌, ◌↔◌, ◌⊎◌, ◌||◌, false, IfErr, IfOk, IsUtf8, length};
+ghost use Rattle.std.specs.Prelude.{◌≡◌, ◌≢◌, ◌≤◌, ◌⊎◌, ◌||◌, false, IfErr, IfOk, IsUtf8, length};
 ghost use Rattle.std.specs.Prelude.{◌∷◌, [], map, nat_lt, string_bytes};
 ghost use Rattle.textwrap_calls.specs.JustifiedSteps.{justified_at};
-ghost use Rattle.textwrap_calls.specs.Options.{settings_of, AreKnown, AreTexts};
+ghost use Rattle.textwrap_calls.specs.Options.{settings_of, AreKnown, AreTexts, TellsUnknown};
+ghost use Rattle.textwrap_calls.specs.Options.{TellsNotUtf8};
 ghost use Rattle.textwrap_calls.specs.Room.{WritesText};
-ghost use Rattle.textwrap_calls.specs.Status.{not_utf8, out_of_memory, unknown_options, wrong_places};
+ghost use Rattle.textwrap_calls.specs.Status.{out_of_memory, unknown_options};
+ghost use Rattle.textwrap_calls.specs.Status.{wrong_places};
 ghost use Rattle.textwrap_calls.specs.Steps.{AreLineSteps};
-ghost use Rattle.textwrap_calls.specs.TextSteps.{AreTextSteps, parts_at};
+ghost use Rattle.textwrap_calls.specs.TextSteps.{AreTextSteps, parts_at, AreStepsOf};
 ghost use Rattle.textwrap_lines.specs.LineEnding.{paragraphs_of};
 ghost use Rattle.textwrap_lines.specs.Options.{settings_view};
 ghost use Rattle.textwrap_lines.specs.Paragraph.{Slice, is_whole, line_from, line_view};
@@ -36,18 +38,15 @@ pub fn textwrap_fill_justified_at(
 ) -> u32
     ensures filled { WritesText (λ answer. answer ≡ justified_at (settings_of options.now) steps.now
         text.now) result room.old room.new len.old len.new }
-    ensures unknown { result ≡ unknown_options ↔ ¬ AreKnown options.now }
-    ensures not_utf8 { result ≡ not_utf8 ↔ AreKnown options.now
-        × ¬ (IsUtf8 text.now × AreTexts options.now) }
+    ensures unknown { TellsUnknown result options.now }
+    ensures not_utf8 { TellsNotUtf8 result options.now text.now }
     // As in `textwrap_wrap_at`.
     ensures wrong_places { result ≡ wrong_places → AreKnown options.now
         × (IsUtf8 text.now × AreTexts options.now)
-        × ¬ AreTextSteps (settings_of options.now) false
-        (paragraphs_of (settings_of options.now).line_ending text.now) steps.now }
+        × ¬ AreStepsOf options.now text.now steps.now }
     ensures right_places { result ≢ wrong_places → result ≢ out_of_memory → AreKnown options.now
         → IsUtf8 text.now × AreTexts options.now
-        → AreTextSteps (settings_of options.now) false
-        (paragraphs_of (settings_of options.now).line_ending text.now) steps.now }
+        → AreStepsOf options.now text.now steps.now }
     ensures statuses { (result ≤ unknown_options) ⊎ (result ≡ wrong_places) }
 {
     let options = match read_options(options) {

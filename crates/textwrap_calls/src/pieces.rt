@@ -1,13 +1,13 @@
 //! Words, and the pieces that they are split and broken into, by where they stand.
 ghost use Rattle.std.specs.Prelude.{◌≡◌, ◌⊎◌, ◌↔◌, ◌≤◌, [], IfOk, IsUtf8, true, map};
 ghost use Rattle.textwrap_calls.specs.Options.{separator_of, settings_of, splitter_of};
-ghost use Rattle.textwrap_calls.specs.Options.{AreKnown, AreTexts};
+ghost use Rattle.textwrap_calls.specs.Options.{TellsUnknown, TellsNotUtf8};
 ghost use Rattle.textwrap_calls.specs.Pieces.{AreOffsets, offsets_past, piece_places};
 ghost use Rattle.textwrap_calls.specs.Room.{WritesText};
-ghost use Rattle.textwrap_calls.specs.Status.{done, not_utf8, too_small, unknown_options, wrong_places};
+ghost use Rattle.textwrap_calls.specs.Status.{done, not_utf8, too_small, unknown_options};
+ghost use Rattle.textwrap_calls.specs.Status.{wrong_places};
 ghost use Rattle.textwrap_lines.specs.Options.{settings_view};
 ghost use Rattle.textwrap_lines.specs.Paragraph.{pieces_by, pieces_of};
-ghost use Rattle.textwrap_plain.specs.Options as plain;
 ghost use Rattle.textwrap_plain.specs.Options.{words_by};
 ghost use Rattle.textwrap_words.specs.Breaking.{broken_pieces, pieces_left};
 ghost use Rattle.textwrap_words.specs.Pieces.{as_splitter};
@@ -15,6 +15,7 @@ ghost use Rattle.textwrap_words.specs.Units.{stripped};
 ghost use Rattle.textwrap_words.specs.WordOffsets.{words_at};
 ghost use Rattle.textwrap_words.specs.WordSplitters.{hyphen_points};
 ghost use Rattle.textwrap_words.specs.Words.{piece, word_view, Tiles};
+ghost use Rattle.textwrap_plain.specs.Options as plain;
 
 use crate::options::{TextwrapOptions, read_options};
 use crate::room::put;
@@ -59,9 +60,8 @@ pub fn textwrap_pieces(
     ensures pieces { WritesText (λ answer. answer ≡ piece_places 0 (pieces_by
         (settings_of options.now) (words_by (separator_of options.now)) (splitter_of options.now)
         paragraph.now)) result pieces.old pieces.new count.old count.new }
-    ensures unknown { result ≡ unknown_options ↔ ¬ AreKnown options.now }
-    ensures not_utf8 { result ≡ not_utf8 ↔ AreKnown options.now
-        × ¬ (IsUtf8 paragraph.now × AreTexts options.now) }
+    ensures unknown { TellsUnknown result options.now }
+    ensures not_utf8 { TellsNotUtf8 result options.now paragraph.now }
     ensures statuses { result ≤ unknown_options }
 {
     let options = match read_options(options) {

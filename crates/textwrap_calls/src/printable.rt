@@ -1,9 +1,9 @@
 //! Texts of printable ASCII, told many bytes at a time, and the line that a short text is.
 ghost use Rattle.std.specs.Prelude.{◌≡◌, ◌↔◌, ◌<◌, ◌≤◌, [], IfSome, IsTrue, IsUtf8, length};
-ghost use Rattle.textwrap.specs.Filling.{IsFilled};
 ghost use Rattle.textwrap.specs.Indentation.{HasNoLineFeed};
 ghost use Rattle.textwrap.specs.Refilling.{IsRefilled, line_prefix};
 ghost use Rattle.textwrap_calls.specs.Options.{settings_of, AreKnown, AreTexts, Divides};
+ghost use Rattle.textwrap_calls.specs.Options.{IsFilledBy, IsRefilledBy};
 ghost use Rattle.textwrap_calls.specs.Printable.{AreWithoutIndents, IsOnlyLine};
 ghost use Rattle.textwrap_words.specs.Units.{IsPrintable};
 
@@ -52,8 +52,7 @@ fn is_long_printable(text: &[u8]) -> bool
 pub(crate) fn only_line<'t>(text: &'t [u8], options: &TextwrapOptions<'_>) -> Option<&'t [u8]>
     ensures known { IfSome result (λ _. AreKnown options.now × AreTexts options.now) }
     ensures utf8 { IfSome result (λ _. IsUtf8 text.now) }
-    ensures filled { IfSome result (λ line. IsFilled (settings_of options.now)
-        (Divides options.now (settings_of options.now)) text.now line.now) }
+    ensures filled { IfSome result (λ line. IsFilledBy options.now text.now line.now) }
     ensures line { IfSome result (λ line. IsOnlyLine options.now text.now line.now) }
     ensures refilled { line_prefix text.now ≡ [] → IfSome result (λ line. IsRefilled
         (settings_of options.now) (Divides options.now) text.now line.now) }
@@ -67,8 +66,7 @@ pub(crate) fn only_line<'t>(text: &'t [u8], options: &TextwrapOptions<'_>) -> Op
 /// The same for a text that is known to be UTF-8.
 pub(crate) fn only_known_line<'t>(text: &'t [u8], options: &TextwrapOptions<'_>) -> Option<&'t [u8]>
     ensures known { IfSome result (λ _. AreKnown options.now × AreTexts options.now) }
-    ensures filled { IfSome result (λ line. IsFilled (settings_of options.now)
-        (Divides options.now (settings_of options.now)) text.now line.now) }
+    ensures filled { IfSome result (λ line. IsFilledBy options.now text.now line.now) }
     ensures line { IfSome result (λ line. IsOnlyLine options.now text.now line.now) }
     ensures refilled { line_prefix text.now ≡ [] → IfSome result (λ line. IsRefilled
         (settings_of options.now) (Divides options.now) text.now line.now) }
@@ -92,11 +90,10 @@ fn line_of<'t>(text: &'t [u8], options: &TextwrapOptions<'_>) -> &'t [u8]
     requires short { length text.now < options.now.width }
     requires bare { AreWithoutIndents options.now }
     requires free { HasNoLineFeed text.now }
-    ensures filled { IsFilled (settings_of options.now) (Divides options.now (settings_of options.now))
-        text.now result.now }
+    ensures filled { IsFilledBy options.now text.now result.now }
     ensures line { IsOnlyLine options.now text.now result.now }
     ensures refilled { line_prefix text.now ≡ []
-        → IsRefilled (settings_of options.now) (Divides options.now) text.now result.now }
+        → IsRefilledBy options.now text.now result.now }
 {
     if options.preserve_trailing_space != 0 {
         return text;

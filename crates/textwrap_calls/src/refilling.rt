@@ -1,9 +1,9 @@
 //! Unfilling and refilling a filled text.
 ghost use Rattle.std.specs.Prelude.{◌≡◌, ◌≢◌, ◌≤◌, ◌⊎◌, ◌↔◌, [], false, IsUtf8};
 ghost use Rattle.textwrap.specs.Options.{settings_view};
-ghost use Rattle.textwrap.specs.Refilling.{IsRefilled, line_prefix, unfilled_parts, unfilled_settings};
-ghost use Rattle.textwrap_calls.specs.Options.{settings_of, AreKnown, Divides};
-ghost use Rattle.textwrap_calls.specs.Options.{AreTexts};
+ghost use Rattle.textwrap.specs.Refilling.{line_prefix, unfilled_parts, unfilled_settings};
+ghost use Rattle.textwrap_calls.specs.Options.{AreKnown};
+ghost use Rattle.textwrap_calls.specs.Options.{AreTexts, TellsUnknown, TellsNotUtf8, IsRefilledBy};
 ghost use Rattle.textwrap_calls.specs.Refilling.{IsLayout};
 ghost use Rattle.textwrap_calls.specs.Room.{WritesText};
 ghost use Rattle.textwrap_calls.specs.Status.{done, not_utf8, out_of_memory, too_small};
@@ -29,11 +29,10 @@ pub fn textwrap_refill(
     room: &mut [u8],
     len: &mut usize,
 ) -> u32
-    ensures refilled { WritesText (IsRefilled (settings_of options.now) (Divides options.now) text.now)
+    ensures refilled { WritesText (IsRefilledBy options.now text.now)
         result room.old room.new len.old len.new }
-    ensures unknown { result ≡ unknown_options ↔ ¬ AreKnown options.now }
-    ensures not_utf8 { result ≡ not_utf8 ↔ AreKnown options.now
-        × ¬ (IsUtf8 text.now × AreTexts options.now) }
+    ensures unknown { TellsUnknown result options.now }
+    ensures not_utf8 { TellsNotUtf8 result options.now text.now }
     ensures statuses { result ≤ unknown_options }
 {
     if !begins_with_prefix(text) {
@@ -56,9 +55,9 @@ pub fn textwrap_refill_utf8(
     len: &mut usize,
 ) -> u32
     requires { IsUtf8 text.now }
-    ensures refilled { WritesText (IsRefilled (settings_of options.now) (Divides options.now) text.now)
+    ensures refilled { WritesText (IsRefilledBy options.now text.now)
         result room.old room.new len.old len.new }
-    ensures unknown { result ≡ unknown_options ↔ ¬ AreKnown options.now }
+    ensures unknown { TellsUnknown result options.now }
     ensures not_utf8 { result ≡ not_utf8 ↔ AreKnown options.now × ¬ AreTexts options.now }
     ensures statuses { result ≤ unknown_options }
 {
@@ -88,9 +87,9 @@ fn refill_text(
     room: &mut [u8],
     len: &mut usize,
 ) -> u32
-    ensures refilled { WritesText (IsRefilled (settings_of options.now) (Divides options.now) text.now)
+    ensures refilled { WritesText (IsRefilledBy options.now text.now)
         result room.old room.new len.old len.new }
-    ensures unknown { result ≡ unknown_options ↔ ¬ AreKnown options.now }
+    ensures unknown { TellsUnknown result options.now }
     ensures not_utf8 { result ≡ not_utf8 ↔ AreKnown options.now × ¬ AreTexts options.now }
     ensures statuses { result ≤ unknown_options }
 {

@@ -13,7 +13,7 @@ ghost use Rattle.textwrap_lines.specs.Paragraph.{widths_of};
 ghost use Rattle.textwrap_lines.specs.Places.{HasPlacesMore, division_cuts, further};
 ghost use Rattle.textwrap_lines.specs.Steps.{pieces_at};
 ghost use Rattle.textwrap_calls.specs.Options.{algorithm_of, settings_of, says_yes};
-ghost use Rattle.textwrap_calls.specs.Options.{AreKnown, AreTexts};
+ghost use Rattle.textwrap_calls.specs.Options.{AreKnown, AreTexts, TellsUnknown, TellsNotUtf8};
 ghost use Rattle.textwrap_calls.specs.Pieces.{piece_places};
 ghost use Rattle.textwrap_calls.specs.Room.{WritesText};
 ghost use Rattle.textwrap_calls.specs.Status.{done, not_utf8, out_of_memory, overflow, too_small};
@@ -65,9 +65,8 @@ pub fn textwrap_pieces_at(
     ensures pieces { WritesText (λ answer. answer ≡ piece_places 0
         (pieces_at (settings_of options.now) cuts.now points.now paragraph.now))
         result pieces.old pieces.new count.old count.new }
-    ensures unknown { result ≡ unknown_options ↔ ¬ AreKnown options.now }
-    ensures not_utf8 { result ≡ not_utf8 ↔ AreKnown options.now
-        × ¬ (IsUtf8 paragraph.now × AreTexts options.now) }
+    ensures unknown { TellsUnknown result options.now }
+    ensures not_utf8 { TellsNotUtf8 result options.now paragraph.now }
     ensures wrong_places { result ≡ wrong_places ↔ AreKnown options.now
         × (IsUtf8 paragraph.now × AreTexts options.now)
         × ¬ AreSteps cuts.now points.now paragraph.now }

@@ -1,13 +1,16 @@
 //! A whole text in steps: each of its paragraphs comes with what a caller found of it.
-ghost use Rattle.std.specs.Prelude.{◌≡◌, ◌≢◌, ◌≤◌, ◌<◌, ◌+◌, ◌↔◌, ◌⊎◌, ◌++◌, false, List, ℕ};
+ghost use Rattle.std.specs.Prelude.{◌≡◌, ◌≢◌, ◌≤◌, ◌<◌, ◌+◌, ◌⊎◌, ◌++◌, false, List, ℕ};
 ghost use Rattle.std.specs.Prelude.{IfErr, IfOk, IsUtf8, OnOk, length, map, nat_lt, slice_range};
 ghost use Rattle.std.specs.Prelude.{if◌then◌else◌};
 ghost use Rattle.std.specs.Io.{StartsWith};
-ghost use Rattle.textwrap_calls.specs.Options.{settings_of, AreKnown, AreTexts};
+ghost use Rattle.textwrap_calls.specs.Options.{settings_of, AreKnown, AreTexts, TellsUnknown};
+ghost use Rattle.textwrap_calls.specs.Options.{TellsNotUtf8};
 ghost use Rattle.textwrap_calls.specs.Room.{WritesText};
-ghost use Rattle.textwrap_calls.specs.Status.{not_utf8, out_of_memory, unknown_options, wrong_places};
+ghost use Rattle.textwrap_calls.specs.Status.{out_of_memory, unknown_options};
+ghost use Rattle.textwrap_calls.specs.Status.{wrong_places};
 ghost use Rattle.textwrap_calls.specs.Steps.{AreLineSteps, ArePlacedCuts};
 ghost use Rattle.textwrap_calls.specs.TextSteps.{AreTextSteps, filled_at, parts_at, text_step_cuts};
+ghost use Rattle.textwrap_calls.specs.TextSteps.{AreStepsOf};
 ghost use Rattle.textwrap_calls.specs.Wrapping.{ShowLines, WritesLines};
 ghost use Rattle.textwrap_lines.specs.LineEnding.{ending_bytes, join_with, paragraphs_of};
 ghost use Rattle.textwrap_lines.specs.Options.{settings_view};
@@ -44,18 +47,15 @@ pub fn textwrap_wrap_at(
     ensures lines { WritesLines (ArePlacedCuts (text_step_cuts (settings_of options.now) steps.now
         text.now)) text.now result lines.old lines.new count.old count.new room.old room.new len.old
         len.new }
-    ensures unknown { result ≡ unknown_options ↔ ¬ AreKnown options.now }
-    ensures not_utf8 { result ≡ not_utf8 ↔ AreKnown options.now
-        × ¬ (IsUtf8 text.now × AreTexts options.now) }
+    ensures unknown { TellsUnknown result options.now }
+    ensures not_utf8 { TellsNotUtf8 result options.now text.now }
     // That ends are more than the pieces is found out only if there is memory for these.
     ensures wrong_places { result ≡ wrong_places → AreKnown options.now
         × (IsUtf8 text.now × AreTexts options.now)
-        × ¬ AreTextSteps (settings_of options.now) false
-        (paragraphs_of (settings_of options.now).line_ending text.now) steps.now }
+        × ¬ AreStepsOf options.now text.now steps.now }
     ensures right_places { result ≢ wrong_places → result ≢ out_of_memory → AreKnown options.now
         → IsUtf8 text.now × AreTexts options.now
-        → AreTextSteps (settings_of options.now) false
-        (paragraphs_of (settings_of options.now).line_ending text.now) steps.now }
+        → AreStepsOf options.now text.now steps.now }
     ensures statuses { (result ≤ unknown_options) ⊎ (result ≡ wrong_places) }
 {
     let options = match read_options(options) {
@@ -82,18 +82,15 @@ pub fn textwrap_fill_at(
 ) -> u32
     ensures filled { WritesText (λ answer. answer ≡ filled_at (settings_of options.now) steps.now
         text.now) result room.old room.new len.old len.new }
-    ensures unknown { result ≡ unknown_options ↔ ¬ AreKnown options.now }
-    ensures not_utf8 { result ≡ not_utf8 ↔ AreKnown options.now
-        × ¬ (IsUtf8 text.now × AreTexts options.now) }
+    ensures unknown { TellsUnknown result options.now }
+    ensures not_utf8 { TellsNotUtf8 result options.now text.now }
     // As in `textwrap_wrap_at`.
     ensures wrong_places { result ≡ wrong_places → AreKnown options.now
         × (IsUtf8 text.now × AreTexts options.now)
-        × ¬ AreTextSteps (settings_of options.now) false
-        (paragraphs_of (settings_of options.now).line_ending text.now) steps.now }
+        × ¬ AreStepsOf options.now text.now steps.now }
     ensures right_places { result ≢ wrong_places → result ≢ out_of_memory → AreKnown options.now
         → IsUtf8 text.now × AreTexts options.now
-        → AreTextSteps (settings_of options.now) false
-        (paragraphs_of (settings_of options.now).line_ending text.now) steps.now }
+        → AreStepsOf options.now text.now steps.now }
     ensures statuses { (result ≤ unknown_options) ⊎ (result ≡ wrong_places) }
 {
     let options = match read_options(options) {

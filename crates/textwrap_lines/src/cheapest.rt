@@ -2,7 +2,7 @@
 //! words.
 ghost use Rattle.std.specs.Prelude.{ℕ, ◌≡◌, ◌<◌, ◌≤◌, ◌+◌, ◌-◌, ◌^◌, List, [], ◌∷◌};
 ghost use Rattle.std.specs.Prelude.{map, length, slice_index, IsTrue, IfOk, OnOk};
-ghost use Rattle.textwrap_base.specs.Cost.{priced_at};
+ghost use Rattle.textwrap_base.specs.Cost.{problem_at, problem_by};
 ghost use Rattle.textwrap_base.specs.Division.{IsDivision};
 ghost use Rattle.textwrap_base.specs.OptimalFit.{IsByOptimalFit};
 ghost use Rattle.textwrap_base.specs.Queue.{AreAtMost, SuitQueue, queue_limit};
@@ -71,9 +71,8 @@ pub(crate) fn push_cheapest_lines<'t, A: Allocator + Copy, S: LineSink<'t, A>>(
     requires suits { SuitSearch (length paragraph.now) (frame_widths frame.now) penalties.now }
     ensures name { S.name lines.new ≡ S.name lines.old }
     ensures took { OnOk result ((division : List (List WordText))
-        × IsByOptimalFit (λ w. priced_at penalties.now (sizes_of w)) penalties.now
-        (frame_widths frame.now) (pieces_cut (frame_settings frame.now) cuts.now paragraph.now)
-        division
+        × IsByOptimalFit (problem_at penalties.now sizes_of (frame_widths frame.now)
+        (pieces_cut (frame_settings frame.now) cuts.now paragraph.now)) division
         × Took S.holds lines.old lines.new (frame_lines frame.now division)) }
 {
     let spans = find_spans(alloc, paragraph, frame, cuts)?;
@@ -91,8 +90,10 @@ fn cheapest_lines<'a, A: Allocator + Copy>(
 ) -> Result<Vec<&'a [Span], A>, AllocError>
     requires measured { AreSpans spans.now }
     requires some { 0 < length spans.now }
-    requires suits { SuitQueue (fragment_costs span_priced penalties.now line_widths.now spans.now) }
-    ensures { IfOk result (λ lines. IsByTable span_priced penalties.now line_widths.now spans.now
+    requires suits { SuitQueue (fragment_costs
+        (problem_by span_priced penalties.now line_widths.now spans.now)) }
+    ensures { IfOk result (λ lines. IsByTable
+        (problem_by span_priced penalties.now line_widths.now spans.now)
         (map (λ line. line.now) lines.items)) }
 {
     let mut costs = SpanCosts {
@@ -115,7 +116,8 @@ struct SpanCosts<'a, 'w> {
 }
 
 impl CostSource for SpanCosts<'_, '_> {
-    ghost costs = { λ s. fragment_costs span_priced s.penalties s.line_widths.now s.spans.now };
+    ghost costs = { λ s. fragment_costs
+        (problem_by span_priced s.penalties s.line_widths.now s.spans.now) };
 
     ghost steps = { λ s. 2 ^ 128 - 1 };
 

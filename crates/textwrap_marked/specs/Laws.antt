@@ -3,7 +3,7 @@ use Rattle.std.specs.Prelude.{◌≡◌, ◌≢◌, ℕ, ◌+◌, ◌≤◌, ◌
 use Rattle.std.specs.Prelude.{◌∷◌, ◌++◌, All, drop, if◌then◌else◌, IsUtf8, length, map, nat_eq, None}
 use Rattle.std.specs.Prelude.{Option, Some, ⊤}
 use Rattle.std.specs.List.{flat_map, slice_split, starts_with}
-use Rattle.textwrap_base.specs.Cost.{division_cost, priced_at}
+use Rattle.textwrap_base.specs.Cost.{division_cost, problem_at}
 use Rattle.textwrap_base.specs.Division.{closed_width, IsDivision}
 use Rattle.textwrap_base.specs.declared.penalties.Penalties.{Penalties}
 use Rattle.textwrap_words.specs.Units.{text_width}
@@ -223,8 +223,7 @@ CostsLeast options penalties ending part text = of part.stays
     of true = ⊤
     of false =
         let all = piece_words options part.first part.lines in
-        let cost = division_cost (λ piece. priced_at penalties (sizes_of piece)) penalties
-        (widths_left options part.first) (length all) in
+        let cost = division_cost (problem_at penalties sizes_of (widths_left options part.first) all) in
         (division : List (List WordText)) × IsPrinted options ending part text division
         × ((others : List (List WordText)) → IsDivision all others → cost division ≤ cost others)
 

@@ -1,6 +1,6 @@
 //! Pictures hung in rows: in as few as fit, or divided at the least cost.
 ghost use Rattle.std.specs.Prelude.{◌≤◌, List, [], ◌∷◌, length, map, IfOk};
-ghost use Rattle.textwrap.specs.Cost.{priced_at, IsChosen};
+ghost use Rattle.textwrap.specs.Cost.{problem_at, IsChosen};
 ghost use Rattle.textwrap.specs.Division.{IsAdmissible};
 ghost use Rattle.textwrap.specs.Penalties.{default_penalties};
 ghost use Rattle.textwrap.specs.Sizes.{Sizes};
@@ -63,8 +63,8 @@ pub fn hung_rows<'p>(
     wall_width: usize,
 ) -> Result<Vec<&'p [Picture]>, WrapError>
     ensures chosen { IfOk result (λ rows. IsChosen
-        (λ picture. priced_at default_penalties (⟦<Picture as Fragment>⟧.sizes picture))
-        default_penalties (wall_width ∷ []) pictures.now (map (λ row. row.now) rows.items)) }
+        (problem_at default_penalties ⟦<Picture as Fragment>⟧.sizes (wall_width ∷ []) pictures.now)
+        (map (λ row. row.now) rows.items)) }
 {
     wrap_optimal_fit(alloc, pictures, &[wall_width], &Penalties::new())
 }

@@ -7,8 +7,9 @@ use Rattle.textwrap_base.proofs.Common.{length, add-zero, flat_map, IsByTable, n
 use Rattle.textwrap_base.proofs.Common.{get_or, reverse, take_at, drop_at, arith, zero-add, eq-eqb}
 use Rattle.textwrap_base.proofs.Common.{drop-drop, drop_split, line_width, PricedSizes, length-drop}
 use Rattle.textwrap_base.proofs.Common.{slice_range, length-append, length-take-le, fragments_table}
-use Rattle.textwrap_base.proofs.Common.{All-head, All-tail, All-cons, cases_lt, take_all, entry_at}
+use Rattle.textwrap_base.proofs.Common.{All-head, All-tail, All-cons, take_all, entry_at}
 use Rattle.textwrap_base.proofs.Common.{IsDivision, line_cost, line_costs, AreNoLater, length-map}
+use Rattle.textwrap_base.proofs.Common.{problem_by}
 use mathlib.Core.List.{reverse_aux}
 use Rattle.textwrap_base.specs.Cost.{lines_cost, starts_from, IsChosen}
 use Rattle.textwrap_base.specs.declared.penalties.Penalties.{Penalties}
@@ -68,9 +69,9 @@ module _ {X : Type 0} (priced : X → PricedSizes) (penalties : Penalties) (widt
   pub cost_of_lines : (lines : List (List X)) (rest : List X) (at : ℕ) (before : List ℕ)
       → drop at xs ≡ joined lines ++ rest
       → starts_cost (reverse_aux (starts_from at lines) before)
-      (line_costs priced penalties widths xs) (at + length (joined lines))
-      ≡ starts_cost before (line_costs priced penalties widths xs) at + lines_cost priced penalties
-      widths (length xs) (length before) at lines
+      (line_costs (problem_by priced penalties widths xs)) (at + length (joined lines))
+      ≡ starts_cost before (line_costs (problem_by priced penalties widths xs)) at
+      + lines_cost (problem_by priced penalties widths xs) (length before) at lines
   cost_of_lines [] rest at before is = simp add-zero
   cost_of_lines (line ∷ lines) rest at before is =
       let shape = is ∙ append_assoc line (joined lines) rest in
@@ -83,7 +84,7 @@ module _ {X : Type 0} (priced : X → PricedSizes) (penalties : Penalties) (widt
       let more = cost_of_lines lines rest (at + length line) (at ∷ before) next in
       let cost = ap (line_cost priced penalties (line_width widths (length before))
       (eqb (at + length line) (length xs))) slice in
-      let number = ap (λ m. lines_cost priced penalties widths (length xs) m
+      let number = ap (λ m. lines_cost (problem_by priced penalties widths xs) m
       (at + length line) lines) (let q : suc (length before) ≡ length before + 1 =
       omega arith in q) in
       rw (← joined-more at line lines) (more ∙ (omega (arith, cost, number)))
@@ -103,10 +104,8 @@ lines_more fragments starts lines start end below within at tiles some follow =
 
 pub line_costs-steady : {X : Type 0} (priced : X → PricedSizes) (penalties : Penalties)
     (widths : List ℕ) (xs : List X) → AreEqualFromSecond widths
-    → IsSteady (line_costs priced penalties widths xs)
-line_costs-steady priced penalties widths xs h i j l m p q =
-    ap (λ w. line_cost priced penalties w (eqb j (length xs)) (slice_range xs i j))
-    (grind (arith, cases_lt))
+    → IsSteady (line_costs (problem_by priced penalties widths xs))
+line_costs-steady priced penalties widths xs h i j l m p q = grind (arith, nat_tests)
 
 module _ {X : Type 0} (xs : List X) (lines : List (List X)) (j : ℕ) (l : j ≤ length xs)
     (e : joined lines ≡ take j xs) where
@@ -117,12 +116,13 @@ module _ {X : Type 0} (xs : List X) (lines : List (List X)) (j : ℕ) (l : j ≤
   begin_starts some = rw length_begun at (starts_of_lines lines 0 [] some refl)
 
   pub begin_cost : (priced : X → PricedSizes) (penalties : Penalties) (widths : List ℕ)
-      → starts_cost (starts_back lines) (line_costs priced penalties widths xs) j
-      ≡ division_cost priced penalties widths (length xs) lines
+      → starts_cost (starts_back lines) (line_costs (problem_by priced penalties widths xs)) j
+      ≡ division_cost (problem_by priced penalties widths xs) lines
   begin_cost priced penalties widths =
       let c = cost_of_lines priced penalties widths xs lines (drop j xs) 0 []
       (sym (take-append-drop j xs) ∙ ap (λ l. l ++ drop j xs) (sym e)) in
-      let k = ap (starts_cost (starts_back lines) (line_costs priced penalties widths xs))
+      let k = ap (starts_cost (starts_back lines)
+      (line_costs (problem_by priced penalties widths xs)))
       length_begun in omega (arith, c, k)
 
   pub begin_follow : (starts : List ℕ) → FollowStarts starts 0 lines
@@ -157,9 +157,9 @@ some_after (i ∷ rest) xs j after l (h, hs) some =
 pub cost_after_starts : {X : Type 0} (priced : X → PricedSizes) (penalties : Penalties)
     (widths : List ℕ) (starts : List ℕ) (xs : List X) (j : ℕ) (after : List (List X))
     → j ≤ length xs → AreStarts starts j
-    → lines_cost priced penalties widths (length xs) 0 0 (lines_after starts xs j after)
-    ≡ starts_cost starts (line_costs priced penalties widths xs) j + lines_cost priced penalties
-    widths (length xs) (length starts) j after
+    → lines_cost (problem_by priced penalties widths xs) 0 0 (lines_after starts xs j after)
+    ≡ starts_cost starts (line_costs (problem_by priced penalties widths xs)) j
+    + lines_cost (problem_by priced penalties widths xs) (length starts) j after
 cost_after_starts priced penalties widths [] xs j after l h = rw h (omega arith)
 cost_after_starts priced penalties widths (i ∷ rest) xs j after l (h, hs) =
     let again = cost_after_starts priced penalties widths rest xs i (slice_range xs i j ∷ after)
@@ -171,19 +171,17 @@ cost_after_starts priced penalties widths (i ∷ rest) xs j after l (h, hs) =
 -- a division of all fragments, as one of the prefix of all
 pub whole : {X : Type 0} (xs : List X) (lines : List (List X)) → 0 < length xs → IsDivision xs lines
     → (joined lines ≡ take (length xs) xs) × All (λ line. line ≢ []) lines
-whole xs lines p h =
-    let (tiles, some) = division_joined xs lines p h in
-    (tiles ∙ sym (take_all (length xs) xs (omega arith)), some)
+whole xs lines p h = grind (arith, division_joined, take_all)
 
 module _ {X : Type 0} (priced : X → PricedSizes) (penalties : Penalties) (widths : List ℕ)
     (xs : List X) where
   -- what the table says that the first fragments cost
   abbrev pub cost_at : ℕ → ℕ
-  cost_at j = (entry_at (fragments_table priced penalties widths xs) j).cost
+  cost_at j = (entry_at (fragments_table (problem_by priced penalties widths xs)) j).cost
 
   -- what lines cost of which the last may be the last of all
   abbrev pub cost_of : List (List X) → ℕ
-  cost_of lines = division_cost priced penalties widths (length xs) lines
+  cost_of lines = division_cost (problem_by priced penalties widths xs) lines
 
   -- no division of a prefix costs less than its entry says
   pub begin-least : (others : List (List X)) (j : ℕ) → j ≤ length xs → AreEqualFromSecond widths
@@ -193,14 +191,14 @@ module _ {X : Type 0} (priced : X → PricedSizes) (penalties : Penalties) (widt
       grind (arith, table_least, line_costs-steady, begin_starts)
 
   module _ (lines : List (List X)) (p : 0 < length xs) (equal : AreEqualFromSecond widths)
-      (by : IsByTable priced penalties widths xs lines) where
+      (by : IsByTable (problem_by priced penalties widths xs) lines) where
     begins : AreStarts (starts_back lines) (length xs)
     begins =
         let (tiles, some) = whole xs lines p by.division in
         begin_starts xs lines (length xs) (omega arith) tiles some
 
     follows : FollowBack (starts_back lines)
-        (table_starts (line_costs priced penalties widths xs) (length xs)) (length xs)
+        (table_starts (line_costs (problem_by priced penalties widths xs)) (length xs)) (length xs)
     follows =
         begin_follow xs lines (length xs) (omega arith) (whole xs lines p by.division).0 _ by.starts
 
@@ -208,7 +206,8 @@ module _ {X : Type 0} (priced : X → PricedSizes) (penalties : Penalties) (widt
     by_table-cost : cost_of lines ≡ cost_at (length xs)
     by_table-cost =
         sym (begin_cost xs lines (length xs) (omega arith) (whole xs lines p by.division).0 priced
-        penalties widths) ∙ table_followed (line_costs priced penalties widths xs) (length xs)
+        penalties widths)
+        ∙ table_followed (line_costs (problem_by priced penalties widths xs)) (length xs)
         (line_costs-steady priced penalties widths xs equal)
         (starts_back lines) (length xs) (omega arith) begins follows
 
@@ -216,7 +215,7 @@ module _ {X : Type 0} (priced : X → PricedSizes) (penalties : Penalties) (widt
         → cost_of others ≡ cost_of lines → AreNoLater (starts_back lines) (starts_back others)
     chosen-earliest others o same =
         let (tiles, some) = whole xs others p o in
-        table_earliest (line_costs priced penalties widths xs) (length xs)
+        table_earliest (line_costs (problem_by priced penalties widths xs)) (length xs)
         (line_costs-steady priced penalties widths xs equal)
         (starts_back lines) (starts_back others) (length xs) (omega arith) begins follows
         (begin_starts xs others (length xs) (omega arith) tiles some)
@@ -225,7 +224,8 @@ module _ {X : Type 0} (priced : X → PricedSizes) (penalties : Penalties) (widt
 
 pub by_table-chosen : {X : Type 0} (priced : X → PricedSizes) (penalties : Penalties)
     (widths : List ℕ) (xs : List X) (lines : List (List X)) → AreEqualFromSecond widths
-    → IsByTable priced penalties widths xs lines → IsChosen priced penalties widths xs lines
+    → IsByTable (problem_by priced penalties widths xs) lines
+    → IsChosen (problem_by priced penalties widths xs) lines
 by_table-chosen priced penalties widths [] lines equal h = grind arith
 by_table-chosen priced penalties widths (x ∷ xs) lines equal h =
     let p : 0 < length (x ∷ xs) = omega arith in
@@ -260,7 +260,7 @@ module _ {X : Type 0} (priced : X → PricedSizes) (penalties : Penalties) (widt
     (xs : List X) (none : last_break_penalty priced xs ≡ 0)
     (room : closed_width (λ x. (priced x).sizes) xs ≤ line_width widths 0) where
   abbrev costs : ℕ → ℕ → ℕ → ℕ
-  costs = line_costs priced penalties widths xs
+  costs = line_costs (problem_by priced penalties widths xs)
 
   cost_from : (i number : ℕ) → i < length xs → penalties.nline_penalty ≤ costs i (length xs) number
   cost_from i number within = grind (arith, line_cost-some, length-take-le, length-drop)
@@ -268,11 +268,11 @@ module _ {X : Type 0} (priced : X → PricedSizes) (penalties : Penalties) (widt
   -- the table's last line starts first: a later start would have to be cheaper
   last_start : get_or (table_starts costs (length xs)) (length xs) 0 ≡ 0
   last_start =
-      let entries = fragments_table priced penalties widths xs in
+      let entries = fragments_table (problem_by priced penalties widths xs) in
       let table = table-is_table costs (length xs) in
       grind (arith, start-at, eq-eqb, take_all, line_cost-one, cost_from)
 
-  by_table_one : IsByTable priced penalties widths xs (xs ∷ [])
+  by_table_one : IsByTable (problem_by priced penalties widths xs) (xs ∷ [])
   by_table_one = search (division_one, zero-add, last_start)
 
 last-none : {X : Type 0} (penalties : Penalties) (sizes : X → Sizes) (xs : List X)
@@ -295,13 +295,15 @@ IsDividedBy-one_line {X = X} (LeastCost penalties) sizes widths xs none room =
 
 module _ {X Y : Type 0} (f : X → Y) (priced : Y → PricedSizes) where
   pub fragments_table-map : (penalties : Penalties) (widths : List ℕ) (xs : List X)
-      → fragments_table (λ x. priced (f x)) penalties widths xs ≡ fragments_table priced penalties
-      widths (map f xs)
+      → fragments_table (problem_by (λ x. priced (f x)) penalties widths xs)
+      ≡ fragments_table (problem_by priced penalties widths (map f xs))
   fragments_table-map penalties widths xs = ap (λ cost. table cost (length xs))
       (sym (line_costs-map (λ x. priced (f x)) penalties widths xs)
-      ∙ ap (line_costs (λ (s : PricedSizes). s) penalties widths) (sym (map-map priced f xs))
+      ∙ ap (λ ps. line_costs (problem_by (λ (s : PricedSizes). s) penalties widths ps))
+      (sym (map-map priced f xs))
       ∙ line_costs-map priced penalties widths (map f xs))
-      ∙ ap (table (line_costs priced penalties widths (map f xs))) (sym (length-map xs f))
+      ∙ ap (table (line_costs (problem_by priced penalties widths (map f xs))))
+      (sym (length-map xs f))
 
   FollowStarts-map : (starts : List ℕ) (at : ℕ) (lines : List (List X))
       → FollowStarts starts at lines → FollowStarts starts at (map (map f) lines)
@@ -311,7 +313,7 @@ module _ {X Y : Type 0} (f : X → Y) (priced : Y → PricedSizes) where
 
   pub IsByOptimalFit-map : (penalties : Penalties) (widths : List ℕ) (xs : List X)
       (lines : List (List X)) → IsDivision (map f xs) (map (map f) lines)
-      → IsByOptimalFit (λ x. priced (f x)) penalties widths xs lines
-      → IsByOptimalFit priced penalties widths (map f xs) (map (map f) lines)
+      → IsByOptimalFit (problem_by (λ x. priced (f x)) penalties widths xs) lines
+      → IsByOptimalFit (problem_by priced penalties widths (map f xs)) (map (map f) lines)
   IsByOptimalFit-map penalties widths xs lines division optimal =
       grind (arith, fragments_table-map, FollowStarts-map, by_table-chosen)

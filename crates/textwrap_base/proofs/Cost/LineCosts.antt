@@ -1,13 +1,12 @@
 -- What one line costs: its gap, its slices, its sizes, its bounds, and that line costs are convex.
-use Rattle.textwrap_base.proofs.Common.{◌≡◌, ℕ, zero, suc, ◌+◌, ◌-◌, ◌*◌, ◌≤◌, true, false, refl}
-use Rattle.textwrap_base.proofs.Common.{◌∙◌, add-zero, arith, cases_lt, nat_tests, fit_cost, ◌<◌}
-use Rattle.textwrap_base.proofs.Common.{Bool, eqb, List, [], ◌∷◌, ◌++◌, length, get_or, take}
-use Rattle.textwrap_base.proofs.Common.{slice_range, max, sym, ap, Sizes, closed_width, open_width}
-use Rattle.textwrap_base.proofs.Common.{PricedSizes, last_break_penalty, line_cost, map, length-map}
-use Rattle.textwrap_base.proofs.Common.{sum_by-cons, total_width, line_costs, All, subst, take-map}
-use Rattle.textwrap_base.proofs.Common.{get_or-map, All-head, All-tail, All-map, measured}
-use Rattle.textwrap_base.proofs.Common.{AreAtMost, rules, line_width, NeverFalls, fragment_costs}
-use Rattle.std.proofs.Common.{ltb}
+use Rattle.textwrap_base.proofs.Common.{◌≡◌, ℕ, zero, suc, ◌+◌, ◌-◌, ◌*◌, ◌≤◌, false, refl, ◌∙◌}
+use Rattle.textwrap_base.proofs.Common.{add-zero, arith, cases_lt, nat_tests, fit_cost, ◌<◌, Bool}
+use Rattle.textwrap_base.proofs.Common.{eqb, List, [], ◌∷◌, ◌++◌, length, get_or, take, slice_range}
+use Rattle.textwrap_base.proofs.Common.{max, sym, ap, Sizes, closed_width, open_width, PricedSizes}
+use Rattle.textwrap_base.proofs.Common.{last_break_penalty, line_cost, map, length-map, sum_by-cons}
+use Rattle.textwrap_base.proofs.Common.{total_width, line_costs, All, subst, take-map, get_or-map}
+use Rattle.textwrap_base.proofs.Common.{All-head, All-tail, All-map, measured, AreAtMost, rules}
+use Rattle.textwrap_base.proofs.Common.{line_width, NeverFalls, fragment_costs, problem_by}
 use Rattle.textwrap_base.specs.declared.penalties.Penalties.{Penalties}
 use Rattle.textwrap_base.proofs.Division.Greedy.{open_width-append, closed_width-push}
 use Rattle.textwrap_base.proofs.Division.Greedy.{closed_width-map}
@@ -28,16 +27,12 @@ module _ (p : Penalties) (target : ℕ) where
   gap_cost closed = fit_cost p target closed false false
 
   gap_cost-under : (gap closed : ℕ) → closed + gap ≡ target → gap_cost closed ≡ gap * gap
-  gap_cost-under gap closed is =
-      let fits : ltb target closed ≡ false = grind (arith, nat_tests) in
-      let left : target - closed ≡ gap = omega arith in rw (fits, left) refl
+  gap_cost-under gap closed is = grind (arith, nat_tests)
 
   gap_cost-over : (more closed : ℕ) → closed ≡ target + more
       → gap_cost closed ≡ more * p.overflow_penalty
   gap_cost-over zero closed is = gap_cost-under 0 closed (omega arith) ∙ omega arith
-  gap_cost-over (suc more) closed is =
-      let over : ltb target closed ≡ true = grind (arith, nat_tests) in
-      let past : closed - target ≡ suc more = omega arith in rw (over, past) refl
+  gap_cost-over (suc more) closed is = grind (arith, nat_tests)
 
   -- the difference that a unit makes never falls
   gap_cost-next : (closed : ℕ)
@@ -136,15 +131,15 @@ line_cost-map priced penalties width is_last (x ∷ line) =
 
 pub line_costs-at : {X : Type 0} (priced : X → PricedSizes) (penalties : Penalties)
     (widths : List ℕ) (xs : List X) (i j number : ℕ)
-    → line_costs (λ (s : PricedSizes). s) penalties widths (map priced xs) i j number
-    ≡ line_costs priced penalties widths xs i j number
+    → line_costs (problem_by (λ (s : PricedSizes). s) penalties widths (map priced xs)) i j number
+    ≡ line_costs (problem_by priced penalties widths xs) i j number
 line_costs-at priced penalties widths xs i j number = search (length-map, drop-map, take-map, line_cost-map)
 
 -- the costs of the priced sizes are those of the fragments
 pub line_costs-map : {X : Type 0} (priced : X → PricedSizes) (penalties : Penalties)
     (widths : List ℕ) (xs : List X)
-    → line_costs (λ (s : PricedSizes). s) penalties widths (map priced xs)
-    ≡ line_costs priced penalties widths xs
+    → line_costs (problem_by (λ (s : PricedSizes). s) penalties widths (map priced xs))
+    ≡ line_costs (problem_by priced penalties widths xs)
 line_costs-map priced penalties widths xs = fun_ext (λ i. fun_ext (λ j. fun_ext
     (λ number. line_costs-at priced penalties widths xs i j number)))
 
@@ -226,14 +221,14 @@ module _ {X : Type 0} (priced : X → PricedSizes) (penalties : Penalties) (widt
 
   -- a line that does not end all fragments, by its closed width and its last fragment
   line_costs-inner : (i j number : ℕ) (d : X) → i < j → j < length xs
-      → line_costs priced penalties widths xs i j number
+      → line_costs (problem_by priced penalties widths xs) i j number
       ≡ penalties.nline_penalty + gap_cost penalties (max (line_width widths number) 1)
       (closed_width sizes (take j xs) - open_width sizes (take i xs)) +
       (priced (get_or xs (j - 1) d)).break_penalty
   line_costs-inner i j number d h l = grind (arith, nat_tests, closed_width-prefix, line_cost-slice)
 
   line_costs-convex : X → NeverFalls sizes xs
-      → AreConvex (fragment_costs priced penalties widths xs)
+      → AreConvex (fragment_costs (problem_by priced penalties widths xs))
   line_costs-convex x rising a b c d some ab bc cd within =
       let closed = closed_width sizes (take c xs) - open_width sizes (take b xs) in
       let u = open_width sizes (take b xs) - open_width sizes (take a xs) in
@@ -262,7 +257,7 @@ module _ {X : Type 0} (priced : X → PricedSizes) (penalties : Penalties) (widt
 
 pub AreConvex-rising : {X : Type 0} (priced : X → PricedSizes) (penalties : Penalties)
     (widths : List ℕ) (xs : List X) → NeverFalls (λ x. (priced x).sizes) xs
-    → AreConvex (fragment_costs priced penalties widths xs)
+    → AreConvex (fragment_costs (problem_by priced penalties widths xs))
 AreConvex-rising priced penalties widths [] rising a b c d some ab bc cd within =
     absurd (omega arith)
 AreConvex-rising priced penalties widths (x ∷ xs) rising a b c d some ab bc cd within =

@@ -2,7 +2,7 @@
 use Rattle.textwrap_base.proofs.Common.{◌≡◌, ℕ, ◌+◌, ◌-◌, ◌^◌, ◌<◌, ◌≤◌, List, length, get_or, take}
 use Rattle.textwrap_base.proofs.Common.{map, slice_range, sym, ◌∙◌, ap, arith, length-map, Sizes}
 use Rattle.textwrap_base.proofs.Common.{closed_width, open_width, PricedSizes, total_width}
-use Rattle.textwrap_base.proofs.Common.{measured, fragment_costs}
+use Rattle.textwrap_base.proofs.Common.{measured, fragment_costs, problem_by}
 use Rattle.std.proofs.Common.{sum, sum_by}
 use Rattle.std.proofs.lemmas.List.Sums.{sum-map, sum_by_more_le_part}
 use Rattle.std.proofs.lemmas.Simd.{map-map}
@@ -66,7 +66,7 @@ total_width-same = sums-same (λ s. s.width + s.whitespace + s.penalty)
 
 pub fragment_costs-map : {X : Type 0} (priced : X → PricedSizes) (penalties : Penalties)
     (widths : List ℕ) (xs : List X)
-    → fragment_costs (λ (s : PricedSizes). s) penalties widths (map priced xs)
-    ≡ fragment_costs priced penalties widths xs
+    → fragment_costs (problem_by (λ (s : PricedSizes). s) penalties widths (map priced xs))
+    ≡ fragment_costs (problem_by priced penalties widths xs)
 fragment_costs-map priced penalties widths xs =
     cc (length-map xs priced, line_costs-map priced penalties widths xs)

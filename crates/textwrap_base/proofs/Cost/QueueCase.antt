@@ -4,6 +4,7 @@ use Rattle.textwrap_base.proofs.Common.{length, take, drop, slice_range, slice_i
 use Rattle.textwrap_base.proofs.Common.{All-take, All-drop, Sizes, line_width, closed_width}
 use Rattle.textwrap_base.proofs.Common.{PricedSizes, total_width, queue_limit, SuitQueue}
 use Rattle.textwrap_base.proofs.Common.{IsQueueCase, fragment_costs, TableOverflows, rules}
+use Rattle.textwrap_base.proofs.Common.{problem_by}
 use Rattle.textwrap_base.specs.Queue.{AreSmall}
 use Rattle.textwrap_base.specs.declared.penalties.Penalties.{Penalties}
 use Rattle.textwrap_base.proofs.Division.Greedy.{closed_width-end}
@@ -29,8 +30,8 @@ closed_width-slice_le sizes xs i j h =
 
 module _ {X : Type 0} (priced : X → PricedSizes) (penalties : Penalties) (widths : List ℕ)
     (xs : List X) where
-  line_costs-small : IsQueueCase priced penalties widths xs
-      → AreSmall (fragment_costs priced penalties widths xs)
+  line_costs-small : IsQueueCase (problem_by priced penalties widths xs)
+      → AreSmall (fragment_costs (problem_by priced penalties widths xs))
   line_costs-small case i j number h l =
       let sizes : X → Sizes = λ x. (priced x).sizes in
       let closed = closed_width-slice_le sizes xs i j (omega arith) in
@@ -42,19 +43,20 @@ module _ {X : Type 0} (priced : X → PricedSizes) (penalties : Penalties) (widt
       (target-small widths number case.small_widths) (omega (arith, closed, case.small_sum)) in
       omega (arith, cost)
 
-  pub SuitQueue-queue_case : IsQueueCase priced penalties widths xs
-      → SuitQueue (fragment_costs priced penalties widths xs)
+  pub SuitQueue-queue_case : IsQueueCase (problem_by priced penalties widths xs)
+      → SuitQueue (fragment_costs (problem_by priced penalties widths xs))
   SuitQueue-queue_case case = search (rules, line_costs-steady, AreConvex-rising, line_costs-small)
 
 -- nothing of a queue case passes 128 bits
 pub queue_case-fits : {X : Type 0} (priced : X → PricedSizes) (penalties : Penalties)
-    (widths : List ℕ) (xs : List X) → IsQueueCase priced penalties widths xs
-    → ¬ TableOverflows priced penalties widths xs
+    (widths : List ℕ) (xs : List X) → IsQueueCase (problem_by priced penalties widths xs)
+    → ¬ TableOverflows (problem_by priced penalties widths xs)
 queue_case-fits priced penalties widths xs case over =
     let suits = SuitQueue-queue_case priced penalties widths xs case in
     elim over [
       | inl wide ↦ omega (arith, wide, case.small_sum)
       | inr (j, within, past) ↦
-          let small = small_entry (fragment_costs priced penalties widths xs) suits j within in
+          let small = small_entry (fragment_costs (problem_by priced penalties widths xs)) suits j
+          within in
           omega (arith, small, past)
     ]

@@ -5,7 +5,7 @@ use Rattle.textwrap_base.proofs.Common.{PricedSizes, AreNoLater, fragments_table
 use Rattle.textwrap_base.proofs.Common.{minimum_of, ◌↔◌, zero, suc, ◌≤◌, ◌≢◌, take, length-take-le}
 use Rattle.textwrap_base.proofs.Common.{All-nil, IsDivision, AreEqualFromSecond, IsLeastCost}
 use Rattle.textwrap_base.proofs.Common.{line_costs, TableOverflows, ◌^◌, ◌<◌, Result, Ok, Err}
-use Rattle.textwrap_base.proofs.Common.{IsErrAnd, total_width, Overflowed}
+use Rattle.textwrap_base.proofs.Common.{IsErrAnd, total_width, Overflowed, problem_by, Problem}
 use Rattle.std.proofs.lemmas.List.{reverse-reverse}
 use Rattle.textwrap_base.specs.Cost.{starts_from, IsChosen, Overflows}
 use Rattle.textwrap_base.specs.declared.penalties.Penalties.{Penalties}
@@ -61,8 +61,9 @@ lines_back_same lines others back same =
     ∙ reverse-reverse (starts_from 0 others)) same
 
 pub chosen_one : {X : Type 0} (priced : X → PricedSizes) (penalties : Penalties) (widths : List ℕ)
-    (xs : List X) (lines others : List (List X)) → IsChosen priced penalties widths xs lines
-    → IsChosen priced penalties widths xs others → lines ≡ others
+    (xs : List X) (lines others : List (List X))
+    → IsChosen (problem_by priced penalties widths xs) lines
+    → IsChosen (problem_by priced penalties widths xs) others → lines ≡ others
 chosen_one priced penalties widths [] lines others h k = h.division ∙ sym k.division
 chosen_one priced penalties widths (x ∷ xs) lines others h k =
     grind (arith, starts_same, lines_back_same)
@@ -81,13 +82,15 @@ follow_one (s ∷ starts) (o ∷ others) follow j (h, hs) (k, ks) (f, fs) (g, gs
     ap (λ l. s ∷ l) rest ∙ ap (λ n. n ∷ others) (sym same)
 
 pub by_table_one : {X : Type 0} (priced : X → PricedSizes) (penalties : Penalties) (widths : List ℕ)
-    (xs : List X) (lines others : List (List X)) → IsByTable priced penalties widths xs lines
-    → IsByTable priced penalties widths xs others → lines ≡ others
+    (xs : List X) (lines others : List (List X))
+    → IsByTable (problem_by priced penalties widths xs) lines
+    → IsByTable (problem_by priced penalties widths xs) others → lines ≡ others
 by_table_one priced penalties widths [] lines others h k = h.division ∙ sym k.division
 by_table_one priced penalties widths (x ∷ xs) lines others h k =
     let all = x ∷ xs in
     let n = length all in
-    let follow = map (λ (e : Entry). e.start) (fragments_table priced penalties widths all) in
+    let follow = map (λ (e : Entry). e.start)
+    (fragments_table (problem_by priced penalties widths all)) in
     let (tiles, some) = whole all lines (omega arith) h.division in
     let (other_tiles, other_some) = whole all others (omega arith) k.division in
     lines_back_same lines others
@@ -103,9 +106,12 @@ by_table_one priced penalties widths (x ∷ xs) lines others h k =
 
 module _ {X : Type 0} (priced : X → PricedSizes) (penalties : Penalties) (widths : List ℕ)
     (xs : List X) where
+  abbrev problem : Problem X
+  problem = problem_by priced penalties widths xs
+
   first-costs_nothing : cost_at priced penalties widths xs 0 ≡ 0
   first-costs_nothing = ap (λ (e : Entry). e.cost)
-      (entry-table_first (line_costs priced penalties widths xs) (length xs))
+      (entry-table_first (line_costs problem) (length xs))
 
   -- a division of the prefix costs what its entry says
   entry-reached : (j : ℕ) → j ≤ length xs → AreEqualFromSecond widths
@@ -114,7 +120,7 @@ module _ {X : Type 0} (priced : X → PricedSizes) (penalties : Penalties) (widt
   entry-reached zero l equal = ([] ∷ [], refl, sym first-costs_nothing)
   entry-reached (suc j) l equal =
       let steady = line_costs-steady priced penalties widths xs equal in
-      let (starts, h, f) = starts_to (line_costs priced penalties widths xs) (length xs)
+      let (starts, h, f) = starts_to (line_costs problem) (length xs)
       steady (suc j) l in
       let tiles = joined_after starts xs (suc j) [] l h ∙ append-nil (take (suc j) xs) in
       let some = some_after starts xs (suc j) [] l h (All-nil (λ (line : List X). line ≢ [])) in
@@ -128,36 +134,34 @@ module _ {X : Type 0} (priced : X → PricedSizes) (penalties : Penalties) (widt
   entry-least (suc j) l equal others o = grind (arith, length-take-le, division_joined, begin-least)
 
   entry-least_cost : (j : ℕ) → j ≤ length xs → AreEqualFromSecond widths
-      → IsLeastCost priced penalties widths xs j (cost_at priced penalties widths xs j)
+      → IsLeastCost problem j (cost_at priced penalties widths xs j)
   entry-least_cost j l equal =
       let (lines, division, reached) = entry-reached j l equal in search (entry-least)
 
   -- so has what is reported of it
   pub reported-least_cost : (minima : List Minimum)
-      → minima ≡ map minimum_of (fragments_table priced penalties widths xs)
-      → AreEqualFromSecond widths → (j : ℕ) → j ≤ length xs → IsLeastCost priced penalties widths xs j
-      (get_or (map (λ (m : Minimum). m.cost) minima) j 0)
-  reported-least_cost minima is equal j l =
-      rw (cost_reported (line_costs priced penalties widths xs) (length xs) minima is j l)
-      (entry-least_cost j l equal)
+      → minima ≡ map minimum_of (fragments_table problem)
+      → AreEqualFromSecond widths → (j : ℕ) → j ≤ length xs
+      → IsLeastCost problem j (get_or (map (λ (m : Minimum). m.cost) minima) j 0)
+  reported-least_cost minima is equal j l = grind (arith, cost_reported, entry-least_cost)
 
   -- an entry that passes is a prefix that passes
-  pub table-overflows : AreEqualFromSecond widths → TableOverflows priced penalties widths xs
-      → Overflows priced penalties widths xs
+  pub table-overflows : AreEqualFromSecond widths → TableOverflows problem
+      → Overflows problem
   table-overflows equal (inl wide) = inl wide
   table-overflows equal (inr (j, l, past)) =
       inr (j, l, λ others o. omega (arith, past, entry-least j l equal others o))
 
   -- a prefix that passes is an entry that passes
-  pub overflows-table : AreEqualFromSecond widths → Overflows priced penalties widths xs
-      → TableOverflows priced penalties widths xs
+  pub overflows-table : AreEqualFromSecond widths → Overflows problem
+      → TableOverflows problem
   overflows-table equal (inl wide) = inl wide
   overflows-table equal (inr (j, l, passes)) =
       let (lines, division, reached) = entry-reached j l equal in
       inr (j, l, omega (arith, passes lines division, reached))
 
   pub table_overflow-is : AreEqualFromSecond widths
-      → TableOverflows priced penalties widths xs ↔ Overflows priced penalties widths xs
+      → TableOverflows problem ↔ Overflows problem
   table_overflow-is equal = (table-overflows equal, overflows-table equal)
 
 -- ---- what a call by optimal fit returns, from what the table's call returned
@@ -168,9 +172,12 @@ passed_on A B (Overflow overflow) over = over
 
 module _ {X A : Type 0} (priced : X → PricedSizes) (penalties : Penalties) (widths : List ℕ)
     (xs : List X) (lines : A → List (List X)) where
-  pub optimal-returned : (value : A) → IsByTable priced penalties widths xs (lines value)
-      → ¬ TableOverflows priced penalties widths xs
-      → IsOptimalFitResult priced penalties widths xs lines (Ok value)
+  abbrev asked : Problem X
+  asked = problem_by priced penalties widths xs
+
+  pub optimal-returned : (value : A) → IsByTable asked (lines value)
+      → ¬ TableOverflows asked
+      → IsOptimalFitResult asked lines (Ok value)
   optimal-returned value by none = record {
     divided = search (by_table-chosen);
     overflow_only = λ equal over. absurd over;
@@ -184,10 +191,10 @@ module _ {X A : Type 0} (priced : X → PricedSizes) (penalties : Penalties) (wi
   -- the error of a call before it, passed on
   pub optimal-refused : (B : Type 0) (r : Result A WrapError) (e : WrapError)
       → IsErrAnd r (λ f. f ≡ e)
-      → (Overflowed {A = B} (Err e) → TableOverflows priced penalties widths xs)
+      → (Overflowed {A = B} (Err e) → TableOverflows asked)
       → (2 ^ 128 ≤ total_width (λ x. (priced x).sizes) xs → Overflowed {A = B} (Err e))
       → (total_width (λ x. (priced x).sizes) xs < 2 ^ 64 → ¬ Overflowed {A = B} (Err e))
-      → IsOptimalFitResult priced penalties widths xs lines r
+      → IsOptimalFitResult asked lines r
   optimal-refused B (Ok value) e is table wide narrow = absurd is
   optimal-refused B (Err f) e is table wide narrow = rw is record {
     divided = tt;
@@ -201,11 +208,9 @@ module _ {X A : Type 0} (priced : X → PricedSizes) (penalties : Penalties) (wi
   }
 
   -- two results of the same division
-  pub results-same : (r : Result A WrapError) → IsOptimalFitResult priced penalties widths xs lines r
-      → IsTheResult priced penalties widths xs lines r
-  results-same (Ok value) is (Ok other) others =
-      by_table_one priced penalties widths xs (lines value) (lines other) is.divided.by_table
-      others.divided.by_table
+  pub results-same : (r : Result A WrapError) → IsOptimalFitResult asked lines r
+      → IsTheResult asked lines r
+  results-same (Ok value) is (Ok other) others = grind (arith, by_table_one)
   results-same (Ok value) is (Err e) others = λ over. is.table_ok_only (others.table_overflow_only over)
   results-same (Err e) is (Ok other) others = λ over. others.table_ok_only (is.table_overflow_only over)
   results-same (Err e) is (Err f) others = tt

@@ -1,14 +1,15 @@
 -- The entries of the table, which are the least ones, where it overflows, and the starts of lines
 -- that it gives.
 use Rattle.textwrap_base.proofs.Common.{◌≡◌, ◌<◌, ℕ, ◌+◌, ◌≤◌, suc, ◌^◌, refl, ◌∙◌, ◌∷◌, ◌++◌, take}
-use Rattle.textwrap_base.proofs.Common.{arith, List, Some, None, Result, Sizes, subst}
-use Rattle.textwrap_base.proofs.Common.{counted, get_or_append_left, fragments_table}
-use Rattle.textwrap_base.proofs.Common.{table_steps, length, length_push, get_or_push, IsLeastBelow}
-use Rattle.textwrap_base.proofs.Common.{zero, cases_eq, IsErrAnd, AreAtMost, length-map, minimum_of}
-use Rattle.textwrap_base.proofs.Common.{Option, SomeIff, lt-ltb, le-ltb, add-one, get_or, All-take}
+use Rattle.textwrap_base.proofs.Common.{arith, List, Some, None, Result, Sizes, subst, counted}
+use Rattle.textwrap_base.proofs.Common.{get_or_append_left, fragments_table, table_steps, length}
+use Rattle.textwrap_base.proofs.Common.{length_push, get_or_push, IsLeastBelow, zero, cases_eq}
+use Rattle.textwrap_base.proofs.Common.{IsErrAnd, AreAtMost, length-map, minimum_of, Option}
+use Rattle.textwrap_base.proofs.Common.{SomeIff, lt-ltb, le-ltb, add-one, get_or, All-take}
 use Rattle.textwrap_base.proofs.Common.{first_entry, entry_from, entry_at, PricedSizes, total_width}
 use Rattle.textwrap_base.proofs.Common.{[], inl, inr, ap, ◌-◌, eqb, min, All, Ok, Err, map, sym, ⊤}
 use Rattle.textwrap_base.proofs.Common.{line_width, Overflowed, line_costs, get_or-map, AreNoLater}
+use Rattle.textwrap_base.proofs.Common.{problem_by}
 use Rattle.std.proofs.Math.Nat.{mul-le-mul}
 use Rattle.textwrap_base.specs.Table.{cheaper, cheaper_of, cheapest, table, IsBestBelow, IsTable}
 use Rattle.textwrap_base.specs.declared.minima.table.Entry.{Entry}
@@ -26,9 +27,7 @@ pub table_steps_more : (n : ℕ) → table_steps (n + 1) ≡ table_steps n + (n 
 table_steps_more n = omega arith
 
 pub table_steps_mono : (m n : ℕ) → m ≤ n → table_steps m ≤ table_steps n
-table_steps_mono m n l =
-    let after : m + 1 ≤ n + 1 = omega arith in
-    let product = mul-le-mul l after in omega (arith, product)
+table_steps_mono m n l = grind (arith, mul-le-mul)
 
 -- the count goes on
 pub counted_within : (count before after n all : ℕ) → before ≡ counted count (table_steps n)
@@ -45,9 +44,7 @@ counted_next count before after n h k = let more = table_steps_more n in omega a
 pub length-table : (cost : ℕ → ℕ → ℕ → ℕ) (n : ℕ) → length (table cost n) ≡ n + 1
 unfolding table
 length-table cost zero = refl
-length-table cost (suc n) =
-    let e = length_push (table cost n) (cheapest cost n (table cost n) (suc n)) in
-    let h = length-table cost n in omega arith
+length-table cost (suc n) = grind (arith, length-table cost n, length_push)
 
 -- an entry stays where the table goes on
 pub entry-table_more : (cost : ℕ → ℕ → ℕ → ℕ) (n j : ℕ) → j ≤ n
@@ -91,8 +88,7 @@ pub cheapest-least : (m : ℕ) (cost : ℕ → ℕ → ℕ → ℕ) (entries : L
     → IsLeastBelow cost entries end (suc m) (cheapest cost m entries end)
 cheapest-least zero cost entries end = grind arith
 cheapest-least (suc m) cost entries end =
-    rw add-one at (least_cheaper cost entries end (suc m) (cheapest cost m entries end)
-    (cheapest-least m cost entries end))
+    grind (arith, cheapest-least m cost entries end, least_cheaper)
 
 -- only one entry is the least
 pub least_one : (cost : ℕ → ℕ → ℕ → ℕ) (entries : List Entry) (end m : ℕ) (e f : Entry)
@@ -166,7 +162,8 @@ one_line cost n j l = grind (arith, table-least, entry-table_first)
 pub table-fits : {X : Type 0} (priced : X → PricedSizes) (p : Penalties) (widths : List ℕ)
     (xs : List X) → AreAtMost (2 ^ 64 - 1) p → All (λ x. (priced x).break_penalty ≤ 2 ^ 64 - 1) xs
     → ((i : ℕ) → get_or widths i 0 < 2 ^ 64) → total_width (λ x. (priced x).sizes) xs < 2 ^ 64
-    → (j : ℕ) → j ≤ length xs → (entry_at (fragments_table priced p widths xs) j).cost < 2 ^ 128
+    → (j : ℕ) → j ≤ length xs
+    → (entry_at (fragments_table (problem_by priced p widths xs)) j).cost < 2 ^ 128
 table-fits priced p widths xs h breaks k l zero b = grind (arith, entry-table_first)
 table-fits {X = X} priced p widths xs h breaks k l (suc j) b =
     let sizes : X → Sizes = λ x. (priced x).sizes in
@@ -176,7 +173,7 @@ table-fits {X = X} priced p widths xs h breaks k l (suc j) b =
     let fits = line_cost-le (2 ^ 64 - 1) priced p (line_width widths 0) (eqb (suc j) (length xs))
     (take (suc j - 0) xs) h (All-take (λ x. (priced x).break_penalty ≤ 2 ^ 64 - 1)
     (suc j - 0) xs breaks) (omega (arith, width)) (omega (arith, part, closed)) in
-    omega (arith, one_line (line_costs priced p widths xs) (length xs) j b, fits)
+    omega (arith, one_line (line_costs (problem_by priced p widths xs)) (length xs) j b, fits)
 
 -- an error that is passed on
 pub overflowed_on : {A : Type 0} (B : Type 0) (r : Result A WrapError) (e : WrapError)

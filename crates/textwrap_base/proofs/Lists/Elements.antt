@@ -102,9 +102,7 @@ pub range-within : (a n : ℕ) → All (λ p. (a ≤ p) × (p < a + n)) (range_w
 range-within a n = grind (arith, length-range_with_len, get_or-range_with_len)
 
 pub range-split : (a n m : ℕ) → range_with_len a (n + m) ≡ range_with_len a n ++ range_with_len (a + n) m
-range-split a zero m =
-    let none : zero + m ≡ m = omega arith in
-    let here : a + zero ≡ a = omega arith in rw (none, here) refl
+range-split a zero m = grind arith
 range-split a (suc n) m =
     let more : suc n + m ≡ suc (n + m) = omega arith in
     let on : (a + 1) + n ≡ a + suc n = omega arith in

@@ -67,9 +67,7 @@ abbrev pub last_but_one : List ℕ → ℕ
 last_but_one cs = slice_index cs (length cs - 2)
 
 pub last-cons : (c d : ℕ) (cs : List ℕ) → last (c ∷ d ∷ cs) ≡ last (d ∷ cs)
-last-cons c d cs =
-    let place : length (c ∷ d ∷ cs) - 1 ≡ suc (length (d ∷ cs) - 1) = omega arith in
-    ap (λ k. get_or (c ∷ d ∷ cs) k 0) place
+last-cons c d cs = grind arith
 
 pub last-push : (front : List ℕ) (c : ℕ) → last (front ++ c ∷ []) ≡ c
 last-push front c = let place : length front ≡ length (front ++ c ∷ []) - 1 =
@@ -188,9 +186,7 @@ starts_with-true ending xs rest is = (bytes_eq-Decides ending (take (length endi
 
 pub starts_with-rest : (ending xs : List ℕ) → starts_with nat_eq xs ending ≡ true
     → xs ≡ ending ++ drop (length ending) xs
-starts_with-rest ending xs starts =
-    sym (take-append-drop (length ending) xs) ∙ ap (λ l. l ++ drop (length ending) xs)
-    (sym ((bytes_eq-Decides ending (take (length ending) xs)).0 starts))
+starts_with-rest ending xs starts = grind (arith, take-append-drop, bytes_eq-Decides)
 
 pub starts_with-false : (ending xs : List ℕ) → ((rest : List ℕ) → xs ≢ ending ++ rest)
     → starts_with nat_eq xs ending ≡ false
@@ -228,16 +224,11 @@ stripped_suffix ending text front strips = strips.1.1 ∙ ap (λ l. l ++ ending)
 
 pub ends_with-true : (ending xs front : List ℕ) → xs ≡ front ++ ending
     → ends_with nat_eq xs ending ≡ true
-ends_with-true ending xs front is =
-    (bytes_eq-Decides ending (drop (length xs - length ending) xs)).1
-    (sym (end_rest xs ending front is))
+ends_with-true ending xs front is = grind (arith, bytes_eq-Decides, end_rest)
 
 pub ends_with-front : (ending xs : List ℕ) → ends_with nat_eq xs ending ≡ true
     → xs ≡ take (length xs - length ending) xs ++ ending
-ends_with-front ending xs ends =
-    let n = length xs - length ending in
-    sym (take-append-drop n xs) ∙ ap (λ l. take n xs ++ l)
-    (sym ((bytes_eq-Decides ending (drop n xs)).0 ends))
+ends_with-front ending xs ends = grind (arith, take-append-drop, bytes_eq-Decides)
 
 -- an ending that what follows a beginning has room for, and lacks
 pub ends_with-after : (front rest ending : List ℕ) → length ending ≤ length rest

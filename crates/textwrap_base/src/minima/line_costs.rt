@@ -2,7 +2,8 @@
 ghost use Rattle.std.specs.Prelude.{◌≡◌, ◌+◌, ◌<◌, ◌≤◌, map, IfOk, SomeIff};
 ghost use Rattle.std.specs.Prelude.{◌-◌, ◌^◌, All};
 ghost use Rattle.textwrap_base.specs.Minima.{LineCostsView};
-ghost use Rattle.textwrap_base.specs.Cost.{priced_by, total_width};
+ghost use Rattle.textwrap_base.specs.Cost.{priced_by, problem_by, total_width};
+ghost use Rattle.textwrap_base.specs.Problem.{problem_of};
 ghost use Rattle.textwrap_base.specs.Errors.{Fits128Bits, Passes128Bits, Overflowed};
 ghost use Rattle.textwrap_base.specs.LineCosts.{measured, AreMeasures};
 ghost use Rattle.textwrap_base.specs.Table.{fragment_costs};
@@ -79,8 +80,8 @@ impl<A: Allocator + Copy> LineCosts<A> {
         penalties: &Penalties,
     ) -> Result<LineCosts<A>, WrapError>
         ensures costs { IfOk result (λ costs. ⟦<LineCosts<A> as CostSource>⟧.costs costs
-            ≡ fragment_costs (priced_by T.sizes T.own_break_penalty penalties.now) penalties.now
-            line_widths.now fragments.now) }
+            ≡ fragment_costs
+            (problem_of T.Fragment.own penalties.now line_widths.now fragments.now)) }
         ensures count { IfOk result (λ costs. ⟦<LineCosts<A> as CostSource>⟧.steps costs ≡ 0) }
         // Each break penalty is a number of 64 bits.
         ensures break_penalties { IfOk result (λ _. All (λ x.
@@ -111,7 +112,8 @@ impl<A: Allocator + Copy> LineCosts<A> {
 }
 
 impl<A: Allocator> CostSource for LineCosts<A> {
-    ghost costs = { λ s. fragment_costs (λ priced. priced) s.penalties s.widths s.priced };
+    ghost costs = { λ s. fragment_costs
+        (problem_by (λ priced. priced) s.penalties s.widths s.priced) };
 
     ghost steps = { λ s. s.steps };
 

@@ -1,6 +1,7 @@
 //! The queue case: fragments, line widths and penalties whose line costs are convex and small.
 ghost use Rattle.std.specs.Prelude.{ℕ, ◌<◌, ◌≤◌, ◌↔◌, All, IsTrue, length, slice_index};
 ghost use Rattle.textwrap_base.specs.Cost.{priced_by, total_width, AreEqualFromSecond};
+ghost use Rattle.textwrap_base.specs.Problem.{problem_of};
 ghost use Rattle.textwrap_base.specs.Queue.{IsQueueCase, AreConvex, SuitQueue, AreAtMost, NeverFalls};
 ghost use Rattle.textwrap_base.specs.Queue.{queue_limit};
 ghost use Rattle.textwrap_base.specs.Table.{fragment_costs};
@@ -40,15 +41,14 @@ pub fn is_queue_case<T: Fragment>(
     penalties: &Penalties,
 ) -> bool
     ensures case { IsTrue result
-        ↔ IsQueueCase (priced_by T.sizes T.own_break_penalty penalties.now) penalties.now
-        line_widths.now fragments.now }
+        ↔ IsQueueCase (problem_of T.Fragment.own penalties.now line_widths.now fragments.now) }
     ensures convex { IsTrue result
-        → AreConvex (fragment_costs (priced_by T.sizes T.own_break_penalty penalties.now) penalties.now
-        line_widths.now fragments.now) }
+        → AreConvex (fragment_costs
+        (problem_of T.Fragment.own penalties.now line_widths.now fragments.now)) }
     // So their costs suit `queue_search`.
     ensures suits { IsTrue result
-        → SuitQueue (fragment_costs (priced_by T.sizes T.own_break_penalty penalties.now) penalties.now
-        line_widths.now fragments.now) }
+        → SuitQueue (fragment_costs
+        (problem_of T.Fragment.own penalties.now line_widths.now fragments.now)) }
 {
     line_widths_suit(line_widths)
         && penalties_suit(penalties)

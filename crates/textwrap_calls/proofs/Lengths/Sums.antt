@@ -1,10 +1,15 @@
--- Sums over lists, and how long texts are together and joined.
-use Rattle.textwrap_base.proofs.Common.{◌≡◌, ℕ, ◌+◌, ◌*◌, ◌≤◌, List, [], ◌∷◌, ◌++◌, length, map, ap}
-use Rattle.textwrap_base.proofs.Common.{◌∙◌, refl, arith, flat_map, length-append, sum_by, sum_by-append}
-use Rattle.textwrap_base.proofs.Common.{sum_by-cons}
+-- Sums over lists, how long texts are together and joined, and bounds that a number may not hold.
+use Rattle.textwrap_calls.proofs.Common.{◌≡◌, ℕ, ◌+◌, ◌*◌, ◌≤◌, List, [], ◌∷◌, length, map, ap, ◌∙◌}
+use Rattle.textwrap_calls.proofs.Common.{refl, arith, flat_map, length-append, sum_by}
+use Rattle.textwrap_calls.proofs.Common.{sum_by-append, sum_by-cons, zero, suc, join_with}
+use Rattle.textwrap_calls.proofs.Common.{sum_by-le-sum_by}
+use Rattle.std.proofs.Math.Nat.{mul_comm}
 use Rattle.std.proofs.lemmas.List.Folds.{fold-map}
-use Rattle.std.proofs.lemmas.List.Sums.{sum_by-le, sum_by-le-sum_by}
-use Rattle.textwrap_lines.proofs.Common.{join_with}
+use Rattle.std.proofs.lemmas.List.Sums.{sum_by-le}
+use Rattle.textwrap_base.proofs.Numbers.{either_short}
+use Rattle.textwrap_calls.specs.Bounds.{as_len, Suffices}
+
+-- ---- sums over lists, and how long texts are together and joined
 
 -- ---- sums over lists
 
@@ -29,13 +34,7 @@ module _ {X : Type 0} where
       → sum_by f xs ≤ length xs * more + sum_by g xs
   sum-each f g more each [] = omega arith
   sum-each f g more each (x ∷ xs) =
-      omega (
-        arith,
-        each x,
-        sum_by-cons f x xs,
-        sum_by-cons g x xs,
-        sum-each f g more each xs,
-      )
+      grind (arith, each, sum_by-cons, sum-each f g more each xs)
 
 -- ---- texts
 
@@ -46,9 +45,7 @@ texts_length texts = sum_by (λ t. length t) texts
 pub join-length : (ending x y : List ℕ) (xs : List (List ℕ))
     → length (join_with ending (x ∷ y ∷ xs))
     ≡ length x + length ending + length (join_with ending (y ∷ xs))
-join-length ending x y xs =
-    let joined = join_with ending (y ∷ xs) in
-    length-append (x ++ ending) joined ∙ ap (λ n. n + length joined) (length-append x ending)
+join-length ending x y xs = grind (arith, length-append)
 
 pub texts-joined : (ending x : List ℕ) (xs : List (List ℕ))
     → length (join_with ending (x ∷ xs)) ≡ texts_length (x ∷ xs) + length xs * length ending
@@ -80,3 +77,26 @@ by-columns text xs (y ∷ ys) =
       sum_by-append (λ (t : List ℕ). length t) here (flat_map (λ z. map (λ x. text x z) xs) ys),
       by-columns text xs ys,
     )
+
+-- ---- A bound that a number may not hold
+
+-- a bound that a number does not hold stays at the greatest
+pub within-limit : (needed most bound : ℕ) → needed ≤ most → bound ≡ as_len most
+    → Suffices bound needed
+within-limit needed most bound within is = grind (arith, either_short)
+
+-- ---- sums and products, step by step
+
+factor-as_len : (a x y : ℕ) → x ≡ as_len a → as_len (x * y) ≡ as_len (a * y)
+factor-as_len a x zero is = omega arith
+factor-as_len a x (suc n) is = grind arith
+
+product-as_len : (a b x y : ℕ) → x ≡ as_len a → y ≡ as_len b → as_len (x * y) ≡ as_len (a * b)
+product-as_len a b x y x_is y_is =
+    factor-as_len a x y x_is ∙ ap as_len (mul_comm a y) ∙ factor-as_len b y a y_is
+    ∙ ap as_len (mul_comm b a)
+
+pub sum-as_len : (a b c x y z product sum : ℕ) → x ≡ as_len a → y ≡ as_len b → z ≡ as_len c
+    → product ≡ as_len (x * y) → sum ≡ as_len (product + z) → sum ≡ as_len (a * b + c)
+sum-as_len a b c x y z product sum x_is y_is z_is product_is sum_is =
+    omega (arith, product-as_len a b x y x_is y_is, z_is, product_is, sum_is)

@@ -1,8 +1,8 @@
 -- The lines of least cost of pieces, found from where they stand.
 use Rattle.textwrap_base.proofs.Common.{◌≡◌, ℕ, ◌<◌, List, [], ◌∷◌, All, length, sym, ap, ◌∙◌}
 use Rattle.textwrap_base.proofs.Common.{subst, arith, Bool, IsUtf8, IsCharBoundary-start, rules}
-use Rattle.textwrap_base.proofs.Common.{PricedSizes, priced_at, SuitQueue, IsByTable}
-use Rattle.textwrap_base.proofs.Common.{fragment_costs, fragments_table}
+use Rattle.textwrap_base.proofs.Common.{PricedSizes, SuitQueue, IsByTable, fragment_costs}
+use Rattle.textwrap_base.proofs.Common.{fragments_table, problem_at, problem_by}
 use Rattle.textwrap_words.proofs.Common.{WordText, sizes_of, tiled, Splitter}
 use Rattle.textwrap_lines.proofs.Common.{cut_lines, Settings, parts_from, pieces_of_words}
 use Rattle.textwrap_lines.proofs.Common.{widths_of, first_width, later_width, HaveTexts, span_lines}
@@ -21,30 +21,27 @@ use Rattle.textwrap_lines.proofs.PlacedPieces.Lines.{AreSpans-from, priced-spans
 use Rattle.textwrap_lines.proofs.PlacedPieces.Lines.{Stand-follow, Stand-some, stand, lines-found}
 use Rattle.textwrap_lines.proofs.PlacedPieces.Lines.{length-spans}
 
-abbrev pub word_priced : Penalties → WordText → PricedSizes
-word_priced penalties w = priced_at penalties (sizes_of w)
-
 -- ---- the division of the pieces
 
 -- the pieces are divided as the places where they stand
 pub record FoundDivision (penalties : Penalties) (widths : List ℕ) (ws : List WordText)
     (lines : List (List Span)) : Type 0 where
   pub division : List (List WordText)
-  pub optimal : IsByOptimalFit (word_priced penalties) penalties widths ws division
+  pub optimal : IsByOptimalFit (problem_at penalties sizes_of widths ws) division
   pub whole : flat division ≡ ws
   pub stands : Stand 0 0 division lines
 
 module _ (penalties : Penalties) (widths : List ℕ) (ws : List WordText)
     (none : All HasNoPenalty ws) (some : 0 < length ws) where
-  tables-same : fragments_table span_priced penalties widths (spans_from 0 0 ws)
-      ≡ fragments_table (word_priced penalties) penalties widths ws
+  tables-same : fragments_table (problem_by span_priced penalties widths (spans_from 0 0 ws))
+      ≡ fragments_table (problem_at penalties sizes_of widths ws)
   tables-same =
       fragments_table-map span_priced (λ (p : PricedSizes). p) penalties widths (spans_from 0 0 ws)
-      ∙ ap (fragments_table (λ (p : PricedSizes). p) penalties widths)
+      ∙ ap (λ ps. fragments_table (problem_by (λ (p : PricedSizes). p) penalties widths ps))
       (priced-spans penalties 0 0 ws none) ∙ sym (search (rules, arith, fragments_table-map))
 
   found-division : (lines : List (List Span))
-      → IsByTable span_priced penalties widths (spans_from 0 0 ws) lines
+      → IsByTable (problem_by span_priced penalties widths (spans_from 0 0 ws)) lines
       → FoundDivision penalties widths ws lines
   found-division lines by =
       let spans = spans_from 0 0 ws in
@@ -88,7 +85,8 @@ module _ (settings : Settings) (splitter : Splitter) (is_later : Bool) (text : L
     pub record AreSearched : Type 0 where
       pub measured : AreSpans all
       pub some_spans : 0 < length all
-      pub suits : SuitQueue (fragment_costs span_priced penalties (widths_of settings is_later) all)
+      pub suits : SuitQueue (fragment_costs
+          (problem_by span_priced penalties (widths_of settings is_later) all))
 
     pub are_searched : SuitSearch (length text) (widths_of settings is_later) penalties → AreSearched
     are_searched suit =
@@ -104,14 +102,15 @@ module _ (settings : Settings) (splitter : Splitter) (is_later : Bool) (text : L
     -- the lines that the table gives
     pub record FoundLines (lines : List (List Span)) : Type 0 where
       pub division : List (List WordText)
-      pub optimal : IsByOptimalFit (word_priced penalties) penalties (widths_of settings is_later)
-          pieces division
+      pub optimal : IsByOptimalFit
+          (problem_at penalties sizes_of (widths_of settings is_later) pieces) division
       pub are_lines : span_lines settings text is_later 0 lines
           ≡ cut_lines 0 (parts_from settings is_later division)
       pub texts : HaveTexts text 0 lines
 
     pub found-lines : (lines : List (List Span))
-        → IsByTable span_priced penalties (widths_of settings is_later) all lines → FoundLines lines
+        → IsByTable (problem_by span_priced penalties (widths_of settings is_later) all) lines
+        → FoundLines lines
     found-lines lines by =
         let found = found-division penalties (widths_of settings is_later) pieces none
         (tiled-some pieces text tile some) lines (rw are at by) in

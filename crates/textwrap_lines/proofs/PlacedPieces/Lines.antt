@@ -7,6 +7,7 @@ use Rattle.textwrap_base.proofs.Common.{All-nil, All-cons, All-head, All-tail, F
 use Rattle.textwrap_base.proofs.Common.{◌<◌, map, take-take, priced_at, AreEqualFromSecond}
 use Rattle.textwrap_base.proofs.Common.{IsQueueCase, NeverFalls, IsUtf8, IsCharBoundary, drop_at}
 use Rattle.textwrap_base.proofs.Common.{drop-drop, Bool, true, cond, slice_range, IsUtf8-drop}
+use Rattle.textwrap_base.proofs.Common.{problem_by}
 use Rattle.textwrap_words.proofs.Common.{WordText, sizes_of, tile_of, tiled}
 use Rattle.textwrap_lines.proofs.Common.{spans_from, Span, span_priced, Penalties, AreSpans}
 use Rattle.textwrap_lines.proofs.Common.{covered, last_span, cut_line, cut_lines, Settings}
@@ -206,7 +207,7 @@ two-equal first later (suc (suc k)) from within = absurd (omega (arith, within))
 -- the numbers are small enough for the search
 pub spans-case : (text : List ℕ) (penalties : Penalties) (first later : ℕ) (ws : List WordText)
     → tiled ws ≡ text → All IsNarrowWord ws → SuitSearch (length text) (first ∷ later ∷ []) penalties
-    → IsQueueCase span_priced penalties (first ∷ later ∷ []) (spans_from 0 0 ws)
+    → IsQueueCase (problem_by span_priced penalties (first ∷ later ∷ []) (spans_from 0 0 ws))
 spans-case text penalties first later ws tile bounded suit =
     let spans = spans_from 0 0 ws in
     let total = total_width-same span_sizes sizes_of spans ws
@@ -222,7 +223,8 @@ spans-case text penalties first later ws tile bounded suit =
     }
 
 pub AreSpans-from : (penalties : Penalties) (widths : List ℕ) (ws : List WordText)
-    → IsQueueCase span_priced penalties widths (spans_from 0 0 ws) → AreSpans (spans_from 0 0 ws)
+    → IsQueueCase (problem_by span_priced penalties widths (spans_from 0 0 ws))
+    → AreSpans (spans_from 0 0 ws)
 AreSpans-from penalties widths ws case = grind (arith, spans-open)
 
 -- ---- where the last piece of a line ends

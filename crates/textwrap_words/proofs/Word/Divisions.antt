@@ -77,7 +77,11 @@ module _ {F : Type 0} {f : _} where
       (widths : List ℕ) (xs : List X) (lines : List (List X))
       → MayDivide algorithm view widths xs lines → Begins xs (flat lines)
   MayDivide-begins FirstFit view widths xs lines divided = grind (arith, append-nil)
-  MayDivide-begins (OptimalFit penalties) view widths xs lines divided = grind (arith, append-nil)
+  MayDivide-begins (OptimalFit penalties) view widths xs lines divided = (
+    [],
+    append-nil (flat lines)
+        ∙ IsDividedBy-whole (λ x. sizes_of (view x)) (LeastCost penalties) widths xs lines divided,
+  )
   MayDivide-begins (Custom given) view widths xs lines (ends, may, is) =
       subst (λ ls. Begins xs (flat ls)) (sym is)
       (lines_from-begin xs 0 ends (MayEnd-ends given view xs widths ends may).in_order

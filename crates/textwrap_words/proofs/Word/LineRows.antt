@@ -1,14 +1,13 @@
 -- Worked rows on what the lines of texts cost.
-use Rattle.textwrap_base.proofs.Common.{◌≡◌, ℕ, List, [], ◌∷◌, length, map, refl, codes, priced_at}
-use Rattle.textwrap_base.proofs.Common.{division_cost, default_penalties}
+use Rattle.textwrap_base.proofs.Common.{◌≡◌, ℕ, List, [], ◌∷◌, map, refl, codes, division_cost}
+use Rattle.textwrap_base.proofs.Common.{default_penalties, problem_at}
 use Rattle.textwrap_words.proofs.Common.{sizes_of, words_of}
 use Rattle.std.specs.Str.{chars}
 use Rattle.unicode_width.specs.Width.{char_width}
 
 abbrev words_at : List ℕ → List ℕ → List (List ℕ) → ℕ
 words_at widths text lines =
-    division_cost (λ w. priced_at default_penalties (sizes_of w)) default_penalties widths
-    (length (words_of text)) (map words_of lines)
+    division_cost (problem_at default_penalties sizes_of widths (words_of text)) (map words_of lines)
 
 cost-first_fit : words_at (10 ∷ []) (codes "To be, or not to be: that is the question")
     (codes "To be, or " ∷ codes "not to be: " ∷ codes "that is " ∷ codes "the " ∷ codes "question" ∷

@@ -1,6 +1,6 @@
 use Rattle.textwrap_base.proofs.minima.table_minima.Goals as goal
 use Rattle.textwrap_base.proofs.Common.{Vec, arith, ◌∙◌, ap, subst, map, ℕ, ◌≤◌, ◌^◌, priced_by}
-use Rattle.textwrap_base.proofs.Common.{Costs, entry_at, minimum_of, fragment_costs}
+use Rattle.textwrap_base.proofs.Common.{Costs, entry_at, minimum_of}
 use Rattle.textwrap_base.specs.Table.{table}
 use Rattle.textwrap_base.specs.declared.minima.table.Entry.{Entry}
 use Rattle.textwrap_base.proofs.Cost.Results.{reported-least_cost}
@@ -23,9 +23,7 @@ returns-in_err-entries-clause-no_overflow g c =
 
 pub returns-clause-entries : goal.returns-clause-entries
 returns-clause-entries g c =
-    let lines = c.in_ok-costs.ensures.costs
-    ∙ ap (λ p. fragment_costs (priced_by g.T.Fragment.sizes g.T.Fragment.own_break_penalty p) p c.args.line_widths.now
-    c.args.fragments.now) c.in_range-penalties.ensures.same in
+    let lines = rw c.in_range-penalties.ensures.same at c.in_ok-costs.ensures.costs in
     c.in_ok-minima_of.ensures
     ∙ ap (map minimum_of) (c.deref.ensures.value ∙ c.in_ok-entries.ensures.entries
     ∙ ap (λ (l : Costs). table l.cost l.ends) lines)

@@ -1,8 +1,8 @@
+use Rattle.textwrap_calls.proofs.Common.{settings_of}
 use Rattle.std.proofs.Common.{arith, rules}
-use Rattle.textwrap_calls.specs.Options.{settings_of}
+use Rattle.textwrap_calls.proofs.Lengths.Bounds.{filled-bounded}
+use Rattle.textwrap_calls.proofs.Lengths.Sums.{within-limit}
 use Rattle.textwrap_calls.proofs.bounds.textwrap_fill_bound.Goals as goal
-use Rattle.textwrap_calls.proofs.Lengths.Filled.{filled-bounded}
-use Rattle.textwrap_calls.proofs.Lengths.Limit.{within-limit}
 
 pub returns-clause-enough : goal.returns-clause-enough
 returns-clause-enough c =

@@ -1,6 +1,6 @@
 use Rattle.textwrap_calls.proofs.bounds.textwrap_wrap_columns_room_bound.Goals as goal
-use Rattle.textwrap_calls.proofs.Lengths.Limit.{sum-as_len, within-limit}
-use Rattle.textwrap_calls.proofs.Lengths.Rows.{room-within}
+use Rattle.textwrap_calls.proofs.Lengths.Sums.{sum-as_len, within-limit}
+use Rattle.textwrap_calls.proofs.Lengths.Bounds.{room-within}
 
 pub returns-clause-value : goal.returns-clause-value
 returns-clause-value c =

@@ -1,7 +1,7 @@
 use Rattle.std.proofs.Common.{arith, rules}
+use Rattle.textwrap_calls.proofs.Lengths.Sums.{within-limit}
+use Rattle.textwrap_calls.proofs.Lengths.Bounds.{rows-within}
 use Rattle.textwrap_calls.proofs.bounds.textwrap_wrap_columns_rows_bound.Goals as goal
-use Rattle.textwrap_calls.proofs.Lengths.Limit.{within-limit}
-use Rattle.textwrap_calls.proofs.Lengths.Rows.{rows-within}
 
 pub returns-clause-enough : goal.returns-clause-enough
 returns-clause-enough c = λ some o gaps text utf8 len_is rows are.

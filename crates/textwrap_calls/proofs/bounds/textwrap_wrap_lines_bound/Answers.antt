@@ -1,7 +1,7 @@
-use Rattle.textwrap_calls.specs.Options.{settings_of}
+use Rattle.textwrap_calls.proofs.Common.{settings_of}
+use Rattle.textwrap_calls.proofs.Lengths.Bounds.{lines-bounded}
+use Rattle.textwrap_calls.proofs.Lengths.Sums.{within-limit}
 use Rattle.textwrap_calls.proofs.bounds.textwrap_wrap_lines_bound.Goals as goal
-use Rattle.textwrap_calls.proofs.Lengths.Bounded.{lines-bounded}
-use Rattle.textwrap_calls.proofs.Lengths.Limit.{within-limit}
 
 pub returns-clause-enough : goal.returns-clause-enough
 returns-clause-enough c = λ o text utf8 len_is lines places are.

@@ -1,8 +1,8 @@
+use Rattle.textwrap_calls.proofs.Common.{settings_of}
 use Rattle.std.proofs.Common.{arith, rules}
-use Rattle.textwrap_calls.specs.Options.{settings_of}
+use Rattle.textwrap_calls.proofs.Lengths.Bounds.{lines-bounded}
+use Rattle.textwrap_calls.proofs.Lengths.Sums.{within-limit}
 use Rattle.textwrap_calls.proofs.bounds.textwrap_wrap_room_bound.Goals as goal
-use Rattle.textwrap_calls.proofs.Lengths.Bounded.{lines-bounded}
-use Rattle.textwrap_calls.proofs.Lengths.Limit.{within-limit}
 
 pub returns-then-is_empty-2-clause-enough : goal.returns-then-is_empty-2-clause-enough
 returns-then-is_empty-2-clause-enough c =

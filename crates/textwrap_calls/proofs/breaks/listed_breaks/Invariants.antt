@@ -1,5 +1,5 @@
 use Rattle.textwrap_calls.proofs.breaks.listed_breaks.Given as goal
-use Rattle.textwrap_base.proofs.Common.{◌≡◌, ◌++◌, map}
+use Rattle.textwrap_calls.proofs.Common.{◌≡◌, ◌++◌, map}
 use Rattle.textwrap_calls.specs.Breaks.{break_place, break_places}
 
 -- the places so far and those to come are all places

@@ -1,10 +1,7 @@
 use Rattle.textwrap_calls.proofs.columns.place_lines.Goals as goal
-use Rattle.std.specs.Prelude.{IfOk}
-use Rattle.textwrap_base.proofs.Common.{◌≡◌, ap, subst, ◌∙◌}
-use Rattle.textwrap.specs.Columns.{layout_view, table_rows}
-use Rattle.textwrap_display.specs.Shortening.{texts_of}
-use Rattle.textwrap_calls.specs.Columns.{ArePlacedRows}
-use Rattle.textwrap_calls.specs.Texts.{bytes_of}
+use Rattle.textwrap_calls.proofs.Common.{IfOk, ◌≡◌, ap, subst, ◌∙◌, table_rows, texts_of}
+use Rattle.textwrap_calls.proofs.Common.{ArePlacedRows, bytes_of}
+use Rattle.textwrap.specs.Columns.{layout_view}
 
 pub returns : goal.returns
 returns c =

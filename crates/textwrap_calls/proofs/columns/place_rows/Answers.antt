@@ -1,8 +1,7 @@
 use Rattle.textwrap_calls.proofs.columns.place_rows.Goals as goal
-use Rattle.textwrap_base.proofs.Common.{◌∷◌, ◌++◌, [], ap, ◌∙◌, map, sym, subst, map_push}
-use Rattle.textwrap_base.proofs.Common.{string_bytes}
-use Rattle.textwrap_calls.specs.Columns.{ArePlacedRows}
-use Rattle.textwrap_calls.proofs.RowLemmas.{ArePlacedRows-push}
+use Rattle.textwrap_calls.proofs.Common.{◌∷◌, ◌++◌, [], ap, ◌∙◌, map, sym, subst, map_push}
+use Rattle.textwrap_calls.proofs.Common.{string_bytes, ArePlacedRows}
+use Rattle.textwrap_calls.proofs.PlaceLemmas.{ArePlacedRows-push}
 
 pub loop-row-preserved : goal.loop-row-preserved
 loop-row-preserved c =

@@ -1,6 +1,5 @@
 use Rattle.textwrap_calls.proofs.columns.place_rows.Given as goal
-use Rattle.textwrap_base.proofs.Common.{map, string_bytes}
-use Rattle.textwrap_calls.specs.Columns.{ArePlacedRows}
+use Rattle.textwrap_calls.proofs.Common.{map, string_bytes, ArePlacedRows}
 
 -- the rows so far are placed
 abbrev pub invariant-loop-row : goal.invariant-loop-row

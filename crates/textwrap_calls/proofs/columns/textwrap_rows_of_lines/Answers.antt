@@ -1,11 +1,9 @@
 use Rattle.textwrap_calls.proofs.columns.textwrap_rows_of_lines.Goals as goal
-use Rattle.textwrap_base.proofs.Common.{[], map, refl, subst}
-use Rattle.textwrap.proofs.Common.{Built, layout_of}
-use Rattle.textwrap.specs.Columns.{table_rows}
-use Rattle.textwrap_calls.specs.Columns.{ArePlacedRows}
-use Rattle.textwrap_calls.specs.Texts.{bytes_of}
-use Rattle.textwrap_calls.proofs.LineLemmas.{WritesLines-reported}
-use Rattle.textwrap_calls.proofs.RowLemmas.{rows-shown}
+use Rattle.textwrap_calls.proofs.Common.{[], map, refl, subst, Built, table_rows, ArePlacedRows}
+use Rattle.textwrap_calls.proofs.Common.{bytes_of}
+use Rattle.textwrap.proofs.Common.{layout_of}
+use Rattle.textwrap_calls.proofs.RoomLemmas.{WritesLines-reported}
+use Rattle.textwrap_calls.proofs.PlaceLemmas.{rows-shown}
 
 pub returns-in-Ok-clause-rows : goal.returns-in-Ok-clause-rows
 returns-in-Ok-clause-rows c =

@@ -1,10 +1,8 @@
 use Rattle.textwrap_calls.proofs.columns.textwrap_wrap_columns.Goals as goal
-use Rattle.textwrap_base.proofs.Common.{map, refl, string_bytes}
-use Rattle.textwrap.proofs.Common.{Built}
-use Rattle.textwrap.specs.Columns.{IsInColumns}
-use Rattle.textwrap_calls.proofs.LineLemmas.{WritesLines-reported}
+use Rattle.textwrap_calls.proofs.Common.{map, refl, string_bytes, Built, IsInColumns}
+use Rattle.textwrap_calls.proofs.RoomLemmas.{WritesLines-reported}
 use Rattle.textwrap_calls.proofs.ReadOptions.{as-read}
-use Rattle.textwrap_calls.proofs.RowLemmas.{rows-shown}
+use Rattle.textwrap_calls.proofs.PlaceLemmas.{rows-shown}
 
 pub returns-clause-columns : goal.returns-clause-columns
 returns-clause-columns c =

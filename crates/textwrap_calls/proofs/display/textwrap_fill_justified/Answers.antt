@@ -1,5 +1,5 @@
 use Rattle.textwrap_calls.proofs.display.textwrap_fill_justified.Goals as goal
-use Rattle.textwrap_base.proofs.Common.{string_bytes}
+use Rattle.textwrap_calls.proofs.Common.{string_bytes}
 use Rattle.textwrap_display.specs.JustifiedText.{IsJustifiedText}
 use Rattle.textwrap_calls.proofs.ReadOptions.{as-read}
 use Rattle.textwrap_calls.proofs.RoomLemmas.{WritesText-answer}

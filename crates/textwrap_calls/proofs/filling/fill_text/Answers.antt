@@ -1,7 +1,6 @@
 use Rattle.textwrap_calls.proofs.filling.fill_text.Goals as goal
-use Rattle.textwrap_base.proofs.Common.{◌≡◌, ◌<◌, ◌↔◌, ◌∙◌, arith, length, rules}
-use Rattle.textwrap_lines.proofs.Common.{IsFilled}
-use Rattle.textwrap_calls.specs.Status.{too_small}
+use Rattle.textwrap_calls.proofs.Common.{◌≡◌, ◌<◌, ◌↔◌, ◌∙◌, arith, length, rules, IsFilled}
+use Rattle.textwrap_calls.proofs.Common.{too_small}
 use Rattle.textwrap_calls.proofs.ReadOptions.{as-read}
 use Rattle.textwrap_calls.proofs.RoomLemmas.{short-reported}
 

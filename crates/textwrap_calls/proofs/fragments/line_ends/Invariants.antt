@@ -1,7 +1,6 @@
 use Rattle.textwrap_calls.proofs.fragments.line_ends.Given as goal
-use Rattle.textwrap_base.proofs.Common.{◌≡◌, ◌+◌, ◌++◌, drop, length, map}
-use Rattle.textwrap_base.proofs.Lists.Parts.{flat}
-use Rattle.textwrap_calls.specs.Fragments.{ends_from, ends_of}
+use Rattle.textwrap_calls.proofs.Common.{◌≡◌, ◌+◌, ◌++◌, drop, length, map, flat, ends_from}
+use Rattle.textwrap_calls.proofs.Common.{ends_of}
 
 -- the ends so far, and those of the lines that follow, are those of all lines; these have no more
 -- fragments than there are

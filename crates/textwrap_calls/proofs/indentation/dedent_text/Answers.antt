@@ -1,7 +1,6 @@
 use Rattle.textwrap_calls.proofs.indentation.dedent_text.Goals as goal
-use Rattle.textwrap_base.proofs.Common.{arith, length, rules}
-use Rattle.textwrap.specs.Indentation.{dedented}
-use Rattle.textwrap_calls.proofs.Lengths.Dedented.{dedented-length}
+use Rattle.textwrap_calls.proofs.Common.{arith, length, rules, dedented}
+use Rattle.textwrap_calls.proofs.Lengths.Texts.{dedented-length}
 use Rattle.textwrap_calls.proofs.RoomLemmas.{written-exactly}
 
 pub returns-clause-dedented : goal.returns-clause-dedented

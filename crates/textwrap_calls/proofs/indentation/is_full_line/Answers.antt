@@ -1,5 +1,5 @@
 use Rattle.textwrap_calls.proofs.indentation.is_full_line.Goals as goal
-use Rattle.textwrap_base.proofs.Common.{◌∙◌, eqb-false, length, sym}
+use Rattle.textwrap_calls.proofs.Common.{◌∙◌, eqb-false, length, sym}
 use Rattle.textwrap_calls.proofs.PrintableLines.{indented-line, printable-utf8}
 
 pub returns-then-text-ne32-clause-utf8 : goal.returns-then-text-ne32-clause-utf8

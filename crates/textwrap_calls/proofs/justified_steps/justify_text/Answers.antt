@@ -1,11 +1,11 @@
 use Rattle.textwrap_calls.proofs.justified_steps.justify_text.Goals as goal
-use Rattle.textwrap_base.proofs.Common.{◌+◌, ◌<◌, ◌∷◌, arith, drop, drop_more, inl, inr, length, length-drop}
-use Rattle.textwrap_base.proofs.Common.{◌++◌, ap, map, refl, string_bytes, subst, ◌∙◌}
-use Rattle.textwrap_display.specs.JustifiedText.{joined_on, justified_after_indents}
-use Rattle.textwrap_lines.proofs.Common.{ending_bytes, line_view, Settings, settings_view}
-use Rattle.textwrap_lines.proofs.Text.Lines.{paragraphs_left, paragraphs_left-split}
-use Rattle.textwrap_calls.proofs.JustifiedStepLemmas.{IsJustifiedTo, justified-end, justified-many}
-use Rattle.textwrap_calls.proofs.JustifiedStepLemmas.{justified-more, justified-start, justified-wrong}
+use Rattle.textwrap_calls.proofs.Common.{◌+◌, ◌<◌, ◌∷◌, arith, drop, drop_more, inl, inr, length}
+use Rattle.textwrap_calls.proofs.Common.{length-drop, ◌++◌, ap, map, refl, string_bytes, subst, ◌∙◌}
+use Rattle.textwrap_calls.proofs.Common.{joined_on, justified_after_indents, ending_bytes}
+use Rattle.textwrap_calls.proofs.Common.{line_view, Settings, settings_view, paragraphs_left}
+use Rattle.textwrap_calls.proofs.Common.{paragraphs_left-split}
+use Rattle.textwrap_calls.proofs.TextStepLemmas.{IsJustifiedTo, justified-end, justified-many}
+use Rattle.textwrap_calls.proofs.TextStepLemmas.{justified-more, justified-start, justified-wrong}
 
 pub loop-rest-init : goal.loop-rest-init
 loop-rest-init g c = record {

@@ -1,8 +1,7 @@
 use Rattle.textwrap_calls.proofs.justified_steps.justify_text.Given as goal
-use Rattle.textwrap_base.proofs.Common.{◌≤◌, drop, length, string_bytes}
-use Rattle.textwrap_lines.proofs.Common.{settings_view}
-use Rattle.textwrap_lines.proofs.Text.Lines.{bytes_left, paragraphs_left}
-use Rattle.textwrap_calls.proofs.JustifiedStepLemmas.{IsJustifiedTo}
+use Rattle.textwrap_calls.proofs.Common.{◌≤◌, drop, length, string_bytes, settings_view, bytes_left}
+use Rattle.textwrap_calls.proofs.Common.{paragraphs_left}
+use Rattle.textwrap_calls.proofs.TextStepLemmas.{IsJustifiedTo}
 
 abbrev pub invariant-loop-rest : goal.invariant-loop-rest
 invariant-loop-rest g l = record {

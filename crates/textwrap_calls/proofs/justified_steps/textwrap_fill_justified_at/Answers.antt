@@ -1,7 +1,5 @@
 use Rattle.textwrap_calls.proofs.justified_steps.textwrap_fill_justified_at.Goals as goal
-use Rattle.textwrap_base.proofs.Common.{ap, ◌≡◌, ◌∙◌}
-use Rattle.textwrap_calls.specs.JustifiedSteps.{justified_at}
-use Rattle.textwrap_calls.specs.Options.{settings_of}
+use Rattle.textwrap_calls.proofs.Common.{ap, ◌≡◌, ◌∙◌, justified_at, settings_of}
 use Rattle.textwrap_calls.proofs.RoomLemmas.{WritesText-answer}
 
 pub returns-in-Ok-justify_text-clause-filled : goal.returns-in-Ok-justify_text-clause-filled

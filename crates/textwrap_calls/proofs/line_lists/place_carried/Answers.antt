@@ -1,11 +1,7 @@
 use Rattle.textwrap_calls.proofs.line_lists.place_carried.Goals as goal
-use Rattle.std.specs.Prelude.{IfOk}
-use Rattle.textwrap_base.proofs.Common.{◌≡◌, [], ap, map, subst, ◌∙◌}
+use Rattle.textwrap_calls.proofs.Common.{IfOk, ◌≡◌, [], ap, map, subst, ◌∙◌, texts_of}
+use Rattle.textwrap_calls.proofs.Common.{carried_lines, ArePlacedRows, bytes_of}
 use Rattle.textwrap_lines.specs.Paragraph.{line_bytes}
-use Rattle.textwrap_display.specs.Shortening.{texts_of}
-use Rattle.textwrap_display.specs.Styles.{carried_lines}
-use Rattle.textwrap_calls.specs.Columns.{ArePlacedRows}
-use Rattle.textwrap_calls.specs.Texts.{bytes_of}
 
 pub returns : goal.returns
 returns g c =

@@ -1,10 +1,8 @@
 use Rattle.textwrap_calls.proofs.line_lists.place_shortened.Goals as goal
+use Rattle.textwrap_calls.proofs.Common.{ap, map, ◌∙◌, texts_of, bytes_of}
 use Rattle.std.proofs.lemmas.Result.{IfOk-weaker}
-use Rattle.textwrap_base.proofs.Common.{ap, map, ◌∙◌}
 use Rattle.textwrap_lines.specs.Paragraph.{line_view}
-use Rattle.textwrap_display.specs.Shortening.{texts_of}
-use Rattle.textwrap_calls.specs.Texts.{bytes_of}
-use Rattle.textwrap_calls.proofs.LineListLemmas.{lines-short}
+use Rattle.textwrap_calls.proofs.TextLemmas.{lines-short}
 
 pub returns : goal.returns
 returns c =

@@ -1,14 +1,10 @@
 use Rattle.textwrap_calls.proofs.line_lists.textwrap_carry_styles.Goals as goal
-use Rattle.textwrap_base.proofs.Common.{ℕ, List, [], map, refl, ap, subst, ◌∙◌}
-use Rattle.textwrap.proofs.Common.{Built}
+use Rattle.textwrap_calls.proofs.Common.{ℕ, List, [], map, refl, ap, subst, ◌∙◌, Built}
+use Rattle.textwrap_calls.proofs.Common.{carried_lines, ArePlacedRows, settings_of, bytes_of}
 use Rattle.textwrap.specs.Paragraph.{line_bytes}
-use Rattle.textwrap_display.specs.Styles.{carried_lines}
 use Rattle.textwrap_lines.specs.Options.{Settings}
-use Rattle.textwrap_calls.specs.Columns.{ArePlacedRows}
-use Rattle.textwrap_calls.specs.Options.{settings_of}
-use Rattle.textwrap_calls.specs.Texts.{bytes_of}
-use Rattle.textwrap_calls.proofs.LineLemmas.{WritesLines-reported}
-use Rattle.textwrap_calls.proofs.RowLemmas.{rows-shown}
+use Rattle.textwrap_calls.proofs.RoomLemmas.{WritesLines-reported}
+use Rattle.textwrap_calls.proofs.PlaceLemmas.{rows-shown}
 
 pub returns-in-Ok-place_carried-clause-carried : goal.returns-in-Ok-place_carried-clause-carried
 returns-in-Ok-place_carried-clause-carried c =

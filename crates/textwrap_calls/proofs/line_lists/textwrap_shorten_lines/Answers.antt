@@ -1,8 +1,7 @@
 use Rattle.textwrap_calls.proofs.line_lists.textwrap_shorten_lines.Goals as goal
-use Rattle.textwrap_base.proofs.Common.{[], map, refl}
-use Rattle.textwrap.proofs.Common.{Built}
-use Rattle.textwrap_calls.proofs.LineLemmas.{WritesLines-reported}
-use Rattle.textwrap_calls.proofs.RowLemmas.{rows-shown}
+use Rattle.textwrap_calls.proofs.Common.{[], map, refl, Built}
+use Rattle.textwrap_calls.proofs.RoomLemmas.{WritesLines-reported}
+use Rattle.textwrap_calls.proofs.PlaceLemmas.{rows-shown}
 
 pub returns-in-Ok-place_shortened-clause-short : goal.returns-in-Ok-place_shortened-clause-short
 returns-in-Ok-place_shortened-clause-short c =

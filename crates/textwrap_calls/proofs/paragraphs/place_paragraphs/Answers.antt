@@ -1,7 +1,7 @@
 use Rattle.textwrap_calls.proofs.paragraphs.place_paragraphs.Goals as goal
-use Rattle.textwrap_base.proofs.Common.{◌+◌, ap, length, append-nil, ◌∙◌, subst, sym}
-use Rattle.textwrap_lines.proofs.Text.Lines.{paragraphs_left, paragraphs_left-split}
-use Rattle.textwrap_calls.proofs.ParagraphLemmas.{HasPlaced, HasPlaced-more, HasPlaced-start}
+use Rattle.textwrap_calls.proofs.Common.{◌+◌, ap, length, append-nil, ◌∙◌, subst, sym}
+use Rattle.textwrap_calls.proofs.Common.{paragraphs_left, paragraphs_left-split}
+use Rattle.textwrap_calls.proofs.PieceLemmas.{HasPlaced, HasPlaced-more, HasPlaced-start}
 
 pub loop-rest-init : goal.loop-rest-init
 loop-rest-init c =

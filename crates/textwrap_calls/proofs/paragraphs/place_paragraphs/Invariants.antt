@@ -1,6 +1,6 @@
 use Rattle.textwrap_calls.proofs.paragraphs.place_paragraphs.Given as goal
-use Rattle.textwrap_lines.proofs.Text.Lines.{bytes_left, paragraphs_left}
-use Rattle.textwrap_calls.proofs.ParagraphLemmas.{HasPlaced}
+use Rattle.textwrap_calls.proofs.Common.{bytes_left, paragraphs_left}
+use Rattle.textwrap_calls.proofs.PieceLemmas.{HasPlaced}
 
 abbrev pub invariant-loop-rest : goal.invariant-loop-rest
 invariant-loop-rest l = HasPlaced l.line_ending l.text l.places.items l.offset

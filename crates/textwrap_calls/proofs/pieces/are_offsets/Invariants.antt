@@ -1,12 +1,7 @@
 use Rattle.textwrap_calls.proofs.pieces.are_offsets.Given as goal
-use Rattle.textwrap_base.proofs.Common.{◌≡◌, ◌+◌, length}
-use Rattle.std.specs.Str.{chars}
-use Rattle.textwrap_words.proofs.Common.{stripped}
-use Rattle.textwrap_words.specs.Characters.{shown, shown_text}
-use Rattle.textwrap_words.specs.CharactersLeft.{characters_left}
-use Rattle.textwrap_words.specs.Units.{visible}
-use Rattle.textwrap_calls.specs.Pieces.{offsets_past}
-use Rattle.textwrap_calls.proofs.Offsets.Passed.{left_after}
+use Rattle.textwrap_calls.proofs.Common.{◌≡◌, ◌+◌, length, chars, stripped, shown, shown_text}
+use Rattle.textwrap_calls.proofs.Common.{characters_left, visible, offsets_past}
+use Rattle.textwrap_calls.proofs.OffsetLemmas.{left_after}
 
 -- the bytes that are shown so far and those ahead are all, and the offsets that are left are those
 -- that the characters ahead have still to pass

@@ -1,5 +1,5 @@
 use Rattle.textwrap_calls.proofs.pieces.broken_apart.Goals as goal
-use Rattle.textwrap_base.proofs.Common.{rules}
+use Rattle.textwrap_calls.proofs.Common.{rules}
 use Rattle.textwrap_calls.proofs.PieceLemmas.{tiled-broken_text}
 
 pub place_words-requires : goal.place_words-requires

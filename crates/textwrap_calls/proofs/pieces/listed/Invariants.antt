@@ -1,6 +1,6 @@
 use Rattle.textwrap_calls.proofs.pieces.listed.Given as goal
-use Rattle.textwrap_base.proofs.Common.{◌≡◌, ◌++◌, map}
-use Rattle.textwrap_words.proofs.Common.{pieces_left, word_view}
+use Rattle.textwrap_calls.proofs.Common.{◌≡◌, ◌++◌, map, word_view}
+use Rattle.textwrap_words.proofs.Common.{pieces_left}
 
 -- the list so far, and the pieces that are left, are all pieces
 abbrev pub invariant-loop-piece : goal.invariant-loop-piece

@@ -1,7 +1,5 @@
 use Rattle.textwrap_calls.proofs.pieces.placed_pieces.Given as goal
-use Rattle.textwrap_lines.proofs.Common.{pieces_of, settings_view}
-use Rattle.textwrap_words.proofs.Common.{as_splitter}
-use Rattle.textwrap_words.specs.PiecesLeft.{standing_left}
+use Rattle.textwrap_calls.proofs.Common.{pieces_of, settings_view, as_splitter, standing_left}
 use Rattle.textwrap_calls.proofs.PieceLemmas.{HasLeft}
 
 -- the places so far and those of the pieces that are left are those of all pieces

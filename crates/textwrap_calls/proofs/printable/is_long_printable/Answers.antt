@@ -1,7 +1,6 @@
 use Rattle.textwrap_calls.proofs.printable.is_long_printable.Goals as goal
-use Rattle.textwrap_base.proofs.Common.{◌+◌, ◌-◌, ◌≤◌, All-from_get_or, arith, cases_lt, inl, inr}
-use Rattle.textwrap_base.proofs.Common.{length}
-use Rattle.textwrap_words.proofs.Common.{IsPrintableByte}
+use Rattle.textwrap_calls.proofs.Common.{◌+◌, ◌-◌, ◌≤◌, All-from_get_or, arith, cases_lt, inl, inr}
+use Rattle.textwrap_calls.proofs.Common.{length, IsPrintableByte}
 use Rattle.textwrap_calls.proofs.PrintableLines.{byte-in, printable-slice}
 
 pub loop-end-preserved : goal.loop-end-preserved

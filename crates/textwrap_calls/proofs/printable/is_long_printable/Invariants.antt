@@ -1,6 +1,5 @@
 use Rattle.textwrap_calls.proofs.printable.is_long_printable.Given as goal
-use Rattle.textwrap_base.proofs.Common.{ℕ, ◌-◌, ◌≤◌, ◌<◌, length, slice_index}
-use Rattle.textwrap_words.proofs.Common.{IsPrintableByte}
+use Rattle.textwrap_calls.proofs.Common.{ℕ, ◌-◌, ◌≤◌, ◌<◌, length, slice_index, IsPrintableByte}
 
 -- the blocks so far are printable
 abbrev pub invariant-loop-end : goal.invariant-loop-end

@@ -1,5 +1,5 @@
 use Rattle.textwrap_calls.proofs.printable.is_printable_text.Goals as goal
-use Rattle.textwrap_base.proofs.Common.{◌-◌, ◌∙◌, arith, length, sym, true≢false}
+use Rattle.textwrap_calls.proofs.Common.{◌-◌, ◌∙◌, arith, length, sym, true≢false}
 use Rattle.textwrap_calls.proofs.PrintableLines.{printable-both, printable-slice}
 
 pub returns-then-is_printable : goal.returns-then-is_printable

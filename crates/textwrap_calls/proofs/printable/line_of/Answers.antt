@@ -1,7 +1,6 @@
 use Rattle.textwrap_calls.proofs.printable.line_of.Goals as goal
-use Rattle.textwrap_base.proofs.Common.{ap, ne_eqb, refl, take}
-use Rattle.textwrap_calls.proofs.PrintableLines.{free-line, only-line-filled}
-use Rattle.textwrap_calls.proofs.RefilledLine.{line-refilled}
+use Rattle.textwrap_calls.proofs.Common.{ap, ne_eqb, refl, take}
+use Rattle.textwrap_calls.proofs.PrintableLines.{free-line, only-line-filled, line-refilled}
 
 pub returns-then-options-ne0-clause-line : goal.returns-then-options-ne0-clause-line
 returns-then-options-ne0-clause-line c =

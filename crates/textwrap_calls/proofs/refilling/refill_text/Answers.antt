@@ -1,6 +1,5 @@
 use Rattle.textwrap_calls.proofs.refilling.refill_text.Goals as goal
-use Rattle.textwrap_base.proofs.Common.{string_bytes}
-use Rattle.textwrap.specs.Refilling.{IsRefilled}
+use Rattle.textwrap_calls.proofs.Common.{string_bytes, IsRefilled}
 use Rattle.textwrap_calls.proofs.ReadOptions.{as-read}
 use Rattle.textwrap_calls.proofs.RoomLemmas.{WritesText-answer}
 

@@ -1,8 +1,6 @@
 use Rattle.textwrap_calls.proofs.refilling.unfill_text.Goals as goal
-use Rattle.textwrap_base.proofs.Common.{◌≡◌, arith, length, rules}
-use Rattle.textwrap.specs.Refilling.{unfilled_parts}
-use Rattle.textwrap_calls.specs.Room.{WritesText}
-use Rattle.textwrap_calls.proofs.Lengths.Unfilled.{unfilled-length}
+use Rattle.textwrap_calls.proofs.Common.{◌≡◌, arith, length, rules, unfilled_parts, WritesText}
+use Rattle.textwrap_calls.proofs.Lengths.Texts.{unfilled-length}
 use Rattle.textwrap_calls.proofs.RoomLemmas.{written-exactly}
 use Rattle.textwrap_calls.proofs.refilling.unfill_text.Goals.{After-report-status}
 

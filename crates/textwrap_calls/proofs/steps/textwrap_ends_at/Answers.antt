@@ -1,16 +1,15 @@
 use Rattle.textwrap_calls.proofs.steps.textwrap_ends_at.Goals as goal
-use Rattle.textwrap_base.proofs.Common.{◌≡◌, ◌∷◌, [], ap, map, subst, sym, ◌∙◌, Some, total_width}
-use Rattle.textwrap_words.proofs.Common.{sizes_of, word_view}
-use Rattle.textwrap_base.proofs.Cost.Measures.{total_width-same}
+use Rattle.textwrap_calls.proofs.Common.{◌≡◌, ◌∷◌, [], ap, map, subst, sym, ◌∙◌, total_width}
+use Rattle.textwrap_calls.proofs.Common.{sizes_of, word_view, total_width-same, settings_view}
+use Rattle.textwrap_calls.proofs.Common.{widths_of, pieces_at, algorithm_of, says_yes, settings_of}
+use Rattle.textwrap_calls.proofs.Common.{AreEndsOf, ends_of}
+use Rattle.textwrap_base.proofs.Common.{Some}
 use Rattle.textwrap_lines.proofs.Paragraph.Widths.{sizes-word_view}
 use Rattle.std.specs.Prelude.{IsSomeAnd}
 use Rattle.textwrap_words.specs.WrapAlgorithms.{algorithm_view, IsDividedBy, OverflowsBy}
 use Rattle.textwrap_words.proofs.Word.Divisions.{MayDivide-map}
-use Rattle.textwrap_lines.proofs.Common.{first_width, settings_view, widths_of}
+use Rattle.textwrap_lines.proofs.Common.{first_width}
 use Rattle.textwrap_lines.proofs.Paragraph.Pieces.{division-as}
-use Rattle.textwrap_lines.specs.Steps.{pieces_at}
-use Rattle.textwrap_calls.specs.Options.{algorithm_of, says_yes, settings_of}
-use Rattle.textwrap_calls.specs.Fragments.{AreEndsOf, ends_of}
 use Rattle.textwrap_calls.proofs.EndLemmas.{ends_of-map, OverflowsBy-map}
 use Rattle.textwrap_calls.proofs.RoomLemmas.{WritesText-answer}
 use Rattle.textwrap_calls.proofs.steps.textwrap_ends_at.Goals.{After-wrap}

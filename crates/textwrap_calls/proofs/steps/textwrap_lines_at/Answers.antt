@@ -1,11 +1,7 @@
 use Rattle.textwrap_calls.proofs.steps.textwrap_lines_at.Goals as goal
-use Rattle.textwrap_base.proofs.Common.{[], subst, ◌∙◌}
-use Rattle.textwrap_words.specs.LineEnds.{lines_between}
-use Rattle.textwrap_lines.proofs.Common.{parts_from, settings_view}
-use Rattle.textwrap_lines.proofs.Text.Sinks.{further-cut_lines}
-use Rattle.textwrap_lines.specs.Places.{HasPlaces}
-use Rattle.textwrap_lines.specs.Steps.{pieces_at}
-use Rattle.textwrap_calls.specs.Options.{says_yes, settings_of}
+use Rattle.textwrap_calls.proofs.Common.{[], subst, ◌∙◌, lines_between, parts_from, settings_view}
+use Rattle.textwrap_calls.proofs.Common.{further-cut_lines, HasPlaces, pieces_at, says_yes}
+use Rattle.textwrap_calls.proofs.Common.{settings_of}
 use Rattle.textwrap_calls.proofs.StepLemmas.{AreStepLines, steps-written}
 
 pub returns-in-Ok-push_step_lines-clause-lines : goal.returns-in-Ok-push_step_lines-clause-lines

@@ -1,7 +1,6 @@
 use Rattle.textwrap_calls.proofs.tables.are_known_columns.Given as goal
-use Rattle.textwrap_base.proofs.Common.{ℕ, ◌<◌, get_or}
+use Rattle.textwrap_calls.proofs.Common.{ℕ, ◌<◌, get_or, TextwrapColumn}
 use Rattle.textwrap_calls.specs.Tables.{IsKnownColumn}
-use Rattle.textwrap_calls.specs.declared.tables.TextwrapColumn.{TextwrapColumn}
 
 -- the columns so far are known
 abbrev pub invariant-loop-column : goal.invariant-loop-column

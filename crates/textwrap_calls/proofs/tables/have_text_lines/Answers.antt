@@ -1,7 +1,6 @@
 use Rattle.textwrap_calls.proofs.tables.have_text_lines.Goals as goal
-use Rattle.std.proofs.lemmas.List.Elements.{AllWithin-more}
-use Rattle.textwrap_base.proofs.Common.{arith, get_or_default, refl, subst}
-use Rattle.textwrap_calls.specs.Tables.{HasTextLines}
+use Rattle.textwrap_calls.proofs.Common.{AllWithin-more, arith, get_or_default, refl, subst}
+use Rattle.textwrap_calls.proofs.Common.{HasTextLines}
 
 pub loop-cell-preserved : goal.loop-cell-preserved
 loop-cell-preserved c = λ k d below.

@@ -1,6 +1,5 @@
 use Rattle.textwrap_calls.proofs.tables.have_text_lines.Given as goal
-use Rattle.textwrap_base.proofs.Common.{ℕ, ◌<◌, get_or}
-use Rattle.textwrap_calls.specs.Tables.{HasTextLines}
+use Rattle.textwrap_calls.proofs.Common.{ℕ, ◌<◌, get_or, HasTextLines}
 use Rattle.textwrap_calls.specs.declared.tables.TextwrapCell.{TextwrapCell}
 
 -- the cells so far have lines that are UTF-8

@@ -1,7 +1,6 @@
 use Rattle.textwrap_calls.proofs.tables.have_texts.Goals as goal
-use Rattle.std.proofs.lemmas.List.Elements.{AllWithin-more}
-use Rattle.textwrap_base.proofs.Common.{arith, get_or_default, refl, subst}
-use Rattle.textwrap_calls.specs.Tables.{HasTexts}
+use Rattle.textwrap_calls.proofs.Common.{AllWithin-more, arith, get_or_default, refl, subst}
+use Rattle.textwrap_calls.proofs.Common.{HasTexts}
 
 pub loop-column-preserved : goal.loop-column-preserved
 loop-column-preserved c = λ k d below.

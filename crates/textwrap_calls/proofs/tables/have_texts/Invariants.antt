@@ -1,7 +1,5 @@
 use Rattle.textwrap_calls.proofs.tables.have_texts.Given as goal
-use Rattle.textwrap_base.proofs.Common.{ℕ, ◌<◌, get_or}
-use Rattle.textwrap_calls.specs.Tables.{HasTexts}
-use Rattle.textwrap_calls.specs.declared.tables.TextwrapColumn.{TextwrapColumn}
+use Rattle.textwrap_calls.proofs.Common.{ℕ, ◌<◌, get_or, HasTexts, TextwrapColumn}
 
 -- the columns so far have indents that are UTF-8
 abbrev pub invariant-loop-column : goal.invariant-loop-column

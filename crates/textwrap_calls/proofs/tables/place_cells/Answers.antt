@@ -1,10 +1,9 @@
 use Rattle.textwrap_calls.proofs.tables.place_cells.Goals as goal
-use Rattle.std.specs.Prelude.{IfOk}
-use Rattle.textwrap_base.proofs.Common.{◌≡◌, ap, arith, map, subst, take_all, ◌∙◌}
-use Rattle.textwrap_display.specs.Tables.{cell_texts, gaps_view, rows_of_cells, shape_of}
-use Rattle.textwrap_calls.specs.Columns.{ArePlacedRows}
-use Rattle.textwrap_calls.specs.Tables.{lines_in, shape_of_column}
-use Rattle.textwrap_calls.proofs.TableLemmas.{shapes-more}
+use Rattle.textwrap_calls.proofs.Common.{IfOk, ◌≡◌, ap, arith, map, subst, take_all, ◌∙◌}
+use Rattle.textwrap_calls.proofs.Common.{cell_texts, rows_of_cells, shape_of, ArePlacedRows}
+use Rattle.textwrap_calls.proofs.Common.{lines_in, shape_of_column}
+use Rattle.textwrap_display.specs.Tables.{gaps_view}
+use Rattle.textwrap_calls.proofs.TextLemmas.{shapes-more}
 
 pub loop-column-preserved : goal.loop-column-preserved
 loop-column-preserved c =

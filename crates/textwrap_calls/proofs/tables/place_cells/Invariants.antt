@@ -1,7 +1,5 @@
 use Rattle.textwrap_calls.proofs.tables.place_cells.Given as goal
-use Rattle.textwrap_base.proofs.Common.{◌≡◌, map, take}
-use Rattle.textwrap_calls.specs.Tables.{shape_of_column}
-use Rattle.textwrap_display.specs.Tables.{shape_of}
+use Rattle.textwrap_calls.proofs.Common.{◌≡◌, map, take, shape_of_column, shape_of}
 
 -- the columns so far have their shapes
 abbrev pub invariant-loop-column : goal.invariant-loop-column

@@ -1,10 +1,6 @@
 use Rattle.textwrap_calls.proofs.tables.read_cells.Goals as goal
-use Rattle.std.proofs.lemmas.List.{map_more}
-use Rattle.textwrap_base.proofs.Common.{[], ◌∷◌, ◌++◌, ◌∙◌, ap, map_push, sym, take}
-use Rattle.textwrap_display.specs.Shortening.{texts_of}
-use Rattle.textwrap_display.specs.Tables.{cell_texts}
-use Rattle.textwrap_calls.specs.Tables.{lines_in}
-use Rattle.textwrap_calls.specs.Texts.{bytes_of}
+use Rattle.textwrap_calls.proofs.Common.{map_more, [], ◌∷◌, ◌++◌, ◌∙◌, ap, map_push, sym, take}
+use Rattle.textwrap_calls.proofs.Common.{texts_of, cell_texts, lines_in, bytes_of}
 
 pub lines_of-requires : goal.lines_of-requires
 lines_of-requires c = (c.requires c.loop-cell.cell-index _ c.loop-cell-test.true).lines

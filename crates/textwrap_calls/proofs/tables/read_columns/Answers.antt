@@ -1,11 +1,8 @@
 use Rattle.textwrap_calls.proofs.tables.read_columns.Goals as goal
-use Rattle.textwrap_base.proofs.Common.{◌≡◌, [], ◌∷◌, ◌++◌, ap, get_or, inl, inr, map}
-use Rattle.textwrap_base.proofs.Common.{map_push, sym, take, ◌∙◌}
-use Rattle.std.proofs.lemmas.List.{map_more}
+use Rattle.textwrap_calls.proofs.Common.{◌≡◌, [], ◌∷◌, ◌++◌, ap, get_or, inl, inr, map, map_push}
+use Rattle.textwrap_calls.proofs.Common.{sym, take, ◌∙◌, map_more, parts_of_column, plain_parts}
+use Rattle.textwrap_calls.proofs.Common.{PlainColumn}
 use Rattle.textwrap_calls.proofs.ReadOptions.{parts-read}
-use Rattle.textwrap_calls.specs.Tables.{parts_of_column}
-use Rattle.textwrap_plain.specs.Tables.{plain_parts}
-use Rattle.textwrap_plain.specs.declared.display.PlainColumn.{PlainColumn}
 
 pub loop-column-preserved : goal.loop-column-preserved
 loop-column-preserved c =

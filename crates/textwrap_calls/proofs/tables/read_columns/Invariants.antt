@@ -1,7 +1,5 @@
 use Rattle.textwrap_calls.proofs.tables.read_columns.Given as goal
-use Rattle.textwrap_base.proofs.Common.{◌≡◌, map, take}
-use Rattle.textwrap_calls.specs.Tables.{parts_of_column}
-use Rattle.textwrap_plain.specs.Tables.{plain_parts}
+use Rattle.textwrap_calls.proofs.Common.{◌≡◌, map, take, parts_of_column, plain_parts}
 
 -- the columns so far have their parts
 abbrev pub invariant-loop-column : goal.invariant-loop-column

@@ -1,9 +1,8 @@
 use Rattle.textwrap_calls.proofs.tables.textwrap_table.Goals as goal
-use Rattle.textwrap_base.proofs.Common.{[], arith, map, refl}
-use Rattle.textwrap.proofs.Common.{Built}
-use Rattle.textwrap_calls.proofs.LineLemmas.{WritesLines-reported}
-use Rattle.textwrap_calls.proofs.RowLemmas.{rows-shown}
-use Rattle.textwrap_calls.proofs.TableLemmas.{written-apart}
+use Rattle.textwrap_calls.proofs.Common.{[], arith, map, refl, Built}
+use Rattle.textwrap_calls.proofs.RoomLemmas.{WritesLines-reported}
+use Rattle.textwrap_calls.proofs.PlaceLemmas.{rows-shown}
+use Rattle.textwrap_calls.proofs.TextLemmas.{written-apart}
 
 pub place_table-requires-clause-texts : goal.place_table-requires-clause-texts
 place_table-requires-clause-texts c = c.if-not-have_texts.ensures.0 refl

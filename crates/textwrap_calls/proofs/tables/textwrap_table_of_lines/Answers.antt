@@ -1,12 +1,10 @@
 use Rattle.textwrap_calls.proofs.tables.textwrap_table_of_lines.Goals as goal
-use Rattle.textwrap_base.proofs.Common.{[], arith, map, refl, subst}
-use Rattle.textwrap.proofs.Common.{Built}
-use Rattle.textwrap_display.specs.Tables.{rows_of_cells}
-use Rattle.textwrap_calls.specs.Columns.{ArePlacedRows, row_gaps}
-use Rattle.textwrap_calls.specs.Tables.{lines_in, shape_of_column}
-use Rattle.textwrap_calls.proofs.LineLemmas.{WritesLines-reported}
-use Rattle.textwrap_calls.proofs.RowLemmas.{rows-shown}
-use Rattle.textwrap_calls.proofs.TableLemmas.{written-apart}
+use Rattle.textwrap_calls.proofs.Common.{[], arith, map, refl, subst, Built, rows_of_cells}
+use Rattle.textwrap_calls.proofs.Common.{ArePlacedRows, lines_in, shape_of_column}
+use Rattle.textwrap_calls.specs.Columns.{row_gaps}
+use Rattle.textwrap_calls.proofs.RoomLemmas.{WritesLines-reported}
+use Rattle.textwrap_calls.proofs.PlaceLemmas.{rows-shown}
+use Rattle.textwrap_calls.proofs.TextLemmas.{written-apart}
 
 pub place_cells-requires-clause-cells : goal.place_cells-requires-clause-cells
 place_cells-requires-clause-cells c = c.if-not-have_text_lines.ensures.0 refl

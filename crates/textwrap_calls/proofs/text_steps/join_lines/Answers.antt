@@ -1,11 +1,10 @@
 use Rattle.textwrap_calls.proofs.text_steps.join_lines.Goals as goal
+use Rattle.textwrap_calls.proofs.Common.{false, ◌+◌, ◌≤◌, ap, cond, drop_more, length, map, subst}
+use Rattle.textwrap_calls.proofs.Common.{slice_range, sym, ◌∙◌, join_with, line_bytes}
 use Rattle.std.specs.List.{slice_index_or}
-use Rattle.textwrap_base.proofs.Common.{false}
-use Rattle.textwrap_base.proofs.Common.{◌+◌, ◌≤◌, ap, cond, drop_all, drop_more, length, map, subst}
-use Rattle.textwrap_base.proofs.Common.{slice_range, sym, ◌∙◌}
-use Rattle.textwrap_lines.proofs.Common.{join_with, line_bytes}
-use Rattle.textwrap_calls.proofs.JoinLemmas.{HasJoined, HasJoined-end, HasJoined-first, HasJoined-more}
-use Rattle.textwrap_calls.proofs.JoinLemmas.{HasJoined-start}
+use Rattle.textwrap_base.proofs.Common.{drop_all}
+use Rattle.textwrap_calls.proofs.StepLemmas.{HasJoined, HasJoined-end, HasJoined-first}
+use Rattle.textwrap_calls.proofs.StepLemmas.{HasJoined-more, HasJoined-start}
 
 pub loop-i-init : goal.loop-i-init
 loop-i-init c = λ lines shows.

@@ -1,8 +1,7 @@
 use Rattle.textwrap_calls.proofs.text_steps.join_lines.Given as goal
-use Rattle.textwrap_base.proofs.Common.{List}
+use Rattle.textwrap_calls.proofs.Common.{List, ShowLines}
 use Rattle.textwrap_lines.proofs.Common.{Line}
-use Rattle.textwrap_calls.specs.Wrapping.{ShowLines}
-use Rattle.textwrap_calls.proofs.JoinLemmas.{HasJoined}
+use Rattle.textwrap_calls.proofs.StepLemmas.{HasJoined}
 
 abbrev pub invariant-loop-i : goal.invariant-loop-i
 invariant-loop-i l = (lines : List Line)

@@ -1,11 +1,11 @@
 use Rattle.textwrap_calls.proofs.text_steps.place_text.Goals as goal
-use Rattle.textwrap_base.proofs.Common.{◌+◌, ◌<◌, ◌∷◌, ap, arith, drop, drop_more, inl, inr, length, length-drop}
-use Rattle.textwrap_base.proofs.Common.{refl, subst, sym, ◌∙◌}
-use Rattle.textwrap_lines.proofs.Common.{settings_view}
-use Rattle.textwrap_lines.proofs.Text.Lines.{paragraphs_left, paragraphs_left-split}
-use Rattle.textwrap_calls.proofs.TextStepLemmas.{HasTextLines, HasTextLines-later, HasTextLines-many}
-use Rattle.textwrap_calls.proofs.TextStepLemmas.{HasTextLines-more, HasTextLines-shown}
-use Rattle.textwrap_calls.proofs.TextStepLemmas.{HasTextLines-start, HasTextLines-wrong, paragraph-fits}
+use Rattle.textwrap_calls.proofs.Common.{◌+◌, ◌<◌, ◌∷◌, ap, arith, drop, drop_more, inl, inr}
+use Rattle.textwrap_calls.proofs.Common.{length, length-drop, refl, subst, sym, ◌∙◌, settings_view}
+use Rattle.textwrap_calls.proofs.Common.{paragraphs_left, paragraphs_left-split}
+use Rattle.textwrap_calls.proofs.TextStepLemmas.{HasTextLines, HasTextLines-later}
+use Rattle.textwrap_calls.proofs.TextStepLemmas.{HasTextLines-many, HasTextLines-more}
+use Rattle.textwrap_calls.proofs.TextStepLemmas.{HasTextLines-shown, HasTextLines-start}
+use Rattle.textwrap_calls.proofs.TextStepLemmas.{HasTextLines-wrong, paragraph-fits}
 
 pub loop-rest-init : goal.loop-rest-init
 loop-rest-init g c = record {

@@ -1,7 +1,6 @@
 use Rattle.textwrap_calls.proofs.text_steps.place_text.Given as goal
-use Rattle.textwrap_base.proofs.Common.{◌≤◌, drop, length}
-use Rattle.textwrap_lines.proofs.Common.{settings_view}
-use Rattle.textwrap_lines.proofs.Text.Lines.{bytes_left, paragraphs_left}
+use Rattle.textwrap_calls.proofs.Common.{◌≤◌, drop, length, settings_view, bytes_left}
+use Rattle.textwrap_calls.proofs.Common.{paragraphs_left}
 use Rattle.textwrap_calls.proofs.TextStepLemmas.{HasTextLines}
 
 abbrev pub invariant-loop-rest : goal.invariant-loop-rest

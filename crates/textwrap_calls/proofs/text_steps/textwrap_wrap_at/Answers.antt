@@ -1,10 +1,6 @@
 use Rattle.textwrap_calls.proofs.text_steps.textwrap_wrap_at.Goals as goal
-use Rattle.textwrap_base.proofs.Common.{◌++◌, subst, ◌∙◌}
-use Rattle.textwrap_lines.proofs.Common.{settings_view}
-use Rattle.textwrap_calls.specs.Options.{settings_of}
-use Rattle.textwrap_calls.specs.TextSteps.{text_step_cuts}
-use Rattle.textwrap_calls.specs.Wrapping.{ShowLines}
-use Rattle.textwrap_lines.specs.Places.{ArePlacesOf, lines_of}
+use Rattle.textwrap_calls.proofs.Common.{◌++◌, subst, ◌∙◌, settings_view, settings_of}
+use Rattle.textwrap_calls.proofs.Common.{text_step_cuts, ShowLines, ArePlacesOf, lines_of}
 use Rattle.textwrap_calls.proofs.TextStepLemmas.{shown-written}
 
 pub returns-in-Ok-place_text-clause-lines : goal.returns-in-Ok-place_text-clause-lines

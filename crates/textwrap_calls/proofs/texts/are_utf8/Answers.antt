@@ -1,7 +1,5 @@
 use Rattle.textwrap_calls.proofs.texts.are_utf8.Goals as goal
-use Rattle.std.proofs.lemmas.List.Elements.{AllWithin-more}
-use Rattle.textwrap_base.proofs.Common.{arith, get_or_default, subst}
-use Rattle.textwrap_calls.specs.Texts.{IsText}
+use Rattle.textwrap_calls.proofs.Common.{AllWithin-more, arith, get_or_default, subst, IsText}
 
 pub loop-text-preserved : goal.loop-text-preserved
 loop-text-preserved c = λ k d below.

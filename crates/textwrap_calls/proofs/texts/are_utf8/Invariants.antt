@@ -1,7 +1,5 @@
 use Rattle.textwrap_calls.proofs.texts.are_utf8.Given as goal
-use Rattle.textwrap_base.proofs.Common.{ℕ, ◌<◌, get_or}
-use Rattle.textwrap_calls.specs.Texts.{IsText}
-use Rattle.textwrap_calls.specs.declared.texts.TextwrapText.{TextwrapText}
+use Rattle.textwrap_calls.proofs.Common.{ℕ, ◌<◌, get_or, IsText, TextwrapText}
 
 -- the texts so far are UTF-8
 abbrev pub invariant-loop-text : goal.invariant-loop-text

@@ -1,7 +1,5 @@
 use Rattle.textwrap_calls.proofs.texts.lines_of.Given as goal
-use Rattle.textwrap_base.proofs.Common.{◌≡◌, take}
-use Rattle.textwrap_calls.specs.Texts.{bytes_of}
-use Rattle.textwrap_display.specs.Shortening.{texts_of}
+use Rattle.textwrap_calls.proofs.Common.{◌≡◌, take, bytes_of, texts_of}
 
 -- the texts so far are lines
 abbrev pub invariant-loop-text : goal.invariant-loop-text

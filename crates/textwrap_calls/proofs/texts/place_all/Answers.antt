@@ -1,8 +1,6 @@
 use Rattle.textwrap_calls.proofs.texts.place_all.Goals as goal
-use Rattle.textwrap_base.proofs.Common.{subst}
-use Rattle.textwrap_display.specs.Shortening.{texts_of}
-use Rattle.textwrap_calls.specs.Columns.{ArePlacedRows}
-use Rattle.textwrap_calls.proofs.RowLemmas.{ArePlacedRows-push}
+use Rattle.textwrap_calls.proofs.Common.{subst, texts_of, ArePlacedRows}
+use Rattle.textwrap_calls.proofs.PlaceLemmas.{ArePlacedRows-push}
 use Rattle.textwrap_calls.proofs.TextLemmas.{texts-push}
 
 pub loop-line-preserved : goal.loop-line-preserved

@@ -1,6 +1,5 @@
 use Rattle.textwrap_calls.proofs.texts.place_all.Given as goal
-use Rattle.textwrap_display.specs.Shortening.{texts_of}
-use Rattle.textwrap_calls.specs.Columns.{ArePlacedRows}
+use Rattle.textwrap_calls.proofs.Common.{texts_of, ArePlacedRows}
 
 -- the lines so far are placed
 abbrev pub invariant-loop-line : goal.invariant-loop-line

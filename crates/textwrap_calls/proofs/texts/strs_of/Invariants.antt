@@ -1,7 +1,5 @@
 use Rattle.textwrap_calls.proofs.texts.strs_of.Given as goal
-use Rattle.textwrap_base.proofs.Common.{◌≡◌, take}
-use Rattle.textwrap_calls.specs.Texts.{bytes_of}
-use Rattle.textwrap_display.specs.Tables.{texts_in}
+use Rattle.textwrap_calls.proofs.Common.{◌≡◌, take, bytes_of, texts_in}
 
 -- the texts so far are strings
 abbrev pub invariant-loop-text : goal.invariant-loop-text

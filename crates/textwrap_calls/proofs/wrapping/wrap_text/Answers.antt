@@ -1,13 +1,12 @@
 use Rattle.textwrap_calls.proofs.wrapping.wrap_text.Goals as goal
-use Rattle.textwrap_base.proofs.Common.{◌<◌, ◌^◌, [], arith, length, refl, rules}
-use Rattle.textwrap_words.specs.LentText.{as_len}
+use Rattle.textwrap_calls.proofs.Common.{◌<◌, ◌^◌, [], arith, length, refl, rules, as_len}
+use Rattle.textwrap_calls.proofs.Common.{ArePlacedLines, algorithm_of, separator_of, settings_of}
+use Rattle.textwrap_calls.proofs.Common.{splitter_of}
 use Rattle.textwrap_lines.proofs.Common.{built_text}
-use Rattle.textwrap_lines.specs.Places.{ArePlacedLines}
-use Rattle.textwrap_calls.specs.Options.{algorithm_of, separator_of, settings_of, splitter_of}
-use Rattle.textwrap_calls.proofs.GroupLemmas.{placed-shown}
-use Rattle.textwrap_calls.proofs.Lengths.Bounded.{lines-bounded}
-use Rattle.textwrap_calls.proofs.LineLemmas.{ShowLines-length, WritesLines-reported}
-use Rattle.textwrap_calls.proofs.LineLemmas.{WritesReported-counts}
+use Rattle.textwrap_calls.proofs.PlaceLemmas.{placed-shown}
+use Rattle.textwrap_calls.proofs.Lengths.Bounds.{lines-bounded}
+use Rattle.textwrap_calls.proofs.RoomLemmas.{ShowLines-length, WritesLines-reported}
+use Rattle.textwrap_calls.proofs.RoomLemmas.{WritesReported-counts}
 use Rattle.textwrap_calls.proofs.ReadOptions.{as-read}
 
 pub returns-in-Ok-place_into-clause-wrapped : goal.returns-in-Ok-place_into-clause-wrapped

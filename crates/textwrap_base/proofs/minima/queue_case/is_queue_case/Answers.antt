@@ -1,5 +1,5 @@
 use Rattle.textwrap_base.proofs.minima.queue_case.is_queue_case.Goals as goal
-use Rattle.textwrap_base.proofs.Common.{rules, priced_by, IsQueueCase}
+use Rattle.textwrap_base.proofs.Common.{rules, priced_by, IsQueueCase, problem_of}
 use Rattle.textwrap_base.proofs.Cost.LineCosts.{AreConvex-rising}
 use Rattle.textwrap_base.proofs.Cost.QueueCase.{SuitQueue-queue_case}
 
@@ -11,7 +11,6 @@ returns-then-break_penalties_suit-clause-convex g c = λ yes.
 
 pub returns-then-break_penalties_suit-clause-suits : goal.returns-then-break_penalties_suit-clause-suits
 returns-then-break_penalties_suit-clause-suits g c = λ yes.
-    let case : IsQueueCase
-    (priced_by g.T.Fragment.sizes g.T.Fragment.own_break_penalty c.args.penalties.now)
-    c.args.penalties.now c.args.line_widths.now c.args.fragments.now = search (rules, yes) in
+    let case : IsQueueCase (problem_of g.T.Fragment c.args.penalties.now c.args.line_widths.now
+    c.args.fragments.now) = search (rules, yes) in
     SuitQueue-queue_case _ _ _ _ case

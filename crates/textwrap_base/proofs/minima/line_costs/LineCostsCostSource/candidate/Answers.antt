@@ -1,13 +1,14 @@
 use Rattle.textwrap_base.proofs.minima.line_costs.LineCostsCostSource.candidate.Goals as goal
 use Rattle.textwrap_base.proofs.Common.{◌≡◌, arith, sym, ◌∙◌, PricedSizes, line_costs, measured}
+use Rattle.textwrap_base.proofs.Common.{problem_by}
 use Rattle.textwrap_base.proofs.Cost.LineCosts.{line_costs-at}
 use Rattle.textwrap_base.proofs.minima.line_costs.LineCostsCostSource.candidate.Goals.{After-line_cost}
 
 -- the view has the cost of the measures
 cost_is : (g : _) (c : After-line_cost g)
-    → line_costs (λ (x : PricedSizes). x) c.args.self.now.penalties c.args.self.now.widths
-    c.args.self.now.priced c.args.start c.args.end c.args.line_number
-    ≡ line_costs measured c.self.inside.penalties c.deref-2.result.now c.deref.result.now
+    → line_costs (problem_by (λ (x : PricedSizes). x) c.args.self.now.penalties
+    c.args.self.now.widths c.args.self.now.priced) c.args.start c.args.end c.args.line_number
+    ≡ line_costs (problem_by measured c.self.inside.penalties c.deref-2.result.now c.deref.result.now)
     c.args.start c.args.end c.args.line_number
 cost_is g c = rw (c.deref-2.ensures.value, c.deref.ensures.value, ← c.self.view_is)
     (line_costs-at measured c.self.inside.penalties c.self.inside.line_widths.items

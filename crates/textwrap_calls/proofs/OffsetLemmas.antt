@@ -1,22 +1,63 @@
--- Each offset is passed where a character ends if they are offsets of the text, and only then.
-use Rattle.textwrap_base.proofs.Common.{◌≡◌, ℕ, ◌+◌, ◌<◌, ◌↔◌, List, [], ◌∷◌, length, drop, refl}
-use Rattle.textwrap_base.proofs.Common.{sym, ap, subst, arith, inl, inr, cases_Bool, eqb, eqb-true}
-use Rattle.textwrap_base.proofs.Common.{eqb-false, All-nil, All-head, IsUtf8, IsUtf8-drop}
-use Rattle.textwrap_base.proofs.Common.{IsCharBoundary, IsCharBoundary-start, IsUtf8-past_char}
-use Rattle.textwrap_base.proofs.Common.{encode_utf8_all, encodes-chars, length-drop}
-use Rattle.std.specs.Str.{chars}
-use Rattle.textwrap_words.proofs.Common.{stripped, units}
-use Rattle.textwrap_words.proofs.Units.Texts.{units-tile}
-use Rattle.textwrap_words.specs.Units.{visible}
-use Rattle.textwrap_unicode.proofs.CutLemmas.{visible-utf8}
+-- Offsets that a caller gives: which of them are passed, and those after a place.
+use Rattle.textwrap_calls.proofs.Common.{◌≡◌, ℕ, zero, suc, ◌+◌, ◌<◌, List, [], ◌∷◌, arith, All-nil}
+use Rattle.textwrap_calls.proofs.Common.{All-cons, All-head, All-tail, ◌↔◌, length, drop, refl, sym}
+use Rattle.textwrap_calls.proofs.Common.{ap, subst, inl, inr, cases_Bool, eqb-true, eqb-false}
+use Rattle.textwrap_calls.proofs.Common.{IsUtf8, encode_utf8_all, encodes-chars, length-drop}
+use Rattle.textwrap_calls.proofs.Common.{stripped, units, chars, visible, offsets_past}
+use Rattle.textwrap_base.proofs.Common.{IsCharBoundary, eqb, IsUtf8-drop, IsCharBoundary-start}
+use Rattle.textwrap_base.proofs.Common.{IsUtf8-past_char}
 use Rattle.std.proofs.lemmas.Str.{IsCharBoundary-from_drop}
-use lib.Utf8.{encode}
+use Rattle.std.specs.List.Sorted.{IsStrictlyIncreasing}
 use Rattle.textwrap_base.proofs.Texts.{some-bytes}
 use Rattle.textwrap_base.proofs.Texts.{ends-within, left-after}
 use Rattle.textwrap_words.proofs.Word.Ahead.{character-within}
+use Rattle.textwrap_words.proofs.Units.Texts.{units-tile}
 use Rattle.textwrap_lines.specs.Offsets.{AreNext}
-use Rattle.textwrap_calls.specs.Pieces.{AreOffsets, offsets_past}
-use Rattle.textwrap_calls.proofs.Offsets.Later.{IsLaterEnd, offsets-later, offsets-first}
+use Rattle.textwrap_unicode.proofs.CutLemmas.{visible-utf8}
+use lib.Utf8.{encode}
+use Rattle.textwrap_calls.specs.Pieces.{AreOffsets}
+
+-- ---- offsets of a text of which each is past the one before it
+
+increasing-first : (o p : ℕ) (ps : List ℕ) → o < p → IsStrictlyIncreasing (p ∷ ps)
+    → IsStrictlyIncreasing (o ∷ p ∷ ps)
+increasing-first o p ps past increasing zero within = past
+increasing-first o p ps past increasing (suc k) within =
+    let next : suc k + 1 ≡ suc (k + 1) = omega arith in rw next (increasing k (omega arith))
+
+module _ (text : List ℕ) where
+  -- a place past the last one, where a character ends
+  abbrev pub IsLaterEnd : ℕ → ℕ → Type 0
+  IsLaterEnd last place = (last < place) × IsCharBoundary text place
+
+  -- offsets are the first, and those past it
+  pub offsets-later : (os : List ℕ) (o : ℕ) → AreOffsets text (o ∷ os) → AreNext IsLaterEnd os o
+  offsets-later [] o are = tt
+  offsets-later (p ∷ ps) o are =
+      let boundaries = All-tail (IsCharBoundary text) o (p ∷ ps) are.boundaries in (
+        (are.increasing 0 (omega arith), All-head (IsCharBoundary text) p ps boundaries),
+        offsets-later ps p (record {
+          increasing = λ k within.
+              let next : suc k + 1 ≡ suc (k + 1) = omega arith in
+              rw next at (are.increasing (suc k) (omega arith));
+          boundaries = boundaries;
+        }),
+      )
+
+  pub offsets-first : (os : List ℕ) (o : ℕ) → IsCharBoundary text o → AreNext IsLaterEnd os o
+      → AreOffsets text (o ∷ os)
+  offsets-first [] o boundary are = record {
+    increasing = λ k within. absurd (omega arith);
+    boundaries = All-cons (IsCharBoundary text) o [] boundary (All-nil (IsCharBoundary text));
+  }
+  offsets-first (p ∷ ps) o boundary ((past, later), are) =
+      let more = offsets-first ps p later are in
+      record {
+        increasing = increasing-first o p ps past more.increasing;
+        boundaries = All-cons (IsCharBoundary text) o (p ∷ ps) boundary more.boundaries;
+      }
+
+-- ---- each offset is passed where a character ends if they are offsets of the text, and only then
 
 -- the offsets that are left after these characters, of which the first begins at the place
 abbrev pub left_after : ℕ → List ℕ → List ℕ → List ℕ

@@ -1,2 +1,0 @@
-pub mod Later
-pub mod Passed

@@ -41,20 +41,24 @@ widened_chunks each extra (c ∷ d ∷ cs) =
 
 -- ---- their text, as it is written
 
--- a chunk is written, and the gap after it
-pub gap-written : (each left less more : ℕ) (chunk rest after text first second new : List ℕ)
-    → chunks rest ≡ chunk ∷ chunks after → 0 < length after → more ≡ min left 1
-    → less ≡ left - 1 → first ≡ text ++ chunk → second ≡ first ++ blanks each
-    → new ≡ second ++ blanks more
-    → new ++ flat (widened_chunks each less (chunks after))
-    ≡ text ++ flat (widened_chunks each left (chunks rest))
-gap-written each left less more chunk rest [] text first second new begins some most last one two
-    three = absurd (omega (arith, some))
-gap-written each left less more chunk rest (c ∷ cs) text first second new begins some most last one
-    two three =
-    let h = chunks-from c cs in
+-- the first chunk is written
+pub first-written : (each left : ℕ) (chunk : List ℕ) (others : List (List ℕ))
+    → flat (widened_chunks each left (chunk ∷ others))
+    ≡ chunk ++ flat (widened_chunks each left ([] ∷ others))
+first-written each left chunk [] = refl
+first-written each left chunk (next ∷ others) = append_assoc chunk (blanks (each + min left 1))
+    (flat (widened_chunks each (left - 1) (next ∷ others)))
+
+-- the gap is written that comes next, and the chunk after it
+pub gap-written : (each left less more : ℕ) (chunk text first second new : List ℕ)
+    (others : List (List ℕ)) → more ≡ min left 1 → less ≡ left - 1 → first ≡ text ++ blanks each
+    → second ≡ first ++ blanks more → new ≡ second ++ chunk
+    → new ++ flat (widened_chunks each less ([] ∷ others))
+    ≡ text ++ flat (widened_chunks each left ([] ∷ chunk ∷ others))
+gap-written each left less more chunk text first second new others most last one two three =
     let all = replicate-append-replicate each (min left 1) blank in
-    rw (three, two, one, most, last, begins, h.shape, ← all) (simp append_assoc)
+    rw (three, two, one, most, last, first-written each (left - 1) chunk others, ← all)
+    (simp append_assoc)
 
 -- ---- their chunks
 
@@ -152,16 +156,6 @@ pub widened-text : (each extra : ℕ) (cs : List (List ℕ))
     → tiled (widened_words each extra (map word_of cs)) ≡ flat (widened_chunks each extra cs)
 widened-text each extra cs =
     ap tiled (sym (widened-words each extra cs)) ∙ tiled-map (widened_chunks each extra cs)
-
--- where all chunks are written, so are the words
-pub all-written : (each extra left : ℕ) (line rest text new : List ℕ) → length rest ≡ 0
-    → new ++ flat (widened_chunks each left (chunks rest))
-    ≡ text ++ flat (widened_chunks each extra (chunks line))
-    → new ≡ text ++ tiled (widened_words each extra (words_of line))
-all-written each extra left line [] text new none is =
-    sym (append-nil new) ∙ is
-    ∙ ap (λ t. text ++ t) (sym (widened-text each extra (chunks line)))
-all-written each extra left line (c ∷ cs) text new none is = absurd (omega (arith, none))
 
 -- the texts of the words stay
 pub same-texts : (each extra : ℕ) (ws : List WordText)

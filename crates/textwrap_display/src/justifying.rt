@@ -10,7 +10,7 @@ use std::alloc::{AllocError, Allocator};
 use std::borrow::CowStr;
 use textwrap::words::display_width;
 use textwrap_words::blanks::{blanks_end, push_blanks};
-use textwrap_words::inner::first_chunk;
+use textwrap_words::inner::Chunks;
 
 /// The line with its gaps between words widened, so that it is as wide as the width, which is in
 /// columns. Each gap gets the same number of blanks more, and the first ones get one more of what is
@@ -103,10 +103,8 @@ fn split_indent(line: &str) -> (&str, &str)
 fn count_gaps(text: &str) -> usize
     ensures { result ≡ length (words_of text.now) - 1 }
 {
-    let mut rest = text;
     let mut words = 0_usize;
-    while !rest.is_empty() {
-        rest = first_chunk(rest).1;
+    for _word in Chunks::of(text) {
         words += 1;
     }
     words.saturating_sub(1)
@@ -123,17 +121,17 @@ fn push_widened<A: Allocator>(
     ensures { OnOk result (string_bytes text.new
         ≡ string_bytes text.old ++ tiled (widened_words each extra (words_of line.now))) }
 {
-    let mut rest = line;
+    let mut words = Chunks::of(line);
+    let Some(first) = words.next() else {
+        return Ok(());
+    };
+    text.push_str(first)?;
     let mut left = extra;
-    while !rest.is_empty() {
-        let (word, after) = first_chunk(rest);
+    for word in words {
+        push_blanks(text, each)?;
+        push_blanks(text, left.min(1))?;
+        left = left.saturating_sub(1);
         text.push_str(word)?;
-        if !after.is_empty() {
-            push_blanks(text, each)?;
-            push_blanks(text, left.min(1))?;
-            left = left.saturating_sub(1);
-        }
-        rest = after;
     }
     Ok(())
 }

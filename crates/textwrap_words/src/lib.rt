@@ -5,6 +5,7 @@
 
 pub mod blanks;
 mod characters;
+mod chunks;
 mod cut_pieces;
 pub mod escapes;
 pub mod inner;

@@ -1,12 +1,11 @@
 -- The characters of a text, one after another: what is shown of them, and where they stand.
-use Rattle.textwrap_base.proofs.Common.{inl, inr, ◌≡◌, ◌+◌, ◌++◌, ◌∙◌, ◌∷◌, ◌≤◌, ℕ, List, []}
-use Rattle.textwrap_base.proofs.Common.{ap, arith, cases_Bool, drop, encode_utf8_all, encodes-chars}
-use Rattle.textwrap_base.proofs.Common.{get_or, IsCharBoundary, IsUtf8, length, refl}
-use Rattle.textwrap_base.proofs.Common.{cond, length-append, sym}
-use Rattle.textwrap_words.proofs.Common.{next_of, shows, stripped, visible_in}
+use Rattle.textwrap_base.proofs.Common.{encode_utf8_all, IsCharBoundary, encodes-chars, cases_Bool}
+use Rattle.textwrap_base.proofs.Common.{length-append, get_or, IsUtf8, length, arith, ◌++◌, List, ℕ}
+use Rattle.textwrap_base.proofs.Common.{drop, refl, cond, ◌≡◌, ◌+◌, ◌∙◌, ◌∷◌, ◌≤◌, sym, [], ap}
+use Rattle.textwrap_words.proofs.Common.{next_of, stripped, visible_in}
 use Rattle.std.specs.Prelude.{chars, encode_utf8}
-use Rattle.textwrap_words.proofs.Units.Reading.{IsRead, read-ahead, read-next, read-room, read-start}
-use Rattle.textwrap_words.proofs.Units.Reading.{visible-step}
+use Rattle.textwrap_words.proofs.Units.Reading.{IsRead, read-ahead, read-next, read-room}
+use Rattle.textwrap_words.proofs.Units.Reading.{read-start, visible-step}
 use Rattle.textwrap_words.specs.Characters.{characters_from, characters_of, shown, shown_text}
 use Rattle.textwrap_words.specs.declared.characters.Character.{Character}
 use Rattle.textwrap_words.specs.declared.escapes.State.{State}
@@ -18,11 +17,12 @@ pub shown-from : (s : State) (at : ℕ) (cs : List ℕ)
     → shown (characters_from s at cs) ≡ visible_in s cs
 shown-from s at [] = refl
 shown-from s at (c ∷ cs) =
-    let rest = shown-from (next_of s c) (at + length (encode_utf8 c)) cs in
-    elim (cases_Bool (shows s c)) [
-      | inl t ↦ rw (t, rest) (sym (rw t at (visible-step s c cs)))
-      | inr f ↦ rw (f, rest) (sym (rw f at (visible-step s c cs)))
-    ]
+    grind (
+      arith,
+      cases_Bool,
+      visible-step,
+      shown-from (next_of s c) (at + length (encode_utf8 c)) cs,
+    )
 
 -- the visible characters of a text are those that are shown among its characters
 pub shown-all : (text : List ℕ) → shown_text (characters_of text) ≡ stripped text
@@ -30,10 +30,7 @@ shown-all text = ap encode_utf8_all (shown-from Text 0 (chars text))
 
 pub shown-next : (c : Character) (left : List Character) → length (shown_text (c ∷ left))
     ≡ cond c.is_visible (length (encode_utf8 c.ch)) 0 + length (shown_text left)
-shown-next c left = elim (cases_Bool c.is_visible) [
-  | inl t ↦ rw t (length-append (encode_utf8 c.ch) (shown_text left))
-  | inr f ↦ rw f (omega arith)
-]
+shown-next c left = grind (arith, cases_Bool, length-append)
 
 -- ---- the characters that are ahead in a text, of which the first so many bytes were read
 
@@ -45,13 +42,7 @@ pub record AreAhead (text : List ℕ) (left : List Character) : Type 0 where
   pub are : left ≡ characters_from state place (chars rest)
 
 pub ahead-start : (text : List ℕ) → IsUtf8 text → AreAhead text (characters_of text)
-ahead-start text utf8 = record {
-  state = Text;
-  place = 0;
-  rest = text;
-  read = read-start text utf8;
-  are = refl;
-}
+ahead-start text utf8 = grind (arith, read-start)
 
 -- the next of them stands there
 pub record IsNext (text : List ℕ) (c : Character) (left : List Character) : Type 0 where

@@ -11,7 +11,7 @@ use Rattle.textwrap_base.proofs.Common.{length, drop-drop, All-head, All-tail, n
 use Rattle.textwrap_base.proofs.Common.{append-nil, chars-nil, All-append, get_or_past, sum_by-cons}
 use Rattle.textwrap_base.proofs.Common.{chars_from_encodes, IsCharBoundary-start, IsUtf8-past_char}
 use Rattle.textwrap_base.proofs.Common.{encodes-chars, length-append, sum_by-append, chars-IsAscii}
-use Rattle.textwrap_words.proofs.Common.{TextUnit, is_control_end, is_command_end, next_of, shows}
+use Rattle.textwrap_words.proofs.Common.{TextUnit, next_of, shows}
 use Rattle.textwrap_words.proofs.Common.{taken_in, unit_at, units_past, visible_in, visible_of}
 use Rattle.textwrap_words.proofs.Common.{escape, escape_len, stripped, Visible, taken_at, columns}
 use Rattle.textwrap_words.proofs.Common.{text_width, units, IsPrintable, IsPrintableByte, IsNarrow}
@@ -33,10 +33,8 @@ pub taken-step : (s : State) (c : ℕ) (cs : List ℕ) → s ≢ Text
     → taken_in s (c ∷ cs) ≡ suc (taken_in (next_of s c) cs)
 taken-step Text c cs inside = absurd (inside refl)
 taken-step Escape c cs inside = grind (arith, cases_Bool)
-taken-step Control c cs inside =
-    elim (cases_Bool (is_control_end c)) [ inl t ↦ rw t refl | inr f ↦ rw f refl ]
-taken-step (Command last) c cs inside =
-    elim (cases_Bool (is_command_end last c)) [ inl t ↦ rw t refl | inr f ↦ rw f refl ]
+taken-step Control c cs inside = grind (arith, cases_Bool)
+taken-step (Command last) c cs inside = grind (arith, cases_Bool)
 
 -- the units that begin in the characters to come
 abbrev pub units_in : State → List ℕ → List TextUnit
@@ -57,8 +55,7 @@ pub visible-step : (s : State) (c : ℕ) (cs : List ℕ)
 visible-step Text c cs = elim (cases_Bool (eqb c 27)) [ inl t ↦ rw t refl | inr f ↦ rw f refl ]
 visible-step Escape c cs = ap (flat_map visible_of) (units_in-inside Escape c cs (λ e. cc))
 visible-step Control c cs = ap (flat_map visible_of) (units_in-inside Control c cs (λ e. cc))
-visible-step (Command last) c cs =
-    ap (flat_map visible_of) (units_in-inside (Command last) c cs (λ e. cc))
+visible-step (Command last) c cs = grind (arith, units_in-inside)
 
 pub plain-step : (c : ℕ) → eqb c 27 ≡ false
     → ◌≡◌ {A = State × Bool} (Text, true) (next_of Text c, shows Text c)
@@ -82,8 +79,7 @@ pub record IsRead (text : List ℕ) (at : ℕ) (ahead : List ℕ) : Type 0 where
   pub boundary : IsCharBoundary text at
 
 pub read-start : (text : List ℕ) → IsUtf8 text → IsRead text 0 text
-read-start text utf8 =
-    record { utf8 = utf8; place = refl; boundary = IsCharBoundary-start text utf8 }
+read-start text utf8 = grind (arith, IsCharBoundary-start)
 
 module _ {text : List ℕ} {at : ℕ} {ahead : List ℕ} (h : IsRead text at ahead) where
   pub read-none : length ahead ≡ 0 → chars ahead ≡ []
@@ -142,8 +138,7 @@ visible-plain zero (c ∷ cs) = grind (arith, visible-plain (escape_len cs) cs, 
 visible-plain (suc n) (c ∷ cs) = visible-plain n cs
 
 pub stripped-plain : (bytes : List ℕ) → All (λ b. b ≢ escape) (stripped bytes)
-stripped-plain bytes = encodes-plain (flat_map visible_of (units_past 0 (chars bytes)))
-    (visible-plain 0 (chars bytes))
+stripped-plain bytes = grind (arith, encodes-plain, visible-plain)
 
 -- ---- a text is no shorter than its visible characters
 
@@ -156,8 +151,7 @@ visible-short zero (c ∷ cs) =
 visible-short (suc n) (c ∷ cs) = omega (arith, visible-short n cs, length-append {A = ℕ})
 
 pub stripped-short : (text : List ℕ) → IsUtf8 text → length (stripped text) ≤ length text
-stripped-short text utf8 =
-    omega (arith, visible-short 0 (chars text), ap length (encodes-chars text utf8))
+stripped-short text utf8 = grind (arith, visible-short, encodes-chars)
 
 -- ---- lemmas on the units of a text and their columns
 
@@ -181,8 +175,7 @@ columns_in-step state c cs = ap (sum_by columns) (visible-step state c cs)
 -- nothing has no columns
 pub columns_in-empty : (state : State) (text : List ℕ) → length text ≡ 0
     → columns_in state (chars text) ≡ 0
-columns_in-empty state text none =
-    ap (λ bs. columns_in state (chars bs)) (nil_from_length text none) ∙ ap (columns_in state) chars-nil
+columns_in-empty state text none = grind (arith, nil_from_length, chars-nil)
 
 pub columns-ascii : (c : ℕ) → c < 128 → columns c ≤ 1
 unfolding char_width
@@ -227,8 +220,7 @@ columns-all_printable (c ∷ cs) printable =
 
 pub printable-width : (text : List ℕ) → IsPrintable text → text_width text ≡ length text
 printable-width text printable =
-    rw (chars-IsAscii text (printable-ascii text printable)) (rw (units-printable text printable)
-    (columns-all_printable text printable))
+    grind (arith, chars-IsAscii, printable-ascii, units-printable, columns-all_printable)
 
 -- ---- no character takes more columns than its bytes, so no text does
 
@@ -251,13 +243,17 @@ unfolding char_width alone
 columns-other c other = grind (arith, of_kind-narrow c (kind c) other)
 
 pub columns-le : (c : ℕ) → columns c ≤ length (encode c)
-columns-le c = elim (cases_lt c 128) [
-  | inl low ↦ rw length-encode (grind (arith, nat_tests, columns-ascii c low))
-  | inr high ↦ elim (cases_eq c 0x17D8) [
-    | inl same ↦ rw length-encode (grind (arith, nat_tests, width_or_zero-le false c, same))
-    | inr other ↦ rw length-encode (grind (arith, nat_tests, columns-other c other, high))
-  ]
-]
+columns-le c =
+    grind (
+      arith,
+      cases_lt,
+      length-encode,
+      nat_tests,
+      columns-ascii,
+      cases_eq,
+      width_or_zero-le,
+      columns-other,
+    )
 
 pub added-le : (s : State) (c : ℕ) → added s c ≤ length (encode c)
 added-le s c = grind (arith, cases_Bool, columns-le c)
@@ -271,9 +267,7 @@ together-le (c ∷ cs) = simp (length-append, sum_by-cons)
     (omega (arith, together-le cs, columns-le c))
 
 pub text_width-le : (text : List ℕ) → IsUtf8 text → text_width text ≤ length text
-text_width-le text utf8 =
-    let together = rw (encodes-chars text utf8) at (together-le (chars text)) in
-    omega (arith, visible-le 0 (chars text), together)
+text_width-le text utf8 = grind (arith, encodes-chars, together-le, visible-le)
 
 -- ---- the reader that measures a text: where it stands, and the columns before that
 
@@ -294,12 +288,7 @@ module _ (text : List ℕ) where
       → IsMeasured text end after (next_of state c) (width + added state c)
   measured-step place end c rest after state width h is past = record {
     read = read-next h.read c after is end past;
-    columns = omega (
-      arith,
-      h.columns,
-      ap (columns_in state) (read-ahead h.read c after is),
-      columns_in-step state c (chars after),
-    );
+    columns = grind (arith, read-ahead, columns_in-step);
   }
 
   pub measured-le : (place : ℕ) (rest : List ℕ) (state : State) (width : ℕ) → IsUtf8 text

@@ -6,7 +6,7 @@ use Rattle.textwrap_base.proofs.Common.{cases_Bool, cases_lt, append-nil, take-a
 use Rattle.textwrap_base.proofs.Common.{drop_all, take_at, length-take-le, sum_by-cons, ◌⊎◌}
 use Rattle.textwrap_base.proofs.Common.{nat_tests, append_assoc, last, ⊎_elim, ◌==◌, eqb-true}
 use Rattle.textwrap_base.proofs.Common.{eqb-false, take-take, take_all, ◌↔◌, subst, length-append}
-use Rattle.textwrap_base.proofs.Common.{true≢false, take-append-le, not, ◌||◌, nat_lt}
+use Rattle.textwrap_base.proofs.Common.{true≢false, take-append-le, not, ◌||◌}
 use Rattle.textwrap_words.proofs.Common.{TextUnit, Visible, Sequence, characters, is_control_end}
 use Rattle.textwrap_words.proofs.Common.{is_command_end, columns, command_len, escape_len, taken_at}
 use Rattle.textwrap_words.proofs.Common.{units_past, units, visible_of, unit_width, units_width}
@@ -14,7 +14,6 @@ use Rattle.textwrap_words.proofs.Common.{is_control_start, is_command_start, end
 use Rattle.textwrap_base.proofs.Lists.Parts.{nil_after, last_but_one, last-push, last_but_one-push}
 use Rattle.textwrap_base.proofs.Lists.Parts.{same_parts}
 use Rattle.textwrap_words.specs.Units.{control_len, IsWhole, AreUnits, IsInUnits}
-use Rattle.std.specs.Bool.{nat_le}
 use Rattle.std.proofs.lemmas.Bool.{le-leb}
 use Rattle.unicode.specs.Rows.{Range, in_ranges}
 use Rattle.unicode.proofs.Facts.{always, Stepped-always}
@@ -88,8 +87,7 @@ units_past-part (suc n) (c ∷ cs) xs ys e more = units_past-part n cs xs ys e m
 -- the characters of a part of the units have that part as their units
 pub units-part : (cs : List ℕ) (xs ys : List TextUnit) → units cs ≡ xs ++ ys
     → units (flat_map characters xs) ≡ xs
-units-part cs xs [] e = let whole : units cs ≡ xs = e ∙ append-nil xs in
-    ap (λ us. units (flat_map characters us)) (sym whole) ∙ ap units (units-tile cs) ∙ whole
+units-part cs xs [] e = grind (arith, append-nil, units-tile)
 units-part cs xs (y ∷ ys) e = units_past-part 0 cs xs (y ∷ ys) e (λ h. cc)
 
 -- ---- columns
@@ -183,8 +181,7 @@ sequence-units : (cs : List ℕ) (n : ℕ) → StopsAt ends cs n → AreUnits (u
     → AreUnits (Sequence (escape ∷ take n cs) ∷ units_past n cs)
 sequence-units cs n stops rest =
     let len : length (take n cs) ≡ n = length-take-le n cs stops.within in
-    let before : (k : ℕ) → k < n → ends (take k (take n cs)) ≡ false =
-    λ k below. ap ends (take-take k n cs (omega arith)) ∙ stops.before k below in
+    let before : (k : ℕ) → k < n → ends (take k (take n cs)) ≡ false = grind (arith, take-take) in
     ⊎_elim
     (λ (passed : ends (take n cs) ≡ true). AreUnits-cons (Sequence (escape ∷ take n cs))
     (units_past n cs) (take n cs, refl, passed, λ k below. before k (omega arith)) rest)
@@ -194,10 +191,8 @@ AreUnits-at : (c : ℕ) (cs : List ℕ) (b : Bool) → (c == escape) ≡ b
     → AreUnits (units_past (cond b (escape_len cs) 0) cs)
     → AreUnits (cond b (Sequence (c ∷ take (escape_len cs) cs)) (Visible c) ∷ units_past
     (cond b (escape_len cs) 0) cs)
-AreUnits-at c cs true is rest =
-    rw (eqb-true c escape is) (sequence-units cs (escape_len cs) (escape-stops cs) rest)
-AreUnits-at c cs false is rest = AreUnits-cons (Visible c) (units_past 0 cs)
-    (eqb-false c escape is) rest
+AreUnits-at c cs true is rest = grind (arith, eqb-true, sequence-units, escape-stops)
+AreUnits-at c cs false is rest = grind (arith, AreUnits-cons, eqb-false)
 
 AreUnits-units_past : (cs : List ℕ) (n : ℕ) → AreUnits (units_past n cs)
 AreUnits-units_past [] n = tt
@@ -219,11 +214,9 @@ record Begins (cs : List ℕ) (us : List TextUnit) : Type 0 where
   rest : AreUnits us
 
 Begins-from : (cs : List ℕ) (us : List TextUnit) → AreUnits (Sequence cs ∷ us) → Begins cs us
-Begins-from cs [] (inl whole) =
-    record { body = whole.0; shape = whole.1; before = whole.3; stop = inl whole.2; rest = tt }
+Begins-from cs [] (inl whole) = grind arith
 Begins-from cs [] (inr open_last) = grind arith
-Begins-from cs (v ∷ us) (whole, rest) =
-    record { body = whole.0; shape = whole.1; before = whole.3; stop = inl whole.2; rest = rest }
+Begins-from cs (v ∷ us) (whole, rest) = grind arith
 
 AreUnits-visible : (c : ℕ) (us : List TextUnit) → AreUnits (Visible c ∷ us)
     → (c ≢ escape) × AreUnits us
@@ -248,8 +241,7 @@ same_sequence : (xs ys : List ℕ) (us vs : List TextUnit) → Begins xs us → 
     → (xs ≡ ys) × (flat_map characters us ≡ flat_map characters vs)
 same_sequence xs ys us vs first second same =
     let bodies : first.body ++ flat_map characters us ≡ second.body ++ flat_map characters vs =
-    ap (drop 1) (ap (λ l. l ++ flat_map characters us) (sym first.shape) ∙ same
-    ∙ ap (λ l. l ++ flat_map characters vs) second.shape) in
+    grind (arith) in
     let not_less = not_shorter first.body second.body (flat_map characters vs) us bodies
     second.before first.stop in
     let not_more = not_shorter second.body first.body (flat_map characters us) vs (sym bodies)
@@ -259,8 +251,7 @@ same_sequence xs ys us vs first second same =
 some_characters : (u : TextUnit) (us : List TextUnit) → AreUnits (u ∷ us)
     → 0 < length (flat_map characters (u ∷ us))
 some_characters (Visible c) us are = omega arith
-some_characters (Sequence cs) us are = let begins : Begins cs us = Begins-from cs us are in
-    omega (arith, length-append cs (flat_map characters us), ap length begins.shape)
+some_characters (Sequence cs) us are = grind (arith, Begins-from, length-append)
 
 -- no visible character begins a sequence
 not_visible : (c : ℕ) (cs : List ℕ) (us vs : List TextUnit) → AreUnits (Visible c ∷ us)
@@ -271,18 +262,16 @@ not_visible c cs us vs visible sequence same = grind (arith, Begins-from, AreUni
 units_same : (us vs : List TextUnit) → AreUnits us → AreUnits vs
     → flat_map characters us ≡ flat_map characters vs → us ≡ vs
 units_same [] [] ours theirs same = refl
-units_same [] (v ∷ vs) ours theirs same =
-    absurd (omega (arith, some_characters v vs theirs, ap length same))
-units_same (u ∷ us) [] ours theirs same =
-    absurd (omega (arith, some_characters u us ours, ap length same))
+units_same [] (v ∷ vs) ours theirs same = grind (arith, some_characters)
+units_same (u ∷ us) [] ours theirs same = grind (arith, some_characters)
 units_same (Visible c ∷ us) (Visible d ∷ vs) ours theirs same =
-    let again = units_same us vs (AreUnits-visible c us ours).1 (AreUnits-visible d vs theirs).1
-    (ap (drop 1) same) in
-    cc
-units_same (Visible c ∷ us) (Sequence ds ∷ vs) ours theirs same =
-    absurd (not_visible c ds us vs ours theirs same)
-units_same (Sequence cs ∷ us) (Visible d ∷ vs) ours theirs same =
-    absurd (not_visible d cs vs us theirs ours (sym same))
+    grind (
+      arith,
+      AreUnits-visible,
+      units_same us vs (AreUnits-visible c us ours).1 (AreUnits-visible d vs theirs).1 (ap (drop 1) same),
+    )
+units_same (Visible c ∷ us) (Sequence ds ∷ vs) ours theirs same = grind (arith, not_visible)
+units_same (Sequence cs ∷ us) (Visible d ∷ vs) ours theirs same = grind (arith, not_visible)
 units_same (Sequence cs ∷ us) (Sequence ds ∷ vs) ours theirs same =
     let first : Begins cs us = Begins-from cs us ours in
     let second : Begins ds vs = Begins-from ds vs theirs in
@@ -321,10 +310,7 @@ module _ {V : Type 0} (range : Range) (rises : rises_from 0 (range_rows (range �
 -- two columns, by the table of widths
 two-columns : (c : ℕ) → 0xA0 ≤ c → (kind_number c == 2) ≡ true → 2 ≡ columns c
 unfolding alone char_width
-two-columns c high is =
-    let other : nat_lt c 0x7F ≡ false = grind (arith, nat_tests, high) in
-    let past : nat_le 0xA0 c ≡ true = grind (arith, nat_tests, high) in
-    rw (other, past, sym (kind_from_number-kind_number c 2 (sym (eqb-true _ _ is)))) refl
+two-columns c high is = grind (arith, nat_tests, kind_from_number-kind_number, eqb-true)
 
 pub syllable-columns : (c : ℕ) → 0x3041 ≤ c → c ≤ 0x3096 → 2 ≡ columns c
 unfolding tables kind_number_stepped

@@ -1,6 +1,6 @@
 -- The units of the first part of a text, and a character that begins at a place of it.
-use Rattle.textwrap_base.proofs.Common.{cases_Bool, ◌≡◌, ◌≢◌, ℕ, ◌+◌, true, false, eqb, List, []}
-use Rattle.textwrap_base.proofs.Common.{◌∷◌, refl, sym, subst, zero-add, add-zero, arith, not-true}
+use Rattle.textwrap_base.proofs.Common.{cases_Bool, ◌≡◌, ◌≢◌, ℕ, ◌+◌, true, false, List, []}
+use Rattle.textwrap_base.proofs.Common.{◌∷◌, refl, sym, zero-add, add-zero, arith, not-true}
 use Rattle.textwrap_base.proofs.Common.{sum_by-cons, inl, inr, ◌-◌, ◌<◌, ◌≤◌, ◌++◌, length, drop}
 use Rattle.textwrap_base.proofs.Common.{get_or, ap, ◌∙◌, slice_range, cases_lt, eqb-true}
 use Rattle.textwrap_base.proofs.Common.{length-append, drop_split, get_or-take, get_or-drop, IsUtf8}
@@ -31,8 +31,7 @@ pub record IsInFirst (limit : ℕ) (cs : List ℕ) (state : State) (width : ℕ)
       (taken_units limit width (units_in state rest))
 
 pub IsInFirst-start : (limit : ℕ) (cs : List ℕ) → IsInFirst limit cs Text 0 cs
-IsInFirst-start limit cs =
-    record { leaves = refl; wide = sym (zero-add (units_width (taken_units limit 0 (units cs)))) }
+IsInFirst-start limit cs = grind (arith, zero-add)
 
 -- the reader goes over one unit of the text
 text-unit : (limit width c : ℕ) (cs : List ℕ)
@@ -55,9 +54,7 @@ goes-unit limit width u us on = record {
 
 goes-inside : (limit width : ℕ) (s : State) (c : ℕ) (cs : List ℕ) → s ≢ Text
     → TakesUnit limit width (units_in s (c ∷ cs)) 0 (units_in (next_of s c) cs)
-goes-inside limit width s c cs inside =
-    subst (λ us. TakesUnit limit width us 0 (units_in (next_of s c) cs))
-    (sym (units_in-inside s c cs inside)) (grind (arith, add-zero, zero-add))
+goes-inside limit width s c cs inside = grind (arith, units_in-inside, add-zero, zero-add)
 
 goes-on : (limit width : ℕ) (s : State) (c : ℕ) (cs : List ℕ)
     → (shows s c ≡ true → is_due limit width (Visible c) ≡ false)
@@ -84,8 +81,7 @@ pub record EndsHere (limit : ℕ) (cs : List ℕ) (width : ℕ) (us : List TextU
 pub IsInFirst-cut : (limit : ℕ) (cs : List ℕ) (s : State) (width c : ℕ) (rest : List ℕ)
     → IsInFirst limit cs s width (c ∷ rest) → shows s c ≡ true
     → is_due limit width (Visible c) ≡ true → EndsHere limit cs width (units (c ∷ rest))
-IsInFirst-cut limit cs Text width c rest h shown due =
-    let plain = not-true (eqb c 27) shown in grind arith
+IsInFirst-cut limit cs Text width c rest h shown due = grind (arith, not-true)
 IsInFirst-cut limit cs Escape width c rest h shown due = cc
 IsInFirst-cut limit cs Control width c rest h shown due = cc
 IsInFirst-cut limit cs (Command last) width c rest h shown due = cc

@@ -8,7 +8,6 @@ use Rattle.textwrap_base.proofs.Common.{All-head, All-tail, ltb-true, All-cons, 
 use Rattle.textwrap_words.proofs.Common.{TextUnit, Visible, Sequence, columns, unit_width}
 use Rattle.textwrap_words.proofs.Common.{units_width, IsKept, AllPartsFull, is_due, broken_units}
 use Rattle.textwrap_words.proofs.Common.{characters, taken_at, units_past, units, visible_of}
-use Rattle.std.proofs.Common.{ltb}
 use Rattle.textwrap_words.specs.Breaking.{parts_left, AreBroken}
 use Rattle.textwrap_base.proofs.Lists.Parts.{flat}
 use Rattle.textwrap_words.proofs.Units.Texts.{units-tile, units-part}
@@ -64,8 +63,7 @@ EachKeeps limit width part = (before after : List TextUnit) (c : ℕ)
 
 pub due-false : (limit width : ℕ) (c : ℕ) → (0 < width → width + columns c ≤ limit)
     → is_due limit width (Visible c) ≡ false
-due-false limit width c h =
-    elim (cases_Bool (ltb 0 width)) [ inl t ↦ rw t (grind (arith, nat_tests)) | inr f ↦ rw f refl ]
+due-false limit width c h = grind (arith, cases_Bool, nat_tests)
 
 due-room : (limit width : ℕ) (c : ℕ) → is_due limit width (Visible c) ≡ false → 0 < width
     → width + columns c ≤ limit
@@ -97,12 +95,10 @@ kept-at limit width (u ∷ before) after c k some =
     omega (arith, more, later)
 
 pub IsKept-after : (limit : ℕ) (part : List TextUnit) → IsKept limit part → IsKeptAfter limit 0 part
-IsKept-after limit part h = kept-after limit 0 part (λ before after c e some.
-    omega (arith, h before after c e (omega arith)))
+IsKept-after limit part h = grind (arith, kept-after)
 
 pub IsKept-from : (limit : ℕ) (part : List TextUnit) → IsKeptAfter limit 0 part → IsKept limit part
-IsKept-from limit part k = λ before after c e some. omega
-    (arith, kept-at limit 0 before after c (subst (IsKeptAfter limit 0) e k) (omega arith))
+IsKept-from limit part k = grind (arith, kept-at)
 
 -- a part of `width` columns has no room for what begins the next
 abbrev pub IsFullAfter : ℕ → ℕ → List (List TextUnit) → Type 0
@@ -199,9 +195,7 @@ after-on limit width u us first parts on h = record {
 
 due-parts : (limit width : ℕ) (u : TextUnit) (first : List TextUnit) (parts : List (List TextUnit))
     → is_due limit width u ≡ true → IsFullAfter limit width ((u ∷ first) ∷ parts)
-due-parts limit width (Visible c) first parts due =
-    let both = and_parts (ltb 0 width) (ltb limit (width + columns c)) due in
-    (c, first, refl, ltb-true 0 width both.0, ltb-true limit (width + columns c) both.1)
+due-parts limit width (Visible c) first parts due = grind (arith, and_parts, ltb-true)
 due-parts limit width (Sequence cs) first parts due = cc
 
 -- what goes on after a unit makes, with this unit before it, the parts of units by themselves
@@ -229,8 +223,7 @@ after-cut limit width u us first parts due h = search (from-first, add-zero, due
 first-next : (limit : ℕ) (u : TextUnit) (us : List TextUnit)
     → (u ∷ taken_units limit (unit_width u) us) ∷ broken_units limit
     (left_units limit (unit_width u) us) ≡ broken_units limit (u ∷ us)
-first-next limit u us = sym (broken_units-cons limit u us
-    ∙ ap (onto_first u) (parts_after-is limit (unit_width u) us))
+first-next limit u us = grind (arith, broken_units-cons, parts_after-is)
 
 after-is : (limit width : ℕ) (us : List TextUnit)
     → AreBrokenAfter limit width us (taken_units limit width us)
@@ -257,8 +250,7 @@ units_past-skip (suc n) (c ∷ cs) = units_past-skip n cs
 
 units-rest : (cs : List ℕ) (xs ys : List TextUnit) → units cs ≡ xs ++ ys
     → units (flat_map characters ys) ≡ ys
-units-rest cs [] ys e = ap (λ us. units (flat_map characters us)) (sym e) ∙ ap units (units-tile cs)
-    ∙ e
+units-rest cs [] ys e = grind (arith, units-tile)
 units-rest [] (x ∷ xs) ys e = cc
 units-rest (c ∷ cs) (x ∷ xs) ys e =
     let tail : units_past (taken_at c cs) cs ≡ xs ++ ys = cc in
@@ -295,8 +287,7 @@ no_columns (Sequence cs ∷ us) none =
 
 width-push : (front : List TextUnit) (u : TextUnit)
     → units_width (front ++ u ∷ []) ≡ units_width front + unit_width u
-width-push front u =
-    omega (arith, sum_by-append unit_width front (u ∷ []), sum_by-cons unit_width u [])
+width-push front u = grind (arith, sum_by-append, sum_by-cons)
 
 module _ (limit : ℕ) where
   kept-push : (front : List TextUnit) (u : TextUnit) (us : List TextUnit)
@@ -345,8 +336,12 @@ module _ (limit : ℕ) where
   single front (Visible c ∷ us) kept none wide = elim (cases_lt 0 (columns c)) [
     | inl some ↦ rw (seen c some) (ap suc (single_after front c us kept none wide some))
     | inr nothing ↦
-        rw (unseen c (omega arith))
-        (single (front ++ Visible c ∷ []) us (kept-push front (Visible c) us kept)
-        (omega (arith, width-push front (Visible c)))
-        (omega (arith, sum_by-cons unit_width (Visible c) us)))
+        grind (
+          arith,
+          unseen,
+          kept-push,
+          width-push,
+          sum_by-cons,
+          single (front ++ Visible c ∷ []) us (kept-push front (Visible c) us kept) (omega (arith, width-push front (Visible c))) (omega (arith, sum_by-cons unit_width (Visible c) us)),
+        )
   ]

@@ -1,13 +1,12 @@
 -- The pieces of broken words: their texts, their widths, and that they tile their word.
-use Rattle.textwrap_base.proofs.Common.{◌≡◌, ◌≢◌, ℕ, ◌≤◌, List, [], ◌∷◌, ◌++◌, refl, sym, ap, ◌∙◌}
-use Rattle.textwrap_base.proofs.Common.{length, take, drop, map, IsUtf8, IsCharBoundary}
-use Rattle.textwrap_base.proofs.Common.{encode_utf8_all, flat_map, sum_by, take-append-drop}
-use Rattle.textwrap_base.proofs.Common.{flat_map-append, chars-nil, chars-append, encodes-append}
-use Rattle.textwrap_base.proofs.Common.{encodes-chars, IsUtf8-take, arith, false, nat_tests}
-use Rattle.textwrap_base.proofs.Common.{◌<◌, All, nil_from_length, append-nil, append_assoc}
-use Rattle.textwrap_base.proofs.Common.{All-head, All-tail, ⊤, Bool, true, cond, subst, All-nil}
-use Rattle.textwrap_base.proofs.Common.{All-cons, lt-ltb, ltb-false, cond_both, sum_by-append}
-use Rattle.textwrap_base.proofs.Common.{sum_by-cons, false≢true, chars_from_encodes}
+use Rattle.textwrap_base.proofs.Common.{chars_from_encodes, take-append-drop, encode_utf8_all, List}
+use Rattle.textwrap_base.proofs.Common.{flat_map-append, nil_from_length, IsCharBoundary, chars-nil}
+use Rattle.textwrap_base.proofs.Common.{encodes-append, encodes-chars, sum_by-append, chars-append}
+use Rattle.textwrap_base.proofs.Common.{append_assoc, IsUtf8-take, sum_by-cons, append-nil, All-nil}
+use Rattle.textwrap_base.proofs.Common.{false≢true, nat_tests, ltb-false, cond_both, flat_map, ◌++◌}
+use Rattle.textwrap_base.proofs.Common.{All-head, All-tail, All-cons, length, IsUtf8, sum_by, arith}
+use Rattle.textwrap_base.proofs.Common.{lt-ltb, false, subst, refl, take, drop, Bool, true, cond, ℕ}
+use Rattle.textwrap_base.proofs.Common.{◌≡◌, ◌≢◌, ◌≤◌, ◌∷◌, sym, ◌∙◌, map, ◌<◌, All, [], ap, ⊤}
 use Rattle.textwrap_words.proofs.Common.{TextUnit, visible_of, text_width, units_text, unit_width}
 use Rattle.textwrap_words.proofs.Common.{characters, columns, pieces_with, broken_word, units_width}
 use Rattle.textwrap_words.proofs.Common.{units, WordText, tile_of, tiled, piece, Visible, IsKept}
@@ -31,8 +30,7 @@ use Rattle.textwrap_words.specs.Units.{column_characters}
 texts-flat : (parts : List (List TextUnit))
     → flat_map (λ text. text) (map units_text parts) ≡ units_text (flat_map (λ part. part) parts)
 texts-flat [] = refl
-texts-flat (part ∷ parts) = ap (λ text. units_text part ++ text) (texts-flat parts)
-    ∙ sym (grind (arith, flat_map-append, encodes-append))
+texts-flat (part ∷ parts) = grind (arith, flat_map-append, encodes-append, texts-flat parts)
 
 pub units_text-chars : (text : List ℕ) → IsUtf8 text → units_text (units (chars text)) ≡ text
 units_text-chars text utf8 = ap encode_utf8_all (units-tile (chars text)) ∙ encodes-chars text utf8
@@ -53,8 +51,7 @@ broken_texts-some limit text utf8 some e =
 broken-first : (limit : ℕ) (us vs : List TextUnit) → us ≢ [] → left_units limit 0 us ≡ vs
     → broken_units limit us ≡ taken_units limit 0 us ∷ broken_units limit vs
 broken-first limit [] vs some e = absurd (some refl)
-broken-first limit (u ∷ us) vs some e = parts_after-is limit 0 (u ∷ us)
-    ∙ ap (λ ws. taken_units limit 0 (u ∷ us) ∷ broken_units limit ws) e
+broken-first limit (u ∷ us) vs some e = grind (arith, parts_after-is)
 
 -- the first piece that a reader found is the first of the pieces
 pub record IsFirstPiece (limit : ℕ) (text : List ℕ) (len width : ℕ) : Type 0 where
@@ -108,9 +105,7 @@ pieces_with-more whitespace penalty text (next ∷ texts) some = refl
 -- one turn of the iterator that gives the pieces: at the end, at the last piece, and before it
 pub turn-none : (limit : ℕ) (whitespace penalty text : List ℕ) → length text ≡ 0
     → pieces_with whitespace penalty (broken_texts limit text) ≡ []
-turn-none limit whitespace penalty text none =
-    ap (λ t. pieces_with whitespace penalty (broken_texts limit t)) (nil_from_length text none)
-    ∙ ap (pieces_with whitespace penalty) (broken_texts-nil limit)
+turn-none limit whitespace penalty text none = grind (arith, nil_from_length, broken_texts-nil)
 
 pub pieces_with-texts : (whitespace penalty : List ℕ) (texts : List (List ℕ))
     → flat_map (λ w. w.word) (pieces_with whitespace penalty texts) ≡ flat_map (λ text. text) texts
@@ -179,9 +174,13 @@ pieces_with-all P Q whitespace penalty inner final [] all = All-nil P
 pieces_with-all P Q whitespace penalty inner final (text ∷ []) all =
     All-cons P (piece text whitespace penalty) [] (final text (All-head Q text [] all)) (All-nil P)
 pieces_with-all P Q whitespace penalty inner final (text ∷ next ∷ texts) all =
-    let again = pieces_with-all P Q whitespace penalty inner final (next ∷ texts)
-    (All-tail Q text (next ∷ texts) all) in
-    search (All-cons, All-head)
+    grind (
+      arith,
+      All-tail,
+      All-cons,
+      All-head,
+      pieces_with-all P Q whitespace penalty inner final (next ∷ texts) (All-tail Q text (next ∷ texts) all),
+    )
 
 broken_word-measured : (limit : ℕ) (w : WordText) → IsMeasured w → (b : Bool)
     → All IsMeasured (cond b (broken_pieces limit w) (w ∷ []))
@@ -263,10 +262,8 @@ module _ (limit : ℕ) where
       → IsTightText (units_text part)
   part-tight part kept utf8 own wide =
       let characters_are : units (chars (units_text part)) ≡ part =
-      ap units (sym (chars_from_encodes (flat_map characters part) (units_text part) utf8 refl))
-      ∙ own in
-      let width : text_width (units_text part) ≡ units_width part =
-      ap (λ us. sum_by columns (flat_map visible_of us)) characters_are ∙ units_width-is part in
+      grind (arith, chars_from_encodes) in
+      let width : text_width (units_text part) ≡ units_width part = grind (arith, units_width-is) in
       ap (λ us. length (column_units us)) characters_are
       ∙ single limit [] part kept refl (omega (arith, wide, width))
 

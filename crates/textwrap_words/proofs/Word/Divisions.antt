@@ -3,7 +3,7 @@
 use Rattle.textwrap_base.proofs.Common.{◌≡◌, append_assoc, append-nil, slice_range, IsNonDecreasing}
 use Rattle.textwrap_base.proofs.Common.{◌≢◌, suc, List, drop, refl, subst, arith, Some, None, ◌++◌}
 use Rattle.textwrap_base.proofs.Common.{ℕ, length, get_or, map-id, take-map, length-map, drop_split}
-use Rattle.textwrap_base.proofs.Common.{◌-◌, ◌≤◌, ◌<◌, [], ◌∷◌, map, sym, ap, ◌∙◌, Ok}
+use Rattle.textwrap_base.proofs.Common.{◌≤◌, ◌<◌, [], ◌∷◌, map, sym, ap, ◌∙◌, Ok}
 use Rattle.textwrap_words.proofs.Common.{WordText, sizes_of, Greedy, LeastCost, IsDividedBy}
 use Rattle.textwrap_words.proofs.Common.{MayDivide, algorithm_view}
 use Rattle.std.proofs.lemmas.List.{drop-map}
@@ -36,8 +36,7 @@ pub lines_from-map : {X Y : Type 0} (f : X → Y) (xs : List X) (start : ℕ) (e
     → map (map f) (lines_from xs start ends) ≡ lines_from (map f xs) start ends
 lines_from-map f xs start [] = refl
 lines_from-map f xs start (end ∷ ends) =
-    rw (drop-map f start xs, take-map f (end - start) (drop start xs))
-    (ap (λ ls. map f (slice_range xs start end) ∷ ls) (lines_from-map f xs end ends))
+    grind (arith, drop-map, take-map, lines_from-map f xs end ends)
 
 -- ---- what an algorithm may divide
 
@@ -66,8 +65,7 @@ module _ {F : Type 0} {f : _} where
   pub MayDivide-whole : {X : Type 0} (algorithm : WrapAlgorithm F f) (view : X → WordText)
       (widths : List ℕ) (xs : List X) (lines : List (List X)) → algorithm_view algorithm ≢ None
       → MayDivide algorithm view widths xs lines → flat lines ≡ xs
-  MayDivide-whole FirstFit view widths xs lines built_in divided =
-      IsDividedBy-whole (λ x. sizes_of (view x)) Greedy widths xs lines divided
+  MayDivide-whole FirstFit view widths xs lines built_in divided = grind (arith, IsDividedBy-whole)
   MayDivide-whole (OptimalFit penalties) view widths xs lines built_in divided =
       IsDividedBy-whole (λ x. sizes_of (view x)) (LeastCost penalties) widths xs lines divided
   MayDivide-whole (Custom given) view widths xs lines built_in divided = absurd (built_in refl)

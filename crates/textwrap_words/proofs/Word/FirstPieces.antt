@@ -1,15 +1,15 @@
 -- The pieces of a text from a place on, and the first of them, where the reader stopped.
-use Rattle.textwrap_base.proofs.Common.{inl, inr, ◌≡◌, List, [], ◌++◌, take, drop, true, ◌&&◌, ◌||◌}
-use Rattle.textwrap_base.proofs.Common.{◌≢◌, ◌+◌, ◌-◌, ◌<◌, ◌≤◌, ◌∷◌, map, sym, ap, ◌∙◌, not}
-use Rattle.textwrap_base.proofs.Common.{ℕ, slice_range, length-drop, IsCharBoundary, IsUtf8-between}
-use Rattle.textwrap_base.proofs.Common.{Bool, length, get_or, arith, cases_lt, IsUtf8, subst, false}
-use Rattle.textwrap_base.proofs.Common.{drop-drop, take-take, get_or-take, get_or-drop, true≢false}
+use Rattle.textwrap_base.proofs.Common.{inl, inr, ◌≡◌, List, [], ◌++◌, take, drop, true, ◌≢◌, ◌+◌}
+use Rattle.textwrap_base.proofs.Common.{◌-◌, ◌<◌, ◌≤◌, ◌∷◌, map, sym, ap, ◌∙◌, ℕ, slice_range}
+use Rattle.textwrap_base.proofs.Common.{length-drop, IsCharBoundary, IsUtf8-between, Bool, length}
+use Rattle.textwrap_base.proofs.Common.{get_or, arith, cases_lt, IsUtf8, subst, false, drop-drop}
+use Rattle.textwrap_base.proofs.Common.{take-take, get_or-take, get_or-drop, true≢false, le-ltb}
 use Rattle.textwrap_words.proofs.Common.{trimmed_len, without_final_blanks, word_of, piece}
 use Rattle.textwrap_words.proofs.Common.{broken_word, broken_words, broken_texts, text_width}
-use Rattle.textwrap_words.proofs.Common.{is_blank, Splitter, is_cut}
+use Rattle.textwrap_words.proofs.Common.{is_blank, Splitter, WordText}
 use Rattle.std.proofs.lemmas.List.{drop-take}
 use Rattle.textwrap_words.specs.PieceCuts.{parts_by, pieces_from, IsPart, AreFinalBlanks, is_point}
-use Rattle.textwrap_words.specs.PieceCuts.{is_piece_cut, IsPartWord, pieces_from_place}
+use Rattle.textwrap_words.specs.PieceCuts.{is_piece_cut, IsPartWord}
 use Rattle.textwrap_base.proofs.Lists.Parts.{length-slice, slice-nil}
 use Rattle.textwrap_words.proofs.Word.Texts.{trimmed-past, trimmed-le, trimmed-blank, trimmed-other}
 use Rattle.textwrap_words.proofs.Word.BrokenPieces.{broken_word-front, broken_word-texts}
@@ -17,13 +17,11 @@ use Rattle.textwrap_words.proofs.Word.BrokenPieces.{broken_texts-narrow, broken_
 use Rattle.textwrap_words.proofs.Word.Parts.{parts_by-front}
 use Rattle.textwrap_words.specs.Pieces.{IsFirstStop, is_stop, IsFirstWithin, IsFirstWord}
 use Rattle.textwrap_words.proofs.Word.Words.{text_width-nil}
-use Rattle.textwrap_words.proofs.Word.SplitParts.{point-none, blanks-part}
-use Rattle.textwrap_words.proofs.Word.SplitParts.{part-of_word, word-part}
+use Rattle.textwrap_words.proofs.Word.SplitParts.{point-none, blanks-part, part-of_word, word-part}
 use Rattle.std.proofs.lemmas.Str.{IsCharBoundary-end}
 use Rattle.textwrap_words.proofs.Word.Splitting.{point-hyphen}
 use Rattle.std.proofs.Math.Bool.{or-true}
 use Rattle.std.proofs.lemmas.Bool.{or_parts}
-use Rattle.textwrap_base.proofs.Common.{le-ltb}
 
 -- ---- the pieces of a text from a place on: those of the part that begins there, and those from
 -- its end on; and where the first of them stops inside the part
@@ -70,142 +68,116 @@ module _ (test : ℕ → Bool) (text : List ℕ) where
       ∙ ap (λ l. slice_range text at end ∷ parts_by test (at + n) l) (drop-drop n at text)
       ∙ ap (λ k. slice_range text at end ∷ parts_by test k (drop k text)) place
 
-  module _ (limit : ℕ) where
-    -- the pieces of the part, and those from its end on
-    pub pieces-part : (at word_end end : ℕ) → IsPart test text at end
-        → AreFinalBlanks text at word_end end
-        → pieces_from test limit text at
-        ≡ broken_word limit (piece (slice_range text at word_end) (slice_range text word_end end) [])
-        ++ pieces_from test limit text end
-    pieces-part at word_end end part are =
-        ap (λ ps. broken_words limit (map word_of ps)) (parts-front at end part)
-        ∙ ap (λ w. broken_word limit w ++ pieces_from test limit text end)
-        (word_of-slice text at word_end end part.within are)
+-- one part, whose final blanks are known
+module _ {test : ℕ → Bool} {text : List ℕ} {at word_end end : ℕ} (limit : ℕ)
+    (part : IsPart test text at end) (are : AreFinalBlanks text at word_end end) where
+  abbrev pub whole : WordText
+  whole = piece (slice_range text at word_end) (slice_range text word_end end) []
 
-    -- the part is one piece
-    pub pieces-whole : (at word_end end : ℕ) → IsPart test text at end
-        → AreFinalBlanks text at word_end end
-        → broken_word limit (piece (slice_range text at word_end) (slice_range text word_end end) [])
-        ≡ piece (slice_range text at word_end) (slice_range text word_end end) [] ∷ []
-        → pieces_from test limit text at
-        ≡ piece (slice_range text at word_end) (slice_range text word_end end) []
-        ∷ pieces_from test limit text end
-    pieces-whole at word_end end part are one = pieces-part at word_end end part are
-        ∙ ap (λ ws. ws ++ pieces_from test limit text end) one
+  -- the pieces of the part, and those from its end on
+  pieces-part : pieces_from test limit text at
+      ≡ broken_word limit whole ++ pieces_from test limit text end
+  pieces-part = ap (λ ps. broken_words limit (map word_of ps)) (parts-front test text at end part)
+      ∙ ap (λ w. broken_word limit w ++ pieces_from test limit text end)
+      (word_of-slice text at word_end end part.within are)
 
-    -- the first piece of a word that is wider than the limit, and those from where it stops
-    pub pieces-stop : (at stop word_end end : ℕ) → IsPart test text at end
-        → AreFinalBlanks text at word_end end → at < stop → stop < word_end
-        → IsUtf8 (slice_range text stop word_end) → limit < text_width (slice_range text at word_end)
-        → broken_texts limit (slice_range text at word_end)
-        ≡ slice_range text at stop ∷ broken_texts limit (slice_range text stop word_end)
-        → pieces_from test limit text at
-        ≡ piece (slice_range text at stop) [] [] ∷ pieces_from test limit text stop
-    pieces-stop at stop word_end end part are after inside utf8 wide texts =
-        let rest = slice_range text stop word_end in
-        let within : word_end ≤ length text = omega (arith, part.within, are.up_to) in
-        let some : rest ≢ [] = λ none.
-        omega (arith, ap length none, length-slice text stop word_end within, inside) in
-        let left : IsPart test text stop end = record {
-          some = omega (arith, inside, are.up_to);
-          within = part.within;
-          uncut = λ k past below. part.uncut k (omega (arith, after, past)) below;
-          ends = part.ends;
-        } in
-        let left_blanks : AreFinalBlanks text stop word_end end = record {
-          from = omega (arith, inside);
-          up_to = are.up_to;
-          other = λ _. are.other (omega (arith, after, inside));
-          blanks = are.blanks;
-        } in
-        pieces-part at word_end end part are ∙ ap (λ ws. ws ++ pieces_from test limit text end)
-        (broken_word-front limit (slice_range text at word_end) (slice_range text at stop) rest
-        (slice_range text word_end end) utf8 some wide texts)
-        ∙ ap (λ ws. piece (slice_range text at stop) [] [] ∷ ws)
-        (sym (pieces-part stop word_end end left left_blanks))
+  -- the part is one piece
+  pieces-whole : broken_word limit whole ≡ whole ∷ []
+      → pieces_from test limit text at ≡ whole ∷ pieces_from test limit text end
+  pieces-whole one = pieces-part ∙ ap (λ ws. ws ++ pieces_from test limit text end) one
+
+-- the first piece of a word that is wider than the limit, and those from where it stops
+pieces-stop : {test : ℕ → Bool} {text : List ℕ} {at word_end end : ℕ} (limit stop : ℕ)
+    → IsPart test text at end → AreFinalBlanks text at word_end end → at < stop → stop < word_end
+    → IsUtf8 (slice_range text stop word_end) → limit < text_width (slice_range text at word_end)
+    → broken_texts limit (slice_range text at word_end)
+    ≡ slice_range text at stop ∷ broken_texts limit (slice_range text stop word_end)
+    → pieces_from test limit text at
+    ≡ piece (slice_range text at stop) [] [] ∷ pieces_from test limit text stop
+pieces-stop {test} {text} {at} {word_end} {end} limit stop part are after inside utf8 wide texts =
+    let rest = slice_range text stop word_end in
+    let within : word_end ≤ length text = omega (arith, part.within, are.up_to) in
+    let some : rest ≢ [] = λ none.
+    omega (arith, ap length none, length-slice text stop word_end within, inside) in
+    let left : IsPart test text stop end = record {
+      some = omega (arith, inside, are.up_to);
+      within = part.within;
+      uncut = λ k past below. part.uncut k (omega (arith, after, past)) below;
+      ends = part.ends;
+    } in
+    let left_blanks : AreFinalBlanks text stop word_end end = record {
+      from = omega (arith, inside);
+      up_to = are.up_to;
+      other = λ _. are.other (omega (arith, after, inside));
+      blanks = are.blanks;
+    } in
+    pieces-part limit part are ∙ ap (λ ws. ws ++ pieces_from test limit text end)
+    (broken_word-front limit (slice_range text at word_end) (slice_range text at stop) rest
+    (slice_range text word_end end) utf8 some wide texts)
+    ∙ ap (λ ws. piece (slice_range text at stop) [] [] ∷ ws)
+    (sym (pieces-part limit left left_blanks))
 
 -- ---- the pieces of a text from a place on, where the first part of the text up to the end of a
 -- word is known
 
+-- the first piece from a place on goes up to `word_end`, and its blanks up to `end`
+abbrev pub BeginsWith : (ℕ → Bool) → ℕ → List ℕ → ℕ → ℕ → ℕ → ℕ → Type 0
+BeginsWith test limit text at word_end end width = pieces_from test limit text at
+    ≡ record {
+      word = slice_range text at word_end;
+      whitespace = slice_range text word_end end;
+      penalty = [];
+      width = width;
+    }
+    ∷ pieces_from test limit text end
+
 same-piece : (word whitespace : List ℕ) (width : ℕ) → width ≡ text_width word
     → piece word whitespace []
     ≡ record { word = word; whitespace = whitespace; penalty = []; width = width }
-same-piece word whitespace width wide =
-    ap (λ n. record { word = word; whitespace = whitespace; penalty = []; width = n }) (sym wide)
+same-piece word whitespace width wide = grind arith
 
-module _ (test : ℕ → Bool) (limit : ℕ) (text : List ℕ) (utf8 : IsUtf8 text) (at : ℕ)
-    (start : IsCharBoundary text at) where
-  -- there is no word before the blanks
-  pub blanks-alone : (end : ℕ) → IsPart test text at end → AreFinalBlanks text at at end
-      → pieces_from test limit text at
-      ≡ record {
-        word = slice_range text at at;
-        whitespace = slice_range text at end;
-        penalty = [];
-        width = 0;
-      }
-      ∷ pieces_from test limit text end
-  blanks-alone end part are =
-      let slice = slice_range text at at in
-      let none : slice ≡ [] = slice-nil text at in
-      let wide : text_width slice ≡ 0 = ap text_width none ∙ text_width-nil in
-      grind (arith, pieces-whole, le-ltb, same-piece)
+-- there is no word before the blanks
+blanks-alone : {test : ℕ → Bool} {text : List ℕ} {at end : ℕ} (limit : ℕ) → IsPart test text at end
+    → AreFinalBlanks text at at end → BeginsWith test limit text at at end 0
+blanks-alone {test} {text} {at} limit part are =
+    grind (arith, slice-nil, text_width-nil, pieces-whole, le-ltb, same-piece)
 
-  module _ (stops : ℕ → Bool) (last place width : ℕ) (r : IsFirstStop stops limit text at last place width)
-      (inside : at < last) (end : ℕ) (part : IsPart test text at end)
-      (are : AreFinalBlanks text at r.stop end) where
-    -- the part is one piece
-    pub part-ends : r.stop ≡ place
-        → pieces_from test limit text at
-        ≡ record {
-          word = slice_range text at place;
-          whitespace = slice_range text place end;
-          penalty = [];
-          width = width;
-        }
-        ∷ pieces_from test limit text end
-    part-ends same =
-        let slice = slice_range text at place in
-        let some = r.some inside in
-        let full : slice ≢ [] = λ none.
-        omega (arith, some, length-slice text at place r.boundary.0, ap length none) in
-        let one : broken_texts limit slice ≡ slice ∷ [] =
-        ap (λ v. broken_texts limit (slice_range text at v)) (sym same) ∙ r.first inside
-        ∙ ap (λ v. slice ∷ broken_texts limit (slice_range text place v)) same
-        ∙ ap (λ l. slice ∷ broken_texts limit l) (slice-nil text place)
-        ∙ ap (λ ls. slice ∷ ls) (broken_texts-nil limit) in
-        let own = IsUtf8-between text at place utf8 r.from start r.boundary in
-        pieces-whole test text limit at place end part (subst (λ v. AreFinalBlanks text at v end) same are)
-        (grind (arith, broken_word-texts))
-        ∙ ap (λ w. w ∷ pieces_from test limit text end)
-        (same-piece slice (slice_range text place end) width r.wide)
+module _ {test stops : ℕ → Bool} {limit : ℕ} {text : List ℕ} (utf8 : IsUtf8 text)
+    {at last place width : ℕ} (start : IsCharBoundary text at)
+    (r : IsFirstStop stops limit text at last place width) (inside : at < last) {end : ℕ}
+    (part : IsPart test text at end) (are : AreFinalBlanks text at r.stop end) where
+  -- the part is one piece
+  part-ends : r.stop ≡ place → BeginsWith test limit text at place end width
+  part-ends same =
+      grind (
+        arith,
+        length-slice,
+        slice-nil,
+        broken_texts-nil,
+        IsUtf8-between,
+        pieces-whole,
+        broken_word-texts,
+        same-piece,
+      )
 
-    -- the piece stops inside the part
-    pub part-stops : place < r.stop
-        → pieces_from test limit text at
-        ≡ record {
-          word = slice_range text at place;
-          whitespace = slice_range text place place;
-          penalty = [];
-          width = width;
-        }
-        ∷ pieces_from test limit text place
-    part-stops later =
-        let v = r.stop in
-        let front = slice_range text at place in
-        let rest = slice_range text place v in
-        let rest_utf8 = IsUtf8-between text place v utf8 (omega (arith, later)) r.boundary r.cut in
-        let whole_utf8 = IsUtf8-between text at v utf8 (omega (arith, r.from, later)) start r.cut in
-        let texts = r.first inside in
-        let full : slice_range text at v ≢ [] = λ none.
-        omega (arith, r.from, later, length-slice text at v r.cut.0, ap length none) in
-        let rest_some : rest ≢ [] = λ none.
-        omega (arith, later, length-slice text place v r.cut.0, ap length none) in
-        let past : limit < text_width (slice_range text at v) = grind (arith, broken_texts-narrow) in
-        pieces-stop test text limit at place v end part are (r.some inside) later rest_utf8 past texts
-        ∙ ap (λ l. piece front l [] ∷ pieces_from test limit text place) (sym (slice-nil text place))
-        ∙ ap (λ w. w ∷ pieces_from test limit text place)
-        (same-piece front (slice_range text place place) width r.wide)
+  -- the piece stops inside the part
+  part-stops : place < r.stop → BeginsWith test limit text at place place width
+  part-stops later =
+      let v = r.stop in
+      let front = slice_range text at place in
+      let rest = slice_range text place v in
+      let rest_utf8 = IsUtf8-between text place v utf8 (omega (arith, later)) r.boundary r.cut in
+      let whole_utf8 = IsUtf8-between text at v utf8 (omega (arith, r.from, later)) start r.cut in
+      let texts = r.first inside in
+      let full : slice_range text at v ≢ [] = λ none.
+      omega (arith, r.from, later, length-slice text at v r.cut.0, ap length none) in
+      let rest_some : rest ≢ [] = λ none.
+      omega (arith, later, length-slice text place v r.cut.0, ap length none) in
+      let past : limit < text_width (slice_range text at v) = grind (arith, broken_texts-narrow) in
+      pieces-stop limit place part are (r.some inside) later rest_utf8 past texts
+      ∙ ap (λ l. piece front l [] ∷ pieces_from test limit text place) (sym (slice-nil text place))
+      ∙ ap (λ w. w ∷ pieces_from test limit text place)
+      (same-piece front (slice_range text place place) width r.wide)
 
 -- ---- the first piece of a word with its blanks, where the reader stopped. The word may have
 -- blanks inside
@@ -219,16 +191,12 @@ module _ (splitter : Splitter) (limit : ℕ) (text : List ℕ) (utf8 : IsUtf8 te
   point-part : (place : ℕ) → at < place → place < length text
       → ((k : ℕ) → at < k → k < place → test k ≡ false) → test place ≡ true
       → IsPart test text at place × AreFinalBlanks text at place place
-  point-part place some below uncut is =
-      let byte = point-hyphen splitter text place (omega (arith, some)) below is in
-      let other : is_blank (get_or text (place - 1) 0) ≡ false = ap is_blank byte in
-      (grind arith, grind arith)
+  point-part place some below uncut is = grind (arith, point-hyphen)
 
   -- the last part ends with the blanks
   last-part : ((k : ℕ) → at < k → k < trimmed_len text → test k ≡ false)
       → IsPart test text at (length text) × AreFinalBlanks text at (trimmed_len text) (length text)
-  last-part uncut =
-      (grind (arith, cases_lt, point-none, trimmed-blank), grind (arith, trimmed-other, trimmed-blank))
+  last-part uncut = grind (arith, cases_lt, point-none, trimmed-blank, trimmed-other)
 
   pub first-within : (place width end : ℕ)
       → IsFirstStop (is_stop false splitter text) limit text at (trimmed_len text) place width
@@ -236,9 +204,8 @@ module _ (splitter : Splitter) (limit : ℕ) (text : List ℕ) (utf8 : IsUtf8 te
       → IsFirstWithin splitter limit text at (record { word_end = place; end = end; width = width })
   first-within place width end r whole inner = elim (cases_lt place (trimmed_len text)) [
     | inl early ↦
-        let here : end ≡ place = inner early in
         let later : at < trimmed_len text = omega (arith, r.from, early) in
-        rw here (record {
+        rw (inner early) (record {
           from = r.from;
           up_to = omega arith;
           boundary = r.boundary;
@@ -248,20 +215,16 @@ module _ (splitter : Splitter) (limit : ℕ) (text : List ℕ) (utf8 : IsUtf8 te
                 let same : r.stop ≡ place = omega (arith, most, r.up_to) in
                 let part = point-part r.stop (omega (arith, same, r.some later)) (omega (arith, same, early)) r.uncut
                 (r.ends (omega (arith, same, early))) in
-                rw same at (part-ends test limit text utf8 at start (is_stop false splitter text) (trimmed_len text)
-                place width r later r.stop part.0 part.1 same)
+                rw same at (part-ends utf8 start r later part.0 part.1 same)
             | inl sooner ↦ elim (cases_lt r.stop (trimmed_len text)) [
               | inl before_end ↦
                   let part = point-part r.stop (omega (arith, r.from, sooner)) (omega (arith, before_end)) r.uncut
                   (r.ends before_end) in
-                  part-stops test limit text utf8 at start (is_stop false splitter text) (trimmed_len text)
-                  place width r later r.stop part.0 part.1 sooner
+                  part-stops utf8 start r later part.0 part.1 sooner
               | inr none ↦
-                  let last : r.stop ≡ trimmed_len text = omega (arith, none, r.within) in
+                  let last : trimmed_len text ≡ r.stop = omega (arith, none, r.within) in
                   let part = last-part (λ k past below. r.uncut k past (omega (arith, last, below))) in
-                  part-stops test limit text utf8 at start (is_stop false splitter text) (trimmed_len text)
-                  place width r later (length text) part.0
-                  (subst (λ k. AreFinalBlanks text at k (length text)) (sym last) part.1) sooner
+                  part-stops utf8 start r later part.0 (rw last at part.1) sooner
             ]
           ];
         })
@@ -276,14 +239,13 @@ module _ (splitter : Splitter) (limit : ℕ) (text : List ℕ) (utf8 : IsUtf8 te
           before_blanks = λ more. absurd (omega (arith, more));
           first = elim (cases_lt at (trimmed_len text)) [
             | inl later ↦
-                part-ends test limit text utf8 at start (is_stop false splitter text) (trimmed_len text)
-                place width r later (length text) part.0
+                part-ends utf8 start r later part.0
                 (subst (λ k. AreFinalBlanks text at k (length text)) (omega (arith, same, here)) part.1) same
             | inr none ↦
                 let nothing : at ≡ place = omega (arith, none, here, r.from) in
                 let narrow : 0 ≡ width = sym (r.wide ∙ ap (λ k. text_width (slice_range text at k)) (sym nothing)
                 ∙ ap text_width (slice-nil text at) ∙ text_width-nil) in
-                rw (← nothing, ← narrow) (blanks-alone test limit text utf8 at start (length text) part.0
+                rw (← nothing, ← narrow) (blanks-alone limit part.0
                 (subst (λ k. AreFinalBlanks text at k (length text)) (omega (arith, nothing, here)) part.1))
           ];
         })
@@ -295,14 +257,7 @@ module _ (splitter : Splitter) (limit : ℕ) (text : List ℕ) (utf8 : IsUtf8 te
     (start : IsCharBoundary text at) (inside : at < length text) where
   -- there is no word before the blanks
   pub no-word : is_blank (get_or text at 0) ≡ true → IsFirstWord splitter limit text at at 0
-  no-word blank = record {
-    from = omega arith;
-    boundary = start;
-    first = λ end from within blanks stops.
-        let some : at < end = grind (arith, cases_lt, true≢false) in
-        let part = blanks-part splitter text at end some within blanks stops in
-        blanks-alone (is_piece_cut splitter text) limit text utf8 at start end part.0 part.1;
-  }
+  no-word blank = grind (arith, cases_lt, true≢false, blanks-part, blanks-alone)
 
   module _ (place width : ℕ)
       (r : IsFirstStop (is_stop true splitter text) limit text at (length text) place width)
@@ -315,25 +270,10 @@ module _ (splitter : Splitter) (limit : ℕ) (text : List ℕ) (utf8 : IsUtf8 te
     none-at k past below = or_parts (is_blank (get_or text k 0)) (is_point splitter text k) (r.uncut k past below)
 
     plain : (k : ℕ) → at ≤ k → k < r.stop → is_blank (get_or text k 0) ≡ false
-    plain k from below = elim (cases_lt at k) [
-      | inl past ↦ (none-at k past below).0
-      | inr least ↦ subst (λ k. is_blank (get_or text k 0) ≡ false) (omega (arith, from, least)) other
-    ]
+    plain k from below = grind (arith, cases_lt, none-at)
 
     word : IsPartWord splitter text at r.stop
-    word = record {
-      some = some;
-      within = r.within;
-      uncut = λ k past below.
-          ap (λ b. (b && not (is_blank (get_or text k 0))) || is_point splitter text k)
-          (plain (k - 1) (omega (arith, past)) (omega (arith, below, past)))
-          ∙ (none-at k past below).1;
-      other = plain (r.stop - 1) (omega (arith, some)) (omega (arith, some));
-      ends = λ before blank.
-          let point : is_point splitter text r.stop ≡ true =
-          sym (ap (λ b. b || is_point splitter text r.stop) blank) ∙ r.ends before in
-          ap (λ p. is_cut (get_or text (r.stop - 1) 0) (get_or text r.stop 0) || p) point ∙ or-true _;
-    }
+    word = grind (arith, plain, none-at, or-true)
 
     pub first-word : IsFirstWord splitter limit text at place width
     first-word = record {
@@ -343,21 +283,12 @@ module _ (splitter : Splitter) (limit : ℕ) (text : List ℕ) (utf8 : IsUtf8 te
         | inl later ↦
             let part = part-of_word splitter text at r.stop word in
             let same : place ≡ end = grind (arith, cases_lt, true≢false, plain) in
-            subst (λ k. pieces_from_place splitter limit text at
-            ≡ record {
-              word = slice_range text at place;
-              whitespace = slice_range text place k;
-              penalty = [];
-              width = width;
-            }
-            ∷ pieces_from_place splitter limit text k) same
-            (part-stops (is_piece_cut splitter text) limit text utf8 at start (is_stop true splitter text)
-            (length text) place width r inside part.0 part.1 part.2 later)
+            subst (λ k. BeginsWith (is_piece_cut splitter text) limit text at place k width) same
+            (part-stops utf8 start r inside part.1 part.2 later)
         | inr most ↦
             let same : r.stop ≡ place = omega (arith, most, r.up_to) in
             let part = word-part splitter text at r.stop end word (omega (arith, same, from)) within
             (λ k past below. blanks k (omega (arith, same, past)) below) ends in
-            part-ends (is_piece_cut splitter text) limit text utf8 at start (is_stop true splitter text)
-            (length text) place width r inside end part.0 part.1 same
+            part-ends utf8 start r inside part.0 part.1 same
       ];
     }

@@ -203,8 +203,7 @@ cut-contained offsets line cut h =
     let front = h.before ++ Visible h.character ∷ [] in
     let passes : is_cut_after offsets total h.character (0 + shown_len front) ≡ true =
     search (zero-add, not_from_false, lt-ltb, contains-any) in
-    let place : 0 + length (units_text front) ≡ cut =
-    zero-add (length (units_text front)) ∙ sym h.place in
+    let place : 0 + length (units_text front) ≡ cut = grind (arith, zero-add) in
     subst (λ us. Contains (cuts_among offsets total (ends_from 0 0 us)) cut) (sym h.divided)
     (subst (Contains (cuts_among offsets total (ends_from 0 0 (front ++ h.after)))) place
     (found-contains offsets total h.before h.after h.character 0 0 passes))
@@ -235,8 +234,7 @@ words_at-unique offsets line words = (
 shown-short : (us : List TextUnit) → shown_len us ≤ length (units_text us)
 shown-short [] = omega arith
 shown-short (Visible c ∷ us) = omega (arith, shown-short us, length-append {A = ℕ})
-shown-short (Sequence cs ∷ us) = rw (encodes-append cs (flat_map characters us))
-    (omega (arith, shown-short us, length-append {A = ℕ}))
+shown-short (Sequence cs ∷ us) = grind (arith, encodes-append, length-append, shown-short us)
 
 cut-inside : (offsets line : List ℕ) (cut : ℕ) → IsUtf8 line → IsCutAt offsets line cut
     → (cut < length line) × IsCharBoundary line cut
@@ -288,10 +286,8 @@ ends-among s at shown [] = refl
 ends-among s at shown (c ∷ cs) =
     let len = length (encode c) in
     elim (cases_Bool (shows s c)) [
-      | inl t ↦ rw (t, ends-among (next_of s c) (at + len) (shown + len) cs)
-          (sym (rw t at (ends-step s at shown c cs)))
-      | inr f ↦ rw (f, ends-among (next_of s c) (at + len) shown cs)
-          (sym (rw f at (ends-step s at shown c cs)))
+      | inl t ↦ grind (arith, ends-step, ends-among (next_of s c) (at + len) (shown + len) cs)
+      | inr f ↦ grind (arith, ends-step, ends-among (next_of s c) (at + len) shown cs)
     ]
 
 -- the cuts so far, and those among the ends from this character on
@@ -301,9 +297,7 @@ cuts-next : (offsets : List ℕ) (total shown : ℕ) (c : Character) (left : Lis
     → cond (visible && passes) (cuts ++ (c.at + length (encode c.ch)) ∷ []) cuts
     ++ cuts_among offsets total (ends_among (cond visible (shown + length (encode c.ch)) shown) left)
     ≡ cuts ++ cuts_among offsets total (ends_among shown (c ∷ left))
-cuts-next offsets total shown c left cuts true true see is = rw (see, is) (append_assoc cuts
-    ((c.at + length (encode c.ch)) ∷ [])
-    (cuts_among offsets total (ends_among (shown + length (encode c.ch)) left)))
+cuts-next offsets total shown c left cuts true true see is = grind (arith, append_assoc)
 cuts-next offsets total shown c left cuts true false see is = rw (see, is) refl
 cuts-next offsets total shown c left cuts false passes see is = rw see refl
 
@@ -317,11 +311,7 @@ pub record IsFinding (offsets line : List ℕ) (left : List Character) (shown : 
 
 module _ (offsets line : List ℕ) where
   pub IsFinding-start : IsUtf8 line → IsFinding offsets line (characters_of line) 0 []
-  IsFinding-start utf8 = record {
-    ahead = ahead-start line utf8;
-    bytes = omega (arith, ap length (shown-all line));
-    found = ap (cuts_among offsets (length (stripped line))) (ends-among Text 0 0 (chars line));
-  }
+  IsFinding-start utf8 = grind (arith, ahead-start, shown-all, ends-among)
 
   -- a character is read: the cut after it is found, if there is one
   pub IsFinding-step : (c : Character) (left : List Character) (shown : ℕ) (cuts : List ℕ)
@@ -330,9 +320,5 @@ module _ (offsets line : List ℕ) where
       → is_cut_after offsets (length (stripped line)) c.ch (shown + length (encode c.ch)) ≡ passes
       → IsFinding offsets line left (cond visible (shown + length (encode c.ch)) shown)
       (cond (visible && passes) (cuts ++ (c.at + length (encode c.ch)) ∷ []) cuts)
-  IsFinding-step c left shown cuts visible passes h see is = record {
-    ahead = (ahead-next line c left h.ahead).after;
-    bytes = grind (arith, cases_Bool, h.bytes, rw see at (shown-next c left));
-    found = cuts-next offsets (length (stripped line)) shown c left cuts visible passes see is
-        ∙ h.found;
-  }
+  IsFinding-step c left shown cuts visible passes h see is =
+      grind (arith, ahead-next, cases_Bool, shown-next, cuts-next)

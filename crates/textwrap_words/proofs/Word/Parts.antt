@@ -140,8 +140,7 @@ module _ {F : Type 0} {f : _} where
       ArePoints-hyphens Whole text points are
   MaySplit-hyphens splitters.TheVariants.HyphenSplitter built_in text points are =
       ArePoints-hyphens AtHyphens text points are
-  MaySplit-hyphens (splitters.TheVariants.Custom given) built_in text points may =
-      absurd (built_in refl)
+  MaySplit-hyphens (splitters.TheVariants.Custom given) built_in text points may = grind arith
 
 -- ---- lemmas on the parts that a test of places cuts bytes into
 
@@ -153,9 +152,7 @@ next_by test here at b rest = cond here ((b ∷ []) ∷ parts_by test (at + 1) r
 module _ (test : ℕ → Bool) where
   pub parts_by-some : (at b : ℕ) (cs : List ℕ) → 0 < length (parts_by test at (b ∷ cs))
   parts_by-some at b [] = omega arith
-  parts_by-some at b (c ∷ cs) =
-      elim (test (at + 1)) as (λ t. 0 < length (next_by test t at b (c ∷ cs)))
-      [ true ↦ omega arith | false ↦ onto_first-some b (parts_by test (at + 1) (c ∷ cs)) ]
+  parts_by-some at b (c ∷ cs) = grind (arith, onto_first-some)
 
   -- the first part ends at the first place where the test holds
   pub parts_by-front : (rest : List ℕ) (at n : ℕ) → 0 < n → n ≤ length rest
@@ -165,8 +162,7 @@ module _ (test : ℕ → Bool) where
   parts_by-front [] at (suc n) some within none ends = absurd (omega arith)
   parts_by-front (b ∷ []) at (suc zero) some within none ends = refl
   parts_by-front (b ∷ []) at (suc (suc n)) some within none ends = absurd (omega arith)
-  parts_by-front (b ∷ c ∷ cs) at (suc zero) some within none ends =
-      ap (λ t. next_by test t at b (c ∷ cs)) (ends (omega arith))
+  parts_by-front (b ∷ c ∷ cs) at (suc zero) some within none ends = grind arith
   parts_by-front (b ∷ c ∷ cs) at (suc (suc n)) some within none ends =
       let place : (at + 1) + suc n ≡ at + suc (suc n) = omega arith in
       ap (λ t. next_by test t at b (c ∷ cs)) (none 1 (omega arith) (omega arith))
@@ -204,8 +200,7 @@ module _ (text : List ℕ) (test point : ℕ → Bool)
       (onto_first b (parts_within point (at + 1) ((c ∷ q) ∷ qs)))
       ≡ next_by point t at b (c ∷ q) ++ parts_within point (at + 1 + length (c ∷ q)) qs
   within-step at b c q qs true = refl
-  within-step at b c q qs false = onto_first-append b (parts_by point (at + 1) (c ∷ q))
-      (parts_within point (at + 1 + length (c ∷ q)) qs) (parts_by-some point (at + 1) c q)
+  within-step at b c q qs false = grind (arith, onto_first-append, parts_by-some)
 
   chunks-step : (at b c : ℕ) (cs : List ℕ) (t : Bool)
       → parts_by test (at + 1) (c ∷ cs) ≡ parts_within point (at + 1) (chunks (c ∷ cs))
@@ -266,24 +261,16 @@ pub parts-same : (test other : ℕ → Bool) (rest : List ℕ) (at : ℕ)
 parts-same test other [] at same = refl
 parts-same test other (b ∷ []) at same = refl
 parts-same test other (b ∷ c ∷ cs) at same =
-    ap (λ t. next_by test t at b (c ∷ cs)) (same (at + 1) (omega arith) (omega arith))
-    ∙ ap (λ ps. if other (at + 1) then (b ∷ []) ∷ ps else onto_first b ps)
-    (parts-same test other (c ∷ cs) (at + 1)
-    (λ k from below. same k (omega (arith, from)) (omega (arith, below))))
+    grind (
+      arith,
+      parts-same test other (c ∷ cs) (at + 1) (λ k from below. same k (omega (arith, from)) (omega (arith, below))),
+    )
 
 module _ (test : ℕ → Bool) where
   pub places-above : (at : ℕ) (bytes : List ℕ) → All (λ place. at < place) (places_by test at bytes)
   places-above at [] = All-nil (λ place. at < place)
   places-above at (b ∷ []) = All-nil (λ place. at < place)
-  places-above at (b ∷ c ∷ cs) =
-      let rest = places_by test (at + 1) (c ∷ cs) in
-      let later : All (λ place. at < place) rest =
-      All-weaker (λ place. at + 1 < place) (λ place. at < place) (λ place h. omega (arith, h)) rest
-      (places-above (at + 1) (c ∷ cs)) in
-      elim (test (at + 1)) as (λ t. All (λ place. at < place) (cut_here t (at + 1) ++ rest)) [
-        | true ↦ All-cons (λ place. at < place) (at + 1) rest (omega arith) later
-        | false ↦ later
-      ]
+  places-above at (b ∷ c ∷ cs) = grind (arith, All-weaker, All-cons, places-above (at + 1) (c ∷ cs))
 
   -- ---- the parts
 
@@ -309,9 +296,7 @@ module _ (test : ℕ → Bool) where
   pub parts_between-places : (text : List ℕ)
       → parts_between (places_by test 0 text) text ≡ parts_by test 0 text
   parts_between-places [] = refl
-  parts_between-places (b ∷ rest) =
-      let some : (length (b ∷ rest) == 0) ≡ false = grind (arith, nat_tests) in
-      rw some (parts-places (b ∷ rest) 0 b rest refl)
+  parts_between-places (b ∷ rest) = grind (arith, nat_tests, parts-places)
 
   -- which are those between blanks where the test tells the places behind these
   pub parts-chunks : (text rest : List ℕ) (at : ℕ) → drop at text ≡ rest
@@ -359,8 +344,7 @@ module _ (test : ℕ → Bool) (len : ℕ) where
   }
   find-end (suc n) at all = elim (cases_Bool (test at)) [
     | inl is ↦ grind arith
-    | inr none ↦
-        grind (arith, cases_lt, find-end n (at + 1) (omega (arith, all)))
+    | inr none ↦ grind (arith, cases_lt, find-end n (at + 1) (omega (arith, all)))
   ]
 
   pub end-from : (at : ℕ) → at ≤ len → HasEnd test len at

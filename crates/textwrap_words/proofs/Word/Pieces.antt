@@ -1,19 +1,18 @@
 -- The pieces of split words: they tile their words, are texts, and stand one after another.
 use Rattle.textwrap_base.proofs.Common.{◌≡◌, IsNonDecreasing, flat_map-append, IsCharBoundary-start}
 use Rattle.textwrap_base.proofs.Common.{ℕ, ◌∷◌, sym, ap, ◌∙◌, All, map, inl, inr, ◌+◌}
-use Rattle.textwrap_base.proofs.Common.{suc, ◌<◌, ◌≤◌, List, [], ◌++◌, refl, drop, true, cond, take}
+use Rattle.textwrap_base.proofs.Common.{suc, ◌<◌, ◌≤◌, List, [], ◌++◌, refl, drop, true, take}
 use Rattle.textwrap_base.proofs.Common.{arith, length, get_or, IsUtf8, subst, All-map, rules, false}
 use Rattle.textwrap_base.proofs.Common.{slice_range, append_assoc, IsCharBoundary, IsUtf8-between}
 use Rattle.textwrap_base.proofs.Common.{append-nil, drop_split, and_parts, IsUtf8-drop, All-append}
 use Rattle.textwrap_base.proofs.Common.{All-head, All-tail, All-nil, All-cons, cases_lt, eqb-true}
 use Rattle.textwrap_words.proofs.Common.{points_of, split_from, split_pieces, split_word}
 use Rattle.textwrap_words.proofs.Common.{split_words, AreSplit, Splitter, AreCuts, WordText}
-use Rattle.textwrap_words.proofs.Common.{tile_of, tiled, Whole, AtHyphens, hyphen, ends_in_hyphen}
-use Rattle.textwrap_words.proofs.Common.{is_hyphen_point, cut_penalty, ArePoints, piece, word_of}
+use Rattle.textwrap_words.proofs.Common.{tile_of, tiled, Whole, AtHyphens, ends_in_hyphen}
+use Rattle.textwrap_words.proofs.Common.{cut_penalty, ArePoints, piece, word_of}
 use Rattle.textwrap_words.proofs.Common.{words_of, chunks, AreWordsOf, is_blank, BlanksBetween}
 use Rattle.textwrap_words.proofs.Word.Splitting.{points_of-cuts}
 use Rattle.std.proofs.lemmas.List.Elements.{filter_passes}
-use Rattle.textwrap_words.specs.WordSplitters.{inner_offsets}
 use Rattle.textwrap_words.proofs.Word.Words.{IsMeasured, HasNoPenalty, words-measured}
 use Rattle.textwrap_words.proofs.Word.Words.{tiled-words_of, words_unique}
 use Rattle.textwrap_words.proofs.Word.Texts.{chunks-utf8}
@@ -68,8 +67,7 @@ pub AreSplit-is : (splitter : Splitter) (words pieces : List WordText)
     → AreSplit (ArePoints splitter) words pieces → pieces ≡ split_words splitter words
 AreSplit-is splitter [] pieces are = are
 AreSplit-is splitter (w ∷ words) pieces (points, rest, points_are, rest_are, is) =
-    is ∙ ap (λ ps. split_pieces ps w ++ rest) points_are ∙ ap (λ l. split_word splitter w ++ l)
-    (AreSplit-is splitter words rest rest_are)
+    grind (arith, AreSplit-is splitter words rest rest_are)
 
 pub AreSplit-computed : (splitter : Splitter) (words : List WordText)
     → AreSplit (ArePoints splitter) words (split_words splitter words)
@@ -106,22 +104,20 @@ split_from-measured w start (point ∷ points) measured at in_order cuts before 
 points_of-hyphens : (splitter : Splitter) (text : List ℕ)
     → All (λ p. ends_in_hyphen (take p text) ≡ true) (points_of splitter text)
 points_of-hyphens Whole text = All-nil (λ p. ends_in_hyphen (take p text) ≡ true)
-points_of-hyphens AtHyphens text = λ k d lt. (and_parts _ _ (and_parts _ _
-    (filter_passes (is_hyphen_point text) (inner_offsets text) k d lt)).0).0
+points_of-hyphens AtHyphens text = grind (arith, and_parts, filter_passes)
 
 pub split_from-no_penalty : (w : WordText) (start : ℕ) (points : List ℕ) → HasNoPenalty w
     → All (λ p. ends_in_hyphen (take p w.word) ≡ true) points
     → All HasNoPenalty (split_from w start points)
-split_from-no_penalty w start [] none ends =
-    All-cons HasNoPenalty (piece (drop start w.word) w.whitespace w.penalty) [] none
-    (All-nil HasNoPenalty)
+split_from-no_penalty w start [] none ends = grind (arith, All-cons, All-nil)
 split_from-no_penalty w start (point ∷ points) none ends =
-    All-cons HasNoPenalty (piece (slice_range w.word start point) [] (cut_penalty w.word point))
-    (split_from w point points)
-    (ap (λ b. cond b [] (hyphen ∷ []))
-    (All-head (λ p. ends_in_hyphen (take p w.word) ≡ true) point points ends))
-    (split_from-no_penalty w point points none
-    (All-tail (λ p. ends_in_hyphen (take p w.word) ≡ true) point points ends))
+    grind (
+      arith,
+      All-cons,
+      All-head,
+      All-tail,
+      split_from-no_penalty w point points none (All-tail (λ p. ends_in_hyphen (take p w.word) ≡ true) point points ends),
+    )
 
 -- the parts of a line, each taken as a word
 pub AreTexts-parts : (line : List ℕ) (parts : List (List ℕ)) → tiled (map word_of parts) ≡ line
@@ -140,9 +136,7 @@ ArePoints-cuts splitter text points utf8 are =
 
 pub ArePoints-hyphens : (splitter : Splitter) (text points : List ℕ)
     → ArePoints splitter text points → All (λ p. ends_in_hyphen (take p text) ≡ true) points
-ArePoints-hyphens splitter text points are =
-    subst (All (λ p. ends_in_hyphen (take p text) ≡ true)) (sym are)
-    (points_of-hyphens splitter text)
+ArePoints-hyphens splitter text points are = grind (arith, points_of-hyphens)
 
 -- ---- the pieces of words that are split at any points where they may be cut
 
@@ -181,9 +175,7 @@ module _ (Words : List ℕ → List WordText → Type 0) (Points : List ℕ → 
 
   pub split-tile : (paragraph : List ℕ) (split : List WordText) → IsUtf8 paragraph
       → AreSplitWords paragraph split → tiled split ≡ paragraph
-  split-tile paragraph split utf8 (words, words_are, split_are) =
-      let are = texts paragraph words utf8 words_are in
-      AreSplit-tile words split are.measured split_are ∙ are.tile
+  split-tile paragraph split utf8 (words, words_are, split_are) = grind (arith, AreSplit-tile)
 
 module _ (Points : List ℕ → List ℕ → Type 0) (hyphens : (text points : List ℕ)
     → Points text points → All (λ p. ends_in_hyphen (take p text) ≡ true) points) where
@@ -209,8 +201,7 @@ module _ (splitter : Splitter) (limit : ℕ) (text : List ℕ) (at word_end widt
       ∷ stand_from end (pieces_from_place splitter limit text end)
   word-stands stops =
       let n = length (slice_range text at word_end) in
-      let one : at + n ≡ word_end =
-      omega (arith, length-slice text at word_end word.boundary.0, word.from) in
+      let one : at + n ≡ word_end = grind (arith, length-slice) in
       let both : at + n + (length (slice_range text word_end end)) ≡ end =
       omega (arith, one, length-slice text word_end end within, from) in
       grind arith
@@ -218,9 +209,6 @@ module _ (splitter : Splitter) (limit : ℕ) (text : List ℕ) (at word_end widt
   -- a character ends after the blanks
   pub blanks-end : IsUtf8 text → IsCharBoundary text end
   blanks-end utf8 = elim (cases_lt word_end end) [
-    | inr none ↦
-        let same : word_end ≡ end = omega (arith, none, from) in
-        subst (IsCharBoundary text) same word.boundary
-    | inl some ↦
-        search (rules, IsCharBoundary-after_blank, eqb-true)
+    | inr none ↦ grind arith
+    | inl some ↦ grind (arith, IsCharBoundary-after_blank, eqb-true)
   ]

@@ -4,80 +4,71 @@ use Rattle.textwrap_base.proofs.Common.{◌≢◌, ◌+◌, ◌≤◌, sym, inl,
 use Rattle.textwrap_base.proofs.Common.{ℕ, false, length, IsUtf8, take_at, get_or, eqb-true, ne_eqb}
 use Rattle.textwrap_base.proofs.Common.{[], cases_Bool, slice_range, cases_lt, chars-nil, drop_more}
 use Rattle.textwrap_base.proofs.Common.{append_assoc, IsCharBoundary, IsUtf8-between, chars-append}
+use Rattle.textwrap_base.proofs.Common.{IsUtf8-drop}
 use Rattle.textwrap_words.proofs.Common.{Visible, units, is_due, next_of, shows, broken_texts}
 use Rattle.textwrap_words.proofs.Common.{is_blank, Splitter, text_width, columns}
 use Rattle.textwrap_words.proofs.Word.Ahead.{IsInFirst, IsInFirst-start, IsInFirst-step}
-use Rattle.textwrap_words.proofs.Word.Ahead.{IsInFirst-cut, EndsHere}
+use Rattle.textwrap_words.proofs.Word.Ahead.{IsInFirst-cut, EndsHere, character-within}
+use Rattle.textwrap_words.proofs.Word.Ahead.{first-bytes}
 use Rattle.textwrap_base.proofs.Texts.{starts-within}
-use Rattle.textwrap_words.proofs.Word.Ahead.{character-within, first-bytes}
 use Rattle.textwrap_words.proofs.Word.BrokenPieces.{IsFirstPiece, IsFirstPiece-found}
 use Rattle.std.specs.Prelude.{chars, encode_utf8}
 use Rattle.textwrap_words.specs.declared.escapes.State.{State}
 use Rattle.textwrap_words.specs.declared.escapes.State.TheVariants.{Text}
 use Rattle.textwrap_words.proofs.Units.Reading.{added-le, IsRead, read-ahead, read-next, read-none}
-use Rattle.textwrap_words.proofs.Units.Reading.{read-start, added, chars-push}
-use Rattle.textwrap_words.proofs.Units.Reading.{columns-printable, printable-no_escape}
+use Rattle.textwrap_words.proofs.Units.Reading.{read-start, added, chars-push, columns-printable}
+use Rattle.textwrap_words.proofs.Units.Reading.{printable-no_escape}
 use Rattle.std.proofs.lemmas.Str.{IsCharBoundary-from_drop, IsCharBoundary-before_ascii}
 use Rattle.std.proofs.lemmas.Str.{encode_ascii}
 use Rattle.textwrap_base.proofs.Lists.Parts.{length-slice, slices_joined, slice_after, slice-nil}
 use Rattle.textwrap_base.proofs.Lists.Parts.{slice_before}
-use Rattle.textwrap_words.proofs.Word.Splitting.{HoldsBetween}
+use Rattle.textwrap_words.proofs.Word.Splitting.{HoldsBetween, point-hyphen, after-hyphen_byte}
 use Rattle.std.proofs.lemmas.Bool.{or_cases}
 use Rattle.textwrap_words.specs.PieceCuts.{is_point}
 use Rattle.textwrap_words.specs.Pieces.{is_stop, IsFirstStop, IsLetter}
 use Rattle.textwrap_words.proofs.Word.Parts.{HasEnd, end-from}
 use Rattle.textwrap_words.proofs.Word.Words.{text_width-nil}
 use Rattle.textwrap_words.proofs.Word.Breaking.{due-false}
-use Rattle.textwrap_words.proofs.Word.Splitting.{point-hyphen, after-hyphen_byte}
-use Rattle.textwrap_base.proofs.Common.{IsUtf8-drop}
 
 -- ---- the reader of the first piece
 
-module _ (limit : ℕ) (text : List ℕ) where
-  pub record IsReading (at : ℕ) (rest : List ℕ) (state : State) (width : ℕ) : Type 0 where
-    pub read : IsRead text at rest
-    pub bound : width ≤ at
-    pub inside : IsInFirst limit (chars text) state width (chars rest)
+pub record IsReading (limit : ℕ) (text : List ℕ) (at : ℕ) (rest : List ℕ) (state : State)
+    (width : ℕ) : Type 0 where
+  pub read : IsRead text at rest
+  pub bound : width ≤ at
+  pub inside : IsInFirst limit (chars text) state width (chars rest)
 
-  pub IsReading-start : IsUtf8 text → IsReading 0 text Text 0
-  IsReading-start utf8 = record {
-    read = read-start text utf8;
-    bound = omega arith;
-    inside = IsInFirst-start limit (chars text);
+pub IsReading-start : (limit : ℕ) (text : List ℕ) → IsUtf8 text → IsReading limit text 0 text Text 0
+IsReading-start limit text utf8 = grind (arith, read-start, IsInFirst-start)
+
+module _ {limit : ℕ} {text : List ℕ} {at : ℕ} {rest : List ℕ} {s : State} {width : ℕ}
+    (h : IsReading limit text at rest s width) where
+  pub IsReading-step : (c : ℕ) (after : List ℕ) → rest ≡ encode_utf8 c ++ after
+      → (shows s c ≡ true → is_due limit width (Visible c) ≡ false) → (end : ℕ)
+      → end ≡ at + length (encode_utf8 c)
+      → IsReading limit text end after (next_of s c) (width + added s c)
+  IsReading-step c after e room end past = record {
+    read = read-next h.read c after e end past;
+    bound = omega (arith, h.bound, added-le s c, past);
+    inside = grind (arith, IsInFirst-step, read-ahead);
   }
 
-  module _ (at : ℕ) (rest : List ℕ) (s : State) (width : ℕ) (h : IsReading at rest s width) where
-    pub IsReading-step : (c : ℕ) (after : List ℕ) → rest ≡ encode_utf8 c ++ after
-        → (shows s c ≡ true → is_due limit width (Visible c) ≡ false) → (end : ℕ)
-        → end ≡ at + length (encode_utf8 c) → IsReading end after (next_of s c) (width + added s c)
-    IsReading-step c after e room end past = record {
-      read = read-next h.read c after e end past;
-      bound = omega (arith, h.bound, added-le s c, past);
-      inside = IsInFirst-step limit (chars text) s width c (chars after)
-          (subst (IsInFirst limit (chars text) s width) (read-ahead h.read c after e) h.inside) room;
-    }
+  -- it is found where what follows begins the next piece
+  found : IsUtf8 text → text ≢ [] → EndsHere limit (chars text) width (units (chars rest))
+      → IsFirstPiece limit text at width
+  found utf8 some ends = IsFirstPiece-found limit text at width utf8 some h.read.boundary.0
+      (rw h.read.place h.read.utf8) (rw h.read.place ends)
 
-    -- it is found where what follows begins the next piece
-    found : IsUtf8 text → text ≢ [] → EndsHere limit (chars text) width (units (chars rest))
-        → IsFirstPiece limit text at width
-    found utf8 some ends = IsFirstPiece-found limit text at width utf8 some h.read.boundary.0
-        (subst IsUtf8 (sym h.read.place) h.read.utf8)
-        (subst (λ bs. EndsHere limit (chars text) width (units (chars bs))) (sym h.read.place) ends)
+  pub IsReading-cut : (c : ℕ) (after : List ℕ) → IsUtf8 text → text ≢ []
+      → rest ≡ encode_utf8 c ++ after → shows s c ≡ true → is_due limit width (Visible c) ≡ true
+      → IsFirstPiece limit text at width
+  IsReading-cut c after utf8 some e shown due =
+      let here = read-ahead h.read c after e in
+      found utf8 some (rw here (IsInFirst-cut limit (chars text) s width c (chars after)
+      (rw here at h.inside) shown due))
 
-    pub IsReading-cut : (c : ℕ) (after : List ℕ) → IsUtf8 text → text ≢ []
-        → rest ≡ encode_utf8 c ++ after → shows s c ≡ true → is_due limit width (Visible c) ≡ true
-        → IsFirstPiece limit text at width
-    IsReading-cut c after utf8 some e shown due =
-        let here = read-ahead h.read c after e in
-        found utf8 some (subst (λ cs. EndsHere limit (chars text) width (units cs)) (sym here)
-        (IsInFirst-cut limit (chars text) s width c (chars after)
-        (subst (IsInFirst limit (chars text) s width) here h.inside) shown due))
-
-    pub IsReading-end : IsUtf8 text → text ≢ [] → length rest ≡ 0 → IsFirstPiece limit text at width
-    IsReading-end utf8 some none =
-        let ended = read-none h.read none in
-        found utf8 some (subst (λ cs. EndsHere limit (chars text) width (units cs)) (sym ended)
-        (grind arith))
+  pub IsReading-end : IsUtf8 text → text ≢ [] → length rest ≡ 0 → IsFirstPiece limit text at width
+  IsReading-end utf8 some none = grind (arith, found, read-none)
 
 -- ---- the reader of the first piece from a place on: what it has seen of it, whatever
 -- characters follow
@@ -95,19 +86,19 @@ pub record IsScanned (test : ℕ → Bool) (limit : ℕ) (text : List ℕ) (at p
 abbrev pub GoesOn : (ℕ → Bool) → List ℕ → ℕ → ℕ → Type 0
 GoesOn test text at place = at < place → place < length text → test place ≡ false
 
-module _ (test : ℕ → Bool) (limit : ℕ) (text : List ℕ) (utf8 : IsUtf8 text) (at : ℕ)
+module _ {test : ℕ → Bool} {limit : ℕ} {text : List ℕ} (utf8 : IsUtf8 text) {at : ℕ}
     (start : IsCharBoundary text at) where
   pub scanned-start : IsScanned test limit text at at Text 0
   scanned-start = grind (arith, slice-nil, chars-nil, IsInFirst-start)
 
   -- the reader goes over a character
-  pub scanned-step : (place c : ℕ) (after : List ℕ) (state : State) (width : ℕ)
+  pub scanned-step : {place : ℕ} (c : ℕ) (after : List ℕ) {state : State} {width : ℕ}
       → HoldsBetween test text → IsScanned test limit text at place state width
       → GoesOn test text at place → drop place text ≡ encode_utf8 c ++ after
       → (shows state c ≡ true → is_due limit width (Visible c) ≡ false)
       → IsScanned test limit text at (place + length (encode_utf8 c)) (next_of state c)
       (width + added state c)
-  scanned-step place c after state width stands h on is room =
+  scanned-step {place} c after {state} {width} stands h on is room =
       let end = place + length (encode_utf8 c) in
       let from = h.from in
       let cut = (read-next (grind (arith, IsUtf8-drop)) c after is end refl).boundary in
@@ -121,20 +112,8 @@ module _ (test : ℕ → Bool) (limit : ℕ) (text : List ℕ) (utf8 : IsUtf8 te
         from = omega (arith, from);
         boundary = cut;
         uncut = λ k past below. elim (cases_lt place k) [
-          | inl later ↦ elim (cases_Bool (test k)) [
-            | inr none ↦ none
-            | inl cut_there ↦
-                let past_it = character-within text utf8 place c after h.boundary is k later
-                (stands k (omega (arith, later)) (omega (arith, below, cut.0)) cut_there) in
-                absurd (omega (arith, past_it, below))
-          ]
-          | inr most ↦ elim (cases_lt k place) [
-            | inl before ↦ h.uncut k past before
-            | inr least ↦
-                let same : place ≡ k = omega (arith, most, least) in
-                ap test (sym same)
-                ∙ on (omega (arith, same, past)) (starts-within text place c after is)
-          ]
+          | inl later ↦ grind (arith, cases_Bool, character-within)
+          | inr most ↦ grind (arith, cases_lt, starts-within)
         ];
         bound = omega (arith, h.bound, added-le state c, from);
         reads = λ more.
@@ -145,26 +124,19 @@ module _ (test : ℕ → Bool) (limit : ℕ) (text : List ℕ) (utf8 : IsUtf8 te
       }
 
   -- it reads each part that goes on from there, as one that knows where the part ends
-  pub scanned-reading : (place v : ℕ) (state : State) (width : ℕ)
+  pub scanned-reading : {place : ℕ} (v : ℕ) {state : State} {width : ℕ}
       → IsScanned test limit text at place state width → place ≤ v → IsCharBoundary text v
       → IsReading limit (slice_range text at v) (place - at) (slice_range text place v) state width
-  scanned-reading place v state width h up_to cut =
+  scanned-reading {place} v h up_to cut =
       let from = h.from in
       let own = IsUtf8-between text place v utf8 up_to h.boundary cut in
       let place_is = slice_after text at place v from up_to in
       record {
-        read = record {
-          utf8 = own;
-          place = place_is;
-          boundary = IsCharBoundary-from_drop (slice_range text at v) (place - at)
-              (omega (arith, length-slice text at v cut.0, up_to, from))
-              (subst IsUtf8 (sym place_is) own);
-        };
+        read = grind (arith, IsCharBoundary-from_drop, length-slice, from);
         bound = h.bound;
-        inside = subst (λ cs. IsInFirst limit cs state width (chars (slice_range text place v)))
-            (sym (ap chars (slices_joined text at place v from up_to)
+        inside = rw (ap chars (slices_joined text at place v from up_to)
             ∙ chars-append (slice_range text at place) (slice_range text place v)
-            (IsUtf8-between text at place utf8 from start h.boundary)))
+            (IsUtf8-between text at place utf8 from start h.boundary))
             (h.reads (chars (slice_range text place v)));
       }
 
@@ -183,8 +155,8 @@ module _ (at_blanks : Bool) (splitter : Splitter) (text : List ℕ) (utf8 : IsUt
   stops-between place some inside is =
       grind (arith, IsCharBoundary-before_ascii, eqb-true, or_cases, after-hyphen_byte, point-hyphen)
 
-  module _ (limit at end : ℕ) (start : IsCharBoundary text at) (last : IsCharBoundary text end)
-      (place : ℕ) (state : State) (width : ℕ)
+  module _ {limit at : ℕ} (end : ℕ) (start : IsCharBoundary text at)
+      (last : IsCharBoundary text end) {place : ℕ} {state : State} {width : ℕ}
       (h : IsScanned (is_stop at_blanks splitter text) limit text at place state width) where
     -- where the first piece of the text up to a later place is found
     record Found (v : ℕ) : Type 0 where
@@ -194,15 +166,7 @@ module _ (at_blanks : Bool) (splitter : Splitter) (text : List ℕ) (utf8 : IsUt
 
     found-at : (v : ℕ) → place ≤ v → IsFirstPiece limit (slice_range text at v) (place - at) width
         → Found v
-    found-at v up_to found =
-        let before = slice_before text at place v up_to in
-        let after = slice_after text at place v h.from up_to in
-        record {
-          first = found.first
-              ∙ ap (λ l. l ∷ broken_texts limit (drop (place - at) (slice_range text at v))) before
-              ∙ ap (λ l. slice_range text at place ∷ broken_texts limit l) after;
-          wide = found.wide ∙ ap text_width before;
-        }
+    found-at v up_to found = grind (arith, slice_before, slice_after)
 
     some-text : (v : ℕ) → at < v → v ≤ length text → slice_range text at v ≢ []
     some-text v later within none = omega (arith, later, length-slice text at v within, ap length none)
@@ -211,11 +175,9 @@ module _ (at_blanks : Bool) (splitter : Splitter) (text : List ℕ) (utf8 : IsUt
     pub stop-here : place ≤ end → (place < end → is_stop at_blanks splitter text place ≡ true)
         → (at < end → at < place) → IsFirstStop (is_stop at_blanks splitter text) limit text at end place width
     stop-here within ends some =
-        let read = scanned-reading (is_stop at_blanks splitter text) limit text utf8 at start place place state width h
-        (omega arith) h.boundary in
+        let read = scanned-reading utf8 start place h (omega arith) h.boundary in
         let whole = λ (later : at < place). found-at place (omega arith)
-        (IsReading-end limit (slice_range text at place) (place - at) (slice_range text place place) state
-        width read (IsUtf8-between text at place utf8 h.from start h.boundary)
+        (IsReading-end read (IsUtf8-between text at place utf8 h.from start h.boundary)
         (some-text place later h.boundary.0) (ap length (slice-nil text place))) in
         record {
           stop = place;
@@ -255,11 +217,9 @@ module _ (at_blanks : Bool) (splitter : Splitter) (text : List ℕ) (utf8 : IsUt
           | inr none ↦ subst (IsCharBoundary text) (omega (arith, none, next.within)) last
         ] in
         let bytes = first-bytes text utf8 place c after h.boundary is v later cut in
-        let read = scanned-reading (is_stop at_blanks splitter text) limit text utf8 at start place v state width h
-        (omega (arith, later)) cut in
-        let found = found-at v (omega (arith, later))
-        (IsReading-cut limit (slice_range text at v) (place - at) (slice_range text place v) state width
-        read c bytes.0 (IsUtf8-between text at v utf8 (omega (arith, some, later)) start cut)
+        let read = scanned-reading utf8 start v h (omega (arith, later)) cut in
+        let found = found-at v (omega (arith, later)) (IsReading-cut read c bytes.0
+        (IsUtf8-between text at v utf8 (omega (arith, some, later)) start cut)
         (some-text v (omega (arith, some, later)) cut.0) bytes.1 shown due) in
         record {
           stop = v;
@@ -297,7 +257,7 @@ module _ (at_blanks : Bool) (splitter : Splitter) (limit : ℕ) (text : List ℕ
       → ((k : ℕ) → k < n → IsLetter (get_or text (at + k) 0)) → IsPast n
   scanned-letters zero narrow within letters = record {
     scanned = subst (λ k. IsScanned (is_stop at_blanks splitter text) limit text at k Text 0)
-        (omega arith) (scanned-start (is_stop at_blanks splitter text) limit text utf8 at start);
+        (omega arith) (scanned-start utf8 start);
     on = λ past. absurd (omega (arith, past));
   }
   scanned-letters (suc n) narrow within letters =
@@ -312,8 +272,7 @@ module _ (at_blanks : Bool) (splitter : Splitter) (limit : ℕ) (text : List ℕ
       let on : GoesOn (is_stop at_blanks splitter text) text at place = λ past inside.
       no-stop at_blanks splitter text place (λ _. ne_eqb c 32 letter.not_blank) (h.on past inside) in
       let next = rw (printable-no_escape c letter.printable)
-      at (scanned-step (is_stop at_blanks splitter text) limit text utf8 at start place c
-      (drop (place + 1) text) Text n between h.scanned on is
+      at (scanned-step utf8 start c (drop (place + 1) text) between h.scanned on is
       (λ _. due-false limit n c (λ _. omega (arith, columns-printable c letter.printable, narrow)))) in
       let end : place + length (encode_utf8 c) ≡ at + suc n = omega (arith, ap length one) in
       let wide : n + columns c ≡ suc n = omega (arith, columns-printable c letter.printable) in

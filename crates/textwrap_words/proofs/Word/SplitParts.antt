@@ -1,7 +1,7 @@
 -- Words that are split are the parts of the text wherever a test of places cuts it.
 use Rattle.textwrap_base.proofs.Common.{◌≡◌, false, length, filter, take_at, get_or, IsUtf8}
 use Rattle.textwrap_base.proofs.Common.{ℕ, true, cond, List, ◌++◌, take, drop, arith, rules, subst}
-use Rattle.textwrap_base.proofs.Common.{◌+◌, ◌-◌, ◌<◌, ◌≤◌, ◌∷◌, map, refl, sym, last, ◌||◌, ◌&&◌}
+use Rattle.textwrap_base.proofs.Common.{◌+◌, ◌-◌, ◌<◌, ◌≤◌, ◌∷◌, map, refl, sym, last, ◌||◌}
 use Rattle.textwrap_base.proofs.Common.{Bool, take-append-add, take-append-drop, get_or_append_left}
 use Rattle.textwrap_base.proofs.Common.{[], append_assoc, length-append, slice_range, IsUtf8-append}
 use Rattle.textwrap_base.proofs.Common.{ap, IsUtf8-nil, map-append, and_parts, take_more, and_right}
@@ -182,8 +182,7 @@ module _ (before q after : List ℕ) (utf8 : IsUtf8 before) (plain : EndsPlain b
 
   pub split-word : (splitter : Splitter)
       → split_word splitter w ≡ map word_of (parts_by (is_point splitter text) at q)
-  split-word Whole =
-      ap (map word_of) (sym (parts_by-whole (is_point Whole text) q at some (λ k start inside. refl)))
+  split-word Whole = grind (arith, parts_by-whole)
   split-word AtHyphens = split-at_hyphens
 
 -- ---- the pieces of words that end at cuts, word by word
@@ -192,9 +191,7 @@ module _ (splitter : Splitter) (limit : ℕ) where
   -- no pieces are left at the end of a word
   pub within-none : (text : List ℕ) (at : ℕ) → length text ≤ at
       → pieces_within splitter limit text at ≡ []
-  within-none text at past =
-      ap (λ l. broken_words limit (map word_of (parts_by (is_point splitter text) at l)))
-      (drop_all at text past)
+  within-none text at past = grind (arith, drop_all)
 
   -- those of the first word, and those of the words after it
   pub words-first : (q : List ℕ) (qs : List (List ℕ)) → IsUtf8 q → 0 < length q
@@ -221,13 +218,7 @@ module _ (splitter : Splitter) (limit : ℕ) where
       let k = at - start in
       let n = length (slice_range text k piece.word_end) in
       let within = first.boundary.0 in
-      let one : at + n ≡ start + piece.word_end = omega (
-        arith,
-        from,
-        first.from,
-        first.up_to,
-        length-slice text k piece.word_end (omega (arith, within, first.up_to)),
-      ) in
+      let one : at + n ≡ start + piece.word_end = grind (arith, length-slice) in
       let both : at + n + (length (slice_range text piece.word_end piece.end)) ≡ start + piece.end =
       omega (arith, one, first.up_to, length-slice text piece.word_end piece.end within) in
       ap (λ ws. stand_from at (ws ++ others)) first.first ∙ grind arith
@@ -241,11 +232,8 @@ ends-plain : (before q : List ℕ) → IsUtf8 (before ++ q) → 0 < length q →
 ends-plain before q utf8 some blank =
     let n = length q - 1 in
     let byte : last q ≡ 32 = eqb-true (last q) 32 blank in
-    let shape : q ≡ take n q ++ 32 ∷ [] =
-    sym (take_all (n + 1) q (omega arith)) ∙ take_more q n 0 (omega (arith, some))
-    ∙ ap (λ b. take n q ++ b ∷ []) byte in
-    let whole : before ++ q ≡ (before ++ take n q) ++ 32 ∷ [] =
-    ap (λ l. before ++ l) shape ∙ sym (append_assoc before (take n q) (32 ∷ [])) in
+    let shape : q ≡ take n q ++ 32 ∷ [] = grind (arith, take_all, take_more) in
+    let whole : before ++ q ≡ (before ++ take n q) ++ 32 ∷ [] = grind (arith, append_assoc) in
     subst EndsPlain (sym whole) (ends-blank (before ++ take n q) (subst IsUtf8 whole utf8))
 
 -- a chunk with another after it ends in a blank
@@ -306,9 +294,7 @@ module _ (splitter : Splitter) (text : List ℕ) where
 
   pub cut-after_blank : (place : ℕ) → is_blank (get_or text (place - 1) 0) ≡ true
       → is_blank (get_or text place 0) ≡ false → is_piece_cut splitter text place ≡ true
-  cut-after_blank place blank other =
-      ap (λ t. (t && not (is_blank (get_or text place 0))) || is_point splitter text place) blank
-      ∙ ap (λ t. (true && not t) || is_point splitter text place) other
+  cut-after_blank place blank other = grind arith
 
   -- a word and the blanks after it are a part
   pub word-part : (at word_end end : ℕ) → IsPartWord splitter text at word_end → word_end ≤ end

@@ -2,7 +2,7 @@
 -- text that it stands in.
 use Rattle.textwrap_base.proofs.Common.{◌≡◌, List, ◌++◌, refl, take, drop, ◌==◌, ◌||◌, Bool, ◌&&◌}
 use Rattle.textwrap_base.proofs.Common.{ℕ, ◌+◌, ◌-◌, ◌<◌, ◌≤◌, [], ◌∷◌, sym, ap, ◌∙◌, All}
-use Rattle.textwrap_base.proofs.Common.{true, false, subst, arith, length, get_or, filter, IsUtf8}
+use Rattle.textwrap_base.proofs.Common.{true, false, arith, length, get_or, filter, IsUtf8}
 use Rattle.textwrap_base.proofs.Common.{reverse, length-take, get_or-take, IsUtf8-take, IsUtf8-drop}
 use Rattle.textwrap_base.proofs.Common.{IsCharBoundary, false≢true, reverse-append, encode_utf8_all}
 use Rattle.textwrap_base.proofs.Common.{list_any, nil_from_length, chars_past_char, take-append-add}
@@ -30,19 +30,14 @@ use Rattle.textwrap_base.proofs.Lists.Parts.{last-push}
 -- a text that is empty, or has a last character
 pub ends-none : (text : List ℕ) → length text ≡ 0
     → begins_alphanumeric (reverse (chars text)) ≡ false
-ends-none text none = ap (λ t. begins_alphanumeric (reverse (chars t))) (nil_from_length text none)
-    ∙ ap (λ cs. begins_alphanumeric (reverse cs)) chars-nil
+ends-none text none = grind (arith, nil_from_length, chars-nil)
 
 pub ends-some : (text rest : List ℕ) (c : ℕ) → IsUtf8 text → text ≡ rest ++ encode c
     → begins_alphanumeric (reverse (chars text)) ≡ is_alphanumeric c
 ends-some text rest c utf8 e =
     let cut = before-last text rest c e in
-    let front : IsUtf8 rest =
-    subst IsUtf8 (ap (take (length rest)) e ∙ take_at rest (encode c) (length rest) refl)
-    (IsUtf8-take text (length rest) utf8 cut) in
-    let back : IsUtf8 (encode c) =
-    subst IsUtf8 (ap (drop (length rest)) e ∙ drop_at rest (encode c) (length rest) refl)
-    (IsUtf8-drop text (length rest) utf8 cut) in
+    let front : IsUtf8 rest = grind (arith, take_at, IsUtf8-take) in
+    let back : IsUtf8 (encode c) = grind (arith, drop_at, IsUtf8-drop) in
     let first = chars_past_char (encode c) [] c back (sym (append-nil (encode c))) in
     let second = chars-append rest (encode c) front in
     let third = reverse-append (chars rest) (c ∷ []) in cc chars-nil
@@ -60,15 +55,12 @@ hyphen-before text point start within is = grind (arith, and_parts, length-take,
 
 pub after-hyphen : (text : List ℕ) (point : ℕ) → IsUtf8 text → 1 ≤ point → point < length text
     → is_hyphen_point text point ≡ true → IsCharBoundary text point
-after-hyphen text point utf8 start inside is =
-    after-hyphen_byte text point utf8 (omega arith) inside
-    (hyphen-before text point start (omega arith) is)
+after-hyphen text point utf8 start inside is = grind (arith, after-hyphen_byte, hyphen-before)
 
 -- a text without hyphens has no points
 any-ends : (text : List ℕ) → ends_in_hyphen text ≡ true → list_any (λ c. c == hyphen) text ≡ true
 any-ends [] ends = absurd (false≢true ends)
-any-ends (c ∷ cs) ends =
-    list_any_at (λ b. b == hyphen) (c ∷ cs) (length (c ∷ cs) - 1) 0 (omega arith) ends
+any-ends (c ∷ cs) ends = grind (arith, list_any_at)
 
 any-take : (n : ℕ) (text : List ℕ) → list_any (λ c. c == hyphen) (take n text) ≡ true
     → list_any (λ c. c == hyphen) text ≡ true
@@ -115,8 +107,7 @@ points_of-cuts AtHyphens text utf8 = hyphen_points-cuts text utf8
 pub point-hyphen : (splitter : Splitter) (text : List ℕ) (place : ℕ) → 0 < place
     → place < length text → is_point splitter text place ≡ true → get_or text (place - 1) 0 ≡ 45
 point-hyphen Whole text place some inside is = absurd (false≢true is)
-point-hyphen AtHyphens text place some inside is =
-    hyphen-before text place (omega (arith, some)) (omega (arith, inside)) is
+point-hyphen AtHyphens text place some inside is = grind (arith, hyphen-before)
 
 -- the test holds only between characters
 abbrev pub HoldsBetween : (ℕ → Bool) → List ℕ → Type 0
@@ -184,8 +175,7 @@ module _ (before tail : List ℕ) (utf8 : IsUtf8 before) (plain : EndsPlain befo
       ≡ is_hyphen_point (front ++ b ∷ rest) p
   point-same front rest b p word_utf8 some len =
       let whole : before ++ ((front ++ b ∷ rest) ++ tail) ≡ (before ++ front) ++ b ∷ (rest ++ tail) =
-      ap (λ l. before ++ l) (append_assoc front (b ∷ rest) tail)
-      ∙ sym (append_assoc before front (b ∷ (rest ++ tail))) in
+      grind (arith, append_assoc) in
       ap (λ t. is_hyphen_point t (length before + p)) whole
       ∙ point-is (before ++ front) (rest ++ tail) b (length before + p)
       (omega (arith, length-append before front, len))
@@ -202,8 +192,7 @@ module _ (before tail : List ℕ) (utf8 : IsUtf8 before) (plain : EndsPlain befo
       let m = p - 1 in
       let front = take m w in
       let rest = drop (m + 1) w in
-      let shape : w ≡ front ++ get_or w m 0 ∷ rest = sym (take-append-drop m w)
-      ∙ ap (λ l. front ++ l) (drop_more w m 0 (omega (arith, some, inside))) in
+      let shape : w ≡ front ++ get_or w m 0 ∷ rest = grind (arith, take-append-drop, drop_more) in
       grind (arith, length-take-le, length-append, point-same)
 
 -- no point stands before a blank

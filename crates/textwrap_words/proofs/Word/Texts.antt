@@ -39,8 +39,7 @@ chunks-utf8_step before c d cs utf8 false whole after joined =
 
 chunks-utf8_from : (before line : List ℕ) → IsUtf8 (before ++ line)
     → All IsUtf8 (onto_front before (chunks line))
-chunks-utf8_from before [] utf8 = All-cons IsUtf8 before [] (subst IsUtf8 (append-nil before) utf8)
-    (All-nil IsUtf8)
+chunks-utf8_from before [] utf8 = grind (arith, All-cons, append-nil, All-nil)
 chunks-utf8_from before (c ∷ []) utf8 = All-cons IsUtf8 (before ++ c ∷ []) [] utf8 (All-nil IsUtf8)
 chunks-utf8_from before (c ∷ d ∷ cs) utf8 = chunks-utf8_step before c d cs utf8 (is_cut c d) refl
     (chunks-utf8_from [] (d ∷ cs)) (chunks-utf8_from (before ++ c ∷ []) (d ∷ cs))
@@ -107,8 +106,7 @@ trimmed-boundary bytes =
 
 pub without_final_blanks-utf8 : (bytes : List ℕ) → IsUtf8 bytes
     → IsUtf8 (without_final_blanks bytes)
-without_final_blanks-utf8 bytes utf8 =
-    IsUtf8-take bytes (trimmed_len bytes) utf8 (trimmed-boundary bytes)
+without_final_blanks-utf8 bytes utf8 = grind (arith, IsUtf8-take, trimmed-boundary)
 
 -- ---- where a text without its final blanks ends
 

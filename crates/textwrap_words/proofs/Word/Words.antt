@@ -1,5 +1,5 @@
 -- The words of a line: they tile it, are measured, and there is one list of them.
-use Rattle.textwrap_base.proofs.Common.{cases_Bool, ◌≡◌, ℕ, zero, suc, ◌+◌, ◌<◌, ◌≤◌, true, false}
+use Rattle.textwrap_base.proofs.Common.{cases_Bool, ◌≡◌, ◌-◌, ℕ, zero, suc, ◌+◌, ◌<◌, ◌≤◌, true, false}
 use Rattle.textwrap_base.proofs.Common.{cond, List, [], ◌∷◌, ◌++◌, length, get_or, take, drop, map}
 use Rattle.textwrap_base.proofs.Common.{refl, ap, ◌∙◌, arith, add-one, take-append-drop}
 use Rattle.textwrap_base.proofs.Common.{length-append, append-nil, onto_first, map-append}
@@ -29,21 +29,20 @@ join-chunks (c ∷ d ∷ cs) = grind (arith, cases_Bool, flat-onto_first, join-c
 -- the first chunk ends at the first cut
 pub chunks_first : (line : List ℕ) (n : ℕ) → 0 < n → n ≤ length line
     → ((k : ℕ) → k + 1 < n → is_cut (get_or line k 0) (get_or line (k + 1) 0) ≡ false)
-    → ((k : ℕ) → k + 1 ≡ n → n < length line → is_cut (get_or line k 0) (get_or line n 0) ≡ true)
+    → (n < length line → is_cut (get_or line (n - 1) 0) (get_or line n 0) ≡ true)
     → chunks line ≡ take n line ∷ chunks (drop n line)
 chunks_first line zero some within before at = absurd (omega arith)
 chunks_first [] (suc n) some within before at = absurd (omega arith)
 chunks_first (c ∷ []) (suc zero) some within before at = refl
 chunks_first (c ∷ []) (suc (suc n)) some within before at = absurd (omega arith)
-chunks_first (c ∷ d ∷ cs) (suc zero) some within before at =
-    ap (λ b. cond b ((c ∷ []) ∷ chunks (d ∷ cs)) (onto_first c (chunks (d ∷ cs))))
-    (at 0 refl (omega arith))
+chunks_first (c ∷ d ∷ cs) (suc zero) some within before at = rw (at (omega arith)) refl
 chunks_first (c ∷ d ∷ cs) (suc (suc n)) some within before at =
-    ap (λ b. cond b ((c ∷ []) ∷ chunks (d ∷ cs)) (onto_first c (chunks (d ∷ cs))))
-    (before 0 (omega arith)) ∙ ap (onto_first c)
+    let less : suc (suc n) - 1 ≡ suc n = omega arith in
+    let next : suc n - 1 ≡ n = omega arith in
+    rw (before 0 (omega arith)) (ap (onto_first c)
     (chunks_first (d ∷ cs) (suc n) (omega arith) (omega arith)
     (λ k h. rw add-one (rw (add-one) at (before (suc k) (omega arith))))
-    (λ k h more. at (suc k) (omega arith) (omega arith)))
+    (λ more. rw next (rw less at (at (omega (arith, more)))))))
 
 -- ---- tiling
 
@@ -52,8 +51,7 @@ tile_of-word_of text = take-append-drop (trimmed_len text) text
 
 pub tiled-map : (parts : List (List ℕ)) → tiled (map word_of parts) ≡ flat parts
 tiled-map [] = refl
-tiled-map (part ∷ parts) = ap (λ l. l ++ tiled (map word_of parts)) (tile_of-word_of part)
-    ∙ ap (λ l. part ++ l) (tiled-map parts)
+tiled-map (part ∷ parts) = grind (arith, tile_of-word_of, tiled-map parts)
 
 pub tiled-words_of : (line : List ℕ) → tiled (words_of line) ≡ line
 tiled-words_of line = tiled-map (chunks line) ∙ join-chunks line
@@ -105,8 +103,7 @@ chunks-first c (d ∷ part) rest uncut cut = rw (uncut [] part c d refl)
 AreCutApart-head : (part : List ℕ) (parts : List (List ℕ)) → All (λ part. part ≢ []) parts
     → AreCutApart (part ∷ parts) → CutAfter part (flat parts)
 AreCutApart-head part [] some cut = tt
-AreCutApart-head part ([] ∷ parts) some cut =
-    absurd (All-head (λ part. part ≢ []) [] parts some refl)
+AreCutApart-head part ([] ∷ parts) some cut = grind (arith, All-head)
 AreCutApart-head part ((d ∷ next) ∷ parts) some cut = cut [] parts part (d ∷ next) refl
 
 pub AreCutApart-tail : (part : List ℕ) (parts : List (List ℕ)) → AreCutApart (part ∷ parts)
@@ -142,27 +139,18 @@ IsUncut-one c = λ before after x y e.
 
 IsUncut-cons : (c d : ℕ) (part : List ℕ) → is_cut c d ≡ false → IsUncut (d ∷ part)
     → IsUncut (c ∷ d ∷ part)
-IsUncut-cons c d part whole uncut [] after x y e =
-    let first : c ≡ x = ap (λ l. get_or l 0 0) e in
-    let second : d ≡ y = ap (λ l. get_or l 1 0) e in
-    sym (ap (λ z. is_cut z d) first ∙ ap (is_cut x) second) ∙ whole
+IsUncut-cons c d part whole uncut [] after x y e = grind arith
 IsUncut-cons c d part whole uncut (b ∷ before) after x y e = uncut before after x y (ap (drop 1) e)
 
 -- fewer than two parts have no place between them
 AreCutApart-few : (parts : List (List ℕ)) → length parts < 2 → AreCutApart parts
-AreCutApart-few parts few = λ before after left right e. absurd
-    (omega (arith, ap length e, length-append before (left ∷ right ∷ after)))
+AreCutApart-few parts few = grind (arith, length-append)
 
 AreCutApart-cons : (part next : List ℕ) (parts : List (List ℕ))
     → is_cut (last part) (slice_index next 0) ≡ true → AreCutApart (next ∷ parts)
     → AreCutApart (part ∷ next ∷ parts)
-AreCutApart-cons part next parts here cut [] after left right e =
-    let first : part ≡ left = ap (λ l. get_or l 0 []) e in
-    let second : next ≡ right = ap (λ l. get_or l 1 []) e in
-    sym (ap (λ l. is_cut (last l) (slice_index next 0)) first
-    ∙ ap (λ l. is_cut (last left) (slice_index l 0)) second) ∙ here
-AreCutApart-cons part next parts here cut (b ∷ before) after left right e =
-    cut before after left right (ap (drop 1) e)
+AreCutApart-cons part next parts here cut [] after left right e = grind arith
+AreCutApart-cons part next parts here cut (b ∷ before) after left right e = grind arith
 
 AreCutApart-longer : (c d : ℕ) (part : List ℕ) (parts : List (List ℕ))
     → AreCutApart ((d ∷ part) ∷ parts) → AreCutApart ((c ∷ d ∷ part) ∷ parts)

@@ -9,6 +9,7 @@ ghost use Rattle.textwrap_words.specs.WordSeparators.{MayCut};
 ghost use Rattle.textwrap_words.specs.WordsLeft.{words_left};
 
 use super::line_cuts::LineCuts;
+use crate::chunks::Chunks;
 use crate::words::Word;
 use std::alloc::{AllocError, Allocator};
 use std::marker::Model;
@@ -26,7 +27,7 @@ pub struct Words<'a, A: Allocator> {
 #[derive(Debug, Drop)]
 enum Source<'a, A: Allocator> {
     /// What is left of a line that is cut at its blanks.
-    Line(&'a str),
+    Line(Chunks<'a>),
     /// What is left of the words that were found.
     Found(vec::IntoIter<Word<'a>, A>),
 }
@@ -37,7 +38,7 @@ impl<'a, A: Allocator> Words<'a, A> {
         ensures { result ≡ words_of line.now }
     {
         Words {
-            source: Source::Line(line),
+            source: Source::Line(Chunks::of(line)),
         }
     }
 
@@ -100,47 +101,8 @@ impl<'a, A: Allocator> Iterator for Words<'a, A> {
 
     fn next(&mut self) -> Option<Word<'a>> {
         match &mut self.source {
-            Source::Line(rest) => {
-                if rest.is_empty() {
-                    return None;
-                }
-                let (chunk, after) = first_chunk(rest);
-                *rest = after;
-                Some(Word::from(chunk))
-            }
+            Source::Line(chunks) => chunks.next().map(Word::from),
             Source::Found(words) => words.next(),
         }
     }
-}
-
-/// What becomes the first word of a line, with the blanks after it, and what follows: of `"foo bar"`
-/// these are `"foo "` and `"bar"`. It is not measured. The call always succeeds.
-pub fn first_chunk(line: &str) -> (&str, &str)
-    requires { 0 < length line.now }
-    ensures first { chunks line.now ≡ result.0.now ∷ chunks result.1.now }
-    ensures shorter { length result.1.now < length line.now }
-{
-    line.split_at(chunk_len(line.as_bytes()))
-}
-
-/// The length of what becomes the first word.
-fn chunk_len(line: &[u8]) -> usize
-    requires { 0 < length line.now }
-    ensures first { chunks line.now ≡ take result line.now ∷ chunks (drop result line.now) }
-    ensures some { 0 < result }
-    ensures within { result ≤ length line.now }
-    ensures after_blank { result < length line.now → slice_index line.now (result - 1) ≡ blank }
-{
-    let mut end = 1;
-    while end < line.len() && !is_cut(line[end - 1], line[end]) {
-        end += 1;
-    }
-    end
-}
-
-/// Whether a line is cut between two bytes.
-fn is_cut(before: u8, after: u8) -> bool
-    ensures { result ≡ is_cut before after }
-{
-    before == b' ' && after != b' '
 }

@@ -5,8 +5,7 @@ use Rattle.textwrap_display.proofs.WidenedWords.{chunks-few}
 pub overflow_add-words : goal.overflow_add-words
 overflow_add-words c = omega (
   arith,
-  c.loop-rest.invariant.count,
-  ap length c.first_chunk.ensures.first,
+  c.loop-word.invariant,
+  ap length c.in-Some.ensures.steps,
   chunks-few c.args.text.now,
-  c.type_inv.text,
 )

@@ -1,25 +1,16 @@
 use Rattle.textwrap_display.proofs.justifying.push_widened.Goals as goal
-use Rattle.textwrap_base.proofs.Common.{◌<◌, ◌∙◌, arith, eqb-true, length, nat_tests, rules}
-use Rattle.textwrap_base.proofs.Common.{string_bytes, sym}
-use Rattle.textwrap_display.proofs.WidenedWords.{gap-written, all-written}
+use Rattle.textwrap_base.proofs.Common.{◌∙◌, append_assoc, append-nil, arith, string_bytes}
+use Rattle.textwrap_display.proofs.WidenedWords.{first-written, gap-written, widened-text}
 
-pub loop-rest-preserved-in_ok-push_blanks-2 : goal.loop-rest-preserved-in_ok-push_blanks-2
-loop-rest-preserved-in_ok-push_blanks-2 g c =
-    let after = c.first_chunk.result.1.now in
-    let some : 0 < length after = grind (arith, nat_tests, c.if-not-is_empty.ensures) in
-    record {
-      whole = gap-written c.args.each c.loop-rest.left _ _ c.first_chunk.result.0.now
-          c.loop-rest.rest.now after (string_bytes c.loop-rest.text) _ _ _
-          c.first_chunk.ensures.first some c.min.ensures c.saturating_sub-left.ensures
-          c.in_ok-push_str.ensures.bytes c.in_ok-push_blanks.ensures
-          c.in_ok-push_blanks-2.ensures
-          ∙ c.loop-rest.invariant.whole;
-      utf8 = search rules;
-    }
+pub loop-word-init : goal.loop-word-init
+loop-word-init g c = grind (arith, append_assoc, first-written, widened-text)
+
+pub loop-word-preserved : goal.loop-word-preserved
+loop-word-preserved g c =
+    gap-written c.args.each c.loop-word.left _ _ c.in-Some-word.word.now (string_bytes c.loop-word.text)
+    _ _ _ c.next-in-loop-word.new.self c.min.ensures c.saturating_sub-left.ensures
+    c.in_ok-push_blanks.ensures c.in_ok-push_blanks-2.ensures c.in_ok-push_str-2.ensures.bytes
+    ∙ (rw c.in-Some-word.ensures.steps at c.loop-word.invariant)
 
 pub returns : goal.returns
-returns g c =
-    all-written c.args.each c.args.extra c.loop-rest.left c.args.line.now c.loop-rest.rest.now
-    (string_bytes c.args.text.now) (string_bytes c.loop-rest.text)
-    (eqb-true (length c.loop-rest.rest.now) 0 (sym c.loop-rest-test.ensures))
-    c.loop-rest.invariant.whole
+returns g c = grind (arith, append-nil)

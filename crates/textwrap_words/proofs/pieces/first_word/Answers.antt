@@ -4,7 +4,6 @@ use Rattle.textwrap_base.proofs.Common.{ap, arith, ne_eqb}
 use Rattle.std.proofs.lemmas.Str.{IsCharBoundary-end}
 use Rattle.textwrap_words.proofs.Common.{as_splitter, is_blank}
 use Rattle.textwrap_words.specs.Pieces.{is_stop}
-use Rattle.textwrap_words.specs.declared.escapes.State.TheVariants.{Text}
 use Rattle.textwrap_words.proofs.Word.Scanned.{scanned-letters, stop-here, stops-between}
 use Rattle.textwrap_words.proofs.Word.FirstPieces.{first-word, no-word}
 use Rattle.textwrap_words.proofs.pieces.first_word.Goals.{After-letters_len-width}
@@ -34,8 +33,8 @@ returns-then-bytes-start-eq32 c =
           let here : at + 0 ≡ at = omega arith in
           first-word splitter c.args.limit text c.utf8.text at c.requires.boundary c.requires.inside
           (at + n) n
-          (stop-here true splitter text c.utf8.text c.args.limit at (length text) c.requires.boundary
-          (IsCharBoundary-end text) (at + n) Text n past.scanned (omega (arith, inside)) (λ _. stops)
+          (stop-here true splitter text c.utf8.text (length text) c.requires.boundary
+          (IsCharBoundary-end text) past.scanned (omega (arith, inside)) (λ _. stops)
           (λ _. omega (arith, some)))
           (ne_eqb (get_or text at 0) 32 (rw here at (letters 0 some).not_blank))
     ]

@@ -92,8 +92,7 @@ returns-then-ch-eq32 c =
     rw (c.if-at_blanks.true, blank) refl in
     subst (λ n. IsFirstStop (is_stop c.args.at_blanks splitter text) c.args.limit text c.args.at
     c.args.end (start + n) c.loop-after.width) (sym c.in-Some.ensures.steps.0)
-    (stop-here c.args.at_blanks splitter text c.utf8.text c.args.limit c.args.at c.args.end
-    c.requires.boundary c.requires.end place c.loop-after.state c.loop-after.width h
+    (stop-here c.args.at_blanks splitter text c.utf8.text c.args.end c.requires.boundary c.requires.end h
     (omega (arith, is.within)) (λ _. stops)
     (λ inside. elim (cases_lt c.args.at place) [
       | inl some ↦ some
@@ -119,19 +118,7 @@ on : (c : After-step-next) (after : List ℕ)
     ≡ encode_utf8 c.in-Some.ch ++ after → GoesOn (is_stop c.args.at_blanks (as_splitter c.args.splitter) c.args.text.now)
     c.args.text.now c.args.at
     (c.args.at + c.args.letters + char_indices_offset c.loop-after.after-iterator)
-on c after is past inside =
-    let text = c.args.text.now in
-    let place = c.args.at + c.args.letters + char_indices_offset c.loop-after.after-iterator in
-    let ch = c.in-Some.ch in
-    let some = some-bytes ch in
-    let h = c.loop-after.invariant in
-    let plain : c.args.at_blanks ≡ true → is_blank (get_or text place 0) ≡ false =
-    λ at_blanks. elim c.else-at_blanks.branch [
-      | goal.else-at_blanks-via-else-at_blanks w ↦ absurd (true≢false (sym at_blanks ∙ w.if-at_blanks.false))
-      | goal.else-at_blanks-via-then-at_blanks+else-ch-eq32 w ↦ plain-bytes text c.utf8.text place ch _
-          h.scanned.boundary is w.if-ch-eq32.false place (omega arith) (omega (arith, some)) inside
-    ] in
-    no-stop c.args.at_blanks (as_splitter c.args.splitter) text place plain (h.on past inside)
+on c after is past inside = grind (arith, some-bytes, true≢false, plain-bytes, no-stop)
 
 pub returns-then-width-columns : goal.returns-then-width-columns
 returns-then-width-columns c =
@@ -146,8 +133,7 @@ returns-then-width-columns c =
     (omega (arith, c.columns-columns.ensures, c.if-width-columns.true)) in
     subst (λ n. IsFirstStop (is_stop c.args.at_blanks splitter text) c.args.limit text c.args.at
     c.args.end (start + n) c.loop-after.width) (sym c.in-Some.ensures.steps.0)
-    (stop-full c.args.at_blanks splitter text c.utf8.text c.args.limit c.args.at c.args.end
-    c.requires.boundary c.requires.end place c.loop-after.state c.loop-after.width
+    (stop-full c.args.at_blanks splitter text c.utf8.text c.args.end c.requires.boundary c.requires.end
     c.loop-after.invariant.scanned (on at.After-step-next _ is.stands) ch _ is.stands
     (omega (arith, is.within, some-bytes ch)) (rw c.step-next.ensures at c.if-is_visible.true)
     c.if-width-gt0.true due)
@@ -188,8 +174,7 @@ past c after is on =
           ])
     ] in
     rw (c.step-next.ensures, ← more)
-    (scanned-step (is_stop c.args.at_blanks splitter text) limit text c.utf8.text c.args.at
-    c.requires.boundary place ch after c.loop-after.state width
+    (scanned-step c.utf8.text c.requires.boundary ch after
     (stops-between c.args.at_blanks splitter text c.utf8.text) c.loop-after.invariant.scanned
     on is room)
 
@@ -209,8 +194,7 @@ returns-then-is_point c =
     let point = and_parts _ _ (sym c.is_point.ensures ∙ c.if-is_point.true) in
     let stops : is_stop c.args.at_blanks splitter text q ≡ true =
     ap (λ p. (c.args.at_blanks && is_blank (get_or text q 0)) || p) point.1 ∙ or-true _ in
-    stop-here c.args.at_blanks splitter text c.utf8.text c.args.limit c.args.at c.args.end
-    c.requires.boundary c.requires.end q c.step-next.result.0 c.if-is_visible.width
+    stop-here c.args.at_blanks splitter text c.utf8.text c.args.end c.requires.boundary c.requires.end
     (rw end at (past at.Joined-is_visible _ is.stands (on at.After-step-next _ is.stands))) (omega (arith, is.within, end)) (λ _. stops)
     (λ _. omega (arith, c.loop-after.invariant.scanned.from, s.0))
 
@@ -265,7 +249,6 @@ returns c =
     ) in
     subst (λ k. IsFirstStop (is_stop c.args.at_blanks splitter text) c.args.limit text c.args.at
     c.args.end k c.loop-after.width) end
-    (stop-here c.args.at_blanks splitter text c.utf8.text c.args.limit c.args.at c.args.end
-    c.requires.boundary c.requires.end place c.loop-after.state c.loop-after.width h
+    (stop-here c.args.at_blanks splitter text c.utf8.text c.args.end c.requires.boundary c.requires.end h
     (omega (arith, end)) (λ inside. absurd (omega (arith, inside, end)))
     (λ inside. omega (arith, inside, end)))

@@ -1,7 +1,6 @@
 use Rattle.textwrap_words.proofs.printable.printable_blocks_len.Goals as goal
-use Rattle.textwrap_base.proofs.Common.{inl, inr, ◌≡◌, ◌+◌, ◌-◌, ◌≤◌, ◌∙◌, ap, arith, cases_lt}
-use Rattle.textwrap_base.proofs.Common.{drop, get_or, get_or-drop, get_or-take, length, slice_range}
-use Rattle.textwrap_base.proofs.Common.{subst}
+use Rattle.textwrap_base.proofs.Common.{inl, inr, ◌≡◌, ◌+◌, ◌-◌, ◌≤◌, arith, cases_lt, get_or}
+use Rattle.textwrap_base.proofs.Common.{get_or-drop, get_or-take, length, slice_range, subst}
 use Rattle.textwrap_base.proofs.Lists.Parts.{length-slice}
 use Rattle.textwrap_words.proofs.Common.{IsPrintableByte}
 
@@ -19,8 +18,7 @@ loop-end-preserved c =
             (omega (arith, below, from, length-slice text end (end + 32) within)) in
             let place : end + (k - end) ≡ k = omega (arith, from) in
             let same : get_or (slice_range text end (end + 32)) (k - end) 0 ≡ get_or text k 0 =
-            get_or-take (end + 32 - end) (drop end text) (k - end) 0 (omega (arith, below, from))
-            ∙ get_or-drop end text (k - end) 0 ∙ ap (λ n. get_or text n 0) place in
+            grind (arith, get_or-take, get_or-drop) in
             subst IsPrintableByte same printable
       ],
     )

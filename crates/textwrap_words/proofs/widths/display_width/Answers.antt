@@ -6,12 +6,7 @@ use Rattle.textwrap_words.specs.declared.escapes.State.TheVariants.{Text}
 use Rattle.textwrap_words.proofs.widths.display_width.Goals.{After-loop-rest}
 
 pub overflow_add-width : goal.overflow_add-width
-overflow_add-width c = omega (
-  arith,
-  c.loop-rest.invariant.columns,
-  c.first_columns-len.ensures.columns,
-  text_width-le c.args.text.now c.utf8.text,
-)
+overflow_add-width c = grind (arith, text_width-le)
 
 -- at the end nothing is left
 whole : (c : After-loop-rest) → c.loop-rest.width ≡ text_width c.args.text.now

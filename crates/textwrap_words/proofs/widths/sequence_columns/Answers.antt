@@ -8,10 +8,7 @@ use Rattle.textwrap_words.specs.declared.escapes.State.TheVariants.{Text}
 use Rattle.textwrap_words.proofs.widths.sequence_columns.Goals.{Joined-is_visible}
 
 pub loop-at-init : goal.loop-at-init
-loop-at-init c =
-    let items = c.char_indices-at-items.ensures in
-    rw (c.into_iter-at-iterator.ensures.into_iter_gives, items.offset, items.rest)
-    (measured-start c.args.text.now c.utf8.text)
+loop-at-init c = grind (arith, measured-start)
 
 past : (c : Joined-is_visible)
     → IsMeasured c.args.text.now (char_indices_offset c.next.new.self)

@@ -1,11 +1,9 @@
 use Rattle.textwrap_words.proofs.characters.CharactersIterator.next.Goals as goal
-use Rattle.textwrap_base.proofs.Common.{arith, ap, length, chars_past_char, IsUtf8-past_char, refl}
+use Rattle.textwrap_base.proofs.Common.{arith, ap, length, chars_past_char, IsUtf8-past_char}
 use Rattle.textwrap_base.proofs.Common.{length-append, ℕ, chars-nil, nil_from_length}
 
 pub returns-in_default-clause-steps : goal.returns-in_default-clause-steps
-returns-in_default-clause-steps c =
-    let ended = c.in_default.ensures.steps in
-    rw (ended.1, nil_from_length _ ended.0, chars-nil) (refl, refl)
+returns-in_default-clause-steps c = grind (arith, nil_from_length, chars-nil)
 
 pub invariant_of-self-2 : goal.invariant_of-self-2
 invariant_of-self-2 c =
@@ -17,9 +15,7 @@ invariant_of-self-2 c =
     }
 
 pub returns-clause-steps : goal.returns-clause-steps
-returns-clause-steps c =
-    let s = c.in-Some.ensures.steps in
-    rw (chars_past_char _ _ c.in-Some.ch c.args.self.now.utf8 s.1, c.step-next.ensures, s.0, s.2) refl
+returns-clause-steps c = grind (arith, chars_past_char)
 
 pub returns-clause-goes : goal.returns-clause-goes
 returns-clause-goes c = omega (arith, ap length (returns-clause-steps c))

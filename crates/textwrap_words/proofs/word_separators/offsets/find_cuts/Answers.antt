@@ -1,5 +1,5 @@
 use Rattle.textwrap_words.proofs.word_separators.offsets.find_cuts.Goals as goal
-use Rattle.textwrap_base.proofs.Common.{◌∙◌, ◌∷◌, arith, false, refl, subst, sym, true}
+use Rattle.textwrap_base.proofs.Common.{◌∙◌, ◌∷◌, arith, false, refl, sym, true}
 use Rattle.textwrap_words.proofs.Units.Characters.{ahead-next}
 use Rattle.textwrap_words.proofs.Word.Offsets.{IsFinding, IsFinding-start, IsFinding-step}
 use Rattle.textwrap_words.specs.CharactersLeft.{characters_left}
@@ -14,9 +14,7 @@ loop-character-init g c =
 before : (g : _) (c : In-Some g) → IsFinding c.args.offsets.now c.args.line.now
     (c.in-Some.character ∷ characters_left c.next.new.self) c.loop-character.shown
     c.loop-character.cuts.items
-before g c =
-    subst (λ left. IsFinding c.args.offsets.now c.args.line.now left c.loop-character.shown
-    c.loop-character.cuts.items) c.in-Some.ensures.steps c.loop-character.invariant
+before g c = grind arith
 
 pub overflow_add-character : goal.overflow_add-character
 overflow_add-character g c =

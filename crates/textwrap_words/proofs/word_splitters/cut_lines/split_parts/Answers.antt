@@ -1,8 +1,7 @@
-use Rattle.textwrap_base.proofs.Common.{◌≡◌, ◌==◌, false, length, drop_all, if◌then◌else◌, [], ◌∷◌}
-use Rattle.textwrap_base.proofs.Common.{◌++◌, ◌+◌, arith, drop, drop_more, map, subst, sym, ap, ◌∙◌}
-use Rattle.textwrap_base.proofs.Common.{append_assoc, slice_range, get_or}
+use Rattle.textwrap_base.proofs.Common.{drop_all, [], ◌∷◌, ◌++◌, ◌+◌, arith, drop, drop_more, map}
+use Rattle.textwrap_base.proofs.Common.{subst, sym, ap, ◌∙◌, append_assoc, slice_range, get_or}
 use Rattle.textwrap_words.proofs.Common.{AreSplit, MaySplit, word_of, word_view}
-use Rattle.textwrap_words.specs.Cuts.{parts_between, parts_onward}
+use Rattle.textwrap_words.specs.Cuts.{parts_onward}
 use Rattle.textwrap_words.proofs.Word.Pieces.{AreSplit-push}
 use Rattle.textwrap_words.proofs.word_splitters.cut_lines.split_parts.Goals as goal
 
@@ -31,19 +30,4 @@ loop-cut-preserved g c =
     }
 
 pub returns : goal.returns
-returns g c =
-    let line = c.args.line.now in
-    let cuts = c.args.cuts.now in
-    let i = c.loop-cut.cut-index in
-    let Points = MaySplit c.args.word_splitter.now in
-    let word = word_of (drop c.loop-cut.start line) in
-    let (words, are, split) = c.loop-cut.invariant.words in
-    let (points, may, pushed) = rw c.range_from.ensures.value at c.in_ok-push_part-2.ensures in
-    let some : (length line == 0) ≡ false = sym c.is_empty.ensures ∙ c.if-is_empty.false in
-    let none : drop i cuts ≡ [] = drop_all i cuts (omega (arith, c.loop-cut-test.false)) in
-    let all : words ++ word ∷ [] ≡ map word_of (parts_between cuts line) =
-    ap (λ cs. words ++ map word_of (parts_onward c.loop-cut.start cs line)) (sym none) ∙ are
-    ∙ ap (λ b. map word_of (if b then [] else parts_onward 0 cuts line)) (sym some) in
-    subst (λ ws. AreSplit Points ws (map word_view c.push_part-2.new.pieces.items)) all
-    (subst (AreSplit Points (words ++ word ∷ [])) (sym pushed)
-    (AreSplit-push Points words (map word_view c.loop-cut.pieces.items) word points split may))
+returns g c = grind (arith, drop_all, AreSplit-push)

@@ -1,24 +1,12 @@
 use Rattle.textwrap_words.proofs.word_splitters.hyphens.hyphen_points.Goals as goal
-use Rattle.textwrap_base.proofs.Common.{◌≡◌, ◌-◌, ◌++◌, [], ◌∷◌, ◌==◌, cond, false, length, sym, ap}
-use Rattle.textwrap_base.proofs.Common.{◌∙◌, subst, arith, list_any, range_with_len, filter}
-use Rattle.textwrap_words.proofs.Common.{is_hyphen_point, hyphen, AreCuts}
+use Rattle.textwrap_base.proofs.Common.{◌≡◌, ◌-◌, length, sym, ap}
+use Rattle.textwrap_base.proofs.Common.{◌∙◌, subst, arith, range_with_len, filter}
+use Rattle.textwrap_words.proofs.Common.{is_hyphen_point, AreCuts}
 use Rattle.textwrap_base.proofs.Lists.Elements.{points-more}
 use Rattle.textwrap_words.proofs.Word.Splitting.{hyphen_points-cuts, hyphen_points-none}
 
 pub loop-point-preserved : goal.loop-point-preserved
-loop-point-preserved g c =
-    let test = is_hyphen_point c.args.word.now in
-    let grown : c.if-is_hyphen_point.points.items ≡ cond c.is_hyphen_point.result
-    (c.loop-point.points.items ++ c.loop-point.point ∷ []) c.loop-point.points.items =
-    elim c.if-is_hyphen_point.branch [
-      | goal.then-is_hyphen_point+in_ok-push w ↦ rw w.if-is_hyphen_point.true
-          (ap (λ v. v.items) w.points-is ∙ w.in_ok-push.ensures.items)
-      | goal.else-is_hyphen_point w ↦ rw w.if-is_hyphen_point.false (ap (λ v. v.items) w.points-is)
-    ] in
-    let more = points-more test c.loop-point.point c.loop-point.points.items
-    c.if-is_hyphen_point.points.items c.is_hyphen_point.result c.loop-point.auto.point
-    c.loop-point.invariant.points c.is_hyphen_point.ensures.point grown in
-    record { points = more; inside = omega arith }
+loop-point-preserved g c = grind (arith, points-more)
 
 pub returns : goal.returns
 returns g c =
@@ -30,8 +18,4 @@ returns g c =
     record { points = points; cuts = cuts }
 
 pub returns-then-not-contains-clause-points : goal.returns-then-not-contains-clause-points
-returns-then-not-contains-clause-points g c =
-    let none : list_any (λ b. b == hyphen) c.args.word.now ≡ false =
-    ap (list_any (λ b. b == hyphen)) (sym c.as_bytes.ensures.value)
-    ∙ sym c.contains.ensures.value ∙ c.if-not-contains.true in
-    c.new-points.ensures.items ∙ sym (hyphen_points-none c.args.word.now none)
+returns-then-not-contains-clause-points g c = grind (arith, hyphen_points-none)

@@ -13,13 +13,7 @@ loop-at-init c =
     (IsReading-start c.args.line_width c.args.text.now c.utf8.text)
 
 pub overflow_add-width : goal.overflow_add-width
-overflow_add-width c = omega (
-  arith,
-  c.columns-columns.ensures,
-  columns-le c.in-Some.ch,
-  c.loop-at.invariant.bound,
-  read-room c.loop-at.invariant.read _ _ c.in-Some.ensures.steps.1,
-)
+overflow_add-width c = grind (arith, columns-le, read-room)
 
 pub returns-then-width-columns : goal.returns-then-width-columns
 returns-then-width-columns c =
@@ -27,7 +21,7 @@ returns-then-width-columns c =
     let due = due-true c.args.line_width c.loop-at.width c.in-Some.ch c.if-width-gt0.true
     (omega (arith, c.columns-columns.ensures)) in
     let cut = subst (λ n. IsFirstPiece c.args.line_width c.args.text.now n c.loop-at.width)
-    (sym s.0) (IsReading-cut _ _ _ _ _ _ c.loop-at.invariant _ _ c.utf8.text c.requires s.1
+    (sym s.0) (IsReading-cut c.loop-at.invariant _ _ c.utf8.text c.requires s.1
     (rw c.step-next.ensures at c.if-is_visible.true) due) in
     record { boundary = cut.boundary; first = cut.first; width = cut.wide; rest = cut.rest }
 
@@ -42,13 +36,13 @@ loop-at-preserved-else-width-gt0 c =
     ]) in
     let shown = rw c.step-next.ensures at c.if-is_visible.true in
     rw (c.step-next.ensures, c.columns-columns.ensures)
-    (rw shown at (IsReading-step _ _ _ _ _ _ c.loop-at.invariant _ _ s.1 (λ _. on) _ s.2))
+    (rw shown at (IsReading-step c.loop-at.invariant _ _ s.1 (λ _. on) _ s.2))
 
 pub loop-at-preserved : goal.loop-at-preserved
 loop-at-preserved c =
     let hidden = rw c.step-next.ensures at c.if-is_visible.false in
     rw c.step-next.ensures (rw (hidden, add-zero c.loop-at.width)
-    at (IsReading-step _ _ _ _ _ _ c.loop-at.invariant _ _ c.in-Some.ensures.steps.1
+    at (IsReading-step c.loop-at.invariant _ _ c.in-Some.ensures.steps.1
     (λ shown. absurd (true≢false (sym shown ∙ hidden))) _ c.in-Some.ensures.steps.2))
 
 pub returns : goal.returns
@@ -56,5 +50,5 @@ returns c =
     let h = c.loop-at.invariant in
     let none = c.in-None.ensures.steps.0 in
     let end = subst (λ n. IsFirstPiece c.args.line_width c.args.text.now n c.loop-at.width)
-    (read-all h.read none) (IsReading-end _ _ _ _ _ _ h c.utf8.text c.requires none) in
+    (read-all h.read none) (IsReading-end h c.utf8.text c.requires none) in
     record { boundary = end.boundary; first = end.first; width = end.wide; rest = end.rest }

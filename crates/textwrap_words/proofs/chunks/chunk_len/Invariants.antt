@@ -1,11 +1,11 @@
-use Rattle.textwrap_words.proofs.word_separators.words.chunk_len.Given as goal
+use Rattle.textwrap_words.proofs.chunks.chunk_len.Given as goal
 use Rattle.textwrap_base.proofs.Common.{◌≡◌, ℕ, ◌+◌, ◌-◌, ◌<◌, ◌≤◌, false, get_or, length}
 use Rattle.textwrap_words.proofs.Common.{is_cut}
 
 -- there is no cut before the end so far
 abbrev pub invariant-loop-end : goal.invariant-loop-end
-invariant-loop-end l = (0 < l.end) × (l.end ≤ length l.line)
-    × ((k : ℕ) → k + 1 < l.end → is_cut (get_or l.line k 0) (get_or l.line (k + 1) 0) ≡ false)
+invariant-loop-end l = (0 < l.end) × (l.end ≤ length l.text)
+    × ((k : ℕ) → k + 1 < l.end → is_cut (get_or l.text k 0) (get_or l.text (k + 1) 0) ≡ false)
 
 abbrev pub decreases-loop-end : goal.decreases-loop-end
-decreases-loop-end l = length l.line - l.end
+decreases-loop-end l = length l.text - l.end

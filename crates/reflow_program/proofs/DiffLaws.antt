@@ -1,13 +1,12 @@
 -- The laws of diffs: their hunks patch the old text into the new one, and turned round back.
-use Rattle.std.proofs.Common.{◌≡◌, ◌∙◌, ap, ap₂, refl, sym, ℕ, ◌+◌, ◌-◌, arith, true, false}
-use Rattle.std.proofs.Common.{List, [], ◌∷◌, ◌++◌, length, take, drop, map, cond}
-use Rattle.std.specs.Prelude.{◌==◌}
-use Rattle.std.specs.List.{flat_map, onto_first}
+use Rattle.std.proofs.Common.{◌≡◌, ◌∙◌, ap, ap₂, refl, sym, ℕ, ◌+◌, ◌-◌, arith}
+use Rattle.std.proofs.Common.{List, [], ◌∷◌, ◌++◌, length, take, drop, map}
 use Rattle.std.proofs.lemmas.List.{append_assoc, drop_at, take_at, length-append}
 use Rattle.reflow_program.specs.Differences.{HunkText, Patches, SignedText, new_end, news}
-use Rattle.reflow_program.specs.Differences.{old_end, olds, signed_text, text_lines}
+use Rattle.reflow_program.specs.Differences.{old_end, olds, signed_text}
 use Rattle.reflow_program.specs.Laws.{DiffsLeadBack, DiffsLeadOn, TextsAreTheirLines, patched}
 use Rattle.reflow_program.specs.Laws.{turned}
+use Rattle.textwrap_lines.proofs.TextLines.{ended_parts-flat}
 use Rattle.reflow_program.specs.Laws.{turned_line}
 use Rattle.reflow_program.specs.declared.differences.Sign.{Sign}
 use Rattle.reflow_program.specs.declared.differences.Sign.TheVariants.{Kept, Removed, Added}
@@ -90,16 +89,5 @@ pub lead-back : DiffsLeadBack
 lead-back old new hunks is =
     patches-patched (map turned hunks) 0 0 new old (patches-turned hunks 0 0 old new is.patches)
 
-flat-onto_first : (c : ℕ) (lines : List (List ℕ))
-    → flat_map (λ line. line) (onto_first c lines) ≡ c ∷ flat_map (λ line. line) lines
-flat-onto_first c [] = refl
-flat-onto_first c (line ∷ lines) = refl
-
 pub are-lines : TextsAreTheirLines
-are-lines [] = refl
-are-lines (c ∷ cs) =
-    elim (c == 10) as (λ b. flat_map (λ line. line)
-    (cond b ((c ∷ []) ∷ text_lines cs) (onto_first c (text_lines cs))) ≡ c ∷ cs) [
-      | true ↦ ap (λ t. c ∷ t) (are-lines cs)
-      | false ↦ flat-onto_first c (text_lines cs) ∙ ap (λ t. c ∷ t) (are-lines cs)
-    ]
+are-lines text = ended_parts-flat text

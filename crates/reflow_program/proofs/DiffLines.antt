@@ -13,6 +13,10 @@ use Rattle.std.proofs.lemmas.List.Sums.{count_by-le-length, length-filter}
 use Rattle.std.proofs.Math.Seq.{take-add}
 use Rattle.std.proofs.lemmas.List.Elements.{filter-append}
 use Rattle.std.specs.Prelude.{count_by, filter}
+use Rattle.std.proofs.Common.{All, length-take, take-append-drop}
+use Rattle.std.proofs.lemmas.List.{get_or-take, take_more}
+use Rattle.std.proofs.lemmas.List.Elements.{All-from_get_or}
+use Rattle.textwrap_lines.proofs.TextLines.{ended_parts-front, ended_parts-whole}
 use Rattle.reflow_program.specs.Differences.{AreSameAt, IsLineAt}
 use Rattle.reflow_program.specs.Differences.{IsNearIf, SignedText, is_change, is_new, is_old, news}
 use Rattle.reflow_program.specs.Differences.{olds, sign_at, signed_text}
@@ -26,20 +30,24 @@ use Rattle.reflow_program.specs.declared.differences.SignedLine.{SignedLine}
 pub text_lines-first : (text : List ℕ) (n : ℕ) → n < length text
     → ((k : ℕ) → k < n → get_or text k 0 ≢ 10) → get_or text n 0 ≡ 10
     → text_lines text ≡ take (n + 1) text ∷ text_lines (drop (n + 1) text)
-text_lines-first [] n within before here = absurd (omega arith)
-text_lines-first (c ∷ cs) zero within before here = rw here refl
-text_lines-first (c ∷ cs) (suc n) within before here =
-    let other : c ≢ 10 = before 0 (omega arith) in
-    let rest = text_lines-first cs n (omega arith) (λ k below. before (suc k) (omega arith)) here in
-    rw (ne_eqb c 10 other, rest, add-one, add-one)
+text_lines-first text n within before here =
+    let line : take (n + 1) text ≡ take n text ++ 10 ∷ [] =
+    take_more text n 0 within ∙ ap (λ b. take n text ++ b ∷ []) here in
+    let rest = drop (n + 1) text in
+    let whole = sym (take-append-drop (n + 1) text) ∙ ap (λ l. l ++ rest) line
+    ∙ append_assoc (take n text) (10 ∷ []) rest in
+    let free : All (λ c. c ≢ 10) (take n text) = All-from_get_or (λ c. c ≢ 10) (take n text) 0
+    (λ k below.
+    let under : k < n = omega (arith, below, length-take n text) in
+    rw (get_or-take n text k 0 under) (before k under)) in
+    ap text_lines whole ∙ ended_parts-front (take n text) rest free
+    ∙ ap (λ l. l ∷ text_lines rest) (sym line)
 
 pub text_lines-one : (text : List ℕ) → 0 < length text
     → ((k : ℕ) → k < length text → get_or text k 0 ≢ 10) → text_lines text ≡ text ∷ []
-text_lines-one [] some lacks = absurd (omega arith)
-text_lines-one (c ∷ []) some lacks = rw (ne_eqb c 10 (lacks 0 (omega arith)))
-text_lines-one (c ∷ d ∷ cs) some lacks =
-    let rest = text_lines-one (d ∷ cs) (omega arith) (λ k below. lacks (suc k) (omega arith)) in
-    rw (ne_eqb c 10 (lacks 0 (omega arith)), rest)
+text_lines-one text some lacks =
+    ended_parts-whole text (All-from_get_or (λ c. c ≢ 10) text 0 lacks)
+    (λ none. omega (arith, some, ap length none))
 
 -- ---- signs
 

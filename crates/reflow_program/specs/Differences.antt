@@ -2,8 +2,9 @@
 use Rattle.std.specs.Prelude.{◌≡◌, ℕ, ◌+◌, ◌<◌, ◌≤◌, ◌==◌, Bool, true, false, List, [], ◌∷◌, ◌++◌}
 use Rattle.std.specs.Prelude.{All, IsTrue, codes, decimal, filter, length, map, slice_index_or}
 use Rattle.std.specs.Prelude.{if◌then◌else◌, nat_eq, ⊤}
-use Rattle.std.specs.List.{ends_with, flat_map, list_any, onto_first}
+use Rattle.std.specs.List.{ends_with, flat_map, list_any}
 use Rattle.textwrap_program.specs.Program.{line_feed}
+use Rattle.textwrap_lines.specs.TextLines.{ended_parts}
 use Rattle.reflow_program.specs.declared.differences.Sign.{Sign}
 use Rattle.reflow_program.specs.declared.differences.Sign.TheVariants.{Kept, Removed, Added}
 use Rattle.reflow_program.specs.declared.differences.SignedLine.{SignedLine}
@@ -12,9 +13,7 @@ use Rattle.reflow_program.specs.declared.differences.SignedLine.{SignedLine}
 
 -- the lines of a text, each with its line feed, which only the last may lack
 abbrev pub text_lines : List ℕ → List (List ℕ)
-text_lines [] = []
-text_lines (c ∷ cs) =
-    if c == line_feed then (c ∷ []) ∷ text_lines cs else onto_first c (text_lines cs)
+text_lines text = ended_parts text
 
 -- this line stands at a place
 abbrev pub IsLineAt : List (List ℕ) → ℕ → List ℕ → Type 0

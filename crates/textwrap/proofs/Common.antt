@@ -12,7 +12,7 @@ pub use Rattle.textwrap.specs.Options.{Settings, settings_view}
 pub use Rattle.textwrap.specs.Paragraph.{AreParagraphParts, Built, DividesBy, indent_of, Line}
 pub use Rattle.textwrap.specs.Paragraph.{line_from, line_view, LineParts, Slice}
 pub use Rattle.textwrap.specs.Refilling.{blanked, common_prefix, common_start, detected_among}
-pub use Rattle.textwrap.specs.Refilling.{detected_ending, ended_lines_of, EndedLine}
+pub use Rattle.textwrap.specs.Refilling.{detected_ending, EndedLine}
 pub use Rattle.textwrap.specs.Refilling.{is_prefix_character, IsPlain, IsPlainByte, IsPlainLine}
 pub use Rattle.textwrap.specs.Refilling.{IsPlainWord, joined_text, keeps_ending, line_prefix}
 pub use Rattle.textwrap.specs.Refilling.{nonempty_lines, unfilled_initial, unfilled_subsequent}

@@ -3,11 +3,12 @@ use Rattle.std.specs.Prelude.{◌≡◌, ◌≢◌, ℕ, ◌≤◌, ◌⊎◌, B
 use Rattle.std.specs.Prelude.{map, All, if◌then◌else◌, ⊤}
 use Rattle.std.specs.Char.{is_whitespace}
 use Rattle.std.specs.Io.{StartsWith}
-use Rattle.std.specs.List.{flat_map, fold, join_with_byte, list_all, onto_first, prefix_len}
+use Rattle.std.specs.List.{flat_map, fold, join_with_byte, list_all, prefix_len}
 use Rattle.std.specs.List.{take_while}
 use Rattle.std.specs.Str.{chars, trim_end, encode_utf8_all}
 use Rattle.std.specs.Str.Lines.{lines}
 use Rattle.textwrap_base.specs.Lists.{last}
+pub use Rattle.textwrap_lines.specs.TextLines.{ended_parts}
 use Rattle.textwrap_lines.specs.LineEnding.{line_feed}
 
 -- whitespace alone, or empty
@@ -15,12 +16,6 @@ abbrev pub is_blank_line : List ℕ → Bool
 is_blank_line text = list_all is_whitespace (chars text)
 
 -- ---- indenting
-
--- a text, cut after each line feed
-abbrev pub ended_parts : List ℕ → List (List ℕ)
-ended_parts [] = []
-ended_parts (c ∷ cs) =
-    if c == line_feed then (c ∷ []) ∷ ended_parts cs else onto_first c (ended_parts cs)
 
 -- before whitespace alone, the prefix loses its own trailing whitespace
 abbrev pub indent_of_part : List ℕ → List ℕ → List ℕ

@@ -22,6 +22,7 @@ pub use Rattle.textwrap_lines.specs.LineEnding
 pub use Rattle.textwrap_lines.specs.Options
 pub use Rattle.textwrap_lines.specs.Paragraph
 pub use Rattle.textwrap_lines.specs.Text
+pub use Rattle.textwrap_lines.specs.TextLines
 pub use Rattle.textwrap_words.specs.Blanks
 pub use Rattle.textwrap_words.specs.Breaking
 pub use Rattle.textwrap_words.specs.Cuts

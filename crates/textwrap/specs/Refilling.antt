@@ -1,15 +1,14 @@
 -- The text that was filled, got back from its lines, and that text filled again.
-use denote.Ref.{Bor}
 use Rattle.std.specs.Prelude.{◌≡◌, ◌≢◌, ℕ, ◌≤◌, max, Bool, true, false, ◌==◌, ◌&&◌, nat_eq, nat_lt}
 use Rattle.std.specs.Prelude.{List, [], ◌∷◌, ◌++◌, length, take, drop, map, filter, All}
 use Rattle.std.specs.Prelude.{if◌then◌else◌, Option, Some, None, unwrap_or, is_some}
 use Rattle.std.specs.Prelude.{slice_index_or}
 use Rattle.std.specs.Io.{StartsWith}
-use Rattle.std.specs.List.{fold, list_any, take_while, common_prefix_len, slice_split, ends_with}
-use Rattle.std.specs.Str.Lines.{lines, strip_carriage_return}
+use Rattle.std.specs.List.{fold, list_any, take_while, common_prefix_len, ends_with}
+use Rattle.std.specs.Str.Lines.{lines}
 use Rattle.textwrap_words.specs.Blanks.{blank}
-use Rattle.textwrap_base.specs.Lists.{last}
 use Rattle.textwrap_words.specs.Units.{text_width}
+pub use Rattle.textwrap_lines.specs.TextLines.{EndedLine, ended_lines}
 use Rattle.textwrap_words.specs.Words.{WordText}
 use Rattle.textwrap_base.specs.Penalties.{default_penalties}
 use Rattle.textwrap_words.specs.declared.wrap_algorithms.WrapAlgorithm.TheVariants.{OptimalFit}
@@ -23,33 +22,7 @@ use Rattle.textwrap.specs.declared.refilling.TextLayout.{TextLayout}
 use Rattle.textwrap_words.specs.declared.word_separators.WordSeparator.TheVariants.{AsciiSpace}
 use Rattle.textwrap_words.specs.declared.word_splitters.WordSplitter.TheVariants.{HyphenSplitter}
 
--- ---- lines with their endings
-
--- a line, and what ends it
-pub record EndedLine : Type 0 where
-  pub line : List ℕ
-  pub ending : Option LineEnding
-
-abbrev pub ended_line_view : Bor (List ℕ) × Option LineEnding → EndedLine
-ended_line_view item = record { line = item.0.now; ending = item.1 }
-
--- what stands before a line feed, less one carriage return
-abbrev pub line_before_feed : List ℕ → EndedLine
-line_before_feed part = record {
-  line = strip_carriage_return part;
-  ending = Some (if last part == carriage_return then CRLF else LF);
-}
-
--- the lines in the parts between line feeds: an empty last part is no line
-abbrev pub ended_lines_of : List (List ℕ) → List EndedLine
-ended_lines_of [] = []
-ended_lines_of (part ∷ []) =
-    if length part == 0 then [] else record { line = part; ending = None } ∷ []
-ended_lines_of (part ∷ next ∷ parts) = line_before_feed part ∷ ended_lines_of (next ∷ parts)
-
--- std's lines, each with its ending
-abbrev pub ended_lines : List ℕ → List EndedLine
-ended_lines text = ended_lines_of (slice_split (λ b. b == line_feed) text)
+-- ---- the lines of a text
 
 abbrev pub has_text : EndedLine → Bool
 has_text l = nat_lt 0 (length l.line)

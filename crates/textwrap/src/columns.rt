@@ -1,6 +1,6 @@
 //! A text in columns beside one another.
 ghost use Rattle.std.specs.Prelude.{◌≡◌, ◌+◌, ◌-◌, ◌*◌, ◌<◌, ◌≤◌, ◌++◌, List, [], length, map, alloc_error};
-ghost use Rattle.std.specs.Prelude.{string_bytes, IfOk, IfErr, IfSome, IfNone, SomeIff, OnOk, ◌⊎◌, ◌^◌};
+ghost use Rattle.std.specs.Prelude.{string_bytes, IfOk, IfErr, SomeIff, OnOk, min, ◌⊎◌, ◌^◌};
 ghost use Rattle.std.specs.List.{range_with_len, repeat};
 ghost use Rattle.textwrap.specs.Columns.{blanks, inner_width, layout_of, layout_view, cell};
 ghost use Rattle.textwrap.specs.Columns.{cells, padded, gapped, row_text, table_rows, IsInColumns};
@@ -251,8 +251,8 @@ fn row_len<A: Allocator>(
         (cells (map line_bytes (map line_view lines.now)) step table.now.columns first)
         in SomeIff result (length row < 2 ^ 64) (length row) }
 {
-    let first_len = padded_len(lines[first].as_str(), table.column_width)?;
-    let (later, later_len) = later_len(lines, first, step, table)?;
+    let first_len = padded_len(lines[first].as_str(), table.column_width);
+    let (later, later_len) = later_len(lines, first, step, table);
     let missing = (table.columns - 1 - later) as u128;
     let missing_len = missing.saturating_mul(
         table.middle_gap.len() as u128 + table.column_width as u128,
@@ -260,55 +260,48 @@ fn row_len<A: Allocator>(
     let ends_len = table.left_gap.len() as u128
         + table.spare_width as u128
         + table.right_gap.len() as u128;
-    let len = missing_len.saturating_add(first_len as u128 + later_len as u128 + ends_len);
+    let len = missing_len
+        .saturating_add(later_len)
+        .saturating_add(first_len + ends_len);
     usize::try_from(len).ok()
 }
 
 /// How many cells after the first have a line, and the bytes of these cells, each with the middle
-/// gap before it.
+/// gap before it, or the greatest number if they are more.
 fn later_len<A: Allocator>(
     lines: &[CowStr<'_, A>],
     first: usize,
     step: usize,
     table: &Table<'_>,
-) -> Option<(usize, usize)>
+) -> (usize, u128)
     requires within { first < length lines.now }
     requires step { 1 ≤ step }
     requires step_within { step ≤ length lines.now }
     requires columns { 1 ≤ table.now.columns }
-    ensures len { IfSome result (λ later. later.1 ≡ length (gapped (layout_view table.now)
+    ensures len { result.1 ≡ min (length (gapped (layout_view table.now)
         (map (cell (map line_bytes (map line_view lines.now)) step first)
-        (range_with_len 1 later.0)))) }
-    ensures count { IfSome result (λ later. later.0 + 1 ≤ table.now.columns) }
-    ensures all { IfSome result (λ later. later.0 + 1 ≡ table.now.columns
-        ⊎ (length lines.now ≤ first + (later.0 + 1) * step)) }
-    // What has no number here has none as a part of the row.
-    ensures none { IfNone result (2 ^ 64 ≤ length (gapped (layout_view table.now)
-        (map (cell (map line_bytes (map line_view lines.now)) step first)
-        (range_with_len 1 (table.now.columns - 1))))) }
+        (range_with_len 1 result.0)))) (2 ^ 128 - 1) }
+    ensures count { result.0 + 1 ≤ table.now.columns }
+    ensures all { result.0 + 1 ≡ table.now.columns
+        ⊎ (length lines.now ≤ first + (result.0 + 1) * step) }
 {
     let mut later = 0;
-    let mut len = 0usize;
+    let mut len = 0u128;
     let mut at = first;
     while later < table.columns - 1 && step < lines.len() - at {
         at += step;
-        let cell_len = padded_len(lines[at].as_str(), table.column_width)?;
-        len = len
-            .checked_add(table.middle_gap.len())?
-            .checked_add(cell_len)?;
+        let cell_len = padded_len(lines[at].as_str(), table.column_width);
+        len = len.saturating_add(table.middle_gap.len() as u128 + cell_len);
         later += 1;
     }
-    Some((later, len))
+    (later, len)
 }
 
-/// The bytes of a text that is padded to a width, or `None` where their number does not fit 64
-/// bits.
-fn padded_len(text: &str, width: usize) -> Option<usize>
-    ensures { SomeIff result (length (padded width text.now) < 2 ^ 64)
-        (length (padded width text.now)) }
+/// The bytes of a text that is padded to a width.
+fn padded_len(text: &str, width: usize) -> u128
+    ensures { result ≡ length (padded width text.now) }
 {
-    text.len()
-        .checked_add(width.saturating_sub(display_width(text)))
+    text.len() as u128 + width.saturating_sub(display_width(text)) as u128
 }
 
 /// Appends the cells after the first that have a line, each after the middle gap, and returns how

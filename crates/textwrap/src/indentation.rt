@@ -7,6 +7,7 @@ ghost use Rattle.textwrap_words.specs.LentText.{as_len, written_over};
 
 use crate::text_sinks::TextSink;
 use std::alloc::{AllocError, Allocator};
+use textwrap_lines::inner::Lines;
 use textwrap_words::inner::LentText;
 
 /// Puts a prefix before each line of a text.
@@ -56,14 +57,14 @@ fn push_indented<S: TextSink>(s: &str, prefix: &str, text: &mut S) -> Result<(),
     ensures indented { OnOk result (S.holds text.old text.new (indented prefix.now s.now)) }
 {
     let bare_prefix = prefix.trim_end();
-    for part in s.split_inclusive('\n') {
-        let indent = if is_blank_line(part) {
+    for line in Lines::of(s) {
+        let indent = if is_blank_line(line.whole) {
             bare_prefix
         } else {
             prefix
         };
         text.push_part(indent)?;
-        text.push_part(part)?;
+        text.push_part(line.whole)?;
     }
     Ok(())
 }
@@ -113,14 +114,11 @@ fn push_dedented<S: TextSink>(s: &str, text: &mut S) -> Result<(), AllocError>
     ensures dedented { OnOk result (S.holds text.old text.new (dedented s.now)) }
 {
     let margin = margin_of(s);
-    for (i, line) in s.lines().enumerate() {
-        if i > 0 {
+    for line in Lines::of(s) {
+        text.push_part(without_margin(line.text, margin))?;
+        if line.ending.is_some() {
             text.push_part("\n")?;
         }
-        text.push_part(without_margin(line, margin))?;
-    }
-    if s.ends_with('\n') {
-        text.push_part("\n")?;
     }
     Ok(())
 }
@@ -138,11 +136,11 @@ fn margin_of(s: &str) -> &str
     ensures { chars result.now ≡ margin_of s.now }
 {
     let mut margin = None;
-    for line in s.lines() {
+    for line in Lines::of(s) {
         margin = match margin {
-            Some(margin) => Some(narrowed(margin, line)),
-            None if is_blank_line(line) => None,
-            None => Some(leading_whitespace(line)),
+            Some(margin) => Some(narrowed(margin, line.text)),
+            None if is_blank_line(line.text) => None,
+            None => Some(leading_whitespace(line.text)),
         };
     }
     margin.unwrap_or("")

@@ -1,6 +1,7 @@
 //! Unfilling, which joins the lines of a filled text, and refilling, which fills them again.
 ghost use Rattle.std.specs.Prelude.{◌≡◌, ℕ, List, [], ◌∷◌, ◌++◌, length, drop, alloc_error, IfOk, IfErr};
 ghost use Rattle.std.specs.Prelude.{IfSome, IsOk, OnOk, string_bytes, map, option_to_list};
+ghost use Rattle.std.specs.Prelude.{slice_index_or};
 ghost use Rattle.std.specs.Io.{StartsWith};
 ghost use Rattle.std.specs.Str.{IsAscii};
 ghost use Rattle.textwrap_base.specs.Penalties.{default_penalties};
@@ -31,7 +32,9 @@ use crate::words::display_width;
 use crate::wrap_algorithms::WrapError;
 use lines::NonEmptyLines;
 use std::alloc::{AllocError, Allocator};
-use textwrap_lines::inner::{AnyOptions, BuiltInOptions, DEFAULTS, Layout, PrintableCuts, fill_by};
+use textwrap_lines::inner::{
+    AnyOptions, BuiltInOptions, DEFAULTS, Layout, Lines, PrintableCuts, fill_by,
+};
 use textwrap_lines::{LineEnding, Options};
 use textwrap_words::inner::LentText;
 
@@ -277,18 +280,30 @@ fn find_layout(text: &str) -> TextLayout<'_>
     ensures { layout_settings result
         ≡ with_indents_of text.now (settings_at (unfilled_width text.now)) }
 {
-    let first = text.lines().next().unwrap_or("");
+    let mut lines = Lines::of(text);
+    let first = next_text(&mut lines);
     let mut width = display_width(first);
     let mut common = None;
-    for line in text.lines().skip(1) {
-        width = width.max(display_width(line));
-        common = Some(narrow(common, line_prefix(line)));
+    for line in lines {
+        width = width.max(display_width(line.text));
+        common = Some(narrow(common, line_prefix(line.text)));
     }
     TextLayout {
         width,
         line_ending: LineEnding::LF,
         initial_indent: line_prefix(first),
         subsequent_indent: common.unwrap_or(""),
+    }
+}
+
+/// Takes the next line, and returns its text, which is empty where there is none.
+fn next_text<'t>(lines: &mut Lines<'t>) -> &'t str
+    ensures text { result.now ≡ slice_index_or (map (λ l. l.line) lines.old) 0 [] }
+    ensures left { lines.new ≡ drop 1 lines.old }
+{
+    match lines.next() {
+        Some(line) => line.text,
+        None => "",
     }
 }
 
@@ -311,20 +326,20 @@ fn push_without_indents<S: TextSink>(
     ensures joined { OnOk result (S.holds joined.old joined.new (joined_text text.now)) }
     ensures detected { IfOk result (λ detected. detected ≡ detected_ending text.now) }
 {
-    let mut lines = NonEmptyLines(text);
-    let Some((first, ending)) = lines.next() else {
+    let mut lines = NonEmptyLines(Lines::of(text));
+    let Some(line) = lines.next() else {
         return Ok(None);
     };
-    let first = without_indent(first, initial_indent);
+    let first = without_indent(line.text, initial_indent);
     // No unfilled text is longer than the text. Of an indent alone nothing may be left, and then no
     // memory is needed.
     joined.reserve_bytes(if first.is_empty() { 0 } else { text.len() })?;
     joined.push_part(first)?;
-    let mut detected = ending;
-    for (line, ending) in lines {
+    let mut detected = line.ending;
+    for line in lines {
         joined.push_part(" ")?;
-        joined.push_part(without_indent(line, subsequent_indent))?;
-        detected = stronger_ending(detected, ending);
+        joined.push_part(without_indent(line.text, subsequent_indent))?;
+        detected = stronger_ending(detected, line.ending);
     }
     Ok(detected)
 }

@@ -5,3 +5,4 @@ pub mod PieceLines
 pub mod PlacedPieces
 pub mod PrintableTexts
 pub mod Text
+pub mod TextLines

@@ -9,6 +9,7 @@ pub mod LentPlaces
 pub mod LineBounds
 pub mod LineEnding
 pub mod LineSinks
+pub mod LineViews
 pub mod Offsets
 pub mod Options
 pub mod Paragraph
@@ -19,6 +20,7 @@ pub mod Printable
 pub mod Spans
 pub mod Steps
 pub mod Text
+pub mod TextLines
 pub mod Written
 pub use Rattle.textwrap_base.specs.Cost
 pub use Rattle.textwrap_base.specs.Division

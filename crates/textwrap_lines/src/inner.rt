@@ -19,6 +19,7 @@ pub use crate::options::DEFAULTS;
 use crate::options::Options;
 pub use crate::placed::{place_into, place_lines_by};
 pub use crate::printable_cuts::PrintableCuts;
+pub use crate::text_lines::{Lines, TextLine};
 pub use crate::wrapping::{wrap_by, wrap_paragraph};
 use crate::{layout, wrapping};
 use std::alloc::{AllocError, Allocator};

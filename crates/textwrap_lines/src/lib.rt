@@ -32,5 +32,6 @@ mod printable;
 mod printable_cuts;
 mod spans;
 pub mod steps;
+mod text_lines;
 mod wrapping;
 mod written;

@@ -5,12 +5,12 @@ use Rattle.textwrap_base.proofs.Common.{◌+◌, ◌≤◌, ◌∷◌, drop, ref
 use Rattle.textwrap_base.proofs.Common.{Bool, nat_tests, take-take, unwrap_or, chars-nil, take_more}
 use Rattle.textwrap_base.proofs.Common.{true, false, cond, List, take, arith, rules, lines, ne_eqb}
 use Rattle.textwrap_base.proofs.Common.{[], starts_with_of_eq, starts_with_trans, common_prefix_len}
-use Rattle.textwrap_base.proofs.Common.{All, sym, ◌↔◌, inl, inr, ◌∙◌, Bor, map, ◌-◌, ◌<◌, min, zip}
-use Rattle.textwrap_base.proofs.Common.{StartsWith, All-cons, prefix_len, length-take, append_assoc}
+use Rattle.textwrap_base.proofs.Common.{All, sym, ◌↔◌, inl, inr, ◌∙◌, Bor, ◌-◌, ◌<◌, min, zip}
+use Rattle.textwrap_base.proofs.Common.{StartsWith, All-cons, prefix_len, append_assoc}
 use Rattle.textwrap_base.proofs.Common.{starts_with_length, starts_with_of_append, take-append-drop}
-use Rattle.textwrap_base.proofs.Common.{All-nil, length-prefix_len, join_with_byte, encode_utf8_all}
+use Rattle.textwrap_base.proofs.Common.{All-nil, length-prefix_len, encode_utf8_all}
 use Rattle.textwrap_base.proofs.Common.{All-head, All-tail, list_all, take_all, drop_all, drop_more}
-use Rattle.textwrap_base.proofs.Common.{option_map, false≢true, All-weaker, append-nil, length-map}
+use Rattle.textwrap_base.proofs.Common.{option_map, false≢true, All-weaker, append-nil}
 use Rattle.textwrap.proofs.Common.{common_start, common_prefix, narrowed, is_blank_line}
 use Rattle.textwrap.proofs.Common.{leading_whitespace, margin_of}
 use Rattle.textwrap.specs.Refilling.{IsCommonPrefix}
@@ -22,12 +22,8 @@ use Rattle.textwrap_base.proofs.Lists.Parts.{starts-cons, starts-head, starts-ta
 use Rattle.textwrap_base.proofs.Lists.Parts.{longest-step}
 use Rattle.std.specs.Char.{is_whitespace}
 use Rattle.textwrap_base.proofs.Texts.{white-front, white-leading, IsCut, cut_text, leading-skipped}
-use Rattle.std.specs.List.{enumerate_from}
-use Rattle.std.proofs.lemmas.List.{map_more}
-use Rattle.std.proofs.lemmas.List.FromFn.{length-enumerate_from, get_or-enumerate_from}
 use Rattle.std.proofs.lemmas.Slice.Zip.{length-zip, get_or-zip}
 use Rattle.textwrap_base.proofs.Numbers.{either_short}
-use Rattle.textwrap_base.proofs.Lists.Elements.{join-push}
 
 -- ---- what two texts begin with, and what all texts do
 
@@ -301,32 +297,3 @@ narrowed-done ms ls n all so_far =
     ⊎_elim (search (rules, take_all, drop_all, append-nil))
     (search (rules, drop_all, narrowed-ended, take-append-drop))
     (either_short (length ms) (length ls) n len)
-
--- ---- lines that are joined
-
--- the line at place n of the enumerated lines
-pub record IsLineAt (ls : List (List ℕ)) (n i : ℕ) (line : List ℕ) : Type 0 where
-  pub within : n < length ls
-  pub place : i ≡ n
-  pub is : line ≡ get_or ls n line
-
-pub line_at : (ls : List (List ℕ)) (n i : ℕ) (line : List ℕ) → n < length (enumerate_from 0 ls)
-    → (i, line) ≡ get_or (enumerate_from 0 ls) n (i, line) → IsLineAt ls n i line
-line_at ls n i line within is = search (rules, length-enumerate_from, get_or-enumerate_from)
-
-joined-map : (f : List ℕ → List ℕ) (ls : List (List ℕ)) (n i : ℕ) (line : List ℕ)
-    → IsLineAt ls n i line
-    → join_with_byte 10 (map f (take n ls) ++ f line ∷ [])
-    ≡ join_with_byte 10 (map f (take (n + 1) ls))
-joined-map f ls n i line here = rw (map_more f ls n line here.within, ← here.is)
-
-pub joined-first : (f : List ℕ → List ℕ) (ls : List (List ℕ)) (n i : ℕ) (line text : List ℕ)
-    → IsLineAt ls n i line → i ≡ 0 → text ≡ join_with_byte 10 (map f (take n ls))
-    → text ++ f line ≡ join_with_byte 10 (map f (take (n + 1) ls))
-joined-first f ls n i line text here first so_far = cc (joined-map f ls n i line here)
-
-pub joined-more : (f : List ℕ → List ℕ) (ls : List (List ℕ)) (n i : ℕ) (line text : List ℕ)
-    → IsLineAt ls n i line → 0 < i → text ≡ join_with_byte 10 (map f (take n ls))
-    → (text ++ 10 ∷ []) ++ f line ≡ join_with_byte 10 (map f (take (n + 1) ls))
-joined-more f ls n i line text here later so_far =
-    search (rules, joined-map, join-push, length-map, length-take)

@@ -4,12 +4,12 @@ use Rattle.textwrap_base.proofs.Common.{All, length, refl, sym, ap, ◌∙◌, s
 use Rattle.textwrap_base.proofs.Common.{length-append, prefix_len, ne_eqb, take_all, length-take}
 use Rattle.textwrap_base.proofs.Common.{map-append, All-nil, rules, All-cons, All-head, All-tail}
 use Rattle.textwrap_base.proofs.Common.{All-append, All-weaker, last, get_or, drop, false, take}
-use Rattle.textwrap_base.proofs.Common.{map, filter, slice_split, lines, lt-ltb, true, nat_eq}
+use Rattle.textwrap_base.proofs.Common.{filter, lines, lt-ltb, true, nat_eq}
 use Rattle.textwrap_base.proofs.Common.{take-append-drop, ends_with}
 use Rattle.textwrap_words.proofs.Common.{blank, trimmed_len, without_final_blanks}
 use Rattle.textwrap_lines.proofs.Common.{line_feed, ending_bytes}
 use Rattle.textwrap.proofs.Common.{is_prefix_character, line_prefix, IsPlainByte, IsPlainWord}
-use Rattle.textwrap.proofs.Common.{IsPlainLine, blanked, EndedLine, ended_lines_of, nonempty_lines}
+use Rattle.textwrap.proofs.Common.{IsPlainLine, blanked, EndedLine, nonempty_lines}
 use Rattle.textwrap.proofs.Common.{keeps_ending}
 use Rattle.std.proofs.lemmas.List.Elements.{All-get_or}
 use Rattle.std.proofs.lemmas.List.Folds.{map_fixed}
@@ -17,9 +17,11 @@ use Rattle.textwrap_base.proofs.Lists.Parts.{some_from_nonempty, all-right}
 use Rattle.textwrap_words.proofs.Word.Texts.{trimmed-past}
 use Rattle.textwrap_lines.proofs.Paragraph.Covered.{last-append}
 use Rattle.textwrap.proofs.Text.InPlace.{blank_joined, feed_joined}
-use Rattle.std.specs.Str.Lines.{lines_of_parts, strip_carriage_return}
-use Rattle.std.proofs.lemmas.List.Splits.{slice_split_none, slice_split_at}
-use Rattle.textwrap.specs.Refilling.{has_text}
+use Rattle.std.specs.Str.Lines.{strip_carriage_return}
+use Rattle.textwrap.specs.Refilling.{ended_lines, has_text}
+use Rattle.textwrap_lines.proofs.TextLines.{ended_lines-front, ended_lines-texts}
+use Rattle.textwrap_lines.proofs.TextLines.{ended_lines-whole, texts_of}
+use Rattle.std.proofs.Common.{ap₂}
 use Rattle.std.proofs.lemmas.Slice.Eq.{bytes_eq-Decides}
 use Rattle.textwrap_lines.specs.declared.line_ending.LineEnding.{LineEnding}
 use Rattle.textwrap_lines.specs.declared.line_ending.LineEnding.TheVariants.{CRLF, LF}
@@ -189,62 +191,41 @@ plain_parts (part ∷ next ∷ parts) plain =
 
 -- ---- the lines of a text of rows, unfilled
 
-pub no_feeds : (line : List ℕ) → IsRow line → All (λ c. (c == 10) ≡ false) line
-no_feeds line here = grind (arith, All-weaker)
-
-split_feeds : (line : List ℕ) (others : List (List ℕ)) → All IsRow (line ∷ others)
-    → slice_split (λ b. b == 10) (feed_joined (line ∷ others)) ≡ line ∷ others
-split_feeds line [] rows =
-    slice_split_none (λ b. b == 10) line
-    (no_feeds line (All-head IsRow line [] rows))
-split_feeds line (next ∷ others) rows =
-    let more = feed_joined (next ∷ others) in
-    ap (slice_split (λ b. b == 10)) (append_assoc line (line_feed ∷ []) more)
-    ∙ slice_split_at (λ b. b == 10) line line_feed more
-    (no_feeds line (All-head IsRow line (next ∷ others) rows)) refl
-    ∙ ap (λ ls. line ∷ ls)
-    (split_feeds next others (All-tail IsRow line (next ∷ others) rows))
-
-pub kept_return : (line : List ℕ) → IsRow line → strip_carriage_return line ≡ line
+kept_return : (line : List ℕ) → IsRow line → strip_carriage_return line ≡ line
 kept_return line here = ap (λ b. cond b (take (length line - 1) line) line)
     (ne_eqb (last line) 13 here.ends.1)
 
-not_empty : (line : List ℕ) → IsRow line → (length line == 0) ≡ false
-not_empty line here = ne_eqb (length line) 0 (λ none. omega (arith, here.some, none))
+ended-rows : (rows : List (List ℕ)) → All IsRow rows
+    → texts_of (ended_lines (feed_joined rows)) ≡ rows
+ended-rows [] are = refl
+ended-rows (row ∷ []) are =
+    let here = All-head IsRow row [] are in
+    ap texts_of (ended_lines-whole row here.no_feed (λ is. omega (arith, here.some, ap length is)))
+ended-rows (row ∷ next ∷ rows) are =
+    let here = All-head IsRow row (next ∷ rows) are in
+    let more = feed_joined (next ∷ rows) in
+    ap (λ t. texts_of (ended_lines t)) (append_assoc row (line_feed ∷ []) more)
+    ∙ ap texts_of (ended_lines-front row more here.no_feed)
+    ∙ ap₂ (λ l ls. l ∷ ls) (kept_return row here)
+    (ended-rows (next ∷ rows) (All-tail IsRow row (next ∷ rows) are))
 
-lines_of-rows : (line : List ℕ) (others : List (List ℕ)) → All IsRow (line ∷ others)
-    → lines_of_parts (line ∷ others) ≡ line ∷ others
-lines_of-rows line [] rows = ap (λ b. cond b [] (line ∷ []))
-    (not_empty line (All-head IsRow line [] rows))
-lines_of-rows line (next ∷ others) rows =
+pub lines-rows : (rows : List (List ℕ)) → All IsRow rows → lines (feed_joined rows) ≡ rows
+lines-rows rows are = sym (ended_lines-texts (feed_joined rows)) ∙ ended-rows rows are
+
+all-text : (es : List EndedLine) → All IsRow (texts_of es)
+    → texts_of (filter has_text es) ≡ texts_of es
+all-text [] rows = refl
+all-text (e ∷ es) rows =
     rw (
-      kept_return line (All-head IsRow line (next ∷ others) rows),
-      lines_of-rows next others (All-tail IsRow line (next ∷ others) rows),
+      lt-ltb 0 (length e.line) (All-head IsRow e.line (texts_of es) rows).some,
+      all-text es (All-tail IsRow e.line (texts_of es) rows),
     )
 
-pub lines-rows : (parts : List (List ℕ)) → All IsRow parts → lines (feed_joined parts) ≡ parts
-lines-rows [] rows = refl
-lines-rows (part ∷ parts) rows =
-    ap lines_of_parts (split_feeds part parts rows) ∙ lines_of-rows part parts rows
-
-abbrev texts_of : List EndedLine → List (List ℕ)
-texts_of ended = map (λ l. l.line) (filter has_text ended)
-
-ended-rows : (line : List ℕ) (others : List (List ℕ)) → All IsRow (line ∷ others)
-    → texts_of (ended_lines_of (line ∷ others)) ≡ line ∷ others
-ended-rows line [] rows = grind (arith, All-head, not_empty, lt-ltb)
-ended-rows line (next ∷ others) rows =
-    let here = All-head IsRow line (next ∷ others) rows in
-    rw (
-      kept_return line here,
-      lt-ltb 0 (length line) here.some,
-      ended-rows next others (All-tail IsRow line (next ∷ others) rows),
-    )
-
-pub texts-rows : (parts : List (List ℕ)) → All IsRow parts
-    → map (λ l. l.line) (nonempty_lines (feed_joined parts)) ≡ parts
-texts-rows [] rows = refl
-texts-rows (part ∷ parts) rows = search (rules, arith, split_feeds, ended-rows)
+pub texts-rows : (rows : List (List ℕ)) → All IsRow rows
+    → texts_of (nonempty_lines (feed_joined rows)) ≡ rows
+texts-rows rows are =
+    let is = ended-rows rows are in
+    all-text (ended_lines (feed_joined rows)) (subst (All IsRow) (sym is) are) ∙ is
 
 -- ---- lines that end in no line feed: joined by line feeds, they keep no ending
 
@@ -266,7 +247,7 @@ last-ending CRLF = refl
 last-ending LF = refl
 
 -- a text that ends in an ending ends in a line feed
-ends_with-last : (text : List ℕ) (ending : LineEnding)
+pub ends_with-last : (text : List ℕ) (ending : LineEnding)
     → ends_with nat_eq text (ending_bytes ending) ≡ true → last text ≡ line_feed
 ends_with-last text ending ends =
     let bytes = ending_bytes ending in

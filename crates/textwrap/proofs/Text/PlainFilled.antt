@@ -4,7 +4,7 @@ use Rattle.textwrap_base.proofs.Common.{◌++◌, All, length, map, refl, ap, �
 use Rattle.textwrap_base.proofs.Common.{common_prefix_len, eq-eqb, fold, drop_at, All-nil, All-cons}
 use Rattle.textwrap_base.proofs.Common.{All-head, All-tail, All-weaker, cond, lines, ◌<◌, Bool, sym}
 use Rattle.textwrap_base.proofs.Common.{IsDivision, MatchBool, subst, append-nil, Sizes, rules}
-use Rattle.textwrap_base.proofs.Common.{append_assoc}
+use Rattle.textwrap_base.proofs.Common.{All-map, append_assoc}
 use Rattle.textwrap_base.proofs.Lists.Elements.{dropped-map}
 use Rattle.textwrap_lines.proofs.Common.{line_feed, LineParts, line_bytes, line_from, parts_of}
 use Rattle.textwrap_lines.proofs.Common.{parts_from, Settings, covered, indent_of, is_whole}
@@ -62,11 +62,9 @@ module _ (indent : List ℕ) (is : IsIndent indent) where
 
   rows-indented : (parts : List (List ℕ)) → All IsPlainLine parts
       → All IsRow (map (λ l. indent ++ l) parts)
-  rows-indented [] plain = All-nil IsRow
-  rows-indented (line ∷ parts) plain =
-      All-cons IsRow (indent ++ line) (map (λ l. indent ++ l) parts)
-      (row-indented line (All-head IsPlainLine line parts plain))
-      (rows-indented parts (All-tail IsPlainLine line parts plain))
+  rows-indented parts plain =
+      All-map IsRow (λ l. indent ++ l) parts
+      (All-weaker IsPlainLine (λ l. IsRow (indent ++ l)) row-indented parts plain)
 
   line-indent : (line : List ℕ) → IsPlainLine line → line_prefix (indent ++ line) ≡ indent
   line-indent line plain = prefix-indented indent line is (solid line plain).begins

@@ -4,7 +4,7 @@ use Rattle.textwrap_base.proofs.Common.{◌∷◌, ◌++◌, length, get_or, map
 use Rattle.textwrap_base.proofs.Common.{append_assoc, append-nil, inl, inr, range_with_len, repeat}
 use Rattle.textwrap_base.proofs.Common.{CowStr, get_or-map, get_or_past, length-map, map-append}
 use Rattle.textwrap_base.proofs.Common.{flat_map-append, map-range_with_len_more, rules}
-use Rattle.textwrap_base.proofs.Common.{length-append, ◌^◌, flat_map, All, sum_by, All-head}
+use Rattle.textwrap_base.proofs.Common.{length-append, flat_map, All, sum_by, All-head}
 use Rattle.textwrap_base.proofs.Common.{All-tail, sum_by-cons, sum_by-append, Bool}
 use Rattle.textwrap_lines.proofs.Common.{join_with, line_view, line_bytes, Settings, settings_view}
 use Rattle.textwrap_lines.proofs.Common.{Line, IsDividedInto, DividesBy, AreTextLines}
@@ -139,38 +139,6 @@ pub length-row_text : (layout : RowLayout) (lines : List (List ℕ)) (step first
 length-row_text layout lines step first later all within =
     rw (← row_text-written layout lines step first later all within)
     (simp (length-append, length-repeat, length-replicate) (omega arith))
-
--- the later cells with a line are among all later cells
-pub length-gapped-within : (layout : RowLayout) (lines : List (List ℕ)) (step first later more : ℕ)
-    → later ≤ more
-    → length (gapped layout (map (cell lines step first) (range_with_len 1 later)))
-    ≤ length (gapped layout (map (cell lines step first) (range_with_len 1 more)))
-length-gapped-within layout lines step first later more within =
-    let whole : more ≡ later + (more - later) = omega (arith, within) in
-    search (rules, range-split, map-append, flat_map-append, length-append)
-
--- so where some bytes of theirs have no number, nor have all
-pub gapped-past : (layout : RowLayout) (lines : List (List ℕ)) (step first later len part : ℕ)
-    → len ≡ length (gapped layout (map (cell lines step first) (range_with_len 1 later)))
-    → later + 1 ≤ layout.columns - 1
-    → part ≤ len + length layout.middle
-    + length (padded layout.column_width (cell lines step first (later + 1)))
-    → ¬ (part < 2 ^ 64)
-    → 2 ^ 64
-    ≤ length (gapped layout (map (cell lines step first) (range_with_len 1 (layout.columns - 1))))
-gapped-past layout lines step first later len part len_is room within past = omega (
-  arith,
-  length-gapped-more layout lines step first later,
-  length-gapped-within layout lines step first (later + 1) (layout.columns - 1) room,
-)
-
--- and all later cells are in the row
-pub length-gapped-row : (layout : RowLayout) (lines : List (List ℕ)) (step first : ℕ)
-    → 1 ≤ layout.columns
-    → length (gapped layout (map (cell lines step first) (range_with_len 1 (layout.columns - 1))))
-    + length (padded layout.column_width (cell lines step first 0))
-    ≤ length (row_text layout (cells lines step layout.columns first))
-length-gapped-row layout lines step first some = search (rules, length-row_text)
 
 -- ---- the cells of a table, one column after another
 

@@ -1,34 +1,33 @@
 -- The layout of a text and what unfilling gives; a text that is filled with the indents of another.
-use Rattle.textwrap_base.proofs.Common.{◌≡◌, ◌+◌, ◌∷◌, ◌<◌, max, drop, refl, Some, None, fold, ◌==◌}
+use Rattle.textwrap_base.proofs.Common.{◌≡◌, ◌+◌, ◌∷◌, max, drop, refl, Some, None, fold}
 use Rattle.textwrap_base.proofs.Common.{ℕ, IsAscii, flat_map, All-nil, All-cons, All-head, All-tail}
 use Rattle.textwrap_base.proofs.Common.{Bool, false, nat_eq, IsUtf8, length, get_or, Option, filter}
 use Rattle.textwrap_base.proofs.Common.{true, cond, List, take, arith, rules, ◌++◌, lines, subst}
 use Rattle.textwrap_base.proofs.Common.{[], common_prefix_len, IsUtf8-from_ascii, starts_with_trans}
-use Rattle.textwrap_base.proofs.Common.{StartsWith, IsCharBoundary-from_take, YieldsList-from_lines}
-use Rattle.textwrap_base.proofs.Common.{IsCharBoundary, unwrap_or, YieldsList-turn, nil_from_length}
-use Rattle.textwrap_base.proofs.Common.{prefix_len, drop_more, append-nil, ends_with, nat_tests, ap}
-use Rattle.textwrap_base.proofs.Common.{map, ◌∙◌, Bor, All, sym}
-use Rattle.textwrap_base.proofs.Common.{YieldsList-end, get_or_default, append_assoc, slice_split}
+use Rattle.textwrap_base.proofs.Common.{StartsWith, IsCharBoundary-from_take}
+use Rattle.textwrap_base.proofs.Common.{IsCharBoundary, unwrap_or, nil_from_length}
+use Rattle.textwrap_base.proofs.Common.{prefix_len, append-nil, ends_with, nat_tests, ap}
+use Rattle.textwrap_base.proofs.Common.{map, Bor, All, cases_Bool, inl, inr, sym}
+use Rattle.textwrap_base.proofs.Common.{append_assoc}
 use Rattle.textwrap.proofs.Common.{is_prefix_character, line_prefix, common_start, common_prefix}
-use Rattle.textwrap.proofs.Common.{EndedLine, ended_lines_of, nonempty_lines, unfilled_initial}
+use Rattle.textwrap.proofs.Common.{EndedLine, nonempty_lines, unfilled_initial}
 use Rattle.textwrap.proofs.Common.{unfilled_subsequent, joined_text, detected_among}
 use Rattle.textwrap.proofs.Common.{detected_ending, keeps_ending, layout_of}
 use Rattle.std.proofs.lemmas.Str.{IsAscii-take}
 use Rattle.std.proofs.lemmas.Str.Ascii.{IsAscii-cons}
 use Rattle.std.proofs.lemmas.List.Sums.{prefix_len-le-length}
 use Rattle.std.proofs.lemmas.Grind.{common_steps}
+use Rattle.textwrap_lines.proofs.TextLines.{ended_lines-texts, texts_of}
 use Rattle.textwrap_words.proofs.Common.{text_width, blank, WordText, Algorithm, Splitter}
 use Rattle.textwrap_lines.proofs.Common.{Settings, ending_bytes, join_with, IsFilled, settings_view}
 use Rattle.textwrap_lines.proofs.Common.{AreTextLines, HasParts, DividesAs}
 use Rattle.std.specs.Prelude.{option_to_list, IfSome}
-use Rattle.std.specs.Str.Iter.{lines_rest, lines_steps}
 use Rattle.textwrap_words.proofs.Word.Words.{text_width-nil}
 use Rattle.textwrap_lines.specs.Options.{settings_at}
-use Rattle.std.specs.Str.Lines.{lines_of_parts}
 use Rattle.std.proofs.lemmas.List.Elements.{All-filter}
 use Rattle.textwrap_lines.specs.declared.line_ending.LineEnding.{LineEnding}
 use Rattle.textwrap_lines.specs.declared.line_ending.LineEnding.TheVariants.{CRLF, LF}
-use Rattle.textwrap.specs.Refilling.{ended_lines, has_text, added_ending, IsRefilled}
+use Rattle.textwrap.specs.Refilling.{has_text, added_ending, IsRefilled}
 use Rattle.textwrap.specs.Refilling.{layout_settings, unfilled_settings, with_indents_of}
 use Rattle.textwrap.proofs.Text.Margins.{common_prefix-begins}
 use Rattle.textwrap.specs.declared.refilling.TextLayout.{TextLayout}
@@ -68,51 +67,28 @@ line_prefix-begins line = grind (arith, common_steps)
 
 -- ---- lemmas on the layout of a text, as its lines show it one after another
 
--- the lines after the first
-abbrev pub later_lines : List ℕ → List (List ℕ)
-later_lines text = drop 1 (lines text)
-
 abbrev pub texts_in : Option (Bor (List ℕ)) → List (List ℕ)
 texts_in texts = map (λ text. text.now) (option_to_list texts)
 
 -- ---- the first line
 
-pub width-first : (texts : List (List ℕ))
-    → fold max (text_width (get_or texts 0 [])) (map text_width (drop 1 texts))
-    ≡ fold max 0 (map text_width texts)
+pub width-first : (es : List EndedLine)
+    → fold max (text_width (get_or (texts_of es) 0 [])) (map text_width (texts_of (drop 1 es)))
+    ≡ fold max 0 (map text_width (texts_of es))
 width-first [] = text_width-nil
-width-first (text ∷ texts) = search rules
+width-first (e ∷ es) = search rules
 
-pub first_line : (s u : _) (text : List ℕ) (found : Option (Bor (List ℕ))) (none : Bor (List ℕ))
-    → lines_rest s ≡ text → lines_steps s found u → none.now ≡ []
-    → (unwrap_or found none).now ≡ get_or (lines text) 0 []
-first_line s u text None none rest steps empty =
-    search (rules, common_steps, YieldsList-end, YieldsList-from_lines)
-first_line s u text (Some line) none rest steps empty =
-    let turn = YieldsList-turn (YieldsList-from_lines {s = s} text rest) [] s refl (Some line) u line
-    refl steps in
-    turn.1 ∙ get_or_default (lines text) 0 line.now [] turn.0
+pub texts_of-later : (es : List EndedLine) → texts_of (drop 1 es) ≡ drop 1 (texts_of es)
+texts_of-later [] = refl
+texts_of-later (e ∷ es) = refl
 
 -- ---- one more line
 
-pub width-more : (width : ℕ) (texts : List (List ℕ)) (n : ℕ) (text : List ℕ) → n < length texts
-    → text ≡ get_or texts n text
-    → fold max width (map text_width (drop n texts))
-    ≡ fold max (max width (text_width text)) (map text_width (drop (n + 1) texts))
-width-more width texts n text within is = rw (drop_more texts n text within, ← is)
-
-narrowed : (common : Option (Bor (List ℕ))) (prefix : List ℕ) (rest : List (List ℕ))
+pub narrowed : (common : Option (Bor (List ℕ))) (prefix : List ℕ) (rest : List (List ℕ))
     → common_prefix (common_prefix (texts_in common ++ prefix ∷ []) ∷ rest)
     ≡ common_prefix (texts_in common ++ prefix ∷ rest)
 narrowed None prefix rest = refl
 narrowed (Some common) prefix rest = refl
-
-pub common-more : (common : Option (Bor (List ℕ))) (new : List ℕ) (texts : List (List ℕ)) (n : ℕ)
-    (text : List ℕ) → n < length texts → text ≡ get_or texts n text
-    → new ≡ common_prefix (texts_in common ++ line_prefix text ∷ [])
-    → common_prefix (texts_in common ++ map line_prefix (drop n texts))
-    ≡ common_prefix (new ∷ map line_prefix (drop (n + 1) texts))
-common-more common new texts n text within is narrows = search (rules, drop_more, narrowed)
 
 pub narrowed-ascii : (common : Option (Bor (List ℕ))) (text : List ℕ)
     → IfSome common (λ c. IsAscii c.now)
@@ -138,24 +114,6 @@ pub settings-with : (width found : ℕ) (initial subsequent first later : List �
     ≡ with_indents first later (settings_at found)
 settings-with width found initial subsequent first later wide begins goes_on = cc
 
--- ---- the lines with their endings are std's lines
-
-abbrev texts_of : List EndedLine → List (List ℕ)
-texts_of es = map (λ e. e.line) es
-
-texts_of-last : (part : List ℕ) (b : Bool)
-    → texts_of (cond b [] (record { line = part; ending = None } ∷ [])) ≡ cond b [] (part ∷ [])
-texts_of-last part true = refl
-texts_of-last part false = refl
-
-texts_of-parts : (parts : List (List ℕ)) → texts_of (ended_lines_of parts) ≡ lines_of_parts parts
-texts_of-parts [] = refl
-texts_of-parts (part ∷ []) = texts_of-last part (length part == 0)
-texts_of-parts (part ∷ next ∷ parts) = simp (texts_of-parts (next ∷ parts))
-
-pub texts_of-ended_lines : (text : List ℕ) → texts_of (ended_lines text) ≡ lines text
-texts_of-ended_lines text = texts_of-parts (slice_split (λ b. b == 10) text)
-
 -- ---- the lines that are not empty begin with their indents
 
 begins-each : (indent : List ℕ) (es : List EndedLine)
@@ -172,34 +130,29 @@ abbrev BeginWith : List ℕ → List ℕ → List EndedLine → Type 0
 BeginWith initial subsequent es = (e : EndedLine) (rest : List EndedLine) → es ≡ e ∷ rest
     → StartsWith e.line initial × All (λ l. StartsWith l.line subsequent) rest
 
-begin-cut : (first : EndedLine) (es : List EndedLine) (b : Bool) → has_text first ≡ b
-    → BeginWith (line_prefix first.line) (common_prefix (map line_prefix (texts_of es)))
-    (cond b (first ∷ filter has_text es) (filter has_text es))
-begin-cut first es true some e rest is =
-    let subsequent = common_prefix (map line_prefix (texts_of es)) in
-    let each = All-filter has_text (λ l. StartsWith l.line subsequent) es
-    (begins-each subsequent es (common_prefix-begins (map line_prefix (texts_of es)))) in
-    search (rules, line_prefix-begins)
-begin-cut first es false none e rest is =
-    let subsequent = common_prefix (map line_prefix (texts_of es)) in
-    let each = All-filter has_text (λ l. StartsWith l.line subsequent) es
-    (begins-each subsequent es (common_prefix-begins (map line_prefix (texts_of es)))) in
-    let empty : length first.line ≡ 0 = grind (arith, nat_tests) in (
-      rw (nil_from_length first.line empty),
-      All-tail (λ l. StartsWith l.line subsequent) e rest (rw is at each),
-    )
-
 begin-lines : (es : List EndedLine)
     → BeginWith (line_prefix (get_or (texts_of es) 0 []))
     (common_prefix (map line_prefix (drop 1 (texts_of es)))) (filter has_text es)
 begin-lines [] = λ e rest is. cc
-begin-lines (first ∷ es) = begin-cut first es (has_text first) refl
+begin-lines (first ∷ es) = λ e rest is.
+    let subsequent = common_prefix (map line_prefix (texts_of es)) in
+    let each = All-filter has_text (λ l. StartsWith l.line subsequent) es
+    (begins-each subsequent es (common_prefix-begins (map line_prefix (texts_of es)))) in
+    elim (cases_Bool (has_text first)) [
+      | inl some ↦ let here = rw some at is in search (rules, line_prefix-begins)
+      | inr none ↦
+          let here : filter has_text es ≡ e ∷ rest = rw none at is in
+          let empty : length first.line ≡ 0 = grind (arith, nat_tests) in (
+            rw (nil_from_length first.line empty),
+            All-tail (λ l. StartsWith l.line subsequent) e rest (rw here at each),
+          )
+    ]
 
 pub lines-begin : (text : List ℕ) (e : EndedLine) (rest : List EndedLine)
     → nonempty_lines text ≡ e ∷ rest
     → StartsWith e.line (unfilled_initial text)
     × All (λ l. StartsWith l.line (unfilled_subsequent text)) rest
-lines-begin text = search (rules, texts_of-ended_lines, begin-lines)
+lines-begin text = search (rules, ended_lines-texts, begin-lines)
 
 -- ---- joined lines
 

@@ -3,35 +3,14 @@ use Rattle.textwrap_base.proofs.Common.{◌≡◌, ◌+◌, ◌-◌, ◌*◌, �
 use Rattle.textwrap_base.proofs.Common.{subst, map, length, min, length-map}
 use Rattle.textwrap_lines.proofs.Common.{line_view, line_bytes}
 use Rattle.textwrap.proofs.Common.{layout_view, padded, cells, row_text}
-use Rattle.textwrap.proofs.Text.Tables.{cell_is, length-row_text, length-gapped-row}
+use Rattle.textwrap.proofs.Text.Tables.{cell_is, length-row_text}
 use Rattle.textwrap_base.proofs.Numbers.{SomeIff-ok}
-
-pub returns-in_err-first_len : goal.returns-in_err-first_len
-returns-in_err-first_len g c =
-    let layout = layout_view c.args.table.now in
-    let lines = map line_bytes (map line_view c.args.lines.now) in
-    let len = length (row_text layout (cells lines c.args.step layout.columns c.args.first)) in
-    let text = c.as_str.ensures.value ∙ sym (cell_is c.args.lines.now c.index-lines-first.result
-    c.args.step c.args.first 0 c.args.first (omega arith) c.requires.within
-    c.index-lines-first.is) in
-    let row = length-gapped-row layout lines c.args.step c.args.first c.requires.columns in
-    rw c.from_residual.ensures (λ fits. c.in_err-first_len.ensures
-    (omega (arith, row, fits, ap (λ l. length (padded layout.column_width l)) text)))
-
-pub returns-in_err-later : goal.returns-in_err-later
-returns-in_err-later g c =
-    let layout = layout_view c.args.table.now in
-    let lines = map line_bytes (map line_view c.args.lines.now) in
-    let len = length (row_text layout (cells lines c.args.step layout.columns c.args.first)) in
-    let row = length-gapped-row layout lines c.args.step c.args.first c.requires.columns in
-    rw c.from_residual-in_err-later.ensures
-    (λ fits. absurd (omega (arith, row, fits, c.in_err-later.ensures.none)))
 
 pub returns : goal.returns
 returns g c =
     let layout = layout_view c.args.table.now in
     let lines = map line_bytes (map line_view c.args.lines.now) in
-    let later = c.in_ok-later.later in
+    let later = c.later_len-later.result.0 in
     let len = length (row_text layout (cells lines c.args.step layout.columns c.args.first)) in
     let count = sym (length-map (map line_view c.args.lines.now) line_bytes
     ∙ length-map c.args.lines.now line_view) in
@@ -40,14 +19,15 @@ returns g c =
     c.index-lines-first.is) in
     let row = length-row_text layout lines c.args.step c.args.first later
     (subst (λ n. (later + 1 ≡ layout.columns) ⊎ (n ≤ c.args.first + (later + 1) * c.args.step))
-    count c.in_ok-later.ensures.all) c.in_ok-later.ensures.count in
+    count c.later_len-later.ensures.all) c.later_len-later.ensures.count in
     let counted : c.saturating_add-len.result ≡ min len (2 ^ 128 - 1) = omega (
       arith,
       row,
       ap (λ l. length (padded layout.column_width l)) text,
-      c.in_ok-first_len.ensures,
-      c.in_ok-later.ensures.len,
+      c.padded_len-first_len.ensures,
+      c.later_len-later.ensures.len,
       c.saturating_mul-missing_len.ensures,
+      c.saturating_add.ensures,
       c.saturating_add-len.ensures,
     ) in
     rw c.ok.ensures.value

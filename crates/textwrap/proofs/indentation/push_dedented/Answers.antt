@@ -1,90 +1,65 @@
 use Rattle.textwrap.proofs.indentation.push_dedented.Goals as goal
-use Rattle.textwrap_base.proofs.Common.{◌≡◌, ◌++◌, ◌∷◌, [], ◌==◌, ℕ, List, false, length, map, take}
-use Rattle.textwrap_base.proofs.Common.{◌∙◌, sym, refl, subst, arith, append-nil, StartsWith}
-use Rattle.textwrap_base.proofs.Common.{join_with_byte, lines, YieldsList-turn, YieldsList-end}
-use Rattle.textwrap_base.proofs.Common.{YieldsList-from_lines, length_push, take_all, last}
-use Rattle.textwrap.proofs.Common.{is_blank_line, margin_of}
+use Rattle.textwrap_base.proofs.Common.{◌≡◌, ◌++◌, ◌∷◌, [], ◌∙◌, All-head, All-tail, append-nil}
+use Rattle.textwrap_base.proofs.Common.{append_assoc, false, refl, StartsWith, subst, sym}
 use Rattle.std.specs.Str.{chars}
-use Rattle.std.proofs.lemmas.Iterator.Consumers.{YieldsList-from_enumerate}
-use Rattle.std.proofs.lemmas.List.FromFn.{length-enumerate_from}
+use Rattle.textwrap.proofs.Common.{is_blank_line, margin_of}
 use Rattle.textwrap.specs.Indentation.{without_margin}
-use Rattle.textwrap.proofs.Text.Margins.{IsLineAt, line_at, joined-first, joined-more}
 use Rattle.textwrap.proofs.Text.Margins.{lines_begin_with_margin}
-use Rattle.textwrap.proofs.indentation.push_dedented.Goals.{In-Some, In-None}
+use Rattle.textwrap_lines.proofs.TextLines.{ended_lines-texts, lines-made, texts_of}
 
--- the line of this turn
-turn : (g : _) (c : In-Some g) → IsLineAt (lines c.args.s.now) (length c.loop-i.yielded) c.in-Some.i
-    c.in-Some.line.now
-turn g c =
-    let t = YieldsList-turn (YieldsList-from_enumerate {s = c.into_iter-i-iterator.result}
-    (YieldsList-from_lines c.args.s.now cc) cc) c.loop-i.yielded _ c.loop-i.yielded_by _
-    c.next.new.self (c.in-Some.i, c.in-Some.line) c.in-Some.is c.next.ensures.steps in
-    line_at (lines c.args.s.now) (length c.loop-i.yielded) c.in-Some.i c.in-Some.line.now t.0 t.1
-
-pub without_margin-requires : goal.without_margin-requires
-without_margin-requires g c =
-    let here = turn g (goal.at.without_margin-requires g c).In-Some in
-    let line = c.in-Some.line.now in
-    let margin = chars c.margin_of-margin.result.now in
-    subst (λ l. is_blank_line l ≡ false → StartsWith (chars l) margin) (sym here.is)
-    (λ full. subst (StartsWith _) (sym c.margin_of-margin.ensures)
-    (lines_begin_with_margin c.args.s.now (length c.loop-i.yielded) line here.within full))
-
-pub loop-i-preserved : goal.loop-i-preserved
-loop-i-preserved g c =
-    let here = turn g (goal.at.loop-i-preserved g c).In-Some in
-    let f = without_margin (chars c.margin_of-margin.result.now) in
-    let ls = lines c.args.s.now in
-    let n = length c.loop-i.yielded in
-    let before = join_with_byte 10 (map f (take n ls)) in
-    let Holds = g.S.TextSink.holds c.args.text.now in
-    let pushed = λ (so_far : List ℕ) (held : Holds c.if-i-gt0.text so_far).
-    subst (λ l. Holds c.push_part-in-loop-i.new.self (so_far ++ l)) c.without_margin.ensures
-    (c.in_ok-push_part-2.ensures.took c.args.text.now so_far held) in
+pub loop-line-init : goal.loop-line-init
+loop-line-init g c =
+    let left = c.into_iter-line-iterator.ensures.into_iter_gives ∙ c.of-line-items.ensures in
+    let margin = c.margin_of-margin.ensures in
+    let s = c.args.s.now in
     record {
-      text = rw length_push (elim c.if-i-gt0.branch [
-        | goal.then-i-gt0+in_ok-push_part w ↦
-            subst (Holds c.push_part-in-loop-i.new.self)
-            (joined-more f ls n c.in-Some.i c.in-Some.line.now before here w.if-i-gt0.true refl)
-            (pushed (before ++ 10 ∷ []) (rw w.text-is
-            (w.in_ok-push_part.ensures.took c.args.text.now before c.loop-i.invariant.text)))
-        | goal.else-i-gt0 w ↦
-            subst (Holds c.push_part-in-loop-i.new.self)
-            (joined-first f ls n c.in-Some.i c.in-Some.line.now before here (omega arith) refl)
-            (pushed before (rw w.text-is c.loop-i.invariant.text))
-      ]);
-      name = c.push_part-in-loop-i.ensures.name ∙ elim c.if-i-gt0.branch [
-        | goal.then-i-gt0+in_ok-push_part w ↦
-            rw w.text-is (w.push_part.ensures.name ∙ c.loop-i.invariant.name)
-        | goal.else-i-gt0 w ↦ rw w.text-is c.loop-i.invariant.name
-      ];
+      text = ([], c.requires.none, rw (left, margin) (sym (lines-made (without_margin (margin_of s)) s)));
+      begins = rw (left, margin, ended_lines-texts) (lines_begin_with_margin s);
+      name = refl;
     }
 
--- all lines were pushed
-pushed-all : (g : _) (c : In-None g) → g.S.TextSink.holds c.args.text.now c.loop-i.text
-    (join_with_byte 10 (map (without_margin (margin_of c.args.s.now)) (lines c.args.s.now)))
-pushed-all g c =
-    let t = YieldsList-end (YieldsList-from_enumerate {s = c.into_iter-i-iterator.result}
-    (YieldsList-from_lines c.args.s.now cc) cc) c.loop-i.yielded _ c.loop-i.yielded_by _
-    c.next.new.self c.in-None.is c.next.ensures.steps in
-    rw (
-      c.margin_of-margin.ensures,
-      take_all (length c.loop-i.yielded) (lines c.args.s.now)
-          (omega (arith, t.1, length-enumerate_from 0 (lines c.args.s.now))),
-    ) at c.loop-i.invariant.text
+pub without_margin-requires : goal.without_margin-requires
+without_margin-requires g c = All-head (λ line. is_blank_line line ≡ false
+    → StartsWith (chars line) (chars c.margin_of-margin.result.now)) c.in-Some.line.text.now
+    (texts_of c.next.new.self) (rw c.in-Some.ensures.steps at c.loop-line.invariant.begins)
 
-pub returns-in_ok-push_part-3-clause-dedented : goal.returns-in_ok-push_part-3-clause-dedented
-returns-in_ok-push_part-3-clause-dedented g c =
-    let at = (goal.at.returns-in_ok-push_part-3-clause-dedented g c).In-None in
-    let ended : c.ends_with.result ≡ (last c.args.s.now == 10) =
-    c.ends_with.ensures.byte (omega arith) (omega arith) (λ w o k. k) in
-    rw (← ended, c.if-ends_with.true)
-    (c.in_ok-push_part-3.ensures.took c.args.text.now _ (pushed-all g at))
+pub loop-line-preserved : goal.loop-line-preserved
+loop-line-preserved g c =
+    let (so_far, held, rest) = c.loop-line.invariant.text in
+    let steps = c.in-Some.ensures.steps in
+    record {
+      text = (
+        so_far ++ c.without_margin.result.now,
+        c.in_ok-push_part.ensures.took c.args.text.now so_far held,
+        rw (c.without_margin.ensures, append_assoc)
+            (rw (steps, ← c.is_some.ensures, c.if-is_some.false, append-nil) at rest),
+      );
+      begins = All-tail (λ line. is_blank_line line ≡ false
+          → StartsWith (chars line) (chars c.margin_of-margin.result.now)) c.in-Some.line.text.now
+          (texts_of c.next.new.self) (rw steps at c.loop-line.invariant.begins);
+      name = c.push_part.ensures.name ∙ c.loop-line.invariant.name;
+    }
 
-pub returns-else-ends_with-clause-dedented : goal.returns-else-ends_with-clause-dedented
-returns-else-ends_with-clause-dedented g c =
-    let at = (goal.at.returns-else-ends_with-clause-dedented g c).In-None in
-    let ended : c.ends_with.result ≡ (last c.args.s.now == 10) =
-    c.ends_with.ensures.byte (omega arith) (omega arith) (λ w o k. k) in
-    rw (← ended, c.if-ends_with.false)
-    (subst (g.S.TextSink.holds c.args.text.now c.loop-i.text) (sym (append-nil _)) (pushed-all g at))
+pub loop-line-preserved-in-Continue-branch-2 : goal.loop-line-preserved-in-Continue-branch-2
+loop-line-preserved-in-Continue-branch-2 g c =
+    let (so_far, held, rest) = c.loop-line.invariant.text in
+    let steps = c.in-Some.ensures.steps in
+    record {
+      text = (
+        (so_far ++ c.without_margin.result.now) ++ 10 ∷ [],
+        c.in_ok-push_part-2.ensures.took c.args.text.now _
+            (c.in_ok-push_part.ensures.took c.args.text.now so_far held),
+        rw (c.without_margin.ensures, append_assoc so_far, append_assoc)
+            (rw (steps, ← c.is_some.ensures, c.if-is_some.true) at rest),
+      );
+      begins = All-tail (λ line. is_blank_line line ≡ false
+          → StartsWith (chars line) (chars c.margin_of-margin.result.now)) c.in-Some.line.text.now
+          (texts_of c.next.new.self) (rw steps at c.loop-line.invariant.begins);
+      name = c.push_part-then-is_some.ensures.name ∙ c.push_part.ensures.name ∙ c.loop-line.invariant.name;
+    }
+
+pub returns-clause-dedented : goal.returns-clause-dedented
+returns-clause-dedented g c =
+    let (so_far, held, rest) = c.loop-line.invariant.text in
+    subst (g.S.TextSink.holds c.args.text.now c.loop-line.text)
+    (sym (append-nil so_far) ∙ (rw c.in-None.ensures.steps.0 at rest)) held

@@ -1,12 +1,18 @@
 use Rattle.textwrap.proofs.indentation.push_dedented.Given as goal
-use Rattle.textwrap_base.proofs.Common.{◌≡◌, length, map, take, join_with_byte, lines}
+use Rattle.textwrap_base.proofs.Common.{◌≡◌, ◌++◌, ℕ, List, All, StartsWith, false, flat_map}
 use Rattle.std.specs.Str.{chars}
-use Rattle.textwrap.specs.Indentation.{without_margin}
+use Rattle.textwrap.proofs.Common.{is_blank_line}
+use Rattle.textwrap.specs.Indentation.{dedented, without_margin}
+use Rattle.textwrap_lines.proofs.TextLines.{made_of, texts_of}
 
--- the lines so far were pushed, without the margin
-abbrev pub invariant-loop-i : goal.invariant-loop-i
-invariant-loop-i g l = record {
-  text : g.S.TextSink.holds l.initial.text l.text (join_with_byte 10
-      (map (without_margin (chars l.margin)) (take (length l.yielded) (lines l.s))));
+-- the text so far, and what the lines to come make, are the dedented text; of these, each that is
+-- not blank begins with the margin
+abbrev pub invariant-loop-line : goal.invariant-loop-line
+invariant-loop-line g l = record {
+  text : (so_far : List ℕ) × g.S.TextSink.holds l.initial.text l.text so_far
+      × (so_far ++ flat_map (made_of (without_margin (chars l.margin))) l.line-iterator
+      ≡ dedented l.s);
+  begins : All (λ line. is_blank_line line ≡ false → StartsWith (chars line) (chars l.margin))
+      (texts_of l.line-iterator);
   name : g.S.TextSink.name l.text ≡ g.S.TextSink.name l.initial.text;
 }

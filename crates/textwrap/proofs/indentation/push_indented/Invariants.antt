@@ -1,12 +1,13 @@
 use Rattle.textwrap.proofs.indentation.push_indented.Given as goal
-use Rattle.textwrap_base.proofs.Common.{◌≡◌, length, take, flat_map}
-use Rattle.textwrap.proofs.Common.{ended_parts}
-use Rattle.textwrap.specs.Indentation.{indented_part}
+use Rattle.textwrap_base.proofs.Common.{◌≡◌, ◌++◌, ℕ, List, map, flat_map}
+use Rattle.textwrap.specs.Indentation.{indented, indented_part}
+use Rattle.textwrap_lines.specs.TextLines.{with_ending}
 
--- the parts so far were pushed, each indented
-abbrev pub invariant-loop-part : goal.invariant-loop-part
-invariant-loop-part g l = record {
-  text : g.S.TextSink.holds l.initial.text l.text
-      (flat_map (indented_part l.prefix) (take (length l.yielded) (ended_parts l.s)));
+-- the text so far, and the lines to come, each indented, are the indented text
+abbrev pub invariant-loop-line : goal.invariant-loop-line
+invariant-loop-line g l = record {
+  text : (so_far : List ℕ) × g.S.TextSink.holds l.initial.text l.text so_far
+      × (so_far ++ flat_map (indented_part l.prefix) (map with_ending l.line-iterator)
+      ≡ indented l.prefix l.s);
   name : g.S.TextSink.name l.text ≡ g.S.TextSink.name l.initial.text;
 }

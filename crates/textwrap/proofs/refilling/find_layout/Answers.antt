@@ -1,38 +1,33 @@
 use Rattle.textwrap.proofs.refilling.find_layout.Goals as goal
-use Rattle.textwrap_base.proofs.Common.{◌≡◌, [], ◌∷◌, ◌++◌, max, get_or, drop, length, refl, sym}
-use Rattle.textwrap_base.proofs.Common.{ap, ◌∙◌, subst, arith, append-nil, IsAscii, lines}
-use Rattle.textwrap_base.proofs.Common.{YieldsList-turn, YieldsList-end, YieldsList-from_lines}
-use Rattle.textwrap_base.proofs.Common.{length_push, drop_all}
+use Rattle.textwrap_base.proofs.Common.{◌≡◌, ◌++◌, ◌∷◌, [], max, get_or, refl, sym, ap, ◌∙◌, subst}
+use Rattle.textwrap_base.proofs.Common.{IsAscii, append-nil, drop, fold, lines, map}
 use Rattle.textwrap_words.proofs.Common.{text_width}
+use Rattle.textwrap_lines.proofs.TextLines.{ended_lines-texts, texts_of}
 use Rattle.textwrap.proofs.Common.{line_prefix, common_prefix, unfilled_initial}
 use Rattle.textwrap.proofs.Common.{unfilled_subsequent}
-use Rattle.std.proofs.lemmas.Iterator.Adapters.{YieldsList-from_skip}
-use Rattle.textwrap.specs.Refilling.{unfilled_width}
-use Rattle.textwrap.proofs.Text.Unfilling.{width-first, first_line, width-more, common-more}
-use Rattle.textwrap.proofs.Text.Unfilling.{narrowed-ascii, common-end, later_lines, texts_in}
-use Rattle.textwrap.proofs.Text.Unfilling.{settings-with}
+use Rattle.textwrap.specs.Refilling.{ended_lines, unfilled_width}
+use Rattle.textwrap.proofs.Text.Unfilling.{width-first, texts_of-later, narrowed, narrowed-ascii}
+use Rattle.textwrap.proofs.Text.Unfilling.{common-end, settings-with, texts_in}
 
 pub loop-line-init : goal.loop-line-init
 loop-line-init c =
     let text = c.args.text.now in
-    let first : c.unwrap_or-first.result.now ≡ get_or (lines text) 0 [] =
-    ap (λ b. b.now) c.unwrap_or-first.ensures
-    ∙ first_line _ _ text c.next.result _ c.lines.ensures.rest c.next.ensures.steps refl in
+    let es = ended_lines text in
+    let left = c.into_iter-line-iterator.ensures.into_iter_gives ∙ c.next_text-first.ensures.left
+    ∙ ap (drop 1) c.of-lines.ensures in
+    let first : c.next_text-first.result.now ≡ get_or (texts_of es) 0 [] =
+    c.next_text-first.ensures.text ∙ ap (λ es. get_or (texts_of es) 0 []) c.of-lines.ensures in
     record {
-      width = rw (c.display_width-width.ensures.width, first) (width-first (lines text));
-      common = refl;
+      width = rw (left, c.display_width-width.ensures.width, first) (width-first es
+          ∙ ap (λ ls. fold max 0 (map text_width ls)) (ended_lines-texts text));
+      common = ap (λ ls. common_prefix (map line_prefix ls)) (ap texts_of left ∙ texts_of-later es
+          ∙ ap (drop 1) (ended_lines-texts text));
       ascii = tt;
     }
 
 pub loop-line-preserved : goal.loop-line-preserved
 loop-line-preserved c =
-    let texts = later_lines c.args.text.now in
-    let line = c.in-Some.line.now in
-    let before = c.loop-line.yielded in
-    let turn = YieldsList-turn (YieldsList-from_skip 1 (YieldsList-from_lines c.args.text.now (cc))
-    (cc)) before _ c.loop-line.yielded_by _ _ c.in-Some.line c.in-Some.is
-    c.next-in-loop-line.ensures.steps in
-    let count = length_push before c.in-Some.line in
+    let line = c.in-Some.line.text.now in
     let wide : c.max-width.result ≡ max c.loop-line.width (text_width line) =
     c.max-width.ensures ∙ ap (max c.loop-line.width) c.display_width.ensures.width in
     let narrows : c.narrow.result.now
@@ -40,12 +35,8 @@ loop-line-preserved c =
     c.narrow.ensures ∙ ap (λ p. common_prefix (texts_in c.loop-line.common ++ p ∷ []))
     c.line_prefix.ensures in
     record {
-      width = rw (count, wide)
-          (sym (width-more c.loop-line.width texts (length before) line turn.0 turn.1)
-          ∙ c.loop-line.invariant.width);
-      common = rw count (sym (common-more c.loop-line.common c.narrow.result.now texts
-          (length before) line
-          turn.0 turn.1 narrows) ∙ c.loop-line.invariant.common);
+      width = rw wide (rw c.in-Some.ensures.steps at c.loop-line.invariant.width);
+      common = rw (narrows, narrowed) (rw c.in-Some.ensures.steps at c.loop-line.invariant.common);
       ascii = subst IsAscii (sym narrows)
           (narrowed-ascii c.loop-line.common line c.loop-line.invariant.ascii);
     }
@@ -53,15 +44,10 @@ loop-line-preserved c =
 pub returns : goal.returns
 returns c =
     let text = c.args.text.now in
-    let texts = later_lines text in
-    let end = YieldsList-end (YieldsList-from_skip 1 (YieldsList-from_lines text (cc)) (cc))
-    c.loop-line.yielded _ c.loop-line.yielded_by _ _ c.in-None.is c.next-in-loop-line.ensures.steps
-    in
-    let none : drop (length c.loop-line.yielded) texts ≡ [] =
-    drop_all (length c.loop-line.yielded) texts (omega (arith, end.1)) in
-    let first : c.unwrap_or-first.result.now ≡ get_or (lines text) 0 [] =
-    ap (λ b. b.now) c.unwrap_or-first.ensures
-    ∙ first_line _ _ text c.next.result _ c.lines.ensures.rest c.next.ensures.steps refl in
+    let none = c.in-None.ensures.steps.0 in
+    let first : c.next_text-first.result.now ≡ get_or (lines text) 0 [] =
+    c.next_text-first.ensures.text ∙ ap (λ es. get_or (texts_of es) 0 []) c.of-lines.ensures
+    ∙ ap (λ ls. get_or ls 0 []) (ended_lines-texts text) in
     let width : c.loop-line.width ≡ unfilled_width text = rw none at c.loop-line.invariant.width in
     let initial : c.line_prefix-2.result.now ≡ unfilled_initial text =
     c.line_prefix-2.ensures ∙ ap line_prefix first in

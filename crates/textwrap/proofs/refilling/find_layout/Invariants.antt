@@ -1,19 +1,18 @@
 use Rattle.textwrap.proofs.refilling.find_layout.Given as goal
-use Rattle.textwrap_base.proofs.Common.{◌≡◌, ◌++◌, length, drop, map, max, fold, IsAscii}
+use Rattle.textwrap_base.proofs.Common.{◌≡◌, ◌++◌, map, max, fold, IsAscii}
 use Rattle.textwrap_words.proofs.Common.{text_width}
 use Rattle.textwrap.proofs.Common.{line_prefix, common_prefix, unfilled_subsequent}
 use Rattle.std.proofs.Common.{IfSome}
 use Rattle.textwrap.specs.Refilling.{unfilled_width}
-use Rattle.textwrap.proofs.Text.Unfilling.{later_lines, texts_in}
+use Rattle.textwrap.proofs.Text.Unfilling.{texts_in}
+use Rattle.textwrap_lines.proofs.TextLines.{texts_of}
 
 -- the widest line so far, and the lines to come, make the width; what the later lines have had in
 -- common so far, and the prefixes to come, make the subsequent indent
 abbrev pub invariant-loop-line : goal.invariant-loop-line
 invariant-loop-line l = record {
-  width : fold max l.width (map text_width (drop (length l.yielded) (later_lines l.text)))
-      ≡ unfilled_width l.text;
-  common : common_prefix (texts_in l.common
-      ++ map line_prefix (drop (length l.yielded) (later_lines l.text)))
+  width : fold max l.width (map text_width (texts_of l.line-iterator)) ≡ unfilled_width l.text;
+  common : common_prefix (texts_in l.common ++ map line_prefix (texts_of l.line-iterator))
       ≡ unfilled_subsequent l.text;
   ascii : IfSome l.common (λ common. IsAscii common.now);
 }

@@ -1,21 +1,22 @@
 use Rattle.textwrap.proofs.refilling.push_without_indents.Goals as goal
-use Rattle.textwrap_base.proofs.Common.{[], ◌∷◌, ◌++◌, map, subst, sym, ap, ◌∙◌, append-nil}
+use Rattle.textwrap_base.proofs.Common.{[], ◌∷◌, ◌++◌, filter, map, subst, sym, ap, ◌∙◌, append-nil}
 use Rattle.textwrap_base.proofs.Common.{append_assoc, StartsWith, All-head, All-tail}
 use Rattle.textwrap_words.proofs.Common.{blank}
 use Rattle.textwrap.proofs.Common.{detected_among}
-use Rattle.textwrap.specs.Refilling.{ended_line_view}
+use Rattle.textwrap.specs.Refilling.{has_text}
+use Rattle.textwrap_lines.specs.LineViews.{ended_line_view}
 use Rattle.textwrap.proofs.Text.Unfilling.{lines-begin, joined_text-some, detected_among-two}
 
 pub without_indent-first-requires : goal.without_indent-first-requires
-without_indent-first-requires g c = subst (StartsWith c.in-Some.first.now) (sym c.requires.initial)
-    (lines-begin c.args.text.now (ended_line_view (c.in-Some.first, c.in-Some.ending))
-    c.next.new.self c.in-Some.ensures.steps).0
+without_indent-first-requires g c = subst (StartsWith c.in-Some.line.text.now) (sym c.requires.initial)
+    (lines-begin c.args.text.now (ended_line_view c.in-Some.line) c.next.new.self
+    (ap (filter has_text) (sym c.of.ensures) ∙ c.in-Some.ensures.steps)).0
 
 pub loop-line-init : goal.loop-line-init
 loop-line-init g c =
     let text = c.args.text.now in
-    let first = ended_line_view (c.in-Some.first, c.in-Some.ending) in
-    let steps = c.in-Some.ensures.steps in
+    let first = ended_line_view c.in-Some.line in
+    let steps = ap (filter has_text) (sym c.of.ensures) ∙ c.in-Some.ensures.steps in
     let left = c.into_iter-line-iterator.ensures.into_iter_gives in
     let reserved = c.in_ok-reserve_bytes.ensures.held c.args.joined.now [] c.requires.none in
     record {
@@ -28,21 +29,21 @@ loop-line-init g c =
       );
       name = c.push_part.ensures.name ∙ c.reserve_bytes.ensures.name;
       begins = rw (left, c.requires.subsequent) (lines-begin text first c.next.new.self steps).1;
-      detected = ap (λ es. detected_among (c.in-Some.ending ∷ map (λ e. e.ending) es)) left
+      detected = ap (λ es. detected_among (c.in-Some.line.ending ∷ map (λ e. e.ending) es)) left
           ∙ ap (λ es. detected_among (map (λ e. e.ending) es)) (sym steps);
     }
 
 pub without_indent-requires : goal.without_indent-requires
 without_indent-requires g c =
-    let line = ended_line_view (c.in-Some-2.line, c.in-Some-2.ending) in
+    let line = ended_line_view c.in-Some-line.line in
     All-head (λ e. StartsWith e.line c.args.subsequent_indent.now) line c.next-in-loop-line.new.self
-    (rw c.in-Some-2.ensures.steps at c.loop-line.invariant.begins)
+    (rw c.in-Some-line.ensures.steps at c.loop-line.invariant.begins)
 
 pub loop-line-preserved : goal.loop-line-preserved
 loop-line-preserved g c =
-    let line = ended_line_view (c.in-Some-2.line, c.in-Some-2.ending) in
+    let line = ended_line_view c.in-Some-line.line in
     let left = c.next-in-loop-line.new.self in
-    let steps = c.in-Some-2.ensures.steps in
+    let steps = c.in-Some-line.ensures.steps in
     let (before, held, joined) = c.loop-line.invariant.joined in
     let blank_pushed = c.in_ok-push_part-2.ensures.took c.args.joined.now before held in
     record {
@@ -57,7 +58,7 @@ loop-line-preserved g c =
           (rw steps at c.loop-line.invariant.begins);
       detected = ap (λ d. detected_among (d ∷ map (λ e. e.ending) left))
           c.stronger_ending-detected.ensures
-          ∙ detected_among-two c.loop-line.detected c.in-Some-2.ending (map (λ e. e.ending) left)
+          ∙ detected_among-two c.loop-line.detected c.in-Some-line.line.ending (map (λ e. e.ending) left)
           ∙ ap (λ es. detected_among (c.loop-line.detected ∷ map (λ e. e.ending) es)) (sym steps)
           ∙ c.loop-line.invariant.detected;
     }

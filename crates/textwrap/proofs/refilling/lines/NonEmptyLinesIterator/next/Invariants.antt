@@ -1,10 +1,10 @@
 use Rattle.textwrap.proofs.refilling.lines.NonEmptyLinesIterator.next.Given as goal
-use Rattle.textwrap_base.proofs.Common.{◌≡◌, length}
-use Rattle.textwrap.proofs.Common.{nonempty_lines}
+use Rattle.textwrap_base.proofs.Common.{◌≡◌, filter, length}
+use Rattle.textwrap.specs.Refilling.{has_text}
 
 -- the lines that were passed over are empty
-abbrev pub invariant-loop-self : goal.invariant-loop-self
-invariant-loop-self l = nonempty_lines l.self-inside.0.now ≡ l.fn.self
+abbrev pub invariant-loop-line : goal.invariant-loop-line
+invariant-loop-line l = filter has_text l.self-inside.0 ≡ l.fn.self
 
-abbrev pub decreases-loop-self : goal.decreases-loop-self
-decreases-loop-self l = length l.self-inside.0.now
+abbrev pub decreases-loop-line : goal.decreases-loop-line
+decreases-loop-line l = length l.self-inside.0

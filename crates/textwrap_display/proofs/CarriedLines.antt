@@ -1,13 +1,13 @@
 -- Lines whose styles are carried: their bytes, what they show, and whole lines under indents.
 use Rattle.textwrap_base.proofs.Common.{◌≡◌, ℕ, ◌+◌, ◌<◌, cond, ◌==◌, List, [], ◌∷◌, ◌++◌, length}
 use Rattle.textwrap_base.proofs.Common.{get_or, take, drop, map, sym, ap, ◌∙◌, drop_more, CowStr}
-use Rattle.textwrap_base.proofs.Common.{nat_tests, append-nil, nil_from_length, length-append}
+use Rattle.textwrap_base.proofs.Common.{nat_tests, append-nil, append_assoc, map-append}
+use Rattle.textwrap_base.proofs.Common.{nil_from_length, length-append}
 use Rattle.textwrap_base.proofs.Common.{arith, take-append-drop, ◌-◌, All, All-append, All-drop}
 use Rattle.textwrap_base.proofs.Common.{filter, not, suffix_len, sum_by, All-cons, All-head}
 use Rattle.textwrap_base.proofs.Common.{All-nil, All-tail, refl, Bool, true, false, All-weaker}
 use Rattle.textwrap_base.proofs.Common.{chars-nil, drop_at, flat_map, IsUtf8, IsUtf8-drop, nat_eq}
 use Rattle.textwrap_base.proofs.Common.{starts_with, subst, take_at}
-use Rattle.textwrap_base.proofs.Lists.Elements.{map-push-append}
 use Rattle.std.specs.Cow.{cow_str_bytes}
 use Rattle.textwrap_lines.specs.Paragraph.{Line, Built, Slice, line_view, line_bytes}
 use Rattle.textwrap_lines.proofs.Text.Lines.{line_bytes-line_view}
@@ -45,9 +45,7 @@ pub line-is : (indent line : List ℕ) (n : ℕ) (before : List (List ℕ)) (sta
     (view : Line) → n ≡ indent_end indent line → start ≡ opening before
     → end ≡ closing (before ++ sequences (drop n line)) → view ≡ enclosed line n start end
     → view ≡ carried_line indent before line
-line-is indent line n before start end view is starts ends whole =
-    whole ∙ ap (λ l. enclosed line n l end) starts ∙ ap (enclosed line n (opening before)) ends
-    ∙ ap (λ k. enclosed line k (opening before) (closing (before ++ sequences (drop k line)))) is
+line-is indent line n before start end view is starts ends whole = cc
 
 -- one more of the lines
 pub carries-more : {Z : Type 0} (lines : List (CowStr Z)) (n : ℕ) (line added : CowStr Z)
@@ -60,14 +58,8 @@ pub carries-more : {Z : Type 0} (lines : List (CowStr Z)) (n : ℕ) (line added 
     (texts_of (drop (n + 1) lines)) ≡ all
 carries-more lines n line added indent later bytes text before old new all within is same after push
     view whole =
-    let rest = texts_of (drop (n + 1) lines) in
-    let texts : texts_of (drop n lines) ≡ bytes ∷ rest =
-    ap texts_of (drop_more lines n line within ∙ ap (λ x. x ∷ drop (n + 1) lines) (sym is))
-    ∙ ap (λ x. x ∷ rest) (line_bytes-line_view line ∙ sym same) in
-    map-push-append line_view old new added (carried_line indent before bytes) _ push view
-    ∙ ap (λ t. map line_view old ++ carried_line indent before bytes
-    ∷ carried_lines later later (before ++ sequences t) rest) after
-    ∙ ap (λ ts. map line_view old ++ carried_lines indent later before ts) (sym texts) ∙ whole
+    let left = drop_more lines n line within in
+    grind (arith, append_assoc, line_bytes-line_view, map-append, left)
 
 -- ---- the bytes of a line whose styles are carried
 
@@ -213,13 +205,8 @@ lines-stay : (lines : List (List ℕ)) (indent later : List ℕ)
     → carried_lines indent later [] lines ≡ map Slice lines
 lines-stay [] indent later all = refl
 lines-stay (line ∷ lines) indent later (none, rest) =
-    let text = after_indent indent line in
-    let front = before_text indent line in
-    ap (λ xs. cond (length (opening [] ++ closing xs) == 0) (Slice line)
-    (Built (front ++ opening [] ++ text ++ closing xs))
-    ∷ carried_lines later later xs lines) none
-    ∙ ap (λ ls. Slice line ∷ ls)
-    (lines-stay lines later later (indented-later IsPlainLine later lines rest))
+    let others = lines-stay lines later later (indented-later IsPlainLine later lines rest) in
+    grind (arith, none, others)
 
 -- ---- the laws
 
@@ -319,8 +306,5 @@ pub bare-carried : (lines : List (List ℕ)) → All IsWholeText lines
     → flat_map (λ l. styled_text [] (line_bytes l)) (carried_lines [] [] [] lines)
     ≡ styled_text [] (concat lines)
 bare-carried lines whole =
-    sym (flat_map-map (λ shown. shown) (λ l. styled_text [] (line_bytes l))
-    (carried_lines [] [] [] lines))
-    ∙ ap (flat_map (λ shown. shown)) (carried-keep [] [] lines
-    (all-may_carry [] [] lines nil-whole nil-plain nil-whole nil-plain whole))
-    ∙ bare-shown lines [] whole
+    let may = all-may_carry [] [] lines nil-whole nil-plain nil-whole nil-plain whole in
+    grind (arith, flat_map-map, carried-keep [] [] lines may, bare-shown lines [] whole)

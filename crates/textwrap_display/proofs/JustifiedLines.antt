@@ -162,9 +162,7 @@ module _ (settings : Settings) (Divides : Bool → List ℕ → List (List WordT
     whole = λ groups are. record {
       groups = groups;
       defined = are;
-      joined = ap (λ l. l ++ rows settings false groups) none
-          ∙ sym (join-on (ending_bytes settings.line_ending)
-          (flat_map (justified_lines settings.width) groups));
+      joined = grind (arith, join-on);
     };
   }
 
@@ -203,7 +201,6 @@ module _ (settings : Settings) (Divides : Bool → List ℕ → List (List WordT
   so_far-more text filled new items kept found slice start paragraph after so_far keeps starts
       (parts, are, adds) slice_is is =
       let later = nat_lt 0 (length kept) in
-      let ending = ending_bytes settings.line_ending in
       let views = length-map kept line_view in
       let count = ap length adds ∙ length-append (map line_view kept) (map line_from parts) in
       let len : length found ≡ length kept + length parts =
@@ -215,10 +212,7 @@ module _ (settings : Settings) (Divides : Bool → List ℕ → List (List WordT
       ∙ drop_at (map line_view kept) (map line_from parts) start (views ∙ sym starts) in
       so_far-next text filled new later (nat_lt 0 (length found)) paragraph after parts
       (rw begins at so_far) are
-      (is ∙ ap (λ n. filled ++ joined_on ending (nat_lt 0 n)
-      (justified_after_indents settings (nat_lt 0 n) (map line_view slice))) starts
-      ∙ ap (λ ls. filled ++ joined_on ending later (justified_after_indents settings later ls))
-      lines)
+      (rw (starts, lines) at is)
       (is_later-or (length found) (length kept) (length parts) len)
 
   pub so_far-end : (text filled : List ℕ) (is_later : Bool)

@@ -146,12 +146,8 @@ texts-split : {Z : Type 0} (lines : List (CowStr Z)) (n : ℕ) (line : CowStr Z)
     → texts_of lines
     ≡ texts_of (take n lines) ++ line_bytes (line_view line) ∷ texts_of (drop (n + 1) lines)
 texts-split lines n line within is =
-    let front = take n lines in
-    let after = drop (n + 1) lines in
-    let whole : lines ≡ front ++ line ∷ after =
-    sym (take-append-drop n lines)
-    ∙ ap (λ l. front ++ l) (drop_more lines n line within ∙ ap (λ x. x ∷ after) (sym is)) in
-    ap texts_of whole ∙ texts-append front (line ∷ after)
+    let left = drop_more lines n line within in
+    grind (arith, take-append-drop n lines, texts-append, left)
 
 texts-length : {Z : Type 0} (lines : List (CowStr Z)) → length (texts_of lines) ≡ length lines
 texts-length lines = length-map (map line_view lines) line_bytes ∙ length-map lines line_view
@@ -177,9 +173,7 @@ cut-lines most width placeholder lines n line last number within is cut = record
 pub views-push : {Z : Type 0} (before after : List (CowStr Z)) (lines : List Line) (last : String Z)
     → map line_view before ≡ lines → after ≡ before ++ Owned last ∷ []
     → map line_view after ≡ lines ++ Built (string_bytes last) ∷ []
-views-push before after lines last are is =
-    ap (map line_view) is ∙ map-append line_view before (Owned last ∷ [])
-    ∙ ap (λ l. l ++ Built (string_bytes last) ∷ []) are
+views-push before after lines last are is = grind (arith, map-append)
 
 -- one more of the lines, as it is
 pub views-more : {Z : Type 0} (lines : List (CowStr Z)) (n : ℕ) (line : CowStr Z)
@@ -189,15 +183,8 @@ pub views-more : {Z : Type 0} (lines : List (CowStr Z)) (n : ℕ) (line : CowStr
     → after ≡ before ++ Borrowed text ∷ []
     → map line_view after ≡ old ++ map Slice (texts_of (take (n + 1) lines))
 views-more lines n line before after old text within is same so_far more =
-    let front = texts_of (take n lines) in
-    let texts : texts_of (take (n + 1) lines) ≡ front ++ text.now ∷ [] =
-    ap texts_of (take_more lines n line within ∙ ap (λ x. take n lines ++ x ∷ []) (sym is))
-    ∙ texts-append (take n lines) (line ∷ [])
-    ∙ ap (λ x. front ++ x ∷ []) (line_bytes-line_view line ∙ sym same) in
-    ap (map line_view) more ∙ map-append line_view before (Borrowed text ∷ [])
-    ∙ ap (λ l. l ++ Slice text.now ∷ []) so_far
-    ∙ append_assoc old (map Slice front) (Slice text.now ∷ [])
-    ∙ ap (λ l. old ++ l) (sym (ap (map Slice) texts ∙ map-append Slice front (text.now ∷ [])))
+    let front = take_more lines n line within in
+    grind (arith, append_assoc, line_bytes-line_view, map-append, texts-append, front)
 
 -- ---- only one number of bytes may be kept of a line
 
@@ -210,7 +197,4 @@ kept-le width placeholder line m n first second = elim first.room [
 
 pub kept-unique : (width : ℕ) (placeholder line : List ℕ) (m n : ℕ)
     → IsKeptBeginning width placeholder line m → IsKeptBeginning width placeholder line n → m ≡ n
-kept-unique width placeholder line m n first second =
-    let up = kept-le width placeholder line m n first second in
-    let down = kept-le width placeholder line n m second first in
-    omega (arith, up, down)
+kept-unique width placeholder line m n first second = grind (arith, kept-le)

@@ -3,9 +3,9 @@ use Rattle.textwrap_base.proofs.Common.{◌≡◌, ℕ, ◌⊎◌, Bool, true, f
 use Rattle.textwrap_base.proofs.Common.{◌∷◌, ◌++◌, get_or, refl, ap, ◌∙◌, arith, All-nil, All-cons}
 use Rattle.textwrap_base.proofs.Common.{cases_Bool, onto_first, ◌+◌, ◌-◌, ◌≤◌, ◌<◌, ◌||◌, eqb}
 use Rattle.textwrap_base.proofs.Common.{length, drop, subst, sym, cases_lt, eqb-true, eqb-false}
-use Rattle.textwrap_base.proofs.Common.{ne_eqb, nat_tests, IsUtf8, IsCharBoundary, get_or_past, map}
+use Rattle.textwrap_base.proofs.Common.{nat_tests, IsUtf8, IsCharBoundary, get_or_past, map}
 use Rattle.textwrap_base.proofs.Common.{take, All-head, All-tail, append_assoc, append-nil}
-use Rattle.textwrap_base.proofs.Common.{add-zero, take_at, map-append, take-append-drop, drop_all}
+use Rattle.textwrap_base.proofs.Common.{add-zero, length-map, take_at, take-append-drop, drop_all}
 use Rattle.textwrap_base.proofs.Common.{get_or-drop, length_push, reverse-append, rules}
 use Rattle.textwrap_base.proofs.Common.{take-append-le, zero-add, length-take-le, slice_range}
 use Rattle.textwrap_base.proofs.Common.{IsUtf8-take, chars-nil, chars-append}
@@ -35,115 +35,77 @@ use Rattle.textwrap_words.specs.declared.escapes.State.TheVariants.{Text}
 abbrev pub BlankFollows : List ℕ → Type 0
 BlankFollows ys = (ys ≡ []) ⊎ (is_blank (get_or ys 0 0) ≡ true)
 
--- a text that begins with a blank has only blanks in its first chunk
-record HasBlanksFirst (chunks : List (List ℕ)) : Type 0 where
-  blanks : List ℕ
-  rest : List (List ℕ)
-  shape : chunks ≡ blanks ∷ rest
-  all : AreBlanks blanks
+-- the first chunk is blanks
+abbrev BeginWithBlanks : List (List ℕ) → Type 0
+BeginWithBlanks [] = ⊥
+BeginWithBlanks (part ∷ parts) = AreBlanks part
 
-blanks-first : (y : ℕ) (ys : List ℕ) → is_blank y ≡ true → HasBlanksFirst (chunks (y ∷ ys))
-blanks-first y [] blank = record {
-  blanks = y ∷ [];
-  rest = [];
-  shape = refl;
-  all = All-cons (λ c. is_blank c ≡ true) y [] blank (All-nil (λ c. is_blank c ≡ true));
-}
+blanks-onto : (y : ℕ) (parts : List (List ℕ)) → is_blank y ≡ true → BeginWithBlanks parts
+    → BeginWithBlanks (onto_first y parts)
+blanks-onto y [] blank none = absurd none
+blanks-onto y (part ∷ parts) blank all = All-cons (λ c. is_blank c ≡ true) y part blank all
+
+-- so it is of a text that begins with a blank
+blanks-first : (y : ℕ) (ys : List ℕ) → is_blank y ≡ true → BeginWithBlanks (chunks (y ∷ ys))
+blanks-first y [] blank =
+    All-cons (λ c. is_blank c ≡ true) y [] blank (All-nil (λ c. is_blank c ≡ true))
 blanks-first y (d ∷ ds) blank = by (is_blank d) refl (blanks-first d ds)
   where
-    by : (b : Bool) → is_blank d ≡ b → (is_blank d ≡ true → HasBlanksFirst (chunks (d ∷ ds)))
-        → HasBlanksFirst (chunks (y ∷ d ∷ ds))
+    by : (b : Bool) → is_blank d ≡ b → (is_blank d ≡ true → BeginWithBlanks (chunks (d ∷ ds)))
+        → BeginWithBlanks (chunks (y ∷ d ∷ ds))
     by true is after =
-        let h = after is in
-        record {
-          blanks = y ∷ h.blanks;
-          rest = h.rest;
-          shape = rw (blank, is) (ap (onto_first y) h.shape);
-          all = All-cons (λ c. is_blank c ≡ true) y h.blanks blank h.all;
-        }
-    by false is after = record {
-      blanks = y ∷ [];
-      rest = chunks (d ∷ ds);
-      shape = rw (blank, is) refl;
-      all = All-cons (λ c. is_blank c ≡ true) y [] blank (All-nil (λ c. is_blank c ≡ true));
-    }
+        let shape : chunks (y ∷ d ∷ ds) ≡ onto_first y (chunks (d ∷ ds)) = rw (blank, is) refl in
+        subst BeginWithBlanks (sym shape) (blanks-onto y (chunks (d ∷ ds)) blank (after is))
+    by false is after =
+        let shape : chunks (y ∷ d ∷ ds) ≡ (y ∷ []) ∷ chunks (d ∷ ds) = rw (blank, is) refl in
+        subst BeginWithBlanks (sym shape)
+        (All-cons (λ c. is_blank c ≡ true) y [] blank (All-nil (λ c. is_blank c ≡ true)))
 
--- the chunks of the beginning are the first ones, and the last of them has more blanks
-pub record AreFirstChunks (front whole : List (List ℕ)) : Type 0 where
-  pub before : List (List ℕ)
-  pub last : List ℕ
-  pub blanks : List ℕ
-  pub rest : List (List ℕ)
-  pub front_is : front ≡ before ++ last ∷ []
-  pub whole_is : whole ≡ before ++ (last ++ blanks) ∷ rest
-  pub all : AreBlanks blanks
+-- these chunks are the first of the others, where the last of them may have more blanks
+abbrev AreFirst : List (List ℕ) → List (List ℕ) → Type 0
+AreFirst [] whole = ⊥
+AreFirst (part ∷ []) [] = ⊥
+AreFirst (part ∷ []) (w ∷ ws) = (blanks : List ℕ) × (w ≡ part ++ blanks) × AreBlanks blanks
+AreFirst (part ∷ next ∷ parts) [] = ⊥
+AreFirst (part ∷ next ∷ parts) (w ∷ ws) = (w ≡ part) × AreFirst (next ∷ parts) ws
 
-onto-more : (c : ℕ) (front whole : List (List ℕ)) → AreFirstChunks front whole
-    → AreFirstChunks (onto_first c front) (onto_first c whole)
-onto-more c front whole h = by h.before refl
-  where
-    by : (before : List (List ℕ)) → h.before ≡ before
-        → AreFirstChunks (onto_first c front) (onto_first c whole)
-    by [] is = record {
-      before = [];
-      last = c ∷ h.last;
-      blanks = h.blanks;
-      rest = h.rest;
-      front_is = ap (onto_first c) (h.front_is ∙ ap (λ l. l ++ h.last ∷ []) is);
-      whole_is = ap (onto_first c) (h.whole_is ∙ ap (λ l. l ++ (h.last ++ h.blanks) ∷ h.rest) is);
-      all = h.all;
-    }
-    by (f ∷ fs) is = record {
-      before = (c ∷ f) ∷ fs;
-      last = h.last;
-      blanks = h.blanks;
-      rest = h.rest;
-      front_is = ap (onto_first c) (h.front_is ∙ ap (λ l. l ++ h.last ∷ []) is);
-      whole_is = ap (onto_first c) (h.whole_is ∙ ap (λ l. l ++ (h.last ++ h.blanks) ∷ h.rest) is);
-      all = h.all;
-    }
+first-one : (c : ℕ) (parts : List (List ℕ)) → BeginWithBlanks parts
+    → AreFirst ((c ∷ []) ∷ []) (onto_first c parts)
+first-one c [] none = absurd none
+first-one c (part ∷ parts) all = (part, refl, all)
+
+first-more : (part : List ℕ) (front whole : List (List ℕ)) → AreFirst front whole
+    → AreFirst (part ∷ front) (part ∷ whole)
+first-more part [] whole none = absurd none
+first-more part (next ∷ parts) whole are = (refl, are)
+
+first-onto : (c : ℕ) (front whole : List (List ℕ)) → AreFirst front whole
+    → AreFirst (onto_first c front) (onto_first c whole)
+first-onto c [] whole none = absurd none
+first-onto c (part ∷ []) [] none = absurd none
+first-onto c (part ∷ []) (w ∷ ws) (blanks, is, all) = (blanks, ap (λ l. c ∷ l) is, all)
+first-onto c (part ∷ next ∷ parts) [] none = absurd none
+first-onto c (part ∷ next ∷ parts) (w ∷ ws) (is, are) = (ap (λ l. c ∷ l) is, are)
 
 uncut : (c y : ℕ) → is_blank y ≡ true → is_cut c y ≡ false
 uncut c y blank = grind (arith, cases_Bool)
 
-pub first-chunks : (c : ℕ) (cs ys : List ℕ) → BlankFollows ys
-    → AreFirstChunks (chunks (c ∷ cs)) (chunks (c ∷ (cs ++ ys)))
-first-chunks c [] [] follows = record {
-  before = [];
-  last = c ∷ [];
-  blanks = [];
-  rest = [];
-  front_is = refl;
-  whole_is = refl;
-  all = All-nil (λ x. is_blank x ≡ true);
-}
+first-chunks : (c : ℕ) (cs ys : List ℕ) → BlankFollows ys
+    → AreFirst (chunks (c ∷ cs)) (chunks (c ∷ (cs ++ ys)))
+first-chunks c [] [] follows = ([], refl, All-nil (λ x. is_blank x ≡ true))
 first-chunks c [] (y ∷ ys) (inl none) = cc
 first-chunks c [] (y ∷ ys) (inr blank) =
-    let h = blanks-first y ys blank in
-    record {
-      before = [];
-      last = c ∷ [];
-      blanks = h.blanks;
-      rest = h.rest;
-      front_is = refl;
-      whole_is = rw (uncut c y blank) (ap (onto_first c) h.shape);
-      all = h.all;
-    }
+    let shape : chunks (c ∷ y ∷ ys) ≡ onto_first c (chunks (y ∷ ys)) =
+    rw (uncut c y blank) refl in
+    subst (AreFirst ((c ∷ []) ∷ [])) (sym shape)
+    (first-one c (chunks (y ∷ ys)) (blanks-first y ys blank))
 first-chunks c (d ∷ cs) ys follows = by (is_cut c d) (first-chunks d cs ys follows)
   where
-    by : (b : Bool) → AreFirstChunks (chunks (d ∷ cs)) (chunks (d ∷ (cs ++ ys)))
-        → AreFirstChunks (cond b ((c ∷ []) ∷ chunks (d ∷ cs)) (onto_first c (chunks (d ∷ cs))))
+    by : (b : Bool) → AreFirst (chunks (d ∷ cs)) (chunks (d ∷ (cs ++ ys)))
+        → AreFirst (cond b ((c ∷ []) ∷ chunks (d ∷ cs)) (onto_first c (chunks (d ∷ cs))))
         (cond b ((c ∷ []) ∷ chunks (d ∷ (cs ++ ys))) (onto_first c (chunks (d ∷ (cs ++ ys)))))
-    by true h = record {
-      before = (c ∷ []) ∷ h.before;
-      last = h.last;
-      blanks = h.blanks;
-      rest = h.rest;
-      front_is = ap (λ l. (c ∷ []) ∷ l) h.front_is;
-      whole_is = ap (λ l. (c ∷ []) ∷ l) h.whole_is;
-      all = h.all;
-    }
-    by false h = onto-more c (chunks (d ∷ cs)) (chunks (d ∷ (cs ++ ys))) h
+    by true are = first-more (c ∷ []) (chunks (d ∷ cs)) (chunks (d ∷ (cs ++ ys))) are
+    by false are = first-onto c (chunks (d ∷ cs)) (chunks (d ∷ (cs ++ ys))) are
 
 -- ---- where a beginning of a line may end: these places are within the line, and characters end
 -- there
@@ -209,10 +171,9 @@ module _ (line : List ℕ) (utf8 : IsUtf8 line) (place c : ℕ) (after : List �
   pub after_blank-past : (end : ℕ) → end ≡ place + length (encode_utf8 c)
       → is_after_blank line end ≡ eqb c 32
   after_blank-past end past =
-      let some : eqb end 0 ≡ false =
-      ne_eqb end 0 (λ none. absurd (omega (arith, past, none, some-bytes c))) in
-      ap (λ b. b || is_blank (get_or line (end - 1) 0)) some
-      ∙ byte-blank (end - 1) (omega (arith, past, some-bytes c)) (omega (arith, past, some-bytes c))
+      let last = byte-blank (end - 1) (omega (arith, past, some-bytes c))
+      (omega (arith, past, some-bytes c)) in
+      grind (arith, nat_tests, cases_Bool, some-bytes c, last)
 
 -- ---- the end of the line
 
@@ -238,34 +199,30 @@ trimmed_len-blanks text (b ∷ bs) blanks =
 
 trimmed-blanks : (text bs : List ℕ) → AreBlanks bs
     → without_final_blanks (text ++ bs) ≡ without_final_blanks text
-trimmed-blanks text bs blanks =
-    ap (λ n. take n (text ++ bs)) (trimmed_len-blanks text bs blanks)
-    ∙ take-append-le (trimmed_len text) text bs (omega arith)
+trimmed-blanks text bs blanks = grind (arith, trimmed_len-blanks, take-append-le)
 
 word_texts-parts : (parts : List (List ℕ))
     → map (λ w. w.word) (map word_of parts) ≡ map without_final_blanks parts
 word_texts-parts [] = refl
 word_texts-parts (part ∷ parts) = ap (λ l. without_final_blanks part ∷ l) (word_texts-parts parts)
 
-pub word_texts-front : (xs ys : List ℕ) → BlankFollows ys
+first-texts : (front whole : List (List ℕ)) → AreFirst front whole
+    → take (length front) (map without_final_blanks whole) ≡ map without_final_blanks front
+first-texts [] whole none = absurd none
+first-texts (part ∷ []) [] none = absurd none
+first-texts (part ∷ []) (w ∷ ws) (blanks, is, all) =
+    ap (λ t. t ∷ []) (ap without_final_blanks is ∙ trimmed-blanks part blanks all)
+first-texts (part ∷ next ∷ parts) [] none = absurd none
+first-texts (part ∷ next ∷ parts) (w ∷ ws) (is, are) =
+    rw is (ap (λ l. without_final_blanks part ∷ l) (first-texts (next ∷ parts) ws are))
+
+word_texts-front : (xs ys : List ℕ) → BlankFollows ys
     → take (length (word_texts xs)) (word_texts (xs ++ ys)) ≡ word_texts xs
 word_texts-front [] ys follows = refl
 word_texts-front (c ∷ cs) ys follows =
-    let h = first-chunks c cs ys follows in
-    let trim = without_final_blanks in
-    let front : word_texts (c ∷ cs) ≡ map trim (h.before ++ h.last ∷ []) =
-    word_texts-parts (chunks (c ∷ cs)) ∙ ap (map trim) h.front_is in
-    let whole : word_texts (c ∷ (cs ++ ys))
-    ≡ map trim (h.before ++ h.last ∷ []) ++ map trim h.rest =
-    word_texts-parts (chunks (c ∷ (cs ++ ys))) ∙ ap (map trim) h.whole_is
-    ∙ map-append trim h.before ((h.last ++ h.blanks) ∷ h.rest)
-    ∙ ap (λ l. map trim h.before ++ l ∷ map trim h.rest) (trimmed-blanks h.last h.blanks h.all)
-    ∙ sym (append_assoc (map trim h.before) (trim h.last ∷ []) (map trim h.rest))
-    ∙ ap (λ l. l ++ map trim h.rest) (sym (map-append trim h.before (h.last ∷ []))) in
-    ap (λ l. take (length l) (word_texts (c ∷ (cs ++ ys)))) front
-    ∙ ap (take (length (map trim (h.before ++ h.last ∷ [])))) whole
-    ∙ take_at (map trim (h.before ++ h.last ∷ [])) (map trim h.rest) _ refl
-    ∙ sym front
+    let first = first-texts (chunks (c ∷ cs)) (chunks (c ∷ (cs ++ ys)))
+    (first-chunks c cs ys follows) in
+    grind (arith, length-map, word_texts-parts, first)
 
 -- nothing or a blank follows where a beginning may end
 blank-follows : (line : List ℕ) (n : ℕ) → can_end line n ≡ true

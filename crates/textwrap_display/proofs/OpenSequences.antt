@@ -1,7 +1,7 @@
 -- What is open after some sequences, after one more, and once they are written anew.
 use Rattle.textwrap_base.proofs.Common.{◌≡◌, cond, List, [], ◌∷◌, ◌++◌, filter, fold, sym, ap, ◌∙◌}
 use Rattle.textwrap_base.proofs.Common.{append-nil, arith, cases_Bool, append_assoc, ℕ, ◌<◌, Bool}
-use Rattle.textwrap_base.proofs.Common.{true, false, ◌==◌, length, refl, length-append, ne_eqb}
+use Rattle.textwrap_base.proofs.Common.{true, false, ◌==◌, length, refl, length-append}
 use Rattle.textwrap_base.proofs.Common.{nat_tests, ◌&&◌, ◌||◌, string_bytes, and_from, Bor, Option}
 use Rattle.textwrap_base.proofs.Common.{All, All-append, All-cons, All-head, All-nil, All-tail}
 use Rattle.textwrap_base.proofs.Common.{subst}
@@ -45,15 +45,12 @@ module _ (now : List (List ℕ) → List (List ℕ)) (next : List (List ℕ) →
     after-more : (before more : List (List ℕ)) → now (before ++ more) ≡ fold next (now before) more
     after-more before [] = ap now (append-nil before)
     after-more before (s ∷ more) =
-        ap now (sym (append_assoc before (s ∷ []) more)) ∙ after-more (before ++ s ∷ []) more
-        ∙ ap (λ there. fold next there more) (push before s)
+        grind (arith, append_assoc, push before s, after-more (before ++ s ∷ []) more)
 
     -- what is so after these and any more depends on what was so before those
     after-same : (first second more : List (List ℕ)) → now first ≡ now second
         → now (first ++ more) ≡ now (second ++ more)
-    after-same first second more same =
-        after-more first more ∙ ap (λ there. fold next there more) same
-        ∙ sym (after-more second more)
+    after-same first second more same = grind (arith, after-more)
 
 pub open_styles-append : (before more : List (List ℕ))
     → open_styles (before ++ more) ≡ fold next_styles (open_styles before) more
@@ -81,21 +78,8 @@ style-some (c ∷ cs) is = omega arith
 pub no_styles : (ss : List (List ℕ))
     → (length (filter is_style ss) == 0) ≡ (length (concat (filter is_style ss)) == 0)
 no_styles [] = refl
-no_styles (s ∷ ss) = by (is_style s) refl (no_styles ss)
-  where
-    rest : List (List ℕ)
-    rest = filter is_style ss
-
-    by : (b : Bool) → is_style s ≡ b → (length rest == 0) ≡ (length (concat rest) == 0)
-        → (length (cond b (s ∷ rest) rest) == 0) ≡ (length (concat (cond b (s ∷ rest) rest)) == 0)
-    by true is same = ne_eqb (length (s ∷ rest)) 0 (λ none. absurd (omega (arith, none)))
-        ∙ sym (ne_eqb (length (s ++ concat rest)) 0 (λ none. absurd (omega (
-          arith,
-          none,
-          style-some s is,
-          length-append s (concat rest),
-        ))))
-    by false is same = same
+no_styles (s ∷ ss) =
+    grind (arith, cases_Bool, nat_tests, style-some s, length-append, no_styles ss)
 
 -- ---- one sequence more
 
@@ -150,10 +134,9 @@ module _ {Z : Type 0} (before : List (List ℕ)) (s : List ℕ) (old new : OpenS
       → string_bytes new.styles ≡ string_bytes old.styles ++ s → new.link ≡ old.link
       → IsOpenAfter (before ++ s ∷ []) new
   after-style style more added same = record {
-    styles = added ∙ ap (λ l. l ++ s) state.styles
-        ∙ ap (λ l. concat (open_styles before) ++ l) (sym (append-nil s))
-        ∙ sym (concat-append (open_styles before) (s ∷ []))
-        ∙ ap concat (sym (styles-after false true (ap (λ b. b && zeros s) style ∙ more) style));
+    styles =
+        let now = styles-after false true (ap (λ b. b && zeros s) style ∙ more) style in
+        grind (arith, state.styles, append-nil, concat-append, now);
     link = same-link (style-no_link s style) same;
   }
 

@@ -94,9 +94,8 @@ pub concat-units : (xs : List (List ℕ)) → All IsSequence xs
 concat-units [] are = ap units chars-nil
 concat-units (s ∷ xs) are =
     let is = All-head IsSequence s xs are in
-    text_units-append s (concat xs) (sequence-whole s is)
-    ∙ ap (λ us. us ++ units (chars (concat xs))) is.unit
-    ∙ ap (λ us. Sequence (chars s) ∷ us) (concat-units xs (All-tail IsSequence s xs are))
+    let others = concat-units xs (All-tail IsSequence s xs are) in
+    grind (arith, text_units-append s (concat xs) (sequence-whole s is), is.unit, others)
 
 pub nil-whole : IsWholeText []
 nil-whole = (IsUtf8-nil, subst (λ cs. All IsWhole (units cs)) (sym chars-nil) (All-nil IsWhole))
@@ -111,9 +110,8 @@ pub units-again : (xs : List (List ℕ)) → All IsSequence xs
     → flat_map sequence_of (sequence_units xs) ≡ xs
 units-again [] are = refl
 units-again (s ∷ xs) are =
-    ap (λ t. t ∷ flat_map sequence_of (sequence_units xs))
-    (encodes-chars s (All-head IsSequence s xs are).utf8)
-    ∙ ap (λ l. s ∷ l) (units-again xs (All-tail IsSequence s xs are))
+    let own = encodes-chars s (All-head IsSequence s xs are).utf8 in
+    grind (arith, own, units-again xs (All-tail IsSequence s xs are))
 
 pub none-visible : (xs : List (List ℕ)) → flat_map visible_of (sequence_units xs) ≡ []
 none-visible [] = refl
@@ -211,11 +209,8 @@ styled-from (Visible c ∷ us) before =
     ap (λ shown. record { character = c; link = open_link before; styles = open_styles before }
     ∷ shown) (styled-from us before)
 styled-from (Sequence cs ∷ us) before =
-    let s = encode_utf8_all cs in
-    styled-from us (before ++ s ∷ [])
-    ∙ ap (λ link. styled_from link (open_styles (before ++ s ∷ [])) us) (open_link-push before s)
-    ∙ ap (λ styles. styled_from (next_link (open_link before) s) styles us)
-    (open_styles-push before s)
+    let after = styled-from us (before ++ encode_utf8_all cs ∷ []) in
+    grind (arith, open_link-push, open_styles-push, after)
 
 -- units show the same where the same is open
 pub styled-same : (us : List TextUnit) (first second : List (List ℕ))

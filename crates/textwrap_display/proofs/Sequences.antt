@@ -59,20 +59,14 @@ not_style (c ∷ cs) lacks =
 
 style_parameters-is : (parameters : List ℕ)
     → style_parameters (codes "\u{1b}[" ++ (parameters ++ codes "m")) ≡ parameters
-style_parameters-is parameters =
-    let whole = style_start ++ (parameters ++ codes "m") in
-    let len : length whole - 3 ≡ length parameters =
-    omega (arith, length-append parameters (codes "m")) in
-    ap (λ k. take k (parameters ++ codes "m")) len
-    ∙ take_at parameters (codes "m") (length parameters) refl
+style_parameters-is parameters = grind (arith, length-append, take_at)
 
 pub style-is : (parameters : List ℕ) → is_style (codes "\u{1b}[" ++ (parameters ++ codes "m"))
     ≡ list_all (is_in_range 0x30 0x3B) parameters
 style-is parameters =
     let whole = style_start ++ (parameters ++ codes "m") in
-    ap (λ b. b && list_all (is_in_range 0x30 0x3B) (style_parameters whole))
-    (ends_with-true (codes "m") whole (style_start ++ parameters) refl)
-    ∙ ap (list_all (is_in_range 0x30 0x3B)) (style_parameters-is parameters)
+    let ended = ends_with-true (codes "m") whole (style_start ++ parameters) refl in
+    grind (arith, style_parameters-is, ended)
 
 -- ---- links
 
@@ -121,9 +115,7 @@ around fields ending rings rung ended size =
     ∙ ap (λ k. take k (fields ++ ending)) len ∙ take_at fields ending (length fields) refl in
     record {
       are = are;
-      is = ap (λ b. (b || ends_with nat_eq whole terminator)
-          && has_semicolon (link_fields whole)) rung
-          ∙ ap (λ b. b && has_semicolon (link_fields whole)) ended ∙ ap has_semicolon are;
+      is = grind (arith, rung, ended, are);
     }
 
 around-bell : (fields : List ℕ) → IsAround (link_start ++ (fields ++ bell)) fields
@@ -287,13 +279,8 @@ module _ (text before after : List ℕ) (utf8 : IsUtf8 text)
       → sequences text
       ≡ slice_range text (length before) end_of ∷ sequences (drop end_of text)
   sequences-next plain =
-      let are : plain.0 ≡ chars before = chars_from_encodes plain.0 before seam.front plain.1 in
-      let later : rest ≡ chars (drop end_of text) =
-      chars_from_encodes rest (drop end_of text) (IsUtf8-drop text end_of utf8 end-boundary)
-      (sym left) in
-      ap sequences_in characters
-      ∙ sequences_in-plain (chars before) (27 ∷ chars after)
-      (subst (NonePass (λ c. eqb c 27)) are plain.2)
-      ∙ sequences_in-escape (chars after)
-      ∙ ap (λ s. s ∷ sequences_in rest) (sym sequence)
-      ∙ ap (λ cs. slice_range text (length before) end_of ∷ sequences_in cs) later
+      let are = chars_from_encodes plain.0 before seam.front plain.1 in
+      let later = chars_from_encodes rest (drop end_of text)
+      (IsUtf8-drop text end_of utf8 end-boundary) (sym left) in
+      let none = sequences_in-plain plain.0 (27 ∷ chars after) plain.2 in
+      grind (arith, characters, sequences_in-escape, sequence, are, later, none)

@@ -2,7 +2,7 @@
 use Rattle.textwrap_base.proofs.Common.{◌≡◌, ℕ, zero, suc, ◌+◌, ◌*◌, ◌<◌, ◌≤◌, List, [], ◌∷◌, ◌++◌}
 use Rattle.textwrap_base.proofs.Common.{ap, arith, CowStr, get_or, get_or-map, length}
 use Rattle.textwrap_base.proofs.Common.{length-append, length-map, refl, sym, Vec, zip, ◌∙◌, ◌-◌}
-use Rattle.textwrap_base.proofs.Common.{◌/◌, ◌⊎◌, min, take, drop, map, inl, inr, subst}
+use Rattle.textwrap_base.proofs.Common.{◌/◌, map-append, min, take, drop, map, subst}
 use Rattle.textwrap_base.proofs.Common.{append_assoc, Bor, cases_lt, range_with_len, take_at}
 use Rattle.textwrap_base.proofs.Common.{drop_at, drop-drop, All, All-head, All-tail}
 use Rattle.std.proofs.Common.{replicate}
@@ -10,7 +10,6 @@ use Rattle.std.proofs.lemmas.List.{length-replicate, take_min, drop_min}
 use Rattle.std.proofs.lemmas.Slice.Zip.{get_or-zip, length-zip, AllZip-long}
 use Rattle.std.specs.Cow.{cow_str_bytes}
 use Rattle.textwrap.proofs.Text.Tables.{cell_is}
-use Rattle.textwrap_display.specs.Shortening.{texts_of}
 use Rattle.textwrap_display.specs.Tables.{cell_line, cell_texts, Shape, shown, shown_lines}
 use Rattle.textwrap_display.specs.Tables.{AreCells, group_rows, groups_of, IsTableBy, RowGaps}
 use Rattle.textwrap_display.specs.Tables.{texts_in, ColumnMakes, ColumnParts, HaveParts}
@@ -21,7 +20,7 @@ use Rattle.std.proofs.Math.Nat.{add-div_right, div-eq_of_lt, div-le_self}
 use Rattle.std.specs.Fork.{slice_chunk}
 use Rattle.std.specs.Slice.Iter.{chunk_count}
 use Rattle.std.specs.List.{AllZip, flat_map}
-use Rattle.textwrap_lines.proofs.Common.{Line, line_bytes}
+use Rattle.textwrap_lines.proofs.Common.{Line}
 use Rattle.textwrap_lines.proofs.Paragraph.Pieces.{lines-as}
 use Rattle.textwrap_display.specs.declared.tables.Column.{Column}
 
@@ -42,11 +41,8 @@ pub line-is : {Z : Type 0} (cells : List (Vec (CowStr Z) Z)) (at r : ℕ) (cell 
     → line ≡ get_or cell.items r line
     → cell_line (get_or (cell_texts cells) at []) r ≡ cow_str_bytes line
 line-is cells at r cell line within is inside there =
-    let place : r ≡ r + 0 * 0 = omega arith in
-    ap (λ x. get_or x r []) (get_or-map (λ x. texts_of x.items) cells at cell [] within
-    ∙ ap (λ x. texts_of x.items) (sym is))
-    ∙ ap (λ n. get_or (texts_of cell.items) n []) place
-    ∙ cell_is cell.items line 0 r 0 r place inside there
+    let same = cell_is cell.items line 0 r 0 r (omega arith) inside there in
+    grind (arith, get_or-map, same)
 
 module _ (columns : List Shape) (cells : List (List (List ℕ))) where
   -- the cells, with an empty one for each column after them
@@ -81,46 +77,18 @@ module _ (columns : List Shape) (cells : List (List (List ℕ))) where
 
 count-some : (total count : ℕ) → 0 < count → 0 < total
     → chunk_count total count ≡ (total - 1) / count + 1
-count-some total count some more =
-    let up : total + count - 1 ≡ (total - 1) + count = omega (arith, more) in
-    omega (
-      arith,
-      ap (λ n. n / count) up,
-      add-div_right (total - 1) some,
-      div-le_self (total - 1) count,
-    )
+count-some total count some more = grind (arith, add-div_right, div-le_self)
 
 count-less : (total count : ℕ) → 0 < count → 0 < total
     → chunk_count total count ≡ suc (chunk_count (total - count) count)
-count-less total count some more = elim (cases_lt count total) [
-  | inl past ↦
-      let up : total - 1 ≡ (total - count - 1) + count = omega (arith, past) in
-      omega (
-        arith,
-        count-some total count some more,
-        count-some (total - count) count some (omega (arith, past)),
-        ap (λ n. n / count) up,
-        add-div_right (total - count - 1) some,
-      )
-  | inr few ↦
-      let one : (total - 1) / count ≡ 0 = div-eq_of_lt (omega (arith, more, few)) in
-      let none : total - count ≡ 0 = omega (arith, few) in
-      omega (
-        arith,
-        count-some total count some more,
-        one,
-        ap (λ n. chunk_count n count) none,
-      )
-]
+count-less total count some more =
+    grind (arith, cases_lt, count-some, add-div_right, div-eq_of_lt)
 
 -- ---- the first group, and the others
 
 chunk-more : {X : Type 0} (texts : List X) (count at : ℕ)
     → slice_chunk texts count (at + 1) ≡ slice_chunk (drop count texts) count at
-chunk-more texts count at =
-    let place : (at + 1) * count ≡ count + at * count = omega arith in
-    ap (λ n. take count (drop n texts)) place
-    ∙ ap (take count) (sym (drop-drop (at * count) count texts))
+chunk-more texts count at = grind (arith, drop-drop)
 
 chunks-more : {X : Type 0} (texts : List X) (count at more : ℕ)
     → map (slice_chunk texts count) (range_with_len (at + 1) more)
@@ -129,22 +97,37 @@ chunks-more texts count at zero = refl
 chunks-more texts count at (suc more) =
     rw (chunk-more texts count at, chunks-more texts count (at + 1) more) refl
 
-pub groups-more : {X : Type 0} (count : ℕ) (front rest : List X) → 0 < count
-    → 0 < length (front ++ rest)
-    → length front ≡ min count (length (front ++ rest))
-    → groups_of count (front ++ rest) ≡ front ∷ groups_of count rest
-groups-more count front rest some more is =
-    let texts = front ++ rest in
-    let first : take count texts ≡ front =
-    sym (take_min count texts) ∙ take_at front rest (min count (length texts)) is in
-    let left : drop count texts ≡ rest =
-    sym (drop_min count texts) ∙ drop_at front rest (min count (length texts)) is in
-    let none : 0 * count ≡ 0 = omega arith in
-    let after : length texts - count ≡ length rest =
-    omega (arith, is, length-append front rest) in
-    ap (λ n. map (slice_chunk texts count) (range_with_len 0 n))
-    (count-less (length texts) count some more ∙ ap (λ n. suc (chunk_count n count)) after)
-    ∙ rw (none, first, chunks-more texts count 0 (chunk_count (length rest) count), left) refl
+module _ {X : Type 0} (count : ℕ) (items front rest : List X) where
+  -- the first of the groups, and the items after it
+  pub record IsFirstGroup : Type 0 where
+    pub some : 0 < count
+    pub whole : items ≡ front ++ rest
+    pub more : 0 < length items
+    pub size : length front ≡ min count (length items)
+
+  pub groups-more : IsFirstGroup → groups_of count items ≡ front ∷ groups_of count rest
+  groups-more h =
+      let most = min count (length items) in
+      let first : take count items ≡ front =
+      sym (take_min count items) ∙ ap (take most) h.whole ∙ take_at front rest most h.size in
+      let left : drop count items ≡ rest =
+      sym (drop_min count items) ∙ ap (drop most) h.whole ∙ drop_at front rest most h.size in
+      let none : 0 * count ≡ 0 = omega arith in
+      let after : length items - count ≡ length rest =
+      omega (arith, h.size, ap length h.whole, length-append front rest) in
+      ap (λ n. map (slice_chunk items count) (range_with_len 0 n))
+      (count-less (length items) count h.some h.more ∙ ap (λ n. suc (chunk_count n count)) after)
+      ∙ rw (none, first, chunks-more items count 0 (chunk_count (length rest) count), left) refl
+
+pub group-map : {X Y : Type 0} (f : X → Y) (count : ℕ) (items front rest : List X)
+    → IsFirstGroup count items front rest
+    → IsFirstGroup count (map f items) (map f front) (map f rest)
+group-map f count items front rest h = record {
+  some = h.some;
+  whole = ap (map f) h.whole ∙ map-append f front rest;
+  more = omega (arith, h.more, length-map items f);
+  size = omega (arith, h.size, length-map items f, length-map front f);
+}
 
 -- the rows of one group more
 pub rows-more : (before after rows others : List (List ℕ)) → after ≡ before ++ rows
@@ -152,52 +135,33 @@ pub rows-more : (before after rows others : List (List ℕ)) → after ≡ befor
 rows-more before after rows others is =
     ap (λ l. l ++ others) is ∙ append_assoc before rows others
 
+-- the column and the text of one cell
+pub cell-at : {X : Type 0} (columns : List X) (texts : List (Bor (List ℕ))) (n : ℕ) (column : X)
+    (text : Bor (List ℕ)) → n < length columns → n < length texts → column ≡ get_or columns n column
+    → text ≡ get_or texts n text
+    → (n < length (zip columns (texts_in texts)))
+    × ((column, text.now) ≡ get_or (zip columns (texts_in texts)) n (column, text.now))
+cell-at columns texts n column text first second column_is text_is =
+    grind (arith, length-map, length-zip, get_or-zip, get_or-map)
+
 module _ {X : Type 0} (Makes : X → List ℕ → List Line → Type 0) where
-  -- one cell, and those of the texts after it
-  pub cells-more : (columns others : List X) (texts rest : List (Bor (List ℕ))) (column : X)
-      (text : Bor (List ℕ)) (lines : List Line) (cells : List (List (List ℕ)))
-      → texts ≡ text ∷ rest → columns ≡ column ∷ others → Makes column text.now lines
-      → AreCells Makes others (texts_in rest) cells
-      → AreCells Makes columns (texts_in texts) (map line_bytes lines ∷ cells)
-  cells-more columns others texts rest column text lines cells first second made are =
-      subst (λ ts. AreCells Makes columns (texts_in ts) (map line_bytes lines ∷ cells)) (sym first)
-      (subst (λ cs. AreCells Makes cs (texts_in (text ∷ rest)) (map line_bytes lines ∷ cells))
-      (sym second) ((lines, made, refl), are))
-
-  -- without texts, or without columns, there are no cells
-  pub cells-none : (columns : List X) (texts : List (Bor (List ℕ)))
-      → (texts ≡ []) ⊎ (columns ≡ []) → AreCells Makes columns (texts_in texts) []
-  cells-none [] texts none = tt
-  cells-none (column ∷ columns) [] none = tt
-  cells-none (column ∷ columns) (text ∷ texts) (inl none) = cc
-  cells-none (column ∷ columns) (text ∷ texts) (inr none) = cc
-
   module _ (shape : X → Shape) (columns : List X) (gaps : RowGaps) where
     pub table-none : (texts : List (List ℕ)) → length texts ≡ 0
         → IsTableBy Makes shape columns gaps texts []
     table-none [] none =
-        let few : chunk_count 0 (length columns) ≡ 0 = omega arith in (
-          [],
-          subst (λ n. AllZip (AreCells Makes columns)
-              (map (slice_chunk [] (length columns)) (range_with_len 0 n)) []) (sym few) tt,
-          refl,
-        )
+        let few : chunk_count 0 (length columns) ≡ 0 = omega arith in simp few ([], tt, refl)
     table-none (text ∷ texts) none = absurd (omega (arith, none))
 
     -- the rows of the first group, and those of the others
     pub table-more : (texts front rest : List (List ℕ)) (cells : List (List (List ℕ)))
-        (others : List (List ℕ)) → 0 < length columns → texts ≡ front ++ rest
-        → length front ≡ min (length columns) (length texts) → 0 < length texts
+        (others : List (List ℕ)) → IsFirstGroup (length columns) texts front rest
         → AreCells Makes columns front cells → IsTableBy Makes shape columns gaps rest others
         → IsTableBy Makes shape columns gaps texts
         (group_rows gaps (map shape columns) cells ++ others)
-    table-more texts front rest cells others some whole is more are (groups, all, given) =
-        let parted = groups-more (length columns) front rest some
-        (subst (λ ts. 0 < length ts) whole more)
-        (is ∙ ap (λ ts. min (length columns) (length ts)) whole) in (
+    table-more texts front rest cells others first are (groups, all, given) =
+        let parted = groups-more (length columns) texts front rest first in (
           cells ∷ groups,
-          subst (λ gs. AllZip (AreCells Makes columns) gs (cells ∷ groups))
-              (sym (ap (groups_of (length columns)) whole ∙ parted)) (are, all),
+          subst (λ gs. AllZip (AreCells Makes columns) gs (cells ∷ groups)) (sym parted) (are, all),
           ap (λ rows. group_rows gaps (map shape columns) cells ++ rows) given,
         )
 
@@ -283,44 +247,22 @@ module _ (gaps : RowGaps) (columns : List Shape) where
   pub cells-rows-none : (cells : List (List (List ℕ))) → length cells ≡ 0
       → rows_of_cells gaps columns cells ≡ []
   cells-rows-none [] none =
-      let few : chunk_count 0 (length columns) ≡ 0 = omega arith in
-      ap (λ n. flat_map (group_rows gaps columns)
-      (map (slice_chunk [] (length columns)) (range_with_len 0 n))) few
+      let few : chunk_count 0 (length columns) ≡ 0 = omega arith in rw few refl
   cells-rows-none (cell ∷ cells) none = absurd (omega (arith, none))
 
   -- the rows of the first group, and those of the others
-  pub cells-rows-more : (cells front rest : List (List (List ℕ))) → 0 < length columns
-      → cells ≡ front ++ rest → length front ≡ min (length columns) (length cells)
-      → 0 < length cells → rows_of_cells gaps columns cells
+  pub cells-rows-more : (cells front rest : List (List (List ℕ)))
+      → IsFirstGroup (length columns) cells front rest → rows_of_cells gaps columns cells
       ≡ group_rows gaps columns front ++ rows_of_cells gaps columns rest
-  cells-rows-more cells front rest some whole is more =
-      ap (flat_map (group_rows gaps columns)) (ap (groups_of (length columns)) whole
-      ∙ groups-more (length columns) front rest some (subst (λ cs. 0 < length cs) whole more)
-      (is ∙ ap (λ cs. min (length columns) (length cs)) whole))
+  cells-rows-more cells front rest first =
+      ap (flat_map (group_rows gaps columns)) (groups-more (length columns) cells front rest first)
 
--- ---- texts of a table whose pieces fit 64 bits: the first of them, and those after it
-
-module _ {X : Type 0} (P : X × List ℕ → Type 0) (columns others : List X)
-    (texts rest : List (Bor (List ℕ))) (column : X) (text : Bor (List ℕ))
-    (first : texts ≡ text ∷ rest) (second : columns ≡ column ∷ others)
-    (fit : All P (zip columns (texts_in texts))) where
-  in_columns : All P ((column, text.now) ∷ zip others (texts_in rest))
-  in_columns = subst (λ ts. All P (zip (column ∷ others) (texts_in ts))) first
-      (subst (λ cs. All P (zip cs (texts_in texts))) second fit)
-
-  pub fits-first : P (column, text.now)
-  fits-first = All-head P (column, text.now) (zip others (texts_in rest)) in_columns
-
-  pub fit-rest : All P (zip others (texts_in rest))
-  fit-rest = All-tail P (column, text.now) (zip others (texts_in rest)) in_columns
+-- ---- what holds of all groups holds of the first and of those after it
 
 module _ (P : List (List ℕ) → Type 0) (count : ℕ) (texts front rest : List (List ℕ))
-    (some : 0 < count) (whole : texts ≡ front ++ rest) (more : 0 < length texts)
-    (is : length front ≡ min count (length texts)) (fit : All P (groups_of count texts)) where
+    (first : IsFirstGroup count texts front rest) (fit : All P (groups_of count texts)) where
   in_groups : All P (front ∷ groups_of count rest)
-  in_groups = subst (All P) (ap (groups_of count) whole
-      ∙ groups-more count front rest some (subst (λ ts. 0 < length ts) whole more)
-      (is ∙ ap (λ ts. min count (length ts)) whole)) fit
+  in_groups = subst (All P) (groups-more count texts front rest first) fit
 
   pub group_fits : P front
   group_fits = All-head P front (groups_of count rest) in_groups

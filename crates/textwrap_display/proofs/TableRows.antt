@@ -4,8 +4,8 @@ use Rattle.textwrap_base.proofs.Common.{All-cons, All-map, All-nil, ap, arith, c
 use Rattle.textwrap_base.proofs.Common.{get_or, get_or_past, inl, inr, length, map, range_with_len}
 use Rattle.textwrap_base.proofs.Common.{refl, sym, ◌<◌, ◌∙◌, zero, suc, ◌*◌, All-head, All-tail}
 use Rattle.textwrap_base.proofs.Common.{append_assoc, length-map, subst, sum_by, sum_by-cons, zip}
-use Rattle.textwrap_base.proofs.Common.{cond, get_or-map, length-append, ne_eqb, take, take_all}
-use Rattle.textwrap_base.proofs.Common.{take_more}
+use Rattle.textwrap_base.proofs.Common.{cond, drop, drop_all, drop_more, get_or-map, length-append}
+use Rattle.textwrap_base.proofs.Common.{append-nil, cases_Bool, nat_lt, nat_tests}
 use Rattle.std.proofs.Common.{replicate}
 use Rattle.textwrap.proofs.Text.Tables.{lines-kept}
 use Rattle.textwrap_display.specs.Alignment.{aligned}
@@ -22,7 +22,8 @@ use Rattle.textwrap_words.specs.Units.{text_width}
 use Rattle.textwrap_display.specs.Styled.{IsWholeText}
 use Rattle.textwrap_display.proofs.Widths.{aligned-before, length-aligned}
 use Rattle.textwrap_display.proofs.SequenceTexts.{nil-whole}
-use Rattle.textwrap_lines.proofs.Text.Lines.{join-push}
+use Rattle.textwrap_display.specs.JustifiedText.{joined_on}
+use Rattle.textwrap_display.proofs.JustifiedLines.{join-on}
 
 -- ---- the rows of a table show each line once
 
@@ -81,13 +82,9 @@ module _ (gaps : RowGaps) (columns : List Shape) (cells : List (List (List ℕ))
       ≡ cell_shown column (height cells) (get_or cells at [])
   column-shown at column within is =
       let lines = get_or cells at [] in
-      map-twice (λ row. get_or row at []) (shown_lines columns cells) places
-      ∙ map-alike (λ r. get_or (shown_lines columns cells r) at []) (shown column lines) places
-      (λ r. shown-at columns cells r at column within is)
-      ∙ sym (map-twice (λ line. line_bytes (aligned column.alignment column.width line))
-      (cell_line lines) places)
-      ∙ ap (map (λ line. line_bytes (aligned column.alignment column.width line)))
-      (lines-shown lines (height cells) (cell-high cells at))
+      let shows = map-alike (λ r. get_or (shown_lines columns cells r) at []) (shown column lines)
+      places (λ r. shown-at columns cells r at column within is) in
+      grind (arith, map-twice, lines-shown lines (height cells) (cell-high cells at), shows)
 
   pub each-line-shown : ShowsEachLineOnce gaps columns cells (group_rows gaps columns cells)
   each-line-shown = record {
@@ -199,53 +196,17 @@ rows-even gaps columns cells left middle keep =
         let row = joined gaps.middle middle r ps in
         let count : length ps ≡ length columns =
         sym (length-map ps (λ p. shown p.0 p.1 r)) ∙ length-shown columns cells r in
-        omega (
-          arith,
-          ap text_width (append_assoc gaps.left row gaps.right),
-          text_width-append gaps.left (row ++ gaps.right) left.0 left.1,
-          joined-before gaps.middle middle r ps (padded-keep columns cells (length columns) keep)
-              gaps.right,
-          widths-zip columns padded (length-padded columns cells),
-          ap (λ n. (n - 1) * text_width gaps.middle) count,
-        )
-
--- ---- joined texts
-
--- one text more
-join-more : (separator : List ℕ) (xs : List (List ℕ)) (at : ℕ) → at < length xs
-    → join_with separator (take (at + 1) xs)
-    ≡ (join_with separator (take at xs) ++ gap_before at separator) ++ get_or xs at []
-join-more separator [] at within = absurd (omega arith)
-join-more separator (x ∷ xs) zero within = ap (join_with separator) (take_more (x ∷ xs) 0 [] within)
-join-more separator (x ∷ xs) (suc at) within =
-    ap (join_with separator) (take_more (x ∷ xs) (suc at) [] within)
-    ∙ join-push separator x (take at xs) (get_or xs at [])
-    ∙ ap (λ b. (join_with separator (x ∷ take at xs) ++ cond b [] separator) ++ get_or xs at [])
-    (sym (ne_eqb (suc at) 0 (λ none. omega arith)))
-
--- the first of them are no longer than all
-join-few : (separator : List ℕ) (xs : List (List ℕ)) (count : ℕ)
-    → length (join_with separator (take count xs)) ≤ length (join_with separator xs)
-join-few separator [] zero = omega arith
-join-few separator [] (suc count) = omega arith
-join-few separator (x ∷ xs) zero = omega arith
-join-few separator (x ∷ []) (suc zero) = omega arith
-join-few separator (x ∷ []) (suc (suc count)) = omega arith
-join-few separator (x ∷ y ∷ xs) (suc zero) =
-    omega (
-      arith,
-      length-append (x ++ separator) (join_with separator (y ∷ xs)),
-      length-append x separator,
-    )
-join-few separator (x ∷ y ∷ xs) (suc (suc count)) =
-    omega (
-      arith,
-      join-few separator (y ∷ xs) (suc count),
-      length-append (x ++ separator) (join_with separator (y ∷ xs)),
-      length-append (x ++ separator) (join_with separator (y ∷ take count xs)),
-    )
+        let split = text_width-append gaps.left (row ++ gaps.right) left.0 left.1 in
+        let keeps = padded-keep columns cells (length columns) keep in
+        let joins = joined-before gaps.middle middle r ps keeps gaps.right in
+        let widths = widths-zip columns padded (length-padded columns cells) in
+        grind (arith, append_assoc, count, split, joins, widths)
 
 -- ---- a row
+
+-- the gap before a column
+gap-is : (at : ℕ) (middle : List ℕ) → cond (nat_lt 0 at) middle [] ≡ gap_before at middle
+gap-is at middle = grind (arith, nat_tests, cases_Bool)
 
 module _ {X : Type 0} (shape : X → Shape) (gaps : RowGaps) (columns : List X)
     (cells : List (List (List ℕ))) (r : ℕ) where
@@ -256,66 +217,62 @@ module _ {X : Type 0} (shape : X → Shape) (gaps : RowGaps) (columns : List X)
   unfolding all
   length-all = length-shown (map shape columns) cells r ∙ length-map columns shape
 
-  -- what the first columns show, joined
-  abbrev pub so_far : ℕ → List ℕ
-  so_far at = join_with gaps.middle (take at (shown_lines (map shape columns) cells r))
+  -- what the columns from a place on show, each with the gap before it
+  abbrev pub shown_from : ℕ → List ℕ
+  shown_from at =
+      joined_on gaps.middle (nat_lt 0 at) (drop at (shown_lines (map shape columns) cells r))
 
-  pub row-whole : (at : ℕ) → length columns ≤ at
-      → (gaps.left ++ so_far at) ++ gaps.right ≡ row_text gaps (map shape columns) cells r
+  shown-none : (at : ℕ) → length columns ≤ at → shown_from at ≡ []
   unfolding all
-  row-whole at past =
-      ap (λ xs. (gaps.left ++ join_with gaps.middle xs) ++ gaps.right)
-      (take_all at all (omega (arith, past, length-all)))
+  shown-none at past =
+      ap (joined_on gaps.middle (nat_lt 0 at)) (drop_all at all (omega (arith, past, length-all)))
 
-  -- their bytes, with the gaps at the ends
-  abbrev pub length_so_far : ℕ → ℕ
-  length_so_far at = length gaps.left + length gaps.right + length (so_far at)
-
-  pub length-within : (at : ℕ)
-      → length_so_far at ≤ length (row_text gaps (map shape columns) cells r)
+  pub row-whole : (at : ℕ) (row : List ℕ) → length columns ≤ at
+      → row ++ shown_from at ≡ gaps.left ++ shown_from 0
+      → row ++ gaps.right ≡ row_text gaps (map shape columns) cells r
   unfolding all
-  length-within at =
+  row-whole at row past is =
+      grind (arith, append-nil, shown-none at past, join-on gaps.middle all)
+
+  -- the bytes of the row
+  pub length-start : length gaps.left + length gaps.right + length (shown_from 0)
+      ≡ length (row_text gaps (map shape columns) cells r)
+  unfolding all
+  length-start =
       omega (
         arith,
-        join-few gaps.middle all at,
+        ap length (join-on gaps.middle all),
         length-append (gaps.left ++ join_with gaps.middle all) gaps.right,
         length-append gaps.left (join_with gaps.middle all),
       )
 
-  pub length-row : (at : ℕ) → length columns ≤ at
-      → length_so_far at ≡ length (row_text gaps (map shape columns) cells r)
-  length-row at past =
-      omega (
-        arith,
-        ap length (row-whole at past),
-        length-append (gaps.left ++ so_far at) gaps.right,
-        length-append gaps.left (so_far at),
-      )
+  pub length-end : (at : ℕ) → length columns ≤ at → length (shown_from at) ≡ 0
+  length-end at past = ap length (shown-none at past)
 
   module _ (at : ℕ) (column : X) (within : at < length columns)
       (is : column ≡ get_or columns at column) (line : List ℕ)
       (line_is : line ≡ cell_line (get_or cells at []) r) where
     -- a column shows the line of its cell, aligned
-    pub column-more : so_far (at + 1) ≡ (so_far at ++ gap_before at gaps.middle)
-        ++ line_bytes (aligned (shape column).alignment (shape column).width line)
+    pub column-next : shown_from at ≡ (gap_before at gaps.middle
+        ++ line_bytes (aligned (shape column).alignment (shape column).width line))
+        ++ shown_from (at + 1)
     unfolding all
-    column-more =
-        join-more gaps.middle all at (omega (arith, within, length-all))
-        ∙ ap (λ x. (so_far at ++ gap_before at gaps.middle) ++ x)
-        (shown-at (map shape columns) cells r at (shape column)
+    column-next =
+        let next = drop_more all at [] (omega (arith, within, length-all)) in
+        let shows = shown-at (map shape columns) cells r at (shape column)
         (omega (arith, within, length-map columns shape))
-        (ap shape is ∙ sym (get_or-map shape columns at column (shape column) within))
-        ∙ ap (λ l. line_bytes (aligned (shape column).alignment (shape column).width l)) (sym line_is))
+        (ap shape is ∙ sym (get_or-map shape columns at column (shape column) within)) in
+        grind (arith, nat_tests, gap-is, next, shows)
 
-    pub length-more : length_so_far (at + 1)
-        ≡ length_so_far at + length (gap_before at gaps.middle)
-        + (length line + ((shape column).width - text_width line))
-    length-more =
+    pub length-next : length (shown_from at)
+        ≡ length (gap_before at gaps.middle)
+        + (length line + ((shape column).width - text_width line)) + length (shown_from (at + 1))
+    length-next =
+        let text = line_bytes (aligned (shape column).alignment (shape column).width line) in
         omega (
           arith,
-          ap length column-more,
-          length-append (so_far at ++ gap_before at gaps.middle)
-              (line_bytes (aligned (shape column).alignment (shape column).width line)),
-          length-append (so_far at) (gap_before at gaps.middle),
+          ap length column-next,
+          length-append (gap_before at gaps.middle ++ text) (shown_from (at + 1)),
+          length-append (gap_before at gaps.middle) text,
           length-aligned (shape column).alignment (shape column).width line,
         )

@@ -9,8 +9,8 @@ use Rattle.textwrap_base.proofs.Common.{◌==◌, ◌||◌, cond_both, take_at}
 use Rattle.std.proofs.lemmas.List.{replicate-append-replicate, drop-append-le, drop_at}
 use Rattle.textwrap.specs.Columns.{blanks}
 use Rattle.textwrap_base.proofs.Lists.Parts.{flat, flat-onto_first, onto_first-length}
-use Rattle.textwrap_words.specs.Blanks.{blank, is_blank, final_blanks, trimmed_len, BlanksBetween}
-use Rattle.textwrap_words.specs.Words.{chunks, is_cut, piece, tiled, word_of, words_of, WordText}
+use Rattle.textwrap_words.specs.Blanks.{blank, is_blank, final_blanks, BlanksBetween}
+use Rattle.textwrap_words.specs.Words.{chunks, is_cut, tiled, word_of, words_of, WordText}
 use Rattle.textwrap_words.proofs.Word.Words.{chunks-from, tiled-map}
 use Rattle.textwrap_display.proofs.KeptWords.{trimmed_len-blanks}
 use Rattle.textwrap_display.proofs.Widths.{blanks-are}
@@ -137,12 +137,8 @@ widened-plain each extra (d ∷ ds) none =
 word_of-more : (chunk : List ℕ) (k : ℕ) → word_of (chunk ++ blanks k)
     ≡ record (word_of chunk) { whitespace = final_blanks chunk ++ blanks k }
 word_of-more chunk k =
-    let all = chunk ++ blanks k in
-    let n = trimmed_len chunk in
     let same = trimmed_len-blanks chunk (blanks k) (blanks-are k) in
-    ap (λ m. piece (take m all) (drop m all) []) same
-    ∙ ap (λ t. piece t (drop n all) []) (take-append-le n chunk (blanks k) (omega arith))
-    ∙ ap (λ t. piece (take n chunk) t []) (drop-append-le n chunk (blanks k) (omega arith))
+    grind (arith, take-append-le, drop-append-le, same)
 
 pub widened-words : (each extra : ℕ) (cs : List (List ℕ))
     → map word_of (widened_chunks each extra cs) ≡ widened_words each extra (map word_of cs)
@@ -236,22 +232,12 @@ widened-line : (each extra : ℕ) (line new : List ℕ)
     → (take (indent_len new) new ≡ take (indent_len line) line)
     × (line_words new ≡ widened_words each extra (line_words line))
 widened-line each extra line new is =
-    let n = indent_len line in
-    let front = take n line in
-    let rest = drop n line in
+    let rest = drop (indent_len line) line in
     let text = flat (widened_chunks each extra (chunks rest)) in
-    let whole : new ≡ front ++ text =
-    is ∙ ap (λ t. front ++ t) (widened-text each extra (chunks rest)) in
-    let same : indent_len new ≡ n =
-    ap indent_len whole
-    ∙ indent-kept line text (widened-plain each extra rest (after-plain line)) in
-    let len : length front ≡ n = length-prefix_len is_blank line in (
-      ap (λ m. take m new) same ∙ ap (take n) whole ∙ take_at front text n len,
-      ap (λ m. words_of (drop m new)) same ∙ ap (λ l. words_of (drop n l)) whole
-          ∙ ap words_of (drop_at front text n len)
-          ∙ ap (map word_of) (widened-chunks each extra rest)
-          ∙ widened-words each extra (chunks rest),
-    )
+    let kept = indent-kept line text (widened-plain each extra rest (after-plain line)) in
+    let len = length-prefix_len is_blank line in
+    let written = widened-text each extra (chunks rest) in
+    grind (arith, take_at, drop_at, len, kept, written, widened-chunks, widened-words)
 
 -- the words of a line that stays
 widened-stays : (spare : ℕ) (line : List ℕ) → (spare == 0) || (gaps line == 0) ≡ true

@@ -169,9 +169,8 @@ module _ (line : List ℕ) (utf8 : IsUtf8 line)
       ≡ length (take (indent_len line) line) + text_width (tiled (line_words line))
   line-width =
       let n = indent_len line in
-      ap text_width (sym (take-append-drop n line))
-      ∙ blanks-before (take n line) (drop n line) (indent-blanks line)
-      ∙ ap (λ t. length (take n line) + text_width t) (sym (tiled-words_of (drop n line)))
+      let front = blanks-before (take n line) (drop n line) (indent-blanks line) in
+      grind (arith, take-append-drop, tiled-words_of, front)
 
   widened-line : (spare : ℕ) → text_width (take (indent_len line) line
       ++ tiled (widened_words (spare / gaps line) (spare % gaps line) (line_words line)))

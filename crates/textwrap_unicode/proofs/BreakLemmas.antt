@@ -9,7 +9,6 @@ use Rattle.textwrap_unicode.proofs.Common.{false, length, get_or, IsUtf8, Number
 use Rattle.textwrap_unicode.proofs.Common.{true, ◌&&◌, List, [], arith, chars, encode, Before}
 use Rattle.textwrap_unicode.proofs.Common.{not, ◌∷◌, refl, sym, ◌∙◌, ◌+◌, drop, ◌++◌, Unit, Text}
 use Rattle.textwrap_unicode.proofs.Common.{ap, ◌<◌, and}
-use Rattle.std.proofs.Math.Bool.{and_assoc}
 use Rattle.std.proofs.lemmas.List.{at_drop_more}
 use Rattle.textwrap_words.proofs.Units.Reading.{read-ahead, read-none, read-start}
 use Rattle.textwrap_words.proofs.Units.Reading.{IsRead, read-all}
@@ -28,12 +27,7 @@ takes_marks-is (unit ∷ units) = refl
 pub and-is : (text : Text) (next : Unit)
     → and (before_of text) next ≡ before_of (with_unit text next)
 and-is text next =
-    let stands : is_mark next.class && not (is_empty text.units)
-    && not (takes_no_mark (first_class text.units)) ≡ is_mark next.class && takes_marks text.units =
-    and_assoc (is_mark next.class) (not (is_empty text.units))
-    (not (takes_no_mark (first_class text.units)))
-    ∙ ap (λ b. is_mark next.class && b) (sym (takes_marks-is text.units)) in
-    rw stands (grind (arith, cases_Bool))
+    grind (arith, cases_Bool, takes_marks-is)
 
 -- ---- the look past the next unit for a number, as the text is read
 
@@ -50,10 +44,8 @@ pub breaks_after-from : (numbers : Numbers) (text : Text) (at : ℕ) (cs : List 
     → breaks_after numbers (before_of text) at cs ≡ breaks_from numbers text at cs
 breaks_after-from numbers text at [] = refl
 breaks_after-from numbers text at (c ∷ cs) =
-    let next = at + length (encode c) in
-    ap (λ ls. break_at (decide_by (numbers_rule numbers cs) (before_of text) (unit_of c)) at ++ ls)
-    (ap (λ b. breaks_after numbers b next cs) (and-is text (unit_of c))
-    ∙ breaks_after-from numbers (with_unit text (unit_of c)) next cs)
+    let after = with_unit text (unit_of c) in
+    grind (arith, and-is, breaks_after-from numbers after (at + length (encode c)) cs)
 
 pub none-left : (numbers : Numbers) (before : Before) (at : ℕ) → before ≡ before_of nothing
     → breaks_after numbers before at (chars []) ≡ []

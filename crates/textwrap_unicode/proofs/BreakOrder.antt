@@ -112,19 +112,13 @@ module _ (numbers : Numbers) (text front back : List ℕ) (next : ℕ) (utf8 : I
       (ap (λ cs. cs ++ h.next ∷ h.back) (sym same) ∙ sym h.divided ∙ divided) in
       let first : h.next ≡ next = cc in
       let later : h.back ≡ back = cc in
-      ap (λ n. verdict_by numbers front n back) (sym first)
-      ∙ ap (λ cs. verdict_by numbers front h.next cs) (sym later)
-      ∙ ap (λ cs. verdict_by numbers cs h.next h.back) (sym same)
-      ∙ h.said
+      grind (arith, same, first, later, h.said)
 
   here-inside : IsEnd text (length (encodes front)) → ⊥
-  here-inside h = omega (
-    arith,
-    h.1,
-    ap length (spelled text utf8 front back next divided),
-    length-append (encodes front) (encodes (next ∷ back)),
-    length-le-encodes (next ∷ back),
-  )
+  here-inside h =
+      let parts = ap length (spelled text utf8 front back next divided) in
+      let size = length-le-encodes (next ∷ back) in
+      omega (arith, h.1, parts, length-append (encodes front) (encodes (next ∷ back)), size)
 
   pub here-decides : (is_mandatory : Bool)
       → Contains (breaks_by numbers text)

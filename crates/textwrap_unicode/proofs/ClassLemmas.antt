@@ -117,14 +117,11 @@ abbrev pub agree : Bool → Bool → Bool
 agree a b = if a then b else not b
 
 pub agree-same : (a b : Bool) → agree a b ≡ true → a ≡ b
-agree-same true b e = sym e
-agree-same false true e = cc
-agree-same false false e = refl
+agree-same a b e = grind (arith, cases_Bool)
 
 -- the second, where the first fails
 pub past-first : (a b : Bool) → a ≡ false → a || b ≡ true → b ≡ true
-past-first true b none e = cc
-past-first false b none e = e
+past-first a b none e = grind (arith, cases_Bool)
 
 not-below : (c : ℕ) → 0x3000 ≤ c → nat_lt c 0x3000 ≡ false
 not-below c from = grind (arith, nat_tests, from)
@@ -213,8 +210,7 @@ module _ (has : LineBreak → Bool) (of_mark : has CombiningMark ≡ false) (of_
 
 prohibited-or : (b : Bool) (rest : Verdict) → rest ≡ Prohibited
     → (if b then Prohibited else rest) ≡ Prohibited
-prohibited-or true rest e = refl
-prohibited-or false rest e = e
+prohibited-or b rest e = grind (arith, cases_Bool)
 
 -- none of these rules says that a line must end
 abbrev NeverMust : List Saying → Type 0
@@ -223,8 +219,7 @@ NeverMust (rule ∷ others) = (rule.says ≢ Mandatory) × NeverMust others
 
 either-not : (b : Bool) (x y : Verdict) → x ≢ Mandatory → y ≢ Mandatory
     → (if b then x else y) ≢ Mandatory
-either-not true x y hx hy = hx
-either-not false x y hx hy = hy
+either-not b x y hx hy = grind (arith, cases_Bool)
 
 never-must : (sayings : List Saying) (before : Before) (next : Unit) → NeverMust sayings
     → first_said sayings before next ≢ Mandatory

@@ -3,13 +3,13 @@ use Rattle.textwrap_base.proofs.Common.{encode_utf8_all, flat_map-append, cond, 
 use Rattle.textwrap_base.proofs.Common.{map-append, encodes-append, IsUtf8-append, encodes-chars}
 use Rattle.textwrap_base.proofs.Common.{All-weaker, Contains, flat_map, All, All-append, IsUtf8-nil}
 use Rattle.textwrap_base.proofs.Common.{IsUtf8, All-nil, All-cons, All-head, All-tail, cases_eq}
-use Rattle.textwrap_unicode.proofs.Common.{length-append, if◌then◌else◌, cases_Bool, is_any_hyphen}
+use Rattle.textwrap_unicode.proofs.Common.{length-append, cases_Bool, is_any_hyphen}
 use Rattle.textwrap_unicode.proofs.Common.{[], append_assoc, append-nil, breaks_after, numbers_rule}
 use Rattle.textwrap_unicode.proofs.Common.{nat_tests, Mandatory, Prohibited, breaks_by, decide_by}
 use Rattle.textwrap_unicode.proofs.Common.{List, list_any, cut_here, break_at, before_of, read-next}
 use Rattle.textwrap_unicode.proofs.Common.{ap, Numbers, Verdict, Allowed, unit_of, may_end, nothing}
 use Rattle.textwrap_unicode.proofs.Common.{ne_eqb, ℕ, length, arith, false, encode, Before}
-use Rattle.textwrap_unicode.proofs.Common.{◌≡◌, ◌++◌, ◌==◌, ◌&&◌, Bool, true, refl, subst, chars}
+use Rattle.textwrap_unicode.proofs.Common.{◌≡◌, ◌++◌, ◌==◌, ◌&&◌, Bool, refl, subst, chars}
 use Rattle.textwrap_unicode.proofs.Common.{◌<◌, ◌∷◌, ◌∙◌, ◌≢◌, ◌+◌, ◌≤◌, not, map, inl, inr, sym}
 use Rattle.textwrap_unicode.proofs.Common.{and}
 use Rattle.std.proofs.lemmas.List.Elements.{All-contains_itself}
@@ -81,11 +81,7 @@ any-above s (o ∷ os) above =
 pub breaks-above : (numbers : Numbers) (before : Before) (at : ℕ) (cs : List ℕ)
     → All (λ o. at ≤ o) (offsets_of (breaks_after numbers before at cs))
 breaks-above numbers before at [] =
-    elim before.is_start as (λ b. All (λ o. at ≤ o)
-    (offsets_of (if b then [] else record { at = at; is_mandatory = true } ∷ []))) [
-      | true ↦ All-nil (λ o. at ≤ o)
-      | false ↦ All-cons (λ o. at ≤ o) at [] (omega arith) (All-nil (λ o. at ≤ o))
-    ]
+    grind (arith, cases_Bool, All-nil (λ o. at ≤ o), All-cons (λ o. at ≤ o) at [])
 breaks-above numbers before at (c ∷ cs) =
     let next = at + length (encode c) in
     let rest = breaks_after numbers (and before (unit_of c)) next cs in
@@ -111,15 +107,11 @@ any-here Prohibited s later above = any-above s later above
 module _ (test : ℕ → Bool) where
   other-place : (place other : ℕ) (t : Bool) (rest : List ℕ) → place ≢ other
       → list_any (λ p. p == place) (cut_here t other ++ rest) ≡ list_any (λ p. p == place) rest
-  other-place place other true rest differs =
-      let unlike : (other == place) ≡ false = grind (arith, nat_tests) in rw unlike refl
-  other-place place other false rest differs = refl
+  other-place place other t rest differs = grind (arith, nat_tests, cases_Bool)
 
   this-place : (place : ℕ) (t : Bool) (rest : List ℕ) → All (λ p. place < p) rest
       → list_any (λ p. p == place) (cut_here t place ++ rest) ≡ t
-  this-place place true rest above =
-      let like : (place == place) ≡ true = grind (arith, nat_tests) in rw like refl
-  this-place place false rest above = any-above place rest above
+  this-place place t rest above = grind (arith, nat_tests, cases_Bool, any-above place rest above)
 
   pub place-found : (place at : ℕ) (bytes : List ℕ) → at < place → place < at + length bytes
       → list_any (λ p. p == place) (places_by test at bytes) ≡ test place
@@ -160,8 +152,7 @@ none-after offsets total c s end = grind (arith, nat_tests)
 cuts-first : (offsets : List ℕ) (total : ℕ) (last : VisibleEnd) (es : List VisibleEnd) (b : Bool)
     → is_cut_after offsets total last.character last.shown ≡ b
     → cuts_among offsets total (last ∷ es) ≡ cut_here b last.end ++ cuts_among offsets total es
-cuts-first offsets total last es true is = rw is refl
-cuts-first offsets total last es false is = rw is refl
+cuts-first offsets total last es b is = grind (arith, cases_Bool)
 
 -- the characters that end at these places
 pub ends-characters : (us : List TextUnit) (at shown : ℕ)
@@ -208,12 +199,9 @@ ends-cuts numbers (Visible c ∷ us) at last before front offsets total is below
     let es = ends_from (at + len) (s + len) us in
     let rest = ends-cuts numbers us (at + len) e after (front ++ here) offsets total
     (parts ∙ sym (append_assoc front here (offsets_of more))) behind (omega (arith, end, size)) in
-    cuts-first offsets total last (e ∷ es) (not (is_any_hyphen last.character) && may_end v) test
-    ∙ ap (λ l. cut_here (not (is_any_hyphen last.character) && may_end v) last.end ++ l) rest
-    ∙ ap (λ back. cut_here (not (is_any_hyphen last.character)
-    && may_end (decide_by (numbers_rule numbers back) before (unit_of c))) last.end
-    ++ cuts_ahead numbers after e.end (is_any_hyphen c) es)
-    (sym (ends-characters us (at + len) (s + len)))
+    let first = cuts-first offsets total last (e ∷ es) (not (is_any_hyphen last.character) && may_end v)
+    test in
+    grind (arith, first, rest, ends-characters us (at + len) (s + len))
 
 -- from the start: there is no place before the first visible character
 pub start-cuts : (numbers : Numbers) (us : List TextUnit) (at : ℕ) (offsets : List ℕ) (total : ℕ)

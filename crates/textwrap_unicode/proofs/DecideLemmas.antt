@@ -5,7 +5,7 @@ use Rattle.textwrap_unicode.proofs.Common.{and-false, LineBreak, Prohibited, ver
 use Rattle.textwrap_unicode.proofs.Common.{Bool, and_from, Mandatory, before_of, class_of}
 use Rattle.textwrap_unicode.proofs.Common.{true, Before, Numbers, Allowed, unit_of, is_mark, decide}
 use Rattle.textwrap_unicode.proofs.Common.{◌≡◌, ℕ, false, List, ◌++◌, refl, ◌&&◌, ◌||◌, Space, Unit}
-use Rattle.textwrap_unicode.proofs.Common.{◌↔◌, not, [], ◌∷◌, sym, ap, ◌∙◌, inl, inr}
+use Rattle.textwrap_unicode.proofs.Common.{◌↔◌, not, [], ◌∷◌, sym, ap, ◌∙◌}
 use Rattle.textwrap_base.proofs.Common.{◌⊎◌}
 use Rattle.std.proofs.lemmas.Bool.{and_left}
 use Rattle.unicode.proofs.BreaksComputing.{ucd_breaks}
@@ -144,11 +144,6 @@ both-false : (s j o : Bool) → not s && not j && not o ≡ true
     → (s ≡ false) × (j ≡ false) × (o ≡ false)
 both-false s j o e = grind (arith, cases_Bool)
 
-of-three : {A B C X : Type 0} → A ⊎ (B ⊎ C) → (A → X) → (B → X) → (C → X) → X
-of-three (inl a) first second third = first a
-of-three (inr (inl b)) first second third = second b
-of-three (inr (inr c)) first second third = third c
-
 -- ---- a letter or a number after another
 
 abbrev pub IsInWord : LineBreak → Type 0
@@ -156,12 +151,7 @@ IsInWord class = (class ≡ Alphabetic) ⊎ ((class ≡ HebrewLetter) ⊎ (class
 
 pub letters-stay : (before : Before) (next : Unit) → IsInWord next.class → IsInWord before.class
     → is_zero_width_space before.past_spaces ≡ false → Prohibited ≡ decide before next
-letters-stay before next is last h =
-    let kept = all-forbid before.is_start before.is_joined (glued before.past_spaces) in
-    of-three is
-    (λ e. of-three last (λ l. rw (e, l, h) kept) (λ l. rw (e, l, h) kept) (λ l. rw (e, l, h) kept))
-    (λ e. of-three last (λ l. rw (e, l, h) kept) (λ l. rw (e, l, h) kept) (λ l. rw (e, l, h) kept))
-    (λ e. of-three last (λ l. rw (e, l, h) kept) (λ l. rw (e, l, h) kept) (λ l. rw (e, l, h) kept))
+letters-stay before next is last h = grind (arith, all-forbid)
 
 -- ---- an ideograph or a syllable after another, a space or the end of a bracket
 
@@ -173,16 +163,4 @@ EndsApart class = (class ≡ Space) ⊎ ((class ≡ ClosePunctuation) ⊎ IsApar
 
 pub ideographs-part : (before : Before) (next : Unit) → IsApart next.class
     → EndsApart before.class → IsFree before → Allowed ≡ decide before next
-ideographs-part before next is last h =
-    let (s, j, o) = both-false before.is_start before.is_joined (is_opening before.past_spaces) h in
-    let free = none-after before.past_spaces in
-    of-three is
-    (λ e. of-three last (λ l. rw (e, l, s, j, o) free) (λ l. rw (e, l, s, j, o) free)
-    (λ apart. of-three apart (λ l. rw (e, l, s, j, o) free) (λ l. rw (e, l, s, j, o) free)
-    (λ l. rw (e, l, s, j, o) free)))
-    (λ e. of-three last (λ l. rw (e, l, s, j, o) free) (λ l. rw (e, l, s, j, o) free)
-    (λ apart. of-three apart (λ l. rw (e, l, s, j, o) free) (λ l. rw (e, l, s, j, o) free)
-    (λ l. rw (e, l, s, j, o) free)))
-    (λ e. of-three last (λ l. rw (e, l, s, j, o) free) (λ l. rw (e, l, s, j, o) free)
-    (λ apart. of-three apart (λ l. rw (e, l, s, j, o) free) (λ l. rw (e, l, s, j, o) free)
-    (λ l. rw (e, l, s, j, o) free)))
+ideographs-part before next is last h = grind (arith, both-false, none-after)

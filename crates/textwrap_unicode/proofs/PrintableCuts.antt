@@ -62,12 +62,10 @@ module _ (text : List ℕ) (printable : IsPrintable text) where
       → is_among past_classes (class_past_blanks text n) ≡ true
   past-among zero within = refl
   past-among (suc n) within =
-      elim (cases_Bool (is_blank (get_or text n 0))) [
-        | inl blank ↦ rw (past-blank n within blank) (past-among n (omega (arith, within)))
-        | inr other ↦
-            rw (past-byte n within other)
-            (or_right _ _ (told (get_or text n 0) (printable n 0 within)).class)
-      ]
+      let other : is_among past_classes (class_of (get_or text n 0)) ≡ true =
+      or_right _ _ (told (get_or text n 0) (printable n 0 within)).class in
+      let before = past-among n (omega (arith, within)) in
+      grind (arith, cases_Bool, past-blank n within, past-byte n within, other, before)
 
   -- ---- the blanks at the end of what comes before a place
 
@@ -96,11 +94,10 @@ module _ (text : List ℕ) (printable : IsPrintable text) where
     pub past-some : 0 < end → class_past_blanks text place ≡ class_of (get_or text (end - 1) 0)
     past-some some =
         let last : suc (end - 1) ≡ end = omega (arith, some) in
-        let most : end ≤ place = omega (arith, long) in
         let other = trimmed-other (take place text) some in
-        end-past ∙ ap (class_past_blanks text) (sym last)
-        ∙ past-byte (end - 1) (omega (arith, most, within, some))
-        (ap is_blank (sym (get_or-take place text (end - 1) 0 (omega (arith, most, some)))) ∙ other)
+        let inside : end - 1 < length text = omega (arith, long, within, some) in
+        let byte = get_or-take place text (end - 1) 0 (omega (arith, long, some)) in
+        grind (arith, end-past, last, byte, other, past-byte (end - 1) inside)
 
 -- ---- a printable text is cut where its bytes say so
 

@@ -1,8 +1,8 @@
 -- The breaks of a text that the definition computes are those that the rules name.
 use Rattle.textwrap_unicode.proofs.Common.{append_assoc, length-append}
 use Rattle.textwrap_unicode.proofs.Common.{cases_Bool, Numbers, verdict_by, breaks_from, Prohibited}
-use Rattle.textwrap_unicode.proofs.Common.{ℕ, with_unit, breaks_by, Mandatory, and_parts}
-use Rattle.textwrap_unicode.proofs.Common.{Verdict, is_empty, nothing, break_at, unit_of, and_from}
+use Rattle.textwrap_unicode.proofs.Common.{ℕ, with_unit, breaks_by, Mandatory}
+use Rattle.textwrap_unicode.proofs.Common.{Verdict, is_empty, nothing, break_at, unit_of}
 use Rattle.textwrap_unicode.proofs.Common.{false, length, subst, encode, Allowed, IsUtf8}
 use Rattle.textwrap_unicode.proofs.Common.{Bool, true, List, ◌++◌, refl, take, arith, chars}
 use Rattle.textwrap_unicode.proofs.Common.{◌≡◌, inl, inr, ◌∷◌, map, sym, ◌∙◌, ◌≢◌, ◌+◌, Unit, Text}
@@ -12,13 +12,14 @@ use Rattle.textwrap_base.proofs.Common.{◌⊎◌, map-append, chars-nil}
 use Rattle.std.specs.List.{fold, Contains}
 use Rattle.std.proofs.lemmas.List.{append-nil}
 use Rattle.std.proofs.lemmas.List.Sums.{fold-append}
-use lib.Utf8.{encodes, scalar, scalars}
+use lib.Utf8.{encodes}
 use Rattle.textwrap_unicode.specs.Before.{text_of}
 use Rattle.textwrap_unicode.specs.Breaks.{IsPlaceBy, IsEnd, EndsBy, IsBreakBy}
 use Rattle.std.proofs.lemmas.List.Elements.{Contains-append_right, Contains-append_cases}
 use Rattle.std.proofs.lemmas.List.Elements.{Contains-append_left}
-use Rattle.std.proofs.lemmas.Str.{length-le-encodes, scalars-chars}
+use Rattle.std.proofs.lemmas.Str.{length-le-encodes}
 use Rattle.textwrap_unicode.specs.declared.breaks.LineBreak.{LineBreak}
+use Rattle.textwrap_base.proofs.Texts.{utf8-front}
 use Rattle.textwrap_base.proofs.Lists.Elements.{contains-cases, contains-here, contains-nil}
 use Rattle.std.specs.Str.{IsCharBoundary}
 use Rattle.std.proofs.Math.Seq.{take-append_seam}
@@ -88,15 +89,7 @@ module _ (numbers : Numbers) where
           → verdict_by numbers (front ++ middle) h.next h.back ≡ verdict
           → ((at ≡ length (encodes front)) × (verdict_by numbers front c cs ≡ verdict))
           ⊎ IsAhead (front ++ c ∷ []) cs at verdict
-      by [] e offset said =
-          let first : h.next ≡ c = cc in
-          let rest : h.back ≡ cs = cc in
-          inl (
-            rw append-nil at offset,
-            subst (λ back. verdict_by numbers front c back ≡ verdict) rest
-                (subst (λ n. verdict_by numbers front n h.back ≡ verdict) first
-                (rw append-nil at said)),
-          )
+      by [] e offset said = grind (arith, append-nil, inl)
       by (m ∷ ms) e offset said = grind (arith, append_assoc, inr)
 
 -- ---- the breaks that the definition computes are those that the rules name
@@ -196,10 +189,7 @@ module _ (numbers : Numbers) where
       → Contains (breaks_from numbers (text_of front) (length (encodes front)) cs) place
   said-end [] [] place some is = absurd (some refl)
   said-end (f ∷ fs) [] place some is =
-      rw (some-units f fs) (contains-here _ place []
-      (sym (is
-      ∙ ap (λ cs. record { at = length (encodes cs); is_mandatory = true })
-      (append-nil (f ∷ fs)))))
+      rw (some-units f fs) (contains-here _ place [] (grind (arith, append-nil)))
   said-end front (c ∷ cs) place some is =
       let moved = append_assoc front (c ∷ []) cs in
       contains-after front c cs place (said-end (front ++ c ∷ []) cs place
@@ -260,12 +250,6 @@ some-front : (numbers : Numbers) (front : List ℕ) (next : ℕ) (back : List �
 some-front numbers [] next back said = absurd (said refl)
 some-front numbers (f ∷ fs) next back said = omega (arith, length-le-encodes (f ∷ fs))
 
-scalars-front : (xs ys : List ℕ) → scalars (xs ++ ys) ≡ true → scalars xs ≡ true
-scalars-front [] ys h = refl
-scalars-front (x ∷ xs) ys h =
-    let both = and_parts (scalar x) (scalars (xs ++ ys)) h in
-    and_from (scalar x) (scalars xs) both.0 (scalars-front xs ys both.1)
-
 some-bytes : (text : List ℕ) (at : ℕ) → text ≢ [] → at ≡ length text → 0 < at
 some-bytes [] at some e = absurd (some refl)
 some-bytes (b ∷ bs) at some e = omega (arith, e)
@@ -282,18 +266,18 @@ module _ (numbers : Numbers) (text : List ℕ) (utf8 : IsUtf8 text) where
   place-within : (at : ℕ) (verdict : Verdict) → verdict ≢ Prohibited → IsPlaceBy numbers text at verdict
       → IsCharBoundary text at × (0 < at) × (at ≤ length text)
   place-within at verdict some h =
+      let parts = spelled text utf8 h.front h.back h.next h.divided in
+      let taken = before-place text utf8 h.front h.back h.next h.divided in
+      let own = utf8-front h.front (h.next ∷ h.back)
+      (subst IsUtf8 (sym (encodes-chars text utf8) ∙ ap encodes h.divided) utf8) in
       let within : at ≤ length text = omega (
         arith,
         h.offset,
-        ap length (spelled text utf8 h.front h.back h.next h.divided),
+        ap length parts,
         length-append (encodes h.front) (encodes (h.next ∷ h.back)),
-      ) in
-      let taken : take at text ≡ encodes h.front =
-      ap (λ n. take n text) h.offset ∙ before-place text utf8 h.front h.back h.next h.divided in
-      let whole : scalars (h.front ++ h.next ∷ h.back) ≡ true =
-      sym (ap scalars h.divided) ∙ scalars-chars text utf8 in (
+      ) in (
         IsCharBoundary-from_take text at utf8 within
-            (subst IsUtf8 (sym taken) (h.front, (scalars-front h.front _ whole, refl))),
+            (subst IsUtf8 (sym (ap (λ n. take n text) h.offset ∙ taken)) own),
         omega (arith, h.offset, some-front numbers h.front h.next h.back (λ none. some (sym h.said ∙ none))),
         within,
       )

@@ -120,7 +120,5 @@ module _ (text : List ℕ) (printable : IsPrintable text) where
       (none (from + n) (omega arith) (omega arith)) in
       λ k some below. elim (cases_lt k (from + n)) [
         | inl less ↦ before k some less
-        | inr at ↦
-            let same : from + n ≡ k = omega (arith, at, below) in
-            subst (IsUsual text) same here
+        | inr at ↦ subst (IsUsual text) (omega (arith, at, below)) here
       ]

@@ -8,7 +8,7 @@ use Rattle.textwrap_unicode.proofs.Common.{add-one, is_space, class_of, unit_of,
 use Rattle.textwrap_unicode.proofs.Common.{subst, length, Before, Numbers, ByPairs, may_end}
 use Rattle.textwrap_unicode.proofs.Common.{◌≡◌, zero, ◌&&◌, List, ◌++◌, arith, Space, chars, encode}
 use Rattle.textwrap_unicode.proofs.Common.{suc, ◌+◌, ◌<◌, refl, ◌==◌, ◌||◌, Bool, true, drop, Unit}
-use Rattle.textwrap_unicode.proofs.Common.{ℕ, [], ◌∷◌, sym, ap, ◌∙◌, inl, inr, ◌≤◌, ◌*◌, and}
+use Rattle.textwrap_unicode.proofs.Common.{ℕ, [], ◌∷◌, sym, ap, ◌∙◌, cases_Bool, ◌≤◌, ◌*◌, and}
 use Rattle.textwrap_base.proofs.Common.{add-zero, eqb, drop_more, length-encode}
 use Rattle.textwrap_unicode.specs.ClassSets.{is_infix, is_letter}
 use Rattle.textwrap_unicode.specs.WordStarts.{IsWordClass}
@@ -89,28 +89,17 @@ IsSaid numbers back blank sign class =
 said-each : (numbers : Numbers) (back : List ℕ) (blank sign : Bool)
     → IsSaid numbers back blank sign Alphabetic × IsSaid numbers back blank sign Space
     × IsSaid numbers back blank sign InfixNumeric
-said-each ByPairs back true true = ((refl, refl), (refl, refl), (refl, refl))
-said-each ByPairs back true false = ((refl, refl), (refl, refl), (refl, refl))
-said-each ByPairs back false true = ((refl, refl), (refl, refl), (refl, refl))
-said-each ByPairs back false false = ((refl, refl), (refl, refl), (refl, refl))
-said-each ByExpression back true true = ((refl, refl), (refl, refl), (refl, refl))
-said-each ByExpression back true false = ((refl, refl), (refl, refl), (refl, refl))
-said-each ByExpression back false true = ((refl, refl), (refl, refl), (refl, refl))
-said-each ByExpression back false false = ((refl, refl), (refl, refl), (refl, refl))
+said-each ByPairs back blank sign = grind (arith, cases_Bool)
+said-each ByExpression back blank sign = grind (arith, cases_Bool)
 
 pub said : (numbers : Numbers) (back : List ℕ) (blank sign : Bool) (class : LineBreak)
     → IsWordClass class → IsSaid numbers back blank sign class
-said numbers back blank sign class (inl e) =
-    subst (IsSaid numbers back blank sign) (sym e) (said-each numbers back blank sign).0
-said numbers back blank sign class (inr (inl e)) =
-    subst (IsSaid numbers back blank sign) (sym e) (said-each numbers back blank sign).1
-said numbers back blank sign class (inr (inr e)) =
-    subst (IsSaid numbers back blank sign) (sym e) (said-each numbers back blank sign).2
+said numbers back blank sign class is =
+    let (letter, space, sign_of) = said-each numbers back blank sign in
+    grind (arith, letter, space, sign_of)
 
 of-word : (class : LineBreak) → IsWordClass class → is_of_word class ≡ true
-of-word class (inl e) = ap is_of_word e
-of-word class (inr (inl e)) = ap is_of_word e
-of-word class (inr (inr e)) = ap is_of_word e
+of-word class is = grind arith
 
 class-at : (d : ℕ) → d < 128 → slice_index_or CLASSES d Ambiguous ≡ class_of d
 class-at d below = ap (λ u. u.class) (ascii-unit d below)

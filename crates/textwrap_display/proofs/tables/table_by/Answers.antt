@@ -1,13 +1,14 @@
 use Rattle.textwrap_display.proofs.tables.table_by.Goals as goal
-use Rattle.textwrap_base.proofs.Common.{◌≡◌, ◌++◌, ◌∙◌, [], ap, append-nil, arith, length}
-use Rattle.textwrap_base.proofs.Common.{length-map, map, map-append, rules, string_bytes, subst}
+use Rattle.textwrap_display.proofs.tables.table_by.Goals.{In-Some}
+use Rattle.textwrap_base.proofs.Common.{◌≡◌, ◌++◌, ◌∙◌, [], append-nil, arith, length}
+use Rattle.textwrap_base.proofs.Common.{length-map, map, rules, string_bytes, subst}
 use Rattle.textwrap_base.proofs.Common.{sym}
 use Rattle.std.specs.Slice.Iter.{chunks_rest, chunks_size}
 use Rattle.textwrap_lines.proofs.Text.Directly.{passed-on}
 use Rattle.textwrap_display.specs.Tables.{NonePasses, AreCells, cell_texts, gaps_view, group_rows}
 use Rattle.textwrap_display.specs.Tables.{IsTableBy, texts_in}
-use Rattle.textwrap_display.proofs.TableGroups.{group_fits, groups_fit, rows-more, table-more}
-use Rattle.textwrap_display.proofs.TableGroups.{table-none}
+use Rattle.textwrap_display.proofs.TableGroups.{group-map, group_fits, groups_fit, IsFirstGroup}
+use Rattle.textwrap_display.proofs.TableGroups.{rows-more, table-more, table-none}
 
 pub loop-texts-init : goal.loop-texts-init
 loop-texts-init g c =
@@ -16,38 +17,43 @@ loop-texts-init g c =
     let texts : chunks_rest left ≡ c.args.cells.now = search rules in
     (size, λ others is. search rules, λ fit. rw texts fit)
 
+first_group : (g : _) (c : In-Some g) → IsFirstGroup (length c.args.columns.now)
+    (texts_in (chunks_rest c.loop-texts.texts-iterator)) (texts_in c.in-Some.texts.now)
+    (texts_in (chunks_rest c.next.new.self))
+first_group g c =
+    let (size, (whole, front, some)) = c.in-Some.ensures.steps in
+    group-map (λ text. text.now) (length c.args.columns.now)
+    (chunks_rest c.loop-texts.texts-iterator) c.in-Some.texts.now (chunks_rest c.next.new.self)
+    (record {
+      some = omega (arith, c.loop-texts.iterator.0, c.loop-texts.invariant.0);
+      whole = whole;
+      more = omega (arith, some);
+      size = omega (arith, front, c.loop-texts.invariant.0);
+    })
+
 pub loop-texts-preserved : goal.loop-texts-preserved
 loop-texts-preserved g c =
-    let (size, (whole, front, some)) = c.in-Some.ensures.steps in
     let columns = c.args.columns.now in
     let gaps = gaps_view c.args.gaps.now in
-    let texts = chunks_rest c.loop-texts.texts-iterator in
-    let rest = chunks_rest c.next.new.self in
-    let first = c.in-Some.texts.now in
+    let texts = texts_in (chunks_rest c.loop-texts.texts-iterator) in
+    let rest = texts_in (chunks_rest c.next.new.self) in
+    let front = texts_in c.in-Some.texts.now in
     let cells = cell_texts c.deref.result.now in
     let rows = group_rows gaps (map g.C.AnyColumn.shape columns) cells in
-    let count = length-map texts (λ text. text.now) in
-    let first_count = length-map first (λ text. text.now) in (
-      size ∙ c.loop-texts.invariant.0,
+    let first = first_group g (goal.at.loop-texts-preserved g c).In-Some in (
+      c.in-Some.ensures.steps.0 ∙ c.loop-texts.invariant.0,
       λ others after.
           subst (IsTableBy g.C.AnyColumn.makes g.C.AnyColumn.shape columns gaps (texts_in c.args.cells.now))
           (sym (rows-more (map string_bytes c.loop-texts.rows.items)
           (map string_bytes c.push_rows.new.rows.items) rows others c.in_ok-push_rows.ensures))
           (c.loop-texts.invariant.1 (rows ++ others)
-          (table-more g.C.AnyColumn.makes g.C.AnyColumn.shape columns gaps (texts_in texts) (texts_in first)
-          (texts_in rest) cells others
-          (omega (arith, c.loop-texts.iterator.0, c.loop-texts.invariant.0))
-          (ap texts_in whole ∙ map-append (λ text. text.now) first rest)
-          (omega (arith, first_count, count, front, c.loop-texts.invariant.0))
-          (omega (arith, count, some))
-          (subst (λ cs. AreCells g.C.AnyColumn.makes columns (texts_in first) (cell_texts cs))
+          (table-more g.C.AnyColumn.makes g.C.AnyColumn.shape columns gaps texts front rest cells
+          others first
+          (subst (λ cs. AreCells g.C.AnyColumn.makes columns front (cell_texts cs))
           (sym c.deref.ensures.value) c.in_ok-group.ensures.cells)
           after)),
-      λ fit. groups_fit (NonePasses g.C.AnyColumn.may_pass columns) (length columns) (texts_in texts) (texts_in first)
-          (texts_in rest) (omega (arith, c.loop-texts.iterator.0, c.loop-texts.invariant.0))
-          (ap texts_in whole ∙ map-append (λ text. text.now) first rest) (omega (arith, count, some))
-          (omega (arith, first_count, count, front, c.loop-texts.invariant.0))
-          (c.loop-texts.invariant.2 fit),
+      λ fit. groups_fit (NonePasses g.C.AnyColumn.may_pass columns) (length columns) texts front rest
+          first (c.loop-texts.invariant.2 fit),
     )
 
 pub returns-in_err-group-clause-only_memory : goal.returns-in_err-group-clause-only_memory
@@ -57,19 +63,12 @@ returns-in_err-group-clause-only_memory g c = λ never.
 
 pub returns-in_err-group-clause-no_overflow : goal.returns-in_err-group-clause-no_overflow
 returns-in_err-group-clause-no_overflow g c = λ fit.
-    let (size, (whole, front, some)) = c.in-Some.ensures.steps in
-    let columns = c.args.columns.now in
-    let texts = chunks_rest c.loop-texts.texts-iterator in
-    let rest = chunks_rest c.next.new.self in
-    let first = c.in-Some.texts.now in
-    let count = length-map texts (λ text. text.now) in
-    let first_count = length-map first (λ text. text.now) in
     passed-on c.from_residual.result c.in_err-group.field-0.0 c.from_residual.ensures.1
     (c.in_err-group.ensures.no_overflow
-    (group_fits (NonePasses g.C.AnyColumn.may_pass columns) (length columns) (texts_in texts) (texts_in first)
-    (texts_in rest) (omega (arith, c.loop-texts.iterator.0, c.loop-texts.invariant.0))
-    (ap texts_in whole ∙ map-append (λ text. text.now) first rest) (omega (arith, count, some))
-    (omega (arith, first_count, count, front, c.loop-texts.invariant.0))
+    (group_fits (NonePasses g.C.AnyColumn.may_pass c.args.columns.now) (length c.args.columns.now)
+    (texts_in (chunks_rest c.loop-texts.texts-iterator)) (texts_in c.in-Some.texts.now)
+    (texts_in (chunks_rest c.next.new.self))
+    (first_group g (goal.at.returns-in_err-group-clause-no_overflow g c).In-Some)
     (c.loop-texts.invariant.2 fit)))
 
 pub returns-clause-rows : goal.returns-clause-rows

@@ -1,11 +1,12 @@
 use Rattle.textwrap_display.proofs.tables.table_of_lines.Goals as goal
 use Rattle.textwrap_base.proofs.Common.{◌≡◌, ◌++◌, ◌∙◌, ap, append-nil, arith, length, length-map}
-use Rattle.textwrap_base.proofs.Common.{map, map-append, rules, string_bytes, sym}
+use Rattle.textwrap_base.proofs.Common.{map, rules, string_bytes, sym}
 use Rattle.std.specs.Slice.Iter.{chunks_rest, chunks_size}
 use Rattle.textwrap_display.specs.Shortening.{texts_of}
 use Rattle.textwrap_display.specs.Tables.{cell_texts, gaps_view, group_rows, rows_of_cells}
 use Rattle.textwrap_display.specs.Tables.{shape_of}
-use Rattle.textwrap_display.proofs.TableGroups.{cells-rows-more, cells-rows-none, rows-more}
+use Rattle.textwrap_display.proofs.TableGroups.{cells-rows-more, cells-rows-none, group-map}
+use Rattle.textwrap_display.proofs.TableGroups.{rows-more}
 
 pub loop-group-init : goal.loop-group-init
 loop-group-init g c =
@@ -23,19 +24,19 @@ loop-group-preserved g c =
     let rest = chunks_rest c.next.new.self in
     let first = c.in-Some.group.now in
     let before = map string_bytes c.loop-group.rows.items in
-    let count = length-map left (λ lines. texts_of lines.items) in
-    let first_count = length-map first (λ lines. texts_of lines.items) in
-    let shapes = length-map c.args.columns.now shape_of in (
+    let shapes = length-map c.args.columns.now shape_of in
+    let group = group-map (λ lines. texts_of lines.items) (length columns) left first rest (record {
+      some = omega (arith, shapes, c.loop-group.iterator.0, c.loop-group.invariant.0);
+      whole = whole;
+      more = omega (arith, some);
+      size = omega (arith, shapes, front, c.loop-group.invariant.0);
+    }) in (
       size ∙ c.loop-group.invariant.0,
       rows-more before (map string_bytes c.push_rows.new.rows.items)
           (group_rows gaps columns (cell_texts first)) (rows_of_cells gaps columns (cell_texts rest))
           c.in_ok-push_rows.ensures
           ∙ ap (λ rows. before ++ rows) (sym (cells-rows-more gaps columns (cell_texts left)
-          (cell_texts first) (cell_texts rest)
-          (omega (arith, shapes, c.loop-group.iterator.0, c.loop-group.invariant.0))
-          (ap cell_texts whole ∙ map-append (λ lines. texts_of lines.items) first rest)
-          (omega (arith, shapes, first_count, count, front, c.loop-group.invariant.0))
-          (omega (arith, count, some))))
+          (cell_texts first) (cell_texts rest) group))
           ∙ c.loop-group.invariant.1,
     )
 

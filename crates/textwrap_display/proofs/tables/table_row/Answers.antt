@@ -1,7 +1,7 @@
 use Rattle.textwrap_display.proofs.tables.table_row.Goals as goal
-use Rattle.textwrap_base.proofs.Common.{◌++◌, ap, ◌∙◌, append_assoc}
+use Rattle.textwrap_base.proofs.Common.{◌∙◌, append_assoc, string_bytes}
 use Rattle.textwrap_display.specs.Tables.{cell_texts, gaps_view}
-use Rattle.textwrap_display.proofs.TableRows.{column-more, row-whole}
+use Rattle.textwrap_display.proofs.TableRows.{column-next, row-whole}
 
 pub loop-c-preserved : goal.loop-c-preserved
 loop-c-preserved g c =
@@ -10,9 +10,9 @@ loop-c-preserved g c =
       c.width.ensures,
       c.alignment.ensures,
       c.in_ok-push_str-2.ensures.bytes,
-      c.loop-c.invariant,
       c.gap_before.ensures,
-      column-more g.C.AnyColumn.shape (gaps_view c.args.gaps.now) c.args.columns.now (cell_texts c.args.cells.now)
+      ← c.loop-c.invariant,
+      column-next g.C.AnyColumn.shape (gaps_view c.args.gaps.now) c.args.columns.now (cell_texts c.args.cells.now)
           c.args.r c.loop-c.c c.index-columns-c.result c.loop-c-test.true c.index-columns-c.is
           c.cell_line-line.result.now c.cell_line-line.ensures,
     )
@@ -21,6 +21,5 @@ loop-c-preserved g c =
 pub returns : goal.returns
 returns g c =
     c.in_ok-push_str-3.ensures.bytes
-    ∙ ap (λ text. text ++ c.args.gaps.now.right.now) c.loop-c.invariant
     ∙ row-whole g.C.AnyColumn.shape (gaps_view c.args.gaps.now) c.args.columns.now (cell_texts c.args.cells.now)
-    c.args.r c.loop-c.c c.loop-c-test.false
+    c.args.r c.loop-c.c (string_bytes c.loop-c.row) c.loop-c-test.false c.loop-c.invariant

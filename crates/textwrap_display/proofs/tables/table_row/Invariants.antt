@@ -1,9 +1,10 @@
 use Rattle.textwrap_display.proofs.tables.table_row.Given as goal
-use Rattle.textwrap_base.proofs.Common.{◌≡◌, ◌++◌, map, string_bytes, take}
-use Rattle.textwrap_lines.proofs.Common.{join_with}
-use Rattle.textwrap_display.specs.Tables.{cell_texts, shown_lines}
+use Rattle.textwrap_base.proofs.Common.{◌≡◌, ◌++◌, string_bytes}
+use Rattle.textwrap_display.specs.Tables.{cell_texts, gaps_view}
+use Rattle.textwrap_display.proofs.TableRows.{shown_from}
 
--- the left gap and the columns so far
+-- with the columns that are left, it is the left gap and all columns
 abbrev pub invariant-loop-c : goal.invariant-loop-c
-invariant-loop-c g l = string_bytes l.row ≡ l.gaps.left.now ++ join_with l.gaps.middle.now
-    (take l.c (shown_lines (map g.C.AnyColumn.shape l.columns) (cell_texts l.cells) l.r))
+invariant-loop-c g l =
+    let shown = shown_from g.C.AnyColumn.shape (gaps_view l.gaps) l.columns (cell_texts l.cells) l.r in
+    string_bytes l.row ++ shown l.c ≡ l.gaps.left.now ++ shown 0

@@ -1,79 +1,89 @@
 use Rattle.textwrap_display.proofs.tables.wrap_cells.Goals as goal
-use Rattle.textwrap_base.proofs.Common.{[], ◌∷◌, append-nil, inl, inr, map, nil_from_length, refl}
-use Rattle.textwrap_base.proofs.Common.{◌≡◌, All, All-head, All-tail, rules, subst, sym}
-use Rattle.textwrap_base.proofs.Lists.Elements.{map-push-append}
+use Rattle.textwrap_display.proofs.tables.wrap_cells.Goals.{In-Some}
+use Rattle.textwrap_base.proofs.Common.{◌≡◌, ◌<◌, arith, get_or, length, length-map, length_push}
+use Rattle.textwrap_base.proofs.Common.{map, map-append, refl, rules, subst, sym, take, take_all}
+use Rattle.textwrap_base.proofs.Common.{take_more, zip}
+use Rattle.std.proofs.lemmas.Slice.Zip.{all_zipped_more, length-zip, zip_end, zip_turn}
 use Rattle.std.specs.Iterator.Adapters.{zip_first, zip_second}
 use Rattle.std.specs.Slice.Iter.{iter_rest}
 use Rattle.textwrap_lines.proofs.Common.{line_view}
 use Rattle.textwrap_lines.proofs.Text.Directly.{passed-on}
 use Rattle.textwrap_display.specs.Shortening.{texts_of}
-use Rattle.textwrap_display.specs.Tables.{AreCells, cell_texts, texts_in}
-use Rattle.textwrap_display.proofs.TableGroups.{fit-rest, fits-first, cells-more, cells-none}
+use Rattle.textwrap_display.specs.Tables.{cell_texts, IsCell, texts_in}
+use Rattle.textwrap_display.proofs.TableGroups.{cell-at}
 
-pub loop-text-init : goal.loop-text-init
-loop-text-init g c =
-    let left = c.into_iter-text-iterator.result in
-    let texts : iter_rest (zip_first left) ≡ c.args.texts.now = search rules in
-    let columns : iter_rest (zip_second left) ≡ c.args.columns.now = search rules in (
-      λ others are. search rules,
-      λ fit. rw (texts, columns) fit,
-      λ never. rw columns never,
-    )
-
-pub returns-in_err-wrap_cell-clause-only_memory : goal.returns-in_err-wrap_cell-clause-only_memory
-returns-in_err-wrap_cell-clause-only_memory g c = λ never.
-    let columns = iter_rest (zip_second c.loop-text.text-iterator) in
-    let rest = iter_rest (zip_second c.next.new.self) in
-    passed-on c.from_residual.result c.in_err-wrap_cell.field-0.0 c.from_residual.ensures.1
-    (c.in_err-wrap_cell.ensures.only_memory
-    (All-head (λ column. ¬ g.C.AnyColumn.may_overflow column) c.in-Some.column.now rest
-    (subst (All (λ column. ¬ g.C.AnyColumn.may_overflow column)) c.in-Some.ensures.steps.1
-    (c.loop-text.invariant.2 never))))
+-- which text this is, and which column
+turn : (g : _) (c : In-Some g) → let n = length c.loop-text.yielded in
+    (n < length c.args.texts.now) × (n < length c.args.columns.now)
+    × ((d : _) → c.in-Some.text.now ≡ get_or c.args.texts.now n d)
+    × ((d : _) → c.in-Some.column.now ≡ get_or c.args.columns.now n d)
+turn g c =
+    let first : iter_rest (zip_first c.into_iter-text-iterator.result) ≡ c.args.texts.now =
+    search rules in
+    let second : iter_rest (zip_second c.into_iter-text-iterator.result) ≡ c.args.columns.now =
+    search rules in
+    zip_turn c.args.texts.now c.args.columns.now c.loop-text.yielded _ _ c.next.new.self _ first
+    second c.loop-text.yielded_by (c.in-Some.text, c.in-Some.column) c.in-Some.is
+    c.next.ensures.steps
 
 pub loop-text-preserved : goal.loop-text-preserved
 loop-text-preserved g c =
-    let next = c.in-Some.ensures.steps in
+    let (some, within, text_is, column_is) =
+    turn g (goal.at.loop-text-preserved g c).In-Some in
+    let n = length c.loop-text.yielded in
+    let column = c.in-Some.column.now in
+    let text = c.in-Some.text.now in
     let lines = c.in_ok-wrap_cell.field-0 in
-    let texts = c.loop-text.text-iterator in
-    let rest = c.next.new.self in (
-      λ others are.
-          subst (AreCells g.C.AnyColumn.makes c.args.columns.now (texts_in c.args.texts.now))
-          (sym (map-push-append (λ cell. texts_of cell.items) c.loop-text.cells.items
-          c.push.new.self.items lines (texts_of lines.items) others c.in_ok-push.ensures.items refl))
-          (c.loop-text.invariant.0 (texts_of lines.items ∷ others)
-          (cells-more g.C.AnyColumn.makes (iter_rest (zip_second texts)) (iter_rest (zip_second rest))
-          (iter_rest (zip_first texts)) (iter_rest (zip_first rest)) c.in-Some.column.now
-          c.in-Some.text.now (map line_view lines.items) others next.0 next.1
-          c.in_ok-wrap_cell.ensures.lines are)),
-      λ fit. fit-rest (λ p. ¬ g.C.AnyColumn.may_pass p.0 p.1) (iter_rest (zip_second texts))
-          (iter_rest (zip_second rest)) (iter_rest (zip_first texts)) (iter_rest (zip_first rest))
-          c.in-Some.column.now c.in-Some.text.now next.0 next.1 (c.loop-text.invariant.1 fit),
-      λ never. All-tail (λ column. ¬ g.C.AnyColumn.may_overflow column) c.in-Some.column.now
-          (iter_rest (zip_second rest))
-          (subst (All (λ column. ¬ g.C.AnyColumn.may_overflow column)) next.1
-          (c.loop-text.invariant.2 never)),
+    let (inside, is) = cell-at c.args.columns.now c.args.texts.now n column text within some
+    (column_is column) (text_is text) in
+    let all = zip c.args.columns.now (texts_in c.args.texts.now) in
+    rw (
+      length_push,
+      c.in_ok-push.ensures.items,
+      map-append,
+      take_more all n (column, text.now) inside,
+      ← is,
     )
+    (all_zipped_more (IsCell g.C.AnyColumn.makes) (take n all)
+    (cell_texts c.loop-text.cells.items) (column, text.now) (texts_of lines.items)
+    c.loop-text.invariant (map line_view lines.items, c.in_ok-wrap_cell.ensures.lines, refl))
+
+pub returns-in_err-wrap_cell-clause-only_memory : goal.returns-in_err-wrap_cell-clause-only_memory
+returns-in_err-wrap_cell-clause-only_memory g c = λ never.
+    let (some, within, text_is, column_is) =
+    turn g (goal.at.returns-in_err-wrap_cell-clause-only_memory g c).In-Some in
+    let column = c.in-Some.column.now in
+    passed-on c.from_residual.result c.in_err-wrap_cell.field-0.0 c.from_residual.ensures.1
+    (c.in_err-wrap_cell.ensures.only_memory
+    (subst (λ column. ¬ g.C.AnyColumn.may_overflow column) (sym (column_is column))
+    (never (length c.loop-text.yielded) column within)))
 
 pub returns-in_err-wrap_cell-clause-no_overflow : goal.returns-in_err-wrap_cell-clause-no_overflow
 returns-in_err-wrap_cell-clause-no_overflow g c = λ fit.
-    let next = c.in-Some.ensures.steps in
-    let texts = c.loop-text.text-iterator in
-    let rest = c.next.new.self in
-    passed-on c.from_residual.result c.in_err-wrap_cell.field-0.0
-    c.from_residual.ensures.1
+    let (some, within, text_is, column_is) =
+    turn g (goal.at.returns-in_err-wrap_cell-clause-no_overflow g c).In-Some in
+    let n = length c.loop-text.yielded in
+    let column = c.in-Some.column.now in
+    let text = c.in-Some.text.now in
+    let (inside, is) = cell-at c.args.columns.now c.args.texts.now n column text within some
+    (column_is column) (text_is text) in
+    passed-on c.from_residual.result c.in_err-wrap_cell.field-0.0 c.from_residual.ensures.1
     (c.in_err-wrap_cell.ensures.no_overflow
-    (fits-first (λ p. ¬ g.C.AnyColumn.may_pass p.0 p.1) (iter_rest (zip_second texts))
-    (iter_rest (zip_second rest)) (iter_rest (zip_first texts)) (iter_rest (zip_first rest))
-    c.in-Some.column.now c.in-Some.text.now next.0 next.1 (c.loop-text.invariant.1 fit)))
+    (subst (λ p. ¬ g.C.AnyColumn.may_pass p.0 p.1) (sym is) (fit n (column, text.now) inside)))
 
 pub returns-clause-cells : goal.returns-clause-cells
 returns-clause-cells g c =
-    let texts = iter_rest (zip_first c.loop-text.text-iterator) in
-    let columns = iter_rest (zip_second c.loop-text.text-iterator) in
-    subst (AreCells g.C.AnyColumn.makes c.args.columns.now (texts_in c.args.texts.now))
-    (append-nil (cell_texts c.loop-text.cells.items))
-    (c.loop-text.invariant.0 [] (cells-none g.C.AnyColumn.makes columns texts
-    (elim c.in-None.ensures.steps [
-      | inl none ↦ inl (nil_from_length texts none.1.0)
-      | inr none ↦ inr (nil_from_length columns none.1.0)
-    ])))
+    let texts = c.args.texts.now in
+    let columns = c.args.columns.now in
+    let n = length c.loop-text.yielded in
+    let first : iter_rest (zip_first c.into_iter-text-iterator.result) ≡ texts = search rules in
+    let second : iter_rest (zip_second c.into_iter-text-iterator.result) ≡ columns = search rules in
+    let ended = zip_end texts columns c.loop-text.yielded _ _ c.next.new.self _ first second
+    c.loop-text.yielded_by c.in-None.is c.next.ensures.steps in
+    let all = take_all n (zip columns (texts_in texts)) (omega (
+      arith,
+      ended,
+      length-zip columns (texts_in texts),
+      length-map texts (λ t. t.now),
+    )) in
+    rw all at c.loop-text.invariant

@@ -1,7 +1,7 @@
 use Rattle.textwrap_unicode.proofs.Common.{if◌then◌else◌, cases_lt, is_behind_blank, is_behind_sign}
 use Rattle.textwrap_unicode.proofs.Common.{ℕ, append_assoc, slice_index, IsPlainLetter, word_starts}
 use Rattle.textwrap_unicode.proofs.Common.{◌≡◌, add-one, append-nil, is_space, class_of, IsWordByte}
-use Rattle.textwrap_unicode.proofs.Common.{◌++◌, ◌+◌, ◌||◌, Bool, true, false, refl, subst, arith}
+use Rattle.textwrap_unicode.proofs.Common.{◌++◌, ◌+◌, ◌||◌, Bool, true, false, cases_Bool, subst, arith}
 use Rattle.textwrap_unicode.proofs.Common.{◌-◌, ◌<◌, inl, inr, [], ◌∷◌, sym, ap, ◌∙◌}
 use Rattle.textwrap_base.proofs.Common.{cases_eq}
 use Rattle.textwrap_unicode.specs.ClassSets.{is_infix, is_letter}
@@ -14,9 +14,7 @@ loop-len-init c = grind (arith, append-nil)
 
 none-behind : (blank sign : Bool) (k : ℕ) → ((blank || sign) ≡ true → k ≡ 0) → 0 < k
     → (blank ≡ false) × (sign ≡ false)
-none-behind true sign k none some = absurd (omega (arith, none refl, some))
-none-behind false true k none some = absurd (omega (arith, none refl, some))
-none-behind false false k none some = (refl, refl)
+none-behind blank sign k none some = grind (arith, cases_Bool)
 
 of-letter : (c : ℕ) → IsPlainLetter c → IsWordByte c
 of-letter c letter = record { ascii = letter.ascii; class = inl letter.class }

@@ -1,22 +1,21 @@
 -- Lemmas for a caller whose function finds cuts, points or ends one after another: the empty list
--- is right, and a right one grows, also at the characters of a loop over `char_indices`.
-pub use Rattle.textwrap_words.proofs.Word.Parts.{inner-cuts}
+-- is right, and a right one grows, also at the characters of a loop over `char_indices`. What is right
+-- by index, `next-by_index` says.
+pub use Rattle.textwrap_words.proofs.Word.Cuts.{inner-cuts, next-by_index}
+use Rattle.textwrap_words.proofs.Word.Cuts.{next-push}
+use Rattle.textwrap_words.specs.Cuts.{IsNextCut}
 use Rattle.textwrap_base.proofs.Common.{◌+◌, ◌-◌, ◌≡◌, ℕ, ◌<◌, ◌≤◌, List, [], ◌∷◌, ◌++◌, length}
-use Rattle.textwrap_base.proofs.Common.{get_or, arith, IsCharBoundary, cases_lt, length_push}
-use Rattle.textwrap_base.proofs.Common.{get_or_default, get_or_push, get_or_append_left, All-nil}
+use Rattle.textwrap_base.proofs.Common.{get_or, arith, IsCharBoundary, length_push}
+use Rattle.textwrap_base.proofs.Common.{get_or_push}
 use Rattle.textwrap_base.proofs.Common.{rules, IsUtf8, Some, char_indices_offset, length-encode}
 use Rattle.std.proofs.lemmas.Str.{len_utf8_bounds}
 use Rattle.textwrap_words.proofs.Common.{AreInnerCuts}
-use Rattle.std.specs.List.Sorted.{IsStrictlyIncreasing}
-use Rattle.std.proofs.lemmas.List.Elements.{All-push}
-use Rattle.std.proofs.lemmas.List.Sorted.{IsNonDecreasingBy-push}
 use Rattle.std.specs.Char.{len_utf8}
 use Rattle.std.specs.Str.Iter.{char_indices_rest, char_indices_steps}
 use Rattle.std.specs.declared.str.CharIndices.{CharIndices}
-use Rattle.textwrap_words.specs.LineEnds.{AreEnds}
+use Rattle.textwrap_words.specs.LineEnds.{AreEnds, IsNextEnd}
 use Rattle.textwrap_base.proofs.Texts.{some-bytes}
 use Rattle.textwrap_words.proofs.Units.Reading.{IsRead, read-next, read-room, read-start}
-use Rattle.std.proofs.lemmas.Grind.{common_steps, elements}
 
 -- the last of the numbers, if there are any, is this one
 abbrev pub EndWith : List ℕ → ℕ → Type 0
@@ -25,18 +24,21 @@ EndWith ns last = 0 < length ns → get_or ns (length ns - 1) 0 ≡ last
 pub EndWith-push : (ns : List ℕ) (n : ℕ) → EndWith (ns ++ n ∷ []) n
 EndWith-push ns n some = search (rules, length_push, get_or_push)
 
-increasing-push : (ns : List ℕ) (n last : ℕ) → IsStrictlyIncreasing ns → EndWith ns last
-    → last < n → IsStrictlyIncreasing (ns ++ n ∷ [])
-increasing-push ns n last increasing ends below k within =
-    search (rules, length_push, get_or_append_left, cases_lt, get_or_push)
+-- which is 0 where there are none
+last-or_zero : (ns : List ℕ) (last : ℕ) → EndWith ns last → get_or (0 ∷ ns) (length ns) 0 ≤ last
+last-or_zero [] last ends = omega arith
+last-or_zero (n ∷ ns) last ends =
+    let end : length (n ∷ ns) - 1 ≡ length ns = omega arith in
+    omega (arith, rw end at (ends (omega arith)))
 
 pub inner-none : (text : List ℕ) → AreInnerCuts text []
-inner-none text = search (rules, All-nil)
+inner-none text = tt
 
 pub inner-push : (text cuts : List ℕ) (cut last : ℕ) → AreInnerCuts text cuts → EndWith cuts last
     → last < cut → cut < length text → IsCharBoundary text cut → AreInnerCuts text (cuts ++ cut ∷ [])
 inner-push text cuts cut last are ends above inside boundary =
-    search (rules, common_steps, increasing-push, All-push)
+    next-push (IsNextCut text) cuts cut 0 are
+    (omega (arith, last-or_zero cuts last ends, above), inside, boundary)
 
 -- where a reader by `char_indices` stands in a text: before a character, or at the end
 abbrev pub HasReadTo : List ℕ → CharIndices → Type 0
@@ -74,9 +76,10 @@ inner-push-after text cuts here next at c last utf8 read step are ends above ins
     (rw place at (HasReadTo-next text here next at c utf8 read step).boundary)
 
 pub ends-none : {X : Type 0} (xs : List X) → AreEnds xs []
-ends-none xs = search (rules, All-nil)
+ends-none xs = tt
 
 pub ends-push : {X : Type 0} (xs : List X) (ends : List ℕ) (end last : ℕ) → AreEnds xs ends
     → EndWith ends last → last ≤ end → end ≤ length xs → AreEnds xs (ends ++ end ∷ [])
 ends-push xs ends end last are ends_with above inside =
-    grind (arith, elements, IsNonDecreasingBy-push, get_or_default, All-push)
+    next-push (IsNextEnd (length xs)) ends end 0 are
+    (omega (arith, last-or_zero ends last ends_with, above), inside)

@@ -39,7 +39,7 @@ pub use Rattle.textwrap_lines.proofs.Common.{ending_bytes, indent_of, is_whole, 
 pub use Rattle.textwrap_lines.proofs.Common.{line_bytes, line_from, line_view, LineParts}
 pub use Rattle.textwrap_lines.proofs.Common.{paragraphs_of, parts_from, pieces_of, Settings}
 pub use Rattle.textwrap_lines.proofs.Common.{settings_view, widths_of}
-pub use Rattle.textwrap_lines.proofs.InSteps.{lines_between-begin}
+pub use Rattle.textwrap_words.proofs.Word.Divisions.{lines_from-begin}
 pub use Rattle.textwrap_lines.proofs.Paragraph.KeepsTo.{HasNoHyphen}
 pub use Rattle.textwrap_lines.proofs.Paragraph.LeftOff.{covered_by-parts_from}
 pub use Rattle.textwrap_lines.proofs.Text.Lines.{bytes_left, paragraphs_left, paragraphs_left-split}

@@ -4,7 +4,7 @@ use Rattle.textwrap_calls.proofs.Common.{[], append-nil, ◌+◌, ◌≤◌, nat
 use Rattle.textwrap_calls.proofs.Common.{drop, slice_range, append_assoc, length-append, Tiles}
 use Rattle.textwrap_calls.proofs.Common.{tiled, Settings, parts_from, covered_by, join_with}
 use Rattle.textwrap_calls.proofs.Common.{line_bytes, flat, tiled-append, AreEnds, lines_between}
-use Rattle.textwrap_calls.proofs.Common.{lines_between-begin, covered_by-parts_from, ArePlacesOf}
+use Rattle.textwrap_calls.proofs.Common.{lines_from-begin, covered_by-parts_from, ArePlacesOf}
 use Rattle.textwrap_calls.proofs.Common.{built_text, lines_of, pieces_at, Place, TextwrapLine}
 use Rattle.textwrap_calls.proofs.Common.{says_yes, WritesReported, done, too_small, ArePlacedCuts}
 use Rattle.textwrap_calls.proofs.Common.{ShowLines, WritesLines}
@@ -37,7 +37,7 @@ module _ (settings : Settings) (cuts points ends : List ℕ) (is_later : ℕ)
       let parts = parts_from settings (says_yes is_later) division in
       let all = step_cuts settings cuts points ends is_later paragraph in
       let lines = lines_of all in
-      let (left, is) = lines_between-begin pieces ends are.ends_are in
+      let (left, is) = lines_from-begin pieces 0 ends are.ends_are in
       let covers : covered_by parts ≡ tiled (flat division) =
       covered_by-parts_from settings (says_yes is_later) division in
       let whole : paragraph ≡ covered_by parts ++ tiled left =

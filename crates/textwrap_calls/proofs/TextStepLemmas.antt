@@ -6,7 +6,7 @@ use Rattle.textwrap_calls.proofs.Common.{starts_with_length, take-append-drop, S
 use Rattle.textwrap_calls.proofs.Common.{Tiles, tiled, ending_bytes, join_with, line_from}
 use Rattle.textwrap_calls.proofs.Common.{covered_by, paragraphs_of, Settings, is_whole, parts_from}
 use Rattle.textwrap_calls.proofs.Common.{line_view, flat, tiled-append, AreEnds, lines_between}
-use Rattle.textwrap_calls.proofs.Common.{lines_between-begin, covered_by-parts_from, rest-within}
+use Rattle.textwrap_calls.proofs.Common.{lines_from-begin, covered_by-parts_from, rest-within}
 use Rattle.textwrap_calls.proofs.Common.{join-paragraphs_of, further-cut_lines, lines_of-cut_lines}
 use Rattle.textwrap_calls.proofs.Common.{HasPlaces, HasPlacesMore, ArePlacesOf, pieces_at}
 use Rattle.textwrap_calls.proofs.Common.{LineEnding, Place, TextwrapLine, joined_on}
@@ -53,7 +53,7 @@ module _ (settings : Settings) (is_later : Bool) (paragraph : List ℕ) (steps :
   divided-begins tile ends =
       let pieces = pieces_at settings steps.cuts.now steps.points.now paragraph in
       let division = lines_between steps.ends.now pieces in
-      let (left, is) = lines_between-begin pieces steps.ends.now ends in
+      let (left, is) = lines_from-begin pieces 0 steps.ends.now ends in
       let whole : paragraph ≡ covered_by (parts_from settings is_later division) ++ tiled left =
       sym tile ∙ ap tiled (sym is) ∙ tiled-append (flat division) left
       ∙ ap (λ bytes. bytes ++ tiled left) (sym (covered_by-parts_from settings is_later division)) in

@@ -1,7 +1,7 @@
 -- What is reported of words and pieces, and the offsets that a line may be cut at.
-use Rattle.std.specs.Prelude.{ℕ, ◌+◌, ◌==◌, List, [], ◌∷◌, All, length, IsCharBoundary}
+use Rattle.std.specs.Prelude.{ℕ, ◌+◌, ◌<◌, ◌==◌, List, [], ◌∷◌, length, IsCharBoundary, ⊤}
 use Rattle.std.specs.Prelude.{if◌then◌else◌}
-use Rattle.std.specs.List.Sorted.{IsStrictlyIncreasing}
+use Rattle.textwrap_words.specs.Cuts.{AreNext}
 use Rattle.textwrap_words.specs.Words.{WordText}
 use Rattle.textwrap_calls.specs.declared.pieces.TextwrapPiece.{TextwrapPiece}
 
@@ -18,10 +18,15 @@ piece_places at (w ∷ ws) =
     }
     ∷ piece_places (at + length w.word + length w.whitespace) ws
 
+-- an offset past the last one, where a character ends
+abbrev pub IsNextOffset : List ℕ → ℕ → ℕ → Type 0
+IsNextOffset text last offset = (last < offset) × IsCharBoundary text offset
+
 -- the offsets increase, and are character boundaries of the text
-pub record AreOffsets (text offsets : List ℕ) : Type 0 where
-  pub increasing : IsStrictlyIncreasing offsets
-  pub boundaries : All (IsCharBoundary text) offsets
+abbrev pub AreOffsets : List ℕ → List ℕ → Type 0
+AreOffsets text [] = ⊤
+AreOffsets text (offset ∷ offsets) =
+    IsCharBoundary text offset × AreNext (IsNextOffset text) offsets offset
 
 -- the offsets that are left when a place is reached: without the first, if it is this place
 abbrev pub offsets_past : ℕ → List ℕ → List ℕ

@@ -1,14 +1,15 @@
 -- The lines of first fit, found piece by piece: the pieces that come, the line so far, the first
 -- line.
 use Rattle.textwrap_base.proofs.Common.{◌≡◌, ℕ, ◌+◌, ◌≤◌, List, ◌++◌, length, take, drop, ap, ◌∙◌}
-use Rattle.textwrap_base.proofs.Common.{sym, subst, arith, append_assoc, length-append, length-drop}
-use Rattle.textwrap_base.proofs.Common.{IsUtf8, IsCharBoundary, take_at, drop_at, drop-drop}
-use Rattle.textwrap_base.proofs.Common.{IsUtf8-drop, IsCharBoundary-from_take, rules, [], ◌∷◌, All}
-use Rattle.textwrap_base.proofs.Common.{refl, All-head, All-tail, IsCharBoundary-start, ⊤, ◌-◌, ◌^◌}
-use Rattle.textwrap_base.proofs.Common.{◌<◌, true, false, cond, le-ltb, Bool, nat_lt, lt-ltb}
-use Rattle.textwrap_base.proofs.Common.{length_push, open_width, slice_range, and_parts, cond_both}
-use Rattle.textwrap_base.proofs.Common.{ltb-true, ltb-false, closed_width, IsGreedy}
+use Rattle.textwrap_base.proofs.Common.{sym, subst, arith, append_assoc, length-append, IsUtf8}
+use Rattle.textwrap_base.proofs.Common.{IsCharBoundary, take_at, drop_at, drop-drop, IsUtf8-drop}
+use Rattle.textwrap_base.proofs.Common.{rules, [], ◌∷◌, All, refl, All-head, All-tail}
+use Rattle.textwrap_base.proofs.Common.{IsCharBoundary-start, ⊤, ◌-◌, ◌^◌, ◌<◌, true, false, cond}
+use Rattle.textwrap_base.proofs.Common.{le-ltb, Bool, nat_lt, lt-ltb, length_push, open_width}
+use Rattle.textwrap_base.proofs.Common.{slice_range, and_parts, cond_both, ltb-true, ltb-false}
+use Rattle.textwrap_base.proofs.Common.{closed_width, IsGreedy}
 use Rattle.std.proofs.lemmas.Str.{IsCharBoundary-from_rest}
+use Rattle.textwrap_base.proofs.Texts.{StartsWith-boundary}
 use Rattle.textwrap_words.proofs.Common.{WordText, tiled, Splitter, broken_words, broken_pieces}
 use Rattle.textwrap_words.proofs.Common.{tile_of, split_words, words_of, sizes_of}
 use Rattle.textwrap_words.specs.Pieces.{stand_from, empty_front}
@@ -39,53 +40,42 @@ use Rattle.textwrap_lines.proofs.Text.Sinks.{cut_lines-next}
 
 -- ---- where the next piece of a line stands in the text
 
--- the text after the first bytes begins with a word of n bytes and m more of whitespace
-module _ (text : List ℕ) (covered len n m : ℕ) (word gap after : List ℕ)
-    (order : covered ≤ len) (within : len ≤ length text) (utf8 : IsUtf8 (drop len text))
-    (word_utf8 : IsUtf8 word) (gap_utf8 : IsUtf8 gap) (n_is : n ≡ length word)
-    (m_is : m ≡ length gap) (next : drop len text ≡ (word ++ gap) ++ after) where
-  seam : drop len text ≡ word ++ (gap ++ after)
-  seam = next ∙ append_assoc word gap after
+-- it stands there with its whitespace, characters end after both, and the text goes on
+pub record StandsAt (text : List ℕ) (at : ℕ) (w : WordText) (after : List ℕ) : Type 0 where
+  pub word : slice_range text at (at + length w.word) ≡ w.word
+  pub gap : slice_range text (at + length w.word) (at + length w.word + length w.whitespace)
+      ≡ w.whitespace
+  pub word_ends : IsCharBoundary text (at + length w.word)
+  pub ends : IsCharBoundary text (at + length w.word + length w.whitespace)
+  pub next : drop (at + length w.word + length w.whitespace) text ≡ after
+  pub utf8 : IsUtf8 (drop (at + length w.word + length w.whitespace) text)
 
-  pub piece-within : len + n + m ≤ length text
-  piece-within =
-      omega (arith, within, n_is, m_is, length-drop len text, ap length seam, length-append {A = ℕ})
-
-  pub word_taken : take n (drop len text) ≡ word
-  word_taken = ap (take n) seam ∙ take_at word (gap ++ after) n (sym n_is)
-
-  past_word : drop (len + n) text ≡ gap ++ after
-  past_word =
-      sym (drop-drop n len text) ∙ ap (drop n) seam ∙ drop_at word (gap ++ after) n (sym n_is)
-
-  pub gap_taken : take m (drop (len + n) text) ≡ gap
-  gap_taken = ap (take m) past_word ∙ take_at gap after m (sym m_is)
-
-  pub place-after : drop (len + n + m) text ≡ after
-  place-after =
-      sym (drop-drop m (len + n) text) ∙ ap (drop m) past_word ∙ drop_at gap after m (sym m_is)
-
-  word_ends : IsCharBoundary (drop len text) n
-  word_ends = IsCharBoundary-from_take (drop len text) n utf8
-      (omega (arith, piece-within, length-drop len text)) (subst IsUtf8 (sym word_taken) word_utf8)
-
-  pub slice-ends : IsCharBoundary text (len + n)
-  slice-ends = IsCharBoundary-from_rest text len n within word_ends
-
-  rest_utf8 : IsUtf8 (drop (len + n) text)
-  rest_utf8 = subst IsUtf8 (drop-drop n len text) (IsUtf8-drop (drop len text) n utf8 word_ends)
-
-  gap_ends : IsCharBoundary (drop (len + n) text) m
-  gap_ends = IsCharBoundary-from_take (drop (len + n) text) m rest_utf8
-      (omega (arith, piece-within, length-drop (len + n) text))
-      (subst IsUtf8 (sym gap_taken) gap_utf8)
-
-  pub piece-ends : IsCharBoundary text (len + n + m)
-  piece-ends = IsCharBoundary-from_rest text (len + n) m (omega (arith, piece-within)) gap_ends
-
-  pub utf8-after : IsUtf8 (drop (len + n + m) text)
-  utf8-after = subst IsUtf8 (drop-drop m (len + n) text)
-      (IsUtf8-drop (drop (len + n) text) m rest_utf8 gap_ends)
+pub stands-at : (text : List ℕ) (at : ℕ) (w : WordText) (after : List ℕ)
+    → drop at text ≡ tile_of w ++ after → IsCharBoundary text at → IsUtf8 (drop at text)
+    → IsMeasured w → StandsAt text at w after
+stands-at text at w after seam begins utf8 measured =
+    let n = length w.word in
+    let m = length w.whitespace in
+    let n_is : at + n - at ≡ n = omega arith in
+    let m_is : at + n + m - (at + n) ≡ m = omega arith in
+    let first = seam ∙ append_assoc w.word w.whitespace after in
+    let word = ap (take n) first ∙ take_at w.word (w.whitespace ++ after) n refl in
+    let past : drop (at + n) text ≡ w.whitespace ++ after = sym (drop-drop n at text)
+    ∙ ap (drop n) first ∙ drop_at w.word (w.whitespace ++ after) n refl in
+    let gap = ap (take m) past ∙ take_at w.whitespace after m refl in
+    let edge = StartsWith-boundary (drop at text) w.word utf8 measured.utf8 word in
+    let word_ends = IsCharBoundary-from_rest text at n begins.0 edge in
+    let utf8_past = subst IsUtf8 (drop-drop n at text) (IsUtf8-drop (drop at text) n utf8 edge) in
+    let end = StartsWith-boundary (drop (at + n) text) w.whitespace utf8_past
+    (blanks-utf8 w.whitespace measured.ending.blanks) gap in
+    record {
+      word = ap (λ k. take k (drop at text)) n_is ∙ word;
+      gap = ap (λ k. take k (drop (at + n) text)) m_is ∙ gap;
+      word_ends = word_ends;
+      ends = IsCharBoundary-from_rest text (at + n) m word_ends.0 end;
+      next = sym (drop-drop m (at + n) text) ∙ ap (drop m) past ∙ drop_at w.whitespace after m refl;
+      utf8 = subst IsUtf8 (drop-drop m (at + n) text) (IsUtf8-drop (drop (at + n) text) m utf8_past end);
+    }
 
 -- ---- the pieces of a text that stand after a place
 
@@ -99,24 +89,18 @@ module _ (text : List ℕ) where
   all-come at [] seam begins utf8 measured = tt
   all-come at (w ∷ ws) seam begins utf8 measured =
       let here = All-head IsMeasured w ws measured in
-      let space = blanks-utf8 w.whitespace here.ending.blanks in
-      let n = length w.word in
-      let m = length w.whitespace in
+      let stands = stands-at text at w (tiled ws) seam begins utf8 here in
       let wide = text_width-le w.word here.utf8 in
-      let width = here.width in
-      let ends = piece-ends text at at n m w.word w.whitespace (tiled ws) (omega arith) begins.0 utf8
-      here.utf8 space refl refl seam in (
+      let width = here.width in (
         record {
           from = omega arith;
           order = omega arith;
-          word_ends = slice-ends text at at n m w.word w.whitespace (tiled ws) (omega arith)
-              begins.0 utf8 here.utf8 space refl refl seam;
-          ends = ends;
+          word_ends = stands.word_ends;
+          ends = stands.ends;
           width = omega (arith, wide, width);
         },
-        all-come (at + n + m) ws (search (rules, arith, place-after)) ends
-            (utf8-after text at at n m w.word w.whitespace (tiled ws) (omega arith) begins.0 utf8
-            here.utf8 space refl refl seam) (All-tail IsMeasured w ws measured),
+        all-come (at + length w.word + length w.whitespace) ws stands.next stands.ends stands.utf8
+            (All-tail IsMeasured w ws measured),
       )
 
 pub pieces-come : (settings : Settings) (splitter : Splitter) (paragraph : List ℕ)

@@ -10,7 +10,6 @@ pub mod LineBounds
 pub mod LineEnding
 pub mod LineSinks
 pub mod LineViews
-pub mod Offsets
 pub mod Options
 pub mod Paragraph
 pub mod PieceLines

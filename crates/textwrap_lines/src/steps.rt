@@ -3,14 +3,13 @@
 ghost use Rattle.std.specs.Prelude.{◌≡◌, ◌<◌, ◌↔◌, IfOk, OnOk, map, true};
 ghost use Rattle.std.specs.Io.{StartsWith};
 ghost use Rattle.std.specs.List.{flat_map};
-ghost use Rattle.textwrap_words.specs.Cuts.{AreCuts, AreInnerCuts, parts_between};
-ghost use Rattle.textwrap_words.specs.LineEnds.{AreEnds, lines_between};
+ghost use Rattle.textwrap_words.specs.Cuts.{AreCuts, AreInnerCuts, IsNextCut, parts_between};
+ghost use Rattle.textwrap_words.specs.LineEnds.{AreEnds, IsNextEnd, lines_between};
 ghost use Rattle.textwrap_words.specs.Words.{Tiles, tiled, word_of, word_view};
 ghost use Rattle.textwrap_lines.specs.Options.{settings_view};
 ghost use Rattle.textwrap_lines.specs.Paragraph.{ArePieces, line_from, line_view, parts_from};
 ghost use Rattle.textwrap_lines.specs.Paragraph.{text_limit};
 ghost use Rattle.textwrap_lines.specs.Places.{ArePlacesOf, HasPlacesMore, division_cuts, further};
-ghost use Rattle.textwrap_lines.specs.Offsets.{IsNextCut, IsNextEnd};
 ghost use Rattle.textwrap_lines.specs.Steps.{AreWordsBetween, pieces_at, split_at};
 
 use crate::frame::Frame;

@@ -1,19 +1,19 @@
 -- The words of a line by options without functions, and what lines of them keep to.
-use Rattle.textwrap_base.proofs.Common.{◌≡◌, ◌≢◌, ℕ, ◌<◌, List, [], ◌∷◌, All, All-cons, All-head}
-use Rattle.textwrap_base.proofs.Common.{All-nil, All-tail, arith, ap, drop, IsUtf8, length, map}
-use Rattle.textwrap_base.proofs.Common.{refl, length-drop, ne_eqb, suc, zero, Bool, append-nil}
+use Rattle.textwrap_base.proofs.Common.{◌≡◌, ◌≢◌, ℕ, ◌<◌, List, [], ◌∷◌, All, All-cons}
+use Rattle.textwrap_base.proofs.Common.{All-nil, arith, ap, drop, IsUtf8, length, map}
+use Rattle.textwrap_base.proofs.Common.{refl, length-drop, ne_eqb, Bool, append-nil}
 use Rattle.textwrap_base.proofs.Common.{rules, Some, subst, sym, true}
 use Rattle.textwrap_base.proofs.Lists.Parts.{length-slice}
 use Rattle.std.specs.List.{slice_range}
-use Rattle.textwrap_base.proofs.Lists.Elements.{increasing-rising, IsRising}
 use Rattle.textwrap_words.proofs.Common.{chunks, stripped, word_of, words_of, WordText, Algorithm}
 use Rattle.textwrap_words.proofs.Common.{ArePoints, Greedy, IsDividedBy, sizes_of, Splitter}
-use Rattle.textwrap_words.proofs.Word.Parts.{parts-texts, inner-cuts}
+use Rattle.textwrap_words.proofs.Word.Cuts.{inner-cuts}
+use Rattle.textwrap_words.proofs.Word.Offsets.{cuts_at-AreInnerCuts}
+use Rattle.textwrap_words.proofs.Word.Parts.{parts-texts}
 use Rattle.textwrap_words.proofs.Word.Pieces.{AreTexts, AreTexts-words, ArePoints-cuts}
 use Rattle.textwrap_words.proofs.Word.Pieces.{ArePoints-hyphens}
 use Rattle.textwrap_words.proofs.Word.Words.{AreChunks-chunks, words_unique}
-use Rattle.textwrap_words.specs.Cuts.{AreInnerCuts, parts_between, parts_onward}
-use Rattle.textwrap_unicode.proofs.CutLemmas.{cuts_at-AreInnerCuts}
+use Rattle.textwrap_words.specs.Cuts.{AreInnerCuts, AreLaterCuts, parts_between, parts_onward}
 use Rattle.textwrap_unicode.specs.Breaks.{breaks_by}
 use Rattle.textwrap_unicode.specs.Cuts.{cuts_by, offsets_of}
 use Rattle.textwrap_unicode.specs.declared.numbers.Numbers.{Numbers}
@@ -43,36 +43,23 @@ words_by-texts (AtBreaks numbers) line utf8 =
 
 -- ---- no part is empty
 
-parts_from-some : (start : ℕ) (cuts line : List ℕ) → IsRising (start ∷ cuts)
-    → start < length line → All (λ cut. cut < length line) cuts
-    → All (λ part. part ≢ []) (parts_onward start cuts line)
-parts_from-some start [] line rising within all =
+parts_from-some : (start : ℕ) (cuts line : List ℕ) → start < length line
+    → AreLaterCuts start line cuts → All (λ part. part ≢ []) (parts_onward start cuts line)
+parts_from-some start [] line within are =
     All-cons (λ part. part ≢ []) (drop start line) []
     (λ none. omega (arith, within, ap length none, length-drop start line))
     (All-nil (λ part. part ≢ []))
-parts_from-some start (cut ∷ cuts) line rising within all =
-    let before : start < cut = rising zero (suc zero) (omega arith) (omega arith) in
-    let here = All-head (λ cut. cut < length line) cut cuts all in
+parts_from-some start (cut ∷ cuts) line within ((after, inside, at), rest) =
     All-cons (λ part. part ≢ []) (slice_range line start cut) (parts_onward cut cuts line)
-    (λ none. omega (arith, before, here, ap length none, length-slice line start cut (omega (arith, before))))
-    (parts_from-some cut cuts line (λ i j lt within. rising (suc i) (suc j) (omega arith) (omega arith)) here
-    (All-tail (λ cut. cut < length line) cut cuts all))
-
-rising-zero : (cuts : List ℕ) → IsRising cuts → All (λ cut. 0 < cut) cuts → IsRising (0 ∷ cuts)
-rising-zero cuts rising after zero zero lt within = absurd (omega (arith, lt))
-rising-zero cuts rising after (suc i) zero lt within = absurd (omega (arith, lt))
-rising-zero cuts rising after zero (suc j) lt within = after j 0 (omega (arith, within))
-rising-zero cuts rising after (suc i) (suc j) lt within =
-    rising i j (omega (arith, lt)) (omega (arith, within))
+    (λ none. omega (arith, after, ap length none, length-slice line start cut (omega (arith, inside))))
+    (parts_from-some cut cuts line inside rest)
 
 parts_between-some : (cuts line : List ℕ) → AreInnerCuts line cuts
     → All (λ part. part ≢ []) (parts_between cuts line)
 parts_between-some cuts [] inner = All-nil (λ part. part ≢ [])
 parts_between-some cuts (c ∷ line) inner =
     rw (ne_eqb (length (c ∷ line)) 0 (λ none. omega (arith, none)))
-    (parts_from-some 0 cuts (c ∷ line)
-    (rising-zero cuts (increasing-rising cuts inner.in_order) inner.after_start) (omega arith)
-    inner.before_end)
+    (parts_from-some 0 cuts (c ∷ line) (omega arith) inner)
 
 -- the words are parts of the line, none of which is empty
 pub record AreSomeParts (words : List WordText) : Type 0 where

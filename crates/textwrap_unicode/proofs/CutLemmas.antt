@@ -1,7 +1,7 @@
--- The code that cuts a line at its breaks: cuts at offsets, and where the pass over a line cuts it.
-use Rattle.textwrap_base.proofs.Common.{encode_utf8_all, flat_map-append, cond, chars_from_encodes}
+-- The code that cuts a line at its breaks: where the pass over a line cuts it.
+use Rattle.textwrap_base.proofs.Common.{encode_utf8_all, cond, chars_from_encodes}
 use Rattle.textwrap_base.proofs.Common.{map-append, encodes-append, IsUtf8-append, encodes-chars}
-use Rattle.textwrap_base.proofs.Common.{All-weaker, Contains, flat_map, All, All-append, IsUtf8-nil}
+use Rattle.textwrap_base.proofs.Common.{All-weaker, flat_map, All, All-append, IsUtf8-nil}
 use Rattle.textwrap_base.proofs.Common.{IsUtf8, All-nil, All-cons, All-head, All-tail, cases_eq}
 use Rattle.textwrap_unicode.proofs.Common.{length-append, cases_Bool, is_any_hyphen}
 use Rattle.textwrap_unicode.proofs.Common.{[], append_assoc, append-nil, breaks_after, numbers_rule}
@@ -12,15 +12,12 @@ use Rattle.textwrap_unicode.proofs.Common.{ne_eqb, ℕ, length, arith, false, en
 use Rattle.textwrap_unicode.proofs.Common.{◌≡◌, ◌++◌, ◌==◌, ◌&&◌, Bool, refl, subst, chars}
 use Rattle.textwrap_unicode.proofs.Common.{◌<◌, ◌∷◌, ◌∙◌, ◌≢◌, ◌+◌, ◌≤◌, not, map, inl, inr, sym}
 use Rattle.textwrap_unicode.proofs.Common.{and}
-use Rattle.std.proofs.lemmas.List.Elements.{All-contains_itself}
 use Rattle.textwrap_base.proofs.Texts.{some-bytes, utf8-front, utf8-back}
 use Rattle.textwrap_words.proofs.Common.{characters, VisibleEnd, TextUnit, is_cut_after}
 use Rattle.textwrap_words.proofs.Common.{Sequence, visible_of, ends_from, cuts_among, visible_in}
-use Rattle.textwrap_words.proofs.Common.{Visible, cuts_at, next_of, shows, stripped, units}
-use Rattle.textwrap_words.proofs.Word.Offsets.{cut-found, cuts_at-cuts, cuts_at-AreCuts, ends_past}
+use Rattle.textwrap_words.proofs.Common.{Visible, next_of, shows, stripped, units}
+use Rattle.textwrap_words.proofs.Word.Offsets.{ends_past}
 use Rattle.textwrap_words.proofs.Word.Offsets.{end_of, ends_in, ends-step}
-use Rattle.textwrap_words.specs.Cuts.{AreInnerCuts}
-use Rattle.textwrap_words.specs.WordOffsets.{IsCutAt}
 use Rattle.textwrap_words.proofs.Word.Parts.{places-above, places_by}
 use Rattle.textwrap_unicode.specs.Cuts.{offsets_of, cuts_by}
 use Rattle.textwrap_words.proofs.Units.Texts.{units-tile}
@@ -28,27 +25,6 @@ use Rattle.textwrap_words.proofs.Units.Reading.{units_in, IsRead, read-ahead, re
 use Rattle.textwrap_words.specs.declared.escapes.State.{State}
 use Rattle.textwrap_words.specs.declared.escapes.State.TheVariants.{Text}
 use Rattle.textwrap_unicode.proofs.BreakLemmas.{breaks_after-from}
-
--- ---- the cuts are inside the line
-
--- each is after a character
-cut-late : (offsets line : List ℕ) (cut : ℕ) → IsCutAt offsets line cut → 0 < cut
-cut-late offsets line cut h =
-    grind (arith, flat_map-append, encodes-append, h.place, length-append, some-bytes)
-
-pub cuts_at-AreInnerCuts : (offsets line : List ℕ) → IsUtf8 line
-    → AreInnerCuts line (cuts_at offsets line)
-cuts_at-AreInnerCuts offsets line utf8 =
-    let cuts = cuts_at offsets line in
-    let are = cuts_at-AreCuts offsets line utf8 in
-    record {
-      in_order = (cuts_at-cuts offsets line).in_order;
-      after_start = All-weaker (Contains cuts) (λ cut. 0 < cut)
-          (λ cut h. cut-late offsets line cut (cut-found offsets line cut h)) cuts
-          (All-contains_itself cuts);
-      before_end = are.in_range;
-      between = are.between;
-    }
 
 -- ---- the cuts that are ahead
 

@@ -1,12 +1,11 @@
 //! Functions of a caller, which say where words and lines end, and a test of lines: what several
 //! tests share.
-ghost use Rattle.std.specs.Prelude.{◌≡◌, ℕ, ◌+◌, ◌<◌, ◌≤◌, ◌==◌, [], ◌∷◌, length, map, IfOk, OnOk};
-ghost use Rattle.std.specs.Prelude.{All, codes, false, IsTrue, if◌then◌else◌, Contains, IsCharBoundary};
+ghost use Rattle.std.specs.Prelude.{◌≡◌, ℕ, ◌+◌, ◌<◌, ◌==◌, [], ◌∷◌, length, map, IfOk, OnOk};
+ghost use Rattle.std.specs.Prelude.{codes, false, IsTrue, if◌then◌else◌, Contains, IsCharBoundary};
 ghost use Rattle.std.specs.List.{range_with_len};
-ghost use Rattle.std.specs.List.Sorted.{IsNonDecreasing};
 ghost use Rattle.std.specs.Str.{bytes_eq};
-ghost use Rattle.textwrap.specs.Cuts.{AreCuts, AreInnerCuts};
-ghost use Rattle.textwrap.specs.LineEnds.{AreEnds};
+ghost use Rattle.textwrap.specs.Cuts.{AreCuts, AreInnerCuts, AreNext};
+ghost use Rattle.textwrap.specs.LineEnds.{AreEnds, IsNextEnd};
 ghost use Rattle.textwrap_vectors.specs.Given.{only_of, only_for, wide_line};
 
 use std::alloc::{AllocError, Global};
@@ -32,8 +31,7 @@ fn ends_of(
     ends: &[usize],
     words: &[Word<'_>],
 ) -> Result<Vec<usize>, AllocError>
-    requires in_order { IsNonDecreasing ends.now }
-    requires within { All (λ end. end ≤ count) ends.now }
+    requires { AreNext (IsNextEnd count) ends.now 0 }
     ensures ends { IfOk result (λ found. found.items ≡ only_for count ends.now words.now) }
     ensures are { IfOk result (λ found. AreEnds words.now found.items) }
 {

@@ -1,6 +1,7 @@
 pub mod Ahead
 pub mod Breaking
 pub mod BrokenPieces
+pub mod Cuts
 pub mod Divisions
 pub mod FirstPieces
 pub mod LineRows

@@ -1,20 +1,35 @@
 -- Where a text is cut.
-use Rattle.std.specs.Prelude.{ℕ, ◌<◌, ◌==◌, List, [], ◌∷◌, All, drop, length, slice_range}
+use Rattle.std.specs.Prelude.{ℕ, ◌<◌, ◌≤◌, ◌==◌, List, [], ◌∷◌, drop, length, slice_range, ⊤}
 use Rattle.std.specs.Prelude.{IsCharBoundary, if◌then◌else◌}
-use Rattle.std.specs.List.Sorted.{IsNonDecreasing, IsStrictlyIncreasing}
+
+-- each offset may follow the one before it, and the first of them the last one
+module _ (IsNext : ℕ → ℕ → Type 0) where
+  abbrev pub AreNext : List ℕ → ℕ → Type 0
+  AreNext [] last = ⊤
+  AreNext (offset ∷ offsets) last = IsNext last offset × AreNext offsets offset
+
+  -- that has one proof at most, so it may be a ghost field
+  pub AreNext-prop : ((last offset : ℕ) → IsProp (IsNext last offset)) → (offsets : List ℕ)
+      (last : ℕ) → IsProp (AreNext offsets last)
+  AreNext-prop each [] last = Prim.hlevel
+  AreNext-prop each (offset ∷ offsets) last =
+      Prim.hlevel (each last offset, AreNext-prop each offsets offset)
+
+-- a text may be cut at this point, which is not before the last one
+abbrev pub IsNextPoint : List ℕ → ℕ → ℕ → Type 0
+IsNextPoint text last point = (last ≤ point) × (point < length text) × IsCharBoundary text point
+
+-- a text may be cut at this offset, after it was cut at the last one
+abbrev pub IsNextCut : List ℕ → ℕ → ℕ → Type 0
+IsNextCut text last cut = (last < cut) × (cut < length text) × IsCharBoundary text cut
 
 -- a text may be cut at these offsets, one after another
-pub record AreCuts (text points : List ℕ) : Type 0 where
-  pub in_order : IsNonDecreasing points
-  pub in_range : All (λ point. point < length text) points
-  pub between : All (IsCharBoundary text) points
+abbrev pub AreCuts : List ℕ → List ℕ → Type 0
+AreCuts text points = AreNext (IsNextPoint text) points 0
 
 -- a text may be cut at these offsets after another one, into parts that are not empty
-pub record AreLaterCuts (start : ℕ) (text cuts : List ℕ) : Type 0 where
-  pub in_order : IsStrictlyIncreasing cuts
-  pub after_start : All (λ cut. start < cut) cuts
-  pub before_end : All (λ cut. cut < length text) cuts
-  pub between : All (IsCharBoundary text) cuts
+abbrev pub AreLaterCuts : ℕ → List ℕ → List ℕ → Type 0
+AreLaterCuts start text cuts = AreNext (IsNextCut text) cuts start
 
 -- a text may be cut at these offsets into parts that are not empty
 abbrev pub AreInnerCuts : List ℕ → List ℕ → Type 0

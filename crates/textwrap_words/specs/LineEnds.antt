@@ -1,11 +1,14 @@
 -- Lines between given ends.
-use Rattle.std.specs.Prelude.{ℕ, ◌≤◌, List, [], ◌∷◌, length, All, slice_range}
-use Rattle.std.specs.List.Sorted.{IsNonDecreasing}
+use Rattle.std.specs.Prelude.{ℕ, ◌≤◌, List, [], ◌∷◌, length, slice_range}
+use Rattle.textwrap_words.specs.Cuts.{AreNext}
+
+-- of so many elements, a line may end so after the last one
+abbrev pub IsNextEnd : ℕ → ℕ → ℕ → Type 0
+IsNextEnd count last end = (last ≤ end) × (end ≤ count)
 
 -- lines of these elements may end so: no line ends before the one before it, or past the elements
-pub record AreEnds {X : Type 0} (xs : List X) (ends : List ℕ) : Type 0 where
-  pub in_order : IsNonDecreasing ends
-  pub within : All (λ end. end ≤ length xs) ends
+abbrev pub AreEnds : {X : Type 0} → List X → List ℕ → Type 0
+AreEnds xs ends = AreNext (IsNextEnd (length xs)) ends 0
 
 -- the lines, each from where the one before it ends to its own end
 abbrev pub lines_from : {X : Type 0} → List X → ℕ → List ℕ → List (List X)

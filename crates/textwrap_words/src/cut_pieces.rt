@@ -4,7 +4,8 @@ ghost use Rattle.std.specs.Prelude.{◌≡◌, ◌-◌, ◌<◌, ◌≤◌, fals
 ghost use Rattle.std.specs.Prelude.{if◌then◌else◌, IsCharBoundary};
 ghost use Rattle.textwrap_words.specs.Blanks.{trimmed_len};
 ghost use Rattle.textwrap_words.specs.Breaking.{broken_words};
-ghost use Rattle.textwrap_words.specs.Cuts.{AreInnerCuts, AreLaterCuts, parts_after};
+ghost use Rattle.std.proofs.Props.{props};
+ghost use Rattle.textwrap_words.specs.Cuts.{AreInnerCuts, AreLaterCuts, AreNext-prop, parts_after};
 ghost use Rattle.textwrap_words.specs.Cuts.{parts_between};
 ghost use Rattle.textwrap_words.specs.Pieces.{as_splitter, empty_front, stand_from, IsFirstWithin};
 ghost use Rattle.textwrap_words.specs.WordSplitters.{split_words};
@@ -35,7 +36,7 @@ pub struct CutPieces<'t, 'c> {
     ghost starts: { IsCharBoundary text.now start },
     ghost ends: { IsCharBoundary text.now end },
     ghost order: { start ≤ end },
-    ghost later: { AreLaterCuts end text.now cuts.now },
+    ghost later: { AreLaterCuts end text.now cuts.now } by { Prim.hlevel (AreNext-prop, props) },
     ghost from: { start ≤ at },
     ghost boundary: { IsCharBoundary (slice_range text.now start end) (at - start) },
     ghost trimmed: { word_len ≡ trimmed_len (slice_range text.now start end) },

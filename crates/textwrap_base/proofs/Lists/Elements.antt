@@ -4,11 +4,11 @@ use Rattle.textwrap_base.proofs.Common.{◌≡◌, ◌++◌, refl, take, arith, 
 use Rattle.textwrap_base.proofs.Common.{List, map_push, take_more, append-nil, false≢true}
 use Rattle.textwrap_base.proofs.Common.{[], map-append, append_assoc, length-append, get_or_default}
 use Rattle.textwrap_base.proofs.Common.{◌∷◌, map, ◌∙◌, ◌-◌, drop, ◌+◌, Bool, true, cond, zero, ◌==◌}
-use Rattle.textwrap_base.proofs.Common.{ap, ◌<◌, sym, ◌≤◌, suc, All, ◌*◌, ◌⊎◌, inl, inr, Ok, Err}
+use Rattle.textwrap_base.proofs.Common.{ap, ◌<◌, sym, ◌≤◌, suc, ◌*◌, ◌⊎◌, inl, inr, Ok, Err}
 use Rattle.textwrap_base.proofs.Common.{reverse, ℕ, length, get_or, drop_at, map-id, filter, repeat}
 use Rattle.textwrap_base.proofs.Common.{reverse-append, join_with_byte, range_with_len}
 use Rattle.textwrap_base.proofs.Common.{flat_map, Contains, list_any, cases_lt, eqb-true, cases_eq}
-use Rattle.textwrap_base.proofs.Common.{IsNonDecreasing, map-range_with_len_more, All-from_get_or}
+use Rattle.textwrap_base.proofs.Common.{map-range_with_len_more, All-from_get_or}
 use Rattle.std.proofs.Common.{Iter}
 use Rattle.std.proofs.lemmas.List.{flat_map_more}
 use mathlib.Core.List.{reverse_aux}
@@ -19,7 +19,6 @@ use Rattle.std.specs.declared.iter.Copied.{Copied}
 use Rattle.std.proofs.lemmas.Iterator.{items_from_drains, YieldsList-from_slice}
 use Rattle.std.proofs.lemmas.Iterator.Consumers.{YieldsList-from_copied}
 use Rattle.std.proofs.lemmas.List.Elements.{filter-append}
-use Rattle.std.proofs.lemmas.List.FromFn.{get_or-range_with_len, length-range_with_len}
 use Rattle.std.specs.List.Sorted.{IsStrictlyIncreasing}
 use Rattle.std.specs.Result.{MatchResult, is_ok}
 use Rattle.std.proofs.lemmas.Bool.{or_cases}
@@ -94,12 +93,6 @@ pub points-more : (test : ℕ → Bool) (point : ℕ) (items more : List ℕ) (b
     → more ≡ filter test (range_with_len 1 (point + 1 - 1))
 points-more test point items more b start so_far passes is =
     grind (arith, filter-one, range-more, filter-append)
-
-pub range-in_order : (a n : ℕ) → IsNonDecreasing (range_with_len a n)
-range-in_order a n = grind (arith, length-range_with_len, get_or-range_with_len)
-
-pub range-within : (a n : ℕ) → All (λ p. (a ≤ p) × (p < a + n)) (range_with_len a n)
-range-within a n = grind (arith, length-range_with_len, get_or-range_with_len)
 
 pub range-split : (a n m : ℕ) → range_with_len a (n + m) ≡ range_with_len a n ++ range_with_len (a + n) m
 range-split a zero m = grind arith

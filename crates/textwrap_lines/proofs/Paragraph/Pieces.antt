@@ -27,7 +27,8 @@ use Rattle.textwrap_words.proofs.Word.Pieces.{AreTexts, AreSplitWords, split-mea
 use Rattle.textwrap_words.proofs.Word.Pieces.{AreSplit-no_penalty, split_pieces_of, AreSplit-is}
 use Rattle.textwrap_words.proofs.Word.Pieces.{AreSplit-computed, AreTexts-words, ArePoints-cuts}
 use Rattle.textwrap_words.proofs.Word.Pieces.{ArePoints-hyphens}
-use Rattle.textwrap_words.proofs.Word.Parts.{parts-texts, inner-cuts}
+use Rattle.textwrap_words.proofs.Word.Cuts.{inner-cuts}
+use Rattle.textwrap_words.proofs.Word.Parts.{parts-texts}
 use Rattle.textwrap_lines.specs.Direct.{CanBeCut, words_cut}
 use Rattle.textwrap_words.specs.declared.wrap_algorithms.WrapAlgorithm as algorithms
 use Rattle.textwrap_words.specs.declared.word_separators.WordSeparator as separators

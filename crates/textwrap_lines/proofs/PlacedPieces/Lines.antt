@@ -23,8 +23,8 @@ use Rattle.textwrap_words.proofs.Word.Words.{IsMeasured, tiled-append}
 use Rattle.textwrap_lines.specs.Cheapest.{SuitSearch}
 use Rattle.textwrap_lines.specs.Spans.{span_sizes, span_line, bounds_to}
 use Rattle.textwrap_lines.specs.LineBounds.{AreBounds}
-use Rattle.textwrap_lines.proofs.PieceLines.{piece-ends, slice-ends, utf8-after, slice-pieces}
-use Rattle.textwrap_lines.proofs.Paragraph.LeftOff.{blanks-utf8, assembled-parts}
+use Rattle.textwrap_lines.proofs.PieceLines.{slice-pieces, stands-at}
+use Rattle.textwrap_lines.proofs.Paragraph.LeftOff.{assembled-parts}
 use Rattle.textwrap_lines.proofs.Text.Sinks.{cut_lines-next}
 
 -- ---- the spans of pieces, one after another
@@ -245,38 +245,27 @@ module _ (text : List ℕ) where
       → All IsMeasured (w ∷ ws)
       → EndsLine text at (w ∷ ws) (last_span (spans_from at columns (w ∷ ws)))
   ends-line at columns w [] after seam begins utf8 measured =
-      let here = All-head IsMeasured w [] measured in
-      let space = blanks-utf8 w.whitespace here.ending.blanks in
-      let next : drop at text ≡ (w.word ++ w.whitespace) ++ after =
-      seam ∙ ap (λ l. l ++ after) (append-nil (tile_of w)) in
+      let stands = stands-at text at w after (seam ∙ ap (λ l. l ++ after) (append-nil (tile_of w)))
+      begins utf8 (All-head IsMeasured w [] measured) in
       record {
         word_end = refl;
         end = omega (arith, length-append w.word w.whitespace, ap length (append-nil (tile_of w)));
         may = record {
           start = begins;
-          word = slice-ends text at at (length w.word) (length w.whitespace) w.word w.whitespace
-              after (omega arith) begins.0 utf8 here.utf8 space refl refl next;
-          end = piece-ends text at at (length w.word) (length w.whitespace) w.word w.whitespace
-              after (omega arith) begins.0 utf8 here.utf8 space refl refl next;
+          word = stands.word_ends;
+          end = stands.ends;
           some = omega arith;
           order = omega arith;
         };
       }
   ends-line at columns w (v ∷ vs) after seam begins utf8 measured =
-      let here = All-head IsMeasured w (v ∷ vs) measured in
-      let space = blanks-utf8 w.whitespace here.ending.blanks in
       let m = length w.word in
       let n = length w.whitespace in
-      let rest = tiled (v ∷ vs) ++ after in
-      let next : drop at text ≡ (w.word ++ w.whitespace) ++ rest =
-      seam ∙ append_assoc (tile_of w) (tiled (v ∷ vs)) after in
-      let boundary = piece-ends text at at m n w.word w.whitespace rest (omega arith) begins.0 utf8
-      here.utf8 space refl refl next in
-      let then : drop (at + m + n) text ≡ rest = simp (← drop-drop, next, append_assoc, drop_at) in
-      let utf8_then = utf8-after text at at m n w.word w.whitespace rest (omega arith) begins.0 utf8
-      here.utf8 space refl refl next in
-      let ends = ends-line (at + m + n) (columns + w.width + n) v vs after then boundary utf8_then
-      (All-tail IsMeasured w (v ∷ vs) measured) in
+      let stands = stands-at text at w (tiled (v ∷ vs) ++ after)
+      (seam ∙ append_assoc (tile_of w) (tiled (v ∷ vs)) after) begins utf8
+      (All-head IsMeasured w (v ∷ vs) measured) in
+      let ends = ends-line (at + m + n) (columns + w.width + n) v vs after stands.next stands.ends
+      stands.utf8 (All-tail IsMeasured w (v ∷ vs) measured) in
       search (rules, arith, last_span-cons, length-append)
 
 -- ---- the last piece of a line

@@ -1,6 +1,6 @@
 //! The points of a paragraph that are inside one of its words.
 ghost use Rattle.std.specs.Prelude.{◌≡◌, ◌+◌, ◌^◌, ◌<◌, IfOk, filter};
-ghost use Rattle.std.specs.List.Sorted.{IsStrictlyIncreasing};
+ghost use Rattle.std.specs.List.Sorted.{IsNonDecreasing};
 ghost use Rattle.textwrap_lines.specs.Steps.{is_between, points_within};
 
 use std::alloc::{AllocError, Allocator};
@@ -13,7 +13,7 @@ pub(crate) fn points_within<A: Allocator>(
     start: usize,
     len: usize,
 ) -> Result<Vec<usize, A>, AllocError>
-    requires increasing { IsStrictlyIncreasing points.now }
+    requires in_order { IsNonDecreasing points.now }
     requires fits { start + len < 2 ^ 63 }
     ensures { IfOk result (λ inner. inner.items ≡ points_within start len points.now) }
 {
@@ -27,7 +27,7 @@ pub(crate) fn points_within<A: Allocator>(
 
 /// The points between two places.
 fn points_between(points: &[usize], start: usize, end: usize) -> &[usize]
-    requires { IsStrictlyIncreasing points.now }
+    requires { IsNonDecreasing points.now }
     ensures { result.now ≡ filter (is_between start end) points.now }
 {
     let later = &points[points.partition_point(|point| *point <= start)..];

@@ -6,13 +6,11 @@ use Rattle.std.proofs.Common.{length-append}
 use Rattle.std.specs.List.{flat_map}
 use Rattle.std.proofs.lemmas.List.Elements.{All-head, All-tail}
 use Rattle.std.proofs.lemmas.Str.{IsCharBoundary-start}
-use Rattle.textwrap.specs.Cuts.{AreInnerCuts}
+use Rattle.textwrap.specs.Cuts.{AreInnerCuts, AreLaterCuts}
 use Rattle.textwrap.specs.Words.{WordText, chunks, tile_of, tiled, word_of, words_of}
 use Rattle.textwrap_words.proofs.Word.Texts.{chunks-utf8}
 use Rattle.textwrap_words.proofs.Word.Words.{join-chunks, tile_of-word_of, tiled-words_of}
 use Rattle.textwrap_words.proofs.Word.Words.{AreChunks-chunks}
-use Rattle.textwrap_lines.specs.Offsets.{AreNext, IsNextCut}
-use Rattle.textwrap_lines.proofs.InSteps.{next-inner}
 use Rattle.textwrap_uses.specs.Hyphens.{begins_from, later_begins}
 use Rattle.textwrap_uses.proofs.Dictionary.Parts.{boundary-in, part-after, part-fits}
 
@@ -29,7 +27,7 @@ IsSome part = part ≢ []
 -- where the parts begin that a text goes on with, it may be cut
 begins-next : (text : List ℕ) (parts : List (List ℕ)) (at last : ℕ) → last < at → at ≤ length text
     → drop at text ≡ flat parts → All IsUtf8 parts → All IsSome parts
-    → AreNext (IsNextCut text) (begins_from at (map word_of parts)) last
+    → AreLaterCuts last text (begins_from at (map word_of parts))
 begins-next text [] at last after within stands utf8 some = tt
 begins-next text (part ∷ parts) at last after within stands utf8 some =
     let fits = part-fits text part (flat parts) at stands within in
@@ -44,14 +42,14 @@ begins-next text (part ∷ parts) at last after within stands utf8 some =
         subst (IsCharBoundary text) here
             (boundary-in text part (flat parts) at stands within 0 long start),
       ),
-      subst (λ n. AreNext (IsNextCut text) (begins_from n (map word_of parts)) at) next
+      subst (λ n. AreLaterCuts at text (begins_from n (map word_of parts))) next
           (begins-next text parts (at + length part) at (omega (arith, long))
           (omega (arith, fits)) (part-after text part (flat parts) at stands within)
           (All-tail IsUtf8 part parts utf8) (All-tail IsSome part parts some)),
     )
 
 later-next : (text : List ℕ) (parts : List (List ℕ)) → flat parts ≡ text → All IsUtf8 parts
-    → All IsSome parts → AreNext (IsNextCut text) (later_begins (map word_of parts)) 0
+    → All IsSome parts → AreInnerCuts text (later_begins (map word_of parts))
 later-next text [] tile utf8 some = tt
 later-next text (part ∷ parts) tile utf8 some =
     let fits = part-fits text part (flat parts) 0 (sym tile) (omega arith) in
@@ -59,7 +57,7 @@ later-next text (part ∷ parts) tile utf8 some =
     let len : length part ≡ length (tile_of (word_of part)) =
     sym (ap length (tile_of-word_of part)) in
     let zero : 0 + length part ≡ length part = omega arith in
-    subst (λ n. AreNext (IsNextCut text) (begins_from n (map word_of parts)) 0) len
+    subst (λ n. AreInnerCuts text (begins_from n (map word_of parts))) len
     (begins-next text parts (length part) 0 long (omega (arith, fits))
     (subst (λ n. drop n text ≡ flat parts) zero
     (part-after text part (flat parts) 0 (sym tile) (omega arith)))
@@ -69,9 +67,8 @@ later-next text (part ∷ parts) tile utf8 some =
 pub cuts-are : (paragraph : List ℕ) → IsUtf8 paragraph
     → AreInnerCuts paragraph (later_begins (words_of paragraph))
 cuts-are paragraph utf8 =
-    next-inner paragraph (later_begins (words_of paragraph))
-    (later-next paragraph (chunks paragraph) (join-chunks paragraph)
-    (chunks-utf8 paragraph utf8) (AreChunks-chunks paragraph).nonempty)
+    later-next paragraph (chunks paragraph) (join-chunks paragraph) (chunks-utf8 paragraph utf8)
+    (AreChunks-chunks paragraph).nonempty
 
 -- the words after the first begin where it ends
 pub begins-first : (w : WordText) (words left : List WordText) → words ≡ w ∷ left

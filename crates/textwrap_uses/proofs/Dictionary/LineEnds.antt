@@ -4,11 +4,10 @@ use Rattle.std.proofs.Common.{refl, sym, ap, ◌∙◌, arith, append-nil, lengt
 use Rattle.std.proofs.Common.{length-drop, slice_range}
 use Rattle.std.proofs.lemmas.List.{drop-drop, drop_at, take_at}
 use Rattle.textwrap.specs.Division.{IsDivision}
-use Rattle.textwrap.specs.LineEnds.{AreEnds, lines_between, lines_from}
+use Rattle.textwrap.specs.Cuts.{AreNext}
+use Rattle.textwrap.specs.LineEnds.{AreEnds, IsNextEnd, lines_between, lines_from}
 use Rattle.textwrap.proofs.Dividing.{IsDivision-whole}
 use Rattle.std.specs.List.{flat_map}
-use Rattle.textwrap_lines.specs.Offsets.{AreNext, IsNextEnd}
-use Rattle.textwrap_lines.proofs.InSteps.{next-ends}
 
 module _ {X : Type 0} where
   -- the elements of lines, one after another
@@ -62,8 +61,7 @@ module _ {X : Type 0} where
     module _ (lines : List (List X)) (division : IsDivision xs lines) where
       pub division-ends : AreEnds xs (ends_from 0 lines)
       division-ends =
-          next-ends (length xs) xs (ends_from 0 lines) refl
-          (ends-next-from lines 0 (sym (IsDivision-whole xs lines division)) (omega arith))
+          ends-next-from lines 0 (sym (IsDivision-whole xs lines division)) (omega arith)
 
       -- the lines between these ends are the lines
       pub division-lines : lines_between (ends_from 0 lines) xs ≡ lines

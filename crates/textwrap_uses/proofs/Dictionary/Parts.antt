@@ -3,7 +3,7 @@ use Rattle.std.proofs.Common.{◌≡◌, ℕ, ◌+◌, ◌<◌, ◌≤◌, List,
 use Rattle.std.proofs.Common.{get_or, drop, refl, sym, ap, ◌∙◌, arith, IsCharBoundary}
 use Rattle.std.proofs.Common.{length-append, length-drop}
 use Rattle.std.proofs.lemmas.List.{drop-drop, drop_at, get_or-drop, get_or_append_left}
-use Rattle.textwrap_lines.specs.Offsets.{AreNext, IsNextCut}
+use Rattle.textwrap.specs.Cuts.{AreLaterCuts}
 
 module _ (text part rest : List ℕ) (at : ℕ) (stands : drop at text ≡ part ++ rest) where
   pub part-fits : at ≤ length text → at + length part + length rest ≡ length text
@@ -32,7 +32,7 @@ module _ (text part rest : List ℕ) (at : ℕ) (stands : drop at text ≡ part 
 
 -- cuts that may follow an offset may follow a lower one
 pub cuts-lower : (text cuts : List ℕ) (low last : ℕ) → low ≤ last
-    → AreNext (IsNextCut text) cuts last → AreNext (IsNextCut text) cuts low
+    → AreLaterCuts last text cuts → AreLaterCuts low text cuts
 cuts-lower text [] low last below are = tt
 cuts-lower text (cut ∷ cuts) low last below ((after, before, at), rest) =
     ((omega (arith, below, after), before, at), rest)

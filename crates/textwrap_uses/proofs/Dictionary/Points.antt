@@ -2,11 +2,9 @@
 use Rattle.std.proofs.Common.{◌≡◌, ◌↔◌, ℕ, ◌+◌, ◌≤◌, List, [], ◌∷◌, ◌++◌, length, map, drop, sym}
 use Rattle.std.proofs.Common.{ap, ◌∙◌, arith, append_assoc, length-append}
 use Rattle.std.proofs.lemmas.List.Elements.{All-cons, All-head, All-tail}
-use Rattle.textwrap.specs.Cuts.{AreInnerCuts}
+use Rattle.textwrap.specs.Cuts.{AreInnerCuts, AreLaterCuts}
 use Rattle.textwrap.specs.Words.{WordText, tile_of, tiled, words_of}
 use Rattle.textwrap_words.proofs.Word.Words.{tiled-words_of}
-use Rattle.textwrap_lines.specs.Offsets.{AreNext, IsNextCut}
-use Rattle.textwrap_lines.proofs.InSteps.{inner-next, next-inner}
 use Rattle.textwrap_uses.specs.Hyphens.{HaveRightPoints, points_for, points_in}
 use Rattle.textwrap_uses.specs.declared.hyphens.Entry.{Entry}
 use Rattle.textwrap_uses.proofs.Dictionary.Parts.{boundary-in, cuts-lower, part-after, part-fits}
@@ -14,8 +12,8 @@ use Rattle.textwrap_uses.proofs.Dictionary.Parts.{boundary-in, cuts-lower, part-
 -- the cuts of a part, and after them those of the text that follow the part
 cuts-shifted : (text part rest : List ℕ) (at : ℕ) → drop at text ≡ part ++ rest → at ≤ length text
     → (cuts more : List ℕ) (last low : ℕ) → low ≤ at + last → last ≤ length part
-    → AreNext (IsNextCut part) cuts last → AreNext (IsNextCut text) more (at + length part)
-    → AreNext (IsNextCut text) (map (λ cut. at + cut) cuts ++ more) low
+    → AreLaterCuts last part cuts → AreLaterCuts (at + length part) text more
+    → AreLaterCuts low text (map (λ cut. at + cut) cuts ++ more)
 cuts-shifted text part rest at stands within [] more last low below inside are after =
     cuts-lower text more low (at + length part) (omega (arith, below, inside)) after
 cuts-shifted text part rest at stands within (cut ∷ cuts) more last low below inside
@@ -45,7 +43,7 @@ module _ (dictionary : List Entry) where
   -- the points of words that a text goes on with are cuts of it, one after another
   points-next : (text : List ℕ) (words : List WordText) (at : ℕ) → at ≤ length text
       → drop at text ≡ tiled words → HaveRightPoints dictionary words
-      → AreNext (IsNextCut text) (points_in dictionary at words) at
+      → AreLaterCuts at text (points_in dictionary at words)
   points-next text [] at within stands right = tt
   points-next text (w ∷ words) at within stands right =
       let tile = tile_of w in
@@ -56,7 +54,7 @@ module _ (dictionary : List Entry) where
       let more = points_in dictionary (at + length tile) words in
       cuts-shifted text w.word (w.whitespace ++ tiled words) at here within
       (points_for dictionary w.word) more 0 at (omega arith) (omega arith)
-      (inner-next w.word (points_for dictionary w.word) first)
+      first
       (cuts-lower text more (at + length w.word) (at + length tile)
       (omega (arith, length-append w.word w.whitespace))
       (points-next text words (at + length tile) (omega (arith, fits))
@@ -66,9 +64,7 @@ module _ (dictionary : List Entry) where
   pub points-are : (paragraph : List ℕ) → HaveRightPoints dictionary (words_of paragraph)
       → AreInnerCuts paragraph (points_in dictionary 0 (words_of paragraph))
   points-are paragraph right =
-      next-inner paragraph (points_in dictionary 0 (words_of paragraph))
-      (points-next paragraph (words_of paragraph) 0 (omega arith)
-      (sym (tiled-words_of paragraph)) right)
+      points-next paragraph (words_of paragraph) 0 (omega arith) (sym (tiled-words_of paragraph)) right
 
   -- the points so far, with those of the word that comes next
   pub points-step : (w : WordText) (words left : List WordText) (start : ℕ)

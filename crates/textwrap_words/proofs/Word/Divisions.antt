@@ -1,13 +1,14 @@
 -- Lemmas on what an algorithm may divide, also one of a caller: its lines are the first elements in
 -- order, and along a view they are those of what the view gives.
-use Rattle.textwrap_base.proofs.Common.{◌≡◌, append_assoc, append-nil, slice_range, IsNonDecreasing}
-use Rattle.textwrap_base.proofs.Common.{◌≢◌, suc, List, drop, refl, subst, arith, Some, None, ◌++◌}
-use Rattle.textwrap_base.proofs.Common.{ℕ, length, get_or, map-id, take-map, length-map, drop_split}
-use Rattle.textwrap_base.proofs.Common.{◌≤◌, ◌<◌, [], ◌∷◌, map, sym, ap, ◌∙◌, Ok}
+use Rattle.textwrap_base.proofs.Common.{◌≡◌, append_assoc, append-nil, slice_range}
+use Rattle.textwrap_base.proofs.Common.{◌≢◌, List, drop, refl, subst, arith, Some, None, ◌++◌}
+use Rattle.textwrap_base.proofs.Common.{ℕ, length, map-id, take-map, length-map, drop_split}
+use Rattle.textwrap_base.proofs.Common.{◌<◌, [], ◌∷◌, map, sym, ap, ◌∙◌, Ok}
 use Rattle.textwrap_words.proofs.Common.{WordText, sizes_of, Greedy, LeastCost, IsDividedBy}
 use Rattle.textwrap_words.proofs.Common.{MayDivide, algorithm_view}
 use Rattle.std.proofs.lemmas.List.{drop-map}
-use Rattle.textwrap_words.specs.LineEnds.{AreEnds, lines_from}
+use Rattle.textwrap_words.specs.Cuts.{AreNext}
+use Rattle.textwrap_words.specs.LineEnds.{AreEnds, IsNextEnd, lines_from}
 use Rattle.textwrap_words.specs.WrapAlgorithms.{MayEnd}
 use Rattle.textwrap_words.specs.declared.wrap_algorithms.WrapAlgorithm.{WrapAlgorithm}
 use Rattle.textwrap_words.specs.declared.wrap_algorithms.WrapAlgorithm.TheVariants.{FirstFit}
@@ -18,18 +19,14 @@ use Rattle.textwrap_base.proofs.Division.Map.{IsDividedBy-map, IsDividedBy-whole
 use Rattle.textwrap_base.proofs.Lists.Parts.{flat, Begins}
 
 -- up to an end, the lines are the first elements from a place on
-pub lines_from-begin : {X : Type 0} (xs : List X) (start : ℕ) (ends : List ℕ) → IsNonDecreasing ends
-    → ((k : ℕ) → k < length ends → start ≤ get_or ends k 0)
-    → Begins (drop start xs) (flat (lines_from xs start ends))
-lines_from-begin xs start [] in_order before = (drop start xs, refl)
-lines_from-begin xs start (end ∷ ends) in_order before =
-    let (rest, is) = lines_from-begin xs end ends
-    (λ i j d le lt. in_order (suc i) (suc j) d (omega arith) (omega arith))
-    (λ k lt. in_order 0 (suc k) 0 (omega arith) (omega arith)) in (
+pub lines_from-begin : {X : Type 0} (xs : List X) (start : ℕ) (ends : List ℕ)
+    → AreNext (IsNextEnd (length xs)) ends start → Begins (drop start xs) (flat (lines_from xs start ends))
+lines_from-begin xs start [] are = (drop start xs, refl)
+lines_from-begin xs start (end ∷ ends) ((after, _), next) =
+    let (rest, is) = lines_from-begin xs end ends next in (
       rest,
       append_assoc (slice_range xs start end) (flat (lines_from xs end ends)) rest
-          ∙ ap (λ l. slice_range xs start end ++ l) is
-          ∙ sym (drop_split xs start end (before 0 (omega arith))),
+          ∙ ap (λ l. slice_range xs start end ++ l) is ∙ sym (drop_split xs start end after),
     )
 
 pub lines_from-map : {X Y : Type 0} (f : X → Y) (xs : List X) (start : ℕ) (ends : List ℕ)
@@ -82,8 +79,7 @@ module _ {F : Type 0} {f : _} where
   )
   MayDivide-begins (Custom given) view widths xs lines (ends, may, is) =
       subst (λ ls. Begins xs (flat ls)) (sym is)
-      (lines_from-begin xs 0 ends (MayEnd-ends given view xs widths ends may).in_order
-      (λ k lt. omega arith))
+      (lines_from-begin xs 0 ends (MayEnd-ends given view xs widths ends may))
 
   -- there is a line at least
   pub MayDivide-some : {X : Type 0} (algorithm : WrapAlgorithm F f) (view : X → WordText)

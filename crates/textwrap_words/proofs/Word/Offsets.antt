@@ -1,24 +1,24 @@
 -- Offsets of the visible text of a line, and the cuts of the line there.
 use Rattle.textwrap_base.proofs.Common.{inl, inr, ◌≡◌, ◌≢◌, ◌+◌, eqb, ◌∷◌, ◌++◌, ◌∙◌, ◌↔◌, ◌<◌, map}
 use Rattle.textwrap_base.proofs.Common.{cases_Bool, flat_map, All-weaker, append_assoc}
-use Rattle.textwrap_base.proofs.Common.{ℕ, [], sym, All, ◌≤◌}
+use Rattle.textwrap_base.proofs.Common.{ℕ, [], sym, ◌≤◌}
 use Rattle.textwrap_base.proofs.Common.{Bool, cond, List, take, refl, ap, true, subst, rules, false}
-use Rattle.textwrap_base.proofs.Common.{length, arith, Contains, zero-add, lt-ltb, All-nil, IsUtf8}
+use Rattle.textwrap_base.proofs.Common.{length, arith, Contains, zero-add, lt-ltb, IsUtf8}
 use Rattle.textwrap_base.proofs.Common.{add-zero, encode_utf8_all, encodes-append, flat_map-append}
-use Rattle.textwrap_base.proofs.Common.{length-append, length-encode, IsCharBoundary, encodes-chars}
+use Rattle.textwrap_base.proofs.Common.{length-append, IsCharBoundary, encodes-chars}
 use Rattle.textwrap_words.proofs.Common.{ends_from, VisibleEnd, units_text, characters, cuts_among}
 use Rattle.textwrap_words.proofs.Common.{escape_len, shows, units_past, is_cut_after, parts_between}
 use Rattle.textwrap_words.proofs.Common.{next_of, taken_in, TextUnit, Sequence, shown_len, stripped}
-use Rattle.textwrap_words.proofs.Common.{Visible, units, WordText, word_of, cuts_at, AreCuts}
+use Rattle.textwrap_words.proofs.Common.{Visible, units, WordText, word_of, cuts_at}
 use lib.Utf8.{encode}
 use Rattle.textwrap_words.specs.declared.escapes.State.{State}
 use Rattle.textwrap_words.specs.declared.escapes.State.TheVariants.{Text, Escape, Control, Command}
 use Rattle.textwrap_words.proofs.Units.Reading.{taken-step, units_in}
-use Rattle.textwrap_base.proofs.Texts.{past-one, one-text, utf8-back}
+use Rattle.textwrap_base.proofs.Texts.{past-one, one-text, utf8-back, some-bytes}
 use Rattle.textwrap_base.proofs.Lists.Elements.{contains-nil, contains-cases, contains-later}
-use Rattle.textwrap_base.proofs.Lists.Elements.{contains-here, IsRising, any-contains, contains-any}
-use Rattle.textwrap_base.proofs.Lists.Elements.{rising-increasing, increasing-rising}
-use Rattle.textwrap_base.proofs.Lists.Elements.{rising-in_order, same-members, increasing-le}
+use Rattle.textwrap_base.proofs.Lists.Elements.{contains-here, any-contains, contains-any}
+use Rattle.textwrap_base.proofs.Lists.Elements.{increasing-rising}
+use Rattle.textwrap_base.proofs.Lists.Elements.{rising-in_order, same-members}
 use Rattle.std.specs.Str.{chars}
 use Rattle.std.specs.Prelude.{◌&&◌}
 use Rattle.textwrap_words.specs.Characters.{characters_from, characters_of, shown_text}
@@ -26,9 +26,11 @@ use Rattle.textwrap_words.proofs.Units.Characters.{AreAhead, ahead-next, ahead-s
 use Rattle.textwrap_words.proofs.Units.Characters.{shown-next}
 use Rattle.textwrap_words.specs.declared.characters.Character.{Character}
 use Rattle.std.proofs.lemmas.Bool.{not_from_false}
+use Rattle.textwrap_words.specs.Cuts.{AreInnerCuts, AreNext, IsNextCut}
+use Rattle.textwrap_words.proofs.Word.Cuts.{next-increasing, next-with}
+use Rattle.std.specs.List.Sorted.{IsStrictlyIncreasing}
 use Rattle.textwrap_words.specs.WordOffsets.{IsCutAt, AreCutsAt, AreWordsAt, words_at}
 use Rattle.std.proofs.lemmas.List.Elements.{All-contains_itself}
-use Rattle.std.proofs.lemmas.List.Sorted.{IsNonDecreasingBy-from_default}
 use Rattle.std.proofs.lemmas.Str.{IsCharBoundary-at_seam}
 use Rattle.textwrap_words.proofs.Units.Texts.{units-tile}
 
@@ -172,23 +174,19 @@ found-contains offsets total (Sequence cs ∷ before) after c at shown passes =
 -- ---- the computed cuts are the cuts
 
 -- they are in order
-among-above : (offsets : List ℕ) (total : ℕ) (us : List TextUnit) (at shown : ℕ)
-    → All (λ cut. at < cut) (cuts_among offsets total (ends_from at shown us))
-among-above offsets total [] at shown = All-nil (λ cut. at < cut)
-among-above offsets total (Sequence cs ∷ us) at shown =
-    grind (arith, All-weaker, among-above offsets total us (at + length (encode_utf8_all cs)) shown)
-among-above offsets total (Visible c ∷ us) at shown =
-    let len = length (encode c) in
-    grind (arith, length-encode, among-above offsets total us (at + len) (shown + len))
-
-among-rising : (offsets : List ℕ) (total : ℕ) (us : List TextUnit) (at shown : ℕ)
-    → IsRising (cuts_among offsets total (ends_from at shown us))
-among-rising offsets total [] at shown = λ i j lt within. absurd (omega arith)
-among-rising offsets total (Sequence cs ∷ us) at shown =
-    among-rising offsets total us (at + length (encode_utf8_all cs)) shown
-among-rising offsets total (Visible c ∷ us) at shown =
-    let len = length (encode c) in
-    search (rules, among-above, among-rising offsets total us (at + len) (shown + len))
+among-next : (offsets : List ℕ) (total : ℕ) (us : List TextUnit) (at shown last : ℕ) → last ≤ at
+    → AreNext (λ a b. a < b) (cuts_among offsets total (ends_from at shown us)) last
+among-next offsets total [] at shown last below = tt
+among-next offsets total (Sequence cs ∷ us) at shown last below =
+    among-next offsets total us (at + length (encode_utf8_all cs)) shown last (omega (arith, below))
+among-next offsets total (Visible c ∷ us) at shown last below =
+    let end = at + length (encode c) in
+    let above : last < end = omega (arith, below, some-bytes c) in
+    let rest = among-next offsets total us end (shown + length (encode c)) in
+    elim (cases_Bool (is_cut_after offsets total c (shown + length (encode c)))) [
+      | inl t ↦ rw t (above, rest end (omega arith))
+      | inr f ↦ rw f (rest last (omega (arith, above)))
+    ]
 
 pub cut-found : (offsets line : List ℕ) (cut : ℕ) → Contains (cuts_at offsets line) cut
     → IsCutAt offsets line cut
@@ -208,17 +206,30 @@ cut-contained offsets line cut h =
     (subst (Contains (cuts_among offsets total (ends_from 0 0 (front ++ h.after)))) place
     (found-contains offsets total h.before h.after h.character 0 0 passes))
 
+cuts_at-next : (offsets line : List ℕ) → AreNext (λ a b. a < b) (cuts_at offsets line) 0
+cuts_at-next offsets line =
+    among-next offsets (length (stripped line)) (units (chars line)) 0 0 0 (omega arith)
+
+cuts-increasing : (cuts : List ℕ) (last : ℕ) → AreNext (λ a b. a < b) cuts last
+    → IsStrictlyIncreasing cuts
+cuts-increasing [] last are = λ k within. absurd (omega arith)
+cuts-increasing (cut ∷ cuts) last (_, rest) =
+    next-increasing (λ a b. a < b) cuts cut (λ a b above. above) rest
+
 pub cuts_at-cuts : (offsets line : List ℕ) → AreCutsAt offsets line (cuts_at offsets line)
-cuts_at-cuts offsets line = search (rising-increasing, among-rising, cut-found, cut-contained)
+cuts_at-cuts offsets line = record {
+  in_order = cuts-increasing (cuts_at offsets line) 0 (cuts_at-next offsets line);
+  all = λ cut. (cut-found offsets line cut, cut-contained offsets line cut);
+}
 
 -- ---- and there are no others
 
 cuts-unique : (offsets line cuts : List ℕ) → AreCutsAt offsets line cuts
     → cuts ≡ cuts_at offsets line
-cuts-unique offsets line cuts h = same-members (λ cut. cut) cuts (cuts_at offsets line)
-    (rising-in_order cuts (increasing-rising cuts h.in_order))
-    (rising-in_order (cuts_at offsets line)
-    (among-rising offsets (length (stripped line)) (units (chars line)) 0 0))
+cuts-unique offsets line cuts h =
+    let order = λ (ns : List ℕ) (up : IsStrictlyIncreasing ns). rising-in_order ns (increasing-rising ns up) in
+    same-members (λ cut. cut) cuts (cuts_at offsets line) (order cuts h.in_order)
+    (order (cuts_at offsets line) (cuts_at-cuts offsets line).in_order)
     (λ cut in_cuts. cut-contained offsets line cut ((h.all cut).0 in_cuts))
     (λ cut found. (h.all cut).1 (cut-found offsets line cut found))
 
@@ -256,19 +267,16 @@ cut-inside offsets line cut utf8 h =
       IsCharBoundary-at_seam,
     )
 
-pub cuts_at-AreCuts : (offsets line : List ℕ) → IsUtf8 line → AreCuts line (cuts_at offsets line)
-cuts_at-AreCuts offsets line utf8 =
+pub cuts_at-AreInnerCuts : (offsets line : List ℕ) → IsUtf8 line
+    → AreInnerCuts line (cuts_at offsets line)
+cuts_at-AreInnerCuts offsets line utf8 =
     let cuts = cuts_at offsets line in
-    let each : (P : ℕ → Type 0) → ((cut : ℕ) → (cut < length line) × IsCharBoundary line cut → P cut)
-    → All P cuts = λ P use_it. All-weaker (Contains cuts) P
-    (λ cut h. use_it cut (cut-inside offsets line cut utf8 (cut-found offsets line cut h)))
-    cuts (All-contains_itself cuts) in
-    record {
-      in_order = IsNonDecreasingBy-from_default (λ x. x) cuts 0
-          (increasing-le cuts (cuts_at-cuts offsets line).in_order);
-      in_range = each (λ cut. cut < length line) (λ cut h. h.0);
-      between = each (IsCharBoundary line) (λ cut h. h.1);
-    }
+    let IsInside = λ (cut : ℕ). (cut < length line) × IsCharBoundary line cut in
+    next-with (λ a b. a < b) (IsNextCut line) IsInside (λ last cut above (inside, at). (above, inside, at)) cuts 0
+    (cuts_at-next offsets line)
+    (All-weaker (Contains cuts) IsInside
+    (λ cut h. cut-inside offsets line cut utf8 (cut-found offsets line cut h)) cuts
+    (All-contains_itself cuts))
 
 -- ---- the cuts
 

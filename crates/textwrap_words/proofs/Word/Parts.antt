@@ -1,22 +1,20 @@
 -- The parts of a text between cuts, and between places that a test tells.
-use Rattle.textwrap_base.proofs.Common.{inl, IsNonDecreasing, nil_from_length, IsCharBoundary-start}
+use Rattle.textwrap_base.proofs.Common.{inl, nil_from_length, IsCharBoundary-start}
 use Rattle.textwrap_base.proofs.Common.{inr, ◌≡◌, suc, [], take, refl, None, zero, Bool, cond, ◌||◌}
-use Rattle.textwrap_base.proofs.Common.{ℕ, length, All-tail, take_all, drop_all, add-zero, cases_lt}
+use Rattle.textwrap_base.proofs.Common.{ℕ, length, take_all, drop_all, add-zero, cases_lt}
 use Rattle.textwrap_base.proofs.Common.{◌<◌, ◌≤◌, ◌∷◌, All, map, sym, ap, ◌∙◌, ◌≢◌, Ok, ◌+◌, ◌-◌}
 use Rattle.textwrap_base.proofs.Common.{List, ◌++◌, get_or, drop, ◌==◌, IsUtf8, true, subst, false}
-use Rattle.textwrap_base.proofs.Common.{arith, All-cons, All-head, All-weaker, drop-drop, nat_tests}
+use Rattle.textwrap_base.proofs.Common.{arith, All-cons, All-weaker, drop-drop, nat_tests}
 use Rattle.textwrap_base.proofs.Common.{append-nil, cases_Bool, drop_split, onto_first, length-drop}
 use Rattle.textwrap_base.proofs.Common.{slice_range, All-nil, IsUtf8-drop, length_push, get_or-drop}
 use Rattle.textwrap_base.proofs.Common.{IsCharBoundary, IsUtf8-between, append_assoc, if◌then◌else◌}
 use Rattle.textwrap_words.proofs.Common.{tiled, word_of, AreCuts, AreInnerCuts, parts_between}
 use Rattle.textwrap_words.proofs.Common.{WordText, MaySeparate, MaySplit, ends_in_hyphen}
 use Rattle.textwrap_words.proofs.Common.{splitter_view, Whole, AtHyphens, chunks, is_cut, words_of}
-use Rattle.std.proofs.lemmas.List.Sorted.{IsNonDecreasingBy-from_default}
 use Rattle.textwrap_base.proofs.Lists.Parts.{flat, onto_first-some, onto_first-append}
 use Rattle.textwrap_words.proofs.Word.Words.{tiled-map, chunks-from}
-use Rattle.textwrap_words.specs.Cuts.{AreLaterCuts, parts_onward}
-use Rattle.textwrap_base.proofs.Lists.Elements.{increasing-le, increasing-rising, rising-increasing}
-use Rattle.std.proofs.lemmas.List.Elements.{All-from_get_or}
+use Rattle.textwrap_words.specs.Cuts.{AreNext, IsNextPoint, parts_onward}
+use Rattle.textwrap_words.proofs.Word.Cuts.{inner-cuts}
 use Rattle.textwrap_words.specs.declared.word_splitters.WordSplitter as splitters
 use Rattle.textwrap_words.proofs.Word.Pieces.{AreTexts, AreTexts-words, AreTexts-parts}
 use Rattle.textwrap_words.proofs.Word.Pieces.{ArePoints-cuts, ArePoints-hyphens}
@@ -31,74 +29,41 @@ use Rattle.textwrap_words.specs.PieceCuts.{parts_by}
 
 -- ---- the parts are the line
 
-parts_from-tile : (start : ℕ) (cuts line : List ℕ) → IsNonDecreasing cuts
-    → ((k : ℕ) → k < length cuts → start ≤ get_or cuts k 0)
+parts_from-tile : (start : ℕ) (cuts line : List ℕ) → AreNext (IsNextPoint line) cuts start
     → flat (parts_onward start cuts line) ≡ drop start line
-parts_from-tile start [] line in_order before = append-nil (drop start line)
-parts_from-tile start (cut ∷ cuts) line in_order before =
-    let later : IsNonDecreasing cuts = λ i j d le lt. in_order (suc i) (suc j) d (omega arith)
-    (omega arith) in
-    let rest = parts_from-tile cut cuts line later
-    (λ k lt. in_order 0 (suc k) 0 (omega arith) (omega arith)) in
-    ap (λ l. slice_range line start cut ++ l) rest
-    ∙ sym (drop_split line start cut (before 0 (omega arith)))
+parts_from-tile start [] line are = append-nil (drop start line)
+parts_from-tile start (cut ∷ cuts) line ((after, _, _), rest) =
+    ap (λ l. slice_range line start cut ++ l) (parts_from-tile cut cuts line rest)
+    ∙ sym (drop_split line start cut after)
 
-pub parts_between-tile : (cuts line : List ℕ) → IsNonDecreasing cuts
+pub parts_between-tile : (cuts line : List ℕ) → AreCuts line cuts
     → tiled (map word_of (parts_between cuts line)) ≡ line
-parts_between-tile cuts line in_order = grind (arith, tiled-map, nil_from_length, parts_from-tile)
+parts_between-tile cuts line are = grind (arith, tiled-map, nil_from_length, parts_from-tile)
 
 -- ---- the parts are texts
 
 parts_from-utf8 : (start : ℕ) (cuts line : List ℕ) → IsUtf8 line → IsCharBoundary line start
-    → IsNonDecreasing cuts → ((k : ℕ) → k < length cuts → start ≤ get_or cuts k 0)
-    → All (IsCharBoundary line) cuts → All IsUtf8 (parts_onward start cuts line)
-parts_from-utf8 start [] line utf8 at in_order before between =
+    → AreNext (IsNextPoint line) cuts start → All IsUtf8 (parts_onward start cuts line)
+parts_from-utf8 start [] line utf8 at are =
     All-cons IsUtf8 (drop start line) [] (IsUtf8-drop line start utf8 at) (All-nil IsUtf8)
-parts_from-utf8 start (cut ∷ cuts) line utf8 at in_order before between =
-    let next = All-head (IsCharBoundary line) cut cuts between in
+parts_from-utf8 start (cut ∷ cuts) line utf8 at ((after, inside, next), rest) =
     All-cons IsUtf8 (slice_range line start cut) (parts_onward cut cuts line)
-    (IsUtf8-between line start cut utf8 (before 0 (omega arith)) at next)
-    (parts_from-utf8 cut cuts line utf8 next
-    (λ i j d le lt. in_order (suc i) (suc j) d (omega arith) (omega arith))
-    (λ k lt. in_order 0 (suc k) 0 (omega arith) (omega arith))
-    (All-tail (IsCharBoundary line) cut cuts between))
+    (IsUtf8-between line start cut utf8 after at next) (parts_from-utf8 cut cuts line utf8 next rest)
 
 pub parts_between-utf8 : (cuts line : List ℕ) → IsUtf8 line → AreCuts line cuts
     → All IsUtf8 (parts_between cuts line)
 parts_between-utf8 cuts line utf8 are = elim (cases_Bool (length line == 0)) [
   | inl none ↦ rw none (All-nil IsUtf8)
-  | inr some ↦ rw some (parts_from-utf8 0 cuts line utf8 (IsCharBoundary-start line utf8)
-      are.in_order (λ k lt. omega arith) are.between)
+  | inr some ↦
+      rw some (parts_from-utf8 0 cuts line utf8 (IsCharBoundary-start line utf8) are)
 ]
-
-pub inner-cuts : (text cuts : List ℕ) → AreInnerCuts text cuts → AreCuts text cuts
-inner-cuts text cuts are = record {
-  in_order = IsNonDecreasingBy-from_default (λ x. x) cuts 0 (increasing-le cuts are.in_order);
-  in_range = are.before_end;
-  between = are.between;
-}
-
--- ---- the cuts after one
-
-pub later-cuts : (start cut : ℕ) (text cuts : List ℕ) → AreLaterCuts start text (cut ∷ cuts)
-    → AreLaterCuts cut text cuts
-later-cuts start cut text cuts are =
-    let rising = increasing-rising (cut ∷ cuts) are.in_order in
-    record {
-      in_order = rising-increasing cuts
-          (λ i j less within. rising (suc i) (suc j) (omega (arith, less)) (omega (arith, within)));
-      after_start = All-from_get_or (λ c. cut < c) cuts 0
-          (λ i within. rising 0 (suc i) (omega arith) (omega (arith, within)));
-      before_end = All-tail (λ c. c < length text) cut cuts are.before_end;
-      between = All-tail (IsCharBoundary text) cut cuts are.between;
-    }
 
 -- ---- words at cuts
 
 pub parts-texts : (line cuts : List ℕ) → IsUtf8 line → AreCuts line cuts
     → AreTexts line (map word_of (parts_between cuts line))
 parts-texts line cuts utf8 are =
-    AreTexts-parts line (parts_between cuts line) (parts_between-tile cuts line are.in_order)
+    AreTexts-parts line (parts_between cuts line) (parts_between-tile cuts line are)
     (parts_between-utf8 cuts line utf8 are)
 
 -- ---- what is given

@@ -1,7 +1,7 @@
 -- The pieces of split words: they tile their words, are texts, and stand one after another.
-use Rattle.textwrap_base.proofs.Common.{◌≡◌, IsNonDecreasing, flat_map-append, IsCharBoundary-start}
+use Rattle.textwrap_base.proofs.Common.{◌≡◌, flat_map-append, IsCharBoundary-start}
 use Rattle.textwrap_base.proofs.Common.{ℕ, ◌∷◌, sym, ap, ◌∙◌, All, map, inl, inr, ◌+◌}
-use Rattle.textwrap_base.proofs.Common.{suc, ◌<◌, ◌≤◌, List, [], ◌++◌, refl, drop, true, take}
+use Rattle.textwrap_base.proofs.Common.{◌<◌, ◌≤◌, List, [], ◌++◌, refl, drop, true, take}
 use Rattle.textwrap_base.proofs.Common.{arith, length, get_or, IsUtf8, subst, All-map, rules, false}
 use Rattle.textwrap_base.proofs.Common.{slice_range, append_assoc, IsCharBoundary, IsUtf8-between}
 use Rattle.textwrap_base.proofs.Common.{append-nil, drop_split, and_parts, IsUtf8-drop, All-append}
@@ -16,6 +16,7 @@ use Rattle.std.proofs.lemmas.List.Elements.{filter_passes}
 use Rattle.textwrap_words.proofs.Word.Words.{IsMeasured, HasNoPenalty, words-measured}
 use Rattle.textwrap_words.proofs.Word.Words.{tiled-words_of, words_unique}
 use Rattle.textwrap_words.proofs.Word.Texts.{chunks-utf8}
+use Rattle.textwrap_words.specs.Cuts.{AreNext, IsNextPoint}
 use Rattle.textwrap_words.specs.PieceCuts.{pieces_from_place}
 use Rattle.textwrap_words.specs.Pieces.{IsFirstWord, stand_from}
 use Rattle.textwrap_base.proofs.Lists.Parts.{length-slice}
@@ -23,22 +24,18 @@ use Rattle.textwrap_base.proofs.Texts.{IsCharBoundary-after_blank}
 
 -- ---- split pieces tile their word
 
-tiled-split_from : (w : WordText) (start : ℕ) (points : List ℕ) → IsNonDecreasing points
-    → ((k : ℕ) → k < length points → start ≤ get_or points k 0)
+tiled-split_from : (w : WordText) (start : ℕ) (points : List ℕ)
+    → AreNext (IsNextPoint w.word) points start
     → tiled (split_from w start points) ≡ drop start w.word ++ w.whitespace
-tiled-split_from w start [] in_order before = append-nil (drop start w.word ++ w.whitespace)
-tiled-split_from w start (point ∷ points) in_order before =
-    let later : IsNonDecreasing points = λ i j d le lt. in_order (suc i) (suc j) d (omega arith)
-    (omega arith) in
-    let rest = tiled-split_from w point points later
-    (λ k lt. in_order 0 (suc k) 0 (omega arith) (omega arith)) in
-    rw (append-nil (slice_range w.word start point), rest)
+tiled-split_from w start [] are = append-nil (drop start w.word ++ w.whitespace)
+tiled-split_from w start (point ∷ points) ((after, _, _), rest) =
+    rw (append-nil (slice_range w.word start point), tiled-split_from w point points rest)
     (sym (append_assoc (slice_range w.word start point) (drop point w.word) w.whitespace)
-    ∙ ap (λ l. l ++ w.whitespace) (sym (drop_split w.word start point (before 0 (omega arith)))))
+    ∙ ap (λ l. l ++ w.whitespace) (sym (drop_split w.word start point after)))
 
 pub tiled-split_pieces : (points : List ℕ) (w : WordText) → AreCuts w.word points
     → tiled (split_pieces points w) ≡ tile_of w
-tiled-split_pieces points w cuts = tiled-split_from w 0 points cuts.in_order (λ k lt. omega arith)
+tiled-split_pieces points w cuts = tiled-split_from w 0 points cuts
 
 pub tiled-split_words : (splitter : Splitter) (words : List WordText)
     → All (λ w. IsUtf8 w.word) words → tiled (split_words splitter words) ≡ tiled words
@@ -83,22 +80,14 @@ pub record AreTexts (line : List ℕ) (words : List WordText) : Type 0 where
   pub plain : All HasNoPenalty words
 
 pub split_from-measured : (w : WordText) (start : ℕ) (points : List ℕ) → IsMeasured w
-    → IsCharBoundary w.word start → IsNonDecreasing points → All (IsCharBoundary w.word) points
-    → ((k : ℕ) → k < length points → start ≤ get_or points k 0)
+    → IsCharBoundary w.word start → AreNext (IsNextPoint w.word) points start
     → All IsMeasured (split_from w start points)
-split_from-measured w start [] measured at in_order cuts before =
-    search (All-cons, IsUtf8-drop, All-nil)
-split_from-measured w start (point ∷ points) measured at in_order cuts before =
-    let later : IsNonDecreasing points = λ i j d le lt. in_order (suc i) (suc j) d (omega arith)
-    (omega arith) in
-    let next : IsCharBoundary w.word point = All-head (IsCharBoundary w.word) point points cuts in
+split_from-measured w start [] measured at are = search (All-cons, IsUtf8-drop, All-nil)
+split_from-measured w start (point ∷ points) measured at ((after, inside, next), rest) =
     let first : IsMeasured (piece (slice_range w.word start point) [] (cut_penalty w.word point)) =
     search (rules, IsUtf8-between, All-nil) in
     All-cons IsMeasured (piece (slice_range w.word start point) [] (cut_penalty w.word point))
-    (split_from w point points) first
-    (split_from-measured w point points measured next later
-    (All-tail (IsCharBoundary w.word) point points cuts)
-    (λ k lt. in_order 0 (suc k) 0 (omega arith) (omega arith)))
+    (split_from w point points) first (split_from-measured w point points measured next rest)
 
 -- the splitter cuts after hyphens alone
 points_of-hyphens : (splitter : Splitter) (text : List ℕ)
@@ -153,7 +142,7 @@ module _ (Words : List ℕ → List WordText → Type 0) (Points : List ℕ → 
       subst (All IsMeasured) (sym is)
       (All-append IsMeasured (split_pieces points w) rest
       (split_from-measured w 0 points measured (IsCharBoundary-start w.word measured.utf8)
-      at.in_order at.between (λ k lt. omega arith))
+      at)
       (AreSplit-measured words rest (All-tail IsMeasured w words all) rest_are))
 
   AreSplit-tile : (words pieces : List WordText) → All IsMeasured words

@@ -8,18 +8,18 @@ use Rattle.textwrap_base.proofs.Common.{IsCharBoundary, false≢true, reverse-ap
 use Rattle.textwrap_base.proofs.Common.{list_any, nil_from_length, chars_past_char, take-append-add}
 use Rattle.textwrap_base.proofs.Common.{and_parts, append-nil, chars-nil, length_push}
 use Rattle.textwrap_base.proofs.Common.{take-append-drop, IsCharBoundary-after_ascii, length-append}
+use Rattle.textwrap_base.proofs.Common.{zero, suc, inl, inr, cases_Bool, range_with_len}
 use Rattle.textwrap_base.proofs.Common.{take_at, drop_at, All-head, and_right, eqb-true, drop_more}
 use Rattle.textwrap_base.proofs.Common.{chars-append, append_assoc, length-take-le, encodes-chars}
 use Rattle.textwrap_words.proofs.Common.{is_hyphen_point, hyphen, ends_in_hyphen, hyphen_points}
 use Rattle.textwrap_words.proofs.Common.{points_of, Splitter, Whole, AtHyphens, AreCuts, is_blank}
 use Rattle.std.specs.Str.{chars}
 use lib.Utf8.{encode}
-use Rattle.std.proofs.lemmas.List.Elements.{All-filter, filter_passes}
+use Rattle.std.proofs.lemmas.List.Elements.{filter_passes}
 use Rattle.std.proofs.lemmas.List.Folds.{list_any_at, list_any-append}
-use Rattle.std.proofs.lemmas.List.Kept.{IsNonDecreasingBy-filter}
 use Rattle.textwrap_words.specs.WordSplitters.{is_alphanumeric, begins_alphanumeric, inner_offsets}
 use Rattle.textwrap_base.proofs.Texts.{before-last, ascii_seam}
-use Rattle.textwrap_base.proofs.Lists.Elements.{range-within, range-in_order}
+use Rattle.textwrap_words.specs.Cuts.{AreNext, IsNextPoint}
 use Rattle.textwrap_words.specs.PieceCuts.{is_point}
 use Rattle.unicode.proofs.CategoryComputing.{ucd_category}
 use Rattle.unicode.proofs.DerivedComputing.{ucd_derived}
@@ -80,26 +80,28 @@ hyphen_points-none text none =
         let ends = (and_parts _ _ (and_parts _ _ found).0).0 in
         absurd (false≢true (sym none ∙ any-take p text (any-ends (take p text) ends)))
 
+hyphen_points-next : (text : List ℕ) (n at last : ℕ) → IsUtf8 text → last ≤ at → 1 ≤ at
+    → at + n ≤ 1 + (length text - 1)
+    → AreNext (IsNextPoint text) (filter (is_hyphen_point text) (range_with_len at n)) last
+hyphen_points-next text zero at last utf8 after start within = tt
+hyphen_points-next text (suc n) at last utf8 after start within =
+    let rest = λ (last : ℕ) (before : last ≤ at + 1).
+    hyphen_points-next text n (at + 1) last utf8 before (omega arith) (omega (arith, within)) in
+    let inside : at < length text = omega (arith, start, within) in
+    elim (cases_Bool (is_hyphen_point text at)) [
+      | inl is ↦ rw is ((after, inside, after-hyphen text at utf8 start inside is), rest at (omega arith))
+      | inr none ↦ rw none (rest last (omega (arith, after)))
+    ]
+
 pub hyphen_points-cuts : (text : List ℕ) → IsUtf8 text → AreCuts text (hyphen_points text)
 hyphen_points-cuts text utf8 =
-    let test = is_hyphen_point text in
-    let offsets = inner_offsets text in
-    let within = All-filter test (λ p. (1 ≤ p) × (p < 1 + (length text - 1))) offsets
-    (range-within 1 (length text - 1)) in
-    let passes = filter_passes test offsets in
-    record {
-      in_order = IsNonDecreasingBy-filter (λ x. x) test offsets
-          (range-in_order 1 (length text - 1));
-      in_range = λ k d lt. omega (arith, (within k d lt).0, (within k d lt).1);
-      between = λ k d lt. after-hyphen text (get_or (filter test offsets) k d) utf8
-          (within k d lt).0 (omega (arith, (within k d lt).0, (within k d lt).1)) (passes k d lt);
-    }
+    hyphen_points-next text (length text - 1) 1 0 utf8 (omega arith) (omega arith) (omega arith)
 
 -- ---- tiling
 
 pub points_of-cuts : (splitter : Splitter) (text : List ℕ) → IsUtf8 text
     → AreCuts text (points_of splitter text)
-points_of-cuts Whole text utf8 = omega arith
+points_of-cuts Whole text utf8 = tt
 points_of-cuts AtHyphens text utf8 = hyphen_points-cuts text utf8
 
 -- ---- where a splitter has points, characters end, and none stands after a letter

@@ -1,7 +1,8 @@
 //! A function of the caller that says where lines are cut into words.
 ghost use Rattle.std.specs.Prelude.{◌≡◌, IsUtf8};
 ghost use Rattle.std.specs.Result.{ForOk};
-ghost use Rattle.textwrap_words.specs.Cuts.{AreInnerCuts};
+ghost use Rattle.std.proofs.Props.{props};
+ghost use Rattle.textwrap_words.specs.Cuts.{AreInnerCuts, AreNext-prop};
 
 use std::alloc::{AllocError, Global};
 use std::fmt;
@@ -23,7 +24,7 @@ pub struct LineCuts {
     ghost callable: { IsAlwaysCallable function },
     ghost answers: { (alloc : _) (line : _) (answer : _) → IsUtf8 line.now
         → post function alloc line answer
-        → ForOk answer (λ cuts. AreInnerCuts line.now cuts.items) },
+        → ForOk answer (λ cuts. AreInnerCuts line.now cuts.items) } by { Prim.hlevel (AreNext-prop, props) },
 }
 
 impl LineCuts {

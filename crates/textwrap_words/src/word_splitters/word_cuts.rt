@@ -1,7 +1,8 @@
 //! A function of the caller that says where words may be split.
 ghost use Rattle.std.specs.Prelude.{◌≡◌, IsUtf8};
 ghost use Rattle.std.specs.Result.{ForOk};
-ghost use Rattle.textwrap_words.specs.Cuts.{AreCuts};
+ghost use Rattle.std.proofs.Props.{props};
+ghost use Rattle.textwrap_words.specs.Cuts.{AreCuts, AreNext-prop};
 
 use std::alloc::{AllocError, Global};
 use std::fmt;
@@ -23,7 +24,7 @@ pub struct WordCuts {
     ghost callable: { IsAlwaysCallable function },
     ghost answers: { (alloc : _) (word : _) (answer : _) → IsUtf8 word.now
         → post function alloc word answer
-        → ForOk answer (λ points. AreCuts word.now points.items) },
+        → ForOk answer (λ points. AreCuts word.now points.items) } by { Prim.hlevel (AreNext-prop, props) },
 }
 
 impl WordCuts {

@@ -1,6 +1,8 @@
 //! A function of the caller that says where lines end.
 ghost use Rattle.std.specs.Prelude.{◌≡◌};
 ghost use Rattle.std.specs.Result.{ForOk};
+ghost use Rattle.std.proofs.Props.{props};
+ghost use Rattle.textwrap_words.specs.Cuts.{AreNext-prop};
 ghost use Rattle.textwrap_words.specs.LineEnds.{AreEnds};
 
 use crate::words::Word;
@@ -24,7 +26,7 @@ pub struct LineEnds {
     ghost callable: { IsAlwaysCallable function },
     ghost answers: { (alloc : _) (words : _) (widths : _) (answer : _)
         → post function alloc words widths answer
-        → ForOk answer (λ ends. AreEnds words.now ends.items) },
+        → ForOk answer (λ ends. AreEnds words.now ends.items) } by { Prim.hlevel (AreNext-prop, props) },
 }
 
 impl LineEnds {

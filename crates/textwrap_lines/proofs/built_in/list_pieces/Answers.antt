@@ -1,9 +1,9 @@
 use Rattle.textwrap_lines.proofs.built_in.list_pieces.Goals as goal
-use Rattle.textwrap_base.proofs.Common.{◌≡◌, ℕ, ◌+◌, ◌-◌, ◌≤◌, List, [], ◌∷◌, ◌++◌, All, All-head}
-use Rattle.textwrap_base.proofs.Common.{All-tail, ap, append_assoc, append-nil, arith, drop, get_or}
+use Rattle.textwrap_base.proofs.Common.{◌≡◌, ℕ, ◌≤◌, List, [], ◌∷◌, ◌++◌, All, All-head, All-tail}
+use Rattle.textwrap_base.proofs.Common.{ap, append_assoc, append-nil, arith, drop, get_or}
 use Rattle.textwrap_base.proofs.Common.{IsCharBoundary, IsCharBoundary-start, IsUtf8, IsUtf8-drop}
-use Rattle.textwrap_base.proofs.Common.{length, map, map-append, refl, rules, slice_range, subst}
-use Rattle.textwrap_base.proofs.Common.{sym, take, ◌∙◌}
+use Rattle.textwrap_base.proofs.Common.{length, map, map-append, rules, slice_range, subst, sym}
+use Rattle.textwrap_base.proofs.Common.{◌∙◌}
 use Rattle.textwrap_words.proofs.Common.{as_splitter, tiled, WordText, word_view}
 use Rattle.textwrap_words.proofs.Word.Words.{HasNoPenalty, IsMeasured}
 use Rattle.textwrap_words.specs.Pieces.{stand_from}
@@ -11,9 +11,7 @@ use Rattle.textwrap_words.specs.declared.pieces.Piece.{Piece}
 use Rattle.textwrap_lines.proofs.Common.{frame_settings}
 use Rattle.textwrap_lines.proofs.Paragraph.Pieces.{words_cut-texts, pieces_of_words-measured}
 use Rattle.textwrap_lines.proofs.Paragraph.Pieces.{pieces_of_words-tile, pieces_of_words-no_penalty}
-use Rattle.textwrap_lines.proofs.Paragraph.LeftOff.{blanks-utf8}
-use Rattle.textwrap_lines.proofs.PieceLines.{gap_taken, piece-ends, place-after, slice-ends}
-use Rattle.textwrap_lines.proofs.PieceLines.{word_taken}
+use Rattle.textwrap_lines.proofs.PieceLines.{stands-at}
 use Rattle.textwrap_lines.proofs.built_in.list_pieces.Invariants.{ArePiecesLeft}
 use Rattle.textwrap_lines.specs.Direct.{pieces_cut, cuts_of, words_cut}
 use Rattle.textwrap_lines.specs.PiecesLeft.{left_standing}
@@ -42,38 +40,20 @@ module _ (text : List ℕ) (utf8 : IsUtf8 text) (all words : List WordText) wher
           → HasNext at p places
       by [] are stand tile measured plain = absurd (omega (arith, ap length stand))
       by (w ∷ ws) are stand tile measured plain =
-          let n = length w.word in
-          let m = length w.whitespace in
-          let here = All-head IsMeasured w ws measured in
-          let space = blanks-utf8 w.whitespace here.ending.blanks in
-          let rest = IsUtf8-drop text at utf8 h.begins in
-          let piece : Piece = record { word_end = at + n; end = at + n + m; width = w.width } in
-          let ends = piece-ends text at at n m w.word w.whitespace (tiled ws) (omega arith) h.begins.0
-          rest here.utf8 space refl refl tile in
-          let word_len : at + n - at ≡ n = omega arith in
-          let gap_len : at + n + m - (at + n) ≡ m = omega arith in
-          let word : slice_range text at (at + n) ≡ w.word =
-          ap (λ k. take k (drop at text)) word_len
-          ∙ word_taken text at at n m w.word w.whitespace (tiled ws) (omega arith) h.begins.0 rest
-          here.utf8 space refl refl tile in
-          let gap : slice_range text (at + n) (at + n + m) ≡ w.whitespace =
-          ap (λ k. take k (drop (at + n) text)) gap_len
-          ∙ gap_taken text at at n m w.word w.whitespace (tiled ws) (omega arith) h.begins.0 rest
-          here.utf8 space refl refl tile in
+          let stands = stands-at text at w (tiled ws) tile h.begins (IsUtf8-drop text at utf8 h.begins)
+          (All-head IsMeasured w ws measured) in
           subst (λ q. HasNext at q places) (sym (ap (λ l. get_or l 0 p) stand)) (record {
             from = omega arith;
             order = omega arith;
-            word_ends = slice-ends text at at n m w.word w.whitespace (tiled ws) (omega arith)
-                h.begins.0 rest here.utf8 space refl refl tile;
-            ends = ends;
+            word_ends = stands.word_ends;
+            ends = stands.ends;
             next = record {
               left = ws;
-              are = rw (word, gap, ← All-head HasNoPenalty w ws plain)
+              are = rw (stands.word, stands.gap, ← All-head HasNoPenalty w ws plain)
                   (append_assoc words (w ∷ []) ws ∙ are);
               stand = ap (drop 1) stand;
-              tile = place-after text at at n m w.word w.whitespace (tiled ws) (omega arith) h.begins.0
-                  rest here.utf8 space refl refl tile;
-              begins = ends;
+              tile = stands.next;
+              begins = stands.ends;
               measured = All-tail IsMeasured w ws measured;
               plain = All-tail HasNoPenalty w ws plain;
             };

@@ -1,6 +1,6 @@
 use Rattle.textwrap_lines.proofs.spans.find_spans.Goals as goal
-use Rattle.textwrap_base.proofs.Common.{sym, ap, ◌∙◌, subst, arith}
-use Rattle.textwrap_words.proofs.Common.{as_splitter}
+use Rattle.textwrap_base.proofs.Common.{◌≤◌, sym, ap, ◌∙◌, subst, arith, length, total_width}
+use Rattle.textwrap_words.proofs.Common.{as_splitter, sizes_of}
 use Rattle.textwrap_lines.specs.PiecesLeft.{left_standing}
 use Rattle.textwrap_lines.proofs.Common.{frame_settings}
 use Rattle.textwrap_lines.specs.Direct.{pieces_cut, cuts_of, words_cut}
@@ -32,27 +32,24 @@ turn g c =
 pub overflow_sub-opens : goal.overflow_sub-opens
 overflow_sub-opens g c = (turn g (goal.at.overflow_sub-opens g c).In-Some).order
 
+-- all of them have room
+all-fit : (g : _) (c : In-Some g) → total_width sizes_of
+    (pieces_cut (frame_settings c.args.frame.now) c.args.cuts.now c.args.paragraph.now)
+    ≤ length c.args.paragraph.now
+all-fit g c =
+    pieces_of_words-wide (frame_settings c.args.frame.now) (as_splitter c.args.cuts.now.splitter)
+    c.args.paragraph.now (words_cut (cuts_of c.args.cuts.now) c.args.paragraph.now) c.utf8.paragraph
+    (words_cut-texts (cuts_of c.args.cuts.now) c.args.paragraph.now c.utf8.paragraph c.requires)
+
 pub overflow_add-closes : goal.overflow_add-closes
 overflow_add-closes g c =
-    let next = turn g (goal.at.overflow_add-closes g c).In-Some in
-    omega (
-      arith,
-      next.room,
-      pieces_of_words-wide (frame_settings c.args.frame.now) (as_splitter c.args.cuts.now.splitter)
-          c.args.paragraph.now (words_cut (cuts_of c.args.cuts.now) c.args.paragraph.now) c.utf8.paragraph
-          (words_cut-texts (cuts_of c.args.cuts.now) c.args.paragraph.now c.utf8.paragraph c.requires),
-    )
+    let here = (goal.at.overflow_add-closes g c).In-Some in
+    omega (arith, (turn g here).room, all-fit g here)
 
 pub overflow_add-opens : goal.overflow_add-opens
 overflow_add-opens g c =
-    let next = turn g (goal.at.overflow_add-opens g c).In-Some in
-    omega (
-      arith,
-      next.room,
-      pieces_of_words-wide (frame_settings c.args.frame.now) (as_splitter c.args.cuts.now.splitter)
-          c.args.paragraph.now (words_cut (cuts_of c.args.cuts.now) c.args.paragraph.now) c.utf8.paragraph
-          (words_cut-texts (cuts_of c.args.cuts.now) c.args.paragraph.now c.utf8.paragraph c.requires),
-    )
+    let here = (goal.at.overflow_add-opens g c).In-Some in
+    omega (arith, (turn g here).room, all-fit g here)
 
 pub loop-piece-preserved : goal.loop-piece-preserved
 loop-piece-preserved g c =

@@ -1,13 +1,8 @@
 use Rattle.textwrap_lines.proofs.steps.are_inner_cuts.Given as goal
-use Rattle.textwrap_base.proofs.Common.{drop}
-use Rattle.textwrap_words.proofs.Common.{AreInnerCuts}
-use Rattle.textwrap_lines.specs.Offsets.{AreNext, IsNextCut}
+use Rattle.textwrap_base.proofs.Common.{◌↔◌, drop}
+use Rattle.textwrap_words.specs.Cuts.{AreInnerCuts, AreLaterCuts}
 
 -- the cuts are right just if those that are left may follow the last one
 abbrev pub invariant-loop-cut : goal.invariant-loop-cut
-invariant-loop-cut l = record {
-  left : AreInnerCuts l.text l.cuts
-      → AreNext (IsNextCut l.text) (drop l.cut-index l.cuts) l.last;
-  all : AreNext (IsNextCut l.text) (drop l.cut-index l.cuts) l.last
-      → AreInnerCuts l.text l.cuts;
-}
+invariant-loop-cut l =
+    AreInnerCuts l.text l.cuts ↔ AreLaterCuts l.last l.text (drop l.cut-index l.cuts)

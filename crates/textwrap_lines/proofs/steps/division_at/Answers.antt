@@ -6,11 +6,11 @@ use Rattle.textwrap_base.proofs.Lists.Parts.{flat}
 use Rattle.textwrap_words.proofs.Common.{tiled, word_view}
 use Rattle.textwrap_lines.proofs.Common.{Word}
 use Rattle.textwrap_lines.proofs.Paragraph.Widths.{lines-begin}
-use Rattle.textwrap_lines.proofs.InSteps.{lines_between-begin, lines_between-map}
+use Rattle.textwrap_words.proofs.Word.Divisions.{lines_from-begin, lines_from-map}
 
 pub returns-clause-begins : goal.returns-clause-begins
 returns-clause-begins g c =
-    let (rest, is) = lines_between-begin c.args.pieces.now c.args.ends.now c.requires.ends in
+    let (rest, is) = lines_from-begin c.args.pieces.now 0 c.args.ends.now c.requires.ends in
     IfOk-weaker c.lines_between.result _ _ (λ division are.
     subst (λ text. StartsWith text
     (flat_map (λ line. tiled (map word_view line.now)) division.items)) c.requires.tiles
@@ -28,4 +28,4 @@ pub returns-clause-lines : goal.returns-clause-lines
 returns-clause-lines g c =
     IfOk-weaker c.lines_between.result _ _
     (λ division are. viewed division.items ∙ ap (map (map word_view)) are
-    ∙ lines_between-map word_view c.args.pieces.now c.args.ends.now) c.lines_between.ensures.lines
+    ∙ lines_from-map word_view c.args.pieces.now 0 c.args.ends.now) c.lines_between.ensures.lines

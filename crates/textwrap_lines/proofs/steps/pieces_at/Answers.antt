@@ -1,7 +1,8 @@
 use Rattle.textwrap_lines.proofs.steps.pieces_at.Goals as goal
 use Rattle.textwrap_base.proofs.Common.{◌∙◌, ap, map, refl, subst, sym, IsUtf8, List, ℕ}
 use Rattle.textwrap_words.proofs.Common.{AreCuts, parts_between, word_of, word_view, WordText}
-use Rattle.textwrap_words.proofs.Word.Parts.{parts-texts, inner-cuts, parts_between-tile}
+use Rattle.textwrap_words.proofs.Word.Cuts.{inner-cuts}
+use Rattle.textwrap_words.proofs.Word.Parts.{parts-texts, parts_between-tile}
 use Rattle.textwrap_words.proofs.Word.Pieces.{AreTexts}
 use Rattle.textwrap_lines.proofs.Common.{settings_view}
 use Rattle.textwrap_lines.proofs.Paragraph.Pieces.{pieces-tile}
@@ -23,8 +24,7 @@ returns-clause-are g c =
       split_at 0 c.args.points.now words,
       (cuts, c.requires.cuts, refl),
       split_at-are paragraph c.args.points.now c.requires.points words 0
-          (sym (parts_between-tile cuts paragraph
-          (inner-cuts paragraph cuts c.requires.cuts).in_order)),
+          (sym (parts_between-tile cuts paragraph (inner-cuts paragraph cuts c.requires.cuts))),
       returns-clause-pieces g c,
     )
 

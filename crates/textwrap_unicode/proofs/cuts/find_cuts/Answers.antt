@@ -9,7 +9,9 @@ use Rattle.textwrap_words.specs.Cuts.{AreInnerCuts}
 use Rattle.textwrap_words.specs.Units.{stripped}
 use Rattle.textwrap_words.specs.declared.escapes.State.TheVariants.{Text}
 use Rattle.textwrap_unicode.specs.Cuts.{offsets_of}
-use Rattle.textwrap_unicode.proofs.CutLemmas.{IsCutting-start, IsCutting-step, cuts_at-AreInnerCuts}
+use Rattle.textwrap_words.proofs.Word.Offsets.{cuts_at-AreInnerCuts}
+use Rattle.textwrap_unicode.proofs.CutLemmas.{IsCutting-start, IsCutting-step}
+use Rattle.textwrap_words.proofs.Word.Offsets.{cuts_at-AreInnerCuts}
 use Rattle.textwrap_unicode.proofs.CutLemmas.{IsCutting, IsCutting-end}
 use Rattle.textwrap_unicode.proofs.WordVerdicts.{past-ideographs, past-words}
 use Rattle.textwrap_unicode.proofs.cuts.find_cuts.Goals as goal

@@ -12,7 +12,7 @@ use Rattle.textwrap_words.proofs.Word.Divisions.{MayDivide-map}
 use Rattle.textwrap_lines.specs.Places.{ArePlacesOf, division_cuts}
 use Rattle.textwrap_lines.specs.declared.options.Options.{Options}
 use Rattle.textwrap_lines.specs.Steps.{pieces_at}
-use Rattle.textwrap_lines.proofs.InSteps.{lines_between-map}
+use Rattle.textwrap_words.proofs.Word.Divisions.{lines_from-map}
 use Rattle.textwrap_uses.specs.Hyphens.{hyphenated_pieces, later_begins}
 use Rattle.textwrap_uses.proofs.Dictionary.Begins.{cuts-are}
 use Rattle.textwrap_uses.proofs.Dictionary.Points.{points-are}
@@ -60,7 +60,7 @@ returns c =
     ∙ c.in_ok-ends.ensures.lines ∙ ap (map (λ line. line.now)) c.deref-5.ensures.value in
     let division : lines_between c.deref-7.result.now (map word_view c.deref-6.result.now)
     ≡ map (map word_view) lines =
-    sym (lines_between-map word_view c.deref-6.result.now c.deref-7.result.now)
+    sym (lines_from-map word_view c.deref-6.result.now 0 c.deref-7.result.now)
     ∙ ap (map (map word_view)) between in (
       map (map word_view) lines,
       subst (λ pieces. IsGreedy sizes_of (width ∷ []) pieces (map (map word_view) lines)) pieces_are

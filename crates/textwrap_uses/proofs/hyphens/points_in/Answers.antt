@@ -1,5 +1,8 @@
 use Rattle.textwrap_uses.proofs.hyphens.points_in.Goals as goal
-use Rattle.std.proofs.Common.{◌++◌, ◌∙◌, ap, arith, length, subst, sym}
+use Rattle.std.proofs.Common.{◌+◌, ◌^◌, ◌<◌, ◌++◌, ◌∙◌, ap, arith, length, subst, sym}
+use Rattle.std.proofs.lemmas.List.Elements.{All-from_get_or}
+use Rattle.textwrap.specs.Cuts.{AreInnerCuts, IsNextCut}
+use Rattle.textwrap_words.proofs.Word.Cuts.{next-at}
 use Rattle.textwrap.specs.Words.{word_view, words_of}
 use Rattle.textwrap_uses.specs.Hyphens.{HaveRightPoints, points_in}
 use Rattle.textwrap_uses.proofs.Dictionary.Begins.{room-all, room-next}
@@ -35,3 +38,20 @@ loop-word-preserved c =
       room = room-next word words left start (length c.args.paragraph.now) step
           c.loop-word.invariant.room;
     }
+
+-- the points of the word are inside it
+pub push_points-requires : goal.push_points-requires
+push_points-requires c =
+    let dictionary = c.args.dictionary.now in
+    let word = word_view c.in-Some.word in
+    let left = c.next.new.self in
+    let step = c.in-Some.ensures.steps in
+    let right = subst (HaveRightPoints dictionary) step c.loop-word.invariant.right in
+    let points = subst (AreInnerCuts word.word) (sym c.points_for.ensures)
+    ((right-cons dictionary word left).0 right).0 in
+    let room = room-next word c.loop-word.word-iterator left c.loop-word.start
+    (length c.args.paragraph.now) step c.loop-word.invariant.room in
+    All-from_get_or (λ point. c.loop-word.start + point < 2 ^ 64) c.points_for.result.now 0
+    (λ k within.
+    let next = next-at (IsNextCut word.word) c.points_for.result.now 0 k points within in
+    omega (arith, next.1, room))

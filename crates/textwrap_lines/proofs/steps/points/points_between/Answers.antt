@@ -1,12 +1,11 @@
 use Rattle.textwrap_lines.proofs.steps.points.points_between.Goals as goal
 use Rattle.textwrap_base.proofs.Common.{◌≡◌, ◌-◌, arith, drop, length, length-drop, rules, take}
 use Rattle.textwrap_base.proofs.Common.{take_all, subst, sym}
-use Rattle.std.proofs.lemmas.List.Sorted.{IsNonDecreasingBy-drop, IsNonDecreasingBy-from_default}
+use Rattle.std.proofs.lemmas.List.Sorted.{IsNonDecreasingBy-drop}
 use Rattle.std.proofs.lemmas.List.Sorted.{IsPartitionPoint-from_clause, IsPartitionedBy-leb}
 use Rattle.std.proofs.lemmas.List.Sorted.{IsPartitionedBy-ltb}
 use Rattle.std.specs.List.Sorted.{IsNonDecreasing}
 use lib.Dec.{leb, ltb}
-use Rattle.textwrap_base.proofs.Lists.Elements.{increasing-le}
 use Rattle.textwrap_lines.proofs.InSteps.{between-are}
 
 pub returns : goal.returns
@@ -18,14 +17,12 @@ returns c =
     let later = take (length points - i) (drop i points) in
     let is : later ≡ drop i points = take_all (length points - i) (drop i points)
     (omega (arith, length-drop i points)) in
-    let up : IsNonDecreasing points =
-    IsNonDecreasingBy-from_default (λ x. x) points 0 (increasing-le points c.requires) in
     let up_later : IsNonDecreasing later =
-    subst IsNonDecreasing (sym is) (IsNonDecreasingBy-drop (λ x. x) i points up) in
+    subst IsNonDecreasing (sym is) (IsNonDecreasingBy-drop (λ x. x) i points c.requires) in
     between-are points later i c.partition_point-2.result start end is
     c.partition_point.ensures.bound c.partition_point-2.ensures.bound
     (IsPartitionPoint-from_clause (λ p. leb p start) points i
-    c.partition_point.ensures.partitioned (IsPartitionedBy-leb (λ x. x) points start up)
+    c.partition_point.ensures.partitioned (IsPartitionedBy-leb (λ x. x) points start c.requires)
     (search rules))
     (IsPartitionPoint-from_clause (λ p. ltb p end) later c.partition_point-2.result
     c.partition_point-2.ensures.partitioned (IsPartitionedBy-ltb (λ x. x) later end up_later)

@@ -1,8 +1,8 @@
 use Rattle.textwrap_words.proofs.word_separators.words.words_between.Given as goal
-use Rattle.textwrap_base.proofs.Common.{◌≡◌, ℕ, ◌++◌, ◌<◌, ◌≤◌, drop, length, map, get_or}
+use Rattle.textwrap_base.proofs.Common.{◌≡◌, ◌++◌, ◌<◌, drop, map}
 use Rattle.textwrap_base.proofs.Common.{IsCharBoundary}
 use Rattle.textwrap_words.proofs.Common.{word_view, word_of}
-use Rattle.textwrap_words.specs.Cuts.{parts_onward}
+use Rattle.textwrap_words.specs.Cuts.{AreNext, IsNextPoint, parts_onward}
 
 -- the words so far, and those of what follows the last cut, are those of the line
 abbrev pub invariant-loop-cut : goal.invariant-loop-cut
@@ -10,5 +10,5 @@ invariant-loop-cut g l = record {
   words : map word_view l.words.items ++ map word_of (parts_onward l.start
       (drop l.cut-index l.cuts) l.line) ≡ map word_of (parts_onward 0 l.cuts l.line);
   boundary : 0 < l.start → IsCharBoundary l.line l.start;
-  before : (k : ℕ) → l.cut-index ≤ k → k < length l.cuts → l.start ≤ get_or l.cuts k 0;
+  left : AreNext (IsNextPoint l.line) (drop l.cut-index l.cuts) l.start;
 }

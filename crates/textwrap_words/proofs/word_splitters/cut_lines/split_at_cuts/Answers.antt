@@ -2,7 +2,7 @@ use Rattle.textwrap_words.proofs.word_splitters.cut_lines.split_at_cuts.Goals as
 use Rattle.textwrap_base.proofs.Common.{refl, map, sym, subst}
 use Rattle.textwrap_words.proofs.Common.{word_view, word_of, AreCuts, AreSplit, MaySplit}
 use Rattle.textwrap_words.proofs.Common.{parts_between}
-use Rattle.textwrap_words.proofs.Word.Parts.{inner-cuts}
+use Rattle.textwrap_words.proofs.Word.Cuts.{inner-cuts}
 
 pub split_parts-requires : goal.split_parts-requires
 split_parts-requires g c = subst (AreCuts c.args.line.now) (sym c.deref.ensures.value)

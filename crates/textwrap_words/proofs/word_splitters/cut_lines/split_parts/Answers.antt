@@ -15,6 +15,7 @@ loop-cut-preserved g c =
     let pieces = map word_view c.loop-cut.pieces.items in
     let word = word_of (slice_range line c.loop-cut.start cut) in
     let (words, are, split) = c.loop-cut.invariant.words in
+    let next = rw (drop_more cuts i 0 c.loop-cut-test.true) at c.loop-cut.invariant.left in
     let (points, may, pushed) = rw c.range.ensures.value at c.in_ok-push_part.ensures in
     record {
       words = (
@@ -25,8 +26,8 @@ loop-cut-preserved g c =
         subst (AreSplit Points (words ++ word ∷ [])) (sym pushed)
             (AreSplit-push Points words pieces word points split may),
       );
-      boundary = λ _. c.requires.between i 0 c.loop-cut-test.true;
-      before = λ k from below. c.requires.in_order i k 0 (omega (arith, from)) below;
+      boundary = λ _. next.0.2;
+      left = next.1;
     }
 
 pub returns : goal.returns

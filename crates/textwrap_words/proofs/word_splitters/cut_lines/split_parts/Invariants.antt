@@ -1,8 +1,8 @@
 use Rattle.textwrap_words.proofs.word_splitters.cut_lines.split_parts.Given as goal
-use Rattle.textwrap_base.proofs.Common.{◌≡◌, ℕ, ◌++◌, ◌<◌, ◌≤◌, drop, length, List, map, get_or}
+use Rattle.textwrap_base.proofs.Common.{◌≡◌, ◌++◌, ◌<◌, drop, List, map}
 use Rattle.textwrap_base.proofs.Common.{IsCharBoundary}
 use Rattle.textwrap_words.proofs.Common.{AreSplit, MaySplit, WordText, word_of, word_view}
-use Rattle.textwrap_words.specs.Cuts.{parts_onward}
+use Rattle.textwrap_words.specs.Cuts.{AreNext, IsNextPoint, parts_onward}
 
 -- the pieces so far are those of the words before, which with the words of what follows the last cut
 -- are those of the line
@@ -13,5 +13,5 @@ invariant-loop-cut g l = record {
       ≡ map word_of (parts_onward 0 l.cuts l.line))
       × AreSplit (MaySplit l.word_splitter) words (map word_view l.pieces.items);
   boundary : 0 < l.start → IsCharBoundary l.line l.start;
-  before : (k : ℕ) → l.cut-index ≤ k → k < length l.cuts → l.start ≤ get_or l.cuts k 0;
+  left : AreNext (IsNextPoint l.line) (drop l.cut-index l.cuts) l.start;
 }

@@ -1,5 +1,6 @@
 use Rattle.textwrap_words.proofs.word_splitters.pieces.push_split.Given as goal
-use Rattle.textwrap_base.proofs.Common.{◌≡◌, ℕ, ◌++◌, ◌<◌, ◌≤◌, drop, length, map, get_or}
+use Rattle.textwrap_base.proofs.Common.{◌≡◌, ◌++◌, ◌<◌, drop, map}
+use Rattle.textwrap_words.specs.Cuts.{AreNext, IsNextPoint}
 use Rattle.textwrap_base.proofs.Common.{IsCharBoundary}
 use Rattle.textwrap_words.proofs.Common.{word_view, split_from, split_pieces}
 
@@ -10,5 +11,5 @@ invariant-loop-point g l = record {
       (drop l.point-index l.points) ≡ map word_view l.fn.pieces.items ++ split_pieces l.points
       (word_view l.word);
   cut : 0 < l.start → IsCharBoundary l.word.word.now l.start;
-  before : (k : ℕ) → l.point-index ≤ k → k < length l.points → l.start ≤ get_or l.points k 0;
+  left : AreNext (IsNextPoint l.word.word.now) (drop l.point-index l.points) l.start;
 }

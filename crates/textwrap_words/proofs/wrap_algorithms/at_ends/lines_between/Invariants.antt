@@ -1,11 +1,12 @@
 use Rattle.textwrap_words.proofs.wrap_algorithms.at_ends.lines_between.Given as goal
-use Rattle.textwrap_base.proofs.Common.{◌≡◌, ℕ, ◌++◌, ◌<◌, ◌≤◌, map, drop, length, get_or}
-use Rattle.textwrap_words.specs.LineEnds.{lines_from, lines_between}
+use Rattle.textwrap_base.proofs.Common.{◌≡◌, ◌++◌, map, drop, length}
+use Rattle.textwrap_words.specs.Cuts.{AreNext}
+use Rattle.textwrap_words.specs.LineEnds.{IsNextEnd, lines_from, lines_between}
 
 -- the lines so far, and those that follow them, are the lines between all ends
 abbrev pub invariant-loop-end : goal.invariant-loop-end
 invariant-loop-end g l = record {
   lines : map (λ line. line.now) l.lines.items ++ lines_from l.xs l.start (drop l.end-index l.ends)
       ≡ lines_between l.ends l.xs;
-  before : (k : ℕ) → l.end-index ≤ k → k < length l.ends → l.start ≤ get_or l.ends k 0;
+  left : AreNext (IsNextEnd (length l.xs)) (drop l.end-index l.ends) l.start;
 }

@@ -1,6 +1,11 @@
 use Rattle.textwrap_words.proofs.wrap_algorithms.at_ends.wrap_at_ends.Goals as goal
-use Rattle.textwrap_base.proofs.Common.{◌∙◌, ap, refl}
-use Rattle.textwrap_words.specs.LineEnds.{lines_between}
+use Rattle.textwrap_base.proofs.Common.{◌∙◌, ap, refl, subst, sym}
+use Rattle.textwrap_words.specs.LineEnds.{AreEnds, lines_between}
+
+pub lines_between-requires : goal.lines_between-requires
+lines_between-requires g c = subst (AreEnds c.args.words.now) (sym c.deref.ensures.value)
+    (c.args.line_ends.answers c.args.line_ends.alloc c.args.words c.args.line_widths _
+    c.in_ok-ends.ensures.0 c.in_ok-ends.ends refl)
 
 pub returns : goal.returns
 returns g c = record {

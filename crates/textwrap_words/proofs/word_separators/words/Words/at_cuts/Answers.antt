@@ -1,7 +1,8 @@
 use Rattle.textwrap_words.proofs.word_separators.words.Words.at_cuts.Goals as goal
 use Rattle.textwrap_base.proofs.Common.{refl, ap, map, ◌∙◌, sym, subst}
 use Rattle.textwrap_words.proofs.Common.{word_view, word_of, tiled, AreCuts, parts_between}
-use Rattle.textwrap_words.proofs.Word.Parts.{inner-cuts, MayCut-cuts, parts-texts}
+use Rattle.textwrap_words.proofs.Word.Cuts.{inner-cuts}
+use Rattle.textwrap_words.proofs.Word.Parts.{MayCut-cuts, parts-texts}
 use Rattle.textwrap_words.proofs.word_separators.words.Words.at_cuts.Goals.{In_ok-cuts}
 
 -- what was answered is cuts of the line

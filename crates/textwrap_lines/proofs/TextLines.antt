@@ -15,7 +15,7 @@ use Rattle.std.proofs.lemmas.List.Splits.{slice_split_first, slice_split_none, l
 use Rattle.std.proofs.lemmas.List.Splits.{slice_split_at, join_with_byte-slice_split}
 use Rattle.std.proofs.lemmas.List.Sums.{prefix_len_passes}
 use Rattle.textwrap_base.proofs.Lists.Parts.{last-cons, last-push, some_from_nonempty}
-use Rattle.textwrap_lines.proofs.Paragraph.Covered.{last-append}
+use Rattle.textwrap_base.proofs.Lists.Parts.{last-append}
 use Rattle.textwrap_lines.specs.TextLines.{EndedLine, ended_lines, ended_lines_of, ended_parts}
 use Rattle.textwrap_lines.specs.TextLines.{line_before_feed, with_ending}
 use Rattle.textwrap_lines.specs.declared.line_ending.LineEnding.TheVariants.{CRLF, LF}

@@ -15,7 +15,7 @@ use Rattle.std.proofs.lemmas.List.Elements.{All-get_or}
 use Rattle.std.proofs.lemmas.List.Folds.{map_fixed}
 use Rattle.textwrap_base.proofs.Lists.Parts.{some_from_nonempty, all-right}
 use Rattle.textwrap_words.proofs.Word.Texts.{trimmed-past}
-use Rattle.textwrap_lines.proofs.Paragraph.Covered.{last-append}
+use Rattle.textwrap_base.proofs.Lists.Parts.{last-append}
 use Rattle.textwrap.proofs.Text.InPlace.{blank_joined, feed_joined}
 use Rattle.std.specs.Str.Lines.{strip_carriage_return}
 use Rattle.textwrap.specs.Refilling.{ended_lines, has_text}

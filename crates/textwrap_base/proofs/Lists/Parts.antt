@@ -16,6 +16,8 @@ use Rattle.std.proofs.lemmas.Slice.Eq.{bytes_eq-Decides}
 use Rattle.std.proofs.lemmas.List.Prefix.{end_rest}
 use Rattle.std.specs.List.{position_or_len, after_last}
 use Rattle.std.specs.Str.Pattern.{FindsTextPrefix, FindsTextSuffix, StripsPrefix, StripsSuffix}
+use Rattle.textwrap_base.proofs.Common.{rules}
+use Rattle.std.proofs.lemmas.List.{get_or-append_right}
 
 -- ---- lists and their parts: slices, the last elements, and lists of parts
 
@@ -68,6 +70,9 @@ last_but_one cs = slice_index cs (length cs - 2)
 
 pub last-cons : (c d : ℕ) (cs : List ℕ) → last (c ∷ d ∷ cs) ≡ last (d ∷ cs)
 last-cons c d cs = grind arith
+
+pub last-append : (text more : List ℕ) → 0 < length more → last (text ++ more) ≡ last more
+last-append text more some = search (rules, length-append, get_or-append_right)
 
 pub last-push : (front : List ℕ) (c : ℕ) → last (front ++ c ∷ []) ≡ c
 last-push front c = let place : length front ≡ length (front ++ c ∷ []) - 1 =

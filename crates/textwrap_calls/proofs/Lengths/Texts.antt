@@ -23,7 +23,7 @@ use Rattle.std.specs.Prelude.{slice_index_or}
 use Rattle.std.specs.Str.Lines.{strip_carriage_return}
 use Rattle.textwrap_base.proofs.Lists.Parts.{last-cons}
 use Rattle.textwrap_base.proofs.Texts.{cut_text, ascii_seam}
-use Rattle.textwrap_lines.proofs.Paragraph.Covered.{last-append}
+use Rattle.textwrap_base.proofs.Lists.Parts.{last-append}
 use Rattle.textwrap_lines.specs.declared.line_ending.LineEnding.TheVariants.{CRLF, LF}
 use Rattle.textwrap.proofs.Text.Indents.{ended_lines-feed, ended_lines-one, is_feed}
 use Rattle.textwrap.proofs.Text.Margins.{common_prefix-begins}

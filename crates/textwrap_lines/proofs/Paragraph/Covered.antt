@@ -11,8 +11,8 @@ use Rattle.textwrap_words.proofs.Common.{tile_of, tiled, blank, word_of, IsUncut
 use Rattle.textwrap_lines.proofs.Common.{covered, Word}
 use Rattle.std.proofs.lemmas.Str.{IsCharBoundary-from_rest}
 use Rattle.textwrap_words.proofs.Word.Words.{tiled-push, tiled-map, tiled-words_of, words_unique}
-use Rattle.std.proofs.lemmas.List.{drop-map, get_or-append_right}
-use Rattle.textwrap_base.proofs.Lists.Parts.{flat, all-left, all-right}
+use Rattle.std.proofs.lemmas.List.{drop-map}
+use Rattle.textwrap_base.proofs.Lists.Parts.{flat, all-left, all-right, last-append}
 use Rattle.textwrap_base.proofs.Division.Map.{IsDivision-whole, IsDividedBy-some}
 
 -- ---- what the words of a line cover, and where a text that they tile may be cut
@@ -91,9 +91,6 @@ some-flat : (chunk : List ℕ) (chunks : List (List ℕ)) → chunk ≢ []
     → 0 < length (flat (chunk ∷ chunks))
 some-flat [] chunks some = absurd (some refl)
 some-flat (c ∷ chunk) chunks some = omega arith
-
-pub last-append : (text more : List ℕ) → 0 < length more → last (text ++ more) ≡ last more
-last-append text more some = search (rules, length-append, get_or-append_right)
 
 -- the chunks before others end in a blank
 blank-before : (chunk : List ℕ) (chunks : List (List ℕ)) (next : List ℕ) (others : List (List ℕ))

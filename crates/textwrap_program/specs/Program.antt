@@ -5,6 +5,7 @@ use Rattle.textwrap_program.specs.Arguments.{algorithm_view}
 use Rattle.textwrap_program.specs.Filling.{WritesPrefix, Runs, fault_line}
 use Rattle.textwrap_program.specs.declared.arguments.FillRequest.{FillRequest}
 use Rattle.textwrap_program.specs.declared.filling.RunError.{RunError}
+pub use Rattle.textwrap_lines.specs.LineEnding.{line_feed}
 
 -- what a reader has left, and what two writers hold, where that is known
 pub record Streams : Type 0 where
@@ -14,9 +15,6 @@ pub record Streams : Type 0 where
 
 abbrev pub usage_line : List ℕ
 usage_line = codes "usage: textwrap_cli WIDTH [first|optimal]"
-
-abbrev pub line_feed : ℕ
-line_feed = 10
 
 -- a writer took this line, or a prefix of it where it failed
 abbrev pub TriesLine : Option (List ℕ) → Option (List ℕ) → List ℕ → Type 0

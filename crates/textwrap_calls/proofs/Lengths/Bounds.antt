@@ -11,6 +11,7 @@ use Rattle.textwrap_calls.proofs.Common.{sum_by-le-sum_by, mul-le, flat, HasNoHy
 use Rattle.textwrap_calls.proofs.Common.{join-paragraphs_of, paragraphs_of-utf8, ending_bytes-some}
 use Rattle.textwrap_calls.proofs.Common.{table_rows, IsInColumns, algorithm_of, Divides}
 use Rattle.textwrap_calls.proofs.Common.{separator_of, splitter_of, settings_of, TextwrapOptions}
+use Rattle.textwrap_calls.proofs.Common.{◌++◌, All-head}
 use Rattle.textwrap_base.proofs.Common.{and_parts, ◌/◌, max}
 use Rattle.textwrap_lines.proofs.Common.{AreTextLines, Line, Slice, built_bytes, built_text}
 use Rattle.textwrap.proofs.Common.{RowLayout, cell, cells, padded, row_text}
@@ -24,14 +25,16 @@ use Rattle.textwrap_lines.proofs.Text.Groups.{groups-map}
 use Rattle.textwrap_lines.specs.Paragraph.{Built}
 use Rattle.textwrap.proofs.Text.Tables.{columns_kept}
 use Rattle.textwrap.specs.Columns.{row_count, layout_of, at_column_width, column_width, inner_width}
+use Rattle.textwrap.specs.Columns.{blanks}
 use Rattle.textwrap_plain.proofs.Words.{IsWrapped-at}
 use Rattle.textwrap_calls.proofs.Lengths.Lines.{bytes-length, groups-size, slices_length}
-use Rattle.textwrap_calls.proofs.Lengths.Lines.{count-lines}
+use Rattle.textwrap_calls.proofs.Lengths.Lines.{count-lines, indent-length}
 use Rattle.textwrap_calls.proofs.Lengths.Sums.{texts_length, texts-joined, by-columns, sum-each}
 use Rattle.textwrap_calls.proofs.Lengths.Sums.{sum-map}
 use Rattle.textwrap_calls.specs.Bounds.{wrap_room_bound, fill_bound, columns_room_bound, rows_bound}
 use Rattle.textwrap_calls.specs.Columns.{AreRows}
 use Rattle.textwrap_calls.specs.declared.columns.TextwrapGaps.{TextwrapGaps}
+use Rattle.std.proofs.Common.{replicate}
 
 -- ---- how many lines a text has at most, and how long they are together, by the options of C
 
@@ -42,7 +45,12 @@ built-le [] = omega arith
 built-le (Slice bytes ∷ lines) =
     omega (arith, built-le lines, sum_by-cons (λ (t : List ℕ). length t) bytes (map line_bytes lines))
 built-le (Built bytes ∷ lines) =
-    grind (arith, built-le lines, length-append, sum_by-cons)
+    omega (
+      arith,
+      built-le lines,
+      length-append bytes (built_text lines),
+      sum_by-cons (λ (t : List ℕ). length t) bytes (map line_bytes lines),
+    )
 
 slice-line : (p : LineParts) → length p.indent ≡ 0 → HasNoHyphen p
     → length (built_bytes (line_from p)) ≡ 0
@@ -59,11 +67,12 @@ built-none : (settings : Settings) (is_later : Bool) (parts : List LineParts)
     → length (built_text (map line_from parts)) ≡ 0
 built-none settings is_later [] here later are none = refl
 built-none settings is_later (p ∷ parts) here later are none =
-    grind (
+    omega (
       arith,
-      slice-line,
+      slice-line p (omega (arith, here, ap length are.0, indent-length settings is_later p.pieces))
+          (All-head HasNoHyphen p parts none),
       built-none settings true parts later later are.1 (All-tail HasNoHyphen p parts none),
-      length-append,
+      length-append (built_bytes (line_from p)) (built_text (map line_from parts)),
     )
 
 -- ---- all lines
@@ -147,7 +156,14 @@ filled-bounded o settings len text filled utf8 len_is (lines, are, is) =
     let ending = ending_bytes settings.line_ending in
     let k = length settings.subsequent_indent in
     let spread : len * (1 + k + length ending) ≡ len * (1 + k) + len * length ending = omega arith in
-    grind (arith, ap length is, joined-le, bounded.bytes)
+    omega (
+      arith,
+      ap length is,
+      joined-le ending len (map line_bytes lines)
+          (omega (arith, bounded.count, length-map lines line_bytes)),
+      bounded.bytes,
+      spread,
+    )
 
 -- ---- how long the rows of a text in columns are together
 
@@ -176,13 +192,15 @@ module _ (lines : List (List ℕ)) (columns : ℕ) (some : 1 ≤ columns) where
   cells-length =
       let (empty, kept) = columns_kept lines columns some in
       let all = range_with_len 0 columns in
-      grind (
+      omega (
         arith,
-        sum_by-le-sum_by,
-        by-columns,
+        sum_by-le-sum_by (λ r. texts_length (row r))
+            (λ r. sum_by (λ c. length (get_or (row r) c [])) all) rows
+            (λ r. omega (arith, row-cells r)),
+        by-columns (λ r c. get_or (row r) c []) rows all,
         ap texts_length kept,
-        sum_by-append,
-        sum_by-replicate,
+        sum_by-append (λ (t : List ℕ). length t) lines (replicate empty []),
+        sum_by-replicate (λ (t : List ℕ). length t) empty [],
       )
 
 -- ---- how long a row is
@@ -207,7 +225,19 @@ row-within layout (x ∷ xs) some is =
     let one : layout.columns - 1 ≡ length (map fill xs) = omega (arith, is, length-map xs fill) in
     let gaps = ap (λ n. n * length layout.middle) one in
     let columns = ap (λ n. n * layout.column_width) is in
-    grind (arith, texts-joined, sum-map, sum-each, length-append, length-replicate)
+    omega (
+      arith,
+      texts-joined layout.middle (fill x) (map fill xs),
+      sum-map (λ (t : List ℕ). length t) fill (x ∷ xs),
+      sum-each (λ t. length (fill t)) (λ t. length t) layout.column_width
+          (λ t. omega (arith, padded-length layout.column_width t)) (x ∷ xs),
+      gaps,
+      columns,
+      length-append layout.left joined,
+      length-append (layout.left ++ joined) (blanks layout.spare_width),
+      length-append (layout.left ++ joined ++ blanks layout.spare_width) layout.right,
+      length-replicate {A = ℕ} layout.spare_width 32,
+    )
 
 -- all rows, of such lines
 pub rows-length : (layout : RowLayout) (lines : List (List ℕ)) → 1 ≤ layout.columns
@@ -216,11 +246,15 @@ pub rows-length : (layout : RowLayout) (lines : List (List ℕ)) → 1 ≤ layou
 rows-length layout lines some =
     let count = row_count lines layout.columns in
     let all = range_with_len 0 count in
-    grind (
+    omega (
       arith,
-      sum-map,
-      sum-each,
-      cells-length,
+      sum-map (λ (t : List ℕ). length t)
+          (λ r. row_text layout (cells lines count layout.columns r)) all,
+      sum-each (λ r. length (row_text layout (cells lines count layout.columns r)))
+          (λ r. texts_length (cells lines count layout.columns r)) (row_room layout)
+          (λ r. row-within layout (cells lines count layout.columns r) some
+          (row-length lines layout.columns some r)) all,
+      cells-length lines layout.columns some,
       ap (λ n. n * row_room layout) (length-range_with_len 0 count),
     )
 
@@ -259,7 +293,12 @@ inner-room inner columns =
 built-rows : (rows : List (List ℕ)) → length (built_text (map Built rows)) ≡ texts_length rows
 built-rows [] = refl
 built-rows (row ∷ rows) =
-    grind (arith, built-rows rows, length-append, sum_by-cons)
+    omega (
+      arith,
+      built-rows rows,
+      length-append row (built_text (map Built rows)),
+      sum_by-cons (λ (t : List ℕ). length t) row rows,
+    )
 
 -- ---- the bounds
 

@@ -224,7 +224,13 @@ slices_length parts = sum_by (λ p. length p.slice) parts
 slices-parts : (parts : List LineParts) → slices_length parts ≤ length (covered_by parts)
 slices-parts [] = omega arith
 slices-parts (p ∷ parts) =
-    grind (arith, sum_by-cons, slices-parts parts, length-append)
+    omega (
+      arith,
+      sum_by-cons (λ (p : LineParts). length p.slice) p parts,
+      slices-parts parts,
+      length-append (p.slice ++ p.left_off) (covered_by parts),
+      length-append p.slice p.left_off,
+    )
 
 pub groups-size : (ending : List ℕ) → 0 < length ending → (is_later : Bool)
     (groups : List (List LineParts))
@@ -266,13 +272,21 @@ pub bytes-length : (settings : Settings) (is_later : Bool) (p : LineParts) (part
     ≤ length (indent_of settings is_later) + slices_length (p ∷ parts)
     + length parts * length settings.subsequent_indent
 bytes-length settings is_later p [] are none =
-    grind (arith, line-length, ap length are.0, indent-length, sum_by-cons)
-bytes-length settings is_later p (q ∷ parts) are none =
-    grind (
+    omega (
       arith,
-      line-length,
+      line-length p (All-head HasNoHyphen p [] none),
       ap length are.0,
-      indent-length,
+      indent-length settings is_later p.pieces,
+      sum_by-cons (λ (p : LineParts). length p.slice) p [],
+      sum_by-cons (λ (t : List ℕ). length t) (line_bytes (line_from p)) [],
+    )
+bytes-length settings is_later p (q ∷ parts) are none =
+    omega (
+      arith,
+      line-length p (All-head HasNoHyphen p (q ∷ parts) none),
+      ap length are.0,
+      indent-length settings is_later p.pieces,
       bytes-length settings true q parts are.1 (All-tail HasNoHyphen p (q ∷ parts) none),
-      sum_by-cons,
+      sum_by-cons (λ (p : LineParts). length p.slice) p (q ∷ parts),
+      sum_by-cons (λ (t : List ℕ). length t) (line_bytes (line_from p)) (bytes_of (q ∷ parts)),
     )

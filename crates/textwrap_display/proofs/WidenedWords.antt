@@ -11,7 +11,8 @@ use Rattle.textwrap.specs.Columns.{blanks}
 use Rattle.textwrap_base.proofs.Lists.Parts.{flat, flat-onto_first, onto_first-length}
 use Rattle.textwrap_words.specs.Blanks.{blank, is_blank, final_blanks, BlanksBetween}
 use Rattle.textwrap_words.specs.Words.{chunks, is_cut, tiled, word_of, words_of, WordText}
-use Rattle.textwrap_words.proofs.Word.Words.{chunks-from, tiled-map}
+use Rattle.textwrap_words.proofs.Word.Chunks.{chunks-from}
+use Rattle.textwrap_words.proofs.Word.Words.{tiled-map}
 use Rattle.textwrap_display.proofs.KeptWords.{trimmed_len-blanks}
 use Rattle.textwrap_display.proofs.Widths.{blanks-are}
 use Rattle.textwrap_display.specs.Justifying.{widened_words, indent_len, gaps, justified}

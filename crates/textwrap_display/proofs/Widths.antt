@@ -11,7 +11,8 @@ use Rattle.textwrap.specs.Columns.{blanks}
 use Rattle.textwrap_words.specs.Blanks.{blank, is_blank}
 use Rattle.textwrap_words.specs.Units.{text_width}
 use Rattle.textwrap_words.proofs.Units.Reading.{printable-width}
-use Rattle.textwrap_words.proofs.Word.Texts.{AreBlanks, chunks-utf8}
+use Rattle.textwrap_words.proofs.Word.Chunks.{chunks-utf8}
+use Rattle.textwrap_words.proofs.Word.Texts.{AreBlanks}
 use Rattle.textwrap_lines.proofs.Paragraph.LeftOff.{blanks-utf8}
 use Rattle.textwrap_lines.proofs.Text.Printed.{blanks-printable, blanks-whole}
 use Rattle.textwrap_lines.proofs.Text.Paragraphs.{text_width-append}

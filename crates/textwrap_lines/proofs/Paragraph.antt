@@ -3,3 +3,4 @@ pub mod KeepsTo
 pub mod LeftOff
 pub mod Pieces
 pub mod Widths
+pub mod Standing

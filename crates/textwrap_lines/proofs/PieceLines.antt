@@ -1,34 +1,28 @@
 -- The lines of first fit, found piece by piece: the pieces that come, the line so far, the first
 -- line.
-use Rattle.textwrap_base.proofs.Common.{◌≡◌, ℕ, ◌+◌, ◌≤◌, List, ◌++◌, length, take, drop, ap, ◌∙◌}
-use Rattle.textwrap_base.proofs.Common.{sym, subst, arith, append_assoc, length-append, IsUtf8}
-use Rattle.textwrap_base.proofs.Common.{IsCharBoundary, take_at, drop_at, drop-drop, IsUtf8-drop}
-use Rattle.textwrap_base.proofs.Common.{rules, [], ◌∷◌, All, refl, All-head, All-tail}
-use Rattle.textwrap_base.proofs.Common.{IsCharBoundary-start, ⊤, ◌-◌, ◌^◌, ◌<◌, true, false, cond}
-use Rattle.textwrap_base.proofs.Common.{le-ltb, Bool, nat_lt, lt-ltb, length_push, open_width}
+use Rattle.textwrap_base.proofs.Common.{◌≡◌, ℕ, ◌+◌, List, ◌++◌, length, drop, ap, ◌∙◌, sym, subst}
+use Rattle.textwrap_base.proofs.Common.{arith, append_assoc, length-append, IsUtf8, IsCharBoundary}
+use Rattle.textwrap_base.proofs.Common.{take_at, drop_at, drop-drop, rules, [], ◌∷◌, All, refl}
+use Rattle.textwrap_base.proofs.Common.{All-head, All-tail, IsCharBoundary-start, ⊤, ◌-◌, ◌<◌, true}
+use Rattle.textwrap_base.proofs.Common.{false, cond, Bool, nat_lt, lt-ltb, length_push, open_width}
 use Rattle.textwrap_base.proofs.Common.{slice_range, and_parts, cond_both, ltb-true, ltb-false}
 use Rattle.textwrap_base.proofs.Common.{closed_width, IsGreedy}
-use Rattle.std.proofs.lemmas.Str.{IsCharBoundary-from_rest}
-use Rattle.textwrap_base.proofs.Texts.{StartsWith-boundary}
-use Rattle.textwrap_words.proofs.Common.{WordText, tiled, Splitter, broken_words, broken_pieces}
-use Rattle.textwrap_words.proofs.Common.{tile_of, split_words, words_of, sizes_of}
+use Rattle.textwrap_words.proofs.Common.{WordText, tiled, Splitter, words_of, sizes_of}
 use Rattle.textwrap_words.specs.Pieces.{stand_from, empty_front}
 use Rattle.textwrap_words.specs.declared.pieces.Piece.{Piece}
 use Rattle.textwrap_words.proofs.Units.Reading.{text_width-le}
-use Rattle.textwrap_words.proofs.Word.Words.{IsMeasured, IsNarrowWord, IsNarrowWord-measured}
-use Rattle.textwrap_words.proofs.Word.Words.{tiled-append, HasNoPenalty}
+use Rattle.textwrap_words.proofs.Word.Words.{IsMeasured, tiled-append, HasNoPenalty}
 use Rattle.textwrap_words.proofs.Word.Pieces.{AreTexts}
 use Rattle.textwrap_lines.proofs.Common.{Settings, pieces_of_words, front_of, text_limit}
-use Rattle.textwrap_lines.proofs.Common.{broken_pieces_of, front_pieces, later_width, first_width}
-use Rattle.textwrap_lines.proofs.Common.{indent_of, lines_past, LineSoFar, pieces_of, covered}
-use Rattle.textwrap_lines.proofs.Common.{with_piece, assembled_line, line_from, parts_from}
-use Rattle.textwrap_lines.proofs.Common.{parts_of, widths_of, line_of, cut_line, cut_lines}
+use Rattle.textwrap_lines.proofs.Common.{later_width, first_width, indent_of, lines_past, LineSoFar}
+use Rattle.textwrap_lines.proofs.Common.{pieces_of, covered, with_piece, assembled_line, line_from}
+use Rattle.textwrap_lines.proofs.Common.{parts_from, parts_of, widths_of, line_of, cut_line}
+use Rattle.textwrap_lines.proofs.Common.{cut_lines}
 use Rattle.textwrap_lines.specs.PieceLines.{ComesAt, is_past, line_opened, no_pieces}
-use Rattle.textwrap_lines.proofs.Paragraph.LeftOff.{blanks-utf8, covered-space, assembled-parts}
+use Rattle.textwrap_lines.proofs.Paragraph.LeftOff.{covered-space, assembled-parts}
 use Rattle.textwrap_lines.proofs.Paragraph.Pieces.{pieces_of_words-measured, pieces_of_words-tile}
-use Rattle.textwrap_lines.proofs.Paragraph.Pieces.{split_words-measured, split_words-no_penalty}
-use Rattle.textwrap_lines.proofs.Paragraph.Pieces.{split_words-tile, words_of-texts}
-use Rattle.textwrap_lines.specs.Layout.{break_limit, limit_at}
+use Rattle.textwrap_lines.proofs.Paragraph.Pieces.{words_of-texts}
+use Rattle.textwrap_lines.specs.Layout.{break_limit}
 use Rattle.textwrap_words.specs.PieceCuts.{pieces_from_place}
 use Rattle.textwrap_words.proofs.Word.SplitParts.{pieces-start}
 use Rattle.textwrap_base.proofs.Division.Greedy.{open_width-append, closed_width-push}
@@ -37,45 +31,8 @@ use Rattle.textwrap_base.proofs.Division.Grown.{grown, grown-full, grown-room, g
 use Rattle.textwrap_base.proofs.Lists.Parts.{all-left, all-right}
 use Rattle.textwrap_lines.proofs.Paragraph.Widths.{later_is}
 use Rattle.textwrap_lines.proofs.Text.Sinks.{cut_lines-next}
-
--- ---- where the next piece of a line stands in the text
-
--- it stands there with its whitespace, characters end after both, and the text goes on
-pub record StandsAt (text : List ℕ) (at : ℕ) (w : WordText) (after : List ℕ) : Type 0 where
-  pub word : slice_range text at (at + length w.word) ≡ w.word
-  pub gap : slice_range text (at + length w.word) (at + length w.word + length w.whitespace)
-      ≡ w.whitespace
-  pub word_ends : IsCharBoundary text (at + length w.word)
-  pub ends : IsCharBoundary text (at + length w.word + length w.whitespace)
-  pub next : drop (at + length w.word + length w.whitespace) text ≡ after
-  pub utf8 : IsUtf8 (drop (at + length w.word + length w.whitespace) text)
-
-pub stands-at : (text : List ℕ) (at : ℕ) (w : WordText) (after : List ℕ)
-    → drop at text ≡ tile_of w ++ after → IsCharBoundary text at → IsUtf8 (drop at text)
-    → IsMeasured w → StandsAt text at w after
-stands-at text at w after seam begins utf8 measured =
-    let n = length w.word in
-    let m = length w.whitespace in
-    let n_is : at + n - at ≡ n = omega arith in
-    let m_is : at + n + m - (at + n) ≡ m = omega arith in
-    let first = seam ∙ append_assoc w.word w.whitespace after in
-    let word = ap (take n) first ∙ take_at w.word (w.whitespace ++ after) n refl in
-    let past : drop (at + n) text ≡ w.whitespace ++ after = sym (drop-drop n at text)
-    ∙ ap (drop n) first ∙ drop_at w.word (w.whitespace ++ after) n refl in
-    let gap = ap (take m) past ∙ take_at w.whitespace after m refl in
-    let edge = StartsWith-boundary (drop at text) w.word utf8 measured.utf8 word in
-    let word_ends = IsCharBoundary-from_rest text at n begins.0 edge in
-    let utf8_past = subst IsUtf8 (drop-drop n at text) (IsUtf8-drop (drop at text) n utf8 edge) in
-    let end = StartsWith-boundary (drop (at + n) text) w.whitespace utf8_past
-    (blanks-utf8 w.whitespace measured.ending.blanks) gap in
-    record {
-      word = ap (λ k. take k (drop at text)) n_is ∙ word;
-      gap = ap (λ k. take k (drop (at + n) text)) m_is ∙ gap;
-      word_ends = word_ends;
-      ends = IsCharBoundary-from_rest text (at + n) m word_ends.0 end;
-      next = sym (drop-drop m (at + n) text) ∙ ap (drop m) past ∙ drop_at w.whitespace after m refl;
-      utf8 = subst IsUtf8 (drop-drop m (at + n) text) (IsUtf8-drop (drop (at + n) text) m utf8_past end);
-    }
+use Rattle.textwrap_lines.proofs.Paragraph.Standing.{ends, limited-pieces, next, stands-at, utf8}
+use Rattle.textwrap_lines.proofs.Paragraph.Standing.{word, word_ends}
 
 -- ---- the pieces of a text that stand after a place
 
@@ -111,44 +68,6 @@ pieces-come settings splitter paragraph words utf8 texts =
     (sym (pieces_of_words-tile settings splitter paragraph words utf8 texts))
     (IsCharBoundary-start paragraph utf8) utf8
     (pieces_of_words-measured settings splitter paragraph words utf8 texts)
-
--- ---- words that stay whole are broken past a limit that none reaches
-
-unbroken : (limit : ℕ) (ws : List WordText) → All IsNarrowWord ws → length (tiled ws) ≤ limit
-    → broken_words limit ws ≡ ws
-unbroken limit [] bounded within = refl
-unbroken limit (w ∷ ws) bounded within =
-    let here = All-head IsNarrowWord w ws bounded in
-    let len = length-append (tile_of w) (tiled ws) in
-    let word = length-append w.word w.whitespace in
-    ap (λ b. cond b (broken_pieces limit w) (w ∷ []) ++ broken_words limit ws)
-    (le-ltb limit w.width (omega (arith, here.width, within, len, word)))
-    ∙ ap (λ l. w ∷ l) (unbroken limit ws (All-tail IsNarrowWord w ws bounded)
-    (omega (arith, within, len)))
-
--- whether words are broken or not, these are the pieces
-pub limited-words : (settings : Settings) (split : List WordText) → All IsNarrowWord split
-    → length (tiled split) < text_limit
-    → front_of settings ++ broken_words (break_limit settings) split
-    ≡ broken_pieces_of settings split
-limited-words settings split bounded short = elim settings.break_words as (λ b.
-    cond b (front_pieces settings) [] ++ broken_words (limit_at b (later_width settings)) split
-    ≡ cond b (front_pieces settings ++ broken_words (later_width settings) split) split) [
-      | true ↦ refl
-      | false ↦ unbroken (2 ^ 64 - 1) split bounded (omega (arith, short))
-    ]
-
-pub limited-pieces : (settings : Settings) (splitter : Splitter) (paragraph : List ℕ)
-    (words : List WordText) → IsUtf8 paragraph → AreTexts paragraph words
-    → length paragraph < text_limit
-    → front_of settings ++ broken_words (break_limit settings) (split_words splitter words)
-    ≡ pieces_of_words settings splitter words
-limited-pieces settings splitter paragraph words utf8 texts short =
-    let measured = split_words-measured settings splitter paragraph words utf8 texts in
-    let plain = split_words-no_penalty settings splitter paragraph words utf8 texts in
-    let tile = ap length (split_words-tile settings splitter paragraph words utf8 texts) in
-    limited-words settings (split_words splitter words)
-    (λ k d lt. IsNarrowWord-measured _ (measured k d lt) (plain k d lt)) (omega (arith, tile, short))
 
 -- ---- the first line of a paragraph, found piece by piece, and the place that it goes up to
 

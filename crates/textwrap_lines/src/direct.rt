@@ -2,7 +2,7 @@
 //!
 //! By first fit a paragraph of printable ASCII is divided line by line, and any other piece by piece.
 //! By least cost a paragraph is divided by where its pieces stand.
-ghost use Rattle.std.specs.Prelude.{◌≡◌, ◌<◌, map, IsTrue, IfOk, IfSome, OnOk, false, true, IsOk, IsOkAnd, IsSomeAnd};
+ghost use Rattle.std.specs.Prelude.{◌≡◌, ◌<◌, map, IsTrue, IfOk, IfSome, OnOk, false, true, IsOk, IsOkAnd};
 ghost use Rattle.std.specs.Prelude.{Some, List, length};
 ghost use Rattle.textwrap_base.specs.Division.{IsGreedy};
 ghost use Rattle.textwrap_words.specs.PieceCuts.{parts_by};
@@ -10,26 +10,23 @@ ghost use Rattle.textwrap_words.specs.Pieces.{as_splitter};
 ghost use Rattle.textwrap_words.specs.Units.{IsPrintable};
 ghost use Rattle.textwrap_words.specs.Words.{WordText, sizes_of, word_of};
 ghost use Rattle.textwrap_words.specs.WrapAlgorithms.{IsDividedBy};
-ghost use Rattle.textwrap_lines.specs.Direct.{CanBeCut, HasMethods, IsDirect, as_algorithm, pieces_cut};
+ghost use Rattle.textwrap_lines.specs.Direct.{CanBeCut, as_algorithm, pieces_cut};
 ghost use Rattle.textwrap_lines.specs.Direct.{cuts_of};
 ghost use Rattle.textwrap_lines.specs.LineSinks.{Took};
 ghost use Rattle.textwrap_lines.specs.Frame.{frame_lines, frame_settings, frame_widths};
 ghost use Rattle.textwrap_lines.specs.Paragraph.{first_width, later_width, pieces_of, pieces_of_words};
 
-use crate::any_options::{AnyOptions, BuiltInAlgorithm, BuiltInParts};
+use crate::any_options::{AnyOptions, BuiltInAlgorithm};
 use crate::cheapest::{push_cheapest_lines, suits_search};
 use crate::first_line::push_first_line;
 use crate::frame::Frame;
 use crate::layout::Cuts;
 use crate::line_sinks::LineSink;
-use crate::options::Options;
 use crate::piece_lines::push_lines_by_pieces;
 use crate::printable::push_printable_lines;
 use crate::printable_cuts::{BlankCuts, PrintableCuts};
 use std::alloc::{AllocError, Allocator};
 use textwrap_words::inner::{BuiltInSplitter, is_printable};
-use textwrap_words::word_splitters::WordSplitter;
-use textwrap_words::wrap_algorithms::WrapAlgorithm;
 
 /// Pushes the lines of a paragraph that is cut there, by a built-in algorithm, and returns whether it
 /// has; if not, it has pushed none.
@@ -79,29 +76,6 @@ pub(crate) fn push_directly<'t, A: Allocator + Copy, S: LineSink<'t, A>>(
         }
     }
     Ok(true)
-}
-
-/// The splitter and the algorithm of options, if they are built in.
-pub(crate) fn built_in_parts(options: &Options<'_>) -> Option<BuiltInParts>
-    ensures parts { IfSome result (λ parts. HasMethods options.now
-        (as_splitter parts.splitter) (as_algorithm parts.algorithm)) }
-    ensures first_fit { IsDirect options.now
-        → IsSomeAnd result (λ parts. parts.algorithm ≡ BuiltInAlgorithm.FirstFit) }
-{
-    let splitter = match options.word_splitter {
-        WordSplitter::NoHyphenation => BuiltInSplitter::NoHyphenation,
-        WordSplitter::HyphenSplitter => BuiltInSplitter::HyphenSplitter,
-        WordSplitter::Custom(_) => return None,
-    };
-    let algorithm = match options.wrap_algorithm {
-        WrapAlgorithm::FirstFit => BuiltInAlgorithm::FirstFit,
-        WrapAlgorithm::OptimalFit(penalties) => BuiltInAlgorithm::LeastCost(penalties),
-        WrapAlgorithm::Custom(_) => return None,
-    };
-    Some(BuiltInParts {
-        splitter,
-        algorithm,
-    })
 }
 
 /// Whether the lines of a paragraph are found from their starts by their widths: if it is printable

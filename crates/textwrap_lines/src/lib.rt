@@ -26,6 +26,7 @@ mod line_sinks;
 mod options;
 pub mod parts;
 mod piece_lines;
+mod pieces;
 pub mod placed;
 mod places;
 mod printable;

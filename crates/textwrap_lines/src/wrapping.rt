@@ -1,15 +1,14 @@
 //! Wrapping a text into lines.
-ghost use Rattle.std.specs.Prelude.{◌≡◌, ℕ, List, ◌∷◌, [], ◌++◌, ◌^◌, ◌<◌, length, take, drop, map};
+ghost use Rattle.std.specs.Prelude.{◌≡◌, ℕ, List, ◌∷◌, [], ◌++◌, ◌<◌, length, drop, map};
 ghost use Rattle.std.specs.Prelude.{◌+◌, IsCharBoundary, nat_lt, if◌then◌else◌, alloc_error, true, IfOk, IfErr, IfSome};
 ghost use Rattle.std.specs.Prelude.{◌≢◌, OnOk, IsOk, IsSomeAnd, MatchOption, None};
-ghost use Rattle.textwrap_lines.specs.Direct.{AreParts, IsDirect};
+ghost use Rattle.textwrap_lines.specs.Direct.{AreParts};
 ghost use Rattle.std.specs.List.{flat_map};
 ghost use Rattle.std.specs.Str.{IsUtf8};
 ghost use Rattle.std.specs.Io.{StartsWith};
 ghost use Rattle.textwrap_words.specs.Blanks.{without_final_blanks};
-ghost use Rattle.textwrap_words.specs.Breaking.{broken_words};
 ghost use Rattle.textwrap_words.specs.WrapAlgorithms.{Algorithm, algorithm_view, Greedy};
-ghost use Rattle.textwrap_words.specs.Words.{WordText, word_view, tiled, Tiles};
+ghost use Rattle.textwrap_words.specs.Words.{WordText, word_view, tiled};
 ghost use Rattle.textwrap_words.specs.declared.wrap_algorithms.WrapAlgorithm.TheVariants.{FirstFit};
 ghost use Rattle.textwrap_lines.specs.Frame.{frame_lines, frame_settings};
 ghost use Rattle.textwrap_lines.specs.Fuzzing.{AppendsLines};
@@ -19,8 +18,8 @@ ghost use Rattle.textwrap_lines.specs.LineSinks.{Took};
 ghost use Rattle.textwrap_lines.specs.Options.{Settings, layout_view, settings_view, HasBuiltInParts};
 ghost use Rattle.textwrap_lines.specs.Options.{HasParts, MayOverflow};
 ghost use Rattle.textwrap_lines.specs.Paragraph.{text_limit, LineParts, line_view};
-ghost use Rattle.textwrap_lines.specs.Paragraph.{broken_pieces_of, covered};
-ghost use Rattle.textwrap_lines.specs.Paragraph.{ArePieces, widths_of};
+ghost use Rattle.textwrap_lines.specs.Paragraph.{covered};
+ghost use Rattle.textwrap_lines.specs.Paragraph.{widths_of};
 ghost use Rattle.textwrap_lines.specs.Paragraph.{is_whole, parts_of, parts_from, Adds, DividesBy};
 ghost use Rattle.textwrap_lines.specs.Paragraph.{AreDividedParts, AreParagraphParts};
 ghost use Rattle.textwrap_lines.specs.Paragraph.{DividesAs, MayPass64Bits, OnlyCharactersPass};
@@ -28,24 +27,20 @@ ghost use Rattle.textwrap_lines.specs.Places.{AreCutLines, CutLine, cut_lines};
 ghost use Rattle.textwrap_lines.specs.Text.{AreTextLines, IsWrapped, LinesKeepToWidth};
 ghost use Rattle.textwrap_lines.specs.Text.{CanKeepToWidth, ArePrintedWithin};
 ghost use Rattle.textwrap_lines.specs.Text.{HasParagraphThat, SomeMayPass64Bits};
-ghost use Rattle.textwrap_words.specs.WordSeparators.{MaySeparate};
-ghost use Rattle.textwrap_words.specs.WordSplitters.{AreSplit, MaySplit, Splitter, splitter_view};
+ghost use Rattle.textwrap_words.specs.WordSplitters.{Splitter, splitter_view};
 
 use crate::any_options::{AnyOptions, BuiltInAlgorithm, BuiltInParts};
-use crate::direct::{built_in_parts, jump_cuts, push_by_jumps, push_directly};
+use crate::direct::{jump_cuts, push_by_jumps, push_directly};
 use crate::frame::Frame;
 use crate::layout::{Cuts, Layout, next_indent};
 use crate::line_bounds::{LineBounds, push_between};
 use crate::line_ending::LineEnding;
 use crate::line_sinks::{LineSink, ListedLines};
 use crate::options::Options;
-use crate::printable_cuts::BlankCuts;
 use std::alloc::{AllocError, Allocator};
 use std::borrow::CowStr;
 use textwrap_words::blanks::split_final_blanks;
-use textwrap_words::inner::{given_cuts, push_measured, split_at_cuts, stay_whole};
-use textwrap_words::word_separators::WordSeparator;
-use textwrap_words::words::{Word, break_words};
+use textwrap_words::words::Word;
 use textwrap_words::wrap_algorithms::WrapError;
 
 /// Wraps a text and returns its lines.
@@ -423,147 +418,6 @@ pub fn wrap_single_line_slow_path<'t, A: Allocator + Copy>(
     let mut found = ListedLines { lines: &mut own };
     push_divided(alloc, line, options, &frame, &mut found)?;
     Ok(lines.append(&mut own)?)
-}
-
-/// The pieces of a paragraph that are divided.
-///
-/// # Errors
-/// [`AllocError`] where memory runs out, or a function of the caller says so.
-fn find_pieces<'t, A: Allocator + Copy>(
-    alloc: A,
-    paragraph: &'t str,
-    options: &Options<'_>,
-) -> Result<Vec<Word<'t>, A>, AllocError>
-    ensures pieces { IfOk result (λ pieces. ArePieces (settings_view options.now)
-        (MaySeparate options.now.word_separator) (MaySplit options.now.word_splitter) paragraph.now
-        (map word_view pieces.items)) }
-    ensures tiles { IfOk result (λ pieces. Tiles (map word_view pieces.items) paragraph.now) }
-{
-    let split = find_split_words(alloc, paragraph, options)?;
-    let pieces = break_pieces(alloc, split, options)?;
-    Ok(pieces)
-}
-
-/// The pieces that split words are broken into, where the options ask for that. Where words are
-/// broken and there is an initial indent, an empty piece stands in front.
-///
-/// # Errors
-/// [`AllocError`] where memory runs out.
-pub(crate) fn break_pieces<'t, A: Allocator + Copy>(
-    alloc: A,
-    split: Vec<Word<'t>, A>,
-    options: &Options<'_>,
-) -> Result<Vec<Word<'t>, A>, AllocError>
-    ensures { IfOk result (λ pieces. map word_view pieces.items
-        ≡ broken_pieces_of (settings_view options.now) (map word_view split.entry.items)) }
-{
-    if !options.break_words {
-        return Ok(split);
-    }
-    let frame = Frame::of(Layout::of(options));
-    let mut broken = break_wide(alloc, split, frame.later_columns)?;
-    if !options.initial_indent.is_empty() {
-        // Where the first word has no room beside the indent, the first line is the indent alone.
-        broken.insert(0, Word::from(""))?;
-    }
-    Ok(broken)
-}
-
-/// The words, each that is wider than the line replaced by its pieces.
-fn break_wide<'t, A: Allocator + Copy>(
-    alloc: A,
-    words: Vec<Word<'t>, A>,
-    line_width: usize,
-) -> Result<Vec<Word<'t>, A>, AllocError>
-    ensures { IfOk result (λ pieces. map word_view pieces.items
-        ≡ broken_words line_width (map word_view words.entry.items)) }
-{
-    // Most words are narrow, and then the list is not copied.
-    if stay_whole(&words, line_width) {
-        return Ok(words);
-    }
-    // By reference, since the checker does not cover handing on a list that any allocator made.
-    let broken = break_words(alloc, words.iter().copied(), line_width)?;
-    Ok(broken)
-}
-
-/// The words of a paragraph, split.
-fn find_split_words<'t, A: Allocator + Copy>(
-    alloc: A,
-    paragraph: &'t str,
-    options: &Options<'_>,
-) -> Result<Vec<Word<'t>, A>, AllocError>
-    ensures { IfOk result (λ pieces. (words : List WordText)
-        × MaySeparate options.now.word_separator paragraph.now words
-        × AreSplit (MaySplit options.now.word_splitter) words (map word_view pieces.items)) }
-{
-    if let WordSeparator::Custom(line_cuts) = options.word_separator {
-        let pieces = split_at_cuts(alloc, paragraph, line_cuts, &options.word_splitter)?;
-        return Ok(pieces);
-    }
-    let mut pieces = Vec::new(alloc);
-    for word in options.word_separator.find_words(alloc, paragraph)? {
-        push_measured(alloc, &mut pieces, word, &options.word_splitter)?;
-    }
-    Ok(pieces)
-}
-
-impl<A: Allocator + Copy> AnyOptions<A> for Options<'_> {
-    type Words = BlankCuts;
-
-    ghost settings = { λ options. settings_view options };
-
-    ghost may_separate = { λ options. MaySeparate options.word_separator };
-
-    ghost has_pieces = { λ options. ArePieces (settings_view options)
-        (MaySeparate options.word_separator) (MaySplit options.word_splitter) };
-
-    ghost divides = { λ options. DividesBy options };
-
-    ghost may_overflow = { λ options. MayOverflow options };
-
-    ghost may_pass = { λ options. MayPass64Bits options };
-
-    ghost is_direct = { λ options. IsDirect options };
-
-    fn layout(&self) -> Layout<'_> {
-        Layout::of(self)
-    }
-
-    fn built_in_parts(&self) -> Option<BuiltInParts> {
-        built_in_parts(self)
-    }
-
-    fn printable_cuts(&self) -> Option<BlankCuts> {
-        match self.word_separator {
-            WordSeparator::AsciiSpace => Some(BlankCuts {}),
-            WordSeparator::Custom(_) => None,
-        }
-    }
-
-    fn word_cuts(&self, paragraph: &str) -> Result<Option<Vec<usize>>, AllocError> {
-        match self.word_separator {
-            WordSeparator::AsciiSpace => Ok(None),
-            WordSeparator::Custom(line_cuts) => Ok(Some(given_cuts(line_cuts, paragraph)?)),
-        }
-    }
-
-    fn find_pieces<'t>(
-        &self,
-        alloc: A,
-        paragraph: &'t str,
-    ) -> Result<Vec<Word<'t>, A>, AllocError> {
-        find_pieces(alloc, paragraph, self)
-    }
-
-    fn divide<'a, 'w>(
-        &self,
-        alloc: A,
-        pieces: &'w [Word<'a>],
-        line_widths: &[usize],
-    ) -> Result<Vec<&'w [Word<'a>], A>, WrapError> {
-        self.wrap_algorithm.wrap(alloc, pieces, line_widths)
-    }
 }
 
 /// Pushes the line of each list of pieces. Together they tile the paragraph, or its beginning.

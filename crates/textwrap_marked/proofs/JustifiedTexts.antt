@@ -10,7 +10,7 @@ use Rattle.textwrap_marked.proofs.Common.{shown_lines, ReflowOptions}
 use Rattle.textwrap_base.proofs.Common.{min, cond_both, eq-eqb, IsDivision, ◌/◌}
 use Rattle.std.specs.Prelude.{◌%◌}
 use Rattle.textwrap_words.proofs.Common.{chunks, words_of, text_width, tiled}
-use Rattle.textwrap_words.proofs.Word.Words.{chunks-from}
+use Rattle.textwrap_words.proofs.Word.Chunks.{chunks-from}
 use Rattle.textwrap_lines.specs.Paragraph.{line_bytes, Slice}
 use Rattle.textwrap_display.proofs.WidenedWords.{widened_chunks, widened-text}
 use Rattle.textwrap_display.specs.Justifying.{gaps, indent_len, justified, widened_words}

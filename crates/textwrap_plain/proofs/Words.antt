@@ -12,7 +12,8 @@ use Rattle.textwrap_words.proofs.Word.Offsets.{cuts_at-AreInnerCuts}
 use Rattle.textwrap_words.proofs.Word.Parts.{parts-texts}
 use Rattle.textwrap_words.proofs.Word.Pieces.{AreTexts, AreTexts-words, ArePoints-cuts}
 use Rattle.textwrap_words.proofs.Word.Pieces.{ArePoints-hyphens}
-use Rattle.textwrap_words.proofs.Word.Words.{AreChunks-chunks, words_unique}
+use Rattle.textwrap_words.proofs.Word.Chunks.{AreChunks-chunks}
+use Rattle.textwrap_words.proofs.Word.Words.{words_unique}
 use Rattle.textwrap_words.specs.Cuts.{AreInnerCuts, AreLaterCuts, parts_between, parts_onward}
 use Rattle.textwrap_unicode.specs.Breaks.{breaks_by}
 use Rattle.textwrap_unicode.specs.Cuts.{cuts_by, offsets_of}

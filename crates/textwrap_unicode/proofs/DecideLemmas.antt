@@ -18,9 +18,9 @@ use Rattle.textwrap_unicode.specs.ClassSets.{is_carriage_return, is_closing, is_
 use Rattle.textwrap_unicode.specs.Laws.{ends_line}
 use Rattle.textwrap_unicode.specs.Rules.{Rule, lb4}
 use Rattle.textwrap_unicode.proofs.TextBreaks.{not-empty, text_of-push}
-use Rattle.textwrap_unicode.proofs.ClassLemmas.{line_end-takes, decide-closing, decide-marked}
-use Rattle.textwrap_unicode.proofs.ClassLemmas.{kept-class, return-takes, decide-kept, decide-must}
-use Rattle.textwrap_unicode.proofs.ClassLemmas.{last-has, none-past, must-only}
+use Rattle.textwrap_unicode.proofs.RuleLemmas.{line_end-takes, decide-closing, decide-marked}
+use Rattle.textwrap_unicode.proofs.RuleLemmas.{kept-class, return-takes, decide-kept, decide-must}
+use Rattle.textwrap_unicode.proofs.RuleLemmas.{last-has, none-past, must-only}
 
 -- ---- after a character
 

@@ -9,3 +9,4 @@ pub mod PrintableCuts
 pub mod TextBreaks
 pub mod UsualPlaces
 pub mod WordVerdicts
+pub mod RuleLemmas

@@ -4,6 +4,7 @@ pub use Rattle.textwrap_words.specs.Blanks.{without_final_blanks, BlanksBetween}
 pub use Rattle.textwrap_words.specs.Breaking.{AllPartsFull, broken_pieces, broken_texts}
 pub use Rattle.textwrap_words.specs.Breaking.{broken_units, broken_word, broken_words, is_due}
 pub use Rattle.textwrap_words.specs.Breaking.{IsKept, pieces_left, pieces_with, units_text}
+pub use Rattle.textwrap_words.specs.Chunks.{AreCutApart, IsUncut, chunks, is_cut}
 pub use Rattle.textwrap_words.specs.Cuts.{AreCuts, AreInnerCuts, parts_between}
 pub use Rattle.textwrap_words.specs.Escapes.{next_of, shows, taken_in, visible_in}
 pub use Rattle.textwrap_words.specs.Pieces.{as_splitter}
@@ -22,7 +23,7 @@ pub use Rattle.textwrap_words.specs.WordSplitters.{ends_in_hyphen, hyphen, hyphe
 pub use Rattle.textwrap_words.specs.WordSplitters.{is_hyphen_point, MaySplit, points_of, split_from}
 pub use Rattle.textwrap_words.specs.WordSplitters.{split_pieces, split_word, split_words, Splitter}
 pub use Rattle.textwrap_words.specs.WordSplitters.{splitter_view, Whole}
-pub use Rattle.textwrap_words.specs.Words.{AreCutApart, AreWordsOf, chunks, is_cut, IsUncut, piece}
+pub use Rattle.textwrap_words.specs.Words.{AreWordsOf, piece}
 pub use Rattle.textwrap_words.specs.Words.{sizes_of, tile_of, tiled, Tiles, word_of, word_view}
 pub use Rattle.textwrap_words.specs.Words.{words_of, WordText}
 pub use Rattle.textwrap_words.specs.WrapAlgorithms.{Algorithm, algorithm_view, Greedy, IsDividedBy}

@@ -13,3 +13,4 @@ pub mod SplitParts
 pub mod Splitting
 pub mod Texts
 pub mod Words
+pub mod Chunks

@@ -2,6 +2,7 @@ pub mod Blanks
 pub mod Breaking
 pub mod Characters
 pub mod CharactersLeft
+pub mod Chunks
 pub mod CutPiecesLeft
 pub mod Cuts
 pub mod Escapes

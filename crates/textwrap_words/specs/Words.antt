@@ -1,11 +1,10 @@
 -- Words by their texts: what a text is as a word, and the words of a line.
-use Rattle.std.specs.Prelude.{◌≡◌, ◌≢◌, ℕ, Bool, true, false, not, ◌&&◌, List, [], ◌∷◌, ◌++◌}
-use Rattle.std.specs.Prelude.{length, slice_index, map, All, if◌then◌else◌}
-use Rattle.std.specs.List.{flat_map, onto_first}
-use Rattle.textwrap_words.specs.Blanks.{is_blank, without_final_blanks, final_blanks}
-use Rattle.textwrap_base.specs.Lists.{last}
+use Rattle.std.specs.Prelude.{◌≡◌, ℕ, List, [], length, map}
+use Rattle.std.specs.List.{flat_map}
+use Rattle.textwrap_words.specs.Blanks.{without_final_blanks, final_blanks}
 use Rattle.textwrap_base.specs.Sizes.{Sizes}
 use Rattle.textwrap_words.specs.Units.{text_width}
+pub use Rattle.textwrap_words.specs.Chunks.{AreChunks, AreCutApart, IsUncut, chunks, is_cut}
 use Rattle.textwrap_words.specs.declared.words.Word.{Word}
 
 -- a word by its bytes, and its columns
@@ -52,41 +51,12 @@ word_of text = piece (without_final_blanks text) (final_blanks text) []
 
 -- ---- the words of a line
 
--- a line is cut between a blank and a following byte that is none
-abbrev pub is_cut : ℕ → ℕ → Bool
-is_cut before after = is_blank before && not (is_blank after)
-
--- no place inside the chunk is a cut
-abbrev pub IsUncut : List ℕ → Type 0
-IsUncut chunk = (before after : List ℕ) (c d : ℕ)
-    → chunk ≡ before ++ c ∷ d ∷ after → is_cut c d ≡ false
-
--- between each chunk and the next there is a cut
-abbrev pub AreCutApart : List (List ℕ) → Type 0
-AreCutApart chunks = (before after : List (List ℕ)) (chunk next : List ℕ)
-    → chunks ≡ before ++ chunk ∷ next ∷ after → is_cut (last chunk) (slice_index next 0) ≡ true
-
--- the line is cut into chunks at each of its cuts, and nowhere else
-pub record AreChunks (line : List ℕ) (chunks : List (List ℕ)) : Type 0 where
-  pub tiles : flat_map (λ chunk. chunk) chunks ≡ line
-  pub nonempty : All (λ chunk. chunk ≢ []) chunks
-  pub uncut : All IsUncut chunks
-  pub cut : AreCutApart chunks
-
 -- the words of a line are its chunks, each taken as a word
 abbrev pub AreWordsOf : List ℕ → List WordText → Type 0
 AreWordsOf line words =
     (chunks : List (List ℕ)) × AreChunks line chunks × (words ≡ map word_of chunks)
 
 -- ---- the same, computed
-
--- the chunks of a line, none of an empty line
-abbrev pub chunks : List ℕ → List (List ℕ)
-chunks [] = []
-chunks (c ∷ []) = (c ∷ []) ∷ []
-chunks (c ∷ d ∷ cs) =
-    if is_cut c d then (c ∷ []) ∷ chunks (d ∷ cs)
-    else onto_first c (chunks (d ∷ cs))
 
 abbrev pub words_of : List ℕ → List WordText
 words_of line = map word_of (chunks line)

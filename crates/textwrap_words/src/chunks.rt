@@ -3,7 +3,7 @@ ghost use Rattle.std.specs.Prelude.{◌≡◌, ◌-◌, ◌<◌, ◌≤◌, ◌�
 ghost use Rattle.std.specs.Prelude.{slice_index};
 ghost use Rattle.std.specs.Iterator.{YieldsFirstBy, item_count};
 ghost use Rattle.textwrap_words.specs.Blanks.{blank};
-ghost use Rattle.textwrap_words.specs.Words.{chunks, is_cut};
+ghost use Rattle.textwrap_words.specs.Chunks.{chunks, is_cut};
 
 use std::marker::Model;
 
@@ -48,7 +48,7 @@ impl<'t> Iterator for Chunks<'t> {
 }
 
 /// How long the first word of a text is, with the blanks behind it.
-#[tactic(auto, using(crate::proofs::Word::Words::chunks_first))]
+#[tactic(auto, using(crate::proofs::Word::Chunks::chunks_first))]
 fn chunk_len(text: &[u8]) -> usize
     requires { 0 < length text.now }
     ensures first { chunks text.now ≡ take result text.now ∷ chunks (drop result text.now) }

@@ -20,7 +20,8 @@ use Rattle.textwrap_lines.proofs.Common.{keeps_whitespace, AreDividedParts, AreP
 use Rattle.textwrap_lines.proofs.Common.{last_piece, assembled_line, BeforeOthers, later_width}
 use Rattle.textwrap_words.proofs.Word.Texts.{AreBlanks, final_blanks-blank, trimmed-past}
 use Rattle.textwrap_words.proofs.Word.Texts.{trimmed-front}
-use Rattle.textwrap_words.proofs.Word.Words.{EndsInBlanks, AreChunks-chunks, tiled-words_of}
+use Rattle.textwrap_words.proofs.Word.Chunks.{AreChunks-chunks}
+use Rattle.textwrap_words.proofs.Word.Words.{EndsInBlanks, tiled-words_of}
 use Rattle.textwrap_words.proofs.Word.Words.{no_blanks, tiled-append, HasNoPenalty, IsNarrowWord}
 use Rattle.textwrap_words.proofs.Word.Words.{IsMeasured, IsNarrowWord-measured, closed_width-narrow}
 use Rattle.textwrap_base.proofs.Lists.Parts.{all-left, all-right, some_from_nonempty}

@@ -36,6 +36,8 @@ use Rattle.textwrap_words.specs.declared.word_splitters.WordSplitter as splitter
 use Rattle.textwrap_lines.specs.Paragraph.{DividesUnder}
 use Rattle.textwrap_lines.specs.Places.{ArePlacedLines}
 use Rattle.textwrap_lines.specs.declared.places.Place.{Place}
+use Rattle.std.specs.Prelude.{IfSome}
+use Rattle.textwrap_lines.specs.Direct.{HasMethods}
 
 -- ---- the pieces of words at any points where they may be cut, and what lines of them cover
 
@@ -383,3 +385,31 @@ module _ {E C : Type 0} {e : _} {c : _} (options : Options E C e c) (settings : 
       → ArePlacedLines (settings_view options) (DividesBy options) text lines places
       → ArePlacedLines settings (DividesAs splitter algorithm settings) text lines places
   placed-as text lines places are = grind (arith, divides)
+
+-- ---- built-in parts of options
+
+-- a paragraph whose pieces are divided so by the built-in parts of the options, whatever finds its words
+pub direct-divided : {E C : Type 0} {e : _} {c : _} (options : Options E C e c)
+    (Words : List ℕ → List WordText → Type 0) (splitter : Splitter) (algorithm : Algorithm)
+    (built_in : HasMethods options splitter algorithm) (is_later : Bool) (paragraph : List ℕ)
+    (words : List WordText) (division : List (List WordText)) → Words paragraph words
+    → IsDividedBy algorithm sizes_of (widths_of (settings_view options) is_later)
+    (pieces_of_words (settings_view options) splitter words) division
+    → IsDividedInto (settings_view options) Words (MaySplit options.word_splitter)
+    (MayDivide options.wrap_algorithm (λ w. w)) is_later paragraph division
+direct-divided options Words splitter algorithm built_in is_later paragraph words division are by =
+    let settings = settings_view options in
+    subst (λ Points. IsDividedInto settings Words Points
+    (MayDivide options.wrap_algorithm (λ w. w)) is_later paragraph division)
+    (sym (points-as options.word_splitter splitter built_in.splitter_is))
+    (subst (λ Lines. IsDividedInto settings Words (ArePoints splitter) Lines is_later paragraph
+    division) (sym (division-as options.wrap_algorithm algorithm built_in.algorithm_is)) (
+      pieces_of_words settings splitter words,
+      (words, split_words splitter words, are, AreSplit-computed splitter words, refl),
+      by,
+    ))
+
+pub if_some : {X : Type 0} {P Q : X → Type 0} (o : Option X) → ((x : X) → P x → Q x) → IfSome o P
+    → IfSome o Q
+if_some None more none = tt
+if_some (Some x) more is = more x is

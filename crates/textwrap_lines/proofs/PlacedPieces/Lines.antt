@@ -23,7 +23,8 @@ use Rattle.textwrap_words.proofs.Word.Words.{IsMeasured, tiled-append}
 use Rattle.textwrap_lines.specs.Cheapest.{SuitSearch}
 use Rattle.textwrap_lines.specs.Spans.{span_sizes, span_line, bounds_to}
 use Rattle.textwrap_lines.specs.LineBounds.{AreBounds}
-use Rattle.textwrap_lines.proofs.PieceLines.{slice-pieces, stands-at}
+use Rattle.textwrap_lines.proofs.Paragraph.Standing.{stands-at}
+use Rattle.textwrap_lines.proofs.PieceLines.{slice-pieces}
 use Rattle.textwrap_lines.proofs.Paragraph.LeftOff.{assembled-parts}
 use Rattle.textwrap_lines.proofs.Text.Sinks.{cut_lines-next}
 

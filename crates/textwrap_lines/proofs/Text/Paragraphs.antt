@@ -20,7 +20,7 @@ use Rattle.textwrap_base.proofs.Lists.Parts.{onto_first-some, starts_with-true, 
 use Rattle.textwrap_base.proofs.Lists.Parts.{starts_with-false, starts_with-rest, onto_front}
 use Rattle.textwrap_base.proofs.Lists.Parts.{onto_front-onto_first, all-left, all-right}
 use Rattle.textwrap_base.proofs.Texts.{ascii_seam, after_ascii}
-use Rattle.textwrap_words.proofs.Word.Texts.{all_utf8-front}
+use Rattle.textwrap_words.proofs.Word.Chunks.{all_utf8-front}
 use Rattle.std.proofs.lemmas.List.{drop-append-le}
 use Rattle.std.specs.Prelude.{chars}
 use Rattle.std.proofs.lemmas.Str.Ascii.{IsAscii-from_all}

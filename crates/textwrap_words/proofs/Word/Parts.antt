@@ -12,7 +12,8 @@ use Rattle.textwrap_words.proofs.Common.{tiled, word_of, AreCuts, AreInnerCuts, 
 use Rattle.textwrap_words.proofs.Common.{WordText, MaySeparate, MaySplit, ends_in_hyphen}
 use Rattle.textwrap_words.proofs.Common.{splitter_view, Whole, AtHyphens, chunks, is_cut, words_of}
 use Rattle.textwrap_base.proofs.Lists.Parts.{flat, onto_first-some, onto_first-append}
-use Rattle.textwrap_words.proofs.Word.Words.{tiled-map, chunks-from}
+use Rattle.textwrap_words.proofs.Word.Chunks.{chunks-from}
+use Rattle.textwrap_words.proofs.Word.Words.{tiled-map}
 use Rattle.textwrap_words.specs.Cuts.{AreNext, IsNextPoint, parts_onward}
 use Rattle.textwrap_words.proofs.Word.Cuts.{inner-cuts}
 use Rattle.textwrap_words.specs.declared.word_splitters.WordSplitter as splitters

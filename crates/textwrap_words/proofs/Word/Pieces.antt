@@ -15,7 +15,7 @@ use Rattle.textwrap_words.proofs.Word.Splitting.{points_of-cuts}
 use Rattle.std.proofs.lemmas.List.Elements.{filter_passes}
 use Rattle.textwrap_words.proofs.Word.Words.{IsMeasured, HasNoPenalty, words-measured}
 use Rattle.textwrap_words.proofs.Word.Words.{tiled-words_of, words_unique}
-use Rattle.textwrap_words.proofs.Word.Texts.{chunks-utf8}
+use Rattle.textwrap_words.proofs.Word.Chunks.{chunks-utf8}
 use Rattle.textwrap_words.specs.Cuts.{AreNext, IsNextPoint}
 use Rattle.textwrap_words.specs.PieceCuts.{pieces_from_place}
 use Rattle.textwrap_words.specs.Pieces.{IsFirstWord, stand_from}

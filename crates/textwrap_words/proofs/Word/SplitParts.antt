@@ -18,7 +18,8 @@ use Rattle.textwrap_words.specs.PieceCuts.{pieces_from_place, IsPart, AreFinalBl
 use Rattle.textwrap_base.proofs.Lists.Parts.{onto_front, onto_front-nil, onto_front-onto_first}
 use Rattle.textwrap_base.proofs.Lists.Parts.{last-push, length-slice, flat, some_from_nonempty}
 use Rattle.textwrap_words.proofs.Word.Texts.{AreBlanks, word_of-seam, final_blanks-blank}
-use Rattle.textwrap_words.proofs.Word.Texts.{trimmed-other, without_final_blanks-utf8, chunks-utf8}
+use Rattle.textwrap_words.proofs.Word.Chunks.{chunks-utf8}
+use Rattle.textwrap_words.proofs.Word.Texts.{trimmed-other, without_final_blanks-utf8}
 use Rattle.textwrap_words.proofs.Word.Parts.{next_by, parts_by-some, parts_by-whole, parts_within}
 use Rattle.textwrap_words.proofs.Word.Parts.{parts_by-chunks, end-from}
 use Rattle.textwrap_words.proofs.Word.Splitting.{hyphen-before-point, EndsPlain, points-apart}
@@ -26,7 +27,7 @@ use Rattle.textwrap_words.proofs.Word.Splitting.{point-blank, ends-none, ends-bl
 use Rattle.std.proofs.lemmas.List.{get_or-append-add, get_or_at}
 use Rattle.textwrap_words.specs.Pieces.{IsFirstWithin, stand_from}
 use Rattle.textwrap_words.specs.declared.pieces.Piece.{Piece}
-use Rattle.textwrap_words.proofs.Word.Words.{join-chunks, AreChunks-chunks, AreCutApart-tail}
+use Rattle.textwrap_words.proofs.Word.Chunks.{join-chunks, AreChunks-chunks, AreCutApart-tail}
 use Rattle.std.proofs.lemmas.Bool.{not-false, not-true}
 
 -- ---- a word with its blanks, split at one point after another, is cut wherever a test of

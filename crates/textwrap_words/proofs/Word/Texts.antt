@@ -1,51 +1,14 @@
--- The chunks of a line are UTF-8; the blanks at the end of a text, and where it ends without them.
-use Rattle.textwrap_base.proofs.Common.{inl, inr, ◌≡◌, suc, ◌-◌, true, cond, List, ◌++◌, drop, refl}
-use Rattle.textwrap_base.proofs.Common.{ℕ, ◌<◌, ◌≤◌, not, [], ◌∷◌, All, sym, ap, ◌∙◌, ◌+◌}
-use Rattle.textwrap_base.proofs.Common.{zero, Bool, length, get_or, subst, arith, IsUtf8, All-nil}
-use Rattle.textwrap_base.proofs.Common.{false, suffix_len, cases_lt, eqb-true, false≢true, All-cons}
-use Rattle.textwrap_base.proofs.Common.{append_assoc, length-drop, IsCharBoundary, take-append-add}
-use Rattle.textwrap_base.proofs.Common.{append-nil, onto_first, and_parts, get_or-drop, IsUtf8-take}
-use Rattle.textwrap_words.proofs.Common.{is_cut, chunks, is_blank, trimmed_len}
-use Rattle.textwrap_words.proofs.Common.{without_final_blanks, final_blanks, piece, word_of}
+-- The blanks at the end of a text, and where it ends without them.
+use Rattle.textwrap_base.proofs.Common.{inl, inr, ◌≡◌, suc, ◌-◌, true, List, ◌++◌, drop, refl, ℕ}
+use Rattle.textwrap_base.proofs.Common.{◌<◌, ◌≤◌, not, [], ◌∷◌, All, sym, ap, ◌∙◌, ◌+◌, zero}
+use Rattle.textwrap_base.proofs.Common.{length, get_or, subst, arith, IsUtf8, false, suffix_len}
+use Rattle.textwrap_base.proofs.Common.{cases_lt, eqb-true, false≢true, length-drop, IsCharBoundary}
+use Rattle.textwrap_base.proofs.Common.{take-append-add, get_or-drop, IsUtf8-take}
+use Rattle.textwrap_words.proofs.Common.{is_blank, trimmed_len, without_final_blanks, final_blanks}
+use Rattle.textwrap_words.proofs.Common.{piece, word_of}
 use Rattle.std.proofs.lemmas.List.{get_or-reverse, length-reverse}
 use Rattle.std.proofs.lemmas.List.Sums.{prefix_len_passes, prefix_len_stops, suffix_len_is}
 use Rattle.std.proofs.lemmas.Str.{IsCharBoundary-end, IsCharBoundary-before_ascii}
-use Rattle.textwrap_base.proofs.Lists.Parts.{onto_front, onto_front-onto_first}
-use Rattle.textwrap_base.proofs.Texts.{ascii_seam}
-
--- ---- the parts of a text, where bytes stand before the first
-
-pub all_utf8-front : (parts : List (List ℕ)) → All IsUtf8 (onto_front [] parts) → All IsUtf8 parts
-all_utf8-front [] all = All-nil IsUtf8
-all_utf8-front (part ∷ parts) all = all
-
--- ---- the chunks of a line
-
-chunks-utf8_step : (before : List ℕ) (c d : ℕ) (cs : List ℕ) → IsUtf8 (before ++ c ∷ d ∷ cs)
-    → (b : Bool) → is_cut c d ≡ b
-    → (IsUtf8 (d ∷ cs) → All IsUtf8 (onto_front [] (chunks (d ∷ cs))))
-    → (IsUtf8 ((before ++ c ∷ []) ++ d ∷ cs)
-    → All IsUtf8 (onto_front (before ++ c ∷ []) (chunks (d ∷ cs))))
-    → All IsUtf8 (onto_front before
-    (cond b ((c ∷ []) ∷ chunks (d ∷ cs)) (onto_first c (chunks (d ∷ cs)))))
-chunks-utf8_step before c d cs utf8 true cut after joined =
-    let blank : c ≡ 32 = eqb-true c 32 (and_parts (is_blank c) (not (is_blank d)) cut).0 in
-    let seam = ascii_seam before (d ∷ cs) c utf8 (omega arith) in
-    All-cons IsUtf8 (before ++ c ∷ []) (chunks (d ∷ cs)) seam.through
-    (all_utf8-front (chunks (d ∷ cs)) (after seam.back))
-chunks-utf8_step before c d cs utf8 false whole after joined =
-    subst (All IsUtf8) (sym (onto_front-onto_first before c (chunks (d ∷ cs))))
-    (joined (subst IsUtf8 (sym (append_assoc before (c ∷ []) (d ∷ cs))) utf8))
-
-chunks-utf8_from : (before line : List ℕ) → IsUtf8 (before ++ line)
-    → All IsUtf8 (onto_front before (chunks line))
-chunks-utf8_from before [] utf8 = grind (arith, All-cons, append-nil, All-nil)
-chunks-utf8_from before (c ∷ []) utf8 = All-cons IsUtf8 (before ++ c ∷ []) [] utf8 (All-nil IsUtf8)
-chunks-utf8_from before (c ∷ d ∷ cs) utf8 = chunks-utf8_step before c d cs utf8 (is_cut c d) refl
-    (chunks-utf8_from [] (d ∷ cs)) (chunks-utf8_from (before ++ c ∷ []) (d ∷ cs))
-
-pub chunks-utf8 : (line : List ℕ) → IsUtf8 line → All IsUtf8 (chunks line)
-chunks-utf8 line utf8 = all_utf8-front (chunks line) (chunks-utf8_from [] line utf8)
 
 -- ---- the blanks at the end of a text
 

@@ -1,48 +1,22 @@
 -- The words of a line: they tile it, are measured, and there is one list of them.
-use Rattle.textwrap_base.proofs.Common.{cases_Bool, ◌≡◌, ◌-◌, ℕ, zero, suc, ◌+◌, ◌<◌, ◌≤◌, true, false}
-use Rattle.textwrap_base.proofs.Common.{cond, List, [], ◌∷◌, ◌++◌, length, get_or, take, drop, map}
-use Rattle.textwrap_base.proofs.Common.{refl, ap, ◌∙◌, arith, add-one, take-append-drop}
-use Rattle.textwrap_base.proofs.Common.{length-append, append-nil, onto_first, map-append}
-use Rattle.textwrap_base.proofs.Common.{take_more, flat_map-append, ◌≢◌, All, sym, ⊤, All-head}
-use Rattle.textwrap_base.proofs.Common.{All-tail, last, ◌↔◌, Bool, subst, slice_index, All-nil}
-use Rattle.textwrap_base.proofs.Common.{All-cons, ◌==◌, All-append, flat_map, sum_by, IsUtf8}
+use Rattle.textwrap_base.proofs.Common.{◌≡◌, ℕ, ◌+◌, ◌<◌, ◌≤◌, true, false, List, [], ◌∷◌, ◌++◌}
+use Rattle.textwrap_base.proofs.Common.{length, get_or, take, map, refl, ap, ◌∙◌, arith}
+use Rattle.textwrap_base.proofs.Common.{take-append-drop, length-append, append-nil, map-append}
+use Rattle.textwrap_base.proofs.Common.{take_more, flat_map-append, All, sym, All-head, All-tail}
+use Rattle.textwrap_base.proofs.Common.{◌↔◌, All-nil, ◌==◌, All-append, flat_map, sum_by, IsUtf8}
 use Rattle.textwrap_base.proofs.Common.{All-map, All-weaker, chars-nil, total_width, closed_width}
-use Rattle.textwrap_words.proofs.Common.{WordText, word_view, word_of, tile_of, tiled, is_cut}
-use Rattle.textwrap_words.proofs.Common.{chunks, words_of, trimmed_len, IsUncut, AreCutApart}
-use Rattle.textwrap_words.proofs.Common.{AreWordsOf, columns, text_width, is_blank, sizes_of}
-use Rattle.textwrap_base.proofs.Lists.Parts.{flat, flat-onto_first, last-cons}
+use Rattle.textwrap_words.proofs.Common.{WordText, word_view, word_of, tile_of, tiled, chunks}
+use Rattle.textwrap_words.proofs.Common.{words_of, trimmed_len, AreWordsOf, columns, text_width}
+use Rattle.textwrap_words.proofs.Common.{is_blank, sizes_of}
+use Rattle.textwrap_base.proofs.Lists.Parts.{flat}
 use Rattle.textwrap_words.specs.declared.words.Word.{Word}
-use Rattle.textwrap_words.specs.Words.{AreChunks}
 use Rattle.textwrap_words.proofs.Word.Texts.{AreBlanks, without_final_blanks-utf8}
 use Rattle.textwrap_words.proofs.Word.Texts.{final_blanks-blank}
 use Rattle.textwrap_words.specs.Units.{visible}
 use Rattle.textwrap_base.proofs.Cost.LineCosts.{total_width-cons}
 use Rattle.textwrap_words.proofs.Units.Reading.{text_width-le}
-
--- ---- chunks
-
-pub join-chunks : (line : List ℕ) → flat (chunks line) ≡ line
-join-chunks [] = refl
-join-chunks (c ∷ []) = refl
-join-chunks (c ∷ d ∷ cs) = grind (arith, cases_Bool, flat-onto_first, join-chunks (d ∷ cs))
-
--- the first chunk ends at the first cut
-pub chunks_first : (line : List ℕ) (n : ℕ) → 0 < n → n ≤ length line
-    → ((k : ℕ) → k + 1 < n → is_cut (get_or line k 0) (get_or line (k + 1) 0) ≡ false)
-    → (n < length line → is_cut (get_or line (n - 1) 0) (get_or line n 0) ≡ true)
-    → chunks line ≡ take n line ∷ chunks (drop n line)
-chunks_first line zero some within before at = absurd (omega arith)
-chunks_first [] (suc n) some within before at = absurd (omega arith)
-chunks_first (c ∷ []) (suc zero) some within before at = refl
-chunks_first (c ∷ []) (suc (suc n)) some within before at = absurd (omega arith)
-chunks_first (c ∷ d ∷ cs) (suc zero) some within before at = rw (at (omega arith)) refl
-chunks_first (c ∷ d ∷ cs) (suc (suc n)) some within before at =
-    let less : suc (suc n) - 1 ≡ suc n = omega arith in
-    let next : suc n - 1 ≡ n = omega arith in
-    rw (before 0 (omega arith)) (ap (onto_first c)
-    (chunks_first (d ∷ cs) (suc n) (omega arith) (omega arith)
-    (λ k h. rw add-one (rw (add-one) at (before (suc k) (omega arith))))
-    (λ more. rw next (rw less at (at (omega (arith, more)))))))
+use Rattle.textwrap_words.proofs.Word.Chunks.{AreChunks-chunks, chunks-flat, cut, first}
+use Rattle.textwrap_words.proofs.Word.Chunks.{join-chunks, nonempty, rest, uncut}
 
 -- ---- tiling
 
@@ -77,140 +51,7 @@ tiled-take-le words i =
     (ap (λ l. length (tiled (map word_view l))) (take-append-drop i words)) in
     omega (arith, parts)
 
--- ---- no parts of a line but its chunks are cut apart after blanks
-
--- what follows a chunk is nothing, or begins after a cut
-abbrev CutAfter : List ℕ → List ℕ → Type 0
-CutAfter part [] = ⊤
-CutAfter part (d ∷ rest) = is_cut (last part) d ≡ true
-
-IsUncut-tail : (c : ℕ) (part : List ℕ) → IsUncut (c ∷ part) → IsUncut part
-IsUncut-tail c part uncut = λ before after x y e. uncut (c ∷ before) after x y (ap (λ l. c ∷ l) e)
-
-CutAfter-tail : (c d : ℕ) (part rest : List ℕ) → CutAfter (c ∷ d ∷ part) rest
-    → CutAfter (d ∷ part) rest
-CutAfter-tail c d part [] cut = tt
-CutAfter-tail c d part (x ∷ rest) cut = ap (λ l. is_cut l x) (sym (last-cons c d part)) ∙ cut
-
-chunks-first : (c : ℕ) (part rest : List ℕ) → IsUncut (c ∷ part) → CutAfter (c ∷ part) rest
-    → chunks (c ∷ part ++ rest) ≡ (c ∷ part) ∷ chunks rest
-chunks-first c [] [] uncut cut = refl
-chunks-first c [] (d ∷ rest) uncut cut = rw cut refl
-chunks-first c (d ∷ part) rest uncut cut = rw (uncut [] part c d refl)
-    (ap (onto_first c) (chunks-first d part rest (IsUncut-tail c (d ∷ part) uncut)
-    (CutAfter-tail c d part rest cut)))
-
-AreCutApart-head : (part : List ℕ) (parts : List (List ℕ)) → All (λ part. part ≢ []) parts
-    → AreCutApart (part ∷ parts) → CutAfter part (flat parts)
-AreCutApart-head part [] some cut = tt
-AreCutApart-head part ([] ∷ parts) some cut = grind (arith, All-head)
-AreCutApart-head part ((d ∷ next) ∷ parts) some cut = cut [] parts part (d ∷ next) refl
-
-pub AreCutApart-tail : (part : List ℕ) (parts : List (List ℕ)) → AreCutApart (part ∷ parts)
-    → AreCutApart parts
-AreCutApart-tail part parts cut = λ before after left right e. cut (part ∷ before) after left right
-    (ap (λ l. part ∷ l) e)
-
-pub chunks-flat : (parts : List (List ℕ)) → All (λ part. part ≢ []) parts → All IsUncut parts
-    → AreCutApart parts → chunks (flat parts) ≡ parts
-chunks-flat [] some uncut cut = refl
-chunks-flat ([] ∷ parts) some uncut cut = absurd (All-head (λ part. part ≢ []) [] parts some refl)
-chunks-flat ((c ∷ part) ∷ parts) some uncut cut =
-    let others = All-tail (λ part. part ≢ []) (c ∷ part) parts some in
-    chunks-first c part (flat parts) (All-head IsUncut (c ∷ part) parts uncut)
-    (AreCutApart-head (c ∷ part) parts others cut)
-    ∙ ap (λ l. (c ∷ part) ∷ l) (chunks-flat parts others (All-tail IsUncut (c ∷ part) parts uncut)
-    (AreCutApart-tail (c ∷ part) parts cut))
-
--- ---- the computed chunks are chunks
-
--- the properties of parts of which the first begins with d
-pub record AreChunksFrom (d : ℕ) (parts : List (List ℕ)) : Type 0 where
-  pub first : List ℕ
-  pub rest : List (List ℕ)
-  pub shape : parts ≡ (d ∷ first) ∷ rest
-  pub nonempty : All (λ part. part ≢ []) ((d ∷ first) ∷ rest)
-  pub uncut : All IsUncut ((d ∷ first) ∷ rest)
-  pub cut : AreCutApart ((d ∷ first) ∷ rest)
-
-IsUncut-one : (c : ℕ) → IsUncut (c ∷ [])
-IsUncut-one c = λ before after x y e.
-    absurd (omega (arith, ap length e, length-append before (x ∷ y ∷ after)))
-
-IsUncut-cons : (c d : ℕ) (part : List ℕ) → is_cut c d ≡ false → IsUncut (d ∷ part)
-    → IsUncut (c ∷ d ∷ part)
-IsUncut-cons c d part whole uncut [] after x y e = grind arith
-IsUncut-cons c d part whole uncut (b ∷ before) after x y e = uncut before after x y (ap (drop 1) e)
-
--- fewer than two parts have no place between them
-AreCutApart-few : (parts : List (List ℕ)) → length parts < 2 → AreCutApart parts
-AreCutApart-few parts few = grind (arith, length-append)
-
-AreCutApart-cons : (part next : List ℕ) (parts : List (List ℕ))
-    → is_cut (last part) (slice_index next 0) ≡ true → AreCutApart (next ∷ parts)
-    → AreCutApart (part ∷ next ∷ parts)
-AreCutApart-cons part next parts here cut [] after left right e = grind arith
-AreCutApart-cons part next parts here cut (b ∷ before) after left right e = grind arith
-
-AreCutApart-longer : (c d : ℕ) (part : List ℕ) (parts : List (List ℕ))
-    → AreCutApart ((d ∷ part) ∷ parts) → AreCutApart ((c ∷ d ∷ part) ∷ parts)
-AreCutApart-longer c d part parts cut [] after left right e =
-    let first : c ∷ d ∷ part ≡ left = ap (λ l. get_or l 0 []) e in
-    ap (λ x. is_cut x (slice_index right 0)) (ap last (sym first) ∙ last-cons c d part)
-    ∙ cut [] after (d ∷ part) right (ap (λ l. (d ∷ part) ∷ l) (ap (drop 1) e))
-AreCutApart-longer c d part parts cut (b ∷ before) after left right e =
-    cut ((d ∷ part) ∷ before) after left right (ap (λ l. (d ∷ part) ∷ l) (ap (drop 1) e))
-
-pub chunks-from : (c : ℕ) (cs : List ℕ) → AreChunksFrom c (chunks (c ∷ cs))
-chunks-from c [] = record {
-  first = [];
-  rest = [];
-  shape = refl;
-  nonempty = All-cons (λ part. part ≢ []) (c ∷ []) [] (λ e. cc) (All-nil (λ part. part ≢ []));
-  uncut = All-cons IsUncut (c ∷ []) [] (IsUncut-one c) (All-nil IsUncut);
-  cut = AreCutApart-few ((c ∷ []) ∷ []) (omega arith);
-}
-chunks-from c (d ∷ cs) = step (is_cut c d) refl (chunks-from d cs)
-  where
-    step : (b : Bool) → is_cut c d ≡ b → AreChunksFrom d (chunks (d ∷ cs))
-        → AreChunksFrom c (cond b ((c ∷ []) ∷ chunks (d ∷ cs)) (onto_first c (chunks (d ∷ cs))))
-    step true is h = record {
-      first = [];
-      rest = (d ∷ h.first) ∷ h.rest;
-      shape = ap (λ parts. (c ∷ []) ∷ parts) h.shape;
-      nonempty = All-cons (λ part. part ≢ []) (c ∷ []) ((d ∷ h.first) ∷ h.rest)
-          (λ e. cc) h.nonempty;
-      uncut = All-cons IsUncut (c ∷ []) ((d ∷ h.first) ∷ h.rest) (IsUncut-one c) h.uncut;
-      cut = AreCutApart-cons (c ∷ []) (d ∷ h.first) h.rest is h.cut;
-    }
-    step false is h = record {
-      first = d ∷ h.first;
-      rest = h.rest;
-      shape = ap (onto_first c) h.shape;
-      nonempty = All-cons (λ part. part ≢ []) (c ∷ d ∷ h.first) h.rest (λ e. cc)
-          (All-tail (λ part. part ≢ []) (d ∷ h.first) h.rest h.nonempty);
-      uncut = All-cons IsUncut (c ∷ d ∷ h.first) h.rest
-          (IsUncut-cons c d h.first is (All-head IsUncut (d ∷ h.first) h.rest h.uncut))
-          (All-tail IsUncut (d ∷ h.first) h.rest h.uncut);
-      cut = AreCutApart-longer c d h.first h.rest h.cut;
-    }
-
-pub AreChunks-chunks : (line : List ℕ) → AreChunks line (chunks line)
-AreChunks-chunks [] = record {
-  tiles = refl;
-  nonempty = All-nil (λ part. part ≢ []);
-  uncut = All-nil IsUncut;
-  cut = AreCutApart-few [] (omega arith);
-}
-AreChunks-chunks (c ∷ cs) =
-    let h = chunks-from c cs in
-    let same = sym h.shape in
-    record {
-      tiles = join-chunks (c ∷ cs);
-      nonempty = subst (All (λ part. part ≢ [])) same h.nonempty;
-      uncut = subst (All IsUncut) same h.uncut;
-      cut = subst AreCutApart same h.cut;
-    }
+-- ---- there is one list of words
 
 pub words_unique : (line : List ℕ) (words : List WordText) → AreWordsOf line words
     ↔ (words ≡ words_of line)

@@ -11,7 +11,7 @@ use Rattle.textwrap_words.specs.declared.pieces.Piece.{Piece}
 use Rattle.textwrap_lines.proofs.Common.{frame_settings}
 use Rattle.textwrap_lines.proofs.Paragraph.Pieces.{words_cut-texts, pieces_of_words-measured}
 use Rattle.textwrap_lines.proofs.Paragraph.Pieces.{pieces_of_words-tile, pieces_of_words-no_penalty}
-use Rattle.textwrap_lines.proofs.PieceLines.{stands-at}
+use Rattle.textwrap_lines.proofs.Paragraph.Standing.{stands-at}
 use Rattle.textwrap_lines.proofs.built_in.list_pieces.Invariants.{ArePiecesLeft}
 use Rattle.textwrap_lines.specs.Direct.{pieces_cut, cuts_of, words_cut}
 use Rattle.textwrap_lines.specs.PiecesLeft.{left_standing}

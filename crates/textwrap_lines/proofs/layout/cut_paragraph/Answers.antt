@@ -8,7 +8,7 @@ use Rattle.textwrap_lines.specs.Direct.{CanBeCut, cuts_of, words_cut}
 use Rattle.textwrap_lines.specs.Layout.{break_limit}
 use Rattle.textwrap_lines.proofs.Common.{front_of, frame_settings}
 use Rattle.textwrap_lines.proofs.Paragraph.Pieces.{words_cut-texts}
-use Rattle.textwrap_lines.proofs.PieceLines.{limited-pieces}
+use Rattle.textwrap_lines.proofs.Paragraph.Standing.{limited-pieces}
 
 pub of-requires : goal.of-requires
 of-requires c = subst (λ (places : Option (List ℕ)). CanBeCut places c.args.paragraph.now)

@@ -4,7 +4,7 @@ use Rattle.textwrap_words.proofs.Common.{broken_words, words_of, split_words, as
 use Rattle.textwrap_words.specs.Pieces.{stand_from}
 use Rattle.textwrap_lines.proofs.Common.{front_of, frame_settings}
 use Rattle.textwrap_lines.proofs.Paragraph.Pieces.{words_of-texts}
-use Rattle.textwrap_lines.proofs.PieceLines.{limited-pieces}
+use Rattle.textwrap_lines.proofs.Paragraph.Standing.{limited-pieces}
 
 pub returns : goal.returns
 returns c =

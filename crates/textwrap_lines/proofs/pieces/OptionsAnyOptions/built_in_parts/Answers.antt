@@ -1,6 +1,6 @@
-use Rattle.textwrap_lines.proofs.wrapping.OptionsAnyOptions.built_in_parts.Goals as goal
+use Rattle.textwrap_lines.proofs.pieces.OptionsAnyOptions.built_in_parts.Goals as goal
 use Rattle.textwrap_words.proofs.Common.{MaySeparate, as_splitter}
-use Rattle.textwrap_lines.proofs.Text.Directly.{direct-divided, if_some}
+use Rattle.textwrap_lines.proofs.Paragraph.Pieces.{direct-divided, if_some}
 use Rattle.textwrap_lines.specs.Direct.{as_algorithm}
 
 pub returns-clause-parts : goal.returns-clause-parts

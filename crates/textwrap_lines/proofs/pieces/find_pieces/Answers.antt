@@ -1,4 +1,4 @@
-use Rattle.textwrap_lines.proofs.wrapping.find_pieces.Goals as goal
+use Rattle.textwrap_lines.proofs.pieces.find_pieces.Goals as goal
 use Rattle.textwrap_base.proofs.Common.{map}
 use Rattle.textwrap_words.proofs.Common.{word_view, MaySeparate, MaySplit}
 use Rattle.textwrap_lines.proofs.Common.{settings_view}

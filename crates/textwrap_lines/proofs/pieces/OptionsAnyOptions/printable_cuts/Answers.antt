@@ -1,4 +1,4 @@
-use Rattle.textwrap_lines.proofs.wrapping.OptionsAnyOptions.printable_cuts.Goals as goal
+use Rattle.textwrap_lines.proofs.pieces.OptionsAnyOptions.printable_cuts.Goals as goal
 use Rattle.textwrap_base.proofs.Common.{subst, sym}
 use Rattle.textwrap_words.proofs.Common.{MaySeparate}
 use Rattle.textwrap_words.proofs.Word.Words.{words_unique}

@@ -1,4 +1,4 @@
-use Rattle.textwrap_lines.proofs.wrapping.break_pieces.Goals as goal
+use Rattle.textwrap_lines.proofs.pieces.break_pieces.Goals as goal
 use Rattle.textwrap_base.proofs.Common.{◌≡◌, [], ◌∷◌, ◌++◌, cond, map, sym, ap, ◌∙◌}
 use Rattle.textwrap_words.proofs.Common.{broken_words, word_view}
 use Rattle.textwrap_lines.proofs.Common.{layout_view, settings_view, empty_word, front_pieces, later_width}

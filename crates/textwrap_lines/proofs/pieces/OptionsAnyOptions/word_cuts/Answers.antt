@@ -1,4 +1,4 @@
-use Rattle.textwrap_lines.proofs.wrapping.OptionsAnyOptions.word_cuts.Goals as goal
+use Rattle.textwrap_lines.proofs.pieces.OptionsAnyOptions.word_cuts.Goals as goal
 use Rattle.textwrap_base.proofs.Common.{refl, subst, sym}
 use Rattle.textwrap_words.proofs.Common.{MaySeparate, words_of}
 use Rattle.textwrap_words.proofs.Word.Words.{words_unique}

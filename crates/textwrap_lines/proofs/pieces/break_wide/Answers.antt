@@ -1,4 +1,4 @@
-use Rattle.textwrap_lines.proofs.wrapping.break_wide.Goals as goal
+use Rattle.textwrap_lines.proofs.pieces.break_wide.Goals as goal
 use Rattle.textwrap_base.proofs.Common.{◌≡◌, map, sym, ap, ◌∙◌}
 use Rattle.textwrap_words.proofs.Common.{broken_words, word_view}
 use Rattle.textwrap_lines.proofs.Common.{Word}

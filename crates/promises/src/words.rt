@@ -6,7 +6,7 @@ ghost use Rattle.textwrap_words.specs.Breaking.{broken_words};
 ghost use Rattle.textwrap_words.specs.WordSeparators.{MaySeparate};
 ghost use Rattle.textwrap_words.specs.WordSplitters.{AreSplit};
 ghost use Rattle.textwrap_words.specs.Words.{word_view};
-ghost use Rattle.textwrap_words.specs.Units.{stripped};
+ghost use Rattle.textwrap_text.specs.Units.{stripped};
 ghost use Rattle.textwrap_words.specs.WordOffsets.{words_at};
 ghost use Rattle.textwrap_words.specs.WrapAlgorithms.{MayDivide};
 

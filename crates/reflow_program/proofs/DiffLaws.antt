@@ -6,7 +6,7 @@ use Rattle.reflow_program.specs.Differences.{HunkText, Patches, SignedText, new_
 use Rattle.reflow_program.specs.Differences.{old_end, olds, signed_text}
 use Rattle.reflow_program.specs.Laws.{DiffsLeadBack, DiffsLeadOn, TextsAreTheirLines, patched}
 use Rattle.reflow_program.specs.Laws.{turned}
-use Rattle.textwrap_lines.proofs.TextLines.{ended_parts-flat}
+use Rattle.textwrap_text.proofs.TextLines.{ended_parts-flat}
 use Rattle.reflow_program.specs.Laws.{turned_line}
 use Rattle.reflow_program.specs.declared.differences.Sign.{Sign}
 use Rattle.reflow_program.specs.declared.differences.Sign.TheVariants.{Kept, Removed, Added}

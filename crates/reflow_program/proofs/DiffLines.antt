@@ -16,7 +16,7 @@ use Rattle.std.specs.Prelude.{count_by, filter}
 use Rattle.std.proofs.Common.{All, length-take, take-append-drop}
 use Rattle.std.proofs.lemmas.List.{get_or-take, take_more}
 use Rattle.std.proofs.lemmas.List.Elements.{All-from_get_or}
-use Rattle.textwrap_lines.proofs.TextLines.{ended_parts-front, ended_parts-whole}
+use Rattle.textwrap_text.proofs.TextLines.{ended_parts-front, ended_parts-whole}
 use Rattle.reflow_program.specs.Differences.{AreSameAt, IsLineAt}
 use Rattle.reflow_program.specs.Differences.{IsNearIf, SignedText, is_change, is_new, is_old, news}
 use Rattle.reflow_program.specs.Differences.{olds, sign_at, signed_text}

@@ -7,8 +7,8 @@ use Rattle.std.specs.Option.{option_map_or}
 use Rattle.std.specs.Str.{bytes_eq}
 use Rattle.clap.specs.Words.{App, Row, Rule, Text, all_of, first_of, new_app, new_rule}
 use Rattle.clap.specs.declared.builder.action.ArgAction.TheVariants.{Append, SetTrue}
-use Rattle.textwrap_lines.specs.declared.line_ending.LineEnding.{LineEnding}
-use Rattle.textwrap_lines.specs.declared.line_ending.LineEnding.TheVariants.{CRLF, LF}
+use Rattle.textwrap_text.specs.declared.line_ending.LineEnding.{LineEnding}
+use Rattle.textwrap_text.specs.declared.line_ending.LineEnding.TheVariants.{CRLF, LF}
 use Rattle.textwrap_program.specs.Arguments.{width_of}
 use Rattle.textwrap_program.specs.Program.{line_feed}
 use Rattle.textwrap_marked.specs.declared.options.Algorithm.{Algorithm}

@@ -3,8 +3,8 @@ use Rattle.std.specs.Prelude.{◌≡◌, ℕ, ◌+◌, ◌<◌, ◌≤◌, ◌==
 use Rattle.std.specs.Prelude.{All, IsTrue, codes, decimal, filter, length, map, slice_index_or}
 use Rattle.std.specs.Prelude.{if◌then◌else◌, nat_eq, ⊤}
 use Rattle.std.specs.List.{ends_with, flat_map, list_any}
-use Rattle.textwrap_lines.specs.LineEnding.{line_feed}
-use Rattle.textwrap_lines.specs.TextLines.{ended_parts}
+use Rattle.textwrap_text.specs.LineEnding.{line_feed}
+use Rattle.textwrap_text.specs.TextLines.{ended_parts}
 use Rattle.reflow_program.specs.declared.differences.Sign.{Sign}
 use Rattle.reflow_program.specs.declared.differences.Sign.TheVariants.{Kept, Removed, Added}
 use Rattle.reflow_program.specs.declared.differences.SignedLine.{SignedLine}

@@ -4,18 +4,17 @@
 pub use Rattle.textwrap_words.proofs.Word.Cuts.{inner-cuts, next-by_index}
 use Rattle.textwrap_words.proofs.Word.Cuts.{next-push}
 use Rattle.textwrap_words.specs.Cuts.{IsNextCut}
-use Rattle.textwrap_base.proofs.Common.{◌+◌, ◌-◌, ◌≡◌, ℕ, ◌<◌, ◌≤◌, List, [], ◌∷◌, ◌++◌, length}
-use Rattle.textwrap_base.proofs.Common.{get_or, arith, IsCharBoundary, length_push}
-use Rattle.textwrap_base.proofs.Common.{get_or_push}
-use Rattle.textwrap_base.proofs.Common.{rules, IsUtf8, Some, char_indices_offset, length-encode}
+use Rattle.textwrap_text.proofs.Common.{◌+◌, ◌-◌, ◌≡◌, ℕ, ◌<◌, ◌≤◌, List, [], ◌∷◌, ◌++◌, length}
+use Rattle.textwrap_text.proofs.Common.{get_or, arith, IsCharBoundary, length_push, get_or_push}
+use Rattle.textwrap_text.proofs.Common.{rules, IsUtf8, Some, char_indices_offset, length-encode}
 use Rattle.std.proofs.lemmas.Str.{len_utf8_bounds}
 use Rattle.textwrap_words.proofs.Common.{AreInnerCuts}
 use Rattle.std.specs.Char.{len_utf8}
 use Rattle.std.specs.Str.Iter.{char_indices_rest, char_indices_steps}
 use Rattle.std.specs.declared.str.CharIndices.{CharIndices}
 use Rattle.textwrap_words.specs.LineEnds.{AreEnds, IsNextEnd}
-use Rattle.textwrap_base.proofs.Texts.{some-bytes}
-use Rattle.textwrap_words.proofs.Units.Reading.{IsRead, read-next, read-room, read-start}
+use Rattle.textwrap_text.proofs.Texts.{some-bytes}
+use Rattle.textwrap_text.proofs.Units.Reading.{IsRead, read-next, read-room, read-start}
 
 -- the last of the numbers, if there are any, is this one
 abbrev pub EndWith : List ℕ → ℕ → Type 0

@@ -3,10 +3,10 @@ use Rattle.std.specs.Prelude.{◌≡◌, ℕ, ◌+◌, ◌-◌, ◌*◌, ◌/◌
 use Rattle.std.specs.Prelude.{replicate, slice_index_or, Bool}
 use Rattle.std.specs.Int.{div_ceil}
 use Rattle.std.specs.List.{flat_map, range_with_len}
-use Rattle.textwrap_words.specs.Blanks.{blank}
-use Rattle.textwrap_words.specs.Units.{text_width}
+use Rattle.textwrap_text.specs.Blanks.{blank}
+use Rattle.textwrap_text.specs.Units.{text_width}
 use Rattle.textwrap_words.specs.Words.{WordText}
-use Rattle.textwrap_lines.specs.LineEnding.{join_with}
+use Rattle.textwrap_text.specs.LineEnding.{join_with}
 use Rattle.textwrap_lines.specs.Options.{Settings}
 use Rattle.textwrap_lines.specs.Paragraph.{Line, line_bytes}
 use Rattle.textwrap_lines.specs.Text.{AreTextLines}

@@ -2,11 +2,11 @@
 use Rattle.std.specs.Prelude.{◌≡◌, ℕ, ◌+◌, ◌-◌, List, [], ◌∷◌, ◌++◌, length, take, slice_index, set}
 use Rattle.std.specs.Prelude.{EachIndex, ◌⊎◌}
 use Rattle.std.specs.List.{flat_map}
-use Rattle.textwrap_words.specs.Blanks.{blank}
+use Rattle.textwrap_text.specs.Blanks.{blank}
 use Rattle.textwrap_base.specs.Division.{IsGreedy, Fits}
 use Rattle.textwrap_words.specs.Words.{WordText, sizes_of, tiled, words_of}
-use Rattle.textwrap_lines.specs.LineEnding.{ending_bytes, join_with, line_feed, paragraphs_of}
-use Rattle.textwrap_lines.specs.declared.line_ending.LineEnding.TheVariants.{LF}
+use Rattle.textwrap_text.specs.LineEnding.{ending_bytes, join_with, line_feed, paragraphs_of}
+use Rattle.textwrap_text.specs.declared.line_ending.LineEnding.TheVariants.{LF}
 
 -- the texts of a part's lines, where each but the last leaves its last byte to a line feed
 abbrev pub broken_lines : List (List WordText) → List (List ℕ)

@@ -7,9 +7,9 @@ use Rattle.std.specs.List.{flat_map, fold, join_with_byte, list_all, prefix_len}
 use Rattle.std.specs.List.{take_while}
 use Rattle.std.specs.Str.{chars, trim_end, encode_utf8_all}
 use Rattle.std.specs.Str.Lines.{lines}
-use Rattle.textwrap_base.specs.Lists.{last}
-pub use Rattle.textwrap_lines.specs.TextLines.{ended_parts}
-use Rattle.textwrap_lines.specs.LineEnding.{line_feed}
+use Rattle.textwrap_text.specs.Lists.{last}
+pub use Rattle.textwrap_text.specs.TextLines.{ended_parts}
+use Rattle.textwrap_text.specs.LineEnding.{line_feed}
 
 -- whitespace alone, or empty
 abbrev pub is_blank_line : List ℕ → Bool

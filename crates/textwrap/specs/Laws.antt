@@ -5,16 +5,16 @@ use Rattle.std.specs.Io.{StartsWith}
 use Rattle.std.specs.List.{flat_map}
 use Rattle.std.specs.Str.{chars, trim_end}
 use Rattle.std.specs.Str.Lines.{lines}
-use Rattle.textwrap_words.specs.Blanks.{without_final_blanks}
-use Rattle.textwrap_words.specs.Units.{text_width}
+use Rattle.textwrap_text.specs.Blanks.{without_final_blanks}
+use Rattle.textwrap_text.specs.Units.{text_width}
 use Rattle.textwrap_words.specs.WrapAlgorithms.{Algorithm, Greedy}
 use Rattle.textwrap_lines.specs.Filling.{IsFilled}
-use Rattle.textwrap_lines.specs.LineEnding.{line_feed, paragraphs_of}
+use Rattle.textwrap_text.specs.LineEnding.{line_feed, paragraphs_of}
 use Rattle.textwrap_lines.specs.Options.{Settings, settings_at}
 use Rattle.textwrap_lines.specs.Paragraph.{DividesAs, Slice}
 use Rattle.textwrap_lines.specs.Text.{AreTextLines}
 use Rattle.textwrap_words.specs.WordSplitters.{Splitter, Whole}
-use Rattle.textwrap_lines.specs.declared.line_ending.LineEnding.TheVariants.{LF}
+use Rattle.textwrap_text.specs.declared.line_ending.LineEnding.TheVariants.{LF}
 use Rattle.textwrap.specs.Columns.{RowLayout, layout_of, inner_width, row_count, cells, row_text}
 use Rattle.textwrap.specs.Columns.{row_parts, cells_by_column}
 use Rattle.textwrap.specs.InPlace.{IsFilledInPlace}

@@ -6,17 +6,17 @@ use Rattle.std.specs.Prelude.{slice_index_or}
 use Rattle.std.specs.Io.{StartsWith}
 use Rattle.std.specs.List.{fold, list_any, take_while, common_prefix_len, ends_with}
 use Rattle.std.specs.Str.Lines.{lines}
-use Rattle.textwrap_words.specs.Blanks.{blank}
-use Rattle.textwrap_words.specs.Units.{text_width}
-pub use Rattle.textwrap_lines.specs.TextLines.{EndedLine, ended_lines}
+use Rattle.textwrap_text.specs.Blanks.{blank}
+use Rattle.textwrap_text.specs.Units.{text_width}
+pub use Rattle.textwrap_text.specs.TextLines.{EndedLine, ended_lines}
 use Rattle.textwrap_words.specs.Words.{WordText}
 use Rattle.textwrap_base.specs.Penalties.{default_penalties}
 use Rattle.textwrap_words.specs.declared.wrap_algorithms.WrapAlgorithm.TheVariants.{OptimalFit}
 use Rattle.textwrap_lines.specs.Filling.{IsFilled}
-use Rattle.textwrap_lines.specs.LineEnding.{carriage_return, line_feed, ending_bytes, join_with}
+use Rattle.textwrap_text.specs.LineEnding.{carriage_return, line_feed, ending_bytes, join_with}
 use Rattle.textwrap_lines.specs.Options.{Settings, settings_at}
-use Rattle.textwrap_lines.specs.declared.line_ending.LineEnding.{LineEnding}
-use Rattle.textwrap_lines.specs.declared.line_ending.LineEnding.TheVariants.{CRLF, LF}
+use Rattle.textwrap_text.specs.declared.line_ending.LineEnding.{LineEnding}
+use Rattle.textwrap_text.specs.declared.line_ending.LineEnding.TheVariants.{CRLF, LF}
 use Rattle.textwrap_lines.specs.declared.options.Options.{Options}
 use Rattle.textwrap.specs.declared.refilling.TextLayout.{TextLayout}
 use Rattle.textwrap_words.specs.declared.word_separators.WordSeparator.TheVariants.{AsciiSpace}

@@ -1,7 +1,7 @@
 -- What takes a text, part after part.
 use Rattle.std.specs.Prelude.{◌≡◌, ℕ, List}
-use Rattle.textwrap_words.specs.LentText.{IsLent}
-use Rattle.textwrap_words.specs.declared.lent_text.LentText.{LentText}
+use Rattle.textwrap_text.specs.LentText.{IsLent}
+use Rattle.textwrap_text.specs.declared.lent_text.LentText.{LentText}
 
 -- the room that it began with was written over by this text
 pub record HoldsLentText (first now : LentText) (text : List ℕ) : Type 0 where

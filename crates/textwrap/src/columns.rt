@@ -21,7 +21,7 @@ use std::alloc::{AllocError, Allocator};
 use std::borrow::CowStr;
 use textwrap_lines::Options;
 use textwrap_lines::inner::{AnyOptions, BuiltInOptions, Layout, PrintableCuts, wrap_by};
-use textwrap_words::blanks::push_blanks;
+use textwrap_text::blanks::push_blanks;
 
 /// What the rows of a table have in common.
 #[derive(Drop)]

@@ -3,12 +3,12 @@ ghost use Rattle.std.specs.Prelude.{◌≡◌, [], false, chars, length, string_
 ghost use Rattle.std.specs.Io.{StartsWith};
 ghost use Rattle.textwrap.specs.Indentation.{is_blank_line, indented, leading_whitespace, narrowed};
 ghost use Rattle.textwrap.specs.Indentation.{margin_of, without_margin, dedented};
-ghost use Rattle.textwrap_words.specs.LentText.{as_len, written_over};
+ghost use Rattle.textwrap_text.specs.LentText.{as_len, written_over};
 
 use crate::text_sinks::TextSink;
 use std::alloc::{AllocError, Allocator};
-use textwrap_lines::inner::Lines;
-use textwrap_words::inner::LentText;
+use textwrap_text::lent_text::LentText;
+use textwrap_text::text_lines::Lines;
 
 /// Puts a prefix before each line of a text.
 ///

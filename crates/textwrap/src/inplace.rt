@@ -5,9 +5,9 @@ ghost use Rattle.textwrap_base.specs.Division.{IsGreedy};
 ghost use Rattle.textwrap_words.specs.Words.{WordText, sizes_of, words_of};
 ghost use Rattle.textwrap.specs.InPlace.{IsFilledInPlace, OnlyBlanksChange, AreDividedAt};
 ghost use Rattle.textwrap.specs.InPlace.{FitsOneLine, breaks_from, breaks_of, with_line_feeds};
-ghost use Rattle.textwrap_lines.specs.LineEnding.{paragraphs_of};
+ghost use Rattle.textwrap_text.specs.LineEnding.{paragraphs_of};
 ghost use Rattle.textwrap_lines.specs.Paragraph.{text_limit};
-ghost use Rattle.textwrap_lines.specs.declared.line_ending.LineEnding.TheVariants.{LF};
+ghost use Rattle.textwrap_text.specs.declared.line_ending.LineEnding.TheVariants.{LF};
 
 use crate::words::Fragment;
 use std::alloc::{AllocError, Allocator};

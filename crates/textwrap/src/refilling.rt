@@ -23,7 +23,7 @@ ghost use Rattle.textwrap.specs.Refilling.{layout_settings};
 ghost use Rattle.textwrap.specs.Refilling.{unfilled_width, unfilled_initial, unfilled_subsequent};
 ghost use Rattle.textwrap.specs.Refilling.{unfilled_parts, with_indents_of};
 ghost use Rattle.textwrap.specs.Refilling.{detected_among, detected_ending, common_prefix};
-ghost use Rattle.textwrap_words.specs.LentText.{as_len, written_over};
+ghost use Rattle.textwrap_text.specs.LentText.{as_len, written_over};
 ghost use Rattle.textwrap_words.specs.declared.word_separators.WordSeparator.TheVariants.{AsciiSpace};
 ghost use Rattle.textwrap_words.specs.declared.word_splitters.WordSplitter.TheVariants.{HyphenSplitter};
 
@@ -32,11 +32,10 @@ use crate::words::display_width;
 use crate::wrap_algorithms::WrapError;
 use lines::NonEmptyLines;
 use std::alloc::{AllocError, Allocator};
-use textwrap_lines::inner::{
-    AnyOptions, BuiltInOptions, DEFAULTS, Layout, Lines, PrintableCuts, fill_by,
-};
+use textwrap_lines::inner::{AnyOptions, BuiltInOptions, DEFAULTS, Layout, PrintableCuts, fill_by};
 use textwrap_lines::{LineEnding, Options};
-use textwrap_words::inner::LentText;
+use textwrap_text::lent_text::LentText;
+use textwrap_text::text_lines::Lines;
 
 mod lines;
 

@@ -2,7 +2,7 @@
 ghost use Rattle.std.specs.Prelude.{◌≡◌};
 
 use std::alloc::{AllocError, Allocator};
-use textwrap_words::inner::LentText;
+use textwrap_text::lent_text::LentText;
 
 /// What takes a text, part after part.
 pub(crate) trait TextSink {

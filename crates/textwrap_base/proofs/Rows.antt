@@ -1,8 +1,9 @@
 -- Worked rows on the widths of lines, on divisions, on what lines cost, and on tables of costs.
-use Rattle.textwrap_base.proofs.Common.{◌≡◌, ◌≢◌, ℕ, List, [], ◌∷◌, refl, All-head, Sizes}
-use Rattle.textwrap_base.proofs.Common.{default_penalties, division_cost, line_width, closed_width}
-use Rattle.textwrap_base.proofs.Common.{IsDivision, map, take, fragments_table, fragment_costs}
-use Rattle.textwrap_base.proofs.Common.{arith, problem_by, problem_at, flat_map}
+use Rattle.textwrap_text.proofs.Common.{◌≡◌, ◌≢◌, ℕ, List, [], ◌∷◌, refl, All-head, map, take}
+use Rattle.textwrap_text.proofs.Common.{arith, flat_map}
+use Rattle.textwrap_base.proofs.Common.{Sizes, default_penalties, division_cost, line_width}
+use Rattle.textwrap_base.proofs.Common.{closed_width, IsDivision, fragments_table, fragment_costs}
+use Rattle.textwrap_base.proofs.Common.{problem_by, problem_at}
 use Rattle.textwrap_base.specs.Queue.{AreConvex}
 use Rattle.textwrap_base.specs.Table.{table}
 use Rattle.textwrap_base.specs.declared.minima.table.Entry.{Entry}

@@ -1,13 +1,15 @@
 -- The search by a queue: its steps, the costs that suit it, and the stretches of ends that each
 -- start takes.
-use Rattle.textwrap_base.proofs.Common.{ℕ, suc, ◌+◌, ◌/◌, ◌^◌, ◌<◌, ◌≤◌, ◌≡◌, ◌*◌, refl, take, drop}
-use Rattle.textwrap_base.proofs.Common.{zero, List, [], ◌++◌, Costs, HasEnd, subst, IsPriced, rules}
-use Rattle.textwrap_base.proofs.Common.{arith, cases_lt, SuitQueue, cost_from, stretch_at, HaveBest}
-use Rattle.textwrap_base.proofs.Common.{binary_digits, length-map, get_or_append_left, IsLeastBelow}
-use Rattle.textwrap_base.proofs.Common.{◌-◌, min, ◌∷◌, map, sym, ap, ◌∙◌, inl, inr, max}
-use Rattle.textwrap_base.proofs.Common.{length, length_push, get_or_push, least_entry, first_entry}
-use Rattle.textwrap_base.proofs.Common.{get_or, IsBestStart, length-take, get_or-take, length-drop}
-use Rattle.textwrap_base.proofs.Common.{get_or-map, minimum_of, entry_from, IsBestFrom, get_or-drop}
+use Rattle.textwrap_text.proofs.Common.{ℕ, suc, ◌+◌, ◌/◌, ◌^◌, ◌<◌, ◌≤◌, ◌≡◌, ◌*◌, refl, take, drop}
+use Rattle.textwrap_text.proofs.Common.{zero, List, [], ◌++◌, subst, rules, arith, cases_lt}
+use Rattle.textwrap_text.proofs.Common.{length-map, get_or_append_left, ◌-◌, min, ◌∷◌, map, sym, ap}
+use Rattle.textwrap_text.proofs.Common.{◌∙◌, inl, inr, max, length, length_push, get_or_push}
+use Rattle.textwrap_text.proofs.Common.{get_or, length-take, get_or-take, length-drop, get_or-map}
+use Rattle.textwrap_text.proofs.Common.{get_or-drop}
+use Rattle.textwrap_base.proofs.Common.{Costs, HasEnd, IsPriced, SuitQueue, cost_from, stretch_at}
+use Rattle.textwrap_base.proofs.Common.{HaveBest, binary_digits, IsLeastBelow, least_entry}
+use Rattle.textwrap_base.proofs.Common.{first_entry, IsBestStart, minimum_of, entry_from}
+use Rattle.textwrap_base.proofs.Common.{IsBestFrom}
 use Rattle.std.proofs.Math.Nat.{pow-suc, mul-le-mul_right}
 use Rattle.textwrap_base.specs.Queue.{digits_within}
 use Rattle.std.proofs.lemmas.List.{ext_get_or, get_or_read}

@@ -4,7 +4,6 @@ pub mod Division
 pub mod Errors
 pub mod Laws
 pub mod LineCosts
-pub mod Lists
 pub mod Measured
 pub mod Minima
 pub mod OptimalFit

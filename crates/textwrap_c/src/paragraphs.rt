@@ -5,7 +5,7 @@ ghost use Rattle.textwrap_calls.specs.Options.{TellsUnknown, TellsNotUtf8};
 ghost use Rattle.textwrap_calls.specs.Paragraphs.{paragraph_places, widths_view};
 ghost use Rattle.textwrap_calls.specs.Room.{WritesText};
 ghost use Rattle.textwrap_calls.specs.Status.{done, not_utf8, unknown_options};
-ghost use Rattle.textwrap_lines.specs.LineEnding.{ending_bytes, paragraphs_of};
+ghost use Rattle.textwrap_text.specs.LineEnding.{ending_bytes, paragraphs_of};
 
 use std::alloc::Global;
 use textwrap_calls::options::TextwrapOptions;

@@ -10,7 +10,7 @@ ghost use Rattle.textwrap_calls.specs.Status.{wrong_places};
 ghost use Rattle.textwrap_lines.specs.Paragraph.{pieces_by};
 ghost use Rattle.textwrap_plain.specs.Options.{words_by};
 ghost use Rattle.textwrap_words.specs.Breaking.{broken_pieces};
-ghost use Rattle.textwrap_words.specs.Units.{stripped};
+ghost use Rattle.textwrap_text.specs.Units.{stripped};
 ghost use Rattle.textwrap_words.specs.WordOffsets.{words_at};
 ghost use Rattle.textwrap_words.specs.WordSplitters.{hyphen_points};
 ghost use Rattle.textwrap_words.specs.Words.{piece};

@@ -7,37 +7,37 @@ pub use Rattle.std.proofs.lemmas.Nat.{mul-le}
 pub use Rattle.std.specs.Prelude.{IfOk}
 pub use Rattle.std.specs.Str.{chars}
 pub use Rattle.std.specs.Str.Lines.{lines_of_parts}
-pub use Rattle.textwrap_base.proofs.Common.{[], All, All-cons, All-from_get_or, All-head, All-nil}
-pub use Rattle.textwrap_base.proofs.Common.{All-tail, All-weaker, ap, append-nil, append_assoc}
-pub use Rattle.textwrap_base.proofs.Common.{arith, Bool, cases_Bool, cases_lt, cond, drop}
-pub use Rattle.textwrap_base.proofs.Common.{drop_more, encode_utf8_all, encodes-chars, eqb-false}
-pub use Rattle.textwrap_base.proofs.Common.{eqb-true, false, filter, flat_map, get_or}
-pub use Rattle.textwrap_base.proofs.Common.{get_or_default, inl, inr, IsUtf8, length, length-append}
-pub use Rattle.textwrap_base.proofs.Common.{length-drop, length-map, lines, List, map, map_push}
-pub use Rattle.textwrap_base.proofs.Common.{nat_lt, nat_tests, ne_eqb, nil_from_length}
-pub use Rattle.textwrap_base.proofs.Common.{range_with_len, refl, rules, slice_index, slice_range}
-pub use Rattle.textwrap_base.proofs.Common.{slice_split, starts_with_length, StartsWith}
-pub use Rattle.textwrap_base.proofs.Common.{string_bytes, subst, suc, sum_by, sum_by-append}
-pub use Rattle.textwrap_base.proofs.Common.{sum_by-cons, sym, take, take-append-drop, take_all}
-pub use Rattle.textwrap_base.proofs.Common.{total_width, true, true≢false, zero, ℕ, ◌&&◌, ◌*◌, ◌++◌}
-pub use Rattle.textwrap_base.proofs.Common.{◌+◌, ◌-◌, ◌<◌, ◌==◌, ◌^◌, ◌||◌, ◌↔◌, ◌∙◌, ◌∷◌, ◌≡◌, ◌≢◌}
-pub use Rattle.textwrap_base.proofs.Common.{◌≤◌, ◌⊎◌}
+pub use Rattle.textwrap_text.proofs.Common.{[], All, All-cons, All-from_get_or, All-head, All-nil}
+pub use Rattle.textwrap_text.proofs.Common.{All-tail, All-weaker, ap, append-nil, append_assoc}
+pub use Rattle.textwrap_text.proofs.Common.{arith, Bool, cases_Bool, cases_lt, cond, drop}
+pub use Rattle.textwrap_text.proofs.Common.{drop_more, encode_utf8_all, encodes-chars, eqb-false}
+pub use Rattle.textwrap_text.proofs.Common.{eqb-true, false, filter, flat_map, get_or}
+pub use Rattle.textwrap_text.proofs.Common.{get_or_default, inl, inr, IsUtf8, length, length-append}
+pub use Rattle.textwrap_text.proofs.Common.{length-drop, length-map, lines, List, map, map_push}
+pub use Rattle.textwrap_text.proofs.Common.{nat_lt, nat_tests, ne_eqb, nil_from_length}
+pub use Rattle.textwrap_text.proofs.Common.{range_with_len, refl, rules, slice_index, slice_range}
+pub use Rattle.textwrap_text.proofs.Common.{slice_split, starts_with_length, StartsWith}
+pub use Rattle.textwrap_text.proofs.Common.{string_bytes, subst, suc, sum_by, sum_by-append}
+pub use Rattle.textwrap_text.proofs.Common.{sum_by-cons, sym, take, take-append-drop, take_all}
+pub use Rattle.textwrap_text.proofs.Common.{true, true≢false, zero, ℕ, ◌&&◌, ◌*◌, ◌++◌, ◌+◌, ◌-◌}
+pub use Rattle.textwrap_text.proofs.Common.{◌<◌, ◌==◌, ◌^◌, ◌||◌, ◌↔◌, ◌∙◌, ◌∷◌, ◌≡◌, ◌≢◌, ◌≤◌, ◌⊎◌}
+pub use Rattle.textwrap_text.proofs.Common.{IsPrintableByte, stripped, units, ending_bytes}
+pub use Rattle.textwrap_text.proofs.Common.{join_with, paragraphs_of}
+pub use Rattle.textwrap_base.proofs.Common.{total_width}
 pub use Rattle.textwrap_base.proofs.Cost.Measures.{total_width-same}
-pub use Rattle.textwrap_base.proofs.Lists.Parts.{flat, length-slice}
-pub use Rattle.textwrap_words.proofs.Common.{as_splitter, broken_texts, IsPrintableByte, sizes_of}
-pub use Rattle.textwrap_words.proofs.Common.{stripped, tiled, Tiles, units, word_of, word_view}
-pub use Rattle.textwrap_words.proofs.Common.{WordText}
+pub use Rattle.textwrap_text.proofs.Lists.Parts.{flat, length-slice}
+pub use Rattle.textwrap_words.proofs.Common.{as_splitter, broken_texts, sizes_of, tiled, Tiles}
+pub use Rattle.textwrap_words.proofs.Common.{word_of, word_view, WordText}
 pub use Rattle.textwrap_words.proofs.Word.Words.{tiled-append}
-pub use Rattle.textwrap_words.specs.Characters.{shown, shown_text}
-pub use Rattle.textwrap_words.specs.CharactersLeft.{characters_left}
-pub use Rattle.textwrap_words.specs.LentText.{as_len}
+pub use Rattle.textwrap_text.specs.Characters.{shown, shown_text}
+pub use Rattle.textwrap_text.specs.CharactersLeft.{characters_left}
+pub use Rattle.textwrap_text.specs.LentText.{as_len}
 pub use Rattle.textwrap_words.specs.LineEnds.{AreEnds, lines_between}
 pub use Rattle.textwrap_words.specs.PiecesLeft.{standing_left}
-pub use Rattle.textwrap_words.specs.Units.{visible}
+pub use Rattle.textwrap_text.specs.Units.{visible}
 pub use Rattle.textwrap_lines.proofs.Common.{AreGroups, AreIndented, AreParagraphParts, covered_by}
-pub use Rattle.textwrap_lines.proofs.Common.{ending_bytes, indent_of, is_whole, IsFilled, join_with}
-pub use Rattle.textwrap_lines.proofs.Common.{line_bytes, line_from, line_view, LineParts}
-pub use Rattle.textwrap_lines.proofs.Common.{paragraphs_of, parts_from, pieces_of, Settings}
+pub use Rattle.textwrap_lines.proofs.Common.{indent_of, is_whole, IsFilled, line_bytes, line_from}
+pub use Rattle.textwrap_lines.proofs.Common.{line_view, LineParts, parts_from, pieces_of, Settings}
 pub use Rattle.textwrap_lines.proofs.Common.{settings_view, widths_of}
 pub use Rattle.textwrap_words.proofs.Word.Divisions.{lines_from-begin}
 pub use Rattle.textwrap_lines.proofs.Paragraph.KeepsTo.{HasNoHyphen}
@@ -49,7 +49,7 @@ pub use Rattle.textwrap_lines.proofs.Text.Sinks.{further-cut_lines, lines_of-cut
 pub use Rattle.textwrap_lines.specs.Places.{ArePlacedLines, ArePlacesOf, built_text, HasPlaces}
 pub use Rattle.textwrap_lines.specs.Places.{HasPlacesMore, lines_of, place_of}
 pub use Rattle.textwrap_lines.specs.Steps.{pieces_at}
-pub use Rattle.textwrap_lines.specs.declared.line_ending.LineEnding.{LineEnding}
+pub use Rattle.textwrap_text.specs.declared.line_ending.LineEnding.{LineEnding}
 pub use Rattle.textwrap_lines.specs.declared.places.Place.{Place}
 pub use Rattle.textwrap_lines.specs.declared.places.TextwrapLine.{TextwrapLine}
 pub use Rattle.textwrap.proofs.Common.{Built, is_blank_line, Line, Slice}

@@ -1,18 +1,17 @@
 -- Each offset is passed where a character ends if they are offsets of the text, and only then.
-use Rattle.textwrap_base.proofs.Common.{◌≡◌, ℕ, ◌+◌, ◌<◌, ◌↔◌, List, [], ◌∷◌, length, drop, refl}
-use Rattle.textwrap_base.proofs.Common.{sym, ap, subst, arith, inl, inr, cases_Bool, eqb, eqb-true}
-use Rattle.textwrap_base.proofs.Common.{eqb-false, All-nil, All-head, IsUtf8, IsUtf8-drop}
-use Rattle.textwrap_base.proofs.Common.{IsCharBoundary, IsCharBoundary-start, IsUtf8-past_char}
-use Rattle.textwrap_base.proofs.Common.{encode_utf8_all, encodes-chars, length-drop}
+use Rattle.textwrap_text.proofs.Common.{◌≡◌, ℕ, ◌+◌, ◌<◌, ◌↔◌, List, [], ◌∷◌, length, drop, refl}
+use Rattle.textwrap_text.proofs.Common.{sym, ap, subst, arith, inl, inr, cases_Bool, eqb, eqb-true}
+use Rattle.textwrap_text.proofs.Common.{eqb-false, All-nil, All-head, IsUtf8, IsUtf8-drop}
+use Rattle.textwrap_text.proofs.Common.{IsCharBoundary, IsCharBoundary-start, IsUtf8-past_char}
+use Rattle.textwrap_text.proofs.Common.{encode_utf8_all, encodes-chars, length-drop, stripped}
+use Rattle.textwrap_text.proofs.Common.{units}
 use Rattle.std.specs.Str.{chars}
-use Rattle.textwrap_words.proofs.Common.{stripped, units}
-use Rattle.textwrap_words.proofs.Units.Texts.{units-tile}
-use Rattle.textwrap_words.specs.Units.{visible}
+use Rattle.textwrap_text.proofs.Units.Texts.{units-tile}
+use Rattle.textwrap_text.specs.Units.{visible}
 use Rattle.textwrap_unicode.proofs.CutLemmas.{visible-utf8}
 use Rattle.std.proofs.lemmas.Str.{IsCharBoundary-from_drop}
 use lib.Utf8.{encode}
-use Rattle.textwrap_base.proofs.Texts.{some-bytes}
-use Rattle.textwrap_base.proofs.Texts.{ends-within, left-after}
+use Rattle.textwrap_text.proofs.Texts.{some-bytes, ends-within, left-after}
 use Rattle.textwrap_words.proofs.Word.Ahead.{character-within}
 use Rattle.textwrap_words.specs.Cuts.{AreNext}
 use Rattle.textwrap_calls.specs.Pieces.{AreOffsets, IsNextOffset, offsets_past}

@@ -7,7 +7,7 @@ use Rattle.textwrap_calls.proofs.Common.{sizes_of, tiled, WordText, widths_of, L
 use Rattle.textwrap_calls.proofs.Common.{join-paragraphs_of, paragraphs_of-utf8, lines_of-cut_lines}
 use Rattle.textwrap_calls.proofs.Common.{built_text, lines_of, place_of, ArePlacedLines, Place}
 use Rattle.textwrap_calls.proofs.Common.{words_by, ArePlacedRows, ShowLines}
-use Rattle.textwrap_base.proofs.Common.{⊤, drop-drop, map-append}
+use Rattle.textwrap_text.proofs.Common.{⊤, drop-drop, map-append}
 use Rattle.textwrap_words.proofs.Common.{ArePoints}
 use Rattle.textwrap.proofs.Common.{ending_bytes, join_with, paragraphs_of, Settings, LineParts}
 use Rattle.textwrap.proofs.Common.{line_from, covered_by}

@@ -4,7 +4,7 @@ use Rattle.textwrap_calls.proofs.Common.{length, refl, subst, sym, ◌≢◌, su
 use Rattle.textwrap_calls.proofs.Common.{◌++◌, ap, cases_lt, drop, length-map, take_all, Line}
 use Rattle.textwrap_calls.proofs.Common.{Slice, Built, as_len, built_text, Place, TextwrapLine}
 use Rattle.textwrap_calls.proofs.Common.{WritesReported, WritesText, done, too_small, ShowLines}
-use Rattle.textwrap_words.specs.LentText.{written_over}
+use Rattle.textwrap_text.specs.LentText.{written_over}
 use Rattle.textwrap_lines.specs.LentPlaces.{WritesPlaces}
 use Rattle.textwrap_lines.specs.declared.lent_places.LineCounts.{LineCounts}
 use Rattle.textwrap_calls.specs.Reported.{Reports}

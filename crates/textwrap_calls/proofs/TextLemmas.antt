@@ -4,7 +4,8 @@ use Rattle.textwrap_calls.proofs.Common.{refl, sym, ap, ◌∙◌, take, map_pus
 use Rattle.textwrap_calls.proofs.Common.{◌≢◌, ◌⊎◌, arith, inl, inr, Line, Slice, map_more, texts_of}
 use Rattle.textwrap_calls.proofs.Common.{texts_in, shape_of, alignment_of, done, too_small}
 use Rattle.textwrap_calls.proofs.Common.{shape_of_column, bytes_of, TextwrapColumn, TextwrapText}
-use Rattle.textwrap_base.proofs.Common.{Bor, CowStr}
+use Rattle.textwrap_text.proofs.Common.{Bor}
+use Rattle.std.specs.declared.borrow.CowStr.{CowStr}
 use Rattle.std.specs.Cow.{cow_str_bytes}
 use Rattle.std.specs.declared.borrow.CowStr.TheVariants.{Borrowed}
 use Rattle.textwrap_lines.proofs.Text.Lines.{line_bytes-line_view}

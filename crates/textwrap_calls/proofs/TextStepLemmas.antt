@@ -13,12 +13,12 @@ use Rattle.textwrap_calls.proofs.Common.{LineEnding, Place, TextwrapLine, joined
 use Rattle.textwrap_calls.proofs.Common.{justified_after_indents, justified_at, WritesReported}
 use Rattle.textwrap_calls.proofs.Common.{done, too_small, ArePlacedCuts, text_step_cuts, ShowLines}
 use Rattle.textwrap_calls.proofs.Common.{WritesLines}
-use Rattle.textwrap_base.proofs.Common.{Err, Ok, Result, starts_with_of_append}
+use Rattle.textwrap_text.proofs.Common.{Err, Ok, Result, starts_with_of_append}
 use Rattle.textwrap_lines.proofs.Common.{CutLine, cut_lines, text_cuts, further, lines_of}
 use Rattle.std.proofs.Common.{Fits, w64}
 use Rattle.std.specs.Result.{IfOk}
 use Rattle.std.specs.declared.borrow.CowStr.{CowStr}
-use Rattle.textwrap_base.proofs.Numbers.{is_later-or}
+use Rattle.textwrap_text.proofs.Numbers.{is_later-or}
 use Rattle.textwrap_lines.proofs.Text.Sinks.{length-places_of}
 use Rattle.textwrap_lines.specs.Places.{division_cuts}
 use Rattle.textwrap_lines.specs.declared.places.PlacedLines.{PlacedLines}

@@ -1,7 +1,7 @@
 -- Lines for display, as C has them.
 use Rattle.std.specs.Prelude.{◌≡◌, ℕ, ◌<◌, ◌≤◌, ◌==◌, List, [], length, map, if◌then◌else◌}
 use Rattle.textwrap.specs.Paragraph.{Built, Line, line_bytes}
-use Rattle.textwrap_words.specs.Units.{text_width}
+use Rattle.textwrap_text.specs.Units.{text_width}
 use Rattle.textwrap_display.specs.Shortening.{AreShortened, IsShortened}
 use Rattle.textwrap_display.specs.declared.alignment.Alignment.{Alignment}
 use Rattle.textwrap_display.specs.declared.alignment.Alignment.TheVariants.{Left, Right, Centre}

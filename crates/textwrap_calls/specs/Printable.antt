@@ -1,7 +1,7 @@
 -- Lines of printable ASCII, for which neither the options nor UTF-8 have to be read.
 use Rattle.std.specs.Prelude.{◌≡◌, ◌≢◌, ℕ, List, [], ◌∷◌, slice_index}
-use Rattle.textwrap_words.specs.Blanks.{blank}
-use Rattle.textwrap_words.specs.Units.{IsPrintable}
+use Rattle.textwrap_text.specs.Blanks.{blank}
+use Rattle.textwrap_text.specs.Units.{IsPrintable}
 use Rattle.textwrap_lines.specs.Paragraph.{Slice}
 use Rattle.textwrap_lines.specs.Places.{ArePlacedLines, place_of}
 use Rattle.textwrap_calls.specs.Options.{settings_of, AreKnown, Divides}

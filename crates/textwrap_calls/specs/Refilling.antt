@@ -1,8 +1,8 @@
 -- What is reported of an unfilled text.
 use Rattle.std.specs.Prelude.{◌≡◌, ℕ, [], ◌∷◌, length}
 use Rattle.textwrap.specs.Options.{Settings}
-use Rattle.textwrap_lines.specs.declared.line_ending.LineEnding.{LineEnding}
-use Rattle.textwrap_lines.specs.declared.line_ending.LineEnding.TheVariants.{LF, CRLF}
+use Rattle.textwrap_text.specs.declared.line_ending.LineEnding.{LineEnding}
+use Rattle.textwrap_text.specs.declared.line_ending.LineEnding.TheVariants.{LF, CRLF}
 use Rattle.textwrap_calls.specs.declared.refilling.TextwrapLayout.{TextwrapLayout}
 
 -- the number of a line ending

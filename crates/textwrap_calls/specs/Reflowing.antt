@@ -2,8 +2,8 @@
 use Rattle.std.specs.Prelude.{◌≡◌, ℕ, ◌≤◌, ◌==◌, List, [], ◌∷◌, All, if◌then◌else◌, Option, Some}
 use Rattle.std.specs.Prelude.{None}
 use Rattle.textwrap_base.specs.declared.penalties.Penalties.{Penalties}
-use Rattle.textwrap_lines.specs.declared.line_ending.LineEnding.{LineEnding}
-use Rattle.textwrap_lines.specs.declared.line_ending.LineEnding.TheVariants.{LF, CRLF}
+use Rattle.textwrap_text.specs.declared.line_ending.LineEnding.{LineEnding}
+use Rattle.textwrap_text.specs.declared.line_ending.LineEnding.TheVariants.{LF, CRLF}
 use Rattle.textwrap_display.specs.Tables.{texts_in}
 use Rattle.textwrap_marked.specs.Reflow.{IsReflowed}
 use Rattle.textwrap_marked.specs.declared.options.Algorithm.{Algorithm}

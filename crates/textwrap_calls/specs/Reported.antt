@@ -1,6 +1,6 @@
 -- How the lines of a text are reported.
 use Rattle.std.specs.Prelude.{◌≡◌, ℕ, ◌<◌, ◌⊎◌, ◌↔◌, List, length, map}
-use Rattle.textwrap_words.specs.LentText.{written_over}
+use Rattle.textwrap_text.specs.LentText.{written_over}
 use Rattle.textwrap_lines.specs.LentPlaces.{reported_line}
 use Rattle.textwrap_lines.specs.declared.lent_places.LineCounts.{LineCounts}
 use Rattle.textwrap_lines.specs.declared.places.Place.{Place}

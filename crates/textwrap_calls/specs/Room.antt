@@ -1,6 +1,6 @@
 -- What is written into lent room.
 use Rattle.std.specs.Prelude.{◌≡◌, ◌≢◌, ℕ, ◌<◌, ◌⊎◌, ◌↔◌, List, length}
-use Rattle.textwrap_words.specs.LentText.{as_len, written_over}
+use Rattle.textwrap_text.specs.LentText.{as_len, written_over}
 use Rattle.textwrap_calls.specs.Status.{done, too_small}
 
 -- as much of an answer of this kind as has room stands at the front of the room, and what follows it

@@ -6,7 +6,7 @@ use Rattle.textwrap_lines.specs.Places.{built_text}
 use Rattle.textwrap_lines.specs.LentPlaces.{reported_line}
 use Rattle.textwrap_lines.specs.declared.places.Place.{Place}
 use Rattle.textwrap_lines.specs.declared.places.TextwrapLine.{TextwrapLine}
-use Rattle.textwrap_words.specs.LentText.{as_len, written_over}
+use Rattle.textwrap_text.specs.LentText.{as_len, written_over}
 use Rattle.textwrap_calls.specs.Status.{done, too_small}
 
 -- ---- what stands at that place

@@ -4,7 +4,7 @@ ghost use Rattle.textwrap.specs.Indentation.{indented, dedented};
 ghost use Rattle.textwrap_calls.specs.Printable.{IsFullLine};
 ghost use Rattle.textwrap_calls.specs.Room.{WritesLong, WritesText};
 ghost use Rattle.textwrap_calls.specs.Status.{done, not_utf8, out_of_memory, too_small};
-ghost use Rattle.textwrap_words.specs.LentText.{as_len, written_over};
+ghost use Rattle.textwrap_text.specs.LentText.{as_len, written_over};
 
 use crate::known::known_text;
 use crate::printable::is_printable_text;
@@ -12,7 +12,7 @@ use crate::room::report;
 use crate::status::NOT_UTF8;
 use simdutf8::basic::from_utf8;
 use textwrap::inner::{dedent_into, indent_into};
-use textwrap_words::inner::LentText;
+use textwrap_text::lent_text::LentText;
 
 /// Writes the text with a prefix before each line, as `textwrap_fill` writes a filled one. It allocates
 /// nothing.

@@ -9,7 +9,7 @@ ghost use Rattle.textwrap_calls.specs.Status.{out_of_memory, unknown_options};
 ghost use Rattle.textwrap_calls.specs.Status.{wrong_places};
 ghost use Rattle.textwrap_calls.specs.Steps.{AreLineSteps};
 ghost use Rattle.textwrap_calls.specs.TextSteps.{AreTextSteps, parts_at, AreStepsOf};
-ghost use Rattle.textwrap_lines.specs.LineEnding.{paragraphs_of};
+ghost use Rattle.textwrap_text.specs.LineEnding.{paragraphs_of};
 ghost use Rattle.textwrap_lines.specs.Options.{settings_view};
 ghost use Rattle.textwrap_lines.specs.Paragraph.{Slice, is_whole, line_from, line_view};
 

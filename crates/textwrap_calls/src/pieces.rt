@@ -11,7 +11,7 @@ ghost use Rattle.textwrap_lines.specs.Paragraph.{pieces_by, pieces_of};
 ghost use Rattle.textwrap_plain.specs.Options.{words_by};
 ghost use Rattle.textwrap_words.specs.Breaking.{broken_pieces, pieces_left};
 ghost use Rattle.textwrap_words.specs.Pieces.{as_splitter};
-ghost use Rattle.textwrap_words.specs.Units.{stripped};
+ghost use Rattle.textwrap_text.specs.Units.{stripped};
 ghost use Rattle.textwrap_words.specs.WordOffsets.{words_at};
 ghost use Rattle.textwrap_words.specs.WordSplitters.{hyphen_points};
 ghost use Rattle.textwrap_words.specs.Words.{piece, word_view, Tiles};
@@ -29,7 +29,8 @@ use textwrap::words::{BreakApart, Word, display_width};
 use textwrap_lines::inner::paragraph_pieces;
 use textwrap_plain::placed::paragraph_pieces as paragraph_pieces_by;
 use textwrap_plain::{PlainOptions, PlainSeparator, PlainSplitter};
-use textwrap_words::inner::{BuiltInSplitter, Characters};
+use textwrap_text::characters::Characters;
+use textwrap_words::inner::BuiltInSplitter;
 
 /// Where a word stands, or a part of one.
 #[repr(C)]

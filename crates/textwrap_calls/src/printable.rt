@@ -5,12 +5,12 @@ ghost use Rattle.textwrap.specs.Refilling.{IsRefilled, line_prefix};
 ghost use Rattle.textwrap_calls.specs.Options.{settings_of, AreKnown, AreTexts, Divides};
 ghost use Rattle.textwrap_calls.specs.Options.{IsFilledBy, IsRefilledBy};
 ghost use Rattle.textwrap_calls.specs.Printable.{AreWithoutIndents, IsOnlyLine};
-ghost use Rattle.textwrap_words.specs.Units.{IsPrintable};
+ghost use Rattle.textwrap_text.specs.Units.{IsPrintable};
 
 use crate::options::{TextwrapOptions, are_known};
 use simdutf8::is_utf8;
-use textwrap_words::blanks::trimmed_len;
-use textwrap_words::inner::is_printable;
+use textwrap_text::blanks::trimmed_len;
+use textwrap_text::printable::is_printable;
 
 /// How many bytes of a text are looked at together.
 const BLOCK: usize = 32;

@@ -2,7 +2,7 @@
 ghost use Rattle.std.specs.Prelude.{◌≡◌, ◌⊎◌, ◌∷◌, []};
 ghost use Rattle.textwrap.specs.Paragraph.{Slice};
 ghost use Rattle.textwrap_lines.specs.Places.{place_of};
-ghost use Rattle.textwrap_words.specs.LentText.{as_len};
+ghost use Rattle.textwrap_text.specs.LentText.{as_len};
 ghost use Rattle.textwrap_calls.specs.Status.{done, too_small};
 ghost use Rattle.textwrap_calls.specs.Reported.{Reports, WritesReported};
 

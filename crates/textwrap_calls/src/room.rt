@@ -2,7 +2,7 @@
 ghost use Rattle.std.specs.Prelude.{◌≡◌, ◌<◌, ◌⊎◌, ◌↔◌, length};
 ghost use Rattle.textwrap_calls.specs.Room.{WritesText};
 ghost use Rattle.textwrap_calls.specs.Status.{done, too_small};
-ghost use Rattle.textwrap_words.specs.LentText.{written_over};
+ghost use Rattle.textwrap_text.specs.LentText.{written_over};
 
 use crate::status::{DONE, TOO_SMALL};
 

@@ -12,7 +12,7 @@ ghost use Rattle.textwrap_calls.specs.Steps.{AreLineSteps, ArePlacedCuts};
 ghost use Rattle.textwrap_calls.specs.TextSteps.{AreTextSteps, filled_at, parts_at, text_step_cuts};
 ghost use Rattle.textwrap_calls.specs.TextSteps.{AreStepsOf};
 ghost use Rattle.textwrap_calls.specs.Wrapping.{ShowLines, WritesLines};
-ghost use Rattle.textwrap_lines.specs.LineEnding.{ending_bytes, join_with, paragraphs_of};
+ghost use Rattle.textwrap_text.specs.LineEnding.{ending_bytes, join_with, paragraphs_of};
 ghost use Rattle.textwrap_lines.specs.Options.{settings_view};
 ghost use Rattle.textwrap_lines.specs.Paragraph.{Line, is_whole, line_bytes, text_limit};
 ghost use Rattle.textwrap_lines.specs.Places.{HasPlaces, HasPlacesMore, cut_lines, lines_of};

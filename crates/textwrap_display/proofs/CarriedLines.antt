@@ -1,13 +1,13 @@
 -- Lines whose styles are carried: their bytes, what they show, and whole lines under indents.
-use Rattle.textwrap_base.proofs.Common.{◌≡◌, ℕ, ◌+◌, ◌<◌, cond, ◌==◌, List, [], ◌∷◌, ◌++◌, length}
-use Rattle.textwrap_base.proofs.Common.{get_or, take, drop, map, sym, ap, ◌∙◌, drop_more, CowStr}
-use Rattle.textwrap_base.proofs.Common.{nat_tests, append-nil, append_assoc, map-append}
-use Rattle.textwrap_base.proofs.Common.{nil_from_length, length-append}
-use Rattle.textwrap_base.proofs.Common.{arith, take-append-drop, ◌-◌, All, All-append, All-drop}
-use Rattle.textwrap_base.proofs.Common.{filter, not, suffix_len, sum_by, All-cons, All-head}
-use Rattle.textwrap_base.proofs.Common.{All-nil, All-tail, refl, Bool, true, false, All-weaker}
-use Rattle.textwrap_base.proofs.Common.{chars-nil, drop_at, flat_map, IsUtf8, IsUtf8-drop, nat_eq}
-use Rattle.textwrap_base.proofs.Common.{starts_with, subst, take_at}
+use Rattle.textwrap_text.proofs.Common.{◌≡◌, ℕ, ◌+◌, ◌<◌, cond, ◌==◌, List, [], ◌∷◌, ◌++◌, length}
+use Rattle.textwrap_text.proofs.Common.{get_or, take, drop, map, sym, ap, ◌∙◌, drop_more, nat_tests}
+use Rattle.textwrap_text.proofs.Common.{append-nil, append_assoc, map-append, nil_from_length}
+use Rattle.textwrap_text.proofs.Common.{length-append, arith, take-append-drop, ◌-◌, All}
+use Rattle.textwrap_text.proofs.Common.{All-append, All-drop, filter, not, suffix_len, sum_by}
+use Rattle.textwrap_text.proofs.Common.{All-cons, All-head, All-nil, All-tail, refl, Bool, true}
+use Rattle.textwrap_text.proofs.Common.{false, All-weaker, chars-nil, drop_at, flat_map, IsUtf8}
+use Rattle.textwrap_text.proofs.Common.{IsUtf8-drop, nat_eq, starts_with, subst, take_at}
+use Rattle.std.specs.declared.borrow.CowStr.{CowStr}
 use Rattle.std.specs.Cow.{cow_str_bytes}
 use Rattle.textwrap_lines.specs.Paragraph.{Line, Built, Slice, line_view, line_bytes}
 use Rattle.textwrap_lines.proofs.Text.Lines.{line_bytes-line_view}
@@ -24,14 +24,14 @@ use Rattle.textwrap_display.proofs.SequenceTexts.{closing-sequences, link-ended,
 use Rattle.textwrap_display.proofs.SequenceTexts.{text-sequences, nil-whole, styled-append}
 use Rattle.textwrap_display.proofs.SequenceTexts.{text_units-append}
 use Rattle.std.proofs.lemmas.List.Elements.{All-filter}
-use Rattle.textwrap_words.specs.Units.{columns, text_width, IsWhole, units}
+use Rattle.textwrap_text.specs.Units.{columns, text_width, IsWhole, units}
 use Rattle.textwrap_display.specs.Styled.{EndsPlain, MayCarry, styled_text, EachWithIndent}
 use Rattle.textwrap_display.specs.Styled.{styled_lines, IsWholeText, styled}
 use Rattle.textwrap_display.proofs.OpenSequences.{link-again, styles-again, link-follows}
 use Rattle.textwrap_display.proofs.OpenSequences.{styles-follow}
 use Rattle.std.specs.Str.{chars}
-use Rattle.textwrap_base.proofs.Texts.{StartsWith-boundary}
-use Rattle.textwrap_base.proofs.Lists.Parts.{starts_with-rest}
+use Rattle.textwrap_text.proofs.Texts.{StartsWith-boundary}
+use Rattle.textwrap_text.proofs.Lists.Parts.{starts_with-rest}
 
 -- ---- one line more that sets anew what is open, and ends plain
 

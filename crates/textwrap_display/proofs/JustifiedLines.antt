@@ -1,22 +1,23 @@
 -- A text that is filled with its lines justified, one paragraph after another.
-use Rattle.textwrap_base.proofs.Common.{◌≡◌, ℕ, Bool, true, List, [], ◌∷◌, ◌++◌, cond, map, refl}
-use Rattle.textwrap_base.proofs.Common.{append_assoc, arith, ◌-◌, ◌||◌, nat_lt, suc, false, length}
-use Rattle.textwrap_base.proofs.Common.{sym, ap, ◌∙◌, append-nil, cases_Bool, drop_all, drop_at}
-use Rattle.textwrap_base.proofs.Common.{flat_map, take_all, take_at, ◌+◌, take, drop, subst}
-use Rattle.textwrap_base.proofs.Common.{length-append, length-map}
+use Rattle.textwrap_text.proofs.Common.{◌≡◌, ℕ, Bool, true, List, [], ◌∷◌, ◌++◌, cond, map, refl}
+use Rattle.textwrap_text.proofs.Common.{append_assoc, arith, ◌-◌, ◌||◌, nat_lt, suc, false, length}
+use Rattle.textwrap_text.proofs.Common.{sym, ap, ◌∙◌, append-nil, cases_Bool, drop_all, drop_at}
+use Rattle.textwrap_text.proofs.Common.{flat_map, take_all, take_at, ◌+◌, take, drop, subst}
+use Rattle.textwrap_text.proofs.Common.{length-append, length-map, ending_bytes, join_with}
+use Rattle.textwrap_text.proofs.Common.{paragraphs_of, text_width}
 use Rattle.std.specs.Cow.{cow_str_bytes}
 use Rattle.std.specs.declared.borrow.CowStr.{CowStr}
-use Rattle.textwrap_lines.proofs.Common.{ending_bytes, indent_of, line_bytes, line_view, Settings}
-use Rattle.textwrap_lines.proofs.Common.{join_with, line_from, LineParts, parts_from, parts_of}
-use Rattle.textwrap_lines.proofs.Common.{AreGroups, AreParagraphParts, DividesAs, DividesBy}
-use Rattle.textwrap_lines.proofs.Common.{HasParts, paragraphs_of, settings_view}
+use Rattle.textwrap_lines.proofs.Common.{indent_of, line_bytes, line_view, Settings, line_from}
+use Rattle.textwrap_lines.proofs.Common.{LineParts, parts_from, parts_of, AreGroups}
+use Rattle.textwrap_lines.proofs.Common.{AreParagraphParts, DividesAs, DividesBy, HasParts}
+use Rattle.textwrap_lines.proofs.Common.{settings_view}
 use Rattle.textwrap_lines.proofs.Text.Lines.{line_bytes-line_view}
 use Rattle.textwrap_display.specs.JustifiedText.{joined_on, justified_after}
 use Rattle.textwrap_display.specs.JustifiedText.{justified_after_indents, justified_line}
 use Rattle.textwrap_display.specs.JustifiedText.{justified_lines, IsJustifiedText}
-use Rattle.textwrap_base.proofs.Lists.Parts.{starts_with-true}
-use Rattle.textwrap_base.proofs.Numbers.{or_false, some_later, is_later-or}
-use Rattle.textwrap_words.proofs.Common.{text_width, WordText, Algorithm, Splitter}
+use Rattle.textwrap_text.proofs.Lists.Parts.{starts_with-true}
+use Rattle.textwrap_text.proofs.Numbers.{or_false, some_later, is_later-or}
+use Rattle.textwrap_words.proofs.Common.{WordText, Algorithm, Splitter}
 use Rattle.textwrap_lines.proofs.Text.Sinks.{assembled-bytes}
 use Rattle.textwrap_display.specs.Justifying.{justified}
 use Rattle.textwrap_lines.specs.declared.options.Options.{Options}

@@ -1,19 +1,19 @@
 -- The longest beginning of a line that may be kept, and the first lines as they are.
-use Rattle.textwrap_base.proofs.Common.{◌≡◌, ◌≢◌, ℕ, ◌+◌, ◌≤◌, ◌<◌, ◌⊎◌, Bool, true, false, eqb}
-use Rattle.textwrap_base.proofs.Common.{List, ◌++◌, length, take, drop, refl, sym, ap, subst, ◌∙◌}
-use Rattle.textwrap_base.proofs.Common.{inl, inr, arith, IsUtf8, cases_lt, eqb-true, [], ◌∷◌}
-use Rattle.textwrap_base.proofs.Common.{get_or, map, CowStr, map-append, take-append-drop}
-use Rattle.textwrap_base.proofs.Common.{drop_more, length-map, length-take-le, string_bytes, Bor}
-use Rattle.textwrap_base.proofs.Common.{take_more, append_assoc}
+use Rattle.textwrap_text.proofs.Common.{◌≡◌, ◌≢◌, ℕ, ◌+◌, ◌≤◌, ◌<◌, ◌⊎◌, Bool, true, false, eqb}
+use Rattle.textwrap_text.proofs.Common.{List, ◌++◌, length, take, drop, refl, sym, ap, subst, ◌∙◌}
+use Rattle.textwrap_text.proofs.Common.{inl, inr, arith, IsUtf8, cases_lt, eqb-true, [], ◌∷◌}
+use Rattle.textwrap_text.proofs.Common.{get_or, map, map-append, take-append-drop, drop_more}
+use Rattle.textwrap_text.proofs.Common.{length-map, length-take-le, string_bytes, Bor, take_more}
+use Rattle.textwrap_text.proofs.Common.{append_assoc, text_width}
+use Rattle.std.specs.declared.borrow.CowStr.{CowStr}
 use Rattle.std.specs.Prelude.{encode_utf8, String}
-use Rattle.textwrap_words.proofs.Common.{text_width}
-use Rattle.textwrap_words.specs.declared.escapes.State.{State}
+use Rattle.textwrap_text.specs.declared.escapes.State.{State}
 use Rattle.textwrap_display.specs.Shortening.{IsKeptBeginning, can_end, AreShortened, IsShortened, texts_of}
 use Rattle.textwrap_display.proofs.KeptWords.{is_after_blank, may_end-boundary, may_end-within}
 use Rattle.textwrap_display.proofs.KeptWords.{may_end-here, may_end-other, may_end-past}
 use Rattle.textwrap_display.proofs.KeptWords.{may_end-whole, may_end-blanks, IsReadTo, read-width}
 use Rattle.textwrap_display.proofs.KeptWords.{read-more}
-use Rattle.textwrap_words.proofs.Units.Reading.{read-all}
+use Rattle.textwrap_text.proofs.Units.Reading.{read-all}
 use Rattle.std.specs.Cow.{cow_str_bytes}
 use Rattle.std.specs.declared.borrow.CowStr.TheVariants.{Borrowed, Owned}
 use Rattle.textwrap_lines.specs.Paragraph.{Line, Built, Slice, line_bytes, line_view}

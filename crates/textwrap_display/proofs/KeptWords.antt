@@ -1,32 +1,29 @@
 -- The beginning of a line that is kept: its words, where it may end, and the reader that finds it.
-use Rattle.textwrap_base.proofs.Common.{◌≡◌, ℕ, ◌⊎◌, Bool, true, false, cond, inl, inr, List, []}
-use Rattle.textwrap_base.proofs.Common.{◌∷◌, ◌++◌, get_or, refl, ap, ◌∙◌, arith, All-nil, All-cons}
-use Rattle.textwrap_base.proofs.Common.{cases_Bool, onto_first, ◌+◌, ◌-◌, ◌≤◌, ◌<◌, ◌||◌, eqb}
-use Rattle.textwrap_base.proofs.Common.{length, drop, subst, sym, cases_lt, eqb-true, eqb-false}
-use Rattle.textwrap_base.proofs.Common.{nat_tests, IsUtf8, IsCharBoundary, get_or_past, map}
-use Rattle.textwrap_base.proofs.Common.{take, All-head, All-tail, append_assoc, append-nil}
-use Rattle.textwrap_base.proofs.Common.{add-zero, length-map, take_at, take-append-drop, drop_all}
-use Rattle.textwrap_base.proofs.Common.{get_or-drop, length_push, reverse-append, rules}
-use Rattle.textwrap_base.proofs.Common.{take-append-le, zero-add, length-take-le, slice_range}
-use Rattle.textwrap_base.proofs.Common.{IsUtf8-take, chars-nil, chars-append}
-use Rattle.textwrap_words.specs.Blanks.{is_blank, trimmed_len, without_final_blanks}
+use Rattle.textwrap_text.proofs.Common.{◌≡◌, ℕ, ◌⊎◌, Bool, true, false, cond, inl, inr, List, []}
+use Rattle.textwrap_text.proofs.Common.{◌∷◌, ◌++◌, get_or, refl, ap, ◌∙◌, arith, All-nil, All-cons}
+use Rattle.textwrap_text.proofs.Common.{cases_Bool, onto_first, ◌+◌, ◌-◌, ◌≤◌, ◌<◌, ◌||◌, eqb}
+use Rattle.textwrap_text.proofs.Common.{length, drop, subst, sym, cases_lt, eqb-true, eqb-false}
+use Rattle.textwrap_text.proofs.Common.{nat_tests, IsUtf8, IsCharBoundary, get_or_past, map, take}
+use Rattle.textwrap_text.proofs.Common.{All-head, All-tail, append_assoc, append-nil, add-zero}
+use Rattle.textwrap_text.proofs.Common.{length-map, take_at, take-append-drop, drop_all}
+use Rattle.textwrap_text.proofs.Common.{get_or-drop, length_push, reverse-append, rules}
+use Rattle.textwrap_text.proofs.Common.{take-append-le, zero-add, length-take-le, slice_range}
+use Rattle.textwrap_text.proofs.Common.{IsUtf8-take, chars-nil, chars-append, next_of, text_width}
+use Rattle.textwrap_text.specs.Blanks.{is_blank, trimmed_len, without_final_blanks}
 use Rattle.textwrap_words.specs.Words.{chunks, is_cut, word_of}
 use Rattle.textwrap_words.proofs.Word.Texts.{AreBlanks}
 use Rattle.std.specs.Prelude.{encode_utf8, chars}
 use Rattle.std.proofs.lemmas.Str.{IsCharBoundary-start, IsCharBoundary-end, encode_ascii}
-use Rattle.textwrap_base.proofs.Texts.{some-bytes}
-use Rattle.textwrap_base.proofs.Texts.{ascii-here, ends-within}
+use Rattle.textwrap_text.proofs.Texts.{some-bytes, ascii-here, ends-within, starts-within}
 use Rattle.textwrap_words.proofs.Word.Ahead.{character-within, plain-bytes}
-use Rattle.textwrap_base.proofs.Texts.{starts-within}
 use Rattle.textwrap_display.specs.Shortening.{can_end}
 use Rattle.textwrap_display.specs.Laws.{word_texts}
-use Rattle.textwrap_base.proofs.Lists.Parts.{take_slice}
+use Rattle.textwrap_text.proofs.Lists.Parts.{take_slice}
 use Rattle.std.proofs.Math.Seq.{take-add}
-use Rattle.textwrap_words.proofs.Common.{next_of, text_width}
-use Rattle.textwrap_words.proofs.Units.Reading.{text_width-le, chars-push, IsRead, read-next}
-use Rattle.textwrap_words.proofs.Units.Reading.{read-start, added, columns_in, columns_in-step}
-use Rattle.textwrap_words.specs.declared.escapes.State.{State}
-use Rattle.textwrap_words.specs.declared.escapes.State.TheVariants.{Text}
+use Rattle.textwrap_text.proofs.Units.Reading.{text_width-le, chars-push, IsRead, read-next}
+use Rattle.textwrap_text.proofs.Units.Reading.{read-start, added, columns_in, columns_in-step}
+use Rattle.textwrap_text.specs.declared.escapes.State.{State}
+use Rattle.textwrap_text.specs.declared.escapes.State.TheVariants.{Text}
 
 -- ---- the chunks of a line's beginning, where blanks follow it, are the first chunks of the
 -- line, but for blanks after the last one

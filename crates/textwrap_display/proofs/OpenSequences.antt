@@ -1,15 +1,14 @@
 -- What is open after some sequences, after one more, and once they are written anew.
-use Rattle.textwrap_base.proofs.Common.{◌≡◌, cond, List, [], ◌∷◌, ◌++◌, filter, fold, sym, ap, ◌∙◌}
-use Rattle.textwrap_base.proofs.Common.{append-nil, arith, cases_Bool, append_assoc, ℕ, ◌<◌, Bool}
-use Rattle.textwrap_base.proofs.Common.{true, false, ◌==◌, length, refl, length-append}
-use Rattle.textwrap_base.proofs.Common.{nat_tests, ◌&&◌, ◌||◌, string_bytes, and_from, Bor, Option}
-use Rattle.textwrap_base.proofs.Common.{All, All-append, All-cons, All-head, All-nil, All-tail}
-use Rattle.textwrap_base.proofs.Common.{subst}
+use Rattle.textwrap_text.proofs.Common.{◌≡◌, cond, List, [], ◌∷◌, ◌++◌, filter, fold, sym, ap, ◌∙◌}
+use Rattle.textwrap_text.proofs.Common.{append-nil, arith, cases_Bool, append_assoc, ℕ, ◌<◌, Bool}
+use Rattle.textwrap_text.proofs.Common.{true, false, ◌==◌, length, refl, length-append, nat_tests}
+use Rattle.textwrap_text.proofs.Common.{◌&&◌, ◌||◌, string_bytes, and_from, Bor, Option, All}
+use Rattle.textwrap_text.proofs.Common.{All-append, All-cons, All-head, All-nil, All-tail, subst}
 use Rattle.std.proofs.lemmas.List.Elements.{filter-append}
 use Rattle.textwrap_display.specs.Styles.{has_target, is_link, is_reset, is_style, open_link}
 use Rattle.textwrap_display.specs.Styles.{open_styles, link_fields, closing, link_end, style_end}
 use Rattle.textwrap_display.specs.Styles.{style_parameters}
-use Rattle.textwrap_base.proofs.Lists.Parts.{after_last-push, last_one-push}
+use Rattle.textwrap_text.proofs.Lists.Parts.{after_last-push, last_one-push}
 use Rattle.std.specs.List.{after_first, concat, list_all}
 use Rattle.std.specs.Option.{option_copied, option_to_list}
 use Rattle.std.proofs.lemmas.List.Folds.{concat-append}

@@ -1,19 +1,19 @@
 -- Texts of whole sequences and texts between them: their units, and what they show.
-use Rattle.textwrap_base.proofs.Common.{◌≡◌, List, ◌++◌, All, All-append, ap, chars-append}
-use Rattle.textwrap_base.proofs.Common.{IsUtf8-append, subst, sym, ◌∙◌, ℕ, inl, [], ◌∷◌, All-cons}
-use Rattle.textwrap_base.proofs.Common.{All-head, All-nil, All-tail, append-nil, chars_from_encodes}
-use Rattle.textwrap_base.proofs.Common.{chars-nil, encode_utf8_all, encodes-chars, flat_map, map}
-use Rattle.textwrap_base.proofs.Common.{IsUtf8, IsUtf8-nil, refl, Bool, true, false, cond, ◌==◌}
-use Rattle.textwrap_base.proofs.Common.{fold, length, arith, cases_Bool, codes, eqb-true}
-use Rattle.textwrap_base.proofs.Common.{nil_from_length, take, append_assoc, flat_map-append}
+use Rattle.textwrap_text.proofs.Common.{◌≡◌, List, ◌++◌, All, All-append, ap, chars-append}
+use Rattle.textwrap_text.proofs.Common.{IsUtf8-append, subst, sym, ◌∙◌, ℕ, inl, [], ◌∷◌, All-cons}
+use Rattle.textwrap_text.proofs.Common.{All-head, All-nil, All-tail, append-nil, chars_from_encodes}
+use Rattle.textwrap_text.proofs.Common.{chars-nil, encode_utf8_all, encodes-chars, flat_map, map}
+use Rattle.textwrap_text.proofs.Common.{IsUtf8, IsUtf8-nil, refl, Bool, true, false, cond, ◌==◌}
+use Rattle.textwrap_text.proofs.Common.{fold, length, arith, cases_Bool, codes, eqb-true}
+use Rattle.textwrap_text.proofs.Common.{nil_from_length, take, append_assoc, flat_map-append}
 use Rattle.std.specs.Str.{chars}
-use Rattle.textwrap_words.specs.Units.{IsWhole, units, characters, Sequence, TextUnit, Visible}
-use Rattle.textwrap_words.specs.Units.{visible_of, ends, visible}
+use Rattle.textwrap_text.specs.Units.{IsWhole, units, characters, Sequence, TextUnit, Visible}
+use Rattle.textwrap_text.specs.Units.{visible_of, ends, visible}
 use Rattle.textwrap_lines.proofs.Text.Paragraphs.{units-append}
 use Rattle.textwrap_display.specs.Styled.{IsWholeText, styled, StyledCharacter, styled_text}
-use Rattle.textwrap_base.proofs.Texts.{utf8-back, utf8-front}
+use Rattle.textwrap_text.proofs.Texts.{utf8-back, utf8-front}
 use Rattle.std.specs.List.{concat}
-use Rattle.textwrap_words.proofs.Units.Texts.{units-tile, units_unique}
+use Rattle.textwrap_text.proofs.Units.Texts.{units-tile, units_unique}
 use Rattle.textwrap_display.specs.Styles.{sequence_of, sequences, closing, link_end, open_link}
 use Rattle.textwrap_display.specs.Styles.{open_styles, style_end}
 use Rattle.std.proofs.lemmas.Bool.{agree_below_at}

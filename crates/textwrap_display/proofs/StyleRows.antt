@@ -1,6 +1,6 @@
 -- Worked rows on what sequences leave open, and on what the visible characters of a text show. In a
 -- text `\u{1b}` is ESC.
-use Rattle.textwrap_base.proofs.Common.{◌≡◌, true, false, [], ◌∷◌, refl, codes}
+use Rattle.textwrap_text.proofs.Common.{◌≡◌, true, false, [], ◌∷◌, refl, codes}
 use Rattle.textwrap_display.specs.Styles.{carried_lines, has_target, is_link, is_reset, is_style}
 use Rattle.textwrap_lines.specs.Paragraph.{Built, Slice}
 use Rattle.std.specs.Str.{chars}

@@ -1,10 +1,11 @@
 -- The groups of a table's texts, the cells of each, and the rows of these.
-use Rattle.textwrap_base.proofs.Common.{◌≡◌, ℕ, zero, suc, ◌+◌, ◌*◌, ◌<◌, ◌≤◌, List, [], ◌∷◌, ◌++◌}
-use Rattle.textwrap_base.proofs.Common.{ap, arith, CowStr, get_or, get_or-map, length}
-use Rattle.textwrap_base.proofs.Common.{length-append, length-map, refl, sym, Vec, zip, ◌∙◌, ◌-◌}
-use Rattle.textwrap_base.proofs.Common.{◌/◌, map-append, min, take, drop, map, subst}
-use Rattle.textwrap_base.proofs.Common.{append_assoc, Bor, cases_lt, range_with_len, take_at}
-use Rattle.textwrap_base.proofs.Common.{drop_at, drop-drop, All, All-head, All-tail}
+use Rattle.textwrap_text.proofs.Common.{◌≡◌, ℕ, zero, suc, ◌+◌, ◌*◌, ◌<◌, ◌≤◌, List, [], ◌∷◌, ◌++◌}
+use Rattle.textwrap_text.proofs.Common.{ap, arith, get_or, get_or-map, length, length-append}
+use Rattle.textwrap_text.proofs.Common.{length-map, refl, sym, Vec, zip, ◌∙◌, ◌-◌, ◌/◌, map-append}
+use Rattle.textwrap_text.proofs.Common.{min, take, drop, map, subst, append_assoc, Bor, cases_lt}
+use Rattle.textwrap_text.proofs.Common.{range_with_len, take_at, drop_at, drop-drop, All, All-head}
+use Rattle.textwrap_text.proofs.Common.{All-tail}
+use Rattle.std.specs.declared.borrow.CowStr.{CowStr}
 use Rattle.std.proofs.Common.{replicate}
 use Rattle.std.proofs.lemmas.List.{length-replicate, take_min, drop_min}
 use Rattle.std.proofs.lemmas.Slice.Zip.{get_or-zip, length-zip, AllZip-long}

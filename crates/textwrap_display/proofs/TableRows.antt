@@ -1,11 +1,11 @@
 -- The rows of a table: their text, that they are even, and that they show each line once.
-use Rattle.textwrap_base.proofs.Common.{◌≡◌, ℕ, ◌+◌, ◌-◌, ◌≤◌, max, List, [], ◌∷◌, ◌++◌, All}
-use Rattle.textwrap_base.proofs.Common.{All-cons, All-map, All-nil, ap, arith, cases_lt, fold}
-use Rattle.textwrap_base.proofs.Common.{get_or, get_or_past, inl, inr, length, map, range_with_len}
-use Rattle.textwrap_base.proofs.Common.{refl, sym, ◌<◌, ◌∙◌, zero, suc, ◌*◌, All-head, All-tail}
-use Rattle.textwrap_base.proofs.Common.{append_assoc, length-map, subst, sum_by, sum_by-cons, zip}
-use Rattle.textwrap_base.proofs.Common.{cond, drop, drop_all, drop_more, get_or-map, length-append}
-use Rattle.textwrap_base.proofs.Common.{append-nil, cases_Bool, nat_lt, nat_tests}
+use Rattle.textwrap_text.proofs.Common.{◌≡◌, ℕ, ◌+◌, ◌-◌, ◌≤◌, max, List, [], ◌∷◌, ◌++◌, All}
+use Rattle.textwrap_text.proofs.Common.{All-cons, All-map, All-nil, ap, arith, cases_lt, fold}
+use Rattle.textwrap_text.proofs.Common.{get_or, get_or_past, inl, inr, length, map, range_with_len}
+use Rattle.textwrap_text.proofs.Common.{refl, sym, ◌<◌, ◌∙◌, zero, suc, ◌*◌, All-head, All-tail}
+use Rattle.textwrap_text.proofs.Common.{append_assoc, length-map, subst, sum_by, sum_by-cons, zip}
+use Rattle.textwrap_text.proofs.Common.{cond, drop, drop_all, drop_more, get_or-map, length-append}
+use Rattle.textwrap_text.proofs.Common.{append-nil, cases_Bool, nat_lt, nat_tests, join_with}
 use Rattle.std.proofs.Common.{replicate}
 use Rattle.textwrap.proofs.Text.Tables.{lines-kept}
 use Rattle.textwrap_display.specs.Alignment.{aligned}
@@ -15,10 +15,10 @@ use Rattle.textwrap_display.specs.Tables.{cell_line, group_rows, height, RowGaps
 use Rattle.textwrap_display.specs.Tables.{shown_lines, row_text, gap_before}
 use Rattle.textwrap_display.proofs.TableGroups.{length-shown, shown-at, length-padded}
 use Rattle.std.proofs.Math.Nat.{suc-mul}
-use Rattle.textwrap_lines.proofs.Common.{join_with, line_bytes}
+use Rattle.textwrap_lines.proofs.Common.{line_bytes}
 use Rattle.textwrap_lines.proofs.Text.Paragraphs.{text_width-append}
 use Rattle.textwrap_words.proofs.Word.Words.{text_width-nil}
-use Rattle.textwrap_words.specs.Units.{text_width}
+use Rattle.textwrap_text.specs.Units.{text_width}
 use Rattle.textwrap_display.specs.Styled.{IsWholeText}
 use Rattle.textwrap_display.proofs.Widths.{aligned-before, length-aligned}
 use Rattle.textwrap_display.proofs.SequenceTexts.{nil-whole}

@@ -1,23 +1,23 @@
 -- The words of a line whose gaps are widened.
-use Rattle.textwrap_base.proofs.Common.{◌≡◌, ℕ, zero, suc, ◌+◌, ◌-◌, min, Bool, true, false, cond}
-use Rattle.textwrap_base.proofs.Common.{List, [], ◌∷◌, ◌++◌, drop, refl, ◌<◌, append_assoc, ap}
-use Rattle.textwrap_base.proofs.Common.{arith, length, onto_first, prefix_len, and_parts}
-use Rattle.textwrap_base.proofs.Common.{cases_Bool, not, append-nil, map, sym, ◌∙◌, take}
-use Rattle.textwrap_base.proofs.Common.{take-append-le, ◌≢◌, ◌≤◌, cases_lt, inl, inr, eqb-true}
-use Rattle.textwrap_base.proofs.Common.{get_or, IsUtf8, IsCharBoundary, ne_eqb, nat_tests, ◌/◌}
-use Rattle.textwrap_base.proofs.Common.{◌==◌, ◌||◌, cond_both, take_at}
+use Rattle.textwrap_text.proofs.Common.{◌≡◌, ℕ, zero, suc, ◌+◌, ◌-◌, min, Bool, true, false, cond}
+use Rattle.textwrap_text.proofs.Common.{List, [], ◌∷◌, ◌++◌, drop, refl, ◌<◌, append_assoc, ap}
+use Rattle.textwrap_text.proofs.Common.{arith, length, onto_first, prefix_len, and_parts}
+use Rattle.textwrap_text.proofs.Common.{cases_Bool, not, append-nil, map, sym, ◌∙◌, take}
+use Rattle.textwrap_text.proofs.Common.{take-append-le, ◌≢◌, ◌≤◌, cases_lt, inl, inr, eqb-true}
+use Rattle.textwrap_text.proofs.Common.{get_or, IsUtf8, IsCharBoundary, ne_eqb, nat_tests, ◌/◌}
+use Rattle.textwrap_text.proofs.Common.{◌==◌, ◌||◌, cond_both, take_at}
 use Rattle.std.proofs.lemmas.List.{replicate-append-replicate, drop-append-le, drop_at}
 use Rattle.textwrap.specs.Columns.{blanks}
-use Rattle.textwrap_base.proofs.Lists.Parts.{flat, flat-onto_first, onto_first-length}
-use Rattle.textwrap_words.specs.Blanks.{blank, is_blank, final_blanks, BlanksBetween}
+use Rattle.textwrap_text.proofs.Lists.Parts.{flat, flat-onto_first, onto_first-length}
+use Rattle.textwrap_text.specs.Blanks.{blank, is_blank, final_blanks, BlanksBetween}
 use Rattle.textwrap_words.specs.Words.{chunks, is_cut, tiled, word_of, words_of, WordText}
-use Rattle.textwrap_words.proofs.Word.Chunks.{chunks-from}
+use Rattle.textwrap_text.proofs.Units.Chunks.{chunks-from}
 use Rattle.textwrap_words.proofs.Word.Words.{tiled-map}
 use Rattle.textwrap_display.proofs.KeptWords.{trimmed_len-blanks}
 use Rattle.textwrap_display.proofs.Widths.{blanks-are}
 use Rattle.textwrap_display.specs.Justifying.{widened_words, indent_len, gaps, justified}
 use Rattle.textwrap_display.specs.Justifying.{line_words}
-use Rattle.textwrap_base.proofs.Texts.{IsCharBoundary-after_blank}
+use Rattle.textwrap_text.proofs.Texts.{IsCharBoundary-after_blank}
 use Rattle.std.proofs.lemmas.Str.{IsCharBoundary-start}
 use Rattle.std.specs.List.{slice_index}
 use Rattle.std.proofs.lemmas.List.Sums.{prefix_len_is, prefix_len_stops, prefix_len-drop_all}
@@ -27,7 +27,7 @@ use Rattle.std.proofs.lemmas.Bool.{or_cases}
 use Rattle.std.proofs.lemmas.List.Folds.{length-prefix_len}
 use Rattle.std.proofs.Math.Nat.{zero-div, zero-mod}
 use Rattle.textwrap_lines.specs.Paragraph.{Slice, line_bytes}
-use Rattle.textwrap_words.specs.Units.{text_width}
+use Rattle.textwrap_text.specs.Units.{text_width}
 use Rattle.textwrap_display.specs.Laws.{KeepsWords}
 
 -- ---- the chunks of a line whose gaps are widened: the same chunks, each but the last with more

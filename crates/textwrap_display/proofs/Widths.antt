@@ -1,17 +1,17 @@
 -- How wide blanks are, and lines that are aligned or justified.
-use Rattle.textwrap_base.proofs.Common.{◌≡◌, ℕ, ◌+◌, true, List, ◌++◌, ap, length, refl, ◌∙◌}
-use Rattle.textwrap_base.proofs.Common.{nat_tests, ◌-◌, ◌≤◌, [], append_assoc, append-nil, arith}
-use Rattle.textwrap_base.proofs.Common.{IsUtf8, length-append, ◌≢◌, ◌*◌, ◌/◌, ◌<◌, min, suc, ◌∷◌}
-use Rattle.textwrap_base.proofs.Common.{All, All-from_get_or, All-head, All-tail, All-weaker, drop}
-use Rattle.textwrap_base.proofs.Common.{eqb-true, get_or-take, length-take, subst, sym, take}
-use Rattle.textwrap_base.proofs.Common.{take-append-drop}
+use Rattle.textwrap_text.proofs.Common.{◌≡◌, ℕ, ◌+◌, true, List, ◌++◌, ap, length, refl, ◌∙◌}
+use Rattle.textwrap_text.proofs.Common.{nat_tests, ◌-◌, ◌≤◌, [], append_assoc, append-nil, arith}
+use Rattle.textwrap_text.proofs.Common.{IsUtf8, length-append, ◌≢◌, ◌*◌, ◌/◌, ◌<◌, min, suc, ◌∷◌}
+use Rattle.textwrap_text.proofs.Common.{All, All-from_get_or, All-head, All-tail, All-weaker, drop}
+use Rattle.textwrap_text.proofs.Common.{eqb-true, get_or-take, length-take, subst, sym, take}
+use Rattle.textwrap_text.proofs.Common.{take-append-drop}
 use Rattle.std.proofs.lemmas.List.{length-replicate}
 use Rattle.std.proofs.lemmas.List.Elements.{All-replicate}
 use Rattle.textwrap.specs.Columns.{blanks}
-use Rattle.textwrap_words.specs.Blanks.{blank, is_blank}
-use Rattle.textwrap_words.specs.Units.{text_width}
-use Rattle.textwrap_words.proofs.Units.Reading.{printable-width}
-use Rattle.textwrap_words.proofs.Word.Chunks.{chunks-utf8}
+use Rattle.textwrap_text.specs.Blanks.{blank, is_blank}
+use Rattle.textwrap_text.specs.Units.{text_width}
+use Rattle.textwrap_text.proofs.Units.Reading.{printable-width}
+use Rattle.textwrap_text.proofs.Units.Chunks.{chunks-utf8}
 use Rattle.textwrap_words.proofs.Word.Texts.{AreBlanks}
 use Rattle.textwrap_lines.proofs.Paragraph.LeftOff.{blanks-utf8}
 use Rattle.textwrap_lines.proofs.Text.Printed.{blanks-printable, blanks-whole}
@@ -26,7 +26,7 @@ use Rattle.textwrap_display.specs.declared.alignment.Alignment.TheVariants.{Left
 use Rattle.std.specs.Prelude.{◌%◌}
 use Rattle.std.proofs.Math.Nat.{div-add-mod, suc-mul}
 use Rattle.std.proofs.lemmas.List.Sums.{prefix_len_passes}
-use Rattle.textwrap_base.proofs.Texts.{after_ascii}
+use Rattle.textwrap_text.proofs.Texts.{after_ascii}
 use Rattle.textwrap_words.specs.Words.{chunks, tiled, WordText}
 use Rattle.textwrap_display.specs.Justifying.{gaps, indent_len, justified, line_words}
 use Rattle.textwrap_display.specs.Justifying.{widened_words}

@@ -3,8 +3,8 @@ use Rattle.std.specs.Prelude.{◌≡◌, ℕ, ◌+◌, ◌-◌, ◌≤◌, Bool,
 use Rattle.std.specs.Prelude.{[], ◌∷◌, ◌++◌, length, take, map, slice_index}
 use Rattle.std.specs.declared.borrow.CowStr.{CowStr}
 use Rattle.textwrap_lines.specs.Paragraph.{Line, Built, Slice, line_bytes, line_view}
-use Rattle.textwrap_words.specs.Blanks.{is_blank}
-use Rattle.textwrap_words.specs.Units.{text_width}
+use Rattle.textwrap_text.specs.Blanks.{is_blank}
+use Rattle.textwrap_text.specs.Units.{text_width}
 
 -- whether a beginning of a line may end after n bytes: it is empty, or it ends in no blank, and a
 -- blank or the end of the line follows

@@ -3,12 +3,12 @@ ghost use Rattle.std.specs.Prelude.{◌≡◌, ◌+◌, ◌-◌, ◌<◌, ◌^�
 ghost use Rattle.std.specs.Prelude.{IfOk, OnOk, SomeIff};
 ghost use Rattle.textwrap_display.specs.Alignment.{aligned, blanks_before, spread};
 ghost use Rattle.textwrap_lines.specs.Paragraph.{line_bytes, line_view};
-ghost use Rattle.textwrap_words.specs.Units.{text_width};
+ghost use Rattle.textwrap_text.specs.Units.{text_width};
 
 use std::alloc::{AllocError, Allocator};
 use std::borrow::CowStr;
 use textwrap::words::display_width;
-use textwrap_words::blanks::push_blanks;
+use textwrap_text::blanks::push_blanks;
 
 /// Where a line stands in its width.
 #[derive(Clone, Copy, Debug, PartialEq, Eq)]

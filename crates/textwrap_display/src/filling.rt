@@ -3,7 +3,7 @@ ghost use Rattle.std.specs.Prelude.{◌≡◌, ◌++◌, [], alloc_error, map, s
 ghost use Rattle.std.specs.Prelude.{if◌then◌else◌, IfErr, IfOk, OnOk};
 ghost use Rattle.textwrap_display.specs.JustifiedText.{IsJustifiedText, joined_on};
 ghost use Rattle.textwrap_display.specs.JustifiedText.{justified_after, justified_after_indents};
-ghost use Rattle.textwrap_lines.specs.LineEnding.{ending_bytes};
+ghost use Rattle.textwrap_text.specs.LineEnding.{ending_bytes};
 ghost use Rattle.textwrap_lines.specs.Options.{Settings, layout_view, settings_view, HasParts, MayOverflow};
 ghost use Rattle.textwrap_lines.specs.Paragraph.{line_view, DividesAs, DividesBy};
 ghost use Rattle.textwrap_lines.specs.Text.{HasParagraphThat, SomeMayPass64Bits};

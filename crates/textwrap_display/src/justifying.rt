@@ -9,8 +9,8 @@ ghost use Rattle.textwrap_words.specs.Words.{tiled, words_of};
 use std::alloc::{AllocError, Allocator};
 use std::borrow::CowStr;
 use textwrap::words::display_width;
-use textwrap_words::blanks::{blanks_end, push_blanks};
-use textwrap_words::inner::Chunks;
+use textwrap_text::blanks::{blanks_end, push_blanks};
+use textwrap_text::chunks::Chunks;
 
 /// The line with its gaps between words widened, so that it is as wide as the width, which is in
 /// columns. Each gap gets the same number of blanks more, and the first ones get one more of what is

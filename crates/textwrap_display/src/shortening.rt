@@ -3,13 +3,13 @@ ghost use Rattle.std.specs.Prelude.{◌≡◌, ◌++◌, ◌<◌, ◌≤◌, [],
 ghost use Rattle.textwrap_display.specs.Shortening.{AreShortened, IsKeptBeginning, IsShortened};
 ghost use Rattle.textwrap_display.specs.Shortening.{texts_of};
 ghost use Rattle.textwrap_lines.specs.Paragraph.{Built, Slice, line_view};
-ghost use Rattle.textwrap_words.specs.Units.{text_width};
+ghost use Rattle.textwrap_text.specs.Units.{text_width};
 
 use std::alloc::{AllocError, Allocator};
 use std::borrow::CowStr;
 use textwrap::words::display_width;
-use textwrap_words::escapes::State;
-use textwrap_words::inner::columns;
+use textwrap_text::characters::columns;
+use textwrap_text::escapes::State;
 
 /// The lines, at most so many. Where some are left out, the last one that is not ends in the
 /// placeholder: it is cut as [`shorten`] cuts a line that is too wide, or, where there is room for

@@ -11,13 +11,13 @@ ghost use Rattle.textwrap_display.specs.Shortening.{texts_of};
 ghost use Rattle.textwrap_display.specs.Styles.{carried_lines, closing, is_link, is_style};
 ghost use Rattle.textwrap_display.specs.Styles.{link_fields, opening, sequences, style_parameters};
 ghost use Rattle.textwrap_lines.specs.Paragraph.{Built, Slice, line_view};
-ghost use Rattle.textwrap_words.specs.Units.{escape_len};
+ghost use Rattle.textwrap_text.specs.Units.{escape_len};
 
 use crate::indents::indent_end;
 use std::alloc::{AllocError, Allocator};
 use std::borrow::CowStr;
 use textwrap::Options;
-use textwrap_words::escapes::State;
+use textwrap_text::escapes::State;
 
 /// Takes all styles back.
 const STYLE_END: &str = "\x1b[0m";

@@ -2,8 +2,6 @@
 pub use Rattle.textwrap_lines.specs.Filling.{IsFilled}
 pub use Rattle.textwrap_lines.specs.Frame.{frame_lines, frame_settings, frame_widths}
 pub use Rattle.textwrap_lines.specs.Layout.{front_of}
-pub use Rattle.textwrap_lines.specs.LineEnding.{ending_bytes, join_with, line_feed, paragraphs_of}
-pub use Rattle.textwrap_lines.specs.LineEnding.{parts_past}
 pub use Rattle.textwrap_lines.specs.LineSinks.{Took}
 pub use Rattle.textwrap_lines.specs.Options.{HasParts, HasPartsAt, MayOverflow, Settings}
 pub use Rattle.textwrap_lines.specs.Options.{layout_view, settings_view}
@@ -31,9 +29,7 @@ pub use Rattle.textwrap_lines.specs.Text.{CutsNoSequence, IsPrintedWithin, CanKe
 pub use Rattle.textwrap_lines.specs.Text.{ArePrintedWithin}
 pub use Rattle.textwrap_lines.specs.PieceLines.{line_of, line_so_far, lines_past, LineSoFar}
 pub use Rattle.textwrap_lines.specs.PieceLines.{with_piece}
-pub use Rattle.textwrap_words.specs.Units.{IsPrintable, IsPrintableByte}
 pub use Rattle.textwrap_base.specs.declared.penalties.Penalties.{Penalties}
-pub use Rattle.textwrap_lines.specs.declared.line_ending.LineEnding.{LineEnding}
 pub use Rattle.textwrap_lines.specs.declared.options.Options.{Options}
 pub use Rattle.textwrap_lines.specs.declared.spans.Span.{Span}
 pub use Rattle.textwrap_lines.specs.declared.piece_lines.OpenLine.{OpenLine}

@@ -1,11 +1,11 @@
 -- A paragraph in steps: the points of a text that are inside a part of it, and its words, split there.
-use Rattle.textwrap_base.proofs.Common.{◌≡◌, ℕ, List, arith, ◌+◌, ◌<◌, ◌≤◌, [], ◌∷◌, length, get_or}
-use Rattle.textwrap_base.proofs.Common.{IsCharBoundary, drop, subst, sym, ◌-◌, Bool, true, false}
-use Rattle.textwrap_base.proofs.Common.{◌++◌, filter, take, refl, ap, ◌∙◌, append-nil, and_parts}
-use Rattle.textwrap_base.proofs.Common.{ltb-true, ltb-false, length-append, get_or-drop}
-use Rattle.textwrap_base.proofs.Common.{get_or_append_left, length-drop, drop-drop, drop_at}
-use Rattle.textwrap_base.proofs.Common.{append_assoc, zero, suc, nat_tests, ◌^◌, cases_Bool, inl}
-use Rattle.textwrap_base.proofs.Common.{inr}
+use Rattle.textwrap_text.proofs.Common.{◌≡◌, ℕ, List, arith, ◌+◌, ◌<◌, ◌≤◌, [], ◌∷◌, length, get_or}
+use Rattle.textwrap_text.proofs.Common.{IsCharBoundary, drop, subst, sym, ◌-◌, Bool, true, false}
+use Rattle.textwrap_text.proofs.Common.{◌++◌, filter, take, refl, ap, ◌∙◌, append-nil, and_parts}
+use Rattle.textwrap_text.proofs.Common.{ltb-true, ltb-false, length-append, get_or-drop}
+use Rattle.textwrap_text.proofs.Common.{get_or_append_left, length-drop, drop-drop, drop_at}
+use Rattle.textwrap_text.proofs.Common.{append_assoc, zero, suc, nat_tests, ◌^◌, cases_Bool, inl}
+use Rattle.textwrap_text.proofs.Common.{inr}
 use Rattle.std.specs.List.Sorted.{IsPartitionPoint}
 use Rattle.textwrap_words.proofs.Common.{AreInnerCuts, AreCuts, AreSplit, split_pieces, tile_of}
 use Rattle.textwrap_words.proofs.Common.{tiled, WordText}

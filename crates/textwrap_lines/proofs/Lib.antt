@@ -5,4 +5,3 @@ pub mod PieceLines
 pub mod PlacedPieces
 pub mod PrintableTexts
 pub mod Text
-pub mod TextLines

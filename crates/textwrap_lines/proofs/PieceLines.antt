@@ -1,16 +1,16 @@
 -- The lines of first fit, found piece by piece: the pieces that come, the line so far, the first
 -- line.
-use Rattle.textwrap_base.proofs.Common.{◌≡◌, ℕ, ◌+◌, List, ◌++◌, length, drop, ap, ◌∙◌, sym, subst}
-use Rattle.textwrap_base.proofs.Common.{arith, append_assoc, length-append, IsUtf8, IsCharBoundary}
-use Rattle.textwrap_base.proofs.Common.{take_at, drop_at, drop-drop, rules, [], ◌∷◌, All, refl}
-use Rattle.textwrap_base.proofs.Common.{All-head, All-tail, IsCharBoundary-start, ⊤, ◌-◌, ◌<◌, true}
-use Rattle.textwrap_base.proofs.Common.{false, cond, Bool, nat_lt, lt-ltb, length_push, open_width}
-use Rattle.textwrap_base.proofs.Common.{slice_range, and_parts, cond_both, ltb-true, ltb-false}
-use Rattle.textwrap_base.proofs.Common.{closed_width, IsGreedy}
+use Rattle.textwrap_text.proofs.Common.{◌≡◌, ℕ, ◌+◌, List, ◌++◌, length, drop, ap, ◌∙◌, sym, subst}
+use Rattle.textwrap_text.proofs.Common.{arith, append_assoc, length-append, IsUtf8, IsCharBoundary}
+use Rattle.textwrap_text.proofs.Common.{take_at, drop_at, drop-drop, rules, [], ◌∷◌, All, refl}
+use Rattle.textwrap_text.proofs.Common.{All-head, All-tail, IsCharBoundary-start, ⊤, ◌-◌, ◌<◌, true}
+use Rattle.textwrap_text.proofs.Common.{false, cond, Bool, nat_lt, lt-ltb, length_push, slice_range}
+use Rattle.textwrap_text.proofs.Common.{and_parts, cond_both, ltb-true, ltb-false}
+use Rattle.textwrap_base.proofs.Common.{open_width, closed_width, IsGreedy}
 use Rattle.textwrap_words.proofs.Common.{WordText, tiled, Splitter, words_of, sizes_of}
 use Rattle.textwrap_words.specs.Pieces.{stand_from, empty_front}
 use Rattle.textwrap_words.specs.declared.pieces.Piece.{Piece}
-use Rattle.textwrap_words.proofs.Units.Reading.{text_width-le}
+use Rattle.textwrap_text.proofs.Units.Reading.{text_width-le}
 use Rattle.textwrap_words.proofs.Word.Words.{IsMeasured, tiled-append, HasNoPenalty}
 use Rattle.textwrap_words.proofs.Word.Pieces.{AreTexts}
 use Rattle.textwrap_lines.proofs.Common.{Settings, pieces_of_words, front_of, text_limit}
@@ -28,7 +28,7 @@ use Rattle.textwrap_words.proofs.Word.SplitParts.{pieces-start}
 use Rattle.textwrap_base.proofs.Division.Greedy.{open_width-append, closed_width-push}
 use Rattle.textwrap_lines.proofs.Paragraph.Covered.{covered-push}
 use Rattle.textwrap_base.proofs.Division.Grown.{grown, grown-full, grown-room, grown-greedy}
-use Rattle.textwrap_base.proofs.Lists.Parts.{all-left, all-right}
+use Rattle.textwrap_text.proofs.Lists.Parts.{all-left, all-right}
 use Rattle.textwrap_lines.proofs.Paragraph.Widths.{later_is}
 use Rattle.textwrap_lines.proofs.Text.Sinks.{cut_lines-next}
 use Rattle.textwrap_lines.proofs.Paragraph.Standing.{ends, limited-pieces, next, stands-at, utf8}

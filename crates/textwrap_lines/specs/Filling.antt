@@ -2,7 +2,7 @@
 use Rattle.std.specs.Prelude.{◌≡◌, ℕ, Bool, List, map}
 use Rattle.textwrap_words.specs.Words.{WordText}
 use Rattle.textwrap_words.specs.WrapAlgorithms.{Algorithm}
-use Rattle.textwrap_lines.specs.LineEnding.{ending_bytes, join_with}
+use Rattle.textwrap_text.specs.LineEnding.{ending_bytes, join_with}
 use Rattle.textwrap_lines.specs.Options.{Settings, settings_at}
 use Rattle.textwrap_lines.specs.Paragraph.{Line, line_bytes, DividesByDefault}
 use Rattle.textwrap_lines.specs.Text.{AreTextLines}

@@ -3,14 +3,14 @@ use Rattle.std.specs.Prelude.{◌≡◌, ◌↔◌, ℕ, Bool, true, List, IsUtf
 use Rattle.textwrap_words.specs.Words.{WordText, AreWordsOf}
 use Rattle.textwrap_words.specs.WrapAlgorithms.{Algorithm, Greedy}
 use Rattle.textwrap_lines.specs.Filling.{IsFilled}
-use Rattle.textwrap_lines.specs.LineEnding.{AreParagraphs, paragraphs_of}
+use Rattle.textwrap_text.specs.LineEnding.{AreParagraphs, paragraphs_of}
 use Rattle.textwrap_lines.specs.Options.{Settings}
 use Rattle.textwrap_lines.specs.Paragraph.{ArePieces, pieces_of, DividesAs, AreDividedParts}
 use Rattle.textwrap_lines.specs.Paragraph.{AreParagraphParts, Line}
 use Rattle.textwrap_lines.specs.Text.{AreTextLines, IsWrapped, LinesKeepToWidth}
 use Rattle.textwrap_lines.specs.Text.{CanKeepToWidth, ArePrintedWithin}
 use Rattle.textwrap_words.specs.WordSplitters.{Splitter, ArePoints}
-use Rattle.textwrap_lines.specs.declared.line_ending.LineEnding.{LineEnding}
+use Rattle.textwrap_text.specs.declared.line_ending.LineEnding.{LineEnding}
 pub use Rattle.textwrap_words.specs.Laws.{UnitsAreUnique, WordsAreUnique, BrokenPiecesAreUnique}
 pub use Rattle.textwrap_words.specs.Laws.{BrokenTextsTile, BrokenPiecesTile, BrokenWordsTile}
 pub use Rattle.textwrap_words.specs.Laws.{GreedyDivisionIsUnique, ChosenDivisionIsUnique}

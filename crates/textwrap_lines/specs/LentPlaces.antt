@@ -1,6 +1,6 @@
 -- Lines by where they stand, of which lent room holds as many as there is room for.
 use Rattle.std.specs.Prelude.{◌≡◌, ℕ, List, [], ◌∷◌, ◌++◌, length, map, if◌then◌else◌}
-use Rattle.textwrap_words.specs.LentText.{as_len}
+use Rattle.textwrap_text.specs.LentText.{as_len}
 use Rattle.textwrap_lines.specs.Paragraph.{Line}
 use Rattle.textwrap_lines.specs.Places.{built_bytes, place_of}
 pub use Rattle.textwrap_lines.specs.Written.{HasWritten}

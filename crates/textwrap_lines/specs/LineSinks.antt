@@ -1,9 +1,9 @@
 -- What takes the lines of a text.
 use Rattle.std.specs.Prelude.{◌≡◌, ℕ, true, nat_lt, List, ◌++◌, length, map, if◌then◌else◌}
 use Rattle.std.specs.String.{string_bytes}
-use Rattle.textwrap_words.specs.LentText.{IsLent}
+use Rattle.textwrap_text.specs.LentText.{IsLent}
 use Rattle.textwrap_lines.specs.LentPlaces.{ArePlaced}
-use Rattle.textwrap_lines.specs.LineEnding.{ending_bytes, join_with}
+use Rattle.textwrap_text.specs.LineEnding.{ending_bytes, join_with}
 use Rattle.textwrap_lines.specs.Paragraph.{line_bytes, line_view}
 use Rattle.textwrap_lines.specs.Places.{CutLine, built_text, further, lines_of, places_of}
 use Rattle.textwrap_lines.specs.declared.lent_places.LentLinePlaces.{LentLinePlaces}

@@ -9,7 +9,7 @@ use Rattle.textwrap_words.specs.Breaking.{broken_words}
 use Rattle.textwrap_base.specs.Cost.{total_width}
 use Rattle.textwrap_base.specs.Division.{line_width, closed_width}
 use Rattle.textwrap_base.specs.Errors.{Fits64Bits}
-use Rattle.textwrap_words.specs.Units.{text_width, column_characters}
+use Rattle.textwrap_text.specs.Units.{text_width, column_characters}
 use Rattle.textwrap_words.specs.Words.{WordText, sizes_of, tiled, word_of, words_of, AreWordsOf}
 use Rattle.textwrap_lines.specs.Options.{Settings, settings_view}
 use Rattle.textwrap_words.specs.WordSeparators.{MaySeparate}

@@ -2,7 +2,7 @@
 use Rattle.std.specs.Prelude.{◌≡◌, ℕ, ◌+◌, Bool, true, false, List, [], ◌∷◌, ◌++◌, length, map}
 use Rattle.std.specs.List.{flat_map}
 use Rattle.textwrap_words.specs.Words.{WordText}
-use Rattle.textwrap_lines.specs.LineEnding.{ending_bytes, paragraphs_of}
+use Rattle.textwrap_text.specs.LineEnding.{ending_bytes, paragraphs_of}
 use Rattle.textwrap_lines.specs.Options.{Settings}
 use Rattle.textwrap_lines.specs.Paragraph.{Line, Slice, Built, LineParts, line_from, parts_from}
 use Rattle.textwrap_lines.specs.Text.{AreTextLines}

@@ -3,7 +3,7 @@ use Rattle.std.specs.Prelude.{◌≡◌, ℕ, ◌-◌, ◌<◌, ◌≤◌, Bool,
 use Rattle.std.specs.Prelude.{length, slice_index, slice_range, if◌then◌else◌}
 use Rattle.std.specs.Char.{is_ascii_alphanumeric}
 use Rattle.textwrap_base.specs.Division.{Fits, closed_width}
-use Rattle.textwrap_words.specs.Blanks.{is_blank, without_final_blanks}
+use Rattle.textwrap_text.specs.Blanks.{is_blank, without_final_blanks}
 use Rattle.textwrap_words.specs.PieceCuts.{is_point, pieces_from}
 use Rattle.textwrap_words.specs.WordSplitters.{Splitter}
 use Rattle.textwrap_words.specs.Words.{WordText, sizes_of}

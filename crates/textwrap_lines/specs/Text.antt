@@ -3,16 +3,16 @@ use Rattle.std.specs.Prelude.{◌≡◌, ◌≢◌, ℕ, ◌<◌, Bool, true, fa
 use Rattle.std.specs.Prelude.{◌++◌, ◌≤◌, ◌⊎◌, length, map, All, Option, Some, None, chars, IsUtf8}
 use Rattle.std.specs.Io.{StartsWith}
 use Rattle.std.specs.List.{flat_map}
-use Rattle.textwrap_words.specs.Blanks.{is_blank}
-use Rattle.textwrap_words.specs.Units.{escape, units, IsWhole, text_width}
+use Rattle.textwrap_text.specs.Blanks.{is_blank}
+use Rattle.textwrap_text.specs.Units.{escape, units, IsWhole, text_width}
 use Rattle.textwrap_words.specs.Words.{WordText}
-use Rattle.textwrap_lines.specs.LineEnding.{paragraphs_of}
+use Rattle.textwrap_text.specs.LineEnding.{paragraphs_of}
 use Rattle.textwrap_lines.specs.Options.{Settings, settings_view}
 use Rattle.textwrap_words.specs.WordSplitters.{Splitter}
 use Rattle.textwrap_words.specs.WrapAlgorithms.{Algorithm, Greedy}
 use Rattle.textwrap_lines.specs.Paragraph.{Line, LineParts, line_bytes, line_from, AreParagraphParts}
 use Rattle.textwrap_lines.specs.Paragraph.{IsOneCharacter, MayPass64BitsUnder}
-use Rattle.textwrap_lines.specs.declared.line_ending.LineEnding.{LineEnding}
+use Rattle.textwrap_text.specs.declared.line_ending.LineEnding.{LineEnding}
 use Rattle.textwrap_lines.specs.declared.options.Options.{Options}
 use Rattle.textwrap_lines.specs.Paragraph.{AreIndented, KeepToWidths, KeepsToWidth}
 use Rattle.textwrap_lines.specs.Paragraph.{DividesByDefault}

@@ -1,6 +1,6 @@
 -- Lists of which lent room holds the beginning.
 use Rattle.std.specs.Prelude.{◌≡◌, ℕ, List, length}
-use Rattle.textwrap_words.specs.LentText.{as_len, written_over}
+use Rattle.textwrap_text.specs.LentText.{as_len, written_over}
 
 -- as many of these items as have room were written over what the room held before, and they are so many
 pub record HasWritten {X : Type 0} (room : List X) (len : ℕ) (items before : List X) : Type 0 where

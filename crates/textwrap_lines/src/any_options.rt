@@ -38,7 +38,7 @@ pub trait AnyOptions<A: Allocator> {
     ghost use Rattle.std.specs.List.{flat_map};
     ghost use Rattle.std.specs.Str.{IsUtf8};
     ghost use Rattle.textwrap_words.specs.PieceCuts.{parts_by};
-    ghost use Rattle.textwrap_words.specs.Units.{IsPrintable};
+    ghost use Rattle.textwrap_text.specs.Units.{IsPrintable};
     ghost use Rattle.textwrap_words.specs.Words.{WordText, Tiles, tiled, word_of, word_view};
     ghost use Rattle.textwrap_lines.specs.Direct.{AreParts, CanBeCut, words_cut};
     ghost use Rattle.textwrap_lines.specs.Options.{Settings, layout_view};

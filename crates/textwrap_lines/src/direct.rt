@@ -7,7 +7,7 @@ ghost use Rattle.std.specs.Prelude.{Some, List, length};
 ghost use Rattle.textwrap_base.specs.Division.{IsGreedy};
 ghost use Rattle.textwrap_words.specs.PieceCuts.{parts_by};
 ghost use Rattle.textwrap_words.specs.Pieces.{as_splitter};
-ghost use Rattle.textwrap_words.specs.Units.{IsPrintable};
+ghost use Rattle.textwrap_text.specs.Units.{IsPrintable};
 ghost use Rattle.textwrap_words.specs.Words.{WordText, sizes_of, word_of};
 ghost use Rattle.textwrap_words.specs.WrapAlgorithms.{IsDividedBy};
 ghost use Rattle.textwrap_lines.specs.Direct.{CanBeCut, as_algorithm, pieces_cut};
@@ -26,7 +26,8 @@ use crate::piece_lines::push_lines_by_pieces;
 use crate::printable::push_printable_lines;
 use crate::printable_cuts::{BlankCuts, PrintableCuts};
 use std::alloc::{AllocError, Allocator};
-use textwrap_words::inner::{BuiltInSplitter, is_printable};
+use textwrap_text::printable::is_printable;
+use textwrap_words::inner::BuiltInSplitter;
 
 /// Pushes the lines of a paragraph that is cut there, by a built-in algorithm, and returns whether it
 /// has; if not, it has pushed none.

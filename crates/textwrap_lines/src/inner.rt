@@ -2,7 +2,7 @@
 ghost use Rattle.std.specs.Prelude.{◌≡◌, if◌then◌else◌, map, IfOk};
 ghost use Rattle.std.specs.Io.{StartsWith};
 ghost use Rattle.std.specs.List.{flat_map};
-ghost use Rattle.textwrap_words.specs.Blanks.{without_final_blanks};
+ghost use Rattle.textwrap_text.specs.Blanks.{without_final_blanks};
 ghost use Rattle.textwrap_words.specs.Pieces.{as_splitter, stand_from};
 ghost use Rattle.textwrap_words.specs.PiecesLeft.{standing_left};
 ghost use Rattle.textwrap_words.specs.Words.{tiled, word_view};
@@ -19,7 +19,6 @@ pub use crate::options::DEFAULTS;
 use crate::options::Options;
 pub use crate::placed::{place_into, place_lines_by};
 pub use crate::printable_cuts::PrintableCuts;
-pub use crate::text_lines::{Lines, TextLine};
 pub use crate::wrapping::{wrap_by, wrap_paragraph};
 use crate::{layout, wrapping};
 use std::alloc::{AllocError, Allocator};

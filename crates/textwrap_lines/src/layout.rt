@@ -9,8 +9,8 @@ ghost use Rattle.textwrap_lines.specs.Options.{layout_view};
 ghost use Rattle.textwrap_lines.specs.Paragraph.{indent_of, pieces_of};
 
 use crate::frame::Frame;
-use crate::line_ending::LineEnding;
 use crate::options::Options;
+use textwrap_text::line_ending::LineEnding;
 use textwrap_words::inner::{BuiltInSplitter, CutPieces, Piece, Pieces};
 
 /// The options but for the algorithm, the separator and the splitter. It holds no function.

@@ -4,8 +4,8 @@
 #![tactic(auto)]
 
 pub use filling::fill;
-pub use line_ending::LineEnding;
 pub use options::Options;
+pub use textwrap_text::line_ending::LineEnding;
 pub use wrapping::wrap;
 
 mod any_options;
@@ -21,7 +21,6 @@ pub mod laws;
 mod layout;
 mod lent_places;
 mod line_bounds;
-mod line_ending;
 mod line_sinks;
 mod options;
 pub mod parts;
@@ -33,6 +32,5 @@ mod printable;
 mod printable_cuts;
 mod spans;
 pub mod steps;
-mod text_lines;
 mod wrapping;
 mod written;

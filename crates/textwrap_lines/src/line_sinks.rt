@@ -3,10 +3,10 @@
 ghost use Rattle.std.specs.Prelude.{◌≡◌, IfOk};
 ghost use Rattle.textwrap_lines.specs.Paragraph.{assembled_line, line_view};
 
-use crate::line_ending::LineEnding;
 use std::alloc::{AllocError, Allocator};
 use std::borrow::CowStr;
-use textwrap_words::inner::LentText;
+use textwrap_text::lent_text::LentText;
+use textwrap_text::line_ending::LineEnding;
 
 /// What takes lines, one after another.
 pub(crate) trait LineSink<'t, A: Allocator> {

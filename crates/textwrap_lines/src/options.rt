@@ -1,9 +1,9 @@
 //! The settings of a wrap.
 ghost use Rattle.std.specs.Prelude.{◌≡◌, [], false, true, IsOk, MatchResult, ⊤};
 
-use crate::line_ending::LineEnding;
 use std::alloc::AllocError;
 use textwrap_base::inner::DEFAULT_PENALTIES;
+use textwrap_text::line_ending::LineEnding;
 use textwrap_words::word_separators::WordSeparator;
 use textwrap_words::word_splitters::WordSplitter;
 use textwrap_words::wrap_algorithms::WrapAlgorithm;

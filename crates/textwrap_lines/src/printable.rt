@@ -9,7 +9,7 @@ ghost use Rattle.textwrap_lines.specs.Frame.{frame_settings};
 ghost use Rattle.textwrap_lines.specs.Layout.{break_limit, limit_at};
 ghost use Rattle.textwrap_lines.specs.LineSinks.{Took};
 ghost use Rattle.textwrap_lines.specs.Paragraph.{indent_of, later_width};
-ghost use Rattle.textwrap_words.specs.Units.{IsPrintable};
+ghost use Rattle.textwrap_text.specs.Units.{IsPrintable};
 ghost use Rattle.textwrap_lines.specs.Printable.{IsFirstLine, NoCutBetween, is_cut_by, line_slice};
 ghost use Rattle.textwrap_lines.specs.PieceLines.{lines_left, no_pieces};
 
@@ -18,7 +18,7 @@ use crate::line_bounds::{LineBounds, push_between};
 use crate::line_sinks::LineSink;
 use crate::printable_cuts::PrintableCuts;
 use std::alloc::{AllocError, Allocator};
-use textwrap_words::blanks::{blanks_end, trimmed_len};
+use textwrap_text::blanks::{blanks_end, trimmed_len};
 use textwrap_words::inner::BuiltInSplitter;
 
 /// Pushes the lines of a printable paragraph from a place on by first fit, where they all have the

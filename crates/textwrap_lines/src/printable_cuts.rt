@@ -2,7 +2,7 @@
 ghost use Rattle.std.specs.Prelude.{◌≡◌, ◌<◌, ℕ, Bool, IfOk, IsTrue, List, length, map};
 ghost use Rattle.std.specs.Option.{option_map};
 ghost use Rattle.textwrap_words.specs.PieceCuts.{parts_by};
-ghost use Rattle.textwrap_words.specs.Units.{IsPrintable};
+ghost use Rattle.textwrap_text.specs.Units.{IsPrintable};
 ghost use Rattle.textwrap_words.specs.Words.{WordText, word_of};
 ghost use Rattle.textwrap_lines.specs.Direct.{CanBeCut, words_cut};
 ghost use Rattle.textwrap_lines.specs.Printable.{AfterOthers, BeforeOthers};
@@ -57,7 +57,7 @@ impl PrintableCuts for BlankCuts {
     ghost use Rattle.std.specs.Char.{is_ascii_alphanumeric};
     ghost use Rattle.std.proofs.Common.{ap};
     ghost use Rattle.std.proofs.lemmas.Bool.{and_parts, eqb-true, not-true};
-    ghost use Rattle.textwrap_words.specs.Blanks.{is_blank};
+    ghost use Rattle.textwrap_text.specs.Blanks.{is_blank};
     ghost use Rattle.textwrap_words.specs.Words.{is_cut, words_of};
 
     ghost words = { λ words. words_of };

@@ -8,7 +8,7 @@ use Rattle.textwrap_marked.proofs.Common.{zero, ⊤, ◌∙◌, ap₂, suffix_le
 use Rattle.textwrap_marked.proofs.Common.{LineEnding, CRLF, LF, FenceText, is_return, line_of}
 use Rattle.textwrap_marked.proofs.Common.{LineText, new_fence, passed, StateText, without_returns}
 use Rattle.textwrap_marked.proofs.Common.{ending_if, kept_line, spaced_words, ReflowOptions}
-use Rattle.textwrap_base.proofs.Common.{All-take}
+use Rattle.textwrap_text.proofs.Common.{All-take}
 use Rattle.std.proofs.lemmas.List.{get_or-reverse, length-reverse}
 use Rattle.std.proofs.lemmas.List.Sums.{prefix_len_stops}
 use Rattle.textwrap_marked.proofs.BegunAlike.{return-ends}

@@ -5,7 +5,7 @@ use Rattle.textwrap_marked.proofs.Common.{codes, ends_with, inl, inr, join_with_
 use Rattle.textwrap_marked.proofs.Common.{nat_eq, nat_lt, nat_tests, cases_Bool, ne_eqb, refl}
 use Rattle.textwrap_marked.proofs.Common.{starts_with, sym, true≢false, ⊤, ◌∙◌, is_return}
 use Rattle.textwrap_marked.proofs.Common.{byte_order_mark, is_white}
-use Rattle.textwrap_base.proofs.Lists.Parts.{ends_with-other, ends_with-true}
+use Rattle.textwrap_text.proofs.Lists.Parts.{ends_with-other, ends_with-true}
 use Rattle.textwrap_marked.proofs.FenceLeft.{EndsWord}
 use Rattle.textwrap_marked.proofs.ReturnsOff.{EndsWell, return_if}
 

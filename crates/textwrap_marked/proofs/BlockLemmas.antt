@@ -1,6 +1,6 @@
 -- The first block of lines, and those after it.
-use Rattle.textwrap_base.proofs.Common.{◌≡◌, suc, true, false, cond, List, []}
-use Rattle.textwrap_base.proofs.Common.{◌∷◌, take, drop, refl, sym, ap, ◌∙◌}
+use Rattle.textwrap_text.proofs.Common.{◌≡◌, suc, true, false, cond, List, [], ◌∷◌, take, drop}
+use Rattle.textwrap_text.proofs.Common.{refl, sym, ap, ◌∙◌}
 use Rattle.textwrap_marked.specs.Blocks.{blocks, goes_on}
 use Rattle.textwrap_marked.specs.Blocks.{later_len, with_line}
 use Rattle.textwrap_marked.specs.Lines.{LineText}

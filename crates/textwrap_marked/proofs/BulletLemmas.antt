@@ -1,6 +1,6 @@
 -- Bullets, one after another.
-use Rattle.textwrap_base.proofs.Common.{◌≡◌, ℕ, suc, ◌+◌, ◌<◌, true, List, [], ◌∷◌, length, map}
-use Rattle.textwrap_base.proofs.Common.{drop, drop_more, get_or, ap, ◌∙◌}
+use Rattle.textwrap_text.proofs.Common.{◌≡◌, ℕ, suc, ◌+◌, ◌<◌, true, List, [], ◌∷◌, length, map}
+use Rattle.textwrap_text.proofs.Common.{drop, drop_more, get_or, ap, ◌∙◌}
 use Rattle.textwrap_marked.specs.Marks.{is_bullet}
 use Rattle.textwrap_marked.specs.Prefixes.{bullets_len}
 use Rattle.textwrap_marked.specs.Words.{spaced_view, SpacedText}

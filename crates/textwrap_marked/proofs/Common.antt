@@ -8,24 +8,24 @@ pub use Rattle.std.proofs.lemmas.List.Splits.{length-slice_split}
 pub use Rattle.std.proofs.lemmas.List.Sums.{suffix_len-le-length}
 pub use Rattle.std.proofs.lemmas.Slice.Eq.{bytes_eq-Decides}
 pub use Rattle.std.specs.Prelude.{bytes_eq, is_some}
-pub use Rattle.textwrap_base.proofs.Common.{All, All-append, All-cons, All-head, All-map, All-nil}
-pub use Rattle.textwrap_base.proofs.Common.{All-tail, All-weaker, Bool, List, None, Option, Some}
-pub use Rattle.textwrap_base.proofs.Common.{[], ap, append-nil, append_assoc, arith, cases_Bool}
-pub use Rattle.textwrap_base.proofs.Common.{codes, cond, drop, ends_with, eqb-true, false}
-pub use Rattle.textwrap_base.proofs.Common.{false_from_ne_true, flat_map, get_or, inl, inr}
-pub use Rattle.textwrap_base.proofs.Common.{join_with_byte, length, length-append, list_any, lt-ltb}
-pub use Rattle.textwrap_base.proofs.Common.{map, nat_eq, nat_lt, nat_tests, ne_eqb, not, onto_first}
-pub use Rattle.textwrap_base.proofs.Common.{prefix_len, refl, reverse, slice_split, starts_with}
-pub use Rattle.textwrap_base.proofs.Common.{subst, suc, suffix_len, sym, take, take-append-drop}
-pub use Rattle.textwrap_base.proofs.Common.{take_all, take_more, true, true≢false, zero, ℕ, ⊤, ◌&&◌}
-pub use Rattle.textwrap_base.proofs.Common.{◌++◌, ◌+◌, ◌-◌, ◌<◌, ◌==◌, ◌||◌, ◌∙◌, ◌∷◌, ◌≡◌, ◌≢◌}
-pub use Rattle.textwrap_base.proofs.Common.{◌≤◌, ◌⊎◌}
-pub use Rattle.textwrap_base.proofs.Lists.Parts.{all-left, all-right, flat, starts_with-rest}
+pub use Rattle.textwrap_text.proofs.Common.{All, All-append, All-cons, All-head, All-map, All-nil}
+pub use Rattle.textwrap_text.proofs.Common.{All-tail, All-weaker, Bool, List, None, Option, Some}
+pub use Rattle.textwrap_text.proofs.Common.{[], ap, append-nil, append_assoc, arith, cases_Bool}
+pub use Rattle.textwrap_text.proofs.Common.{codes, cond, drop, ends_with, eqb-true, false}
+pub use Rattle.textwrap_text.proofs.Common.{false_from_ne_true, flat_map, get_or, inl, inr}
+pub use Rattle.textwrap_text.proofs.Common.{join_with_byte, length, length-append, list_any, lt-ltb}
+pub use Rattle.textwrap_text.proofs.Common.{map, nat_eq, nat_lt, nat_tests, ne_eqb, not, onto_first}
+pub use Rattle.textwrap_text.proofs.Common.{prefix_len, refl, reverse, slice_split, starts_with}
+pub use Rattle.textwrap_text.proofs.Common.{subst, suc, suffix_len, sym, take, take-append-drop}
+pub use Rattle.textwrap_text.proofs.Common.{take_all, take_more, true, true≢false, zero, ℕ, ⊤, ◌&&◌}
+pub use Rattle.textwrap_text.proofs.Common.{◌++◌, ◌+◌, ◌-◌, ◌<◌, ◌==◌, ◌||◌, ◌∙◌, ◌∷◌, ◌≡◌, ◌≢◌}
+pub use Rattle.textwrap_text.proofs.Common.{◌≤◌, ◌⊎◌, blank, is_blank}
+pub use Rattle.textwrap_text.proofs.Lists.Parts.{all-left, all-right, flat, starts_with-rest}
 pub use Rattle.textwrap_base.specs.Division.{IsDivision}
-pub use Rattle.textwrap_lines.specs.LineEnding.{ending_bytes}
+pub use Rattle.textwrap_text.specs.LineEnding.{ending_bytes}
 pub use Rattle.textwrap_lines.specs.Paragraph.{covered}
-pub use Rattle.textwrap_lines.specs.declared.line_ending.LineEnding.{LineEnding}
-pub use Rattle.textwrap_lines.specs.declared.line_ending.LineEnding.TheVariants.{CRLF, LF}
+pub use Rattle.textwrap_text.specs.declared.line_ending.LineEnding.{LineEnding}
+pub use Rattle.textwrap_text.specs.declared.line_ending.LineEnding.TheVariants.{CRLF, LF}
 pub use Rattle.textwrap_marked.specs.Blocks.{blocks, goes_on, is_beside, stays}
 pub use Rattle.textwrap_marked.specs.Fences.{FenceText}
 pub use Rattle.textwrap_marked.specs.Laws.{AreSameParts, HasPlainMarkers, IsSameBy, Part}
@@ -51,6 +51,5 @@ pub use Rattle.textwrap_marked.specs.Signs.{last_white, last_word, opens_paragra
 pub use Rattle.textwrap_marked.specs.Words.{SpacedText, contains, has_byte, has_bytes, has_letter}
 pub use Rattle.textwrap_marked.specs.Words.{is_white, spaced_text, spaced_words}
 pub use Rattle.textwrap_marked.specs.declared.options.ReflowOptions.{ReflowOptions}
-pub use Rattle.textwrap_words.proofs.Common.{IsDividedBy, WordText, blank, is_blank, sizes_of}
-pub use Rattle.textwrap_words.proofs.Common.{word_of}
-pub use Rattle.textwrap_words.specs.Units.{text_width}
+pub use Rattle.textwrap_words.proofs.Common.{IsDividedBy, WordText, sizes_of, word_of}
+pub use Rattle.textwrap_text.specs.Units.{text_width}

@@ -1,10 +1,10 @@
 -- Where a text stands in another: somewhere, in front or at the end.
-use Rattle.textwrap_base.proofs.Common.{◌≡◌, ℕ, ◌+◌, ◌-◌, Bool, true, false, ◌||◌, List, [], ◌∷◌}
-use Rattle.textwrap_base.proofs.Common.{◌++◌, length, take, drop, refl, ap, sym, ◌∙◌, arith, nat_eq}
-use Rattle.textwrap_base.proofs.Common.{starts_with, false_from_ne_true, ◌↔◌, ends_with, None, nat_tests}
-use Rattle.textwrap_base.proofs.Common.{Option, Some, take_at, Bor, length-append}
-use Rattle.textwrap_base.proofs.Lists.Parts.{starts_with-false, starts_with-rest, starts_with-true}
-use Rattle.textwrap_base.proofs.Lists.Parts.{ends_with-front, ends_with-true, stripped_suffix}
+use Rattle.textwrap_text.proofs.Common.{◌≡◌, ℕ, ◌+◌, ◌-◌, Bool, true, false, ◌||◌, List, [], ◌∷◌}
+use Rattle.textwrap_text.proofs.Common.{◌++◌, length, take, drop, refl, ap, sym, ◌∙◌, arith, nat_eq}
+use Rattle.textwrap_text.proofs.Common.{starts_with, false_from_ne_true, ◌↔◌, ends_with, None}
+use Rattle.textwrap_text.proofs.Common.{nat_tests, Option, Some, take_at, Bor, length-append}
+use Rattle.textwrap_text.proofs.Lists.Parts.{starts_with-false, starts_with-rest, starts_with-true}
+use Rattle.textwrap_text.proofs.Lists.Parts.{ends_with-front, ends_with-true, stripped_suffix}
 use Rattle.std.proofs.Common.{ap₂}
 use Rattle.std.specs.Option.{MatchOption}
 use Rattle.std.specs.Str.Iter.{HasSubslice}

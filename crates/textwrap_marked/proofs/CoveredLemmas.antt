@@ -1,11 +1,9 @@
 -- The pieces of a line, written one after another without the last one's blank.
-use Rattle.textwrap_base.proofs.Common.{◌≡◌, ℕ, ◌+◌, ◌-◌, ◌<◌, ◌≤◌, List, [], ◌∷◌, ◌++◌, length}
-use Rattle.textwrap_base.proofs.Common.{map}
-use Rattle.textwrap_base.proofs.Common.{refl, sym, ap, ◌∙◌, arith, get_or, drop, drop_more}
-use Rattle.textwrap_base.proofs.Common.{append-nil}
-use Rattle.textwrap_base.proofs.Common.{append_assoc, length-map, length-drop}
+use Rattle.textwrap_text.proofs.Common.{◌≡◌, ℕ, ◌+◌, ◌-◌, ◌<◌, ◌≤◌, List, [], ◌∷◌, ◌++◌, length}
+use Rattle.textwrap_text.proofs.Common.{map, refl, sym, ap, ◌∙◌, arith, get_or, drop, drop_more}
+use Rattle.textwrap_text.proofs.Common.{append-nil, append_assoc, length-map, length-drop}
 use Rattle.textwrap_words.proofs.Common.{word_view, WordText}
-use Rattle.textwrap_lines.proofs.Common.{Word}
+use Rattle.textwrap_words.specs.declared.words.Word.{Word}
 use Rattle.textwrap_lines.specs.Paragraph.{covered}
 
 covered-next : (piece : WordText) (pieces : List WordText) → 0 < length pieces

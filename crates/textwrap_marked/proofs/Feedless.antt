@@ -8,7 +8,7 @@ use Rattle.textwrap_marked.proofs.Common.{text_width, without_returns, as_title,
 use Rattle.textwrap_marked.proofs.Common.{line_of, LineText, passed, StateText, is_opening, blanks}
 use Rattle.textwrap_marked.proofs.Common.{hanging_bullets, hanging_comments, spaced_text}
 use Rattle.textwrap_marked.proofs.Common.{SpacedText, ReflowOptions}
-use Rattle.textwrap_base.proofs.Common.{All-take}
+use Rattle.textwrap_text.proofs.Common.{All-take}
 use Rattle.std.proofs.lemmas.List.Splits.{slice_split_at, slice_split_none}
 use Rattle.textwrap_marked.proofs.LaterLines.{line-read}
 use Rattle.textwrap_marked.proofs.LineKinds.{line-is}

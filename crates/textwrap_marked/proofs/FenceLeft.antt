@@ -10,8 +10,8 @@ use Rattle.textwrap_marked.proofs.Common.{FenceText, entered, fence_at, is_retur
 use Rattle.textwrap_marked.proofs.Common.{without_returns, is_comment_at, comment_len, begins_text}
 use Rattle.textwrap_marked.proofs.Common.{first_word, is_white, spaced_text, SpacedText}
 use Rattle.textwrap_marked.proofs.Common.{spaced_words, ReflowOptions}
-use Rattle.textwrap_base.proofs.Common.{drop_all, drop_more}
-use Rattle.textwrap_base.proofs.Lists.Parts.{starts_with-true}
+use Rattle.textwrap_text.proofs.Common.{drop_all, drop_more}
+use Rattle.textwrap_text.proofs.Lists.Parts.{starts_with-true}
 use Rattle.std.proofs.Math.Bool.{or-true}
 use Rattle.std.proofs.lemmas.List.{get_or-reverse}
 use Rattle.std.proofs.lemmas.List.Sums.{prefix_len_passes}

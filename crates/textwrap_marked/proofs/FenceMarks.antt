@@ -9,7 +9,7 @@ use Rattle.textwrap_marked.proofs.Common.{fence_at, line_of, LineText, new_fence
 use Rattle.textwrap_marked.proofs.Common.{without_returns, is_comment_at, is_quote, begins_text}
 use Rattle.textwrap_marked.proofs.Common.{closes_block, has_letter, is_white, spaced_text}
 use Rattle.textwrap_marked.proofs.Common.{SpacedText, ReflowOptions}
-use Rattle.textwrap_base.proofs.Common.{option_map}
+use Rattle.textwrap_text.proofs.Common.{option_map}
 use Rattle.textwrap_marked.proofs.HangingForms.{IsHanging, hanging-is}
 use Rattle.textwrap_marked.proofs.HangingKinds.{AreMarks, before-full}
 use Rattle.textwrap_marked.proofs.LaterLines.{line-read}

@@ -1,8 +1,8 @@
 -- The widths of the pieces of a text fit 64 bits together.
-use Rattle.textwrap_base.proofs.Common.{◌≡◌, ℕ, ◌≤◌, List, All, length, map, sym, subst, IsUtf8}
+use Rattle.textwrap_text.proofs.Common.{◌≡◌, ℕ, ◌≤◌, List, All, length, map, sym, subst, IsUtf8}
 use Rattle.textwrap_base.proofs.Common.{total_width}
 use Rattle.textwrap_words.proofs.Common.{word_view, word_of, sizes_of, Tiles}
-use Rattle.textwrap_lines.proofs.Common.{Word}
+use Rattle.textwrap_words.specs.declared.words.Word.{Word}
 use Rattle.textwrap_words.specs.Cuts.{AreCuts, parts_between}
 use Rattle.textwrap_words.proofs.Word.Words.{IsNarrowWord}
 use Rattle.textwrap_words.proofs.Word.Parts.{parts-texts}

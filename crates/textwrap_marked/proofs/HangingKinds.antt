@@ -8,8 +8,8 @@ use Rattle.textwrap_marked.proofs.Common.{flat_map-append, bytes_eq-Decides, tex
 use Rattle.textwrap_marked.proofs.Common.{is_comment_at, is_opening, is_quote, blanks, bullets_len}
 use Rattle.textwrap_marked.proofs.Common.{comment_len, hanging_comments, quotes_len, spaced_text}
 use Rattle.textwrap_marked.proofs.Common.{SpacedText, ReflowOptions}
-use Rattle.textwrap_base.proofs.Common.{if◌then◌else◌, nil_from_length}
-use Rattle.textwrap_base.proofs.Lists.Parts.{same_parts}
+use Rattle.textwrap_text.proofs.Common.{if◌then◌else◌, nil_from_length}
+use Rattle.textwrap_text.proofs.Lists.Parts.{same_parts}
 use Rattle.textwrap_marked.proofs.LineKinds.{hanging_of, has_opening_in, HaveKinds, kinds, one_if}
 use Rattle.textwrap_marked.proofs.LineKinds.{some-if}
 use Rattle.textwrap_marked.proofs.SpacedBack.{AreSpaced, IsSpaced, IsWhite}

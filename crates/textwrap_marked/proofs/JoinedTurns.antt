@@ -1,10 +1,7 @@
 -- Words that are joined, one after another.
-use Rattle.textwrap_base.proofs.Common.{◌≡◌, ℕ, ◌+◌, ◌<◌, Bool, true, false, cond}
-use Rattle.textwrap_base.proofs.Common.{List, [], ◌∷◌, ◌++◌, length, sym, ap, ◌∙◌}
-use Rattle.textwrap_base.proofs.Common.{append_assoc, length-append, drop}
-use Rattle.textwrap_base.proofs.Common.{flat_map}
-use Rattle.textwrap_base.proofs.Common.{get_or}
-use Rattle.textwrap_base.proofs.Common.{map, Bor, drop_more}
+use Rattle.textwrap_text.proofs.Common.{◌≡◌, ℕ, ◌+◌, ◌<◌, Bool, true, false, cond, List, [], ◌∷◌}
+use Rattle.textwrap_text.proofs.Common.{◌++◌, length, sym, ap, ◌∙◌, append_assoc, length-append}
+use Rattle.textwrap_text.proofs.Common.{drop, flat_map, get_or, map, Bor, drop_more}
 use Rattle.textwrap_marked.specs.Pieces.{cuts_from, is_cut, Joined}
 use Rattle.textwrap_marked.specs.Pieces.{with_blank, with_word}
 use Rattle.textwrap_marked.specs.declared.options.ReflowOptions.{ReflowOptions}

@@ -7,10 +7,11 @@ use Rattle.textwrap_marked.proofs.Common.{◌&&◌, ◌||◌, not, ◌∙◌, al
 use Rattle.textwrap_marked.proofs.Common.{is_blank, word_of, WordText, covered, LineText, pieces}
 use Rattle.textwrap_marked.proofs.Common.{blanks, first_room, later_room, line_text, line_texts}
 use Rattle.textwrap_marked.proofs.Common.{shown_lines, ReflowOptions}
-use Rattle.textwrap_base.proofs.Common.{min, cond_both, eq-eqb, IsDivision, ◌/◌}
+use Rattle.textwrap_text.proofs.Common.{min, cond_both, eq-eqb, ◌/◌, chunks, text_width}
+use Rattle.textwrap_base.proofs.Common.{IsDivision}
 use Rattle.std.specs.Prelude.{◌%◌}
-use Rattle.textwrap_words.proofs.Common.{chunks, words_of, text_width, tiled}
-use Rattle.textwrap_words.proofs.Word.Chunks.{chunks-from}
+use Rattle.textwrap_words.proofs.Common.{words_of, tiled}
+use Rattle.textwrap_text.proofs.Units.Chunks.{chunks-from}
 use Rattle.textwrap_lines.specs.Paragraph.{line_bytes, Slice}
 use Rattle.textwrap_display.proofs.WidenedWords.{widened_chunks, widened-text}
 use Rattle.textwrap_display.specs.Justifying.{gaps, indent_len, justified, widened_words}

@@ -1,6 +1,6 @@
 -- Blocks that are laid out, one after another.
-use Rattle.textwrap_base.proofs.Common.{◌≡◌, ℕ, ◌<◌, ◌++◌, ◌||◌, Bool, List, [], ◌∷◌, map, ap, arith}
-use Rattle.textwrap_base.proofs.Common.{get_or, length, refl, subst, sym}
+use Rattle.textwrap_text.proofs.Common.{◌≡◌, ℕ, ◌<◌, ◌++◌, ◌||◌, Bool, List, [], ◌∷◌, map, ap}
+use Rattle.textwrap_text.proofs.Common.{arith, get_or, length, refl, subst, sym}
 use Rattle.textwrap_marked.proofs.BlockLemmas.{blocks-first}
 use Rattle.textwrap_marked.specs.Blocks.{behind_block, blocks, first_block, is_beside}
 use Rattle.textwrap_marked.specs.Blocks.{stays}

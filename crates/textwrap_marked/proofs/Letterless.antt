@@ -5,7 +5,7 @@ use Rattle.textwrap_marked.proofs.Common.{refl, starts_with, sym, ap, ◌∙◌,
 use Rattle.textwrap_marked.proofs.Common.{true≢false, bytes_eq-Decides, bytes_eq, is_among}
 use Rattle.textwrap_marked.proofs.Common.{is_comment_at, is_opening, is_quote, contains, has_bytes}
 use Rattle.textwrap_marked.proofs.Common.{has_letter, ReflowOptions}
-use Rattle.textwrap_base.proofs.Common.{and_parts}
+use Rattle.textwrap_text.proofs.Common.{and_parts}
 use Rattle.std.specs.Char.Unicode.Alphabetic.{is_alphabetic, alphabetic_ranges}
 use Rattle.std.specs.Char.Unicode.Numeric.{is_numeric, numeric_ranges}
 use Rattle.std.specs.Char.Unicode.Rows.{in_ranges}

@@ -9,7 +9,7 @@ use Rattle.textwrap_marked.proofs.Common.{is_comment_at, is_opening, bullets_len
 use Rattle.textwrap_marked.proofs.Common.{hanging_bullets, hanging_comments, quotes_len}
 use Rattle.textwrap_marked.proofs.Common.{closes_block, first_word, is_key, has_byte, spaced_text}
 use Rattle.textwrap_marked.proofs.Common.{SpacedText, spaced_words, ReflowOptions}
-use Rattle.textwrap_base.proofs.Common.{drop_at, length-take-le, slice_range, take_at, eq-eqb}
+use Rattle.textwrap_text.proofs.Common.{drop_at, length-take-le, slice_range, take_at, eq-eqb}
 use Rattle.textwrap_marked.proofs.SpacedBack.{begins-plain, BeginsPlain, IsLineText, line-back}
 use Rattle.textwrap_marked.proofs.SpacedBack.{with_lead}
 use Rattle.textwrap_marked.specs.Lines.{is_chosen, is_deep, line_from, stands_apart}

@@ -7,7 +7,7 @@ use Rattle.textwrap_marked.proofs.Common.{from_letter, HasPlainMarkers, line_sen
 use Rattle.textwrap_marked.proofs.Common.{LineText, StateText, without_returns, is_among}
 use Rattle.textwrap_marked.proofs.Common.{is_comment_at, is_quote, begins_text, first_word}
 use Rattle.textwrap_marked.proofs.Common.{has_letter, spaced_text, SpacedText, ReflowOptions}
-use Rattle.textwrap_base.proofs.Common.{map-append}
+use Rattle.textwrap_text.proofs.Common.{map-append}
 use Rattle.textwrap_marked.proofs.HangingForms.{IsHanging}
 use Rattle.textwrap_marked.proofs.HangingKinds.{AreMarks, full-before, IsFull}
 use Rattle.textwrap_marked.proofs.LaterLines.{IsOfText, line-read}

@@ -6,7 +6,7 @@ use Rattle.textwrap_marked.proofs.Common.{None, refl, Some, sym, true≢false, e
 use Rattle.textwrap_marked.proofs.Common.{bytes_eq-Decides, bytes_eq, goes_on, deeper_by, LineText}
 use Rattle.textwrap_marked.proofs.Common.{closes_block, first_word, last_word, opens_paragraph}
 use Rattle.textwrap_marked.proofs.Common.{has_bytes, has_letter, SpacedText, ReflowOptions}
-use Rattle.textwrap_base.proofs.Common.{list_all}
+use Rattle.textwrap_text.proofs.Common.{list_all}
 use Rattle.std.proofs.Math.Bool.{and-false}
 use Rattle.std.specs.Prelude.{nat_le}
 use Rattle.std.specs.Str.{chars}

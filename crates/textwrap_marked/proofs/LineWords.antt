@@ -6,11 +6,13 @@ use Rattle.textwrap_marked.proofs.Common.{length-append, map, refl, subst, sym, 
 use Rattle.textwrap_marked.proofs.Common.{take_more, ⊤, ◌∙◌, ◌||◌, ◌==◌, all-right, flat, blank}
 use Rattle.textwrap_marked.proofs.Common.{is_blank, word_of, WordText, covered, is_cut, pieces}
 use Rattle.textwrap_marked.proofs.Common.{blanks, spaced_text, SpacedText, ReflowOptions}
-use Rattle.textwrap_base.proofs.Common.{IsDivision, length-take, take-append-add}
+use Rattle.textwrap_base.proofs.Common.{IsDivision}
+use Rattle.textwrap_text.proofs.Common.{length-take, take-append-add, final_blanks, trimmed_len}
+use Rattle.textwrap_text.proofs.Common.{without_final_blanks}
 use Rattle.textwrap_base.proofs.Cost.Chosen.{division_joined}
-use Rattle.textwrap_base.proofs.Lists.Parts.{some_from_nonempty}
+use Rattle.textwrap_text.proofs.Lists.Parts.{some_from_nonempty}
 use Rattle.std.proofs.lemmas.List.Elements.{All-get_or}
-use Rattle.textwrap_words.proofs.Common.{final_blanks, piece, trimmed_len, without_final_blanks}
+use Rattle.textwrap_words.proofs.Common.{piece}
 use Rattle.textwrap_words.proofs.Word.Texts.{AreBlanks, trimmed-front, word_of-seam}
 use Rattle.textwrap_marked.proofs.SpacedBack.{IsInk}
 use Rattle.textwrap_marked.proofs.WordsIn.{IsPlain}

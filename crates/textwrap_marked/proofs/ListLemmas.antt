@@ -1,6 +1,6 @@
 -- The first part of a text round a mark.
-use Rattle.textwrap_base.proofs.Common.{◌≡◌, ℕ, ◌<◌, Bool, List, [], ◌∷◌, length, sym, ap, ◌∙◌}
-use Rattle.textwrap_base.proofs.Common.{slice_split, not, not-true, rules}
+use Rattle.textwrap_text.proofs.Common.{◌≡◌, ℕ, ◌<◌, Bool, List, [], ◌∷◌, length, sym, ap, ◌∙◌}
+use Rattle.textwrap_text.proofs.Common.{slice_split, not, not-true, rules}
 use Rattle.std.proofs.lemmas.List.Splits.{slice_split_first, slice_split_none}
 use Rattle.std.proofs.lemmas.List.Sums.{prefix_len_passes}
 use Rattle.std.specs.List.{position_or_len, before_first, after_first}

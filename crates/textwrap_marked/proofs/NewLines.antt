@@ -9,7 +9,7 @@ use Rattle.textwrap_marked.proofs.Common.{StateText, without_returns, words_of, 
 use Rattle.textwrap_marked.proofs.Common.{closes_block, first_word, is_key, last_white, last_word}
 use Rattle.textwrap_marked.proofs.Common.{opens_paragraph, contains, has_byte, has_letter}
 use Rattle.textwrap_marked.proofs.Common.{spaced_text, SpacedText, ReflowOptions}
-use Rattle.textwrap_base.proofs.Common.{slice_index}
+use Rattle.textwrap_text.proofs.Common.{slice_index}
 use Rattle.textwrap_marked.proofs.FreeLines.{AreFree}
 use Rattle.textwrap_marked.proofs.HangingForms.{IsHanging}
 use Rattle.textwrap_marked.proofs.Letterless.{no-comment}

@@ -8,7 +8,7 @@ use Rattle.textwrap_marked.proofs.Common.{LF, blocks, AreSameParts, HasPlainMark
 use Rattle.textwrap_marked.proofs.Common.{text_parts, first_state, lines_of, read_lines}
 use Rattle.textwrap_marked.proofs.Common.{with_titles, byte_order_mark, filled_ending, AreOfBlocks}
 use Rattle.textwrap_marked.proofs.Common.{IsReflowedBehind, IsReflowedFrom, ReflowOptions}
-use Rattle.textwrap_base.proofs.Common.{⊎_elim, Option, Some}
+use Rattle.textwrap_text.proofs.Common.{⊎_elim, Option, Some}
 use Rattle.textwrap_marked.proofs.Common.{inl, inr, ◌⊎◌}
 use Rattle.std.proofs.lemmas.List.Splits.{join_with_byte-slice_split}
 use Rattle.textwrap_marked.proofs.AnewLines.{IsTold}

@@ -9,7 +9,7 @@ use Rattle.textwrap_marked.proofs.Common.{deeper_by, has_words, LineText, new_fe
 use Rattle.textwrap_marked.proofs.Common.{StateText, begins_text, closes_block, first_word}
 use Rattle.textwrap_marked.proofs.Common.{front_of, has_columns, is_column_word, contains, has_byte}
 use Rattle.textwrap_marked.proofs.Common.{has_letter, SpacedText}
-use Rattle.textwrap_base.proofs.Common.{option_map, slice_index}
+use Rattle.textwrap_text.proofs.Common.{option_map, slice_index}
 use Rattle.textwrap_marked.proofs.Letterless.{lettered-other}
 use Rattle.textwrap_marked.specs.Columns.{depth_of, marks_of}
 use Rattle.textwrap_marked.specs.Fences.{has_pre_end, opened, opened_by, run_of}

@@ -1,10 +1,10 @@
 -- The text of words may be cut between their pieces.
-use Rattle.textwrap_base.proofs.Common.{◌≡◌, ℕ, ◌+◌, ◌<◌, ◌≤◌, Bool, true, false, cond, List, []}
-use Rattle.textwrap_base.proofs.Common.{◌∷◌, ◌++◌, length, refl, sym, ap, ◌∙◌, arith, append_assoc}
-use Rattle.textwrap_base.proofs.Common.{length-append, subst, flat_map, get_or, IsUtf8}
-use Rattle.textwrap_base.proofs.Common.{IsCharBoundary, IsCharBoundary-after_ascii}
+use Rattle.textwrap_text.proofs.Common.{◌≡◌, ℕ, ◌+◌, ◌<◌, ◌≤◌, Bool, true, false, cond, List, []}
+use Rattle.textwrap_text.proofs.Common.{◌∷◌, ◌++◌, length, refl, sym, ap, ◌∙◌, arith, append_assoc}
+use Rattle.textwrap_text.proofs.Common.{length-append, subst, flat_map, get_or, IsUtf8}
+use Rattle.textwrap_text.proofs.Common.{IsCharBoundary, IsCharBoundary-after_ascii}
 use Rattle.std.proofs.lemmas.List.{get_or_at}
-use Rattle.textwrap_words.specs.Blanks.{blank}
+use Rattle.textwrap_text.specs.Blanks.{blank}
 use Rattle.textwrap_words.specs.Cuts.{AreCuts, AreLaterCuts}
 use Rattle.textwrap_words.proofs.Word.Cuts.{inner-cuts}
 use Rattle.textwrap_marked.specs.Pieces.{cuts_from, is_cut, with_blank}

@@ -1,9 +1,9 @@
 -- Words that are joined and cut are the pieces.
-use Rattle.textwrap_base.proofs.Common.{◌≡◌, ℕ, ◌+◌, ◌-◌, ◌<◌, Bool, true, false, cond}
-use Rattle.textwrap_base.proofs.Common.{List, [], ◌∷◌, ◌++◌, length, refl, sym, ap, ◌∙◌, arith}
-use Rattle.textwrap_base.proofs.Common.{append_assoc, append-nil, length-append, drop, take}
-use Rattle.textwrap_base.proofs.Common.{slice_range, drop_at, take_at, ne_eqb, flat_map}
-use Rattle.textwrap_words.specs.Blanks.{blank}
+use Rattle.textwrap_text.proofs.Common.{◌≡◌, ℕ, ◌+◌, ◌-◌, ◌<◌, Bool, true, false, cond, List, []}
+use Rattle.textwrap_text.proofs.Common.{◌∷◌, ◌++◌, length, refl, sym, ap, ◌∙◌, arith, append_assoc}
+use Rattle.textwrap_text.proofs.Common.{append-nil, length-append, drop, take, slice_range, drop_at}
+use Rattle.textwrap_text.proofs.Common.{take_at, ne_eqb, flat_map}
+use Rattle.textwrap_text.specs.Blanks.{blank}
 use Rattle.textwrap_words.specs.Cuts.{parts_between, parts_onward}
 use Rattle.textwrap_marked.specs.Pieces.{cuts_from, is_cut, onto_front, pieces}
 use Rattle.textwrap_marked.specs.Pieces.{with_blank}

@@ -6,11 +6,10 @@ use Rattle.textwrap_marked.proofs.Common.{take_all, suffix_len-le-length, IsDivi
 use Rattle.textwrap_marked.proofs.Common.{is_blank, sizes_of, word_of, WordText, covered}
 use Rattle.textwrap_marked.proofs.Common.{piece_words, LineText, line_text, line_texts}
 use Rattle.textwrap_marked.proofs.Common.{ReflowOptions}
-use Rattle.textwrap_base.proofs.Common.{AllFit, AreEqualFromSecond, closed_width, Fits, length-drop}
-use Rattle.textwrap_base.proofs.Common.{reverse-append}
+use Rattle.textwrap_base.proofs.Common.{AllFit, AreEqualFromSecond, closed_width, Fits}
+use Rattle.textwrap_text.proofs.Common.{length-drop, reverse-append, trimmed_len}
 use Rattle.std.specs.List.{prefix_len, suffix_len}
 use Rattle.textwrap_base.proofs.Division.Greedy.{line_width-later}
-use Rattle.textwrap_words.proofs.Common.{trimmed_len}
 use Rattle.textwrap_display.proofs.Widths.{justified-width}
 use Rattle.textwrap_marked.proofs.BlankPieces.{division-all, EndsInBlank, words-all}
 use Rattle.textwrap_marked.specs.Columns.{columns}

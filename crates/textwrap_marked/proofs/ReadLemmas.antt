@@ -1,7 +1,6 @@
 -- Lines, read one after another.
-use Rattle.textwrap_base.proofs.Common.{◌≡◌, ℕ, ◌==◌, Bool, List, ◌∷◌, length}
-use Rattle.textwrap_base.proofs.Common.{refl, sym}
-use Rattle.textwrap_base.proofs.Common.{arith, nat_lt, Option, Some, None, Bor, lt-ltb}
+use Rattle.textwrap_text.proofs.Common.{◌≡◌, ℕ, ◌==◌, Bool, List, ◌∷◌, length, refl, sym, arith}
+use Rattle.textwrap_text.proofs.Common.{nat_lt, Option, Some, None, Bor, lt-ltb}
 use Rattle.std.proofs.lemmas.List.Splits.{length-slice_split}
 use Rattle.std.specs.Prelude.{is_some}
 use Rattle.textwrap_marked.specs.Lines.{entered, line_of, LineText, passed, without_returns}

@@ -5,7 +5,7 @@ use Rattle.textwrap_marked.proofs.Common.{append_assoc, arith, get_or, length, l
 use Rattle.textwrap_marked.proofs.Common.{prefix_len, refl, reverse, suffix_len, sym, take}
 use Rattle.textwrap_marked.proofs.Common.{take_all, take_more, true≢false, eqb-true, ◌∙◌, is_return}
 use Rattle.textwrap_marked.proofs.Common.{without_returns, is_column_word, is_white}
-use Rattle.textwrap_base.proofs.Common.{reverse-append, take_at}
+use Rattle.textwrap_text.proofs.Common.{reverse-append, take_at}
 use Rattle.std.proofs.lemmas.List.Elements.{All-get_or}
 use Rattle.textwrap_marked.proofs.LineWords.{gap, shown}
 use Rattle.textwrap_marked.proofs.OpenBehind.{any-none, no-return}

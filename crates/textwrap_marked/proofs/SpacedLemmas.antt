@@ -1,10 +1,8 @@
 -- The words of a line, each with the white behind it, from the front on.
-use Rattle.textwrap_base.proofs.Common.{◌≡◌, ℕ, ◌+◌, ◌<◌, Bool, true, false, suc}
-use Rattle.textwrap_base.proofs.Common.{List, [], ◌∷◌, ◌++◌, length, take, drop, refl, ap, sym}
-use Rattle.textwrap_base.proofs.Common.{◌∙◌}
-use Rattle.textwrap_base.proofs.Common.{arith, prefix_len}
-use Rattle.textwrap_base.proofs.Common.{cases_Bool, length-drop, nat_tests, map, map-append}
-use Rattle.textwrap_base.proofs.Common.{append_assoc}
+use Rattle.textwrap_text.proofs.Common.{◌≡◌, ℕ, ◌+◌, ◌<◌, Bool, true, false, suc, List, [], ◌∷◌}
+use Rattle.textwrap_text.proofs.Common.{◌++◌, length, take, drop, refl, ap, sym, ◌∙◌, arith}
+use Rattle.textwrap_text.proofs.Common.{prefix_len, cases_Bool, length-drop, nat_tests, map}
+use Rattle.textwrap_text.proofs.Common.{map-append, append_assoc}
 use Rattle.textwrap_marked.specs.Words.{is_ink, is_white}
 use Rattle.textwrap_marked.specs.Words.{spaced_view, spaced_words, SpacedText, with_byte}
 use Rattle.textwrap_marked.specs.declared.words.SpacedWord.{SpacedWord}

@@ -10,7 +10,7 @@ use Rattle.textwrap_marked.proofs.Common.{StateText, with_titles, words_of, clos
 use Rattle.textwrap_marked.proofs.Common.{closes_early, first_word, front_of}
 use Rattle.textwrap_marked.proofs.Common.{is_column_word, last_word, opens_paragraph, contains}
 use Rattle.textwrap_marked.proofs.Common.{SpacedText, ReflowOptions}
-use Rattle.textwrap_base.proofs.Common.{length-map}
+use Rattle.textwrap_text.proofs.Common.{length-map}
 use Rattle.textwrap_marked.proofs.HangingForms.{IsHanging}
 use Rattle.textwrap_marked.proofs.LaterLines.{IsOfText}
 use Rattle.textwrap_marked.proofs.LineSenses.{later-sense}

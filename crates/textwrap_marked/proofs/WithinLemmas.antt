@@ -1,7 +1,6 @@
 -- Blocks that are laid out, one after another, where some lines are filled.
-use Rattle.textwrap_base.proofs.Common.{◌≡◌, ℕ, ◌+◌, ◌++◌, ◌||◌, Bool, List, ◌∷◌, ap, length, refl}
-use Rattle.textwrap_base.proofs.Common.{subst, sym, ◌∙◌}
-use Rattle.textwrap_base.proofs.Common.{◌-◌, ◌&&◌, arith, nat_lt, nat_tests}
+use Rattle.textwrap_text.proofs.Common.{◌≡◌, ℕ, ◌+◌, ◌++◌, ◌||◌, Bool, List, ◌∷◌, ap, length, refl}
+use Rattle.textwrap_text.proofs.Common.{subst, sym, ◌∙◌, ◌-◌, ◌&&◌, arith, nat_lt, nat_tests}
 use Rattle.std.proofs.Common.{ap₂}
 use Rattle.std.specs.Prelude.{nat_le, not}
 use Rattle.textwrap_marked.proofs.BlockLemmas.{blocks-first}

@@ -4,7 +4,7 @@ use Rattle.textwrap_marked.proofs.Common.{All-head, All-tail, ap, arith, flat_ma
 use Rattle.textwrap_marked.proofs.Common.{onto_first, refl, slice_split, ◌∙◌, flat_map-append}
 use Rattle.textwrap_marked.proofs.Common.{length-slice_split, words_in, has_bytes, is_white}
 use Rattle.std.proofs.lemmas.List.Splits.{slice_split_none}
-use Rattle.textwrap_base.proofs.Lists.Parts.{onto_first-append}
+use Rattle.textwrap_text.proofs.Lists.Parts.{onto_first-append}
 
 -- ---- texts
 

@@ -3,7 +3,7 @@ use Rattle.std.specs.Prelude.{ℕ, ◌+◌, ◌-◌, ◌%◌, ◌^◌, ◌==◌,
 use Rattle.std.specs.Prelude.{List}
 use Rattle.std.specs.Prelude.{[], ◌∷◌, length, take, drop, if◌then◌else◌, string_bytes}
 use Rattle.std.specs.List.{prefix_len, slice_split, suffix_len}
-use Rattle.textwrap_words.specs.Units.{text_width}
+use Rattle.textwrap_text.specs.Units.{text_width}
 use Rattle.textwrap_marked.specs.Words.{has_bytes, is_white}
 use Rattle.textwrap_marked.specs.declared.columns.Depth.{Depth}
 

@@ -2,7 +2,7 @@
 use Rattle.std.specs.Prelude.{ℕ, ◌+◌, ◌||◌, Bool, false, not, nat_eq, List, [], ◌∷◌, ◌++◌, length}
 use Rattle.std.specs.Prelude.{codes, map, string_bytes, if◌then◌else◌}
 use Rattle.std.specs.List.{ends_with, flat_map}
-use Rattle.textwrap_words.specs.Blanks.{blank}
+use Rattle.textwrap_text.specs.Blanks.{blank}
 use Rattle.textwrap_marked.specs.Lines.{LineText}
 use Rattle.textwrap_marked.specs.Signs.{may_go_on}
 use Rattle.textwrap_marked.specs.declared.options.ReflowOptions.{ReflowOptions}

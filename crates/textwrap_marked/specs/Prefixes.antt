@@ -3,7 +3,7 @@ use Rattle.std.specs.Prelude.{ℕ, ◌+◌, Bool, List, [], ◌∷◌, ◌++◌,
 use Rattle.std.specs.Prelude.{replicate}
 use Rattle.std.specs.Prelude.{suc, if◌then◌else◌, codes, bytes_eq, ◌&&◌}
 use Rattle.std.specs.List.{flat_map, list_any}
-use Rattle.textwrap_words.specs.Units.{text_width}
+use Rattle.textwrap_text.specs.Units.{text_width}
 use Rattle.textwrap_marked.specs.Marks.{is_bullet, is_comment_at, is_opening, is_quote}
 use Rattle.textwrap_marked.specs.Words.{has_bytes, spaced_text, SpacedText}
 use Rattle.textwrap_marked.specs.declared.options.ReflowOptions.{ReflowOptions}

@@ -2,7 +2,7 @@
 use Rattle.std.specs.Prelude.{◌≡◌, ℕ, ◌+◌, ◌-◌, ◌&&◌, ◌||◌, Bool, true, false, nat_eq, nat_le, nat_lt, not}
 use Rattle.std.specs.Prelude.{List, [], ◌∷◌, ◌++◌, drop, length}
 use Rattle.std.specs.List.{starts_with}
-use Rattle.textwrap_lines.specs.LineEnding.{ending_bytes}
+use Rattle.textwrap_text.specs.LineEnding.{ending_bytes}
 use Rattle.textwrap_marked.specs.Blocks.{blocks, is_beside, stays}
 use Rattle.textwrap_marked.specs.Lines.{LineText, lines_of}
 use Rattle.textwrap_marked.specs.Reflow.{IsOfBlock, byte_order_mark, filled_ending}

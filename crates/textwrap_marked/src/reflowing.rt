@@ -1,7 +1,7 @@
 //! Filling the paragraphs of a text again.
 ghost use Rattle.std.specs.Prelude.{◌≡◌, ℕ, ◌++◌, ◌||◌, false, List, map, IfOk, OnOk, Some, string_bytes};
 ghost use Rattle.textwrap_base.specs.Errors.{Overflowed};
-ghost use Rattle.textwrap_lines.specs.LineEnding.{ending_bytes};
+ghost use Rattle.textwrap_text.specs.LineEnding.{ending_bytes};
 ghost use Rattle.textwrap_marked.specs.Blocks.{blocks, is_beside, stays};
 ghost use Rattle.textwrap_marked.specs.Lines.{line_view};
 ghost use Rattle.textwrap_marked.specs.Reading.{lines_left};

@@ -1,16 +1,16 @@
 -- What holds by the options that hold no function holds by what they name.
-use Rattle.textwrap_base.proofs.Common.{◌≡◌, ℕ, Bool, List, subst, true, false, [], ◌∷◌, cond, map}
-use Rattle.textwrap_base.proofs.Common.{refl, sym, ap, ◌∙◌}
-use Rattle.textwrap_words.proofs.Common.{Algorithm, Splitter, WordText, without_final_blanks}
-use Rattle.textwrap_words.proofs.Common.{word_of, MaySeparate}
-use Rattle.textwrap_lines.proofs.Common.{DividesAt, Settings, ending_bytes, is_whole, IsFilled}
-use Rattle.textwrap_lines.proofs.Common.{join_with, line_bytes, line_from, paragraphs_of, parts_of}
-use Rattle.textwrap_lines.proofs.Common.{DividesBy, HasPartsAt, Line, settings_view, HasParts}
+use Rattle.textwrap_text.proofs.Common.{◌≡◌, ℕ, Bool, List, subst, true, false, [], ◌∷◌, cond, map}
+use Rattle.textwrap_text.proofs.Common.{refl, sym, ap, ◌∙◌, without_final_blanks, ending_bytes}
+use Rattle.textwrap_text.proofs.Common.{join_with, paragraphs_of}
+use Rattle.textwrap_words.proofs.Common.{Algorithm, Splitter, WordText, word_of, MaySeparate}
+use Rattle.textwrap_lines.proofs.Common.{DividesAt, Settings, is_whole, IsFilled, line_bytes}
+use Rattle.textwrap_lines.proofs.Common.{line_from, parts_of, DividesBy, HasPartsAt, Line}
+use Rattle.textwrap_lines.proofs.Common.{settings_view, HasParts}
 use Rattle.textwrap_plain.specs.Options.{words_by, algorithm_of, settings_of, splitter_of}
 use Rattle.textwrap_plain.specs.declared.options.PlainSeparator.{PlainSeparator}
 use Rattle.textwrap_lines.proofs.Paragraph.LeftOff.{AreParagraphParts-whole, line_from-whole}
 use Rattle.textwrap_lines.proofs.Text.Paragraphs.{join-paragraphs_of}
-use Rattle.textwrap_lines.specs.declared.line_ending.LineEnding.{LineEnding}
+use Rattle.textwrap_text.specs.declared.line_ending.LineEnding.{LineEnding}
 use Rattle.textwrap_lines.proofs.Text.Groups.{divides-at, filled-map, placed-map}
 use Rattle.textwrap_lines.specs.Places.{ArePlacedLines}
 use Rattle.textwrap_lines.specs.declared.options.Options.{Options}

@@ -1,18 +1,18 @@
 -- The words of a line by options without functions, and what lines of them keep to.
-use Rattle.textwrap_base.proofs.Common.{◌≡◌, ◌≢◌, ℕ, ◌<◌, List, [], ◌∷◌, All, All-cons}
-use Rattle.textwrap_base.proofs.Common.{All-nil, arith, ap, drop, IsUtf8, length, map}
-use Rattle.textwrap_base.proofs.Common.{refl, length-drop, ne_eqb, Bool, append-nil}
-use Rattle.textwrap_base.proofs.Common.{rules, Some, subst, sym, true}
-use Rattle.textwrap_base.proofs.Lists.Parts.{length-slice}
+use Rattle.textwrap_text.proofs.Common.{◌≡◌, ◌≢◌, ℕ, ◌<◌, List, [], ◌∷◌, All, All-cons, All-nil}
+use Rattle.textwrap_text.proofs.Common.{arith, ap, drop, IsUtf8, length, map, refl, length-drop}
+use Rattle.textwrap_text.proofs.Common.{ne_eqb, Bool, append-nil, rules, Some, subst, sym, true}
+use Rattle.textwrap_text.proofs.Common.{chunks, stripped}
+use Rattle.textwrap_text.proofs.Lists.Parts.{length-slice}
 use Rattle.std.specs.List.{slice_range}
-use Rattle.textwrap_words.proofs.Common.{chunks, stripped, word_of, words_of, WordText, Algorithm}
-use Rattle.textwrap_words.proofs.Common.{ArePoints, Greedy, IsDividedBy, sizes_of, Splitter}
+use Rattle.textwrap_words.proofs.Common.{word_of, words_of, WordText, Algorithm, ArePoints, Greedy}
+use Rattle.textwrap_words.proofs.Common.{IsDividedBy, sizes_of, Splitter}
 use Rattle.textwrap_words.proofs.Word.Cuts.{inner-cuts}
 use Rattle.textwrap_words.proofs.Word.Offsets.{cuts_at-AreInnerCuts}
 use Rattle.textwrap_words.proofs.Word.Parts.{parts-texts}
 use Rattle.textwrap_words.proofs.Word.Pieces.{AreTexts, AreTexts-words, ArePoints-cuts}
 use Rattle.textwrap_words.proofs.Word.Pieces.{ArePoints-hyphens}
-use Rattle.textwrap_words.proofs.Word.Chunks.{AreChunks-chunks}
+use Rattle.textwrap_text.proofs.Units.Chunks.{AreChunks-chunks}
 use Rattle.textwrap_words.proofs.Word.Words.{words_unique}
 use Rattle.textwrap_words.specs.Cuts.{AreInnerCuts, AreLaterCuts, parts_between, parts_onward}
 use Rattle.textwrap_unicode.specs.Breaks.{breaks_by}

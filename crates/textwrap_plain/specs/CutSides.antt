@@ -1,9 +1,8 @@
 -- What stands on either side of a cut of a printable text: the laws of such cuts.
 use Rattle.std.specs.Prelude.{ℕ, ◌-◌, List, slice_index}
-use Rattle.textwrap_base.proofs.Common.{false≢true, ap}
+use Rattle.textwrap_text.proofs.Common.{false≢true, ap, IsPrintable, is_blank}
 use Rattle.std.proofs.lemmas.Bool.{and_parts, eqb-true, not-true}
 use Rattle.std.specs.Char.{is_ascii_alphanumeric}
-use Rattle.textwrap_words.proofs.Common.{IsPrintable, is_blank}
 use Rattle.textwrap_lines.specs.Printable.{AfterOthers, BeforeOthers}
 use Rattle.textwrap_unicode.proofs.PrintableCuts.{cut-after_other, cut-before_other}
 use Rattle.textwrap_unicode.specs.declared.numbers.Numbers.TheVariants.{ByExpression, ByPairs}

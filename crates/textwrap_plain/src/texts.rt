@@ -9,9 +9,9 @@ ghost use Rattle.textwrap.specs.Text.{ArePrintedWithin, CanKeepToWidth, IsWrappe
 ghost use Rattle.textwrap.specs.WrapAlgorithms.{Greedy};
 ghost use Rattle.textwrap_plain.specs.Options.{algorithm_of, DividesPlainly, settings_of, splitter_of};
 ghost use Rattle.textwrap_plain.specs.declared.options.PlainSeparator.TheVariants.{AtBlanks};
-ghost use Rattle.textwrap_lines.specs.LineEnding.{paragraphs_of};
-ghost use Rattle.textwrap_words.specs.Blanks.{without_final_blanks};
-ghost use Rattle.textwrap_words.specs.LentText.{as_len, written_over};
+ghost use Rattle.textwrap_text.specs.LineEnding.{paragraphs_of};
+ghost use Rattle.textwrap_text.specs.Blanks.{without_final_blanks};
+ghost use Rattle.textwrap_text.specs.LentText.{as_len, written_over};
 
 use crate::options::PlainOptions;
 use std::alloc::Global;
@@ -20,8 +20,9 @@ use textwrap::inner::{refill_built_in, wrap_columns_built_in};
 use textwrap::{LineEnding, WrapError};
 use textwrap_lines::inner::{fill_by, wrap_by};
 use textwrap_lines::parts::split_paragraph;
-use textwrap_words::blanks::split_final_blanks;
-use textwrap_words::inner::{LentText, is_printable};
+use textwrap_text::blanks::split_final_blanks;
+use textwrap_text::lent_text::LentText;
+use textwrap_text::printable::is_printable;
 
 /// Wraps a text and returns its lines, as `wrap` of `textwrap` does it.
 ///

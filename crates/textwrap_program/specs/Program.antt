@@ -5,7 +5,7 @@ use Rattle.textwrap_program.specs.Arguments.{algorithm_view}
 use Rattle.textwrap_program.specs.Filling.{WritesPrefix, Runs, fault_line}
 use Rattle.textwrap_program.specs.declared.arguments.FillRequest.{FillRequest}
 use Rattle.textwrap_program.specs.declared.filling.RunError.{RunError}
-pub use Rattle.textwrap_lines.specs.LineEnding.{line_feed}
+pub use Rattle.textwrap_text.specs.LineEnding.{line_feed}
 
 -- what a reader has left, and what two writers hold, where that is known
 pub record Streams : Type 0 where

@@ -10,9 +10,8 @@ use Rattle.textwrap_unicode.proofs.Common.{true, ◌&&◌, List, [], arith, char
 use Rattle.textwrap_unicode.proofs.Common.{not, ◌∷◌, refl, sym, ◌∙◌, ◌+◌, drop, ◌++◌, Unit, Text}
 use Rattle.textwrap_unicode.proofs.Common.{ap, ◌<◌, and}
 use Rattle.std.proofs.lemmas.List.{at_drop_more}
-use Rattle.textwrap_words.proofs.Units.Reading.{read-ahead, read-none, read-start}
-use Rattle.textwrap_words.proofs.Units.Reading.{IsRead, read-all}
-use Rattle.textwrap_base.proofs.Common.{chars-nil}
+use Rattle.textwrap_text.proofs.Units.Reading.{read-ahead, read-none, read-start, IsRead, read-all}
+use Rattle.textwrap_text.proofs.Common.{chars-nil}
 use Rattle.textwrap_unicode.specs.declared.breaks.LineBreak.{LineBreak}
 use Rattle.textwrap_unicode.specs.WordStarts.{plain_letter}
 use Rattle.textwrap_unicode.specs.declared.numbers.Numbers.TheVariants.{ByExpression}

@@ -1,5 +1,5 @@
 -- The breaks of a text are one list in order, and what is said of one place.
-use Rattle.textwrap_base.proofs.Texts.{some-bytes}
+use Rattle.textwrap_text.proofs.Texts.{some-bytes}
 use Rattle.textwrap_unicode.proofs.Common.{if◌then◌else◌, length-append, breaks_from, numbers_rule}
 use Rattle.textwrap_unicode.proofs.Common.{Mandatory, Prohibited, before_of, with_unit, verdict_by}
 use Rattle.textwrap_unicode.proofs.Common.{false, Numbers, is_empty, break_at, breaks_by, decide_by}
@@ -12,7 +12,7 @@ use Rattle.std.proofs.lemmas.Str.{length-le-encodes, encodes_same}
 use lib.Utf8.{encodes}
 use Rattle.textwrap_unicode.specs.declared.breaks.LineBreak.{LineBreak}
 use Rattle.textwrap_unicode.specs.Breaks.{AreBreaksBy, IsPlaceBy, IsEnd}
-use Rattle.textwrap_base.proofs.Lists.Elements.{IsInOrder, order-nil, order-cons, same-members}
+use Rattle.textwrap_text.proofs.Lists.Elements.{IsInOrder, order-nil, order-cons, same-members}
 use Rattle.textwrap_unicode.proofs.TextBreaks.{contains-break, spelled, before-place}
 use Rattle.std.specs.List.{Contains}
 

@@ -18,7 +18,7 @@ use Rattle.unicode.proofs.Facts.{Stepped-below}
 use Rattle.unicode.proofs.GeneralCategoryLemmas.{general_category_stepped}
 use Rattle.unicode.proofs.LineBreakLemmas.{line_break_stepped, line_break_number_injective}
 use Rattle.unicode.proofs.Stepped.{Stepped, map_stepped, zip_stepped}
-use Rattle.textwrap_words.proofs.Units.Texts.{passes-within}
+use Rattle.textwrap_text.proofs.Units.Texts.{passes-within}
 use Rattle.textwrap_unicode.specs.Classes.{is_unassigned, is_wide, resolve}
 use Rattle.textwrap_unicode.specs.declared.japanese.TheConstants.{SYLLABLES, WIDE}
 

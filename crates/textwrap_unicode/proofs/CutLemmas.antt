@@ -1,8 +1,10 @@
 -- The code that cuts a line at its breaks: where the pass over a line cuts it.
-use Rattle.textwrap_base.proofs.Common.{encode_utf8_all, cond, chars_from_encodes}
-use Rattle.textwrap_base.proofs.Common.{map-append, encodes-append, IsUtf8-append, encodes-chars}
-use Rattle.textwrap_base.proofs.Common.{All-weaker, flat_map, All, All-append, IsUtf8-nil}
-use Rattle.textwrap_base.proofs.Common.{IsUtf8, All-nil, All-cons, All-head, All-tail, cases_eq}
+use Rattle.textwrap_text.proofs.Common.{encode_utf8_all, cond, chars_from_encodes, map-append}
+use Rattle.textwrap_text.proofs.Common.{encodes-append, IsUtf8-append, encodes-chars, All-weaker}
+use Rattle.textwrap_text.proofs.Common.{flat_map, All, All-append, IsUtf8-nil, IsUtf8, All-nil}
+use Rattle.textwrap_text.proofs.Common.{All-cons, All-head, All-tail, cases_eq, characters}
+use Rattle.textwrap_text.proofs.Common.{TextUnit, Sequence, visible_of, visible_in, Visible}
+use Rattle.textwrap_text.proofs.Common.{next_of, shows, stripped, units}
 use Rattle.textwrap_unicode.proofs.Common.{length-append, cases_Bool, is_any_hyphen}
 use Rattle.textwrap_unicode.proofs.Common.{[], append_assoc, append-nil, breaks_after, numbers_rule}
 use Rattle.textwrap_unicode.proofs.Common.{nat_tests, Mandatory, Prohibited, breaks_by, decide_by}
@@ -12,18 +14,16 @@ use Rattle.textwrap_unicode.proofs.Common.{ne_eqb, ℕ, length, arith, false, en
 use Rattle.textwrap_unicode.proofs.Common.{◌≡◌, ◌++◌, ◌==◌, ◌&&◌, Bool, refl, subst, chars}
 use Rattle.textwrap_unicode.proofs.Common.{◌<◌, ◌∷◌, ◌∙◌, ◌≢◌, ◌+◌, ◌≤◌, not, map, inl, inr, sym}
 use Rattle.textwrap_unicode.proofs.Common.{and}
-use Rattle.textwrap_base.proofs.Texts.{some-bytes, utf8-front, utf8-back}
-use Rattle.textwrap_words.proofs.Common.{characters, VisibleEnd, TextUnit, is_cut_after}
-use Rattle.textwrap_words.proofs.Common.{Sequence, visible_of, ends_from, cuts_among, visible_in}
-use Rattle.textwrap_words.proofs.Common.{Visible, next_of, shows, stripped, units}
+use Rattle.textwrap_text.proofs.Texts.{some-bytes, utf8-front, utf8-back}
+use Rattle.textwrap_words.proofs.Common.{VisibleEnd, is_cut_after, ends_from, cuts_among}
 use Rattle.textwrap_words.proofs.Word.Offsets.{ends_past}
 use Rattle.textwrap_words.proofs.Word.Offsets.{end_of, ends_in, ends-step}
 use Rattle.textwrap_words.proofs.Word.Parts.{places-above, places_by}
 use Rattle.textwrap_unicode.specs.Cuts.{offsets_of, cuts_by}
-use Rattle.textwrap_words.proofs.Units.Texts.{units-tile}
-use Rattle.textwrap_words.proofs.Units.Reading.{units_in, IsRead, read-ahead, read-none, read-start}
-use Rattle.textwrap_words.specs.declared.escapes.State.{State}
-use Rattle.textwrap_words.specs.declared.escapes.State.TheVariants.{Text}
+use Rattle.textwrap_text.proofs.Units.Texts.{units-tile}
+use Rattle.textwrap_text.proofs.Units.Reading.{units_in, IsRead, read-ahead, read-none, read-start}
+use Rattle.textwrap_text.specs.declared.escapes.State.{State}
+use Rattle.textwrap_text.specs.declared.escapes.State.TheVariants.{Text}
 use Rattle.textwrap_unicode.proofs.BreakLemmas.{breaks_after-from}
 
 -- ---- the cuts that are ahead

@@ -6,7 +6,7 @@ use Rattle.textwrap_unicode.proofs.Common.{Bool, and_from, Mandatory, before_of,
 use Rattle.textwrap_unicode.proofs.Common.{true, Before, Numbers, Allowed, unit_of, is_mark, decide}
 use Rattle.textwrap_unicode.proofs.Common.{◌≡◌, ℕ, false, List, ◌++◌, refl, ◌&&◌, ◌||◌, Space, Unit}
 use Rattle.textwrap_unicode.proofs.Common.{◌↔◌, not, [], ◌∷◌, sym, ap, ◌∙◌}
-use Rattle.textwrap_base.proofs.Common.{◌⊎◌}
+use Rattle.textwrap_text.proofs.Common.{◌⊎◌}
 use Rattle.std.proofs.lemmas.Bool.{and_left}
 use Rattle.unicode.proofs.BreaksComputing.{ucd_breaks}
 use Rattle.unicode.specs.declared.properties.LineBreak.TheVariants.{CombiningMark, ClosePunctuation}

@@ -7,7 +7,7 @@ use Rattle.textwrap_unicode.proofs.Common.{add-one, is_blank, is_space, is_mark,
 use Rattle.textwrap_unicode.proofs.Common.{false, nat_lt, get_or, may_end, decide, Before, nothing}
 use Rattle.textwrap_unicode.proofs.Common.{◌==◌, ◌&&◌, ◌||◌, Bool, true, List, arith, subst, Space}
 use Rattle.textwrap_unicode.proofs.Common.{ℕ, ◌≤◌, not, ◌∷◌, refl, sym, ap, ◌∙◌, inl, inr, ◌+◌, and}
-use Rattle.textwrap_base.proofs.Common.{eqb-true, list_all}
+use Rattle.textwrap_text.proofs.Common.{eqb-true, list_all, IsPrintableByte}
 use Rattle.unicode.specs.LineBreak.{line_break_number}
 use Rattle.unicode.specs.declared.properties.LineBreak.TheVariants.{CloseParenthesis, PrefixNumeric}
 use Rattle.unicode.specs.declared.properties.LineBreak.TheVariants.{BreakSymbols, ClosePunctuation}
@@ -19,7 +19,6 @@ use Rattle.unicode.proofs.BreaksComputing.{ucd_breaks}
 use Rattle.unicode.proofs.CategoryComputing.{ucd_category}
 use Rattle.unicode.proofs.Facts.{Stepped-below}
 use Rattle.unicode.proofs.LineBreakLemmas.{line_break_number_injective}
-use Rattle.textwrap_words.proofs.Common.{IsPrintableByte}
 use Rattle.textwrap_unicode.specs.declared.pairs.TheConstants.{KINDS, UNUSUAL_AFTER}
 use Rattle.textwrap_unicode.specs.ClassSets.{is_regional_indicator}
 use Rattle.textwrap_unicode.specs.ClassSets.{is_hebrew, is_zwj}

@@ -9,20 +9,20 @@ use Rattle.textwrap_unicode.proofs.Common.{false, length, get_or, encode, ByPair
 use Rattle.textwrap_unicode.proofs.Common.{true, List, take, refl, arith, [], subst, Before, decide}
 use Rattle.textwrap_unicode.proofs.Common.{◌≡◌, ℕ, suc, ◌+◌, ◌-◌, ◌<◌, ◌&&◌, Bool, ◌++◌, drop, ◌==◌}
 use Rattle.textwrap_unicode.proofs.Common.{◌≤◌, inl, inr, sym, ◌∙◌, not, ◌∷◌, map, and}
-use Rattle.textwrap_base.proofs.Common.{length-take-le, false_from_ne_true, is_ascii_alphanumeric}
-use Rattle.textwrap_base.proofs.Common.{get_or-drop, get_or-take, chars-IsAscii, IsUtf8-from_ascii}
-use Rattle.textwrap_base.proofs.Common.{add-zero, length-drop, eqb-true, false≢true}
+use Rattle.textwrap_text.proofs.Common.{length-take-le, false_from_ne_true, is_ascii_alphanumeric}
+use Rattle.textwrap_text.proofs.Common.{get_or-drop, get_or-take, chars-IsAscii, IsUtf8-from_ascii}
+use Rattle.textwrap_text.proofs.Common.{add-zero, length-drop, eqb-true, false≢true, IsPrintable}
+use Rattle.textwrap_text.proofs.Common.{trimmed_len, IsPrintableByte, Visible, is_cut}
 use Rattle.unicode.specs.declared.properties.LineBreak.TheVariants.{Unknown, OpenPunctuation}
-use Rattle.textwrap_words.proofs.Common.{IsPrintable, trimmed_len, IsPrintableByte, parts_between}
-use Rattle.textwrap_words.proofs.Common.{ends_from, Visible, is_cut, word_of, words_of}
+use Rattle.textwrap_words.proofs.Common.{parts_between, ends_from, word_of, words_of}
 use Rattle.textwrap_words.proofs.Word.Texts.{final_blanks-blank, trimmed-other}
 use Rattle.textwrap_unicode.specs.Pairs.{at_breaks, is_cut_behind, printable_cut, IsCutAtBlanks}
 use Rattle.textwrap_unicode.proofs.PrintableBytes.{is_among, past_classes, byte-first, unusual-bits}
 use Rattle.textwrap_unicode.proofs.PrintableBytes.{told, byte-step, IsBehind, past-more, cut-behind}
 use Rattle.std.proofs.lemmas.Str.{encode_ascii}
-use Rattle.textwrap_words.proofs.Units.Reading.{printable-ascii, units-printable}
+use Rattle.textwrap_text.proofs.Units.Reading.{printable-ascii, units-printable}
 use Rattle.textwrap_words.proofs.Word.Offsets.{ends_in}
-use Rattle.textwrap_words.specs.declared.escapes.State.TheVariants.{Text}
+use Rattle.textwrap_text.specs.declared.escapes.State.TheVariants.{Text}
 use Rattle.textwrap_unicode.specs.Cuts.{unicode_cuts}
 use Rattle.textwrap_unicode.proofs.CutLemmas.{IsCutting-start, cuts_ahead, place-found}
 use Rattle.textwrap_words.proofs.Word.Parts.{byte-inside, parts_between-places, parts-chunks}

@@ -7,8 +7,8 @@ use Rattle.textwrap_unicode.proofs.Common.{false, length, subst, encode, Allowed
 use Rattle.textwrap_unicode.proofs.Common.{Bool, true, List, ◌++◌, refl, take, arith, chars}
 use Rattle.textwrap_unicode.proofs.Common.{◌≡◌, inl, inr, ◌∷◌, map, sym, ◌∙◌, ◌≢◌, ◌+◌, Unit, Text}
 use Rattle.textwrap_unicode.proofs.Common.{[], ap, ◌↔◌, ◌<◌, ◌≤◌}
-use Rattle.textwrap_base.proofs.Common.{encodes-append, encodes-chars, IsCharBoundary-from_take}
-use Rattle.textwrap_base.proofs.Common.{◌⊎◌, map-append, chars-nil}
+use Rattle.textwrap_text.proofs.Common.{encodes-append, encodes-chars, IsCharBoundary-from_take}
+use Rattle.textwrap_text.proofs.Common.{◌⊎◌, map-append, chars-nil}
 use Rattle.std.specs.List.{fold, Contains}
 use Rattle.std.proofs.lemmas.List.{append-nil}
 use Rattle.std.proofs.lemmas.List.Sums.{fold-append}
@@ -19,8 +19,8 @@ use Rattle.std.proofs.lemmas.List.Elements.{Contains-append_right, Contains-appe
 use Rattle.std.proofs.lemmas.List.Elements.{Contains-append_left}
 use Rattle.std.proofs.lemmas.Str.{length-le-encodes}
 use Rattle.textwrap_unicode.specs.declared.breaks.LineBreak.{LineBreak}
-use Rattle.textwrap_base.proofs.Texts.{utf8-front}
-use Rattle.textwrap_base.proofs.Lists.Elements.{contains-cases, contains-here, contains-nil}
+use Rattle.textwrap_text.proofs.Texts.{utf8-front}
+use Rattle.textwrap_text.proofs.Lists.Elements.{contains-cases, contains-here, contains-nil}
 use Rattle.std.specs.Str.{IsCharBoundary}
 use Rattle.std.proofs.Math.Seq.{take-append_seam}
 

@@ -7,7 +7,7 @@ use Rattle.textwrap_unicode.proofs.Common.{◌-◌, ◌<◌, ◌↔◌, not, Lis
 use Rattle.textwrap_unicode.proofs.Common.{ℕ, ap, inr}
 use Rattle.std.proofs.Math.Bool.{and-true}
 use Rattle.std.proofs.lemmas.Bool.{or_parts}
-use Rattle.textwrap_words.proofs.Common.{IsPrintable}
+use Rattle.textwrap_text.proofs.Common.{IsPrintable}
 use Rattle.textwrap_unicode.specs.ClassSets.{is_quotation}
 use Rattle.textwrap_unicode.specs.Pairs.{at_breaks}
 use Rattle.textwrap_unicode.proofs.PrintableCuts.{past-blank, past-byte, space-at, cut-told}

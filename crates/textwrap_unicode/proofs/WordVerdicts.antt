@@ -9,7 +9,7 @@ use Rattle.textwrap_unicode.proofs.Common.{subst, length, Before, Numbers, ByPai
 use Rattle.textwrap_unicode.proofs.Common.{◌≡◌, zero, ◌&&◌, List, ◌++◌, arith, Space, chars, encode}
 use Rattle.textwrap_unicode.proofs.Common.{suc, ◌+◌, ◌<◌, refl, ◌==◌, ◌||◌, Bool, true, drop, Unit}
 use Rattle.textwrap_unicode.proofs.Common.{ℕ, [], ◌∷◌, sym, ap, ◌∙◌, cases_Bool, ◌≤◌, ◌*◌, and}
-use Rattle.textwrap_base.proofs.Common.{add-zero, eqb, drop_more, length-encode}
+use Rattle.textwrap_text.proofs.Common.{add-zero, eqb, drop_more, length-encode, visible_in}
 use Rattle.textwrap_unicode.specs.ClassSets.{is_infix, is_letter}
 use Rattle.textwrap_unicode.specs.WordStarts.{IsWordClass}
 use Rattle.unicode.specs.declared.properties.LineBreak.TheVariants.{InfixNumeric}
@@ -18,9 +18,8 @@ use Rattle.textwrap_unicode.specs.BreaksLeft.{and_words}
 use Rattle.textwrap_unicode.proofs.BreakLemmas.{in_word}
 use Rattle.textwrap_unicode.proofs.ClassLemmas.{ascii-unit}
 use Rattle.std.proofs.lemmas.Str.{encode_ascii}
-use Rattle.textwrap_words.proofs.Common.{visible_in}
-use Rattle.textwrap_words.proofs.Units.Reading.{plain-step}
-use Rattle.textwrap_words.specs.declared.escapes.State.TheVariants.{Text}
+use Rattle.textwrap_text.proofs.Units.Reading.{plain-step}
+use Rattle.textwrap_text.specs.declared.escapes.State.TheVariants.{Text}
 use Rattle.textwrap_unicode.proofs.CutLemmas.{IsCutting, IsCutting-step}
 use Rattle.std.specs.Char.{len_utf8}
 use Rattle.textwrap_unicode.specs.Ideographs.{IsCommonIdeograph, wide_ideograph}

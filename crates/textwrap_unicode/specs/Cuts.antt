@@ -1,6 +1,6 @@
 -- Where a line is cut into words at the places where it may end.
 use Rattle.std.specs.Prelude.{ℕ, Bool, true, false, List, map}
-use Rattle.textwrap_words.specs.Units.{stripped}
+use Rattle.textwrap_text.specs.Units.{stripped}
 use Rattle.textwrap_words.specs.WordOffsets.{cuts_at}
 use Rattle.textwrap_unicode.specs.declared.breaks.LineBreak.{LineBreak}
 use Rattle.textwrap_unicode.specs.declared.numbers.Numbers.{Numbers}

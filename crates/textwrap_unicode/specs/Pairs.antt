@@ -4,7 +4,7 @@ use Rattle.std.specs.Prelude.{List, length, slice_index, if◌then◌else◌}
 use Rattle.std.specs.List.{list_any}
 use Rattle.unicode.specs.declared.properties.LineBreak.{LineBreak}
 use Rattle.unicode.specs.declared.properties.LineBreak.TheVariants.{Unknown}
-use Rattle.textwrap_words.specs.Units.{IsPrintable}
+use Rattle.textwrap_text.specs.Units.{IsPrintable}
 use Rattle.textwrap_words.specs.WordOffsets.{is_any_hyphen}
 use Rattle.textwrap_words.specs.Words.{is_cut}
 use Rattle.textwrap_unicode.specs.declared.before.Before.{Before}

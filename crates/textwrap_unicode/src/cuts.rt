@@ -3,7 +3,7 @@ ghost use Rattle.std.specs.Prelude.{◌≡◌, ℕ, ◌+◌, ◌*◌, ◌^◌, �
 ghost use Rattle.std.specs.Prelude.{if◌then◌else◌, length, slice_index, IsCharBoundary};
 ghost use Rattle.textwrap_unicode.specs.BreaksLeft.{and};
 ghost use Rattle.textwrap_unicode.specs.Rules.{decide_by, numbers_rule};
-ghost use Rattle.textwrap_words.specs.Escapes.{visible_in};
+ghost use Rattle.textwrap_text.specs.Escapes.{visible_in};
 ghost use Rattle.textwrap_unicode.specs.Cuts.{cuts_by, may_end, unicode_cuts};
 ghost use Rattle.textwrap_unicode.specs.WordStarts.{IsPlainLetter, IsWordByte, IsWordClass};
 ghost use Rattle.textwrap_unicode.specs.WordStarts.{is_behind_blank, is_behind_sign, word_starts};
@@ -21,7 +21,7 @@ use crate::classes::{Unit, is_common_ideograph};
 use crate::numbers::{Numbers, decide_among_visible};
 use crate::rules::Verdict;
 use std::alloc::{AllocError, Global};
-use textwrap_words::escapes::State;
+use textwrap_text::escapes::State;
 use unicode::properties::LineBreak;
 
 /// Where a line is cut into words, by the Unicode line breaking algorithm

@@ -1,14 +1,14 @@
 //! Numbers, which LB25 keeps together in one of two ways.
 ghost use Rattle.std.specs.Prelude.{◌≡◌, chars, drop, IsCharBoundary};
-ghost use Rattle.textwrap_words.specs.Escapes.{visible_in};
+ghost use Rattle.textwrap_text.specs.Escapes.{visible_in};
 ghost use Rattle.textwrap_unicode.specs.Rules.{decide_by, number_first, numbers_rule};
 
 use crate::before::Before;
 use crate::class_sets::{is_mark, is_number};
 use crate::classes::{Unit, class_of};
 use crate::rules::{Verdict, asks_behind, decide, decide_by_expression};
-use textwrap_words::escapes::State;
-use textwrap_words::inner::Characters;
+use textwrap_text::characters::Characters;
+use textwrap_text::escapes::State;
 
 /// How numbers are kept together: the two forms of LB25 in the annex at Unicode 15.0.
 #[derive(Clone, Copy, Debug, PartialEq, Eq)]

@@ -3,7 +3,7 @@
 ghost use Rattle.std.specs.Prelude.{◌≡◌, ◌↔◌, ℕ, ◌+◌, ◌-◌, ◌<◌, ◌≤◌, true, false, IsTrue};
 ghost use Rattle.std.specs.Prelude.{length, map, slice_index};
 ghost use Rattle.textwrap_words.specs.Cuts.{parts_between};
-ghost use Rattle.textwrap_words.specs.Units.{IsPrintable, IsPrintableByte};
+ghost use Rattle.textwrap_text.specs.Units.{IsPrintable, IsPrintableByte};
 ghost use Rattle.textwrap_words.specs.Words.{word_of, words_of};
 ghost use Rattle.textwrap_unicode.specs.Cuts.{unicode_cuts};
 ghost use Rattle.textwrap_unicode.specs.Pairs.{at_breaks, class_past_blanks, is_unusual};
@@ -11,8 +11,8 @@ ghost use Rattle.textwrap_unicode.specs.Pairs.{may_follow_blanks, IsCutAtBlanks,
 
 use crate::ascii::CLASSES;
 use crate::class_sets::{is_after_text, is_opening};
-use textwrap_words::blanks::trimmed_len;
-use textwrap_words::inner::is_printable;
+use textwrap_text::blanks::trimmed_len;
+use textwrap_text::printable::is_printable;
 use unicode::properties::LineBreak;
 
 /// How many bytes are looked at together.

@@ -13,4 +13,3 @@ pub mod SplitParts
 pub mod Splitting
 pub mod Texts
 pub mod Words
-pub mod Chunks

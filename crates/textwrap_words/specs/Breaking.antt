@@ -2,8 +2,8 @@
 use Rattle.std.specs.Prelude.{◌≡◌, ◌≢◌, ℕ, ◌+◌, ◌<◌, ◌≤◌, Bool, false, nat_lt, ◌&&◌, List, [], ◌∷◌}
 use Rattle.std.specs.Prelude.{◌++◌, All, map, if◌then◌else◌, chars, encode_utf8_all, ⊤}
 use Rattle.std.specs.List.{flat_map, onto_first}
-use Rattle.textwrap_words.specs.Units.{TextUnit, Visible, characters, columns, units, unit_width}
-use Rattle.textwrap_words.specs.Units.{Sequence, units_width}
+use Rattle.textwrap_text.specs.Units.{TextUnit, Visible, characters, columns, units, unit_width}
+use Rattle.textwrap_text.specs.Units.{Sequence, units_width}
 use Rattle.textwrap_words.specs.Words.{WordText, word_view, piece}
 use Rattle.textwrap_words.specs.declared.words.breaking.BreakApart.{BreakApart}
 

@@ -6,7 +6,7 @@ use Rattle.textwrap_words.specs.Cuts.{AreCuts}
 use Rattle.textwrap_words.specs.WordOffsets.{AreWordsAt, words_at}
 use Rattle.textwrap_words.specs.WordSplitters.{Splitter, points_of, split_pieces, split_words}
 use Rattle.textwrap_words.specs.Words.{WordText, tile_of, tiled, AreWordsOf, words_of}
-pub use Rattle.textwrap_words.specs.TextLaws.{ReaderShowsVisible, TextsAreNarrow, UnitsAreUnique}
+pub use Rattle.textwrap_text.specs.Laws.{ReaderShowsVisible, TextsAreNarrow, UnitsAreUnique}
 pub use Rattle.textwrap_base.specs.Laws.{GreedyDivisionIsUnique, ChosenDivisionIsUnique}
 pub use Rattle.textwrap_base.specs.Laws.{TableDivisionIsUnique, TableOverflowIsOverflow}
 pub use Rattle.textwrap_base.specs.Laws.{TableHasLeastCosts}

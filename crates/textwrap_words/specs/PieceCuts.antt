@@ -3,7 +3,7 @@
 use Rattle.std.specs.Prelude.{◌≡◌, ℕ, ◌+◌, ◌-◌, ◌<◌, ◌≤◌, Bool, true, false, ◌||◌, List, [], ◌∷◌}
 use Rattle.std.specs.Prelude.{drop, length, map, if◌then◌else◌, slice_index}
 use Rattle.std.specs.List.{onto_first}
-use Rattle.textwrap_words.specs.Blanks.{is_blank}
+use Rattle.textwrap_text.specs.Blanks.{is_blank}
 use Rattle.textwrap_words.specs.Breaking.{broken_words}
 use Rattle.textwrap_words.specs.WordSplitters.{Splitter, Whole, AtHyphens, is_hyphen_point}
 use Rattle.textwrap_words.specs.Words.{WordText, is_cut, word_of}

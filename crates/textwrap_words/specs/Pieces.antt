@@ -1,10 +1,10 @@
 -- Pieces by where they stand in a text, and how the first of them is found.
 use Rattle.std.specs.Prelude.{◌≡◌, ◌≢◌, ℕ, ◌+◌, ◌<◌, ◌≤◌, Bool, true, false, ◌&&◌, ◌||◌}
 use Rattle.std.specs.Prelude.{List, [], ◌∷◌, length, slice_index, slice_range, IsCharBoundary}
-use Rattle.textwrap_words.specs.Blanks.{blank, is_blank, BlanksBetween, trimmed_len}
+use Rattle.textwrap_text.specs.Blanks.{blank, is_blank, BlanksBetween, trimmed_len}
 use Rattle.textwrap_words.specs.Breaking.{broken_texts}
 use Rattle.textwrap_words.specs.PieceCuts.{is_point, pieces_from_place, pieces_within}
-use Rattle.textwrap_words.specs.Units.{IsPrintableByte, text_width}
+use Rattle.textwrap_text.specs.Units.{IsPrintableByte, text_width}
 use Rattle.textwrap_words.specs.WordSplitters.{hyphen, Splitter, Whole, AtHyphens}
 use Rattle.textwrap_words.specs.Words.{WordText}
 use Rattle.textwrap_words.specs.declared.pieces.BuiltInSplitter.{BuiltInSplitter}

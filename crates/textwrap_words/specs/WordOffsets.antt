@@ -5,7 +5,7 @@ use Rattle.std.specs.Prelude.{chars, encode_utf8, encode_utf8_all}
 use Rattle.std.specs.List.{flat_map, list_any, Contains}
 use Rattle.std.specs.List.Sorted.{IsStrictlyIncreasing}
 use Rattle.textwrap_words.specs.Breaking.{units_text}
-use Rattle.textwrap_words.specs.Units.{TextUnit, Visible, Sequence, units, visible_of, stripped}
+use Rattle.textwrap_text.specs.Units.{TextUnit, Visible, Sequence, units, visible_of, stripped}
 use Rattle.textwrap_words.specs.Words.{WordText, word_of}
 use Rattle.textwrap_words.specs.Cuts.{parts_between}
 use Rattle.textwrap_words.specs.WordSplitters.{hyphen}

@@ -4,7 +4,7 @@ use Rattle.std.specs.Prelude.{chars, drop, filter, if◌then◌else◌, length, 
 use Rattle.std.specs.Prelude.{take, Option, Some, None, Ok}
 use Rattle.std.specs.List.{flat_map, range_with_len}
 use Rattle.textwrap_words.specs.Words.{piece, WordText}
-use Rattle.textwrap_base.specs.Lists.{last}
+use Rattle.textwrap_text.specs.Lists.{last}
 use Rattle.unicode.specs.GeneralCategory.{general_category}
 use Rattle.unicode.specs.GeneralCategoryGroup.{in_group}
 use Rattle.unicode.specs.declared.properties.GeneralCategoryGroup.TheVariants.{Number}

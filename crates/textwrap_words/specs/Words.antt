@@ -1,10 +1,10 @@
 -- Words by their texts: what a text is as a word, and the words of a line.
 use Rattle.std.specs.Prelude.{◌≡◌, ℕ, List, [], length, map}
 use Rattle.std.specs.List.{flat_map}
-use Rattle.textwrap_words.specs.Blanks.{without_final_blanks, final_blanks}
+use Rattle.textwrap_text.specs.Blanks.{without_final_blanks, final_blanks}
 use Rattle.textwrap_base.specs.Sizes.{Sizes}
-use Rattle.textwrap_words.specs.Units.{text_width}
-pub use Rattle.textwrap_words.specs.Chunks.{AreChunks, AreCutApart, IsUncut, chunks, is_cut}
+use Rattle.textwrap_text.specs.Units.{text_width}
+pub use Rattle.textwrap_text.specs.Chunks.{AreChunks, AreCutApart, IsUncut, chunks, is_cut}
 use Rattle.textwrap_words.specs.declared.words.Word.{Word}
 
 -- a word by its bytes, and its columns

@@ -2,7 +2,7 @@
 //! words.
 ghost use Rattle.std.specs.Prelude.{◌≡◌, ◌-◌, ◌<◌, ◌≤◌, false, ◌++◌, [], ◌∷◌, length, map, slice_range};
 ghost use Rattle.std.specs.Prelude.{if◌then◌else◌, IsCharBoundary};
-ghost use Rattle.textwrap_words.specs.Blanks.{trimmed_len};
+ghost use Rattle.textwrap_text.specs.Blanks.{trimmed_len};
 ghost use Rattle.textwrap_words.specs.Breaking.{broken_words};
 ghost use Rattle.std.proofs.Props.{props};
 ghost use Rattle.textwrap_words.specs.Cuts.{AreInnerCuts, AreLaterCuts, AreNext-prop, parts_after};
@@ -11,8 +11,8 @@ ghost use Rattle.textwrap_words.specs.Pieces.{as_splitter, empty_front, stand_fr
 ghost use Rattle.textwrap_words.specs.WordSplitters.{split_words};
 ghost use Rattle.textwrap_words.specs.Words.{word_of};
 
-use crate::blanks::trimmed_len;
 use crate::pieces::{BuiltInSplitter, Piece, letters_len, read_on};
+use textwrap_text::blanks::trimmed_len;
 
 /// The pieces of a text whose words end at given cuts, one after another: its words, split, and broken
 /// where they are wider than a limit. Unlike words between blanks these may have blanks inside.

@@ -2,12 +2,8 @@
 ghost use Rattle.std.specs.Prelude.{◌≡◌};
 ghost use Rattle.textwrap_words.specs.Words.{words_of};
 
-pub use crate::characters::{Character, Characters, columns};
-pub use crate::chunks::Chunks;
 pub use crate::cut_pieces::CutPieces;
-pub use crate::lent_text::LentText;
 pub use crate::pieces::{BuiltInSplitter, Piece, Pieces, next_piece};
-pub use crate::printable::is_printable;
 use crate::word_separators::Words;
 pub use crate::word_separators::words::words_between;
 pub use crate::word_splitters::cut_lines::{given_cuts, split_at_cuts};

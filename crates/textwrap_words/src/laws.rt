@@ -8,11 +8,11 @@ ghost use Rattle.textwrap_words.specs.Laws.{BrokenPiecesAreUnique, BrokenTextsTi
 ghost use Rattle.textwrap_words.specs.Laws.{BrokenPiecesTile, BrokenWordsTile, PointsAreCuts};
 ghost use Rattle.textwrap_words.specs.Laws.{SplitPiecesTile, SplitWordsTile};
 
-pub use crate::text_laws::{reader_shows_visible, texts_are_narrow, units_are_unique};
 pub use textwrap_base::laws::{
     chosen_division_is_unique, greedy_division_is_unique, table_division_is_unique,
     table_has_least_costs, table_overflow_is_overflow,
 };
+pub use textwrap_text::laws::{reader_shows_visible, texts_are_narrow, units_are_unique};
 
 /// A line has exactly one list of words: it is cut between a blank and a byte that is none, and
 /// nowhere else. It is what `words_of` gives.

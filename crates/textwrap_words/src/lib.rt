@@ -3,18 +3,10 @@
 //! `blanks`, `escapes` and `inner`. The modules and their items have the examples.
 #![tactic(auto)]
 
-pub mod blanks;
-mod characters;
-mod chunks;
 mod cut_pieces;
-pub mod escapes;
 pub mod inner;
 pub mod laws;
-mod lent_text;
 mod pieces;
-mod printable;
-mod text_laws;
-mod widths;
 pub mod word_separators;
 pub mod word_splitters;
 pub mod words;

@@ -1,7 +1,7 @@
 //! The pieces of a text by where they stand in it, without a list of words.
 ghost use Rattle.std.specs.Prelude.{◌≡◌, ◌≢◌, ℕ, ◌+◌, ◌<◌, ◌≤◌, true, false, ◌++◌, [], length};
 ghost use Rattle.std.specs.Prelude.{slice_index, nat_lt, ◌&&◌, ◌∷◌, if◌then◌else◌, IsCharBoundary};
-ghost use Rattle.textwrap_words.specs.Blanks.{blank, is_blank};
+ghost use Rattle.textwrap_text.specs.Blanks.{blank, is_blank};
 ghost use Rattle.textwrap_words.specs.Breaking.{broken_words};
 ghost use Rattle.textwrap_words.specs.PieceCuts.{is_point, pieces_from_place};
 ghost use Rattle.textwrap_words.specs.Pieces.{as_splitter, stand_from, empty_front};
@@ -9,10 +9,10 @@ ghost use Rattle.textwrap_words.specs.Pieces.{is_stop, IsFirstStop, IsFirstWord,
 ghost use Rattle.textwrap_words.specs.WordSplitters.{split_words};
 ghost use Rattle.textwrap_words.specs.Words.{words_of};
 
-use crate::blanks::blanks_end;
-use crate::characters::columns;
-use crate::escapes::State;
 use crate::word_splitters::hyphens::is_hyphen_point;
+use textwrap_text::blanks::blanks_end;
+use textwrap_text::characters::columns;
+use textwrap_text::escapes::State;
 
 /// Where a piece of a text stands. It begins where the one before it ends.
 #[derive(Clone, Copy, Debug)]

@@ -3,11 +3,11 @@
 ghost use Rattle.std.specs.Prelude.{◌≡◌};
 ghost use Rattle.textwrap_words.specs.Words.{word_view, sizes_of, word_of};
 
-use crate::blanks::split_final_blanks;
-pub use crate::widths::{display_width, strip_ansi_escape_sequences};
 pub use breaking::{BreakApart, break_words};
 pub use textwrap_base::Fragment;
 use textwrap_base::Penalties;
+use textwrap_text::blanks::split_final_blanks;
+pub use textwrap_text::widths::{display_width, strip_ansi_escape_sequences};
 
 pub(crate) mod breaking;
 

@@ -1,14 +1,15 @@
 -- A part that is filled in place word by word: the line so far, and the blanks that become line
 -- feeds.
-use Rattle.textwrap_base.proofs.Common.{◌≡◌, ◌≢◌, ℕ, ◌+◌, ◌<◌, ◌≤◌, List, [], ◌∷◌, ◌++◌, All}
-use Rattle.textwrap_base.proofs.Common.{length, map, arith, append-nil, length-append, All-nil}
-use Rattle.textwrap_base.proofs.Common.{All-cons, All-head, All-tail, closed_width, open_width}
-use Rattle.textwrap_base.proofs.Common.{rules, ◌-◌, sym, ap, subst, append_assoc, Fits, IsGreedy}
+use Rattle.textwrap_text.proofs.Common.{◌≡◌, ◌≢◌, ℕ, ◌+◌, ◌<◌, ◌≤◌, List, [], ◌∷◌, ◌++◌, All}
+use Rattle.textwrap_text.proofs.Common.{length, map, arith, append-nil, length-append, All-nil}
+use Rattle.textwrap_text.proofs.Common.{All-cons, All-head, All-tail, rules, ◌-◌, sym, ap, subst}
+use Rattle.textwrap_text.proofs.Common.{append_assoc}
+use Rattle.textwrap_base.proofs.Common.{closed_width, open_width, Fits, IsGreedy}
 use Rattle.textwrap_words.proofs.Common.{WordText, sizes_of, tile_of, tiled, word_of, words_of}
 use Rattle.textwrap.proofs.Common.{FitsOneLine, breaks_of}
 use Rattle.textwrap_base.proofs.Division.Greedy.{closed_width-push, open_width-append}
 use Rattle.textwrap_base.proofs.Division.Greedy.{line_width-one}
-use Rattle.textwrap_base.proofs.Lists.Parts.{some_from_nonempty}
+use Rattle.textwrap_text.proofs.Lists.Parts.{some_from_nonempty}
 use Rattle.textwrap_words.proofs.Word.Words.{HasNoPenalty, tiled-append, tiled-words_of}
 use Rattle.textwrap_words.proofs.Word.Words.{words_unique, tiled-push}
 use Rattle.textwrap_lines.proofs.Paragraph.LeftOff.{tiled-word_of}

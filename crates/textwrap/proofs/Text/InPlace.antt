@@ -1,26 +1,27 @@
 -- Texts that are filled in place: only blanks change, to line feeds in their places.
-use Rattle.textwrap_base.proofs.Common.{◌≡◌, ℕ, ◌<◌, List, [], ◌∷◌, ◌++◌, length, refl, sym, ap}
-use Rattle.textwrap_base.proofs.Common.{◌∙◌, arith, append_assoc, append-nil, length-append}
-use Rattle.textwrap_base.proofs.Common.{flat_map, rules, ◌+◌, Bor, Option, None, Some, length_push}
-use Rattle.textwrap_base.proofs.Common.{IsGreedy, ◌≤◌, All, All-nil, All-cons, All-append, ◌-◌}
-use Rattle.textwrap_base.proofs.Common.{zero, suc, ◌⊎◌, inl, inr, subst, IsUtf8-append}
-use Rattle.textwrap_base.proofs.Common.{IsUtf8-from_ascii, IsUtf8, IsAscii}
-use Rattle.textwrap_words.proofs.Common.{blank, WordText, tiled, sizes_of, words_of}
-use Rattle.textwrap_lines.proofs.Common.{join_with, line_feed, paragraphs_of, ending_bytes}
+use Rattle.textwrap_text.proofs.Common.{◌≡◌, ℕ, ◌<◌, List, [], ◌∷◌, ◌++◌, length, refl, sym, ap}
+use Rattle.textwrap_text.proofs.Common.{◌∙◌, arith, append_assoc, append-nil, length-append}
+use Rattle.textwrap_text.proofs.Common.{flat_map, rules, ◌+◌, Bor, Option, None, Some, length_push}
+use Rattle.textwrap_text.proofs.Common.{◌≤◌, All, All-nil, All-cons, All-append, ◌-◌, zero, suc}
+use Rattle.textwrap_text.proofs.Common.{◌⊎◌, inl, inr, subst, IsUtf8-append, IsUtf8-from_ascii}
+use Rattle.textwrap_text.proofs.Common.{IsUtf8, IsAscii, blank, join_with, line_feed, paragraphs_of}
+use Rattle.textwrap_text.proofs.Common.{ending_bytes}
+use Rattle.textwrap_base.proofs.Common.{IsGreedy}
+use Rattle.textwrap_words.proofs.Common.{WordText, tiled, sizes_of, words_of}
 use Rattle.textwrap.proofs.Common.{broken_lines, AreDividedAt, breaks_of, breaks_from}
 use Rattle.textwrap.proofs.Common.{with_line_feeds, IsFilledInPlace}
-use Rattle.textwrap_base.proofs.Lists.Parts.{flat}
+use Rattle.textwrap_text.proofs.Lists.Parts.{flat}
 use Rattle.textwrap_words.proofs.Word.Words.{tiled-append}
 use Rattle.textwrap_lines.proofs.Text.Paragraphs.{join_with-cons, parts_past-some}
 use Rattle.textwrap_lines.proofs.Text.Paragraphs.{join-paragraphs_of}
 use Rattle.textwrap_lines.proofs.Paragraph.Covered.{shortened, AreLinesApart, IsBroken}
 use Rattle.textwrap_lines.proofs.Paragraph.Covered.{IsBroken-greedy}
 use Rattle.std.proofs.lemmas.Grind.{common_steps}
-use Rattle.textwrap_lines.specs.declared.line_ending.LineEnding.TheVariants.{LF}
+use Rattle.textwrap_text.specs.declared.line_ending.LineEnding.TheVariants.{LF}
 use Rattle.textwrap_lines.proofs.Text.Lines.{paragraphs_left, bytes_left}
 use Rattle.std.proofs.Common.{set}
 use Rattle.std.proofs.lemmas.List.{set_at}
-use Rattle.textwrap_base.proofs.Texts.{ascii_seam}
+use Rattle.textwrap_text.proofs.Texts.{ascii_seam}
 use Rattle.textwrap.specs.InPlace.{OnlyBlanksChange}
 
 -- ---- the lines of a part in a row, joined by blanks and by line feeds

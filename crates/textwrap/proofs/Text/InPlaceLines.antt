@@ -1,24 +1,24 @@
 -- The lines of a text that is filled in place are lines of the wrapped text.
-use Rattle.textwrap_base.proofs.Common.{◌≡◌, ◌≢◌, ℕ, ◌<◌, List, [], ◌∷◌, ◌++◌, All, length, refl}
-use Rattle.textwrap_base.proofs.Common.{sym, ◌∙◌, subst, arith, append_assoc, flat_map, All-nil}
-use Rattle.textwrap_base.proofs.Common.{All-cons, All-head, All-tail, All-append, rules, Bool, true}
-use Rattle.textwrap_base.proofs.Common.{false, map, ap, reverse-append, take-append-le, length_push}
-use Rattle.textwrap_base.proofs.Common.{All-map, ◌≤◌, ◌||◌, nat_lt, IsUtf8, and_parts, ltb-true}
-use Rattle.textwrap_base.proofs.Common.{map-append, line_width, closed_width, IsGreedy, suc}
-use Rattle.textwrap_base.proofs.Common.{append-nil, length-append}
-use Rattle.textwrap_words.proofs.Common.{blank, WordText, trimmed_len, without_final_blanks, tiled}
-use Rattle.textwrap_words.proofs.Common.{word_of, chunks, AreWordsOf, sizes_of, words_of, Greedy}
-use Rattle.textwrap_words.proofs.Common.{Whole}
-use Rattle.textwrap_lines.proofs.Common.{ending_bytes, paragraphs_of, join_with, Line, Slice}
-use Rattle.textwrap_lines.proofs.Common.{line_from, covered, indent_of, parts_of, parts_from}
-use Rattle.textwrap_lines.proofs.Common.{LineParts, is_whole, pieces_of, widths_of, DividesAs}
-use Rattle.textwrap_lines.proofs.Common.{AreParagraphParts, AreGroups, AreTextLines}
+use Rattle.textwrap_text.proofs.Common.{◌≡◌, ◌≢◌, ℕ, ◌<◌, List, [], ◌∷◌, ◌++◌, All, length, refl}
+use Rattle.textwrap_text.proofs.Common.{sym, ◌∙◌, subst, arith, append_assoc, flat_map, All-nil}
+use Rattle.textwrap_text.proofs.Common.{All-cons, All-head, All-tail, All-append, rules, Bool, true}
+use Rattle.textwrap_text.proofs.Common.{false, map, ap, reverse-append, take-append-le, length_push}
+use Rattle.textwrap_text.proofs.Common.{All-map, ◌≤◌, ◌||◌, nat_lt, IsUtf8, and_parts, ltb-true}
+use Rattle.textwrap_text.proofs.Common.{map-append, suc, append-nil, length-append, blank}
+use Rattle.textwrap_text.proofs.Common.{trimmed_len, without_final_blanks, chunks, ending_bytes}
+use Rattle.textwrap_text.proofs.Common.{paragraphs_of, join_with}
+use Rattle.textwrap_base.proofs.Common.{line_width, closed_width, IsGreedy}
+use Rattle.textwrap_words.proofs.Common.{WordText, tiled, word_of, AreWordsOf, sizes_of, words_of}
+use Rattle.textwrap_words.proofs.Common.{Greedy, Whole}
+use Rattle.textwrap_lines.proofs.Common.{Line, Slice, line_from, covered, indent_of, parts_of}
+use Rattle.textwrap_lines.proofs.Common.{parts_from, LineParts, is_whole, pieces_of, widths_of}
+use Rattle.textwrap_lines.proofs.Common.{DividesAs, AreParagraphParts, AreGroups, AreTextLines}
 use Rattle.textwrap.proofs.Common.{broken_lines, AreDividedAt, IsFilledInPlace, unbroken_at}
 use Rattle.textwrap.proofs.Common.{FitsOneLine}
 use Rattle.textwrap_base.proofs.Division.Greedy.{greedy_unique, IsGreedy-same, line_width-one}
 use Rattle.textwrap_base.proofs.Division.Greedy.{line_width-two}
-use Rattle.textwrap_lines.specs.declared.line_ending.LineEnding.TheVariants.{LF}
-use Rattle.textwrap_lines.specs.LineEnding.{Lacks}
+use Rattle.textwrap_text.specs.declared.line_ending.LineEnding.TheVariants.{LF}
+use Rattle.textwrap_text.specs.LineEnding.{Lacks}
 use Rattle.textwrap_lines.proofs.Text.Paragraphs.{parts_past-some, paragraphs_one}
 use Rattle.textwrap_lines.proofs.Text.Paragraphs.{paragraphs_of-utf8}
 use Rattle.textwrap_lines.proofs.Paragraph.Covered.{IsBroken-greedy, shortened, AreLinesApart}
@@ -29,7 +29,7 @@ use Rattle.textwrap_lines.proofs.Paragraph.LeftOff.{covered-words_of, line_from-
 use Rattle.textwrap_lines.proofs.Paragraph.LeftOff.{line_from-whole, AreParagraphParts-whole}
 use Rattle.textwrap_lines.proofs.Paragraph.LeftOff.{AreParagraphParts-divided, closed-pieces_of}
 use Rattle.textwrap_base.proofs.Cost.Chosen.{IsDividedBy-one_line}
-use Rattle.textwrap_base.proofs.Lists.Parts.{flat}
+use Rattle.textwrap_text.proofs.Lists.Parts.{flat}
 use Rattle.textwrap_lines.proofs.Paragraph.Pieces.{ArePieces-computed}
 use Rattle.textwrap_lines.proofs.PrintableTexts.Bytes.{split-whole}
 use Rattle.textwrap_base.proofs.Division.Map.{IsDivision-whole}

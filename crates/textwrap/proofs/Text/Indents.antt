@@ -1,25 +1,20 @@
 -- The parts of a text that are indented, blank lines, and indents that are put before lines and taken off again.
-use Rattle.textwrap_base.proofs.Common.{◌≡◌, ℕ, List, [], ◌∷◌}
-use Rattle.textwrap_base.proofs.Common.{◌++◌, length, drop, refl, sym, ap, ◌∙◌, arith}
-use Rattle.textwrap_base.proofs.Common.{append_assoc, append-nil}
-use Rattle.textwrap_base.proofs.Common.{All-head, All-tail, ◌↔◌}
-use Rattle.textwrap_base.proofs.Common.{◌==◌, Bool, true, false, cond, inl, inr, flat_map}
-use Rattle.textwrap_base.proofs.Common.{rules}
-use Rattle.textwrap_base.proofs.Common.{◌⊎◌, map, All, IsUtf8}
-use Rattle.textwrap_base.proofs.Common.{All-append, and_parts, and_right, list_all, chars-append}
-use Rattle.textwrap_base.proofs.Common.{drop_at}
+use Rattle.textwrap_text.proofs.Common.{◌≡◌, ℕ, List, [], ◌∷◌, ◌++◌, length, drop, refl, sym, ap}
+use Rattle.textwrap_text.proofs.Common.{◌∙◌, arith, append_assoc, append-nil, All-head, All-tail}
+use Rattle.textwrap_text.proofs.Common.{◌↔◌, ◌==◌, Bool, true, false, cond, inl, inr, flat_map}
+use Rattle.textwrap_text.proofs.Common.{rules, ◌⊎◌, map, All, IsUtf8, All-append, and_parts}
+use Rattle.textwrap_text.proofs.Common.{and_right, list_all, chars-append, drop_at}
 use Rattle.textwrap.proofs.Common.{ended_parts, is_blank_line}
 use Rattle.std.proofs.lemmas.List.{append_cancel_left}
 use Rattle.textwrap.specs.Indentation.{HasNoLineFeed, EndsInLineFeed, AreEnded, AreEndedParts}
 use Rattle.textwrap.specs.Indentation.{indent_of_part, indented, unindented_part}
-use Rattle.textwrap_base.proofs.Lists.Parts.{nil_after}
-use Rattle.textwrap_base.proofs.Lists.Parts.{all-left}
+use Rattle.textwrap_text.proofs.Lists.Parts.{nil_after, all-left}
 use Rattle.std.proofs.lemmas.Grind.{common_steps}
-use Rattle.textwrap_lines.proofs.TextLines.{by-lines, ended_parts-flat, ended_parts-front}
-use Rattle.textwrap_lines.proofs.TextLines.{ended_parts-whole}
+use Rattle.textwrap_text.proofs.TextLines.{by-lines, ended_parts-flat, ended_parts-front}
+use Rattle.textwrap_text.proofs.TextLines.{ended_parts-whole}
 use Rattle.std.specs.Str.{chars, trim_start, trim_end, drop_trailing_whitespace}
-use Rattle.textwrap_base.proofs.Texts.{skipped, trim_end-front}
-use Rattle.textwrap_base.proofs.Lists.Elements.{flat-map, dropped-map}
+use Rattle.textwrap_text.proofs.Texts.{skipped, trim_end-front}
+use Rattle.textwrap_text.proofs.Lists.Elements.{flat-map, dropped-map}
 use Rattle.std.proofs.lemmas.List.Folds.{list_all-append}
 use Rattle.std.proofs.lemmas.Str.{scalars-chars}
 use Rattle.std.specs.Char.{is_whitespace}

@@ -1,16 +1,16 @@
 -- What texts begin with together, and the margin of a text.
-use Rattle.textwrap_base.proofs.Common.{◌≡◌, nat_eq, length, eq-eqb, Option, get_or, ⊎_elim, IsUtf8}
-use Rattle.textwrap_base.proofs.Common.{ℕ}
-use Rattle.textwrap_base.proofs.Common.{◌+◌, ◌≤◌, ◌∷◌, drop, refl, ap, fold, ◌==◌, None, Some, ◌++◌}
-use Rattle.textwrap_base.proofs.Common.{Bool, nat_tests, take-take, unwrap_or, chars-nil, take_more}
-use Rattle.textwrap_base.proofs.Common.{true, false, cond, List, take, arith, rules, lines, ne_eqb}
-use Rattle.textwrap_base.proofs.Common.{[], starts_with_of_eq, starts_with_trans, common_prefix_len}
-use Rattle.textwrap_base.proofs.Common.{All, sym, ◌↔◌, inl, inr, ◌∙◌, Bor, ◌-◌, ◌<◌, min, zip}
-use Rattle.textwrap_base.proofs.Common.{StartsWith, All-cons, prefix_len, append_assoc}
-use Rattle.textwrap_base.proofs.Common.{starts_with_length, starts_with_of_append, take-append-drop}
-use Rattle.textwrap_base.proofs.Common.{All-nil, length-prefix_len, encode_utf8_all}
-use Rattle.textwrap_base.proofs.Common.{All-head, All-tail, list_all, take_all, drop_all, drop_more}
-use Rattle.textwrap_base.proofs.Common.{option_map, false≢true, All-weaker, append-nil}
+use Rattle.textwrap_text.proofs.Common.{◌≡◌, nat_eq, length, eq-eqb, Option, get_or, ⊎_elim, IsUtf8}
+use Rattle.textwrap_text.proofs.Common.{ℕ, ◌+◌, ◌≤◌, ◌∷◌, drop, refl, ap, fold, ◌==◌, None, Some}
+use Rattle.textwrap_text.proofs.Common.{◌++◌, Bool, nat_tests, take-take, unwrap_or, chars-nil}
+use Rattle.textwrap_text.proofs.Common.{take_more, true, false, cond, List, take, arith, rules}
+use Rattle.textwrap_text.proofs.Common.{lines, ne_eqb, [], starts_with_of_eq, starts_with_trans}
+use Rattle.textwrap_text.proofs.Common.{common_prefix_len, All, sym, ◌↔◌, inl, inr, ◌∙◌, Bor, ◌-◌}
+use Rattle.textwrap_text.proofs.Common.{◌<◌, min, zip, StartsWith, All-cons, prefix_len}
+use Rattle.textwrap_text.proofs.Common.{append_assoc, starts_with_length, starts_with_of_append}
+use Rattle.textwrap_text.proofs.Common.{take-append-drop, All-nil, length-prefix_len}
+use Rattle.textwrap_text.proofs.Common.{encode_utf8_all, All-head, All-tail, list_all, take_all}
+use Rattle.textwrap_text.proofs.Common.{drop_all, drop_more, option_map, false≢true, All-weaker}
+use Rattle.textwrap_text.proofs.Common.{append-nil}
 use Rattle.textwrap.proofs.Common.{common_start, common_prefix, narrowed, is_blank_line}
 use Rattle.textwrap.proofs.Common.{leading_whitespace, margin_of}
 use Rattle.textwrap.specs.Refilling.{IsCommonPrefix}
@@ -18,12 +18,12 @@ use Rattle.std.proofs.lemmas.Grind.{common_steps}
 use Rattle.std.specs.Str.{chars, skip_leading_whitespace, trim_start}
 use Rattle.textwrap.specs.Indentation.{AreComparable, IsMargin, IsMarginOfLines, IsMarginOf}
 use Rattle.textwrap.specs.Indentation.{margin_of_lines, lines_from_first}
-use Rattle.textwrap_base.proofs.Lists.Parts.{starts-cons, starts-head, starts-tail, nothing-starts}
-use Rattle.textwrap_base.proofs.Lists.Parts.{longest-step}
+use Rattle.textwrap_text.proofs.Lists.Parts.{starts-cons, starts-head, starts-tail, nothing-starts}
+use Rattle.textwrap_text.proofs.Lists.Parts.{longest-step}
 use Rattle.std.specs.Char.{is_whitespace}
-use Rattle.textwrap_base.proofs.Texts.{white-front, white-leading, IsCut, cut_text, leading-skipped}
+use Rattle.textwrap_text.proofs.Texts.{white-front, white-leading, IsCut, cut_text, leading-skipped}
 use Rattle.std.proofs.lemmas.Slice.Zip.{length-zip, get_or-zip}
-use Rattle.textwrap_base.proofs.Numbers.{either_short}
+use Rattle.textwrap_text.proofs.Numbers.{either_short}
 
 -- ---- what two texts begin with, and what all texts do
 

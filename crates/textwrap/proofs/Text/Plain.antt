@@ -1,30 +1,28 @@
 -- Plain lines: their parts between blanks, their endings, and their text, unfilled.
-use Rattle.textwrap_base.proofs.Common.{◌≡◌, ◌≢◌, ℕ, ◌+◌, ◌-◌, ◌<◌, ◌==◌, cond, List, [], ◌∷◌, ◌++◌}
-use Rattle.textwrap_base.proofs.Common.{All, length, refl, sym, ap, ◌∙◌, subst, arith, append_assoc}
-use Rattle.textwrap_base.proofs.Common.{length-append, prefix_len, ne_eqb, take_all, length-take}
-use Rattle.textwrap_base.proofs.Common.{map-append, All-nil, rules, All-cons, All-head, All-tail}
-use Rattle.textwrap_base.proofs.Common.{All-append, All-weaker, last, get_or, drop, false, take}
-use Rattle.textwrap_base.proofs.Common.{filter, lines, lt-ltb, true, nat_eq}
-use Rattle.textwrap_base.proofs.Common.{take-append-drop, ends_with}
-use Rattle.textwrap_words.proofs.Common.{blank, trimmed_len, without_final_blanks}
-use Rattle.textwrap_lines.proofs.Common.{line_feed, ending_bytes}
+use Rattle.textwrap_text.proofs.Common.{◌≡◌, ◌≢◌, ℕ, ◌+◌, ◌-◌, ◌<◌, ◌==◌, cond, List, [], ◌∷◌, ◌++◌}
+use Rattle.textwrap_text.proofs.Common.{All, length, refl, sym, ap, ◌∙◌, subst, arith, append_assoc}
+use Rattle.textwrap_text.proofs.Common.{length-append, prefix_len, ne_eqb, take_all, length-take}
+use Rattle.textwrap_text.proofs.Common.{map-append, All-nil, rules, All-cons, All-head, All-tail}
+use Rattle.textwrap_text.proofs.Common.{All-append, All-weaker, last, get_or, drop, false, take}
+use Rattle.textwrap_text.proofs.Common.{filter, lines, lt-ltb, true, nat_eq, take-append-drop}
+use Rattle.textwrap_text.proofs.Common.{ends_with, blank, trimmed_len, without_final_blanks}
+use Rattle.textwrap_text.proofs.Common.{line_feed, ending_bytes}
 use Rattle.textwrap.proofs.Common.{is_prefix_character, line_prefix, IsPlainByte, IsPlainWord}
 use Rattle.textwrap.proofs.Common.{IsPlainLine, blanked, EndedLine, nonempty_lines}
 use Rattle.textwrap.proofs.Common.{keeps_ending}
 use Rattle.std.proofs.lemmas.List.Elements.{All-get_or}
 use Rattle.std.proofs.lemmas.List.Folds.{map_fixed}
-use Rattle.textwrap_base.proofs.Lists.Parts.{some_from_nonempty, all-right}
+use Rattle.textwrap_text.proofs.Lists.Parts.{some_from_nonempty, all-right, last-append}
 use Rattle.textwrap_words.proofs.Word.Texts.{trimmed-past}
-use Rattle.textwrap_base.proofs.Lists.Parts.{last-append}
 use Rattle.textwrap.proofs.Text.InPlace.{blank_joined, feed_joined}
 use Rattle.std.specs.Str.Lines.{strip_carriage_return}
 use Rattle.textwrap.specs.Refilling.{ended_lines, has_text}
-use Rattle.textwrap_lines.proofs.TextLines.{ended_lines-front, ended_lines-texts}
-use Rattle.textwrap_lines.proofs.TextLines.{ended_lines-whole, texts_of}
+use Rattle.textwrap_text.proofs.TextLines.{ended_lines-front, ended_lines-texts, ended_lines-whole}
+use Rattle.textwrap_text.proofs.TextLines.{texts_of}
 use Rattle.std.proofs.Common.{ap₂}
 use Rattle.std.proofs.lemmas.Slice.Eq.{bytes_eq-Decides}
-use Rattle.textwrap_lines.specs.declared.line_ending.LineEnding.{LineEnding}
-use Rattle.textwrap_lines.specs.declared.line_ending.LineEnding.TheVariants.{CRLF, LF}
+use Rattle.textwrap_text.specs.declared.line_ending.LineEnding.{LineEnding}
+use Rattle.textwrap_text.specs.declared.line_ending.LineEnding.TheVariants.{CRLF, LF}
 use Rattle.textwrap_lines.proofs.Text.Paragraphs.{ending_bytes-some}
 
 -- ---- what plain lines begin and end with

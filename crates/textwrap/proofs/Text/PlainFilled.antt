@@ -1,14 +1,15 @@
 -- Plain lines under indents, and plain texts that are filled with whole words.
-use Rattle.textwrap_base.proofs.Common.{◌≡◌, ◌≢◌, ℕ, suc, ◌+◌, true, false, nat_eq, List, [], ◌∷◌}
-use Rattle.textwrap_base.proofs.Common.{◌++◌, All, length, map, refl, ap, ◌∙◌, arith}
-use Rattle.textwrap_base.proofs.Common.{common_prefix_len, eq-eqb, fold, drop_at, All-nil, All-cons}
-use Rattle.textwrap_base.proofs.Common.{All-head, All-tail, All-weaker, cond, lines, ◌<◌, Bool, sym}
-use Rattle.textwrap_base.proofs.Common.{IsDivision, MatchBool, subst, append-nil, Sizes, rules}
-use Rattle.textwrap_base.proofs.Common.{All-map, append_assoc}
-use Rattle.textwrap_base.proofs.Lists.Elements.{dropped-map}
-use Rattle.textwrap_lines.proofs.Common.{line_feed, LineParts, line_bytes, line_from, parts_of}
-use Rattle.textwrap_lines.proofs.Common.{parts_from, Settings, covered, indent_of, is_whole}
-use Rattle.textwrap_lines.proofs.Common.{widths_of, DividesAs, AreParagraphParts, AreGroups}
+use Rattle.textwrap_text.proofs.Common.{◌≡◌, ◌≢◌, ℕ, suc, ◌+◌, true, false, nat_eq, List, [], ◌∷◌}
+use Rattle.textwrap_text.proofs.Common.{◌++◌, All, length, map, refl, ap, ◌∙◌, arith}
+use Rattle.textwrap_text.proofs.Common.{common_prefix_len, eq-eqb, fold, drop_at, All-nil, All-cons}
+use Rattle.textwrap_text.proofs.Common.{All-head, All-tail, All-weaker, cond, lines, ◌<◌, Bool, sym}
+use Rattle.textwrap_text.proofs.Common.{MatchBool, subst, append-nil, rules, All-map, append_assoc}
+use Rattle.textwrap_text.proofs.Common.{line_feed, without_final_blanks, chunks}
+use Rattle.textwrap_base.proofs.Common.{IsDivision, Sizes}
+use Rattle.textwrap_text.proofs.Lists.Elements.{dropped-map}
+use Rattle.textwrap_lines.proofs.Common.{LineParts, line_bytes, line_from, parts_of, parts_from}
+use Rattle.textwrap_lines.proofs.Common.{Settings, covered, indent_of, is_whole, widths_of}
+use Rattle.textwrap_lines.proofs.Common.{DividesAs, AreParagraphParts, AreGroups}
 use Rattle.textwrap.proofs.Common.{is_prefix_character, line_prefix, IsPlainLine, common_start}
 use Rattle.textwrap.proofs.Common.{unfilled_initial, unfilled_subsequent, IsIndent, keeps_ending}
 use Rattle.textwrap.proofs.Common.{joined_text, broken_lines, IsFilledWhole, KeepsWords, IsPlain}
@@ -17,16 +18,15 @@ use Rattle.textwrap.proofs.Text.Plain.{unblank-row, plain_parts}
 use Rattle.std.proofs.lemmas.List.Sums.{take_while-cons}
 use Rattle.textwrap.specs.Refilling.{without_indents}
 use Rattle.textwrap.proofs.Text.InPlace.{blank_joined, feed_joined, tiled-broken, all_broken-some}
-use Rattle.textwrap_words.proofs.Common.{without_final_blanks, WordText, tiled, AreWordsOf}
-use Rattle.textwrap_words.proofs.Common.{sizes_of, word_of, words_of, Algorithm, Greedy, LeastCost}
-use Rattle.textwrap_words.proofs.Common.{IsDividedBy, Whole, chunks}
-use Rattle.textwrap_lines.specs.declared.line_ending.LineEnding.TheVariants.{LF}
+use Rattle.textwrap_words.proofs.Common.{WordText, tiled, AreWordsOf, sizes_of, word_of, words_of}
+use Rattle.textwrap_words.proofs.Common.{Algorithm, Greedy, LeastCost, IsDividedBy, Whole}
+use Rattle.textwrap_text.specs.declared.line_ending.LineEnding.TheVariants.{LF}
 use Rattle.textwrap_lines.proofs.Paragraph.LeftOff.{assembled-parts, bytes-assembled}
 use Rattle.textwrap_lines.proofs.Paragraph.LeftOff.{line_from-whole, whole_unindented}
 use Rattle.textwrap_lines.proofs.Paragraph.Covered.{apart_from, shortened, AreLinesApart}
 use Rattle.textwrap.proofs.Text.InPlaceLines.{covered-words, words-no_penalty}
 use Rattle.textwrap.proofs.Text.InPlaceLines.{without_final_blanks-push}
-use Rattle.textwrap_base.proofs.Lists.Parts.{flat, all-right}
+use Rattle.textwrap_text.proofs.Lists.Parts.{flat, all-right}
 use Rattle.textwrap_words.proofs.Word.Words.{tiled-words_of, words_unique}
 use Rattle.textwrap_lines.proofs.Paragraph.Pieces.{ArePieces-is}
 use Rattle.textwrap_lines.proofs.PrintableTexts.Bytes.{split-whole}

@@ -1,6 +1,6 @@
 -- Worked rows on plain texts.
-use Rattle.textwrap_base.proofs.Common.{◌≡◌, ℕ, ◌≤◌, [], ◌∷◌, length, codes, refl, ap, arith, rules}
-use Rattle.textwrap_base.proofs.Common.{All-nil, All-cons}
+use Rattle.textwrap_text.proofs.Common.{◌≡◌, ℕ, ◌≤◌, [], ◌∷◌, length, codes, refl, ap, arith, rules}
+use Rattle.textwrap_text.proofs.Common.{All-nil, All-cons}
 use Rattle.textwrap.proofs.Common.{line_prefix, IsPlainWord, IsPlainLine, IsPlain, blanked}
 use Rattle.textwrap.proofs.Text.Refilling.{unfilled-plain}
 

@@ -1,28 +1,29 @@
 -- The cells and rows of texts in columns: their bytes, and that rows are even.
-use Rattle.textwrap_base.proofs.Common.{◌≡◌, ℕ, zero, suc, ◌+◌, ◌-◌, ◌*◌, ◌<◌, ◌≤◌, ◌⊎◌, List, []}
-use Rattle.textwrap_base.proofs.Common.{◌∷◌, ◌++◌, length, get_or, map, refl, sym, ap, ◌∙◌, arith}
-use Rattle.textwrap_base.proofs.Common.{append_assoc, append-nil, inl, inr, range_with_len, repeat}
-use Rattle.textwrap_base.proofs.Common.{CowStr, get_or-map, get_or_past, length-map, map-append}
-use Rattle.textwrap_base.proofs.Common.{flat_map-append, map-range_with_len_more, rules}
-use Rattle.textwrap_base.proofs.Common.{length-append, flat_map, All, sum_by, All-head}
-use Rattle.textwrap_base.proofs.Common.{All-tail, sum_by-cons, sum_by-append, Bool}
-use Rattle.textwrap_lines.proofs.Common.{join_with, line_view, line_bytes, Settings, settings_view}
-use Rattle.textwrap_lines.proofs.Common.{Line, IsDividedInto, DividesBy, AreTextLines}
+use Rattle.textwrap_text.proofs.Common.{◌≡◌, ℕ, zero, suc, ◌+◌, ◌-◌, ◌*◌, ◌<◌, ◌≤◌, ◌⊎◌, List, []}
+use Rattle.textwrap_text.proofs.Common.{◌∷◌, ◌++◌, length, get_or, map, refl, sym, ap, ◌∙◌, arith}
+use Rattle.textwrap_text.proofs.Common.{append_assoc, append-nil, inl, inr, range_with_len, repeat}
+use Rattle.textwrap_text.proofs.Common.{get_or-map, get_or_past, length-map, map-append}
+use Rattle.textwrap_text.proofs.Common.{flat_map-append, map-range_with_len_more, rules}
+use Rattle.textwrap_text.proofs.Common.{length-append, flat_map, All, sum_by, All-head, All-tail}
+use Rattle.textwrap_text.proofs.Common.{sum_by-cons, sum_by-append, Bool, join_with, text_width}
+use Rattle.std.specs.declared.borrow.CowStr.{CowStr}
+use Rattle.textwrap_lines.proofs.Common.{line_view, line_bytes, Settings, settings_view, Line}
+use Rattle.textwrap_lines.proofs.Common.{IsDividedInto, DividesBy, AreTextLines}
 use Rattle.textwrap.proofs.Common.{RowLayout, blanks, cell, padded, gapped, cells, row_text}
 use Rattle.textwrap.proofs.Common.{layout_of}
 use Rattle.textwrap.proofs.Common.{inner_width}
 use Rattle.std.specs.Cow.{cow_str_bytes}
 use Rattle.textwrap_words.proofs.Word.Words.{text_width-nil}
 use Rattle.textwrap_lines.proofs.Text.Lines.{line_bytes-line_view}
-use Rattle.textwrap_base.proofs.Lists.Elements.{range-split, length-repeat}
+use Rattle.textwrap_text.proofs.Lists.Elements.{range-split, length-repeat}
 use Rattle.std.proofs.lemmas.List.{length-replicate}
 use Rattle.std.proofs.Common.{replicate}
 use Rattle.std.proofs.lemmas.Grind.{div_ceil_times}
 use Rattle.std.proofs.lemmas.List.FromFn.{get_or-map-range_with_len, fill_by_all}
 use Rattle.textwrap.specs.Columns.{row_count, column_cells, cells_by_column, cell_parts, row_parts}
-use Rattle.textwrap_words.proofs.Common.{text_width, MaySeparate, MaySplit, WordText, MayDivide}
+use Rattle.textwrap_words.proofs.Common.{MaySeparate, MaySplit, WordText, MayDivide}
 use Rattle.std.proofs.lemmas.List.Elements.{All-replicate}
-use Rattle.textwrap_words.proofs.Units.Reading.{printable-width}
+use Rattle.textwrap_text.proofs.Units.Reading.{printable-width}
 use Rattle.textwrap_lines.specs.Options.{KeepsMethods}
 use Rattle.textwrap_lines.specs.Paragraph.{DividesUnder}
 use Rattle.textwrap_lines.specs.Text.{SomeMayPass64Bits, SomeMayPass64BitsUnder}

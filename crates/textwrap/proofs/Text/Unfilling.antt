@@ -1,14 +1,14 @@
 -- The layout of a text and what unfilling gives; a text that is filled with the indents of another.
-use Rattle.textwrap_base.proofs.Common.{◌≡◌, ◌+◌, ◌∷◌, max, drop, refl, Some, None, fold}
-use Rattle.textwrap_base.proofs.Common.{ℕ, IsAscii, flat_map, All-nil, All-cons, All-head, All-tail}
-use Rattle.textwrap_base.proofs.Common.{Bool, false, nat_eq, IsUtf8, length, get_or, Option, filter}
-use Rattle.textwrap_base.proofs.Common.{true, cond, List, take, arith, rules, ◌++◌, lines, subst}
-use Rattle.textwrap_base.proofs.Common.{[], common_prefix_len, IsUtf8-from_ascii, starts_with_trans}
-use Rattle.textwrap_base.proofs.Common.{StartsWith, IsCharBoundary-from_take}
-use Rattle.textwrap_base.proofs.Common.{IsCharBoundary, unwrap_or, nil_from_length}
-use Rattle.textwrap_base.proofs.Common.{prefix_len, append-nil, ends_with, nat_tests, ap}
-use Rattle.textwrap_base.proofs.Common.{map, Bor, All, cases_Bool, inl, inr, sym}
-use Rattle.textwrap_base.proofs.Common.{append_assoc}
+use Rattle.textwrap_text.proofs.Common.{◌≡◌, ◌+◌, ◌∷◌, max, drop, refl, Some, None, fold, ℕ}
+use Rattle.textwrap_text.proofs.Common.{IsAscii, flat_map, All-nil, All-cons, All-head, All-tail}
+use Rattle.textwrap_text.proofs.Common.{Bool, false, nat_eq, IsUtf8, length, get_or, Option, filter}
+use Rattle.textwrap_text.proofs.Common.{true, cond, List, take, arith, rules, ◌++◌, lines, subst}
+use Rattle.textwrap_text.proofs.Common.{[], common_prefix_len, IsUtf8-from_ascii, starts_with_trans}
+use Rattle.textwrap_text.proofs.Common.{StartsWith, IsCharBoundary-from_take, IsCharBoundary}
+use Rattle.textwrap_text.proofs.Common.{unwrap_or, nil_from_length, prefix_len, append-nil}
+use Rattle.textwrap_text.proofs.Common.{ends_with, nat_tests, ap, map, Bor, All, cases_Bool, inl}
+use Rattle.textwrap_text.proofs.Common.{inr, sym, append_assoc, text_width, blank, ending_bytes}
+use Rattle.textwrap_text.proofs.Common.{join_with}
 use Rattle.textwrap.proofs.Common.{is_prefix_character, line_prefix, common_start, common_prefix}
 use Rattle.textwrap.proofs.Common.{EndedLine, nonempty_lines, unfilled_initial}
 use Rattle.textwrap.proofs.Common.{unfilled_subsequent, joined_text, detected_among}
@@ -17,16 +17,16 @@ use Rattle.std.proofs.lemmas.Str.{IsAscii-take}
 use Rattle.std.proofs.lemmas.Str.Ascii.{IsAscii-cons}
 use Rattle.std.proofs.lemmas.List.Sums.{prefix_len-le-length}
 use Rattle.std.proofs.lemmas.Grind.{common_steps}
-use Rattle.textwrap_lines.proofs.TextLines.{ended_lines-texts, texts_of}
-use Rattle.textwrap_words.proofs.Common.{text_width, blank, WordText, Algorithm, Splitter}
-use Rattle.textwrap_lines.proofs.Common.{Settings, ending_bytes, join_with, IsFilled, settings_view}
-use Rattle.textwrap_lines.proofs.Common.{AreTextLines, HasParts, DividesAs}
+use Rattle.textwrap_text.proofs.TextLines.{ended_lines-texts, texts_of}
+use Rattle.textwrap_words.proofs.Common.{WordText, Algorithm, Splitter}
+use Rattle.textwrap_lines.proofs.Common.{Settings, IsFilled, settings_view, AreTextLines, HasParts}
+use Rattle.textwrap_lines.proofs.Common.{DividesAs}
 use Rattle.std.specs.Prelude.{option_to_list, IfSome}
 use Rattle.textwrap_words.proofs.Word.Words.{text_width-nil}
 use Rattle.textwrap_lines.specs.Options.{settings_at}
 use Rattle.std.proofs.lemmas.List.Elements.{All-filter}
-use Rattle.textwrap_lines.specs.declared.line_ending.LineEnding.{LineEnding}
-use Rattle.textwrap_lines.specs.declared.line_ending.LineEnding.TheVariants.{CRLF, LF}
+use Rattle.textwrap_text.specs.declared.line_ending.LineEnding.{LineEnding}
+use Rattle.textwrap_text.specs.declared.line_ending.LineEnding.TheVariants.{CRLF, LF}
 use Rattle.textwrap.specs.Refilling.{has_text, added_ending, IsRefilled}
 use Rattle.textwrap.specs.Refilling.{layout_settings, unfilled_settings, with_indents_of}
 use Rattle.textwrap.proofs.Text.Margins.{common_prefix-begins}

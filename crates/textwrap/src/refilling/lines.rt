@@ -1,12 +1,12 @@
 //! The lines of a text that are not empty.
 ghost use Rattle.std.specs.Prelude.{List, filter};
 ghost use Rattle.std.specs.Iterator.{YieldsFirstBy, item_count};
-ghost use Rattle.textwrap_lines.specs.LineViews.{ended_line_view};
-ghost use Rattle.textwrap_lines.specs.TextLines.{EndedLine};
+ghost use Rattle.textwrap_text.specs.LineViews.{ended_line_view};
+ghost use Rattle.textwrap_text.specs.TextLines.{EndedLine};
 ghost use Rattle.textwrap.specs.Refilling.{has_text};
 
 use std::marker::Model;
-use textwrap_lines::inner::{Lines, TextLine};
+use textwrap_text::text_lines::{Lines, TextLine};
 
 /// An iterator over the lines to come, without the empty ones. To contracts it is the list of them.
 #[derive(Drop)]

@@ -1,19 +1,19 @@
 -- The table gives the chosen division, if all lines but the first have one width.
-use Rattle.textwrap_base.proofs.Common.{◌≡◌, suc, List, ◌++◌, take, drop, refl, Bool, true, Sizes}
-use Rattle.textwrap_base.proofs.Common.{ℕ, take-append-drop, AreEqualFromSecond, last_break_penalty}
-use Rattle.textwrap_base.proofs.Common.{◌+◌, ◌<◌, ◌≤◌, ◌≢◌, eqb, ◌∷◌, ◌-◌, All, sym, ◌∙◌, ap, map}
-use Rattle.textwrap_base.proofs.Common.{[], append_assoc, FollowStarts, division_cost, closed_width}
-use Rattle.textwrap_base.proofs.Common.{length, add-zero, flat_map, IsByTable, nat_tests, priced_at}
-use Rattle.textwrap_base.proofs.Common.{get_or, reverse, take_at, drop_at, arith, zero-add, eq-eqb}
-use Rattle.textwrap_base.proofs.Common.{drop-drop, drop_split, line_width, PricedSizes, length-drop}
-use Rattle.textwrap_base.proofs.Common.{slice_range, length-append, length-take-le, fragments_table}
-use Rattle.textwrap_base.proofs.Common.{All-head, All-tail, All-cons, take_all, entry_at}
-use Rattle.textwrap_base.proofs.Common.{IsDivision, line_cost, line_costs, AreNoLater, length-map}
-use Rattle.textwrap_base.proofs.Common.{problem_by}
+use Rattle.textwrap_text.proofs.Common.{◌≡◌, suc, List, ◌++◌, take, drop, refl, Bool, true, ℕ}
+use Rattle.textwrap_text.proofs.Common.{take-append-drop, ◌+◌, ◌<◌, ◌≤◌, ◌≢◌, eqb, ◌∷◌, ◌-◌, All}
+use Rattle.textwrap_text.proofs.Common.{sym, ◌∙◌, ap, map, [], append_assoc, length, add-zero}
+use Rattle.textwrap_text.proofs.Common.{flat_map, nat_tests, get_or, reverse, take_at, drop_at}
+use Rattle.textwrap_text.proofs.Common.{arith, zero-add, eq-eqb, drop-drop, drop_split, length-drop}
+use Rattle.textwrap_text.proofs.Common.{slice_range, length-append, length-take-le, All-head}
+use Rattle.textwrap_text.proofs.Common.{All-tail, All-cons, take_all, length-map}
+use Rattle.textwrap_base.proofs.Common.{Sizes, AreEqualFromSecond, last_break_penalty, FollowStarts}
+use Rattle.textwrap_base.proofs.Common.{division_cost, closed_width, IsByTable, priced_at}
+use Rattle.textwrap_base.proofs.Common.{line_width, PricedSizes, fragments_table, entry_at}
+use Rattle.textwrap_base.proofs.Common.{IsDivision, line_cost, line_costs, AreNoLater, problem_by}
 use mathlib.Core.List.{reverse_aux}
 use Rattle.textwrap_base.specs.Cost.{lines_cost, starts_from, IsChosen}
 use Rattle.textwrap_base.specs.declared.penalties.Penalties.{Penalties}
-use Rattle.textwrap_base.proofs.Lists.Parts.{length-slice, some_from_nonempty, take_slice}
+use Rattle.textwrap_text.proofs.Lists.Parts.{length-slice, some_from_nonempty, take_slice}
 use Rattle.textwrap_base.proofs.Cost.Table.{AreStarts, starts_cost, FollowBack, IsSteady}
 use Rattle.textwrap_base.proofs.Cost.Table.{table_starts, table_least, table_followed}
 use Rattle.textwrap_base.proofs.Cost.Table.{table_earliest, table-is_table, start-at}

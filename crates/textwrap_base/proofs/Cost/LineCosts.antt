@@ -1,21 +1,22 @@
 -- What one line costs: its gap, its slices, its sizes, its bounds, and that line costs are convex.
-use Rattle.textwrap_base.proofs.Common.{◌≡◌, ℕ, zero, suc, ◌+◌, ◌-◌, ◌*◌, ◌≤◌, false, refl, ◌∙◌}
-use Rattle.textwrap_base.proofs.Common.{add-zero, arith, cases_lt, nat_tests, fit_cost, ◌<◌, Bool}
-use Rattle.textwrap_base.proofs.Common.{eqb, List, [], ◌∷◌, ◌++◌, length, get_or, take, slice_range}
-use Rattle.textwrap_base.proofs.Common.{max, sym, ap, Sizes, closed_width, open_width, PricedSizes}
-use Rattle.textwrap_base.proofs.Common.{last_break_penalty, line_cost, map, length-map, sum_by-cons}
-use Rattle.textwrap_base.proofs.Common.{total_width, line_costs, All, subst, take-map, get_or-map}
-use Rattle.textwrap_base.proofs.Common.{All-head, All-tail, All-map, measured, AreAtMost, rules}
-use Rattle.textwrap_base.proofs.Common.{line_width, NeverFalls, fragment_costs, problem_by}
+use Rattle.textwrap_text.proofs.Common.{◌≡◌, ℕ, zero, suc, ◌+◌, ◌-◌, ◌*◌, ◌≤◌, false, refl, ◌∙◌}
+use Rattle.textwrap_text.proofs.Common.{add-zero, arith, cases_lt, nat_tests, ◌<◌, Bool, eqb, List}
+use Rattle.textwrap_text.proofs.Common.{[], ◌∷◌, ◌++◌, length, get_or, take, slice_range, max, sym}
+use Rattle.textwrap_text.proofs.Common.{ap, map, length-map, sum_by-cons, All, subst, take-map}
+use Rattle.textwrap_text.proofs.Common.{get_or-map, All-head, All-tail, All-map, rules}
+use Rattle.textwrap_base.proofs.Common.{fit_cost, Sizes, closed_width, open_width, PricedSizes}
+use Rattle.textwrap_base.proofs.Common.{last_break_penalty, line_cost, total_width, line_costs}
+use Rattle.textwrap_base.proofs.Common.{measured, AreAtMost, line_width, NeverFalls, fragment_costs}
+use Rattle.textwrap_base.proofs.Common.{problem_by}
 use Rattle.textwrap_base.specs.declared.penalties.Penalties.{Penalties}
 use Rattle.textwrap_base.proofs.Division.Greedy.{open_width-append, closed_width-push}
 use Rattle.textwrap_base.proofs.Division.Greedy.{closed_width-map}
-use Rattle.textwrap_base.proofs.Lists.Parts.{take_slice, slice_push, length-slice}
+use Rattle.textwrap_text.proofs.Lists.Parts.{take_slice, slice_push, length-slice}
 use mathlib.Core.Path.{fun_ext}
 use Rattle.std.proofs.lemmas.List.Sums.{sum_by-take-le}
 use Rattle.std.proofs.Math.Nat.{mul-le-mul}
 use Rattle.textwrap_base.specs.declared.minima.line_costs.Measure.{Measure}
-use Rattle.textwrap_base.proofs.Numbers.{if_le}
+use Rattle.textwrap_text.proofs.Numbers.{if_le}
 use Rattle.textwrap_base.specs.Queue.{AreConvex}
 use Rattle.std.proofs.lemmas.List.{drop-map}
 

@@ -1,7 +1,7 @@
 -- Running sums of the widths of fragments, and what lines take and cost by them.
-use Rattle.textwrap_base.proofs.Common.{◌≡◌, ℕ, ◌+◌, ◌-◌, ◌^◌, ◌<◌, ◌≤◌, List, length, get_or, take}
-use Rattle.textwrap_base.proofs.Common.{map, slice_range, sym, ◌∙◌, ap, arith, length-map, Sizes}
-use Rattle.textwrap_base.proofs.Common.{closed_width, open_width, PricedSizes, total_width}
+use Rattle.textwrap_text.proofs.Common.{◌≡◌, ℕ, ◌+◌, ◌-◌, ◌^◌, ◌<◌, ◌≤◌, List, length, get_or, take}
+use Rattle.textwrap_text.proofs.Common.{map, slice_range, sym, ◌∙◌, ap, arith, length-map}
+use Rattle.textwrap_base.proofs.Common.{Sizes, closed_width, open_width, PricedSizes, total_width}
 use Rattle.textwrap_base.proofs.Common.{measured, fragment_costs, problem_by}
 use Rattle.std.proofs.Common.{sum, sum_by}
 use Rattle.std.proofs.lemmas.List.Sums.{sum-map, sum_by_more_le_part}

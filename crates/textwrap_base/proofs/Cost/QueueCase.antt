@@ -1,17 +1,17 @@
 -- The line costs of a queue case suit a search by a queue.
-use Rattle.textwrap_base.proofs.Common.{inl, inr, ℕ, ◌-◌, ◌<◌, ◌≤◌, eqb, min, max, List, [], ◌∷◌}
-use Rattle.textwrap_base.proofs.Common.{length, take, drop, slice_range, slice_index, arith}
-use Rattle.textwrap_base.proofs.Common.{All-take, All-drop, Sizes, line_width, closed_width}
-use Rattle.textwrap_base.proofs.Common.{PricedSizes, total_width, queue_limit, SuitQueue}
-use Rattle.textwrap_base.proofs.Common.{IsQueueCase, fragment_costs, TableOverflows, rules}
-use Rattle.textwrap_base.proofs.Common.{problem_by}
+use Rattle.textwrap_text.proofs.Common.{inl, inr, ℕ, ◌-◌, ◌<◌, ◌≤◌, eqb, min, max, List, [], ◌∷◌}
+use Rattle.textwrap_text.proofs.Common.{length, take, drop, slice_range, slice_index, arith}
+use Rattle.textwrap_text.proofs.Common.{All-take, All-drop, rules}
+use Rattle.textwrap_base.proofs.Common.{Sizes, line_width, closed_width, PricedSizes, total_width}
+use Rattle.textwrap_base.proofs.Common.{queue_limit, SuitQueue, IsQueueCase, fragment_costs}
+use Rattle.textwrap_base.proofs.Common.{TableOverflows, problem_by}
 use Rattle.textwrap_base.specs.Queue.{AreSmall}
 use Rattle.textwrap_base.specs.declared.penalties.Penalties.{Penalties}
 use Rattle.textwrap_base.proofs.Division.Greedy.{closed_width-end}
 use Rattle.textwrap_base.proofs.Cost.Chosen.{line_costs-steady}
 use Rattle.textwrap_base.proofs.Cost.LineCosts.{AreConvex-rising, closed_width-le, total_width-take}
 use Rattle.textwrap_base.proofs.Cost.LineCosts.{line_cost-le}
-use Rattle.textwrap_base.proofs.Lists.Parts.{take_slice}
+use Rattle.textwrap_text.proofs.Lists.Parts.{take_slice}
 use Rattle.textwrap_base.proofs.Search.{small_entry}
 
 target-small : (widths : List ℕ) (number : ℕ)

@@ -1,11 +1,12 @@
 -- Only one division is the chosen one, and what a call by optimal fit returns.
-use Rattle.textwrap_base.proofs.Common.{◌≡◌, ℕ, ◌+◌, inl, inr, List, [], ◌∷◌, length, get_or, drop}
-use Rattle.textwrap_base.proofs.Common.{map, reverse, refl, sym, ◌∙◌, ap, subst, arith, append-nil}
+use Rattle.textwrap_text.proofs.Common.{◌≡◌, ℕ, ◌+◌, inl, inr, List, [], ◌∷◌, length, get_or, drop}
+use Rattle.textwrap_text.proofs.Common.{map, reverse, refl, sym, ◌∙◌, ap, subst, arith, append-nil}
+use Rattle.textwrap_text.proofs.Common.{◌↔◌, zero, suc, ◌≤◌, ◌≢◌, take, length-take-le, All-nil}
+use Rattle.textwrap_text.proofs.Common.{◌^◌, ◌<◌, Result, Ok, Err, IsErrAnd}
 use Rattle.textwrap_base.proofs.Common.{PricedSizes, AreNoLater, fragments_table, IsByTable}
-use Rattle.textwrap_base.proofs.Common.{minimum_of, ◌↔◌, zero, suc, ◌≤◌, ◌≢◌, take, length-take-le}
-use Rattle.textwrap_base.proofs.Common.{All-nil, IsDivision, AreEqualFromSecond, IsLeastCost}
-use Rattle.textwrap_base.proofs.Common.{line_costs, TableOverflows, ◌^◌, ◌<◌, Result, Ok, Err}
-use Rattle.textwrap_base.proofs.Common.{IsErrAnd, total_width, Overflowed, problem_by, Problem}
+use Rattle.textwrap_base.proofs.Common.{minimum_of, IsDivision, AreEqualFromSecond, IsLeastCost}
+use Rattle.textwrap_base.proofs.Common.{line_costs, TableOverflows, total_width, Overflowed}
+use Rattle.textwrap_base.proofs.Common.{problem_by, Problem}
 use Rattle.std.proofs.lemmas.List.{reverse-reverse}
 use Rattle.textwrap_base.specs.Cost.{starts_from, IsChosen, Overflows}
 use Rattle.textwrap_base.specs.declared.penalties.Penalties.{Penalties}
@@ -14,7 +15,7 @@ use Rattle.textwrap_base.proofs.Cost.Chosen.{begin_starts, begin_follow, whole, 
 use Rattle.textwrap_base.proofs.Cost.Chosen.{line_costs-steady, begin-least, cost_at, cost_of}
 use Rattle.textwrap_base.proofs.Cost.Chosen.{division_joined, joined_division, joined_after}
 use Rattle.textwrap_base.proofs.Cost.Chosen.{some_after, cost_after_starts, by_table-chosen}
-use Rattle.textwrap_base.proofs.Lists.Parts.{same_parts}
+use Rattle.textwrap_text.proofs.Lists.Parts.{same_parts}
 use Rattle.textwrap_base.proofs.Cost.Table.{AreStarts, FollowBack, cost_reported, entry-table_first}
 use Rattle.textwrap_base.proofs.Cost.Table.{table_followed, starts_to}
 use Rattle.textwrap_base.specs.declared.minima.Minimum.{Minimum}

@@ -1,19 +1,19 @@
 -- The entries of the table, which are the least ones, where it overflows, and the starts of lines
 -- that it gives.
-use Rattle.textwrap_base.proofs.Common.{◌≡◌, ◌<◌, ℕ, ◌+◌, ◌≤◌, suc, ◌^◌, refl, ◌∙◌, ◌∷◌, ◌++◌, take}
-use Rattle.textwrap_base.proofs.Common.{arith, List, Some, None, Result, Sizes, subst, counted}
-use Rattle.textwrap_base.proofs.Common.{get_or_append_left, fragments_table, table_steps, length}
-use Rattle.textwrap_base.proofs.Common.{length_push, get_or_push, IsLeastBelow, zero, cases_eq}
-use Rattle.textwrap_base.proofs.Common.{IsErrAnd, AreAtMost, length-map, minimum_of, Option}
-use Rattle.textwrap_base.proofs.Common.{SomeIff, lt-ltb, le-ltb, add-one, get_or, All-take}
-use Rattle.textwrap_base.proofs.Common.{first_entry, entry_from, entry_at, PricedSizes, total_width}
-use Rattle.textwrap_base.proofs.Common.{[], inl, inr, ap, ◌-◌, eqb, min, All, Ok, Err, map, sym, ⊤}
-use Rattle.textwrap_base.proofs.Common.{line_width, Overflowed, line_costs, get_or-map, AreNoLater}
-use Rattle.textwrap_base.proofs.Common.{problem_by}
+use Rattle.textwrap_text.proofs.Common.{◌≡◌, ◌<◌, ℕ, ◌+◌, ◌≤◌, suc, ◌^◌, refl, ◌∙◌, ◌∷◌, ◌++◌, take}
+use Rattle.textwrap_text.proofs.Common.{arith, List, Some, None, Result, subst, get_or_append_left}
+use Rattle.textwrap_text.proofs.Common.{length, length_push, get_or_push, zero, cases_eq, IsErrAnd}
+use Rattle.textwrap_text.proofs.Common.{length-map, Option, SomeIff, lt-ltb, le-ltb, add-one}
+use Rattle.textwrap_text.proofs.Common.{get_or, All-take, [], inl, inr, ap, ◌-◌, eqb, min, All, Ok}
+use Rattle.textwrap_text.proofs.Common.{Err, map, sym, ⊤, get_or-map}
+use Rattle.textwrap_base.proofs.Common.{Sizes, counted, fragments_table, table_steps, IsLeastBelow}
+use Rattle.textwrap_base.proofs.Common.{AreAtMost, minimum_of, first_entry, entry_from, entry_at}
+use Rattle.textwrap_base.proofs.Common.{PricedSizes, total_width, line_width, Overflowed}
+use Rattle.textwrap_base.proofs.Common.{line_costs, AreNoLater, problem_by}
 use Rattle.std.proofs.Math.Nat.{mul-le-mul}
 use Rattle.textwrap_base.specs.Table.{cheaper, cheaper_of, cheapest, table, IsBestBelow, IsTable}
 use Rattle.textwrap_base.specs.declared.minima.table.Entry.{Entry}
-use Rattle.textwrap_base.proofs.Numbers.{past_from_not}
+use Rattle.textwrap_text.proofs.Numbers.{past_from_not}
 use Rattle.textwrap_base.specs.declared.errors.WrapError.{WrapError}
 use Rattle.textwrap_base.specs.declared.errors.WrapError.TheVariants.{Memory, Overflow}
 use Rattle.textwrap_base.specs.declared.penalties.Penalties.{Penalties}

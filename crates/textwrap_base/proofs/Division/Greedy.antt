@@ -1,16 +1,16 @@
 -- First fit: the widths of lines, the greedy division, which is the only one and has the fewest
 -- lines.
-use Rattle.textwrap_base.proofs.Common.{◌≡◌, ◌+◌, ◌-◌, ◌<◌, ◌∷◌, map, sym, ◌∙◌, suc, min, ◌≤◌, Fits}
-use Rattle.textwrap_base.proofs.Common.{ℕ, sum_by-append, closed_width, length-append, append_assoc}
-use Rattle.textwrap_base.proofs.Common.{List, AreEqualFromSecond, take-append-drop, take-append-add}
-use Rattle.textwrap_base.proofs.Common.{[], take_more, line_width, IsGreedy, append-nil, IsDivision}
-use Rattle.textwrap_base.proofs.Common.{◌++◌, take, refl, arith, Sizes, zero, drop, subst, rules}
-use Rattle.textwrap_base.proofs.Common.{length, get_or, AllFit, AllFull, All-nil, cases_lt, drop_at}
-use Rattle.textwrap_base.proofs.Common.{ap, All, ◌≢◌, inl, inr}
-use Rattle.textwrap_base.proofs.Common.{sum_by-cons, add-one, length-drop, length_push, get_or-drop}
-use Rattle.textwrap_base.proofs.Common.{open_width, take-append-le, length-take-le}
-use Rattle.textwrap_base.proofs.Common.{All-cons, All-head, All-tail, add-zero, flat_map, take_all}
-use Rattle.textwrap_base.proofs.Lists.Parts.{some_from_nonempty, flat, same_parts}
+use Rattle.textwrap_text.proofs.Common.{◌≡◌, ◌+◌, ◌-◌, ◌<◌, ◌∷◌, map, sym, ◌∙◌, suc, min, ◌≤◌, ℕ}
+use Rattle.textwrap_text.proofs.Common.{sum_by-append, length-append, append_assoc, List}
+use Rattle.textwrap_text.proofs.Common.{take-append-drop, take-append-add, [], take_more}
+use Rattle.textwrap_text.proofs.Common.{append-nil, ◌++◌, take, refl, arith, zero, drop, subst}
+use Rattle.textwrap_text.proofs.Common.{rules, length, get_or, All-nil, cases_lt, drop_at, ap, All}
+use Rattle.textwrap_text.proofs.Common.{◌≢◌, inl, inr, sum_by-cons, add-one, length-drop}
+use Rattle.textwrap_text.proofs.Common.{length_push, get_or-drop, take-append-le, length-take-le}
+use Rattle.textwrap_text.proofs.Common.{All-cons, All-head, All-tail, add-zero, flat_map, take_all}
+use Rattle.textwrap_base.proofs.Common.{Fits, closed_width, AreEqualFromSecond, line_width}
+use Rattle.textwrap_base.proofs.Common.{IsGreedy, IsDivision, Sizes, AllFit, AllFull, open_width}
+use Rattle.textwrap_text.proofs.Lists.Parts.{some_from_nonempty, flat, same_parts}
 use Rattle.std.proofs.lemmas.List.{drop-append-le}
 use Rattle.textwrap_base.specs.Division.{IsAdmissible}
 

@@ -1,14 +1,15 @@
 -- First fit fragment by fragment: the lines that are found so are the greedy division.
-use Rattle.textwrap_base.proofs.Common.{◌≡◌, ℕ, ◌+◌, ◌<◌, ◌≤◌, Bool, false, ◌&&◌, nat_lt}
-use Rattle.textwrap_base.proofs.Common.{if◌then◌else◌, List, [], ◌∷◌, ◌++◌, length, take, refl, sym}
-use Rattle.textwrap_base.proofs.Common.{ap, ◌∙◌, subst, arith, append_assoc, append-nil, and_from}
-use Rattle.textwrap_base.proofs.Common.{and_right, lt-ltb, le-ltb, cond_both, length_push, take_at}
-use Rattle.textwrap_base.proofs.Common.{Sizes, closed_width, Fits, length-append, ◌≢◌, true, All}
-use Rattle.textwrap_base.proofs.Common.{and_parts, ltb-true, All-nil, All-cons, line_width, AllFit}
-use Rattle.textwrap_base.proofs.Common.{AllFull, IsGreedy}
+use Rattle.textwrap_text.proofs.Common.{◌≡◌, ℕ, ◌+◌, ◌<◌, ◌≤◌, Bool, false, ◌&&◌, nat_lt}
+use Rattle.textwrap_text.proofs.Common.{if◌then◌else◌, List, [], ◌∷◌, ◌++◌, length, take, refl, sym}
+use Rattle.textwrap_text.proofs.Common.{ap, ◌∙◌, subst, arith, append_assoc, append-nil, and_from}
+use Rattle.textwrap_text.proofs.Common.{and_right, lt-ltb, le-ltb, cond_both, length_push, take_at}
+use Rattle.textwrap_text.proofs.Common.{length-append, ◌≢◌, true, All, and_parts, ltb-true, All-nil}
+use Rattle.textwrap_text.proofs.Common.{All-cons}
+use Rattle.textwrap_base.proofs.Common.{Sizes, closed_width, Fits, line_width, AllFit, AllFull}
+use Rattle.textwrap_base.proofs.Common.{IsGreedy}
 use Rattle.std.proofs.lemmas.Bool.{cond-true, cond-false}
 use Rattle.textwrap_base.proofs.Division.Greedy.{Fits-push, IsGreedy-from}
-use Rattle.textwrap_base.proofs.Lists.Parts.{flat}
+use Rattle.textwrap_text.proofs.Lists.Parts.{flat}
 
 -- ---- lemmas on first fit fragment by fragment, where all lines but the first have one width: a
 -- line takes the next one where it has room for it, and else the next one begins a line

@@ -1,9 +1,8 @@
 -- A division of fragments is one of what a function makes of them.
-use Rattle.textwrap_base.proofs.Common.{◌≡◌, ◌≢◌, ℕ, ◌+◌, ◌<◌, List, [], ◌∷◌, ◌++◌, take, map, All}
-use Rattle.textwrap_base.proofs.Common.{refl, sym, ap, ◌∙◌, arith, length, flat_map, map-append}
-use Rattle.textwrap_base.proofs.Common.{length-map, take-map, All-map, get_or, Sizes}
-use Rattle.textwrap_base.proofs.Common.{closed_width, IsDivision, AllFit, AllFull}
-use Rattle.textwrap_base.proofs.Common.{priced_at}
+use Rattle.textwrap_text.proofs.Common.{◌≡◌, ◌≢◌, ℕ, ◌+◌, ◌<◌, List, [], ◌∷◌, ◌++◌, take, map, All}
+use Rattle.textwrap_text.proofs.Common.{refl, sym, ap, ◌∙◌, arith, length, flat_map, map-append}
+use Rattle.textwrap_text.proofs.Common.{length-map, take-map, All-map, get_or}
+use Rattle.textwrap_base.proofs.Common.{Sizes, closed_width, IsDivision, AllFit, AllFull, priced_at}
 use Rattle.textwrap_base.specs.Algorithms.{Algorithm, Greedy, LeastCost, IsDividedBy}
 use Rattle.textwrap_base.proofs.Division.Greedy.{closed_width-map}
 use Rattle.textwrap_base.proofs.Cost.Chosen.{IsByOptimalFit-map}

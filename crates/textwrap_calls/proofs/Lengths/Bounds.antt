@@ -12,7 +12,7 @@ use Rattle.textwrap_calls.proofs.Common.{join-paragraphs_of, paragraphs_of-utf8,
 use Rattle.textwrap_calls.proofs.Common.{table_rows, IsInColumns, algorithm_of, Divides}
 use Rattle.textwrap_calls.proofs.Common.{separator_of, splitter_of, settings_of, TextwrapOptions}
 use Rattle.textwrap_calls.proofs.Common.{◌++◌, All-head}
-use Rattle.textwrap_base.proofs.Common.{and_parts, ◌/◌, max}
+use Rattle.textwrap_text.proofs.Common.{and_parts, ◌/◌, max}
 use Rattle.textwrap_lines.proofs.Common.{AreTextLines, Line, Slice, built_bytes, built_text}
 use Rattle.textwrap.proofs.Common.{RowLayout, cell, cells, padded, row_text}
 use Rattle.std.proofs.Math.Nat.{lt-mul-div-succ, lt_of_mul-lt-mul_right, mul-div-le}

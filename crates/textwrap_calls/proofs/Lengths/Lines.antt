@@ -11,7 +11,8 @@ use Rattle.textwrap_calls.proofs.Common.{widths_of, line_from, line_bytes, AreIn
 use Rattle.textwrap_calls.proofs.Common.{join_with, AreGroups, covered_by, flat, length-slice}
 use Rattle.textwrap_calls.proofs.Common.{HasNoHyphen, words_by, algorithm_of, Divides, separator_of}
 use Rattle.textwrap_calls.proofs.Common.{splitter_of, TextwrapOptions}
-use Rattle.textwrap_base.proofs.Common.{All-append, IsDivision}
+use Rattle.textwrap_text.proofs.Common.{All-append}
+use Rattle.textwrap_base.proofs.Common.{IsDivision}
 use Rattle.textwrap_words.proofs.Common.{tile_of, broken_words, pieces_with, AtHyphens, Splitter}
 use Rattle.textwrap_words.proofs.Common.{split_words, Whole, Algorithm, Greedy, LeastCost}
 use Rattle.textwrap_words.proofs.Common.{IsDividedBy}
@@ -19,10 +20,10 @@ use Rattle.textwrap_lines.proofs.Common.{empty_word, front_pieces, pieces_by, la
 use Rattle.std.proofs.lemmas.Str.{length-le-encodes}
 use Rattle.std.specs.List.{slice_range}
 use Rattle.std.specs.Prelude.{chars}
-use Rattle.textwrap_base.proofs.Lists.Parts.{some_from_nonempty}
+use Rattle.textwrap_text.proofs.Lists.Parts.{some_from_nonempty}
 use Rattle.textwrap_words.proofs.Word.Breaking.{AreBroken-exists}
 use Rattle.textwrap_words.proofs.Word.Words.{IsMeasured, tile_of-word_of}
-use Rattle.textwrap_words.specs.Units.{taken_at, units_past}
+use Rattle.textwrap_text.specs.Units.{taken_at, units_past}
 use Rattle.textwrap_words.specs.WordSplitters.{cut_penalty, is_hyphen_point, split_from, split_word}
 use Rattle.textwrap_words.specs.Words.{piece}
 use Rattle.textwrap_lines.proofs.Paragraph.KeepsTo.{parts_from-pieces}

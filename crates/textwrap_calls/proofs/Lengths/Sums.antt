@@ -6,7 +6,7 @@ use Rattle.textwrap_calls.proofs.Common.{sum_by-le-sum_by}
 use Rattle.std.proofs.Math.Nat.{mul_comm}
 use Rattle.std.proofs.lemmas.List.Folds.{fold-map}
 use Rattle.std.proofs.lemmas.List.Sums.{sum_by-le}
-use Rattle.textwrap_base.proofs.Numbers.{either_short}
+use Rattle.textwrap_text.proofs.Numbers.{either_short}
 use Rattle.textwrap_calls.specs.Bounds.{as_len, Suffices}
 
 -- ---- sums over lists, and how long texts are together and joined

@@ -10,9 +10,8 @@ use Rattle.textwrap_calls.proofs.Common.{encode_utf8_all, All-weaker, take_all, 
 use Rattle.textwrap_calls.proofs.Common.{ending_bytes, is_blank_line, sum_by-le-sum_by, chars}
 use Rattle.textwrap_calls.proofs.Common.{lines_of_parts, ending_bytes-some, LineEnding, dedented}
 use Rattle.textwrap_calls.proofs.Common.{unfilled_parts, All-tail}
-use Rattle.textwrap_base.proofs.Common.{last, length-take, not, ends_with, nat_eq, join_with_byte}
-use Rattle.textwrap_base.proofs.Common.{take_more}
-use Rattle.textwrap_words.proofs.Common.{blank}
+use Rattle.textwrap_text.proofs.Common.{last, length-take, not, ends_with, nat_eq, join_with_byte}
+use Rattle.textwrap_text.proofs.Common.{take_more, blank}
 use Rattle.textwrap.proofs.Common.{EndedLine, joined_text, line_prefix, common_prefix, margin_of}
 use Rattle.std.proofs.lemmas.List.Splits.{join_with_byte-slice_split}
 use Rattle.std.proofs.lemmas.List.Sums.{fails_before_first, passes_at_first, prefix_len-le-length}
@@ -21,10 +20,9 @@ use Rattle.std.proofs.lemmas.Slice.Eq.{bytes_eq-Decides}
 use Rattle.std.specs.List.{after_first, before_first, position_or_len}
 use Rattle.std.specs.Prelude.{slice_index_or}
 use Rattle.std.specs.Str.Lines.{strip_carriage_return}
-use Rattle.textwrap_base.proofs.Lists.Parts.{last-cons}
-use Rattle.textwrap_base.proofs.Texts.{cut_text, ascii_seam}
-use Rattle.textwrap_base.proofs.Lists.Parts.{last-append}
-use Rattle.textwrap_lines.specs.declared.line_ending.LineEnding.TheVariants.{CRLF, LF}
+use Rattle.textwrap_text.proofs.Lists.Parts.{last-cons, last-append}
+use Rattle.textwrap_text.proofs.Texts.{cut_text, ascii_seam}
+use Rattle.textwrap_text.specs.declared.line_ending.LineEnding.TheVariants.{CRLF, LF}
 use Rattle.textwrap.proofs.Text.Indents.{ended_lines-feed, ended_lines-one, is_feed}
 use Rattle.textwrap.proofs.Text.Margins.{common_prefix-begins}
 use Rattle.textwrap.proofs.Text.Unfilling.{texts_of-ended_lines, line_prefix-begins}

@@ -1,18 +1,20 @@
 -- What the words of a line cover: words and lines of words, cut in two.
-use Rattle.textwrap_base.proofs.Common.{◌≡◌, ◌+◌, ◌≤◌, List, ◌++◌, take, drop, refl, rules, last, ⊤}
-use Rattle.textwrap_base.proofs.Common.{ℕ, length, subst, IsUtf8, arith, take_at, drop_at, IsGreedy}
-use Rattle.textwrap_base.proofs.Common.{[], append_assoc, length-append, IsUtf8-append, IsUtf8-drop}
-use Rattle.textwrap_base.proofs.Common.{◌∷◌, map, sym, ap, ◌∙◌, ◌≢◌, ◌<◌, All, ◌-◌}
-use Rattle.textwrap_base.proofs.Common.{append-nil, StartsWith, map-append, and_parts, IsDivision}
-use Rattle.textwrap_base.proofs.Common.{take-append-drop, IsCharBoundary, IsCharBoundary-from_take}
-use Rattle.textwrap_base.proofs.Common.{eqb-true, take-map, All-head, All-tail, take_all, take_more}
-use Rattle.textwrap_words.proofs.Common.{WordText, word_view, AreCutApart, AreWordsOf, sizes_of}
-use Rattle.textwrap_words.proofs.Common.{tile_of, tiled, blank, word_of, IsUncut, words_of, Greedy}
+use Rattle.textwrap_text.proofs.Common.{◌≡◌, ◌+◌, ◌≤◌, List, ◌++◌, take, drop, refl, rules, last, ⊤}
+use Rattle.textwrap_text.proofs.Common.{ℕ, length, subst, IsUtf8, arith, take_at, drop_at, []}
+use Rattle.textwrap_text.proofs.Common.{append_assoc, length-append, IsUtf8-append, IsUtf8-drop}
+use Rattle.textwrap_text.proofs.Common.{◌∷◌, map, sym, ap, ◌∙◌, ◌≢◌, ◌<◌, All, ◌-◌, append-nil}
+use Rattle.textwrap_text.proofs.Common.{StartsWith, map-append, and_parts, take-append-drop}
+use Rattle.textwrap_text.proofs.Common.{IsCharBoundary, IsCharBoundary-from_take, eqb-true}
+use Rattle.textwrap_text.proofs.Common.{take-map, All-head, All-tail, take_all, take_more}
+use Rattle.textwrap_text.proofs.Common.{AreCutApart, blank, IsUncut}
+use Rattle.textwrap_base.proofs.Common.{IsGreedy, IsDivision}
+use Rattle.textwrap_words.proofs.Common.{WordText, word_view, AreWordsOf, sizes_of, tile_of, tiled}
+use Rattle.textwrap_words.proofs.Common.{word_of, words_of, Greedy}
 use Rattle.textwrap_lines.proofs.Common.{covered, Word}
 use Rattle.std.proofs.lemmas.Str.{IsCharBoundary-from_rest}
 use Rattle.textwrap_words.proofs.Word.Words.{tiled-push, tiled-map, tiled-words_of, words_unique}
 use Rattle.std.proofs.lemmas.List.{drop-map}
-use Rattle.textwrap_base.proofs.Lists.Parts.{flat, all-left, all-right, last-append}
+use Rattle.textwrap_text.proofs.Lists.Parts.{flat, all-left, all-right, last-append}
 use Rattle.textwrap_base.proofs.Division.Map.{IsDivision-whole, IsDividedBy-some}
 
 -- ---- what the words of a line cover, and where a text that they tile may be cut

@@ -1,9 +1,10 @@
 -- What the lines of a paragraph keep to, and the shortcut for a paragraph that is one line.
-use Rattle.textwrap_base.proofs.Common.{◌≡◌, ℕ, ◌≤◌, Bool, true, ◌==◌, nat_lt, List, [], ◌∷◌, All}
-use Rattle.textwrap_base.proofs.Common.{length, map, refl, arith, IsUtf8, and_parts, ltb-true}
-use Rattle.textwrap_base.proofs.Common.{All-nil, All-cons, closed_width, rules, ◌+◌, ◌<◌, false}
-use Rattle.textwrap_base.proofs.Common.{◌&&◌, cond, inl, ap, take, MatchBool, sym, ◌∙◌, subst}
-use Rattle.textwrap_base.proofs.Common.{length-map, ◌≢◌, All-weaker, None, Option, Some, cond_both}
+use Rattle.textwrap_text.proofs.Common.{◌≡◌, ℕ, ◌≤◌, Bool, true, ◌==◌, nat_lt, List, [], ◌∷◌, All}
+use Rattle.textwrap_text.proofs.Common.{length, map, refl, arith, IsUtf8, and_parts, ltb-true}
+use Rattle.textwrap_text.proofs.Common.{All-nil, All-cons, rules, ◌+◌, ◌<◌, false, ◌&&◌, cond, inl}
+use Rattle.textwrap_text.proofs.Common.{ap, take, MatchBool, sym, ◌∙◌, subst, length-map, ◌≢◌}
+use Rattle.textwrap_text.proofs.Common.{All-weaker, None, Option, Some, cond_both}
+use Rattle.textwrap_base.proofs.Common.{closed_width}
 use Rattle.textwrap_words.proofs.Common.{WordText, sizes_of, word_of, Greedy, IsDividedBy}
 use Rattle.textwrap_words.proofs.Common.{ends_in_hyphen, AreCuts, MaySeparate, Splitter, MaySplit}
 use Rattle.textwrap_words.proofs.Common.{splitter_view, MayDivide, algorithm_view, Algorithm}
@@ -12,7 +13,7 @@ use Rattle.textwrap_lines.proofs.Common.{parts_of, is_whole, Settings, pieces_of
 use Rattle.textwrap_lines.proofs.Common.{AreIndented, first_width, later_width, width_after, Line}
 use Rattle.textwrap_lines.proofs.Common.{OnlyCharactersPass, AreParagraphParts, AreDividedParts}
 use Rattle.textwrap_lines.proofs.Common.{KeepsToWidth, IsOneCharacter, IsDividedInto, KeepToWidths}
-use Rattle.textwrap_base.proofs.Lists.Parts.{flat, all-left, all-right, Begins}
+use Rattle.textwrap_text.proofs.Lists.Parts.{flat, all-left, all-right, Begins}
 use Rattle.textwrap_words.proofs.Word.Words.{closed_width-narrow, HasNoPenalty, IsMeasured}
 use Rattle.textwrap_words.proofs.Word.Words.{text_width-nil}
 use Rattle.textwrap_words.proofs.Word.Texts.{without_final_blanks-utf8}

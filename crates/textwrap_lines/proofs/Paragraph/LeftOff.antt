@@ -1,30 +1,31 @@
 -- What is left off the lines of a paragraph, the line of a whole one, and the blanks at its end.
-use Rattle.textwrap_base.proofs.Common.{◌≡◌, ℕ, Bool, true, false, cond, List, [], ◌∷◌, ◌++◌, All}
-use Rattle.textwrap_base.proofs.Common.{refl, sym, ◌∙◌, append_assoc, append-nil, take-append-drop}
-use Rattle.textwrap_base.proofs.Common.{flat_map, true≢false, All-nil, All-cons, All-head, All-tail}
-use Rattle.textwrap_base.proofs.Common.{rules, MatchBool, subst, and_parts, eqb-true}
-use Rattle.textwrap_base.proofs.Common.{nil_from_length, arith, map, map-append, inl, inr, ◌≢◌}
-use Rattle.textwrap_base.proofs.Common.{zero, suc, ◌+◌, ◌-◌, ◌<◌, ◌≤◌, ◌||◌, length, drop, get_or}
-use Rattle.textwrap_base.proofs.Common.{ap, slice_range, get_or-drop, add-zero, not-true}
-use Rattle.textwrap_base.proofs.Common.{false≢true, false_from_ne_true, cases_lt, length-drop}
-use Rattle.textwrap_base.proofs.Common.{length-map, drop_all, drop_more, length-append, IsUtf8}
-use Rattle.textwrap_base.proofs.Common.{take_at, IsUtf8-from_ascii, closed_width}
-use Rattle.textwrap_words.proofs.Common.{WordText, tile_of, tiled, word_of, trimmed_len}
-use Rattle.textwrap_words.proofs.Common.{without_final_blanks, word_view, chunks, words_of}
-use Rattle.textwrap_words.proofs.Common.{is_blank, is_cut, final_blanks, Splitter, Whole, AtHyphens}
-use Rattle.textwrap_words.proofs.Common.{broken_word, sizes_of}
+use Rattle.textwrap_text.proofs.Common.{◌≡◌, ℕ, Bool, true, false, cond, List, [], ◌∷◌, ◌++◌, All}
+use Rattle.textwrap_text.proofs.Common.{refl, sym, ◌∙◌, append_assoc, append-nil, take-append-drop}
+use Rattle.textwrap_text.proofs.Common.{flat_map, true≢false, All-nil, All-cons, All-head, All-tail}
+use Rattle.textwrap_text.proofs.Common.{rules, MatchBool, subst, and_parts, eqb-true}
+use Rattle.textwrap_text.proofs.Common.{nil_from_length, arith, map, map-append, inl, inr, ◌≢◌}
+use Rattle.textwrap_text.proofs.Common.{zero, suc, ◌+◌, ◌-◌, ◌<◌, ◌≤◌, ◌||◌, length, drop, get_or}
+use Rattle.textwrap_text.proofs.Common.{ap, slice_range, get_or-drop, add-zero, not-true}
+use Rattle.textwrap_text.proofs.Common.{false≢true, false_from_ne_true, cases_lt, length-drop}
+use Rattle.textwrap_text.proofs.Common.{length-map, drop_all, drop_more, length-append, IsUtf8}
+use Rattle.textwrap_text.proofs.Common.{take_at, IsUtf8-from_ascii, trimmed_len}
+use Rattle.textwrap_text.proofs.Common.{without_final_blanks, chunks, is_blank, is_cut}
+use Rattle.textwrap_text.proofs.Common.{final_blanks}
+use Rattle.textwrap_base.proofs.Common.{closed_width}
+use Rattle.textwrap_words.proofs.Common.{WordText, tile_of, tiled, word_of, word_view, words_of}
+use Rattle.textwrap_words.proofs.Common.{Splitter, Whole, AtHyphens, broken_word, sizes_of}
 use Rattle.textwrap_lines.proofs.Common.{Settings, indent_of, line_from, is_cut_by, pieces_of}
 use Rattle.textwrap_lines.proofs.Common.{LineParts, parts_from, covered_by, line_bytes, last_space}
-use Rattle.textwrap_lines.proofs.Common.{covered, parts_of, is_whole, Slice}
-use Rattle.textwrap_lines.proofs.Common.{keeps_whitespace, AreDividedParts, AreParagraphParts, Word}
-use Rattle.textwrap_lines.proofs.Common.{last_piece, assembled_line, BeforeOthers, later_width}
+use Rattle.textwrap_lines.proofs.Common.{covered, parts_of, is_whole, Slice, keeps_whitespace}
+use Rattle.textwrap_lines.proofs.Common.{AreDividedParts, AreParagraphParts, Word, last_piece}
+use Rattle.textwrap_lines.proofs.Common.{assembled_line, BeforeOthers, later_width}
 use Rattle.textwrap_words.proofs.Word.Texts.{AreBlanks, final_blanks-blank, trimmed-past}
 use Rattle.textwrap_words.proofs.Word.Texts.{trimmed-front}
-use Rattle.textwrap_words.proofs.Word.Chunks.{AreChunks-chunks}
+use Rattle.textwrap_text.proofs.Units.Chunks.{AreChunks-chunks}
 use Rattle.textwrap_words.proofs.Word.Words.{EndsInBlanks, tiled-words_of}
 use Rattle.textwrap_words.proofs.Word.Words.{no_blanks, tiled-append, HasNoPenalty, IsNarrowWord}
 use Rattle.textwrap_words.proofs.Word.Words.{IsMeasured, IsNarrowWord-measured, closed_width-narrow}
-use Rattle.textwrap_base.proofs.Lists.Parts.{all-left, all-right, some_from_nonempty}
+use Rattle.textwrap_text.proofs.Lists.Parts.{all-left, all-right, some_from_nonempty}
 use Rattle.textwrap_lines.proofs.Paragraph.Pieces.{last_piece-append, pieces_of-measured}
 use Rattle.textwrap_lines.proofs.Paragraph.Pieces.{last_space-append, broken_words-ends}
 use Rattle.textwrap_lines.proofs.Paragraph.Pieces.{split_pieces_of-measured, pieces_of-no_penalty}

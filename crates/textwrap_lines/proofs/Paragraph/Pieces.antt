@@ -1,11 +1,12 @@
 -- The pieces of a paragraph: those of given points and of built-in parts; they tile it, and end as
 -- its words do.
-use Rattle.textwrap_base.proofs.Common.{subst, ◌≡◌, ◌≢◌, ℕ, ◌<◌, Bool, true, false, cond, List, []}
-use Rattle.textwrap_base.proofs.Common.{◌∷◌, ◌++◌, All, take, refl, sym, ap, ◌∙◌, IsUtf8, All-nil}
-use Rattle.textwrap_base.proofs.Common.{All-cons, All-append, All-weaker, arith, IsUtf8-nil, rules}
-use Rattle.textwrap_base.proofs.Common.{◌≤◌, length, total_width, ◌↔◌, None, Option, Some}
-use Rattle.textwrap_base.proofs.Common.{append-nil, length-append, flat_map, slice_range, ltb-true}
-use Rattle.textwrap_base.proofs.Common.{All-head, All-tail}
+use Rattle.textwrap_text.proofs.Common.{subst, ◌≡◌, ◌≢◌, ℕ, ◌<◌, Bool, true, false, cond, List, []}
+use Rattle.textwrap_text.proofs.Common.{◌∷◌, ◌++◌, All, take, refl, sym, ap, ◌∙◌, IsUtf8, All-nil}
+use Rattle.textwrap_text.proofs.Common.{All-cons, All-append, All-weaker, arith, IsUtf8-nil, rules}
+use Rattle.textwrap_text.proofs.Common.{◌≤◌, length, ◌↔◌, None, Option, Some, append-nil}
+use Rattle.textwrap_text.proofs.Common.{length-append, flat_map, slice_range, ltb-true, All-head}
+use Rattle.textwrap_text.proofs.Common.{All-tail}
+use Rattle.textwrap_base.proofs.Common.{total_width}
 use Rattle.textwrap_words.proofs.Common.{WordText, tiled, broken_words, AreCuts, ends_in_hyphen}
 use Rattle.textwrap_words.proofs.Common.{sizes_of, word_of, words_of, AreWordsOf, Splitter}
 use Rattle.textwrap_words.proofs.Common.{ArePoints, split_words, piece, broken_word, pieces_with}
@@ -17,7 +18,7 @@ use Rattle.textwrap_lines.proofs.Common.{widths_of, IsDividedInto, pieces_of, pi
 use Rattle.textwrap_lines.proofs.Common.{pieces_of_words, broken_pieces_of, last_space, last_piece}
 use Rattle.textwrap_lines.proofs.Common.{settings_view, IsFilled, AreTextLines, DividesAs}
 use Rattle.textwrap_lines.proofs.Common.{DividesBy, Line, HasParts, Options}
-use Rattle.textwrap_base.proofs.Lists.Parts.{Begins, flat, all-left}
+use Rattle.textwrap_text.proofs.Lists.Parts.{Begins, flat, all-left}
 use Rattle.textwrap_words.proofs.Word.BrokenPieces.{tiled-broken_words, broken_words-measured}
 use Rattle.textwrap_words.proofs.Word.BrokenPieces.{broken_words-no_penalty, broken_texts-some}
 use Rattle.textwrap_words.proofs.Word.Words.{IsNarrowWord, IsNarrowWord-measured, IsMeasured}

@@ -1,11 +1,11 @@
 -- Where the pieces of a paragraph stand in it, and words that stay whole under a limit.
-use Rattle.textwrap_base.proofs.Common.{◌≡◌, ℕ, ◌+◌, ◌≤◌, List, ◌++◌, length, take, drop, ap, ◌∙◌}
-use Rattle.textwrap_base.proofs.Common.{sym, subst, arith, append_assoc, length-append, IsUtf8}
-use Rattle.textwrap_base.proofs.Common.{IsCharBoundary, take_at, drop_at, drop-drop, IsUtf8-drop}
-use Rattle.textwrap_base.proofs.Common.{[], ◌∷◌, All, refl, All-head, All-tail, ◌-◌, ◌^◌, ◌<◌, true}
-use Rattle.textwrap_base.proofs.Common.{false, cond, le-ltb, slice_range}
+use Rattle.textwrap_text.proofs.Common.{◌≡◌, ℕ, ◌+◌, ◌≤◌, List, ◌++◌, length, take, drop, ap, ◌∙◌}
+use Rattle.textwrap_text.proofs.Common.{sym, subst, arith, append_assoc, length-append, IsUtf8}
+use Rattle.textwrap_text.proofs.Common.{IsCharBoundary, take_at, drop_at, drop-drop, IsUtf8-drop}
+use Rattle.textwrap_text.proofs.Common.{[], ◌∷◌, All, refl, All-head, All-tail, ◌-◌, ◌^◌, ◌<◌, true}
+use Rattle.textwrap_text.proofs.Common.{false, cond, le-ltb, slice_range}
 use Rattle.std.proofs.lemmas.Str.{IsCharBoundary-from_rest}
-use Rattle.textwrap_base.proofs.Texts.{StartsWith-boundary}
+use Rattle.textwrap_text.proofs.Texts.{StartsWith-boundary}
 use Rattle.textwrap_words.proofs.Common.{WordText, tiled, Splitter, broken_words, broken_pieces}
 use Rattle.textwrap_words.proofs.Common.{tile_of, split_words}
 use Rattle.textwrap_words.proofs.Word.Words.{IsMeasured, IsNarrowWord, IsNarrowWord-measured}

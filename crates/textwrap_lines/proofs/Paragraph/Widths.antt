@@ -1,19 +1,21 @@
 -- The widths of the lines of a division: lines that pass their width, and overflow.
-use Rattle.textwrap_base.proofs.Common.{◌≡◌, ℕ, Bool, ◌≤◌, List, [], ◌∷◌, length, map, refl, ap}
-use Rattle.textwrap_base.proofs.Common.{All, flat_map, map-append, total_width, rules, arith, ◌++◌}
-use Rattle.textwrap_base.proofs.Common.{◌∙◌, StartsWith, starts_with_of_append, subst, sym, ◌≢◌}
-use Rattle.textwrap_base.proofs.Common.{◌<◌, ◌^◌, take, take_at, Some, None, Err, IsErrAnd, Result}
-use Rattle.textwrap_base.proofs.Common.{Ok, IsUtf8, CowStr, Overflowed, Sizes, ◌+◌, take_all}
-use Rattle.textwrap_base.proofs.Common.{All-head, line_width, closed_width, Fits, AllFit, cond_both}
-use Rattle.textwrap_base.proofs.Common.{zero, suc, true, false, cond, ◌==◌, nil_from_length}
-use Rattle.textwrap_base.proofs.Common.{eqb-true, All-nil, All-cons, All-append}
-use Rattle.textwrap_base.proofs.Lists.Parts.{flat, all-left, all-right}
+use Rattle.textwrap_text.proofs.Common.{◌≡◌, ℕ, Bool, ◌≤◌, List, [], ◌∷◌, length, map, refl, ap}
+use Rattle.textwrap_text.proofs.Common.{All, flat_map, map-append, rules, arith, ◌++◌, ◌∙◌}
+use Rattle.textwrap_text.proofs.Common.{StartsWith, starts_with_of_append, subst, sym, ◌≢◌, ◌<◌}
+use Rattle.textwrap_text.proofs.Common.{◌^◌, take, take_at, Some, None, Err, IsErrAnd, Result, Ok}
+use Rattle.textwrap_text.proofs.Common.{IsUtf8, ◌+◌, take_all, All-head, cond_both, zero, suc, true}
+use Rattle.textwrap_text.proofs.Common.{false, cond, ◌==◌, nil_from_length, eqb-true, All-nil}
+use Rattle.textwrap_text.proofs.Common.{All-cons, All-append, text_width}
+use Rattle.textwrap_base.proofs.Common.{total_width, Overflowed, Sizes, line_width, closed_width}
+use Rattle.textwrap_base.proofs.Common.{Fits, AllFit}
+use Rattle.std.specs.declared.borrow.CowStr.{CowStr}
+use Rattle.textwrap_text.proofs.Lists.Parts.{flat, all-left, all-right}
 use Rattle.textwrap_words.proofs.Common.{WordText, word_view, sizes_of, tiled, Tiles, MayDivide}
 use Rattle.textwrap_words.proofs.Common.{LeastCost, algorithm_view, MaySeparate, MaySplit}
-use Rattle.textwrap_words.proofs.Common.{splitter_view, broken_words, text_width, AreCuts}
-use Rattle.textwrap_words.proofs.Common.{ends_in_hyphen, Greedy, IsDividedBy}
-use Rattle.textwrap_lines.proofs.Common.{Settings, Word, line_view, line_from, Penalties}
-use Rattle.textwrap_lines.proofs.Common.{ArePieces, widths_of, LineParts, empty_word, later_width}
+use Rattle.textwrap_words.proofs.Common.{splitter_view, broken_words, AreCuts, ends_in_hyphen}
+use Rattle.textwrap_words.proofs.Common.{Greedy, IsDividedBy}
+use Rattle.textwrap_lines.proofs.Common.{Settings, Word, line_view, line_from, Penalties, ArePieces}
+use Rattle.textwrap_lines.proofs.Common.{widths_of, LineParts, empty_word, later_width}
 use Rattle.textwrap_lines.proofs.Common.{IsDividedInto, Options, OnlyCharactersPass, IsOneCharacter}
 use Rattle.textwrap_lines.proofs.Common.{MayOverflow, settings_view, front_pieces, first_width}
 use Rattle.textwrap_words.specs.declared.wrap_algorithms.WrapAlgorithm.{WrapAlgorithm}

@@ -1,6 +1,6 @@
 -- The lines of least cost of pieces, found from where they stand.
-use Rattle.textwrap_base.proofs.Common.{◌≡◌, ℕ, ◌<◌, List, [], ◌∷◌, All, length, sym, ap, ◌∙◌}
-use Rattle.textwrap_base.proofs.Common.{subst, arith, Bool, IsUtf8, IsCharBoundary-start, rules}
+use Rattle.textwrap_text.proofs.Common.{◌≡◌, ℕ, ◌<◌, List, [], ◌∷◌, All, length, sym, ap, ◌∙◌}
+use Rattle.textwrap_text.proofs.Common.{subst, arith, Bool, IsUtf8, IsCharBoundary-start, rules}
 use Rattle.textwrap_base.proofs.Common.{PricedSizes, SuitQueue, IsByTable, fragment_costs}
 use Rattle.textwrap_base.proofs.Common.{fragments_table, problem_at, problem_by}
 use Rattle.textwrap_words.proofs.Common.{WordText, sizes_of, tiled, Splitter}
@@ -11,7 +11,7 @@ use Rattle.textwrap_base.specs.OptimalFit.{IsByOptimalFit}
 use Rattle.textwrap_base.proofs.Cost.Chosen.{by_table-chosen, division_joined, joined_division}
 use Rattle.textwrap_base.proofs.Cost.Chosen.{fragments_table-map}
 use Rattle.textwrap_base.proofs.Cost.QueueCase.{SuitQueue-queue_case}
-use Rattle.textwrap_base.proofs.Lists.Parts.{flat}
+use Rattle.textwrap_text.proofs.Lists.Parts.{flat}
 use Rattle.textwrap_words.proofs.Word.Words.{IsNarrowWord-measured, HasNoPenalty, IsMeasured}
 use Rattle.textwrap_words.proofs.Word.Pieces.{AreTexts}
 use Rattle.textwrap_lines.specs.Cheapest.{SuitSearch}

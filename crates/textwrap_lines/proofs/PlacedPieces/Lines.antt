@@ -1,13 +1,13 @@
 -- Pieces that are known by where they stand: lines of them, and what these cost.
-use Rattle.textwrap_base.proofs.Common.{◌≡◌, ℕ, ◌+◌, List, [], ◌∷◌, ◌++◌, length, refl, ap, rules}
-use Rattle.textwrap_base.proofs.Common.{arith, length-append, suc, open_width, ◌-◌, ◌≤◌, get_or}
-use Rattle.textwrap_base.proofs.Common.{sym, ◌∙◌, append_assoc, append-nil, total_width, ◌≢◌, All}
-use Rattle.textwrap_base.proofs.Common.{take, drop, subst, take-append-drop, ⊤, length-take-le}
-use Rattle.textwrap_base.proofs.Common.{All-nil, All-cons, All-head, All-tail, FollowStarts, zero}
-use Rattle.textwrap_base.proofs.Common.{◌<◌, map, take-take, priced_at, AreEqualFromSecond}
-use Rattle.textwrap_base.proofs.Common.{IsQueueCase, NeverFalls, IsUtf8, IsCharBoundary, drop_at}
-use Rattle.textwrap_base.proofs.Common.{drop-drop, Bool, true, cond, slice_range, IsUtf8-drop}
-use Rattle.textwrap_base.proofs.Common.{problem_by}
+use Rattle.textwrap_text.proofs.Common.{◌≡◌, ℕ, ◌+◌, List, [], ◌∷◌, ◌++◌, length, refl, ap, rules}
+use Rattle.textwrap_text.proofs.Common.{arith, length-append, suc, ◌-◌, ◌≤◌, get_or, sym, ◌∙◌}
+use Rattle.textwrap_text.proofs.Common.{append_assoc, append-nil, ◌≢◌, All, take, drop, subst}
+use Rattle.textwrap_text.proofs.Common.{take-append-drop, ⊤, length-take-le, All-nil, All-cons}
+use Rattle.textwrap_text.proofs.Common.{All-head, All-tail, zero, ◌<◌, map, take-take, IsUtf8}
+use Rattle.textwrap_text.proofs.Common.{IsCharBoundary, drop_at, drop-drop, Bool, true, cond}
+use Rattle.textwrap_text.proofs.Common.{slice_range, IsUtf8-drop}
+use Rattle.textwrap_base.proofs.Common.{open_width, total_width, FollowStarts, priced_at}
+use Rattle.textwrap_base.proofs.Common.{AreEqualFromSecond, IsQueueCase, NeverFalls, problem_by}
 use Rattle.textwrap_words.proofs.Common.{WordText, sizes_of, tile_of, tiled}
 use Rattle.textwrap_lines.proofs.Common.{spans_from, Span, span_priced, Penalties, AreSpans}
 use Rattle.textwrap_lines.proofs.Common.{covered, last_span, cut_line, cut_lines, Settings}
@@ -16,7 +16,7 @@ use Rattle.textwrap_base.proofs.Division.Greedy.{open_width-cons, closed-take}
 use Rattle.textwrap_base.proofs.Cost.LineCosts.{total_width-cons}
 use Rattle.textwrap_words.specs.Pieces.{stand_from}
 use Rattle.textwrap_words.specs.declared.pieces.Piece.{Piece}
-use Rattle.textwrap_base.proofs.Lists.Parts.{flat, same_parts, all-left, all-right}
+use Rattle.textwrap_text.proofs.Lists.Parts.{flat, same_parts, all-left, all-right}
 use Rattle.textwrap_base.proofs.Cost.Measures.{sizes-same, total_width-same}
 use Rattle.textwrap_words.proofs.Word.Words.{IsNarrowWord, total_width-narrow, HasNoPenalty}
 use Rattle.textwrap_words.proofs.Word.Words.{IsMeasured, tiled-append}

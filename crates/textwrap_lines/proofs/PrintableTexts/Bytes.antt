@@ -1,25 +1,27 @@
 -- Texts of printable ASCII: each byte is one column, and bytes tell where words are split and
 -- broken.
-use Rattle.textwrap_base.proofs.Common.{◌≡◌, ◌∷◌, ℕ, Fits, zero, take, drop, ◌++◌, true, ◌&&◌, ◌==◌}
-use Rattle.textwrap_base.proofs.Common.{List, refl, length, nat_lt, get_or, subst, lt-ltb, le-ltb}
-use Rattle.textwrap_base.proofs.Common.{[], chars-IsAscii, length-append, closed_width, length-drop}
-use Rattle.textwrap_base.proofs.Common.{All, map, ◌∙◌, ◌≤◌, suc, ◌+◌, ◌<◌, sym, ◌≢◌, ◌-◌, inl, inr}
-use Rattle.textwrap_base.proofs.Common.{ap, open_width, ltb-false, All-append, cond_both, drop_more}
-use Rattle.textwrap_base.proofs.Common.{IsUtf8, All-nil, arith, take_at, drop_at, reverse, cases_lt}
-use Rattle.textwrap_base.proofs.Common.{All-cons, All-head, All-tail, All-take, All-drop, ltb-true}
-use Rattle.textwrap_base.proofs.Common.{IsUtf8-from_ascii, is_ascii_alphanumeric, take-append-drop}
-use Rattle.textwrap_base.proofs.Common.{All-weaker, take-append-add, length-take-le, reverse-append}
-use Rattle.textwrap_words.proofs.Common.{TextUnit, Visible, word_of, WordText, sizes_of, units_text}
-use Rattle.textwrap_words.proofs.Common.{units, split_words, trimmed_len, broken_word, pieces_with}
-use Rattle.textwrap_words.proofs.Common.{Whole, tile_of, tiled, columns, piece}
-use Rattle.textwrap_words.proofs.Common.{broken_units, broken_texts, final_blanks, broken_words}
-use Rattle.textwrap_words.proofs.Common.{without_final_blanks, broken_pieces, is_hyphen_point}
-use Rattle.textwrap_lines.proofs.Common.{IsPrintableByte, IsPrintable, covered}
+use Rattle.textwrap_text.proofs.Common.{◌≡◌, ◌∷◌, ℕ, zero, take, drop, ◌++◌, true, ◌&&◌, ◌==◌, List}
+use Rattle.textwrap_text.proofs.Common.{refl, length, nat_lt, get_or, subst, lt-ltb, le-ltb, []}
+use Rattle.textwrap_text.proofs.Common.{chars-IsAscii, length-append, length-drop, All, map, ◌∙◌}
+use Rattle.textwrap_text.proofs.Common.{◌≤◌, suc, ◌+◌, ◌<◌, sym, ◌≢◌, ◌-◌, inl, inr, ap, ltb-false}
+use Rattle.textwrap_text.proofs.Common.{All-append, cond_both, drop_more, IsUtf8, All-nil, arith}
+use Rattle.textwrap_text.proofs.Common.{take_at, drop_at, reverse, cases_lt, All-cons, All-head}
+use Rattle.textwrap_text.proofs.Common.{All-tail, All-take, All-drop, ltb-true, IsUtf8-from_ascii}
+use Rattle.textwrap_text.proofs.Common.{is_ascii_alphanumeric, take-append-drop, All-weaker}
+use Rattle.textwrap_text.proofs.Common.{take-append-add, length-take-le, reverse-append, TextUnit}
+use Rattle.textwrap_text.proofs.Common.{Visible, units, trimmed_len, columns, final_blanks}
+use Rattle.textwrap_text.proofs.Common.{without_final_blanks, IsPrintableByte, IsPrintable}
+use Rattle.textwrap_base.proofs.Common.{Fits, closed_width, open_width}
+use Rattle.textwrap_words.proofs.Common.{word_of, WordText, sizes_of, units_text, split_words}
+use Rattle.textwrap_words.proofs.Common.{broken_word, pieces_with, Whole, tile_of, tiled, piece}
+use Rattle.textwrap_words.proofs.Common.{broken_units, broken_texts, broken_words, broken_pieces}
+use Rattle.textwrap_words.proofs.Common.{is_hyphen_point}
+use Rattle.textwrap_lines.proofs.Common.{covered}
 use Rattle.std.specs.Prelude.{chars}
-use Rattle.textwrap_words.proofs.Units.Reading.{units-printable, printable-width}
-pub use Rattle.textwrap_words.proofs.Units.Reading.{columns-printable, printable-ascii}
-pub use Rattle.textwrap_words.proofs.Units.Reading.{printable-width}
-use Rattle.textwrap_base.proofs.Lists.Parts.{flat, all-left, all-right}
+use Rattle.textwrap_text.proofs.Units.Reading.{units-printable, printable-width}
+pub use Rattle.textwrap_text.proofs.Units.Reading.{columns-printable, printable-ascii}
+pub use Rattle.textwrap_text.proofs.Units.Reading.{printable-width}
+use Rattle.textwrap_text.proofs.Lists.Parts.{flat, all-left, all-right}
 use Rattle.textwrap_words.proofs.Word.Words.{IsMeasured, HasNoPenalty}
 use Rattle.textwrap_base.proofs.Division.Greedy.{open_width-cons, closed-take}
 use Rattle.textwrap_words.proofs.Word.Breaking.{taken_units, left_units, parts_after-is}

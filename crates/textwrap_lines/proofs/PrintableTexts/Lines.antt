@@ -1,23 +1,23 @@
 -- The lines of a paragraph of printable ASCII, found by its bytes.
-use Rattle.textwrap_base.proofs.Common.{inl, inr, ◌≡◌, ℕ, ◌+◌, ◌-◌, ◌<◌, ◌≤◌, Bool, false, List}
-use Rattle.textwrap_base.proofs.Common.{length, drop, sym, ap, ◌∙◌, arith, cases_lt, false≢true}
-use Rattle.textwrap_base.proofs.Common.{false_from_ne_true, slice_range, get_or-take, get_or-drop}
-use Rattle.textwrap_base.proofs.Common.{true, [], ◌∷◌, map, take, get_or, refl, subst, drop_all}
-use Rattle.textwrap_base.proofs.Common.{length-take, length-take-le, All-take, open_width, Fits}
-use Rattle.textwrap_base.proofs.Common.{cond, ◌++◌, All, append-nil, append_assoc, add-zero}
-use Rattle.textwrap_base.proofs.Common.{drop-drop, drop_at, All-weaker, closed_width}
-use Rattle.textwrap_words.proofs.Common.{BlanksBetween, is_blank, trimmed_len, piece, WordText}
-use Rattle.textwrap_words.proofs.Common.{sizes_of, IsPrintable, broken_words, word_of}
-use Rattle.textwrap_words.proofs.Common.{without_final_blanks, IsPrintableByte, tiled}
+use Rattle.textwrap_text.proofs.Common.{inl, inr, ◌≡◌, ℕ, ◌+◌, ◌-◌, ◌<◌, ◌≤◌, Bool, false, List}
+use Rattle.textwrap_text.proofs.Common.{length, drop, sym, ap, ◌∙◌, arith, cases_lt, false≢true}
+use Rattle.textwrap_text.proofs.Common.{false_from_ne_true, slice_range, get_or-take, get_or-drop}
+use Rattle.textwrap_text.proofs.Common.{true, [], ◌∷◌, map, take, get_or, refl, subst, drop_all}
+use Rattle.textwrap_text.proofs.Common.{length-take, length-take-le, All-take, cond, ◌++◌, All}
+use Rattle.textwrap_text.proofs.Common.{append-nil, append_assoc, add-zero, drop-drop, drop_at}
+use Rattle.textwrap_text.proofs.Common.{All-weaker, BlanksBetween, is_blank, trimmed_len}
+use Rattle.textwrap_text.proofs.Common.{IsPrintable, without_final_blanks, IsPrintableByte}
+use Rattle.textwrap_base.proofs.Common.{open_width, Fits, closed_width}
+use Rattle.textwrap_words.proofs.Common.{piece, WordText, sizes_of, broken_words, word_of, tiled}
 use Rattle.textwrap_lines.proofs.Common.{BeforeOthers, NoCutBetween, pieces_from, IsFirstLine}
 use Rattle.textwrap_lines.proofs.Common.{Settings, covered, line_slice, cut_line, CutLine}
 use Rattle.textwrap_lines.proofs.Common.{cut_lines, assembled_line, indent_of, later_width}
 use Rattle.textwrap_lines.proofs.Common.{line_from, parts_from, parts_of}
-use Rattle.textwrap_base.proofs.Lists.Parts.{length-slice, all-left, all-right}
+use Rattle.textwrap_text.proofs.Lists.Parts.{length-slice, all-left, all-right}
 use Rattle.textwrap_words.proofs.Word.Texts.{trimmed-le}
 use Rattle.textwrap_words.specs.PieceCuts.{parts_by}
 use Rattle.textwrap_base.proofs.Division.Greedy.{closed_width-push}
-use Rattle.textwrap_words.proofs.Units.Reading.{printable-width}
+use Rattle.textwrap_text.proofs.Units.Reading.{printable-width}
 use Rattle.textwrap_lines.proofs.PrintableTexts.Bytes.{open-exact, BeginsWide, IsExact}
 use Rattle.textwrap_lines.proofs.PrintableTexts.Pieces.{pieces-split, begins_wide, one_piece}
 use Rattle.textwrap_lines.proofs.PrintableTexts.Pieces.{pieces-broken, pieces-tile, pieces-exact}

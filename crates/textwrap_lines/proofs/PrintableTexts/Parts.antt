@@ -1,12 +1,12 @@
 -- The parts that a text is cut into wherever a test of its places says so.
-use Rattle.textwrap_base.proofs.Common.{inl, inr, ◌≡◌, ℕ, zero, suc, ◌+◌, ◌-◌, ◌<◌, ◌≤◌, Bool, true}
-use Rattle.textwrap_base.proofs.Common.{false, List, [], ◌∷◌, ◌++◌, length, take, drop, refl, sym}
-use Rattle.textwrap_base.proofs.Common.{ap, ◌∙◌, arith, take-append-drop, append-nil, cases_lt}
-use Rattle.textwrap_base.proofs.Common.{drop_all, take_all, drop-drop, length-drop, onto_first}
-use Rattle.textwrap_base.proofs.Common.{slice_range}
+use Rattle.textwrap_text.proofs.Common.{inl, inr, ◌≡◌, ℕ, zero, suc, ◌+◌, ◌-◌, ◌<◌, ◌≤◌, Bool, true}
+use Rattle.textwrap_text.proofs.Common.{false, List, [], ◌∷◌, ◌++◌, length, take, drop, refl, sym}
+use Rattle.textwrap_text.proofs.Common.{ap, ◌∙◌, arith, take-append-drop, append-nil, cases_lt}
+use Rattle.textwrap_text.proofs.Common.{drop_all, take_all, drop-drop, length-drop, onto_first}
+use Rattle.textwrap_text.proofs.Common.{slice_range}
 use Rattle.std.proofs.lemmas.List.{drop-take}
 use Rattle.textwrap_words.specs.PieceCuts.{IsPart, parts_by}
-use Rattle.textwrap_base.proofs.Lists.Parts.{flat, flat-onto_first, onto_first-append}
+use Rattle.textwrap_text.proofs.Lists.Parts.{flat, flat-onto_first, onto_first-append}
 use Rattle.textwrap_words.proofs.Word.Parts.{HasEnd, end-from, next_by, parts_by-some}
 use Rattle.textwrap_lines.specs.Printable.{NoCutBetween}
 

@@ -1,15 +1,17 @@
 -- The pieces of a text of printable ASCII, the first of them, and its words, split.
-use Rattle.textwrap_base.proofs.Common.{◌≡◌, ◌≢◌, ◌<◌, [], Fits, take, true, cond, zero, ◌||◌}
-use Rattle.textwrap_base.proofs.Common.{ℕ, All-weaker, All-drop, map-append, get_or-drop, and_right}
-use Rattle.textwrap_base.proofs.Common.{◌≤◌, ◌∷◌, All, map, sym, ap, ◌∙◌, ◌-◌, ◌+◌, inl, inr, suc}
-use Rattle.textwrap_base.proofs.Common.{Bool, List, ◌++◌, drop, refl, false, get_or, le-ltb}
-use Rattle.textwrap_base.proofs.Common.{length, arith, IsUtf8, All-map, take_at, cases_lt, drop_all}
-use Rattle.textwrap_base.proofs.Common.{subst, length-append, length-drop, slice_range, get_or-take}
-use Rattle.textwrap_base.proofs.Common.{All-take, length-take-le, flat_map-append, take-append-drop}
-use Rattle.textwrap_words.proofs.Common.{IsPrintable, IsPrintableByte, WordText, tiled, sizes_of}
-use Rattle.textwrap_words.proofs.Common.{word_of, broken_word, trimmed_len, without_final_blanks}
-use Rattle.textwrap_words.proofs.Common.{is_blank, broken_pieces, broken_words, piece, Splitter}
-use Rattle.textwrap_words.proofs.Common.{split_word, split_words}
+use Rattle.textwrap_text.proofs.Common.{◌≡◌, ◌≢◌, ◌<◌, [], take, true, cond, zero, ◌||◌, ℕ}
+use Rattle.textwrap_text.proofs.Common.{All-weaker, All-drop, map-append, get_or-drop, and_right}
+use Rattle.textwrap_text.proofs.Common.{◌≤◌, ◌∷◌, All, map, sym, ap, ◌∙◌, ◌-◌, ◌+◌, inl, inr, suc}
+use Rattle.textwrap_text.proofs.Common.{Bool, List, ◌++◌, drop, refl, false, get_or, le-ltb, length}
+use Rattle.textwrap_text.proofs.Common.{arith, IsUtf8, All-map, take_at, cases_lt, drop_all, subst}
+use Rattle.textwrap_text.proofs.Common.{length-append, length-drop, slice_range, get_or-take}
+use Rattle.textwrap_text.proofs.Common.{All-take, length-take-le, flat_map-append, take-append-drop}
+use Rattle.textwrap_text.proofs.Common.{IsPrintable, IsPrintableByte, trimmed_len}
+use Rattle.textwrap_text.proofs.Common.{without_final_blanks, is_blank}
+use Rattle.textwrap_base.proofs.Common.{Fits}
+use Rattle.textwrap_words.proofs.Common.{WordText, tiled, sizes_of, word_of, broken_word}
+use Rattle.textwrap_words.proofs.Common.{broken_pieces, broken_words, piece, Splitter, split_word}
+use Rattle.textwrap_words.proofs.Common.{split_words}
 use Rattle.textwrap_words.specs.PieceCuts.{parts_by, IsPart, is_point}
 use Rattle.textwrap_lines.proofs.Common.{BeforeOthers, covered, pieces_from, IsFirstLine}
 use Rattle.textwrap_lines.proofs.Common.{NoCutBetween, AfterOthers, is_cut_by}
@@ -25,10 +27,10 @@ use Rattle.textwrap_lines.proofs.PrintableTexts.Bytes.{flat-printable, broken-fr
 use Rattle.textwrap_lines.proofs.PrintableTexts.Bytes.{IsExact, exact-words, BeginsWide}
 use Rattle.textwrap_lines.proofs.PrintableTexts.Parts.{flat-parts, front-slice, parts-split}
 use Rattle.textwrap_lines.proofs.PrintableTexts.Parts.{first-part, slice-rest}
-use Rattle.textwrap_base.proofs.Lists.Parts.{length-slice, slices_joined}
+use Rattle.textwrap_text.proofs.Lists.Parts.{length-slice, slices_joined}
 use Rattle.textwrap_words.proofs.Word.Parts.{parts_by-whole, parts-same}
 use Rattle.textwrap_words.proofs.Word.Texts.{trimmed-past}
-use Rattle.textwrap_words.proofs.Units.Reading.{printable-width}
+use Rattle.textwrap_text.proofs.Units.Reading.{printable-width}
 use Rattle.textwrap_words.proofs.Word.FirstPieces.{parts-front}
 use Rattle.textwrap_words.proofs.Word.SplitParts.{split-word}
 use Rattle.textwrap_words.proofs.Word.Splitting.{EndsPlain}

@@ -1,8 +1,8 @@
 -- Lemmas on paragraphs that are divided without a list of words.
-use Rattle.textwrap_base.proofs.Common.{◌≡◌, ℕ, ◌<◌, ◌≤◌, ◌==◌, Bool, true, false, cond, List, []}
-use Rattle.textwrap_base.proofs.Common.{◌∷◌, ◌++◌, length, refl, sym, ap, ◌∙◌, arith, le-ltb}
-use Rattle.textwrap_base.proofs.Common.{Result, Ok, Err, IsErrAnd, map, rules}
-use Rattle.textwrap_words.proofs.Common.{WordText, word_of, IsPrintable}
+use Rattle.textwrap_text.proofs.Common.{◌≡◌, ℕ, ◌<◌, ◌≤◌, ◌==◌, Bool, true, false, cond, List, []}
+use Rattle.textwrap_text.proofs.Common.{◌∷◌, ◌++◌, length, refl, sym, ap, ◌∙◌, arith, le-ltb}
+use Rattle.textwrap_text.proofs.Common.{Result, Ok, Err, IsErrAnd, map, rules, IsPrintable}
+use Rattle.textwrap_words.proofs.Common.{WordText, word_of}
 use Rattle.textwrap_words.specs.PieceCuts.{parts_by}
 use Rattle.textwrap_words.specs.Pieces.{stand_from}
 use Rattle.textwrap_lines.proofs.Common.{Settings, CutLine, empty_word, front_of, broken_pieces_of}

@@ -1,20 +1,20 @@
 -- The lines of a text, paragraph by paragraph: there is one list of them, and only blanks are left
 -- off.
-use Rattle.textwrap_base.proofs.Common.{ℕ, All-append, MatchBool, StartsWith, All-weaker, priced_at}
-use Rattle.textwrap_base.proofs.Common.{Bool, ◌||◌, ◌∷◌, length, false, arith, IsUtf8, rules, Sizes}
-use Rattle.textwrap_base.proofs.Common.{nat_lt, [], flat_map, All-nil, All-head, All-tail, All-cons}
-use Rattle.textwrap_base.proofs.Common.{List, All, sym, ◌<◌, true, ◌++◌, ◌≡◌, ⊤, map, ap, ◌∙◌}
-use Rattle.textwrap_base.proofs.Common.{subst, length-append, starts_with_of_eq, AreEqualFromSecond}
+use Rattle.textwrap_text.proofs.Common.{ℕ, All-append, MatchBool, StartsWith, All-weaker, Bool}
+use Rattle.textwrap_text.proofs.Common.{◌||◌, ◌∷◌, length, false, arith, IsUtf8, rules, nat_lt, []}
+use Rattle.textwrap_text.proofs.Common.{flat_map, All-nil, All-head, All-tail, All-cons, List, All}
+use Rattle.textwrap_text.proofs.Common.{sym, ◌<◌, true, ◌++◌, ◌≡◌, ⊤, map, ap, ◌∙◌, subst}
+use Rattle.textwrap_text.proofs.Common.{length-append, starts_with_of_eq, paragraphs_of}
+use Rattle.textwrap_base.proofs.Common.{priced_at, Sizes, AreEqualFromSecond}
 use Rattle.textwrap_lines.proofs.Common.{LineParts, AreIndented, AreGroups, Settings}
-use Rattle.textwrap_lines.proofs.Common.{AreParagraphParts, AreTextLines, DividesAt, paragraphs_of}
-use Rattle.textwrap_lines.proofs.Common.{DividesBy, HasPartsAt, IsFilled, is_whole, Line, Options}
-use Rattle.textwrap_lines.proofs.Common.{covered_by, DividesAs}
-use Rattle.textwrap_lines.proofs.Common.{AreDividedParts, IsDividedInto}
-use Rattle.textwrap_base.proofs.Lists.Parts.{flat}
-use Rattle.textwrap_base.proofs.Numbers.{or_false, some_later}
-use Rattle.textwrap_words.proofs.Common.{Algorithm, Splitter, WordText, word_of, tiled}
-use Rattle.textwrap_words.proofs.Common.{Greedy, LeastCost, IsDividedBy, words_of, AreWordsOf}
-use Rattle.textwrap_words.proofs.Common.{ArePoints, sizes_of}
+use Rattle.textwrap_lines.proofs.Common.{AreParagraphParts, AreTextLines, DividesAt, DividesBy}
+use Rattle.textwrap_lines.proofs.Common.{HasPartsAt, IsFilled, is_whole, Line, Options, covered_by}
+use Rattle.textwrap_lines.proofs.Common.{DividesAs, AreDividedParts, IsDividedInto}
+use Rattle.textwrap_text.proofs.Lists.Parts.{flat}
+use Rattle.textwrap_text.proofs.Numbers.{or_false, some_later}
+use Rattle.textwrap_words.proofs.Common.{Algorithm, Splitter, WordText, word_of, tiled, Greedy}
+use Rattle.textwrap_words.proofs.Common.{LeastCost, IsDividedBy, words_of, AreWordsOf, ArePoints}
+use Rattle.textwrap_words.proofs.Common.{sizes_of}
 use Rattle.textwrap_lines.proofs.Paragraph.Pieces.{division-as, points-as, ArePieces-by}
 use Rattle.textwrap_lines.specs.Places.{ArePlacedLines}
 use Rattle.textwrap_lines.specs.declared.places.Place.{Place}

@@ -1,10 +1,11 @@
 -- Lemmas on the lines of a text.
-use Rattle.textwrap_base.proofs.Common.{◌≡◌, ℕ, zero, suc, ◌+◌, ◌<◌, Option, None, Some, List, []}
-use Rattle.textwrap_base.proofs.Common.{◌∷◌, ◌++◌, length, get_or, take, map, refl, sym, ap, ◌∙◌}
-use Rattle.textwrap_base.proofs.Common.{arith, append_assoc}
-use Rattle.textwrap_base.proofs.Common.{Bor, CowStr, take_more, map-append}
-use Rattle.textwrap_lines.proofs.Common.{paragraphs_of, join_with, line_view}
-use Rattle.textwrap_lines.proofs.Common.{line_bytes, LineEnding}
+use Rattle.textwrap_text.proofs.Common.{◌≡◌, ℕ, zero, suc, ◌+◌, ◌<◌, Option, None, Some, List, []}
+use Rattle.textwrap_text.proofs.Common.{◌∷◌, ◌++◌, length, get_or, take, map, refl, sym, ap, ◌∙◌}
+use Rattle.textwrap_text.proofs.Common.{arith, append_assoc, Bor, take_more, map-append}
+use Rattle.textwrap_text.proofs.Common.{paragraphs_of, join_with}
+use Rattle.std.specs.declared.borrow.CowStr.{CowStr}
+use Rattle.textwrap_lines.proofs.Common.{line_view, line_bytes}
+use Rattle.textwrap_text.specs.declared.line_ending.LineEnding.{LineEnding}
 use Rattle.std.proofs.Common.{MatchOption}
 use Rattle.std.specs.Cow.{cow_str_bytes}
 use Rattle.std.specs.declared.borrow.CowStr.TheVariants.{Borrowed, Owned}

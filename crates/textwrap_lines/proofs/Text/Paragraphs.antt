@@ -1,31 +1,32 @@
 -- A text has its paragraphs in exactly one way; they are UTF-8, and end in no sequence where it
 -- does not.
-use Rattle.textwrap_base.proofs.Common.{◌≡◌, ◌≢◌, ℕ, zero, suc, ◌+◌, ◌-◌, ◌<◌, ◌≤◌, cond, nat_eq}
-use Rattle.textwrap_base.proofs.Common.{List, [], ◌∷◌, ◌++◌, length, take, drop, refl, sym, ap, ◌∙◌}
-use Rattle.textwrap_base.proofs.Common.{arith, length-append, length-drop, onto_first, starts_with}
-use Rattle.textwrap_base.proofs.Common.{drop_at, cond_both, ◌==◌, Bool, false, get_or, add-zero}
-use Rattle.textwrap_base.proofs.Common.{get_or-drop, drop_more, eqb-true, eqb-false, All, All-drop}
-use Rattle.textwrap_base.proofs.Common.{All-head, All-tail, All-weaker, subst, append_assoc}
-use Rattle.textwrap_base.proofs.Common.{append-nil, IsUtf8, get_or_append_left, All-nil, All-cons}
-use Rattle.textwrap_base.proofs.Common.{◌↔◌, rules, take-append-drop, take_at, IsUtf8-from_ascii}
-use Rattle.textwrap_base.proofs.Common.{chars-append, inl, flat_map-append, sum_by-append}
+use Rattle.textwrap_text.proofs.Common.{◌≡◌, ◌≢◌, ℕ, zero, suc, ◌+◌, ◌-◌, ◌<◌, ◌≤◌, cond, nat_eq}
+use Rattle.textwrap_text.proofs.Common.{List, [], ◌∷◌, ◌++◌, length, take, drop, refl, sym, ap, ◌∙◌}
+use Rattle.textwrap_text.proofs.Common.{arith, length-append, length-drop, onto_first, starts_with}
+use Rattle.textwrap_text.proofs.Common.{drop_at, cond_both, ◌==◌, Bool, false, get_or, add-zero}
+use Rattle.textwrap_text.proofs.Common.{get_or-drop, drop_more, eqb-true, eqb-false, All, All-drop}
+use Rattle.textwrap_text.proofs.Common.{All-head, All-tail, All-weaker, subst, append_assoc}
+use Rattle.textwrap_text.proofs.Common.{append-nil, IsUtf8, get_or_append_left, All-nil, All-cons}
+use Rattle.textwrap_text.proofs.Common.{◌↔◌, rules, take-append-drop, take_at, IsUtf8-from_ascii}
+use Rattle.textwrap_text.proofs.Common.{chars-append, inl, flat_map-append, sum_by-append}
+use Rattle.textwrap_text.proofs.Common.{IsPrintable, IsPrintableByte, text_width, ending_bytes}
+use Rattle.textwrap_text.proofs.Common.{paragraphs_of, parts_past, join_with}
 use Rattle.std.proofs.lemmas.List.Sums.{fails_before_first, passes_at_first}
 use Rattle.std.specs.List.{after_first, before_first, position_or_len}
-use Rattle.textwrap_lines.specs.LineEnding.{line_feed, Lacks, AreParagraphs}
-use Rattle.textwrap_words.proofs.Common.{IsPrintable, IsPrintableByte, text_width}
-use Rattle.textwrap_lines.proofs.Common.{ending_bytes, paragraphs_of, parts_past, join_with}
-use Rattle.textwrap_lines.proofs.Common.{LineEnding, HasWholeSequences}
-use Rattle.textwrap_lines.specs.declared.line_ending.LineEnding.TheVariants.{CRLF, LF}
-use Rattle.textwrap_base.proofs.Lists.Parts.{onto_first-some, starts_with-true, drop-ending}
-use Rattle.textwrap_base.proofs.Lists.Parts.{starts_with-false, starts_with-rest, onto_front}
-use Rattle.textwrap_base.proofs.Lists.Parts.{onto_front-onto_first, all-left, all-right}
-use Rattle.textwrap_base.proofs.Texts.{ascii_seam, after_ascii}
-use Rattle.textwrap_words.proofs.Word.Chunks.{all_utf8-front}
+use Rattle.textwrap_text.specs.LineEnding.{line_feed, Lacks, AreParagraphs}
+use Rattle.textwrap_text.specs.declared.line_ending.LineEnding.{LineEnding}
+use Rattle.textwrap_lines.proofs.Common.{HasWholeSequences}
+use Rattle.textwrap_text.specs.declared.line_ending.LineEnding.TheVariants.{CRLF, LF}
+use Rattle.textwrap_text.proofs.Lists.Parts.{onto_first-some, starts_with-true, drop-ending}
+use Rattle.textwrap_text.proofs.Lists.Parts.{starts_with-false, starts_with-rest, onto_front}
+use Rattle.textwrap_text.proofs.Lists.Parts.{onto_front-onto_first, all-left, all-right}
+use Rattle.textwrap_text.proofs.Texts.{ascii_seam, after_ascii}
+use Rattle.textwrap_text.proofs.Units.Chunks.{all_utf8-front}
 use Rattle.std.proofs.lemmas.List.{drop-append-le}
 use Rattle.std.specs.Prelude.{chars}
 use Rattle.std.proofs.lemmas.Str.Ascii.{IsAscii-from_all}
-use Rattle.textwrap_words.specs.Units.{TextUnit, AreUnits, IsWhole, escape, units}
-use Rattle.textwrap_words.proofs.Units.Texts.{IsInUnits-units, units-tile, units_unique}
+use Rattle.textwrap_text.specs.Units.{TextUnit, AreUnits, IsWhole, escape, units}
+use Rattle.textwrap_text.proofs.Units.Texts.{IsInUnits-units, units-tile, units_unique}
 
 -- ---- lemmas on the parts of a text between line endings
 

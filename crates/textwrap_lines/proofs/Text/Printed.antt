@@ -1,16 +1,18 @@
 -- Lines as they are printed are as wide as their indents and pieces.
-use Rattle.textwrap_base.proofs.Common.{◌≡◌, ◌≢◌, ℕ, ◌+◌, Bool, true, false, cond, List, [], ◌∷◌}
-use Rattle.textwrap_base.proofs.Common.{◌++◌, All, sym, ap, ◌∙◌, subst, arith, append_assoc, rules}
-use Rattle.textwrap_base.proofs.Common.{IsUtf8, chars-nil, chars-IsAscii, All-nil, All-cons}
-use Rattle.textwrap_base.proofs.Common.{All-head, All-tail, All-weaker, closed_width, eqb-true, ◌⊎◌}
-use Rattle.textwrap_base.proofs.Common.{inl, inr, MatchBool, get_or, refl, append-nil, take}
-use Rattle.textwrap_base.proofs.Lists.Parts.{flat, all-left, all-right}
-use Rattle.textwrap_words.proofs.Common.{text_width, WordText, sizes_of, tiled, IsPrintable}
-use Rattle.textwrap_words.proofs.Common.{word_of, Greedy, Splitter, AreWordsOf, ArePoints}
-use Rattle.textwrap_words.proofs.Common.{IsDividedBy, ends_in_hyphen, AreCuts}
-use Rattle.textwrap_words.specs.Units.{escape}
+use Rattle.textwrap_text.proofs.Common.{◌≡◌, ◌≢◌, ℕ, ◌+◌, Bool, true, false, cond, List, [], ◌∷◌}
+use Rattle.textwrap_text.proofs.Common.{◌++◌, All, sym, ap, ◌∙◌, subst, arith, append_assoc, rules}
+use Rattle.textwrap_text.proofs.Common.{IsUtf8, chars-nil, chars-IsAscii, All-nil, All-cons}
+use Rattle.textwrap_text.proofs.Common.{All-head, All-tail, All-weaker, eqb-true, ◌⊎◌, inl, inr}
+use Rattle.textwrap_text.proofs.Common.{MatchBool, get_or, refl, append-nil, take, text_width}
+use Rattle.textwrap_text.proofs.Common.{IsPrintable, paragraphs_of}
+use Rattle.textwrap_base.proofs.Common.{closed_width}
+use Rattle.textwrap_text.proofs.Lists.Parts.{flat, all-left, all-right}
+use Rattle.textwrap_words.proofs.Common.{WordText, sizes_of, tiled, word_of, Greedy, Splitter}
+use Rattle.textwrap_words.proofs.Common.{AreWordsOf, ArePoints, IsDividedBy, ends_in_hyphen}
+use Rattle.textwrap_words.proofs.Common.{AreCuts}
+use Rattle.textwrap_text.specs.Units.{escape}
 use Rattle.std.specs.Prelude.{chars}
-use Rattle.textwrap_words.proofs.Units.Reading.{printable-ascii, printable-width}
+use Rattle.textwrap_text.proofs.Units.Reading.{printable-ascii, printable-width}
 use Rattle.textwrap_words.proofs.Word.Words.{IsMeasured, HasNoPenalty, text_width-nil}
 use Rattle.textwrap_words.proofs.Word.Words.{word_of-measured}
 use Rattle.textwrap_words.proofs.Word.Texts.{AreBlanks}
@@ -19,7 +21,7 @@ use Rattle.textwrap_lines.proofs.Common.{LineParts, assembled_line, CutsNoSequen
 use Rattle.textwrap_lines.proofs.Common.{line_bytes, HasNoEscape, Line, first_width, KeepsToWidth}
 use Rattle.textwrap_lines.proofs.Common.{line_from, indent_of, parts_from, DividesAs, widths_of}
 use Rattle.textwrap_lines.proofs.Common.{HasWholeSequences, AreParagraphParts, ArePrintedWithin}
-use Rattle.textwrap_lines.proofs.Common.{IsDividedInto, AreTextLines, paragraphs_of, CanKeepToWidth}
+use Rattle.textwrap_lines.proofs.Common.{IsDividedInto, AreTextLines, CanKeepToWidth}
 use Rattle.textwrap_lines.proofs.Paragraph.LeftOff.{blanks-utf8, assembled-parts, bytes-assembled}
 use Rattle.textwrap_lines.proofs.Paragraph.LeftOff.{tiled-word_of, laid_out-cases}
 use Rattle.textwrap_lines.proofs.Text.Paragraphs.{each_part, units-plain, text_width-append}

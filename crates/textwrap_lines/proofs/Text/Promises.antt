@@ -1,18 +1,17 @@
 -- What `wrap` promises, by what the lines of each paragraph keep to.
-use Rattle.textwrap_base.proofs.Common.{◌≡◌, ◌≢◌, ℕ, take, ◌<◌, Bool, true, false, List, All, rules}
-use Rattle.textwrap_base.proofs.Common.{length, sym, ap, ◌∙◌, arith, StartsWith, Option, Some, None}
-use Rattle.textwrap_base.proofs.Common.{IsUtf8, starts_with_of_append, length-map, append-nil, []}
-use Rattle.textwrap_base.proofs.Common.{refl, subst}
+use Rattle.textwrap_text.proofs.Common.{◌≡◌, ◌≢◌, ℕ, take, ◌<◌, Bool, true, false, List, All, rules}
+use Rattle.textwrap_text.proofs.Common.{length, sym, ap, ◌∙◌, arith, StartsWith, Option, Some, None}
+use Rattle.textwrap_text.proofs.Common.{IsUtf8, starts_with_of_append, length-map, append-nil, []}
+use Rattle.textwrap_text.proofs.Common.{refl, subst, paragraphs_of, ending_bytes}
 use Rattle.textwrap_words.proofs.Common.{WordText, sizes_of, tiled, Algorithm, Greedy, IsDividedBy}
 use Rattle.textwrap_words.proofs.Common.{Splitter, ends_in_hyphen, AreCuts, AreWordsOf, LeastCost}
 use Rattle.textwrap_words.proofs.Common.{MayDivide, algorithm_view, MaySeparate, ArePoints}
 use Rattle.textwrap_words.proofs.Common.{MaySplit, splitter_view}
-use Rattle.textwrap_lines.proofs.Common.{paragraphs_of, ending_bytes, Line, line_from, widths_of}
-use Rattle.textwrap_lines.proofs.Common.{KeepsToWidth, Settings, AreTextLines, KeepToWidths}
-use Rattle.textwrap_lines.proofs.Common.{IsWrapped, LinesKeepToWidth, DividesAs, DividesBy}
-use Rattle.textwrap_lines.proofs.Common.{settings_view, IsDividedInto, Options, CanKeepToWidth}
-use Rattle.textwrap_lines.proofs.Common.{ArePrintedWithin}
-use Rattle.textwrap_base.proofs.Lists.Parts.{flat, Begins}
+use Rattle.textwrap_lines.proofs.Common.{Line, line_from, widths_of, KeepsToWidth, Settings}
+use Rattle.textwrap_lines.proofs.Common.{AreTextLines, KeepToWidths, IsWrapped, LinesKeepToWidth}
+use Rattle.textwrap_lines.proofs.Common.{DividesAs, DividesBy, settings_view, IsDividedInto}
+use Rattle.textwrap_lines.proofs.Common.{Options, CanKeepToWidth, ArePrintedWithin}
+use Rattle.textwrap_text.proofs.Lists.Parts.{flat, Begins}
 use Rattle.textwrap_words.proofs.Word.Pieces.{AreTexts, AreTexts-words, ArePoints-cuts}
 use Rattle.textwrap_words.proofs.Word.Pieces.{ArePoints-hyphens}
 use Rattle.textwrap_lines.proofs.Paragraph.Pieces.{pieces-tile, divided-begin, divided-blanks}

@@ -1,17 +1,18 @@
 -- Lines, the places that they were cut from, and what takes them.
-use Rattle.textwrap_base.proofs.Common.{◌≡◌, length, arith, nat_lt, subst, lt-ltb, Result, flat_map}
-use Rattle.textwrap_base.proofs.Common.{ℕ, [], ◌∷◌, map, ap, sym, ◌∙◌, Ok, Err, ◌<◌, ◌≤◌, ◌||◌}
-use Rattle.textwrap_base.proofs.Common.{◌+◌, Bool, true, List, ◌++◌, refl, cond, rules, OnOk, false}
-use Rattle.textwrap_base.proofs.Common.{length-append, map-append, flat_map-append, nil_from_length}
-use Rattle.textwrap_base.proofs.Common.{append-nil, length-map, append_assoc, eqb-true, length_push}
+use Rattle.textwrap_text.proofs.Common.{◌≡◌, length, arith, nat_lt, subst, lt-ltb, Result, flat_map}
+use Rattle.textwrap_text.proofs.Common.{ℕ, [], ◌∷◌, map, ap, sym, ◌∙◌, Ok, Err, ◌<◌, ◌≤◌, ◌||◌, ◌+◌}
+use Rattle.textwrap_text.proofs.Common.{Bool, true, List, ◌++◌, refl, cond, rules, OnOk, false}
+use Rattle.textwrap_text.proofs.Common.{length-append, map-append, flat_map-append, nil_from_length}
+use Rattle.textwrap_text.proofs.Common.{append-nil, length-map, append_assoc, eqb-true, length_push}
+use Rattle.textwrap_text.proofs.Common.{paragraphs_of, join_with, ending_bytes}
 use Rattle.textwrap_words.proofs.Common.{WordText, tiled}
-use Rattle.textwrap_lines.proofs.Common.{CutLine, further, place_of, Settings, parts_of}
-use Rattle.textwrap_lines.proofs.Common.{cut_line, assembled_line, AreParagraphParts, paragraphs_of}
-use Rattle.textwrap_lines.proofs.Common.{cut_lines, places_of, LineParts, parts_from, line_bytes}
-use Rattle.textwrap_lines.proofs.Common.{lines_of, line_from, join_with, Took, AreGroups, text_cuts}
-use Rattle.textwrap_lines.proofs.Common.{built_bytes, built_text, ending_bytes, Line, AreCutLines}
+use Rattle.textwrap_lines.proofs.Common.{CutLine, further, place_of, Settings, parts_of, cut_line}
+use Rattle.textwrap_lines.proofs.Common.{assembled_line, AreParagraphParts, cut_lines, places_of}
+use Rattle.textwrap_lines.proofs.Common.{LineParts, parts_from, line_bytes, lines_of, line_from}
+use Rattle.textwrap_lines.proofs.Common.{Took, AreGroups, text_cuts, built_bytes, built_text, Line}
+use Rattle.textwrap_lines.proofs.Common.{AreCutLines}
 use Rattle.textwrap_lines.proofs.Paragraph.LeftOff.{parts_of-tile}
-use Rattle.textwrap_words.specs.LentText.{IsLent}
+use Rattle.textwrap_text.specs.LentText.{IsLent}
 use Rattle.textwrap_lines.specs.LentPlaces.{AddsPlace}
 use Rattle.textwrap_lines.specs.LineSinks.{HasOneMore, HoldsLent, HoldsLentPlaces, HoldsPlaces}
 use Rattle.textwrap_lines.specs.LineSinks.{HoldsText, LentOneMore}
@@ -21,7 +22,7 @@ use Rattle.textwrap_lines.specs.declared.line_sinks.JoinedLines.{JoinedLines}
 use Rattle.textwrap_lines.specs.declared.line_sinks.LentLines.{LentLines}
 use Rattle.textwrap_lines.specs.declared.places.PlacedLines.{PlacedLines}
 use Rattle.textwrap_lines.proofs.Text.Lines.{join-push}
-use Rattle.textwrap_base.proofs.Numbers.{is_later-or}
+use Rattle.textwrap_text.proofs.Numbers.{is_later-or}
 use Rattle.textwrap_lines.proofs.Text.Paragraphs.{join-paragraphs_of, rest-within}
 
 -- ---- the lines

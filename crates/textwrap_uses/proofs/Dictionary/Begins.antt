@@ -8,10 +8,8 @@ use Rattle.std.proofs.lemmas.List.Elements.{All-head, All-tail}
 use Rattle.std.proofs.lemmas.Str.{IsCharBoundary-start}
 use Rattle.textwrap.specs.Cuts.{AreInnerCuts, AreLaterCuts}
 use Rattle.textwrap.specs.Words.{WordText, chunks, tile_of, tiled, word_of, words_of}
-use Rattle.textwrap_words.proofs.Word.Chunks.{chunks-utf8}
-use Rattle.textwrap_words.proofs.Word.Chunks.{join-chunks}
+use Rattle.textwrap_text.proofs.Units.Chunks.{chunks-utf8, join-chunks, AreChunks-chunks}
 use Rattle.textwrap_words.proofs.Word.Words.{tile_of-word_of, tiled-words_of}
-use Rattle.textwrap_words.proofs.Word.Chunks.{AreChunks-chunks}
 use Rattle.textwrap_uses.specs.Hyphens.{begins_from, later_begins}
 use Rattle.textwrap_uses.proofs.Dictionary.Parts.{boundary-in, part-after, part-fits}
 

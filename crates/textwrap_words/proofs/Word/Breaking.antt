@@ -1,16 +1,16 @@
 -- The parts into which units are broken: the computed ones, and no others.
-use Rattle.textwrap_base.proofs.Common.{inl, inr, ◌≡◌, ◌+◌, ◌<◌, ◌≤◌, ◌∷◌, ◌++◌, refl, zero, drop}
-use Rattle.textwrap_base.proofs.Common.{ℕ, true, cond, List, arith, All-nil, nat_lt, filter, length}
-use Rattle.textwrap_base.proofs.Common.{false, onto_first, sum_by-cons, append_assoc, sum_by-append}
-use Rattle.textwrap_base.proofs.Common.{[], ap, ⊤, ◌≢◌, All, sym, ◌∙◌, suc, ◌⊎◌}
-use Rattle.textwrap_base.proofs.Common.{subst, zero-add, cases_Bool, nat_tests, add-zero, and_parts}
-use Rattle.textwrap_base.proofs.Common.{All-head, All-tail, ltb-true, All-cons, flat_map, cases_lt}
-use Rattle.textwrap_words.proofs.Common.{TextUnit, Visible, Sequence, columns, unit_width}
-use Rattle.textwrap_words.proofs.Common.{units_width, IsKept, AllPartsFull, is_due, broken_units}
-use Rattle.textwrap_words.proofs.Common.{characters, taken_at, units_past, units, visible_of}
+use Rattle.textwrap_text.proofs.Common.{inl, inr, ◌≡◌, ◌+◌, ◌<◌, ◌≤◌, ◌∷◌, ◌++◌, refl, zero, drop}
+use Rattle.textwrap_text.proofs.Common.{ℕ, true, cond, List, arith, All-nil, nat_lt, filter, length}
+use Rattle.textwrap_text.proofs.Common.{false, onto_first, sum_by-cons, append_assoc, sum_by-append}
+use Rattle.textwrap_text.proofs.Common.{[], ap, ⊤, ◌≢◌, All, sym, ◌∙◌, suc, ◌⊎◌, subst, zero-add}
+use Rattle.textwrap_text.proofs.Common.{cases_Bool, nat_tests, add-zero, and_parts, All-head}
+use Rattle.textwrap_text.proofs.Common.{All-tail, ltb-true, All-cons, flat_map, cases_lt, TextUnit}
+use Rattle.textwrap_text.proofs.Common.{Visible, Sequence, columns, unit_width, units_width}
+use Rattle.textwrap_text.proofs.Common.{characters, taken_at, units_past, units, visible_of}
+use Rattle.textwrap_words.proofs.Common.{IsKept, AllPartsFull, is_due, broken_units}
 use Rattle.textwrap_words.specs.Breaking.{parts_left, AreBroken}
-use Rattle.textwrap_base.proofs.Lists.Parts.{flat}
-use Rattle.textwrap_words.proofs.Units.Texts.{units-tile, units-part}
+use Rattle.textwrap_text.proofs.Lists.Parts.{flat}
+use Rattle.textwrap_text.proofs.Units.Texts.{units-tile, units-part}
 
 -- ---- the computed parts, one by one
 

@@ -1,16 +1,17 @@
 -- The pieces of broken words: their texts, their widths, and that they tile their word.
-use Rattle.textwrap_base.proofs.Common.{chars_from_encodes, take-append-drop, encode_utf8_all, List}
-use Rattle.textwrap_base.proofs.Common.{flat_map-append, nil_from_length, IsCharBoundary, chars-nil}
-use Rattle.textwrap_base.proofs.Common.{encodes-append, encodes-chars, sum_by-append, chars-append}
-use Rattle.textwrap_base.proofs.Common.{append_assoc, IsUtf8-take, sum_by-cons, append-nil, All-nil}
-use Rattle.textwrap_base.proofs.Common.{false≢true, nat_tests, ltb-false, cond_both, flat_map, ◌++◌}
-use Rattle.textwrap_base.proofs.Common.{All-head, All-tail, All-cons, length, IsUtf8, sum_by, arith}
-use Rattle.textwrap_base.proofs.Common.{lt-ltb, false, subst, refl, take, drop, Bool, true, cond, ℕ}
-use Rattle.textwrap_base.proofs.Common.{◌≡◌, ◌≢◌, ◌≤◌, ◌∷◌, sym, ◌∙◌, map, ◌<◌, All, [], ap, ⊤}
-use Rattle.textwrap_words.proofs.Common.{TextUnit, visible_of, text_width, units_text, unit_width}
-use Rattle.textwrap_words.proofs.Common.{characters, columns, pieces_with, broken_word, units_width}
-use Rattle.textwrap_words.proofs.Common.{units, WordText, tile_of, tiled, piece, Visible, IsKept}
-use Rattle.textwrap_words.proofs.Common.{broken_units, broken_texts, broken_pieces, broken_words}
+use Rattle.textwrap_text.proofs.Common.{chars_from_encodes, take-append-drop, encode_utf8_all, List}
+use Rattle.textwrap_text.proofs.Common.{flat_map-append, nil_from_length, IsCharBoundary, chars-nil}
+use Rattle.textwrap_text.proofs.Common.{encodes-append, encodes-chars, sum_by-append, chars-append}
+use Rattle.textwrap_text.proofs.Common.{append_assoc, IsUtf8-take, sum_by-cons, append-nil, All-nil}
+use Rattle.textwrap_text.proofs.Common.{false≢true, nat_tests, ltb-false, cond_both, flat_map, ◌++◌}
+use Rattle.textwrap_text.proofs.Common.{All-head, All-tail, All-cons, length, IsUtf8, sum_by, arith}
+use Rattle.textwrap_text.proofs.Common.{lt-ltb, false, subst, refl, take, drop, Bool, true, cond, ℕ}
+use Rattle.textwrap_text.proofs.Common.{◌≡◌, ◌≢◌, ◌≤◌, ◌∷◌, sym, ◌∙◌, map, ◌<◌, All, [], ap, ⊤}
+use Rattle.textwrap_text.proofs.Common.{TextUnit, visible_of, text_width, unit_width, characters}
+use Rattle.textwrap_text.proofs.Common.{columns, units_width, units, Visible}
+use Rattle.textwrap_words.proofs.Common.{units_text, pieces_with, broken_word, WordText, tile_of}
+use Rattle.textwrap_words.proofs.Common.{tiled, piece, IsKept, broken_units, broken_texts}
+use Rattle.textwrap_words.proofs.Common.{broken_pieces, broken_words}
 use Rattle.textwrap_words.proofs.Word.Ahead.{EndsHere}
 use Rattle.std.specs.Prelude.{chars}
 use Rattle.std.proofs.lemmas.List.{append_cancel_right}
@@ -18,12 +19,12 @@ use Rattle.std.proofs.lemmas.Str.{IsCharBoundary-from_drop}
 use Rattle.textwrap_words.proofs.Word.Breaking.{taken_units, left_units, taken-left, parts_after-is}
 use Rattle.textwrap_words.proofs.Word.Breaking.{AreBroken-exists, AreBroken-unique, IsOwn}
 use Rattle.textwrap_words.proofs.Word.Breaking.{column_units, single, parts-own}
-use Rattle.textwrap_words.proofs.Units.Texts.{units-tile, units-part, units_width-is}
+use Rattle.textwrap_text.proofs.Units.Texts.{units-tile, units-part, units_width-is}
 use Rattle.textwrap_words.proofs.Word.Words.{IsMeasured, EndsInBlanks, HasNoPenalty, no_blanks}
 use Rattle.textwrap_words.proofs.Word.Words.{All-each}
-use Rattle.textwrap_base.proofs.Texts.{utf8-front, utf8-back}
+use Rattle.textwrap_text.proofs.Texts.{utf8-front, utf8-back}
 use Rattle.std.proofs.Common.{ltb}
-use Rattle.textwrap_words.specs.Units.{column_characters}
+use Rattle.textwrap_text.specs.Units.{column_characters}
 
 -- ---- the texts of the pieces of a word
 

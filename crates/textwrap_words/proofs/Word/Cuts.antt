@@ -1,7 +1,7 @@
 -- Offsets of which each may follow the one before it: by index, with one more, and in other words.
-use Rattle.textwrap_base.proofs.Common.{ℕ, zero, suc, ◌<◌, ◌≤◌, ◌↔◌, List, [], ◌∷◌, ◌++◌, length}
-use Rattle.textwrap_base.proofs.Common.{get_or, arith, All, All-head, All-tail, IsNonDecreasing}
-use Rattle.textwrap_base.proofs.Common.{get_or_default, ◌+◌, ◌≡◌, ⊤}
+use Rattle.textwrap_text.proofs.Common.{ℕ, zero, suc, ◌<◌, ◌≤◌, ◌↔◌, List, [], ◌∷◌, ◌++◌, length}
+use Rattle.textwrap_text.proofs.Common.{get_or, arith, All, All-head, All-tail, IsNonDecreasing}
+use Rattle.textwrap_text.proofs.Common.{get_or_default, ◌+◌, ◌≡◌, ⊤}
 use Rattle.std.specs.List.Sorted.{IsStrictlyIncreasing}
 use Rattle.std.proofs.lemmas.List.Sorted.{IsNonDecreasingBy-from_all_adjacent}
 use Rattle.textwrap_words.specs.Cuts.{AreNext, AreInnerCuts, AreCuts, IsNextCut, IsNextPoint}

@@ -1,9 +1,9 @@
 -- Lemmas on what an algorithm may divide, also one of a caller: its lines are the first elements in
 -- order, and along a view they are those of what the view gives.
-use Rattle.textwrap_base.proofs.Common.{◌≡◌, append_assoc, append-nil, slice_range}
-use Rattle.textwrap_base.proofs.Common.{◌≢◌, List, drop, refl, subst, arith, Some, None, ◌++◌}
-use Rattle.textwrap_base.proofs.Common.{ℕ, length, map-id, take-map, length-map, drop_split}
-use Rattle.textwrap_base.proofs.Common.{◌<◌, [], ◌∷◌, map, sym, ap, ◌∙◌, Ok}
+use Rattle.textwrap_text.proofs.Common.{◌≡◌, append_assoc, append-nil, slice_range, ◌≢◌, List, drop}
+use Rattle.textwrap_text.proofs.Common.{refl, subst, arith, Some, None, ◌++◌, ℕ, length, map-id}
+use Rattle.textwrap_text.proofs.Common.{take-map, length-map, drop_split, ◌<◌, [], ◌∷◌, map, sym}
+use Rattle.textwrap_text.proofs.Common.{ap, ◌∙◌, Ok}
 use Rattle.textwrap_words.proofs.Common.{WordText, sizes_of, Greedy, LeastCost, IsDividedBy}
 use Rattle.textwrap_words.proofs.Common.{MayDivide, algorithm_view}
 use Rattle.std.proofs.lemmas.List.{drop-map}
@@ -16,7 +16,7 @@ use Rattle.textwrap_words.specs.declared.wrap_algorithms.WrapAlgorithm.TheVarian
 use Rattle.textwrap_words.specs.declared.wrap_algorithms.WrapAlgorithm.TheVariants.{Custom}
 use Rattle.textwrap_words.specs.declared.wrap_algorithms.line_ends.LineEnds.{LineEnds}
 use Rattle.textwrap_base.proofs.Division.Map.{IsDividedBy-map, IsDividedBy-whole, IsDividedBy-some}
-use Rattle.textwrap_base.proofs.Lists.Parts.{flat, Begins}
+use Rattle.textwrap_text.proofs.Lists.Parts.{flat, Begins}
 
 -- up to an end, the lines are the first elements from a place on
 pub lines_from-begin : {X : Type 0} (xs : List X) (start : ℕ) (ends : List ℕ)

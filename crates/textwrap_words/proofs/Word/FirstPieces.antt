@@ -1,16 +1,16 @@
 -- The pieces of a text from a place on, and the first of them, where the reader stopped.
-use Rattle.textwrap_base.proofs.Common.{inl, inr, ◌≡◌, List, [], ◌++◌, take, drop, true, ◌≢◌, ◌+◌}
-use Rattle.textwrap_base.proofs.Common.{◌-◌, ◌<◌, ◌≤◌, ◌∷◌, map, sym, ap, ◌∙◌, ℕ, slice_range}
-use Rattle.textwrap_base.proofs.Common.{length-drop, IsCharBoundary, IsUtf8-between, Bool, length}
-use Rattle.textwrap_base.proofs.Common.{get_or, arith, cases_lt, IsUtf8, subst, false, drop-drop}
-use Rattle.textwrap_base.proofs.Common.{take-take, get_or-take, get_or-drop, true≢false, le-ltb}
-use Rattle.textwrap_words.proofs.Common.{trimmed_len, without_final_blanks, word_of, piece}
-use Rattle.textwrap_words.proofs.Common.{broken_word, broken_words, broken_texts, text_width}
-use Rattle.textwrap_words.proofs.Common.{is_blank, Splitter, WordText}
+use Rattle.textwrap_text.proofs.Common.{inl, inr, ◌≡◌, List, [], ◌++◌, take, drop, true, ◌≢◌, ◌+◌}
+use Rattle.textwrap_text.proofs.Common.{◌-◌, ◌<◌, ◌≤◌, ◌∷◌, map, sym, ap, ◌∙◌, ℕ, slice_range}
+use Rattle.textwrap_text.proofs.Common.{length-drop, IsCharBoundary, IsUtf8-between, Bool, length}
+use Rattle.textwrap_text.proofs.Common.{get_or, arith, cases_lt, IsUtf8, subst, false, drop-drop}
+use Rattle.textwrap_text.proofs.Common.{take-take, get_or-take, get_or-drop, true≢false, le-ltb}
+use Rattle.textwrap_text.proofs.Common.{trimmed_len, without_final_blanks, text_width, is_blank}
+use Rattle.textwrap_words.proofs.Common.{word_of, piece, broken_word, broken_words, broken_texts}
+use Rattle.textwrap_words.proofs.Common.{Splitter, WordText}
 use Rattle.std.proofs.lemmas.List.{drop-take}
 use Rattle.textwrap_words.specs.PieceCuts.{parts_by, pieces_from, IsPart, AreFinalBlanks, is_point}
 use Rattle.textwrap_words.specs.PieceCuts.{is_piece_cut, IsPartWord}
-use Rattle.textwrap_base.proofs.Lists.Parts.{length-slice, slice-nil}
+use Rattle.textwrap_text.proofs.Lists.Parts.{length-slice, slice-nil}
 use Rattle.textwrap_words.proofs.Word.Texts.{trimmed-past, trimmed-le, trimmed-blank, trimmed-other}
 use Rattle.textwrap_words.proofs.Word.BrokenPieces.{broken_word-front, broken_word-texts}
 use Rattle.textwrap_words.proofs.Word.BrokenPieces.{broken_texts-narrow, broken_texts-nil}

@@ -1,6 +1,6 @@
 -- Worked rows on what the lines of texts cost.
-use Rattle.textwrap_base.proofs.Common.{◌≡◌, ℕ, List, [], ◌∷◌, map, refl, codes, division_cost}
-use Rattle.textwrap_base.proofs.Common.{default_penalties, problem_at}
+use Rattle.textwrap_text.proofs.Common.{◌≡◌, ℕ, List, [], ◌∷◌, map, refl, codes}
+use Rattle.textwrap_base.proofs.Common.{division_cost, default_penalties, problem_at}
 use Rattle.textwrap_words.proofs.Common.{sizes_of, words_of}
 use Rattle.std.specs.Str.{chars}
 use Rattle.unicode_width.specs.Width.{char_width}

@@ -1,18 +1,18 @@
 -- The parts of a text between cuts, and between places that a test tells.
-use Rattle.textwrap_base.proofs.Common.{inl, nil_from_length, IsCharBoundary-start}
-use Rattle.textwrap_base.proofs.Common.{inr, ◌≡◌, suc, [], take, refl, None, zero, Bool, cond, ◌||◌}
-use Rattle.textwrap_base.proofs.Common.{ℕ, length, take_all, drop_all, add-zero, cases_lt}
-use Rattle.textwrap_base.proofs.Common.{◌<◌, ◌≤◌, ◌∷◌, All, map, sym, ap, ◌∙◌, ◌≢◌, Ok, ◌+◌, ◌-◌}
-use Rattle.textwrap_base.proofs.Common.{List, ◌++◌, get_or, drop, ◌==◌, IsUtf8, true, subst, false}
-use Rattle.textwrap_base.proofs.Common.{arith, All-cons, All-weaker, drop-drop, nat_tests}
-use Rattle.textwrap_base.proofs.Common.{append-nil, cases_Bool, drop_split, onto_first, length-drop}
-use Rattle.textwrap_base.proofs.Common.{slice_range, All-nil, IsUtf8-drop, length_push, get_or-drop}
-use Rattle.textwrap_base.proofs.Common.{IsCharBoundary, IsUtf8-between, append_assoc, if◌then◌else◌}
+use Rattle.textwrap_text.proofs.Common.{inl, nil_from_length, IsCharBoundary-start, inr, ◌≡◌, suc}
+use Rattle.textwrap_text.proofs.Common.{[], take, refl, None, zero, Bool, cond, ◌||◌, ℕ, length}
+use Rattle.textwrap_text.proofs.Common.{take_all, drop_all, add-zero, cases_lt, ◌<◌, ◌≤◌, ◌∷◌, All}
+use Rattle.textwrap_text.proofs.Common.{map, sym, ap, ◌∙◌, ◌≢◌, Ok, ◌+◌, ◌-◌, List, ◌++◌, get_or}
+use Rattle.textwrap_text.proofs.Common.{drop, ◌==◌, IsUtf8, true, subst, false, arith, All-cons}
+use Rattle.textwrap_text.proofs.Common.{All-weaker, drop-drop, nat_tests, append-nil, cases_Bool}
+use Rattle.textwrap_text.proofs.Common.{drop_split, onto_first, length-drop, slice_range, All-nil}
+use Rattle.textwrap_text.proofs.Common.{IsUtf8-drop, length_push, get_or-drop, IsCharBoundary}
+use Rattle.textwrap_text.proofs.Common.{IsUtf8-between, append_assoc, if◌then◌else◌, chunks, is_cut}
 use Rattle.textwrap_words.proofs.Common.{tiled, word_of, AreCuts, AreInnerCuts, parts_between}
 use Rattle.textwrap_words.proofs.Common.{WordText, MaySeparate, MaySplit, ends_in_hyphen}
-use Rattle.textwrap_words.proofs.Common.{splitter_view, Whole, AtHyphens, chunks, is_cut, words_of}
-use Rattle.textwrap_base.proofs.Lists.Parts.{flat, onto_first-some, onto_first-append}
-use Rattle.textwrap_words.proofs.Word.Chunks.{chunks-from}
+use Rattle.textwrap_words.proofs.Common.{splitter_view, Whole, AtHyphens, words_of}
+use Rattle.textwrap_text.proofs.Lists.Parts.{flat, onto_first-some, onto_first-append}
+use Rattle.textwrap_text.proofs.Units.Chunks.{chunks-from}
 use Rattle.textwrap_words.proofs.Word.Words.{tiled-map}
 use Rattle.textwrap_words.specs.Cuts.{AreNext, IsNextPoint, parts_onward}
 use Rattle.textwrap_words.proofs.Word.Cuts.{inner-cuts}

@@ -1,26 +1,27 @@
 -- The pieces of split words: they tile their words, are texts, and stand one after another.
-use Rattle.textwrap_base.proofs.Common.{◌≡◌, flat_map-append, IsCharBoundary-start}
-use Rattle.textwrap_base.proofs.Common.{ℕ, ◌∷◌, sym, ap, ◌∙◌, All, map, inl, inr, ◌+◌}
-use Rattle.textwrap_base.proofs.Common.{◌<◌, ◌≤◌, List, [], ◌++◌, refl, drop, true, take}
-use Rattle.textwrap_base.proofs.Common.{arith, length, get_or, IsUtf8, subst, All-map, rules, false}
-use Rattle.textwrap_base.proofs.Common.{slice_range, append_assoc, IsCharBoundary, IsUtf8-between}
-use Rattle.textwrap_base.proofs.Common.{append-nil, drop_split, and_parts, IsUtf8-drop, All-append}
-use Rattle.textwrap_base.proofs.Common.{All-head, All-tail, All-nil, All-cons, cases_lt, eqb-true}
+use Rattle.textwrap_text.proofs.Common.{◌≡◌, flat_map-append, IsCharBoundary-start, ℕ, ◌∷◌, sym, ap}
+use Rattle.textwrap_text.proofs.Common.{◌∙◌, All, map, inl, inr, ◌+◌, ◌<◌, ◌≤◌, List, [], ◌++◌}
+use Rattle.textwrap_text.proofs.Common.{refl, drop, true, take, arith, length, get_or, IsUtf8}
+use Rattle.textwrap_text.proofs.Common.{subst, All-map, rules, false, slice_range, append_assoc}
+use Rattle.textwrap_text.proofs.Common.{IsCharBoundary, IsUtf8-between, append-nil, drop_split}
+use Rattle.textwrap_text.proofs.Common.{and_parts, IsUtf8-drop, All-append, All-head, All-tail}
+use Rattle.textwrap_text.proofs.Common.{All-nil, All-cons, cases_lt, eqb-true, chunks, is_blank}
+use Rattle.textwrap_text.proofs.Common.{BlanksBetween}
 use Rattle.textwrap_words.proofs.Common.{points_of, split_from, split_pieces, split_word}
 use Rattle.textwrap_words.proofs.Common.{split_words, AreSplit, Splitter, AreCuts, WordText}
 use Rattle.textwrap_words.proofs.Common.{tile_of, tiled, Whole, AtHyphens, ends_in_hyphen}
-use Rattle.textwrap_words.proofs.Common.{cut_penalty, ArePoints, piece, word_of}
-use Rattle.textwrap_words.proofs.Common.{words_of, chunks, AreWordsOf, is_blank, BlanksBetween}
+use Rattle.textwrap_words.proofs.Common.{cut_penalty, ArePoints, piece, word_of, words_of}
+use Rattle.textwrap_words.proofs.Common.{AreWordsOf}
 use Rattle.textwrap_words.proofs.Word.Splitting.{points_of-cuts}
 use Rattle.std.proofs.lemmas.List.Elements.{filter_passes}
 use Rattle.textwrap_words.proofs.Word.Words.{IsMeasured, HasNoPenalty, words-measured}
 use Rattle.textwrap_words.proofs.Word.Words.{tiled-words_of, words_unique}
-use Rattle.textwrap_words.proofs.Word.Chunks.{chunks-utf8}
+use Rattle.textwrap_text.proofs.Units.Chunks.{chunks-utf8}
 use Rattle.textwrap_words.specs.Cuts.{AreNext, IsNextPoint}
 use Rattle.textwrap_words.specs.PieceCuts.{pieces_from_place}
 use Rattle.textwrap_words.specs.Pieces.{IsFirstWord, stand_from}
-use Rattle.textwrap_base.proofs.Lists.Parts.{length-slice}
-use Rattle.textwrap_base.proofs.Texts.{IsCharBoundary-after_blank}
+use Rattle.textwrap_text.proofs.Lists.Parts.{length-slice}
+use Rattle.textwrap_text.proofs.Texts.{IsCharBoundary-after_blank}
 
 -- ---- split pieces tile their word
 

@@ -1,27 +1,27 @@
 -- The reader of the first piece from a place on: what it has seen, and where it stops.
-use Rattle.textwrap_base.proofs.Common.{◌≡◌, true, List, ◌++◌, subst, arith, Bool, drop, refl, zero}
-use Rattle.textwrap_base.proofs.Common.{◌≢◌, ◌+◌, ◌≤◌, sym, inl, inr, ◌-◌, ◌<◌, ◌∷◌, ap, ◌∙◌, suc}
-use Rattle.textwrap_base.proofs.Common.{ℕ, false, length, IsUtf8, take_at, get_or, eqb-true, ne_eqb}
-use Rattle.textwrap_base.proofs.Common.{[], cases_Bool, slice_range, cases_lt, chars-nil, drop_more}
-use Rattle.textwrap_base.proofs.Common.{append_assoc, IsCharBoundary, IsUtf8-between, chars-append}
-use Rattle.textwrap_base.proofs.Common.{IsUtf8-drop}
-use Rattle.textwrap_words.proofs.Common.{Visible, units, is_due, next_of, shows, broken_texts}
-use Rattle.textwrap_words.proofs.Common.{is_blank, Splitter, text_width, columns}
+use Rattle.textwrap_text.proofs.Common.{◌≡◌, true, List, ◌++◌, subst, arith, Bool, drop, refl, zero}
+use Rattle.textwrap_text.proofs.Common.{◌≢◌, ◌+◌, ◌≤◌, sym, inl, inr, ◌-◌, ◌<◌, ◌∷◌, ap, ◌∙◌, suc}
+use Rattle.textwrap_text.proofs.Common.{ℕ, false, length, IsUtf8, take_at, get_or, eqb-true, ne_eqb}
+use Rattle.textwrap_text.proofs.Common.{[], cases_Bool, slice_range, cases_lt, chars-nil, drop_more}
+use Rattle.textwrap_text.proofs.Common.{append_assoc, IsCharBoundary, IsUtf8-between, chars-append}
+use Rattle.textwrap_text.proofs.Common.{IsUtf8-drop, Visible, units, next_of, shows, is_blank}
+use Rattle.textwrap_text.proofs.Common.{text_width, columns}
+use Rattle.textwrap_words.proofs.Common.{is_due, broken_texts, Splitter}
 use Rattle.textwrap_words.proofs.Word.Ahead.{IsInFirst, IsInFirst-start, IsInFirst-step}
 use Rattle.textwrap_words.proofs.Word.Ahead.{IsInFirst-cut, EndsHere, character-within}
 use Rattle.textwrap_words.proofs.Word.Ahead.{first-bytes}
-use Rattle.textwrap_base.proofs.Texts.{starts-within}
+use Rattle.textwrap_text.proofs.Texts.{starts-within}
 use Rattle.textwrap_words.proofs.Word.BrokenPieces.{IsFirstPiece, IsFirstPiece-found}
 use Rattle.std.specs.Prelude.{chars, encode_utf8}
-use Rattle.textwrap_words.specs.declared.escapes.State.{State}
-use Rattle.textwrap_words.specs.declared.escapes.State.TheVariants.{Text}
-use Rattle.textwrap_words.proofs.Units.Reading.{added-le, IsRead, read-ahead, read-next, read-none}
-use Rattle.textwrap_words.proofs.Units.Reading.{read-start, added, chars-push, columns-printable}
-use Rattle.textwrap_words.proofs.Units.Reading.{printable-no_escape}
+use Rattle.textwrap_text.specs.declared.escapes.State.{State}
+use Rattle.textwrap_text.specs.declared.escapes.State.TheVariants.{Text}
+use Rattle.textwrap_text.proofs.Units.Reading.{added-le, IsRead, read-ahead, read-next, read-none}
+use Rattle.textwrap_text.proofs.Units.Reading.{read-start, added, chars-push, columns-printable}
+use Rattle.textwrap_text.proofs.Units.Reading.{printable-no_escape}
 use Rattle.std.proofs.lemmas.Str.{IsCharBoundary-from_drop, IsCharBoundary-before_ascii}
 use Rattle.std.proofs.lemmas.Str.{encode_ascii}
-use Rattle.textwrap_base.proofs.Lists.Parts.{length-slice, slices_joined, slice_after, slice-nil}
-use Rattle.textwrap_base.proofs.Lists.Parts.{slice_before}
+use Rattle.textwrap_text.proofs.Lists.Parts.{length-slice, slices_joined, slice_after, slice-nil}
+use Rattle.textwrap_text.proofs.Lists.Parts.{slice_before}
 use Rattle.textwrap_words.proofs.Word.Splitting.{HoldsBetween, point-hyphen, after-hyphen_byte}
 use Rattle.std.proofs.lemmas.Bool.{or_cases}
 use Rattle.textwrap_words.specs.PieceCuts.{is_point}

@@ -1,24 +1,26 @@
 -- Words that are split are the parts of the text wherever a test of places cuts it.
-use Rattle.textwrap_base.proofs.Common.{◌≡◌, false, length, filter, take_at, get_or, IsUtf8}
-use Rattle.textwrap_base.proofs.Common.{ℕ, true, cond, List, ◌++◌, take, drop, arith, rules, subst}
-use Rattle.textwrap_base.proofs.Common.{◌+◌, ◌-◌, ◌<◌, ◌≤◌, ◌∷◌, map, refl, sym, last, ◌||◌}
-use Rattle.textwrap_base.proofs.Common.{Bool, take-append-add, take-append-drop, get_or_append_left}
-use Rattle.textwrap_base.proofs.Common.{[], append_assoc, length-append, slice_range, IsUtf8-append}
-use Rattle.textwrap_base.proofs.Common.{ap, IsUtf8-nil, map-append, and_parts, take_more, and_right}
-use Rattle.textwrap_base.proofs.Common.{◌∙◌, ◌≢◌, not, All, inl, inr}
-use Rattle.textwrap_base.proofs.Common.{range_with_len, length-take-le, append-nil, flat_map-append}
-use Rattle.textwrap_base.proofs.Common.{eqb-true, drop_all, take_all, All-head, All-tail, cases_lt}
-use Rattle.textwrap_base.proofs.Common.{drop_at, length_push, get_or-take, get_or_push, slice_index}
-use Rattle.textwrap_words.proofs.Common.{is_blank, WordText, word_of, is_hyphen_point, split_from}
-use Rattle.textwrap_words.proofs.Common.{trimmed_len, without_final_blanks, final_blanks, Splitter}
+use Rattle.textwrap_text.proofs.Common.{◌≡◌, false, length, filter, take_at, get_or, IsUtf8, ℕ}
+use Rattle.textwrap_text.proofs.Common.{true, cond, List, ◌++◌, take, drop, arith, rules, subst}
+use Rattle.textwrap_text.proofs.Common.{◌+◌, ◌-◌, ◌<◌, ◌≤◌, ◌∷◌, map, refl, sym, last, ◌||◌, Bool}
+use Rattle.textwrap_text.proofs.Common.{take-append-add, take-append-drop, get_or_append_left, []}
+use Rattle.textwrap_text.proofs.Common.{append_assoc, length-append, slice_range, IsUtf8-append, ap}
+use Rattle.textwrap_text.proofs.Common.{IsUtf8-nil, map-append, and_parts, take_more, and_right}
+use Rattle.textwrap_text.proofs.Common.{◌∙◌, ◌≢◌, not, All, inl, inr, range_with_len}
+use Rattle.textwrap_text.proofs.Common.{length-take-le, append-nil, flat_map-append, eqb-true}
+use Rattle.textwrap_text.proofs.Common.{drop_all, take_all, All-head, All-tail, cases_lt, drop_at}
+use Rattle.textwrap_text.proofs.Common.{length_push, get_or-take, get_or_push, slice_index}
+use Rattle.textwrap_text.proofs.Common.{is_blank, trimmed_len, without_final_blanks, final_blanks}
+use Rattle.textwrap_text.proofs.Common.{chunks, is_cut, AreCutApart}
+use Rattle.textwrap_words.proofs.Common.{WordText, word_of, is_hyphen_point, split_from, Splitter}
 use Rattle.textwrap_words.proofs.Common.{Whole, AtHyphens, split_word, broken_word, broken_words}
-use Rattle.textwrap_words.proofs.Common.{split_words, chunks, words_of, is_cut, AreCutApart}
+use Rattle.textwrap_words.proofs.Common.{split_words, words_of}
 use Rattle.textwrap_words.specs.PieceCuts.{parts_by, is_point, pieces_within, is_piece_cut}
 use Rattle.textwrap_words.specs.PieceCuts.{pieces_from_place, IsPart, AreFinalBlanks, IsPartWord}
-use Rattle.textwrap_base.proofs.Lists.Parts.{onto_front, onto_front-nil, onto_front-onto_first}
-use Rattle.textwrap_base.proofs.Lists.Parts.{last-push, length-slice, flat, some_from_nonempty}
+use Rattle.textwrap_text.proofs.Lists.Parts.{onto_front, onto_front-nil, onto_front-onto_first}
+use Rattle.textwrap_text.proofs.Lists.Parts.{last-push, length-slice, flat, some_from_nonempty}
 use Rattle.textwrap_words.proofs.Word.Texts.{AreBlanks, word_of-seam, final_blanks-blank}
-use Rattle.textwrap_words.proofs.Word.Chunks.{chunks-utf8}
+use Rattle.textwrap_text.proofs.Units.Chunks.{chunks-utf8, join-chunks, AreChunks-chunks}
+use Rattle.textwrap_text.proofs.Units.Chunks.{AreCutApart-tail}
 use Rattle.textwrap_words.proofs.Word.Texts.{trimmed-other, without_final_blanks-utf8}
 use Rattle.textwrap_words.proofs.Word.Parts.{next_by, parts_by-some, parts_by-whole, parts_within}
 use Rattle.textwrap_words.proofs.Word.Parts.{parts_by-chunks, end-from}
@@ -27,7 +29,6 @@ use Rattle.textwrap_words.proofs.Word.Splitting.{point-blank, ends-none, ends-bl
 use Rattle.std.proofs.lemmas.List.{get_or-append-add, get_or_at}
 use Rattle.textwrap_words.specs.Pieces.{IsFirstWithin, stand_from}
 use Rattle.textwrap_words.specs.declared.pieces.Piece.{Piece}
-use Rattle.textwrap_words.proofs.Word.Chunks.{join-chunks, AreChunks-chunks, AreCutApart-tail}
 use Rattle.std.proofs.lemmas.Bool.{not-false, not-true}
 
 -- ---- a word with its blanks, split at one point after another, is cut wherever a test of

@@ -1,10 +1,10 @@
 -- The blanks at the end of a text, and where it ends without them.
-use Rattle.textwrap_base.proofs.Common.{inl, inr, ◌≡◌, suc, ◌-◌, true, List, ◌++◌, drop, refl, ℕ}
-use Rattle.textwrap_base.proofs.Common.{◌<◌, ◌≤◌, not, [], ◌∷◌, All, sym, ap, ◌∙◌, ◌+◌, zero}
-use Rattle.textwrap_base.proofs.Common.{length, get_or, subst, arith, IsUtf8, false, suffix_len}
-use Rattle.textwrap_base.proofs.Common.{cases_lt, eqb-true, false≢true, length-drop, IsCharBoundary}
-use Rattle.textwrap_base.proofs.Common.{take-append-add, get_or-drop, IsUtf8-take}
-use Rattle.textwrap_words.proofs.Common.{is_blank, trimmed_len, without_final_blanks, final_blanks}
+use Rattle.textwrap_text.proofs.Common.{inl, inr, ◌≡◌, suc, ◌-◌, true, List, ◌++◌, drop, refl, ℕ}
+use Rattle.textwrap_text.proofs.Common.{◌<◌, ◌≤◌, not, [], ◌∷◌, All, sym, ap, ◌∙◌, ◌+◌, zero}
+use Rattle.textwrap_text.proofs.Common.{length, get_or, subst, arith, IsUtf8, false, suffix_len}
+use Rattle.textwrap_text.proofs.Common.{cases_lt, eqb-true, false≢true, length-drop, IsCharBoundary}
+use Rattle.textwrap_text.proofs.Common.{take-append-add, get_or-drop, IsUtf8-take, is_blank}
+use Rattle.textwrap_text.proofs.Common.{trimmed_len, without_final_blanks, final_blanks}
 use Rattle.textwrap_words.proofs.Common.{piece, word_of}
 use Rattle.std.proofs.lemmas.List.{get_or-reverse, length-reverse}
 use Rattle.std.proofs.lemmas.List.Sums.{prefix_len_passes, prefix_len_stops, suffix_len_is}

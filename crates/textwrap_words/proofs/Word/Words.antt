@@ -1,22 +1,23 @@
 -- The words of a line: they tile it, are measured, and there is one list of them.
-use Rattle.textwrap_base.proofs.Common.{◌≡◌, ℕ, ◌+◌, ◌<◌, ◌≤◌, true, false, List, [], ◌∷◌, ◌++◌}
-use Rattle.textwrap_base.proofs.Common.{length, get_or, take, map, refl, ap, ◌∙◌, arith}
-use Rattle.textwrap_base.proofs.Common.{take-append-drop, length-append, append-nil, map-append}
-use Rattle.textwrap_base.proofs.Common.{take_more, flat_map-append, All, sym, All-head, All-tail}
-use Rattle.textwrap_base.proofs.Common.{◌↔◌, All-nil, ◌==◌, All-append, flat_map, sum_by, IsUtf8}
-use Rattle.textwrap_base.proofs.Common.{All-map, All-weaker, chars-nil, total_width, closed_width}
-use Rattle.textwrap_words.proofs.Common.{WordText, word_view, word_of, tile_of, tiled, chunks}
-use Rattle.textwrap_words.proofs.Common.{words_of, trimmed_len, AreWordsOf, columns, text_width}
-use Rattle.textwrap_words.proofs.Common.{is_blank, sizes_of}
-use Rattle.textwrap_base.proofs.Lists.Parts.{flat}
+use Rattle.textwrap_text.proofs.Common.{◌≡◌, ℕ, ◌+◌, ◌<◌, ◌≤◌, true, false, List, [], ◌∷◌, ◌++◌}
+use Rattle.textwrap_text.proofs.Common.{length, get_or, take, map, refl, ap, ◌∙◌, arith}
+use Rattle.textwrap_text.proofs.Common.{take-append-drop, length-append, append-nil, map-append}
+use Rattle.textwrap_text.proofs.Common.{take_more, flat_map-append, All, sym, All-head, All-tail}
+use Rattle.textwrap_text.proofs.Common.{◌↔◌, All-nil, ◌==◌, All-append, flat_map, sum_by, IsUtf8}
+use Rattle.textwrap_text.proofs.Common.{All-map, All-weaker, chars-nil, chunks, trimmed_len}
+use Rattle.textwrap_text.proofs.Common.{columns, text_width, is_blank}
+use Rattle.textwrap_base.proofs.Common.{total_width, closed_width}
+use Rattle.textwrap_words.proofs.Common.{WordText, word_view, word_of, tile_of, tiled, words_of}
+use Rattle.textwrap_words.proofs.Common.{AreWordsOf, sizes_of}
+use Rattle.textwrap_text.proofs.Lists.Parts.{flat}
 use Rattle.textwrap_words.specs.declared.words.Word.{Word}
 use Rattle.textwrap_words.proofs.Word.Texts.{AreBlanks, without_final_blanks-utf8}
 use Rattle.textwrap_words.proofs.Word.Texts.{final_blanks-blank}
-use Rattle.textwrap_words.specs.Units.{visible}
+use Rattle.textwrap_text.specs.Units.{visible}
 use Rattle.textwrap_base.proofs.Cost.LineCosts.{total_width-cons}
-use Rattle.textwrap_words.proofs.Units.Reading.{text_width-le}
-use Rattle.textwrap_words.proofs.Word.Chunks.{AreChunks-chunks, chunks-flat, cut, first}
-use Rattle.textwrap_words.proofs.Word.Chunks.{join-chunks, nonempty, rest, uncut}
+use Rattle.textwrap_text.proofs.Units.Reading.{text_width-le}
+use Rattle.textwrap_text.proofs.Units.Chunks.{AreChunks-chunks, chunks-flat, cut, first}
+use Rattle.textwrap_text.proofs.Units.Chunks.{join-chunks, nonempty, rest, uncut}
 
 -- ---- tiling
 

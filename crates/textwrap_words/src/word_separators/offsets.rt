@@ -2,15 +2,15 @@
 ghost use Rattle.std.specs.Prelude.{◌≡◌, ◌==◌, length, map, All, IfOk, IsCharBoundary};
 ghost use Rattle.std.specs.List.{list_any};
 ghost use Rattle.std.specs.List.Sorted.{IsStrictlyIncreasing};
-ghost use Rattle.textwrap_words.specs.Units.{stripped};
+ghost use Rattle.textwrap_text.specs.Units.{stripped};
 ghost use Rattle.textwrap_words.specs.Words.{word_view, word_of, Tiles};
 ghost use Rattle.textwrap_words.specs.WordOffsets.{is_cut_after, cuts_at, words_at};
 
 use super::words::words_between;
-use crate::characters::Characters;
-use crate::widths::visible_len;
 use crate::words::Word;
 use std::alloc::{AllocError, Allocator};
+use textwrap_text::characters::Characters;
+use textwrap_text::widths::visible_len;
 
 /// The words of a line that is cut at these offsets, in order.
 ///

@@ -2,18 +2,18 @@
 ghost use Rattle.std.specs.Prelude.{◌≡◌, ℕ, ◌-◌, ◌<◌, ◌≤◌, List, ◌∷◌, IfOk, length, map, take, drop};
 ghost use Rattle.std.specs.Prelude.{slice_index};
 ghost use Rattle.std.specs.Iterator.{YieldsFirstBy, item_count};
-ghost use Rattle.textwrap_words.specs.Blanks.{blank};
+ghost use Rattle.textwrap_text.specs.Blanks.{blank};
 ghost use Rattle.textwrap_words.specs.Words.{Tiles, WordText, word_view, word_of, words_of, is_cut, chunks};
 ghost use Rattle.textwrap_words.specs.Cuts.{AreCuts, parts_between};
 ghost use Rattle.textwrap_words.specs.WordSeparators.{MayCut};
 ghost use Rattle.textwrap_words.specs.WordsLeft.{words_left};
 
 use super::line_cuts::LineCuts;
-use crate::chunks::Chunks;
 use crate::words::Word;
 use std::alloc::{AllocError, Allocator};
 use std::marker::Model;
 use std::vec;
+use textwrap_text::chunks::Chunks;
 
 /// The words of a line, one after the other: of `"foo bar"` these are `"foo "` and `"bar"`. Those at
 /// a caller's cuts were found beforehand and lie in memory of `A`. To contracts it is the list of

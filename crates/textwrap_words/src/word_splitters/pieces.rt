@@ -2,7 +2,7 @@
 ghost use Rattle.std.specs.Prelude.{◌≡◌, ℕ, ◌<◌, ◌≤◌, List, [], ◌++◌, map, slice_range, OnOk};
 ghost use Rattle.std.specs.Prelude.{IsCharBoundary};
 ghost use Rattle.textwrap_words.specs.Cuts.{AreCuts};
-ghost use Rattle.textwrap_words.specs.Units.{text_width};
+ghost use Rattle.textwrap_text.specs.Units.{text_width};
 ghost use Rattle.textwrap_words.specs.WordSplitters.{cut_penalty, ends_in_hyphen, split_pieces};
 ghost use Rattle.textwrap_words.specs.WordSplitters.{MaySplit};
 ghost use Rattle.textwrap_words.specs.Words.{piece, word_view};

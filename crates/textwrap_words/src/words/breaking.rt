@@ -3,13 +3,13 @@ ghost use Rattle.std.specs.Prelude.{◌≡◌, ◌≢◌, ℕ, true, List, [], �
 ghost use Rattle.std.specs.Prelude.{IsCharBoundary, IsUtf8};
 ghost use Rattle.std.specs.Iterator.{IsFiniteIterable, Drains};
 ghost use Rattle.textwrap_words.specs.Breaking.{broken_texts, broken_word, broken_words};
-ghost use Rattle.textwrap_words.specs.Units.{text_width};
+ghost use Rattle.textwrap_text.specs.Units.{text_width};
 ghost use Rattle.textwrap_words.specs.Words.{word_view};
 
 use super::Word;
-use crate::characters::columns;
-use crate::escapes::State;
 use std::alloc::{AllocError, Allocator};
+use textwrap_text::characters::columns;
+use textwrap_text::escapes::State;
 
 /// An iterator over the pieces of a word, made by `Word::break_apart`. It gives them in order and
 /// needs no memory, and after the last piece it returns `None` each time: for `"Hello!  "` at 3

@@ -1,6 +1,6 @@
 use Rattle.textwrap.proofs.columns.later_len.Given as goal
-use Rattle.textwrap_base.proofs.Common.{◌≡◌, ◌+◌, ◌-◌, ◌*◌, ◌^◌, ◌<◌, ◌≤◌, length, map, min}
-use Rattle.textwrap_base.proofs.Common.{range_with_len}
+use Rattle.textwrap_text.proofs.Common.{◌≡◌, ◌+◌, ◌-◌, ◌*◌, ◌^◌, ◌<◌, ◌≤◌, length, map, min}
+use Rattle.textwrap_text.proofs.Common.{range_with_len}
 use Rattle.textwrap_lines.proofs.Common.{line_view, line_bytes}
 use Rattle.textwrap.proofs.Common.{layout_view, gapped, cell}
 

@@ -1,7 +1,7 @@
 use Rattle.textwrap.proofs.columns.push_missing.Goals as goal
-use Rattle.textwrap_base.proofs.Common.{◌++◌, append_assoc, string_bytes}
+use Rattle.textwrap_text.proofs.Common.{◌++◌, append_assoc, string_bytes}
 use Rattle.textwrap.proofs.Common.{blanks}
-use Rattle.textwrap_base.proofs.Lists.Elements.{run_more}
+use Rattle.textwrap_text.proofs.Lists.Elements.{run_more}
 
 pub loop-preserved : goal.loop-preserved
 loop-preserved g c =

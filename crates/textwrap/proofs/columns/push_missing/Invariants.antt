@@ -1,5 +1,5 @@
 use Rattle.textwrap.proofs.columns.push_missing.Given as goal
-use Rattle.textwrap_base.proofs.Common.{◌≡◌, ◌++◌, repeat, string_bytes}
+use Rattle.textwrap_text.proofs.Common.{◌≡◌, ◌++◌, repeat, string_bytes}
 use Rattle.textwrap.proofs.Common.{blanks}
 
 abbrev pub invariant-loop : goal.invariant-loop

@@ -1,9 +1,9 @@
 use Rattle.textwrap.proofs.columns.table_rows.Goals as goal
-use Rattle.textwrap_base.proofs.Common.{ℕ, List, length, map, sym, arith}
-use Rattle.textwrap_base.proofs.Common.{map-append, map-range_with_len_more}
+use Rattle.textwrap_text.proofs.Common.{ℕ, List, length, map, sym, arith, map-append}
+use Rattle.textwrap_text.proofs.Common.{map-range_with_len_more}
 use Rattle.textwrap_lines.proofs.Common.{line_view, line_bytes}
 use Rattle.textwrap.proofs.Common.{layout_view, row_text, cells}
-use Rattle.textwrap_base.proofs.Numbers.{rows-le_lines}
+use Rattle.textwrap_text.proofs.Numbers.{rows-le_lines}
 
 pub table_row-requires-clause-within : goal.table_row-requires-clause-within
 table_row-requires-clause-within g c = omega (

@@ -1,5 +1,5 @@
 use Rattle.textwrap.proofs.columns.wrap_columns.Goals as goal
-use Rattle.textwrap_base.proofs.Common.{◌≡◌, map, ap, ◌∙◌}
+use Rattle.textwrap_text.proofs.Common.{◌≡◌, map, ap, ◌∙◌}
 use Rattle.std.proofs.lemmas.Result.{IfOk-weaker}
 use Rattle.textwrap_lines.proofs.Common.{line_bytes, settings_view}
 use Rattle.textwrap.specs.Columns.{at_column_width, table_rows}

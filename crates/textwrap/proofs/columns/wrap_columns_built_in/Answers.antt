@@ -1,5 +1,5 @@
 use Rattle.textwrap.proofs.columns.wrap_columns_built_in.Goals as goal
-use Rattle.textwrap_base.proofs.Common.{map, ap, ◌∙◌, subst}
+use Rattle.textwrap_text.proofs.Common.{map, ap, ◌∙◌, subst}
 use Rattle.std.proofs.lemmas.Result.{IfOk-weaker}
 use Rattle.textwrap_words.proofs.Common.{as_splitter}
 use Rattle.textwrap_lines.proofs.Common.{AreTextLines, DividesAt, layout_view, line_bytes, Settings}

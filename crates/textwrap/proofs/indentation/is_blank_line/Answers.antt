@@ -1,5 +1,5 @@
 use Rattle.textwrap.proofs.indentation.is_blank_line.Goals as goal
-use Rattle.textwrap_base.proofs.Common.{◌==◌, length, ap, ◌∙◌}
+use Rattle.textwrap_text.proofs.Common.{◌==◌, length, ap, ◌∙◌}
 use Rattle.textwrap.proofs.Text.Indents.{is_blank_line-trim_start}
 
 pub returns : goal.returns

@@ -1,9 +1,9 @@
 use Rattle.textwrap.proofs.indentation.margin_of.Goals as goal
-use Rattle.textwrap_base.proofs.Common.{◌∙◌, ap, None, refl, sym}
+use Rattle.textwrap_text.proofs.Common.{◌∙◌, ap, None, refl, sym}
 use Rattle.std.specs.Str.{chars}
 use Rattle.textwrap.proofs.Text.Margins.{margin_after, margin_after-blank, margin_after-first}
 use Rattle.textwrap.proofs.Text.Margins.{margin_after-end}
-use Rattle.textwrap_lines.proofs.TextLines.{ended_lines-texts, texts_of}
+use Rattle.textwrap_text.proofs.TextLines.{ended_lines-texts, texts_of}
 
 pub loop-line-init : goal.loop-line-init
 loop-line-init c =

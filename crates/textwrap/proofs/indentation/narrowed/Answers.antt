@@ -1,12 +1,12 @@
 use Rattle.textwrap.proofs.indentation.narrowed.Goals as goal
-use Rattle.textwrap_base.proofs.Common.{◌+◌, take, drop, sym, ◌∙◌, subst, arith, length_push}
-use Rattle.textwrap_base.proofs.Common.{length, ap, IsCharBoundary, YieldsList-turn, YieldsList-end}
-use Rattle.textwrap_base.proofs.Common.{take-append-drop, YieldsList-from_chars, chars_from_encodes}
+use Rattle.textwrap_text.proofs.Common.{◌+◌, take, drop, sym, ◌∙◌, subst, arith, length_push}
+use Rattle.textwrap_text.proofs.Common.{length, ap, IsCharBoundary, YieldsList-turn, YieldsList-end}
+use Rattle.textwrap_text.proofs.Common.{take-append-drop, YieldsList-from_chars, chars_from_encodes}
 use Rattle.std.specs.Str.{chars}
 use Rattle.std.proofs.lemmas.Iterator.{YieldsList-from_zip}
-use Rattle.textwrap_base.proofs.Lists.Parts.{from_start}
+use Rattle.textwrap_text.proofs.Lists.Parts.{from_start}
 use Rattle.textwrap.proofs.Text.Margins.{AreAt, zip_at, narrowed-stop, narrowed-step, narrowed-done}
-use Rattle.textwrap_base.proofs.Texts.{IsCut, cut_text, encoded-more, encoded-within}
+use Rattle.textwrap_text.proofs.Texts.{IsCut, cut_text, encoded-more, encoded-within}
 use Rattle.textwrap.proofs.indentation.narrowed.Goals.{In-Some}
 
 -- the characters of this turn

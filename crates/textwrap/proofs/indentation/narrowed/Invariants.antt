@@ -1,5 +1,5 @@
 use Rattle.textwrap.proofs.indentation.narrowed.Given as goal
-use Rattle.textwrap_base.proofs.Common.{◌≡◌, ◌++◌, length, take, drop, encode_utf8_all}
+use Rattle.textwrap_text.proofs.Common.{◌≡◌, ◌++◌, length, take, drop, encode_utf8_all}
 use Rattle.textwrap.proofs.Common.{narrowed}
 use Rattle.std.specs.Str.{chars}
 

@@ -1,9 +1,9 @@
 use Rattle.textwrap.proofs.indentation.push_dedented.Given as goal
-use Rattle.textwrap_base.proofs.Common.{◌≡◌, ◌++◌, ℕ, List, All, StartsWith, false, flat_map}
+use Rattle.textwrap_text.proofs.Common.{◌≡◌, ◌++◌, ℕ, List, All, StartsWith, false, flat_map}
 use Rattle.std.specs.Str.{chars}
 use Rattle.textwrap.proofs.Common.{is_blank_line}
 use Rattle.textwrap.specs.Indentation.{dedented, without_margin}
-use Rattle.textwrap_lines.proofs.TextLines.{made_of, texts_of}
+use Rattle.textwrap_text.proofs.TextLines.{made_of, texts_of}
 
 -- the text so far, and what the lines to come make, are the dedented text; of these, each that is
 -- not blank begins with the margin

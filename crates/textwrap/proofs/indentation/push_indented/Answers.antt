@@ -1,5 +1,6 @@
 use Rattle.textwrap.proofs.indentation.push_indented.Goals as goal
-use Rattle.textwrap_base.proofs.Common.{[], ◌≡◌, ◌++◌, ◌∙◌, append-nil, append_assoc, refl, subst, sym}
+use Rattle.textwrap_text.proofs.Common.{[], ◌≡◌, ◌++◌, ◌∙◌, append-nil, append_assoc, refl, subst}
+use Rattle.textwrap_text.proofs.Common.{sym}
 use Rattle.textwrap.specs.Indentation.{indent_of_part}
 
 pub loop-line-init : goal.loop-line-init

@@ -1,7 +1,7 @@
 use Rattle.textwrap.proofs.indentation.push_indented.Given as goal
-use Rattle.textwrap_base.proofs.Common.{◌≡◌, ◌++◌, ℕ, List, map, flat_map}
+use Rattle.textwrap_text.proofs.Common.{◌≡◌, ◌++◌, ℕ, List, map, flat_map}
 use Rattle.textwrap.specs.Indentation.{indented, indented_part}
-use Rattle.textwrap_lines.specs.TextLines.{with_ending}
+use Rattle.textwrap_text.specs.TextLines.{with_ending}
 
 -- the text so far, and the lines to come, each indented, are the indented text
 abbrev pub invariant-loop-line : goal.invariant-loop-line

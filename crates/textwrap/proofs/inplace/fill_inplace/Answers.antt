@@ -1,12 +1,11 @@
 use Rattle.textwrap.proofs.inplace.fill_inplace.Goals as goal
-use Rattle.textwrap_base.proofs.Common.{◌≡◌, ◌<◌, All, length, sym, ap, ◌∙◌, subst, arith}
-use Rattle.textwrap_base.proofs.Common.{string_bytes, IsUtf8, false≢true}
-use Rattle.textwrap_lines.proofs.Common.{paragraphs_of}
+use Rattle.textwrap_text.proofs.Common.{◌≡◌, ◌<◌, All, length, sym, ap, ◌∙◌, subst, arith}
+use Rattle.textwrap_text.proofs.Common.{string_bytes, IsUtf8, false≢true, paragraphs_of}
 use Rattle.textwrap.proofs.Common.{IsFilledInPlace, FitsOneLine, breaks_from}
 use Rattle.std.specs.Vec.{with_items}
 use Rattle.std.proofs.lemmas.List.{with_items_is}
 use Rattle.std.proofs.lemmas.Str.{IsUtf8-string_bytes}
-use Rattle.textwrap_lines.specs.declared.line_ending.LineEnding.TheVariants.{LF}
+use Rattle.textwrap_text.specs.declared.line_ending.LineEnding.TheVariants.{LF}
 use Rattle.textwrap.proofs.Text.InPlace.{feeds-within, filled-by_feeds, filled-keeps}
 use Rattle.textwrap.proofs.Text.InPlaceLines.{unchanged-fits}
 use Rattle.textwrap.proofs.inplace.fill_inplace.Goals.{After-put_line_feeds}

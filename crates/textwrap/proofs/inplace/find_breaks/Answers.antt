@@ -1,7 +1,7 @@
 use Rattle.textwrap.proofs.inplace.find_breaks.Goals as goal
-use Rattle.textwrap_base.proofs.Common.{ap, ◌∙◌, subst, arith, false≢true, All-head, All-tail}
+use Rattle.textwrap_text.proofs.Common.{ap, ◌∙◌, subst, arith, false≢true, All-head, All-tail}
 use Rattle.textwrap.proofs.Common.{FitsOneLine}
-use Rattle.textwrap_lines.specs.declared.line_ending.LineEnding.TheVariants.{LF}
+use Rattle.textwrap_text.specs.declared.line_ending.LineEnding.TheVariants.{LF}
 use Rattle.textwrap.proofs.Text.InPlace.{HasBreaks, HasBreaks-more, HasBreaks-end, bytes_left-split}
 use Rattle.textwrap_lines.proofs.Text.Lines.{paragraphs_left, paragraphs_left-split, bytes_left}
 

@@ -1,8 +1,7 @@
 use Rattle.textwrap.proofs.inplace.find_breaks.Given as goal
-use Rattle.textwrap_base.proofs.Common.{◌+◌, ◌≤◌, All, length}
-use Rattle.textwrap_lines.proofs.Common.{paragraphs_of}
+use Rattle.textwrap_text.proofs.Common.{◌+◌, ◌≤◌, All, length, paragraphs_of}
 use Rattle.textwrap.proofs.Common.{FitsOneLine}
-use Rattle.textwrap_lines.specs.declared.line_ending.LineEnding.TheVariants.{LF}
+use Rattle.textwrap_text.specs.declared.line_ending.LineEnding.TheVariants.{LF}
 use Rattle.textwrap.proofs.Text.InPlace.{HasBreaks}
 use Rattle.textwrap_lines.proofs.Text.Lines.{paragraphs_left, bytes_left}
 

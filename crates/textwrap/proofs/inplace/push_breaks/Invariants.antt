@@ -1,5 +1,5 @@
 use Rattle.textwrap.proofs.inplace.push_breaks.Given as goal
-use Rattle.textwrap_base.proofs.Common.{List, ◌<◌, ◌^◌}
+use Rattle.textwrap_text.proofs.Common.{List, ◌<◌, ◌^◌}
 use Rattle.textwrap_words.proofs.Common.{WordText}
 use Rattle.textwrap.proofs.Text.Growing.{HasLine}
 

@@ -1,6 +1,6 @@
 use Rattle.textwrap.proofs.refilling.common_start.Goals as goal
-use Rattle.textwrap_base.proofs.Common.{◌≡◌, nat_eq, rules, take, ap, ◌∙◌, common_prefix_len, zip}
-use Rattle.textwrap_base.proofs.Common.{length-prefix_len}
+use Rattle.textwrap_text.proofs.Common.{◌≡◌, nat_eq, rules, take, ap, ◌∙◌, common_prefix_len, zip}
+use Rattle.textwrap_text.proofs.Common.{length-prefix_len}
 use Rattle.std.proofs.lemmas.Iterator.{YieldsList-from_zip}
 use Rattle.std.proofs.lemmas.Iterator.Adapters.{YieldsList-from_bytes}
 use Rattle.std.proofs.lemmas.Iterator.Consumers.{count_from_yields_List}
@@ -8,7 +8,7 @@ use Rattle.std.proofs.lemmas.Iterator.Search.{YieldsList-from_take_while}
 use Rattle.std.proofs.lemmas.List.Sums.{common_prefix_len-le}
 use Rattle.std.proofs.lemmas.Str.{IsCharBoundary-from_ascii}
 use borrow.Author.Tests.{tests}
-use Rattle.textwrap_base.proofs.Lists.Parts.{from_start, zip-common}
+use Rattle.textwrap_text.proofs.Lists.Parts.{from_start, zip-common}
 use Rattle.textwrap.proofs.refilling.common_start.Goals.{After-count-len}
 
 -- the bytes that are counted are those that both texts begin with

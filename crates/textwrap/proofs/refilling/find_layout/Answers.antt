@@ -1,8 +1,7 @@
 use Rattle.textwrap.proofs.refilling.find_layout.Goals as goal
-use Rattle.textwrap_base.proofs.Common.{◌≡◌, ◌++◌, ◌∷◌, [], max, get_or, refl, sym, ap, ◌∙◌, subst}
-use Rattle.textwrap_base.proofs.Common.{IsAscii, append-nil, drop, fold, lines, map}
-use Rattle.textwrap_words.proofs.Common.{text_width}
-use Rattle.textwrap_lines.proofs.TextLines.{ended_lines-texts, texts_of}
+use Rattle.textwrap_text.proofs.Common.{◌≡◌, ◌++◌, ◌∷◌, [], max, get_or, refl, sym, ap, ◌∙◌, subst}
+use Rattle.textwrap_text.proofs.Common.{IsAscii, append-nil, drop, fold, lines, map, text_width}
+use Rattle.textwrap_text.proofs.TextLines.{ended_lines-texts, texts_of}
 use Rattle.textwrap.proofs.Common.{line_prefix, common_prefix, unfilled_initial}
 use Rattle.textwrap.proofs.Common.{unfilled_subsequent}
 use Rattle.textwrap.specs.Refilling.{ended_lines, unfilled_width}

@@ -1,10 +1,9 @@
 use Rattle.textwrap.proofs.refilling.push_without_indents.Goals as goal
-use Rattle.textwrap_base.proofs.Common.{[], ◌∷◌, ◌++◌, filter, map, subst, sym, ap, ◌∙◌, append-nil}
-use Rattle.textwrap_base.proofs.Common.{append_assoc, StartsWith, All-head, All-tail}
-use Rattle.textwrap_words.proofs.Common.{blank}
+use Rattle.textwrap_text.proofs.Common.{[], ◌∷◌, ◌++◌, filter, map, subst, sym, ap, ◌∙◌, append-nil}
+use Rattle.textwrap_text.proofs.Common.{append_assoc, StartsWith, All-head, All-tail, blank}
 use Rattle.textwrap.proofs.Common.{detected_among}
 use Rattle.textwrap.specs.Refilling.{has_text}
-use Rattle.textwrap_lines.specs.LineViews.{ended_line_view}
+use Rattle.textwrap_text.specs.LineViews.{ended_line_view}
 use Rattle.textwrap.proofs.Text.Unfilling.{lines-begin, joined_text-some, detected_among-two}
 
 pub without_indent-first-requires : goal.without_indent-first-requires

@@ -1,5 +1,5 @@
 use Rattle.textwrap.proofs.refilling.push_without_indents.Given as goal
-use Rattle.textwrap_base.proofs.Common.{◌≡◌, ◌∷◌, ◌++◌, ℕ, List, length, map, All, StartsWith}
+use Rattle.textwrap_text.proofs.Common.{◌≡◌, ◌∷◌, ◌++◌, ℕ, List, length, map, All, StartsWith}
 use Rattle.textwrap.proofs.Common.{joined_text, detected_among, detected_ending}
 use Rattle.textwrap.proofs.Text.Unfilling.{added_lines}
 

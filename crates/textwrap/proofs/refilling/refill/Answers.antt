@@ -1,5 +1,5 @@
 use Rattle.textwrap.proofs.refilling.refill.Goals as goal
-use Rattle.textwrap_base.proofs.Common.{ap, ◌∙◌, string_bytes}
+use Rattle.textwrap_text.proofs.Common.{ap, ◌∙◌, string_bytes}
 use Rattle.std.proofs.lemmas.Result.{IfOk-weaker}
 use Rattle.textwrap_lines.proofs.Common.{settings_view}
 use Rattle.textwrap_lines.specs.Paragraph.{DividesUnder}

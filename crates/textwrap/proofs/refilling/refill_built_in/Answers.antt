@@ -1,5 +1,5 @@
 use Rattle.textwrap.proofs.refilling.refill_built_in.Goals as goal
-use Rattle.textwrap_base.proofs.Common.{◌∙◌, string_bytes}
+use Rattle.textwrap_text.proofs.Common.{◌∙◌, string_bytes}
 use Rattle.std.proofs.lemmas.Result.{IfOk-weaker}
 use Rattle.textwrap_words.proofs.Common.{as_splitter}
 use Rattle.textwrap_lines.proofs.Common.{DividesAt, layout_view}

@@ -1,6 +1,6 @@
 use Rattle.textwrap_base.proofs.first_fit.fitting_len.Goals as goal
-use Rattle.textwrap_base.proofs.Common.{◌≡◌, ◌+◌, ◌<◌, ◌≤◌, take, ap, arith, open_width}
-use Rattle.textwrap_base.proofs.Common.{closed_width}
+use Rattle.textwrap_text.proofs.Common.{◌≡◌, ◌+◌, ◌<◌, ◌≤◌, take, ap, arith}
+use Rattle.textwrap_base.proofs.Common.{open_width, closed_width}
 use Rattle.textwrap_base.proofs.Division.Greedy.{open_width-take, closed_width-take, Fits-take}
 
 pub returns-then-closed-line_width-clause-full : goal.returns-then-closed-line_width-clause-full

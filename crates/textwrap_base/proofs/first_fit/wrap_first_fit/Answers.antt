@@ -1,10 +1,11 @@
 use Rattle.textwrap_base.proofs.first_fit.wrap_first_fit.Goals as goal
-use Rattle.textwrap_base.proofs.Common.{◌≡◌, [], ◌∷◌, ◌<◌, take, length, map, vec_len, sym, ap, ◌∙◌}
-use Rattle.textwrap_base.proofs.Common.{subst, arith, line_width, nat_tests, append-nil, length-map}
+use Rattle.textwrap_text.proofs.Common.{◌≡◌, [], ◌∷◌, ◌<◌, take, length, map, vec_len, sym, ap, ◌∙◌}
+use Rattle.textwrap_text.proofs.Common.{subst, arith, nat_tests, append-nil, length-map}
+use Rattle.textwrap_text.proofs.Common.{nil_from_length, All-nil}
+use Rattle.textwrap_base.proofs.Common.{line_width}
 use Rattle.textwrap_base.proofs.Division.Greedy.{greedy_fewest, IsGreedyFrom}
 use Rattle.textwrap_base.proofs.Division.Greedy.{IsGreedyFrom-cons, IsGreedy-from}
-use Rattle.textwrap_base.proofs.Lists.Elements.{map-push-append}
-use Rattle.textwrap_base.proofs.Common.{nil_from_length, All-nil}
+use Rattle.textwrap_text.proofs.Lists.Elements.{map-push-append}
 
 pub loop-rest-preserved : goal.loop-rest-preserved
 loop-rest-preserved g c = (

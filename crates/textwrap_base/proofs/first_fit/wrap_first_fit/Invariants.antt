@@ -1,5 +1,5 @@
 use Rattle.textwrap_base.proofs.first_fit.wrap_first_fit.Given as goal
-use Rattle.textwrap_base.proofs.Common.{◌<◌, ◌++◌, length, map, vec_len}
+use Rattle.textwrap_text.proofs.Common.{◌<◌, ◌++◌, length, map, vec_len}
 use Rattle.textwrap_base.proofs.Division.Greedy.{IsGreedyFrom}
 
 -- the lines so far, and any greedy division of the rest, are a greedy division of all

@@ -1,5 +1,5 @@
 use Rattle.textwrap_base.proofs.measured.line_cost.Goals as goal
-use Rattle.textwrap_base.proofs.Common.{◌∙◌, eqb, length, rules}
+use Rattle.textwrap_text.proofs.Common.{◌∙◌, eqb, length, rules}
 use Rattle.textwrap_base.proofs.Cost.LineCosts.{line_cost-slice}
 use Rattle.textwrap_base.proofs.Cost.Measures.{takes_by_sums}
 

@@ -1,5 +1,6 @@
 use Rattle.textwrap_base.proofs.minima.queue_minima.Goals as goal
-use Rattle.textwrap_base.proofs.Common.{map, sym, ap, ◌∙◌, subst, Costs, SuitQueue, minimum_of}
+use Rattle.textwrap_text.proofs.Common.{map, sym, ap, ◌∙◌, subst}
+use Rattle.textwrap_base.proofs.Common.{Costs, SuitQueue, minimum_of}
 use Rattle.std.proofs.lemmas.Result.{IfOk-weaker}
 use Rattle.textwrap_base.specs.Table.{table}
 use Rattle.textwrap_base.proofs.Cost.Results.{reported-least_cost}

@@ -1,6 +1,6 @@
 use Rattle.textwrap_base.proofs.minima.table_minima.Goals as goal
-use Rattle.textwrap_base.proofs.Common.{Vec, arith, ◌∙◌, ap, subst, map, ℕ, ◌≤◌, ◌^◌, priced_by}
-use Rattle.textwrap_base.proofs.Common.{Costs, entry_at, minimum_of}
+use Rattle.textwrap_text.proofs.Common.{Vec, arith, ◌∙◌, ap, subst, map, ℕ, ◌≤◌, ◌^◌}
+use Rattle.textwrap_base.proofs.Common.{priced_by, Costs, entry_at, minimum_of}
 use Rattle.textwrap_base.specs.Table.{table}
 use Rattle.textwrap_base.specs.declared.minima.table.Entry.{Entry}
 use Rattle.textwrap_base.proofs.Cost.Results.{reported-least_cost}

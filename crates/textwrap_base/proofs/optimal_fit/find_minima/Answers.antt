@@ -1,5 +1,5 @@
 use Rattle.textwrap_base.proofs.optimal_fit.find_minima.Goals as goal
-use Rattle.textwrap_base.proofs.Common.{refl}
+use Rattle.textwrap_text.proofs.Common.{refl}
 use Rattle.textwrap_base.proofs.Cost.QueueCase.{queue_case-fits}
 
 pub returns-then-is_queue_case-clause-ok_only : goal.returns-then-is_queue_case-clause-ok_only

@@ -1,10 +1,10 @@
 use Rattle.textwrap_base.proofs.optimal_fit.lines_by.Goals as goal
-use Rattle.textwrap_base.proofs.Common.{arith, Bor, sym, ◌∙◌, ap, ◌≡◌, List, reverse, map, length}
-use Rattle.textwrap_base.proofs.Common.{drop}
+use Rattle.textwrap_text.proofs.Common.{arith, Bor, sym, ◌∙◌, ap, ◌≡◌, List, reverse, map, length}
+use Rattle.textwrap_text.proofs.Common.{drop}
 use Rattle.textwrap_base.specs.declared.minima.Minimum.{Minimum}
 use Rattle.textwrap_base.proofs.Cost.Chosen.{joined, joined_division, lines_more}
-use Rattle.textwrap_base.proofs.Lists.Elements.{reverse_map_push, reverse-map}
-use Rattle.textwrap_base.proofs.Numbers.{some_from_test}
+use Rattle.textwrap_text.proofs.Lists.Elements.{reverse_map_push, reverse-map}
+use Rattle.textwrap_text.proofs.Numbers.{some_from_test}
 
 pub loop-end-preserved : goal.loop-end-preserved
 loop-end-preserved g c =

@@ -1,6 +1,7 @@
 use Rattle.textwrap_base.proofs.optimal_fit.lines_by.Given as goal
-use Rattle.textwrap_base.proofs.Common.{◌≡◌, ◌≢◌, ◌≤◌, [], All, map, reverse, drop, length}
-use Rattle.textwrap_base.proofs.Common.{flat_map, FollowStarts}
+use Rattle.textwrap_text.proofs.Common.{◌≡◌, ◌≢◌, ◌≤◌, [], All, map, reverse, drop, length}
+use Rattle.textwrap_text.proofs.Common.{flat_map}
+use Rattle.textwrap_base.proofs.Common.{FollowStarts}
 use Rattle.textwrap_base.specs.declared.minima.Minimum.{Minimum}
 
 abbrev pub invariant-loop-end : goal.invariant-loop-end

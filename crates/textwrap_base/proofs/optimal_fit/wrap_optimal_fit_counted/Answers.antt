@@ -1,5 +1,5 @@
 use Rattle.textwrap_base.proofs.optimal_fit.wrap_optimal_fit_counted.Goals as goal
-use Rattle.textwrap_base.proofs.Common.{Vec, Bor, List, map, ◌∙◌}
+use Rattle.textwrap_text.proofs.Common.{Vec, Bor, List, map, ◌∙◌}
 use Rattle.textwrap_base.specs.declared.minima.Minimum.{Minimum}
 use Rattle.textwrap_base.proofs.Cost.Results.{optimal-returned, optimal-refused, results-same}
 use Rattle.textwrap_base.proofs.Cost.Table.{starts_reported, length_reported, first_reported}

@@ -1,10 +1,10 @@
 use Rattle.textwrap_calls.proofs.pieces.are_offsets.Goals as goal
 use Rattle.textwrap_calls.proofs.Common.{◌∙◌, ap, arith, eqb-true, length, nil_from_length, sym}
 use Rattle.textwrap_calls.proofs.Common.{chars, shown, shown_text, characters_left, offsets_past}
-use Rattle.textwrap_base.proofs.Common.{eq-eqb}
-use Rattle.textwrap_words.proofs.Units.Characters.{shown-all, shown-from, shown-next}
-use Rattle.textwrap_words.proofs.Units.Reading.{stripped-short}
-use Rattle.textwrap_words.specs.declared.escapes.State.TheVariants.{Text}
+use Rattle.textwrap_text.proofs.Common.{eq-eqb}
+use Rattle.textwrap_text.proofs.Units.Characters.{shown-all, shown-from, shown-next}
+use Rattle.textwrap_text.proofs.Units.Reading.{stripped-short}
+use Rattle.textwrap_text.specs.declared.escapes.State.TheVariants.{Text}
 use Rattle.textwrap_calls.proofs.OffsetLemmas.{left_after, offsets-read}
 
 pub loop-character-init : goal.loop-character-init

@@ -1,8 +1,7 @@
 use Rattle.textwrap_calls.proofs.pieces.words_at.Goals as goal
-use Rattle.textwrap_base.proofs.Common.{List, ℕ, [], ◌∷◌, All, All-cons, All-nil, All-from_get_or}
-use Rattle.textwrap_base.proofs.Common.{arith, IsCharBoundary}
+use Rattle.textwrap_text.proofs.Common.{List, ℕ, [], ◌∷◌, All, All-cons, All-nil, All-from_get_or}
+use Rattle.textwrap_text.proofs.Common.{arith, IsCharBoundary, stripped}
 use Rattle.std.specs.List.Sorted.{IsStrictlyIncreasing}
-use Rattle.textwrap_words.proofs.Common.{stripped}
 use Rattle.textwrap_words.proofs.Word.Cuts.{next-at, next-increasing}
 use Rattle.textwrap_calls.specs.Pieces.{AreOffsets, IsNextOffset}
 

@@ -3,7 +3,7 @@ use Rattle.textwrap_calls.proofs.Common.{◌≡◌, ◌∷◌, [], ap, map, subs
 use Rattle.textwrap_calls.proofs.Common.{sizes_of, word_view, total_width-same, settings_view}
 use Rattle.textwrap_calls.proofs.Common.{widths_of, pieces_at, algorithm_of, says_yes, settings_of}
 use Rattle.textwrap_calls.proofs.Common.{AreEndsOf, ends_of}
-use Rattle.textwrap_base.proofs.Common.{Some}
+use Rattle.textwrap_text.proofs.Common.{Some}
 use Rattle.textwrap_lines.proofs.Paragraph.Widths.{sizes-word_view}
 use Rattle.std.specs.Prelude.{IsSomeAnd}
 use Rattle.textwrap_words.specs.WrapAlgorithms.{algorithm_view, IsDividedBy, OverflowsBy}

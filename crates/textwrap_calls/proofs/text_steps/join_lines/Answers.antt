@@ -2,7 +2,7 @@ use Rattle.textwrap_calls.proofs.text_steps.join_lines.Goals as goal
 use Rattle.textwrap_calls.proofs.Common.{false, ◌+◌, ◌≤◌, ap, cond, drop_more, length, map, subst}
 use Rattle.textwrap_calls.proofs.Common.{slice_range, sym, ◌∙◌, join_with, line_bytes}
 use Rattle.std.specs.List.{slice_index_or}
-use Rattle.textwrap_base.proofs.Common.{drop_all}
+use Rattle.textwrap_text.proofs.Common.{drop_all}
 use Rattle.textwrap_calls.proofs.StepLemmas.{HasJoined, HasJoined-end, HasJoined-first}
 use Rattle.textwrap_calls.proofs.StepLemmas.{HasJoined-more, HasJoined-start}
 

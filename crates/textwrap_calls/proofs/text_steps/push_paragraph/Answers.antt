@@ -1,6 +1,6 @@
 use Rattle.textwrap_calls.proofs.text_steps.push_paragraph.Goals as goal
 use Rattle.textwrap_calls.proofs.Common.{subst, sym, ◌∙◌, settings_view, HasPlacesMore}
-use Rattle.textwrap_base.proofs.Common.{OnOk}
+use Rattle.textwrap_text.proofs.Common.{OnOk}
 use Rattle.textwrap_calls.proofs.TextStepLemmas.{both-ok, divided-begins, further-divided}
 
 pub returns-clause-placed : goal.returns-clause-placed

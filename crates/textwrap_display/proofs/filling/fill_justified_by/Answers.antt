@@ -1,5 +1,5 @@
 use Rattle.textwrap_display.proofs.filling.fill_justified_by.Goals as goal
-use Rattle.textwrap_base.proofs.Common.{◌++◌, ap, ◌∙◌, arith, drop, length, string_bytes, subst}
+use Rattle.textwrap_text.proofs.Common.{◌++◌, ap, ◌∙◌, arith, drop, length, string_bytes, subst}
 use Rattle.std.proofs.lemmas.Slice.{between_to_end}
 use Rattle.textwrap_lines.proofs.Common.{layout_view}
 use Rattle.textwrap_display.specs.JustifiedText.{IsJustifiedText}

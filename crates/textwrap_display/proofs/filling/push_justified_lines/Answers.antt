@@ -1,6 +1,6 @@
 use Rattle.textwrap_display.proofs.filling.push_justified_lines.Goals as goal
-use Rattle.textwrap_base.proofs.Common.{◌+◌, ◌++◌, ◌∷◌, [], sym, ap, ◌∙◌, drop, drop_more}
-use Rattle.textwrap_base.proofs.Common.{string_bytes}
+use Rattle.textwrap_text.proofs.Common.{◌+◌, ◌++◌, ◌∷◌, [], sym, ap, ◌∙◌, drop, drop_more}
+use Rattle.textwrap_text.proofs.Common.{string_bytes}
 use Rattle.textwrap_lines.proofs.Common.{layout_view}
 use Rattle.textwrap_display.proofs.JustifiedLines.{added, added-step}
 

@@ -1,5 +1,5 @@
 use Rattle.textwrap_display.proofs.filling.push_justified_lines.Given as goal
-use Rattle.textwrap_base.proofs.Common.{◌≡◌, ◌++◌, ◌∷◌, [], drop, string_bytes}
+use Rattle.textwrap_text.proofs.Common.{◌≡◌, ◌++◌, ◌∷◌, [], drop, string_bytes}
 use Rattle.textwrap_lines.proofs.Common.{layout_view}
 use Rattle.textwrap_display.proofs.JustifiedLines.{added}
 

@@ -1,5 +1,5 @@
 use Rattle.textwrap_display.proofs.indents.indent_end.Goals as goal
-use Rattle.textwrap_base.proofs.Common.{sym, ◌∙◌, length, cond, ap}
+use Rattle.textwrap_text.proofs.Common.{sym, ◌∙◌, length, cond, ap}
 use Rattle.std.proofs.lemmas.Str.{IsCharBoundary-start}
 use Rattle.std.proofs.lemmas.Str.Pattern.{starts_text}
 

@@ -1,5 +1,5 @@
 use Rattle.textwrap_display.proofs.justifying.count_gaps.Goals as goal
-use Rattle.textwrap_base.proofs.Common.{ap, arith, length}
+use Rattle.textwrap_text.proofs.Common.{ap, arith, length}
 use Rattle.textwrap_display.proofs.WidenedWords.{chunks-few}
 
 pub overflow_add-words : goal.overflow_add-words

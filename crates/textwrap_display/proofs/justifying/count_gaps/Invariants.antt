@@ -1,5 +1,5 @@
 use Rattle.textwrap_display.proofs.justifying.count_gaps.Given as goal
-use Rattle.textwrap_base.proofs.Common.{◌≡◌, ◌+◌, length}
+use Rattle.textwrap_text.proofs.Common.{◌≡◌, ◌+◌, length}
 use Rattle.textwrap_words.specs.Words.{chunks}
 
 -- the words so far, and those that are left, are all

@@ -1,5 +1,5 @@
 use Rattle.textwrap_display.proofs.justifying.push_widened.Goals as goal
-use Rattle.textwrap_base.proofs.Common.{◌∙◌, append_assoc, append-nil, arith, string_bytes}
+use Rattle.textwrap_text.proofs.Common.{◌∙◌, append_assoc, append-nil, arith, string_bytes}
 use Rattle.textwrap_display.proofs.WidenedWords.{first-written, gap-written, widened-text}
 
 pub loop-word-init : goal.loop-word-init

@@ -1,6 +1,6 @@
 use Rattle.textwrap_display.proofs.justifying.push_widened.Given as goal
-use Rattle.textwrap_base.proofs.Common.{◌≡◌, [], ◌∷◌, ◌++◌, string_bytes}
-use Rattle.textwrap_base.proofs.Lists.Parts.{flat}
+use Rattle.textwrap_text.proofs.Common.{◌≡◌, [], ◌∷◌, ◌++◌, string_bytes}
+use Rattle.textwrap_text.proofs.Lists.Parts.{flat}
 use Rattle.textwrap_words.specs.Words.{tiled, words_of}
 use Rattle.textwrap_display.proofs.WidenedWords.{widened_chunks}
 use Rattle.textwrap_display.specs.Justifying.{widened_words}

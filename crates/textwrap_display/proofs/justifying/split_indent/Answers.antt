@@ -1,8 +1,8 @@
 use Rattle.textwrap_display.proofs.justifying.split_indent.Goals as goal
 use Rattle.textwrap_display.proofs.justifying.split_indent.Goals.{After-blanks_end}
-use Rattle.textwrap_base.proofs.Common.{◌≡◌, ◌≢◌, ◌<◌, ap, ◌∙◌, take, drop, length, subst, arith}
-use Rattle.textwrap_base.proofs.Common.{slice_index}
-use Rattle.textwrap_words.specs.Blanks.{blank, BlanksBetween}
+use Rattle.textwrap_text.proofs.Common.{◌≡◌, ◌≢◌, ◌<◌, ap, ◌∙◌, take, drop, length, subst, arith}
+use Rattle.textwrap_text.proofs.Common.{slice_index}
+use Rattle.textwrap_text.specs.Blanks.{blank, BlanksBetween}
 use Rattle.textwrap_display.proofs.WidenedWords.{indent-boundary, indent-is}
 use Rattle.textwrap_display.specs.Justifying.{indent_len}
 

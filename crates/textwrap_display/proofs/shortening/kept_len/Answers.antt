@@ -1,8 +1,8 @@
 use Rattle.textwrap_display.proofs.shortening.kept_len.Goals as goal
-use Rattle.textwrap_base.proofs.Common.{◌≡◌, ◌+◌, refl, sym, subst, ◌∙◌, arith, length, eqb, inl}
-use Rattle.textwrap_base.proofs.Common.{inr, char_indices_offset}
+use Rattle.textwrap_text.proofs.Common.{◌≡◌, ◌+◌, refl, sym, subst, ◌∙◌, arith, length, eqb, inl}
+use Rattle.textwrap_text.proofs.Common.{inr, char_indices_offset}
 use Rattle.std.specs.Str.Iter.{char_indices_rest}
-use Rattle.textwrap_words.proofs.Units.Reading.{added}
+use Rattle.textwrap_text.proofs.Units.Reading.{added}
 use Rattle.textwrap_display.proofs.KeptLines.{IsFound, found-none, found-kept, found-past}
 use Rattle.textwrap_display.proofs.KeptLines.{found-here, found-on, found-whole, found-blank}
 use Rattle.textwrap_display.proofs.KeptWords.{IsReadTo, read_to-start, read_to-step, read-le}

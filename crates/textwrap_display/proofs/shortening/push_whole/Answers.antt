@@ -1,5 +1,5 @@
 use Rattle.textwrap_display.proofs.shortening.push_whole.Goals as goal
-use Rattle.textwrap_base.proofs.Common.{map}
+use Rattle.textwrap_text.proofs.Common.{map}
 use Rattle.textwrap_lines.specs.Paragraph.{line_view}
 use Rattle.textwrap_display.proofs.KeptLines.{views-more}
 

@@ -1,6 +1,6 @@
 use Rattle.textwrap_display.proofs.shortening.shorten_lines.Goals as goal
-use Rattle.textwrap_base.proofs.Common.{◌≡◌, ◌+◌, [], ◌∷◌, ◌++◌, map, arith, take, sym, ap, subst}
-use Rattle.textwrap_base.proofs.Common.{◌∙◌, string_bytes}
+use Rattle.textwrap_text.proofs.Common.{◌≡◌, ◌+◌, [], ◌∷◌, ◌++◌, map, arith, take, sym, ap, subst}
+use Rattle.textwrap_text.proofs.Common.{◌∙◌, string_bytes}
 use Rattle.textwrap_lines.specs.Paragraph.{Built, Slice, line_view}
 use Rattle.textwrap_display.specs.Shortening.{AreShortened, IsShortened, texts_of}
 use Rattle.textwrap_display.proofs.KeptLines.{cut-lines, views-push}

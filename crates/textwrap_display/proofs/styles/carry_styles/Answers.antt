@@ -1,5 +1,5 @@
 use Rattle.textwrap_display.proofs.styles.carry_styles.Goals as goal
-use Rattle.textwrap_base.proofs.Common.{◌≡◌, ◌++◌, drop, ap, ◌∙◌, rules}
+use Rattle.textwrap_text.proofs.Common.{◌≡◌, ◌++◌, drop, ap, ◌∙◌, rules}
 use Rattle.textwrap_display.specs.Styles.{closing, opening, sequences}
 use Rattle.textwrap_display.proofs.CarriedLines.{carries-more, line-is}
 

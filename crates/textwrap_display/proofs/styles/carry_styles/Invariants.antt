@@ -1,5 +1,5 @@
 use Rattle.textwrap_display.proofs.styles.carry_styles.Given as goal
-use Rattle.textwrap_base.proofs.Common.{◌≡◌, ℕ, List, [], ◌++◌, drop, map, shadow, Utf8}
+use Rattle.textwrap_text.proofs.Common.{◌≡◌, ℕ, List, [], ◌++◌, drop, map, shadow, Utf8}
 use Rattle.textwrap_lines.specs.Paragraph.{line_view}
 use Rattle.textwrap_display.specs.OpenStyles.{IsOpenAfter}
 use Rattle.textwrap_display.specs.Shortening.{texts_of}

@@ -1,11 +1,11 @@
 use Rattle.textwrap_display.proofs.styles.link_target.Goals as goal
-use Rattle.textwrap_base.proofs.Common.{◌≡◌, ◌==◌, true, false, length, sym, ap, subst, ◌∙◌, codes}
-use Rattle.textwrap_base.proofs.Common.{nat_lt, nat_tests, arith}
+use Rattle.textwrap_text.proofs.Common.{◌≡◌, ◌==◌, true, false, length, sym, ap, subst, ◌∙◌, codes}
+use Rattle.textwrap_text.proofs.Common.{nat_lt, nat_tests, arith}
 use Rattle.std.specs.List.{after_first, position_or_len}
 use Rattle.std.specs.Option.{MatchOption}
 use Rattle.std.proofs.lemmas.Str.Pattern.{split_once_first}
 use Rattle.textwrap_display.specs.Styles.{is_link}
-use Rattle.textwrap_base.proofs.Lists.Parts.{any-position, stripped_prefix}
+use Rattle.textwrap_text.proofs.Lists.Parts.{any-position, stripped_prefix}
 use Rattle.textwrap_display.proofs.Sequences.{IsAround, link-cases}
 use Rattle.textwrap_display.proofs.styles.link_target.Goals.{After-or}
 

@@ -1,6 +1,6 @@
 use Rattle.textwrap_display.proofs.styles.next_sequence.Goals as goal
-use Rattle.textwrap_base.proofs.Common.{◌≡◌, ℕ, ◌+◌, ◌∷◌, ◌++◌, length, drop, sym, subst, arith}
-use Rattle.textwrap_base.proofs.Common.{eqb, slice_range, IsCharBoundary}
+use Rattle.textwrap_text.proofs.Common.{◌≡◌, ℕ, ◌+◌, ◌∷◌, ◌++◌, length, drop, sym, subst, arith}
+use Rattle.textwrap_text.proofs.Common.{eqb, slice_range, IsCharBoundary}
 use Rattle.std.specs.Str.{NoCharPasses}
 use Rattle.std.proofs.lemmas.Str.Pattern.{split_parts}
 use Rattle.textwrap_display.specs.Styles.{sequences}

@@ -1,6 +1,6 @@
 use Rattle.textwrap_display.proofs.styles.sequence_tail_len.Goals as goal
-use Rattle.textwrap_base.proofs.Common.{◌≢◌}
-use Rattle.textwrap_words.specs.declared.escapes.State.TheVariants.{Text}
+use Rattle.textwrap_text.proofs.Common.{◌≢◌}
+use Rattle.textwrap_text.specs.declared.escapes.State.TheVariants.{Text}
 use Rattle.textwrap_display.proofs.Sequences.{read_to-start, read_to-step, read_to-end}
 use Rattle.textwrap_display.proofs.styles.sequence_tail_len.Goals.{in-Text, in_default}
 

@@ -1,5 +1,5 @@
 use Rattle.textwrap_display.proofs.styles.sequence_tail_len.Given as goal
-use Rattle.textwrap_base.proofs.Common.{char_indices_offset}
+use Rattle.textwrap_text.proofs.Common.{char_indices_offset}
 use Rattle.std.specs.Str.Iter.{char_indices_rest}
 use Rattle.textwrap_display.proofs.Sequences.{IsReadTo}
 

@@ -1,6 +1,6 @@
 use Rattle.textwrap_display.proofs.styles.style_parameters.Goals as goal
-use Rattle.textwrap_base.proofs.Common.{◌≡◌, ◌++◌, sym, ap, ◌∙◌, codes}
-use Rattle.textwrap_base.proofs.Lists.Parts.{stripped_prefix, stripped_suffix}
+use Rattle.textwrap_text.proofs.Common.{◌≡◌, ◌++◌, sym, ap, ◌∙◌, codes}
+use Rattle.textwrap_text.proofs.Lists.Parts.{stripped_prefix, stripped_suffix}
 use Rattle.std.specs.Int.{is_in_range}
 use Rattle.std.specs.List.{list_all}
 use Rattle.textwrap_display.specs.Styles.{is_style}

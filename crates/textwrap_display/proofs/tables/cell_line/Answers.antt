@@ -1,5 +1,5 @@
 use Rattle.textwrap_display.proofs.tables.cell_line.Goals as goal
-use Rattle.textwrap_base.proofs.Common.{sym, ◌∙◌, arith}
+use Rattle.textwrap_text.proofs.Common.{sym, ◌∙◌, arith}
 use Rattle.textwrap_display.proofs.TableGroups.{line-is}
 
 pub returns-in-Some : goal.returns-in-Some

@@ -1,5 +1,5 @@
 use Rattle.textwrap_display.proofs.tables.height.Given as goal
-use Rattle.textwrap_base.proofs.Common.{◌≡◌, take}
+use Rattle.textwrap_text.proofs.Common.{◌≡◌, take}
 use Rattle.textwrap_display.specs.Tables.{cell_texts, height}
 
 abbrev pub invariant-loop-lines : goal.invariant-loop-lines

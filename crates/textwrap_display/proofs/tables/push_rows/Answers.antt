@@ -1,6 +1,6 @@
 use Rattle.textwrap_display.proofs.tables.push_rows.Goals as goal
-use Rattle.textwrap_base.proofs.Common.{append_assoc, arith, map, map-append}
-use Rattle.textwrap_base.proofs.Common.{map-range_with_len_more}
+use Rattle.textwrap_text.proofs.Common.{append_assoc, arith, map, map-append}
+use Rattle.textwrap_text.proofs.Common.{map-range_with_len_more}
 use Rattle.textwrap_display.specs.Tables.{cell_texts, gaps_view, row_text}
 
 pub loop-r-preserved : goal.loop-r-preserved

@@ -1,5 +1,5 @@
 use Rattle.textwrap_display.proofs.tables.push_rows.Given as goal
-use Rattle.textwrap_base.proofs.Common.{◌≡◌, ◌++◌, map, range_with_len, string_bytes}
+use Rattle.textwrap_text.proofs.Common.{◌≡◌, ◌++◌, map, range_with_len, string_bytes}
 use Rattle.textwrap_display.specs.Tables.{cell_texts, gaps_view, row_text}
 
 -- the rows so far were added

@@ -1,7 +1,7 @@
 use Rattle.textwrap_display.proofs.tables.row_len.Goals as goal
 use Rattle.textwrap_display.proofs.tables.row_len.Goals.{After-gap_before}
-use Rattle.textwrap_base.proofs.Common.{◌≡◌, ◌+◌, ◌-◌, ap, arith, length, map}
-use Rattle.textwrap_words.specs.Units.{text_width}
+use Rattle.textwrap_text.proofs.Common.{◌≡◌, ◌+◌, ◌-◌, ap, arith, length, map}
+use Rattle.textwrap_text.specs.Units.{text_width}
 use Rattle.textwrap_display.specs.Tables.{cell_texts, gaps_view, row_text}
 use Rattle.textwrap_display.proofs.TableRows.{length-end, length-next, length-start, shown_from}
 

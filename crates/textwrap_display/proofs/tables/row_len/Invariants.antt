@@ -1,5 +1,5 @@
 use Rattle.textwrap_display.proofs.tables.row_len.Given as goal
-use Rattle.textwrap_base.proofs.Common.{◌≡◌, ◌+◌, ◌<◌, ◌^◌, length, map}
+use Rattle.textwrap_text.proofs.Common.{◌≡◌, ◌+◌, ◌<◌, ◌^◌, length, map}
 use Rattle.textwrap_display.specs.Tables.{cell_texts, gaps_view, row_text}
 use Rattle.textwrap_display.proofs.TableRows.{shown_from}
 

@@ -1,8 +1,7 @@
 use Rattle.textwrap_display.proofs.tables.table_by.Goals as goal
 use Rattle.textwrap_display.proofs.tables.table_by.Goals.{In-Some}
-use Rattle.textwrap_base.proofs.Common.{◌≡◌, ◌++◌, ◌∙◌, [], append-nil, arith, length}
-use Rattle.textwrap_base.proofs.Common.{length-map, map, rules, string_bytes, subst}
-use Rattle.textwrap_base.proofs.Common.{sym}
+use Rattle.textwrap_text.proofs.Common.{◌≡◌, ◌++◌, ◌∙◌, [], append-nil, arith, length, length-map}
+use Rattle.textwrap_text.proofs.Common.{map, rules, string_bytes, subst, sym}
 use Rattle.std.specs.Slice.Iter.{chunks_rest, chunks_size}
 use Rattle.textwrap_lines.proofs.Text.Directly.{passed-on}
 use Rattle.textwrap_display.specs.Tables.{NonePasses, AreCells, cell_texts, gaps_view, group_rows}

@@ -1,5 +1,5 @@
 use Rattle.textwrap_display.proofs.tables.table_by.Given as goal
-use Rattle.textwrap_base.proofs.Common.{◌≡◌, ℕ, List, ◌++◌, All, length, map, string_bytes}
+use Rattle.textwrap_text.proofs.Common.{◌≡◌, ℕ, List, ◌++◌, All, length, map, string_bytes}
 use Rattle.std.specs.Slice.Iter.{chunks_rest, chunks_size}
 use Rattle.textwrap_display.specs.Tables.{NonePasses, gaps_view, groups_of, IsTableBy, texts_in}
 

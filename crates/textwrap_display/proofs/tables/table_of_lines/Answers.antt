@@ -1,6 +1,6 @@
 use Rattle.textwrap_display.proofs.tables.table_of_lines.Goals as goal
-use Rattle.textwrap_base.proofs.Common.{◌≡◌, ◌++◌, ◌∙◌, ap, append-nil, arith, length, length-map}
-use Rattle.textwrap_base.proofs.Common.{map, rules, string_bytes, sym}
+use Rattle.textwrap_text.proofs.Common.{◌≡◌, ◌++◌, ◌∙◌, ap, append-nil, arith, length, length-map}
+use Rattle.textwrap_text.proofs.Common.{map, rules, string_bytes, sym}
 use Rattle.std.specs.Slice.Iter.{chunks_rest, chunks_size}
 use Rattle.textwrap_display.specs.Shortening.{texts_of}
 use Rattle.textwrap_display.specs.Tables.{cell_texts, gaps_view, group_rows, rows_of_cells}

@@ -1,5 +1,5 @@
 use Rattle.textwrap_display.proofs.tables.table_row.Goals as goal
-use Rattle.textwrap_base.proofs.Common.{◌∙◌, append_assoc, string_bytes}
+use Rattle.textwrap_text.proofs.Common.{◌∙◌, append_assoc, string_bytes}
 use Rattle.textwrap_display.specs.Tables.{cell_texts, gaps_view}
 use Rattle.textwrap_display.proofs.TableRows.{column-next, row-whole}
 

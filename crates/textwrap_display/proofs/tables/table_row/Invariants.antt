@@ -1,5 +1,5 @@
 use Rattle.textwrap_display.proofs.tables.table_row.Given as goal
-use Rattle.textwrap_base.proofs.Common.{◌≡◌, ◌++◌, string_bytes}
+use Rattle.textwrap_text.proofs.Common.{◌≡◌, ◌++◌, string_bytes}
 use Rattle.textwrap_display.specs.Tables.{cell_texts, gaps_view}
 use Rattle.textwrap_display.proofs.TableRows.{shown_from}
 

@@ -1,8 +1,8 @@
 use Rattle.textwrap_display.proofs.tables.wrap_cells.Goals as goal
 use Rattle.textwrap_display.proofs.tables.wrap_cells.Goals.{In-Some}
-use Rattle.textwrap_base.proofs.Common.{◌≡◌, ◌<◌, arith, get_or, length, length-map, length_push}
-use Rattle.textwrap_base.proofs.Common.{map, map-append, refl, rules, subst, sym, take, take_all}
-use Rattle.textwrap_base.proofs.Common.{take_more, zip}
+use Rattle.textwrap_text.proofs.Common.{◌≡◌, ◌<◌, arith, get_or, length, length-map, length_push}
+use Rattle.textwrap_text.proofs.Common.{map, map-append, refl, rules, subst, sym, take, take_all}
+use Rattle.textwrap_text.proofs.Common.{take_more, zip}
 use Rattle.std.proofs.lemmas.Slice.Zip.{all_zipped_more, length-zip, zip_end, zip_turn}
 use Rattle.std.specs.Iterator.Adapters.{zip_first, zip_second}
 use Rattle.std.specs.Slice.Iter.{iter_rest}

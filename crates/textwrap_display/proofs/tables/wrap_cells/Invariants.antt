@@ -1,5 +1,5 @@
 use Rattle.textwrap_display.proofs.tables.wrap_cells.Given as goal
-use Rattle.textwrap_base.proofs.Common.{length, take, zip}
+use Rattle.textwrap_text.proofs.Common.{length, take, zip}
 use Rattle.std.specs.List.{AllZip}
 use Rattle.textwrap_display.specs.Tables.{cell_texts, IsCell, texts_in}
 

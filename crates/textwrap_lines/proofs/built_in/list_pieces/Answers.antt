@@ -1,9 +1,9 @@
 use Rattle.textwrap_lines.proofs.built_in.list_pieces.Goals as goal
-use Rattle.textwrap_base.proofs.Common.{◌≡◌, ℕ, ◌≤◌, List, [], ◌∷◌, ◌++◌, All, All-head, All-tail}
-use Rattle.textwrap_base.proofs.Common.{ap, append_assoc, append-nil, arith, drop, get_or}
-use Rattle.textwrap_base.proofs.Common.{IsCharBoundary, IsCharBoundary-start, IsUtf8, IsUtf8-drop}
-use Rattle.textwrap_base.proofs.Common.{length, map, map-append, rules, slice_range, subst, sym}
-use Rattle.textwrap_base.proofs.Common.{◌∙◌}
+use Rattle.textwrap_text.proofs.Common.{◌≡◌, ℕ, ◌≤◌, List, [], ◌∷◌, ◌++◌, All, All-head, All-tail}
+use Rattle.textwrap_text.proofs.Common.{ap, append_assoc, append-nil, arith, drop, get_or}
+use Rattle.textwrap_text.proofs.Common.{IsCharBoundary, IsCharBoundary-start, IsUtf8, IsUtf8-drop}
+use Rattle.textwrap_text.proofs.Common.{length, map, map-append, rules, slice_range, subst, sym}
+use Rattle.textwrap_text.proofs.Common.{◌∙◌}
 use Rattle.textwrap_words.proofs.Common.{as_splitter, tiled, WordText, word_view}
 use Rattle.textwrap_words.proofs.Word.Words.{HasNoPenalty, IsMeasured}
 use Rattle.textwrap_words.specs.Pieces.{stand_from}

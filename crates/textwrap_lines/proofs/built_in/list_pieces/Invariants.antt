@@ -1,5 +1,5 @@
 use Rattle.textwrap_lines.proofs.built_in.list_pieces.Given as goal
-use Rattle.textwrap_base.proofs.Common.{◌≡◌, ℕ, List, ◌++◌, All, drop, IsCharBoundary, map}
+use Rattle.textwrap_text.proofs.Common.{◌≡◌, ℕ, List, ◌++◌, All, drop, IsCharBoundary, map}
 use Rattle.textwrap_words.proofs.Common.{tiled, WordText, word_view}
 use Rattle.textwrap_words.proofs.Word.Words.{HasNoPenalty, IsMeasured}
 use Rattle.textwrap_words.specs.Pieces.{stand_from}

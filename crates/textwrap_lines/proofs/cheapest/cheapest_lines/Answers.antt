@@ -1,8 +1,9 @@
 use Rattle.textwrap_lines.proofs.cheapest.cheapest_lines.Goals as goal
-use Rattle.textwrap_base.proofs.Common.{map, ◌∙◌, subst, FollowStarts}
+use Rattle.textwrap_text.proofs.Common.{map, ◌∙◌, subst}
+use Rattle.textwrap_base.proofs.Common.{FollowStarts}
 use Rattle.textwrap_base.proofs.Cost.Table.{starts_reported, length_reported, first_reported}
 use Rattle.textwrap_base.proofs.Cost.Table.{later_reported}
-use Rattle.textwrap_base.proofs.Numbers.{both}
+use Rattle.textwrap_text.proofs.Numbers.{both}
 
 pub lines_by-requires-clause-len : goal.lines_by-requires-clause-len
 lines_by-requires-clause-len g c =

@@ -1,5 +1,5 @@
 use Rattle.textwrap_lines.proofs.cheapest.push_cheapest_lines.Goals as goal
-use Rattle.textwrap_base.proofs.Common.{List, map, refl, ◌∙◌, subst, Bor, on_ok_weaker}
+use Rattle.textwrap_text.proofs.Common.{List, map, refl, ◌∙◌, subst, Bor, on_ok_weaker}
 use Rattle.textwrap_words.proofs.Common.{as_splitter}
 use Rattle.textwrap_lines.proofs.Common.{Took, frame_settings, Span}
 use Rattle.textwrap_lines.specs.Direct.{cuts_of, words_cut}

@@ -1,5 +1,5 @@
 use Rattle.textwrap_lines.proofs.cheapest.push_lines.Given as goal
-use Rattle.textwrap_base.proofs.Common.{◌≡◌, drop, map}
+use Rattle.textwrap_text.proofs.Common.{◌≡◌, drop, map}
 use Rattle.textwrap_lines.proofs.Common.{frame_settings, HaveTexts, span_lines}
 use Rattle.textwrap_lines.proofs.Text.Sinks.{HasTaken}
 

@@ -1,5 +1,5 @@
 use Rattle.textwrap_lines.proofs.direct.push_after_first.Goals as goal
-use Rattle.textwrap_base.proofs.Common.{[], ◌∷◌, sym, ◌∙◌, subst, on_ok_weaker}
+use Rattle.textwrap_text.proofs.Common.{[], ◌∷◌, sym, ◌∙◌, subst, on_ok_weaker}
 use Rattle.textwrap_words.proofs.Common.{as_splitter}
 use Rattle.textwrap_lines.proofs.Common.{Took, frame_settings, pieces_of}
 use Rattle.textwrap_lines.proofs.Paragraph.Pieces.{pieces_of-no_penalty, pieces_of-tile}

@@ -1,6 +1,6 @@
 use Rattle.textwrap_lines.proofs.filling.fill_slow_path.Goals as goal
-use Rattle.textwrap_base.proofs.Common.{map, ap, ◌∙◌, rules}
-use Rattle.textwrap_lines.proofs.Common.{ending_bytes, join_with, line_bytes, line_view, lines_of}
+use Rattle.textwrap_text.proofs.Common.{map, ap, ◌∙◌, rules, ending_bytes, join_with}
+use Rattle.textwrap_lines.proofs.Common.{line_bytes, line_view, lines_of}
 use Rattle.textwrap_lines.proofs.Paragraph.Pieces.{filled-as}
 use Rattle.textwrap_lines.proofs.Text.Directly.{passed-on}
 

@@ -1,5 +1,5 @@
 use Rattle.textwrap_lines.proofs.first_line.first_line.Goals as goal
-use Rattle.textwrap_base.proofs.Common.{IsCharBoundary-start, sym, ap, ◌∙◌, subst, arith}
+use Rattle.textwrap_text.proofs.Common.{IsCharBoundary-start, sym, ap, ◌∙◌, subst, arith}
 use Rattle.textwrap_words.proofs.Common.{as_splitter}
 use Rattle.textwrap_lines.proofs.Common.{first_width, frame_settings}
 use Rattle.textwrap_lines.specs.PieceLines.{line_opened}

@@ -1,5 +1,5 @@
 use Rattle.textwrap_lines.proofs.layout.cut_paragraph.Goals as goal
-use Rattle.textwrap_base.proofs.Common.{◌++◌, List, Option, ℕ, ap, ◌∙◌, arith, map, sym, subst}
+use Rattle.textwrap_text.proofs.Common.{◌++◌, List, Option, ℕ, ap, ◌∙◌, arith, map, sym, subst}
 use Rattle.std.specs.Option.{option_map}
 use Rattle.textwrap_words.proofs.Common.{as_splitter, broken_words, parts_between, split_words}
 use Rattle.textwrap_words.proofs.Common.{word_of}

@@ -1,5 +1,5 @@
 use Rattle.textwrap_lines.proofs.layout.paragraph_pieces.Goals as goal
-use Rattle.textwrap_base.proofs.Common.{◌++◌, ap, ◌∙◌, arith}
+use Rattle.textwrap_text.proofs.Common.{◌++◌, ap, ◌∙◌, arith}
 use Rattle.textwrap_words.proofs.Common.{broken_words, words_of, split_words, as_splitter}
 use Rattle.textwrap_words.specs.Pieces.{stand_from}
 use Rattle.textwrap_lines.proofs.Common.{front_of, frame_settings}

@@ -1,6 +1,6 @@
 use Rattle.textwrap_lines.proofs.piece_lines.push_lines_by_pieces.Goals as goal
-use Rattle.textwrap_base.proofs.Common.{◌≡◌, [], ◌∷◌, cond, refl, ap, ◌∙◌, sym, subst, on_ok_weaker}
-use Rattle.textwrap_base.proofs.Common.{IsCharBoundary-start}
+use Rattle.textwrap_text.proofs.Common.{◌≡◌, [], ◌∷◌, cond, refl, ap, ◌∙◌, sym, subst, on_ok_weaker}
+use Rattle.textwrap_text.proofs.Common.{IsCharBoundary-start}
 use Rattle.textwrap_words.proofs.Common.{as_splitter}
 use Rattle.textwrap_words.specs.Pieces.{stand_from}
 use Rattle.textwrap_lines.specs.PiecesLeft.{left_standing}

@@ -1,5 +1,5 @@
 use Rattle.textwrap_lines.proofs.piece_lines.push_lines_by_pieces.Given as goal
-use Rattle.textwrap_base.proofs.Common.{◌≡◌}
+use Rattle.textwrap_text.proofs.Common.{◌≡◌}
 use Rattle.textwrap_lines.specs.PiecesLeft.{left_standing}
 use Rattle.textwrap_lines.proofs.Common.{line_so_far, lines_past, frame_settings}
 use Rattle.textwrap_lines.proofs.Text.Sinks.{HasTaken}

@@ -1,7 +1,8 @@
 use Rattle.textwrap_lines.proofs.pieces.break_pieces.Goals as goal
-use Rattle.textwrap_base.proofs.Common.{◌≡◌, [], ◌∷◌, ◌++◌, cond, map, sym, ap, ◌∙◌}
+use Rattle.textwrap_text.proofs.Common.{◌≡◌, [], ◌∷◌, ◌++◌, cond, map, sym, ap, ◌∙◌}
 use Rattle.textwrap_words.proofs.Common.{broken_words, word_view}
-use Rattle.textwrap_lines.proofs.Common.{layout_view, settings_view, empty_word, front_pieces, later_width}
+use Rattle.textwrap_lines.proofs.Common.{layout_view, settings_view, empty_word, front_pieces}
+use Rattle.textwrap_lines.proofs.Common.{later_width}
 use Rattle.textwrap_lines.proofs.Paragraph.Pieces.{word_of-nil}
 
 pub returns-then-not-options : goal.returns-then-not-options

@@ -1,12 +1,12 @@
 use Rattle.textwrap_lines.proofs.pieces.break_wide.Goals as goal
-use Rattle.textwrap_base.proofs.Common.{◌≡◌, map, sym, ap, ◌∙◌}
+use Rattle.textwrap_text.proofs.Common.{◌≡◌, map, sym, ap, ◌∙◌}
 use Rattle.textwrap_words.proofs.Common.{broken_words, word_view}
 use Rattle.textwrap_lines.proofs.Common.{Word}
 use Rattle.std.proofs.Common.{Iter}
 use Rattle.std.specs.Iterator.Adapters.{copied_source}
 use Rattle.std.specs.Slice.Iter.{iter_rest}
 use Rattle.std.specs.declared.iter.Copied.{Copied}
-use Rattle.textwrap_base.proofs.Lists.Elements.{given-copied}
+use Rattle.textwrap_text.proofs.Lists.Elements.{given-copied}
 
 pub returns-then-stay_whole : goal.returns-then-stay_whole
 returns-then-stay_whole g c =

@@ -1,5 +1,5 @@
 use Rattle.textwrap_lines.proofs.pieces.find_pieces.Goals as goal
-use Rattle.textwrap_base.proofs.Common.{map}
+use Rattle.textwrap_text.proofs.Common.{map}
 use Rattle.textwrap_words.proofs.Common.{word_view, MaySeparate, MaySplit}
 use Rattle.textwrap_lines.proofs.Common.{settings_view}
 use Rattle.textwrap_lines.proofs.Paragraph.Pieces.{pieces-tile}

@@ -1,6 +1,6 @@
 use Rattle.textwrap_lines.proofs.pieces.find_split_words.Goals as goal
-use Rattle.textwrap_base.proofs.Common.{[], ◌∷◌, ◌++◌, All, map, subst, sym, ap, ◌∙◌, append_assoc}
-use Rattle.textwrap_base.proofs.Common.{append-nil, All-tail}
+use Rattle.textwrap_text.proofs.Common.{[], ◌∷◌, ◌++◌, All, map, subst, sym, ap, ◌∙◌, append_assoc}
+use Rattle.textwrap_text.proofs.Common.{append-nil, All-tail}
 use Rattle.textwrap_words.proofs.Common.{word_view, MaySeparate, AreSplit, MaySplit}
 use Rattle.textwrap_words.proofs.Word.Words.{IsMeasured}
 use Rattle.textwrap_words.proofs.Word.Parts.{MaySeparate-texts}

@@ -1,5 +1,5 @@
 use Rattle.textwrap_lines.proofs.pieces.find_split_words.Given as goal
-use Rattle.textwrap_base.proofs.Common.{◌++◌, All, List, map}
+use Rattle.textwrap_text.proofs.Common.{◌++◌, All, List, map}
 use Rattle.textwrap_words.proofs.Common.{WordText, word_view, MaySeparate, AreSplit, MaySplit}
 use Rattle.textwrap_words.proofs.Word.Words.{IsMeasured}
 

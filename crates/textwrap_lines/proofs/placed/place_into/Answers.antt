@@ -1,6 +1,6 @@
 use Rattle.textwrap_lines.proofs.placed.place_into.Goals as goal
-use Rattle.textwrap_base.proofs.Common.{map, ap, ◌∙◌, rules}
-use Rattle.textwrap_words.specs.LentText.{written_over}
+use Rattle.textwrap_text.proofs.Common.{map, ap, ◌∙◌, rules}
+use Rattle.textwrap_text.specs.LentText.{written_over}
 use Rattle.textwrap_lines.proofs.Common.{built_text, lines_of, places_of}
 use Rattle.textwrap_lines.specs.LentPlaces.{reported_line}
 

@@ -1,5 +1,5 @@
 use Rattle.textwrap_lines.proofs.placed.push_division.Goals as goal
-use Rattle.textwrap_base.proofs.Common.{on_ok_weaker}
+use Rattle.textwrap_text.proofs.Common.{on_ok_weaker}
 use Rattle.textwrap_lines.proofs.Text.Sinks.{HasPlaces-took}
 
 pub returns : goal.returns

@@ -1,5 +1,5 @@
 use Rattle.textwrap_lines.proofs.printable.last_cut.Goals as goal
-use Rattle.textwrap_base.proofs.Common.{inl, inr, ◌≡◌, sym, ap, ◌∙◌, arith, cases_lt}
+use Rattle.textwrap_text.proofs.Common.{inl, inr, ◌≡◌, sym, ap, ◌∙◌, arith, cases_lt}
 use Rattle.textwrap_words.proofs.Common.{as_splitter}
 use Rattle.textwrap_lines.proofs.Common.{is_cut_by}
 

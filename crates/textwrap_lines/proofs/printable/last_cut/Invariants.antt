@@ -1,5 +1,5 @@
 use Rattle.textwrap_lines.proofs.printable.last_cut.Given as goal
-use Rattle.textwrap_base.proofs.Common.{◌≤◌}
+use Rattle.textwrap_text.proofs.Common.{◌≤◌}
 use Rattle.textwrap_words.proofs.Common.{as_splitter}
 use Rattle.textwrap_lines.proofs.Common.{is_cut_by, NoCutBetween}
 

@@ -1,5 +1,5 @@
 use Rattle.textwrap_lines.proofs.printable.next_cut.Given as goal
-use Rattle.textwrap_base.proofs.Common.{◌-◌, ◌≤◌, length}
+use Rattle.textwrap_text.proofs.Common.{◌-◌, ◌≤◌, length}
 use Rattle.textwrap_words.proofs.Common.{as_splitter}
 use Rattle.textwrap_lines.proofs.Common.{is_cut_by, NoCutBetween}
 

@@ -1,6 +1,5 @@
 use Rattle.textwrap_lines.proofs.printable.push_printable_lines.Goals as goal
-use Rattle.textwrap_base.proofs.Common.{◌≡◌, ◌≤◌, length, refl, ◌∙◌, subst, true}
-use Rattle.textwrap_base.proofs.Common.{slice_range}
+use Rattle.textwrap_text.proofs.Common.{◌≡◌, ◌≤◌, length, refl, ◌∙◌, subst, true, slice_range}
 use Rattle.textwrap_words.proofs.Common.{as_splitter}
 use Rattle.textwrap_lines.proofs.Common.{is_cut_by, IsFirstLine, line_slice, frame_settings}
 use Rattle.textwrap_lines.proofs.Common.{later_width}

@@ -1,5 +1,5 @@
 use Rattle.textwrap_lines.proofs.printable.push_printable_lines.Given as goal
-use Rattle.textwrap_base.proofs.Common.{◌≡◌, ◌-◌, ◌≤◌, ℕ, Bool, List, length}
+use Rattle.textwrap_text.proofs.Common.{◌≡◌, ◌-◌, ◌≤◌, ℕ, Bool, List, length}
 use Rattle.textwrap_words.proofs.Common.{as_splitter}
 use Rattle.textwrap_lines.proofs.Common.{is_cut_by, Settings, frame_settings, later_width, CutLine}
 use Rattle.textwrap_lines.proofs.Common.{indent_of, pieces_from}

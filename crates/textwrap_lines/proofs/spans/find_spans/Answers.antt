@@ -1,5 +1,6 @@
 use Rattle.textwrap_lines.proofs.spans.find_spans.Goals as goal
-use Rattle.textwrap_base.proofs.Common.{◌≤◌, sym, ap, ◌∙◌, subst, arith, length, total_width}
+use Rattle.textwrap_text.proofs.Common.{◌≤◌, sym, ap, ◌∙◌, subst, arith, length}
+use Rattle.textwrap_base.proofs.Common.{total_width}
 use Rattle.textwrap_words.proofs.Common.{as_splitter, sizes_of}
 use Rattle.textwrap_lines.specs.PiecesLeft.{left_standing}
 use Rattle.textwrap_lines.proofs.Common.{frame_settings}

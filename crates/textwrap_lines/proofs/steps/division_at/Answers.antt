@@ -1,8 +1,8 @@
 use Rattle.textwrap_lines.proofs.steps.division_at.Goals as goal
 use Rattle.std.proofs.lemmas.Result.{IfOk-weaker}
-use Rattle.textwrap_base.proofs.Common.{◌≡◌, ◌++◌, ◌∙◌, ap, flat_map, map, refl, List, [], ◌∷◌, Bor}
-use Rattle.textwrap_base.proofs.Common.{StartsWith, subst}
-use Rattle.textwrap_base.proofs.Lists.Parts.{flat}
+use Rattle.textwrap_text.proofs.Common.{◌≡◌, ◌++◌, ◌∙◌, ap, flat_map, map, refl, List, [], ◌∷◌, Bor}
+use Rattle.textwrap_text.proofs.Common.{StartsWith, subst}
+use Rattle.textwrap_text.proofs.Lists.Parts.{flat}
 use Rattle.textwrap_words.proofs.Common.{tiled, word_view}
 use Rattle.textwrap_lines.proofs.Common.{Word}
 use Rattle.textwrap_lines.proofs.Paragraph.Widths.{lines-begin}

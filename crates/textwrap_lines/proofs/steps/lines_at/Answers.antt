@@ -1,5 +1,5 @@
 use Rattle.textwrap_lines.proofs.steps.lines_at.Goals as goal
-use Rattle.textwrap_base.proofs.Common.{[], map, subst}
+use Rattle.textwrap_text.proofs.Common.{[], map, subst}
 use Rattle.textwrap_words.proofs.Common.{word_view}
 use Rattle.textwrap_words.specs.LineEnds.{lines_between}
 use Rattle.textwrap_lines.proofs.Common.{parts_from, settings_view}

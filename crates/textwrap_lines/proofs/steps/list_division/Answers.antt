@@ -1,5 +1,5 @@
 use Rattle.textwrap_lines.proofs.steps.list_division.Goals as goal
-use Rattle.textwrap_base.proofs.Common.{◌≡◌, [], ap, map, ◌∙◌, rules}
+use Rattle.textwrap_text.proofs.Common.{◌≡◌, [], ap, map, ◌∙◌, rules}
 use Rattle.textwrap_words.proofs.Common.{word_view}
 use Rattle.textwrap_lines.proofs.Common.{cut_lines, line_from, line_view, parts_from, settings_view}
 use Rattle.textwrap_lines.proofs.Text.Sinks.{lines_of-cut_lines, lines_of-more}

@@ -1,7 +1,6 @@
 use Rattle.textwrap_lines.proofs.steps.list_lines_at.Goals as goal
 use Rattle.std.proofs.lemmas.Result.{IfOk-weaker}
-use Rattle.textwrap_base.proofs.Common.{◌∙◌, ap, map, sym}
-use Rattle.textwrap_base.proofs.Common.{StartsWith, flat_map, subst}
+use Rattle.textwrap_text.proofs.Common.{◌∙◌, ap, map, sym, StartsWith, flat_map, subst}
 use Rattle.textwrap_words.proofs.Common.{tiled, word_view}
 use Rattle.textwrap_lines.proofs.Common.{line_from, parts_from, settings_view}
 

@@ -1,5 +1,5 @@
 use Rattle.textwrap_lines.proofs.steps.pieces_at.Goals as goal
-use Rattle.textwrap_base.proofs.Common.{◌∙◌, ap, map, refl, subst, sym, IsUtf8, List, ℕ}
+use Rattle.textwrap_text.proofs.Common.{◌∙◌, ap, map, refl, subst, sym, IsUtf8, List, ℕ}
 use Rattle.textwrap_words.proofs.Common.{AreCuts, parts_between, word_of, word_view, WordText}
 use Rattle.textwrap_words.proofs.Word.Cuts.{inner-cuts}
 use Rattle.textwrap_words.proofs.Word.Parts.{parts-texts, parts_between-tile}

@@ -1,6 +1,6 @@
 use Rattle.textwrap_lines.proofs.steps.push_lines_at.Goals as goal
-use Rattle.textwrap_base.proofs.Common.{◌∙◌, ap, map, on_ok_weaker, subst, sym}
-use Rattle.textwrap_base.proofs.Common.{StartsWith, flat_map}
+use Rattle.textwrap_text.proofs.Common.{◌∙◌, ap, map, on_ok_weaker, subst, sym, StartsWith}
+use Rattle.textwrap_text.proofs.Common.{flat_map}
 use Rattle.textwrap_words.proofs.Common.{tiled, word_view}
 use Rattle.textwrap_lines.proofs.Common.{settings_view}
 use Rattle.textwrap_lines.specs.Places.{HasPlacesMore, division_cuts, further}

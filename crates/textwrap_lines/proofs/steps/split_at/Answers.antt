@@ -1,5 +1,5 @@
 use Rattle.textwrap_lines.proofs.steps.split_at.Goals as goal
-use Rattle.textwrap_base.proofs.Common.{◌∷◌, ap, arith, drop_all, drop_more, map, ◌∙◌}
+use Rattle.textwrap_text.proofs.Common.{◌∷◌, ap, arith, drop_all, drop_more, map, ◌∙◌}
 use Rattle.textwrap_words.proofs.Common.{tiled, word_view}
 use Rattle.std.proofs.lemmas.List.Sorted.{IsNonDecreasingBy-drop}
 use Rattle.textwrap_words.specs.Cuts.{IsNextCut}

@@ -1,6 +1,6 @@
 use Rattle.textwrap_lines.proofs.wrapping.bounds_of.Goals as goal
-use Rattle.textwrap_base.proofs.Common.{◌≡◌, ◌+◌, drop, length, map, refl, ap, subst, arith, IsUtf8}
-use Rattle.textwrap_base.proofs.Common.{IsCharBoundary, IsUtf8-drop, length-append}
+use Rattle.textwrap_text.proofs.Common.{◌≡◌, ◌+◌, drop, length, map, refl, ap, subst, arith, IsUtf8}
+use Rattle.textwrap_text.proofs.Common.{IsCharBoundary, IsUtf8-drop, length-append}
 use Rattle.std.proofs.lemmas.Str.{IsCharBoundary-from_rest}
 use Rattle.textwrap_words.proofs.Common.{word_view, tiled}
 use Rattle.textwrap_lines.proofs.Paragraph.Covered.{cuts_before_whitespace, IsCharBoundary-cut}

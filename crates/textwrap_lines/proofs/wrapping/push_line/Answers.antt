@@ -1,7 +1,7 @@
 use Rattle.textwrap_lines.proofs.wrapping.push_line.Goals as goal
-use Rattle.textwrap_base.proofs.Common.{◌≡◌, ◌+◌, ◌++◌, ◌&&◌, ◌==◌, length, [], ◌∷◌, ◌∙◌, ap, sym}
-use Rattle.textwrap_base.proofs.Common.{cond, drop, map, slice_range, StartsWith, subst}
-use Rattle.textwrap_base.proofs.Common.{take-append-drop}
+use Rattle.textwrap_text.proofs.Common.{◌≡◌, ◌+◌, ◌++◌, ◌&&◌, ◌==◌, length, [], ◌∷◌, ◌∙◌, ap, sym}
+use Rattle.textwrap_text.proofs.Common.{cond, drop, map, slice_range, StartsWith, subst}
+use Rattle.textwrap_text.proofs.Common.{take-append-drop}
 use Rattle.std.proofs.Math.Bool.{and_comm}
 use Rattle.textwrap_words.proofs.Common.{tiled, word_view}
 use Rattle.textwrap_lines.proofs.Common.{Took, covered, cut_line, layout_view}

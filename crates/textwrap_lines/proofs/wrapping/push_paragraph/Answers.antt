@@ -1,8 +1,8 @@
 use Rattle.textwrap_lines.proofs.wrapping.push_paragraph.Goals as goal
-use Rattle.textwrap_base.proofs.Common.{[], ◌∷◌, ap, sym, refl, ◌∙◌, subst, on_ok_weaker}
+use Rattle.textwrap_text.proofs.Common.{[], ◌∷◌, ap, sym, refl, ◌∙◌, subst, on_ok_weaker}
 use Rattle.textwrap_words.proofs.Common.{word_of}
-use Rattle.textwrap_lines.proofs.Common.{frame_settings}
-use Rattle.textwrap_lines.proofs.Common.{Took, cut_line, Slice, parts_of, parts_from}
+use Rattle.textwrap_lines.proofs.Common.{frame_settings, Took, cut_line, Slice, parts_of}
+use Rattle.textwrap_lines.proofs.Common.{parts_from}
 use Rattle.textwrap_lines.proofs.Paragraph.LeftOff.{line_from-whole, AreParagraphParts-whole}
 use Rattle.textwrap_lines.proofs.Paragraph.LeftOff.{AreParagraphParts-divided}
 

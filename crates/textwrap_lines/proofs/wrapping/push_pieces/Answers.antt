@@ -1,5 +1,5 @@
 use Rattle.textwrap_lines.proofs.wrapping.push_pieces.Goals as goal
-use Rattle.textwrap_base.proofs.Common.{List, Option, ℕ, refl, subst, sym, on_ok_weaker}
+use Rattle.textwrap_text.proofs.Common.{List, Option, ℕ, refl, subst, sym, on_ok_weaker}
 use Rattle.std.specs.Option.{option_map}
 use Rattle.textwrap_words.proofs.Common.{IsDividedBy, as_splitter, sizes_of}
 use Rattle.textwrap_lines.proofs.Common.{frame_lines, Took, pieces_of_words, widths_of}

@@ -1,7 +1,7 @@
 use Rattle.textwrap_lines.proofs.wrapping.push_text.Goals as goal
-use Rattle.textwrap_base.proofs.Common.{◌≡◌, ◌+◌, ◌++◌, refl, sym, ap, length, ◌∙◌, subst}
-use Rattle.textwrap_lines.proofs.Common.{AreParagraphParts, ending_bytes, frame_settings}
-use Rattle.textwrap_lines.proofs.Common.{layout_view, paragraphs_of}
+use Rattle.textwrap_text.proofs.Common.{◌≡◌, ◌+◌, ◌++◌, refl, sym, ap, length, ◌∙◌, subst}
+use Rattle.textwrap_text.proofs.Common.{ending_bytes, paragraphs_of}
+use Rattle.textwrap_lines.proofs.Common.{AreParagraphParts, frame_settings, layout_view}
 use Rattle.textwrap_lines.proofs.Text.Directly.{passed-on}
 use Rattle.textwrap_lines.proofs.Text.Lines.{paragraphs_left, paragraphs_left-split}
 use Rattle.textwrap_lines.proofs.Text.Sinks.{HasParagraphs, HasParagraphs-end, HasParagraphs-more}

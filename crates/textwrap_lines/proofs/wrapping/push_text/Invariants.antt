@@ -1,5 +1,5 @@
 use Rattle.textwrap_lines.proofs.wrapping.push_text.Given as goal
-use Rattle.textwrap_base.proofs.Common.{◌≡◌}
+use Rattle.textwrap_text.proofs.Common.{◌≡◌}
 use Rattle.textwrap_lines.proofs.Text.Lines.{paragraphs_left, bytes_left}
 use Rattle.textwrap_lines.proofs.Text.Sinks.{HasParagraphs}
 

@@ -1,6 +1,6 @@
 use Rattle.textwrap_lines.proofs.wrapping.tiled_len.Goals as goal
-use Rattle.textwrap_base.proofs.Common.{◌+◌, length, subst, sym, ap, arith, length-append, IsUtf8}
-use Rattle.textwrap_base.proofs.Common.{IsUtf8-append}
+use Rattle.textwrap_text.proofs.Common.{◌+◌, length, subst, sym, ap, arith, length-append, IsUtf8}
+use Rattle.textwrap_text.proofs.Common.{IsUtf8-append}
 use Rattle.textwrap_words.proofs.Word.Words.{tiled-take, tiled-take-le}
 
 pub overflow_add-len-in-loop-piece : goal.overflow_add-len-in-loop-piece

@@ -1,5 +1,5 @@
 use Rattle.textwrap_lines.proofs.wrapping.tiled_len.Given as goal
-use Rattle.textwrap_base.proofs.Common.{◌≡◌, length, take, map, IsUtf8}
+use Rattle.textwrap_text.proofs.Common.{◌≡◌, length, take, map, IsUtf8}
 use Rattle.textwrap_words.proofs.Common.{word_view, tiled}
 
 -- the pieces so far are measured, and are text

@@ -1,5 +1,5 @@
 use Rattle.textwrap_lines.proofs.wrapping.wrap.Goals as goal
-use Rattle.textwrap_base.proofs.Common.{map}
+use Rattle.textwrap_text.proofs.Common.{map}
 use Rattle.textwrap_lines.proofs.Common.{line_view}
 use Rattle.textwrap_words.proofs.Common.{Greedy}
 use Rattle.textwrap_lines.proofs.Text.Promises.{IsWrapped-options, LinesKeepToWidth-options}

@@ -1,5 +1,5 @@
 use Rattle.textwrap_lines.proofs.wrapping.wrap_by.Goals as goal
-use Rattle.textwrap_base.proofs.Common.{sym, ◌∙◌, rules, subst}
+use Rattle.textwrap_text.proofs.Common.{sym, ◌∙◌, rules, subst}
 use Rattle.textwrap_lines.proofs.Common.{AreTextLines}
 
 pub returns-clause-lines : goal.returns-clause-lines

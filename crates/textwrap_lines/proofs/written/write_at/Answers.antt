@@ -1,10 +1,10 @@
 use Rattle.textwrap_lines.proofs.written.write_at.Goals as goal
-use Rattle.textwrap_base.proofs.Common.{◌≡◌, ℕ, ◌+◌, ◌-◌, ◌≤◌, List, ◌++◌, length, take, drop}
-use Rattle.textwrap_base.proofs.Common.{◌∙◌, ap, arith, length-append, take_all}
-use Rattle.textwrap_base.proofs.Common.{cases_lt, drop-drop, inl, inr, min}
+use Rattle.textwrap_text.proofs.Common.{◌≡◌, ℕ, ◌+◌, ◌-◌, ◌≤◌, List, ◌++◌, length, take, drop, ◌∙◌}
+use Rattle.textwrap_text.proofs.Common.{ap, arith, length-append, take_all, cases_lt, drop-drop}
+use Rattle.textwrap_text.proofs.Common.{inl, inr, min}
 use Rattle.std.proofs.Math.Seq.{drop-append_seam, take-append-add, take-append_seam}
 use Rattle.std.proofs.lemmas.Grind.{common_steps}
-use Rattle.textwrap_words.specs.LentText.{written_over}
+use Rattle.textwrap_text.specs.LentText.{written_over}
 use borrow.Rule.Slice.PartMut.{put_mid}
 
 -- all of the items have room, or the last of them have none

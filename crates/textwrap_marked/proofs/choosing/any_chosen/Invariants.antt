@@ -1,5 +1,5 @@
 use Rattle.textwrap_marked.proofs.choosing.any_chosen.Given as goal
-use Rattle.textwrap_base.proofs.Common.{◌≡◌, list_any, Some}
+use Rattle.textwrap_text.proofs.Common.{◌≡◌, list_any, Some}
 use Rattle.textwrap_marked.specs.Reading.{bytes_ahead, lines_ahead}
 
 -- none of the lines so far is such

@@ -1,5 +1,5 @@
 use Rattle.textwrap_marked.proofs.columns.columns.Given as goal
-use Rattle.textwrap_base.proofs.Common.{◌≡◌}
+use Rattle.textwrap_text.proofs.Common.{◌≡◌}
 use Rattle.textwrap_marked.specs.Columns.{columns, columns_behind}
 use Rattle.textwrap_marked.specs.Words.{bytes_left, parts_left}
 

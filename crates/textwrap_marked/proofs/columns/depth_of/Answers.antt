@@ -1,5 +1,6 @@
 use Rattle.textwrap_marked.proofs.columns.depth_of.Goals as goal
-use Rattle.textwrap_base.proofs.Common.{◌≡◌, ◌∙◌, ◌-◌, List, ℕ, [], ap, arith, length, nat_tests, sym}
+use Rattle.textwrap_text.proofs.Common.{◌≡◌, ◌∙◌, ◌-◌, List, ℕ, [], ap, arith, length, nat_tests}
+use Rattle.textwrap_text.proofs.Common.{sym}
 use Rattle.std.proofs.lemmas.List.{nil_from_length}
 use Rattle.textwrap_marked.specs.Columns.{depth_of, DepthText}
 use Rattle.textwrap_words.proofs.Word.Words.{text_width-nil}

@@ -1,5 +1,5 @@
 use Rattle.textwrap_marked.proofs.fences.any_backtick.Given as goal
-use Rattle.textwrap_base.proofs.Common.{◌≡◌, drop, list_any, map}
+use Rattle.textwrap_text.proofs.Common.{◌≡◌, drop, list_any, map}
 use Rattle.textwrap_marked.specs.Words.{has_byte, spaced_view}
 
 -- none of the words so far passes

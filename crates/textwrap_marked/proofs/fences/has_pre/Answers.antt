@@ -1,5 +1,5 @@
 use Rattle.textwrap_marked.proofs.fences.has_pre.Goals as goal
-use Rattle.textwrap_base.proofs.Common.{◌∙◌, ap, map, not, sym}
+use Rattle.textwrap_text.proofs.Common.{◌∙◌, ap, map, not, sym}
 use Rattle.textwrap_marked.proofs.PlainWords.{plain-pre}
 use Rattle.textwrap_marked.specs.Words.{spaced_view}
 

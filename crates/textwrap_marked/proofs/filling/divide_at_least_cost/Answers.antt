@@ -1,5 +1,5 @@
 use Rattle.textwrap_marked.proofs.filling.divide_at_least_cost.Goals as goal
-use Rattle.textwrap_base.proofs.Common.{map}
+use Rattle.textwrap_text.proofs.Common.{map}
 use Rattle.textwrap_base.proofs.Division.Map.{IsDividedBy-map}
 use Rattle.textwrap_words.proofs.Common.{LeastCost, sizes_of, word_view}
 use Rattle.std.proofs.lemmas.Result.{IfOk-weaker}

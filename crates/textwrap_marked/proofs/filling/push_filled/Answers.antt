@@ -1,6 +1,6 @@
 use Rattle.textwrap_marked.proofs.filling.push_filled.Goals as goal
-use Rattle.textwrap_base.proofs.Common.{◌≡◌, ◌++◌, ◌∷◌, [], List, ℕ, map, ap, sym, ◌∙◌, subst}
-use Rattle.textwrap_base.proofs.Common.{append_assoc, arith, IsUtf8, refl}
+use Rattle.textwrap_text.proofs.Common.{◌≡◌, ◌++◌, ◌∷◌, [], List, ℕ, map, ap, sym, ◌∙◌, subst}
+use Rattle.textwrap_text.proofs.Common.{append_assoc, arith, IsUtf8, refl}
 use Rattle.textwrap_words.proofs.Common.{IsDividedBy, sizes_of, word_of, word_view}
 use Rattle.textwrap_words.specs.Cuts.{AreCuts, parts_between}
 use Rattle.textwrap_marked.proofs.FittingPieces.{pieces-fit}

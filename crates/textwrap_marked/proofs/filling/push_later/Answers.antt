@@ -1,7 +1,8 @@
 use Rattle.textwrap_marked.proofs.filling.push_later.Goals as goal
-use Rattle.textwrap_base.proofs.Common.{◌≡◌, ℕ, ◌+◌, ◌-◌, ◌<◌, ◌++◌, ◌&&◌, List, ◌∷◌, ap, append_assoc}
-use Rattle.textwrap_base.proofs.Common.{arith, Bool, drop, drop_more, flat_map, get_or, length}
-use Rattle.textwrap_base.proofs.Common.{length-drop, length-map, map, nat_lt, nat_tests, sym, ◌∙◌}
+use Rattle.textwrap_text.proofs.Common.{◌≡◌, ℕ, ◌+◌, ◌-◌, ◌<◌, ◌++◌, ◌&&◌, List, ◌∷◌, ap}
+use Rattle.textwrap_text.proofs.Common.{append_assoc, arith, Bool, drop, drop_more, flat_map}
+use Rattle.textwrap_text.proofs.Common.{get_or, length, length-drop, length-map, map, nat_lt}
+use Rattle.textwrap_text.proofs.Common.{nat_tests, sym, ◌∙◌}
 use Rattle.textwrap_words.proofs.Common.{word_view, WordText}
 use Rattle.textwrap_marked.specs.Reflow.{line_text, line_texts}
 

@@ -1,5 +1,5 @@
 use Rattle.textwrap_marked.proofs.filling.push_later.Given as goal
-use Rattle.textwrap_base.proofs.Common.{◌≡◌, ◌++◌, drop, flat_map, map, string_bytes}
+use Rattle.textwrap_text.proofs.Common.{◌≡◌, ◌++◌, drop, flat_map, map, string_bytes}
 use Rattle.textwrap_words.proofs.Common.{word_view}
 use Rattle.textwrap_marked.specs.Reflow.{line_texts}
 

@@ -1,6 +1,6 @@
 use Rattle.textwrap_marked.proofs.filling.push_pieces.Goals as goal
 use Rattle.textwrap_marked.proofs.filling.push_pieces.Goals.{then-i-line+in_ok-push_white, else-i-line}
-use Rattle.textwrap_base.proofs.Common.{◌∙◌, ap, string_bytes}
+use Rattle.textwrap_text.proofs.Common.{◌∙◌, ap, string_bytes}
 use Rattle.textwrap_marked.proofs.CoveredLemmas.{pieces-last, pieces-next}
 
 pub loop-i-preserved : goal.loop-i-preserved

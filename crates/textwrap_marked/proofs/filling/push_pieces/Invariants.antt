@@ -1,5 +1,5 @@
 use Rattle.textwrap_marked.proofs.filling.push_pieces.Given as goal
-use Rattle.textwrap_base.proofs.Common.{◌≡◌, ◌++◌, map, drop, string_bytes}
+use Rattle.textwrap_text.proofs.Common.{◌≡◌, ◌++◌, map, drop, string_bytes}
 use Rattle.textwrap_words.proofs.Common.{word_view}
 use Rattle.textwrap_lines.specs.Paragraph.{covered}
 

@@ -1,8 +1,8 @@
 use Rattle.textwrap_marked.proofs.lines.line_from.Goals as goal
-use Rattle.textwrap_base.proofs.Common.{◌≡◌, ℕ, ◌-◌, ◌++◌, ◌==◌, ◌&&◌, ◌||◌, Bool, not, List, map, take, drop}
-use Rattle.textwrap_base.proofs.Common.{slice_range, string_bytes, refl, sym, ap, ◌∙◌, take-map, Option}
-use Rattle.textwrap_base.proofs.Common.{Some, None, option_map, arith, cases_Bool, false, length, list_any, true}
-use Rattle.textwrap_base.proofs.Common.{subst}
+use Rattle.textwrap_text.proofs.Common.{◌≡◌, ℕ, ◌-◌, ◌++◌, ◌==◌, ◌&&◌, ◌||◌, Bool, not, List, map}
+use Rattle.textwrap_text.proofs.Common.{take, drop, slice_range, string_bytes, refl, sym, ap, ◌∙◌}
+use Rattle.textwrap_text.proofs.Common.{take-map, Option, Some, None, option_map, arith, cases_Bool}
+use Rattle.textwrap_text.proofs.Common.{false, length, list_any, true, subst}
 use Rattle.std.proofs.lemmas.List.{drop-map, take_rest}
 use Rattle.std.proofs.lemmas.List.Elements.{All-drop}
 use Rattle.std.specs.Prelude.{is_some}

@@ -1,5 +1,5 @@
 use Rattle.textwrap_marked.proofs.lines.without_returns.Given as goal
-use Rattle.textwrap_base.proofs.Common.{◌≡◌, ◌+◌, ◌<◌, ◌≤◌, take, length, get_or, suffix_len}
+use Rattle.textwrap_text.proofs.Common.{◌≡◌, ◌+◌, ◌<◌, ◌≤◌, take, length, get_or, suffix_len}
 use Rattle.textwrap_marked.specs.Lines.{is_return}
 
 -- the bytes passed, and those at the end of what is left, are those at the end

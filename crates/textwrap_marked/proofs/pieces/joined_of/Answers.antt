@@ -1,5 +1,5 @@
 use Rattle.textwrap_marked.proofs.pieces.joined_of.Goals as goal
-use Rattle.textwrap_base.proofs.Common.{◌+◌}
+use Rattle.textwrap_text.proofs.Common.{◌+◌}
 use Rattle.std.proofs.lemmas.List.{take_rest}
 use Rattle.textwrap_marked.proofs.JoinedTurns.{joined-next}
 use Rattle.textwrap_marked.specs.Pieces.{joined_view}

@@ -1,5 +1,5 @@
 use Rattle.textwrap_marked.proofs.pieces.joined_of.Given as goal
-use Rattle.textwrap_base.proofs.Common.{◌≡◌, ◌++◌, drop, flat_map, length, map, string_bytes}
+use Rattle.textwrap_text.proofs.Common.{◌≡◌, ◌++◌, drop, flat_map, length, map, string_bytes}
 use Rattle.textwrap_marked.specs.Pieces.{cuts_from, with_blank}
 
 -- with the words that are left, they are all words, and their cuts all cuts

@@ -1,5 +1,5 @@
 use Rattle.textwrap_marked.proofs.pieces.push_words.Given as goal
-use Rattle.textwrap_base.proofs.Common.{◌≡◌, ◌++◌, drop, map}
+use Rattle.textwrap_text.proofs.Common.{◌≡◌, ◌++◌, drop, map}
 use Rattle.textwrap_marked.specs.Words.{spaced_view}
 
 -- with the words that are left, they are all

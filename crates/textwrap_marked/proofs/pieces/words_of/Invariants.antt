@@ -1,5 +1,5 @@
 use Rattle.textwrap_marked.proofs.pieces.words_of.Given as goal
-use Rattle.textwrap_base.proofs.Common.{◌≡◌, ◌++◌, drop, map}
+use Rattle.textwrap_text.proofs.Common.{◌≡◌, ◌++◌, drop, map}
 use Rattle.textwrap_marked.specs.Lines.{line_view}
 use Rattle.textwrap_marked.specs.Pieces.{words_of}
 

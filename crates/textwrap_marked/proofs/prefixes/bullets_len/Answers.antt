@@ -1,5 +1,5 @@
 use Rattle.textwrap_marked.proofs.prefixes.bullets_len.Goals as goal
-use Rattle.textwrap_base.proofs.Common.{arith, sym, ◌∙◌}
+use Rattle.textwrap_text.proofs.Common.{arith, sym, ◌∙◌}
 use Rattle.textwrap_marked.proofs.BulletLemmas.{bullets-at}
 
 pub loop-len-preserved-then-is_bullet : goal.loop-len-preserved-then-is_bullet

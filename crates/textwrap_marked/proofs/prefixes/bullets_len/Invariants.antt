@@ -1,5 +1,5 @@
 use Rattle.textwrap_marked.proofs.prefixes.bullets_len.Given as goal
-use Rattle.textwrap_base.proofs.Common.{◌≡◌, ◌+◌, ◌-◌, ◌≤◌, drop, length, map}
+use Rattle.textwrap_text.proofs.Common.{◌≡◌, ◌+◌, ◌-◌, ◌≤◌, drop, length, map}
 use Rattle.textwrap_marked.specs.Prefixes.{bullets_len}
 use Rattle.textwrap_marked.specs.Words.{spaced_view}
 

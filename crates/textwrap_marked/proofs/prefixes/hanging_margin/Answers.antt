@@ -1,5 +1,5 @@
 use Rattle.textwrap_marked.proofs.prefixes.hanging_margin.Goals as goal
-use Rattle.textwrap_base.proofs.Common.{◌++◌, map, slice_range, ap, ◌∙◌, take, take-map}
+use Rattle.textwrap_text.proofs.Common.{◌++◌, map, slice_range, ap, ◌∙◌, take, take-map}
 use Rattle.std.proofs.lemmas.List.{drop-map}
 use Rattle.textwrap_marked.specs.Prefixes.{hanging_comments}
 use Rattle.textwrap_marked.specs.Words.{spaced_text, spaced_view}

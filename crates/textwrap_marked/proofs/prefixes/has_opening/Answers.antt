@@ -1,5 +1,5 @@
 use Rattle.textwrap_marked.proofs.prefixes.has_opening.Goals as goal
-use Rattle.textwrap_base.proofs.Common.{take-map}
+use Rattle.textwrap_text.proofs.Common.{take-map}
 use Rattle.std.proofs.lemmas.List.{drop-map}
 
 pub returns : goal.returns

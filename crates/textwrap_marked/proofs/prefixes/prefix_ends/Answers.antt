@@ -1,5 +1,5 @@
 use Rattle.textwrap_marked.proofs.prefixes.prefix_ends.Goals as goal
-use Rattle.textwrap_base.proofs.Common.{◌≡◌, ℕ, ◌+◌, Bool, List, drop, map, ap, ◌∙◌}
+use Rattle.textwrap_text.proofs.Common.{◌≡◌, ℕ, ◌+◌, Bool, List, drop, map, ap, ◌∙◌}
 use Rattle.std.proofs.lemmas.List.{drop-map, take_rest}
 use Rattle.textwrap_marked.specs.Prefixes.{bullets_len, comment_len, lead_len, prefix_ends, quotes_len}
 use Rattle.textwrap_marked.specs.Words.{spaced_view}

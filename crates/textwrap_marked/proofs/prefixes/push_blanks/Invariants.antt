@@ -1,5 +1,5 @@
 use Rattle.textwrap_marked.proofs.prefixes.push_blanks.Given as goal
-use Rattle.textwrap_base.proofs.Common.{◌≡◌, ◌-◌, ◌≤◌, ◌++◌, string_bytes}
+use Rattle.textwrap_text.proofs.Common.{◌≡◌, ◌-◌, ◌≤◌, ◌++◌, string_bytes}
 use Rattle.textwrap_marked.specs.Prefixes.{blanks}
 
 abbrev pub invariant-loop-len : goal.invariant-loop-len

@@ -1,5 +1,5 @@
 use Rattle.textwrap_marked.proofs.prefixes.push_words.Given as goal
-use Rattle.textwrap_base.proofs.Common.{◌≡◌, ◌++◌, drop, map, string_bytes}
+use Rattle.textwrap_text.proofs.Common.{◌≡◌, ◌++◌, drop, map, string_bytes}
 use Rattle.textwrap_marked.specs.Words.{spaced_text, spaced_view}
 
 -- with the words that are left, it is the whole

@@ -1,5 +1,5 @@
 use Rattle.textwrap_marked.proofs.prefixes.quotes_len.Given as goal
-use Rattle.textwrap_base.proofs.Common.{◌≡◌, ◌+◌, drop, map}
+use Rattle.textwrap_text.proofs.Common.{◌≡◌, ◌+◌, drop, map}
 use Rattle.textwrap_marked.specs.Prefixes.{quotes_len}
 use Rattle.textwrap_marked.specs.Words.{spaced_view}
 

@@ -1,5 +1,5 @@
 use Rattle.textwrap_marked.proofs.reading.next_line.Goals as goal
-use Rattle.textwrap_base.proofs.Common.{ap, ◌∙◌}
+use Rattle.textwrap_text.proofs.Common.{ap, ◌∙◌}
 use Rattle.textwrap_marked.proofs.ReadLemmas.{fed-is, reads-line}
 use Rattle.textwrap_marked.specs.Lines.{entered, line_view, read_lines, state_view}
 use Rattle.textwrap_marked.specs.Words.{parts_left}

@@ -1,5 +1,5 @@
 use Rattle.textwrap_marked.proofs.reflowing.is_beside.Goals as goal
-use Rattle.textwrap_base.proofs.Common.{ap, sym, ◌∙◌}
+use Rattle.textwrap_text.proofs.Common.{ap, sym, ◌∙◌}
 use Rattle.textwrap_marked.proofs.BlockLemmas.{blocks-first}
 use Rattle.textwrap_marked.specs.Blocks.{blocks, is_beside}
 use Rattle.textwrap_marked.specs.Lines.{line_view}

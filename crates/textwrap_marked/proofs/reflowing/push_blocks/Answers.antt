@@ -1,6 +1,6 @@
 use Rattle.textwrap_marked.proofs.reflowing.push_blocks.Goals as goal
-use Rattle.textwrap_base.proofs.Common.{◌≡◌, ◌++◌, [], ◌||◌, ap, append_assoc, append-nil, map, refl}
-use Rattle.textwrap_base.proofs.Common.{subst, sym, ◌∙◌}
+use Rattle.textwrap_text.proofs.Common.{◌≡◌, ◌++◌, [], ◌||◌, ap, append_assoc, append-nil, map}
+use Rattle.textwrap_text.proofs.Common.{refl, subst, sym, ◌∙◌}
 use Rattle.textwrap_marked.proofs.LaidLemmas.{block-begins, laid-first}
 use Rattle.textwrap_marked.specs.Blocks.{blocks, is_beside, stays}
 use Rattle.textwrap_marked.specs.Lines.{line_view}

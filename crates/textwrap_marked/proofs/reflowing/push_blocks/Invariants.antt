@@ -1,5 +1,5 @@
 use Rattle.textwrap_marked.proofs.reflowing.push_blocks.Given as goal
-use Rattle.textwrap_base.proofs.Common.{◌≡◌, ◌++◌, ℕ, false, List, Some, string_bytes}
+use Rattle.textwrap_text.proofs.Common.{◌≡◌, ◌++◌, ℕ, false, List, Some, string_bytes}
 use Rattle.textwrap_marked.specs.Blocks.{blocks}
 use Rattle.textwrap_marked.specs.Reading.{lines_left, measure_left}
 use Rattle.textwrap_marked.specs.Reflow.{AreOfBlocks}

@@ -1,5 +1,5 @@
 use Rattle.textwrap_marked.proofs.signs.any_column_word.Goals as goal
-use Rattle.textwrap_base.proofs.Common.{map, sym}
+use Rattle.textwrap_text.proofs.Common.{map, sym}
 use Rattle.textwrap_marked.proofs.PlainWords.{plain-none}
 use Rattle.textwrap_marked.specs.Words.{spaced_view}
 

@@ -1,5 +1,5 @@
 use Rattle.textwrap_marked.proofs.signs.any_contains.Given as goal
-use Rattle.textwrap_base.proofs.Common.{◌≡◌, drop, list_any, map}
+use Rattle.textwrap_text.proofs.Common.{◌≡◌, drop, list_any, map}
 use Rattle.textwrap_marked.specs.Words.{contains, spaced_view}
 
 -- none of the words so far passes

@@ -1,6 +1,7 @@
 use Rattle.textwrap_marked.proofs.signs.is_usual.Goals as goal
-use Rattle.textwrap_base.proofs.Common.{◌≡◌, ℕ, ◌<◌, ◌≤◌, ◌++◌, ◌∙◌, ◌||◌, Bool, true, List, [], ◌∷◌, ap, arith, length}
-use Rattle.textwrap_base.proofs.Common.{cases_Bool, list_any, nat_tests, sym, IsUtf8}
+use Rattle.textwrap_text.proofs.Common.{◌≡◌, ℕ, ◌<◌, ◌≤◌, ◌++◌, ◌∙◌, ◌||◌, Bool, true, List, []}
+use Rattle.textwrap_text.proofs.Common.{◌∷◌, ap, arith, length, cases_Bool, list_any, nat_tests}
+use Rattle.textwrap_text.proofs.Common.{sym, IsUtf8}
 use Rattle.std.proofs.lemmas.Str.{chars_past_char, encode_ascii}
 use Rattle.std.specs.Char.{is_ascii_lowercase}
 use Rattle.std.specs.Char.Unicode.Alphabetic.{alphabetic_ranges, is_alphabetic}

@@ -1,6 +1,6 @@
 use Rattle.textwrap_marked.proofs.within.push_blocks.Goals as goal
-use Rattle.textwrap_base.proofs.Common.{◌≡◌, ◌++◌, [], ◌||◌, ap, append_assoc, append-nil, map, refl}
-use Rattle.textwrap_base.proofs.Common.{length, length-map, subst, sym, ◌∙◌, ◌+◌}
+use Rattle.textwrap_text.proofs.Common.{◌≡◌, ◌++◌, [], ◌||◌, ap, append_assoc, append-nil, map}
+use Rattle.textwrap_text.proofs.Common.{refl, length, length-map, subst, sym, ◌∙◌, ◌+◌}
 use Rattle.std.proofs.Common.{ap₂}
 use Rattle.std.specs.Prelude.{not}
 use Rattle.textwrap_marked.proofs.LaidLemmas.{block-begins}

@@ -1,5 +1,5 @@
 use Rattle.textwrap_marked.proofs.words.contains.Goals as goal
-use Rattle.textwrap_base.proofs.Common.{◌≡◌, arith, sym, ap, ◌∙◌, length, false}
+use Rattle.textwrap_text.proofs.Common.{◌≡◌, arith, sym, ap, ◌∙◌, length, false}
 use Rattle.std.proofs.lemmas.Str.Pattern.{contains_text}
 use Rattle.std.specs.Prelude.{slice_index_or}
 use Rattle.textwrap_marked.proofs.ContainedTexts.{contains-is, contains-lacks, contains-nothing}

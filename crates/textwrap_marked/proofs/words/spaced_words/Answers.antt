@@ -1,7 +1,7 @@
 use Rattle.textwrap_marked.proofs.words.spaced_words.Goals as goal
 use Rattle.textwrap_marked.proofs.words.spaced_words.Goals.{In_ok-push}
-use Rattle.textwrap_base.proofs.Common.{◌≡◌, ◌<◌, length, take, drop, ap, sym, ◌∙◌, subst, rules}
-use Rattle.textwrap_base.proofs.Common.{arith, nat_tests, prefix_len}
+use Rattle.textwrap_text.proofs.Common.{◌≡◌, ◌<◌, length, take, drop, ap, sym, ◌∙◌, subst, rules}
+use Rattle.textwrap_text.proofs.Common.{arith, nat_tests, prefix_len}
 use Rattle.textwrap_marked.proofs.SpacedLemmas.{behind-shorter, behind_spaced, words-more}
 use Rattle.textwrap_marked.specs.Words.{is_white}
 

@@ -1,7 +1,7 @@
 use Rattle.textwrap_marked.proofs.words.spaced_words.Given as goal
 use denote.Shadow.{shadow}
 use denote.Text.{Utf8}
-use Rattle.textwrap_base.proofs.Common.{◌≡◌, ◌++◌, length, map}
+use Rattle.textwrap_text.proofs.Common.{◌≡◌, ◌++◌, length, map}
 use Rattle.textwrap_marked.specs.Words.{spaced_view, spaced_words}
 
 -- with the words of what is left, they are all words

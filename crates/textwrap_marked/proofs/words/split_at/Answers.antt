@@ -1,5 +1,5 @@
 use Rattle.textwrap_marked.proofs.words.split_at.Goals as goal
-use Rattle.textwrap_base.proofs.Common.{◌==◌, None, Some}
+use Rattle.textwrap_text.proofs.Common.{◌==◌, None, Some}
 use Rattle.std.proofs.lemmas.Str.Pattern.{split_once_first}
 use Rattle.textwrap_marked.proofs.ListLemmas.{split-first, split-one}
 

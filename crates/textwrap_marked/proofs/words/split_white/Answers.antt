@@ -1,6 +1,6 @@
 use Rattle.textwrap_marked.proofs.words.split_white.Goals as goal
-use Rattle.textwrap_base.proofs.Common.{◌≡◌, ◌<◌, true, length, get_or, ap, sym, ◌∙◌, arith, zero-add}
-use Rattle.textwrap_base.proofs.Common.{IsCharBoundary-after_ascii, IsCharBoundary-start}
+use Rattle.textwrap_text.proofs.Common.{◌≡◌, ◌<◌, true, length, get_or, ap, sym, ◌∙◌, arith}
+use Rattle.textwrap_text.proofs.Common.{zero-add, IsCharBoundary-after_ascii, IsCharBoundary-start}
 use Rattle.std.proofs.lemmas.List.Sums.{prefix_len-drop_yes}
 use Rattle.textwrap_marked.proofs.SpacedLemmas.{white-small}
 use Rattle.textwrap_marked.specs.Words.{is_white}

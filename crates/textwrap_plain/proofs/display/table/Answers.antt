@@ -1,5 +1,5 @@
 use Rattle.textwrap_plain.proofs.display.table.Goals as goal
-use Rattle.textwrap_base.proofs.Common.{map, string_bytes}
+use Rattle.textwrap_text.proofs.Common.{map, string_bytes}
 use Rattle.std.proofs.lemmas.Result.{IfOk-weaker}
 use Rattle.textwrap_display.specs.Tables.{gaps_view, texts_in}
 use Rattle.textwrap_display.proofs.TableGroups.{table-map}

@@ -1,5 +1,5 @@
 use Rattle.textwrap_plain.proofs.placed.place_into.Goals as goal
-use Rattle.textwrap_base.proofs.Common.{refl}
+use Rattle.textwrap_text.proofs.Common.{refl}
 use Rattle.std.proofs.lemmas.Result.{IfOk-weaker}
 use Rattle.textwrap_plain.proofs.Named.{placed-at, parts-separated, separates-blanks}
 use Rattle.textwrap_plain.specs.Options.{algorithm_of, settings_of, splitter_of, words_by}

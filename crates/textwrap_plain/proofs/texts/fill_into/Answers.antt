@@ -1,5 +1,5 @@
 use Rattle.textwrap_plain.proofs.texts.fill_into.Goals as goal
-use Rattle.textwrap_base.proofs.Common.{refl}
+use Rattle.textwrap_text.proofs.Common.{refl}
 use Rattle.textwrap_plain.proofs.Named.{only-filled, filled-at, parts-separated, separates-blanks}
 use Rattle.std.proofs.lemmas.Result.{IfOk-weaker}
 use Rattle.textwrap_plain.specs.Options.{algorithm_of, DividesPlainly, settings_of, splitter_of}

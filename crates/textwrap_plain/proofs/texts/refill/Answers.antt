@@ -1,5 +1,5 @@
 use Rattle.textwrap_plain.proofs.texts.refill.Goals as goal
-use Rattle.textwrap_base.proofs.Common.{string_bytes}
+use Rattle.textwrap_text.proofs.Common.{string_bytes}
 use Rattle.std.specs.Prelude.{IfOk}
 use Rattle.textwrap.specs.Refilling.{IsRefilled}
 use Rattle.textwrap_plain.proofs.Named.{named}

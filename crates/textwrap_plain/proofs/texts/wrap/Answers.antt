@@ -1,5 +1,5 @@
 use Rattle.textwrap_plain.proofs.texts.wrap.Goals as goal
-use Rattle.textwrap_base.proofs.Common.{map}
+use Rattle.textwrap_text.proofs.Common.{map}
 use Rattle.std.proofs.lemmas.Result.{IfOk-weaker}
 use Rattle.std.specs.Prelude.{IfOk}
 use Rattle.textwrap_lines.proofs.Common.{AreTextLines, line_view}

@@ -1,5 +1,5 @@
 use Rattle.textwrap_plain.proofs.texts.wrap_columns.Goals as goal
-use Rattle.textwrap_base.proofs.Common.{map, string_bytes}
+use Rattle.textwrap_text.proofs.Common.{map, string_bytes}
 use Rattle.std.specs.Prelude.{IfOk}
 use Rattle.textwrap.specs.Columns.{IsInColumns}
 use Rattle.textwrap_plain.proofs.Named.{named}

@@ -2,12 +2,12 @@ use Rattle.textwrap_unicode.proofs.Common.{slice_index, ◌++◌, append-nil, tr
 use Rattle.textwrap_unicode.proofs.Common.{length, subst, breaks_by, may_end, IsWordByte, read-next}
 use Rattle.textwrap_unicode.proofs.Common.{◌≡◌, ◌<◌, ◌*◌, ◌+◌, drop, ap, ◌∙◌, sym, refl, arith, and}
 use Rattle.textwrap_unicode.proofs.Common.{ℕ}
-use Rattle.textwrap_base.proofs.Common.{drop-drop}
+use Rattle.textwrap_text.proofs.Common.{drop-drop}
 use Rattle.std.specs.Prelude.{encode_utf8}
 use Rattle.std.specs.Str.Iter.{chars_rest}
 use Rattle.textwrap_words.specs.Cuts.{AreInnerCuts}
-use Rattle.textwrap_words.specs.Units.{stripped}
-use Rattle.textwrap_words.specs.declared.escapes.State.TheVariants.{Text}
+use Rattle.textwrap_text.specs.Units.{stripped}
+use Rattle.textwrap_text.specs.declared.escapes.State.TheVariants.{Text}
 use Rattle.textwrap_unicode.specs.Cuts.{offsets_of}
 use Rattle.textwrap_words.proofs.Word.Offsets.{cuts_at-AreInnerCuts}
 use Rattle.textwrap_unicode.proofs.CutLemmas.{IsCutting-start, IsCutting-step}

@@ -2,7 +2,7 @@ use Rattle.textwrap_unicode.proofs.Common.{◌++◌, length-append, char_indices
 use Rattle.textwrap_unicode.proofs.Common.{length, add-one, append_assoc, cases_lt, IsIdeographAt}
 use Rattle.textwrap_unicode.proofs.Common.{◌≡◌, ◌+◌, ◌*◌, ◌∷◌, drop, sym, ◌∙◌, subst, arith, encode}
 use Rattle.textwrap_unicode.proofs.Common.{[], ap, inl, inr}
-use Rattle.textwrap_base.proofs.Common.{length-drop, length-encode}
+use Rattle.textwrap_text.proofs.Common.{length-drop, length-encode}
 use Rattle.std.proofs.lemmas.Str.{drop_past_char}
 use Rattle.textwrap_unicode.proofs.WordVerdicts.{three-bytes}
 use Rattle.textwrap_unicode.proofs.cuts.push_ideographs.Goals as goal

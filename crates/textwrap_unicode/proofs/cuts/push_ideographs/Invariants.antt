@@ -1,6 +1,6 @@
 use Rattle.textwrap_unicode.proofs.Common.{◌++◌, char_indices_rest, IsIdeographAt, ideograph_places}
 use Rattle.textwrap_unicode.proofs.Common.{◌≡◌, ℕ, ◌*◌, ◌<◌, ◌≤◌, drop, length}
-use Rattle.textwrap_base.proofs.Common.{char_indices_offset}
+use Rattle.textwrap_text.proofs.Common.{char_indices_offset}
 use Rattle.textwrap_unicode.proofs.cuts.push_ideographs.Given as goal
 
 abbrev pub invariant-loop-after : goal.invariant-loop-after

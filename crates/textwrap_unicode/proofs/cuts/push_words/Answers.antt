@@ -3,7 +3,7 @@ use Rattle.textwrap_unicode.proofs.Common.{ℕ, append_assoc, slice_index, IsPla
 use Rattle.textwrap_unicode.proofs.Common.{◌≡◌, add-one, append-nil, is_space, class_of, IsWordByte}
 use Rattle.textwrap_unicode.proofs.Common.{◌++◌, ◌+◌, ◌||◌, Bool, true, false, cases_Bool, subst, arith}
 use Rattle.textwrap_unicode.proofs.Common.{◌-◌, ◌<◌, inl, inr, [], ◌∷◌, sym, ap, ◌∙◌}
-use Rattle.textwrap_base.proofs.Common.{cases_eq}
+use Rattle.textwrap_text.proofs.Common.{cases_eq}
 use Rattle.textwrap_unicode.specs.ClassSets.{is_infix, is_letter}
 use Rattle.textwrap_unicode.proofs.WordVerdicts.{letters-same}
 use Rattle.textwrap_unicode.proofs.cuts.push_words.Goals as goal

@@ -1,7 +1,7 @@
 use Rattle.textwrap_unicode.proofs.Common.{arith, length, chars, is_mark, is_number, number_first}
 use Rattle.textwrap_unicode.proofs.Common.{sym, ap, ◌∙◌}
-use Rattle.textwrap_base.proofs.Common.{YieldsList-from_chars, YieldsList-turn, YieldsList-end}
-use Rattle.textwrap_base.proofs.Common.{at_drop_all, length_push}
+use Rattle.textwrap_text.proofs.Common.{YieldsList-from_chars, YieldsList-turn, YieldsList-end}
+use Rattle.textwrap_text.proofs.Common.{at_drop_all, length_push}
 use Rattle.textwrap_unicode.proofs.BreakLemmas.{number-step}
 use Rattle.textwrap_unicode.proofs.numbers.number_first.Goals as goal
 

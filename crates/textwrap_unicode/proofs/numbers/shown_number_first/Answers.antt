@@ -1,6 +1,6 @@
 use Rattle.textwrap_unicode.proofs.Common.{ap, chars, number_first}
 use Rattle.textwrap_unicode.proofs.numbers.shown_number_first.Goals as goal
-use Rattle.textwrap_words.proofs.Units.Characters.{shown-from}
+use Rattle.textwrap_text.proofs.Units.Characters.{shown-from}
 
 pub loop-character-init : goal.loop-character-init
 loop-character-init c =

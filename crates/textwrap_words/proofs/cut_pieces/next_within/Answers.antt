@@ -1,5 +1,5 @@
 use Rattle.textwrap_words.proofs.cut_pieces.next_within.Goals as goal
-use Rattle.textwrap_base.proofs.Common.{arith, refl}
+use Rattle.textwrap_text.proofs.Common.{arith, refl}
 use Rattle.textwrap_words.proofs.Common.{as_splitter}
 use Rattle.textwrap_words.proofs.Word.Texts.{trimmed-boundary}
 use Rattle.textwrap_words.proofs.Word.FirstPieces.{first-within}

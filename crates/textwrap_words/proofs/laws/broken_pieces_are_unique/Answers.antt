@@ -1,6 +1,6 @@
 use Rattle.textwrap_words.proofs.laws.broken_pieces_are_unique.Goals as goal
-use Rattle.textwrap_base.proofs.Common.{ap, ◌∙◌, map}
-use Rattle.textwrap_words.proofs.Common.{units, pieces_with, units_text, broken_units}
+use Rattle.textwrap_text.proofs.Common.{ap, ◌∙◌, map, units}
+use Rattle.textwrap_words.proofs.Common.{pieces_with, units_text, broken_units}
 use Rattle.std.specs.Prelude.{chars}
 use Rattle.textwrap_words.proofs.Word.Breaking.{AreBroken-unique, AreBroken-exists}
 

@@ -1,8 +1,8 @@
 use Rattle.textwrap_words.proofs.pieces.first_word.Goals as goal
-use Rattle.textwrap_base.proofs.Common.{◌≡◌, ◌+◌, true, inl, inr, cases_lt, get_or, length, refl}
-use Rattle.textwrap_base.proofs.Common.{ap, arith, ne_eqb}
+use Rattle.textwrap_text.proofs.Common.{◌≡◌, ◌+◌, true, inl, inr, cases_lt, get_or, length, refl}
+use Rattle.textwrap_text.proofs.Common.{ap, arith, ne_eqb, is_blank}
 use Rattle.std.proofs.lemmas.Str.{IsCharBoundary-end}
-use Rattle.textwrap_words.proofs.Common.{as_splitter, is_blank}
+use Rattle.textwrap_words.proofs.Common.{as_splitter}
 use Rattle.textwrap_words.specs.Pieces.{is_stop}
 use Rattle.textwrap_words.proofs.Word.Scanned.{scanned-letters, stop-here, stops-between}
 use Rattle.textwrap_words.proofs.Word.FirstPieces.{first-word, no-word}

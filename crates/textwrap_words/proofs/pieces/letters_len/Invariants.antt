@@ -1,5 +1,5 @@
 use Rattle.textwrap_words.proofs.pieces.letters_len.Given as goal
-use Rattle.textwrap_base.proofs.Common.{ℕ, ◌+◌, ◌-◌, ◌≤◌, ◌<◌, length, slice_index}
+use Rattle.textwrap_text.proofs.Common.{ℕ, ◌+◌, ◌-◌, ◌≤◌, ◌<◌, length, slice_index}
 use Rattle.textwrap_words.specs.Pieces.{IsLetter}
 
 abbrev pub invariant-loop-end : goal.invariant-loop-end

@@ -1,20 +1,19 @@
 use Rattle.textwrap_words.proofs.pieces.read_on.Goals as goal
-use Rattle.textwrap_base.proofs.Common.{◌≡◌, ◌+◌, ◌≤◌, true, false, ◌&&◌, nat_lt, ◌++◌, List, ℕ}
-use Rattle.textwrap_base.proofs.Common.{length, drop, get_or, sym, ap, ◌∙◌, subst, arith}
-use Rattle.textwrap_base.proofs.Common.{append_assoc, true≢false, char_indices_offset, and_parts}
-use Rattle.textwrap_base.proofs.Common.{drop_split, length-append, ◌||◌, length-drop, lt-ltb, refl}
-use Rattle.textwrap_base.proofs.Common.{cases_lt, inl, inr}
+use Rattle.textwrap_text.proofs.Common.{◌≡◌, ◌+◌, ◌≤◌, true, false, ◌&&◌, nat_lt, ◌++◌, List, ℕ}
+use Rattle.textwrap_text.proofs.Common.{length, drop, get_or, sym, ap, ◌∙◌, subst, arith}
+use Rattle.textwrap_text.proofs.Common.{append_assoc, true≢false, char_indices_offset, and_parts}
+use Rattle.textwrap_text.proofs.Common.{drop_split, length-append, ◌||◌, length-drop, lt-ltb, refl}
+use Rattle.textwrap_text.proofs.Common.{cases_lt, inl, inr, is_blank, shows, Visible}
 use Rattle.std.specs.Prelude.{encode_utf8}
 use Rattle.std.specs.Str.Iter.{char_indices_rest}
 use Rattle.std.proofs.Math.Bool.{or-true}
 use Rattle.std.proofs.lemmas.Str.{encode_ascii}
-use Rattle.textwrap_base.proofs.Texts.{some-bytes}
-use Rattle.textwrap_words.proofs.Common.{as_splitter, is_blank, is_due, shows, Visible}
+use Rattle.textwrap_text.proofs.Texts.{some-bytes, ascii-here, left-after}
+use Rattle.textwrap_words.proofs.Common.{as_splitter, is_due}
 use Rattle.textwrap_words.specs.PieceCuts.{is_point}
 use Rattle.textwrap_words.specs.Pieces.{is_stop, IsFirstStop}
-use Rattle.textwrap_words.proofs.Units.Reading.{columns-le, added}
+use Rattle.textwrap_text.proofs.Units.Reading.{columns-le, added}
 use Rattle.textwrap_words.proofs.Word.Breaking.{due-true, due-false}
-use Rattle.textwrap_base.proofs.Texts.{ascii-here, left-after}
 use Rattle.textwrap_words.proofs.Word.Ahead.{plain-bytes, point-after}
 use Rattle.textwrap_words.proofs.Word.Scanned.{scanned-letters, IsScanned, GoesOn, scanned-step}
 use Rattle.textwrap_words.proofs.Word.Scanned.{no-stop, stop-full, stop-here, stops-between}

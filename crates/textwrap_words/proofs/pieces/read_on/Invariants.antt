@@ -1,5 +1,5 @@
 use Rattle.textwrap_words.proofs.pieces.read_on.Given as goal
-use Rattle.textwrap_base.proofs.Common.{◌≡◌, ◌+◌, ◌++◌, drop, char_indices_offset}
+use Rattle.textwrap_text.proofs.Common.{◌≡◌, ◌+◌, ◌++◌, drop, char_indices_offset}
 use Rattle.std.specs.Str.Iter.{char_indices_rest}
 use Rattle.textwrap_words.specs.PieceCuts.{is_point}
 use Rattle.textwrap_words.specs.Pieces.{as_splitter, is_stop}

@@ -1,5 +1,5 @@
 use Rattle.textwrap_words.proofs.word_splitters.given_points.Goals as goal
-use Rattle.textwrap_base.proofs.Common.{refl, sym, ◌∙◌}
+use Rattle.textwrap_text.proofs.Common.{refl, sym, ◌∙◌}
 
 pub returns-clause-points : goal.returns-clause-points
 returns-clause-points g c = (

@@ -1,5 +1,5 @@
 use Rattle.textwrap_words.proofs.word_splitters.split_words.Goals as goal
-use Rattle.textwrap_base.proofs.Common.{map_push, rules, ◌∷◌, ◌++◌, [], map, ap, ◌∙◌, sym, subst}
+use Rattle.textwrap_text.proofs.Common.{map_push, rules, ◌∷◌, ◌++◌, [], map, ap, ◌∙◌, sym, subst}
 use Rattle.textwrap_words.proofs.Common.{word_view, AreSplit, split_pieces}
 use Rattle.textwrap_words.proofs.Word.Pieces.{AreSplit-push}
 

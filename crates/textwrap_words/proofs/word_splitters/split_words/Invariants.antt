@@ -1,5 +1,5 @@
 use Rattle.textwrap_words.proofs.word_splitters.split_words.Given as goal
-use Rattle.textwrap_base.proofs.Common.{map}
+use Rattle.textwrap_text.proofs.Common.{map}
 use Rattle.textwrap_words.proofs.Common.{word_view, AreSplit}
 use Rattle.std.specs.Iterator.{IsFinite}
 

@@ -1,5 +1,5 @@
 use Rattle.textwrap_base.proofs.minima.line_costs.measures_of.Goals as goal
-use Rattle.textwrap_base.proofs.Common.{arith, refl, ◌∙◌, ap, map, take_all}
+use Rattle.textwrap_text.proofs.Common.{arith, refl, ◌∙◌, ap, map, take_all}
 use Rattle.textwrap_base.proofs.Cost.Measures.{sizes-same, open_width-same}
 use Rattle.textwrap_base.proofs.Cost.Measures.{total_width-same, open_width-total}
 

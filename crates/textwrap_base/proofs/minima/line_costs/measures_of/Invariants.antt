@@ -1,5 +1,5 @@
 use Rattle.textwrap_base.proofs.minima.line_costs.measures_of.Given as goal
-use Rattle.textwrap_base.proofs.Common.{◌≡◌, ℕ, ◌-◌, ◌^◌, ◌<◌, ◌≤◌, All, length, get_or, take, map}
+use Rattle.textwrap_text.proofs.Common.{◌≡◌, ℕ, ◌-◌, ◌^◌, ◌<◌, ◌≤◌, All, length, get_or, take, map}
 use Rattle.textwrap_base.proofs.Common.{open_width, priced_by, measured}
 use Rattle.textwrap_base.proofs.Cost.Measures.{measured_sizes}
 use Rattle.textwrap_base.specs.declared.minima.line_costs.Measure.{Measure}

@@ -1,5 +1,6 @@
 use Rattle.textwrap_base.proofs.minima.line_costs.total_width.Given as goal
-use Rattle.textwrap_base.proofs.Common.{◌≡◌, ◌<◌, ◌^◌, take, total_width}
+use Rattle.textwrap_text.proofs.Common.{◌≡◌, ◌<◌, ◌^◌, take}
+use Rattle.textwrap_base.proofs.Common.{total_width}
 
 abbrev pub invariant-loop-fragment : goal.invariant-loop-fragment
 invariant-loop-fragment g l = record {

@@ -1,5 +1,6 @@
 use Rattle.textwrap_base.proofs.minima.queue.advance.Goals as goal
-use Rattle.textwrap_base.proofs.Common.{◌≡◌, length, on_ok_weaker, least_entry, minimum_of}
+use Rattle.textwrap_text.proofs.Common.{◌≡◌, length, on_ok_weaker}
+use Rattle.textwrap_base.proofs.Common.{least_entry, minimum_of}
 use Rattle.textwrap_base.proofs.Search.{AreMinima-push}
 
 pub take_in-requires-clause-minima : goal.take_in-requires-clause-minima

@@ -1,5 +1,6 @@
 use Rattle.textwrap_base.proofs.minima.queue.least_by_stretch.Goals as goal
-use Rattle.textwrap_base.proofs.Common.{◌≡◌, ◌-◌, length, sym, arith, cost_from}
+use Rattle.textwrap_text.proofs.Common.{◌≡◌, ◌-◌, length, sym, arith}
+use Rattle.textwrap_base.proofs.Common.{cost_from}
 use Rattle.textwrap_base.proofs.Search.{least-first, least-later}
 
 pub returns-then-later-first-clause-least : goal.returns-then-later-first-clause-least

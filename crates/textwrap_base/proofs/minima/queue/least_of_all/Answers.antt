@@ -1,6 +1,6 @@
 use Rattle.textwrap_base.proofs.minima.queue.least_of_all.Goals as goal
-use Rattle.textwrap_base.proofs.Common.{◌≡◌, length, ap, sym, ◌∙◌, arith, least_entry, entry_from}
-use Rattle.textwrap_base.proofs.Common.{minimum_of}
+use Rattle.textwrap_text.proofs.Common.{◌≡◌, length, ap, sym, ◌∙◌, arith}
+use Rattle.textwrap_base.proofs.Common.{least_entry, entry_from, minimum_of}
 use Rattle.textwrap_base.specs.Table.{table}
 use Rattle.textwrap_base.proofs.Cost.Table.{table-is_table, least_one}
 

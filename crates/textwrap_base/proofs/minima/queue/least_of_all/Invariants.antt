@@ -1,6 +1,6 @@
 use Rattle.textwrap_base.proofs.minima.queue.least_of_all.Given as goal
-use Rattle.textwrap_base.proofs.Common.{◌≡◌, counted, least_entry, cost_from, entry_from}
-use Rattle.textwrap_base.proofs.Common.{IsLeastBelow}
+use Rattle.textwrap_text.proofs.Common.{◌≡◌}
+use Rattle.textwrap_base.proofs.Common.{counted, least_entry, cost_from, entry_from, IsLeastBelow}
 use Rattle.textwrap_base.specs.Table.{table}
 
 abbrev pub invariant-loop-start : goal.invariant-loop-start

@@ -1,5 +1,5 @@
 use Rattle.textwrap_base.proofs.minima.queue.queue_search.Goals as goal
-use Rattle.textwrap_base.proofs.Common.{◌≡◌, ◌++◌, ◌∷◌, [], length, ap, ◌∙◌, arith, length_push}
+use Rattle.textwrap_text.proofs.Common.{◌≡◌, ◌++◌, ◌∷◌, [], length, ap, ◌∙◌, arith, length_push}
 use Rattle.textwrap_base.proofs.Common.{least_entry, minimum_of}
 use Rattle.textwrap_base.proofs.Search.{AreMinima-one, AreMinima-push, AreMinima-all}
 

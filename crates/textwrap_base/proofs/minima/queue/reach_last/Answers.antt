@@ -1,5 +1,5 @@
 use Rattle.textwrap_base.proofs.minima.queue.reach_last.Goals as goal
-use Rattle.textwrap_base.proofs.Common.{◌≡◌, ◌+◌, ◌*◌, ◌-◌, ◌≤◌, vec_len, ap, sym, ◌∙◌, arith}
+use Rattle.textwrap_text.proofs.Common.{◌≡◌, ◌+◌, ◌*◌, ◌-◌, ◌≤◌, vec_len, ap, sym, ◌∙◌, arith}
 use Rattle.textwrap_base.proofs.Common.{Costs, binary_digits}
 use Rattle.textwrap_base.proofs.Search.{steps_more, steps_within, AreStretches-drop}
 

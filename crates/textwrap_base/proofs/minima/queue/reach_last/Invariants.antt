@@ -1,6 +1,6 @@
 use Rattle.textwrap_base.proofs.minima.queue.reach_last.Given as goal
-use Rattle.textwrap_base.proofs.Common.{◌≡◌, ◌+◌, ◌*◌, ◌-◌, ◌/◌, ◌<◌, ◌≤◌, vec_len, binary_digits}
-use Rattle.textwrap_base.proofs.Common.{HasEnd}
+use Rattle.textwrap_text.proofs.Common.{◌≡◌, ◌+◌, ◌*◌, ◌-◌, ◌/◌, ◌<◌, ◌≤◌, vec_len}
+use Rattle.textwrap_base.proofs.Common.{binary_digits, HasEnd}
 use Rattle.textwrap_base.specs.Search.{AreMinima}
 use Rattle.textwrap_base.specs.Stretches.{AreStretches}
 

@@ -1,5 +1,6 @@
 use Rattle.textwrap_base.proofs.minima.queue_case.break_penalties_suit.Given as goal
-use Rattle.textwrap_base.proofs.Common.{◌≤◌, All, take, priced_by, queue_limit}
+use Rattle.textwrap_text.proofs.Common.{◌≤◌, All, take}
+use Rattle.textwrap_base.proofs.Common.{priced_by, queue_limit}
 
 -- no break penalty so far passes the limit
 abbrev pub invariant-loop-fragment : goal.invariant-loop-fragment

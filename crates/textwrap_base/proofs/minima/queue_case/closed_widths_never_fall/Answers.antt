@@ -1,5 +1,5 @@
 use Rattle.textwrap_base.proofs.minima.queue_case.closed_widths_never_fall.Goals as goal
-use Rattle.textwrap_base.proofs.Common.{◌≡◌, arith, inl, inr, cases_lt, false≢true}
+use Rattle.textwrap_text.proofs.Common.{◌≡◌, arith, inl, inr, cases_lt, false≢true}
 use Rattle.textwrap_base.proofs.Division.Greedy.{closed_width-next}
 
 pub returns-then-gained-penalty_width : goal.returns-then-gained-penalty_width

@@ -1,5 +1,6 @@
 use Rattle.textwrap_base.proofs.minima.queue_case.is_queue_case.Goals as goal
-use Rattle.textwrap_base.proofs.Common.{rules, priced_by, IsQueueCase, problem_of}
+use Rattle.textwrap_text.proofs.Common.{rules}
+use Rattle.textwrap_base.proofs.Common.{priced_by, IsQueueCase, problem_of}
 use Rattle.textwrap_base.proofs.Cost.LineCosts.{AreConvex-rising}
 use Rattle.textwrap_base.proofs.Cost.QueueCase.{SuitQueue-queue_case}
 

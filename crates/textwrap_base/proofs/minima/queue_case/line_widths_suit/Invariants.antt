@@ -1,5 +1,6 @@
 use Rattle.textwrap_base.proofs.minima.queue_case.line_widths_suit.Given as goal
-use Rattle.textwrap_base.proofs.Common.{◌≡◌, ℕ, ◌<◌, ◌≤◌, slice_index, queue_limit}
+use Rattle.textwrap_text.proofs.Common.{◌≡◌, ℕ, ◌<◌, ◌≤◌, slice_index}
+use Rattle.textwrap_base.proofs.Common.{queue_limit}
 
 abbrev pub invariant-loop-number : goal.invariant-loop-number
 invariant-loop-number l = record {

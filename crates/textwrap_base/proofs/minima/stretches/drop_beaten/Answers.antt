@@ -1,6 +1,6 @@
 use Rattle.textwrap_base.proofs.minima.stretches.drop_beaten.Goals as goal
-use Rattle.textwrap_base.proofs.Common.{◌≡◌, ◌+◌, ◌-◌, ◌<◌, ◌≤◌, length, take, vec_len, arith}
-use Rattle.textwrap_base.proofs.Common.{rules, sym, ap, ◌∙◌, take_all, take-take, length-take}
+use Rattle.textwrap_text.proofs.Common.{◌≡◌, ◌+◌, ◌-◌, ◌<◌, ◌≤◌, length, take, vec_len, arith}
+use Rattle.textwrap_text.proofs.Common.{rules, sym, ap, ◌∙◌, take_all, take-take, length-take}
 use Rattle.textwrap_base.proofs.Common.{cost_from, stretch_at, IsPriced}
 use Rattle.textwrap_base.specs.declared.minima.stretches.Stretch.{Stretch}
 use Rattle.textwrap_base.proofs.Search.{HaveBest-take, IsBestFrom-beaten, stretch_at-read}

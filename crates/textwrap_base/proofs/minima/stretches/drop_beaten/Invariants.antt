@@ -1,6 +1,6 @@
 use Rattle.textwrap_base.proofs.minima.stretches.drop_beaten.Given as goal
-use Rattle.textwrap_base.proofs.Common.{◌≡◌, ◌+◌, ◌-◌, ◌<◌, ◌≤◌, length, take, vec_len, cost_from}
-use Rattle.textwrap_base.proofs.Common.{IsBestFrom, stretch_at, HaveBest}
+use Rattle.textwrap_text.proofs.Common.{◌≡◌, ◌+◌, ◌-◌, ◌<◌, ◌≤◌, length, take, vec_len}
+use Rattle.textwrap_base.proofs.Common.{cost_from, IsBestFrom, stretch_at, HaveBest}
 
 abbrev pub invariant-loop-stretches : goal.invariant-loop-stretches
 invariant-loop-stretches g l =

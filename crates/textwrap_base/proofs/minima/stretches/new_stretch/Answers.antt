@@ -1,5 +1,5 @@
 use Rattle.textwrap_base.proofs.minima.stretches.new_stretch.Goals as goal
-use Rattle.textwrap_base.proofs.Common.{◌≡◌, ◌+◌, ◌-◌, ◌<◌, ◌≤◌, length, vec_len, arith, max}
+use Rattle.textwrap_text.proofs.Common.{◌≡◌, ◌+◌, ◌-◌, ◌<◌, ◌≤◌, length, vec_len, arith, max}
 use Rattle.textwrap_base.proofs.Common.{cost_from, IsBestFrom, stretch_at, HaveBest}
 use Rattle.textwrap_base.proofs.Search.{digits_mono, stretch_at-read, taken_over}
 

@@ -1,7 +1,7 @@
 use Rattle.textwrap_base.proofs.minima.stretches.price.Goals as goal
-use Rattle.textwrap_base.proofs.Common.{◌∙◌, arith}
+use Rattle.textwrap_text.proofs.Common.{◌∙◌, arith}
 use Rattle.textwrap_base.proofs.Search.{cost_from-asked, small_entry}
-use Rattle.textwrap_base.proofs.Numbers.{some_where, value_where}
+use Rattle.textwrap_text.proofs.Numbers.{some_where, value_where}
 
 pub unwrap-requires : goal.unwrap-requires
 unwrap-requires g c =

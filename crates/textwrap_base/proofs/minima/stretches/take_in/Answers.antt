@@ -1,5 +1,6 @@
 use Rattle.textwrap_base.proofs.minima.stretches.take_in.Goals as goal
-use Rattle.textwrap_base.proofs.Common.{◌≡◌, ◌-◌, ◌<◌, length, vec_len, arith, ap, Costs, IsPriced}
+use Rattle.textwrap_text.proofs.Common.{◌≡◌, ◌-◌, ◌<◌, length, vec_len, arith, ap}
+use Rattle.textwrap_base.proofs.Common.{Costs, IsPriced}
 use Rattle.textwrap_base.proofs.Search.{AreStretches-left, AreStretches-push}
 
 pub returns-in_ok-push-clause-stretches : goal.returns-in_ok-push-clause-stretches

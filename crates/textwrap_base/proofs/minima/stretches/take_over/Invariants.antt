@@ -1,5 +1,6 @@
 use Rattle.textwrap_base.proofs.minima.stretches.take_over.Given as goal
-use Rattle.textwrap_base.proofs.Common.{◌≡◌, ◌+◌, ◌*◌, ◌-◌, ◌<◌, ◌≤◌, binary_digits, cost_from}
+use Rattle.textwrap_text.proofs.Common.{◌≡◌, ◌+◌, ◌*◌, ◌-◌, ◌<◌, ◌≤◌}
+use Rattle.textwrap_base.proofs.Common.{binary_digits, cost_from}
 
 abbrev pub invariant-loop-low : goal.invariant-loop-low
 invariant-loop-low g l =

@@ -1,5 +1,6 @@
 use Rattle.textwrap_base.proofs.minima.table.cheapest.Given as goal
-use Rattle.textwrap_base.proofs.Common.{◌≡◌, counted}
+use Rattle.textwrap_text.proofs.Common.{◌≡◌}
+use Rattle.textwrap_base.proofs.Common.{counted}
 use Rattle.textwrap_base.specs.Table.{IsBestBelow}
 
 abbrev pub invariant-loop-start : goal.invariant-loop-start

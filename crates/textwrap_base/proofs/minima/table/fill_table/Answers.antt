@@ -1,5 +1,5 @@
 use Rattle.textwrap_base.proofs.minima.table.fill_table.Goals as goal
-use Rattle.textwrap_base.proofs.Common.{◌≡◌, [], ◌∷◌, ◌++◌, ap, ◌+◌, arith, rules, refl, ◌∙◌}
+use Rattle.textwrap_text.proofs.Common.{◌≡◌, [], ◌∷◌, ◌++◌, ap, ◌+◌, arith, rules, refl, ◌∙◌}
 use Rattle.textwrap_base.specs.Table.{table}
 use Rattle.textwrap_base.proofs.Cost.Table.{length-table, table_next, table_past, table_fits}
 use Rattle.textwrap_base.proofs.Cost.Table.{number-table, entry-table_longer, counted_next}

@@ -1,5 +1,5 @@
 use Rattle.textwrap_display.proofs.styles.OpenStyles.closing.Goals as goal
-use Rattle.textwrap_base.proofs.Common.{true, None, Some, ◌∙◌, ◌==◌, length, ap}
+use Rattle.textwrap_text.proofs.Common.{true, None, Some, ◌∙◌, ◌==◌, length, ap}
 use Rattle.textwrap_display.proofs.OpenSequences.{closing-is}
 
 pub returns-in-true-None : goal.returns-in-true-None

@@ -1,5 +1,5 @@
 use Rattle.textwrap_display.proofs.styles.OpenStyles.read.Goals as goal
-use Rattle.textwrap_base.proofs.Common.{[], ◌∷◌, ◌++◌, sym, ap, subst, ◌∙◌, append_assoc}
+use Rattle.textwrap_text.proofs.Common.{[], ◌∷◌, ◌++◌, sym, ap, subst, ◌∙◌, append_assoc}
 use Rattle.textwrap_display.specs.OpenStyles.{IsOpenAfter}
 use Rattle.textwrap_display.specs.Styles.{sequences}
 

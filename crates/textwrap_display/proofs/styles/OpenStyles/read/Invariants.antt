@@ -1,5 +1,5 @@
 use Rattle.textwrap_display.proofs.styles.OpenStyles.read.Given as goal
-use Rattle.textwrap_base.proofs.Common.{◌≡◌, ℕ, List, ◌++◌, length, shadow, Utf8}
+use Rattle.textwrap_text.proofs.Common.{◌≡◌, ℕ, List, ◌++◌, length, shadow, Utf8}
 use Rattle.textwrap_display.specs.OpenStyles.{IsOpenAfter}
 use Rattle.textwrap_display.specs.Styles.{sequences}
 

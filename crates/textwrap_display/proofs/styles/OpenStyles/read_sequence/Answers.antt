@@ -1,6 +1,6 @@
 use Rattle.textwrap_display.proofs.styles.OpenStyles.read_sequence.Goals as goal
-use Rattle.textwrap_base.proofs.Common.{◌≡◌, ◌==◌, ◌||◌, [], ◌∷◌, true, false, cond, sym, ap, ◌∙◌}
-use Rattle.textwrap_base.proofs.Common.{refl}
+use Rattle.textwrap_text.proofs.Common.{◌≡◌, ◌==◌, ◌||◌, [], ◌∷◌, true, false, cond, sym, ap, ◌∙◌}
+use Rattle.textwrap_text.proofs.Common.{refl}
 use Rattle.std.specs.List.{list_all}
 use Rattle.std.specs.Option.{option_copied, option_to_list}
 use Rattle.textwrap_display.specs.Styles.{has_target}

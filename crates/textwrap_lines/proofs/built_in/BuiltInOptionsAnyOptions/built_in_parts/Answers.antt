@@ -1,5 +1,5 @@
 use Rattle.textwrap_lines.proofs.built_in.BuiltInOptionsAnyOptions.built_in_parts.Goals as goal
-use Rattle.textwrap_base.proofs.Common.{refl}
+use Rattle.textwrap_text.proofs.Common.{refl}
 use Rattle.textwrap_words.proofs.Common.{as_splitter, split_words}
 use Rattle.textwrap_words.proofs.Word.Pieces.{AreSplit-computed}
 use Rattle.textwrap_lines.proofs.Common.{layout_view, pieces_of_words}

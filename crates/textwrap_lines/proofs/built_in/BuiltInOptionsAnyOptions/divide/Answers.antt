@@ -1,6 +1,6 @@
 use Rattle.textwrap_lines.proofs.built_in.BuiltInOptionsAnyOptions.divide.Goals as goal
-use Rattle.textwrap_base.proofs.Common.{◌≡◌, ap, arith, Bor, List, map, subst, total_width, refl}
-use Rattle.textwrap_base.proofs.Common.{sym, ◌∙◌}
+use Rattle.textwrap_text.proofs.Common.{◌≡◌, ap, arith, Bor, List, map, subst, refl, sym, ◌∙◌}
+use Rattle.textwrap_base.proofs.Common.{total_width}
 use Rattle.textwrap_words.proofs.Common.{ArePoints, as_splitter, sizes_of, split_words, word_view}
 use Rattle.textwrap_words.proofs.Word.Pieces.{AreSplit-computed}
 use Rattle.std.proofs.lemmas.Result.{IfOk-weaker}

@@ -1,5 +1,5 @@
 use Rattle.textwrap_lines.proofs.lent_places.LentLinePlacesLineSink.has_line.Goals as goal
-use Rattle.textwrap_base.proofs.Common.{arith, length-map, nat_tests}
+use Rattle.textwrap_text.proofs.Common.{arith, length-map, nat_tests}
 use Rattle.textwrap_lines.proofs.Common.{places_of}
 use Rattle.textwrap_lines.proofs.Text.Sinks.{length-places_of}
 use Rattle.textwrap_lines.specs.LentPlaces.{reported_line}

@@ -1,5 +1,5 @@
 use Rattle.textwrap_lines.proofs.lent_places.LentPlaces.add_line.Goals as goal
-use Rattle.textwrap_base.proofs.Common.{◌≡◌, ◌++◌, arith, length, length-append, ne_eqb, subst, sym}
+use Rattle.textwrap_text.proofs.Common.{◌≡◌, ◌++◌, arith, length, length-append, ne_eqb, subst, sym}
 use Rattle.textwrap_lines.specs.LentPlaces.{AddsPlace}
 use Rattle.textwrap_lines.specs.Paragraph.{assembled_line, Built}
 

@@ -1,5 +1,5 @@
 use Rattle.textwrap_lines.proofs.line_sinks.JoinedLinesLineSink.push_line.Goals as goal
-use Rattle.textwrap_base.proofs.Common.{on_ok_weaker}
+use Rattle.textwrap_text.proofs.Common.{on_ok_weaker}
 use Rattle.textwrap_lines.proofs.Common.{assembled_line}
 use Rattle.textwrap_lines.proofs.Text.Sinks.{Took-joined, assembled-bytes}
 

@@ -1,5 +1,5 @@
 use Rattle.textwrap_lines.proofs.pieces.OptionsAnyOptions.divide.Goals as goal
-use Rattle.textwrap_base.proofs.Common.{List, Vec, Bor}
+use Rattle.textwrap_text.proofs.Common.{List, Vec, Bor}
 use Rattle.textwrap_words.proofs.Common.{MaySeparate, MaySplit, sizes_of, word_view}
 use Rattle.textwrap_lines.proofs.Common.{settings_view, Word}
 use Rattle.std.proofs.lemmas.Result.{IfOk-weaker}

@@ -1,5 +1,5 @@
 use Rattle.textwrap_lines.proofs.pieces.OptionsAnyOptions.printable_cuts.Goals as goal
-use Rattle.textwrap_base.proofs.Common.{subst, sym}
+use Rattle.textwrap_text.proofs.Common.{subst, sym}
 use Rattle.textwrap_words.proofs.Common.{MaySeparate}
 use Rattle.textwrap_words.proofs.Word.Words.{words_unique}
 use Rattle.textwrap_words.proofs.Word.Parts.{blank-words}

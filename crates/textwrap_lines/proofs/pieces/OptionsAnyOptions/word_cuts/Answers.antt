@@ -1,5 +1,5 @@
 use Rattle.textwrap_lines.proofs.pieces.OptionsAnyOptions.word_cuts.Goals as goal
-use Rattle.textwrap_base.proofs.Common.{refl, subst, sym}
+use Rattle.textwrap_text.proofs.Common.{refl, subst, sym}
 use Rattle.textwrap_words.proofs.Common.{MaySeparate, words_of}
 use Rattle.textwrap_words.proofs.Word.Words.{words_unique}
 

@@ -1,6 +1,6 @@
 use Rattle.textwrap_lines.proofs.places.PlacedLinesLineSink.has_line.Goals as goal
-use Rattle.textwrap_base.proofs.Common.{not, nat_lt, length, ap, ◌∙◌, arith}
-use Rattle.textwrap_base.proofs.Numbers.{not_empty}
+use Rattle.textwrap_text.proofs.Common.{not, nat_lt, length, ap, ◌∙◌, arith}
+use Rattle.textwrap_text.proofs.Numbers.{not_empty}
 use Rattle.textwrap_lines.proofs.Text.Sinks.{length-places_of}
 
 pub returns : goal.returns

@@ -1,6 +1,6 @@
 use Rattle.textwrap_lines.proofs.steps.points.points_between.Goals as goal
-use Rattle.textwrap_base.proofs.Common.{◌≡◌, ◌-◌, arith, drop, length, length-drop, rules, take}
-use Rattle.textwrap_base.proofs.Common.{take_all, subst, sym}
+use Rattle.textwrap_text.proofs.Common.{◌≡◌, ◌-◌, arith, drop, length, length-drop, rules, take}
+use Rattle.textwrap_text.proofs.Common.{take_all, subst, sym}
 use Rattle.std.proofs.lemmas.List.Sorted.{IsNonDecreasingBy-drop}
 use Rattle.std.proofs.lemmas.List.Sorted.{IsPartitionPoint-from_clause, IsPartitionedBy-leb}
 use Rattle.std.proofs.lemmas.List.Sorted.{IsPartitionedBy-ltb}

@@ -1,5 +1,5 @@
 use Rattle.textwrap_marked.proofs.blocks.BlocksAhead.next.Given as goal
-use Rattle.textwrap_base.proofs.Common.{◌≡◌, ◌≤◌, ◌++◌, ◌∷◌, map, Some}
+use Rattle.textwrap_text.proofs.Common.{◌≡◌, ◌≤◌, ◌++◌, ◌∷◌, map, Some}
 use Rattle.textwrap_marked.specs.Blocks.{behind_block, first_block}
 use Rattle.textwrap_marked.specs.Lines.{line_view}
 use Rattle.textwrap_marked.specs.Reading.{bytes_ahead, lines_ahead, lines_left}

@@ -1,5 +1,5 @@
 use Rattle.textwrap_plain.proofs.printable.PlainWordsPrintableCuts.are_told.Goals as goal
-use Rattle.textwrap_base.proofs.Common.{◌≡◌, ap, map, rules, subst, sym}
+use Rattle.textwrap_text.proofs.Common.{◌≡◌, ap, map, rules, subst, sym}
 use Rattle.textwrap_words.proofs.Common.{word_of}
 use Rattle.textwrap_words.specs.PieceCuts.{parts_by}
 use Rattle.textwrap_words.proofs.Word.Parts.{blank-words}

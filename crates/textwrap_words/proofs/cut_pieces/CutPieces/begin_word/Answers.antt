@@ -1,12 +1,12 @@
 use Rattle.textwrap_words.proofs.cut_pieces.CutPieces.begin_word.Goals as goal
-use Rattle.textwrap_base.proofs.Common.{◌≡◌, ℕ, ◌-◌, ◌<◌, List, [], ◌++◌, sym, ap, ◌∙◌, subst}
-use Rattle.textwrap_base.proofs.Common.{arith, length, map, slice_range, if◌then◌else◌, IsUtf8}
-use Rattle.textwrap_base.proofs.Common.{IsUtf8-between}
+use Rattle.textwrap_text.proofs.Common.{◌≡◌, ℕ, ◌-◌, ◌<◌, List, [], ◌++◌, sym, ap, ◌∙◌, subst}
+use Rattle.textwrap_text.proofs.Common.{arith, length, map, slice_range, if◌then◌else◌, IsUtf8}
+use Rattle.textwrap_text.proofs.Common.{IsUtf8-between}
 use Rattle.textwrap_words.proofs.Common.{as_splitter, broken_words, split_words, word_of}
 use Rattle.textwrap_words.specs.Cuts.{parts_after}
 use Rattle.textwrap_words.specs.PieceCuts.{pieces_within}
 use Rattle.textwrap_words.specs.Pieces.{empty_front, stand_from}
-use Rattle.textwrap_base.proofs.Lists.Parts.{length-slice}
+use Rattle.textwrap_text.proofs.Lists.Parts.{length-slice}
 use Rattle.textwrap_words.proofs.Word.SplitParts.{within-none, words-first}
 
 pub returns-clause-left : goal.returns-clause-left

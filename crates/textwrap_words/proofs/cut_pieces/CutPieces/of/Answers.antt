@@ -1,5 +1,5 @@
 use Rattle.textwrap_words.proofs.cut_pieces.CutPieces.of.Goals as goal
-use Rattle.textwrap_base.proofs.Common.{IsCharBoundary-start, arith}
+use Rattle.textwrap_text.proofs.Common.{IsCharBoundary-start, arith}
 use Rattle.std.proofs.lemmas.Str.{IsCharBoundary-end}
 
 pub invariant_of-result : goal.invariant_of-result

@@ -1,6 +1,6 @@
 use Rattle.textwrap_words.proofs.cut_pieces.CutPieces.take_piece.Goals as goal
-use Rattle.textwrap_base.proofs.Common.{◌≡◌, ℕ, ◌+◌, ◌-◌, Bool, false, [], ◌∷◌, ◌++◌, sym, ap, ◌∙◌}
-use Rattle.textwrap_base.proofs.Common.{subst, arith, map, slice_range, if◌then◌else◌}
+use Rattle.textwrap_text.proofs.Common.{◌≡◌, ℕ, ◌+◌, ◌-◌, Bool, false, [], ◌∷◌, ◌++◌, sym, ap, ◌∙◌}
+use Rattle.textwrap_text.proofs.Common.{subst, arith, map, slice_range, if◌then◌else◌}
 use Rattle.textwrap_words.proofs.Common.{as_splitter, broken_words, split_words, word_of}
 use Rattle.textwrap_words.specs.Cuts.{parts_after}
 use Rattle.textwrap_words.specs.PieceCuts.{pieces_within}

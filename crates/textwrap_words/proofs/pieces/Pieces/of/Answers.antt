@@ -1,5 +1,5 @@
 use Rattle.textwrap_words.proofs.pieces.Pieces.of.Goals as goal
-use Rattle.textwrap_base.proofs.Common.{[], ◌++◌, ap, if◌then◌else◌}
+use Rattle.textwrap_text.proofs.Common.{[], ◌++◌, ap, if◌then◌else◌}
 use Rattle.std.proofs.lemmas.Str.{IsCharBoundary-start}
 use Rattle.textwrap_words.specs.Pieces.{as_splitter, empty_front, stand_from}
 use Rattle.textwrap_words.proofs.Word.SplitParts.{pieces-start}

@@ -1,5 +1,5 @@
 use Rattle.textwrap_words.proofs.word_separators.WordSeparator.find_words.Goals as goal
-use Rattle.textwrap_base.proofs.Common.{ap, sym, ◌∙◌, subst}
+use Rattle.textwrap_text.proofs.Common.{ap, sym, ◌∙◌, subst}
 use Rattle.textwrap_words.proofs.Common.{tiled, MaySeparate}
 use Rattle.textwrap_words.proofs.Word.Words.{tiled-words_of, words_unique}
 

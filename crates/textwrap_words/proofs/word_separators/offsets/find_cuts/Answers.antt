@@ -1,8 +1,8 @@
 use Rattle.textwrap_words.proofs.word_separators.offsets.find_cuts.Goals as goal
-use Rattle.textwrap_base.proofs.Common.{◌∙◌, ◌∷◌, arith, false, refl, sym, true}
-use Rattle.textwrap_words.proofs.Units.Characters.{ahead-next}
+use Rattle.textwrap_text.proofs.Common.{◌∙◌, ◌∷◌, arith, false, refl, sym, true}
+use Rattle.textwrap_text.proofs.Units.Characters.{ahead-next}
 use Rattle.textwrap_words.proofs.Word.Offsets.{IsFinding, IsFinding-start, IsFinding-step}
-use Rattle.textwrap_words.specs.CharactersLeft.{characters_left}
+use Rattle.textwrap_text.specs.CharactersLeft.{characters_left}
 use Rattle.textwrap_words.proofs.word_separators.offsets.find_cuts.Goals.{In-Some}
 
 pub loop-character-init : goal.loop-character-init

@@ -1,7 +1,7 @@
 use Rattle.textwrap_words.proofs.word_separators.offsets.is_among.Goals as goal
-use Rattle.textwrap_base.proofs.Common.{◌∙◌}
+use Rattle.textwrap_text.proofs.Common.{◌∙◌}
 use Rattle.std.proofs.lemmas.List.Sorted.{searched}
-use Rattle.textwrap_base.proofs.Lists.Elements.{increasing-le, among-is}
+use Rattle.textwrap_text.proofs.Lists.Elements.{increasing-le, among-is}
 
 pub returns : goal.returns
 returns c =

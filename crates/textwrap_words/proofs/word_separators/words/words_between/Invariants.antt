@@ -1,6 +1,5 @@
 use Rattle.textwrap_words.proofs.word_separators.words.words_between.Given as goal
-use Rattle.textwrap_base.proofs.Common.{◌≡◌, ◌++◌, ◌<◌, drop, map}
-use Rattle.textwrap_base.proofs.Common.{IsCharBoundary}
+use Rattle.textwrap_text.proofs.Common.{◌≡◌, ◌++◌, ◌<◌, drop, map, IsCharBoundary}
 use Rattle.textwrap_words.proofs.Common.{word_view, word_of}
 use Rattle.textwrap_words.specs.Cuts.{AreNext, IsNextPoint, parts_onward}
 

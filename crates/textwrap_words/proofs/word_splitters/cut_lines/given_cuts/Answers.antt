@@ -1,5 +1,5 @@
 use Rattle.textwrap_words.proofs.word_splitters.cut_lines.given_cuts.Goals as goal
-use Rattle.textwrap_base.proofs.Common.{refl}
+use Rattle.textwrap_text.proofs.Common.{refl}
 use Rattle.textwrap_words.proofs.Word.Parts.{MayCut-cuts}
 
 pub returns-clause-given : goal.returns-clause-given

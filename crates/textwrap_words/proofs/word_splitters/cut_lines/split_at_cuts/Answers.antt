@@ -1,5 +1,5 @@
 use Rattle.textwrap_words.proofs.word_splitters.cut_lines.split_at_cuts.Goals as goal
-use Rattle.textwrap_base.proofs.Common.{refl, map, sym, subst}
+use Rattle.textwrap_text.proofs.Common.{refl, map, sym, subst}
 use Rattle.textwrap_words.proofs.Common.{word_view, word_of, AreCuts, AreSplit, MaySplit}
 use Rattle.textwrap_words.proofs.Common.{parts_between}
 use Rattle.textwrap_words.proofs.Word.Cuts.{inner-cuts}

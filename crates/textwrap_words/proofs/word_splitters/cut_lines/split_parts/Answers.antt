@@ -1,5 +1,5 @@
-use Rattle.textwrap_base.proofs.Common.{drop_all, [], ◌∷◌, ◌++◌, ◌+◌, arith, drop, drop_more, map}
-use Rattle.textwrap_base.proofs.Common.{subst, sym, ap, ◌∙◌, append_assoc, slice_range, get_or}
+use Rattle.textwrap_text.proofs.Common.{drop_all, [], ◌∷◌, ◌++◌, ◌+◌, arith, drop, drop_more, map}
+use Rattle.textwrap_text.proofs.Common.{subst, sym, ap, ◌∙◌, append_assoc, slice_range, get_or}
 use Rattle.textwrap_words.proofs.Common.{AreSplit, MaySplit, word_of, word_view}
 use Rattle.textwrap_words.specs.Cuts.{parts_onward}
 use Rattle.textwrap_words.proofs.Word.Pieces.{AreSplit-push}

@@ -1,6 +1,5 @@
 use Rattle.textwrap_words.proofs.word_splitters.cut_lines.split_parts.Given as goal
-use Rattle.textwrap_base.proofs.Common.{◌≡◌, ◌++◌, ◌<◌, drop, List, map}
-use Rattle.textwrap_base.proofs.Common.{IsCharBoundary}
+use Rattle.textwrap_text.proofs.Common.{◌≡◌, ◌++◌, ◌<◌, drop, List, map, IsCharBoundary}
 use Rattle.textwrap_words.proofs.Common.{AreSplit, MaySplit, WordText, word_of, word_view}
 use Rattle.textwrap_words.specs.Cuts.{AreNext, IsNextPoint, parts_onward}
 

@@ -1,8 +1,8 @@
 use Rattle.textwrap_words.proofs.word_splitters.hyphens.hyphen_points.Goals as goal
-use Rattle.textwrap_base.proofs.Common.{◌≡◌, ◌-◌, length, sym, ap}
-use Rattle.textwrap_base.proofs.Common.{◌∙◌, subst, arith, range_with_len, filter}
+use Rattle.textwrap_text.proofs.Common.{◌≡◌, ◌-◌, length, sym, ap, ◌∙◌, subst, arith}
+use Rattle.textwrap_text.proofs.Common.{range_with_len, filter}
 use Rattle.textwrap_words.proofs.Common.{is_hyphen_point, AreCuts}
-use Rattle.textwrap_base.proofs.Lists.Elements.{points-more}
+use Rattle.textwrap_text.proofs.Lists.Elements.{points-more}
 use Rattle.textwrap_words.proofs.Word.Splitting.{hyphen_points-cuts, hyphen_points-none}
 
 pub loop-point-preserved : goal.loop-point-preserved

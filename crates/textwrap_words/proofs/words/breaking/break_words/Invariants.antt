@@ -1,5 +1,5 @@
 use Rattle.textwrap_words.proofs.words.breaking.break_words.Given as goal
-use Rattle.textwrap_base.proofs.Common.{◌≡◌, map}
+use Rattle.textwrap_text.proofs.Common.{◌≡◌, map}
 use Rattle.textwrap_words.proofs.Common.{broken_words, word_view}
 use Rattle.std.specs.Iterator.{IsFinite}
 

@@ -1,5 +1,5 @@
 use Rattle.textwrap_words.proofs.words.breaking.first_piece.Given as goal
-use Rattle.textwrap_base.proofs.Common.{char_indices_offset}
+use Rattle.textwrap_text.proofs.Common.{char_indices_offset}
 use Rattle.std.specs.Str.Iter.{char_indices_rest}
 use Rattle.textwrap_words.proofs.Word.Scanned.{IsReading}
 

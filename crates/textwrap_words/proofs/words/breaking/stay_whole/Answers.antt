@@ -1,6 +1,6 @@
 use Rattle.textwrap_words.proofs.words.breaking.stay_whole.Goals as goal
-use Rattle.textwrap_base.proofs.Common.{◌≡◌, ℕ, ◌+◌, ◌<◌, ◌≤◌, List, arith, drop, drop_all}
-use Rattle.textwrap_base.proofs.Common.{drop_more, get_or, length, map, nat_tests}
+use Rattle.textwrap_text.proofs.Common.{◌≡◌, ℕ, ◌+◌, ◌<◌, ◌≤◌, List, arith, drop, drop_all}
+use Rattle.textwrap_text.proofs.Common.{drop_more, get_or, length, map, nat_tests}
 use Rattle.textwrap_words.proofs.Common.{broken_words, word_view}
 use Rattle.textwrap_words.specs.declared.words.Word.{Word}
 

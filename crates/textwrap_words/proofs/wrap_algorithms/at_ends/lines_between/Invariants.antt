@@ -1,5 +1,5 @@
 use Rattle.textwrap_words.proofs.wrap_algorithms.at_ends.lines_between.Given as goal
-use Rattle.textwrap_base.proofs.Common.{◌≡◌, ◌++◌, map, drop, length}
+use Rattle.textwrap_text.proofs.Common.{◌≡◌, ◌++◌, map, drop, length}
 use Rattle.textwrap_words.specs.Cuts.{AreNext}
 use Rattle.textwrap_words.specs.LineEnds.{IsNextEnd, lines_from, lines_between}
 

@@ -1,5 +1,5 @@
 use Rattle.textwrap_words.proofs.wrap_algorithms.at_ends.wrap_at_ends.Goals as goal
-use Rattle.textwrap_base.proofs.Common.{◌∙◌, ap, refl, subst, sym}
+use Rattle.textwrap_text.proofs.Common.{◌∙◌, ap, refl, subst, sym}
 use Rattle.textwrap_words.specs.LineEnds.{AreEnds, lines_between}
 
 pub lines_between-requires : goal.lines_between-requires

@@ -1,5 +1,5 @@
 use Rattle.textwrap.proofs.refilling.lines.NonEmptyLinesIterator.next.Given as goal
-use Rattle.textwrap_base.proofs.Common.{◌≡◌, filter, length}
+use Rattle.textwrap_text.proofs.Common.{◌≡◌, filter, length}
 use Rattle.textwrap.specs.Refilling.{has_text}
 
 -- the lines that were passed over are empty

@@ -1,6 +1,6 @@
 use Rattle.textwrap_base.proofs.minima.line_costs.LineCostsCostSource.candidate.Goals as goal
-use Rattle.textwrap_base.proofs.Common.{◌≡◌, arith, sym, ◌∙◌, PricedSizes, line_costs, measured}
-use Rattle.textwrap_base.proofs.Common.{problem_by}
+use Rattle.textwrap_text.proofs.Common.{◌≡◌, arith, sym, ◌∙◌}
+use Rattle.textwrap_base.proofs.Common.{PricedSizes, line_costs, measured, problem_by}
 use Rattle.textwrap_base.proofs.Cost.LineCosts.{line_costs-at}
 use Rattle.textwrap_base.proofs.minima.line_costs.LineCostsCostSource.candidate.Goals.{After-line_cost}
 

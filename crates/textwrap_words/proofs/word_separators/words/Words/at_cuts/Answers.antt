@@ -1,5 +1,5 @@
 use Rattle.textwrap_words.proofs.word_separators.words.Words.at_cuts.Goals as goal
-use Rattle.textwrap_base.proofs.Common.{refl, ap, map, ◌∙◌, sym, subst}
+use Rattle.textwrap_text.proofs.Common.{refl, ap, map, ◌∙◌, sym, subst}
 use Rattle.textwrap_words.proofs.Common.{word_view, word_of, tiled, AreCuts, parts_between}
 use Rattle.textwrap_words.proofs.Word.Cuts.{inner-cuts}
 use Rattle.textwrap_words.proofs.Word.Parts.{MayCut-cuts, parts-texts}

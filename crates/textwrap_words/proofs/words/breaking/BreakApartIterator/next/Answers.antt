@@ -1,5 +1,5 @@
 use Rattle.textwrap_words.proofs.words.breaking.BreakApartIterator.next.Goals as goal
-use Rattle.textwrap_base.proofs.Common.{eqb-true, nil_from_length, arith}
+use Rattle.textwrap_text.proofs.Common.{eqb-true, nil_from_length, arith}
 use Rattle.textwrap_words.proofs.Word.BrokenPieces.{turn-none, broken_texts-nil, pieces_with-more}
 use Rattle.textwrap_words.proofs.Word.BrokenPieces.{broken_texts-some}
 

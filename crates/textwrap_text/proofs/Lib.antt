@@ -1,0 +1,6 @@
+pub mod Units
+pub mod Lists
+pub mod Numbers
+pub mod Texts
+pub mod TextLines
+pub mod Common

@@ -1,0 +1,68 @@
+-- Numbers, tests of them, and results that hold them.
+use Rattle.textwrap_text.proofs.Common.{◌≡◌, ℕ, ◌<◌, eqb, false, arith, ◌+◌, ◌≤◌, Bool, true}
+use Rattle.textwrap_text.proofs.Common.{if◌then◌else◌, ◌^◌, not, ◌==◌, nat_lt, ◌||◌, suc, refl, ◌⊎◌}
+use Rattle.textwrap_text.proofs.Common.{inl, inr, min, ◌∙◌, rules, eqb-false, cases_lt, nat_tests}
+use Rattle.textwrap_text.proofs.Common.{⊎_elim, Option, None, Some, SomeIff, Result, Ok, Err}
+use Rattle.std.proofs.Common.{IsSome}
+use Rattle.std.proofs.Math.Nat.{le-mul_of_pos_right, min-le_right, mod-add-div'}
+use Rattle.std.specs.Int.{div_ceil}
+use Rattle.std.specs.Prelude.{IfNone, IfOk}
+use Rattle.std.specs.Result.{OkIff, result_ok}
+
+pub some_from_test : (n : ℕ) → eqb n 0 ≡ false → 0 < n
+some_from_test n e = let ne = eqb-false n 0 e in omega (arith, ne)
+
+pub if_le : (test : Bool) (a b most : ℕ) → a ≤ most → b ≤ most → (if test then a else b) ≤ most
+if_le true a b most h k = h
+if_le false a b most h k = k
+
+pub past_from_not : (n : ℕ) → ¬ (n < 2 ^ 128) → 2 ^ 128 ≤ n
+past_from_not n h = omega arith
+
+pub not_empty : (n m : ℕ) → n ≡ m → not (n == 0) ≡ nat_lt 0 m
+not_empty n m is = grind (arith, nat_tests)
+
+-- a line is out where one was out, or one was added
+pub is_later-or : (now before added : ℕ) → now ≡ before + added
+    → nat_lt 0 now ≡ nat_lt 0 before || nat_lt 0 added
+is_later-or now before added is = grind (arith, nat_tests)
+
+pub or_false : (b : Bool) → b || false ≡ b
+or_false true = refl
+or_false false = refl
+
+pub some_later : (b : Bool) (n : ℕ) → b || nat_lt 0 (suc n) ≡ true
+some_later true n = refl
+some_later false n = grind (arith, nat_tests)
+
+pub either_short : (a b n : ℕ) → n ≡ min a b → (a ≤ n) ⊎ (b ≤ n)
+either_short a b n is = ⊎_elim {C = (a ≤ n) ⊎ (b ≤ n)} (λ (less : a < b). inl (omega arith))
+    (λ (more : b ≤ a). inr (omega arith)) (cases_lt a b)
+
+-- no table has more rows than lines
+pub rows-le_lines : (lines columns : ℕ) → 1 ≤ columns → div_ceil lines columns ≤ lines
+rows-le_lines lines columns some = grind (arith, le-mul_of_pos_right, mod-add-div', min-le_right)
+
+pub some_where : (o : Option ℕ) (P : Type 0) (v : ℕ) → SomeIff o P v → P → IsSome o
+some_where None P v h p = absurd (h p)
+some_where (Some x) P v h p = search rules
+
+pub value_where : (o : Option ℕ) (P : Type 0) (v x : ℕ) → SomeIff o P v → o ≡ Some x → x ≡ v
+value_where None P v x h e = cc
+value_where (Some y) P v x h e = let f : x ≡ y = cc in f ∙ h.1
+
+-- where a conversion succeeds exactly at numbers that fit, so does its option
+pub SomeIff-ok : {E : Type 0} (r : Result ℕ E) (P Q : Type 0) (v n : ℕ) → OkIff r P v
+    → (P → Q × (v ≡ n)) → (Q → P) → SomeIff (result_ok r) Q n
+SomeIff-ok (Ok x) P Q v n (fits, is) right all = ((right fits).0, is ∙ (right fits).1)
+SomeIff-ok (Err e) P Q v n none right all = λ fits. none (all fits)
+
+pub IfNone-always : {X : Type 0} (r : Option X) (P : Type 0) → P → IfNone r P
+IfNone-always None P p = p
+IfNone-always (Some x) P p = tt
+
+-- two facts on a value make a third
+pub both : {T E : Type 0} (r : Result T E) (P Q R : T → Type 0) → ((x : T) → P x → Q x → R x)
+    → IfOk r P → IfOk r Q → IfOk r R
+both (Ok x) P Q R third one two = third x one two
+both (Err e) P Q R third one two = tt

@@ -1,0 +1,4 @@
+pub mod Characters
+pub mod Reading
+pub mod Texts
+pub mod Chunks

@@ -1,0 +1,10 @@
+use Rattle.textwrap_text.proofs.printable.is_printable.Given as goal
+use Rattle.textwrap_text.proofs.Common.{◌≡◌, ℕ, ◌<◌, true, slice_index, IsPrintableByte}
+use Rattle.textwrap_text.proofs.Common.{IsPrintable}
+
+-- it says whether the bytes so far are printable
+abbrev pub invariant-loop-byte : goal.invariant-loop-byte
+invariant-loop-byte l = record {
+  so_far : l.all ≡ true → (k : ℕ) → k < l.byte-index → IsPrintableByte (slice_index l.bytes k);
+  all : IsPrintable l.bytes → l.all ≡ true;
+}

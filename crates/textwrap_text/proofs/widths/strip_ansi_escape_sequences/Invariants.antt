@@ -1,0 +1,9 @@
+use Rattle.textwrap_text.proofs.widths.strip_ansi_escape_sequences.Given as goal
+use Rattle.textwrap_text.proofs.Common.{◌≡◌, ◌++◌, string_bytes, stripped}
+use Rattle.textwrap_text.specs.Characters.{shown_text}
+use Rattle.textwrap_text.specs.CharactersLeft.{characters_left}
+
+-- the text so far, and that of the characters to come, are the whole
+abbrev pub invariant-loop-character : goal.invariant-loop-character
+invariant-loop-character g l =
+    string_bytes l.plain ++ shown_text (characters_left l.character-iterator) ≡ stripped l.text

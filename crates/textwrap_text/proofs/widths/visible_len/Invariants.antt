@@ -1,0 +1,9 @@
+use Rattle.textwrap_text.proofs.widths.visible_len.Given as goal
+use Rattle.textwrap_text.proofs.Common.{◌≡◌, ◌+◌, length, stripped}
+use Rattle.textwrap_text.specs.Characters.{shown_text}
+use Rattle.textwrap_text.specs.CharactersLeft.{characters_left}
+
+-- the bytes so far, and those of the characters to come, are the whole
+abbrev pub invariant-loop-character : goal.invariant-loop-character
+invariant-loop-character l =
+    l.len + length (shown_text (characters_left l.character-iterator)) ≡ length (stripped l.text)

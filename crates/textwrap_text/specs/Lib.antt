@@ -1,0 +1,12 @@
+pub mod Blanks
+pub mod Characters
+pub mod CharactersLeft
+pub mod Chunks
+pub mod Escapes
+pub mod LentText
+pub mod Units
+pub mod Laws
+pub mod Lists
+pub mod LineEnding
+pub mod LineViews
+pub mod TextLines

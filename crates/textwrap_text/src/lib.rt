@@ -1,0 +1,15 @@
+//! Texts, and what is read of them: their characters, which of these are visible (ECMA-48), the
+//! columns that they take, their words, their blanks and their lines. Under all other crates; the
+//! lemmas on lists, numbers and texts that are about nothing of this repository stand here.
+#![tactic(auto)]
+
+pub mod blanks;
+pub mod characters;
+pub mod chunks;
+pub mod escapes;
+pub mod laws;
+pub mod lent_text;
+pub mod line_ending;
+pub mod printable;
+pub mod text_lines;
+pub mod widths;

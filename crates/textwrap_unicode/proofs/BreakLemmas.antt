@@ -1,14 +1,16 @@
 -- The breaks that the iterator has still to give, and what the rules ask of the text before a place
 -- and past it.
-use Rattle.textwrap_unicode.proofs.Common.{if◌then◌else◌, breaks_after, takes_no_mark, number_first}
-use Rattle.textwrap_unicode.proofs.Common.{◌≡◌, first_class, takes_marks, numbers_rule, breaks_from}
-use Rattle.textwrap_unicode.proofs.Common.{cases_Bool, is_empty, Alphabetic, Prohibited}
-use Rattle.textwrap_unicode.proofs.Common.{ℕ, before_of, with_unit, is_number, read-next}
-use Rattle.textwrap_unicode.proofs.Common.{nothing, is_mark, class_of, unit_of, decide_by, break_at}
-use Rattle.textwrap_unicode.proofs.Common.{false, length, get_or, IsUtf8, Numbers, ByPairs, Verdict}
-use Rattle.textwrap_unicode.proofs.Common.{true, ◌&&◌, List, [], arith, chars, encode, Before}
-use Rattle.textwrap_unicode.proofs.Common.{not, ◌∷◌, refl, sym, ◌∙◌, ◌+◌, drop, ◌++◌, Unit, Text}
-use Rattle.textwrap_unicode.proofs.Common.{ap, ◌<◌, and}
+use Rattle.textwrap_classes.proofs.Common.{if◌then◌else◌, takes_no_mark, ◌≡◌, cases_Bool, ℕ}
+use Rattle.textwrap_classes.proofs.Common.{is_number, read-next, is_mark, class_of, unit_of, false}
+use Rattle.textwrap_classes.proofs.Common.{length, get_or, IsUtf8, true, ◌&&◌, List, [], arith}
+use Rattle.textwrap_classes.proofs.Common.{chars, encode, not, ◌∷◌, refl, sym, ◌∙◌, ◌+◌, drop, ◌++◌}
+use Rattle.textwrap_classes.proofs.Common.{ap, ◌<◌}
+use Rattle.textwrap_unicode.proofs.Common.{breaks_after, number_first, first_class, takes_marks}
+use Rattle.textwrap_unicode.proofs.Common.{numbers_rule, breaks_from, is_empty, Prohibited}
+use Rattle.textwrap_unicode.proofs.Common.{before_of, with_unit, nothing, decide_by, break_at}
+use Rattle.textwrap_unicode.proofs.Common.{Numbers, ByPairs, Verdict, Before, Text, and}
+use Rattle.unicode.specs.declared.properties.LineBreak.TheVariants.{Alphabetic}
+use Rattle.textwrap_classes.specs.declared.classes.Unit.{Unit}
 use Rattle.std.proofs.lemmas.List.{at_drop_more}
 use Rattle.textwrap_text.proofs.Units.Reading.{read-ahead, read-none, read-start, IsRead, read-all}
 use Rattle.textwrap_text.proofs.Common.{chars-nil}

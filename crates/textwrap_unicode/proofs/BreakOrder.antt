@@ -1,12 +1,13 @@
 -- The breaks of a text are one list in order, and what is said of one place.
 use Rattle.textwrap_text.proofs.Texts.{some-bytes}
-use Rattle.textwrap_unicode.proofs.Common.{if◌then◌else◌, length-append, breaks_from, numbers_rule}
-use Rattle.textwrap_unicode.proofs.Common.{Mandatory, Prohibited, before_of, with_unit, verdict_by}
-use Rattle.textwrap_unicode.proofs.Common.{false, Numbers, is_empty, break_at, breaks_by, decide_by}
-use Rattle.textwrap_unicode.proofs.Common.{zero, get_or, length, Verdict, Allowed, nothing, unit_of}
-use Rattle.textwrap_unicode.proofs.Common.{ℕ, Bool, true, List, subst, arith, chars, IsUtf8, encode}
-use Rattle.textwrap_unicode.proofs.Common.{◌≡◌, ◌↔◌, suc, ◌+◌, ◌<◌, ◌≤◌, [], ◌++◌, take, Text}
-use Rattle.textwrap_unicode.proofs.Common.{◌∷◌, sym, ap, inl, inr, ◌∙◌}
+use Rattle.textwrap_classes.proofs.Common.{if◌then◌else◌, length-append, false, zero, get_or}
+use Rattle.textwrap_classes.proofs.Common.{length, unit_of, ℕ, Bool, true, List, subst, arith}
+use Rattle.textwrap_classes.proofs.Common.{chars, IsUtf8, encode, ◌≡◌, ◌↔◌, suc, ◌+◌, ◌<◌, ◌≤◌, []}
+use Rattle.textwrap_classes.proofs.Common.{◌++◌, take, ◌∷◌, sym, ap, inl, inr, ◌∙◌}
+use Rattle.textwrap_unicode.proofs.Common.{breaks_from, numbers_rule, Mandatory, Prohibited}
+use Rattle.textwrap_unicode.proofs.Common.{before_of, with_unit, verdict_by, Numbers, is_empty}
+use Rattle.textwrap_unicode.proofs.Common.{break_at, breaks_by, decide_by, Verdict, Allowed}
+use Rattle.textwrap_unicode.proofs.Common.{nothing, Text}
 use Rattle.std.proofs.lemmas.List.{append_cancel_left}
 use Rattle.std.proofs.lemmas.Str.{length-le-encodes, encodes_same}
 use lib.Utf8.{encodes}

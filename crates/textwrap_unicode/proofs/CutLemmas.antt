@@ -5,15 +5,15 @@ use Rattle.textwrap_text.proofs.Common.{flat_map, All, All-append, IsUtf8-nil, I
 use Rattle.textwrap_text.proofs.Common.{All-cons, All-head, All-tail, cases_eq, characters}
 use Rattle.textwrap_text.proofs.Common.{TextUnit, Sequence, visible_of, visible_in, Visible}
 use Rattle.textwrap_text.proofs.Common.{next_of, shows, stripped, units}
-use Rattle.textwrap_unicode.proofs.Common.{length-append, cases_Bool, is_any_hyphen}
-use Rattle.textwrap_unicode.proofs.Common.{[], append_assoc, append-nil, breaks_after, numbers_rule}
-use Rattle.textwrap_unicode.proofs.Common.{nat_tests, Mandatory, Prohibited, breaks_by, decide_by}
-use Rattle.textwrap_unicode.proofs.Common.{List, list_any, cut_here, break_at, before_of, read-next}
-use Rattle.textwrap_unicode.proofs.Common.{ap, Numbers, Verdict, Allowed, unit_of, may_end, nothing}
-use Rattle.textwrap_unicode.proofs.Common.{ne_eqb, ℕ, length, arith, false, encode, Before}
-use Rattle.textwrap_unicode.proofs.Common.{◌≡◌, ◌++◌, ◌==◌, ◌&&◌, Bool, refl, subst, chars}
-use Rattle.textwrap_unicode.proofs.Common.{◌<◌, ◌∷◌, ◌∙◌, ◌≢◌, ◌+◌, ◌≤◌, not, map, inl, inr, sym}
-use Rattle.textwrap_unicode.proofs.Common.{and}
+use Rattle.textwrap_classes.proofs.Common.{length-append, cases_Bool, [], append_assoc, append-nil}
+use Rattle.textwrap_classes.proofs.Common.{nat_tests, List, list_any, read-next, ap, unit_of}
+use Rattle.textwrap_classes.proofs.Common.{ne_eqb, ℕ, length, arith, false, encode, ◌≡◌, ◌++◌, ◌==◌}
+use Rattle.textwrap_classes.proofs.Common.{◌&&◌, Bool, refl, subst, chars, ◌<◌, ◌∷◌, ◌∙◌, ◌≢◌, ◌+◌}
+use Rattle.textwrap_classes.proofs.Common.{◌≤◌, not, map, inl, inr, sym}
+use Rattle.textwrap_unicode.proofs.Common.{is_any_hyphen, breaks_after, numbers_rule, Mandatory}
+use Rattle.textwrap_unicode.proofs.Common.{Prohibited, breaks_by, decide_by, cut_here, break_at}
+use Rattle.textwrap_unicode.proofs.Common.{before_of, Numbers, Verdict, Allowed, may_end, nothing}
+use Rattle.textwrap_unicode.proofs.Common.{Before, and}
 use Rattle.textwrap_text.proofs.Texts.{some-bytes, utf8-front, utf8-back}
 use Rattle.textwrap_words.proofs.Common.{VisibleEnd, is_cut_after, ends_from, cuts_among}
 use Rattle.textwrap_words.proofs.Word.Offsets.{ends_past}

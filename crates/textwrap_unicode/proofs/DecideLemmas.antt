@@ -1,20 +1,22 @@
 -- What the rules say after given characters, and places for which few of them are needed.
-use Rattle.textwrap_unicode.proofs.Common.{if◌then◌else◌, Ideographic, is_after_text, takes_no_mark}
-use Rattle.textwrap_unicode.proofs.Common.{cases_Bool, arith, Alphabetic, numbers_rule}
-use Rattle.textwrap_unicode.proofs.Common.{and-false, LineBreak, Prohibited, verdict_by, is_opening}
-use Rattle.textwrap_unicode.proofs.Common.{Bool, and_from, Mandatory, before_of, class_of}
-use Rattle.textwrap_unicode.proofs.Common.{true, Before, Numbers, Allowed, unit_of, is_mark, decide}
-use Rattle.textwrap_unicode.proofs.Common.{◌≡◌, ℕ, false, List, ◌++◌, refl, ◌&&◌, ◌||◌, Space, Unit}
-use Rattle.textwrap_unicode.proofs.Common.{◌↔◌, not, [], ◌∷◌, sym, ap, ◌∙◌}
-use Rattle.textwrap_text.proofs.Common.{◌⊎◌}
-use Rattle.std.proofs.lemmas.Bool.{and_left}
-use Rattle.unicode.proofs.BreaksComputing.{ucd_breaks}
+use Rattle.textwrap_classes.proofs.Common.{if◌then◌else◌, is_after_text, takes_no_mark, cases_Bool}
+use Rattle.textwrap_classes.proofs.Common.{arith, and-false, is_opening, Bool, and_from, class_of}
+use Rattle.textwrap_classes.proofs.Common.{true, unit_of, is_mark, ◌≡◌, ℕ, false, List, ◌++◌, refl}
+use Rattle.textwrap_classes.proofs.Common.{◌&&◌, ◌||◌, ◌↔◌, not, [], ◌∷◌, sym, ap, ◌∙◌}
+use Rattle.unicode.specs.declared.properties.LineBreak.TheVariants.{Ideographic, Alphabetic, Space}
 use Rattle.unicode.specs.declared.properties.LineBreak.TheVariants.{CombiningMark, ClosePunctuation}
 use Rattle.unicode.specs.declared.properties.LineBreak.TheVariants.{CarriageReturn, HebrewLetter}
 use Rattle.unicode.specs.declared.properties.LineBreak.TheVariants.{LineFeed, Zwj, H2, H3, Numeric}
+use Rattle.textwrap_unicode.proofs.Common.{numbers_rule, Prohibited, verdict_by, Mandatory}
+use Rattle.textwrap_unicode.proofs.Common.{before_of, Before, Numbers, Allowed, decide}
+use Rattle.unicode.specs.declared.properties.LineBreak.{LineBreak}
+use Rattle.textwrap_classes.specs.declared.classes.Unit.{Unit}
+use Rattle.textwrap_text.proofs.Common.{◌⊎◌}
+use Rattle.std.proofs.lemmas.Bool.{and_left}
+use Rattle.unicode.proofs.BreaksComputing.{ucd_breaks}
 use Rattle.textwrap_unicode.specs.Before.{class_past_spaces, text_of}
-use Rattle.textwrap_unicode.specs.ClassSets.{is_line_end, is_zero_width_space, breaks_on_both_sides}
-use Rattle.textwrap_unicode.specs.ClassSets.{is_carriage_return, is_closing, is_quotation}
+use Rattle.textwrap_classes.specs.ClassSets.{is_line_end, is_zero_width_space, breaks_on_both_sides}
+use Rattle.textwrap_classes.specs.ClassSets.{is_carriage_return, is_closing, is_quotation}
 use Rattle.textwrap_unicode.specs.Laws.{ends_line}
 use Rattle.textwrap_unicode.specs.Rules.{Rule, lb4}
 use Rattle.textwrap_unicode.proofs.TextBreaks.{not-empty, text_of-push}

@@ -1,6 +1,5 @@
 pub mod BreakLemmas
 pub mod BreakOrder
-pub mod ClassLemmas
 pub mod Common
 pub mod CutLemmas
 pub mod DecideLemmas

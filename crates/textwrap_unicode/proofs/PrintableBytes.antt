@@ -1,28 +1,30 @@
 -- The classes of printable bytes, what the rules say between them, and what stands before a place.
-use Rattle.textwrap_unicode.proofs.Common.{[], slice_index_or, may_follow_blanks, class_past_blanks}
-use Rattle.textwrap_unicode.proofs.Common.{if◌then◌else◌, cases_Bool, is_any_hyphen, is_after_text}
-use Rattle.textwrap_unicode.proofs.Common.{nat_tests, and_parts, Alphabetic, is_opening, is_unusual}
-use Rattle.textwrap_unicode.proofs.Common.{◌≡◌, list_any, not-true, LineBreak, before_of}
-use Rattle.textwrap_unicode.proofs.Common.{add-one, is_blank, is_space, is_mark, class_of, unit_of}
-use Rattle.textwrap_unicode.proofs.Common.{false, nat_lt, get_or, may_end, decide, Before, nothing}
-use Rattle.textwrap_unicode.proofs.Common.{◌==◌, ◌&&◌, ◌||◌, Bool, true, List, arith, subst, Space}
-use Rattle.textwrap_unicode.proofs.Common.{ℕ, ◌≤◌, not, ◌∷◌, refl, sym, ap, ◌∙◌, inl, inr, ◌+◌, and}
-use Rattle.textwrap_text.proofs.Common.{eqb-true, list_all, IsPrintableByte}
-use Rattle.unicode.specs.LineBreak.{line_break_number}
+use Rattle.textwrap_classes.proofs.Common.{[], slice_index_or, if◌then◌else◌, cases_Bool}
+use Rattle.textwrap_classes.proofs.Common.{is_after_text, nat_tests, and_parts, is_opening, ◌≡◌}
+use Rattle.textwrap_classes.proofs.Common.{list_any, not-true, add-one, is_blank, is_space, is_mark}
+use Rattle.textwrap_classes.proofs.Common.{class_of, unit_of, false, nat_lt, get_or, ◌==◌, ◌&&◌}
+use Rattle.textwrap_classes.proofs.Common.{◌||◌, Bool, true, List, arith, subst, ℕ, ◌≤◌, not, ◌∷◌}
+use Rattle.textwrap_classes.proofs.Common.{refl, sym, ap, ◌∙◌, inl, inr, ◌+◌}
+use Rattle.textwrap_unicode.proofs.Common.{may_follow_blanks, class_past_blanks, is_any_hyphen}
+use Rattle.textwrap_unicode.proofs.Common.{is_unusual, before_of, may_end, decide, Before, nothing}
+use Rattle.textwrap_unicode.proofs.Common.{and}
+use Rattle.unicode.specs.declared.properties.LineBreak.TheVariants.{Alphabetic, Space}
 use Rattle.unicode.specs.declared.properties.LineBreak.TheVariants.{CloseParenthesis, PrefixNumeric}
 use Rattle.unicode.specs.declared.properties.LineBreak.TheVariants.{BreakSymbols, ClosePunctuation}
 use Rattle.unicode.specs.declared.properties.LineBreak.TheVariants.{OpenPunctuation, PostfixNumeric}
 use Rattle.unicode.specs.declared.properties.LineBreak.TheVariants.{Exclamation, InfixNumeric}
 use Rattle.unicode.specs.declared.properties.LineBreak.TheVariants.{BreakAfter, Numeric, Quotation}
 use Rattle.unicode.specs.declared.properties.LineBreak.TheVariants.{Hyphen, Unknown}
+use Rattle.unicode.specs.declared.properties.LineBreak.{LineBreak}
+use Rattle.textwrap_text.proofs.Common.{eqb-true, list_all, IsPrintableByte}
+use Rattle.unicode.specs.LineBreak.{line_break_number}
 use Rattle.unicode.proofs.BreaksComputing.{ucd_breaks}
 use Rattle.unicode.proofs.CategoryComputing.{ucd_category}
 use Rattle.unicode.proofs.Facts.{Stepped-below}
 use Rattle.unicode.proofs.LineBreakLemmas.{line_break_number_injective}
 use Rattle.textwrap_unicode.specs.declared.pairs.TheConstants.{KINDS, UNUSUAL_AFTER}
-use Rattle.textwrap_unicode.specs.ClassSets.{is_regional_indicator}
-use Rattle.textwrap_unicode.specs.ClassSets.{is_hebrew, is_zwj}
-use Rattle.textwrap_unicode.proofs.ClassLemmas.{agree, agree-same, class_stepped, past-first}
+use Rattle.textwrap_classes.specs.ClassSets.{is_regional_indicator, is_hebrew, is_zwj}
+use Rattle.textwrap_classes.proofs.ClassLemmas.{agree, agree-same, class_stepped, past-first}
 use Rattle.std.specs.Prelude.{bit_and}
 use Rattle.textwrap_unicode.specs.Pairs.{behind_classes, is_cut_behind}
 use Rattle.textwrap_unicode.proofs.WordVerdicts.{ascii-is, unit_with}

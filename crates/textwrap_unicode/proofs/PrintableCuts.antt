@@ -1,14 +1,16 @@
 -- A printable text is cut where its bytes say so, also past blanks.
 use Rattle.std.proofs.lemmas.Bool.{not-false, or_right, agree_below, agree_below_at}
-use Rattle.textwrap_unicode.proofs.Common.{ap, class_past_blanks, may_follow_blanks, slice_index_or}
-use Rattle.textwrap_unicode.proofs.Common.{if◌then◌else◌, cases_Bool, is_after_text, is_any_hyphen}
-use Rattle.textwrap_unicode.proofs.Common.{and_parts, true≢false, is_opening, is_unusual, LineBreak}
-use Rattle.textwrap_unicode.proofs.Common.{zero, not-true, cases_lt, before_of, and-false}
-use Rattle.textwrap_unicode.proofs.Common.{is_blank, is_space, class_of, unit_of, IsUsual, cut_here}
-use Rattle.textwrap_unicode.proofs.Common.{false, length, get_or, encode, ByPairs, nothing, may_end}
-use Rattle.textwrap_unicode.proofs.Common.{true, List, take, refl, arith, [], subst, Before, decide}
-use Rattle.textwrap_unicode.proofs.Common.{◌≡◌, ℕ, suc, ◌+◌, ◌-◌, ◌<◌, ◌&&◌, Bool, ◌++◌, drop, ◌==◌}
-use Rattle.textwrap_unicode.proofs.Common.{◌≤◌, inl, inr, sym, ◌∙◌, not, ◌∷◌, map, and}
+use Rattle.textwrap_classes.proofs.Common.{ap, slice_index_or, if◌then◌else◌, cases_Bool}
+use Rattle.textwrap_classes.proofs.Common.{is_after_text, and_parts, true≢false, is_opening, zero}
+use Rattle.textwrap_classes.proofs.Common.{not-true, cases_lt, and-false, is_blank, is_space}
+use Rattle.textwrap_classes.proofs.Common.{class_of, unit_of, false, length, get_or, encode, true}
+use Rattle.textwrap_classes.proofs.Common.{List, take, refl, arith, [], subst, ◌≡◌, ℕ, suc, ◌+◌}
+use Rattle.textwrap_classes.proofs.Common.{◌-◌, ◌<◌, ◌&&◌, Bool, ◌++◌, drop, ◌==◌, ◌≤◌, inl, inr}
+use Rattle.textwrap_classes.proofs.Common.{sym, ◌∙◌, not, ◌∷◌, map}
+use Rattle.textwrap_unicode.proofs.Common.{class_past_blanks, may_follow_blanks, is_any_hyphen}
+use Rattle.textwrap_unicode.proofs.Common.{is_unusual, before_of, IsUsual, cut_here, ByPairs}
+use Rattle.textwrap_unicode.proofs.Common.{nothing, may_end, Before, decide, and}
+use Rattle.unicode.specs.declared.properties.LineBreak.{LineBreak}
 use Rattle.textwrap_text.proofs.Common.{length-take-le, false_from_ne_true, is_ascii_alphanumeric}
 use Rattle.textwrap_text.proofs.Common.{get_or-drop, get_or-take, chars-IsAscii, IsUtf8-from_ascii}
 use Rattle.textwrap_text.proofs.Common.{add-zero, length-drop, eqb-true, false≢true, IsPrintable}

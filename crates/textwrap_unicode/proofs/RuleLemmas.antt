@@ -1,16 +1,20 @@
 -- The sets of classes, and what the rules come to after each class.
 use Rattle.std.proofs.lemmas.Bool.{true_from_ne_false, cond-false, cond-true, or_left}
-use Rattle.textwrap_unicode.proofs.Common.{cases_Bool, if◌then◌else◌, takes_no_mark, []}
-use Rattle.textwrap_unicode.proofs.Common.{first_class, takes_marks, is_after_text, Alphabetic}
-use Rattle.textwrap_unicode.proofs.Common.{Prohibited, LineBreak, with_unit, as_letter, Mandatory}
-use Rattle.textwrap_unicode.proofs.Common.{decide_by, not-true, is_mark, is_space, false, arith}
-use Rattle.textwrap_unicode.proofs.Common.{Space, Before, Verdict, Allowed, Bool, true, refl, ◌||◌}
-use Rattle.textwrap_unicode.proofs.Common.{List, ap, Unit, Text, ◌≡◌, sym, ◌∷◌, ◌∙◌, ◌≢◌}
+use Rattle.textwrap_classes.proofs.Common.{cases_Bool, if◌then◌else◌, takes_no_mark, []}
+use Rattle.textwrap_classes.proofs.Common.{is_after_text, not-true, is_mark, is_space, false, arith}
+use Rattle.textwrap_classes.proofs.Common.{Bool, true, refl, ◌||◌, List, ap, ◌≡◌, sym, ◌∷◌, ◌∙◌}
+use Rattle.textwrap_classes.proofs.Common.{◌≢◌}
+use Rattle.textwrap_unicode.proofs.Common.{first_class, takes_marks, Prohibited, with_unit}
+use Rattle.textwrap_unicode.proofs.Common.{as_letter, Mandatory, decide_by, Before, Verdict}
+use Rattle.textwrap_unicode.proofs.Common.{Allowed, Text}
+use Rattle.unicode.specs.declared.properties.LineBreak.TheVariants.{Alphabetic, Space}
 use Rattle.unicode.specs.declared.properties.LineBreak.TheVariants.{CarriageReturn, MandatoryBreak}
 use Rattle.unicode.specs.declared.properties.LineBreak.TheVariants.{CombiningMark, LineFeed, Zwj}
 use Rattle.unicode.specs.declared.properties.LineBreak.TheVariants.{NextLine, ZWSpace}
+use Rattle.unicode.specs.declared.properties.LineBreak.{LineBreak}
+use Rattle.textwrap_classes.specs.declared.classes.Unit.{Unit}
 use Rattle.textwrap_unicode.specs.Before.{class_past_spaces}
-use Rattle.textwrap_unicode.specs.ClassSets.{is_carriage_return, is_line_end, is_zero_width_space}
+use Rattle.textwrap_classes.specs.ClassSets.{is_carriage_return, is_line_end, is_zero_width_space}
 use Rattle.textwrap_unicode.specs.Rules.{Rule, Saying, first_said, is_glued, is_kept, rules, lb4}
 use Rattle.textwrap_unicode.specs.Rules.{lb8, lb9}
 

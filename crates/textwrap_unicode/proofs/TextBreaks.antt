@@ -1,12 +1,12 @@
 -- The breaks of a text that the definition computes are those that the rules name.
-use Rattle.textwrap_unicode.proofs.Common.{append_assoc, length-append}
-use Rattle.textwrap_unicode.proofs.Common.{cases_Bool, Numbers, verdict_by, breaks_from, Prohibited}
-use Rattle.textwrap_unicode.proofs.Common.{ℕ, with_unit, breaks_by, Mandatory}
-use Rattle.textwrap_unicode.proofs.Common.{Verdict, is_empty, nothing, break_at, unit_of}
-use Rattle.textwrap_unicode.proofs.Common.{false, length, subst, encode, Allowed, IsUtf8}
-use Rattle.textwrap_unicode.proofs.Common.{Bool, true, List, ◌++◌, refl, take, arith, chars}
-use Rattle.textwrap_unicode.proofs.Common.{◌≡◌, inl, inr, ◌∷◌, map, sym, ◌∙◌, ◌≢◌, ◌+◌, Unit, Text}
-use Rattle.textwrap_unicode.proofs.Common.{[], ap, ◌↔◌, ◌<◌, ◌≤◌}
+use Rattle.textwrap_classes.proofs.Common.{append_assoc, length-append, cases_Bool, ℕ, unit_of}
+use Rattle.textwrap_classes.proofs.Common.{false, length, subst, encode, IsUtf8, Bool, true, List}
+use Rattle.textwrap_classes.proofs.Common.{◌++◌, refl, take, arith, chars, ◌≡◌, inl, inr, ◌∷◌, map}
+use Rattle.textwrap_classes.proofs.Common.{sym, ◌∙◌, ◌≢◌, ◌+◌, [], ap, ◌↔◌, ◌<◌, ◌≤◌}
+use Rattle.textwrap_unicode.proofs.Common.{Numbers, verdict_by, breaks_from, Prohibited, with_unit}
+use Rattle.textwrap_unicode.proofs.Common.{breaks_by, Mandatory, Verdict, is_empty, nothing}
+use Rattle.textwrap_unicode.proofs.Common.{break_at, Allowed, Text}
+use Rattle.textwrap_classes.specs.declared.classes.Unit.{Unit}
 use Rattle.textwrap_text.proofs.Common.{encodes-append, encodes-chars, IsCharBoundary-from_take}
 use Rattle.textwrap_text.proofs.Common.{◌⊎◌, map-append, chars-nil}
 use Rattle.std.specs.List.{fold, Contains}

@@ -1,14 +1,15 @@
 -- Places of a printable text where it is cut as at its blanks, told from two bytes.
-use Rattle.textwrap_unicode.proofs.Common.{◌≡◌, is_after_text, class_past_blanks, may_follow_blanks}
-use Rattle.textwrap_unicode.proofs.Common.{cases_Bool, cases_lt, true≢false, is_opening, is_unusual}
-use Rattle.textwrap_unicode.proofs.Common.{length, and-false, is_blank, is_space, class_of, IsUsual}
-use Rattle.textwrap_unicode.proofs.Common.{zero, suc, ◌&&◌, true, false, Bool, get_or, arith, subst}
-use Rattle.textwrap_unicode.proofs.Common.{◌-◌, ◌<◌, ◌↔◌, not, List, refl, sym, ◌∙◌, ◌+◌, ◌≤◌, inl}
-use Rattle.textwrap_unicode.proofs.Common.{ℕ, ap, inr}
+use Rattle.textwrap_classes.proofs.Common.{◌≡◌, is_after_text, cases_Bool, cases_lt, true≢false}
+use Rattle.textwrap_classes.proofs.Common.{is_opening, length, and-false, is_blank, is_space}
+use Rattle.textwrap_classes.proofs.Common.{class_of, zero, suc, ◌&&◌, true, false, Bool, get_or}
+use Rattle.textwrap_classes.proofs.Common.{arith, subst, ◌-◌, ◌<◌, ◌↔◌, not, List, refl, sym, ◌∙◌}
+use Rattle.textwrap_classes.proofs.Common.{◌+◌, ◌≤◌, inl, ℕ, ap, inr}
+use Rattle.textwrap_unicode.proofs.Common.{class_past_blanks, may_follow_blanks, is_unusual}
+use Rattle.textwrap_unicode.proofs.Common.{IsUsual}
 use Rattle.std.proofs.Math.Bool.{and-true}
 use Rattle.std.proofs.lemmas.Bool.{or_parts}
 use Rattle.textwrap_text.proofs.Common.{IsPrintable}
-use Rattle.textwrap_unicode.specs.ClassSets.{is_quotation}
+use Rattle.textwrap_classes.specs.ClassSets.{is_quotation}
 use Rattle.textwrap_unicode.specs.Pairs.{at_breaks}
 use Rattle.textwrap_unicode.proofs.PrintableCuts.{past-blank, past-byte, space-at, cut-told}
 use Rattle.textwrap_unicode.proofs.PrintableBytes.{class-space, unusual-space}

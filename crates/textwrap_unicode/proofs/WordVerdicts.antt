@@ -1,28 +1,32 @@
 -- What the rules say behind letters and ideographs, over which a line is read all at once.
-use Rattle.textwrap_unicode.proofs.Common.{false, is_behind_blank, is_behind_sign, ideograph_places}
-use Rattle.textwrap_unicode.proofs.Common.{Alphabetic, if◌then◌else◌, IsPlainLetter, slice_index_or}
-use Rattle.textwrap_unicode.proofs.Common.{append_assoc, is_any_hyphen, numbers_rule, IsIdeographAt}
-use Rattle.textwrap_unicode.proofs.Common.{get_or, append-nil, word_starts, Ideographic}
-use Rattle.textwrap_unicode.proofs.Common.{nat_tests, IsWordByte, LineBreak, Ambiguous, decide_by}
-use Rattle.textwrap_unicode.proofs.Common.{add-one, is_space, class_of, unit_of, CLASSES, cut_here}
-use Rattle.textwrap_unicode.proofs.Common.{subst, length, Before, Numbers, ByPairs, may_end}
-use Rattle.textwrap_unicode.proofs.Common.{◌≡◌, zero, ◌&&◌, List, ◌++◌, arith, Space, chars, encode}
-use Rattle.textwrap_unicode.proofs.Common.{suc, ◌+◌, ◌<◌, refl, ◌==◌, ◌||◌, Bool, true, drop, Unit}
-use Rattle.textwrap_unicode.proofs.Common.{ℕ, [], ◌∷◌, sym, ap, ◌∙◌, cases_Bool, ◌≤◌, ◌*◌, and}
+use Rattle.textwrap_classes.proofs.Common.{false, ideograph_places, if◌then◌else◌, slice_index_or}
+use Rattle.textwrap_classes.proofs.Common.{append_assoc, IsIdeographAt, get_or, append-nil}
+use Rattle.textwrap_classes.proofs.Common.{nat_tests, add-one, is_space, class_of, unit_of, subst}
+use Rattle.textwrap_classes.proofs.Common.{length, ◌≡◌, zero, ◌&&◌, List, ◌++◌, arith, chars}
+use Rattle.textwrap_classes.proofs.Common.{encode, suc, ◌+◌, ◌<◌, refl, ◌==◌, ◌||◌, Bool, true}
+use Rattle.textwrap_classes.proofs.Common.{drop, ℕ, [], ◌∷◌, sym, ap, ◌∙◌, cases_Bool, ◌≤◌, ◌*◌}
+use Rattle.textwrap_unicode.proofs.Common.{is_behind_blank, is_behind_sign, IsPlainLetter}
+use Rattle.textwrap_unicode.proofs.Common.{is_any_hyphen, numbers_rule, word_starts, IsWordByte}
+use Rattle.textwrap_unicode.proofs.Common.{decide_by, cut_here, Before, Numbers, ByPairs, may_end}
+use Rattle.textwrap_unicode.proofs.Common.{and}
+use Rattle.unicode.specs.declared.properties.LineBreak.TheVariants.{Alphabetic, Ideographic}
+use Rattle.unicode.specs.declared.properties.LineBreak.TheVariants.{Ambiguous, Space, InfixNumeric}
+use Rattle.unicode.specs.declared.properties.LineBreak.{LineBreak}
+use Rattle.textwrap_classes.specs.declared.ascii.TheConstants.{CLASSES}
+use Rattle.textwrap_classes.specs.declared.classes.Unit.{Unit}
 use Rattle.textwrap_text.proofs.Common.{add-zero, eqb, drop_more, length-encode, visible_in}
-use Rattle.textwrap_unicode.specs.ClassSets.{is_infix, is_letter}
+use Rattle.textwrap_classes.specs.ClassSets.{is_infix, is_letter}
 use Rattle.textwrap_unicode.specs.WordStarts.{IsWordClass}
-use Rattle.unicode.specs.declared.properties.LineBreak.TheVariants.{InfixNumeric}
 use Rattle.textwrap_unicode.specs.declared.numbers.Numbers.TheVariants.{ByExpression}
 use Rattle.textwrap_unicode.specs.BreaksLeft.{and_words}
 use Rattle.textwrap_unicode.proofs.BreakLemmas.{in_word}
-use Rattle.textwrap_unicode.proofs.ClassLemmas.{ascii-unit}
+use Rattle.textwrap_classes.proofs.ClassLemmas.{ascii-unit}
 use Rattle.std.proofs.lemmas.Str.{encode_ascii}
 use Rattle.textwrap_text.proofs.Units.Reading.{plain-step}
 use Rattle.textwrap_text.specs.declared.escapes.State.TheVariants.{Text}
 use Rattle.textwrap_unicode.proofs.CutLemmas.{IsCutting, IsCutting-step}
 use Rattle.std.specs.Char.{len_utf8}
-use Rattle.textwrap_unicode.specs.Ideographs.{IsCommonIdeograph, wide_ideograph}
+use Rattle.textwrap_classes.specs.Ideographs.{IsCommonIdeograph, wide_ideograph}
 
 -- ---- letters behind a letter, which are passed all at once
 

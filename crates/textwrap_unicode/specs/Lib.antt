@@ -1,5 +1,3 @@
-pub mod ClassSets
-pub mod Classes
 pub mod Before
 pub mod Rules
 pub mod Breaks
@@ -8,4 +6,3 @@ pub mod Cuts
 pub mod Pairs
 pub mod WordStarts
 pub mod Laws
-pub mod Ideographs

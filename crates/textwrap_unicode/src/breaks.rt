@@ -6,10 +6,10 @@ ghost use Rattle.textwrap_unicode.specs.BreaksLeft.{breaks_after};
 ghost use Rattle.textwrap_unicode.specs.declared.breaks.LineBreak.{LineBreak};
 
 use crate::before::Before;
-use crate::classes::Unit;
 use crate::numbers::{Numbers, decide_in};
 use crate::rules::Verdict;
 use std::marker::Model;
+use textwrap_classes::classes::Unit;
 
 /// A place of a text where a line may or must end.
 #[derive(Clone, Copy, Debug, PartialEq, Eq)]

@@ -7,20 +7,20 @@ ghost use Rattle.textwrap_text.specs.Escapes.{visible_in};
 ghost use Rattle.textwrap_unicode.specs.Cuts.{cuts_by, may_end, unicode_cuts};
 ghost use Rattle.textwrap_unicode.specs.WordStarts.{IsPlainLetter, IsWordByte, IsWordClass};
 ghost use Rattle.textwrap_unicode.specs.WordStarts.{is_behind_blank, is_behind_sign, word_starts};
-ghost use Rattle.textwrap_unicode.specs.Ideographs.{IsIdeographAt, ideograph_places};
-ghost use Rattle.textwrap_unicode.specs.ClassSets.{is_infix, is_letter, is_space};
-ghost use Rattle.textwrap_unicode.specs.Classes.{class_of};
+ghost use Rattle.textwrap_classes.specs.Ideographs.{IsIdeographAt, ideograph_places};
+ghost use Rattle.textwrap_classes.specs.ClassSets.{is_infix, is_letter, is_space};
+ghost use Rattle.textwrap_classes.specs.Classes.{class_of};
 ghost use Rattle.textwrap_unicode.specs.declared.numbers.Numbers.TheVariants.{ByExpression};
 ghost use Rattle.textwrap_words.specs.Cuts.{AreInnerCuts};
 ghost use Rattle.textwrap_words.specs.WordOffsets.{is_any_hyphen};
 
-use crate::ascii::CLASSES;
 use crate::before::Before;
-use crate::class_sets::{is_letter, is_space};
-use crate::classes::{Unit, is_common_ideograph};
 use crate::numbers::{Numbers, decide_among_visible};
 use crate::rules::Verdict;
 use std::alloc::{AllocError, Global};
+use textwrap_classes::ascii::CLASSES;
+use textwrap_classes::class_sets::{is_letter, is_space};
+use textwrap_classes::classes::{Unit, is_common_ideograph};
 use textwrap_text::escapes::State;
 use unicode::properties::LineBreak;
 

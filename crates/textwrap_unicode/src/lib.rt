@@ -7,14 +7,10 @@
 //! a later version; classes that the rules do not know are taken as what their characters were.
 #![tactic(auto)]
 
-mod ascii;
 mod before;
 pub mod breaks;
-mod class_sets;
-mod classes;
 pub mod cuts;
 pub mod inner;
-mod japanese;
 pub mod laws;
 mod numbers;
 mod pairs;

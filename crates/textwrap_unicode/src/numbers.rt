@@ -4,9 +4,9 @@ ghost use Rattle.textwrap_text.specs.Escapes.{visible_in};
 ghost use Rattle.textwrap_unicode.specs.Rules.{decide_by, number_first, numbers_rule};
 
 use crate::before::Before;
-use crate::class_sets::{is_mark, is_number};
-use crate::classes::{Unit, class_of};
 use crate::rules::{Verdict, asks_behind, decide, decide_by_expression};
+use textwrap_classes::class_sets::{is_mark, is_number};
+use textwrap_classes::classes::{Unit, class_of};
 use textwrap_text::characters::Characters;
 use textwrap_text::escapes::State;
 

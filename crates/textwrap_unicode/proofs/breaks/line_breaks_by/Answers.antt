@@ -1,4 +1,5 @@
-use Rattle.textwrap_unicode.proofs.Common.{chars, ap, ◌∙◌, nothing, breaks_after}
+use Rattle.textwrap_classes.proofs.Common.{chars, ap, ◌∙◌}
+use Rattle.textwrap_unicode.proofs.Common.{nothing, breaks_after}
 use Rattle.textwrap_unicode.proofs.breaks.line_breaks_by.Goals as goal
 use Rattle.textwrap_unicode.proofs.BreakLemmas.{breaks_after-from}
 

@@ -1,5 +1,5 @@
-use Rattle.textwrap_unicode.proofs.Common.{ap}
-use Rattle.textwrap_unicode.proofs.ClassLemmas.{ascii-unit}
+use Rattle.textwrap_classes.proofs.Common.{ap}
+use Rattle.textwrap_classes.proofs.ClassLemmas.{ascii-unit}
 use Rattle.textwrap_unicode.proofs.cuts.ascii_class.Goals as goal
 
 pub returns : goal.returns

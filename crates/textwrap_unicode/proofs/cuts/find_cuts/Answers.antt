@@ -1,7 +1,7 @@
-use Rattle.textwrap_unicode.proofs.Common.{slice_index, ◌++◌, append-nil, true≢false, IsIdeographAt}
-use Rattle.textwrap_unicode.proofs.Common.{length, subst, breaks_by, may_end, IsWordByte, read-next}
-use Rattle.textwrap_unicode.proofs.Common.{◌≡◌, ◌<◌, ◌*◌, ◌+◌, drop, ap, ◌∙◌, sym, refl, arith, and}
-use Rattle.textwrap_unicode.proofs.Common.{ℕ}
+use Rattle.textwrap_classes.proofs.Common.{slice_index, ◌++◌, append-nil, true≢false, IsIdeographAt}
+use Rattle.textwrap_classes.proofs.Common.{length, subst, read-next, ◌≡◌, ◌<◌, ◌*◌, ◌+◌, drop, ap}
+use Rattle.textwrap_classes.proofs.Common.{◌∙◌, sym, refl, arith, ℕ}
+use Rattle.textwrap_unicode.proofs.Common.{breaks_by, may_end, IsWordByte, and}
 use Rattle.textwrap_text.proofs.Common.{drop-drop}
 use Rattle.std.specs.Prelude.{encode_utf8}
 use Rattle.std.specs.Str.Iter.{chars_rest}

@@ -1,5 +1,5 @@
-use Rattle.textwrap_unicode.proofs.Common.{arith}
-use Rattle.textwrap_unicode.proofs.ClassLemmas.{ascii-unit}
+use Rattle.textwrap_classes.proofs.Common.{arith}
+use Rattle.textwrap_classes.proofs.ClassLemmas.{ascii-unit}
 use Rattle.textwrap_unicode.proofs.cuts.is_plain_letter.Goals as goal
 
 pub returns-in-Alphabetic : goal.returns-in-Alphabetic

@@ -1,7 +1,7 @@
-use Rattle.textwrap_unicode.proofs.Common.{◌++◌, length-append, char_indices_rest, ideograph_places}
-use Rattle.textwrap_unicode.proofs.Common.{length, add-one, append_assoc, cases_lt, IsIdeographAt}
-use Rattle.textwrap_unicode.proofs.Common.{◌≡◌, ◌+◌, ◌*◌, ◌∷◌, drop, sym, ◌∙◌, subst, arith, encode}
-use Rattle.textwrap_unicode.proofs.Common.{[], ap, inl, inr}
+use Rattle.textwrap_classes.proofs.Common.{◌++◌, length-append, char_indices_rest, ideograph_places}
+use Rattle.textwrap_classes.proofs.Common.{length, add-one, append_assoc, cases_lt, IsIdeographAt}
+use Rattle.textwrap_classes.proofs.Common.{◌≡◌, ◌+◌, ◌*◌, ◌∷◌, drop, sym, ◌∙◌, subst, arith, encode}
+use Rattle.textwrap_classes.proofs.Common.{[], ap, inl, inr}
 use Rattle.textwrap_text.proofs.Common.{length-drop, length-encode}
 use Rattle.std.proofs.lemmas.Str.{drop_past_char}
 use Rattle.textwrap_unicode.proofs.WordVerdicts.{three-bytes}

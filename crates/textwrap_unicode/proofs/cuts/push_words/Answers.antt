@@ -1,10 +1,11 @@
-use Rattle.textwrap_unicode.proofs.Common.{if◌then◌else◌, cases_lt, is_behind_blank, is_behind_sign}
-use Rattle.textwrap_unicode.proofs.Common.{ℕ, append_assoc, slice_index, IsPlainLetter, word_starts}
-use Rattle.textwrap_unicode.proofs.Common.{◌≡◌, add-one, append-nil, is_space, class_of, IsWordByte}
-use Rattle.textwrap_unicode.proofs.Common.{◌++◌, ◌+◌, ◌||◌, Bool, true, false, cases_Bool, subst, arith}
-use Rattle.textwrap_unicode.proofs.Common.{◌-◌, ◌<◌, inl, inr, [], ◌∷◌, sym, ap, ◌∙◌}
+use Rattle.textwrap_classes.proofs.Common.{if◌then◌else◌, cases_lt, ℕ, append_assoc, slice_index}
+use Rattle.textwrap_classes.proofs.Common.{◌≡◌, add-one, append-nil, is_space, class_of, ◌++◌, ◌+◌}
+use Rattle.textwrap_classes.proofs.Common.{◌||◌, Bool, true, false, cases_Bool, subst, arith, ◌-◌}
+use Rattle.textwrap_classes.proofs.Common.{◌<◌, inl, inr, [], ◌∷◌, sym, ap, ◌∙◌}
+use Rattle.textwrap_unicode.proofs.Common.{is_behind_blank, is_behind_sign, IsPlainLetter}
+use Rattle.textwrap_unicode.proofs.Common.{word_starts, IsWordByte}
 use Rattle.textwrap_text.proofs.Common.{cases_eq}
-use Rattle.textwrap_unicode.specs.ClassSets.{is_infix, is_letter}
+use Rattle.textwrap_classes.specs.ClassSets.{is_infix, is_letter}
 use Rattle.textwrap_unicode.proofs.WordVerdicts.{letters-same}
 use Rattle.textwrap_unicode.proofs.cuts.push_words.Goals as goal
 use Rattle.textwrap_unicode.proofs.cuts.push_words.Goals.{then-is_start+in_ok-push, else-is_start}

@@ -1,5 +1,5 @@
-use Rattle.textwrap_unicode.proofs.Common.{arith, length, chars, is_mark, is_number, number_first}
-use Rattle.textwrap_unicode.proofs.Common.{sym, ap, ◌∙◌}
+use Rattle.textwrap_classes.proofs.Common.{arith, length, chars, is_mark, is_number, sym, ap, ◌∙◌}
+use Rattle.textwrap_unicode.proofs.Common.{number_first}
 use Rattle.textwrap_text.proofs.Common.{YieldsList-from_chars, YieldsList-turn, YieldsList-end}
 use Rattle.textwrap_text.proofs.Common.{at_drop_all, length_push}
 use Rattle.textwrap_unicode.proofs.BreakLemmas.{number-step}

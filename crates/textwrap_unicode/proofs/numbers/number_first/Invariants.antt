@@ -1,4 +1,5 @@
-use Rattle.textwrap_unicode.proofs.Common.{◌≡◌, drop, length, chars, number_first}
+use Rattle.textwrap_classes.proofs.Common.{◌≡◌, drop, length, chars}
+use Rattle.textwrap_unicode.proofs.Common.{number_first}
 use Rattle.textwrap_unicode.proofs.numbers.number_first.Given as goal
 
 -- the characters to come give the answer

@@ -1,4 +1,5 @@
-use Rattle.textwrap_unicode.proofs.Common.{ap, chars, number_first}
+use Rattle.textwrap_classes.proofs.Common.{ap, chars}
+use Rattle.textwrap_unicode.proofs.Common.{number_first}
 use Rattle.textwrap_unicode.proofs.numbers.shown_number_first.Goals as goal
 use Rattle.textwrap_text.proofs.Units.Characters.{shown-from}
 

@@ -1,4 +1,5 @@
-use Rattle.textwrap_unicode.proofs.Common.{◌≡◌, chars, number_first, visible_in}
+use Rattle.textwrap_classes.proofs.Common.{◌≡◌, chars, visible_in}
+use Rattle.textwrap_unicode.proofs.Common.{number_first}
 use Rattle.textwrap_unicode.proofs.numbers.shown_number_first.Given as goal
 use Rattle.textwrap_text.specs.Characters.{shown}
 use Rattle.textwrap_text.specs.CharactersLeft.{characters_left}

@@ -1,6 +1,7 @@
-use Rattle.textwrap_unicode.proofs.Common.{◌+◌, and_from, and_parts, cases_lt, not-true, is_unusual}
-use Rattle.textwrap_unicode.proofs.Common.{◌-◌, ◌∙◌, ◌≡◌, arith, false, get_or, inl, refl, subst, ℕ}
-use Rattle.textwrap_unicode.proofs.Common.{ap, inr, not, sym}
+use Rattle.textwrap_classes.proofs.Common.{◌+◌, and_from, and_parts, cases_lt, not-true, ◌-◌, ◌∙◌}
+use Rattle.textwrap_classes.proofs.Common.{◌≡◌, arith, false, get_or, inl, refl, subst, ℕ, ap, inr}
+use Rattle.textwrap_classes.proofs.Common.{not, sym}
+use Rattle.textwrap_unicode.proofs.Common.{is_unusual}
 use Rattle.textwrap_unicode.proofs.pairs.is_block_usual.Goals as goal
 
 pub loop-offset-init : goal.loop-offset-init

@@ -1,7 +1,6 @@
-use Rattle.textwrap_unicode.proofs.Common.{ap}
-use Rattle.textwrap_unicode.proofs.Common.{◌≡◌, get_or, arith, ne_eqb, is_blank}
-use Rattle.textwrap_unicode.proofs.Common.{◌-◌, true, sym, ◌∙◌}
-use Rattle.textwrap_unicode.proofs.ClassLemmas.{ascii-unit}
+use Rattle.textwrap_classes.proofs.Common.{ap, ◌≡◌, get_or, arith, ne_eqb, is_blank, ◌-◌, true, sym}
+use Rattle.textwrap_classes.proofs.Common.{◌∙◌}
+use Rattle.textwrap_classes.proofs.ClassLemmas.{ascii-unit}
 use Rattle.textwrap_unicode.proofs.PrintableCuts.{cut-told}
 use Rattle.textwrap_unicode.proofs.pairs.is_cut_between.Goals as goal
 

@@ -1,4 +1,5 @@
-use Rattle.textwrap_unicode.proofs.Common.{ℕ, ◌-◌, ◌<◌, IsUsual}
+use Rattle.textwrap_classes.proofs.Common.{ℕ, ◌-◌, ◌<◌}
+use Rattle.textwrap_unicode.proofs.Common.{IsUsual}
 use Rattle.textwrap_unicode.proofs.pairs.is_usual_up_to.Given as goal
 
 abbrev pub invariant-loop-place : goal.invariant-loop-place

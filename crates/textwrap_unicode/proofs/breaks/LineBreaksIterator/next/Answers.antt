@@ -1,5 +1,6 @@
-use Rattle.textwrap_unicode.proofs.Common.{true, length, char_indices_rest, read-next, breaks_after}
-use Rattle.textwrap_unicode.proofs.Common.{◌+◌, ◌∷◌, refl, sym, ap, ◌∙◌, arith, chars, and}
+use Rattle.textwrap_classes.proofs.Common.{true, length, char_indices_rest, read-next, ◌+◌, ◌∷◌}
+use Rattle.textwrap_classes.proofs.Common.{refl, sym, ap, ◌∙◌, arith, chars}
+use Rattle.textwrap_unicode.proofs.Common.{breaks_after, and}
 use Rattle.textwrap_text.proofs.Common.{rules}
 use Rattle.std.specs.Str.Iter.{char_indices_offset}
 use Rattle.textwrap_unicode.proofs.breaks.LineBreaksIterator.next.Goals as goal

@@ -1,4 +1,4 @@
-use Rattle.textwrap_unicode.proofs.Common.{◌≡◌, true, char_indices_rest}
+use Rattle.textwrap_classes.proofs.Common.{◌≡◌, true, char_indices_rest}
 use Rattle.std.specs.Str.Iter.{char_indices_offset}
 use Rattle.textwrap_unicode.proofs.breaks.LineBreaksIterator.next.Given as goal
 use Rattle.textwrap_unicode.proofs.BreakLemmas.{IsReading, in_word}

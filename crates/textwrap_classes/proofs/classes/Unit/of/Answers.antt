@@ -1,5 +1,5 @@
-use Rattle.textwrap_unicode.proofs.ClassLemmas.{ascii-unit, ideograph-unit}
-use Rattle.textwrap_unicode.proofs.classes.Unit.of.Goals as goal
+use Rattle.textwrap_classes.proofs.ClassLemmas.{ascii-unit, ideograph-unit}
+use Rattle.textwrap_classes.proofs.classes.Unit.of.Goals as goal
 
 pub returns-then-code-lt128 : goal.returns-then-code-lt128
 returns-then-code-lt128 c = ascii-unit c.args.c c.if-code-lt128.true

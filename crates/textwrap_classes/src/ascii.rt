@@ -2,7 +2,7 @@
 use unicode::properties::LineBreak;
 use unicode::properties::LineBreak::*;
 
-pub(crate) static CLASSES: [LineBreak; 128] = [
+pub static CLASSES: [LineBreak; 128] = [
     CombiningMark,
     CombiningMark,
     CombiningMark,

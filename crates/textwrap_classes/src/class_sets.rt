@@ -1,54 +1,54 @@
 //! The sets of classes that the rules of line breaking speak of.
 ghost use Rattle.std.specs.Prelude.{◌≡◌};
-ghost use Rattle.textwrap_unicode.specs.ClassSets.{is_mark, is_zwj, is_space};
-ghost use Rattle.textwrap_unicode.specs.ClassSets.{is_regional_indicator, takes_no_mark};
-ghost use Rattle.textwrap_unicode.specs.ClassSets.{is_line_end, is_carriage_return, is_line_feed};
-ghost use Rattle.textwrap_unicode.specs.ClassSets.{is_zero_width_space, is_word_joiner, is_glue};
-ghost use Rattle.textwrap_unicode.specs.ClassSets.{breaks_before_glue, is_closing, is_after_text};
-ghost use Rattle.textwrap_unicode.specs.ClassSets.{is_opening, is_quotation, is_nonstarter};
-ghost use Rattle.textwrap_unicode.specs.ClassSets.{breaks_on_both_sides, is_contingent};
-ghost use Rattle.textwrap_unicode.specs.ClassSets.{is_never_first, is_before_text, is_hebrew};
-ghost use Rattle.textwrap_unicode.specs.ClassSets.{is_hyphen, is_symbol, is_inseparable, is_letter};
-ghost use Rattle.textwrap_unicode.specs.ClassSets.{is_number, is_prefix, is_postfix, is_affix};
-ghost use Rattle.textwrap_unicode.specs.ClassSets.{is_ideograph, ends_number, leads_to_number};
-ghost use Rattle.textwrap_unicode.specs.ClassSets.{is_jamo, is_leading_jamo, follows_leading};
-ghost use Rattle.textwrap_unicode.specs.ClassSets.{ends_in_vowel, follows_vowel, ends_in_trailing};
-ghost use Rattle.textwrap_unicode.specs.ClassSets.{is_trailing_jamo, is_infix, is_letter_or_number};
-ghost use Rattle.textwrap_unicode.specs.ClassSets.{is_close_parenthesis, is_emoji_base};
-ghost use Rattle.textwrap_unicode.specs.ClassSets.{is_emoji_modifier, opens_number};
-ghost use Rattle.textwrap_unicode.specs.ClassSets.{is_inside_number, goes_on_number};
+ghost use Rattle.textwrap_classes.specs.ClassSets.{is_mark, is_zwj, is_space};
+ghost use Rattle.textwrap_classes.specs.ClassSets.{is_regional_indicator, takes_no_mark};
+ghost use Rattle.textwrap_classes.specs.ClassSets.{is_line_end, is_carriage_return, is_line_feed};
+ghost use Rattle.textwrap_classes.specs.ClassSets.{is_zero_width_space, is_word_joiner, is_glue};
+ghost use Rattle.textwrap_classes.specs.ClassSets.{breaks_before_glue, is_closing, is_after_text};
+ghost use Rattle.textwrap_classes.specs.ClassSets.{is_opening, is_quotation, is_nonstarter};
+ghost use Rattle.textwrap_classes.specs.ClassSets.{breaks_on_both_sides, is_contingent};
+ghost use Rattle.textwrap_classes.specs.ClassSets.{is_never_first, is_before_text, is_hebrew};
+ghost use Rattle.textwrap_classes.specs.ClassSets.{is_hyphen, is_symbol, is_inseparable, is_letter};
+ghost use Rattle.textwrap_classes.specs.ClassSets.{is_number, is_prefix, is_postfix, is_affix};
+ghost use Rattle.textwrap_classes.specs.ClassSets.{is_ideograph, ends_number, leads_to_number};
+ghost use Rattle.textwrap_classes.specs.ClassSets.{is_jamo, is_leading_jamo, follows_leading};
+ghost use Rattle.textwrap_classes.specs.ClassSets.{ends_in_vowel, follows_vowel, ends_in_trailing};
+ghost use Rattle.textwrap_classes.specs.ClassSets.{is_trailing_jamo, is_infix, is_letter_or_number};
+ghost use Rattle.textwrap_classes.specs.ClassSets.{is_close_parenthesis, is_emoji_base};
+ghost use Rattle.textwrap_classes.specs.ClassSets.{is_emoji_modifier, opens_number};
+ghost use Rattle.textwrap_classes.specs.ClassSets.{is_inside_number, goes_on_number};
 
 use unicode::properties::LineBreak;
 
 /// CM or ZWJ.
-pub(crate) fn is_mark(class: LineBreak) -> bool
+pub fn is_mark(class: LineBreak) -> bool
     ensures { result ≡ is_mark class }
 {
     matches!(class, LineBreak::CombiningMark | LineBreak::Zwj)
 }
 
-pub(crate) fn is_zwj(class: LineBreak) -> bool
+pub fn is_zwj(class: LineBreak) -> bool
     ensures { result ≡ is_zwj class }
 {
     matches!(class, LineBreak::Zwj)
 }
 
 /// SP.
-pub(crate) fn is_space(class: LineBreak) -> bool
+pub fn is_space(class: LineBreak) -> bool
     ensures { result ≡ is_space class }
 {
     matches!(class, LineBreak::Space)
 }
 
 /// RI.
-pub(crate) fn is_regional_indicator(class: LineBreak) -> bool
+pub fn is_regional_indicator(class: LineBreak) -> bool
     ensures { result ≡ is_regional_indicator class }
 {
     matches!(class, LineBreak::RegionalIndicator)
 }
 
 /// BK, CR, LF, NL, SP or ZW: no mark belongs to it.
-pub(crate) fn takes_no_mark(class: LineBreak) -> bool
+pub fn takes_no_mark(class: LineBreak) -> bool
     ensures { result ≡ takes_no_mark class }
 {
     matches!(
@@ -63,7 +63,7 @@ pub(crate) fn takes_no_mark(class: LineBreak) -> bool
 }
 
 /// BK, CR, LF or NL: ends a line.
-pub(crate) fn is_line_end(class: LineBreak) -> bool
+pub fn is_line_end(class: LineBreak) -> bool
     ensures { result ≡ is_line_end class }
 {
     matches!(
@@ -76,14 +76,14 @@ pub(crate) fn is_line_end(class: LineBreak) -> bool
 }
 
 /// ZW.
-pub(crate) fn is_zero_width_space(class: LineBreak) -> bool
+pub fn is_zero_width_space(class: LineBreak) -> bool
     ensures { result ≡ is_zero_width_space class }
 {
     matches!(class, LineBreak::ZWSpace)
 }
 
 /// SP, BA or HY.
-pub(crate) fn breaks_before_glue(class: LineBreak) -> bool
+pub fn breaks_before_glue(class: LineBreak) -> bool
     ensures { result ≡ breaks_before_glue class }
 {
     matches!(
@@ -93,7 +93,7 @@ pub(crate) fn breaks_before_glue(class: LineBreak) -> bool
 }
 
 /// CL or CP.
-pub(crate) fn is_closing(class: LineBreak) -> bool
+pub fn is_closing(class: LineBreak) -> bool
     ensures { result ≡ is_closing class }
 {
     matches!(
@@ -103,7 +103,7 @@ pub(crate) fn is_closing(class: LineBreak) -> bool
 }
 
 /// CL, CP, EX, IS or SY: closes what is before it.
-pub(crate) fn is_after_text(class: LineBreak) -> bool
+pub fn is_after_text(class: LineBreak) -> bool
     ensures { result ≡ is_after_text class }
 {
     matches!(
@@ -117,14 +117,14 @@ pub(crate) fn is_after_text(class: LineBreak) -> bool
 }
 
 /// OP.
-pub(crate) fn is_opening(class: LineBreak) -> bool
+pub fn is_opening(class: LineBreak) -> bool
     ensures { result ≡ is_opening class }
 {
     matches!(class, LineBreak::OpenPunctuation)
 }
 
 /// BA, HY or NS.
-pub(crate) fn is_never_first(class: LineBreak) -> bool
+pub fn is_never_first(class: LineBreak) -> bool
     ensures { result ≡ is_never_first class }
 {
     matches!(
@@ -134,35 +134,35 @@ pub(crate) fn is_never_first(class: LineBreak) -> bool
 }
 
 /// HL.
-pub(crate) fn is_hebrew(class: LineBreak) -> bool
+pub fn is_hebrew(class: LineBreak) -> bool
     ensures { result ≡ is_hebrew class }
 {
     matches!(class, LineBreak::HebrewLetter)
 }
 
 /// HY or BA.
-pub(crate) fn is_hyphen(class: LineBreak) -> bool
+pub fn is_hyphen(class: LineBreak) -> bool
     ensures { result ≡ is_hyphen class }
 {
     matches!(class, LineBreak::Hyphen | LineBreak::BreakAfter)
 }
 
 /// AL or HL.
-pub(crate) fn is_letter(class: LineBreak) -> bool
+pub fn is_letter(class: LineBreak) -> bool
     ensures { result ≡ is_letter class }
 {
     matches!(class, LineBreak::Alphabetic | LineBreak::HebrewLetter)
 }
 
 /// PR or PO: stands before a number or after one.
-pub(crate) fn is_affix(class: LineBreak) -> bool
+pub fn is_affix(class: LineBreak) -> bool
     ensures { result ≡ is_affix class }
 {
     matches!(class, LineBreak::PrefixNumeric | LineBreak::PostfixNumeric)
 }
 
 /// ID, EB or EM.
-pub(crate) fn is_ideograph(class: LineBreak) -> bool
+pub fn is_ideograph(class: LineBreak) -> bool
     ensures { result ≡ is_ideograph class }
 {
     matches!(
@@ -172,7 +172,7 @@ pub(crate) fn is_ideograph(class: LineBreak) -> bool
 }
 
 /// CL, CP or NU.
-pub(crate) fn ends_number(class: LineBreak) -> bool
+pub fn ends_number(class: LineBreak) -> bool
     ensures { result ≡ ends_number class }
 {
     matches!(
@@ -182,7 +182,7 @@ pub(crate) fn ends_number(class: LineBreak) -> bool
 }
 
 /// PO, PR, HY, IS, NU or SY.
-pub(crate) fn leads_to_number(class: LineBreak) -> bool
+pub fn leads_to_number(class: LineBreak) -> bool
     ensures { result ≡ leads_to_number class }
 {
     matches!(
@@ -197,28 +197,28 @@ pub(crate) fn leads_to_number(class: LineBreak) -> bool
 }
 
 /// NU.
-pub(crate) fn is_number(class: LineBreak) -> bool
+pub fn is_number(class: LineBreak) -> bool
     ensures { result ≡ is_number class }
 {
     matches!(class, LineBreak::Numeric)
 }
 
 /// OP or HY: may stand between PR or PO and a number.
-pub(crate) fn opens_number(class: LineBreak) -> bool
+pub fn opens_number(class: LineBreak) -> bool
     ensures { result ≡ opens_number class }
 {
     matches!(class, LineBreak::OpenPunctuation | LineBreak::Hyphen)
 }
 
 /// SY or IS: may stand inside a number.
-pub(crate) fn is_inside_number(class: LineBreak) -> bool
+pub fn is_inside_number(class: LineBreak) -> bool
     ensures { result ≡ is_inside_number class }
 {
     matches!(class, LineBreak::BreakSymbols | LineBreak::InfixNumeric)
 }
 
 /// NU, SY, IS, CL or CP: may stand inside a number or close it.
-pub(crate) fn goes_on_number(class: LineBreak) -> bool
+pub fn goes_on_number(class: LineBreak) -> bool
     ensures { result ≡ goes_on_number class }
 {
     matches!(
@@ -232,7 +232,7 @@ pub(crate) fn goes_on_number(class: LineBreak) -> bool
 }
 
 /// JL, JV, JT, H2 or H3.
-pub(crate) fn is_jamo(class: LineBreak) -> bool
+pub fn is_jamo(class: LineBreak) -> bool
     ensures { result ≡ is_jamo class }
 {
     matches!(
@@ -242,7 +242,7 @@ pub(crate) fn is_jamo(class: LineBreak) -> bool
 }
 
 /// JL, JV, H2 or H3.
-pub(crate) fn follows_leading(class: LineBreak) -> bool
+pub fn follows_leading(class: LineBreak) -> bool
     ensures { result ≡ follows_leading class }
 {
     matches!(
@@ -252,28 +252,28 @@ pub(crate) fn follows_leading(class: LineBreak) -> bool
 }
 
 /// JV or H2.
-pub(crate) fn ends_in_vowel(class: LineBreak) -> bool
+pub fn ends_in_vowel(class: LineBreak) -> bool
     ensures { result ≡ ends_in_vowel class }
 {
     matches!(class, LineBreak::Jv | LineBreak::H2)
 }
 
 /// JV or JT.
-pub(crate) fn follows_vowel(class: LineBreak) -> bool
+pub fn follows_vowel(class: LineBreak) -> bool
     ensures { result ≡ follows_vowel class }
 {
     matches!(class, LineBreak::Jv | LineBreak::Jt)
 }
 
 /// JT or H3.
-pub(crate) fn ends_in_trailing(class: LineBreak) -> bool
+pub fn ends_in_trailing(class: LineBreak) -> bool
     ensures { result ≡ ends_in_trailing class }
 {
     matches!(class, LineBreak::Jt | LineBreak::H3)
 }
 
 /// AL, HL or NU.
-pub(crate) fn is_letter_or_number(class: LineBreak) -> bool
+pub fn is_letter_or_number(class: LineBreak) -> bool
     ensures { result ≡ is_letter_or_number class }
 {
     matches!(

@@ -1,11 +1,11 @@
 //! What the rules of line breaking ask of a character.
 ghost use Rattle.std.specs.Prelude.{◌≡◌, ◌≤◌, ◌&&◌, true, false};
-ghost use Rattle.textwrap_unicode.specs.Ideographs.{IsCommonIdeograph};
+ghost use Rattle.textwrap_classes.specs.Ideographs.{IsCommonIdeograph};
 ghost use Rattle.unicode.specs.Binary.{is_extended_pictographic};
 ghost use Rattle.unicode.specs.GeneralCategory.{general_category};
 ghost use Rattle.unicode.specs.declared.properties.LineBreak.TheVariants.{Alphabetic, Ideographic};
-ghost use Rattle.textwrap_unicode.specs.Classes.{class_of, is_unassigned, is_wide, resolve};
-ghost use Rattle.textwrap_unicode.specs.Classes.{resolve_complex, unit_of};
+ghost use Rattle.textwrap_classes.specs.Classes.{class_of, is_unassigned, is_wide, resolve};
+ghost use Rattle.textwrap_classes.specs.Classes.{resolve_complex, unit_of};
 
 use crate::ascii::CLASSES;
 use crate::japanese::{SYLLABLES, WIDE};
@@ -57,7 +57,7 @@ impl Unit {
 
     /// Whether the rules ask nothing more of it than that it is a letter.
     #[inline]
-    pub(crate) fn is_plain_letter(self) -> bool
+    pub fn is_plain_letter(self) -> bool
         ensures { result ≡ true → self ≡ record {
           class = Alphabetic;
           is_wide = false;
@@ -69,7 +69,7 @@ impl Unit {
 
     /// Whether the rules ask nothing more of it than that it is an ideograph, and a wide one.
     #[inline]
-    pub(crate) fn is_wide_ideograph(self) -> bool
+    pub fn is_wide_ideograph(self) -> bool
         ensures { result ≡ true → self ≡ record {
           class = Ideographic;
           is_wide = true;
@@ -98,7 +98,7 @@ fn japanese_unit(code: usize) -> Unit
 /// Whether this is a common ideograph, or a syllable of Japanese that is like one to the rules. Each of
 /// these takes three bytes.
 #[inline]
-pub(crate) fn is_common_ideograph(c: char) -> bool
+pub fn is_common_ideograph(c: char) -> bool
     ensures { result ≡ true → IsCommonIdeograph c }
 {
     let code = c as usize;
@@ -111,7 +111,7 @@ pub(crate) fn is_common_ideograph(c: char) -> bool
 /// The class of a character, by LB1. Its category matters for SA alone, so only then is it looked
 /// up.
 #[inline]
-pub(crate) fn class_of(c: char) -> LineBreak
+pub fn class_of(c: char) -> LineBreak
     ensures { result ≡ class_of c }
 {
     match LineBreak::for_char(c) {

@@ -1,8 +1,8 @@
 -- The classes of characters, told without the tables.
-use Rattle.textwrap_unicode.proofs.Common.{cases_Bool, slice_index_or, if◌then◌else◌, Ideographic}
-use Rattle.textwrap_unicode.proofs.Common.{Ambiguous, nat_tests, ℕ, not-true, CLASSES, class_of}
-use Rattle.textwrap_unicode.proofs.Common.{unit_of, false, arith, nat_lt, Bool, true, ◌&&◌, ◌==◌}
-use Rattle.textwrap_unicode.proofs.Common.{refl, ◌||◌, Unit, ◌≡◌, ◌<◌, ◌≤◌, not, ◌-◌}
+use Rattle.textwrap_classes.proofs.Common.{cases_Bool, slice_index_or, if◌then◌else◌, Ideographic}
+use Rattle.textwrap_classes.proofs.Common.{Ambiguous, nat_tests, ℕ, not-true, CLASSES, class_of}
+use Rattle.textwrap_classes.proofs.Common.{unit_of, false, arith, nat_lt, Bool, true, ◌&&◌, ◌==◌}
+use Rattle.textwrap_classes.proofs.Common.{refl, ◌||◌, Unit, ◌≡◌, ◌<◌, ◌≤◌, not, ◌-◌}
 use Rattle.std.proofs.Common.{eqb-true}
 use Rattle.unicode.specs.Binary.{is_extended_pictographic}
 use Rattle.unicode.specs.EastAsianWidth.{east_asian_width}
@@ -19,8 +19,8 @@ use Rattle.unicode.proofs.GeneralCategoryLemmas.{general_category_stepped}
 use Rattle.unicode.proofs.LineBreakLemmas.{line_break_stepped, line_break_number_injective}
 use Rattle.unicode.proofs.Stepped.{Stepped, map_stepped, zip_stepped}
 use Rattle.textwrap_text.proofs.Units.Texts.{passes-within}
-use Rattle.textwrap_unicode.specs.Classes.{is_unassigned, is_wide, resolve}
-use Rattle.textwrap_unicode.specs.declared.japanese.TheConstants.{SYLLABLES, WIDE}
+use Rattle.textwrap_classes.specs.Classes.{is_unassigned, is_wide, resolve}
+use Rattle.textwrap_classes.specs.declared.japanese.TheConstants.{SYLLABLES, WIDE}
 
 -- ---- what is asked of a character, as steps, over which proofs compute
 

@@ -4,7 +4,7 @@ use unicode::properties::LineBreak;
 use unicode::properties::LineBreak::*;
 
 /// Their classes.
-pub(crate) static SYLLABLES: [LineBreak; 256] = [
+pub static SYLLABLES: [LineBreak; 256] = [
     BreakAfter,
     ClosePunctuation,
     ClosePunctuation,
@@ -264,7 +264,7 @@ pub(crate) static SYLLABLES: [LineBreak; 256] = [
 ];
 
 /// Whether they are wide.
-pub(crate) static WIDE: [bool; 256] = [
+pub static WIDE: [bool; 256] = [
     true, true, true, true, true, true, true, true, true, true, true, true, true, true, true, true,
     true, true, true, true, true, true, true, true, true, true, true, true, true, true, true, true,
     true, true, true, true, true, true, true, true, true, true, true, true, true, true, true, true,

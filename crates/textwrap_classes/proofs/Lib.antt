@@ -1,0 +1,2 @@
+pub mod ClassLemmas
+pub mod Common

@@ -1,0 +1,3 @@
+pub mod ClassSets
+pub mod Classes
+pub mod Ideographs

@@ -1,8 +1,0 @@
-use Rattle.textwrap_unicode.proofs.Common.{arith}
-use Rattle.textwrap_unicode.proofs.ClassLemmas.{early-assigned}
-use Rattle.textwrap_unicode.proofs.classes.is_unassigned_pictograph.Goals as goal
-use Rattle.textwrap_unicode.proofs.classes.is_unassigned_pictograph.Goals.{then-c-ge126976}
-use Rattle.textwrap_unicode.proofs.classes.is_unassigned_pictograph.Goals.{else-c-ge126976}
-
-pub returns-else-is_extended_pictographic : goal.returns-else-is_extended_pictographic
-returns-else-is_extended_pictographic c = grind (arith, early-assigned)

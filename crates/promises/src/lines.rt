@@ -1,10 +1,10 @@
 //! A text cut into lines.
 ghost use Rattle.std.specs.Prelude.{length, map, nat_lt, string_bytes, IfOk};
-ghost use Rattle.textwrap_lines.specs.Filling.{IsFilled};
-ghost use Rattle.textwrap_lines.specs.Fuzzing.{AppendsLines};
-ghost use Rattle.textwrap_lines.specs.Options.{settings_view, MayOverflow};
-ghost use Rattle.textwrap_lines.specs.Paragraph.{AreParagraphParts, DividesBy, line_view};
-ghost use Rattle.textwrap_lines.specs.Text.{IsWrapped};
+ghost use Rattle.textwrap_layout.specs.Filling.{IsFilled};
+ghost use Rattle.textwrap_layout.specs.Fuzzing.{AppendsLines};
+ghost use Rattle.textwrap_layout.specs.Options.{settings_view, MayOverflow};
+ghost use Rattle.textwrap_layout.specs.Paragraph.{AreParagraphParts, DividesBy, line_view};
+ghost use Rattle.textwrap_layout.specs.Text.{IsWrapped};
 ghost use Rattle.textwrap_words.specs.WordSplitters.{splitter_view};
 ghost use Rattle.textwrap_words.specs.WrapAlgorithms.{algorithm_view};
 

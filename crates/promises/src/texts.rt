@@ -4,8 +4,8 @@ ghost use Rattle.textwrap.specs.Columns.{IsInColumns};
 ghost use Rattle.textwrap.specs.InPlace.{IsFilledInPlace};
 ghost use Rattle.textwrap.specs.Indentation.{dedented};
 ghost use Rattle.textwrap.specs.Refilling.{IsRefilled, unfilled_text};
-ghost use Rattle.textwrap_lines.specs.Options.{settings_view};
-ghost use Rattle.textwrap_lines.specs.Paragraph.{DividesUnder};
+ghost use Rattle.textwrap_layout.specs.Options.{settings_view};
+ghost use Rattle.textwrap_layout.specs.Paragraph.{DividesUnder};
 
 use std::alloc::{AllocError, Global};
 use textwrap::{Options, WrapError, dedent, fill_inplace, refill, unfill, wrap_columns};

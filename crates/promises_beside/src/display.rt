@@ -5,8 +5,8 @@ ghost use Rattle.textwrap_display.specs.Justifying.{justified};
 ghost use Rattle.textwrap_display.specs.Shortening.{IsShortened, texts_of};
 ghost use Rattle.textwrap_display.specs.Styles.{carried_lines};
 ghost use Rattle.textwrap_display.specs.Tables.{AreTableRows, gaps_view, texts_in};
-ghost use Rattle.textwrap_lines.specs.Options.{settings_view};
-ghost use Rattle.textwrap_lines.specs.Paragraph.{line_view, DividesBy};
+ghost use Rattle.textwrap_layout.specs.Options.{settings_view};
+ghost use Rattle.textwrap_layout.specs.Paragraph.{line_view, DividesBy};
 ghost use Rattle.textwrap_text.specs.Units.{text_width};
 
 use std::alloc::{AllocError, Global};

@@ -1,6 +1,6 @@
 //! A paragraph in steps.
 ghost use Rattle.std.specs.Prelude.{◌≡◌, map, IfOk};
-ghost use Rattle.textwrap_lines.specs.Options.{settings_view};
+ghost use Rattle.textwrap_layout.specs.Options.{settings_view};
 ghost use Rattle.textwrap_lines.specs.Steps.{pieces_at};
 ghost use Rattle.textwrap_words.specs.Cuts.{AreInnerCuts};
 ghost use Rattle.textwrap_words.specs.Words.{word_view};

@@ -7,9 +7,9 @@ use Rattle.textwrap_text.specs.Blanks.{blank}
 use Rattle.textwrap_text.specs.Units.{text_width}
 use Rattle.textwrap_words.specs.Words.{WordText}
 use Rattle.textwrap_text.specs.LineEnding.{join_with}
-use Rattle.textwrap_lines.specs.Options.{Settings}
-use Rattle.textwrap_lines.specs.Paragraph.{Line, line_bytes}
-use Rattle.textwrap_lines.specs.Text.{AreTextLines}
+use Rattle.textwrap_layout.specs.Options.{Settings}
+use Rattle.textwrap_layout.specs.Paragraph.{Line, line_bytes}
+use Rattle.textwrap_layout.specs.Text.{AreTextLines}
 use Rattle.textwrap.specs.declared.columns.Table.{Table}
 
 abbrev pub blanks : ℕ → List ℕ

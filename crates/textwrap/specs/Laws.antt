@@ -8,11 +8,11 @@ use Rattle.std.specs.Str.Lines.{lines}
 use Rattle.textwrap_text.specs.Blanks.{without_final_blanks}
 use Rattle.textwrap_text.specs.Units.{text_width}
 use Rattle.textwrap_words.specs.WrapAlgorithms.{Algorithm, Greedy}
-use Rattle.textwrap_lines.specs.Filling.{IsFilled}
+use Rattle.textwrap_layout.specs.Filling.{IsFilled}
 use Rattle.textwrap_text.specs.LineEnding.{line_feed, paragraphs_of}
-use Rattle.textwrap_lines.specs.Options.{Settings, settings_at}
-use Rattle.textwrap_lines.specs.Paragraph.{DividesAs, Slice}
-use Rattle.textwrap_lines.specs.Text.{AreTextLines}
+use Rattle.textwrap_layout.specs.Options.{Settings, settings_at}
+use Rattle.textwrap_layout.specs.Paragraph.{DividesAs, Slice}
+use Rattle.textwrap_layout.specs.Text.{AreTextLines}
 use Rattle.textwrap_words.specs.WordSplitters.{Splitter, Whole}
 use Rattle.textwrap_text.specs.declared.line_ending.LineEnding.TheVariants.{LF}
 use Rattle.textwrap.specs.Columns.{RowLayout, layout_of, inner_width, row_count, cells, row_text}

@@ -16,12 +16,12 @@ pub use Rattle.textwrap_base.specs.Problem
 pub use Rattle.textwrap_base.specs.Queue
 pub use Rattle.textwrap_base.specs.Sizes
 pub use Rattle.textwrap_base.specs.Table
-pub use Rattle.textwrap_lines.specs.Filling
-pub use Rattle.textwrap_lines.specs.Fuzzing
+pub use Rattle.textwrap_layout.specs.Filling
+pub use Rattle.textwrap_layout.specs.Fuzzing
 pub use Rattle.textwrap_text.specs.LineEnding
-pub use Rattle.textwrap_lines.specs.Options
-pub use Rattle.textwrap_lines.specs.Paragraph
-pub use Rattle.textwrap_lines.specs.Text
+pub use Rattle.textwrap_layout.specs.Options
+pub use Rattle.textwrap_layout.specs.Paragraph
+pub use Rattle.textwrap_layout.specs.Text
 pub use Rattle.textwrap_text.specs.TextLines
 pub use Rattle.textwrap_text.specs.Blanks
 pub use Rattle.textwrap_words.specs.Breaking

@@ -12,12 +12,12 @@ pub use Rattle.textwrap_text.specs.TextLines.{EndedLine, ended_lines}
 use Rattle.textwrap_words.specs.Words.{WordText}
 use Rattle.textwrap_base.specs.Penalties.{default_penalties}
 use Rattle.textwrap_words.specs.declared.wrap_algorithms.WrapAlgorithm.TheVariants.{OptimalFit}
-use Rattle.textwrap_lines.specs.Filling.{IsFilled}
+use Rattle.textwrap_layout.specs.Filling.{IsFilled}
 use Rattle.textwrap_text.specs.LineEnding.{carriage_return, line_feed, ending_bytes, join_with}
-use Rattle.textwrap_lines.specs.Options.{Settings, settings_at}
+use Rattle.textwrap_layout.specs.Options.{Settings, settings_at}
 use Rattle.textwrap_text.specs.declared.line_ending.LineEnding.{LineEnding}
 use Rattle.textwrap_text.specs.declared.line_ending.LineEnding.TheVariants.{CRLF, LF}
-use Rattle.textwrap_lines.specs.declared.options.Options.{Options}
+use Rattle.textwrap_layout.specs.declared.options.Options.{Options}
 use Rattle.textwrap.specs.declared.refilling.TextLayout.{TextLayout}
 use Rattle.textwrap_words.specs.declared.word_separators.WordSeparator.TheVariants.{AsciiSpace}
 use Rattle.textwrap_words.specs.declared.word_splitters.WordSplitter.TheVariants.{HyphenSplitter}

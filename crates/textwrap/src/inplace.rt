@@ -6,7 +6,7 @@ ghost use Rattle.textwrap_words.specs.Words.{WordText, sizes_of, words_of};
 ghost use Rattle.textwrap.specs.InPlace.{IsFilledInPlace, OnlyBlanksChange, AreDividedAt};
 ghost use Rattle.textwrap.specs.InPlace.{FitsOneLine, breaks_from, breaks_of, with_line_feeds};
 ghost use Rattle.textwrap_text.specs.LineEnding.{paragraphs_of};
-ghost use Rattle.textwrap_lines.specs.Paragraph.{text_limit};
+ghost use Rattle.textwrap_layout.specs.Paragraph.{text_limit};
 ghost use Rattle.textwrap_text.specs.declared.line_ending.LineEnding.TheVariants.{LF};
 
 use crate::words::Fragment;

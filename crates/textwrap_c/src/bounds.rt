@@ -8,7 +8,7 @@ ghost use Rattle.textwrap_calls.specs.Bounds.{rows_bound, wrap_room_bound};
 ghost use Rattle.textwrap_calls.specs.Options.{settings_of, Divides};
 ghost use Rattle.textwrap_calls.specs.declared.columns.TextwrapGaps.{TextwrapGaps};
 ghost use Rattle.textwrap_calls.specs.declared.options.TextwrapOptions.{TextwrapOptions};
-ghost use Rattle.textwrap_lines.specs.Places.{built_text};
+ghost use Rattle.textwrap_layout.specs.Places.{built_text};
 
 use textwrap_calls::bounds;
 use textwrap_calls::columns::TextwrapGaps;

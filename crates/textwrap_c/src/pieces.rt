@@ -7,7 +7,7 @@ ghost use Rattle.textwrap_calls.specs.Pieces.{AreOffsets, piece_places};
 ghost use Rattle.textwrap_calls.specs.Room.{WritesText};
 ghost use Rattle.textwrap_calls.specs.Status.{done, not_utf8, too_small, unknown_options};
 ghost use Rattle.textwrap_calls.specs.Status.{wrong_places};
-ghost use Rattle.textwrap_lines.specs.Paragraph.{pieces_by};
+ghost use Rattle.textwrap_layout.specs.Paragraph.{pieces_by};
 ghost use Rattle.textwrap_plain.specs.Options.{words_by};
 ghost use Rattle.textwrap_words.specs.Breaking.{broken_pieces};
 ghost use Rattle.textwrap_text.specs.Units.{stripped};

@@ -1,6 +1,6 @@
 //! A paragraph in steps, for a caller who finds words, points or lines in another way.
 ghost use Rattle.std.specs.Prelude.{◌≡◌, ◌≢◌, ◌≤◌, ◌<◌, ◌↔◌, ◌⊎◌, IsUtf8};
-ghost use Rattle.textwrap_lines.specs.Paragraph.{widths_of};
+ghost use Rattle.textwrap_layout.specs.Paragraph.{widths_of};
 ghost use Rattle.textwrap_lines.specs.Steps.{pieces_at};
 ghost use Rattle.textwrap_base.specs.Cost.{total_width};
 ghost use Rattle.textwrap_base.specs.Errors.{Fits64Bits};

@@ -35,23 +35,24 @@ pub use Rattle.textwrap_text.specs.LentText.{as_len}
 pub use Rattle.textwrap_words.specs.LineEnds.{AreEnds, lines_between}
 pub use Rattle.textwrap_words.specs.PiecesLeft.{standing_left}
 pub use Rattle.textwrap_text.specs.Units.{visible}
-pub use Rattle.textwrap_lines.proofs.Common.{AreGroups, AreIndented, AreParagraphParts, covered_by}
-pub use Rattle.textwrap_lines.proofs.Common.{indent_of, is_whole, IsFilled, line_bytes, line_from}
-pub use Rattle.textwrap_lines.proofs.Common.{line_view, LineParts, parts_from, pieces_of, Settings}
-pub use Rattle.textwrap_lines.proofs.Common.{settings_view, widths_of}
+pub use Rattle.textwrap_layout.proofs.Common.{AreGroups, AreIndented, AreParagraphParts, covered_by}
+pub use Rattle.textwrap_layout.proofs.Common.{indent_of, is_whole, IsFilled, line_bytes, line_from}
+pub use Rattle.textwrap_layout.proofs.Common.{line_view, LineParts, parts_from, pieces_of, Settings}
+pub use Rattle.textwrap_layout.proofs.Common.{settings_view, widths_of}
 pub use Rattle.textwrap_words.proofs.Word.Divisions.{lines_from-begin}
 pub use Rattle.textwrap_lines.proofs.Paragraph.KeepsTo.{HasNoHyphen}
-pub use Rattle.textwrap_lines.proofs.Paragraph.LeftOff.{covered_by-parts_from}
-pub use Rattle.textwrap_lines.proofs.Text.Lines.{bytes_left, paragraphs_left, paragraphs_left-split}
-pub use Rattle.textwrap_lines.proofs.Text.Paragraphs.{ending_bytes-some, join-paragraphs_of}
-pub use Rattle.textwrap_lines.proofs.Text.Paragraphs.{paragraphs_of-utf8, rest-within}
-pub use Rattle.textwrap_lines.proofs.Text.Sinks.{further-cut_lines, lines_of-cut_lines}
-pub use Rattle.textwrap_lines.specs.Places.{ArePlacedLines, ArePlacesOf, built_text, HasPlaces}
-pub use Rattle.textwrap_lines.specs.Places.{HasPlacesMore, lines_of, place_of}
+pub use Rattle.textwrap_layout.proofs.Paragraph.LeftOff.{covered_by-parts_from}
+pub use Rattle.textwrap_layout.proofs.Text.Lines.{bytes_left, paragraphs_left}
+pub use Rattle.textwrap_layout.proofs.Text.Lines.{paragraphs_left-split}
+pub use Rattle.textwrap_layout.proofs.Text.Paragraphs.{ending_bytes-some, join-paragraphs_of}
+pub use Rattle.textwrap_layout.proofs.Text.Paragraphs.{paragraphs_of-utf8, rest-within}
+pub use Rattle.textwrap_layout.proofs.Text.Sinks.{further-cut_lines, lines_of-cut_lines}
+pub use Rattle.textwrap_layout.specs.Places.{ArePlacedLines, ArePlacesOf, built_text, HasPlaces}
+pub use Rattle.textwrap_layout.specs.Places.{HasPlacesMore, lines_of, place_of}
 pub use Rattle.textwrap_lines.specs.Steps.{pieces_at}
 pub use Rattle.textwrap_text.specs.declared.line_ending.LineEnding.{LineEnding}
-pub use Rattle.textwrap_lines.specs.declared.places.Place.{Place}
-pub use Rattle.textwrap_lines.specs.declared.places.TextwrapLine.{TextwrapLine}
+pub use Rattle.textwrap_layout.specs.declared.places.Place.{Place}
+pub use Rattle.textwrap_layout.specs.declared.places.TextwrapLine.{TextwrapLine}
 pub use Rattle.textwrap.proofs.Common.{Built, is_blank_line, Line, Slice}
 pub use Rattle.textwrap.specs.Columns.{IsInColumns, table_rows}
 pub use Rattle.textwrap.specs.Indentation.{dedented}

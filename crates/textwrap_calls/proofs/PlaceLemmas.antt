@@ -14,11 +14,11 @@ use Rattle.textwrap.proofs.Common.{line_from, covered_by}
 use Rattle.std.proofs.Math.Seq.{drop-append_seam, take-append_seam}
 use Rattle.textwrap_base.proofs.Division.Map.{IsDividedBy-whole}
 use Rattle.textwrap_words.proofs.Word.Pieces.{ArePoints-cuts}
-use Rattle.textwrap_lines.proofs.Paragraph.Pieces.{pieces-tile}
+use Rattle.textwrap_layout.proofs.Paragraph.Pieces.{pieces-tile}
 use Rattle.textwrap_lines.proofs.Text.Groups.{groups-tile}
-use Rattle.textwrap_lines.proofs.Text.Sinks.{built_text-push, places_of-push}
-use Rattle.textwrap_lines.specs.Places.{CutLine, built_bytes, places_of, cut_line, cut_lines}
-use Rattle.textwrap_lines.specs.Places.{text_cuts}
+use Rattle.textwrap_layout.proofs.Text.Sinks.{built_text-push, places_of-push}
+use Rattle.textwrap_layout.specs.Places.{CutLine, built_bytes, places_of, cut_line, cut_lines}
+use Rattle.textwrap_layout.specs.Places.{text_cuts}
 use Rattle.textwrap.specs.Paragraph.{DividesAt}
 use Rattle.textwrap.specs.WordSplitters.{Splitter}
 use Rattle.textwrap.specs.WrapAlgorithms.{Algorithm}

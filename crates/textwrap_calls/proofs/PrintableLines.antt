@@ -12,14 +12,14 @@ use Rattle.textwrap_calls.proofs.Common.{splitter_of, WritesReported, done, too_
 use Rattle.textwrap_calls.proofs.Common.{TextwrapOptions}
 use Rattle.textwrap_text.proofs.Common.{lt-ltb, get_or-drop, get_or-take, All-drop, All-take}
 use Rattle.textwrap_text.proofs.Common.{list_any, None, IsPrintable, without_final_blanks}
-use Rattle.textwrap_lines.proofs.Common.{parts_of, Slice}
+use Rattle.textwrap_layout.proofs.Common.{parts_of, Slice}
 use Rattle.std.proofs.lemmas.List.Splits.{slice_split_none}
 use Rattle.std.proofs.lemmas.Str.{chars-IsAscii, IsUtf8-from_ascii}
 use Rattle.std.specs.Char.{is_whitespace}
 use Rattle.textwrap_text.proofs.Lists.Elements.{contains-any}
 use Rattle.textwrap_text.proofs.Units.Reading.{printable-ascii}
-use Rattle.textwrap_lines.proofs.Paragraph.LeftOff.{AreParagraphParts-whole, line_from-whole}
-use Rattle.textwrap_lines.proofs.Text.Paragraphs.{one-paragraph, printable-free}
+use Rattle.textwrap_layout.proofs.Paragraph.LeftOff.{AreParagraphParts-whole, line_from-whole}
+use Rattle.textwrap_layout.proofs.Text.Paragraphs.{one-paragraph, printable-free}
 use Rattle.textwrap_text.specs.LineEnding.{line_feed}
 use Rattle.textwrap.proofs.Text.Indents.{ended_parts-whole}
 use Rattle.textwrap.specs.Indentation.{HasNoLineFeed, indented}

@@ -3,7 +3,7 @@ use Rattle.textwrap_calls.proofs.Common.{◌≡◌, ℕ, Bool, List, subst, Word
 use Rattle.textwrap_calls.proofs.Common.{algorithm_of, Divides, settings_of, splitter_of}
 use Rattle.textwrap_calls.proofs.Common.{alignment_of, parts_of_column, TextwrapOptions}
 use Rattle.textwrap_calls.proofs.Common.{TextwrapColumn, words_by, PlainColumn, plain_parts}
-use Rattle.textwrap_lines.proofs.Common.{DividesAt}
+use Rattle.textwrap_layout.proofs.Common.{DividesAt}
 use Rattle.textwrap_calls.specs.Options.{AreRead}
 use Rattle.textwrap_plain.specs.Options.{DividesPlainly}
 use Rattle.textwrap_plain.specs.declared.options.PlainOptions.{PlainOptions}

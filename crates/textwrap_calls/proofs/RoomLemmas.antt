@@ -5,8 +5,8 @@ use Rattle.textwrap_calls.proofs.Common.{◌++◌, ap, cases_lt, drop, length-ma
 use Rattle.textwrap_calls.proofs.Common.{Slice, Built, as_len, built_text, Place, TextwrapLine}
 use Rattle.textwrap_calls.proofs.Common.{WritesReported, WritesText, done, too_small, ShowLines}
 use Rattle.textwrap_text.specs.LentText.{written_over}
-use Rattle.textwrap_lines.specs.LentPlaces.{WritesPlaces}
-use Rattle.textwrap_lines.specs.declared.lent_places.LineCounts.{LineCounts}
+use Rattle.textwrap_layout.specs.LentPlaces.{WritesPlaces}
+use Rattle.textwrap_layout.specs.declared.lent_places.LineCounts.{LineCounts}
 use Rattle.textwrap_calls.specs.Reported.{Reports}
 use Rattle.textwrap_calls.specs.Wrapping.{WritesLinesAs}
 

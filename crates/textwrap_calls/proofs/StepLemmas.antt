@@ -8,9 +8,9 @@ use Rattle.textwrap_calls.proofs.Common.{lines_from-begin, covered_by-parts_from
 use Rattle.textwrap_calls.proofs.Common.{built_text, lines_of, pieces_at, Place, TextwrapLine}
 use Rattle.textwrap_calls.proofs.Common.{says_yes, WritesReported, done, too_small, ArePlacedCuts}
 use Rattle.textwrap_calls.proofs.Common.{ShowLines, WritesLines}
-use Rattle.textwrap_lines.proofs.Common.{Line}
-use Rattle.textwrap_lines.proofs.Text.Sinks.{joined-more}
-use Rattle.textwrap_lines.specs.Paragraph.{Slice, Built}
+use Rattle.textwrap_layout.proofs.Common.{Line}
+use Rattle.textwrap_layout.proofs.Text.Sinks.{joined-more}
+use Rattle.textwrap_layout.specs.Paragraph.{Slice, Built}
 use Rattle.textwrap_calls.proofs.PlaceLemmas.{paragraph-cut, AreCut, shown}
 use Rattle.textwrap_calls.proofs.RoomLemmas.{WritesLines-reported}
 use Rattle.textwrap_calls.specs.Steps.{step_cuts}

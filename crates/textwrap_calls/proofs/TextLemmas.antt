@@ -8,9 +8,9 @@ use Rattle.textwrap_text.proofs.Common.{Bor}
 use Rattle.std.specs.declared.borrow.CowStr.{CowStr}
 use Rattle.std.specs.Cow.{cow_str_bytes}
 use Rattle.std.specs.declared.borrow.CowStr.TheVariants.{Borrowed}
-use Rattle.textwrap_lines.proofs.Text.Lines.{line_bytes-line_view}
-use Rattle.textwrap_lines.specs.Options.{settings_at, settings_view}
-use Rattle.textwrap_lines.specs.Paragraph.{line_bytes, line_view}
+use Rattle.textwrap_layout.proofs.Text.Lines.{line_bytes-line_view}
+use Rattle.textwrap_layout.specs.Options.{settings_at, settings_view}
+use Rattle.textwrap_layout.specs.Paragraph.{line_bytes, line_view}
 use Rattle.textwrap_display.specs.Shortening.{AreShortened}
 use Rattle.textwrap_display.specs.Tables.{Shape}
 use Rattle.textwrap_display.specs.declared.alignment.Alignment.{Alignment}

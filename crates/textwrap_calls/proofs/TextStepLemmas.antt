@@ -14,14 +14,14 @@ use Rattle.textwrap_calls.proofs.Common.{justified_after_indents, justified_at, 
 use Rattle.textwrap_calls.proofs.Common.{done, too_small, ArePlacedCuts, text_step_cuts, ShowLines}
 use Rattle.textwrap_calls.proofs.Common.{WritesLines}
 use Rattle.textwrap_text.proofs.Common.{Err, Ok, Result, starts_with_of_append}
-use Rattle.textwrap_lines.proofs.Common.{CutLine, cut_lines, text_cuts, further, lines_of}
+use Rattle.textwrap_layout.proofs.Common.{CutLine, cut_lines, text_cuts, further, lines_of}
 use Rattle.std.proofs.Common.{Fits, w64}
 use Rattle.std.specs.Result.{IfOk}
 use Rattle.std.specs.declared.borrow.CowStr.{CowStr}
 use Rattle.textwrap_text.proofs.Numbers.{is_later-or}
-use Rattle.textwrap_lines.proofs.Text.Sinks.{length-places_of}
-use Rattle.textwrap_lines.specs.Places.{division_cuts}
-use Rattle.textwrap_lines.specs.declared.places.PlacedLines.{PlacedLines}
+use Rattle.textwrap_layout.proofs.Text.Sinks.{length-places_of}
+use Rattle.textwrap_layout.specs.Places.{division_cuts}
+use Rattle.textwrap_layout.specs.declared.places.PlacedLines.{PlacedLines}
 use Rattle.textwrap_display.proofs.JustifiedLines.{join-on, rows, rows-more}
 use Rattle.textwrap_calls.proofs.Lengths.Texts.{ending-length}
 use Rattle.textwrap_calls.proofs.PlaceLemmas.{paragraph-cut, AreCut, HasRest, passes, shown}

@@ -9,8 +9,8 @@ use Rattle.textwrap_calls.specs.Options.{Divides, settings_of}
 use Rattle.textwrap_calls.specs.declared.columns.TextwrapGaps.{TextwrapGaps}
 use Rattle.textwrap_calls.specs.declared.options.TextwrapOptions.{TextwrapOptions}
 use Rattle.textwrap_text.specs.LineEnding.{ending_bytes}
-use Rattle.textwrap_lines.specs.Places.{ArePlacedLines}
-use Rattle.textwrap_lines.specs.declared.places.Place.{Place}
+use Rattle.textwrap_layout.specs.Places.{ArePlacedLines}
+use Rattle.textwrap_layout.specs.declared.places.Place.{Place}
 pub use Rattle.textwrap_text.specs.LentText.{as_len}
 
 -- the greatest length that a number holds

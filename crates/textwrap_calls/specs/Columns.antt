@@ -1,8 +1,8 @@
 -- What is reported of rows.
 use Rattle.std.specs.Prelude.{◌≡◌, ℕ, List, [], ◌∷◌, map, IsUtf8}
 use Rattle.textwrap.specs.Paragraph.{Line, Built}
-use Rattle.textwrap_lines.specs.Places.{CutLine, built_text, cut_line, lines_of, places_of}
-use Rattle.textwrap_lines.specs.declared.places.Place.{Place}
+use Rattle.textwrap_layout.specs.Places.{CutLine, built_text, cut_line, lines_of, places_of}
+use Rattle.textwrap_layout.specs.declared.places.Place.{Place}
 use Rattle.textwrap_display.specs.Tables.{RowGaps}
 use Rattle.textwrap_calls.specs.declared.columns.TextwrapGaps.{TextwrapGaps}
 

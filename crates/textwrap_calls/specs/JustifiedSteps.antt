@@ -3,7 +3,7 @@ use Rattle.std.specs.Prelude.{ℕ, false, List}
 use Rattle.std.specs.List.{flat_map}
 use Rattle.textwrap_display.specs.JustifiedText.{justified_lines}
 use Rattle.textwrap_text.specs.LineEnding.{ending_bytes, join_with, paragraphs_of}
-use Rattle.textwrap_lines.specs.Options.{Settings}
+use Rattle.textwrap_layout.specs.Options.{Settings}
 use Rattle.textwrap_calls.specs.TextSteps.{groups_at}
 use Rattle.textwrap_calls.specs.declared.steps.TextwrapSteps.{TextwrapSteps}
 

@@ -16,8 +16,8 @@ use Rattle.textwrap.specs.Options.{Settings, settings_at}
 use Rattle.textwrap.specs.WordSplitters.{Splitter, Whole, AtHyphens}
 use Rattle.textwrap.specs.WrapAlgorithms.{Algorithm, Greedy, LeastCost}
 use Rattle.textwrap_base.specs.declared.penalties.Penalties.{Penalties}
-use Rattle.textwrap_lines.specs.Places.{ArePlacedLines}
-use Rattle.textwrap_lines.specs.declared.places.Place.{Place}
+use Rattle.textwrap_layout.specs.Places.{ArePlacedLines}
+use Rattle.textwrap_layout.specs.declared.places.Place.{Place}
 use Rattle.textwrap_text.specs.declared.line_ending.LineEnding.TheVariants.{LF, CRLF}
 use Rattle.textwrap_calls.specs.Status.{not_utf8, out_of_memory, unknown_options}
 use Rattle.textwrap_calls.specs.declared.options.TextwrapOptions.{TextwrapOptions}

@@ -1,7 +1,7 @@
 -- What is reported of the paragraphs of a text.
 use Rattle.std.specs.Prelude.{ℕ, ◌+◌, Bool, List, [], ◌∷◌, length, if◌then◌else◌}
-use Rattle.textwrap_lines.specs.Options.{Settings}
-use Rattle.textwrap_lines.specs.Paragraph.{first_width, is_whole, later_width}
+use Rattle.textwrap_layout.specs.Options.{Settings}
+use Rattle.textwrap_layout.specs.Paragraph.{first_width, is_whole, later_width}
 use Rattle.textwrap_calls.specs.declared.paragraphs.TextwrapParagraph.{TextwrapParagraph}
 use Rattle.textwrap_calls.specs.declared.paragraphs.TextwrapWidths.{TextwrapWidths}
 

@@ -2,8 +2,8 @@
 use Rattle.std.specs.Prelude.{◌≡◌, ◌≢◌, ℕ, List, [], ◌∷◌, slice_index}
 use Rattle.textwrap_text.specs.Blanks.{blank}
 use Rattle.textwrap_text.specs.Units.{IsPrintable}
-use Rattle.textwrap_lines.specs.Paragraph.{Slice}
-use Rattle.textwrap_lines.specs.Places.{ArePlacedLines, place_of}
+use Rattle.textwrap_layout.specs.Paragraph.{Slice}
+use Rattle.textwrap_layout.specs.Places.{ArePlacedLines, place_of}
 use Rattle.textwrap_calls.specs.Options.{settings_of, AreKnown, Divides}
 use Rattle.textwrap_calls.specs.declared.options.TextwrapOptions.{TextwrapOptions}
 

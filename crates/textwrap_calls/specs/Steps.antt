@@ -4,8 +4,8 @@ use Rattle.textwrap.specs.Cuts.{AreInnerCuts}
 use Rattle.textwrap.specs.LineEnds.{AreEnds, lines_between}
 use Rattle.textwrap.specs.Options.{Settings}
 use Rattle.textwrap.specs.Paragraph.{Line}
-use Rattle.textwrap_lines.specs.Places.{CutLine, division_cuts, lines_of, places_of}
-use Rattle.textwrap_lines.specs.declared.places.Place.{Place}
+use Rattle.textwrap_layout.specs.Places.{CutLine, division_cuts, lines_of, places_of}
+use Rattle.textwrap_layout.specs.declared.places.Place.{Place}
 use Rattle.textwrap_lines.specs.Steps.{pieces_at}
 use Rattle.textwrap_calls.specs.Options.{says_yes}
 

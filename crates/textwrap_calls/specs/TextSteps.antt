@@ -4,9 +4,9 @@ use Rattle.std.specs.Prelude.{if◌then◌else◌}
 use Rattle.textwrap_words.specs.LineEnds.{lines_between}
 use Rattle.textwrap_words.specs.Words.{WordText, word_of}
 use Rattle.textwrap_text.specs.LineEnding.{ending_bytes, join_with, paragraphs_of}
-use Rattle.textwrap_lines.specs.Options.{Settings}
-use Rattle.textwrap_lines.specs.Paragraph.{LineParts, is_whole, line_bytes, parts_from}
-use Rattle.textwrap_lines.specs.Places.{CutLine, lines_of, text_cuts}
+use Rattle.textwrap_layout.specs.Options.{Settings}
+use Rattle.textwrap_layout.specs.Paragraph.{LineParts, is_whole, line_bytes, parts_from}
+use Rattle.textwrap_layout.specs.Places.{CutLine, lines_of, text_cuts}
 use Rattle.textwrap_lines.specs.Steps.{pieces_at}
 use Rattle.textwrap_calls.specs.Options.{settings_of}
 use Rattle.textwrap_calls.specs.Steps.{AreLineSteps}

@@ -10,8 +10,8 @@ ghost use Rattle.textwrap_calls.specs.Status.{wrong_places};
 ghost use Rattle.textwrap_calls.specs.Steps.{AreLineSteps};
 ghost use Rattle.textwrap_calls.specs.TextSteps.{AreTextSteps, parts_at, AreStepsOf};
 ghost use Rattle.textwrap_text.specs.LineEnding.{paragraphs_of};
-ghost use Rattle.textwrap_lines.specs.Options.{settings_view};
-ghost use Rattle.textwrap_lines.specs.Paragraph.{Slice, is_whole, line_from, line_view};
+ghost use Rattle.textwrap_layout.specs.Options.{settings_view};
+ghost use Rattle.textwrap_layout.specs.Paragraph.{Slice, is_whole, line_from, line_view};
 
 use crate::options::{TextwrapOptions, read_options};
 use crate::room::put;
@@ -22,7 +22,8 @@ use std::alloc::{AllocError, Global};
 use std::borrow::CowStr;
 use textwrap::Options;
 use textwrap_display::inner::push_justified_lines;
-use textwrap_lines::inner::{Layout, is_one_line, whole_line};
+use textwrap_layout::layout::Layout;
+use textwrap_lines::inner::{is_one_line, whole_line};
 use textwrap_lines::parts::split_paragraph;
 
 /// Writes the lines that `textwrap_wrap_at` finds at these steps, all but the last of each paragraph

@@ -6,8 +6,8 @@ ghost use Rattle.textwrap_calls.specs.Pieces.{AreOffsets, offsets_past, piece_pl
 ghost use Rattle.textwrap_calls.specs.Room.{WritesText};
 ghost use Rattle.textwrap_calls.specs.Status.{done, not_utf8, too_small, unknown_options};
 ghost use Rattle.textwrap_calls.specs.Status.{wrong_places};
-ghost use Rattle.textwrap_lines.specs.Options.{settings_view};
-ghost use Rattle.textwrap_lines.specs.Paragraph.{pieces_by, pieces_of};
+ghost use Rattle.textwrap_layout.specs.Options.{settings_view};
+ghost use Rattle.textwrap_layout.specs.Paragraph.{pieces_by, pieces_of};
 ghost use Rattle.textwrap_plain.specs.Options.{words_by};
 ghost use Rattle.textwrap_words.specs.Breaking.{broken_pieces, pieces_left};
 ghost use Rattle.textwrap_words.specs.Pieces.{as_splitter};

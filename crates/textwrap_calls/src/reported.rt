@@ -1,7 +1,7 @@
 //! Lines as they are reported: where each was cut from, or stands in the room.
 ghost use Rattle.std.specs.Prelude.{◌≡◌, ◌⊎◌, ◌∷◌, []};
 ghost use Rattle.textwrap.specs.Paragraph.{Slice};
-ghost use Rattle.textwrap_lines.specs.Places.{place_of};
+ghost use Rattle.textwrap_layout.specs.Places.{place_of};
 ghost use Rattle.textwrap_text.specs.LentText.{as_len};
 ghost use Rattle.textwrap_calls.specs.Status.{done, too_small};
 ghost use Rattle.textwrap_calls.specs.Reported.{Reports, WritesReported};

@@ -13,10 +13,10 @@ ghost use Rattle.textwrap_calls.specs.TextSteps.{AreTextSteps, filled_at, parts_
 ghost use Rattle.textwrap_calls.specs.TextSteps.{AreStepsOf};
 ghost use Rattle.textwrap_calls.specs.Wrapping.{ShowLines, WritesLines};
 ghost use Rattle.textwrap_text.specs.LineEnding.{ending_bytes, join_with, paragraphs_of};
-ghost use Rattle.textwrap_lines.specs.Options.{settings_view};
-ghost use Rattle.textwrap_lines.specs.Paragraph.{Line, is_whole, line_bytes, text_limit};
-ghost use Rattle.textwrap_lines.specs.Places.{HasPlaces, HasPlacesMore, cut_lines, lines_of};
-ghost use Rattle.textwrap_lines.specs.Text.{covered_by};
+ghost use Rattle.textwrap_layout.specs.Options.{settings_view};
+ghost use Rattle.textwrap_layout.specs.Paragraph.{Line, is_whole, line_bytes, text_limit};
+ghost use Rattle.textwrap_layout.specs.Places.{HasPlaces, HasPlacesMore, cut_lines, lines_of};
+ghost use Rattle.textwrap_layout.specs.Text.{covered_by};
 
 use crate::options::{TextwrapOptions, read_options};
 use crate::reported::{TextwrapLine, put_lines};

@@ -9,8 +9,8 @@ use Rattle.textwrap_text.proofs.Common.{false, All-weaker, chars-nil, drop_at, f
 use Rattle.textwrap_text.proofs.Common.{IsUtf8-drop, nat_eq, starts_with, subst, take_at}
 use Rattle.std.specs.declared.borrow.CowStr.{CowStr}
 use Rattle.std.specs.Cow.{cow_str_bytes}
-use Rattle.textwrap_lines.specs.Paragraph.{Line, Built, Slice, line_view, line_bytes}
-use Rattle.textwrap_lines.proofs.Text.Lines.{line_bytes-line_view}
+use Rattle.textwrap_layout.specs.Paragraph.{Line, Built, Slice, line_view, line_bytes}
+use Rattle.textwrap_layout.proofs.Text.Lines.{line_bytes-line_view}
 use Rattle.textwrap_display.specs.Shortening.{texts_of}
 use Rattle.textwrap_display.specs.Indents.{after_indent, indent_end, before_text}
 use Rattle.textwrap_display.specs.Styles.{carried_line, carried_lines, closing, opening, sequences}

@@ -7,22 +7,22 @@ use Rattle.textwrap_text.proofs.Common.{length-append, length-map, ending_bytes,
 use Rattle.textwrap_text.proofs.Common.{paragraphs_of, text_width}
 use Rattle.std.specs.Cow.{cow_str_bytes}
 use Rattle.std.specs.declared.borrow.CowStr.{CowStr}
-use Rattle.textwrap_lines.proofs.Common.{indent_of, line_bytes, line_view, Settings, line_from}
-use Rattle.textwrap_lines.proofs.Common.{LineParts, parts_from, parts_of, AreGroups}
-use Rattle.textwrap_lines.proofs.Common.{AreParagraphParts, DividesAs, DividesBy, HasParts}
-use Rattle.textwrap_lines.proofs.Common.{settings_view}
-use Rattle.textwrap_lines.proofs.Text.Lines.{line_bytes-line_view}
+use Rattle.textwrap_layout.proofs.Common.{indent_of, line_bytes, line_view, Settings, line_from}
+use Rattle.textwrap_layout.proofs.Common.{LineParts, parts_from, parts_of, AreGroups}
+use Rattle.textwrap_layout.proofs.Common.{AreParagraphParts, DividesAs, DividesBy, HasParts}
+use Rattle.textwrap_layout.proofs.Common.{settings_view}
+use Rattle.textwrap_layout.proofs.Text.Lines.{line_bytes-line_view}
 use Rattle.textwrap_display.specs.JustifiedText.{joined_on, justified_after}
 use Rattle.textwrap_display.specs.JustifiedText.{justified_after_indents, justified_line}
 use Rattle.textwrap_display.specs.JustifiedText.{justified_lines, IsJustifiedText}
 use Rattle.textwrap_text.proofs.Lists.Parts.{starts_with-true}
 use Rattle.textwrap_text.proofs.Numbers.{or_false, some_later, is_later-or}
 use Rattle.textwrap_words.proofs.Common.{WordText, Algorithm, Splitter}
-use Rattle.textwrap_lines.proofs.Text.Sinks.{assembled-bytes}
+use Rattle.textwrap_layout.proofs.Text.Sinks.{assembled-bytes}
 use Rattle.textwrap_display.specs.Justifying.{justified}
-use Rattle.textwrap_lines.specs.declared.options.Options.{Options}
-use Rattle.textwrap_lines.proofs.Paragraph.Pieces.{divides}
-use Rattle.textwrap_lines.specs.Paragraph.{Adds}
+use Rattle.textwrap_layout.specs.declared.options.Options.{Options}
+use Rattle.textwrap_layout.proofs.Paragraph.Pieces.{divides}
+use Rattle.textwrap_layout.specs.Paragraph.{Adds}
 use Rattle.std.proofs.lemmas.List.{drop-map}
 
 -- ---- what the lines of a paragraph add to a text, the first of them and those after it

@@ -16,8 +16,8 @@ use Rattle.textwrap_display.proofs.KeptWords.{read-more}
 use Rattle.textwrap_text.proofs.Units.Reading.{read-all}
 use Rattle.std.specs.Cow.{cow_str_bytes}
 use Rattle.std.specs.declared.borrow.CowStr.TheVariants.{Borrowed, Owned}
-use Rattle.textwrap_lines.specs.Paragraph.{Line, Built, Slice, line_bytes, line_view}
-use Rattle.textwrap_lines.proofs.Text.Lines.{line_bytes-line_view}
+use Rattle.textwrap_layout.specs.Paragraph.{Line, Built, Slice, line_bytes, line_view}
+use Rattle.textwrap_layout.proofs.Text.Lines.{line_bytes-line_view}
 
 -- ---- what the reader has found of a line up to a place: the longest beginning that may be kept
 

@@ -9,7 +9,7 @@ use Rattle.textwrap_text.proofs.Common.{nil_from_length, take, append_assoc, fla
 use Rattle.std.specs.Str.{chars}
 use Rattle.textwrap_text.specs.Units.{IsWhole, units, characters, Sequence, TextUnit, Visible}
 use Rattle.textwrap_text.specs.Units.{visible_of, ends, visible}
-use Rattle.textwrap_lines.proofs.Text.Paragraphs.{units-append}
+use Rattle.textwrap_layout.proofs.Text.Paragraphs.{units-append}
 use Rattle.textwrap_display.specs.Styled.{IsWholeText, styled, StyledCharacter, styled_text}
 use Rattle.textwrap_text.proofs.Texts.{utf8-back, utf8-front}
 use Rattle.std.specs.List.{concat}

@@ -2,7 +2,7 @@
 -- text `\u{1b}` is ESC.
 use Rattle.textwrap_text.proofs.Common.{◌≡◌, true, false, [], ◌∷◌, refl, codes}
 use Rattle.textwrap_display.specs.Styles.{carried_lines, has_target, is_link, is_reset, is_style}
-use Rattle.textwrap_lines.specs.Paragraph.{Built, Slice}
+use Rattle.textwrap_layout.specs.Paragraph.{Built, Slice}
 use Rattle.std.specs.Str.{chars}
 use lib.Utf8.{encode}
 use Rattle.textwrap_display.specs.Styled.{styled_lines, styled_text}

@@ -21,8 +21,8 @@ use Rattle.std.proofs.Math.Nat.{add-div_right, div-eq_of_lt, div-le_self}
 use Rattle.std.specs.Fork.{slice_chunk}
 use Rattle.std.specs.Slice.Iter.{chunk_count}
 use Rattle.std.specs.List.{AllZip, flat_map}
-use Rattle.textwrap_lines.proofs.Common.{Line}
-use Rattle.textwrap_lines.proofs.Paragraph.Pieces.{lines-as}
+use Rattle.textwrap_layout.proofs.Common.{Line}
+use Rattle.textwrap_layout.proofs.Paragraph.Pieces.{lines-as}
 use Rattle.textwrap_display.specs.declared.tables.Column.{Column}
 
 -- ---- the cells of a row: their lines, and what the columns show of them

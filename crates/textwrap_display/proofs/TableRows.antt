@@ -15,8 +15,8 @@ use Rattle.textwrap_display.specs.Tables.{cell_line, group_rows, height, RowGaps
 use Rattle.textwrap_display.specs.Tables.{shown_lines, row_text, gap_before}
 use Rattle.textwrap_display.proofs.TableGroups.{length-shown, shown-at, length-padded}
 use Rattle.std.proofs.Math.Nat.{suc-mul}
-use Rattle.textwrap_lines.proofs.Common.{line_bytes}
-use Rattle.textwrap_lines.proofs.Text.Paragraphs.{text_width-append}
+use Rattle.textwrap_layout.proofs.Common.{line_bytes}
+use Rattle.textwrap_layout.proofs.Text.Paragraphs.{text_width-append}
 use Rattle.textwrap_words.proofs.Word.Words.{text_width-nil}
 use Rattle.textwrap_text.specs.Units.{text_width}
 use Rattle.textwrap_display.specs.Styled.{IsWholeText}

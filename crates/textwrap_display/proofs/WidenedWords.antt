@@ -26,7 +26,7 @@ use Rattle.std.specs.Prelude.{◌%◌}
 use Rattle.std.proofs.lemmas.Bool.{or_cases}
 use Rattle.std.proofs.lemmas.List.Folds.{length-prefix_len}
 use Rattle.std.proofs.Math.Nat.{zero-div, zero-mod}
-use Rattle.textwrap_lines.specs.Paragraph.{Slice, line_bytes}
+use Rattle.textwrap_layout.specs.Paragraph.{Slice, line_bytes}
 use Rattle.textwrap_text.specs.Units.{text_width}
 use Rattle.textwrap_display.specs.Laws.{KeepsWords}
 

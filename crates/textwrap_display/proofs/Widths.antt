@@ -13,13 +13,13 @@ use Rattle.textwrap_text.specs.Units.{text_width}
 use Rattle.textwrap_text.proofs.Units.Reading.{printable-width}
 use Rattle.textwrap_text.proofs.Units.Chunks.{chunks-utf8}
 use Rattle.textwrap_words.proofs.Word.Texts.{AreBlanks}
-use Rattle.textwrap_lines.proofs.Paragraph.LeftOff.{blanks-utf8}
+use Rattle.textwrap_layout.proofs.Paragraph.LeftOff.{blanks-utf8}
 use Rattle.textwrap_lines.proofs.Text.Printed.{blanks-printable, blanks-whole}
-use Rattle.textwrap_lines.proofs.Text.Paragraphs.{text_width-append}
+use Rattle.textwrap_layout.proofs.Text.Paragraphs.{text_width-append}
 use Rattle.textwrap_words.proofs.Word.Words.{text_width-nil, IsMeasured, words-measured}
 use Rattle.textwrap_words.proofs.Word.Words.{tiled-words_of}
-use Rattle.textwrap_lines.specs.Paragraph.{line_bytes}
-use Rattle.textwrap_lines.specs.Text.{HasWholeSequences}
+use Rattle.textwrap_layout.specs.Paragraph.{line_bytes}
+use Rattle.textwrap_layout.specs.Text.{HasWholeSequences}
 use Rattle.textwrap_display.specs.Alignment.{aligned, blanks_before, spread}
 use Rattle.textwrap_display.specs.declared.alignment.Alignment.{Alignment}
 use Rattle.textwrap_display.specs.declared.alignment.Alignment.TheVariants.{Left, Right, Centre}

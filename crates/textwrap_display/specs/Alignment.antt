@@ -1,7 +1,7 @@
 -- A line with blanks up to a width.
 use Rattle.std.specs.Prelude.{ℕ, ◌-◌, ◌/◌, ◌==◌, List, ◌++◌, if◌then◌else◌}
 use Rattle.textwrap.specs.Columns.{blanks}
-use Rattle.textwrap_lines.specs.Paragraph.{Line, Built, Slice}
+use Rattle.textwrap_layout.specs.Paragraph.{Line, Built, Slice}
 use Rattle.textwrap_text.specs.Units.{text_width}
 use Rattle.textwrap_display.specs.declared.alignment.Alignment.{Alignment}
 use Rattle.textwrap_display.specs.declared.alignment.Alignment.TheVariants.{Left, Right, Centre}

@@ -5,10 +5,10 @@ use Rattle.std.specs.List.{flat_map}
 use Rattle.textwrap_display.specs.Indents.{after_indent, before_text}
 use Rattle.textwrap_display.specs.Justifying.{justified}
 use Rattle.textwrap_text.specs.LineEnding.{ending_bytes, join_with, paragraphs_of}
-use Rattle.textwrap_lines.specs.Options.{Settings}
-use Rattle.textwrap_lines.specs.Paragraph.{Line, LineParts, AreParagraphParts, indent_of}
-use Rattle.textwrap_lines.specs.Paragraph.{line_bytes, line_from}
-use Rattle.textwrap_lines.specs.Text.{AreGroups}
+use Rattle.textwrap_layout.specs.Options.{Settings}
+use Rattle.textwrap_layout.specs.Paragraph.{Line, LineParts, AreParagraphParts, indent_of}
+use Rattle.textwrap_layout.specs.Paragraph.{line_bytes, line_from}
+use Rattle.textwrap_layout.specs.Text.{AreGroups}
 use Rattle.textwrap_text.specs.Units.{text_width}
 use Rattle.textwrap_words.specs.Words.{WordText}
 

@@ -3,7 +3,7 @@ use Rattle.std.specs.Prelude.{ℕ, ◌-◌, ◌/◌, ◌%◌, ◌==◌, ◌||◌
 use Rattle.std.specs.Prelude.{take, drop, if◌then◌else◌}
 use Rattle.std.specs.List.{prefix_len}
 use Rattle.textwrap.specs.Columns.{blanks}
-use Rattle.textwrap_lines.specs.Paragraph.{Line, Built, Slice}
+use Rattle.textwrap_layout.specs.Paragraph.{Line, Built, Slice}
 use Rattle.textwrap_text.specs.Blanks.{is_blank}
 use Rattle.textwrap_text.specs.Units.{text_width}
 use Rattle.textwrap_words.specs.Words.{WordText, tiled, words_of}

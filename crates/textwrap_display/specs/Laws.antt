@@ -9,10 +9,10 @@ use Rattle.textwrap_display.specs.Shortening.{IsKeptBeginning, IsShortened}
 use Rattle.textwrap_display.specs.Tables.{group_rows, height, RowGaps, Shape}
 use Rattle.textwrap_display.specs.declared.alignment.Alignment.{Alignment}
 use Rattle.textwrap_text.specs.LineEnding.{join_with}
-use Rattle.textwrap_lines.specs.Text.{HasWholeSequences}
+use Rattle.textwrap_layout.specs.Text.{HasWholeSequences}
 use Rattle.textwrap_text.specs.Units.{text_width}
 use Rattle.textwrap_words.specs.Words.{words_of}
-use Rattle.textwrap_lines.specs.Paragraph.{Line, Slice, line_bytes}
+use Rattle.textwrap_layout.specs.Paragraph.{Line, Slice, line_bytes}
 use Rattle.textwrap_display.specs.Styled.{EachWithIndent, EndsPlain, IsWholeText, MayCarry}
 use Rattle.textwrap_display.specs.Styled.{styled_lines, styled_text}
 use Rattle.textwrap_display.specs.Indents.{after_indent}

@@ -2,7 +2,7 @@
 use Rattle.std.specs.Prelude.{◌≡◌, ℕ, ◌+◌, ◌-◌, ◌≤◌, Bool, true, not, ◌==◌, ◌&&◌, ◌||◌, ◌⊎◌, List}
 use Rattle.std.specs.Prelude.{[], ◌∷◌, ◌++◌, length, take, map, slice_index}
 use Rattle.std.specs.declared.borrow.CowStr.{CowStr}
-use Rattle.textwrap_lines.specs.Paragraph.{Line, Built, Slice, line_bytes, line_view}
+use Rattle.textwrap_layout.specs.Paragraph.{Line, Built, Slice, line_bytes, line_view}
 use Rattle.textwrap_text.specs.Blanks.{is_blank}
 use Rattle.textwrap_text.specs.Units.{text_width}
 

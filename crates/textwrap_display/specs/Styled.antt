@@ -2,7 +2,7 @@
 -- stands.
 use Rattle.std.specs.Prelude.{◌≡◌, ℕ, ⊤, List, [], ◌∷◌, ◌++◌, All, IsUtf8, chars, encode_utf8_all}
 use Rattle.textwrap_text.specs.Units.{TextUnit, Visible, Sequence, units}
-use Rattle.textwrap_lines.specs.Text.{HasWholeSequences}
+use Rattle.textwrap_layout.specs.Text.{HasWholeSequences}
 use Rattle.textwrap_display.specs.Indents.{after_indent, before_text}
 use Rattle.textwrap_display.specs.Styles.{open_link, open_styles, sequences}
 

@@ -7,7 +7,7 @@ use Rattle.std.specs.Int.{is_in_range}
 use Rattle.std.specs.List.{after_first, after_last, concat, ends_with, flat_map, list_all, list_any}
 use Rattle.std.specs.List.{starts_with}
 use Rattle.textwrap_text.specs.Units.{TextUnit, Visible, Sequence, units}
-use Rattle.textwrap_lines.specs.Paragraph.{Line, Built, Slice}
+use Rattle.textwrap_layout.specs.Paragraph.{Line, Built, Slice}
 use Rattle.textwrap_display.specs.Indents.{after_indent, before_text}
 
 -- the escape sequences of a text, in their order

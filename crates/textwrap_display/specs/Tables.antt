@@ -8,9 +8,9 @@ use Rattle.std.specs.List.{AllZip, flat_map, range_with_len, zip}
 use Rattle.std.specs.Slice.Iter.{chunk_count}
 use Rattle.std.specs.declared.borrow.CowStr.{CowStr}
 use Rattle.textwrap_text.specs.LineEnding.{join_with}
-use Rattle.textwrap_lines.specs.Options.{HasParts, Settings, settings_view}
-use Rattle.textwrap_lines.specs.Paragraph.{DividesAs, DividesBy, Line, line_bytes}
-use Rattle.textwrap_lines.specs.Text.{AreTextLines, SomeMayPass64Bits}
+use Rattle.textwrap_layout.specs.Options.{HasParts, Settings, settings_view}
+use Rattle.textwrap_layout.specs.Paragraph.{DividesAs, DividesBy, Line, line_bytes}
+use Rattle.textwrap_layout.specs.Text.{AreTextLines, SomeMayPass64Bits}
 use Rattle.textwrap_words.specs.WordSplitters.{Splitter}
 use Rattle.textwrap_words.specs.WrapAlgorithms.{Algorithm}
 use Rattle.textwrap_display.specs.Alignment.{aligned}

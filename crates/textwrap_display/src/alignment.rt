@@ -2,7 +2,7 @@
 ghost use Rattle.std.specs.Prelude.{◌≡◌, ◌+◌, ◌-◌, ◌<◌, ◌^◌, ◌++◌, length, string_bytes};
 ghost use Rattle.std.specs.Prelude.{IfOk, OnOk, SomeIff};
 ghost use Rattle.textwrap_display.specs.Alignment.{aligned, blanks_before, spread};
-ghost use Rattle.textwrap_lines.specs.Paragraph.{line_bytes, line_view};
+ghost use Rattle.textwrap_layout.specs.Paragraph.{line_bytes, line_view};
 ghost use Rattle.textwrap_text.specs.Units.{text_width};
 
 use std::alloc::{AllocError, Allocator};

@@ -4,9 +4,10 @@ ghost use Rattle.std.specs.Prelude.{if◌then◌else◌, IfErr, IfOk, OnOk};
 ghost use Rattle.textwrap_display.specs.JustifiedText.{IsJustifiedText, joined_on};
 ghost use Rattle.textwrap_display.specs.JustifiedText.{justified_after, justified_after_indents};
 ghost use Rattle.textwrap_text.specs.LineEnding.{ending_bytes};
-ghost use Rattle.textwrap_lines.specs.Options.{Settings, layout_view, settings_view, HasParts, MayOverflow};
-ghost use Rattle.textwrap_lines.specs.Paragraph.{line_view, DividesAs, DividesBy};
-ghost use Rattle.textwrap_lines.specs.Text.{HasParagraphThat, SomeMayPass64Bits};
+ghost use Rattle.textwrap_layout.specs.Options.{Settings, layout_view, settings_view, HasParts};
+ghost use Rattle.textwrap_layout.specs.Options.{MayOverflow};
+ghost use Rattle.textwrap_layout.specs.Paragraph.{line_view, DividesAs, DividesBy};
+ghost use Rattle.textwrap_layout.specs.Text.{HasParagraphThat, SomeMayPass64Bits};
 ghost use Rattle.textwrap_words.specs.WordSplitters.{Splitter};
 ghost use Rattle.textwrap_words.specs.WrapAlgorithms.{Algorithm};
 
@@ -16,7 +17,9 @@ use std::alloc::{AllocError, Allocator};
 use std::borrow::CowStr;
 use textwrap::words::display_width;
 use textwrap::{LineEnding, Options, WrapError};
-use textwrap_lines::inner::{AnyOptions, Layout, next_indent, wrap_paragraph};
+use textwrap_layout::any_options::AnyOptions;
+use textwrap_layout::layout::{Layout, next_indent};
+use textwrap_lines::inner::wrap_paragraph;
 use textwrap_lines::parts::split_paragraph;
 
 /// The text that [`fill`](textwrap::fill) gives, with its lines justified to the width of the

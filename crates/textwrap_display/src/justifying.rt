@@ -3,7 +3,7 @@ ghost use Rattle.std.specs.Prelude.{◌≡◌, ◌≢◌, ◌-◌, ◌/◌, ◌%
 ghost use Rattle.std.specs.Prelude.{take, IfOk, MatchOption, OnOk};
 ghost use Rattle.textwrap_display.specs.Justifying.{gaps, indent_len, justified, line_words};
 ghost use Rattle.textwrap_display.specs.Justifying.{widened_words};
-ghost use Rattle.textwrap_lines.specs.Paragraph.{Built, Slice, line_bytes, line_view};
+ghost use Rattle.textwrap_layout.specs.Paragraph.{Built, Slice, line_bytes, line_view};
 ghost use Rattle.textwrap_words.specs.Words.{tiled, words_of};
 
 use std::alloc::{AllocError, Allocator};

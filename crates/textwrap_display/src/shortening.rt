@@ -2,7 +2,7 @@
 ghost use Rattle.std.specs.Prelude.{◌≡◌, ◌++◌, ◌<◌, ◌≤◌, [], length, map, string_bytes, IfOk, OnOk};
 ghost use Rattle.textwrap_display.specs.Shortening.{AreShortened, IsKeptBeginning, IsShortened};
 ghost use Rattle.textwrap_display.specs.Shortening.{texts_of};
-ghost use Rattle.textwrap_lines.specs.Paragraph.{Built, Slice, line_view};
+ghost use Rattle.textwrap_layout.specs.Paragraph.{Built, Slice, line_view};
 ghost use Rattle.textwrap_text.specs.Units.{text_width};
 
 use std::alloc::{AllocError, Allocator};

@@ -10,7 +10,7 @@ ghost use Rattle.textwrap_display.specs.OpenStyles.{IsOpenAfter};
 ghost use Rattle.textwrap_display.specs.Shortening.{texts_of};
 ghost use Rattle.textwrap_display.specs.Styles.{carried_lines, closing, is_link, is_style};
 ghost use Rattle.textwrap_display.specs.Styles.{link_fields, opening, sequences, style_parameters};
-ghost use Rattle.textwrap_lines.specs.Paragraph.{Built, Slice, line_view};
+ghost use Rattle.textwrap_layout.specs.Paragraph.{Built, Slice, line_view};
 ghost use Rattle.textwrap_text.specs.Units.{escape_len};
 
 use crate::indents::indent_end;

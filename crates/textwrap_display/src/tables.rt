@@ -8,7 +8,7 @@ ghost use Rattle.textwrap_display.specs.Tables.{AreTableRows, IsTableBy, IsTable
 ghost use Rattle.textwrap_display.specs.Tables.{cell_texts};
 ghost use Rattle.textwrap_display.specs.Tables.{gap_before, gaps_view, group_rows, height};
 ghost use Rattle.textwrap_display.specs.Tables.{row_text, rows_of_cells, shape_of, texts_in};
-ghost use Rattle.textwrap_lines.specs.Options.{MayOverflow};
+ghost use Rattle.textwrap_layout.specs.Options.{MayOverflow};
 
 use crate::alignment::{Alignment, aligned_len, push_aligned};
 use std::alloc::{AllocError, Allocator};
@@ -28,7 +28,7 @@ pub struct Column<'o> {
 /// A column of a table: how its texts are wrapped, and where their lines stand in it.
 pub trait AnyColumn<A: Allocator> {
     ghost use Rattle.std.specs.Prelude.{◌≡◌, ℕ, List, alloc_error, map, IfErr, IfOk};
-    ghost use Rattle.textwrap_lines.specs.Paragraph.{Line, line_view};
+    ghost use Rattle.textwrap_layout.specs.Paragraph.{Line, line_view};
     ghost use Rattle.textwrap_display.specs.Tables.{Shape};
 
     // The lines of a text in it.
@@ -63,8 +63,8 @@ pub trait AnyColumn<A: Allocator> {
 }
 
 impl<A: Allocator + Copy> AnyColumn<A> for Column<'_> {
-    ghost use Rattle.textwrap_lines.specs.Options.{MayOverflow};
-    ghost use Rattle.textwrap_lines.specs.Text.{SomeMayPass64Bits};
+    ghost use Rattle.textwrap_layout.specs.Options.{MayOverflow};
+    ghost use Rattle.textwrap_layout.specs.Text.{SomeMayPass64Bits};
     ghost use Rattle.textwrap_display.specs.Tables.{ColumnMakes, shape_of};
 
     ghost makes = { λ column. ColumnMakes column };

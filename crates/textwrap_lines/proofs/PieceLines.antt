@@ -13,26 +13,26 @@ use Rattle.textwrap_words.specs.declared.pieces.Piece.{Piece}
 use Rattle.textwrap_text.proofs.Units.Reading.{text_width-le}
 use Rattle.textwrap_words.proofs.Word.Words.{IsMeasured, tiled-append, HasNoPenalty}
 use Rattle.textwrap_words.proofs.Word.Pieces.{AreTexts}
-use Rattle.textwrap_lines.proofs.Common.{Settings, pieces_of_words, front_of, text_limit}
-use Rattle.textwrap_lines.proofs.Common.{later_width, first_width, indent_of, lines_past, LineSoFar}
-use Rattle.textwrap_lines.proofs.Common.{pieces_of, covered, with_piece, assembled_line, line_from}
-use Rattle.textwrap_lines.proofs.Common.{parts_from, parts_of, widths_of, line_of, cut_line}
-use Rattle.textwrap_lines.proofs.Common.{cut_lines}
+use Rattle.textwrap_layout.proofs.Common.{Settings, pieces_of_words, front_of, text_limit}
+use Rattle.textwrap_layout.proofs.Common.{later_width, first_width, indent_of, pieces_of, covered}
+use Rattle.textwrap_layout.proofs.Common.{assembled_line, line_from, parts_from, parts_of}
+use Rattle.textwrap_layout.proofs.Common.{widths_of, cut_line, cut_lines}
+use Rattle.textwrap_lines.proofs.Common.{lines_past, LineSoFar, with_piece, line_of}
 use Rattle.textwrap_lines.specs.PieceLines.{ComesAt, is_past, line_opened, no_pieces}
-use Rattle.textwrap_lines.proofs.Paragraph.LeftOff.{covered-space, assembled-parts}
-use Rattle.textwrap_lines.proofs.Paragraph.Pieces.{pieces_of_words-measured, pieces_of_words-tile}
-use Rattle.textwrap_lines.proofs.Paragraph.Pieces.{words_of-texts}
-use Rattle.textwrap_lines.specs.Layout.{break_limit}
+use Rattle.textwrap_layout.proofs.Paragraph.LeftOff.{covered-space, assembled-parts}
+use Rattle.textwrap_layout.proofs.Paragraph.Pieces.{pieces_of_words-measured, pieces_of_words-tile}
+use Rattle.textwrap_layout.proofs.Paragraph.Pieces.{words_of-texts}
+use Rattle.textwrap_layout.specs.Layout.{break_limit}
 use Rattle.textwrap_words.specs.PieceCuts.{pieces_from_place}
 use Rattle.textwrap_words.proofs.Word.SplitParts.{pieces-start}
 use Rattle.textwrap_base.proofs.Division.Greedy.{open_width-append, closed_width-push}
-use Rattle.textwrap_lines.proofs.Paragraph.Covered.{covered-push}
+use Rattle.textwrap_layout.proofs.Paragraph.Covered.{covered-push}
 use Rattle.textwrap_base.proofs.Division.Grown.{grown, grown-full, grown-room, grown-greedy}
 use Rattle.textwrap_text.proofs.Lists.Parts.{all-left, all-right}
-use Rattle.textwrap_lines.proofs.Paragraph.Widths.{later_is}
-use Rattle.textwrap_lines.proofs.Text.Sinks.{cut_lines-next}
-use Rattle.textwrap_lines.proofs.Paragraph.Standing.{ends, limited-pieces, next, stands-at, utf8}
-use Rattle.textwrap_lines.proofs.Paragraph.Standing.{word, word_ends}
+use Rattle.textwrap_layout.proofs.Paragraph.Widths.{later_is}
+use Rattle.textwrap_layout.proofs.Text.Sinks.{cut_lines-next}
+use Rattle.textwrap_layout.proofs.Paragraph.Standing.{ends, limited-pieces, next, stands-at, utf8}
+use Rattle.textwrap_layout.proofs.Paragraph.Standing.{word, word_ends}
 
 -- ---- the pieces of a text that stand after a place
 

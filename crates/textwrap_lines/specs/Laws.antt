@@ -2,13 +2,13 @@
 use Rattle.std.specs.Prelude.{◌≡◌, ◌↔◌, ℕ, Bool, true, List, IsUtf8, Some}
 use Rattle.textwrap_words.specs.Words.{WordText, AreWordsOf}
 use Rattle.textwrap_words.specs.WrapAlgorithms.{Algorithm, Greedy}
-use Rattle.textwrap_lines.specs.Filling.{IsFilled}
+use Rattle.textwrap_layout.specs.Filling.{IsFilled}
 use Rattle.textwrap_text.specs.LineEnding.{AreParagraphs, paragraphs_of}
-use Rattle.textwrap_lines.specs.Options.{Settings}
-use Rattle.textwrap_lines.specs.Paragraph.{ArePieces, pieces_of, DividesAs, AreDividedParts}
-use Rattle.textwrap_lines.specs.Paragraph.{AreParagraphParts, Line}
-use Rattle.textwrap_lines.specs.Text.{AreTextLines, IsWrapped, LinesKeepToWidth}
-use Rattle.textwrap_lines.specs.Text.{CanKeepToWidth, ArePrintedWithin}
+use Rattle.textwrap_layout.specs.Options.{Settings}
+use Rattle.textwrap_layout.specs.Paragraph.{ArePieces, pieces_of, DividesAs, AreDividedParts}
+use Rattle.textwrap_layout.specs.Paragraph.{AreParagraphParts, Line}
+use Rattle.textwrap_layout.specs.Text.{AreTextLines, IsWrapped, LinesKeepToWidth, CanKeepToWidth}
+use Rattle.textwrap_layout.specs.Text.{ArePrintedWithin}
 use Rattle.textwrap_words.specs.WordSplitters.{Splitter, ArePoints}
 use Rattle.textwrap_text.specs.declared.line_ending.LineEnding.{LineEnding}
 pub use Rattle.textwrap_words.specs.Laws.{UnitsAreUnique, WordsAreUnique, BrokenPiecesAreUnique}

@@ -5,13 +5,12 @@ use Rattle.textwrap_words.specs.PieceCuts.{pieces_from_place}
 use Rattle.textwrap_words.specs.Pieces.{stand_from}
 use Rattle.textwrap_words.specs.WordSplitters.{Splitter}
 use Rattle.textwrap_words.specs.declared.pieces.Piece.{Piece}
-use Rattle.textwrap_lines.specs.Layout.{break_limit}
-use Rattle.textwrap_lines.specs.Options.{Settings}
-use Rattle.textwrap_lines.specs.Paragraph.{first_width, indent_of, later_width}
-use Rattle.textwrap_lines.specs.Paragraph.{pieces_of}
-use Rattle.textwrap_lines.specs.Places.{CutLine}
-use Rattle.textwrap_lines.specs.LineBounds.{line_between}
-use Rattle.textwrap_lines.specs.declared.line_bounds.LineBounds.{LineBounds}
+use Rattle.textwrap_layout.specs.Layout.{break_limit}
+use Rattle.textwrap_layout.specs.Options.{Settings}
+use Rattle.textwrap_layout.specs.Paragraph.{first_width, indent_of, later_width, pieces_of}
+use Rattle.textwrap_layout.specs.Places.{CutLine}
+use Rattle.textwrap_layout.specs.LineBounds.{line_between}
+use Rattle.textwrap_layout.specs.declared.line_bounds.LineBounds.{LineBounds}
 use Rattle.textwrap_lines.specs.declared.piece_lines.OpenLine.{OpenLine}
 
 -- ---- the line that takes the next piece

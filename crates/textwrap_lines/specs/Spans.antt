@@ -5,12 +5,12 @@ use Rattle.textwrap_base.specs.Cost.{PricedSizes}
 use Rattle.textwrap_base.specs.Measured.{AreMeasured}
 use Rattle.textwrap_base.specs.Sizes.{Sizes}
 use Rattle.textwrap_words.specs.Words.{WordText}
-use Rattle.textwrap_lines.specs.Options.{Settings}
-use Rattle.textwrap_lines.specs.Paragraph.{indent_of}
-use Rattle.textwrap_lines.specs.Places.{CutLine}
-use Rattle.textwrap_lines.specs.LineBounds.{AreBounds, line_between}
+use Rattle.textwrap_layout.specs.Options.{Settings}
+use Rattle.textwrap_layout.specs.Paragraph.{indent_of}
+use Rattle.textwrap_layout.specs.Places.{CutLine}
+use Rattle.textwrap_layout.specs.LineBounds.{AreBounds, line_between}
 use Rattle.textwrap_lines.specs.declared.spans.Span.{Span}
-use Rattle.textwrap_lines.specs.declared.line_bounds.LineBounds.{LineBounds}
+use Rattle.textwrap_layout.specs.declared.line_bounds.LineBounds.{LineBounds}
 
 -- where a piece stands that follows so many bytes and so many columns
 abbrev pub span_of : ℕ → ℕ → WordText → Span

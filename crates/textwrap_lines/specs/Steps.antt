@@ -4,8 +4,8 @@ use Rattle.std.specs.Prelude.{length, map}
 use Rattle.textwrap_words.specs.Cuts.{AreInnerCuts, parts_between}
 use Rattle.textwrap_words.specs.WordSplitters.{split_pieces}
 use Rattle.textwrap_words.specs.Words.{WordText, tile_of, word_of}
-use Rattle.textwrap_lines.specs.Options.{Settings}
-use Rattle.textwrap_lines.specs.Paragraph.{broken_pieces_of}
+use Rattle.textwrap_layout.specs.Options.{Settings}
+use Rattle.textwrap_layout.specs.Paragraph.{broken_pieces_of}
 
 abbrev pub is_between : ℕ → ℕ → ℕ → Bool
 is_between start end point = nat_lt start point && nat_lt point end

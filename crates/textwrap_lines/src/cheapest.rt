@@ -9,20 +9,20 @@ ghost use Rattle.textwrap_base.specs.Queue.{AreAtMost, SuitQueue, queue_limit};
 ghost use Rattle.textwrap_base.specs.Table.{fragment_costs, FollowStarts, IsByTable};
 ghost use Rattle.textwrap_words.specs.Words.{WordText, sizes_of};
 ghost use Rattle.textwrap_lines.specs.Cheapest.{SuitSearch};
-ghost use Rattle.textwrap_lines.specs.Direct.{CanBeCut, pieces_cut, cuts_of};
-ghost use Rattle.textwrap_lines.specs.Frame.{frame_lines, frame_settings, frame_widths};
-ghost use Rattle.textwrap_lines.specs.LineSinks.{Took};
+ghost use Rattle.textwrap_layout.specs.Direct.{CanBeCut, pieces_cut, cuts_of};
+ghost use Rattle.textwrap_layout.specs.Frame.{frame_lines, frame_settings, frame_widths};
+ghost use Rattle.textwrap_layout.specs.LineSinks.{Took};
 ghost use Rattle.textwrap_lines.specs.Spans.{AreSpans, HaveTexts, span_lines};
 ghost use Rattle.textwrap_lines.specs.Spans.{span_priced};
 
-use crate::frame::Frame;
-use crate::layout::{Cuts, next_indent};
-use crate::line_bounds::{LineBounds, push_between};
-use crate::line_sinks::LineSink;
 use crate::spans::{Span, find_spans};
 use std::alloc::{AllocError, Allocator};
 use textwrap_base::inner::{line_cost, lines_by};
 use textwrap_base::minima::{CostSource, queue_search};
+use textwrap_layout::frame::Frame;
+use textwrap_layout::layout::{Cuts, next_indent};
+use textwrap_layout::line_bounds::{LineBounds, push_between};
+use textwrap_layout::line_sinks::LineSink;
 use textwrap_words::wrap_algorithms::Penalties;
 
 /// The greatest length of a text whose lines are searched for. It has at most as many columns, and

@@ -1,22 +1,22 @@
 //! Filling: a wrapped text as one text.
 ghost use Rattle.std.specs.Prelude.{◌≡◌, ℕ, List, length, alloc_error, map, string_bytes};
 ghost use Rattle.std.specs.Prelude.{IfOk, IfErr, IsOk};
-ghost use Rattle.textwrap_lines.specs.Direct.{IsDirect};
+ghost use Rattle.textwrap_layout.specs.Direct.{IsDirect};
 ghost use Rattle.textwrap_text.specs.LentText.{as_len, written_over};
 ghost use Rattle.textwrap_text.specs.LineEnding.{ending_bytes, join_with};
-ghost use Rattle.textwrap_lines.specs.Options.{Settings, settings_view, HasParts, MayOverflow};
+ghost use Rattle.textwrap_layout.specs.Options.{Settings, settings_view, HasParts, MayOverflow};
 ghost use Rattle.textwrap_words.specs.WordSplitters.{Splitter};
 ghost use Rattle.textwrap_words.specs.WrapAlgorithms.{Algorithm};
-ghost use Rattle.textwrap_lines.specs.Paragraph.{DividesAs, DividesBy, line_bytes, line_view};
-ghost use Rattle.textwrap_lines.specs.Filling.{IsFilled};
-ghost use Rattle.textwrap_lines.specs.Text.{HasParagraphThat, SomeMayPass64Bits};
+ghost use Rattle.textwrap_layout.specs.Paragraph.{DividesAs, DividesBy, line_bytes, line_view};
+ghost use Rattle.textwrap_layout.specs.Filling.{IsFilled};
+ghost use Rattle.textwrap_layout.specs.Text.{HasParagraphThat, SomeMayPass64Bits};
 
-use crate::any_options::AnyOptions;
-use crate::line_sinks::{JoinedLines, LentLines, ListedLines};
-use crate::options::Options;
 use crate::wrapping::push_text;
 use std::alloc::{AllocError, Allocator};
 use std::borrow::CowStr;
+use textwrap_layout::any_options::AnyOptions;
+use textwrap_layout::line_sinks::{JoinedLines, LentLines, ListedLines};
+use textwrap_layout::options::Options;
 use textwrap_text::lent_text::LentText;
 use textwrap_text::line_ending::LineEnding;
 use textwrap_words::wrap_algorithms::WrapError;

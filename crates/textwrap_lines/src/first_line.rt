@@ -2,15 +2,15 @@
 //! after it do not depend on it, so the other lines can be found in another way.
 ghost use Rattle.std.specs.Prelude.{◌≡◌, List, [], ◌∷◌, IsCharBoundary, IfOk, IsOk};
 ghost use Rattle.textwrap_words.specs.Pieces.{as_splitter};
-ghost use Rattle.textwrap_lines.specs.Frame.{frame_settings};
-ghost use Rattle.textwrap_lines.specs.LineSinks.{Took};
-ghost use Rattle.textwrap_lines.specs.Places.{CutLine};
+ghost use Rattle.textwrap_layout.specs.Frame.{frame_settings};
+ghost use Rattle.textwrap_layout.specs.LineSinks.{Took};
+ghost use Rattle.textwrap_layout.specs.Places.{CutLine};
 ghost use Rattle.textwrap_lines.specs.PieceLines.{IsFirstUpTo, line_of, line_so_far};
 
-use crate::frame::Frame;
-use crate::line_sinks::LineSink;
 use crate::piece_lines::OpenLine;
 use std::alloc::{AllocError, Allocator};
+use textwrap_layout::frame::Frame;
+use textwrap_layout::line_sinks::LineSink;
 use textwrap_words::inner::{BuiltInSplitter, next_piece};
 
 /// Pushes the first line of a paragraph by first fit, with words split by the splitter, and returns

@@ -4,17 +4,17 @@ ghost use Rattle.std.specs.Prelude.{◌≡◌, ℕ, ◌*◌, ◌^◌, ◌+◌, �
 ghost use Rattle.std.specs.Prelude.{IsCharBoundary, OnOk, IsOk};
 ghost use Rattle.textwrap_base.specs.Division.{IsGreedy};
 ghost use Rattle.textwrap_words.specs.Words.{WordText, sizes_of};
-ghost use Rattle.textwrap_lines.specs.Direct.{CanBeCut, pieces_cut, cuts_of};
-ghost use Rattle.textwrap_lines.specs.Frame.{frame_lines, frame_settings, frame_widths};
-ghost use Rattle.textwrap_lines.specs.LineBounds.{AreBounds};
-ghost use Rattle.textwrap_lines.specs.LineSinks.{Took};
-ghost use Rattle.textwrap_lines.specs.Paragraph.{text_limit};
+ghost use Rattle.textwrap_layout.specs.Direct.{CanBeCut, pieces_cut, cuts_of};
+ghost use Rattle.textwrap_layout.specs.Frame.{frame_lines, frame_settings, frame_widths};
+ghost use Rattle.textwrap_layout.specs.LineBounds.{AreBounds};
+ghost use Rattle.textwrap_layout.specs.LineSinks.{Took};
+ghost use Rattle.textwrap_layout.specs.Paragraph.{text_limit};
 
-use crate::frame::Frame;
-use crate::layout::{Cuts, Layout, cut_paragraph};
-use crate::line_bounds::{LineBounds, push_between};
-use crate::line_sinks::LineSink;
 use std::alloc::{AllocError, Allocator};
+use textwrap_layout::frame::Frame;
+use textwrap_layout::layout::{Cuts, Layout, cut_paragraph};
+use textwrap_layout::line_bounds::{LineBounds, push_between};
+use textwrap_layout::line_sinks::LineSink;
 use textwrap_words::inner::Piece;
 
 /// The line that takes the next piece.

@@ -5,19 +5,19 @@ ghost use Rattle.std.specs.Prelude.{◌≡◌, ◌<◌, ◌≤◌, ◌-◌, leng
 ghost use Rattle.std.specs.Prelude.{OnOk, IsOk};
 ghost use Rattle.textwrap_words.specs.PieceCuts.{is_point, pieces_from};
 ghost use Rattle.textwrap_words.specs.Pieces.{as_splitter, stand_from};
-ghost use Rattle.textwrap_lines.specs.Frame.{frame_settings};
-ghost use Rattle.textwrap_lines.specs.Layout.{break_limit, limit_at};
-ghost use Rattle.textwrap_lines.specs.LineSinks.{Took};
-ghost use Rattle.textwrap_lines.specs.Paragraph.{indent_of, later_width};
+ghost use Rattle.textwrap_layout.specs.Frame.{frame_settings};
+ghost use Rattle.textwrap_layout.specs.Layout.{break_limit, limit_at};
+ghost use Rattle.textwrap_layout.specs.LineSinks.{Took};
+ghost use Rattle.textwrap_layout.specs.Paragraph.{indent_of, later_width};
 ghost use Rattle.textwrap_text.specs.Units.{IsPrintable};
-ghost use Rattle.textwrap_lines.specs.Printable.{IsFirstLine, NoCutBetween, is_cut_by, line_slice};
+ghost use Rattle.textwrap_layout.specs.Printable.{IsFirstLine, NoCutBetween, is_cut_by, line_slice};
 ghost use Rattle.textwrap_lines.specs.PieceLines.{lines_left, no_pieces};
 
-use crate::frame::Frame;
-use crate::line_bounds::{LineBounds, push_between};
-use crate::line_sinks::LineSink;
-use crate::printable_cuts::PrintableCuts;
 use std::alloc::{AllocError, Allocator};
+use textwrap_layout::frame::Frame;
+use textwrap_layout::line_bounds::{LineBounds, push_between};
+use textwrap_layout::line_sinks::LineSink;
+use textwrap_layout::printable_cuts::PrintableCuts;
 use textwrap_text::blanks::{blanks_end, trimmed_len};
 use textwrap_words::inner::BuiltInSplitter;
 

@@ -1,13 +1,13 @@
 //! Where the pieces of a paragraph stand in it, and what those before them take.
 ghost use Rattle.std.specs.Prelude.{◌≡◌, IfOk};
-ghost use Rattle.textwrap_lines.specs.Direct.{CanBeCut, pieces_cut, cuts_of};
-ghost use Rattle.textwrap_lines.specs.Frame.{frame_settings};
+ghost use Rattle.textwrap_layout.specs.Direct.{CanBeCut, pieces_cut, cuts_of};
+ghost use Rattle.textwrap_layout.specs.Frame.{frame_settings};
 ghost use Rattle.textwrap_lines.specs.Spans.{spans_from, span_priced};
 
-use crate::frame::Frame;
-use crate::layout::{Cuts, cut_paragraph};
 use std::alloc::{AllocError, Allocator};
 use textwrap_base::inner::Measured;
+use textwrap_layout::frame::Frame;
+use textwrap_layout::layout::{Cuts, cut_paragraph};
 
 /// Where a piece of a text ends, and what it takes.
 #[derive(Clone, Copy)]

@@ -23,7 +23,7 @@ pub use Rattle.textwrap_text.proofs.Common.{◌≤◌, ◌⊎◌, blank, is_blan
 pub use Rattle.textwrap_text.proofs.Lists.Parts.{all-left, all-right, flat, starts_with-rest}
 pub use Rattle.textwrap_base.specs.Division.{IsDivision}
 pub use Rattle.textwrap_text.specs.LineEnding.{ending_bytes}
-pub use Rattle.textwrap_lines.specs.Paragraph.{covered}
+pub use Rattle.textwrap_layout.specs.Paragraph.{covered}
 pub use Rattle.textwrap_text.specs.declared.line_ending.LineEnding.{LineEnding}
 pub use Rattle.textwrap_text.specs.declared.line_ending.LineEnding.TheVariants.{CRLF, LF}
 pub use Rattle.textwrap_marked.specs.Blocks.{blocks, goes_on, is_beside, stays}

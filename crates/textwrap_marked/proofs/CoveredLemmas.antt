@@ -4,7 +4,7 @@ use Rattle.textwrap_text.proofs.Common.{map, refl, sym, ap, ◌∙◌, arith, ge
 use Rattle.textwrap_text.proofs.Common.{append-nil, append_assoc, length-map, length-drop}
 use Rattle.textwrap_words.proofs.Common.{word_view, WordText}
 use Rattle.textwrap_words.specs.declared.words.Word.{Word}
-use Rattle.textwrap_lines.specs.Paragraph.{covered}
+use Rattle.textwrap_layout.specs.Paragraph.{covered}
 
 covered-next : (piece : WordText) (pieces : List WordText) → 0 < length pieces
     → covered (piece ∷ pieces) ≡ piece.word ++ piece.whitespace ++ covered pieces

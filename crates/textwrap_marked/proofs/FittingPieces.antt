@@ -6,8 +6,8 @@ use Rattle.textwrap_words.specs.declared.words.Word.{Word}
 use Rattle.textwrap_words.specs.Cuts.{AreCuts, parts_between}
 use Rattle.textwrap_words.proofs.Word.Words.{IsNarrowWord}
 use Rattle.textwrap_words.proofs.Word.Parts.{parts-texts}
-use Rattle.textwrap_lines.proofs.Paragraph.Widths.{total_width-pieces}
-use Rattle.textwrap_lines.proofs.Paragraph.LeftOff.{narrow_words}
+use Rattle.textwrap_layout.proofs.Paragraph.Widths.{total_width-pieces}
+use Rattle.textwrap_layout.proofs.Paragraph.LeftOff.{narrow_words}
 
 pub pieces-fit : (text cuts : List ℕ) (words : List Word) → IsUtf8 text → AreCuts text cuts
     → map word_view words ≡ map word_of (parts_between cuts text)

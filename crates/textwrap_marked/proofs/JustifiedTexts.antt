@@ -12,7 +12,7 @@ use Rattle.textwrap_base.proofs.Common.{IsDivision}
 use Rattle.std.specs.Prelude.{◌%◌}
 use Rattle.textwrap_words.proofs.Common.{words_of, tiled}
 use Rattle.textwrap_text.proofs.Units.Chunks.{chunks-from}
-use Rattle.textwrap_lines.specs.Paragraph.{line_bytes, Slice}
+use Rattle.textwrap_layout.specs.Paragraph.{line_bytes, Slice}
 use Rattle.textwrap_display.proofs.WidenedWords.{widened_chunks, widened-text}
 use Rattle.textwrap_display.specs.Justifying.{gaps, indent_len, justified, widened_words}
 use Rattle.textwrap_marked.proofs.LineWords.{all_shown, AreCutInto, division-words, ink-blank}

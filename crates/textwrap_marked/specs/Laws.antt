@@ -9,8 +9,8 @@ use Rattle.textwrap_base.specs.declared.penalties.Penalties.{Penalties}
 use Rattle.textwrap_text.specs.Units.{text_width}
 use Rattle.textwrap_words.specs.Words.{WordText, sizes_of, word_of}
 use Rattle.textwrap_text.specs.LineEnding.{ending_bytes}
-use Rattle.textwrap_lines.specs.Paragraph.{covered}
-use Rattle.textwrap_lines.specs.Text.{HasWholeSequences}
+use Rattle.textwrap_layout.specs.Paragraph.{covered}
+use Rattle.textwrap_layout.specs.Text.{HasWholeSequences}
 use Rattle.textwrap_display.specs.Justifying.{gaps, line_words}
 use Rattle.textwrap_text.specs.declared.line_ending.LineEnding.{LineEnding}
 use Rattle.textwrap_marked.specs.Blocks.{blocks, is_beside, stays}

@@ -7,7 +7,7 @@ use Rattle.textwrap_base.specs.Algorithms as base
 use Rattle.textwrap_words.specs.Words.{WordText, sizes_of, word_of}
 use Rattle.textwrap_text.specs.LineEnding.{ending_bytes}
 use Rattle.textwrap_display.specs.Justifying.{justified}
-use Rattle.textwrap_lines.specs.Paragraph.{covered, line_bytes}
+use Rattle.textwrap_layout.specs.Paragraph.{covered, line_bytes}
 use Rattle.textwrap_text.specs.declared.line_ending.LineEnding.{LineEnding}
 use Rattle.textwrap_text.specs.declared.line_ending.LineEnding.TheVariants.{CRLF, LF}
 use Rattle.textwrap_marked.specs.Blocks.{blocks, is_beside, stays}

@@ -6,7 +6,7 @@ ghost use Rattle.textwrap_base.specs.Algorithms.{IsDividedBy, LeastCost};
 ghost use Rattle.textwrap_base.specs.Cost.{total_width};
 ghost use Rattle.textwrap_base.specs.Errors.{Fits64Bits, Overflowed};
 ghost use Rattle.textwrap_display.specs.Justifying.{justified};
-ghost use Rattle.textwrap_lines.specs.Paragraph.{covered, line_bytes};
+ghost use Rattle.textwrap_layout.specs.Paragraph.{covered, line_bytes};
 ghost use Rattle.textwrap_words.specs.Words.{sizes_of, word_view};
 ghost use Rattle.textwrap_marked.specs.Lines.{line_view};
 ghost use Rattle.textwrap_marked.specs.Reflow.{algorithm_of, break_white, ending_if, filled_end};

@@ -3,18 +3,18 @@ use Rattle.textwrap_text.proofs.Common.{◌≡◌, ℕ, Bool, List, subst, true,
 use Rattle.textwrap_text.proofs.Common.{refl, sym, ap, ◌∙◌, without_final_blanks, ending_bytes}
 use Rattle.textwrap_text.proofs.Common.{join_with, paragraphs_of}
 use Rattle.textwrap_words.proofs.Common.{Algorithm, Splitter, WordText, word_of, MaySeparate}
-use Rattle.textwrap_lines.proofs.Common.{DividesAt, Settings, is_whole, IsFilled, line_bytes}
-use Rattle.textwrap_lines.proofs.Common.{line_from, parts_of, DividesBy, HasPartsAt, Line}
-use Rattle.textwrap_lines.proofs.Common.{settings_view, HasParts}
+use Rattle.textwrap_layout.proofs.Common.{DividesAt, Settings, is_whole, IsFilled, line_bytes}
+use Rattle.textwrap_layout.proofs.Common.{line_from, parts_of, DividesBy, HasPartsAt, Line}
+use Rattle.textwrap_layout.proofs.Common.{settings_view, HasParts}
 use Rattle.textwrap_plain.specs.Options.{words_by, algorithm_of, settings_of, splitter_of}
 use Rattle.textwrap_plain.specs.declared.options.PlainSeparator.{PlainSeparator}
-use Rattle.textwrap_lines.proofs.Paragraph.LeftOff.{AreParagraphParts-whole, line_from-whole}
-use Rattle.textwrap_lines.proofs.Text.Paragraphs.{join-paragraphs_of}
+use Rattle.textwrap_layout.proofs.Paragraph.LeftOff.{AreParagraphParts-whole, line_from-whole}
+use Rattle.textwrap_layout.proofs.Text.Paragraphs.{join-paragraphs_of}
 use Rattle.textwrap_text.specs.declared.line_ending.LineEnding.{LineEnding}
 use Rattle.textwrap_lines.proofs.Text.Groups.{divides-at, filled-map, placed-map}
-use Rattle.textwrap_lines.specs.Places.{ArePlacedLines}
-use Rattle.textwrap_lines.specs.declared.options.Options.{Options}
-use Rattle.textwrap_lines.specs.declared.places.Place.{Place}
+use Rattle.textwrap_layout.specs.Places.{ArePlacedLines}
+use Rattle.textwrap_layout.specs.declared.options.Options.{Options}
+use Rattle.textwrap_layout.specs.declared.places.Place.{Place}
 use Rattle.textwrap_words.proofs.Word.Words.{words_unique}
 use Rattle.textwrap_words.specs.declared.word_separators.WordSeparator.{WordSeparator}
 use Rattle.textwrap_words.specs.declared.word_separators.WordSeparator.TheVariants.{AsciiSpace}

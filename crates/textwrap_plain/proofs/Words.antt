@@ -22,8 +22,8 @@ use Rattle.textwrap_plain.specs.Options.{words_by}
 use Rattle.textwrap_plain.specs.declared.options.PlainSeparator.{PlainSeparator}
 use Rattle.textwrap_plain.specs.declared.options.PlainSeparator.TheVariants.{AtBlanks, AtBreaks}
 use Rattle.textwrap_base.proofs.Division.Map.{IsDividedBy-whole}
-use Rattle.textwrap_lines.proofs.Common.{ArePrintedWithin, AreTextLines, CanKeepToWidth, DividesAt}
-use Rattle.textwrap_lines.proofs.Common.{IsWrapped, Line, LinesKeepToWidth, Settings}
+use Rattle.textwrap_layout.proofs.Common.{ArePrintedWithin, AreTextLines, CanKeepToWidth, DividesAt}
+use Rattle.textwrap_layout.proofs.Common.{IsWrapped, Line, LinesKeepToWidth, Settings}
 use Rattle.textwrap_lines.proofs.Text.Printed.{ArePrintedWithin-by}
 use Rattle.textwrap_lines.proofs.Text.Promises.{LinesKeepToWidth-by, IsWrapped-parts}
 

@@ -3,7 +3,7 @@ use Rattle.std.specs.Prelude.{ℕ, ◌-◌, List, slice_index}
 use Rattle.textwrap_text.proofs.Common.{false≢true, ap, IsPrintable, is_blank}
 use Rattle.std.proofs.lemmas.Bool.{and_parts, eqb-true, not-true}
 use Rattle.std.specs.Char.{is_ascii_alphanumeric}
-use Rattle.textwrap_lines.specs.Printable.{AfterOthers, BeforeOthers}
+use Rattle.textwrap_layout.specs.Printable.{AfterOthers, BeforeOthers}
 use Rattle.textwrap_unicode.proofs.PrintableCuts.{cut-after_other, cut-before_other}
 use Rattle.textwrap_unicode.specs.declared.numbers.Numbers.TheVariants.{ByExpression, ByPairs}
 use Rattle.textwrap_plain.specs.Options.{is_cut_plainly}

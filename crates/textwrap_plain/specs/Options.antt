@@ -5,7 +5,7 @@ use Rattle.textwrap.specs.Options.{default_algorithm, Settings, settings_at}
 use Rattle.textwrap.specs.WordSplitters.{Splitter, Whole, AtHyphens}
 use Rattle.textwrap.specs.Words.{WordText, is_cut, word_of, words_of}
 use Rattle.textwrap.specs.WrapAlgorithms.{Algorithm, Greedy, LeastCost}
-use Rattle.textwrap_lines.specs.Paragraph.{DividesAt}
+use Rattle.textwrap_layout.specs.Paragraph.{DividesAt}
 use Rattle.textwrap_unicode.specs.Cuts.{cuts_by}
 use Rattle.textwrap_unicode.specs.Pairs.{at_breaks}
 use Rattle.textwrap_unicode.specs.declared.numbers.Numbers.TheVariants.{ByExpression, ByPairs}

@@ -8,7 +8,7 @@ use Rattle.textwrap.specs.Words.{WordText}
 use Rattle.textwrap.specs.WrapAlgorithms.{Algorithm}
 use Rattle.textwrap_display.specs.Tables.{IsTableBy, RowGaps, Shape}
 use Rattle.textwrap_display.specs.declared.alignment.Alignment.{Alignment}
-use Rattle.textwrap_lines.specs.Paragraph.{DividesAt}
+use Rattle.textwrap_layout.specs.Paragraph.{DividesAt}
 use Rattle.textwrap_plain.specs.Options.{algorithm_of, settings_of, splitter_of, words_by}
 use Rattle.textwrap_plain.specs.declared.display.PlainColumn.{PlainColumn}
 

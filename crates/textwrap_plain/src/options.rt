@@ -3,8 +3,8 @@ ghost use Rattle.std.specs.Prelude.{◌≡◌, ◌↔◌, IsTrue, Some};
 ghost use Rattle.textwrap.specs.Options.{HasParts};
 ghost use Rattle.textwrap.specs.WordSplitters.{splitter_view};
 ghost use Rattle.textwrap.specs.WrapAlgorithms.{algorithm_view, Greedy};
-ghost use Rattle.textwrap_lines.specs.Direct.{as_algorithm};
-ghost use Rattle.textwrap_lines.specs.Options.{layout_view};
+ghost use Rattle.textwrap_layout.specs.Direct.{as_algorithm};
+ghost use Rattle.textwrap_layout.specs.Options.{layout_view};
 ghost use Rattle.textwrap_words.specs.Pieces.{as_splitter};
 ghost use Rattle.textwrap_plain.specs.Options.{algorithm_of, AreDefaults, settings_of, splitter_of};
 
@@ -12,7 +12,10 @@ use crate::printable::PlainWords;
 use std::alloc::Global;
 use textwrap::wrap_algorithms::Penalties;
 use textwrap::{LineEnding, Options, WordSplitter, WrapAlgorithm};
-use textwrap_lines::inner::{BuiltInAlgorithm, BuiltInOptions, BuiltInParts, DEFAULTS, Layout};
+use textwrap_layout::any_options::{BuiltInAlgorithm, BuiltInParts};
+use textwrap_layout::built_in::BuiltInOptions;
+use textwrap_layout::layout::Layout;
+use textwrap_layout::options::DEFAULTS;
 use textwrap_unicode::Numbers;
 use textwrap_words::inner::BuiltInSplitter;
 

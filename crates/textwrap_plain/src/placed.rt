@@ -3,9 +3,9 @@ ghost use Rattle.std.specs.Prelude.{◌≡◌, IfErr, IfOk, IsOk, List, alloc_er
 ghost use Rattle.textwrap.specs.Paragraph.{Line, pieces_by};
 ghost use Rattle.textwrap.specs.Words.{word_view, Tiles};
 ghost use Rattle.textwrap.specs.WrapAlgorithms.{Greedy};
-ghost use Rattle.textwrap_lines.specs.LentPlaces.{WritesPlaces};
-ghost use Rattle.textwrap_lines.specs.Places.{ArePlacedLines, built_text};
-ghost use Rattle.textwrap_lines.specs.declared.places.Place.{Place};
+ghost use Rattle.textwrap_layout.specs.LentPlaces.{WritesPlaces};
+ghost use Rattle.textwrap_layout.specs.Places.{ArePlacedLines, built_text};
+ghost use Rattle.textwrap_layout.specs.declared.places.Place.{Place};
 ghost use Rattle.textwrap_plain.specs.Options.{algorithm_of, DividesPlainly, settings_of, splitter_of};
 ghost use Rattle.textwrap_plain.specs.Options.{words_by};
 ghost use Rattle.textwrap_plain.specs.declared.options.PlainSeparator.TheVariants.{AtBlanks};
@@ -14,7 +14,8 @@ use crate::options::PlainOptions;
 use std::alloc::{AllocError, Global};
 use textwrap::WrapError;
 use textwrap::words::Word;
-use textwrap_lines::inner::{AnyOptions, place_lines_by};
+use textwrap_layout::any_options::AnyOptions;
+use textwrap_lines::inner::place_lines_by;
 use textwrap_lines::placed::{LineCounts, PlacedLines, TextwrapLine, write_places};
 
 /// The lines of [`wrap`](crate::wrap), by where they stand.

@@ -1,7 +1,7 @@
 //! Where texts are cut into words, by options without functions.
 use crate::options::PlainSeparator;
 use std::alloc::{AllocError, Global};
-use textwrap_lines::inner::PrintableCuts;
+use textwrap_layout::printable_cuts::PrintableCuts;
 use textwrap_unicode::inner::{is_cut_at_blanks, is_cut_between};
 use textwrap_unicode::{Numbers, unicode_cuts, unicode_cuts_by_expression};
 

@@ -2,7 +2,7 @@
 use Rattle.std.specs.Prelude.{◌≡◌, ℕ, List, ◌++◌, Option, None, Some, codes}
 use Rattle.std.specs.Str.{IsUtf8}
 use Rattle.std.specs.Io.KnownBytes.{Appends, Consumes, IsAtEnd, Keeps}
-use Rattle.textwrap_lines.specs.Filling.{IsFilledAt}
+use Rattle.textwrap_layout.specs.Filling.{IsFilledAt}
 use Rattle.textwrap_words.specs.WrapAlgorithms.{Algorithm}
 use Rattle.textwrap_program.specs.declared.filling.RunError.{RunError}
 use Rattle.textwrap_program.specs.declared.filling.RunError.TheVariants.{Read, NotUtf8, Memory, Write}

@@ -3,7 +3,7 @@ ghost use Rattle.std.specs.Prelude.{◌≡◌, ◌≢◌, ◌<◌, ◌≤◌, []
 ghost use Rattle.std.specs.Prelude.{Err, IfOk, OnOk, OnErr, IfErr, IsUtf8};
 ghost use Rattle.std.specs.Io.KnownBytes.{Appends};
 ghost use Rattle.std.specs.Result.{result_err};
-ghost use Rattle.textwrap_lines.specs.Filling.{IsFilledAt};
+ghost use Rattle.textwrap_layout.specs.Filling.{IsFilledAt};
 ghost use Rattle.textwrap_program.specs.Arguments.{algorithm_view};
 ghost use Rattle.textwrap_program.specs.Filling.{fault_line, ReadsAll, FillsTo, Runs, WritesPrefix};
 ghost use Rattle.textwrap_program.specs.Program.{line_feed, TriesLine};

@@ -5,7 +5,7 @@ ghost use Rattle.textwrap.specs.Division.{IsDivision, IsGreedy};
 ghost use Rattle.textwrap.specs.LineEnds.{AreEnds, lines_between};
 ghost use Rattle.textwrap.specs.Options.{settings_at};
 ghost use Rattle.textwrap.specs.Words.{WordText, sizes_of, words_of};
-ghost use Rattle.textwrap_lines.specs.Places.{ArePlacesOf, division_cuts};
+ghost use Rattle.textwrap_layout.specs.Places.{ArePlacesOf, division_cuts};
 ghost use Rattle.textwrap_uses.specs.Hyphens.{HaveRightPoints, hyphenated_pieces, later_begins};
 ghost use Rattle.textwrap_uses.specs.Hyphens.{points_for, points_in};
 

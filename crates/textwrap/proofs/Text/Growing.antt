@@ -12,7 +12,7 @@ use Rattle.textwrap_base.proofs.Division.Greedy.{line_width-one}
 use Rattle.textwrap_text.proofs.Lists.Parts.{some_from_nonempty}
 use Rattle.textwrap_words.proofs.Word.Words.{HasNoPenalty, tiled-append, tiled-words_of}
 use Rattle.textwrap_words.proofs.Word.Words.{words_unique, tiled-push}
-use Rattle.textwrap_lines.proofs.Paragraph.LeftOff.{tiled-word_of}
+use Rattle.textwrap_layout.proofs.Paragraph.LeftOff.{tiled-word_of}
 use Rattle.textwrap_base.proofs.Division.Grown.{grown, grown-full, grown-begins, prefix-closes}
 use Rattle.textwrap_base.proofs.Division.Grown.{grown-greedy}
 use Rattle.std.proofs.lemmas.Grind.{common_steps}

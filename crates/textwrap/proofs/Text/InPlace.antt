@@ -12,13 +12,13 @@ use Rattle.textwrap.proofs.Common.{broken_lines, AreDividedAt, breaks_of, breaks
 use Rattle.textwrap.proofs.Common.{with_line_feeds, IsFilledInPlace}
 use Rattle.textwrap_text.proofs.Lists.Parts.{flat}
 use Rattle.textwrap_words.proofs.Word.Words.{tiled-append}
-use Rattle.textwrap_lines.proofs.Text.Paragraphs.{join_with-cons, parts_past-some}
-use Rattle.textwrap_lines.proofs.Text.Paragraphs.{join-paragraphs_of}
-use Rattle.textwrap_lines.proofs.Paragraph.Covered.{shortened, AreLinesApart, IsBroken}
-use Rattle.textwrap_lines.proofs.Paragraph.Covered.{IsBroken-greedy}
+use Rattle.textwrap_layout.proofs.Text.Paragraphs.{join_with-cons, parts_past-some}
+use Rattle.textwrap_layout.proofs.Text.Paragraphs.{join-paragraphs_of}
+use Rattle.textwrap_layout.proofs.Paragraph.Covered.{shortened, AreLinesApart, IsBroken}
+use Rattle.textwrap_layout.proofs.Paragraph.Covered.{IsBroken-greedy}
 use Rattle.std.proofs.lemmas.Grind.{common_steps}
 use Rattle.textwrap_text.specs.declared.line_ending.LineEnding.TheVariants.{LF}
-use Rattle.textwrap_lines.proofs.Text.Lines.{paragraphs_left, bytes_left}
+use Rattle.textwrap_layout.proofs.Text.Lines.{paragraphs_left, bytes_left}
 use Rattle.std.proofs.Common.{set}
 use Rattle.std.proofs.lemmas.List.{set_at}
 use Rattle.textwrap_text.proofs.Texts.{ascii_seam}

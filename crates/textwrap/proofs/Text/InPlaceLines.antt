@@ -10,27 +10,27 @@ use Rattle.textwrap_text.proofs.Common.{paragraphs_of, join_with}
 use Rattle.textwrap_base.proofs.Common.{line_width, closed_width, IsGreedy}
 use Rattle.textwrap_words.proofs.Common.{WordText, tiled, word_of, AreWordsOf, sizes_of, words_of}
 use Rattle.textwrap_words.proofs.Common.{Greedy, Whole}
-use Rattle.textwrap_lines.proofs.Common.{Line, Slice, line_from, covered, indent_of, parts_of}
-use Rattle.textwrap_lines.proofs.Common.{parts_from, LineParts, is_whole, pieces_of, widths_of}
-use Rattle.textwrap_lines.proofs.Common.{DividesAs, AreParagraphParts, AreGroups, AreTextLines}
+use Rattle.textwrap_layout.proofs.Common.{Line, Slice, line_from, covered, indent_of, parts_of}
+use Rattle.textwrap_layout.proofs.Common.{parts_from, LineParts, is_whole, pieces_of, widths_of}
+use Rattle.textwrap_layout.proofs.Common.{DividesAs, AreParagraphParts, AreGroups, AreTextLines}
 use Rattle.textwrap.proofs.Common.{broken_lines, AreDividedAt, IsFilledInPlace, unbroken_at}
 use Rattle.textwrap.proofs.Common.{FitsOneLine}
 use Rattle.textwrap_base.proofs.Division.Greedy.{greedy_unique, IsGreedy-same, line_width-one}
 use Rattle.textwrap_base.proofs.Division.Greedy.{line_width-two}
 use Rattle.textwrap_text.specs.declared.line_ending.LineEnding.TheVariants.{LF}
 use Rattle.textwrap_text.specs.LineEnding.{Lacks}
-use Rattle.textwrap_lines.proofs.Text.Paragraphs.{parts_past-some, paragraphs_one}
-use Rattle.textwrap_lines.proofs.Text.Paragraphs.{paragraphs_of-utf8}
-use Rattle.textwrap_lines.proofs.Paragraph.Covered.{IsBroken-greedy, shortened, AreLinesApart}
+use Rattle.textwrap_layout.proofs.Text.Paragraphs.{parts_past-some, paragraphs_one}
+use Rattle.textwrap_layout.proofs.Text.Paragraphs.{paragraphs_of-utf8}
+use Rattle.textwrap_layout.proofs.Paragraph.Covered.{IsBroken-greedy, shortened, AreLinesApart}
 use Rattle.textwrap.proofs.Text.InPlace.{feed_joined, join-broken, divisions-some}
 use Rattle.textwrap_words.proofs.Word.Words.{HasNoPenalty, words_unique, text_width-nil}
 use Rattle.textwrap_words.proofs.Word.Words.{tiled-words_of}
-use Rattle.textwrap_lines.proofs.Paragraph.LeftOff.{covered-words_of, line_from-pieces}
-use Rattle.textwrap_lines.proofs.Paragraph.LeftOff.{line_from-whole, AreParagraphParts-whole}
-use Rattle.textwrap_lines.proofs.Paragraph.LeftOff.{AreParagraphParts-divided, closed-pieces_of}
+use Rattle.textwrap_layout.proofs.Paragraph.LeftOff.{covered-words_of, line_from-pieces}
+use Rattle.textwrap_layout.proofs.Paragraph.LeftOff.{line_from-whole, AreParagraphParts-whole}
+use Rattle.textwrap_layout.proofs.Paragraph.LeftOff.{AreParagraphParts-divided, closed-pieces_of}
 use Rattle.textwrap_base.proofs.Cost.Chosen.{IsDividedBy-one_line}
 use Rattle.textwrap_text.proofs.Lists.Parts.{flat}
-use Rattle.textwrap_lines.proofs.Paragraph.Pieces.{ArePieces-computed}
+use Rattle.textwrap_layout.proofs.Paragraph.Pieces.{ArePieces-computed}
 use Rattle.textwrap_lines.proofs.PrintableTexts.Bytes.{split-whole}
 use Rattle.textwrap_base.proofs.Division.Map.{IsDivision-whole}
 

@@ -23,7 +23,7 @@ use Rattle.std.proofs.Common.{ap₂}
 use Rattle.std.proofs.lemmas.Slice.Eq.{bytes_eq-Decides}
 use Rattle.textwrap_text.specs.declared.line_ending.LineEnding.{LineEnding}
 use Rattle.textwrap_text.specs.declared.line_ending.LineEnding.TheVariants.{CRLF, LF}
-use Rattle.textwrap_lines.proofs.Text.Paragraphs.{ending_bytes-some}
+use Rattle.textwrap_layout.proofs.Text.Paragraphs.{ending_bytes-some}
 
 -- ---- what plain lines begin and end with
 

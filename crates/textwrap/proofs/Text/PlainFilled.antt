@@ -7,9 +7,9 @@ use Rattle.textwrap_text.proofs.Common.{MatchBool, subst, append-nil, rules, All
 use Rattle.textwrap_text.proofs.Common.{line_feed, without_final_blanks, chunks}
 use Rattle.textwrap_base.proofs.Common.{IsDivision, Sizes}
 use Rattle.textwrap_text.proofs.Lists.Elements.{dropped-map}
-use Rattle.textwrap_lines.proofs.Common.{LineParts, line_bytes, line_from, parts_of, parts_from}
-use Rattle.textwrap_lines.proofs.Common.{Settings, covered, indent_of, is_whole, widths_of}
-use Rattle.textwrap_lines.proofs.Common.{DividesAs, AreParagraphParts, AreGroups}
+use Rattle.textwrap_layout.proofs.Common.{LineParts, line_bytes, line_from, parts_of, parts_from}
+use Rattle.textwrap_layout.proofs.Common.{Settings, covered, indent_of, is_whole, widths_of}
+use Rattle.textwrap_layout.proofs.Common.{DividesAs, AreParagraphParts, AreGroups}
 use Rattle.textwrap.proofs.Common.{is_prefix_character, line_prefix, IsPlainLine, common_start}
 use Rattle.textwrap.proofs.Common.{unfilled_initial, unfilled_subsequent, IsIndent, keeps_ending}
 use Rattle.textwrap.proofs.Common.{joined_text, broken_lines, IsFilledWhole, KeepsWords, IsPlain}
@@ -21,16 +21,16 @@ use Rattle.textwrap.proofs.Text.InPlace.{blank_joined, feed_joined, tiled-broken
 use Rattle.textwrap_words.proofs.Common.{WordText, tiled, AreWordsOf, sizes_of, word_of, words_of}
 use Rattle.textwrap_words.proofs.Common.{Algorithm, Greedy, LeastCost, IsDividedBy, Whole}
 use Rattle.textwrap_text.specs.declared.line_ending.LineEnding.TheVariants.{LF}
-use Rattle.textwrap_lines.proofs.Paragraph.LeftOff.{assembled-parts, bytes-assembled}
-use Rattle.textwrap_lines.proofs.Paragraph.LeftOff.{line_from-whole, whole_unindented}
-use Rattle.textwrap_lines.proofs.Paragraph.Covered.{apart_from, shortened, AreLinesApart}
+use Rattle.textwrap_layout.proofs.Paragraph.LeftOff.{assembled-parts, bytes-assembled}
+use Rattle.textwrap_layout.proofs.Paragraph.LeftOff.{line_from-whole, whole_unindented}
+use Rattle.textwrap_layout.proofs.Paragraph.Covered.{apart_from, shortened, AreLinesApart}
 use Rattle.textwrap.proofs.Text.InPlaceLines.{covered-words, words-no_penalty}
 use Rattle.textwrap.proofs.Text.InPlaceLines.{without_final_blanks-push}
 use Rattle.textwrap_text.proofs.Lists.Parts.{flat, all-right}
 use Rattle.textwrap_words.proofs.Word.Words.{tiled-words_of, words_unique}
-use Rattle.textwrap_lines.proofs.Paragraph.Pieces.{ArePieces-is}
+use Rattle.textwrap_layout.proofs.Paragraph.Pieces.{ArePieces-is}
 use Rattle.textwrap_lines.proofs.PrintableTexts.Bytes.{split-whole}
-use Rattle.textwrap_lines.proofs.Text.Paragraphs.{one-paragraph}
+use Rattle.textwrap_layout.proofs.Text.Paragraphs.{one-paragraph}
 use Rattle.std.proofs.lemmas.List.Folds.{map_fixed}
 
 -- ---- a line and its indent

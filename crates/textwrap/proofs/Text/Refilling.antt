@@ -3,7 +3,7 @@ use Rattle.textwrap_text.proofs.Common.{◌≡◌, ◌≢◌, ◌↔◌, ℕ, Bo
 use Rattle.textwrap_text.proofs.Common.{All, refl, sym, ap, ◌∙◌, subst, arith, append-nil, rules}
 use Rattle.textwrap_text.proofs.Common.{map-id, lines, All-nil, ◌≤◌, length, line_feed}
 use Rattle.textwrap_words.proofs.Common.{WordText, Algorithm, Splitter, Whole}
-use Rattle.textwrap_lines.proofs.Common.{IsFilled, Settings, DividesAs}
+use Rattle.textwrap_layout.proofs.Common.{IsFilled, Settings, DividesAs}
 use Rattle.textwrap.proofs.Common.{IsFilledWhole, unfilled_initial, unfilled_subsequent}
 use Rattle.textwrap.proofs.Common.{keeps_ending, joined_text, IsPlain, IsPlainLine, blanked}
 use Rattle.textwrap.proofs.Common.{IsIndent, KeepsWords, is_prefix_character}

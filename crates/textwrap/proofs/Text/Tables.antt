@@ -7,14 +7,14 @@ use Rattle.textwrap_text.proofs.Common.{flat_map-append, map-range_with_len_more
 use Rattle.textwrap_text.proofs.Common.{length-append, flat_map, All, sum_by, All-head, All-tail}
 use Rattle.textwrap_text.proofs.Common.{sum_by-cons, sum_by-append, Bool, join_with, text_width}
 use Rattle.std.specs.declared.borrow.CowStr.{CowStr}
-use Rattle.textwrap_lines.proofs.Common.{line_view, line_bytes, Settings, settings_view, Line}
-use Rattle.textwrap_lines.proofs.Common.{IsDividedInto, DividesBy, AreTextLines}
+use Rattle.textwrap_layout.proofs.Common.{line_view, line_bytes, Settings, settings_view, Line}
+use Rattle.textwrap_layout.proofs.Common.{IsDividedInto, DividesBy, AreTextLines}
 use Rattle.textwrap.proofs.Common.{RowLayout, blanks, cell, padded, gapped, cells, row_text}
 use Rattle.textwrap.proofs.Common.{layout_of}
 use Rattle.textwrap.proofs.Common.{inner_width}
 use Rattle.std.specs.Cow.{cow_str_bytes}
 use Rattle.textwrap_words.proofs.Word.Words.{text_width-nil}
-use Rattle.textwrap_lines.proofs.Text.Lines.{line_bytes-line_view}
+use Rattle.textwrap_layout.proofs.Text.Lines.{line_bytes-line_view}
 use Rattle.textwrap_text.proofs.Lists.Elements.{range-split, length-repeat}
 use Rattle.std.proofs.lemmas.List.{length-replicate}
 use Rattle.std.proofs.Common.{replicate}
@@ -24,11 +24,11 @@ use Rattle.textwrap.specs.Columns.{row_count, column_cells, cells_by_column, cel
 use Rattle.textwrap_words.proofs.Common.{MaySeparate, MaySplit, WordText, MayDivide}
 use Rattle.std.proofs.lemmas.List.Elements.{All-replicate}
 use Rattle.textwrap_text.proofs.Units.Reading.{printable-width}
-use Rattle.textwrap_lines.specs.Options.{KeepsMethods}
-use Rattle.textwrap_lines.specs.Paragraph.{DividesUnder}
-use Rattle.textwrap_lines.specs.Text.{SomeMayPass64Bits, SomeMayPass64BitsUnder}
+use Rattle.textwrap_layout.specs.Options.{KeepsMethods}
+use Rattle.textwrap_layout.specs.Paragraph.{DividesUnder}
+use Rattle.textwrap_layout.specs.Text.{SomeMayPass64Bits, SomeMayPass64BitsUnder}
 use Rattle.textwrap_words.specs.declared.wrap_algorithms.WrapAlgorithm.{WrapAlgorithm}
-use Rattle.textwrap_lines.specs.declared.options.Options.{Options}
+use Rattle.textwrap_layout.specs.declared.options.Options.{Options}
 use Rattle.textwrap_words.specs.declared.word_separators.WordSeparator.{WordSeparator}
 use Rattle.textwrap_words.specs.declared.word_splitters.WordSplitter.{WordSplitter}
 

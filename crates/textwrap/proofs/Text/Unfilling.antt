@@ -19,11 +19,11 @@ use Rattle.std.proofs.lemmas.List.Sums.{prefix_len-le-length}
 use Rattle.std.proofs.lemmas.Grind.{common_steps}
 use Rattle.textwrap_text.proofs.TextLines.{ended_lines-texts, texts_of}
 use Rattle.textwrap_words.proofs.Common.{WordText, Algorithm, Splitter}
-use Rattle.textwrap_lines.proofs.Common.{Settings, IsFilled, settings_view, AreTextLines, HasParts}
-use Rattle.textwrap_lines.proofs.Common.{DividesAs}
+use Rattle.textwrap_layout.proofs.Common.{Settings, IsFilled, settings_view, AreTextLines, HasParts}
+use Rattle.textwrap_layout.proofs.Common.{DividesAs}
 use Rattle.std.specs.Prelude.{option_to_list, IfSome}
 use Rattle.textwrap_words.proofs.Word.Words.{text_width-nil}
-use Rattle.textwrap_lines.specs.Options.{settings_at}
+use Rattle.textwrap_layout.specs.Options.{settings_at}
 use Rattle.std.proofs.lemmas.List.Elements.{All-filter}
 use Rattle.textwrap_text.specs.declared.line_ending.LineEnding.{LineEnding}
 use Rattle.textwrap_text.specs.declared.line_ending.LineEnding.TheVariants.{CRLF, LF}
@@ -31,9 +31,9 @@ use Rattle.textwrap.specs.Refilling.{has_text, added_ending, IsRefilled}
 use Rattle.textwrap.specs.Refilling.{layout_settings, unfilled_settings, with_indents_of}
 use Rattle.textwrap.proofs.Text.Margins.{common_prefix-begins}
 use Rattle.textwrap.specs.declared.refilling.TextLayout.{TextLayout}
-use Rattle.textwrap_lines.specs.declared.options.Options.{Options}
-use Rattle.textwrap_lines.specs.Paragraph.{DividesUnder}
-use Rattle.textwrap_lines.proofs.Paragraph.Pieces.{divides-under}
+use Rattle.textwrap_layout.specs.declared.options.Options.{Options}
+use Rattle.textwrap_layout.specs.Paragraph.{DividesUnder}
+use Rattle.textwrap_layout.proofs.Paragraph.Pieces.{divides-under}
 use Rattle.textwrap.specs.Columns.{IsInColumns}
 
 -- ---- a line's own prefix

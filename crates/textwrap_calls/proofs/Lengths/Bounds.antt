@@ -13,7 +13,7 @@ use Rattle.textwrap_calls.proofs.Common.{table_rows, IsInColumns, algorithm_of, 
 use Rattle.textwrap_calls.proofs.Common.{separator_of, splitter_of, settings_of, TextwrapOptions}
 use Rattle.textwrap_calls.proofs.Common.{◌++◌, All-head}
 use Rattle.textwrap_text.proofs.Common.{and_parts, ◌/◌, max}
-use Rattle.textwrap_lines.proofs.Common.{AreTextLines, Line, Slice, built_bytes, built_text}
+use Rattle.textwrap_layout.proofs.Common.{AreTextLines, Line, Slice, built_bytes, built_text}
 use Rattle.textwrap.proofs.Common.{RowLayout, cell, cells, padded, row_text}
 use Rattle.std.proofs.Math.Nat.{lt-mul-div-succ, lt_of_mul-lt-mul_right, mul-div-le}
 use Rattle.std.proofs.lemmas.Grind.{div_ceil_times}
@@ -22,7 +22,7 @@ use Rattle.std.proofs.lemmas.List.Folds.{sum_by-replicate}
 use Rattle.std.proofs.lemmas.List.FromFn.{fill_by_all, length-range_with_len}
 use Rattle.std.specs.Int.{div_ceil}
 use Rattle.textwrap_lines.proofs.Text.Groups.{groups-map}
-use Rattle.textwrap_lines.specs.Paragraph.{Built}
+use Rattle.textwrap_layout.specs.Paragraph.{Built}
 use Rattle.textwrap.proofs.Text.Tables.{columns_kept}
 use Rattle.textwrap.specs.Columns.{row_count, layout_of, at_column_width, column_width, inner_width}
 use Rattle.textwrap.specs.Columns.{blanks}

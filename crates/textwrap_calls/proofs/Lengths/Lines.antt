@@ -16,7 +16,7 @@ use Rattle.textwrap_base.proofs.Common.{IsDivision}
 use Rattle.textwrap_words.proofs.Common.{tile_of, broken_words, pieces_with, AtHyphens, Splitter}
 use Rattle.textwrap_words.proofs.Common.{split_words, Whole, Algorithm, Greedy, LeastCost}
 use Rattle.textwrap_words.proofs.Common.{IsDividedBy}
-use Rattle.textwrap_lines.proofs.Common.{empty_word, front_pieces, pieces_by, later_width}
+use Rattle.textwrap_layout.proofs.Common.{empty_word, front_pieces, pieces_by, later_width}
 use Rattle.std.proofs.lemmas.Str.{length-le-encodes}
 use Rattle.std.specs.List.{slice_range}
 use Rattle.std.specs.Prelude.{chars}
@@ -27,10 +27,10 @@ use Rattle.textwrap_text.specs.Units.{taken_at, units_past}
 use Rattle.textwrap_words.specs.WordSplitters.{cut_penalty, is_hyphen_point, split_from, split_word}
 use Rattle.textwrap_words.specs.Words.{piece}
 use Rattle.textwrap_lines.proofs.Paragraph.KeepsTo.{parts_from-pieces}
-use Rattle.textwrap_lines.proofs.Paragraph.LeftOff.{laid_out-cases, bytes-assembled}
-use Rattle.textwrap_lines.proofs.Paragraph.Pieces.{ArePieces-by, split_words-measured}
-use Rattle.textwrap_lines.proofs.Paragraph.Pieces.{split_words-tile}
-use Rattle.textwrap_lines.specs.Paragraph.{indent_before}
+use Rattle.textwrap_layout.proofs.Paragraph.LeftOff.{laid_out-cases, bytes-assembled}
+use Rattle.textwrap_layout.proofs.Paragraph.Pieces.{ArePieces-by, split_words-measured}
+use Rattle.textwrap_layout.proofs.Paragraph.Pieces.{split_words-tile}
+use Rattle.textwrap_layout.specs.Paragraph.{indent_before}
 use Rattle.textwrap.proofs.Text.PlainFilled.{bytes_of}
 use Rattle.textwrap_plain.proofs.Words.{words_by-parts, words_by-texts}
 use Rattle.textwrap_calls.proofs.Lengths.Sums.{join-length, texts_length}

@@ -8,23 +8,24 @@ use Rattle.textwrap_base.proofs.Common.{closed_width}
 use Rattle.textwrap_words.proofs.Common.{WordText, sizes_of, word_of, Greedy, IsDividedBy}
 use Rattle.textwrap_words.proofs.Common.{ends_in_hyphen, AreCuts, MaySeparate, Splitter, MaySplit}
 use Rattle.textwrap_words.proofs.Common.{splitter_view, MayDivide, algorithm_view, Algorithm}
-use Rattle.textwrap_lines.proofs.Common.{LineParts, indent_of, parts_from, widths_of, line_from}
-use Rattle.textwrap_lines.proofs.Common.{parts_of, is_whole, Settings, pieces_of, DividesAs}
-use Rattle.textwrap_lines.proofs.Common.{AreIndented, first_width, later_width, width_after, Line}
-use Rattle.textwrap_lines.proofs.Common.{OnlyCharactersPass, AreParagraphParts, AreDividedParts}
-use Rattle.textwrap_lines.proofs.Common.{KeepsToWidth, IsOneCharacter, IsDividedInto, KeepToWidths}
+use Rattle.textwrap_layout.proofs.Common.{LineParts, indent_of, parts_from, widths_of, line_from}
+use Rattle.textwrap_layout.proofs.Common.{parts_of, is_whole, Settings, pieces_of, DividesAs}
+use Rattle.textwrap_layout.proofs.Common.{AreIndented, first_width, later_width, width_after, Line}
+use Rattle.textwrap_layout.proofs.Common.{OnlyCharactersPass, AreParagraphParts, AreDividedParts}
+use Rattle.textwrap_layout.proofs.Common.{KeepsToWidth, IsOneCharacter, IsDividedInto, KeepToWidths}
 use Rattle.textwrap_text.proofs.Lists.Parts.{flat, all-left, all-right, Begins}
 use Rattle.textwrap_words.proofs.Word.Words.{closed_width-narrow, HasNoPenalty, IsMeasured}
 use Rattle.textwrap_words.proofs.Word.Words.{text_width-nil}
 use Rattle.textwrap_words.proofs.Word.Texts.{without_final_blanks-utf8}
-use Rattle.textwrap_lines.specs.Paragraph.{indent_before}
-use Rattle.textwrap_lines.proofs.Paragraph.LeftOff.{last_piece-no_penalty, narrow_words}
-use Rattle.textwrap_lines.proofs.Paragraph.LeftOff.{tiled-word_of, word_of-blanks, whole_unindented}
-use Rattle.textwrap_lines.proofs.Paragraph.LeftOff.{laid_out-cases, closed-pieces_of, same_line}
-use Rattle.textwrap_lines.proofs.Paragraph.Widths.{later_is, long_lines}
+use Rattle.textwrap_layout.specs.Paragraph.{indent_before}
+use Rattle.textwrap_layout.proofs.Paragraph.LeftOff.{last_piece-no_penalty, narrow_words}
+use Rattle.textwrap_layout.proofs.Paragraph.LeftOff.{tiled-word_of, word_of-blanks}
+use Rattle.textwrap_layout.proofs.Paragraph.LeftOff.{whole_unindented, laid_out-cases}
+use Rattle.textwrap_layout.proofs.Paragraph.LeftOff.{closed-pieces_of, same_line}
+use Rattle.textwrap_layout.proofs.Paragraph.Widths.{later_is, long_lines}
 use Rattle.textwrap_words.proofs.Word.Pieces.{AreTexts}
-use Rattle.textwrap_lines.proofs.Paragraph.Pieces.{pieces-no_penalty, ArePieces-computed}
-use Rattle.textwrap_lines.proofs.Paragraph.Pieces.{pieces_of-no_penalty, divided-as}
+use Rattle.textwrap_layout.proofs.Paragraph.Pieces.{pieces-no_penalty, ArePieces-computed}
+use Rattle.textwrap_layout.proofs.Paragraph.Pieces.{pieces_of-no_penalty, divided-as}
 use Rattle.textwrap_words.specs.declared.word_separators.WordSeparator as separators
 use Rattle.textwrap_words.specs.declared.word_splitters.WordSplitter as splitters
 use Rattle.textwrap_words.specs.declared.wrap_algorithms.WrapAlgorithm as algorithms

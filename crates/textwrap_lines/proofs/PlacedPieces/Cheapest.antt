@@ -4,9 +4,10 @@ use Rattle.textwrap_text.proofs.Common.{subst, arith, Bool, IsUtf8, IsCharBounda
 use Rattle.textwrap_base.proofs.Common.{PricedSizes, SuitQueue, IsByTable, fragment_costs}
 use Rattle.textwrap_base.proofs.Common.{fragments_table, problem_at, problem_by}
 use Rattle.textwrap_words.proofs.Common.{WordText, sizes_of, tiled, Splitter}
-use Rattle.textwrap_lines.proofs.Common.{cut_lines, Settings, parts_from, pieces_of_words}
-use Rattle.textwrap_lines.proofs.Common.{widths_of, first_width, later_width, HaveTexts, span_lines}
-use Rattle.textwrap_lines.proofs.Common.{span_priced, spans_from, Penalties, AreSpans, Span}
+use Rattle.textwrap_layout.proofs.Common.{cut_lines, Settings, parts_from, pieces_of_words}
+use Rattle.textwrap_layout.proofs.Common.{widths_of, first_width, later_width}
+use Rattle.textwrap_lines.proofs.Common.{HaveTexts, span_lines, span_priced, spans_from, Penalties}
+use Rattle.textwrap_lines.proofs.Common.{AreSpans, Span}
 use Rattle.textwrap_base.specs.OptimalFit.{IsByOptimalFit}
 use Rattle.textwrap_base.proofs.Cost.Chosen.{by_table-chosen, division_joined, joined_division}
 use Rattle.textwrap_base.proofs.Cost.Chosen.{fragments_table-map}
@@ -15,8 +16,9 @@ use Rattle.textwrap_text.proofs.Lists.Parts.{flat}
 use Rattle.textwrap_words.proofs.Word.Words.{IsNarrowWord-measured, HasNoPenalty, IsMeasured}
 use Rattle.textwrap_words.proofs.Word.Pieces.{AreTexts}
 use Rattle.textwrap_lines.specs.Cheapest.{SuitSearch}
-use Rattle.textwrap_lines.proofs.Paragraph.Pieces.{pieces_of_words-measured}
-use Rattle.textwrap_lines.proofs.Paragraph.Pieces.{pieces_of_words-no_penalty, pieces_of_words-tile}
+use Rattle.textwrap_layout.proofs.Paragraph.Pieces.{pieces_of_words-measured}
+use Rattle.textwrap_layout.proofs.Paragraph.Pieces.{pieces_of_words-no_penalty}
+use Rattle.textwrap_layout.proofs.Paragraph.Pieces.{pieces_of_words-tile}
 use Rattle.textwrap_lines.proofs.PlacedPieces.Lines.{AreSpans-from, priced-spans, spans-case, Stand}
 use Rattle.textwrap_lines.proofs.PlacedPieces.Lines.{Stand-follow, Stand-some, stand, lines-found}
 use Rattle.textwrap_lines.proofs.PlacedPieces.Lines.{length-spans}

@@ -10,8 +10,9 @@ use Rattle.textwrap_base.proofs.Common.{open_width, total_width, FollowStarts, p
 use Rattle.textwrap_base.proofs.Common.{AreEqualFromSecond, IsQueueCase, NeverFalls, problem_by}
 use Rattle.textwrap_words.proofs.Common.{WordText, sizes_of, tile_of, tiled}
 use Rattle.textwrap_lines.proofs.Common.{spans_from, Span, span_priced, Penalties, AreSpans}
-use Rattle.textwrap_lines.proofs.Common.{covered, last_span, cut_line, cut_lines, Settings}
-use Rattle.textwrap_lines.proofs.Common.{line_from, parts_from, parts_of, HaveTexts, span_lines}
+use Rattle.textwrap_lines.proofs.Common.{last_span, HaveTexts, span_lines}
+use Rattle.textwrap_layout.proofs.Common.{covered, cut_line, cut_lines, Settings, line_from}
+use Rattle.textwrap_layout.proofs.Common.{parts_from, parts_of}
 use Rattle.textwrap_base.proofs.Division.Greedy.{open_width-cons, closed-take}
 use Rattle.textwrap_base.proofs.Cost.LineCosts.{total_width-cons}
 use Rattle.textwrap_words.specs.Pieces.{stand_from}
@@ -22,11 +23,11 @@ use Rattle.textwrap_words.proofs.Word.Words.{IsNarrowWord, total_width-narrow, H
 use Rattle.textwrap_words.proofs.Word.Words.{IsMeasured, tiled-append}
 use Rattle.textwrap_lines.specs.Cheapest.{SuitSearch}
 use Rattle.textwrap_lines.specs.Spans.{span_sizes, span_line, bounds_to}
-use Rattle.textwrap_lines.specs.LineBounds.{AreBounds}
-use Rattle.textwrap_lines.proofs.Paragraph.Standing.{stands-at}
+use Rattle.textwrap_layout.specs.LineBounds.{AreBounds}
+use Rattle.textwrap_layout.proofs.Paragraph.Standing.{stands-at}
 use Rattle.textwrap_lines.proofs.PieceLines.{slice-pieces}
-use Rattle.textwrap_lines.proofs.Paragraph.LeftOff.{assembled-parts}
-use Rattle.textwrap_lines.proofs.Text.Sinks.{cut_lines-next}
+use Rattle.textwrap_layout.proofs.Paragraph.LeftOff.{assembled-parts}
+use Rattle.textwrap_layout.proofs.Text.Sinks.{cut_lines-next}
 
 -- ---- the spans of pieces, one after another
 

@@ -16,7 +16,7 @@ use Rattle.textwrap_words.proofs.Common.{word_of, WordText, sizes_of, units_text
 use Rattle.textwrap_words.proofs.Common.{broken_word, pieces_with, Whole, tile_of, tiled, piece}
 use Rattle.textwrap_words.proofs.Common.{broken_units, broken_texts, broken_words, broken_pieces}
 use Rattle.textwrap_words.proofs.Common.{is_hyphen_point}
-use Rattle.textwrap_lines.proofs.Common.{covered}
+use Rattle.textwrap_layout.proofs.Common.{covered}
 use Rattle.std.specs.Prelude.{chars}
 use Rattle.textwrap_text.proofs.Units.Reading.{units-printable, printable-width}
 pub use Rattle.textwrap_text.proofs.Units.Reading.{columns-printable, printable-ascii}

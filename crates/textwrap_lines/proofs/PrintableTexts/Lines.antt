@@ -9,10 +9,11 @@ use Rattle.textwrap_text.proofs.Common.{All-weaker, BlanksBetween, is_blank, tri
 use Rattle.textwrap_text.proofs.Common.{IsPrintable, without_final_blanks, IsPrintableByte}
 use Rattle.textwrap_base.proofs.Common.{open_width, Fits, closed_width}
 use Rattle.textwrap_words.proofs.Common.{piece, WordText, sizes_of, broken_words, word_of, tiled}
-use Rattle.textwrap_lines.proofs.Common.{BeforeOthers, NoCutBetween, pieces_from, IsFirstLine}
-use Rattle.textwrap_lines.proofs.Common.{Settings, covered, line_slice, cut_line, CutLine}
-use Rattle.textwrap_lines.proofs.Common.{cut_lines, assembled_line, indent_of, later_width}
-use Rattle.textwrap_lines.proofs.Common.{line_from, parts_from, parts_of}
+use Rattle.textwrap_layout.proofs.Common.{BeforeOthers, NoCutBetween, IsFirstLine, Settings}
+use Rattle.textwrap_layout.proofs.Common.{covered, line_slice, cut_line, CutLine, cut_lines}
+use Rattle.textwrap_layout.proofs.Common.{assembled_line, indent_of, later_width, line_from}
+use Rattle.textwrap_layout.proofs.Common.{parts_from, parts_of}
+use Rattle.textwrap_lines.proofs.Common.{pieces_from}
 use Rattle.textwrap_text.proofs.Lists.Parts.{length-slice, all-left, all-right}
 use Rattle.textwrap_words.proofs.Word.Texts.{trimmed-le}
 use Rattle.textwrap_words.specs.PieceCuts.{parts_by}
@@ -23,14 +24,14 @@ use Rattle.textwrap_lines.proofs.PrintableTexts.Pieces.{pieces-split, begins_wid
 use Rattle.textwrap_lines.proofs.PrintableTexts.Pieces.{pieces-broken, pieces-tile, pieces-exact}
 use Rattle.textwrap_lines.proofs.PrintableTexts.Pieces.{pieces-some, pieces-cover, pieces-fit}
 use Rattle.textwrap_lines.proofs.PrintableTexts.Pieces.{printable-slice, first-tiles}
-use Rattle.textwrap_lines.proofs.PrintableTexts.Parts.{front-slice}
+use Rattle.textwrap_layout.proofs.PrintableTexts.Parts.{front-slice}
 use Rattle.textwrap_words.specs.Pieces.{stand_from}
 use Rattle.textwrap_base.proofs.Division.Grown.{grown, grown-full, grown-room, prefix-closes}
 use Rattle.textwrap_words.proofs.Word.Words.{HasNoPenalty, tiled-append}
 use Rattle.textwrap_lines.specs.PieceLines.{lines_left, no_pieces}
-use Rattle.textwrap_lines.specs.LineBounds.{line_between}
-use Rattle.textwrap_lines.proofs.Paragraph.LeftOff.{assembled-parts}
-use Rattle.textwrap_lines.proofs.Text.Sinks.{cut_lines-next}
+use Rattle.textwrap_layout.specs.LineBounds.{line_between}
+use Rattle.textwrap_layout.proofs.Paragraph.LeftOff.{assembled-parts}
+use Rattle.textwrap_layout.proofs.Text.Sinks.{cut_lines-next}
 use Rattle.textwrap_lines.proofs.PieceLines.{lines-are}
 
 -- ---- what a search for the end of a line by bytes knows of the places that it has passed

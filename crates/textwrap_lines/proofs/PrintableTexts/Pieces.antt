@@ -13,20 +13,21 @@ use Rattle.textwrap_words.proofs.Common.{WordText, tiled, sizes_of, word_of, bro
 use Rattle.textwrap_words.proofs.Common.{broken_pieces, broken_words, piece, Splitter, split_word}
 use Rattle.textwrap_words.proofs.Common.{split_words}
 use Rattle.textwrap_words.specs.PieceCuts.{parts_by, IsPart, is_point}
-use Rattle.textwrap_lines.proofs.Common.{BeforeOthers, covered, pieces_from, IsFirstLine}
-use Rattle.textwrap_lines.proofs.Common.{NoCutBetween, AfterOthers, is_cut_by}
+use Rattle.textwrap_layout.proofs.Common.{BeforeOthers, covered, IsFirstLine, NoCutBetween}
+use Rattle.textwrap_layout.proofs.Common.{AfterOthers, is_cut_by}
+use Rattle.textwrap_lines.proofs.Common.{pieces_from}
 use Rattle.textwrap_words.proofs.Word.Words.{tiled-append, tiled-map, IsMeasured, HasNoPenalty}
 use Rattle.textwrap_words.proofs.Word.Words.{word_of-measured, IsNarrowWord, IsNarrowWord-measured}
 use Rattle.textwrap_words.proofs.Word.Pieces.{AreTexts}
 use Rattle.textwrap_words.proofs.Word.BrokenPieces.{tiled-broken_words, broken_words-measured}
 use Rattle.textwrap_words.proofs.Word.BrokenPieces.{broken_words-no_penalty}
-use Rattle.textwrap_lines.proofs.Paragraph.Pieces.{flat_map-space, broken_words-ends, wide-some}
-use Rattle.textwrap_lines.proofs.Paragraph.LeftOff.{last-part, covered-tiled}
+use Rattle.textwrap_layout.proofs.Paragraph.Pieces.{flat_map-space, broken_words-ends, wide-some}
+use Rattle.textwrap_layout.proofs.Paragraph.LeftOff.{last-part, covered-tiled}
 use Rattle.textwrap_lines.proofs.PrintableTexts.Bytes.{printable-utf8, Fits-exact, begins_wide-step}
 use Rattle.textwrap_lines.proofs.PrintableTexts.Bytes.{flat-printable, broken-front, ends-printable}
 use Rattle.textwrap_lines.proofs.PrintableTexts.Bytes.{IsExact, exact-words, BeginsWide}
-use Rattle.textwrap_lines.proofs.PrintableTexts.Parts.{flat-parts, front-slice, parts-split}
-use Rattle.textwrap_lines.proofs.PrintableTexts.Parts.{first-part, slice-rest}
+use Rattle.textwrap_layout.proofs.PrintableTexts.Parts.{flat-parts, front-slice, parts-split}
+use Rattle.textwrap_layout.proofs.PrintableTexts.Parts.{first-part, slice-rest}
 use Rattle.textwrap_text.proofs.Lists.Parts.{length-slice, slices_joined}
 use Rattle.textwrap_words.proofs.Word.Parts.{parts_by-whole, parts-same}
 use Rattle.textwrap_words.proofs.Word.Texts.{trimmed-past}

@@ -5,15 +5,16 @@ use Rattle.textwrap_text.proofs.Common.{Result, Ok, Err, IsErrAnd, map, rules, I
 use Rattle.textwrap_words.proofs.Common.{WordText, word_of}
 use Rattle.textwrap_words.specs.PieceCuts.{parts_by}
 use Rattle.textwrap_words.specs.Pieces.{stand_from}
-use Rattle.textwrap_lines.proofs.Common.{Settings, CutLine, empty_word, front_of, broken_pieces_of}
-use Rattle.textwrap_lines.proofs.Common.{later_width, lines_past, pieces_from, text_limit}
+use Rattle.textwrap_layout.proofs.Common.{Settings, CutLine, empty_word, front_of, broken_pieces_of}
+use Rattle.textwrap_layout.proofs.Common.{later_width, text_limit}
+use Rattle.textwrap_lines.proofs.Common.{lines_past, pieces_from}
 use Rattle.std.specs.Prelude.{IfErr, alloc_error}
 use Rattle.textwrap_base.specs.declared.errors.WrapError.{WrapError}
 use Rattle.textwrap_base.specs.declared.errors.WrapError.TheVariants.{Memory}
-use Rattle.textwrap_lines.specs.Layout.{break_limit, limit_at}
+use Rattle.textwrap_layout.specs.Layout.{break_limit, limit_at}
 use Rattle.textwrap_lines.specs.PieceLines.{lines_left, no_pieces}
 use Rattle.textwrap_lines.proofs.PrintableTexts.Pieces.{begins_narrow, words-narrow, words-tile}
-use Rattle.textwrap_lines.proofs.Paragraph.Standing.{limited-words}
+use Rattle.textwrap_layout.proofs.Paragraph.Standing.{limited-words}
 
 -- ---- the lines of a printable paragraph, found by its bytes
 

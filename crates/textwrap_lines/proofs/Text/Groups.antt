@@ -6,24 +6,25 @@ use Rattle.textwrap_text.proofs.Common.{flat_map, All-nil, All-head, All-tail, A
 use Rattle.textwrap_text.proofs.Common.{sym, ◌<◌, true, ◌++◌, ◌≡◌, ⊤, map, ap, ◌∙◌, subst}
 use Rattle.textwrap_text.proofs.Common.{length-append, starts_with_of_eq, paragraphs_of}
 use Rattle.textwrap_base.proofs.Common.{priced_at, Sizes, AreEqualFromSecond}
-use Rattle.textwrap_lines.proofs.Common.{LineParts, AreIndented, AreGroups, Settings}
-use Rattle.textwrap_lines.proofs.Common.{AreParagraphParts, AreTextLines, DividesAt, DividesBy}
-use Rattle.textwrap_lines.proofs.Common.{HasPartsAt, IsFilled, is_whole, Line, Options, covered_by}
-use Rattle.textwrap_lines.proofs.Common.{DividesAs, AreDividedParts, IsDividedInto}
+use Rattle.textwrap_layout.proofs.Common.{LineParts, AreIndented, AreGroups, Settings}
+use Rattle.textwrap_layout.proofs.Common.{AreParagraphParts, AreTextLines, DividesAt, DividesBy}
+use Rattle.textwrap_layout.proofs.Common.{HasPartsAt, IsFilled, is_whole, Line, covered_by}
+use Rattle.textwrap_layout.proofs.Common.{DividesAs, AreDividedParts, IsDividedInto}
+use Rattle.textwrap_layout.specs.declared.options.Options.{Options}
 use Rattle.textwrap_text.proofs.Lists.Parts.{flat}
 use Rattle.textwrap_text.proofs.Numbers.{or_false, some_later}
 use Rattle.textwrap_words.proofs.Common.{Algorithm, Splitter, WordText, word_of, tiled, Greedy}
 use Rattle.textwrap_words.proofs.Common.{LeastCost, IsDividedBy, words_of, AreWordsOf, ArePoints}
 use Rattle.textwrap_words.proofs.Common.{sizes_of}
-use Rattle.textwrap_lines.proofs.Paragraph.Pieces.{division-as, points-as, ArePieces-by}
-use Rattle.textwrap_lines.specs.Places.{ArePlacedLines}
-use Rattle.textwrap_lines.specs.declared.places.Place.{Place}
+use Rattle.textwrap_layout.proofs.Paragraph.Pieces.{division-as, points-as, ArePieces-by}
+use Rattle.textwrap_layout.specs.Places.{ArePlacedLines}
+use Rattle.textwrap_layout.specs.declared.places.Place.{Place}
 use Rattle.textwrap_words.proofs.Word.Words.{EndsInBlanks, words_unique}
-use Rattle.textwrap_lines.specs.Text.{LosesOnlyBlanks}
-use Rattle.textwrap_lines.proofs.Text.Paragraphs.{paragraphs_of-utf8}
-use Rattle.textwrap_lines.proofs.Paragraph.LeftOff.{tiled-word_of, word_of-blanks}
-use Rattle.textwrap_lines.proofs.Paragraph.LeftOff.{covered_by-parts_from, LeavesBlanks}
-use Rattle.textwrap_lines.proofs.Paragraph.LeftOff.{parts_from-blanks, laid_out-cases}
+use Rattle.textwrap_layout.specs.Text.{LosesOnlyBlanks}
+use Rattle.textwrap_layout.proofs.Text.Paragraphs.{paragraphs_of-utf8}
+use Rattle.textwrap_layout.proofs.Paragraph.LeftOff.{tiled-word_of, word_of-blanks}
+use Rattle.textwrap_layout.proofs.Paragraph.LeftOff.{covered_by-parts_from, LeavesBlanks}
+use Rattle.textwrap_layout.proofs.Paragraph.LeftOff.{parts_from-blanks, laid_out-cases}
 use Rattle.textwrap_base.proofs.Division.Greedy.{greedy_unique}
 use Rattle.textwrap_base.proofs.Cost.Results.{chosen_one}
 use Rattle.textwrap_lines.proofs.PlacedPieces.Lines.{two-equal}

@@ -16,22 +16,23 @@ use Rattle.textwrap_text.proofs.Units.Reading.{printable-ascii, printable-width}
 use Rattle.textwrap_words.proofs.Word.Words.{IsMeasured, HasNoPenalty, text_width-nil}
 use Rattle.textwrap_words.proofs.Word.Words.{word_of-measured}
 use Rattle.textwrap_words.proofs.Word.Texts.{AreBlanks}
-use Rattle.textwrap_lines.proofs.Common.{Settings, covered, parts_of, is_whole, AreGroups}
-use Rattle.textwrap_lines.proofs.Common.{LineParts, assembled_line, CutsNoSequence, IsPrintedWithin}
-use Rattle.textwrap_lines.proofs.Common.{line_bytes, HasNoEscape, Line, first_width, KeepsToWidth}
-use Rattle.textwrap_lines.proofs.Common.{line_from, indent_of, parts_from, DividesAs, widths_of}
-use Rattle.textwrap_lines.proofs.Common.{HasWholeSequences, AreParagraphParts, ArePrintedWithin}
-use Rattle.textwrap_lines.proofs.Common.{IsDividedInto, AreTextLines, CanKeepToWidth}
-use Rattle.textwrap_lines.proofs.Paragraph.LeftOff.{blanks-utf8, assembled-parts, bytes-assembled}
-use Rattle.textwrap_lines.proofs.Paragraph.LeftOff.{tiled-word_of, laid_out-cases}
-use Rattle.textwrap_lines.proofs.Text.Paragraphs.{each_part, units-plain, text_width-append}
-use Rattle.textwrap_lines.proofs.Text.Paragraphs.{paragraphs_of-utf8, paragraphs_of-each}
+use Rattle.textwrap_layout.proofs.Common.{Settings, covered, parts_of, is_whole, AreGroups}
+use Rattle.textwrap_layout.proofs.Common.{LineParts, assembled_line, CutsNoSequence}
+use Rattle.textwrap_layout.proofs.Common.{IsPrintedWithin, line_bytes, HasNoEscape, Line}
+use Rattle.textwrap_layout.proofs.Common.{first_width, KeepsToWidth, line_from, indent_of}
+use Rattle.textwrap_layout.proofs.Common.{parts_from, DividesAs, widths_of, HasWholeSequences}
+use Rattle.textwrap_layout.proofs.Common.{AreParagraphParts, ArePrintedWithin, IsDividedInto}
+use Rattle.textwrap_layout.proofs.Common.{AreTextLines, CanKeepToWidth}
+use Rattle.textwrap_layout.proofs.Paragraph.LeftOff.{blanks-utf8, assembled-parts, bytes-assembled}
+use Rattle.textwrap_layout.proofs.Paragraph.LeftOff.{tiled-word_of, laid_out-cases}
+use Rattle.textwrap_layout.proofs.Text.Paragraphs.{each_part, units-plain, text_width-append}
+use Rattle.textwrap_layout.proofs.Text.Paragraphs.{paragraphs_of-utf8, paragraphs_of-each}
 use Rattle.textwrap_base.proofs.Division.Map.{IsDividedBy-whole}
 use Rattle.textwrap_words.proofs.Word.Pieces.{AreTexts, AreTexts-words, ArePoints-cuts}
 use Rattle.textwrap_words.proofs.Word.Pieces.{ArePoints-hyphens}
 use Rattle.textwrap_lines.proofs.Paragraph.KeepsTo.{own_width, first_width-own}
 use Rattle.textwrap_lines.proofs.Paragraph.KeepsTo.{paragraph-even}
-use Rattle.textwrap_lines.proofs.Paragraph.Pieces.{pieces-measured, pieces-no_penalty, pieces-tile}
+use Rattle.textwrap_layout.proofs.Paragraph.Pieces.{pieces-measured, pieces-no_penalty, pieces-tile}
 use Rattle.textwrap_lines.proofs.Text.Groups.{groups-all, groups-map}
 
 -- ---- a line

@@ -7,15 +7,16 @@ use Rattle.textwrap_words.proofs.Common.{WordText, sizes_of, tiled, Algorithm, G
 use Rattle.textwrap_words.proofs.Common.{Splitter, ends_in_hyphen, AreCuts, AreWordsOf, LeastCost}
 use Rattle.textwrap_words.proofs.Common.{MayDivide, algorithm_view, MaySeparate, ArePoints}
 use Rattle.textwrap_words.proofs.Common.{MaySplit, splitter_view}
-use Rattle.textwrap_lines.proofs.Common.{Line, line_from, widths_of, KeepsToWidth, Settings}
-use Rattle.textwrap_lines.proofs.Common.{AreTextLines, KeepToWidths, IsWrapped, LinesKeepToWidth}
-use Rattle.textwrap_lines.proofs.Common.{DividesAs, DividesBy, settings_view, IsDividedInto}
-use Rattle.textwrap_lines.proofs.Common.{Options, CanKeepToWidth, ArePrintedWithin}
+use Rattle.textwrap_layout.proofs.Common.{Line, line_from, widths_of, KeepsToWidth, Settings}
+use Rattle.textwrap_layout.proofs.Common.{AreTextLines, KeepToWidths, IsWrapped, LinesKeepToWidth}
+use Rattle.textwrap_layout.proofs.Common.{DividesAs, DividesBy, settings_view, IsDividedInto}
+use Rattle.textwrap_layout.proofs.Common.{CanKeepToWidth, ArePrintedWithin}
+use Rattle.textwrap_layout.specs.declared.options.Options.{Options}
 use Rattle.textwrap_text.proofs.Lists.Parts.{flat, Begins}
 use Rattle.textwrap_words.proofs.Word.Pieces.{AreTexts, AreTexts-words, ArePoints-cuts}
 use Rattle.textwrap_words.proofs.Word.Pieces.{ArePoints-hyphens}
-use Rattle.textwrap_lines.proofs.Paragraph.Pieces.{pieces-tile, divided-begin, divided-blanks}
-use Rattle.textwrap_lines.proofs.Text.Paragraphs.{paragraphs_of-utf8, parts_past-some}
+use Rattle.textwrap_layout.proofs.Paragraph.Pieces.{pieces-tile, divided-begin, divided-blanks}
+use Rattle.textwrap_layout.proofs.Text.Paragraphs.{paragraphs_of-utf8, parts_past-some}
 use Rattle.textwrap_lines.proofs.Text.Groups.{LosesOnlyBlanks-from, groups-tile, groups-map}
 use Rattle.textwrap_lines.proofs.Text.Groups.{groups-all, groups-some, groups-indented}
 use Rattle.textwrap_lines.proofs.Paragraph.KeepsTo.{Divides, AreParts, paragraph-some}

@@ -1,6 +1,6 @@
 use Rattle.textwrap.proofs.columns.later_len.Goals as goal
 use Rattle.textwrap_text.proofs.Common.{◌+◌, ◌∙◌, ap, arith, length, map, sym}
-use Rattle.textwrap_lines.proofs.Common.{line_view, line_bytes}
+use Rattle.textwrap_layout.proofs.Common.{line_view, line_bytes}
 use Rattle.textwrap.proofs.Common.{layout_view, padded}
 use Rattle.textwrap.proofs.Text.Tables.{cell_is, length-gapped-more}
 

@@ -1,7 +1,7 @@
 use Rattle.textwrap.proofs.columns.later_len.Given as goal
 use Rattle.textwrap_text.proofs.Common.{◌≡◌, ◌+◌, ◌-◌, ◌*◌, ◌^◌, ◌<◌, ◌≤◌, length, map, min}
 use Rattle.textwrap_text.proofs.Common.{range_with_len}
-use Rattle.textwrap_lines.proofs.Common.{line_view, line_bytes}
+use Rattle.textwrap_layout.proofs.Common.{line_view, line_bytes}
 use Rattle.textwrap.proofs.Common.{layout_view, gapped, cell}
 
 -- the bytes of the later cells so far, where the last line stands, and that there is a column for

@@ -1,6 +1,6 @@
 use Rattle.textwrap.proofs.columns.push_later.Goals as goal
 use Rattle.textwrap_text.proofs.Common.{◌+◌, map, ◌∙◌, arith, sym, string_bytes}
-use Rattle.textwrap_lines.proofs.Common.{line_view, line_bytes}
+use Rattle.textwrap_layout.proofs.Common.{line_view, line_bytes}
 use Rattle.textwrap.proofs.Common.{layout_view}
 use Rattle.textwrap.proofs.Text.Tables.{cell_is, gapped-more}
 

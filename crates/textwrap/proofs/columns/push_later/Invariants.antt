@@ -1,7 +1,7 @@
 use Rattle.textwrap.proofs.columns.push_later.Given as goal
 use Rattle.textwrap_text.proofs.Common.{◌≡◌, ◌+◌, ◌-◌, ◌*◌, ◌<◌, ◌≤◌, ◌++◌, length, map}
 use Rattle.textwrap_text.proofs.Common.{range_with_len, string_bytes}
-use Rattle.textwrap_lines.proofs.Common.{line_view, line_bytes}
+use Rattle.textwrap_layout.proofs.Common.{line_view, line_bytes}
 use Rattle.textwrap.proofs.Common.{layout_view, gapped, cell}
 
 -- the later cells so far, where the last line stands, and that there is a column for each

@@ -1,7 +1,7 @@
 use Rattle.textwrap.proofs.columns.row_len.Goals as goal
 use Rattle.textwrap_text.proofs.Common.{◌≡◌, ◌+◌, ◌-◌, ◌*◌, ◌≤◌, ◌<◌, ◌^◌, ◌⊎◌, ap, sym, ◌∙◌, arith}
 use Rattle.textwrap_text.proofs.Common.{subst, map, length, min, length-map}
-use Rattle.textwrap_lines.proofs.Common.{line_view, line_bytes}
+use Rattle.textwrap_layout.proofs.Common.{line_view, line_bytes}
 use Rattle.textwrap.proofs.Common.{layout_view, padded, cells, row_text}
 use Rattle.textwrap.proofs.Text.Tables.{cell_is, length-row_text}
 use Rattle.textwrap_text.proofs.Numbers.{SomeIff-ok}

@@ -1,7 +1,7 @@
 use Rattle.textwrap.proofs.columns.table_row.Goals as goal
 use Rattle.textwrap_text.proofs.Common.{◌≡◌, ◌+◌, ◌*◌, ◌≤◌, ◌⊎◌, map, sym, ◌∙◌, arith, subst}
 use Rattle.textwrap_text.proofs.Common.{length-map}
-use Rattle.textwrap_lines.proofs.Common.{line_view, line_bytes}
+use Rattle.textwrap_layout.proofs.Common.{line_view, line_bytes}
 use Rattle.textwrap.proofs.Common.{layout_view}
 use Rattle.textwrap.proofs.Text.Tables.{cell_is, row_text-written}
 

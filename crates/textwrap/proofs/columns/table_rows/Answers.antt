@@ -1,7 +1,7 @@
 use Rattle.textwrap.proofs.columns.table_rows.Goals as goal
 use Rattle.textwrap_text.proofs.Common.{ℕ, List, length, map, sym, arith, map-append}
 use Rattle.textwrap_text.proofs.Common.{map-range_with_len_more}
-use Rattle.textwrap_lines.proofs.Common.{line_view, line_bytes}
+use Rattle.textwrap_layout.proofs.Common.{line_view, line_bytes}
 use Rattle.textwrap.proofs.Common.{layout_view, row_text, cells}
 use Rattle.textwrap_text.proofs.Numbers.{rows-le_lines}
 

@@ -1,6 +1,6 @@
 use Rattle.textwrap.proofs.columns.table_rows.Given as goal
 use Rattle.textwrap_text.proofs.Common.{◌≡◌, map, range_with_len, string_bytes}
-use Rattle.textwrap_lines.proofs.Common.{line_view, line_bytes}
+use Rattle.textwrap_layout.proofs.Common.{line_view, line_bytes}
 use Rattle.textwrap.proofs.Common.{layout_view, row_text, cells}
 
 abbrev pub invariant-loop-r : goal.invariant-loop-r

@@ -1,7 +1,7 @@
 use Rattle.textwrap.proofs.columns.wrap_columns.Goals as goal
 use Rattle.textwrap_text.proofs.Common.{◌≡◌, map, ap, ◌∙◌}
 use Rattle.std.proofs.lemmas.Result.{IfOk-weaker}
-use Rattle.textwrap_lines.proofs.Common.{line_bytes, settings_view}
+use Rattle.textwrap_layout.proofs.Common.{line_bytes, settings_view}
 use Rattle.textwrap.specs.Columns.{at_column_width, table_rows}
 use Rattle.textwrap.proofs.Text.Unfilling.{columns-as}
 use Rattle.textwrap.proofs.Text.Tables.{AreTextLines-methods, SomeMayPass64Bits-methods}

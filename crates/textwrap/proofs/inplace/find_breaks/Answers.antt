@@ -3,7 +3,7 @@ use Rattle.textwrap_text.proofs.Common.{ap, ◌∙◌, subst, arith, false≢tru
 use Rattle.textwrap.proofs.Common.{FitsOneLine}
 use Rattle.textwrap_text.specs.declared.line_ending.LineEnding.TheVariants.{LF}
 use Rattle.textwrap.proofs.Text.InPlace.{HasBreaks, HasBreaks-more, HasBreaks-end, bytes_left-split}
-use Rattle.textwrap_lines.proofs.Text.Lines.{paragraphs_left, paragraphs_left-split, bytes_left}
+use Rattle.textwrap_layout.proofs.Text.Lines.{paragraphs_left, paragraphs_left-split, bytes_left}
 
 pub loop-rest-preserved : goal.loop-rest-preserved
 loop-rest-preserved g c =

@@ -3,7 +3,7 @@ use Rattle.textwrap_text.proofs.Common.{◌+◌, ◌≤◌, All, length, paragra
 use Rattle.textwrap.proofs.Common.{FitsOneLine}
 use Rattle.textwrap_text.specs.declared.line_ending.LineEnding.TheVariants.{LF}
 use Rattle.textwrap.proofs.Text.InPlace.{HasBreaks}
-use Rattle.textwrap_lines.proofs.Text.Lines.{paragraphs_left, bytes_left}
+use Rattle.textwrap_layout.proofs.Text.Lines.{paragraphs_left, bytes_left}
 
 -- the places so far, and those of the parts left, are the places of the text
 abbrev pub invariant-loop-rest : goal.invariant-loop-rest

@@ -1,8 +1,8 @@
 use Rattle.textwrap.proofs.refilling.refill.Goals as goal
 use Rattle.textwrap_text.proofs.Common.{ap, ◌∙◌, string_bytes}
 use Rattle.std.proofs.lemmas.Result.{IfOk-weaker}
-use Rattle.textwrap_lines.proofs.Common.{settings_view}
-use Rattle.textwrap_lines.specs.Paragraph.{DividesUnder}
+use Rattle.textwrap_layout.proofs.Common.{settings_view}
+use Rattle.textwrap_layout.specs.Paragraph.{DividesUnder}
 use Rattle.textwrap.proofs.Text.Unfilling.{refilled-as, refilled-from}
 
 pub returns-clause-refilled : goal.returns-clause-refilled

@@ -1,7 +1,7 @@
 use Rattle.textwrap_calls.proofs.line_lists.place_carried.Goals as goal
 use Rattle.textwrap_calls.proofs.Common.{IfOk, ◌≡◌, [], ap, map, subst, ◌∙◌, texts_of}
 use Rattle.textwrap_calls.proofs.Common.{carried_lines, ArePlacedRows, bytes_of}
-use Rattle.textwrap_lines.specs.Paragraph.{line_bytes}
+use Rattle.textwrap_layout.specs.Paragraph.{line_bytes}
 
 pub returns : goal.returns
 returns g c =

@@ -1,7 +1,7 @@
 use Rattle.textwrap_calls.proofs.line_lists.place_shortened.Goals as goal
 use Rattle.textwrap_calls.proofs.Common.{ap, map, ◌∙◌, texts_of, bytes_of}
 use Rattle.std.proofs.lemmas.Result.{IfOk-weaker}
-use Rattle.textwrap_lines.specs.Paragraph.{line_view}
+use Rattle.textwrap_layout.specs.Paragraph.{line_view}
 use Rattle.textwrap_calls.proofs.TextLemmas.{lines-short}
 
 pub returns : goal.returns

@@ -2,7 +2,7 @@ use Rattle.textwrap_calls.proofs.line_lists.textwrap_carry_styles.Goals as goal
 use Rattle.textwrap_calls.proofs.Common.{ℕ, List, [], map, refl, ap, subst, ◌∙◌, Built}
 use Rattle.textwrap_calls.proofs.Common.{carried_lines, ArePlacedRows, settings_of, bytes_of}
 use Rattle.textwrap.specs.Paragraph.{line_bytes}
-use Rattle.textwrap_lines.specs.Options.{Settings}
+use Rattle.textwrap_layout.specs.Options.{Settings}
 use Rattle.textwrap_calls.proofs.RoomLemmas.{WritesLines-reported}
 use Rattle.textwrap_calls.proofs.PlaceLemmas.{rows-shown}
 

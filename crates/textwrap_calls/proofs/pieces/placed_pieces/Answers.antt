@@ -1,7 +1,7 @@
 use Rattle.textwrap_calls.proofs.pieces.placed_pieces.Goals as goal
 use Rattle.textwrap_calls.proofs.Common.{ap, subst, sym, ◌∙◌, as_splitter, standing_left, pieces_of}
 use Rattle.textwrap_calls.proofs.Common.{settings_view}
-use Rattle.textwrap_lines.proofs.Paragraph.Pieces.{pieces_of-no_penalty}
+use Rattle.textwrap_layout.proofs.Paragraph.Pieces.{pieces_of-no_penalty}
 use Rattle.textwrap_calls.proofs.PieceLemmas.{HasLeft, HasNext, Left-start, Left-next, Left-end}
 use Rattle.textwrap_calls.proofs.pieces.placed_pieces.Goals.{In-Some}
 

@@ -1,6 +1,6 @@
 use Rattle.textwrap_calls.proofs.reported.put_line.Goals as goal
 use Rattle.textwrap_calls.proofs.Common.{[], ◌∷◌, arith, refl, rules, as_len}
-use Rattle.textwrap_lines.proofs.Common.{place_of, Slice}
+use Rattle.textwrap_layout.proofs.Common.{place_of, Slice}
 use Rattle.textwrap_calls.proofs.RoomLemmas.{WritesReported-counts}
 
 pub returns-clause-lines : goal.returns-clause-lines

@@ -4,12 +4,12 @@ use Rattle.textwrap_calls.proofs.Common.{sizes_of, word_view, total_width-same, 
 use Rattle.textwrap_calls.proofs.Common.{widths_of, pieces_at, algorithm_of, says_yes, settings_of}
 use Rattle.textwrap_calls.proofs.Common.{AreEndsOf, ends_of}
 use Rattle.textwrap_text.proofs.Common.{Some}
-use Rattle.textwrap_lines.proofs.Paragraph.Widths.{sizes-word_view}
+use Rattle.textwrap_layout.proofs.Paragraph.Widths.{sizes-word_view}
 use Rattle.std.specs.Prelude.{IsSomeAnd}
 use Rattle.textwrap_words.specs.WrapAlgorithms.{algorithm_view, IsDividedBy, OverflowsBy}
 use Rattle.textwrap_words.proofs.Word.Divisions.{MayDivide-map}
-use Rattle.textwrap_lines.proofs.Common.{first_width}
-use Rattle.textwrap_lines.proofs.Paragraph.Pieces.{division-as}
+use Rattle.textwrap_layout.proofs.Common.{first_width}
+use Rattle.textwrap_layout.proofs.Paragraph.Pieces.{division-as}
 use Rattle.textwrap_calls.proofs.EndLemmas.{ends_of-map, OverflowsBy-map}
 use Rattle.textwrap_calls.proofs.RoomLemmas.{WritesText-answer}
 use Rattle.textwrap_calls.proofs.steps.textwrap_ends_at.Goals.{After-wrap}

@@ -1,6 +1,6 @@
 use Rattle.textwrap_calls.proofs.text_steps.join_lines.Given as goal
 use Rattle.textwrap_calls.proofs.Common.{List, ShowLines}
-use Rattle.textwrap_lines.proofs.Common.{Line}
+use Rattle.textwrap_layout.proofs.Common.{Line}
 use Rattle.textwrap_calls.proofs.StepLemmas.{HasJoined}
 
 abbrev pub invariant-loop-i : goal.invariant-loop-i

@@ -1,7 +1,7 @@
 use Rattle.textwrap_calls.proofs.text_steps.textwrap_fill_at.Goals as goal
 use Rattle.textwrap_calls.proofs.Common.{[], ap, append-nil, subst, sym, ◌≡◌, ◌∙◌, settings_view}
 use Rattle.textwrap_calls.proofs.Common.{settings_of, text_step_cuts, ShowLines}
-use Rattle.textwrap_lines.proofs.Common.{lines_of}
+use Rattle.textwrap_layout.proofs.Common.{lines_of}
 use Rattle.textwrap_calls.specs.TextSteps.{filled_at}
 use Rattle.textwrap_calls.proofs.RoomLemmas.{WritesText-answer}
 use Rattle.textwrap_calls.proofs.text_steps.textwrap_fill_at.Goals.{After-as_bytes}

@@ -2,7 +2,7 @@ use Rattle.textwrap_calls.proofs.wrapping.wrap_text.Goals as goal
 use Rattle.textwrap_calls.proofs.Common.{◌<◌, ◌^◌, [], arith, length, refl, rules, as_len}
 use Rattle.textwrap_calls.proofs.Common.{ArePlacedLines, algorithm_of, separator_of, settings_of}
 use Rattle.textwrap_calls.proofs.Common.{splitter_of}
-use Rattle.textwrap_lines.proofs.Common.{built_text}
+use Rattle.textwrap_layout.proofs.Common.{built_text}
 use Rattle.textwrap_calls.proofs.PlaceLemmas.{placed-shown}
 use Rattle.textwrap_calls.proofs.Lengths.Bounds.{lines-bounded}
 use Rattle.textwrap_calls.proofs.RoomLemmas.{ShowLines-length, WritesLines-reported}

@@ -1,7 +1,7 @@
 use Rattle.textwrap_display.proofs.filling.push_justified_lines.Goals as goal
 use Rattle.textwrap_text.proofs.Common.{◌+◌, ◌++◌, ◌∷◌, [], sym, ap, ◌∙◌, drop, drop_more}
 use Rattle.textwrap_text.proofs.Common.{string_bytes}
-use Rattle.textwrap_lines.proofs.Common.{layout_view}
+use Rattle.textwrap_layout.proofs.Common.{layout_view}
 use Rattle.textwrap_display.proofs.JustifiedLines.{added, added-step}
 
 pub loop-line-preserved : goal.loop-line-preserved

@@ -1,6 +1,6 @@
 use Rattle.textwrap_display.proofs.shortening.push_whole.Given as goal
 use Rattle.textwrap_text.proofs.Common.{◌≡◌, ◌++◌, map, take}
-use Rattle.textwrap_lines.specs.Paragraph.{Slice, line_view}
+use Rattle.textwrap_layout.specs.Paragraph.{Slice, line_view}
 use Rattle.textwrap_display.specs.Shortening.{texts_of}
 
 -- the lines so far were added

@@ -1,7 +1,7 @@
 use Rattle.textwrap_display.proofs.shortening.shorten_lines.Goals as goal
 use Rattle.textwrap_text.proofs.Common.{◌≡◌, ◌+◌, [], ◌∷◌, ◌++◌, map, arith, take, sym, ap, subst}
 use Rattle.textwrap_text.proofs.Common.{◌∙◌, string_bytes}
-use Rattle.textwrap_lines.specs.Paragraph.{Built, Slice, line_view}
+use Rattle.textwrap_layout.specs.Paragraph.{Built, Slice, line_view}
 use Rattle.textwrap_display.specs.Shortening.{AreShortened, IsShortened, texts_of}
 use Rattle.textwrap_display.proofs.KeptLines.{cut-lines, views-push}
 use Rattle.textwrap_display.proofs.shortening.shorten_lines.Goals.{then-lines-most+in_ok-push_whole}

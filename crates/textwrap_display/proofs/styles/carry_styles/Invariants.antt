@@ -1,6 +1,6 @@
 use Rattle.textwrap_display.proofs.styles.carry_styles.Given as goal
 use Rattle.textwrap_text.proofs.Common.{◌≡◌, ℕ, List, [], ◌++◌, drop, map, shadow, Utf8}
-use Rattle.textwrap_lines.specs.Paragraph.{line_view}
+use Rattle.textwrap_layout.specs.Paragraph.{line_view}
 use Rattle.textwrap_display.specs.OpenStyles.{IsOpenAfter}
 use Rattle.textwrap_display.specs.Shortening.{texts_of}
 use Rattle.textwrap_display.specs.Styles.{carried_lines}

@@ -1,9 +1,10 @@
 use Rattle.textwrap_lines.proofs.cheapest.push_cheapest_lines.Goals as goal
 use Rattle.textwrap_text.proofs.Common.{List, map, refl, ◌∙◌, subst, Bor, on_ok_weaker}
 use Rattle.textwrap_words.proofs.Common.{as_splitter}
-use Rattle.textwrap_lines.proofs.Common.{Took, frame_settings, Span}
-use Rattle.textwrap_lines.specs.Direct.{cuts_of, words_cut}
-use Rattle.textwrap_lines.proofs.Paragraph.Pieces.{words_cut-texts}
+use Rattle.textwrap_layout.proofs.Common.{Took, frame_settings}
+use Rattle.textwrap_lines.proofs.Common.{Span}
+use Rattle.textwrap_layout.specs.Direct.{cuts_of, words_cut}
+use Rattle.textwrap_layout.proofs.Paragraph.Pieces.{words_cut-texts}
 use Rattle.textwrap_lines.proofs.PlacedPieces.Cheapest.{are_searched, found-lines, FoundLines}
 use Rattle.textwrap_lines.proofs.cheapest.push_cheapest_lines.Goals.{After-deref-2}
 

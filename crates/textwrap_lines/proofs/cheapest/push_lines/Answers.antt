@@ -1,8 +1,9 @@
 use Rattle.textwrap_lines.proofs.cheapest.push_lines.Goals as goal
 use Rattle.textwrap_text.proofs.Common.{List, Bor, map, refl, ap, ◌∙◌, subst, arith, drop_more}
 use Rattle.textwrap_text.proofs.Common.{drop_all}
-use Rattle.textwrap_lines.proofs.Common.{frame_settings, HaveTexts, span_lines, Span}
-use Rattle.textwrap_lines.proofs.Text.Sinks.{HasTaken, HasTaken-end, HasTaken-next, HasTaken-start}
+use Rattle.textwrap_layout.proofs.Common.{frame_settings}
+use Rattle.textwrap_lines.proofs.Common.{HaveTexts, span_lines, Span}
+use Rattle.textwrap_layout.proofs.Text.Sinks.{HasTaken, HasTaken-end, HasTaken-next, HasTaken-start}
 
 pub loop-line-init : goal.loop-line-init
 loop-line-init g c =

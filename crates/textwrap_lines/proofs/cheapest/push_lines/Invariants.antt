@@ -1,7 +1,8 @@
 use Rattle.textwrap_lines.proofs.cheapest.push_lines.Given as goal
 use Rattle.textwrap_text.proofs.Common.{◌≡◌, drop, map}
-use Rattle.textwrap_lines.proofs.Common.{frame_settings, HaveTexts, span_lines}
-use Rattle.textwrap_lines.proofs.Text.Sinks.{HasTaken}
+use Rattle.textwrap_layout.proofs.Common.{frame_settings}
+use Rattle.textwrap_lines.proofs.Common.{HaveTexts, span_lines}
+use Rattle.textwrap_layout.proofs.Text.Sinks.{HasTaken}
 
 -- the lines so far were taken, and the others are found in the rest of the text
 abbrev pub invariant-loop-line : goal.invariant-loop-line

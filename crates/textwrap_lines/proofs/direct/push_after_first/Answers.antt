@@ -1,9 +1,9 @@
 use Rattle.textwrap_lines.proofs.direct.push_after_first.Goals as goal
 use Rattle.textwrap_text.proofs.Common.{[], ◌∷◌, sym, ◌∙◌, subst, on_ok_weaker}
 use Rattle.textwrap_words.proofs.Common.{as_splitter}
-use Rattle.textwrap_lines.proofs.Common.{Took, frame_settings, pieces_of}
-use Rattle.textwrap_lines.proofs.Paragraph.Pieces.{pieces_of-no_penalty, pieces_of-tile}
-use Rattle.textwrap_lines.proofs.Text.Sinks.{Took-then}
+use Rattle.textwrap_layout.proofs.Common.{Took, frame_settings, pieces_of}
+use Rattle.textwrap_layout.proofs.Paragraph.Pieces.{pieces_of-no_penalty, pieces_of-tile}
+use Rattle.textwrap_layout.proofs.Text.Sinks.{Took-then}
 use Rattle.textwrap_lines.proofs.PieceLines.{lines-greedy}
 
 pub returns-clause-took : goal.returns-clause-took

@@ -2,9 +2,10 @@ use Rattle.textwrap_lines.proofs.direct.push_by_jumps.Goals as goal
 use Rattle.textwrap_text.proofs.Common.{map, ap, ◌∙◌, sym, subst, arith, on_ok_weaker}
 use Rattle.textwrap_words.proofs.Common.{as_splitter, split_words, word_of}
 use Rattle.textwrap_words.specs.PieceCuts.{parts_by}
-use Rattle.textwrap_lines.proofs.Common.{Took, indent_of, is_cut_by, frame_settings}
-use Rattle.textwrap_lines.proofs.Common.{pieces_of_words}
-use Rattle.textwrap_lines.proofs.Paragraph.Pieces.{pieces_of_words-no_penalty, pieces_of_words-tile}
+use Rattle.textwrap_layout.proofs.Common.{Took, indent_of, is_cut_by, frame_settings}
+use Rattle.textwrap_layout.proofs.Common.{pieces_of_words}
+use Rattle.textwrap_layout.proofs.Paragraph.Pieces.{pieces_of_words-no_penalty}
+use Rattle.textwrap_layout.proofs.Paragraph.Pieces.{pieces_of_words-tile}
 use Rattle.textwrap_lines.proofs.PieceLines.{lines-greedy}
 use Rattle.textwrap_lines.proofs.PrintableTexts.Pieces.{words-texts, split-cuts}
 use Rattle.textwrap_lines.proofs.Text.Directly.{lines-by_bytes, lines_of_pieces}

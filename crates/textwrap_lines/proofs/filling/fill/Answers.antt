@@ -1,6 +1,6 @@
 use Rattle.textwrap_lines.proofs.filling.fill.Goals as goal
 use Rattle.std.proofs.lemmas.Result.{IfOk-weaker}
-use Rattle.textwrap_lines.proofs.Paragraph.Pieces.{filled-as}
+use Rattle.textwrap_layout.proofs.Paragraph.Pieces.{filled-as}
 
 pub returns-clause-built_in : goal.returns-clause-built_in
 returns-clause-built_in g c = IfOk-weaker c.fill_by.result _ _

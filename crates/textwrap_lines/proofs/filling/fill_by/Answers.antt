@@ -1,6 +1,6 @@
 use Rattle.textwrap_lines.proofs.filling.fill_by.Goals as goal
 use Rattle.textwrap_text.proofs.Common.{map, ap, ◌∙◌, ending_bytes, join_with}
-use Rattle.textwrap_lines.proofs.Common.{Settings, line_bytes, lines_of}
+use Rattle.textwrap_layout.proofs.Common.{Settings, line_bytes, lines_of}
 
 pub returns-clause-filled : goal.returns-clause-filled
 returns-clause-filled g c =

@@ -1,8 +1,8 @@
 use Rattle.textwrap_lines.proofs.filling.join_lines.Goals as goal
 use Rattle.textwrap_text.proofs.Common.{◌≡◌, ◌++◌, take, map, ap, sym, ◌∙◌, arith, string_bytes}
 use Rattle.textwrap_text.proofs.Common.{ending_bytes, join_with}
-use Rattle.textwrap_lines.proofs.Common.{line_view, line_bytes}
-use Rattle.textwrap_lines.proofs.Text.Lines.{join-take_first, join-take_more}
+use Rattle.textwrap_layout.proofs.Common.{line_view, line_bytes}
+use Rattle.textwrap_layout.proofs.Text.Lines.{join-take_first, join-take_more}
 
 pub loop-i-preserved : goal.loop-i-preserved
 loop-i-preserved g c =

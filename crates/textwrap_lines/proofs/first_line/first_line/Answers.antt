@@ -1,7 +1,7 @@
 use Rattle.textwrap_lines.proofs.first_line.first_line.Goals as goal
 use Rattle.textwrap_text.proofs.Common.{IsCharBoundary-start, sym, ap, ◌∙◌, subst, arith}
 use Rattle.textwrap_words.proofs.Common.{as_splitter}
-use Rattle.textwrap_lines.proofs.Common.{first_width, frame_settings}
+use Rattle.textwrap_layout.proofs.Common.{first_width, frame_settings}
 use Rattle.textwrap_lines.specs.PieceLines.{line_opened}
 use Rattle.textwrap_lines.proofs.PieceLines.{HoldsFirst, goes_on-start}
 

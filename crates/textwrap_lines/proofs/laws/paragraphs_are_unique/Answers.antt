@@ -1,5 +1,5 @@
 use Rattle.textwrap_lines.proofs.laws.paragraphs_are_unique.Goals as goal
-use Rattle.textwrap_lines.proofs.Text.Paragraphs.{paragraphs_one}
+use Rattle.textwrap_layout.proofs.Text.Paragraphs.{paragraphs_one}
 
 pub returns : goal.returns
 returns c = paragraphs_one

@@ -3,14 +3,14 @@ use Rattle.textwrap_text.proofs.Common.{◌≡◌, [], ◌∷◌, cond, refl, ap
 use Rattle.textwrap_text.proofs.Common.{IsCharBoundary-start}
 use Rattle.textwrap_words.proofs.Common.{as_splitter}
 use Rattle.textwrap_words.specs.Pieces.{stand_from}
-use Rattle.textwrap_lines.specs.PiecesLeft.{left_standing}
-use Rattle.textwrap_lines.specs.Direct.{pieces_cut, cuts_of, words_cut}
-use Rattle.textwrap_lines.proofs.Common.{Took, frame_settings, later_width, first_width, indent_of}
+use Rattle.textwrap_layout.specs.PiecesLeft.{left_standing}
+use Rattle.textwrap_layout.specs.Direct.{pieces_cut, cuts_of, words_cut}
+use Rattle.textwrap_layout.proofs.Common.{Took, frame_settings, later_width, first_width, indent_of}
 use Rattle.textwrap_lines.proofs.Common.{line_so_far, lines_past, LineSoFar, line_of, with_piece}
 use Rattle.textwrap_lines.specs.PieceLines.{no_pieces}
-use Rattle.textwrap_lines.proofs.Paragraph.Pieces.{words_cut-texts, pieces_of_words-no_penalty}
-use Rattle.textwrap_lines.proofs.Paragraph.Pieces.{pieces_of_words-tile}
-use Rattle.textwrap_lines.proofs.Text.Sinks.{HasTaken, HasTaken-end, HasTaken-next, HasTaken-start}
+use Rattle.textwrap_layout.proofs.Paragraph.Pieces.{words_cut-texts, pieces_of_words-no_penalty}
+use Rattle.textwrap_layout.proofs.Paragraph.Pieces.{pieces_of_words-tile}
+use Rattle.textwrap_layout.proofs.Text.Sinks.{HasTaken, HasTaken-end, HasTaken-next, HasTaken-start}
 use Rattle.textwrap_lines.proofs.PieceLines.{AllCome, pieces-come, lines-greedy}
 
 pub at-line-requires : goal.at-line-requires

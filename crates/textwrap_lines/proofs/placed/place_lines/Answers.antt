@@ -1,6 +1,6 @@
 use Rattle.textwrap_lines.proofs.placed.place_lines.Goals as goal
 use Rattle.std.proofs.lemmas.Result.{IfOk-weaker}
-use Rattle.textwrap_lines.proofs.Paragraph.Pieces.{placed-as}
+use Rattle.textwrap_layout.proofs.Paragraph.Pieces.{placed-as}
 
 pub returns-clause-built_in : goal.returns-clause-built_in
 returns-clause-built_in g c = IfOk-weaker c.place_lines_by.result _ _

@@ -1,6 +1,6 @@
 use Rattle.textwrap_lines.proofs.placed.push_division.Goals as goal
 use Rattle.textwrap_text.proofs.Common.{on_ok_weaker}
-use Rattle.textwrap_lines.proofs.Text.Sinks.{HasPlaces-took}
+use Rattle.textwrap_layout.proofs.Text.Sinks.{HasPlaces-took}
 
 pub returns : goal.returns
 returns g c =

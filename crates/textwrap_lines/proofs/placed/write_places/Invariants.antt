@@ -1,6 +1,6 @@
 use Rattle.textwrap_lines.proofs.placed.write_places.Given as goal
 use Rattle.textwrap_text.proofs.Common.{take}
-use Rattle.textwrap_lines.specs.LentPlaces.{ArePlaced, KeepsPlaces}
+use Rattle.textwrap_layout.specs.LentPlaces.{ArePlaced, KeepsPlaces}
 
 -- the first places are written
 abbrev pub invariant-loop-place : goal.invariant-loop-place

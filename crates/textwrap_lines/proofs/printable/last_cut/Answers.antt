@@ -1,7 +1,7 @@
 use Rattle.textwrap_lines.proofs.printable.last_cut.Goals as goal
 use Rattle.textwrap_text.proofs.Common.{inl, inr, ◌≡◌, sym, ap, ◌∙◌, arith, cases_lt}
 use Rattle.textwrap_words.proofs.Common.{as_splitter}
-use Rattle.textwrap_lines.proofs.Common.{is_cut_by}
+use Rattle.textwrap_layout.proofs.Common.{is_cut_by}
 
 pub loop-place-preserved : goal.loop-place-preserved
 loop-place-preserved g c = record {

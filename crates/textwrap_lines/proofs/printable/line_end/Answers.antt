@@ -2,10 +2,10 @@ use Rattle.textwrap_lines.proofs.printable.line_end.Goals as goal
 use Rattle.textwrap_text.proofs.Common.{◌≡◌, ℕ, ◌+◌, ◌-◌, ◌^◌, ◌<◌, ◌≤◌, Bool, true, false, length}
 use Rattle.textwrap_text.proofs.Common.{sym, ◌∙◌, subst, arith, ne_eqb, slice_range, trimmed_len}
 use Rattle.textwrap_words.proofs.Common.{as_splitter}
-use Rattle.textwrap_lines.specs.Layout.{limit_at}
-use Rattle.textwrap_lines.proofs.Common.{is_cut_by, IsFirstLine, NoCutBetween}
+use Rattle.textwrap_layout.specs.Layout.{limit_at}
+use Rattle.textwrap_layout.proofs.Common.{is_cut_by, IsFirstLine, NoCutBetween}
 use Rattle.textwrap_text.proofs.Lists.Parts.{length-slice}
-use Rattle.textwrap_lines.proofs.Paragraph.LeftOff.{cut_by-others}
+use Rattle.textwrap_layout.proofs.Paragraph.LeftOff.{cut_by-others}
 use Rattle.textwrap_lines.proofs.PrintableTexts.Lines.{line-all, line-cut, line-whole, line-broken}
 use Rattle.textwrap_lines.proofs.PrintableTexts.Lines.{blanks-keep, none-past, none-then}
 

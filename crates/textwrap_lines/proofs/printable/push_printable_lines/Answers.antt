@@ -1,11 +1,11 @@
 use Rattle.textwrap_lines.proofs.printable.push_printable_lines.Goals as goal
 use Rattle.textwrap_text.proofs.Common.{◌≡◌, ◌≤◌, length, refl, ◌∙◌, subst, true, slice_range}
 use Rattle.textwrap_words.proofs.Common.{as_splitter}
-use Rattle.textwrap_lines.proofs.Common.{is_cut_by, IsFirstLine, line_slice, frame_settings}
-use Rattle.textwrap_lines.proofs.Common.{later_width}
-use Rattle.textwrap_lines.specs.Layout.{break_limit, limit_at}
+use Rattle.textwrap_layout.proofs.Common.{is_cut_by, IsFirstLine, line_slice, frame_settings}
+use Rattle.textwrap_layout.proofs.Common.{later_width}
+use Rattle.textwrap_layout.specs.Layout.{break_limit, limit_at}
 use Rattle.textwrap_lines.proofs.PrintableTexts.Lines.{lines-step}
-use Rattle.textwrap_lines.proofs.Text.Sinks.{HasTaken, HasTaken-next, HasTaken-start}
+use Rattle.textwrap_layout.proofs.Text.Sinks.{HasTaken, HasTaken-next, HasTaken-start}
 use Rattle.textwrap_lines.proofs.printable.push_printable_lines.Invariants.{lines_after}
 
 pub loop-at-init : goal.loop-at-init

@@ -2,10 +2,10 @@ use Rattle.textwrap_lines.proofs.spans.find_spans.Goals as goal
 use Rattle.textwrap_text.proofs.Common.{◌≤◌, sym, ap, ◌∙◌, subst, arith, length}
 use Rattle.textwrap_base.proofs.Common.{total_width}
 use Rattle.textwrap_words.proofs.Common.{as_splitter, sizes_of}
-use Rattle.textwrap_lines.specs.PiecesLeft.{left_standing}
-use Rattle.textwrap_lines.proofs.Common.{frame_settings}
-use Rattle.textwrap_lines.specs.Direct.{pieces_cut, cuts_of, words_cut}
-use Rattle.textwrap_lines.proofs.Paragraph.Pieces.{words_cut-texts, pieces_of_words-wide}
+use Rattle.textwrap_layout.specs.PiecesLeft.{left_standing}
+use Rattle.textwrap_layout.proofs.Common.{frame_settings}
+use Rattle.textwrap_layout.specs.Direct.{pieces_cut, cuts_of, words_cut}
+use Rattle.textwrap_layout.proofs.Paragraph.Pieces.{words_cut-texts, pieces_of_words-wide}
 use Rattle.textwrap_lines.proofs.PlacedPieces.Lines.{HasLeft, HasNext, Left-start, Left-next}
 use Rattle.textwrap_lines.proofs.PlacedPieces.Lines.{Left-end}
 use Rattle.textwrap_lines.proofs.spans.find_spans.Goals.{In-Some}

@@ -1,7 +1,7 @@
 use Rattle.textwrap_lines.proofs.spans.find_spans.Given as goal
-use Rattle.textwrap_lines.specs.PiecesLeft.{left_standing}
-use Rattle.textwrap_lines.proofs.Common.{frame_settings}
-use Rattle.textwrap_lines.specs.Direct.{pieces_cut}
+use Rattle.textwrap_layout.specs.PiecesLeft.{left_standing}
+use Rattle.textwrap_layout.proofs.Common.{frame_settings}
+use Rattle.textwrap_layout.specs.Direct.{pieces_cut}
 use Rattle.textwrap_lines.proofs.PlacedPieces.Lines.{HasLeft}
 
 -- the spans so far and those of the pieces that are left are those of all pieces

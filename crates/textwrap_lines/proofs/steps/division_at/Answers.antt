@@ -5,7 +5,7 @@ use Rattle.textwrap_text.proofs.Common.{StartsWith, subst}
 use Rattle.textwrap_text.proofs.Lists.Parts.{flat}
 use Rattle.textwrap_words.proofs.Common.{tiled, word_view}
 use Rattle.textwrap_lines.proofs.Common.{Word}
-use Rattle.textwrap_lines.proofs.Paragraph.Widths.{lines-begin}
+use Rattle.textwrap_layout.proofs.Paragraph.Widths.{lines-begin}
 use Rattle.textwrap_words.proofs.Word.Divisions.{lines_from-begin, lines_from-map}
 
 pub returns-clause-begins : goal.returns-clause-begins

@@ -2,7 +2,7 @@ use Rattle.textwrap_lines.proofs.steps.list_lines_at.Goals as goal
 use Rattle.std.proofs.lemmas.Result.{IfOk-weaker}
 use Rattle.textwrap_text.proofs.Common.{◌∙◌, ap, map, sym, StartsWith, flat_map, subst}
 use Rattle.textwrap_words.proofs.Common.{tiled, word_view}
-use Rattle.textwrap_lines.proofs.Common.{line_from, parts_from, settings_view}
+use Rattle.textwrap_layout.proofs.Common.{line_from, parts_from, settings_view}
 
 pub list_division-requires : goal.list_division-requires
 list_division-requires g c =

@@ -4,9 +4,9 @@ use Rattle.textwrap_words.proofs.Common.{AreCuts, parts_between, word_of, word_v
 use Rattle.textwrap_words.proofs.Word.Cuts.{inner-cuts}
 use Rattle.textwrap_words.proofs.Word.Parts.{parts-texts, parts_between-tile}
 use Rattle.textwrap_words.proofs.Word.Pieces.{AreTexts}
-use Rattle.textwrap_lines.proofs.Common.{settings_view}
-use Rattle.textwrap_lines.proofs.Paragraph.Pieces.{pieces-tile}
-use Rattle.textwrap_lines.specs.Paragraph.{broken_pieces_of}
+use Rattle.textwrap_layout.proofs.Common.{settings_view}
+use Rattle.textwrap_layout.proofs.Paragraph.Pieces.{pieces-tile}
+use Rattle.textwrap_layout.specs.Paragraph.{broken_pieces_of}
 use Rattle.textwrap_lines.specs.Steps.{AreWordsBetween, split_at}
 use Rattle.textwrap_lines.proofs.InSteps.{split_at-are}
 

@@ -2,8 +2,8 @@ use Rattle.textwrap_lines.proofs.steps.push_lines_at.Goals as goal
 use Rattle.textwrap_text.proofs.Common.{◌∙◌, ap, map, on_ok_weaker, subst, sym, StartsWith}
 use Rattle.textwrap_text.proofs.Common.{flat_map}
 use Rattle.textwrap_words.proofs.Common.{tiled, word_view}
-use Rattle.textwrap_lines.proofs.Common.{settings_view}
-use Rattle.textwrap_lines.specs.Places.{HasPlacesMore, division_cuts, further}
+use Rattle.textwrap_layout.proofs.Common.{settings_view}
+use Rattle.textwrap_layout.specs.Places.{HasPlacesMore, division_cuts, further}
 
 pub push_division-requires-clause-begins : goal.push_division-requires-clause-begins
 push_division-requires-clause-begins g c =

@@ -3,8 +3,8 @@ use Rattle.textwrap_text.proofs.Common.{◌≡◌, ◌+◌, drop, length, map, r
 use Rattle.textwrap_text.proofs.Common.{IsCharBoundary, IsUtf8-drop, length-append}
 use Rattle.std.proofs.lemmas.Str.{IsCharBoundary-from_rest}
 use Rattle.textwrap_words.proofs.Common.{word_view, tiled}
-use Rattle.textwrap_lines.proofs.Paragraph.Covered.{cuts_before_whitespace, IsCharBoundary-cut}
-use Rattle.textwrap_lines.proofs.Paragraph.Covered.{IsCharBoundary-whole}
+use Rattle.textwrap_layout.proofs.Paragraph.Covered.{cuts_before_whitespace, IsCharBoundary-cut}
+use Rattle.textwrap_layout.proofs.Paragraph.Covered.{IsCharBoundary-whole}
 
 pub returns-clause-bounds : goal.returns-clause-bounds
 returns-clause-bounds c =

@@ -2,7 +2,7 @@ use Rattle.textwrap_lines.proofs.wrapping.push_divided.Goals as goal
 use Rattle.textwrap_text.proofs.Common.{[], ◌∷◌, map, refl, ap, ◌∙◌, sym, subst, arith, flat_map}
 use Rattle.textwrap_text.proofs.Common.{StartsWith}
 use Rattle.textwrap_words.proofs.Common.{word_view, tiled, Tiles}
-use Rattle.textwrap_lines.proofs.Common.{first_width, frame_lines, frame_settings, Took, widths_of}
+use Rattle.textwrap_layout.proofs.Common.{first_width, frame_lines, frame_settings, Took, widths_of}
 use Rattle.textwrap_lines.proofs.Text.Directly.{passed-on}
 
 pub push_lines-requires : goal.push_lines-requires

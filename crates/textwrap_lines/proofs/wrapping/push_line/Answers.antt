@@ -4,8 +4,8 @@ use Rattle.textwrap_text.proofs.Common.{cond, drop, map, slice_range, StartsWith
 use Rattle.textwrap_text.proofs.Common.{take-append-drop}
 use Rattle.std.proofs.Math.Bool.{and_comm}
 use Rattle.textwrap_words.proofs.Common.{tiled, word_view}
-use Rattle.textwrap_lines.proofs.Common.{Took, covered, cut_line, layout_view}
-use Rattle.textwrap_lines.proofs.Paragraph.LeftOff.{line_from-parts_of}
+use Rattle.textwrap_layout.proofs.Common.{Took, covered, cut_line, layout_view}
+use Rattle.textwrap_layout.proofs.Paragraph.LeftOff.{line_from-parts_of}
 use Rattle.textwrap_lines.proofs.PieceLines.{slice-pieces}
 
 pub returns-clause-line : goal.returns-clause-line

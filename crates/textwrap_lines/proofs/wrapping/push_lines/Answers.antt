@@ -3,10 +3,11 @@ use Rattle.textwrap_text.proofs.Common.{◌+◌, List, Bor, drop, map, refl, sub
 use Rattle.textwrap_text.proofs.Common.{StartsWith, flat_map, drop_all, drop_more, drop-drop}
 use Rattle.textwrap_text.proofs.Common.{IsCharBoundary-start}
 use Rattle.textwrap_words.proofs.Common.{word_view, tiled, WordText}
-use Rattle.textwrap_lines.proofs.Common.{cut_lines, frame_lines, frame_settings, parts_from, Word}
+use Rattle.textwrap_layout.proofs.Common.{cut_lines, frame_lines, frame_settings, parts_from}
+use Rattle.textwrap_lines.proofs.Common.{Word}
 use Rattle.textwrap_text.proofs.Lists.Parts.{starts-parts}
-use Rattle.textwrap_lines.proofs.Text.Sinks.{cut_lines-next, HasTaken, HasTaken-end, HasTaken-next}
-use Rattle.textwrap_lines.proofs.Text.Sinks.{HasTaken-start}
+use Rattle.textwrap_layout.proofs.Text.Sinks.{cut_lines-next, HasTaken, HasTaken-end, HasTaken-next}
+use Rattle.textwrap_layout.proofs.Text.Sinks.{HasTaken-start}
 
 pub loop-pieces-init : goal.loop-pieces-init
 loop-pieces-init g c = record {

@@ -1,10 +1,10 @@
 use Rattle.textwrap_lines.proofs.wrapping.push_paragraph.Goals as goal
 use Rattle.textwrap_text.proofs.Common.{[], ◌∷◌, ap, sym, refl, ◌∙◌, subst, on_ok_weaker}
 use Rattle.textwrap_words.proofs.Common.{word_of}
-use Rattle.textwrap_lines.proofs.Common.{frame_settings, Took, cut_line, Slice, parts_of}
-use Rattle.textwrap_lines.proofs.Common.{parts_from}
-use Rattle.textwrap_lines.proofs.Paragraph.LeftOff.{line_from-whole, AreParagraphParts-whole}
-use Rattle.textwrap_lines.proofs.Paragraph.LeftOff.{AreParagraphParts-divided}
+use Rattle.textwrap_layout.proofs.Common.{frame_settings, Took, cut_line, Slice, parts_of}
+use Rattle.textwrap_layout.proofs.Common.{parts_from}
+use Rattle.textwrap_layout.proofs.Paragraph.LeftOff.{line_from-whole, AreParagraphParts-whole}
+use Rattle.textwrap_layout.proofs.Paragraph.LeftOff.{AreParagraphParts-divided}
 
 pub returns-then-is_one_line-clause-taken : goal.returns-then-is_one_line-clause-taken
 returns-then-is_one_line-clause-taken g c =

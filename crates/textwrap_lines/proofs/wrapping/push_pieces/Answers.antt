@@ -2,8 +2,8 @@ use Rattle.textwrap_lines.proofs.wrapping.push_pieces.Goals as goal
 use Rattle.textwrap_text.proofs.Common.{List, Option, ℕ, refl, subst, sym, on_ok_weaker}
 use Rattle.std.specs.Option.{option_map}
 use Rattle.textwrap_words.proofs.Common.{IsDividedBy, as_splitter, sizes_of}
-use Rattle.textwrap_lines.proofs.Common.{frame_lines, Took, pieces_of_words, widths_of}
-use Rattle.textwrap_lines.specs.Direct.{CanBeCut, as_algorithm, words_cut}
+use Rattle.textwrap_layout.proofs.Common.{frame_lines, Took, pieces_of_words, widths_of}
+use Rattle.textwrap_layout.specs.Direct.{CanBeCut, as_algorithm, words_cut}
 
 pub push_directly-requires : goal.push_directly-requires
 push_directly-requires g c = λ k. (

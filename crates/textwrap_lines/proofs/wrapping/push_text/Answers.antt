@@ -1,11 +1,11 @@
 use Rattle.textwrap_lines.proofs.wrapping.push_text.Goals as goal
 use Rattle.textwrap_text.proofs.Common.{◌≡◌, ◌+◌, ◌++◌, refl, sym, ap, length, ◌∙◌, subst}
 use Rattle.textwrap_text.proofs.Common.{ending_bytes, paragraphs_of}
-use Rattle.textwrap_lines.proofs.Common.{AreParagraphParts, frame_settings, layout_view}
+use Rattle.textwrap_layout.proofs.Common.{AreParagraphParts, frame_settings, layout_view}
 use Rattle.textwrap_lines.proofs.Text.Directly.{passed-on}
-use Rattle.textwrap_lines.proofs.Text.Lines.{paragraphs_left, paragraphs_left-split}
-use Rattle.textwrap_lines.proofs.Text.Sinks.{HasParagraphs, HasParagraphs-end, HasParagraphs-more}
-use Rattle.textwrap_lines.proofs.Text.Sinks.{HasParagraphs-start}
+use Rattle.textwrap_layout.proofs.Text.Lines.{paragraphs_left, paragraphs_left-split}
+use Rattle.textwrap_layout.proofs.Text.Sinks.{HasParagraphs, HasParagraphs-end, HasParagraphs-more}
+use Rattle.textwrap_layout.proofs.Text.Sinks.{HasParagraphs-start}
 
 pub loop-rest-init : goal.loop-rest-init
 loop-rest-init g c =

@@ -1,8 +1,8 @@
 use Rattle.textwrap_lines.proofs.wrapping.split_paragraph.Goals as goal
 use Rattle.textwrap_text.proofs.Common.{◌≡◌, ◌≤◌, ◌∷◌, ◌++◌, length, drop, ◌∙◌, ap, sym, arith}
 use Rattle.textwrap_text.proofs.Common.{ending_bytes, parts_past}
-use Rattle.textwrap_lines.proofs.Text.Paragraphs.{parts_past-feed, parts_past-no_feed}
-use Rattle.textwrap_lines.proofs.Text.Paragraphs.{parts_past-first, parts_past-none}
+use Rattle.textwrap_layout.proofs.Text.Paragraphs.{parts_past-feed, parts_past-no_feed}
+use Rattle.textwrap_layout.proofs.Text.Paragraphs.{parts_past-first, parts_past-none}
 use Rattle.textwrap_text.specs.declared.line_ending.LineEnding.TheVariants.{CRLF}
 
 pub returns-in-Some-clause-paragraphs : goal.returns-in-Some-clause-paragraphs

@@ -1,10 +1,10 @@
 use Rattle.textwrap_lines.proofs.wrapping.wrap.Goals as goal
 use Rattle.textwrap_text.proofs.Common.{map}
-use Rattle.textwrap_lines.proofs.Common.{line_view}
+use Rattle.textwrap_layout.proofs.Common.{line_view}
 use Rattle.textwrap_words.proofs.Common.{Greedy}
 use Rattle.textwrap_lines.proofs.Text.Promises.{IsWrapped-options, LinesKeepToWidth-options}
 use Rattle.textwrap_lines.proofs.Text.Promises.{LinesKeepToWidth-from, ArePrintedWithin-options}
-use Rattle.textwrap_lines.proofs.Paragraph.Pieces.{lines-as}
+use Rattle.textwrap_layout.proofs.Paragraph.Pieces.{lines-as}
 
 pub returns-clause-lines : goal.returns-clause-lines
 returns-clause-lines g c =

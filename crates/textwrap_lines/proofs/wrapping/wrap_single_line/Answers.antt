@@ -1,6 +1,6 @@
 use Rattle.textwrap_lines.proofs.wrapping.wrap_single_line.Goals as goal
 use Rattle.textwrap_text.proofs.Common.{nat_lt, length, ◌++◌, map, ap, sym, ◌∙◌, on_ok_weaker}
-use Rattle.textwrap_lines.proofs.Common.{settings_view, line_view}
+use Rattle.textwrap_layout.proofs.Common.{settings_view, line_view}
 use Rattle.textwrap_lines.proofs.Paragraph.KeepsTo.{paragraph-divided-by}
 
 pub returns-clause-as_slow_path : goal.returns-clause-as_slow_path

@@ -1,7 +1,7 @@
 use Rattle.textwrap_marked.proofs.filling.push_pieces.Given as goal
 use Rattle.textwrap_text.proofs.Common.{◌≡◌, ◌++◌, map, drop, string_bytes}
 use Rattle.textwrap_words.proofs.Common.{word_view}
-use Rattle.textwrap_lines.specs.Paragraph.{covered}
+use Rattle.textwrap_layout.specs.Paragraph.{covered}
 
 -- with the pieces that are left, it is the whole
 abbrev pub invariant-loop-i : goal.invariant-loop-i

@@ -1,7 +1,7 @@
 use Rattle.textwrap_plain.proofs.texts.fill.Goals as goal
 use Rattle.textwrap_text.proofs.Common.{string_bytes}
 use Rattle.std.specs.Prelude.{IfOk}
-use Rattle.textwrap_lines.proofs.Common.{IsFilled}
+use Rattle.textwrap_layout.proofs.Common.{IsFilled}
 use Rattle.textwrap_plain.proofs.Named.{named}
 
 pub returns-clause-filled : goal.returns-clause-filled

@@ -2,7 +2,7 @@ use Rattle.textwrap_plain.proofs.texts.wrap.Goals as goal
 use Rattle.textwrap_text.proofs.Common.{map}
 use Rattle.std.proofs.lemmas.Result.{IfOk-weaker}
 use Rattle.std.specs.Prelude.{IfOk}
-use Rattle.textwrap_lines.proofs.Common.{AreTextLines, line_view}
+use Rattle.textwrap_layout.proofs.Common.{AreTextLines, line_view}
 use Rattle.textwrap_plain.proofs.Words.{ArePrintedWithin-at, IsWrapped-at, LinesKeepToWidth-at}
 use Rattle.textwrap_plain.proofs.texts.wrap.Goals.{After-wrap_by}
 use Rattle.textwrap_plain.specs.Options.{algorithm_of, DividesPlainly, settings_of, splitter_of}

@@ -1,5 +1,5 @@
 use Rattle.std.proofs.Common.{rules}
-use Rattle.textwrap_lines.specs.Options.{settings_at}
+use Rattle.textwrap_layout.specs.Options.{settings_at}
 use Rattle.textwrap_words.specs.WordSplitters.{AtHyphens}
 use Rattle.textwrap_program.specs.Arguments.{algorithm_view}
 use Rattle.textwrap_program.proofs.filling.fill_input.Goals as goal

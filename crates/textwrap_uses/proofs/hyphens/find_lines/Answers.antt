@@ -9,8 +9,8 @@ use Rattle.textwrap_words.specs.declared.words.Word.{Word}
 use Rattle.textwrap_words.specs.declared.wrap_algorithms.WrapAlgorithm.{WrapAlgorithm}
 use Rattle.textwrap_words.specs.declared.wrap_algorithms.WrapAlgorithm.TheVariants.{FirstFit}
 use Rattle.textwrap_words.proofs.Word.Divisions.{MayDivide-map}
-use Rattle.textwrap_lines.specs.Places.{ArePlacesOf, division_cuts}
-use Rattle.textwrap_lines.specs.declared.options.Options.{Options}
+use Rattle.textwrap_layout.specs.Places.{ArePlacesOf, division_cuts}
+use Rattle.textwrap_layout.specs.declared.options.Options.{Options}
 use Rattle.textwrap_lines.specs.Steps.{pieces_at}
 use Rattle.textwrap_words.proofs.Word.Divisions.{lines_from-map}
 use Rattle.textwrap_uses.specs.Hyphens.{hyphenated_pieces, later_begins}

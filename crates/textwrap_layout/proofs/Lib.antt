@@ -1,0 +1,4 @@
+pub mod Paragraph
+pub mod PrintableTexts
+pub mod Text
+pub mod Common

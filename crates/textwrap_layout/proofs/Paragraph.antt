@@ -1,0 +1,5 @@
+pub mod Covered
+pub mod LeftOff
+pub mod Pieces
+pub mod Standing
+pub mod Widths

@@ -1,0 +1,415 @@
+-- The pieces of a paragraph: those of given points and of built-in parts; they tile it, and end as
+-- its words do.
+use Rattle.textwrap_text.proofs.Common.{subst, ◌≡◌, ◌≢◌, ℕ, ◌<◌, Bool, true, false, cond, List, []}
+use Rattle.textwrap_text.proofs.Common.{◌∷◌, ◌++◌, All, take, refl, sym, ap, ◌∙◌, IsUtf8, All-nil}
+use Rattle.textwrap_text.proofs.Common.{All-cons, All-append, All-weaker, arith, IsUtf8-nil, rules}
+use Rattle.textwrap_text.proofs.Common.{◌≤◌, length, ◌↔◌, None, Option, Some, append-nil}
+use Rattle.textwrap_text.proofs.Common.{length-append, flat_map, slice_range, ltb-true, All-head}
+use Rattle.textwrap_text.proofs.Common.{All-tail}
+use Rattle.textwrap_base.proofs.Common.{total_width}
+use Rattle.textwrap_words.proofs.Common.{WordText, tiled, broken_words, AreCuts, ends_in_hyphen}
+use Rattle.textwrap_words.proofs.Common.{sizes_of, word_of, words_of, AreWordsOf, Splitter}
+use Rattle.textwrap_words.proofs.Common.{ArePoints, split_words, piece, broken_word, pieces_with}
+use Rattle.textwrap_words.proofs.Common.{split_from, split_word, Algorithm, Greedy, LeastCost}
+use Rattle.textwrap_words.proofs.Common.{MayDivide, algorithm_view, MaySeparate, Whole, AtHyphens}
+use Rattle.textwrap_words.proofs.Common.{MaySplit, splitter_view, IsDividedBy}
+use Rattle.textwrap_layout.proofs.Common.{Settings, empty_word, front_pieces, ArePieces}
+use Rattle.textwrap_layout.proofs.Common.{later_width, widths_of, IsDividedInto, pieces_of}
+use Rattle.textwrap_layout.proofs.Common.{pieces_by, pieces_of_words, broken_pieces_of, last_space}
+use Rattle.textwrap_layout.proofs.Common.{last_piece, settings_view, IsFilled, AreTextLines}
+use Rattle.textwrap_layout.proofs.Common.{DividesAs, DividesBy, Line, HasParts, Options}
+use Rattle.textwrap_text.proofs.Lists.Parts.{Begins, flat, all-left}
+use Rattle.textwrap_words.proofs.Word.BrokenPieces.{tiled-broken_words, broken_words-measured}
+use Rattle.textwrap_words.proofs.Word.BrokenPieces.{broken_words-no_penalty, broken_texts-some}
+use Rattle.textwrap_words.proofs.Word.Words.{IsNarrowWord, IsNarrowWord-measured, IsMeasured}
+use Rattle.textwrap_words.proofs.Word.Words.{EndsInBlanks, HasNoPenalty, no_blanks, text_width-nil}
+use Rattle.textwrap_words.proofs.Word.Words.{tiled-append, total_width-narrow, words_unique}
+use Rattle.textwrap_words.proofs.Word.Pieces.{AreTexts, AreSplitWords, split-measured, split-tile}
+use Rattle.textwrap_words.proofs.Word.Pieces.{AreSplit-no_penalty, split_pieces_of, AreSplit-is}
+use Rattle.textwrap_words.proofs.Word.Pieces.{AreSplit-computed, AreTexts-words, ArePoints-cuts}
+use Rattle.textwrap_words.proofs.Word.Pieces.{ArePoints-hyphens}
+use Rattle.textwrap_words.proofs.Word.Cuts.{inner-cuts}
+use Rattle.textwrap_words.proofs.Word.Parts.{parts-texts}
+use Rattle.textwrap_layout.specs.Direct.{CanBeCut, words_cut, HasMethods}
+use Rattle.textwrap_words.specs.declared.wrap_algorithms.WrapAlgorithm as algorithms
+use Rattle.textwrap_words.specs.declared.word_separators.WordSeparator as separators
+use Rattle.textwrap_words.specs.declared.word_splitters.WordSplitter as splitters
+use Rattle.textwrap_layout.specs.Paragraph.{DividesUnder}
+use Rattle.textwrap_layout.specs.Places.{ArePlacedLines}
+use Rattle.textwrap_layout.specs.declared.places.Place.{Place}
+use Rattle.std.specs.Prelude.{IfSome}
+
+-- ---- the pieces of words at any points where they may be cut, and what lines of them cover
+
+pub wide-some : (limit : ℕ) (w : WordText) → IsMeasured w → limit < w.width → w.word ≢ []
+wide-some limit w measured wide none = search (rules, text_width-nil)
+
+tiled-front : (b : Bool) → tiled (cond b [] (empty_word ∷ [])) ≡ []
+tiled-front true = refl
+tiled-front false = refl
+
+front-measured : (b : Bool) → All IsMeasured (cond b [] (empty_word ∷ []))
+front-measured true = All-nil IsMeasured
+front-measured false = search (rules, All-cons, IsUtf8-nil, text_width-nil, no_blanks, All-nil)
+
+front-no_penalty : (b : Bool) → All HasNoPenalty (cond b [] (empty_word ∷ []))
+front-no_penalty true = All-nil HasNoPenalty
+front-no_penalty false = All-cons HasNoPenalty empty_word [] refl (All-nil HasNoPenalty)
+
+module _ (settings : Settings) (Words : List ℕ → List WordText → Type 0)
+    (Points : List ℕ → List ℕ → Type 0)
+    (texts : (line : List ℕ) (words : List WordText) → IsUtf8 line → Words line words
+    → AreTexts line words)
+    (cuts : (text points : List ℕ) → IsUtf8 text → Points text points → AreCuts text points) where
+  broken-tile : (paragraph : List ℕ) (split : List WordText) → IsUtf8 paragraph
+      → AreSplitWords Words Points texts cuts paragraph split
+      → tiled (broken_words (later_width settings) split) ≡ paragraph
+  broken-tile paragraph split utf8 are =
+      let measured = split-measured Words Points texts cuts paragraph split utf8 are in
+      tiled-broken_words (later_width settings) split
+      (All-weaker IsMeasured (λ w. IsUtf8 w.word) (λ w m. m.utf8) split measured)
+      (search (rules, wide-some)) ∙ split-tile Words Points texts cuts paragraph split utf8 are
+
+  pub pieces-tile : (paragraph : List ℕ) (pieces : List WordText) → IsUtf8 paragraph
+      → ArePieces settings Words Points paragraph pieces → tiled pieces ≡ paragraph
+  pieces-tile paragraph pieces utf8 (words, split, words_are, split_are, is) =
+      let are : AreSplitWords Words Points texts cuts paragraph split = (words, words_are, split_are) in
+      let broken = broken_words (later_width settings) split in
+      ap tiled is ∙ (elim settings.break_words as (λ b. tiled
+      (cond b (front_pieces settings ++ broken) split) ≡ paragraph) [
+        | true ↦ search (rules, arith, tiled-append, tiled-front, broken-tile)
+        | false ↦ split-tile Words Points texts cuts paragraph split utf8 are
+      ])
+
+  pub pieces-measured : (paragraph : List ℕ) (pieces : List WordText) → IsUtf8 paragraph
+      → ArePieces settings Words Points paragraph pieces → All IsMeasured pieces
+  pieces-measured paragraph pieces utf8 (words, split, words_are, split_are, is) =
+      let broken = broken_words (later_width settings) split in
+      let measured = split-measured Words Points texts cuts paragraph split utf8 (words, words_are, split_are) in
+      subst (All IsMeasured) (sym is) (elim settings.break_words as (λ b. All IsMeasured
+      (cond b (front_pieces settings ++ broken) split)) [
+        | true ↦ search (rules, arith, All-append, front-measured, broken_words-measured)
+        | false ↦ measured
+      ])
+
+  module _ (Lines : List ℕ → List WordText → List (List WordText) → Type 0)
+      (begins : (widths : List ℕ) (pieces : List WordText) (division : List (List WordText))
+      → Lines widths pieces division → Begins pieces (flat division)) where
+    pub divided-begin : (is_later : Bool) (paragraph : List ℕ) (division : List (List WordText))
+        → IsUtf8 paragraph → IsDividedInto settings Words Points Lines is_later paragraph division
+        → Begins paragraph (tiled (flat division))
+    divided-begin is_later paragraph division utf8 (pieces, are, divided) =
+        search (rules, arith, tiled-append, pieces-tile paragraph pieces utf8 are)
+
+    pub divided-blanks : (is_later : Bool) (paragraph : List ℕ) (division : List (List WordText))
+        → IsUtf8 paragraph → IsDividedInto settings Words Points Lines is_later paragraph division
+        → All EndsInBlanks (flat division)
+    divided-blanks is_later paragraph division utf8 (pieces, are, divided) =
+        let (rest, is) = begins (widths_of settings is_later) pieces division divided in
+        all-left EndsInBlanks (flat division) rest
+        (subst (All EndsInBlanks) (sym is)
+        (All-weaker IsMeasured EndsInBlanks (λ w measured. measured.ending) pieces
+        (pieces-measured paragraph pieces utf8 are)))
+
+  module _ (hyphens : (text points : List ℕ) → Points text points
+      → All (λ p. ends_in_hyphen (take p text) ≡ true) points) where
+    pub pieces-no_penalty : (paragraph : List ℕ) (pieces : List WordText) → IsUtf8 paragraph
+        → ArePieces settings Words Points paragraph pieces → All HasNoPenalty pieces
+    pieces-no_penalty paragraph pieces utf8 (words, split, words_are, split_are, is) =
+        grind (arith, AreSplit-no_penalty, All-append, front-no_penalty, broken_words-no_penalty)
+
+    pub pieces-bounded : (paragraph : List ℕ) (pieces : List WordText) → IsUtf8 paragraph
+        → ArePieces settings Words Points paragraph pieces → All IsNarrowWord pieces
+    pieces-bounded paragraph pieces utf8 are =
+        search (rules, arith, pieces-measured, pieces-no_penalty, IsNarrowWord-measured)
+
+-- ---- the words that an iterator has given
+
+pub word_of-nil : word_of [] ≡ empty_word
+word_of-nil = simp text_width-nil
+
+-- ---- the built-in parts leave exactly the computed pieces
+
+-- where the words of a line are those that a function names
+pub ArePieces-by : (Words : List ℕ → List WordText → Type 0) (words : List ℕ → List WordText)
+    → ((line : List ℕ) (ws : List WordText) → Words line ws → ws ≡ words line)
+    → (settings : Settings) (splitter : Splitter) (paragraph : List ℕ) (pieces : List WordText)
+    → ArePieces settings Words (ArePoints splitter) paragraph pieces
+    → pieces ≡ pieces_by settings words splitter paragraph
+ArePieces-by Words words named settings splitter paragraph pieces
+    (ws, split, ws_are, split_are, is) =
+    is ∙ ap (broken_pieces_of settings) (AreSplit-is splitter ws split split_are
+    ∙ ap (split_words splitter) (named paragraph ws ws_are))
+
+pub ArePieces-is : (settings : Settings) (splitter : Splitter) (paragraph : List ℕ)
+    (pieces : List WordText) → ArePieces settings AreWordsOf (ArePoints splitter) paragraph pieces
+    → pieces ≡ pieces_of settings splitter paragraph
+ArePieces-is = ArePieces-by AreWordsOf words_of (λ line words are. (words_unique line words).0 are)
+
+pub ArePieces-computed : (settings : Settings) (splitter : Splitter) (paragraph : List ℕ)
+    → ArePieces settings AreWordsOf (ArePoints splitter) paragraph
+    (pieces_of settings splitter paragraph)
+ArePieces-computed settings splitter paragraph = (
+  words_of paragraph,
+  split_pieces_of splitter paragraph,
+  (words_unique paragraph (words_of paragraph)).1 refl,
+  AreSplit-computed splitter (words_of paragraph),
+  refl,
+)
+
+pub ArePieces-unique : (settings : Settings) (splitter : Splitter) (paragraph : List ℕ)
+    (pieces : List WordText)
+    → ArePieces settings AreWordsOf (ArePoints splitter) paragraph pieces
+    ↔ (pieces ≡ pieces_of settings splitter paragraph)
+ArePieces-unique settings splitter paragraph pieces = (
+  ArePieces-is settings splitter paragraph pieces,
+  λ is. subst (ArePieces settings AreWordsOf (ArePoints splitter) paragraph) (sym is)
+      (ArePieces-computed settings splitter paragraph),
+)
+
+-- ---- the pieces of words that are texts and tile a paragraph
+
+module _ (settings : Settings) (splitter : Splitter) (paragraph : List ℕ) (words : List WordText)
+    (utf8 : IsUtf8 paragraph) (texts : AreTexts paragraph words) where
+  are : ArePieces settings AreTexts (ArePoints splitter) paragraph
+      (pieces_of_words settings splitter words)
+  are = (words, split_words splitter words, texts, AreSplit-computed splitter words, refl)
+
+  pub split_words-measured : All IsMeasured (split_words splitter words)
+  split_words-measured = split-measured AreTexts (ArePoints splitter) (λ line ws whole given. given)
+      (ArePoints-cuts splitter) paragraph (split_words splitter words) utf8
+      (words, texts, AreSplit-computed splitter words)
+
+  pub split_words-no_penalty : All HasNoPenalty (split_words splitter words)
+  split_words-no_penalty =
+      AreSplit-no_penalty (ArePoints splitter) (ArePoints-hyphens splitter) words
+      (split_words splitter words) texts.plain (AreSplit-computed splitter words)
+
+  pub split_words-tile : tiled (split_words splitter words) ≡ paragraph
+  split_words-tile = split-tile AreTexts (ArePoints splitter) (λ line ws whole given. given)
+      (ArePoints-cuts splitter) paragraph (split_words splitter words) utf8
+      (words, texts, AreSplit-computed splitter words)
+
+  pub pieces_of_words-tile : tiled (pieces_of_words settings splitter words) ≡ paragraph
+  pieces_of_words-tile =
+      pieces-tile settings AreTexts (ArePoints splitter) (λ line ws whole given. given)
+      (ArePoints-cuts splitter) paragraph (pieces_of_words settings splitter words) utf8 are
+
+  pub pieces_of_words-measured : All IsMeasured (pieces_of_words settings splitter words)
+  pieces_of_words-measured =
+      pieces-measured settings AreTexts (ArePoints splitter) (λ line ws whole given. given)
+      (ArePoints-cuts splitter) paragraph (pieces_of_words settings splitter words) utf8 are
+
+  pub pieces_of_words-no_penalty : All HasNoPenalty (pieces_of_words settings splitter words)
+  pieces_of_words-no_penalty =
+      pieces-no_penalty settings AreTexts (ArePoints splitter) (λ line ws whole given. given)
+      (ArePoints-cuts splitter) (ArePoints-hyphens splitter) paragraph
+      (pieces_of_words settings splitter words) utf8 are
+
+  -- all of them together are at most as wide as the bytes of the paragraph
+  pub pieces_of_words-wide : total_width sizes_of (pieces_of_words settings splitter words)
+      ≤ length paragraph
+  pieces_of_words-wide =
+      let measured = pieces_of_words-measured in
+      search (
+        rules,
+        pieces_of_words-no_penalty,
+        pieces_of_words-tile,
+        total_width-narrow,
+        IsNarrowWord-measured,
+      )
+
+-- ---- those of words between blanks
+
+module _ (paragraph : List ℕ) (utf8 : IsUtf8 paragraph) where
+  pub words_of-texts : AreTexts paragraph (words_of paragraph)
+  words_of-texts = AreTexts-words paragraph (words_of paragraph) utf8
+      ((words_unique paragraph (words_of paragraph)).1 refl)
+
+module _ (settings : Settings) (splitter : Splitter) (paragraph : List ℕ)
+    (utf8 : IsUtf8 paragraph) where
+  abbrev texts : AreTexts paragraph (words_of paragraph)
+  texts = words_of-texts paragraph utf8
+
+  pub split_pieces_of-measured : All IsMeasured (split_pieces_of splitter paragraph)
+  split_pieces_of-measured =
+      split_words-measured settings splitter paragraph (words_of paragraph) utf8 texts
+
+  pub pieces_of-tile : tiled (pieces_of settings splitter paragraph) ≡ paragraph
+  pieces_of-tile = pieces_of_words-tile settings splitter paragraph (words_of paragraph) utf8 texts
+
+  pub pieces_of-measured : All IsMeasured (pieces_of settings splitter paragraph)
+  pieces_of-measured =
+      pieces_of_words-measured settings splitter paragraph (words_of paragraph) utf8 texts
+
+  pub pieces_of-no_penalty : All HasNoPenalty (pieces_of settings splitter paragraph)
+  pieces_of-no_penalty =
+      pieces_of_words-no_penalty settings splitter paragraph (words_of paragraph) utf8 texts
+
+-- ---- the pieces of a paragraph that is cut at cuts or at blanks
+
+-- its words are texts that tile it
+pub words_cut-texts : (cuts : Option (List ℕ)) (paragraph : List ℕ) → IsUtf8 paragraph
+    → CanBeCut cuts paragraph → AreTexts paragraph (words_cut cuts paragraph)
+words_cut-texts None paragraph utf8 can = words_of-texts paragraph utf8
+words_cut-texts (Some cuts) paragraph utf8 can =
+    parts-texts paragraph cuts utf8 (inner-cuts paragraph cuts can)
+
+-- ---- words that are replaced by pieces of them end as they did
+
+pub last_piece-append : (w : WordText) (ws : List WordText) (v : WordText) (vs : List WordText)
+    → last_piece w (ws ++ v ∷ vs) ≡ last_piece v vs
+last_piece-append w [] v vs = refl
+last_piece-append w (u ∷ ws) v vs = last_piece-append u ws v vs
+
+pub last_space-append : (ws vs : List WordText) → 0 < length vs
+    → last_space (ws ++ vs) ≡ last_space vs
+last_space-append [] vs some = refl
+last_space-append (w ∷ ws) [] some = absurd (omega arith)
+last_space-append (w ∷ ws) (v ∷ vs) some = ap (λ u. u.whitespace) (last_piece-append w ws v vs)
+
+-- the pieces end with the word's own whitespace
+pub record EndsAs (f : WordText → List WordText) (w : WordText) : Type 0 where
+  pub some : 0 < length (f w)
+  pub space : last_space (f w) ≡ w.whitespace
+
+flat_map-some : (f : WordText → List WordText) (w : WordText) (ws : List WordText) → EndsAs f w
+    → 0 < length (flat_map f (w ∷ ws))
+flat_map-some f w ws ends = search (rules, length-append)
+
+pub flat_map-space : (f : WordText → List WordText) (ws : List WordText) → All (EndsAs f) ws
+    → last_space (flat_map f ws) ≡ last_space ws
+flat_map-space f [] all = refl
+flat_map-space f (w ∷ []) all = search (rules, append-nil, All-head)
+flat_map-space f (w ∷ v ∷ ws) all =
+    let rest = All-tail (EndsAs f) w (v ∷ ws) all in
+    last_space-append (f w) (flat_map f (v ∷ ws))
+    (flat_map-some f v ws (All-head (EndsAs f) v ws rest)) ∙ flat_map-space f (v ∷ ws) rest
+
+split_from-some : (w : WordText) (start : ℕ) (points : List ℕ)
+    → 0 < length (split_from w start points)
+split_from-some w start [] = omega arith
+split_from-some w start (point ∷ points) = omega arith
+
+split_from-space : (w : WordText) (start : ℕ) (points : List ℕ)
+    → last_space (split_from w start points) ≡ w.whitespace
+split_from-space w start [] = refl
+split_from-space w start (point ∷ points) =
+    search (rules, last_space-append, slice_range, split_from-some, split_from-space w point points)
+
+pub split_word-ends : (splitter : Splitter) (w : WordText) → EndsAs (split_word splitter) w
+split_word-ends splitter w = search (rules, split_from-some, split_from-space)
+
+pieces_with-some : (whitespace penalty : List ℕ) (texts : List (List ℕ)) → texts ≢ []
+    → 0 < length (pieces_with whitespace penalty texts)
+pieces_with-some whitespace penalty [] some = absurd (some refl)
+pieces_with-some whitespace penalty (text ∷ []) some = omega arith
+pieces_with-some whitespace penalty (text ∷ next ∷ texts) some = omega arith
+
+pieces_with-space : (whitespace penalty : List ℕ) (texts : List (List ℕ)) → texts ≢ []
+    → last_space (pieces_with whitespace penalty texts) ≡ whitespace
+pieces_with-space whitespace penalty [] some = absurd (some refl)
+pieces_with-space whitespace penalty (text ∷ []) some = refl
+pieces_with-space whitespace penalty (text ∷ next ∷ texts) some =
+    let more : next ∷ texts ≢ [] = λ none. absurd (omega (arith, ap length none)) in
+    last_space-append (piece text [] [] ∷ []) (pieces_with whitespace penalty (next ∷ texts))
+    (pieces_with-some whitespace penalty (next ∷ texts) more)
+    ∙ pieces_with-space whitespace penalty (next ∷ texts) more
+
+broken_word-ends : (limit : ℕ) (w : WordText) → IsMeasured w
+    → (0 < length (broken_word limit w)) × (last_space (broken_word limit w) ≡ w.whitespace)
+broken_word-ends limit w measured =
+    grind (arith, broken_texts-some, wide-some, ltb-true, pieces_with-some, pieces_with-space)
+
+pub broken_words-ends : (limit : ℕ) (words : List WordText) → All IsMeasured words
+    → All (EndsAs (broken_word limit)) words
+broken_words-ends limit words measured = All-weaker IsMeasured (EndsAs (broken_word limit))
+    (λ w m. let ends = broken_word-ends limit w m in record { some = ends.0; space = ends.1 })
+    words measured
+
+-- ---- lemmas on built-in parts among the options: what they divide is what the parts do as
+-- values
+
+pub points-as : {C : Type 0} {c : _} (splitter : splitters.WordSplitter C c) (s : Splitter)
+    → splitter_view splitter ≡ Some s → MaySplit splitter ≡ ArePoints s
+points-as splitters.TheVariants.NoHyphenation s is = let same : Whole ≡ s = cc in ap ArePoints same
+points-as splitters.TheVariants.HyphenSplitter s is =
+    let same : AtHyphens ≡ s = cc in ap ArePoints same
+points-as (splitters.TheVariants.Custom given) s is = cc
+
+pub division-as : {E : Type 0} {e : _} (algorithm : algorithms.WrapAlgorithm E e) (a : Algorithm)
+    → algorithm_view algorithm ≡ Some a → MayDivide algorithm (λ w. w) ≡ IsDividedBy a sizes_of
+division-as algorithms.TheVariants.FirstFit a is =
+    let same : Greedy ≡ a = cc in ap (λ b. IsDividedBy b sizes_of) same
+division-as (algorithms.TheVariants.OptimalFit penalties) a is =
+    let same : LeastCost penalties ≡ a = cc in ap (λ b. IsDividedBy b sizes_of) same
+division-as (algorithms.TheVariants.Custom given) a is = cc
+
+module _ {E C : Type 0} {e : _} {c : _} (settings : Settings) where
+  pub divided-as : (separator : separators.WordSeparator C c)
+      (splitter : splitters.WordSplitter C c) (algorithm : algorithms.WrapAlgorithm E e)
+      (s : Splitter) (a : Algorithm) → separator ≡ separators.TheVariants.AsciiSpace
+      → splitter_view splitter ≡ Some s → algorithm_view algorithm ≡ Some a
+      → IsDividedInto settings (MaySeparate separator) (MaySplit splitter)
+      (MayDivide algorithm (λ w. w))
+      ≡ DividesAs s a settings
+  divided-as separator splitter algorithm s a is is_splitter is_algorithm =
+      ap (λ word_separator. IsDividedInto settings (MaySeparate word_separator) (MaySplit splitter)
+      (MayDivide algorithm (λ w. w))) is
+      ∙ ap (λ Points. IsDividedInto settings AreWordsOf Points (MayDivide algorithm (λ w. w)))
+      (points-as splitter s is_splitter)
+      ∙ ap (IsDividedInto settings AreWordsOf (ArePoints s)) (division-as algorithm a is_algorithm)
+
+module _ {E C : Type 0} {e : _} {c : _} (options : Options E C e c) (settings : Settings)
+    (splitter : Splitter) (algorithm : Algorithm)
+    (parts : HasParts options settings splitter algorithm) where
+  -- under any settings
+  pub divides-under : (s : Settings) → DividesUnder options s ≡ DividesAs splitter algorithm s
+  divides-under s = search (rules, arith, divided-as)
+
+  pub divides : DividesBy options ≡ DividesAs splitter algorithm settings
+  divides =
+      divides-under (settings_view options) ∙ ap (DividesAs splitter algorithm) parts.settings_are
+
+  pub lines-as : (text : List ℕ) (lines : List Line)
+      → AreTextLines (settings_view options) (DividesBy options) text lines
+      → AreTextLines settings (DividesAs splitter algorithm settings) text lines
+  lines-as text lines are = grind (arith, divides)
+
+  pub filled-as : (text filled : List ℕ)
+      → IsFilled (settings_view options) (DividesBy options) text filled
+      → IsFilled settings (DividesAs splitter algorithm settings) text filled
+  filled-as text filled is = grind (arith, divides)
+
+  pub placed-as : (text : List ℕ) (lines : List Line) (places : List Place)
+      → ArePlacedLines (settings_view options) (DividesBy options) text lines places
+      → ArePlacedLines settings (DividesAs splitter algorithm settings) text lines places
+  placed-as text lines places are = grind (arith, divides)
+
+-- ---- built-in parts of options
+
+-- a paragraph whose pieces are divided so by the built-in parts of the options, whatever finds its words
+pub direct-divided : {E C : Type 0} {e : _} {c : _} (options : Options E C e c)
+    (Words : List ℕ → List WordText → Type 0) (splitter : Splitter) (algorithm : Algorithm)
+    (built_in : HasMethods options splitter algorithm) (is_later : Bool) (paragraph : List ℕ)
+    (words : List WordText) (division : List (List WordText)) → Words paragraph words
+    → IsDividedBy algorithm sizes_of (widths_of (settings_view options) is_later)
+    (pieces_of_words (settings_view options) splitter words) division
+    → IsDividedInto (settings_view options) Words (MaySplit options.word_splitter)
+    (MayDivide options.wrap_algorithm (λ w. w)) is_later paragraph division
+direct-divided options Words splitter algorithm built_in is_later paragraph words division are by =
+    let settings = settings_view options in
+    subst (λ Points. IsDividedInto settings Words Points
+    (MayDivide options.wrap_algorithm (λ w. w)) is_later paragraph division)
+    (sym (points-as options.word_splitter splitter built_in.splitter_is))
+    (subst (λ Lines. IsDividedInto settings Words (ArePoints splitter) Lines is_later paragraph
+    division) (sym (division-as options.wrap_algorithm algorithm built_in.algorithm_is)) (
+      pieces_of_words settings splitter words,
+      (words, split_words splitter words, are, AreSplit-computed splitter words, refl),
+      by,
+    ))
+
+pub if_some : {X : Type 0} {P Q : X → Type 0} (o : Option X) → ((x : X) → P x → Q x) → IfSome o P
+    → IfSome o Q
+if_some None more none = tt
+if_some (Some x) more is = more x is

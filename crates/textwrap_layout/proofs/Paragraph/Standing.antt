@@ -1,0 +1,95 @@
+-- Where the pieces of a paragraph stand in it, and words that stay whole under a limit.
+use Rattle.textwrap_text.proofs.Common.{◌≡◌, ℕ, ◌+◌, ◌≤◌, List, ◌++◌, length, take, drop, ap, ◌∙◌}
+use Rattle.textwrap_text.proofs.Common.{sym, subst, arith, append_assoc, length-append, IsUtf8}
+use Rattle.textwrap_text.proofs.Common.{IsCharBoundary, take_at, drop_at, drop-drop, IsUtf8-drop}
+use Rattle.textwrap_text.proofs.Common.{[], ◌∷◌, All, refl, All-head, All-tail, ◌-◌, ◌^◌, ◌<◌, true}
+use Rattle.textwrap_text.proofs.Common.{false, cond, le-ltb, slice_range}
+use Rattle.std.proofs.lemmas.Str.{IsCharBoundary-from_rest}
+use Rattle.textwrap_text.proofs.Texts.{StartsWith-boundary}
+use Rattle.textwrap_words.proofs.Common.{WordText, tiled, Splitter, broken_words, broken_pieces}
+use Rattle.textwrap_words.proofs.Common.{tile_of, split_words}
+use Rattle.textwrap_words.proofs.Word.Words.{IsMeasured, IsNarrowWord, IsNarrowWord-measured}
+use Rattle.textwrap_words.proofs.Word.Pieces.{AreTexts}
+use Rattle.textwrap_layout.proofs.Common.{Settings, pieces_of_words, front_of, text_limit}
+use Rattle.textwrap_layout.proofs.Common.{broken_pieces_of, front_pieces, later_width}
+use Rattle.textwrap_layout.proofs.Paragraph.LeftOff.{blanks-utf8}
+use Rattle.textwrap_layout.proofs.Paragraph.Pieces.{split_words-measured, split_words-no_penalty}
+use Rattle.textwrap_layout.proofs.Paragraph.Pieces.{split_words-tile}
+use Rattle.textwrap_layout.specs.Layout.{break_limit, limit_at}
+
+-- ---- where the next piece of a line stands in the text
+
+-- it stands there with its whitespace, characters end after both, and the text goes on
+pub record StandsAt (text : List ℕ) (at : ℕ) (w : WordText) (after : List ℕ) : Type 0 where
+  pub word : slice_range text at (at + length w.word) ≡ w.word
+  pub gap : slice_range text (at + length w.word) (at + length w.word + length w.whitespace)
+      ≡ w.whitespace
+  pub word_ends : IsCharBoundary text (at + length w.word)
+  pub ends : IsCharBoundary text (at + length w.word + length w.whitespace)
+  pub next : drop (at + length w.word + length w.whitespace) text ≡ after
+  pub utf8 : IsUtf8 (drop (at + length w.word + length w.whitespace) text)
+
+pub stands-at : (text : List ℕ) (at : ℕ) (w : WordText) (after : List ℕ)
+    → drop at text ≡ tile_of w ++ after → IsCharBoundary text at → IsUtf8 (drop at text)
+    → IsMeasured w → StandsAt text at w after
+stands-at text at w after seam begins utf8 measured =
+    let n = length w.word in
+    let m = length w.whitespace in
+    let n_is : at + n - at ≡ n = omega arith in
+    let m_is : at + n + m - (at + n) ≡ m = omega arith in
+    let first = seam ∙ append_assoc w.word w.whitespace after in
+    let word = ap (take n) first ∙ take_at w.word (w.whitespace ++ after) n refl in
+    let past : drop (at + n) text ≡ w.whitespace ++ after = sym (drop-drop n at text)
+    ∙ ap (drop n) first ∙ drop_at w.word (w.whitespace ++ after) n refl in
+    let gap = ap (take m) past ∙ take_at w.whitespace after m refl in
+    let edge = StartsWith-boundary (drop at text) w.word utf8 measured.utf8 word in
+    let word_ends = IsCharBoundary-from_rest text at n begins.0 edge in
+    let utf8_past = subst IsUtf8 (drop-drop n at text) (IsUtf8-drop (drop at text) n utf8 edge) in
+    let end = StartsWith-boundary (drop (at + n) text) w.whitespace utf8_past
+    (blanks-utf8 w.whitespace measured.ending.blanks) gap in
+    record {
+      word = ap (λ k. take k (drop at text)) n_is ∙ word;
+      gap = ap (λ k. take k (drop (at + n) text)) m_is ∙ gap;
+      word_ends = word_ends;
+      ends = IsCharBoundary-from_rest text (at + n) m word_ends.0 end;
+      next = sym (drop-drop m (at + n) text) ∙ ap (drop m) past ∙ drop_at w.whitespace after m refl;
+      utf8 = subst IsUtf8 (drop-drop m (at + n) text) (IsUtf8-drop (drop (at + n) text) m utf8_past end);
+    }
+
+-- ---- words that stay whole are broken past a limit that none reaches
+
+unbroken : (limit : ℕ) (ws : List WordText) → All IsNarrowWord ws → length (tiled ws) ≤ limit
+    → broken_words limit ws ≡ ws
+unbroken limit [] bounded within = refl
+unbroken limit (w ∷ ws) bounded within =
+    let here = All-head IsNarrowWord w ws bounded in
+    let len = length-append (tile_of w) (tiled ws) in
+    let word = length-append w.word w.whitespace in
+    ap (λ b. cond b (broken_pieces limit w) (w ∷ []) ++ broken_words limit ws)
+    (le-ltb limit w.width (omega (arith, here.width, within, len, word)))
+    ∙ ap (λ l. w ∷ l) (unbroken limit ws (All-tail IsNarrowWord w ws bounded)
+    (omega (arith, within, len)))
+
+-- whether words are broken or not, these are the pieces
+pub limited-words : (settings : Settings) (split : List WordText) → All IsNarrowWord split
+    → length (tiled split) < text_limit
+    → front_of settings ++ broken_words (break_limit settings) split
+    ≡ broken_pieces_of settings split
+limited-words settings split bounded short = elim settings.break_words as (λ b.
+    cond b (front_pieces settings) [] ++ broken_words (limit_at b (later_width settings)) split
+    ≡ cond b (front_pieces settings ++ broken_words (later_width settings) split) split) [
+      | true ↦ refl
+      | false ↦ unbroken (2 ^ 64 - 1) split bounded (omega (arith, short))
+    ]
+
+pub limited-pieces : (settings : Settings) (splitter : Splitter) (paragraph : List ℕ)
+    (words : List WordText) → IsUtf8 paragraph → AreTexts paragraph words
+    → length paragraph < text_limit
+    → front_of settings ++ broken_words (break_limit settings) (split_words splitter words)
+    ≡ pieces_of_words settings splitter words
+limited-pieces settings splitter paragraph words utf8 texts short =
+    let measured = split_words-measured settings splitter paragraph words utf8 texts in
+    let plain = split_words-no_penalty settings splitter paragraph words utf8 texts in
+    let tile = ap length (split_words-tile settings splitter paragraph words utf8 texts) in
+    limited-words settings (split_words splitter words)
+    (λ k d lt. IsNarrowWord-measured _ (measured k d lt) (plain k d lt)) (omega (arith, tile, short))

@@ -1,0 +1,314 @@
+-- The widths of the lines of a division: lines that pass their width, and overflow.
+use Rattle.textwrap_text.proofs.Common.{◌≡◌, ℕ, Bool, ◌≤◌, List, [], ◌∷◌, length, map, refl, ap}
+use Rattle.textwrap_text.proofs.Common.{All, flat_map, map-append, rules, arith, ◌++◌, ◌∙◌}
+use Rattle.textwrap_text.proofs.Common.{StartsWith, starts_with_of_append, subst, sym, ◌≢◌, ◌<◌}
+use Rattle.textwrap_text.proofs.Common.{◌^◌, take, take_at, Some, None, Err, IsErrAnd, Result, Ok}
+use Rattle.textwrap_text.proofs.Common.{IsUtf8, ◌+◌, take_all, All-head, cond_both, zero, suc, true}
+use Rattle.textwrap_text.proofs.Common.{false, cond, ◌==◌, nil_from_length, eqb-true, All-nil}
+use Rattle.textwrap_text.proofs.Common.{All-cons, All-append, text_width}
+use Rattle.textwrap_base.proofs.Common.{total_width, Overflowed, Sizes, line_width, closed_width}
+use Rattle.textwrap_base.proofs.Common.{Fits, AllFit}
+use Rattle.std.specs.declared.borrow.CowStr.{CowStr}
+use Rattle.textwrap_text.proofs.Lists.Parts.{flat, all-left, all-right}
+use Rattle.textwrap_words.proofs.Common.{WordText, word_view, sizes_of, tiled, Tiles, MayDivide}
+use Rattle.textwrap_words.proofs.Common.{LeastCost, algorithm_view, MaySeparate, MaySplit}
+use Rattle.textwrap_words.proofs.Common.{splitter_view, broken_words, AreCuts, ends_in_hyphen}
+use Rattle.textwrap_words.proofs.Common.{Greedy, IsDividedBy}
+use Rattle.textwrap_layout.proofs.Common.{Settings, line_view, line_from, ArePieces, widths_of}
+use Rattle.textwrap_layout.proofs.Common.{LineParts, empty_word, later_width, IsDividedInto}
+use Rattle.textwrap_layout.proofs.Common.{Options, OnlyCharactersPass, IsOneCharacter, MayOverflow}
+use Rattle.textwrap_layout.proofs.Common.{settings_view, front_pieces, first_width}
+use Rattle.textwrap_words.specs.declared.words.Word.{Word}
+use Rattle.textwrap_base.specs.declared.penalties.Penalties.{Penalties}
+use Rattle.textwrap_words.specs.declared.wrap_algorithms.WrapAlgorithm.{WrapAlgorithm}
+use Rattle.textwrap_words.proofs.Word.Divisions.{MayDivide-begins, MayDivide-map}
+use Rattle.textwrap_base.proofs.Cost.Measures.{total_width-same}
+use Rattle.textwrap_words.proofs.Word.Words.{IsNarrowWord, total_width-narrow, tiled-append}
+use Rattle.textwrap_words.proofs.Word.Words.{HasNoPenalty, text_width-nil}
+use Rattle.std.proofs.lemmas.Grind.{common_steps}
+use Rattle.textwrap_words.specs.declared.wrap_algorithms.WrapAlgorithm as algorithms
+use Rattle.textwrap_words.specs.declared.word_splitters.WordSplitter as splitters
+use Rattle.std.specs.Prelude.{IsSomeAnd, IfErr, alloc_error}
+use Rattle.textwrap_base.specs.Errors.{Fits64Bits}
+use Rattle.textwrap_words.specs.WrapAlgorithms.{OverflowsBy}
+use Rattle.textwrap_base.specs.declared.errors.WrapError.{WrapError}
+use Rattle.textwrap_base.specs.declared.errors.WrapError.TheVariants.{Memory, Overflow}
+use Rattle.textwrap_layout.specs.Fuzzing.{AppendsLines}
+use Rattle.textwrap_layout.specs.Paragraph.{MayPass64Bits}
+use Rattle.textwrap_layout.proofs.Paragraph.Pieces.{pieces-bounded, pieces-no_penalty}
+use Rattle.textwrap_words.proofs.Word.Parts.{MaySeparate-texts, MaySplit-cuts, MaySplit-hyphens}
+use Rattle.textwrap_words.proofs.Word.BrokenPieces.{IsTight, broken_words-tight}
+use Rattle.textwrap_base.proofs.Division.Map.{IsDivision-whole}
+use Rattle.textwrap_words.proofs.Word.Pieces.{AreTexts, split-measured}
+
+-- ---- the lines of a division, where v gives each line's pieces
+
+tiled-lines : {D : Type 0} (v : D → List Word) (division : List D)
+    → flat_map (λ line. tiled (map word_view (v line))) division ≡ tiled
+    (map word_view (flat_map (λ line. line) (map v division)))
+tiled-lines v [] = refl
+tiled-lines v (line ∷ lines) = search (rules, tiled-append, map-append, tiled-lines v lines)
+
+views-lines : {D : Type 0} (v : D → List Word) (division : List D)
+    → map (λ line. map word_view (v line)) division ≡ map (map word_view) (map v division)
+views-lines v [] = refl
+views-lines v (line ∷ lines) = ap (λ l. map word_view (v line) ∷ l) (views-lines v lines)
+
+-- a division of a paragraph's pieces divides it
+pub divides-from : {D F : Type 0} {f : _} (v : D → List Word) (settings : Settings)
+    (Words : List ℕ → List WordText → Type 0) (Points : List ℕ → List ℕ → Type 0)
+    (algorithm : WrapAlgorithm F f) (is_later : Bool) (paragraph : List ℕ) (pieces : List Word)
+    (division : List D) → ArePieces settings Words Points paragraph (map word_view pieces)
+    → MayDivide algorithm word_view (widths_of settings is_later) pieces (map v division)
+    → IsDividedInto settings Words Points (MayDivide algorithm (λ w. w)) is_later paragraph
+    (map (λ line. map word_view (v line)) division)
+divides-from v settings Words Points algorithm is_later paragraph pieces division are divided =
+    rw (views-lines v division) (map word_view pieces, are, search (rules, arith, MayDivide-map))
+
+-- lines that some pieces begin with
+pub lines-begin : {D : Type 0} (v : D → List Word) (pieces rest : List Word) (division : List D)
+    → flat (map v division) ++ rest ≡ pieces
+    → StartsWith (tiled (map word_view pieces))
+    (flat_map (λ line. tiled (map word_view (v line))) division)
+lines-begin v pieces rest division is =
+    let lines = map v division in
+    let whole : tiled (map word_view pieces)
+    ≡ tiled (map word_view (flat lines)) ++ tiled (map word_view rest) =
+    ap (λ ws. tiled (map word_view ws)) (sym is) ∙ ap tiled (map-append word_view (flat lines) rest)
+    ∙ tiled-append (map word_view (flat lines)) (map word_view rest) in
+    subst (StartsWith (tiled (map word_view pieces))) (sym (tiled-lines v division))
+    (starts_with_of_append (tiled (map word_view pieces)) (tiled (map word_view (flat lines)))
+    (tiled (map word_view rest)) whole)
+
+-- so do those that an algorithm divides them into
+pub division-begins : {D F : Type 0} {f : _} (v : D → List Word) (algorithm : WrapAlgorithm F f)
+    (widths : List ℕ) (pieces : List Word) (division : List D)
+    → MayDivide algorithm word_view widths pieces (map v division)
+    → StartsWith (tiled (map word_view pieces))
+    (flat_map (λ line. tiled (map word_view (v line))) division)
+division-begins v algorithm widths pieces division divided =
+    let (rest, is) = MayDivide-begins algorithm word_view widths pieces (map v division) divided in
+    lines-begin v pieces rest division is
+
+-- ---- the widths of the pieces
+
+pub sizes-word_view : (words : List Word) → map (λ word. sizes_of (word_view word)) words ≡ map sizes_of
+    (map word_view words)
+sizes-word_view [] = refl
+sizes-word_view (w ∷ words) = ap (λ l. sizes_of (word_view w) ∷ l) (sizes-word_view words)
+
+-- the widths of pieces without penalties are together at most the bytes that they tile
+pub total_width-pieces : (paragraph : List ℕ) (words : List Word)
+    → All IsNarrowWord (map word_view words) → Tiles (map word_view words) paragraph
+    → total_width (λ word. sizes_of (word_view word)) words ≤ length paragraph
+total_width-pieces paragraph words bounded tiles =
+    search (rules, common_steps, total_width-narrow, total_width-same, sizes-word_view)
+
+-- ---- lemmas on overflow: only where a caller gives the points of words, and optimal fit
+-- divides them
+
+-- an algorithm that refuses with Overflow is optimal fit
+pub overflow-optimal : {E X : Type 0} {e : _} (algorithm : algorithms.WrapAlgorithm E e)
+    (sizes : X → Sizes) (widths : List ℕ) (xs : List X)
+    → IsSomeAnd (algorithm_view algorithm) (λ a. OverflowsBy a sizes widths xs)
+    → (penalties : Penalties) × (algorithm_view algorithm ≡ Some (LeastCost penalties))
+overflow-optimal algorithms.TheVariants.FirstFit sizes widths xs overflows = absurd overflows
+overflow-optimal (algorithms.TheVariants.OptimalFit penalties) sizes widths xs overflows =
+    (penalties, refl)
+overflow-optimal (algorithms.TheVariants.Custom given) sizes widths xs overflows = absurd overflows
+
+-- an error that is no overflow
+pub only-without : {A : Type 0} (result : Result A WrapError) → ¬ Overflowed result
+    → IfErr result (λ error. error ≡ Memory alloc_error)
+only-without (Ok value) never = tt
+only-without (Err (Memory error)) never = refl
+only-without (Err (Overflow error)) never = absurd (never tt)
+
+-- whether a splitter is built in can be told
+built_in-or : {C : Type 0} {c : _} (splitter : splitters.WordSplitter C c) {P : Type 0}
+    → (splitter_view splitter ≡ None → P) → (splitter_view splitter ≢ None → P) → P
+built_in-or splitters.TheVariants.NoHyphenation given built_in = built_in (λ is. cc)
+built_in-or splitters.TheVariants.HyphenSplitter given built_in = built_in (λ is. cc)
+built_in-or (splitters.TheVariants.Custom points) given built_in = given refl
+
+module _ {E C : Type 0} {e : _} {c : _} (options : Options E C e c) where
+  pub only-memory : (A : Type 0) (paragraph : List ℕ) (pieces : List Word)
+      (result : Result A WrapError)
+      → IsUtf8 paragraph → length paragraph < 2 ^ 63
+      → ArePieces (settings_view options) (MaySeparate options.word_separator)
+      (MaySplit options.word_splitter) paragraph (map word_view pieces)
+      → Tiles (map word_view pieces) paragraph
+      → (Overflowed result → (penalties : Penalties)
+      × (algorithm_view options.wrap_algorithm ≡ Some (LeastCost penalties)))
+      → (Fits64Bits (total_width (λ word. sizes_of (word_view word)) pieces)
+      → ¬ Overflowed result)
+      → ¬ MayOverflow options → IfErr result (λ error. error ≡ Memory alloc_error)
+  only-memory A paragraph pieces (Ok value) utf8 short are tile overflow_only fits never = tt
+  only-memory A paragraph pieces (Err (Memory error)) utf8 short are tile overflow_only fits never =
+      refl
+  only-memory A paragraph pieces (Err (Overflow error)) utf8 short are tile overflow_only fits never =
+      absurd (built_in-or options.word_splitter (λ given. never (given, overflow_only tt))
+      (λ built_in.
+      let bounded = pieces-bounded (settings_view options) (MaySeparate options.word_separator)
+      (MaySplit options.word_splitter) (MaySeparate-texts options.word_separator)
+      (MaySplit-cuts options.word_splitter) (MaySplit-hyphens options.word_splitter built_in)
+      paragraph (map word_view pieces) utf8 are in
+      search (rules, arith, total_width-pieces)))
+
+  -- nor without such pieces
+  pub only-fitting : (A : Type 0) (paragraph : List ℕ) (pieces : List Word)
+      (result : Result A WrapError)
+      → ArePieces (settings_view options) (MaySeparate options.word_separator)
+      (MaySplit options.word_splitter) paragraph (map word_view pieces)
+      → (Fits64Bits (total_width (λ word. sizes_of (word_view word)) pieces)
+      → ¬ Overflowed result)
+      → ¬ MayPass64Bits options paragraph
+      → IfErr result (λ error. error ≡ Memory alloc_error)
+  only-fitting A paragraph pieces (Ok value) are fits never = tt
+  only-fitting A paragraph pieces (Err (Memory error)) are fits never = refl
+  only-fitting A paragraph pieces (Err (Overflow error)) are fits never =
+      let same = total_width-same (λ word. sizes_of (word_view word)) sizes_of pieces
+      (map word_view pieces) (sizes-word_view pieces) in
+      search (rules, arith)
+
+-- a call that fails leaves the lines as they were
+pub appends-none : {Z A : Type 0} (Refuses : Type 0) (Are : List LineParts → Type 0)
+    (lines : List (CowStr Z)) (result : Result A WrapError) (error : WrapError)
+    → IsErrAnd result (λ e. e ≡ error) → (¬ Refuses → error ≡ Memory alloc_error)
+    → AppendsLines Refuses Are lines lines result
+appends-none Refuses Are lines (Ok value) error is only = absurd is
+appends-none Refuses Are lines (Err e) error is only =
+    record { lines = tt; kept = tt; unchanged = refl; only_memory = λ never. is ∙ only never }
+
+-- a call that succeeds appends lines of its own
+pub appends-own : {Z A : Type 0} (Refuses : Type 0) (Are : List LineParts → Type 0)
+    (old own new : List (CowStr Z)) (parts : List LineParts) (value : A) → Are parts
+    → map line_view own ≡ map line_from parts → new ≡ old ++ own
+    → AppendsLines Refuses Are old new (Ok value)
+appends-own Refuses Are old own new parts value are own_are is = record {
+  lines = search (rules, arith, map-append);
+  kept = ap (take (length old)) is ∙ take_at old own (length old) refl;
+  unchanged = tt;
+  only_memory = λ never. tt;
+}
+
+-- ---- a line that passes its width, and the lines of a division that do
+
+-- two pieces or more never pass
+two_fit : (width : ℕ) (w v : WordText) (ws : List WordText) → Fits sizes_of width (w ∷ v ∷ ws)
+    → width < closed_width sizes_of (w ∷ v ∷ ws) → ⊥
+two_fit width w v ws fits past = search (rules, take_all)
+
+line_passes : (limit width : ℕ) (line : List WordText) → Fits sizes_of width line → limit ≤ width
+    → All (IsTight limit) line → All HasNoPenalty line → width < closed_width sizes_of line
+    → IsOneCharacter line
+line_passes limit width [] fits room tight none past = absurd (omega arith)
+line_passes limit width (w ∷ []) fits room tight none past = search (rules, All-head)
+line_passes limit width (w ∷ v ∷ ws) fits room tight none past = search (rules, two_fit)
+
+pub lines_pass : (limit : ℕ) (widths : List ℕ) (number : ℕ) (lines : List (List WordText))
+    → AllFit sizes_of widths number lines → ((k : ℕ) → number ≤ k → limit ≤ line_width widths k)
+    → All (IsTight limit) (flat lines) → All HasNoPenalty (flat lines)
+    → OnlyCharactersPass widths number lines
+lines_pass limit widths number [] fit room tight none = tt
+lines_pass limit widths number (line ∷ lines) fit room tight none = (
+  line_passes limit (line_width widths number) line fit.0 (room number (omega arith))
+      (all-left (IsTight limit) line (flat lines) tight)
+      (all-left HasNoPenalty line (flat lines) none),
+  lines_pass limit widths (number + 1) lines fit.1 (λ k from. room k (omega (arith, from)))
+      (all-right (IsTight limit) line (flat lines) tight)
+      (all-right HasNoPenalty line (flat lines) none),
+)
+
+pub later_is : (first later k : ℕ) → 1 ≤ k → line_width (first ∷ later ∷ []) k ≡ later
+later_is first later k from = search rules
+
+-- an empty piece in front has room on the first line, however narrow
+first_passes : (width : ℕ) (line rest others : List WordText) → line ++ rest ≡ empty_word ∷ others
+    → Fits sizes_of width line → width < closed_width sizes_of line → ⊥
+first_passes width [] rest others is fits past = absurd (omega arith)
+first_passes width (w ∷ []) rest others is fits past = search rules
+first_passes width (w ∷ v ∷ ws) rest others is fits past = two_fit width w v ws fits past
+
+pub front_passes : (first later : ℕ) (lines : List (List WordText)) (others : List WordText)
+    → flat lines ≡ empty_word ∷ others → AllFit sizes_of (first ∷ later ∷ []) 0 lines
+    → All (IsTight later) (flat lines) → All HasNoPenalty (flat lines)
+    → OnlyCharactersPass (first ∷ later ∷ []) 0 lines
+front_passes first later [] others is fit tight none = tt
+front_passes first later (line ∷ lines) others is fit tight none = (
+  λ past. absurd (search (rules, first_passes)),
+  lines_pass later (first ∷ later ∷ []) 1 lines fit.1
+      (λ k from. let same = later_is first later k from in omega (arith, same))
+      (all-right (IsTight later) line (flat lines) tight)
+      (all-right HasNoPenalty line (flat lines) none),
+)
+
+-- ---- the lines of a paragraph
+
+front-tight : (limit : ℕ) (b : Bool) → All (IsTight limit) (cond b [] (empty_word ∷ []))
+front-tight limit true = All-nil (IsTight limit)
+front-tight limit false = grind (arith, All-cons, All-nil)
+
+module _ (settings : Settings) (Words : List ℕ → List WordText → Type 0)
+    (Points : List ℕ → List ℕ → Type 0)
+    (texts : (line : List ℕ) (words : List WordText) → IsUtf8 line → Words line words
+    → AreTexts line words)
+    (cuts : (text points : List ℕ) → IsUtf8 text → Points text points → AreCuts text points)
+    (hyphens : (text points : List ℕ) → Points text points
+    → All (λ p. ends_in_hyphen (take p text) ≡ true) points) where
+  pub long_lines : (is_later : Bool) (paragraph : List ℕ) (division : List (List WordText))
+      → IsUtf8 paragraph → settings.break_words ≡ true
+      → IsDividedInto settings Words Points (IsDividedBy Greedy sizes_of) is_later paragraph
+      division
+      → OnlyCharactersPass (widths_of settings is_later) 0 division
+  long_lines is_later paragraph division utf8 breaks (pieces, are, greedy) =
+      by_front (length settings.initial_indent == 0) refl
+    where
+      split : List WordText
+      split = are.1
+
+      limit : ℕ
+      limit = later_width settings
+
+      broken : List WordText
+      broken = broken_words (later_width settings) split
+
+      pieces_are : pieces ≡ front_pieces settings ++ broken_words (later_width settings) split
+      pieces_are = are.4 ∙ ap (λ b. cond b
+          (front_pieces settings ++ broken_words (later_width settings) split) split) breaks
+
+      whole : flat division ≡ pieces
+      whole = IsDivision-whole pieces division greedy.admissible.division
+
+      tight : All (IsTight (later_width settings)) (flat division)
+      tight =
+          subst (All (IsTight (later_width settings))) (sym (whole ∙ pieces_are))
+          (All-append (IsTight (later_width settings)) (front_pieces settings) broken
+          (front-tight (later_width settings) (length settings.initial_indent == 0))
+          (broken_words-tight (later_width settings) split
+          (split-measured Words Points texts cuts paragraph split utf8
+          (are.0, are.2, are.3))))
+
+      none : All HasNoPenalty (flat division)
+      none = subst (All HasNoPenalty) (sym whole)
+          (pieces-no_penalty settings Words Points texts cuts hyphens paragraph pieces utf8 are)
+
+      room : text_width settings.initial_indent ≡ 0 → (k : ℕ) → 0 ≤ k
+          → later_width settings ≤ line_width (widths_of settings is_later) k
+      room narrow zero from = search (rules, cond_both)
+      room narrow (suc k) from = let same = later_is (first_width settings is_later)
+          (later_width settings) (suc k) (omega arith) in omega (arith, same)
+
+      by_front : (b : Bool) → (length settings.initial_indent == 0) ≡ b
+          → OnlyCharactersPass (widths_of settings is_later) 0 division
+      by_front true unindented =
+          let empty = nil_from_length settings.initial_indent
+          (eqb-true (length settings.initial_indent) 0 unindented) in
+          let narrow : text_width settings.initial_indent ≡ 0 = ap text_width empty
+          ∙ text_width-nil in
+          lines_pass (later_width settings) (widths_of settings is_later) 0 division
+          greedy.admissible.fit (room narrow) tight none
+      by_front false indented =
+          front_passes (first_width settings is_later)
+          (later_width settings) division broken
+          (search (rules, arith)) greedy.admissible.fit tight none

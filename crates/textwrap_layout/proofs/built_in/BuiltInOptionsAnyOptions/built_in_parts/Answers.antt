@@ -1,0 +1,13 @@
+use Rattle.textwrap_layout.proofs.built_in.BuiltInOptionsAnyOptions.built_in_parts.Goals as goal
+use Rattle.textwrap_text.proofs.Common.{refl}
+use Rattle.textwrap_words.proofs.Common.{as_splitter, split_words}
+use Rattle.textwrap_words.proofs.Word.Pieces.{AreSplit-computed}
+use Rattle.textwrap_layout.proofs.Common.{layout_view, pieces_of_words}
+
+pub returns-clause-parts : goal.returns-clause-parts
+returns-clause-parts g c = λ is_later paragraph words division are by.
+    let splitter = as_splitter c.args.self.now.parts.splitter in (
+      pieces_of_words (layout_view c.args.self.now.layout) splitter words,
+      (words, split_words splitter words, are, AreSplit-computed splitter words, refl),
+      by,
+    )

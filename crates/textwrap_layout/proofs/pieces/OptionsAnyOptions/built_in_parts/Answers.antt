@@ -1,0 +1,10 @@
+use Rattle.textwrap_layout.proofs.pieces.OptionsAnyOptions.built_in_parts.Goals as goal
+use Rattle.textwrap_words.proofs.Common.{MaySeparate, as_splitter}
+use Rattle.textwrap_layout.proofs.Paragraph.Pieces.{direct-divided, if_some}
+use Rattle.textwrap_layout.specs.Direct.{as_algorithm}
+
+pub returns-clause-parts : goal.returns-clause-parts
+returns-clause-parts g c = if_some c.built_in_parts.result
+    (λ parts. direct-divided c.args.self.now (MaySeparate c.args.self.now.word_separator)
+    (as_splitter parts.splitter)
+    (as_algorithm parts.algorithm)) c.built_in_parts.ensures.parts

@@ -1,0 +1,9 @@
+use Rattle.textwrap_layout.proofs.pieces.OptionsAnyOptions.word_cuts.Goals as goal
+use Rattle.textwrap_text.proofs.Common.{refl, subst, sym}
+use Rattle.textwrap_words.proofs.Common.{MaySeparate, words_of}
+use Rattle.textwrap_words.proofs.Word.Words.{words_unique}
+
+pub returns-in-AsciiSpace-clause-words : goal.returns-in-AsciiSpace-clause-words
+returns-in-AsciiSpace-clause-words g c =
+    subst (λ separator. MaySeparate separator c.args.paragraph.now (words_of c.args.paragraph.now))
+    (sym c.in-AsciiSpace.is) ((words_unique c.args.paragraph.now (words_of c.args.paragraph.now)).1 refl)

@@ -1,0 +1,36 @@
+use Rattle.textwrap_layout.proofs.pieces.break_pieces.Goals as goal
+use Rattle.textwrap_text.proofs.Common.{◌≡◌, [], ◌∷◌, ◌++◌, cond, map, sym, ap, ◌∙◌}
+use Rattle.textwrap_words.proofs.Common.{broken_words, word_view}
+use Rattle.textwrap_layout.proofs.Common.{layout_view, settings_view, empty_word, front_pieces}
+use Rattle.textwrap_layout.proofs.Common.{later_width}
+use Rattle.textwrap_layout.proofs.Paragraph.Pieces.{word_of-nil}
+
+pub returns-then-not-options : goal.returns-then-not-options
+returns-then-not-options g c =
+    let settings = settings_view c.args.options.now in
+    let split = map word_view c.args.split.items in
+    ap (λ b. cond b (front_pieces settings ++ broken_words (later_width settings) split) split)
+    (sym c.if-not-options.true)
+
+pub returns : goal.returns
+returns g c =
+    let settings = settings_view c.args.options.now in
+    let split = map word_view c.args.split.items in
+    let pieces = broken_words (later_width settings) split in
+    let broken : map word_view c.in_ok-broken.broken.items ≡ pieces =
+    c.in_ok-broken.ensures ∙ ap (λ n. broken_words n split) (c.of-frame.result.later
+    ∙ ap (λ l. later_width (layout_view l)) c.of-frame.ensures.layout ∙ ap later_width c.of.ensures) in
+    let whole : map word_view c.if-not-is_empty.broken.items ≡ front_pieces settings ++ pieces =
+    elim c.if-not-is_empty.branch [
+      | goal.then-not-is_empty+in_ok-insert w ↦
+          ap (map word_view) (ap (λ v. v.items) w.broken-is ∙ w.in_ok-insert.ensures.items)
+          ∙ ap (λ x. x ∷ map word_view c.in_ok-broken.broken.items)
+          (w.from.ensures ∙ word_of-nil) ∙ ap (λ ws. empty_word ∷ ws) broken
+          ∙ ap (λ b. cond b [] (empty_word ∷ []) ++ pieces) (sym w.if-not-is_empty.true
+          ∙ c.is_empty.ensures)
+      | goal.else-not-is_empty w ↦
+          ap (map word_view) (ap (λ v. v.items) w.broken-is) ∙ broken
+          ∙ ap (λ b. cond b [] (empty_word ∷ []) ++ pieces) (sym w.if-not-is_empty.false
+          ∙ c.is_empty.ensures)
+    ] in
+    whole ∙ ap (λ b. cond b (front_pieces settings ++ pieces) split) (sym c.if-not-options.false)

@@ -1,0 +1,22 @@
+use Rattle.textwrap_layout.proofs.pieces.break_wide.Goals as goal
+use Rattle.textwrap_text.proofs.Common.{◌≡◌, map, sym, ap, ◌∙◌}
+use Rattle.textwrap_words.proofs.Common.{broken_words, word_view}
+use Rattle.textwrap_words.specs.declared.words.Word.{Word}
+use Rattle.std.proofs.Common.{Iter}
+use Rattle.std.specs.Iterator.Adapters.{copied_source}
+use Rattle.std.specs.Slice.Iter.{iter_rest}
+use Rattle.std.specs.declared.iter.Copied.{Copied}
+use Rattle.textwrap_text.proofs.Lists.Elements.{given-copied}
+
+pub returns-then-stay_whole : goal.returns-then-stay_whole
+returns-then-stay_whole g c =
+    rw c.deref.ensures.value at (sym (c.stay_whole.ensures c.if-stay_whole.true))
+
+pub returns : goal.returns
+returns g c =
+    let more = c.in_ok-broken.ensures.pieces in
+    let given : iter_rest (copied_source more.0) ≡ c.args.words.items =
+    ap (λ (it : Copied (Iter Word)). iter_rest (copied_source it)) more.2
+    ∙ ap iter_rest c.copied.ensures.source ∙ c.iter.ensures.rest ∙ c.deref-2.ensures.value in
+    let all = given-copied more.0 c.args.words.items more.1 given more.3 in
+    more.4 ∙ ap (λ ws. broken_words c.args.line_width (map word_view ws)) all

@@ -1,0 +1,71 @@
+-- What is divided without a list of words.
+use Rattle.std.specs.Prelude.{◌≡◌, ◌≢◌, ℕ, Bool, IfSome, List, None, Option, Some, map}
+use Rattle.std.specs.Option.{option_map}
+use Rattle.textwrap_words.specs.Cuts.{AreInnerCuts, parts_between}
+use Rattle.textwrap_words.specs.Pieces.{as_splitter}
+use Rattle.textwrap_words.specs.WordSplitters.{Splitter, splitter_view}
+use Rattle.textwrap_words.specs.Words.{WordText, sizes_of, word_of, words_of}
+use Rattle.textwrap_words.specs.WrapAlgorithms.{Algorithm, Greedy, IsDividedBy, LeastCost}
+use Rattle.textwrap_words.specs.WrapAlgorithms.{algorithm_view}
+use Rattle.textwrap_layout.specs.Options.{Settings}
+use Rattle.textwrap_layout.specs.Paragraph.{pieces_by, pieces_of_words, widths_of}
+use Rattle.textwrap_layout.specs.declared.any_options.BuiltInAlgorithm as algorithms
+use Rattle.textwrap_layout.specs.declared.any_options.BuiltInParts.{BuiltInParts}
+use Rattle.textwrap_layout.specs.declared.options.Options.{Options}
+use Rattle.textwrap_layout.specs.declared.layout.Cuts.{Cuts}
+use Rattle.textwrap_words.specs.declared.word_separators.WordSeparator.TheVariants.{AsciiSpace}
+use Rattle.textwrap_words.specs.declared.wrap_algorithms.WrapAlgorithm.TheVariants.{FirstFit}
+
+-- a built-in algorithm as a value of the logic
+abbrev pub as_algorithm : algorithms.BuiltInAlgorithm → Algorithm
+as_algorithm algorithms.TheVariants.FirstFit = Greedy
+as_algorithm (algorithms.TheVariants.LeastCost penalties) = LeastCost penalties
+
+-- words between blanks, a built-in splitter and first fit: this needs no memory of its own
+pub record IsDirect {E C : Type 0} {e : _} {c : _} (o : Options E C e c) : Type 0 where
+  pub separator : o.word_separator ≡ AsciiSpace
+  pub splitter : splitter_view o.word_splitter ≢ None
+  pub algorithm : o.wrap_algorithm ≡ FirstFit
+
+-- ---- where a paragraph is cut
+
+-- its words: between these cuts, or between blanks where none are given
+abbrev pub words_cut : Option (List ℕ) → List ℕ → List WordText
+words_cut None paragraph = words_of paragraph
+words_cut (Some cuts) paragraph = map word_of (parts_between cuts paragraph)
+
+-- the paragraph can be cut there
+abbrev pub CanBeCut : Option (List ℕ) → List ℕ → Type 0
+CanBeCut cuts paragraph = IfSome cuts (AreInnerCuts paragraph)
+
+abbrev pub cuts_of : Cuts → Option (List ℕ)
+cuts_of cuts = option_map (λ places. places.now) cuts.words
+
+-- its pieces
+abbrev pub pieces_cut : Settings → Cuts → List ℕ → List WordText
+pieces_cut settings cuts paragraph =
+    pieces_of_words settings (as_splitter cuts.splitter) (words_cut (cuts_of cuts) paragraph)
+
+-- these are the pieces of a paragraph that can be cut there into the words that a function names
+pub record ArePiecesCut (words : List ℕ → List WordText) (settings : Settings) (splitter : Splitter)
+    (paragraph : List ℕ) (pieces : List WordText) : Type 0 where
+  pub cuts : Option (List ℕ)
+  pub can : CanBeCut cuts paragraph
+  pub words_are : words_cut cuts paragraph ≡ words paragraph
+  pub pieces_are : pieces ≡ pieces_by settings words splitter paragraph
+
+-- by these relations, words that may be found are divided so by a built-in splitter and algorithm
+abbrev pub AreParts : Settings → (List ℕ → List WordText → Type 0)
+    → (Bool → List ℕ → List (List WordText) → Type 0) → BuiltInParts → Type 0
+AreParts settings Separates Divides parts =
+    (is_later : Bool) (paragraph : List ℕ) (words : List WordText) (division : List (List WordText))
+    → Separates paragraph words
+    → IsDividedBy (as_algorithm parts.algorithm) sizes_of (widths_of settings is_later)
+    (pieces_of_words settings (as_splitter parts.splitter) words) division
+    → Divides is_later paragraph division
+
+-- these are the splitter and the algorithm, both built in
+pub record HasMethods {E C : Type 0} {e : _} {c : _} (o : Options E C e c) (splitter : Splitter)
+    (algorithm : Algorithm) : Type 0 where
+  pub splitter_is : splitter_view o.word_splitter ≡ Some splitter
+  pub algorithm_is : algorithm_view o.wrap_algorithm ≡ Some algorithm

@@ -1,0 +1,15 @@
+pub mod Direct
+pub mod Filling
+pub mod Frame
+pub mod Fuzzing
+pub mod Layout
+pub mod LentPlaces
+pub mod LineBounds
+pub mod LineSinks
+pub mod Options
+pub mod Paragraph
+pub mod PiecesLeft
+pub mod Places
+pub mod Printable
+pub mod Text
+pub mod Written

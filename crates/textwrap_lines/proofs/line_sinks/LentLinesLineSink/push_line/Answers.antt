@@ -1,8 +1,0 @@
-use Rattle.textwrap_lines.proofs.line_sinks.LentLinesLineSink.push_line.Goals as goal
-use Rattle.textwrap_lines.proofs.Common.{assembled_line}
-use Rattle.textwrap_lines.proofs.Text.Sinks.{Took-lent, assembled-bytes}
-
-pub returns-clause-took : goal.returns-clause-took
-returns-clause-took g c = Took-lent c.args.self.now c.add_line.new.self _ c.args.start
-    (assembled_line c.args.indent.now c.args.slice.now c.args.penalty.now)
-    (assembled-bytes c.args.indent.now c.args.slice.now c.args.penalty.now) c.add_line.ensures.more

@@ -11,9 +11,9 @@ use Rattle.textwrap_text.specs.declared.line_ending.LineEnding.{LineEnding}
 use Rattle.textwrap_text.specs.declared.line_ending.LineEnding.TheVariants.{CRLF, LF}
 use Rattle.textwrap_program.specs.Arguments.{width_of}
 use Rattle.textwrap_program.specs.Program.{line_feed}
-use Rattle.textwrap_marked.specs.declared.options.Algorithm.{Algorithm}
-use Rattle.textwrap_marked.specs.declared.options.Algorithm.TheVariants.{FirstFit, LeastCost}
-use Rattle.textwrap_marked.specs.declared.options.ReflowOptions.{ReflowOptions}
+use Rattle.textwrap_marks.specs.declared.options.Algorithm.{Algorithm}
+use Rattle.textwrap_marks.specs.declared.options.Algorithm.TheVariants.{FirstFit, LeastCost}
+use Rattle.textwrap_marks.specs.declared.options.ReflowOptions.{ReflowOptions}
 use Rattle.textwrap_marked.specs.declared.within.LineRange.{LineRange}
 use Rattle.std.specs.List.{after_first, before_first, position_or_len}
 use Rattle.std.specs.Prelude.{◌==◌, length, nat_lt, option_map}

@@ -6,9 +6,9 @@ use Rattle.textwrap_text.specs.declared.line_ending.LineEnding.{LineEnding}
 use Rattle.textwrap_text.specs.declared.line_ending.LineEnding.TheVariants.{LF, CRLF}
 use Rattle.textwrap_display.specs.Tables.{texts_in}
 use Rattle.textwrap_marked.specs.Reflow.{IsReflowed}
-use Rattle.textwrap_marked.specs.declared.options.Algorithm.{Algorithm}
-use Rattle.textwrap_marked.specs.declared.options.Algorithm.TheVariants.{FirstFit, LeastCost}
-use Rattle.textwrap_marked.specs.declared.options.ReflowOptions.{ReflowOptions}
+use Rattle.textwrap_marks.specs.declared.options.Algorithm.{Algorithm}
+use Rattle.textwrap_marks.specs.declared.options.Algorithm.TheVariants.{FirstFit, LeastCost}
+use Rattle.textwrap_marks.specs.declared.options.ReflowOptions.{ReflowOptions}
 use Rattle.textwrap_calls.specs.Options.{says_yes}
 use Rattle.textwrap_calls.specs.Texts.{bytes_of, IsText}
 use Rattle.textwrap_calls.specs.declared.reflowing.TextwrapReflowOptions.{TextwrapReflowOptions}

@@ -1,10 +1,11 @@
 -- Each piece ends in a blank; what holds of all pieces holds of those of each line.
-use Rattle.textwrap_marked.proofs.Common.{◌≡◌, ℕ, Bool, true, false, cond, List, [], ◌∷◌, ◌++◌, All}
-use Rattle.textwrap_marked.proofs.Common.{All-cons, All-head, All-map, All-nil, All-tail}
-use Rattle.textwrap_marked.proofs.Common.{All-weaker, ap, append_assoc, flat_map, refl, subst, sym}
-use Rattle.textwrap_marked.proofs.Common.{◌∙◌, IsDivision, all-left, all-right, blank, word_of}
-use Rattle.textwrap_marked.proofs.Common.{WordText, piece_words, LineText, is_cut, pieces, words_of}
-use Rattle.textwrap_marked.proofs.Common.{ReflowOptions}
+use Rattle.textwrap_marks.proofs.Common.{◌≡◌, ℕ, Bool, true, false, cond, List, [], ◌∷◌, ◌++◌, All}
+use Rattle.textwrap_marks.proofs.Common.{All-cons, All-head, All-map, All-nil, All-tail, All-weaker}
+use Rattle.textwrap_marks.proofs.Common.{ap, append_assoc, flat_map, refl, subst, sym, ◌∙◌}
+use Rattle.textwrap_marks.proofs.Common.{IsDivision, all-left, all-right, blank, word_of, WordText}
+use Rattle.textwrap_marks.proofs.Common.{LineText}
+use Rattle.textwrap_marked.proofs.Common.{piece_words, is_cut, pieces, words_of}
+use Rattle.textwrap_marks.specs.declared.options.ReflowOptions.{ReflowOptions}
 use Rattle.textwrap_marked.specs.Pieces.{onto_front, with_blank}
 
 abbrev pub EndsInBlank : List ℕ → Type 0

@@ -1,8 +1,9 @@
 -- Blocks in the place of others that begin alike.
-use Rattle.textwrap_marked.proofs.Common.{Option, ◌≡◌, ◌||◌, not, Bool, List, [], ◌∷◌, ap, refl}
-use Rattle.textwrap_marked.proofs.Common.{subst, sym, ◌∙◌, flat, LineEnding, goes_on, is_beside}
-use Rattle.textwrap_marked.proofs.Common.{stays, AreSameParts, IsSameBy, Part, parts_of_blocks}
-use Rattle.textwrap_marked.proofs.Common.{LineText}
+use Rattle.textwrap_marks.proofs.Common.{Option, ◌≡◌, ◌||◌, not, Bool, List, [], ◌∷◌, ap, refl}
+use Rattle.textwrap_marks.proofs.Common.{subst, sym, ◌∙◌, flat, LineText}
+use Rattle.textwrap_text.specs.declared.line_ending.LineEnding.{LineEnding}
+use Rattle.textwrap_marked.proofs.Common.{goes_on, is_beside, stays, AreSameParts, IsSameBy, Part}
+use Rattle.textwrap_marked.proofs.Common.{parts_of_blocks}
 use Rattle.textwrap_marked.proofs.BlockOrder.{AreBlocks, StopsAt}
 use Rattle.textwrap_marked.proofs.KeptLines.{AreHeads, IsHeadAlike}
 

@@ -1,55 +1,12 @@
 -- The names that most proofs cite: those of the standard library, of the crates below, and of the
 -- definitions of this crate. Declares nothing.
-pub use Rattle.std.proofs.Common.{ap₂}
-pub use Rattle.std.proofs.Math.Bool.{or-false}
-pub use Rattle.std.proofs.lemmas.Grind.{flat_map-append}
-pub use Rattle.std.proofs.lemmas.List.Elements.{All-replicate}
-pub use Rattle.std.proofs.lemmas.List.Splits.{length-slice_split}
-pub use Rattle.std.proofs.lemmas.List.Sums.{suffix_len-le-length}
-pub use Rattle.std.proofs.lemmas.Slice.Eq.{bytes_eq-Decides}
-pub use Rattle.std.specs.Prelude.{bytes_eq, is_some}
-pub use Rattle.textwrap_text.proofs.Common.{All, All-append, All-cons, All-head, All-map, All-nil}
-pub use Rattle.textwrap_text.proofs.Common.{All-tail, All-weaker, Bool, List, None, Option, Some}
-pub use Rattle.textwrap_text.proofs.Common.{[], ap, append-nil, append_assoc, arith, cases_Bool}
-pub use Rattle.textwrap_text.proofs.Common.{codes, cond, drop, ends_with, eqb-true, false}
-pub use Rattle.textwrap_text.proofs.Common.{false_from_ne_true, flat_map, get_or, inl, inr}
-pub use Rattle.textwrap_text.proofs.Common.{join_with_byte, length, length-append, list_any, lt-ltb}
-pub use Rattle.textwrap_text.proofs.Common.{map, nat_eq, nat_lt, nat_tests, ne_eqb, not, onto_first}
-pub use Rattle.textwrap_text.proofs.Common.{prefix_len, refl, reverse, slice_split, starts_with}
-pub use Rattle.textwrap_text.proofs.Common.{subst, suc, suffix_len, sym, take, take-append-drop}
-pub use Rattle.textwrap_text.proofs.Common.{take_all, take_more, true, true≢false, zero, ℕ, ⊤, ◌&&◌}
-pub use Rattle.textwrap_text.proofs.Common.{◌++◌, ◌+◌, ◌-◌, ◌<◌, ◌==◌, ◌||◌, ◌∙◌, ◌∷◌, ◌≡◌, ◌≢◌}
-pub use Rattle.textwrap_text.proofs.Common.{◌≤◌, ◌⊎◌, blank, is_blank}
-pub use Rattle.textwrap_text.proofs.Lists.Parts.{all-left, all-right, flat, starts_with-rest}
-pub use Rattle.textwrap_base.specs.Division.{IsDivision}
-pub use Rattle.textwrap_text.specs.LineEnding.{ending_bytes}
-pub use Rattle.textwrap_layout.specs.Paragraph.{covered}
-pub use Rattle.textwrap_text.specs.declared.line_ending.LineEnding.{LineEnding}
-pub use Rattle.textwrap_text.specs.declared.line_ending.LineEnding.TheVariants.{CRLF, LF}
 pub use Rattle.textwrap_marked.specs.Blocks.{blocks, goes_on, is_beside, stays}
-pub use Rattle.textwrap_marked.specs.Fences.{FenceText}
 pub use Rattle.textwrap_marked.specs.Laws.{AreSameParts, HasPlainMarkers, IsSameBy, Part}
 pub use Rattle.textwrap_marked.specs.Laws.{from_letter, line_sense, parts_of_blocks, piece_words}
 pub use Rattle.textwrap_marked.specs.Laws.{text_parts, words_in}
-pub use Rattle.textwrap_marked.specs.Lines.{LineText, StateText, as_title, deeper_by, entered}
-pub use Rattle.textwrap_marked.specs.Lines.{fence_at, first_state, has_words, is_ended, is_return}
-pub use Rattle.textwrap_marked.specs.Lines.{line_of, lines_of, new_fence, passed, read_lines}
-pub use Rattle.textwrap_marked.specs.Lines.{with_titles, without_returns}
-pub use Rattle.textwrap_marked.specs.Marks.{is_among, is_bullet, is_comment_at, is_opening}
-pub use Rattle.textwrap_marked.specs.Marks.{is_quote}
 pub use Rattle.textwrap_marked.specs.Pieces.{is_cut, pieces, words_of}
-pub use Rattle.textwrap_marked.specs.Prefixes.{blanks, bullets_len, comment_len, hanging_bullets}
-pub use Rattle.textwrap_marked.specs.Prefixes.{hanging_comments, quotes_len}
 pub use Rattle.textwrap_marked.specs.Reflow.{AreOfBlocks, IsOfBlock, IsReflowedBehind, IsReflowedFrom}
 pub use Rattle.textwrap_marked.specs.Reflow.{algorithm_of, break_white, byte_order_mark, ending_if}
 pub use Rattle.textwrap_marked.specs.Reflow.{filled_end, filled_ending, first_room, kept_line}
 pub use Rattle.textwrap_marked.specs.Reflow.{later_room, line_text, line_texts, printed}
 pub use Rattle.textwrap_marked.specs.Reflow.{shown_lines}
-pub use Rattle.textwrap_marked.specs.Signs.{begins_text, closes_block, closes_early, first_word}
-pub use Rattle.textwrap_marked.specs.Signs.{front_of, has_columns, is_column_word, is_key}
-pub use Rattle.textwrap_marked.specs.Signs.{last_white, last_word, opens_paragraph}
-pub use Rattle.textwrap_marked.specs.Words.{SpacedText, contains, has_byte, has_bytes, has_letter}
-pub use Rattle.textwrap_marked.specs.Words.{is_white, spaced_text, spaced_words}
-pub use Rattle.textwrap_marked.specs.declared.options.ReflowOptions.{ReflowOptions}
-pub use Rattle.textwrap_words.proofs.Common.{IsDividedBy, WordText, sizes_of, word_of}
-pub use Rattle.textwrap_text.specs.Units.{text_width}

@@ -1,12 +1,15 @@
 -- What stays of a text, with an ending that is asked for, whichever endings its lines had before.
-use Rattle.textwrap_marked.proofs.Common.{◌≡◌, ℕ, ◌<◌, Bool, true, false, List, [], ◌∷◌, ◌++◌}
-use Rattle.textwrap_marked.proofs.Common.{All, All-head, All-tail, ap, append_assoc, append-nil, arith, flat_map}
-use Rattle.textwrap_marked.proofs.Common.{length, length-slice_split, lt-ltb, nat_lt, None, Option, refl}
-use Rattle.textwrap_marked.proofs.Common.{slice_split, Some, subst, sym, ⊤, ◌==◌, ◌∙◌, ending_bytes, LineEnding}
-use Rattle.textwrap_marked.proofs.Common.{AreSameParts, blocks, ending_if, entered, first_state, flat, is_beside}
-use Rattle.textwrap_marked.proofs.Common.{IsSameBy, kept_line, line_of, lines_of, LineText, Part, parts_of_blocks}
-use Rattle.textwrap_marked.proofs.Common.{passed, read_lines, ReflowOptions, StateText, text_parts, with_titles}
-use Rattle.textwrap_marked.proofs.Common.{without_returns}
+use Rattle.textwrap_marks.proofs.Common.{◌≡◌, ℕ, ◌<◌, Bool, true, false, List, [], ◌∷◌, ◌++◌, All}
+use Rattle.textwrap_marks.proofs.Common.{All-head, All-tail, ap, append_assoc, append-nil, arith}
+use Rattle.textwrap_marks.proofs.Common.{flat_map, length, length-slice_split, lt-ltb, nat_lt, None}
+use Rattle.textwrap_marks.proofs.Common.{Option, refl, slice_split, Some, subst, sym, ⊤, ◌==◌, ◌∙◌}
+use Rattle.textwrap_marks.proofs.Common.{ending_bytes, entered, first_state, flat, line_of}
+use Rattle.textwrap_marks.proofs.Common.{lines_of, LineText, passed, read_lines, StateText}
+use Rattle.textwrap_marks.proofs.Common.{with_titles, without_returns}
+use Rattle.textwrap_text.specs.declared.line_ending.LineEnding.{LineEnding}
+use Rattle.textwrap_marked.proofs.Common.{AreSameParts, blocks, ending_if, is_beside, IsSameBy}
+use Rattle.textwrap_marked.proofs.Common.{kept_line, Part, parts_of_blocks, text_parts}
+use Rattle.textwrap_marks.specs.declared.options.ReflowOptions.{ReflowOptions}
 use Rattle.std.proofs.lemmas.List.Splits.{slice_split_at, slice_split_none}
 use Rattle.textwrap_marked.proofs.AnewLines.{anew-content, anew-feedless, anew-text, anew_raw, IsTold, returns_by}
 use Rattle.textwrap_marked.proofs.Feedless.{IsFeedless, split-feedless}

@@ -1,13 +1,16 @@
 -- How filled lines of a new text end.
-use Rattle.textwrap_marked.proofs.Common.{Option, Some, ◌≡◌, ℕ, ◌&&◌, Bool, true, false, cond, List}
-use Rattle.textwrap_marked.proofs.Common.{[], ◌∷◌, ◌++◌, ◌==◌, All, All-head, ap, append_assoc}
-use Rattle.textwrap_marked.proofs.Common.{arith, codes, ends_with, flat_map, inl, inr, length}
-use Rattle.textwrap_marked.proofs.Common.{nat_eq, nat_lt, None, refl, slice_split, subst, sym}
-use Rattle.textwrap_marked.proofs.Common.{true≢false, ◌∙◌, all-left, all-right, length-slice_split}
-use Rattle.textwrap_marked.proofs.Common.{LineEnding, CRLF, LF, stays, LineText, break_white}
-use Rattle.textwrap_marked.proofs.Common.{ending_if, filled_end, filled_ending, first_room}
-use Rattle.textwrap_marked.proofs.Common.{AreOfBlocks, IsOfBlock, later_room, line_text, line_texts}
-use Rattle.textwrap_marked.proofs.Common.{printed, shown_lines, ReflowOptions}
+use Rattle.textwrap_marks.proofs.Common.{Option, Some, ◌≡◌, ℕ, ◌&&◌, Bool, true, false, cond, List}
+use Rattle.textwrap_marks.proofs.Common.{[], ◌∷◌, ◌++◌, ◌==◌, All, All-head, ap, append_assoc}
+use Rattle.textwrap_marks.proofs.Common.{arith, codes, ends_with, flat_map, inl, inr, length}
+use Rattle.textwrap_marks.proofs.Common.{nat_eq, nat_lt, None, refl, slice_split, subst, sym}
+use Rattle.textwrap_marks.proofs.Common.{true≢false, ◌∙◌, all-left, all-right, length-slice_split}
+use Rattle.textwrap_marks.proofs.Common.{LineText}
+use Rattle.textwrap_text.specs.declared.line_ending.LineEnding.{LineEnding}
+use Rattle.textwrap_text.specs.declared.line_ending.LineEnding.TheVariants.{CRLF, LF}
+use Rattle.textwrap_marked.proofs.Common.{stays, break_white, ending_if, filled_end, filled_ending}
+use Rattle.textwrap_marked.proofs.Common.{first_room, AreOfBlocks, IsOfBlock, later_room, line_text}
+use Rattle.textwrap_marked.proofs.Common.{line_texts, printed, shown_lines}
+use Rattle.textwrap_marks.specs.declared.options.ReflowOptions.{ReflowOptions}
 use Rattle.textwrap_marked.proofs.BegunAlike.{AreBegun}
 use Rattle.textwrap_marked.proofs.Feedless.{NoFeed}
 use Rattle.textwrap_marked.proofs.PrintedText.{filled-last}

@@ -1,28 +1,29 @@
 -- The marks before an open fence are no words of a text.
-use Rattle.textwrap_marked.proofs.Common.{◌≡◌, ℕ, ◌+◌, ◌-◌, ◌<◌, ◌&&◌, ◌||◌, not, Bool, true, false}
-use Rattle.textwrap_marked.proofs.Common.{cond, List, [], ◌∷◌, ◌++◌, All, All-head, All-tail, ap}
-use Rattle.textwrap_marked.proofs.Common.{arith, All-weaker, codes, drop, false_from_ne_true}
-use Rattle.textwrap_marked.proofs.Common.{length, None, Option, prefix_len, refl, Some, subst, suc}
-use Rattle.textwrap_marked.proofs.Common.{suffix_len, sym, take-append-drop, append-nil, true≢false}
-use Rattle.textwrap_marked.proofs.Common.{⊤, ◌∙◌, bytes_eq-Decides, is_some, FenceText, entered}
-use Rattle.textwrap_marked.proofs.Common.{fence_at, line_of, LineText, new_fence, passed, StateText}
-use Rattle.textwrap_marked.proofs.Common.{without_returns, is_comment_at, is_quote, begins_text}
-use Rattle.textwrap_marked.proofs.Common.{closes_block, has_letter, is_white, spaced_text}
-use Rattle.textwrap_marked.proofs.Common.{SpacedText, ReflowOptions}
+use Rattle.textwrap_marks.proofs.Common.{◌≡◌, ℕ, ◌+◌, ◌-◌, ◌<◌, ◌&&◌, ◌||◌, not, Bool, true, false}
+use Rattle.textwrap_marks.proofs.Common.{cond, List, [], ◌∷◌, ◌++◌, All, All-head, All-tail, ap}
+use Rattle.textwrap_marks.proofs.Common.{arith, All-weaker, codes, drop, false_from_ne_true, length}
+use Rattle.textwrap_marks.proofs.Common.{None, Option, prefix_len, refl, Some, subst, suc}
+use Rattle.textwrap_marks.proofs.Common.{suffix_len, sym, take-append-drop, append-nil, true≢false}
+use Rattle.textwrap_marks.proofs.Common.{⊤, ◌∙◌, bytes_eq-Decides, is_some, FenceText, entered}
+use Rattle.textwrap_marks.proofs.Common.{fence_at, line_of, LineText, new_fence, passed, StateText}
+use Rattle.textwrap_marks.proofs.Common.{without_returns, is_comment_at, is_quote, begins_text}
+use Rattle.textwrap_marks.proofs.Common.{closes_block, has_letter, is_white, spaced_text}
+use Rattle.textwrap_marks.proofs.Common.{SpacedText}
+use Rattle.textwrap_marks.specs.declared.options.ReflowOptions.{ReflowOptions}
 use Rattle.textwrap_text.proofs.Common.{option_map}
 use Rattle.textwrap_marked.proofs.HangingForms.{IsHanging, hanging-is}
 use Rattle.textwrap_marked.proofs.HangingKinds.{AreMarks, before-full}
 use Rattle.textwrap_marked.proofs.LaterLines.{line-read}
-use Rattle.textwrap_marked.proofs.Letterless.{quote-plain, star-plain}
+use Rattle.textwrap_marks.proofs.Letterless.{quote-plain, star-plain}
 use Rattle.textwrap_marked.proofs.LineKinds.{has_opening_in, kinds, line-is, line_by}
-use Rattle.textwrap_marked.proofs.OpenBehind.{text-letter}
+use Rattle.textwrap_marks.proofs.OpenBehind.{text-letter}
 use Rattle.textwrap_marked.proofs.ParagraphLines.{all-spaced, regroup}
 use Rattle.textwrap_marked.proofs.SpacedBack.{AreSpaced, IsInk, IsWhite, spaced-first}
-use Rattle.textwrap_marked.specs.Columns.{behind_white, marks_of}
+use Rattle.textwrap_marks.specs.Columns.{behind_white, marks_of}
 use Rattle.textwrap_marked.proofs.WordsIn.{IsPlain}
-use Rattle.textwrap_marked.specs.Fences.{is_closed_by, is_left_by, opened}
-use Rattle.textwrap_marked.specs.Lines.{is_in_block}
-use Rattle.textwrap_marked.specs.declared.fences.FenceKind.{FenceKind}
+use Rattle.textwrap_marks.specs.Fences.{is_closed_by, is_left_by, opened}
+use Rattle.textwrap_marks.specs.Lines.{is_in_block}
+use Rattle.textwrap_marks.specs.declared.fences.FenceKind.{FenceKind}
 
 -- a word that no text begins with
 abbrev pub IsMarkWord : List ℕ → Type 0

@@ -1,10 +1,10 @@
 -- What the laws say of a part.
-use Rattle.textwrap_marked.proofs.Common.{◌≡◌, ℕ, Bool, true, false, List, [], ◌∷◌, ap, arith, ◌&&◌}
-use Rattle.textwrap_marked.proofs.Common.{flat_map, length, nat_lt, None, subst, sym, ◌∙◌}
-use Rattle.textwrap_marked.proofs.Common.{IsDivision, IsDividedBy, sizes_of, WordText, Part}
-use Rattle.textwrap_marked.proofs.Common.{piece_words, LineText, algorithm_of, first_room}
-use Rattle.textwrap_marked.proofs.Common.{IsOfBlock, kept_line, later_room, line_text, line_texts}
-use Rattle.textwrap_marked.proofs.Common.{ReflowOptions}
+use Rattle.textwrap_marks.proofs.Common.{◌≡◌, ℕ, Bool, true, false, List, [], ◌∷◌, ap, arith, ◌&&◌}
+use Rattle.textwrap_marks.proofs.Common.{flat_map, length, nat_lt, None, subst, sym, ◌∙◌}
+use Rattle.textwrap_marks.proofs.Common.{IsDivision, IsDividedBy, sizes_of, WordText, LineText}
+use Rattle.textwrap_marked.proofs.Common.{Part, piece_words, algorithm_of, first_room, IsOfBlock}
+use Rattle.textwrap_marked.proofs.Common.{kept_line, later_room, line_text, line_texts}
+use Rattle.textwrap_marks.specs.declared.options.ReflowOptions.{ReflowOptions}
 use Rattle.textwrap_base.specs.declared.penalties.Penalties.{Penalties}
 use Rattle.textwrap_words.proofs.Common.{Algorithm, Greedy, LeastCost}
 use Rattle.textwrap_marked.proofs.KeptWords.{printed-words}
@@ -12,7 +12,7 @@ use Rattle.textwrap_marked.proofs.PlainLines.{IsPlainBlock}
 use Rattle.textwrap_marked.proofs.PrintedWidths.{lines-as-wide, printed-within, two-widths}
 use Rattle.textwrap_marked.specs.Laws.{AreAsWide, CostsLeast, FillsWidth, IsKeptOrBehind}
 use Rattle.textwrap_marked.specs.Laws.{KeepsToWidth, KeepsWords, widths_left}
-use Rattle.textwrap_marked.specs.declared.options.Algorithm.TheVariants as by
+use Rattle.textwrap_marks.specs.declared.options.Algorithm.TheVariants as by
 
 -- either algorithm divides
 pub divided-is : (algorithm : Algorithm) (widths : List ℕ) (xs : List WordText)

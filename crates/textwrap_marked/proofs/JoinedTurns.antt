@@ -4,7 +4,7 @@ use Rattle.textwrap_text.proofs.Common.{◌++◌, length, sym, ap, ◌∙◌, ap
 use Rattle.textwrap_text.proofs.Common.{drop, flat_map, get_or, map, Bor, drop_more}
 use Rattle.textwrap_marked.specs.Pieces.{cuts_from, is_cut, Joined}
 use Rattle.textwrap_marked.specs.Pieces.{with_blank, with_word}
-use Rattle.textwrap_marked.specs.declared.options.ReflowOptions.{ReflowOptions}
+use Rattle.textwrap_marks.specs.declared.options.ReflowOptions.{ReflowOptions}
 
 joined-turn : (options : ReflowOptions) (starred : Bool) (joined : Joined) (word : List ℕ)
     (words : List (List ℕ))

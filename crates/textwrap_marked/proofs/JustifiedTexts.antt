@@ -1,12 +1,13 @@
 -- The printed lines of a division are lines of the paragraph's words, with blanks between them.
-use Rattle.textwrap_marked.proofs.Common.{◌≡◌, ◌≢◌, ℕ, ◌+◌, ◌-◌, ◌<◌, ◌≤◌, Bool, true, false, cond}
-use Rattle.textwrap_marked.proofs.Common.{List, [], ◌∷◌, ◌++◌, All, All-head, All-tail, ap}
-use Rattle.textwrap_marked.proofs.Common.{append_assoc, append-nil, arith, drop, length, map}
-use Rattle.textwrap_marked.proofs.Common.{nat_lt, ne_eqb, onto_first, refl, subst, sym, take, ◌==◌}
-use Rattle.textwrap_marked.proofs.Common.{◌&&◌, ◌||◌, not, ◌∙◌, all-left, all-right, flat, blank}
-use Rattle.textwrap_marked.proofs.Common.{is_blank, word_of, WordText, covered, LineText, pieces}
-use Rattle.textwrap_marked.proofs.Common.{blanks, first_room, later_room, line_text, line_texts}
-use Rattle.textwrap_marked.proofs.Common.{shown_lines, ReflowOptions}
+use Rattle.textwrap_marks.proofs.Common.{◌≡◌, ◌≢◌, ℕ, ◌+◌, ◌-◌, ◌<◌, ◌≤◌, Bool, true, false, cond}
+use Rattle.textwrap_marks.proofs.Common.{List, [], ◌∷◌, ◌++◌, All, All-head, All-tail, ap}
+use Rattle.textwrap_marks.proofs.Common.{append_assoc, append-nil, arith, drop, length, map, nat_lt}
+use Rattle.textwrap_marks.proofs.Common.{ne_eqb, onto_first, refl, subst, sym, take, ◌==◌, ◌&&◌}
+use Rattle.textwrap_marks.proofs.Common.{◌||◌, not, ◌∙◌, all-left, all-right, flat, blank, is_blank}
+use Rattle.textwrap_marks.proofs.Common.{word_of, WordText, covered, LineText, blanks}
+use Rattle.textwrap_marked.proofs.Common.{pieces, first_room, later_room, line_text, line_texts}
+use Rattle.textwrap_marked.proofs.Common.{shown_lines}
+use Rattle.textwrap_marks.specs.declared.options.ReflowOptions.{ReflowOptions}
 use Rattle.textwrap_text.proofs.Common.{min, cond_both, eq-eqb, ◌/◌, chunks, text_width}
 use Rattle.textwrap_base.proofs.Common.{IsDivision}
 use Rattle.std.specs.Prelude.{◌%◌}

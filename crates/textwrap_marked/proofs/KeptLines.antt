@@ -1,13 +1,15 @@
 -- Lines that stay, read again before others that begin alike.
-use Rattle.textwrap_marked.proofs.Common.{◌≡◌, ℕ, ◌-◌, ◌<◌, ◌&&◌, Bool, true, false, List, [], ◌∷◌}
-use Rattle.textwrap_marked.proofs.Common.{◌++◌, All, All-cons, All-head, All-tail, ap, append-nil}
-use Rattle.textwrap_marked.proofs.Common.{append_assoc, arith, codes, drop, flat_map, inl, inr}
-use Rattle.textwrap_marked.proofs.Common.{join_with_byte, length, lt-ltb, map, nat_lt, None, Option}
-use Rattle.textwrap_marked.proofs.Common.{refl, Some, suc, suffix_len, sym, take-append-drop, ⊤}
-use Rattle.textwrap_marked.proofs.Common.{◌∙◌, ap₂, bytes_eq, LineEnding, from_letter, line_sense}
-use Rattle.textwrap_marked.proofs.Common.{words_in, as_title, entered, is_return, line_of, LineText}
-use Rattle.textwrap_marked.proofs.Common.{passed, StateText, without_returns, ending_if, kept_line}
-use Rattle.textwrap_marked.proofs.Common.{first_word, opens_paragraph, ReflowOptions}
+use Rattle.textwrap_marks.proofs.Common.{◌≡◌, ℕ, ◌-◌, ◌<◌, ◌&&◌, Bool, true, false, List, [], ◌∷◌}
+use Rattle.textwrap_marks.proofs.Common.{◌++◌, All, All-cons, All-head, All-tail, ap, append-nil}
+use Rattle.textwrap_marks.proofs.Common.{append_assoc, arith, codes, drop, flat_map, inl, inr}
+use Rattle.textwrap_marks.proofs.Common.{join_with_byte, length, lt-ltb, map, nat_lt, None, Option}
+use Rattle.textwrap_marks.proofs.Common.{refl, Some, suc, suffix_len, sym, take-append-drop, ⊤, ◌∙◌}
+use Rattle.textwrap_marks.proofs.Common.{ap₂, bytes_eq, as_title, entered, is_return, line_of}
+use Rattle.textwrap_marks.proofs.Common.{LineText, passed, StateText, without_returns, first_word}
+use Rattle.textwrap_marks.proofs.Common.{opens_paragraph}
+use Rattle.textwrap_text.specs.declared.line_ending.LineEnding.{LineEnding}
+use Rattle.textwrap_marked.proofs.Common.{from_letter, line_sense, words_in, ending_if, kept_line}
+use Rattle.textwrap_marks.specs.declared.options.ReflowOptions.{ReflowOptions}
 use Rattle.std.proofs.Math.Bool.{and-true}
 use Rattle.textwrap_marked.proofs.AnewLines.{anew, anew-content, anew-feedless, anew-line}
 use Rattle.textwrap_marked.proofs.AnewLines.{anew-text, anew_raw, content-return, IsTold}
@@ -18,7 +20,7 @@ use Rattle.textwrap_marked.proofs.FenceLeft.{EndsWord, returned}
 use Rattle.textwrap_marked.proofs.FenceMarks.{IsSafe, safe-passed}
 use Rattle.textwrap_marked.proofs.ReturnsOff.{return_if}
 use Rattle.textwrap_marked.proofs.TextBlocks.{line_at, peel, read, read-more, title_of}
-use Rattle.textwrap_marked.specs.Signs.{is_rule}
+use Rattle.textwrap_marks.specs.Signs.{is_rule}
 
 -- all that the lines before it ask of a line, and of the first of a block
 pub record IsHeadAlike (line other : LineText) : Type 0 where

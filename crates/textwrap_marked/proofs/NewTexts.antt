@@ -1,15 +1,17 @@
 -- Texts that were reflowed, reflowed again.
-use Rattle.textwrap_marked.proofs.Common.{◌≡◌, ℕ, Bool, true, false, cond, List, [], ◌∷◌, ◌++◌}
-use Rattle.textwrap_marked.proofs.Common.{◌==◌, All-head, ap, arith, drop, flat_map, join_with_byte}
-use Rattle.textwrap_marked.proofs.Common.{length, nat_eq, nat_lt, refl, slice_split, starts_with}
-use Rattle.textwrap_marked.proofs.Common.{subst, sym, ◌∙◌, lt-ltb, starts_with-rest}
-use Rattle.textwrap_marked.proofs.Common.{ap₂, length-slice_split, ending_bytes, LineEnding, CRLF}
-use Rattle.textwrap_marked.proofs.Common.{LF, blocks, AreSameParts, HasPlainMarkers, line_sense}
-use Rattle.textwrap_marked.proofs.Common.{text_parts, first_state, lines_of, read_lines}
-use Rattle.textwrap_marked.proofs.Common.{with_titles, byte_order_mark, filled_ending, AreOfBlocks}
-use Rattle.textwrap_marked.proofs.Common.{IsReflowedBehind, IsReflowedFrom, ReflowOptions}
+use Rattle.textwrap_marks.proofs.Common.{◌≡◌, ℕ, Bool, true, false, cond, List, [], ◌∷◌, ◌++◌, ◌==◌}
+use Rattle.textwrap_marks.proofs.Common.{All-head, ap, arith, drop, flat_map, join_with_byte}
+use Rattle.textwrap_marks.proofs.Common.{length, nat_eq, nat_lt, refl, slice_split, starts_with}
+use Rattle.textwrap_marks.proofs.Common.{subst, sym, ◌∙◌, lt-ltb, starts_with-rest, ap₂}
+use Rattle.textwrap_marks.proofs.Common.{length-slice_split, ending_bytes, first_state, lines_of}
+use Rattle.textwrap_marks.proofs.Common.{read_lines, with_titles, inl, inr, ◌⊎◌}
+use Rattle.textwrap_text.specs.declared.line_ending.LineEnding.{LineEnding}
+use Rattle.textwrap_text.specs.declared.line_ending.LineEnding.TheVariants.{CRLF, LF}
+use Rattle.textwrap_marked.proofs.Common.{blocks, AreSameParts, HasPlainMarkers, line_sense}
+use Rattle.textwrap_marked.proofs.Common.{text_parts, byte_order_mark, filled_ending, AreOfBlocks}
+use Rattle.textwrap_marked.proofs.Common.{IsReflowedBehind, IsReflowedFrom}
+use Rattle.textwrap_marks.specs.declared.options.ReflowOptions.{ReflowOptions}
 use Rattle.textwrap_text.proofs.Common.{⊎_elim, Option, Some}
-use Rattle.textwrap_marked.proofs.Common.{inl, inr, ◌⊎◌}
 use Rattle.std.proofs.lemmas.List.Splits.{join_with_byte-slice_split}
 use Rattle.textwrap_marked.proofs.AnewLines.{IsTold}
 use Rattle.textwrap_marked.proofs.BegunAlike.{AreBegun, marks-same}
@@ -22,7 +24,7 @@ use Rattle.textwrap_marked.specs.Laws.{behind_mark, KeepsEnding, mark_of, text_s
 use Rattle.textwrap_marked.specs.Reflow.{IsReflowed}
 use Rattle.textwrap_marked.specs.Within.{IsReflowedWithin, IsReflowedWithinBehind, IsReflowedWithinFrom}
 use Rattle.textwrap_marked.specs.declared.within.LineRange.{LineRange}
-use Rattle.textwrap_marked.specs.declared.options.Algorithm.{Algorithm}
+use Rattle.textwrap_marks.specs.declared.options.Algorithm.{Algorithm}
 
 -- ---- without a byte order mark
 

@@ -1,10 +1,11 @@
 -- What becomes of a text is one text.
-use Rattle.textwrap_marked.proofs.Common.{◌≡◌, ℕ, Bool, true, false, List, [], ◌∷◌, ◌++◌, sym, ap}
-use Rattle.textwrap_marked.proofs.Common.{◌∙◌, drop, IsDividedBy, sizes_of, WordText, ending_bytes}
-use Rattle.textwrap_marked.proofs.Common.{blocks, is_beside, LineText, lines_of, algorithm_of}
-use Rattle.textwrap_marked.proofs.Common.{byte_order_mark, filled_end, filled_ending, AreOfBlocks}
-use Rattle.textwrap_marked.proofs.Common.{IsOfBlock, IsReflowedBehind, IsReflowedFrom, printed}
-use Rattle.textwrap_marked.proofs.Common.{shown_lines, ReflowOptions}
+use Rattle.textwrap_marks.proofs.Common.{◌≡◌, ℕ, Bool, true, false, List, [], ◌∷◌, ◌++◌, sym, ap}
+use Rattle.textwrap_marks.proofs.Common.{◌∙◌, drop, IsDividedBy, sizes_of, WordText, ending_bytes}
+use Rattle.textwrap_marks.proofs.Common.{LineText, lines_of}
+use Rattle.textwrap_marked.proofs.Common.{blocks, is_beside, algorithm_of, byte_order_mark}
+use Rattle.textwrap_marked.proofs.Common.{filled_end, filled_ending, AreOfBlocks, IsOfBlock}
+use Rattle.textwrap_marked.proofs.Common.{IsReflowedBehind, IsReflowedFrom, printed, shown_lines}
+use Rattle.textwrap_marks.specs.declared.options.ReflowOptions.{ReflowOptions}
 use Rattle.textwrap_base.proofs.Common.{priced_at}
 use Rattle.textwrap_base.proofs.Cost.Results.{by_table_one}
 use Rattle.textwrap_base.proofs.Division.Greedy.{greedy_unique}

@@ -8,7 +8,7 @@ use Rattle.textwrap_text.specs.Blanks.{blank}
 use Rattle.textwrap_words.specs.Cuts.{AreCuts, AreLaterCuts}
 use Rattle.textwrap_words.proofs.Word.Cuts.{inner-cuts}
 use Rattle.textwrap_marked.specs.Pieces.{cuts_from, is_cut, with_blank}
-use Rattle.textwrap_marked.specs.declared.options.ReflowOptions.{ReflowOptions}
+use Rattle.textwrap_marks.specs.declared.options.ReflowOptions.{ReflowOptions}
 
 module _ (options : ReflowOptions) (starred : Bool) where
   cuts-after : (text front : List ℕ) (words : List (List ℕ)) (at last : ℕ) → IsUtf8 text

@@ -7,7 +7,7 @@ use Rattle.textwrap_text.specs.Blanks.{blank}
 use Rattle.textwrap_words.specs.Cuts.{parts_between, parts_onward}
 use Rattle.textwrap_marked.specs.Pieces.{cuts_from, is_cut, onto_front, pieces}
 use Rattle.textwrap_marked.specs.Pieces.{with_blank}
-use Rattle.textwrap_marked.specs.declared.options.ReflowOptions.{ReflowOptions}
+use Rattle.textwrap_marks.specs.declared.options.ReflowOptions.{ReflowOptions}
 
 onto_front-twice : (first second : List ℕ) (parts : List (List ℕ))
     → onto_front first (onto_front second parts) ≡ onto_front (first ++ second) parts

@@ -1,13 +1,14 @@
 -- The text of a paragraph as it is printed is its lines, with a line feed between each two.
-use Rattle.textwrap_marked.proofs.Common.{◌≡◌, ◌≢◌, ℕ, ◌-◌, ◌&&◌, Bool, true, false, cond, List, []}
-use Rattle.textwrap_marked.proofs.Common.{◌∷◌, ◌++◌, All, All-append, All-cons, All-head, All-nil}
-use Rattle.textwrap_marked.proofs.Common.{All-tail, ap, append-nil, append_assoc, arith, codes}
-use Rattle.textwrap_marked.proofs.Common.{drop, ends_with, flat_map, join_with_byte, length, nat_eq}
-use Rattle.textwrap_marked.proofs.Common.{nat_lt, refl, subst, suc, sym, ◌∙◌, ◌==◌, eqb-true}
-use Rattle.textwrap_marked.proofs.Common.{false_from_ne_true, true≢false, All-weaker, all-left}
-use Rattle.textwrap_marked.proofs.Common.{all-right, LineText, break_white, ending_if, filled_end}
-use Rattle.textwrap_marked.proofs.Common.{last_white, is_white, spaced_text, SpacedText}
-use Rattle.textwrap_marked.proofs.Common.{ReflowOptions}
+use Rattle.textwrap_marks.proofs.Common.{◌≡◌, ◌≢◌, ℕ, ◌-◌, ◌&&◌, Bool, true, false, cond, List, []}
+use Rattle.textwrap_marks.proofs.Common.{◌∷◌, ◌++◌, All, All-append, All-cons, All-head, All-nil}
+use Rattle.textwrap_marks.proofs.Common.{All-tail, ap, append-nil, append_assoc, arith, codes, drop}
+use Rattle.textwrap_marks.proofs.Common.{ends_with, flat_map, join_with_byte, length, nat_eq}
+use Rattle.textwrap_marks.proofs.Common.{nat_lt, refl, subst, suc, sym, ◌∙◌, ◌==◌, eqb-true}
+use Rattle.textwrap_marks.proofs.Common.{false_from_ne_true, true≢false, All-weaker, all-left}
+use Rattle.textwrap_marks.proofs.Common.{all-right, LineText, last_white, is_white, spaced_text}
+use Rattle.textwrap_marks.proofs.Common.{SpacedText}
+use Rattle.textwrap_marked.proofs.Common.{break_white, ending_if, filled_end}
+use Rattle.textwrap_marks.specs.declared.options.ReflowOptions.{ReflowOptions}
 use Rattle.textwrap_marked.proofs.AnewLines.{end-parts, return-feedless}
 use Rattle.textwrap_marked.proofs.Feedless.{IsFeedless, NoFeed}
 use Rattle.textwrap_marked.proofs.KeptLines.{join-more}
@@ -17,7 +18,7 @@ use Rattle.textwrap_marked.proofs.ReturnsOff.{return_if}
 use Rattle.textwrap_marked.proofs.SpacedBack.{AreSpaced, IsWhite}
 use Rattle.textwrap_marked.proofs.SpreadWords.{gap-white, last-more, spread-end}
 use Rattle.textwrap_marked.proofs.TextBlocks.{last_line}
-use Rattle.textwrap_marked.specs.Signs.{first_white}
+use Rattle.textwrap_marks.specs.Signs.{first_white}
 
 -- ---- what stands behind the last line
 

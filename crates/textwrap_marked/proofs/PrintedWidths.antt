@@ -1,18 +1,18 @@
 -- What the printed lines of a paragraph keep to.
-use Rattle.textwrap_marked.proofs.Common.{◌≡◌, ℕ, ◌+◌, ◌-◌, ◌<◌, ◌≤◌, true, List, [], ◌∷◌, All}
-use Rattle.textwrap_marked.proofs.Common.{All-cons, All-head, All-nil, All-tail, arith, inl, inr}
-use Rattle.textwrap_marked.proofs.Common.{length, lt-ltb, refl, reverse, subst, sym, ap, ◌∙◌}
-use Rattle.textwrap_marked.proofs.Common.{take_all, suffix_len-le-length, IsDivision, blank}
-use Rattle.textwrap_marked.proofs.Common.{is_blank, sizes_of, word_of, WordText, covered}
-use Rattle.textwrap_marked.proofs.Common.{piece_words, LineText, line_text, line_texts}
-use Rattle.textwrap_marked.proofs.Common.{ReflowOptions}
+use Rattle.textwrap_marks.proofs.Common.{◌≡◌, ℕ, ◌+◌, ◌-◌, ◌<◌, ◌≤◌, true, List, [], ◌∷◌, All}
+use Rattle.textwrap_marks.proofs.Common.{All-cons, All-head, All-nil, All-tail, arith, inl, inr}
+use Rattle.textwrap_marks.proofs.Common.{length, lt-ltb, refl, reverse, subst, sym, ap, ◌∙◌}
+use Rattle.textwrap_marks.proofs.Common.{take_all, suffix_len-le-length, IsDivision, blank}
+use Rattle.textwrap_marks.proofs.Common.{is_blank, sizes_of, word_of, WordText, covered, LineText}
+use Rattle.textwrap_marked.proofs.Common.{piece_words, line_text, line_texts}
+use Rattle.textwrap_marks.specs.declared.options.ReflowOptions.{ReflowOptions}
 use Rattle.textwrap_base.proofs.Common.{AllFit, AreEqualFromSecond, closed_width, Fits}
 use Rattle.textwrap_text.proofs.Common.{length-drop, reverse-append, trimmed_len}
 use Rattle.std.specs.List.{prefix_len, suffix_len}
 use Rattle.textwrap_base.proofs.Division.Greedy.{line_width-later}
 use Rattle.textwrap_display.proofs.Widths.{justified-width}
 use Rattle.textwrap_marked.proofs.BlankPieces.{division-all, EndsInBlank, words-all}
-use Rattle.textwrap_marked.specs.Columns.{columns}
+use Rattle.textwrap_marks.specs.Columns.{columns}
 use Rattle.textwrap_marked.specs.Laws.{AreAsWide, AreWithin, IsAsWide, IsWithin}
 
 abbrev HasBlank : WordText → Type 0

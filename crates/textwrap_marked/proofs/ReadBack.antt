@@ -1,11 +1,13 @@
 -- What is printed of the blocks of a text, read again.
-use Rattle.textwrap_marked.proofs.Common.{◌≡◌, ℕ, ◌||◌, Bool, true, false, List, [], ◌∷◌, ◌++◌, All}
-use Rattle.textwrap_marked.proofs.Common.{All-append, ap, arith, flat_map, join_with_byte, length}
-use Rattle.textwrap_marked.proofs.Common.{map, nat_lt, refl, subst, sym, ◌∙◌, all-left}
-use Rattle.textwrap_marked.proofs.Common.{all-right, flat, ap₂, flat_map-append, is_beside, stays}
-use Rattle.textwrap_marked.proofs.Common.{AreSameParts, HasPlainMarkers, IsSameBy, line_sense}
-use Rattle.textwrap_marked.proofs.Common.{parts_of_blocks, LineText, StateText, AreOfBlocks, words_of}
-use Rattle.textwrap_marked.proofs.Common.{kept_line, ReflowOptions, ◌+◌, cases_Bool, IsOfBlock, not}
+use Rattle.textwrap_marks.proofs.Common.{◌≡◌, ℕ, ◌||◌, Bool, true, false, List, [], ◌∷◌, ◌++◌, All}
+use Rattle.textwrap_marks.proofs.Common.{All-append, ap, arith, flat_map, join_with_byte, length}
+use Rattle.textwrap_marks.proofs.Common.{map, nat_lt, refl, subst, sym, ◌∙◌, all-left, all-right}
+use Rattle.textwrap_marks.proofs.Common.{flat, ap₂, flat_map-append, LineText, StateText, ◌+◌}
+use Rattle.textwrap_marks.proofs.Common.{cases_Bool, not}
+use Rattle.textwrap_marked.proofs.Common.{is_beside, stays, AreSameParts, HasPlainMarkers, IsSameBy}
+use Rattle.textwrap_marked.proofs.Common.{line_sense, parts_of_blocks, AreOfBlocks, words_of}
+use Rattle.textwrap_marked.proofs.Common.{kept_line, IsOfBlock}
+use Rattle.textwrap_marks.specs.declared.options.ReflowOptions.{ReflowOptions}
 use Rattle.textwrap_marked.proofs.PrintedText.{ends_as, filled-last}
 use Rattle.textwrap_marked.specs.Within.{AreOfBlocksWithin, touches}
 use Rattle.textwrap_marked.specs.declared.within.LineRange.{LineRange}

@@ -1,17 +1,20 @@
 -- What becomes of two texts of the same parts is the same.
-use Rattle.textwrap_marked.proofs.Common.{◌∙◌, ◌≡◌, ℕ, ◌-◌, ◌||◌, Bool, true, false, List, [], ◌∷◌}
-use Rattle.textwrap_marked.proofs.Common.{◌++◌, ap, length, map, nat_lt, refl, slice_split, subst}
-use Rattle.textwrap_marked.proofs.Common.{sym, ◌==◌, IsDividedBy, sizes_of, word_of, WordText}
-use Rattle.textwrap_marked.proofs.Common.{ending_bytes, blocks, is_beside, stays, AreSameParts}
-use Rattle.textwrap_marked.proofs.Common.{IsSameBy, Part, parts_of_blocks, text_parts}
-use Rattle.textwrap_marked.proofs.Common.{without_returns, entered, first_state, line_of, lines_of}
-use Rattle.textwrap_marked.proofs.Common.{LineText, passed, read_lines, StateText, with_titles}
-use Rattle.textwrap_marked.proofs.Common.{pieces, algorithm_of, filled_ending, AreOfBlocks, IsOfBlock}
-use Rattle.textwrap_marked.proofs.Common.{IsReflowedFrom, line_texts, LineEnding, Option, printed, ReflowOptions}
+use Rattle.textwrap_marks.proofs.Common.{◌∙◌, ◌≡◌, ℕ, ◌-◌, ◌||◌, Bool, true, false, List, [], ◌∷◌}
+use Rattle.textwrap_marks.proofs.Common.{◌++◌, ap, length, map, nat_lt, refl, slice_split, subst}
+use Rattle.textwrap_marks.proofs.Common.{sym, ◌==◌, IsDividedBy, sizes_of, word_of, WordText}
+use Rattle.textwrap_marks.proofs.Common.{ending_bytes, without_returns, entered, first_state}
+use Rattle.textwrap_marks.proofs.Common.{line_of, lines_of, LineText, passed, read_lines, StateText}
+use Rattle.textwrap_marks.proofs.Common.{with_titles, Option}
+use Rattle.textwrap_marked.proofs.Common.{blocks, is_beside, stays, AreSameParts, IsSameBy, Part}
+use Rattle.textwrap_marked.proofs.Common.{parts_of_blocks, text_parts, pieces, algorithm_of}
+use Rattle.textwrap_marked.proofs.Common.{filled_ending, AreOfBlocks, IsOfBlock, IsReflowedFrom}
+use Rattle.textwrap_marked.proofs.Common.{line_texts, printed}
+use Rattle.textwrap_text.specs.declared.line_ending.LineEnding.{LineEnding}
+use Rattle.textwrap_marks.specs.declared.options.ReflowOptions.{ReflowOptions}
 use Rattle.textwrap_marked.proofs.TextBack.{text-back}
-use Rattle.textwrap_marked.specs.Columns.{columns}
+use Rattle.textwrap_marks.specs.Columns.{columns}
 use Rattle.textwrap_marked.specs.Laws.{AreNewParts}
-use Rattle.textwrap_marked.specs.declared.options.Algorithm.{Algorithm}
+use Rattle.textwrap_marks.specs.declared.options.Algorithm.{Algorithm}
 
 module _ (options : ReflowOptions) (ending : List ℕ) where
   -- ---- one part

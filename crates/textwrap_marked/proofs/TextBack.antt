@@ -1,13 +1,15 @@
 -- A new text, read again, has the parts of the text.
-use Rattle.textwrap_marked.proofs.Common.{None, Option, Some, ◌≡◌, ℕ, ◌<◌, ◌||◌, not, Bool, true}
-use Rattle.textwrap_marked.proofs.Common.{false, List, [], ◌∷◌, ◌++◌, ◌==◌, All, All-nil, ap, arith}
-use Rattle.textwrap_marked.proofs.Common.{flat_map, join_with_byte, length, nat_lt, lt-ltb}
-use Rattle.textwrap_marked.proofs.Common.{cases_Bool, refl, slice_split, subst, sym, true≢false}
-use Rattle.textwrap_marked.proofs.Common.{◌∙◌, all-left, flat, length-slice_split, LineEnding}
+use Rattle.textwrap_marks.proofs.Common.{None, Option, Some, ◌≡◌, ℕ, ◌<◌, ◌||◌, not, Bool, true}
+use Rattle.textwrap_marks.proofs.Common.{false, List, [], ◌∷◌, ◌++◌, ◌==◌, All, All-nil, ap, arith}
+use Rattle.textwrap_marks.proofs.Common.{flat_map, join_with_byte, length, nat_lt, lt-ltb}
+use Rattle.textwrap_marks.proofs.Common.{cases_Bool, refl, slice_split, subst, sym, true≢false, ◌∙◌}
+use Rattle.textwrap_marks.proofs.Common.{all-left, flat, length-slice_split, first_state, lines_of}
+use Rattle.textwrap_marks.proofs.Common.{LineText, StateText, false_from_ne_true}
+use Rattle.textwrap_text.specs.declared.line_ending.LineEnding.{LineEnding}
 use Rattle.textwrap_marked.proofs.Common.{blocks, is_beside, stays, AreSameParts, HasPlainMarkers}
-use Rattle.textwrap_marked.proofs.Common.{line_sense, parts_of_blocks, text_parts, first_state}
-use Rattle.textwrap_marked.proofs.Common.{lines_of, LineText, StateText, filled_ending, AreOfBlocks}
-use Rattle.textwrap_marked.proofs.Common.{IsOfBlock, IsReflowedFrom, ReflowOptions}
+use Rattle.textwrap_marked.proofs.Common.{line_sense, parts_of_blocks, text_parts, filled_ending}
+use Rattle.textwrap_marked.proofs.Common.{AreOfBlocks, IsOfBlock, IsReflowedFrom}
+use Rattle.textwrap_marks.specs.declared.options.ReflowOptions.{ReflowOptions}
 use Rattle.textwrap_marked.proofs.AnewLines.{bytes-by, IsTold, returns_by}
 use Rattle.textwrap_marked.proofs.BegunAlike.{AreBegun}
 use Rattle.textwrap_marked.proofs.BlockOrder.{AreBlocks, blocks-are, blocks-back}
@@ -18,7 +20,6 @@ use Rattle.textwrap_marked.proofs.FilledBack.{filled-step}
 use Rattle.textwrap_marked.proofs.NewBlock.{paragraph-at}
 use Rattle.textwrap_marked.proofs.ReadBack.{ending, AreOfBlocksAny, IsReadBack, kept-step, laid-any}
 use Rattle.textwrap_marked.proofs.ReadBack.{within-any}
-use Rattle.textwrap_marked.proofs.Common.{false_from_ne_true}
 use Rattle.textwrap_marked.specs.Within.{AreOfBlocksWithin, IsReflowedWithinFrom}
 use Rattle.textwrap_marked.specs.declared.within.LineRange.{LineRange}
 use Rattle.textwrap_marked.proofs.TextBlocks.{read, read-more}

@@ -1,11 +1,4 @@
-pub mod Words
-pub mod Marks
-pub mod Prefixes
 pub mod Reading
-pub mod Columns
-pub mod Signs
-pub mod Fences
-pub mod Lines
 pub mod Blocks
 pub mod Pieces
 pub mod Reflow

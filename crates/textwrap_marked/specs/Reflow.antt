@@ -11,13 +11,13 @@ use Rattle.textwrap_layout.specs.Paragraph.{covered, line_bytes}
 use Rattle.textwrap_text.specs.declared.line_ending.LineEnding.{LineEnding}
 use Rattle.textwrap_text.specs.declared.line_ending.LineEnding.TheVariants.{CRLF, LF}
 use Rattle.textwrap_marked.specs.Blocks.{blocks, is_beside, stays}
-use Rattle.textwrap_marked.specs.Columns.{columns}
-use Rattle.textwrap_marked.specs.Lines.{LineText, lines_of, without_returns}
+use Rattle.textwrap_marks.specs.Columns.{columns}
+use Rattle.textwrap_marks.specs.Lines.{LineText, lines_of, without_returns}
 use Rattle.textwrap_marked.specs.Pieces.{pieces, words_of}
-use Rattle.textwrap_marked.specs.Signs.{last_white}
-use Rattle.textwrap_marked.specs.declared.options.Algorithm.{Algorithm}
-use Rattle.textwrap_marked.specs.declared.options.Algorithm.TheVariants.{FirstFit, LeastCost}
-use Rattle.textwrap_marked.specs.declared.options.ReflowOptions.{ReflowOptions}
+use Rattle.textwrap_marks.specs.Signs.{last_white}
+use Rattle.textwrap_marks.specs.declared.options.Algorithm.{Algorithm}
+use Rattle.textwrap_marks.specs.declared.options.Algorithm.TheVariants.{FirstFit, LeastCost}
+use Rattle.textwrap_marks.specs.declared.options.ReflowOptions.{ReflowOptions}
 
 abbrev pub algorithm_of : Algorithm → base.Algorithm
 algorithm_of FirstFit = base.Greedy

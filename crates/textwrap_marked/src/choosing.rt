@@ -4,10 +4,10 @@ ghost use Rattle.std.specs.List.{list_any};
 ghost use Rattle.textwrap_marked.specs.Choosing.{has_chosen};
 ghost use Rattle.textwrap_marked.specs.Reading.{lines_ahead};
 
-use crate::options::ReflowOptions;
 use crate::reading::LinesAhead;
-use crate::words::without_start;
 use std::alloc::{AllocError, Global};
+use textwrap_marks::options::ReflowOptions;
+use textwrap_marks::words::without_start;
 
 /// Whether the marks of some line begin with one of the prefixes of the options, so that it could be
 /// filled. Without a prefix each line is such.

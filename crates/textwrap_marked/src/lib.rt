@@ -2,26 +2,17 @@
 #![tactic(auto)]
 
 pub use choosing::has_chosen;
-pub use options::{Algorithm, ReflowOptions};
 pub use reflowing::reflow;
+pub use textwrap_marks::options::{Algorithm, ReflowOptions};
 pub use within::{LineRange, reflow_within};
 
 mod blocks;
 mod choosing;
-mod columns;
-mod fences;
 mod filling;
 pub mod laws;
-mod lines;
-mod marks;
-mod options;
 mod pieces;
-mod prefixes;
 mod reading;
 mod reflowing;
-mod signs;
-mod states;
 #[cfg(test)]
 mod tests;
 mod within;
-mod words;

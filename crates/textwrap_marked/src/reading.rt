@@ -1,15 +1,15 @@
 //! The lines of a text, read one after another.
 ghost use Rattle.std.specs.Prelude.{◌≡◌, ◌==◌, ◌<◌, ◌≤◌, ◌∷◌, length, map, IfOk, Some};
 ghost use Rattle.std.specs.List.{slice_split};
-ghost use Rattle.textwrap_marked.specs.Lines.{line_view, lines_of, read_lines, state_view};
+ghost use Rattle.textwrap_marks.specs.Lines.{line_view, lines_of, read_lines, state_view};
 ghost use Rattle.textwrap_marked.specs.Reading.{bytes_ahead, lines_ahead};
-ghost use Rattle.textwrap_marked.specs.Words.{bytes_left, parts_left};
+ghost use Rattle.textwrap_marks.specs.Words.{bytes_left, parts_left};
 
-use crate::lines::{Line, is_title, read_line, without_returns};
-use crate::options::ReflowOptions;
-use crate::states::State;
-use crate::words::split_at;
 use std::alloc::{AllocError, Global};
+use textwrap_marks::lines::{Line, is_title, read_line, without_returns};
+use textwrap_marks::options::ReflowOptions;
+use textwrap_marks::states::State;
+use textwrap_marks::words::split_at;
 
 /// The first line of a text, and what follows its line feed, if it has one.
 fn next_line<'t>(

@@ -3,18 +3,18 @@ ghost use Rattle.std.specs.Prelude.{◌≡◌, ℕ, ◌++◌, ◌||◌, false, L
 ghost use Rattle.textwrap_base.specs.Errors.{Overflowed};
 ghost use Rattle.textwrap_text.specs.LineEnding.{ending_bytes};
 ghost use Rattle.textwrap_marked.specs.Blocks.{blocks, is_beside, stays};
-ghost use Rattle.textwrap_marked.specs.Lines.{line_view};
+ghost use Rattle.textwrap_marks.specs.Lines.{line_view};
 ghost use Rattle.textwrap_marked.specs.Reading.{lines_left};
 ghost use Rattle.textwrap_marked.specs.Reflow.{ending_of, filled_ending, AreOfBlocks, IsOfBlock};
 ghost use Rattle.textwrap_marked.specs.Reflow.{IsReflowed, IsReflowedFrom};
 
 use crate::blocks::{BlocksAhead, are_fields};
 use crate::filling::{push_filled, push_kept};
-use crate::lines::Line;
-use crate::options::ReflowOptions;
-use crate::words::{ends_with, split_at, without_start};
 use std::alloc::Global;
 use textwrap_lines::LineEnding;
+use textwrap_marks::lines::Line;
+use textwrap_marks::options::ReflowOptions;
+use textwrap_marks::words::{ends_with, split_at, without_start};
 use textwrap_words::wrap_algorithms::WrapError;
 
 /// The text with its paragraphs filled again, at the width of the options.

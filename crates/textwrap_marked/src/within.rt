@@ -7,10 +7,10 @@ ghost use Rattle.textwrap_marked.specs.Within.{AreOfBlocksWithin, IsReflowedWith
 ghost use Rattle.textwrap_marked.specs.Within.{range_behind, touches};
 
 use crate::blocks::BlocksAhead;
-use crate::options::ReflowOptions;
 use crate::reflowing::{filled_ending, is_beside, push_block};
-use crate::words::without_start;
 use std::alloc::Global;
+use textwrap_marks::options::ReflowOptions;
+use textwrap_marks::words::without_start;
 use textwrap_words::wrap_algorithms::WrapError;
 
 /// Lines of a text, counted from 1. If the first is one behind the last, they are the place between the

@@ -1,6 +1,6 @@
 use Rattle.textwrap_marked.proofs.pieces.push_words.Given as goal
 use Rattle.textwrap_text.proofs.Common.{◌≡◌, ◌++◌, drop, map}
-use Rattle.textwrap_marked.specs.Words.{spaced_view}
+use Rattle.textwrap_marks.specs.Words.{spaced_view}
 
 -- with the words that are left, they are all
 abbrev pub invariant-loop-word : goal.invariant-loop-word

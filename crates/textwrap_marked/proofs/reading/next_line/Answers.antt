@@ -1,8 +1,8 @@
 use Rattle.textwrap_marked.proofs.reading.next_line.Goals as goal
 use Rattle.textwrap_text.proofs.Common.{ap, ◌∙◌}
 use Rattle.textwrap_marked.proofs.ReadLemmas.{fed-is, reads-line}
-use Rattle.textwrap_marked.specs.Lines.{entered, line_view, read_lines, state_view}
-use Rattle.textwrap_marked.specs.Words.{parts_left}
+use Rattle.textwrap_marks.specs.Lines.{entered, line_view, read_lines, state_view}
+use Rattle.textwrap_marks.specs.Words.{parts_left}
 
 pub returns-clause-lines : goal.returns-clause-lines
 returns-clause-lines c =

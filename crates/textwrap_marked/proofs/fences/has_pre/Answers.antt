@@ -1,9 +1,0 @@
-use Rattle.textwrap_marked.proofs.fences.has_pre.Goals as goal
-use Rattle.textwrap_text.proofs.Common.{◌∙◌, ap, map, not, sym}
-use Rattle.textwrap_marked.proofs.PlainWords.{plain-pre}
-use Rattle.textwrap_marked.specs.Words.{spaced_view}
-
-pub returns-else-not-plain : goal.returns-else-not-plain
-returns-else-not-plain c =
-    let plain = c.if-not-plain.false in
-    ap not plain ∙ sym (plain-pre (map spaced_view c.args.words.now) (c.requires plain))

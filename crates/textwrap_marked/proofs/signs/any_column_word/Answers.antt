@@ -1,8 +1,0 @@
-use Rattle.textwrap_marked.proofs.signs.any_column_word.Goals as goal
-use Rattle.textwrap_text.proofs.Common.{map, sym}
-use Rattle.textwrap_marked.proofs.PlainWords.{plain-none}
-use Rattle.textwrap_marked.specs.Words.{spaced_view}
-
-pub returns-then-plain : goal.returns-then-plain
-returns-then-plain c =
-    sym (plain-none (map spaced_view c.args.words.now) (c.requires c.if-plain.true))

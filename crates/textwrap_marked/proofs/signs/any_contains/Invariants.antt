@@ -1,8 +1,0 @@
-use Rattle.textwrap_marked.proofs.signs.any_contains.Given as goal
-use Rattle.textwrap_text.proofs.Common.{◌≡◌, drop, list_any, map}
-use Rattle.textwrap_marked.specs.Words.{contains, spaced_view}
-
--- none of the words so far passes
-abbrev pub invariant-loop-word : goal.invariant-loop-word
-invariant-loop-word l = list_any (λ w. contains l.part w.word) (map spaced_view (drop l.word-index l.words))
-    ≡ list_any (λ w. contains l.part w.word) (map spaced_view l.words)

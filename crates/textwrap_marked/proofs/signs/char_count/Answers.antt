@@ -1,5 +1,0 @@
-use Rattle.textwrap_marked.proofs.signs.char_count.Goals as goal
-use Rattle.textwrap_text.proofs.Common.{chars_from_encodes, rules}
-
-pub returns : goal.returns
-returns c = search (rules, chars_from_encodes)

@@ -1,6 +1,0 @@
-use Rattle.textwrap_marked.proofs.words.without_end.Goals as goal
-use Rattle.textwrap_marked.proofs.ContainedTexts.{without-end}
-
-pub returns : goal.returns
-returns c =
-    without-end c.args.end.now c.args.text.now c.strip_suffix.result c.strip_suffix.ensures.cases

@@ -1,0 +1,33 @@
+use Rattle.textwrap_marks.proofs.signs.is_usual.Goals as goal
+use Rattle.textwrap_text.proofs.Common.{◌≡◌, ℕ, ◌<◌, ◌≤◌, ◌++◌, ◌∙◌, ◌||◌, Bool, true, List, []}
+use Rattle.textwrap_text.proofs.Common.{◌∷◌, ap, arith, length, cases_Bool, list_any, nat_tests}
+use Rattle.textwrap_text.proofs.Common.{sym, IsUtf8}
+use Rattle.std.proofs.lemmas.Str.{chars_past_char, encode_ascii}
+use Rattle.std.specs.Char.{is_ascii_lowercase}
+use Rattle.std.specs.Char.Unicode.Alphabetic.{alphabetic_ranges, is_alphabetic}
+use Rattle.std.specs.Char.Unicode.Rows.{in_ranges}
+use Rattle.std.specs.Prelude.{slice_index_or}
+use Rattle.textwrap_marks.specs.Words.{has_letter, is_alphanumeric}
+
+small-letter : (c : ℕ) → is_ascii_lowercase c ≡ true → is_alphanumeric c ≡ true
+unfolding is_alphabetic in_ranges alphabetic_ranges
+small-letter c small = second _ _ _ _ small
+  where
+    second : (a b d e : Bool) → b ≡ true → ((a || (b || d)) || e) ≡ true
+    second a b d e is = grind (arith, cases_Bool, is)
+
+letter-first : (word : List ℕ) → IsUtf8 word → 2 ≤ length word
+    → is_ascii_lowercase (slice_index_or word 0 0) ≡ true → has_letter word ≡ true
+letter-first [] utf8 some small = absurd (omega (arith, some))
+letter-first (c ∷ cs) utf8 some small =
+    let ascii : c < 128 = grind (arith, nat_tests) in
+    ap (list_any is_alphanumeric) (chars_past_char (c ∷ cs) cs c utf8
+    (sym (ap (λ l. l ++ cs) (encode_ascii c ascii))))
+    ∙ ap (λ b. b || has_letter cs) (small-letter c small)
+
+pub returns-then-is_ascii_lowercase-clause-letter :
+    goal.returns-then-is_ascii_lowercase-clause-letter
+returns-then-is_ascii_lowercase-clause-letter c =
+    let same = c.as_bytes.ensures.value in
+    λ is. letter-first c.args.word.now c.utf8.word (rw same at c.in-len2-up.len_at_least)
+    (rw same at (sym c.is_ascii_lowercase.ensures.value ∙ c.if-is_ascii_lowercase.true))

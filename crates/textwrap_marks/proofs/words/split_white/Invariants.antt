@@ -1,0 +1,12 @@
+use Rattle.textwrap_marks.proofs.words.split_white.Given as goal
+use Rattle.textwrap_text.proofs.Common.{◌≡◌, ◌+◌, ◌-◌, drop, length, IsCharBoundary}
+use Rattle.std.specs.List.{prefix_len}
+use Rattle.textwrap_marks.specs.Words.{is_white}
+
+-- the bytes passed, and those at the beginning of what is left, are those at the beginning
+abbrev pub invariant-loop-end : goal.invariant-loop-end
+invariant-loop-end l = IsCharBoundary l.text l.end
+    × (l.end + prefix_len is_white (drop l.end l.text) ≡ prefix_len is_white l.text)
+
+abbrev pub decreases-loop-end : goal.decreases-loop-end
+decreases-loop-end l = length l.text - l.end

@@ -1,0 +1,154 @@
+-- How a text begins, and what no paragraph contains.
+use Rattle.std.specs.Prelude.{◌≡◌, ℕ, ◌-◌, ◌==◌, ◌&&◌, ◌||◌, Bool, true, false, not, nat_eq, nat_lt}
+use Rattle.std.specs.Prelude.{List}
+use Rattle.std.specs.Prelude.{[], ◌∷◌, length, take, drop, slice_get, slice_index, chars, codes}
+use Rattle.std.specs.Prelude.{bytes_eq}
+use Rattle.std.specs.Prelude.{if◌then◌else◌, Option, Some, None}
+use Rattle.std.specs.List.{All, ends_with, fold, list_all, list_any, starts_with}
+use Rattle.textwrap_marks.specs.Marks.{is_among, is_bullet}
+use Rattle.textwrap_marks.specs.Words.{contains, has_byte, has_bytes, has_letter, is_alphanumeric}
+use Rattle.textwrap_marks.specs.Words.{SpacedText}
+use Rattle.textwrap_marks.specs.declared.options.ReflowOptions.{ReflowOptions}
+
+-- ---- how a text begins
+
+abbrev pub first_word : List SpacedText → List ℕ
+first_word [] = []
+first_word (w ∷ ws) = w.word
+
+-- the last word alone
+abbrev pub last_of : List SpacedText → List SpacedText
+last_of words = drop (length words - 1) words
+
+abbrev pub last_word : List SpacedText → List ℕ
+last_word words = first_word (last_of words)
+
+abbrev pub first_white : List SpacedText → List ℕ
+first_white [] = []
+first_white (w ∷ ws) = w.white
+
+-- the white behind the last word
+abbrev pub last_white : List SpacedText → List ℕ
+last_white words = first_white (last_of words)
+
+-- what may stand in a key: a letter or digit, a hyphen or a low line
+abbrev pub is_key_character : ℕ → Bool
+is_key_character c = is_alphanumeric c || c == 45 || c == 95
+
+-- one or more such characters, and then a colon
+abbrev pub is_key : List ℕ → Bool
+is_key word =
+    let front = take (length word - 1) word in
+    if ends_with nat_eq word (codes ":")
+    then has_bytes front && list_all is_key_character (chars front) else false
+
+-- # ; % > < | = .
+abbrev pub is_sign_byte : ℕ → Bool
+is_sign_byte c =
+    c == 35 || c == 59 || c == 37 || c == 62 || c == 60 || c == 124 || c == 61 || c == 46
+
+-- what may mean something at the beginning of a line, to a compiler or in Markdown
+abbrev pub is_sign : List ℕ → Bool
+is_sign word =
+    is_sign_byte (slice_index word 0)
+    || starts_with nat_eq word (codes "//") || starts_with nat_eq word (codes "/*")
+    || starts_with nat_eq word (codes "```") || starts_with nat_eq word (codes "~~~")
+
+-- a key, `Copyright`, `@word`, `\word`, or `:word` without a backtick
+abbrev pub opens_paragraph : List ℕ → Bool
+opens_paragraph word =
+    let c = slice_index word 0 in
+    is_key word || bytes_eq word (codes "Copyright") || c == 64 || c == 92
+    || (c == 58 && not (has_byte 96 word))
+
+-- a word with a letter, but no sign, nor one with `*` in front where a block comment has no marks
+abbrev pub begins_text : Bool → List ℕ → Bool
+begins_text starred word =
+    has_letter word && not (is_sign word) && not (starred && slice_index word 0 == 42)
+
+-- a paragraph may have a line, after its first, that this word begins
+abbrev pub may_go_on : ReflowOptions → Bool → List ℕ → Bool
+may_go_on options starred word =
+    begins_text starred word && not (opens_paragraph word) && not (is_bullet word)
+    && not (is_among word options.markers.now)
+
+-- ---- what no paragraph contains
+
+-- a closing quote or bracket: ) ] " ' * _ ” ’ »
+abbrev pub is_closing : ℕ → Bool
+is_closing c =
+    c == 41 || c == 93 || c == 34 || c == 39 || c == 42 || c == 95 || c == 0x201D || c == 0x2019
+    || c == 0xBB
+
+-- . ? ! :
+abbrev pub is_end : ℕ → Bool
+is_end c = c == 46 || c == 63 || c == 33 || c == 58
+
+-- the last character that closes nothing ends a sentence
+abbrev pub ends_sentence : List ℕ → Bool
+ends_sentence word = fold (λ ends c. if is_closing c then ends else is_end c) false (chars word)
+
+-- three blanks or more, or two that do not follow the end of a sentence
+abbrev pub is_wide : SpacedText → Bool
+is_wide w = nat_lt 2 (length w.white) || (length w.white == 2 && not (ends_sentence w.word))
+
+-- a tab, or so much white; where lines are justified, a tab alone
+abbrev pub is_gap : Bool → SpacedText → Bool
+is_gap justify w = has_byte 9 w.white || (not justify && is_wide w)
+
+-- `|`, a comment that code stands before, a carriage return, what ends a label of a link, or `<pre`
+abbrev pub is_column_word : List ℕ → Bool
+is_column_word word =
+    bytes_eq word (codes "|") || bytes_eq word (codes "//") || bytes_eq word (codes "/*")
+    || bytes_eq word (codes "#") || has_byte 13 word || contains (codes "]:") word
+    || contains (codes "<pre") word
+
+-- | / # carriage return ] <
+abbrev pub is_column_byte : ℕ → Bool
+is_column_byte c = c == 124 || c == 47 || c == 35 || c == 13 || c == 93 || c == 60
+
+-- none of these bytes is in the words
+abbrev pub ArePlain : List SpacedText → Type 0
+ArePlain words = All (λ w. list_any is_column_byte w.word ≡ false) words
+
+-- all words but the last
+abbrev pub front_of : List SpacedText → List SpacedText
+front_of words = take (length words - 1) words
+
+-- such a word, or a gap between two words
+abbrev pub has_columns : Bool → List SpacedText → Bool
+has_columns justify words =
+    list_any (λ w. is_column_word w.word) words || list_any (is_gap justify) (front_of words)
+
+-- this text stands in one of the words
+abbrev pub any_contains : List ℕ → List SpacedText → Bool
+any_contains part words = list_any (λ w. contains part w.word) words
+
+-- the end of a block comment stands in the words
+abbrev pub closes_block : List SpacedText → Bool
+closes_block words = any_contains (codes "*/") words
+
+-- a word does not end in that, or has another one
+abbrev pub ends_early : List ℕ → Bool
+ends_early word =
+    if ends_with nat_eq word (codes "*/") then contains (codes "*/") (take (length word - 2) word)
+    else true
+
+-- it stands there, and not only at their end
+abbrev pub closes_early : List SpacedText → Bool
+closes_early words = closes_block (front_of words) || ends_early (last_word words)
+
+-- one character, three times at least, which is no letter, digit, tilde or backtick
+abbrev pub is_rule_of : Option ℕ → List ℕ → Bool
+is_rule_of None cs = false
+is_rule_of (Some first) cs =
+    nat_lt 2 (length cs) && list_all (λ c. c == first) cs
+    && not (is_alphanumeric first || first == 96 || first == 126)
+
+abbrev pub is_rule_characters : List ℕ → Bool
+is_rule_characters cs = is_rule_of (slice_get cs 0) cs
+
+abbrev pub is_rule : List SpacedText → Bool
+is_rule [] = false
+is_rule (w ∷ []) = is_rule_characters (chars w.word)
+is_rule (w ∷ v ∷ ws) = false

@@ -1,0 +1,347 @@
+//! How a text begins, and what no paragraph contains.
+ghost use Rattle.std.specs.Char.{is_ascii_lowercase};
+ghost use Rattle.std.specs.Prelude.{◌≡◌, ◌==◌, ◌||◌, true, false, length, map, chars, slice_get, slice_index};
+ghost use Rattle.std.specs.List.{list_all, list_any};
+ghost use Rattle.textwrap_marks.specs.Signs.{any_contains, ArePlain, begins_text, closes_block};
+ghost use Rattle.textwrap_marks.specs.Signs.{closes_early, ends_early, ends_sentence, first_word};
+ghost use Rattle.textwrap_marks.specs.Signs.{front_of, has_columns, is_closing, is_column_byte};
+ghost use Rattle.textwrap_marks.specs.Signs.{is_column_word, is_end, is_gap, is_key};
+ghost use Rattle.textwrap_marks.specs.Signs.{is_key_character, is_rule, is_wide};
+ghost use Rattle.textwrap_marks.specs.Signs.{is_rule_characters, is_rule_of, is_sign, is_sign_byte};
+ghost use Rattle.textwrap_marks.specs.Signs.{last_of, last_white, last_word, may_go_on};
+ghost use Rattle.textwrap_marks.specs.Signs.{opens_paragraph};
+ghost use Rattle.textwrap_marks.specs.Marks.{is_bullet};
+ghost use Rattle.textwrap_marks.specs.Words.{has_letter, is_alphanumeric, spaced_view};
+
+use crate::marks::is_bullet;
+use crate::options::ReflowOptions;
+use crate::words::{
+    SpacedWord, contains, first_byte, has_byte, has_letter, starts_with, without_end,
+};
+
+/// The first word, and the empty text where there is none.
+pub fn first_word<'t>(words: &[SpacedWord<'t>]) -> &'t str
+    ensures { result.now ≡ first_word (map spaced_view words.now) }
+{
+    match words {
+        [first, ..] => first.word,
+        [] => "",
+    }
+}
+
+/// All words but the last, and the last alone.
+fn split_last<'s, 't>(words: &'s [SpacedWord<'t>]) -> (&'s [SpacedWord<'t>], &'s [SpacedWord<'t>])
+    ensures front { map spaced_view result.0.now ≡ front_of (map spaced_view words.now) }
+    ensures last { map spaced_view result.1.now ≡ last_of (map spaced_view words.now) }
+{
+    words.split_at(words.len().saturating_sub(1))
+}
+
+pub fn last_word<'t>(words: &[SpacedWord<'t>]) -> &'t str
+    ensures { result.now ≡ last_word (map spaced_view words.now) }
+{
+    let (_, last) = split_last(words);
+    first_word(last)
+}
+
+/// The white behind the last word, and the empty text where there is none.
+pub fn last_white<'t>(words: &[SpacedWord<'t>]) -> &'t str
+    ensures { result.now ≡ last_white (map spaced_view words.now) }
+{
+    let (_, last) = split_last(words);
+    match last {
+        [last, ..] => last.white,
+        [] => "",
+    }
+}
+
+/// Whether the character may stand in a key: a letter, a digit, a hyphen or a low line.
+fn is_key_character(ch: char) -> bool
+    ensures { result ≡ is_key_character ch }
+{
+    ch.is_alphanumeric() | (ch == '-') | (ch == '_')
+}
+
+fn are_key_characters(text: &str) -> bool
+    ensures { result ≡ list_all is_key_character (chars text.now) }
+{
+    text.chars().all(|ch| is_key_character(ch))
+}
+
+/// Whether a word is a key: letters, digits, `-` and `_`, and then a colon.
+pub fn is_key(word: &str) -> bool
+    ensures { result ≡ is_key word.now }
+{
+    match without_end(word, ":") {
+        Some(front) => !front.is_empty() & are_key_characters(front),
+        None => false,
+    }
+}
+
+/// Whether a word at the beginning of a line may mean something to a compiler, or in Markdown.
+fn is_sign(word: &str) -> bool
+    ensures { result ≡ is_sign word.now }
+{
+    is_sign_byte(first_byte(word))
+        | starts_with(word, "//")
+        | starts_with(word, "/*")
+        | starts_with(word, "```")
+        | starts_with(word, "~~~")
+}
+
+fn is_sign_byte(byte: u8) -> bool
+    ensures { result ≡ is_sign_byte byte }
+{
+    matches!(byte, b'#' | b';' | b'%' | b'>' | b'<' | b'|' | b'=' | b'.')
+}
+
+/// Whether a word opens a paragraph: a key, `Copyright`, `@word`, `\word`, or `:word` without a
+/// backtick.
+pub fn opens_paragraph(word: &str) -> bool
+    ensures { result ≡ opens_paragraph word.now }
+{
+    let first = first_byte(word);
+    is_key(word)
+        | (word == "Copyright")
+        | (first == b'@')
+        | (first == b'\\')
+        | (first == b':') & !has_byte(b'`', word.as_bytes())
+}
+
+/// Whether a word may begin a text.
+pub fn begins_text(starred: bool, word: &str) -> bool
+    ensures { result ≡ begins_text starred word.now }
+{
+    is_usual(word) || has_letter(word) & !is_sign(word) & !(starred & (first_byte(word) == b'*'))
+}
+
+/// Whether a word that begins with a small letter may end so, and is no bullet or key then.
+fn is_usual_end(byte: u8) -> bool
+    ensures { result ≡ (is_ascii_lowercase byte || byte == 44 || byte == 46) }
+{
+    matches!(byte, b'a'..=b'z' | b',' | b'.')
+}
+
+/// Whether a word begins with a small letter of ASCII and ends with another one, a comma or a full
+/// stop, as most words do: then it has a letter, is no sign and no bullet, and opens no paragraph.
+fn is_usual(word: &str) -> bool
+    ensures letter { result ≡ true → has_letter word.now ≡ true }
+    ensures sign { result ≡ true → is_sign word.now ≡ false }
+    ensures first { result ≡ true → (slice_index word.now 0 == 42) ≡ false }
+    ensures opens { result ≡ true → opens_paragraph word.now ≡ false }
+    ensures bullet { result ≡ true → is_bullet word.now ≡ false }
+{
+    match word.as_bytes() {
+        [first, .., last] => { first.is_ascii_lowercase() && is_usual_end(*last) }
+        _ => false,
+    }
+}
+
+/// Whether a paragraph may have a line that this word begins, after its first one.
+pub fn may_go_on(options: &ReflowOptions<'_>, starred: bool, word: &str) -> bool
+    ensures { result ≡ may_go_on options.now starred word.now }
+{
+    let may_begin = is_usual(word)
+        || begins_text(starred, word) && !opens_paragraph(word) && !is_bullet(word);
+    may_begin && !options.is_marker(word)
+}
+
+/// Whether a character closes a quote or a bracket.
+fn is_closing(ch: char) -> bool
+    ensures { result ≡ is_closing ch }
+{
+    matches!(ch, ')' | ']' | '"' | '\'' | '*' | '_' | '”' | '’' | '»')
+}
+
+/// Whether a character ends a sentence.
+fn is_end(ch: char) -> bool
+    ensures { result ≡ is_end ch }
+{
+    matches!(ch, '.' | '?' | '!' | ':')
+}
+
+/// Whether the last character of a word that closes nothing ends a sentence.
+fn ends_sentence(word: &str) -> bool
+    ensures { result ≡ ends_sentence word.now }
+{
+    word.chars().fold(
+        false,
+        |ends, ch| if is_closing(ch) { ends } else { is_end(ch) },
+    )
+}
+
+/// Whether the white behind a word is wide: three blanks or more, or two that do not follow the end of
+/// a sentence.
+fn is_wide(word: &SpacedWord<'_>) -> bool
+    ensures { result ≡ is_wide (spaced_view word.now) }
+{
+    let len = word.white.len();
+    len > 2 || len == 2 && !ends_sentence(word.word)
+}
+
+/// Whether the white behind a word is a gap: a tab, or wide; where lines are justified, a tab alone.
+fn is_gap(justify: bool, word: &SpacedWord<'_>) -> bool
+    ensures { result ≡ is_gap justify (spaced_view word.now) }
+{
+    word.white != " " && (has_byte(b'\t', word.white.as_bytes()) || !justify && is_wide(word))
+}
+
+/// Whether one of the bytes is there of which each word that no paragraph contains has one.
+pub fn has_column_byte(bytes: &[u8]) -> bool
+    ensures { result ≡ list_any is_column_byte bytes.now }
+{
+    // Without a stop at the first that is, the processor can look at many bytes at once.
+    let mut any = false;
+    for byte in bytes {
+        any |= is_column_byte(*byte);
+    }
+    any
+}
+
+fn is_column_byte(byte: u8) -> bool
+    ensures { result ≡ is_column_byte byte }
+{
+    (byte == b'|')
+        | (byte == b'/')
+        | (byte == b'#')
+        | (byte == b'\r')
+        | (byte == b']')
+        | (byte == b'<')
+}
+
+/// Whether no paragraph contains this word: `|`, a comment behind code, a carriage return, `]:` or
+/// `<pre`.
+fn is_column_word(word: &str) -> bool
+    ensures { result ≡ is_column_word word.now }
+{
+    matches!(word, "|" | "//" | "/*" | "#")
+        || has_byte(b'\r', word.as_bytes())
+        || contains(word, "]:")
+        || contains(word, "<pre")
+}
+
+/// Whether such a word is among these. If they are known to be plain, none is looked at.
+fn any_column_word(plain: bool, words: &[SpacedWord<'_>]) -> bool
+    requires { plain ≡ true → ArePlain (map spaced_view words.now) }
+    ensures { result ≡ list_any (λ w. is_column_word w.word) (map spaced_view words.now) }
+{
+    if plain {
+        return false;
+    }
+    for word in words {
+        if is_column_word(word.word) {
+            return true;
+        }
+    }
+    false
+}
+
+fn any_gap(justify: bool, words: &[SpacedWord<'_>]) -> bool
+    ensures { result ≡ list_any (is_gap justify) (map spaced_view words.now) }
+{
+    for word in words {
+        if is_gap(justify, word) {
+            return true;
+        }
+    }
+    false
+}
+
+/// Whether such a word is among these, which may be known to be plain, or a gap between two.
+pub fn has_columns(justify: bool, plain: bool, words: &[SpacedWord<'_>]) -> bool
+    requires { plain ≡ true → ArePlain (map spaced_view words.now) }
+    ensures { result ≡ has_columns justify (map spaced_view words.now) }
+{
+    let (front, _) = split_last(words);
+    any_column_word(plain, words) || any_gap(justify, front)
+}
+
+/// Whether a text stands in one of the words.
+pub fn any_contains(words: &[SpacedWord<'_>], part: &str) -> bool
+    ensures { result ≡ any_contains part.now (map spaced_view words.now) }
+{
+    for word in words {
+        if contains(word.word, part) {
+            return true;
+        }
+    }
+    false
+}
+
+/// Whether a block comment ends in these words.
+pub fn closes_block(words: &[SpacedWord<'_>]) -> bool
+    ensures { result ≡ closes_block (map spaced_view words.now) }
+{
+    any_contains(words, "*/")
+}
+
+/// Whether a word does not end in the end of a block comment, or has another one.
+fn ends_early(word: &str) -> bool
+    ensures { result ≡ ends_early word.now }
+{
+    match without_end(word, "*/") {
+        Some(front) => contains(front, "*/"),
+        None => true,
+    }
+}
+
+/// Whether the end of a block comment stands in these words, and not only at their end.
+pub fn closes_early(words: &[SpacedWord<'_>]) -> bool
+    ensures { result ≡ closes_early (map spaced_view words.now) }
+{
+    let (front, _) = split_last(words);
+    closes_block(front) | ends_early(last_word(words))
+}
+
+/// The first character of a text, if it has one.
+fn first_char(text: &str) -> Option<char>
+    ensures { result ≡ slice_get (chars text.now) 0 }
+{
+    text.chars().next()
+}
+
+fn char_count(text: &str) -> usize
+    ensures { result ≡ length (chars text.now) }
+{
+    text.chars().count()
+}
+
+/// Whether each character of a text is this one.
+fn is_all(text: &str, ch: char) -> bool
+    ensures { result ≡ list_all (λ c. c == ch) (chars text.now) }
+{
+    text.chars().all(|other| other == ch)
+}
+
+/// Whether a word consists of this character, at least three times, which is no letter, digit, tilde or
+/// backtick.
+fn is_rule_of(first: Option<char>, word: &str) -> bool
+    ensures { result ≡ is_rule_of first (chars word.now) }
+{
+    match first {
+        Some(first) => {
+            (char_count(word) > 2)
+                & is_all(word, first)
+                & !(first.is_alphanumeric() | (first == '`') | (first == '~'))
+        }
+        None => false,
+    }
+}
+
+/// Whether a word is a rule: one character, at least three times, which is no letter, digit, tilde or
+/// backtick.
+fn is_rule_word(word: &str) -> bool
+    ensures { result ≡ is_rule_characters (chars word.now) }
+{
+    is_rule_of(first_char(word), word)
+}
+
+/// Whether the words are a rule.
+pub fn is_rule(words: &[SpacedWord<'_>]) -> bool
+    ensures { result ≡ is_rule (map spaced_view words.now) }
+{
+    match words {
+        [word] => is_rule_word(word.word),
+        _ => false,
+    }
+}

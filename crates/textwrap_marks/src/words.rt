@@ -1,0 +1,151 @@
+//! The words of a line, each with the white behind it, and what is asked of one.
+ghost use Rattle.std.specs.Prelude.{◌≡◌, ◌-◌, ◌<◌, ◌≤◌, ◌==◌, ◌∷◌, true, false, length, map};
+ghost use Rattle.std.specs.Prelude.{nat_eq, take, drop};
+ghost use Rattle.std.specs.Prelude.{IfOk, MatchOption, slice_index};
+ghost use Rattle.std.specs.List.{ends_with, prefix_len, slice_split, starts_with};
+ghost use Rattle.textwrap_marks.specs.Words.{bytes_left, contains, has_byte, has_letter, is_ink};
+ghost use Rattle.textwrap_marks.specs.Words.{is_made_of, is_white, parts_left, spaced_view};
+ghost use Rattle.textwrap_marks.specs.Words.{spaced_words};
+
+use std::alloc::{AllocError, Global};
+
+/// What stands between white, and the white behind it.
+#[derive(Clone, Copy, Debug)]
+pub struct SpacedWord<'t> {
+    pub word: &'t str,
+    pub white: &'t str,
+}
+
+/// The part of a text before a mark, and what follows that, if it stands there.
+pub fn split_at(text: &str, mark: char) -> (&str, Option<&str>)
+    requires { mark < 128 }
+    ensures parts { slice_split (λ c. c == mark) text.now
+        ≡ result.0.now ∷ parts_left mark result.1 }
+    ensures shorter { bytes_left result.1 ≤ length text.now }
+{
+    match text.split_once(mark) {
+        Some((part, rest)) => (part, Some(rest)),
+        None => (text, None),
+    }
+}
+
+/// Whether the byte is a blank or a tab.
+pub fn is_white(byte: u8) -> bool
+    ensures { result ≡ is_white byte }
+{
+    // Most bytes are past both, which one comparison tells.
+    byte <= b' ' && ((byte == b' ') | (byte == b'\t'))
+}
+
+/// The text up to its first white, and what follows.
+pub fn split_word(text: &str) -> (&str, &str)
+    ensures word { result.0.now ≡ take (prefix_len is_ink text.now) text.now }
+    ensures rest { result.1.now ≡ drop (prefix_len is_ink text.now) text.now }
+{
+    let bytes = text.as_bytes();
+    let mut end = 0;
+    while end < bytes.len() && !is_white(bytes[end]) {
+        end += 1;
+    }
+    text.split_at(end)
+}
+
+/// The white that the text begins with, and what follows.
+pub fn split_white(text: &str) -> (&str, &str)
+    ensures white { result.0.now ≡ take (prefix_len is_white text.now) text.now }
+    ensures rest { result.1.now ≡ drop (prefix_len is_white text.now) text.now }
+{
+    let bytes = text.as_bytes();
+    let mut end = 0;
+    while end < bytes.len() && is_white(bytes[end]) {
+        end += 1;
+    }
+    text.split_at(end)
+}
+
+/// The words of a line. Only the first may be empty, before white.
+pub fn spaced_words(alloc: Global, line: &str) -> Result<Vec<SpacedWord<'_>>, AllocError>
+    ensures { IfOk result (λ words. map spaced_view words.items ≡ spaced_words line.now) }
+{
+    // Room for all words of a usual line at once.
+    let mut words = Vec::with_capacity(alloc, (line.len() / 4).min(32))?;
+    let mut rest = line;
+    while !rest.is_empty() {
+        let (word, after) = split_word(rest);
+        let (white, after) = split_white(after);
+        words.push(SpacedWord { word, white })?;
+        rest = after;
+    }
+    Ok(words)
+}
+
+/// Whether a letter or a digit is among the characters of a word.
+pub fn has_letter(word: &str) -> bool
+    ensures { result ≡ has_letter word.now }
+{
+    word.chars().any(|ch| ch.is_alphanumeric())
+}
+
+/// The first byte, and 0 where there is none.
+pub fn first_byte(word: &str) -> u8
+    ensures { result ≡ slice_index word.now 0 }
+{
+    match word.as_bytes() {
+        [first, ..] => *first,
+        [] => 0,
+    }
+}
+
+/// Whether this byte is in a text.
+pub fn has_byte(byte: u8, text: &[u8]) -> bool
+    ensures { result ≡ has_byte byte text.now }
+{
+    text.iter().any(|other| *other == byte)
+}
+
+/// Whether each byte of a text is this one.
+pub fn is_made_of(byte: u8, text: &[u8]) -> bool
+    ensures { result ≡ is_made_of byte text.now }
+{
+    text.iter().all(|other| *other == byte)
+}
+
+pub fn starts_with(text: &str, part: &str) -> bool
+    ensures { result ≡ starts_with nat_eq text.now part.now }
+{
+    text.starts_with(part)
+}
+
+pub fn ends_with(text: &str, part: &str) -> bool
+    ensures { result ≡ ends_with nat_eq text.now part.now }
+{
+    text.ends_with(part)
+}
+
+/// What follows this start of a text, if it begins so.
+pub fn without_start<'t>(text: &'t str, start: &str) -> Option<&'t str>
+    ensures { MatchOption result (starts_with nat_eq text.now start.now ≡ false)
+        (λ rest. (starts_with nat_eq text.now start.now ≡ true)
+        × (rest.now ≡ drop (length start.now) text.now)) }
+{
+    text.strip_prefix(start)
+}
+
+/// The text without this end, if it has it.
+pub fn without_end<'t>(text: &'t str, end: &str) -> Option<&'t str>
+    ensures { MatchOption result (ends_with nat_eq text.now end.now ≡ false)
+        (λ front. (ends_with nat_eq text.now end.now ≡ true)
+        × (front.now ≡ take (length text.now - length end.now) text.now)) }
+{
+    text.strip_suffix(end)
+}
+
+/// Whether a part stands in a text. Its first byte, which is quickly told, is looked for first.
+pub fn contains(text: &str, part: &str) -> bool
+    ensures { result ≡ contains part.now text.now }
+{
+    match part.as_bytes() {
+        [first, ..] => has_byte(*first, text.as_bytes()) && text.contains(part),
+        [] => true,
+    }
+}

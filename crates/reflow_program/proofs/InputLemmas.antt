@@ -9,7 +9,7 @@ use Rattle.textwrap_program.specs.Filling.{ReadsAll, WritesPrefix}
 use Rattle.textwrap_program.specs.Program.{TriesLine}
 use Rattle.reflow_program.specs.Faults.{IsOfDraft, IsOfOutput}
 use Rattle.reflow_program.specs.Files.{Becomes, KnownFiles, SameFiles}
-use Rattle.reflow_program.specs.Differences.{IsDiffText}
+use Rattle.unified_diff.specs.Differences.{IsDiffText}
 use Rattle.reflow_program.specs.Inputs.{Checks, Differs, IsReplaced, Prints, Reads, ReadsText, Replaces}
 use Rattle.reflow_program.specs.declared.faults.Fault.{Fault}
 use Rattle.reflow_program.specs.declared.faults.Fault.TheVariants.{Read, NotUtf8, Memory, Write}

@@ -6,7 +6,7 @@ use Rattle.std.specs.Str.Lossy.{utf8_valid_len}
 use Rattle.std.specs.Io.KnownBytes.{Appends, Keeps}
 use Rattle.textwrap_program.specs.Filling.{ReadsAll, WritesPrefix}
 use Rattle.textwrap_program.specs.Program.{TriesLine, line_feed}
-use Rattle.reflow_program.specs.Differences.{IsDiffText}
+use Rattle.unified_diff.specs.Differences.{IsDiffText}
 use Rattle.reflow_program.specs.Files.{Becomes, KnownFiles, SameFiles}
 use Rattle.reflow_program.specs.Layout.{LaysOut, has_marks}
 use Rattle.reflow_program.specs.declared.faults.Fault.{Fault}

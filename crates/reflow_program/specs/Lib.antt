@@ -3,8 +3,6 @@ pub mod Arguments
 pub mod Faults
 pub mod Files
 pub mod Layout
-pub mod Differences
-pub mod Laws
 pub mod Inputs
 pub mod Messages
 pub mod Program

@@ -5,12 +5,11 @@ ghost use Rattle.textwrap_program.specs.Filling.{ReadsAll, WritesPrefix};
 ghost use Rattle.textwrap_program.specs.Program.{TriesLine, line_feed};
 ghost use Rattle.reflow_program.specs.Faults.{IsOfDraft, IsOfOutput, IsOfReading};
 ghost use Rattle.reflow_program.specs.Files.{SameFiles};
-ghost use Rattle.reflow_program.specs.Differences.{IsDiffText};
+ghost use Rattle.unified_diff.specs.Differences.{IsDiffText};
 ghost use Rattle.reflow_program.specs.Inputs.{Checks, ChecksFile, Differs, DiffersFile, IsReplaced};
 ghost use Rattle.reflow_program.specs.Inputs.{Prints, PrintsFile};
 ghost use Rattle.reflow_program.specs.Inputs.{Reads, Reflows, Replaces};
 
-use crate::differences::diff_text;
 use crate::faults::{Fault, Reason, draft_fault, file_reason, output_reason};
 use crate::files::Files;
 use crate::layout::{LaidOut, Layout, lay_out};
@@ -18,6 +17,7 @@ use simdutf8::compat::from_utf8;
 use std::alloc::Global;
 use std::io::{Read, Write};
 use textwrap_program::filling::{RunError, read_to_end, write_whole};
+use unified_diff::differences::diff_text;
 
 /// What became of an input.
 #[derive(Clone, Copy, Debug, PartialEq, Eq)]

@@ -3,12 +3,10 @@
 #![tactic(auto)]
 
 pub mod arguments;
-pub mod differences;
 pub mod disk;
 pub mod faults;
 pub mod files;
 pub mod inputs;
-pub mod laws;
 pub mod layout;
 pub mod program;
 pub mod words;

@@ -6,10 +6,10 @@ use super::plain::{
 };
 use fakes::heap::Heap;
 use fakes::streams::{Feed, FeedFault, SinkFault};
-use reflow_program::differences::diff_text;
 use std::io::ErrorKind;
 use std::process::Abort;
 use textwrap_program::filling::{RunError, read_to_end};
+use unified_diff::differences::diff_text;
 
 /// A rule, the standard input, and the diff at ten columns.
 #[rattlefmt::skip]

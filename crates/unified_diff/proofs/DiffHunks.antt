@@ -1,0 +1,309 @@
+-- The hunks of lines with signs: stretches that are near a change, which patch the text.
+use Rattle.std.proofs.Common.{◌≡◌, ◌∙◌, ap, refl, sym, subst, ℕ, ◌+◌, ◌-◌, ◌<◌, ◌≤◌, arith, false}
+use Rattle.std.proofs.Common.{true}
+use Rattle.std.proofs.Common.{List, [], ◌∷◌, ◌++◌, length, take, drop, map, get_or, IsTrue, All}
+use Rattle.std.proofs.Common.{ap₂, suc, Bool}
+use Rattle.std.proofs.lemmas.List.Elements.{All-cons, All-nil}
+use Rattle.std.specs.List.{flat_map, slice_range}
+use Rattle.std.proofs.lemmas.List.{append_assoc, append-nil, get_or-drop, get_or-take, length-drop}
+use Rattle.std.proofs.lemmas.List.{take_rest}
+use Rattle.std.proofs.lemmas.List.{length-take, drop-map, take-map}
+use Rattle.std.proofs.lemmas.List.Folds.{drop_split}
+use Rattle.unified_diff.specs.Differences.{ArePushed, AreApart, HunkText, IsDiff, IsNear, IsTight}
+use Rattle.unified_diff.specs.Differences.{Patches, SignedText, hunk_text, head_text, line_text}
+use Rattle.unified_diff.specs.Differences.{range_text, signed_view, is_change, new_end, news}
+use Rattle.unified_diff.specs.Differences.{old_end, olds, sign_at}
+use Rattle.unified_diff.specs.declared.differences.SignedLine.{SignedLine}
+use Rattle.unified_diff.specs.declared.differences.Sign.{Sign}
+use Rattle.unified_diff.specs.declared.differences.Sign.TheVariants.{Kept}
+use Rattle.unified_diff.proofs.DiffLines.{change-within, news-append, news-le, olds-append, olds-le}
+
+-- ---- lines that are kept
+
+kept-one : (line : SignedText) (lines : List SignedText) → is_change line.sign ≡ false
+    → (news lines ≡ olds lines) × (length (olds lines) ≡ length lines)
+    → (news (line ∷ lines) ≡ olds (line ∷ lines))
+    × (length (olds (line ∷ lines)) ≡ length (line ∷ lines))
+kept-one line lines kept (same, len) = grind (arith, same, len)
+
+kept-same : (lines : List SignedText)
+    → ((k : ℕ) → k < length lines → is_change (sign_at lines k) ≡ false)
+    → (news lines ≡ olds lines) × (length (olds lines) ≡ length lines)
+kept-same [] kept = (refl, refl)
+kept-same (line ∷ lines) kept =
+    let rest = kept-same lines (λ k below. kept (suc k) (omega arith)) in
+    kept-one line lines (kept 0 (omega arith)) rest
+
+-- ---- tests and numbers
+
+not_changed : (change : Bool) → (IsTrue change → ⊥) → change ≡ false
+not_changed true far = absurd (far refl)
+not_changed false far = refl
+
+pub not_below : (n m : ℕ) → (n < m → ⊥) → m ≤ n
+not_below n m less = omega (arith, less)
+
+not_above : (n m : ℕ) → (m ≤ n → ⊥) → n < m
+not_above n m more = omega (arith, more)
+
+-- ---- a part of the lines
+
+sign_at-part : (lines : List SignedText) (first last k : ℕ) → k < last - first
+    → sign_at (slice_range lines first last) k ≡ sign_at lines (first + k)
+sign_at-part lines first last k within =
+    let signs : List Sign = map (λ s. s.sign) lines in
+    let cut : map (λ s. s.sign) (slice_range lines first last) ≡ take (last - first) (drop first signs)
+    = sym (take-map (λ s. s.sign) (last - first) (drop first lines))
+    ∙ ap (take (last - first)) (sym (drop-map (λ s. s.sign) first lines)) in
+    ap (λ ss. get_or ss k Kept) cut
+    ∙ get_or-take (last - first) (drop first signs) k Kept within
+    ∙ get_or-drop first signs k Kept
+
+length-part : (lines : List SignedText) (first last : ℕ) → first ≤ last → last ≤ length lines
+    → length (slice_range lines first last) ≡ last - first
+length-part lines first last order within =
+    let cut = length-take (last - first) (drop first lines) in
+    let left = length-drop first lines in
+    omega arith
+
+abbrev pub hunk_at : ℕ → ℕ → List SignedText → HunkText
+hunk_at old_start new_start lines =
+    record { old_start = old_start; new_start = new_start; lines = lines }
+
+module _ (lines : List SignedText) where
+  -- none of these lines is near a change
+  abbrev pub AreFar : ℕ → ℕ → Type 0
+  AreFar first last = (k : ℕ) → k < last → first ≤ k → ¬ IsNear lines k
+
+  -- a line that is not near a change is none
+  far-kept : (first last k : ℕ) → first ≤ last → k < last - first → AreFar first last
+      → is_change (sign_at (slice_range lines first last) k) ≡ false
+  far-kept first last k order below far =
+      rw (sign_at-part lines first last k below)
+      (not_changed (is_change (sign_at lines (first + k))) (λ change. far (first + k) (omega arith) (omega arith)
+      (first + k, change, omega arith, omega arith)))
+
+  far-same : (first last : ℕ) → first ≤ last → last ≤ length lines → AreFar first last
+      → (news (slice_range lines first last) ≡ olds (slice_range lines first last))
+      × (length (olds (slice_range lines first last)) ≡ last - first)
+  far-same first last order within far =
+      let part : List SignedText = slice_range lines first last in
+      let len : length part ≡ last - first = length-part lines first last order within in
+      let same = kept-same part (λ k below. far-kept first last k order (omega arith) far) in
+      (same.0, same.1 ∙ len)
+
+  -- ---- stretches of lines near a change
+
+  near-part : (first last at : ℕ) → first < last → at < last - first
+      → (0 < first → ¬ IsNear lines (first - 1))
+      → (last < length lines → ¬ IsNear lines last)
+      → IsNear lines (first + at) → IsNear (slice_range lines first last) at
+  near-part first last at some below before behind (change, is, above, under) =
+      let within : change < length lines = change-within lines change is in
+      let past : first ≤ change = not_below change first
+      (λ less. before (omega arith) (change, is, omega arith, omega arith)) in
+      let short : change < last = not_above change last
+      (λ more. behind (omega arith) (change, is, omega arith, omega arith)) in
+      let here : sign_at (slice_range lines first last) (change - first) ≡ sign_at lines change =
+      sign_at-part lines first last (change - first) (omega arith)
+      ∙ ap (sign_at lines) (let whole : first + (change - first) ≡ change = omega arith in whole) in
+      (change - first, ap is_change here ∙ is, omega arith, omega arith)
+
+  -- a stretch of lines near a change, with none before it and behind it, is tight
+  pub tight-part : (first last : ℕ) → first < last → last ≤ length lines
+      → ((k : ℕ) → k < last → first ≤ k → IsNear lines k)
+      → (0 < first → ¬ IsNear lines (first - 1))
+      → (last < length lines → ¬ IsNear lines last)
+      → IsTight (slice_range lines first last)
+  tight-part first last some within near before behind =
+      let len : length (slice_range lines first last) ≡ last - first =
+      length-part lines first last (omega arith) within in (
+        omega arith,
+        λ at below. near-part first last at some (omega arith) before behind (near (first + at)
+            (omega arith) (omega arith)),
+      )
+
+  -- ---- a hunk
+
+  -- from a place on, so far into both texts, the next hunk has the lines from `first` to `last`
+  pub record IsHunkOf (at old_at new_at first last : ℕ) (hunk : HunkText) : Type 0 where
+    pub from : at ≤ first
+    pub some : first < last
+    pub within : last ≤ length lines
+    pub far : AreFar at first
+    pub apart : 0 < at → at < first
+    pub has : hunk.lines ≡ slice_range lines first last
+    pub old_start : hunk.old_start ≡ old_at + (first - at)
+    pub new_start : hunk.new_start ≡ new_at + (first - at)
+    pub tight : IsTight hunk.lines
+
+  -- found by where a line near a change comes next, and then one that is not
+  pub hunk-found : (at old_at new_at first last : ℕ) (part : List SignedText)
+      → part ≡ slice_range lines first last → at ≤ first → first < last → last ≤ length lines
+      → AreFar at first → IsNear lines first
+      → ((k : ℕ) → k < last → first ≤ k → IsNear lines k)
+      → (last < length lines → ¬ IsNear lines last)
+      → (0 < at → at < length lines → ¬ IsNear lines at)
+      → IsHunkOf at old_at new_at first last
+      (hunk_at (old_at + (first - at)) (new_at + (first - at)) part)
+  hunk-found at old_at new_at first last part is from some within far here near behind edge =
+      let apart : 0 < at → at < first = λ positive. not_above at first
+      (λ more. let same : first ≡ at = omega arith in
+      edge positive (omega arith) (subst (IsNear lines) same here)) in
+      let before : 0 < first → ¬ IsNear lines (first - 1) = λ positive.
+      let less : at < first = not_above at first
+      (λ more. let again : at < first = apart (omega arith) in omega arith) in
+      far (first - 1) (omega arith) (omega arith) in
+      record {
+        from = from;
+        some = some;
+        within = within;
+        far = far;
+        apart = apart;
+        has = is;
+        old_start = refl;
+        new_start = refl;
+        tight = subst IsTight (sym is) (tight-part first last some within near before behind);
+      }
+
+  -- these are all hunks from a place on
+  abbrev pub AreHunks : ℕ → ℕ → ℕ → List HunkText → Type 0
+  AreHunks at old_at new_at [] = AreFar at (length lines)
+  AreHunks at old_at new_at (hunk ∷ hunks) =
+      (first : ℕ) × (last : ℕ) × IsHunkOf at old_at new_at first last hunk
+      × AreHunks last (old_end hunk) (new_end hunk) hunks
+
+  -- ---- they patch the texts
+
+  pub hunks-patch : (hunks : List HunkText) (at old_at new_at : ℕ) → at ≤ length lines
+      → AreHunks at old_at new_at hunks
+      → Patches old_at new_at (olds (drop at lines)) (news (drop at lines)) hunks
+  hunks-patch [] at old_at new_at within far =
+      let all : (news (slice_range lines at (length lines)) ≡ olds (slice_range lines at (length lines)))
+      × (length (olds (slice_range lines at (length lines))) ≡ length lines - at) =
+      far-same at (length lines) within (omega arith) far in
+      subst (λ ls. news ls ≡ olds ls) (take_rest lines at) all.0
+  hunks-patch (hunk ∷ hunks) at old_at new_at within (first, last, is, rest) =
+      let part : List SignedText = slice_range lines at first in
+      let mid : List SignedText = slice_range lines first last in
+      let left : List SignedText = drop last lines in
+      let order : at ≤ first = is.from in
+      let split : drop at lines ≡ part ++ (mid ++ left) =
+      drop_split lines at first is.from
+      ∙ ap (λ ls. part ++ ls) (drop_split lines first last (let some : first < last = is.some in omega arith)) in
+      let same : (news part ≡ olds part) × (length (olds part) ≡ first - at) =
+      far-same at first is.from (let some : first < last = is.some in let within : last ≤ length lines = is.within in omega arith) is.far in (
+        olds part,
+        olds left,
+        news left,
+        ap olds split ∙ olds-append part (mid ++ left)
+            ∙ ap (λ ls. olds part ++ ls)
+            (olds-append mid left ∙ ap (λ ls. olds ls ++ olds left) (sym is.has)),
+        ap news split ∙ news-append part (mid ++ left)
+            ∙ ap₂ (λ ks ls. ks ++ ls) same.0
+            (news-append mid left ∙ ap (λ ls. news ls ++ news left) (sym is.has)),
+        is.old_start ∙ ap (λ n. old_at + n) (sym same.1),
+        is.new_start ∙ ap (λ n. new_at + n) (sym same.1),
+        hunks-patch hunks last (old_end hunk) (new_end hunk) is.within rest,
+      )
+
+  hunks-tight : (hunks : List HunkText) (at old_at new_at : ℕ) → AreHunks at old_at new_at hunks
+      → All (λ hunk. IsTight hunk.lines) hunks
+  hunks-tight [] at old_at new_at far = All-nil (λ (hunk : HunkText). IsTight hunk.lines)
+  hunks-tight (hunk ∷ hunks) at old_at new_at (first, last, is, rest) =
+      All-cons (λ (hunk : HunkText). IsTight hunk.lines) hunk hunks is.tight
+      (hunks-tight hunks last (old_end hunk) (new_end hunk) rest)
+
+  hunks-apart : (hunks : List HunkText) (at old_at new_at : ℕ) → AreHunks at old_at new_at hunks
+      → AreApart hunks
+  hunks-apart [] at old_at new_at far = tt
+  hunks-apart (hunk ∷ []) at old_at new_at hunked = tt
+  hunks-apart (hunk ∷ next ∷ hunks) at old_at new_at (first, last, is, (next_first, next_last, then, rest)) =
+      let some : first < last = is.some in
+      let apart : last < next_first = then.apart (omega arith) in
+      let starts : next.old_start ≡ old_end hunk + (next_first - last) = then.old_start in (
+        omega arith,
+        hunks-apart (next ∷ hunks) last (old_end hunk) (new_end hunk) (next_first, next_last, then, rest),
+      )
+
+  pub hunks-diff : (hunks : List HunkText) → AreHunks 0 0 0 hunks
+      → IsDiff (olds lines) (news lines) hunks
+  hunks-diff hunks are = record {
+    patches = hunks-patch hunks 0 0 0 (omega arith) are;
+    tight = hunks-tight hunks 0 0 0 are;
+    apart = hunks-apart hunks 0 0 0 are;
+  }
+
+  -- ---- hunks that are written one after another
+
+  -- any hunks that are left and those so far are all, and the text has the latter
+  abbrev pub HasPushed : List ℕ → List ℕ → ℕ → ℕ → ℕ → Type 0
+  HasPushed old text at old_at new_at =
+      (hunks : List HunkText) → AreHunks at old_at new_at hunks
+      → (all : List HunkText) × AreHunks 0 0 0 all
+      × (old ++ flat_map hunk_text all ≡ text ++ flat_map hunk_text hunks)
+
+  pub HasPushed-none : (old : List ℕ) → HasPushed old old 0 0 0
+  HasPushed-none old = λ hunks are. (hunks, are, refl)
+
+  HasPushed-hunk : (old text next : List ℕ) (at old_at new_at first last : ℕ) (hunk : HunkText)
+      → HasPushed old text at old_at new_at → IsHunkOf at old_at new_at first last hunk
+      → next ≡ text ++ hunk_text hunk
+      → HasPushed old next last (old_end hunk) (new_end hunk)
+  HasPushed-hunk old text next at old_at new_at first last hunk before is writes hunks are =
+      let all = before (hunk ∷ hunks) (first, last, is, are) in (
+        all.0,
+        all.1,
+        all.2 ∙ sym (append_assoc text (hunk_text hunk) (flat_map hunk_text hunks))
+            ∙ ap (λ t. t ++ flat_map hunk_text hunks) (sym writes),
+      )
+
+  -- its head was pushed, and its lines
+  pub HasPushed-next : (old text headed next : List ℕ)
+      (at old_at new_at first last old_len new_len : ℕ) (part : List SignedText)
+      → HasPushed old text at old_at new_at
+      → IsHunkOf at old_at new_at first last (hunk_at (old_at + (first - at)) (new_at + (first - at)) part)
+      → old_len ≡ length (olds part) → new_len ≡ length (news part)
+      → headed ≡ text ++ head_text (range_text (old_at + (first - at)) old_len)
+      (range_text (new_at + (first - at)) new_len)
+      → next ≡ headed ++ flat_map line_text part
+      → HasPushed old next last (old_at + (first - at) + old_len) (new_at + (first - at) + new_len)
+  HasPushed-next old text headed next at old_at new_at first last old_len new_len part before is olds_are
+      news_are head then =
+      let old_start : ℕ = old_at + (first - at) in
+      let new_start : ℕ = new_at + (first - at) in
+      let hunk : HunkText = hunk_at old_start new_start part in
+      let ranges = ap₂ (λ n m. head_text (range_text old_start n) (range_text new_start m)) olds_are
+      news_are in
+      let writes : next ≡ text ++ hunk_text hunk =
+      then ∙ ap (λ t. t ++ flat_map line_text part) (head ∙ ap (λ t. text ++ t) ranges)
+      ∙ append_assoc text (head_text (range_text old_start (length (olds part)))
+      (range_text new_start (length (news part)))) (flat_map line_text part) in
+      let pushed = HasPushed-hunk old text next at old_at new_at first last hunk before is writes in
+      subst (λ n. HasPushed old next last (old_start + n) (new_start + new_len)) (sym olds_are)
+      (subst (λ n. HasPushed old next last (old_start + length (olds part)) (new_start + n))
+      (sym news_are) pushed)
+
+  pub HasPushed-all : (old text : List ℕ) (at old_at new_at : ℕ)
+      → HasPushed old text at old_at new_at → AreFar at (length lines)
+      → ArePushed lines old text
+  HasPushed-all old text at old_at new_at before far =
+      let all = before [] far in
+      (all.0, hunks-diff all.0 all.1, sym (append-nil text) ∙ sym all.2)
+
+pub view-part : (lines : List SignedLine) (first last : ℕ)
+    → map signed_view (take (last - first) (drop first lines))
+    ≡ slice_range (map signed_view lines) first last
+view-part lines first last =
+    sym (take-map signed_view (last - first) (drop first lines))
+    ∙ ap (take (last - first)) (sym (drop-map signed_view first lines))
+
+pub lens-part : (lines : List SignedText) (first last : ℕ) → first ≤ last → last ≤ length lines
+    → (length (olds (slice_range lines first last)) ≤ last - first)
+    × (length (news (slice_range lines first last)) ≤ last - first)
+lens-part lines first last order within =
+    let part : List SignedText = slice_range lines first last in
+    let len : length part ≡ last - first = length-part lines first last order within in
+    let old_most = olds-le part in
+    let new_most = news-le part in
+    (omega arith, omega arith)

@@ -1,0 +1,277 @@
+-- The lines of a text, lines with signs, those that either text has, and where they change.
+use Rattle.std.proofs.Math.Bool.{beq}
+use Rattle.std.proofs.Common.{◌≡◌, ◌≢◌, ◌∙◌, ap, ap₂, refl, subst, sym, ℕ, zero, suc, ◌+◌, ◌-◌, ◌<◌}
+use Rattle.std.proofs.Common.{◌≤◌, arith, Bool, true, false}
+use Rattle.std.proofs.Common.{List, [], ◌∷◌, ◌++◌, length, take, drop, map, get_or, ne_eqb, add-one}
+use Rattle.std.proofs.Common.{Bor, IsTrue, cond, not}
+use Rattle.std.proofs.lemmas.Slice.Eq.{bytes_eq-Decides}
+use Rattle.std.specs.Str.{bytes_eq}
+use Rattle.std.proofs.lemmas.Bool.{false≢true}
+use Rattle.std.proofs.lemmas.List.{drop-map, get_or-map, take_more_same, take_rest}
+use Rattle.std.proofs.lemmas.List.{append-nil, append_assoc, length-map, map-append, take-map}
+use Rattle.std.proofs.lemmas.List.Sums.{count_by-le-length, length-filter}
+use Rattle.std.proofs.Math.Seq.{take-add}
+use Rattle.std.proofs.lemmas.List.Elements.{filter-append}
+use Rattle.std.specs.Prelude.{count_by, filter}
+use Rattle.std.proofs.Common.{All, length-take, take-append-drop}
+use Rattle.std.proofs.lemmas.List.{get_or-take, take_more}
+use Rattle.std.proofs.lemmas.List.Elements.{All-from_get_or}
+use Rattle.textwrap_text.proofs.TextLines.{ended_parts-front, ended_parts-whole}
+use Rattle.unified_diff.specs.Differences.{AreSameAt, IsLineAt, IsNearIf, SignedText, is_change}
+use Rattle.unified_diff.specs.Differences.{is_new, is_old, news, olds, sign_at, signed_text}
+use Rattle.unified_diff.specs.Differences.{signed_view, text_lines}
+use Rattle.unified_diff.specs.declared.differences.Sign.{Sign}
+use Rattle.unified_diff.specs.declared.differences.Sign.TheVariants.{Kept, Removed, Added}
+use Rattle.unified_diff.specs.declared.differences.SignedLine.{SignedLine}
+
+-- ---- the first line of a text
+
+pub text_lines-first : (text : List ℕ) (n : ℕ) → n < length text
+    → ((k : ℕ) → k < n → get_or text k 0 ≢ 10) → get_or text n 0 ≡ 10
+    → text_lines text ≡ take (n + 1) text ∷ text_lines (drop (n + 1) text)
+text_lines-first text n within before here =
+    let line : take (n + 1) text ≡ take n text ++ 10 ∷ [] =
+    take_more text n 0 within ∙ ap (λ b. take n text ++ b ∷ []) here in
+    let rest = drop (n + 1) text in
+    let whole = sym (take-append-drop (n + 1) text) ∙ ap (λ l. l ++ rest) line
+    ∙ append_assoc (take n text) (10 ∷ []) rest in
+    let free : All (λ c. c ≢ 10) (take n text) = All-from_get_or (λ c. c ≢ 10) (take n text) 0
+    (λ k below.
+    let under : k < n = omega (arith, below, length-take n text) in
+    rw (get_or-take n text k 0 under) (before k under)) in
+    ap text_lines whole ∙ ended_parts-front (take n text) rest free
+    ∙ ap (λ l. l ∷ text_lines rest) (sym line)
+
+pub text_lines-one : (text : List ℕ) → 0 < length text
+    → ((k : ℕ) → k < length text → get_or text k 0 ≢ 10) → text_lines text ≡ text ∷ []
+text_lines-one text some lacks =
+    ended_parts-whole text (All-from_get_or (λ c. c ≢ 10) text 0 lacks)
+    (λ none. omega (arith, some, ap length none))
+
+-- ---- signs
+
+pub sign_at-view : (lines : List SignedLine) (k : ℕ) (d : SignedLine) → k < length lines
+    → sign_at (map signed_view lines) k ≡ (get_or lines k d).sign
+sign_at-view [] k d within = absurd (omega arith)
+sign_at-view (line ∷ lines) zero d within = refl
+sign_at-view (line ∷ lines) (suc k) d within = sign_at-view lines k d (omega arith)
+
+pub sign_at-past : (lines : List SignedText) (k : ℕ) → length lines ≤ k → sign_at lines k ≡ Kept
+sign_at-past [] k past = refl
+sign_at-past (line ∷ lines) zero past = absurd (omega arith)
+sign_at-past (line ∷ lines) (suc k) past = sign_at-past lines k (omega arith)
+
+pub change-within : (lines : List SignedText) (k : ℕ) → IsTrue (is_change (sign_at lines k))
+    → k < length lines
+change-within [] k is = absurd (cc is)
+change-within (line ∷ lines) zero is = omega arith
+change-within (line ∷ lines) (suc k) is = let rest = change-within lines k is in omega arith
+
+-- ---- the lines of either text
+
+pub olds-append : (xs ys : List SignedText) → olds (xs ++ ys) ≡ olds xs ++ olds ys
+olds-append xs ys =
+    ap (map (λ s. s.line)) (filter-append (λ s. is_old s.sign) xs ys)
+    ∙ map-append (λ s. s.line) (filter (λ s. is_old s.sign) xs) (filter (λ s. is_old s.sign) ys)
+
+pub news-append : (xs ys : List SignedText) → news (xs ++ ys) ≡ news xs ++ news ys
+news-append xs ys =
+    ap (map (λ s. s.line)) (filter-append (λ s. is_new s.sign) xs ys)
+    ∙ map-append (λ s. s.line) (filter (λ s. is_new s.sign) xs) (filter (λ s. is_new s.sign) ys)
+
+pub olds-kept : (lines : List (List ℕ)) → olds (map (signed_text Kept) lines) ≡ lines
+olds-kept [] = refl
+olds-kept (line ∷ lines) = ap (λ ls. line ∷ ls) (olds-kept lines)
+
+pub news-kept : (lines : List (List ℕ)) → news (map (signed_text Kept) lines) ≡ lines
+news-kept [] = refl
+news-kept (line ∷ lines) = ap (λ ls. line ∷ ls) (news-kept lines)
+
+pub olds-removed : (lines : List (List ℕ)) → olds (map (signed_text Removed) lines) ≡ lines
+olds-removed [] = refl
+olds-removed (line ∷ lines) = ap (λ ls. line ∷ ls) (olds-removed lines)
+
+pub news-removed : (lines : List (List ℕ)) → news (map (signed_text Removed) lines) ≡ []
+news-removed [] = refl
+news-removed (line ∷ lines) = news-removed lines
+
+pub olds-added : (lines : List (List ℕ)) → olds (map (signed_text Added) lines) ≡ []
+olds-added [] = refl
+olds-added (line ∷ lines) = olds-added lines
+
+pub news-added : (lines : List (List ℕ)) → news (map (signed_text Added) lines) ≡ lines
+news-added [] = refl
+news-added (line ∷ lines) = ap (λ ls. line ∷ ls) (news-added lines)
+
+-- ---- how many they are
+
+filter-view : (p : Sign → Bool) (lines : List SignedLine)
+    → filter (λ s. p s.sign) (map signed_view lines)
+    ≡ map signed_view (filter (λ line. p line.sign) lines)
+filter-view p [] = refl
+filter-view p (line ∷ lines) =
+    elim (p line.sign) as (λ b. cond b (signed_view line ∷ filter (λ s. p s.sign)
+    (map signed_view lines)) (filter (λ s. p s.sign) (map signed_view lines))
+    ≡ map signed_view (cond b (line ∷ filter (λ l. p l.sign) lines) (filter (λ l. p l.sign) lines))) [
+      | true ↦ ap (λ ls. signed_view line ∷ ls) (filter-view p lines)
+      | false ↦ filter-view p lines
+    ]
+
+count_signs : (p : Sign → Bool) (lines : List SignedLine)
+    → count_by (λ line. p line.sign) lines
+    ≡ length (map (λ s. s.line) (filter (λ s. p s.sign) (map signed_view lines)))
+count_signs p lines =
+    sym (length-filter (λ line. p line.sign) lines)
+    ∙ sym (length-map (filter (λ line. p line.sign) lines) signed_view)
+    ∙ ap length (sym (filter-view p lines))
+    ∙ sym (length-map (filter (λ s. p s.sign) (map signed_view lines)) (λ s. s.line))
+
+pub count_olds : (lines : List SignedLine)
+    → count_by (λ line. is_old line.sign) lines ≡ length (olds (map signed_view lines))
+count_olds lines = count_signs is_old lines
+
+pub count_news : (lines : List SignedLine)
+    → count_by (λ line. is_new line.sign) lines ≡ length (news (map signed_view lines))
+count_news lines = count_signs is_new lines
+
+-- both have at most all of them
+signs-le : (p : Sign → Bool) (lines : List SignedText)
+    → length (map (λ s. s.line) (filter (λ s. p s.sign) lines)) ≤ length lines
+signs-le p lines =
+    let counted = length-map (filter (λ s. p s.sign) lines) (λ s. s.line)
+    ∙ length-filter (λ s. p s.sign) lines in
+    let most = count_by-le-length (λ s. p s.sign) lines in
+    omega arith
+
+pub olds-le : (lines : List SignedText) → length (olds lines) ≤ length lines
+olds-le lines = signs-le is_old lines
+
+pub news-le : (lines : List SignedText) → length (news lines) ≤ length lines
+news-le lines = signs-le is_new lines
+
+-- ---- lines that are kept, and a change behind them
+
+pub olds-grown : (old after removed_too all : List SignedText) (kept removed added : List (List ℕ))
+    → after ≡ old ++ map (signed_text Kept) kept
+    → removed_too ≡ after ++ map (signed_text Removed) removed
+    → all ≡ removed_too ++ map (signed_text Added) added
+    → olds all ≡ olds old ++ (kept ++ removed)
+olds-grown old after removed_too all kept removed added a b c =
+    rw (c, olds-append, olds-added, append-nil, b, olds-append, olds-removed, a, olds-append, olds-kept)
+    (append_assoc (olds old) kept removed)
+
+pub news-grown : (old after removed_too all : List SignedText) (kept removed added : List (List ℕ))
+    → after ≡ old ++ map (signed_text Kept) kept
+    → removed_too ≡ after ++ map (signed_text Removed) removed
+    → all ≡ removed_too ++ map (signed_text Added) added
+    → news all ≡ news old ++ (kept ++ added)
+news-grown old after removed_too all kept removed added a b c =
+    rw (c, news-append, news-added, b, news-append, news-removed, append-nil, a, news-append, news-kept)
+    (append_assoc (news old) kept added)
+
+-- the first lines of two lists, read one after the other
+pub taken-lines : (lines : List (Bor (List ℕ))) (kept changed : ℕ)
+    → map (λ line. line.now) (take kept lines)
+    ++ map (λ line. line.now) (take changed (drop kept lines))
+    ≡ take (kept + changed) (map (λ line. line.now) lines)
+taken-lines lines kept changed =
+    sym (map-append (λ line. line.now) (take kept lines) (take changed (drop kept lines)))
+    ∙ ap (map (λ line. line.now)) (sym (take-add kept changed lines))
+    ∙ sym (take-map (λ line. line.now) (kept + changed) lines)
+
+-- ---- lines near a change
+
+pub IsNearIf-other : (lines : List SignedText) (at : ℕ) (found near : Bool)
+    → beq found near ≡ false → IsNearIf found lines at → IsNearIf (not near) lines at
+IsNearIf-other lines at true true differ is = cc
+IsNearIf-other lines at true false differ is = is
+IsNearIf-other lines at false true differ is = is
+IsNearIf-other lines at false false differ is = cc
+
+pub IsNearIf-same : (lines : List SignedText) (at : ℕ) (found near : Bool)
+    → beq found near ≡ true → IsNearIf found lines at → IsNearIf near lines at
+IsNearIf-same lines at true true same is = is
+IsNearIf-same lines at true false same is = cc
+IsNearIf-same lines at false true same is = cc
+IsNearIf-same lines at false false same is = is
+
+-- ---- lines that are the same
+
+pub same-more : (old new : List (Bor (List ℕ))) (n : ℕ) (none : Bor (List ℕ))
+    → n < length old → n < length new
+    → take n (map (λ line. line.now) old) ≡ take n (map (λ line. line.now) new)
+    → bytes_eq (get_or old n none).now (get_or new n none).now ≡ true
+    → take (n + 1) (map (λ line. line.now) old) ≡ take (n + 1) (map (λ line. line.now) new)
+same-more old new n none in_old in_new before here =
+    let olds : List (List ℕ) = map (λ line. line.now) old in
+    let news : List (List ℕ) = map (λ line. line.now) new in
+    let same : get_or olds n [] ≡ get_or news n [] =
+    get_or-map (λ line. line.now) old n none [] in_old
+    ∙ (bytes_eq-Decides (get_or old n none).now (get_or new n none).now).0 here
+    ∙ sym (get_or-map (λ line. line.now) new n none [] in_new) in
+    take_more_same olds news n [] (rw length-map in_old) (rw length-map in_new) before same
+
+-- lines of one list, where another one has the same, and those behind them
+pub taken-same : (old new : List (Bor (List ℕ))) (kept changed : ℕ)
+    → take kept (map (λ line. line.now) old) ≡ take kept (map (λ line. line.now) new)
+    → map (λ line. line.now) (take kept old)
+    ++ map (λ line. line.now) (take changed (drop kept new))
+    ≡ take (kept + changed) (map (λ line. line.now) new)
+taken-same old new kept changed same =
+    ap (λ ls. ls ++ map (λ line. line.now) (take changed (drop kept new)))
+    (sym (take-map (λ line. line.now) kept old) ∙ same ∙ take-map (λ line. line.now) kept new)
+    ∙ taken-lines new kept changed
+
+-- lines that were taken, and those behind them
+pub taken-further : (lines : List (Bor (List ℕ))) (at more : ℕ) (before after : List (List ℕ))
+    → before ≡ take at (map (λ line. line.now) lines)
+    → after ≡ before
+    ++ take more (map (λ line. line.now) (take (length lines - at) (drop at lines)))
+    → after ≡ take (at + more) (map (λ line. line.now) lines)
+taken-further lines at more before after was is =
+    let rest : map (λ line. line.now) (take (length lines - at) (drop at lines))
+    ≡ drop at (map (λ line. line.now) lines) =
+    ap (map (λ line. line.now)) (take_rest lines at) ∙ sym (drop-map (λ line. line.now) at lines) in
+    is ∙ ap₂ (λ ls ms. ls ++ take more ms) was rest
+    ∙ sym (take-add at more (map (λ line. line.now) lines))
+
+-- ---- lines at places
+
+pub line-at : (lines : List (Bor (List ℕ))) (at : ℕ) (found : Bor (List ℕ)) (line : List ℕ)
+    (equal : Bool) → at < length lines → found ≡ get_or lines at found
+    → equal ≡ bytes_eq found.now line
+    → (IsTrue equal → IsLineAt (map (λ l. l.now) lines) at line)
+    × (IsLineAt (map (λ l. l.now) lines) at line → IsTrue equal)
+line-at lines at found line equal within is equal_is =
+    let all : List (List ℕ) = map (λ l. l.now) lines in
+    let here : get_or all at [] ≡ found.now =
+    get_or-map (λ l. l.now) lines at found [] within ∙ ap (λ l. l.now) (sym is) in (
+      λ yes. (rw length-map within, here ∙ (bytes_eq-Decides found.now line).0 (sym equal_is ∙ yes)),
+      λ same. equal_is ∙ (bytes_eq-Decides found.now line).1 (sym here ∙ same.1),
+    )
+
+-- what stands at a place of the one list is what stands at a place of the other
+pub same-at : (old new : List (Bor (List ℕ))) (k m : ℕ) (found : Bor (List ℕ)) → k < length old
+    → found ≡ get_or old k found
+    → (IsLineAt (map (λ l. l.now) new) m found.now
+    → AreSameAt (map (λ l. l.now) old) k (map (λ l. l.now) new) m)
+    × (AreSameAt (map (λ l. l.now) old) k (map (λ l. l.now) new) m
+    → IsLineAt (map (λ l. l.now) new) m found.now)
+same-at old new k m found within is =
+    let olds : List (List ℕ) = map (λ l. l.now) old in
+    let news : List (List ℕ) = map (λ l. l.now) new in
+    let here : get_or olds k [] ≡ found.now =
+    get_or-map (λ l. l.now) old k found [] within ∙ ap (λ l. l.now) (sym is) in (
+      λ at. (rw length-map within, subst (IsLineAt news m) (sym here) at),
+      λ same. subst (IsLineAt news m) here same.1,
+    )
+
+pub other-at : (old new : List (Bor (List ℕ))) (n : ℕ) (none : Bor (List ℕ))
+    → n < length old → n < length new
+    → bytes_eq (get_or old n none).now (get_or new n none).now ≡ false
+    → ¬ AreSameAt (map (λ l. l.now) old) n (map (λ l. l.now) new) n
+other-at old new n none in_old in_new differ same =
+    let equal = (bytes_eq-Decides (get_or old n none).now (get_or new n none).now).1
+    (sym (get_or-map (λ l. l.now) old n none [] in_old) ∙ sym same.1.1
+    ∙ get_or-map (λ l. l.now) new n none [] in_new) in
+    false≢true (sym differ ∙ equal)

@@ -1,0 +1,3 @@
+pub mod DiffHunks
+pub mod DiffLaws
+pub mod DiffLines

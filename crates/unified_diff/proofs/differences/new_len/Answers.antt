@@ -1,0 +1,10 @@
+use Rattle.std.proofs.Common.{◌≡◌, ◌∙◌, rules}
+use Rattle.std.specs.Prelude.{count_by}
+use Rattle.unified_diff.specs.Differences.{is_new}
+use Rattle.unified_diff.proofs.DiffLines.{count_news}
+use Rattle.unified_diff.proofs.differences.new_len.Goals as goal
+
+pub returns : goal.returns
+returns c =
+    let counted : c.count.result ≡ count_by (λ line. is_new line.sign) c.args.lines.now = search rules in
+    counted ∙ count_news c.args.lines.now

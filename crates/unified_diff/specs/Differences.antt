@@ -1,0 +1,161 @@
+-- What changes from one text to another, line by line, and how a unified diff writes it.
+use Rattle.std.specs.Prelude.{◌≡◌, ℕ, ◌+◌, ◌<◌, ◌≤◌, ◌==◌, Bool, true, false, List, [], ◌∷◌, ◌++◌}
+use Rattle.std.specs.Prelude.{All, IsTrue, codes, decimal, filter, length, map, slice_index_or}
+use Rattle.std.specs.Prelude.{if◌then◌else◌, nat_eq, ⊤}
+use Rattle.std.specs.List.{ends_with, flat_map, list_any}
+use Rattle.textwrap_text.specs.LineEnding.{line_feed}
+use Rattle.textwrap_text.specs.TextLines.{ended_parts}
+use Rattle.unified_diff.specs.declared.differences.Sign.{Sign}
+use Rattle.unified_diff.specs.declared.differences.Sign.TheVariants.{Kept, Removed, Added}
+use Rattle.unified_diff.specs.declared.differences.SignedLine.{SignedLine}
+
+-- ---- lines
+
+-- the lines of a text, each with its line feed, which only the last may lack
+abbrev pub text_lines : List ℕ → List (List ℕ)
+text_lines text = ended_parts text
+
+-- this line stands at a place
+abbrev pub IsLineAt : List (List ℕ) → ℕ → List ℕ → Type 0
+IsLineAt lines at line = (at < length lines) × (slice_index_or lines at [] ≡ line)
+
+-- the line at the one place is that at the other
+abbrev pub AreSameAt : List (List ℕ) → ℕ → List (List ℕ) → ℕ → Type 0
+AreSameAt old old_at new new_at =
+    (old_at < length old) × IsLineAt new new_at (slice_index_or old old_at [])
+
+-- a line, and what becomes of it
+pub record SignedText : Type 0 where
+  pub sign : Sign
+  pub line : List ℕ
+
+abbrev pub signed_text : Sign → List ℕ → SignedText
+signed_text sign line = record { sign = sign; line = line }
+
+abbrev pub signed_view : SignedLine → SignedText
+signed_view signed = signed_text signed.sign signed.line.now
+
+-- the old text has a line of this sign; the new text has it; only one has it
+abbrev pub is_old : Sign → Bool
+is_old Added = false
+is_old _ = true
+
+abbrev pub is_new : Sign → Bool
+is_new Removed = false
+is_new _ = true
+
+abbrev pub is_change : Sign → Bool
+is_change Kept = false
+is_change _ = true
+
+-- the lines that the old text has of these, and those that the new one has
+abbrev pub olds : List SignedText → List (List ℕ)
+olds signed = map (λ s. s.line) (filter (λ s. is_old s.sign) signed)
+
+abbrev pub news : List SignedText → List (List ℕ)
+news signed = map (λ s. s.line) (filter (λ s. is_new s.sign) signed)
+
+-- ---- hunks
+
+-- lines that follow one another, and how many lines of both texts stand before them
+pub record HunkText : Type 0 where
+  pub old_start : ℕ
+  pub new_start : ℕ
+  pub lines : List SignedText
+
+abbrev pub old_end : HunkText → ℕ
+old_end hunk = hunk.old_start + length (olds hunk.lines)
+
+abbrev pub new_end : HunkText → ℕ
+new_end hunk = hunk.new_start + length (news hunk.lines)
+
+-- the hunks lead from the old lines to the new ones, and back: before and behind each the same
+-- lines stand in both, and at its places its own. So many lines of both texts came before
+abbrev pub Patches : ℕ → ℕ → List (List ℕ) → List (List ℕ) → List HunkText → Type 0
+Patches old_at new_at old new [] = new ≡ old
+Patches old_at new_at old new (hunk ∷ hunks) =
+    (kept : List (List ℕ)) × (old_left : List (List ℕ)) × (new_left : List (List ℕ))
+    × (old ≡ kept ++ (olds hunk.lines ++ old_left)) × (new ≡ kept ++ (news hunk.lines ++ new_left))
+    × (hunk.old_start ≡ old_at + length kept) × (hunk.new_start ≡ new_at + length kept)
+    × Patches (old_end hunk) (new_end hunk) old_left new_left hunks
+
+-- what becomes of the line at a place; past the last one, nothing changes
+abbrev pub sign_at : List SignedText → ℕ → Sign
+sign_at lines at = slice_index_or (map (λ s. s.sign) lines) at Kept
+
+-- the line at a place is changed, or at most three lines away from one that is
+abbrev pub IsNear : List SignedText → ℕ → Type 0
+IsNear lines at =
+    (change : ℕ) × IsTrue (is_change (sign_at lines change)) × (change ≤ at + 3)
+    × (at ≤ change + 3)
+
+abbrev pub IsNearIf : Bool → List SignedText → ℕ → Type 0
+IsNearIf true lines at = IsNear lines at
+IsNearIf false lines at = ¬ IsNear lines at
+
+-- there is a line, and each is near a change
+abbrev pub IsTight : List SignedText → Type 0
+IsTight lines = (0 < length lines) × ((at : ℕ) → at < length lines → IsNear lines at)
+
+-- between two hunks a line stands that belongs to none
+abbrev pub AreApart : List HunkText → Type 0
+AreApart [] = ⊤
+AreApart (hunk ∷ []) = ⊤
+AreApart (hunk ∷ next ∷ hunks) = (old_end hunk < next.old_start) × AreApart (next ∷ hunks)
+
+-- the hunks of a diff of two texts, by their lines
+pub record IsDiff (old new : List (List ℕ)) (hunks : List HunkText) : Type 0 where
+  pub patches : Patches 0 0 old new hunks
+  pub tight : All (λ hunk. IsTight hunk.lines) hunks
+  pub apart : AreApart hunks
+
+-- ---- how they are written
+
+abbrev pub sign_byte : Sign → ℕ
+sign_byte Kept = 32
+sign_byte Removed = 45
+sign_byte Added = 43
+
+-- what stands behind a line that has no line feed: one, and a line that says so
+abbrev pub missing_feed : List ℕ → List ℕ
+missing_feed line =
+    if ends_with nat_eq line (line_feed ∷ []) then []
+    else codes "\n\\ No newline at end of file\n"
+
+abbrev pub line_text : SignedText → List ℕ
+line_text signed = sign_byte signed.sign ∷ (signed.line ++ missing_feed signed.line)
+
+-- the number of the first line, and how many they are; of none, the number of the line before
+abbrev pub range_text : ℕ → ℕ → List ℕ
+range_text start len =
+    decimal (if len == 0 then start else start + 1) ++ (codes "," ++ decimal len)
+
+-- the line that a hunk begins with, by its ranges in both texts
+abbrev pub head_text : List ℕ → List ℕ → List ℕ
+head_text old new = codes "@@ -" ++ (old ++ (codes " +" ++ (new ++ codes " @@\n")))
+
+abbrev pub hunk_text : HunkText → List ℕ
+hunk_text hunk =
+    head_text (range_text hunk.old_start (length (olds hunk.lines)))
+    (range_text hunk.new_start (length (news hunk.lines)))
+    ++ flat_map line_text hunk.lines
+
+-- behind a name with a blank a tab says where it ends
+abbrev pub name_end : List ℕ → List ℕ
+name_end name = if list_any (λ c. c == 32) name then codes "\t\n" else codes "\n"
+
+abbrev pub names_text : List ℕ → List ℕ
+names_text name =
+    codes "--- " ++ (name ++ (name_end name ++ (codes "+++ " ++ (name ++ name_end name))))
+
+-- a text is that of a diff of two texts, under this name
+abbrev pub IsDiffText : List ℕ → List ℕ → List ℕ → List ℕ → Type 0
+IsDiffText name old new text =
+    (hunks : List HunkText) × IsDiff (text_lines old) (text_lines new) hunks
+    × (text ≡ names_text name ++ flat_map hunk_text hunks)
+
+-- the hunks of these lines were added to a text
+abbrev pub ArePushed : List SignedText → List ℕ → List ℕ → Type 0
+ArePushed lines old new =
+    (hunks : List HunkText) × IsDiff (olds lines) (news lines) hunks
+    × (new ≡ old ++ flat_map hunk_text hunks)

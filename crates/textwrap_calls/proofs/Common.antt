@@ -66,18 +66,13 @@ pub use Rattle.textwrap_plain.specs.Tables.{plain_parts}
 pub use Rattle.textwrap_plain.specs.declared.display.PlainColumn.{PlainColumn}
 pub use Rattle.textwrap_calls.specs.Columns.{ArePlacedRows}
 pub use Rattle.textwrap_calls.specs.Display.{alignment_of}
-pub use Rattle.textwrap_calls.specs.Fragments.{AreEndsOf, ends_from, ends_of}
-pub use Rattle.textwrap_calls.specs.JustifiedSteps.{justified_at}
 pub use Rattle.textwrap_calls.specs.Options.{algorithm_of, Divides, says_yes, separator_of}
 pub use Rattle.textwrap_calls.specs.Options.{settings_of, splitter_of}
-pub use Rattle.textwrap_calls.specs.Pieces.{offsets_past, piece_places}
 pub use Rattle.textwrap_calls.specs.Reported.{WritesReported}
 pub use Rattle.textwrap_calls.specs.Room.{WritesText}
 pub use Rattle.textwrap_calls.specs.Status.{done, too_small}
-pub use Rattle.textwrap_calls.specs.Steps.{ArePlacedCuts}
 pub use Rattle.textwrap_calls.specs.Tables.{HasTextLines, HasTexts, lines_in, parts_of_column}
 pub use Rattle.textwrap_calls.specs.Tables.{shape_of_column}
-pub use Rattle.textwrap_calls.specs.TextSteps.{text_step_cuts}
 pub use Rattle.textwrap_calls.specs.Texts.{bytes_of, IsText}
 pub use Rattle.textwrap_calls.specs.Wrapping.{ShowLines, WritesLines}
 pub use Rattle.textwrap_calls.specs.declared.options.TextwrapOptions.{TextwrapOptions}

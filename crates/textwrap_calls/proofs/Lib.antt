@@ -1,12 +1,7 @@
 pub mod Common
-pub mod EndLemmas
 pub mod Lengths
-pub mod OffsetLemmas
-pub mod PieceLemmas
 pub mod PlaceLemmas
 pub mod PrintableLines
 pub mod ReadOptions
 pub mod RoomLemmas
-pub mod StepLemmas
 pub mod TextLemmas
-pub mod TextStepLemmas

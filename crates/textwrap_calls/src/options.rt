@@ -62,7 +62,7 @@ pub struct TextwrapOptions<'a> {
 ///
 /// # Errors
 /// The status `UNKNOWN_OPTIONS` or `NOT_UTF8`.
-pub(crate) fn read_options<'a>(given: &TextwrapOptions<'a>) -> Result<PlainOptions<'a>, u32>
+pub fn read_options<'a>(given: &TextwrapOptions<'a>) -> Result<PlainOptions<'a>, u32>
     ensures read { IfOk result (λ options. AreRead given.now options) }
     ensures known { IfOk result (λ _. AreKnown given.now) }
     ensures texts { IfOk result (λ _. AreTexts given.now) }
@@ -112,7 +112,7 @@ fn read_indent(indent: &[u8]) -> Option<&str>
 }
 
 /// The status of a call that is handed a text that is no UTF-8.
-pub(crate) fn refusal(given: &TextwrapOptions<'_>) -> u32
+pub fn refusal(given: &TextwrapOptions<'_>) -> u32
     ensures unknown { result ≡ unknown_options ↔ ¬ AreKnown given.now }
     ensures not_utf8 { result ≡ not_utf8 ↔ AreKnown given.now }
     ensures statuses { (result ≡ unknown_options) ⊎ (result ≡ not_utf8) }
@@ -125,7 +125,7 @@ pub(crate) fn refusal(given: &TextwrapOptions<'_>) -> u32
 }
 
 /// Whether the version is known, and each number means something.
-pub(crate) fn are_known(given: &TextwrapOptions<'_>) -> bool
+pub fn are_known(given: &TextwrapOptions<'_>) -> bool
     ensures { result ≡ true ↔ AreKnown given.now }
 {
     given.version == VERSION

@@ -13,7 +13,7 @@ use textwrap_lines::placed::{LineCounts, Place, PlacedLines, write_places};
 
 /// Writes where the lines stand to the front of `lines`, and those that are no slices of the text
 /// to the front of the room, as much of both as has room; and how many they are, and how long.
-pub(crate) fn put_lines(
+pub fn put_lines(
     reported: &PlacedLines<Global>,
     lines: &mut [TextwrapLine],
     count: &mut usize,
@@ -30,7 +30,7 @@ pub(crate) fn put_lines(
 }
 
 /// The same for a text that is one line, which begins where it does.
-pub(crate) fn put_line(
+pub fn put_line(
     line: &[u8],
     lines: &mut [TextwrapLine],
     count: &mut usize,
@@ -52,7 +52,7 @@ pub(crate) fn put_line(
 
 /// Says how long lines are, and whether they have room: for so many lines, and so many bytes of those
 /// that are no slices of the text.
-pub(crate) fn report_counts(
+pub fn report_counts(
     counts: LineCounts,
     lines: usize,
     room: usize,

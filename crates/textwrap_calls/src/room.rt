@@ -7,7 +7,7 @@ ghost use Rattle.textwrap_text.specs.LentText.{written_over};
 use crate::status::{DONE, TOO_SMALL};
 
 /// Writes the items to the front of the room, as many as it has room for, and how many they are.
-pub(crate) fn put<T: Copy>(items: &[T], room: &mut [T], len: &mut usize) -> u32
+pub fn put<T: Copy>(items: &[T], room: &mut [T], len: &mut usize) -> u32
     ensures text { WritesText (λ answer. answer ≡ items.now) result room.old room.new len.old len.new }
     ensures len { len.new ≡ length items.now }
     ensures statuses { (result ≡ done) ⊎ (result ≡ too_small) }
@@ -25,7 +25,7 @@ fn put_front<T: Copy>(items: &[T], room: &mut [T])
 }
 
 /// Says how long an answer is, and whether it has room.
-pub(crate) fn report(answer: usize, room: usize, len: &mut usize) -> u32
+pub fn report(answer: usize, room: usize, len: &mut usize) -> u32
     ensures len { len.new ≡ answer }
     ensures small { result ≡ too_small ↔ room < answer }
     ensures statuses { (result ≡ done) ⊎ (result ≡ too_small) }

@@ -1,8 +1,8 @@
 //! Fragments of the caller's own, divided into lines.
 use super::places::{NO_OFFSET, OffsetsRow, assert_offsets};
 use super::plain::{BEFORE, OffsetsCall};
-use textwrap_calls::fragments::{TextwrapFragment, TextwrapPenalties};
 use textwrap_calls::status::{DONE, OVERFLOW, TOO_SMALL, UNKNOWN_OPTIONS};
+use textwrap_step_calls::fragments::{TextwrapFragment, TextwrapPenalties};
 
 /// A fragment of 5.
 const FIVE: TextwrapFragment = TextwrapFragment {

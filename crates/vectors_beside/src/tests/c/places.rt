@@ -4,8 +4,8 @@ use super::plain::{
     assert_room, assert_told, write_lines, write_offsets, write_pieces,
 };
 use std::process::Abort;
-use textwrap_calls::pieces::TextwrapPiece;
 use textwrap_calls::wrapping::TextwrapLine;
+use textwrap_step_calls::pieces::TextwrapPiece;
 
 /// How many lines, pieces or offsets the longest row has.
 const MOST: usize = 8;

@@ -9,29 +9,29 @@ use textwrap_calls::display::{
     textwrap_align, textwrap_fill_justified, textwrap_justify, textwrap_shorten,
 };
 use textwrap_calls::filling::textwrap_fill;
-use textwrap_calls::fragments::{
-    TextwrapFragment, TextwrapPenalties, textwrap_wrap_first_fit, textwrap_wrap_optimal_fit,
-};
 use textwrap_calls::indentation::{textwrap_dedent, textwrap_indent};
-use textwrap_calls::justified_steps::textwrap_fill_justified_at;
 use textwrap_calls::line_lists::{textwrap_carry_styles, textwrap_shorten_lines};
 use textwrap_calls::options::{TextwrapOptions, VERSION};
-use textwrap_calls::pieces::{
-    TextwrapPiece, textwrap_break_apart, textwrap_find_words_at, textwrap_pieces,
-    textwrap_split_points,
-};
 use textwrap_calls::refilling::{TextwrapLayout, textwrap_refill, textwrap_unfill};
 use textwrap_calls::reflowing::{TextwrapReflowOptions, textwrap_reflow};
-use textwrap_calls::steps::{
-    TextwrapSteps, textwrap_ends_at, textwrap_lines_at, textwrap_pieces_at,
-};
 use textwrap_calls::tables::{
     TextwrapCell, TextwrapColumn, textwrap_table, textwrap_table_of_lines,
 };
-use textwrap_calls::text_steps::{textwrap_fill_at, textwrap_wrap_at};
 use textwrap_calls::texts::TextwrapText;
 use textwrap_calls::widths::textwrap_strip_ansi_escape_sequences;
 use textwrap_calls::wrapping::{TextwrapLine, textwrap_wrap};
+use textwrap_step_calls::fragments::{
+    TextwrapFragment, TextwrapPenalties, textwrap_wrap_first_fit, textwrap_wrap_optimal_fit,
+};
+use textwrap_step_calls::justified_steps::textwrap_fill_justified_at;
+use textwrap_step_calls::pieces::{
+    TextwrapPiece, textwrap_break_apart, textwrap_find_words_at, textwrap_pieces,
+    textwrap_split_points,
+};
+use textwrap_step_calls::steps::{
+    TextwrapSteps, textwrap_ends_at, textwrap_lines_at, textwrap_pieces_at,
+};
+use textwrap_step_calls::text_steps::{textwrap_fill_at, textwrap_wrap_at};
 
 /// The library's defaults at 10 columns.
 pub(super) const DEFAULTS: TextwrapOptions<'_> = TextwrapOptions {

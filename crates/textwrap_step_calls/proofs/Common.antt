@@ -1,0 +1,7 @@
+-- The names that most proofs cite: those of the standard library, and those of the definitions of
+-- this crate. Declares nothing.
+pub use Rattle.textwrap_step_calls.specs.Fragments.{AreEndsOf, ends_from, ends_of}
+pub use Rattle.textwrap_step_calls.specs.JustifiedSteps.{justified_at}
+pub use Rattle.textwrap_step_calls.specs.Pieces.{offsets_past, piece_places}
+pub use Rattle.textwrap_step_calls.specs.Steps.{ArePlacedCuts}
+pub use Rattle.textwrap_step_calls.specs.TextSteps.{text_step_cuts}

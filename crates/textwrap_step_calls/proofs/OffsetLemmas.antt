@@ -1,0 +1,132 @@
+-- Each offset is passed where a character ends if they are offsets of the text, and only then.
+use Rattle.textwrap_text.proofs.Common.{◌≡◌, ℕ, ◌+◌, ◌<◌, ◌↔◌, List, [], ◌∷◌, length, drop, refl}
+use Rattle.textwrap_text.proofs.Common.{sym, ap, subst, arith, inl, inr, cases_Bool, eqb, eqb-true}
+use Rattle.textwrap_text.proofs.Common.{eqb-false, All-nil, All-head, IsUtf8, IsUtf8-drop}
+use Rattle.textwrap_text.proofs.Common.{IsCharBoundary, IsCharBoundary-start, IsUtf8-past_char}
+use Rattle.textwrap_text.proofs.Common.{encode_utf8_all, encodes-chars, length-drop, stripped}
+use Rattle.textwrap_text.proofs.Common.{units}
+use Rattle.std.specs.Str.{chars}
+use Rattle.textwrap_text.proofs.Units.Texts.{units-tile}
+use Rattle.textwrap_text.specs.Units.{visible}
+use Rattle.textwrap_unicode.proofs.CutLemmas.{visible-utf8}
+use Rattle.std.proofs.lemmas.Str.{IsCharBoundary-from_drop}
+use lib.Utf8.{encode}
+use Rattle.textwrap_text.proofs.Texts.{some-bytes, ends-within, left-after}
+use Rattle.textwrap_words.proofs.Word.Ahead.{character-within}
+use Rattle.textwrap_words.specs.Cuts.{AreNext}
+use Rattle.textwrap_step_calls.specs.Pieces.{AreOffsets, IsNextOffset, offsets_past}
+
+-- the offsets that are left after these characters, of which the first begins at the place
+abbrev pub left_after : ℕ → List ℕ → List ℕ → List ℕ
+left_after at [] offsets = offsets
+left_after at (c ∷ cs) offsets =
+    left_after (at + length (encode c)) cs (offsets_past (at + length (encode c)) offsets)
+
+left_after-none : (cs : List ℕ) (at : ℕ) → left_after at cs [] ≡ []
+left_after-none [] at = refl
+left_after-none (c ∷ cs) at = left_after-none cs (at + length (encode c))
+
+module _ (text : List ℕ) (utf8 : IsUtf8 text) where
+  -- a character that is read ends at a boundary, and the others follow
+  record IsRead (at c : ℕ) (cs : List ℕ) : Type 0 where
+    some : at < at + length (encode c)
+    boundary : IsCharBoundary text (at + length (encode c))
+    rest : drop (at + length (encode c)) text ≡ encode_utf8_all cs
+
+  read : (at c : ℕ) (cs : List ℕ) → IsCharBoundary text at
+      → drop at text ≡ encode_utf8_all (c ∷ cs) → IsRead at c cs
+  read at c cs here is =
+      let after = encode_utf8_all cs in
+      let rest = left-after text at c after is in
+      record {
+        some = omega (arith, some-bytes c);
+        boundary = IsCharBoundary-from_drop text (at + length (encode c))
+            (ends-within text at c after is)
+            (subst IsUtf8 (sym rest)
+            (IsUtf8-past_char (drop at text) after c (IsUtf8-drop text at utf8 here) is));
+        rest = rest;
+      }
+
+  later-left : (cs : List ℕ) (at : ℕ) (offsets : List ℕ) → IsCharBoundary text at
+      → drop at text ≡ encode_utf8_all cs → AreNext (IsNextOffset text) offsets at
+      → left_after at cs offsets ≡ []
+  later-left cs at [] here is are = left_after-none cs at
+  later-left [] at (o ∷ os) here is ((past, boundary), are) =
+      absurd (omega (arith, past, boundary.0, ap length is, length-drop at text))
+  later-left (c ∷ cs) at (o ∷ os) here is ((past, boundary), are) =
+      let end = at + length (encode c) in
+      let next = read at c cs here is in
+      let reached = character-within text utf8 at c (encode_utf8_all cs) here is o past boundary in
+      elim (cases_Bool (eqb o end)) [
+        | inl same ↦
+            rw same (later-left cs end os next.boundary next.rest
+            (subst (AreNext (IsNextOffset text) os) (eqb-true o end same) are))
+        | inr other ↦
+            let beyond : end < o = omega (arith, reached, eqb-false o end other) in
+            rw other (later-left cs end (o ∷ os) next.boundary next.rest ((beyond, boundary), are))
+      ]
+
+  left-later : (cs : List ℕ) (at : ℕ) (offsets : List ℕ) → IsCharBoundary text at
+      → drop at text ≡ encode_utf8_all cs → left_after at cs offsets ≡ []
+      → AreNext (IsNextOffset text) offsets at
+  left-later cs at [] here is none = tt
+  left-later [] at (o ∷ os) here is none = absurd (omega (arith, ap length none))
+  left-later (c ∷ cs) at (o ∷ os) here is none =
+      let end = at + length (encode c) in
+      let next = read at c cs here is in
+      elim (cases_Bool (eqb o end)) [
+        | inl same ↦
+            let o_is = eqb-true o end same in
+            let are = left-later cs end os next.boundary next.rest (rw same at none) in (
+              (omega (arith, next.some, o_is), subst (IsCharBoundary text) (sym o_is) next.boundary),
+              subst (AreNext (IsNextOffset text) os) (sym o_is) are,
+            )
+        | inr other ↦
+            let are = left-later cs end (o ∷ os) next.boundary next.rest (rw other at none) in
+            ((omega (arith, next.some, are.0.0), are.0.1), are.1)
+      ]
+
+  module _ (cs : List ℕ) (is : text ≡ encode_utf8_all cs) where
+    offsets-left : (offsets : List ℕ) → AreOffsets text offsets
+        → left_after 0 cs (offsets_past 0 offsets) ≡ []
+    offsets-left [] are = left_after-none cs 0
+    offsets-left (o ∷ os) (first, later) =
+        let start = IsCharBoundary-start text utf8 in
+        elim (cases_Bool (eqb o 0)) [
+          | inl same ↦
+              rw same (later-left cs 0 os start is
+              (subst (AreNext (IsNextOffset text) os) (eqb-true o 0 same) later))
+          | inr other ↦
+              rw other (later-left cs 0 (o ∷ os) start is
+              ((omega (arith, eqb-false o 0 other), first), later))
+        ]
+
+    left-offsets : (offsets : List ℕ) → left_after 0 cs (offsets_past 0 offsets) ≡ []
+        → AreOffsets text offsets
+    left-offsets [] none = tt
+    left-offsets (o ∷ os) none =
+        let start = IsCharBoundary-start text utf8 in
+        elim (cases_Bool (eqb o 0)) [
+          | inl same ↦
+              rw (eqb-true o 0 same) (start, left-later cs 0 os start is (rw same at none))
+          | inr other ↦
+              let are = left-later cs 0 (o ∷ os) start is (rw other at none) in (are.0.1, are.1)
+        ]
+
+    offsets-passed : (offsets : List ℕ)
+        → (left_after 0 cs (offsets_past 0 offsets) ≡ []) ↔ AreOffsets text offsets
+    offsets-passed offsets = (left-offsets offsets, offsets-left offsets)
+
+-- ---- the offsets of a line, by its visible characters
+
+stripped-utf8 : (line : List ℕ) → IsUtf8 line → IsUtf8 (stripped line)
+stripped-utf8 line utf8 =
+    visible-utf8 (units (chars line))
+    (subst (λ cs. IsUtf8 (encode_utf8_all cs)) (sym (units-tile (chars line)))
+    (subst IsUtf8 (sym (encodes-chars line utf8)) utf8))
+
+pub offsets-read : (line offsets : List ℕ) → IsUtf8 line
+    → (left_after 0 (visible (chars line)) (offsets_past 0 offsets) ≡ [])
+    ↔ AreOffsets (stripped line) offsets
+offsets-read line offsets utf8 =
+    offsets-passed (stripped line) (stripped-utf8 line utf8) (visible (chars line)) refl offsets

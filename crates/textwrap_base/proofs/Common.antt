@@ -1,5 +1,4 @@
--- The names that most proofs cite: those of the standard library, and those of the definitions of
--- this crate. Declares nothing.
+-- The names of the definitions of this crate that most proofs cite. Declares nothing.
 pub use Rattle.textwrap_base.specs.Cost.{AreEqualFromSecond, AreNoLater, division_cost, fit_cost}
 pub use Rattle.textwrap_base.specs.Cost.{IsLeastCost, last_break_penalty, line_cost, priced_at}
 pub use Rattle.textwrap_base.specs.Cost.{priced_by, PricedSizes, Problem, problem_at, problem_by}

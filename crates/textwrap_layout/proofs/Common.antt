@@ -1,5 +1,4 @@
--- The names that most proofs cite: those of the standard library, and those of the definitions of
--- this crate. Declares nothing.
+-- The names of the definitions of this crate that most proofs cite. Declares nothing.
 pub use Rattle.textwrap_layout.specs.Filling.{IsFilled}
 pub use Rattle.textwrap_layout.specs.Frame.{frame_lines, frame_settings, frame_widths}
 pub use Rattle.textwrap_layout.specs.Layout.{front_of}

@@ -1,5 +1,4 @@
--- The names that most proofs cite: those of the standard library, of the crates below, and of the
--- definitions of this crate. Declares nothing.
+-- The names of the definitions of this crate that most proofs cite. Declares nothing.
 pub use Rattle.textwrap_marked.specs.Blocks.{blocks, goes_on, is_beside, stays}
 pub use Rattle.textwrap_marked.specs.Laws.{AreSameParts, HasPlainMarkers, IsSameBy, Part}
 pub use Rattle.textwrap_marked.specs.Laws.{from_letter, line_sense, parts_of_blocks, piece_words}

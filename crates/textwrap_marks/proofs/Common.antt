@@ -1,5 +1,5 @@
--- The names that most proofs cite: those of the standard library, and those of the definitions of
--- this crate. Declares nothing.
+-- The names that most proofs cite: those of the standard library, of the crates below, and of the
+-- definitions of this crate. Declares nothing.
 pub use Rattle.std.proofs.Common.{ap₂}
 pub use Rattle.std.proofs.Math.Bool.{or-false}
 pub use Rattle.std.proofs.lemmas.Grind.{flat_map-append}

@@ -1,5 +1,4 @@
--- The names that most proofs cite: those of the standard library, and those of the definitions of
--- this crate. Declares nothing.
+-- The names of the definitions of this crate that most proofs cite. Declares nothing.
 pub use Rattle.textwrap_step_calls.specs.Fragments.{AreEndsOf, ends_from, ends_of}
 pub use Rattle.textwrap_step_calls.specs.JustifiedSteps.{justified_at}
 pub use Rattle.textwrap_step_calls.specs.Pieces.{offsets_past, piece_places}

@@ -6,7 +6,7 @@ use Rattle.textwrap_text.proofs.Common.{⊎_elim, Option, None, Some, SomeIff, R
 use Rattle.std.proofs.Common.{IsSome}
 use Rattle.std.proofs.Math.Nat.{le-mul_of_pos_right, min-le_right, mod-add-div'}
 use Rattle.std.specs.Int.{div_ceil}
-use Rattle.std.specs.Prelude.{IfNone, IfOk}
+use Rattle.std.specs.Prelude.{IfOk}
 use Rattle.std.specs.Result.{OkIff, result_ok}
 
 pub some_from_test : (n : ℕ) → eqb n 0 ≡ false → 0 < n
@@ -56,10 +56,6 @@ pub SomeIff-ok : {E : Type 0} (r : Result ℕ E) (P Q : Type 0) (v n : ℕ) → 
     → (P → Q × (v ≡ n)) → (Q → P) → SomeIff (result_ok r) Q n
 SomeIff-ok (Ok x) P Q v n (fits, is) right all = ((right fits).0, is ∙ (right fits).1)
 SomeIff-ok (Err e) P Q v n none right all = λ fits. none (all fits)
-
-pub IfNone-always : {X : Type 0} (r : Option X) (P : Type 0) → P → IfNone r P
-IfNone-always None P p = p
-IfNone-always (Some x) P p = tt
 
 -- two facts on a value make a third
 pub both : {T E : Type 0} (r : Result T E) (P Q R : T → Type 0) → ((x : T) → P x → Q x → R x)

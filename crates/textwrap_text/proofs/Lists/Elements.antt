@@ -202,9 +202,6 @@ module _ {X : Type 0} (number : X → ℕ) where
 abbrev pub IsRising : List ℕ → Type 0
 IsRising xs = (i j : ℕ) → i < j → j < length xs → get_or xs i 0 < get_or xs j 0
 
-pub rising-increasing : (xs : List ℕ) → IsRising xs → IsStrictlyIncreasing xs
-rising-increasing xs rising = λ k within. rising k (k + 1) (omega arith) within
-
 pub increasing-le : (xs : List ℕ) → IsStrictlyIncreasing xs → (i j : ℕ) → i ≤ j → j < length xs
     → get_or xs i 0 ≤ get_or xs j 0
 increasing-le xs up i zero le within = let first : i ≡ 0 = omega arith in rw first (omega arith)

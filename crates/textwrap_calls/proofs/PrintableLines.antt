@@ -3,17 +3,15 @@ use Rattle.textwrap_calls.proofs.Common.{◌≡◌, ◌≢◌, ℕ, ◌+◌, ◌
 use Rattle.textwrap_calls.proofs.Common.{[], ◌∷◌, ◌++◌, length, drop, get_or, slice_range, cond}
 use Rattle.textwrap_calls.proofs.Common.{IsUtf8, refl, sym, ap, subst, arith, nat_tests, cases_lt}
 use Rattle.textwrap_calls.proofs.Common.{inl, inr, append-nil, All-from_get_or, ◌==◌, ◌⊎◌, All-head}
-use Rattle.textwrap_calls.proofs.Common.{true≢false, All-weaker, lines, ne_eqb, slice_split}
-use Rattle.textwrap_calls.proofs.Common.{IsPrintableByte, word_of, is_whole, IsFilled}
-use Rattle.textwrap_calls.proofs.Common.{is_blank_line, lines_of_parts, length-slice, as_len}
+use Rattle.textwrap_calls.proofs.Common.{true≢false, lines, IsPrintableByte, word_of, is_whole}
+use Rattle.textwrap_calls.proofs.Common.{IsFilled, is_blank_line, length-slice, as_len}
 use Rattle.textwrap_calls.proofs.Common.{ArePlacedLines, place_of, TextwrapLine, IsRefilled}
 use Rattle.textwrap_calls.proofs.Common.{algorithm_of, Divides, says_yes, separator_of, settings_of}
 use Rattle.textwrap_calls.proofs.Common.{splitter_of, WritesReported, done, too_small}
 use Rattle.textwrap_calls.proofs.Common.{TextwrapOptions}
 use Rattle.textwrap_text.proofs.Common.{lt-ltb, get_or-drop, get_or-take, All-drop, All-take}
-use Rattle.textwrap_text.proofs.Common.{list_any, None, IsPrintable, without_final_blanks}
+use Rattle.textwrap_text.proofs.Common.{list_any, IsPrintable, without_final_blanks}
 use Rattle.textwrap_layout.proofs.Common.{parts_of, Slice}
-use Rattle.std.proofs.lemmas.List.Splits.{slice_split_none}
 use Rattle.std.proofs.lemmas.Str.{chars-IsAscii, IsUtf8-from_ascii}
 use Rattle.std.specs.Char.{is_whitespace}
 use Rattle.textwrap_text.proofs.Lists.Elements.{contains-any}
@@ -21,11 +19,10 @@ use Rattle.textwrap_text.proofs.Units.Reading.{printable-ascii}
 use Rattle.textwrap_layout.proofs.Paragraph.LeftOff.{AreParagraphParts-whole, line_from-whole}
 use Rattle.textwrap_layout.proofs.Text.Paragraphs.{one-paragraph, printable-free}
 use Rattle.textwrap_text.specs.LineEnding.{line_feed}
-use Rattle.textwrap.proofs.Text.Indents.{ended_parts-whole}
+use Rattle.textwrap_text.proofs.TextLines.{ended_lines-whole, ended_parts-whole, lines-whole}
 use Rattle.textwrap.specs.Indentation.{HasNoLineFeed, indented}
-use Rattle.textwrap.specs.Refilling.{ended_lines, ended_lines_of, joined_text, keeps_ending}
-use Rattle.textwrap.specs.Refilling.{line_prefix, unfilled_initial, unfilled_subsequent}
-use Rattle.textwrap.specs.Refilling.{with_indents_of}
+use Rattle.textwrap.specs.Refilling.{joined_text, keeps_ending, line_prefix, unfilled_initial}
+use Rattle.textwrap.specs.Refilling.{unfilled_subsequent, with_indents_of}
 use Rattle.textwrap_calls.proofs.PlaceLemmas.{placed-shown}
 use Rattle.textwrap_calls.proofs.RoomLemmas.{WritesLines-reported}
 use Rattle.textwrap_calls.specs.Printable.{IsOnlyLine, AreWithoutIndents}
@@ -141,22 +138,13 @@ record IsUnfilledAsItIs (text : List ℕ) : Type 0 where
   joined : joined_text text ≡ text
   bare : keeps_ending text ≡ false
 
-one-part : (text : List ℕ) → HasNoLineFeed text → slice_split (λ b. b == 10) text ≡ text ∷ []
-one-part text free =
-    slice_split_none (λ b. b == 10) text
-    (All-weaker (λ c. c ≢ 10) (λ c. (c == 10) ≡ false) (λ c other. ne_eqb c 10 other) text free)
-
 unfilled-as-it-is : (text : List ℕ) → HasNoLineFeed text → line_prefix text ≡ []
     → IsUnfilledAsItIs text
 unfilled-as-it-is [] free none = record { initial = refl; subsequent = refl; joined = refl; bare = refl }
 unfilled-as-it-is (c ∷ cs) free none =
     let text = c ∷ cs in
-    let some : (length text == 0) ≡ false = ne_eqb (length text) 0 (λ empty. omega (arith, empty)) in
-    let line : lines text ≡ text ∷ [] =
-    ap lines_of_parts (one-part text free) ∙ ap (λ b. cond b [] (text ∷ [])) some in
-    let ended : ended_lines text ≡ record { line = text; ending = None } ∷ [] =
-    ap ended_lines_of (one-part text free)
-    ∙ ap (λ b. cond b [] (record { line = text; ending = None } ∷ [])) some in
+    let line = lines-whole text free (λ is. cc) in
+    let ended = ended_lines-whole text free (λ is. cc) in
     let full = lt-ltb 0 (length text) (omega arith) in
     record {
       initial = rw line none;

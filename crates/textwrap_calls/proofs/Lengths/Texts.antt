@@ -1,31 +1,28 @@
 -- How long the lines of a text are, a text that is unfilled, and one that is dedented.
-use Rattle.textwrap_calls.proofs.Common.{◌≡◌, ℕ, zero, suc, ◌+◌, ◌-◌, ◌≤◌, ◌==◌, true, false, cond}
-use Rattle.textwrap_calls.proofs.Common.{List, [], ◌∷◌, ◌++◌, length, map, take, sym, ap, ◌∙◌}
-use Rattle.textwrap_calls.proofs.Common.{arith, cases_lt, inl, inr, eqb-true, get_or, length-append}
-use Rattle.textwrap_calls.proofs.Common.{lines, slice_index, sum_by-cons, drop, filter, length-drop}
-use Rattle.textwrap_calls.proofs.Common.{length-map, ◌*◌, Bool, refl, All-head, StartsWith}
-use Rattle.textwrap_calls.proofs.Common.{starts_with_length, ◌&&◌, take-append-drop, cases_Bool}
-use Rattle.textwrap_calls.proofs.Common.{All, subst, IsUtf8, slice_split, All-nil, All-cons}
-use Rattle.textwrap_calls.proofs.Common.{encode_utf8_all, All-weaker, take_all, join_with}
+use Rattle.textwrap_calls.proofs.Common.{◌≡◌, ℕ, ◌+◌, ◌-◌, ◌≤◌, ◌==◌, true, false, cond, List, []}
+use Rattle.textwrap_calls.proofs.Common.{◌∷◌, ◌++◌, length, map, take, sym, ap, ◌∙◌, arith, inl}
+use Rattle.textwrap_calls.proofs.Common.{inr, eqb-true, length-append, lines, slice_index}
+use Rattle.textwrap_calls.proofs.Common.{sum_by-cons, drop, filter, length-drop, length-map, ◌*◌}
+use Rattle.textwrap_calls.proofs.Common.{Bool, refl, All-head, StartsWith, starts_with_length, ◌&&◌}
+use Rattle.textwrap_calls.proofs.Common.{take-append-drop, cases_Bool, All, subst, IsUtf8, All-nil}
+use Rattle.textwrap_calls.proofs.Common.{All-cons, encode_utf8_all, All-weaker, take_all, join_with}
 use Rattle.textwrap_calls.proofs.Common.{ending_bytes, is_blank_line, sum_by-le-sum_by, chars}
-use Rattle.textwrap_calls.proofs.Common.{lines_of_parts, ending_bytes-some, LineEnding, dedented}
-use Rattle.textwrap_calls.proofs.Common.{unfilled_parts, All-tail}
-use Rattle.textwrap_text.proofs.Common.{last, length-take, not, ends_with, nat_eq, join_with_byte}
-use Rattle.textwrap_text.proofs.Common.{take_more, blank}
+use Rattle.textwrap_calls.proofs.Common.{ending_bytes-some, LineEnding, dedented, unfilled_parts}
+use Rattle.textwrap_calls.proofs.Common.{All-tail, flat_map}
+use Rattle.textwrap_text.proofs.Common.{last, length-take, ends_with, nat_eq, take_more, blank}
+use Rattle.textwrap_text.proofs.Common.{None, Option, Some}
 use Rattle.textwrap.proofs.Common.{EndedLine, joined_text, line_prefix, common_prefix, margin_of}
-use Rattle.std.proofs.lemmas.List.Splits.{join_with_byte-slice_split}
-use Rattle.std.proofs.lemmas.List.Sums.{fails_before_first, passes_at_first, prefix_len-le-length}
-use Rattle.std.proofs.lemmas.List.Sums.{split_at_first}
 use Rattle.std.proofs.lemmas.Slice.Eq.{bytes_eq-Decides}
-use Rattle.std.specs.List.{after_first, before_first, position_or_len}
 use Rattle.std.specs.Prelude.{slice_index_or}
 use Rattle.std.specs.Str.Lines.{strip_carriage_return}
 use Rattle.textwrap_text.proofs.Lists.Parts.{last-cons, last-append}
 use Rattle.textwrap_text.proofs.Texts.{cut_text, ascii_seam}
 use Rattle.textwrap_text.specs.declared.line_ending.LineEnding.TheVariants.{CRLF, LF}
-use Rattle.textwrap.proofs.Text.Indents.{ended_lines-feed, ended_lines-one, is_feed}
+use Rattle.textwrap_text.proofs.TextLines.{by-lines, ended_lines-texts, ended_parts-flat, last-free}
+use Rattle.textwrap_text.proofs.TextLines.{lines-front, lines-made, lines-whole, made_of, texts_of}
+use Rattle.textwrap_text.specs.TextLines.{bytes_at_end, ended_lines, with_ending}
 use Rattle.textwrap.proofs.Text.Margins.{common_prefix-begins}
-use Rattle.textwrap.proofs.Text.Unfilling.{texts_of-ended_lines, line_prefix-begins}
+use Rattle.textwrap.proofs.Text.Unfilling.{line_prefix-begins}
 use Rattle.textwrap.specs.Indentation.{without_margin}
 use Rattle.textwrap.specs.Refilling.{has_text, without_indents, added_ending}
 use Rattle.textwrap_calls.proofs.Lengths.Sums.{texts_length, sum-map, texts-joined}
@@ -45,9 +42,6 @@ strip-le part = grind (arith, length-take)
 
 -- ---- one line after another
 
-abbrev texts_of : List EndedLine → List (List ℕ)
-texts_of es = map (λ e. e.line) es
-
 -- what the lines of a text keep to
 abbrev AreWithin : List ℕ → ℕ → Type 0
 AreWithin text feed = ended_length (lines text) + feed ≤ length text + 1
@@ -59,47 +53,26 @@ feed-before front [] within =
     omega (arith, ap {B = ℕ} (λ b. cond (b == 10) 1 0) (last-append front (10 ∷ []) (omega arith)))
 feed-before front (d ∷ ds) within = grind (arith, last-append, last-cons)
 
-lines-within : (n : ℕ) (text : List ℕ) → length text ≤ n → AreWithin text (final_feed text)
-lines-within n [] short = omega arith
-lines-within zero (c ∷ cs) short = absurd (omega (arith, short))
-lines-within (suc n) (c ∷ cs) short =
-    let text = c ∷ cs in
-    let named = sym (texts_of-ended_lines text) in
-    elim (cases_lt (position_or_len is_feed text) (length text)) [
-      | inl feed ↦
-          let front = before_first is_feed text in
-          let rest = after_first is_feed text in
-          let byte = eqb-true (get_or text (position_or_len is_feed text) 0) 10
-          (passes_at_first is_feed text 0 feed) in
-          let whole : text ≡ front ++ 10 ∷ rest =
-          split_at_first is_feed text 0 feed ∙ ap (λ b. front ++ b ∷ rest) byte in
-          let is : lines text ≡ strip_carriage_return front ∷ lines rest =
-          named ∙ ap texts_of (ended_lines-feed text feed)
-          ∙ ap (λ ls. strip_carriage_return front ∷ ls) (texts_of-ended_lines rest) in
-          let size : length text ≡ length front + (1 + length rest) =
-          ap length whole ∙ length-append front (10 ∷ rest) ∙ omega arith in
-          omega (
-            arith,
-            size,
-            ap ended_length is,
-            ap final_feed whole,
-            strip-le front,
-            sum_by-cons (λ (t : List ℕ). length t) (strip_carriage_return front) (lines rest),
-            feed-before front rest (lines-within n rest (omega (arith, size, short))),
-          )
-      | inr none ↦
-          let all : position_or_len is_feed text ≡ length text =
-          omega (arith, none, prefix_len-le-length (λ b. not (is_feed b)) text) in
-          let is : lines text ≡ text ∷ [] =
-          named ∙ ap texts_of (ended_lines-one text (omega arith) all) in
-          let other = fails_before_first is_feed text (length text - 1) 0 (omega (arith, all)) in
-          grind (arith, ap ended_length is, ap {B = ℕ} (λ b. cond b 1 0) other, sum_by-cons)
-    ]
-
 -- together, each with a line feed, they are at most one byte longer than the text
 pub lines-length : (text : List ℕ)
     → ended_length (lines text) + final_feed text ≤ length text + 1
-lines-length text = lines-within (length text) text (omega arith)
+lines-length = by-lines (λ text. AreWithin text (final_feed text)) (omega arith)
+    (λ part lacks some.
+    omega (
+      arith,
+      ap ended_length (lines-whole part lacks some),
+      ap {B = ℕ} (λ b. cond b 1 0) (last-free part lacks some),
+      sum_by-cons (λ (t : List ℕ). length t) part [],
+    ))
+    (λ front rest lacks within.
+    omega (
+      arith,
+      ap ended_length (lines-front front rest lacks),
+      length-append front (10 ∷ rest),
+      strip-le front,
+      sum_by-cons (λ (t : List ℕ). length t) (strip_carriage_return front) (lines rest),
+      feed-before front rest within,
+    ))
 
 pub feed-within : (text : List ℕ) → final_feed text ≤ length text
 feed-within [] = omega arith
@@ -147,7 +120,7 @@ some-length (e ∷ es) =
 pub joined-length : (text : List ℕ)
     → length (joined_text text) ≤ ended_length (lines text) - 1
 joined-length text =
-    grind (arith, without-length, some-length, ap ended_length (texts_of-ended_lines text))
+    grind (arith, without-length, some-length, ap ended_length (ended_lines-texts text))
 
 -- ---- how long an unfilled text is at most, with its ending and its indents
 
@@ -237,19 +210,14 @@ strip-utf8 (c ∷ cs) utf8 =
       | inr other ↦ rw other utf8
     ]
 
-lines-each : (parts : List (List ℕ)) → IsUtf8 (join_with_byte 10 parts)
-    → All IsUtf8 (lines_of_parts parts)
-lines-each [] utf8 = All-nil IsUtf8
-lines-each (part ∷ []) utf8 = grind (arith, All-nil, All-cons)
-lines-each (part ∷ next ∷ parts) utf8 =
-    let seam = ascii_seam part (join_with_byte 10 (next ∷ parts)) 10 utf8 (omega arith) in
-    All-cons IsUtf8 (strip_carriage_return part) (lines_of_parts (next ∷ parts))
-    (strip-utf8 part seam.front) (lines-each (next ∷ parts) seam.back)
-
 lines-utf8 : (text : List ℕ) → IsUtf8 text → All IsUtf8 (lines text)
-lines-utf8 text utf8 =
-    lines-each (slice_split is_feed text)
-    (subst IsUtf8 (sym (join_with_byte-slice_split 10 text)) utf8)
+lines-utf8 = by-lines (λ text. IsUtf8 text → All IsUtf8 (lines text)) (λ _. All-nil IsUtf8)
+    (λ part lacks some utf8.
+    rw (lines-whole part lacks some) (All-cons IsUtf8 part [] utf8 (All-nil IsUtf8)))
+    (λ front rest lacks are utf8.
+    let seam = ascii_seam front rest 10 utf8 (omega arith) in
+    rw (lines-front front rest lacks) (All-cons IsUtf8 (strip_carriage_return front) (lines rest)
+    (strip-utf8 front seam.front) (are seam.back)))
 
 -- ---- a dedented text
 
@@ -266,50 +234,41 @@ margin-le margin line utf8 =
       | false ↦ omega (arith, ap length cut.whole, length-append front back)
     ]
 
--- ---- what is made of each line, joined by line feeds
+-- ---- what is made of each line, with its ending
 
-joined-map : (f : List ℕ → List ℕ) (l : List ℕ) (ls : List (List ℕ))
-    → All (λ line. length (f line) ≤ length line) (l ∷ ls)
-    → length (join_with_byte 10 (map f (l ∷ ls))) + 1 ≤ ended_length (l ∷ ls)
-joined-map f l [] shorter =
+made-le : (f : List ℕ → List ℕ) (e : EndedLine) → length (f e.line) ≤ length e.line
+    → length (made_of f e) ≤ length (with_ending e)
+made-le f e shorter = by e.ending
+  where
+    by : (ending : Option LineEnding)
+        → length (made_of f record { line = e.line; ending = ending })
+        ≤ length (e.line ++ bytes_at_end ending)
+    by None = simp length-append (omega (arith, shorter))
+    by (Some CRLF) = simp length-append (omega (arith, shorter))
+    by (Some LF) = simp length-append (omega (arith, shorter))
+
+made-length : (f : List ℕ → List ℕ) (es : List EndedLine)
+    → All (λ line. length (f line) ≤ length line) (texts_of es)
+    → length (flat_map (made_of f) es) ≤ length (flat_map (λ part. part) (map with_ending es))
+made-length f [] shorter = omega arith
+made-length f (e ∷ es) shorter =
+    let Short = λ (line : List ℕ). length (f line) ≤ length line in
     omega (
       arith,
-      All-head (λ line. length (f line) ≤ length line) l [] shorter,
-      sum_by-cons (λ (t : List ℕ). length t) l [],
+      made-le f e (All-head Short e.line (texts_of es) shorter),
+      made-length f es (All-tail Short e.line (texts_of es) shorter),
+      length-append (made_of f e) (flat_map (made_of f) es),
+      length-append (with_ending e) (flat_map (λ part. part) (map with_ending es)),
     )
-joined-map f l (next ∷ ls) shorter =
-    let joined = join_with_byte 10 (map f (next ∷ ls)) in
-    let total : length (join_with_byte 10 (map f (l ∷ next ∷ ls))) ≡ length (f l) + (length joined + 1) =
-    length-append (f l) (10 ∷ joined) ∙ omega arith in
-    omega (
-      arith,
-      total,
-      All-head (λ line. length (f line) ≤ length line) l (next ∷ ls) shorter,
-      sum_by-cons (λ (t : List ℕ). length t) l (next ∷ ls),
-      joined-map f next ls
-          (All-tail (λ line. length (f line) ≤ length line) l (next ∷ ls) shorter),
-    )
-
-abbrev feed_if : Bool → List ℕ
-feed_if ends = cond ends (10 ∷ []) []
-
-feed-length : (ends : Bool) → length (feed_if ends) ≡ cond ends 1 0
-feed-length true = refl
-feed-length false = refl
 
 pub dedented-length : (text : List ℕ) → IsUtf8 text → length (dedented text) ≤ length text
 dedented-length text utf8 =
     let f = without_margin (margin_of text) in
-    let ending = feed-length (last text == 10) in
-    let joined = by (lines text) (All-weaker IsUtf8 (λ line. length (f line) ≤ length line)
-    (margin-le (margin_of text)) (lines text) (lines-utf8 text utf8)) (lines-length text) in
-    grind (arith, length-append)
-  where
-    by : (ls : List (List ℕ))
-        → All (λ line. length (without_margin (margin_of text) line) ≤ length line) ls
-        → ended_length ls + final_feed text ≤ length text + 1
-        → length (join_with_byte 10 (map (without_margin (margin_of text)) ls)) + final_feed text
-        ≤ length text
-    by [] shorter within = omega (arith, feed-within text)
-    by (l ∷ ls) shorter within =
-        omega (arith, within, joined-map (without_margin (margin_of text)) l ls shorter)
+    omega (
+      arith,
+      ap length (lines-made f text),
+      ap length (ended_parts-flat text),
+      made-length f (ended_lines text) (rw ended_lines-texts
+          (All-weaker IsUtf8 (λ line. length (f line) ≤ length line) (margin-le (margin_of text))
+          (lines text) (lines-utf8 text utf8))),
+    )

@@ -31,8 +31,7 @@ use Rattle.textwrap_base.proofs.Division.Grown.{grown, grown-full, grown-room, g
 use Rattle.textwrap_text.proofs.Lists.Parts.{all-left, all-right}
 use Rattle.textwrap_layout.proofs.Paragraph.Widths.{later_is}
 use Rattle.textwrap_layout.proofs.Text.Sinks.{cut_lines-next}
-use Rattle.textwrap_layout.proofs.Paragraph.Standing.{ends, limited-pieces, next, stands-at, utf8}
-use Rattle.textwrap_layout.proofs.Paragraph.Standing.{word, word_ends}
+use Rattle.textwrap_layout.proofs.Paragraph.Standing.{limited-pieces, stands-at}
 
 -- ---- the pieces of a text that stand after a place
 

@@ -1,5 +1,5 @@
 -- Words by their texts: what a text is as a word, and the words of a line.
-use Rattle.std.specs.Prelude.{◌≡◌, ℕ, List, [], length, map}
+use Rattle.std.specs.Prelude.{◌≡◌, ℕ, List, [], ◌++◌, length, map}
 use Rattle.std.specs.List.{flat_map}
 use Rattle.textwrap_text.specs.Blanks.{without_final_blanks, final_blanks}
 use Rattle.textwrap_base.specs.Sizes.{Sizes}

@@ -16,8 +16,7 @@ use Rattle.textwrap_words.proofs.Word.Texts.{final_blanks-blank}
 use Rattle.textwrap_text.specs.Units.{visible}
 use Rattle.textwrap_base.proofs.Cost.LineCosts.{total_width-cons}
 use Rattle.textwrap_text.proofs.Units.Reading.{text_width-le}
-use Rattle.textwrap_text.proofs.Units.Chunks.{AreChunks-chunks, chunks-flat, cut, first}
-use Rattle.textwrap_text.proofs.Units.Chunks.{join-chunks, nonempty, rest, uncut}
+use Rattle.textwrap_text.proofs.Units.Chunks.{AreChunks-chunks, chunks-flat, join-chunks}
 
 -- ---- tiling
 

@@ -1,9 +1,8 @@
 //! Texts of many paragraphs, in which marks stand before the words.
-ghost use Rattle.std.specs.Prelude.{◌≤◌};
-ghost use Rattle.textwrap_calls.specs.Reflowing.{IsReflowedBy};
+ghost use Rattle.std.specs.Prelude.{◌≡◌, ◌≤◌, ◌↔◌, IsUtf8};
+ghost use Rattle.textwrap_calls.specs.Reflowing.{AreKnown, AreTexts, IsReflowedBy};
 ghost use Rattle.textwrap_calls.specs.Room.{WritesText};
-ghost use Rattle.textwrap_calls.specs.Status.{unknown_options};
-ghost use Rattle.textwrap_calls.specs.Options.{TellsUnknown, TellsNotUtf8};
+ghost use Rattle.textwrap_calls.specs.Status.{not_utf8, unknown_options};
 
 use std::alloc::Global;
 use textwrap_calls::reflowing;
@@ -20,8 +19,9 @@ pub extern "C" fn textwrap_reflow(
 ) -> u32
     ensures reflowed { WritesText (IsReflowedBy options.now text.now)
         result room.old room.new len.old len.new }
-    ensures unknown { TellsUnknown result options.now }
-    ensures not_utf8 { TellsNotUtf8 result options.now text.now }
+    ensures unknown { result ≡ unknown_options ↔ ¬ AreKnown options.now }
+    ensures not_utf8 { result ≡ not_utf8 ↔ AreKnown options.now
+        × ¬ (IsUtf8 text.now × AreTexts options.now) }
     ensures statuses { result ≤ unknown_options }
 {
     reflowing::textwrap_reflow(alloc, text, options, room, len)

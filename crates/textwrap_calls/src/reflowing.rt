@@ -1,10 +1,10 @@
 //! Texts of many paragraphs, in which marks stand before the words.
-ghost use Rattle.std.specs.Prelude.{◌≡◌, ◌≤◌, ◌↔◌, true, IfOk, string_bytes};
+ghost use Rattle.std.specs.Prelude.{◌≡◌, ◌≤◌, ◌↔◌, true, All, IfOk, IsUtf8, string_bytes};
 ghost use Rattle.textwrap_calls.specs.Reflowing.{algorithm_of, AreKnown, AreTexts, ending_of};
 ghost use Rattle.textwrap_calls.specs.Reflowing.{IsReflowedBy};
 ghost use Rattle.textwrap_calls.specs.Room.{WritesText};
-ghost use Rattle.textwrap_calls.specs.Status.{unknown_options};
-ghost use Rattle.textwrap_calls.specs.Options.{TellsUnknown, TellsNotUtf8};
+ghost use Rattle.textwrap_calls.specs.Status.{not_utf8, unknown_options};
+ghost use Rattle.textwrap_calls.specs.Texts.{IsText};
 
 use crate::options::VERSION;
 use crate::room::put;
@@ -70,8 +70,9 @@ pub fn textwrap_reflow(
 ) -> u32
     ensures reflowed { WritesText (IsReflowedBy options.now text.now)
         result room.old room.new len.old len.new }
-    ensures unknown { TellsUnknown result options.now }
-    ensures not_utf8 { TellsNotUtf8 result options.now text.now }
+    ensures unknown { result ≡ unknown_options ↔ ¬ AreKnown options.now }
+    ensures not_utf8 { result ≡ not_utf8 ↔ AreKnown options.now
+        × ¬ (IsUtf8 text.now × AreTexts options.now) }
     ensures statuses { result ≤ unknown_options }
 {
     if !are_known(options) {

@@ -3,6 +3,7 @@ use Rattle.textwrap_calls.proofs.Common.{[], subst, ◌∙◌, lines_between, pa
 use Rattle.textwrap_calls.proofs.Common.{further-cut_lines, HasPlaces, pieces_at, says_yes}
 use Rattle.textwrap_calls.proofs.Common.{settings_of}
 use Rattle.textwrap_step_calls.proofs.StepLemmas.{AreStepLines, steps-written}
+use Rattle.textwrap_step_calls.specs.Steps.{AreLineSteps}
 
 pub returns-in-Ok-push_step_lines-clause-lines : goal.returns-in-Ok-push_step_lines-clause-lines
 returns-in-Ok-push_step_lines-clause-lines c =
@@ -29,3 +30,14 @@ returns-in-Ok-push_step_lines-clause-lines c =
     c.put_lines.new.lines c.args.count.now c.put_lines.new.count c.args.room.now
     c.put_lines.new.room c.args.len.now c.put_lines.new.len c.put_lines.ensures.statuses
     c.put_lines.ensures.lines
+
+pub returns-in-Ok-push_step_lines-clause-right_places :
+    goal.returns-in-Ok-push_step_lines-clause-right_places
+returns-in-Ok-push_step_lines-clause-right_places c placed enough few known texts =
+    let cuts = c.args.cuts.now in
+    let points = c.args.points.now in
+    let ends = c.args.ends.now in
+    let here = subst (λ text. AreLineSteps (settings_view c.at_blanks-options.result) cuts points ends text)
+    c.in-Ok-from_utf8.ensures.0 c.in-Ok-push_step_lines.ensures.steps in
+    subst (λ s. AreLineSteps s cuts points ends c.args.paragraph.now)
+    (c.at_blanks-options.ensures.settings_are ∙ c.in-Ok.ensures.read.settings) here

@@ -13,8 +13,8 @@ ghost use Rattle.textwrap_calls.specs.Wrapping.{WritesLines};
 use std::alloc::Global;
 use textwrap_calls::options::TextwrapOptions;
 use textwrap_calls::wrapping::TextwrapLine;
-use textwrap_calls::{justified_steps, text_steps};
 use textwrap_step_calls::steps::TextwrapSteps;
+use textwrap_step_calls::{justified_steps, text_steps};
 
 /// Exports [`textwrap_step_calls::text_steps::textwrap_wrap_at`].
 #[unsafe(no_mangle)]

@@ -1,8 +1,9 @@
 -- The classes of characters, told without the tables.
 use Rattle.textwrap_classes.proofs.Common.{cases_Bool, slice_index_or, if◌then◌else◌, Ideographic}
-use Rattle.textwrap_classes.proofs.Common.{Ambiguous, nat_tests, ℕ, not-true, CLASSES, class_of}
-use Rattle.textwrap_classes.proofs.Common.{unit_of, false, arith, nat_lt, Bool, true, ◌&&◌, ◌==◌}
-use Rattle.textwrap_classes.proofs.Common.{refl, ◌||◌, Unit, ◌≡◌, ◌<◌, ◌≤◌, not, ◌-◌}
+use Rattle.textwrap_classes.proofs.Common.{Ambiguous, ℕ, not-true, CLASSES, class_of}
+use Rattle.textwrap_classes.proofs.Common.{unit_of, false, arith, Bool, true, ◌&&◌, ◌==◌}
+use Rattle.textwrap_classes.proofs.Common.{refl, ◌||◌, Unit, ◌≡◌, ◌<◌, ◌≤◌, not, ◌-◌, ◌+◌}
+use Rattle.textwrap_classes.proofs.Common.{ap, sym, ◌∙◌}
 use Rattle.std.proofs.Common.{eqb-true}
 use Rattle.unicode.specs.Binary.{is_extended_pictographic}
 use Rattle.unicode.specs.EastAsianWidth.{east_asian_width}
@@ -18,6 +19,9 @@ use Rattle.unicode.proofs.Facts.{Stepped-below}
 use Rattle.unicode.proofs.GeneralCategoryLemmas.{general_category_stepped}
 use Rattle.unicode.proofs.LineBreakLemmas.{line_break_stepped, line_break_number_injective}
 use Rattle.unicode.proofs.Stepped.{Stepped, map_stepped, zip_stepped}
+use Rattle.unicode.proofs.StepsLemmas.{skip, step_value-skip}
+use Rattle.unicode.proofs.TrieCheck.{all_below, all_below-at}
+use Rattle.unicode.specs.Steps.{step_value}
 use Rattle.textwrap_text.proofs.Units.Texts.{passes-within}
 use Rattle.textwrap_classes.specs.Classes.{is_unassigned, is_wide, resolve}
 use Rattle.textwrap_classes.specs.declared.japanese.TheConstants.{SYLLABLES, WIDE}
@@ -100,38 +104,43 @@ ideograph-unit c low high = grind (arith, ideograph-class, ideograph-wide, early
 -- ---- what the tables of Unicode give for the signs and syllables of Japanese, which the code
 -- does not look up
 
+-- a stretch of characters, each of which passes with its value
+passes-stretch : {V : Type 0} (f : ℕ → V) (s : Stepped f) (test : ℕ → V → Bool) (from n : ℕ)
+    → all_below (λ k. test k (step_value s.default (skip s.steps from) (from + k))) n ≡ true
+    → (c : ℕ) → from ≤ c → c < from + n → test (c - from) (f c) ≡ true
+passes-stretch f s test from n ok c low high =
+    let place : from + (c - from) ≡ c = omega (arith, low) in
+    ap (test (c - from))
+    (s.gives c ∙ sym (step_value-skip s.default s.steps from c low)
+    ∙ ap (step_value s.default (skip s.steps from)) (sym place))
+    ∙ all_below-at (λ k. test k (step_value s.default (skip s.steps from) (from + k))) n (c - from) ok
+    (omega (arith, low, high))
+
+-- the second, where the first fails
+pub past-first : (a b : Bool) → a ≡ false → a || b ≡ true → b ≡ true
+past-first a b none e = grind (arith, cases_Bool)
+
 abbrev pub agree : Bool → Bool → Bool
 agree a b = if a then b else not b
 
 pub agree-same : (a b : Bool) → agree a b ≡ true → a ≡ b
 agree-same a b e = grind (arith, cases_Bool)
 
--- the second, where the first fails
-pub past-first : (a b : Bool) → a ≡ false → a || b ≡ true → b ≡ true
-past-first a b none e = grind (arith, cases_Bool)
-
-not-below : (c : ℕ) → 0x3000 ≤ c → nat_lt c 0x3000 ≡ false
-not-below c from = grind (arith, nat_tests, from)
-
 syllable-class : (c : ℕ) → 0x3000 ≤ c → c ≤ 0x30FF
     → slice_index_or SYLLABLES (c - 0x3000) Ambiguous ≡ class_of c
 unfolding ucd_breaks ucd_category
 syllable-class c from to =
     line_break_number_injective _ _ (eqb-true _ _
-    (past-first (nat_lt c 0x3000) _ (not-below c from)
-    (Stepped-below class_of class_stepped
-    (λ x v. nat_lt x 0x3000
-    || (line_break_number (slice_index_or SYLLABLES (x - 0x3000) Ambiguous) == line_break_number v)) 0x3100
-    refl c (omega (arith, to)))))
+    (passes-stretch class_of class_stepped
+    (λ k v. line_break_number (slice_index_or SYLLABLES k Ambiguous) == line_break_number v)
+    0x3000 0x100 refl c from (omega (arith, to))))
 
 syllable-wide : (c : ℕ) → 0x3000 ≤ c → c ≤ 0x30FF → slice_index_or WIDE (c - 0x3000) false ≡ wide_at c
 unfolding ucd_east_asian
 syllable-wide c from to =
     agree-same _ _
-    (past-first (nat_lt c 0x3000) _ (not-below c from)
-    (Stepped-below wide_at wide_stepped
-    (λ x v. nat_lt x 0x3000 || agree (slice_index_or WIDE (x - 0x3000) false) v) 0x3100
-    refl c (omega (arith, to))))
+    (passes-stretch wide_at wide_stepped (λ k v. agree (slice_index_or WIDE k false) v)
+    0x3000 0x100 refl c from (omega (arith, to)))
 
 pub japanese-unit : (c : ℕ) → 0x3000 ≤ c → c ≤ 0x30FF → ◌≡◌ {A = Unit} (record {
   class = slice_index_or SYLLABLES (c - 0x3000) Ambiguous;

@@ -1,22 +1,17 @@
 -- What the words of a line cover: words and lines of words, cut in two.
-use Rattle.textwrap_text.proofs.Common.{◌≡◌, ◌+◌, ◌≤◌, List, ◌++◌, take, drop, refl, rules, last, ⊤}
-use Rattle.textwrap_text.proofs.Common.{ℕ, length, subst, IsUtf8, arith, take_at, drop_at, []}
-use Rattle.textwrap_text.proofs.Common.{append_assoc, length-append, IsUtf8-append, IsUtf8-drop}
-use Rattle.textwrap_text.proofs.Common.{◌∷◌, map, sym, ap, ◌∙◌, ◌≢◌, ◌<◌, All, ◌-◌, append-nil}
-use Rattle.textwrap_text.proofs.Common.{StartsWith, map-append, and_parts, take-append-drop}
-use Rattle.textwrap_text.proofs.Common.{IsCharBoundary, IsCharBoundary-from_take, eqb-true}
-use Rattle.textwrap_text.proofs.Common.{take-map, All-head, All-tail, take_all, take_more}
-use Rattle.textwrap_text.proofs.Common.{AreCutApart, blank, IsUncut}
-use Rattle.textwrap_base.proofs.Common.{IsGreedy, IsDivision}
-use Rattle.textwrap_words.proofs.Common.{WordText, word_view, AreWordsOf, sizes_of, tile_of, tiled}
-use Rattle.textwrap_words.proofs.Common.{word_of, words_of, Greedy}
-use Rattle.textwrap_layout.proofs.Common.{covered}
-use Rattle.textwrap_words.specs.declared.words.Word.{Word}
-use Rattle.std.proofs.lemmas.Str.{IsCharBoundary-from_rest}
-use Rattle.textwrap_words.proofs.Word.Words.{tiled-push, tiled-map, tiled-words_of, words_unique}
-use Rattle.std.proofs.lemmas.List.{drop-map}
-use Rattle.textwrap_text.proofs.Lists.Parts.{flat, all-left, all-right, last-append}
-use Rattle.textwrap_base.proofs.Division.Map.{IsDivision-whole, IsDividedBy-some}
+use Rattle.textwrap_text.proofs.Common.{IsCharBoundary-from_take, take-append-drop, IsCharBoundary}
+use Rattle.textwrap_text.proofs.Common.{IsUtf8-append, length-append, append_assoc, AreCutApart, []}
+use Rattle.textwrap_text.proofs.Common.{IsUtf8-drop, StartsWith, append-nil, map-append, and_parts}
+use Rattle.textwrap_text.proofs.Common.{take_more, All-head, All-tail, eqb-true, take-map, take_all}
+use Rattle.textwrap_text.proofs.Common.{IsUncut, drop_at, take_at, IsUtf8, length, arith, blank, ap}
+use Rattle.textwrap_text.proofs.Common.{rules, subst, List, drop, last, refl, take, ◌++◌, All, map}
+use Rattle.textwrap_text.proofs.Common.{sym, ◌+◌, ◌-◌, ◌<◌, ◌∙◌, ◌∷◌, ◌≡◌, ◌≢◌, ◌≤◌, ℕ, ⊤}
+use Rattle.textwrap_layout.proofs.Common.{IsCharBoundary-from_rest, words_unique, AreWordsOf, tiled}
+use Rattle.textwrap_layout.proofs.Common.{IsDivision, word_view, IsGreedy, WordText, drop-map, Word}
+use Rattle.textwrap_layout.proofs.Common.{sizes_of, words_of, covered, tile_of, word_of, Greedy}
+use Rattle.textwrap_words.proofs.Word.Words.{tiled-words_of, tiled-push, tiled-map}
+use Rattle.textwrap_text.proofs.Lists.Parts.{last-append, all-right, all-left, flat}
+use Rattle.textwrap_base.proofs.Division.Map.{IsDividedBy-some, IsDivision-whole}
 
 -- ---- what the words of a line cover, and where a text that they tile may be cut
 

@@ -1,41 +1,34 @@
 -- What is left off the lines of a paragraph, the line of a whole one, and the blanks at its end.
-use Rattle.textwrap_text.proofs.Common.{◌≡◌, ℕ, Bool, true, false, cond, List, [], ◌∷◌, ◌++◌, All}
-use Rattle.textwrap_text.proofs.Common.{refl, sym, ◌∙◌, append_assoc, append-nil, take-append-drop}
-use Rattle.textwrap_text.proofs.Common.{flat_map, true≢false, All-nil, All-cons, All-head, All-tail}
-use Rattle.textwrap_text.proofs.Common.{rules, MatchBool, subst, and_parts, eqb-true}
-use Rattle.textwrap_text.proofs.Common.{nil_from_length, arith, map, map-append, inl, inr, ◌≢◌}
-use Rattle.textwrap_text.proofs.Common.{zero, suc, ◌+◌, ◌-◌, ◌<◌, ◌≤◌, ◌||◌, length, drop, get_or}
-use Rattle.textwrap_text.proofs.Common.{ap, slice_range, get_or-drop, add-zero, not-true}
-use Rattle.textwrap_text.proofs.Common.{false≢true, false_from_ne_true, cases_lt, length-drop}
-use Rattle.textwrap_text.proofs.Common.{length-map, drop_all, drop_more, length-append, IsUtf8}
-use Rattle.textwrap_text.proofs.Common.{take_at, IsUtf8-from_ascii, trimmed_len}
-use Rattle.textwrap_text.proofs.Common.{without_final_blanks, chunks, is_blank, is_cut}
-use Rattle.textwrap_text.proofs.Common.{final_blanks}
-use Rattle.textwrap_base.proofs.Common.{closed_width}
-use Rattle.textwrap_words.proofs.Common.{WordText, tile_of, tiled, word_of, word_view, words_of}
-use Rattle.textwrap_words.proofs.Common.{Splitter, Whole, AtHyphens, broken_word, sizes_of}
-use Rattle.textwrap_layout.proofs.Common.{Settings, indent_of, line_from, is_cut_by, pieces_of}
-use Rattle.textwrap_layout.proofs.Common.{LineParts, parts_from, covered_by, line_bytes, last_space}
-use Rattle.textwrap_layout.proofs.Common.{covered, parts_of, is_whole, Slice, keeps_whitespace}
-use Rattle.textwrap_layout.proofs.Common.{AreDividedParts, AreParagraphParts, last_piece}
-use Rattle.textwrap_layout.proofs.Common.{assembled_line, BeforeOthers, later_width}
-use Rattle.textwrap_words.specs.declared.words.Word.{Word}
-use Rattle.textwrap_words.proofs.Word.Texts.{AreBlanks, final_blanks-blank, trimmed-past}
-use Rattle.textwrap_words.proofs.Word.Texts.{trimmed-front}
-use Rattle.textwrap_text.proofs.Units.Chunks.{AreChunks-chunks}
-use Rattle.textwrap_words.proofs.Word.Words.{EndsInBlanks, tiled-words_of}
-use Rattle.textwrap_words.proofs.Word.Words.{no_blanks, tiled-append, HasNoPenalty, IsNarrowWord}
-use Rattle.textwrap_words.proofs.Word.Words.{IsMeasured, IsNarrowWord-measured, closed_width-narrow}
-use Rattle.textwrap_text.proofs.Lists.Parts.{all-left, all-right, some_from_nonempty}
-use Rattle.textwrap_layout.proofs.Paragraph.Pieces.{last_piece-append, pieces_of-measured}
-use Rattle.textwrap_layout.proofs.Paragraph.Pieces.{last_space-append, broken_words-ends}
-use Rattle.textwrap_layout.proofs.Paragraph.Pieces.{split_pieces_of-measured, pieces_of-no_penalty}
-use Rattle.textwrap_layout.proofs.Paragraph.Pieces.{pieces_of-tile, flat_map-space, split_word-ends}
-use Rattle.textwrap_words.specs.PieceCuts.{is_piece_cut, is_point, parts_by}
-use Rattle.textwrap_words.proofs.Word.Parts.{parts_by-some, parts_by-whole, parts_within}
-use Rattle.textwrap_words.proofs.Word.Parts.{parts_by-chunks}
-use Rattle.textwrap_words.proofs.Word.SplitParts.{piece_cut-at}
-use Rattle.textwrap_words.proofs.Word.Splitting.{point-blank}
+use Rattle.textwrap_text.proofs.Common.{without_final_blanks, false_from_ne_true, IsUtf8-from_ascii}
+use Rattle.textwrap_text.proofs.Common.{take-append-drop, nil_from_length, length-append, MatchBool}
+use Rattle.textwrap_text.proofs.Common.{append_assoc, final_blanks, get_or-drop, length-drop, arith}
+use Rattle.textwrap_text.proofs.Common.{slice_range, trimmed_len, append-nil, false≢true, and_parts}
+use Rattle.textwrap_text.proofs.Common.{length-map, map-append, true≢false, drop_more, All-cons, []}
+use Rattle.textwrap_text.proofs.Common.{All-head, All-tail, add-zero, cases_lt, drop_all, eqb-true}
+use Rattle.textwrap_text.proofs.Common.{flat_map, is_blank, not-true, All-nil, take_at, IsUtf8, All}
+use Rattle.textwrap_text.proofs.Common.{get_or, is_cut, length, false, rules, subst, Bool, List, ap}
+use Rattle.textwrap_text.proofs.Common.{cond, drop, refl, true, zero, ◌++◌, ◌||◌, inl, inr, map, ℕ}
+use Rattle.textwrap_text.proofs.Common.{suc, sym, ◌+◌, ◌-◌, ◌<◌, ◌∙◌, ◌∷◌, ◌≡◌, ◌≢◌, ◌≤◌}
+use Rattle.textwrap_layout.proofs.Common.{IsNarrowWord-measured, AreParagraphParts, AreDividedParts}
+use Rattle.textwrap_layout.proofs.Common.{keeps_whitespace, assembled_line, BeforeOthers, LineParts}
+use Rattle.textwrap_layout.proofs.Common.{HasNoPenalty, IsNarrowWord, closed_width, tiled-append}
+use Rattle.textwrap_layout.proofs.Common.{broken_word, later_width, IsMeasured, covered_by, covered}
+use Rattle.textwrap_layout.proofs.Common.{last_piece, last_space, line_bytes, parts_from, indent_of}
+use Rattle.textwrap_layout.proofs.Common.{is_cut_by, line_from, pieces_of, word_view, Settings}
+use Rattle.textwrap_layout.proofs.Common.{Splitter, WordText, is_point, is_whole, parts_by, tile_of}
+use Rattle.textwrap_layout.proofs.Common.{parts_of, sizes_of, words_of, word_of, Slice, tiled, Word}
+use Rattle.textwrap_words.proofs.Word.Texts.{final_blanks-blank, trimmed-front, trimmed-past}
+use Rattle.textwrap_words.proofs.Word.Texts.{AreBlanks}
+use Rattle.textwrap_words.proofs.Word.Words.{closed_width-narrow, tiled-words_of, EndsInBlanks}
+use Rattle.textwrap_words.proofs.Word.Words.{no_blanks}
+use Rattle.textwrap_text.proofs.Lists.Parts.{all-right, all-left}
+use Rattle.textwrap_layout.proofs.Paragraph.Pieces.{pieces_of_words-measured, pieces_of-no_penalty}
+use Rattle.textwrap_layout.proofs.Paragraph.Pieces.{split_words-measured, broken_words-ends}
+use Rattle.textwrap_layout.proofs.Paragraph.Pieces.{last_piece-append, last_space-append}
+use Rattle.textwrap_layout.proofs.Paragraph.Pieces.{split_word-ends, flat_map-space, pieces_of-tile}
+use Rattle.textwrap_layout.proofs.Paragraph.Pieces.{words_of-texts}
+use Rattle.textwrap_words.proofs.Word.Parts.{parts_by-some, blank-words}
+use Rattle.textwrap_words.proofs.Word.SplitParts.{point-none}
 use Rattle.textwrap_words.proofs.Word.FirstPieces.{parts-front}
 use Rattle.textwrap_layout.proofs.PrintableTexts.Parts.{first-part, slice-rest}
 use Rattle.textwrap_words.proofs.Word.Pieces.{split_pieces_of}
@@ -257,11 +250,6 @@ module _ (test : ℕ → Bool) (text : List ℕ) (before : BeforeOthers test tex
 
 -- ---- a text whose words are cut so, and by a splitter
 
-no_point : (splitter : Splitter) (text : List ℕ) (k : ℕ) → k < length text
-    → is_blank (get_or text k 0) ≡ true → is_point splitter text k ≡ false
-no_point Whole text k inside blank = refl
-no_point AtHyphens text k inside blank = point-blank text k inside blank
-
 -- the points of a splitter do not stand before blanks
 pub cut_by-others : (cuts : ℕ → Bool) (splitter : Splitter) (text : List ℕ)
     → BeforeOthers cuts text → BeforeOthers (is_cut_by cuts splitter text) text
@@ -270,30 +258,16 @@ cut_by-others cuts splitter text before k some inside is =
     let seam : cuts k ≡ false =
     false_from_ne_true (cuts k) (λ cut. false≢true (sym (before k some inside cut) ∙ blank)) in
     let none : is_cut_by cuts splitter text k ≡ false =
-    ap (λ t. t || is_point splitter text k) seam ∙ no_point splitter text k inside blank in
+    ap (λ t. t || is_point splitter text k) seam ∙ point-none splitter text k inside blank in
     false≢true (sym none ∙ is))
 
 -- ---- the words of a line
 
-chunks-whole : (at : ℕ) (qs : List (List ℕ)) → All (λ q. q ≢ []) qs
-    → parts_within (λ k. false) at qs ≡ qs
-chunks-whole at [] some = refl
-chunks-whole at (q ∷ qs) some =
-    let first = some_from_nonempty q (All-head (λ q. q ≢ []) q qs some) in
-    ap (λ ps. ps ++ parts_within (λ k. false) (at + length q) qs)
-    (parts_by-whole (λ k. false) q at first (λ k from inside. refl))
-    ∙ ap (λ ps. q ∷ ps) (chunks-whole (at + length q) qs (All-tail (λ q. q ≢ []) q qs some))
-
 pub words_of-space : (line : List ℕ) → last_space (words_of line) ≡ final_blanks line
 words_of-space line =
-    let test = is_piece_cut Whole line in
-    let blank_cut : ℕ → Bool = λ k. is_cut (get_or line (k - 1) 0) (get_or line k 0) in
-    let others : BeforeOthers blank_cut line = λ k some inside is. not-true _ (and_parts _ _ is).1 in
-    let same : parts_by test 0 line ≡ chunks line =
-    parts_by-chunks line test (λ k. false) (piece_cut-at Whole line) line [] 0 refl refl
-    ∙ chunks-whole 0 (chunks line) (AreChunks-chunks line).nonempty in
-    ap (λ ps. last_space (map word_of ps)) (sym same)
-    ∙ last-part test line (cut_by-others blank_cut Whole line others) 0
+    let test : ℕ → Bool = λ k. is_cut (get_or line (k - 1) 0) (get_or line k 0) in
+    ap last_space (blank-words line)
+    ∙ last-part test line (λ k some inside is. not-true _ (and_parts _ _ is).1) 0
 
 -- ---- the last piece of a paragraph
 
@@ -309,7 +283,8 @@ pieces_of-space settings splitter paragraph utf8 unindented =
     let split = split_pieces_of splitter paragraph in
     let limit = later_width settings in
     let ends = broken_words-ends limit split
-    (split_pieces_of-measured settings splitter paragraph utf8) in
+    (split_words-measured settings splitter paragraph (words_of paragraph) utf8
+    (words_of-texts paragraph utf8)) in
     let space = flat_map-space (broken_word limit) split ends in
     search (rules, arith, space, split_pieces_of-space splitter paragraph)
 
@@ -344,7 +319,8 @@ pub closed-pieces_of : (settings : Settings) (splitter : Splitter)
 closed-pieces_of settings splitter paragraph utf8 =
     let pieces = pieces_of settings splitter paragraph in
     let tile = pieces_of-tile settings splitter paragraph utf8 in
-    let words = narrow_words pieces (pieces_of-measured settings splitter paragraph utf8)
+    let words = narrow_words pieces (pieces_of_words-measured settings splitter paragraph
+    (words_of paragraph) utf8 (words_of-texts paragraph utf8))
     (pieces_of-no_penalty settings splitter paragraph utf8) in
     subst (λ l. closed_width sizes_of pieces ≤ length l) tile (closed_width-narrow pieces words)
 

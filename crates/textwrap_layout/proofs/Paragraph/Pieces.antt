@@ -1,43 +1,39 @@
 -- The pieces of a paragraph: those of given points and of built-in parts; they tile it, and end as
 -- its words do.
-use Rattle.textwrap_text.proofs.Common.{subst, ◌≡◌, ◌≢◌, ℕ, ◌<◌, Bool, true, false, cond, List, []}
-use Rattle.textwrap_text.proofs.Common.{◌∷◌, ◌++◌, All, take, refl, sym, ap, ◌∙◌, IsUtf8, All-nil}
-use Rattle.textwrap_text.proofs.Common.{All-cons, All-append, All-weaker, arith, IsUtf8-nil, rules}
-use Rattle.textwrap_text.proofs.Common.{◌≤◌, length, ◌↔◌, None, Option, Some, append-nil}
-use Rattle.textwrap_text.proofs.Common.{length-append, flat_map, slice_range, ltb-true, All-head}
-use Rattle.textwrap_text.proofs.Common.{All-tail}
-use Rattle.textwrap_base.proofs.Common.{total_width}
-use Rattle.textwrap_words.proofs.Common.{WordText, tiled, broken_words, AreCuts, ends_in_hyphen}
-use Rattle.textwrap_words.proofs.Common.{sizes_of, word_of, words_of, AreWordsOf, Splitter}
-use Rattle.textwrap_words.proofs.Common.{ArePoints, split_words, piece, broken_word, pieces_with}
-use Rattle.textwrap_words.proofs.Common.{split_from, split_word, Algorithm, Greedy, LeastCost}
-use Rattle.textwrap_words.proofs.Common.{MayDivide, algorithm_view, MaySeparate, Whole, AtHyphens}
-use Rattle.textwrap_words.proofs.Common.{MaySplit, splitter_view, IsDividedBy}
-use Rattle.textwrap_layout.proofs.Common.{Settings, empty_word, front_pieces, ArePieces}
-use Rattle.textwrap_layout.proofs.Common.{later_width, widths_of, IsDividedInto, pieces_of}
-use Rattle.textwrap_layout.proofs.Common.{pieces_by, pieces_of_words, broken_pieces_of, last_space}
-use Rattle.textwrap_layout.proofs.Common.{last_piece, settings_view, IsFilled, AreTextLines}
-use Rattle.textwrap_layout.proofs.Common.{DividesAs, DividesBy, Line, HasParts, Options}
-use Rattle.textwrap_text.proofs.Lists.Parts.{Begins, flat, all-left}
-use Rattle.textwrap_words.proofs.Word.BrokenPieces.{tiled-broken_words, broken_words-measured}
-use Rattle.textwrap_words.proofs.Word.BrokenPieces.{broken_words-no_penalty, broken_texts-some}
-use Rattle.textwrap_words.proofs.Word.Words.{IsNarrowWord, IsNarrowWord-measured, IsMeasured}
-use Rattle.textwrap_words.proofs.Word.Words.{EndsInBlanks, HasNoPenalty, no_blanks, text_width-nil}
-use Rattle.textwrap_words.proofs.Word.Words.{tiled-append, total_width-narrow, words_unique}
-use Rattle.textwrap_words.proofs.Word.Pieces.{AreTexts, AreSplitWords, split-measured, split-tile}
-use Rattle.textwrap_words.proofs.Word.Pieces.{AreSplit-no_penalty, split_pieces_of, AreSplit-is}
-use Rattle.textwrap_words.proofs.Word.Pieces.{AreSplit-computed, AreTexts-words, ArePoints-cuts}
-use Rattle.textwrap_words.proofs.Word.Pieces.{ArePoints-hyphens}
+use Rattle.textwrap_text.proofs.Common.{length-append, slice_range, All-append, All-weaker, All-nil}
+use Rattle.textwrap_text.proofs.Common.{IsUtf8-nil, append-nil, All-cons, All-head, All-tail, arith}
+use Rattle.textwrap_text.proofs.Common.{flat_map, ltb-true, IsUtf8, Option, length, false, rules, ℕ}
+use Rattle.textwrap_text.proofs.Common.{subst, Bool, List, None, Some, cond, refl, take, true, ◌++◌}
+use Rattle.textwrap_text.proofs.Common.{All, sym, ◌<◌, ◌↔◌, ◌∙◌, ◌∷◌, ◌≡◌, ◌≢◌, ◌≤◌, [], ap}
+use Rattle.textwrap_layout.proofs.Common.{IsNarrowWord-measured, AreSplit-computed, pieces_of_words}
+use Rattle.textwrap_layout.proofs.Common.{broken_pieces_of, ArePlacedLines, algorithm_view, AreCuts}
+use Rattle.textwrap_layout.proofs.Common.{ends_in_hyphen, IsDividedInto, settings_view, IsDividedBy}
+use Rattle.textwrap_layout.proofs.Common.{splitter_view, AreTextLines, HasNoPenalty, IsNarrowWord}
+use Rattle.textwrap_layout.proofs.Common.{broken_words, front_pieces, tiled-append, words_unique}
+use Rattle.textwrap_layout.proofs.Common.{MaySeparate, broken_word, later_width, pieces_with, Whole}
+use Rattle.textwrap_layout.proofs.Common.{split_words, total_width, AreWordsOf, HasMethods, Options}
+use Rattle.textwrap_layout.proofs.Common.{IsMeasured, empty_word, last_piece, last_space, Algorithm}
+use Rattle.textwrap_layout.proofs.Common.{split_from, split_word, ArePieces, ArePoints, AtHyphens}
+use Rattle.textwrap_layout.proofs.Common.{DividesAs, DividesBy, LeastCost, MayDivide, pieces_by}
+use Rattle.textwrap_layout.proofs.Common.{pieces_of, widths_of, words_cut, AreTexts, CanBeCut, Line}
+use Rattle.textwrap_layout.proofs.Common.{HasParts, IsFilled, MaySplit, Settings, Splitter, word_of}
+use Rattle.textwrap_layout.proofs.Common.{WordText, sizes_of, words_of, Greedy, piece, tiled}
+use Rattle.textwrap_text.proofs.Lists.Parts.{all-left, Begins, flat}
+use Rattle.textwrap_words.proofs.Word.BrokenPieces.{broken_words-no_penalty, broken_words-measured}
+use Rattle.textwrap_words.proofs.Word.BrokenPieces.{tiled-broken_words, broken_texts-some}
+use Rattle.textwrap_words.proofs.Word.Words.{total_width-narrow, text_width-nil, EndsInBlanks}
+use Rattle.textwrap_words.proofs.Word.Words.{no_blanks}
+use Rattle.textwrap_words.proofs.Word.Pieces.{AreSplit-no_penalty, ArePoints-hyphens, AreSplitWords}
+use Rattle.textwrap_words.proofs.Word.Pieces.{split_pieces_of, ArePoints-cuts, AreTexts-words}
+use Rattle.textwrap_words.proofs.Word.Pieces.{split-measured, AreSplit-is, split-tile}
 use Rattle.textwrap_words.proofs.Word.Cuts.{inner-cuts}
 use Rattle.textwrap_words.proofs.Word.Parts.{parts-texts}
-use Rattle.textwrap_layout.specs.Direct.{CanBeCut, words_cut, HasMethods}
+use Rattle.textwrap_layout.specs.Paragraph.{DividesUnder}
+use Rattle.textwrap_layout.specs.declared.places.Place.{Place}
+use Rattle.std.specs.Prelude.{IfSome}
 use Rattle.textwrap_words.specs.declared.wrap_algorithms.WrapAlgorithm as algorithms
 use Rattle.textwrap_words.specs.declared.word_separators.WordSeparator as separators
 use Rattle.textwrap_words.specs.declared.word_splitters.WordSplitter as splitters
-use Rattle.textwrap_layout.specs.Paragraph.{DividesUnder}
-use Rattle.textwrap_layout.specs.Places.{ArePlacedLines}
-use Rattle.textwrap_layout.specs.declared.places.Place.{Place}
-use Rattle.std.specs.Prelude.{IfSome}
 
 -- ---- the pieces of words at any points where they may be cut, and what lines of them cover
 
@@ -176,48 +172,35 @@ module _ (settings : Settings) (splitter : Splitter) (paragraph : List ℕ) (wor
   are = (words, split_words splitter words, texts, AreSplit-computed splitter words, refl)
 
   pub split_words-measured : All IsMeasured (split_words splitter words)
-  split_words-measured = split-measured AreTexts (ArePoints splitter) (λ line ws whole given. given)
-      (ArePoints-cuts splitter) paragraph (split_words splitter words) utf8
-      (words, texts, AreSplit-computed splitter words)
+  split_words-measured = split-measured AreTexts (ArePoints splitter) (λ _ _ _ given. given)
+      (ArePoints-cuts splitter) paragraph _ utf8 (words, texts, AreSplit-computed splitter words)
 
   pub split_words-no_penalty : All HasNoPenalty (split_words splitter words)
-  split_words-no_penalty =
-      AreSplit-no_penalty (ArePoints splitter) (ArePoints-hyphens splitter) words
+  split_words-no_penalty = AreSplit-no_penalty (ArePoints splitter) (ArePoints-hyphens splitter) words
       (split_words splitter words) texts.plain (AreSplit-computed splitter words)
 
   pub split_words-tile : tiled (split_words splitter words) ≡ paragraph
-  split_words-tile = split-tile AreTexts (ArePoints splitter) (λ line ws whole given. given)
-      (ArePoints-cuts splitter) paragraph (split_words splitter words) utf8
-      (words, texts, AreSplit-computed splitter words)
+  split_words-tile = split-tile AreTexts (ArePoints splitter) (λ _ _ _ given. given)
+      (ArePoints-cuts splitter) paragraph _ utf8 (words, texts, AreSplit-computed splitter words)
 
   pub pieces_of_words-tile : tiled (pieces_of_words settings splitter words) ≡ paragraph
-  pieces_of_words-tile =
-      pieces-tile settings AreTexts (ArePoints splitter) (λ line ws whole given. given)
-      (ArePoints-cuts splitter) paragraph (pieces_of_words settings splitter words) utf8 are
+  pieces_of_words-tile = pieces-tile settings AreTexts (ArePoints splitter) (λ _ _ _ given. given)
+      (ArePoints-cuts splitter) paragraph _ utf8 are
 
   pub pieces_of_words-measured : All IsMeasured (pieces_of_words settings splitter words)
-  pieces_of_words-measured =
-      pieces-measured settings AreTexts (ArePoints splitter) (λ line ws whole given. given)
-      (ArePoints-cuts splitter) paragraph (pieces_of_words settings splitter words) utf8 are
+  pieces_of_words-measured = pieces-measured settings AreTexts (ArePoints splitter)
+      (λ _ _ _ given. given) (ArePoints-cuts splitter) paragraph _ utf8 are
 
   pub pieces_of_words-no_penalty : All HasNoPenalty (pieces_of_words settings splitter words)
-  pieces_of_words-no_penalty =
-      pieces-no_penalty settings AreTexts (ArePoints splitter) (λ line ws whole given. given)
-      (ArePoints-cuts splitter) (ArePoints-hyphens splitter) paragraph
-      (pieces_of_words settings splitter words) utf8 are
+  pieces_of_words-no_penalty = pieces-no_penalty settings AreTexts (ArePoints splitter)
+      (λ _ _ _ given. given) (ArePoints-cuts splitter) (ArePoints-hyphens splitter) paragraph _ utf8 are
 
   -- all of them together are at most as wide as the bytes of the paragraph
   pub pieces_of_words-wide : total_width sizes_of (pieces_of_words settings splitter words)
       ≤ length paragraph
-  pieces_of_words-wide =
-      let measured = pieces_of_words-measured in
-      search (
-        rules,
-        pieces_of_words-no_penalty,
-        pieces_of_words-tile,
-        total_width-narrow,
-        IsNarrowWord-measured,
-      )
+  pieces_of_words-wide = rw pieces_of_words-tile at
+      (total_width-narrow (pieces_of_words settings splitter words) (λ k d within.
+      IsNarrowWord-measured _ (pieces_of_words-measured k d within) (pieces_of_words-no_penalty k d within)))
 
 -- ---- those of words between blanks
 
@@ -231,16 +214,8 @@ module _ (settings : Settings) (splitter : Splitter) (paragraph : List ℕ)
   abbrev texts : AreTexts paragraph (words_of paragraph)
   texts = words_of-texts paragraph utf8
 
-  pub split_pieces_of-measured : All IsMeasured (split_pieces_of splitter paragraph)
-  split_pieces_of-measured =
-      split_words-measured settings splitter paragraph (words_of paragraph) utf8 texts
-
   pub pieces_of-tile : tiled (pieces_of settings splitter paragraph) ≡ paragraph
   pieces_of-tile = pieces_of_words-tile settings splitter paragraph (words_of paragraph) utf8 texts
-
-  pub pieces_of-measured : All IsMeasured (pieces_of settings splitter paragraph)
-  pieces_of-measured =
-      pieces_of_words-measured settings splitter paragraph (words_of paragraph) utf8 texts
 
   pub pieces_of-no_penalty : All HasNoPenalty (pieces_of settings splitter paragraph)
   pieces_of-no_penalty =
@@ -354,11 +329,7 @@ module _ {E C : Type 0} {e : _} {c : _} (settings : Settings) where
       (MayDivide algorithm (λ w. w))
       ≡ DividesAs s a settings
   divided-as separator splitter algorithm s a is is_splitter is_algorithm =
-      ap (λ word_separator. IsDividedInto settings (MaySeparate word_separator) (MaySplit splitter)
-      (MayDivide algorithm (λ w. w))) is
-      ∙ ap (λ Points. IsDividedInto settings AreWordsOf Points (MayDivide algorithm (λ w. w)))
-      (points-as splitter s is_splitter)
-      ∙ ap (IsDividedInto settings AreWordsOf (ArePoints s)) (division-as algorithm a is_algorithm)
+      rw (is, points-as splitter s is_splitter, division-as algorithm a is_algorithm)
 
 module _ {E C : Type 0} {e : _} {c : _} (options : Options E C e c) (settings : Settings)
     (splitter : Splitter) (algorithm : Algorithm)
@@ -398,16 +369,14 @@ pub direct-divided : {E C : Type 0} {e : _} {c : _} (options : Options E C e c)
     → IsDividedInto (settings_view options) Words (MaySplit options.word_splitter)
     (MayDivide options.wrap_algorithm (λ w. w)) is_later paragraph division
 direct-divided options Words splitter algorithm built_in is_later paragraph words division are by =
-    let settings = settings_view options in
-    subst (λ Points. IsDividedInto settings Words Points
-    (MayDivide options.wrap_algorithm (λ w. w)) is_later paragraph division)
-    (sym (points-as options.word_splitter splitter built_in.splitter_is))
-    (subst (λ Lines. IsDividedInto settings Words (ArePoints splitter) Lines is_later paragraph
-    division) (sym (division-as options.wrap_algorithm algorithm built_in.algorithm_is)) (
-      pieces_of_words settings splitter words,
+    rw (
+      points-as options.word_splitter splitter built_in.splitter_is,
+      division-as options.wrap_algorithm algorithm built_in.algorithm_is,
+    ) (
+      pieces_of_words (settings_view options) splitter words,
       (words, split_words splitter words, are, AreSplit-computed splitter words, refl),
       by,
-    ))
+    )
 
 pub if_some : {X : Type 0} {P Q : X → Type 0} (o : Option X) → ((x : X) → P x → Q x) → IfSome o P
     → IfSome o Q

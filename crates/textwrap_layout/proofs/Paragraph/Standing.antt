@@ -1,21 +1,18 @@
 -- Where the pieces of a paragraph stand in it, and words that stay whole under a limit.
-use Rattle.textwrap_text.proofs.Common.{◌≡◌, ℕ, ◌+◌, ◌≤◌, List, ◌++◌, length, take, drop, ap, ◌∙◌}
-use Rattle.textwrap_text.proofs.Common.{sym, subst, arith, append_assoc, length-append, IsUtf8}
-use Rattle.textwrap_text.proofs.Common.{IsCharBoundary, take_at, drop_at, drop-drop, IsUtf8-drop}
-use Rattle.textwrap_text.proofs.Common.{[], ◌∷◌, All, refl, All-head, All-tail, ◌-◌, ◌^◌, ◌<◌, true}
-use Rattle.textwrap_text.proofs.Common.{false, cond, le-ltb, slice_range}
-use Rattle.std.proofs.lemmas.Str.{IsCharBoundary-from_rest}
+use Rattle.textwrap_text.proofs.Common.{IsCharBoundary, length-append, append_assoc, IsUtf8-drop, ℕ}
+use Rattle.textwrap_text.proofs.Common.{slice_range, drop-drop, All-head, All-tail, drop_at, IsUtf8}
+use Rattle.textwrap_text.proofs.Common.{take_at, le-ltb, length, arith, false, subst, List, cond}
+use Rattle.textwrap_text.proofs.Common.{drop, refl, take, true, ◌++◌, All, sym, ◌+◌, ◌-◌, ◌<◌, ◌^◌}
+use Rattle.textwrap_text.proofs.Common.{◌∙◌, ◌∷◌, ◌≡◌, ◌≤◌, [], ap}
+use Rattle.textwrap_layout.proofs.Common.{IsCharBoundary-from_rest, IsNarrowWord-measured, AreTexts}
+use Rattle.textwrap_layout.proofs.Common.{broken_pieces_of, pieces_of_words, broken_pieces, tile_of}
+use Rattle.textwrap_layout.proofs.Common.{IsNarrowWord, broken_words, front_pieces, break_limit}
+use Rattle.textwrap_layout.proofs.Common.{later_width, split_words, IsMeasured, text_limit, tiled}
+use Rattle.textwrap_layout.proofs.Common.{Settings, Splitter, WordText, front_of, limit_at}
 use Rattle.textwrap_text.proofs.Texts.{StartsWith-boundary}
-use Rattle.textwrap_words.proofs.Common.{WordText, tiled, Splitter, broken_words, broken_pieces}
-use Rattle.textwrap_words.proofs.Common.{tile_of, split_words}
-use Rattle.textwrap_words.proofs.Word.Words.{IsMeasured, IsNarrowWord, IsNarrowWord-measured}
-use Rattle.textwrap_words.proofs.Word.Pieces.{AreTexts}
-use Rattle.textwrap_layout.proofs.Common.{Settings, pieces_of_words, front_of, text_limit}
-use Rattle.textwrap_layout.proofs.Common.{broken_pieces_of, front_pieces, later_width}
 use Rattle.textwrap_layout.proofs.Paragraph.LeftOff.{blanks-utf8}
-use Rattle.textwrap_layout.proofs.Paragraph.Pieces.{split_words-measured, split_words-no_penalty}
+use Rattle.textwrap_layout.proofs.Paragraph.Pieces.{split_words-no_penalty, split_words-measured}
 use Rattle.textwrap_layout.proofs.Paragraph.Pieces.{split_words-tile}
-use Rattle.textwrap_layout.specs.Layout.{break_limit, limit_at}
 
 -- ---- where the next piece of a line stands in the text
 
@@ -65,10 +62,9 @@ unbroken limit (w ∷ ws) bounded within =
     let here = All-head IsNarrowWord w ws bounded in
     let len = length-append (tile_of w) (tiled ws) in
     let word = length-append w.word w.whitespace in
-    ap (λ b. cond b (broken_pieces limit w) (w ∷ []) ++ broken_words limit ws)
-    (le-ltb limit w.width (omega (arith, here.width, within, len, word)))
-    ∙ ap (λ l. w ∷ l) (unbroken limit ws (All-tail IsNarrowWord w ws bounded)
-    (omega (arith, within, len)))
+    rw (le-ltb limit w.width (omega (arith, here.width, within, len, word)))
+    (ap (λ l. w ∷ l) (unbroken limit ws (All-tail IsNarrowWord w ws bounded)
+    (omega (arith, within, len))))
 
 -- whether words are broken or not, these are the pieces
 pub limited-words : (settings : Settings) (split : List WordText) → All IsNarrowWord split

@@ -1,45 +1,42 @@
 -- The widths of the lines of a division: lines that pass their width, and overflow.
-use Rattle.textwrap_text.proofs.Common.{◌≡◌, ℕ, Bool, ◌≤◌, List, [], ◌∷◌, length, map, refl, ap}
-use Rattle.textwrap_text.proofs.Common.{All, flat_map, map-append, rules, arith, ◌++◌, ◌∙◌}
-use Rattle.textwrap_text.proofs.Common.{StartsWith, starts_with_of_append, subst, sym, ◌≢◌, ◌<◌}
-use Rattle.textwrap_text.proofs.Common.{◌^◌, take, take_at, Some, None, Err, IsErrAnd, Result, Ok}
-use Rattle.textwrap_text.proofs.Common.{IsUtf8, ◌+◌, take_all, All-head, cond_both, zero, suc, true}
-use Rattle.textwrap_text.proofs.Common.{false, cond, ◌==◌, nil_from_length, eqb-true, All-nil}
-use Rattle.textwrap_text.proofs.Common.{All-cons, All-append, text_width}
-use Rattle.textwrap_base.proofs.Common.{total_width, Overflowed, Sizes, line_width, closed_width}
-use Rattle.textwrap_base.proofs.Common.{Fits, AllFit}
+use Rattle.textwrap_text.proofs.Common.{starts_with_of_append, nil_from_length, All-append, All-nil}
+use Rattle.textwrap_text.proofs.Common.{StartsWith, map-append, text_width, cond_both, All-cons, Ok}
+use Rattle.textwrap_text.proofs.Common.{All-head, IsErrAnd, eqb-true, flat_map, take_all, take_at}
+use Rattle.textwrap_text.proofs.Common.{IsUtf8, Result, length, arith, false, rules, subst, Bool, ℕ}
+use Rattle.textwrap_text.proofs.Common.{List, None, Some, cond, refl, take, true, zero, ◌++◌, ◌==◌}
+use Rattle.textwrap_text.proofs.Common.{All, Err, map, suc, sym, ◌+◌, ◌<◌, ◌^◌, ◌∙◌, ◌∷◌, ◌≡◌, ◌≢◌}
+use Rattle.textwrap_text.proofs.Common.{◌≤◌, [], ap}
+use Rattle.textwrap_layout.proofs.Common.{OnlyCharactersPass, IsOneCharacter, algorithm_view, Sizes}
+use Rattle.textwrap_layout.proofs.Common.{ends_in_hyphen, IsDividedInto, settings_view, IsDividedBy}
+use Rattle.textwrap_layout.proofs.Common.{splitter_view, HasNoPenalty, IsNarrowWord, broken_words}
+use Rattle.textwrap_layout.proofs.Common.{closed_width, front_pieces, tiled-append, MayOverflow}
+use Rattle.textwrap_layout.proofs.Common.{MaySeparate, first_width, later_width, total_width, Tiles}
+use Rattle.textwrap_layout.proofs.Common.{Overflowed, empty_word, line_width, ArePieces, LeastCost}
+use Rattle.textwrap_layout.proofs.Common.{LineParts, MayDivide, line_from, line_view, widths_of}
+use Rattle.textwrap_layout.proofs.Common.{word_view, AreTexts, MaySplit, Settings, WordText, AllFit}
+use Rattle.textwrap_layout.proofs.Common.{sizes_of, AreCuts, Options, Greedy, tiled, Fits, Word}
 use Rattle.std.specs.declared.borrow.CowStr.{CowStr}
-use Rattle.textwrap_text.proofs.Lists.Parts.{flat, all-left, all-right}
-use Rattle.textwrap_words.proofs.Common.{WordText, word_view, sizes_of, tiled, Tiles, MayDivide}
-use Rattle.textwrap_words.proofs.Common.{LeastCost, algorithm_view, MaySeparate, MaySplit}
-use Rattle.textwrap_words.proofs.Common.{splitter_view, broken_words, AreCuts, ends_in_hyphen}
-use Rattle.textwrap_words.proofs.Common.{Greedy, IsDividedBy}
-use Rattle.textwrap_layout.proofs.Common.{Settings, line_view, line_from, ArePieces, widths_of}
-use Rattle.textwrap_layout.proofs.Common.{LineParts, empty_word, later_width, IsDividedInto}
-use Rattle.textwrap_layout.proofs.Common.{Options, OnlyCharactersPass, IsOneCharacter, MayOverflow}
-use Rattle.textwrap_layout.proofs.Common.{settings_view, front_pieces, first_width}
-use Rattle.textwrap_words.specs.declared.words.Word.{Word}
+use Rattle.textwrap_text.proofs.Lists.Parts.{all-right, all-left, flat}
 use Rattle.textwrap_base.specs.declared.penalties.Penalties.{Penalties}
 use Rattle.textwrap_words.specs.declared.wrap_algorithms.WrapAlgorithm.{WrapAlgorithm}
 use Rattle.textwrap_words.proofs.Word.Divisions.{MayDivide-begins, MayDivide-map}
 use Rattle.textwrap_base.proofs.Cost.Measures.{total_width-same}
-use Rattle.textwrap_words.proofs.Word.Words.{IsNarrowWord, total_width-narrow, tiled-append}
-use Rattle.textwrap_words.proofs.Word.Words.{HasNoPenalty, text_width-nil}
+use Rattle.textwrap_words.proofs.Word.Words.{total_width-narrow, text_width-nil}
 use Rattle.std.proofs.lemmas.Grind.{common_steps}
-use Rattle.textwrap_words.specs.declared.wrap_algorithms.WrapAlgorithm as algorithms
-use Rattle.textwrap_words.specs.declared.word_splitters.WordSplitter as splitters
-use Rattle.std.specs.Prelude.{IsSomeAnd, IfErr, alloc_error}
+use Rattle.std.specs.Prelude.{alloc_error, IsSomeAnd, IfErr}
 use Rattle.textwrap_base.specs.Errors.{Fits64Bits}
 use Rattle.textwrap_words.specs.WrapAlgorithms.{OverflowsBy}
 use Rattle.textwrap_base.specs.declared.errors.WrapError.{WrapError}
-use Rattle.textwrap_base.specs.declared.errors.WrapError.TheVariants.{Memory, Overflow}
+use Rattle.textwrap_base.specs.declared.errors.WrapError.TheVariants.{Overflow, Memory}
 use Rattle.textwrap_layout.specs.Fuzzing.{AppendsLines}
 use Rattle.textwrap_layout.specs.Paragraph.{MayPass64Bits}
-use Rattle.textwrap_layout.proofs.Paragraph.Pieces.{pieces-bounded, pieces-no_penalty}
-use Rattle.textwrap_words.proofs.Word.Parts.{MaySeparate-texts, MaySplit-cuts, MaySplit-hyphens}
-use Rattle.textwrap_words.proofs.Word.BrokenPieces.{IsTight, broken_words-tight}
+use Rattle.textwrap_layout.proofs.Paragraph.Pieces.{pieces-no_penalty, pieces-bounded}
+use Rattle.textwrap_words.proofs.Word.Parts.{MaySeparate-texts, MaySplit-hyphens, MaySplit-cuts}
+use Rattle.textwrap_words.proofs.Word.BrokenPieces.{broken_words-tight, IsTight}
 use Rattle.textwrap_base.proofs.Division.Map.{IsDivision-whole}
-use Rattle.textwrap_words.proofs.Word.Pieces.{AreTexts, split-measured}
+use Rattle.textwrap_words.proofs.Word.Pieces.{split-measured}
+use Rattle.textwrap_words.specs.declared.wrap_algorithms.WrapAlgorithm as algorithms
+use Rattle.textwrap_words.specs.declared.word_splitters.WordSplitter as splitters
 
 -- ---- the lines of a division, where v gives each line's pieces
 
@@ -71,14 +68,10 @@ pub lines-begin : {D : Type 0} (v : D → List Word) (pieces rest : List Word) (
     → StartsWith (tiled (map word_view pieces))
     (flat_map (λ line. tiled (map word_view (v line))) division)
 lines-begin v pieces rest division is =
-    let lines = map v division in
-    let whole : tiled (map word_view pieces)
-    ≡ tiled (map word_view (flat lines)) ++ tiled (map word_view rest) =
-    ap (λ ws. tiled (map word_view ws)) (sym is) ∙ ap tiled (map-append word_view (flat lines) rest)
-    ∙ tiled-append (map word_view (flat lines)) (map word_view rest) in
-    subst (StartsWith (tiled (map word_view pieces))) (sym (tiled-lines v division))
-    (starts_with_of_append (tiled (map word_view pieces)) (tiled (map word_view (flat lines)))
-    (tiled (map word_view rest)) whole)
+    let lines = flat (map v division) in
+    rw (tiled-lines v division) (starts_with_of_append (tiled (map word_view pieces))
+    (tiled (map word_view lines)) (tiled (map word_view rest))
+    (rw (← is, map-append word_view lines rest) (tiled-append (map word_view lines) (map word_view rest))))
 
 -- so do those that an algorithm divides them into
 pub division-begins : {D F : Type 0} {f : _} (v : D → List Word) (algorithm : WrapAlgorithm F f)
@@ -143,11 +136,9 @@ module _ {E C : Type 0} {e : _} {c : _} (options : Options E C e c) where
       → (Fits64Bits (total_width (λ word. sizes_of (word_view word)) pieces)
       → ¬ Overflowed result)
       → ¬ MayOverflow options → IfErr result (λ error. error ≡ Memory alloc_error)
-  only-memory A paragraph pieces (Ok value) utf8 short are tile overflow_only fits never = tt
-  only-memory A paragraph pieces (Err (Memory error)) utf8 short are tile overflow_only fits never =
-      refl
-  only-memory A paragraph pieces (Err (Overflow error)) utf8 short are tile overflow_only fits never =
-      absurd (built_in-or options.word_splitter (λ given. never (given, overflow_only tt))
+  only-memory A paragraph pieces result utf8 short are tile overflow_only fits never =
+      only-without result (λ over.
+      built_in-or options.word_splitter (λ given. never (given, overflow_only over))
       (λ built_in.
       let bounded = pieces-bounded (settings_view options) (MaySeparate options.word_separator)
       (MaySplit options.word_splitter) (MaySeparate-texts options.word_separator)
@@ -164,12 +155,10 @@ module _ {E C : Type 0} {e : _} {c : _} (options : Options E C e c) where
       → ¬ Overflowed result)
       → ¬ MayPass64Bits options paragraph
       → IfErr result (λ error. error ≡ Memory alloc_error)
-  only-fitting A paragraph pieces (Ok value) are fits never = tt
-  only-fitting A paragraph pieces (Err (Memory error)) are fits never = refl
-  only-fitting A paragraph pieces (Err (Overflow error)) are fits never =
+  only-fitting A paragraph pieces result are fits never = only-without result (λ over.
       let same = total_width-same (λ word. sizes_of (word_view word)) sizes_of pieces
       (map word_view pieces) (sizes-word_view pieces) in
-      search (rules, arith)
+      search (rules, arith))
 
 -- a call that fails leaves the lines as they were
 pub appends-none : {Z A : Type 0} (Refuses : Type 0) (Are : List LineParts → Type 0)
@@ -266,9 +255,6 @@ module _ (settings : Settings) (Words : List ℕ → List WordText → Type 0)
     where
       split : List WordText
       split = are.1
-
-      limit : ℕ
-      limit = later_width settings
 
       broken : List WordText
       broken = broken_words (later_width settings) split

@@ -1,13 +1,12 @@
 -- The parts that a text is cut into wherever a test of its places says so.
-use Rattle.textwrap_text.proofs.Common.{inl, inr, ◌≡◌, ℕ, zero, suc, ◌+◌, ◌-◌, ◌<◌, ◌≤◌, Bool, true}
-use Rattle.textwrap_text.proofs.Common.{false, List, [], ◌∷◌, ◌++◌, length, take, drop, refl, sym}
-use Rattle.textwrap_text.proofs.Common.{ap, ◌∙◌, arith, take-append-drop, append-nil, cases_lt}
-use Rattle.textwrap_text.proofs.Common.{drop_all, take_all, drop-drop, length-drop, onto_first}
-use Rattle.textwrap_text.proofs.Common.{slice_range}
-use Rattle.std.proofs.lemmas.List.{drop-take}
-use Rattle.textwrap_words.specs.PieceCuts.{IsPart, parts_by}
-use Rattle.textwrap_text.proofs.Lists.Parts.{flat, flat-onto_first, onto_first-append}
-use Rattle.textwrap_words.proofs.Word.Parts.{HasEnd, end-from, next_by, parts_by-some}
+use Rattle.textwrap_text.proofs.Common.{take-append-drop, length-drop, slice_range, append-nil, inl}
+use Rattle.textwrap_text.proofs.Common.{onto_first, drop-drop, cases_lt, drop_all, take_all, length}
+use Rattle.textwrap_text.proofs.Common.{arith, false, Bool, List, drop, refl, take, true, zero, inr}
+use Rattle.textwrap_text.proofs.Common.{◌++◌, suc, sym, ◌+◌, ◌-◌, ◌<◌, ◌∙◌, ◌∷◌, ◌≡◌, ◌≤◌, [], ap}
+use Rattle.textwrap_text.proofs.Common.{ℕ}
+use Rattle.textwrap_layout.proofs.Common.{drop-take, parts_by, IsPart}
+use Rattle.textwrap_text.proofs.Lists.Parts.{onto_first-append, flat-onto_first, flat}
+use Rattle.textwrap_words.proofs.Word.Parts.{parts_by-some, end-from, next_by, HasEnd}
 use Rattle.textwrap_layout.specs.Printable.{NoCutBetween}
 
 -- ---- slices, and what follows them
@@ -77,17 +76,14 @@ module _ (test : ℕ → Bool) where
         let place : at + n ≡ end = omega (arith, some) in
         elim (cases_lt end (length text)) [
           | inl inside ↦
-              parts-at_cut rest at n (omega (arith, some)) (omega (arith, left, inside, some))
-              (ap test place ∙ ends inside)
-              ∙ ap (λ l. parts_by test at (slice_range text at end) ++ parts_by test (at + n) l)
-              (drop-drop n at text)
-              ∙ ap (λ k. parts_by test at (slice_range text at end) ++ parts_by test k (drop k text))
-              place
+              rw (drop-drop n at text, place) at (parts-at_cut rest at n (omega (arith, some))
+              (omega (arith, left, inside, some)) (ap test place ∙ ends inside))
           | inr past ↦
-              ap (parts_by test at) (sym (take_all n rest (omega (arith, left, past))))
-              ∙ sym (append-nil (parts_by test at (slice_range text at end)))
-              ∙ ap (λ l. parts_by test at (slice_range text at end) ++ parts_by test end l)
-              (sym (drop_all end text past))
+              rw (
+                drop_all end text past,
+                append-nil (parts_by test at (slice_range text at end)),
+                take_all n rest (omega (arith, left, past)),
+              )
         ]
 
     -- ---- the first part

@@ -1,12 +1,9 @@
 -- Lemmas on the lines of a text.
-use Rattle.textwrap_text.proofs.Common.{◌≡◌, ℕ, zero, suc, ◌+◌, ◌<◌, Option, None, Some, List, []}
-use Rattle.textwrap_text.proofs.Common.{◌∷◌, ◌++◌, length, get_or, take, map, refl, sym, ap, ◌∙◌}
-use Rattle.textwrap_text.proofs.Common.{arith, append_assoc, Bor, take_more, map-append}
-use Rattle.textwrap_text.proofs.Common.{paragraphs_of, join_with}
+use Rattle.textwrap_text.proofs.Common.{paragraphs_of, append_assoc, map-append, join_with, Option}
+use Rattle.textwrap_text.proofs.Common.{take_more, get_or, length, arith, List, None, Some, refl, ℕ}
+use Rattle.textwrap_text.proofs.Common.{take, zero, ◌++◌, Bor, map, suc, ◌+◌, ◌<◌, ◌∷◌, ◌≡◌, [], ap}
 use Rattle.std.specs.declared.borrow.CowStr.{CowStr}
-use Rattle.textwrap_layout.proofs.Common.{line_view, line_bytes}
-use Rattle.textwrap_text.specs.declared.line_ending.LineEnding.{LineEnding}
-use Rattle.std.proofs.Common.{MatchOption}
+use Rattle.textwrap_layout.proofs.Common.{MatchOption, LineEnding, line_bytes, line_view}
 use Rattle.std.specs.Cow.{cow_str_bytes}
 use Rattle.std.specs.declared.borrow.CowStr.TheVariants.{Borrowed, Owned}
 
@@ -27,11 +24,7 @@ views-take : {Z : Type 0} (lines : List (CowStr Z)) (i : ℕ) (line : CowStr Z) 
     → map line_bytes (map line_view (take (i + 1) lines)) ≡ map line_bytes
     (map line_view (take i lines)) ++ cow_str_bytes line ∷ []
 views-take lines i line within is =
-    ap (λ l. map line_bytes (map line_view l)) (take_more lines i line within
-    ∙ ap (λ x. take i lines ++ x ∷ []) (sym is))
-    ∙ ap (map line_bytes) (map-append line_view (take i lines) (line ∷ []))
-    ∙ map-append line_bytes (map line_view (take i lines)) (line_view line ∷ [])
-    ∙ ap (λ x. map line_bytes (map line_view (take i lines)) ++ x ∷ []) (line_bytes-line_view line)
+    rw (take_more lines i line within, ← is) (simp (map-append, line_bytes-line_view line))
 
 -- the lines up to the one at i, joined
 pub join-take_first : {Z : Type 0} (separator : List ℕ) (lines : List (CowStr Z)) (i : ℕ)

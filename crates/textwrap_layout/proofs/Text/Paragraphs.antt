@@ -1,32 +1,30 @@
 -- A text has its paragraphs in exactly one way; they are UTF-8, and end in no sequence where it
 -- does not.
-use Rattle.textwrap_text.proofs.Common.{◌≡◌, ◌≢◌, ℕ, zero, suc, ◌+◌, ◌-◌, ◌<◌, ◌≤◌, cond, nat_eq}
-use Rattle.textwrap_text.proofs.Common.{List, [], ◌∷◌, ◌++◌, length, take, drop, refl, sym, ap, ◌∙◌}
-use Rattle.textwrap_text.proofs.Common.{arith, length-append, length-drop, onto_first, starts_with}
-use Rattle.textwrap_text.proofs.Common.{drop_at, cond_both, ◌==◌, Bool, false, get_or, add-zero}
-use Rattle.textwrap_text.proofs.Common.{get_or-drop, drop_more, eqb-true, eqb-false, All, All-drop}
-use Rattle.textwrap_text.proofs.Common.{All-head, All-tail, All-weaker, subst, append_assoc}
-use Rattle.textwrap_text.proofs.Common.{append-nil, IsUtf8, get_or_append_left, All-nil, All-cons}
-use Rattle.textwrap_text.proofs.Common.{◌↔◌, rules, take-append-drop, take_at, IsUtf8-from_ascii}
-use Rattle.textwrap_text.proofs.Common.{chars-append, inl, flat_map-append, sum_by-append}
-use Rattle.textwrap_text.proofs.Common.{IsPrintable, IsPrintableByte, text_width, ending_bytes}
-use Rattle.textwrap_text.proofs.Common.{paragraphs_of, parts_past, join_with}
+use Rattle.textwrap_text.proofs.Common.{get_or_append_left, IsUtf8-from_ascii, take-append-drop, []}
+use Rattle.textwrap_text.proofs.Common.{IsPrintableByte, flat_map-append, length-append, All-weaker}
+use Rattle.textwrap_text.proofs.Common.{paragraphs_of, sum_by-append, append_assoc, chars-append, ℕ}
+use Rattle.textwrap_text.proofs.Common.{ending_bytes, IsPrintable, get_or-drop, length-drop, IsUtf8}
+use Rattle.textwrap_text.proofs.Common.{starts_with, append-nil, onto_first, parts_past, text_width}
+use Rattle.textwrap_text.proofs.Common.{cond_both, drop_more, eqb-false, join_with, All-cons, arith}
+use Rattle.textwrap_text.proofs.Common.{All-drop, All-head, All-tail, add-zero, eqb-true, All-nil}
+use Rattle.textwrap_text.proofs.Common.{drop_at, take_at, get_or, length, nat_eq, false, rules, All}
+use Rattle.textwrap_text.proofs.Common.{subst, Bool, List, cond, drop, refl, take, zero, ◌++◌, ◌==◌}
+use Rattle.textwrap_text.proofs.Common.{inl, suc, sym, ◌+◌, ◌-◌, ◌<◌, ◌↔◌, ◌∙◌, ◌∷◌, ◌≡◌, ◌≢◌, ◌≤◌}
+use Rattle.textwrap_text.proofs.Common.{ap}
 use Rattle.std.proofs.lemmas.List.Sums.{fails_before_first, passes_at_first}
-use Rattle.std.specs.List.{after_first, before_first, position_or_len}
-use Rattle.textwrap_text.specs.LineEnding.{line_feed, Lacks, AreParagraphs}
-use Rattle.textwrap_text.specs.declared.line_ending.LineEnding.{LineEnding}
-use Rattle.textwrap_layout.proofs.Common.{HasWholeSequences}
+use Rattle.std.specs.List.{position_or_len, before_first, after_first}
+use Rattle.textwrap_text.specs.LineEnding.{AreParagraphs, line_feed, Lacks}
+use Rattle.textwrap_layout.proofs.Common.{HasWholeSequences, drop-append-le, LineEnding}
 use Rattle.textwrap_text.specs.declared.line_ending.LineEnding.TheVariants.{CRLF, LF}
-use Rattle.textwrap_text.proofs.Lists.Parts.{onto_first-some, starts_with-true, drop-ending}
-use Rattle.textwrap_text.proofs.Lists.Parts.{starts_with-false, starts_with-rest, onto_front}
-use Rattle.textwrap_text.proofs.Lists.Parts.{onto_front-onto_first, all-left, all-right}
-use Rattle.textwrap_text.proofs.Texts.{ascii_seam, after_ascii}
+use Rattle.textwrap_text.proofs.Lists.Parts.{onto_front-onto_first, starts_with-false, drop-ending}
+use Rattle.textwrap_text.proofs.Lists.Parts.{starts_with-rest, starts_with-true, onto_first-some}
+use Rattle.textwrap_text.proofs.Lists.Parts.{onto_front, all-right, all-left}
+use Rattle.textwrap_text.proofs.Texts.{after_ascii, ascii_seam}
 use Rattle.textwrap_text.proofs.Units.Chunks.{all_utf8-front}
-use Rattle.std.proofs.lemmas.List.{drop-append-le}
 use Rattle.std.specs.Prelude.{chars}
 use Rattle.std.proofs.lemmas.Str.Ascii.{IsAscii-from_all}
-use Rattle.textwrap_text.specs.Units.{TextUnit, AreUnits, IsWhole, escape, units}
-use Rattle.textwrap_text.proofs.Units.Texts.{IsInUnits-units, units-tile, units_unique}
+use Rattle.textwrap_text.specs.Units.{AreUnits, TextUnit, IsWhole, escape, units}
+use Rattle.textwrap_text.proofs.Units.Texts.{IsInUnits-units, units_unique, units-tile}
 
 -- ---- lemmas on the parts of a text between line endings
 
@@ -48,17 +46,14 @@ pub parts_past-first : (ending s rest : List ℕ) (i : ℕ) → 0 < length endin
 parts_past-first ending [] rest i some before within here =
     absurd (omega (arith, ap length here, length-append ending rest, length-drop {A = ℕ} i []))
 parts_past-first ending (c ∷ cs) rest zero some before within here =
-    ap (λ b. cond b ([] ∷ parts_past ending (length ending - 1) cs)
-    (onto_first c (parts_past ending 0 cs))) (starts_with-true ending (c ∷ cs) rest here)
-    ∙ ap (λ ps. [] ∷ ps) (parts_past-skip ending (length ending - 1) cs
+    rw (starts_with-true ending (c ∷ cs) rest here)
+    (ap (λ ps. [] ∷ ps) (parts_past-skip ending (length ending - 1) cs
     ∙ ap (parts_past ending 0) (sym (drop-ending ending c cs some) ∙ ap (drop (length ending)) here
-    ∙ drop_at ending rest (length ending) refl))
+    ∙ drop_at ending rest (length ending) refl)))
 parts_past-first ending (c ∷ cs) rest (suc i) some before within here =
-    ap (λ b. cond b ([] ∷ parts_past ending (length ending - 1) cs)
-    (onto_first c (parts_past ending 0 cs)))
-    (starts_with-false ending (c ∷ cs) (before 0 (omega arith)))
-    ∙ ap (onto_first c) (parts_past-first ending cs rest i some
-    (λ k below. before (suc k) (omega arith)) (omega arith) here)
+    rw (starts_with-false ending (c ∷ cs) (before 0 (omega arith)))
+    (ap (onto_first c) (parts_past-first ending cs rest i some
+    (λ k below. before (suc k) (omega arith)) (omega arith) here))
 
 -- without an ending there is one part
 pub parts_past-none : (ending s : List ℕ)
@@ -66,10 +61,8 @@ pub parts_past-none : (ending s : List ℕ)
     → parts_past ending 0 s ≡ s ∷ []
 parts_past-none ending [] lacks = refl
 parts_past-none ending (c ∷ cs) lacks =
-    ap (λ b. cond b ([] ∷ parts_past ending (length ending - 1) cs)
-    (onto_first c (parts_past ending 0 cs)))
-    (starts_with-false ending (c ∷ cs) (lacks 0 (omega arith)))
-    ∙ ap (onto_first c) (parts_past-none ending cs (λ k within. lacks (suc k) (omega arith)))
+    rw (starts_with-false ending (c ∷ cs) (lacks 0 (omega arith)))
+    (ap (onto_first c) (parts_past-none ending cs (λ k within. lacks (suc k) (omega arith))))
 
 -- each ending has a line feed, so a text without one is one paragraph
 pub one-paragraph : (ending : LineEnding) (text : List ℕ) → All (λ c. c ≢ line_feed) text
@@ -100,8 +93,7 @@ module _ (s : List ℕ) where
   no_feed_at : (k : ℕ) → is_feed (get_or s k 0) ≡ false → (others : List ℕ)
       → drop k s ≢ line_feed ∷ others
   no_feed_at k other others here =
-      eqb-false (get_or s k 0) line_feed other (ap (λ n. get_or s n 0) (sym (add-zero k))
-      ∙ sym (get_or-drop k s 0 0) ∙ ap (λ l. get_or l 0 0) here)
+      eqb-false (get_or s k 0) line_feed other (sym (rw (here, add-zero k) at (get_or-drop k s 0 0)))
 
   -- the first part goes up to the first line feed
   pub parts_past-feed : position_or_len is_feed s < length s

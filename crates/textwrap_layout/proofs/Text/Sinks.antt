@@ -1,22 +1,19 @@
 -- Lines, the places that they were cut from, and what takes them.
-use Rattle.textwrap_text.proofs.Common.{◌≡◌, length, arith, nat_lt, subst, lt-ltb, Result, flat_map}
-use Rattle.textwrap_text.proofs.Common.{ℕ, [], ◌∷◌, map, ap, sym, ◌∙◌, Ok, Err, ◌<◌, ◌≤◌, ◌||◌, ◌+◌}
-use Rattle.textwrap_text.proofs.Common.{Bool, true, List, ◌++◌, refl, cond, rules, OnOk, false}
-use Rattle.textwrap_text.proofs.Common.{length-append, map-append, flat_map-append, nil_from_length}
-use Rattle.textwrap_text.proofs.Common.{append-nil, length-map, append_assoc, eqb-true, length_push}
-use Rattle.textwrap_text.proofs.Common.{paragraphs_of, join_with, ending_bytes}
-use Rattle.textwrap_words.proofs.Common.{WordText, tiled}
-use Rattle.textwrap_layout.proofs.Common.{CutLine, further, place_of, Settings, parts_of, cut_line}
-use Rattle.textwrap_layout.proofs.Common.{assembled_line, AreParagraphParts, cut_lines, places_of}
-use Rattle.textwrap_layout.proofs.Common.{LineParts, parts_from, line_bytes, lines_of, line_from}
-use Rattle.textwrap_layout.proofs.Common.{Took, AreGroups, text_cuts, built_bytes, built_text, Line}
-use Rattle.textwrap_layout.proofs.Common.{AreCutLines}
+use Rattle.textwrap_text.proofs.Common.{flat_map-append, nil_from_length, length-append, append-nil}
+use Rattle.textwrap_text.proofs.Common.{paragraphs_of, append_assoc, ending_bytes, length_push, Err}
+use Rattle.textwrap_text.proofs.Common.{length-map, map-append, join_with, eqb-true, flat_map, Bool}
+use Rattle.textwrap_text.proofs.Common.{Result, length, lt-ltb, nat_lt, arith, false, rules, subst}
+use Rattle.textwrap_text.proofs.Common.{List, OnOk, cond, refl, true, ◌++◌, ◌||◌, map, sym, ◌+◌, Ok}
+use Rattle.textwrap_text.proofs.Common.{◌<◌, ◌∙◌, ◌∷◌, ◌≡◌, ◌≤◌, [], ap, ℕ}
+use Rattle.textwrap_layout.proofs.Common.{AreParagraphParts, assembled_line, HasPlacesMore, CutLine}
+use Rattle.textwrap_layout.proofs.Common.{AreCutLines, built_bytes, built_text, line_bytes, further}
+use Rattle.textwrap_layout.proofs.Common.{parts_from, AddsPlace, AreGroups, LineParts, cut_lines}
+use Rattle.textwrap_layout.proofs.Common.{line_from, places_of, text_cuts, Settings, WordText, Line}
+use Rattle.textwrap_layout.proofs.Common.{cut_line, lines_of, parts_of, place_of, tiled, Took}
 use Rattle.textwrap_layout.proofs.Paragraph.LeftOff.{parts_of-tile}
 use Rattle.textwrap_text.specs.LentText.{IsLent}
-use Rattle.textwrap_layout.specs.LentPlaces.{AddsPlace}
-use Rattle.textwrap_layout.specs.LineSinks.{HasOneMore, HoldsLent, HoldsLentPlaces, HoldsPlaces}
-use Rattle.textwrap_layout.specs.LineSinks.{HoldsText, LentOneMore}
-use Rattle.textwrap_layout.specs.Places.{HasPlacesMore}
+use Rattle.textwrap_layout.specs.LineSinks.{HoldsLentPlaces, HoldsPlaces, LentOneMore, HasOneMore}
+use Rattle.textwrap_layout.specs.LineSinks.{HoldsLent, HoldsText}
 use Rattle.textwrap_layout.specs.declared.lent_places.LentLinePlaces.{LentLinePlaces}
 use Rattle.textwrap_layout.specs.declared.line_sinks.JoinedLines.{JoinedLines}
 use Rattle.textwrap_layout.specs.declared.line_sinks.LentLines.{LentLines}
@@ -122,13 +119,9 @@ module _ {Z : Type 0} where
     held = λ first start before given.
         let cut = cut_line (start + at) line in
         let used = ap length given.built in record {
-          places = places ∙ ap (λ n. old.places.items
-              ++ place_of (n + at) (length old.built.items) line ∷ []) given.offset
-              ∙ ap (λ ps. ps ++ place_of (start + at) (length old.built.items) line ∷ [])
-              given.places
-              ∙ sym (places_of-push 0 (length old.built.items) before cut (omega (arith, used)));
-          built = built ∙ ap (λ bytes. bytes ++ built_bytes line) given.built
-              ∙ sym (built_text-push before cut);
+          places = rw (places, given.offset, given.places)
+              (sym (places_of-push 0 (length old.built.items) before cut (omega (arith, used))));
+          built = rw (built, given.built) (sym (built_text-push before cut));
           offset = offset ∙ given.offset;
         };
   }
@@ -299,11 +292,11 @@ module _ (settings : Settings) (Divides : Bool → List ℕ → List (List WordT
         paragraphs = so_far.paragraphs ∙ sym (append_assoc so_far.done (paragraph ∷ []) after);
         lines = so_far.lines ++ here;
         groups = so_far.groups ++ parts ∷ [];
-        given = map-append (λ (cut : CutLine). cut.line) so_far.lines here
-            ∙ ap (λ ls. ls ++ lines_of here) so_far.given
-            ∙ ap (λ ls. map line_from (flat_map (λ ps. ps) so_far.groups) ++ ls)
-            (lines_of-cut_lines start parts)
-            ∙ sym (grind (arith, flat_map-append, append-nil, map-append));
+        given = rw (
+          map-append (λ (cut : CutLine). cut.line) so_far.lines here,
+          so_far.given,
+          lines_of-cut_lines start parts,
+        ) (sym (grind (arith, flat_map-append, append-nil, map-append)));
         more = λ others rest. rw append_assoc (so_far.more (parts ∷ others)
             (rw (is_out first start so_far.lines held) at are, rw later at rest));
         cuts = λ others. simp (append_assoc, so_far.cuts (parts ∷ others), ends);

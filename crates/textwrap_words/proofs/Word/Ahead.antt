@@ -1,23 +1,19 @@
 -- The units of the first part of a text, and a character that begins at a place of it.
-use Rattle.textwrap_text.proofs.Common.{cases_Bool, ◌≡◌, ◌≢◌, ℕ, ◌+◌, true, false, List, [], ◌∷◌}
-use Rattle.textwrap_text.proofs.Common.{refl, sym, zero-add, add-zero, arith, not-true, sum_by-cons}
-use Rattle.textwrap_text.proofs.Common.{inl, inr, ◌-◌, ◌<◌, ◌≤◌, ◌++◌, length, drop, get_or, ap}
-use Rattle.textwrap_text.proofs.Common.{◌∙◌, slice_range, cases_lt, eqb-true, length-append}
-use Rattle.textwrap_text.proofs.Common.{drop_split, get_or-take, get_or-drop, IsUtf8}
-use Rattle.textwrap_text.proofs.Common.{IsCharBoundary, IsUtf8-between, IsUtf8-drop, chars-append}
-use Rattle.textwrap_text.proofs.Common.{chars_past_char, encodes-chars, encode_utf8_all}
-use Rattle.textwrap_text.proofs.Common.{IsCharBoundary-after_ascii, TextUnit, Visible, unit_at}
-use Rattle.textwrap_text.proofs.Common.{units, unit_width, units_width, next_of, shows, is_blank}
-use Rattle.textwrap_words.proofs.Common.{is_due, Splitter}
-use Rattle.textwrap_text.specs.declared.escapes.State.{State}
-use Rattle.textwrap_text.specs.declared.escapes.State.TheVariants.{Text, Escape, Control, Command}
+use Rattle.textwrap_text.proofs.Common.{IsCharBoundary-after_ascii, chars_past_char, IsCharBoundary}
+use Rattle.textwrap_text.proofs.Common.{encode_utf8_all, IsUtf8-between, encodes-chars, IsUtf8-drop}
+use Rattle.textwrap_text.proofs.Common.{length-append, chars-append, get_or-drop, get_or-take, List}
+use Rattle.textwrap_text.proofs.Common.{slice_range, sum_by-cons, units_width, cases_Bool, TextUnit}
+use Rattle.textwrap_text.proofs.Common.{drop_split, unit_width, add-zero, cases_lt, eqb-true, arith}
+use Rattle.textwrap_text.proofs.Common.{is_blank, not-true, zero-add, Visible, next_of, unit_at, []}
+use Rattle.textwrap_text.proofs.Common.{IsUtf8, get_or, length, false, shows, units, drop, refl, ap}
+use Rattle.textwrap_text.proofs.Common.{true, ◌++◌, inl, inr, sym, ◌+◌, ◌-◌, ◌<◌, ◌∙◌, ◌∷◌, ◌≡◌, ℕ}
+use Rattle.textwrap_text.proofs.Common.{◌≢◌, ◌≤◌}
+use Rattle.textwrap_words.proofs.Common.{IsCharBoundary-before_ascii, length-slice, some-bytes}
+use Rattle.textwrap_words.proofs.Common.{Splitter, is_point, one-byte, is_due, State}
+use Rattle.textwrap_text.specs.declared.escapes.State.TheVariants.{Command, Control, Escape, Text}
 use Rattle.textwrap_words.proofs.Word.Breaking.{taken_units, left_units}
-use Rattle.textwrap_text.proofs.Units.Reading.{units_in, units_in-text, units_in-inside, added}
-use Rattle.std.specs.Prelude.{chars, encode_utf8}
-use Rattle.std.proofs.lemmas.Str.{IsCharBoundary-before_ascii}
-use Rattle.textwrap_words.specs.PieceCuts.{is_point}
-use Rattle.textwrap_text.proofs.Texts.{one-byte, some-bytes}
-use Rattle.textwrap_text.proofs.Lists.Parts.{length-slice}
+use Rattle.textwrap_text.proofs.Units.Reading.{units_in-inside, units_in-text, units_in, added}
+use Rattle.std.specs.Prelude.{encode_utf8, chars}
 use Rattle.textwrap_words.proofs.Word.Splitting.{point-hyphen}
 
 -- ---- the units of the first part, one after another

@@ -1,16 +1,15 @@
 -- The parts into which units are broken: the computed ones, and no others.
-use Rattle.textwrap_text.proofs.Common.{inl, inr, ◌≡◌, ◌+◌, ◌<◌, ◌≤◌, ◌∷◌, ◌++◌, refl, zero, drop}
-use Rattle.textwrap_text.proofs.Common.{ℕ, true, cond, List, arith, All-nil, nat_lt, filter, length}
-use Rattle.textwrap_text.proofs.Common.{false, onto_first, sum_by-cons, append_assoc, sum_by-append}
-use Rattle.textwrap_text.proofs.Common.{[], ap, ⊤, ◌≢◌, All, sym, ◌∙◌, suc, ◌⊎◌, subst, zero-add}
-use Rattle.textwrap_text.proofs.Common.{cases_Bool, nat_tests, add-zero, and_parts, All-head}
-use Rattle.textwrap_text.proofs.Common.{All-tail, ltb-true, All-cons, flat_map, cases_lt, TextUnit}
-use Rattle.textwrap_text.proofs.Common.{Visible, Sequence, columns, unit_width, units_width}
-use Rattle.textwrap_text.proofs.Common.{characters, taken_at, units_past, units, visible_of}
-use Rattle.textwrap_words.proofs.Common.{IsKept, AllPartsFull, is_due, broken_units}
+use Rattle.textwrap_text.proofs.Common.{sum_by-append, append_assoc, sum_by-cons, units_width, List}
+use Rattle.textwrap_text.proofs.Common.{cases_Bool, characters, onto_first, unit_width, units_past}
+use Rattle.textwrap_text.proofs.Common.{visible_of, and_parts, nat_tests, All-cons, All-head, arith}
+use Rattle.textwrap_text.proofs.Common.{All-tail, Sequence, TextUnit, add-zero, cases_lt, flat_map}
+use Rattle.textwrap_text.proofs.Common.{ltb-true, taken_at, zero-add, All-nil, Visible, columns, []}
+use Rattle.textwrap_text.proofs.Common.{filter, length, nat_lt, false, subst, units, cond, drop, ap}
+use Rattle.textwrap_text.proofs.Common.{refl, true, zero, ◌++◌, All, inl, inr, suc, sym, ◌+◌, ◌<◌}
+use Rattle.textwrap_text.proofs.Common.{◌↔◌, ◌∙◌, ◌∷◌, ◌≡◌, ◌≢◌, ◌≤◌, ◌⊎◌, ℕ, ⊤}
+use Rattle.textwrap_words.proofs.Common.{AllPartsFull, broken_units, IsKept, is_due, flat}
 use Rattle.textwrap_words.specs.Breaking.{parts_left, AreBroken}
-use Rattle.textwrap_text.proofs.Lists.Parts.{flat}
-use Rattle.textwrap_text.proofs.Units.Texts.{units-tile, units-part}
+use Rattle.textwrap_text.proofs.Units.Texts.{units-part, units-tile}
 
 -- ---- the computed parts, one by one
 
@@ -106,21 +105,11 @@ IsFullAfter limit width [] = ⊤
 IsFullAfter limit width (next ∷ parts) = (c : ℕ) × (after : List TextUnit)
     × (next ≡ Visible c ∷ after) × (0 < width) × (limit < width + columns c)
 
-pub AllPartsFull-head : (limit : ℕ) (part : List TextUnit) (parts : List (List TextUnit))
-    → AllPartsFull limit (part ∷ parts) → IsFullAfter limit (units_width part) parts
-AllPartsFull-head limit part [] h = tt
-AllPartsFull-head limit part (next ∷ parts) h = h.0
-
-pub AllPartsFull-tail : (limit : ℕ) (part : List TextUnit) (parts : List (List TextUnit))
-    → AllPartsFull limit (part ∷ parts) → AllPartsFull limit parts
-AllPartsFull-tail limit part [] h = tt
-AllPartsFull-tail limit part (next ∷ parts) h = h.1
-
-pub AllPartsFull-cons : (limit : ℕ) (part : List TextUnit) (parts : List (List TextUnit))
-    → IsFullAfter limit (units_width part) parts → AllPartsFull limit parts
+AllPartsFull-cons : (limit : ℕ) (part : List TextUnit) (parts : List (List TextUnit))
     → AllPartsFull limit (part ∷ parts)
-AllPartsFull-cons limit part [] f h = tt
-AllPartsFull-cons limit part (next ∷ parts) f h = (f, h)
+    ↔ IsFullAfter limit (units_width part) parts × AllPartsFull limit parts
+AllPartsFull-cons limit part [] = (λ h. (tt, tt), λ h. tt)
+AllPartsFull-cons limit part (next ∷ parts) = (λ h. h, λ h. h)
 
 pub due-true : (limit width c : ℕ) → 0 < width → limit < width + columns c
     → is_due limit width (Visible c) ≡ true
@@ -145,10 +134,10 @@ whole limit width first [] k f ks fs = along limit width first [] [] k refl
 whole limit width first (next ∷ parts) k (c, after, e, some, over) ks fs =
     let kept = IsKept-after limit (Visible c ∷ after)
     (rw e at (All-head (IsKept limit) next parts ks)) in
-    let full = rw (sum_by-cons unit_width (Visible c) after) at
-    (rw e at (AllPartsFull-head limit next parts fs)) in
+    let (first_full, others) = (AllPartsFull-cons limit next parts).0 fs in
+    let full = rw (sum_by-cons unit_width (Visible c) after) at (rw e at first_full) in
     let rest = whole limit (columns c) after parts (rw (zero-add (columns c)) at kept.1) full
-    (All-tail (IsKept limit) next parts ks) (AllPartsFull-tail limit next parts fs) in
+    (All-tail (IsKept limit) next parts ks) others in
     along limit width first (next ++ flat parts) (next ∷ parts) k
     (rw (e, due-true limit (width + units_width first) c some over)
     (ap (λ ps. [] ∷ onto_first (Visible c) ps) rest))
@@ -160,11 +149,9 @@ AreBroken-unique limit us ([] ∷ parts) h =
     absurd (All-head (λ part. part ≢ []) [] parts h.nonempty refl)
 AreBroken-unique limit us ((u ∷ first) ∷ parts) h =
     let kept = IsKept-after limit (u ∷ first) (All-head (IsKept limit) (u ∷ first) parts h.kept) in
-    let full : IsFullAfter limit (0 + units_width (u ∷ first)) parts =
-    rw zero-add (AllPartsFull-head limit (u ∷ first) parts h.full) in
-    sym (whole limit 0 (u ∷ first) parts kept full
-    (All-tail (IsKept limit) (u ∷ first) parts h.kept)
-    (AllPartsFull-tail limit (u ∷ first) parts h.full)) ∙ ap (broken_units limit) h.tiles
+    let full = (AllPartsFull-cons limit (u ∷ first) parts).0 h.full in
+    sym (whole limit 0 (u ∷ first) parts kept (rw zero-add full.0)
+    (All-tail (IsKept limit) (u ∷ first) parts h.kept) full.1) ∙ ap (broken_units limit) h.tiles
 
 -- ---- the computed parts have the properties
 
@@ -211,7 +198,7 @@ from-first limit u us first parts h =
       nonempty = All-cons (λ part. part ≢ []) (u ∷ first) parts (λ e. cc) h.others.nonempty;
       kept = All-cons (IsKept limit) (u ∷ first) parts (IsKept-from limit (u ∷ first) kept_part)
           h.others.kept;
-      full = AllPartsFull-cons limit (u ∷ first) parts full_part h.others.full;
+      full = (AllPartsFull-cons limit (u ∷ first) parts).1 (full_part, h.others.full);
     }
 
 after-cut : (limit width : ℕ) (u : TextUnit) (us first : List TextUnit)

@@ -1,30 +1,27 @@
 -- The pieces of broken words: their texts, their widths, and that they tile their word.
-use Rattle.textwrap_text.proofs.Common.{chars_from_encodes, take-append-drop, encode_utf8_all, List}
-use Rattle.textwrap_text.proofs.Common.{flat_map-append, nil_from_length, IsCharBoundary, chars-nil}
-use Rattle.textwrap_text.proofs.Common.{encodes-append, encodes-chars, sum_by-append, chars-append}
-use Rattle.textwrap_text.proofs.Common.{append_assoc, IsUtf8-take, sum_by-cons, append-nil, All-nil}
-use Rattle.textwrap_text.proofs.Common.{false≢true, nat_tests, ltb-false, cond_both, flat_map, ◌++◌}
-use Rattle.textwrap_text.proofs.Common.{All-head, All-tail, All-cons, length, IsUtf8, sum_by, arith}
-use Rattle.textwrap_text.proofs.Common.{lt-ltb, false, subst, refl, take, drop, Bool, true, cond, ℕ}
-use Rattle.textwrap_text.proofs.Common.{◌≡◌, ◌≢◌, ◌≤◌, ◌∷◌, sym, ◌∙◌, map, ◌<◌, All, [], ap, ⊤}
-use Rattle.textwrap_text.proofs.Common.{TextUnit, visible_of, text_width, unit_width, characters}
-use Rattle.textwrap_text.proofs.Common.{columns, units_width, units, Visible}
-use Rattle.textwrap_words.proofs.Common.{units_text, pieces_with, broken_word, WordText, tile_of}
-use Rattle.textwrap_words.proofs.Common.{tiled, piece, IsKept, broken_units, broken_texts}
-use Rattle.textwrap_words.proofs.Common.{broken_pieces, broken_words}
+use Rattle.textwrap_text.proofs.Common.{chars_from_encodes, take-append-drop, encode_utf8_all, Bool}
+use Rattle.textwrap_text.proofs.Common.{flat_map-append, IsCharBoundary, encodes-append, append-nil}
+use Rattle.textwrap_text.proofs.Common.{encodes-chars, sum_by-append, append_assoc, chars-append, ℕ}
+use Rattle.textwrap_text.proofs.Common.{IsUtf8-take, sum_by-cons, units_width, characters, All-cons}
+use Rattle.textwrap_text.proofs.Common.{false≢true, text_width, unit_width, visible_of, chars-nil}
+use Rattle.textwrap_text.proofs.Common.{cond_both, ltb-false, nat_tests, All-head, All-tail, IsUtf8}
+use Rattle.textwrap_text.proofs.Common.{TextUnit, flat_map, All-nil, Visible, columns, length, List}
+use Rattle.textwrap_text.proofs.Common.{lt-ltb, sum_by, arith, false, subst, units, cond, drop, All}
+use Rattle.textwrap_text.proofs.Common.{refl, take, true, ◌++◌, map, sym, ◌<◌, ◌∙◌, ◌∷◌, ◌≡◌, ◌≢◌}
+use Rattle.textwrap_text.proofs.Common.{◌≤◌, [], ap, ⊤}
+use Rattle.textwrap_words.proofs.Common.{IsCharBoundary-from_drop, append_cancel_right, broken_word}
+use Rattle.textwrap_words.proofs.Common.{column_characters, broken_pieces, broken_texts, units_text}
+use Rattle.textwrap_words.proofs.Common.{broken_units, broken_words, pieces_with, utf8-front, piece}
+use Rattle.textwrap_words.proofs.Common.{utf8-back, WordText, tile_of, IsKept, tiled}
 use Rattle.textwrap_words.proofs.Word.Ahead.{EndsHere}
 use Rattle.std.specs.Prelude.{chars}
-use Rattle.std.proofs.lemmas.List.{append_cancel_right}
-use Rattle.std.proofs.lemmas.Str.{IsCharBoundary-from_drop}
-use Rattle.textwrap_words.proofs.Word.Breaking.{taken_units, left_units, taken-left, parts_after-is}
-use Rattle.textwrap_words.proofs.Word.Breaking.{AreBroken-exists, AreBroken-unique, IsOwn}
-use Rattle.textwrap_words.proofs.Word.Breaking.{column_units, single, parts-own}
-use Rattle.textwrap_text.proofs.Units.Texts.{units-tile, units-part, units_width-is}
-use Rattle.textwrap_words.proofs.Word.Words.{IsMeasured, EndsInBlanks, HasNoPenalty, no_blanks}
+use Rattle.textwrap_words.proofs.Word.Breaking.{AreBroken-exists, AreBroken-unique, parts_after-is}
+use Rattle.textwrap_words.proofs.Word.Breaking.{column_units, taken_units, left_units, taken-left}
+use Rattle.textwrap_words.proofs.Word.Breaking.{parts-own, single, IsOwn}
+use Rattle.textwrap_text.proofs.Units.Texts.{units_width-is, units-part, units-tile}
+use Rattle.textwrap_words.proofs.Word.Words.{EndsInBlanks, HasNoPenalty, IsMeasured, no_blanks}
 use Rattle.textwrap_words.proofs.Word.Words.{All-each}
-use Rattle.textwrap_text.proofs.Texts.{utf8-front, utf8-back}
 use Rattle.std.proofs.Common.{ltb}
-use Rattle.textwrap_text.specs.Units.{column_characters}
 
 -- ---- the texts of the pieces of a word
 
@@ -103,11 +100,6 @@ pub pieces_with-more : (whitespace penalty text : List ℕ) (texts : List (List 
 pieces_with-more whitespace penalty text [] some = absurd (some refl)
 pieces_with-more whitespace penalty text (next ∷ texts) some = refl
 
--- one turn of the iterator that gives the pieces: at the end, at the last piece, and before it
-pub turn-none : (limit : ℕ) (whitespace penalty text : List ℕ) → length text ≡ 0
-    → pieces_with whitespace penalty (broken_texts limit text) ≡ []
-turn-none limit whitespace penalty text none = grind (arith, nil_from_length, broken_texts-nil)
-
 pub pieces_with-texts : (whitespace penalty : List ℕ) (texts : List (List ℕ))
     → flat_map (λ w. w.word) (pieces_with whitespace penalty texts) ≡ flat_map (λ text. text) texts
 pieces_with-texts whitespace penalty [] = refl
@@ -141,12 +133,12 @@ tiled-broken_words limit [] utf8 some = refl
 tiled-broken_words limit (w ∷ words) utf8 some =
     let first = tiled-broken_word limit w (All-head (λ v. IsUtf8 v.word) w words utf8)
     (All-head (λ v. limit < v.width → v.word ≢ []) w words some) in
-    flat_map-append tile_of (broken_word limit w) (broken_words limit words)
-    ∙ ap (λ l. l ++ tiled (broken_words limit words)) first ∙ ap (λ l. tile_of w ++ l)
-    (tiled-broken_words limit words (All-tail (λ v. IsUtf8 v.word) w words utf8)
-    (All-tail (λ v. limit < v.width → v.word ≢ []) w words some))
-
--- ---- words that stay whole
+    rw (
+      flat_map-append tile_of (broken_word limit w) (broken_words limit words),
+      first,
+      tiled-broken_words limit words (All-tail (λ v. IsUtf8 v.word) w words utf8)
+          (All-tail (λ v. limit < v.width → v.word ≢ []) w words some),
+    )
 
 -- ---- the texts of broken pieces
 

@@ -1,10 +1,11 @@
 -- Offsets of which each may follow the one before it: by index, with one more, and in other words.
-use Rattle.textwrap_text.proofs.Common.{ℕ, zero, suc, ◌<◌, ◌≤◌, ◌↔◌, List, [], ◌∷◌, ◌++◌, length}
-use Rattle.textwrap_text.proofs.Common.{get_or, arith, All, All-head, All-tail, IsNonDecreasing}
-use Rattle.textwrap_text.proofs.Common.{get_or_default, ◌+◌, ◌≡◌, ⊤}
+use Rattle.textwrap_text.proofs.Common.{IsNonDecreasing, get_or_default, All-head, All-tail, get_or}
+use Rattle.textwrap_text.proofs.Common.{length, arith, List, zero, ◌++◌, All, suc, ◌+◌, ◌<◌, ◌↔◌, ℕ}
+use Rattle.textwrap_text.proofs.Common.{◌∷◌, ◌≡◌, ◌≤◌, [], ⊤}
 use Rattle.std.specs.List.Sorted.{IsStrictlyIncreasing}
 use Rattle.std.proofs.lemmas.List.Sorted.{IsNonDecreasingBy-from_all_adjacent}
-use Rattle.textwrap_words.specs.Cuts.{AreNext, AreInnerCuts, AreCuts, IsNextCut, IsNextPoint}
+use Rattle.textwrap_words.proofs.Common.{IsNextPoint, IsNextCut, AreNext}
+use Rattle.textwrap_words.specs.Cuts.{AreInnerCuts, AreCuts}
 
 module _ (IsNext : ℕ → ℕ → Type 0) where
   pub next-at : (offsets : List ℕ) (last k : ℕ) → AreNext IsNext offsets last → k < length offsets

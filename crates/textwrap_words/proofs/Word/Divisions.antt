@@ -1,22 +1,18 @@
 -- Lemmas on what an algorithm may divide, also one of a caller: its lines are the first elements in
 -- order, and along a view they are those of what the view gives.
-use Rattle.textwrap_text.proofs.Common.{◌≡◌, append_assoc, append-nil, slice_range, ◌≢◌, List, drop}
-use Rattle.textwrap_text.proofs.Common.{refl, subst, arith, Some, None, ◌++◌, ℕ, length, map-id}
-use Rattle.textwrap_text.proofs.Common.{take-map, length-map, drop_split, ◌<◌, [], ◌∷◌, map, sym}
-use Rattle.textwrap_text.proofs.Common.{ap, ◌∙◌, Ok}
-use Rattle.textwrap_words.proofs.Common.{WordText, sizes_of, Greedy, LeastCost, IsDividedBy}
-use Rattle.textwrap_words.proofs.Common.{MayDivide, algorithm_view}
-use Rattle.std.proofs.lemmas.List.{drop-map}
-use Rattle.textwrap_words.specs.Cuts.{AreNext}
-use Rattle.textwrap_words.specs.LineEnds.{AreEnds, IsNextEnd, lines_from}
-use Rattle.textwrap_words.specs.WrapAlgorithms.{MayEnd}
+use Rattle.textwrap_text.proofs.Common.{append_assoc, slice_range, append-nil, drop_split, take-map}
+use Rattle.textwrap_text.proofs.Common.{length-map, length, map-id, arith, subst, List, None, Some}
+use Rattle.textwrap_text.proofs.Common.{drop, refl, ◌++◌, map, sym, ◌<◌, ◌∙◌, ◌∷◌, ◌≡◌, ◌≢◌, Ok, []}
+use Rattle.textwrap_text.proofs.Common.{ap, ℕ}
+use Rattle.textwrap_words.proofs.Common.{algorithm_view, IsDividedBy, LeastCost, MayDivide, AreNext}
+use Rattle.textwrap_words.proofs.Common.{WordText, drop-map, sizes_of, Begins, Greedy, MayEnd, flat}
+use Rattle.textwrap_words.specs.LineEnds.{lines_from, IsNextEnd, AreEnds}
 use Rattle.textwrap_words.specs.declared.wrap_algorithms.WrapAlgorithm.{WrapAlgorithm}
-use Rattle.textwrap_words.specs.declared.wrap_algorithms.WrapAlgorithm.TheVariants.{FirstFit}
 use Rattle.textwrap_words.specs.declared.wrap_algorithms.WrapAlgorithm.TheVariants.{OptimalFit}
+use Rattle.textwrap_words.specs.declared.wrap_algorithms.WrapAlgorithm.TheVariants.{FirstFit}
 use Rattle.textwrap_words.specs.declared.wrap_algorithms.WrapAlgorithm.TheVariants.{Custom}
 use Rattle.textwrap_words.specs.declared.wrap_algorithms.line_ends.LineEnds.{LineEnds}
-use Rattle.textwrap_base.proofs.Division.Map.{IsDividedBy-map, IsDividedBy-whole, IsDividedBy-some}
-use Rattle.textwrap_text.proofs.Lists.Parts.{flat, Begins}
+use Rattle.textwrap_base.proofs.Division.Map.{IsDividedBy-whole, IsDividedBy-some, IsDividedBy-map}
 
 -- up to an end, the lines are the first elements from a place on
 pub lines_from-begin : {X : Type 0} (xs : List X) (start : ℕ) (ends : List ℕ)

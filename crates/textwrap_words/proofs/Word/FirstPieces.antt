@@ -1,27 +1,22 @@
 -- The pieces of a text from a place on, and the first of them, where the reader stopped.
-use Rattle.textwrap_text.proofs.Common.{inl, inr, ◌≡◌, List, [], ◌++◌, take, drop, true, ◌≢◌, ◌+◌}
-use Rattle.textwrap_text.proofs.Common.{◌-◌, ◌<◌, ◌≤◌, ◌∷◌, map, sym, ap, ◌∙◌, ℕ, slice_range}
-use Rattle.textwrap_text.proofs.Common.{length-drop, IsCharBoundary, IsUtf8-between, Bool, length}
-use Rattle.textwrap_text.proofs.Common.{get_or, arith, cases_lt, IsUtf8, subst, false, drop-drop}
-use Rattle.textwrap_text.proofs.Common.{take-take, get_or-take, get_or-drop, true≢false, le-ltb}
-use Rattle.textwrap_text.proofs.Common.{trimmed_len, without_final_blanks, text_width, is_blank}
-use Rattle.textwrap_words.proofs.Common.{word_of, piece, broken_word, broken_words, broken_texts}
-use Rattle.textwrap_words.proofs.Common.{Splitter, WordText}
-use Rattle.std.proofs.lemmas.List.{drop-take}
-use Rattle.textwrap_words.specs.PieceCuts.{parts_by, pieces_from, IsPart, AreFinalBlanks, is_point}
-use Rattle.textwrap_words.specs.PieceCuts.{is_piece_cut, IsPartWord}
-use Rattle.textwrap_text.proofs.Lists.Parts.{length-slice, slice-nil}
-use Rattle.textwrap_words.proofs.Word.Texts.{trimmed-past, trimmed-le, trimmed-blank, trimmed-other}
-use Rattle.textwrap_words.proofs.Word.BrokenPieces.{broken_word-front, broken_word-texts}
-use Rattle.textwrap_words.proofs.Word.BrokenPieces.{broken_texts-narrow, broken_texts-nil}
+use Rattle.textwrap_text.proofs.Common.{without_final_blanks, IsCharBoundary, IsUtf8-between, arith}
+use Rattle.textwrap_text.proofs.Common.{get_or-drop, get_or-take, length-drop, slice_range, IsUtf8}
+use Rattle.textwrap_text.proofs.Common.{trimmed_len, text_width, true≢false, drop-drop, take-take}
+use Rattle.textwrap_text.proofs.Common.{cases_lt, is_blank, get_or, le-ltb, length, false, subst, ℕ}
+use Rattle.textwrap_text.proofs.Common.{Bool, List, drop, take, true, ◌++◌, inl, inr, map, sym, ◌+◌}
+use Rattle.textwrap_text.proofs.Common.{◌-◌, ◌<◌, ◌∙◌, ◌∷◌, ◌≡◌, ◌≢◌, ◌≤◌, [], ap}
+use Rattle.textwrap_words.proofs.Common.{IsCharBoundary-end, AreFinalBlanks, IsFirstWithin, is_stop}
+use Rattle.textwrap_words.proofs.Common.{broken_texts, broken_words, is_piece_cut, length-slice}
+use Rattle.textwrap_words.proofs.Common.{IsFirstStop, IsFirstWord, broken_word, pieces_from, IsPart}
+use Rattle.textwrap_words.proofs.Common.{IsPartWord, drop-take, slice-nil, Splitter, WordText}
+use Rattle.textwrap_words.proofs.Common.{is_point, or_parts, parts_by, or-true, word_of, piece}
+use Rattle.textwrap_words.proofs.Word.Texts.{trimmed-blank, trimmed-other, trimmed-past, trimmed-le}
+use Rattle.textwrap_words.proofs.Word.BrokenPieces.{broken_texts-narrow, broken_word-front}
+use Rattle.textwrap_words.proofs.Word.BrokenPieces.{broken_word-texts, broken_texts-nil}
 use Rattle.textwrap_words.proofs.Word.Parts.{parts_by-front}
-use Rattle.textwrap_words.specs.Pieces.{IsFirstStop, is_stop, IsFirstWithin, IsFirstWord}
 use Rattle.textwrap_words.proofs.Word.Words.{text_width-nil}
-use Rattle.textwrap_words.proofs.Word.SplitParts.{point-none, blanks-part, part-of_word, word-part}
-use Rattle.std.proofs.lemmas.Str.{IsCharBoundary-end}
+use Rattle.textwrap_words.proofs.Word.SplitParts.{part-of_word, blanks-part, point-none, word-part}
 use Rattle.textwrap_words.proofs.Word.Splitting.{point-hyphen}
-use Rattle.std.proofs.Math.Bool.{or-true}
-use Rattle.std.proofs.lemmas.Bool.{or_parts}
 
 -- ---- the pieces of a text from a place on: those of the part that begins there, and those from
 -- its end on; and where the first of them stops inside the part
@@ -62,11 +57,10 @@ module _ (test : ℕ → Bool) (text : List ℕ) where
       let within = part.within in
       let place : at + n ≡ end = omega (arith, some) in
       let left = length-drop at text in
-      parts_by-front test (drop at text) at n (omega (arith, some)) (omega (arith, left, within))
+      rw (drop-drop n at text, place)
+      at (parts_by-front test (drop at text) at n (omega (arith, some)) (omega (arith, left, within))
       (λ k first below. part.uncut (at + k) (omega (arith, first)) (omega (arith, below)))
-      (λ inside. ap test place ∙ part.ends (omega (arith, inside, left, some)))
-      ∙ ap (λ l. slice_range text at end ∷ parts_by test (at + n) l) (drop-drop n at text)
-      ∙ ap (λ k. slice_range text at end ∷ parts_by test k (drop k text)) place
+      (λ inside. ap test place ∙ part.ends (omega (arith, inside, left, some))))
 
 -- one part, whose final blanks are known
 module _ {test : ℕ → Bool} {text : List ℕ} {at word_end end : ℕ} (limit : ℕ)
@@ -111,11 +105,13 @@ pieces-stop {test} {text} {at} {word_end} {end} limit stop part are after inside
       other = λ _. are.other (omega (arith, after, inside));
       blanks = are.blanks;
     } in
-    pieces-part limit part are ∙ ap (λ ws. ws ++ pieces_from test limit text end)
-    (broken_word-front limit (slice_range text at word_end) (slice_range text at stop) rest
-    (slice_range text word_end end) utf8 some wide texts)
-    ∙ ap (λ ws. piece (slice_range text at stop) [] [] ∷ ws)
-    (sym (pieces-part limit left left_blanks))
+    rw (
+      pieces-part limit part are,
+      pieces-part limit left left_blanks,
+      broken_word-front limit
+          (slice_range text at word_end) (slice_range text at stop) rest (slice_range text word_end end)
+          utf8 some wide texts,
+    )
 
 -- ---- the pieces of a text from a place on, where the first part of the text up to the end of a
 -- word is known
@@ -164,7 +160,6 @@ module _ {test stops : ℕ → Bool} {limit : ℕ} {text : List ℕ} (utf8 : IsU
   part-stops : place < r.stop → BeginsWith test limit text at place place width
   part-stops later =
       let v = r.stop in
-      let front = slice_range text at place in
       let rest = slice_range text place v in
       let rest_utf8 = IsUtf8-between text place v utf8 (omega (arith, later)) r.boundary r.cut in
       let whole_utf8 = IsUtf8-between text at v utf8 (omega (arith, r.from, later)) start r.cut in
@@ -174,10 +169,8 @@ module _ {test stops : ℕ → Bool} {limit : ℕ} {text : List ℕ} (utf8 : IsU
       let rest_some : rest ≢ [] = λ none.
       omega (arith, later, length-slice text place v r.cut.0, ap length none) in
       let past : limit < text_width (slice_range text at v) = grind (arith, broken_texts-narrow) in
-      pieces-stop limit place part are (r.some inside) later rest_utf8 past texts
-      ∙ ap (λ l. piece front l [] ∷ pieces_from test limit text place) (sym (slice-nil text place))
-      ∙ ap (λ w. w ∷ pieces_from test limit text place)
-      (same-piece front (slice_range text place place) width r.wide)
+      rw (slice-nil text place, r.wide)
+      (pieces-stop limit place part are (r.some inside) later rest_utf8 past texts)
 
 -- ---- the first piece of a word with its blanks, where the reader stopped. The word may have
 -- blanks inside

@@ -1,36 +1,33 @@
 -- Offsets of the visible text of a line, and the cuts of the line there.
-use Rattle.textwrap_text.proofs.Common.{inl, inr, ◌≡◌, ◌≢◌, ◌+◌, eqb, ◌∷◌, ◌++◌, ◌∙◌, ◌↔◌, ◌<◌, map}
-use Rattle.textwrap_text.proofs.Common.{cases_Bool, flat_map, All-weaker, append_assoc, ℕ, [], sym}
-use Rattle.textwrap_text.proofs.Common.{◌≤◌, Bool, cond, List, take, refl, ap, true, subst, rules}
-use Rattle.textwrap_text.proofs.Common.{false, length, arith, Contains, zero-add, lt-ltb, IsUtf8}
-use Rattle.textwrap_text.proofs.Common.{add-zero, encode_utf8_all, encodes-append, flat_map-append}
-use Rattle.textwrap_text.proofs.Common.{length-append, IsCharBoundary, encodes-chars, characters}
-use Rattle.textwrap_text.proofs.Common.{escape_len, shows, units_past, next_of, taken_in, TextUnit}
-use Rattle.textwrap_text.proofs.Common.{Sequence, stripped, Visible, units}
-use Rattle.textwrap_words.proofs.Common.{ends_from, VisibleEnd, units_text, cuts_among}
-use Rattle.textwrap_words.proofs.Common.{is_cut_after, parts_between, shown_len, WordText, word_of}
-use Rattle.textwrap_words.proofs.Common.{cuts_at}
+use Rattle.textwrap_text.proofs.Common.{encode_utf8_all, flat_map-append, IsCharBoundary, Contains}
+use Rattle.textwrap_text.proofs.Common.{encodes-append, encodes-chars, length-append, append_assoc}
+use Rattle.textwrap_text.proofs.Common.{All-weaker, cases_Bool, characters, escape_len, units_past}
+use Rattle.textwrap_text.proofs.Common.{Sequence, TextUnit, add-zero, flat_map, stripped, taken_in}
+use Rattle.textwrap_text.proofs.Common.{zero-add, Visible, next_of, IsUtf8, length, lt-ltb, arith}
+use Rattle.textwrap_text.proofs.Common.{false, rules, shows, subst, units, Bool, List, cond, refl}
+use Rattle.textwrap_text.proofs.Common.{take, true, ◌++◌, eqb, inl, inr, map, sym, ◌+◌, ◌<◌, ◌↔◌, ℕ}
+use Rattle.textwrap_text.proofs.Common.{◌∙◌, ◌∷◌, ◌≡◌, ◌≢◌, ◌≤◌, [], ap}
+use Rattle.textwrap_words.proofs.Common.{IsCharBoundary-at_seam, not_from_false, parts_between}
+use Rattle.textwrap_words.proofs.Common.{is_cut_after, VisibleEnd, cuts_among, some-bytes, WordText}
+use Rattle.textwrap_words.proofs.Common.{units_text, IsNextCut, ends_from, shown_len, utf8-back}
+use Rattle.textwrap_words.proofs.Common.{one-text, past-one, AreNext, cuts_at, word_of, State}
 use lib.Utf8.{encode}
-use Rattle.textwrap_text.specs.declared.escapes.State.{State}
-use Rattle.textwrap_text.specs.declared.escapes.State.TheVariants.{Text, Escape, Control, Command}
+use Rattle.textwrap_text.specs.declared.escapes.State.TheVariants.{Command, Control, Escape, Text}
 use Rattle.textwrap_text.proofs.Units.Reading.{taken-step, units_in}
-use Rattle.textwrap_text.proofs.Texts.{past-one, one-text, utf8-back, some-bytes}
-use Rattle.textwrap_text.proofs.Lists.Elements.{contains-nil, contains-cases, contains-later}
-use Rattle.textwrap_text.proofs.Lists.Elements.{contains-here, any-contains, contains-any}
-use Rattle.textwrap_text.proofs.Lists.Elements.{increasing-rising, rising-in_order, same-members}
+use Rattle.textwrap_text.proofs.Lists.Elements.{increasing-rising, rising-in_order, contains-cases}
+use Rattle.textwrap_text.proofs.Lists.Elements.{contains-later, contains-here, any-contains}
+use Rattle.textwrap_text.proofs.Lists.Elements.{contains-any, contains-nil, same-members}
 use Rattle.std.specs.Str.{chars}
 use Rattle.std.specs.Prelude.{◌&&◌}
 use Rattle.textwrap_text.specs.Characters.{characters_from, characters_of, shown_text}
-use Rattle.textwrap_text.proofs.Units.Characters.{AreAhead, ahead-next, ahead-start, shown-all}
-use Rattle.textwrap_text.proofs.Units.Characters.{shown-next}
+use Rattle.textwrap_text.proofs.Units.Characters.{ahead-start, ahead-next, shown-next, shown-all}
+use Rattle.textwrap_text.proofs.Units.Characters.{AreAhead}
 use Rattle.textwrap_text.specs.declared.characters.Character.{Character}
-use Rattle.std.proofs.lemmas.Bool.{not_from_false}
-use Rattle.textwrap_words.specs.Cuts.{AreInnerCuts, AreNext, IsNextCut}
+use Rattle.textwrap_words.specs.Cuts.{AreInnerCuts}
 use Rattle.textwrap_words.proofs.Word.Cuts.{next-increasing, next-with}
 use Rattle.std.specs.List.Sorted.{IsStrictlyIncreasing}
-use Rattle.textwrap_words.specs.WordOffsets.{IsCutAt, AreCutsAt, AreWordsAt, words_at}
+use Rattle.textwrap_words.specs.WordOffsets.{AreWordsAt, AreCutsAt, words_at, IsCutAt}
 use Rattle.std.proofs.lemmas.List.Elements.{All-contains_itself}
-use Rattle.std.proofs.lemmas.Str.{IsCharBoundary-at_seam}
 use Rattle.textwrap_text.proofs.Units.Texts.{units-tile}
 
 -- ---- where the visible characters of a line end

@@ -1,24 +1,22 @@
 -- The parts of a text between cuts, and between places that a test tells.
-use Rattle.textwrap_text.proofs.Common.{inl, nil_from_length, IsCharBoundary-start, inr, ◌≡◌, suc}
-use Rattle.textwrap_text.proofs.Common.{[], take, refl, None, zero, Bool, cond, ◌||◌, ℕ, length}
-use Rattle.textwrap_text.proofs.Common.{take_all, drop_all, add-zero, cases_lt, ◌<◌, ◌≤◌, ◌∷◌, All}
-use Rattle.textwrap_text.proofs.Common.{map, sym, ap, ◌∙◌, ◌≢◌, Ok, ◌+◌, ◌-◌, List, ◌++◌, get_or}
-use Rattle.textwrap_text.proofs.Common.{drop, ◌==◌, IsUtf8, true, subst, false, arith, All-cons}
-use Rattle.textwrap_text.proofs.Common.{All-weaker, drop-drop, nat_tests, append-nil, cases_Bool}
-use Rattle.textwrap_text.proofs.Common.{drop_split, onto_first, length-drop, slice_range, All-nil}
-use Rattle.textwrap_text.proofs.Common.{IsUtf8-drop, length_push, get_or-drop, IsCharBoundary}
-use Rattle.textwrap_text.proofs.Common.{IsUtf8-between, append_assoc, if◌then◌else◌, chunks, is_cut}
-use Rattle.textwrap_words.proofs.Common.{tiled, word_of, AreCuts, AreInnerCuts, parts_between}
-use Rattle.textwrap_words.proofs.Common.{WordText, MaySeparate, MaySplit, ends_in_hyphen}
-use Rattle.textwrap_words.proofs.Common.{splitter_view, Whole, AtHyphens, words_of}
-use Rattle.textwrap_text.proofs.Lists.Parts.{flat, onto_first-some, onto_first-append}
+use Rattle.textwrap_text.proofs.Common.{IsCharBoundary-start, nil_from_length, IsCharBoundary, Bool}
+use Rattle.textwrap_text.proofs.Common.{IsUtf8-between, if◌then◌else◌, IsUtf8-drop, get_or-drop, Ok}
+use Rattle.textwrap_text.proofs.Common.{length-drop, slice_range, All-weaker, append-nil, drop-drop}
+use Rattle.textwrap_text.proofs.Common.{cases_Bool, drop_split, onto_first, nat_tests, All-cons, []}
+use Rattle.textwrap_text.proofs.Common.{add-zero, cases_lt, drop_all, take_all, All-nil, IsUtf8, ap}
+use Rattle.textwrap_text.proofs.Common.{chunks, get_or, is_cut, length, arith, false, subst, List}
+use Rattle.textwrap_text.proofs.Common.{None, cond, drop, refl, take, true, zero, ◌++◌, ◌==◌, ◌||◌}
+use Rattle.textwrap_text.proofs.Common.{All, inl, inr, map, suc, sym, ◌+◌, ◌-◌, ◌<◌, ◌∙◌, ◌∷◌, ◌≡◌}
+use Rattle.textwrap_text.proofs.Common.{◌≢◌, ◌≤◌, ℕ}
+use Rattle.textwrap_words.proofs.Common.{onto_first-append, onto_first-some, ends_in_hyphen, Whole}
+use Rattle.textwrap_words.proofs.Common.{parts_between, splitter_view, AreInnerCuts, parts_onward}
+use Rattle.textwrap_words.proofs.Common.{IsNextPoint, MaySeparate, AtHyphens, MaySplit, WordText}
+use Rattle.textwrap_words.proofs.Common.{parts_by, words_of, AreCuts, AreNext, word_of, tiled, flat}
 use Rattle.textwrap_text.proofs.Units.Chunks.{chunks-from}
 use Rattle.textwrap_words.proofs.Word.Words.{tiled-map}
-use Rattle.textwrap_words.specs.Cuts.{AreNext, IsNextPoint, parts_onward}
 use Rattle.textwrap_words.proofs.Word.Cuts.{inner-cuts}
-use Rattle.textwrap_words.specs.declared.word_splitters.WordSplitter as splitters
-use Rattle.textwrap_words.proofs.Word.Pieces.{AreTexts, AreTexts-words, AreTexts-parts}
-use Rattle.textwrap_words.proofs.Word.Pieces.{ArePoints-cuts, ArePoints-hyphens}
+use Rattle.textwrap_words.proofs.Word.Pieces.{ArePoints-hyphens, ArePoints-cuts, AreTexts-parts}
+use Rattle.textwrap_words.proofs.Word.Pieces.{AreTexts-words, AreTexts}
 use Rattle.textwrap_words.specs.WordSeparators.{MayCut}
 use Rattle.textwrap_words.specs.WordSplitters.{MayPoint}
 use Rattle.textwrap_words.specs.declared.word_separators.WordSeparator.{WordSeparator}
@@ -26,7 +24,7 @@ use Rattle.textwrap_words.specs.declared.word_separators.WordSeparator.TheVarian
 use Rattle.textwrap_words.specs.declared.word_separators.WordSeparator.TheVariants.{Custom}
 use Rattle.textwrap_words.specs.declared.word_separators.line_cuts.LineCuts.{LineCuts}
 use Rattle.textwrap_words.specs.declared.word_splitters.word_cuts.WordCuts.{WordCuts}
-use Rattle.textwrap_words.specs.PieceCuts.{parts_by}
+use Rattle.textwrap_words.specs.declared.word_splitters.WordSplitter as splitters
 
 -- ---- the parts are the line
 
@@ -131,14 +129,15 @@ module _ (test : ℕ → Bool) where
   parts_by-front (b ∷ c ∷ cs) at (suc zero) some within none ends = grind arith
   parts_by-front (b ∷ c ∷ cs) at (suc (suc n)) some within none ends =
       let place : (at + 1) + suc n ≡ at + suc (suc n) = omega arith in
-      ap (λ t. next_by test t at b (c ∷ cs)) (none 1 (omega arith) (omega arith))
-      ∙ ap (onto_first b)
-      (parts_by-front (c ∷ cs) (at + 1) (suc n) (omega arith) (omega arith)
-      (λ k first below.
-      let next : at + suc k ≡ (at + 1) + k = omega arith in
-      ap test (sym next) ∙ none (suc k) (omega arith) (omega (arith, below)))
-      (λ inside. ap test place ∙ ends (omega (arith, inside))))
-      ∙ ap (λ m. take (suc (suc n)) (b ∷ c ∷ cs) ∷ parts_by test m (drop (suc n) (c ∷ cs))) place
+      rw (
+        none 1 (omega arith) (omega arith),
+        parts_by-front (c ∷ cs) (at + 1) (suc n) (omega arith) (omega arith)
+            (λ k first below.
+            let next : at + suc k ≡ (at + 1) + k = omega arith in
+            ap test (sym next) ∙ none (suc k) (omega arith) (omega (arith, below)))
+            (λ inside. ap test place ∙ ends (omega (arith, inside))),
+        place,
+      )
 
   -- what is cut nowhere is one part
   pub parts_by-whole : (rest : List ℕ) (at : ℕ) → 0 < length rest
@@ -146,9 +145,8 @@ module _ (test : ℕ → Bool) where
       → parts_by test at rest ≡ rest ∷ []
   parts_by-whole rest at some none =
       let n = length rest in
-      parts_by-front rest at n some (omega arith) none (λ inside. absurd (omega (arith, inside)))
-      ∙ ap (λ p. p ∷ parts_by test (at + n) (drop n rest)) (take_all n rest (omega arith))
-      ∙ ap (λ l. rest ∷ parts_by test (at + n) l) (drop_all n rest (omega arith))
+      rw (take_all n rest (omega arith), drop_all n rest (omega arith))
+      at (parts_by-front rest at n some (omega arith) none (λ inside. absurd (omega (arith, inside))))
 
 -- ---- the parts of chunks
 
@@ -157,10 +155,38 @@ abbrev pub parts_within : (ℕ → Bool) → ℕ → List (List ℕ) → List (L
 parts_within test at [] = []
 parts_within test at (q ∷ qs) = parts_by test at q ++ parts_within test (at + length q) qs
 
+module _ (text : List ℕ) (at b : ℕ) (rest : List ℕ) (is : drop at text ≡ b ∷ rest) where
+  pub byte-here : get_or text at 0 ≡ b
+  byte-here = sym (rw (is, add-zero at) at (get_or-drop at text 0 0))
+
+  pub bytes-after : drop (at + 1) text ≡ rest
+  bytes-after = sym (drop-drop 1 at text) ∙ ap (drop 1) is
+
+  pub byte-inside : at < length text
+  byte-inside = omega (arith, length-drop at text, ap length is)
+
+  -- a part that begins one byte earlier
+  part-back : (cuts : List ℕ) → All (λ cut. at < cut) cuts
+      → parts_onward at cuts text ≡ onto_first b (parts_onward (at + 1) cuts text)
+  part-back [] above = ap (λ l. l ∷ []) (is ∙ ap (λ l. b ∷ l) (sym bytes-after))
+  part-back (cut ∷ cuts) above =
+      let more : cut - at ≡ suc (cut - (at + 1)) = omega (arith, above 0 0 (omega arith)) in
+      rw (is, more, bytes-after)
+
+-- whether the text is cut between two bytes that stand there
+cut-between : (text : List ℕ) (at b c : ℕ) (cs : List ℕ) → drop at text ≡ b ∷ c ∷ cs
+    → is_cut (get_or text (at + 1 - 1) 0) (get_or text (at + 1) 0) ≡ is_cut b c
+cut-between text at b c cs is =
+    let back : at + 1 - 1 ≡ at = omega arith in
+    rw (
+      back,
+      byte-here text at b (c ∷ cs) is,
+      byte-here text (at + 1) c cs (bytes-after text at b (c ∷ cs) is),
+    )
+
 -- a text that is cut between its words and at points
-module _ (text : List ℕ) (test point : ℕ → Bool)
-    (tests : (before after : List ℕ) (b c at : ℕ) → text ≡ before ++ b ∷ c ∷ after
-    → length before ≡ at → test (at + 1) ≡ (is_cut b c || point (at + 1))) where
+module _ (text : List ℕ) (test point : ℕ → Bool) (tests : (k : ℕ) → 0 < k → k < length text
+    → test k ≡ (is_cut (get_or text (k - 1) 0) (get_or text k 0) || point k)) where
   within-step : (at b c : ℕ) (q : List ℕ) (qs : List (List ℕ)) (t : Bool)
       → cond t ((b ∷ []) ∷ parts_within point (at + 1) ((c ∷ q) ∷ qs))
       (onto_first b (parts_within point (at + 1) ((c ∷ q) ∷ qs)))
@@ -175,16 +201,16 @@ module _ (text : List ℕ) (test point : ℕ → Bool)
   chunks-step at b c cs true rest = ap (λ ps. (b ∷ []) ∷ ps) rest
   chunks-step at b c cs false rest = grind (arith, chunks-from, within-step)
 
-  pub parts_by-chunks : (rest before : List ℕ) (at : ℕ) → text ≡ before ++ rest
-      → length before ≡ at → parts_by test at rest ≡ parts_within point at (chunks rest)
-  parts_by-chunks [] before at is len = refl
-  parts_by-chunks (b ∷ []) before at is len = refl
-  parts_by-chunks (b ∷ c ∷ cs) before at is len =
-      ap (λ t. next_by test t at b (c ∷ cs)) (tests before cs b c at is len)
-      ∙ chunks-step at b c cs (is_cut b c)
-      (parts_by-chunks (c ∷ cs) (before ++ b ∷ []) (at + 1)
-      (is ∙ sym (append_assoc before (b ∷ []) (c ∷ cs)))
-      (omega (arith, length_push before b, len)))
+  pub parts_by-chunks : (rest : List ℕ) (at : ℕ) → drop at text ≡ rest
+      → parts_by test at rest ≡ parts_within point at (chunks rest)
+  parts_by-chunks [] at is = refl
+  parts_by-chunks (b ∷ []) at is = refl
+  parts_by-chunks (b ∷ c ∷ cs) at is =
+      let next = bytes-after text at b (c ∷ cs) is in
+      ap (λ t. next_by test t at b (c ∷ cs))
+      (tests (at + 1) (omega arith) (byte-inside text (at + 1) c cs next)
+      ∙ ap (λ t. t || point (at + 1)) (cut-between text at b c cs is))
+      ∙ chunks-step at b c cs (is_cut b c) (parts_by-chunks (c ∷ cs) (at + 1) next)
 
 -- ---- places that a test tells, and the parts of a text between them
 
@@ -198,27 +224,6 @@ places_by test at [] = []
 places_by test at (b ∷ []) = []
 places_by test at (b ∷ c ∷ cs) =
     cut_here (test (at + 1)) (at + 1) ++ places_by test (at + 1) (c ∷ cs)
-
-module _ (text : List ℕ) (at b : ℕ) (rest : List ℕ) (is : drop at text ≡ b ∷ rest) where
-  pub byte-here : get_or text at 0 ≡ b
-  byte-here = ap (λ k. get_or text k 0) (sym (add-zero at)) ∙ sym (get_or-drop at text 0 0)
-      ∙ ap (λ l. get_or l 0 0) is
-
-  pub bytes-after : drop (at + 1) text ≡ rest
-  bytes-after = sym (drop-drop 1 at text) ∙ ap (drop 1) is
-
-  pub byte-inside : at < length text
-  byte-inside = omega (arith, length-drop at text, ap length is)
-
-  -- a part that begins one byte earlier
-  part-back : (cuts : List ℕ) → All (λ cut. at < cut) cuts
-      → parts_onward at cuts text ≡ onto_first b (parts_onward (at + 1) cuts text)
-  part-back [] above = ap (λ l. l ∷ []) (is ∙ ap (λ l. b ∷ l) (sym bytes-after))
-  part-back (cut ∷ cuts) above =
-      let more : cut - at ≡ suc (cut - (at + 1)) = omega (arith, above 0 0 (omega arith)) in
-      ap (λ l. l ∷ parts_onward cut cuts text)
-      (ap (λ l. take (cut - at) l) is ∙ ap (λ n. take n (b ∷ rest)) more
-      ∙ ap (λ l. b ∷ take (cut - (at + 1)) l) (sym bytes-after))
 
 -- tests that agree have the same parts
 pub parts-same : (test other : ℕ → Bool) (rest : List ℕ) (at : ℕ)
@@ -250,9 +255,7 @@ module _ (test : ℕ → Bool) where
       let one : at + 1 - at ≡ 1 = omega arith in
       elim (test (at + 1)) as (λ t. parts_onward at (cut_here t (at + 1) ++ places) text
       ≡ (if t then (b ∷ []) ∷ parts else onto_first b parts)) [
-        | true ↦
-            ap (λ l. l ∷ parts_onward (at + 1) places text)
-            (ap (λ n. take n (drop at text)) one ∙ ap (take 1) is) ∙ ap (λ ps. (b ∷ []) ∷ ps) next
+        | true ↦ rw (one, is, next)
         | false ↦
             part-back text at b (c ∷ cs) is places
             (All-weaker (λ p. at + 1 < p) (λ p. at < p) (λ p h. omega (arith, h)) places
@@ -273,13 +276,8 @@ module _ (test : ℕ → Bool) where
   parts-chunks text (b ∷ []) at is same = refl
   parts-chunks text (b ∷ c ∷ cs) at is same =
       let next = bytes-after text at b (c ∷ cs) is in
-      let back : at + 1 - 1 ≡ at = omega arith in
-      let here : test (at + 1) ≡ is_cut b c =
-      same (at + 1) (omega arith) (byte-inside text (at + 1) c cs next)
-      ∙ ap (λ k. is_cut (get_or text k 0) (get_or text (at + 1) 0)) back
-      ∙ ap (λ d. is_cut d (get_or text (at + 1) 0)) (byte-here text at b (c ∷ cs) is)
-      ∙ ap (is_cut b) (byte-here text (at + 1) c cs next) in
-      ap (λ t. next_by test t at b (c ∷ cs)) here
+      ap (λ t. next_by test t at b (c ∷ cs))
+      (same (at + 1) (omega arith) (byte-inside text (at + 1) c cs next) ∙ cut-between text at b c cs is)
       ∙ ap (λ ps. if is_cut b c then (b ∷ []) ∷ ps else onto_first b ps)
       (parts-chunks text (c ∷ cs) (at + 1) next same)
 

@@ -1,27 +1,22 @@
 -- The pieces of split words: they tile their words, are texts, and stand one after another.
-use Rattle.textwrap_text.proofs.Common.{◌≡◌, flat_map-append, IsCharBoundary-start, ℕ, ◌∷◌, sym, ap}
-use Rattle.textwrap_text.proofs.Common.{◌∙◌, All, map, inl, inr, ◌+◌, ◌<◌, ◌≤◌, List, [], ◌++◌}
-use Rattle.textwrap_text.proofs.Common.{refl, drop, true, take, arith, length, get_or, IsUtf8}
-use Rattle.textwrap_text.proofs.Common.{subst, All-map, rules, false, slice_range, append_assoc}
-use Rattle.textwrap_text.proofs.Common.{IsCharBoundary, IsUtf8-between, append-nil, drop_split}
-use Rattle.textwrap_text.proofs.Common.{and_parts, IsUtf8-drop, All-append, All-head, All-tail}
-use Rattle.textwrap_text.proofs.Common.{All-nil, All-cons, cases_lt, eqb-true, chunks, is_blank}
-use Rattle.textwrap_text.proofs.Common.{BlanksBetween}
-use Rattle.textwrap_words.proofs.Common.{points_of, split_from, split_pieces, split_word}
-use Rattle.textwrap_words.proofs.Common.{split_words, AreSplit, Splitter, AreCuts, WordText}
-use Rattle.textwrap_words.proofs.Common.{tile_of, tiled, Whole, AtHyphens, ends_in_hyphen}
-use Rattle.textwrap_words.proofs.Common.{cut_penalty, ArePoints, piece, word_of, words_of}
-use Rattle.textwrap_words.proofs.Common.{AreWordsOf}
+use Rattle.textwrap_text.proofs.Common.{IsCharBoundary-start, flat_map-append, IsCharBoundary, List}
+use Rattle.textwrap_text.proofs.Common.{IsUtf8-between, BlanksBetween, append_assoc, IsUtf8-drop, ℕ}
+use Rattle.textwrap_text.proofs.Common.{slice_range, All-append, append-nil, drop_split, and_parts}
+use Rattle.textwrap_text.proofs.Common.{All-cons, All-head, All-tail, cases_lt, eqb-true, is_blank}
+use Rattle.textwrap_text.proofs.Common.{All-map, All-nil, IsUtf8, chunks, get_or, length, arith, []}
+use Rattle.textwrap_text.proofs.Common.{false, rules, subst, drop, refl, take, true, ◌++◌, All, inl}
+use Rattle.textwrap_text.proofs.Common.{inr, map, sym, ◌+◌, ◌<◌, ◌∙◌, ◌∷◌, ◌≡◌, ◌≤◌, ap}
+use Rattle.textwrap_words.proofs.Common.{IsCharBoundary-after_blank, pieces_from_place, IsFirstWord}
+use Rattle.textwrap_words.proofs.Common.{ends_in_hyphen, length-slice, split_pieces, IsNextPoint}
+use Rattle.textwrap_words.proofs.Common.{cut_penalty, split_words, AreWordsOf, split_from, AreSplit}
+use Rattle.textwrap_words.proofs.Common.{split_word, stand_from, ArePoints, AtHyphens, points_of}
+use Rattle.textwrap_words.proofs.Common.{Splitter, WordText, words_of, AreCuts, AreNext, tile_of}
+use Rattle.textwrap_words.proofs.Common.{word_of, Whole, piece, tiled}
 use Rattle.textwrap_words.proofs.Word.Splitting.{points_of-cuts}
 use Rattle.std.proofs.lemmas.List.Elements.{filter_passes}
-use Rattle.textwrap_words.proofs.Word.Words.{IsMeasured, HasNoPenalty, words-measured}
-use Rattle.textwrap_words.proofs.Word.Words.{tiled-words_of, words_unique}
+use Rattle.textwrap_words.proofs.Word.Words.{tiled-words_of, words-measured, HasNoPenalty}
+use Rattle.textwrap_words.proofs.Word.Words.{words_unique, IsMeasured}
 use Rattle.textwrap_text.proofs.Units.Chunks.{chunks-utf8}
-use Rattle.textwrap_words.specs.Cuts.{AreNext, IsNextPoint}
-use Rattle.textwrap_words.specs.PieceCuts.{pieces_from_place}
-use Rattle.textwrap_words.specs.Pieces.{IsFirstWord, stand_from}
-use Rattle.textwrap_text.proofs.Lists.Parts.{length-slice}
-use Rattle.textwrap_text.proofs.Texts.{IsCharBoundary-after_blank}
 
 -- ---- split pieces tile their word
 
@@ -44,9 +39,11 @@ tiled-split_words splitter [] utf8 = refl
 tiled-split_words splitter (w ∷ words) utf8 =
     let first = tiled-split_pieces (points_of splitter w.word) w
     (points_of-cuts splitter w.word (All-head (λ v. IsUtf8 v.word) w words utf8)) in
-    flat_map-append tile_of (split_word splitter w) (split_words splitter words)
-    ∙ ap (λ l. l ++ tiled (split_words splitter words)) first ∙ ap (λ l. tile_of w ++ l)
-    (tiled-split_words splitter words (All-tail (λ v. IsUtf8 v.word) w words utf8))
+    rw (
+      flat_map-append tile_of (split_word splitter w) (split_words splitter words),
+      first,
+      tiled-split_words splitter words (All-tail (λ v. IsUtf8 v.word) w words utf8),
+    )
 
 -- one word more is split
 pub AreSplit-push : (Points : List ℕ → List ℕ → Type 0) (words pieces : List WordText)

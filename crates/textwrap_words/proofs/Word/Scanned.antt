@@ -1,32 +1,26 @@
 -- The reader of the first piece from a place on: what it has seen, and where it stops.
-use Rattle.textwrap_text.proofs.Common.{◌≡◌, true, List, ◌++◌, subst, arith, Bool, drop, refl, zero}
-use Rattle.textwrap_text.proofs.Common.{◌≢◌, ◌+◌, ◌≤◌, sym, inl, inr, ◌-◌, ◌<◌, ◌∷◌, ap, ◌∙◌, suc}
-use Rattle.textwrap_text.proofs.Common.{ℕ, false, length, IsUtf8, take_at, get_or, eqb-true, ne_eqb}
-use Rattle.textwrap_text.proofs.Common.{[], cases_Bool, slice_range, cases_lt, chars-nil, drop_more}
-use Rattle.textwrap_text.proofs.Common.{append_assoc, IsCharBoundary, IsUtf8-between, chars-append}
-use Rattle.textwrap_text.proofs.Common.{IsUtf8-drop, Visible, units, next_of, shows, is_blank}
-use Rattle.textwrap_text.proofs.Common.{text_width, columns}
-use Rattle.textwrap_words.proofs.Common.{is_due, broken_texts, Splitter}
-use Rattle.textwrap_words.proofs.Word.Ahead.{IsInFirst, IsInFirst-start, IsInFirst-step}
-use Rattle.textwrap_words.proofs.Word.Ahead.{IsInFirst-cut, EndsHere, character-within}
-use Rattle.textwrap_words.proofs.Word.Ahead.{first-bytes}
-use Rattle.textwrap_text.proofs.Texts.{starts-within}
-use Rattle.textwrap_words.proofs.Word.BrokenPieces.{IsFirstPiece, IsFirstPiece-found}
-use Rattle.std.specs.Prelude.{chars, encode_utf8}
-use Rattle.textwrap_text.specs.declared.escapes.State.{State}
+use Rattle.textwrap_text.proofs.Common.{IsCharBoundary, IsUtf8-between, append_assoc, chars-append}
+use Rattle.textwrap_text.proofs.Common.{IsUtf8-drop, slice_range, cases_Bool, text_width, chars-nil}
+use Rattle.textwrap_text.proofs.Common.{drop_more, cases_lt, eqb-true, is_blank, Visible, columns}
+use Rattle.textwrap_text.proofs.Common.{next_of, take_at, IsUtf8, get_or, length, ne_eqb, arith, []}
+use Rattle.textwrap_text.proofs.Common.{false, shows, subst, units, Bool, List, drop, refl, true, ℕ}
+use Rattle.textwrap_text.proofs.Common.{zero, ◌++◌, inl, inr, suc, sym, ◌+◌, ◌-◌, ◌<◌, ◌∙◌, ◌∷◌, ap}
+use Rattle.textwrap_text.proofs.Common.{◌≡◌, ◌≢◌, ◌≤◌}
+use Rattle.textwrap_words.proofs.Common.{IsCharBoundary-before_ascii, IsCharBoundary-from_drop}
+use Rattle.textwrap_words.proofs.Common.{slices_joined, starts-within, broken_texts, encode_ascii}
+use Rattle.textwrap_words.proofs.Common.{length-slice, slice_before, IsFirstStop, slice_after}
+use Rattle.textwrap_words.proofs.Common.{slice-nil, IsLetter, Splitter, is_point, or_cases, is_stop}
+use Rattle.textwrap_words.proofs.Common.{is_due, State}
+use Rattle.textwrap_words.proofs.Word.Ahead.{character-within, IsInFirst-start, IsInFirst-step}
+use Rattle.textwrap_words.proofs.Word.Ahead.{IsInFirst-cut, first-bytes, IsInFirst, EndsHere}
+use Rattle.textwrap_words.proofs.Word.BrokenPieces.{IsFirstPiece-found, IsFirstPiece}
+use Rattle.std.specs.Prelude.{encode_utf8, chars}
 use Rattle.textwrap_text.specs.declared.escapes.State.TheVariants.{Text}
-use Rattle.textwrap_text.proofs.Units.Reading.{added-le, IsRead, read-ahead, read-next, read-none}
-use Rattle.textwrap_text.proofs.Units.Reading.{read-start, added, chars-push, columns-printable}
-use Rattle.textwrap_text.proofs.Units.Reading.{printable-no_escape}
-use Rattle.std.proofs.lemmas.Str.{IsCharBoundary-from_drop, IsCharBoundary-before_ascii}
-use Rattle.std.proofs.lemmas.Str.{encode_ascii}
-use Rattle.textwrap_text.proofs.Lists.Parts.{length-slice, slices_joined, slice_after, slice-nil}
-use Rattle.textwrap_text.proofs.Lists.Parts.{slice_before}
-use Rattle.textwrap_words.proofs.Word.Splitting.{HoldsBetween, point-hyphen, after-hyphen_byte}
-use Rattle.std.proofs.lemmas.Bool.{or_cases}
-use Rattle.textwrap_words.specs.PieceCuts.{is_point}
-use Rattle.textwrap_words.specs.Pieces.{is_stop, IsFirstStop, IsLetter}
-use Rattle.textwrap_words.proofs.Word.Parts.{HasEnd, end-from}
+use Rattle.textwrap_text.proofs.Units.Reading.{printable-no_escape, columns-printable, chars-push}
+use Rattle.textwrap_text.proofs.Units.Reading.{read-ahead, read-start, read-next, read-none, IsRead}
+use Rattle.textwrap_text.proofs.Units.Reading.{added-le, added}
+use Rattle.textwrap_words.proofs.Word.Splitting.{after-hyphen_byte, HoldsBetween, point-hyphen}
+use Rattle.textwrap_words.proofs.Word.Parts.{end-from, HasEnd}
 use Rattle.textwrap_words.proofs.Word.Words.{text_width-nil}
 use Rattle.textwrap_words.proofs.Word.Breaking.{due-false}
 

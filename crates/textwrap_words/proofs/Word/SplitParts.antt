@@ -1,35 +1,31 @@
 -- Words that are split are the parts of the text wherever a test of places cuts it.
-use Rattle.textwrap_text.proofs.Common.{◌≡◌, false, length, filter, take_at, get_or, IsUtf8, ℕ}
-use Rattle.textwrap_text.proofs.Common.{true, cond, List, ◌++◌, take, drop, arith, rules, subst}
-use Rattle.textwrap_text.proofs.Common.{◌+◌, ◌-◌, ◌<◌, ◌≤◌, ◌∷◌, map, refl, sym, last, ◌||◌, Bool}
-use Rattle.textwrap_text.proofs.Common.{take-append-add, take-append-drop, get_or_append_left, []}
-use Rattle.textwrap_text.proofs.Common.{append_assoc, length-append, slice_range, IsUtf8-append, ap}
-use Rattle.textwrap_text.proofs.Common.{IsUtf8-nil, map-append, and_parts, take_more, and_right}
-use Rattle.textwrap_text.proofs.Common.{◌∙◌, ◌≢◌, not, All, inl, inr, range_with_len}
-use Rattle.textwrap_text.proofs.Common.{length-take-le, append-nil, flat_map-append, eqb-true}
-use Rattle.textwrap_text.proofs.Common.{drop_all, take_all, All-head, All-tail, cases_lt, drop_at}
-use Rattle.textwrap_text.proofs.Common.{length_push, get_or-take, get_or_push, slice_index}
-use Rattle.textwrap_text.proofs.Common.{is_blank, trimmed_len, without_final_blanks, final_blanks}
-use Rattle.textwrap_text.proofs.Common.{chunks, is_cut, AreCutApart}
-use Rattle.textwrap_words.proofs.Common.{WordText, word_of, is_hyphen_point, split_from, Splitter}
-use Rattle.textwrap_words.proofs.Common.{Whole, AtHyphens, split_word, broken_word, broken_words}
-use Rattle.textwrap_words.proofs.Common.{split_words, words_of}
-use Rattle.textwrap_words.specs.PieceCuts.{parts_by, is_point, pieces_within, is_piece_cut}
-use Rattle.textwrap_words.specs.PieceCuts.{pieces_from_place, IsPart, AreFinalBlanks, IsPartWord}
-use Rattle.textwrap_text.proofs.Lists.Parts.{onto_front, onto_front-nil, onto_front-onto_first}
-use Rattle.textwrap_text.proofs.Lists.Parts.{last-push, length-slice, flat, some_from_nonempty}
-use Rattle.textwrap_words.proofs.Word.Texts.{AreBlanks, word_of-seam, final_blanks-blank}
-use Rattle.textwrap_text.proofs.Units.Chunks.{chunks-utf8, join-chunks, AreChunks-chunks}
-use Rattle.textwrap_text.proofs.Units.Chunks.{AreCutApart-tail}
-use Rattle.textwrap_words.proofs.Word.Texts.{trimmed-other, without_final_blanks-utf8}
-use Rattle.textwrap_words.proofs.Word.Parts.{next_by, parts_by-some, parts_by-whole, parts_within}
-use Rattle.textwrap_words.proofs.Word.Parts.{parts_by-chunks, end-from}
-use Rattle.textwrap_words.proofs.Word.Splitting.{hyphen-before-point, EndsPlain, points-apart}
-use Rattle.textwrap_words.proofs.Word.Splitting.{point-blank, ends-none, ends-blank}
-use Rattle.std.proofs.lemmas.List.{get_or-append-add, get_or_at}
-use Rattle.textwrap_words.specs.Pieces.{IsFirstWithin, stand_from}
+use Rattle.textwrap_text.proofs.Common.{without_final_blanks, get_or_append_left, take-append-drop}
+use Rattle.textwrap_text.proofs.Common.{flat_map-append, take-append-add, length-take-le, and_parts}
+use Rattle.textwrap_text.proofs.Common.{range_with_len, IsUtf8-append, length-append, append_assoc}
+use Rattle.textwrap_text.proofs.Common.{final_blanks, AreCutApart, get_or-take, get_or_push, IsUtf8}
+use Rattle.textwrap_text.proofs.Common.{length_push, slice_index, slice_range, trimmed_len, drop_at}
+use Rattle.textwrap_text.proofs.Common.{IsUtf8-nil, append-nil, map-append, and_right, take_more, ℕ}
+use Rattle.textwrap_text.proofs.Common.{All-head, All-tail, cases_lt, drop_all, eqb-true, is_blank}
+use Rattle.textwrap_text.proofs.Common.{take_all, take_at, chunks, filter, get_or, length, arith}
+use Rattle.textwrap_text.proofs.Common.{false, rules, subst, Bool, List, cond, drop, last, refl, []}
+use Rattle.textwrap_text.proofs.Common.{take, true, ◌++◌, All, inl, inr, map, not, sym, ◌+◌, ◌-◌}
+use Rattle.textwrap_text.proofs.Common.{◌<◌, ◌∙◌, ◌∷◌, ◌≡◌, ◌≢◌, ◌≤◌, ap}
+use Rattle.textwrap_words.proofs.Common.{onto_front-onto_first, some_from_nonempty, is_hyphen_point}
+use Rattle.textwrap_words.proofs.Common.{get_or-append-add, pieces_from_place, AreFinalBlanks, flat}
+use Rattle.textwrap_words.proofs.Common.{onto_front-nil, IsFirstWithin, pieces_within, broken_words}
+use Rattle.textwrap_words.proofs.Common.{is_piece_cut, length-slice, broken_word, split_words}
+use Rattle.textwrap_words.proofs.Common.{IsPartWord, onto_front, split_from, split_word, stand_from}
+use Rattle.textwrap_words.proofs.Common.{AtHyphens, last-push, not-false, Splitter, WordText, Whole}
+use Rattle.textwrap_words.proofs.Common.{is_point, not-true, parts_by, words_of, word_of, IsPart}
+use Rattle.textwrap_words.proofs.Word.Texts.{without_final_blanks-utf8, final_blanks-blank}
+use Rattle.textwrap_words.proofs.Word.Texts.{trimmed-other, word_of-seam, AreBlanks}
+use Rattle.textwrap_text.proofs.Units.Chunks.{AreChunks-chunks, AreCutApart-tail, chunks-utf8}
+use Rattle.textwrap_text.proofs.Units.Chunks.{join-chunks}
+use Rattle.textwrap_words.proofs.Word.Parts.{parts_by-chunks, parts_by-whole, parts_by-some}
+use Rattle.textwrap_words.proofs.Word.Parts.{parts_within, end-from, next_by}
+use Rattle.textwrap_words.proofs.Word.Splitting.{hyphen-before-point, points-apart, point-blank}
+use Rattle.textwrap_words.proofs.Word.Splitting.{ends-blank, EndsPlain, ends-none}
 use Rattle.textwrap_words.specs.declared.pieces.Piece.{Piece}
-use Rattle.std.proofs.lemmas.Bool.{not-false, not-true}
 
 -- ---- a word with its blanks, split at one point after another, is cut wherever a test of
 -- places says so
@@ -153,10 +149,7 @@ module _ (before q after : List ℕ) (utf8 : IsUtf8 before) (plain : EndsPlain b
       let place : length w.word + k ≡ p = omega (arith, from) in
       let within : p < length q = omega (arith, inside, whole_len) in
       let byte : get_or text (at + p) 0 ≡ get_or w.whitespace k 0 =
-      get_or-append-add before (q ++ after) p 0 ∙ get_or_append_left q after 0 p within
-      ∙ ap (λ l. get_or l p 0) (sym whole)
-      ∙ ap (λ n. get_or (w.word ++ w.whitespace) n 0) (sym place)
-      ∙ get_or-append-add w.word w.whitespace k 0 in
+      grind (arith, get_or-append-add, get_or_append_left, whole) in
       point-blank text (at + p)
       (omega (arith, length-append before (q ++ after), length-append q after, within))
       (ap is_blank byte ∙ final_blanks-blank q k 0 (omega (arith, from, inside)))
@@ -173,14 +166,10 @@ module _ (before q after : List ℕ) (utf8 : IsUtf8 before) (plain : EndsPlain b
           (let all = ap length is in omega (arith, all)) in
           let start : at + (0 + 0) ≡ at = omega arith in
           let seen : (b ∷ rest) ++ w.whitespace ≡ q = ap (λ l. l ++ w.whitespace) (sym is) ∙ whole in
-          ap (λ n. split_from w 0 (filter (is_hyphen_point w.word) (range_with_len 1 n))) len
-          ∙ split-from w at (is_hyphen_point text) refl (final_blanks-blank q) (ends-other q) same past
-          rest [] [] b is
-          ∙ ap (map word_of)
-          (onto_front-nil (parts_by (is_hyphen_point text) (at + (0 + 0)) (b ∷ rest ++ w.whitespace))
-          (parts_by-some (is_hyphen_point text) (at + (0 + 0)) b (rest ++ w.whitespace)))
-          ∙ ap (λ n. map word_of (parts_by (is_hyphen_point text) n (b ∷ rest ++ w.whitespace))) start
-          ∙ ap (λ l. map word_of (parts_by (is_hyphen_point text) at l)) seen
+          let some = parts_by-some (is_hyphen_point text) (at + (0 + 0)) b (rest ++ w.whitespace) in
+          rw len (rw (onto_front-nil _ some, start) at (split-from w at (is_hyphen_point text) refl
+          (final_blanks-blank q) (ends-other q) same past rest [] [] b is)
+          ∙ ap (λ l. map word_of (parts_by (is_hyphen_point text) at l)) seen)
 
   pub split-word : (splitter : Splitter)
       → split_word splitter w ≡ map word_of (parts_by (is_point splitter text) at q)
@@ -201,13 +190,10 @@ module _ (splitter : Splitter) (limit : ℕ) where
       ≡ pieces_within splitter limit q 0
       ++ broken_words limit (split_words splitter (map word_of qs))
   words-first q qs utf8 some =
-      let one : split_word splitter (word_of q) ≡ map word_of (parts_by (is_point splitter q) 0 q) =
-      split-word [] q [] IsUtf8-nil (ends-none [] refl) utf8 some splitter
-      ∙ ap (λ t. map word_of (parts_by (is_point splitter t) 0 q)) (append-nil q) in
-      flat_map-append (broken_word limit) (split_word splitter (word_of q))
-      (split_words splitter (map word_of qs))
-      ∙ ap (λ ws. broken_words limit ws ++ broken_words limit (split_words splitter (map word_of qs)))
-      one
+      let one = rw (append-nil q)
+      at (split-word [] q [] IsUtf8-nil (ends-none [] refl) utf8 some splitter) in
+      rw one (flat_map-append (broken_word limit) (map word_of (parts_by (is_point splitter q) 0 q))
+      (split_words splitter (map word_of qs)))
 
   -- where the first piece stands, if the word begins at the start
   pub within-stands : (text : List ℕ) (start at : ℕ) (piece : Piece) (others : List WordText)
@@ -261,17 +247,6 @@ module _ (splitter : Splitter) (text : List ℕ) where
       (All-tail IsUtf8 q qs all) (All-tail (λ q. q ≢ []) q qs some) (AreCutApart-tail q qs apart) in
       grind (arith, split-word, length-append, map-append)
 
-  -- at a place between two bytes
-  pub piece_cut-at : (before after : List ℕ) (b c at : ℕ) → text ≡ before ++ b ∷ c ∷ after
-      → length before ≡ at
-      → is_piece_cut splitter text (at + 1) ≡ (is_cut b c || is_point splitter text (at + 1))
-  piece_cut-at before after b c at is len =
-      let first = get_or_at before b (c ∷ after) 0 (at + 1 - 1) (omega (arith, len)) in
-      let second = append_assoc before (b ∷ []) (c ∷ after) in
-      let third = get_or_at (before ++ b ∷ []) c after 0 (at + 1)
-      (omega (arith, length_push before b, len)) in
-      cc
-
   pub split_words-parts : IsUtf8 text
       → split_words splitter (words_of text)
       ≡ map word_of (parts_by (is_piece_cut splitter text) 0 text)
@@ -280,7 +255,7 @@ module _ (splitter : Splitter) (text : List ℕ) where
       split-all (chunks text) [] (sym (join-chunks text)) IsUtf8-nil (λ more. ends-none [] refl)
       (chunks-utf8 text utf8) are.nonempty are.cut
       ∙ ap (map word_of) (sym (parts_by-chunks text (is_piece_cut splitter text)
-      (is_point splitter text) piece_cut-at text [] 0 refl refl))
+      (is_point splitter text) (λ k start inside. refl) text 0 refl))
 
 -- ---- no cut stands before a blank, and one does after the last of them
 

@@ -1,30 +1,26 @@
 -- The points at which words are split: characters end there, and those of a word are those of the
 -- text that it stands in.
-use Rattle.textwrap_text.proofs.Common.{◌≡◌, List, ◌++◌, refl, take, drop, ◌==◌, ◌||◌, Bool, ◌&&◌}
-use Rattle.textwrap_text.proofs.Common.{ℕ, ◌+◌, ◌-◌, ◌<◌, ◌≤◌, [], ◌∷◌, sym, ap, ◌∙◌, All, true}
-use Rattle.textwrap_text.proofs.Common.{false, arith, length, get_or, filter, IsUtf8, reverse}
-use Rattle.textwrap_text.proofs.Common.{length-take, get_or-take, IsUtf8-take, IsUtf8-drop}
-use Rattle.textwrap_text.proofs.Common.{IsCharBoundary, false≢true, reverse-append, encode_utf8_all}
-use Rattle.textwrap_text.proofs.Common.{list_any, nil_from_length, chars_past_char, take-append-add}
-use Rattle.textwrap_text.proofs.Common.{and_parts, append-nil, chars-nil, length_push}
-use Rattle.textwrap_text.proofs.Common.{take-append-drop, IsCharBoundary-after_ascii, length-append}
-use Rattle.textwrap_text.proofs.Common.{zero, suc, inl, inr, cases_Bool, range_with_len, take_at}
-use Rattle.textwrap_text.proofs.Common.{drop_at, All-head, and_right, eqb-true, drop_more}
-use Rattle.textwrap_text.proofs.Common.{chars-append, append_assoc, length-take-le, encodes-chars}
-use Rattle.textwrap_text.proofs.Common.{is_blank}
-use Rattle.textwrap_words.proofs.Common.{is_hyphen_point, hyphen, ends_in_hyphen, hyphen_points}
-use Rattle.textwrap_words.proofs.Common.{points_of, Splitter, Whole, AtHyphens, AreCuts}
+use Rattle.textwrap_text.proofs.Common.{IsCharBoundary-after_ascii, take-append-drop, encodes-chars}
+use Rattle.textwrap_text.proofs.Common.{chars_past_char, encode_utf8_all, nil_from_length, All-head}
+use Rattle.textwrap_text.proofs.Common.{take-append-add, IsCharBoundary, length-take-le, append-nil}
+use Rattle.textwrap_text.proofs.Common.{range_with_len, reverse-append, length-append, append_assoc}
+use Rattle.textwrap_text.proofs.Common.{chars-append, IsUtf8-drop, IsUtf8-take, get_or-take, IsUtf8}
+use Rattle.textwrap_text.proofs.Common.{length-take, length_push, cases_Bool, false≢true, and_parts}
+use Rattle.textwrap_text.proofs.Common.{and_right, chars-nil, drop_more, eqb-true, is_blank, filter}
+use Rattle.textwrap_text.proofs.Common.{list_any, drop_at, reverse, take_at, get_or, length, arith}
+use Rattle.textwrap_text.proofs.Common.{false, Bool, List, drop, refl, take, true, zero, ◌&&◌, ◌++◌}
+use Rattle.textwrap_text.proofs.Common.{◌==◌, ◌||◌, All, inl, inr, suc, sym, ◌+◌, ◌-◌, ◌<◌, ◌∙◌, []}
+use Rattle.textwrap_text.proofs.Common.{◌∷◌, ◌≡◌, ◌≤◌, ap, ℕ}
+use Rattle.textwrap_words.proofs.Common.{is_hyphen_point, ends_in_hyphen, hyphen_points, ascii_seam}
+use Rattle.textwrap_words.proofs.Common.{IsNextPoint, before-last, AtHyphens, last-push, points_of}
+use Rattle.textwrap_words.proofs.Common.{Splitter, is_point, AreCuts, AreNext, hyphen, Whole}
 use Rattle.std.specs.Str.{chars}
 use lib.Utf8.{encode}
 use Rattle.std.proofs.lemmas.List.Elements.{filter_passes}
-use Rattle.std.proofs.lemmas.List.Folds.{list_any_at, list_any-append}
-use Rattle.textwrap_words.specs.WordSplitters.{is_alphanumeric, begins_alphanumeric, inner_offsets}
-use Rattle.textwrap_text.proofs.Texts.{before-last, ascii_seam}
-use Rattle.textwrap_words.specs.Cuts.{AreNext, IsNextPoint}
-use Rattle.textwrap_words.specs.PieceCuts.{is_point}
+use Rattle.std.proofs.lemmas.List.Folds.{list_any-append, list_any_at}
+use Rattle.textwrap_words.specs.WordSplitters.{begins_alphanumeric, is_alphanumeric, inner_offsets}
 use Rattle.unicode.proofs.CategoryComputing.{ucd_category}
 use Rattle.unicode.proofs.DerivedComputing.{ucd_derived}
-use Rattle.textwrap_text.proofs.Lists.Parts.{last-push}
 
 -- ---- lemmas on the points at which words are split
 

@@ -1,14 +1,13 @@
 -- The blanks at the end of a text, and where it ends without them.
-use Rattle.textwrap_text.proofs.Common.{inl, inr, ◌≡◌, suc, ◌-◌, true, List, ◌++◌, drop, refl, ℕ}
-use Rattle.textwrap_text.proofs.Common.{◌<◌, ◌≤◌, not, [], ◌∷◌, All, sym, ap, ◌∙◌, ◌+◌, zero}
-use Rattle.textwrap_text.proofs.Common.{length, get_or, subst, arith, IsUtf8, false, suffix_len}
-use Rattle.textwrap_text.proofs.Common.{cases_lt, eqb-true, false≢true, length-drop, IsCharBoundary}
-use Rattle.textwrap_text.proofs.Common.{take-append-add, get_or-drop, IsUtf8-take, is_blank}
-use Rattle.textwrap_text.proofs.Common.{trimmed_len, without_final_blanks, final_blanks}
-use Rattle.textwrap_words.proofs.Common.{piece, word_of}
-use Rattle.std.proofs.lemmas.List.{get_or-reverse, length-reverse}
+use Rattle.textwrap_text.proofs.Common.{without_final_blanks, take-append-add, IsCharBoundary, List}
+use Rattle.textwrap_text.proofs.Common.{final_blanks, IsUtf8-take, get_or-drop, length-drop, IsUtf8}
+use Rattle.textwrap_text.proofs.Common.{trimmed_len, false≢true, suffix_len, cases_lt, eqb-true, []}
+use Rattle.textwrap_text.proofs.Common.{is_blank, get_or, length, arith, false, subst, drop, refl}
+use Rattle.textwrap_text.proofs.Common.{true, zero, ◌++◌, All, inl, inr, suc, sym, ◌+◌, ◌-◌, ◌<◌, ℕ}
+use Rattle.textwrap_text.proofs.Common.{◌∙◌, ◌∷◌, ◌≡◌, ◌≤◌, ap}
+use Rattle.textwrap_words.proofs.Common.{IsCharBoundary-before_ascii, IsCharBoundary-end, word_of}
+use Rattle.textwrap_words.proofs.Common.{get_or-reverse, length-reverse, piece}
 use Rattle.std.proofs.lemmas.List.Sums.{prefix_len_passes, prefix_len_stops, suffix_len_is}
-use Rattle.std.proofs.lemmas.Str.{IsCharBoundary-end, IsCharBoundary-before_ascii}
 
 -- ---- the blanks at the end of a text
 

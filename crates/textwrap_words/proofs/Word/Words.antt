@@ -1,19 +1,15 @@
 -- The words of a line: they tile it, are measured, and there is one list of them.
-use Rattle.textwrap_text.proofs.Common.{◌≡◌, ℕ, ◌+◌, ◌<◌, ◌≤◌, true, false, List, [], ◌∷◌, ◌++◌}
-use Rattle.textwrap_text.proofs.Common.{length, get_or, take, map, refl, ap, ◌∙◌, arith}
-use Rattle.textwrap_text.proofs.Common.{take-append-drop, length-append, append-nil, map-append}
-use Rattle.textwrap_text.proofs.Common.{take_more, flat_map-append, All, sym, All-head, All-tail}
-use Rattle.textwrap_text.proofs.Common.{◌↔◌, All-nil, ◌==◌, All-append, flat_map, sum_by, IsUtf8}
-use Rattle.textwrap_text.proofs.Common.{All-map, All-weaker, chars-nil, chunks, trimmed_len}
-use Rattle.textwrap_text.proofs.Common.{columns, text_width, is_blank}
-use Rattle.textwrap_base.proofs.Common.{total_width, closed_width}
-use Rattle.textwrap_words.proofs.Common.{WordText, word_view, word_of, tile_of, tiled, words_of}
-use Rattle.textwrap_words.proofs.Common.{AreWordsOf, sizes_of}
-use Rattle.textwrap_text.proofs.Lists.Parts.{flat}
-use Rattle.textwrap_words.specs.declared.words.Word.{Word}
-use Rattle.textwrap_words.proofs.Word.Texts.{AreBlanks, without_final_blanks-utf8}
-use Rattle.textwrap_words.proofs.Word.Texts.{final_blanks-blank}
-use Rattle.textwrap_text.specs.Units.{visible}
+use Rattle.textwrap_text.proofs.Common.{take-append-drop, flat_map-append, length-append, chars-nil}
+use Rattle.textwrap_text.proofs.Common.{trimmed_len, All-append, All-weaker, append-nil, map-append}
+use Rattle.textwrap_text.proofs.Common.{text_width, take_more, All-head, All-tail, flat_map, IsUtf8}
+use Rattle.textwrap_text.proofs.Common.{is_blank, All-map, All-nil, columns, chunks, get_or, length}
+use Rattle.textwrap_text.proofs.Common.{sum_by, arith, false, List, refl, take, true, ◌++◌, ◌==◌, ℕ}
+use Rattle.textwrap_text.proofs.Common.{All, map, sym, ◌+◌, ◌<◌, ◌↔◌, ◌∙◌, ◌∷◌, ◌≡◌, ◌≤◌, [], ap}
+use Rattle.textwrap_base.proofs.Common.{closed_width, total_width}
+use Rattle.textwrap_words.proofs.Common.{AreWordsOf, word_view, WordText, sizes_of, words_of, tiled}
+use Rattle.textwrap_words.proofs.Common.{tile_of, visible, word_of, Word, flat}
+use Rattle.textwrap_words.proofs.Word.Texts.{without_final_blanks-utf8, final_blanks-blank}
+use Rattle.textwrap_words.proofs.Word.Texts.{AreBlanks}
 use Rattle.textwrap_base.proofs.Cost.LineCosts.{total_width-cons}
 use Rattle.textwrap_text.proofs.Units.Reading.{text_width-le}
 use Rattle.textwrap_text.proofs.Units.Chunks.{AreChunks-chunks, chunks-flat, join-chunks}

@@ -1,21 +1,15 @@
 use Rattle.textwrap_layout.proofs.built_in.list_pieces.Goals as goal
-use Rattle.textwrap_text.proofs.Common.{◌≡◌, ℕ, ◌≤◌, List, [], ◌∷◌, ◌++◌, All, All-head, All-tail}
-use Rattle.textwrap_text.proofs.Common.{ap, append_assoc, append-nil, arith, drop, get_or}
-use Rattle.textwrap_text.proofs.Common.{IsCharBoundary, IsCharBoundary-start, IsUtf8, IsUtf8-drop}
-use Rattle.textwrap_text.proofs.Common.{length, map, map-append, rules, slice_range, subst, sym}
-use Rattle.textwrap_text.proofs.Common.{◌∙◌}
-use Rattle.textwrap_words.proofs.Common.{as_splitter, tiled, WordText, word_view}
-use Rattle.textwrap_words.proofs.Word.Words.{HasNoPenalty, IsMeasured}
-use Rattle.textwrap_words.specs.Pieces.{stand_from}
-use Rattle.textwrap_words.specs.declared.pieces.Piece.{Piece}
-use Rattle.textwrap_layout.proofs.Common.{frame_settings}
-use Rattle.textwrap_layout.proofs.Paragraph.Pieces.{words_cut-texts, pieces_of_words-measured}
-use Rattle.textwrap_layout.proofs.Paragraph.Pieces.{pieces_of_words-tile}
-use Rattle.textwrap_layout.proofs.Paragraph.Pieces.{pieces_of_words-no_penalty}
+use Rattle.textwrap_text.proofs.Common.{IsCharBoundary-start, IsCharBoundary, append_assoc, IsUtf8}
+use Rattle.textwrap_text.proofs.Common.{IsUtf8-drop, slice_range, append-nil, map-append, All-head}
+use Rattle.textwrap_text.proofs.Common.{All-tail, get_or, length, arith, rules, subst, List, drop}
+use Rattle.textwrap_text.proofs.Common.{◌++◌, All, map, sym, ◌∙◌, ◌∷◌, ◌≡◌, ◌≤◌, [], ap, ℕ}
+use Rattle.textwrap_layout.proofs.Common.{frame_settings, left_standing, HasNoPenalty, as_splitter}
+use Rattle.textwrap_layout.proofs.Common.{IsMeasured, pieces_cut, stand_from, word_view, words_cut}
+use Rattle.textwrap_layout.proofs.Common.{WordText, cuts_of, Piece, tiled}
+use Rattle.textwrap_layout.proofs.Paragraph.Pieces.{pieces_of_words-no_penalty, words_cut-texts}
+use Rattle.textwrap_layout.proofs.Paragraph.Pieces.{pieces_of_words-measured, pieces_of_words-tile}
 use Rattle.textwrap_layout.proofs.Paragraph.Standing.{stands-at}
 use Rattle.textwrap_layout.proofs.built_in.list_pieces.Invariants.{ArePiecesLeft}
-use Rattle.textwrap_layout.specs.Direct.{pieces_cut, cuts_of, words_cut}
-use Rattle.textwrap_layout.specs.PiecesLeft.{left_standing}
 use Rattle.textwrap_layout.proofs.built_in.list_pieces.Goals.{In-Some}
 
 module _ (text : List ℕ) (utf8 : IsUtf8 text) (all words : List WordText) where

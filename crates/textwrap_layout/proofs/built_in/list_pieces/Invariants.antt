@@ -1,12 +1,7 @@
 use Rattle.textwrap_layout.proofs.built_in.list_pieces.Given as goal
-use Rattle.textwrap_text.proofs.Common.{◌≡◌, ℕ, List, ◌++◌, All, drop, IsCharBoundary, map}
-use Rattle.textwrap_words.proofs.Common.{tiled, WordText, word_view}
-use Rattle.textwrap_words.proofs.Word.Words.{HasNoPenalty, IsMeasured}
-use Rattle.textwrap_words.specs.Pieces.{stand_from}
-use Rattle.textwrap_words.specs.declared.pieces.Piece.{Piece}
-use Rattle.textwrap_layout.proofs.Common.{frame_settings}
-use Rattle.textwrap_layout.specs.Direct.{pieces_cut}
-use Rattle.textwrap_layout.specs.PiecesLeft.{left_standing}
+use Rattle.textwrap_text.proofs.Common.{IsCharBoundary, List, drop, ◌++◌, All, map, ◌≡◌, ℕ}
+use Rattle.textwrap_layout.proofs.Common.{frame_settings, left_standing, HasNoPenalty, IsMeasured}
+use Rattle.textwrap_layout.proofs.Common.{pieces_cut, stand_from, word_view, WordText, Piece, tiled}
 
 -- the pieces so far and those that are left are all; the left ones stand there and tile the rest
 pub record ArePiecesLeft (text : List ℕ) (all words : List WordText) (at : ℕ) (places : List Piece)

@@ -1,16 +1,11 @@
 use Rattle.textwrap_layout.proofs.pieces.break_pieces.Goals as goal
-use Rattle.textwrap_text.proofs.Common.{◌≡◌, [], ◌∷◌, ◌++◌, cond, map, sym, ap, ◌∙◌}
-use Rattle.textwrap_words.proofs.Common.{broken_words, word_view}
-use Rattle.textwrap_layout.proofs.Common.{layout_view, settings_view, empty_word, front_pieces}
-use Rattle.textwrap_layout.proofs.Common.{later_width}
+use Rattle.textwrap_text.proofs.Common.{cond, ◌++◌, map, sym, ◌∙◌, ◌∷◌, ◌≡◌, [], ap}
+use Rattle.textwrap_layout.proofs.Common.{settings_view, broken_words, front_pieces, later_width}
+use Rattle.textwrap_layout.proofs.Common.{layout_view, empty_word, word_view}
 use Rattle.textwrap_layout.proofs.Paragraph.Pieces.{word_of-nil}
 
 pub returns-then-not-options : goal.returns-then-not-options
-returns-then-not-options g c =
-    let settings = settings_view c.args.options.now in
-    let split = map word_view c.args.split.items in
-    ap (λ b. cond b (front_pieces settings ++ broken_words (later_width settings) split) split)
-    (sym c.if-not-options.true)
+returns-then-not-options g c = rw c.if-not-options.true
 
 pub returns : goal.returns
 returns g c =

@@ -1,8 +1,6 @@
 use Rattle.textwrap_layout.proofs.pieces.break_wide.Goals as goal
-use Rattle.textwrap_text.proofs.Common.{◌≡◌, map, sym, ap, ◌∙◌}
-use Rattle.textwrap_words.proofs.Common.{broken_words, word_view}
-use Rattle.textwrap_words.specs.declared.words.Word.{Word}
-use Rattle.std.proofs.Common.{Iter}
+use Rattle.textwrap_text.proofs.Common.{map, sym, ◌∙◌, ◌≡◌, ap}
+use Rattle.textwrap_layout.proofs.Common.{broken_words, word_view, Iter, Word}
 use Rattle.std.specs.Iterator.Adapters.{copied_source}
 use Rattle.std.specs.Slice.Iter.{iter_rest}
 use Rattle.std.specs.declared.iter.Copied.{Copied}

@@ -1,7 +1,6 @@
 use Rattle.textwrap_layout.proofs.pieces.find_pieces.Goals as goal
 use Rattle.textwrap_text.proofs.Common.{map}
-use Rattle.textwrap_words.proofs.Common.{word_view, MaySeparate, MaySplit}
-use Rattle.textwrap_layout.proofs.Common.{settings_view}
+use Rattle.textwrap_layout.proofs.Common.{settings_view, MaySeparate, word_view, MaySplit}
 use Rattle.textwrap_layout.proofs.Paragraph.Pieces.{pieces-tile}
 use Rattle.textwrap_words.proofs.Word.Parts.{MaySeparate-texts, MaySplit-cuts}
 

@@ -1,8 +1,7 @@
 use Rattle.textwrap_layout.proofs.pieces.find_split_words.Goals as goal
-use Rattle.textwrap_text.proofs.Common.{[], ◌∷◌, ◌++◌, All, map, subst, sym, ap, ◌∙◌, append_assoc}
-use Rattle.textwrap_text.proofs.Common.{append-nil, All-tail}
-use Rattle.textwrap_words.proofs.Common.{word_view, MaySeparate, AreSplit, MaySplit}
-use Rattle.textwrap_words.proofs.Word.Words.{IsMeasured}
+use Rattle.textwrap_text.proofs.Common.{append_assoc, append-nil, All-tail, subst, ◌++◌, All, map}
+use Rattle.textwrap_text.proofs.Common.{sym, ◌∙◌, ◌∷◌, [], ap}
+use Rattle.textwrap_layout.proofs.Common.{MaySeparate, IsMeasured, word_view, AreSplit, MaySplit}
 use Rattle.textwrap_words.proofs.Word.Parts.{MaySeparate-texts}
 use Rattle.textwrap_words.proofs.Word.Pieces.{AreSplit-push}
 

@@ -1,7 +1,7 @@
 use Rattle.textwrap_layout.proofs.pieces.find_split_words.Given as goal
-use Rattle.textwrap_text.proofs.Common.{◌++◌, All, List, map}
-use Rattle.textwrap_words.proofs.Common.{WordText, word_view, MaySeparate, AreSplit, MaySplit}
-use Rattle.textwrap_words.proofs.Word.Words.{IsMeasured}
+use Rattle.textwrap_text.proofs.Common.{List, ◌++◌, All, map}
+use Rattle.textwrap_layout.proofs.Common.{MaySeparate, IsMeasured, word_view, AreSplit, MaySplit}
+use Rattle.textwrap_layout.proofs.Common.{WordText}
 
 -- the pieces so far are those of the words before the ones that are left, and each of these is
 -- measured

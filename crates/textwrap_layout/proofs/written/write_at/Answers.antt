@@ -1,8 +1,8 @@
 use Rattle.textwrap_layout.proofs.written.write_at.Goals as goal
-use Rattle.textwrap_text.proofs.Common.{◌≡◌, ℕ, ◌+◌, ◌-◌, ◌≤◌, List, ◌++◌, length, take, drop, ◌∙◌}
-use Rattle.textwrap_text.proofs.Common.{ap, arith, length-append, take_all, cases_lt, drop-drop}
-use Rattle.textwrap_text.proofs.Common.{inl, inr, min}
-use Rattle.std.proofs.Math.Seq.{drop-append_seam, take-append-add, take-append_seam}
+use Rattle.textwrap_text.proofs.Common.{length-append, drop-drop, cases_lt, take_all, length, arith}
+use Rattle.textwrap_text.proofs.Common.{List, drop, take, ◌++◌, inl, inr, min, ◌+◌, ◌-◌, ◌∙◌, ◌≡◌}
+use Rattle.textwrap_text.proofs.Common.{◌≤◌, ap, ℕ}
+use Rattle.std.proofs.Math.Seq.{drop-append_seam, take-append_seam, take-append-add}
 use Rattle.std.proofs.lemmas.Grind.{common_steps}
 use Rattle.textwrap_text.specs.LentText.{written_over}
 use borrow.Rule.Slice.PartMut.{put_mid}

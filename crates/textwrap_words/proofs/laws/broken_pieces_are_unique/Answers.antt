@@ -1,8 +1,8 @@
 use Rattle.textwrap_words.proofs.laws.broken_pieces_are_unique.Goals as goal
-use Rattle.textwrap_text.proofs.Common.{ap, ◌∙◌, map, units}
-use Rattle.textwrap_words.proofs.Common.{pieces_with, units_text, broken_units}
+use Rattle.textwrap_text.proofs.Common.{units, map, ◌∙◌, ap}
+use Rattle.textwrap_words.proofs.Common.{broken_units, pieces_with, units_text}
 use Rattle.std.specs.Prelude.{chars}
-use Rattle.textwrap_words.proofs.Word.Breaking.{AreBroken-unique, AreBroken-exists}
+use Rattle.textwrap_words.proofs.Word.Breaking.{AreBroken-exists, AreBroken-unique}
 
 pub returns : goal.returns
 returns c = λ limit w pieces. (

@@ -1,8 +1,8 @@
 use Rattle.textwrap_words.proofs.laws.broken_pieces_tile.Goals as goal
 use Rattle.textwrap_text.proofs.Common.{◌∙◌}
 use Rattle.textwrap_words.proofs.Common.{broken_texts}
-use Rattle.textwrap_words.proofs.Word.BrokenPieces.{broken_texts-tile, pieces_with-texts}
 use Rattle.textwrap_words.proofs.Word.BrokenPieces.{tiled-broken_pieces, tiled-broken_words}
+use Rattle.textwrap_words.proofs.Word.BrokenPieces.{broken_texts-tile, pieces_with-texts}
 
 pub returns : goal.returns
 returns c = record {

@@ -1,12 +1,9 @@
 use Rattle.textwrap_words.proofs.pieces.first_word.Goals as goal
-use Rattle.textwrap_text.proofs.Common.{◌≡◌, ◌+◌, true, inl, inr, cases_lt, get_or, length, refl}
-use Rattle.textwrap_text.proofs.Common.{ap, arith, ne_eqb, is_blank}
-use Rattle.std.proofs.lemmas.Str.{IsCharBoundary-end}
-use Rattle.textwrap_words.proofs.Common.{as_splitter}
-use Rattle.textwrap_words.specs.Pieces.{is_stop}
-use Rattle.textwrap_words.proofs.Word.Scanned.{scanned-letters, stop-here, stops-between}
+use Rattle.textwrap_text.proofs.Common.{cases_lt, is_blank, get_or, length, ne_eqb, arith, refl, ap}
+use Rattle.textwrap_text.proofs.Common.{true, inl, inr, ◌+◌, ◌≡◌}
+use Rattle.textwrap_words.proofs.Common.{IsCharBoundary-end, as_splitter, is_stop}
+use Rattle.textwrap_words.proofs.Word.Scanned.{scanned-letters, stops-between, stop-here}
 use Rattle.textwrap_words.proofs.Word.FirstPieces.{first-word, no-word}
-use Rattle.textwrap_words.proofs.pieces.first_word.Goals.{After-letters_len-width}
 
 pub returns-then-bytes-start-eq32 : goal.returns-then-bytes-start-eq32
 returns-then-bytes-start-eq32 c =

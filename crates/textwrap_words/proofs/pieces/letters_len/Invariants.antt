@@ -1,6 +1,6 @@
 use Rattle.textwrap_words.proofs.pieces.letters_len.Given as goal
-use Rattle.textwrap_text.proofs.Common.{ℕ, ◌+◌, ◌-◌, ◌≤◌, ◌<◌, length, slice_index}
-use Rattle.textwrap_words.specs.Pieces.{IsLetter}
+use Rattle.textwrap_text.proofs.Common.{slice_index, length, ◌+◌, ◌-◌, ◌<◌, ◌≤◌, ℕ}
+use Rattle.textwrap_words.proofs.Common.{IsLetter}
 
 abbrev pub invariant-loop-end : goal.invariant-loop-end
 invariant-loop-end l = (l.at ≤ l.end) × (l.end ≤ length l.text) × (l.end ≤ l.at + l.most)

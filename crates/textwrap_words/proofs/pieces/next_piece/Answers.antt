@@ -1,6 +1,6 @@
 use Rattle.textwrap_words.proofs.pieces.next_piece.Goals as goal
-use Rattle.textwrap_text.proofs.Common.{length, get_or, ap, ◌∙◌, subst, arith, ne_eqb}
-use Rattle.textwrap_text.proofs.Common.{BlanksBetween}
+use Rattle.textwrap_text.proofs.Common.{BlanksBetween, get_or, length, ne_eqb, arith, subst, ◌∙◌}
+use Rattle.textwrap_text.proofs.Common.{ap}
 use Rattle.textwrap_words.specs.Pieces.{as_splitter}
 use Rattle.textwrap_words.proofs.Word.Pieces.{word-stands, blanks-end}
 

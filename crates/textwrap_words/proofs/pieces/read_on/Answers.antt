@@ -1,23 +1,19 @@
 use Rattle.textwrap_words.proofs.pieces.read_on.Goals as goal
-use Rattle.textwrap_text.proofs.Common.{◌≡◌, ◌+◌, ◌≤◌, true, false, ◌&&◌, nat_lt, ◌++◌, List, ℕ}
-use Rattle.textwrap_text.proofs.Common.{length, drop, get_or, sym, ap, ◌∙◌, subst, arith}
-use Rattle.textwrap_text.proofs.Common.{append_assoc, true≢false, char_indices_offset, and_parts}
-use Rattle.textwrap_text.proofs.Common.{drop_split, length-append, ◌||◌, length-drop, lt-ltb, refl}
-use Rattle.textwrap_text.proofs.Common.{cases_lt, inl, inr, is_blank, shows, Visible}
+use Rattle.textwrap_text.proofs.Common.{char_indices_offset, length-append, append_assoc, and_parts}
+use Rattle.textwrap_text.proofs.Common.{length-drop, drop_split, true≢false, cases_lt, is_blank, ap}
+use Rattle.textwrap_text.proofs.Common.{Visible, get_or, length, lt-ltb, nat_lt, arith, false, List}
+use Rattle.textwrap_text.proofs.Common.{shows, subst, drop, refl, true, ◌&&◌, ◌++◌, ◌||◌, inl, inr}
+use Rattle.textwrap_text.proofs.Common.{sym, ◌+◌, ◌∙◌, ◌≡◌, ◌≤◌, ℕ}
 use Rattle.std.specs.Prelude.{encode_utf8}
 use Rattle.std.specs.Str.Iter.{char_indices_rest}
-use Rattle.std.proofs.Math.Bool.{or-true}
-use Rattle.std.proofs.lemmas.Str.{encode_ascii}
-use Rattle.textwrap_text.proofs.Texts.{some-bytes, ascii-here, left-after}
-use Rattle.textwrap_words.proofs.Common.{as_splitter, is_due}
-use Rattle.textwrap_words.specs.PieceCuts.{is_point}
-use Rattle.textwrap_words.specs.Pieces.{is_stop, IsFirstStop}
+use Rattle.textwrap_words.proofs.Common.{encode_ascii, IsFirstStop, as_splitter, ascii-here, is_due}
+use Rattle.textwrap_words.proofs.Common.{left-after, some-bytes, is_point, is_stop, or-true}
 use Rattle.textwrap_text.proofs.Units.Reading.{columns-le, added}
-use Rattle.textwrap_words.proofs.Word.Breaking.{due-true, due-false}
+use Rattle.textwrap_words.proofs.Word.Breaking.{due-false, due-true}
 use Rattle.textwrap_words.proofs.Word.Ahead.{plain-bytes, point-after}
-use Rattle.textwrap_words.proofs.Word.Scanned.{scanned-letters, IsScanned, GoesOn, scanned-step}
-use Rattle.textwrap_words.proofs.Word.Scanned.{no-stop, stop-full, stop-here, stops-between}
-use Rattle.textwrap_words.proofs.pieces.read_on.Goals.{In-Some, After-step-next, Joined-is_visible}
+use Rattle.textwrap_words.proofs.Word.Scanned.{scanned-letters, stops-between, scanned-step, GoesOn}
+use Rattle.textwrap_words.proofs.Word.Scanned.{IsScanned, stop-full, stop-here, no-stop}
+use Rattle.textwrap_words.proofs.pieces.read_on.Goals.{Joined-is_visible, After-step-next, In-Some}
 
 pub range-requires-clause-start_boundary : goal.range-requires-clause-start_boundary
 range-requires-clause-start_boundary c = λ _.

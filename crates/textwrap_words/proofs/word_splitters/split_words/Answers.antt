@@ -1,6 +1,6 @@
 use Rattle.textwrap_words.proofs.word_splitters.split_words.Goals as goal
-use Rattle.textwrap_text.proofs.Common.{map_push, rules, ◌∷◌, ◌++◌, [], map, ap, ◌∙◌, sym, subst}
-use Rattle.textwrap_words.proofs.Common.{word_view, AreSplit, split_pieces}
+use Rattle.textwrap_text.proofs.Common.{map_push, rules, ◌++◌, map, ◌∙◌, ap}
+use Rattle.textwrap_words.proofs.Common.{split_pieces, word_view, AreSplit}
 use Rattle.textwrap_words.proofs.Word.Pieces.{AreSplit-push}
 
 pub loop-word-preserved : goal.loop-word-preserved
@@ -10,12 +10,8 @@ loop-word-preserved g c =
     ++ split_pieces ps (word_view c.in-Some.word)) c.deref.ensures.value in (
       search rules,
       search rules,
-      subst (λ words. AreSplit (g.S.SplitPoints.may_split c.args.word_splitter.now) words
-          (map word_view c.push_split.new.pieces.items)) (sym yielded)
-          (subst (AreSplit (g.S.SplitPoints.may_split c.args.word_splitter.now)
-          (map word_view c.loop-word.yielded ++ word_view c.in-Some.word ∷ [])) (sym pushed)
-          (AreSplit-push (g.S.SplitPoints.may_split c.args.word_splitter.now)
+      rw (yielded, pushed) (AreSplit-push (g.S.SplitPoints.may_split c.args.word_splitter.now)
           (map word_view c.loop-word.yielded) (map word_view c.loop-word.pieces.items)
           (word_view c.in-Some.word) c.in_ok-points.points.items c.loop-word.invariant.2
-          c.in_ok-points.ensures.points)),
+          c.in_ok-points.ensures.points),
     )

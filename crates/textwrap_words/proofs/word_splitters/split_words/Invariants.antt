@@ -1,7 +1,6 @@
 use Rattle.textwrap_words.proofs.word_splitters.split_words.Given as goal
 use Rattle.textwrap_text.proofs.Common.{map}
-use Rattle.textwrap_words.proofs.Common.{word_view, AreSplit}
-use Rattle.std.specs.Iterator.{IsFinite}
+use Rattle.textwrap_words.proofs.Common.{word_view, AreSplit, IsFinite}
 
 -- the pieces so far are those of the words so far
 abbrev pub invariant-loop-word : goal.invariant-loop-word

@@ -1,8 +1,7 @@
 use Rattle.textwrap_layout.proofs.built_in.BuiltInOptionsAnyOptions.built_in_parts.Goals as goal
 use Rattle.textwrap_text.proofs.Common.{refl}
-use Rattle.textwrap_words.proofs.Common.{as_splitter, split_words}
-use Rattle.textwrap_words.proofs.Word.Pieces.{AreSplit-computed}
-use Rattle.textwrap_layout.proofs.Common.{layout_view, pieces_of_words}
+use Rattle.textwrap_layout.proofs.Common.{AreSplit-computed, pieces_of_words, as_splitter}
+use Rattle.textwrap_layout.proofs.Common.{layout_view, split_words}
 
 pub returns-clause-parts : goal.returns-clause-parts
 returns-clause-parts g c = λ is_later paragraph words division are by.

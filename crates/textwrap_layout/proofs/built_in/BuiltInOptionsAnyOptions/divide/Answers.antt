@@ -1,17 +1,14 @@
 use Rattle.textwrap_layout.proofs.built_in.BuiltInOptionsAnyOptions.divide.Goals as goal
-use Rattle.textwrap_text.proofs.Common.{◌≡◌, ap, arith, Bor, List, map, subst, refl, sym, ◌∙◌}
-use Rattle.textwrap_base.proofs.Common.{total_width}
-use Rattle.textwrap_words.proofs.Common.{ArePoints, as_splitter, sizes_of, split_words, word_view}
-use Rattle.textwrap_words.proofs.Word.Pieces.{AreSplit-computed}
-use Rattle.std.proofs.lemmas.Result.{IfOk-weaker}
+use Rattle.textwrap_text.proofs.Common.{arith, subst, List, refl, Bor, map, sym, ◌∙◌, ◌≡◌, ap}
+use Rattle.textwrap_layout.proofs.Common.{AreSplit-computed, pieces_of_words, IsDividedInto, Word}
+use Rattle.textwrap_layout.proofs.Common.{as_algorithm, IfOk-weaker, as_splitter, layout_view}
+use Rattle.textwrap_layout.proofs.Common.{split_words, total_width, ArePoints, word_view, words_cut}
+use Rattle.textwrap_layout.proofs.Common.{sizes_of}
 use Rattle.textwrap_base.proofs.Cost.Measures.{total_width-same}
-use Rattle.textwrap_layout.proofs.Common.{IsDividedInto, layout_view, pieces_of_words}
-use Rattle.textwrap_words.specs.declared.words.Word.{Word}
-use Rattle.textwrap_layout.proofs.Paragraph.Pieces.{division-as, words_cut-texts}
-use Rattle.textwrap_layout.proofs.Paragraph.Pieces.{pieces_of_words-wide}
-use Rattle.textwrap_layout.proofs.Paragraph.Widths.{divides-from, division-begins, sizes-word_view}
+use Rattle.textwrap_layout.proofs.Paragraph.Pieces.{pieces_of_words-wide, words_cut-texts}
+use Rattle.textwrap_layout.proofs.Paragraph.Pieces.{division-as}
+use Rattle.textwrap_layout.proofs.Paragraph.Widths.{division-begins, sizes-word_view, divides-from}
 use Rattle.textwrap_layout.proofs.Paragraph.Widths.{only-without}
-use Rattle.textwrap_layout.specs.Direct.{as_algorithm, words_cut}
 
 pub returns-clause-begins : goal.returns-clause-begins
 returns-clause-begins g c = IfOk-weaker c.wrap.result _ _ (λ lines.

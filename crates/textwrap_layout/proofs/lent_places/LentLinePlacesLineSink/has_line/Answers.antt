@@ -1,8 +1,7 @@
 use Rattle.textwrap_layout.proofs.lent_places.LentLinePlacesLineSink.has_line.Goals as goal
-use Rattle.textwrap_text.proofs.Common.{arith, length-map, nat_tests}
-use Rattle.textwrap_layout.proofs.Common.{places_of}
+use Rattle.textwrap_text.proofs.Common.{length-map, nat_tests, arith}
+use Rattle.textwrap_layout.proofs.Common.{reported_line, places_of}
 use Rattle.textwrap_layout.proofs.Text.Sinks.{length-places_of}
-use Rattle.textwrap_layout.specs.LentPlaces.{reported_line}
 
 pub returns : goal.returns
 returns g c = λ first start held holds.

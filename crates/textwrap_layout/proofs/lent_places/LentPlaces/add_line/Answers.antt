@@ -1,6 +1,6 @@
 use Rattle.textwrap_layout.proofs.lent_places.LentPlaces.add_line.Goals as goal
-use Rattle.textwrap_text.proofs.Common.{◌≡◌, ◌++◌, arith, length, length-append, ne_eqb, subst, sym}
-use Rattle.textwrap_layout.specs.LentPlaces.{AddsPlace}
+use Rattle.textwrap_text.proofs.Common.{length-append, length, ne_eqb, arith, subst, ◌++◌, sym, ◌≡◌}
+use Rattle.textwrap_layout.proofs.Common.{AddsPlace}
 use Rattle.textwrap_layout.specs.Paragraph.{assembled_line, Built}
 
 pub returns-then-indent-penalty-gt0 : goal.returns-then-indent-penalty-gt0

@@ -1,7 +1,7 @@
 use Rattle.textwrap_layout.proofs.line_sinks.JoinedLinesLineSink.push_line.Goals as goal
 use Rattle.textwrap_text.proofs.Common.{on_ok_weaker}
 use Rattle.textwrap_layout.proofs.Common.{assembled_line}
-use Rattle.textwrap_layout.proofs.Text.Sinks.{Took-joined, assembled-bytes}
+use Rattle.textwrap_layout.proofs.Text.Sinks.{assembled-bytes, Took-joined}
 
 pub returns-clause-took : goal.returns-clause-took
 returns-clause-took g c =

@@ -1,6 +1,6 @@
 use Rattle.textwrap_layout.proofs.line_sinks.LentLinesLineSink.push_line.Goals as goal
 use Rattle.textwrap_layout.proofs.Common.{assembled_line}
-use Rattle.textwrap_layout.proofs.Text.Sinks.{Took-lent, assembled-bytes}
+use Rattle.textwrap_layout.proofs.Text.Sinks.{assembled-bytes, Took-lent}
 
 pub returns-clause-took : goal.returns-clause-took
 returns-clause-took g c = Took-lent c.args.self.now c.add_line.new.self _ c.args.start

@@ -1,7 +1,6 @@
 use Rattle.textwrap_layout.proofs.pieces.OptionsAnyOptions.built_in_parts.Goals as goal
-use Rattle.textwrap_words.proofs.Common.{MaySeparate, as_splitter}
+use Rattle.textwrap_layout.proofs.Common.{as_algorithm, MaySeparate, as_splitter}
 use Rattle.textwrap_layout.proofs.Paragraph.Pieces.{direct-divided, if_some}
-use Rattle.textwrap_layout.specs.Direct.{as_algorithm}
 
 pub returns-clause-parts : goal.returns-clause-parts
 returns-clause-parts g c = if_some c.built_in_parts.result

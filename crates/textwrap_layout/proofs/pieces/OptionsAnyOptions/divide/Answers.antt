@@ -1,11 +1,9 @@
 use Rattle.textwrap_layout.proofs.pieces.OptionsAnyOptions.divide.Goals as goal
-use Rattle.textwrap_text.proofs.Common.{List, Vec, Bor}
-use Rattle.textwrap_words.proofs.Common.{MaySeparate, MaySplit, sizes_of, word_view}
-use Rattle.textwrap_layout.proofs.Common.{settings_view}
-use Rattle.textwrap_words.specs.declared.words.Word.{Word}
-use Rattle.std.proofs.lemmas.Result.{IfOk-weaker}
-use Rattle.textwrap_layout.proofs.Paragraph.Widths.{divides-from, division-begins, only-memory}
-use Rattle.textwrap_layout.proofs.Paragraph.Widths.{only-fitting, overflow-optimal}
+use Rattle.textwrap_text.proofs.Common.{List, Bor, Vec}
+use Rattle.textwrap_layout.proofs.Common.{settings_view, IfOk-weaker, MaySeparate, word_view, Word}
+use Rattle.textwrap_layout.proofs.Common.{MaySplit, sizes_of}
+use Rattle.textwrap_layout.proofs.Paragraph.Widths.{overflow-optimal, division-begins, divides-from}
+use Rattle.textwrap_layout.proofs.Paragraph.Widths.{only-fitting, only-memory}
 
 pub returns-clause-begins : goal.returns-clause-begins
 returns-clause-begins g c = IfOk-weaker c.wrap.result _ _ (λ lines.

@@ -1,7 +1,6 @@
 use Rattle.textwrap_layout.proofs.pieces.OptionsAnyOptions.printable_cuts.Goals as goal
 use Rattle.textwrap_text.proofs.Common.{subst, sym}
-use Rattle.textwrap_words.proofs.Common.{MaySeparate}
-use Rattle.textwrap_words.proofs.Word.Words.{words_unique}
+use Rattle.textwrap_layout.proofs.Common.{words_unique, MaySeparate}
 use Rattle.textwrap_words.proofs.Word.Parts.{blank-words}
 
 pub returns-in-AsciiSpace : goal.returns-in-AsciiSpace

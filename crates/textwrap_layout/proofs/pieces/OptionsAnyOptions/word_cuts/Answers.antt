@@ -1,7 +1,6 @@
 use Rattle.textwrap_layout.proofs.pieces.OptionsAnyOptions.word_cuts.Goals as goal
-use Rattle.textwrap_text.proofs.Common.{refl, subst, sym}
-use Rattle.textwrap_words.proofs.Common.{MaySeparate, words_of}
-use Rattle.textwrap_words.proofs.Word.Words.{words_unique}
+use Rattle.textwrap_text.proofs.Common.{subst, refl, sym}
+use Rattle.textwrap_layout.proofs.Common.{words_unique, MaySeparate, words_of}
 
 pub returns-in-AsciiSpace-clause-words : goal.returns-in-AsciiSpace-clause-words
 returns-in-AsciiSpace-clause-words g c =

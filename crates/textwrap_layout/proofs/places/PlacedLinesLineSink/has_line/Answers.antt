@@ -1,5 +1,5 @@
 use Rattle.textwrap_layout.proofs.places.PlacedLinesLineSink.has_line.Goals as goal
-use Rattle.textwrap_text.proofs.Common.{not, nat_lt, length, ap, ◌∙◌, arith}
+use Rattle.textwrap_text.proofs.Common.{length, nat_lt, arith, not, ◌∙◌, ap}
 use Rattle.textwrap_text.proofs.Numbers.{not_empty}
 use Rattle.textwrap_layout.proofs.Text.Sinks.{length-places_of}
 

@@ -1,12 +1,8 @@
 use Rattle.textwrap_words.proofs.cut_pieces.CutPieces.begin_word.Goals as goal
-use Rattle.textwrap_text.proofs.Common.{◌≡◌, ℕ, ◌-◌, ◌<◌, List, [], ◌++◌, sym, ap, ◌∙◌, subst}
-use Rattle.textwrap_text.proofs.Common.{arith, length, map, slice_range, if◌then◌else◌, IsUtf8}
-use Rattle.textwrap_text.proofs.Common.{IsUtf8-between}
-use Rattle.textwrap_words.proofs.Common.{as_splitter, broken_words, split_words, word_of}
-use Rattle.textwrap_words.specs.Cuts.{parts_after}
-use Rattle.textwrap_words.specs.PieceCuts.{pieces_within}
-use Rattle.textwrap_words.specs.Pieces.{empty_front, stand_from}
-use Rattle.textwrap_text.proofs.Lists.Parts.{length-slice}
+use Rattle.textwrap_text.proofs.Common.{IsUtf8-between, if◌then◌else◌, slice_range, IsUtf8, length}
+use Rattle.textwrap_text.proofs.Common.{arith, subst, ◌++◌, sym, ◌-◌, ◌<◌, ◌≡◌, [], ap}
+use Rattle.textwrap_words.proofs.Common.{pieces_within, length-slice, as_splitter, empty_front}
+use Rattle.textwrap_words.proofs.Common.{parts_after, stand_from}
 use Rattle.textwrap_words.proofs.Word.SplitParts.{within-none, words-first}
 
 pub returns-clause-left : goal.returns-clause-left
@@ -20,7 +16,6 @@ returns-clause-left c =
     let word = slice_range text self.end end in
     let last = slice_range text self.start self.end in
     let front = if self.has_front then empty_front else [] in
-    let words = λ (ps : List (List ℕ)). broken_words limit (split_words splitter (map word_of ps)) in
     let utf8 = subst IsUtf8 c.as_bytes.ensures.value c.as_bytes.ensures.utf8 in
     let some : 0 < length word =
     omega (arith, found.some, length-slice text self.end end found.boundary.0) in
@@ -28,10 +23,6 @@ returns-clause-left c =
     within-none splitter limit last (self.at - self.start)
     (omega (arith, length-slice text self.start self.end self.ends.0, c.requires.done)) in
     let start : self.at - self.end ≡ 0 = omega (arith, c.requires.done) in
-    ap (λ k. stand_from self.at (front ++ (pieces_within splitter limit word k
-    ++ words (parts_after end later.now text)))) start ∙ ap (λ ws. stand_from self.at (front ++ ws))
+    rw (start, none, found.parts) (ap (λ ws. stand_from self.at (front ++ ws))
     (sym (words-first splitter limit word (parts_after end later.now text)
-    (IsUtf8-between text self.end end utf8 (omega (arith, found.some)) self.ends found.boundary) some)
-    ∙ ap words (sym found.parts))
-    ∙ ap (λ ws. stand_from self.at (front ++ (ws ++ words (parts_after self.end self.cuts.now text))))
-    (sym none)
+    (IsUtf8-between text self.end end utf8 (omega (arith, found.some)) self.ends found.boundary) some)))

@@ -1,7 +1,7 @@
 use Rattle.textwrap_words.proofs.pieces.Pieces.of.Goals as goal
-use Rattle.textwrap_text.proofs.Common.{[], ◌++◌, ap, if◌then◌else◌}
-use Rattle.std.proofs.lemmas.Str.{IsCharBoundary-start}
-use Rattle.textwrap_words.specs.Pieces.{as_splitter, empty_front, stand_from}
+use Rattle.textwrap_text.proofs.Common.{if◌then◌else◌, ◌++◌, [], ap}
+use Rattle.textwrap_words.proofs.Common.{IsCharBoundary-start, empty_front, stand_from}
+use Rattle.textwrap_words.specs.Pieces.{as_splitter}
 use Rattle.textwrap_words.proofs.Word.SplitParts.{pieces-start}
 
 pub invariant_of-result : goal.invariant_of-result

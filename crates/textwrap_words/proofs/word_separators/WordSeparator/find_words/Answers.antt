@@ -1,6 +1,6 @@
 use Rattle.textwrap_words.proofs.word_separators.WordSeparator.find_words.Goals as goal
-use Rattle.textwrap_text.proofs.Common.{ap, sym, ◌∙◌, subst}
-use Rattle.textwrap_words.proofs.Common.{tiled, MaySeparate}
+use Rattle.textwrap_text.proofs.Common.{subst, sym, ◌∙◌, ap}
+use Rattle.textwrap_words.proofs.Common.{MaySeparate, tiled}
 use Rattle.textwrap_words.proofs.Word.Words.{tiled-words_of, words_unique}
 
 pub returns-in-AsciiSpace-clause-words : goal.returns-in-AsciiSpace-clause-words

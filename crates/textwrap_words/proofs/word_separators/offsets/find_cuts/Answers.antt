@@ -1,7 +1,7 @@
 use Rattle.textwrap_words.proofs.word_separators.offsets.find_cuts.Goals as goal
-use Rattle.textwrap_text.proofs.Common.{◌∙◌, ◌∷◌, arith, false, refl, sym, true}
+use Rattle.textwrap_text.proofs.Common.{arith, false, refl, true, sym, ◌∙◌, ◌∷◌}
 use Rattle.textwrap_text.proofs.Units.Characters.{ahead-next}
-use Rattle.textwrap_words.proofs.Word.Offsets.{IsFinding, IsFinding-start, IsFinding-step}
+use Rattle.textwrap_words.proofs.Word.Offsets.{IsFinding-start, IsFinding-step, IsFinding}
 use Rattle.textwrap_text.specs.CharactersLeft.{characters_left}
 use Rattle.textwrap_words.proofs.word_separators.offsets.find_cuts.Goals.{In-Some}
 

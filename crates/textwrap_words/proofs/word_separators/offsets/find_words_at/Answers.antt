@@ -1,7 +1,7 @@
 use Rattle.textwrap_words.proofs.word_separators.offsets.find_words_at.Goals as goal
-use Rattle.textwrap_text.proofs.Common.{◌≡◌, map, sym, ap, ◌∙◌, subst}
-use Rattle.textwrap_words.proofs.Common.{word_view, word_of, tiled, Tiles, AreCuts, cuts_at}
-use Rattle.textwrap_words.proofs.Common.{parts_between}
+use Rattle.textwrap_text.proofs.Common.{subst, map, sym, ◌∙◌, ◌≡◌, ap}
+use Rattle.textwrap_words.proofs.Common.{parts_between, word_view, AreCuts, cuts_at, word_of, Tiles}
+use Rattle.textwrap_words.proofs.Common.{tiled}
 use Rattle.std.proofs.lemmas.Result.{IfOk-weaker}
 use Rattle.textwrap_words.proofs.Word.Cuts.{inner-cuts}
 use Rattle.textwrap_words.proofs.Word.Offsets.{cuts_at-AreInnerCuts}

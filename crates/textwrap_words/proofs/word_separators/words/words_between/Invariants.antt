@@ -1,7 +1,6 @@
 use Rattle.textwrap_words.proofs.word_separators.words.words_between.Given as goal
-use Rattle.textwrap_text.proofs.Common.{◌≡◌, ◌++◌, ◌<◌, drop, map, IsCharBoundary}
-use Rattle.textwrap_words.proofs.Common.{word_view, word_of}
-use Rattle.textwrap_words.specs.Cuts.{AreNext, IsNextPoint, parts_onward}
+use Rattle.textwrap_text.proofs.Common.{IsCharBoundary, drop, ◌++◌, map, ◌<◌, ◌≡◌}
+use Rattle.textwrap_words.proofs.Common.{parts_onward, IsNextPoint, word_view, AreNext, word_of}
 
 -- the words so far, and those of what follows the last cut, are those of the line
 abbrev pub invariant-loop-cut : goal.invariant-loop-cut

@@ -1,5 +1,5 @@
-use Rattle.textwrap_text.proofs.Common.{◌++◌, map, subst, sym, ap, ◌∙◌, text_width}
-use Rattle.textwrap_words.proofs.Common.{MaySplit, split_pieces, word_view}
+use Rattle.textwrap_text.proofs.Common.{text_width, subst, ◌++◌, map, sym, ◌∙◌, ap}
+use Rattle.textwrap_words.proofs.Common.{split_pieces, word_view, MaySplit}
 use Rattle.textwrap_words.proofs.word_splitters.cut_lines.push_part.Goals as goal
 
 pub push_measured-requires : goal.push_measured-requires

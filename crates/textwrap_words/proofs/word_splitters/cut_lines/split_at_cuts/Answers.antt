@@ -1,7 +1,7 @@
 use Rattle.textwrap_words.proofs.word_splitters.cut_lines.split_at_cuts.Goals as goal
-use Rattle.textwrap_text.proofs.Common.{refl, map, sym, subst}
-use Rattle.textwrap_words.proofs.Common.{word_view, word_of, AreCuts, AreSplit, MaySplit}
-use Rattle.textwrap_words.proofs.Common.{parts_between}
+use Rattle.textwrap_text.proofs.Common.{subst, refl, map, sym}
+use Rattle.textwrap_words.proofs.Common.{parts_between, word_view, AreSplit, MaySplit, AreCuts}
+use Rattle.textwrap_words.proofs.Common.{word_of}
 use Rattle.textwrap_words.proofs.Word.Cuts.{inner-cuts}
 
 pub split_parts-requires : goal.split_parts-requires

@@ -1,7 +1,6 @@
-use Rattle.textwrap_text.proofs.Common.{drop_all, [], ◌∷◌, ◌++◌, ◌+◌, arith, drop, drop_more, map}
-use Rattle.textwrap_text.proofs.Common.{subst, sym, ap, ◌∙◌, append_assoc, slice_range, get_or}
-use Rattle.textwrap_words.proofs.Common.{AreSplit, MaySplit, word_of, word_view}
-use Rattle.textwrap_words.specs.Cuts.{parts_onward}
+use Rattle.textwrap_text.proofs.Common.{append_assoc, slice_range, drop_more, drop_all, get_or, map}
+use Rattle.textwrap_text.proofs.Common.{arith, subst, drop, ◌++◌, sym, ◌+◌, ◌∙◌, ◌∷◌, [], ap}
+use Rattle.textwrap_words.proofs.Common.{parts_onward, word_view, AreSplit, MaySplit, word_of}
 use Rattle.textwrap_words.proofs.Word.Pieces.{AreSplit-push}
 use Rattle.textwrap_words.proofs.word_splitters.cut_lines.split_parts.Goals as goal
 

@@ -1,7 +1,7 @@
 use Rattle.textwrap_words.proofs.word_splitters.cut_lines.split_parts.Given as goal
-use Rattle.textwrap_text.proofs.Common.{◌≡◌, ◌++◌, ◌<◌, drop, List, map, IsCharBoundary}
-use Rattle.textwrap_words.proofs.Common.{AreSplit, MaySplit, WordText, word_of, word_view}
-use Rattle.textwrap_words.specs.Cuts.{AreNext, IsNextPoint, parts_onward}
+use Rattle.textwrap_text.proofs.Common.{IsCharBoundary, List, drop, ◌++◌, map, ◌<◌, ◌≡◌}
+use Rattle.textwrap_words.proofs.Common.{parts_onward, IsNextPoint, word_view, AreSplit, MaySplit}
+use Rattle.textwrap_words.proofs.Common.{WordText, AreNext, word_of}
 
 -- the pieces so far are those of the words before, which with the words of what follows the last cut
 -- are those of the line

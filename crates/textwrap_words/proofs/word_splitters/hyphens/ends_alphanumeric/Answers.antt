@@ -1,5 +1,5 @@
 use Rattle.textwrap_words.proofs.word_splitters.hyphens.ends_alphanumeric.Goals as goal
-use Rattle.textwrap_text.proofs.Common.{◌≡◌, ◌++◌, length, sym, ap, ◌∙◌}
+use Rattle.textwrap_text.proofs.Common.{length, ◌++◌, sym, ◌∙◌, ◌≡◌, ap}
 use Rattle.std.specs.Str.Iter.{chars_rest}
 use lib.Utf8.{encode}
 use Rattle.textwrap_words.proofs.Word.Splitting.{ends-none, ends-some}

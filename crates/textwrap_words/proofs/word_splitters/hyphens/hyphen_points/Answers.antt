@@ -1,6 +1,6 @@
 use Rattle.textwrap_words.proofs.word_splitters.hyphens.hyphen_points.Goals as goal
-use Rattle.textwrap_text.proofs.Common.{◌≡◌, ◌-◌, length, sym, ap, ◌∙◌, subst, arith}
-use Rattle.textwrap_text.proofs.Common.{range_with_len, filter}
+use Rattle.textwrap_text.proofs.Common.{range_with_len, filter, length, arith, subst, sym, ◌-◌, ◌∙◌}
+use Rattle.textwrap_text.proofs.Common.{◌≡◌, ap}
 use Rattle.textwrap_words.proofs.Common.{is_hyphen_point, AreCuts}
 use Rattle.textwrap_text.proofs.Lists.Elements.{points-more}
 use Rattle.textwrap_words.proofs.Word.Splitting.{hyphen_points-cuts, hyphen_points-none}

@@ -1,5 +1,5 @@
 use Rattle.textwrap_words.proofs.word_splitters.hyphens.hyphen_points.Given as goal
-use Rattle.textwrap_text.proofs.Common.{◌≡◌, ◌-◌, ◌≤◌, length, filter, range_with_len}
+use Rattle.textwrap_text.proofs.Common.{range_with_len, filter, length, ◌-◌, ◌≡◌, ◌≤◌}
 use Rattle.textwrap_words.proofs.Common.{is_hyphen_point}
 
 -- the points before this offset

@@ -1,7 +1,6 @@
 use Rattle.textwrap_words.proofs.word_splitters.pieces.push_split.Given as goal
-use Rattle.textwrap_text.proofs.Common.{◌≡◌, ◌++◌, ◌<◌, drop, map, IsCharBoundary}
-use Rattle.textwrap_words.specs.Cuts.{AreNext, IsNextPoint}
-use Rattle.textwrap_words.proofs.Common.{word_view, split_from, split_pieces}
+use Rattle.textwrap_text.proofs.Common.{IsCharBoundary, drop, ◌++◌, map, ◌<◌, ◌≡◌}
+use Rattle.textwrap_words.proofs.Common.{split_pieces, IsNextPoint, split_from, word_view, AreNext}
 
 -- the pieces so far, and those of what follows the last cut, are those of the word
 abbrev pub invariant-loop-point : goal.invariant-loop-point

@@ -1,7 +1,6 @@
 use Rattle.textwrap_words.proofs.words.breaking.break_words.Given as goal
-use Rattle.textwrap_text.proofs.Common.{◌≡◌, map}
-use Rattle.textwrap_words.proofs.Common.{broken_words, word_view}
-use Rattle.std.specs.Iterator.{IsFinite}
+use Rattle.textwrap_text.proofs.Common.{map, ◌≡◌}
+use Rattle.textwrap_words.proofs.Common.{broken_words, word_view, IsFinite}
 
 abbrev pub invariant-loop-word : goal.invariant-loop-word
 invariant-loop-word g l = g.I.IntoIter.Iterator.can_next l.word-iterator

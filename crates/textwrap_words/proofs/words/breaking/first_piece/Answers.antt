@@ -1,7 +1,7 @@
 use Rattle.textwrap_words.proofs.words.breaking.first_piece.Goals as goal
-use Rattle.textwrap_text.proofs.Common.{add-zero, sym, subst, ◌∙◌, arith, true≢false}
-use Rattle.textwrap_words.proofs.Word.Breaking.{due-true, due-false}
-use Rattle.textwrap_text.proofs.Units.Reading.{columns-le, read-all, read-room}
+use Rattle.textwrap_text.proofs.Common.{true≢false, add-zero, arith, subst, sym, ◌∙◌}
+use Rattle.textwrap_words.proofs.Word.Breaking.{due-false, due-true}
+use Rattle.textwrap_text.proofs.Units.Reading.{columns-le, read-room, read-all}
 use Rattle.textwrap_words.proofs.Word.Scanned.{IsReading-start, IsReading-step, IsReading-cut}
 use Rattle.textwrap_words.proofs.Word.Scanned.{IsReading-end}
 use Rattle.textwrap_words.proofs.Word.BrokenPieces.{IsFirstPiece}

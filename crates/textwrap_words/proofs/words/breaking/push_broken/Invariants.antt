@@ -1,5 +1,5 @@
 use Rattle.textwrap_words.proofs.words.breaking.push_broken.Given as goal
-use Rattle.textwrap_text.proofs.Common.{◌≡◌, ◌++◌, map}
+use Rattle.textwrap_text.proofs.Common.{◌++◌, map, ◌≡◌}
 use Rattle.textwrap_words.proofs.Common.{broken_word, pieces_left, word_view}
 
 -- what was pushed, and the pieces that are left, are the word

@@ -1,8 +1,7 @@
 use Rattle.textwrap_words.proofs.words.breaking.stay_whole.Goals as goal
-use Rattle.textwrap_text.proofs.Common.{◌≡◌, ℕ, ◌+◌, ◌<◌, ◌≤◌, List, arith, drop, drop_all}
-use Rattle.textwrap_text.proofs.Common.{drop_more, get_or, length, map, nat_tests}
-use Rattle.textwrap_words.proofs.Common.{broken_words, word_view}
-use Rattle.textwrap_words.specs.declared.words.Word.{Word}
+use Rattle.textwrap_text.proofs.Common.{drop_more, nat_tests, drop_all, get_or, length, arith, List}
+use Rattle.textwrap_text.proofs.Common.{drop, map, ◌+◌, ◌<◌, ◌≡◌, ◌≤◌, ℕ}
+use Rattle.textwrap_words.proofs.Common.{broken_words, word_view, Word}
 
 one-more : (limit : ℕ) (words : List Word) (i : ℕ) (d : Word) → i < length words
     → (get_or words i d).width ≤ limit

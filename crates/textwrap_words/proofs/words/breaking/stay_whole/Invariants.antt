@@ -1,5 +1,5 @@
 use Rattle.textwrap_words.proofs.words.breaking.stay_whole.Given as goal
-use Rattle.textwrap_text.proofs.Common.{◌≡◌, drop, map}
+use Rattle.textwrap_text.proofs.Common.{drop, map, ◌≡◌}
 use Rattle.textwrap_words.proofs.Common.{broken_words, word_view}
 
 -- if the words that are left stay whole, all do

@@ -1,7 +1,7 @@
 use Rattle.textwrap_words.proofs.wrap_algorithms.at_ends.lines_between.Given as goal
-use Rattle.textwrap_text.proofs.Common.{◌≡◌, ◌++◌, map, drop, length}
-use Rattle.textwrap_words.specs.Cuts.{AreNext}
-use Rattle.textwrap_words.specs.LineEnds.{IsNextEnd, lines_from, lines_between}
+use Rattle.textwrap_text.proofs.Common.{length, drop, ◌++◌, map, ◌≡◌}
+use Rattle.textwrap_words.proofs.Common.{AreNext}
+use Rattle.textwrap_words.specs.LineEnds.{lines_between, lines_from, IsNextEnd}
 
 -- the lines so far, and those that follow them, are the lines between all ends
 abbrev pub invariant-loop-end : goal.invariant-loop-end

@@ -1,6 +1,6 @@
 use Rattle.textwrap_words.proofs.wrap_algorithms.at_ends.wrap_at_ends.Goals as goal
-use Rattle.textwrap_text.proofs.Common.{◌∙◌, ap, refl, subst, sym}
-use Rattle.textwrap_words.specs.LineEnds.{AreEnds, lines_between}
+use Rattle.textwrap_text.proofs.Common.{subst, refl, sym, ◌∙◌, ap}
+use Rattle.textwrap_words.specs.LineEnds.{lines_between, AreEnds}
 
 pub lines_between-requires : goal.lines_between-requires
 lines_between-requires g c = subst (AreEnds c.args.words.now) (sym c.deref.ensures.value)

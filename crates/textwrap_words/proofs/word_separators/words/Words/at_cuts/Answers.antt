@@ -1,6 +1,6 @@
 use Rattle.textwrap_words.proofs.word_separators.words.Words.at_cuts.Goals as goal
-use Rattle.textwrap_text.proofs.Common.{refl, ap, map, ◌∙◌, sym, subst}
-use Rattle.textwrap_words.proofs.Common.{word_view, word_of, tiled, AreCuts, parts_between}
+use Rattle.textwrap_text.proofs.Common.{subst, refl, map, sym, ◌∙◌, ap}
+use Rattle.textwrap_words.proofs.Common.{parts_between, word_view, AreCuts, word_of, tiled}
 use Rattle.textwrap_words.proofs.Word.Cuts.{inner-cuts}
 use Rattle.textwrap_words.proofs.Word.Parts.{MayCut-cuts, parts-texts}
 use Rattle.textwrap_words.proofs.word_separators.words.Words.at_cuts.Goals.{In_ok-cuts}

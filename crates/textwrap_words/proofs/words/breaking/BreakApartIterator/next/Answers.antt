@@ -1,10 +1,10 @@
 use Rattle.textwrap_words.proofs.words.breaking.BreakApartIterator.next.Goals as goal
-use Rattle.textwrap_text.proofs.Common.{eqb-true, nil_from_length, arith}
-use Rattle.textwrap_words.proofs.Word.BrokenPieces.{turn-none, broken_texts-nil, pieces_with-more}
-use Rattle.textwrap_words.proofs.Word.BrokenPieces.{broken_texts-some}
+use Rattle.textwrap_text.proofs.Common.{nil_from_length, eqb-true, arith}
+use Rattle.textwrap_words.proofs.Word.BrokenPieces.{broken_texts-some, broken_texts-nil}
+use Rattle.textwrap_words.proofs.Word.BrokenPieces.{pieces_with-more}
 
 pub returns-then-is_empty-clause-steps : goal.returns-then-is_empty-clause-steps
-returns-then-is_empty-clause-steps c = grind (arith, turn-none, eqb-true)
+returns-then-is_empty-clause-steps c = grind (arith, nil_from_length, eqb-true, broken_texts-nil)
 
 pub returns-then-is_empty-2-clause-steps : goal.returns-then-is_empty-2-clause-steps
 returns-then-is_empty-2-clause-steps c = grind (arith, nil_from_length, eqb-true, broken_texts-nil)

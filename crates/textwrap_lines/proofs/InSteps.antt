@@ -1,20 +1,19 @@
 -- A paragraph in steps: the points of a text that are inside a part of it, and its words, split there.
-use Rattle.textwrap_text.proofs.Common.{◌≡◌, ℕ, List, arith, ◌+◌, ◌<◌, ◌≤◌, [], ◌∷◌, length, get_or}
-use Rattle.textwrap_text.proofs.Common.{IsCharBoundary, drop, subst, sym, ◌-◌, Bool, true, false}
-use Rattle.textwrap_text.proofs.Common.{◌++◌, filter, take, refl, ap, ◌∙◌, append-nil, and_parts}
-use Rattle.textwrap_text.proofs.Common.{ltb-true, ltb-false, length-append, get_or-drop}
-use Rattle.textwrap_text.proofs.Common.{get_or_append_left, length-drop, drop-drop, drop_at}
-use Rattle.textwrap_text.proofs.Common.{append_assoc, zero, suc, nat_tests, ◌^◌, cases_Bool, inl}
-use Rattle.textwrap_text.proofs.Common.{inr}
+use Rattle.textwrap_lines.proofs.Common.{append_assoc, get_or-drop, IsCharBoundary, length-append}
+use Rattle.textwrap_lines.proofs.Common.{and_parts, append-nil, cases_Bool, drop-drop, length-drop}
+use Rattle.textwrap_lines.proofs.Common.{AreCuts, drop_at, ltb-false, ltb-true, split_at, WordText}
+use Rattle.textwrap_lines.proofs.Common.{arith, Bool, false, get_or, length, subst, tile_of, tiled}
+use Rattle.textwrap_lines.proofs.Common.{drop, inl, inr, List, refl, suc, take, true, zero, ℕ, ◌++◌}
+use Rattle.textwrap_lines.proofs.Common.{[], ap, sym, ◌+◌, ◌-◌, ◌<◌, ◌^◌, ◌∙◌, ◌∷◌, ◌≡◌, ◌≤◌}
+use Rattle.textwrap_text.proofs.Common.{filter, get_or_append_left, nat_tests}
 use Rattle.std.specs.List.Sorted.{IsPartitionPoint}
-use Rattle.textwrap_words.proofs.Common.{AreInnerCuts, AreCuts, AreSplit, split_pieces, tile_of}
-use Rattle.textwrap_words.proofs.Common.{tiled, WordText}
+use Rattle.textwrap_words.proofs.Common.{AreInnerCuts, AreSplit, split_pieces}
 use Rattle.textwrap_words.specs.Cuts.{AreLaterCuts, AreNext, IsNextPoint}
-use Rattle.std.proofs.lemmas.Bool.{leb-true, leb-false}
+use Rattle.std.proofs.lemmas.Bool.{leb-false, leb-true}
 use Rattle.std.proofs.Common.{Fits, w64}
 use lib.Dec.{leb, ltb}
 use Rattle.std.proofs.lemmas.List.Elements.{filter_passes}
-use Rattle.textwrap_lines.specs.Steps.{is_between, points_within, split_at}
+use Rattle.textwrap_lines.specs.Steps.{is_between, points_within}
 
 -- ---- those between two places
 
@@ -39,8 +38,7 @@ filter-past : (test : ℕ → Bool) (xs : List ℕ) (i : ℕ) → i ≤ length x
     → ((k d : ℕ) → k < i → test (get_or xs k d) ≡ false) → filter test (drop i xs) ≡ filter test xs
 filter-past test xs zero within none = refl
 filter-past test [] (suc i) within none = absurd (omega arith)
-filter-past test (x ∷ xs) (suc i) within none =
-    rw (none 0 x (omega arith))
+filter-past test (x ∷ xs) (suc i) within none = rw (none 0 x (omega arith))
     (filter-past test xs i (omega arith) (λ k d below. none (suc k) d (omega (arith, below))))
 
 between-low : (start end p : ℕ) → p ≤ start → is_between start end p ≡ false
@@ -80,12 +78,10 @@ between-are points later i j start end is within here (low, past) (inside, high)
           (omega (arith, lt, ap length is ∙ length-drop i points))),
     ) in
     filter-first test later j (
-      λ k d from below.
-          between-in start end _ (after k d (omega (arith, below, here)))
+      λ k d from below. between-in start end _ (after k d (omega (arith, below, here)))
           (ltb-true _ end (inside k d from below)),
       λ k d from below. between-high start end _ (ltb-false _ end (high k d from below)),
-    )
-    ∙ ap (filter test) is ∙ filter-past test points i within
+    ) ∙ ap (filter test) is ∙ filter-past test points i within
     (λ k d below. between-low start end _ (leb-true _ start (low k d (omega arith) below)))
 
 -- ---- a part that stands in a text
@@ -97,11 +93,13 @@ module _ (text part rest : List ℕ) (at : ℕ) (stands : drop at text ≡ part 
   boundary-inside point boundary after before =
       let place : at + (point - at) ≡ point = omega arith in
       let byte : get_or text point 0 ≡ get_or part (point - at) 0 =
-      ap (λ k. get_or text k 0) (sym place) ∙ sym (get_or-drop at text (point - at) 0)
-      ∙ ap (λ bytes. get_or bytes (point - at) 0) stands
-      ∙ get_or_append_left part rest 0 (point - at) (omega arith) in
+      grind (
+        arith,
+        get_or-drop at text (point - at) 0,
+        get_or_append_left part rest 0 (point - at),
+      ) in
       let len : length text - at ≡ length part + length rest =
-      sym (length-drop at text) ∙ ap length stands ∙ length-append part rest in (
+      grind (arith, length-drop at text, length-append part rest) in (
         omega arith,
         λ within high. omega (
           arith,
@@ -153,8 +151,7 @@ split_at-are text points are (w ∷ words) at stands = (
   points_within at (length w.word) points,
   split_at (at + length (tile_of w)) points words,
   word-cuts text points w words at are stands,
-  split_at-are text points are words (at + length (tile_of w))
-      (stands-next text w words at stands),
+  split_at-are text points are words (at + length (tile_of w)) (stands-next text w words at stands),
   refl,
 )
 
@@ -175,50 +172,44 @@ module _ (text points : List ℕ) where
     within = omega arith;
   }
 
-module _ {text points : List ℕ} {all pieces left : List WordText} {at : ℕ}
-    (so_far : HasSplit text points all pieces left at) where
-  module _ (w : WordText) (words : List WordText) (is : left ≡ w ∷ words) where
-    here-stands : drop at text ≡ tiled (w ∷ words)
-    here-stands = so_far.stands ∙ ap tiled is
+module _ {text points : List ℕ} {all pieces words : List WordText} {w : WordText} {at : ℕ}
+    (so_far : HasSplit text points all pieces (w ∷ words) at) where
+  here-fits : at + (length w.word + length w.whitespace) ≤ length text
+  here-fits = omega (
+    arith,
+    so_far.within,
+    length-drop at text,
+    ap length so_far.stands,
+    length-append (tile_of w) (tiled words),
+    length-append w.word w.whitespace,
+  )
 
-    here-fits : at + (length w.word + length w.whitespace) ≤ length text
-    here-fits = omega (
-      arith,
-      so_far.within,
-      length-drop at text,
-      ap length here-stands,
-      length-append (tile_of w) (tiled words),
-      length-append w.word w.whitespace,
-    )
+  pub HasSplit-word : length text < 2 ^ 63 → at + length w.word < 2 ^ 63
+  HasSplit-word limit = omega (arith, limit, here-fits)
 
-    pub HasSplit-word : length text < 2 ^ 63 → at + length w.word < 2 ^ 63
-    HasSplit-word limit = omega (arith, limit, here-fits)
+  pub HasSplit-fits : length text < 2 ^ 63 → Fits w64 (at + (length w.word + length w.whitespace))
+  HasSplit-fits limit = omega (arith, limit, here-fits)
 
-    pub HasSplit-fits : length text < 2 ^ 63
-        → Fits w64 (at + (length w.word + length w.whitespace))
-    HasSplit-fits limit = omega (arith, limit, here-fits)
+  pub HasSplit-cuts : (inner : List ℕ) → AreInnerCuts text points
+      → inner ≡ points_within at (length w.word) points → AreCuts w.word inner
+  HasSplit-cuts inner are inner_is =
+      subst (AreCuts w.word) (sym inner_is) (word-cuts text points w words at are so_far.stands)
 
-    pub HasSplit-cuts : (inner : List ℕ) → AreInnerCuts text points
-        → inner ≡ points_within at (length w.word) points → AreCuts w.word inner
-    HasSplit-cuts inner are inner_is =
-        subst (AreCuts w.word) (sym inner_is) (word-cuts text points w words at are here-stands)
+  pub HasSplit-next : (inner : List ℕ) (more : List WordText)
+      → inner ≡ points_within at (length w.word) points → more ≡ pieces ++ split_pieces inner w
+      → HasSplit text points all more words (at + (length w.word + length w.whitespace))
+  HasSplit-next inner more inner_is more_is =
+      let len : length (tile_of w) ≡ length w.word + length w.whitespace =
+      length-append w.word w.whitespace in
+      let rest = split_at (at + length (tile_of w)) points words in
+      rw (← len) (record {
+        is = ap (λ ws. ws ++ rest) (more_is ∙ ap (λ ps. pieces ++ split_pieces ps w) inner_is)
+            ∙ append_assoc pieces (split_pieces (points_within at (length w.word) points) w) rest
+            ∙ so_far.is;
+        stands = stands-next text w words at so_far.stands;
+        within = omega (arith, here-fits, len);
+      })
 
-    pub HasSplit-next : (inner : List ℕ) (more : List WordText)
-        → inner ≡ points_within at (length w.word) points
-        → more ≡ pieces ++ split_pieces inner w
-        → HasSplit text points all more words (at + (length w.word + length w.whitespace))
-    HasSplit-next inner more inner_is more_is =
-        let len : length (tile_of w) ≡ length w.word + length w.whitespace =
-        length-append w.word w.whitespace in
-        let rest = split_at (at + length (tile_of w)) points words in
-        rw (← len) (record {
-          is = ap (λ ws. ws ++ rest) (more_is ∙ ap (λ ps. pieces ++ split_pieces ps w) inner_is)
-              ∙ append_assoc pieces (split_pieces (points_within at (length w.word) points) w) rest
-              ∙ ap (λ ws. pieces ++ split_at at points ws) (sym is) ∙ so_far.is;
-          stands = stands-next text w words at here-stands;
-          within = omega (arith, here-fits, len);
-        })
-
-  pub HasSplit-end : left ≡ [] → pieces ≡ split_at 0 points all
-  HasSplit-end none =
-      sym (append-nil pieces) ∙ ap (λ ws. pieces ++ split_at at points ws) (sym none) ∙ so_far.is
+pub HasSplit-end : (text points : List ℕ) (all pieces : List WordText) (at : ℕ)
+    → HasSplit text points all pieces [] at → pieces ≡ split_at 0 points all
+HasSplit-end text points all pieces at so_far = sym (append-nil pieces) ∙ so_far.is

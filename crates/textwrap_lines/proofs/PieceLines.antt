@@ -1,36 +1,34 @@
 -- The lines of first fit, found piece by piece: the pieces that come, the line so far, the first
 -- line.
-use Rattle.textwrap_text.proofs.Common.{◌≡◌, ℕ, ◌+◌, List, ◌++◌, length, drop, ap, ◌∙◌, sym, subst}
-use Rattle.textwrap_text.proofs.Common.{arith, append_assoc, length-append, IsUtf8, IsCharBoundary}
-use Rattle.textwrap_text.proofs.Common.{take_at, drop_at, drop-drop, rules, [], ◌∷◌, All, refl}
-use Rattle.textwrap_text.proofs.Common.{All-head, All-tail, IsCharBoundary-start, ⊤, ◌-◌, ◌<◌, true}
-use Rattle.textwrap_text.proofs.Common.{false, cond, Bool, nat_lt, lt-ltb, length_push, slice_range}
-use Rattle.textwrap_text.proofs.Common.{and_parts, cond_both, ltb-true, ltb-false}
-use Rattle.textwrap_base.proofs.Common.{open_width, closed_width, IsGreedy}
-use Rattle.textwrap_words.proofs.Common.{WordText, tiled, Splitter, words_of, sizes_of}
-use Rattle.textwrap_words.specs.Pieces.{stand_from, empty_front}
+use Rattle.textwrap_lines.proofs.Common.{All-head, IsCharBoundary-start, pieces_of_words-no_penalty}
+use Rattle.textwrap_lines.proofs.Common.{All, IsCharBoundary, pieces_of_words, pieces_of_words-tile}
+use Rattle.textwrap_lines.proofs.Common.{assembled_line, break_limit, cut_lines-next, length-append}
+use Rattle.textwrap_lines.proofs.Common.{[], append_assoc, closed_width, HasNoPenalty, tiled-append}
+use Rattle.textwrap_lines.proofs.Common.{covered, first_width, IsMeasured, later_width, slice_range}
+use Rattle.textwrap_lines.proofs.Common.{cases_Bool, lines_past, open_width, parts_from, stand_from}
+use Rattle.textwrap_lines.proofs.Common.{all-right, and_parts, LineSoFar, text_limit, with_piece, ℕ}
+use Rattle.textwrap_lines.proofs.Common.{cond_both, cut_lines, drop-drop, indent_of, inl, line_from}
+use Rattle.textwrap_lines.proofs.Common.{All-tail, Bool, ltb-false, no_pieces, pieces_of, widths_of}
+use Rattle.textwrap_lines.proofs.Common.{add-zero, all-left, AreTexts, Settings, Splitter, WordText}
+use Rattle.textwrap_lines.proofs.Common.{cut_line, front_of, ltb-true, parts_of, sizes_of, words_of}
+use Rattle.textwrap_lines.proofs.Common.{drop_at, IsUtf8, length, line_of, lt-ltb, nat_lt, take_at}
+use Rattle.textwrap_lines.proofs.Common.{arith, cond, drop, false, List, refl, rules, subst, tiled}
+use Rattle.textwrap_lines.proofs.Common.{inr, sym, true, ◌&&◌, ◌++◌, ◌+◌, ◌-◌, ◌<◌, ◌∙◌, ◌∷◌, ◌≡◌}
+use Rattle.textwrap_lines.proofs.Common.{ap, ⊤, ◌≤◌}
+use Rattle.textwrap_text.proofs.Common.{length_push}
+use Rattle.textwrap_base.proofs.Common.{IsGreedy}
+use Rattle.textwrap_words.specs.Pieces.{empty_front}
 use Rattle.textwrap_words.specs.declared.pieces.Piece.{Piece}
 use Rattle.textwrap_text.proofs.Units.Reading.{text_width-le}
-use Rattle.textwrap_words.proofs.Word.Words.{IsMeasured, tiled-append, HasNoPenalty}
-use Rattle.textwrap_words.proofs.Word.Pieces.{AreTexts}
-use Rattle.textwrap_layout.proofs.Common.{Settings, pieces_of_words, front_of, text_limit}
-use Rattle.textwrap_layout.proofs.Common.{later_width, first_width, indent_of, pieces_of, covered}
-use Rattle.textwrap_layout.proofs.Common.{assembled_line, line_from, parts_from, parts_of}
-use Rattle.textwrap_layout.proofs.Common.{widths_of, cut_line, cut_lines}
-use Rattle.textwrap_lines.proofs.Common.{lines_past, LineSoFar, with_piece, line_of}
-use Rattle.textwrap_lines.specs.PieceLines.{ComesAt, is_past, line_opened, no_pieces}
-use Rattle.textwrap_layout.proofs.Paragraph.LeftOff.{covered-space, assembled-parts}
-use Rattle.textwrap_layout.proofs.Paragraph.Pieces.{pieces_of_words-measured, pieces_of_words-tile}
-use Rattle.textwrap_layout.proofs.Paragraph.Pieces.{words_of-texts}
-use Rattle.textwrap_layout.specs.Layout.{break_limit}
+use Rattle.textwrap_lines.specs.PieceLines.{ComesAt, is_past, line_opened, lines_left}
+use Rattle.textwrap_layout.proofs.Paragraph.LeftOff.{assembled-parts, covered-space}
+use Rattle.textwrap_layout.proofs.Paragraph.Pieces.{pieces_of_words-measured, words_of-texts}
 use Rattle.textwrap_words.specs.PieceCuts.{pieces_from_place}
 use Rattle.textwrap_words.proofs.Word.SplitParts.{pieces-start}
-use Rattle.textwrap_base.proofs.Division.Greedy.{open_width-append, closed_width-push}
+use Rattle.textwrap_base.proofs.Division.Greedy.{closed_width-push, open_width-append}
 use Rattle.textwrap_layout.proofs.Paragraph.Covered.{covered-push}
-use Rattle.textwrap_base.proofs.Division.Grown.{grown, grown-full, grown-room, grown-greedy}
-use Rattle.textwrap_text.proofs.Lists.Parts.{all-left, all-right}
+use Rattle.textwrap_base.proofs.Division.Grown.{grown, grown-full, grown-greedy, grown-room}
 use Rattle.textwrap_layout.proofs.Paragraph.Widths.{later_is}
-use Rattle.textwrap_layout.proofs.Text.Sinks.{cut_lines-next}
 use Rattle.textwrap_layout.proofs.Paragraph.Standing.{limited-pieces, stands-at}
 
 -- ---- the pieces of a text that stand after a place
@@ -89,17 +87,13 @@ module _ (settings : Settings) (splitter : Splitter) (text : List ℕ) where
           ≡ lines_past settings line (left_at line.bounds.end)
       pub come : AllCome text line.bounds.end (left_at line.bounds.end)
 
-    front-lines : (front : Bool) (ws : List WordText)
-        → lines_past settings empty_line (stand_from 0 (cond front empty_front [] ++ ws))
-        ≡ lines_past settings (begun_line front) (stand_from 0 ws)
-    front-lines true ws = refl
-    front-lines false ws = refl
-
-    front-come : (front : Bool) (ws : List WordText)
+    front-taken : (front : Bool) (ws : List WordText)
         → AllCome text 0 (stand_from 0 (cond front empty_front [] ++ ws))
-        → AllCome text 0 (stand_from 0 ws)
-    front-come true ws come = come.1
-    front-come false ws come = come
+        → (lines_past settings empty_line (stand_from 0 (cond front empty_front [] ++ ws))
+        ≡ lines_past settings (begun_line front) (stand_from 0 ws))
+        × AllCome text 0 (stand_from 0 ws)
+    front-taken true ws come = (refl, come.1)
+    front-taken false ws come = (refl, come)
 
     pub goes_on-start : (front : Bool) → IsUtf8 text → length text < text_limit
         → cond front empty_front [] ≡ front_of settings → HoldsFirst (begun_line front)
@@ -110,14 +104,9 @@ module _ (settings : Settings) (splitter : Splitter) (text : List ℕ) where
         ∙ ap (λ ws. front_of settings ++ ws)
         (sym (pieces-start splitter text (break_limit settings) utf8))
         ∙ ap (λ ws. ws ++ rest) (sym front_is) in
-        record {
-          text_is = refl;
-          lines = ap (λ ws. lines_past settings empty_line (stand_from 0 ws)) are
-              ∙ front-lines front rest;
-          come = front-come front rest
-              (subst (λ ws. AllCome text 0 (stand_from 0 ws)) are
-              (pieces-come settings splitter text (words_of text) utf8 (words_of-texts text utf8)));
-        }
+        let (taken, come) = front-taken front rest (rw are at (pieces-come settings splitter text
+        (words_of text) utf8 (words_of-texts text utf8))) in
+        record { text_is = refl; lines = rw are taken; come = come }
 
 -- ---- the line so far, and the pieces in it
 
@@ -176,8 +165,42 @@ module _ (text : List ℕ) where
 -- ---- the lines that are found piece by piece are those of first fit
 
 module _ (settings : Settings) (text : List ℕ) where
+  module _ (at width : ℕ) (indent : List ℕ) (ps : List WordText) where
+    abbrev here : LineSoFar
+    here = so_far text at width indent ps
+
+    -- a piece that has room stands on the line
+    pub lines-room : (x : WordText) (left : List WordText)
+        → (0 < length ps → open_width sizes_of ps + x.width ≤ width)
+        → lines_past settings here (stand_from (at + length (tiled ps)) (x ∷ left))
+        ≡ lines_past settings (so_far text at width indent (ps ++ x ∷ []))
+        (stand_from (at + length (tiled (ps ++ x ∷ []))) left)
+    lines-room x left room =
+        let p = stands_at (at + length (tiled ps)) x in
+        let pushed = so_far-push text at width indent ps x in
+        let more = so_far text at width indent (ps ++ x ∷ []) in
+        cond_both (is_past here p) _
+        (lines_past settings (with_piece here p) (stand_from p.end left))
+        (λ ls. ls ≡ lines_past settings more (stand_from more.bounds.end left)) (λ past.
+        let (some, over) = and_parts (nat_lt 0 (length ps)) _ past in
+        absurd (omega (arith, room (ltb-true 0 (length ps) some), ltb-true width _ over)))
+        (λ _. ap (λ l. lines_past settings l (stand_from p.end left)) pushed
+        ∙ ap (λ l. lines_past settings more (stand_from l.bounds.end left)) pushed)
+
+    -- one that has none begins the next line
+    pub lines-full : (x : WordText) (left : List WordText) → 0 < length ps
+        → width < open_width sizes_of ps + x.width
+        → lines_past settings here (stand_from (at + length (tiled ps)) (x ∷ left))
+        ≡ line_of settings.preserve_trailing_space here
+        ∷ lines_left settings (no_pieces text (at + length (tiled ps)) (later_width settings)
+        settings.subsequent_indent) (stand_from (at + length (tiled ps)) (x ∷ left))
+    lines-full x left some over = rw (
+      lt-ltb 0 (length ps) some,
+      lt-ltb width (open_width sizes_of ps + x.width) over,
+    ) refl
+
   -- the line of these pieces is that of the settings
-  line_of-pieces : (at width : ℕ) (is_later : Bool) (ps : List WordText) (after : List ℕ)
+  pub line_of-pieces : (at width : ℕ) (is_later : Bool) (ps : List WordText) (after : List ℕ)
       → drop at text ≡ tiled ps ++ after → All HasNoPenalty ps
       → line_of settings.preserve_trailing_space
       (so_far text at width (indent_of settings is_later) ps)
@@ -196,11 +219,10 @@ module _ (settings : Settings) (text : List ℕ) where
   abbrev AreLines : ℕ → ℕ → Bool → List WordText → List WordText → Type 0
   AreLines at width is_later left ps =
       lines_past settings (so_far text at width (indent_of settings is_later) ps)
-      (stand_from (at + length (tiled ps)) left)
-      ≡ cut_lines at (parts_from settings is_later
+      (stand_from (at + length (tiled ps)) left) ≡ cut_lines at (parts_from settings is_later
       (grown sizes_of (later_width settings) width left ps))
 
-  pub lines-are : (left ps : List WordText) (at width : ℕ) (is_later : Bool)
+  lines-are : (left ps : List WordText) (at width : ℕ) (is_later : Bool)
       → drop at text ≡ tiled ps ++ tiled left
       → All HasNoPenalty (ps ++ left) → AreLines at width is_later left ps
   lines-are [] ps at width is_later seam none = search (rules, arith, line_of-pieces, all-left)
@@ -209,61 +231,59 @@ module _ (settings : Settings) (text : List ℕ) where
       let indent = indent_of settings is_later in
       let here = so_far text at width indent ps in
       let after = at + length (tiled ps) in
-      let p = stands_at after x in
-      let rest = stand_from p.end left in
-      let next = with_piece (no_pieces text after later settings.subsequent_indent) p in
-      let full = line_of settings.preserve_trailing_space here ∷ lines_past settings next rest in
-      let own = cut_line at (line_from (parts_of settings is_later ps)) in
       let penalty : length x.penalty ≡ 0 =
       ap length (All-head HasNoPenalty x left (all-right HasNoPenalty ps (x ∷ left) none)) in
       let closed : closed_width sizes_of (ps ++ x ∷ []) ≡ open_width sizes_of ps + x.width =
       omega (arith, closed_width-push sizes_of ps x, penalty) in
       let begins : drop after text ≡ tiled (x ∷ left) = rw (← drop-drop, seam, drop_at) in
-      let same_end : p.end ≡ at + length (tiled (ps ++ x ∷ [])) =
-      ap (λ l. l.bounds.end) (so_far-push text at width indent ps x) in
-      let at_none : after ≡ after + 0 = omega arith in
-      let first_is : next ≡ so_far text after later settings.subsequent_indent (x ∷ []) =
-      cc (at_none, so_far-push text after later settings.subsequent_indent [] x) in
-      let next_end : p.end ≡ after + length (tiled (x ∷ [])) = ap (λ l. l.bounds.end) first_is in
-      cond_both (is_past here p) full (lines_past settings (with_piece here p) rest)
-      (λ ls. ls ≡ cut_lines at (parts_from settings is_later
-      (grown sizes_of later width (x ∷ left) ps)))
-      (λ past.
-      let (some, over) = and_parts (nat_lt 0 (length ps)) _ past in
-      cc (
-        line_of-pieces at width is_later ps (tiled (x ∷ left)) seam
-            (all-left HasNoPenalty ps (x ∷ left) none),
-        first_is,
-        next_end,
-        lines-are left (x ∷ []) after later true (begins ∙ tiled-append (x ∷ []) left)
-            (all-right HasNoPenalty ps (x ∷ left) none),
-        cut_lines-next settings is_later at after ps (grown sizes_of later later left (x ∷ []))
-            refl,
-        grown-full sizes_of later width x left ps (ltb-true 0 (length ps) some)
-            (omega (arith, closed, ltb-true width (open_width sizes_of ps + x.width) over)),
-      ))
-      (λ room. ap (λ l. lines_past settings l rest) (so_far-push text at width indent ps x)
-      ∙ ap (λ n. lines_past settings (so_far text at width indent (ps ++ x ∷ []))
-      (stand_from n left)) same_end ∙ lines-are left (ps ++ x ∷ []) at width is_later
-      (search (rules, arith, tiled-append, append_assoc))
-      (subst (All HasNoPenalty) (sym (append_assoc ps (x ∷ []) left)) none)
-      ∙ ap (λ ls. cut_lines at (parts_from settings is_later ls))
-      (search (rules, arith, grown-room, ltb-false)))
+      elim (cases_Bool (is_past here (stands_at after x))) [
+        | inl past ↦
+            let (some, over) = and_parts (nat_lt 0 (length ps)) _ past in
+            let filled = ltb-true 0 (length ps) some in
+            let wide = ltb-true width (open_width sizes_of ps + x.width) over in
+            cc (
+              lines-full at width indent ps x left filled wide,
+              line_of-pieces at width is_later ps (tiled (x ∷ left)) seam
+                  (all-left HasNoPenalty ps (x ∷ left) none),
+              rw (add-zero after) at (lines-room after later settings.subsequent_indent [] x left
+                  (λ some. absurd (omega (arith, some)))),
+              lines-are left (x ∷ []) after later true (begins ∙ tiled-append (x ∷ []) left)
+                  (all-right HasNoPenalty ps (x ∷ left) none),
+              cut_lines-next settings is_later at after ps
+                  (grown sizes_of later later left (x ∷ [])) refl,
+              grown-full sizes_of later width x left ps filled (omega (arith, closed, wide)),
+            )
+        | inr not ↦
+            let room : 0 < length ps → open_width sizes_of ps + x.width ≤ width =
+            λ some. ltb-false width (open_width sizes_of ps + x.width)
+            (sym (ap (λ b. b && nat_lt width (open_width sizes_of ps + x.width))
+            (lt-ltb 0 (length ps) some)) ∙ not) in
+            lines-room at width indent ps x left room
+            ∙ lines-are left (ps ++ x ∷ []) at width is_later
+            (search (rules, arith, tiled-append, append_assoc))
+            (subst (All HasNoPenalty) (sym (append_assoc ps (x ∷ []) left)) none)
+            ∙ ap (λ ls. cut_lines at (parts_from settings is_later ls))
+            (sym (grown-room sizes_of later width x left ps
+            (λ some. omega (arith, closed, room some))))
+      ]
 
-  -- the lines of the pieces
-  pub lines-greedy : (is_later : Bool) (pieces : List WordText) → tiled pieces ≡ text
-      → All HasNoPenalty pieces
+  -- the lines of the pieces of words
+  pub lines-greedy : (splitter : Splitter) (is_later : Bool) (words : List WordText)
+      → IsUtf8 text → AreTexts text words
       → (division : List (List WordText))
-      × IsGreedy sizes_of (widths_of settings is_later) pieces division
-      × (lines_past settings
+      × IsGreedy sizes_of (widths_of settings is_later) (pieces_of_words settings splitter words)
+      division × (lines_past settings
       (no_pieces text 0 (first_width settings is_later) (indent_of settings is_later))
-      (stand_from 0 pieces)
+      (stand_from 0 (pieces_of_words settings splitter words))
       ≡ cut_lines 0 (parts_from settings is_later division))
-  lines-greedy is_later pieces tiles none =
+  lines-greedy splitter is_later words utf8 texts =
+      let pieces = pieces_of_words settings splitter words in
       let first = first_width settings is_later in
       let later = later_width settings in (
         grown sizes_of later first pieces [],
         grown-greedy sizes_of later (widths_of settings is_later)
             (λ n. later_is first later (n + 1) (omega arith)) first refl pieces,
-        lines-are pieces [] 0 first is_later (sym tiles) none,
+        lines-are pieces [] 0 first is_later
+            (sym (pieces_of_words-tile settings splitter text words utf8 texts))
+            (pieces_of_words-no_penalty settings splitter text words utf8 texts),
       )

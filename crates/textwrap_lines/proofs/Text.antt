@@ -1,4 +1,3 @@
-pub mod Directly
 pub mod Groups
 pub mod Printed
 pub mod Promises

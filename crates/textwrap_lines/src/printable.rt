@@ -184,6 +184,7 @@ fn is_cut_at<C: PrintableCuts>(
 }
 
 /// Whether the splitter splits a printable text at a place: after a hyphen between letters or digits.
+#[tactic(auto, using(crate::proofs::PrintableTexts::Bytes::point_printable))]
 fn is_point(text: &[u8], place: usize, splitter: BuiltInSplitter) -> bool
     requires printable { IsPrintable text.now }
     requires after_start { 0 < place }

@@ -1,35 +1,36 @@
 -- What the lines of a paragraph keep to, and the shortcut for a paragraph that is one line.
-use Rattle.textwrap_text.proofs.Common.{◌≡◌, ℕ, ◌≤◌, Bool, true, ◌==◌, nat_lt, List, [], ◌∷◌, All}
-use Rattle.textwrap_text.proofs.Common.{length, map, refl, arith, IsUtf8, and_parts, ltb-true}
-use Rattle.textwrap_text.proofs.Common.{All-nil, All-cons, rules, ◌+◌, ◌<◌, false, ◌&&◌, cond, inl}
-use Rattle.textwrap_text.proofs.Common.{ap, take, MatchBool, sym, ◌∙◌, subst, length-map, ◌≢◌}
-use Rattle.textwrap_text.proofs.Common.{All-weaker, None, Option, Some, cond_both}
-use Rattle.textwrap_base.proofs.Common.{closed_width}
-use Rattle.textwrap_words.proofs.Common.{WordText, sizes_of, word_of, Greedy, IsDividedBy}
-use Rattle.textwrap_words.proofs.Common.{ends_in_hyphen, AreCuts, MaySeparate, Splitter, MaySplit}
-use Rattle.textwrap_words.proofs.Common.{splitter_view, MayDivide, algorithm_view, Algorithm}
-use Rattle.textwrap_layout.proofs.Common.{LineParts, indent_of, parts_from, widths_of, line_from}
-use Rattle.textwrap_layout.proofs.Common.{parts_of, is_whole, Settings, pieces_of, DividesAs}
-use Rattle.textwrap_layout.proofs.Common.{AreIndented, first_width, later_width, width_after, Line}
-use Rattle.textwrap_layout.proofs.Common.{OnlyCharactersPass, AreParagraphParts, AreDividedParts}
-use Rattle.textwrap_layout.proofs.Common.{KeepsToWidth, IsOneCharacter, IsDividedInto, KeepToWidths}
-use Rattle.textwrap_text.proofs.Lists.Parts.{flat, all-left, all-right, Begins}
-use Rattle.textwrap_words.proofs.Word.Words.{closed_width-narrow, HasNoPenalty, IsMeasured}
-use Rattle.textwrap_words.proofs.Word.Words.{text_width-nil}
+use Rattle.textwrap_lines.proofs.Common.{algorithm_view, AreDividedParts, AreParagraphParts, Greedy}
+use Rattle.textwrap_lines.proofs.Common.{AreIndented, ends_in_hyphen, IsDividedInto, laid_out-cases}
+use Rattle.textwrap_lines.proofs.Common.{HasNoPenalty, KeepToWidths, splitter_view, tiled-word_of}
+use Rattle.textwrap_lines.proofs.Common.{Bool, closed_width, IsDividedBy, KeepsToWidth, MaySeparate}
+use Rattle.textwrap_lines.proofs.Common.{All-cons, All-weaker, first_width, IsMeasured, later_width}
+use Rattle.textwrap_lines.proofs.Common.{Algorithm, DividesAs, length-map, LineParts, parts_from, ℕ}
+use Rattle.textwrap_lines.proofs.Common.{All, all-right, and_parts, cond_both, MatchBool, MayDivide}
+use Rattle.textwrap_lines.proofs.Common.{AreTexts, indent_of, Line, line_from, pieces_of, widths_of}
+use Rattle.textwrap_lines.proofs.Common.{all-left, is_whole, MaySplit, Settings, Splitter, WordText}
+use Rattle.textwrap_lines.proofs.Common.{All-nil, AreCuts, ltb-true, parts_of, sizes_of, word_of}
+use Rattle.textwrap_lines.proofs.Common.{arith, false, IsUtf8, length, nat_lt, Option, rules, subst}
+use Rattle.textwrap_lines.proofs.Common.{cond, flat, List, None, refl, Some, take, true, ◌&&◌, ◌==◌}
+use Rattle.textwrap_lines.proofs.Common.{[], ap, inl, map, sym, ◌+◌, ◌<◌, ◌∙◌, ◌∷◌, ◌≡◌, ◌≢◌, ◌≤◌}
+use Rattle.textwrap_layout.proofs.Common.{IsOneCharacter, OnlyCharactersPass, width_after}
+use Rattle.textwrap_text.proofs.Lists.Parts.{Begins}
+use Rattle.textwrap_words.proofs.Word.Words.{closed_width-narrow, text_width-nil}
 use Rattle.textwrap_words.proofs.Word.Texts.{without_final_blanks-utf8}
 use Rattle.textwrap_layout.specs.Paragraph.{indent_before}
-use Rattle.textwrap_layout.proofs.Paragraph.LeftOff.{last_piece-no_penalty, narrow_words}
-use Rattle.textwrap_layout.proofs.Paragraph.LeftOff.{tiled-word_of, word_of-blanks}
-use Rattle.textwrap_layout.proofs.Paragraph.LeftOff.{whole_unindented, laid_out-cases}
-use Rattle.textwrap_layout.proofs.Paragraph.LeftOff.{closed-pieces_of, same_line}
+use Rattle.textwrap_layout.proofs.Paragraph.LeftOff.{closed-pieces_of, last_piece-no_penalty}
+use Rattle.textwrap_layout.proofs.Paragraph.LeftOff.{narrow_words, whole_unindented, word_of-blanks}
+use Rattle.textwrap_layout.proofs.Paragraph.LeftOff.{same_line}
 use Rattle.textwrap_layout.proofs.Paragraph.Widths.{later_is, long_lines}
-use Rattle.textwrap_words.proofs.Word.Pieces.{AreTexts}
-use Rattle.textwrap_layout.proofs.Paragraph.Pieces.{pieces-no_penalty, ArePieces-computed}
-use Rattle.textwrap_layout.proofs.Paragraph.Pieces.{pieces_of-no_penalty, divided-as}
+use Rattle.textwrap_layout.proofs.Paragraph.Pieces.{ArePieces-computed, pieces_of-no_penalty}
+use Rattle.textwrap_layout.proofs.Paragraph.Pieces.{divided-as, pieces-no_penalty}
+use Rattle.textwrap_base.proofs.Cost.Chosen.{IsDividedBy-one_line}
+use Rattle.textwrap_text.proofs.Common.{Err, IsErrAnd, Ok, Result}
+use Rattle.std.specs.Prelude.{alloc_error, IfErr}
+use Rattle.textwrap_base.specs.declared.errors.WrapError.{WrapError}
+use Rattle.textwrap_base.specs.declared.errors.WrapError.TheVariants.{Memory}
 use Rattle.textwrap_words.specs.declared.word_separators.WordSeparator as separators
 use Rattle.textwrap_words.specs.declared.word_splitters.WordSplitter as splitters
 use Rattle.textwrap_words.specs.declared.wrap_algorithms.WrapAlgorithm as algorithms
-use Rattle.textwrap_base.proofs.Cost.Chosen.{IsDividedBy-one_line}
 
 -- ---- what the lines of a division keep to: indents, pieces, hyphens
 
@@ -84,8 +85,7 @@ whole_line-within settings is_later paragraph utf8 whole =
     let none : All HasNoPenalty line =
     All-cons HasNoPenalty (word_of paragraph) [] refl (All-nil HasNoPenalty) in
     let within : closed_width sizes_of line ≤ length paragraph =
-    rw (tiled-word_of paragraph) at (closed_width-narrow line
-    (narrow_words line measured none)) in
+    rw (tiled-word_of paragraph) at (closed_width-narrow line (narrow_words line measured none)) in
     omega (arith, within, ltb-true (length paragraph) settings.width tests.1)
 
 -- ---- lemmas on lines that keep to the width, their indents with them: those of a paragraph
@@ -133,6 +133,14 @@ module _ (settings : Settings) where
 
 -- ---- what the lines of a paragraph keep to
 
+-- what holds of the paragraph as one line, and of a division of it, holds of its lines
+laid_out-by : (P : List (List WordText) → Type 0) (paragraph : List ℕ) (Divided : Type 0)
+    (division : List (List WordText)) (whole : Bool)
+    → (whole ≡ true → P ((word_of paragraph ∷ []) ∷ [])) → (whole ≡ false → Divided → P division)
+    → MatchBool whole (division ≡ (word_of paragraph ∷ []) ∷ []) Divided → P division
+laid_out-by P paragraph Divided division true one divided is = subst P (sym is) (one refl)
+laid_out-by P paragraph Divided division false one divided is = divided refl is
+
 module _ (settings : Settings) (Words : List ℕ → List WordText → Type 0)
     (Points : List ℕ → List ℕ → Type 0)
     (Lines : List ℕ → List WordText → List (List WordText) → Type 0) where
@@ -166,69 +174,67 @@ module _ (settings : Settings) (Words : List ℕ → List WordText → Type 0)
         → (is_later : Bool) (paragraph : List ℕ) (parts : List LineParts)
         → IsUtf8 paragraph → AreParts is_later paragraph parts → All HasNoHyphen parts
     paragraph-no_hyphen hyphens is_later paragraph parts utf8 (division, laid_out, is) =
-        subst (All HasNoHyphen) (sym is)
-        (parts_from-no_hyphen settings is_later division
+        subst (All HasNoHyphen) (sym is) (parts_from-no_hyphen settings is_later division
         (laid_out-cases (λ d. All HasNoPenalty (flat d)) paragraph _ division
         (All-cons HasNoPenalty (word_of paragraph) [] refl (All-nil HasNoPenalty))
         (λ (pieces, are, divided).
         let (rest, whole) = begins (widths_of settings is_later) pieces division divided in
-        all-left HasNoPenalty (flat division) rest
-        (subst (All HasNoPenalty) (sym whole)
+        all-left HasNoPenalty (flat division) rest (subst (All HasNoPenalty) (sym whole)
         (pieces-no_penalty settings Words Points texts cuts hyphens paragraph pieces utf8 are)))
         (is_whole settings is_later paragraph) laid_out))
 
-    pub paragraph-keeps : ((text points : List ℕ) → Points text points
-        → All (λ p. ends_in_hyphen (take p text) ≡ true) points)
-        → ((widths : List ℕ) (pieces : List WordText) (division : List (List WordText))
-        → Lines widths pieces division → IsDividedBy Greedy sizes_of widths pieces division)
-        → settings.break_words ≡ true → (is_later : Bool)
-        (paragraph : List ℕ) (parts : List LineParts) → IsUtf8 paragraph
-        → AreParts is_later paragraph parts → KeepToWidths settings is_later paragraph parts
-    paragraph-keeps hyphens greedy breaks is_later paragraph parts utf8 (division, laid_out, is) =
-        subst (λ lines. MatchBool (is_whole settings is_later paragraph)
-        (All (λ line. closed_width sizes_of line ≤ settings.width) lines)
-        (OnlyCharactersPass (widths_of settings is_later) 0 lines))
+  -- by first fit, where words are split after hyphens alone and those too wide are broken
+  module _ (texts : (line : List ℕ) (words : List WordText) → IsUtf8 line → Words line words
+      → AreTexts line words)
+      (cuts : (text points : List ℕ) → IsUtf8 text → Points text points → AreCuts text points)
+      (hyphens : (text points : List ℕ) → Points text points
+      → All (λ p. ends_in_hyphen (take p text) ≡ true) points)
+      (greedy : (widths : List ℕ) (pieces : List WordText) (division : List (List WordText))
+      → Lines widths pieces division → IsDividedBy Greedy sizes_of widths pieces division)
+      (breaks : settings.break_words ≡ true) where
+    characters-pass : (is_later : Bool) (paragraph : List ℕ) (division : List (List WordText))
+        → IsUtf8 paragraph → Divides is_later paragraph division
+        → OnlyCharactersPass (widths_of settings is_later) 0 division
+    characters-pass is_later paragraph division utf8 (pieces, are, divided) =
+        long_lines settings Words Points texts cuts hyphens is_later paragraph division utf8 breaks
+        (pieces, are, greedy (widths_of settings is_later) pieces division divided)
+
+    pub paragraph-keeps : (is_later : Bool) (paragraph : List ℕ) (parts : List LineParts)
+        → IsUtf8 paragraph → AreParts is_later paragraph parts
+        → KeepToWidths settings is_later paragraph parts
+    paragraph-keeps is_later paragraph parts utf8 (division, laid_out, is) =
+        let whole = is_whole settings is_later paragraph in
+        let Within : List (List WordText) → Type 0 =
+        λ lines. MatchBool whole (All (λ line. closed_width sizes_of line ≤ settings.width) lines)
+        (OnlyCharactersPass (widths_of settings is_later) 0 lines) in
+        subst Within
         (sym (ap (map (λ p. p.pieces)) is ∙ parts_from-pieces settings is_later division))
-        (by_case (is_whole settings is_later paragraph) refl laid_out)
-      where
-        by_case : (whole : Bool) → is_whole settings is_later paragraph ≡ whole
-            → MatchBool whole (division ≡ (word_of paragraph ∷ []) ∷ [])
-            (Divides is_later paragraph division)
-            → MatchBool whole
-            (All (λ line. closed_width sizes_of line ≤ settings.width) division)
-            (OnlyCharactersPass (widths_of settings is_later) 0 division)
-        by_case true whole one =
-            subst (All (λ line. closed_width sizes_of line ≤ settings.width)) (sym one)
-            (search (rules, arith, All-cons, whole_line-within, All-nil))
-        by_case false whole (pieces, are, divided) =
-            long_lines settings Words Points texts cuts hyphens is_later paragraph division utf8
-            breaks (pieces, are, greedy (widths_of settings is_later) pieces division divided)
+        (laid_out-by Within paragraph _ division whole
+        (λ one. rw one (search (rules, arith, All-cons, whole_line-within, All-nil)))
+        (λ longer divided. rw longer (characters-pass is_later paragraph division utf8 divided))
+        laid_out)
 
     -- where later paragraphs are even
-    pub paragraph-even : ((text points : List ℕ) → Points text points
-        → All (λ p. ends_in_hyphen (take p text) ≡ true) points)
-        → ((widths : List ℕ) (pieces : List WordText) (division : List (List WordText))
-        → Lines widths pieces division → IsDividedBy Greedy sizes_of widths pieces division)
-        → settings.break_words ≡ true → (is_later : Bool)
+    pub paragraph-even : (is_later : Bool)
         → first_width settings is_later ≡ own_width settings is_later
         → (paragraph : List ℕ) (parts : List LineParts) → IsUtf8 paragraph
         → AreParts is_later paragraph parts → All (KeepsToWidth settings.width) parts
-    paragraph-even hyphens greedy breaks is_later own paragraph parts utf8
-        (division, laid_out, is) = subst (All (KeepsToWidth settings.width)) (sym is)
-        (by_case (is_whole settings is_later paragraph) refl laid_out)
-      where
-        by_case : (whole : Bool) → is_whole settings is_later paragraph ≡ whole
-            → MatchBool whole (division ≡ (word_of paragraph ∷ []) ∷ [])
-            (Divides is_later paragraph division)
-            → All (KeepsToWidth settings.width) (parts_from settings is_later division)
-        by_case true whole one =
-            subst (λ lines. All (KeepsToWidth settings.width) (parts_from settings is_later lines))
-            (sym one)
-            (search (rules, arith, whole_unindented, text_width-nil, All-cons, All-nil, whole_line-within))
-        by_case false whole (pieces, are, divided) =
-            division-even settings is_later own division
-            (long_lines settings Words Points texts cuts hyphens is_later paragraph division utf8
-            breaks (pieces, are, greedy (widths_of settings is_later) pieces division divided))
+    paragraph-even is_later own paragraph parts utf8 (division, laid_out, is) =
+        let Keep : List (List WordText) → Type 0 =
+        λ lines. All (KeepsToWidth settings.width) (parts_from settings is_later lines) in
+        subst (All (KeepsToWidth settings.width)) (sym is)
+        (laid_out-by Keep paragraph _ division (is_whole settings is_later paragraph)
+        (λ one. search (
+          rules,
+          arith,
+          whole_unindented,
+          text_width-nil,
+          All-cons,
+          All-nil,
+          whole_line-within,
+        ))
+        (λ longer divided. division-even settings is_later own division
+        (characters-pass is_later paragraph division utf8 divided)) laid_out)
 
 -- ---- the shortcut
 
@@ -246,8 +252,7 @@ module _ (settings : Settings) (algorithm : Algorithm) (splitter : Splitter) whe
       paragraph parts × (map line_from parts ≡ lines)
 
   whole-divided : (is_later : Bool) (paragraph : List ℕ) → IsUtf8 paragraph
-      → settings.initial_indent ≡ []
-      → is_whole settings is_later paragraph ≡ true
+      → settings.initial_indent ≡ [] → is_whole settings is_later paragraph ≡ true
       → HasDividedLines is_later paragraph
       (line_from (parts_of settings is_later (word_of paragraph ∷ [])) ∷ [])
   whole-divided is_later paragraph utf8 unindented whole =
@@ -280,16 +285,14 @@ module _ (settings : Settings) (algorithm : Algorithm) (splitter : Splitter) whe
       → AreParagraphParts settings (DividesAs splitter algorithm settings) is_later paragraph parts
       → HasDividedLines is_later paragraph (map line_from parts)
   paragraph-divided is_later paragraph parts utf8 unindented (division, laid_out, is) =
-      by_case (is_whole settings is_later paragraph) refl laid_out
-    where
-      by_case : (whole : Bool) → is_whole settings is_later paragraph ≡ whole
-          → MatchBool whole (division ≡ (word_of paragraph ∷ []) ∷ [])
-          (DividesAs splitter algorithm settings is_later paragraph division)
-          → HasDividedLines is_later paragraph (map line_from parts)
-      by_case true is_true one =
-          subst (HasDividedLines is_later paragraph)
-          (cc (one, is)) (whole-divided is_later paragraph utf8 unindented is_true)
-      by_case false is_false divided = (parts, (division, divided, is), refl)
+      let Has : List (List WordText) → Type 0 =
+      λ lines. HasDividedLines is_later paragraph
+      (map line_from (parts_from settings is_later lines)) in
+      subst (λ ps. HasDividedLines is_later paragraph (map line_from ps)) (sym is)
+      (laid_out-by Has paragraph _ division (is_whole settings is_later paragraph)
+      (λ one. whole-divided is_later paragraph utf8 unindented one)
+      (λ longer divided. (parts_from settings is_later division, (division, divided, refl), refl))
+      laid_out)
 
 -- the lines of a paragraph are those of a division too, where there are no indents
 abbrev IsDividedToo : Settings → (Bool → List ℕ → List (List WordText) → Type 0) → Type 0
@@ -323,3 +326,11 @@ module _ {E C : Type 0} {e : _} {c : _} (settings : Settings) where
       by (Some s) s_is (Some a) a_is = subst (IsDividedToo settings)
           (sym (divided-as settings separator splitter algorithm s a is s_is a_is))
           (paragraph-divided settings a s)
+
+-- ---- errors that are passed on
+
+pub passed-on : {A : Type 0} (result : Result A WrapError) (error : WrapError)
+    → IsErrAnd result (λ e. e ≡ error) → error ≡ Memory alloc_error
+    → IfErr result (λ e. e ≡ Memory alloc_error)
+passed-on (Ok value) error is only = tt
+passed-on (Err e) error is only = is ∙ only

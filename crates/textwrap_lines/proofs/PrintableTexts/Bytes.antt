@@ -1,41 +1,39 @@
 -- Texts of printable ASCII: each byte is one column, and bytes tell where words are split and
 -- broken.
-use Rattle.textwrap_text.proofs.Common.{◌≡◌, ◌∷◌, ℕ, zero, take, drop, ◌++◌, true, ◌&&◌, ◌==◌, List}
-use Rattle.textwrap_text.proofs.Common.{refl, length, nat_lt, get_or, subst, lt-ltb, le-ltb, []}
-use Rattle.textwrap_text.proofs.Common.{chars-IsAscii, length-append, length-drop, All, map, ◌∙◌}
-use Rattle.textwrap_text.proofs.Common.{◌≤◌, suc, ◌+◌, ◌<◌, sym, ◌≢◌, ◌-◌, inl, inr, ap, ltb-false}
-use Rattle.textwrap_text.proofs.Common.{All-append, cond_both, drop_more, IsUtf8, All-nil, arith}
-use Rattle.textwrap_text.proofs.Common.{take_at, drop_at, reverse, cases_lt, All-cons, All-head}
-use Rattle.textwrap_text.proofs.Common.{All-tail, All-take, All-drop, ltb-true, IsUtf8-from_ascii}
-use Rattle.textwrap_text.proofs.Common.{is_ascii_alphanumeric, take-append-drop, All-weaker}
-use Rattle.textwrap_text.proofs.Common.{take-append-add, length-take-le, reverse-append, TextUnit}
-use Rattle.textwrap_text.proofs.Common.{Visible, units, trimmed_len, columns, final_blanks}
-use Rattle.textwrap_text.proofs.Common.{without_final_blanks, IsPrintableByte, IsPrintable}
-use Rattle.textwrap_base.proofs.Common.{Fits, closed_width, open_width}
-use Rattle.textwrap_words.proofs.Common.{word_of, WordText, sizes_of, units_text, split_words}
-use Rattle.textwrap_words.proofs.Common.{broken_word, pieces_with, Whole, tile_of, tiled, piece}
-use Rattle.textwrap_words.proofs.Common.{broken_units, broken_texts, broken_words, broken_pieces}
-use Rattle.textwrap_words.proofs.Common.{is_hyphen_point}
-use Rattle.textwrap_layout.proofs.Common.{covered}
+use Rattle.textwrap_lines.proofs.Common.{IsPrintableByte, take-append-drop, without_final_blanks, ℕ}
+use Rattle.textwrap_lines.proofs.Common.{All-append, chars-IsAscii, length-take-le, printable-width}
+use Rattle.textwrap_lines.proofs.Common.{broken_words, closed_width, HasNoPenalty, length-append}
+use Rattle.textwrap_lines.proofs.Common.{broken_word, IsPrintable, IsUtf8, length-drop, split_words}
+use Rattle.textwrap_lines.proofs.Common.{all-right, All-weaker, IsMeasured, open_width, trimmed_len}
+use Rattle.textwrap_lines.proofs.Common.{All-cons, All-drop, arith, cond_both, drop_more, ltb-false}
+use Rattle.textwrap_lines.proofs.Common.{All-head, all-left, All-tail, All-take, cases_lt, WordText}
+use Rattle.textwrap_lines.proofs.Common.{[], All-nil, covered, drop_at, ltb-true, sizes_of, take_at}
+use Rattle.textwrap_lines.proofs.Common.{get_or, le-ltb, length, lt-ltb, nat_lt, tile_of, word_of}
+use Rattle.textwrap_lines.proofs.Common.{drop, Fits, flat, List, piece, refl, subst, take, tiled}
+use Rattle.textwrap_lines.proofs.Common.{All, inl, inr, map, suc, sym, true, zero, ◌&&◌, ◌++◌, ◌==◌}
+use Rattle.textwrap_lines.proofs.Common.{ap, ◌+◌, ◌-◌, ◌<◌, ◌∙◌, ◌∷◌, ◌≡◌, ◌≢◌, ◌≤◌}
+use Rattle.textwrap_words.proofs.Common.{broken_pieces, broken_texts, broken_units, is_hyphen_point}
+use Rattle.textwrap_words.proofs.Common.{pieces_with, units_text, Whole}
+use Rattle.textwrap_text.proofs.Common.{is_ascii_alphanumeric, IsUtf8-from_ascii, take-append-add}
+use Rattle.textwrap_text.proofs.Common.{columns, final_blanks, reverse-append, TextUnit, Visible}
+use Rattle.textwrap_text.proofs.Common.{reverse, units}
 use Rattle.std.specs.Prelude.{chars}
-use Rattle.textwrap_text.proofs.Units.Reading.{units-printable, printable-width}
+use Rattle.textwrap_text.proofs.Units.Reading.{units-printable}
 pub use Rattle.textwrap_text.proofs.Units.Reading.{columns-printable, printable-ascii}
 pub use Rattle.textwrap_text.proofs.Units.Reading.{printable-width}
-use Rattle.textwrap_text.proofs.Lists.Parts.{flat, all-left, all-right}
-use Rattle.textwrap_words.proofs.Word.Words.{IsMeasured, HasNoPenalty}
-use Rattle.textwrap_base.proofs.Division.Greedy.{open_width-cons, closed-take}
-use Rattle.textwrap_words.proofs.Word.Breaking.{taken_units, left_units, parts_after-is}
-use Rattle.textwrap_words.proofs.Word.Breaking.{is_due-first, due-false, due-true}
-use Rattle.textwrap_words.proofs.Word.BrokenPieces.{units_text-chars, broken_texts-some}
-use Rattle.textwrap_words.proofs.Word.BrokenPieces.{pieces_with-more, broken_word-front}
+use Rattle.textwrap_base.proofs.Division.Greedy.{closed-take, open_width-cons}
+use Rattle.textwrap_words.proofs.Word.Breaking.{due-true, is_due-first, parts_after-is, taken_units}
+use Rattle.textwrap_words.proofs.Word.Breaking.{due-false, left_units}
+use Rattle.textwrap_words.proofs.Word.BrokenPieces.{broken_texts-some, broken_word-front}
+use Rattle.textwrap_words.proofs.Word.BrokenPieces.{pieces_with-more, units_text-chars}
 use Rattle.std.proofs.Common.{ltb}
 use Rattle.textwrap_words.proofs.Word.Texts.{trimmed-front}
-use Rattle.textwrap_words.specs.WordSplitters.{is_alphanumeric, begins_alphanumeric}
+use Rattle.textwrap_words.specs.WordSplitters.{begins_alphanumeric, is_alphanumeric}
 use Rattle.std.proofs.Math.Seq.{take-suc}
 use Rattle.std.proofs.lemmas.Bool.{agree_below, agree_below_at}
 use Rattle.unicode.proofs.CategoryComputing.{ucd_category}
 use Rattle.unicode.proofs.DerivedComputing.{ucd_derived}
-use Rattle.textwrap_words.proofs.Word.Splitting.{point-is, ends-none}
+use Rattle.textwrap_words.proofs.Word.Splitting.{ends-none, point-is}
 
 -- ---- lemmas on printable texts: each byte is a visible character of one column
 
@@ -80,8 +78,7 @@ exact-words (w ∷ ws) measured none printable =
     (record {
       width = (All-head IsMeasured w ws measured).width ∙ printable-width w.word word;
       penalty = All-head HasNoPenalty w ws none;
-    })
-    (exact-words ws (All-tail IsMeasured w ws measured) (All-tail HasNoPenalty w ws none)
+    }) (exact-words ws (All-tail IsMeasured w ws measured) (All-tail HasNoPenalty w ws none)
     (all-right IsPrintableByte (tile_of w) (tiled ws) printable))
 
 closed-exact : (ws : List WordText) → All IsExact ws
@@ -129,10 +126,8 @@ part-printable limit width (c ∷ cs) printable some (suc room) is =
     let next : width + columns c ≡ suc width = omega (arith, one) in
     let rest = part-printable limit (suc width) cs (All-tail IsPrintableByte c cs printable)
     (omega arith) room (omega (arith, is)) in
-    rw (due-false limit width c (λ _. omega (arith, one, is))) (
-      ap (λ us. Visible c ∷ us) (ap (λ n. taken_units limit n (map Visible cs)) next ∙ rest.0),
-      ap (λ n. left_units limit n (map Visible cs)) next ∙ rest.1,
-    )
+    rw (due-false limit width c (λ _. omega (arith, one, is)), next)
+    (ap (λ us. Visible c ∷ us) rest.0, rest.1)
 
 units_text-printable : (text : List ℕ) → IsPrintable text → units_text (map Visible text) ≡ text
 units_text-printable text printable = ap units_text (sym (units_of-printable text printable))
@@ -153,12 +148,9 @@ broken_texts-printable (suc n) (c ∷ cs) printable room some =
     (omega arith) in
     let front = All-take IsPrintableByte limit text printable in
     let taken : taken_units limit 0 (map Visible text) ≡ map Visible (take limit text) =
-    rw (is_due-first limit (Visible c))
-    (ap (λ us. Visible c ∷ us) (ap (λ k. taken_units limit k (map Visible cs)) first
-    ∙ rest.0)) in
+    rw (is_due-first limit (Visible c), first) (ap (λ us. Visible c ∷ us) rest.0) in
     let left : left_units limit 0 (map Visible text) ≡ map Visible (drop limit text) =
-    rw (is_due-first limit (Visible c))
-    (ap (λ k. left_units limit k (map Visible cs)) first ∙ rest.1) in
+    rw (is_due-first limit (Visible c), first) rest.1 in
     let parts : broken_units limit (map Visible text)
     ≡ map Visible (take limit text) ∷ broken_units limit (map Visible (drop limit text)) =
     parts_after-is limit 0 (map Visible text) ∙ cc in
@@ -182,8 +174,7 @@ pub begins_wide-step : (limit n : ℕ) (w : WordText) (ws : List WordText) → 0
     → BeginsWide limit n (broken_words limit (w ∷ ws))
 begins_wide-step limit n w ws room within printable width long =
     cond_both (ltb limit w.width) (broken_pieces limit w) (w ∷ [])
-    (λ ps. BeginsWide limit n (ps ++ broken_words limit ws))
-    (λ is.
+    (λ ps. BeginsWide limit n (ps ++ broken_words limit ws)) (λ is.
     let wider = ltb-true limit w.width is in
     let front = take limit w.word in
     let back = drop limit w.word in
@@ -236,11 +227,9 @@ broken-front limit front p printable room len some =
     (omega (arith, word_len, rest_len, some))
     ∙ ap (λ t. t ∷ broken_texts limit (drop limit (front ++ rest))) (take_at front rest limit len)
     ∙ ap (λ t. front ∷ broken_texts limit t) (drop_at front rest limit len) in
-    ap (λ u. broken_word limit (piece u (final_blanks whole) [])) word
-    ∙ ap (λ v. broken_word limit (piece (front ++ rest) v [])) both.1
-    ∙ broken_word-front limit (front ++ rest) front rest (final_blanks p)
+    rw (word, both.1) (broken_word-front limit (front ++ rest) front rest (final_blanks p)
     (printable-utf8 rest rest_printable) nonempty
-    (omega (arith, width, word_len, len, rest_len, some)) texts
+    (omega (arith, width, word_len, len, rest_len, some)) texts)
 
 -- ---- the points of a splitter in a printable text, told by three bytes
 
@@ -270,23 +259,21 @@ ends-printable text (suc m) printable inside =
     let front : take (suc m) text ≡ take m text ++ here ∷ [] =
     take-suc text m 0 (omega (arith, inside)) in
     let front_printable = subst IsPrintable front (All-take IsPrintableByte (suc m) text printable) in
-    ap (λ t. begins_alphanumeric (reverse (chars t))) front
-    ∙ ap (λ cs. begins_alphanumeric (reverse cs))
-    (chars-IsAscii (take m text ++ here ∷ []) (printable-ascii _ front_printable))
-    ∙ ap begins_alphanumeric (reverse-append (take m text) (here ∷ []))
-    ∙ alphanumeric-printable here
-    (All-head IsPrintableByte here [] (all-right IsPrintableByte (take m text) (here ∷ [])
-    front_printable)) ∙ ap (λ k. is_ascii_alphanumeric (get_or text k 0)) (sym place)
-    ∙ ap (λ t. t && is_ascii_alphanumeric (get_or text (suc m - 1) 0))
-    (sym (lt-ltb 0 (suc m) (omega arith)))
+    rw (
+      front,
+      chars-IsAscii (take m text ++ here ∷ []) (printable-ascii _ front_printable),
+      reverse-append,
+      place,
+      lt-ltb 0 (suc m) (omega arith),
+    ) (alphanumeric-printable here (All-head IsPrintableByte here []
+    (all-right IsPrintableByte (take m text) (here ∷ []) front_printable)))
 
 -- a point stands after a hyphen between two letters or digits
-pub point-printable : (text : List ℕ) (place : ℕ) → IsPrintable text → 0 < place
-    → place < length text
-    → is_hyphen_point text place ≡ ((get_or text (place - 1) 0 == 45)
+pub point_printable : (text : List ℕ) (place : ℕ) → IsPrintable text → 0 < place
+    → place < length text → is_hyphen_point text place ≡ ((get_or text (place - 1) 0 == 45)
     && (nat_lt 1 place && is_ascii_alphanumeric (get_or text (place - 2) 0))
     && is_ascii_alphanumeric (get_or text place 0))
-point-printable text place printable some inside =
+point_printable text place printable some inside =
     let m = place - 1 in
     let next : m + 1 ≡ place = omega (arith, some) in
     let b = get_or text m 0 in

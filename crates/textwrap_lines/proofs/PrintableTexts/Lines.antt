@@ -1,38 +1,34 @@
 -- The lines of a paragraph of printable ASCII, found by its bytes.
-use Rattle.textwrap_text.proofs.Common.{inl, inr, ◌≡◌, ℕ, ◌+◌, ◌-◌, ◌<◌, ◌≤◌, Bool, false, List}
-use Rattle.textwrap_text.proofs.Common.{length, drop, sym, ap, ◌∙◌, arith, cases_lt, false≢true}
-use Rattle.textwrap_text.proofs.Common.{false_from_ne_true, slice_range, get_or-take, get_or-drop}
-use Rattle.textwrap_text.proofs.Common.{true, [], ◌∷◌, map, take, get_or, refl, subst, drop_all}
-use Rattle.textwrap_text.proofs.Common.{length-take, length-take-le, All-take, cond, ◌++◌, All}
-use Rattle.textwrap_text.proofs.Common.{append-nil, append_assoc, add-zero, drop-drop, drop_at}
-use Rattle.textwrap_text.proofs.Common.{All-weaker, BlanksBetween, is_blank, trimmed_len}
-use Rattle.textwrap_text.proofs.Common.{IsPrintable, without_final_blanks, IsPrintableByte}
-use Rattle.textwrap_base.proofs.Common.{open_width, Fits, closed_width}
-use Rattle.textwrap_words.proofs.Common.{piece, WordText, sizes_of, broken_words, word_of, tiled}
-use Rattle.textwrap_layout.proofs.Common.{BeforeOthers, NoCutBetween, IsFirstLine, Settings}
-use Rattle.textwrap_layout.proofs.Common.{covered, line_slice, cut_line, CutLine, cut_lines}
-use Rattle.textwrap_layout.proofs.Common.{assembled_line, indent_of, later_width, line_from}
-use Rattle.textwrap_layout.proofs.Common.{parts_from, parts_of}
-use Rattle.textwrap_lines.proofs.Common.{pieces_from}
-use Rattle.textwrap_text.proofs.Lists.Parts.{length-slice, all-left, all-right}
+use Rattle.textwrap_lines.proofs.Common.{[], IsPrintableByte, printable-width, without_final_blanks}
+use Rattle.textwrap_lines.proofs.Common.{BeforeOthers, HasNoPenalty, length-append, length-take-le}
+use Rattle.textwrap_lines.proofs.Common.{ap, append_assoc, broken_words, closed_width, NoCutBetween}
+use Rattle.textwrap_lines.proofs.Common.{Bool, IsFirstLine, IsPrintable, length-slice, tiled-append}
+use Rattle.textwrap_lines.proofs.Common.{break_limit, get_or, get_or-drop, get_or-take, later_width}
+use Rattle.textwrap_lines.proofs.Common.{le-ltb, length-drop, pieces_from, slice_range, trimmed_len}
+use Rattle.textwrap_lines.proofs.Common.{All-weaker, append-nil, line_slice, lines_past, open_width}
+use Rattle.textwrap_lines.proofs.Common.{All-head, indent_of, no_pieces, stand_from, text_limit}
+use Rattle.textwrap_lines.proofs.Common.{add-zero, All-take, cases_lt, drop_all, Settings, WordText}
+use Rattle.textwrap_lines.proofs.Common.{CutLine, front_of, is_blank, limit_at, parts_by, sizes_of}
+use Rattle.textwrap_lines.proofs.Common.{arith, covered, false, length, line_of, lt-ltb, word_of, ℕ}
+use Rattle.textwrap_lines.proofs.Common.{cond, drop, Fits, List, piece, refl, rules, subst, tiled}
+use Rattle.textwrap_lines.proofs.Common.{All, inl, inr, map, sym, take, true, ◌++◌, ◌+◌, ◌-◌, ◌==◌}
+use Rattle.textwrap_lines.proofs.Common.{◌<◌, ◌∙◌, ◌∷◌, ◌≡◌, ◌≤◌}
+use Rattle.textwrap_text.proofs.Common.{BlanksBetween, false_from_ne_true, false≢true, length-take}
 use Rattle.textwrap_words.proofs.Word.Texts.{trimmed-le}
-use Rattle.textwrap_words.specs.PieceCuts.{parts_by}
 use Rattle.textwrap_base.proofs.Division.Greedy.{closed_width-push}
-use Rattle.textwrap_text.proofs.Units.Reading.{printable-width}
-use Rattle.textwrap_lines.proofs.PrintableTexts.Bytes.{open-exact, BeginsWide, IsExact}
-use Rattle.textwrap_lines.proofs.PrintableTexts.Pieces.{pieces-split, begins_wide, one_piece}
-use Rattle.textwrap_lines.proofs.PrintableTexts.Pieces.{pieces-broken, pieces-tile, pieces-exact}
-use Rattle.textwrap_lines.proofs.PrintableTexts.Pieces.{pieces-some, pieces-cover, pieces-fit}
-use Rattle.textwrap_lines.proofs.PrintableTexts.Pieces.{printable-slice, first-tiles}
+use Rattle.textwrap_lines.proofs.PrintableTexts.Bytes.{BeginsWide, IsExact, open-exact}
+use Rattle.textwrap_lines.proofs.PrintableTexts.Pieces.{begins_narrow, begins_wide, printable-slice}
+use Rattle.textwrap_lines.proofs.PrintableTexts.Pieces.{pieces-broken, pieces-cover, pieces-exact}
+use Rattle.textwrap_lines.proofs.PrintableTexts.Pieces.{pieces-some, pieces-split, words-narrow}
+use Rattle.textwrap_lines.proofs.PrintableTexts.Pieces.{pieces-fit, pieces-tile, words-tile}
+use Rattle.textwrap_lines.proofs.PrintableTexts.Pieces.{one_piece}
 use Rattle.textwrap_layout.proofs.PrintableTexts.Parts.{front-slice}
-use Rattle.textwrap_words.specs.Pieces.{stand_from}
-use Rattle.textwrap_base.proofs.Division.Grown.{grown, grown-full, grown-room, prefix-closes}
-use Rattle.textwrap_words.proofs.Word.Words.{HasNoPenalty, tiled-append}
-use Rattle.textwrap_lines.specs.PieceLines.{lines_left, no_pieces}
+use Rattle.textwrap_base.proofs.Division.Grown.{prefix-closes}
+use Rattle.textwrap_lines.specs.PieceLines.{lines_left}
 use Rattle.textwrap_layout.specs.LineBounds.{line_between}
-use Rattle.textwrap_layout.proofs.Paragraph.LeftOff.{assembled-parts}
-use Rattle.textwrap_layout.proofs.Text.Sinks.{cut_lines-next}
-use Rattle.textwrap_lines.proofs.PieceLines.{lines-are}
+use Rattle.textwrap_lines.proofs.PieceLines.{lines-full, lines-room, so_far}
+use Rattle.textwrap_layout.proofs.Common.{broken_pieces_of, empty_word}
+use Rattle.textwrap_layout.proofs.Paragraph.Standing.{limited-words}
 
 -- ---- what a search for the end of a line by bytes knows of the places that it has passed
 
@@ -43,8 +39,7 @@ blanks-keep text at width end within blanks =
     let len = length-slice text at end within in
     trimmed-le (slice_range text at end) width (λ k from inside.
     ap is_blank (get_or-take (end - at) (drop at text) k 0 (omega (arith, inside, len))
-    ∙ get_or-drop at text k 0)
-    ∙ blanks (at + k) (omega (arith, from)) (omega (arith, inside, len)))
+    ∙ get_or-drop at text k 0) ∙ blanks (at + k) (omega (arith, from)) (omega (arith, inside, len)))
 
 module _ (test : ℕ → Bool) where
   -- the text is not cut before its blanks either, nor behind them
@@ -63,6 +58,10 @@ module _ (test : ℕ → Bool) where
               ap test (sym same) ∙ end
         ]
       ]
+
+  pub none-at : (place : ℕ) → test place ≡ false → NoCutBetween test (place - 1) place
+  none-at place not k after up_to =
+      let same : k ≡ place = omega (arith, after, up_to) in rw same not
 
   -- nor in two stretches, one after the other
   pub none-then : (from middle to : ℕ) → NoCutBetween test from middle
@@ -94,8 +93,7 @@ module _ (test : ℕ → Bool) (limit width : ℕ) (text : List ℕ) (printable 
   ends_at : (at end : ℕ) → at < end → end ≤ length text → (end < length text → test end ≡ true)
       → Fits sizes_of width (pieces_from test limit (take end text) at)
       → ((w : WordText) (ws : List WordText) → pieces_from test limit text end ≡ w ∷ ws
-      → width < end - at + w.width)
-      → IsFirstLine test limit width text at end false
+      → width < end - at + w.width) → IsFirstLine test limit width text at end false
   ends_at at end some within ends fits past =
       let front = take end text in
       let front_printable = All-take IsPrintableByte end text printable in
@@ -183,111 +181,125 @@ line-broken test limit text printable at place room past inside none other =
 
 -- ---- the lines of a printable paragraph, one after the other
 
--- pieces that fit a line all stand on it
-grown-line : (later width : ℕ) (xs ys line : List WordText) → Fits sizes_of width (line ++ xs)
-    → grown sizes_of later width (xs ++ ys) line ≡ grown sizes_of later width ys (line ++ xs)
-grown-line later width [] ys line fits = ap (grown sizes_of later width ys) (sym (append-nil line))
-grown-line later width (x ∷ xs) ys line fits =
-    let same = append_assoc line (x ∷ []) xs in
-    grown-room sizes_of later width x (xs ++ ys) line (prefix-closes sizes_of width line x xs fits)
-    ∙ grown-line later width xs ys (line ++ x ∷ []) (subst (Fits sizes_of width) (sym same) fits)
-    ∙ ap (grown sizes_of later width ys) same
-
 module _ (settings : Settings) (text : List ℕ) where
   abbrev pub lines_at : ℕ → ℕ → Bool → List WordText → List CutLine
   lines_at at width is_later ps =
       lines_left settings (no_pieces text at width (indent_of settings is_later)) (stand_from at ps)
 
-  -- the lines of pieces from a place on, in terms of the division
-  lines-divided : (at width : ℕ) (is_later : Bool) (p : WordText) (ps : List WordText)
-      → drop at text ≡ tiled (p ∷ ps) → All HasNoPenalty (p ∷ ps)
-      → lines_at at width is_later (p ∷ ps)
-      ≡ cut_lines at (parts_from settings is_later
-      (grown sizes_of (later_width settings) width (p ∷ ps) []))
-  lines-divided at width is_later p ps seam none =
-      rw (add-zero at) at (lines-are settings text (p ∷ ps) [] at width is_later seam none)
+  -- pieces that fit a line all stand on it
+  lines-fit : (at width : ℕ) (indent : List ℕ) (xs line vs : List WordText)
+      → Fits sizes_of width (line ++ xs) → lines_past settings (so_far text at width indent line)
+      (stand_from (at + length (tiled line)) (xs ++ vs))
+      ≡ lines_past settings (so_far text at width indent (line ++ xs))
+      (stand_from (at + length (tiled (line ++ xs))) vs)
+  lines-fit at width indent [] line vs fits = rw append-nil refl
+  lines-fit at width indent (x ∷ xs) line vs fits =
+      let same = append_assoc line (x ∷ []) xs in
+      lines-room settings text at width indent line x (xs ++ vs) (λ some. omega (
+        arith,
+        prefix-closes sizes_of width line x xs fits some,
+        closed_width-push sizes_of line x,
+      )) ∙ (rw same at (lines-fit at width indent xs (line ++ x ∷ []) vs
+      (subst (Fits sizes_of width) (sym same) fits)))
 
   -- the first line, and those after it
-  lines-next : (at width : ℕ) (is_later : Bool) (line vs : List WordText)
-      → drop at text ≡ tiled (line ++ vs) → All HasNoPenalty (line ++ vs) → 0 < length line
-      → Fits sizes_of width line
+  lines-next : (at width : ℕ) (is_later : Bool) (line vs : List WordText) → All HasNoPenalty vs
+      → 0 < length line → Fits sizes_of width line
       → ((w : WordText) (ws : List WordText) → vs ≡ w ∷ ws
-      → width < closed_width sizes_of (line ++ w ∷ []))
-      → lines_at at width is_later (line ++ vs)
-      ≡ cut_line at (assembled_line (indent_of settings is_later)
-      (cond settings.preserve_trailing_space (tiled line) (covered line)) [])
+      → width < closed_width sizes_of (line ++ w ∷ [])) → lines_at at width is_later (line ++ vs)
+      ≡ line_of settings.preserve_trailing_space
+      (so_far text at width (indent_of settings is_later) line)
       ∷ lines_at (at + length (tiled line)) (later_width settings) true vs
-  lines-next at width is_later [] vs seam none some fits full = absurd (omega (arith, some))
-  lines-next at width is_later (w ∷ ws) vs seam none some fits full =
-      let later = later_width settings in
-      let line = w ∷ ws in
-      let after = at + length (tiled line) in
-      let cuts : List (List WordText) → List CutLine =
-      λ lines. cut_lines at (parts_from settings is_later lines) in
-      let own = assembled-parts settings is_later w ws (all-left HasNoPenalty line vs none) in
-      lines-divided at width is_later w (ws ++ vs) seam none
-      ∙ ap cuts (grown-line later width line vs [] fits) ∙ by_rest vs seam none full
-      ∙ ap (λ l. cut_line at l ∷ lines_at after later true vs) (sym own)
+  lines-next at width is_later [] vs none some fits full = absurd (omega (arith, some))
+  lines-next at width is_later (w ∷ ws) vs none some fits full =
+      (rw (add-zero at) at (lines-fit at width (indent_of settings is_later) (w ∷ ws) [] vs fits))
+      ∙ rest vs none full
     where
-      by_rest : (vs : List WordText) → drop at text ≡ tiled (w ∷ ws ++ vs)
-          → All HasNoPenalty (w ∷ ws ++ vs)
+      rest : (vs : List WordText) → All HasNoPenalty vs
           → ((v : WordText) (others : List WordText) → vs ≡ v ∷ others
           → width < closed_width sizes_of (w ∷ ws ++ v ∷ []))
-          → cut_lines at (parts_from settings is_later
-          (grown sizes_of (later_width settings) width vs (w ∷ ws)))
-          ≡ cut_line at (line_from (parts_of settings is_later (w ∷ ws)))
+          → lines_past settings (so_far text at width (indent_of settings is_later) (w ∷ ws))
+          (stand_from (at + length (tiled (w ∷ ws))) vs) ≡ line_of settings.preserve_trailing_space
+          (so_far text at width (indent_of settings is_later) (w ∷ ws))
           ∷ lines_at (at + length (tiled (w ∷ ws))) (later_width settings) true vs
-      by_rest [] seam none full = refl
-      by_rest (v ∷ others) seam none full =
-          let later = later_width settings in
-          let line = w ∷ ws in
-          let after = at + length (tiled line) in
-          let next : drop after text ≡ tiled (v ∷ others) =
-          sym (drop-drop (length (tiled line)) at text)
-          ∙ ap (drop (length (tiled line))) (seam ∙ tiled-append line (v ∷ others))
-          ∙ drop_at (tiled line) (tiled (v ∷ others)) (length (tiled line)) refl in
-          ap (λ lines. cut_lines at (parts_from settings is_later lines))
-          (grown-full sizes_of later width v others line (omega arith) (full v others refl))
-          ∙ cut_lines-next settings is_later at after line (grown sizes_of later later others (v ∷ []))
-          refl
-          ∙ ap (λ lines. cut_line at (line_from (parts_of settings is_later line))
-          ∷ cut_lines after (parts_from settings true lines))
-          (sym (grown-room sizes_of later later v others [] (λ some. absurd (omega (arith, some)))))
-          ∙ ap (λ ls. cut_line at (line_from (parts_of settings is_later line)) ∷ ls)
-          (sym (lines-divided after later true v others next
-          (all-right HasNoPenalty line (v ∷ others) none)))
+      rest [] none full = refl
+      rest (v ∷ others) none full =
+          let penalty = ap length (All-head HasNoPenalty v others none) in
+          lines-full settings text at width (indent_of settings is_later) (w ∷ ws) v others
+          (omega arith)
+          (omega (arith, full v others refl, closed_width-push sizes_of (w ∷ ws) v, penalty))
 
   -- the lines from a place on, of which the first is found
-  module _ (test : ℕ → Bool) (limit width at end word_end : ℕ) (goes_on is_later : Bool)
-      (printable : IsPrintable text) (from : at < end) (within : end ≤ length text)
-      (slice : slice_range text at word_end ≡ line_slice text at end goes_on) where
-    slice-is : (line : List WordText) → tiled line ≡ slice_range text at end → (keeps : Bool)
-        → covered line ≡ slice_range text at word_end
-        → cond keeps (tiled line) (covered line) ≡ slice_range text at (cond keeps end word_end)
-    slice-is line tiles true covers = tiles
-    slice-is line tiles false covers = covers
+  pub lines-step : (test : ℕ → Bool) (limit width at end word_end : ℕ) (goes_on is_later : Bool)
+      → IsPrintable text → at ≤ word_end → word_end ≤ end → end ≤ length text
+      → slice_range text at word_end ≡ line_slice text at end goes_on
+      → (first : IsFirstLine test limit width text at end goes_on)
+      → lines_at at width is_later (pieces_from test limit text at)
+      ≡ line_between settings.preserve_trailing_space text (indent_of settings is_later) []
+      (record { start = at; word_end = word_end; end = end })
+      ∷ lines_at end (later_width settings) true (pieces_from test limit text end)
+  lines-step test limit width at end word_end goes_on is_later printable from order within slice
+      first =
+      let line = first.line in
+      let others = pieces_from test limit text end in
+      let exact = pieces-exact test limit text printable end in
+      let some = first.some in
+      let tiles = ap length (sym (tiled-append line others) ∙ ap tiled (sym first.are)
+      ∙ pieces-tile test limit text printable at) in
+      let end_is : at + length (tiled line) ≡ end = omega (
+        arith,
+        tiles,
+        length-append (tiled line) (tiled others),
+        ap length (pieces-tile test limit text printable end),
+        length-drop at text,
+        length-drop end text,
+      ) in
+      let word_is : at + length (covered line) ≡ word_end = omega (
+        arith,
+        ap length (first.covers ∙ sym slice),
+        length-slice text at word_end (omega (arith, order, within)),
+      ) in
+      ap (lines_at at width is_later) first.are ∙ lines-next at width is_later line others
+      (All-weaker IsExact HasNoPenalty (λ w exact. exact.penalty) others exact) some first.fits
+      first.full ∙ rw (end_is, word_is, lt-ltb 0 (length line) some) refl
 
-    pub lines-step : (first : IsFirstLine test limit width text at end goes_on)
-        → lines_at at width is_later (pieces_from test limit text at)
-        ≡ line_between settings.preserve_trailing_space text (indent_of settings is_later) []
-        (record { start = at; word_end = word_end; end = end })
-        ∷ lines_at end (later_width settings) true (pieces_from test limit text end)
-    lines-step first =
-        let line = first.line in
-        let others = pieces_from test limit text end in
-        let tiles = first-tiles test limit width text at end goes_on first printable
-        (omega (arith, from)) within in
-        let len : at + length (tiled line) ≡ end =
-        omega (arith, ap length tiles, length-slice text at end within, from) in
-        let tile = pieces-tile test limit text printable at in
-        ap (lines_at at width is_later) first.are
-        ∙ lines-next at width is_later line others (sym tile ∙ ap tiled first.are)
-        (subst (All HasNoPenalty) first.are
-        (All-weaker IsExact HasNoPenalty (λ w exact. exact.penalty) _
-        (pieces-exact test limit text printable at))) first.some first.fits first.full
-        ∙ ap (λ s. cut_line at (assembled_line (indent_of settings is_later) s [])
-        ∷ lines_at (at + length (tiled line)) (later_width settings) true others)
-        (slice-is line tiles settings.preserve_trailing_space (first.covers ∙ sym slice))
-        ∙ ap (λ n. line_between settings.preserve_trailing_space text (indent_of settings is_later) []
-        (record { start = at; word_end = word_end; end = end })
-        ∷ lines_at n (later_width settings) true others) len
+-- ---- those lines are the lines of the settings
+
+module _ (settings : Settings) (text : List ℕ) (width : ℕ) (indent : List ℕ) where
+  abbrev pub lines_of_pieces : List WordText → List CutLine
+  lines_of_pieces ps = lines_past settings (no_pieces text 0 width indent) (stand_from 0 ps)
+
+  -- a word without text in front makes no difference, if the first piece has room
+  without_front : (w : WordText) (ws : List WordText) (breaks none : Bool)
+      → w.width ≤ limit_at breaks width
+      → lines_of_pieces (cond breaks (cond none [] (empty_word ∷ [])) [] ++ w ∷ ws)
+      ≡ lines_of_pieces (w ∷ ws)
+  without_front w ws false none narrow = refl
+  without_front w ws true true narrow = refl
+  without_front w ws true false narrow = grind (arith, le-ltb)
+
+-- the lines of the pieces that are found by bytes are those of the pieces of the settings, where
+-- these are the split words
+pub lines-by_bytes : (settings : Settings) (test : ℕ → Bool) (split : List WordText)
+    (indent text : List ℕ) → split ≡ map word_of (parts_by test 0 text) → IsPrintable text
+    → 0 < length text → length text < text_limit → 0 < later_width settings
+    → lines_left settings (no_pieces text 0 (later_width settings) indent)
+    (stand_from 0 (pieces_from test (break_limit settings) text 0))
+    ≡ lines_of_pieces settings text (later_width settings) indent (broken_pieces_of settings split)
+lines-by_bytes settings test split indent text are printable some short room =
+    let width = later_width settings in
+    let limit = break_limit settings in
+    let here = no_pieces text 0 width indent in
+    let found = begins_narrow test limit text printable 0 some limited in
+    let tile = ap length (words-tile test limit text printable 0) in
+    ap (λ ps. lines_left settings here (stand_from 0 ps)) found.are
+    ∙ sym (without_front settings text width indent found.first found.others settings.break_words
+    (length settings.initial_indent == 0) found.narrow)
+    ∙ ap (lines_of_pieces settings text width indent)
+    (ap (λ ps. front_of settings ++ ps) (sym found.are)
+    ∙ limited-words settings (map word_of (parts_by test 0 text))
+    (words-narrow test limit text printable 0) (omega (arith, tile, short))
+    ∙ ap (broken_pieces_of settings) (sym are))
+  where
+    limited : 0 < break_limit settings
+    limited = search (rules, arith)

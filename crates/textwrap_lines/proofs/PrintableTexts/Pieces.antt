@@ -1,37 +1,33 @@
 -- The pieces of a text of printable ASCII, the first of them, and its words, split.
-use Rattle.textwrap_text.proofs.Common.{◌≡◌, ◌≢◌, ◌<◌, [], take, true, cond, zero, ◌||◌, ℕ}
-use Rattle.textwrap_text.proofs.Common.{All-weaker, All-drop, map-append, get_or-drop, and_right}
-use Rattle.textwrap_text.proofs.Common.{◌≤◌, ◌∷◌, All, map, sym, ap, ◌∙◌, ◌-◌, ◌+◌, inl, inr, suc}
-use Rattle.textwrap_text.proofs.Common.{Bool, List, ◌++◌, drop, refl, false, get_or, le-ltb, length}
-use Rattle.textwrap_text.proofs.Common.{arith, IsUtf8, All-map, take_at, cases_lt, drop_all, subst}
-use Rattle.textwrap_text.proofs.Common.{length-append, length-drop, slice_range, get_or-take}
-use Rattle.textwrap_text.proofs.Common.{All-take, length-take-le, flat_map-append, take-append-drop}
-use Rattle.textwrap_text.proofs.Common.{IsPrintable, IsPrintableByte, trimmed_len}
-use Rattle.textwrap_text.proofs.Common.{without_final_blanks, is_blank}
-use Rattle.textwrap_base.proofs.Common.{Fits}
-use Rattle.textwrap_words.proofs.Common.{WordText, tiled, sizes_of, word_of, broken_word}
-use Rattle.textwrap_words.proofs.Common.{broken_pieces, broken_words, piece, Splitter, split_word}
-use Rattle.textwrap_words.proofs.Common.{split_words}
-use Rattle.textwrap_words.specs.PieceCuts.{parts_by, IsPart, is_point}
-use Rattle.textwrap_layout.proofs.Common.{BeforeOthers, covered, IsFirstLine, NoCutBetween}
-use Rattle.textwrap_layout.proofs.Common.{AfterOthers, is_cut_by}
-use Rattle.textwrap_lines.proofs.Common.{pieces_from}
-use Rattle.textwrap_words.proofs.Word.Words.{tiled-append, tiled-map, IsMeasured, HasNoPenalty}
-use Rattle.textwrap_words.proofs.Word.Words.{word_of-measured, IsNarrowWord, IsNarrowWord-measured}
-use Rattle.textwrap_words.proofs.Word.Pieces.{AreTexts}
-use Rattle.textwrap_words.proofs.Word.BrokenPieces.{tiled-broken_words, broken_words-measured}
-use Rattle.textwrap_words.proofs.Word.BrokenPieces.{broken_words-no_penalty}
-use Rattle.textwrap_layout.proofs.Paragraph.Pieces.{flat_map-space, broken_words-ends, wide-some}
-use Rattle.textwrap_layout.proofs.Paragraph.LeftOff.{last-part, covered-tiled}
-use Rattle.textwrap_lines.proofs.PrintableTexts.Bytes.{printable-utf8, Fits-exact, begins_wide-step}
-use Rattle.textwrap_lines.proofs.PrintableTexts.Bytes.{flat-printable, broken-front, ends-printable}
-use Rattle.textwrap_lines.proofs.PrintableTexts.Bytes.{IsExact, exact-words, BeginsWide}
-use Rattle.textwrap_layout.proofs.PrintableTexts.Parts.{flat-parts, front-slice, parts-split}
-use Rattle.textwrap_layout.proofs.PrintableTexts.Parts.{first-part, slice-rest}
-use Rattle.textwrap_text.proofs.Lists.Parts.{length-slice, slices_joined}
-use Rattle.textwrap_words.proofs.Word.Parts.{parts_by-whole, parts-same}
+use Rattle.textwrap_lines.proofs.Common.{IsPrintableByte, take-append-drop, without_final_blanks, ℕ}
+use Rattle.textwrap_lines.proofs.Common.{BeforeOthers, IsPrintable, length-take-le, printable-width}
+use Rattle.textwrap_lines.proofs.Common.{[], broken_words, HasNoPenalty, length-slice, NoCutBetween}
+use Rattle.textwrap_lines.proofs.Common.{broken_word, get_or-drop, get_or-take, IsUtf8, length-drop}
+use Rattle.textwrap_lines.proofs.Common.{get_or, pieces_from, slice_range, split_words, trimmed_len}
+use Rattle.textwrap_lines.proofs.Common.{All, All-drop, All-take, All-weaker, is_cut_by, IsMeasured}
+use Rattle.textwrap_lines.proofs.Common.{AreTexts, cases_lt, drop_all, is_blank, Splitter, WordText}
+use Rattle.textwrap_lines.proofs.Common.{Bool, covered, le-ltb, length, parts_by, sizes_of, word_of}
+use Rattle.textwrap_lines.proofs.Common.{arith, drop, false, Fits, List, piece, refl, subst, tiled}
+use Rattle.textwrap_lines.proofs.Common.{inl, inr, map, suc, sym, take, true, zero, ◌++◌, ◌+◌, ◌||◌}
+use Rattle.textwrap_lines.proofs.Common.{ap, ◌-◌, ◌<◌, ◌∙◌, ◌∷◌, ◌≡◌, ◌≢◌, ◌≤◌}
+use Rattle.textwrap_text.proofs.Common.{All-map, and_right, flat_map-append, map-append}
+use Rattle.textwrap_words.proofs.Common.{split_word}
+use Rattle.textwrap_words.specs.PieceCuts.{is_point, IsPart}
+use Rattle.textwrap_layout.proofs.Common.{AfterOthers}
+use Rattle.textwrap_words.proofs.Word.Words.{IsNarrowWord, IsNarrowWord-measured, word_of-measured}
+use Rattle.textwrap_words.proofs.Word.Words.{tiled-map}
+use Rattle.textwrap_words.proofs.Word.BrokenPieces.{broken_words-measured, broken_words-no_penalty}
+use Rattle.textwrap_words.proofs.Word.BrokenPieces.{tiled-broken_words}
+use Rattle.textwrap_layout.proofs.Paragraph.Pieces.{broken_words-ends, flat_map-space, wide-some}
+use Rattle.textwrap_layout.proofs.Paragraph.LeftOff.{covered-tiled, last-part}
+use Rattle.textwrap_lines.proofs.PrintableTexts.Bytes.{begins_wide-step, BeginsWide, ends-printable}
+use Rattle.textwrap_lines.proofs.PrintableTexts.Bytes.{broken-front, flat-printable, printable-utf8}
+use Rattle.textwrap_lines.proofs.PrintableTexts.Bytes.{exact-words, Fits-exact, IsExact}
+use Rattle.textwrap_layout.proofs.PrintableTexts.Parts.{first-part, front-slice, parts-split}
+use Rattle.textwrap_layout.proofs.PrintableTexts.Parts.{flat-parts, slice-rest}
+use Rattle.textwrap_text.proofs.Lists.Parts.{slices_joined}
+use Rattle.textwrap_words.proofs.Word.Parts.{parts-same, parts_by-whole}
 use Rattle.textwrap_words.proofs.Word.Texts.{trimmed-past}
-use Rattle.textwrap_text.proofs.Units.Reading.{printable-width}
 use Rattle.textwrap_words.proofs.Word.FirstPieces.{parts-front}
 use Rattle.textwrap_words.proofs.Word.SplitParts.{split-word}
 use Rattle.textwrap_words.proofs.Word.Splitting.{EndsPlain}
@@ -56,8 +52,7 @@ module _ (test : ℕ → Bool) (limit : ℕ) (text : List ℕ) (printable : IsPr
 
   words-all : (P : WordText → Type 0) → ((part : List ℕ) → IsPrintable part → P (word_of part))
       → All P words
-  words-all P each = All-map P word_of parts
-      (All-weaker IsPrintable (λ b. P (word_of b)) each parts
+  words-all P each = All-map P word_of parts (All-weaker IsPrintable (λ b. P (word_of b)) each parts
       (flat-printable parts (subst IsPrintable (sym (flat-parts test at rest)) rest-printable)))
 
   words-measured : All IsMeasured words
@@ -118,28 +113,6 @@ pub printable-slice : (text : List ℕ) (i j : ℕ) → IsPrintable text → IsP
 printable-slice text i j printable =
     All-take IsPrintableByte (j - i) (drop i text) (All-drop IsPrintableByte i text printable)
 
--- the pieces of the first line tile the text before the next
-pub first-tiles : (test : ℕ → Bool) (limit width : ℕ) (text : List ℕ) (at end : ℕ) (goes_on : Bool)
-    → (first : IsFirstLine test limit width text at end goes_on) → IsPrintable text → at ≤ end
-    → end ≤ length text → tiled first.line ≡ slice_range text at end
-first-tiles test limit width text at end goes_on first printable from within =
-    let line = first.line in
-    let back = drop end text in
-    let whole : tiled line ++ back ≡ drop at text =
-    ap (λ t. tiled line ++ t) (sym (pieces-tile test limit text printable end))
-    ∙ sym (tiled-append line (pieces_from test limit text end)) ∙ ap tiled (sym first.are)
-    ∙ pieces-tile test limit text printable at in
-    let len : length (tiled line) ≡ end - at = omega (
-      arith,
-      from,
-      within,
-      ap length whole,
-      length-append (tiled line) back,
-      length-drop end text,
-      length-drop at text,
-    ) in
-    sym (take_at (tiled line) back (end - at) len) ∙ ap (take (end - at)) whole
-
 -- ---- the pieces that a printable text begins with
 
 -- a slice goes past a byte that is no blank
@@ -162,48 +135,46 @@ word-width part printable =
 module _ (test : ℕ → Bool) (limit : ℕ) (text : List ℕ) (printable : IsPrintable text) where
   -- the pieces up to a place where the text is cut, or ends, and those from there on
   pub pieces-split : (at end : ℕ) → at < end → end ≤ length text
-      → (end < length text → test end ≡ true)
-      → pieces_from test limit text at
+      → (end < length text → test end ≡ true) → pieces_from test limit text at
       ≡ pieces_from test limit (take end text) at ++ pieces_from test limit text end
-  pieces-split at end some within ends =
-      let front = parts_by test at (slice_range text at end) in
-      let back = parts_by test end (drop end text) in
-      ap (λ ps. broken_words limit (map word_of ps)) (parts-split test text at end some within ends)
-      ∙ ap (broken_words limit) (map-append word_of front back)
-      ∙ flat_map-append (broken_word limit) (map word_of front) (map word_of back)
-      ∙ ap (λ l. broken_words limit (map word_of (parts_by test at l))
-      ++ pieces_from test limit text end) (sym (front-slice text at end (omega (arith, some))))
+  pieces-split at end some within ends = rw (
+    parts-split test text at end some within ends,
+    map-append,
+    flat_map-append,
+    front-slice text at end (omega (arith, some)),
+  ) refl
 
-  -- the first piece of a text that is not cut up to a byte, which is no blank
-  pub begins_wide : (at place n : ℕ) → at ≤ place → place < length text → NoCutBetween test at place
-      → is_blank (get_or text place 0) ≡ false → 0 < limit → n ≤ limit → n + at ≤ place + 1
+  -- the first piece of a text that is not cut up to a place, where that may have so many columns
+  begins_first : (at place n : ℕ) → at ≤ place → place < length text → NoCutBetween test at place
+      → 0 < limit → n ≤ limit
+      → ((end : ℕ) → place < end → end ≤ length text → n ≤ trimmed_len (slice_range text at end))
       → BeginsWide limit n (pieces_from test limit text at)
-  begins_wide at place n from inside none other room most up_to =
+  begins_first at place n from inside none room most long =
       let found = first-part test text at place from inside none in
       let part = slice_range text at found.end in
       let part_printable = printable-slice text at found.end printable in
-      let past = past-byte text at place found.end from found.past found.part.within other in
       let len = length-take-le (trimmed_len part) part (omega arith) in
       subst (λ ps. BeginsWide limit n (broken_words limit (map word_of ps)))
       (sym (parts-front test text at found.end found.part))
       (begins_wide-step limit n (word_of part) _ room most
       (All-take IsPrintableByte (trimmed_len part) part part_printable)
-      (word-width part part_printable ∙ sym len) (omega (arith, len, past, up_to, from)))
+      (word-width part part_printable ∙ sym len)
+      (omega (arith, len, long found.end found.past found.part.within)))
+
+  -- up to a byte that is no blank
+  pub begins_wide : (at place n : ℕ) → at ≤ place → place < length text → NoCutBetween test at place
+      → is_blank (get_or text place 0) ≡ false → 0 < limit → n ≤ limit → n + at ≤ place + 1
+      → BeginsWide limit n (pieces_from test limit text at)
+  begins_wide at place n from inside none other room most up_to =
+      begins_first at place n from inside none room most (λ end past within.
+      omega (arith, past-byte text at place end from past within other, up_to, from))
 
   -- the first piece of any text
   pub begins_narrow : (at : ℕ) → at < length text → 0 < limit
       → BeginsWide limit 0 (pieces_from test limit text at)
-  begins_narrow at inside room =
-      let found = first-part test text at at (omega arith) inside
-      (λ k from to. absurd (omega (arith, from, to))) in
-      let part = slice_range text at found.end in
-      let part_printable = printable-slice text at found.end printable in
-      let len = length-take-le (trimmed_len part) part (omega arith) in
-      subst (λ ps. BeginsWide limit 0 (broken_words limit (map word_of ps)))
-      (sym (parts-front test text at found.end found.part))
-      (begins_wide-step limit 0 (word_of part) _ room (omega arith)
-      (All-take IsPrintableByte (trimmed_len part) part part_printable)
-      (word-width part part_printable ∙ sym len) (omega arith))
+  begins_narrow at inside room = begins_first at at 0 (omega arith) inside
+      (λ k from to. absurd (omega (arith, from, to))) room (omega arith)
+      (λ end past within. omega arith)
 
   -- a part that keeps to the limit is one piece
   pub one_piece : (at end : ℕ) → at < end → end ≤ length text → length text ≤ limit
@@ -214,13 +185,12 @@ module _ (test : ℕ → Bool) (limit : ℕ) (text : List ℕ) (printable : IsPr
       let w = word_of part in
       let width = word-width part (printable-slice text at end printable) in
       let len = length-slice text at end within in
-      ap (λ l. broken_words limit (map word_of (parts_by test at l)))
-      (front-slice text at end (omega (arith, some)))
-      ∙ ap (λ ps. broken_words limit (map word_of ps))
-      (parts_by-whole test part at (omega (arith, len, some))
-      (λ k from inside. none (at + k) (omega (arith, from)) (omega (arith, inside, len))))
-      ∙ ap (λ b. cond b (broken_pieces limit w) (w ∷ []) ++ [])
-      (le-ltb limit w.width (omega (arith, width, len, within, short)))
+      rw (
+        front-slice text at end (omega (arith, some)),
+        parts_by-whole test part at (omega (arith, len, some))
+            (λ k from inside. none (at + k) (omega (arith, from)) (omega (arith, inside, len))),
+        le-ltb limit w.width (omega (arith, width, len, within, short)),
+      ) refl
 
   -- a first word that is broken at the limit
   pub pieces-broken : (at place : ℕ) → at + limit ≤ place → place < length text
@@ -247,11 +217,11 @@ module _ (test : ℕ → Bool) (limit : ℕ) (text : List ℕ) (printable : IsPr
       let first = broken-front limit front back
       (subst IsPrintable whole (printable-slice text at end printable)) room (omega (arith, len))
       (omega (arith, past-byte text middle place end from past within other)) in
-      ap (λ ps. broken_words limit (map word_of ps)) (parts-front test text at end found.part)
-      ∙ ap (λ p. broken_word limit (word_of p) ++ pieces_from test limit text end) whole
-      ∙ ap (λ ws. ws ++ pieces_from test limit text end) first
-      ∙ ap (λ ps. piece front [] [] ∷ broken_words limit (map word_of ps))
-      (sym (parts-front test text middle end rest))
+      rw (
+        parts-front test text at end found.part,
+        whole,
+        parts-front test text middle end rest,
+      ) (ap (λ ws. ws ++ pieces_from test limit text end) first)
 
 -- ---- the words of a printable text, split by a splitter, are its parts where it is cut by both
 
@@ -260,21 +230,13 @@ module _ (cuts : ℕ → Bool) (splitter : Splitter) (text : List ℕ) (printabl
   abbrev both : ℕ → Bool
   both = is_cut_by cuts splitter text
 
-  split-end : (at : ℕ) → length text ≤ at
-      → split_words splitter (map word_of (parts_by cuts at (drop at text)))
-      ≡ map word_of (parts_by both at (drop at text))
-  split-end at past =
-      let none = drop_all at text past in
-      ap (λ l. split_words splitter (map word_of (parts_by cuts at l))) none
-      ∙ ap (λ l. map word_of (parts_by both at l)) (sym none)
-
   -- those from a place on
   split-from : (n at : ℕ) → length text ≤ at + n → (at < length text → EndsPlain (take at text))
       → split_words splitter (map word_of (parts_by cuts at (drop at text)))
       ≡ map word_of (parts_by both at (drop at text))
-  split-from zero at short plain = split-end at (omega (arith, short))
+  split-from zero at short plain = rw (drop_all at text (omega (arith, short))) refl
   split-from (suc n) at short plain = elim (cases_lt at (length text)) [
-    | inr past ↦ split-end at past
+    | inr past ↦ rw (drop_all at text past) refl
     | inl inside ↦
         let found = first-part cuts text at at (omega arith) inside
         (λ k from to. absurd (omega (arith, from, to))) in
@@ -294,20 +256,20 @@ module _ (cuts : ℕ → Bool) (splitter : Splitter) (text : List ℕ) (printabl
         (printable-utf8 before (All-take IsPrintableByte at text printable)) (plain inside)
         (printable-utf8 q (printable-slice text at end printable)) (omega (arith, len, some))
         splitter in
-        let here : split_word splitter (word_of q) ≡ map word_of (parts_by both at q) = word
-        ∙ ap (λ t. map word_of (parts_by (is_point splitter t) (length before) q)) whole
-        ∙ ap (λ k. map word_of (parts_by (is_point splitter text) k q)) place
-        ∙ ap (map word_of) (parts-same (is_point splitter text) both q at (λ k from to.
-        ap (λ t. t || is_point splitter text k)
-        (sym (part.uncut k from (omega (arith, to, len, some)))))) in
+        let here : split_word splitter (word_of q) ≡ map word_of (parts_by both at q) =
+        word ∙ rw (whole, place) (ap (map word_of) (parts-same (is_point splitter text) both q at
+        (λ k from to. ap (λ t. t || is_point splitter text k)
+        (sym (part.uncut k from (omega (arith, to, len, some))))))) in
         let rest = split-from n end (omega (arith, short, some))
         (λ more. grind (arith, ends-printable, and_right)) in
-        ap (λ ps. split_words splitter (map word_of ps)) (parts-front cuts text at end part)
-        ∙ ap (λ ws. ws ++ split_words splitter (map word_of (parts_by cuts end back))) here
-        ∙ ap (λ ws. map word_of (parts_by both at q) ++ ws) rest
-        ∙ sym (map-append word_of (parts_by both at q) (parts_by both end back))
-        ∙ ap (map word_of) (sym (parts-split both text at end some within (λ more.
-        ap (λ t. t || is_point splitter text end) (part.ends more))))
+        rw (
+          parts-front cuts text at end part,
+          here,
+          rest,
+          parts-split both text at end some within
+              (λ more. ap (λ t. t || is_point splitter text end) (part.ends more)),
+          map-append,
+        ) refl
   ]
 
   pub split-cuts : split_words splitter (map word_of (parts_by cuts 0 text))

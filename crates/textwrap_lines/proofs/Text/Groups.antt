@@ -1,33 +1,31 @@
 -- The lines of a text, paragraph by paragraph: there is one list of them, and only blanks are left
 -- off.
-use Rattle.textwrap_text.proofs.Common.{ℕ, All-append, MatchBool, StartsWith, All-weaker, Bool}
-use Rattle.textwrap_text.proofs.Common.{◌||◌, ◌∷◌, length, false, arith, IsUtf8, rules, nat_lt, []}
-use Rattle.textwrap_text.proofs.Common.{flat_map, All-nil, All-head, All-tail, All-cons, List, All}
-use Rattle.textwrap_text.proofs.Common.{sym, ◌<◌, true, ◌++◌, ◌≡◌, ⊤, map, ap, ◌∙◌, subst}
-use Rattle.textwrap_text.proofs.Common.{length-append, starts_with_of_eq, paragraphs_of}
-use Rattle.textwrap_base.proofs.Common.{priced_at, Sizes, AreEqualFromSecond}
-use Rattle.textwrap_layout.proofs.Common.{LineParts, AreIndented, AreGroups, Settings}
-use Rattle.textwrap_layout.proofs.Common.{AreParagraphParts, AreTextLines, DividesAt, DividesBy}
-use Rattle.textwrap_layout.proofs.Common.{HasPartsAt, IsFilled, is_whole, Line, covered_by}
-use Rattle.textwrap_layout.proofs.Common.{DividesAs, AreDividedParts, IsDividedInto}
+use Rattle.textwrap_lines.proofs.Common.{AreEqualFromSecond, AreParagraphParts, paragraphs_of-utf8}
+use Rattle.textwrap_lines.proofs.Common.{All-append, AreDividedParts, IsDividedInto, laid_out-cases}
+use Rattle.textwrap_lines.proofs.Common.{AreTextLines, length-append, paragraphs_of, tiled-word_of}
+use Rattle.textwrap_lines.proofs.Common.{All-cons, All-weaker, AreIndented, AreWordsOf, IsDividedBy}
+use Rattle.textwrap_lines.proofs.Common.{[], Algorithm, AreGroups, ArePoints, DividesAs, StartsWith}
+use Rattle.textwrap_lines.proofs.Common.{All, DividesBy, LeastCost, LineParts, MatchBool, priced_at}
+use Rattle.textwrap_lines.proofs.Common.{All-head, All-tail, flat_map, Settings, Splitter, WordText}
+use Rattle.textwrap_lines.proofs.Common.{All-nil, ap, Greedy, is_whole, sizes_of, word_of, words_of}
+use Rattle.textwrap_lines.proofs.Common.{arith, false, IsUtf8, length, nat_lt, rules, subst, tiled}
+use Rattle.textwrap_lines.proofs.Common.{Bool, flat, Line, List, map, sym, true, ℕ, ◌++◌, ◌<◌, ◌||◌}
+use Rattle.textwrap_lines.proofs.Common.{⊤, ◌∙◌, ◌∷◌, ◌≡◌}
+use Rattle.textwrap_text.proofs.Common.{starts_with_of_eq}
+use Rattle.textwrap_base.proofs.Common.{Sizes}
+use Rattle.textwrap_layout.proofs.Common.{covered_by, DividesAt, HasPartsAt, IsFilled}
 use Rattle.textwrap_layout.specs.declared.options.Options.{Options}
-use Rattle.textwrap_text.proofs.Lists.Parts.{flat}
 use Rattle.textwrap_text.proofs.Numbers.{or_false, some_later}
-use Rattle.textwrap_words.proofs.Common.{Algorithm, Splitter, WordText, word_of, tiled, Greedy}
-use Rattle.textwrap_words.proofs.Common.{LeastCost, IsDividedBy, words_of, AreWordsOf, ArePoints}
-use Rattle.textwrap_words.proofs.Common.{sizes_of}
-use Rattle.textwrap_layout.proofs.Paragraph.Pieces.{division-as, points-as, ArePieces-by}
+use Rattle.textwrap_layout.proofs.Paragraph.Pieces.{ArePieces-by, division-as, points-as}
 use Rattle.textwrap_layout.specs.Places.{ArePlacedLines}
 use Rattle.textwrap_layout.specs.declared.places.Place.{Place}
 use Rattle.textwrap_words.proofs.Word.Words.{EndsInBlanks, words_unique}
 use Rattle.textwrap_layout.specs.Text.{LosesOnlyBlanks}
-use Rattle.textwrap_layout.proofs.Text.Paragraphs.{paragraphs_of-utf8}
-use Rattle.textwrap_layout.proofs.Paragraph.LeftOff.{tiled-word_of, word_of-blanks}
-use Rattle.textwrap_layout.proofs.Paragraph.LeftOff.{covered_by-parts_from, LeavesBlanks}
-use Rattle.textwrap_layout.proofs.Paragraph.LeftOff.{parts_from-blanks, laid_out-cases}
+use Rattle.textwrap_layout.proofs.Paragraph.LeftOff.{covered_by-parts_from, parts_from-blanks}
+use Rattle.textwrap_layout.proofs.Paragraph.LeftOff.{LeavesBlanks, word_of-blanks}
 use Rattle.textwrap_base.proofs.Division.Greedy.{greedy_unique}
 use Rattle.textwrap_base.proofs.Cost.Results.{chosen_one}
-use Rattle.textwrap_lines.proofs.PlacedPieces.Lines.{two-equal}
+use Rattle.textwrap_lines.proofs.PlacedPieces.{two-equal}
 
 -- ---- what holds of the lines of each paragraph holds of the lines of the text
 
@@ -71,8 +69,7 @@ AreIndented-append settings is_later (p ∷ parts) others here after = (
 pub groups-indented : (settings : Settings) (is_later : Bool) (paragraphs : List (List ℕ))
     (groups : List (List LineParts))
     → AreGroups (λ is_later paragraph parts. AreIndented settings is_later parts) is_later
-    paragraphs groups
-    → AreIndented settings is_later (flat groups)
+    paragraphs groups → AreIndented settings is_later (flat groups)
 groups-indented settings is_later [] groups are =
     subst (λ gs. AreIndented settings is_later (flat gs)) (sym are) tt
 groups-indented settings is_later (paragraph ∷ paragraphs) [] are = absurd are
@@ -108,8 +105,7 @@ module _ (settings : Settings) (Divides Others : Bool → List ℕ → List (Lis
     (each : (is_later : Bool) (paragraph : List ℕ) (division : List (List WordText))
     → Divides is_later paragraph division → Others is_later paragraph division) where
   laid_out-map : (is_later : Bool) (paragraph : List ℕ) (division : List (List WordText))
-      (whole : Bool)
-      → MatchBool whole (division ≡ (word_of paragraph ∷ []) ∷ [])
+      (whole : Bool) → MatchBool whole (division ≡ (word_of paragraph ∷ []) ∷ [])
       (Divides is_later paragraph division)
       → MatchBool whole (division ≡ (word_of paragraph ∷ []) ∷ [])
       (Others is_later paragraph division)
@@ -164,8 +160,7 @@ module _ (settings : Settings) (Divides : Bool → List ℕ → List (List WordT
       → AreParagraphParts settings Divides is_later paragraph parts
       → All (LeavesBlanks settings) parts
   parts-blanks is_later paragraph parts utf8 (division, laid_out, is) =
-      subst (All (LeavesBlanks settings)) (sym is)
-      (parts_from-blanks settings is_later division
+      subst (All (LeavesBlanks settings)) (sym is) (parts_from-blanks settings is_later division
       (laid_out-cases (λ d. All EndsInBlanks (flat d)) paragraph _ division
       (All-cons EndsInBlanks (word_of paragraph) [] (word_of-blanks paragraph)
       (All-nil EndsInBlanks)) (blanks is_later paragraph division utf8)
@@ -176,8 +171,7 @@ module _ (settings : Settings) (Divides : Bool → List ℕ → List (List WordT
   -- the groups that the definition gives lose only blanks
   pub LosesOnlyBlanks-from : (text : List ℕ) (groups : List (List LineParts)) → IsUtf8 text
       → AreGroups (AreParagraphParts settings Divides) false
-      (paragraphs_of settings.line_ending text) groups
-      → LosesOnlyBlanks settings text groups
+      (paragraphs_of settings.line_ending text) groups → LosesOnlyBlanks settings text groups
   LosesOnlyBlanks-from text groups utf8 defined =
       let paragraphs = paragraphs_of settings.line_ending text in
       let all = paragraphs_of-utf8 settings.line_ending text utf8 in
@@ -267,8 +261,7 @@ module _ (settings : Settings) (Divides : Bool → List ℕ → List (List WordT
       (other, other_divided, other_is) = grind arith
 
   laid_out_one : (is_later : Bool) (paragraph : List ℕ) (division other : List (List WordText))
-      (whole : Bool)
-      → MatchBool whole (division ≡ (word_of paragraph ∷ []) ∷ [])
+      (whole : Bool) → MatchBool whole (division ≡ (word_of paragraph ∷ []) ∷ [])
       (Divides is_later paragraph division)
       → MatchBool whole (other ≡ (word_of paragraph ∷ []) ∷ []) (Divides is_later paragraph other)
       → division ≡ other
@@ -292,8 +285,7 @@ module _ (settings : Settings) (Divides : Bool → List ℕ → List (List WordT
   groups_one is_later (paragraph ∷ paragraphs) (parts ∷ groups) (more ∷ others) is other =
       let same = paragraph_one is_later paragraph parts more is.0 other.0 in
       let rest = groups_one
-      (is_later ||
-      nat_lt 0 (length parts)) paragraphs groups others is.1 (rw same other.1) in
+      (is_later || nat_lt 0 (length parts)) paragraphs groups others is.1 (rw same other.1) in
       ap (λ ps. ps ∷ groups) same ∙ ap (λ gs. more ∷ gs) rest
 
   pub text_one : (text : List ℕ) (lines others : List Line)

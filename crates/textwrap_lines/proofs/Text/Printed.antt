@@ -1,38 +1,33 @@
 -- Lines as they are printed are as wide as their indents and pieces.
-use Rattle.textwrap_text.proofs.Common.{◌≡◌, ◌≢◌, ℕ, ◌+◌, Bool, true, false, cond, List, [], ◌∷◌}
-use Rattle.textwrap_text.proofs.Common.{◌++◌, All, sym, ap, ◌∙◌, subst, arith, append_assoc, rules}
-use Rattle.textwrap_text.proofs.Common.{IsUtf8, chars-nil, chars-IsAscii, All-nil, All-cons}
-use Rattle.textwrap_text.proofs.Common.{All-head, All-tail, All-weaker, eqb-true, ◌⊎◌, inl, inr}
-use Rattle.textwrap_text.proofs.Common.{MatchBool, get_or, refl, append-nil, take, text_width}
-use Rattle.textwrap_text.proofs.Common.{IsPrintable, paragraphs_of}
-use Rattle.textwrap_base.proofs.Common.{closed_width}
-use Rattle.textwrap_text.proofs.Lists.Parts.{flat, all-left, all-right}
-use Rattle.textwrap_words.proofs.Common.{WordText, sizes_of, tiled, word_of, Greedy, Splitter}
-use Rattle.textwrap_words.proofs.Common.{AreWordsOf, ArePoints, IsDividedBy, ends_in_hyphen}
-use Rattle.textwrap_words.proofs.Common.{AreCuts}
+use Rattle.textwrap_lines.proofs.Common.{AreParagraphParts, ArePrintedWithin, paragraphs_of-utf8, ℕ}
+use Rattle.textwrap_lines.proofs.Common.{AreGroups, AreTexts-words, CanKeepToWidth, printable-width}
+use Rattle.textwrap_lines.proofs.Common.{All-weaker, assembled_line, ends_in_hyphen, laid_out-cases}
+use Rattle.textwrap_lines.proofs.Common.{chars-IsAscii, IsDividedInto, paragraphs_of, tiled-word_of}
+use Rattle.textwrap_lines.proofs.Common.{[], append_assoc, AreTextLines, HasNoPenalty, KeepsToWidth}
+use Rattle.textwrap_lines.proofs.Common.{arith, closed_width, first_width, IsDividedBy, IsPrintable}
+use Rattle.textwrap_lines.proofs.Common.{append-nil, ArePoints, AreWordsOf, IsMeasured, pieces-tile}
+use Rattle.textwrap_lines.proofs.Common.{DividesAs, line_bytes, LineParts, MatchBool, parts_from}
+use Rattle.textwrap_lines.proofs.Common.{All-cons, all-right, Bool, indent_of, line_from, widths_of}
+use Rattle.textwrap_lines.proofs.Common.{All-head, All-tail, AreTexts, Settings, Splitter, WordText}
+use Rattle.textwrap_lines.proofs.Common.{all-left, All-nil, AreCuts, is_whole, parts_of, sizes_of}
+use Rattle.textwrap_lines.proofs.Common.{ap, covered, false, get_or, Greedy, IsUtf8, rules, word_of}
+use Rattle.textwrap_lines.proofs.Common.{cond, flat, Line, List, refl, subst, take, tiled, true}
+use Rattle.textwrap_lines.proofs.Common.{All, inl, inr, sym, ◌++◌, ◌+◌, ◌∙◌, ◌∷◌, ◌≡◌, ◌≢◌}
+use Rattle.textwrap_text.proofs.Common.{chars-nil, eqb-true, text_width, ◌⊎◌}
 use Rattle.textwrap_text.specs.Units.{escape}
 use Rattle.std.specs.Prelude.{chars}
-use Rattle.textwrap_text.proofs.Units.Reading.{printable-ascii, printable-width}
-use Rattle.textwrap_words.proofs.Word.Words.{IsMeasured, HasNoPenalty, text_width-nil}
-use Rattle.textwrap_words.proofs.Word.Words.{word_of-measured}
+use Rattle.textwrap_text.proofs.Units.Reading.{printable-ascii}
+use Rattle.textwrap_words.proofs.Word.Words.{text_width-nil, word_of-measured}
 use Rattle.textwrap_words.proofs.Word.Texts.{AreBlanks}
-use Rattle.textwrap_layout.proofs.Common.{Settings, covered, parts_of, is_whole, AreGroups}
-use Rattle.textwrap_layout.proofs.Common.{LineParts, assembled_line, CutsNoSequence}
-use Rattle.textwrap_layout.proofs.Common.{IsPrintedWithin, line_bytes, HasNoEscape, Line}
-use Rattle.textwrap_layout.proofs.Common.{first_width, KeepsToWidth, line_from, indent_of}
-use Rattle.textwrap_layout.proofs.Common.{parts_from, DividesAs, widths_of, HasWholeSequences}
-use Rattle.textwrap_layout.proofs.Common.{AreParagraphParts, ArePrintedWithin, IsDividedInto}
-use Rattle.textwrap_layout.proofs.Common.{AreTextLines, CanKeepToWidth}
-use Rattle.textwrap_layout.proofs.Paragraph.LeftOff.{blanks-utf8, assembled-parts, bytes-assembled}
-use Rattle.textwrap_layout.proofs.Paragraph.LeftOff.{tiled-word_of, laid_out-cases}
-use Rattle.textwrap_layout.proofs.Text.Paragraphs.{each_part, units-plain, text_width-append}
-use Rattle.textwrap_layout.proofs.Text.Paragraphs.{paragraphs_of-utf8, paragraphs_of-each}
+use Rattle.textwrap_layout.proofs.Common.{CutsNoSequence, HasWholeSequences, IsPrintedWithin}
+use Rattle.textwrap_layout.proofs.Common.{HasNoEscape}
+use Rattle.textwrap_layout.proofs.Paragraph.LeftOff.{assembled-parts, blanks-utf8, bytes-assembled}
+use Rattle.textwrap_layout.proofs.Text.Paragraphs.{each_part, paragraphs_of-each, text_width-append}
+use Rattle.textwrap_layout.proofs.Text.Paragraphs.{units-plain}
 use Rattle.textwrap_base.proofs.Division.Map.{IsDividedBy-whole}
-use Rattle.textwrap_words.proofs.Word.Pieces.{AreTexts, AreTexts-words, ArePoints-cuts}
-use Rattle.textwrap_words.proofs.Word.Pieces.{ArePoints-hyphens}
-use Rattle.textwrap_lines.proofs.Paragraph.KeepsTo.{own_width, first_width-own}
-use Rattle.textwrap_lines.proofs.Paragraph.KeepsTo.{paragraph-even}
-use Rattle.textwrap_layout.proofs.Paragraph.Pieces.{pieces-measured, pieces-no_penalty, pieces-tile}
+use Rattle.textwrap_words.proofs.Word.Pieces.{ArePoints-cuts, ArePoints-hyphens}
+use Rattle.textwrap_lines.proofs.Paragraph.KeepsTo.{first_width-own, own_width, paragraph-even}
+use Rattle.textwrap_layout.proofs.Paragraph.Pieces.{pieces-measured, pieces-no_penalty}
 use Rattle.textwrap_lines.proofs.Text.Groups.{groups-all, groups-map}
 
 -- ---- a line
@@ -165,8 +160,7 @@ module _ (settings : Settings) (Words : List ℕ → List WordText → Type 0)
   division-pieces : (is_later : Bool) (paragraph : List ℕ) (division : List (List WordText))
       → IsUtf8 paragraph
       → MatchBool (is_whole settings is_later paragraph) (division ≡ (word_of paragraph ∷ []) ∷ [])
-      (Divides is_later paragraph division)
-      → AreItsPieces paragraph (flat division)
+      (Divides is_later paragraph division) → AreItsPieces paragraph (flat division)
   division-pieces is_later paragraph division utf8 laid_out =
       laid_out-cases (λ d. AreItsPieces paragraph (flat d)) paragraph _ division
       (record {
@@ -174,15 +168,13 @@ module _ (settings : Settings) (Words : List ℕ → List WordText → Type 0)
             (All-nil IsMeasured);
         none = All-cons HasNoPenalty (word_of paragraph) [] refl (All-nil HasNoPenalty);
         tile = tiled-word_of paragraph;
-      })
-      (λ (pieces, are, divided). subst (AreItsPieces paragraph)
+      }) (λ (pieces, are, divided). subst (AreItsPieces paragraph)
       (sym (division-whole (widths_of settings is_later) pieces division divided))
       (record {
         measured = pieces-measured settings Words Points texts cuts paragraph pieces utf8 are;
         none = pieces-no_penalty settings Words Points texts cuts hyphens paragraph pieces utf8 are;
         tile = pieces-tile settings Words Points texts cuts paragraph pieces utf8 are;
-      }))
-      (is_whole settings is_later paragraph) laid_out
+      })) (is_whole settings is_later paragraph) laid_out
 
   paragraph-whole : HasNoEscape settings.initial_indent → HasNoEscape settings.subsequent_indent
       → (is_later : Bool) (paragraph : List ℕ) (parts : List LineParts)
@@ -190,8 +182,7 @@ module _ (settings : Settings) (Words : List ℕ → List WordText → Type 0)
       → All CutsNoSequence parts
   paragraph-whole initial subsequent is_later paragraph parts (utf8, none) (division, laid_out, is) =
       let pieces = division-pieces is_later paragraph division utf8 laid_out in
-      subst (All CutsNoSequence) (sym is)
-      (lines-whole settings initial subsequent is_later division
+      subst (All CutsNoSequence) (sym is) (lines-whole settings initial subsequent is_later division
       (words-whole (flat division) pieces.measured (subst HasNoEscape (sym pieces.tile) none)))
 
   abbrev Within : LineParts → Type 0
@@ -209,11 +200,8 @@ module _ (settings : Settings) (Words : List ℕ → List WordText → Type 0)
         let pieces = division-pieces is_later paragraph division utf8 laid_out in
         let printed = subst (All PrintsAsMeasured) (sym is)
         (search (rules, arith, lines-printed)) in
-        let keeps = paragraph-even settings Words Points Lines texts cuts
-        (λ widths pieces division divided. (
-          [],
-          search (rules, arith, append-nil, division-whole),
-        )) hyphens greedy can.breaks is_later own paragraph parts utf8 (division, laid_out, is) in
+        let keeps = paragraph-even settings Words Points Lines texts cuts hyphens greedy can.breaks
+        is_later own paragraph parts utf8 (division, laid_out, is) in
         λ k d lt. within (get_or parts k d) (keeps k d lt) (printed k d lt)
 
     -- one paragraph, or even ones
@@ -227,8 +215,7 @@ module _ (settings : Settings) (Words : List ℕ → List WordText → Type 0)
           (subst (λ ps. AreGroups AreParts false ps groups) one are)
     ]
       where
-        one_group : (groups : List (List LineParts))
-            → All IsUtf8 (text ∷ [])
+        one_group : (groups : List (List LineParts)) → All IsUtf8 (text ∷ [])
             → AreGroups AreParts false (text ∷ []) groups → All Within (flat groups)
         one_group [] all are = absurd are
         one_group (parts ∷ groups) all (here, none) =

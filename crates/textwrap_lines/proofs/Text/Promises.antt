@@ -1,34 +1,34 @@
 -- What `wrap` promises, by what the lines of each paragraph keep to.
-use Rattle.textwrap_text.proofs.Common.{◌≡◌, ◌≢◌, ℕ, take, ◌<◌, Bool, true, false, List, All, rules}
-use Rattle.textwrap_text.proofs.Common.{length, sym, ap, ◌∙◌, arith, StartsWith, Option, Some, None}
-use Rattle.textwrap_text.proofs.Common.{IsUtf8, starts_with_of_append, length-map, append-nil, []}
-use Rattle.textwrap_text.proofs.Common.{refl, subst, paragraphs_of, ending_bytes}
-use Rattle.textwrap_words.proofs.Common.{WordText, sizes_of, tiled, Algorithm, Greedy, IsDividedBy}
-use Rattle.textwrap_words.proofs.Common.{Splitter, ends_in_hyphen, AreCuts, AreWordsOf, LeastCost}
-use Rattle.textwrap_words.proofs.Common.{MayDivide, algorithm_view, MaySeparate, ArePoints}
-use Rattle.textwrap_words.proofs.Common.{MaySplit, splitter_view}
-use Rattle.textwrap_layout.proofs.Common.{Line, line_from, widths_of, KeepsToWidth, Settings}
-use Rattle.textwrap_layout.proofs.Common.{AreTextLines, KeepToWidths, IsWrapped, LinesKeepToWidth}
-use Rattle.textwrap_layout.proofs.Common.{DividesAs, DividesBy, settings_view, IsDividedInto}
-use Rattle.textwrap_layout.proofs.Common.{CanKeepToWidth, ArePrintedWithin}
+use Rattle.textwrap_lines.proofs.Common.{ArePrintedWithin, AreTexts-words, Bool, paragraphs_of-utf8}
+use Rattle.textwrap_lines.proofs.Common.{algorithm_view, AreWordsOf, CanKeepToWidth, ends_in_hyphen}
+use Rattle.textwrap_lines.proofs.Common.{IsDividedInto, paragraphs_of, settings_view, splitter_view}
+use Rattle.textwrap_lines.proofs.Common.{[], AreTextLines, ending_bytes, KeepsToWidth, KeepToWidths}
+use Rattle.textwrap_lines.proofs.Common.{AreCuts, IsDividedBy, MaySeparate, pieces-tile, StartsWith}
+use Rattle.textwrap_lines.proofs.Common.{Algorithm, append-nil, ArePoints, DividesAs, length-map, ℕ}
+use Rattle.textwrap_lines.proofs.Common.{All, DividesBy, LeastCost, line_from, MayDivide, widths_of}
+use Rattle.textwrap_lines.proofs.Common.{AreTexts, MaySplit, Settings, sizes_of, Splitter, WordText}
+use Rattle.textwrap_lines.proofs.Common.{arith, false, Greedy, IsUtf8, length, Option, rules, subst}
+use Rattle.textwrap_lines.proofs.Common.{flat, Line, List, None, refl, Some, sym, take, tiled, true}
+use Rattle.textwrap_lines.proofs.Common.{ap, ◌<◌, ◌∙◌, ◌≡◌, ◌≢◌}
+use Rattle.textwrap_text.proofs.Common.{starts_with_of_append}
+use Rattle.textwrap_layout.proofs.Common.{IsWrapped, LinesKeepToWidth}
 use Rattle.textwrap_layout.specs.declared.options.Options.{Options}
-use Rattle.textwrap_text.proofs.Lists.Parts.{flat, Begins}
-use Rattle.textwrap_words.proofs.Word.Pieces.{AreTexts, AreTexts-words, ArePoints-cuts}
-use Rattle.textwrap_words.proofs.Word.Pieces.{ArePoints-hyphens}
-use Rattle.textwrap_layout.proofs.Paragraph.Pieces.{pieces-tile, divided-begin, divided-blanks}
-use Rattle.textwrap_layout.proofs.Text.Paragraphs.{paragraphs_of-utf8, parts_past-some}
-use Rattle.textwrap_lines.proofs.Text.Groups.{LosesOnlyBlanks-from, groups-tile, groups-map}
-use Rattle.textwrap_lines.proofs.Text.Groups.{groups-all, groups-some, groups-indented}
-use Rattle.textwrap_lines.proofs.Paragraph.KeepsTo.{Divides, AreParts, paragraph-some}
+use Rattle.textwrap_text.proofs.Lists.Parts.{Begins}
+use Rattle.textwrap_words.proofs.Word.Pieces.{ArePoints-cuts, ArePoints-hyphens}
+use Rattle.textwrap_layout.proofs.Paragraph.Pieces.{divided-begin, divided-blanks}
+use Rattle.textwrap_layout.proofs.Text.Paragraphs.{parts_past-some}
+use Rattle.textwrap_lines.proofs.Text.Groups.{groups-indented, groups-some, LosesOnlyBlanks-from}
+use Rattle.textwrap_lines.proofs.Text.Groups.{groups-all, groups-map, groups-tile}
 use Rattle.textwrap_lines.proofs.Paragraph.KeepsTo.{paragraph-indented, paragraph-no_hyphen}
-use Rattle.textwrap_lines.proofs.Paragraph.KeepsTo.{paragraph-keeps, paragraph-even, HasNoHyphen}
-use Rattle.textwrap_lines.proofs.Paragraph.KeepsTo.{first_width-own}
+use Rattle.textwrap_lines.proofs.Paragraph.KeepsTo.{first_width-own, HasNoHyphen, paragraph-keeps}
+use Rattle.textwrap_lines.proofs.Paragraph.KeepsTo.{AreParts, paragraph-even, paragraph-some}
+use Rattle.textwrap_lines.proofs.Paragraph.KeepsTo.{Divides}
 use Rattle.textwrap_lines.proofs.Text.Printed.{ArePrintedWithin-by}
 use Rattle.textwrap_words.specs.declared.wrap_algorithms.WrapAlgorithm.TheVariants.{FirstFit}
 use Rattle.textwrap_base.proofs.Division.Map.{IsDividedBy-some, IsDividedBy-whole}
 use Rattle.textwrap_words.proofs.Word.Parts.{MaySeparate-texts, MaySplit-cuts, MaySplit-hyphens}
-use Rattle.textwrap_words.proofs.Word.Divisions.{MayDivide-begins, MayDivide-whole, MayDivide-some}
-use Rattle.textwrap_words.proofs.Word.Divisions.{MayDivide-greedy}
+use Rattle.textwrap_words.proofs.Word.Divisions.{MayDivide-begins, MayDivide-greedy, MayDivide-some}
+use Rattle.textwrap_words.proofs.Word.Divisions.{MayDivide-whole}
 
 -- ---- the lines of a paragraph, and of a text
 
@@ -92,7 +92,8 @@ module _ (settings : Settings) (Words : List ℕ → List WordText → Type 0)
                 (search (rules, arith, groups-map, paragraph-no_hyphen));
           };
           keeps = λ first built_in breaks. groups-map IsUtf8 (AreParts settings Words Points Lines) (KeepToWidths settings)
-              (search (rules, arith, paragraph-keeps)) false paragraphs are.groups all are.defined;
+              (paragraph-keeps settings Words Points Lines texts cuts (hyphens built_in)
+              (greedy first) breaks) false paragraphs are.groups all are.defined;
         }
 
     -- where the splitter is built in and lines are divided by first fit
@@ -110,7 +111,7 @@ module _ (settings : Settings) (Words : List ℕ → List WordText → Type 0)
           groups-all (KeepsToWidth settings.width) false paragraphs are.groups
               (groups-map IsUtf8 (AreParts settings Words Points Lines)
               (λ is_later paragraph parts. All (KeepsToWidth settings.width) parts)
-              (λ is_later. paragraph-even settings Words Points Lines texts cuts begins hyphens greedy
+              (λ is_later. paragraph-even settings Words Points Lines texts cuts hyphens greedy
               breaks is_later (first_width-own settings even is_later)) false paragraphs are.groups
               (paragraphs_of-utf8 ending text utf8) are.defined),
         )
@@ -141,13 +142,6 @@ IsWrapped-parts Words texts settings algorithm splitter text lines utf8 are =
     (λ first widths pieces division divided.
     subst (λ a. IsDividedBy a sizes_of widths pieces division) (greedy-is algorithm first) divided)
     text lines utf8 are
-
-pub IsWrapped-from : (settings : Settings) (algorithm : Algorithm) (splitter : Splitter)
-    (text : List ℕ) (lines : List Line) → IsUtf8 text
-    → AreTextLines settings (DividesAs splitter algorithm settings) text lines
-    → IsWrapped settings (Some splitter) (Some algorithm) (DividesAs splitter algorithm settings)
-    text lines
-IsWrapped-from = IsWrapped-parts AreWordsOf AreTexts-words
 
 pub LinesKeepToWidth-from : (settings : Settings) (splitter : Splitter) (text : List ℕ)
     (lines : List Line) → IsUtf8 text → settings.even_paragraphs ≡ true

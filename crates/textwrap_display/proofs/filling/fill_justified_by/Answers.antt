@@ -3,7 +3,7 @@ use Rattle.textwrap_text.proofs.Common.{◌++◌, ap, ◌∙◌, arith, drop, le
 use Rattle.std.proofs.lemmas.Slice.{between_to_end}
 use Rattle.textwrap_layout.proofs.Common.{layout_view}
 use Rattle.textwrap_display.specs.JustifiedText.{IsJustifiedText}
-use Rattle.textwrap_lines.proofs.Text.Directly.{passed-on}
+use Rattle.textwrap_lines.proofs.Paragraph.KeepsTo.{passed-on}
 use Rattle.textwrap_layout.proofs.Text.Lines.{paragraphs_left, paragraphs_left-split}
 use Rattle.textwrap_display.proofs.JustifiedLines.{so_far-end, so_far-more, so_far-start}
 

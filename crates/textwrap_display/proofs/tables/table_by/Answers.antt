@@ -3,7 +3,7 @@ use Rattle.textwrap_display.proofs.tables.table_by.Goals.{In-Some}
 use Rattle.textwrap_text.proofs.Common.{◌≡◌, ◌++◌, ◌∙◌, [], append-nil, arith, length, length-map}
 use Rattle.textwrap_text.proofs.Common.{map, rules, string_bytes, subst, sym}
 use Rattle.std.specs.Slice.Iter.{chunks_rest, chunks_size}
-use Rattle.textwrap_lines.proofs.Text.Directly.{passed-on}
+use Rattle.textwrap_lines.proofs.Paragraph.KeepsTo.{passed-on}
 use Rattle.textwrap_display.specs.Tables.{NonePasses, AreCells, cell_texts, gaps_view, group_rows}
 use Rattle.textwrap_display.specs.Tables.{IsTableBy, texts_in}
 use Rattle.textwrap_display.proofs.TableGroups.{group-map, group_fits, groups_fit, IsFirstGroup}

@@ -1,7 +1,6 @@
 use Rattle.textwrap_lines.proofs.cheapest.cheapest_lines.Goals as goal
-use Rattle.textwrap_text.proofs.Common.{map, ◌∙◌, subst}
-use Rattle.textwrap_base.proofs.Common.{FollowStarts}
-use Rattle.textwrap_base.proofs.Cost.Table.{starts_reported, length_reported, first_reported}
+use Rattle.textwrap_lines.proofs.Common.{FollowStarts, map, subst, ◌∙◌}
+use Rattle.textwrap_base.proofs.Cost.Table.{first_reported, length_reported, starts_reported}
 use Rattle.textwrap_base.proofs.Cost.Table.{later_reported}
 use Rattle.textwrap_text.proofs.Numbers.{both}
 

@@ -1,11 +1,8 @@
 use Rattle.textwrap_lines.proofs.cheapest.push_cheapest_lines.Goals as goal
-use Rattle.textwrap_text.proofs.Common.{List, map, refl, ◌∙◌, subst, Bor, on_ok_weaker}
-use Rattle.textwrap_words.proofs.Common.{as_splitter}
-use Rattle.textwrap_layout.proofs.Common.{Took, frame_settings}
-use Rattle.textwrap_lines.proofs.Common.{Span}
-use Rattle.textwrap_layout.specs.Direct.{cuts_of, words_cut}
-use Rattle.textwrap_layout.proofs.Paragraph.Pieces.{words_cut-texts}
-use Rattle.textwrap_lines.proofs.PlacedPieces.Cheapest.{are_searched, found-lines, FoundLines}
+use Rattle.textwrap_lines.proofs.Common.{as_splitter, frame_settings, on_ok_weaker, words_cut-texts}
+use Rattle.textwrap_lines.proofs.Common.{Bor, cuts_of, List, refl, Span, subst, Took, words_cut}
+use Rattle.textwrap_lines.proofs.Common.{map, ◌∙◌}
+use Rattle.textwrap_lines.proofs.PlacedPieces.{are_searched, found-lines, FoundLines}
 use Rattle.textwrap_lines.proofs.cheapest.push_cheapest_lines.Goals.{After-deref-2}
 
 pub cheapest_lines-requires : goal.cheapest_lines-requires
@@ -20,10 +17,7 @@ cheapest_lines-requires g c =
     record {
       measured = searched.measured;
       some = searched.some_spans;
-      suits = rw (
-        c.args.frame.now.first,
-        c.args.frame.now.later,
-      ) searched.suits;
+      suits = rw (c.args.frame.now.first, c.args.frame.now.later) searched.suits;
     }
 
 -- the lines that the table gives
@@ -31,8 +25,7 @@ lines_found : (g : _) (c : After-deref-2 g) → FoundLines (frame_settings c.arg
     (as_splitter c.args.cuts.now.splitter) c.args.frame.now.is_later c.args.paragraph.now
     (words_cut (cuts_of c.args.cuts.now) c.args.paragraph.now) c.args.penalties.now c.utf8.paragraph
     (words_cut-texts (cuts_of c.args.cuts.now) c.args.paragraph.now c.utf8.paragraph c.requires.cuts)
-    c.requires.some c.deref.result.now
-    (c.deref.ensures.value ∙ c.in_ok-spans.ensures)
+    c.requires.some c.deref.result.now (c.deref.ensures.value ∙ c.in_ok-spans.ensures)
     (map (λ (line : Bor (List Span)). line.now) c.deref-2.result.now)
 lines_found g c = found-lines _ _ _ _ _ _ _ _ _ _ _ _
     (rw (

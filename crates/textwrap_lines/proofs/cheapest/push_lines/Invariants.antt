@@ -1,8 +1,6 @@
 use Rattle.textwrap_lines.proofs.cheapest.push_lines.Given as goal
-use Rattle.textwrap_text.proofs.Common.{◌≡◌, drop, map}
-use Rattle.textwrap_layout.proofs.Common.{frame_settings}
-use Rattle.textwrap_lines.proofs.Common.{HaveTexts, span_lines}
-use Rattle.textwrap_layout.proofs.Text.Sinks.{HasTaken}
+use Rattle.textwrap_lines.proofs.Common.{drop, frame_settings, HasTaken, HaveTexts, map, span_lines}
+use Rattle.textwrap_lines.proofs.Common.{◌≡◌}
 
 -- the lines so far were taken, and the others are found in the rest of the text
 abbrev pub invariant-loop-line : goal.invariant-loop-line

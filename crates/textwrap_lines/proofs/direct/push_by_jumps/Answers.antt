@@ -1,14 +1,10 @@
 use Rattle.textwrap_lines.proofs.direct.push_by_jumps.Goals as goal
-use Rattle.textwrap_text.proofs.Common.{map, ap, ◌∙◌, sym, subst, arith, on_ok_weaker}
-use Rattle.textwrap_words.proofs.Common.{as_splitter, split_words, word_of}
-use Rattle.textwrap_words.specs.PieceCuts.{parts_by}
-use Rattle.textwrap_layout.proofs.Common.{Took, indent_of, is_cut_by, frame_settings}
-use Rattle.textwrap_layout.proofs.Common.{pieces_of_words}
-use Rattle.textwrap_layout.proofs.Paragraph.Pieces.{pieces_of_words-no_penalty}
-use Rattle.textwrap_layout.proofs.Paragraph.Pieces.{pieces_of_words-tile}
+use Rattle.textwrap_lines.proofs.Common.{as_splitter, frame_settings, on_ok_weaker, pieces_of_words}
+use Rattle.textwrap_lines.proofs.Common.{indent_of, is_cut_by, parts_by, split_words, Took, word_of}
+use Rattle.textwrap_lines.proofs.Common.{ap, arith, map, subst, sym, ◌∙◌}
 use Rattle.textwrap_lines.proofs.PieceLines.{lines-greedy}
-use Rattle.textwrap_lines.proofs.PrintableTexts.Pieces.{words-texts, split-cuts}
-use Rattle.textwrap_lines.proofs.Text.Directly.{lines-by_bytes, lines_of_pieces}
+use Rattle.textwrap_lines.proofs.PrintableTexts.Pieces.{split-cuts, words-texts}
+use Rattle.textwrap_lines.proofs.PrintableTexts.Lines.{lines-by_bytes, lines_of_pieces}
 
 pub returns-clause-took : goal.returns-clause-took
 returns-clause-took g c =
@@ -20,13 +16,10 @@ returns-clause-took g c =
     let words = map word_of (parts_by cuts 0 text) in
     let pieces = pieces_of_words settings splitter words in
     let indent = indent_of settings c.args.frame.now.is_later in
-    let texts = words-texts cuts text printable in
-    let (division, greedy, found) = lines-greedy settings text c.args.frame.now.is_later pieces
-    (pieces_of_words-tile settings splitter text words c.utf8.paragraph texts)
-    (pieces_of_words-no_penalty settings splitter text words c.utf8.paragraph texts) in
+    let (division, greedy, found) = lines-greedy settings text splitter c.args.frame.now.is_later
+    words c.utf8.paragraph (words-texts cuts text printable) in
     let is = lines-by_bytes settings (is_cut_by cuts splitter text) (split_words splitter words)
-    indent text
-    (split-cuts cuts splitter text printable
+    indent text (split-cuts cuts splitter text printable
     (g.met.C.PrintableCuts.after_others c.args.cuts.now text printable))
     printable c.requires.some (omega arith) c.requires.room
     ∙ ap (λ width. lines_of_pieces settings text width indent pieces) (sym c.requires.even)

@@ -1,7 +1,7 @@
 use Rattle.textwrap_lines.proofs.filling.fill_into.Goals as goal
-use Rattle.textwrap_text.proofs.Common.{map, refl, ap, ◌∙◌, rules, ending_bytes, join_with}
+use Rattle.textwrap_lines.proofs.Common.{ending_bytes, join_with, line_bytes, lines_of, refl, rules}
+use Rattle.textwrap_lines.proofs.Common.{ap, map, ◌∙◌}
 use Rattle.textwrap_text.specs.LentText.{written_over}
-use Rattle.textwrap_layout.proofs.Common.{line_bytes, lines_of}
 
 pub returns-clause-filled : goal.returns-clause-filled
 returns-clause-filled g c =

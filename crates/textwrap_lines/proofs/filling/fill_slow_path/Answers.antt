@@ -1,8 +1,8 @@
 use Rattle.textwrap_lines.proofs.filling.fill_slow_path.Goals as goal
-use Rattle.textwrap_text.proofs.Common.{map, ap, ◌∙◌, rules, ending_bytes, join_with}
-use Rattle.textwrap_layout.proofs.Common.{line_bytes, line_view, lines_of}
+use Rattle.textwrap_lines.proofs.Common.{ending_bytes, join_with, line_bytes, line_view, lines_of}
+use Rattle.textwrap_lines.proofs.Common.{ap, map, rules, ◌∙◌}
 use Rattle.textwrap_layout.proofs.Paragraph.Pieces.{filled-as}
-use Rattle.textwrap_lines.proofs.Text.Directly.{passed-on}
+use Rattle.textwrap_lines.proofs.Paragraph.KeepsTo.{passed-on}
 
 pub returns-in_err-push_text-clause-only_memory : goal.returns-in_err-push_text-clause-only_memory
 returns-in_err-push_text-clause-only_memory g c = λ never.

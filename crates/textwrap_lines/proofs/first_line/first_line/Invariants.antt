@@ -1,8 +1,5 @@
 use Rattle.textwrap_lines.proofs.first_line.first_line.Given as goal
-use Rattle.textwrap_text.proofs.Common.{length}
-use Rattle.textwrap_words.proofs.Common.{as_splitter}
-use Rattle.textwrap_lines.proofs.Common.{line_so_far}
-use Rattle.textwrap_layout.proofs.Common.{frame_settings}
+use Rattle.textwrap_lines.proofs.Common.{as_splitter, frame_settings, length, line_so_far}
 use Rattle.textwrap_lines.proofs.PieceLines.{HoldsFirst, left_at}
 
 abbrev pub invariant-loop-line : goal.invariant-loop-line

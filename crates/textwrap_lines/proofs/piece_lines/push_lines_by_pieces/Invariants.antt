@@ -1,9 +1,6 @@
 use Rattle.textwrap_lines.proofs.piece_lines.push_lines_by_pieces.Given as goal
-use Rattle.textwrap_text.proofs.Common.{◌≡◌}
-use Rattle.textwrap_layout.specs.PiecesLeft.{left_standing}
-use Rattle.textwrap_lines.proofs.Common.{line_so_far, lines_past}
-use Rattle.textwrap_layout.proofs.Common.{frame_settings}
-use Rattle.textwrap_layout.proofs.Text.Sinks.{HasTaken}
+use Rattle.textwrap_lines.proofs.Common.{frame_settings, left_standing, line_so_far, lines_past}
+use Rattle.textwrap_lines.proofs.Common.{HasTaken, ◌≡◌}
 use Rattle.textwrap_lines.proofs.PieceLines.{AllCome}
 
 -- the lines before the last one were taken, and the pieces that are left come after it

@@ -1,7 +1,7 @@
 use Rattle.textwrap_lines.proofs.placed.place_into.Goals as goal
-use Rattle.textwrap_text.proofs.Common.{map, ap, ◌∙◌, rules}
+use Rattle.textwrap_lines.proofs.Common.{ap, lines_of, map, places_of, rules, ◌∙◌}
 use Rattle.textwrap_text.specs.LentText.{written_over}
-use Rattle.textwrap_layout.proofs.Common.{built_text, lines_of, places_of}
+use Rattle.textwrap_layout.proofs.Common.{built_text}
 use Rattle.textwrap_layout.specs.LentPlaces.{reported_line}
 
 pub returns-clause-lines : goal.returns-clause-lines

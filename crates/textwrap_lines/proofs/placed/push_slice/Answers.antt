@@ -1,6 +1,6 @@
 use Rattle.textwrap_lines.proofs.placed.push_slice.Goals as goal
-use Rattle.textwrap_text.proofs.Common.{◌≡◌, ◌+◌, [], ◌∷◌, arith, on_ok_weaker, subst}
-use Rattle.textwrap_layout.proofs.Common.{cut_line, Slice}
+use Rattle.textwrap_lines.proofs.Common.{[], arith, cut_line, on_ok_weaker, subst, ◌+◌, ◌∷◌, ◌≡◌}
+use Rattle.textwrap_layout.proofs.Common.{Slice}
 use Rattle.textwrap_layout.proofs.Text.Sinks.{HasPlaces-took}
 use Rattle.textwrap_layout.specs.Places.{HasPlacesMore}
 

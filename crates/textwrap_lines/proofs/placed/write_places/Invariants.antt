@@ -1,5 +1,5 @@
 use Rattle.textwrap_lines.proofs.placed.write_places.Given as goal
-use Rattle.textwrap_text.proofs.Common.{take}
+use Rattle.textwrap_lines.proofs.Common.{take}
 use Rattle.textwrap_layout.specs.LentPlaces.{ArePlaced, KeepsPlaces}
 
 -- the first places are written

@@ -1,18 +1,12 @@
 use Rattle.textwrap_lines.proofs.printable.last_cut.Goals as goal
-use Rattle.textwrap_text.proofs.Common.{inl, inr, ◌≡◌, sym, ap, ◌∙◌, arith, cases_lt}
-use Rattle.textwrap_words.proofs.Common.{as_splitter}
-use Rattle.textwrap_layout.proofs.Common.{is_cut_by}
+use Rattle.textwrap_lines.proofs.Common.{arith, sym, ◌-◌, ◌∙◌}
+use Rattle.textwrap_lines.proofs.PrintableTexts.Lines.{none-at, none-then}
 
 pub loop-place-preserved : goal.loop-place-preserved
 loop-place-preserved g c = record {
   from = omega (arith, c.loop-place-test.true);
   within = omega (arith, c.loop-place.invariant.within);
-  none = λ k after up_to. elim (cases_lt c.loop-place.place k) [
-    | inl above ↦ c.loop-place.invariant.none k above up_to
-    | inr here ↦
-        let same : c.loop-place.place ≡ k = omega (arith, after, here) in
-        ap (is_cut_by (g.C.PrintableCuts.cuts c.args.cuts.now c.args.text.now)
-        (as_splitter c.args.splitter) c.args.text.now) (sym same)
-        ∙ sym c.is_cut_at.ensures ∙ c.if-not-is_cut_at.true
-  ];
+  none = none-then _ (c.loop-place.place - 1) c.loop-place.place c.args.end
+      (none-at _ c.loop-place.place (sym c.is_cut_at.ensures ∙ c.if-not-is_cut_at.true))
+      c.loop-place.invariant.none;
 }

@@ -1,7 +1,5 @@
 use Rattle.textwrap_lines.proofs.printable.last_cut.Given as goal
-use Rattle.textwrap_text.proofs.Common.{◌≤◌}
-use Rattle.textwrap_words.proofs.Common.{as_splitter}
-use Rattle.textwrap_layout.proofs.Common.{is_cut_by, NoCutBetween}
+use Rattle.textwrap_lines.proofs.Common.{as_splitter, is_cut_by, NoCutBetween, ◌≤◌}
 
 abbrev pub invariant-loop-place : goal.invariant-loop-place
 invariant-loop-place g l = record {

@@ -1,12 +1,8 @@
 use Rattle.textwrap_lines.proofs.printable.push_printable_lines.Given as goal
-use Rattle.textwrap_text.proofs.Common.{◌≡◌, ◌-◌, ◌≤◌, ℕ, Bool, List, length}
-use Rattle.textwrap_words.proofs.Common.{as_splitter}
-use Rattle.textwrap_layout.proofs.Common.{is_cut_by, Settings, frame_settings, later_width, CutLine}
-use Rattle.textwrap_layout.proofs.Common.{indent_of}
-use Rattle.textwrap_lines.proofs.Common.{pieces_from}
-use Rattle.textwrap_layout.specs.Layout.{break_limit}
+use Rattle.textwrap_lines.proofs.Common.{as_splitter, break_limit, frame_settings, later_width, ◌-◌}
+use Rattle.textwrap_lines.proofs.Common.{HasTaken, indent_of, is_cut_by, pieces_from, Settings, ◌≡◌}
+use Rattle.textwrap_lines.proofs.Common.{Bool, CutLine, length, List, ℕ, ◌≤◌}
 use Rattle.textwrap_lines.proofs.PrintableTexts.Lines.{lines_at}
-use Rattle.textwrap_layout.proofs.Text.Sinks.{HasTaken}
 
 -- the lines of what follows a place
 abbrev pub lines_after : Settings → (ℕ → Bool) → List ℕ → ℕ → Bool → List CutLine

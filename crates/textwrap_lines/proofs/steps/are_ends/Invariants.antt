@@ -1,5 +1,5 @@
 use Rattle.textwrap_lines.proofs.steps.are_ends.Given as goal
-use Rattle.textwrap_text.proofs.Common.{◌↔◌, drop, length}
+use Rattle.textwrap_lines.proofs.Common.{drop, length, ◌↔◌}
 use Rattle.textwrap_words.specs.Cuts.{AreNext}
 use Rattle.textwrap_words.specs.LineEnds.{AreEnds, IsNextEnd}
 

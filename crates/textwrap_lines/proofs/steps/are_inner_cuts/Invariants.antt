@@ -1,5 +1,5 @@
 use Rattle.textwrap_lines.proofs.steps.are_inner_cuts.Given as goal
-use Rattle.textwrap_text.proofs.Common.{◌↔◌, drop}
+use Rattle.textwrap_lines.proofs.Common.{drop, ◌↔◌}
 use Rattle.textwrap_words.specs.Cuts.{AreInnerCuts, AreLaterCuts}
 
 -- the cuts are right just if those that are left may follow the last one

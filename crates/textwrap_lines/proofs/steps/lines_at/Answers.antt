@@ -1,8 +1,6 @@
 use Rattle.textwrap_lines.proofs.steps.lines_at.Goals as goal
-use Rattle.textwrap_text.proofs.Common.{[], map, subst}
-use Rattle.textwrap_words.proofs.Common.{word_view}
+use Rattle.textwrap_lines.proofs.Common.{[], map, parts_from, settings_view, subst, word_view}
 use Rattle.textwrap_words.specs.LineEnds.{lines_between}
-use Rattle.textwrap_layout.proofs.Common.{parts_from, settings_view}
 use Rattle.textwrap_layout.proofs.Text.Sinks.{further-cut_lines}
 use Rattle.textwrap_layout.specs.Places.{HasPlaces}
 

@@ -1,9 +1,7 @@
 use Rattle.textwrap_lines.proofs.steps.list_division.Goals as goal
-use Rattle.textwrap_text.proofs.Common.{◌≡◌, [], ap, map, ◌∙◌, rules}
-use Rattle.textwrap_words.proofs.Common.{word_view}
-use Rattle.textwrap_layout.proofs.Common.{cut_lines, line_from, line_view, parts_from}
-use Rattle.textwrap_layout.proofs.Common.{settings_view}
-use Rattle.textwrap_layout.proofs.Text.Sinks.{lines_of-cut_lines, lines_of-more}
+use Rattle.textwrap_lines.proofs.Common.{lines_of-cut_lines, lines_of-more, rules, settings_view}
+use Rattle.textwrap_lines.proofs.Common.{[], cut_lines, line_from, line_view, parts_from, word_view}
+use Rattle.textwrap_lines.proofs.Common.{ap, map, ◌∙◌, ◌≡◌}
 
 pub returns : goal.returns
 returns g c =

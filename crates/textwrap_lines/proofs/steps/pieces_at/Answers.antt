@@ -1,18 +1,16 @@
 use Rattle.textwrap_lines.proofs.steps.pieces_at.Goals as goal
-use Rattle.textwrap_text.proofs.Common.{◌∙◌, ap, map, refl, subst, sym, IsUtf8, List, ℕ}
-use Rattle.textwrap_words.proofs.Common.{AreCuts, parts_between, word_of, word_view, WordText}
+use Rattle.textwrap_lines.proofs.Common.{AreTexts, pieces-tile, settings_view, word_view, WordText}
+use Rattle.textwrap_lines.proofs.Common.{AreCuts, IsUtf8, List, map, refl, split_at, subst, word_of}
+use Rattle.textwrap_lines.proofs.Common.{ap, sym, ℕ, ◌∙◌}
+use Rattle.textwrap_words.proofs.Common.{parts_between}
 use Rattle.textwrap_words.proofs.Word.Cuts.{inner-cuts}
 use Rattle.textwrap_words.proofs.Word.Parts.{parts-texts, parts_between-tile}
-use Rattle.textwrap_words.proofs.Word.Pieces.{AreTexts}
-use Rattle.textwrap_layout.proofs.Common.{settings_view}
-use Rattle.textwrap_layout.proofs.Paragraph.Pieces.{pieces-tile}
 use Rattle.textwrap_layout.specs.Paragraph.{broken_pieces_of}
-use Rattle.textwrap_lines.specs.Steps.{AreWordsBetween, split_at}
+use Rattle.textwrap_lines.specs.Steps.{AreWordsBetween}
 use Rattle.textwrap_lines.proofs.InSteps.{split_at-are}
 
 pub returns-clause-pieces : goal.returns-clause-pieces
-returns-clause-pieces g c =
-    c.in_ok-pieces.ensures
+returns-clause-pieces g c = c.in_ok-pieces.ensures
     ∙ ap (broken_pieces_of (settings_view c.args.options.now)) c.in_ok-split.ensures
 
 pub returns-clause-are : goal.returns-clause-are

@@ -1,6 +1,5 @@
 use Rattle.textwrap_lines.proofs.steps.split_at.Given as goal
-use Rattle.textwrap_text.proofs.Common.{drop, map}
-use Rattle.textwrap_words.proofs.Common.{word_view}
+use Rattle.textwrap_lines.proofs.Common.{drop, map, word_view}
 use Rattle.textwrap_lines.proofs.InSteps.{HasSplit}
 
 -- the first words are split, and the paragraph goes on with the others

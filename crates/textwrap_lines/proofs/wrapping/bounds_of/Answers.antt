@@ -1,10 +1,10 @@
 use Rattle.textwrap_lines.proofs.wrapping.bounds_of.Goals as goal
-use Rattle.textwrap_text.proofs.Common.{◌≡◌, ◌+◌, drop, length, map, refl, ap, subst, arith, IsUtf8}
-use Rattle.textwrap_text.proofs.Common.{IsCharBoundary, IsUtf8-drop, length-append}
+use Rattle.textwrap_lines.proofs.Common.{IsCharBoundary, IsUtf8-drop, length-append, map, word_view}
+use Rattle.textwrap_lines.proofs.Common.{arith, drop, IsUtf8, length, refl, subst, tiled, ◌+◌, ◌≡◌}
+use Rattle.textwrap_lines.proofs.Common.{ap}
 use Rattle.std.proofs.lemmas.Str.{IsCharBoundary-from_rest}
-use Rattle.textwrap_words.proofs.Common.{word_view, tiled}
-use Rattle.textwrap_layout.proofs.Paragraph.Covered.{cuts_before_whitespace, IsCharBoundary-cut}
-use Rattle.textwrap_layout.proofs.Paragraph.Covered.{IsCharBoundary-whole}
+use Rattle.textwrap_layout.proofs.Paragraph.Covered.{cuts_before_whitespace, IsCharBoundary-whole}
+use Rattle.textwrap_layout.proofs.Paragraph.Covered.{IsCharBoundary-cut}
 
 pub returns-clause-bounds : goal.returns-clause-bounds
 returns-clause-bounds c =

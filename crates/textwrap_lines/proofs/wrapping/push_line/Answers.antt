@@ -1,10 +1,8 @@
 use Rattle.textwrap_lines.proofs.wrapping.push_line.Goals as goal
-use Rattle.textwrap_text.proofs.Common.{◌≡◌, ◌+◌, ◌++◌, ◌&&◌, ◌==◌, length, [], ◌∷◌, ◌∙◌, ap, sym}
-use Rattle.textwrap_text.proofs.Common.{cond, drop, map, slice_range, StartsWith, subst}
-use Rattle.textwrap_text.proofs.Common.{take-append-drop}
+use Rattle.textwrap_lines.proofs.Common.{[], layout_view, slice_range, StartsWith, take-append-drop}
+use Rattle.textwrap_lines.proofs.Common.{covered, cut_line, length, subst, tiled, Took, word_view}
+use Rattle.textwrap_lines.proofs.Common.{ap, cond, drop, map, sym, ◌&&◌, ◌++◌, ◌==◌, ◌∙◌, ◌∷◌, ◌≡◌}
 use Rattle.std.proofs.Math.Bool.{and_comm}
-use Rattle.textwrap_words.proofs.Common.{tiled, word_view}
-use Rattle.textwrap_layout.proofs.Common.{Took, covered, cut_line, layout_view}
 use Rattle.textwrap_layout.proofs.Paragraph.LeftOff.{line_from-parts_of}
 use Rattle.textwrap_lines.proofs.PieceLines.{slice-pieces}
 
@@ -23,11 +21,8 @@ returns-clause-line g c =
     ∙ ap (λ l. l ++ drop (length (tiled words)) rest) begins in
     let slice : slice_range c.args.paragraph.now start (cond keeps bounds.end bounds.word_end)
     ≡ cond keeps (tiled words) (covered words) =
-    ap (λ e. slice_range c.args.paragraph.now start (cond keeps e bounds.word_end))
-    c.bounds_of-bounds.ensures.end
-    ∙ ap (λ e. slice_range c.args.paragraph.now start (cond keeps (start + length (tiled words)) e))
-    c.bounds_of-bounds.ensures.word_end
-    ∙ slice-pieces c.args.paragraph.now start words _ keeps seam in
+    rw (c.bounds_of-bounds.ensures.end, c.bounds_of-bounds.ensures.word_end)
+    (slice-pieces c.args.paragraph.now start words _ keeps seam) in
     subst (λ line. Took g.S.LineSink.holds c.args.lines.now c.push_between.new.lines
     (cut_line start line ∷ []))
     (line_from-parts_of settings c.args.is_later c.args.pieces.now c.in-Some.front.now last

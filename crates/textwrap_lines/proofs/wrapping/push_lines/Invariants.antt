@@ -1,8 +1,7 @@
 use Rattle.textwrap_lines.proofs.wrapping.push_lines.Given as goal
-use Rattle.textwrap_text.proofs.Common.{◌≡◌, drop, map, IsCharBoundary, StartsWith, flat_map}
-use Rattle.textwrap_words.proofs.Common.{word_view, tiled}
-use Rattle.textwrap_layout.proofs.Common.{cut_lines, frame_lines, frame_settings, parts_from}
-use Rattle.textwrap_layout.proofs.Text.Sinks.{HasTaken}
+use Rattle.textwrap_lines.proofs.Common.{frame_lines, frame_settings, IsCharBoundary, StartsWith}
+use Rattle.textwrap_lines.proofs.Common.{cut_lines, drop, flat_map, HasTaken, parts_from, word_view}
+use Rattle.textwrap_lines.proofs.Common.{map, tiled, ◌≡◌}
 
 -- the lines so far were taken, and the rest of the paragraph begins with what the others tile
 abbrev pub invariant-loop-pieces : goal.invariant-loop-pieces

@@ -1,10 +1,8 @@
 use Rattle.textwrap_lines.proofs.wrapping.push_paragraph.Goals as goal
-use Rattle.textwrap_text.proofs.Common.{[], ◌∷◌, ap, sym, refl, ◌∙◌, subst, on_ok_weaker}
-use Rattle.textwrap_words.proofs.Common.{word_of}
-use Rattle.textwrap_layout.proofs.Common.{frame_settings, Took, cut_line, Slice, parts_of}
-use Rattle.textwrap_layout.proofs.Common.{parts_from}
-use Rattle.textwrap_layout.proofs.Paragraph.LeftOff.{line_from-whole, AreParagraphParts-whole}
-use Rattle.textwrap_layout.proofs.Paragraph.LeftOff.{AreParagraphParts-divided}
+use Rattle.textwrap_lines.proofs.Common.{frame_settings, on_ok_weaker, parts_from, parts_of, refl}
+use Rattle.textwrap_lines.proofs.Common.{[], sym, word_of, ◌∙◌, ◌∷◌}
+use Rattle.textwrap_layout.proofs.Paragraph.LeftOff.{AreParagraphParts-divided, line_from-whole}
+use Rattle.textwrap_layout.proofs.Paragraph.LeftOff.{AreParagraphParts-whole}
 
 pub returns-then-is_one_line-clause-taken : goal.returns-then-is_one_line-clause-taken
 returns-then-is_one_line-clause-taken g c =
@@ -15,10 +13,8 @@ returns-then-is_one_line-clause-taken g c =
       parts_of settings is_later (word_of paragraph ∷ []) ∷ [],
       AreParagraphParts-whole settings (g.O.AnyOptions.divides c.args.options.now) is_later
           paragraph whole,
-      subst (λ line. Took g.S.LineSink.holds c.args.lines.now c.push_line.new.self
-          (cut_line 0 line ∷ []))
-          (ap Slice c.whole_line-slice.ensures ∙ sym (line_from-whole settings is_later paragraph whole))
-          c.in_ok-push_line.ensures.took,
+      rw (line_from-whole settings is_later paragraph whole)
+          (rw c.whole_line-slice.ensures at c.in_ok-push_line.ensures.took),
     )
 
 pub returns-clause-taken : goal.returns-clause-taken

@@ -1,22 +1,17 @@
 use Rattle.textwrap_lines.proofs.wrapping.push_text.Goals as goal
-use Rattle.textwrap_text.proofs.Common.{◌≡◌, ◌+◌, ◌++◌, refl, sym, ap, length, ◌∙◌, subst}
-use Rattle.textwrap_text.proofs.Common.{ending_bytes, paragraphs_of}
-use Rattle.textwrap_layout.proofs.Common.{AreParagraphParts, frame_settings, layout_view}
-use Rattle.textwrap_lines.proofs.Text.Directly.{passed-on}
+use Rattle.textwrap_lines.proofs.Common.{AreParagraphParts, ending_bytes, frame_settings, length}
+use Rattle.textwrap_lines.proofs.Common.{ap, layout_view, refl, subst, ◌++◌, ◌+◌, ◌∙◌, ◌≡◌}
+use Rattle.textwrap_lines.proofs.Paragraph.KeepsTo.{passed-on}
 use Rattle.textwrap_layout.proofs.Text.Lines.{paragraphs_left, paragraphs_left-split}
-use Rattle.textwrap_layout.proofs.Text.Sinks.{HasParagraphs, HasParagraphs-end, HasParagraphs-more}
-use Rattle.textwrap_layout.proofs.Text.Sinks.{HasParagraphs-start}
+use Rattle.textwrap_layout.proofs.Text.Sinks.{HasParagraphs-more, HasParagraphs-start}
+use Rattle.textwrap_layout.proofs.Text.Sinks.{HasParagraphs-end}
 
 pub loop-rest-init : goal.loop-rest-init
 loop-rest-init g c =
-    let settings = g.O.AnyOptions.settings c.args.options.now in
-    let divides = g.O.AnyOptions.divides c.args.options.now in
-    let ending = ap (λ s. s.line_ending) c.layout-layout.ensures in
     record {
-      lines = subst (λ e. HasParagraphs settings divides g.S.LineSink.holds c.args.text.now
-          c.args.lines.now c.args.lines.now (paragraphs_of e c.args.text.now) 0) (sym ending)
-          (HasParagraphs-start settings divides g.S.LineSink.holds c.args.text.now
-          c.args.lines.now c.requires.none);
+      lines = rw (ap (λ s. s.line_ending) c.layout-layout.ensures) (HasParagraphs-start
+          (g.O.AnyOptions.settings c.args.options.now) (g.O.AnyOptions.divides c.args.options.now)
+          g.S.LineSink.holds c.args.text.now c.args.lines.now c.requires.none);
       name = refl;
     }
 

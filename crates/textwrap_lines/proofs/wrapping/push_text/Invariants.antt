@@ -1,6 +1,6 @@
 use Rattle.textwrap_lines.proofs.wrapping.push_text.Given as goal
-use Rattle.textwrap_text.proofs.Common.{◌≡◌}
-use Rattle.textwrap_layout.proofs.Text.Lines.{paragraphs_left, bytes_left}
+use Rattle.textwrap_lines.proofs.Common.{◌≡◌}
+use Rattle.textwrap_layout.proofs.Text.Lines.{bytes_left, paragraphs_left}
 use Rattle.textwrap_layout.proofs.Text.Sinks.{HasParagraphs}
 
 -- the lines that were taken, and those of the paragraphs left, are the lines of the text

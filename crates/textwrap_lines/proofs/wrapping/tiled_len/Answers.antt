@@ -1,5 +1,5 @@
 use Rattle.textwrap_lines.proofs.wrapping.tiled_len.Goals as goal
-use Rattle.textwrap_text.proofs.Common.{◌+◌, length, subst, sym, ap, arith, length-append, IsUtf8}
+use Rattle.textwrap_lines.proofs.Common.{ap, arith, IsUtf8, length, length-append, subst, sym, ◌+◌}
 use Rattle.textwrap_text.proofs.Common.{IsUtf8-append}
 use Rattle.textwrap_words.proofs.Word.Words.{tiled-take, tiled-take-le}
 
@@ -16,7 +16,6 @@ loop-piece-preserved c =
     c.as_bytes.ensures.value c.as_bytes-in-loop-piece.ensures.value in
     let lengths = simp length-append at (ap length more) in (
       omega arith,
-      subst IsUtf8 (sym more)
-          (IsUtf8-append _ _ c.loop-piece.invariant.1
+      subst IsUtf8 (sym more) (IsUtf8-append _ _ c.loop-piece.invariant.1
           (IsUtf8-append _ _ c.as_bytes.ensures.utf8 c.as_bytes-in-loop-piece.ensures.utf8)),
     )

@@ -1,6 +1,5 @@
 use Rattle.textwrap_lines.proofs.wrapping.tiled_len.Given as goal
-use Rattle.textwrap_text.proofs.Common.{◌≡◌, length, take, map, IsUtf8}
-use Rattle.textwrap_words.proofs.Common.{word_view, tiled}
+use Rattle.textwrap_lines.proofs.Common.{IsUtf8, length, map, take, tiled, word_view, ◌≡◌}
 
 -- the pieces so far are measured, and are text
 abbrev pub invariant-loop-piece : goal.invariant-loop-piece

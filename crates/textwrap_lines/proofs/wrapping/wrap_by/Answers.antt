@@ -1,6 +1,5 @@
 use Rattle.textwrap_lines.proofs.wrapping.wrap_by.Goals as goal
-use Rattle.textwrap_text.proofs.Common.{sym, ◌∙◌, rules, subst}
-use Rattle.textwrap_layout.proofs.Common.{AreTextLines}
+use Rattle.textwrap_lines.proofs.Common.{AreTextLines, rules, subst, sym, ◌∙◌}
 
 pub returns-clause-lines : goal.returns-clause-lines
 returns-clause-lines g c =

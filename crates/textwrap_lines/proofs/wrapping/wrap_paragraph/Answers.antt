@@ -1,11 +1,9 @@
 use Rattle.textwrap_lines.proofs.wrapping.wrap_paragraph.Goals as goal
-use Rattle.textwrap_text.proofs.Common.{Bool, List, not, nat_lt, length, [], map, ap, ◌∙◌, subst}
-use Rattle.textwrap_text.proofs.Common.{arith, rules}
-use Rattle.textwrap_layout.proofs.Common.{AreParagraphParts, LineParts, cut_lines, layout_view}
-use Rattle.textwrap_layout.proofs.Common.{line_view}
+use Rattle.textwrap_lines.proofs.Common.{AreParagraphParts, Bool, lines_of-cut_lines, lines_of-more}
+use Rattle.textwrap_lines.proofs.Common.{cut_lines, layout_view, length, line_view, LineParts, List}
+use Rattle.textwrap_lines.proofs.Common.{[], ap, arith, map, nat_lt, not, rules, subst, ◌∙◌}
 use Rattle.textwrap_text.proofs.Numbers.{not_empty}
 use Rattle.textwrap_layout.proofs.Paragraph.Widths.{appends-none, appends-own}
-use Rattle.textwrap_layout.proofs.Text.Sinks.{lines_of-cut_lines, lines_of-more}
 
 pub returns-in_err-push_paragraph-clause-appended :
     goal.returns-in_err-push_paragraph-clause-appended

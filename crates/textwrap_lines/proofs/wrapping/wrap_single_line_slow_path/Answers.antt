@@ -1,14 +1,13 @@
 use Rattle.textwrap_lines.proofs.wrapping.wrap_single_line_slow_path.Goals as goal
-use Rattle.textwrap_text.proofs.Common.{Bool, not, nat_lt, length, List, [], ◌++◌, map, ap, refl}
-use Rattle.textwrap_text.proofs.Common.{◌∙◌, subst, arith, rules}
-use Rattle.textwrap_words.proofs.Common.{algorithm_view, MaySeparate, MaySplit}
-use Rattle.textwrap_layout.proofs.Common.{cut_lines, MayOverflow, settings_view, AreDividedParts}
-use Rattle.textwrap_layout.proofs.Common.{LineParts, DividesBy, line_from, line_view, parts_from}
-use Rattle.textwrap_layout.proofs.Common.{widths_of}
+use Rattle.textwrap_lines.proofs.Common.{algorithm_view, AreDividedParts, arith, lines_of-cut_lines}
+use Rattle.textwrap_lines.proofs.Common.{lines_of-more, map, MaySeparate, parts_from, settings_view}
+use Rattle.textwrap_lines.proofs.Common.{cut_lines, DividesBy, line_from, line_view, LineParts, not}
+use Rattle.textwrap_lines.proofs.Common.{Bool, length, MaySplit, nat_lt, rules, subst, widths_of}
+use Rattle.textwrap_lines.proofs.Common.{[], ap, List, refl, ◌++◌, ◌∙◌}
+use Rattle.textwrap_layout.proofs.Common.{MayOverflow}
 use Rattle.textwrap_words.proofs.Word.Divisions.{MayDivide-greedy}
-use Rattle.textwrap_layout.proofs.Paragraph.Widths.{long_lines, appends-none, appends-own}
+use Rattle.textwrap_layout.proofs.Paragraph.Widths.{appends-none, appends-own, long_lines}
 use Rattle.textwrap_text.proofs.Numbers.{not_empty}
-use Rattle.textwrap_layout.proofs.Text.Sinks.{lines_of-cut_lines, lines_of-more}
 use Rattle.textwrap_words.proofs.Word.Parts.{MaySeparate-texts, MaySplit-cuts, MaySplit-hyphens}
 
 pub returns-in_err-push_divided-clause-appended : goal.returns-in_err-push_divided-clause-appended

@@ -1,9 +1,9 @@
 use Rattle.textwrap_lines.proofs.steps.points.points_between.Goals as goal
-use Rattle.textwrap_text.proofs.Common.{◌≡◌, ◌-◌, arith, drop, length, length-drop, rules, take}
-use Rattle.textwrap_text.proofs.Common.{take_all, subst, sym}
-use Rattle.std.proofs.lemmas.List.Sorted.{IsNonDecreasingBy-drop}
-use Rattle.std.proofs.lemmas.List.Sorted.{IsPartitionPoint-from_clause, IsPartitionedBy-leb}
-use Rattle.std.proofs.lemmas.List.Sorted.{IsPartitionedBy-ltb}
+use Rattle.textwrap_lines.proofs.Common.{arith, drop, length, length-drop, rules, subst, sym, take}
+use Rattle.textwrap_lines.proofs.Common.{◌-◌, ◌≡◌}
+use Rattle.textwrap_text.proofs.Common.{take_all}
+use Rattle.std.proofs.lemmas.List.Sorted.{IsNonDecreasingBy-drop, IsPartitionPoint-from_clause}
+use Rattle.std.proofs.lemmas.List.Sorted.{IsPartitionedBy-leb, IsPartitionedBy-ltb}
 use Rattle.std.specs.List.Sorted.{IsNonDecreasing}
 use lib.Dec.{leb, ltb}
 use Rattle.textwrap_lines.proofs.InSteps.{between-are}
@@ -23,7 +23,6 @@ returns c =
     c.partition_point.ensures.bound c.partition_point-2.ensures.bound
     (IsPartitionPoint-from_clause (λ p. leb p start) points i
     c.partition_point.ensures.partitioned (IsPartitionedBy-leb (λ x. x) points start c.requires)
-    (search rules))
-    (IsPartitionPoint-from_clause (λ p. ltb p end) later c.partition_point-2.result
+    (search rules)) (IsPartitionPoint-from_clause (λ p. ltb p end) later c.partition_point-2.result
     c.partition_point-2.ensures.partitioned (IsPartitionedBy-ltb (λ x. x) later end up_later)
     (search rules))

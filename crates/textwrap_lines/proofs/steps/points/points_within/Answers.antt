@@ -1,5 +1,5 @@
 use Rattle.textwrap_lines.proofs.steps.points.points_within.Goals as goal
-use Rattle.textwrap_text.proofs.Common.{◌+◌, ◌≤◌, get_or, length, subst, sym, List, ℕ, ◌<◌}
+use Rattle.textwrap_lines.proofs.Common.{get_or, length, List, subst, sym, ℕ, ◌+◌, ◌<◌, ◌≤◌}
 use Rattle.textwrap_lines.proofs.InSteps.{between-after}
 
 pub overflow_sub-point : goal.overflow_sub-point

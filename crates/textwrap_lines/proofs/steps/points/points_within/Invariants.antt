@@ -1,5 +1,5 @@
 use Rattle.textwrap_lines.proofs.steps.points.points_within.Given as goal
-use Rattle.textwrap_text.proofs.Common.{◌≡◌, ◌-◌, map, take}
+use Rattle.textwrap_lines.proofs.Common.{map, take, ◌-◌, ◌≡◌}
 
 -- the first points are found
 abbrev pub invariant-loop-point : goal.invariant-loop-point

@@ -11,10 +11,17 @@ pub use Rattle.textwrap_base.specs.Minima.{Costs, counted, table_steps}
 pub use Rattle.textwrap_base.specs.Penalties.{default_penalties}
 pub use Rattle.textwrap_base.specs.Problem.{problem_of}
 pub use Rattle.textwrap_base.specs.Queue.{AreAtMost, binary_digits, IsQueueCase, NeverFalls}
-pub use Rattle.textwrap_base.specs.Queue.{queue_limit, SuitQueue}
-pub use Rattle.textwrap_base.specs.Search.{cost_from, IsBestFrom, IsBestStart, least_entry}
+pub use Rattle.textwrap_base.specs.Queue.{AreConvex, queue_limit, SuitQueue}
+pub use Rattle.textwrap_base.specs.Search.{AreMinima, cost_from, IsBestFrom, IsBestStart}
+pub use Rattle.textwrap_base.specs.Search.{least_entry}
 pub use Rattle.textwrap_base.specs.Sizes.{Sizes}
-pub use Rattle.textwrap_base.specs.Stretches.{HasEnd, HaveBest, IsPriced, stretch_at}
+pub use Rattle.textwrap_base.specs.Stretches.{AreStretches, HasEnd, HaveBest, IsPriced, stretch_at}
 pub use Rattle.textwrap_base.specs.Table.{entry_at, entry_from, first_entry, FollowStarts}
 pub use Rattle.textwrap_base.specs.Table.{fragment_costs, fragments_table, IsByTable, IsLeastBelow}
-pub use Rattle.textwrap_base.specs.Table.{line_costs, minimum_of, TableOverflows}
+pub use Rattle.textwrap_base.specs.Table.{IsBestBelow, line_costs, minimum_of, table}
+pub use Rattle.textwrap_base.specs.Table.{TableOverflows}
+pub use Rattle.textwrap_base.specs.declared.penalties.Penalties.{Penalties}
+pub use Rattle.textwrap_base.specs.declared.minima.table.Entry.{Entry}
+pub use Rattle.textwrap_base.specs.declared.minima.Minimum.{Minimum}
+pub use Rattle.textwrap_base.specs.declared.minima.line_costs.Measure.{Measure}
+pub use Rattle.textwrap_base.specs.declared.minima.stretches.Stretch.{Stretch}

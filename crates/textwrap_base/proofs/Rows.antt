@@ -1,23 +1,15 @@
 -- Worked rows on the widths of lines, on divisions, on what lines cost, and on tables of costs.
-use Rattle.textwrap_text.proofs.Common.{◌≡◌, ◌≢◌, ℕ, List, [], ◌∷◌, refl, All-head, map, take}
-use Rattle.textwrap_text.proofs.Common.{arith, flat_map}
-use Rattle.textwrap_base.proofs.Common.{Sizes, default_penalties, division_cost, line_width}
-use Rattle.textwrap_base.proofs.Common.{closed_width, IsDivision, fragments_table, fragment_costs}
-use Rattle.textwrap_base.proofs.Common.{problem_by, problem_at}
-use Rattle.textwrap_base.specs.Queue.{AreConvex}
+use Rattle.textwrap_text.proofs.Common.{All-head, flat_map, arith, List, refl, take, map, ◌∷◌, ◌≡◌}
+use Rattle.textwrap_text.proofs.Common.{◌≢◌, [], ℕ}
+use Rattle.textwrap_base.proofs.Common.{default_penalties, fragments_table, fragment_costs, Sizes}
+use Rattle.textwrap_base.proofs.Common.{division_cost, closed_width, IsDivision, line_width, Entry}
+use Rattle.textwrap_base.proofs.Common.{problem_at, problem_by, AreConvex}
 use Rattle.textwrap_base.specs.Table.{table}
-use Rattle.textwrap_base.specs.declared.minima.table.Entry.{Entry}
 
 -- ---- the width of a line
 
-line_width-first : line_width (10 ∷ 5 ∷ []) 0 ≡ 10
-line_width-first = refl
-
-line_width-second : line_width (10 ∷ 5 ∷ []) 1 ≡ 5
-line_width-second = refl
-
-line_width-past_last : line_width (10 ∷ 5 ∷ []) 7 ≡ 5
-line_width-past_last = refl
+line_width-each : map (line_width (10 ∷ 5 ∷ [])) (0 ∷ 1 ∷ 7 ∷ []) ≡ 10 ∷ 5 ∷ 5 ∷ []
+line_width-each = refl
 
 line_width-none : (number : ℕ) → line_width [] number ≡ 0
 line_width-none number = refl
@@ -33,21 +25,11 @@ sized width whitespace penalty =
 abbrev itself : Sizes → Sizes
 itself fragment = fragment
 
-closed_width-none : closed_width itself [] ≡ 0
-closed_width-none = refl
-
-closed_width-single : closed_width itself (sized 3 2 1 ∷ []) ≡ 4
-closed_width-single = refl
-
-closed_width-two : closed_width itself (sized 3 2 1 ∷ sized 5 4 7 ∷ []) ≡ 17
-closed_width-two = refl
-
 -- a longer line can take less
-closed_width-penalty : closed_width itself (sized 5 0 0 ∷ sized 5 0 5 ∷ []) ≡ 15
-closed_width-penalty = refl
-
-closed_width-past_penalty : closed_width itself (sized 5 0 0 ∷ sized 5 0 5 ∷ sized 0 0 0 ∷ []) ≡ 10
-closed_width-past_penalty = refl
+closed_width-each : map (closed_width itself) ([] ∷ (sized 3 2 1 ∷ [])
+    ∷ (sized 3 2 1 ∷ sized 5 4 7 ∷ []) ∷ (sized 5 0 0 ∷ sized 5 0 5 ∷ [])
+    ∷ (sized 5 0 0 ∷ sized 5 0 5 ∷ sized 0 0 0 ∷ []) ∷ []) ≡ 0 ∷ 4 ∷ 17 ∷ 15 ∷ 10 ∷ []
+closed_width-each = refl
 
 -- ---- divisions
 
@@ -63,22 +45,19 @@ IsDivision-not_empty_line division =
 
 -- ---- what lines cost
 
+abbrev costs_at : ℕ → List Sizes → List (List (List Sizes)) → List ℕ
+costs_at width fragments = map (division_cost (problem_at default_penalties itself (width ∷ []) fragments))
+
 -- two fragments on one line, or on two
-abbrev fragments_at : ℕ → List (List Sizes) → ℕ
-fragments_at width lines = division_cost (problem_at default_penalties (λ (s : Sizes). s)
-    (width ∷ []) (flat_map (λ line. line) lines)) lines
+abbrev both_ways : List (List (List Sizes))
+both_ways = ((sized 3 1 0 ∷ sized 50 0 0 ∷ []) ∷ [])
+    ∷ ((sized 3 1 0 ∷ []) ∷ (sized 50 0 0 ∷ []) ∷ []) ∷ []
 
-cost-one_line : fragments_at 53 ((sized 3 1 0 ∷ sized 50 0 0 ∷ []) ∷ []) ≡ 3500
-cost-one_line = refl
+cost-wide : costs_at 53 (sized 3 1 0 ∷ sized 50 0 0 ∷ []) both_ways ≡ 3500 ∷ 4500 ∷ []
+cost-wide = refl
 
-cost-two_lines : fragments_at 53 ((sized 3 1 0 ∷ []) ∷ (sized 50 0 0 ∷ []) ∷ []) ≡ 4500
-cost-two_lines = refl
-
-cost-one_line_narrower : fragments_at 52 ((sized 3 1 0 ∷ sized 50 0 0 ∷ []) ∷ []) ≡ 6000
-cost-one_line_narrower = refl
-
-cost-two_lines_narrower : fragments_at 52 ((sized 3 1 0 ∷ []) ∷ (sized 50 0 0 ∷ []) ∷ []) ≡ 4401
-cost-two_lines_narrower = refl
+cost-narrower : costs_at 52 (sized 3 1 0 ∷ sized 50 0 0 ∷ []) both_ways ≡ 6000 ∷ 4401 ∷ []
+cost-narrower = refl
 
 -- ---- worked tables at the default penalties: what their entries start at and cost; and line
 -- costs that are not convex
@@ -86,14 +65,14 @@ cost-two_lines_narrower = refl
 -- the start and the cost of each entry
 abbrev starts_and_costs : List ℕ → List Sizes → List (ℕ × ℕ)
 starts_and_costs widths fragments = map (λ (entry : Entry). (entry.start, entry.cost))
-    (fragments_table (problem_at default_penalties (λ (s : Sizes). s) widths fragments))
+    (fragments_table (problem_at default_penalties itself widths fragments))
 
 -- ---- fragments whose closed width falls with the fourth
 
 abbrev pub falling : List Sizes
 falling = sized 10 0 0 ∷ sized 5 0 0 ∷ sized 5 0 5 ∷ sized 0 0 0 ∷ sized 10 0 0 ∷ []
 
-closed_width-falling : map (λ count. closed_width (λ (sizes : Sizes). sizes) (take count falling))
+closed_width-falling : map (λ count. closed_width itself (take count falling))
     (1 ∷ 2 ∷ 3 ∷ 4 ∷ 5 ∷ []) ≡ 10 ∷ 15 ∷ 25 ∷ 20 ∷ 30 ∷ []
 closed_width-falling = refl
 
@@ -103,8 +82,8 @@ unfolding table
 table-falling = refl
 
 -- the second and third cost 13525, the third and fourth 1025, all three 1000, and the third 1025
-not_convex-falling : ¬ AreConvex (fragment_costs (problem_at default_penalties
-    (λ (s : Sizes). s) (10 ∷ []) falling))
+not_convex-falling :
+    ¬ AreConvex (fragment_costs (problem_at default_penalties itself (10 ∷ []) falling))
 not_convex-falling convex =
     omega (arith, convex 1 2 3 4 (omega arith) (omega arith) (omega arith) (omega arith) (omega arith))
 
@@ -118,20 +97,17 @@ table-uneven : starts_and_costs (10 ∷ 5 ∷ 100 ∷ []) uneven ≡ (0, 0) ∷ 
 unfolding table
 table-uneven = refl
 
-cost-uneven_lines : division_cost (problem_at default_penalties (λ (s : Sizes). s)
-    (10 ∷ 5 ∷ 100 ∷ []) uneven) ((sized 5 0 0 ∷ []) ∷ (sized 5 0 0 ∷ []) ∷ (sized 20 0 0 ∷ []) ∷ [])
-    ≡ 3050
+cost-uneven_lines : division_cost (problem_at default_penalties itself (10 ∷ 5 ∷ 100 ∷ []) uneven)
+    (map (λ fragment. fragment ∷ []) uneven) ≡ 3050
 cost-uneven_lines = refl
 
 -- ---- three cards (4, 1, 0) by their break penalties, in lines of 9
 
 abbrev card_cost : List (List ℕ) → ℕ
-card_cost lines = division_cost
-    (problem_by (λ keep. record { sizes = sized 4 1 0; break_penalty = keep })
+card_cost lines = division_cost (problem_by (λ keep. record { sizes = sized 4 1 0; break_penalty = keep })
     default_penalties (9 ∷ []) (flat_map (λ line. line) lines)) lines
 
-cost-kept_little : card_cost ((0 ∷ 24 ∷ []) ∷ (0 ∷ []) ∷ []) ≡ 2024
-cost-kept_little = refl
-
-cost-kept_together : card_cost ((0 ∷ []) ∷ (30 ∷ 0 ∷ []) ∷ []) ≡ 2025
-cost-kept_together = refl
+-- the last one kept little, and together
+cost-kept : map card_cost (((0 ∷ 24 ∷ []) ∷ (0 ∷ []) ∷ []) ∷ ((0 ∷ []) ∷ (30 ∷ 0 ∷ []) ∷ []) ∷ [])
+    ≡ 2024 ∷ 2025 ∷ []
+cost-kept = refl

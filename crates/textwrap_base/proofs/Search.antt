@@ -1,59 +1,38 @@
 -- The search by a queue: its steps, the costs that suit it, and the stretches of ends that each
 -- start takes.
-use Rattle.textwrap_text.proofs.Common.{ℕ, suc, ◌+◌, ◌/◌, ◌^◌, ◌<◌, ◌≤◌, ◌≡◌, ◌*◌, refl, take, drop}
-use Rattle.textwrap_text.proofs.Common.{zero, List, [], ◌++◌, subst, rules, arith, cases_lt}
-use Rattle.textwrap_text.proofs.Common.{length-map, get_or_append_left, ◌-◌, min, ◌∷◌, map, sym, ap}
-use Rattle.textwrap_text.proofs.Common.{◌∙◌, inl, inr, max, length, length_push, get_or_push}
-use Rattle.textwrap_text.proofs.Common.{get_or, length-take, get_or-take, length-drop, get_or-map}
-use Rattle.textwrap_text.proofs.Common.{get_or-drop}
-use Rattle.textwrap_base.proofs.Common.{Costs, HasEnd, IsPriced, SuitQueue, cost_from, stretch_at}
-use Rattle.textwrap_base.proofs.Common.{HaveBest, binary_digits, IsLeastBelow, least_entry}
-use Rattle.textwrap_base.proofs.Common.{first_entry, IsBestStart, minimum_of, entry_from}
-use Rattle.textwrap_base.proofs.Common.{IsBestFrom}
-use Rattle.std.proofs.Math.Nat.{pow-suc, mul-le-mul_right}
+use Rattle.textwrap_text.proofs.Common.{get_or_append_left, get_or-drop, get_or-take, get_or_push}
+use Rattle.textwrap_text.proofs.Common.{length-drop, length-take, length_push, get_or-map, cases_lt}
+use Rattle.textwrap_text.proofs.Common.{length-map, get_or, length, arith, rules, subst, List, drop}
+use Rattle.textwrap_text.proofs.Common.{refl, take, zero, ◌++◌, inl, inr, map, max, min, suc, sym}
+use Rattle.textwrap_text.proofs.Common.{◌*◌, ◌+◌, ◌-◌, ◌/◌, ◌<◌, ◌^◌, ◌∙◌, ◌∷◌, ◌≡◌, ◌≤◌, [], ap, ℕ}
+use Rattle.textwrap_base.proofs.Common.{binary_digits, AreStretches, IsLeastBelow, IsBestStart}
+use Rattle.textwrap_base.proofs.Common.{first_entry, least_entry, IsBestFrom, entry_from, AreMinima}
+use Rattle.textwrap_base.proofs.Common.{minimum_of, stretch_at, SuitQueue, cost_from, HaveBest}
+use Rattle.textwrap_base.proofs.Common.{IsPriced, Minimum, Stretch, HasEnd, Costs, Entry, table}
+use Rattle.std.proofs.Math.Nat.{mul-le-mul_right}
 use Rattle.textwrap_base.specs.Queue.{digits_within}
-use Rattle.std.proofs.lemmas.List.{ext_get_or, get_or_read}
-use Rattle.textwrap_base.specs.Search.{AreMinima}
-use Rattle.textwrap_base.specs.Table.{table}
-use Rattle.textwrap_base.specs.declared.minima.Minimum.{Minimum}
-use Rattle.textwrap_base.specs.declared.minima.table.Entry.{Entry}
-use Rattle.textwrap_base.proofs.Cost.Table.{table-is_table, length-table, entry-table_first}
+use Rattle.std.proofs.lemmas.List.{get_or_read, ext_get_or}
+use Rattle.textwrap_base.proofs.Cost.Table.{entry-table_first, table-is_table, length-table}
 use Rattle.textwrap_base.proofs.Cost.Table.{least_one}
-use Rattle.textwrap_base.specs.Stretches.{no_stretch, AreRising, AreStretches}
-use Rattle.textwrap_base.specs.declared.minima.stretches.Stretch.{Stretch}
+use Rattle.textwrap_base.specs.Stretches.{no_stretch, AreRising}
 
 -- ---- how many binary digits a number has
 
--- a number below 2 ^ k has at most k digits
-digits_most : (most n k : ℕ) → n < 2 ^ k → digits_within most n ≤ k
-digits_most zero n k l = omega arith
-digits_most (suc most) zero k l = omega arith
-digits_most (suc most) (suc n) zero l = absurd (omega arith)
-digits_most (suc most) (suc n) (suc k) l =
-    let half : suc n / 2 < 2 ^ k = omega (arith, pow-suc 2 k) in
-    omega (arith, digits_most most (suc n / 2) k half)
-
--- and k digits are of a number below 2 ^ k
-digits_least : (most n : ℕ) → n ≤ most → n < 2 ^ digits_within most n
-digits_least zero zero l = omega arith
-digits_least zero (suc n) l = absurd (omega arith)
-digits_least (suc most) zero l = omega arith
-digits_least (suc most) (suc n) l = grind (arith, digits_least most (suc n / 2) (omega arith))
-
-below_digits : (n : ℕ) → n < 2 ^ binary_digits n
-below_digits n = digits_least n n (omega arith)
+digits_upto : (a b m n : ℕ) → m ≤ n → n ≤ b → digits_within a m ≤ digits_within b n
+digits_upto zero b m n l within = omega arith
+digits_upto (suc a) b zero n l within = omega arith
+digits_upto (suc a) zero (suc m) n l within = absurd (omega arith)
+digits_upto (suc a) (suc b) (suc m) zero l within = absurd (omega arith)
+digits_upto (suc a) (suc b) (suc m) (suc n) l within =
+    omega (arith, digits_upto a b (suc m / 2) (suc n / 2) (omega arith) (omega arith))
 
 pub digits_mono : (m n : ℕ) → m ≤ n → binary_digits m ≤ binary_digits n
-digits_mono m n l = digits_most m m (binary_digits n) (omega (arith, below_digits n))
-
-digits_half_at : (m n k : ℕ) → m ≤ n / 2 → 0 < n → n < 2 ^ k → binary_digits m + 1 ≤ k
-digits_half_at m n zero l some below = absurd (omega arith)
-digits_half_at m n (suc k) l some below =
-    let half : m < 2 ^ k = omega (arith, pow-suc 2 k) in omega (arith, digits_most m m k half)
+digits_mono m n l = digits_upto m n m n l (omega arith)
 
 -- the half of a number has a digit less
 pub digits_half : (m n : ℕ) → m ≤ n / 2 → 0 < n → binary_digits m + 1 ≤ binary_digits n
-digits_half m n l some = digits_half_at m n (binary_digits n) l some (below_digits n)
+digits_half m zero l some = absurd (omega arith)
+digits_half m (suc n) l some = omega (arith, digits_upto m n m (suc n / 2) l (omega arith))
 
 -- ---- how many steps a search takes
 

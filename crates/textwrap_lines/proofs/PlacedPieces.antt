@@ -303,7 +303,7 @@ module _ (settings : Settings) (splitter : Splitter) (is_later : Bool) (text : L
         record {
           some_spans = omega (arith, ap length are, length-spans 0 0 pieces, tiled-some pieces text tile some);
           measured = subst AreSpans (sym are) (AreSpans-from penalties widths pieces case);
-          suits = rw are (SuitQueue-queue_case span_priced penalties widths _ case);
+          suits = rw are (SuitQueue-queue_case _ case);
         }
 
     -- the lines that the table gives

@@ -6,7 +6,6 @@ use Rattle.textwrap_marked.proofs.Common.{blocks, is_beside, algorithm_of, byte_
 use Rattle.textwrap_marked.proofs.Common.{filled_end, filled_ending, AreOfBlocks, IsOfBlock}
 use Rattle.textwrap_marked.proofs.Common.{IsReflowedBehind, IsReflowedFrom, printed, shown_lines}
 use Rattle.textwrap_marks.specs.declared.options.ReflowOptions.{ReflowOptions}
-use Rattle.textwrap_base.proofs.Common.{priced_at}
 use Rattle.textwrap_base.proofs.Cost.Results.{by_table_one}
 use Rattle.textwrap_base.proofs.Division.Greedy.{greedy_unique}
 use Rattle.textwrap_words.proofs.Common.{Algorithm, Greedy, LeastCost}
@@ -17,8 +16,7 @@ divided-one : (algorithm : Algorithm) (widths : List ℕ) (xs : List WordText)
 divided-one Greedy widths xs lines others one other =
     greedy_unique sizes_of widths xs lines others one other
 divided-one (LeastCost penalties) widths xs lines others one other =
-    by_table_one (λ x. priced_at penalties (sizes_of x)) penalties widths xs lines others one.by_table
-    other.by_table
+    by_table_one _ lines others one.by_table other.by_table
 
 module _ (options : ReflowOptions) (ending : List ℕ) where
   block-one : (stays : Bool) (first : LineText) (lines : List LineText) (text other : List ℕ)

@@ -27,9 +27,9 @@ pub use Rattle.std.specs.List.{join_with_byte, list_all, list_any, onto_first, p
 pub use Rattle.std.specs.List.{range_with_len, repeat, slice_split, starts_with, suffix_len, zip}
 pub use Rattle.std.specs.List.Sorted.{IsNonDecreasing}
 pub use Rattle.std.specs.Option.{option_map}
-pub use Rattle.std.specs.Prelude.{OnOk, unwrap_or, ⊤}
+pub use Rattle.std.specs.Prelude.{chars, encode_utf8, OnOk, unwrap_or, ⊤}
 pub use Rattle.std.specs.Str.{encode_utf8_all, IsAscii}
-pub use Rattle.std.specs.Str.Iter.{char_indices_offset}
+pub use Rattle.std.specs.Str.Iter.{char_indices_offset, char_indices_rest}
 pub use Rattle.std.specs.Str.Lines.{lines}
 pub use Rattle.std.specs.declared.borrow.CowStr.{CowStr}
 pub use denote.Shadow.{shadow}
@@ -69,3 +69,7 @@ pub use Rattle.textwrap_text.specs.Lists.{last}
 pub use Rattle.textwrap_text.specs.LineEnding.{ending_bytes, join_with, line_feed, paragraphs_of}
 pub use Rattle.textwrap_text.specs.LineEnding.{parts_past}
 pub use Rattle.textwrap_text.specs.declared.line_ending.LineEnding.{LineEnding}
+pub use Rattle.textwrap_text.specs.declared.escapes.State.TheVariants.{Text}
+pub use Rattle.textwrap_text.specs.declared.escapes.State.{State}
+pub use Rattle.textwrap_text.specs.Characters.{shown_text}
+pub use Rattle.textwrap_text.specs.CharactersLeft.{characters_left}

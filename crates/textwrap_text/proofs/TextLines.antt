@@ -1,22 +1,22 @@
 -- The lines of a text with their endings, one after another, and the text that they make.
-use Rattle.textwrap_text.proofs.Common.{◌≡◌, ◌≢◌, ℕ, ◌<◌, ◌==◌, Bool, false, List, [], ◌∷◌, ◌++◌}
-use Rattle.textwrap_text.proofs.Common.{None, Some, All, All-weaker, length, map, flat_map, refl}
-use Rattle.textwrap_text.proofs.Common.{ap, ◌∙◌, arith, rules, append_assoc, append-nil}
-use Rattle.textwrap_text.proofs.Common.{length_push, take_at, ne_eqb, join_with_byte, lines}
-use Rattle.textwrap_text.proofs.Common.{nil_from_length, not, not-true, slice_split, length-map}
-use Rattle.textwrap_text.proofs.Common.{subst, sym, cond, last, ◌-◌, cases_Bool, inl, inr, eqb-true}
-use Rattle.textwrap_text.proofs.Common.{eqb-false, All-nil, All-append, All-cons, take_more}
+use Rattle.textwrap_text.proofs.Common.{nil_from_length, join_with_byte, append_assoc, length_push}
+use Rattle.textwrap_text.proofs.Common.{slice_split, All-append, All-weaker, append-nil, cases_Bool}
+use Rattle.textwrap_text.proofs.Common.{length-map, eqb-false, take_more, All-cons, eqb-true, arith}
+use Rattle.textwrap_text.proofs.Common.{flat_map, not-true, All-nil, take_at, length, ne_eqb, false}
+use Rattle.textwrap_text.proofs.Common.{lines, rules, subst, Bool, List, None, Some, cond, last, []}
+use Rattle.textwrap_text.proofs.Common.{refl, ◌++◌, ◌==◌, All, inl, inr, map, not, sym, ◌-◌, ◌<◌, ℕ}
+use Rattle.textwrap_text.proofs.Common.{◌∙◌, ◌∷◌, ◌≡◌, ◌≢◌, ap}
 use Rattle.std.specs.List.{position_or_len, before_first, after_first}
-use Rattle.std.specs.Str.Lines.{lines_of_parts, strip_carriage_return}
+use Rattle.std.specs.Str.Lines.{strip_carriage_return, lines_of_parts}
 use Rattle.std.proofs.Common.{ap₂}
 use Rattle.std.specs.Prelude.{is_some}
 use Rattle.std.proofs.lemmas.Grind.{common_steps}
-use Rattle.std.proofs.lemmas.List.Splits.{slice_split_first, slice_split_none, length-slice_split}
-use Rattle.std.proofs.lemmas.List.Splits.{slice_split_at, join_with_byte-slice_split}
+use Rattle.std.proofs.lemmas.List.Splits.{join_with_byte-slice_split, length-slice_split}
+use Rattle.std.proofs.lemmas.List.Splits.{slice_split_first, slice_split_none, slice_split_at}
 use Rattle.std.proofs.lemmas.List.Sums.{prefix_len_passes}
-use Rattle.textwrap_text.proofs.Lists.Parts.{last-cons, last-push, some_from_nonempty, last-append}
-use Rattle.textwrap_text.specs.TextLines.{EndedLine, ended_lines, ended_lines_of, ended_parts}
-use Rattle.textwrap_text.specs.TextLines.{line_before_feed, with_ending}
+use Rattle.textwrap_text.proofs.Lists.Parts.{some_from_nonempty, last-append, last-cons, last-push}
+use Rattle.textwrap_text.specs.TextLines.{line_before_feed, ended_lines_of, ended_lines, EndedLine}
+use Rattle.textwrap_text.specs.TextLines.{ended_parts, with_ending}
 use Rattle.textwrap_text.specs.declared.line_ending.LineEnding.TheVariants.{CRLF, LF}
 
 abbrev pub is_feed : ℕ → Bool

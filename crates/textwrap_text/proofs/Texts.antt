@@ -1,24 +1,24 @@
 -- Texts of UTF-8: where their characters end, what is left of one that is cut, and whitespace at
 -- its ends.
-use Rattle.textwrap_text.proofs.Common.{◌≡◌, starts_with_length, take-append-drop, IsUtf8-past_char}
-use Rattle.textwrap_text.proofs.Common.{ℕ, arith, get_or, add-one, IsUtf8, take_at, drop_at, ne_eqb}
-use Rattle.textwrap_text.proofs.Common.{◌≤◌, ◌∷◌, sym, ap, ◌∙◌, ◌+◌, suc, ◌<◌, ◌-◌, All, ◌&&◌, List}
-use Rattle.textwrap_text.proofs.Common.{◌++◌, refl, zero, take, drop, true, false, cond, ◌==◌, []}
-use Rattle.textwrap_text.proofs.Common.{cond_both, StartsWith, take_more, and_parts, prefix_len}
-use Rattle.textwrap_text.proofs.Common.{length, append_assoc, length_push, IsUtf8-take, IsUtf8-drop}
-use Rattle.textwrap_text.proofs.Common.{subst, IsCharBoundary-after_ascii, IsCharBoundary-from_take}
-use Rattle.textwrap_text.proofs.Common.{length-append, encodes-chars, chars-IsAscii, length-encode}
-use Rattle.textwrap_text.proofs.Common.{append-nil, encode_utf8_all, IsCharBoundary, encodes-append}
-use Rattle.textwrap_text.proofs.Common.{add-zero, ltb-true, All-head, All-tail, and_from, list_all}
-use Rattle.textwrap_text.proofs.Common.{drop-drop, get_or-drop, length-drop}
+use Rattle.textwrap_text.proofs.Common.{IsCharBoundary-after_ascii, IsCharBoundary-from_take, arith}
+use Rattle.textwrap_text.proofs.Common.{starts_with_length, IsUtf8-past_char, take-append-drop, All}
+use Rattle.textwrap_text.proofs.Common.{encode_utf8_all, IsCharBoundary, encodes-append, StartsWith}
+use Rattle.textwrap_text.proofs.Common.{chars-IsAscii, encodes-chars, length-append, length-encode}
+use Rattle.textwrap_text.proofs.Common.{append_assoc, IsUtf8-drop, IsUtf8-take, get_or-drop, IsUtf8}
+use Rattle.textwrap_text.proofs.Common.{length-drop, length_push, append-nil, prefix_len, and_parts}
+use Rattle.textwrap_text.proofs.Common.{cond_both, drop-drop, take_more, All-head, All-tail, get_or}
+use Rattle.textwrap_text.proofs.Common.{add-zero, and_from, list_all, ltb-true, add-one, drop_at, ℕ}
+use Rattle.textwrap_text.proofs.Common.{take_at, length, ne_eqb, false, subst, List, cond, drop, []}
+use Rattle.textwrap_text.proofs.Common.{refl, take, true, zero, ◌&&◌, ◌++◌, ◌==◌, suc, sym, ◌+◌, ap}
+use Rattle.textwrap_text.proofs.Common.{◌-◌, ◌<◌, ◌∙◌, ◌∷◌, ◌≡◌, ◌≤◌}
 use Rattle.std.proofs.Common.{ltb}
 use Rattle.std.proofs.lemmas.List.{get_or-append-add, get_or_at}
 use lib.Utf8.{encode, scalar}
-use Rattle.std.specs.Str.{all_scalars, chars, skip_leading_whitespace, trim_end}
-use Rattle.std.specs.Str.{drop_trailing_whitespace}
-use Rattle.std.proofs.lemmas.Str.{IsCharBoundary-from_drop, IsCharBoundary-at_seam, scalars-chars}
-use Rattle.std.proofs.lemmas.Str.{encode_ascii, len_utf8_bounds}
-use Rattle.std.specs.Char.{encode_utf8, is_whitespace}
+use Rattle.std.specs.Str.{drop_trailing_whitespace, skip_leading_whitespace, all_scalars, trim_end}
+use Rattle.std.specs.Str.{chars}
+use Rattle.std.proofs.lemmas.Str.{IsCharBoundary-from_drop, IsCharBoundary-at_seam, len_utf8_bounds}
+use Rattle.std.proofs.lemmas.Str.{scalars-chars, encode_ascii}
+use Rattle.std.specs.Char.{is_whitespace, encode_utf8}
 use Rattle.textwrap_text.proofs.Lists.Parts.{nothing-starts, starts-head, starts-tail}
 use Rattle.std.specs.List.{take_while}
 

@@ -1,26 +1,25 @@
 -- The table gives the chosen division, if all lines but the first have one width.
-use Rattle.textwrap_text.proofs.Common.{◌≡◌, suc, List, ◌++◌, take, drop, refl, Bool, true, ℕ}
-use Rattle.textwrap_text.proofs.Common.{take-append-drop, ◌+◌, ◌<◌, ◌≤◌, ◌≢◌, eqb, ◌∷◌, ◌-◌, All}
-use Rattle.textwrap_text.proofs.Common.{sym, ◌∙◌, ap, map, [], append_assoc, length, add-zero}
-use Rattle.textwrap_text.proofs.Common.{flat_map, nat_tests, get_or, reverse, take_at, drop_at}
-use Rattle.textwrap_text.proofs.Common.{arith, zero-add, eq-eqb, drop-drop, drop_split, length-drop}
-use Rattle.textwrap_text.proofs.Common.{slice_range, length-append, length-take-le, All-head}
-use Rattle.textwrap_text.proofs.Common.{All-tail, All-cons, take_all, length-map}
-use Rattle.textwrap_base.proofs.Common.{Sizes, AreEqualFromSecond, last_break_penalty, FollowStarts}
-use Rattle.textwrap_base.proofs.Common.{division_cost, closed_width, IsByTable, priced_at}
-use Rattle.textwrap_base.proofs.Common.{line_width, PricedSizes, fragments_table, entry_at}
-use Rattle.textwrap_base.proofs.Common.{IsDivision, line_cost, line_costs, AreNoLater, problem_by}
+use Rattle.textwrap_text.proofs.Common.{take-append-drop, length-take-le, length-append, drop_split}
+use Rattle.textwrap_text.proofs.Common.{append_assoc, length-drop, slice_range, length-map, drop_at}
+use Rattle.textwrap_text.proofs.Common.{drop-drop, nat_tests, All-cons, All-head, All-tail, reverse}
+use Rattle.textwrap_text.proofs.Common.{add-zero, flat_map, take_all, zero-add, take_at, eq-eqb, []}
+use Rattle.textwrap_text.proofs.Common.{get_or, length, arith, Bool, List, drop, refl, take, true}
+use Rattle.textwrap_text.proofs.Common.{◌++◌, All, eqb, map, suc, sym, ◌+◌, ◌-◌, ◌<◌, ◌∙◌, ◌∷◌, ◌≡◌}
+use Rattle.textwrap_text.proofs.Common.{◌≢◌, ◌≤◌, ap, ℕ}
+use Rattle.textwrap_base.proofs.Common.{AreEqualFromSecond, last_break_penalty, fragments_table}
+use Rattle.textwrap_base.proofs.Common.{division_cost, FollowStarts, closed_width, PricedSizes}
+use Rattle.textwrap_base.proofs.Common.{IsDivision, line_costs, line_width, problem_by, IsByTable}
+use Rattle.textwrap_base.proofs.Common.{Penalties, line_cost, priced_at, entry_at, Problem, Sizes}
+use Rattle.textwrap_base.proofs.Common.{table}
 use mathlib.Core.List.{reverse_aux}
-use Rattle.textwrap_base.specs.Cost.{lines_cost, starts_from, IsChosen}
-use Rattle.textwrap_base.specs.declared.penalties.Penalties.{Penalties}
-use Rattle.textwrap_text.proofs.Lists.Parts.{length-slice, some_from_nonempty, take_slice}
-use Rattle.textwrap_base.proofs.Cost.Table.{AreStarts, starts_cost, FollowBack, IsSteady}
-use Rattle.textwrap_base.proofs.Cost.Table.{table_starts, table_least, table_followed}
-use Rattle.textwrap_base.proofs.Cost.Table.{table_earliest, table-is_table, start-at}
+use Rattle.textwrap_base.specs.Cost.{starts_from, lines_cost, IsChosen}
+use Rattle.textwrap_text.proofs.Lists.Parts.{some_from_nonempty, length-slice, take_slice}
+use Rattle.textwrap_base.proofs.Cost.Table.{table-is_table, table_earliest, table_followed}
+use Rattle.textwrap_base.proofs.Cost.Table.{table_starts, starts_cost, table_least, FollowBack}
+use Rattle.textwrap_base.proofs.Cost.Table.{AreStarts, IsSteady, start-at}
 use Rattle.textwrap_base.proofs.Division.Greedy.{division_one, closed-take}
-use Rattle.textwrap_base.specs.Algorithms.{Algorithm, Greedy, LeastCost, IsDividedBy}
+use Rattle.textwrap_base.specs.Algorithms.{IsDividedBy, Algorithm, LeastCost, Greedy}
 use Rattle.std.proofs.lemmas.Simd.{map-map}
-use Rattle.textwrap_base.specs.Table.{table}
 use Rattle.textwrap_base.specs.OptimalFit.{IsByOptimalFit}
 use Rattle.textwrap_base.proofs.Cost.LineCosts.{line_costs-map}
 
@@ -64,30 +63,27 @@ follow_of_lines starts [] at before f b = rw add-zero b
 follow_of_lines starts (line ∷ lines) at before (f, fs) b = rw (← joined-more at line lines)
     (follow_of_lines starts lines (at + length line) (at ∷ before) fs (f, b))
 
-module _ {X : Type 0} (priced : X → PricedSizes) (penalties : Penalties) (widths : List ℕ)
-    (xs : List X) where
-  pub cost_of_lines : (lines : List (List X)) (rest : List X) (at : ℕ) (before : List ℕ)
-      → drop at xs ≡ joined lines ++ rest
-      → starts_cost (reverse_aux (starts_from at lines) before)
-      (line_costs (problem_by priced penalties widths xs)) (at + length (joined lines))
-      ≡ starts_cost before (line_costs (problem_by priced penalties widths xs)) at
-      + lines_cost (problem_by priced penalties widths xs) (length before) at lines
-  cost_of_lines [] rest at before is = simp add-zero
-  cost_of_lines (line ∷ lines) rest at before is =
-      let shape = is ∙ append_assoc line (joined lines) rest in
-      let next : drop (at + length line) xs ≡ joined lines ++ rest =
-      sym (drop-drop (length line) at xs) ∙ ap (drop (length line)) shape
-      ∙ drop_at line (joined lines ++ rest) (length line) refl in
-      let len : length line ≡ at + length line - at = omega arith in
-      let slice = ap (take (at + length line - at)) shape
-      ∙ take_at line (joined lines ++ rest) (at + length line - at) len in
-      let more = cost_of_lines lines rest (at + length line) (at ∷ before) next in
-      let cost = ap (line_cost priced penalties (line_width widths (length before))
-      (eqb (at + length line) (length xs))) slice in
-      let number = ap (λ m. lines_cost (problem_by priced penalties widths xs) m
-      (at + length line) lines) (let q : suc (length before) ≡ length before + 1 =
-      omega arith in q) in
-      rw (← joined-more at line lines) (more ∙ (omega (arith, cost, number)))
+pub cost_of_lines : {X : Type 0} (problem : Problem X) (lines : List (List X)) (rest : List X)
+    (at : ℕ) (before : List ℕ) → drop at problem.fragments ≡ joined lines ++ rest
+    → starts_cost (reverse_aux (starts_from at lines) before) (line_costs problem)
+    (at + length (joined lines))
+    ≡ starts_cost before (line_costs problem) at + lines_cost problem (length before) at lines
+cost_of_lines problem [] rest at before is = simp add-zero
+cost_of_lines problem (line ∷ lines) rest at before is =
+    let shape = is ∙ append_assoc line (joined lines) rest in
+    let next : drop (at + length line) problem.fragments ≡ joined lines ++ rest =
+    sym (drop-drop (length line) at problem.fragments) ∙ ap (drop (length line)) shape
+    ∙ drop_at line (joined lines ++ rest) (length line) refl in
+    let len : length line ≡ at + length line - at = omega arith in
+    let slice = ap (take (at + length line - at)) shape
+    ∙ take_at line (joined lines ++ rest) (at + length line - at) len in
+    let more = cost_of_lines problem lines rest (at + length line) (at ∷ before) next in
+    let cost = ap (line_cost problem.priced problem.penalties
+    (line_width problem.widths (length before))
+    (eqb (at + length line) (length problem.fragments))) slice in
+    let number = ap (λ m. lines_cost problem m (at + length line) lines)
+    (let q : suc (length before) ≡ length before + 1 = omega arith in q) in
+    rw (← joined-more at line lines) (more ∙ (omega (arith, cost, number)))
 
 -- one line more in front
 pub lines_more : {X : Type 0} (fragments : List X) (starts : List ℕ) (lines : List (List X))
@@ -102,10 +98,9 @@ lines_more fragments starts lines start end below within at tiles some follow =
 
 -- ---- divisions of a prefix, where all lines but the first have one width
 
-pub line_costs-steady : {X : Type 0} (priced : X → PricedSizes) (penalties : Penalties)
-    (widths : List ℕ) (xs : List X) → AreEqualFromSecond widths
-    → IsSteady (line_costs (problem_by priced penalties widths xs))
-line_costs-steady priced penalties widths xs h i j l m p q = grind (arith, nat_tests)
+pub line_costs-steady : {X : Type 0} (problem : Problem X) → AreEqualFromSecond problem.widths
+    → IsSteady (line_costs problem)
+line_costs-steady problem h i j l m p q = grind (arith, nat_tests)
 
 module _ {X : Type 0} (xs : List X) (lines : List (List X)) (j : ℕ) (l : j ≤ length xs)
     (e : joined lines ≡ take j xs) where
@@ -115,19 +110,17 @@ module _ {X : Type 0} (xs : List X) (lines : List (List X)) (j : ℕ) (l : j ≤
   pub begin_starts : All (λ line. line ≢ []) lines → AreStarts (starts_back lines) j
   begin_starts some = rw length_begun at (starts_of_lines lines 0 [] some refl)
 
-  pub begin_cost : (priced : X → PricedSizes) (penalties : Penalties) (widths : List ℕ)
-      → starts_cost (starts_back lines) (line_costs (problem_by priced penalties widths xs)) j
-      ≡ division_cost (problem_by priced penalties widths xs) lines
-  begin_cost priced penalties widths =
-      let c = cost_of_lines priced penalties widths xs lines (drop j xs) 0 []
-      (sym (take-append-drop j xs) ∙ ap (λ l. l ++ drop j xs) (sym e)) in
-      let k = ap (starts_cost (starts_back lines)
-      (line_costs (problem_by priced penalties widths xs)))
-      length_begun in omega (arith, c, k)
-
   pub begin_follow : (starts : List ℕ) → FollowStarts starts 0 lines
       → FollowBack (starts_back lines) starts j
   begin_follow starts f = rw length_begun at (follow_of_lines starts lines 0 [] f tt)
+
+pub begin_cost : {X : Type 0} (problem : Problem X) (lines : List (List X)) (j : ℕ)
+    → j ≤ length problem.fragments → joined lines ≡ take j problem.fragments
+    → starts_cost (starts_back lines) (line_costs problem) j ≡ division_cost problem lines
+begin_cost problem lines j l e =
+    let xs = problem.fragments in
+    rw (length_begun xs lines j l e, zero-add) at (cost_of_lines problem lines (drop j xs) 0 []
+    (sym (take-append-drop j xs) ∙ ap (λ l. l ++ drop j xs) (sym e)))
 
 -- ---- the lines of given starts
 
@@ -141,8 +134,7 @@ pub joined_after : {X : Type 0} (starts : List ℕ) (xs : List X) (j : ℕ) (aft
 joined_after [] xs j after l h = rw h refl
 joined_after (i ∷ rest) xs j after l (h, hs) =
     joined_after rest xs i (slice_range xs i j ∷ after) (omega arith) hs
-    ∙ sym (append_assoc (take i xs) (slice_range xs i j) (joined after))
-    ∙ ap (λ l. l ++ joined after) (sym (take_slice xs i j (omega arith)))
+    ∙ rw (take_slice xs i j (omega arith)) (sym (append_assoc (take i xs) (slice_range xs i j) _))
 
 pub some_after : {X : Type 0} (starts : List ℕ) (xs : List X) (j : ℕ) (after : List (List X))
     → j ≤ length xs → AreStarts starts j → All (λ line. line ≢ []) after
@@ -154,15 +146,13 @@ some_after (i ∷ rest) xs j after l (h, hs) some =
     some_after rest xs i (slice_range xs i j ∷ after) (omega arith) hs
     (All-cons (λ line. line ≢ []) (slice_range xs i j) after nonempty some)
 
-pub cost_after_starts : {X : Type 0} (priced : X → PricedSizes) (penalties : Penalties)
-    (widths : List ℕ) (starts : List ℕ) (xs : List X) (j : ℕ) (after : List (List X))
-    → j ≤ length xs → AreStarts starts j
-    → lines_cost (problem_by priced penalties widths xs) 0 0 (lines_after starts xs j after)
-    ≡ starts_cost starts (line_costs (problem_by priced penalties widths xs)) j
-    + lines_cost (problem_by priced penalties widths xs) (length starts) j after
-cost_after_starts priced penalties widths [] xs j after l h = rw h (omega arith)
-cost_after_starts priced penalties widths (i ∷ rest) xs j after l (h, hs) =
-    let again = cost_after_starts priced penalties widths rest xs i (slice_range xs i j ∷ after)
+pub cost_after_starts : {X : Type 0} (problem : Problem X) (starts : List ℕ) (j : ℕ)
+    (after : List (List X)) → j ≤ length problem.fragments → AreStarts starts j
+    → lines_cost problem 0 0 (lines_after starts problem.fragments j after)
+    ≡ starts_cost starts (line_costs problem) j + lines_cost problem (length starts) j after
+cost_after_starts problem [] j after l h = rw h (omega arith)
+cost_after_starts problem (i ∷ rest) j after l (h, hs) =
+    let again = cost_after_starts problem rest i (slice_range problem.fragments i j ∷ after)
     (omega arith) hs in
     grind (arith, length-slice)
 
@@ -173,54 +163,54 @@ pub whole : {X : Type 0} (xs : List X) (lines : List (List X)) → 0 < length xs
     → (joined lines ≡ take (length xs) xs) × All (λ line. line ≢ []) lines
 whole xs lines p h = grind (arith, division_joined, take_all)
 
-module _ {X : Type 0} (priced : X → PricedSizes) (penalties : Penalties) (widths : List ℕ)
-    (xs : List X) where
+module _ {X : Type 0} (problem : Problem X) where
   -- what the table says that the first fragments cost
   abbrev pub cost_at : ℕ → ℕ
-  cost_at j = (entry_at (fragments_table (problem_by priced penalties widths xs)) j).cost
-
-  -- what lines cost of which the last may be the last of all
-  abbrev pub cost_of : List (List X) → ℕ
-  cost_of lines = division_cost (problem_by priced penalties widths xs) lines
+  cost_at j = (entry_at (fragments_table problem) j).cost
 
   -- no division of a prefix costs less than its entry says
-  pub begin-least : (others : List (List X)) (j : ℕ) → j ≤ length xs → AreEqualFromSecond widths
-      → joined others ≡ take j xs → All (λ line. line ≢ []) others → cost_at j ≤ cost_of others
+  pub begin-least : (others : List (List X)) (j : ℕ) → j ≤ length problem.fragments
+      → AreEqualFromSecond problem.widths → joined others ≡ take j problem.fragments
+      → All (λ line. line ≢ []) others → cost_at j ≤ division_cost problem others
   begin-least others j l equal tiles some =
-      let cost = begin_cost xs others j l tiles priced penalties widths in
+      let cost = begin_cost problem others j l tiles in
       grind (arith, table_least, line_costs-steady, begin_starts)
 
-  module _ (lines : List (List X)) (p : 0 < length xs) (equal : AreEqualFromSecond widths)
-      (by : IsByTable (problem_by priced penalties widths xs) lines) where
-    begins : AreStarts (starts_back lines) (length xs)
-    begins =
-        let (tiles, some) = whole xs lines p by.division in
-        begin_starts xs lines (length xs) (omega arith) tiles some
+  module _ (lines : List (List X)) (p : 0 < length problem.fragments)
+      (equal : AreEqualFromSecond problem.widths) (by : IsByTable problem lines) where
+    abbrev all : ℕ
+    all = length problem.fragments
 
-    follows : FollowBack (starts_back lines)
-        (table_starts (line_costs (problem_by priced penalties widths xs)) (length xs)) (length xs)
-    follows =
-        begin_follow xs lines (length xs) (omega arith) (whole xs lines p by.division).0 _ by.starts
+    begins : (others : List (List X)) → IsDivision problem.fragments others
+        → AreStarts (starts_back others) all
+    begins others o =
+        let (tiles, some) = whole problem.fragments others p o in
+        begin_starts problem.fragments others all (omega arith) tiles some
+
+    follows : FollowBack (starts_back lines) (table_starts (line_costs problem) all) all
+    follows = begin_follow problem.fragments lines all (omega arith)
+        (whole problem.fragments lines p by.division).0 _ by.starts
+
+    -- a division costs what its starts do
+    costs_starts : (others : List (List X)) → IsDivision problem.fragments others
+        → starts_cost (starts_back others) (line_costs problem) all ≡ division_cost problem others
+    costs_starts others o = begin_cost problem others all (omega arith) (whole problem.fragments others p o).0
 
     -- the division by the table costs what its last entry says
-    by_table-cost : cost_of lines ≡ cost_at (length xs)
-    by_table-cost =
-        sym (begin_cost xs lines (length xs) (omega arith) (whole xs lines p by.division).0 priced
-        penalties widths)
-        ∙ table_followed (line_costs (problem_by priced penalties widths xs)) (length xs)
-        (line_costs-steady priced penalties widths xs equal)
-        (starts_back lines) (length xs) (omega arith) begins follows
+    by_table-cost : division_cost problem lines ≡ cost_at all
+    by_table-cost = sym (costs_starts lines by.division)
+        ∙ table_followed _ all (line_costs-steady problem equal) _ all (omega arith)
+        (begins lines by.division) follows
 
-    chosen-earliest : (others : List (List X)) → IsDivision xs others
-        → cost_of others ≡ cost_of lines → AreNoLater (starts_back lines) (starts_back others)
-    chosen-earliest others o same =
-        let (tiles, some) = whole xs others p o in
-        table_earliest (line_costs (problem_by priced penalties widths xs)) (length xs)
-        (line_costs-steady priced penalties widths xs equal)
-        (starts_back lines) (starts_back others) (length xs) (omega arith) begins follows
-        (begin_starts xs others (length xs) (omega arith) tiles some)
-        (begin_cost xs others (length xs) (omega arith) tiles priced penalties widths ∙ same
-        ∙ by_table-cost)
+    by_table-is_chosen : IsChosen problem lines
+    by_table-is_chosen = record {
+      division = by.division;
+      least = λ others o.
+          let (tiles, some) = whole problem.fragments others p o in
+          rw by_table-cost (begin-least others all (omega arith) equal tiles some);
+      earliest = λ others o same. table_earliest _ all (line_costs-steady problem equal) _ _ all
+          (omega arith) (begins lines by.division) follows (begins others o) (costs_starts others o ∙ same ∙ by_table-cost);
+    }
 
 pub by_table-chosen : {X : Type 0} (priced : X → PricedSizes) (penalties : Penalties)
     (widths : List ℕ) (xs : List X) (lines : List (List X)) → AreEqualFromSecond widths
@@ -228,16 +218,7 @@ pub by_table-chosen : {X : Type 0} (priced : X → PricedSizes) (penalties : Pen
     → IsChosen (problem_by priced penalties widths xs) lines
 by_table-chosen priced penalties widths [] lines equal h = grind arith
 by_table-chosen priced penalties widths (x ∷ xs) lines equal h =
-    let p : 0 < length (x ∷ xs) = omega arith in
-    let cost = by_table-cost priced penalties widths (x ∷ xs) lines p equal h in
-    record {
-      division = h.division;
-      least = λ others o.
-          let (tiles, some) = whole (x ∷ xs) others p o in
-          let least = begin-least priced penalties widths (x ∷ xs) others (length (x ∷ xs))
-          (omega arith) equal tiles some in omega (arith, cost, least);
-      earliest = chosen-earliest priced penalties widths (x ∷ xs) lines p equal h;
-    }
+    by_table-is_chosen (problem_by priced penalties widths (x ∷ xs)) lines (omega arith) equal h
 
 -- ---- fragments without penalties, for which the first line has room, are one line at the least
 -- cost
@@ -256,23 +237,23 @@ module _ {X : Type 0} (priced : X → PricedSizes) (penalties : Penalties) where
   line_cost-one width (x ∷ []) two none room = absurd (omega arith)
   line_cost-one width (x ∷ y ∷ line) two none room = grind (arith, nat_tests, none, room)
 
-module _ {X : Type 0} (priced : X → PricedSizes) (penalties : Penalties) (widths : List ℕ)
-    (xs : List X) (none : last_break_penalty priced xs ≡ 0)
-    (room : closed_width (λ x. (priced x).sizes) xs ≤ line_width widths 0) where
-  abbrev costs : ℕ → ℕ → ℕ → ℕ
-  costs = line_costs (problem_by priced penalties widths xs)
-
-  cost_from : (i number : ℕ) → i < length xs → penalties.nline_penalty ≤ costs i (length xs) number
+module _ {X : Type 0} (problem : Problem X)
+    (none : last_break_penalty problem.priced problem.fragments ≡ 0)
+    (room : closed_width (λ x. (problem.priced x).sizes) problem.fragments
+    ≤ line_width problem.widths 0) where
+  cost_from : (i number : ℕ) → i < length problem.fragments
+      → problem.penalties.nline_penalty ≤ line_costs problem i (length problem.fragments) number
   cost_from i number within = grind (arith, line_cost-some, length-take-le, length-drop)
 
   -- the table's last line starts first: a later start would have to be cheaper
-  last_start : get_or (table_starts costs (length xs)) (length xs) 0 ≡ 0
+  last_start : get_or (table_starts (line_costs problem) (length problem.fragments))
+      (length problem.fragments) 0 ≡ 0
   last_start =
-      let entries = fragments_table (problem_by priced penalties widths xs) in
-      let table = table-is_table costs (length xs) in
+      let entries = fragments_table problem in
+      let table = table-is_table (line_costs problem) (length problem.fragments) in
       grind (arith, start-at, eq-eqb, take_all, line_cost-one, cost_from)
 
-  by_table_one : IsByTable (problem_by priced penalties widths xs) (xs ∷ [])
+  by_table_one : IsByTable problem (problem.fragments ∷ [])
   by_table_one = search (division_one, zero-add, last_start)
 
 last-none : {X : Type 0} (penalties : Penalties) (sizes : X → Sizes) (xs : List X)
@@ -298,10 +279,9 @@ module _ {X Y : Type 0} (f : X → Y) (priced : Y → PricedSizes) where
       → fragments_table (problem_by (λ x. priced (f x)) penalties widths xs)
       ≡ fragments_table (problem_by priced penalties widths (map f xs))
   fragments_table-map penalties widths xs = ap (λ cost. table cost (length xs))
-      (sym (line_costs-map (λ x. priced (f x)) penalties widths xs)
+      (sym (line_costs-map (problem_by (λ x. priced (f x)) penalties widths xs))
       ∙ ap (λ ps. line_costs (problem_by (λ (s : PricedSizes). s) penalties widths ps))
-      (sym (map-map priced f xs))
-      ∙ line_costs-map priced penalties widths (map f xs))
+      (sym (map-map priced f xs)) ∙ line_costs-map (problem_by priced penalties widths (map f xs)))
       ∙ ap (table (line_costs (problem_by priced penalties widths (map f xs))))
       (sym (length-map xs f))
 

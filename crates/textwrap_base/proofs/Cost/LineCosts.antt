@@ -1,23 +1,20 @@
 -- What one line costs: its gap, its slices, its sizes, its bounds, and that line costs are convex.
-use Rattle.textwrap_text.proofs.Common.{◌≡◌, ℕ, zero, suc, ◌+◌, ◌-◌, ◌*◌, ◌≤◌, false, refl, ◌∙◌}
-use Rattle.textwrap_text.proofs.Common.{add-zero, arith, cases_lt, nat_tests, ◌<◌, Bool, eqb, List}
-use Rattle.textwrap_text.proofs.Common.{[], ◌∷◌, ◌++◌, length, get_or, take, slice_range, max, sym}
-use Rattle.textwrap_text.proofs.Common.{ap, map, length-map, sum_by-cons, All, subst, take-map}
-use Rattle.textwrap_text.proofs.Common.{get_or-map, All-head, All-tail, All-map, rules}
-use Rattle.textwrap_base.proofs.Common.{fit_cost, Sizes, closed_width, open_width, PricedSizes}
-use Rattle.textwrap_base.proofs.Common.{last_break_penalty, line_cost, total_width, line_costs}
-use Rattle.textwrap_base.proofs.Common.{measured, AreAtMost, line_width, NeverFalls, fragment_costs}
-use Rattle.textwrap_base.proofs.Common.{problem_by}
-use Rattle.textwrap_base.specs.declared.penalties.Penalties.{Penalties}
-use Rattle.textwrap_base.proofs.Division.Greedy.{open_width-append, closed_width-push}
+use Rattle.textwrap_text.proofs.Common.{slice_range, sum_by-cons, get_or-map, length-map, nat_tests}
+use Rattle.textwrap_text.proofs.Common.{All-head, All-tail, add-zero, cases_lt, take-map, All-map}
+use Rattle.textwrap_text.proofs.Common.{get_or, length, arith, false, rules, subst, Bool, List, All}
+use Rattle.textwrap_text.proofs.Common.{refl, take, zero, ◌++◌, eqb, map, max, suc, sym, ◌*◌, ◌+◌}
+use Rattle.textwrap_text.proofs.Common.{◌-◌, ◌<◌, ◌∙◌, ◌∷◌, ◌≡◌, ◌≤◌, [], ap, ℕ}
+use Rattle.textwrap_base.proofs.Common.{last_break_penalty, fragment_costs, closed_width, AreAtMost}
+use Rattle.textwrap_base.proofs.Common.{PricedSizes, total_width, NeverFalls, line_costs, AreConvex}
+use Rattle.textwrap_base.proofs.Common.{line_width, open_width, problem_by, Penalties, line_cost}
+use Rattle.textwrap_base.proofs.Common.{fit_cost, measured, Measure, Problem, Sizes}
+use Rattle.textwrap_base.proofs.Division.Greedy.{closed_width-push, open_width-append}
 use Rattle.textwrap_base.proofs.Division.Greedy.{closed_width-map}
-use Rattle.textwrap_text.proofs.Lists.Parts.{take_slice, slice_push, length-slice}
+use Rattle.textwrap_text.proofs.Lists.Parts.{length-slice, slice_push, take_slice}
 use mathlib.Core.Path.{fun_ext}
 use Rattle.std.proofs.lemmas.List.Sums.{sum_by-take-le}
 use Rattle.std.proofs.Math.Nat.{mul-le-mul}
-use Rattle.textwrap_base.specs.declared.minima.line_costs.Measure.{Measure}
 use Rattle.textwrap_text.proofs.Numbers.{if_le}
-use Rattle.textwrap_base.specs.Queue.{AreConvex}
 use Rattle.std.proofs.lemmas.List.{drop-map}
 
 -- ---- what it costs to miss the target
@@ -130,19 +127,18 @@ line_cost-map priced penalties width is_last [] = refl
 line_cost-map priced penalties width is_last (x ∷ line) =
     grind (arith, closed_width-map, last_break_penalty-map, length-map)
 
-pub line_costs-at : {X : Type 0} (priced : X → PricedSizes) (penalties : Penalties)
-    (widths : List ℕ) (xs : List X) (i j number : ℕ)
-    → line_costs (problem_by (λ (s : PricedSizes). s) penalties widths (map priced xs)) i j number
-    ≡ line_costs (problem_by priced penalties widths xs) i j number
-line_costs-at priced penalties widths xs i j number = search (length-map, drop-map, take-map, line_cost-map)
+-- the problem of the priced sizes alone
+abbrev pub priced_alone : {X : Type 0} → Problem X → Problem PricedSizes
+priced_alone p = problem_by (λ s. s) p.penalties p.widths (map p.priced p.fragments)
+
+pub line_costs-at : {X : Type 0} (problem : Problem X) (i j number : ℕ)
+    → line_costs (priced_alone problem) i j number ≡ line_costs problem i j number
+line_costs-at problem i j number = search (length-map, drop-map, take-map, line_cost-map)
 
 -- the costs of the priced sizes are those of the fragments
-pub line_costs-map : {X : Type 0} (priced : X → PricedSizes) (penalties : Penalties)
-    (widths : List ℕ) (xs : List X)
-    → line_costs (problem_by (λ (s : PricedSizes). s) penalties widths (map priced xs))
-    ≡ line_costs (problem_by priced penalties widths xs)
-line_costs-map priced penalties widths xs = fun_ext (λ i. fun_ext (λ j. fun_ext
-    (λ number. line_costs-at priced penalties widths xs i j number)))
+pub line_costs-map : {X : Type 0} (problem : Problem X)
+    → line_costs (priced_alone problem) ≡ line_costs problem
+line_costs-map problem = fun_ext (λ i. fun_ext (λ j. fun_ext (line_costs-at problem i j)))
 
 -- ---- what one line costs at most, where its numbers keep to a limit
 
@@ -215,36 +211,41 @@ closed_width-rises sizes xs rising j zero some l = rw add-zero (omega arith)
 closed_width-rises sizes xs rising j (suc more) some l =
     grind (arith, closed_width-rises sizes xs rising j more some (omega arith))
 
-module _ {X : Type 0} (priced : X → PricedSizes) (penalties : Penalties) (widths : List ℕ)
-    (xs : List X) where
-  abbrev sizes : X → Sizes
-  sizes x = (priced x).sizes
+some_element : {X : Type 0} (xs : List X) → 0 < length xs → X
+some_element [] some = absurd (omega arith)
+some_element (x ∷ xs) some = x
+
+module _ {X : Type 0} (problem : Problem X) where
+  abbrev closed : ℕ → ℕ
+  closed j = closed_width (λ x. (problem.priced x).sizes) (take j problem.fragments)
+
+  abbrev opened : ℕ → ℕ
+  opened i = open_width (λ x. (problem.priced x).sizes) (take i problem.fragments)
 
   -- a line that does not end all fragments, by its closed width and its last fragment
-  line_costs-inner : (i j number : ℕ) (d : X) → i < j → j < length xs
-      → line_costs (problem_by priced penalties widths xs) i j number
-      ≡ penalties.nline_penalty + gap_cost penalties (max (line_width widths number) 1)
-      (closed_width sizes (take j xs) - open_width sizes (take i xs)) +
-      (priced (get_or xs (j - 1) d)).break_penalty
+  line_costs-inner : (i j number : ℕ) (d : X) → i < j → j < length problem.fragments
+      → line_costs problem i j number
+      ≡ problem.penalties.nline_penalty
+      + gap_cost problem.penalties (max (line_width problem.widths number) 1) (closed j - opened i)
+      + (problem.priced (get_or problem.fragments (j - 1) d)).break_penalty
   line_costs-inner i j number d h l = grind (arith, nat_tests, closed_width-prefix, line_cost-slice)
 
-  line_costs-convex : X → NeverFalls sizes xs
-      → AreConvex (fragment_costs (problem_by priced penalties widths xs))
-  line_costs-convex x rising a b c d some ab bc cd within =
-      let closed = closed_width sizes (take c xs) - open_width sizes (take b xs) in
-      let u = open_width sizes (take b xs) - open_width sizes (take a xs) in
-      let v = closed_width sizes (take d xs) - closed_width sizes (take c xs) in
-      let before = open_width-slice sizes xs a b (omega arith) in
-      let first = closed_width-prefix sizes xs b c x bc (omega arith) in
+  pub AreConvex-rising : NeverFalls (λ x. (problem.priced x).sizes) problem.fragments
+      → AreConvex (fragment_costs problem)
+  AreConvex-rising rising a b c d some ab bc cd within =
+      let x = some_element problem.fragments (omega arith) in
+      let sizes : X → Sizes = λ x. (problem.priced x).sizes in
+      let between = closed c - opened b in
+      let u = opened b - opened a in
+      let v = closed d - closed c in
+      let before = open_width-slice sizes problem.fragments a b (omega arith) in
+      let first = closed_width-prefix sizes problem.fragments b c x bc (omega arith) in
       let to_end : c + (d - c) ≡ d = omega arith in
-      let rise = rw to_end at (closed_width-rises sizes xs rising c (d - c) (omega arith)
-      (omega arith)) in
-      let ac : closed_width sizes (take c xs) - open_width sizes (take a xs) ≡ closed + u =
-      omega (arith, before, first, rise) in
-      let bd : closed_width sizes (take d xs) - open_width sizes (take b xs) ≡ closed + v =
-      omega (arith, before, first, rise) in
-      let ad : closed_width sizes (take d xs) - open_width sizes (take a xs) ≡ closed + u + v =
-      omega (arith, before, first, rise) in
+      let rise = rw to_end at (closed_width-rises sizes problem.fragments rising c (d - c)
+      (omega arith) (omega arith)) in
+      let ac : closed c - opened a ≡ between + u = omega (arith, before, first, rise) in
+      let bd : closed d - opened b ≡ between + v = omega (arith, before, first, rise) in
+      let ad : closed d - opened a ≡ between + u + v = omega (arith, before, first, rise) in
       rw (
         line_costs-inner a c 1 x (omega arith) (omega arith),
         line_costs-inner b d 1 x (omega arith) (omega arith),
@@ -254,12 +255,4 @@ module _ {X : Type 0} (priced : X → PricedSizes) (penalties : Penalties) (widt
         bd,
         ad,
       )
-      (omega (arith, gap_cost-convex penalties (max (line_width widths 1) 1) closed u v))
-
-pub AreConvex-rising : {X : Type 0} (priced : X → PricedSizes) (penalties : Penalties)
-    (widths : List ℕ) (xs : List X) → NeverFalls (λ x. (priced x).sizes) xs
-    → AreConvex (fragment_costs (problem_by priced penalties widths xs))
-AreConvex-rising priced penalties widths [] rising a b c d some ab bc cd within =
-    absurd (omega arith)
-AreConvex-rising priced penalties widths (x ∷ xs) rising a b c d some ab bc cd within =
-    line_costs-convex priced penalties widths (x ∷ xs) x rising a b c d some ab bc cd within
+      (omega (arith, gap_cost-convex problem.penalties (max (line_width problem.widths 1) 1) between u v))

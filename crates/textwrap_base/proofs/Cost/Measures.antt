@@ -1,15 +1,13 @@
 -- Running sums of the widths of fragments, and what lines take and cost by them.
-use Rattle.textwrap_text.proofs.Common.{◌≡◌, ℕ, ◌+◌, ◌-◌, ◌^◌, ◌<◌, ◌≤◌, List, length, get_or, take}
-use Rattle.textwrap_text.proofs.Common.{map, slice_range, sym, ◌∙◌, ap, arith, length-map}
-use Rattle.textwrap_base.proofs.Common.{Sizes, closed_width, open_width, PricedSizes, total_width}
-use Rattle.textwrap_base.proofs.Common.{measured, fragment_costs, problem_by}
-use Rattle.std.proofs.Common.{sum, sum_by}
-use Rattle.std.proofs.lemmas.List.Sums.{sum-map, sum_by_more_le_part}
+use Rattle.textwrap_text.proofs.Common.{slice_range, length-map, get_or, length, arith, List, take}
+use Rattle.textwrap_text.proofs.Common.{map, sym, ◌+◌, ◌-◌, ◌<◌, ◌^◌, ◌∙◌, ◌≡◌, ◌≤◌, ap, ℕ}
+use Rattle.textwrap_base.proofs.Common.{fragment_costs, closed_width, PricedSizes, total_width}
+use Rattle.textwrap_base.proofs.Common.{open_width, measured, Measure, Problem, Sizes}
+use Rattle.std.proofs.Common.{sum_by, sum}
+use Rattle.std.proofs.lemmas.List.Sums.{sum_by_more_le_part, sum-map}
 use Rattle.std.proofs.lemmas.Simd.{map-map}
 use Rattle.textwrap_base.specs.Measured.{AreMeasured}
-use Rattle.textwrap_base.specs.declared.minima.line_costs.Measure.{Measure}
-use Rattle.textwrap_base.specs.declared.penalties.Penalties.{Penalties}
-use Rattle.textwrap_base.proofs.Cost.LineCosts.{open_width-slice, closed_width-slice}
+use Rattle.textwrap_base.proofs.Cost.LineCosts.{closed_width-slice, open_width-slice, priced_alone}
 use Rattle.textwrap_base.proofs.Cost.LineCosts.{line_costs-map}
 
 abbrev pub measured_sizes : Measure → Sizes
@@ -36,9 +34,7 @@ pub takes_by_sums : {X : Type 0} {priced : X → PricedSizes} {opens closes : X 
     {i j : ℕ} {first last : X} → AreMeasured priced opens closes xs → i < j → j ≤ length xs
     → first ≡ get_or xs i first → last ≡ get_or xs (j - 1) last
     → TakesBySums (λ x. (priced x).sizes) (opens first) (closes last) (slice_range xs i j)
-takes_by_sums {X = X} {priced = priced} {opens = opens} {closes = closes} {xs = xs} {i = i} {j = j}
-    {first = first} {last = last} measured ordered within is_first is_last =
-    grind (arith, open_width-slice, open_width-total, closed_width-slice)
+takes_by_sums measured ordered within is_first is_last = grind (arith, open_width-slice, open_width-total, closed_width-slice)
 
 -- ---- measures of fragments
 
@@ -64,9 +60,6 @@ pub total_width-same : {X Y : Type 0} (sizes : X → Sizes) (others : Y → Size
     (ys : List Y) → map sizes xs ≡ map others ys → total_width sizes xs ≡ total_width others ys
 total_width-same = sums-same (λ s. s.width + s.whitespace + s.penalty)
 
-pub fragment_costs-map : {X : Type 0} (priced : X → PricedSizes) (penalties : Penalties)
-    (widths : List ℕ) (xs : List X)
-    → fragment_costs (problem_by (λ (s : PricedSizes). s) penalties widths (map priced xs))
-    ≡ fragment_costs (problem_by priced penalties widths xs)
-fragment_costs-map priced penalties widths xs =
-    cc (length-map xs priced, line_costs-map priced penalties widths xs)
+pub fragment_costs-map : {X : Type 0} (problem : Problem X)
+    → fragment_costs (priced_alone problem) ≡ fragment_costs problem
+fragment_costs-map problem = cc (length-map problem.fragments problem.priced, line_costs-map problem)

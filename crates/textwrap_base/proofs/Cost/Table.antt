@@ -1,32 +1,29 @@
 -- The entries of the table, which are the least ones, where it overflows, and the starts of lines
 -- that it gives.
-use Rattle.textwrap_text.proofs.Common.{◌≡◌, ◌<◌, ℕ, ◌+◌, ◌≤◌, suc, ◌^◌, refl, ◌∙◌, ◌∷◌, ◌++◌, take}
-use Rattle.textwrap_text.proofs.Common.{arith, List, Some, None, Result, subst, get_or_append_left}
-use Rattle.textwrap_text.proofs.Common.{length, length_push, get_or_push, zero, cases_eq, IsErrAnd}
-use Rattle.textwrap_text.proofs.Common.{length-map, Option, SomeIff, lt-ltb, le-ltb, add-one}
-use Rattle.textwrap_text.proofs.Common.{get_or, All-take, [], inl, inr, ap, ◌-◌, eqb, min, All, Ok}
-use Rattle.textwrap_text.proofs.Common.{Err, map, sym, ⊤, get_or-map}
-use Rattle.textwrap_base.proofs.Common.{Sizes, counted, fragments_table, table_steps, IsLeastBelow}
-use Rattle.textwrap_base.proofs.Common.{AreAtMost, minimum_of, first_entry, entry_from, entry_at}
-use Rattle.textwrap_base.proofs.Common.{PricedSizes, total_width, line_width, Overflowed}
-use Rattle.textwrap_base.proofs.Common.{line_costs, AreNoLater, problem_by}
+use Rattle.textwrap_text.proofs.Common.{get_or_append_left, get_or_push, length_push, get_or-map, ℕ}
+use Rattle.textwrap_text.proofs.Common.{length-map, All-take, IsErrAnd, cases_eq, SomeIff, add-one}
+use Rattle.textwrap_text.proofs.Common.{Option, Result, get_or, le-ltb, length, lt-ltb, arith, List}
+use Rattle.textwrap_text.proofs.Common.{subst, None, Some, refl, take, zero, ◌++◌, All, Err, eqb, ⊤}
+use Rattle.textwrap_text.proofs.Common.{inl, inr, map, min, suc, sym, ◌+◌, ◌-◌, ◌<◌, ◌^◌, ◌∙◌, ◌∷◌}
+use Rattle.textwrap_text.proofs.Common.{◌≡◌, ◌≤◌, Ok, [], ap}
+use Rattle.textwrap_base.proofs.Common.{fragments_table, IsLeastBelow, first_entry, table_steps}
+use Rattle.textwrap_base.proofs.Common.{total_width, AreNoLater, Overflowed, entry_from, line_costs}
+use Rattle.textwrap_base.proofs.Common.{line_width, minimum_of, AreAtMost, entry_at, Minimum, Entry}
+use Rattle.textwrap_base.proofs.Common.{Problem, counted}
 use Rattle.std.proofs.Math.Nat.{mul-le-mul}
-use Rattle.textwrap_base.specs.Table.{cheaper, cheaper_of, cheapest, table, IsBestBelow, IsTable}
-use Rattle.textwrap_base.specs.declared.minima.table.Entry.{Entry}
+use Rattle.textwrap_base.specs.Table.{IsBestBelow, cheaper_of, cheapest, IsTable, cheaper, table}
 use Rattle.textwrap_text.proofs.Numbers.{past_from_not}
 use Rattle.textwrap_base.specs.declared.errors.WrapError.{WrapError}
-use Rattle.textwrap_base.specs.declared.errors.WrapError.TheVariants.{Memory, Overflow}
-use Rattle.textwrap_base.specs.declared.penalties.Penalties.{Penalties}
-use Rattle.textwrap_base.proofs.Cost.LineCosts.{closed_width-le, line_cost-le, total_width-take}
+use Rattle.textwrap_base.specs.declared.errors.WrapError.TheVariants.{Overflow, Memory}
+use Rattle.textwrap_base.proofs.Cost.LineCosts.{total_width-take, closed_width-le, line_cost-le}
 use Rattle.std.proofs.lemmas.Simd.{map-map}
-use Rattle.textwrap_base.specs.declared.minima.Minimum.{Minimum}
 
 -- ---- how many steps a table takes
 
-pub table_steps_more : (n : ℕ) → table_steps (n + 1) ≡ table_steps n + (n + 1)
+table_steps_more : (n : ℕ) → table_steps (n + 1) ≡ table_steps n + (n + 1)
 table_steps_more n = omega arith
 
-pub table_steps_mono : (m n : ℕ) → m ≤ n → table_steps m ≤ table_steps n
+table_steps_mono : (m n : ℕ) → m ≤ n → table_steps m ≤ table_steps n
 table_steps_mono m n l = grind (arith, mul-le-mul)
 
 -- the count goes on
@@ -95,15 +92,6 @@ pub least_one : (cost : ℕ → ℕ → ℕ → ℕ) (entries : List Entry) (end
     → IsLeastBelow cost entries end m e → IsLeastBelow cost entries end m f → e ≡ f
 least_one cost entries end m e f h k = grind arith
 
--- an entry of the table is the least of what the entries before it give
-pub table-least : (cost : ℕ → ℕ → ℕ → ℕ) (n j : ℕ) → j < n
-    → IsLeastBelow cost (table cost j) (suc j) (suc j) (entry_at (table cost n) (suc j))
-table-least cost zero j l = absurd (omega arith)
-table-least cost (suc n) j l = elim (cases_eq j n) [
-  | inl e ↦ rw (e, entry-table_last cost n) (cheapest-least n cost (table cost n) (suc n))
-  | inr ne ↦ rw (entry-table_more cost n (suc j) (omega arith)) (table-least cost n j (omega arith))
-]
-
 -- an entry of the table is that of each longer table
 pub entry-table_longer : (cost : ℕ → ℕ → ℕ → ℕ) (n j k : ℕ) → k ≤ j → j ≤ n
     → entry_at (table cost n) k ≡ entry_at (table cost j) k
@@ -113,20 +101,38 @@ entry-table_longer cost (suc n) j k h l = elim (cases_eq j (suc n)) [
   | inr ne ↦ entry-table_more cost n k (omega arith) ∙ entry-table_longer cost n j k h (omega arith)
 ]
 
--- the line after j fragments has a number of at most j
-number-table_upto : (bound : ℕ) (cost : ℕ → ℕ → ℕ → ℕ) (n j : ℕ) → j ≤ bound → j ≤ n
-    → (entry_at (table cost n) j).line_number ≤ j
-number-table_upto bound cost n zero b l = rw (entry-table_first cost n) (omega arith)
-number-table_upto zero cost n (suc j) b l = absurd (omega arith)
-number-table_upto (suc bound) cost n (suc j) b l =
-    let h = table-least cost n j l in
-    let e = ap (λ (x : Entry). x.line_number) h.from_start in
-    let k = number-table_upto bound cost j (entry_at (table cost n) (suc j)).start (omega arith)
-    (omega arith) in omega arith
+least_entries : (cost : ℕ → ℕ → ℕ → ℕ) (entries others : List Entry) (end m : ℕ) (e : Entry)
+    → ((i : ℕ) → i < m → entry_at entries i ≡ entry_at others i)
+    → IsLeastBelow cost entries end m e → IsLeastBelow cost others end m e
+least_entries cost entries others end m e same h = grind arith
 
+pub table-is_table : (cost : ℕ → ℕ → ℕ → ℕ) (n : ℕ) → IsTable cost n (table cost n)
+table-is_table cost n =
+    record { len = length-table cost n; first = entry-table_first cost n; later = later }
+  where
+    later : (j : ℕ) → 0 < j → j ≤ n
+        → IsLeastBelow cost (table cost n) j j (entry_at (table cost n) j)
+    later zero p l = absurd (omega arith)
+    later (suc j) p l = subst (IsLeastBelow cost (table cost n) (suc j) (suc j))
+        (sym (entry-table_longer cost n (suc j) (suc j) (omega arith) l ∙ entry-table_last cost j))
+        (least_entries cost (table cost j) (table cost n) (suc j) (suc j) _
+        (λ i k. sym (entry-table_longer cost n j i (omega arith) (omega arith)))
+        (cheapest-least j cost (table cost j) (suc j)))
+
+-- the line after j fragments has a number of at most j
 pub number-table : (cost : ℕ → ℕ → ℕ → ℕ) (n j : ℕ) → j ≤ n
     → (entry_at (table cost n) j).line_number ≤ j
-number-table cost n j l = number-table_upto j cost n j (omega arith) l
+number-table cost zero j l =
+    let none : j ≡ 0 = omega arith in rw (none, entry-table_first cost 0) (omega arith)
+number-table cost (suc n) j l = elim (cases_eq j (suc n)) [
+  | inl e ↦
+      let h = cheapest-least n cost (table cost n) (suc n) in
+      let number = number-table cost n (cheapest cost n (table cost n) (suc n)).start
+      (omega (arith, h.below)) in
+      rw (e, entry-table_last cost n)
+      (omega (arith, ap (λ (x : Entry). x.line_number) h.from_start, number, h.below))
+  | inr ne ↦ rw (entry-table_more cost n j (omega arith)) (number-table cost n j (omega arith))
+]
 
 -- the best entry ends the next table
 pub table_next : (cost : ℕ → ℕ → ℕ → ℕ) (n : ℕ) (e : Entry)
@@ -140,7 +146,12 @@ pub table_past : (cost : ℕ → ℕ → ℕ → ℕ) (n m : ℕ) → n < m
     → ((i : ℕ) → i < n + 1 → 2 ^ 128 ≤ (entry_from cost i (entry_at (table cost n) i) (n + 1)).cost)
     → 2 ^ 128 ≤ (entry_at (table cost m) (n + 1)).cost
 table_past cost n m l past =
-    let h = table-least cost m n l in grind (arith, add-one)
+    let h = cheapest-least n cost (table cost n) (suc n) in
+    rw (
+      add-one,
+      entry-table_longer cost m (suc n) (suc n) (omega arith) (omega arith),
+      entry-table_last cost n,
+    ) (grind (arith, add-one))
 
 pub table_fits : (cost : ℕ → ℕ → ℕ → ℕ) (n : ℕ) (e : Entry)
     → table cost n ++ e ∷ [] ≡ table cost (n + 1) → e.cost < 2 ^ 128
@@ -156,24 +167,28 @@ table_fits cost n e is fits all j l = elim (cases_eq j (n + 1)) [
 -- one line is a division of each prefix
 pub one_line : (cost : ℕ → ℕ → ℕ → ℕ) (n j : ℕ) → j < n
     → (entry_at (table cost n) (suc j)).cost ≤ cost 0 (suc j) 0
-one_line cost n j l = grind (arith, table-least, entry-table_first)
+one_line cost n j l =
+    let h = ((table-is_table cost n).later (suc j) (omega arith) l).least 0 (omega arith) in
+    grind (arith, entry-table_first)
 
 -- where all widths together keep to 64 bits, each entry keeps to 128
-pub table-fits : {X : Type 0} (priced : X → PricedSizes) (p : Penalties) (widths : List ℕ)
-    (xs : List X) → AreAtMost (2 ^ 64 - 1) p → All (λ x. (priced x).break_penalty ≤ 2 ^ 64 - 1) xs
-    → ((i : ℕ) → get_or widths i 0 < 2 ^ 64) → total_width (λ x. (priced x).sizes) xs < 2 ^ 64
-    → (j : ℕ) → j ≤ length xs
-    → (entry_at (fragments_table (problem_by priced p widths xs)) j).cost < 2 ^ 128
-table-fits priced p widths xs h breaks k l zero b = grind (arith, entry-table_first)
-table-fits {X = X} priced p widths xs h breaks k l (suc j) b =
-    let sizes : X → Sizes = λ x. (priced x).sizes in
-    let part = total_width-take sizes xs (suc j - 0) in
-    let closed = closed_width-le sizes (take (suc j - 0) xs) in
-    let width = k (min 0 (length widths - 1)) in
-    let fits = line_cost-le (2 ^ 64 - 1) priced p (line_width widths 0) (eqb (suc j) (length xs))
-    (take (suc j - 0) xs) h (All-take (λ x. (priced x).break_penalty ≤ 2 ^ 64 - 1)
-    (suc j - 0) xs breaks) (omega (arith, width)) (omega (arith, part, closed)) in
-    omega (arith, one_line (line_costs (problem_by priced p widths xs)) (length xs) j b, fits)
+pub table-fits : {X : Type 0} (problem : Problem X) → AreAtMost (2 ^ 64 - 1) problem.penalties
+    → All (λ x. (problem.priced x).break_penalty ≤ 2 ^ 64 - 1) problem.fragments
+    → ((i : ℕ) → get_or problem.widths i 0 < 2 ^ 64)
+    → total_width (λ x. (problem.priced x).sizes) problem.fragments < 2 ^ 64
+    → (j : ℕ) → j ≤ length problem.fragments
+    → (entry_at (fragments_table problem) j).cost < 2 ^ 128
+table-fits problem h breaks k l zero b = grind (arith, entry-table_first)
+table-fits problem h breaks k l (suc j) b =
+    let line = take (suc j - 0) problem.fragments in
+    let part = total_width-take (λ x. (problem.priced x).sizes) problem.fragments (suc j - 0) in
+    let closed = closed_width-le (λ x. (problem.priced x).sizes) line in
+    let width = k (min 0 (length problem.widths - 1)) in
+    let fits = line_cost-le (2 ^ 64 - 1) problem.priced problem.penalties
+    (line_width problem.widths 0) (eqb (suc j) (length problem.fragments)) line h
+    (All-take (λ x. (problem.priced x).break_penalty ≤ 2 ^ 64 - 1) (suc j - 0)
+    problem.fragments breaks) (omega (arith, width)) (omega (arith, part, closed)) in
+    omega (arith, one_line (line_costs problem) (length problem.fragments) j b, fits)
 
 -- an error that is passed on
 pub overflowed_on : {A : Type 0} (B : Type 0) (r : Result A WrapError) (e : WrapError)
@@ -203,25 +218,6 @@ FollowBack (i ∷ rest) starts j = (get_or starts j 0 ≡ i) × FollowBack rest 
 -- after the first line, the number of a line does not change its cost
 abbrev pub IsSteady : (ℕ → ℕ → ℕ → ℕ) → Type 0
 IsSteady cost = (i j l m : ℕ) → 1 ≤ l → 1 ≤ m → cost i j l ≡ cost i j m
-
--- ---- the table is a table
-
-least_entries : (cost : ℕ → ℕ → ℕ → ℕ) (entries others : List Entry) (end m : ℕ) (e : Entry)
-    → ((i : ℕ) → i < m → entry_at entries i ≡ entry_at others i)
-    → IsLeastBelow cost entries end m e → IsLeastBelow cost others end m e
-least_entries cost entries others end m e same h = grind arith
-
-pub table-is_table : (cost : ℕ → ℕ → ℕ → ℕ) (n : ℕ) → IsTable cost n (table cost n)
-table-is_table cost n =
-    record { len = length-table cost n; first = entry-table_first cost n; later = later }
-  where
-    later : (j : ℕ) → 0 < j → j ≤ n
-        → IsLeastBelow cost (table cost n) j j (entry_at (table cost n) j)
-    later zero p l = absurd (omega arith)
-    later (suc j) p l = least_entries cost (table cost j) (table cost n) (suc j) (suc j)
-        (entry_at (table cost n) (suc j))
-        (λ i k. sym (entry-table_longer cost n j i (omega arith) (omega arith)))
-        (table-least cost n j l)
 
 abbrev pub table_starts : (ℕ → ℕ → ℕ → ℕ) → ℕ → List ℕ
 table_starts cost n = map (λ (x : Entry). x.start) (table cost n)
@@ -283,23 +279,15 @@ module _ (cost : ℕ → ℕ → ℕ → ℕ) (n : ℕ) (steady : IsSteady cost)
       ]
 
   -- the starts that the table gives for each end
-  starts_upto : (bound j : ℕ) → j ≤ bound → j ≤ n
+  pub starts_to : (bound j : ℕ) → j ≤ bound → j ≤ n
       → (starts : List ℕ) × AreStarts starts j × FollowBack starts (table_starts cost n) j
-  starts_upto bound zero b l = ([], refl, tt)
-  starts_upto zero (suc j) b l = absurd (omega arith)
-  starts_upto (suc bound) (suc j) b l =
-      let later = is.later (suc j) (omega arith) l in
-      let below = later.below in
-      let (rest, h, f) = starts_upto bound (entry_at entries (suc j)).start (omega arith)
-      (omega arith) in (
-        (entry_at entries (suc j)).start ∷ rest,
-        (below, h),
-        (start-at cost n (suc j) l, f),
-      )
-
-  pub starts_to : (j : ℕ) → j ≤ n
-      → (starts : List ℕ) × AreStarts starts j × FollowBack starts (table_starts cost n) j
-  starts_to j l = starts_upto j j (omega arith) l
+  starts_to bound zero b l = ([], refl, tt)
+  starts_to zero (suc j) b l = absurd (omega arith)
+  starts_to (suc bound) (suc j) b l =
+      let below = (is.later (suc j) (omega arith) l).below in
+      let (rest, h, f) = starts_to bound (entry_at entries (suc j)).start (omega arith)
+      (omega arith) in
+      ((entry_at entries (suc j)).start ∷ rest, (below, h), (start-at cost n (suc j) l, f))
 
 -- ---- the starts and the costs that are reported
 

@@ -239,12 +239,12 @@ module _ {X : Type 0} (sizes : X → Sizes) (widths : List ℕ) where
   not_shorter number xs line other [] others first second short = search (rules, length-append)
   not_shorter number xs line other (next ∷ lines) others first second short =
       let later = All-tail (λ l. l ≢ []) line (next ∷ lines) first.nonempty in
-      let within : length other ≤ length line =
-      full_line_ends_last sizes (line_width widths number) [] line next (flat lines) other
-      (flat others) (second.whole ∙ sym first.whole)
-      (All-head (λ l. l ≢ []) line (next ∷ lines) first.nonempty)
-      (All-head (λ l. l ≢ []) next lines later) first.full.0 second.fit.0 in
-      omega arith
+      omega (
+        arith,
+        full_line_ends_last sizes _ [] line next (flat lines) other (flat others)
+            (second.whole ∙ sym first.whole) (All-head (λ l. l ≢ []) line (next ∷ lines) first.nonempty)
+            (All-head (λ l. l ≢ []) next lines later) first.full.0 second.fit.0,
+      )
 
   some_fragments : (number : ℕ) (xs line : List X) (lines : List (List X))
       → IsGreedyFrom sizes widths number xs (line ∷ lines) → 0 < length xs
@@ -271,16 +271,11 @@ module _ {X : Type 0} (sizes : X → Sizes) (widths : List ℕ) where
       (IsGreedyFrom-tail number xs other others second)) in
       cc
 
-  from_IsGreedy : (x : X) (xs : List X) (lines : List (List X))
-      → IsGreedy sizes widths (x ∷ xs) lines → IsGreedyFrom sizes widths 0 (x ∷ xs) lines
-  from_IsGreedy x xs lines greedy = grind arith
-
   pub greedy_unique : (xs : List X) (first second : List (List X)) → IsGreedy sizes widths xs first
       → IsGreedy sizes widths xs second → first ≡ second
   greedy_unique [] first second one other = one.admissible.division ∙ sym other.admissible.division
   greedy_unique (x ∷ xs) first second one other =
-      same_lines first second 0 (x ∷ xs) (from_IsGreedy x xs first one)
-      (from_IsGreedy x xs second other)
+      same_lines first second 0 (x ∷ xs) (grind arith) (grind arith)
 
 -- ---- no division whose lines all fit has fewer lines than the greedy one
 

@@ -1,14 +1,13 @@
 -- First fit fragment by fragment: the lines that are found so are the greedy division.
-use Rattle.textwrap_text.proofs.Common.{◌≡◌, ℕ, ◌+◌, ◌<◌, ◌≤◌, Bool, false, ◌&&◌, nat_lt}
-use Rattle.textwrap_text.proofs.Common.{if◌then◌else◌, List, [], ◌∷◌, ◌++◌, length, take, refl, sym}
-use Rattle.textwrap_text.proofs.Common.{ap, ◌∙◌, subst, arith, append_assoc, append-nil, and_from}
-use Rattle.textwrap_text.proofs.Common.{and_right, lt-ltb, le-ltb, cond_both, length_push, take_at}
-use Rattle.textwrap_text.proofs.Common.{length-append, ◌≢◌, true, All, and_parts, ltb-true, All-nil}
-use Rattle.textwrap_text.proofs.Common.{All-cons}
-use Rattle.textwrap_base.proofs.Common.{Sizes, closed_width, Fits, line_width, AllFit, AllFull}
-use Rattle.textwrap_base.proofs.Common.{IsGreedy}
-use Rattle.std.proofs.lemmas.Bool.{cond-true, cond-false}
-use Rattle.textwrap_base.proofs.Division.Greedy.{Fits-push, IsGreedy-from}
+use Rattle.textwrap_text.proofs.Common.{if◌then◌else◌, length-append, append_assoc, length_push, []}
+use Rattle.textwrap_text.proofs.Common.{append-nil, and_parts, and_right, cond_both, All-cons, Bool}
+use Rattle.textwrap_text.proofs.Common.{and_from, ltb-true, All-nil, take_at, le-ltb, length, arith}
+use Rattle.textwrap_text.proofs.Common.{lt-ltb, nat_lt, false, subst, List, refl, take, true, ◌&&◌}
+use Rattle.textwrap_text.proofs.Common.{◌++◌, All, sym, ◌+◌, ◌<◌, ◌∙◌, ◌∷◌, ◌≡◌, ◌≢◌, ◌≤◌, ap, ℕ}
+use Rattle.textwrap_base.proofs.Common.{closed_width, line_width, IsGreedy, AllFull, AllFit, Sizes}
+use Rattle.textwrap_base.proofs.Common.{Fits}
+use Rattle.std.proofs.lemmas.Bool.{cond-false, cond-true}
+use Rattle.textwrap_base.proofs.Division.Greedy.{IsGreedy-from, Fits-push}
 use Rattle.textwrap_text.proofs.Lists.Parts.{flat}
 
 -- ---- lemmas on first fit fragment by fragment, where all lines but the first have one width: a

@@ -218,8 +218,7 @@ divided_one : {X : Type 0} (algorithm : Algorithm) (sizes : X → Sizes) (widths
 divided_one Greedy sizes widths xs lines others equal one other =
     greedy_unique sizes widths xs lines others one other
 divided_one (LeastCost penalties) sizes widths xs lines others equal one other =
-    chosen_one (λ x. priced_at penalties (sizes x)) penalties widths xs lines others
-    (one.chosen equal) (other.chosen equal)
+    chosen_one _ lines others (one.chosen equal) (other.chosen equal)
 
 -- where the words of a line are those that a function names
 division_one-by : (Words : List ℕ → List WordText → Type 0) (words : List ℕ → List WordText)

@@ -1,28 +1,26 @@
 -- The elements of lists: what functions make of them, what a list contains, and lists of numbers in
 -- order.
-use Rattle.textwrap_text.proofs.Common.{◌≡◌, ◌++◌, refl, take, arith, false, Result, eq-eqb, ne_eqb}
-use Rattle.textwrap_text.proofs.Common.{List, map_push, take_more, append-nil, false≢true, []}
-use Rattle.textwrap_text.proofs.Common.{map-append, append_assoc, length-append, get_or_default}
-use Rattle.textwrap_text.proofs.Common.{◌∷◌, map, ◌∙◌, ◌-◌, drop, ◌+◌, Bool, true, cond, zero, ◌==◌}
-use Rattle.textwrap_text.proofs.Common.{ap, ◌<◌, sym, ◌≤◌, suc, ◌*◌, ◌⊎◌, inl, inr, Ok, Err}
-use Rattle.textwrap_text.proofs.Common.{reverse, ℕ, length, get_or, drop_at, map-id, filter, repeat}
-use Rattle.textwrap_text.proofs.Common.{reverse-append, join_with_byte, range_with_len, flat_map}
-use Rattle.textwrap_text.proofs.Common.{Contains, list_any, cases_lt, eqb-true, cases_eq}
-use Rattle.textwrap_text.proofs.Common.{map-range_with_len_more, All-from_get_or}
+use Rattle.textwrap_text.proofs.Common.{map-range_with_len_more, All-from_get_or, get_or_default, ℕ}
+use Rattle.textwrap_text.proofs.Common.{join_with_byte, range_with_len, reverse-append, append-nil}
+use Rattle.textwrap_text.proofs.Common.{length-append, append_assoc, false≢true, map-append, Result}
+use Rattle.textwrap_text.proofs.Common.{Contains, cases_eq, cases_lt, eqb-true, flat_map, list_any}
+use Rattle.textwrap_text.proofs.Common.{map_push, drop_at, reverse, eq-eqb, filter, get_or, length}
+use Rattle.textwrap_text.proofs.Common.{map-id, ne_eqb, repeat, arith, false, Bool, List, cond, Err}
+use Rattle.textwrap_text.proofs.Common.{drop, refl, true, zero, ◌++◌, ◌==◌, inl, inr, map, suc, sym}
+use Rattle.textwrap_text.proofs.Common.{◌*◌, ◌+◌, ◌-◌, ◌<◌, ◌∙◌, ◌∷◌, ◌≡◌, ◌≤◌, ◌⊎◌, Ok, [], ap}
 use Rattle.std.proofs.Common.{Iter}
-use Rattle.std.proofs.lemmas.List.{flat_map_more}
 use mathlib.Core.List.{reverse_aux}
 use Rattle.std.specs.Iterator.{Drains}
 use Rattle.std.specs.Iterator.Adapters.{copied_source, copied_steps}
-use Rattle.std.specs.Slice.Iter.{iter_rest, iter_steps}
+use Rattle.std.specs.Slice.Iter.{iter_steps, iter_rest}
 use Rattle.std.specs.declared.iter.Copied.{Copied}
-use Rattle.std.proofs.lemmas.Iterator.{items_from_drains, YieldsList-from_slice}
+use Rattle.std.proofs.lemmas.Iterator.{YieldsList-from_slice, items_from_drains}
 use Rattle.std.proofs.lemmas.Iterator.Consumers.{YieldsList-from_copied}
 use Rattle.std.proofs.lemmas.List.Elements.{filter-append}
 use Rattle.std.specs.List.Sorted.{IsStrictlyIncreasing}
 use Rattle.std.specs.Result.{MatchResult, is_ok}
 use Rattle.std.proofs.lemmas.Bool.{or_cases}
-use Rattle.std.proofs.lemmas.List.Folds.{list_any_at, list_any_none}
+use Rattle.std.proofs.lemmas.List.Folds.{list_any_none, list_any_at}
 
 -- ---- what functions make of the elements of a list
 
@@ -54,13 +52,6 @@ pub dropped-map : (prefix : List ℕ) (parts : List (List ℕ))
 dropped-map prefix [] = refl
 dropped-map prefix (part ∷ parts) =
     rw (drop_at prefix part (length prefix) refl, dropped-map prefix parts) refl
-
--- one part more
-pub indented-more : (f : List ℕ → List ℕ) (parts : List (List ℕ)) (n : ℕ) (part : List ℕ)
-    (text : List ℕ) → n < length parts → part ≡ get_or parts n part
-    → text ≡ flat_map f (take n parts) → text ++ f part ≡ flat_map f (take (n + 1) parts)
-indented-more f parts n part text within is so_far =
-    rw (so_far, take_more parts n part within, ← is) (flat_map_more f [] (take n parts) part)
 
 pub given-copied : {A : Type 0} (it : Copied (Iter A)) (items xs : List A)
     → iter_rest (copied_source it) ≡ items → Drains (copied_steps iter_steps) it xs → xs ≡ items
@@ -127,14 +118,10 @@ contains-here x y xs e = (0, omega arith, e)
 pub contains-later : {X : Type 0} (x y : X) (xs : List X) → Contains xs y → Contains (x ∷ xs) y
 contains-later x y xs h = (suc h.0, omega (arith, h.1), h.2)
 
-contains-at : {X : Type 0} (x y : X) (xs : List X) (k : ℕ) → k < length (x ∷ xs)
-    → get_or (x ∷ xs) k y ≡ y → (x ≡ y) ⊎ Contains xs y
-contains-at x y xs zero within e = inl e
-contains-at x y xs (suc k) within e = inr (k, omega arith, e)
-
 pub contains-cases : {X : Type 0} (x y : X) (xs : List X) → Contains (x ∷ xs) y
     → (x ≡ y) ⊎ Contains xs y
-contains-cases x y xs h = contains-at x y xs h.0 h.1 h.2
+contains-cases x y xs (zero, within, e) = inl e
+contains-cases x y xs (suc k, within, e) = inr (k, omega arith, e)
 
 module _ {X : Type 0} (number : X → ℕ) where
   -- each is below all later ones

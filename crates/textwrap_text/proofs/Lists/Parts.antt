@@ -1,22 +1,21 @@
 -- Lists and their parts: slices, what a list begins and ends with, and lists of parts.
-use Rattle.textwrap_text.proofs.Common.{All, subst, ◌≡◌, ℕ, suc, ◌+◌, ◌-◌, ◌<◌, List, [], ◌∷◌, ◌++◌}
-use Rattle.textwrap_text.proofs.Common.{length, get_or, take, drop, refl, sym, ap, ◌∙◌, arith, ◌≢◌}
-use Rattle.textwrap_text.proofs.Common.{slice_range, ◌≤◌, length-take, length-drop, slice_index}
-use Rattle.textwrap_text.proofs.Common.{flat_map, onto_first, All-take, All-drop, append_assoc}
-use Rattle.textwrap_text.proofs.Common.{take_at, drop_at, length_push, get_or_push}
-use Rattle.textwrap_text.proofs.Common.{get_or_append_left, take_more, get_or-drop, drop_more, last}
-use Rattle.textwrap_text.proofs.Common.{take-append-drop, drop-drop, take-take, ◌==◌, Bool, true}
-use Rattle.textwrap_text.proofs.Common.{false, cond, nat_eq, StartsWith, starts_with_of_append}
-use Rattle.textwrap_text.proofs.Common.{eqb-false, false_from_ne_true, starts_with, prefix_len}
-use Rattle.textwrap_text.proofs.Common.{common_prefix_len, zip, ends_with, length-append}
-use Rattle.textwrap_text.proofs.Common.{cases_Bool, list_any, nat_lt, nat_tests, drop_all, rules}
-use Rattle.std.proofs.Math.Seq.{take-add, drop-append-add}
-use Rattle.std.proofs.lemmas.List.{drop-take, drop-append-le, reverse-append}
+use Rattle.textwrap_text.proofs.Common.{starts_with_of_append, false_from_ne_true, take-append-drop}
+use Rattle.textwrap_text.proofs.Common.{get_or_append_left, common_prefix_len, length-append, arith}
+use Rattle.textwrap_text.proofs.Common.{append_assoc, get_or-drop, get_or_push, length-drop, get_or}
+use Rattle.textwrap_text.proofs.Common.{length-take, length_push, slice_index, slice_range, drop_at}
+use Rattle.textwrap_text.proofs.Common.{starts_with, StartsWith, cases_Bool, onto_first, prefix_len}
+use Rattle.textwrap_text.proofs.Common.{drop-drop, drop_more, ends_with, eqb-false, nat_tests, Bool}
+use Rattle.textwrap_text.proofs.Common.{take-take, take_more, All-drop, All-take, drop_all, take_at}
+use Rattle.textwrap_text.proofs.Common.{flat_map, list_any, length, nat_eq, nat_lt, false, rules, ℕ}
+use Rattle.textwrap_text.proofs.Common.{subst, List, cond, drop, last, refl, take, true, ◌++◌, ◌==◌}
+use Rattle.textwrap_text.proofs.Common.{All, suc, sym, zip, ◌+◌, ◌-◌, ◌<◌, ◌∙◌, ◌∷◌, ◌≡◌, ◌≢◌, ◌≤◌}
+use Rattle.textwrap_text.proofs.Common.{[], ap}
+use Rattle.std.proofs.Math.Seq.{drop-append-add, take-add}
+use Rattle.std.proofs.lemmas.List.{get_or-append_right, drop-append-le, reverse-append, drop-take}
 use Rattle.std.proofs.lemmas.Slice.Eq.{bytes_eq-Decides}
 use Rattle.std.proofs.lemmas.List.Prefix.{end_rest}
 use Rattle.std.specs.List.{position_or_len, after_last}
 use Rattle.std.specs.Str.Pattern.{FindsTextPrefix, FindsTextSuffix, StripsPrefix, StripsSuffix}
-use Rattle.std.proofs.lemmas.List.{get_or-append_right}
 
 -- ---- lists and their parts: slices, the last elements, and lists of parts
 
@@ -38,9 +37,6 @@ nil_after (x ∷ xs) ys e = cc
 pub some_from_nonempty : {X : Type 0} (xs : List X) → xs ≢ [] → 0 < length xs
 some_from_nonempty [] some = absurd (some refl)
 some_from_nonempty (x ∷ xs) some = omega arith
-
-pub cons-some : (c : ℕ) (cs : List ℕ) → c ∷ cs ≢ []
-cons-some c cs none = omega (arith, ap length none)
 
 pub slice_push : {X : Type 0} (xs : List X) (i k : ℕ) (d : X) → i ≤ k → k < length xs
     → slice_range xs i (k + 1) ≡ slice_range xs i k ++ get_or xs k d ∷ []

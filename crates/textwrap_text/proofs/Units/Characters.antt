@@ -1,15 +1,12 @@
 -- The characters of a text, one after another: what is shown of them, and where they stand.
-use Rattle.textwrap_text.proofs.Common.{encode_utf8_all, IsCharBoundary, encodes-chars, cases_Bool}
-use Rattle.textwrap_text.proofs.Common.{length-append, get_or, IsUtf8, length, arith, ◌++◌, List, ℕ}
-use Rattle.textwrap_text.proofs.Common.{drop, refl, cond, ◌≡◌, ◌+◌, ◌∙◌, ◌∷◌, ◌≤◌, sym, [], ap}
-use Rattle.textwrap_text.proofs.Common.{next_of, stripped, visible_in}
-use Rattle.std.specs.Prelude.{chars, encode_utf8}
-use Rattle.textwrap_text.proofs.Units.Reading.{IsRead, read-ahead, read-next, read-room, read-start}
-use Rattle.textwrap_text.proofs.Units.Reading.{visible-step}
-use Rattle.textwrap_text.specs.Characters.{characters_from, characters_of, shown, shown_text}
+use Rattle.textwrap_text.proofs.Common.{encode_utf8_all, IsCharBoundary, encodes-chars, encode_utf8}
+use Rattle.textwrap_text.proofs.Common.{length-append, cases_Bool, visible_in, stripped, next_of, ℕ}
+use Rattle.textwrap_text.proofs.Common.{IsUtf8, get_or, length, State, arith, chars, List, Text, []}
+use Rattle.textwrap_text.proofs.Common.{cond, drop, refl, ◌++◌, sym, ◌+◌, ◌∙◌, ◌∷◌, ◌≡◌, ◌≤◌, ap}
+use Rattle.textwrap_text.proofs.Units.Reading.{visible-step, read-ahead, read-start, read-next}
+use Rattle.textwrap_text.proofs.Units.Reading.{read-room, IsRead}
+use Rattle.textwrap_text.specs.Characters.{characters_from, characters_of, shown_text, shown}
 use Rattle.textwrap_text.specs.declared.characters.Character.{Character}
-use Rattle.textwrap_text.specs.declared.escapes.State.{State}
-use Rattle.textwrap_text.specs.declared.escapes.State.TheVariants.{Text}
 
 -- ---- what is shown of them
 

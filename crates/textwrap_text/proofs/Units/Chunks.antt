@@ -1,13 +1,13 @@
 -- The chunks of a line: there is one list of them, and it is computed.
-use Rattle.textwrap_text.proofs.Common.{cases_Bool, ◌≡◌, ◌-◌, ℕ, zero, suc, ◌+◌, ◌<◌, ◌≤◌, true}
-use Rattle.textwrap_text.proofs.Common.{false, cond, List, [], ◌∷◌, ◌++◌, length, get_or, take}
-use Rattle.textwrap_text.proofs.Common.{drop, refl, ap, ◌∙◌, arith, add-one, length-append}
-use Rattle.textwrap_text.proofs.Common.{onto_first, ◌≢◌, All, sym, ⊤, All-head, All-tail, last}
-use Rattle.textwrap_text.proofs.Common.{Bool, subst, slice_index, All-nil, All-cons, is_cut, chunks}
-use Rattle.textwrap_text.proofs.Common.{IsUncut, AreCutApart, not, IsUtf8, eqb-true, append_assoc}
-use Rattle.textwrap_text.proofs.Common.{append-nil, and_parts, is_blank}
-use Rattle.textwrap_text.proofs.Lists.Parts.{flat, flat-onto_first, last-cons, onto_front}
-use Rattle.textwrap_text.proofs.Lists.Parts.{onto_front-onto_first}
+use Rattle.textwrap_text.proofs.Common.{length-append, append_assoc, AreCutApart, slice_index, Bool}
+use Rattle.textwrap_text.proofs.Common.{append-nil, cases_Bool, onto_first, and_parts, All-cons, []}
+use Rattle.textwrap_text.proofs.Common.{All-head, All-tail, eqb-true, is_blank, All-nil, IsUncut, ℕ}
+use Rattle.textwrap_text.proofs.Common.{add-one, IsUtf8, chunks, get_or, is_cut, length, arith, All}
+use Rattle.textwrap_text.proofs.Common.{false, subst, List, cond, drop, last, refl, take, true, not}
+use Rattle.textwrap_text.proofs.Common.{zero, ◌++◌, suc, sym, ◌+◌, ◌-◌, ◌<◌, ◌∙◌, ◌∷◌, ◌≡◌, ◌≢◌, ap}
+use Rattle.textwrap_text.proofs.Common.{◌≤◌, ⊤}
+use Rattle.textwrap_text.proofs.Lists.Parts.{onto_front-onto_first, flat-onto_first, onto_front}
+use Rattle.textwrap_text.proofs.Lists.Parts.{last-cons, flat}
 use Rattle.textwrap_text.specs.Chunks.{AreChunks}
 use Rattle.textwrap_text.proofs.Texts.{ascii_seam}
 
@@ -125,8 +125,8 @@ chunks-from c [] = record {
   first = [];
   rest = [];
   shape = refl;
-  nonempty = All-cons (λ part. part ≢ []) (c ∷ []) [] (λ e. cc) (All-nil (λ part. part ≢ []));
-  uncut = All-cons IsUncut (c ∷ []) [] (IsUncut-one c) (All-nil IsUncut);
+  nonempty = grind arith;
+  uncut = grind (arith, IsUncut-one);
   cut = AreCutApart-few ((c ∷ []) ∷ []) (omega arith);
 }
 chunks-from c (d ∷ cs) = step (is_cut c d) refl (chunks-from d cs)
@@ -137,8 +137,7 @@ chunks-from c (d ∷ cs) = step (is_cut c d) refl (chunks-from d cs)
       first = [];
       rest = (d ∷ h.first) ∷ h.rest;
       shape = ap (λ parts. (c ∷ []) ∷ parts) h.shape;
-      nonempty = All-cons (λ part. part ≢ []) (c ∷ []) ((d ∷ h.first) ∷ h.rest)
-          (λ e. cc) h.nonempty;
+      nonempty = grind (arith, h.nonempty, All-cons);
       uncut = All-cons IsUncut (c ∷ []) ((d ∷ h.first) ∷ h.rest) (IsUncut-one c) h.uncut;
       cut = AreCutApart-cons (c ∷ []) (d ∷ h.first) h.rest is h.cut;
     }
@@ -157,19 +156,18 @@ chunks-from c (d ∷ cs) = step (is_cut c d) refl (chunks-from d cs)
 pub AreChunks-chunks : (line : List ℕ) → AreChunks line (chunks line)
 AreChunks-chunks [] = record {
   tiles = refl;
-  nonempty = All-nil (λ part. part ≢ []);
-  uncut = All-nil IsUncut;
+  nonempty = grind arith;
+  uncut = grind arith;
   cut = AreCutApart-few [] (omega arith);
 }
 AreChunks-chunks (c ∷ cs) =
     let h = chunks-from c cs in
-    let same = sym h.shape in
-    record {
-      tiles = join-chunks (c ∷ cs);
-      nonempty = subst (All (λ part. part ≢ [])) same h.nonempty;
-      uncut = subst (All IsUncut) same h.uncut;
-      cut = subst AreCutApart same h.cut;
-    }
+    rw h.shape (record {
+      tiles = rw h.shape at (join-chunks (c ∷ cs));
+      nonempty = h.nonempty;
+      uncut = h.uncut;
+      cut = h.cut;
+    })
 
 -- ---- the parts of a text, where bytes stand before the first
 

@@ -1,29 +1,27 @@
 -- The reader of characters: its states, what it shows, the columns of that, and how far it has
 -- come.
-use Rattle.textwrap_text.proofs.Common.{inl, inr, ◌≡◌, ◌≢◌, suc, cond, List, refl, ◌++◌, drop, zero}
-use Rattle.textwrap_text.proofs.Common.{ℕ, eqb, ◌∷◌, ◌+◌, ◌≤◌, [], sym, ◌∙◌, ◌<◌, All, map, Bool}
-use Rattle.textwrap_text.proofs.Common.{length-drop, length-encode, true, false, arith, subst}
-use Rattle.textwrap_text.proofs.Common.{IsUtf8, get_or, sum_by, ne_eqb, ap, drop_at, All-nil}
-use Rattle.textwrap_text.proofs.Common.{zero-add, IsAscii, cases_lt, cases_eq, flat_map}
-use Rattle.textwrap_text.proofs.Common.{encode_utf8_all, chars_past_char, nil_from_length}
-use Rattle.textwrap_text.proofs.Common.{cases_Bool, encodes-append, IsCharBoundary, All-from_get_or}
-use Rattle.textwrap_text.proofs.Common.{length, drop-drop, All-head, All-tail, nat_tests, drop_more}
-use Rattle.textwrap_text.proofs.Common.{append-nil, chars-nil, All-append, get_or_past, sum_by-cons}
-use Rattle.textwrap_text.proofs.Common.{chars_from_encodes, IsCharBoundary-start, IsUtf8-past_char}
-use Rattle.textwrap_text.proofs.Common.{encodes-chars, length-append, sum_by-append, chars-IsAscii}
-use Rattle.textwrap_text.proofs.Common.{TextUnit, next_of, shows, taken_in, unit_at, units_past}
-use Rattle.textwrap_text.proofs.Common.{visible_in, visible_of, escape, escape_len, stripped}
-use Rattle.textwrap_text.proofs.Common.{Visible, taken_at, columns, text_width, units, IsPrintable}
-use Rattle.textwrap_text.proofs.Common.{IsPrintableByte, IsNarrow}
-use Rattle.textwrap_text.specs.declared.escapes.State.{State}
-use Rattle.textwrap_text.specs.declared.escapes.State.TheVariants.{Text, Escape, Control, Command}
-use Rattle.std.specs.Prelude.{chars, encode_utf8}
-use Rattle.std.proofs.lemmas.Str.{IsCharBoundary-from_drop, inside_one, encode_ascii}
-use lib.Utf8.{encode, encodes}
-use Rattle.unicode_width.specs.Width.{char_width, alone, of_kind}
+use Rattle.textwrap_text.proofs.Common.{IsCharBoundary-start, chars_from_encodes, IsUtf8-past_char}
+use Rattle.textwrap_text.proofs.Common.{All-from_get_or, IsPrintableByte, chars_past_char, All-head}
+use Rattle.textwrap_text.proofs.Common.{encode_utf8_all, nil_from_length, IsCharBoundary, chars-nil}
+use Rattle.textwrap_text.proofs.Common.{encodes-append, chars-IsAscii, encodes-chars, length-append}
+use Rattle.textwrap_text.proofs.Common.{length-encode, sum_by-append, IsPrintable, encode_utf8, All}
+use Rattle.textwrap_text.proofs.Common.{get_or_past, length-drop, sum_by-cons, All-append, All-tail}
+use Rattle.textwrap_text.proofs.Common.{append-nil, cases_Bool, escape_len, text_width, units_past}
+use Rattle.textwrap_text.proofs.Common.{visible_in, visible_of, drop_more, nat_tests, IsNarrow, eqb}
+use Rattle.textwrap_text.proofs.Common.{TextUnit, cases_eq, cases_lt, flat_map, stripped, taken_at}
+use Rattle.textwrap_text.proofs.Common.{taken_in, zero-add, All-nil, IsAscii, Visible, columns, inl}
+use Rattle.textwrap_text.proofs.Common.{next_of, unit_at, IsUtf8, escape, get_or, length, ne_eqb, ℕ}
+use Rattle.textwrap_text.proofs.Common.{sum_by, State, arith, chars, false, shows, subst, units, []}
+use Rattle.textwrap_text.proofs.Common.{Bool, List, cond, drop, refl, true, zero, ◌++◌, inr, map}
+use Rattle.textwrap_text.proofs.Common.{suc, sym, ◌+◌, ◌<◌, ◌∙◌, ◌∷◌, ◌≡◌, ◌≢◌, ◌≤◌, ap}
+use Rattle.textwrap_text.specs.declared.escapes.State.TheVariants.{Command, Control, Escape, Text}
+use Rattle.std.proofs.lemmas.Str.{IsCharBoundary-from_drop, encode_ascii, inside_one}
+use lib.Utf8.{encodes, encode}
+use Rattle.unicode_width.specs.Width.{char_width, of_kind, alone}
 use Rattle.unicode_width.proofs.Rules.{width_or_zero-le}
 use Rattle.unicode_width.specs.Kind.{kind}
 use Rattle.unicode_width.specs.declared.kind.Kind.{Kind}
+use Rattle.textwrap_text.proofs.Texts.{ends-within, left-after}
 use Rattle.unicode_width.specs.declared.kind.Kind.TheVariants as kinds
 
 -- ---- what the states of the reader show and take of a text
@@ -94,21 +92,13 @@ module _ {text : List ℕ} {at : ℕ} {ahead : List ℕ} (h : IsRead text at ahe
     read-ahead = chars_past_char ahead after c h.utf8 e
 
     pub read-room : at + length (encode_utf8 c) ≤ length text
-    read-room = omega (
-      arith,
-      h.boundary.0,
-      length-drop at text,
-      ap length (h.place ∙ e),
-      length-append (encode_utf8 c) after,
-    )
+    read-room = ends-within text at c after (h.place ∙ e)
 
     pub read-next : (end : ℕ) → end ≡ at + length (encode_utf8 c) → IsRead text end after
     read-next end past =
         let utf8 = IsUtf8-past_char ahead after c h.utf8 e in
         let place : drop end text ≡ after =
-        ap (λ k. drop k text) past ∙ sym (drop-drop (length (encode_utf8 c)) at text)
-        ∙ ap (drop (length (encode_utf8 c))) (h.place ∙ e)
-        ∙ drop_at (encode_utf8 c) after (length (encode_utf8 c)) refl in
+        ap (λ k. drop k text) past ∙ left-after text at c after (h.place ∙ e) in
         record {
           utf8 = utf8;
           place = place;

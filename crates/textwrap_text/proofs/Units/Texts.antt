@@ -1,26 +1,24 @@
 -- The units of a text and of its parts: there is one list of them, and it is computed.
-use Rattle.textwrap_text.proofs.Common.{inl, inr, ◌≡◌, ◌≢◌, ℕ, zero, suc, ◌+◌, ◌<◌, ◌≤◌, Bool, true}
-use Rattle.textwrap_text.proofs.Common.{false, cond, eqb, List, [], ◌∷◌, ◌++◌, refl, sym, ap, ◌∙◌}
-use Rattle.textwrap_text.proofs.Common.{zero-add, arith, length, take, drop, flat_map, sum_by}
-use Rattle.textwrap_text.proofs.Common.{cases_Bool, cases_lt, append-nil, take-append-drop}
-use Rattle.textwrap_text.proofs.Common.{drop_all, take_at, length-take-le, sum_by-cons, ◌⊎◌}
-use Rattle.textwrap_text.proofs.Common.{nat_tests, append_assoc, last, ⊎_elim, ◌==◌, eqb-true}
-use Rattle.textwrap_text.proofs.Common.{eqb-false, take-take, take_all, ◌↔◌, subst, length-append}
-use Rattle.textwrap_text.proofs.Common.{true≢false, take-append-le, not, ◌||◌, TextUnit, Visible}
-use Rattle.textwrap_text.proofs.Common.{Sequence, characters, is_control_end, is_command_end}
-use Rattle.textwrap_text.proofs.Common.{columns, command_len, escape_len, taken_at, units_past}
-use Rattle.textwrap_text.proofs.Common.{units, visible_of, unit_width, units_width}
-use Rattle.textwrap_text.proofs.Common.{is_control_start, is_command_start, ends, escape}
-use Rattle.textwrap_text.proofs.Lists.Parts.{nil_after, last_but_one, last-push, last_but_one-push}
-use Rattle.textwrap_text.proofs.Lists.Parts.{same_parts}
-use Rattle.textwrap_text.specs.Units.{control_len, IsWhole, AreUnits, IsInUnits}
+use Rattle.textwrap_text.proofs.Common.{is_command_start, is_control_start, take-append-drop, arith}
+use Rattle.textwrap_text.proofs.Common.{is_command_end, is_control_end, length-take-le, command_len}
+use Rattle.textwrap_text.proofs.Common.{take-append-le, length-append, append_assoc, sum_by-cons, ℕ}
+use Rattle.textwrap_text.proofs.Common.{units_width, append-nil, cases_Bool, characters, escape_len}
+use Rattle.textwrap_text.proofs.Common.{unit_width, units_past, visible_of, eqb-false, nat_tests}
+use Rattle.textwrap_text.proofs.Common.{take-take, Sequence, TextUnit, cases_lt, drop_all, eqb-true}
+use Rattle.textwrap_text.proofs.Common.{flat_map, take_all, taken_at, zero-add, Visible, columns}
+use Rattle.textwrap_text.proofs.Common.{take_at, escape, length, ne_eqb, sum_by, ⊎_elim, false, inl}
+use Rattle.textwrap_text.proofs.Common.{subst, units, Bool, List, cond, drop, ends, last, refl, inr}
+use Rattle.textwrap_text.proofs.Common.{take, true, zero, ◌++◌, ◌==◌, ◌||◌, not, suc, sym, ◌+◌, ◌<◌}
+use Rattle.textwrap_text.proofs.Common.{◌↔◌, ◌∙◌, ◌∷◌, ◌≡◌, ◌≢◌, ◌≤◌, ◌⊎◌, [], ap}
+use Rattle.textwrap_text.proofs.Lists.Parts.{last_but_one-push, last_but_one, last-push}
+use Rattle.textwrap_text.specs.Units.{control_len, IsInUnits, AreUnits, IsWhole}
 use Rattle.std.proofs.lemmas.Bool.{le-leb}
-use Rattle.unicode.specs.Rows.{Range, in_ranges}
-use Rattle.unicode.proofs.Facts.{always, Stepped-always}
-use Rattle.unicode.proofs.Stepped.{Stepped, of_ranges, zip_stepped}
-use Rattle.unicode.proofs.StepsLemmas.{rises_from, range_rows}
+use Rattle.unicode.specs.Rows.{in_ranges, Range}
+use Rattle.unicode.proofs.Facts.{Stepped-always, always}
+use Rattle.unicode.proofs.Stepped.{zip_stepped, of_ranges, Stepped}
+use Rattle.unicode.proofs.StepsLemmas.{range_rows, rises_from}
 use Rattle.unicode_width.specs.Kind.{kind_number}
-use Rattle.unicode_width.specs.Width.{alone, char_width}
+use Rattle.unicode_width.specs.Width.{char_width, alone}
 use Rattle.unicode_width.proofs.KindLemmas.{kind_from_number-kind_number, kind_number_stepped}
 use Rattle.unicode.proofs.TableComputing.{tables}
 
@@ -35,60 +33,10 @@ units_past-tile (suc n) (c ∷ cs) = units_past-tile n cs
 pub units-tile : (cs : List ℕ) → flat_map characters (units cs) ≡ cs
 units-tile cs = units_past-tile 0 cs
 
--- ---- a part of the units has the same units by itself, where more follow it
-
-control-again : (cs ds : List ℕ) → control_len cs < length cs
-    → control_len (take (control_len cs) cs ++ ds) ≡ control_len cs
-control-again [] ds more = absurd (omega arith)
-control-again (c ∷ cs) ds more = elim (cases_Bool (is_control_end c)) [
-  | inl t ↦ rw (t, t) refl
-  | inr f ↦ rw (f, f) (ap suc (control-again cs ds (omega (arith, rw f at more))))
-]
-
-command-again : (before : ℕ) (cs ds : List ℕ) → command_len before cs < length cs
-    → command_len before (take (command_len before cs) cs ++ ds) ≡ command_len before cs
-command-again before [] ds more = absurd (omega arith)
-command-again before (c ∷ cs) ds more = elim (cases_Bool (is_command_end before c)) [
-  | inl t ↦ rw (t, t) refl
-  | inr f ↦ rw (f, f) (ap suc (command-again c cs ds (omega (arith, rw f at more))))
-]
-
-escape-again : (cs ds : List ℕ) → escape_len cs < length cs
-    → escape_len (take (escape_len cs) cs ++ ds) ≡ escape_len cs
-escape-again [] ds more = absurd (omega arith)
-escape-again (c ∷ cs) ds more = grind (arith, cases_Bool, control-again, command-again)
-
 pub units_past-end : (n : ℕ) (cs : List ℕ) → length cs ≤ n → units_past n cs ≡ []
 units_past-end n [] short = refl
 units_past-end zero (c ∷ cs) short = absurd (omega arith)
 units_past-end (suc n) (c ∷ cs) short = units_past-end n cs (omega arith)
-
-part-unit : (c : ℕ) (cs : List ℕ) (xs ys : List TextUnit) (b : Bool) → eqb c 27 ≡ b
-    → units_past (cond b (escape_len cs) 0) cs ≡ xs ++ ys → ys ≢ []
-    → units_past (cond b (escape_len cs) 0)
-    (take (cond b (escape_len cs) 0) cs ++ flat_map characters xs) ≡ xs
-    → units_past 0 (characters (cond b (Sequence (c ∷ take (escape_len cs) cs)) (Visible c))
-    ++ flat_map characters xs) ≡ cond b (Sequence (c ∷ take (escape_len cs) cs))
-    (Visible c) ∷ xs
-part-unit c cs xs ys true is e more rest =
-    grind (arith, cases_lt, nil_after, units_past-end, escape-again, take_at, length-take-le)
-part-unit c cs xs ys false is e more rest = rw (is, rest) refl
-
-units_past-part : (n : ℕ) (cs : List ℕ) (xs ys : List TextUnit) → units_past n cs ≡ xs ++ ys
-    → ys ≢ [] → units_past n (take n cs ++ flat_map characters xs) ≡ xs
-units_past-part n [] [] ys e more = absurd (more (sym e))
-units_past-part n [] (x ∷ xs) ys e more = cc
-units_past-part zero (c ∷ cs) [] ys e more = refl
-units_past-part zero (c ∷ cs) (x ∷ xs) ys e more =
-    let tail : units_past (taken_at c cs) cs ≡ xs ++ ys = cc in
-    grind (arith, part-unit, units_past-part (taken_at c cs) cs xs ys tail more)
-units_past-part (suc n) (c ∷ cs) xs ys e more = units_past-part n cs xs ys e more
-
--- the characters of a part of the units have that part as their units
-pub units-part : (cs : List ℕ) (xs ys : List TextUnit) → units cs ≡ xs ++ ys
-    → units (flat_map characters xs) ≡ xs
-units-part cs xs [] e = grind (arith, append-nil, units-tile)
-units-part cs xs (y ∷ ys) e = units_past-part 0 cs xs (y ∷ ys) e (λ h. cc)
 
 -- ---- columns
 
@@ -102,10 +50,10 @@ units_width-is (Sequence cs ∷ us) = units_width-is us
 -- ---- how far an escape sequence goes
 
 -- n of the characters are the fewest that pass, or all where no prefix passes
-pub record StopsAt (passes : List ℕ → Bool) (cs : List ℕ) (n : ℕ) : Type 0 where
-  pub within : n ≤ length cs
-  pub before : (k : ℕ) → k < n → passes (take k cs) ≡ false
-  pub stop : (passes (take n cs) ≡ true) ⊎ ((n ≡ length cs) × (passes (take n cs) ≡ false))
+record StopsAt (passes : List ℕ → Bool) (cs : List ℕ) (n : ℕ) : Type 0 where
+  within : n ≤ length cs
+  before : (k : ℕ) → k < n → passes (take k cs) ≡ false
+  stop : (passes (take n cs) ≡ true) ⊎ ((n ≡ length cs) × (passes (take n cs) ≡ false))
 
 StopsAt-cons : (whole tail : List ℕ → Bool) (c : ℕ) (cs : List ℕ) (n : ℕ) → whole [] ≡ false
     → ((l : List ℕ) → whole (c ∷ l) ≡ tail l) → StopsAt tail cs n → StopsAt whole (c ∷ cs) (suc n)
@@ -115,10 +63,6 @@ StopsAt-cons whole tail c cs n none along stops = grind arith
     before zero below = none
     before (suc k) below = along (take k cs) ∙ stops.before k (omega arith)
 
--- of no characters none passes, so that all of them are taken
-StopsAt-nil : (passes : List ℕ → Bool) → passes [] ≡ false → StopsAt passes [] 0
-StopsAt-nil passes none = grind arith
-
 module _ (passes : List ℕ → Bool) (test : ℕ → ℕ → Bool) (len : ℕ → List ℕ → ℕ)
     (len-nil : (b : ℕ) → len b [] ≡ 0)
     (len-cons : (b c : ℕ) (cs : List ℕ) → len b (c ∷ cs) ≡ cond (test b c) 1 (suc (len c cs)))
@@ -127,17 +71,13 @@ module _ (passes : List ℕ → Bool) (test : ℕ → ℕ → Bool) (len : ℕ �
     StopsAt-len : (cs front : List ℕ) (b : ℕ) → passes front ≡ false
         → ((c : ℕ) → passes (front ++ c ∷ []) ≡ test b c)
         → StopsAt (λ l. passes (front ++ l)) cs (len b cs)
-    StopsAt-len [] front b none next =
-        rw len-nil (StopsAt-nil (λ l. passes (front ++ l)) (rw append-nil none))
+    StopsAt-len [] front b none next = grind (arith, append-nil, len-nil)
     StopsAt-len (c ∷ cs) front b none next =
-        let first : (k : ℕ) → k < 1 → passes (front ++ take k (c ∷ cs)) ≡ false = λ k below.
-        let start : k ≡ 0 = omega arith in rw (start, append-nil front) none in
+        let more = λ (n : ℕ). StopsAt-cons (λ l. passes (front ++ l)) (λ l. passes ((front ++ c ∷ []) ++ l))
+        c cs n (rw append-nil none) (λ l. ap passes (sym (append_assoc front (c ∷ []) l))) in
         elim (cases_Bool (test b c)) [
-          | inl here ↦ rw (len-cons b c cs, here)
-              (record { within = omega arith; before = first; stop = inl (next c ∙ here) })
-          | inr on ↦ rw (len-cons b c cs, on)
-              (StopsAt-cons (λ l. passes (front ++ l)) (λ l. passes ((front ++ c ∷ []) ++ l)) c cs
-              (len c cs) (rw append-nil none) (λ l. ap passes (sym (append_assoc front (c ∷ []) l)))
+          | inl here ↦ rw (len-cons b c cs, here) (more 0 (grind (arith, append-nil)))
+          | inr on ↦ rw (len-cons b c cs, on) (more (len c cs)
               (StopsAt-len cs (front ++ c ∷ []) c (next c ∙ on) (passes-push front c)))
         ]
 
@@ -156,20 +96,18 @@ command-stops c start cs =
     (last_but_one-push front b d) ∙ ap (is_command_end b) (last-push (front ++ b ∷ []) d))
     cs [] c refl (λ d. grind (arith, nat_tests))
 
-escape-cons : (c : ℕ) (cs : List ℕ) (control command : Bool) → is_control_start c ≡ control
-    → is_command_start c ≡ command → StopsAt ends (c ∷ cs) (escape_len (c ∷ cs))
-escape-cons c cs true command is_control is_command =
-    rw is_control (StopsAt-cons ends (λ l. is_control_end (last l)) c cs (control_len cs) refl
-    (λ l. rw is_control) (control-stops cs))
-escape-cons c cs false true is_control is_command = rw (is_control, is_command)
-    (StopsAt-cons ends (λ l. is_command_end (last_but_one l) (last l)) c cs
-    (command_len c cs) refl (λ l. rw (is_control, is_command))
-    (command-stops c is_command cs))
-escape-cons c cs false false is_control is_command = grind (arith, StopsAt-cons)
-
-pub escape-stops : (cs : List ℕ) → StopsAt ends cs (escape_len cs)
-escape-stops [] = StopsAt-nil ends refl
-escape-stops (c ∷ cs) = escape-cons c cs (is_control_start c) (is_command_start c) refl refl
+escape-stops : (cs : List ℕ) → StopsAt ends cs (escape_len cs)
+escape-stops [] = grind arith
+escape-stops (c ∷ cs) = elim (cases_Bool (is_control_start c)) [
+  | inl control ↦ rw control (StopsAt-cons ends (λ l. is_control_end (last l)) c cs
+      (control_len cs) refl (λ l. rw control refl) (control-stops cs))
+  | inr other ↦ elim (cases_Bool (is_command_start c)) [
+    | inl command ↦ rw (other, command)
+        (StopsAt-cons ends (λ l. is_command_end (last_but_one l) (last l)) c cs
+        (command_len c cs) refl (λ l. rw (other, command) refl) (command-stops c command cs))
+    | inr plain ↦ rw (other, plain) (grind (arith, StopsAt-cons))
+  ]
+]
 
 -- ---- the units of a text are units
 
@@ -210,7 +148,7 @@ record Begins (cs : List ℕ) (us : List TextUnit) : Type 0 where
   body : List ℕ
   shape : cs ≡ escape ∷ body
   before : (k : ℕ) → k < length body → ends (take k body) ≡ false
-  stop : (ends body ≡ true) ⊎ (us ≡ [])
+  stop : (ends body ≡ true) ⊎ (flat_map characters us ≡ [])
   rest : AreUnits us
 
 Begins-from : (cs : List ℕ) (us : List TextUnit) → AreUnits (Sequence cs ∷ us) → Begins cs us
@@ -224,66 +162,51 @@ AreUnits-visible c [] (inl whole) = (whole, tt)
 AreUnits-visible c [] (inr open_last) = absurd open_last
 AreUnits-visible c (v ∷ us) (whole, rest) = (whole, rest)
 
--- a sequence does not begin another one that is longer
-not_shorter : (x y s : List ℕ) (us : List TextUnit) → x ++ flat_map characters us ≡ y ++ s
-    → ((k : ℕ) → k < length y → ends (take k y) ≡ false) → (ends x ≡ true) ⊎ (us ≡ [])
-    → length x < length y → ⊥
-not_shorter x y s us same before (inl passed) short =
-    let front : x ≡ take (length x) y = sym (take_at x (flat_map characters us) (length x) refl)
-    ∙ ap (take (length x)) same ∙ take-append-le (length x) y s (omega arith) in
-    true≢false (sym passed ∙ ap ends front ∙ before (length x) short)
-not_shorter x y s us same before (inr none) short =
-    omega (arith, length-append y s, ap length (sym (append-nil x) ∙ rw none at same))
+-- what passes, or is all, but has no beginning that passes, is where it stops
+StopsAt-whole : (passes : List ℕ → Bool) (body rest : List ℕ) (n : ℕ)
+    → StopsAt passes (body ++ rest) n → ((k : ℕ) → k < length body → passes (take k body) ≡ false)
+    → (passes body ≡ true) ⊎ (rest ≡ []) → n ≡ length body
+StopsAt-whole passes body rest n stops before stop =
+    let first : take (length body) (body ++ rest) ≡ body = take_at body rest (length body) refl in
+    grind (arith, cases_lt, take-append-le, length-append)
 
--- two texts that begin with a sequence begin with the same one
-same_sequence : (xs ys : List ℕ) (us vs : List TextUnit) → Begins xs us → Begins ys vs
-    → xs ++ flat_map characters us ≡ ys ++ flat_map characters vs
-    → (xs ≡ ys) × (flat_map characters us ≡ flat_map characters vs)
-same_sequence xs ys us vs first second same =
-    let bodies : first.body ++ flat_map characters us ≡ second.body ++ flat_map characters vs =
-    grind (arith) in
-    let not_less = not_shorter first.body second.body (flat_map characters vs) us bodies
-    second.before first.stop in
-    let not_more = not_shorter second.body first.body (flat_map characters us) vs (sym bodies)
-    first.before second.stop in
-    grind (arith, same_parts)
+units_past-skip : (xs ys : List ℕ) → units_past (length xs) (xs ++ ys) ≡ units ys
+units_past-skip [] ys = refl
+units_past-skip (x ∷ xs) ys = units_past-skip xs ys
 
-some_characters : (u : TextUnit) (us : List TextUnit) → AreUnits (u ∷ us)
-    → 0 < length (flat_map characters (u ∷ us))
-some_characters (Visible c) us are = omega arith
-some_characters (Sequence cs) us are = grind (arith, Begins-from, length-append)
-
--- no visible character begins a sequence
-not_visible : (c : ℕ) (cs : List ℕ) (us vs : List TextUnit) → AreUnits (Visible c ∷ us)
-    → AreUnits (Sequence cs ∷ vs) → flat_map characters (Visible c ∷ us) ≡ flat_map characters
-    (Sequence cs ∷ vs) → ⊥
-not_visible c cs us vs visible sequence same = grind (arith, Begins-from, AreUnits-visible)
-
-units_same : (us vs : List TextUnit) → AreUnits us → AreUnits vs
-    → flat_map characters us ≡ flat_map characters vs → us ≡ vs
-units_same [] [] ours theirs same = refl
-units_same [] (v ∷ vs) ours theirs same = grind (arith, some_characters)
-units_same (u ∷ us) [] ours theirs same = grind (arith, some_characters)
-units_same (Visible c ∷ us) (Visible d ∷ vs) ours theirs same =
-    grind (
-      arith,
-      AreUnits-visible,
-      units_same us vs (AreUnits-visible c us ours).1 (AreUnits-visible d vs theirs).1 (ap (drop 1) same),
-    )
-units_same (Visible c ∷ us) (Sequence ds ∷ vs) ours theirs same = grind (arith, not_visible)
-units_same (Sequence cs ∷ us) (Visible d ∷ vs) ours theirs same = grind (arith, not_visible)
-units_same (Sequence cs ∷ us) (Sequence ds ∷ vs) ours theirs same =
-    let first : Begins cs us = Begins-from cs us ours in
-    let second : Begins ds vs = Begins-from ds vs theirs in
-    let both : (cs ≡ ds) × (flat_map characters us ≡ flat_map characters vs) =
-    same_sequence cs ds us vs first second same in
-    let tails : us ≡ vs = units_same us vs first.rest second.rest both.1 in cc
+units-of : (us : List TextUnit) → AreUnits us → units (flat_map characters us) ≡ us
+units-of [] are = refl
+units-of (Visible c ∷ us) are =
+    let (other, rest) = AreUnits-visible c us are in
+    rw (ne_eqb c escape other) (ap (λ l. Visible c ∷ l) (units-of us rest))
+units-of (Sequence cs ∷ us) are =
+    let h = Begins-from cs us are in
+    let others = flat_map characters us in
+    rw (
+      h.shape,
+      StopsAt-whole ends h.body others _ (escape-stops (h.body ++ others)) h.before h.stop,
+      take_at h.body others (length h.body) refl,
+      units_past-skip h.body others,
+      units-of us h.rest,
+    ) refl
 
 pub units_unique : (cs : List ℕ) (us : List TextUnit) → IsInUnits cs us ↔ (us ≡ units cs)
 units_unique cs us = (
-  λ is. units_same us (units cs) is.1 (IsInUnits-units cs).1 (is.0 ∙ sym (IsInUnits-units cs).0),
+  λ is. sym (units-of us is.1) ∙ ap units is.0,
   λ is. subst (IsInUnits cs) (sym is) (IsInUnits-units cs),
 )
+
+AreUnits-front : (xs ys : List TextUnit) → AreUnits (xs ++ ys) → AreUnits xs
+AreUnits-front [] ys are = tt
+AreUnits-front (u ∷ []) [] are = are
+AreUnits-front (u ∷ []) (v ∷ ys) are = inl are.0
+AreUnits-front (u ∷ v ∷ xs) ys are = (are.0, AreUnits-front (v ∷ xs) ys are.1)
+
+-- the characters of a part of the units have that part as their units
+pub units-part : (cs : List ℕ) (xs ys : List TextUnit) → units cs ≡ xs ++ ys
+    → units (flat_map characters xs) ≡ xs
+units-part cs xs ys e =
+    units-of xs (AreUnits-front xs ys (subst AreUnits e (AreUnits-units_past cs 0)))
 
 -- ---- what the tables of Unicode give for each character of a range, by computation, and the
 -- characters whose columns the code does not look up

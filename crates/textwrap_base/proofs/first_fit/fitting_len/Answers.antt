@@ -30,7 +30,5 @@ loop-i-preserved g c =
             in
             omega arith
       ],
-      Fits-take g.T.Fragment.sizes c.args.line_width c.args.fragments.now c.loop-i.i
-          c.index-fragments-i.result c.loop-i-test.true c.index-fragments-i.is c.loop-i.invariant.2
-          bound,
+      Fits-take _ _ _ _ _ c.loop-i-test.true c.index-fragments-i.is c.loop-i.invariant.2 bound,
     )

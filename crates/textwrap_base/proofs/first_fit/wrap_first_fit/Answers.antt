@@ -1,10 +1,10 @@
 use Rattle.textwrap_base.proofs.first_fit.wrap_first_fit.Goals as goal
-use Rattle.textwrap_text.proofs.Common.{◌≡◌, [], ◌∷◌, ◌<◌, take, length, map, vec_len, sym, ap, ◌∙◌}
-use Rattle.textwrap_text.proofs.Common.{subst, arith, nat_tests, append-nil, length-map}
-use Rattle.textwrap_text.proofs.Common.{nil_from_length, All-nil}
+use Rattle.textwrap_text.proofs.Common.{nil_from_length, append-nil, length-map, nat_tests, All-nil}
+use Rattle.textwrap_text.proofs.Common.{length, arith, subst, take, map, sym, ◌<◌, ◌∙◌, ◌∷◌, ◌≡◌}
+use Rattle.textwrap_text.proofs.Common.{[], ap}
 use Rattle.textwrap_base.proofs.Common.{line_width}
-use Rattle.textwrap_base.proofs.Division.Greedy.{greedy_fewest, IsGreedyFrom}
-use Rattle.textwrap_base.proofs.Division.Greedy.{IsGreedyFrom-cons, IsGreedy-from}
+use Rattle.textwrap_base.proofs.Division.Greedy.{IsGreedyFrom-cons, IsGreedy-from, greedy_fewest}
+use Rattle.textwrap_base.proofs.Division.Greedy.{IsGreedyFrom}
 use Rattle.textwrap_text.proofs.Lists.Elements.{map-push-append}
 
 pub loop-rest-preserved : goal.loop-rest-preserved
@@ -14,14 +14,11 @@ loop-rest-preserved g c = (
       let some : 0 < length c.loop-rest.rest.now = grind (arith, nat_tests) in
       let rest = rw (c.in_ok-push-2.ensures.len, c.split_at.ensures.back) at greedy in
       let width = c.line_width-width.ensures ∙ ap (line_width c.args.line_widths.now) c.len.ensures in
-      let line = IsGreedyFrom-cons g.T.Fragment.sizes c.args.line_widths.now
-      (vec_len c.loop-rest.lines) c.loop-rest.rest.now c.fitting_len.result
+      let line = IsGreedyFrom-cons g.T.Fragment.sizes c.args.line_widths.now _ _ _
       (c.fitting_len.ensures.some some) c.fitting_len.ensures.within
       (rw width at c.fitting_len.ensures.fits) (rw width at c.fitting_len.ensures.full) tail rest in
       subst (IsGreedyFrom g.T.Fragment.sizes c.args.line_widths.now 0 c.args.fragments.now)
-      (sym (map-push-append (λ line. line.now) c.loop-rest.lines.items
-      c.push-in-loop-rest.new.self.items c.split_at.result.0
-      (take c.fitting_len.result c.loop-rest.rest.now) tail c.in_ok-push-2.ensures.items
+      (sym (map-push-append (λ line. line.now) _ _ _ _ tail c.in_ok-push-2.ensures.items
       c.split_at.ensures.front))
       (c.loop-rest.invariant.1 (take c.fitting_len.result c.loop-rest.rest.now ∷ tail) line),
 )

@@ -1,15 +1,14 @@
 use Rattle.textwrap_base.proofs.minima.queue_minima.Goals as goal
-use Rattle.textwrap_text.proofs.Common.{map, sym, ap, ◌∙◌, subst}
-use Rattle.textwrap_base.proofs.Common.{Costs, SuitQueue, minimum_of}
+use Rattle.textwrap_text.proofs.Common.{subst, map, sym, ◌∙◌, ap}
+use Rattle.textwrap_base.proofs.Common.{minimum_of, SuitQueue, Costs, table}
 use Rattle.std.proofs.lemmas.Result.{IfOk-weaker}
-use Rattle.textwrap_base.specs.Table.{table}
 use Rattle.textwrap_base.proofs.Cost.Results.{reported-least_cost}
 use Rattle.textwrap_base.proofs.Cost.QueueCase.{SuitQueue-queue_case}
 
 pub queue_search-minima-requires : goal.queue_search-minima-requires
 queue_search-minima-requires g c = record {
   suits = subst SuitQueue (sym c.in-Ok.ensures.costs)
-      (SuitQueue-queue_case _ _ _ _ c.requires.case);
+      (SuitQueue-queue_case _ c.requires.case);
 }
 
 pub returns-clause-entries : goal.returns-clause-entries
@@ -19,5 +18,5 @@ returns-clause-entries g c = IfOk-weaker c.queue_search-minima.result _ _
 
 pub returns-clause-least : goal.returns-clause-least
 returns-clause-least g c = IfOk-weaker c.queue_search-minima.result _ _
-    (λ minima is. reported-least_cost _ _ _ c.args.fragments.now _ is c.requires.case.equal)
+    (λ minima is. reported-least_cost _ c.requires.case.equal _ is)
     (returns-clause-entries g c)

@@ -1,17 +1,15 @@
 use Rattle.textwrap_base.proofs.minima.table_minima.Goals as goal
-use Rattle.textwrap_text.proofs.Common.{Vec, arith, ◌∙◌, ap, subst, map, ℕ, ◌≤◌, ◌^◌}
-use Rattle.textwrap_base.proofs.Common.{priced_by, Costs, entry_at, minimum_of}
-use Rattle.textwrap_base.specs.Table.{table}
-use Rattle.textwrap_base.specs.declared.minima.table.Entry.{Entry}
+use Rattle.textwrap_text.proofs.Common.{arith, subst, Vec, map, ◌^◌, ◌∙◌, ◌≤◌, ap, ℕ}
+use Rattle.textwrap_base.proofs.Common.{minimum_of, problem_of, entry_at, Costs, Entry, table}
 use Rattle.textwrap_base.proofs.Cost.Results.{reported-least_cost}
-use Rattle.textwrap_base.proofs.Cost.Table.{table-fits, overflowed_on}
+use Rattle.textwrap_base.proofs.Cost.Table.{overflowed_on, table-fits}
 
 pub returns-in_err-entries-clause-no_overflow : goal.returns-in_err-entries-clause-no_overflow
 returns-in_err-entries-clause-no_overflow g c =
     let lines = c.in_ok-costs.ensures.costs in
     λ narrow over.
-    let fits = table-fits (priced_by g.T.Fragment.sizes g.T.Fragment.own_break_penalty c.in_range-penalties.result)
-    c.in_range-penalties.result c.args.line_widths.now c.args.fragments.now
+    let fits = table-fits (problem_of g.T.Fragment c.in_range-penalties.result
+    c.args.line_widths.now c.args.fragments.now)
     c.in_range-penalties.ensures.range c.in_ok-costs.ensures.break_penalties
     (λ i. omega (arith, c.type_inv.line_widths i)) narrow in
     let (i, first, steps) = c.in_err-entries.ensures.overflow
@@ -30,4 +28,4 @@ returns-clause-entries g c =
 
 pub returns-clause-least : goal.returns-clause-least
 returns-clause-least g c =
-    reported-least_cost _ _ _ c.args.fragments.now _ (returns-clause-entries g c)
+    λ equal. reported-least_cost _ equal _ (returns-clause-entries g c)

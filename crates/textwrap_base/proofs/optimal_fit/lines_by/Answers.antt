@@ -1,8 +1,7 @@
 use Rattle.textwrap_base.proofs.optimal_fit.lines_by.Goals as goal
-use Rattle.textwrap_text.proofs.Common.{arith, Bor, sym, ◌∙◌, ap, ◌≡◌, List, reverse, map, length}
-use Rattle.textwrap_text.proofs.Common.{drop}
-use Rattle.textwrap_base.specs.declared.minima.Minimum.{Minimum}
-use Rattle.textwrap_base.proofs.Cost.Chosen.{joined, joined_division, lines_more}
+use Rattle.textwrap_text.proofs.Common.{reverse, length, arith, List, drop, Bor, map, sym, ◌∙◌, ◌≡◌}
+use Rattle.textwrap_text.proofs.Common.{ap}
+use Rattle.textwrap_base.proofs.Cost.Chosen.{joined_division, lines_more, joined}
 use Rattle.textwrap_text.proofs.Lists.Elements.{reverse_map_push, reverse-map}
 use Rattle.textwrap_text.proofs.Numbers.{some_from_test}
 
@@ -11,9 +10,7 @@ loop-end-preserved g c =
     let shape = ap (λ (ls : List (Bor (List g.row.T.Denot))). reverse (map (λ line. line.now) ls))
     c.in_ok-push-2.ensures.items
     ∙ reverse_map_push (λ (line : Bor (List g.row.T.Denot)). line.now) c.loop-end.lines.items _ in
-    let more = lines_more c.args.fragments.now (map (λ (m : Minimum). m.start) c.args.minima.now)
-    (reverse (map (λ line. line.now) c.loop-end.lines.items)) c.line_start-start.result
-    c.loop-end.end c.line_start-start.ensures.before c.loop-end.invariant.within
+    let more = lines_more _ _ _ _ _ c.line_start-start.ensures.before c.loop-end.invariant.within
     (sym c.line_start-start.ensures.start) c.loop-end.invariant.tiles
     c.loop-end.invariant.nonempty c.loop-end.invariant.follow in
     record {
@@ -31,10 +28,7 @@ returns-clause-division g c =
     let some = some_from_test (length c.args.fragments.now) (sym c.is_empty.ensures
     ∙ c.if-is_empty.false) in
     let tiles = c.loop-end.invariant.tiles ∙ ap (λ n. drop n c.args.fragments.now) start in
-    rw shape
-    (joined_division c.args.fragments.now
-    (reverse (map (λ line. line.now) c.loop-end.lines.items)) some tiles
-    c.loop-end.invariant.nonempty)
+    rw shape (joined_division _ _ some tiles c.loop-end.invariant.nonempty)
 
 pub returns-clause-follow : goal.returns-clause-follow
 returns-clause-follow g c =

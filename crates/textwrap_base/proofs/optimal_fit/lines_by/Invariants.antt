@@ -1,8 +1,7 @@
 use Rattle.textwrap_base.proofs.optimal_fit.lines_by.Given as goal
-use Rattle.textwrap_text.proofs.Common.{◌≡◌, ◌≢◌, ◌≤◌, [], All, map, reverse, drop, length}
-use Rattle.textwrap_text.proofs.Common.{flat_map}
-use Rattle.textwrap_base.proofs.Common.{FollowStarts}
-use Rattle.textwrap_base.specs.declared.minima.Minimum.{Minimum}
+use Rattle.textwrap_text.proofs.Common.{flat_map, reverse, length, drop, All, map, ◌≡◌, ◌≢◌, ◌≤◌}
+use Rattle.textwrap_text.proofs.Common.{[]}
+use Rattle.textwrap_base.proofs.Common.{FollowStarts, Minimum}
 
 abbrev pub invariant-loop-end : goal.invariant-loop-end
 invariant-loop-end g l = record {

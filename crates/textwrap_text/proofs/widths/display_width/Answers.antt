@@ -1,7 +1,6 @@
 use Rattle.textwrap_text.proofs.widths.display_width.Goals as goal
-use Rattle.textwrap_text.proofs.Common.{◌≡◌, arith, eqb-true, length, sym, text_width}
-use Rattle.textwrap_text.proofs.Units.Reading.{text_width-le, columns_in-empty}
-use Rattle.textwrap_text.specs.declared.escapes.State.TheVariants.{Text}
+use Rattle.textwrap_text.proofs.Common.{text_width, eqb-true, length, arith, Text, sym, ◌≡◌}
+use Rattle.textwrap_text.proofs.Units.Reading.{columns_in-empty, text_width-le}
 use Rattle.textwrap_text.proofs.widths.display_width.Goals.{After-loop-rest}
 
 pub overflow_add-width : goal.overflow_add-width

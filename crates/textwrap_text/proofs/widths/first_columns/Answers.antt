@@ -1,7 +1,7 @@
 use Rattle.textwrap_text.proofs.widths.first_columns.Goals as goal
-use Rattle.textwrap_text.proofs.Common.{arith, drop, subst, ap, length, get_or, IsPrintableByte}
-use Rattle.textwrap_text.specs.declared.escapes.State.TheVariants.{Text}
-use Rattle.textwrap_text.proofs.Units.Reading.{IsMeasured, measured-printable}
+use Rattle.textwrap_text.proofs.Common.{IsPrintableByte, get_or, length, arith, subst, Text, drop}
+use Rattle.textwrap_text.proofs.Common.{ap}
+use Rattle.textwrap_text.proofs.Units.Reading.{measured-printable, IsMeasured}
 use Rattle.textwrap_text.proofs.widths.first_columns.Goals.{Then-printable-gt0}
 
 -- the printable ASCII at the beginning

@@ -1,10 +1,8 @@
 use Rattle.textwrap_text.proofs.widths.sequence_columns.Goals as goal
-use Rattle.textwrap_text.proofs.Common.{◌≡◌, ◌+◌, sym, ◌∙◌, arith, drop, length, length-drop}
-use Rattle.textwrap_text.proofs.Common.{char_indices_offset}
-use Rattle.std.specs.Str.Iter.{char_indices_rest}
-use Rattle.textwrap_text.proofs.Units.Reading.{IsMeasured, measured-le, measured-start}
-use Rattle.textwrap_text.proofs.Units.Reading.{measured-step, added, columns_in-empty}
-use Rattle.textwrap_text.specs.declared.escapes.State.TheVariants.{Text}
+use Rattle.textwrap_text.proofs.Common.{char_indices_offset, char_indices_rest, length-drop, length}
+use Rattle.textwrap_text.proofs.Common.{arith, Text, drop, sym, ◌+◌, ◌∙◌, ◌≡◌}
+use Rattle.textwrap_text.proofs.Units.Reading.{columns_in-empty, measured-start, measured-step}
+use Rattle.textwrap_text.proofs.Units.Reading.{measured-le, IsMeasured, added}
 use Rattle.textwrap_text.proofs.widths.sequence_columns.Goals.{Joined-is_visible}
 
 pub loop-at-init : goal.loop-at-init

@@ -1,7 +1,6 @@
 use Rattle.textwrap_text.proofs.widths.strip_ansi_escape_sequences.Goals as goal
-use Rattle.textwrap_text.proofs.Common.{◌≡◌, ◌≢◌, ◌++◌, string_bytes, append-nil, All, sym, ap, ◌∙◌}
-use Rattle.textwrap_text.proofs.Common.{subst, escape, stripped}
-use Rattle.textwrap_text.specs.Characters.{shown_text}
+use Rattle.textwrap_text.proofs.Common.{string_bytes, append-nil, shown_text, stripped, escape, All}
+use Rattle.textwrap_text.proofs.Common.{subst, ◌++◌, sym, ◌∙◌, ◌≡◌, ◌≢◌, ap}
 use Rattle.textwrap_text.proofs.Units.Characters.{shown-all}
 use Rattle.textwrap_text.proofs.Units.Reading.{stripped-plain}
 use Rattle.textwrap_text.proofs.widths.strip_ansi_escape_sequences.Goals.{In-None}

@@ -1,7 +1,6 @@
 use Rattle.textwrap_text.proofs.widths.strip_ansi_escape_sequences.Given as goal
-use Rattle.textwrap_text.proofs.Common.{◌≡◌, ◌++◌, string_bytes, stripped}
-use Rattle.textwrap_text.specs.Characters.{shown_text}
-use Rattle.textwrap_text.specs.CharactersLeft.{characters_left}
+use Rattle.textwrap_text.proofs.Common.{characters_left, string_bytes, shown_text, stripped, ◌++◌}
+use Rattle.textwrap_text.proofs.Common.{◌≡◌}
 
 -- the text so far, and that of the characters to come, are the whole
 abbrev pub invariant-loop-character : goal.invariant-loop-character

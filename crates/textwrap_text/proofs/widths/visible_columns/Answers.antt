@@ -1,10 +1,9 @@
 use Rattle.textwrap_text.proofs.widths.visible_columns.Goals as goal
-use Rattle.textwrap_text.proofs.Common.{◌≢◌, ◌+◌, arith, ne_eqb, char_indices_offset}
-use Rattle.std.specs.Str.Iter.{char_indices_rest}
-use Rattle.textwrap_text.proofs.Units.Reading.{IsMeasured, measured-le, measured-start}
-use Rattle.textwrap_text.proofs.Units.Reading.{measured-step}
+use Rattle.textwrap_text.proofs.Common.{char_indices_offset, char_indices_rest, ne_eqb, arith, Text}
+use Rattle.textwrap_text.proofs.Common.{◌+◌, ◌≢◌}
+use Rattle.textwrap_text.proofs.Units.Reading.{measured-start, measured-step, measured-le}
+use Rattle.textwrap_text.proofs.Units.Reading.{IsMeasured}
 use Rattle.textwrap_text.proofs.Texts.{ascii-here}
-use Rattle.textwrap_text.specs.declared.escapes.State.TheVariants.{Text}
 use Rattle.textwrap_text.proofs.widths.visible_columns.Goals.{After-columns-width}
 
 pub loop-at-init : goal.loop-at-init

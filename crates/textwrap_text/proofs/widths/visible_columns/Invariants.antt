@@ -1,7 +1,5 @@
 use Rattle.textwrap_text.proofs.widths.visible_columns.Given as goal
-use Rattle.textwrap_text.proofs.Common.{char_indices_offset}
-use Rattle.std.specs.Str.Iter.{char_indices_rest}
-use Rattle.textwrap_text.specs.declared.escapes.State.TheVariants.{Text}
+use Rattle.textwrap_text.proofs.Common.{char_indices_offset, char_indices_rest, Text}
 use Rattle.textwrap_text.proofs.Units.Reading.{IsMeasured}
 
 -- the iterator has left what the reader has not read

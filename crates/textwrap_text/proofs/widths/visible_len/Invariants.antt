@@ -1,7 +1,5 @@
 use Rattle.textwrap_text.proofs.widths.visible_len.Given as goal
-use Rattle.textwrap_text.proofs.Common.{◌≡◌, ◌+◌, length, stripped}
-use Rattle.textwrap_text.specs.Characters.{shown_text}
-use Rattle.textwrap_text.specs.CharactersLeft.{characters_left}
+use Rattle.textwrap_text.proofs.Common.{characters_left, shown_text, stripped, length, ◌+◌, ◌≡◌}
 
 -- the bytes so far, and those of the characters to come, are the whole
 abbrev pub invariant-loop-character : goal.invariant-loop-character

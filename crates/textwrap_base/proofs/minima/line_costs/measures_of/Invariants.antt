@@ -1,8 +1,7 @@
 use Rattle.textwrap_base.proofs.minima.line_costs.measures_of.Given as goal
-use Rattle.textwrap_text.proofs.Common.{◌≡◌, ℕ, ◌-◌, ◌^◌, ◌<◌, ◌≤◌, All, length, get_or, take, map}
-use Rattle.textwrap_base.proofs.Common.{open_width, priced_by, measured}
+use Rattle.textwrap_text.proofs.Common.{get_or, length, take, All, map, ◌-◌, ◌<◌, ◌^◌, ◌≡◌, ◌≤◌, ℕ}
+use Rattle.textwrap_base.proofs.Common.{open_width, priced_by, measured, Measure}
 use Rattle.textwrap_base.proofs.Cost.Measures.{measured_sizes}
-use Rattle.textwrap_base.specs.declared.minima.line_costs.Measure.{Measure}
 
 abbrev pub invariant-loop-fragment : goal.invariant-loop-fragment
 invariant-loop-fragment g l = record {

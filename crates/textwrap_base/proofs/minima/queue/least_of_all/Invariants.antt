@@ -1,7 +1,7 @@
 use Rattle.textwrap_base.proofs.minima.queue.least_of_all.Given as goal
 use Rattle.textwrap_text.proofs.Common.{◌≡◌}
-use Rattle.textwrap_base.proofs.Common.{counted, least_entry, cost_from, entry_from, IsLeastBelow}
-use Rattle.textwrap_base.specs.Table.{table}
+use Rattle.textwrap_base.proofs.Common.{IsLeastBelow, least_entry, entry_from, cost_from, counted}
+use Rattle.textwrap_base.proofs.Common.{table}
 
 abbrev pub invariant-loop-start : goal.invariant-loop-start
 invariant-loop-start g l =

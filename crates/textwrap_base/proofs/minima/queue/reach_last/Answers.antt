@@ -32,10 +32,7 @@ loop-stretches-preserved g c =
       within = omega (arith, a.len);
       stretches = rw len (rw i.same at a.stretches);
       current = rw len a.current;
-      steps = steps_more n m (g.C.CostSource.steps c.args.costs.now)
-          (g.C.CostSource.steps c.loop-stretches.costs) (g.C.CostSource.steps c.advance.new.costs)
-          (vec_len c.loop-stretches.stretches) (vec_len c.advance.new.stretches) (omega arith) i.steps step
-          (vec_len c.advance.new.minima) a.len;
+      steps = steps_more _ _ _ _ _ _ _ (omega arith) i.steps step _ a.len;
       never_less = omega (arith, a.never_less);
     }
 
@@ -47,7 +44,5 @@ returns-in_err-advance-clause-steps g c =
     ≤ g.C.CostSource.steps c.loop-stretches.costs + vec_len c.loop-stretches.stretches + 10
     + 2 * binary_digits (c.ends-ends.result - (vec_len c.loop-stretches.minima + 1)) =
     omega (arith, rw same at c.in_err-advance.ensures.steps, c.drop_passed-current.ensures.fewer) in
-    rw (← c.ends-ends.ensures) (steps_within c.ends-ends.result (vec_len c.loop-stretches.minima)
-    (g.C.CostSource.steps c.args.costs.now) (g.C.CostSource.steps c.loop-stretches.costs)
-    (g.C.CostSource.steps c.advance.new.costs) (vec_len c.loop-stretches.stretches)
-    (vec_len c.advance.new.stretches) (omega arith) c.loop-stretches.invariant.steps step)
+    rw (← c.ends-ends.ensures)
+    (steps_within _ _ _ _ _ _ _ (omega arith) c.loop-stretches.invariant.steps step)

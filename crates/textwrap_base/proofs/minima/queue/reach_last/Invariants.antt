@@ -1,8 +1,6 @@
 use Rattle.textwrap_base.proofs.minima.queue.reach_last.Given as goal
-use Rattle.textwrap_text.proofs.Common.{◌≡◌, ◌+◌, ◌*◌, ◌-◌, ◌/◌, ◌<◌, ◌≤◌, vec_len}
-use Rattle.textwrap_base.proofs.Common.{binary_digits, HasEnd}
-use Rattle.textwrap_base.specs.Search.{AreMinima}
-use Rattle.textwrap_base.specs.Stretches.{AreStretches}
+use Rattle.textwrap_text.proofs.Common.{vec_len, ◌*◌, ◌+◌, ◌-◌, ◌/◌, ◌<◌, ◌≡◌, ◌≤◌}
+use Rattle.textwrap_base.proofs.Common.{binary_digits, AreStretches, AreMinima, HasEnd}
 
 -- the starts of the second half have less than half of the ends to come: so their bisections are
 -- shorter by a look of two steps

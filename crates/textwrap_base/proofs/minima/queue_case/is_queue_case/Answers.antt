@@ -1,17 +1,16 @@
 use Rattle.textwrap_base.proofs.minima.queue_case.is_queue_case.Goals as goal
 use Rattle.textwrap_text.proofs.Common.{rules}
-use Rattle.textwrap_base.proofs.Common.{priced_by, IsQueueCase, problem_of}
+use Rattle.textwrap_base.proofs.Common.{IsQueueCase, problem_of}
 use Rattle.textwrap_base.proofs.Cost.LineCosts.{AreConvex-rising}
 use Rattle.textwrap_base.proofs.Cost.QueueCase.{SuitQueue-queue_case}
 
 pub returns-then-break_penalties_suit-clause-convex : goal.returns-then-break_penalties_suit-clause-convex
 returns-then-break_penalties_suit-clause-convex g c = λ yes.
-    AreConvex-rising (priced_by g.T.Fragment.sizes g.T.Fragment.own_break_penalty c.args.penalties.now)
-    c.args.penalties.now c.args.line_widths.now c.args.fragments.now
-    (c.closed_widths_never_fall.ensures.0 yes)
+    AreConvex-rising (problem_of g.T.Fragment c.args.penalties.now c.args.line_widths.now
+    c.args.fragments.now) (c.closed_widths_never_fall.ensures.0 yes)
 
 pub returns-then-break_penalties_suit-clause-suits : goal.returns-then-break_penalties_suit-clause-suits
 returns-then-break_penalties_suit-clause-suits g c = λ yes.
     let case : IsQueueCase (problem_of g.T.Fragment c.args.penalties.now c.args.line_widths.now
     c.args.fragments.now) = search (rules, yes) in
-    SuitQueue-queue_case _ _ _ _ case
+    SuitQueue-queue_case _ case

@@ -1,10 +1,9 @@
 use Rattle.textwrap_base.proofs.minima.stretches.drop_beaten.Goals as goal
-use Rattle.textwrap_text.proofs.Common.{◌≡◌, ◌+◌, ◌-◌, ◌<◌, ◌≤◌, length, take, vec_len, arith}
-use Rattle.textwrap_text.proofs.Common.{rules, sym, ap, ◌∙◌, take_all, take-take, length-take}
-use Rattle.textwrap_base.proofs.Common.{cost_from, stretch_at, IsPriced}
-use Rattle.textwrap_base.specs.declared.minima.stretches.Stretch.{Stretch}
-use Rattle.textwrap_base.proofs.Search.{HaveBest-take, IsBestFrom-beaten, stretch_at-read}
-use Rattle.textwrap_base.proofs.Search.{stretch_at-left, begins_after}
+use Rattle.textwrap_text.proofs.Common.{length-take, take-take, take_all, vec_len, length, arith}
+use Rattle.textwrap_text.proofs.Common.{rules, take, sym, ◌+◌, ◌-◌, ◌<◌, ◌∙◌, ◌≡◌, ◌≤◌, ap}
+use Rattle.textwrap_base.proofs.Common.{stretch_at, cost_from, IsPriced, Stretch}
+use Rattle.textwrap_base.proofs.Search.{IsBestFrom-beaten, stretch_at-left, stretch_at-read}
+use Rattle.textwrap_base.proofs.Search.{HaveBest-take, begins_after}
 
 pub loop-stretches-init : goal.loop-stretches-init
 loop-stretches-init g c =
@@ -104,11 +103,9 @@ loop-stretches-preserved g c =
           (omega arith));
       before = omega (arith, priced.before_last);
       priced = λ l. asked;
-      best = HaveBest-take costs m c.loop-stretches.won.from (n - 1) c.index-last.result.now.from q
-          less i.best (omega arith) left from (omega arith);
-      wins = IsBestFrom-beaten costs c.requires.suits m start (omega arith) q (n - 1)
-          c.loop-stretches.won.from (omega arith) i.best c.index-last.result.now.from i.wins
-          begins (omega arith) (λ _. cheaper);
+      best = HaveBest-take _ _ _ _ _ _ _ i.best (omega arith) left from (omega arith);
+      wins = IsBestFrom-beaten _ c.requires.suits _ _ (omega arith) _ (n - 1) _ (omega arith)
+          i.best _ i.wins begins (omega arith) (λ _. cheaper);
       steps = omega (arith, c.price-cost.ensures.step, i.steps);
       never_less = omega arith;
     }

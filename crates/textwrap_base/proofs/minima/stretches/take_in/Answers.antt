@@ -7,25 +7,17 @@ pub returns-in_ok-push-clause-stretches : goal.returns-in_ok-push-clause-stretch
 returns-in_ok-push-clause-stretches g c =
     let costs = g.C.CostSource.costs c.args.costs.now in
     let s = c.new_stretch-stretch.result in
-    let q = c.new_stretch-stretch.new.stretches.items in
     let is = c.new_stretch-stretch.ensures in
-    let start = length c.args.minima.now - 1 in
     let before_last : s.from < costs.ends = omega (arith, ap (λ (l : Costs). l.ends) is.same) in
-    let len : length q ≡ vec_len c.new_stretch-stretch.new.stretches = omega arith in
-    let priced : IsPriced costs start s =
+    let len : length c.new_stretch-stretch.new.stretches.items
+    ≡ vec_len c.new_stretch-stretch.new.stretches = omega arith in
+    let priced : IsPriced costs (length c.args.minima.now - 1) s =
     record { within = omega arith; before_last = before_last; cost = λ _. is.priced before_last } in
-    AreStretches-push q c.push.new.self.items s c.in_ok-push.ensures.items costs
-    (length c.args.minima.now - 2) start (vec_len c.new_stretch-stretch.new.stretches)
-    c.args.stretches.now.items (omega arith) c.requires.stretches is.left (omega arith) priced is.start
-    (rw len is.later) is.best is.wins
+    AreStretches-push _ _ s c.in_ok-push.ensures.items _ _ _ _ _ (omega arith)
+    c.requires.stretches is.left (omega arith) priced is.start (rw len is.later) is.best is.wins
 
 pub returns-else-stretch-ends-clause-stretches : goal.returns-else-stretch-ends-clause-stretches
 returns-else-stretch-ends-clause-stretches g c =
-    let costs = g.C.CostSource.costs c.args.costs.now in
     let is = c.new_stretch-stretch.ensures in
-    let last : c.new_stretch-stretch.result.from ≡ costs.ends =
-    omega (arith, ap (λ (l : Costs). l.ends) is.same) in
-    AreStretches-left costs (length c.args.minima.now - 2) (length c.args.minima.now - 1)
-    (vec_len c.new_stretch-stretch.new.stretches) c.new_stretch-stretch.result.from
-    c.args.stretches.now.items c.new_stretch-stretch.new.stretches.items (omega arith)
-    c.requires.stretches is.left is.best last
+    AreStretches-left _ _ _ _ _ _ _ (omega arith) c.requires.stretches is.left is.best
+    (omega (arith, ap (λ (l : Costs). l.ends) is.same))

@@ -7,9 +7,7 @@ loop-start-preserved g c =
     let entry = rw c.loop-start.invariant.same at c.entry_from.ensures.entry in
     record {
       best = rw c.cheaper-best.ensures
-          (best_more (g.C.CostSource.costs c.args.costs.now).cost c.args.entries.now c.args.end
-          c.loop-start.start c.loop-start.best c.entry_from.result c.loop-start.invariant.best
-          entry);
+          (best_more (g.C.CostSource.costs c.args.costs.now).cost _ _ _ _ _ c.loop-start.invariant.best entry);
       same = search rules;
       steps = omega (arith, c.entry_from.ensures.steps, c.loop-start.invariant.steps);
     }

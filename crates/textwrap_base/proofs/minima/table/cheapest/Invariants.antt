@@ -1,7 +1,6 @@
 use Rattle.textwrap_base.proofs.minima.table.cheapest.Given as goal
 use Rattle.textwrap_text.proofs.Common.{◌≡◌}
-use Rattle.textwrap_base.proofs.Common.{counted}
-use Rattle.textwrap_base.specs.Table.{IsBestBelow}
+use Rattle.textwrap_base.proofs.Common.{IsBestBelow, counted}
 
 abbrev pub invariant-loop-start : goal.invariant-loop-start
 invariant-loop-start g l = record {

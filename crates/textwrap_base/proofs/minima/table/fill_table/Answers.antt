@@ -46,13 +46,11 @@ pub loop-last-preserved : goal.loop-last-preserved
 loop-last-preserved g c =
     let best = rw (c.deref.ensures.value, c.loop-last.invariant.entries, c.loop-last.invariant.same)
     at c.in-Some.ensures.best in
-    let more = table_next (g.C.CostSource.costs c.args.costs.now).cost c.loop-last.last
-    c.in-Some.entry best.0 in
+    let more = table_next _ _ _ best.0 in
     record {
       entries = c.in_ok-push-2.ensures.items
           ∙ ap (λ entries. entries ++ c.in-Some.entry ∷ []) c.loop-last.invariant.entries ∙ more;
-      fits = table_fits (g.C.CostSource.costs c.args.costs.now).cost c.loop-last.last
-          c.in-Some.entry more best.1 c.loop-last.invariant.fits;
+      fits = table_fits _ _ _ more best.1 c.loop-last.invariant.fits;
       same = c.cheapest.ensures.same ∙ c.loop-last.invariant.same;
       steps = counted_next _ _ _ c.loop-last.last c.loop-last.invariant.steps
           c.cheapest.ensures.steps;

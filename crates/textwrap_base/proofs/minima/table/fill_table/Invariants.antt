@@ -1,7 +1,6 @@
 use Rattle.textwrap_base.proofs.minima.table.fill_table.Given as goal
-use Rattle.textwrap_text.proofs.Common.{◌≡◌, ℕ, ◌≤◌, ◌<◌, ◌^◌}
-use Rattle.textwrap_base.proofs.Common.{counted, table_steps, entry_at}
-use Rattle.textwrap_base.specs.Table.{table}
+use Rattle.textwrap_text.proofs.Common.{◌<◌, ◌^◌, ◌≡◌, ◌≤◌, ℕ}
+use Rattle.textwrap_base.proofs.Common.{table_steps, entry_at, counted, table}
 
 abbrev pub invariant-loop-last : goal.invariant-loop-last
 invariant-loop-last g l = record {

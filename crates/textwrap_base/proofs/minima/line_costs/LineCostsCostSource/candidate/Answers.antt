@@ -11,8 +11,8 @@ cost_is : (g : _) (c : After-line_cost g)
     ≡ line_costs (problem_by measured c.self.inside.penalties c.deref-2.result.now c.deref.result.now)
     c.args.start c.args.end c.args.line_number
 cost_is g c = rw (c.deref-2.ensures.value, c.deref.ensures.value, ← c.self.view_is)
-    (line_costs-at measured c.self.inside.penalties c.self.inside.line_widths.items
-    c.self.inside.measures.items c.args.start c.args.end c.args.line_number)
+    (line_costs-at (problem_by measured c.self.inside.penalties c.self.inside.line_widths.items
+    c.self.inside.measures.items) c.args.start c.args.end c.args.line_number)
 
 pub returns-clause-cost : goal.returns-clause-cost
 returns-clause-cost g c =

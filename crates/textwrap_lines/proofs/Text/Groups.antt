@@ -5,7 +5,7 @@ use Rattle.textwrap_lines.proofs.Common.{All-append, AreDividedParts, IsDividedI
 use Rattle.textwrap_lines.proofs.Common.{AreTextLines, length-append, paragraphs_of, tiled-word_of}
 use Rattle.textwrap_lines.proofs.Common.{All-cons, All-weaker, AreIndented, AreWordsOf, IsDividedBy}
 use Rattle.textwrap_lines.proofs.Common.{[], Algorithm, AreGroups, ArePoints, DividesAs, StartsWith}
-use Rattle.textwrap_lines.proofs.Common.{All, DividesBy, LeastCost, LineParts, MatchBool, priced_at}
+use Rattle.textwrap_lines.proofs.Common.{All, DividesBy, LeastCost, LineParts, MatchBool}
 use Rattle.textwrap_lines.proofs.Common.{All-head, All-tail, flat_map, Settings, Splitter, WordText}
 use Rattle.textwrap_lines.proofs.Common.{All-nil, ap, Greedy, is_whole, sizes_of, word_of, words_of}
 use Rattle.textwrap_lines.proofs.Common.{arith, false, IsUtf8, length, nat_lt, rules, subst, tiled}

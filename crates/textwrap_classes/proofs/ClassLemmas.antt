@@ -1,44 +1,42 @@
 -- The classes of characters, told without the tables.
-use Rattle.textwrap_classes.proofs.Common.{cases_Bool, slice_index_or, if◌then◌else◌, Ideographic}
-use Rattle.textwrap_classes.proofs.Common.{Ambiguous, ℕ, not-true, CLASSES, class_of}
-use Rattle.textwrap_classes.proofs.Common.{unit_of, false, arith, Bool, true, ◌&&◌, ◌==◌}
-use Rattle.textwrap_classes.proofs.Common.{refl, ◌||◌, Unit, ◌≡◌, ◌<◌, ◌≤◌, not, ◌-◌, ◌+◌}
-use Rattle.textwrap_classes.proofs.Common.{ap, sym, ◌∙◌}
+use Rattle.textwrap_classes.proofs.Common.{slice_index_or, if◌then◌else◌, Ideographic, cases_Bool}
+use Rattle.textwrap_classes.proofs.Common.{Ambiguous, not-true, class_of, CLASSES, unit_of, false}
+use Rattle.textwrap_classes.proofs.Common.{arith, subst, Bool, true, ◌&&◌, ◌==◌, refl, ◌||◌, Unit}
+use Rattle.textwrap_classes.proofs.Common.{List, ◌≡◌, ◌<◌, ◌≤◌, not, ◌-◌, ◌+◌, sym, ◌∙◌, ap, ℕ}
 use Rattle.std.proofs.Common.{eqb-true}
 use Rattle.unicode.specs.Binary.{is_extended_pictographic}
 use Rattle.unicode.specs.EastAsianWidth.{east_asian_width}
 use Rattle.unicode.specs.GeneralCategory.{general_category}
-use Rattle.unicode.specs.LineBreak.{line_break, line_break_number}
+use Rattle.unicode.specs.LineBreak.{line_break_number, line_break}
 use Rattle.unicode.proofs.BinaryLemmas.{is_extended_pictographic_stepped}
 use Rattle.unicode.proofs.BreaksComputing.{ucd_breaks}
 use Rattle.unicode.proofs.CategoryComputing.{ucd_category}
 use Rattle.unicode.proofs.EastAsianComputing.{ucd_east_asian}
 use Rattle.unicode.proofs.EmojiComputing.{ucd_emoji}
 use Rattle.unicode.proofs.EastAsianWidthLemmas.{east_asian_width_stepped}
-use Rattle.unicode.proofs.Facts.{Stepped-below}
 use Rattle.unicode.proofs.GeneralCategoryLemmas.{general_category_stepped}
-use Rattle.unicode.proofs.LineBreakLemmas.{line_break_stepped, line_break_number_injective}
-use Rattle.unicode.proofs.Stepped.{Stepped, map_stepped, zip_stepped}
-use Rattle.unicode.proofs.StepsLemmas.{skip, step_value-skip}
-use Rattle.unicode.proofs.TrieCheck.{all_below, all_below-at}
-use Rattle.unicode.specs.Steps.{step_value}
+use Rattle.unicode.proofs.LineBreakLemmas.{line_break_number_injective, line_break_stepped}
+use Rattle.unicode.proofs.Stepped.{map_stepped, zip_stepped, Stepped}
+use Rattle.unicode.proofs.StepsLemmas.{step_value-skip, skip}
+use Rattle.unicode.proofs.TrieCheck.{all_below-at, all_below}
+use Rattle.unicode.specs.Steps.{step_value, Step}
 use Rattle.textwrap_text.proofs.Units.Texts.{passes-within}
 use Rattle.textwrap_classes.specs.Classes.{is_unassigned, is_wide, resolve}
 use Rattle.textwrap_classes.specs.declared.japanese.TheConstants.{SYLLABLES, WIDE}
 
 -- ---- what is asked of a character, as steps, over which proofs compute
 
-abbrev pub wide_at : ℕ → Bool
+abbrev wide_at : ℕ → Bool
 wide_at c = is_wide (east_asian_width c)
 
 abbrev unassigned_at : ℕ → Bool
 unassigned_at c = is_extended_pictographic c && is_unassigned (general_category c)
 
-abbrev pub class_stepped : Stepped class_of
+abbrev class_stepped : Stepped class_of
 class_stepped =
     zip_stepped resolve line_break general_category line_break_stepped general_category_stepped
 
-abbrev pub wide_stepped : Stepped wide_at
+abbrev wide_stepped : Stepped wide_at
 wide_stepped = map_stepped is_wide east_asian_width east_asian_width_stepped
 
 abbrev unassigned_stepped : Stepped unassigned_at
@@ -46,46 +44,22 @@ unassigned_stepped = zip_stepped (λ p category. p && is_unassigned category)
     is_extended_pictographic general_category is_extended_pictographic_stepped
     general_category_stepped
 
--- ---- ASCII
+-- a stretch of characters, each of which passes with its value
+unfoldable stretch_passes : {V : Type 0} → (ℕ → V → Bool) → V → ℕ → ℕ → List (Step V) → Bool
+stretch_passes test default from n steps =
+    all_below (λ k. test (from + k) (step_value default steps (from + k))) n
 
-ascii-class : (c : ℕ) → c < 128 → slice_index_or CLASSES c Ambiguous ≡ class_of c
-unfolding ucd_breaks ucd_category
-ascii-class c below =
-    line_break_number_injective _ _ (eqb-true _ _
-    (Stepped-below class_of class_stepped
-    (λ x v. line_break_number (slice_index_or CLASSES x Ambiguous) == line_break_number v) 128 refl
-    c below))
-
-ascii-narrow : (c : ℕ) → c < 128 → wide_at c ≡ false
-unfolding ucd_east_asian
-ascii-narrow c below =
-    not-true _ (Stepped-below wide_at wide_stepped (λ x v. not v) 128 refl c below)
-
-ascii-assigned : (c : ℕ) → c < 128 → unassigned_at c ≡ false
-unfolding ucd_emoji ucd_category
-ascii-assigned c below =
-    not-true _ (Stepped-below unassigned_at unassigned_stepped (λ x v. not v) 128 refl c below)
-
-pub ascii-unit : (c : ℕ) → c < 128 → ◌≡◌ {A = Unit} (record {
-  class = slice_index_or CLASSES c Ambiguous;
-  is_wide = false;
-  is_unassigned_pictograph = false;
-}) (unit_of c)
-ascii-unit c below = rw (ascii-class c below, ascii-narrow c below, ascii-assigned c below) refl
-
--- ---- ranges
-
-ideograph-class : (c : ℕ) → 0x4E00 ≤ c → c ≤ 0x9FFF → Ideographic ≡ class_of c
-unfolding ucd_breaks ucd_category
-ideograph-class c low high =
-    line_break_number_injective _ _ (eqb-true _ _
-    (passes-within (0x4E00, 0x9FFF) refl class_of class_stepped
-    (λ v. line_break_number Ideographic == line_break_number v) (omega arith) refl c low high))
-
-ideograph-wide : (c : ℕ) → 0x4E00 ≤ c → c ≤ 0x9FFF → wide_at c ≡ true
-unfolding ucd_east_asian
-ideograph-wide c low high =
-    passes-within (0x4E00, 0x9FFF) refl wide_at wide_stepped (λ v. v) (omega arith) refl c low high
+-- the steps before it are skipped once
+passes-stretch : {V : Type 0} (f : ℕ → V) (s : Stepped f) (test : ℕ → V → Bool) (from n : ℕ)
+    → stretch_passes test s.default from n (skip s.steps from) ≡ true
+    → (c : ℕ) → from ≤ c → c < from + n → test c (f c) ≡ true
+unfolding stretch_passes
+passes-stretch f s test from n ok c low high =
+    let place : from + (c - from) ≡ c = omega (arith, low) in
+    ap (test c) (s.gives c ∙ sym (step_value-skip s.default s.steps from c low))
+    ∙ subst (λ x. test x (step_value s.default (skip s.steps from) x) ≡ true) place
+    (all_below-at (λ k. test (from + k) (step_value s.default (skip s.steps from) (from + k))) n
+    (c - from) ok (omega (arith, low, high)))
 
 pub early-assigned : (c : ℕ) → c < 0x1_F000 → unassigned_at c ≡ false
 unfolding ucd_emoji ucd_category
@@ -93,6 +67,45 @@ early-assigned c below =
     not-true _
     (passes-within (0, 0x1_EFFF) refl unassigned_at unassigned_stepped not (omega arith)
     refl c (omega arith) (omega (arith, below)))
+
+-- ---- ASCII
+
+pub ascii-class : (c : ℕ) → c < 128 → slice_index_or CLASSES c Ambiguous ≡ class_of c
+unfolding ucd_breaks ucd_category stretch_passes
+ascii-class c below =
+    line_break_number_injective _ _ (eqb-true _ _
+    (passes-stretch class_of class_stepped
+    (λ x v. line_break_number (slice_index_or CLASSES x Ambiguous) == line_break_number v) 0 128
+    refl c (omega arith) below))
+
+ascii-narrow : (c : ℕ) → c < 128 → wide_at c ≡ false
+unfolding ucd_east_asian stretch_passes
+ascii-narrow c below =
+    not-true _
+    (passes-stretch wide_at wide_stepped (λ x v. not v) 0 128 refl c (omega arith) below)
+
+pub ascii-unit : (c : ℕ) → c < 128 → ◌≡◌ {A = Unit} (record {
+  class = slice_index_or CLASSES c Ambiguous;
+  is_wide = false;
+  is_unassigned_pictograph = false;
+}) (unit_of c)
+ascii-unit c below =
+    rw (ascii-class c below, ascii-narrow c below, early-assigned c (omega (arith, below))) refl
+
+-- ---- ideographs
+
+ideograph-class : (c : ℕ) → 0x4E00 ≤ c → c ≤ 0x9FFF → Ideographic ≡ class_of c
+unfolding ucd_breaks
+ideograph-class c low high =
+    ap (λ v. resolve v (general_category c))
+    (line_break_number_injective Ideographic _ (eqb-true _ _
+    (passes-within (0x4E00, 0x9FFF) refl line_break line_break_stepped
+    (λ v. line_break_number Ideographic == line_break_number v) (omega arith) refl c low high)))
+
+ideograph-wide : (c : ℕ) → 0x4E00 ≤ c → c ≤ 0x9FFF → wide_at c ≡ true
+unfolding ucd_east_asian
+ideograph-wide c low high =
+    passes-within (0x4E00, 0x9FFF) refl wide_at wide_stepped (λ v. v) (omega arith) refl c low high
 
 pub ideograph-unit : (c : ℕ) → 0x4E00 ≤ c → c ≤ 0x9FFF → ◌≡◌ {A = Unit} (record {
   class = Ideographic;
@@ -103,18 +116,6 @@ ideograph-unit c low high = grind (arith, ideograph-class, ideograph-wide, early
 
 -- ---- what the tables of Unicode give for the signs and syllables of Japanese, which the code
 -- does not look up
-
--- a stretch of characters, each of which passes with its value
-passes-stretch : {V : Type 0} (f : ℕ → V) (s : Stepped f) (test : ℕ → V → Bool) (from n : ℕ)
-    → all_below (λ k. test k (step_value s.default (skip s.steps from) (from + k))) n ≡ true
-    → (c : ℕ) → from ≤ c → c < from + n → test (c - from) (f c) ≡ true
-passes-stretch f s test from n ok c low high =
-    let place : from + (c - from) ≡ c = omega (arith, low) in
-    ap (test (c - from))
-    (s.gives c ∙ sym (step_value-skip s.default s.steps from c low)
-    ∙ ap (step_value s.default (skip s.steps from)) (sym place))
-    ∙ all_below-at (λ k. test k (step_value s.default (skip s.steps from) (from + k))) n (c - from) ok
-    (omega (arith, low, high))
 
 -- the second, where the first fails
 pub past-first : (a b : Bool) → a ≡ false → a || b ≡ true → b ≡ true
@@ -128,18 +129,19 @@ agree-same a b e = grind (arith, cases_Bool)
 
 syllable-class : (c : ℕ) → 0x3000 ≤ c → c ≤ 0x30FF
     → slice_index_or SYLLABLES (c - 0x3000) Ambiguous ≡ class_of c
-unfolding ucd_breaks ucd_category
+unfolding ucd_breaks ucd_category stretch_passes
 syllable-class c from to =
     line_break_number_injective _ _ (eqb-true _ _
     (passes-stretch class_of class_stepped
-    (λ k v. line_break_number (slice_index_or SYLLABLES k Ambiguous) == line_break_number v)
+    (λ x v. line_break_number (slice_index_or SYLLABLES (x - 0x3000) Ambiguous)
+    == line_break_number v)
     0x3000 0x100 refl c from (omega (arith, to))))
 
 syllable-wide : (c : ℕ) → 0x3000 ≤ c → c ≤ 0x30FF → slice_index_or WIDE (c - 0x3000) false ≡ wide_at c
-unfolding ucd_east_asian
+unfolding ucd_east_asian stretch_passes
 syllable-wide c from to =
     agree-same _ _
-    (passes-stretch wide_at wide_stepped (λ k v. agree (slice_index_or WIDE k false) v)
+    (passes-stretch wide_at wide_stepped (λ x v. agree (slice_index_or WIDE (x - 0x3000) false) v)
     0x3000 0x100 refl c from (omega (arith, to)))
 
 pub japanese-unit : (c : ℕ) → 0x3000 ≤ c → c ≤ 0x30FF → ◌≡◌ {A = Unit} (record {

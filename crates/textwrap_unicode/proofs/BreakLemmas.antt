@@ -1,18 +1,17 @@
 -- The breaks that the iterator has still to give, and what the rules ask of the text before a place
 -- and past it.
-use Rattle.textwrap_classes.proofs.Common.{if◌then◌else◌, takes_no_mark, ◌≡◌, cases_Bool, ℕ}
-use Rattle.textwrap_classes.proofs.Common.{is_number, read-next, is_mark, class_of, unit_of, false}
-use Rattle.textwrap_classes.proofs.Common.{length, get_or, IsUtf8, true, ◌&&◌, List, [], arith}
-use Rattle.textwrap_classes.proofs.Common.{chars, encode, not, ◌∷◌, refl, sym, ◌∙◌, ◌+◌, drop, ◌++◌}
-use Rattle.textwrap_classes.proofs.Common.{ap, ◌<◌}
-use Rattle.textwrap_unicode.proofs.Common.{breaks_after, number_first, first_class, takes_marks}
-use Rattle.textwrap_unicode.proofs.Common.{numbers_rule, breaks_from, is_empty, Prohibited}
-use Rattle.textwrap_unicode.proofs.Common.{before_of, with_unit, nothing, decide_by, break_at}
-use Rattle.textwrap_unicode.proofs.Common.{Numbers, ByPairs, Verdict, Before, Text, and}
+use Rattle.textwrap_classes.proofs.Common.{if◌then◌else◌, takes_no_mark, cases_Bool, is_number, ◌≡◌}
+use Rattle.textwrap_classes.proofs.Common.{read-next, class_of, is_mark, unit_of, length, get_or, ℕ}
+use Rattle.textwrap_classes.proofs.Common.{IsUtf8, encode, false, arith, chars, true, ◌&&◌, List}
+use Rattle.textwrap_classes.proofs.Common.{refl, drop, ◌++◌, not, ◌∷◌, sym, ◌∙◌, ◌+◌, ◌<◌, [], ap}
+use Rattle.textwrap_unicode.proofs.Common.{breaks_after, number_first, numbers_rule, first_class}
+use Rattle.textwrap_unicode.proofs.Common.{takes_marks, breaks_from, Prohibited, before_of, nothing}
+use Rattle.textwrap_unicode.proofs.Common.{with_unit, decide_by, is_empty, break_at, Numbers, Text}
+use Rattle.textwrap_unicode.proofs.Common.{ByPairs, Verdict, Before, and}
 use Rattle.unicode.specs.declared.properties.LineBreak.TheVariants.{Alphabetic}
 use Rattle.textwrap_classes.specs.declared.classes.Unit.{Unit}
 use Rattle.std.proofs.lemmas.List.{at_drop_more}
-use Rattle.textwrap_text.proofs.Units.Reading.{read-ahead, read-none, read-start, IsRead, read-all}
+use Rattle.textwrap_text.proofs.Units.Reading.{read-ahead, read-start, read-none, read-all, IsRead}
 use Rattle.textwrap_text.proofs.Common.{chars-nil}
 use Rattle.textwrap_unicode.specs.declared.breaks.LineBreak.{LineBreak}
 use Rattle.textwrap_unicode.specs.WordStarts.{plain_letter}

@@ -1,20 +1,19 @@
 -- The breaks of a text are one list in order, and what is said of one place.
 use Rattle.textwrap_text.proofs.Texts.{some-bytes}
-use Rattle.textwrap_classes.proofs.Common.{if◌then◌else◌, length-append, false, zero, get_or}
-use Rattle.textwrap_classes.proofs.Common.{length, unit_of, ℕ, Bool, true, List, subst, arith}
-use Rattle.textwrap_classes.proofs.Common.{chars, IsUtf8, encode, ◌≡◌, ◌↔◌, suc, ◌+◌, ◌<◌, ◌≤◌, []}
-use Rattle.textwrap_classes.proofs.Common.{◌++◌, take, ◌∷◌, sym, ap, inl, inr, ◌∙◌}
-use Rattle.textwrap_unicode.proofs.Common.{breaks_from, numbers_rule, Mandatory, Prohibited}
-use Rattle.textwrap_unicode.proofs.Common.{before_of, with_unit, verdict_by, Numbers, is_empty}
-use Rattle.textwrap_unicode.proofs.Common.{break_at, breaks_by, decide_by, Verdict, Allowed}
-use Rattle.textwrap_unicode.proofs.Common.{nothing, Text}
+use Rattle.textwrap_classes.proofs.Common.{if◌then◌else◌, length-append, unit_of, get_or, length, ℕ}
+use Rattle.textwrap_classes.proofs.Common.{IsUtf8, encode, false, subst, arith, chars, zero, Bool}
+use Rattle.textwrap_classes.proofs.Common.{true, List, ◌++◌, take, ◌≡◌, ◌↔◌, suc, ◌+◌, ◌<◌, ◌≤◌, []}
+use Rattle.textwrap_classes.proofs.Common.{◌∷◌, sym, inl, inr, ◌∙◌, ap}
+use Rattle.textwrap_unicode.proofs.Common.{numbers_rule, breaks_from, Prohibited, verdict_by, Text}
+use Rattle.textwrap_unicode.proofs.Common.{Mandatory, before_of, with_unit, breaks_by, decide_by}
+use Rattle.textwrap_unicode.proofs.Common.{is_empty, break_at, Numbers, Verdict, Allowed, nothing}
 use Rattle.std.proofs.lemmas.List.{append_cancel_left}
 use Rattle.std.proofs.lemmas.Str.{length-le-encodes, encodes_same}
 use lib.Utf8.{encodes}
 use Rattle.textwrap_unicode.specs.declared.breaks.LineBreak.{LineBreak}
 use Rattle.textwrap_unicode.specs.Breaks.{AreBreaksBy, IsPlaceBy, IsEnd}
-use Rattle.textwrap_text.proofs.Lists.Elements.{IsInOrder, order-nil, order-cons, same-members}
-use Rattle.textwrap_unicode.proofs.TextBreaks.{contains-break, spelled, before-place}
+use Rattle.textwrap_text.proofs.Lists.Elements.{same-members, order-cons, IsInOrder, order-nil}
+use Rattle.textwrap_unicode.proofs.TextBreaks.{contains-break, before-place, spelled}
 use Rattle.std.specs.List.{Contains}
 
 -- ---- their order

@@ -1,27 +1,26 @@
 -- The code that cuts a line at its breaks: where the pass over a line cuts it.
-use Rattle.textwrap_text.proofs.Common.{encode_utf8_all, cond, chars_from_encodes, map-append}
-use Rattle.textwrap_text.proofs.Common.{encodes-append, IsUtf8-append, encodes-chars, All-weaker}
-use Rattle.textwrap_text.proofs.Common.{flat_map, All, All-append, IsUtf8-nil, IsUtf8, All-nil}
-use Rattle.textwrap_text.proofs.Common.{All-cons, All-head, All-tail, cases_eq, characters}
-use Rattle.textwrap_text.proofs.Common.{TextUnit, Sequence, visible_of, visible_in, Visible}
-use Rattle.textwrap_text.proofs.Common.{next_of, shows, stripped, units}
-use Rattle.textwrap_classes.proofs.Common.{length-append, cases_Bool, [], append_assoc, append-nil}
-use Rattle.textwrap_classes.proofs.Common.{nat_tests, List, list_any, read-next, ap, unit_of}
-use Rattle.textwrap_classes.proofs.Common.{ne_eqb, ℕ, length, arith, false, encode, ◌≡◌, ◌++◌, ◌==◌}
-use Rattle.textwrap_classes.proofs.Common.{◌&&◌, Bool, refl, subst, chars, ◌<◌, ◌∷◌, ◌∙◌, ◌≢◌, ◌+◌}
-use Rattle.textwrap_classes.proofs.Common.{◌≤◌, not, map, inl, inr, sym}
-use Rattle.textwrap_unicode.proofs.Common.{is_any_hyphen, breaks_after, numbers_rule, Mandatory}
-use Rattle.textwrap_unicode.proofs.Common.{Prohibited, breaks_by, decide_by, cut_here, break_at}
-use Rattle.textwrap_unicode.proofs.Common.{before_of, Numbers, Verdict, Allowed, may_end, nothing}
+use Rattle.textwrap_text.proofs.Common.{chars_from_encodes, encode_utf8_all, encodes-append, IsUtf8}
+use Rattle.textwrap_text.proofs.Common.{IsUtf8-append, encodes-chars, map-append, All-weaker, shows}
+use Rattle.textwrap_text.proofs.Common.{All-append, IsUtf8-nil, characters, visible_of, visible_in}
+use Rattle.textwrap_text.proofs.Common.{flat_map, All-cons, All-head, All-tail, cases_eq, TextUnit}
+use Rattle.textwrap_text.proofs.Common.{Sequence, stripped, All-nil, Visible, next_of, units, cond}
+use Rattle.textwrap_text.proofs.Common.{All}
+use Rattle.textwrap_classes.proofs.Common.{length-append, append_assoc, cases_Bool, append-nil, ◌≡◌}
+use Rattle.textwrap_classes.proofs.Common.{nat_tests, read-next, list_any, unit_of, ne_eqb, length}
+use Rattle.textwrap_classes.proofs.Common.{encode, arith, false, subst, chars, List, ◌++◌, ◌==◌, []}
+use Rattle.textwrap_classes.proofs.Common.{◌&&◌, Bool, refl, ◌<◌, ◌∷◌, ◌∙◌, ◌≢◌, ◌+◌, ◌≤◌, not, map}
+use Rattle.textwrap_classes.proofs.Common.{inl, inr, sym, ap, ℕ}
+use Rattle.textwrap_unicode.proofs.Common.{is_any_hyphen, breaks_after, numbers_rule, Prohibited}
+use Rattle.textwrap_unicode.proofs.Common.{Mandatory, breaks_by, decide_by, before_of, cut_here}
+use Rattle.textwrap_unicode.proofs.Common.{break_at, Numbers, Verdict, Allowed, may_end, nothing}
 use Rattle.textwrap_unicode.proofs.Common.{Before, and}
 use Rattle.textwrap_text.proofs.Texts.{some-bytes, utf8-front, utf8-back}
-use Rattle.textwrap_words.proofs.Common.{VisibleEnd, is_cut_after, ends_from, cuts_among}
-use Rattle.textwrap_words.proofs.Word.Offsets.{ends_past}
-use Rattle.textwrap_words.proofs.Word.Offsets.{end_of, ends_in, ends-step}
+use Rattle.textwrap_words.proofs.Common.{is_cut_after, VisibleEnd, cuts_among, ends_from}
+use Rattle.textwrap_words.proofs.Word.Offsets.{ends_past, ends-step, ends_in, end_of}
 use Rattle.textwrap_words.proofs.Word.Parts.{places-above, places_by}
 use Rattle.textwrap_unicode.specs.Cuts.{offsets_of, cuts_by}
 use Rattle.textwrap_text.proofs.Units.Texts.{units-tile}
-use Rattle.textwrap_text.proofs.Units.Reading.{units_in, IsRead, read-ahead, read-none, read-start}
+use Rattle.textwrap_text.proofs.Units.Reading.{read-ahead, read-start, read-none, units_in, IsRead}
 use Rattle.textwrap_text.specs.declared.escapes.State.{State}
 use Rattle.textwrap_text.specs.declared.escapes.State.TheVariants.{Text}
 use Rattle.textwrap_unicode.proofs.BreakLemmas.{breaks_after-from}

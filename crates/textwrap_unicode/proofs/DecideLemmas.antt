@@ -21,7 +21,7 @@ use Rattle.textwrap_unicode.specs.Laws.{ends_line}
 use Rattle.textwrap_unicode.specs.Rules.{Rule, lb4}
 use Rattle.textwrap_unicode.proofs.TextBreaks.{not-empty, text_of-push}
 use Rattle.textwrap_unicode.proofs.RuleLemmas.{line_end-takes, decide-closing, decide-marked}
-use Rattle.textwrap_unicode.proofs.RuleLemmas.{kept-class, return-takes, decide-kept, decide-must}
+use Rattle.textwrap_unicode.proofs.RuleLemmas.{takes-is, return-takes, decide-kept, decide-must}
 use Rattle.textwrap_unicode.proofs.RuleLemmas.{last-has, none-past, must-only}
 
 -- ---- after a character
@@ -64,7 +64,7 @@ module _ (numbers : Numbers) (front back : List ℕ) (c : ℕ) where
       → verdict_by numbers (front ++ c ∷ []) next back ≡ Prohibited
   kept-after next free kept =
       decide-kept form after (unit_of next) after-started (after-ends next ∙ free)
-      (kept-class (class_of next) kept)
+      (sym (takes-is (class_of next)) ∙ kept)
 
   pub closing-after : (next : ℕ) → ends_line c next ≡ false
       → is_zero_width_space (class_past_spaces (text_of (front ++ c ∷ [])).units) ≡ false

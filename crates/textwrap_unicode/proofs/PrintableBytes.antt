@@ -1,33 +1,31 @@
 -- The classes of printable bytes, what the rules say between them, and what stands before a place.
-use Rattle.textwrap_classes.proofs.Common.{[], slice_index_or, if◌then◌else◌, cases_Bool}
-use Rattle.textwrap_classes.proofs.Common.{is_after_text, nat_tests, and_parts, is_opening, ◌≡◌}
-use Rattle.textwrap_classes.proofs.Common.{list_any, not-true, add-one, is_blank, is_space, is_mark}
-use Rattle.textwrap_classes.proofs.Common.{class_of, unit_of, false, nat_lt, get_or, ◌==◌, ◌&&◌}
-use Rattle.textwrap_classes.proofs.Common.{◌||◌, Bool, true, List, arith, subst, ℕ, ◌≤◌, not, ◌∷◌}
-use Rattle.textwrap_classes.proofs.Common.{refl, sym, ap, ◌∙◌, inl, inr, ◌+◌}
-use Rattle.textwrap_unicode.proofs.Common.{may_follow_blanks, class_past_blanks, is_any_hyphen}
-use Rattle.textwrap_unicode.proofs.Common.{is_unusual, before_of, may_end, decide, Before, nothing}
-use Rattle.textwrap_unicode.proofs.Common.{and}
-use Rattle.unicode.specs.declared.properties.LineBreak.TheVariants.{Alphabetic, Space}
+use Rattle.textwrap_classes.proofs.Common.{slice_index_or, if◌then◌else◌, is_after_text, cases_Bool}
+use Rattle.textwrap_classes.proofs.Common.{is_opening, nat_tests, and_parts, Ambiguous, list_any, ℕ}
+use Rattle.textwrap_classes.proofs.Common.{not-true, is_blank, is_space, class_of, add-one, is_mark}
+use Rattle.textwrap_classes.proofs.Common.{unit_of, nat_lt, get_or, false, arith, subst, ◌==◌, ◌&&◌}
+use Rattle.textwrap_classes.proofs.Common.{◌||◌, Bool, true, List, refl, ◌≡◌, not, ◌∷◌, sym, ◌∙◌}
+use Rattle.textwrap_classes.proofs.Common.{inl, inr, ◌+◌, [], ap}
+use Rattle.textwrap_classes.specs.declared.ascii.TheConstants.{CLASSES}
+use Rattle.textwrap_unicode.proofs.Common.{may_follow_blanks, class_past_blanks, is_any_hyphen, and}
+use Rattle.textwrap_unicode.proofs.Common.{is_unusual, before_of, may_end, nothing, decide, Before}
 use Rattle.unicode.specs.declared.properties.LineBreak.TheVariants.{CloseParenthesis, PrefixNumeric}
-use Rattle.unicode.specs.declared.properties.LineBreak.TheVariants.{BreakSymbols, ClosePunctuation}
+use Rattle.unicode.specs.declared.properties.LineBreak.TheVariants.{ClosePunctuation, BreakSymbols}
 use Rattle.unicode.specs.declared.properties.LineBreak.TheVariants.{OpenPunctuation, PostfixNumeric}
-use Rattle.unicode.specs.declared.properties.LineBreak.TheVariants.{Exclamation, InfixNumeric}
-use Rattle.unicode.specs.declared.properties.LineBreak.TheVariants.{BreakAfter, Numeric, Quotation}
-use Rattle.unicode.specs.declared.properties.LineBreak.TheVariants.{Hyphen, Unknown}
+use Rattle.unicode.specs.declared.properties.LineBreak.TheVariants.{InfixNumeric, Exclamation}
+use Rattle.unicode.specs.declared.properties.LineBreak.TheVariants.{Alphabetic, BreakAfter, Numeric}
+use Rattle.unicode.specs.declared.properties.LineBreak.TheVariants.{Quotation, Unknown, Hyphen}
+use Rattle.unicode.specs.declared.properties.LineBreak.TheVariants.{Space}
 use Rattle.unicode.specs.declared.properties.LineBreak.{LineBreak}
-use Rattle.textwrap_text.proofs.Common.{eqb-true, list_all, IsPrintableByte}
+use Rattle.textwrap_text.proofs.Common.{IsPrintableByte, eqb-true, list_all}
 use Rattle.unicode.specs.LineBreak.{line_break_number}
-use Rattle.unicode.proofs.BreaksComputing.{ucd_breaks}
-use Rattle.unicode.proofs.CategoryComputing.{ucd_category}
-use Rattle.unicode.proofs.Facts.{Stepped-below}
+use Rattle.std.proofs.lemmas.Bool.{agree_below_at, agree_below}
 use Rattle.unicode.proofs.LineBreakLemmas.{line_break_number_injective}
-use Rattle.textwrap_unicode.specs.declared.pairs.TheConstants.{KINDS, UNUSUAL_AFTER}
+use Rattle.textwrap_unicode.specs.declared.pairs.TheConstants.{UNUSUAL_AFTER, KINDS}
 use Rattle.textwrap_classes.specs.ClassSets.{is_regional_indicator, is_hebrew, is_zwj}
-use Rattle.textwrap_classes.proofs.ClassLemmas.{agree, agree-same, class_stepped, past-first}
+use Rattle.textwrap_classes.proofs.ClassLemmas.{ascii-class, agree-same, past-first, agree}
 use Rattle.std.specs.Prelude.{bit_and}
 use Rattle.textwrap_unicode.specs.Pairs.{behind_classes, is_cut_behind}
-use Rattle.textwrap_unicode.proofs.WordVerdicts.{ascii-is, unit_with}
+use Rattle.textwrap_unicode.proofs.WordVerdicts.{unit_with, ascii-is}
 
 -- ---- the classes
 
@@ -97,32 +95,27 @@ pub record IsTold (c : ℕ) : Type 0 where
   pub kind : slice_index_or KINDS c 0 ≡ kind_of (class_of c)
   pub unusual : slice_index_or UNUSUAL_AFTER c 0 ≡ unusual_after (class_of c)
 
-abbrev has_class : ℕ → LineBreak → Bool
-has_class c v = is_among printable_classes v && agree (is_any_hyphen c) (is_hyphen_class v)
-    && agree (is_blank c) (is_space v)
+abbrev is_told : ℕ → LineBreak → Bool
+is_told c v =
+    is_among printable_classes v && agree (is_any_hyphen c) (is_hyphen_class v)
+    && agree (is_blank c) (is_space v) && (slice_index_or KINDS c 0 == kind_of v)
+    && (slice_index_or UNUSUAL_AFTER c 0 == unusual_after v)
 
-abbrev in_tables : ℕ → LineBreak → Bool
-in_tables c v =
-    (slice_index_or KINDS c 0 == kind_of v) && (slice_index_or UNUSUAL_AFTER c 0 == unusual_after v)
-
-past-control : (c : ℕ) (b : Bool) → 32 ≤ c → nat_lt c 32 || b ≡ true → b ≡ true
-past-control c b low = past-first (nat_lt c 32) b (grind (arith, nat_tests, low))
-
-class-told : (c : ℕ) → IsPrintableByte c → has_class c (class_of c) ≡ true
-unfolding ucd_breaks ucd_category
-class-told c (low, high) = past-control c _ low
-    (Stepped-below class_of class_stepped (λ x v. nat_lt x 32 || has_class x v) 127 refl c high)
-
-tables-told : (c : ℕ) → IsPrintableByte c → in_tables c (class_of c) ≡ true
-unfolding ucd_breaks ucd_category
-tables-told c (low, high) = past-control c _ low
-    (Stepped-below class_of class_stepped (λ x v. nat_lt x 32 || in_tables x v) 127 refl c high)
+all-told : agree_below (λ c. nat_lt c 32 || is_told c (slice_index_or CLASSES c Ambiguous))
+    (λ c. true) 127 ≡ true
+all-told = refl
 
 pub told : (c : ℕ) → IsPrintableByte c → IsTold c
-told c printable =
-    let (first, blank) = and_parts _ _ (class-told c printable) in
+told c (low, high) =
+    let all : is_told c (class_of c) ≡ true =
+    subst (λ v. is_told c v ≡ true) (ascii-class c (omega arith))
+    (past-first (nat_lt c 32) _ (grind (arith, nat_tests))
+    (agree_below_at (λ x. nat_lt x 32 || is_told x (slice_index_or CLASSES x Ambiguous)) (λ x. true)
+    127 c all-told high)) in
+    let (kinds, unusual) = and_parts _ _ all in
+    let (blanks, kind) = and_parts _ _ kinds in
+    let (first, blank) = and_parts _ _ blanks in
     let (class, hyphen) = and_parts _ _ first in
-    let (kind, unusual) = and_parts _ _ (tables-told c printable) in
     record {
       class = class;
       hyphen = agree-same _ _ hyphen;
@@ -142,17 +135,34 @@ unusual_behind first next =
     if is_space first then is_after_text next || is_opening next
     else (is_opening first && is_space next) || cut_behind first first next
 
+-- what passes for each two of them
+passes-pairs : (p : LineBreak → LineBreak → Bool) (classes : List LineBreak)
+    → list_all (λ v. list_all (p v) printable_classes) classes ≡ true → (v w : LineBreak)
+    → is_among classes v ≡ true → is_among printable_classes w ≡ true → p v w ≡ true
+passes-pairs p classes all v w first next =
+    passes-among (p v) printable_classes
+    (passes-among (λ x. list_all (p x) printable_classes) classes all v first) w next
+
 -- the tables have what is unusual
 bits-unusual : (v w : LineBreak) → is_among printable_classes v ≡ true
     → is_among printable_classes w ≡ true
     → not (bit_and (unusual_after v) (kind_of w) == 0) ≡ unusual_behind v w
-bits-unusual v w first next = grind (arith, agree-same)
+bits-unusual v w first next =
+    agree-same _ _
+    (passes-pairs
+    (λ x y. agree (not (bit_and (unusual_after x) (kind_of y) == 0)) (unusual_behind x y))
+    printable_classes refl v w first next)
 
 -- behind a byte that is no blank the text is cut at what is unusual, but for a blank
 cut-words : (v w : LineBreak) → is_among printable_classes v ≡ true
     → is_among printable_classes w ≡ true → is_space v ≡ false
     → cut_behind v v w ≡ not (is_space w) && unusual_behind v w
-cut-words v w first next other = grind (arith, agree-same)
+cut-words v w first next other =
+    agree-same _ _
+    (past-first (is_space v) _ other
+    (passes-pairs
+    (λ x y. is_space x || agree (cut_behind x x y) (not (is_space y) && unusual_behind x y))
+    printable_classes refl v w first next))
 
 -- the classes before blanks, XX at the start
 abbrev pub past_classes : List LineBreak
@@ -161,7 +171,10 @@ past_classes = Unknown ∷ printable_classes
 cut-blanks : (past w : LineBreak) → is_among past_classes past ≡ true
     → is_among printable_classes w ≡ true
     → cut_behind past Space w ≡ not (is_space w) && may_follow_blanks past w
-cut-blanks past w first next = grind (arith, agree-same)
+cut-blanks past w first next =
+    agree-same _ _
+    (passes-pairs (λ x y. agree (cut_behind x Space y) (not (is_space y) && may_follow_blanks x y))
+    past_classes refl past w first next)
 
 -- ---- by bytes
 
@@ -275,4 +288,4 @@ byte-first b first =
 
 pub past-more : (text : List ℕ) (n c : ℕ) → get_or text n 0 ≡ c → class_past_blanks text (n + 1)
     ≡ (if is_space (class_of c) then class_past_blanks text n else class_of c)
-past-more text n c here = grind (arith, add-one, here)
+past-more text n c here = rw (add-one n, ← here) refl

@@ -1,37 +1,37 @@
 -- A printable text is cut where its bytes say so, also past blanks.
-use Rattle.std.proofs.lemmas.Bool.{not-false, or_right, agree_below, agree_below_at}
-use Rattle.textwrap_classes.proofs.Common.{ap, slice_index_or, if◌then◌else◌, cases_Bool}
-use Rattle.textwrap_classes.proofs.Common.{is_after_text, and_parts, true≢false, is_opening, zero}
-use Rattle.textwrap_classes.proofs.Common.{not-true, cases_lt, and-false, is_blank, is_space}
-use Rattle.textwrap_classes.proofs.Common.{class_of, unit_of, false, length, get_or, encode, true}
-use Rattle.textwrap_classes.proofs.Common.{List, take, refl, arith, [], subst, ◌≡◌, ℕ, suc, ◌+◌}
-use Rattle.textwrap_classes.proofs.Common.{◌-◌, ◌<◌, ◌&&◌, Bool, ◌++◌, drop, ◌==◌, ◌≤◌, inl, inr}
-use Rattle.textwrap_classes.proofs.Common.{sym, ◌∙◌, not, ◌∷◌, map}
-use Rattle.textwrap_unicode.proofs.Common.{class_past_blanks, may_follow_blanks, is_any_hyphen}
-use Rattle.textwrap_unicode.proofs.Common.{is_unusual, before_of, IsUsual, cut_here, ByPairs}
-use Rattle.textwrap_unicode.proofs.Common.{nothing, may_end, Before, decide, and}
+use Rattle.std.proofs.lemmas.Bool.{agree_below_at, agree_below, not-false, or_parts, or_right}
+use Rattle.textwrap_classes.proofs.Common.{◌||◌}
+use Rattle.textwrap_classes.proofs.Common.{slice_index_or, if◌then◌else◌, is_after_text, cases_Bool}
+use Rattle.textwrap_classes.proofs.Common.{true≢false, is_opening, and_parts, and-false, not-true}
+use Rattle.textwrap_classes.proofs.Common.{cases_lt, is_blank, is_space, class_of, unit_of, length}
+use Rattle.textwrap_classes.proofs.Common.{get_or, encode, false, arith, subst, zero, true, List, ℕ}
+use Rattle.textwrap_classes.proofs.Common.{take, refl, ◌&&◌, Bool, ◌++◌, drop, ◌==◌, ◌≡◌, suc, ◌+◌}
+use Rattle.textwrap_classes.proofs.Common.{◌-◌, ◌<◌, ◌≤◌, inl, inr, sym, ◌∙◌, not, ◌∷◌, map, ap, []}
+use Rattle.textwrap_unicode.proofs.Common.{class_past_blanks, may_follow_blanks, is_any_hyphen, and}
+use Rattle.textwrap_unicode.proofs.Common.{is_unusual, before_of, cut_here, IsUsual, ByPairs}
+use Rattle.textwrap_unicode.proofs.Common.{nothing, may_end, Before, decide}
 use Rattle.unicode.specs.declared.properties.LineBreak.{LineBreak}
-use Rattle.textwrap_text.proofs.Common.{length-take-le, false_from_ne_true, is_ascii_alphanumeric}
-use Rattle.textwrap_text.proofs.Common.{get_or-drop, get_or-take, chars-IsAscii, IsUtf8-from_ascii}
-use Rattle.textwrap_text.proofs.Common.{add-zero, length-drop, eqb-true, false≢true, IsPrintable}
-use Rattle.textwrap_text.proofs.Common.{trimmed_len, IsPrintableByte, Visible, is_cut}
-use Rattle.unicode.specs.declared.properties.LineBreak.TheVariants.{Unknown, OpenPunctuation}
-use Rattle.textwrap_words.proofs.Common.{parts_between, ends_from, word_of, words_of}
+use Rattle.textwrap_text.proofs.Common.{is_ascii_alphanumeric, false_from_ne_true, IsPrintableByte}
+use Rattle.textwrap_text.proofs.Common.{IsUtf8-from_ascii, length-take-le, chars-IsAscii, add-zero}
+use Rattle.textwrap_text.proofs.Common.{get_or-drop, get_or-take, length-drop, IsPrintable, Visible}
+use Rattle.textwrap_text.proofs.Common.{trimmed_len, false≢true, eqb-true, is_cut}
+use Rattle.unicode.specs.declared.properties.LineBreak.TheVariants.{OpenPunctuation, Unknown}
+use Rattle.textwrap_words.proofs.Common.{parts_between, ends_from, words_of, word_of}
 use Rattle.textwrap_words.proofs.Word.Texts.{final_blanks-blank, trimmed-other}
-use Rattle.textwrap_unicode.specs.Pairs.{at_breaks, is_cut_behind, printable_cut, IsCutAtBlanks}
-use Rattle.textwrap_unicode.proofs.PrintableBytes.{is_among, past_classes, byte-first, unusual-bits}
-use Rattle.textwrap_unicode.proofs.PrintableBytes.{told, byte-step, IsBehind, past-more, cut-behind}
+use Rattle.textwrap_unicode.specs.Pairs.{is_cut_behind, printable_cut, IsCutAtBlanks, at_breaks}
+use Rattle.textwrap_unicode.proofs.PrintableBytes.{past_classes, unusual-bits, byte-first, is_among}
+use Rattle.textwrap_unicode.proofs.PrintableBytes.{cut-behind, byte-step, past-more, IsBehind, told}
 use Rattle.std.proofs.lemmas.Str.{encode_ascii}
 use Rattle.textwrap_text.proofs.Units.Reading.{printable-ascii, units-printable}
 use Rattle.textwrap_words.proofs.Word.Offsets.{ends_in}
 use Rattle.textwrap_text.specs.declared.escapes.State.TheVariants.{Text}
 use Rattle.textwrap_unicode.specs.Cuts.{unicode_cuts}
-use Rattle.textwrap_unicode.proofs.CutLemmas.{IsCutting-start, cuts_ahead, place-found}
-use Rattle.textwrap_words.proofs.Word.Parts.{byte-inside, parts_between-places, parts-chunks}
-use Rattle.textwrap_words.proofs.Word.Parts.{byte-here, bytes-after, places_by, parts-same}
+use Rattle.textwrap_unicode.proofs.CutLemmas.{IsCutting-start, place-found, cuts_ahead}
+use Rattle.textwrap_words.proofs.Word.Parts.{parts_between-places, parts-chunks, byte-inside}
+use Rattle.textwrap_words.proofs.Word.Parts.{bytes-after, parts-same, byte-here, places_by}
 use Rattle.textwrap_words.specs.PieceCuts.{parts_by}
 use Rattle.std.proofs.Common.{bit_and}
-use Rattle.textwrap_unicode.specs.declared.pairs.TheConstants.{KINDS, UNUSUAL_AFTER}
+use Rattle.textwrap_unicode.specs.declared.pairs.TheConstants.{UNUSUAL_AFTER, KINDS}
 
 -- ---- the class of the last byte before blanks
 
@@ -43,11 +43,11 @@ module _ (text : List ℕ) (printable : IsPrintable text) where
   -- behind a byte that is no blank
   pub past-byte : (k : ℕ) → k < length text → is_blank (get_or text k 0) ≡ false
       → class_past_blanks text (suc k) ≡ class_of (get_or text k 0)
-  past-byte k inside other = grind (arith, space-at, other)
+  past-byte k inside other = rw (space-at k inside ∙ other) refl
 
   pub past-blank : (k : ℕ) → k < length text → is_blank (get_or text k 0) ≡ true
       → class_past_blanks text (suc k) ≡ class_past_blanks text k
-  past-blank k inside blank = grind (arith, space-at, blank)
+  past-blank k inside blank = rw (space-at k inside ∙ blank) refl
 
   -- behind blanks
   past-blanks : (end n : ℕ) → end + n ≤ length text
@@ -64,10 +64,11 @@ module _ (text : List ℕ) (printable : IsPrintable text) where
       → is_among past_classes (class_past_blanks text n) ≡ true
   past-among zero within = refl
   past-among (suc n) within =
-      let other : is_among past_classes (class_of (get_or text n 0)) ≡ true =
-      or_right _ _ (told (get_or text n 0) (printable n 0 within)).class in
-      let before = past-among n (omega (arith, within)) in
-      grind (arith, cases_Bool, past-blank n within, past-byte n within, other, before)
+      elim (cases_Bool (is_blank (get_or text n 0))) [
+        | inl blank ↦ rw (past-blank n within blank) (past-among n (omega (arith, within)))
+        | inr other ↦ rw (past-byte n within other)
+            (or_right _ _ (told (get_or text n 0) (printable n 0 within)).class)
+      ]
 
   -- ---- the blanks at the end of what comes before a place
 
@@ -99,7 +100,8 @@ module _ (text : List ℕ) (printable : IsPrintable text) where
         let other = trimmed-other (take place text) some in
         let inside : end - 1 < length text = omega (arith, long, within, some) in
         let byte = get_or-take place text (end - 1) 0 (omega (arith, long, some)) in
-        grind (arith, end-past, last, byte, other, past-byte (end - 1) inside)
+        end-past ∙ ap (class_past_blanks text) (sym last)
+        ∙ past-byte (end - 1) inside (ap is_blank (sym byte) ∙ other)
 
 -- ---- a printable text is cut where its bytes say so
 
@@ -206,14 +208,13 @@ module _ (text : List ℕ) (printable : IsPrintable text) where
 
 -- ---- which printable bytes stand on either side of a cut
 
--- letters and digits are no blanks
-letters-other : agree_below (λ c. is_ascii_alphanumeric c && is_blank c) (λ c. false) 128 ≡ true
-letters-other = refl
+-- a blank, or something is unusual behind it
+abbrev is_followed : ℕ → Bool
+is_followed c = is_blank c || not (slice_index_or UNUSUAL_AFTER c 0 == 0)
 
--- and nothing is unusual behind them
-letters-usual : agree_below (λ c. is_ascii_alphanumeric c && not (slice_index_or UNUSUAL_AFTER c 0 == 0))
-    (λ c. false) 128 ≡ true
-letters-usual = refl
+-- no letter or digit is so
+letters-plain : agree_below (λ c. is_ascii_alphanumeric c && is_followed c) (λ c. false) 128 ≡ true
+letters-plain = refl
 
 module _ (text : List ℕ) (printable : IsPrintable text) (place : ℕ) (start : 0 < place)
     (inside : place < length text) (is : at_breaks text place ≡ true) where
@@ -237,13 +238,9 @@ module _ (text : List ℕ) (printable : IsPrintable text) (place : ℕ) (start :
   pub cut-after_other : is_ascii_alphanumeric before ≡ false
   cut-after_other = false_from_ne_true (is_ascii_alphanumeric before) (λ letter.
       let byte = printable (place - 1) 0 (omega (arith, start, inside)) in
-      let below : before < 128 = omega (arith, byte.1) in
-      let other : is_blank before ≡ false = ap (λ t. t && is_blank before) (sym letter)
-      ∙ agree_below_at (λ c. is_ascii_alphanumeric c && is_blank c) (λ c. false) 128 before letters-other below in
-      let none : not (slice_index_or UNUSUAL_AFTER before 0 == 0) ≡ false =
-      ap (λ t. t && not (slice_index_or UNUSUAL_AFTER before 0 == 0)) (sym letter)
-      ∙ agree_below_at (λ c. is_ascii_alphanumeric c && not (slice_index_or UNUSUAL_AFTER c 0 == 0))
-      (λ c. false) 128 before letters-usual below in
+      let (other, none) = or_parts (is_blank before) _ (rw letter at (agree_below_at
+      (λ c. is_ascii_alphanumeric c && is_followed c) (λ c. false) 128 before letters-plain
+      (omega (arith, byte.1)))) in
       let usual : is_unusual before after ≡ false =
       sym (unusual-bits before after byte (printable place 0 inside))
       ∙ ap (λ u. not (bit_and u (slice_index_or KINDS after 0) == 0))

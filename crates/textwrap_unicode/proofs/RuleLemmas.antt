@@ -1,51 +1,48 @@
 -- The sets of classes, and what the rules come to after each class.
-use Rattle.std.proofs.lemmas.Bool.{true_from_ne_false, cond-false, cond-true, or_left}
-use Rattle.textwrap_classes.proofs.Common.{cases_Bool, if◌then◌else◌, takes_no_mark, []}
-use Rattle.textwrap_classes.proofs.Common.{is_after_text, not-true, is_mark, is_space, false, arith}
-use Rattle.textwrap_classes.proofs.Common.{Bool, true, refl, ◌||◌, List, ap, ◌≡◌, sym, ◌∷◌, ◌∙◌}
-use Rattle.textwrap_classes.proofs.Common.{◌≢◌}
-use Rattle.textwrap_unicode.proofs.Common.{first_class, takes_marks, Prohibited, with_unit}
-use Rattle.textwrap_unicode.proofs.Common.{as_letter, Mandatory, decide_by, Before, Verdict}
-use Rattle.textwrap_unicode.proofs.Common.{Allowed, Text}
-use Rattle.unicode.specs.declared.properties.LineBreak.TheVariants.{Alphabetic, Space}
+use Rattle.std.proofs.lemmas.Bool.{true_from_ne_false, cond-false, cond-true, or_left, or_parts}
+use Rattle.textwrap_classes.proofs.Common.{if◌then◌else◌, takes_no_mark, is_after_text, cases_Bool}
+use Rattle.textwrap_classes.proofs.Common.{not-true, is_space, is_mark, false, arith, Bool, true}
+use Rattle.textwrap_classes.proofs.Common.{refl, ◌||◌, List, ◌≡◌, sym, ◌∷◌, ◌∙◌, ◌≢◌, [], ap}
+use Rattle.textwrap_unicode.proofs.Common.{first_class, takes_marks, Prohibited, with_unit, Verdict}
+use Rattle.textwrap_unicode.proofs.Common.{as_letter, Mandatory, decide_by, Allowed, Before, Text}
 use Rattle.unicode.specs.declared.properties.LineBreak.TheVariants.{CarriageReturn, MandatoryBreak}
-use Rattle.unicode.specs.declared.properties.LineBreak.TheVariants.{CombiningMark, LineFeed, Zwj}
-use Rattle.unicode.specs.declared.properties.LineBreak.TheVariants.{NextLine, ZWSpace}
+use Rattle.unicode.specs.declared.properties.LineBreak.TheVariants.{CombiningMark, Alphabetic, Zwj}
+use Rattle.unicode.specs.declared.properties.LineBreak.TheVariants.{LineFeed, NextLine, ZWSpace}
+use Rattle.unicode.specs.declared.properties.LineBreak.TheVariants.{Space}
 use Rattle.unicode.specs.declared.properties.LineBreak.{LineBreak}
 use Rattle.textwrap_classes.specs.declared.classes.Unit.{Unit}
 use Rattle.textwrap_unicode.specs.Before.{class_past_spaces}
-use Rattle.textwrap_classes.specs.ClassSets.{is_carriage_return, is_line_end, is_zero_width_space}
-use Rattle.textwrap_unicode.specs.Rules.{Rule, Saying, first_said, is_glued, is_kept, rules, lb4}
+use Rattle.textwrap_classes.specs.ClassSets.{is_zero_width_space, is_carriage_return, is_line_end}
+use Rattle.textwrap_unicode.specs.Rules.{first_said, is_glued, is_kept, Saying, rules, Rule, lb4}
 use Rattle.textwrap_unicode.specs.Rules.{lb8, lb9}
 
 -- ---- classes
 
+pub takes-is : (class : LineBreak) → takes_no_mark class
+    ≡ is_line_end class || (is_space class || is_zero_width_space class)
+takes-is MandatoryBreak = refl
+takes-is CarriageReturn = refl
+takes-is LineFeed = refl
+takes-is NextLine = refl
+takes-is Space = refl
+takes-is ZWSpace = refl
+takes-is class = refl
+
+none-takes : (class : LineBreak) → takes_no_mark class ≡ false
+    → (is_line_end class ≡ false) × (is_space class || is_zero_width_space class ≡ false)
+none-takes class e = or_parts _ _ (sym (takes-is class) ∙ e)
+
 pub line_end-takes : (class : LineBreak) → takes_no_mark class ≡ false → is_line_end class ≡ false
-line_end-takes MandatoryBreak e = cc
-line_end-takes CarriageReturn e = cc
-line_end-takes LineFeed e = cc
-line_end-takes NextLine e = cc
-line_end-takes class e = refl
+line_end-takes class e = (none-takes class e).0
 
 pub return-takes : (class : LineBreak) → takes_no_mark class ≡ false
     → is_carriage_return class ≡ false
 return-takes CarriageReturn e = cc
 return-takes class e = refl
 
-pub kept-class : (class : LineBreak) → takes_no_mark class ≡ true
-    → is_line_end class || (is_space class || is_zero_width_space class) ≡ true
-kept-class MandatoryBreak e = refl
-kept-class CarriageReturn e = refl
-kept-class LineFeed e = refl
-kept-class NextLine e = refl
-kept-class Space e = refl
-kept-class ZWSpace e = refl
-kept-class class e = cc
-
 not-zero_width : (class : LineBreak) → takes_no_mark class ≡ false
     → is_zero_width_space class ≡ false
-not-zero_width ZWSpace e = cc
-not-zero_width class e = refl
+not-zero_width class e = (or_parts (is_space class) _ (none-takes class e).1).1
 
 pub none-past : (units : List Unit) → takes_no_mark (first_class units) ≡ false
     → is_zero_width_space (class_past_spaces units) ≡ false

@@ -1,21 +1,21 @@
 -- What the rules say behind letters and ideographs, over which a line is read all at once.
-use Rattle.textwrap_classes.proofs.Common.{false, ideograph_places, if◌then◌else◌, slice_index_or}
-use Rattle.textwrap_classes.proofs.Common.{append_assoc, IsIdeographAt, get_or, append-nil}
-use Rattle.textwrap_classes.proofs.Common.{nat_tests, add-one, is_space, class_of, unit_of, subst}
-use Rattle.textwrap_classes.proofs.Common.{length, ◌≡◌, zero, ◌&&◌, List, ◌++◌, arith, chars}
-use Rattle.textwrap_classes.proofs.Common.{encode, suc, ◌+◌, ◌<◌, refl, ◌==◌, ◌||◌, Bool, true}
-use Rattle.textwrap_classes.proofs.Common.{drop, ℕ, [], ◌∷◌, sym, ap, ◌∙◌, cases_Bool, ◌≤◌, ◌*◌}
-use Rattle.textwrap_unicode.proofs.Common.{is_behind_blank, is_behind_sign, IsPlainLetter}
+use Rattle.textwrap_classes.proofs.Common.{ideograph_places, slice_index_or, if◌then◌else◌, add-one}
+use Rattle.textwrap_classes.proofs.Common.{IsIdeographAt, append_assoc, append-nil, cases_Bool, ◌≡◌}
+use Rattle.textwrap_classes.proofs.Common.{nat_tests, is_space, class_of, unit_of, get_or, length}
+use Rattle.textwrap_classes.proofs.Common.{encode, false, subst, arith, chars, zero, ◌&&◌, List, []}
+use Rattle.textwrap_classes.proofs.Common.{◌++◌, refl, ◌==◌, ◌||◌, Bool, true, drop, suc, ◌+◌, ◌<◌}
+use Rattle.textwrap_classes.proofs.Common.{◌∷◌, sym, ◌∙◌, ◌≤◌, ◌*◌, ap, ℕ}
+use Rattle.textwrap_unicode.proofs.Common.{is_behind_blank, is_behind_sign, IsPlainLetter, cut_here}
 use Rattle.textwrap_unicode.proofs.Common.{is_any_hyphen, numbers_rule, word_starts, IsWordByte}
-use Rattle.textwrap_unicode.proofs.Common.{decide_by, cut_here, Before, Numbers, ByPairs, may_end}
-use Rattle.textwrap_unicode.proofs.Common.{and}
-use Rattle.unicode.specs.declared.properties.LineBreak.TheVariants.{Alphabetic, Ideographic}
-use Rattle.unicode.specs.declared.properties.LineBreak.TheVariants.{Ambiguous, Space, InfixNumeric}
+use Rattle.textwrap_unicode.proofs.Common.{decide_by, Numbers, ByPairs, may_end, Before, and}
+use Rattle.unicode.specs.declared.properties.LineBreak.TheVariants.{InfixNumeric, Ideographic}
+use Rattle.unicode.specs.declared.properties.LineBreak.TheVariants.{Alphabetic, Ambiguous, Space}
 use Rattle.unicode.specs.declared.properties.LineBreak.{LineBreak}
 use Rattle.textwrap_classes.specs.declared.ascii.TheConstants.{CLASSES}
 use Rattle.textwrap_classes.specs.declared.classes.Unit.{Unit}
-use Rattle.textwrap_text.proofs.Common.{add-zero, eqb, drop_more, length-encode, visible_in}
-use Rattle.textwrap_classes.specs.ClassSets.{is_infix, is_letter}
+use Rattle.textwrap_text.proofs.Common.{length-encode, visible_in, drop_more, drop-drop, add-zero}
+use Rattle.textwrap_text.proofs.Common.{eqb}
+use Rattle.textwrap_classes.specs.ClassSets.{is_letter, is_infix}
 use Rattle.textwrap_unicode.specs.WordStarts.{IsWordClass}
 use Rattle.textwrap_unicode.specs.declared.numbers.Numbers.TheVariants.{ByExpression}
 use Rattle.textwrap_unicode.specs.BreaksLeft.{and_words}
@@ -24,7 +24,8 @@ use Rattle.textwrap_classes.proofs.ClassLemmas.{ascii-unit}
 use Rattle.std.proofs.lemmas.Str.{encode_ascii}
 use Rattle.textwrap_text.proofs.Units.Reading.{plain-step}
 use Rattle.textwrap_text.specs.declared.escapes.State.TheVariants.{Text}
-use Rattle.textwrap_unicode.proofs.CutLemmas.{IsCutting, IsCutting-step}
+use Rattle.textwrap_text.specs.declared.escapes.State.{State}
+use Rattle.textwrap_unicode.proofs.CutLemmas.{IsCutting-step, IsCutting}
 use Rattle.std.specs.Char.{len_utf8}
 use Rattle.textwrap_classes.specs.Ideographs.{IsCommonIdeograph, wide_ideograph}
 
@@ -146,7 +147,7 @@ module _ (numbers : Numbers) (line : List ℕ) (at : ℕ) (rest : List ℕ) wher
       place (sym (ap (and (behind blank sign)) unit ∙ and_is)) place (sym (no-hyphen c word))
       (ap (λ b. cuts ++ cut_here b (at + n)) (sym (ap (ends numbers back blank sign) unit ∙ ends_is)))
 
-  pub past-words : (cuts : List ℕ) → IsCutting numbers line at rest Text in_word at false cuts
+  past-words : (cuts : List ℕ) → IsCutting numbers line at rest Text in_word at false cuts
       → (n : ℕ) → n ≤ length rest → ((k : ℕ) → k < n → IsWordByte (get_or rest k 0))
       → IsPast n (cuts ++ word_starts at rest n)
   past-words cuts start zero within words = rw (append-nil cuts, add-zero at) start
@@ -154,6 +155,21 @@ module _ (numbers : Numbers) (line : List ℕ) (at : ℕ) (rest : List ℕ) wher
       let h = past-words cuts start n (omega (arith, within)) (λ k below. words k (omega (arith, below))) in
       subst (IsPast (suc n)) (append_assoc cuts (word_starts at rest n) _)
       (past-one n _ h (omega (arith, within)) (words n (omega arith)))
+
+  -- the same of what the code has passed
+  pub words-passed : (n : ℕ) (state : State) (before after : Before) (end : ℕ)
+      (hyphen blank sign : Bool) (cuts found : List ℕ)
+      → IsCutting numbers line at (drop at line) state before end hyphen cuts → state ≡ Text
+      → before ≡ in_word → end ≡ at → hyphen ≡ false → rest ≡ drop at line
+      → n ≤ length rest → ((k : ℕ) → k < n → IsWordByte (get_or rest k 0))
+      → found ≡ cuts ++ word_starts at rest n → blank ≡ is_behind_blank rest n
+      → sign ≡ is_behind_sign rest n → after ≡ and_words before blank sign
+      → IsCutting numbers line (at + n) (drop (at + n) line) state after (at + n) hyphen found
+  words-passed n state before after end hyphen blank sign cuts found h text first same none is
+      within words found_is blank_is sign_is after_is =
+      let start = rw (text, first, same, none, ← is) at h in
+      rw (text, none, found_is, after_is, first, blank_is, sign_is, sym (drop-drop n at line), ← is)
+      (past-words cuts start n within words)
 
 -- ---- the characters
 
@@ -218,7 +234,7 @@ module _ (numbers : Numbers) (line : List ℕ) (at : ℕ) (rest : List ℕ) wher
       (sym (ap (λ u. may_end (decide_by (numbers_rule numbers (visible_in Text (chars after)))
       behind_ideograph u)) unit ∙ ends_is))))
 
-  pub past-ideographs : (cuts : List ℕ) → IsCutting numbers line at rest Text behind_ideograph at false cuts
+  past-ideographs : (cuts : List ℕ) → IsCutting numbers line at rest Text behind_ideograph at false cuts
       → (n : ℕ) → ((k : ℕ) → k < n → IsIdeographAt rest (3 * k))
       → IsPastIdeographs n (cuts ++ ideograph_places at n)
   past-ideographs cuts start zero ideographs = rw (append-nil cuts, add-zero at) start
@@ -226,3 +242,15 @@ module _ (numbers : Numbers) (line : List ℕ) (at : ℕ) (rest : List ℕ) wher
       let h = past-ideographs cuts start n (λ k below. ideographs k (omega (arith, below))) in
       subst (IsPastIdeographs (suc n)) (append_assoc cuts (ideograph_places at n) _)
       (past-ideograph n _ h (ideographs n (omega arith)))
+
+  pub ideographs-passed : (n : ℕ) (state : State) (before : Before) (end : ℕ) (hyphen : Bool)
+      (cuts found : List ℕ) → IsCutting numbers line at (drop at line) state before end hyphen cuts
+      → state ≡ Text → before ≡ behind_ideograph → end ≡ at → hyphen ≡ false → rest ≡ drop at line
+      → ((k : ℕ) → k < n → IsIdeographAt rest (3 * k)) → found ≡ cuts ++ ideograph_places at n
+      → IsCutting numbers line (at + 3 * n) (drop (at + 3 * n) line) state before (at + 3 * n)
+      hyphen found
+  ideographs-passed n state before end hyphen cuts found h text first same none is ideographs
+      found_is =
+      let start = rw (text, first, same, none, ← is) at h in
+      rw (text, none, found_is, first, sym (drop-drop (3 * n) at line), ← is)
+      (past-ideographs cuts start n ideographs)

@@ -1,24 +1,21 @@
-use Rattle.textwrap_classes.proofs.Common.{slice_index, ◌++◌, append-nil, true≢false, IsIdeographAt}
-use Rattle.textwrap_classes.proofs.Common.{length, subst, read-next, ◌≡◌, ◌<◌, ◌*◌, ◌+◌, drop, ap}
-use Rattle.textwrap_classes.proofs.Common.{◌∙◌, sym, refl, arith, ℕ}
-use Rattle.textwrap_unicode.proofs.Common.{breaks_by, may_end, IsWordByte, and}
-use Rattle.textwrap_text.proofs.Common.{drop-drop}
+use Rattle.textwrap_classes.proofs.Common.{append-nil, true≢false, read-next, length, subst, ◌++◌}
+use Rattle.textwrap_classes.proofs.Common.{drop, refl, ◌≡◌, ◌+◌, ◌∙◌, sym, ap}
+use Rattle.textwrap_unicode.proofs.Common.{breaks_by, may_end, and}
 use Rattle.std.specs.Prelude.{encode_utf8}
 use Rattle.std.specs.Str.Iter.{chars_rest}
 use Rattle.textwrap_words.specs.Cuts.{AreInnerCuts}
 use Rattle.textwrap_text.specs.Units.{stripped}
 use Rattle.textwrap_text.specs.declared.escapes.State.TheVariants.{Text}
 use Rattle.textwrap_unicode.specs.Cuts.{offsets_of}
+use Rattle.textwrap_unicode.proofs.CutLemmas.{IsCutting-start, IsCutting-step, IsCutting-end}
+use Rattle.textwrap_unicode.proofs.CutLemmas.{IsCutting}
 use Rattle.textwrap_words.proofs.Word.Offsets.{cuts_at-AreInnerCuts}
-use Rattle.textwrap_unicode.proofs.CutLemmas.{IsCutting-start, IsCutting-step}
-use Rattle.textwrap_words.proofs.Word.Offsets.{cuts_at-AreInnerCuts}
-use Rattle.textwrap_unicode.proofs.CutLemmas.{IsCutting, IsCutting-end}
-use Rattle.textwrap_unicode.proofs.WordVerdicts.{past-ideographs, past-words}
-use Rattle.textwrap_unicode.proofs.cuts.find_cuts.Goals as goal
+use Rattle.textwrap_unicode.proofs.WordVerdicts.{ideographs-passed, words-passed}
 use Rattle.textwrap_unicode.proofs.cuts.find_cuts.Goals.{then-is_cut+in_ok-push, in_default-matches}
 use Rattle.textwrap_unicode.proofs.cuts.find_cuts.Goals.{Joined-is_visible, then-is_visible}
-use Rattle.textwrap_unicode.proofs.cuts.find_cuts.Goals.{In-Some, else-is_visible, else-is_cut}
+use Rattle.textwrap_unicode.proofs.cuts.find_cuts.Goals.{else-is_visible, else-is_cut, In-Some}
 use Rattle.textwrap_unicode.proofs.cuts.find_cuts.Goals.{in-Text}
+use Rattle.textwrap_unicode.proofs.cuts.find_cuts.Goals as goal
 
 pub loop-ch-init : goal.loop-ch-init
 loop-ch-init c = IsCutting-start _ _ _ _ _ _ c.utf8.line refl refl c.new-before.ensures
@@ -86,34 +83,16 @@ loop-ch-preserved-else-is_behind_ideograph c =
 pub loop-ch-preserved-in_ok-passed : goal.loop-ch-preserved-in_ok-passed
 loop-ch-preserved-in_ok-passed c =
     let at = goal.at.loop-ch-preserved-in_ok-passed c in
-    let line = c.args.line.now in
-    let place = c.loop-ch.at + c.len_utf8.result in
     let text : c.step-next.result.0 ≡ Text = elim c.match-matches.branch [
       | in-Text w ↦ w.in-Text.is
       | in_default-matches w ↦ absurd (true≢false (sym c.if-matches.true ∙ w.matches-is))
     ] in
     let word = c.is_in_word.ensures c.if-is_in_word.true in
-    let h = rw (text, word, c.if-end-at.true, c.if-not-is_hyphen.true)
-    at (past at.Joined-is_visible (here at.In-Some)) in
     let bytes = c.as_bytes-rest.ensures.value ∙ c.range_from-then-is_in_word.ensures.value in
-    let passed = c.in_ok-passed.passed in
-    let len = passed.len in
     let found = c.in_ok-passed.ensures in
-    let words : (k : ℕ) → k < len → IsWordByte (slice_index (drop place line) k) =
-    λ k below. subst (λ bs. IsWordByte (slice_index bs k)) bytes (found.words k below) in
-    rw (
-      sym (drop-drop len place line),
-      text,
-      c.if-not-is_hyphen.true,
-      found.cuts,
-      c.and_words-before.ensures,
-      found.blank,
-      found.sign,
-      word,
-      bytes,
-    )
-    (past-words c.args.numbers line place (drop place line) c.if-is_visible.cuts.items h len
-    (omega (arith, found.within, ap length bytes)) words)
+    words-passed c.args.numbers c.args.line.now _ _ _ _ _ _ _ _ _ _ _ _
+    (past at.Joined-is_visible (here at.In-Some)) text word c.if-end-at.true c.if-not-is_hyphen.true
+    bytes found.within found.words found.cuts found.blank found.sign c.and_words-before.ensures
 
 pub range_from-requires-then-is_in_word : goal.range_from-requires-then-is_in_word
 range_from-requires-then-is_in_word c = λ _.
@@ -123,29 +102,16 @@ range_from-requires-then-is_in_word c = λ _.
 pub loop-ch-preserved-in_ok-at : goal.loop-ch-preserved-in_ok-at
 loop-ch-preserved-in_ok-at c =
     let at = goal.at.loop-ch-preserved-in_ok-at c in
-    let line = c.args.line.now in
-    let place = c.loop-ch.at + c.len_utf8.result in
     let text : c.step-next.result.0 ≡ Text = elim c.match-matches.branch [
       | in-Text w ↦ w.in-Text.is
       | in_default-matches w ↦ absurd (true≢false (sym c.if-matches.true ∙ w.matches-is))
     ] in
     let ideograph = c.is_behind_ideograph.ensures c.if-is_behind_ideograph.true in
-    let h = rw (text, ideograph, c.if-end-at.true, c.if-not-is_hyphen.true)
-    at (past at.Joined-is_visible (here at.In-Some)) in
-    let bytes = c.range_from-then-is_behind_ideograph.ensures.value in
-    let count = c.in_ok-at.field-0 in
     let found = c.in_ok-at.ensures in
-    let ideographs : (k : ℕ) → k < count → IsIdeographAt (drop place line) (3 * k) =
-    λ k below. subst (λ bs. IsIdeographAt bs (3 * k)) bytes (found.ideographs k below) in
-    rw (
-      sym (drop-drop (3 * count) place line),
-      text,
-      c.if-not-is_hyphen.true,
-      found.cuts,
-      ideograph,
-    )
-    (past-ideographs c.args.numbers line place (drop place line) c.if-is_visible.cuts.items h count
-    ideographs)
+    ideographs-passed c.args.numbers c.args.line.now _ _ _ _ _ _ _ _ _
+    (past at.Joined-is_visible (here at.In-Some)) text ideograph c.if-end-at.true
+    c.if-not-is_hyphen.true c.range_from-then-is_behind_ideograph.ensures.value found.ideographs
+    found.cuts
 
 pub range_from-requires-then-is_behind_ideograph : goal.range_from-requires-then-is_behind_ideograph
 range_from-requires-then-is_behind_ideograph c = λ _.

@@ -1,11 +1,8 @@
-pub mod Growing
 pub mod InPlace
 pub mod InPlaceLines
-pub mod Indents
 pub mod Margins
 pub mod Plain
 pub mod PlainFilled
 pub mod PlainRows
-pub mod Refilling
 pub mod Tables
 pub mod Unfilling

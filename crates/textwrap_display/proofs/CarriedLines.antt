@@ -1,37 +1,32 @@
 -- Lines whose styles are carried: their bytes, what they show, and whole lines under indents.
-use Rattle.textwrap_text.proofs.Common.{◌≡◌, ℕ, ◌+◌, ◌<◌, cond, ◌==◌, List, [], ◌∷◌, ◌++◌, length}
-use Rattle.textwrap_text.proofs.Common.{get_or, take, drop, map, sym, ap, ◌∙◌, drop_more, nat_tests}
-use Rattle.textwrap_text.proofs.Common.{append-nil, append_assoc, map-append, nil_from_length}
-use Rattle.textwrap_text.proofs.Common.{length-append, arith, take-append-drop, ◌-◌, All}
-use Rattle.textwrap_text.proofs.Common.{All-append, All-drop, filter, not, suffix_len, sum_by}
-use Rattle.textwrap_text.proofs.Common.{All-cons, All-head, All-nil, All-tail, refl, Bool, true}
-use Rattle.textwrap_text.proofs.Common.{false, All-weaker, chars-nil, drop_at, flat_map, IsUtf8}
-use Rattle.textwrap_text.proofs.Common.{IsUtf8-drop, nat_eq, starts_with, subst, take_at}
-use Rattle.std.specs.declared.borrow.CowStr.{CowStr}
-use Rattle.std.specs.Cow.{cow_str_bytes}
-use Rattle.textwrap_layout.specs.Paragraph.{Line, Built, Slice, line_view, line_bytes}
-use Rattle.textwrap_layout.proofs.Text.Lines.{line_bytes-line_view}
-use Rattle.textwrap_display.specs.Shortening.{texts_of}
-use Rattle.textwrap_display.specs.Indents.{after_indent, indent_end, before_text}
-use Rattle.textwrap_display.specs.Styles.{carried_line, carried_lines, closing, opening, sequences}
-use Rattle.textwrap_display.specs.Styles.{open_link, open_styles, has_target, is_link, is_reset}
-use Rattle.textwrap_display.specs.Styles.{is_style, sequence_of}
-use Rattle.std.specs.List.{concat}
-use Rattle.std.proofs.lemmas.List.Folds.{concat-append, flat_map-map}
-use Rattle.textwrap_display.proofs.SequenceTexts.{closing-is, closing_sequences, parts-sequences}
-use Rattle.textwrap_display.proofs.SequenceTexts.{parts-styled, parts-visible, IsSequence}
-use Rattle.textwrap_display.proofs.SequenceTexts.{closing-sequences, link-ended, styles-ended}
-use Rattle.textwrap_display.proofs.SequenceTexts.{text-sequences, nil-whole, styled-append}
-use Rattle.textwrap_display.proofs.SequenceTexts.{text_units-append}
+use Rattle.textwrap_text.proofs.Common.{take-append-drop, nil_from_length, length-append, chars-nil}
+use Rattle.textwrap_text.proofs.Common.{append_assoc, IsUtf8-drop, starts_with, All-append, All-nil}
+use Rattle.textwrap_text.proofs.Common.{All-weaker, append-nil, cases_Bool, map-append, suffix_len}
+use Rattle.textwrap_text.proofs.Common.{drop_more, nat_tests, All-cons, All-drop, All-head, drop_at}
+use Rattle.textwrap_text.proofs.Common.{All-tail, flat_map, take_at, IsUtf8, filter, get_or, length}
+use Rattle.textwrap_text.proofs.Common.{nat_eq, sum_by, arith, subst, List, cond, drop, refl, take}
+use Rattle.textwrap_text.proofs.Common.{◌++◌, ◌==◌, All, inl, inr, map, not, sym, ◌+◌, ◌-◌, ◌<◌, []}
+use Rattle.textwrap_text.proofs.Common.{◌∙◌, ◌∷◌, ◌≡◌, ap, ℕ}
+use Rattle.textwrap_display.proofs.Common.{line_bytes-line_view, starts_with-rest, carried_lines}
+use Rattle.textwrap_display.proofs.Common.{concat-append, cow_str_bytes, styled_lines, IsWholeText}
+use Rattle.textwrap_display.proofs.Common.{open_styles, sequence_of, styled_text, has_target, Built}
+use Rattle.textwrap_display.proofs.Common.{line_bytes, text_width, line_view, open_link, sequences}
+use Rattle.textwrap_display.proofs.Common.{is_reset, is_style, texts_of, IsWhole, closing, is_link}
+use Rattle.textwrap_display.proofs.Common.{opening, CowStr, concat, styled, Slice, units, Line}
+use Rattle.textwrap_display.specs.Indents.{after_indent, before_text, indent_end}
+use Rattle.textwrap_display.specs.Styles.{carried_line}
+use Rattle.std.proofs.lemmas.List.Folds.{flat_map-map}
+use Rattle.textwrap_display.proofs.SequenceTexts.{closing-sequences, closing_sequences, IsSequence}
+use Rattle.textwrap_display.proofs.SequenceTexts.{text_units-append, parts-sequences, parts-visible}
+use Rattle.textwrap_display.proofs.SequenceTexts.{text-sequences, styled-append, parts-styled}
+use Rattle.textwrap_display.proofs.SequenceTexts.{styles-ended, closing-is, link-ended, nil-whole}
 use Rattle.std.proofs.lemmas.List.Elements.{All-filter}
-use Rattle.textwrap_text.specs.Units.{columns, text_width, IsWhole, units}
-use Rattle.textwrap_display.specs.Styled.{EndsPlain, MayCarry, styled_text, EachWithIndent}
-use Rattle.textwrap_display.specs.Styled.{styled_lines, IsWholeText, styled}
-use Rattle.textwrap_display.proofs.OpenSequences.{link-again, styles-again, link-follows}
-use Rattle.textwrap_display.proofs.OpenSequences.{styles-follow}
+use Rattle.textwrap_text.specs.Units.{columns}
+use Rattle.textwrap_display.specs.Styled.{EachWithIndent, EndsPlain, MayCarry}
+use Rattle.textwrap_display.proofs.OpenSequences.{styles-follow, link-follows, styles-again}
+use Rattle.textwrap_display.proofs.OpenSequences.{link-again}
 use Rattle.std.specs.Str.{chars}
 use Rattle.textwrap_text.proofs.Texts.{StartsWith-boundary}
-use Rattle.textwrap_text.proofs.Lists.Parts.{starts_with-rest}
 
 -- ---- one line more that sets anew what is open, and ends plain
 
@@ -96,31 +91,36 @@ open-sequences before are =
 
 module _ (indent : List ℕ) (before : List (List ℕ)) (line : List ℕ)
     (are : All IsSequence before) (may : MayCarry indent line) where
+  abbrev front : List ℕ
+  front = before_text indent line
+
+  abbrev text : List ℕ
+  text = after_indent indent line
+
+  abbrev starts : List (List ℕ)
+  starts = open_link before ++ open_styles before
+
+  abbrev ends : List (List ℕ)
+  ends = closing_sequences (before ++ sequences text)
+
+  all-ends : All IsSequence ends
+  all-ends = closing-sequences (before ++ sequences text)
+
   pub carried-styled : styled_text [] (line_bytes (carried_line indent before line))
-      ≡ styled_text [] (before_text indent line) ++ styled_text before (after_indent indent line)
+      ≡ styled_text [] front ++ styled_text before text
   carried-styled =
-      let front = before_text indent line in
-      let text = after_indent indent line in
-      let starts = open_link before ++ open_styles before in
-      let now = before ++ sequences text in
       ap (styled_text []) (carried-bytes indent before line)
-      ∙ parts-styled front text starts (closing_sequences now) may.front may.text
-      (open-sequences before are) (closing-sequences now) before
-      (link-again (sequences front) before may.plain.1)
+      ∙ parts-styled front text starts ends may.front may.text (open-sequences before are) all-ends
+      before (link-again (sequences front) before may.plain.1)
       (styles-again (sequences front) before may.plain.0)
 
   pub carried-plain : EndsPlain (line_bytes (carried_line indent before line))
   carried-plain =
-      let front = before_text indent line in
-      let text = after_indent indent line in
-      let starts = open_link before ++ open_styles before in
       let more = sequences text in
-      let ends = closing_sequences (before ++ more) in
       let all : sequences (line_bytes (carried_line indent before line))
-      ≡ sequences front ++ starts ++ more ++ ends =
-      ap sequences (carried-bytes indent before line)
-      ∙ parts-sequences front text starts ends may.front may.text
-      (open-sequences before are) (closing-sequences (before ++ more)) in
+      ≡ sequences front ++ starts ++ more ++ ends = ap sequences (carried-bytes indent before line)
+      ∙ parts-sequences front text starts ends may.front may.text (open-sequences before are)
+      all-ends in
       let first = sequences front ++ starts in (
         ap open_styles all
             ∙ styles-follow (first ++ more) (before ++ more) ends (styles-follow first before more
@@ -134,13 +134,9 @@ module _ (indent : List ℕ) (before : List (List ℕ)) (line : List ℕ)
 
   pub carried-wide : text_width (line_bytes (carried_line indent before line)) ≡ text_width line
   carried-wide =
-      let front = before_text indent line in
-      let text = after_indent indent line in
-      let now = before ++ sequences text in
       ap text_width (carried-bytes indent before line)
-      ∙ ap (sum_by columns) (parts-visible front text (open_link before ++ open_styles before)
-      (closing_sequences now) may.front may.text (open-sequences before are)
-      (closing-sequences now))
+      ∙ ap (sum_by columns) (parts-visible front text starts ends may.front may.text
+      (open-sequences before are) all-ends)
       ∙ ap text_width (take-append-drop (indent_end indent line) line)
 
 -- ---- lines whose styles are carried, one after another
@@ -152,82 +148,48 @@ indented-later Is later [] all = tt
 indented-later Is later (line ∷ lines) all =
     (All-head (Is later) line lines all, All-tail (Is later) line lines all)
 
--- the sequences before the next line
-more-sequences : (indent : List ℕ) (before : List (List ℕ)) (line : List ℕ) → All IsSequence before
-    → MayCarry indent line → All IsSequence (before ++ sequences (after_indent indent line))
-more-sequences indent before line are may =
+-- what the lines show, that they end plain, and how wide they are
+pub record AreCarried (indent later : List ℕ) (before lines : List (List ℕ)) : Type 0 where
+  pub shown : map (λ l. styled_text [] (line_bytes l)) (carried_lines indent later before lines)
+      ≡ styled_lines indent later before lines
+  pub plain : All (λ l. EndsPlain (line_bytes l)) (carried_lines indent later before lines)
+  pub wide : map (λ l. text_width (line_bytes l)) (carried_lines indent later before lines)
+      ≡ map text_width lines
+
+are_carried : (lines : List (List ℕ)) (indent later : List ℕ) (before : List (List ℕ))
+    → All IsSequence before → EachWithIndent MayCarry indent later lines
+    → AreCarried indent later before lines
+are_carried [] indent later before are all =
+    record { shown = refl; plain = All-nil (λ l. EndsPlain (line_bytes l)); wide = refl }
+are_carried (line ∷ lines) indent later before are (may, rest) =
     let text = after_indent indent line in
-    All-append IsSequence before (sequences text) are (text-sequences text may.text)
+    let now = before ++ sequences text in
+    let others = are_carried lines later later now
+    (All-append IsSequence before (sequences text) are (text-sequences text may.text))
+    (indented-later MayCarry later lines rest) in
+    record {
+      shown = grind (arith, carried-styled indent before line are may, others.shown);
+      plain = All-cons (λ l. EndsPlain (line_bytes l)) (carried_line indent before line)
+          (carried_lines later later now lines) (carried-plain indent before line are may)
+          others.plain;
+      wide = grind (arith, carried-wide indent before line are may, others.wide);
+    }
 
-lines-styled : (lines : List (List ℕ)) (indent later : List ℕ) (before : List (List ℕ))
-    → All IsSequence before → EachWithIndent MayCarry indent later lines
-    → map (λ l. styled_text [] (line_bytes l)) (carried_lines indent later before lines)
-    ≡ styled_lines indent later before lines
-lines-styled [] indent later before are all = refl
-lines-styled (line ∷ lines) indent later before are (may, rest) =
-    grind (
-      arith,
-      carried-styled indent before line are may,
-      lines-styled lines later later (before ++ sequences (after_indent indent line))
-          (more-sequences indent before line are may) (indented-later MayCarry later lines rest),
-    )
-
-lines-plain : (lines : List (List ℕ)) (indent later : List ℕ) (before : List (List ℕ))
-    → All IsSequence before → EachWithIndent MayCarry indent later lines
-    → All (λ l. EndsPlain (line_bytes l)) (carried_lines indent later before lines)
-lines-plain [] indent later before are all = All-nil (λ l. EndsPlain (line_bytes l))
-lines-plain (line ∷ lines) indent later before are (may, rest) =
-    let now = before ++ sequences (after_indent indent line) in
-    All-cons (λ l. EndsPlain (line_bytes l)) (carried_line indent before line)
-    (carried_lines later later now lines) (carried-plain indent before line are may)
-    (lines-plain lines later later now (more-sequences indent before line are may)
-    (indented-later MayCarry later lines rest))
-
-lines-wide : (lines : List (List ℕ)) (indent later : List ℕ) (before : List (List ℕ))
-    → All IsSequence before → EachWithIndent MayCarry indent later lines
-    → map (λ l. text_width (line_bytes l)) (carried_lines indent later before lines)
-    ≡ map text_width lines
-lines-wide [] indent later before are all = refl
-lines-wide (line ∷ lines) indent later before are (may, rest) =
-    grind (
-      arith,
-      carried-wide indent before line are may,
-      lines-wide lines later later (before ++ sequences (after_indent indent line))
-          (more-sequences indent before line are may) (indented-later MayCarry later lines rest),
-    )
+pub carried : (indent later : List ℕ) (lines : List (List ℕ))
+    → EachWithIndent MayCarry indent later lines → AreCarried indent later [] lines
+carried indent later lines = are_carried lines indent later [] (All-nil IsSequence)
 
 -- the text has no sequence
 abbrev IsPlainLine : List ℕ → List ℕ → Type 0
 IsPlainLine indent line = sequences (after_indent indent line) ≡ []
 
-lines-stay : (lines : List (List ℕ)) (indent later : List ℕ)
+pub plain-stay : (indent later : List ℕ) (lines : List (List ℕ))
     → EachWithIndent IsPlainLine indent later lines
     → carried_lines indent later [] lines ≡ map Slice lines
-lines-stay [] indent later all = refl
-lines-stay (line ∷ lines) indent later (none, rest) =
-    let others = lines-stay lines later later (indented-later IsPlainLine later lines rest) in
+plain-stay indent later [] all = refl
+plain-stay indent later (line ∷ lines) (none, rest) =
+    let others = plain-stay later later lines (indented-later IsPlainLine later lines rest) in
     grind (arith, none, others)
-
--- ---- the laws
-
-module _ (indent later : List ℕ) (lines : List (List ℕ)) where
-  pub carried-keep : EachWithIndent MayCarry indent later lines
-      → map (λ l. styled_text [] (line_bytes l)) (carried_lines indent later [] lines)
-      ≡ styled_lines indent later [] lines
-  carried-keep = lines-styled lines indent later [] (All-nil IsSequence)
-
-  pub carried-end : EachWithIndent MayCarry indent later lines
-      → All (λ l. EndsPlain (line_bytes l)) (carried_lines indent later [] lines)
-  carried-end = lines-plain lines indent later [] (All-nil IsSequence)
-
-  pub carried-as_wide : EachWithIndent MayCarry indent later lines
-      → map (λ l. text_width (line_bytes l)) (carried_lines indent later [] lines)
-      ≡ map text_width lines
-  carried-as_wide = lines-wide lines indent later [] (All-nil IsSequence)
-
-  pub plain-stay : EachWithIndent IsPlainLine indent later lines
-      → carried_lines indent later [] lines ≡ map Slice lines
-  plain-stay = lines-stay lines indent later
 
 -- ---- whole lines under indents that leave nothing open, and the text that such lines join to
 
@@ -251,36 +213,30 @@ whole_text-rest xs ys front whole =
           (subst (All IsWhole) (text_units-append xs ys front) whole.1)),
     )
 
--- what may stand before a text, and the text
-abbrev AreParts : List ℕ → List ℕ → Type 0
-AreParts front text = IsWholeText front × EndsPlain front × IsWholeText text
-
 may-carry : (indent line : List ℕ) → IsWholeText indent → EndsPlain indent → IsWholeText line
     → MayCarry indent line
-may-carry indent line own plain whole =
-    let (front, ends, text) = by (starts_with nat_eq line indent) refl in
-    record { front = front; plain = ends; text = text }
-  where
-    by : (b : Bool) → starts_with nat_eq line indent ≡ b
-        → let n = cond b (length indent) 0 in AreParts (take n line) (drop n line)
-    by true starts =
-        let rest = drop (length indent) line in
-        let shape : line ≡ indent ++ rest = starts_with-rest indent line starts in
-        let front : take (length indent) line ≡ indent =
-        ap (take (length indent)) shape ∙ take_at indent rest _ refl in (
-          subst IsWholeText (sym front) own,
-          subst EndsPlain (sym front) plain,
-          whole_text-rest indent rest own (subst IsWholeText shape whole),
-        )
-    by false other = (nil-whole, nil-plain, whole)
+may-carry indent line own plain whole = elim (cases_Bool (starts_with nat_eq line indent)) [
+  | inl starts ↦
+      let rest = drop (length indent) line in
+      let shape : line ≡ indent ++ rest = starts_with-rest indent line starts in
+      let front : take (length indent) line ≡ indent =
+      ap (take (length indent)) shape ∙ take_at indent rest _ refl in
+      record {
+        front = rw (starts, front) own;
+        plain = rw (starts, front) plain;
+        text = rw starts (whole_text-rest indent rest own (subst IsWholeText shape whole));
+      }
+  | inr other ↦
+      record { front = rw other nil-whole; plain = rw other nil-plain; text = rw other whole }
+]
 
 pub all-may_carry : (indent later : List ℕ) (lines : List (List ℕ)) → IsWholeText indent
     → EndsPlain indent → IsWholeText later → EndsPlain later → All IsWholeText lines
     → EachWithIndent MayCarry indent later lines
-all-may_carry indent later [] own plain more ends whole = tt
-all-may_carry indent later (line ∷ lines) own plain more ends whole = (
+all-may_carry indent later [] own plain more closed whole = tt
+all-may_carry indent later (line ∷ lines) own plain more closed whole = (
   may-carry indent line own plain (All-head IsWholeText line lines whole),
-  All-weaker IsWholeText (MayCarry later) (λ l. may-carry later l more ends) lines
+  All-weaker IsWholeText (MayCarry later) (λ l. may-carry later l more closed) lines
       (All-tail IsWholeText line lines whole),
 )
 
@@ -307,4 +263,4 @@ pub bare-carried : (lines : List (List ℕ)) → All IsWholeText lines
     ≡ styled_text [] (concat lines)
 bare-carried lines whole =
     let may = all-may_carry [] [] lines nil-whole nil-plain nil-whole nil-plain whole in
-    grind (arith, flat_map-map, carried-keep [] [] lines may, bare-shown lines [] whole)
+    grind (arith, flat_map-map, (carried [] [] lines may).shown, bare-shown lines [] whole)

@@ -1,28 +1,23 @@
 -- A text that is filled with its lines justified, one paragraph after another.
-use Rattle.textwrap_text.proofs.Common.{◌≡◌, ℕ, Bool, true, List, [], ◌∷◌, ◌++◌, cond, map, refl}
-use Rattle.textwrap_text.proofs.Common.{append_assoc, arith, ◌-◌, ◌||◌, nat_lt, suc, false, length}
-use Rattle.textwrap_text.proofs.Common.{sym, ap, ◌∙◌, append-nil, cases_Bool, drop_all, drop_at}
-use Rattle.textwrap_text.proofs.Common.{flat_map, take_all, take_at, ◌+◌, take, drop, subst}
-use Rattle.textwrap_text.proofs.Common.{length-append, length-map, ending_bytes, join_with}
-use Rattle.textwrap_text.proofs.Common.{paragraphs_of, text_width}
-use Rattle.std.specs.Cow.{cow_str_bytes}
-use Rattle.std.specs.declared.borrow.CowStr.{CowStr}
-use Rattle.textwrap_layout.proofs.Common.{indent_of, line_bytes, line_view, Settings, line_from}
-use Rattle.textwrap_layout.proofs.Common.{LineParts, parts_from, parts_of, AreGroups}
-use Rattle.textwrap_layout.proofs.Common.{AreParagraphParts, DividesAs, DividesBy, HasParts}
-use Rattle.textwrap_layout.proofs.Common.{settings_view}
-use Rattle.textwrap_layout.proofs.Text.Lines.{line_bytes-line_view}
-use Rattle.textwrap_display.specs.JustifiedText.{joined_on, justified_after}
-use Rattle.textwrap_display.specs.JustifiedText.{justified_after_indents, justified_line}
-use Rattle.textwrap_display.specs.JustifiedText.{justified_lines, IsJustifiedText}
+use Rattle.textwrap_text.proofs.Common.{length-append, paragraphs_of, append_assoc, ending_bytes, ℕ}
+use Rattle.textwrap_text.proofs.Common.{append-nil, cases_Bool, length-map, text_width, join_with}
+use Rattle.textwrap_text.proofs.Common.{drop_all, flat_map, take_all, drop_at, take_at, length, map}
+use Rattle.textwrap_text.proofs.Common.{nat_lt, arith, false, subst, Bool, List, cond, drop, refl}
+use Rattle.textwrap_text.proofs.Common.{take, true, ◌++◌, ◌||◌, suc, sym, ◌+◌, ◌-◌, ◌∙◌, ◌∷◌, ◌≡◌}
+use Rattle.textwrap_text.proofs.Common.{[], ap}
+use Rattle.textwrap_display.proofs.Common.{line_bytes-line_view, IsJustifiedText, cow_str_bytes}
+use Rattle.textwrap_display.proofs.Common.{line_bytes, justified, line_view, WordText, CowStr, Adds}
+use Rattle.textwrap_layout.proofs.Common.{AreParagraphParts, settings_view, parts_from, AreGroups}
+use Rattle.textwrap_layout.proofs.Common.{DividesAs, DividesBy, LineParts, indent_of, line_from}
+use Rattle.textwrap_layout.proofs.Common.{HasParts, Settings, parts_of}
+use Rattle.textwrap_display.specs.JustifiedText.{justified_after_indents, justified_after}
+use Rattle.textwrap_display.specs.JustifiedText.{justified_lines, justified_line, joined_on}
 use Rattle.textwrap_text.proofs.Lists.Parts.{starts_with-true}
-use Rattle.textwrap_text.proofs.Numbers.{or_false, some_later, is_later-or}
-use Rattle.textwrap_words.proofs.Common.{WordText, Algorithm, Splitter}
+use Rattle.textwrap_text.proofs.Numbers.{is_later-or, some_later, or_false}
+use Rattle.textwrap_words.proofs.Common.{Algorithm, Splitter}
 use Rattle.textwrap_layout.proofs.Text.Sinks.{assembled-bytes}
-use Rattle.textwrap_display.specs.Justifying.{justified}
 use Rattle.textwrap_layout.specs.declared.options.Options.{Options}
 use Rattle.textwrap_layout.proofs.Paragraph.Pieces.{divides}
-use Rattle.textwrap_layout.specs.Paragraph.{Adds}
 use Rattle.std.proofs.lemmas.List.{drop-map}
 
 -- ---- what the lines of a paragraph add to a text, the first of them and those after it
@@ -168,26 +163,6 @@ module _ (settings : Settings) (Divides : Bool → List ℕ → List (List WordT
   }
 
   -- the lines of one more paragraph
-  so_far-next : (text filled new : List ℕ) (is_later then_later : Bool) (paragraph : List ℕ)
-      (after : List (List ℕ)) (parts : List LineParts)
-      → IsJustifiedSoFar text filled is_later (paragraph ∷ after)
-      → AreParagraphParts settings Divides is_later paragraph parts
-      → new ≡ filled ++ joined_on (ending_bytes settings.line_ending) is_later
-      (justified_after_indents settings is_later (map line_from parts))
-      → then_later ≡ is_later || nat_lt 0 (length parts)
-      → IsJustifiedSoFar text new then_later after
-  so_far-next text filled new is_later then_later paragraph after parts so_far are is later =
-      record {
-        done = so_far.done ++ paragraph ∷ [];
-        paragraphs = so_far.paragraphs ∙ sym (append_assoc so_far.done (paragraph ∷ []) after);
-        whole = λ groups rest.
-            let (division, laid_out, are_parts) = are in
-            subst (IsJustifiedText settings Divides text)
-            (rw are_parts (rows-more settings filled new is_later then_later division groups
-            (rw are_parts at is) (rw are_parts at later)))
-            (so_far.whole (parts ∷ groups) (are, rw later at rest));
-      }
-
   pub so_far-more : {Z : Type 0} (text filled new : List ℕ)
       (items kept found slice : List (CowStr Z)) (start : ℕ) (paragraph : List ℕ) (after : List (List ℕ))
       → IsJustifiedSoFar text filled (nat_lt 0 (length items)) (paragraph ∷ after)
@@ -200,7 +175,7 @@ module _ (settings : Settings) (Divides : Bool → List ℕ → List (List WordT
       (justified_after_indents settings (nat_lt 0 start) (map line_view slice))
       → IsJustifiedSoFar text new (nat_lt 0 (length found)) after
   so_far-more text filled new items kept found slice start paragraph after so_far keeps starts
-      (parts, are, adds) slice_is is =
+      (parts, (division, laid_out, are), adds) slice_is is =
       let later = nat_lt 0 (length kept) in
       let views = length-map kept line_view in
       let count = ap length adds ∙ length-append (map line_view kept) (map line_from parts) in
@@ -211,10 +186,17 @@ module _ (settings : Settings) (Divides : Bool → List ℕ → List (List WordT
       let lines : map line_view slice ≡ map line_from parts =
       ap (map line_view) slice_is ∙ sym (drop-map line_view start found) ∙ ap (drop start) adds
       ∙ drop_at (map line_view kept) (map line_from parts) start (views ∙ sym starts) in
-      so_far-next text filled new later (nat_lt 0 (length found)) paragraph after parts
-      (rw begins at so_far) are
-      (rw (starts, lines) at is)
-      (is_later-or (length found) (length kept) (length parts) len)
+      let then = is_later-or (length found) (length kept) (length parts) len in
+      record {
+        done = so_far.done ++ paragraph ∷ [];
+        paragraphs = so_far.paragraphs ∙ sym (append_assoc so_far.done (paragraph ∷ []) after);
+        whole = λ groups rest.
+            subst (IsJustifiedText settings Divides text)
+            (rw are (rows-more settings filled new later (nat_lt 0 (length found)) division groups
+            (rw are at (rw (starts, lines) at is)) (rw are at then)))
+            ((rw begins at so_far).whole (parts ∷ groups)
+            ((division, laid_out, are), rw then at rest));
+      }
 
   pub so_far-end : (text filled : List ℕ) (is_later : Bool)
       → IsJustifiedSoFar text filled is_later [] → IsJustifiedText settings Divides text filled

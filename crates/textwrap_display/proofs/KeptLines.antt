@@ -1,23 +1,19 @@
 -- The longest beginning of a line that may be kept, and the first lines as they are.
-use Rattle.textwrap_text.proofs.Common.{◌≡◌, ◌≢◌, ℕ, ◌+◌, ◌≤◌, ◌<◌, ◌⊎◌, Bool, true, false, eqb}
-use Rattle.textwrap_text.proofs.Common.{List, ◌++◌, length, take, drop, refl, sym, ap, subst, ◌∙◌}
-use Rattle.textwrap_text.proofs.Common.{inl, inr, arith, IsUtf8, cases_lt, eqb-true, [], ◌∷◌}
-use Rattle.textwrap_text.proofs.Common.{get_or, map, map-append, take-append-drop, drop_more}
-use Rattle.textwrap_text.proofs.Common.{length-map, length-take-le, string_bytes, Bor, take_more}
-use Rattle.textwrap_text.proofs.Common.{append_assoc, text_width}
-use Rattle.std.specs.declared.borrow.CowStr.{CowStr}
-use Rattle.std.specs.Prelude.{encode_utf8, String}
-use Rattle.textwrap_text.specs.declared.escapes.State.{State}
-use Rattle.textwrap_display.specs.Shortening.{IsKeptBeginning, can_end, AreShortened, IsShortened, texts_of}
-use Rattle.textwrap_display.proofs.KeptWords.{is_after_blank, may_end-boundary, may_end-within}
-use Rattle.textwrap_display.proofs.KeptWords.{may_end-here, may_end-other, may_end-past}
-use Rattle.textwrap_display.proofs.KeptWords.{may_end-whole, may_end-blanks, IsReadTo, read-width}
-use Rattle.textwrap_display.proofs.KeptWords.{read-more}
-use Rattle.textwrap_text.proofs.Units.Reading.{read-all}
-use Rattle.std.specs.Cow.{cow_str_bytes}
+use Rattle.textwrap_text.proofs.Common.{take-append-drop, length-take-le, append_assoc, length-map}
+use Rattle.textwrap_text.proofs.Common.{string_bytes, map-append, text_width, drop_more, take_more}
+use Rattle.textwrap_text.proofs.Common.{cases_lt, eqb-true, IsUtf8, get_or, length, arith, false, ℕ}
+use Rattle.textwrap_text.proofs.Common.{subst, Bool, List, drop, refl, take, true, ◌++◌, Bor, eqb}
+use Rattle.textwrap_text.proofs.Common.{inl, inr, map, sym, ◌+◌, ◌<◌, ◌∙◌, ◌∷◌, ◌≡◌, ◌≢◌, ◌≤◌, ◌⊎◌}
+use Rattle.textwrap_text.proofs.Common.{[], ap}
+use Rattle.textwrap_display.proofs.Common.{line_bytes-line_view, cow_str_bytes, AreShortened, Built}
+use Rattle.textwrap_display.proofs.Common.{IsShortened, encode_utf8, line_bytes, line_view, can_end}
+use Rattle.textwrap_display.proofs.Common.{read-all, texts_of, CowStr, String, Slice, State, Line}
+use Rattle.textwrap_display.specs.Shortening.{IsKeptBeginning}
+use Rattle.textwrap_display.proofs.KeptWords.{may_end-boundary, is_after_blank, may_end-blanks}
+use Rattle.textwrap_display.proofs.KeptWords.{may_end-within, may_end-other, may_end-whole}
+use Rattle.textwrap_display.proofs.KeptWords.{may_end-here, may_end-past, read-width, read-more}
+use Rattle.textwrap_display.proofs.KeptWords.{IsReadTo}
 use Rattle.std.specs.declared.borrow.CowStr.TheVariants.{Borrowed, Owned}
-use Rattle.textwrap_layout.specs.Paragraph.{Line, Built, Slice, line_bytes, line_view}
-use Rattle.textwrap_layout.proofs.Text.Lines.{line_bytes-line_view}
 
 -- ---- what the reader has found of a line up to a place: the longest beginning that may be kept
 
@@ -50,8 +46,8 @@ found-kept room width placeholder line n is h = record {
       (omega (arith, has, is));
 }
 
-module _ (room : ℕ) (line : List ℕ) (utf8 : IsUtf8 line) (place : ℕ) (rest : List ℕ)
-    (state : State) (taken kept : ℕ) (after_blank : Bool)
+module _ {room : ℕ} {line : List ℕ} (utf8 : IsUtf8 line) {place : ℕ} {rest : List ℕ}
+    {state : State} {taken kept : ℕ} {after_blank : Bool}
     (read : IsReadTo line place rest state taken after_blank)
     (found : IsFound room line place kept) where
   -- what else may have room before a later place is before this one
@@ -70,8 +66,7 @@ module _ (room : ℕ) (line : List ℕ) (utf8 : IsUtf8 line) (place : ℕ) (rest
   -- past the room nothing has room
   pub found-past : room < taken → IsFound room line (length line + 1) kept
   found-past past = found-until (length line + 1) (λ m later before may has.
-      let more = read-more line utf8 place rest state taken after_blank read m later
-      (may_end-boundary line m utf8 may) in
+      let more = read-more utf8 read m later (may_end-boundary line m utf8 may) in
       absurd (omega (arith, has, past, more)))
 
   module _ (c : ℕ) (after : List ℕ) (is : rest ≡ encode_utf8 c ++ after) (end : ℕ)
@@ -93,7 +88,7 @@ module _ (room : ℕ) (line : List ℕ) (utf8 : IsUtf8 line) (place : ℕ) (rest
     found-here has blank some = record {
       ends = may_end-here line utf8 place c after read.read.boundary whole (ap (λ x. eqb x 32) blank)
           (sym read.blank ∙ some);
-      fits = inr (omega (arith, has, read-width line utf8 place rest state taken after_blank read));
+      fits = inr (omega (arith, has, read-width utf8 read));
       longest = λ m before may room. outside m before may;
     }
 
@@ -122,7 +117,7 @@ module _ (room : ℕ) (line : List ℕ) (utf8 : IsUtf8 line) (place : ℕ) (rest
     found-whole has some = record {
       ends = may_end-whole line (sym after_last ∙ some);
       fits = inr (subst (HasRoom room line) at_end
-          (omega (arith, has, read-width line utf8 place rest state taken after_blank read)));
+          (omega (arith, has, read-width utf8 read)));
       longest = λ m before may room. omega (arith, before);
     }
 
@@ -141,17 +136,6 @@ texts-append xs ys =
     ap (map line_bytes) (map-append line_view xs ys)
     ∙ map-append line_bytes (map line_view xs) (map line_view ys)
 
-texts-split : {Z : Type 0} (lines : List (CowStr Z)) (n : ℕ) (line : CowStr Z)
-    → n < length lines → line ≡ get_or lines n line
-    → texts_of lines
-    ≡ texts_of (take n lines) ++ line_bytes (line_view line) ∷ texts_of (drop (n + 1) lines)
-texts-split lines n line within is =
-    let left = drop_more lines n line within in
-    grind (arith, take-append-drop n lines, texts-append, left)
-
-texts-length : {Z : Type 0} (lines : List (CowStr Z)) → length (texts_of lines) ≡ length lines
-texts-length lines = length-map (map line_view lines) line_bytes ∙ length-map lines line_view
-
 pub cut-lines : {Z : Type 0} (most width : ℕ) (placeholder : List ℕ) (lines : List (CowStr Z))
     (n : ℕ) (line : CowStr Z) (last : Line) → n + 1 ≡ most → n < length lines
     → line ≡ get_or lines n line → IsShortened width placeholder (cow_str_bytes line) last
@@ -162,9 +146,12 @@ cut-lines most width placeholder lines n line last number within is cut = record
   line = line_bytes (line_view line);
   left_out = texts_of (drop (n + 1) lines);
   last = last;
-  lines_are = texts-split lines n line within is;
-  count = ap (λ k. k + 1) (texts-length (take n lines)
-      ∙ length-take-le n lines (omega (arith, within))) ∙ number;
+  lines_are =
+      let left = drop_more lines n line within in
+      grind (arith, take-append-drop n lines, texts-append, left);
+  count = ap (λ k. k + 1) (length-map (map line_view (take n lines)) line_bytes
+      ∙ length-map (take n lines) line_view ∙ length-take-le n lines (omega (arith, within)))
+      ∙ number;
   cut = subst (λ l. IsShortened width placeholder l last) (sym (line_bytes-line_view line)) cut;
   are = refl;
 }

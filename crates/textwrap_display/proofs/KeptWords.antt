@@ -1,28 +1,26 @@
 -- The beginning of a line that is kept: its words, where it may end, and the reader that finds it.
-use Rattle.textwrap_text.proofs.Common.{◌≡◌, ℕ, ◌⊎◌, Bool, true, false, cond, inl, inr, List, []}
-use Rattle.textwrap_text.proofs.Common.{◌∷◌, ◌++◌, get_or, refl, ap, ◌∙◌, arith, All-nil, All-cons}
-use Rattle.textwrap_text.proofs.Common.{cases_Bool, onto_first, ◌+◌, ◌-◌, ◌≤◌, ◌<◌, ◌||◌, eqb}
-use Rattle.textwrap_text.proofs.Common.{length, drop, subst, sym, cases_lt, eqb-true, eqb-false}
-use Rattle.textwrap_text.proofs.Common.{nat_tests, IsUtf8, IsCharBoundary, get_or_past, map, take}
-use Rattle.textwrap_text.proofs.Common.{All-head, All-tail, append_assoc, append-nil, add-zero}
-use Rattle.textwrap_text.proofs.Common.{length-map, take_at, take-append-drop, drop_all}
-use Rattle.textwrap_text.proofs.Common.{get_or-drop, length_push, reverse-append, rules}
-use Rattle.textwrap_text.proofs.Common.{take-append-le, zero-add, length-take-le, slice_range}
-use Rattle.textwrap_text.proofs.Common.{IsUtf8-take, chars-nil, chars-append, next_of, text_width}
-use Rattle.textwrap_text.specs.Blanks.{is_blank, trimmed_len, without_final_blanks}
-use Rattle.textwrap_words.specs.Words.{chunks, is_cut, word_of}
-use Rattle.textwrap_words.proofs.Word.Texts.{AreBlanks}
-use Rattle.std.specs.Prelude.{encode_utf8, chars}
-use Rattle.std.proofs.lemmas.Str.{IsCharBoundary-start, IsCharBoundary-end, encode_ascii}
-use Rattle.textwrap_text.proofs.Texts.{some-bytes, ascii-here, ends-within, starts-within}
+use Rattle.textwrap_text.proofs.Common.{take-append-drop, IsCharBoundary, length-take-le, chars-nil}
+use Rattle.textwrap_text.proofs.Common.{reverse-append, take-append-le, append_assoc, chars-append}
+use Rattle.textwrap_text.proofs.Common.{IsUtf8-take, get_or-drop, get_or_past, length_push, All-nil}
+use Rattle.textwrap_text.proofs.Common.{slice_range, append-nil, cases_Bool, length-map, map-append}
+use Rattle.textwrap_text.proofs.Common.{onto_first, text_width, eqb-false, nat_tests, All-cons, eqb}
+use Rattle.textwrap_text.proofs.Common.{All-head, All-tail, add-zero, cases_lt, drop_all, eqb-true}
+use Rattle.textwrap_text.proofs.Common.{zero-add, IsUncut, next_of, take_at, IsUtf8, get_or, length}
+use Rattle.textwrap_text.proofs.Common.{arith, false, rules, subst, Bool, List, drop, refl, take, ℕ}
+use Rattle.textwrap_text.proofs.Common.{true, ◌++◌, ◌||◌, inl, inr, map, sym, ◌+◌, ◌-◌, ◌<◌, ◌∙◌}
+use Rattle.textwrap_text.proofs.Common.{◌∷◌, ◌≡◌, ◌≤◌, ◌⊎◌, [], ap}
+use Rattle.textwrap_display.proofs.Common.{IsCharBoundary-start, encode_ascii, chunks-from, can_end}
+use Rattle.textwrap_display.proofs.Common.{encode_utf8, read-start, word_texts, AreBlanks, is_blank}
+use Rattle.textwrap_display.proofs.Common.{read-next, word_of, IsRead, chunks, is_cut, State, added}
+use Rattle.textwrap_text.specs.Blanks.{without_final_blanks, trimmed_len}
+use Rattle.std.specs.Prelude.{chars}
+use Rattle.std.proofs.lemmas.Str.{IsCharBoundary-end}
+use Rattle.textwrap_text.proofs.Texts.{starts-within, ends-within, ascii-here, some-bytes}
 use Rattle.textwrap_words.proofs.Word.Ahead.{character-within, plain-bytes}
-use Rattle.textwrap_display.specs.Shortening.{can_end}
-use Rattle.textwrap_display.specs.Laws.{word_texts}
 use Rattle.textwrap_text.proofs.Lists.Parts.{take_slice}
 use Rattle.std.proofs.Math.Seq.{take-add}
-use Rattle.textwrap_text.proofs.Units.Reading.{text_width-le, chars-push, IsRead, read-next}
-use Rattle.textwrap_text.proofs.Units.Reading.{read-start, added, columns_in, columns_in-step}
-use Rattle.textwrap_text.specs.declared.escapes.State.{State}
+use Rattle.textwrap_text.proofs.Units.Reading.{columns_in-step, text_width-le, chars-push}
+use Rattle.textwrap_text.proofs.Units.Reading.{columns_in}
 use Rattle.textwrap_text.specs.declared.escapes.State.TheVariants.{Text}
 
 -- ---- the chunks of a line's beginning, where blanks follow it, are the first chunks of the
@@ -32,77 +30,66 @@ use Rattle.textwrap_text.specs.declared.escapes.State.TheVariants.{Text}
 abbrev pub BlankFollows : List ℕ → Type 0
 BlankFollows ys = (ys ≡ []) ⊎ (is_blank (get_or ys 0 0) ≡ true)
 
--- the first chunk is blanks
-abbrev BeginWithBlanks : List (List ℕ) → Type 0
-BeginWithBlanks [] = ⊥
-BeginWithBlanks (part ∷ parts) = AreBlanks part
-
-blanks-onto : (y : ℕ) (parts : List (List ℕ)) → is_blank y ≡ true → BeginWithBlanks parts
-    → BeginWithBlanks (onto_first y parts)
-blanks-onto y [] blank none = absurd none
-blanks-onto y (part ∷ parts) blank all = All-cons (λ c. is_blank c ≡ true) y part blank all
-
--- so it is of a text that begins with a blank
-blanks-first : (y : ℕ) (ys : List ℕ) → is_blank y ≡ true → BeginWithBlanks (chunks (y ∷ ys))
-blanks-first y [] blank =
+-- a chunk that begins with a blank is blanks
+uncut-blanks : (y : ℕ) (part : List ℕ) → is_blank y ≡ true → IsUncut (y ∷ part)
+    → AreBlanks (y ∷ part)
+uncut-blanks y [] blank uncut =
     All-cons (λ c. is_blank c ≡ true) y [] blank (All-nil (λ c. is_blank c ≡ true))
-blanks-first y (d ∷ ds) blank = by (is_blank d) refl (blanks-first d ds)
-  where
-    by : (b : Bool) → is_blank d ≡ b → (is_blank d ≡ true → BeginWithBlanks (chunks (d ∷ ds)))
-        → BeginWithBlanks (chunks (y ∷ d ∷ ds))
-    by true is after =
-        let shape : chunks (y ∷ d ∷ ds) ≡ onto_first y (chunks (d ∷ ds)) = rw (blank, is) refl in
-        subst BeginWithBlanks (sym shape) (blanks-onto y (chunks (d ∷ ds)) blank (after is))
-    by false is after =
-        let shape : chunks (y ∷ d ∷ ds) ≡ (y ∷ []) ∷ chunks (d ∷ ds) = rw (blank, is) refl in
-        subst BeginWithBlanks (sym shape)
-        (All-cons (λ c. is_blank c ≡ true) y [] blank (All-nil (λ c. is_blank c ≡ true)))
+uncut-blanks y (d ∷ part) blank uncut =
+    let next : is_blank d ≡ true = grind (arith, cases_Bool, uncut [] part y d refl) in
+    All-cons (λ c. is_blank c ≡ true) y (d ∷ part) blank (uncut-blanks d part next
+    (λ before after c e is. uncut (y ∷ before) after c e (ap (λ l. y ∷ l) is)))
 
 -- these chunks are the first of the others, where the last of them may have more blanks
 abbrev AreFirst : List (List ℕ) → List (List ℕ) → Type 0
-AreFirst [] whole = ⊥
-AreFirst (part ∷ []) [] = ⊥
-AreFirst (part ∷ []) (w ∷ ws) = (blanks : List ℕ) × (w ≡ part ++ blanks) × AreBlanks blanks
-AreFirst (part ∷ next ∷ parts) [] = ⊥
-AreFirst (part ∷ next ∷ parts) (w ∷ ws) = (w ≡ part) × AreFirst (next ∷ parts) ws
-
-first-one : (c : ℕ) (parts : List (List ℕ)) → BeginWithBlanks parts
-    → AreFirst ((c ∷ []) ∷ []) (onto_first c parts)
-first-one c [] none = absurd none
-first-one c (part ∷ parts) all = (part, refl, all)
+AreFirst front whole =
+    (before : List (List ℕ)) × (last : List ℕ) × (blanks : List ℕ) × (after : List (List ℕ))
+    × (front ≡ before ++ last ∷ []) × (whole ≡ before ++ (last ++ blanks) ∷ after)
+    × AreBlanks blanks
 
 first-more : (part : List ℕ) (front whole : List (List ℕ)) → AreFirst front whole
     → AreFirst (part ∷ front) (part ∷ whole)
-first-more part [] whole none = absurd none
-first-more part (next ∷ parts) whole are = (refl, are)
+first-more part front whole (before, last, blanks, after, is, all_is, are) = (
+  part ∷ before,
+  last,
+  blanks,
+  after,
+  ap (λ l. part ∷ l) is,
+  ap (λ l. part ∷ l) all_is,
+  are,
+)
 
 first-onto : (c : ℕ) (front whole : List (List ℕ)) → AreFirst front whole
     → AreFirst (onto_first c front) (onto_first c whole)
-first-onto c [] whole none = absurd none
-first-onto c (part ∷ []) [] none = absurd none
-first-onto c (part ∷ []) (w ∷ ws) (blanks, is, all) = (blanks, ap (λ l. c ∷ l) is, all)
-first-onto c (part ∷ next ∷ parts) [] none = absurd none
-first-onto c (part ∷ next ∷ parts) (w ∷ ws) (is, are) = (ap (λ l. c ∷ l) is, are)
-
-uncut : (c y : ℕ) → is_blank y ≡ true → is_cut c y ≡ false
-uncut c y blank = grind (arith, cases_Bool)
+first-onto c front whole ([], last, blanks, after, is, all_is, are) =
+    ([], c ∷ last, blanks, after, ap (onto_first c) is, ap (onto_first c) all_is, are)
+first-onto c front whole (part ∷ before, last, blanks, after, is, all_is, are) = (
+  (c ∷ part) ∷ before,
+  last,
+  blanks,
+  after,
+  ap (onto_first c) is,
+  ap (onto_first c) all_is,
+  are,
+)
 
 first-chunks : (c : ℕ) (cs ys : List ℕ) → BlankFollows ys
     → AreFirst (chunks (c ∷ cs)) (chunks (c ∷ (cs ++ ys)))
-first-chunks c [] [] follows = ([], refl, All-nil (λ x. is_blank x ≡ true))
+first-chunks c [] [] follows =
+    ([], c ∷ [], [], [], refl, refl, All-nil (λ x. is_blank x ≡ true))
 first-chunks c [] (y ∷ ys) (inl none) = cc
 first-chunks c [] (y ∷ ys) (inr blank) =
-    let shape : chunks (c ∷ y ∷ ys) ≡ onto_first c (chunks (y ∷ ys)) =
-    rw (uncut c y blank) refl in
-    subst (AreFirst ((c ∷ []) ∷ [])) (sym shape)
-    (first-one c (chunks (y ∷ ys)) (blanks-first y ys blank))
-first-chunks c (d ∷ cs) ys follows = by (is_cut c d) (first-chunks d cs ys follows)
-  where
-    by : (b : Bool) → AreFirst (chunks (d ∷ cs)) (chunks (d ∷ (cs ++ ys)))
-        → AreFirst (cond b ((c ∷ []) ∷ chunks (d ∷ cs)) (onto_first c (chunks (d ∷ cs))))
-        (cond b ((c ∷ []) ∷ chunks (d ∷ (cs ++ ys))) (onto_first c (chunks (d ∷ (cs ++ ys)))))
-    by true are = first-more (c ∷ []) (chunks (d ∷ cs)) (chunks (d ∷ (cs ++ ys))) are
-    by false are = first-onto c (chunks (d ∷ cs)) (chunks (d ∷ (cs ++ ys))) are
+    let h = chunks-from y ys in
+    let uncut : is_cut c y ≡ false = grind (arith, cases_Bool) in
+    let all = uncut-blanks y h.first blank (All-head IsUncut (y ∷ h.first) h.rest h.uncut) in
+    ([], c ∷ [], y ∷ h.first, h.rest, refl, rw uncut (ap (onto_first c) h.shape), all)
+first-chunks c (d ∷ cs) ys follows =
+    let are = first-chunks d cs ys follows in
+    elim (cases_Bool (is_cut c d)) [
+      | inl cut ↦
+          rw cut (first-more (c ∷ []) (chunks (d ∷ cs)) (chunks (d ∷ (cs ++ ys))) are)
+      | inr uncut ↦ rw uncut (first-onto c (chunks (d ∷ cs)) (chunks (d ∷ (cs ++ ys))) are)
+    ]
 
 -- ---- where a beginning of a line may end: these places are within the line, and characters end
 -- there
@@ -205,13 +192,12 @@ word_texts-parts (part ∷ parts) = ap (λ l. without_final_blanks part ∷ l) (
 
 first-texts : (front whole : List (List ℕ)) → AreFirst front whole
     → take (length front) (map without_final_blanks whole) ≡ map without_final_blanks front
-first-texts [] whole none = absurd none
-first-texts (part ∷ []) [] none = absurd none
-first-texts (part ∷ []) (w ∷ ws) (blanks, is, all) =
-    ap (λ t. t ∷ []) (ap without_final_blanks is ∙ trimmed-blanks part blanks all)
-first-texts (part ∷ next ∷ parts) [] none = absurd none
-first-texts (part ∷ next ∷ parts) (w ∷ ws) (is, are) =
-    rw is (ap (λ l. without_final_blanks part ∷ l) (first-texts (next ∷ parts) ws are))
+first-texts front whole (before, last, blanks, after, is, all_is, are) =
+    let f = without_final_blanks in
+    let same : map f whole ≡ map f front ++ map f after =
+    rw (is, all_is) (simp (map-append, trimmed-blanks last blanks are, append_assoc)) in
+    ap (take (length front)) same ∙ take_at (map f front) (map f after) (length front)
+    (length-map front f)
 
 word_texts-front : (xs ys : List ℕ) → BlankFollows ys
     → take (length (word_texts xs)) (word_texts (xs ++ ys)) ≡ word_texts xs
@@ -221,23 +207,17 @@ word_texts-front (c ∷ cs) ys follows =
     (first-chunks c cs ys follows) in
     grind (arith, length-map, word_texts-parts, first)
 
--- nothing or a blank follows where a beginning may end
-blank-follows : (line : List ℕ) (n : ℕ) → can_end line n ≡ true
-    → (n ≡ 0) ⊎ BlankFollows (drop n line)
-blank-follows line n may = elim (may_end-cases line n may) [
-  | inl none ↦ inl none
-  | inr (plain, inl end) ↦ inr (inl (drop_all n line (omega (arith, end))))
-  | inr (plain, inr blank) ↦
-      let first = get_or-drop n line 0 0 ∙ ap (λ k. get_or line k 0) (add-zero n) in
-      inr (inr (ap is_blank first ∙ blank))
-]
-
 pub word_texts-take : (line : List ℕ) (n : ℕ) → can_end line n ≡ true
     → take (length (word_texts (take n line))) (word_texts line) ≡ word_texts (take n line)
-word_texts-take line n may = elim (blank-follows line n may) [
+word_texts-take line n may = elim (may_end-cases line n may) [
   | inl none ↦ rw none refl
-  | inr follows ↦
+  | inr (plain, past) ↦
       let kept = word_texts (take n line) in
+      let first = get_or-drop n line 0 0 ∙ ap (λ k. get_or line k 0) (add-zero n) in
+      let follows : BlankFollows (drop n line) = elim past [
+        | inl end ↦ inl (drop_all n line (omega (arith, end)))
+        | inr blank ↦ inr (ap is_blank first ∙ blank)
+      ] in
       ap (λ l. take (length kept) (word_texts l)) (sym (take-append-drop n line))
       ∙ word_texts-front (take n line) (drop n line) follows
 ]
@@ -253,20 +233,21 @@ pub record IsReadTo (line : List ℕ) (place : ℕ) (rest : List ℕ) (state : S
       → columns_in Text (chars (take place line) ++ ds) ≡ taken + columns_in state ds
   pub blank : after_blank ≡ is_after_blank line place
 
-module _ (line : List ℕ) (utf8 : IsUtf8 line) where
-  pub read_to-start : IsReadTo line 0 line Text 0 true
-  read_to-start = record {
-    read = read-start line utf8;
-    columns = λ ds. ap (λ cs. columns_in Text (cs ++ ds)) chars-nil
-        ∙ sym (zero-add (columns_in Text ds));
-    blank = refl;
-  }
+pub read_to-start : (line : List ℕ) → IsUtf8 line → IsReadTo line 0 line Text 0 true
+read_to-start line utf8 = record {
+  read = read-start line utf8;
+  columns = λ ds. ap (λ cs. columns_in Text (cs ++ ds)) chars-nil
+      ∙ sym (zero-add (columns_in Text ds));
+  blank = refl;
+}
 
-  pub read_to-step : (place end c : ℕ) (rest after : List ℕ) (state : State) (taken : ℕ)
-      (after_blank : Bool) → IsReadTo line place rest state taken after_blank
-      → rest ≡ encode_utf8 c ++ after → end ≡ place + length (encode_utf8 c)
+module _ {line : List ℕ} (utf8 : IsUtf8 line) {place : ℕ} {rest : List ℕ} {state : State}
+    {taken : ℕ} {after_blank : Bool}
+    (h : IsReadTo line place rest state taken after_blank) where
+  pub read_to-step : (end c : ℕ) (after : List ℕ) → rest ≡ encode_utf8 c ++ after
+      → end ≡ place + length (encode_utf8 c)
       → IsReadTo line end after (next_of state c) (taken + added state c) (eqb c 32)
-  read_to-step place end c rest after state taken after_blank h is past =
+  read_to-step end c after is past =
       let next = read-next h.read c after is end past in
       let whole = h.read.place ∙ is in
       let front = take place line in
@@ -288,31 +269,25 @@ module _ (line : List ℕ) (utf8 : IsUtf8 line) where
         blank = sym (after_blank-past line utf8 place c after h.read.boundary whole end past);
       }
 
-  pub read-width : (place : ℕ) (rest : List ℕ) (state : State) (taken : ℕ) (after_blank : Bool)
-      → IsReadTo line place rest state taken after_blank → text_width (take place line) ≡ taken
-  read-width place rest state taken after_blank h =
-      ap (columns_in Text) (sym (append-nil (chars (take place line)))) ∙ h.columns []
+  pub read-width : text_width (take place line) ≡ taken
+  read-width = ap (columns_in Text) (sym (append-nil (chars (take place line)))) ∙ h.columns []
       ∙ add-zero taken
 
-  pub read-le : (place : ℕ) (rest : List ℕ) (state : State) (taken : ℕ) (after_blank : Bool)
-      → IsReadTo line place rest state taken after_blank → taken ≤ length line
-  read-le place rest state taken after_blank h =
-      omega (
-        arith,
-        read-width place rest state taken after_blank h,
-        text_width-le (take place line) (IsUtf8-take line place utf8 h.read.boundary),
-        length-take-le place line h.read.boundary.0,
-      )
+  pub read-le : taken ≤ length line
+  read-le = omega (
+    arith,
+    read-width,
+    text_width-le (take place line) (IsUtf8-take line place utf8 h.read.boundary),
+    length-take-le place line h.read.boundary.0,
+  )
 
   -- no later beginning has fewer columns
-  pub read-more : (place : ℕ) (rest : List ℕ) (state : State) (taken : ℕ) (after_blank : Bool)
-      → IsReadTo line place rest state taken after_blank → (m : ℕ) → place ≤ m
-      → IsCharBoundary line m → taken ≤ text_width (take m line)
-  read-more place rest state taken after_blank h m later cut =
+  pub read-more : (m : ℕ) → place ≤ m → IsCharBoundary line m → taken ≤ text_width (take m line)
+  read-more m later cut =
       let between = slice_range line place m in
-      let own = IsUtf8-take line place utf8 h.read.boundary in
       let parts : text_width (take m line) ≡ taken + columns_in state (chars between) =
       ap text_width (take_slice line place m later)
-      ∙ ap (columns_in Text) (chars-append (take place line) between own)
+      ∙ ap (columns_in Text) (chars-append (take place line) between
+      (IsUtf8-take line place utf8 h.read.boundary))
       ∙ h.columns (chars between) in
       omega (arith, parts)

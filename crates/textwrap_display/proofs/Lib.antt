@@ -1,3 +1,4 @@
+pub mod Common
 pub mod CarriedLines
 pub mod JustifiedLines
 pub mod KeptLines

@@ -1,21 +1,18 @@
 -- What is open after some sequences, after one more, and once they are written anew.
-use Rattle.textwrap_text.proofs.Common.{◌≡◌, cond, List, [], ◌∷◌, ◌++◌, filter, fold, sym, ap, ◌∙◌}
-use Rattle.textwrap_text.proofs.Common.{append-nil, arith, cases_Bool, append_assoc, ℕ, ◌<◌, Bool}
-use Rattle.textwrap_text.proofs.Common.{true, false, ◌==◌, length, refl, length-append, nat_tests}
-use Rattle.textwrap_text.proofs.Common.{◌&&◌, ◌||◌, string_bytes, and_from, Bor, Option, All}
-use Rattle.textwrap_text.proofs.Common.{All-append, All-cons, All-head, All-nil, All-tail, subst}
+use Rattle.textwrap_text.proofs.Common.{length-append, append_assoc, string_bytes, All-append, Bool}
+use Rattle.textwrap_text.proofs.Common.{append-nil, cases_Bool, nat_tests, All-cons, All-head, List}
+use Rattle.textwrap_text.proofs.Common.{All-tail, and_from, All-nil, Option, filter, length, arith}
+use Rattle.textwrap_text.proofs.Common.{false, subst, cond, fold, refl, true, ◌&&◌, ◌++◌, ◌==◌, All}
+use Rattle.textwrap_text.proofs.Common.{◌||◌, Bor, sym, ◌<◌, ◌∙◌, ◌∷◌, ◌≡◌, [], ap, ℕ}
 use Rattle.std.proofs.lemmas.List.Elements.{filter-append}
-use Rattle.textwrap_display.specs.Styles.{has_target, is_link, is_reset, is_style, open_link}
-use Rattle.textwrap_display.specs.Styles.{open_styles, link_fields, closing, link_end, style_end}
-use Rattle.textwrap_display.specs.Styles.{style_parameters}
+use Rattle.textwrap_display.proofs.Common.{style_parameters, option_to_list, concat-append, closing}
+use Rattle.textwrap_display.proofs.Common.{option_copied, IsOpenAfter, after_first, link_fields}
+use Rattle.textwrap_display.proofs.Common.{open_styles, has_target, open_link, style_end, is_reset}
+use Rattle.textwrap_display.proofs.Common.{is_style, link_end, list_all, is_link, concat}
 use Rattle.textwrap_text.proofs.Lists.Parts.{after_last-push, last_one-push}
-use Rattle.std.specs.List.{after_first, concat, list_all}
-use Rattle.std.specs.Option.{option_copied, option_to_list}
-use Rattle.std.proofs.lemmas.List.Folds.{concat-append}
-use Rattle.textwrap_display.specs.OpenStyles.{IsOpenAfter}
 use Rattle.textwrap_display.specs.declared.styles.OpenStyles.{OpenStyles}
-use Rattle.textwrap_display.proofs.Sequences.{style-no_link, link-no_style, reset-is_style}
-use Rattle.std.proofs.lemmas.List.Sums.{fold_push, fold-append}
+use Rattle.textwrap_display.proofs.Sequences.{reset-is_style, link-no_style, style-no_link}
+use Rattle.std.proofs.lemmas.List.Sums.{fold-append, fold_push}
 
 -- ---- what is open after some sequences and after one more, or any more
 
@@ -162,72 +159,57 @@ pub closing-is : {Z : Type 0} (before : List (List ℕ)) (state : OpenStyles Z) 
     ++ cond (length (option_to_list (option_copied link)) == 0) [] link_end ≡ closing before
 closing-is before state plain link after is same = grind (arith, no_styles)
 
--- ---- sequences of the other kind change nothing
+-- ---- what is left open is as it was, if it is written anew; sequences of the other kind change
+-- nothing
 
-links-pass : (xs link : List (List ℕ)) → All (λ s. is_link s ≡ false) xs
-    → fold next_link link xs ≡ link
-links-pass [] link none = refl
-links-pass (s ∷ xs) link none =
-    ap (λ b. fold next_link (cond b (filter has_target (s ∷ [])) link) xs)
-    (All-head (λ t. is_link t ≡ false) s xs none)
-    ∙ links-pass xs link (All-tail (λ t. is_link t ≡ false) s xs none)
+passes : (next : List (List ℕ) → List ℕ → List (List ℕ)) (test : List ℕ → Bool)
+    → ((now : List (List ℕ)) (s : List ℕ) → test s ≡ false → next now s ≡ now)
+    → (xs now : List (List ℕ)) → All (λ s. test s ≡ false) xs → fold next now xs ≡ now
+passes next test stays [] now none = refl
+passes next test stays (s ∷ xs) now none =
+    rw (stays now s (All-head (λ t. test t ≡ false) s xs none))
+    (passes next test stays xs now (All-tail (λ t. test t ≡ false) s xs none))
 
-no_reset : (s : List ℕ) → is_style s ≡ false → is_reset s ≡ false
-no_reset s none = grind (arith, cases_Bool, reset-is_style)
+-- written anew it is this, and none of it is of the other kind
+record IsKept (next : List (List ℕ) → List ℕ → List (List ℕ)) (other : List ℕ → Bool)
+    (xs : List (List ℕ)) : Type 0 where
+  again : fold next [] xs ≡ xs
+  none : All (λ s. other s ≡ false) xs
 
-styles-pass : (xs styles : List (List ℕ)) → All (λ s. is_style s ≡ false) xs
-    → fold next_styles styles xs ≡ styles
-styles-pass [] styles none = refl
-styles-pass (s ∷ xs) styles none =
-    let here = All-head (λ t. is_style t ≡ false) s xs none in
-    let later = All-tail (λ t. is_style t ≡ false) s xs none in
-    grind (arith, append-nil, no_reset s here, styles-pass xs styles later)
+kept-nothing : (next : List (List ℕ) → List ℕ → List (List ℕ)) (other : List ℕ → Bool)
+    → IsKept next other []
+kept-nothing next other = record { again = refl; none = All-nil (λ t. other t ≡ false) }
 
--- ---- what is left open is as it was, if it is written anew
-
-record AreKeptStyles (styles : List (List ℕ)) : Type 0 where
-  again : fold next_styles [] styles ≡ styles
-  no_link : All (λ s. is_link s ≡ false) styles
-
-record IsKeptLink (link : List (List ℕ)) : Type 0 where
-  again : fold next_link [] link ≡ link
-  no_style : All (λ s. is_style s ≡ false) link
-
-keeps-nothing : AreKeptStyles []
-keeps-nothing = record { again = refl; no_link = All-nil (λ t. is_link t ≡ false) }
-
-no_link : IsKeptLink []
-no_link = record { again = refl; no_style = All-nil (λ t. is_style t ≡ false) }
-
-next-styles : (styles : List (List ℕ)) (s : List ℕ) → AreKeptStyles styles
-    → AreKeptStyles (next_styles styles s)
+next-styles : (styles : List (List ℕ)) (s : List ℕ) → IsKept next_styles is_link styles
+    → IsKept next_styles is_link (next_styles styles s)
 next-styles styles s kept = by (is_reset s) (is_style s) refl refl
   where
     by : (reset set : Bool) → is_reset s ≡ reset → is_style s ≡ set
-        → AreKeptStyles (cond reset [] (styles ++ cond set (s ∷ []) []))
-    by true set resets sets = keeps-nothing
-    by false false resets sets = subst AreKeptStyles (sym (append-nil styles)) kept
+        → IsKept next_styles is_link (cond reset [] (styles ++ cond set (s ∷ []) []))
+    by true set resets sets = kept-nothing next_styles is_link
+    by false false resets sets = subst (IsKept next_styles is_link) (sym (append-nil styles)) kept
     by false true resets sets = record {
       again = fold_push next_styles [] styles s
           ∙ ap (λ st. next_styles st s) kept.again
           ∙ ap (λ b. cond b [] (styles ++ filter is_style (s ∷ []))) resets
           ∙ ap (λ b. styles ++ cond b (s ∷ []) []) sets;
-      no_link = All-append (λ t. is_link t ≡ false) styles (s ∷ []) kept.no_link
+      none = All-append (λ t. is_link t ≡ false) styles (s ∷ []) kept.none
           (All-cons (λ t. is_link t ≡ false) s [] (style-no_link s sets)
           (All-nil (λ t. is_link t ≡ false)));
     }
 
-next-link : (link : List (List ℕ)) (s : List ℕ) → IsKeptLink link → IsKeptLink (next_link link s)
+next-link : (link : List (List ℕ)) (s : List ℕ) → IsKept next_link is_style link
+    → IsKept next_link is_style (next_link link s)
 next-link link s kept = by (is_link s) (has_target s) refl refl
   where
     by : (sets target : Bool) → is_link s ≡ sets → has_target s ≡ target
-        → IsKeptLink (cond sets (cond target (s ∷ []) []) link)
+        → IsKept next_link is_style (cond sets (cond target (s ∷ []) []) link)
     by false target is has = kept
-    by true false is has = no_link
+    by true false is has = kept-nothing next_link is_style
     by true true is has = record {
       again = ap (λ b. cond b (filter has_target (s ∷ [])) []) is
           ∙ ap (λ b. cond b (s ∷ []) []) has;
-      no_style = All-cons (λ t. is_style t ≡ false) s [] (link-no_style s is)
+      none = All-cons (λ t. is_style t ≡ false) s [] (link-no_style s is)
           (All-nil (λ t. is_style t ≡ false));
     }
 
@@ -239,15 +221,17 @@ fold-keeps P next step [] now kept = kept
 fold-keeps P next step (s ∷ before) now kept =
     fold-keeps P next step before (next now s) (step now s kept)
 
-kept-styles : (before : List (List ℕ)) → AreKeptStyles (open_styles before)
+kept-styles : (before : List (List ℕ)) → IsKept next_styles is_link (open_styles before)
 kept-styles before =
-    subst AreKeptStyles (sym (open_styles-append [] before))
-    (fold-keeps AreKeptStyles next_styles next-styles before [] keeps-nothing)
+    subst (IsKept next_styles is_link) (sym (open_styles-append [] before))
+    (fold-keeps (IsKept next_styles is_link) next_styles next-styles before []
+    (kept-nothing next_styles is_link))
 
-kept-link : (before : List (List ℕ)) → IsKeptLink (open_link before)
+kept-link : (before : List (List ℕ)) → IsKept next_link is_style (open_link before)
 kept-link before =
-    subst IsKeptLink (sym (open_link-append [] before))
-    (fold-keeps IsKeptLink next_link next-link before [] no_link)
+    subst (IsKept next_link is_style) (sym (open_link-append [] before))
+    (fold-keeps (IsKept next_link is_style) next_link next-link before []
+    (kept-nothing next_link is_style))
 
 -- ---- and so it is after sequences that leave nothing open
 
@@ -259,7 +243,9 @@ styles-again front before plain =
       fold-append,
       open_styles-append,
       (kept-styles before).again,
-      styles-pass (open_link before) [] (kept-link before).no_style,
+      passes next_styles is_style
+          (λ now s none. grind (arith, append-nil, cases_Bool, reset-is_style)) (open_link before)
+          [] (kept-link before).none,
     )
 
 pub link-again : (front before : List (List ℕ)) → open_link front ≡ []
@@ -270,5 +256,6 @@ link-again front before plain =
       fold-append,
       open_link-append,
       (kept-link before).again,
-      links-pass (open_styles before) (open_link before) (kept-styles before).no_link,
+      passes next_link is_link (λ now s none. rw none refl) (open_styles before) (open_link before)
+          (kept-styles before).none,
     )

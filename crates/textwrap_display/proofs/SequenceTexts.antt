@@ -1,26 +1,22 @@
 -- Texts of whole sequences and texts between them: their units, and what they show.
-use Rattle.textwrap_text.proofs.Common.{◌≡◌, List, ◌++◌, All, All-append, ap, chars-append}
-use Rattle.textwrap_text.proofs.Common.{IsUtf8-append, subst, sym, ◌∙◌, ℕ, inl, [], ◌∷◌, All-cons}
-use Rattle.textwrap_text.proofs.Common.{All-head, All-nil, All-tail, append-nil, chars_from_encodes}
-use Rattle.textwrap_text.proofs.Common.{chars-nil, encode_utf8_all, encodes-chars, flat_map, map}
-use Rattle.textwrap_text.proofs.Common.{IsUtf8, IsUtf8-nil, refl, Bool, true, false, cond, ◌==◌}
-use Rattle.textwrap_text.proofs.Common.{fold, length, arith, cases_Bool, codes, eqb-true}
-use Rattle.textwrap_text.proofs.Common.{nil_from_length, take, append_assoc, flat_map-append}
+use Rattle.textwrap_text.proofs.Common.{chars_from_encodes, encode_utf8_all, flat_map-append, arith}
+use Rattle.textwrap_text.proofs.Common.{nil_from_length, IsUtf8-append, encodes-chars, append_assoc}
+use Rattle.textwrap_text.proofs.Common.{chars-append, All-append, IsUtf8-nil, append-nil, chars-nil}
+use Rattle.textwrap_text.proofs.Common.{cases_Bool, All-cons, All-head, All-tail, eqb-true, All-nil}
+use Rattle.textwrap_text.proofs.Common.{flat_map, IsUtf8, length, codes, false, subst, Bool, List}
+use Rattle.textwrap_text.proofs.Common.{cond, fold, refl, take, true, ◌++◌, ◌==◌, All, inl, map, []}
+use Rattle.textwrap_text.proofs.Common.{sym, ◌∙◌, ◌∷◌, ◌≡◌, ap, ℕ}
 use Rattle.std.specs.Str.{chars}
-use Rattle.textwrap_text.specs.Units.{IsWhole, units, characters, Sequence, TextUnit, Visible}
-use Rattle.textwrap_text.specs.Units.{visible_of, ends, visible}
-use Rattle.textwrap_layout.proofs.Text.Paragraphs.{units-append}
-use Rattle.textwrap_display.specs.Styled.{IsWholeText, styled, StyledCharacter, styled_text}
-use Rattle.textwrap_text.proofs.Texts.{utf8-back, utf8-front}
-use Rattle.std.specs.List.{concat}
-use Rattle.textwrap_text.proofs.Units.Texts.{units-tile, units_unique}
-use Rattle.textwrap_display.specs.Styles.{sequence_of, sequences, closing, link_end, open_link}
-use Rattle.textwrap_display.specs.Styles.{open_styles, style_end}
-use Rattle.std.proofs.lemmas.Bool.{agree_below_at}
+use Rattle.textwrap_text.specs.Units.{characters, visible_of, Sequence, TextUnit, Visible, visible}
+use Rattle.textwrap_display.proofs.Common.{agree_below_at, units-append, IsWholeText, open_styles}
+use Rattle.textwrap_display.proofs.Common.{sequence_of, styled_text, open_link, sequences, link_end}
+use Rattle.textwrap_display.proofs.Common.{style_end, IsWhole, closing, concat, styled, units, ends}
+use Rattle.textwrap_display.specs.Styled.{StyledCharacter}
+use Rattle.textwrap_text.proofs.Texts.{utf8-front, utf8-back}
+use Rattle.textwrap_text.proofs.Units.Texts.{units_unique, units-tile}
 use lib.Utf8.{encode}
-use Rattle.textwrap_display.proofs.OpenSequences.{next_link, next_styles, open_link-append}
-use Rattle.textwrap_display.proofs.OpenSequences.{open_styles-append, open_link-push}
-use Rattle.textwrap_display.proofs.OpenSequences.{open_styles-push}
+use Rattle.textwrap_display.proofs.OpenSequences.{open_styles-append, open_link-append, next_styles}
+use Rattle.textwrap_display.proofs.OpenSequences.{open_styles-push, open_link-push, next_link}
 
 -- ---- the units of texts of whole sequences that are put together
 
@@ -134,44 +130,26 @@ style_end-is : IsSequence style_end
 unfolding chars encode
 style_end-is =
     let body = codes "[0m" in
-    record {
-      utf8 = (style_end, (refl, refl));
-      unit = refl;
-      whole = (
-        body,
-        refl,
-        refl,
-        λ k. agree_below_at (λ i. ends (take i body)) (λ i. false) 3 k refl,
-      );
-    }
+    unit-sequence style_end (style_end, (refl, refl))
+    (body, refl, refl, λ k. agree_below_at (λ i. ends (take i body)) (λ i. false) 3 k refl)
 
 link_end-is : IsSequence link_end
 unfolding chars encode
 link_end-is =
     let body = codes "]8;;\u{1b}\\" in
-    record {
-      utf8 = (link_end, (refl, refl));
-      unit = refl;
-      whole = (
-        body,
-        refl,
-        refl,
-        λ k. agree_below_at (λ i. ends (take i body)) (λ i. false) 6 k refl,
-      );
-    }
+    unit-sequence link_end (link_end, (refl, refl))
+    (body, refl, refl, λ k. agree_below_at (λ i. ends (take i body)) (λ i. false) 6 k refl)
 
 pub closing-sequences : (before : List (List ℕ)) → All IsSequence (closing_sequences before)
-closing-sequences before = by (length (open_styles before) == 0) (length (open_link before) == 0)
+closing-sequences before =
+    let plain = length (open_styles before) == 0 in
+    let unlinked = length (open_link before) == 0 in
+    All-append IsSequence (cond plain [] (style_end ∷ [])) (cond unlinked [] (link_end ∷ []))
+    (one style_end style_end-is plain) (one link_end link_end-is unlinked)
   where
     one : (s : List ℕ) → IsSequence s → (b : Bool) → All IsSequence (cond b [] (s ∷ []))
     one s is true = All-nil IsSequence
     one s is false = All-cons IsSequence s [] is (All-nil IsSequence)
-
-    by : (plain unlinked : Bool) → All IsSequence
-        (cond plain [] (style_end ∷ []) ++ cond unlinked [] (link_end ∷ []))
-    by plain unlinked =
-        All-append IsSequence (cond plain [] (style_end ∷ [])) (cond unlinked [] (link_end ∷ []))
-        (one style_end style_end-is plain) (one link_end link_end-is unlinked)
 
 -- ---- nothing is open after them
 

@@ -1,31 +1,27 @@
 -- Escape sequences, what they do, and the reader of them.
-use Rattle.textwrap_text.proofs.Common.{◌≡◌, true, false, List, nat_eq, codes, ap, arith}
-use Rattle.textwrap_text.proofs.Common.{cases_Bool, and_parts, starts_with, ◌&&◌, ◌||◌, ends_with}
-use Rattle.textwrap_text.proofs.Common.{list_all, ◌≢◌, ℕ, ◌-◌, Bool, ◌==◌, [], ◌∷◌, ◌++◌, length}
-use Rattle.textwrap_text.proofs.Common.{take, refl, sym, ◌∙◌, cond, length-append, take_at}
-use Rattle.textwrap_text.proofs.Common.{append_assoc, subst, Bor, Option, None, Some, ◌+◌, take_all}
-use Rattle.textwrap_text.proofs.Common.{IsUtf8, encode_utf8_all, eqb, drop, append-nil}
-use Rattle.textwrap_text.proofs.Common.{take-append-drop, drop_at, suc, drop-drop, flat_map}
-use Rattle.textwrap_text.proofs.Common.{slice_range, IsCharBoundary, chars-append, chars_past_char}
-use Rattle.textwrap_text.proofs.Common.{chars_from_encodes, IsUtf8-drop, next_of, taken_in}
-use Rattle.std.specs.Int.{is_in_range}
-use Rattle.textwrap_text.proofs.Lists.Parts.{starts_with-rest, ends_with-true, ends_with-after}
-use Rattle.textwrap_text.proofs.Lists.Parts.{ends_with-other, stripped_suffix}
-use Rattle.textwrap_display.specs.Styles.{is_link, is_reset, is_style, style_parameters}
-use Rattle.textwrap_display.specs.Styles.{link_fields, sequence_of, sequences}
-use Rattle.std.specs.List.{list_any}
-use Rattle.std.specs.Option.{MatchOption, option_or}
+use Rattle.textwrap_text.proofs.Common.{chars_from_encodes, take-append-drop, chars_past_char, Bool}
+use Rattle.textwrap_text.proofs.Common.{encode_utf8_all, IsCharBoundary, length-append, IsUtf8-drop}
+use Rattle.textwrap_text.proofs.Common.{append_assoc, chars-append, slice_range, starts_with, arith}
+use Rattle.textwrap_text.proofs.Common.{append-nil, cases_Bool, and_parts, drop-drop, ends_with, []}
+use Rattle.textwrap_text.proofs.Common.{flat_map, list_all, take_all, taken_in, drop_at, next_of, ℕ}
+use Rattle.textwrap_text.proofs.Common.{take_at, IsUtf8, Option, length, nat_eq, codes, false, List}
+use Rattle.textwrap_text.proofs.Common.{subst, None, Some, cond, drop, refl, take, true, ◌&&◌, ◌++◌}
+use Rattle.textwrap_text.proofs.Common.{◌==◌, ◌||◌, Bor, eqb, suc, sym, ◌+◌, ◌-◌, ◌∙◌, ◌∷◌, ◌≡◌, ap}
+use Rattle.textwrap_text.proofs.Common.{◌≢◌}
+use Rattle.textwrap_display.proofs.Common.{starts_with-rest, style_parameters, stripped_suffix}
+use Rattle.textwrap_display.proofs.Common.{NoCharPasses, encode_ascii, MatchOption, encode_utf8}
+use Rattle.textwrap_display.proofs.Common.{is_in_range, link_fields, sequence_of, read-start, State}
+use Rattle.textwrap_display.proofs.Common.{option_or, read-next, sequences, NonePass, is_reset}
+use Rattle.textwrap_display.proofs.Common.{is_style, list_any, read-all, is_link, IsRead, units}
+use Rattle.textwrap_text.proofs.Lists.Parts.{ends_with-after, ends_with-other, ends_with-true}
 use Rattle.std.specs.Str.Pattern.{FindsTextSuffix, StripsSuffix}
-use Rattle.std.specs.Prelude.{chars, encode_utf8}
-use Rattle.textwrap_text.proofs.Units.Reading.{IsRead, read-ahead, read-all, read-next, read-none}
-use Rattle.textwrap_text.proofs.Units.Reading.{read-start, taken-step}
-use Rattle.textwrap_text.specs.declared.escapes.State.{State}
-use Rattle.textwrap_text.specs.declared.escapes.State.TheVariants.{Text, Escape}
-use Rattle.textwrap_text.proofs.Texts.{IsCut, cut_text, AsciiSeam, ascii_seam}
+use Rattle.std.specs.Prelude.{chars}
+use Rattle.textwrap_text.proofs.Units.Reading.{read-ahead, taken-step, read-none}
+use Rattle.textwrap_text.specs.declared.escapes.State.TheVariants.{Escape, Text}
+use Rattle.textwrap_text.proofs.Texts.{ascii_seam, AsciiSeam, cut_text, IsCut}
 use Rattle.std.proofs.Math.Seq.{drop-append-add}
-use Rattle.std.proofs.lemmas.Str.{IsCharBoundary-from_rest, encode_ascii}
-use Rattle.std.specs.Str.{NoCharPasses, NonePass}
-use Rattle.textwrap_text.specs.Units.{escape_len, units}
+use Rattle.std.proofs.lemmas.Str.{IsCharBoundary-from_rest}
+use Rattle.textwrap_text.specs.Units.{escape_len}
 use Rattle.textwrap_words.proofs.Word.Breaking.{units_past-skip}
 
 -- ---- a sequence that sets a style is no link, and what takes all styles back sets a style

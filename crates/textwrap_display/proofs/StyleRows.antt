@@ -1,11 +1,10 @@
 -- Worked rows on what sequences leave open, and on what the visible characters of a text show. In a
 -- text `\u{1b}` is ESC.
-use Rattle.textwrap_text.proofs.Common.{◌≡◌, true, false, [], ◌∷◌, refl, codes}
-use Rattle.textwrap_display.specs.Styles.{carried_lines, has_target, is_link, is_reset, is_style}
-use Rattle.textwrap_layout.specs.Paragraph.{Built, Slice}
+use Rattle.textwrap_text.proofs.Common.{codes, false, refl, true, ◌∷◌, ◌≡◌, []}
+use Rattle.textwrap_display.proofs.Common.{carried_lines, styled_lines, styled_text, has_target}
+use Rattle.textwrap_display.proofs.Common.{is_reset, is_style, is_link, Built, Slice}
 use Rattle.std.specs.Str.{chars}
 use lib.Utf8.{encode}
-use Rattle.textwrap_display.specs.Styled.{styled_lines, styled_text}
 
 -- ---- worked rows on what sequences leave open. In a text `\u{1b}` is ESC
 

@@ -1,34 +1,24 @@
 -- The words of a line whose gaps are widened.
-use Rattle.textwrap_text.proofs.Common.{◌≡◌, ℕ, zero, suc, ◌+◌, ◌-◌, min, Bool, true, false, cond}
-use Rattle.textwrap_text.proofs.Common.{List, [], ◌∷◌, ◌++◌, drop, refl, ◌<◌, append_assoc, ap}
-use Rattle.textwrap_text.proofs.Common.{arith, length, onto_first, prefix_len, and_parts}
-use Rattle.textwrap_text.proofs.Common.{cases_Bool, not, append-nil, map, sym, ◌∙◌, take}
-use Rattle.textwrap_text.proofs.Common.{take-append-le, ◌≢◌, ◌≤◌, cases_lt, inl, inr, eqb-true}
-use Rattle.textwrap_text.proofs.Common.{get_or, IsUtf8, IsCharBoundary, ne_eqb, nat_tests, ◌/◌}
-use Rattle.textwrap_text.proofs.Common.{◌==◌, ◌||◌, cond_both, take_at}
+use Rattle.textwrap_text.proofs.Common.{IsCharBoundary, take-append-le, append_assoc, append-nil, ℕ}
+use Rattle.textwrap_text.proofs.Common.{cases_Bool, onto_first, prefix_len, and_parts, cond_both}
+use Rattle.textwrap_text.proofs.Common.{nat_tests, cases_lt, eqb-true, take_at, IsUtf8, get_or, inl}
+use Rattle.textwrap_text.proofs.Common.{length, ne_eqb, arith, false, List, drop, refl, take, true}
+use Rattle.textwrap_text.proofs.Common.{zero, ◌++◌, ◌==◌, ◌||◌, inr, map, min, not, suc, sym, ◌+◌}
+use Rattle.textwrap_text.proofs.Common.{◌-◌, ◌/◌, ◌<◌, ◌∙◌, ◌∷◌, ◌≡◌, ◌≢◌, ◌≤◌, [], ap}
 use Rattle.std.proofs.lemmas.List.{replicate-append-replicate, drop-append-le, drop_at}
-use Rattle.textwrap.specs.Columns.{blanks}
-use Rattle.textwrap_text.proofs.Lists.Parts.{flat, flat-onto_first, onto_first-length}
-use Rattle.textwrap_text.specs.Blanks.{blank, is_blank, final_blanks, BlanksBetween}
-use Rattle.textwrap_words.specs.Words.{chunks, is_cut, tiled, word_of, words_of, WordText}
-use Rattle.textwrap_text.proofs.Units.Chunks.{chunks-from}
+use Rattle.textwrap_display.proofs.Common.{IsCharBoundary-start, length-prefix_len, BlanksBetween}
+use Rattle.textwrap_display.proofs.Common.{widened_words, final_blanks, chunks-from, slice_index}
+use Rattle.textwrap_display.proofs.Common.{KeepsWords, indent_len, line_bytes, line_words, WordText}
+use Rattle.textwrap_display.proofs.Common.{text_width, justified, is_blank, or_cases, word_of, flat}
+use Rattle.textwrap_display.proofs.Common.{blanks, chunks, is_cut, Slice, blank, tiled, gaps, ◌%◌}
+use Rattle.textwrap_text.proofs.Lists.Parts.{onto_first-length, flat-onto_first}
 use Rattle.textwrap_words.proofs.Word.Words.{tiled-map}
 use Rattle.textwrap_display.proofs.KeptWords.{trimmed_len-blanks}
 use Rattle.textwrap_display.proofs.Widths.{blanks-are}
-use Rattle.textwrap_display.specs.Justifying.{widened_words, indent_len, gaps, justified}
-use Rattle.textwrap_display.specs.Justifying.{line_words}
 use Rattle.textwrap_text.proofs.Texts.{IsCharBoundary-after_blank}
-use Rattle.std.proofs.lemmas.Str.{IsCharBoundary-start}
-use Rattle.std.specs.List.{slice_index}
-use Rattle.std.proofs.lemmas.List.Sums.{prefix_len_is, prefix_len_stops, prefix_len-drop_all}
-use Rattle.std.proofs.lemmas.List.Sums.{prefix_len-drop_no}
-use Rattle.std.specs.Prelude.{◌%◌}
-use Rattle.std.proofs.lemmas.Bool.{or_cases}
-use Rattle.std.proofs.lemmas.List.Folds.{length-prefix_len}
+use Rattle.std.proofs.lemmas.List.Sums.{prefix_len-drop_all, prefix_len-drop_no, prefix_len_stops}
+use Rattle.std.proofs.lemmas.List.Sums.{prefix_len_is}
 use Rattle.std.proofs.Math.Nat.{zero-div, zero-mod}
-use Rattle.textwrap_layout.specs.Paragraph.{Slice, line_bytes}
-use Rattle.textwrap_text.specs.Units.{text_width}
-use Rattle.textwrap_display.specs.Laws.{KeepsWords}
 
 -- ---- the chunks of a line whose gaps are widened: the same chunks, each but the last with more
 -- blanks
@@ -105,23 +95,16 @@ pub widened-chunks : (each extra : ℕ) (line : List ℕ)
 widened-chunks each extra [] = refl
 widened-chunks each extra (c ∷ []) = refl
 widened-chunks each extra (c ∷ d ∷ cs) =
-    by (is_cut c d) refl (λ e. widened-chunks each e (d ∷ cs))
-  where
-    by : (b : Bool) → is_cut c d ≡ b
-        → ((e : ℕ) → chunks (flat (widened_chunks each e (chunks (d ∷ cs))))
-        ≡ widened_chunks each e (chunks (d ∷ cs)))
-        → chunks (flat (widened_chunks each extra
-        (cond b ((c ∷ []) ∷ chunks (d ∷ cs)) (onto_first c (chunks (d ∷ cs))))))
-        ≡ widened_chunks each extra
-        (cond b ((c ∷ []) ∷ chunks (d ∷ cs)) (onto_first c (chunks (d ∷ cs))))
-    by true cut others =
-        let h = chunks-from d cs in
-        let both = and_parts (is_blank c) (not (is_blank d)) cut in
-        rw h.shape (cut-before each extra c d h.first h.rest both.0 (grind (arith, cases_Bool))
-        (rw h.shape at (others (extra - 1))))
-    by false uncut others =
-        let h = chunks-from d cs in
-        rw h.shape (uncut-before each extra c d h.first h.rest uncut (rw h.shape at (others extra)))
+    let h = chunks-from d cs in
+    elim (cases_Bool (is_cut c d)) [
+      | inl cut ↦
+          let both = and_parts (is_blank c) (not (is_blank d)) cut in
+          rw (cut, h.shape)
+          (cut-before each extra c d h.first h.rest both.0 (grind (arith, cases_Bool))
+          (rw h.shape at (widened-chunks each (extra - 1) (d ∷ cs))))
+      | inr uncut ↦ rw (uncut, h.shape) (uncut-before each extra c d h.first h.rest uncut
+          (rw h.shape at (widened-chunks each extra (d ∷ cs))))
+    ]
 
 -- a text that begins with no blank begins with none where its gaps are widened
 pub widened-plain : (each extra : ℕ) (text : List ℕ) → prefix_len is_blank text ≡ 0
@@ -205,15 +188,12 @@ indent-boundary text (suc n) utf8 within blanks =
 pub indent-kept : (line text : List ℕ) → prefix_len is_blank text ≡ 0
     → indent_len (take (indent_len line) line ++ text) ≡ indent_len line
 indent-kept [] text none = none
-indent-kept (c ∷ cs) text none = by (is_blank c) refl (indent-kept cs text none)
-  where
-    n : ℕ
-    n = prefix_len is_blank cs
-
-    by : (b : Bool) → is_blank c ≡ b → prefix_len is_blank (take n cs ++ text) ≡ n
-        → prefix_len is_blank (take (cond b (1 + n) 0) (c ∷ cs) ++ text) ≡ cond b (1 + n) 0
-    by true is same = let up : 1 + n ≡ suc n = omega arith in rw (up, is) (omega (arith, same))
-    by false is same = none
+indent-kept (c ∷ cs) text none = elim (cases_Bool (is_blank c)) [
+  | inl is ↦
+      let up : 1 + prefix_len is_blank cs ≡ suc (prefix_len is_blank cs) = omega arith in
+      rw (is, up, is) (omega (arith, indent-kept cs text none))
+  | inr is ↦ rw is none
+]
 
 -- what follows them begins with no blank
 pub after-plain : (line : List ℕ) → prefix_len is_blank (drop (indent_len line) line) ≡ 0

@@ -1,35 +1,27 @@
 -- How wide blanks are, and lines that are aligned or justified.
-use Rattle.textwrap_text.proofs.Common.{◌≡◌, ℕ, ◌+◌, true, List, ◌++◌, ap, length, refl, ◌∙◌}
-use Rattle.textwrap_text.proofs.Common.{nat_tests, ◌-◌, ◌≤◌, [], append_assoc, append-nil, arith}
-use Rattle.textwrap_text.proofs.Common.{IsUtf8, length-append, ◌≢◌, ◌*◌, ◌/◌, ◌<◌, min, suc, ◌∷◌}
-use Rattle.textwrap_text.proofs.Common.{All, All-from_get_or, All-head, All-tail, All-weaker, drop}
-use Rattle.textwrap_text.proofs.Common.{eqb-true, get_or-take, length-take, subst, sym, take}
-use Rattle.textwrap_text.proofs.Common.{take-append-drop}
+use Rattle.textwrap_text.proofs.Common.{take-append-drop, All-from_get_or, length-append, nat_tests}
+use Rattle.textwrap_text.proofs.Common.{append_assoc, get_or-take, length-take, All-weaker, IsUtf8}
+use Rattle.textwrap_text.proofs.Common.{append-nil, All-head, All-tail, eqb-true, length, arith, []}
+use Rattle.textwrap_text.proofs.Common.{subst, List, drop, refl, take, true, ◌++◌, All, min, suc, ℕ}
+use Rattle.textwrap_text.proofs.Common.{sym, ◌*◌, ◌+◌, ◌-◌, ◌/◌, ◌<◌, ◌∙◌, ◌∷◌, ◌≡◌, ◌≢◌, ◌≤◌, ap}
 use Rattle.std.proofs.lemmas.List.{length-replicate}
 use Rattle.std.proofs.lemmas.List.Elements.{All-replicate}
-use Rattle.textwrap.specs.Columns.{blanks}
-use Rattle.textwrap_text.specs.Blanks.{blank, is_blank}
-use Rattle.textwrap_text.specs.Units.{text_width}
+use Rattle.textwrap_display.proofs.Common.{text_width-append, widened_words, indent_len, line_bytes}
+use Rattle.textwrap_display.proofs.Common.{line_words, text_width, AreBlanks, justified, WordText}
+use Rattle.textwrap_display.proofs.Common.{is_blank, blanks, chunks, blank, tiled, gaps, ◌%◌}
 use Rattle.textwrap_text.proofs.Units.Reading.{printable-width}
 use Rattle.textwrap_text.proofs.Units.Chunks.{chunks-utf8}
-use Rattle.textwrap_words.proofs.Word.Texts.{AreBlanks}
 use Rattle.textwrap_layout.proofs.Paragraph.LeftOff.{blanks-utf8}
 use Rattle.textwrap_lines.proofs.Text.Printed.{blanks-printable, blanks-whole}
-use Rattle.textwrap_layout.proofs.Text.Paragraphs.{text_width-append}
-use Rattle.textwrap_words.proofs.Word.Words.{text_width-nil, IsMeasured, words-measured}
-use Rattle.textwrap_words.proofs.Word.Words.{tiled-words_of}
-use Rattle.textwrap_layout.specs.Paragraph.{line_bytes}
+use Rattle.textwrap_words.proofs.Word.Words.{text_width-nil, tiled-words_of, words-measured}
+use Rattle.textwrap_words.proofs.Word.Words.{IsMeasured}
 use Rattle.textwrap_layout.specs.Text.{HasWholeSequences}
-use Rattle.textwrap_display.specs.Alignment.{aligned, blanks_before, spread}
+use Rattle.textwrap_display.specs.Alignment.{blanks_before, aligned, spread}
 use Rattle.textwrap_display.specs.declared.alignment.Alignment.{Alignment}
-use Rattle.textwrap_display.specs.declared.alignment.Alignment.TheVariants.{Left, Right, Centre}
-use Rattle.std.specs.Prelude.{◌%◌}
+use Rattle.textwrap_display.specs.declared.alignment.Alignment.TheVariants.{Centre, Right, Left}
 use Rattle.std.proofs.Math.Nat.{div-add-mod, suc-mul}
 use Rattle.std.proofs.lemmas.List.Sums.{prefix_len_passes}
 use Rattle.textwrap_text.proofs.Texts.{after_ascii}
-use Rattle.textwrap_words.specs.Words.{chunks, tiled, WordText}
-use Rattle.textwrap_display.specs.Justifying.{gaps, indent_len, justified, line_words}
-use Rattle.textwrap_display.specs.Justifying.{widened_words}
 
 -- ---- how wide blanks are
 

@@ -1,25 +1,28 @@
 -- Texts that are filled in place: only blanks change, to line feeds in their places.
-use Rattle.textwrap_text.proofs.Common.{◌≡◌, ℕ, ◌<◌, List, [], ◌∷◌, ◌++◌, length, refl, sym, ap}
-use Rattle.textwrap_text.proofs.Common.{◌∙◌, arith, append_assoc, append-nil, length-append}
-use Rattle.textwrap_text.proofs.Common.{flat_map, rules, ◌+◌, Bor, Option, None, Some, length_push}
-use Rattle.textwrap_text.proofs.Common.{◌≤◌, All, All-nil, All-cons, All-append, ◌-◌, zero, suc}
-use Rattle.textwrap_text.proofs.Common.{◌⊎◌, inl, inr, subst, IsUtf8-append, IsUtf8-from_ascii}
-use Rattle.textwrap_text.proofs.Common.{IsUtf8, IsAscii, blank, join_with, line_feed, paragraphs_of}
-use Rattle.textwrap_text.proofs.Common.{ending_bytes}
+use Rattle.textwrap_text.proofs.Common.{IsUtf8-from_ascii, IsUtf8-append, length-append, All-append}
+use Rattle.textwrap_text.proofs.Common.{paragraphs_of, append_assoc, length_push, All-weaker, arith}
+use Rattle.textwrap_text.proofs.Common.{append-nil, join_with, line_feed, All-cons, flat_map, blank}
+use Rattle.textwrap_text.proofs.Common.{zero-add, All-nil, IsUtf8, Option, length, rules, subst, []}
+use Rattle.textwrap_text.proofs.Common.{List, None, Some, refl, ◌++◌, All, Bor, inl, inr, map, sym}
+use Rattle.textwrap_text.proofs.Common.{◌+◌, ◌-◌, ◌<◌, ◌∙◌, ◌∷◌, ◌≡◌, ◌⊎◌, ap, ℕ}
+use Rattle.textwrap_base.proofs.Division.Greedy.{line_width-one, greedy_unique}
+use Rattle.textwrap_base.proofs.Division.Grown.{grown-greedy, grown}
+use Rattle.std.proofs.lemmas.List.Folds.{flat_map-map}
+use Rattle.std.proofs.lemmas.List.Elements.{length_all_zip, AllZip-get_or}
+use Rattle.std.specs.List.{AllZip}
+use Rattle.std.proofs.lemmas.Str.Ascii.{IsAscii-cons}
 use Rattle.textwrap_base.proofs.Common.{IsGreedy}
-use Rattle.textwrap_words.proofs.Common.{WordText, tiled, sizes_of, words_of}
-use Rattle.textwrap.proofs.Common.{broken_lines, AreDividedAt, breaks_of, breaks_from}
-use Rattle.textwrap.proofs.Common.{with_line_feeds, IsFilledInPlace}
+use Rattle.textwrap_words.proofs.Common.{WordText, sizes_of, words_of, tiled}
+use Rattle.textwrap.proofs.Common.{IsFilledInPlace, with_line_feeds, AreDividedAt, broken_lines}
+use Rattle.textwrap.proofs.Common.{breaks_from, breaks_of}
 use Rattle.textwrap_text.proofs.Lists.Parts.{flat}
 use Rattle.textwrap_words.proofs.Word.Words.{tiled-append}
-use Rattle.textwrap_layout.proofs.Text.Paragraphs.{join_with-cons, parts_past-some}
-use Rattle.textwrap_layout.proofs.Text.Paragraphs.{join-paragraphs_of}
-use Rattle.textwrap_layout.proofs.Paragraph.Covered.{shortened, AreLinesApart, IsBroken}
-use Rattle.textwrap_layout.proofs.Paragraph.Covered.{IsBroken-greedy}
-use Rattle.std.proofs.lemmas.Grind.{common_steps}
+use Rattle.textwrap_layout.proofs.Text.Paragraphs.{join-paragraphs_of, parts_past-some}
+use Rattle.textwrap_layout.proofs.Text.Paragraphs.{join_with-cons}
+use Rattle.textwrap_layout.proofs.Paragraph.Covered.{IsBroken-greedy, AreLinesApart, shortened}
+use Rattle.textwrap_layout.proofs.Paragraph.Covered.{IsBroken}
 use Rattle.textwrap_text.specs.declared.line_ending.LineEnding.TheVariants.{LF}
 use Rattle.textwrap_layout.proofs.Text.Lines.{paragraphs_left, bytes_left}
-use Rattle.std.proofs.Common.{set}
 use Rattle.std.proofs.lemmas.List.{set_at}
 use Rattle.textwrap_text.proofs.Texts.{ascii_seam}
 use Rattle.textwrap.specs.InPlace.{OnlyBlanksChange}
@@ -32,10 +35,11 @@ blank_joined texts = join_with (blank ∷ []) texts
 abbrev pub feed_joined : List (List ℕ) → List ℕ
 feed_joined texts = join_with (line_feed ∷ []) texts
 
-pub broken_lines-some : (line : List WordText) (lines : List (List WordText))
-    → 0 < length (broken_lines (line ∷ lines))
-broken_lines-some line [] = omega arith
-broken_lines-some line (next ∷ lines) = omega arith
+pub broken-some : (lines : List (List WordText)) → 0 < length lines
+    → 0 < length (broken_lines lines)
+broken-some [] some = absurd (omega arith)
+broken-some (line ∷ []) some = omega arith
+broken-some (line ∷ next ∷ lines) some = omega arith
 
 -- before the lines are broken, blanks stand between them
 pub tiled-broken : (lines : List (List WordText)) → 0 < length lines → AreLinesApart lines
@@ -47,48 +51,73 @@ tiled-broken (line ∷ next ∷ lines) some (words, ending, apart) =
     ∙ ap (λ l. l ++ tiled (flat (next ∷ lines))) ending
     ∙ ap (λ l. (shortened (tiled line) ++ blank ∷ []) ++ l)
     (tiled-broken (next ∷ lines) (omega arith) apart)
-    ∙ sym (search (rules, join_with-cons, shortened, broken_lines-some))
+    ∙ sym (search (rules, join_with-cons, shortened, broken-some))
 
 pub join-broken : (part : List ℕ) (lines : List (List WordText)) → IsBroken part lines
     → part ≡ blank_joined (broken_lines lines)
 join-broken part lines broken = sym broken.tiles ∙ tiled-broken lines broken.some broken.apart
 
-pub join-append : (separator : List ℕ) (xs ys : List (List ℕ)) → 0 < length xs → 0 < length ys
+-- ---- each part is divided in one way
+
+pub greedy_lines : ℕ → List ℕ → List (List WordText)
+greedy_lines width part = grown sizes_of width width (words_of part) []
+
+pub lines-greedy : (width : ℕ) (part : List ℕ)
+    → IsGreedy sizes_of (width ∷ []) (words_of part) (greedy_lines width part)
+unfolding greedy_lines
+lines-greedy width part =
+    grown-greedy sizes_of width (width ∷ []) (λ n. line_width-one width (n + 1)) width
+    (line_width-one width 0) (words_of part)
+
+pub lines-broken : (width : ℕ) (part : List ℕ) → IsBroken part (greedy_lines width part)
+lines-broken width part =
+    IsBroken-greedy (width ∷ []) part (greedy_lines width part) (lines-greedy width part)
+
+pub are_divided : (width : ℕ) (parts : List (List ℕ))
+    → AreDividedAt width parts (map (greedy_lines width) parts)
+are_divided width [] = refl
+are_divided width (part ∷ parts) = (lines-greedy width part, are_divided width parts)
+
+pub divided_one : (width : ℕ) (parts : List (List ℕ)) (divisions : List (List (List WordText)))
+    → AreDividedAt width parts divisions → divisions ≡ map (greedy_lines width) parts
+divided_one width [] divisions none = none
+divided_one width (part ∷ parts) [] divided = absurd divided
+divided_one width (part ∷ parts) (lines ∷ divisions) (greedy, divided) =
+    search (rules, greedy_unique, lines-greedy, divided_one width parts divisions divided)
+
+-- the lines of a part, and the offsets at which those of parts are broken
+abbrev pub part_lines : ℕ → List ℕ → List (List ℕ)
+part_lines width part = broken_lines (greedy_lines width part)
+
+pub lines-some : (width : ℕ) (part : List ℕ) → 0 < length (part_lines width part)
+lines-some width part = broken-some (greedy_lines width part) (lines-broken width part).some
+
+abbrev pub places_of : ℕ → ℕ → List (List ℕ) → List ℕ
+places_of width start parts = breaks_from start (map (greedy_lines width) parts)
+
+-- the filled text, by its parts
+pub filled-is : (width : ℕ) (text filled : List ℕ) → IsFilledInPlace width text filled
+    → filled ≡ feed_joined (flat_map (part_lines width) (paragraphs_of LF text))
+filled-is width text filled (divisions, divided, is) =
+    is ∙ ap feed_joined (ap (flat_map broken_lines)
+    (divided_one width (paragraphs_of LF text) divisions divided)
+    ∙ flat_map-map broken_lines (greedy_lines width) (paragraphs_of LF text))
+
+join-append : (separator : List ℕ) (xs ys : List (List ℕ)) → 0 < length xs → 0 < length ys
     → join_with separator (xs ++ ys)
-    ≡ join_with separator xs ++ (separator ++ join_with separator ys)
+    ≡ (join_with separator xs ++ separator) ++ join_with separator ys
 join-append separator [] ys some more = absurd (omega arith)
-join-append separator (x ∷ []) ys some more = search (rules, join_with-cons, append_assoc)
+join-append separator (x ∷ []) ys some more = join_with-cons separator x ys more
 join-append separator (x ∷ y ∷ xs) ys some more =
     rw (join-append separator (y ∷ xs) ys (omega arith) more) (simp append_assoc)
-
-pub length-joined : (c d : ℕ) (texts : List (List ℕ))
-    → length (join_with (c ∷ []) texts) ≡ length (join_with (d ∷ []) texts)
-length-joined c d [] = refl
-length-joined c d (text ∷ []) = refl
-length-joined c d (text ∷ next ∷ texts) =
-    simp (length-append, length-joined c d (next ∷ texts))
-
-pub all_broken-some : (lines : List (List WordText)) → 0 < length lines
-    → 0 < length (broken_lines lines)
-all_broken-some [] some = absurd (omega arith)
-all_broken-some (line ∷ lines) some = broken_lines-some line lines
-
-pub divisions-some : (width : ℕ) (part : List ℕ) (parts : List (List ℕ))
-    (divisions : List (List (List WordText))) → AreDividedAt width (part ∷ parts) divisions
-    → 0 < length (flat_map broken_lines divisions)
-divisions-some width part parts [] divided = absurd divided
-divisions-some width part parts (lines ∷ divisions) (greedy, divided) =
-    search (rules, common_steps, all_broken-some, IsBroken-greedy, length-append)
 
 -- ---- one part after the other
 
 -- the places so far are those of the parts so far: with the places of the parts left they are the
 -- places of the text
-pub record HasBreaks (width : ℕ) (text breaks : List ℕ) (start : ℕ) (left : List (List ℕ))
-    : Type 0 where
-  pub more : (divisions : List (List (List WordText))) → AreDividedAt width left divisions
-      → (all : List (List (List WordText))) × AreDividedAt width (paragraphs_of LF text) all
-      × (breaks ++ breaks_from start divisions ≡ breaks_from 0 all)
+abbrev pub HasBreaks : ℕ → List ℕ → List ℕ → ℕ → List (List ℕ) → Type 0
+HasBreaks width text breaks start left =
+    breaks ++ places_of width start left ≡ places_of width 0 (paragraphs_of LF text)
 
 pub HasBreaks-more : (width : ℕ) (text breaks more : List ℕ) (start : ℕ) (part : List ℕ)
     (left after : List (List ℕ)) (lines : List (List WordText))
@@ -97,20 +126,20 @@ pub HasBreaks-more : (width : ℕ) (text breaks more : List ℕ) (start : ℕ) (
     → more ≡ breaks ++ breaks_of start lines
     → HasBreaks width text more (start + (length part + 1)) after
 HasBreaks-more width text breaks more start part left after lines so_far left_is greedy more_is =
-    let tiles = (IsBroken-greedy (width ∷ []) part lines greedy).tiles in
-    let past : start + length (tiled (flat lines)) + 1 ≡ start + (length part + 1) = search rules in
-    record {
-      more = λ divisions divided.
-          let (all, are, is) = so_far.more (lines ∷ divisions)
-          (rw left_is (greedy, divided)) in search (rules, arith, append_assoc);
-    }
+    let own = lines-greedy width part in
+    let same = greedy_unique sizes_of (width ∷ []) (words_of part) lines
+    (greedy_lines width part) greedy own in
+    let past : start + length (tiled (flat (greedy_lines width part))) + 1
+    ≡ start + (length part + 1) = omega (arith, ap length (lines-broken width part).tiles) in
+    rw (more_is, same, append_assoc, ← past) (rw left_is at so_far)
 
 pub HasBreaks-end : (width : ℕ) (text breaks : List ℕ) (start : ℕ)
     → HasBreaks width text breaks start []
     → (all : List (List (List WordText))) × AreDividedAt width (paragraphs_of LF text) all
     × (breaks ≡ breaks_from 0 all)
 HasBreaks-end width text breaks start so_far =
-    let (all, are, is) = so_far.more [] refl in (all, are, sym (append-nil breaks) ∙ is)
+    let parts = paragraphs_of LF text in
+    (map (greedy_lines width) parts, are_divided width parts, sym (append-nil breaks) ∙ so_far)
 
 -- the bytes of a part and of what follows its line feed
 pub bytes_left-split : (rest part : List ℕ) (after : Option (Bor (List ℕ)))
@@ -119,124 +148,150 @@ pub bytes_left-split : (rest part : List ℕ) (after : Option (Bor (List ℕ)))
 bytes_left-split rest part None is =
     omega (arith, ap length (sym (join-paragraphs_of LF rest) ∙ ap feed_joined is))
 bytes_left-split rest part (Some more) is =
+    let whole : rest ≡ (part ++ line_feed ∷ []) ++ more.now =
+    sym (join-paragraphs_of LF rest) ∙ ap feed_joined is
+    ∙ join_with-cons (line_feed ∷ []) part (paragraphs_of LF more.now)
+    (parts_past-some (line_feed ∷ []) 0 more.now)
+    ∙ ap (λ l. (part ++ line_feed ∷ []) ++ l) (join-paragraphs_of LF more.now) in
     omega (
       arith,
-      ap length (sym (join-paragraphs_of LF rest) ∙ ap feed_joined is
-          ∙ join_with-cons (line_feed ∷ []) part (paragraphs_of LF more.now)
-          (parts_past-some (line_feed ∷ []) 0 more.now)
-          ∙ ap (λ l. (part ++ line_feed ∷ []) ++ l) (join-paragraphs_of LF more.now)),
+      ap length whole,
       length-append (part ++ line_feed ∷ []) more.now,
       length_push part line_feed,
     )
 
--- ---- they are in the text
+-- ---- blanks become line feeds in their places
 
-places-part : (start limit : ℕ) (lines : List (List WordText)) → AreLinesApart lines
-    → start + length (tiled (flat lines)) ≤ limit
-    → All (λ place. place < limit) (breaks_of start lines)
-places-part start limit [] apart room = All-nil (λ place. place < limit)
-places-part start limit (line ∷ []) apart room = All-nil (λ place. place < limit)
-places-part start limit (line ∷ next ∷ lines) (words, ending, apart) room =
-    let whole = ap length (tiled-append line (flat (next ∷ lines))) in
-    let len = length-append (tiled line) (tiled (flat (next ∷ lines))) in
-    let rest = places-part (start + length (tiled line)) limit (next ∷ lines) apart
-    (omega (arith, room, whole, len)) in
-    search (rules, arith, length_push, All-cons)
+abbrev IsChange : ℕ → ℕ → Type 0
+IsChange c d = (d ≡ c) ⊎ ((c ≡ blank) × (d ≡ line_feed))
 
-pub places-within : (width start limit : ℕ) (parts : List (List ℕ))
-    (divisions : List (List (List WordText))) → AreDividedAt width parts divisions
-    → start + length (feed_joined parts) ≤ limit
-    → All (λ place. place < limit) (breaks_from start divisions)
-places-within width start limit [] divisions none room = search (rules, All-nil)
-places-within width start limit (part ∷ parts) [] divided room = absurd divided
-places-within width start limit (part ∷ []) (lines ∷ divisions) (greedy, divided) room =
-    search (rules, IsBroken-greedy, flat, All-append, places-part, All-nil)
-places-within width start limit (part ∷ next ∷ parts) (lines ∷ divisions) (greedy, divided) room =
-    let broken = IsBroken-greedy (width ∷ []) part lines greedy in
-    let past = start + length (tiled (flat lines)) + 1 in
-    let len = length-append (part ++ line_feed ∷ []) (feed_joined (next ∷ parts)) in
-    let one = length_push part line_feed in
-    All-append (λ place. place < limit) (breaks_of start lines) (breaks_from past divisions)
-    (search (rules, places-part))
-    (places-within width past limit (next ∷ parts) divisions divided
-    (omega (arith, room, ap length broken.tiles, len, one)))
+-- of bytes from an offset on, with line feeds in these places
+record Feeds (start : ℕ) (old places new : List ℕ) : Type 0 where
+  changes : AllZip IsChange old new
+  within : All (λ place. place < start + length old) places
+  puts : (before after more : List ℕ) → length before ≡ start
+      → with_line_feeds (places ++ more) (before ++ (old ++ after))
+      ≡ with_line_feeds more (before ++ (new ++ after))
 
--- ---- the line feeds in their places
+feeds-none : (start : ℕ) (text : List ℕ) → Feeds start text [] text
+feeds-none start text = record {
+  changes = same text;
+  within = All-nil (λ place. place < start + length text);
+  puts = λ before after more len. refl;
+}
+  where
+    same : (bytes : List ℕ) → AllZip IsChange bytes bytes
+    same [] = tt
+    same (c ∷ bytes) = (inl refl, same bytes)
 
--- the bytes with the line feeds of a part, before those of what follows it
-feeds-part : (start : ℕ) (before : List ℕ) (lines : List (List WordText)) (after places : List ℕ)
-    → 0 < length lines → AreLinesApart lines → length before ≡ start
-    → with_line_feeds (breaks_of start lines ++ places) (before ++ (tiled (flat lines) ++ after))
-    ≡ with_line_feeds places (before ++ (feed_joined (broken_lines lines) ++ after))
-feeds-part start before [] after places some apart len = absurd (omega arith)
-feeds-part start before (line ∷ []) after places some apart len = search (rules, append-nil)
-feeds-part start before (line ∷ next ∷ lines) after places some (words, ending, apart) len =
+feeds-one : (start place : ℕ) → start ≡ place
+    → Feeds start (blank ∷ []) (place ∷ []) (line_feed ∷ [])
+feeds-one start place is = record {
+  changes = (inr (refl, refl), tt);
+  within = All-cons (λ p. p < start + 1) place [] (omega (arith, is)) (All-nil (λ p. p < start + 1));
+  puts = λ before after more len.
+      ap (with_line_feeds more) (set_at before blank after line_feed place (len ∙ is));
+}
+
+changes-append : (old new others more : List ℕ) → AllZip IsChange old new
+    → AllZip IsChange others more → AllZip IsChange (old ++ others) (new ++ more)
+changes-append [] [] others more none after = after
+changes-append [] (d ∷ new) others more before after = absurd before
+changes-append (c ∷ old) [] others more before after = absurd before
+changes-append (c ∷ old) (d ∷ new) others more (one, before) after =
+    (one, changes-append old new others more before after)
+
+module _ {start next : ℕ} {old places new others further more : List ℕ}
+    (first : Feeds start old places new) (second : Feeds next others further more)
+    (at : next ≡ start + length old) where
+  feeds-append : Feeds start (old ++ others) (places ++ further) (new ++ more)
+  feeds-append =
+      let len = length-append old others in
+      record {
+        changes = changes-append old new others more first.changes second.changes;
+        within = All-append (λ p. p < start + length (old ++ others)) places further
+            (All-weaker (λ p. p < start + length old) (λ p. p < start + length (old ++ others))
+            (λ p less. omega (arith, less, len)) places first.within)
+            (All-weaker (λ p. p < next + length others) (λ p. p < start + length (old ++ others))
+            (λ p less. omega (arith, less, len, at)) further second.within);
+        puts = λ before after rest begin.
+            let here = first.puts before (others ++ after) (further ++ rest) begin in
+            let past : length (before ++ new) ≡ next = omega (
+              arith,
+              length-append before new,
+              length_all_zip IsChange old new first.changes,
+              begin,
+              at,
+            ) in
+            let there = second.puts (before ++ new) after rest past in
+            simp append_assoc (here ∙ (simp append_assoc at there));
+      }
+
+-- the lines of a part
+feeds-part : (start : ℕ) (lines : List (List WordText)) → AreLinesApart lines
+    → Feeds start (tiled (flat lines)) (breaks_of start lines) (feed_joined (broken_lines lines))
+feeds-part start [] apart = feeds-none start []
+feeds-part start (line ∷ []) words =
+    subst (λ l. Feeds start l [] (tiled line)) (sym (ap tiled (append-nil line)))
+    (feeds-none start (tiled line))
+feeds-part start (line ∷ next ∷ lines) (words, ending, apart) =
     let text = shortened (tiled line) in
-    let rest = tiled (flat (next ∷ lines)) in
     let end = start + length (tiled line) in
-    let joined = feed_joined (broken_lines (next ∷ lines)) in
-    let others = breaks_of end (next ∷ lines) ++ places in
-    let shorter : length (tiled line) ≡ length text + 1 = ap length ending
-    ∙ length_push text blank in
-    let place : length (before ++ text) ≡ end - 1 =
-    omega (arith, len, shorter, length-append before text) in
-    let past : length ((before ++ text) ++ line_feed ∷ []) ≡ end =
-    search (rules, arith, length-append, length_push) in
-    let old : before ++ (tiled (flat (line ∷ next ∷ lines)) ++ after) ≡ (before ++ text)
-    ++ blank ∷ (rest ++ after) = search (rules, tiled-append, flat, append_assoc) in
-    let new : ((before ++ text) ++ line_feed ∷ []) ++ (joined ++ after) ≡ before
-    ++ (feed_joined (broken_lines (line ∷ next ∷ lines)) ++ after) =
-    search (rules, arith, join_with-cons, broken_lines-some, append_assoc) in
-    ap (λ l. with_line_feeds others (set l (end - 1) line_feed)) old
-    ∙ ap (with_line_feeds others) (search (rules, set_at, append_assoc))
-    ∙ feeds-part end ((before ++ text) ++ line_feed ∷ []) (next ∷ lines) after places (omega arith)
-    apart past
-    ∙ ap (with_line_feeds places) new
+    let rest = tiled (flat (next ∷ lines)) in
+    let others = broken_lines (next ∷ lines) in
+    let long : length (tiled line) ≡ length text + 1 = ap length ending ∙ length_push text blank in
+    let first = feeds-append (feeds-none start text)
+    (feeds-one (start + length text) (end - 1) (omega (arith, long))) refl in
+    let all = feeds-append first (feeds-part end (next ∷ lines) apart)
+    (omega (arith, long, length_push text blank)) in
+    subst (λ l. Feeds start l (breaks_of start (line ∷ next ∷ lines)) (feed_joined (text ∷ others)))
+    (ap (λ l. l ++ rest) (sym ending) ∙ sym (tiled-append line (flat (next ∷ lines))))
+    (subst (Feeds start ((text ++ blank ∷ []) ++ rest) (breaks_of start (line ∷ next ∷ lines)))
+    (sym (join_with-cons (line_feed ∷ []) text others (broken-some (next ∷ lines) (omega arith)))) all)
+
+feeds-lines : (width start : ℕ) (part : List ℕ) → Feeds start part
+    (breaks_of start (greedy_lines width part)) (feed_joined (part_lines width part))
+feeds-lines width start part =
+    let lines = greedy_lines width part in
+    let broken = lines-broken width part in
+    subst (λ p. Feeds start p (breaks_of start lines) (feed_joined (broken_lines lines)))
+    broken.tiles (feeds-part start lines broken.apart)
 
 -- the lines of the parts in a row: a line feed stood between each two parts
-feeds-parts : (width start : ℕ) (before : List ℕ) (parts : List (List ℕ))
-    (divisions : List (List (List WordText))) → 0 < length parts
-    → AreDividedAt width parts divisions → length before ≡ start
-    → with_line_feeds (breaks_from start divisions) (before ++ feed_joined parts)
-    ≡ before ++ feed_joined (flat_map broken_lines divisions)
-feeds-parts width start before [] divisions some divided len = absurd (omega arith)
-feeds-parts width start before (part ∷ parts) [] some divided len = absurd divided
-feeds-parts width start before (part ∷ []) (lines ∷ divisions) some (greedy, none) len =
-    let broken = IsBroken-greedy (width ∷ []) part lines greedy in
-    let all = feeds-part start before lines [] [] broken.some broken.apart len in
-    rw (none, ← broken.tiles) (simp append-nil (simp append-nil at all))
-feeds-parts width start before (part ∷ next ∷ parts) (lines ∷ divisions) some (greedy, divided)
-    len =
-    let broken = IsBroken-greedy (width ∷ []) part lines greedy in
+feeds-parts : (width start : ℕ) (parts : List (List ℕ)) → Feeds start (feed_joined parts)
+    (places_of width start parts) (feed_joined (flat_map (part_lines width) parts))
+feeds-parts width start [] = feeds-none start []
+feeds-parts width start (part ∷ []) = simp append-nil (feeds-lines width start part)
+feeds-parts width start (part ∷ next ∷ parts) =
+    let lines = greedy_lines width part in
+    let row = feed_joined (part_lines width part) in
+    let rows = flat_map (part_lines width) (next ∷ parts) in
     let past = start + length (tiled (flat lines)) + 1 in
-    let row = feed_joined (broken_lines lines) in
-    let rest = feed_joined (next ∷ parts) in
-    let place : length (before ++ (row ++ line_feed ∷ [])) ≡ past =
-    search (rules, length-append, length_push, length-joined, tiled-broken) in
-    let first = feeds-part start before lines (line_feed ∷ rest) (breaks_from past divisions)
-    broken.some broken.apart len in
-    let later = feeds-parts width past (before ++ (row ++ line_feed ∷ [])) (next ∷ parts) divisions
-    (omega arith) divided place in
-    search (rules, join-append, all_broken-some, divisions-some, append_assoc)
+    let more : 0 < length rows = omega (
+      arith,
+      lines-some width next,
+      length-append (part_lines width next) (flat_map (part_lines width) parts),
+    ) in
+    let first = feeds-append (feeds-lines width start part)
+    (feeds-none (start + length part) (line_feed ∷ [])) refl in
+    let all = feeds-append (rw append-nil at first) (feeds-parts width past (next ∷ parts))
+    (omega (arith, ap length (lines-broken width part).tiles, length_push part line_feed)) in
+    subst (Feeds start (feed_joined (part ∷ next ∷ parts)) (places_of width start (part ∷ next ∷ parts)))
+    (sym (join-append (line_feed ∷ []) (part_lines width part) rows (lines-some width part) more)) all
 
--- the line feeds in their places fill the text
-pub feeds-filled : (width : ℕ) (text : List ℕ) (divisions : List (List (List WordText)))
-    → AreDividedAt width (paragraphs_of LF text) divisions
-    → IsFilledInPlace width text (with_line_feeds (breaks_from 0 divisions) text)
-feeds-filled width text divisions divided = (
-  divisions,
-  divided,
-  ap (with_line_feeds (breaks_from 0 divisions)) (sym (join-paragraphs_of LF text))
-      ∙ feeds-parts width 0 [] (paragraphs_of LF text) divisions
-      (parts_past-some (ending_bytes LF) 0 text) divided refl,
-)
+feeds-text : (width : ℕ) (text : List ℕ) → Feeds 0 text (places_of width 0 (paragraphs_of LF text))
+    (feed_joined (flat_map (part_lines width) (paragraphs_of LF text)))
+feeds-text width text =
+    let parts = paragraphs_of LF text in
+    subst (λ t. Feeds 0 t (places_of width 0 parts) (feed_joined (flat_map (part_lines width) parts)))
+    (join-paragraphs_of LF text) (feeds-parts width 0 parts)
 
 pub feeds-within : (width : ℕ) (text : List ℕ) (divisions : List (List (List WordText)))
     → AreDividedAt width (paragraphs_of LF text) divisions
     → All (λ place. place < length text) (breaks_from 0 divisions)
 feeds-within width text divisions divided =
-    places-within width 0 (length text) (paragraphs_of LF text) divisions divided
-    (omega (arith, ap length (join-paragraphs_of LF text)))
+    rw (divided_one width (paragraphs_of LF text) divisions divided)
+    (rw zero-add at (feeds-text width text).within)
 
 -- the line feeds, put in their places among the bytes of the text
 pub filled-by_feeds : (width : ℕ) (text searched bytes breaks places new : List ℕ)
@@ -245,97 +300,33 @@ pub filled-by_feeds : (width : ℕ) (text searched bytes breaks places new : Lis
     → searched ≡ text → bytes ≡ text → places ≡ breaks → new ≡ with_line_feeds places bytes
     → IsFilledInPlace width text new
 filled-by_feeds width text searched bytes breaks places new divisions divided breaks_are same whole
-    places_are new_is = search (rules, feeds-filled)
+    places_are new_is =
+    let parts = paragraphs_of LF text in
+    let one = divided_one width parts divisions (rw same at divided) in
+    let puts = (feeds-text width text).puts [] [] [] refl in (
+      map (greedy_lines width) parts,
+      are_divided width parts,
+      rw (new_is, places_are, breaks_are, one, whole) (simp append-nil at puts)
+          ∙ ap feed_joined (sym (flat_map-map broken_lines (greedy_lines width) parts)),
+    )
 
--- ---- only blanks change
-
-abbrev IsChange : ℕ → ℕ → Type 0
-IsChange c d = (d ≡ c) ⊎ ((c ≡ blank) × (d ≡ line_feed))
-
-abbrev pub Changes : List ℕ → List ℕ → Type 0
-Changes [] new = new ≡ []
-Changes (c ∷ old) [] = ⊥
-Changes (c ∷ old) (d ∷ new) = IsChange c d × Changes old new
-
-changes-none : (text : List ℕ) → Changes text text
-changes-none [] = refl
-changes-none (c ∷ text) = (inl refl, changes-none text)
-
-changes-append : (old new others more : List ℕ) → Changes old new → Changes others more
-    → Changes (old ++ others) (new ++ more)
-changes-append [] new others more none after = search rules
-changes-append (c ∷ old) [] others more before after = absurd before
-changes-append (c ∷ old) (d ∷ new) others more before after =
-    (before.0, changes-append old new others more before.1 after)
-
-changes-joined : (texts : List (List ℕ)) → Changes (blank_joined texts) (feed_joined texts)
-changes-joined [] = refl
-changes-joined (text ∷ []) = changes-none text
-changes-joined (text ∷ next ∷ texts) =
-    grind (arith, changes-joined (next ∷ texts), changes-append, changes-none)
-
-changes-part : (width : ℕ) (part : List ℕ) (lines : List (List WordText))
-    → IsGreedy sizes_of (width ∷ []) (words_of part) lines
-    → Changes part (feed_joined (broken_lines lines))
-changes-part width part lines greedy =
-    rw (join-broken part lines (IsBroken-greedy (width ∷ []) part lines greedy))
-    (changes-joined (broken_lines lines))
-
-changes-parts : (width : ℕ) (parts : List (List ℕ)) (divisions : List (List (List WordText)))
-    → 0 < length parts → AreDividedAt width parts divisions
-    → Changes (feed_joined parts) (feed_joined (flat_map broken_lines divisions))
-changes-parts width [] divisions some divided = absurd (omega arith)
-changes-parts width (part ∷ parts) [] some divided = absurd divided
-changes-parts width (part ∷ []) (lines ∷ divisions) some (greedy, none) =
-    rw (none, append-nil) (changes-part width part lines greedy)
-changes-parts width (part ∷ next ∷ parts) (lines ∷ divisions) some (greedy, divided) =
-    let rest = flat_map broken_lines divisions in
-    let later = changes-parts width (next ∷ parts) divisions (omega arith) divided in
-    subst (Changes (feed_joined (part ∷ next ∷ parts)))
-    (append_assoc (feed_joined (broken_lines lines)) (line_feed ∷ []) (feed_joined rest)
-    ∙ sym (join-append (line_feed ∷ []) (broken_lines lines) rest
-    (all_broken-some lines (IsBroken-greedy (width ∷ []) part lines greedy).some)
-    (divisions-some width next parts divisions divided)))
-    (search (rules, changes-append, changes-part, changes-none))
-
-changes-len : (old new : List ℕ) → Changes old new → length new ≡ length old
-changes-len [] new none = ap length none
-changes-len (c ∷ old) [] changes = absurd changes
-changes-len (c ∷ old) (d ∷ new) changes = ap suc (changes-len old new changes.1)
-
-changes-each : (old new : List ℕ) → Changes old new → OnlyBlanksChange old new
-changes-each [] new none i within = absurd (omega arith)
-changes-each (c ∷ old) [] changes i within = absurd changes
-changes-each (c ∷ old) (d ∷ new) changes zero within = changes.0
-changes-each (c ∷ old) (d ∷ new) changes (suc i) within =
-    changes-each old new changes.1 i (omega arith)
+-- ---- what is so of a text that is filled in place
 
 -- a text of UTF-8 stays one, where the bytes in front are of it
-changes-utf8 : (before old new : List ℕ) → Changes old new → IsUtf8 (before ++ old)
+changes-utf8 : (before old new : List ℕ) → AllZip IsChange old new → IsUtf8 (before ++ old)
     → IsUtf8 (before ++ new)
-changes-utf8 before [] new none utf8 = subst (λ l. IsUtf8 (before ++ l)) (sym none) utf8
+changes-utf8 before [] [] none utf8 = utf8
+changes-utf8 before [] (d ∷ new) changes utf8 = absurd changes
 changes-utf8 before (c ∷ old) [] changes utf8 = absurd changes
-changes-utf8 before (c ∷ old) (d ∷ new) changes utf8 =
-    elim changes.0 [
-      | inl same ↦
-          subst IsUtf8 (append_assoc before (d ∷ []) new)
-          (changes-utf8 (before ++ d ∷ []) old new changes.1
-          (search (rules, append_assoc)))
-      | inr change ↦
-          let seam = ascii_seam before old c utf8 (omega (arith, change.0)) in
-          let ascii : IsUtf8 (d ∷ []) = IsUtf8-from_ascii (d ∷ []) (one_ascii d
-          (omega (arith, change.1))) in
-          IsUtf8-append before (d ∷ new) seam.front
-          (IsUtf8-append (d ∷ []) new ascii (changes-utf8 [] old new changes.1 seam.back))
-    ]
-  where
-    one_ascii : (d : ℕ) → d < 128 → IsAscii (d ∷ [])
-    one_ascii d low zero = low
-    one_ascii d low (suc i) = omega arith
+changes-utf8 before (c ∷ old) (d ∷ new) (inl same, changes) utf8 =
+    subst IsUtf8 (append_assoc before (d ∷ []) new)
+    (changes-utf8 (before ++ d ∷ []) old new changes (search (rules, append_assoc)))
+changes-utf8 before (c ∷ old) (d ∷ new) (inr (was, is), changes) utf8 =
+    let seam = ascii_seam before old c utf8 (omega (arith, was)) in
+    let ascii = IsAscii-cons d [] (omega (arith, is)) (λ i. omega arith) in
+    IsUtf8-append before (d ∷ new) seam.front (IsUtf8-append (d ∷ []) new
+    (IsUtf8-from_ascii (d ∷ []) ascii) (changes-utf8 [] old new changes seam.back))
 
--- ---- a text that is filled in place
-
--- what is so of each of them
 pub record KeepsText (old new : List ℕ) : Type 0 where
   pub len : length new ≡ length old
   pub only_blanks : OnlyBlanksChange old new
@@ -343,11 +334,11 @@ pub record KeepsText (old new : List ℕ) : Type 0 where
 
 pub filled-keeps : (width : ℕ) (text filled : List ℕ) → IsFilledInPlace width text filled
     → KeepsText text filled
-filled-keeps width text filled (divisions, divided, is) =
-    let changes : Changes text filled = rw (is, ← join-paragraphs_of LF text)
-    (search (rules, changes-parts, parts_past-some)) in
+filled-keeps width text filled is =
+    let changes : AllZip IsChange text filled =
+    rw (filled-is width text filled is) (feeds-text width text).changes in
     record {
-      len = changes-len text filled changes;
-      only_blanks = changes-each text filled changes;
+      len = sym (length_all_zip IsChange text filled changes);
+      only_blanks = λ i within. AllZip-get_or IsChange text filled i 0 0 changes within;
       utf8 = changes-utf8 [] text filled changes;
     }

@@ -1,60 +1,52 @@
--- The lines of a text that is filled in place are lines of the wrapped text.
-use Rattle.textwrap_text.proofs.Common.{◌≡◌, ◌≢◌, ℕ, ◌<◌, List, [], ◌∷◌, ◌++◌, All, length, refl}
-use Rattle.textwrap_text.proofs.Common.{sym, ◌∙◌, subst, arith, append_assoc, flat_map, All-nil}
-use Rattle.textwrap_text.proofs.Common.{All-cons, All-head, All-tail, All-append, rules, Bool, true}
-use Rattle.textwrap_text.proofs.Common.{false, map, ap, reverse-append, take-append-le, length_push}
-use Rattle.textwrap_text.proofs.Common.{All-map, ◌≤◌, ◌||◌, nat_lt, IsUtf8, and_parts, ltb-true}
-use Rattle.textwrap_text.proofs.Common.{map-append, suc, append-nil, length-append, blank}
-use Rattle.textwrap_text.proofs.Common.{trimmed_len, without_final_blanks, chunks, ending_bytes}
-use Rattle.textwrap_text.proofs.Common.{paragraphs_of, join_with}
-use Rattle.textwrap_base.proofs.Common.{line_width, closed_width, IsGreedy}
-use Rattle.textwrap_words.proofs.Common.{WordText, tiled, word_of, AreWordsOf, sizes_of, words_of}
-use Rattle.textwrap_words.proofs.Common.{Greedy, Whole}
-use Rattle.textwrap_layout.proofs.Common.{Line, Slice, line_from, covered, indent_of, parts_of}
-use Rattle.textwrap_layout.proofs.Common.{parts_from, LineParts, is_whole, pieces_of, widths_of}
-use Rattle.textwrap_layout.proofs.Common.{DividesAs, AreParagraphParts, AreGroups, AreTextLines}
-use Rattle.textwrap.proofs.Common.{broken_lines, AreDividedAt, IsFilledInPlace, unbroken_at}
-use Rattle.textwrap.proofs.Common.{FitsOneLine}
-use Rattle.textwrap_base.proofs.Division.Greedy.{greedy_unique, IsGreedy-same, line_width-one}
-use Rattle.textwrap_base.proofs.Division.Greedy.{line_width-two}
+-- The lines of a text that is filled in place are lines of the wrapped text; and a part that is filled
+-- in place word by word: the line so far, and the blanks that become line feeds.
+use Rattle.textwrap_text.proofs.Common.{without_final_blanks, reverse-append, take-append-le, arith}
+use Rattle.textwrap_text.proofs.Common.{length-append, paragraphs_of, append_assoc, ending_bytes, ℕ}
+use Rattle.textwrap_text.proofs.Common.{length_push, trimmed_len, All-append, append-nil, and_parts}
+use Rattle.textwrap_text.proofs.Common.{map-append, join_with, All-cons, All-head, All-tail, IsUtf8}
+use Rattle.textwrap_text.proofs.Common.{flat_map, ltb-true, All-map, All-nil, chunks, length, blank}
+use Rattle.textwrap_text.proofs.Common.{nat_lt, false, rules, subst, Bool, List, refl, true, ◌++◌}
+use Rattle.textwrap_text.proofs.Common.{◌||◌, All, map, suc, sym, ◌+◌, ◌-◌, ◌<◌, ◌∙◌, ◌∷◌, ◌≡◌, ◌≢◌}
+use Rattle.textwrap_text.proofs.Common.{◌≤◌, [], ap}
+use Rattle.textwrap_base.proofs.Common.{closed_width, line_width, open_width, IsGreedy, Fits}
+use Rattle.textwrap_words.proofs.Common.{AreWordsOf, WordText, sizes_of, words_of, tile_of, word_of}
+use Rattle.textwrap_words.proofs.Common.{Greedy, Whole, tiled}
+use Rattle.textwrap_layout.proofs.Common.{AreParagraphParts, AreTextLines, parts_from, AreGroups}
+use Rattle.textwrap_layout.proofs.Common.{DividesAs, LineParts, indent_of, line_from, pieces_of}
+use Rattle.textwrap_layout.proofs.Common.{widths_of, is_whole, parts_of, covered, Slice, Line}
+use Rattle.textwrap.proofs.Common.{IsFilledInPlace, broken_lines, FitsOneLine, unbroken_at}
+use Rattle.textwrap.proofs.Common.{breaks_of}
+use Rattle.textwrap_base.proofs.Division.Greedy.{closed_width-push, open_width-append}
+use Rattle.textwrap_base.proofs.Division.Greedy.{line_width-one, line_width-two, IsGreedy-same}
+use Rattle.textwrap_base.proofs.Division.Greedy.{greedy_unique}
 use Rattle.textwrap_text.specs.declared.line_ending.LineEnding.TheVariants.{LF}
 use Rattle.textwrap_text.specs.LineEnding.{Lacks}
-use Rattle.textwrap_layout.proofs.Text.Paragraphs.{parts_past-some, paragraphs_one}
-use Rattle.textwrap_layout.proofs.Text.Paragraphs.{paragraphs_of-utf8}
-use Rattle.textwrap_layout.proofs.Paragraph.Covered.{IsBroken-greedy, shortened, AreLinesApart}
-use Rattle.textwrap.proofs.Text.InPlace.{feed_joined, join-broken, divisions-some}
-use Rattle.textwrap_words.proofs.Word.Words.{HasNoPenalty, words_unique, text_width-nil}
-use Rattle.textwrap_words.proofs.Word.Words.{tiled-words_of}
-use Rattle.textwrap_layout.proofs.Paragraph.LeftOff.{covered-words_of, line_from-pieces}
-use Rattle.textwrap_layout.proofs.Paragraph.LeftOff.{line_from-whole, AreParagraphParts-whole}
+use Rattle.textwrap_layout.proofs.Text.Paragraphs.{paragraphs_of-utf8, parts_past-some}
+use Rattle.textwrap_layout.proofs.Text.Paragraphs.{paragraphs_one}
+use Rattle.textwrap_layout.proofs.Paragraph.Covered.{IsBroken-greedy, AreLinesApart, shortened}
+use Rattle.textwrap.proofs.Text.InPlace.{greedy_lines, lines-broken, lines-greedy, join-broken}
+use Rattle.textwrap.proofs.Text.InPlace.{lines-some, part_lines, filled-is}
+use Rattle.textwrap_words.proofs.Word.Words.{text_width-nil, tiled-words_of, HasNoPenalty}
+use Rattle.textwrap_words.proofs.Word.Words.{tiled-append, words_unique, tiled-push}
 use Rattle.textwrap_layout.proofs.Paragraph.LeftOff.{AreParagraphParts-divided, closed-pieces_of}
+use Rattle.textwrap_layout.proofs.Paragraph.LeftOff.{AreParagraphParts-whole, covered-words_of}
+use Rattle.textwrap_layout.proofs.Paragraph.LeftOff.{line_from-pieces, line_from-whole}
+use Rattle.textwrap_layout.proofs.Paragraph.LeftOff.{tiled-word_of}
 use Rattle.textwrap_base.proofs.Cost.Chosen.{IsDividedBy-one_line}
-use Rattle.textwrap_text.proofs.Lists.Parts.{flat}
+use Rattle.textwrap_text.proofs.Lists.Parts.{some_from_nonempty, flat}
 use Rattle.textwrap_layout.proofs.Paragraph.Pieces.{ArePieces-computed}
 use Rattle.textwrap_lines.proofs.PrintableTexts.Bytes.{split-whole}
 use Rattle.textwrap_base.proofs.Division.Map.{IsDivision-whole}
+use Rattle.textwrap_base.proofs.Division.Grown.{prefix-closes, grown-begins, grown-greedy, grown}
+use Rattle.textwrap_base.proofs.Division.Grown.{grown-full}
+use Rattle.std.proofs.lemmas.Grind.{common_steps}
 
 -- ---- there is one text filled in place, and it has its lines between its line feeds
 
-divisions_one : (width : ℕ) (parts : List (List ℕ)) (divisions others : List (List (List WordText)))
-    → AreDividedAt width parts divisions → AreDividedAt width parts others → divisions ≡ others
-divisions_one width [] divisions others none other = none ∙ sym other
-divisions_one width (part ∷ parts) [] others divided other = absurd divided
-divisions_one width (part ∷ parts) (lines ∷ divisions) [] divided other = absurd other
-divisions_one width (part ∷ parts) (lines ∷ divisions) (more ∷ others) divided other =
-    search (rules, greedy_unique, divisions_one width parts divisions others divided.1 other.1)
-
 pub filled_one : (width : ℕ) (text filled other : List ℕ) → IsFilledInPlace width text filled
     → IsFilledInPlace width text other → filled ≡ other
-filled_one width text filled other (divisions, divided, is) (others, others_divided, other_is) =
-    search (rules, feed_joined, divisions_one)
-
-Lacks-left : (ending text more : List ℕ) → Lacks ending (text ++ more) → Lacks ending text
-Lacks-left ending text more lacks before after is = search (rules, append_assoc)
-
-Lacks-right : (ending text more : List ℕ) → Lacks ending (text ++ more) → Lacks ending more
-Lacks-right ending text more lacks before after is =
-    lacks (text ++ before) after (rw is (simp append_assoc))
+filled_one width text filled other is other_is =
+    filled-is width text filled is ∙ sym (filled-is width text other other_is)
 
 lacks-joined : (ending separator : List ℕ) (texts : List (List ℕ))
     → Lacks ending (join_with separator texts) → All (Lacks ending) texts
@@ -63,38 +55,44 @@ lacks-joined ending separator (text ∷ []) lacks = search (rules, All-cons, All
 lacks-joined ending separator (text ∷ next ∷ texts) lacks =
     let rest = join_with separator (next ∷ texts) in
     All-cons (Lacks ending) text (next ∷ texts)
-    (Lacks-left ending text separator (Lacks-left ending (text ++ separator) rest lacks))
+    (λ before after is. lacks before (after ++ (separator ++ rest)) (rw is (simp append_assoc)))
     (lacks-joined ending separator (next ∷ texts)
-    (Lacks-right ending (text ++ separator) rest lacks))
+    (λ before after is. lacks ((text ++ separator) ++ before) after (rw is (simp append_assoc))))
 
-lacks-lines : (ending : List ℕ) (width : ℕ) (parts : List (List ℕ))
-    (divisions : List (List (List WordText))) → AreDividedAt width parts divisions
-    → All (Lacks ending) parts → All (Lacks ending) (flat_map broken_lines divisions)
-lacks-lines ending width [] divisions none all = search (rules, All-nil)
-lacks-lines ending width (part ∷ parts) [] divided all = absurd divided
-lacks-lines ending width (part ∷ parts) (lines ∷ divisions) (greedy, divided) all =
-    All-append (Lacks ending) (broken_lines lines) (flat_map broken_lines divisions)
-    (lacks-joined ending (blank ∷ []) (broken_lines lines)
-    (subst (Lacks ending) (join-broken part lines (IsBroken-greedy (width ∷ []) part lines greedy))
+lacks-lines : (ending : List ℕ) (width : ℕ) (parts : List (List ℕ)) → All (Lacks ending) parts
+    → All (Lacks ending) (flat_map (part_lines width) parts)
+lacks-lines ending width [] all = All-nil (Lacks ending)
+lacks-lines ending width (part ∷ parts) all =
+    All-append (Lacks ending) (part_lines width part) (flat_map (part_lines width) parts)
+    (lacks-joined ending (blank ∷ []) (part_lines width part) (subst (Lacks ending)
+    (join-broken part (greedy_lines width part) (lines-broken width part))
     (All-head (Lacks ending) part parts all)))
-    (lacks-lines ending width parts divisions divided (All-tail (Lacks ending) part parts all))
+    (lacks-lines ending width parts (All-tail (Lacks ending) part parts all))
 
-lines-some : (width : ℕ) (parts : List (List ℕ)) (divisions : List (List (List WordText)))
-    → 0 < length parts → AreDividedAt width parts divisions
-    → flat_map broken_lines divisions ≢ []
-lines-some width [] divisions some divided none = absurd (omega arith)
-lines-some width (part ∷ parts) divisions some divided none = search (rules, divisions-some)
+lines-least : (width : ℕ) (parts : List (List ℕ))
+    → length parts ≤ length (flat_map (part_lines width) parts)
+lines-least width [] = omega arith
+lines-least width (part ∷ parts) = omega (
+  arith,
+  lines-least width parts,
+  lines-some width part,
+  length-append (part_lines width part) (flat_map (part_lines width) parts),
+)
 
-pub filled-paragraphs : (width : ℕ) (text filled : List ℕ) (divisions : List (List (List WordText)))
-    → AreDividedAt width (paragraphs_of LF text) divisions
-    → filled ≡ feed_joined (flat_map broken_lines divisions)
-    → paragraphs_of LF filled ≡ flat_map broken_lines divisions
-filled-paragraphs width text filled divisions divided is =
-    sym ((paragraphs_one LF filled (flat_map broken_lines divisions)).0 (record {
-      some = search (rules, lines-some, parts_past-some);
-      joined = sym is;
-      lacking = lacks-lines (ending_bytes LF) width (paragraphs_of LF text) divisions divided
-          ((paragraphs_one LF text (paragraphs_of LF text)).1 refl).lacking;
+filled-paragraphs : (width : ℕ) (text filled : List ℕ) → IsFilledInPlace width text filled
+    → paragraphs_of LF filled ≡ flat_map (part_lines width) (paragraphs_of LF text)
+filled-paragraphs width text filled is =
+    let parts = paragraphs_of LF text in
+    sym ((paragraphs_one LF filled (flat_map (part_lines width) parts)).0 (record {
+      some = λ none. omega (
+        arith,
+        lines-least width parts,
+        parts_past-some (ending_bytes LF) 0 text,
+        ap length none,
+      );
+      joined = sym (filled-is width text filled is);
+      lacking = lacks-lines (ending_bytes LF) width parts
+          ((paragraphs_one LF text parts).1 refl).lacking;
     }))
 
 -- ---- the lines of a part, with the blanks at their ends left off
@@ -162,11 +160,12 @@ abbrev pub Divides : ℕ → Bool → List ℕ → List (List WordText) → Type
 Divides width =
     DividesAs Whole Greedy (unbroken_at width)
 
-module _ (width : ℕ) (is_later : Bool) (part : List ℕ) (lines : List (List WordText))
-    (utf8 : IsUtf8 part)
-    (greedy : IsGreedy sizes_of (width ∷ []) (words_of part) lines) where
+module _ (width : ℕ) (is_later : Bool) (part : List ℕ) (utf8 : IsUtf8 part) where
+  abbrev own : List (List WordText)
+  own = greedy_lines width part
+
   -- a part with fewer bytes than the width has columns is one line
-  one_line : is_whole (unbroken_at width) is_later part ≡ true → lines ≡ words_of part ∷ []
+  one_line : is_whole (unbroken_at width) is_later part ≡ true → own ≡ words_of part ∷ []
   one_line whole =
       let shorter : length part < width = search (rules, ltb-true, and_parts, nat_lt) in
       let closed : closed_width sizes_of (words_of part) ≤ length part =
@@ -175,11 +174,12 @@ module _ (width : ℕ) (is_later : Bool) (part : List ℕ) (lines : List (List W
       let none : All (λ w. (sizes_of w).penalty ≡ 0) (words_of part) = search (rules, All-map) in
       let room : closed_width sizes_of (words_of part) ≤ line_width (width ∷ []) 0 =
       omega (arith, shorter, closed) in
-      greedy_unique sizes_of (width ∷ []) (words_of part) lines (words_of part ∷ []) greedy
+      greedy_unique sizes_of (width ∷ []) (words_of part) own (words_of part ∷ [])
+      (lines-greedy width part)
       (IsDividedBy-one_line Greedy sizes_of (width ∷ []) (words_of part) none room)
 
-  divides : Divides width is_later part lines
-  divides = (
+  divides : Divides width is_later part own
+  divides = let greedy = lines-greedy width part in (
     words_of part,
     rw (pieces_of-unbroken width part) at (ArePieces-computed (unbroken_at width) Whole part),
     rw (widths_of-unbroken width is_later)
@@ -190,7 +190,7 @@ module _ (width : ℕ) (is_later : Bool) (part : List ℕ) (lines : List (List W
   record HasLines : Type 0 where
     parts : List LineParts
     are : AreParagraphParts (unbroken_at width) (Divides width) is_later part parts
-    lines_are : map line_from parts ≡ map trimmed_line (broken_lines lines)
+    lines_are : map line_from parts ≡ map trimmed_line (part_lines width part)
 
   has_lines : (whole : Bool) → is_whole (unbroken_at width) is_later part ≡ whole → HasLines
   has_lines true whole = record {
@@ -199,10 +199,9 @@ module _ (width : ℕ) (is_later : Bool) (part : List ℕ) (lines : List (List W
     lines_are = search (rules, one_line, tiled-words_of, line_from-whole);
   }
   has_lines false longer = record {
-    parts = parts_from (unbroken_at width) is_later lines;
+    parts = parts_from (unbroken_at width) is_later own;
     are = search (rules, AreParagraphParts-divided, divides);
-    lines_are = lines_from-broken width is_later lines
-        (IsBroken-greedy (width ∷ []) part lines greedy).apart;
+    lines_are = lines_from-broken width is_later own (lines-broken width part).apart;
   }
 
 -- ---- the lines of a text
@@ -212,30 +211,25 @@ record HasGroupsOf (width : ℕ) (is_later : Bool) (parts lines : List (List ℕ
   are : AreGroups (AreParagraphParts (unbroken_at width) (Divides width)) is_later parts groups
   lines_are : map line_from (flat groups) ≡ map trimmed_line lines
 
-groups_of : (width : ℕ) (is_later : Bool) (parts : List (List ℕ))
-    (divisions : List (List (List WordText))) → All IsUtf8 parts
-    → AreDividedAt width parts divisions
-    → HasGroupsOf width is_later parts (flat_map broken_lines divisions)
-groups_of width is_later [] divisions utf8 none = search (rules, trimmed_line)
-groups_of width is_later (part ∷ parts) [] utf8 divided = absurd divided
-groups_of width is_later (part ∷ parts) (lines ∷ divisions) utf8 (greedy, divided) =
-    let first = has_lines width is_later part lines (All-head IsUtf8 part parts utf8)
-    greedy (is_whole (unbroken_at width) is_later part) refl in
-    let rest = groups_of width (is_later || nat_lt 0 (length first.parts)) parts divisions
-    (All-tail IsUtf8 part parts utf8) divided in
+groups_of : (width : ℕ) (is_later : Bool) (parts : List (List ℕ)) → All IsUtf8 parts
+    → HasGroupsOf width is_later parts (flat_map (part_lines width) parts)
+groups_of width is_later [] utf8 = search (rules, trimmed_line)
+groups_of width is_later (part ∷ parts) utf8 =
+    let first = has_lines width is_later part (All-head IsUtf8 part parts utf8)
+    (is_whole (unbroken_at width) is_later part) refl in
+    let rest = groups_of width (is_later || nat_lt 0 (length first.parts)) parts
+    (All-tail IsUtf8 part parts utf8) in
     record {
       groups = first.parts ∷ rest.groups;
       are = (first.are, rest.are);
       lines_are = simp (map-append, first.lines_are, rest.lines_are);
     }
 
-pub filled-wrapped : (width : ℕ) (text filled : List ℕ) → IsUtf8 text → IsFilledInPlace width text filled
-    → AreTextLines (unbroken_at width) (Divides width) text
+pub filled-wrapped : (width : ℕ) (text filled : List ℕ) → IsUtf8 text
+    → IsFilledInPlace width text filled → AreTextLines (unbroken_at width) (Divides width) text
     (map trimmed_line (paragraphs_of LF filled))
-filled-wrapped width text filled utf8 (divisions, divided, is) =
-    let parts = paragraphs_of LF text in
-    let all = paragraphs_of-utf8 LF text utf8 in
-    let found = groups_of width false parts divisions all divided in
+filled-wrapped width text filled utf8 is =
+    let found = groups_of width false (paragraphs_of LF text) (paragraphs_of-utf8 LF text utf8) in
     search (rules, trimmed_line, filled-paragraphs)
 
 -- ---- where a text stays as it is, the words of each part fit one line
@@ -253,31 +247,146 @@ one_line-fits width part (line ∷ []) greedy one =
     search (rules, append-nil, line_width-one, flat, IsDivision-whole)
 one_line-fits width part (line ∷ next ∷ lines) greedy one = absurd (omega (arith, one))
 
-lines-least : (width : ℕ) (parts : List (List ℕ)) (divisions : List (List (List WordText)))
-    → AreDividedAt width parts divisions → length parts ≤ length (flat_map broken_lines divisions)
-lines-least width [] divisions divided = omega arith
-lines-least width (part ∷ parts) [] divided = absurd divided
-lines-least width (part ∷ parts) (lines ∷ divisions) (greedy, divided) = omega (
-  arith,
-  lines-least width parts divisions divided,
-  (IsBroken-greedy (width ∷ []) part lines greedy).some,
-  length-broken lines,
-  length-append (broken_lines lines) (flat_map broken_lines divisions),
-)
-
-all_fit : (width : ℕ) (parts : List (List ℕ)) (divisions : List (List (List WordText)))
-    → AreDividedAt width parts divisions → length (flat_map broken_lines divisions) ≤ length parts
-    → All (FitsOneLine width) parts
-all_fit width [] divisions divided few = All-nil (FitsOneLine width)
-all_fit width (part ∷ parts) [] divided few = absurd divided
-all_fit width (part ∷ parts) (lines ∷ divisions) (greedy, divided) few =
-    let least = lines-least width parts divisions divided in
-    let some = (IsBroken-greedy (width ∷ []) part lines greedy).some in
-    let len = length-append (broken_lines lines) (flat_map broken_lines divisions) in
+all_fit : (width : ℕ) (parts : List (List ℕ))
+    → length (flat_map (part_lines width) parts) ≤ length parts → All (FitsOneLine width) parts
+all_fit width [] few = All-nil (FitsOneLine width)
+all_fit width (part ∷ parts) few =
+    let least = lines-least width parts in
+    let some = lines-some width part in
+    let len = length-append (part_lines width part) (flat_map (part_lines width) parts) in
     All-cons (FitsOneLine width) part parts
-    (search (rules, one_line-fits, length-broken))
-    (all_fit width parts divisions divided (omega (arith, few, some, length-broken lines, len)))
+    (one_line-fits width part (greedy_lines width part) (lines-greedy width part)
+    (omega (arith, few, least, len, length-broken (greedy_lines width part))))
+    (all_fit width parts (omega (arith, few, some, len)))
 
 pub unchanged-fits : (width : ℕ) (text : List ℕ) → IsFilledInPlace width text text
     → All (FitsOneLine width) (paragraphs_of LF text)
-unchanged-fits width text (divisions, divided, is) = search (rules, all_fit, filled-paragraphs)
+unchanged-fits width text is = all_fit width (paragraphs_of LF text)
+    (omega (arith, ap length (filled-paragraphs width text text is)))
+
+-- ---- the line so far of a part that is filled in place
+
+pub record IsPlain (word : WordText) : Type 0 where
+  pub penalty : HasNoPenalty word
+  pub some : 0 < length (tile_of word)
+
+plain-chunks : (parts : List (List ℕ)) → All (λ part. part ≢ []) parts
+    → All IsPlain (map word_of parts)
+plain-chunks [] some = All-nil IsPlain
+plain-chunks (part ∷ parts) some = All-cons IsPlain (word_of part) (map word_of parts)
+    (grind (arith, common_steps, tiled-word_of, append-nil, some_from_nonempty, All-head))
+    (plain-chunks parts (All-tail (λ p. p ≢ []) part parts some))
+
+plain-words : (part : List ℕ) → All IsPlain (words_of part)
+plain-words part = search (rules, arith, words_unique part (words_of part), plain-chunks)
+
+pub record HasLine (width start : ℕ) (part old breaks : List ℕ) (begin end taken : ℕ)
+    (left line : List WordText) : Type 0 where
+  pub after : start ≤ begin
+  pub end_is : end ≡ begin + length (tiled line)
+  pub taken_is : taken ≡ open_width sizes_of line
+  pub some : line ≢ [] → begin < end
+  pub plain : All IsPlain left
+  pub room : end + length (tiled left) ≡ start + length part
+  pub places : breaks ++ breaks_of begin (grown sizes_of width width left line)
+      ≡ old ++ breaks_of start (grown sizes_of width width (words_of part) [])
+  pub whole : FitsOneLine width part → line ++ left ≡ words_of part
+
+pub HasLine-begin : (width start : ℕ) (part old : List ℕ) (left : List WordText)
+    → left ≡ words_of part → HasLine width start part old old start start 0 left []
+HasLine-begin width start part old left is = search (rules, plain-words, tiled-words_of, grown)
+
+pub line_some : (ws : List WordText) → 0 < length (tiled ws) → 0 < length ws
+line_some [] some = some
+line_some (w ∷ ws) some = omega arith
+
+module _ {width start : ℕ} {part old breaks : List ℕ} {begin end taken : ℕ} {x : WordText}
+    {left line : List WordText}
+    (has : HasLine width start part old breaks begin end taken (x ∷ left) line) where
+  pub first : IsPlain x
+  first = All-head IsPlain x left has.plain
+
+  pub closes : closed_width sizes_of (line ++ x ∷ []) ≡ taken + x.width
+  closes = search (rules, closed_width-push)
+
+  pub passed : (len : ℕ) → len ≡ length (tile_of x)
+      → end + len + length (tiled left) ≡ start + length part
+  passed len is = search (rules, tiled-append, length-append, append-nil)
+
+-- ---- the line so far, from the offset `begin` of the text, and the words that are left
+
+module _ {width start : ℕ} {part old breaks : List ℕ} {begin end taken : ℕ} {x : WordText}
+    {left line : List WordText}
+    (has : HasLine width start part old breaks begin end taken (x ∷ left) line) where
+  -- the line has no room for the word, so the blank before it is a place
+  pub HasLine-break : (from len more : ℕ) (pushed : List ℕ) → begin < end
+      → width < taken + x.width → from ≡ end → len ≡ length (tile_of x)
+      → more ≡ x.width + length x.whitespace → pushed ≡ breaks ++ (end - 1) ∷ []
+      → HasLine width start part old pushed from (end + len) more left (x ∷ [])
+  HasLine-break from len more pushed began over from_is len_is more_is pushed_is =
+      let some : 0 < length line = line_some line (omega (arith, began, has.end_is)) in
+      let full : width < closed_width sizes_of (line ++ x ∷ []) = omega (arith, closes has, over) in
+      let (others, rest, is) = grown-begins sizes_of width width left (x ∷ []) in
+      let next = grown sizes_of width width left (x ∷ []) in
+      let after : breaks_of begin (line ∷ next) ≡ (end - 1) ∷ breaks_of end next = cc in
+      record {
+        after = omega (arith, from_is, has.after, has.end_is);
+        end_is = omega (arith, from_is, len_is, ap length (append-nil (tile_of x)));
+        taken_is = omega (arith, more_is);
+        some = λ any. omega (arith, from_is, len_is, (first has).some);
+        plain = All-tail IsPlain x left has.plain;
+        room = passed has len len_is;
+        places = search (rules, append_assoc, grown-full);
+        whole = λ fits. absurd (omega (
+          arith,
+          full,
+          prefix-closes sizes_of width line x left
+              (subst (λ ws. Fits sizes_of width ws) (sym (has.whole fits)) fits) some,
+        ));
+      }
+
+  -- the line takes the word
+  pub HasLine-join : (from len more : ℕ) (kept : List ℕ)
+      → (begin < end → taken + x.width ≤ width) → from ≡ begin → len ≡ length (tile_of x)
+      → more ≡ taken + (x.width + length x.whitespace) → kept ≡ breaks
+      → HasLine width start part old kept from (end + len) more left (line ++ x ∷ [])
+  HasLine-join from len more kept within from_is len_is more_is kept_is = grind (
+    arith,
+    common_steps,
+    closes has,
+    tiled-push line x,
+    length-append (tiled line) (tile_of x),
+    open_width-append sizes_of line (x ∷ []),
+    All-tail IsPlain x left has.plain,
+    passed has len len_is,
+  )
+
+  -- a line without bytes has no columns
+  pub HasLine-none : end ≤ begin → taken ≡ 0
+  HasLine-none none = search rules
+
+  -- the word is within the part
+  pub HasLine-within : length x.whitespace ≤ length part
+  HasLine-within = search (rules, passed, length-append)
+
+  -- where all words fit one line, this one does
+  pub HasLine-fits : FitsOneLine width part → begin < end → taken + x.width ≤ width
+  HasLine-fits fits began = omega (
+    arith,
+    closes has,
+    prefix-closes sizes_of width line x left
+        (search (rules, arith)) (line_some line (omega (arith, began, has.end_is))),
+  )
+
+pub HasLine-end : {width start : ℕ} {part old breaks : List ℕ} {begin end taken : ℕ}
+    {left line : List WordText} → HasLine width start part old breaks begin end taken left line
+    → left ≡ []
+    → (division : List (List WordText))
+    × IsGreedy sizes_of (width ∷ []) (words_of part) division
+    × (breaks ≡ old ++ breaks_of start division)
+HasLine-end {width} {start} {part} {old} {breaks} {begin} {end} {taken} {left} {line} has none = (
+  grown sizes_of width width (words_of part) [],
+  grown-greedy sizes_of width (width ∷ []) (λ n. line_width-one width (n + 1)) width
+      (line_width-one width 0) (words_of part),
+  search (rules, arith, append-nil),
+)

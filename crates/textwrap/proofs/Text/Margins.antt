@@ -1,104 +1,39 @@
--- What texts begin with together, and the margin of a text.
-use Rattle.textwrap_text.proofs.Common.{◌≡◌, nat_eq, length, eq-eqb, Option, get_or, ⊎_elim, IsUtf8}
-use Rattle.textwrap_text.proofs.Common.{ℕ, ◌+◌, ◌≤◌, ◌∷◌, drop, refl, ap, fold, ◌==◌, None, Some}
-use Rattle.textwrap_text.proofs.Common.{◌++◌, Bool, nat_tests, take-take, unwrap_or, chars-nil}
-use Rattle.textwrap_text.proofs.Common.{take_more, true, false, cond, List, take, arith, rules}
-use Rattle.textwrap_text.proofs.Common.{lines, ne_eqb, [], starts_with_of_eq, starts_with_trans}
-use Rattle.textwrap_text.proofs.Common.{common_prefix_len, All, sym, ◌↔◌, inl, inr, ◌∙◌, Bor, ◌-◌}
-use Rattle.textwrap_text.proofs.Common.{◌<◌, min, zip, StartsWith, All-cons, prefix_len}
-use Rattle.textwrap_text.proofs.Common.{append_assoc, starts_with_length, starts_with_of_append}
-use Rattle.textwrap_text.proofs.Common.{take-append-drop, All-nil, length-prefix_len}
-use Rattle.textwrap_text.proofs.Common.{encode_utf8_all, All-head, All-tail, list_all, take_all}
-use Rattle.textwrap_text.proofs.Common.{drop_all, drop_more, option_map, false≢true, All-weaker}
-use Rattle.textwrap_text.proofs.Common.{append-nil}
-use Rattle.textwrap.proofs.Common.{common_start, common_prefix, narrowed, is_blank_line}
-use Rattle.textwrap.proofs.Common.{leading_whitespace, margin_of}
-use Rattle.textwrap.specs.Refilling.{IsCommonPrefix}
+-- The margin of a text, the parts of a text that are indented, and indents that are put before lines
+-- and taken off again.
+use Rattle.textwrap_text.proofs.Common.{starts_with_length, length-prefix_len, starts_with_of_eq, ℕ}
+use Rattle.textwrap_text.proofs.Common.{starts_with_trans, take-append-drop, encode_utf8_all, arith}
+use Rattle.textwrap_text.proofs.Common.{append_assoc, chars-append, All-append, All-weaker, All-nil}
+use Rattle.textwrap_text.proofs.Common.{StartsWith, append-nil, false≢true, option_map, prefix_len}
+use Rattle.textwrap_text.proofs.Common.{and_parts, and_right, chars-nil, drop_more, take_more, Bool}
+use Rattle.textwrap_text.proofs.Common.{unwrap_or, All-cons, All-head, All-tail, drop_all, flat_map}
+use Rattle.textwrap_text.proofs.Common.{list_all, take_all, drop_at, IsUtf8, Option, eq-eqb, get_or}
+use Rattle.textwrap_text.proofs.Common.{length, ne_eqb, ⊎_elim, false, lines, rules, List, None, []}
+use Rattle.textwrap_text.proofs.Common.{Some, cond, drop, fold, refl, take, true, ◌++◌, ◌==◌, All}
+use Rattle.textwrap_text.proofs.Common.{Bor, inl, inr, map, min, sym, zip, ◌+◌, ◌-◌, ◌<◌, ◌↔◌, ◌∙◌}
+use Rattle.textwrap_text.proofs.Common.{◌∷◌, ◌≡◌, ◌⊎◌, ap}
+use Rattle.textwrap.proofs.Common.{leading_whitespace, is_blank_line, ended_parts, margin_of}
+use Rattle.textwrap.proofs.Common.{narrowed}
 use Rattle.std.proofs.lemmas.Grind.{common_steps}
-use Rattle.std.specs.Str.{chars, skip_leading_whitespace, trim_start}
-use Rattle.textwrap.specs.Indentation.{AreComparable, IsMargin, IsMarginOfLines, IsMarginOf}
-use Rattle.textwrap.specs.Indentation.{margin_of_lines, lines_from_first}
-use Rattle.textwrap_text.proofs.Lists.Parts.{starts-cons, starts-head, starts-tail, nothing-starts}
-use Rattle.textwrap_text.proofs.Lists.Parts.{longest-step}
+use Rattle.std.specs.Str.{drop_trailing_whitespace, skip_leading_whitespace, trim_start, trim_end}
+use Rattle.std.specs.Str.{chars}
+use Rattle.textwrap.specs.Indentation.{lines_from_first, IsMarginOfLines, margin_of_lines, AreEnded}
+use Rattle.textwrap.specs.Indentation.{unindented_part, EndsInLineFeed, indent_of_part, IsMarginOf}
+use Rattle.textwrap.specs.Indentation.{AreComparable, AreEndedParts, HasNoLineFeed, IsMargin}
+use Rattle.textwrap.specs.Indentation.{indented}
+use Rattle.textwrap_text.proofs.Lists.Parts.{nothing-starts, longest-step, starts-cons, starts-head}
+use Rattle.textwrap_text.proofs.Lists.Parts.{starts-tail, nil_after, all-left}
 use Rattle.std.specs.Char.{is_whitespace}
-use Rattle.textwrap_text.proofs.Texts.{white-front, white-leading, IsCut, cut_text, leading-skipped}
-use Rattle.std.proofs.lemmas.Slice.Zip.{length-zip, get_or-zip}
+use Rattle.textwrap_text.proofs.Texts.{leading-skipped, trim_end-front, white-leading, white-front}
+use Rattle.textwrap_text.proofs.Texts.{cut_text, skipped, IsCut}
+use Rattle.std.proofs.lemmas.Slice.Zip.{get_or-zip, length-zip}
 use Rattle.textwrap_text.proofs.Numbers.{either_short}
-
--- ---- what two texts begin with, and what all texts do
-
-abbrev common_len : List ℕ → List ℕ → ℕ
-common_len xs ys = common_prefix_len nat_eq xs ys
-
-take_common-cut : (x y : ℕ) (xs ys : List ℕ) (b : Bool) → nat_eq x y ≡ b
-    → take (common_len xs ys) xs ≡ take (common_len xs ys) ys
-    → take (cond b (1 + common_len xs ys) 0) (x ∷ xs)
-    ≡ take (cond b (1 + common_len xs ys) 0) (y ∷ ys)
-take_common-cut x y xs ys true is same = search (rules, nat_tests)
-take_common-cut x y xs ys false is same = refl
-
-take_common : (xs ys : List ℕ) → take (common_len xs ys) xs ≡ take (common_len xs ys) ys
-take_common [] ys = refl
-take_common (x ∷ xs) [] = refl
-take_common (x ∷ xs) (y ∷ ys) = search (rules, take_common-cut, nat_eq, take_common xs ys)
-
-common_start-right : (xs ys : List ℕ) → StartsWith ys (common_start xs ys)
-common_start-right xs ys = grind (arith, common_steps, take_common xs ys)
-
-common_len-longest : (other xs ys : List ℕ) → StartsWith xs other → StartsWith ys other
-    → length other ≤ common_len xs ys
-common_len-longest [] xs ys left right = omega arith
-common_len-longest (o ∷ os) [] ys left right = cc
-common_len-longest (o ∷ os) (x ∷ xs) [] left right = cc
-common_len-longest (o ∷ os) (x ∷ xs) (y ∷ ys) left right =
-    search (rules, eq-eqb, common_len-longest os xs ys (ap (drop 1) left) (ap (drop 1) right))
-
-common_start-longest : (other xs ys : List ℕ) → StartsWith xs other → StartsWith ys other
-    → StartsWith (common_start xs ys) other
-common_start-longest other xs ys left right = search (rules, take-take, common_len-longest)
-
-fold-begins : (text : List ℕ) (texts : List (List ℕ))
-    → StartsWith text (fold common_start text texts)
-    × All (λ t. StartsWith t (fold common_start text texts)) texts
-fold-begins text [] = search (rules, starts_with_of_eq, All-nil)
-fold-begins text (next ∷ texts) =
-    let n = common_len text next in
-    let start = common_start text next in
-    let whole = fold common_start start texts in
-    let (first, others) = fold-begins start texts in (
-      starts_with_trans text start whole
-          (starts_with_of_append text (take n text) (drop n text) (sym (take-append-drop n text)))
-          first,
-      All-cons (λ t. StartsWith t whole) next texts
-          (starts_with_trans next start whole (common_start-right text next) first) others,
-    )
-
-pub common_prefix-begins : (texts : List (List ℕ))
-    → All (λ t. StartsWith t (common_prefix texts)) texts
-common_prefix-begins [] = All-nil (λ t. StartsWith t [])
-common_prefix-begins (text ∷ texts) = grind (arith, common_steps, fold-begins text texts)
-
-fold-longest : (other text : List ℕ) (texts : List (List ℕ)) → StartsWith text other
-    → All (λ t. StartsWith t other) texts → length other ≤ length (fold common_start text texts)
-fold-longest other text [] first others = starts_with_length text other first
-fold-longest other text (next ∷ texts) first others =
-    fold-longest other (common_start text next) texts
-    (search (rules, common_start-longest, All-head))
-    (All-tail (λ t. StartsWith t other) next texts others)
-
-common_prefix-is : (texts : List (List ℕ)) → IsCommonPrefix texts (common_prefix texts)
-common_prefix-is [] = search (rules, common_prefix-begins)
-common_prefix-is (text ∷ texts) = record {
-  begins = common_prefix-begins (text ∷ texts);
-  longest = λ some other begins. fold-longest other text texts
-      (All-head (λ t. StartsWith t other) text texts begins)
-      (All-tail (λ t. StartsWith t other) text texts begins);
-  none = λ is. cc;
-}
-
-pub common_prefixes_one : (texts : List (List ℕ)) (prefix : List ℕ)
-    → IsCommonPrefix texts prefix ↔ (prefix ≡ common_prefix texts)
-common_prefixes_one texts prefix = grind (arith, common_prefix-is)
+use Rattle.std.proofs.lemmas.List.{append_cancel_left}
+use Rattle.textwrap_text.proofs.TextLines.{ended_parts-front, ended_parts-whole, ended_parts-flat}
+use Rattle.textwrap_text.proofs.TextLines.{by-lines}
+use Rattle.textwrap_text.proofs.Lists.Elements.{dropped-map, flat-map}
+use Rattle.std.proofs.lemmas.List.Folds.{list_all-append}
+use Rattle.std.proofs.lemmas.Str.{scalars-chars}
+use lib.Utf8.{scalars, scalar}
 
 -- ---- a margin and one line, and the later lines
 
@@ -297,3 +232,172 @@ narrowed-done ms ls n all so_far =
     ⊎_elim (search (rules, take_all, drop_all, append-nil))
     (search (rules, drop_all, narrowed-ended, take-append-drop))
     (either_short (length ms) (length ls) n len)
+
+-- ---- the parts of a text that is cut after each line feed: a text has them in one way
+
+ended-more : (part : List ℕ) (parts : List (List ℕ)) → EndsInLineFeed part → AreEnded parts
+    → AreEnded (part ∷ parts)
+ended-more part [] ends all = inl ends
+ended-more part (next ∷ parts) ends all = (ends, all)
+
+AreEnded-ended_parts : (text : List ℕ) → AreEnded (ended_parts text)
+AreEnded-ended_parts = by-lines (λ text. AreEnded (ended_parts text)) tt
+    (λ part lacks some. rw (ended_parts-whole part lacks some) (inr (lacks, some)))
+    (λ front rest lacks all. rw (ended_parts-front front rest lacks)
+    (ended-more (front ++ 10 ∷ []) (ended_parts rest) (front, lacks, refl) all))
+
+ended_parts-of : (parts : List (List ℕ)) → AreEnded parts
+    → ended_parts (flat_map (λ part. part) parts) ≡ parts
+ended_parts-of [] all = refl
+ended_parts-of (part ∷ []) (inl (front, lacks, is)) =
+    rw (append-nil, is) (ended_parts-front front [] lacks)
+ended_parts-of (part ∷ []) (inr (lacks, some)) = search (rules, append-nil, ended_parts-whole)
+ended_parts-of (part ∷ next ∷ parts) ((front, lacks, is), all) =
+    search (rules, append_assoc, ended_parts-front, ended_parts-of (next ∷ parts) all)
+
+pub ended_parts_one : (text : List ℕ) (parts : List (List ℕ))
+    → AreEndedParts text parts ↔ (parts ≡ ended_parts text)
+ended_parts_one text parts = (
+  λ is. sym (ended_parts-of parts is.ended) ∙ ap ended_parts is.joined,
+  λ is. rw is (record { joined = ended_parts-flat text; ended = AreEnded-ended_parts text }),
+)
+
+-- ---- blank lines
+
+pub is_blank_line-trim_start : (text : List ℕ)
+    → (length (trim_start text) == 0) ≡ is_blank_line text
+unfolding trim_start
+is_blank_line-trim_start text = skipped (chars text)
+
+-- ---- indents without line feed leave the cuts where they are
+
+ends-after : (before part : List ℕ) → HasNoLineFeed before → EndsInLineFeed part
+    → EndsInLineFeed (before ++ part)
+ends-after before part free (front, lacks, is) =
+    grind (arith, common_steps, append_assoc before front (10 ∷ []))
+
+AreEnded-map : (indent : List ℕ → List ℕ) → ((part : List ℕ) → HasNoLineFeed (indent part))
+    → (parts : List (List ℕ)) → AreEnded parts
+    → AreEnded (map (λ part. indent part ++ part) parts)
+AreEnded-map indent free [] all = tt
+AreEnded-map indent free (part ∷ []) (inl ends) = search (rules, ends-after)
+AreEnded-map indent free (part ∷ []) (inr (lacks, some)) =
+    search (rules, common_steps, All-append, nil_after)
+AreEnded-map indent free (part ∷ next ∷ parts) (ends, all) =
+    (ends-after (indent part) part (free part) ends, AreEnded-map indent free (next ∷ parts) all)
+
+ended_parts-map : (indent : List ℕ → List ℕ) → ((part : List ℕ) → HasNoLineFeed (indent part))
+    → (text : List ℕ) → ended_parts (flat_map (λ part. indent part ++ part) (ended_parts text))
+    ≡ map (λ part. indent part ++ part) (ended_parts text)
+ended_parts-map indent free text =
+    search (rules, flat-map, ended_parts-of, AreEnded-map, AreEnded-ended_parts)
+
+indent-free : (prefix part : List ℕ) → IsUtf8 prefix → HasNoLineFeed prefix
+    → HasNoLineFeed (indent_of_part prefix part)
+indent-free prefix part utf8 free =
+    let (more, is) = trim_end-front prefix utf8 in
+    search (rules, common_steps, all-left)
+
+pub ended_parts-indented : (prefix text : List ℕ) → IsUtf8 prefix → HasNoLineFeed prefix
+    → ended_parts (indented prefix text)
+    ≡ map (λ part. indent_of_part prefix part ++ part) (ended_parts text)
+ended_parts-indented prefix text utf8 free = simp (ended_parts-map, indent-free)
+
+-- ---- the whole prefix before each part
+
+whole-map : (prefix : List ℕ) (parts : List (List ℕ))
+    → (trim_end prefix ≡ prefix) ⊎ All (λ part. is_blank_line part ≡ false) parts
+    → map (λ part. indent_of_part prefix part ++ part) parts ≡ map (λ part. prefix ++ part) parts
+whole-map prefix [] whole = refl
+whole-map prefix (part ∷ parts) (inl bare) = search (rules, whole-map prefix parts (inl bare))
+whole-map prefix (part ∷ parts) (inr full) =
+    rw (
+      All-head (λ p. is_blank_line p ≡ false) part parts full,
+      whole-map prefix parts (inr (All-tail (λ p. is_blank_line p ≡ false) part parts full)),
+    )
+
+pub indented-whole : (prefix text : List ℕ)
+    → (trim_end prefix ≡ prefix) ⊎ All (λ part. is_blank_line part ≡ false) (ended_parts text)
+    → indented prefix text ≡ flat_map (λ part. prefix ++ part) (ended_parts text)
+indented-whole prefix text whole =
+    search (rules, arith, flat-map, whole-map prefix (ended_parts text) whole)
+
+pub indents-removed : (prefix text : List ℕ) → HasNoLineFeed prefix
+    → (trim_end prefix ≡ prefix) ⊎ All (λ part. is_blank_line part ≡ false) (ended_parts text)
+    → map (drop (length prefix)) (ended_parts (indented prefix text)) ≡ ended_parts text
+indents-removed prefix text free whole = simp (indented-whole, ended_parts-map, dropped-map)
+
+pub text-removed : (prefix text : List ℕ) → HasNoLineFeed prefix
+    → (trim_end prefix ≡ prefix) ⊎ All (λ part. is_blank_line part ≡ false) (ended_parts text)
+    → flat_map (drop (length prefix)) (ended_parts (indented prefix text)) ≡ text
+text-removed prefix text free whole =
+    sym (flat-map (drop (length prefix)) (ended_parts (indented prefix text)))
+    ∙ ap (flat_map (λ part. part)) (indents-removed prefix text free whole)
+    ∙ ended_parts-flat text
+
+-- ---- the parts of an indented text come back when each loses what was put before it
+
+trimmed-scalars : (cs : List ℕ) → scalars cs ≡ true → scalars (drop_trailing_whitespace cs) ≡ true
+trimmed-scalars [] are = refl
+trimmed-scalars (c ∷ cs) are =
+    let (here, rest) = and_parts (scalar c) (scalars cs) are in
+    search (rules, arith, trimmed-scalars cs rest)
+
+trim_end-utf8 : (text : List ℕ) → IsUtf8 text → IsUtf8 (trim_end text)
+unfolding trim_end
+trim_end-utf8 text utf8 = (
+  drop_trailing_whitespace (chars text),
+  (trimmed-scalars (chars text) (scalars-chars text utf8), refl),
+)
+
+module _ (prefix : List ℕ) (utf8 : IsUtf8 prefix) where
+  abbrev trimmed : List ℕ
+  trimmed = trim_end prefix
+
+  -- what the prefix has after its own text leaves a part that is not blank as it is
+  not_blank : (more part : List ℕ) → prefix ≡ trimmed ++ more → is_blank_line part ≡ false
+      → is_blank_line (more ++ part) ≡ false
+  not_blank more part is some =
+      let front = trim_end-utf8 prefix utf8 in
+      let apart : chars (more ++ part) ≡ chars more ++ chars part =
+      append_cancel_left (chars trimmed) (chars (more ++ part)) (chars more ++ chars part)
+      (sym (chars-append trimmed (more ++ part) front)
+      ∙ ap chars (sym (append_assoc trimmed more part) ∙ ap (λ l. l ++ part) (sym is))
+      ∙ chars-append prefix part utf8
+      ∙ ap (λ l. l ++ chars part) (ap chars is ∙ chars-append trimmed more front)
+      ∙ append_assoc (chars trimmed) (chars more) (chars part)) in
+      ap (list_all is_whitespace) apart
+      ∙ list_all-append is_whitespace (chars more) (chars part)
+      ∙ and_right (list_all is_whitespace (chars more)) (is_blank_line part) some
+
+  part-back : (part : List ℕ)
+      → unindented_part prefix (indent_of_part prefix part ++ part) ≡ part
+  part-back part = by_case (is_blank_line part) refl
+    where
+      by_case : (b : Bool) → is_blank_line part ≡ b
+          → unindented_part prefix (cond b trimmed prefix ++ part) ≡ part
+      by_case true blank = rw (drop_at trimmed part (length trimmed) refl, blank) refl
+      by_case false some =
+          let (more, is) = trim_end-front prefix utf8 in
+          let rest : drop (length trimmed) (prefix ++ part) ≡ more ++ part =
+          ap (λ l. drop (length trimmed) (l ++ part)) is
+          ∙ ap (drop (length trimmed)) (append_assoc trimmed more part)
+          ∙ drop_at trimmed (more ++ part) (length trimmed) refl in
+          ap (λ l. cond (is_blank_line l) l (drop (length prefix) (prefix ++ part))) rest
+          ∙ ap (λ b. cond b (more ++ part) (drop (length prefix) (prefix ++ part)))
+          (not_blank more part is some)
+          ∙ drop_at prefix part (length prefix) refl
+
+  parts-back : (parts : List (List ℕ))
+      → map (unindented_part prefix) (map (λ part. indent_of_part prefix part ++ part) parts)
+      ≡ parts
+  parts-back [] = refl
+  parts-back (part ∷ parts) = rw (part-back part, parts-back parts) refl
+
+  pub indents-back : (text : List ℕ) → HasNoLineFeed prefix
+      → (map (unindented_part prefix) (ended_parts (indented prefix text)) ≡ ended_parts text)
+      × (flat_map (unindented_part prefix) (ended_parts (indented prefix text)) ≡ text)
+  indents-back text free =
+      let parts = ap (map (unindented_part prefix)) (ended_parts-indented prefix text utf8 free)
+      ∙ parts-back (ended_parts text) in
+      search (rules, arith, flat-map, ended_parts-flat)

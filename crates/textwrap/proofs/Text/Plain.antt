@@ -1,18 +1,17 @@
 -- Plain lines: their parts between blanks, their endings, and their text, unfilled.
-use Rattle.textwrap_text.proofs.Common.{◌≡◌, ◌≢◌, ℕ, ◌+◌, ◌-◌, ◌<◌, ◌==◌, cond, List, [], ◌∷◌, ◌++◌}
-use Rattle.textwrap_text.proofs.Common.{All, length, refl, sym, ap, ◌∙◌, subst, arith, append_assoc}
-use Rattle.textwrap_text.proofs.Common.{length-append, prefix_len, ne_eqb, take_all, length-take}
-use Rattle.textwrap_text.proofs.Common.{map-append, All-nil, rules, All-cons, All-head, All-tail}
-use Rattle.textwrap_text.proofs.Common.{All-append, All-weaker, last, get_or, drop, false, take}
-use Rattle.textwrap_text.proofs.Common.{filter, lines, lt-ltb, true, nat_eq, take-append-drop}
-use Rattle.textwrap_text.proofs.Common.{ends_with, blank, trimmed_len, without_final_blanks}
-use Rattle.textwrap_text.proofs.Common.{line_feed, ending_bytes}
-use Rattle.textwrap.proofs.Common.{is_prefix_character, line_prefix, IsPlainByte, IsPlainWord}
-use Rattle.textwrap.proofs.Common.{IsPlainLine, blanked, EndedLine, nonempty_lines}
-use Rattle.textwrap.proofs.Common.{keeps_ending}
+use Rattle.textwrap_text.proofs.Common.{without_final_blanks, take-append-drop, length-append, List}
+use Rattle.textwrap_text.proofs.Common.{append_assoc, ending_bytes, length-take, trimmed_len, arith}
+use Rattle.textwrap_text.proofs.Common.{All-append, All-weaker, map-append, prefix_len, ends_with}
+use Rattle.textwrap_text.proofs.Common.{line_feed, All-cons, All-head, All-tail, take_all, All-nil}
+use Rattle.textwrap_text.proofs.Common.{filter, get_or, length, lt-ltb, nat_eq, ne_eqb, blank, cond}
+use Rattle.textwrap_text.proofs.Common.{false, lines, rules, subst, drop, last, refl, take, true, ℕ}
+use Rattle.textwrap_text.proofs.Common.{◌++◌, ◌==◌, All, sym, ◌+◌, ◌-◌, ◌<◌, ◌∙◌, ◌∷◌, ◌≡◌, ◌≢◌, []}
+use Rattle.textwrap_text.proofs.Common.{ap}
+use Rattle.textwrap.proofs.Common.{is_prefix_character, nonempty_lines, keeps_ending, IsPlainByte}
+use Rattle.textwrap.proofs.Common.{IsPlainLine, IsPlainWord, line_prefix, EndedLine, blanked}
 use Rattle.std.proofs.lemmas.List.Elements.{All-get_or}
 use Rattle.std.proofs.lemmas.List.Folds.{map_fixed}
-use Rattle.textwrap_text.proofs.Lists.Parts.{some_from_nonempty, all-right, last-append}
+use Rattle.textwrap_text.proofs.Lists.Parts.{some_from_nonempty, last-append, all-right}
 use Rattle.textwrap_words.proofs.Word.Texts.{trimmed-past}
 use Rattle.textwrap.proofs.Text.InPlace.{blank_joined, feed_joined}
 use Rattle.std.specs.Str.Lines.{strip_carriage_return}

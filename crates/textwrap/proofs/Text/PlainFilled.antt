@@ -1,320 +1,143 @@
--- Plain lines under indents, and plain texts that are filled with whole words.
-use Rattle.textwrap_text.proofs.Common.{◌≡◌, ◌≢◌, ℕ, suc, ◌+◌, true, false, nat_eq, List, [], ◌∷◌}
-use Rattle.textwrap_text.proofs.Common.{◌++◌, All, length, map, refl, ap, ◌∙◌, arith}
-use Rattle.textwrap_text.proofs.Common.{common_prefix_len, eq-eqb, fold, drop_at, All-nil, All-cons}
-use Rattle.textwrap_text.proofs.Common.{All-head, All-tail, All-weaker, cond, lines, ◌<◌, Bool, sym}
-use Rattle.textwrap_text.proofs.Common.{MatchBool, subst, append-nil, rules, All-map, append_assoc}
-use Rattle.textwrap_text.proofs.Common.{line_feed, without_final_blanks, chunks}
+-- Plain texts: their lines under indents, what unfilling finds, and plain texts that are filled with
+-- whole words, unfilled and filled again.
+use Rattle.textwrap_text.proofs.Common.{without_final_blanks, starts_with_of_eq, append_assoc, Bool}
+use Rattle.textwrap_text.proofs.Common.{All-weaker, append-nil, MatchBool, line_feed, All-cons, All}
+use Rattle.textwrap_text.proofs.Common.{All-head, All-tail, take_all, All-nil, drop_at, chunks, map}
+use Rattle.textwrap_text.proofs.Common.{length, arith, false, lines, rules, subst, List, cond, drop}
+use Rattle.textwrap_text.proofs.Common.{fold, refl, true, ◌++◌, suc, sym, ◌↔◌, ◌∙◌, ◌∷◌, ◌≡◌, ◌≢◌}
+use Rattle.textwrap_text.proofs.Common.{◌≤◌, [], ap, ℕ}
 use Rattle.textwrap_base.proofs.Common.{IsDivision, Sizes}
-use Rattle.textwrap_text.proofs.Lists.Elements.{dropped-map}
-use Rattle.textwrap_layout.proofs.Common.{LineParts, line_bytes, line_from, parts_of, parts_from}
-use Rattle.textwrap_layout.proofs.Common.{Settings, covered, indent_of, is_whole, widths_of}
-use Rattle.textwrap_layout.proofs.Common.{DividesAs, AreParagraphParts, AreGroups}
-use Rattle.textwrap.proofs.Common.{is_prefix_character, line_prefix, IsPlainLine, common_start}
-use Rattle.textwrap.proofs.Common.{unfilled_initial, unfilled_subsequent, IsIndent, keeps_ending}
-use Rattle.textwrap.proofs.Common.{joined_text, broken_lines, IsFilledWhole, KeepsWords, IsPlain}
-use Rattle.textwrap.proofs.Text.Plain.{lines-rows, texts-rows, IsRow, row-append, solid, keeps-rows}
-use Rattle.textwrap.proofs.Text.Plain.{unblank-row, plain_parts}
+use Rattle.textwrap_layout.proofs.Common.{AreParagraphParts, line_bytes, parts_from, AreGroups}
+use Rattle.textwrap_layout.proofs.Common.{DividesAs, LineParts, indent_of, line_from, widths_of}
+use Rattle.textwrap_layout.proofs.Common.{IsFilled, Settings, is_whole, parts_of, covered}
+use Rattle.textwrap.proofs.Common.{is_prefix_character, unfilled_subsequent, unfilled_initial}
+use Rattle.textwrap.proofs.Common.{IsFilledWhole, common_prefix, broken_lines, common_start}
+use Rattle.textwrap.proofs.Common.{keeps_ending, IsPlainLine, joined_text, line_prefix, KeepsWords}
+use Rattle.textwrap.proofs.Common.{IsIndent, IsPlain, blanked}
+use Rattle.textwrap.proofs.Text.Plain.{blanked-joined, plain_parts, unblank-row, keeps-rows, IsRow}
+use Rattle.textwrap.proofs.Text.Plain.{lines-rows, row-append, texts-rows, solid}
 use Rattle.std.proofs.lemmas.List.Sums.{take_while-cons}
-use Rattle.textwrap.specs.Refilling.{without_indents}
-use Rattle.textwrap.proofs.Text.InPlace.{blank_joined, feed_joined, tiled-broken, all_broken-some}
-use Rattle.textwrap_words.proofs.Common.{WordText, tiled, AreWordsOf, sizes_of, word_of, words_of}
-use Rattle.textwrap_words.proofs.Common.{Algorithm, Greedy, LeastCost, IsDividedBy, Whole}
-use Rattle.textwrap_text.specs.declared.line_ending.LineEnding.TheVariants.{LF}
-use Rattle.textwrap_layout.proofs.Paragraph.LeftOff.{assembled-parts, bytes-assembled}
-use Rattle.textwrap_layout.proofs.Paragraph.LeftOff.{line_from-whole, whole_unindented}
-use Rattle.textwrap_layout.proofs.Paragraph.Covered.{apart_from, shortened, AreLinesApart}
-use Rattle.textwrap.proofs.Text.InPlaceLines.{covered-words, words-no_penalty}
-use Rattle.textwrap.proofs.Text.InPlaceLines.{without_final_blanks-push}
-use Rattle.textwrap_text.proofs.Lists.Parts.{flat, all-right}
+use Rattle.textwrap.specs.Refilling.{with_indents_of, added_ending, IsRefilled}
+use Rattle.textwrap.proofs.Text.InPlace.{blank_joined, tiled-broken, feed_joined}
+use Rattle.textwrap_words.proofs.Common.{IsDividedBy, AreWordsOf, Algorithm, LeastCost, Splitter}
+use Rattle.textwrap_words.proofs.Common.{WordText, sizes_of, words_of, word_of, Greedy, Whole}
+use Rattle.textwrap_words.proofs.Common.{tiled}
+use Rattle.textwrap_layout.proofs.Paragraph.LeftOff.{whole_unindented, assembled-parts}
+use Rattle.textwrap_layout.proofs.Paragraph.LeftOff.{bytes-assembled, line_from-whole}
+use Rattle.textwrap_layout.proofs.Paragraph.Covered.{AreLinesApart, apart_from, shortened}
+use Rattle.textwrap.proofs.Text.InPlaceLines.{without_final_blanks-push, words-no_penalty}
+use Rattle.textwrap.proofs.Text.InPlaceLines.{covered-words}
+use Rattle.textwrap_text.proofs.Lists.Parts.{all-right, flat}
 use Rattle.textwrap_words.proofs.Word.Words.{tiled-words_of, words_unique}
 use Rattle.textwrap_layout.proofs.Paragraph.Pieces.{ArePieces-is}
 use Rattle.textwrap_lines.proofs.PrintableTexts.Bytes.{split-whole}
 use Rattle.textwrap_layout.proofs.Text.Paragraphs.{one-paragraph}
 use Rattle.std.proofs.lemmas.List.Folds.{map_fixed}
+use Rattle.textwrap.specs.Laws.{with_indents_as, IsIndentedFill, IsUnindented}
+use Rattle.textwrap.proofs.Text.Unfilling.{common_len-longest}
 
 -- ---- a line and its indent
 
-pub feedless : (indent : List ℕ) → IsIndent indent → All (λ c. c ≢ line_feed) indent
-feedless indent is = grind (arith, All-weaker)
-
-pub prefix-indented : (indent line : List ℕ) → IsIndent indent → line_prefix line ≡ []
+prefix-indented : (indent line : List ℕ) → IsIndent indent → line_prefix line ≡ []
     → line_prefix (indent ++ line) ≡ indent
 prefix-indented [] line is none = none
-prefix-indented (c ∷ indent) line is none =
-    take_while-cons is_prefix_character c (indent ++ line)
-    ∙ ap (λ b. cond b (c ∷ line_prefix (indent ++ line)) [])
-    (All-head (λ c. is_prefix_character c ≡ true) c indent is)
-    ∙ ap (λ l. c ∷ l)
-    (prefix-indented indent line (All-tail (λ c. is_prefix_character c ≡ true) c indent is) none)
-
--- what lines have in common that all have this indent
-common_start-same : (text : List ℕ) → common_start text text ≡ text
-common_start-same [] = refl
-common_start-same (c ∷ text) =
-    let len = common_prefix_len nat_eq text text in
-    let more : 1 + len ≡ suc len = omega arith in
-    rw (eq-eqb c c refl, more, common_start-same text)
-
-module _ (indent : List ℕ) (is : IsIndent indent) where
-  row-indented : (line : List ℕ) → IsPlainLine line → IsRow (indent ++ line)
-  row-indented line plain = row-append indent line (feedless indent is) (solid line plain).row
-
-  rows-indented : (parts : List (List ℕ)) → All IsPlainLine parts
-      → All IsRow (map (λ l. indent ++ l) parts)
-  rows-indented parts plain =
-      All-map IsRow (λ l. indent ++ l) parts
-      (All-weaker IsPlainLine (λ l. IsRow (indent ++ l)) row-indented parts plain)
-
-  line-indent : (line : List ℕ) → IsPlainLine line → line_prefix (indent ++ line) ≡ indent
-  line-indent line plain = prefix-indented indent line is (solid line plain).begins
-
-  common-indented : (parts : List (List ℕ)) → All IsPlainLine parts
-      → fold common_start indent (map line_prefix (map (λ l. indent ++ l) parts)) ≡ indent
-  common-indented [] plain = refl
-  common-indented (line ∷ parts) plain =
-      rw (line-indent line (All-head IsPlainLine line parts plain), common_start-same indent)
-      (common-indented parts (All-tail IsPlainLine line parts plain))
-
--- ---- the lines of a text
+prefix-indented (c ∷ indent) line is none = rw (
+  take_while-cons is_prefix_character c (indent ++ line),
+  All-head (λ c. is_prefix_character c ≡ true) c indent is,
+  prefix-indented indent line (All-tail (λ c. is_prefix_character c ≡ true) c indent is) none,
+) refl
 
 -- the first line with one indent, each other with the other
 abbrev pub indented_rows : List ℕ → List ℕ → List (List ℕ) → List (List ℕ)
 indented_rows initial subsequent [] = []
 indented_rows initial subsequent (line ∷ parts) =
-    (initial ++ line) ∷ map (λ l. subsequent ++ l) parts
+    (initial ++ line) ∷ indented_rows subsequent subsequent parts
 
-module _ (initial subsequent : List ℕ) (first : IsIndent initial) (later : IsIndent subsequent)
-  where
-    abbrev text_of : List (List ℕ) → List ℕ
-    text_of parts = feed_joined (indented_rows initial subsequent parts)
+are_rows : (initial subsequent : List ℕ) (parts : List (List ℕ)) → IsIndent initial
+    → IsIndent subsequent → All IsPlainLine parts
+    → All IsRow (indented_rows initial subsequent parts)
+are_rows initial subsequent [] first later plain = All-nil IsRow
+are_rows initial subsequent (line ∷ parts) first later plain =
+    All-cons IsRow (initial ++ line) (indented_rows subsequent subsequent parts)
+    (row-append initial line (grind (arith, All-weaker))
+    (solid line (All-head IsPlainLine line parts plain)).row)
+    (are_rows subsequent subsequent parts later later (All-tail IsPlainLine line parts plain))
 
-    pub are_rows : (parts : List (List ℕ)) → All IsPlainLine parts
-        → All IsRow (indented_rows initial subsequent parts)
-    are_rows [] plain = All-nil IsRow
-    are_rows (line ∷ parts) plain =
-        All-cons IsRow (initial ++ line) (map (λ l. subsequent ++ l) parts)
-        (row-indented initial first line (All-head IsPlainLine line parts plain))
-        (rows-indented subsequent later parts (All-tail IsPlainLine line parts plain))
+module _ (indent : List ℕ) (is : IsIndent indent) where
+  line-indent : (line : List ℕ) → IsPlainLine line → line_prefix (indent ++ line) ≡ indent
+  line-indent line plain = prefix-indented indent line is (solid line plain).begins
 
-    pub initial-found : (line : List ℕ) (parts : List (List ℕ)) → All IsPlainLine (line ∷ parts)
-        → unfilled_initial (text_of (line ∷ parts)) ≡ initial
-    initial-found line parts plain =
-        rw (lines-rows (indented_rows initial subsequent (line ∷ parts)) (are_rows (line ∷ parts) plain))
-        (line-indent initial first line (All-head IsPlainLine line parts plain))
+  common-indented : (parts : List (List ℕ)) → All IsPlainLine parts
+      → fold common_start indent (map line_prefix (indented_rows indent indent parts)) ≡ indent
+  common-indented [] plain = refl
+  common-indented (line ∷ parts) plain =
+      let same : common_start indent indent ≡ indent =
+      search (rules, take_all, common_len-longest, starts_with_of_eq) in
+      rw (line-indent line (All-head IsPlainLine line parts plain), same)
+      (common-indented parts (All-tail IsPlainLine line parts plain))
 
-    pub subsequent-found : (line next : List ℕ) (parts : List (List ℕ))
-        → All IsPlainLine (line ∷ next ∷ parts)
-        → unfilled_subsequent (text_of (line ∷ next ∷ parts)) ≡ subsequent
-    subsequent-found line next parts plain =
-        let rest = All-tail IsPlainLine line (next ∷ parts) plain in
-        rw (
-          lines-rows (indented_rows initial subsequent (line ∷ next ∷ parts))
-              (are_rows (line ∷ next ∷ parts) plain),
-          line-indent subsequent later next (All-head IsPlainLine next parts rest),
-        ) (common-indented subsequent later parts (All-tail IsPlainLine next parts rest))
+  -- what lines have in common that all have this indent
+  common-rows : (parts : List (List ℕ)) → All IsPlainLine parts
+      → (length parts ≡ 0 → indent ≡ [])
+      → common_prefix (map line_prefix (indented_rows indent indent parts)) ≡ indent
+  common-rows [] plain none = sym (none refl)
+  common-rows (line ∷ parts) plain none =
+      rw (line-indent line (All-head IsPlainLine line parts plain))
+      (common-indented parts (All-tail IsPlainLine line parts plain))
 
-    without-indented : (line : List ℕ) (parts : List (List ℕ))
-        → without_indents initial subsequent (indented_rows initial subsequent (line ∷ parts))
-        ≡ line ∷ parts
-    without-indented line parts =
-        rw (drop_at initial line (length initial) refl, dropped-map subsequent parts) refl
+  bare-rows : (parts : List (List ℕ))
+      → map (drop (length indent)) (indented_rows indent indent parts) ≡ parts
+  bare-rows [] = refl
+  bare-rows (line ∷ parts) = rw (drop_at indent line (length indent) refl, bare-rows parts) refl
 
-    -- the lines, joined again: the later indent is found if there are later lines
-    pub joined-again : (parts : List (List ℕ)) → All IsPlainLine parts
-        → joined_text (text_of parts) ≡ blank_joined parts
-    joined-again [] plain = refl
-    joined-again (line ∷ []) plain =
-        rw (
-          initial-found line [] plain,
-          texts-rows (indented_rows initial subsequent (line ∷ [])) (are_rows (line ∷ []) plain),
-        ) (drop_at initial line (length initial) refl)
-    joined-again (line ∷ next ∷ parts) plain =
-        rw (
-          initial-found line (next ∷ parts) plain,
-          subsequent-found line next parts plain,
-          texts-rows (indented_rows initial subsequent (line ∷ next ∷ parts))
-              (are_rows (line ∷ next ∷ parts) plain),
-        ) (ap blank_joined (without-indented line (next ∷ parts)))
+-- ---- what unfilling finds
 
-    pub keeps-none : (parts : List (List ℕ)) → All IsPlainLine parts
-        → keeps_ending (text_of parts) ≡ false
-    keeps-none parts plain =
-        keeps-rows (indented_rows initial subsequent parts) (are_rows parts plain)
+-- the indents that it finds, and the joined text
+pub record IsUnfilledAs (initial subsequent joined text : List ℕ) : Type 0 where
+  pub initial_is : unfilled_initial text ≡ initial
+  pub subsequent_is : unfilled_subsequent text ≡ subsequent
+  pub joined_is : joined_text text ≡ joined
+  pub keeps : keeps_ending text ≡ false
 
-    pub lines-are : (parts : List (List ℕ)) → All IsPlainLine parts
-        → lines (text_of parts) ≡ indented_rows initial subsequent parts
-    lines-are parts plain =
-        lines-rows (indented_rows initial subsequent parts) (are_rows parts plain)
+-- the indents of plain lines, if there are lines that show them
+unfilled-rows : (initial subsequent joined text : List ℕ) (parts : List (List ℕ))
+    → IsIndent initial → IsIndent subsequent → All IsPlainLine parts
+    → joined ≡ blank_joined parts → text ≡ feed_joined (indented_rows initial subsequent parts)
+    → (length parts ≡ 0 → initial ≡ []) → (length parts ≤ 1 → subsequent ≡ [])
+    → IsUnfilledAs initial subsequent joined text
+unfilled-rows initial subsequent joined text [] first later plain is given some more =
+    rw (is, given, some refl, more (omega arith))
+    (record { initial_is = refl; subsequent_is = refl; joined_is = refl; keeps = refl })
+unfilled-rows initial subsequent joined text (line ∷ parts) first later plain is given some more =
+    let rows = indented_rows initial subsequent (line ∷ parts) in
+    let are = are_rows initial subsequent (line ∷ parts) first later plain in
+    let begins : unfilled_initial (feed_joined rows) ≡ initial =
+    rw (lines-rows rows are)
+    (line-indent initial first line (All-head IsPlainLine line parts plain)) in
+    let goes_on : unfilled_subsequent (feed_joined rows) ≡ subsequent =
+    rw (lines-rows rows are)
+    (common-rows subsequent later parts (All-tail IsPlainLine line parts plain)
+    (λ none. more (omega (arith, none)))) in
+    rw (is, given) (record {
+      initial_is = begins;
+      subsequent_is = goes_on;
+      joined_is = rw (begins, goes_on, texts-rows rows are) (rw (
+        drop_at initial line (length initial) refl,
+        bare-rows subsequent later parts,
+      ) refl);
+      keeps = keeps-rows rows are;
+    })
 
--- ---- the lines of words that are kept whole: what their bytes are, and the text that they were
--- cut from
+unindented_rows : (lines : List (List ℕ)) → indented_rows [] [] lines ≡ lines
+unindented_rows [] = refl
+unindented_rows (line ∷ lines) = ap (λ ls. line ∷ ls) (unindented_rows lines)
 
--- the old text is these parts with a blank between each two, and the new one is the same parts
--- without the blanks at their ends and under indents, with a line feed between each two
-pub record IsCutAtBlanks (initial subsequent text filled : List ℕ) : Type 0 where
-  pub parts : List (List ℕ)
-  pub some : 0 < length parts
-  pub text_is : text ≡ blank_joined parts
-  pub filled_is : filled
-      ≡ feed_joined (indented_rows initial subsequent (map without_final_blanks parts))
-
--- settings that keep words whole, by what else they say
-abbrev pub whole_words : List ℕ → List ℕ → Bool → ℕ → Settings
-whole_words initial subsequent even width = record {
-  width = width;
-  line_ending = LF;
-  initial_indent = initial;
-  subsequent_indent = subsequent;
-  break_words = false;
-  preserve_trailing_space = false;
-  even_paragraphs = even;
-}
-
--- the bytes of lines with these parts
-abbrev pub bytes_of : List LineParts → List (List ℕ)
-bytes_of parts = map line_bytes (map line_from parts)
-
-division-by : {X : Type 0} (algorithm : Algorithm) (sizes : X → Sizes) (widths : List ℕ)
-    (xs : List X) (lines : List (List X)) → IsDividedBy algorithm sizes widths xs lines
-    → IsDivision xs lines
-division-by Greedy sizes widths xs lines divided = divided.admissible.division
-division-by (LeastCost penalties) sizes widths xs lines divided = divided.by_table.division
-
-module _ (initial subsequent : List ℕ) (even : Bool) (width : ℕ) where
-  abbrev settings : Settings
-  settings = whole_words initial subsequent even width
-
-  bytes-line : (is_later : Bool) (line : List WordText) → AreWordsOf (tiled line) line
-      → line ≢ [] → line_bytes (line_from (parts_of settings is_later line))
-      ≡ indent_of settings is_later ++ without_final_blanks (tiled line)
-  bytes-line is_later [] words some = absurd (some refl)
-  bytes-line is_later (w ∷ ws) words some =
-      let indent = indent_of settings is_later in
-      ap line_bytes (sym (assembled-parts settings is_later w ws (words-no_penalty (w ∷ ws) words)))
-      ∙ bytes-assembled indent (covered (w ∷ ws))
-      ∙ ap (λ l. indent ++ l) (covered-words (w ∷ ws) words)
-
-  rows-same : (rows : List (List ℕ))
-      → indented_rows subsequent subsequent rows ≡ map (λ r. subsequent ++ r) rows
-  rows-same [] = refl
-  rows-same (row ∷ rows) = refl
-
-  bytes-broken : (is_later : Bool) (line : List WordText) (lines : List (List WordText))
-      → All (λ l. l ≢ []) (line ∷ lines) → AreLinesApart (line ∷ lines)
-      → bytes_of (parts_from settings is_later (line ∷ lines))
-      ≡ indented_rows (indent_of settings is_later) subsequent
-      (map without_final_blanks (broken_lines (line ∷ lines)))
-  bytes-broken is_later line [] some words =
-      ap (λ l. l ∷ []) (bytes-line is_later line words (All-head (λ l. l ≢ []) line [] some))
-  bytes-broken is_later line (next ∷ lines) some (words, ending, apart) =
-      let indent = indent_of settings is_later in
-      let here = bytes-line is_later line words (All-head (λ l. l ≢ []) line (next ∷ lines) some)
-      ∙ ap (λ l. indent ++ l) (ap without_final_blanks ending
-      ∙ without_final_blanks-push (shortened (tiled line))) in
-      let rest = bytes-broken true next lines (All-tail (λ l. l ≢ []) line (next ∷ lines) some)
-      apart ∙ rows-same (map without_final_blanks (broken_lines (next ∷ lines))) in
-      ap (λ l. l ∷ bytes_of (parts_from settings true (next ∷ lines))) here
-      ∙ ap (λ ls. (indent ++ without_final_blanks (shortened (tiled line))) ∷ ls) rest
-
-  -- the text of the lines of a division
-  abbrev pub filled_of : List (List WordText) → List ℕ
-  filled_of division = feed_joined (bytes_of (parts_from settings false division))
-
-  pub cut-words : (words : List WordText) (lines : List (List WordText)) → IsDivision words lines
-      → AreWordsOf (tiled words) words → words ≢ []
-      → IsCutAtBlanks initial subsequent (tiled words) (filled_of lines)
-  cut-words [] lines division are some = absurd (some refl)
-  cut-words (w ∷ ws) [] division are some = absurd (omega (arith, ap length division.0))
-  cut-words (w ∷ ws) (line ∷ lines) division are some =
-      let apart = apart_from (w ∷ ws) (line ∷ lines) division are in
-      record {
-        parts = broken_lines (line ∷ lines);
-        some = all_broken-some (line ∷ lines) (omega arith);
-        text_is = ap tiled (sym division.0)
-            ∙ tiled-broken (line ∷ lines) (omega arith) apart;
-        filled_is = ap feed_joined (bytes-broken false line lines division.1 apart);
-      }
-
-  -- ---- a text without line feeds is cut at blanks where it is filled with whole words
-
-  module _ (algorithm : Algorithm) (text : List ℕ) where
-    abbrev Divides : Bool → List ℕ → List (List WordText) → Type 0
-    Divides = DividesAs Whole algorithm settings
-
-    -- what holds of a whole paragraph without its final blanks, if there is no initial indent, and
-    -- of the words of the text, divided, holds of the filled text
-    filled-cases : (Holds : List ℕ → Type 0)
-        → (initial ≡ [] → Holds (without_final_blanks text))
-        → ((division : List (List WordText)) → IsDivision (words_of text) division
-        → Holds (filled_of division))
-        → (filled : List ℕ) → All (λ c. c ≢ line_feed) text
-        → IsFilledWhole settings algorithm text filled → Holds filled
-    filled-cases Holds whole divided filled none (lines, are, is) =
-        rw (is, are.given) (by_groups are.groups (rw (one-paragraph LF text none) at are.defined))
-      where
-        by_case : (division : List (List WordText)) (b : Bool)
-            → is_whole settings false text ≡ b
-            → MatchBool b (division ≡ (word_of text ∷ []) ∷ []) (Divides false text division)
-            → Holds (filled_of division)
-        by_case division true is_one is =
-            subst (λ d. Holds (filled_of d)) (sym is)
-            (subst Holds (sym (ap line_bytes (line_from-whole settings false text is_one)))
-            (whole (whole_unindented settings false text is_one)))
-        by_case division false longer (pieces, are, lines) =
-            divided division
-            (subst (λ ws. IsDivision ws division)
-            (ArePieces-is settings Whole text pieces are ∙ split-whole (chunks text))
-            (division-by algorithm sizes_of (widths_of settings false) pieces division lines))
-
-        by_groups : (groups : List (List LineParts))
-            → AreGroups (AreParagraphParts settings Divides) false (text ∷ []) groups
-            → Holds (feed_joined (bytes_of (flat groups)))
-        by_groups [] are = absurd are
-        by_groups (parts ∷ groups) ((division, laid_out, is), none) =
-            rw (none, append-nil, is)
-            (by_case division (is_whole settings false text) refl laid_out)
-
-    cut-computed : (filled : List ℕ) → text ≢ [] → All (λ c. c ≢ line_feed) text
-        → IsFilledWhole settings algorithm text filled
-        → IsCutAtBlanks initial subsequent text filled
-    cut-computed filled some =
-        filled-cases (IsCutAtBlanks initial subsequent text)
-        (λ none. record {
-          parts = text ∷ [];
-          some = omega arith;
-          text_is = refl;
-          filled_is = ap (λ i. i ++ without_final_blanks text) (sym none);
-        })
-        (λ division divided. subst (λ t. IsCutAtBlanks initial subsequent t (filled_of division))
-        (tiled-words_of text)
-        (cut-words (words_of text) division divided
-        (rw (tiled-words_of text) ((words_unique text (words_of text)).1 refl))
-        (λ none. some (sym (tiled-words_of text) ∙ ap tiled none))))
-        filled
-
--- such settings are known from four of their fields
-settings-are : (s : Settings) → KeepsWords s
-    → s ≡ whole_words s.initial_indent s.subsequent_indent s.even_paragraphs s.width
-settings-are s keeps = rw (keeps.unbroken, keeps.trimmed, keeps.feeds)
-
-module _ (s : Settings) (algorithm : Algorithm) (filled : List ℕ) (keeps : KeepsWords s) where
-  pub cut-filled : (text : List ℕ) → text ≢ [] → All (λ c. c ≢ line_feed) text
-      → IsFilledWhole s algorithm text filled
-      → IsCutAtBlanks s.initial_indent s.subsequent_indent text filled
-  cut-filled text some none given =
-      cut-computed s.initial_indent s.subsequent_indent s.even_paragraphs s.width algorithm text
-      filled some none
-      (subst (λ s. IsFilledWhole s algorithm text filled) (settings-are s keeps) given)
-
-  -- no indent stands on an empty line
-  pub empty-filled : IsFilledWhole s algorithm [] filled → filled ≡ []
-  empty-filled given =
-      filled-cases s.initial_indent s.subsequent_indent s.even_paragraphs s.width algorithm []
-      (λ filled. filled ≡ []) (λ none. refl)
-      (λ division none. ap (filled_of s.initial_indent s.subsequent_indent s.even_paragraphs s.width)
-      none) filled (All-nil (λ c. c ≢ line_feed))
-      (subst (λ s. IsFilledWhole s algorithm [] filled) (settings-are s keeps) given)
+pub unfilled-plain : (text : List ℕ) → IsPlain text → IsUnfilledAs [] [] (blanked text) text
+unfilled-plain text (lines, plain, is) =
+    let none : IsIndent [] = All-nil (λ c. is_prefix_character c ≡ true) in
+    unfilled-rows [] [] (blanked text) text lines none none plain
+    (ap blanked is ∙ blanked-joined lines plain) (is ∙ ap feed_joined (sym (unindented_rows lines)))
+    (λ _. refl) (λ _. refl)
 
 -- ---- a plain text that is filled with whole words is plain lines under the indents
 
@@ -332,37 +155,235 @@ unblank-plain parts plain =
     map_fixed without_final_blanks parts
     (search (rules, arith, All-weaker, unblank-row, solid))
 
-module _ (settings : Settings) (algorithm : Algorithm) (text filled : List ℕ)
-    (keeps : KeepsWords settings) (none : All (λ c. c ≢ line_feed) text)
-    (given : IsFilledWhole settings algorithm text filled) where
-  abbrev Cut : Type 0
-  Cut = IsPlainCut settings.initial_indent settings.subsequent_indent text filled
+division-by : {X : Type 0} (algorithm : Algorithm) (sizes : X → Sizes) (widths : List ℕ)
+    (xs : List X) (lines : List (List X)) → IsDividedBy algorithm sizes widths xs lines
+    → IsDivision xs lines
+division-by Greedy sizes widths xs lines divided = divided.admissible.division
+division-by (LeastCost penalties) sizes widths xs lines divided = divided.by_table.division
 
-  plain_cut-line : IsPlainLine text → Cut
-  plain_cut-line plain =
-      let cut = cut-filled settings algorithm filled keeps text
-      (λ nothing. omega (arith, (solid text plain).row.some, ap length nothing)) none given in
-      let parts = plain_parts cut.parts (subst IsPlainLine cut.text_is plain) in
+-- the bytes of lines with these parts
+abbrev pub bytes_of : List LineParts → List (List ℕ)
+bytes_of parts = map line_bytes (map line_from parts)
+
+module _ (settings : Settings) (keeps : KeepsWords settings) where
+  -- the bytes of the lines of a division
+  abbrev bytes_from : Bool → List (List WordText) → List (List ℕ)
+  bytes_from is_later lines = bytes_of (parts_from settings is_later lines)
+
+  bytes-line : (is_later : Bool) (line : List WordText) → AreWordsOf (tiled line) line
+      → line ≢ [] → line_bytes (line_from (parts_of settings is_later line))
+      ≡ indent_of settings is_later ++ without_final_blanks (tiled line)
+  bytes-line is_later [] words some = absurd (some refl)
+  bytes-line is_later (w ∷ ws) words some =
+      let indent = indent_of settings is_later in
+      ap line_bytes (sym (assembled-parts settings is_later w ws (words-no_penalty (w ∷ ws) words)))
+      ∙ bytes-assembled indent _
+      ∙ ap (λ l. indent ++ l) (ap (λ b. cond b (tiled (w ∷ ws)) (covered (w ∷ ws))) keeps.trimmed
+      ∙ covered-words (w ∷ ws) words)
+
+  bytes-broken : (is_later : Bool) (lines : List (List WordText)) → All (λ l. l ≢ []) lines
+      → AreLinesApart lines → bytes_from is_later lines
+      ≡ indented_rows (indent_of settings is_later) settings.subsequent_indent
+      (map without_final_blanks (broken_lines lines))
+  bytes-broken is_later [] some apart = refl
+  bytes-broken is_later (line ∷ []) some words =
+      ap (λ l. l ∷ []) (bytes-line is_later line words (All-head (λ l. l ≢ []) line [] some))
+  bytes-broken is_later (line ∷ next ∷ lines) some (words, ending, apart) =
+      let here = bytes-line is_later line words (All-head (λ l. l ≢ []) line (next ∷ lines) some) in
+      let rest = bytes-broken true (next ∷ lines) (All-tail (λ l. l ≢ []) line (next ∷ lines) some)
+      apart in
+      let bare = without_final_blanks-push (shortened (tiled line)) in
+      grind (arith, here, rest, ending, bare)
+
+  -- the text of the lines of a division
+  abbrev filled_of : List (List WordText) → List ℕ
+  filled_of division = feed_joined (bytes_from false division)
+
+  cut-words : (words : List WordText) (lines : List (List WordText)) → IsDivision words lines
+      → AreWordsOf (tiled words) words → IsPlainLine (tiled words)
+      → IsPlainCut settings.initial_indent settings.subsequent_indent (tiled words)
+      (filled_of lines)
+  cut-words [] lines division are plain = absurd (omega (arith, (solid [] plain).row.some))
+  cut-words (w ∷ ws) [] division are plain = absurd (omega (arith, ap length division.0))
+  cut-words (w ∷ ws) (line ∷ lines) division are plain =
+      let apart = apart_from (w ∷ ws) (line ∷ lines) division are in
+      let parts = broken_lines (line ∷ lines) in
+      let text_is : tiled (w ∷ ws) ≡ blank_joined parts = ap tiled (sym division.0)
+      ∙ tiled-broken (line ∷ lines) (omega arith) apart in
+      let all = plain_parts parts (subst IsPlainLine text_is plain) in
       record {
-        parts = cut.parts;
-        plain = parts;
-        text_is = cut.text_is;
-        filled_is = rw (unblank-plain cut.parts parts) at cut.filled_is;
+        parts = parts;
+        plain = all;
+        text_is = text_is;
+        filled_is = ap feed_joined (bytes-broken false (line ∷ lines) division.1 apart
+            ∙ ap (indented_rows settings.initial_indent settings.subsequent_indent)
+            (unblank-plain parts all));
       }
 
-  pub filled-plain : IsPlain text → Cut
-  filled-plain ([], plain, is) = record {
-    parts = [];
-    plain = All-nil IsPlainLine;
-    text_is = is;
-    filled_is = empty-filled settings algorithm filled keeps
-        (subst (λ t. IsFilledWhole settings algorithm t filled) is given);
-  }
-  filled-plain (line ∷ [], plain, is) =
-      plain_cut-line (subst IsPlainLine (sym is) (All-head IsPlainLine line [] plain))
-  filled-plain (line ∷ next ∷ lines, plain, is) =
-      let more = feed_joined (next ∷ lines) in
-      let rest : All (λ c. c ≢ line_feed) (line_feed ∷ more) =
-      all-right (λ c. c ≢ line_feed) line (line_feed ∷ more)
-      (subst (All (λ c. c ≢ line_feed)) (is ∙ append_assoc line (line_feed ∷ []) more) none) in
-      absurd (All-head (λ c. c ≢ line_feed) line_feed more rest refl)
+  module _ (algorithm : Algorithm) (text : List ℕ) (none : All (λ c. c ≢ line_feed) text) where
+    abbrev Divides : Bool → List ℕ → List (List WordText) → Type 0
+    Divides = DividesAs Whole algorithm settings
+
+    abbrev Cut : List ℕ → Type 0
+    Cut = IsPlainCut settings.initial_indent settings.subsequent_indent text
+
+    -- what holds of a whole paragraph without its final blanks, if there is no initial indent, and
+    -- of the words of the text, divided, holds of the filled text
+    cut-cases : (settings.initial_indent ≡ [] → Cut (without_final_blanks text))
+        → ((division : List (List WordText)) → IsDivision (words_of text) division
+        → Cut (filled_of division))
+        → (filled : List ℕ) → IsFilledWhole settings algorithm text filled → Cut filled
+    cut-cases whole divided filled (lines, are, is) =
+        rw (is, keeps.feeds, are.given)
+        (by_groups are.groups (rw (one-paragraph settings.line_ending text none) at are.defined))
+      where
+        by_case : (division : List (List WordText)) (b : Bool)
+            → is_whole settings false text ≡ b
+            → MatchBool b (division ≡ (word_of text ∷ []) ∷ []) (Divides false text division)
+            → Cut (filled_of division)
+        by_case division true is_one is =
+            subst Cut (sym (ap filled_of is ∙ ap line_bytes (line_from-whole settings false text is_one)
+            ∙ ap (λ b. cond b text (without_final_blanks text)) keeps.trimmed))
+            (whole (whole_unindented settings false text is_one))
+        by_case division false longer (pieces, are, lines) =
+            divided division
+            (subst (λ ws. IsDivision ws division)
+            (ArePieces-is settings Whole text pieces are ∙ rw keeps.unbroken (split-whole (chunks text)))
+            (division-by algorithm sizes_of (widths_of settings false) pieces division lines))
+
+        by_groups : (groups : List (List LineParts))
+            → AreGroups (AreParagraphParts settings Divides) false (text ∷ []) groups
+            → Cut (feed_joined (bytes_of (flat groups)))
+        by_groups [] are = absurd are
+        by_groups (parts ∷ groups) ((division, laid_out, is), none) =
+            rw (none, append-nil, is)
+            (by_case division (is_whole settings false text) refl laid_out)
+
+    pub filled-plain : (filled : List ℕ) → IsFilledWhole settings algorithm text filled
+        → IsPlain text → Cut filled
+    filled-plain filled given ([], plain, is) =
+        cut-cases (λ _. nothing (ap without_final_blanks is))
+        (λ division divided. nothing (ap filled_of (rw is at divided))) filled given
+      where
+        nothing : {new : List ℕ} → new ≡ [] → Cut new
+        nothing new_is =
+            record { parts = []; plain = All-nil IsPlainLine; text_is = is; filled_is = new_is }
+    filled-plain filled given (line ∷ [], plain, is) =
+        let here = subst IsPlainLine (sym is) (All-head IsPlainLine line [] plain) in
+        let own = tiled-words_of text in
+        cut-cases (λ unindented. record {
+          parts = text ∷ [];
+          plain = All-cons IsPlainLine text [] here (All-nil IsPlainLine);
+          text_is = refl;
+          filled_is = rw (unindented, unblank-row text (solid text here).row) refl;
+        }) (λ division divided. subst (λ t. Cut (filled_of division)) own
+        (rw own at (cut-words (words_of text) division divided
+        (rw own ((words_unique text (words_of text)).1 refl)) (rw own here)))) filled given
+    filled-plain filled given (line ∷ next ∷ lines, plain, is) =
+        let more = feed_joined (next ∷ lines) in
+        let rest : All (λ c. c ≢ line_feed) (line_feed ∷ more) =
+        all-right (λ c. c ≢ line_feed) line (line_feed ∷ more)
+        (subst (All (λ c. c ≢ line_feed)) (is ∙ append_assoc line (line_feed ∷ []) more) none) in
+        absurd (All-head (λ c. c ≢ line_feed) line_feed more rest refl)
+
+-- ---- the text, refilled
+
+module _ (Divides : Settings → Bool → List ℕ → List (List WordText) → Type 0) where
+  abbrev FilledBy : Settings → List ℕ → List ℕ → Type 0
+  FilledBy settings = IsFilled settings (Divides settings)
+
+  -- it is the joined text, filled under the indents that are found
+  pub refilled-as_joined : (settings indented : Settings) (initial subsequent joined text : List ℕ)
+      → IsUnfilledAs initial subsequent joined text
+      → record settings { initial_indent = initial; subsequent_indent = subsequent } ≡ indented
+      → (refilled : List ℕ) → IsRefilled settings Divides text refilled
+      ↔ FilledBy indented joined refilled
+  refilled-as_joined settings indented initial subsequent joined text found is refilled =
+      let same : with_indents_of text settings ≡ indented =
+      rw (found.initial_is, found.subsequent_is) is in
+      let nothing : (filled : List ℕ)
+      → filled ++ added_ending (keeps_ending text) settings.line_ending ≡ filled =
+      λ filled. ap (λ b. filled ++ added_ending b settings.line_ending) found.keeps
+      ∙ append-nil filled in (
+        λ (filled, is, with_ending).
+            subst (FilledBy indented joined) (sym (with_ending ∙ nothing filled))
+            (search (rules, arith)),
+        λ is. (refilled, search (rules, arith), sym (nothing refilled)),
+      )
+
+  pub refilled-filled : (settings : Settings) (text refilled : List ℕ) → IsUnindented settings
+      → IsPlain text → IsRefilled settings Divides text refilled
+      ↔ FilledBy settings (blanked text) refilled
+  refilled-filled settings text refilled unindented plain =
+      refilled-as_joined settings settings [] [] (blanked text) text (unfilled-plain text plain)
+      (rw (unindented.initial, unindented.subsequent)) refilled
+
+-- ---- a text that was filled, refilled
+
+pub filled-is_plain : (settings : Settings) (algorithm : Algorithm) (text filled : List ℕ)
+    → KeepsWords settings → IsUnindented settings → IsPlain text → All (λ c. c ≢ line_feed) text
+    → IsFilledWhole settings algorithm text filled → IsPlain filled × (blanked filled ≡ text)
+filled-is_plain settings algorithm text filled keeps unindented plain none given =
+    let cut = filled-plain settings keeps algorithm text none filled given plain in
+    let is : filled ≡ feed_joined cut.parts = search (rules, arith, unindented_rows) in
+    search (rules, arith, blanked-joined)
+
+pub refilled-twice : (first second : Settings) (one other : Algorithm) (splitter : Splitter)
+    (text filled refilled : List ℕ) → KeepsWords first → IsUnindented first
+    → IsUnindented second → IsPlain text → All (λ c. c ≢ line_feed) text
+    → IsFilledWhole first one text filled
+    → IsRefilled second (DividesAs splitter other) filled refilled
+    ↔ IsFilled second (DividesAs splitter other second) text refilled
+refilled-twice first second one other splitter text filled refilled keeps unindented second_is plain
+    none given =
+    let cut = filled-is_plain first one text filled keeps unindented plain none given in
+    rw cut.1 at (refilled-filled (DividesAs splitter other) second filled refilled second_is cut.0)
+
+-- ---- a plain text, filled under indents and refilled
+
+rows-length : (initial subsequent : List ℕ) (parts : List (List ℕ))
+    → length (indented_rows initial subsequent parts) ≡ length parts
+rows-length initial subsequent [] = refl
+rows-length initial subsequent (line ∷ parts) = ap suc (rows-length subsequent subsequent parts)
+
+pub refilled-indented : (first second : Settings) (one other : Algorithm) (splitter : Splitter)
+    (text filled refilled : List ℕ) → IsIndentedFill first one text filled
+    → IsRefilled second (DividesAs splitter other) filled refilled
+    ↔ IsFilled (with_indents_as first second)
+    (DividesAs splitter other (with_indents_as first second)) text refilled
+refilled-indented first second one other splitter text filled refilled fill =
+    let cut = filled-plain first fill.keeps one text fill.no_feed filled fill.is_filled fill.plain in
+    let initial = first.initial_indent in
+    let subsequent = first.subsequent_indent in
+    let rows = lines-rows (indented_rows initial subsequent cut.parts)
+    (are_rows initial subsequent cut.parts fill.initial fill.subsequent cut.plain) in
+    let count : length (lines filled) ≡ length cut.parts = ap (λ t. length (lines t)) cut.filled_is
+    ∙ ap length rows ∙ rows-length initial subsequent cut.parts in
+    refilled-as_joined (DividesAs splitter other) second (with_indents_as first second) initial
+    subsequent text filled (unfilled-rows initial subsequent text filled cut.parts fill.initial
+    fill.subsequent cut.plain cut.text_is cut.filled_is
+    (λ none. absurd (omega (arith, none, count, fill.more)))
+    (λ few. absurd (omega (arith, few, count, fill.more)))) refl refilled
+
+pub refilled-once : (first second third : Settings) (one other last : Algorithm)
+    (splitter : Splitter) (text filled refilled again : List ℕ)
+    → IsIndentedFill first one text filled
+    → KeepsWords second → IsRefilled second (DividesAs Whole other) filled refilled
+    → 2 ≤ length (lines refilled)
+    → IsRefilled third (DividesAs splitter last) refilled again
+    ↔ IsRefilled third (DividesAs splitter last) filled again
+refilled-once first second third one other last splitter text filled refilled again fill keeps is
+    more =
+    let indented = with_indents_as first second in
+    let refill : IsIndentedFill indented other text refilled = record {
+      keeps = record { unbroken = keeps.unbroken; trimmed = keeps.trimmed; feeds = keeps.feeds };
+      initial = fill.initial;
+      subsequent = fill.subsequent;
+      plain = fill.plain;
+      no_feed = fill.no_feed;
+      is_filled = (refilled-indented first second one other Whole text filled refilled fill).0 is;
+      more = more;
+    } in
+    let after = refilled-indented indented third other last splitter text refilled again refill in
+    let before = refilled-indented first third one last splitter text filled again fill in
+    (λ is. before.1 (after.0 is), λ is. after.1 (before.0 is))

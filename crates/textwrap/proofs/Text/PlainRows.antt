@@ -1,8 +1,8 @@
 -- Worked rows on plain texts.
-use Rattle.textwrap_text.proofs.Common.{◌≡◌, ℕ, ◌≤◌, [], ◌∷◌, length, codes, refl, ap, arith, rules}
-use Rattle.textwrap_text.proofs.Common.{All-nil, All-cons}
-use Rattle.textwrap.proofs.Common.{line_prefix, IsPlainWord, IsPlainLine, IsPlain, blanked}
-use Rattle.textwrap.proofs.Text.Refilling.{unfilled-plain}
+use Rattle.textwrap_text.proofs.Common.{All-cons, All-nil, length, arith, codes, rules, refl, ◌∷◌}
+use Rattle.textwrap_text.proofs.Common.{◌≡◌, ◌≤◌, [], ap, ℕ}
+use Rattle.textwrap.proofs.Common.{IsPlainLine, IsPlainWord, line_prefix, IsPlain, blanked}
+use Rattle.textwrap.proofs.Text.PlainFilled.{unfilled-plain}
 
 pub blanked-lines : blanked (codes "a b\nc") ≡ codes "a b c"
 blanked-lines = refl

@@ -1,40 +1,117 @@
--- The layout of a text and what unfilling gives; a text that is filled with the indents of another.
-use Rattle.textwrap_text.proofs.Common.{◌≡◌, ◌+◌, ◌∷◌, max, drop, refl, Some, None, fold, ℕ}
-use Rattle.textwrap_text.proofs.Common.{IsAscii, flat_map, All-nil, All-cons, All-head, All-tail}
-use Rattle.textwrap_text.proofs.Common.{Bool, false, nat_eq, IsUtf8, length, get_or, Option, filter}
-use Rattle.textwrap_text.proofs.Common.{true, cond, List, take, arith, rules, ◌++◌, lines, subst}
-use Rattle.textwrap_text.proofs.Common.{[], common_prefix_len, IsUtf8-from_ascii, starts_with_trans}
-use Rattle.textwrap_text.proofs.Common.{StartsWith, IsCharBoundary-from_take, IsCharBoundary}
-use Rattle.textwrap_text.proofs.Common.{unwrap_or, nil_from_length, prefix_len, append-nil}
-use Rattle.textwrap_text.proofs.Common.{ends_with, nat_tests, ap, map, Bor, All, cases_Bool, inl}
-use Rattle.textwrap_text.proofs.Common.{inr, sym, append_assoc, text_width, blank, ending_bytes}
-use Rattle.textwrap_text.proofs.Common.{join_with}
-use Rattle.textwrap.proofs.Common.{is_prefix_character, line_prefix, common_start, common_prefix}
-use Rattle.textwrap.proofs.Common.{EndedLine, nonempty_lines, unfilled_initial}
-use Rattle.textwrap.proofs.Common.{unfilled_subsequent, joined_text, detected_among}
-use Rattle.textwrap.proofs.Common.{detected_ending, keeps_ending, layout_of}
+-- What texts begin with together, the layout of a text and what unfilling gives; a text that is filled
+-- with the indents of another.
+use Rattle.textwrap_text.proofs.Common.{IsCharBoundary-from_take, starts_with_of_append, StartsWith}
+use Rattle.textwrap_text.proofs.Common.{starts_with_length, IsUtf8-from_ascii, common_prefix_len, ℕ}
+use Rattle.textwrap_text.proofs.Common.{starts_with_of_eq, starts_with_trans, take-append-drop, All}
+use Rattle.textwrap_text.proofs.Common.{nil_from_length, IsCharBoundary, append_assoc, ending_bytes}
+use Rattle.textwrap_text.proofs.Common.{append-nil, cases_Bool, prefix_len, text_width, ends_with}
+use Rattle.textwrap_text.proofs.Common.{join_with, nat_tests, take-take, unwrap_or, All-cons, arith}
+use Rattle.textwrap_text.proofs.Common.{All-head, All-tail, flat_map, All-nil, IsAscii, IsUtf8, Bor}
+use Rattle.textwrap_text.proofs.Common.{Option, eq-eqb, filter, get_or, length, nat_eq, blank, Bool}
+use Rattle.textwrap_text.proofs.Common.{false, lines, rules, subst, List, None, Some, cond, drop}
+use Rattle.textwrap_text.proofs.Common.{fold, refl, take, true, ◌++◌, inl, inr, map, max, sym, ◌+◌}
+use Rattle.textwrap_text.proofs.Common.{◌↔◌, ◌∷◌, ◌≡◌, ◌≤◌, [], ap}
+use Rattle.textwrap.proofs.Common.{is_prefix_character, unfilled_subsequent, unfilled_initial}
+use Rattle.textwrap.proofs.Common.{detected_ending, detected_among, nonempty_lines, common_prefix}
+use Rattle.textwrap.proofs.Common.{common_start, keeps_ending, joined_text, line_prefix, EndedLine}
+use Rattle.textwrap.proofs.Common.{layout_of}
 use Rattle.std.proofs.lemmas.Str.{IsAscii-take}
 use Rattle.std.proofs.lemmas.Str.Ascii.{IsAscii-cons}
 use Rattle.std.proofs.lemmas.List.Sums.{prefix_len-le-length}
 use Rattle.std.proofs.lemmas.Grind.{common_steps}
 use Rattle.textwrap_text.proofs.TextLines.{ended_lines-texts, texts_of}
-use Rattle.textwrap_words.proofs.Common.{WordText, Algorithm, Splitter}
-use Rattle.textwrap_layout.proofs.Common.{Settings, IsFilled, settings_view, AreTextLines, HasParts}
-use Rattle.textwrap_layout.proofs.Common.{DividesAs}
+use Rattle.textwrap_words.proofs.Common.{Algorithm, Splitter, WordText}
+use Rattle.textwrap_layout.proofs.Common.{settings_view, AreTextLines, DividesAs, HasParts}
+use Rattle.textwrap_layout.proofs.Common.{IsFilled, Settings}
 use Rattle.std.specs.Prelude.{option_to_list, IfSome}
 use Rattle.textwrap_words.proofs.Word.Words.{text_width-nil}
 use Rattle.textwrap_layout.specs.Options.{settings_at}
 use Rattle.std.proofs.lemmas.List.Elements.{All-filter}
 use Rattle.textwrap_text.specs.declared.line_ending.LineEnding.{LineEnding}
 use Rattle.textwrap_text.specs.declared.line_ending.LineEnding.TheVariants.{CRLF, LF}
-use Rattle.textwrap.specs.Refilling.{has_text, added_ending, IsRefilled}
-use Rattle.textwrap.specs.Refilling.{layout_settings, unfilled_settings, with_indents_of}
-use Rattle.textwrap.proofs.Text.Margins.{common_prefix-begins}
+use Rattle.textwrap.specs.Refilling.{unfilled_settings, layout_settings, with_indents_of, has_text}
+use Rattle.textwrap.specs.Refilling.{IsCommonPrefix, added_ending, IsRefilled}
 use Rattle.textwrap.specs.declared.refilling.TextLayout.{TextLayout}
 use Rattle.textwrap_layout.specs.declared.options.Options.{Options}
 use Rattle.textwrap_layout.specs.Paragraph.{DividesUnder}
 use Rattle.textwrap_layout.proofs.Paragraph.Pieces.{divides-under}
 use Rattle.textwrap.specs.Columns.{IsInColumns}
+use Rattle.textwrap.specs.Indentation.{indented}
+
+-- ---- what two texts begin with, and what all texts do
+
+abbrev common_len : List ℕ → List ℕ → ℕ
+common_len xs ys = common_prefix_len nat_eq xs ys
+
+take_common-cut : (x y : ℕ) (xs ys : List ℕ) (b : Bool) → nat_eq x y ≡ b
+    → take (common_len xs ys) xs ≡ take (common_len xs ys) ys
+    → take (cond b (1 + common_len xs ys) 0) (x ∷ xs)
+    ≡ take (cond b (1 + common_len xs ys) 0) (y ∷ ys)
+take_common-cut x y xs ys true is same = search (rules, nat_tests)
+take_common-cut x y xs ys false is same = refl
+
+take_common : (xs ys : List ℕ) → take (common_len xs ys) xs ≡ take (common_len xs ys) ys
+take_common [] ys = refl
+take_common (x ∷ xs) [] = refl
+take_common (x ∷ xs) (y ∷ ys) = search (rules, take_common-cut, nat_eq, take_common xs ys)
+
+common_start-right : (xs ys : List ℕ) → StartsWith ys (common_start xs ys)
+common_start-right xs ys = grind (arith, common_steps, take_common xs ys)
+
+pub common_len-longest : (other xs ys : List ℕ) → StartsWith xs other → StartsWith ys other
+    → length other ≤ common_len xs ys
+common_len-longest [] xs ys left right = omega arith
+common_len-longest (o ∷ os) [] ys left right = cc
+common_len-longest (o ∷ os) (x ∷ xs) [] left right = cc
+common_len-longest (o ∷ os) (x ∷ xs) (y ∷ ys) left right =
+    search (rules, eq-eqb, common_len-longest os xs ys (ap (drop 1) left) (ap (drop 1) right))
+
+common_start-longest : (other xs ys : List ℕ) → StartsWith xs other → StartsWith ys other
+    → StartsWith (common_start xs ys) other
+common_start-longest other xs ys left right = search (rules, take-take, common_len-longest)
+
+fold-begins : (text : List ℕ) (texts : List (List ℕ))
+    → StartsWith text (fold common_start text texts)
+    × All (λ t. StartsWith t (fold common_start text texts)) texts
+fold-begins text [] = search (rules, starts_with_of_eq, All-nil)
+fold-begins text (next ∷ texts) =
+    let n = common_len text next in
+    let start = common_start text next in
+    let whole = fold common_start start texts in
+    let (first, others) = fold-begins start texts in (
+      starts_with_trans text start whole
+          (starts_with_of_append text (take n text) (drop n text) (sym (take-append-drop n text)))
+          first,
+      All-cons (λ t. StartsWith t whole) next texts
+          (starts_with_trans next start whole (common_start-right text next) first) others,
+    )
+
+pub common_prefix-begins : (texts : List (List ℕ))
+    → All (λ t. StartsWith t (common_prefix texts)) texts
+common_prefix-begins [] = All-nil (λ t. StartsWith t [])
+common_prefix-begins (text ∷ texts) = grind (arith, common_steps, fold-begins text texts)
+
+fold-longest : (other text : List ℕ) (texts : List (List ℕ)) → StartsWith text other
+    → All (λ t. StartsWith t other) texts → length other ≤ length (fold common_start text texts)
+fold-longest other text [] first others = starts_with_length text other first
+fold-longest other text (next ∷ texts) first others =
+    fold-longest other (common_start text next) texts
+    (search (rules, common_start-longest, All-head))
+    (All-tail (λ t. StartsWith t other) next texts others)
+
+common_prefix-is : (texts : List (List ℕ)) → IsCommonPrefix texts (common_prefix texts)
+common_prefix-is [] = search (rules, common_prefix-begins)
+common_prefix-is (text ∷ texts) = record {
+  begins = common_prefix-begins (text ∷ texts);
+  longest = λ some other begins. fold-longest other text texts
+      (All-head (λ t. StartsWith t other) text texts begins)
+      (All-tail (λ t. StartsWith t other) text texts begins);
+  none = λ is. cc;
+}
+
+pub common_prefixes_one : (texts : List (List ℕ)) (prefix : List ℕ)
+    → IsCommonPrefix texts prefix ↔ (prefix ≡ common_prefix texts)
+common_prefixes_one texts prefix = grind (arith, common_prefix-is)
 
 -- ---- a line's own prefix
 

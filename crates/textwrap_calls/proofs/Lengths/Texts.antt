@@ -21,8 +21,7 @@ use Rattle.textwrap_text.specs.declared.line_ending.LineEnding.TheVariants.{CRLF
 use Rattle.textwrap_text.proofs.TextLines.{by-lines, ended_lines-texts, ended_parts-flat, last-free}
 use Rattle.textwrap_text.proofs.TextLines.{lines-front, lines-made, lines-whole, made_of, texts_of}
 use Rattle.textwrap_text.specs.TextLines.{bytes_at_end, ended_lines, with_ending}
-use Rattle.textwrap.proofs.Text.Margins.{common_prefix-begins}
-use Rattle.textwrap.proofs.Text.Unfilling.{line_prefix-begins}
+use Rattle.textwrap.proofs.Text.Unfilling.{common_prefix-begins, line_prefix-begins}
 use Rattle.textwrap.specs.Indentation.{without_margin}
 use Rattle.textwrap.specs.Refilling.{has_text, without_indents, added_ending}
 use Rattle.textwrap_calls.proofs.Lengths.Sums.{texts_length, sum-map, texts-joined}

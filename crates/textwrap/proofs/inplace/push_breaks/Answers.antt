@@ -2,8 +2,8 @@ use Rattle.textwrap.proofs.inplace.push_breaks.Goals as goal
 use Rattle.textwrap_text.proofs.Common.{◌+◌, ◌<◌, ◌≤◌, [], ◌∷◌, ◌++◌, length, ap, ◌∙◌, arith}
 use Rattle.textwrap_text.proofs.Common.{length-append, ⊎_elim, cases_lt}
 use Rattle.textwrap_words.proofs.Common.{word_view}
-use Rattle.textwrap.proofs.Text.Growing.{HasLine-begin, HasLine-break, HasLine-join, HasLine-none}
-use Rattle.textwrap.proofs.Text.Growing.{HasLine-within, HasLine-fits, HasLine-end}
+use Rattle.textwrap.proofs.Text.InPlaceLines.{HasLine-begin, HasLine-break, HasLine-join, HasLine-none}
+use Rattle.textwrap.proofs.Text.InPlaceLines.{HasLine-within, HasLine-fits, HasLine-end}
 
 pub loop-word-init : goal.loop-word-init
 loop-word-init g c = (

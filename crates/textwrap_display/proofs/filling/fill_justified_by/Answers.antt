@@ -1,11 +1,10 @@
 use Rattle.textwrap_display.proofs.filling.fill_justified_by.Goals as goal
-use Rattle.textwrap_text.proofs.Common.{◌++◌, ap, ◌∙◌, arith, drop, length, string_bytes, subst}
+use Rattle.textwrap_text.proofs.Common.{string_bytes, length, arith, subst, drop, ◌++◌, ◌∙◌, ap}
 use Rattle.std.proofs.lemmas.Slice.{between_to_end}
-use Rattle.textwrap_layout.proofs.Common.{layout_view}
-use Rattle.textwrap_display.specs.JustifiedText.{IsJustifiedText}
+use Rattle.textwrap_display.proofs.Common.{IsJustifiedText, paragraphs_left, layout_view}
 use Rattle.textwrap_lines.proofs.Paragraph.KeepsTo.{passed-on}
-use Rattle.textwrap_layout.proofs.Text.Lines.{paragraphs_left, paragraphs_left-split}
-use Rattle.textwrap_display.proofs.JustifiedLines.{so_far-end, so_far-more, so_far-start}
+use Rattle.textwrap_layout.proofs.Text.Lines.{paragraphs_left-split}
+use Rattle.textwrap_display.proofs.JustifiedLines.{so_far-start, so_far-more, so_far-end}
 
 pub loop-rest-init : goal.loop-rest-init
 loop-rest-init g c =

@@ -1,7 +1,6 @@
 use Rattle.textwrap_display.proofs.filling.fill_justified_by.Given as goal
-use Rattle.textwrap_text.proofs.Common.{length, nat_lt, string_bytes}
-use Rattle.textwrap_layout.proofs.Common.{layout_view}
-use Rattle.textwrap_layout.proofs.Text.Lines.{bytes_left, paragraphs_left}
+use Rattle.textwrap_text.proofs.Common.{string_bytes, length, nat_lt}
+use Rattle.textwrap_display.proofs.Common.{paragraphs_left, layout_view, bytes_left}
 use Rattle.textwrap_display.proofs.JustifiedLines.{IsJustifiedSoFar}
 
 -- with right lines of the paragraphs that are left, it is the whole

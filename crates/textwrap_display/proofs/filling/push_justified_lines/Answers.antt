@@ -1,8 +1,8 @@
 use Rattle.textwrap_display.proofs.filling.push_justified_lines.Goals as goal
-use Rattle.textwrap_text.proofs.Common.{◌+◌, ◌++◌, ◌∷◌, [], sym, ap, ◌∙◌, drop, drop_more}
-use Rattle.textwrap_text.proofs.Common.{string_bytes}
-use Rattle.textwrap_layout.proofs.Common.{layout_view}
-use Rattle.textwrap_display.proofs.JustifiedLines.{added, added-step}
+use Rattle.textwrap_text.proofs.Common.{string_bytes, drop_more, drop, ◌++◌, sym, ◌+◌, ◌∙◌, ◌∷◌, []}
+use Rattle.textwrap_text.proofs.Common.{ap}
+use Rattle.textwrap_display.proofs.Common.{layout_view}
+use Rattle.textwrap_display.proofs.JustifiedLines.{added-step, added}
 
 pub loop-line-preserved : goal.loop-line-preserved
 loop-line-preserved g c =

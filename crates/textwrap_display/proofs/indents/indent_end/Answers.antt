@@ -1,7 +1,6 @@
 use Rattle.textwrap_display.proofs.indents.indent_end.Goals as goal
-use Rattle.textwrap_text.proofs.Common.{sym, ◌∙◌, length, cond, ap}
-use Rattle.std.proofs.lemmas.Str.{IsCharBoundary-start}
-use Rattle.std.proofs.lemmas.Str.Pattern.{starts_text}
+use Rattle.textwrap_text.proofs.Common.{length, cond, sym, ◌∙◌, ap}
+use Rattle.textwrap_display.proofs.Common.{IsCharBoundary-start, starts_text}
 
 pub returns-then-starts_with-clause-len : goal.returns-then-starts_with-clause-len
 returns-then-starts_with-clause-len c =

@@ -1,10 +1,9 @@
 use Rattle.textwrap_display.proofs.justifying.split_indent.Goals as goal
 use Rattle.textwrap_display.proofs.justifying.split_indent.Goals.{After-blanks_end}
-use Rattle.textwrap_text.proofs.Common.{◌≡◌, ◌≢◌, ◌<◌, ap, ◌∙◌, take, drop, length, subst, arith}
-use Rattle.textwrap_text.proofs.Common.{slice_index}
-use Rattle.textwrap_text.specs.Blanks.{blank, BlanksBetween}
+use Rattle.textwrap_text.proofs.Common.{slice_index, length, arith, subst, drop, take, ◌<◌, ◌∙◌, ap}
+use Rattle.textwrap_text.proofs.Common.{◌≡◌, ◌≢◌}
+use Rattle.textwrap_display.proofs.Common.{BlanksBetween, indent_len, blank}
 use Rattle.textwrap_display.proofs.WidenedWords.{indent-boundary, indent-is}
-use Rattle.textwrap_display.specs.Justifying.{indent_len}
 
 blanks : (c : After-blanks_end) → BlanksBetween c.args.line.now 0 c.blanks_end.result
 blanks c = subst (λ t. BlanksBetween t 0 c.blanks_end.result) c.as_bytes.ensures.value c.blanks_end.ensures.blanks

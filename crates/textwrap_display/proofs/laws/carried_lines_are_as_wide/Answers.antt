@@ -1,5 +1,5 @@
 use Rattle.textwrap_display.proofs.laws.carried_lines_are_as_wide.Goals as goal
-use Rattle.textwrap_display.proofs.CarriedLines.{carried-as_wide}
+use Rattle.textwrap_display.proofs.CarriedLines.{carried}
 
 pub returns : goal.returns
-returns c = carried-as_wide
+returns c = λ indent later lines may. (carried indent later lines may).wide

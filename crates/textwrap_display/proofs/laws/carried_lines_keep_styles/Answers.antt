@@ -1,5 +1,5 @@
 use Rattle.textwrap_display.proofs.laws.carried_lines_keep_styles.Goals as goal
-use Rattle.textwrap_display.proofs.CarriedLines.{carried-keep}
+use Rattle.textwrap_display.proofs.CarriedLines.{carried}
 
 pub returns : goal.returns
-returns c = carried-keep
+returns c = λ indent later lines may. (carried indent later lines may).shown

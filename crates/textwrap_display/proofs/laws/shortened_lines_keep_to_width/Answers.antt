@@ -1,10 +1,9 @@
 use Rattle.textwrap_display.proofs.laws.shortened_lines_keep_to_width.Goals as goal
-use Rattle.textwrap_text.proofs.Common.{arith, ap, length-take-le, take, inl, inr, IsUtf8-take}
-use Rattle.textwrap_text.proofs.Common.{text_width}
-use Rattle.textwrap_layout.specs.Paragraph.{line_bytes}
+use Rattle.textwrap_text.proofs.Common.{length-take-le, IsUtf8-take, text_width, arith, take, inl}
+use Rattle.textwrap_text.proofs.Common.{inr, ap}
+use Rattle.textwrap_display.proofs.Common.{text_width-append, line_bytes}
 use Rattle.textwrap_text.proofs.Units.Reading.{columns_in-empty}
 use Rattle.textwrap_text.specs.declared.escapes.State.TheVariants.{Text}
-use Rattle.textwrap_layout.proofs.Text.Paragraphs.{text_width-append}
 use Rattle.textwrap_display.proofs.KeptWords.{may_end-boundary}
 
 pub returns : goal.returns

@@ -1,15 +1,14 @@
 use Rattle.textwrap_display.proofs.shortening.kept_len.Goals as goal
-use Rattle.textwrap_text.proofs.Common.{◌≡◌, ◌+◌, refl, sym, subst, ◌∙◌, arith, length, eqb, inl}
-use Rattle.textwrap_text.proofs.Common.{inr, char_indices_offset}
-use Rattle.std.specs.Str.Iter.{char_indices_rest}
-use Rattle.textwrap_text.proofs.Units.Reading.{added}
-use Rattle.textwrap_display.proofs.KeptLines.{IsFound, found-none, found-kept, found-past}
-use Rattle.textwrap_display.proofs.KeptLines.{found-here, found-on, found-whole, found-blank}
-use Rattle.textwrap_display.proofs.KeptWords.{IsReadTo, read_to-start, read_to-step, read-le}
+use Rattle.textwrap_text.proofs.Common.{char_indices_offset, length, arith, refl, eqb, inl, inr}
+use Rattle.textwrap_text.proofs.Common.{sym, ◌+◌, ◌∙◌, ◌≡◌}
+use Rattle.textwrap_display.proofs.Common.{char_indices_rest, added}
+use Rattle.textwrap_display.proofs.KeptLines.{found-blank, found-whole, found-here, found-kept}
+use Rattle.textwrap_display.proofs.KeptLines.{found-none, found-past, found-on, IsFound}
+use Rattle.textwrap_display.proofs.KeptWords.{read_to-start, read_to-step, IsReadTo, read-le}
 use Rattle.textwrap_display.proofs.shortening.kept_len.Goals.{then-ch-eq32+then-not-after_blank}
-use Rattle.textwrap_display.proofs.shortening.kept_len.Goals.{else-ch-eq32, then-is_visible}
-use Rattle.textwrap_display.proofs.shortening.kept_len.Goals.{else-is_visible, Joined-is_visible}
-use Rattle.textwrap_display.proofs.shortening.kept_len.Goals.{Joined-ch-eq32}
+use Rattle.textwrap_display.proofs.shortening.kept_len.Goals.{Joined-is_visible, else-is_visible}
+use Rattle.textwrap_display.proofs.shortening.kept_len.Goals.{then-is_visible, Joined-ch-eq32}
+use Rattle.textwrap_display.proofs.shortening.kept_len.Goals.{else-ch-eq32}
 
 pub loop-at-init : goal.loop-at-init
 loop-at-init c =
@@ -23,9 +22,8 @@ loop-at-init c =
 pub returns-then-taken-room : goal.returns-then-taken-room
 returns-then-taken-room c =
     let h = c.loop-at.invariant in
-    let line = c.args.line.now in
-    found-kept c.in-Some.room c.args.width c.args.placeholder.now line c.loop-at.kept (omega arith)
-    (found-past c.in-Some.room line c.utf8.line _ _ _ _ _ _ h.read h.found c.if-taken-room.true)
+    found-kept c.in-Some.room c.args.width c.args.placeholder.now c.args.line.now c.loop-at.kept
+    (omega arith) (found-past c.utf8.line h.read h.found c.if-taken-room.true)
 
 read : (c : Joined-is_visible)
     → IsReadTo c.args.line.now (char_indices_offset c.next.new.self)
@@ -39,13 +37,13 @@ read c =
           (sym (w.taken-is ∙ w.columns.ensures))
       | else-is_visible w ↦ rw (rw c.step-next.ensures at w.if-is_visible.false) (sym w.taken-is)
     ] in
-    rw (c.step-next.ensures, ← more) (read_to-step c.args.line.now c.utf8.line _ _ c.in-Some-2.ch
-    _ _ c.loop-at.state c.loop-at.taken c.loop-at.after_blank c.loop-at.invariant.read s.1 s.2)
+    rw (c.step-next.ensures, ← more)
+    (read_to-step c.utf8.line c.loop-at.invariant.read _ c.in-Some-2.ch _ s.1 s.2)
 
 pub overflow_add-taken : goal.overflow_add-taken
 overflow_add-taken c =
     let past = read (goal.at.overflow_add-taken c).Joined-is_visible in
-    omega (arith, read-le c.args.line.now c.utf8.line _ _ _ _ _ past)
+    omega (arith, read-le c.utf8.line past)
 
 found : (c : Joined-ch-eq32)
     → IsFound c.in-Some.room c.args.line.now (char_indices_offset c.next.new.self)
@@ -55,43 +53,34 @@ found c =
     let h = c.loop-at.invariant in
     let end = char_indices_offset c.next.new.self in
     elim c.if-ch-eq32.branch [
-      | then-ch-eq32+then-not-after_blank w ↦
-          subst (IsFound c.in-Some.room c.args.line.now end) (sym (w.kept-is ∙ s.0))
-          (found-here c.in-Some.room c.args.line.now c.utf8.line _ _ _ _ _ _ h.read h.found
-          c.in-Some-2.ch _ s.1 _ (omega (arith, s.2)) c.if-taken-room.false w.if-ch-eq32.true
-          w.if-not-after_blank.true)
-      | else-ch-eq32 w ↦
-          subst (IsFound c.in-Some.room c.args.line.now end) (sym w.kept-is)
-          (found-on c.in-Some.room c.args.line.now c.utf8.line _ _ _ _ _ _ h.read h.found
-          c.in-Some-2.ch _ s.1 _ (omega (arith, s.2)) w.else-ch-eq32.either)
+      | then-ch-eq32+then-not-after_blank w ↦ rw (w.kept-is, s.0)
+          (found-here c.utf8.line h.read h.found c.in-Some-2.ch _ s.1 end (omega (arith, s.2))
+          c.if-taken-room.false w.if-ch-eq32.true w.if-not-after_blank.true)
+      | else-ch-eq32 w ↦ rw w.kept-is
+          (found-on c.utf8.line h.read h.found c.in-Some-2.ch _ s.1 end (omega (arith, s.2))
+          w.else-ch-eq32.either)
     ]
 
 pub loop-at-preserved : goal.loop-at-preserved
-loop-at-preserved c =
-    record {
-      read = read (goal.at.loop-at-preserved c).Joined-is_visible;
-      found = found (goal.at.loop-at-preserved c).Joined-ch-eq32;
-    }
+loop-at-preserved c = record {
+  read = read (goal.at.loop-at-preserved c).Joined-is_visible;
+  found = found (goal.at.loop-at-preserved c).Joined-ch-eq32;
+}
 
 pub returns-then-after_blank : goal.returns-then-after_blank
 returns-then-after_blank c =
     let h = c.loop-at.invariant in
-    let line = c.args.line.now in
-    found-kept c.in-Some.room c.args.width c.args.placeholder.now line c.loop-at.kept
+    found-kept c.in-Some.room c.args.width c.args.placeholder.now c.args.line.now c.loop-at.kept
     (omega (arith, c.in-Some.ensures, c.display_width.ensures.width))
     (elim c.if-after_blank.either [
-      | inl past ↦
-          found-past c.in-Some.room line c.utf8.line _ _ _ _ _ _ h.read h.found past
-      | inr blank ↦
-          found-blank c.in-Some.room line c.utf8.line _ _ _ _ _ _ h.read h.found
-          c.in-None.ensures.steps.0 blank.1
+      | inl past ↦ found-past c.utf8.line h.read h.found past
+      | inr blank ↦ found-blank c.utf8.line h.read h.found c.in-None.ensures.steps.0 blank.1
     ])
 
 pub returns-else-after_blank : goal.returns-else-after_blank
 returns-else-after_blank c =
     let h = c.loop-at.invariant in
-    let line = c.args.line.now in
-    found-kept c.in-Some.room c.args.width c.args.placeholder.now line (length line)
-    (omega (arith, c.in-Some.ensures, c.display_width.ensures.width))
-    (found-whole c.in-Some.room line c.utf8.line _ _ _ _ _ _ h.read h.found
-    c.in-None.ensures.steps.0 c.if-after_blank.false.0 c.if-after_blank.false.1)
+    found-kept c.in-Some.room c.args.width c.args.placeholder.now c.args.line.now
+    (length c.args.line.now) (omega (arith, c.in-Some.ensures, c.display_width.ensures.width))
+    (found-whole c.utf8.line h.read h.found c.in-None.ensures.steps.0 c.if-after_blank.false.0
+    c.if-after_blank.false.1)

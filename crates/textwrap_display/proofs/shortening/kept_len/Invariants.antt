@@ -1,6 +1,6 @@
 use Rattle.textwrap_display.proofs.shortening.kept_len.Given as goal
 use Rattle.textwrap_text.proofs.Common.{char_indices_offset}
-use Rattle.std.specs.Str.Iter.{char_indices_rest}
+use Rattle.textwrap_display.proofs.Common.{char_indices_rest}
 use Rattle.textwrap_display.proofs.KeptLines.{IsFound}
 use Rattle.textwrap_display.proofs.KeptWords.{IsReadTo}
 

@@ -1,6 +1,6 @@
 use Rattle.textwrap_display.proofs.shortening.push_whole.Goals as goal
 use Rattle.textwrap_text.proofs.Common.{map}
-use Rattle.textwrap_layout.specs.Paragraph.{line_view}
+use Rattle.textwrap_display.proofs.Common.{line_view}
 use Rattle.textwrap_display.proofs.KeptLines.{views-more}
 
 pub loop-line-preserved : goal.loop-line-preserved

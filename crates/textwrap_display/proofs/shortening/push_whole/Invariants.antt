@@ -1,7 +1,6 @@
 use Rattle.textwrap_display.proofs.shortening.push_whole.Given as goal
-use Rattle.textwrap_text.proofs.Common.{◌≡◌, ◌++◌, map, take}
-use Rattle.textwrap_layout.specs.Paragraph.{Slice, line_view}
-use Rattle.textwrap_display.specs.Shortening.{texts_of}
+use Rattle.textwrap_text.proofs.Common.{take, ◌++◌, map, ◌≡◌}
+use Rattle.textwrap_display.proofs.Common.{line_view, texts_of, Slice}
 
 -- the lines so far were added
 abbrev pub invariant-loop-line : goal.invariant-loop-line

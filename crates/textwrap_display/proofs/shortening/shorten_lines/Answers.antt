@@ -1,11 +1,11 @@
 use Rattle.textwrap_display.proofs.shortening.shorten_lines.Goals as goal
-use Rattle.textwrap_text.proofs.Common.{◌≡◌, ◌+◌, [], ◌∷◌, ◌++◌, map, arith, take, sym, ap, subst}
-use Rattle.textwrap_text.proofs.Common.{◌∙◌, string_bytes}
-use Rattle.textwrap_layout.specs.Paragraph.{Built, Slice, line_view}
-use Rattle.textwrap_display.specs.Shortening.{AreShortened, IsShortened, texts_of}
-use Rattle.textwrap_display.proofs.KeptLines.{cut-lines, views-push}
-use Rattle.textwrap_display.proofs.shortening.shorten_lines.Goals.{then-lines-most+in_ok-push_whole}
+use Rattle.textwrap_text.proofs.Common.{string_bytes, arith, subst, take, ◌++◌, map, sym, ◌+◌, ◌∙◌}
+use Rattle.textwrap_text.proofs.Common.{◌∷◌, ◌≡◌, [], ap}
+use Rattle.textwrap_display.proofs.Common.{AreShortened, IsShortened, line_view, texts_of, Built}
+use Rattle.textwrap_display.proofs.Common.{Slice}
+use Rattle.textwrap_display.proofs.KeptLines.{views-push, cut-lines}
 use Rattle.textwrap_display.proofs.shortening.shorten_lines.Goals.{else-lines-most+in-Some+in_ok-push_whole-2+in_ok-last+in_ok-push}
+use Rattle.textwrap_display.proofs.shortening.shorten_lines.Goals.{then-lines-most+in_ok-push_whole}
 use Rattle.textwrap_display.proofs.shortening.shorten_lines.Goals.{else-lines-most+in_default}
 
 pub returns-clause-cut : goal.returns-clause-cut

@@ -1,6 +1,6 @@
 use Rattle.textwrap_display.proofs.styles.carry_styles.Goals as goal
-use Rattle.textwrap_text.proofs.Common.{◌≡◌, ◌++◌, drop, ap, ◌∙◌, rules}
-use Rattle.textwrap_display.specs.Styles.{closing, opening, sequences}
+use Rattle.textwrap_text.proofs.Common.{rules, drop, ◌++◌, ◌∙◌, ◌≡◌, ap}
+use Rattle.textwrap_display.proofs.Common.{sequences, closing, opening}
 use Rattle.textwrap_display.proofs.CarriedLines.{carries-more, line-is}
 
 pub loop-line-preserved : goal.loop-line-preserved

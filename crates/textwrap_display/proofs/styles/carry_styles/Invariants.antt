@@ -1,9 +1,6 @@
 use Rattle.textwrap_display.proofs.styles.carry_styles.Given as goal
-use Rattle.textwrap_text.proofs.Common.{◌≡◌, ℕ, List, [], ◌++◌, drop, map, shadow, Utf8}
-use Rattle.textwrap_layout.specs.Paragraph.{line_view}
-use Rattle.textwrap_display.specs.OpenStyles.{IsOpenAfter}
-use Rattle.textwrap_display.specs.Shortening.{texts_of}
-use Rattle.textwrap_display.specs.Styles.{carried_lines}
+use Rattle.textwrap_text.proofs.Common.{shadow, List, Utf8, drop, ◌++◌, map, ◌≡◌, [], ℕ}
+use Rattle.textwrap_display.proofs.Common.{carried_lines, IsOpenAfter, line_view, texts_of}
 
 -- the lines so far, and those of what is left after some sequences, are all lines
 abbrev pub invariant-loop-line : goal.invariant-loop-line

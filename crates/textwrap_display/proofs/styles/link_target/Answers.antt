@@ -1,12 +1,9 @@
 use Rattle.textwrap_display.proofs.styles.link_target.Goals as goal
-use Rattle.textwrap_text.proofs.Common.{◌≡◌, ◌==◌, true, false, length, sym, ap, subst, ◌∙◌, codes}
-use Rattle.textwrap_text.proofs.Common.{nat_lt, nat_tests, arith}
-use Rattle.std.specs.List.{after_first, position_or_len}
-use Rattle.std.specs.Option.{MatchOption}
-use Rattle.std.proofs.lemmas.Str.Pattern.{split_once_first}
-use Rattle.textwrap_display.specs.Styles.{is_link}
-use Rattle.textwrap_text.proofs.Lists.Parts.{any-position, stripped_prefix}
-use Rattle.textwrap_display.proofs.Sequences.{IsAround, link-cases}
+use Rattle.textwrap_text.proofs.Common.{nat_tests, length, nat_lt, arith, codes, false, subst, true}
+use Rattle.textwrap_text.proofs.Common.{◌==◌, sym, ◌∙◌, ◌≡◌, ap}
+use Rattle.textwrap_display.proofs.Common.{split_once_first, position_or_len, stripped_prefix}
+use Rattle.textwrap_display.proofs.Common.{any-position, MatchOption, after_first, is_link}
+use Rattle.textwrap_display.proofs.Sequences.{link-cases, IsAround}
 use Rattle.textwrap_display.proofs.styles.link_target.Goals.{After-or}
 
 -- what is found of either end says whether it is a link

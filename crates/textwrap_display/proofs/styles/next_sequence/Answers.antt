@@ -1,10 +1,8 @@
 use Rattle.textwrap_display.proofs.styles.next_sequence.Goals as goal
-use Rattle.textwrap_text.proofs.Common.{◌≡◌, ℕ, ◌+◌, ◌∷◌, ◌++◌, length, drop, sym, subst, arith}
-use Rattle.textwrap_text.proofs.Common.{eqb, slice_range, IsCharBoundary}
-use Rattle.std.specs.Str.{NoCharPasses}
-use Rattle.std.proofs.lemmas.Str.Pattern.{split_parts}
-use Rattle.textwrap_display.specs.Styles.{sequences}
-use Rattle.textwrap_display.proofs.Sequences.{tail_len, end-boundary, no_sequences, sequences-next}
+use Rattle.textwrap_text.proofs.Common.{IsCharBoundary, slice_range, length, arith, subst, drop, ℕ}
+use Rattle.textwrap_text.proofs.Common.{◌++◌, eqb, sym, ◌+◌, ◌∷◌, ◌≡◌}
+use Rattle.textwrap_display.proofs.Common.{NoCharPasses, split_parts, sequences}
+use Rattle.textwrap_display.proofs.Sequences.{sequences-next, end-boundary, no_sequences, tail_len}
 use Rattle.textwrap_display.proofs.styles.next_sequence.Goals.{In_ok-before}
 
 pub returns-in_err-before-clause-sequences : goal.returns-in_err-before-clause-sequences

@@ -1,9 +1,7 @@
 use Rattle.textwrap_display.proofs.styles.style_parameters.Goals as goal
-use Rattle.textwrap_text.proofs.Common.{◌≡◌, ◌++◌, sym, ap, ◌∙◌, codes}
-use Rattle.textwrap_text.proofs.Lists.Parts.{stripped_prefix, stripped_suffix}
-use Rattle.std.specs.Int.{is_in_range}
-use Rattle.std.specs.List.{list_all}
-use Rattle.textwrap_display.specs.Styles.{is_style}
+use Rattle.textwrap_text.proofs.Common.{codes, ◌++◌, sym, ◌∙◌, ◌≡◌, ap}
+use Rattle.textwrap_display.proofs.Common.{stripped_prefix, stripped_suffix, is_in_range, is_style}
+use Rattle.textwrap_display.proofs.Common.{list_all}
 use Rattle.textwrap_display.proofs.Sequences.{not_style, style-is}
 use Rattle.textwrap_display.proofs.styles.style_parameters.Goals.{In_ok-parameters}
 

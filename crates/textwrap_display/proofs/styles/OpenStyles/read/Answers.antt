@@ -1,7 +1,6 @@
 use Rattle.textwrap_display.proofs.styles.OpenStyles.read.Goals as goal
-use Rattle.textwrap_text.proofs.Common.{[], ◌∷◌, ◌++◌, sym, ap, subst, ◌∙◌, append_assoc}
-use Rattle.textwrap_display.specs.OpenStyles.{IsOpenAfter}
-use Rattle.textwrap_display.specs.Styles.{sequences}
+use Rattle.textwrap_text.proofs.Common.{append_assoc, subst, ◌++◌, sym, ◌∙◌, ◌∷◌, [], ap}
+use Rattle.textwrap_display.proofs.Common.{IsOpenAfter, sequences}
 
 pub loop-sequence-preserved : goal.loop-sequence-preserved
 loop-sequence-preserved g c = record {

@@ -1,7 +1,6 @@
 use Rattle.textwrap_display.proofs.styles.OpenStyles.read.Given as goal
-use Rattle.textwrap_text.proofs.Common.{◌≡◌, ℕ, List, ◌++◌, length, shadow, Utf8}
-use Rattle.textwrap_display.specs.OpenStyles.{IsOpenAfter}
-use Rattle.textwrap_display.specs.Styles.{sequences}
+use Rattle.textwrap_text.proofs.Common.{length, shadow, List, Utf8, ◌++◌, ◌≡◌, ℕ}
+use Rattle.textwrap_display.proofs.Common.{IsOpenAfter, sequences}
 
 -- some sequences were taken, and those of what is left follow them
 abbrev pub invariant-loop-sequence : goal.invariant-loop-sequence

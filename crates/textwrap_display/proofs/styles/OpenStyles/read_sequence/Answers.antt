@@ -1,13 +1,11 @@
 use Rattle.textwrap_display.proofs.styles.OpenStyles.read_sequence.Goals as goal
-use Rattle.textwrap_text.proofs.Common.{◌≡◌, ◌==◌, ◌||◌, [], ◌∷◌, true, false, cond, sym, ap, ◌∙◌}
-use Rattle.textwrap_text.proofs.Common.{refl}
-use Rattle.std.specs.List.{list_all}
-use Rattle.std.specs.Option.{option_copied, option_to_list}
-use Rattle.textwrap_display.specs.Styles.{has_target}
-use Rattle.textwrap_display.proofs.OpenSequences.{after-reset, after-style, after-link, after-other}
+use Rattle.textwrap_text.proofs.Common.{false, cond, refl, true, ◌==◌, ◌||◌, sym, ◌∙◌, ◌∷◌, ◌≡◌, []}
+use Rattle.textwrap_text.proofs.Common.{ap}
+use Rattle.textwrap_display.proofs.Common.{option_to_list, option_copied, has_target, list_all}
+use Rattle.textwrap_display.proofs.OpenSequences.{after-other, after-reset, after-style, after-link}
 use Rattle.textwrap_display.proofs.OpenSequences.{target-set}
-use Rattle.textwrap_display.proofs.styles.OpenStyles.read_sequence.Goals.{then-is_empty}
 use Rattle.textwrap_display.proofs.styles.OpenStyles.read_sequence.Goals.{else-is_empty}
+use Rattle.textwrap_display.proofs.styles.OpenStyles.read_sequence.Goals.{then-is_empty}
 
 pub returns-in_ok-push_str : goal.returns-in_ok-push_str
 returns-in_ok-push_str g c = λ before state.

@@ -2,16 +2,19 @@
 use Rattle.textwrap_calls.proofs.Common.{◌≡◌, ℕ, ◌+◌, ◌-◌, ◌≤◌, List, [], ◌∷◌, ◌++◌, take, drop}
 use Rattle.textwrap_calls.proofs.Common.{length, sym, ap, refl, ◌∙◌, subst, arith, append_assoc}
 use Rattle.textwrap_calls.proofs.Common.{slice_range, length-append, length-drop, ◌==◌, Bool, true}
-use Rattle.textwrap_calls.proofs.Common.{false, cond, map, append-nil, flat_map, IsUtf8, map_push}
+use Rattle.textwrap_calls.proofs.Common.{false, cond, map, append-nil, flat, IsUtf8, map_push}
 use Rattle.textwrap_calls.proofs.Common.{sizes_of, tiled, WordText, widths_of, Line, Slice, Built}
 use Rattle.textwrap_calls.proofs.Common.{join-paragraphs_of, paragraphs_of-utf8, lines_of-cut_lines}
 use Rattle.textwrap_calls.proofs.Common.{built_text, lines_of, place_of, ArePlacedLines, Place}
-use Rattle.textwrap_calls.proofs.Common.{words_by, ArePlacedRows, ShowLines}
+use Rattle.textwrap_calls.proofs.Common.{words_by, ArePlacedRows, ShowLines, AreGroups, StartsWith}
+use Rattle.textwrap_calls.proofs.Common.{starts_with_length, take-append-drop, nat_lt, ◌||◌, ◌⊎◌}
+use Rattle.textwrap_calls.proofs.Common.{WritesReported, WritesLines, done, too_small, TextwrapLine}
+use Rattle.textwrap_calls.proofs.Common.{ending_bytes, join_with, paragraphs_of, Settings, LineParts}
+use Rattle.textwrap_calls.proofs.Common.{line_from, covered_by}
 use Rattle.textwrap_text.proofs.Common.{⊤, drop-drop, map-append}
 use Rattle.textwrap_words.proofs.Common.{ArePoints}
-use Rattle.textwrap.proofs.Common.{ending_bytes, join_with, paragraphs_of, Settings, LineParts}
-use Rattle.textwrap.proofs.Common.{line_from, covered_by}
-use Rattle.std.proofs.Math.Seq.{drop-append_seam, take-append_seam}
+use Rattle.std.proofs.Math.Seq.{drop-append_seam, take-append_seam, take-length}
+use Rattle.std.proofs.lemmas.Simd.{map-map}
 use Rattle.textwrap_base.proofs.Division.Map.{IsDividedBy-whole}
 use Rattle.textwrap_words.proofs.Word.Pieces.{ArePoints-cuts}
 use Rattle.textwrap_layout.proofs.Paragraph.Pieces.{pieces-tile}
@@ -24,7 +27,8 @@ use Rattle.textwrap.specs.WordSplitters.{Splitter}
 use Rattle.textwrap.specs.WrapAlgorithms.{Algorithm}
 use Rattle.textwrap_plain.proofs.Words.{texts-at}
 use Rattle.textwrap_plain.specs.declared.options.PlainSeparator.{PlainSeparator}
-use Rattle.textwrap_calls.specs.Columns.{row_cuts}
+use Rattle.textwrap_calls.proofs.RoomLemmas.{WritesLines-reported}
+use Rattle.textwrap_calls.specs.Columns.{AreRows, row_cuts}
 
 -- ---- lines that were cut from a text stand where they are reported
 
@@ -116,6 +120,14 @@ shown text room room_rest (cut ∷ cuts) from used (here, rest) goes =
     (shown text room room_rest cuts (cut_end from cut.at cut.line) (used + length own) rest
     (passes room own more used goes_here).after)
 
+-- and so the lines are shown that were cut from a text
+pub shown-places : (text : List ℕ) (cuts : List CutLine) (places : List Place) → AreCut text 0 cuts
+    → places ≡ places_of 0 cuts → (rest : List ℕ)
+    → ShowLines text (built_text (lines_of cuts) ++ rest) 0 0 (lines_of cuts) places
+shown-places text cuts places are is rest =
+    rw is (shown text (built_text (lines_of cuts) ++ rest) rest cuts 0 0 are
+    (record { within = omega arith; is = refl }))
+
 -- ---- the lines of a text stand where they are reported
 
 -- a line in front of others: a slice where the text goes on with it, or a text of its own
@@ -150,43 +162,66 @@ paragraph-cut text others (p ∷ parts) rest from at after goes more =
     (passes text piece (covered ++ rest) at here).after
     (λ last within. more last (omega (arith, within, sum))))
 
--- where the text goes on with paragraphs that the lines cover
-groups-cut : (text separator : List ℕ) (groups : List (List LineParts)) (from start : ℕ)
-    → from ≤ start → HasRest text start (join_with separator (map covered_by groups))
-    → AreCut text from (text_cuts (length separator) start (map covered_by groups) groups)
-groups-cut text separator [] from start after goes = tt
-groups-cut text separator (parts ∷ []) from start after goes =
-    paragraph-cut text [] parts [] from start after
-    (subst (HasRest text start) (sym (append-nil (covered_by parts))) goes) (λ next le. tt)
-groups-cut text separator (parts ∷ more ∷ groups) from start after goes =
-    let covered = covered_by parts in
-    let joined = join_with separator (map covered_by (more ∷ groups)) in
-    let here = subst (HasRest text start) (append_assoc covered separator joined) goes in
-    let past = (passes text covered (separator ++ joined) start here).after in
-    let next_goes = (passes text separator joined (start + length covered) past).after in
-    paragraph-cut text _ parts (separator ++ joined) from start after here
-    (λ next le. groups-cut text separator (more ∷ groups) next
-    (start + length covered + length separator) (omega (arith, le)) next_goes)
+-- each paragraph begins with what its lines cover
+abbrev pub AreBegun : Bool → List (List ℕ) → List (List LineParts) → Type 0
+AreBegun = AreGroups (λ is_later paragraph parts. StartsWith paragraph (covered_by parts))
+
+begun-rest : (text paragraph covered rest : List ℕ) (at : ℕ) → StartsWith paragraph covered
+    → HasRest text at (paragraph ++ rest)
+    → HasRest text at (covered ++ (drop (length covered) paragraph ++ rest))
+begun-rest text paragraph covered rest at begins goes =
+    let tail = drop (length covered) paragraph in
+    subst (HasRest text at) (ap (λ bytes. bytes ++ rest)
+    (sym (take-append-drop (length covered) paragraph) ∙ ap (λ bytes. bytes ++ tail) begins)
+    ∙ append_assoc covered tail rest) goes
+
+-- where the text goes on with such paragraphs
+pub groups-cut : (text separator : List ℕ) (is_later : Bool) (paragraphs : List (List ℕ))
+    (groups : List (List LineParts)) (from start : ℕ) → from ≤ start
+    → HasRest text start (join_with separator paragraphs) → AreBegun is_later paragraphs groups
+    → AreCut text from (text_cuts (length separator) start paragraphs groups)
+groups-cut text separator is_later [] groups from start after goes begun = tt
+groups-cut text separator is_later (paragraph ∷ paragraphs) [] from start after goes begun = tt
+groups-cut text separator is_later (paragraph ∷ []) (parts ∷ groups) from start after goes begun =
+    paragraph-cut text [] parts _ from start after
+    (begun-rest text paragraph (covered_by parts) [] start begun.0
+    (subst (HasRest text start) (sym (append-nil paragraph)) goes)) (λ next le. tt)
+groups-cut text separator is_later (paragraph ∷ more ∷ paragraphs) (parts ∷ groups) from start after
+    goes begun =
+    let joined = join_with separator (more ∷ paragraphs) in
+    let here = subst (HasRest text start) (append_assoc paragraph separator joined) goes in
+    let past = (passes text paragraph (separator ++ joined) start here).after in
+    let next_goes = (passes text separator joined (start + length paragraph) past).after in
+    let short = starts_with_length paragraph (covered_by parts) begun.0 in
+    paragraph-cut text _ parts _ from start after
+    (begun-rest text paragraph (covered_by parts) (separator ++ joined) start begun.0 here)
+    (λ next le. groups-cut text separator (is_later || nat_lt 0 (length parts)) (more ∷ paragraphs)
+    groups next (start + length paragraph + length separator) (omega (arith, le, short)) next_goes
+    begun.1)
+
+-- paragraphs that the lines cover
+begun-all : (is_later : Bool) (groups : List (List LineParts))
+    → AreBegun is_later (map covered_by groups) groups
+begun-all is_later [] = refl
+begun-all is_later (parts ∷ groups) =
+    (take-length (covered_by parts), begun-all (is_later || nat_lt 0 (length parts)) groups)
 
 lines_of-text_cuts : (ending start : ℕ) (groups : List (List LineParts))
     → lines_of (text_cuts ending start (map covered_by groups) groups)
-    ≡ map line_from (flat_map (λ parts. parts) groups)
+    ≡ map line_from (flat groups)
 lines_of-text_cuts ending start [] = refl
-lines_of-text_cuts ending start (parts ∷ groups) =
-    let next = start + length (covered_by parts) + ending in
-    map-append (λ (cut : CutLine). cut.line) (cut_lines start parts)
-    (text_cuts ending next (map covered_by groups) groups)
-    ∙ ap (λ ls. ls ++ lines_of (text_cuts ending next (map covered_by groups) groups))
-    (lines_of-cut_lines start parts)
-    ∙ ap (λ ls. map line_from parts ++ ls) (lines_of-text_cuts ending next groups)
-    ∙ sym (map-append line_from parts (flat_map (λ ps. ps) groups))
+lines_of-text_cuts ending start (parts ∷ groups) = simp (
+  map-append,
+  lines_of-cut_lines,
+  lines_of-text_cuts ending (start + length (covered_by parts) + ending) groups,
+)
 
 -- the pieces of a divided paragraph are the paragraph
 divided-tile : (settings : Settings) (separator : PlainSeparator) (splitter : Splitter)
     (algorithm : Algorithm) (is_later : Bool) (paragraph : List ℕ)
     (division : List (List WordText)) → IsUtf8 paragraph
     → DividesAt (words_by separator) splitter algorithm settings is_later paragraph division
-    → tiled (flat_map (λ line. line) division) ≡ paragraph
+    → tiled (flat division) ≡ paragraph
 divided-tile settings separator splitter algorithm is_later paragraph division utf8
     (pieces, are, divided) =
     ap tiled (IsDividedBy-whole sizes_of algorithm (widths_of settings is_later) pieces division
@@ -204,51 +239,45 @@ placed-shown settings separator splitter algorithm text lines places utf8 placed
     let ending = ending_bytes settings.line_ending in
     let paragraphs = paragraphs_of settings.line_ending text in
     let groups = placed.are.groups in
-    let cuts = text_cuts (length ending) 0 (map covered_by groups) groups in
     let tile : map covered_by groups ≡ paragraphs =
     groups-tile settings (DividesAt (words_by separator) splitter algorithm settings)
     (divided-tile settings separator splitter algorithm) false paragraphs groups
     (paragraphs_of-utf8 settings.line_ending text utf8) placed.are.defined in
-    let whole : text ≡ join_with ending (map covered_by groups) =
-    sym (ap (join_with ending) tile ∙ join-paragraphs_of settings.line_ending text) in
-    let here = shown text (built_text (lines_of cuts) ++ rest) rest cuts 0 0
-    (groups-cut text ending groups 0 0 (omega arith) (record { within = omega arith; is = whole }))
-    (record { within = omega arith; is = refl }) in
-    subst (λ ls. ShowLines text (built_text ls ++ rest) 0 0 ls places)
-    (lines_of-text_cuts (length ending) 0 groups ∙ sym placed.are.given)
-    (subst (ShowLines text (built_text (lines_of cuts) ++ rest) 0 0 (lines_of cuts))
-    (ap (λ ps. places_of 0 (text_cuts (length ending) 0 ps groups)) tile ∙ sym placed.places_are)
-    here)
+    let given = ap (λ ps. lines_of (text_cuts (length ending) 0 ps groups)) (sym tile)
+    ∙ lines_of-text_cuts (length ending) 0 groups ∙ sym placed.are.given in
+    subst (λ ls. ShowLines text (built_text ls ++ rest) 0 0 ls places) given
+    (shown-places text (text_cuts (length ending) 0 paragraphs groups) places
+    (groups-cut text ending false paragraphs groups 0 0 (omega arith) (record {
+      within = omega arith;
+      is = sym (join-paragraphs_of settings.line_ending text);
+    })
+    (subst (λ ps. AreBegun false ps groups) tile (begun-all false groups))) placed.places_are rest)
 
 -- ---- the rows of a table, which are all lines of their own, stand where they are reported
 
 lines_of-rows : (rows : List (List ℕ)) → lines_of (row_cuts rows) ≡ map Built rows
-lines_of-rows [] = refl
-lines_of-rows (row ∷ rows) = ap (λ ls. Built row ∷ ls) (lines_of-rows rows)
+lines_of-rows rows = map-map (λ cut. cut.line) (λ row. cut_line 0 (Built row)) rows
 
 rows-cut : (text : List ℕ) (rows : List (List ℕ)) (from : ℕ) → AreCut text from (row_cuts rows)
 rows-cut text [] from = tt
 rows-cut text (row ∷ rows) from = (tt, rows-cut text rows from)
 
--- placed rows are reported where they are shown
-pub record ShownRows (text : List ℕ) (rows : List (List ℕ)) (places : List Place)
-    (built : List ℕ) : Type 0 where
-  pub built_is : built ≡ built_text (map Built rows)
-  pub shown : (rest : List ℕ)
-      → ShowLines text (built_text (map Built rows) ++ rest) 0 0 (map Built rows) places
-
-pub rows-shown : (text : List ℕ) (rows : List (List ℕ)) (places : List Place) (built : List ℕ)
-    → ArePlacedRows rows places built → ShownRows text rows places built
-rows-shown text rows places built (places_are, built_is) =
-    let lines = lines_of (row_cuts rows) in
-    record {
-      built_is = built_is ∙ ap built_text (lines_of-rows rows);
-      shown = λ rest. subst (λ ls. ShowLines text (built_text ls ++ rest) 0 0 ls places)
-          (lines_of-rows rows)
-          (subst (ShowLines text (built_text lines ++ rest) 0 0 lines) (sym places_are)
-          (shown text (built_text lines ++ rest) rest (row_cuts rows) 0 0 (rows-cut text rows 0)
-          (record { within = omega arith; is = refl })));
-    }
+-- placed rows were written
+pub rows-written : {Are : List (List ℕ) → Type 0} {text : List ℕ} {places : List Place}
+    {built : List ℕ} {status : ℕ} {lines_before lines_after : List TextwrapLine}
+    {count_before count_after : ℕ} {room_before room_after : List ℕ} {len_before len_after : ℕ}
+    (rows : List (List ℕ)) → Are rows → ArePlacedRows rows places built
+    → (status ≡ done) ⊎ (status ≡ too_small)
+    → WritesReported (λ n. n) places built status lines_before lines_after count_after room_before
+    room_after len_after
+    → WritesLines (λ lines _. AreRows Are lines) text status lines_before lines_after count_before
+    count_after room_before room_after len_before len_after
+rows-written {text = text} {places = places} rows are (places_are, built_is) statuses writes =
+    WritesLines-reported (map Built rows) (rows, are, refl)
+    (built_is ∙ ap built_text (lines_of-rows rows))
+    (λ rest. rw (← lines_of-rows rows)
+    (shown-places text (row_cuts rows) places (rows-cut text rows 0) places_are rest))
+    statuses writes
 
 pub ArePlacedRows-push : (rows : List (List ℕ)) (row : List ℕ) (places more : List Place)
     (built grown : List ℕ) → ArePlacedRows rows places built
@@ -256,17 +285,15 @@ pub ArePlacedRows-push : (rows : List (List ℕ)) (row : List ℕ) (places more 
     → grown ≡ built ++ [] ++ row ++ [] → ArePlacedRows (rows ++ row ∷ []) more grown
 ArePlacedRows-push rows row places more built grown (places_are, built_is) more_is grown_is =
     let cut = cut_line 0 (Built row) in
-    let cuts = row_cuts rows in
-    let pushed : row_cuts rows ++ cut ∷ [] ≡ row_cuts (rows ++ row ∷ []) =
-    sym (map_push (λ bytes. cut_line 0 (Built bytes)) rows row) in (
-      more_is ∙ ap (λ bytes. places ++ place_of 0 (length built) (Built bytes) ∷ [])
-          (append-nil row)
-          ∙ ap (λ ps. ps ++ place_of 0 (length built) (Built row) ∷ []) places_are
-          ∙ sym (places_of-push 0 (length built) cuts cut
-          (let len = ap length built_is in omega (arith, len)))
-          ∙ ap (places_of 0) pushed,
-      grown_is ∙ append-nil ((built ++ []) ++ row)
-          ∙ ap (λ bytes. bytes ++ row) (append-nil built ∙ built_is)
-          ∙ sym (built_text-push cuts cut)
-          ∙ ap (λ cs. built_text (lines_of cs)) pushed,
+    let pushed = map_push (λ bytes. cut_line 0 (Built bytes)) rows row in
+    let len : length built ≡ 0 + length (built_text (lines_of (row_cuts rows))) =
+    omega (arith, ap length built_is) in (
+      cc (append-nil row, pushed, places_of-push 0 (length built) (row_cuts rows) cut len),
+      cc (
+        append-nil row,
+        append-nil built,
+        append-nil ((built ++ []) ++ row),
+        pushed,
+        built_text-push (row_cuts rows) cut,
+      ),
     )

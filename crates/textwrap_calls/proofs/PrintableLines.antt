@@ -1,14 +1,13 @@
 -- Texts of printable ASCII, block by block, and texts that are one line.
+use Rattle.textwrap_calls.proofs.Common.{ShowLines}
 use Rattle.textwrap_calls.proofs.Common.{◌≡◌, ◌≢◌, ℕ, ◌+◌, ◌-◌, ◌<◌, ◌≤◌, ◌∙◌, true, false, List}
 use Rattle.textwrap_calls.proofs.Common.{[], ◌∷◌, ◌++◌, length, drop, get_or, slice_range, cond}
 use Rattle.textwrap_calls.proofs.Common.{IsUtf8, refl, sym, ap, subst, arith, nat_tests, cases_lt}
-use Rattle.textwrap_calls.proofs.Common.{inl, inr, append-nil, All-from_get_or, ◌==◌, ◌⊎◌, All-head}
-use Rattle.textwrap_calls.proofs.Common.{true≢false, lines, IsPrintableByte, word_of, is_whole}
-use Rattle.textwrap_calls.proofs.Common.{IsFilled, is_blank_line, length-slice, as_len}
-use Rattle.textwrap_calls.proofs.Common.{ArePlacedLines, place_of, TextwrapLine, IsRefilled}
+use Rattle.textwrap_calls.proofs.Common.{inl, inr, append-nil, All-from_get_or, ◌==◌, All-head}
+use Rattle.textwrap_calls.proofs.Common.{true≢false, IsPrintableByte, word_of, is_whole, IsFilled}
+use Rattle.textwrap_calls.proofs.Common.{is_blank_line, length-slice, place_of, IsRefilled}
 use Rattle.textwrap_calls.proofs.Common.{algorithm_of, Divides, says_yes, separator_of, settings_of}
-use Rattle.textwrap_calls.proofs.Common.{splitter_of, WritesReported, done, too_small}
-use Rattle.textwrap_calls.proofs.Common.{TextwrapOptions}
+use Rattle.textwrap_calls.proofs.Common.{splitter_of, TextwrapOptions}
 use Rattle.textwrap_text.proofs.Common.{lt-ltb, get_or-drop, get_or-take, All-drop, All-take}
 use Rattle.textwrap_text.proofs.Common.{list_any, IsPrintable, without_final_blanks}
 use Rattle.textwrap_layout.proofs.Common.{parts_of, Slice}
@@ -24,9 +23,7 @@ use Rattle.textwrap.specs.Indentation.{HasNoLineFeed, indented}
 use Rattle.textwrap.specs.Refilling.{joined_text, keeps_ending, line_prefix, unfilled_initial}
 use Rattle.textwrap.specs.Refilling.{unfilled_subsequent, with_indents_of}
 use Rattle.textwrap_calls.proofs.PlaceLemmas.{placed-shown}
-use Rattle.textwrap_calls.proofs.RoomLemmas.{WritesLines-reported}
 use Rattle.textwrap_calls.specs.Printable.{IsOnlyLine, AreWithoutIndents}
-use Rattle.textwrap_calls.specs.Wrapping.{WritesLongLines}
 
 -- ---- texts of printable ASCII, block by block, and texts that are one line
 
@@ -111,23 +108,12 @@ pub only-line-filled : (o : TextwrapOptions) (text line : List ℕ) → IsOnlyLi
 only-line-filled o text line only = (Slice line ∷ [], only.are, refl)
 
 -- and its one line is reported where it begins
-pub only-line-reported : (o : TextwrapOptions) (text line : List ℕ) (status : ℕ)
-    (lines_before lines_after : List TextwrapLine) (count_before count_after : ℕ)
-    (room_before room_after : List ℕ) (len_before len_after : ℕ) → IsUtf8 text
-    → IsOnlyLine o text line → (status ≡ done) ⊎ (status ≡ too_small)
-    → WritesReported as_len (place_of 0 0 (Slice line) ∷ []) [] status lines_before lines_after
-    count_after room_before room_after len_after
-    → WritesLongLines (ArePlacedLines (settings_of o) (Divides o (settings_of o)) text) text status
-    lines_before lines_after count_before count_after room_before room_after len_before len_after
-only-line-reported o text line status lines_before lines_after count_before count_after room_before
-    room_after len_before len_after utf8 only statuses writes =
-    let lines = Slice line ∷ [] in
-    let places = place_of 0 0 (Slice line) ∷ [] in
-    let shown = placed-shown (settings_of o) (separator_of o) (splitter_of o) (algorithm_of o) text
-    lines places utf8 only in
-    WritesLines-reported (ArePlacedLines (settings_of o) (Divides o (settings_of o)) text) text lines
-    places [] status lines_before lines_after count_before count_after room_before room_after len_before
-    len_after only refl shown statuses writes
+pub only-line-shown : (o : TextwrapOptions) (text line : List ℕ) → IsUtf8 text
+    → IsOnlyLine o text line → (rest : List ℕ)
+    → ShowLines text rest 0 0 (Slice line ∷ []) (place_of 0 0 (Slice line) ∷ [])
+only-line-shown o text line =
+    placed-shown (settings_of o) (separator_of o) (splitter_of o) (algorithm_of o) text
+    (Slice line ∷ []) (place_of 0 0 (Slice line) ∷ [])
 
 -- ---- A text that is one line and begins with no indent is refilled as it is filled
 

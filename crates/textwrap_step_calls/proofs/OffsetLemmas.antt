@@ -1,10 +1,9 @@
 -- Each offset is passed where a character ends if they are offsets of the text, and only then.
 use Rattle.textwrap_text.proofs.Common.{◌≡◌, ℕ, ◌+◌, ◌<◌, ◌↔◌, List, [], ◌∷◌, length, drop, refl}
 use Rattle.textwrap_text.proofs.Common.{sym, ap, subst, arith, inl, inr, cases_Bool, eqb, eqb-true}
-use Rattle.textwrap_text.proofs.Common.{eqb-false, All-nil, All-head, IsUtf8, IsUtf8-drop}
-use Rattle.textwrap_text.proofs.Common.{IsCharBoundary, IsCharBoundary-start, IsUtf8-past_char}
-use Rattle.textwrap_text.proofs.Common.{encode_utf8_all, encodes-chars, length-drop, stripped}
-use Rattle.textwrap_text.proofs.Common.{units}
+use Rattle.textwrap_text.proofs.Common.{eqb-false, IsUtf8, IsUtf8-drop, IsCharBoundary}
+use Rattle.textwrap_text.proofs.Common.{IsCharBoundary-start, IsUtf8-past_char, encode_utf8_all}
+use Rattle.textwrap_text.proofs.Common.{encodes-chars, length-drop, stripped, units}
 use Rattle.std.specs.Str.{chars}
 use Rattle.textwrap_text.proofs.Units.Texts.{units-tile}
 use Rattle.textwrap_text.specs.Units.{visible}

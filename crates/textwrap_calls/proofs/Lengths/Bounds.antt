@@ -1,64 +1,48 @@
 -- How many lines and rows a text has at most, and how long they are together, by the options of C.
 use Rattle.textwrap_calls.proofs.Common.{◌≡◌, ℕ, ◌+◌, ◌*◌, ◌≤◌, ◌==◌, ◌&&◌, true, false, cond, List}
 use Rattle.textwrap_calls.proofs.Common.{[], ◌∷◌, All, All-tail, length, map, refl, sym, ap, ◌∙◌}
-use Rattle.textwrap_calls.proofs.Common.{subst, arith, IsUtf8, Bool, length-append, length-map}
-use Rattle.textwrap_calls.proofs.Common.{sum_by-cons, nil_from_length, ◌-◌, get_or, sum_by}
-use Rattle.textwrap_calls.proofs.Common.{sum_by-append, range_with_len, ◌<◌, nat_tests, cases_lt}
+use Rattle.textwrap_calls.proofs.Common.{subst, arith, IsUtf8, Bool, length-append, length-map, ◌-◌}
+use Rattle.textwrap_calls.proofs.Common.{get_or, flat_map, range_with_len, ◌<◌, nat_tests, cases_lt}
 use Rattle.textwrap_calls.proofs.Common.{inl, inr, Settings, LineParts, AreIndented, line_bytes}
 use Rattle.textwrap_calls.proofs.Common.{line_from, indent_of, ending_bytes, join_with}
 use Rattle.textwrap_calls.proofs.Common.{paragraphs_of, AreGroups, AreParagraphParts, IsFilled}
-use Rattle.textwrap_calls.proofs.Common.{sum_by-le-sum_by, mul-le, flat, HasNoHyphen}
-use Rattle.textwrap_calls.proofs.Common.{join-paragraphs_of, paragraphs_of-utf8, ending_bytes-some}
-use Rattle.textwrap_calls.proofs.Common.{table_rows, IsInColumns, algorithm_of, Divides}
-use Rattle.textwrap_calls.proofs.Common.{separator_of, splitter_of, settings_of, TextwrapOptions}
-use Rattle.textwrap_calls.proofs.Common.{◌++◌, All-head}
+use Rattle.textwrap_calls.proofs.Common.{mul-le, flat, HasNoHyphen, join-paragraphs_of}
+use Rattle.textwrap_calls.proofs.Common.{paragraphs_of-utf8, ending_bytes-some, table_rows}
+use Rattle.textwrap_calls.proofs.Common.{IsInColumns, algorithm_of, Divides, separator_of}
+use Rattle.textwrap_calls.proofs.Common.{splitter_of, settings_of, TextwrapOptions, All-head}
 use Rattle.textwrap_text.proofs.Common.{and_parts, ◌/◌, max}
-use Rattle.textwrap_layout.proofs.Common.{AreTextLines, Line, Slice, built_bytes, built_text}
+use Rattle.textwrap_layout.proofs.Common.{covered_by, AreTextLines, Line, Slice, built_bytes, built_text}
 use Rattle.textwrap.proofs.Common.{RowLayout, cell, cells, padded, row_text}
+use Rattle.std.proofs.Common.{replicate}
 use Rattle.std.proofs.Math.Nat.{lt-mul-div-succ, lt_of_mul-lt-mul_right, mul-div-le}
-use Rattle.std.proofs.lemmas.Grind.{div_ceil_times}
+use Rattle.std.proofs.lemmas.Grind.{div_ceil_times, flat_map-append}
 use Rattle.std.proofs.lemmas.List.{length-replicate}
-use Rattle.std.proofs.lemmas.List.Folds.{sum_by-replicate}
+use Rattle.std.proofs.lemmas.List.Concat.{length-flat_map}
+use Rattle.std.proofs.lemmas.List.Folds.{flat_map-map, sum_by-replicate}
 use Rattle.std.proofs.lemmas.List.FromFn.{fill_by_all, length-range_with_len}
 use Rattle.std.specs.Int.{div_ceil}
 use Rattle.textwrap_lines.proofs.Text.Groups.{groups-map}
 use Rattle.textwrap_layout.specs.Paragraph.{Built}
 use Rattle.textwrap.proofs.Text.Tables.{columns_kept}
 use Rattle.textwrap.specs.Columns.{row_count, layout_of, at_column_width, column_width, inner_width}
-use Rattle.textwrap.specs.Columns.{blanks}
 use Rattle.textwrap_plain.proofs.Words.{IsWrapped-at}
-use Rattle.textwrap_calls.proofs.Lengths.Lines.{bytes-length, groups-size, slices_length}
-use Rattle.textwrap_calls.proofs.Lengths.Lines.{count-lines, indent-length}
-use Rattle.textwrap_calls.proofs.Lengths.Sums.{texts_length, texts-joined, by-columns, sum-each}
-use Rattle.textwrap_calls.proofs.Lengths.Sums.{sum-map}
+use Rattle.textwrap_calls.proofs.Lengths.Lines.{count-lines, groups-size, indent-length}
+use Rattle.textwrap_calls.proofs.Lengths.Lines.{later-length, line-length, slices}
+use Rattle.textwrap_calls.proofs.Lengths.Sums.{by-columns, flat-each, joined-some, texts-joined}
 use Rattle.textwrap_calls.specs.Bounds.{wrap_room_bound, fill_bound, columns_room_bound, rows_bound}
 use Rattle.textwrap_calls.specs.Columns.{AreRows}
 use Rattle.textwrap_calls.specs.declared.columns.TextwrapGaps.{TextwrapGaps}
-use Rattle.std.proofs.Common.{replicate}
-
--- ---- how many lines a text has at most, and how long they are together, by the options of C
 
 -- ---- lines of their own
 
-built-le : (lines : List Line) → length (built_text lines) ≤ texts_length (map line_bytes lines)
+built-le : (lines : List Line) → length (built_text lines) ≤ length (flat (map line_bytes lines))
 built-le [] = omega arith
-built-le (Slice bytes ∷ lines) =
-    omega (arith, built-le lines, sum_by-cons (λ (t : List ℕ). length t) bytes (map line_bytes lines))
-built-le (Built bytes ∷ lines) =
-    omega (
-      arith,
-      built-le lines,
-      length-append bytes (built_text lines),
-      sum_by-cons (λ (t : List ℕ). length t) bytes (map line_bytes lines),
-    )
+built-le (Slice bytes ∷ lines) = omega (arith, built-le lines, length-append {A = ℕ})
+built-le (Built bytes ∷ lines) = omega (arith, built-le lines, length-append {A = ℕ})
 
 slice-line : (p : LineParts) → length p.indent ≡ 0 → HasNoHyphen p
     → length (built_bytes (line_from p)) ≡ 0
-slice-line p short none =
-    let indent : p.indent ≡ [] = nil_from_length p.indent short in
-    ap (λ i. length (built_bytes (line_from (record p { indent = i })))) indent
-    ∙ ap (λ penalty. length (built_bytes (line_from (record p { indent = []; penalty = penalty }))))
-    none
+slice-line p short none = grind (arith, length-append, ap length none)
 
 -- without indents there are none
 built-none : (settings : Settings) (is_later : Bool) (parts : List LineParts)
@@ -72,7 +56,7 @@ built-none settings is_later (p ∷ parts) here later are none =
       slice-line p (omega (arith, here, ap length are.0, indent-length settings is_later p.pieces))
           (All-head HasNoHyphen p parts none),
       built-none settings true parts later later are.1 (All-tail HasNoHyphen p parts none),
-      length-append (built_bytes (line_from p)) (built_text (map line_from parts)),
+      length-append {A = ℕ},
     )
 
 -- ---- all lines
@@ -80,26 +64,32 @@ built-none settings is_later (p ∷ parts) here later are none =
 -- how many they are, how long they are, and how long those are that have an indent
 pub record AreBounded (settings : Settings) (len : ℕ) (lines : List Line) : Type 0 where
   pub count : length lines ≤ len + 1
-  pub bytes : texts_length (map line_bytes lines)
+  pub bytes : length (flat (map line_bytes lines))
       ≤ length settings.initial_indent + len * (1 + length settings.subsequent_indent)
   pub built : length (built_text lines) ≤ wrap_room_bound settings len
 
 module _ (settings : Settings) (len : ℕ) where
   bytes-bounded : (parts : List LineParts) → AreIndented settings false parts
-      → All HasNoHyphen parts → length parts ≤ len + 1 → slices_length parts ≤ len
-      → texts_length (map line_bytes (map line_from parts))
+      → All HasNoHyphen parts → length parts ≤ len + 1 → length (slices parts) ≤ len
+      → length (flat (map line_bytes (map line_from parts)))
       ≤ length settings.initial_indent + len * (1 + length settings.subsequent_indent)
-  bytes-bounded [] indented none count slices = omega arith
-  bytes-bounded (p ∷ parts) indented none count slices =
+  bytes-bounded [] indented none count within = omega arith
+  bytes-bounded (p ∷ parts) indented none count within =
       let k = length settings.subsequent_indent in
-      let product = mul-le (length parts) k len k (omega (arith, count)) (omega arith) in
-      omega (arith, bytes-length settings false p parts indented none, product, slices)
+      omega (
+        arith,
+        line-length settings false p (All-head HasNoHyphen p parts none) indented.0,
+        later-length settings parts indented.1 (All-tail HasNoHyphen p parts none),
+        mul-le (length parts) k len k (omega (arith, count)) (omega arith),
+        within,
+        length-append {A = ℕ},
+      )
 
   parts-bounded : (parts : List LineParts) → AreIndented settings false parts
-      → All HasNoHyphen parts → length parts ≤ len + 1 → slices_length parts ≤ len
+      → All HasNoHyphen parts → length parts ≤ len + 1 → length (slices parts) ≤ len
       → AreBounded settings len (map line_from parts)
-  parts-bounded parts indented none count slices =
-      let bytes = bytes-bounded parts indented none count slices in
+  parts-bounded parts indented none count within =
+      let bytes = bytes-bounded parts indented none count within in
       let lines = map line_from parts in
       let i = length settings.initial_indent in
       let k = length settings.subsequent_indent in
@@ -122,47 +112,48 @@ lines-bounded o settings len text lines utf8 len_is are =
     let all = IsWrapped-at (separator_of o) settings (algorithm_of o) (splitter_of o) text lines
     utf8 are in
     let ending = settings.line_ending in
-    let paragraphs = paragraphs_of ending text in
-    let bytes = ending_bytes ending in
     let groups = all.are.groups in
     let Counted : Bool → List ℕ → List LineParts → Type 0 =
     λ is_later paragraph parts. length parts ≤ length paragraph + 1 in
     let counted = groups-map IsUtf8 (AreParagraphParts settings (Divides o settings)) Counted
-    (count-lines o settings) false paragraphs groups (paragraphs_of-utf8 ending text utf8)
-    all.are.defined in
+    (count-lines o settings) false (paragraphs_of ending text) groups
+    (paragraphs_of-utf8 ending text utf8) all.are.defined in
     let tile = all.tile (λ e. cc) in
-    let whole = ap length (join-paragraphs_of ending text) in
-    let joined = ap (λ ps. length (join_with bytes ps)) tile in
-    let size = groups-size bytes (ending_bytes-some ending) false groups
+    let size = groups-size false groups
     (subst (λ ps. AreGroups Counted false ps groups) (sym tile) counted) in
+    let joined = joined-some (ending_bytes ending) (paragraphs_of ending text)
+    (ending_bytes-some ending) in
+    let whole = ap length (join-paragraphs_of ending text) in
+    let same = ap (λ ps. length (flat ps)) tile in
+    let many = ap length tile in
     subst (AreBounded settings len) (sym all.are.given)
     (parts-bounded settings len (flat groups) all.adds.indents (all.adds.no_hyphen (λ e. cc))
-    (omega (arith, size.0, joined, whole, len_is)) (omega (arith, size.1, joined, whole, len_is)))
+    (omega (arith, size.0, joined, whole, len_is, same, many, length-map groups covered_by))
+    (omega (arith, size.1, joined, whole, len_is, same, many, length-map groups covered_by)))
 
 -- ---- how long a filled text is at most
-
-joined-le : (ending : List ℕ) (len : ℕ) (texts : List (List ℕ)) → length texts ≤ len + 1
-    → length (join_with ending texts) ≤ texts_length texts + len * length ending
-joined-le ending len [] count = omega arith
-joined-le ending len (x ∷ xs) count =
-    let e = length ending in
-    omega (arith, texts-joined ending x xs, mul-le (length xs) e len e (omega (arith, count)) (omega arith))
 
 pub filled-bounded : (o : TextwrapOptions) (settings : Settings) (len : ℕ)
     (text filled : List ℕ) → IsUtf8 text → length text ≡ len
     → IsFilled settings (Divides o settings) text filled → length filled ≤ fill_bound settings len
 filled-bounded o settings len text filled utf8 len_is (lines, are, is) =
     let bounded = lines-bounded o settings len text lines utf8 len_is are in
-    let ending = ending_bytes settings.line_ending in
-    let k = length settings.subsequent_indent in
-    let spread : len * (1 + k + length ending) ≡ len * (1 + k) + len * length ending = omega arith in
-    omega (
+    let count : length (map line_bytes lines) ≤ len + 1 =
+    omega (arith, bounded.count, length-map lines line_bytes) in
+    rw is (by (map line_bytes lines) count bounded.bytes)
+  where
+    ending : List ℕ
+    ending = ending_bytes settings.line_ending
+
+    by : (texts : List (List ℕ)) → length texts ≤ len + 1 → length (flat texts)
+        ≤ length settings.initial_indent + len * (1 + length settings.subsequent_indent)
+        → length (join_with ending texts) ≤ fill_bound settings len
+    by [] count bytes = omega arith
+    by (x ∷ xs) count bytes = omega (
       arith,
-      ap length is,
-      joined-le ending len (map line_bytes lines)
-          (omega (arith, bounded.count, length-map lines line_bytes)),
-      bounded.bytes,
-      spread,
+      texts-joined ending x xs,
+      mul-le (length xs) (length ending) len (length ending) (omega (arith, count)) (omega arith),
+      bytes,
     )
 
 -- ---- how long the rows of a text in columns are together
@@ -182,30 +173,30 @@ module _ (lines : List (List ℕ)) (columns : ℕ) (some : 1 ≤ columns) where
       ∙ length-range_with_len 0 columns
 
   row-cells : (r : ℕ)
-      → texts_length (row r) ≡ sum_by (λ c. length (get_or (row r) c [])) (range_with_len 0 columns)
+      → flat (row r) ≡ flat_map (λ c. get_or (row r) c []) (range_with_len 0 columns)
   row-cells r =
-      ap texts_length
-      (fill_by_all (λ c. get_or (row r) c []) (row r) columns [] (row-length r) (λ k lt. refl))
-      ∙ sum-map (λ (t : List ℕ). length t) (λ c. get_or (row r) c []) (range_with_len 0 columns)
+      ap flat (fill_by_all (λ c. get_or (row r) c []) (row r) columns [] (row-length r) (λ k lt. refl))
+      ∙ flat_map-map (λ text. text) (λ c. get_or (row r) c []) (range_with_len 0 columns)
 
-  cells-length : sum_by (λ r. texts_length (row r)) rows ≤ texts_length lines
+  cells-length : length (flat_map (λ r. flat (row r)) rows) ≤ length (flat lines)
   cells-length =
       let (empty, kept) = columns_kept lines columns some in
       let all = range_with_len 0 columns in
       omega (
         arith,
-        sum_by-le-sum_by (λ r. texts_length (row r))
-            (λ r. sum_by (λ c. length (get_or (row r) c [])) all) rows
-            (λ r. omega (arith, row-cells r)),
+        flat-each (λ r. flat (row r)) (λ r. flat_map (λ c. get_or (row r) c []) all) 0
+            (λ r. omega (arith, ap length (row-cells r))) rows,
         by-columns (λ r c. get_or (row r) c []) rows all,
-        ap texts_length kept,
-        sum_by-append (λ (t : List ℕ). length t) lines (replicate empty []),
-        sum_by-replicate (λ (t : List ℕ). length t) empty [],
+        ap (λ ls. length (flat ls)) kept,
+        ap length (flat_map-append (λ text. text) lines (replicate empty [])),
+        length-append {A = ℕ},
+        length-flat_map {A = ℕ} (λ (text : List ℕ). text) (replicate empty []),
+        sum_by-replicate (λ (text : List ℕ). length text) empty [],
       )
 
 -- ---- how long a row is
 
-padded-length : (width : ℕ) (text : List ℕ) → length (padded width text) ≤ length text + width
+padded-length : (width : ℕ) (text : List ℕ) → length (padded width text) ≤ width + length text
 padded-length width text =
     grind (arith, length-append, length-replicate)
 
@@ -217,43 +208,35 @@ row_room layout =
 
 row-within : (layout : RowLayout) (row : List (List ℕ)) → 1 ≤ layout.columns
     → length row ≡ layout.columns
-    → length (row_text layout row) ≤ row_room layout + texts_length row
+    → length (row_text layout row) ≤ row_room layout + length (flat row)
 row-within layout [] some is = absurd (omega (arith, some, is))
 row-within layout (x ∷ xs) some is =
     let fill = padded layout.column_width in
-    let joined = join_with layout.middle (map fill (x ∷ xs)) in
     let one : layout.columns - 1 ≡ length (map fill xs) = omega (arith, is, length-map xs fill) in
-    let gaps = ap (λ n. n * length layout.middle) one in
-    let columns = ap (λ n. n * layout.column_width) is in
     omega (
       arith,
       texts-joined layout.middle (fill x) (map fill xs),
-      sum-map (λ (t : List ℕ). length t) fill (x ∷ xs),
-      sum-each (λ t. length (fill t)) (λ t. length t) layout.column_width
-          (λ t. omega (arith, padded-length layout.column_width t)) (x ∷ xs),
-      gaps,
-      columns,
-      length-append layout.left joined,
-      length-append (layout.left ++ joined) (blanks layout.spare_width),
-      length-append (layout.left ++ joined ++ blanks layout.spare_width) layout.right,
+      ap length (flat_map-map (λ text. text) fill (x ∷ xs)),
+      flat-each fill (λ text. text) layout.column_width (padded-length layout.column_width) (x ∷ xs),
+      ap (λ n. n * length layout.middle) one,
+      ap (λ n. n * layout.column_width) is,
+      length-append {A = ℕ},
       length-replicate {A = ℕ} layout.spare_width 32,
     )
 
 -- all rows, of such lines
-pub rows-length : (layout : RowLayout) (lines : List (List ℕ)) → 1 ≤ layout.columns
-    → texts_length (table_rows layout lines)
-    ≤ row_count lines layout.columns * row_room layout + texts_length lines
+rows-length : (layout : RowLayout) (lines : List (List ℕ)) → 1 ≤ layout.columns
+    → length (flat (table_rows layout lines))
+    ≤ row_count lines layout.columns * row_room layout + length (flat lines)
 rows-length layout lines some =
     let count = row_count lines layout.columns in
     let all = range_with_len 0 count in
+    let row = cells lines count layout.columns in
     omega (
       arith,
-      sum-map (λ (t : List ℕ). length t)
-          (λ r. row_text layout (cells lines count layout.columns r)) all,
-      sum-each (λ r. length (row_text layout (cells lines count layout.columns r)))
-          (λ r. texts_length (cells lines count layout.columns r)) (row_room layout)
-          (λ r. row-within layout (cells lines count layout.columns r) some
-          (row-length lines layout.columns some r)) all,
+      ap length (flat_map-map (λ text. text) (λ r. row_text layout (row r)) all),
+      flat-each (λ r. row_text layout (row r)) (λ r. flat (row r)) (row_room layout)
+          (λ r. row-within layout (row r) some (row-length lines layout.columns some r)) all,
       cells-length lines layout.columns some,
       ap (λ n. n * row_room layout) (length-range_with_len 0 count),
     )
@@ -290,15 +273,8 @@ inner-room inner columns =
           omega (arith, ap (λ n. columns * n) own)
     ]
 
-built-rows : (rows : List (List ℕ)) → length (built_text (map Built rows)) ≡ texts_length rows
-built-rows [] = refl
-built-rows (row ∷ rows) =
-    omega (
-      arith,
-      built-rows rows,
-      length-append row (built_text (map Built rows)),
-      sum_by-cons (λ (t : List ℕ). length t) row rows,
-    )
+built-rows : (rows : List (List ℕ)) → built_text (map Built rows) ≡ flat rows
+built-rows rows = flat_map-map built_bytes Built rows
 
 -- ---- the bounds
 
@@ -307,15 +283,13 @@ module _ (o : TextwrapOptions) (gaps : TextwrapGaps) (columns : ℕ) (some : 1 �
     (lines : List Line) (are : AreRows (IsInColumns (settings_of o)
     (Divides o) columns text gaps.left.now gaps.middle.now
     gaps.right.now) lines) where
+  abbrev narrow : Settings
+  narrow = at_column_width (settings_of o) columns gaps.left.now gaps.middle.now gaps.right.now
+
   pub rows-within : length lines ≤ rows_bound len columns
   rows-within =
       let (rows, (shown, shown_are, rows_are), lines_are) = are in
-      let layout = layout_of o.width columns gaps.left.now gaps.middle.now gaps.right.now in
-      let narrow = at_column_width (settings_of o) columns gaps.left.now gaps.middle.now
-      gaps.right.now in
       let bounded = lines-bounded o narrow len text shown utf8 len_is shown_are in
-      let texts = map line_bytes shown in
-      let count = row_count texts columns in
       grind (
         arith,
         ap length lines_are,
@@ -330,21 +304,19 @@ module _ (o : TextwrapOptions) (gaps : TextwrapGaps) (columns : ℕ) (some : 1 �
       let (rows, (shown, shown_are, rows_are), lines_are) = are in
       let layout = layout_of o.width columns gaps.left.now gaps.middle.now gaps.right.now in
       let inner = inner_width o.width columns gaps.left.now gaps.middle.now gaps.right.now in
-      let narrow = at_column_width (settings_of o) columns gaps.left.now gaps.middle.now
-      gaps.right.now in
       let bounded = lines-bounded o narrow len text shown utf8 len_is shown_are in
       let texts = map line_bytes shown in
       let room = length gaps.left.now + length gaps.right.now
       + (columns - 1) * length gaps.middle.now + max o.width columns in
-      let product = mul-le (row_count texts columns) (row_room layout) (rows_bound len columns) room
-      (rows-count (length texts) len columns some
-      (omega (arith, bounded.count, length-map shown line_bytes)))
-      (omega (arith, inner-room inner columns)) in
-      grind (
+      omega (
         arith,
         ap (λ ls. length (built_text ls)) lines_are,
-        built-rows,
-        ap texts_length rows_are,
-        rows-length,
+        ap length (built-rows rows),
+        ap (λ rs. length (flat rs)) rows_are,
+        rows-length layout texts some,
         bounded.bytes,
+        mul-le (row_count texts columns) (row_room layout) (rows_bound len columns) room
+            (rows-count (length texts) len columns some
+            (omega (arith, bounded.count, length-map shown line_bytes)))
+            (omega (arith, inner-room inner columns)),
       )

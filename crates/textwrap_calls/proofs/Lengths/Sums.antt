@@ -1,82 +1,57 @@
--- Sums over lists, how long texts are together and joined, and bounds that a number may not hold.
-use Rattle.textwrap_calls.proofs.Common.{◌≡◌, ℕ, ◌+◌, ◌*◌, ◌≤◌, List, [], ◌∷◌, length, map, ap, ◌∙◌}
-use Rattle.textwrap_calls.proofs.Common.{refl, arith, flat_map, length-append, sum_by}
-use Rattle.textwrap_calls.proofs.Common.{sum_by-append, sum_by-cons, zero, suc, join_with}
-use Rattle.textwrap_calls.proofs.Common.{sum_by-le-sum_by}
+-- How long texts are together and joined, and bounds that a number may not hold.
+use Rattle.textwrap_calls.proofs.Common.{◌≡◌, ℕ, ◌+◌, ◌*◌, ◌≤◌, ◌<◌, List, [], ◌∷◌, ◌++◌, length, map}
+use Rattle.textwrap_calls.proofs.Common.{ap, ◌∙◌, refl, arith, flat, flat_map, length-append, zero, suc}
+use Rattle.textwrap_calls.proofs.Common.{join_with}
 use Rattle.std.proofs.Math.Nat.{mul_comm}
-use Rattle.std.proofs.lemmas.List.Folds.{fold-map}
-use Rattle.std.proofs.lemmas.List.Sums.{sum_by-le}
+use Rattle.std.proofs.lemmas.List.Folds.{flat_map-map}
+use Rattle.std.proofs.lemmas.Grind.{flat_map-append}
 use Rattle.textwrap_text.proofs.Numbers.{either_short}
 use Rattle.textwrap_calls.specs.Bounds.{as_len, Suffices}
 
--- ---- sums over lists, and how long texts are together and joined
-
--- ---- sums over lists
+-- ---- how long texts are together and joined
 
 module _ {X : Type 0} where
-  pub sum-map : {Y : Type 0} (f : Y → ℕ) (g : X → Y) (xs : List X)
-      → sum_by f (map g xs) ≡ sum_by (λ x. f (g x)) xs
-  sum-map f g xs = fold-map (λ n y. n + f y) g 0 xs
+  pub flat-plus : (f g : X → List ℕ) (xs : List X)
+      → length (flat_map (λ x. f x ++ g x) xs) ≡ length (flat_map f xs) + length (flat_map g xs)
+  flat-plus f g [] = refl
+  flat-plus f g (x ∷ xs) = omega (arith, flat-plus f g xs, length-append {A = ℕ})
 
-  sum-plus : (f g : X → ℕ) (xs : List X)
-      → sum_by (λ x. f x + g x) xs ≡ sum_by f xs + sum_by g xs
-  sum-plus f g [] = refl
-  sum-plus f g (x ∷ xs) =
-      omega (
-        arith,
-        sum_by-cons (λ x. f x + g x) x xs,
-        sum_by-cons f x xs,
-        sum_by-cons g x xs,
-        sum-plus f g xs,
-      )
+  pub flat-each : (f g : X → List ℕ) (more : ℕ) → ((x : X) → length (f x) ≤ more + length (g x))
+      → (xs : List X) → length (flat_map f xs) ≤ length xs * more + length (flat_map g xs)
+  flat-each f g more each [] = omega arith
+  flat-each f g more each (x ∷ xs) =
+      omega (arith, each x, flat-each f g more each xs, length-append {A = ℕ})
 
-  pub sum-each : (f g : X → ℕ) (more : ℕ) → ((x : X) → f x ≤ more + g x) → (xs : List X)
-      → sum_by f xs ≤ length xs * more + sum_by g xs
-  sum-each f g more each [] = omega arith
-  sum-each f g more each (x ∷ xs) =
-      grind (arith, each, sum_by-cons, sum-each f g more each xs)
-
--- ---- texts
-
--- the bytes of texts
-abbrev pub texts_length : List (List ℕ) → ℕ
-texts_length texts = sum_by (λ t. length t) texts
-
-pub join-length : (ending x y : List ℕ) (xs : List (List ℕ))
-    → length (join_with ending (x ∷ y ∷ xs))
-    ≡ length x + length ending + length (join_with ending (y ∷ xs))
-join-length ending x y xs = grind (arith, length-append)
+-- row by row texts are as long as column by column
+pub by-columns : {X Y : Type 0} (text : X → Y → List ℕ) (xs : List X) (ys : List Y)
+    → length (flat_map (λ x. flat_map (text x) ys) xs)
+    ≤ length (flat (flat_map (λ y. map (λ x. text x y) xs) ys))
+by-columns text xs [] = omega (arith, flat-plus (λ x. []) (λ x. []) xs)
+by-columns text xs (y ∷ ys) =
+    let here = map (λ x. text x y) xs in
+    let others = flat_map (λ z. map (λ x. text x z) xs) ys in
+    omega (
+      arith,
+      flat-plus (λ x. text x y) (λ x. flat_map (text x) ys) xs,
+      by-columns text xs ys,
+      ap length (flat_map-map (λ part. part) (λ x. text x y) xs),
+      ap length (flat_map-append (λ part. part) here others),
+      length-append {A = ℕ},
+    )
 
 pub texts-joined : (ending x : List ℕ) (xs : List (List ℕ))
-    → length (join_with ending (x ∷ xs)) ≡ texts_length (x ∷ xs) + length xs * length ending
-texts-joined ending x [] = omega (arith, sum_by-cons (λ (t : List ℕ). length t) x [])
-texts-joined ending x (y ∷ xs) =
-    omega (
-      arith,
-      join-length ending x y xs,
-      texts-joined ending y xs,
-      sum_by-cons (λ (t : List ℕ). length t) x (y ∷ xs),
-    )
+    → length (join_with ending (x ∷ xs)) ≡ length (flat (x ∷ xs)) + length xs * length ending
+texts-joined ending x [] = omega (arith, length-append {A = ℕ})
+texts-joined ending x (y ∷ xs) = omega (arith, texts-joined ending y xs, length-append {A = ℕ})
 
--- row by row texts are no longer than column by column
-pub by-columns : {X Y : Type 0} (text : X → Y → List ℕ) (xs : List X) (ys : List Y)
-    → sum_by (λ x. sum_by (λ y. length (text x y)) ys) xs
-    ≤ texts_length (flat_map (λ y. map (λ x. text x y) xs) ys)
-by-columns text xs [] =
-    let none = sum_by-le (λ x. sum_by (λ y. length (text x y)) []) 0 xs (λ k d lt. omega arith) in
-    omega (arith, none)
-by-columns text xs (y ∷ ys) =
-    let here : List (List ℕ) = map (λ x. text x y) xs in
-    omega (
-      arith,
-      sum_by-le-sum_by (λ x. sum_by (λ z. length (text x z)) (y ∷ ys))
-          (λ x. length (text x y) + sum_by (λ z. length (text x z)) ys) xs
-          (λ x. omega (arith, sum_by-cons (λ z. length (text x z)) y ys)),
-      sum-plus (λ x. length (text x y)) (λ x. sum_by (λ z. length (text x z)) ys) xs,
-      sum-map (λ (t : List ℕ). length t) (λ x. text x y) xs,
-      sum_by-append (λ (t : List ℕ). length t) here (flat_map (λ z. map (λ x. text x z) xs) ys),
-      by-columns text xs ys,
-    )
+-- by an ending, they are longer than texts that each end in a byte but for the last
+pub joined-some : (ending : List ℕ) (xs : List (List ℕ)) → 0 < length ending
+    → (length (flat xs) + length xs ≤ length (join_with ending xs) + 1)
+    × (length (flat xs) ≤ length (join_with ending xs))
+joined-some ending [] some = omega arith
+joined-some ending (x ∷ []) some = omega (arith, length-append {A = ℕ})
+joined-some ending (x ∷ y ∷ xs) some =
+    omega (arith, some, joined-some ending (y ∷ xs) some, length-append {A = ℕ})
 
 -- ---- A bound that a number may not hold
 

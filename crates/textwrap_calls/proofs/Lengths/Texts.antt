@@ -1,20 +1,20 @@
 -- How long the lines of a text are, a text that is unfilled, and one that is dedented.
 use Rattle.textwrap_calls.proofs.Common.{◌≡◌, ℕ, ◌+◌, ◌-◌, ◌≤◌, ◌==◌, true, false, cond, List, []}
 use Rattle.textwrap_calls.proofs.Common.{◌∷◌, ◌++◌, length, map, take, sym, ap, ◌∙◌, arith, inl}
-use Rattle.textwrap_calls.proofs.Common.{inr, eqb-true, length-append, lines, slice_index}
-use Rattle.textwrap_calls.proofs.Common.{sum_by-cons, drop, filter, length-drop, length-map, ◌*◌}
-use Rattle.textwrap_calls.proofs.Common.{Bool, refl, All-head, StartsWith, starts_with_length, ◌&&◌}
+use Rattle.textwrap_calls.proofs.Common.{inr, eqb-true, length-append, lines, slice_index, flat}
+use Rattle.textwrap_calls.proofs.Common.{drop, filter, length-drop, length-map, ◌*◌, Bool, refl}
+use Rattle.textwrap_calls.proofs.Common.{All-head, StartsWith, starts_with_length, ◌&&◌}
 use Rattle.textwrap_calls.proofs.Common.{take-append-drop, cases_Bool, All, subst, IsUtf8, All-nil}
 use Rattle.textwrap_calls.proofs.Common.{All-cons, encode_utf8_all, All-weaker, take_all, join_with}
-use Rattle.textwrap_calls.proofs.Common.{ending_bytes, is_blank_line, sum_by-le-sum_by, chars}
-use Rattle.textwrap_calls.proofs.Common.{ending_bytes-some, LineEnding, dedented, unfilled_parts}
-use Rattle.textwrap_calls.proofs.Common.{All-tail, flat_map}
+use Rattle.textwrap_calls.proofs.Common.{ending_bytes, is_blank_line, chars, ending_bytes-some}
+use Rattle.textwrap_calls.proofs.Common.{LineEnding, dedented, unfilled_parts, All-tail, flat_map}
 use Rattle.textwrap_text.proofs.Common.{last, length-take, ends_with, nat_eq, take_more, blank}
 use Rattle.textwrap_text.proofs.Common.{None, Option, Some}
 use Rattle.textwrap.proofs.Common.{EndedLine, joined_text, line_prefix, common_prefix, margin_of}
 use Rattle.std.proofs.lemmas.Slice.Eq.{bytes_eq-Decides}
 use Rattle.std.specs.Prelude.{slice_index_or}
 use Rattle.std.specs.Str.Lines.{strip_carriage_return}
+use Rattle.textwrap_text.proofs.Lists.Elements.{flat-map}
 use Rattle.textwrap_text.proofs.Lists.Parts.{last-cons, last-append}
 use Rattle.textwrap_text.proofs.Texts.{cut_text, ascii_seam}
 use Rattle.textwrap_text.specs.declared.line_ending.LineEnding.TheVariants.{CRLF, LF}
@@ -24,13 +24,13 @@ use Rattle.textwrap_text.specs.TextLines.{bytes_at_end, ended_lines, with_ending
 use Rattle.textwrap.proofs.Text.Unfilling.{common_prefix-begins, line_prefix-begins}
 use Rattle.textwrap.specs.Indentation.{without_margin}
 use Rattle.textwrap.specs.Refilling.{has_text, without_indents, added_ending}
-use Rattle.textwrap_calls.proofs.Lengths.Sums.{texts_length, sum-map, texts-joined}
+use Rattle.textwrap_calls.proofs.Lengths.Sums.{flat-each, texts-joined}
 
 -- ---- how long the lines of a text are together
 
 -- the bytes of lines, each with a line feed
 abbrev pub ended_length : List (List ℕ) → ℕ
-ended_length ls = texts_length ls + length ls
+ended_length ls = length (flat ls) + length ls
 
 -- 1 where the text ends in a line feed, else 0
 abbrev pub final_feed : List ℕ → ℕ
@@ -61,15 +61,14 @@ lines-length = by-lines (λ text. AreWithin text (final_feed text)) (omega arith
       arith,
       ap ended_length (lines-whole part lacks some),
       ap {B = ℕ} (λ b. cond b 1 0) (last-free part lacks some),
-      sum_by-cons (λ (t : List ℕ). length t) part [],
+      length-append {A = ℕ},
     ))
     (λ front rest lacks within.
     omega (
       arith,
       ap ended_length (lines-front front rest lacks),
-      length-append front (10 ∷ rest),
       strip-le front,
-      sum_by-cons (λ (t : List ℕ). length t) (strip_carriage_return front) (lines rest),
+      length-append {A = ℕ},
       feed-before front rest within,
     ))
 
@@ -79,23 +78,25 @@ feed-within (c ∷ cs) = grind arith
 
 -- ---- how long the text is at most that unfilling joins
 
-drop-each : (n : ℕ) (xs : List (List ℕ)) → texts_length (map (drop n) xs) ≤ texts_length xs
-drop-each n xs = grind (arith, sum-map, sum_by-le-sum_by, length-drop)
+drop-each : (n : ℕ) (xs : List (List ℕ)) → length (flat (map (drop n) xs)) ≤ length (flat xs)
+drop-each n xs = omega (
+  arith,
+  ap length (flat-map (drop n) xs),
+  flat-each (drop n) (λ x. x) 0 (λ x. omega (arith, length-drop n x)) xs,
+)
 
 without-length : (initial subsequent : List ℕ) (ls : List (List ℕ))
     → length (join_with (blank ∷ []) (without_indents initial subsequent ls)) ≤ ended_length ls - 1
 without-length initial subsequent [] = omega arith
 without-length initial subsequent (x ∷ xs) =
-    let first = drop (length initial) x in
     let later = map (drop (length subsequent)) xs in
     omega (
       arith,
-      texts-joined (blank ∷ []) first later,
+      texts-joined (blank ∷ []) (drop (length initial) x) later,
       length-map xs (drop {A = ℕ} (length subsequent)),
       drop-each (length subsequent) xs,
       length-drop (length initial) x,
-      sum_by-cons (λ (t : List ℕ). length t) first later,
-      sum_by-cons (λ (t : List ℕ). length t) x xs,
+      length-append {A = ℕ},
     )
 
 some-length : (es : List EndedLine)
@@ -103,16 +104,10 @@ some-length : (es : List EndedLine)
 some-length [] = omega arith
 some-length (e ∷ es) =
     let rest = some-length es in
-    let here = sum_by-cons (λ (t : List ℕ). length t) e.line (texts_of es) in
     elim (has_text e) as (λ b. ended_length (texts_of (cond b (e ∷ filter has_text es)
     (filter has_text es))) ≤ ended_length (texts_of (e ∷ es))) [
-      | true ↦ omega (
-        arith,
-        rest,
-        here,
-        sum_by-cons (λ (t : List ℕ). length t) e.line (texts_of (filter has_text es)),
-      )
-      | false ↦ omega (arith, rest, here)
+      | true ↦ omega (arith, rest, length-append {A = ℕ})
+      | false ↦ omega (arith, rest, length-append {A = ℕ})
     ]
 
 -- no longer than the lines, each with a byte after it, and shorter where there are lines
@@ -160,8 +155,7 @@ indents-length : (ls : List (List ℕ))
     → length (line_prefix (slice_index_or ls 0 []))
     + length (common_prefix (map line_prefix (drop 1 ls))) ≤ ended_length ls - 1
 indents-length [] = omega arith
-indents-length (l ∷ []) =
-    omega (arith, prefix-length l, sum_by-cons (λ (t : List ℕ). length t) l [])
+indents-length (l ∷ []) = omega (arith, prefix-length l, length-append {A = ℕ})
 indents-length (l ∷ m ∷ ls) =
     let prefixes = map line_prefix ls in
     let begins = All-head (λ t. StartsWith t (common_prefix (line_prefix m ∷ prefixes)))
@@ -171,8 +165,7 @@ indents-length (l ∷ m ∷ ls) =
       prefix-length l,
       prefix-length m,
       starts_with_length (line_prefix m) (common_prefix (line_prefix m ∷ prefixes)) begins,
-      sum_by-cons (λ (t : List ℕ). length t) l (m ∷ ls),
-      sum_by-cons (λ (t : List ℕ). length t) m ls,
+      length-append {A = ℕ},
     )
 
 -- ---- all of it
@@ -248,7 +241,7 @@ made-le f e shorter = by e.ending
 
 made-length : (f : List ℕ → List ℕ) (es : List EndedLine)
     → All (λ line. length (f line) ≤ length line) (texts_of es)
-    → length (flat_map (made_of f) es) ≤ length (flat_map (λ part. part) (map with_ending es))
+    → length (flat_map (made_of f) es) ≤ length (flat (map with_ending es))
 made-length f [] shorter = omega arith
 made-length f (e ∷ es) shorter =
     let Short = λ (line : List ℕ). length (f line) ≤ length line in
@@ -256,8 +249,7 @@ made-length f (e ∷ es) shorter =
       arith,
       made-le f e (All-head Short e.line (texts_of es) shorter),
       made-length f es (All-tail Short e.line (texts_of es) shorter),
-      length-append (made_of f e) (flat_map (made_of f) es),
-      length-append (with_ending e) (flat_map (λ part. part) (map with_ending es)),
+      length-append {A = ℕ},
     )
 
 pub dedented-length : (text : List ℕ) → IsUtf8 text → length (dedented text) ≤ length text

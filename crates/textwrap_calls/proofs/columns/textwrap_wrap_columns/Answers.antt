@@ -1,15 +1,12 @@
 use Rattle.textwrap_calls.proofs.columns.textwrap_wrap_columns.Goals as goal
-use Rattle.textwrap_calls.proofs.Common.{map, refl, string_bytes, Built, IsInColumns}
-use Rattle.textwrap_calls.proofs.RoomLemmas.{WritesLines-reported}
+use Rattle.textwrap_calls.proofs.Common.{map, string_bytes, IsInColumns}
 use Rattle.textwrap_calls.proofs.ReadOptions.{as-read}
-use Rattle.textwrap_calls.proofs.PlaceLemmas.{rows-shown}
+use Rattle.textwrap_calls.proofs.PlaceLemmas.{rows-written}
 
 pub returns-clause-columns : goal.returns-clause-columns
 returns-clause-columns c =
     let texts = c.in-Ok-Ok-Ok-Ok in
     let rows = map string_bytes c.in-Ok-wrap_columns.found.items in
-    let lines = map Built rows in
-    let shows = rows-shown c.args.text.now rows _ _ c.in-Ok-place_rows.ensures in
     let are = as-read c.args.options.now c.in-Ok.options c.in-Ok.ensures.read
     (λ s Divides. IsInColumns s Divides c.args.columns texts.text.now texts.left.now
     texts.middle.now texts.right.now rows) c.in-Ok-wrap_columns.ensures.rows in
@@ -19,5 +16,5 @@ returns-clause-columns c =
       texts.ensures''.0,
       texts.ensures'''.0,
     ) at are in
-    WritesLines-reported _ _ lines _ _ _ _ _ _ _ _ _ _ _ (rows, here, refl) shows.built_is shows.shown
-    c.put_lines.ensures.statuses c.put_lines.ensures.lines
+    rows-written rows here c.in-Ok-place_rows.ensures c.put_lines.ensures.statuses
+    c.put_lines.ensures.lines

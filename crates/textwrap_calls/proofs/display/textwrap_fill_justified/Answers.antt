@@ -10,5 +10,5 @@ returns-in-Ok-fill_justified-clause-filled c =
     let filled = as-read c.args.options.now c.in-Ok.options c.in-Ok.ensures.read
     (λ s Divides. IsJustifiedText s (Divides s) text (string_bytes c.in-Ok-fill_justified.filled))
     c.in-Ok-fill_justified.ensures.filled in
-    WritesText-answer _ _ _ _ _ _ _ (rw c.in-Ok-from_utf8.ensures.0 at filled)
+    WritesText-answer (rw c.in-Ok-from_utf8.ensures.0 at filled)
     (rw c.as_bytes.ensures.value at c.put.ensures.text)

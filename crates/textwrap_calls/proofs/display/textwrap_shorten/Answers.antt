@@ -6,7 +6,4 @@ use Rattle.textwrap_calls.proofs.RoomLemmas.{WritesText-answer}
 pub returns-in-Ok-clause-short : goal.returns-in-Ok-clause-short
 returns-in-Ok-clause-short c =
     let short : IsShort c.args.width c.args.placeholder.now c.args.line.now c.as_bytes.result.now =
-    search rules in
-    WritesText-answer (IsShort c.args.width c.args.placeholder.now c.args.line.now)
-    c.as_bytes.result.now c.put.result c.args.room.now c.put.new.room c.args.len.now c.put.new.len
-    short c.put.ensures.text
+    search rules in WritesText-answer short c.put.ensures.text

@@ -8,4 +8,4 @@ returns-in-Ok-refill-clause-refilled c =
     let refilled = as-read c.args.options.now c.in-Ok.options c.in-Ok.ensures.read
     (λ s Divides. IsRefilled s Divides c.args.text.now (string_bytes c.in-Ok-refill.refilled))
     c.in-Ok-refill.ensures.refilled in
-    WritesText-answer _ _ _ _ _ _ _ refilled (rw c.as_bytes.ensures.value at c.put.ensures.text)
+    WritesText-answer refilled (rw c.as_bytes.ensures.value at c.put.ensures.text)

@@ -1,5 +1,5 @@
 use Rattle.textwrap_calls.proofs.refilling.unfill_text.Goals as goal
-use Rattle.textwrap_calls.proofs.Common.{◌≡◌, arith, length, rules, unfilled_parts, WritesText}
+use Rattle.textwrap_calls.proofs.Common.{◌≡◌, arith, rules, unfilled_parts, WritesText}
 use Rattle.textwrap_calls.proofs.Lengths.Texts.{unfilled-length}
 use Rattle.textwrap_calls.proofs.RoomLemmas.{written-exactly}
 use Rattle.textwrap_calls.proofs.refilling.unfill_text.Goals.{After-report-status}
@@ -9,12 +9,9 @@ written : (c : After-report-status) → WritesText (λ answer. answer ≡ unfill
     c.report-status.result c.args.room.now c.unfill_into-answer.new.room c.args.len.now
     c.report-status.new.len
 written c =
-    let text = c.args.text.now in
-    let into = c.unfill_into-answer in
-    let short = unfilled-length text in
-    written-exactly (unfilled_parts text) c.report-status.result
-    c.args.room.now into.new.room c.args.len.now c.report-status.new.len (length into.new.room)
-    into.result.0 (omega (arith, short)) into.ensures.len into.ensures.room (search rules)
+    let short = unfilled-length c.args.text.now in
+    written-exactly (unfilled_parts c.args.text.now) (omega (arith, short))
+    c.unfill_into-answer.ensures.len c.unfill_into-answer.ensures.room (search rules)
     c.report-status.ensures.len c.report-status.ensures.small c.report-status.ensures.statuses
 
 pub returns-then-status-eq-DONE-clause-unfilled : goal.returns-then-status-eq-DONE-clause-unfilled

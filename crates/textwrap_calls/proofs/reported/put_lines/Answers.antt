@@ -6,5 +6,5 @@ pub returns-clause-lines : goal.returns-clause-lines
 returns-clause-lines c =
     let writes = rw (c.as_slice-places.ensures.value, c.as_slice-built.ensures.value)
     at c.write_places-counts.ensures in
-    WritesReported-counts (λ n. n) _ _ _ _ _ _ _ _ _ _ _ _ (omega arith) (omega arith) writes
+    WritesReported-counts (omega arith) (omega arith) writes
     c.report_counts.ensures (search rules) (search rules) (omega arith)

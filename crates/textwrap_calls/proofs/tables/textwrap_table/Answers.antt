@@ -1,7 +1,6 @@
 use Rattle.textwrap_calls.proofs.tables.textwrap_table.Goals as goal
-use Rattle.textwrap_calls.proofs.Common.{[], arith, map, refl, Built}
-use Rattle.textwrap_calls.proofs.RoomLemmas.{WritesLines-reported}
-use Rattle.textwrap_calls.proofs.PlaceLemmas.{rows-shown}
+use Rattle.textwrap_calls.proofs.Common.{arith, refl}
+use Rattle.textwrap_calls.proofs.PlaceLemmas.{rows-written}
 use Rattle.textwrap_calls.proofs.TextLemmas.{written-apart}
 
 pub place_table-requires-clause-texts : goal.place_table-requires-clause-texts
@@ -10,10 +9,8 @@ place_table-requires-clause-texts c = c.if-not-have_texts.ensures.0 refl
 pub returns-in-Ok-clause-table : goal.returns-in-Ok-clause-table
 returns-in-Ok-clause-table c =
     let (rows, table, placed) = c.in-Ok.ensures in
-    let here = rw c.in-Some.ensures.gaps at table in
-    let shows = rows-shown [] rows _ _ placed in
-    WritesLines-reported _ _ (map Built rows) _ _ _ _ _ _ _ _ _ _ _ (rows, here, refl)
-    shows.built_is shows.shown c.put_lines.ensures.statuses c.put_lines.ensures.lines
+    rows-written rows (rw c.in-Some.ensures.gaps at table) placed c.put_lines.ensures.statuses
+    c.put_lines.ensures.lines
 
 pub returns-in-Ok-clause-unknown : goal.returns-in-Ok-clause-unknown
 returns-in-Ok-clause-unknown c = (

@@ -1,9 +1,6 @@
 use Rattle.textwrap_calls.proofs.tables.textwrap_table_of_lines.Goals as goal
-use Rattle.textwrap_calls.proofs.Common.{[], arith, map, refl, subst, Built, rows_of_cells}
-use Rattle.textwrap_calls.proofs.Common.{ArePlacedRows, lines_in, shape_of_column}
-use Rattle.textwrap_calls.specs.Columns.{row_gaps}
-use Rattle.textwrap_calls.proofs.RoomLemmas.{WritesLines-reported}
-use Rattle.textwrap_calls.proofs.PlaceLemmas.{rows-shown}
+use Rattle.textwrap_calls.proofs.Common.{arith, refl}
+use Rattle.textwrap_calls.proofs.PlaceLemmas.{rows-written}
 use Rattle.textwrap_calls.proofs.TextLemmas.{written-apart}
 
 pub place_cells-requires-clause-cells : goal.place_cells-requires-clause-cells
@@ -11,15 +8,8 @@ place_cells-requires-clause-cells c = c.if-not-have_text_lines.ensures.0 refl
 
 pub returns-in-Ok-clause-table : goal.returns-in-Ok-clause-table
 returns-in-Ok-clause-table c =
-    let columns = map shape_of_column c.args.columns.now in
-    let cells = lines_in c.args.cells.now in
-    let rows = rows_of_cells (row_gaps c.args.gaps.now) columns cells in
-    let placed = c.in-Ok.placed in
-    let shows = rows-shown [] rows _ _ (subst
-    (λ gaps. ArePlacedRows (rows_of_cells gaps columns cells) placed.places.items
-    placed.built.items) c.in-Some.ensures.gaps c.in-Ok.ensures) in
-    WritesLines-reported _ _ (map Built rows) _ _ _ _ _ _ _ _ _ _ _ (rows, refl, refl)
-    shows.built_is shows.shown c.put_lines.ensures.statuses c.put_lines.ensures.lines
+    rows-written _ refl (rw c.in-Some.ensures.gaps at c.in-Ok.ensures) c.put_lines.ensures.statuses
+    c.put_lines.ensures.lines
 
 pub returns-in-Ok-clause-unknown : goal.returns-in-Ok-clause-unknown
 returns-in-Ok-clause-unknown c = (

@@ -1,7 +1,10 @@
 use Rattle.textwrap_calls.proofs.wrapping.textwrap_wrap.Goals as goal
-use Rattle.textwrap_calls.proofs.PrintableLines.{only-line-reported}
+use Rattle.textwrap_calls.proofs.Common.{refl}
+use Rattle.textwrap_calls.proofs.PrintableLines.{only-line-shown}
+use Rattle.textwrap_calls.proofs.RoomLemmas.{WritesLines-reported}
 
 pub returns-in-Some-clause-wrapped : goal.returns-in-Some-clause-wrapped
 returns-in-Some-clause-wrapped c =
-    only-line-reported c.args.options.now c.args.text.now c.in-Some.line.now _ _ _ _ _ _ _ _ _
-    c.in-Some.ensures.utf8 c.in-Some.ensures.line c.put_line.ensures.statuses c.put_line.ensures.lines
+    WritesLines-reported _ c.in-Some.ensures.line refl
+    (only-line-shown c.args.options.now c.args.text.now c.in-Some.line.now c.in-Some.ensures.utf8
+    c.in-Some.ensures.line) c.put_line.ensures.statuses c.put_line.ensures.lines

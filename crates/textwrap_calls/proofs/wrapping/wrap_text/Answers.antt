@@ -1,8 +1,6 @@
 use Rattle.textwrap_calls.proofs.wrapping.wrap_text.Goals as goal
-use Rattle.textwrap_calls.proofs.Common.{◌<◌, ◌^◌, [], arith, length, refl, rules, as_len}
-use Rattle.textwrap_calls.proofs.Common.{ArePlacedLines, algorithm_of, separator_of, settings_of}
-use Rattle.textwrap_calls.proofs.Common.{splitter_of}
-use Rattle.textwrap_layout.proofs.Common.{built_text}
+use Rattle.textwrap_calls.proofs.Common.{◌<◌, ◌^◌, [], arith, length, refl, rules, ArePlacedLines}
+use Rattle.textwrap_calls.proofs.Common.{algorithm_of, separator_of, settings_of, splitter_of}
 use Rattle.textwrap_calls.proofs.PlaceLemmas.{placed-shown}
 use Rattle.textwrap_calls.proofs.Lengths.Bounds.{lines-bounded}
 use Rattle.textwrap_calls.proofs.RoomLemmas.{ShowLines-length, WritesLines-reported}
@@ -20,9 +18,8 @@ returns-in-Ok-place_into-clause-wrapped c =
     (algorithm_of given) text lines places c.utf8.text here in
     let few = (lines-bounded given (settings_of given) (length text) text lines c.utf8.text refl
     here.are).count in
-    let same = ShowLines-length _ _ _ _ lines places (shown []) in
+    let same = ShowLines-length _ _ lines places (shown []) in
     let fits : length places < 2 ^ 64 = omega (arith, few, same) in
-    WritesLines-reported _ _ lines _ _ _ _ _ _ _ _ _ _ _ here refl shown
-    c.report_counts.ensures.statuses
-    (WritesReported-counts as_len places (built_text lines) _ _ _ _ _ _ _ _ _ _ fits refl writes
-    c.report_counts.ensures (search rules) (search rules) (omega arith))
+    WritesLines-reported lines here refl shown c.report_counts.ensures.statuses
+    (WritesReported-counts fits refl writes c.report_counts.ensures (search rules) (search rules)
+    (omega arith))

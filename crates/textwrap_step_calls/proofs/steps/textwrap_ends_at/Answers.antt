@@ -1,22 +1,30 @@
 use Rattle.textwrap_step_calls.proofs.steps.textwrap_ends_at.Goals as goal
-use Rattle.textwrap_calls.proofs.Common.{◌≡◌, ◌∷◌, [], ap, map, subst, sym, ◌∙◌, total_width}
-use Rattle.textwrap_calls.proofs.Common.{sizes_of, word_view, total_width-same, settings_view}
+use Rattle.textwrap_calls.proofs.Common.{◌≡◌, ◌∷◌, ◌∙◌, [], ℕ, List, ap, map, subst, sym, total_width}
+use Rattle.textwrap_calls.proofs.Common.{sizes_of, word_view, total_width-same, WordText}
 use Rattle.textwrap_calls.proofs.Common.{widths_of, pieces_at, algorithm_of, says_yes, settings_of}
-use Rattle.textwrap_step_calls.proofs.Common.{AreEndsOf, ends_of}
+use Rattle.textwrap_step_calls.proofs.Common.{ends_of}
 use Rattle.textwrap_text.proofs.Common.{Some}
 use Rattle.textwrap_layout.proofs.Paragraph.Widths.{sizes-word_view}
 use Rattle.std.specs.Prelude.{IsSomeAnd}
 use Rattle.textwrap_words.specs.WrapAlgorithms.{algorithm_view, IsDividedBy, OverflowsBy}
 use Rattle.textwrap_words.proofs.Word.Divisions.{MayDivide-map}
-use Rattle.textwrap_layout.proofs.Common.{first_width}
+use Rattle.textwrap_layout.proofs.Common.{first_width, settings_view}
 use Rattle.textwrap_layout.proofs.Paragraph.Pieces.{division-as}
 use Rattle.textwrap_step_calls.proofs.EndLemmas.{ends_of-map, OverflowsBy-map}
 use Rattle.textwrap_calls.proofs.RoomLemmas.{WritesText-answer}
 use Rattle.textwrap_step_calls.proofs.steps.textwrap_ends_at.Goals.{After-wrap}
 
-pieces-are : (c : After-wrap) → map word_view c.deref.result.now
-    ≡ pieces_at (settings_of c.args.options.now) c.args.cuts.now c.args.points.now
-    c.args.paragraph.now
+-- the pieces and the widths by the numbers of C, and the widths as they were found
+abbrev all : After-wrap → List WordText
+all c = pieces_at (settings_of c.args.options.now) c.args.cuts.now c.args.points.now c.args.paragraph.now
+
+abbrev widths : After-wrap → List ℕ
+widths c = widths_of (settings_of c.args.options.now) (says_yes c.args.is_later)
+
+abbrev found : After-wrap → List ℕ
+found c = c.line_widths-first_width.result.0 ∷ c.line_widths-first_width.result.1 ∷ []
+
+pieces-are : (c : After-wrap) → map word_view c.deref.result.now ≡ all c
 pieces-are c =
     ap (map word_view) c.deref.ensures.value ∙ c.in-Ok-find_pieces.ensures.pieces
     ∙ ap (λ s. pieces_at s c.args.cuts.now c.args.points.now c.in-Ok-from_utf8.paragraph.now)
@@ -24,9 +32,7 @@ pieces-are c =
     ∙ ap (pieces_at (settings_of c.args.options.now) c.args.cuts.now c.args.points.now)
     c.in-Ok-from_utf8.ensures.0
 
-widths-are : (c : After-wrap)
-    → c.line_widths-first_width.result.0 ∷ c.line_widths-first_width.result.1 ∷ []
-    ≡ widths_of (settings_of c.args.options.now) (says_yes c.args.is_later)
+widths-are : (c : After-wrap) → found c ≡ widths c
 widths-are c =
     ap (λ n. n ∷ c.line_widths-first_width.result.1 ∷ []) c.line_widths-first_width.ensures.first
     ∙ ap (λ n. first_width (settings_view c.at_blanks-options.result) (says_yes c.args.is_later)
@@ -41,33 +47,24 @@ algorithm-is c =
 
 -- the algorithm refuses the pieces as it refuses their words
 refuses : (c : After-wrap) → OverflowsBy (algorithm_of c.args.options.now)
-    (λ word. sizes_of (word_view word))
-    (c.line_widths-first_width.result.0 ∷ c.line_widths-first_width.result.1 ∷ [])
-    c.deref.result.now
-    ≡ OverflowsBy (algorithm_of c.args.options.now) sizes_of
-    (widths_of (settings_of c.args.options.now) (says_yes c.args.is_later))
-    (pieces_at (settings_of c.args.options.now) c.args.cuts.now c.args.points.now
-    c.args.paragraph.now)
+    (λ word. sizes_of (word_view word)) (found c) c.deref.result.now
+    ≡ OverflowsBy (algorithm_of c.args.options.now) sizes_of (widths c) (all c)
 refuses c =
     let algorithm = algorithm_of c.args.options.now in
-    let widths = c.line_widths-first_width.result.0 ∷ c.line_widths-first_width.result.1 ∷ [] in
-    OverflowsBy-map word_view algorithm sizes_of widths c.deref.result.now
-    ∙ ap (OverflowsBy algorithm sizes_of widths) (pieces-are c)
-    ∙ ap (λ ws. OverflowsBy algorithm sizes_of ws (pieces_at (settings_of c.args.options.now)
-    c.args.cuts.now c.args.points.now c.args.paragraph.now)) (widths-are c)
+    OverflowsBy-map word_view algorithm sizes_of (found c) c.deref.result.now
+    ∙ ap (OverflowsBy algorithm sizes_of (found c)) (pieces-are c)
+    ∙ ap (λ ws. OverflowsBy algorithm sizes_of ws (all c)) (widths-are c)
 
 pub returns-in-Err-Overflow-clause-overflow : goal.returns-in-Err-Overflow-clause-overflow
 returns-in-Err-Overflow-clause-overflow c = λ same.
     let here = (goal.at.returns-in-Err-Overflow-clause-overflow c).After-wrap in
-    let widths = c.line_widths-first_width.result.0 ∷ c.line_widths-first_width.result.1 ∷ [] in
     let overflows = c.in-Err-Overflow.ensures.overflow_only (rw c.in-Err-Overflow.field-0-is tt) in
-    subst (λ P. P) (refuses here) (subst (λ found. IsSomeAnd found (λ a. OverflowsBy a
-    (λ word. sizes_of (word_view word)) widths c.deref.result.now)) (algorithm-is here) overflows)
+    subst (λ P. P) (refuses here) (subst (λ found_is. IsSomeAnd found_is (λ a. OverflowsBy a
+    (λ word. sizes_of (word_view word)) (found here) c.deref.result.now)) (algorithm-is here) overflows)
 
 -- their widths are those of the words
 widths-same : (c : After-wrap) → total_width (λ word. sizes_of (word_view word)) c.deref.result.now
-    ≡ total_width sizes_of (pieces_at (settings_of c.args.options.now) c.args.cuts.now
-    c.args.points.now c.args.paragraph.now)
+    ≡ total_width sizes_of (all c)
 widths-same c =
     total_width-same (λ word. sizes_of (word_view word)) sizes_of c.deref.result.now
     (map word_view c.deref.result.now) (sizes-word_view c.deref.result.now)
@@ -83,26 +80,20 @@ pub returns-in-Ok-line_ends-clause-ends : goal.returns-in-Ok-line_ends-clause-en
 returns-in-Ok-line_ends-clause-ends c =
     let here = (goal.at.returns-in-Ok-line_ends-clause-ends c).After-wrap in
     let algorithm = algorithm_of c.args.options.now in
-    let widths = c.line_widths-first_width.result.0 ∷ c.line_widths-first_width.result.1 ∷ [] in
-    let all = widths_of (settings_of c.args.options.now) (says_yes c.args.is_later) in
-    let pieces = pieces_at (settings_of c.args.options.now) c.args.cuts.now c.args.points.now
-    c.args.paragraph.now in
     let lines = map (λ line. line.now) c.in-Ok-wrap.division.items in
     let words = map (map word_view) lines in
-    let divided : IsDividedBy algorithm sizes_of all pieces words =
-    subst (λ ws. IsDividedBy algorithm sizes_of ws pieces words) (widths-are here)
-    (subst (λ ps. IsDividedBy algorithm sizes_of widths ps words) (pieces-are here)
-    (subst (λ Divided. Divided widths (map word_view c.deref.result.now) words)
+    let divided : IsDividedBy algorithm sizes_of (widths here) (all here) words =
+    subst (λ ws. IsDividedBy algorithm sizes_of ws (all here) words) (widths-are here)
+    (subst (λ ps. IsDividedBy algorithm sizes_of (found here) ps words) (pieces-are here)
+    (subst (λ Divided. Divided (found here) (map word_view c.deref.result.now) words)
     (division-as c.at_blanks-options.result.wrap_algorithm algorithm (algorithm-is here))
-    (MayDivide-map c.at_blanks-options.result.wrap_algorithm word_view widths c.deref.result.now lines
-    c.in-Ok-wrap.ensures.divided))) in
+    (MayDivide-map c.at_blanks-options.result.wrap_algorithm word_view (found here)
+    c.deref.result.now lines c.in-Ok-wrap.ensures.divided))) in
     let is : c.deref-in-Ok-line_ends.result.now ≡ ends_of words =
     c.deref-in-Ok-line_ends.ensures.value ∙ c.in-Ok-line_ends.ensures
     ∙ ap (λ ls. ends_of (map (λ line. line.now) ls)) c.deref-3.ensures.value
     ∙ sym (ends_of-map word_view lines) in
-    WritesText-answer (AreEndsOf (IsDividedBy algorithm sizes_of all pieces))
-    c.deref-in-Ok-line_ends.result.now c.put.result c.args.ends.now c.put.new.room c.args.count.now
-    c.put.new.len (words, divided, is) c.put.ensures.text
+    WritesText-answer (words, divided, is) c.put.ensures.text
 
 pub returns-in-Ok-line_ends-clause-written_only : goal.returns-in-Ok-line_ends-clause-written_only
 returns-in-Ok-line_ends-clause-written_only c = λ statuses overflows.

@@ -1,56 +1,48 @@
 use Rattle.textwrap_step_calls.proofs.text_steps.join_lines.Goals as goal
-use Rattle.textwrap_calls.proofs.Common.{false, ◌+◌, ◌≤◌, ap, cond, drop_more, length, map, subst}
-use Rattle.textwrap_calls.proofs.Common.{slice_range, sym, ◌∙◌, join_with, line_bytes}
+use Rattle.textwrap_calls.proofs.Common.{All, ◌+◌, ◌++◌, ◌∷◌, [], ap, arith, false, join_with, length}
+use Rattle.textwrap_calls.proofs.Common.{length-map, line_bytes, map, map_more, subst, sym, take}
+use Rattle.textwrap_calls.proofs.Common.{take_all, ◌∙◌}
 use Rattle.std.specs.List.{slice_index_or}
-use Rattle.textwrap_text.proofs.Common.{drop_all}
-use Rattle.textwrap_step_calls.proofs.StepLemmas.{HasJoined, HasJoined-end, HasJoined-first}
-use Rattle.textwrap_step_calls.proofs.StepLemmas.{HasJoined-more, HasJoined-start}
-
-pub loop-i-init : goal.loop-i-init
-loop-i-init c = λ lines shows.
-    HasJoined-start c.as_bytes-ending.result.now c.args.text.now c.args.placed.now.built.items lines
-    c.args.placed.now.places.items c.in_ok-joined.joined.items c.in_ok-joined.ensures.items shows
+use Rattle.textwrap_text.proofs.Common.{length-take}
+use Rattle.textwrap_calls.proofs.RoomLemmas.{bytes_at, IsInside, shown-bytes}
+use Rattle.textwrap_step_calls.proofs.StepLemmas.{join-more}
 
 pub line_at-requires : goal.line_at-requires
 line_at-requires c =
     let (lines, shows) = c.requires in
-    let ending = c.as_bytes-ending.result.now in
     let text = c.args.text.now in
     let built = c.args.placed.now.built.items in
-    let places = c.deref-place-items.result.now in
-    let i = c.loop-i.i in
-    let place = slice_index_or places i (record { offset = 0; len = 0; is_built = false }) in
-    let all = subst (λ ps. HasJoined ending text built lines i ps c.loop-i.joined.items)
-    (sym c.deref-place-items.ensures.value) (c.loop-i.invariant lines shows) in
-    let first = HasJoined-first ending text built lines places i place _ c.loop-i.joined.items all
-    (drop_more places i _ c.loop-i-test.true) in
-    subst (λ b. place.offset + place.len ≤ length (cond place.is_built b text))
-    (sym c.deref.ensures.value) first.within
+    let inside = subst (All (IsInside text built)) (sym c.deref-place-items.ensures.value)
+    (shown-bytes text built 0 0 lines c.args.placed.now.places.items shows).0 in
+    rw c.deref.ensures.value (inside c.loop-i.i _ c.loop-i-test.true)
 
 pub loop-i-preserved : goal.loop-i-preserved
-loop-i-preserved c = λ lines shows.
-    let ending = c.as_bytes-ending.result.now in
+loop-i-preserved c =
     let text = c.args.text.now in
-    let built = c.args.placed.now.built.items in
+    let ending = c.as_bytes-ending.result.now in
+    let bytes = bytes_at text c.args.placed.now.built.items in
     let places = c.deref-place-items.result.now in
+    let value = c.deref-place-items.ensures.value in
     let i = c.loop-i.i in
     let place = slice_index_or places i (record { offset = 0; len = 0; is_built = false }) in
-    let value = c.deref-place-items.ensures.value in
-    let all = subst (λ ps. HasJoined ending text built lines i ps c.loop-i.joined.items)
-    (sym value) (c.loop-i.invariant lines shows) in
-    subst (λ ps. HasJoined ending text built lines (i + 1) ps c.push_line.new.joined.items) value
-    (HasJoined-more ending text built lines places i place c.loop-i.joined.items
-    c.push_line.new.joined.items c.line_at.result.now all (drop_more places i _ c.loop-i-test.true)
-    (c.line_at.ensures ∙ ap (λ b. slice_range (cond place.is_built b text) place.offset
-    (place.offset + place.len)) c.deref.ensures.value) c.in_ok-push_line.ensures)
+    let count = length-take i places in
+    c.in_ok-push_line.ensures
+    ∙ join-more ending c.loop-i.joined.items c.line_at.result.now i (map bytes (take i places))
+    (length-map (take i places) bytes ∙ (omega (arith, count, c.loop-i-test.true)))
+    (c.loop-i.invariant ∙ ap (λ ps. join_with ending (map bytes (take i ps))) (sym value))
+    ∙ ap (λ b. join_with ending (map bytes (take i places) ++ b ∷ []))
+    (c.line_at.ensures ∙ ap (λ built. bytes_at text built place) c.deref.ensures.value)
+    ∙ ap (join_with ending) (sym (map_more bytes places i _ c.loop-i-test.true))
+    ∙ ap (λ ps. join_with ending (map bytes (take (i + 1) ps))) value
 
 pub returns : goal.returns
 returns c = λ lines shows.
+    let text = c.args.text.now in
+    let built = c.args.placed.now.built.items in
+    let places = c.args.placed.now.places.items in
     let ending = c.as_bytes-ending.result.now in
-    let places = c.deref-place-items.result.now in
-    let all = subst (λ ps. HasJoined ending c.args.text.now c.args.placed.now.built.items lines
-    c.loop-i.i ps c.loop-i.joined.items) (sym c.deref-place-items.ensures.value)
-    (c.loop-i.invariant lines shows) in
-    HasJoined-end ending c.args.text.now c.args.placed.now.built.items lines places c.loop-i.i
-    c.loop-i.joined.items all (drop_all c.loop-i.i places c.loop-i-test.false)
+    c.loop-i.invariant ∙ ap (λ ps. join_with ending (map (bytes_at text built) ps))
+    (take_all c.loop-i.i places
+    (omega (arith, ap length c.deref-place-items.ensures.value, c.loop-i-test.false)))
+    ∙ ap (join_with ending) (sym (shown-bytes text built 0 0 lines places shows).1)
     ∙ ap (λ e. join_with e (map line_bytes lines)) (c.as_bytes-ending.ensures.value ∙ c.as_str.ensures)

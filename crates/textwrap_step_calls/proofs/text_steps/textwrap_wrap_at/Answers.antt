@@ -1,25 +1,22 @@
 use Rattle.textwrap_step_calls.proofs.text_steps.textwrap_wrap_at.Goals as goal
-use Rattle.textwrap_calls.proofs.Common.{◌++◌, subst, ◌∙◌, settings_view, settings_of, ShowLines}
-use Rattle.textwrap_calls.proofs.Common.{ArePlacesOf, lines_of}
+use Rattle.textwrap_calls.proofs.Common.{◌++◌, ◌∙◌, ℕ, List, refl, subst, lines_of, ShowLines, Settings}
+use Rattle.textwrap_calls.proofs.Common.{ArePlacesOf, settings_of}
 use Rattle.textwrap_step_calls.proofs.Common.{text_step_cuts}
-use Rattle.textwrap_step_calls.proofs.TextStepLemmas.{shown-written}
+use Rattle.textwrap_calls.proofs.RoomLemmas.{WritesLines-reported}
 
 pub returns-in-Ok-place_text-clause-lines : goal.returns-in-Ok-place_text-clause-lines
 returns-in-Ok-place_text-clause-lines c =
     let steps = c.args.steps.now in
-    let read = settings_view c.at_blanks-options.result in
-    let places = c.in-Ok-place_text.placed.places.items in
-    let built = c.in-Ok-place_text.placed.built.items in
-    let settings = c.at_blanks-options.ensures.settings_are ∙ c.in-Ok.ensures.read.settings in
-    let text = c.in-Ok-from_utf8.ensures.0 in
-    shown-written (settings_of c.args.options.now) steps c.args.text.now places built
-    (subst (λ s. ArePlacesOf (text_step_cuts s steps c.args.text.now) places built) settings
-    (subst (λ t. ArePlacesOf (text_step_cuts read steps t) places built) text
-    c.in-Ok-place_text.ensures.placed))
-    (λ rest. subst (λ s. ShowLines c.args.text.now (built ++ rest) 0 0
-    (lines_of (text_step_cuts s steps c.args.text.now)) places) settings
-    (subst (λ t. ShowLines t (built ++ rest) 0 0 (lines_of (text_step_cuts read steps t)) places) text
-    (c.in-Ok-place_text.ensures.shown rest)))
-    c.put_lines.result c.args.lines.now c.put_lines.new.lines c.args.count.now c.put_lines.new.count
-    c.args.room.now c.put_lines.new.room c.args.len.now c.put_lines.new.len
-    c.put_lines.ensures.statuses c.put_lines.ensures.lines
+    let placed = c.in-Ok-place_text.placed in
+    let Found : Settings → List ℕ → Type 0 =
+    λ s text. ArePlacesOf (text_step_cuts s steps text) placed.places.items placed.built.items
+    × ((rest : List ℕ) → ShowLines text (placed.built.items ++ rest) 0 0
+    (lines_of (text_step_cuts s steps text)) placed.places.items) in
+    let (at, shown) = subst (Found (settings_of c.args.options.now)) c.in-Ok-from_utf8.ensures.0
+    (subst (λ s. Found s c.in-Ok-from_utf8.text.now)
+    (c.at_blanks-options.ensures.settings_are ∙ c.in-Ok.ensures.read.settings)
+    (c.in-Ok-place_text.ensures.placed, c.in-Ok-place_text.ensures.shown)) in
+    let lines = lines_of (text_step_cuts (settings_of c.args.options.now) steps c.args.text.now) in
+    WritesLines-reported lines (refl, at.0) at.1
+    (λ rest. subst (λ b. ShowLines c.args.text.now (b ++ rest) 0 0 lines placed.places.items) at.1
+    (shown rest)) c.put_lines.ensures.statuses c.put_lines.ensures.lines

@@ -1,8 +1,8 @@
 use Rattle.textwrap_uses.proofs.hyphens.later_begins.Goals as goal
-use Rattle.std.proofs.Common.{◌+◌, ◌∷◌, ◌++◌, ◌∙◌, ap, arith, length, sym}
+use Rattle.std.proofs.Common.{◌∷◌, ◌∙◌, ap, arith, length, sym}
 use Rattle.textwrap.specs.Words.{word_view}
-use Rattle.textwrap_uses.specs.Hyphens.{begins_from, later_begins}
-use Rattle.textwrap_uses.proofs.Dictionary.Begins.{begins-first, room-all, room-next}
+use Rattle.textwrap_uses.specs.Hyphens.{later_begins}
+use Rattle.textwrap_uses.proofs.Dictionary.{begins-first, room-all, room-next}
 
 pub loop-word-init : goal.loop-word-init
 loop-word-init c =
@@ -11,14 +11,11 @@ loop-word-init c =
     let left = c.into_iter-word-iterator.result in
     let step = c.in-Some.ensures.steps
     ∙ ap (λ ws. first ∷ ws) (sym c.into_iter-word-iterator.ensures.into_iter_gives) in
-    record {
-      begins = ap (λ ns. ns
-          ++ begins_from (length first.word + length first.whitespace) left)
-          c.new-begins.ensures.items ∙ begins-first first words left step
-          ∙ ap later_begins c.words_of-words.ensures;
+    rw c.new-begins.ensures.items (record {
+      begins = begins-first first words left step ∙ ap later_begins c.words_of-words.ensures;
       room = omega (
         arith,
         room-next first words left 0 (length c.args.paragraph.now) step
             (omega (arith, room-all c.args.paragraph.now words c.words_of-words.ensures)),
       );
-    }
+    })

@@ -7,5 +7,6 @@ pub mod Plain
 pub mod PlainFilled
 pub mod PlainRows
 pub mod Refilling
+pub mod Rows
 pub mod Tables
 pub mod Unfilling

@@ -1,0 +1,7 @@
+use Rattle.textwrap.proofs.rows.row.Given as goal
+use Rattle.textwrap_text.proofs.Common.{◌≡◌, ◌++◌, join_with, string_bytes, take}
+
+-- the left gap and the first cells
+abbrev pub invariant-loop-c : goal.invariant-loop-c
+invariant-loop-c g l = string_bytes l.row ≡ l.frame.left.now
+    ++ join_with l.frame.middle.now (take l.c (g.C.RowCells.texts l.cells l.r))

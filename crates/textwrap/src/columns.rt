@@ -250,6 +250,8 @@ impl<A: Allocator> RowCells for LineCells<'_, '_, A> {
     ghost texts = { λ table r. map (padded table.width)
         (cells (map line_bytes (map line_view table.lines.now)) table.rows table.columns r) };
 
+    ghost columns = { λ table. table.columns };
+
     fn columns(&self) -> usize {
         self.columns
     }

@@ -41,20 +41,24 @@ pub trait RowCells {
     // The cells of a row.
     ghost texts: { Self → ℕ → List (List ℕ) };
 
+    // How many these are.
+    ghost columns: { Self → ℕ };
+
     /// How many cells each row has.
     fn columns(&self) -> usize
-        ensures { (r : ℕ) → length (texts self.now r) ≡ result };
+        ensures value { result ≡ columns self.now }
+        ensures all { (r : ℕ) → length (texts self.now r) ≡ result };
 
     /// The cell in a row and a column.
     fn cell(&self, r: usize, c: usize) -> RowCell<'_>
-        requires { c < length (texts self.now r) }
+        requires { c < columns self.now }
         ensures { cell_text result ≡ slice_index_or (texts self.now r) c [] };
 
     /// How many cells from there on are the same, so far as that is known: at least 1.
     fn alike(&self, r: usize, c: usize) -> usize
-        requires { c < length (texts self.now r) }
+        requires { c < columns self.now }
         ensures some { 1 ≤ result }
-        ensures within { c + result ≤ length (texts self.now r) }
+        ensures within { c + result ≤ columns self.now }
         ensures same { (i : ℕ) → c ≤ i → i < c + result
             → slice_index_or (texts self.now r) i [] ≡ slice_index_or (texts self.now r) c [] };
 }

@@ -11,7 +11,7 @@ loop-c-preserved g c =
       c.gap_before.ensures,
       c.loop-c.invariant,
       join-more c.args.frame.now.middle.now (g.C.RowCells.texts c.args.cells.now c.args.r) c.loop-c.c
-          (omega (arith, c.columns-c-end.ensures c.args.r)),
+          (omega (arith, c.columns-c-end.ensures.all c.args.r)),
     )
     (simp append_assoc)
 
@@ -22,6 +22,6 @@ returns g c =
       c.in_ok-push_blanks.ensures,
       c.loop-c.invariant,
       take_all c.loop-c.c (g.C.RowCells.texts c.args.cells.now c.args.r)
-          (omega (arith, c.columns-c-end.ensures c.args.r)),
+          (omega (arith, c.columns-c-end.ensures.all c.args.r)),
     )
     (simp append_assoc)

@@ -14,9 +14,9 @@ loop-c-preserved g c = (
     c.saturating_mul.ensures,
     c.saturating_add-len.ensures,
     length-alike (g.C.RowCells.texts c.args.cells.now c.args.r) c.loop-c.c c.alike-alike.result
-        c.alike-alike.ensures.within c.alike-alike.ensures.same,
+        (omega (arith, c.columns-columns.ensures.all c.args.r)) c.alike-alike.ensures.same,
   ),
-  omega (arith, c.alike-alike.ensures.within, c.columns-columns.ensures c.args.r),
+  omega arith,
 )
 
 pub returns : goal.returns
@@ -24,9 +24,9 @@ returns g c =
     let cells = g.C.RowCells.texts c.args.cells.now c.args.r in
     let frame = c.args.frame.now in
     let len = length (framed frame cells) in
-    let all = take_all c.loop-c.c cells (omega (arith, c.columns-columns.ensures c.args.r)) in
+    let all = take_all c.loop-c.c cells (omega (arith, c.columns-columns.ensures.all c.args.r)) in
     let gaps = c.saturating_sub-gaps.ensures
-    ∙ ap (λ n. n - 1) (sym (c.columns-columns.ensures c.args.r)) in
+    ∙ ap (λ n. n - 1) (sym (c.columns-columns.ensures.all c.args.r)) in
     let counted : c.saturating_add-len-2.result ≡ min len (2 ^ 128 - 1) = omega (
       arith,
       c.loop-c.invariant,

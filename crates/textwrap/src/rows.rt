@@ -97,9 +97,16 @@ fn row<A: Allocator, C: RowCells>(
     let len = row_len(cells, r, frame).ok_or(AllocError)?;
     let mut row = String::with_capacity(alloc, len)?;
     row.push_str(frame.left)?;
-    for c in 0..cells.columns() {
-        row.push_str(gap_before(c, frame.middle))?;
-        push_cell(&mut row, &cells.cell(r, c))?;
+    let columns = cells.columns();
+    let mut c = 0;
+    while c < columns {
+        let alike = cells.alike(r, c);
+        let cell = cells.cell(r, c);
+        for at in c..c + alike {
+            row.push_str(gap_before(at, frame.middle))?;
+            push_cell(&mut row, &cell)?;
+        }
+        c += alike;
     }
     push_blanks(&mut row, frame.spare)?;
     row.push_str(frame.right)?;

@@ -5,12 +5,9 @@ use Rattle.textwrap_text.proofs.Common.{length-map, refl, sym, Vec, zip, ◌∙�
 use Rattle.textwrap_text.proofs.Common.{min, take, drop, map, subst, append_assoc, Bor, cases_lt}
 use Rattle.textwrap_text.proofs.Common.{range_with_len, take_at, drop_at, drop-drop, All, All-head}
 use Rattle.textwrap_text.proofs.Common.{All-tail}
-use Rattle.std.specs.declared.borrow.CowStr.{CowStr}
 use Rattle.std.proofs.Common.{replicate}
 use Rattle.std.proofs.lemmas.List.{length-replicate, take_min, drop_min}
 use Rattle.std.proofs.lemmas.Slice.Zip.{get_or-zip, length-zip, AllZip-long}
-use Rattle.std.specs.Cow.{cow_str_bytes}
-use Rattle.textwrap.proofs.Text.Tables.{cell_is}
 use Rattle.textwrap_display.specs.Tables.{cell_line, cell_texts, Shape, shown, shown_lines}
 use Rattle.textwrap_display.specs.Tables.{AreCells, group_rows, groups_of, IsTableBy, RowGaps}
 use Rattle.textwrap_display.specs.Tables.{texts_in, ColumnMakes, ColumnParts, HaveParts}
@@ -35,15 +32,6 @@ padded-at [] (suc count) zero = refl
 padded-at [] (suc count) (suc at) = padded-at [] count at
 padded-at (cell ∷ cells) count zero = refl
 padded-at (cell ∷ cells) count (suc at) = padded-at cells count at
-
--- the text of the line that a cell has in a row
-pub line-is : {Z : Type 0} (cells : List (Vec (CowStr Z) Z)) (at r : ℕ) (cell : Vec (CowStr Z) Z)
-    (line : CowStr Z) → at < length cells → cell ≡ get_or cells at cell → r < length cell.items
-    → line ≡ get_or cell.items r line
-    → cell_line (get_or (cell_texts cells) at []) r ≡ cow_str_bytes line
-line-is cells at r cell line within is inside there =
-    let same = cell_is cell.items line 0 r 0 r (omega arith) inside there in
-    grind (arith, get_or-map, same)
 
 module _ (columns : List Shape) (cells : List (List (List ℕ))) where
   -- the cells, with an empty one for each column after them

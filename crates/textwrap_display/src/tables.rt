@@ -12,7 +12,7 @@ ghost use Rattle.textwrap_layout.specs.Options.{MayOverflow};
 use crate::alignment::{Alignment, aligned_cell};
 use std::alloc::{AllocError, Allocator};
 use std::borrow::CowStr;
-use textwrap::inner::{Frame, RowCell, RowCells, push_rows};
+use textwrap::inner::{Frame, RowCell, RowCells, line_at, push_rows};
 use textwrap::{Options, WrapError};
 use textwrap_lines::inner::wrap_by;
 
@@ -266,11 +266,13 @@ struct Group<'l, 't, A: Allocator, C> {
 }
 
 impl<A: Allocator, C: AnyColumn<A>> RowCells for Group<'_, '_, A, C> {
-    ghost use Rattle.std.specs.Prelude.{map};
+    ghost use Rattle.std.specs.Prelude.{length, map};
     ghost use Rattle.textwrap_display.specs.Tables.{cell_texts, shown_lines};
 
     ghost texts = { λ group. shown_lines (map C.shape group.columns.now)
         (cell_texts group.cells.now) };
+
+    ghost columns = { λ group. length group.columns.now };
 
     fn columns(&self) -> usize {
         self.columns.len()
@@ -295,7 +297,7 @@ fn cell_line<'l, A: Allocator>(cells: &'l [Cell<'_, A>], c: usize, r: usize) -> 
     ensures { result.now ≡ cell_line (slice_index_or (cell_texts cells.now) c []) r }
 {
     match cells.get(c) {
-        Some(lines) if r < lines.len() => lines[r].as_str(),
-        _ => "",
+        Some(lines) => line_at(lines, r),
+        None => "",
     }
 }

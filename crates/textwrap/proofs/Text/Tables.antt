@@ -1,8 +1,8 @@
 -- The cells and rows of texts in columns: which lines they show, and that rows are even.
 use Rattle.textwrap_text.proofs.Common.{◌≡◌, ℕ, zero, suc, ◌+◌, ◌-◌, ◌*◌, ◌<◌, ◌≤◌, ◌⊎◌, List, []}
 use Rattle.textwrap_text.proofs.Common.{◌∷◌, ◌++◌, length, get_or, map, refl, sym, ap, ◌∙◌, arith}
-use Rattle.textwrap_text.proofs.Common.{append_assoc, append-nil, inl, inr, range_with_len, repeat}
-use Rattle.textwrap_text.proofs.Common.{get_or-map, get_or_past, length-map, map-append}
+use Rattle.textwrap_text.proofs.Common.{append_assoc, append-nil, inl, inr, range_with_len, get_or-map, get_or_past}
+use Rattle.textwrap_text.proofs.Common.{length-map, map-append}
 use Rattle.textwrap_text.proofs.Common.{flat_map-append, map-range_with_len_more, rules}
 use Rattle.textwrap_text.proofs.Common.{length-append, flat_map, All, sum_by, All-head, All-tail}
 use Rattle.textwrap_text.proofs.Common.{sum_by-cons, sum_by-append, Bool, join_with, text_width}
@@ -12,7 +12,7 @@ use Rattle.textwrap.proofs.Common.{RowLayout, blanks, cell, padded, cells, row_t
 use Rattle.textwrap.proofs.Common.{layout_of}
 use Rattle.textwrap.proofs.Common.{inner_width}
 use Rattle.textwrap_words.proofs.Word.Words.{text_width-nil}
-use Rattle.textwrap_text.proofs.Lists.Elements.{range-split, length-repeat}
+use Rattle.textwrap_text.proofs.Lists.Elements.{range-split}
 use Rattle.std.proofs.lemmas.List.{length-replicate}
 use Rattle.std.proofs.Common.{replicate}
 use Rattle.std.proofs.Math.Nat.{mul-le-mul_right}

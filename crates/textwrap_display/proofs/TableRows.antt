@@ -4,18 +4,15 @@ use Rattle.textwrap_text.proofs.Common.{All-cons, All-map, All-nil, ap, arith, c
 use Rattle.textwrap_text.proofs.Common.{get_or, get_or_past, inl, inr, length, map, range_with_len}
 use Rattle.textwrap_text.proofs.Common.{refl, sym, ◌<◌, ◌∙◌, zero, suc, ◌*◌, All-head, All-tail}
 use Rattle.textwrap_text.proofs.Common.{append_assoc, length-map, subst, sum_by, sum_by-cons, zip}
-use Rattle.textwrap_text.proofs.Common.{cond, drop, drop_all, drop_more, get_or-map, length-append}
-use Rattle.textwrap_text.proofs.Common.{append-nil, cases_Bool, nat_lt, nat_tests, join_with}
+use Rattle.textwrap_text.proofs.Common.{join_with}
 use Rattle.std.proofs.Common.{replicate}
 use Rattle.textwrap.proofs.Text.Tables.{lines-kept}
-use Rattle.textwrap_display.specs.Alignment.{aligned}
 use Rattle.textwrap_display.specs.Laws.{cell_shown, row_of, ShowsEachLineOnce, KeepToColumns}
 use Rattle.textwrap_display.specs.Laws.{row_width}
 use Rattle.textwrap_display.specs.Tables.{cell_line, group_rows, height, RowGaps, Shape, shown}
 use Rattle.textwrap_display.specs.Tables.{shown_lines, row_text}
 use Rattle.textwrap_display.proofs.TableGroups.{length-shown, shown-at, length-padded}
 use Rattle.std.proofs.Math.Nat.{suc-mul}
-use Rattle.textwrap_layout.proofs.Common.{line_bytes}
 use Rattle.textwrap_layout.proofs.Text.Paragraphs.{text_width-append}
 use Rattle.textwrap_words.proofs.Word.Words.{text_width-nil}
 use Rattle.textwrap_text.specs.Units.{text_width}

@@ -1,8 +1,8 @@
 -- How wide blanks are, and lines that are aligned or justified.
 use Rattle.textwrap_text.proofs.Common.{◌≡◌, ℕ, ◌+◌, true, List, ◌++◌, ap, length, refl, ◌∙◌}
 use Rattle.textwrap_text.proofs.Common.{nat_tests, ◌-◌, ◌≤◌, [], append_assoc, append-nil, arith}
-use Rattle.textwrap_text.proofs.Common.{IsUtf8, length-append, ◌≢◌, ◌*◌, ◌/◌, ◌<◌, min, suc, ◌∷◌}
-use Rattle.textwrap_text.proofs.Common.{All, All-from_get_or, All-head, All-tail, All-weaker, drop}
+use Rattle.textwrap_text.proofs.Common.{IsUtf8, ◌≢◌, ◌*◌, ◌/◌, ◌<◌, min, suc, ◌∷◌, All}
+use Rattle.textwrap_text.proofs.Common.{All-from_get_or, All-head, All-tail, All-weaker, drop}
 use Rattle.textwrap_text.proofs.Common.{eqb-true, get_or-take, length-take, subst, sym, take}
 use Rattle.textwrap_text.proofs.Common.{take-append-drop}
 use Rattle.std.proofs.lemmas.List.{length-replicate}

@@ -1,24 +1,23 @@
 -- The cells and rows of texts in columns: which lines they show, and that rows are even.
-use Rattle.textwrap_text.proofs.Common.{◌≡◌, ℕ, zero, suc, ◌+◌, ◌-◌, ◌*◌, ◌<◌, ◌≤◌, ◌⊎◌, List, []}
-use Rattle.textwrap_text.proofs.Common.{◌∷◌, ◌++◌, length, get_or, map, refl, sym, ap, ◌∙◌, arith}
-use Rattle.textwrap_text.proofs.Common.{append_assoc, append-nil, inl, inr, range_with_len, get_or-map, get_or_past}
-use Rattle.textwrap_text.proofs.Common.{length-map, map-append}
-use Rattle.textwrap_text.proofs.Common.{flat_map-append, map-range_with_len_more, rules}
-use Rattle.textwrap_text.proofs.Common.{length-append, flat_map, All, sum_by, All-head, All-tail}
-use Rattle.textwrap_text.proofs.Common.{sum_by-cons, sum_by-append, Bool, join_with, text_width}
-use Rattle.textwrap_layout.proofs.Common.{line_view, line_bytes, Settings, settings_view, Line}
-use Rattle.textwrap_layout.proofs.Common.{IsDividedInto, DividesBy, AreTextLines}
-use Rattle.textwrap.proofs.Common.{RowLayout, blanks, cell, padded, cells, row_text}
-use Rattle.textwrap.proofs.Common.{layout_of}
+use Rattle.textwrap_text.proofs.Common.{◌≡◌, ℕ, zero, suc, ◌+◌, ◌-◌, ◌*◌, ◌<◌, ◌≤◌, List, [], ◌∷◌}
+use Rattle.textwrap_text.proofs.Common.{◌++◌, length, get_or, map, refl, sym, ap, ◌∙◌, arith}
+use Rattle.textwrap_text.proofs.Common.{append_assoc, append-nil, inl, inr, range_with_len}
+use Rattle.textwrap_text.proofs.Common.{get_or-map, get_or_past, length-map, map-append}
+use Rattle.textwrap_text.proofs.Common.{flat_map-append, rules, flat_map, All, sum_by, All-head}
+use Rattle.textwrap_text.proofs.Common.{All-tail, sum_by-cons, sum_by-append, Bool, join_with}
+use Rattle.textwrap_text.proofs.Common.{text_width, cases_lt, min}
+use Rattle.textwrap_layout.proofs.Common.{Settings, settings_view, Line, IsDividedInto, DividesBy}
+use Rattle.textwrap_layout.proofs.Common.{AreTextLines}
+use Rattle.textwrap.proofs.Common.{RowLayout, blanks, cell, padded, cells, row_text, layout_of}
 use Rattle.textwrap.proofs.Common.{inner_width}
 use Rattle.textwrap_words.proofs.Word.Words.{text_width-nil}
 use Rattle.textwrap_text.proofs.Lists.Elements.{range-split}
 use Rattle.std.proofs.lemmas.List.{length-replicate}
 use Rattle.std.proofs.Common.{replicate}
 use Rattle.std.proofs.Math.Nat.{mul-le-mul_right}
-use Rattle.textwrap_text.proofs.Common.{cases_lt, min}
 use Rattle.std.proofs.lemmas.Grind.{div_ceil_times}
-use Rattle.std.proofs.lemmas.List.FromFn.{get_or-map-range_with_len, fill_by_all, length-map-range_with_len}
+use Rattle.std.proofs.lemmas.List.FromFn.{get_or-map-range_with_len, fill_by_all}
+use Rattle.std.proofs.lemmas.List.FromFn.{length-map-range_with_len}
 use Rattle.textwrap.specs.Columns.{row_count, column_cells, cells_by_column, cell_parts, row_parts}
 use Rattle.textwrap_words.proofs.Common.{MaySeparate, MaySplit, WordText, MayDivide}
 use Rattle.std.proofs.lemmas.List.Elements.{All-replicate}
@@ -41,32 +40,26 @@ module _ (lines : List (List ℕ)) (rows columns r width : ℕ) where
   length-shown = length-map (cells lines rows columns r) (padded width)
       ∙ length-map-range_with_len (cell lines rows r) 0 columns
 
-  pub shown-at : (c : ℕ) → c < columns
-      → get_or shown c [] ≡ padded width (cell lines rows r c)
-  shown-at c within =
+  -- what a column shows is the line at its place, and past the last line nothing
+  pub shown-at : (c place : ℕ) → c < columns → place ≡ min (r + c * rows) (length lines)
+      → get_or shown c [] ≡ padded width (get_or lines place [])
+  shown-at c place within is =
       get_or-map (padded width) (cells lines rows columns r) c [] []
       (omega (arith, length-map-range_with_len (cell lines rows r) 0 columns))
       ∙ ap (padded width) (get_or-map-range_with_len (cell lines rows r) 0 columns c c [] within
-      (omega arith))
+      (omega arith) ∙ elim (cases_lt (r + c * rows) (length lines)) [
+        | inl there ↦ ap (λ i. get_or lines i []) (omega arith)
+        | inr past ↦ get_or_past lines (r + c * rows) [] past
+            ∙ sym (get_or_past lines place [] (omega arith))
+      ])
 
-  -- a place past the last line has none, as that after the last line
-  pub shown-there : (c place : ℕ) → c < columns → place ≡ min (r + c * rows) (length lines)
-      → get_or shown c [] ≡ padded width (get_or lines place [])
-  shown-there c place within is = elim (cases_lt (r + c * rows) (length lines)) [
-    | inl there ↦ let here : place ≡ r + c * rows = omega arith in rw here (shown-at c within)
-    | inr past ↦ shown-at c within ∙ ap (padded width) (get_or_past lines (r + c * rows) [] past
-        ∙ sym (get_or_past lines place [] (omega arith)))
-  ]
-
-  -- past the last line all cells are empty
+  -- past the last line all columns show the same
   pub shown-past : (c i : ℕ) → length lines ≤ r + c * rows → c ≤ i → i < columns
       → get_or shown i [] ≡ get_or shown c []
   shown-past c i past after within =
       let later : c * rows ≤ i * rows = mul-le-mul_right rows after in
-      shown-at i within
-      ∙ ap (padded width) (get_or_past lines (r + i * rows) [] (omega (arith, later))
-      ∙ sym (get_or_past lines (r + c * rows) [] past))
-      ∙ sym (shown-at c (omega arith))
+      shown-at i (length lines) within (omega (arith, later))
+      ∙ sym (shown-at c (length lines) (omega arith) (omega arith))
 
 -- ---- the cells of a table, one column after another
 

@@ -1,6 +1,6 @@
 use Rattle.textwrap.proofs.rows.row_len.Goals as goal
-use Rattle.textwrap_text.proofs.Common.{◌≡◌, ◌-◌, ◌*◌, ◌^◌, ◌<◌, ap, arith, length, min, sum_by, take_all}
-use Rattle.textwrap_text.proofs.Common.{sym, ◌∙◌}
+use Rattle.textwrap_text.proofs.Common.{◌≡◌, ◌-◌, ◌*◌, ◌^◌, ◌<◌, ap, arith, length, min, sum_by}
+use Rattle.textwrap_text.proofs.Common.{take_all, sym, ◌∙◌}
 use Rattle.textwrap_text.proofs.Numbers.{SomeIff-ok}
 use Rattle.textwrap.specs.Rows.{framed}
 use Rattle.textwrap.proofs.Text.Rows.{length-alike, length-row}

@@ -8,7 +8,7 @@ use Rattle.textwrap.specs.declared.rows.RowCell.{RowCell}
 -- a row: its cells with a gap between each two, and spare blanks after them, between two gaps more
 abbrev pub row_text : List ℕ → List ℕ → ℕ → List ℕ → List (List ℕ) → List ℕ
 row_text left middle spare right cells =
-    left ++ join_with middle cells ++ replicate spare blank ++ right
+    left ++ join_with middle cells ++ (replicate spare blank ++ right)
 
 -- ---- the same of the program's values
 

@@ -234,8 +234,8 @@ row-within layout (x ∷ xs) some is =
       gaps,
       columns,
       length-append layout.left joined,
-      length-append (layout.left ++ joined) (blanks layout.spare_width),
-      length-append (layout.left ++ joined ++ blanks layout.spare_width) layout.right,
+      length-append (layout.left ++ joined) (blanks layout.spare_width ++ layout.right),
+      length-append (blanks layout.spare_width) layout.right,
       length-replicate {A = ℕ} layout.spare_width 32,
     )
 

@@ -1,5 +1,5 @@
 -- The names of the definitions of this crate that most proofs cite. Declares nothing.
-pub use Rattle.textwrap.specs.Columns.{blanks, cell, cells, gapped, inner_width, RowLayout}
+pub use Rattle.textwrap.specs.Columns.{blanks, cell, cells, inner_width, RowLayout}
 pub use Rattle.textwrap.specs.Columns.{layout_of}
 pub use Rattle.textwrap.specs.Columns.{layout_view, padded, row_text}
 pub use Rattle.textwrap.specs.InPlace.{AreDividedAt, breaks_from, breaks_of, broken_lines}

@@ -4,5 +4,6 @@ pub mod Margins
 pub mod Plain
 pub mod PlainFilled
 pub mod PlainRows
+pub mod Rows
 pub mod Tables
 pub mod Unfilling

@@ -6,10 +6,10 @@ use Rattle.std.specs.List.{flat_map, range_with_len}
 use Rattle.textwrap_text.specs.Blanks.{blank}
 use Rattle.textwrap_text.specs.Units.{text_width}
 use Rattle.textwrap_words.specs.Words.{WordText}
-use Rattle.textwrap_text.specs.LineEnding.{join_with}
 use Rattle.textwrap_layout.specs.Options.{Settings}
 use Rattle.textwrap_layout.specs.Paragraph.{Line, line_bytes}
 use Rattle.textwrap_layout.specs.Text.{AreTextLines}
+use Rattle.textwrap.specs.Rows as any_rows
 use Rattle.textwrap.specs.declared.columns.Table.{Table}
 
 abbrev pub blanks : ℕ → List ℕ
@@ -79,12 +79,8 @@ padded width text = text ++ blanks (width - text_width text)
 module _ (layout : RowLayout) where
   abbrev pub row_text : List (List ℕ) → List ℕ
   row_text row =
-      layout.left ++ join_with layout.middle (map (padded layout.column_width) row)
-      ++ blanks layout.spare_width ++ layout.right
-
-  -- further cells of a row, each after the middle gap
-  abbrev pub gapped : List (List ℕ) → List ℕ
-  gapped row = flat_map (λ text. layout.middle ++ padded layout.column_width text) row
+      any_rows.row_text layout.left layout.middle layout.spare_width layout.right
+      (map (padded layout.column_width) row)
 
   -- the rows of a table of these lines
   abbrev pub table_rows : List (List ℕ) → List (List ℕ)

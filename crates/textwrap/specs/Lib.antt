@@ -3,6 +3,7 @@ pub mod InPlace
 pub mod Indentation
 pub mod Laws
 pub mod Refilling
+pub mod Rows
 pub mod TextSinks
 pub use Rattle.textwrap_base.specs.Cost
 pub use Rattle.textwrap_base.specs.Division

@@ -1,9 +1,8 @@
 //! A text in columns beside one another.
-ghost use Rattle.std.specs.Prelude.{◌≡◌, ◌+◌, ◌-◌, ◌*◌, ◌<◌, ◌≤◌, ◌++◌, List, [], length, map, alloc_error};
-ghost use Rattle.std.specs.Prelude.{string_bytes, IfOk, IfErr, SomeIff, OnOk, min, ◌⊎◌, ◌^◌};
-ghost use Rattle.std.specs.List.{range_with_len, repeat};
-ghost use Rattle.textwrap.specs.Columns.{blanks, inner_width, layout_of, layout_view, cell};
-ghost use Rattle.textwrap.specs.Columns.{cells, padded, gapped, row_text, table_rows, IsInColumns};
+ghost use Rattle.std.specs.Prelude.{◌≡◌, ◌+◌, ◌-◌, ◌*◌, ◌≤◌, List, length, map, alloc_error};
+ghost use Rattle.std.specs.Prelude.{string_bytes, IfOk, IfErr, min};
+ghost use Rattle.textwrap.specs.Columns.{inner_width, layout_of, layout_view, table_rows};
+ghost use Rattle.textwrap.specs.Columns.{IsInColumns};
 ghost use Rattle.textwrap.specs.Columns.{at_column_width};
 ghost use Rattle.textwrap_layout.specs.Options as options_of;
 ghost use Rattle.textwrap_layout.specs.Options.{Settings, settings_view, HasParts, MayOverflow};
@@ -16,6 +15,7 @@ ghost use Rattle.textwrap_words.specs.Pieces.{as_splitter};
 ghost use Rattle.textwrap_words.specs.WordSplitters.{Splitter};
 ghost use Rattle.textwrap_words.specs.WrapAlgorithms.{Algorithm};
 
+use crate::rows::{RowCell, RowCells, RowFrame, line_at, push_rows};
 use crate::words::display_width;
 use crate::wrap_algorithms::WrapError;
 use std::alloc::{AllocError, Allocator};
@@ -26,7 +26,6 @@ use textwrap_layout::layout::Layout;
 use textwrap_layout::printable_cuts::PrintableCuts;
 use textwrap_lines::Options;
 use textwrap_lines::inner::wrap_by;
-use textwrap_text::blanks::push_blanks;
 
 /// What the rows of a table have in common.
 #[derive(Drop)]
@@ -206,164 +205,72 @@ pub fn table_rows<A: Allocator + Copy>(
     ensures { IfOk result (λ rows. map string_bytes rows.items
         ≡ table_rows (layout_view table.now) (map line_bytes (map line_view lines.now))) }
 {
-    let count = lines.len().div_ceil(table.columns);
+    let cells = LineCells {
+        lines,
+        rows: lines.len().div_ceil(table.columns),
+        columns: table.columns,
+        width: table.column_width,
+    };
+    let frame = RowFrame {
+        left: table.left_gap,
+        middle: table.middle_gap,
+        spare: table.spare_width,
+        right: table.right_gap,
+    };
     let mut rows = Vec::new(alloc);
-    for r in 0..count {
-        rows.push(table_row(alloc, lines, r, count, table)?)?;
-    }
+    push_rows(alloc, &mut rows, &cells, cells.rows, &frame)?;
     Ok(rows)
 }
 
-/// The row of the line at `first` and of each `step`-th line after it.
-fn table_row<A: Allocator>(
-    alloc: A,
-    lines: &[CowStr<'_, A>],
-    first: usize,
-    step: usize,
-    table: &Table<'_>,
-) -> Result<String<A>, AllocError>
-    requires within { first < length lines.now }
-    requires step { 1 ≤ step }
-    requires step_within { step ≤ length lines.now }
-    requires columns { 1 ≤ table.now.columns }
-    ensures { IfOk result (λ row. string_bytes row ≡ row_text (layout_view table.now)
-        (cells (map line_bytes (map line_view lines.now)) step table.now.columns first)) }
-{
-    // Reserved before a cell is written, so that a row that fits no memory is refused at once.
-    let len = row_len(lines, first, step, table).ok_or(AllocError)?;
-    let mut row = String::with_capacity(alloc, len)?;
-    row.push_str(table.left_gap)?;
-    push_padded(&mut row, lines[first].as_str(), table.column_width)?;
-    let later = push_later(&mut row, lines, first, step, table)?;
-    push_missing(&mut row, table.columns - 1 - later, table)?;
-    push_blanks(&mut row, table.spare_width)?;
-    row.push_str(table.right_gap)?;
-    Ok(row)
-}
-
-/// The bytes of that row, or `None` where their number does not fit 64 bits.
-fn row_len<A: Allocator>(
-    lines: &[CowStr<'_, A>],
-    first: usize,
-    step: usize,
-    table: &Table<'_>,
-) -> Option<usize>
-    requires within { first < length lines.now }
-    requires step { 1 ≤ step }
-    requires step_within { step ≤ length lines.now }
-    requires columns { 1 ≤ table.now.columns }
-    ensures { let row = row_text (layout_view table.now)
-        (cells (map line_bytes (map line_view lines.now)) step table.now.columns first)
-        in SomeIff result (length row < 2 ^ 64) (length row) }
-{
-    let first_len = padded_len(lines[first].as_str(), table.column_width);
-    let (later, later_len) = later_len(lines, first, step, table);
-    let missing = (table.columns - 1 - later) as u128;
-    let missing_len = missing.saturating_mul(
-        table.middle_gap.len() as u128 + table.column_width as u128,
-    );
-    let ends_len = table.left_gap.len() as u128
-        + table.spare_width as u128
-        + table.right_gap.len() as u128;
-    let len = missing_len
-        .saturating_add(later_len)
-        .saturating_add(first_len + ends_len);
-    usize::try_from(len).ok()
-}
-
-/// How many cells after the first have a line, and the bytes of these cells, each with the middle
-/// gap before it, or the greatest number if they are more.
-fn later_len<A: Allocator>(
-    lines: &[CowStr<'_, A>],
-    first: usize,
-    step: usize,
-    table: &Table<'_>,
-) -> (usize, u128)
-    requires within { first < length lines.now }
-    requires step { 1 ≤ step }
-    requires step_within { step ≤ length lines.now }
-    requires columns { 1 ≤ table.now.columns }
-    ensures len { result.1 ≡ min (length (gapped (layout_view table.now)
-        (map (cell (map line_bytes (map line_view lines.now)) step first)
-        (range_with_len 1 result.0)))) (2 ^ 128 - 1) }
-    ensures count { result.0 + 1 ≤ table.now.columns }
-    ensures all { result.0 + 1 ≡ table.now.columns
-        ⊎ (length lines.now ≤ first + (result.0 + 1) * step) }
-{
-    let mut later = 0;
-    let mut len = 0u128;
-    let mut at = first;
-    while later < table.columns - 1 && step < lines.len() - at {
-        at += step;
-        let cell_len = padded_len(lines[at].as_str(), table.column_width);
-        len = len.saturating_add(table.middle_gap.len() as u128 + cell_len);
-        later += 1;
-    }
-    (later, len)
-}
-
-/// The bytes of a text that is padded to a width.
-fn padded_len(text: &str, width: usize) -> u128
-    ensures { result ≡ length (padded width text.now) }
-{
-    text.len() as u128 + width.saturating_sub(display_width(text)) as u128
-}
-
-/// Appends the cells after the first that have a line, each after the middle gap, and returns how
-/// many these are.
-fn push_later<A: Allocator>(
-    row: &mut String<A>,
-    lines: &[CowStr<'_, A>],
-    first: usize,
-    step: usize,
-    table: &Table<'_>,
-) -> Result<usize, AllocError>
-    requires within { first < length lines.now }
-    requires step { 1 ≤ step }
-    requires step_within { step ≤ length lines.now }
-    requires columns { 1 ≤ table.now.columns }
-    ensures bytes { IfOk result (λ later. string_bytes row.new ≡ string_bytes row.old
-        ++ gapped (layout_view table.now) (map (cell (map line_bytes (map line_view lines.now))
-        step first) (range_with_len 1 later))) }
-    ensures count { IfOk result (λ later. later + 1 ≤ table.now.columns) }
-    ensures all { IfOk result (λ later. later + 1 ≡ table.now.columns
-        ⊎ (length lines.now ≤ first + (later + 1) * step)) }
-{
-    let mut later = 0;
-    let mut at = first;
-    while later < table.columns - 1 && step < lines.len() - at {
-        at += step;
-        row.push_str(table.middle_gap)?;
-        push_padded(row, lines[at].as_str(), table.column_width)?;
-        later += 1;
-    }
-    Ok(later)
-}
-
-/// Appends a run of cells without a line, each after the middle gap.
-fn push_missing<A: Allocator>(
-    row: &mut String<A>,
-    count: usize,
-    table: &Table<'_>,
-) -> Result<(), AllocError>
-    ensures { OnOk result (string_bytes row.new ≡ string_bytes row.old
-        ++ repeat count (table.now.middle_gap.now ++ blanks table.now.column_width)) }
-{
-    for _ in 0..count {
-        row.push_str(table.middle_gap)?;
-        push_blanks(row, table.column_width)?;
-    }
-    Ok(())
-}
-
-/// Appends a text, and blanks up to the width of a column.
-fn push_padded<A: Allocator>(
-    row: &mut String<A>,
-    text: &str,
+/// The cells of a table of these lines, which fill its columns one after another.
+#[derive(Drop)]
+struct LineCells<'l, 't, A: Allocator> {
+    lines: &'l [CowStr<'t, A>],
+    rows: usize,
+    columns: usize,
     width: usize,
-) -> Result<(), AllocError>
-    ensures { OnOk result (string_bytes row.new ≡ string_bytes row.old ++ padded width text.now) }
-{
-    row.push_str(text)?;
-    push_blanks(row, width.saturating_sub(display_width(text)))
+}
+
+impl<A: Allocator> LineCells<'_, '_, A> {
+    /// Where the line of a cell stands, or how many lines there are, if it has none.
+    fn place(&self, r: usize, c: usize) -> usize
+        ensures { result ≡ min (r + c * self.now.rows) (length self.now.lines.now) }
+    {
+        c.saturating_mul(self.rows)
+            .saturating_add(r)
+            .min(self.lines.len())
+    }
+}
+
+impl<A: Allocator> RowCells for LineCells<'_, '_, A> {
+    ghost use Rattle.std.specs.Prelude.{map};
+    ghost use Rattle.textwrap.specs.Columns.{cells, padded};
+    ghost use Rattle.textwrap_layout.specs.Paragraph.{line_bytes, line_view};
+
+    ghost texts = { λ table r. map (padded table.width)
+        (cells (map line_bytes (map line_view table.lines.now)) table.rows table.columns r) };
+
+    ghost columns = { λ table. table.columns };
+
+    fn columns(&self) -> usize {
+        self.columns
+    }
+
+    fn cell(&self, r: usize, c: usize) -> RowCell<'_> {
+        let text = line_at(self.lines, self.place(r, c));
+        RowCell {
+            before: 0,
+            text,
+            after: self.width.saturating_sub(display_width(text)),
+        }
+    }
+
+    fn alike(&self, r: usize, c: usize) -> usize {
+        // Below the last line all columns that are left are empty.
+        if self.place(r, c) < self.lines.len() {
+            1
+        } else {
+            self.columns - c
+        }
+    }
 }

@@ -2,3 +2,4 @@
 pub use crate::columns::{Table, table_rows, wrap_columns_built_in};
 pub use crate::indentation::{dedent_into, indent_into};
 pub use crate::refilling::{refill_built_in, unfill_into};
+pub use crate::rows::{RowCell, RowCells, RowFrame, line_at, push_rows};

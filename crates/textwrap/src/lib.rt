@@ -27,4 +27,5 @@ pub mod inner;
 mod inplace;
 pub mod laws;
 mod refilling;
+mod rows;
 mod text_sinks;

@@ -1,22 +1,17 @@
 -- The groups of a table's texts, the cells of each, and the rows of these.
 use Rattle.textwrap_text.proofs.Common.{◌≡◌, ℕ, zero, suc, ◌+◌, ◌*◌, ◌<◌, ◌≤◌, List, [], ◌∷◌, ◌++◌}
 use Rattle.textwrap_text.proofs.Common.{ap, arith, get_or, get_or-map, length, length-append}
-use Rattle.textwrap_text.proofs.Common.{length-map, refl, sym, Vec, zip, ◌∙◌, ◌-◌, ◌/◌, map-append}
-use Rattle.textwrap_text.proofs.Common.{min, take, drop, map, subst, append_assoc, Bor, cases_lt}
+use Rattle.textwrap_text.proofs.Common.{length-map, refl, sym, zip, ◌∙◌, ◌-◌, ◌/◌, map-append, min}
+use Rattle.textwrap_text.proofs.Common.{take, drop, map, subst, append_assoc, Bor, cases_lt}
 use Rattle.textwrap_text.proofs.Common.{range_with_len, take_at, drop_at, drop-drop, All, All-head}
 use Rattle.textwrap_text.proofs.Common.{All-tail}
-use Rattle.std.specs.declared.borrow.CowStr.{CowStr}
 use Rattle.std.proofs.Common.{replicate}
 use Rattle.std.proofs.lemmas.List.{length-replicate, take_min, drop_min}
 use Rattle.std.proofs.lemmas.Slice.Zip.{get_or-zip, length-zip, AllZip-long}
-use Rattle.std.specs.Cow.{cow_str_bytes}
-use Rattle.textwrap.proofs.Text.Tables.{cell_is}
-use Rattle.textwrap_display.specs.Tables.{cell_line, cell_texts, Shape, shown, shown_lines}
-use Rattle.textwrap_display.specs.Tables.{AreCells, group_rows, groups_of, IsTableBy, RowGaps}
-use Rattle.textwrap_display.specs.Tables.{texts_in, ColumnMakes, ColumnParts, HaveParts}
-use Rattle.textwrap_display.specs.Tables.{AreTableRows}
-use Rattle.textwrap_display.specs.Tables.{IsTableOf, PartsMake, shape_of, shape_of_parts}
-use Rattle.textwrap_display.specs.Tables.{rows_of_cells}
+use Rattle.textwrap_display.specs.Tables.{Shape, shown, shown_lines, AreCells, group_rows}
+use Rattle.textwrap_display.specs.Tables.{groups_of, IsTableBy, RowGaps, texts_in, ColumnMakes}
+use Rattle.textwrap_display.specs.Tables.{ColumnParts, HaveParts, AreTableRows, IsTableOf}
+use Rattle.textwrap_display.specs.Tables.{PartsMake, shape_of, shape_of_parts, rows_of_cells}
 use Rattle.std.proofs.Math.Nat.{add-div_right, div-eq_of_lt, div-le_self}
 use Rattle.std.specs.Fork.{slice_chunk}
 use Rattle.std.specs.Slice.Iter.{chunk_count}
@@ -35,15 +30,6 @@ padded-at [] (suc count) zero = refl
 padded-at [] (suc count) (suc at) = padded-at [] count at
 padded-at (cell ∷ cells) count zero = refl
 padded-at (cell ∷ cells) count (suc at) = padded-at cells count at
-
--- the text of the line that a cell has in a row
-pub line-is : {Z : Type 0} (cells : List (Vec (CowStr Z) Z)) (at r : ℕ) (cell : Vec (CowStr Z) Z)
-    (line : CowStr Z) → at < length cells → cell ≡ get_or cells at cell → r < length cell.items
-    → line ≡ get_or cell.items r line
-    → cell_line (get_or (cell_texts cells) at []) r ≡ cow_str_bytes line
-line-is cells at r cell line within is inside there =
-    let same = cell_is cell.items line 0 r 0 r (omega arith) inside there in
-    grind (arith, get_or-map, same)
 
 module _ (columns : List Shape) (cells : List (List (List ℕ))) where
   -- the cells, with an empty one for each column after them

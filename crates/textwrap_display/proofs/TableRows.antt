@@ -4,26 +4,21 @@ use Rattle.textwrap_text.proofs.Common.{All-cons, All-map, All-nil, ap, arith, c
 use Rattle.textwrap_text.proofs.Common.{get_or, get_or_past, inl, inr, length, map, range_with_len}
 use Rattle.textwrap_text.proofs.Common.{refl, sym, ◌<◌, ◌∙◌, zero, suc, ◌*◌, All-head, All-tail}
 use Rattle.textwrap_text.proofs.Common.{append_assoc, length-map, subst, sum_by, sum_by-cons, zip}
-use Rattle.textwrap_text.proofs.Common.{cond, drop, drop_all, drop_more, get_or-map, length-append}
-use Rattle.textwrap_text.proofs.Common.{append-nil, cases_Bool, nat_lt, nat_tests, join_with}
+use Rattle.textwrap_text.proofs.Common.{join_with}
 use Rattle.std.proofs.Common.{replicate}
 use Rattle.textwrap.proofs.Text.Tables.{lines-kept}
-use Rattle.textwrap_display.specs.Alignment.{aligned}
 use Rattle.textwrap_display.specs.Laws.{cell_shown, row_of, ShowsEachLineOnce, KeepToColumns}
 use Rattle.textwrap_display.specs.Laws.{row_width}
 use Rattle.textwrap_display.specs.Tables.{cell_line, group_rows, height, RowGaps, Shape, shown}
-use Rattle.textwrap_display.specs.Tables.{shown_lines, row_text, gap_before}
+use Rattle.textwrap_display.specs.Tables.{shown_lines, row_text}
 use Rattle.textwrap_display.proofs.TableGroups.{length-shown, shown-at, length-padded}
 use Rattle.std.proofs.Math.Nat.{suc-mul}
-use Rattle.textwrap_layout.proofs.Common.{line_bytes}
 use Rattle.textwrap_layout.proofs.Text.Paragraphs.{text_width-append}
 use Rattle.textwrap_words.proofs.Word.Words.{text_width-nil}
 use Rattle.textwrap_text.specs.Units.{text_width}
 use Rattle.textwrap_display.specs.Styled.{IsWholeText}
-use Rattle.textwrap_display.proofs.Widths.{aligned-before, length-aligned}
+use Rattle.textwrap_display.proofs.Widths.{aligned-before}
 use Rattle.textwrap_display.proofs.SequenceTexts.{nil-whole}
-use Rattle.textwrap_display.specs.JustifiedText.{joined_on}
-use Rattle.textwrap_display.proofs.JustifiedLines.{join-on}
 
 -- ---- the rows of a table show each line once
 
@@ -201,78 +196,3 @@ rows-even gaps columns cells left middle keep =
         let joins = joined-before gaps.middle middle r ps keeps gaps.right in
         let widths = widths-zip columns padded (length-padded columns cells) in
         grind (arith, append_assoc, count, split, joins, widths)
-
--- ---- a row
-
--- the gap before a column
-gap-is : (at : ℕ) (middle : List ℕ) → cond (nat_lt 0 at) middle [] ≡ gap_before at middle
-gap-is at middle = grind (arith, nat_tests, cases_Bool)
-
-module _ {X : Type 0} (shape : X → Shape) (gaps : RowGaps) (columns : List X)
-    (cells : List (List (List ℕ))) (r : ℕ) where
-  all : List (List ℕ)
-  all = shown_lines (map shape columns) cells r
-
-  length-all : length all ≡ length columns
-  unfolding all
-  length-all = length-shown (map shape columns) cells r ∙ length-map columns shape
-
-  -- what the columns from a place on show, each with the gap before it
-  abbrev pub shown_from : ℕ → List ℕ
-  shown_from at =
-      joined_on gaps.middle (nat_lt 0 at) (drop at (shown_lines (map shape columns) cells r))
-
-  shown-none : (at : ℕ) → length columns ≤ at → shown_from at ≡ []
-  unfolding all
-  shown-none at past =
-      ap (joined_on gaps.middle (nat_lt 0 at)) (drop_all at all (omega (arith, past, length-all)))
-
-  pub row-whole : (at : ℕ) (row : List ℕ) → length columns ≤ at
-      → row ++ shown_from at ≡ gaps.left ++ shown_from 0
-      → row ++ gaps.right ≡ row_text gaps (map shape columns) cells r
-  unfolding all
-  row-whole at row past is =
-      grind (arith, append-nil, shown-none at past, join-on gaps.middle all)
-
-  -- the bytes of the row
-  pub length-start : length gaps.left + length gaps.right + length (shown_from 0)
-      ≡ length (row_text gaps (map shape columns) cells r)
-  unfolding all
-  length-start =
-      omega (
-        arith,
-        ap length (join-on gaps.middle all),
-        length-append (gaps.left ++ join_with gaps.middle all) gaps.right,
-        length-append gaps.left (join_with gaps.middle all),
-      )
-
-  pub length-end : (at : ℕ) → length columns ≤ at → length (shown_from at) ≡ 0
-  length-end at past = ap length (shown-none at past)
-
-  module _ (at : ℕ) (column : X) (within : at < length columns)
-      (is : column ≡ get_or columns at column) (line : List ℕ)
-      (line_is : line ≡ cell_line (get_or cells at []) r) where
-    -- a column shows the line of its cell, aligned
-    pub column-next : shown_from at ≡ (gap_before at gaps.middle
-        ++ line_bytes (aligned (shape column).alignment (shape column).width line))
-        ++ shown_from (at + 1)
-    unfolding all
-    column-next =
-        let next = drop_more all at [] (omega (arith, within, length-all)) in
-        let shows = shown-at (map shape columns) cells r at (shape column)
-        (omega (arith, within, length-map columns shape))
-        (ap shape is ∙ sym (get_or-map shape columns at column (shape column) within)) in
-        grind (arith, nat_tests, gap-is, next, shows)
-
-    pub length-next : length (shown_from at)
-        ≡ length (gap_before at gaps.middle)
-        + (length line + ((shape column).width - text_width line)) + length (shown_from (at + 1))
-    length-next =
-        let text = line_bytes (aligned (shape column).alignment (shape column).width line) in
-        omega (
-          arith,
-          ap length column-next,
-          length-append (gap_before at gaps.middle ++ text) (shown_from (at + 1)),
-          length-append (gap_before at gaps.middle) text,
-          length-aligned (shape column).alignment (shape column).width line,
-        )

@@ -47,18 +47,6 @@ before-few Left spare = omega arith
 before-few Right spare = omega arith
 before-few Centre spare = omega arith
 
--- the spare columns are the blanks that a line gets
-pub length-aligned : (alignment : Alignment) (width : ℕ) (line : List ℕ)
-    → length (line_bytes (aligned alignment width line)) ≡ length line + (width - text_width line)
-length-aligned alignment width line =
-    grind (
-      arith,
-      nat_tests,
-      before-few alignment (width - text_width line),
-      length-append,
-      length-replicate,
-    )
-
 -- text after a line with blanks on its two sides
 spread-before : (alignment : Alignment) (spare : ℕ) (line text : List ℕ) → IsUtf8 line
     → HasWholeSequences line → text_width (spread alignment spare line ++ text)

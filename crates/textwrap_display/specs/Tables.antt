@@ -1,13 +1,13 @@
 -- Texts in the columns of a table.
-use Rattle.std.specs.Prelude.{◌≡◌, ◌==◌, ℕ, max, List, [], ◌++◌, All, fold, length, map}
+use Rattle.std.specs.Prelude.{◌≡◌, ℕ, max, List, [], ◌++◌, All, fold, length, map}
 use Rattle.std.specs.Prelude.{replicate}
-use Rattle.std.specs.Prelude.{slice_index_or, Vec, if◌then◌else◌}
+use Rattle.std.specs.Prelude.{slice_index_or, Vec}
 use Rattle.std.specs.Borrow.{Bor}
 use Rattle.std.specs.Fork.{slice_chunk}
 use Rattle.std.specs.List.{AllZip, flat_map, range_with_len, zip}
 use Rattle.std.specs.Slice.Iter.{chunk_count}
 use Rattle.std.specs.declared.borrow.CowStr.{CowStr}
-use Rattle.textwrap_text.specs.LineEnding.{join_with}
+use Rattle.textwrap.specs.Rows as any_rows
 use Rattle.textwrap_layout.specs.Options.{HasParts, Settings, settings_view}
 use Rattle.textwrap_layout.specs.Paragraph.{DividesAs, DividesBy, Line, line_bytes}
 use Rattle.textwrap_layout.specs.Text.{AreTextLines, SomeMayPass64Bits}
@@ -64,10 +64,6 @@ abbrev pub shown_lines : List Shape → List (List (List ℕ)) → ℕ → List 
 shown_lines columns cells r =
     map (λ p. shown p.0 p.1 r) (zip columns (cells ++ replicate (length columns) []))
 
--- the gap before a column is the middle one, but before the first there is none
-abbrev pub gap_before : ℕ → List ℕ → List ℕ
-gap_before at middle = if at == 0 then [] else middle
-
 -- as many rows as the highest cell has lines
 abbrev pub height : List (List (List ℕ)) → ℕ
 height cells = fold (λ most lines. max most (length lines)) 0 cells
@@ -75,7 +71,7 @@ height cells = fold (λ most lines. max most (length lines)) 0 cells
 module _ (gaps : RowGaps) (columns : List Shape) where
   abbrev pub row_text : List (List (List ℕ)) → ℕ → List ℕ
   row_text cells r =
-      gaps.left ++ join_with gaps.middle (shown_lines columns cells r) ++ gaps.right
+      any_rows.row_text gaps.left gaps.middle 0 gaps.right (shown_lines columns cells r)
 
   abbrev pub group_rows : List (List (List ℕ)) → List (List ℕ)
   group_rows cells = map (row_text cells) (range_with_len 0 (height cells))

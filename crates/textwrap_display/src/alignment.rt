@@ -1,12 +1,12 @@
 //! A line with blanks up to a width.
-ghost use Rattle.std.specs.Prelude.{◌≡◌, ◌+◌, ◌-◌, ◌<◌, ◌^◌, ◌++◌, length, string_bytes};
-ghost use Rattle.std.specs.Prelude.{IfOk, OnOk, SomeIff};
+ghost use Rattle.std.specs.Prelude.{◌≡◌, ◌++◌, string_bytes, IfOk, OnOk};
+ghost use Rattle.textwrap.specs.Rows.{cell_text};
 ghost use Rattle.textwrap_display.specs.Alignment.{aligned, blanks_before, spread};
 ghost use Rattle.textwrap_layout.specs.Paragraph.{line_bytes, line_view};
-ghost use Rattle.textwrap_text.specs.Units.{text_width};
 
 use std::alloc::{AllocError, Allocator};
 use std::borrow::CowStr;
+use textwrap::inner::RowCell;
 use textwrap::words::display_width;
 use textwrap_text::blanks::push_blanks;
 
@@ -47,28 +47,17 @@ pub fn align<'t, A: Allocator>(
     Ok(CowStr::Owned(text))
 }
 
-/// Adds a line, aligned in a width. It is measured once.
-pub(crate) fn push_aligned<A: Allocator>(
-    text: &mut String<A>,
-    line: &str,
-    width: usize,
-    alignment: Alignment,
-) -> Result<(), AllocError>
-    ensures { OnOk result (string_bytes text.new
-        ≡ string_bytes text.old ++ line_bytes (aligned alignment width line.now)) }
+/// A line that is aligned in a width, as a cell.
+pub(crate) fn aligned_cell<'a>(text: &'a str, width: usize, alignment: Alignment) -> RowCell<'a>
+    ensures { cell_text result ≡ line_bytes (aligned alignment width text.now) }
 {
-    let spare = width.saturating_sub(display_width(line));
-    push_spread(text, line, spare, alignment)
-}
-
-/// The bytes of a line that is aligned in a width, or `None` where their number does not fit 64
-/// bits.
-pub(crate) fn aligned_len(line: &str, width: usize) -> Option<usize>
-    ensures { SomeIff result (length line.now + (width - text_width line.now) < 2 ^ 64)
-        (length line.now + (width - text_width line.now)) }
-{
-    let spare = width.saturating_sub(display_width(line));
-    line.len().checked_add(spare)
+    let spare = width.saturating_sub(display_width(text));
+    let before = blanks_before(alignment, spare);
+    RowCell {
+        before,
+        text,
+        after: spare - before,
+    }
 }
 
 /// Adds a line with so many spare blanks on its two sides.

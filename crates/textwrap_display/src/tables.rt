@@ -1,18 +1,18 @@
 //! Texts in the columns of a table.
-ghost use Rattle.std.specs.Prelude.{◌≡◌, ◌<◌, ◌^◌, List, [], ◌++◌, All, length, map};
+ghost use Rattle.std.specs.Prelude.{◌≡◌, List, [], ◌++◌, All, length, map};
 ghost use Rattle.std.specs.Prelude.{slice_index_or, string_bytes, alloc_error, IfErr, IfOk, OnOk};
-ghost use Rattle.std.specs.Prelude.{SomeIff};
 ghost use Rattle.textwrap_display.specs.Tables.{NonePasses, AllFit64Bits, AreCells, ColumnParts};
 ghost use Rattle.textwrap_display.specs.Tables.{HaveParts, groups_of};
 ghost use Rattle.textwrap_display.specs.Tables.{AreTableRows, IsTableBy, IsTableOf, cell_line};
 ghost use Rattle.textwrap_display.specs.Tables.{cell_texts};
-ghost use Rattle.textwrap_display.specs.Tables.{gap_before, gaps_view, group_rows, height};
-ghost use Rattle.textwrap_display.specs.Tables.{row_text, rows_of_cells, shape_of, texts_in};
+ghost use Rattle.textwrap_display.specs.Tables.{gaps_view, group_rows, height};
+ghost use Rattle.textwrap_display.specs.Tables.{rows_of_cells, shape_of, texts_in};
 ghost use Rattle.textwrap_layout.specs.Options.{MayOverflow};
 
-use crate::alignment::{Alignment, aligned_len, push_aligned};
+use crate::alignment::{Alignment, aligned_cell};
 use std::alloc::{AllocError, Allocator};
 use std::borrow::CowStr;
+use textwrap::inner::{RowCell, RowCells, RowFrame, line_at, push_rows};
 use textwrap::{Options, WrapError};
 use textwrap_lines::inner::wrap_by;
 
@@ -172,7 +172,7 @@ pub fn table_by<A: Allocator + Copy, C: AnyColumn<A>>(
     }
     for texts in cells.chunks(columns.len()) {
         let group = wrap_cells(alloc, texts, columns)?;
-        push_rows(alloc, &mut rows, &group, columns, gaps)?;
+        push_group(alloc, &mut rows, &group, columns, gaps)?;
     }
     Ok(rows)
 }
@@ -198,7 +198,7 @@ pub fn table_of_lines<A: Allocator + Copy>(
         return Ok(rows);
     }
     for group in cells.chunks(columns.len()) {
-        push_rows(alloc, &mut rows, group, columns, gaps)?;
+        push_group(alloc, &mut rows, group, columns, gaps)?;
     }
     Ok(rows)
 }
@@ -227,7 +227,7 @@ fn wrap_cells<'t, A: Allocator + Copy, C: AnyColumn<A>>(
 }
 
 /// Adds the rows of a group of cells, as many as the highest cell has lines.
-fn push_rows<A: Allocator + Copy, C: AnyColumn<A>>(
+fn push_group<A: Allocator + Copy, C: AnyColumn<A>>(
     alloc: A,
     rows: &mut Vec<String<A>, A>,
     cells: &[Cell<'_, A>],
@@ -237,10 +237,14 @@ fn push_rows<A: Allocator + Copy, C: AnyColumn<A>>(
     ensures { OnOk result (map string_bytes rows.new.items ≡ map string_bytes rows.old.items
         ++ group_rows (gaps_view gaps.now) (map C.shape columns.now) (cell_texts cells.now)) }
 {
-    for r in 0..height(cells) {
-        rows.push(table_row(alloc, cells, r, columns, gaps)?)?;
-    }
-    Ok(())
+    let frame = RowFrame {
+        left: gaps.left,
+        middle: gaps.middle,
+        spare: 0,
+        right: gaps.right,
+    };
+    let group = Group { cells, columns };
+    push_rows(alloc, rows, &group, height(cells), &frame)
 }
 
 /// How many lines the highest cell has.
@@ -254,55 +258,38 @@ fn height<A: Allocator>(cells: &[Cell<'_, A>]) -> usize
     most
 }
 
-/// The row of the line at `r` of each cell.
-fn table_row<A: Allocator, C: AnyColumn<A>>(
-    alloc: A,
-    cells: &[Cell<'_, A>],
-    r: usize,
-    columns: &[C],
-    gaps: &Gaps<'_>,
-) -> Result<String<A>, AllocError>
-    ensures { IfOk result (λ row. string_bytes row
-        ≡ row_text (gaps_view gaps.now) (map C.shape columns.now) (cell_texts cells.now) r) }
-{
-    // Reserved before a cell is written, so that a row that fits no memory is refused at once.
-    let len = row_len(cells, r, columns, gaps).ok_or(AllocError)?;
-    let mut row = String::with_capacity(alloc, len)?;
-    row.push_str(gaps.left)?;
-    for (c, column) in columns.iter().enumerate() {
-        row.push_str(gap_before(c, gaps))?;
-        let line = cell_line(cells, c, r);
-        push_aligned(&mut row, line, column.width(), column.alignment())?;
-    }
-    row.push_str(gaps.right)?;
-    Ok(row)
+/// Cells that stand beside one another.
+#[derive(Drop)]
+struct Group<'l, 't, A: Allocator, C> {
+    cells: &'l [Cell<'t, A>],
+    columns: &'l [C],
 }
 
-/// The bytes of that row, or `None` where their number does not fit 64 bits.
-fn row_len<A: Allocator, C: AnyColumn<A>>(
-    cells: &[Cell<'_, A>],
-    r: usize,
-    columns: &[C],
-    gaps: &Gaps<'_>,
-) -> Option<usize>
-    ensures { let row = row_text (gaps_view gaps.now) (map C.shape columns.now)
-        (cell_texts cells.now) r in SomeIff result (length row < 2 ^ 64) (length row) }
-{
-    let mut len = gaps.left.len().checked_add(gaps.right.len())?;
-    for (c, column) in columns.iter().enumerate() {
-        let line = cell_line(cells, c, r);
-        len = len
-            .checked_add(gap_before(c, gaps).len())?
-            .checked_add(aligned_len(line, column.width())?)?;
-    }
-    Some(len)
-}
+impl<A: Allocator, C: AnyColumn<A>> RowCells for Group<'_, '_, A, C> {
+    ghost use Rattle.std.specs.Prelude.{length, map};
+    ghost use Rattle.textwrap_display.specs.Tables.{cell_texts, shown_lines};
 
-/// What stands between the column at `c` and the one before it, if there is one.
-fn gap_before<'a>(c: usize, gaps: &Gaps<'a>) -> &'a str
-    ensures { result.now ≡ gap_before c gaps.now.middle.now }
-{
-    if c == 0 { "" } else { gaps.middle }
+    ghost texts = { λ group. shown_lines (map C.shape group.columns.now)
+        (cell_texts group.cells.now) };
+
+    ghost columns = { λ group. length group.columns.now };
+
+    fn columns(&self) -> usize {
+        self.columns.len()
+    }
+
+    fn cell(&self, r: usize, c: usize) -> RowCell<'_> {
+        let column = &self.columns[c];
+        aligned_cell(
+            cell_line(self.cells, c, r),
+            column.width(),
+            column.alignment(),
+        )
+    }
+
+    fn alike(&self, _r: usize, _c: usize) -> usize {
+        1
+    }
 }
 
 /// The line at `r` of the cell at `c`, or nothing where there is none.
@@ -310,7 +297,7 @@ fn cell_line<'l, A: Allocator>(cells: &'l [Cell<'_, A>], c: usize, r: usize) -> 
     ensures { result.now ≡ cell_line (slice_index_or (cell_texts cells.now) c []) r }
 {
     match cells.get(c) {
-        Some(lines) if r < lines.len() => lines[r].as_str(),
-        _ => "",
+        Some(lines) => line_at(lines, r),
+        None => "",
     }
 }

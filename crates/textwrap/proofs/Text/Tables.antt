@@ -1,25 +1,23 @@
--- The cells and rows of texts in columns: their bytes, and that rows are even.
-use Rattle.textwrap_text.proofs.Common.{◌≡◌, ℕ, zero, suc, ◌+◌, ◌-◌, ◌*◌, ◌<◌, ◌≤◌, ◌⊎◌, List, []}
-use Rattle.textwrap_text.proofs.Common.{◌∷◌, ◌++◌, length, get_or, map, refl, sym, ap, ◌∙◌, arith}
-use Rattle.textwrap_text.proofs.Common.{append_assoc, append-nil, inl, inr, range_with_len, repeat}
+-- The cells and rows of texts in columns: which lines they show, and that rows are even.
+use Rattle.textwrap_text.proofs.Common.{◌≡◌, ℕ, zero, suc, ◌+◌, ◌-◌, ◌*◌, ◌<◌, ◌≤◌, List, [], ◌∷◌}
+use Rattle.textwrap_text.proofs.Common.{◌++◌, length, get_or, map, refl, sym, ap, ◌∙◌, arith}
+use Rattle.textwrap_text.proofs.Common.{append_assoc, append-nil, inl, inr, range_with_len}
 use Rattle.textwrap_text.proofs.Common.{get_or-map, get_or_past, length-map, map-append}
-use Rattle.textwrap_text.proofs.Common.{flat_map-append, map-range_with_len_more, rules}
-use Rattle.textwrap_text.proofs.Common.{length-append, flat_map, All, sum_by, All-head, All-tail}
-use Rattle.textwrap_text.proofs.Common.{sum_by-cons, sum_by-append, Bool, join_with, text_width}
-use Rattle.std.specs.declared.borrow.CowStr.{CowStr}
-use Rattle.textwrap_layout.proofs.Common.{line_view, line_bytes, Settings, settings_view, Line}
-use Rattle.textwrap_layout.proofs.Common.{IsDividedInto, DividesBy, AreTextLines}
-use Rattle.textwrap.proofs.Common.{RowLayout, blanks, cell, padded, gapped, cells, row_text}
-use Rattle.textwrap.proofs.Common.{layout_of}
+use Rattle.textwrap_text.proofs.Common.{flat_map-append, rules, flat_map, All, sum_by, All-head}
+use Rattle.textwrap_text.proofs.Common.{All-tail, sum_by-cons, sum_by-append, Bool, join_with}
+use Rattle.textwrap_text.proofs.Common.{text_width, cases_lt, min}
+use Rattle.textwrap_layout.proofs.Common.{Settings, settings_view, Line, IsDividedInto, DividesBy}
+use Rattle.textwrap_layout.proofs.Common.{AreTextLines}
+use Rattle.textwrap.proofs.Common.{RowLayout, blanks, cell, padded, cells, row_text, layout_of}
 use Rattle.textwrap.proofs.Common.{inner_width}
-use Rattle.std.specs.Cow.{cow_str_bytes}
 use Rattle.textwrap_words.proofs.Word.Words.{text_width-nil}
-use Rattle.textwrap_layout.proofs.Text.Lines.{line_bytes-line_view}
-use Rattle.textwrap_text.proofs.Lists.Elements.{range-split, length-repeat}
+use Rattle.textwrap_text.proofs.Lists.Elements.{range-split}
 use Rattle.std.proofs.lemmas.List.{length-replicate}
 use Rattle.std.proofs.Common.{replicate}
+use Rattle.std.proofs.Math.Nat.{mul-le-mul_right}
 use Rattle.std.proofs.lemmas.Grind.{div_ceil_times}
 use Rattle.std.proofs.lemmas.List.FromFn.{get_or-map-range_with_len, fill_by_all}
+use Rattle.std.proofs.lemmas.List.FromFn.{length-map-range_with_len}
 use Rattle.textwrap.specs.Columns.{row_count, column_cells, cells_by_column, cell_parts, row_parts}
 use Rattle.textwrap_words.proofs.Common.{MaySeparate, MaySplit, WordText, MayDivide}
 use Rattle.std.proofs.lemmas.List.Elements.{All-replicate}
@@ -32,114 +30,36 @@ use Rattle.textwrap_layout.specs.declared.options.Options.{Options}
 use Rattle.textwrap_words.specs.declared.word_separators.WordSeparator.{WordSeparator}
 use Rattle.textwrap_words.specs.declared.word_splitters.WordSplitter.{WordSplitter}
 
--- ---- the cells of a row, with the gaps between them, and the rows that they make
+-- ---- the cells of a row
 
--- the text of the line that a cell shows
-pub cell_is : {Z : Type 0} (lines : List (CowStr Z)) (line : CowStr Z) (step first c at : ℕ)
-    → at ≡ first + c * step → at < length lines → line ≡ get_or lines at line
-    → cell (map line_bytes (map line_view lines)) step first c ≡ cow_str_bytes line
-cell_is lines line step first c at place within is =
-    ap (λ n. get_or (map line_bytes (map line_view lines)) n []) (sym place)
-    ∙ get_or-map line_bytes (map line_view lines) at (line_view line) []
-    (omega (arith, length-map lines line_view))
-    ∙ ap line_bytes (get_or-map line_view lines at line (line_view line) within)
-    ∙ ap (λ l. line_bytes (line_view l)) (sym is) ∙ line_bytes-line_view line
+module _ (lines : List (List ℕ)) (rows columns r width : ℕ) where
+  abbrev shown : List (List ℕ)
+  shown = map (padded width) (cells lines rows columns r)
 
--- the later cells with one more
-pub gapped-more : (layout : RowLayout) (lines : List (List ℕ)) (step first later : ℕ)
-    (before row : List ℕ)
-    → row ≡ before ++ gapped layout (map (cell lines step first) (range_with_len 1 later))
-    → (row ++ layout.middle) ++ padded layout.column_width (cell lines step first (later + 1))
-    ≡ before ++ gapped layout (map (cell lines step first) (range_with_len 1 (later + 1)))
-gapped-more layout lines step first later before row is =
-    rw (map-range_with_len_more (cell lines step first) 1 later (later + 1) (omega arith))
-    (simp (is, flat_map-append, append_assoc, append-nil))
+  pub length-shown : length shown ≡ columns
+  length-shown = length-map (cells lines rows columns r) (padded width)
+      ∙ length-map-range_with_len (cell lines rows r) 0 columns
 
-padded-nil : (width : ℕ) → padded width [] ≡ blanks width
-padded-nil width = search (rules, text_width-nil)
+  -- what a column shows is the line at its place, and past the last line nothing
+  pub shown-at : (c place : ℕ) → c < columns → place ≡ min (r + c * rows) (length lines)
+      → get_or shown c [] ≡ padded width (get_or lines place [])
+  shown-at c place within is =
+      get_or-map (padded width) (cells lines rows columns r) c [] []
+      (omega (arith, length-map-range_with_len (cell lines rows r) 0 columns))
+      ∙ ap (padded width) (get_or-map-range_with_len (cell lines rows r) 0 columns c c [] within
+      (omega arith) ∙ elim (cases_lt (r + c * rows) (length lines)) [
+        | inl there ↦ ap (λ i. get_or lines i []) (omega arith)
+        | inr past ↦ get_or_past lines (r + c * rows) [] past
+            ∙ sym (get_or_past lines place [] (omega arith))
+      ])
 
--- the cells after the last line
-gapped-missing : (layout : RowLayout) (lines : List (List ℕ)) (step first c count : ℕ)
-    → length lines ≤ first + c * step
-    → gapped layout (map (cell lines step first) (range_with_len c count))
-    ≡ repeat count (layout.middle ++ blanks layout.column_width)
-gapped-missing layout lines step first c zero past = refl
-gapped-missing layout lines step first c (suc count) past =
-    let later : length lines ≤ first + (c + 1) * step = omega arith in
-    rw (
-      get_or_past lines (first + c * step) [] past,
-      padded-nil layout.column_width,
-      gapped-missing layout lines step first (c + 1) count later,
-    )
-
--- joined cells are the first, and the others after the middle gap each
-pub join-gapped : (layout : RowLayout) (x : List ℕ) (xs : List (List ℕ))
-    → join_with layout.middle (map (padded layout.column_width) (x ∷ xs))
-    ≡ padded layout.column_width x ++ gapped layout xs
-join-gapped layout x [] = sym (append-nil (padded layout.column_width x))
-join-gapped layout x (y ∷ ys) = search (rules, append_assoc, join-gapped layout y ys)
-
--- the later cells: those of lines, and a run of those without
-pub gapped-all : (layout : RowLayout) (lines : List (List ℕ)) (step first later count : ℕ)
-    → (count ≡ 0) ⊎ (length lines ≤ first + (later + 1) * step)
-    → gapped layout (map (cell lines step first) (range_with_len 1 later))
-    ++ repeat count (layout.middle ++ blanks layout.column_width)
-    ≡ gapped layout (map (cell lines step first) (range_with_len 1 (later + count)))
-gapped-all layout lines step first later count (inl none) = search (rules, append-nil)
-gapped-all layout lines step first later count (inr past) =
-    search (rules, range-split, map-append, flat_map-append, gapped-missing)
-
--- ---- rows
-
--- a row, part by part
-pub row_text-parts : (layout : RowLayout) (lines : List (List ℕ)) (step first later count : ℕ)
-    → (count ≡ 0) ⊎ (length lines ≤ first + (later + 1) * step)
-    → layout.columns ≡ suc (later + count)
-    → ((((layout.left ++ padded layout.column_width (cell lines step first 0))
-    ++ gapped layout (map (cell lines step first) (range_with_len 1 later)))
-    ++ repeat count (layout.middle ++ blanks layout.column_width))
-    ++ blanks layout.spare_width) ++ layout.right
-    ≡ row_text layout (cells lines step layout.columns first)
-row_text-parts layout lines step first later count all columns =
-    search (rules, join-gapped, gapped-all, append_assoc)
-
--- the same where the run fills the columns up
-pub row_text-written : (layout : RowLayout) (lines : List (List ℕ)) (step first later : ℕ)
-    → (later + 1 ≡ layout.columns) ⊎ (length lines ≤ first + (later + 1) * step)
-    → later + 1 ≤ layout.columns
-    → ((((layout.left ++ padded layout.column_width (cell lines step first 0))
-    ++ gapped layout (map (cell lines step first) (range_with_len 1 later)))
-    ++ repeat (layout.columns - 1 - later) (layout.middle ++ blanks layout.column_width))
-    ++ blanks layout.spare_width) ++ layout.right
-    ≡ row_text layout (cells lines step layout.columns first)
-row_text-written layout lines step first later (inl full) within = search (rules, row_text-parts)
-row_text-written layout lines step first later (inr past) within = search (rules, row_text-parts)
-
--- ---- how many bytes the rows of a table take
-
-pub length-gapped-more : (layout : RowLayout) (lines : List (List ℕ)) (step first later : ℕ)
-    → length (gapped layout (map (cell lines step first) (range_with_len 1 (later + 1))))
-    ≡ length (gapped layout (map (cell lines step first) (range_with_len 1 later)))
-    + (length layout.middle
-    + length (padded layout.column_width (cell lines step first (later + 1))))
-length-gapped-more layout lines step first later =
-    let so_far = gapped layout (map (cell lines step first) (range_with_len 1 later)) in
-    rw (← gapped-more layout lines step first later [] so_far refl)
-    (simp length-append (omega arith))
-
--- a row has the bytes of its gaps, its first cell, the later cells with a line, those without, and
--- its spare blanks
-pub length-row_text : (layout : RowLayout) (lines : List (List ℕ)) (step first later : ℕ)
-    → (later + 1 ≡ layout.columns) ⊎ (length lines ≤ first + (later + 1) * step)
-    → later + 1 ≤ layout.columns
-    → length (row_text layout (cells lines step layout.columns first))
-    ≡ (layout.columns - 1 - later) * (length layout.middle + layout.column_width)
-    + length (padded layout.column_width (cell lines step first 0))
-    + length (gapped layout (map (cell lines step first) (range_with_len 1 later)))
-    + layout.spare_width + (length layout.left + length layout.right)
-length-row_text layout lines step first later all within =
-    rw (← row_text-written layout lines step first later all within)
-    (simp (length-append, length-repeat, length-replicate) (omega arith))
+  -- past the last line all columns show the same
+  pub shown-past : (c i : ℕ) → length lines ≤ r + c * rows → c ≤ i → i < columns
+      → get_or shown i [] ≡ get_or shown c []
+  shown-past c i past after within =
+      let later : c * rows ≤ i * rows = mul-le-mul_right rows after in
+      shown-at i (length lines) within (omega (arith, later))
+      ∙ sym (shown-at c (length lines) (omega arith) (omega arith))
 
 -- ---- the cells of a table, one column after another
 

@@ -44,7 +44,7 @@ loop-texts-preserved g c =
       λ others after.
           subst (IsTableBy g.C.AnyColumn.makes g.C.AnyColumn.shape columns gaps (texts_in c.args.cells.now))
           (sym (rows-more (map string_bytes c.loop-texts.rows.items)
-          (map string_bytes c.push_rows.new.rows.items) rows others c.in_ok-push_rows.ensures))
+          (map string_bytes c.push_group.new.rows.items) rows others c.in_ok-push_group.ensures))
           (c.loop-texts.invariant.1 (rows ++ others)
           (table-more g.C.AnyColumn.makes g.C.AnyColumn.shape columns gaps texts front rest cells
           others first

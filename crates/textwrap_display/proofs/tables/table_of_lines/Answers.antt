@@ -32,9 +32,9 @@ loop-group-preserved g c =
       size = omega (arith, shapes, front, c.loop-group.invariant.0);
     }) in (
       size ∙ c.loop-group.invariant.0,
-      rows-more before (map string_bytes c.push_rows.new.rows.items)
+      rows-more before (map string_bytes c.push_group.new.rows.items)
           (group_rows gaps columns (cell_texts first)) (rows_of_cells gaps columns (cell_texts rest))
-          c.in_ok-push_rows.ensures
+          c.in_ok-push_group.ensures
           ∙ ap (λ rows. before ++ rows) (sym (cells-rows-more gaps columns (cell_texts left)
           (cell_texts first) (cell_texts rest) group))
           ∙ c.loop-group.invariant.1,

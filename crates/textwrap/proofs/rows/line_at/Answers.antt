@@ -1,0 +1,9 @@
+use Rattle.textwrap.proofs.rows.line_at.Goals as goal
+use Rattle.textwrap_text.proofs.Common.{sym, ◌∙◌}
+use Rattle.textwrap.proofs.Text.Rows.{line-is}
+
+pub returns-then-place-lines : goal.returns-then-place-lines
+returns-then-place-lines g c =
+    c.as_str.ensures.value
+    ∙ sym (line-is c.args.lines.now c.index-lines-place.result c.args.place
+    c.if-place-lines.true c.index-lines-place.is)

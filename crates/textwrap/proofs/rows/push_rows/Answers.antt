@@ -1,0 +1,15 @@
+use Rattle.textwrap.proofs.rows.push_rows.Goals as goal
+use Rattle.textwrap_text.proofs.Common.{append_assoc, arith, map-append, map-range_with_len_more}
+use Rattle.textwrap.specs.Rows.{framed}
+
+pub loop-r-preserved : goal.loop-r-preserved
+loop-r-preserved g c =
+    rw (
+      c.in_ok-push.ensures.items,
+      map-append,
+      c.loop-r.invariant,
+      c.in_ok-row.ensures,
+      map-range_with_len_more (λ r. framed c.args.frame.now (g.C.RowCells.texts c.args.cells.now r))
+          0 c.loop-r.r c.loop-r.r (omega arith),
+    )
+    (simp append_assoc)

@@ -63,7 +63,7 @@ const EXAMPLES: &str = "Examples:
 pub const VERSION: &str = "reflow 2.0.0\n";
 
 /// What is done with each input.
-#[derive(Clone, Copy, Debug, PartialEq, Eq)]
+#[derive(Clone, Copy, PartialEq, Eq)]
 pub enum Mode {
     /// It is printed, reflowed.
     Print,
@@ -78,7 +78,7 @@ pub enum Mode {
 }
 
 /// What the arguments ask for.
-#[derive(Clone, Copy, Debug)]
+#[derive(Clone, Copy)]
 pub struct Request<'a> {
     /// How texts are laid out.
     pub layout: Layout<'a>,
@@ -89,7 +89,7 @@ pub struct Request<'a> {
 }
 
 /// Why the arguments mean no request, though they are those of the program.
-#[derive(Clone, Copy, Debug, PartialEq, Eq)]
+#[derive(Clone, Copy, PartialEq, Eq)]
 pub enum Unfit {
     /// The width has characters beside ASCII digits, or does not fit in 64 bits.
     Width,

@@ -20,7 +20,7 @@ use textwrap_program::filling::{RunError, read_to_end, write_whole};
 use unified_diff::differences::diff_text;
 
 /// What became of an input.
-#[derive(Clone, Copy, Debug, PartialEq, Eq)]
+#[derive(Clone, Copy, PartialEq, Eq)]
 pub struct Treated {
     /// Whether a check found that it would change.
     pub changes: bool,

@@ -7,7 +7,7 @@ use textwrap_marked::{LineRange, ReflowOptions, has_chosen, reflow, reflow_withi
 use textwrap_words::wrap_algorithms::WrapError;
 
 /// How a text is laid out.
-#[derive(Clone, Copy, Debug)]
+#[derive(Clone, Copy)]
 pub struct Layout<'a> {
     /// How its paragraphs are filled.
     pub options: ReflowOptions<'a>,

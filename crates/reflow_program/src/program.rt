@@ -50,7 +50,7 @@ const NO_MARKS: &str = "no line begins with what --prefix says";
 const SOME_DRAFT: &str = "its draft";
 
 /// How a run ended.
-#[derive(Clone, Copy, Debug, PartialEq, Eq)]
+#[derive(Clone, Copy, PartialEq, Eq)]
 pub struct Ending {
     /// The status of the program: 0 if all went well, 1 if `--check` found an input that would
     /// change, and 2 after a fault or where the words after the program's name mean no request.

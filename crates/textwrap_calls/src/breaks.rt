@@ -14,7 +14,7 @@ use textwrap_unicode::{Numbers, line_breaks_by, unicode_cuts};
 
 /// A place of a text where a line may or must end.
 #[repr(C)]
-#[derive(Clone, Copy, Debug)]
+#[derive(Clone, Copy)]
 pub struct TextwrapLineBreak {
     /// How many bytes of the text come before it.
     pub offset: usize,

@@ -1,5 +1,5 @@
 -- How wide blanks are, and lines that are aligned or justified.
-use Rattle.textwrap_text.proofs.Common.{take-append-drop, All-from_get_or, length-append, nat_tests}
+use Rattle.textwrap_text.proofs.Common.{take-append-drop, All-from_get_or, nat_tests}
 use Rattle.textwrap_text.proofs.Common.{append_assoc, get_or-take, length-take, All-weaker, IsUtf8}
 use Rattle.textwrap_text.proofs.Common.{append-nil, All-head, All-tail, eqb-true, length, arith, []}
 use Rattle.textwrap_text.proofs.Common.{subst, List, drop, refl, take, true, ◌++◌, All, min, suc, ℕ}

@@ -13,6 +13,4 @@ pub mod laws;
 mod pieces;
 mod reading;
 mod reflowing;
-#[cfg(test)]
-mod tests;
 mod within;

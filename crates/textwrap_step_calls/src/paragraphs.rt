@@ -18,7 +18,7 @@ use textwrap_lines::parts::split_paragraph;
 
 /// Where a paragraph stands.
 #[repr(C)]
-#[derive(Clone, Copy, Debug)]
+#[derive(Clone, Copy)]
 pub struct TextwrapParagraph {
     /// How many bytes of the text come before it.
     pub offset: usize,
@@ -28,7 +28,7 @@ pub struct TextwrapParagraph {
 
 /// How a paragraph is laid out.
 #[repr(C)]
-#[derive(Clone, Copy, Debug)]
+#[derive(Clone, Copy)]
 pub struct TextwrapWidths {
     /// 1 where it is one line as a whole, whatever its words are, and else 0.
     pub is_whole: usize,

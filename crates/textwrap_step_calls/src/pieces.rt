@@ -34,7 +34,7 @@ use textwrap_words::inner::BuiltInSplitter;
 
 /// Where a word stands, or a part of one.
 #[repr(C)]
-#[derive(Clone, Copy, Debug)]
+#[derive(Clone, Copy)]
 pub struct TextwrapPiece {
     /// How many bytes of the text come before it.
     pub offset: usize,

@@ -3,6 +3,7 @@ mod breaks;
 mod c;
 mod cut_pieces;
 mod display;
+mod marked;
 mod plain;
 mod program;
 mod refusals;

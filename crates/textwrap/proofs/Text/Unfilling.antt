@@ -36,7 +36,6 @@ use Rattle.textwrap_layout.specs.declared.options.Options.{Options}
 use Rattle.textwrap_layout.specs.Paragraph.{DividesUnder}
 use Rattle.textwrap_layout.proofs.Paragraph.Pieces.{divides-under}
 use Rattle.textwrap.specs.Columns.{IsInColumns}
-use Rattle.textwrap.specs.Indentation.{indented}
 
 -- ---- what two texts begin with, and what all texts do
 

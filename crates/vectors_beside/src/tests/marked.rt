@@ -1,8 +1,8 @@
 //! What becomes of texts in which marks stand before the words. Each row has the kind of text that it
 //! shows.
-use crate::{Algorithm, ReflowOptions, reflow};
 use std::process::Abort;
 use textwrap_lines::LineEnding;
+use textwrap_marked::{Algorithm, ReflowOptions, reflow};
 use textwrap_words::wrap_algorithms::Penalties;
 
 /// First fit at 16 columns, with nothing declared.

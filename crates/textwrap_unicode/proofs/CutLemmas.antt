@@ -1,29 +1,144 @@
--- The code that cuts a line at its breaks: where the pass over a line cuts it.
-use Rattle.textwrap_text.proofs.Common.{chars_from_encodes, encode_utf8_all, encodes-append, IsUtf8}
-use Rattle.textwrap_text.proofs.Common.{IsUtf8-append, encodes-chars, map-append, All-weaker, shows}
-use Rattle.textwrap_text.proofs.Common.{All-append, IsUtf8-nil, characters, visible_of, visible_in}
-use Rattle.textwrap_text.proofs.Common.{flat_map, All-cons, All-head, All-tail, cases_eq, TextUnit}
-use Rattle.textwrap_text.proofs.Common.{Sequence, stripped, All-nil, Visible, next_of, units, cond}
-use Rattle.textwrap_text.proofs.Common.{All}
-use Rattle.textwrap_classes.proofs.Common.{length-append, append_assoc, cases_Bool, append-nil, ◌≡◌}
-use Rattle.textwrap_classes.proofs.Common.{nat_tests, read-next, list_any, unit_of, ne_eqb, length}
-use Rattle.textwrap_classes.proofs.Common.{encode, arith, false, subst, chars, List, ◌++◌, ◌==◌, []}
-use Rattle.textwrap_classes.proofs.Common.{◌&&◌, Bool, refl, ◌<◌, ◌∷◌, ◌∙◌, ◌≢◌, ◌+◌, ◌≤◌, not, map}
-use Rattle.textwrap_classes.proofs.Common.{inl, inr, sym, ap, ℕ}
-use Rattle.textwrap_unicode.proofs.Common.{is_any_hyphen, breaks_after, numbers_rule, Prohibited}
-use Rattle.textwrap_unicode.proofs.Common.{Mandatory, breaks_by, decide_by, before_of, cut_here}
-use Rattle.textwrap_unicode.proofs.Common.{break_at, Numbers, Verdict, Allowed, may_end, nothing}
-use Rattle.textwrap_unicode.proofs.Common.{Before, and}
+-- The breaks that are still to come: those the iterator gives, and where a line is cut at them.
+use Rattle.std.proofs.lemmas.List.Folds.{list_any-append, list_any_none}
+use Rattle.textwrap_classes.proofs.Common.{if◌then◌else◌, length-append, takes_no_mark, append-nil}
+use Rattle.textwrap_classes.proofs.Common.{append_assoc, cases_Bool, is_number, nat_tests, class_of}
+use Rattle.textwrap_classes.proofs.Common.{read-next, list_any, is_mark, unit_of, IsUtf8, encode, ℕ}
+use Rattle.textwrap_classes.proofs.Common.{get_or, length, ne_eqb, arith, chars, false, subst, Bool}
+use Rattle.textwrap_classes.proofs.Common.{List, drop, refl, true, ◌&&◌, ◌++◌, ◌==◌, ◌||◌, inl, inr}
+use Rattle.textwrap_classes.proofs.Common.{map, not, sym, ◌+◌, ◌<◌, ◌∙◌, ◌∷◌, ◌≡◌, ◌≢◌, ◌≤◌, [], ap}
+use Rattle.textwrap_unicode.proofs.Common.{is_any_hyphen, breaks_after, number_first, numbers_rule}
+use Rattle.textwrap_unicode.proofs.Common.{breaks_from, Prohibited, offsets_of, Mandatory, break_at}
+use Rattle.textwrap_unicode.proofs.Common.{before_of, breaks_by, decide_by, cut_here, Allowed}
+use Rattle.textwrap_unicode.proofs.Common.{Numbers, Verdict, cuts_by, may_end, nothing, Before, and}
+use Rattle.textwrap_unicode.specs.Before.{first_class, takes_marks, with_unit, is_empty, Text}
+use Rattle.textwrap_classes.specs.declared.classes.Unit.{Unit}
+use Rattle.std.proofs.lemmas.List.{at_drop_more}
+use Rattle.textwrap_text.proofs.Units.Reading.{read-ahead, read-start, read-none, read-all, IsRead}
+use Rattle.textwrap_text.proofs.Units.Reading.{units_in}
+use Rattle.textwrap_text.proofs.Common.{chars_from_encodes, encode_utf8_all, encodes-append, units}
+use Rattle.textwrap_text.proofs.Common.{IsUtf8-append, encodes-chars, All-append, All-weaker, shows}
+use Rattle.textwrap_text.proofs.Common.{IsUtf8-nil, characters, map-append, visible_in, visible_of}
+use Rattle.textwrap_text.proofs.Common.{chars-nil, All-cons, Sequence, TextUnit, cases_eq, flat_map}
+use Rattle.textwrap_text.proofs.Common.{stripped, All-nil, Visible, next_of, cond, All}
+use Rattle.textwrap_unicode.specs.declared.breaks.LineBreak.{LineBreak}
 use Rattle.textwrap_text.proofs.Texts.{some-bytes, utf8-front, utf8-back}
 use Rattle.textwrap_words.proofs.Common.{is_cut_after, VisibleEnd, cuts_among, ends_from}
-use Rattle.textwrap_words.proofs.Word.Offsets.{ends_past, ends-step, ends_in, end_of}
+use Rattle.textwrap_words.proofs.Word.Offsets.{ends-step, ends_past, ends_in, end_of}
 use Rattle.textwrap_words.proofs.Word.Parts.{places-above, places_by}
-use Rattle.textwrap_unicode.specs.Cuts.{offsets_of, cuts_by}
 use Rattle.textwrap_text.proofs.Units.Texts.{units-tile}
-use Rattle.textwrap_text.proofs.Units.Reading.{read-ahead, read-start, read-none, units_in, IsRead}
 use Rattle.textwrap_text.specs.declared.escapes.State.{State}
-use Rattle.textwrap_text.specs.declared.escapes.State.TheVariants.{Text}
-use Rattle.textwrap_unicode.proofs.BreakLemmas.{breaks_after-from}
+use Rattle.textwrap_text.specs.declared.escapes.State.TheVariants.{Text as InText}
+use Rattle.std.proofs.lemmas.List.Elements.{All-map}
+
+-- ---- what the rules ask of the text before a place, when a unit is added to it
+
+takes_marks-is : (units : List Unit)
+    → takes_marks units ≡ not (is_empty units) && not (takes_no_mark (first_class units))
+takes_marks-is [] = refl
+takes_marks-is (unit ∷ units) = refl
+
+pub and-is : (text : Text) (next : Unit)
+    → and (before_of text) next ≡ before_of (with_unit text next)
+and-is text next =
+    grind (arith, cases_Bool, takes_marks-is)
+
+-- ---- the look past the next unit for a number, as the text is read
+
+-- the answer after one more character
+pub number-step : (cs : List ℕ) (n c : ℕ) → (n < length cs) × (c ≡ get_or cs n c)
+    → number_first (drop n cs)
+    ≡ (if is_mark (class_of c) then number_first (drop (n + 1) cs) else is_number (class_of c))
+number-step cs n c here = at_drop_more number_first cs n c here.0
+    ∙ ap (λ x. number_first (x ∷ drop (n + 1) cs)) (sym here.1)
+
+-- ---- the breaks that the iterator has still to give
+
+pub breaks_after-from : (numbers : Numbers) (text : Text) (at : ℕ) (cs : List ℕ)
+    → breaks_after numbers (before_of text) at cs ≡ breaks_from numbers text at cs
+breaks_after-from numbers text at [] = refl
+breaks_after-from numbers text at (c ∷ cs) =
+    let after = with_unit text (unit_of c) in
+    grind (arith, and-is, breaks_after-from numbers after (at + length (encode c)) cs)
+
+-- none is before the place that they are given from
+pub breaks-above : (numbers : Numbers) (before : Before) (at : ℕ) (cs : List ℕ)
+    → All (λ b. at ≤ b.at) (breaks_after numbers before at cs)
+breaks-above numbers before at [] = grind (arith, cases_Bool, All-nil, All-cons)
+breaks-above numbers before at (c ∷ cs) =
+    let next = at + length (encode c) in
+    let rest = breaks_after numbers (and before (unit_of c)) next cs in
+    let later : All (λ b. at ≤ b.at) rest =
+    All-weaker (λ b. next ≤ b.at) (λ b. at ≤ b.at) (λ b h. omega (arith, h)) rest
+    (breaks-above numbers (and before (unit_of c)) next cs) in
+    elim (decide_by (numbers_rule numbers cs) before (unit_of c))
+    as (λ v. All (λ b. at ≤ b.at) (break_at v at ++ rest)) [
+      | Mandatory ↦ All-cons (λ b. at ≤ b.at) _ rest (omega arith) later
+      | Allowed ↦ All-cons (λ b. at ≤ b.at) _ rest (omega arith) later
+      | Prohibited ↦ later
+    ]
+
+pub none-left : (numbers : Numbers) (before : Before) (at : ℕ) → before ≡ before_of nothing
+    → breaks_after numbers before at (chars []) ≡ []
+none-left numbers before at start = rw (start, chars-nil) refl
+
+-- ---- the code that finds the next one
+
+-- the reader after so many bytes of what was left, with these ahead: the breaks from here on are
+-- those that were left
+pub record IsReading (numbers : Numbers) (rest : List ℕ) (start : ℕ) (first : Before)
+    (offset : ℕ) (ahead : List ℕ) (before : Before) : Type 0 where
+  pub read : IsRead rest offset ahead
+  pub left : breaks_after numbers before (start + offset) (chars ahead)
+      ≡ breaks_after numbers first start (chars rest)
+
+pub reading-start : (numbers : Numbers) (rest : List ℕ) (start : ℕ) (first : Before) (offset : ℕ)
+    (ahead : List ℕ) (before : Before) → IsUtf8 rest → offset ≡ 0 → ahead ≡ rest → before ≡ first
+    → IsReading numbers rest start first offset ahead before
+reading-start numbers rest start first offset ahead before utf8 none whole same =
+    grind (arith, read-start)
+
+module _ (numbers : Numbers) (rest : List ℕ) (start : ℕ) (first : Before) (offset : ℕ)
+    (ahead : List ℕ) (before : Before)
+    (h : IsReading numbers rest start first offset ahead before) where
+  module _ (c : ℕ) (after : List ℕ) (e : ahead ≡ encode c ++ after) where
+    abbrev next_at : ℕ
+    next_at = offset + length (encode c)
+
+    -- what the rules say of the place before the character
+    abbrev pub verdict-here : Verdict
+    verdict-here = decide_by (numbers_rule numbers (chars (drop next_at rest))) before (unit_of c)
+
+    here : break_at verdict-here (start + offset)
+        ++ breaks_after numbers (and before (unit_of c)) (start + next_at) (chars after)
+        ≡ breaks_after numbers first start (chars rest)
+    here = grind (arith, (read-next h.read c after e _ refl).place, read-ahead, h.left)
+
+    -- no line ends before the character
+    pub reading-step : (offset' : ℕ) (before' : Before) → verdict-here ≡ Prohibited
+        → offset' ≡ next_at → before' ≡ and before (unit_of c)
+        → IsReading numbers rest start first offset' after before'
+    reading-step offset' before' prohibited offset_is before_is =
+        rw (offset_is, before_is) (record {
+          read = read-next h.read c after e _ refl;
+          left = rw prohibited at here;
+        })
+
+    -- a line may or must end there
+    pub reading-break : (verdict : Verdict) (place : LineBreak) (before' : Before)
+        → verdict-here ≡ verdict → break_at verdict (start + offset) ≡ place ∷ []
+        → before' ≡ and before (unit_of c)
+        → breaks_after numbers first start (chars rest)
+        ≡ place ∷ breaks_after numbers before' (start + next_at) (chars (drop next_at rest))
+    reading-break verdict place before' said is before_is =
+        grind (arith, before_is, (read-next h.read c after e _ refl).place, said, is, here)
+
+  -- nothing is ahead
+  pub reading-end : length ahead ≡ 0
+      → breaks_after numbers first start (chars rest)
+      ≡ (if before.is_start then []
+      else record { at = start + length rest; is_mandatory = true } ∷ [])
+  reading-end none =
+      sym (rw (read-none h.read none, read-all h.read none) at h.left)
 
 -- ---- the cuts that are ahead
 
@@ -38,37 +153,19 @@ cuts_ahead numbers before end hyphen (e ∷ es) =
 
 -- ---- an offset among those of the breaks
 
-pub any-below : (s : ℕ) (front rest : List ℕ) → All (λ o. o < s) front
+none-equal : (s : ℕ) (os : List ℕ) → All (λ o. o ≢ s) os → list_any (λ o. o == s) os ≡ false
+none-equal s os differ = list_any_none (λ o. o == s) os
+    (All-weaker (λ o. o ≢ s) (λ o. (o == s) ≡ false) (λ o. ne_eqb o s) os differ)
+
+any-below : (s : ℕ) (front rest : List ℕ) → All (λ o. o < s) front
     → list_any (λ o. o == s) (front ++ rest) ≡ list_any (λ o. o == s) rest
-any-below s [] rest below = refl
-any-below s (o ∷ os) rest below =
-    let here = All-head (λ o. o < s) o os below in
-    let differs : o ≢ s = λ e. omega (arith, here, e) in
-    rw (ne_eqb o s differs) (any-below s os rest (All-tail (λ o. o < s) o os below))
+any-below s front rest below = list_any-append (λ o. o == s) front rest
+    ∙ ap (λ b. b || list_any (λ o. o == s) rest) (none-equal s front
+    (All-weaker (λ o. o < s) (λ o. o ≢ s) (λ o h e. omega (arith, h, e)) front below))
 
-pub any-above : (s : ℕ) (os : List ℕ) → All (λ o. s < o) os → list_any (λ o. o == s) os ≡ false
-any-above s [] above = refl
-any-above s (o ∷ os) above =
-    let here = All-head (λ o. s < o) o os above in
-    let differs : o ≢ s = λ e. omega (arith, here, e) in
-    rw (ne_eqb o s differs) (any-above s os (All-tail (λ o. s < o) o os above))
-
-pub breaks-above : (numbers : Numbers) (before : Before) (at : ℕ) (cs : List ℕ)
-    → All (λ o. at ≤ o) (offsets_of (breaks_after numbers before at cs))
-breaks-above numbers before at [] =
-    grind (arith, cases_Bool, All-nil (λ o. at ≤ o), All-cons (λ o. at ≤ o) at [])
-breaks-above numbers before at (c ∷ cs) =
-    let next = at + length (encode c) in
-    let rest = breaks_after numbers (and before (unit_of c)) next cs in
-    let later : All (λ o. at ≤ o) (offsets_of rest) =
-    All-weaker (λ o. next ≤ o) (λ o. at ≤ o) (λ o h. omega (arith, h)) (offsets_of rest)
-    (breaks-above numbers (and before (unit_of c)) next cs) in
-    elim (decide_by (numbers_rule numbers cs) before (unit_of c)) as (λ v. All (λ o. at ≤ o)
-    (offsets_of (break_at v at ++ rest))) [
-      | Mandatory ↦ All-cons (λ o. at ≤ o) at (offsets_of rest) (omega arith) later
-      | Allowed ↦ All-cons (λ o. at ≤ o) at (offsets_of rest) (omega arith) later
-      | Prohibited ↦ later
-    ]
+any-above : (s : ℕ) (os : List ℕ) → All (λ o. s < o) os → list_any (λ o. o == s) os ≡ false
+any-above s os above = none-equal s os
+    (All-weaker (λ o. s < o) (λ o. o ≢ s) (λ o h e. omega (arith, h, e)) os above)
 
 -- a break stands at a place among all if the rules say so there
 pub any-here : (v : Verdict) (s : ℕ) (later : List ℕ) → All (λ o. s < o) later
@@ -163,8 +260,9 @@ ends-cuts numbers (Visible c ∷ us) at last before front offsets total is below
     let parts : offsets ≡ front ++ (here ++ offsets_of more) =
     is ∙ ap (λ l. front ++ l) (map-append (λ b. b.at) (break_at v s) more) in
     let above : All (λ o. s < o) (offsets_of more) =
-    All-weaker (λ o. s + len ≤ o) (λ o. s < o) (λ o h. omega (arith, h, some)) (offsets_of more)
-    (breaks-above numbers after (s + len) (visible_among us)) in
+    All-map (λ o. s < o) (λ b. b.at) more (All-weaker (λ b. s + len ≤ b.at) (λ b. s < b.at)
+    (λ b h. omega (arith, h, some)) more
+    (breaks-above numbers after (s + len) (visible_among us))) in
     let test = cut-after offsets total last.character s v front (offsets_of more) parts below above
     (omega (arith, end, some, size)) in
     let behind : All (λ o. o < s + len) (front ++ here) =
@@ -232,7 +330,7 @@ offsets-visible numbers line utf8 =
 
 pub IsCutting-start : (numbers : Numbers) (line : List ℕ) (at : ℕ) (rest : List ℕ) (before : Before) (cuts : List ℕ)
     → IsUtf8 line → at ≡ 0 → rest ≡ line → before ≡ before_of nothing → cuts ≡ []
-    → IsCutting numbers line at rest Text before 0 false cuts
+    → IsCutting numbers line at rest InText before 0 false cuts
 IsCutting-start numbers line at rest before cuts utf8 start whole first none =
     rw (start, whole, first, none) (record {
       read = read-start line utf8;

@@ -1,11 +1,7 @@
-pub mod BreakLemmas
-pub mod BreakOrder
-pub mod Common
 pub mod CutLemmas
-pub mod DecideLemmas
+pub mod Common
 pub mod PrintableBytes
 pub mod PrintableCuts
 pub mod TextBreaks
-pub mod UsualPlaces
 pub mod WordVerdicts
 pub mod RuleLemmas

@@ -1,13 +1,15 @@
--- The classes of printable bytes, what the rules say between them, and what stands before a place.
+-- The classes of printable bytes, what the rules say between them, and what stands before a place,
+-- also before blanks.
 use Rattle.textwrap_classes.proofs.Common.{slice_index_or, if◌then◌else◌, is_after_text, cases_Bool}
-use Rattle.textwrap_classes.proofs.Common.{is_opening, nat_tests, and_parts, Ambiguous, list_any, ℕ}
-use Rattle.textwrap_classes.proofs.Common.{not-true, is_blank, is_space, class_of, add-one, is_mark}
-use Rattle.textwrap_classes.proofs.Common.{unit_of, nat_lt, get_or, false, arith, subst, ◌==◌, ◌&&◌}
-use Rattle.textwrap_classes.proofs.Common.{◌||◌, Bool, true, List, refl, ◌≡◌, not, ◌∷◌, sym, ◌∙◌}
-use Rattle.textwrap_classes.proofs.Common.{inl, inr, ◌+◌, [], ap}
+use Rattle.textwrap_classes.proofs.Common.{is_opening, Ambiguous, and_parts, nat_tests, class_of, ℕ}
+use Rattle.textwrap_classes.proofs.Common.{is_blank, is_space, list_any, add-one, is_mark, unit_of}
+use Rattle.textwrap_classes.proofs.Common.{get_or, length, nat_lt, arith, false, subst, Bool, List}
+use Rattle.textwrap_classes.proofs.Common.{refl, take, true, zero, ◌&&◌, ◌==◌, ◌||◌, inl, inr, not}
+use Rattle.textwrap_classes.proofs.Common.{suc, sym, ◌+◌, ◌-◌, ◌<◌, ◌∙◌, ◌∷◌, ◌≡◌, ◌≤◌, [], ap}
+use Rattle.textwrap_unicode.proofs.Common.{class_past_blanks, is_any_hyphen, is_unusual, before_of}
+use Rattle.textwrap_unicode.proofs.Common.{not-true, may_end, nothing, Before, decide, and}
 use Rattle.textwrap_classes.specs.declared.ascii.TheConstants.{CLASSES}
-use Rattle.textwrap_unicode.proofs.Common.{may_follow_blanks, class_past_blanks, is_any_hyphen, and}
-use Rattle.textwrap_unicode.proofs.Common.{is_unusual, before_of, may_end, nothing, decide, Before}
+use Rattle.textwrap_unicode.specs.Pairs.{may_follow_blanks, behind_classes, is_cut_behind}
 use Rattle.unicode.specs.declared.properties.LineBreak.TheVariants.{CloseParenthesis, PrefixNumeric}
 use Rattle.unicode.specs.declared.properties.LineBreak.TheVariants.{ClosePunctuation, BreakSymbols}
 use Rattle.unicode.specs.declared.properties.LineBreak.TheVariants.{OpenPunctuation, PostfixNumeric}
@@ -16,16 +18,18 @@ use Rattle.unicode.specs.declared.properties.LineBreak.TheVariants.{Alphabetic, 
 use Rattle.unicode.specs.declared.properties.LineBreak.TheVariants.{Quotation, Unknown, Hyphen}
 use Rattle.unicode.specs.declared.properties.LineBreak.TheVariants.{Space}
 use Rattle.unicode.specs.declared.properties.LineBreak.{LineBreak}
-use Rattle.textwrap_text.proofs.Common.{IsPrintableByte, eqb-true, list_all}
+use Rattle.textwrap_text.proofs.Common.{IsPrintableByte, length-take-le, IsPrintable, get_or-drop}
+use Rattle.textwrap_text.proofs.Common.{get_or-take, length-drop, trimmed_len, add-zero, eqb-true}
+use Rattle.textwrap_text.proofs.Common.{list_all}
 use Rattle.unicode.specs.LineBreak.{line_break_number}
-use Rattle.std.proofs.lemmas.Bool.{agree_below_at, agree_below}
+use Rattle.std.proofs.lemmas.Bool.{agree_below_at, agree_below, or_right}
 use Rattle.unicode.proofs.LineBreakLemmas.{line_break_number_injective}
 use Rattle.textwrap_unicode.specs.declared.pairs.TheConstants.{UNUSUAL_AFTER, KINDS}
 use Rattle.textwrap_classes.specs.ClassSets.{is_regional_indicator, is_hebrew, is_zwj}
 use Rattle.textwrap_classes.proofs.ClassLemmas.{ascii-class, agree-same, past-first, agree}
 use Rattle.std.specs.Prelude.{bit_and}
-use Rattle.textwrap_unicode.specs.Pairs.{behind_classes, is_cut_behind}
 use Rattle.textwrap_unicode.proofs.WordVerdicts.{unit_with, ascii-is}
+use Rattle.textwrap_words.proofs.Word.Texts.{final_blanks-blank, trimmed-other}
 
 -- ---- the classes
 
@@ -271,21 +275,90 @@ pub byte-step : (past : LineBreak) (b c : ℕ) (before : Before) → IsBehind pa
     → IsBehind (if is_space (class_of c) then past else class_of c) (class_of c)
     (and before (unit_of c))
 byte-step past b c before h first next =
-    let plain = none-has is_hebrew refl (class_of b) (told b first).class in
-    let v = class_of c in
-    let after = if is_space v then past else v in
-    subst (λ unit. IsBehind after v (and before unit)) (sym (ascii-is c (omega (arith, next.1))))
-    (subst (λ f. IsBehind after v (and f (unit_with v))) (sym h.is)
-    (unit-behind v (told c next).class past (class_of b) h.inside h.number plain))
+    grind (
+      arith,
+      ascii-is,
+      h.is,
+      unit-behind (class_of c) (told c next).class past (class_of b) h.inside h.number
+          (none-has is_hebrew refl (class_of b) (told b first).class),
+    )
 
 pub byte-first : (b : ℕ) → IsPrintableByte b
     → IsBehind (if is_space (class_of b) then Unknown else class_of b) (class_of b)
     (and (before_of nothing) (unit_of b))
 byte-first b first =
-    let v = class_of b in
-    subst (λ unit. IsBehind (if is_space v then Unknown else v) v (and (before_of nothing) unit))
-    (sym (ascii-is b (omega (arith, first.1)))) (unit-first v (told b first).class)
+    grind (arith, ascii-is, unit-first (class_of b) (told b first).class)
 
 pub past-more : (text : List ℕ) (n c : ℕ) → get_or text n 0 ≡ c → class_past_blanks text (n + 1)
     ≡ (if is_space (class_of c) then class_past_blanks text n else class_of c)
 past-more text n c here = rw (add-one n, ← here) refl
+
+-- ---- the class of the last byte before blanks
+
+module _ (text : List ℕ) (printable : IsPrintable text) where
+  pub space-at : (k : ℕ) → k < length text
+      → is_space (class_of (get_or text k 0)) ≡ is_blank (get_or text k 0)
+  space-at k inside = sym (told (get_or text k 0) (printable k 0 inside)).blank
+
+  -- behind a byte that is no blank
+  pub past-byte : (k : ℕ) → k < length text → is_blank (get_or text k 0) ≡ false
+      → class_past_blanks text (suc k) ≡ class_of (get_or text k 0)
+  past-byte k inside other = rw (space-at k inside ∙ other) refl
+
+  pub past-blank : (k : ℕ) → k < length text → is_blank (get_or text k 0) ≡ true
+      → class_past_blanks text (suc k) ≡ class_past_blanks text k
+  past-blank k inside blank = rw (space-at k inside ∙ blank) refl
+
+  -- behind blanks
+  past-blanks : (end n : ℕ) → end + n ≤ length text
+      → ((k : ℕ) → end ≤ k → k < end + n → is_blank (get_or text k 0) ≡ true)
+      → class_past_blanks text (end + n) ≡ class_past_blanks text end
+  past-blanks end zero within blanks = ap (class_past_blanks text) (add-zero end)
+  past-blanks end (suc n) within blanks =
+      let next : end + suc n ≡ suc (end + n) = omega arith in
+      ap (class_past_blanks text) next
+      ∙ past-blank (end + n) (omega (arith, within)) (blanks (end + n) (omega arith) (omega arith))
+      ∙ past-blanks end n (omega (arith, within)) (λ k from below. blanks k from (omega (arith, below)))
+
+  pub past-among : (n : ℕ) → n ≤ length text
+      → is_among past_classes (class_past_blanks text n) ≡ true
+  past-among zero within = refl
+  past-among (suc n) within =
+      elim (cases_Bool (is_blank (get_or text n 0))) [
+        | inl blank ↦ rw (past-blank n within blank) (past-among n (omega (arith, within)))
+        | inr other ↦ rw (past-byte n within other)
+            (or_right _ _ (told (get_or text n 0) (printable n 0 within)).class)
+      ]
+
+  -- ---- the blanks at the end of what comes before a place
+
+  module _ (place : ℕ) (within : place ≤ length text) where
+    abbrev end : ℕ
+    end = trimmed_len (take place text)
+
+    long : length (take place text) ≡ place
+    long = length-take-le place text within
+
+    end-past : class_past_blanks text place ≡ class_past_blanks text end
+    end-past =
+        let blanks = final_blanks-blank (take place text) in
+        let all : end + (place - end) ≡ place = omega (arith, long) in
+        ap (class_past_blanks text) (sym all)
+        ∙ past-blanks end (place - end) (omega (arith, all, within)) (λ k from below.
+        let same : end + (k - end) ≡ k = omega (arith, from) in
+        ap is_blank (sym (get_or-take place text k 0 (omega (arith, below, all)))
+        ∙ ap (λ j. get_or (take place text) j 0) (sym same)
+        ∙ sym (get_or-drop end (take place text) (k - end) 0))
+        ∙ blanks (k - end) 0 (omega (arith, length-drop end (take place text), long, from, below, all)))
+
+    pub past-none : end ≡ 0 → class_past_blanks text place ≡ Unknown
+    past-none none = end-past ∙ ap (class_past_blanks text) none
+
+    pub past-some : 0 < end → class_past_blanks text place ≡ class_of (get_or text (end - 1) 0)
+    past-some some =
+        let last : suc (end - 1) ≡ end = omega (arith, some) in
+        let other = trimmed-other (take place text) some in
+        let inside : end - 1 < length text = omega (arith, long, within, some) in
+        let byte = get_or-take place text (end - 1) 0 (omega (arith, long, some)) in
+        end-past ∙ ap (class_past_blanks text) (sym last)
+        ∙ past-byte (end - 1) inside (ap is_blank (sym byte) ∙ other)

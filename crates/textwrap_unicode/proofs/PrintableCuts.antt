@@ -1,107 +1,40 @@
--- A printable text is cut where its bytes say so, also past blanks.
-use Rattle.std.proofs.lemmas.Bool.{agree_below_at, agree_below, not-false, or_parts, or_right}
-use Rattle.textwrap_classes.proofs.Common.{◌||◌}
+-- A printable text is cut where its bytes say so, also past blanks, and where it is cut as at its
+-- blanks.
+use Rattle.std.proofs.lemmas.Bool.{agree_below_at, agree_below, not-false, or_parts}
 use Rattle.textwrap_classes.proofs.Common.{slice_index_or, if◌then◌else◌, is_after_text, cases_Bool}
-use Rattle.textwrap_classes.proofs.Common.{true≢false, is_opening, and_parts, and-false, not-true}
-use Rattle.textwrap_classes.proofs.Common.{cases_lt, is_blank, is_space, class_of, unit_of, length}
-use Rattle.textwrap_classes.proofs.Common.{get_or, encode, false, arith, subst, zero, true, List, ℕ}
-use Rattle.textwrap_classes.proofs.Common.{take, refl, ◌&&◌, Bool, ◌++◌, drop, ◌==◌, ◌≡◌, suc, ◌+◌}
-use Rattle.textwrap_classes.proofs.Common.{◌-◌, ◌<◌, ◌≤◌, inl, inr, sym, ◌∙◌, not, ◌∷◌, map, ap, []}
-use Rattle.textwrap_unicode.proofs.Common.{class_past_blanks, may_follow_blanks, is_any_hyphen, and}
-use Rattle.textwrap_unicode.proofs.Common.{is_unusual, before_of, cut_here, IsUsual, ByPairs}
-use Rattle.textwrap_unicode.proofs.Common.{nothing, may_end, Before, decide}
+use Rattle.textwrap_classes.proofs.Common.{is_opening, true≢false, and-false, and_parts, cases_lt}
+use Rattle.textwrap_classes.proofs.Common.{class_of, is_blank, is_space, unit_of, encode, get_or, ℕ}
+use Rattle.textwrap_classes.proofs.Common.{length, arith, false, subst, Bool, List, drop, refl, inl}
+use Rattle.textwrap_classes.proofs.Common.{true, zero, ◌&&◌, ◌++◌, ◌==◌, ◌||◌, inr, map, not, suc}
+use Rattle.textwrap_classes.proofs.Common.{sym, ◌+◌, ◌-◌, ◌<◌, ◌∙◌, ◌∷◌, ◌≡◌, ◌≤◌, [], ap}
+use Rattle.textwrap_unicode.proofs.Common.{class_past_blanks, is_any_hyphen, printable_cut, ByPairs}
+use Rattle.textwrap_unicode.proofs.Common.{unicode_cuts, is_unusual, before_of, cut_here, not-true}
+use Rattle.textwrap_unicode.proofs.Common.{IsUsual, may_end, nothing, Before, decide, and, ◌↔◌}
+use Rattle.textwrap_unicode.specs.Pairs.{may_follow_blanks, IsCutAtBlanks, is_cut_behind, at_breaks}
 use Rattle.unicode.specs.declared.properties.LineBreak.{LineBreak}
 use Rattle.textwrap_text.proofs.Common.{is_ascii_alphanumeric, false_from_ne_true, IsPrintableByte}
-use Rattle.textwrap_text.proofs.Common.{IsUtf8-from_ascii, length-take-le, chars-IsAscii, add-zero}
-use Rattle.textwrap_text.proofs.Common.{get_or-drop, get_or-take, length-drop, IsPrintable, Visible}
-use Rattle.textwrap_text.proofs.Common.{trimmed_len, false≢true, eqb-true, is_cut}
-use Rattle.unicode.specs.declared.properties.LineBreak.TheVariants.{OpenPunctuation, Unknown}
+use Rattle.textwrap_text.proofs.Common.{IsUtf8-from_ascii, chars-IsAscii, IsPrintable, get_or-drop}
+use Rattle.textwrap_text.proofs.Common.{length-drop, trimmed_len, false≢true, add-zero, eqb-true}
+use Rattle.textwrap_text.proofs.Common.{Visible, is_cut}
+use Rattle.unicode.specs.declared.properties.LineBreak.TheVariants.{OpenPunctuation}
 use Rattle.textwrap_words.proofs.Common.{parts_between, ends_from, words_of, word_of}
 use Rattle.textwrap_words.proofs.Word.Texts.{final_blanks-blank, trimmed-other}
-use Rattle.textwrap_unicode.specs.Pairs.{is_cut_behind, printable_cut, IsCutAtBlanks, at_breaks}
-use Rattle.textwrap_unicode.proofs.PrintableBytes.{past_classes, unusual-bits, byte-first, is_among}
-use Rattle.textwrap_unicode.proofs.PrintableBytes.{cut-behind, byte-step, past-more, IsBehind, told}
+use Rattle.textwrap_unicode.proofs.PrintableBytes.{unusual-space, unusual-bits, class-space}
+use Rattle.textwrap_unicode.proofs.PrintableBytes.{byte-first, cut-behind, past-among, past-blank}
+use Rattle.textwrap_unicode.proofs.PrintableBytes.{byte-step, past-byte, past-more, IsBehind}
+use Rattle.textwrap_unicode.proofs.PrintableBytes.{space-at}
 use Rattle.std.proofs.lemmas.Str.{encode_ascii}
 use Rattle.textwrap_text.proofs.Units.Reading.{printable-ascii, units-printable}
 use Rattle.textwrap_words.proofs.Word.Offsets.{ends_in}
 use Rattle.textwrap_text.specs.declared.escapes.State.TheVariants.{Text}
-use Rattle.textwrap_unicode.specs.Cuts.{unicode_cuts}
 use Rattle.textwrap_unicode.proofs.CutLemmas.{IsCutting-start, place-found, cuts_ahead}
 use Rattle.textwrap_words.proofs.Word.Parts.{parts_between-places, parts-chunks, byte-inside}
 use Rattle.textwrap_words.proofs.Word.Parts.{bytes-after, parts-same, byte-here, places_by}
 use Rattle.textwrap_words.specs.PieceCuts.{parts_by}
 use Rattle.std.proofs.Common.{bit_and}
 use Rattle.textwrap_unicode.specs.declared.pairs.TheConstants.{UNUSUAL_AFTER, KINDS}
-
--- ---- the class of the last byte before blanks
-
-module _ (text : List ℕ) (printable : IsPrintable text) where
-  pub space-at : (k : ℕ) → k < length text
-      → is_space (class_of (get_or text k 0)) ≡ is_blank (get_or text k 0)
-  space-at k inside = sym (told (get_or text k 0) (printable k 0 inside)).blank
-
-  -- behind a byte that is no blank
-  pub past-byte : (k : ℕ) → k < length text → is_blank (get_or text k 0) ≡ false
-      → class_past_blanks text (suc k) ≡ class_of (get_or text k 0)
-  past-byte k inside other = rw (space-at k inside ∙ other) refl
-
-  pub past-blank : (k : ℕ) → k < length text → is_blank (get_or text k 0) ≡ true
-      → class_past_blanks text (suc k) ≡ class_past_blanks text k
-  past-blank k inside blank = rw (space-at k inside ∙ blank) refl
-
-  -- behind blanks
-  past-blanks : (end n : ℕ) → end + n ≤ length text
-      → ((k : ℕ) → end ≤ k → k < end + n → is_blank (get_or text k 0) ≡ true)
-      → class_past_blanks text (end + n) ≡ class_past_blanks text end
-  past-blanks end zero within blanks = ap (class_past_blanks text) (add-zero end)
-  past-blanks end (suc n) within blanks =
-      let next : end + suc n ≡ suc (end + n) = omega arith in
-      ap (class_past_blanks text) next
-      ∙ past-blank (end + n) (omega (arith, within)) (blanks (end + n) (omega arith) (omega arith))
-      ∙ past-blanks end n (omega (arith, within)) (λ k from below. blanks k from (omega (arith, below)))
-
-  pub past-among : (n : ℕ) → n ≤ length text
-      → is_among past_classes (class_past_blanks text n) ≡ true
-  past-among zero within = refl
-  past-among (suc n) within =
-      elim (cases_Bool (is_blank (get_or text n 0))) [
-        | inl blank ↦ rw (past-blank n within blank) (past-among n (omega (arith, within)))
-        | inr other ↦ rw (past-byte n within other)
-            (or_right _ _ (told (get_or text n 0) (printable n 0 within)).class)
-      ]
-
-  -- ---- the blanks at the end of what comes before a place
-
-  module _ (place : ℕ) (within : place ≤ length text) where
-    abbrev end : ℕ
-    end = trimmed_len (take place text)
-
-    long : length (take place text) ≡ place
-    long = length-take-le place text within
-
-    end-past : class_past_blanks text place ≡ class_past_blanks text end
-    end-past =
-        let blanks = final_blanks-blank (take place text) in
-        let all : end + (place - end) ≡ place = omega (arith, long) in
-        ap (class_past_blanks text) (sym all)
-        ∙ past-blanks end (place - end) (omega (arith, all, within)) (λ k from below.
-        let same : end + (k - end) ≡ k = omega (arith, from) in
-        ap is_blank (sym (get_or-take place text k 0 (omega (arith, below, all)))
-        ∙ ap (λ j. get_or (take place text) j 0) (sym same)
-        ∙ sym (get_or-drop end (take place text) (k - end) 0))
-        ∙ blanks (k - end) 0 (omega (arith, length-drop end (take place text), long, from, below, all)))
-
-    pub past-none : end ≡ 0 → class_past_blanks text place ≡ Unknown
-    past-none none = end-past ∙ ap (class_past_blanks text) none
-
-    pub past-some : 0 < end → class_past_blanks text place ≡ class_of (get_or text (end - 1) 0)
-    past-some some =
-        let last : suc (end - 1) ≡ end = omega (arith, some) in
-        let other = trimmed-other (take place text) some in
-        let inside : end - 1 < length text = omega (arith, long, within, some) in
-        let byte = get_or-take place text (end - 1) 0 (omega (arith, long, some)) in
-        end-past ∙ ap (class_past_blanks text) (sym last)
-        ∙ past-byte (end - 1) inside (ap is_blank (sym byte) ∙ other)
+use Rattle.std.proofs.Math.Bool.{and-true}
+use Rattle.textwrap_classes.specs.ClassSets.{is_quotation}
 
 -- ---- a printable text is cut where its bytes say so
 
@@ -206,7 +139,7 @@ module _ (text : List ℕ) (printable : IsPrintable text) where
       ∙ parts-same (printable_cut text) (at_breaks text) text 0
       (λ k start inside. sym (breaks-cut text printable k start (omega (arith, inside))))
 
--- ---- which printable bytes stand on either side of a cut
+-- ---- places where it is cut as at its blanks, told from two bytes
 
 -- a blank, or something is unusual behind it
 abbrev is_followed : ℕ → Bool
@@ -216,39 +149,144 @@ is_followed c = is_blank c || not (slice_index_or UNUSUAL_AFTER c 0 == 0)
 letters-plain : agree_below (λ c. is_ascii_alphanumeric c && is_followed c) (λ c. false) 128 ≡ true
 letters-plain = refl
 
-module _ (text : List ℕ) (printable : IsPrintable text) (place : ℕ) (start : 0 < place)
-    (inside : place < length text) (is : at_breaks text place ≡ true) where
-  abbrev before : ℕ
-  before = get_or text (place - 1) 0
+-- of two parts the first fails if the second does not
+and-first : (a b : Bool) → b ≡ true → a && b ≡ false → a ≡ false
+and-first true b is none = absurd (true≢false (sym is ∙ none))
+and-first false b is none = refl
 
-  abbrev after : ℕ
-  after = get_or text place 0
+module _ (text : List ℕ) (printable : IsPrintable text) where
+  -- no bracket that opens stands before the blanks there
+  past-closed : (n : ℕ) → n < length text → ((k : ℕ) → 0 < k → k < suc n → IsUsual text k)
+      → is_space (class_of (get_or text n 0)) ≡ true → is_opening (class_past_blanks text n) ≡ false
+  past-closed zero inside usual space = refl
+  past-closed (suc n) inside usual space =
+      let before = get_or text n 0 in
+      let back : suc n - 1 ≡ n = omega arith in
+      elim (cases_Bool (is_blank before)) [
+        | inl blank ↦
+            rw (past-blank text printable n (omega (arith, inside)) blank)
+            (past-closed n (omega (arith, inside)) (λ k some below. usual k some (omega (arith, below)))
+            (space-at text printable n (omega (arith, inside)) ∙ blank))
+        | inr other ↦
+            rw (past-byte text printable n (omega (arith, inside)) other)
+            (and-first _ _ space
+            (ap (λ k. is_opening (class_of (get_or text k 0))
+            && is_space (class_of (get_or text (suc n) 0)))
+            (sym back) ∙ (usual (suc n) (omega arith) (omega arith)).unopened))
+      ]
 
-  abbrev behind : Bool
-  behind = if is_blank before then may_follow_blanks (class_past_blanks text place) (class_of after)
-      else is_unusual before after
+  module _ (place : ℕ) (start : 0 < place) (inside : place < length text) where
+    abbrev before : ℕ
+    before = get_or text (place - 1) 0
 
-  sides : (not (is_blank after) ≡ true) × (behind ≡ true)
-  sides = and_parts (not (is_blank after)) behind
-      (sym (cut-told text printable place start inside) ∙ is)
+    abbrev after : ℕ
+    after = get_or text place 0
 
-  pub cut-before_other : is_blank after ≡ false
-  cut-before_other = not-true (is_blank after) sides.0
+    last : suc (place - 1) ≡ place
+    last = omega (arith, start)
 
-  pub cut-after_other : is_ascii_alphanumeric before ≡ false
-  cut-after_other = false_from_ne_true (is_ascii_alphanumeric before) (λ letter.
-      let byte = printable (place - 1) 0 (omega (arith, start, inside)) in
-      let (other, none) = or_parts (is_blank before) _ (rw letter at (agree_below_at
-      (λ c. is_ascii_alphanumeric c && is_followed c) (λ c. false) 128 before letters-plain
-      (omega (arith, byte.1)))) in
-      let usual : is_unusual before after ≡ false =
-      sym (unusual-bits before after byte (printable place 0 inside))
-      ∙ ap (λ u. not (bit_and u (slice_index_or KINDS after 0) == 0))
-      (eqb-true (slice_index_or UNUSUAL_AFTER before 0) 0 (not-false _ none)) in
-      let unusual : is_unusual before after ≡ true = sym (ap (λ b. if b
-      then may_follow_blanks (class_past_blanks text place) (class_of after)
-      else is_unusual before after) other) ∙ sides.1 in
-      false≢true (sym usual ∙ unusual))
+    space-before : is_space (class_of before) ≡ is_blank before
+    space-before = space-at text printable (place - 1) (omega (arith, start, inside))
+
+    -- behind a blank
+    usual-blank : ((k : ℕ) → 0 < k → k < place → IsUsual text k) → is_blank before ≡ true
+        → is_unusual before after ≡ false → IsUsual text place
+    usual-blank usual blank none =
+        let space = space-before ∙ blank in
+        let (follows, opens) = or_parts (is_after_text (class_of after)) (is_opening (class_of after))
+        (rw space at none) in
+        let past : is_opening (class_past_blanks text place) ≡ false =
+        ap (λ k. is_opening (class_past_blanks text k)) (sym last)
+        ∙ ap is_opening (past-blank text printable (place - 1) (omega (arith, start, inside)) blank)
+        ∙ past-closed (place - 1) (omega (arith, start, inside))
+        (λ k some below. usual k some (omega (arith, below, last))) space in
+        let may : may_follow_blanks (class_past_blanks text place) (class_of after) ≡ true =
+        rw (follows, opens, past) (ap not (and-false (is_quotation (class_past_blanks text place)))) in
+        let told = cut-told text printable place start inside in
+        record {
+          cut = rw (blank, may) at told ∙ and-true (not (is_blank after)) ∙ sym (rw blank refl);
+          unopened = ap (λ v. is_opening v && is_space (class_of after))
+              (class-space (class_of before) space);
+        }
+
+    usual-word : is_blank before ≡ false → is_unusual before after ≡ false → IsUsual text place
+    usual-word other none =
+        let told = cut-told text printable place start inside in
+        record {
+          cut = rw (other, none) at told ∙ and-false (not (is_blank after)) ∙ sym (rw other refl);
+          unopened = (or_parts (is_opening (class_of before) && is_space (class_of after)) _
+              (rw (space-before ∙ other) at none)).0;
+        }
+
+    pub usual-pair : ((k : ℕ) → 0 < k → k < place → IsUsual text k)
+        → is_unusual before after ≡ false → IsUsual text place
+    usual-pair usual none = grind (arith, cases_Bool, usual-blank, usual-word)
+
+    cut-usual : is_blank after ≡ false → at_breaks text place ≡ is_blank before
+        → IsUsual text place
+    cut-usual other cut = grind (arith, space-at, and-true, and-false)
+
+    -- before a byte that is no blank
+    pub usual-cut : is_blank after ≡ false
+        → (at_breaks text place ≡ is_blank before) ↔ IsUsual text place
+    usual-cut other =
+        (cut-usual other, λ usual. usual.cut ∙ (rw other (and-true (is_blank before))))
+
+    -- nothing unusual is a blank
+    pub unusual-blank : is_blank after ≡ true → is_unusual before after ≡ true
+        → IsUsual text place → ⊥
+    unusual-blank blank is usual =
+        let first = printable (place - 1) 0 (omega (arith, start, inside)) in
+        let opens = sym (unusual-space before after first (printable place 0 inside) blank) ∙ is in
+        true≢false (sym opens ∙ and-first _ _ (space-at text printable place inside ∙ blank)
+        usual.unopened)
+
+    -- which printable bytes stand on either side of a cut
+    module _ (is : at_breaks text place ≡ true) where
+      abbrev behind : Bool
+      behind = if is_blank before
+          then may_follow_blanks (class_past_blanks text place) (class_of after)
+          else is_unusual before after
+
+      sides : (not (is_blank after) ≡ true) × (behind ≡ true)
+      sides = and_parts (not (is_blank after)) behind
+          (sym (cut-told text printable place start inside) ∙ is)
+
+      pub cut-before_other : is_blank after ≡ false
+      cut-before_other = not-true (is_blank after) sides.0
+
+      pub cut-after_other : is_ascii_alphanumeric before ≡ false
+      cut-after_other = false_from_ne_true (is_ascii_alphanumeric before) (λ letter.
+          let byte = printable (place - 1) 0 (omega (arith, start, inside)) in
+          let (other, none) = or_parts (is_blank before) _ (rw letter at (agree_below_at
+          (λ c. is_ascii_alphanumeric c && is_followed c) (λ c. false) 128 before letters-plain
+          (omega (arith, byte.1)))) in
+          let usual : is_unusual before after ≡ false =
+          sym (unusual-bits before after byte (printable place 0 inside))
+          ∙ ap (λ u. not (bit_and u (slice_index_or KINDS after 0) == 0))
+          (eqb-true (slice_index_or UNUSUAL_AFTER before 0) 0 (not-false _ none)) in
+          let unusual : is_unusual before after ≡ true = sym (ap (λ b. if b
+          then may_follow_blanks (class_past_blanks text place) (class_of after)
+          else is_unusual before after) other) ∙ sides.1 in
+          false≢true (sym usual ∙ unusual))
+
+  -- one after another
+  pub usual-run : (from n : ℕ) → 0 < from → from + n ≤ length text
+      → ((k : ℕ) → 0 < k → k < from → IsUsual text k)
+      → ((k : ℕ) → from ≤ k → k < from + n
+      → is_unusual (get_or text (k - 1) 0) (get_or text k 0) ≡ false)
+      → (k : ℕ) → 0 < k → k < from + n → IsUsual text k
+  usual-run from zero start within usual none = λ k some below.
+      usual k some (omega (arith, below))
+  usual-run from (suc n) start within usual none =
+      let before = usual-run from n start (omega (arith, within)) usual
+      (λ k at below. none k at (omega (arith, below))) in
+      let here = usual-pair (from + n) (omega (arith, start)) (omega (arith, within)) before
+      (none (from + n) (omega arith) (omega arith)) in
+      λ k some below. elim (cases_lt k (from + n)) [
+        | inl less ↦ before k some less
+        | inr at ↦ subst (IsUsual text) (omega (arith, at, below)) here
+      ]
 
 -- ---- in a text that is cut at its blanks alone no blank stands behind a bracket that opens,
 -- but at the end

@@ -1,20 +1,30 @@
--- The sets of classes, and what the rules come to after each class.
-use Rattle.std.proofs.lemmas.Bool.{true_from_ne_false, cond-false, cond-true, or_left, or_parts}
-use Rattle.textwrap_classes.proofs.Common.{if◌then◌else◌, takes_no_mark, is_after_text, cases_Bool}
-use Rattle.textwrap_classes.proofs.Common.{not-true, is_space, is_mark, false, arith, Bool, true}
-use Rattle.textwrap_classes.proofs.Common.{refl, ◌||◌, List, ◌≡◌, sym, ◌∷◌, ◌∙◌, ◌≢◌, [], ap}
-use Rattle.textwrap_unicode.proofs.Common.{first_class, takes_marks, Prohibited, with_unit, Verdict}
-use Rattle.textwrap_unicode.proofs.Common.{as_letter, Mandatory, decide_by, Allowed, Before, Text}
+-- The sets of classes, what the rules come to after each class and after given characters, and
+-- places for which few of them are needed.
+use Rattle.std.proofs.lemmas.Bool.{true_from_ne_false, cond-false, cond-true, and_left, or_parts}
+use Rattle.std.proofs.lemmas.Bool.{or_left}
+use Rattle.textwrap_classes.proofs.Common.{if◌then◌else◌, is_after_text, takes_no_mark, cases_Bool}
+use Rattle.textwrap_classes.proofs.Common.{is_opening, and-false, and_from, class_of, is_space, not}
+use Rattle.textwrap_classes.proofs.Common.{is_mark, unit_of, arith, false, Bool, List, refl, true}
+use Rattle.textwrap_classes.proofs.Common.{◌&&◌, ◌++◌, ◌||◌, sym, ◌∙◌, ◌∷◌, ◌≡◌, ◌≢◌, [], ap, ℕ}
+use Rattle.textwrap_unicode.proofs.Common.{numbers_rule, Prohibited, verdict_by, Mandatory, Allowed}
+use Rattle.textwrap_unicode.proofs.Common.{before_of, decide_by, not-true, Numbers, Verdict, Before}
+use Rattle.textwrap_unicode.proofs.Common.{is_kept, decide, ◌↔◌}
+use Rattle.textwrap_unicode.specs.Before.{class_past_spaces, first_class, takes_marks, as_letter}
+use Rattle.textwrap_unicode.specs.Before.{with_unit, text_of, Text}
+use Rattle.unicode.specs.declared.properties.LineBreak.TheVariants.{ClosePunctuation, CombiningMark}
 use Rattle.unicode.specs.declared.properties.LineBreak.TheVariants.{CarriageReturn, MandatoryBreak}
-use Rattle.unicode.specs.declared.properties.LineBreak.TheVariants.{CombiningMark, Alphabetic, Zwj}
-use Rattle.unicode.specs.declared.properties.LineBreak.TheVariants.{LineFeed, NextLine, ZWSpace}
-use Rattle.unicode.specs.declared.properties.LineBreak.TheVariants.{Space}
+use Rattle.unicode.specs.declared.properties.LineBreak.TheVariants.{HebrewLetter, Ideographic, Zwj}
+use Rattle.unicode.specs.declared.properties.LineBreak.TheVariants.{Alphabetic, LineFeed, NextLine}
+use Rattle.unicode.specs.declared.properties.LineBreak.TheVariants.{Numeric, ZWSpace, Space, H2, H3}
 use Rattle.unicode.specs.declared.properties.LineBreak.{LineBreak}
 use Rattle.textwrap_classes.specs.declared.classes.Unit.{Unit}
-use Rattle.textwrap_unicode.specs.Before.{class_past_spaces}
-use Rattle.textwrap_classes.specs.ClassSets.{is_zero_width_space, is_carriage_return, is_line_end}
-use Rattle.textwrap_unicode.specs.Rules.{first_said, is_glued, is_kept, Saying, rules, Rule, lb4}
-use Rattle.textwrap_unicode.specs.Rules.{lb8, lb9}
+use Rattle.textwrap_classes.specs.ClassSets.{breaks_on_both_sides, is_zero_width_space, is_line_end}
+use Rattle.textwrap_classes.specs.ClassSets.{is_carriage_return, is_quotation, is_closing}
+use Rattle.textwrap_unicode.specs.Rules.{first_said, is_glued, Saying, rules, Rule, lb4, lb8, lb9}
+use Rattle.textwrap_text.proofs.Common.{◌⊎◌}
+use Rattle.unicode.proofs.BreaksComputing.{ucd_breaks}
+use Rattle.textwrap_unicode.specs.Laws.{ends_line}
+use Rattle.textwrap_unicode.proofs.TextBreaks.{text_of-push, not-empty}
 
 -- ---- classes
 
@@ -115,9 +125,6 @@ same-letter : (unit : Unit) → is_mark unit.class ≡ false → as_letter unit 
 same-letter unit e = cond-false (is_mark unit.class) (record unit { class = Alphabetic }) unit e
 
 module _ (numbers : Rule) (before : Before) (next : Unit) (some : before.is_start ≡ false) where
-  pub decide-must : lb4 before next ≡ true → decide_by numbers before next ≡ Mandatory
-  decide-must must = rw (some, must) refl
-
   past-must : lb4 before next ≡ false
       → decide_by numbers before next ≡ first_said (past_ends numbers) before next
   past-must free = rw (some, free) refl
@@ -125,10 +132,6 @@ module _ (numbers : Rule) (before : Before) (next : Unit) (some : before.is_star
   pub must-only : decide_by numbers before next ≡ Mandatory → lb4 before next ≡ true
   must-only e = true_from_ne_false (lb4 before next) (λ free.
       never-must (past_ends numbers) before next (rest-never numbers) (sym (past-must free) ∙ e))
-
-  pub decide-kept : lb4 before next ≡ false → is_kept before next ≡ true
-      → decide_by numbers before next ≡ Prohibited
-  decide-kept free kept = rw (some, free, kept) refl
 
   pub decide-marked : lb4 before next ≡ false → lb8 before next ≡ false → lb9 before next ≡ true
       → decide_by numbers before next ≡ Prohibited
@@ -147,3 +150,145 @@ module _ (numbers : Rule) (before : Before) (next : Unit) (some : before.is_star
       (lb9 before next) _ (cond-true (is_glued before (as_letter next)) Prohibited _
       (ap (is_glued before) (same-letter next (closing-mark next.class closing))
       ∙ glued-closing closing)))))
+
+-- ---- after a character
+
+-- what the rules ask of the last unit is what they ask of the last character, unless that tells
+-- marks from letters
+module _ (numbers : Numbers) (front back : List ℕ) (c : ℕ) where
+  abbrev form : Rule
+  form = numbers_rule numbers back
+
+  abbrev after : Before
+  after = before_of (text_of (front ++ c ∷ []))
+
+  after-started : after.is_start ≡ false
+  after-started = grind (arith, text_of-push, not-empty)
+
+  after-class : (has : LineBreak → Bool) → has CombiningMark ≡ false → has Zwj ≡ false
+      → has Alphabetic ≡ false
+      → ((class : LineBreak) → takes_no_mark class ≡ false → has class ≡ false)
+      → has after.class ≡ has (class_of c)
+  after-class has of_mark of_zwj of_letter of_base = grind (arith, text_of-push, last-has)
+
+  after-ends : (next : ℕ) → lb4 after (unit_of next) ≡ ends_line c next
+  after-ends next =
+      let end = after-class is_line_end refl refl refl line_end-takes in
+      let return = after-class is_carriage_return refl refl refl return-takes in
+      rw (end, return) refl
+
+  after-takes : takes_no_mark after.class ≡ takes_no_mark (class_of c)
+  after-takes = after-class takes_no_mark refl refl refl (λ class e. e)
+
+  pub must-after : (next : ℕ)
+      → (verdict_by numbers (front ++ c ∷ []) next back ≡ Mandatory) ↔ (ends_line c next ≡ true)
+  must-after next = (
+    λ e. sym (after-ends next) ∙ must-only form after (unit_of next) after-started e,
+    λ e. rw (after-started, after-ends next ∙ e) refl,
+  )
+
+  pub kept-after : (next : ℕ) → ends_line c next ≡ false → takes_no_mark (class_of next) ≡ true
+      → verdict_by numbers (front ++ c ∷ []) next back ≡ Prohibited
+  kept-after next free kept =
+      rw (after-started, after-ends next ∙ free, sym (takes-is (class_of next)) ∙ kept) refl
+
+  pub closing-after : (next : ℕ) → ends_line c next ≡ false
+      → is_zero_width_space (class_past_spaces (text_of (front ++ c ∷ [])).units) ≡ false
+      → is_after_text (class_of next) ≡ true → verdict_by numbers (front ++ c ∷ []) next back ≡ Prohibited
+  closing-after next free past closing =
+      decide-closing form after (unit_of next) after-started (after-ends next ∙ free) past closing
+
+  pub marked-after : (next : ℕ) → takes_no_mark (class_of c) ≡ false
+      → is_mark (class_of next) ≡ true
+      → verdict_by numbers (front ++ c ∷ []) next back ≡ Prohibited
+  marked-after next takes mark =
+      let base : takes_no_mark after.class ≡ false = after-takes ∙ takes in
+      let free : ends_line c next ≡ false = and_left (is_line_end (class_of c)) _
+      (line_end-takes (class_of c) takes) in
+      decide-marked form after (unit_of next) after-started (after-ends next ∙ free)
+      (none-past (text_of (front ++ c ∷ [])).units base)
+      (and_from (not (takes_no_mark after.class)) (is_mark (class_of next)) (ap not base) mark)
+
+-- ---- line feeds, whose class is in the table
+
+feed-class : class_of 0x0A ≡ LineFeed
+unfolding ucd_breaks
+feed-class = refl
+
+return-class : class_of 0x0D ≡ CarriageReturn
+unfolding ucd_breaks
+return-class = refl
+
+feed-ends : (next : ℕ) → ends_line 0x0A next ≡ true
+feed-ends next = rw feed-class refl
+
+return-waits : ends_line 0x0D 0x0A ≡ false
+return-waits = rw (return-class, feed-class) refl
+
+pub feeds-end : (numbers : Numbers) (front back : List ℕ) (next : ℕ)
+    → verdict_by numbers (front ++ 0x0A ∷ []) next back ≡ Mandatory
+feeds-end numbers front back next = (must-after numbers front back 0x0A next).1 (feed-ends next)
+
+pub return-kept : (numbers : Numbers) (front back : List ℕ)
+    → verdict_by numbers (front ++ 0x0D ∷ []) 0x0A back ≡ Prohibited
+return-kept numbers front back =
+    kept-after numbers front back 0x0D 0x0A return-waits (ap takes_no_mark feed-class)
+
+-- ---- what is left of the rules between known classes
+
+all-forbid : (starts joined glued : Bool) → Prohibited
+    ≡ (if starts then Prohibited else if joined then Prohibited
+    else if glued then Prohibited else Prohibited)
+all-forbid starts joined glued = grind (arith, cases_Bool)
+
+none-forbids : (zero quoted closed both : Bool) → Allowed
+    ≡ (if zero then Allowed
+    else if (quoted && false) || (closed && false) || (both && false) then Prohibited
+    else Allowed)
+none-forbids zero quoted closed both = grind (arith, cases_Bool, and-false)
+
+-- LB15 to LB17, before a class of which these rules do not speak
+abbrev unglued : LineBreak → Bool
+unglued past =
+    (is_quotation past && false) || (is_closing past && false)
+    || (breaks_on_both_sides past && false)
+
+-- the same with LB14
+abbrev glued : LineBreak → Bool
+glued past =
+    is_opening past || (is_quotation past && false) || (is_closing past && false)
+    || (breaks_on_both_sides past && false)
+
+none-after : (past : LineBreak) → Allowed
+    ≡ (if is_zero_width_space past then Allowed else if unglued past then Prohibited else Allowed)
+none-after past = grind (arith, none-forbids)
+
+-- nothing but the class of the last unit can forbid that a line ends there
+abbrev pub IsFree : Before → Type 0
+IsFree before =
+    not before.is_start && not before.is_joined && not (is_opening before.past_spaces) ≡ true
+
+both-false : (s j o : Bool) → not s && not j && not o ≡ true
+    → (s ≡ false) × (j ≡ false) × (o ≡ false)
+both-false s j o e = grind (arith, cases_Bool)
+
+-- ---- a letter or a number after another
+
+abbrev pub IsInWord : LineBreak → Type 0
+IsInWord class = (class ≡ Alphabetic) ⊎ ((class ≡ HebrewLetter) ⊎ (class ≡ Numeric))
+
+pub letters-stay : (before : Before) (next : Unit) → IsInWord next.class → IsInWord before.class
+    → is_zero_width_space before.past_spaces ≡ false → Prohibited ≡ decide before next
+letters-stay before next is last h = grind (arith, all-forbid)
+
+-- ---- an ideograph or a syllable after another, a space or the end of a bracket
+
+abbrev pub IsApart : LineBreak → Type 0
+IsApart class = (class ≡ Ideographic) ⊎ ((class ≡ H2) ⊎ (class ≡ H3))
+
+abbrev pub EndsApart : LineBreak → Type 0
+EndsApart class = (class ≡ Space) ⊎ ((class ≡ ClosePunctuation) ⊎ IsApart class)
+
+pub ideographs-part : (before : Before) (next : Unit) → IsApart next.class
+    → EndsApart before.class → IsFree before → Allowed ≡ decide before next
+ideographs-part before next is last h = grind (arith, both-false, none-after)

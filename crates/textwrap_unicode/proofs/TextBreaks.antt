@@ -1,28 +1,31 @@
--- The breaks of a text that the definition computes are those that the rules name.
-use Rattle.textwrap_classes.proofs.Common.{append_assoc, length-append, cases_Bool, ℕ, unit_of}
-use Rattle.textwrap_classes.proofs.Common.{false, length, subst, encode, IsUtf8, Bool, true, List}
-use Rattle.textwrap_classes.proofs.Common.{◌++◌, refl, take, arith, chars, ◌≡◌, inl, inr, ◌∷◌, map}
-use Rattle.textwrap_classes.proofs.Common.{sym, ◌∙◌, ◌≢◌, ◌+◌, [], ap, ◌↔◌, ◌<◌, ◌≤◌}
-use Rattle.textwrap_unicode.proofs.Common.{Numbers, verdict_by, breaks_from, Prohibited, with_unit}
-use Rattle.textwrap_unicode.proofs.Common.{breaks_by, Mandatory, Verdict, is_empty, nothing}
-use Rattle.textwrap_unicode.proofs.Common.{break_at, Allowed, Text}
+-- The breaks of a text that the definition computes are those that the rules name: one list in
+-- order, and what is said of one place.
+use Rattle.textwrap_classes.proofs.Common.{if◌then◌else◌, length-append, append_assoc, cases_Bool}
+use Rattle.textwrap_classes.proofs.Common.{unit_of, IsUtf8, encode, get_or, length, arith, chars, ℕ}
+use Rattle.textwrap_classes.proofs.Common.{false, subst, Bool, List, refl, take, true, ◌++◌, inl}
+use Rattle.textwrap_classes.proofs.Common.{inr, map, sym, ◌+◌, ◌<◌, ◌∙◌, ◌∷◌, ◌≡◌, ◌≢◌, ◌≤◌, [], ap}
+use Rattle.textwrap_unicode.proofs.Common.{numbers_rule, breaks_from, Prohibited, verdict_by, ◌↔◌}
+use Rattle.textwrap_unicode.proofs.Common.{Mandatory, before_of, breaks_by, decide_by, break_at}
+use Rattle.textwrap_unicode.proofs.Common.{Allowed, Numbers, Verdict, nothing}
+use Rattle.textwrap_unicode.specs.Before.{with_unit, is_empty, text_of, Text}
 use Rattle.textwrap_classes.specs.declared.classes.Unit.{Unit}
-use Rattle.textwrap_text.proofs.Common.{encodes-append, encodes-chars, IsCharBoundary-from_take}
-use Rattle.textwrap_text.proofs.Common.{◌⊎◌, map-append, chars-nil}
-use Rattle.std.specs.List.{fold, Contains}
-use Rattle.std.proofs.lemmas.List.{append-nil}
+use Rattle.textwrap_text.proofs.Common.{IsCharBoundary-from_take, encodes-append, encodes-chars}
+use Rattle.textwrap_text.proofs.Common.{map-append, chars-nil}
+use Rattle.std.specs.List.{Contains, fold, All}
+use Rattle.std.proofs.lemmas.List.{append_cancel_left, append-nil}
 use Rattle.std.proofs.lemmas.List.Sums.{fold-append}
 use lib.Utf8.{encodes}
-use Rattle.textwrap_unicode.specs.Before.{text_of}
-use Rattle.textwrap_unicode.specs.Breaks.{IsPlaceBy, IsEnd, EndsBy, IsBreakBy}
-use Rattle.std.proofs.lemmas.List.Elements.{Contains-append_right, Contains-append_cases}
-use Rattle.std.proofs.lemmas.List.Elements.{Contains-append_left}
-use Rattle.std.proofs.lemmas.Str.{length-le-encodes}
+use Rattle.textwrap_unicode.specs.Breaks.{AreBreaksBy, IsBreakBy, IsPlaceBy, EndsBy, IsEnd}
+use Rattle.std.proofs.lemmas.List.Elements.{Contains-append_cases, Contains-append_right}
+use Rattle.std.proofs.lemmas.List.Elements.{Contains-append_left, All-get_or}
+use Rattle.std.proofs.lemmas.Str.{length-le-encodes, encodes_same}
 use Rattle.textwrap_unicode.specs.declared.breaks.LineBreak.{LineBreak}
-use Rattle.textwrap_text.proofs.Texts.{utf8-front}
+use Rattle.textwrap_text.proofs.Texts.{some-bytes, utf8-front}
 use Rattle.textwrap_text.proofs.Lists.Elements.{contains-cases, contains-here, contains-nil}
+use Rattle.textwrap_text.proofs.Lists.Elements.{same-members, order-cons, IsInOrder, order-nil}
 use Rattle.std.specs.Str.{IsCharBoundary}
 use Rattle.std.proofs.Math.Seq.{take-append_seam}
+use Rattle.textwrap_unicode.proofs.CutLemmas.{breaks_after-from, breaks-above}
 
 -- ---- a place among the characters that are still to be read
 
@@ -43,66 +46,9 @@ pub some-units : (c : ℕ) (cs : List ℕ) → is_empty (text_of (c ∷ cs)).uni
 some-units c cs =
     stays (with_unit nothing (unit_of c)) (map unit_of cs) (not-empty nothing (unit_of c))
 
--- ---- one place among the characters ahead
-
-module _ (numbers : Numbers) where
-  -- what is ahead is characters, and then others, and what the rules say of the place between them
-  pub record IsAhead (front ahead : List ℕ) (at : ℕ) (verdict : Verdict) : Type 0 where
-    pub middle : List ℕ
-    pub next : ℕ
-    pub back : List ℕ
-    pub divided : ahead ≡ middle ++ next ∷ back
-    pub offset : at ≡ length (encodes (front ++ middle))
-    pub said : verdict_by numbers (front ++ middle) next back ≡ verdict
-
-  pub here : (front : List ℕ) (c : ℕ) (cs : List ℕ) (at : ℕ) (verdict : Verdict)
-      → at ≡ length (encodes front) → verdict_by numbers front c cs ≡ verdict
-      → IsAhead front (c ∷ cs) at verdict
-  here front c cs at verdict offset said = record {
-    middle = [];
-    next = c;
-    back = cs;
-    divided = refl;
-    offset = rw append-nil offset;
-    said = rw append-nil said;
-  }
-
-  pub later : (front : List ℕ) (c : ℕ) (cs : List ℕ) (at : ℕ) (verdict : Verdict)
-      → IsAhead (front ++ c ∷ []) cs at verdict → IsAhead front (c ∷ cs) at verdict
-  later front c cs at verdict h = grind (arith, append_assoc)
-
-  pub nothing-ahead : (front : List ℕ) (at : ℕ) (verdict : Verdict) → IsAhead front [] at verdict → ⊥
-  nothing-ahead front at verdict h = by h.middle h.divided
-    where
-      by : (middle : List ℕ) → [] ≡ middle ++ h.next ∷ h.back → ⊥
-      by [] e = cc
-      by (m ∷ ms) e = cc
-
-  pub ahead-cases : (front : List ℕ) (c : ℕ) (cs : List ℕ) (at : ℕ) (verdict : Verdict)
-      → IsAhead front (c ∷ cs) at verdict
-      → ((at ≡ length (encodes front)) × (verdict_by numbers front c cs ≡ verdict))
-      ⊎ IsAhead (front ++ c ∷ []) cs at verdict
-  ahead-cases front c cs at verdict h = by h.middle h.divided h.offset h.said
-    where
-      by : (middle : List ℕ) → c ∷ cs ≡ middle ++ h.next ∷ h.back
-          → at ≡ length (encodes (front ++ middle))
-          → verdict_by numbers (front ++ middle) h.next h.back ≡ verdict
-          → ((at ≡ length (encodes front)) × (verdict_by numbers front c cs ≡ verdict))
-          ⊎ IsAhead (front ++ c ∷ []) cs at verdict
-      by [] e offset said = grind (arith, append-nil, inl)
-      by (m ∷ ms) e offset said = grind (arith, append_assoc, inr)
-
 -- ---- the breaks that the definition computes are those that the rules name
 
 module _ (numbers : Numbers) where
-  -- ---- the breaks from a place on
-
-  -- a line must end here, or may, among the characters ahead or at their end
-  abbrev pub EndsAhead : List ℕ → List ℕ → ℕ → Bool → Type 0
-  EndsAhead front ahead at true = IsAhead numbers front ahead at Mandatory
-      ⊎ ((front ++ ahead ≢ []) × (at ≡ length (encodes (front ++ ahead))))
-  EndsAhead front ahead at false = IsAhead numbers front ahead at Allowed
-
   length-push : (front : List ℕ) (c : ℕ)
       → length (encodes (front ++ c ∷ [])) ≡ length (encodes front) + length (encode c)
   length-push front c = grind (arith, encodes-append, length-append, append-nil)
@@ -114,133 +60,102 @@ module _ (numbers : Numbers) where
       (length (encodes front) + length (encode c)) cs
   breaks-after front c cs = grind (arith, text_of-push, length-push)
 
-  only : (x y : LineBreak) → Contains (x ∷ []) y → x ≡ y
-  only x y h = grind (arith, contains-cases, contains-nil)
-
-  ends-same : (front ahead : List ℕ) (x y : LineBreak) → x ≡ y
-      → EndsAhead front ahead x.at x.is_mandatory → EndsAhead front ahead y.at y.is_mandatory
-  ends-same front ahead x y e h =
-      subst (λ place. EndsAhead front ahead place.at place.is_mandatory) e h
-
-  ends-here : (front : List ℕ) (c : ℕ) (cs : List ℕ) (verdict : Verdict) (place : LineBreak)
-      → verdict_by numbers front c cs ≡ verdict
-      → Contains (break_at verdict (length (encodes front))) place
-      → EndsAhead front (c ∷ cs) place.at place.is_mandatory
-  ends-here front c cs Mandatory place said h =
-      ends-same front (c ∷ cs) _ place (only _ place h) (inl (here numbers front c cs _ Mandatory refl said))
-  ends-here front c cs Allowed place said h =
-      ends-same front (c ∷ cs) _ place (only _ place h) (here numbers front c cs _ Allowed refl said)
-  ends-here front c cs Prohibited place said h = absurd (contains-nil place h)
-
-  some-items : (front : List ℕ) (c : ℕ) (cs : List ℕ) → front ++ c ∷ cs ≢ []
-  some-items [] c cs = λ e. cc
-  some-items (f ∷ fs) c cs = λ e. cc
-
-  ends-later : (front : List ℕ) (c : ℕ) (cs : List ℕ) (at : ℕ) (is_mandatory : Bool)
-      → EndsAhead (front ++ c ∷ []) cs at is_mandatory → EndsAhead front (c ∷ cs) at is_mandatory
-  ends-later front c cs at false h = later numbers front c cs at Allowed h
-  ends-later front c cs at true (inl h) = inl (later numbers front c cs at Mandatory h)
-  ends-later front c cs at true (inr h) = inr (some-items front c cs, rw append_assoc at h.1)
-
-  -- each computed break is one that the rules say
-  pub computed-said : (front cs : List ℕ) (place : LineBreak)
-      → Contains (breaks_from numbers (text_of front) (length (encodes front)) cs) place
-      → EndsAhead front cs place.at place.is_mandatory
-  computed-said [] [] place h = absurd (contains-nil place h)
-  computed-said (f ∷ fs) [] place h =
-      ends-same (f ∷ fs) [] _ place (only _ place (rw (some-units f fs) at h))
-      (inr (some-items [] f (fs ++ []), ap (λ cs. length (encodes cs)) (sym (append-nil (f ∷ fs)))))
-  computed-said front (c ∷ cs) place h =
-      elim (Contains-append_cases _ _ place h) [
-        | inl first ↦ ends-here front c cs (verdict_by numbers front c cs) place refl first
-        | inr rest ↦ ends-later front c cs place.at place.is_mandatory
-            (computed-said (front ++ c ∷ []) cs place
-            (subst (λ breaks. Contains breaks place) (sym (breaks-after front c cs)) rest))
-      ]
-
   -- a break after the next character is among those from here
   contains-after : (front : List ℕ) (c : ℕ) (cs : List ℕ) (place : LineBreak)
-      → Contains (breaks_from numbers (text_of (front ++ c ∷ [])) (length (encodes (front ++ c ∷ []))) cs)
-      place
+      → Contains (breaks_from numbers (text_of (front ++ c ∷ []))
+      (length (encodes (front ++ c ∷ []))) cs) place
       → Contains (breaks_from numbers (text_of front) (length (encodes front)) (c ∷ cs)) place
   contains-after front c cs place h = Contains-append_right
       (break_at (verdict_by numbers front c cs) (length (encodes front))) _ place
       (subst (λ breaks. Contains breaks place) (breaks-after front c cs) h)
 
   contains-before : (verdict : Verdict) (front : List ℕ) (c : ℕ) (cs : List ℕ) (place : LineBreak)
-      → verdict_by numbers front c cs ≡ verdict → break_at verdict (length (encodes front)) ≡ place ∷ []
+      → verdict_by numbers front c cs ≡ verdict
+      → break_at verdict (length (encodes front)) ≡ place ∷ []
       → Contains (breaks_from numbers (text_of front) (length (encodes front)) (c ∷ cs)) place
   contains-before verdict front c cs place said is = grind (arith, Contains-append_left)
 
-  said-ahead : (front cs : List ℕ) (verdict : Verdict) (place : LineBreak)
-      → break_at verdict place.at ≡ place ∷ [] → IsAhead numbers front cs place.at verdict
-      → Contains (breaks_from numbers (text_of front) (length (encodes front)) cs) place
-  said-ahead front [] verdict place is h = absurd (nothing-ahead numbers front place.at verdict h)
-  said-ahead front (c ∷ cs) verdict place is h =
-      elim (ahead-cases numbers front c cs place.at verdict h) [
-        | inl first ↦ contains-before verdict front c cs place first.1
-            (ap (break_at verdict) (sym first.0) ∙ is)
-        | inr rest ↦ contains-after front c cs place
-            (said-ahead (front ++ c ∷ []) cs verdict place is rest)
-      ]
+  contains-later : (front middle back : List ℕ) (next : ℕ) (verdict : Verdict) (place : LineBreak)
+      → verdict_by numbers (front ++ middle) next back ≡ verdict
+      → break_at verdict (length (encodes (front ++ middle))) ≡ place ∷ []
+      → Contains (breaks_from numbers (text_of front) (length (encodes front))
+      (middle ++ next ∷ back)) place
+  contains-later front [] back next verdict place said is =
+      contains-before verdict front next back place (rw append-nil at said) (rw append-nil at is)
+  contains-later front (m ∷ ms) back next verdict place said is =
+      contains-after front m (ms ++ next ∷ back) place
+      (contains-later (front ++ m ∷ []) ms back next verdict place
+      (rw append_assoc said) (rw append_assoc is))
 
-  said-end : (front cs : List ℕ) (place : LineBreak) → front ++ cs ≢ []
-      → place ≡ record { at = length (encodes (front ++ cs)); is_mandatory = true }
-      → Contains (breaks_from numbers (text_of front) (length (encodes front)) cs) place
-  said-end [] [] place some is = absurd (some refl)
-  said-end (f ∷ fs) [] place some is =
-      rw (some-units f fs) (contains-here _ place [] (grind (arith, append-nil)))
-  said-end front (c ∷ cs) place some is =
-      let moved = append_assoc front (c ∷ []) cs in
-      contains-after front c cs place (said-end (front ++ c ∷ []) cs place
-      (λ none. some (sym moved ∙ none))
-      (is ∙ ap (λ ls. record { at = length (encodes ls); is_mandatory = true }) (sym moved)))
-
-  -- and each that they say is computed
-  pub said-computed : (front cs : List ℕ) (at : ℕ) (is_mandatory : Bool)
-      → EndsAhead front cs at is_mandatory
-      → Contains (breaks_from numbers (text_of front) (length (encodes front)) cs)
-      (record { at = at; is_mandatory = is_mandatory })
-  said-computed front cs at false h = said-ahead front cs Allowed _ refl h
-  said-computed front cs at true (inl h) = said-ahead front cs Mandatory _ refl h
-  said-computed front cs at true (inr h) =
-      said-end front cs _ h.0 (ap (λ n. record { at = n; is_mandatory = true }) h.1)
-
--- ---- the whole text
+only : (x y : LineBreak) → Contains (x ∷ []) y → x ≡ y
+only x y h = grind (arith, contains-cases, contains-nil)
 
 module _ (numbers : Numbers) (text : List ℕ) (utf8 : IsUtf8 text) where
-  place-ahead : (at : ℕ) (verdict : Verdict) → IsPlaceBy numbers text at verdict
-      → IsAhead numbers [] (chars text) at verdict
-  place-ahead at verdict h = grind arith
+  pub place-here : (front : List ℕ) (c : ℕ) (cs : List ℕ) (verdict : Verdict)
+      → chars text ≡ front ++ c ∷ cs → verdict_by numbers front c cs ≡ verdict
+      → IsPlaceBy numbers text (length (encodes front)) verdict
+  place-here front c cs verdict divided said =
+      record { front = front; next = c; back = cs; divided = divided; offset = refl; said = said }
 
-  ahead-place : (at : ℕ) (verdict : Verdict) → IsAhead numbers [] (chars text) at verdict
-      → IsPlaceBy numbers text at verdict
-  ahead-place at verdict h = grind arith
+  ends-here : (front : List ℕ) (c : ℕ) (cs : List ℕ) (verdict : Verdict) (place : LineBreak)
+      → chars text ≡ front ++ c ∷ cs → verdict_by numbers front c cs ≡ verdict
+      → Contains (break_at verdict (length (encodes front))) place → IsBreakBy numbers text place
+  ends-here front c cs Mandatory place divided said h = subst (IsBreakBy numbers text)
+      (only _ place h) (inl (place-here front c cs Mandatory divided said))
+  ends-here front c cs Allowed place divided said h = subst (IsBreakBy numbers text)
+      (only _ place h) (place-here front c cs Allowed divided said)
+  ends-here front c cs Prohibited place divided said h = absurd (contains-nil place h)
 
   no-chars : chars text ≡ [] → text ≡ []
   no-chars none = sym (encodes-chars text utf8) ∙ ap encodes none
 
-  to-ahead : (at : ℕ) (is_mandatory : Bool) → EndsBy numbers text at is_mandatory
-      → EndsAhead numbers [] (chars text) at is_mandatory
-  to-ahead at false h = place-ahead at Allowed h
-  to-ahead at true (inl h) = inl (place-ahead at Mandatory h)
-  to-ahead at true (inr h) =
-      inr (λ none. h.0 (no-chars none), h.1 ∙ ap length (sym (encodes-chars text utf8)))
+  -- each computed break is one that the rules say
+  computed-said : (front cs : List ℕ) (place : LineBreak) → chars text ≡ front ++ cs
+      → Contains (breaks_from numbers (text_of front) (length (encodes front)) cs) place
+      → IsBreakBy numbers text place
+  computed-said [] [] place whole h = absurd (contains-nil place h)
+  computed-said (f ∷ fs) [] place whole h =
+      let all : f ∷ fs ≡ chars text = sym (whole ∙ append-nil (f ∷ fs)) in
+      subst (IsBreakBy numbers text) (only _ place (rw (some-units f fs) at h)) (inr (
+        λ none. let e : f ∷ fs ≡ [] = all ∙ ap chars none ∙ chars-nil in cc,
+        ap (λ cs. length (encodes cs)) all ∙ ap length (encodes-chars text utf8),
+      ))
+  computed-said front (c ∷ cs) place whole h = elim (Contains-append_cases _ _ place h) [
+    | inl first ↦ ends-here front c cs (verdict_by numbers front c cs) place whole refl first
+    | inr rest ↦ computed-said (front ++ c ∷ []) cs place
+        (whole ∙ sym (append_assoc front (c ∷ []) cs))
+        (subst (λ breaks. Contains breaks place) (sym (breaks-after numbers front c cs)) rest)
+  ]
 
-  from-ahead : (at : ℕ) (is_mandatory : Bool) → EndsAhead numbers [] (chars text) at is_mandatory
-      → EndsBy numbers text at is_mandatory
-  from-ahead at false h = ahead-place at Allowed h
-  from-ahead at true (inl h) = inl (ahead-place at Mandatory h)
-  from-ahead at true (inr h) =
-      inr (λ none. h.0 (ap chars none ∙ chars-nil), h.1 ∙ ap length (encodes-chars text utf8))
+  -- and each that they say is computed
+  said-place : (verdict : Verdict) (place : LineBreak) → break_at verdict place.at ≡ place ∷ []
+      → IsPlaceBy numbers text place.at verdict → Contains (breaks_by numbers text) place
+  said-place verdict place is h =
+      subst (λ cs. Contains (breaks_from numbers nothing 0 cs) place) (sym h.divided)
+      (contains-later numbers [] h.front h.back h.next verdict place h.said
+      (ap (break_at verdict) (sym h.offset) ∙ is))
+
+  said-end : (front cs : List ℕ) → chars text ≡ front ++ cs → text ≢ []
+      → Contains (breaks_from numbers (text_of front) (length (encodes front)) cs)
+      (record { at = length text; is_mandatory = true })
+  said-end [] [] whole some = absurd (some (no-chars whole))
+  said-end (f ∷ fs) [] whole some =
+      let end : length text ≡ length (encodes (f ∷ fs)) = ap length (sym (encodes-chars text utf8)
+      ∙ ap encodes (whole ∙ append-nil (f ∷ fs))) in
+      rw (some-units f fs, end) (contains-here _ _ [] refl)
+  said-end front (c ∷ cs) whole some = contains-after numbers front c cs _
+      (said-end (front ++ c ∷ []) cs (whole ∙ sym (append_assoc front (c ∷ []) cs)) some)
+
+  said-computed : (at : ℕ) (is_mandatory : Bool) → EndsBy numbers text at is_mandatory
+      → Contains (breaks_by numbers text) (record { at = at; is_mandatory = is_mandatory })
+  said-computed at false h = said-place Allowed _ refl h
+  said-computed at true (inl h) = said-place Mandatory _ refl h
+  said-computed at true (inr h) = rw h.1 (said-end [] (chars text) refl h.0)
 
   -- the computed list has the breaks of the text, and no others
   pub contains-break : (place : LineBreak) → Contains (breaks_by numbers text) place ↔ IsBreakBy numbers text place
-  contains-break place = (
-    λ h. from-ahead place.at place.is_mandatory (computed-said numbers [] (chars text) place h),
-    λ h. said-computed numbers [] (chars text) place.at place.is_mandatory
-        (to-ahead place.at place.is_mandatory h),
-  )
+  contains-break place =
+      (computed-said [] (chars text) place refl, said-computed place.at place.is_mandatory)
 
 -- ---- where they are
 
@@ -250,9 +165,9 @@ some-front : (numbers : Numbers) (front : List ℕ) (next : ℕ) (back : List �
 some-front numbers [] next back said = absurd (said refl)
 some-front numbers (f ∷ fs) next back said = omega (arith, length-le-encodes (f ∷ fs))
 
-some-bytes : (text : List ℕ) (at : ℕ) → text ≢ [] → at ≡ length text → 0 < at
-some-bytes [] at some e = absurd (some refl)
-some-bytes (b ∷ bs) at some e = omega (arith, e)
+some-start : (text : List ℕ) (at : ℕ) → text ≢ [] → at ≡ length text → 0 < at
+some-start [] at some e = absurd (some refl)
+some-start (b ∷ bs) at some e = omega (arith, e)
 
 module _ (text : List ℕ) (utf8 : IsUtf8 text) (front back : List ℕ) (next : ℕ)
     (divided : chars text ≡ front ++ next ∷ back) where
@@ -282,14 +197,11 @@ module _ (numbers : Numbers) (text : List ℕ) (utf8 : IsUtf8 text) where
         within,
       )
 
-  end-within : (at : ℕ) → IsEnd text at → IsCharBoundary text at × (0 < at) × (at ≤ length text)
-  end-within at h = grind (arith, some-bytes)
-
   break-within : (at : ℕ) (is_mandatory : Bool) → EndsBy numbers text at is_mandatory
       → IsCharBoundary text at × (0 < at) × (at ≤ length text)
   break-within at false h = place-within at Allowed (λ e. cc) h
   break-within at true (inl h) = place-within at Mandatory (λ e. cc) h
-  break-within at true (inr h) = end-within at h
+  break-within at true (inr h) = grind (arith, some-start text at h.0 h.1)
 
   pub contains-within : (place : LineBreak) → Contains (breaks_by numbers text) place
       → IsCharBoundary text place.at × (0 < place.at) × (place.at ≤ length text)
@@ -299,3 +211,97 @@ module _ (numbers : Numbers) (text : List ℕ) (utf8 : IsUtf8 text) where
   pub contains-end : text ≢ []
       → Contains (breaks_by numbers text) (record { at = length text; is_mandatory = true })
   contains-end some = (contains-break numbers text utf8 _).1 (inr (some, refl))
+
+-- ---- their order
+
+abbrev offset_of : LineBreak → ℕ
+offset_of place = place.at
+
+-- no break is before the place that they are computed from
+from-there : (numbers : Numbers) (text : Text) (at : ℕ) (cs : List ℕ) (i : ℕ) (none : LineBreak)
+    → i < length (breaks_from numbers text at cs) → at ≤ (get_or (breaks_from numbers text at cs) i none).at
+from-there numbers text at cs i none within = All-get_or (λ b. at ≤ b.at) _ i none within
+    (subst (All (λ b. at ≤ b.at)) (breaks_after-from numbers text at cs)
+    (breaks-above numbers (before_of text) at cs))
+
+order-end : (at : ℕ) (is_start : Bool) → IsInOrder offset_of
+    (if is_start then [] else record { at = at; is_mandatory = true } ∷ [])
+order-end at true = order-nil offset_of
+order-end at false = grind (arith, order-cons)
+
+order-place : (at : ℕ) (verdict : Verdict) (rest : List LineBreak)
+    → ((i : ℕ) (none : LineBreak) → i < length rest → at < (get_or rest i none).at)
+    → IsInOrder offset_of rest
+    → IsInOrder offset_of (break_at verdict at ++ rest)
+order-place at Mandatory rest beyond order = order-cons offset_of _ rest beyond order
+order-place at Allowed rest beyond order = order-cons offset_of _ rest beyond order
+order-place at Prohibited rest beyond order = order
+
+pub breaks-in-order : (numbers : Numbers) (text : Text) (at : ℕ) (cs : List ℕ)
+    → IsInOrder offset_of (breaks_from numbers text at cs)
+breaks-in-order numbers text at [] = order-end at (is_empty text.units)
+breaks-in-order numbers text at (c ∷ cs) =
+    order-place at (decide_by (numbers_rule numbers cs) (before_of text) (unit_of c)) _
+    (λ i none within. omega (
+      arith,
+      some-bytes c,
+      from-there numbers (with_unit text (unit_of c)) (at + length (encode c)) cs i none within,
+    ))
+    (breaks-in-order numbers (with_unit text (unit_of c)) (at + length (encode c)) cs)
+
+-- the breaks of a text are the computed ones, and no others
+pub breaks-unique : (numbers : Numbers) (text : List ℕ) (breaks : List LineBreak) → IsUtf8 text
+    → AreBreaksBy numbers text breaks ↔ (breaks ≡ breaks_by numbers text)
+breaks-unique numbers text breaks utf8 = (
+  λ h. same-members offset_of breaks (breaks_by numbers text) h.in_order computed.in_order
+      (λ place inside. (computed.all place).1 ((h.all place).0 inside))
+      (λ place inside. (h.all place).1 ((computed.all place).0 inside)),
+  λ e. subst (AreBreaksBy numbers text) (sym e) computed,
+)
+  where
+    computed : AreBreaksBy numbers text (breaks_by numbers text)
+    computed = record {
+      in_order = breaks-in-order numbers nothing 0 (chars text);
+      all = contains-break numbers text utf8;
+    }
+
+-- ---- what is said of one place of a text
+
+module _ (numbers : Numbers) (text front back : List ℕ) (next : ℕ) (utf8 : IsUtf8 text)
+    (divided : chars text ≡ front ++ next ∷ back) where
+  here-said : (verdict : Verdict) → IsPlaceBy numbers text (length (encodes front)) verdict
+      → verdict_by numbers front next back ≡ verdict
+  here-said verdict h =
+      let same : h.front ≡ front = encodes_same h.front front
+      (sym (before-place text utf8 h.front h.back h.next h.divided)
+      ∙ ap (λ n. take n text) (sym h.offset)
+      ∙ before-place text utf8 front back next divided) in
+      let rest : h.next ∷ h.back ≡ next ∷ back = append_cancel_left front _ _
+      (ap (λ cs. cs ++ h.next ∷ h.back) (sym same) ∙ sym h.divided ∙ divided) in
+      let first : h.next ≡ next = cc in
+      let later : h.back ≡ back = cc in
+      grind (arith, same, first, later, h.said)
+
+  here-inside : IsEnd text (length (encodes front)) → ⊥
+  here-inside h =
+      let parts = ap length (spelled text utf8 front back next divided) in
+      let size = length-le-encodes (next ∷ back) in
+      omega (arith, h.1, parts, length-append (encodes front) (encodes (next ∷ back)), size)
+
+  pub here-decides : (is_mandatory : Bool)
+      → Contains (breaks_by numbers text)
+      (record { at = length (encodes front); is_mandatory = is_mandatory })
+      ↔ (verdict_by numbers front next back ≡ (if is_mandatory then Mandatory else Allowed))
+  here-decides false =
+      let both = contains-break numbers text utf8 _ in (
+        λ inside. here-said Allowed (both.0 inside),
+        λ said. both.1 (place-here numbers text utf8 front next back Allowed divided said),
+      )
+  here-decides true =
+      let both = contains-break numbers text utf8 _ in (
+        λ inside. elim (both.0 inside) [
+          | inl h ↦ here-said Mandatory h
+          | inr h ↦ absurd (here-inside h)
+        ],
+        λ said. both.1 (inl (place-here numbers text utf8 front next back Mandatory divided said)),
+      )

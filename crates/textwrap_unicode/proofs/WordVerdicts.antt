@@ -1,30 +1,27 @@
 -- What the rules say behind letters and ideographs, over which a line is read all at once.
-use Rattle.textwrap_classes.proofs.Common.{ideograph_places, slice_index_or, if◌then◌else◌, add-one}
-use Rattle.textwrap_classes.proofs.Common.{IsIdeographAt, append_assoc, append-nil, cases_Bool, ◌≡◌}
-use Rattle.textwrap_classes.proofs.Common.{nat_tests, is_space, class_of, unit_of, get_or, length}
-use Rattle.textwrap_classes.proofs.Common.{encode, false, subst, arith, chars, zero, ◌&&◌, List, []}
-use Rattle.textwrap_classes.proofs.Common.{◌++◌, refl, ◌==◌, ◌||◌, Bool, true, drop, suc, ◌+◌, ◌<◌}
-use Rattle.textwrap_classes.proofs.Common.{◌∷◌, sym, ◌∙◌, ◌≤◌, ◌*◌, ap, ℕ}
-use Rattle.textwrap_unicode.proofs.Common.{is_behind_blank, is_behind_sign, IsPlainLetter, cut_here}
-use Rattle.textwrap_unicode.proofs.Common.{is_any_hyphen, numbers_rule, word_starts, IsWordByte}
-use Rattle.textwrap_unicode.proofs.Common.{decide_by, Numbers, ByPairs, may_end, Before, and}
+use Rattle.textwrap_classes.proofs.Common.{ideograph_places, IsIdeographAt, if◌then◌else◌, class_of}
+use Rattle.textwrap_classes.proofs.Common.{append_assoc, append-nil, cases_Bool, nat_tests, add-one}
+use Rattle.textwrap_classes.proofs.Common.{is_space, unit_of, encode, get_or, length, arith, chars}
+use Rattle.textwrap_classes.proofs.Common.{false, subst, Bool, List, drop, refl, true, zero, ◌&&◌}
+use Rattle.textwrap_classes.proofs.Common.{◌++◌, ◌==◌, ◌||◌, suc, sym, ◌*◌, ◌+◌, ◌<◌, ◌∙◌, ◌∷◌, ◌≡◌}
+use Rattle.textwrap_classes.proofs.Common.{◌≤◌, [], ap, ℕ}
+use Rattle.textwrap_unicode.specs.WordStarts.{is_behind_blank, is_behind_sign, IsPlainLetter}
+use Rattle.textwrap_unicode.specs.WordStarts.{plain_letter, IsWordClass, word_starts, IsWordByte}
+use Rattle.textwrap_unicode.proofs.Common.{is_any_hyphen, numbers_rule, Prohibited, and_words, and}
+use Rattle.textwrap_unicode.proofs.Common.{decide_by, cut_here, ByPairs, Numbers, may_end, Before}
 use Rattle.unicode.specs.declared.properties.LineBreak.TheVariants.{InfixNumeric, Ideographic}
-use Rattle.unicode.specs.declared.properties.LineBreak.TheVariants.{Alphabetic, Ambiguous, Space}
+use Rattle.unicode.specs.declared.properties.LineBreak.TheVariants.{Alphabetic, Space}
 use Rattle.unicode.specs.declared.properties.LineBreak.{LineBreak}
-use Rattle.textwrap_classes.specs.declared.ascii.TheConstants.{CLASSES}
 use Rattle.textwrap_classes.specs.declared.classes.Unit.{Unit}
-use Rattle.textwrap_text.proofs.Common.{length-encode, visible_in, drop_more, drop-drop, add-zero}
+use Rattle.textwrap_text.proofs.Common.{length-encode, visible_in, drop-drop, drop_more, add-zero}
 use Rattle.textwrap_text.proofs.Common.{eqb}
 use Rattle.textwrap_classes.specs.ClassSets.{is_letter, is_infix}
-use Rattle.textwrap_unicode.specs.WordStarts.{IsWordClass}
 use Rattle.textwrap_unicode.specs.declared.numbers.Numbers.TheVariants.{ByExpression}
-use Rattle.textwrap_unicode.specs.BreaksLeft.{and_words}
-use Rattle.textwrap_unicode.proofs.BreakLemmas.{in_word}
-use Rattle.textwrap_classes.proofs.ClassLemmas.{ascii-unit}
+use Rattle.textwrap_classes.proofs.ClassLemmas.{ascii-class, ascii-unit}
 use Rattle.std.proofs.lemmas.Str.{encode_ascii}
 use Rattle.textwrap_text.proofs.Units.Reading.{plain-step}
-use Rattle.textwrap_text.specs.declared.escapes.State.TheVariants.{Text}
 use Rattle.textwrap_text.specs.declared.escapes.State.{State}
+use Rattle.textwrap_text.specs.declared.escapes.State.TheVariants.{Text}
 use Rattle.textwrap_unicode.proofs.CutLemmas.{IsCutting-step, IsCutting}
 use Rattle.std.specs.Char.{len_utf8}
 use Rattle.textwrap_classes.specs.Ideographs.{IsCommonIdeograph, wide_ideograph}
@@ -73,6 +70,31 @@ not-same : (c d : ℕ) → is_of_word (class_of c) ≡ true → is_of_word (clas
     → (c == d) ≡ false
 not-same c d word other = grind (arith, nat_tests)
 
+-- ---- letters of a word
+
+-- a letter stands there, and nothing else that a rule asks for
+abbrev pub in_word : Before
+in_word = record {
+  is_start = false;
+  class = Alphabetic;
+  past_spaces = Alphabetic;
+  follows_hebrew = false;
+  is_half_flag = false;
+  is_wide = false;
+  is_unassigned_pictograph = false;
+  is_joined = false;
+  is_in_number = false;
+  is_past_number = false;
+}
+
+-- a letter more changes nothing
+pub letter-step : (numbers : Numbers) (back : List ℕ) (before : Before) (unit : Unit)
+    → before ≡ in_word → unit ≡ plain_letter
+    → (decide_by (numbers_rule numbers back) before unit ≡ Prohibited) × (and before unit ≡ before)
+letter-step ByPairs back before unit in_word_is letter_is = rw (in_word_is, letter_is) (refl, refl)
+letter-step ByExpression back before unit in_word_is letter_is =
+    rw (in_word_is, letter_is) (refl, refl)
+
 -- ---- what the rules say
 
 -- behind a letter of a word and what follows it
@@ -105,16 +127,13 @@ said numbers back blank sign class is =
 of-word : (class : LineBreak) → IsWordClass class → is_of_word class ≡ true
 of-word class is = grind arith
 
-class-at : (d : ℕ) → d < 128 → slice_index_or CLASSES d Ambiguous ≡ class_of d
-class-at d below = ap (λ u. u.class) (ascii-unit d below)
-
 pub no-escape : (c : ℕ) → IsWordByte c → eqb c 27 ≡ false
 no-escape c word =
     not-same c 27 (of-word (class_of c) word.class)
-    (ap is_of_word (sym (class-at 27 (omega arith))))
+    (ap is_of_word (sym (ascii-class 27 (omega arith))))
 
 pub no-hyphen : (c : ℕ) → IsWordByte c → is_any_hyphen c ≡ false
-no-hyphen c word = grind (arith, not-same, of-word, class-at, nat_tests)
+no-hyphen c word = grind (arith, not-same, of-word, ascii-class, nat_tests)
 
 -- ---- letters, blanks and signs behind a letter of a word, over which a line is read all at
 -- once

@@ -1,19 +1,18 @@
-use Rattle.textwrap_classes.proofs.Common.{append-nil, true≢false, read-next, length, subst, ◌++◌}
-use Rattle.textwrap_classes.proofs.Common.{drop, refl, ◌≡◌, ◌+◌, ◌∙◌, sym, ap}
-use Rattle.textwrap_unicode.proofs.Common.{breaks_by, may_end, and}
+use Rattle.textwrap_classes.proofs.Common.{append-nil, true≢false, read-next, length, subst, drop}
+use Rattle.textwrap_classes.proofs.Common.{refl, ◌++◌, sym, ◌+◌, ◌∙◌, ◌≡◌, ap}
+use Rattle.textwrap_unicode.proofs.Common.{offsets_of, breaks_by, may_end, and}
 use Rattle.std.specs.Prelude.{encode_utf8}
 use Rattle.std.specs.Str.Iter.{chars_rest}
 use Rattle.textwrap_words.specs.Cuts.{AreInnerCuts}
 use Rattle.textwrap_text.specs.Units.{stripped}
 use Rattle.textwrap_text.specs.declared.escapes.State.TheVariants.{Text}
-use Rattle.textwrap_unicode.specs.Cuts.{offsets_of}
 use Rattle.textwrap_unicode.proofs.CutLemmas.{IsCutting-start, IsCutting-step, IsCutting-end}
 use Rattle.textwrap_unicode.proofs.CutLemmas.{IsCutting}
 use Rattle.textwrap_words.proofs.Word.Offsets.{cuts_at-AreInnerCuts}
 use Rattle.textwrap_unicode.proofs.WordVerdicts.{ideographs-passed, words-passed}
 use Rattle.textwrap_unicode.proofs.cuts.find_cuts.Goals.{then-is_cut+in_ok-push, in_default-matches}
-use Rattle.textwrap_unicode.proofs.cuts.find_cuts.Goals.{Joined-is_visible, then-is_visible}
-use Rattle.textwrap_unicode.proofs.cuts.find_cuts.Goals.{else-is_visible, else-is_cut, In-Some}
+use Rattle.textwrap_unicode.proofs.cuts.find_cuts.Goals.{Joined-is_visible, else-is_visible}
+use Rattle.textwrap_unicode.proofs.cuts.find_cuts.Goals.{then-is_visible, else-is_cut, In-Some}
 use Rattle.textwrap_unicode.proofs.cuts.find_cuts.Goals.{in-Text}
 use Rattle.textwrap_unicode.proofs.cuts.find_cuts.Goals as goal
 

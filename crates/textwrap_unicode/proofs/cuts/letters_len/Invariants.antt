@@ -1,5 +1,5 @@
-use Rattle.textwrap_classes.proofs.Common.{◌≡◌, true, ◌+◌, ◌-◌, length, slice_index, ℕ, ◌<◌, ◌≤◌}
-use Rattle.textwrap_unicode.proofs.Common.{IsPlainLetter}
+use Rattle.textwrap_classes.proofs.Common.{slice_index, length, true, ◌+◌, ◌-◌, ◌<◌, ◌≡◌, ◌≤◌, ℕ}
+use Rattle.textwrap_unicode.specs.WordStarts.{IsPlainLetter}
 use Rattle.textwrap_unicode.proofs.cuts.letters_len.Given as goal
 
 abbrev pub invariant-loop-len : goal.invariant-loop-len

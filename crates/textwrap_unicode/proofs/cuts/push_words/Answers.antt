@@ -1,14 +1,14 @@
-use Rattle.textwrap_classes.proofs.Common.{if◌then◌else◌, cases_lt, ℕ, append_assoc, slice_index}
-use Rattle.textwrap_classes.proofs.Common.{◌≡◌, add-one, append-nil, is_space, class_of, ◌++◌, ◌+◌}
-use Rattle.textwrap_classes.proofs.Common.{◌||◌, Bool, true, false, cases_Bool, subst, arith, ◌-◌}
-use Rattle.textwrap_classes.proofs.Common.{◌<◌, inl, inr, [], ◌∷◌, sym, ap, ◌∙◌}
-use Rattle.textwrap_unicode.proofs.Common.{is_behind_blank, is_behind_sign, IsPlainLetter}
-use Rattle.textwrap_unicode.proofs.Common.{word_starts, IsWordByte}
+use Rattle.textwrap_classes.proofs.Common.{if◌then◌else◌, append_assoc, slice_index, append-nil, []}
+use Rattle.textwrap_classes.proofs.Common.{cases_Bool, cases_lt, class_of, is_space, add-one, arith}
+use Rattle.textwrap_classes.proofs.Common.{false, subst, Bool, true, ◌++◌, ◌||◌, inl, inr, sym, ◌+◌}
+use Rattle.textwrap_classes.proofs.Common.{◌-◌, ◌<◌, ◌∙◌, ◌∷◌, ◌≡◌, ap, ℕ}
+use Rattle.textwrap_unicode.specs.WordStarts.{is_behind_blank, is_behind_sign, IsPlainLetter}
+use Rattle.textwrap_unicode.specs.WordStarts.{word_starts, IsWordByte}
 use Rattle.textwrap_text.proofs.Common.{cases_eq}
-use Rattle.textwrap_classes.specs.ClassSets.{is_infix, is_letter}
+use Rattle.textwrap_classes.specs.ClassSets.{is_letter, is_infix}
 use Rattle.textwrap_unicode.proofs.WordVerdicts.{letters-same}
-use Rattle.textwrap_unicode.proofs.cuts.push_words.Goals as goal
 use Rattle.textwrap_unicode.proofs.cuts.push_words.Goals.{then-is_start+in_ok-push, else-is_start}
+use Rattle.textwrap_unicode.proofs.cuts.push_words.Goals as goal
 
 pub loop-len-init : goal.loop-len-init
 loop-len-init c = grind (arith, append-nil)

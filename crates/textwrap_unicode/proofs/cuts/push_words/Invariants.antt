@@ -1,5 +1,6 @@
-use Rattle.textwrap_classes.proofs.Common.{slice_index, ◌≡◌, ℕ, ◌++◌, ◌-◌, ◌<◌, ◌≤◌, length}
-use Rattle.textwrap_unicode.proofs.Common.{IsWordByte, is_behind_blank, is_behind_sign, word_starts}
+use Rattle.textwrap_classes.proofs.Common.{slice_index, length, ◌++◌, ◌-◌, ◌<◌, ◌≡◌, ◌≤◌, ℕ}
+use Rattle.textwrap_unicode.specs.WordStarts.{is_behind_blank, is_behind_sign, word_starts}
+use Rattle.textwrap_unicode.specs.WordStarts.{IsWordByte}
 use Rattle.textwrap_unicode.proofs.cuts.push_words.Given as goal
 
 abbrev pub invariant-loop-len : goal.invariant-loop-len

@@ -1,5 +1,5 @@
 use Rattle.textwrap_unicode.proofs.laws.lines_must_end.Goals as goal
-use Rattle.textwrap_unicode.proofs.DecideLemmas.{feeds-end, must-after}
+use Rattle.textwrap_unicode.proofs.RuleLemmas.{feeds-end, must-after}
 
 pub returns-clause-after : goal.returns-clause-after
 returns-clause-after c = must-after

@@ -1,5 +1,5 @@
 use Rattle.textwrap_unicode.proofs.laws.spaces_are_kept.Goals as goal
-use Rattle.textwrap_unicode.proofs.DecideLemmas.{kept-after, return-kept}
+use Rattle.textwrap_unicode.proofs.RuleLemmas.{kept-after, return-kept}
 
 pub returns-clause-spaces : goal.returns-clause-spaces
 returns-clause-spaces c = kept-after

@@ -2,7 +2,7 @@ use Rattle.textwrap_classes.proofs.Common.{arith, length, chars, is_mark, is_num
 use Rattle.textwrap_unicode.proofs.Common.{number_first}
 use Rattle.textwrap_text.proofs.Common.{YieldsList-from_chars, YieldsList-turn, YieldsList-end}
 use Rattle.textwrap_text.proofs.Common.{at_drop_all, length_push}
-use Rattle.textwrap_unicode.proofs.BreakLemmas.{number-step}
+use Rattle.textwrap_unicode.proofs.CutLemmas.{number-step}
 use Rattle.textwrap_unicode.proofs.numbers.number_first.Goals as goal
 
 pub returns-then-not-is_mark : goal.returns-then-not-is_mark

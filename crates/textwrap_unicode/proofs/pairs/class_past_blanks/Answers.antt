@@ -1,7 +1,7 @@
 use Rattle.textwrap_classes.proofs.Common.{arith}
 use Rattle.textwrap_text.proofs.Common.{length-take-le}
 use Rattle.textwrap_classes.proofs.ClassLemmas.{ascii-unit}
-use Rattle.textwrap_unicode.proofs.PrintableCuts.{past-none, past-some}
+use Rattle.textwrap_unicode.proofs.PrintableBytes.{past-none, past-some}
 use Rattle.textwrap_unicode.proofs.pairs.class_past_blanks.Goals as goal
 
 pub returns-then-end-eq0 : goal.returns-then-end-eq0

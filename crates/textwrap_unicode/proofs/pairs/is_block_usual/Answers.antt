@@ -1,7 +1,6 @@
-use Rattle.textwrap_classes.proofs.Common.{◌+◌, and_from, and_parts, cases_lt, not-true, ◌-◌, ◌∙◌}
-use Rattle.textwrap_classes.proofs.Common.{◌≡◌, arith, false, get_or, inl, refl, subst, ℕ, ap, inr}
-use Rattle.textwrap_classes.proofs.Common.{not, sym}
-use Rattle.textwrap_unicode.proofs.Common.{is_unusual}
+use Rattle.textwrap_classes.proofs.Common.{and_parts, and_from, cases_lt, get_or, arith, false, inl}
+use Rattle.textwrap_classes.proofs.Common.{subst, refl, inr, not, sym, ◌+◌, ◌-◌, ◌∙◌, ◌≡◌, ap, ℕ}
+use Rattle.textwrap_unicode.proofs.Common.{is_unusual, not-true}
 use Rattle.textwrap_unicode.proofs.pairs.is_block_usual.Goals as goal
 
 pub loop-offset-init : goal.loop-offset-init

@@ -1,6 +1,5 @@
-use Rattle.textwrap_classes.proofs.Common.{◌+◌, ◌-◌, ◌<◌, ◌↔◌, false, slice_index, true, ◌≡◌, ◌≤◌}
-use Rattle.textwrap_classes.proofs.Common.{ℕ}
-use Rattle.textwrap_unicode.proofs.Common.{is_unusual}
+use Rattle.textwrap_classes.proofs.Common.{slice_index, false, true, ◌+◌, ◌-◌, ◌<◌, ◌≡◌, ◌≤◌, ℕ}
+use Rattle.textwrap_unicode.proofs.Common.{is_unusual, ◌↔◌}
 use Rattle.textwrap_unicode.proofs.pairs.is_block_usual.Given as goal
 
 abbrev pub invariant-loop-offset : goal.invariant-loop-offset

@@ -1,6 +1,6 @@
 use Rattle.textwrap_classes.proofs.Common.{arith, sym, ◌∙◌, ne_eqb}
 use Rattle.std.specs.Cmp.{booleans_Decides}
-use Rattle.textwrap_unicode.proofs.UsualPlaces.{unusual-blank, usual-cut, usual-pair}
+use Rattle.textwrap_unicode.proofs.PrintableCuts.{unusual-blank, usual-cut, usual-pair}
 use Rattle.textwrap_unicode.proofs.pairs.is_usual.Goals as goal
 
 pub returns-then-not-is_unusual : goal.returns-then-not-is_unusual

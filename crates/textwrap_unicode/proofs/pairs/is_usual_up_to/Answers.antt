@@ -1,5 +1,5 @@
 use Rattle.textwrap_classes.proofs.Common.{arith}
-use Rattle.textwrap_unicode.proofs.UsualPlaces.{usual-run}
+use Rattle.textwrap_unicode.proofs.PrintableCuts.{usual-run}
 use Rattle.textwrap_unicode.proofs.pairs.is_usual_up_to.Goals as goal
 
 pub loop-place-preserved-then-is_block_usual : goal.loop-place-preserved-then-is_block_usual

@@ -1,5 +1,5 @@
 use Rattle.textwrap_classes.proofs.Common.{sym}
-use Rattle.textwrap_unicode.proofs.DecideLemmas.{ideographs-part, letters-stay}
+use Rattle.textwrap_unicode.proofs.RuleLemmas.{ideographs-part, letters-stay}
 use Rattle.textwrap_unicode.proofs.rules.decide.Goals as goal
 
 pub returns-in-Alphabetic-class : goal.returns-in-Alphabetic-class

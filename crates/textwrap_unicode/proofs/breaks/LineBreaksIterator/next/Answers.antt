@@ -4,8 +4,9 @@ use Rattle.textwrap_unicode.proofs.Common.{breaks_after, and}
 use Rattle.textwrap_text.proofs.Common.{rules}
 use Rattle.std.specs.Str.Iter.{char_indices_offset}
 use Rattle.textwrap_unicode.proofs.breaks.LineBreaksIterator.next.Goals as goal
-use Rattle.textwrap_unicode.proofs.BreakLemmas.{reading-start, reading-step, reading-break}
-use Rattle.textwrap_unicode.proofs.BreakLemmas.{reading-end, letter-step, none-left}
+use Rattle.textwrap_unicode.proofs.CutLemmas.{reading-start, reading-step, reading-break}
+use Rattle.textwrap_unicode.proofs.CutLemmas.{reading-end, none-left}
+use Rattle.textwrap_unicode.proofs.WordVerdicts.{letter-step}
 use Rattle.textwrap_unicode.specs.declared.breaks.LineBreak.{LineBreak}
 use Rattle.textwrap_unicode.proofs.breaks.LineBreaksIterator.next.Goals.{in-Allowed, in-Mandatory}
 

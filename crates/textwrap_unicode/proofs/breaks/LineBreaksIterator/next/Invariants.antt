@@ -1,7 +1,8 @@
 use Rattle.textwrap_classes.proofs.Common.{◌≡◌, true, char_indices_rest}
 use Rattle.std.specs.Str.Iter.{char_indices_offset}
 use Rattle.textwrap_unicode.proofs.breaks.LineBreaksIterator.next.Given as goal
-use Rattle.textwrap_unicode.proofs.BreakLemmas.{IsReading, in_word}
+use Rattle.textwrap_unicode.proofs.CutLemmas.{IsReading}
+use Rattle.textwrap_unicode.proofs.WordVerdicts.{in_word}
 
 abbrev pub invariant-loop-offset : goal.invariant-loop-offset
 invariant-loop-offset l =

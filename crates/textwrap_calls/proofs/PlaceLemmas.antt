@@ -1,34 +1,29 @@
 -- Lines stand where they are reported: those that were cut from a text, all of a text, and rows.
-use Rattle.textwrap_calls.proofs.Common.{◌≡◌, ℕ, ◌+◌, ◌-◌, ◌≤◌, List, [], ◌∷◌, ◌++◌, take, drop}
-use Rattle.textwrap_calls.proofs.Common.{length, sym, ap, refl, ◌∙◌, subst, arith, append_assoc}
-use Rattle.textwrap_calls.proofs.Common.{slice_range, length-append, length-drop, ◌==◌, Bool, true}
-use Rattle.textwrap_calls.proofs.Common.{false, cond, map, append-nil, flat, IsUtf8, map_push}
-use Rattle.textwrap_calls.proofs.Common.{sizes_of, tiled, WordText, widths_of, Line, Slice, Built}
-use Rattle.textwrap_calls.proofs.Common.{join-paragraphs_of, paragraphs_of-utf8, lines_of-cut_lines}
-use Rattle.textwrap_calls.proofs.Common.{built_text, lines_of, place_of, ArePlacedLines, Place}
-use Rattle.textwrap_calls.proofs.Common.{words_by, ArePlacedRows, ShowLines, AreGroups, StartsWith}
-use Rattle.textwrap_calls.proofs.Common.{starts_with_length, take-append-drop, nat_lt, ◌||◌, ◌⊎◌}
-use Rattle.textwrap_calls.proofs.Common.{WritesReported, WritesLines, done, too_small, TextwrapLine}
-use Rattle.textwrap_calls.proofs.Common.{ending_bytes, join_with, paragraphs_of, Settings, LineParts}
-use Rattle.textwrap_calls.proofs.Common.{line_from, covered_by}
-use Rattle.textwrap_text.proofs.Common.{⊤, drop-drop, map-append}
-use Rattle.textwrap_words.proofs.Common.{ArePoints}
+use Rattle.textwrap_calls.proofs.Common.{join-paragraphs_of, lines_of-cut_lines, paragraphs_of-utf8}
+use Rattle.textwrap_calls.proofs.Common.{starts_with_length, take-append-drop, built_text-push, map}
+use Rattle.textwrap_calls.proofs.Common.{ArePlacedLines, WritesReported, places_of-push, StartsWith}
+use Rattle.textwrap_calls.proofs.Common.{ArePlacedRows, length-append, paragraphs_of, TextwrapLine}
+use Rattle.textwrap_calls.proofs.Common.{append_assoc, ending_bytes, WritesLines, groups-tile, Bool}
+use Rattle.textwrap_calls.proofs.Common.{length-drop, slice_range, append-nil, built_text, Settings}
+use Rattle.textwrap_calls.proofs.Common.{covered_by, map-append, AreGroups, ArePoints, LineParts, ℕ}
+use Rattle.textwrap_calls.proofs.Common.{ShowLines, drop-drop, join_with, line_from, places_of, sym}
+use Rattle.textwrap_calls.proofs.Common.{too_small, widths_of, WordText, lines_of, map_push, IsUtf8}
+use Rattle.textwrap_calls.proofs.Common.{place_of, row_cuts, sizes_of, words_by, AreRows, length, ⊤}
+use Rattle.textwrap_calls.proofs.Common.{nat_lt, Built, Place, Slice, arith, false, subst, tiled}
+use Rattle.textwrap_calls.proofs.Common.{Line, List, cond, done, drop, flat, refl, take, true, ◌++◌}
+use Rattle.textwrap_calls.proofs.Common.{◌==◌, ◌||◌, ◌+◌, ◌-◌, ◌∙◌, ◌∷◌, ◌≡◌, ◌≤◌, ◌⊎◌, [], ap}
 use Rattle.std.proofs.Math.Seq.{drop-append_seam, take-append_seam, take-length}
 use Rattle.std.proofs.lemmas.Simd.{map-map}
 use Rattle.textwrap_base.proofs.Division.Map.{IsDividedBy-whole}
 use Rattle.textwrap_words.proofs.Word.Pieces.{ArePoints-cuts}
 use Rattle.textwrap_layout.proofs.Paragraph.Pieces.{pieces-tile}
-use Rattle.textwrap_lines.proofs.Text.Groups.{groups-tile}
-use Rattle.textwrap_layout.proofs.Text.Sinks.{built_text-push, places_of-push}
-use Rattle.textwrap_layout.specs.Places.{CutLine, built_bytes, places_of, cut_line, cut_lines}
-use Rattle.textwrap_layout.specs.Places.{text_cuts}
+use Rattle.textwrap_layout.specs.Places.{built_bytes, cut_lines, text_cuts, cut_line, CutLine}
 use Rattle.textwrap.specs.Paragraph.{DividesAt}
 use Rattle.textwrap.specs.WordSplitters.{Splitter}
 use Rattle.textwrap.specs.WrapAlgorithms.{Algorithm}
 use Rattle.textwrap_plain.proofs.Words.{texts-at}
 use Rattle.textwrap_plain.specs.declared.options.PlainSeparator.{PlainSeparator}
 use Rattle.textwrap_calls.proofs.RoomLemmas.{WritesLines-reported}
-use Rattle.textwrap_calls.specs.Columns.{AreRows, row_cuts}
 
 -- ---- lines that were cut from a text stand where they are reported
 
@@ -279,17 +274,18 @@ rows-written {text = text} {places = places} rows are (places_are, built_is) sta
     (shown-places text (row_cuts rows) places (rows-cut text rows 0) places_are rest))
     statuses writes
 
-pub ArePlacedRows-push : (rows : List (List ℕ)) (row : List ℕ) (places more : List Place)
-    (built grown : List ℕ) → ArePlacedRows rows places built
+pub ArePlacedRows-push : {all : List (List ℕ)} {places more : List Place} {built grown : List ℕ}
+    (rows : List (List ℕ)) (row : List ℕ) → rows ++ row ∷ [] ≡ all → ArePlacedRows rows places built
     → more ≡ places ++ place_of 0 (length built) (Built ([] ++ row ++ [])) ∷ []
-    → grown ≡ built ++ [] ++ row ++ [] → ArePlacedRows (rows ++ row ∷ []) more grown
-ArePlacedRows-push rows row places more built grown (places_are, built_is) more_is grown_is =
+    → grown ≡ built ++ [] ++ row ++ [] → ArePlacedRows all more grown
+ArePlacedRows-push {built = built} rows row all_is (places_are, built_is) more_is grown_is =
     let cut = cut_line 0 (Built row) in
     let pushed = map_push (λ bytes. cut_line 0 (Built bytes)) rows row in
     let len : length built ≡ 0 + length (built_text (lines_of (row_cuts rows))) =
     omega (arith, ap length built_is) in (
-      cc (append-nil row, pushed, places_of-push 0 (length built) (row_cuts rows) cut len),
+      cc (all_is, append-nil row, pushed, places_of-push 0 (length built) (row_cuts rows) cut len),
       cc (
+        all_is,
         append-nil row,
         append-nil built,
         append-nil ((built ++ []) ++ row),

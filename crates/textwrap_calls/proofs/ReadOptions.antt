@@ -1,11 +1,9 @@
 -- What is made by options as the library has them is made by the numbers that they were read from.
-use Rattle.textwrap_calls.proofs.Common.{◌≡◌, ℕ, Bool, List, subst, WordText, Settings}
-use Rattle.textwrap_calls.proofs.Common.{algorithm_of, Divides, settings_of, splitter_of}
-use Rattle.textwrap_calls.proofs.Common.{alignment_of, parts_of_column, TextwrapOptions}
-use Rattle.textwrap_calls.proofs.Common.{TextwrapColumn, words_by, PlainColumn, plain_parts}
+use Rattle.textwrap_calls.proofs.Common.{TextwrapOptions, parts_of_column, DividesPlainly, Settings}
+use Rattle.textwrap_calls.proofs.Common.{TextwrapColumn, algorithm_of, alignment_of, PlainColumn, ℕ}
+use Rattle.textwrap_calls.proofs.Common.{plain_parts, settings_of, splitter_of, WordText, words_by}
+use Rattle.textwrap_calls.proofs.Common.{AreRead, Divides, subst, Bool, List, ◌≡◌}
 use Rattle.textwrap_layout.proofs.Common.{DividesAt}
-use Rattle.textwrap_calls.specs.Options.{AreRead}
-use Rattle.textwrap_plain.specs.Options.{DividesPlainly}
 use Rattle.textwrap_plain.specs.declared.options.PlainOptions.{PlainOptions}
 use Rattle.textwrap_plain.specs.Options as plain
 

@@ -1,15 +1,13 @@
 -- What is written into lent room, seen as an answer, and what of it are lines that are reported.
-use Rattle.textwrap_calls.proofs.Common.{◌≡◌, ◌<◌, ◌^◌, ◌↔◌, ◌⊎◌, ◌∙◌, inl, inr, ℕ, List, arith, All}
-use Rattle.textwrap_calls.proofs.Common.{length, refl, subst, sym, ◌≢◌, ◌+◌, ◌≤◌, [], ◌∷◌, cond, map}
-use Rattle.textwrap_calls.proofs.Common.{◌++◌, ap, cases_lt, drop, length-map, take_all, Line}
-use Rattle.textwrap_calls.proofs.Common.{Slice, Built, as_len, built_text, Place, TextwrapLine}
-use Rattle.textwrap_calls.proofs.Common.{WritesReported, WritesText, done, too_small, ShowLines}
-use Rattle.textwrap_calls.proofs.Common.{All-cons, All-nil, line_bytes, slice_range}
-use Rattle.textwrap_text.specs.LentText.{written_over}
+use Rattle.textwrap_calls.proofs.Common.{WritesReported, WritesLinesAs, TextwrapLine, written_over}
+use Rattle.textwrap_calls.proofs.Common.{slice_range, WritesText, built_text, length-map, ShowLines}
+use Rattle.textwrap_calls.proofs.Common.{line_bytes, too_small, All-cons, cases_lt, take_all, Built}
+use Rattle.textwrap_calls.proofs.Common.{All-nil, Reports, as_len, length, Place, Slice, arith, All}
+use Rattle.textwrap_calls.proofs.Common.{rules, subst, Line, List, cond, done, drop, refl, ◌++◌, []}
+use Rattle.textwrap_calls.proofs.Common.{inl, inr, map, sym, ◌+◌, ◌<◌, ◌^◌, ◌↔◌, ◌∙◌, ◌∷◌, ◌≡◌, ◌≤◌}
+use Rattle.textwrap_calls.proofs.Common.{◌⊎◌, ap, ℕ}
 use Rattle.textwrap_layout.specs.LentPlaces.{WritesPlaces}
 use Rattle.textwrap_layout.specs.declared.lent_places.LineCounts.{LineCounts}
-use Rattle.textwrap_calls.specs.Reported.{Reports}
-use Rattle.textwrap_calls.specs.Wrapping.{WritesLinesAs}
 
 -- ---- what is written into lent room, seen as an answer
 
@@ -17,11 +15,6 @@ use Rattle.textwrap_calls.specs.Wrapping.{WritesLinesAs}
 pub short-reported : (room answer : ℕ) → room < 2 ^ 63
     → (room < as_len answer → room < answer) × (room < answer → room < as_len answer)
 short-reported room answer fits = (λ short. omega arith, λ short. omega arith)
-
-either-done : {status : ℕ} → (status ≡ done) ⊎ (status ≡ too_small) → status ≢ done
-    → status ≢ too_small → ⊥
-either-done (inl is) other short = other is
-either-done (inr is) other short = short is
 
 -- an answer was written whose length is a number, which is reported
 pub written-exactly : {X : Type 0} (answer : List X) {status : ℕ} {room_before room_after : List X}
@@ -34,8 +27,8 @@ written-exactly answer {reported = reported} fits len room whole told small stat
     let exact : reported ≡ length answer = omega (arith, fits, len) in
     record {
       written = λ answered. (answer, refl, told ∙ exact, room, rw (whole, exact) at small);
-      kept = λ other short. absurd (either-done statuses other short);
-      kept_len = λ other short. absurd (either-done statuses other short);
+      kept = λ other short. search rules;
+      kept_len = λ other short. search rules;
     }
 
 -- bytes that are such an answer were written
@@ -148,6 +141,6 @@ module _ {reported : ℕ → ℕ} {places : List Place} {built : List ℕ} {stat
               (take_all (length room_before) (built_text lines) fits)))
               (shows (drop (length (built_text lines)) room_before)),
         );
-        kept = λ no not_short. absurd (either-done statuses no not_short);
-        kept_counts = λ no not_short. absurd (either-done statuses no not_short);
+        kept = λ no not_short. search rules;
+        kept_counts = λ no not_short. search rules;
       }

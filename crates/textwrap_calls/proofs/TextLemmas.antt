@@ -1,24 +1,28 @@
 -- Lists of texts and of lines, and columns of a table, as C has them.
-use Rattle.textwrap_calls.proofs.Common.{◌≡◌, ℕ, ◌+◌, ◌<◌, List, [], ◌∷◌, ◌++◌, length, get_or, map}
-use Rattle.textwrap_calls.proofs.Common.{refl, sym, ap, ◌∙◌, take, map_push, ◌≤◌, length-map, subst}
-use Rattle.textwrap_calls.proofs.Common.{◌≢◌, ◌⊎◌, arith, inl, inr, Line, Slice, map_more, texts_of}
-use Rattle.textwrap_calls.proofs.Common.{texts_in, shape_of, alignment_of, done, too_small}
-use Rattle.textwrap_calls.proofs.Common.{shape_of_column, bytes_of, TextwrapColumn, TextwrapText}
-use Rattle.textwrap_text.proofs.Common.{Bor}
+use Rattle.textwrap_calls.proofs.Common.{◌↔◌, AllWithin-more, get_or_default, line_bytes-line_view}
+use Rattle.textwrap_calls.proofs.Common.{shape_of_column, unknown_options, [], TextwrapColumn}
+use Rattle.textwrap_calls.proofs.Common.{settings_view, AreShortened, TextwrapText, alignment_of}
+use Rattle.textwrap_calls.proofs.Common.{length-map, line_bytes, line_view, too_small, AreShort}
+use Rattle.textwrap_calls.proofs.Common.{bytes_of, map_more, map_push, not_utf8, shape_of, texts_in}
+use Rattle.textwrap_calls.proofs.Common.{texts_of, get_or, length, Shape, Slice, arith, ℕ, subst}
+use Rattle.textwrap_calls.proofs.Common.{Line, List, done, refl, take, ◌++◌, Bor, inl, inr, map}
+use Rattle.textwrap_calls.proofs.Common.{sym, ◌+◌, ◌<◌, ◌∙◌, ◌∷◌, ◌≡◌, ◌≢◌, ◌≤◌, ◌⊎◌, ap}
 use Rattle.std.specs.declared.borrow.CowStr.{CowStr}
 use Rattle.std.specs.Cow.{cow_str_bytes}
 use Rattle.std.specs.declared.borrow.CowStr.TheVariants.{Borrowed}
-use Rattle.textwrap_layout.proofs.Text.Lines.{line_bytes-line_view}
-use Rattle.textwrap_layout.specs.Options.{settings_at, settings_view}
-use Rattle.textwrap_layout.specs.Paragraph.{line_bytes, line_view}
-use Rattle.textwrap_display.specs.Shortening.{AreShortened}
-use Rattle.textwrap_display.specs.Tables.{Shape}
+use Rattle.textwrap_layout.specs.Options.{settings_at}
 use Rattle.textwrap_display.specs.declared.alignment.Alignment.{Alignment}
 use Rattle.textwrap_display.specs.declared.tables.Column.{Column}
-use Rattle.textwrap_calls.specs.Display.{AreShort}
-use Rattle.textwrap_calls.specs.Status.{not_utf8, unknown_options}
 
 -- ---- the texts of lines: one more of them
+
+-- what holds of the first elements, and of the next one
+pub next-holds : {X : Type 0} (P : X → Type 0) (xs : List X) {n : ℕ} (d : X)
+    → ((k : ℕ) (e : X) → k < n → P (get_or xs k e)) → n < length xs → P (get_or xs n d)
+    → (k : ℕ) (e : X) → k < n + 1 → P (get_or xs k e)
+next-holds P xs {n} d so_far within here k e below =
+    AllWithin-more P xs 0 n (λ j f low less. so_far j f less)
+    (λ f. subst P (get_or_default xs n d f within) here) k e (omega arith) below
 
 pub texts-push : {Z : Type 0} (lines : List (CowStr Z)) (line : CowStr Z) (bytes : List ℕ)
     → bytes ≡ cow_str_bytes line → texts_of lines ++ bytes ∷ [] ≡ texts_of (lines ++ line ∷ [])
@@ -37,20 +41,21 @@ bytes-more texts n d so_far bytes within same is =
     ∙ sym (map_more (λ (text : TextwrapText). text.bytes.now) texts n d within)
 
 -- a text was added, as a line
-pub lines-more : {Z : Type 0} (texts : List TextwrapText) (n : ℕ) (d : TextwrapText)
-    (before after : List (CowStr Z)) (line : Bor (List ℕ)) → n < length texts
+pub lines-more : {Z : Type 0} (texts : List TextwrapText) {n : ℕ} (d : TextwrapText)
+    (before : List (CowStr Z)) {after : List (CowStr Z)} (line : Bor (List ℕ)) → n < length texts
     → line.now ≡ (get_or texts n d).bytes.now → texts_of before ≡ bytes_of (take n texts)
     → after ≡ before ++ Borrowed line ∷ [] → texts_of after ≡ bytes_of (take (n + 1) texts)
-lines-more texts n d before after line within same so_far more =
+lines-more texts {n} d before line within same so_far more =
     ap texts_of more ∙ sym (texts-push before (Borrowed line) line.now refl)
     ∙ bytes-more texts n d (texts_of before) line.now within same so_far
 
 -- a text was added, as a string
-pub strs-more : (texts : List TextwrapText) (n : ℕ) (d : TextwrapText)
-    (before after : List (Bor (List ℕ))) (str : Bor (List ℕ)) → n < length texts
+pub strs-more : (texts : List TextwrapText) {n : ℕ} (d : TextwrapText)
+    (before : List (Bor (List ℕ))) {after : List (Bor (List ℕ))} (str : Bor (List ℕ))
+    → n < length texts
     → str.now ≡ (get_or texts n d).bytes.now → texts_in before ≡ bytes_of (take n texts)
     → after ≡ before ++ str ∷ [] → texts_in after ≡ bytes_of (take (n + 1) texts)
-strs-more texts n d before after str within same so_far more =
+strs-more texts {n} d before str within same so_far more =
     ap texts_in more ∙ map_push (λ (text : Bor (List ℕ)). text.now) before str
     ∙ bytes-more texts n d (texts_in before) str.now within same so_far
 
@@ -88,6 +93,10 @@ pub written-apart : (status : ℕ) → (status ≡ done) ⊎ (status ≡ too_sma
     → (status ≢ not_utf8) × (status ≢ unknown_options)
 written-apart status (inl is) = (λ same. omega (arith, is, same), λ same. omega (arith, is, same))
 written-apart status (inr is) = (λ same. omega (arith, is, same), λ same. omega (arith, is, same))
+
+-- what is right refutes that it is wrong
+pub right-apart : {P A B R : Type 0} → (P → ⊥) → R → P ↔ A × B × (R → ⊥)
+right-apart not right = (λ is. absurd (not is), λ (_, _, wrong). absurd (wrong right))
 
 abbrev shape : ℕ → Alignment → Shape
 shape width alignment = record { width = width; alignment = alignment }

@@ -27,9 +27,9 @@ use Rattle.textwrap_plain.specs.declared.display.PlainColumn.{PlainColumn}
 -- ---- what holds by the options that hold no function holds by what they name
 
 pub named : (P : Settings → (Settings → Bool → List ℕ → List (List WordText) → Type 0) → Type 0)
-    (s t : Settings) (w v : PlainSeparator) (p q : Splitter) (a b : Algorithm) → s ≡ t → w ≡ v
+    {s t : Settings} {w v : PlainSeparator} {p q : Splitter} {a b : Algorithm} → s ≡ t → w ≡ v
     → p ≡ q → a ≡ b → P s (DividesAt (words_by w) p a) → P t (DividesAt (words_by v) q b)
-named P s t w v p q a b settings words splitter algorithm is =
+named P {s} {t} {w} {v} {p} {q} {a} {b} settings words splitter algorithm is =
     subst (λ r. P r (DividesAt (words_by v) q b)) settings
     (subst (λ u. P s (DividesAt (words_by u) q b)) words
     (subst (λ o. P s (DividesAt (words_by w) o b)) splitter
@@ -100,20 +100,16 @@ module _ {C : Type 0} {c : _} where
       (words_unique line ws).0 (subst (λ s. MaySeparate s line ws) is may) ∙ ap (λ s. words_by s line) (sym plain_is)
 
 module _ {E C : Type 0} {e : _} {c : _} where
-  -- the options for words between blanks, but for the separator
-  pub parts-separated : (o : PlainOptions) (blanks options : Options E C e c)
-      (separator : WordSeparator C c)
-      → HasParts blanks (settings_of o) (splitter_of o) (algorithm_of o)
-      → settings_view options ≡ settings_view blanks
-      → options.wrap_algorithm ≡ blanks.wrap_algorithm
-      → options.word_separator ≡ separator → options.word_splitter ≡ blanks.word_splitter
-      → Separates separator o.word_separator
+  -- options for words between blanks, which the separator gives
+  pub parts-separated : (o : PlainOptions) (options : Options E C e c)
+      → HasParts options (settings_of o) (splitter_of o) (algorithm_of o)
+      → Separates options.word_separator o.word_separator
       → HasPartsAt options (words_by o.word_separator) (settings_of o) (splitter_of o) (algorithm_of o)
-  parts-separated o blanks options separator parts settings algorithm is splitter separates = record {
-    settings_are = settings ∙ parts.settings_are;
-    separates = rw is separates;
-    splitter_is = rw splitter parts.splitter_is;
-    algorithm_is = rw algorithm parts.algorithm_is;
+  parts-separated o options parts separates = record {
+    settings_are = parts.settings_are;
+    separates = separates;
+    splitter_is = parts.splitter_is;
+    algorithm_is = parts.algorithm_is;
   }
 
 -- ---- what a table of columns without functions shows

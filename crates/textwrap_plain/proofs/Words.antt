@@ -1,8 +1,7 @@
 -- The words of a line by options without functions, and what lines of them keep to.
-use Rattle.textwrap_text.proofs.Common.{◌≡◌, ◌≢◌, ℕ, ◌<◌, List, [], ◌∷◌, All, All-cons, All-nil}
-use Rattle.textwrap_text.proofs.Common.{arith, ap, drop, IsUtf8, length, map, refl, length-drop}
-use Rattle.textwrap_text.proofs.Common.{ne_eqb, Bool, append-nil, rules, Some, subst, sym, true}
-use Rattle.textwrap_text.proofs.Common.{chunks, stripped}
+use Rattle.textwrap_text.proofs.Common.{length-drop, append-nil, All-cons, stripped, All-nil, arith}
+use Rattle.textwrap_text.proofs.Common.{IsUtf8, chunks, length, ne_eqb, rules, subst, List, Some, ℕ}
+use Rattle.textwrap_text.proofs.Common.{drop, refl, true, All, map, sym, ◌<◌, ◌∷◌, ◌≡◌, ◌≢◌, [], ap}
 use Rattle.textwrap_text.proofs.Lists.Parts.{length-slice}
 use Rattle.std.specs.List.{slice_range}
 use Rattle.textwrap_words.proofs.Common.{word_of, words_of, WordText, Algorithm, ArePoints, Greedy}
@@ -63,23 +62,12 @@ parts_between-some cuts (c ∷ line) inner =
     (parts_from-some 0 cuts (c ∷ line) (omega arith) inner)
 
 -- the words are parts of the line, none of which is empty
-pub record AreSomeParts (words : List WordText) : Type 0 where
-  pub parts : List (List ℕ)
-  pub some : All (λ part. part ≢ []) parts
-  pub are : words ≡ map word_of parts
-
 pub words_by-parts : (separator : PlainSeparator) (line : List ℕ) → IsUtf8 line
-    → AreSomeParts (words_by separator line)
-words_by-parts AtBlanks line utf8 = record {
-  parts = chunks line;
-  some = (AreChunks-chunks line).nonempty;
-  are = refl;
-}
-words_by-parts (AtBreaks numbers) line utf8 = record {
-  parts = parts_between (cuts_by numbers line) line;
-  some = parts_between-some (cuts_by numbers line) line (cuts-inner numbers line utf8);
-  are = refl;
-}
+    → (parts : List (List ℕ)) × All (λ part. part ≢ []) parts
+    × (words_by separator line ≡ map word_of parts)
+words_by-parts AtBlanks line utf8 = (chunks line, (AreChunks-chunks line).nonempty, refl)
+words_by-parts (AtBreaks numbers) line utf8 =
+    (_, parts_between-some (cuts_by numbers line) line (cuts-inner numbers line utf8), refl)
 
 -- ---- what lines keep to that are divided by the words of options without functions
 
@@ -89,23 +77,24 @@ pub texts-at : (separator : PlainSeparator) (line : List ℕ) (words : List Word
 texts-at separator line words utf8 is =
     subst (AreTexts line) (sym is) (words_by-texts separator line utf8)
 
-pub IsWrapped-at : (separator : PlainSeparator) (settings : Settings) (algorithm : Algorithm)
-    (splitter : Splitter) (text : List ℕ) (lines : List Line) → IsUtf8 text
+pub IsWrapped-at : (separator : PlainSeparator) {settings : Settings} {algorithm : Algorithm}
+    {splitter : Splitter} {text : List ℕ} {lines : List Line} → IsUtf8 text
     → AreTextLines settings (DividesAt (words_by separator) splitter algorithm settings) text lines
     → IsWrapped settings (Some splitter) (Some algorithm)
     (DividesAt (words_by separator) splitter algorithm settings) text lines
-IsWrapped-at separator = IsWrapped-parts (λ line words. words ≡ words_by separator line)
-    (texts-at separator)
+IsWrapped-at separator {settings} {algorithm} {splitter} {text} {lines} =
+    IsWrapped-parts (λ line words. words ≡ words_by separator line) (texts-at separator) settings
+    algorithm splitter text lines
 
 -- and by first fit
-module _ (separator : PlainSeparator) (settings : Settings) (algorithm : Algorithm)
-    (splitter : Splitter) (text : List ℕ) (lines : List Line) (utf8 : IsUtf8 text)
+module _ (separator : PlainSeparator) {settings : Settings} {algorithm : Algorithm}
+    (splitter : Splitter) {text : List ℕ} {lines : List Line} (utf8 : IsUtf8 text)
     (first : algorithm ≡ Greedy) where
-  abbrev Divides : Bool → List ℕ → List (List WordText) → Type 0
-  Divides = DividesAt (words_by separator) splitter algorithm settings
-
   pub LinesKeepToWidth-at : settings.even_paragraphs ≡ true → settings.break_words ≡ true
-      → AreTextLines settings Divides text lines → LinesKeepToWidth settings Divides text lines
+      → AreTextLines settings (DividesAt (words_by separator) splitter algorithm settings) text
+      lines
+      → LinesKeepToWidth settings (DividesAt (words_by separator) splitter algorithm settings) text
+      lines
   LinesKeepToWidth-at =
       LinesKeepToWidth-by settings (λ line words. words ≡ words_by separator line)
       (ArePoints splitter) (IsDividedBy algorithm sizes_of) (texts-at separator)
@@ -116,7 +105,10 @@ module _ (separator : PlainSeparator) (settings : Settings) (algorithm : Algorit
       text lines utf8
 
   pub ArePrintedWithin-at : CanKeepToWidth settings text
-      → AreTextLines settings Divides text lines → ArePrintedWithin settings Divides text lines
+      → AreTextLines settings (DividesAt (words_by separator) splitter algorithm settings) text
+      lines
+      → ArePrintedWithin settings (DividesAt (words_by separator) splitter algorithm settings) text
+      lines
   ArePrintedWithin-at =
       ArePrintedWithin-by settings (λ line words. words ≡ words_by separator line)
       (ArePoints splitter) (IsDividedBy algorithm sizes_of) (texts-at separator)

@@ -1,19 +1,16 @@
 -- Each offset is passed where a character ends if they are offsets of the text, and only then.
-use Rattle.textwrap_text.proofs.Common.{◌≡◌, ℕ, ◌+◌, ◌<◌, ◌↔◌, List, [], ◌∷◌, length, drop, refl}
-use Rattle.textwrap_text.proofs.Common.{sym, ap, subst, arith, inl, inr, cases_Bool, eqb, eqb-true}
-use Rattle.textwrap_text.proofs.Common.{eqb-false, IsUtf8, IsUtf8-drop, IsCharBoundary}
-use Rattle.textwrap_text.proofs.Common.{IsCharBoundary-start, IsUtf8-past_char, encode_utf8_all}
-use Rattle.textwrap_text.proofs.Common.{encodes-chars, length-drop, stripped, units}
-use Rattle.std.specs.Str.{chars}
+use Rattle.textwrap_calls.proofs.Common.{IsCharBoundary-start, IsUtf8-past_char, encode_utf8_all, ℕ}
+use Rattle.textwrap_calls.proofs.Common.{IsCharBoundary, encodes-chars, IsUtf8-drop, length-drop}
+use Rattle.textwrap_calls.proofs.Common.{cases_Bool, eqb-false, eqb-true, stripped, AreNext, IsUtf8}
+use Rattle.textwrap_calls.proofs.Common.{visible, length, arith, chars, subst, units, List, drop}
+use Rattle.textwrap_calls.proofs.Common.{refl, eqb, inl, inr, sym, ◌+◌, ◌<◌, ◌↔◌, ◌∷◌, ◌≡◌, [], ap}
 use Rattle.textwrap_text.proofs.Units.Texts.{units-tile}
-use Rattle.textwrap_text.specs.Units.{visible}
 use Rattle.textwrap_unicode.proofs.CutLemmas.{visible-utf8}
 use Rattle.std.proofs.lemmas.Str.{IsCharBoundary-from_drop}
 use lib.Utf8.{encode}
-use Rattle.textwrap_text.proofs.Texts.{some-bytes, ends-within, left-after}
+use Rattle.textwrap_text.proofs.Texts.{ends-within, left-after, some-bytes}
 use Rattle.textwrap_words.proofs.Word.Ahead.{character-within}
-use Rattle.textwrap_words.specs.Cuts.{AreNext}
-use Rattle.textwrap_step_calls.specs.Pieces.{AreOffsets, IsNextOffset, offsets_past}
+use Rattle.textwrap_step_calls.specs.Pieces.{IsNextOffset, offsets_past, AreOffsets}
 
 -- the offsets that are left after these characters, of which the first begins at the place
 abbrev pub left_after : ℕ → List ℕ → List ℕ → List ℕ

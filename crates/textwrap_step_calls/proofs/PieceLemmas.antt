@@ -1,14 +1,13 @@
 -- Where the paragraphs of a text stand, and pieces: those of a paragraph, and those of a word.
-use Rattle.textwrap_calls.proofs.Common.{rules, ◌≡◌, ℕ, ◌+◌, ◌-◌, ◌≤◌, List, [], ◌∷◌, ◌++◌, All}
-use Rattle.textwrap_calls.proofs.Common.{All-head, All-tail, ap, append-nil, append_assoc, arith}
-use Rattle.textwrap_calls.proofs.Common.{flat_map, get_or, length, refl, sym, IsUtf8, ◌∙◌, ◌<◌}
-use Rattle.textwrap_calls.proofs.Common.{broken_texts, tiled, WordText, ending_bytes, join_with}
-use Rattle.textwrap_calls.proofs.Common.{paragraphs_of, join-paragraphs_of, rest-within}
+use Rattle.textwrap_calls.proofs.Common.{join-paragraphs_of, paragraphs_of, HasNoPenalty, join_with}
+use Rattle.textwrap_calls.proofs.Common.{append_assoc, broken_texts, ending_bytes, rest-within, All}
+use Rattle.textwrap_calls.proofs.Common.{append-nil, All-head, All-tail, WordText, flat_map, IsUtf8}
+use Rattle.textwrap_calls.proofs.Common.{get_or, length, arith, rules, tiled, List, refl, ◌++◌, sym}
+use Rattle.textwrap_calls.proofs.Common.{◌+◌, ◌-◌, ◌<◌, ◌∙◌, ◌∷◌, ◌≡◌, ◌≤◌, [], ap, ℕ}
 use Rattle.textwrap_text.specs.declared.line_ending.LineEnding.{LineEnding}
 use Rattle.textwrap_step_calls.proofs.Common.{piece_places}
 use Rattle.textwrap_words.proofs.Common.{broken_pieces, piece}
-use Rattle.textwrap_words.proofs.Word.BrokenPieces.{tiled-pieces_with, broken_texts-tile}
-use Rattle.textwrap_words.proofs.Word.Words.{HasNoPenalty}
+use Rattle.textwrap_words.proofs.Word.BrokenPieces.{broken_texts-tile, tiled-pieces_with}
 use Rattle.textwrap_words.specs.Breaking.{pieces_with}
 use Rattle.textwrap_words.specs.Pieces.{stand_from}
 use Rattle.textwrap_words.specs.declared.pieces.Piece.{Piece}
@@ -36,24 +35,24 @@ place_at offset p = record {
   width = p.width;
 }
 
-module _ (all : List WordText) where
-  pub Left-start : All HasNoPenalty all → (pieces : List Piece) → pieces ≡ stand_from 0 all
+pub record HasNext (all : List WordText) (places : List TextwrapPiece) (offset : ℕ) (p : Piece)
+    (ps : List Piece) : Type 0 where
+  pub from : offset ≤ p.word_end
+  pub order : p.word_end ≤ p.end
+  pub next : HasLeft all (places ++ place_at offset p ∷ []) p.end ps
+
+module _ {all : List WordText} where
+  pub Left-start : {pieces : List Piece} → All HasNoPenalty all → pieces ≡ stand_from 0 all
       → HasLeft all [] 0 pieces
-  Left-start none pieces stand = record { left = all; stand = stand; none = none; are = refl }
+  Left-start none stand = record { left = all; stand = stand; none = none; are = refl }
 
-  pub record HasNext (places : List TextwrapPiece) (offset : ℕ) (p : Piece) (ps : List Piece)
-      : Type 0 where
-    pub from : offset ≤ p.word_end
-    pub order : p.word_end ≤ p.end
-    pub next : HasLeft all (places ++ place_at offset p ∷ []) p.end ps
-
-  pub Left-next : (places : List TextwrapPiece) (offset : ℕ) (p : Piece) (ps : List Piece)
-      → HasLeft all places offset (p ∷ ps) → HasNext places offset p ps
-  Left-next places offset p ps h = by h.left h.stand h.none h.are
+  pub Left-next : {places : List TextwrapPiece} {offset : ℕ} {p : Piece} {ps : List Piece}
+      → HasLeft all places offset (p ∷ ps) → HasNext all places offset p ps
+  Left-next {places} {offset} {p} {ps} h = by h.left h.stand h.none h.are
     where
       by : (left : List WordText) → p ∷ ps ≡ stand_from offset left → All HasNoPenalty left
           → places ++ piece_places offset left ≡ piece_places 0 all
-          → HasNext places offset p ps
+          → HasNext all places offset p ps
       by [] stand none are = absurd (omega (arith, ap length stand))
       by (w ∷ ws) stand none are =
           let end = offset + length w.word + length w.whitespace in
@@ -69,9 +68,9 @@ module _ (all : List WordText) where
           let rest = All-tail HasNoPenalty w ws none in
           search (rules, arith, append_assoc)
 
-  pub Left-end : (places : List TextwrapPiece) (offset : ℕ) → HasLeft all places offset []
+  pub Left-end : {places : List TextwrapPiece} {offset : ℕ} → HasLeft all places offset []
       → places ≡ piece_places 0 all
-  Left-end places offset h = by h.left h.stand h.are
+  Left-end {places} {offset} h = by h.left h.stand h.are
     where
       by : (left : List WordText) → [] ≡ stand_from offset left
           → places ++ piece_places offset left ≡ piece_places 0 all → places ≡ piece_places 0 all
@@ -101,10 +100,10 @@ pub record HasPlaced (ending : LineEnding) (text : List ℕ) (places : List Text
   pub within : 0 < length left
       → offset + length (join_with (ending_bytes ending) left) ≤ length text
 
-module _ (ending : LineEnding) (text : List ℕ) where
-  pub HasPlaced-start : (places : List TextwrapParagraph) → places ≡ []
+module _ {ending : LineEnding} {text : List ℕ} where
+  pub HasPlaced-start : {places : List TextwrapParagraph} → places ≡ []
       → HasPlaced ending text places 0 (paragraphs_of ending text)
-  HasPlaced-start places none =
+  HasPlaced-start none =
       let whole = ap length (join-paragraphs_of ending text) in
       let n = length (ending_bytes ending) in
       record {
@@ -112,12 +111,12 @@ module _ (ending : LineEnding) (text : List ℕ) where
         within = λ some. omega (arith, whole);
       }
 
-  pub HasPlaced-more : (places : List TextwrapParagraph) (offset next : ℕ) (paragraph : List ℕ)
-      (after : List (List ℕ)) → HasPlaced ending text places offset (paragraph ∷ after)
+  pub HasPlaced-more : {places : List TextwrapParagraph} {offset next : ℕ} {paragraph : List ℕ}
+      {after : List (List ℕ)} → HasPlaced ending text places offset (paragraph ∷ after)
       → next ≡ offset + (length paragraph + length (ending_bytes ending))
       → HasPlaced ending text
       (places ++ record { offset = offset; len = length paragraph } ∷ []) next after
-  HasPlaced-more places offset next paragraph after so_far next_is =
+  HasPlaced-more {places} {offset} {next} {paragraph} {after} so_far next_is =
       let n = length (ending_bytes ending) in
       let same : next ≡ offset + length paragraph + n = omega (arith, next_is) in
       record {

@@ -1,14 +1,11 @@
 -- The lines of a paragraph in steps stand where they are reported, and joined where they are shown.
-use Rattle.textwrap_calls.proofs.Common.{◌≡◌, ℕ, Bool, List, [], ◌∷◌, ◌++◌, length, sym, ap, ◌∙◌}
-use Rattle.textwrap_calls.proofs.Common.{arith, cond, append-nil, nat_lt, subst, Tiles, tiled}
-use Rattle.textwrap_calls.proofs.Common.{AreEnds, covered_by, covered_by-parts_from, flat}
-use Rattle.textwrap_calls.proofs.Common.{join_with, lines_between, lines_from-begin, lines_of}
-use Rattle.textwrap_calls.proofs.Common.{Place, built_text, parts_from, pieces_at, says_yes}
-use Rattle.textwrap_calls.proofs.Common.{Settings, ShowLines, tiled-append, WordText}
-use Rattle.textwrap_text.proofs.Common.{lt-ltb}
-use Rattle.textwrap_layout.proofs.Text.Lines.{join-push}
-use Rattle.textwrap_layout.specs.Places.{places_of}
-use Rattle.textwrap_calls.proofs.PlaceLemmas.{AreCut, paragraph-cut, shown-places}
+use Rattle.textwrap_calls.proofs.Common.{covered_by-parts_from, lines_from-begin, lines_between, []}
+use Rattle.textwrap_calls.proofs.Common.{tiled-append, append-nil, built_text, covered_by, Settings}
+use Rattle.textwrap_calls.proofs.Common.{parts_from, ShowLines, join-push, join_with, pieces_at, ap}
+use Rattle.textwrap_calls.proofs.Common.{places_of, WordText, lines_of, says_yes, AreEnds, length}
+use Rattle.textwrap_calls.proofs.Common.{lt-ltb, nat_lt, Place, Tiles, arith, subst, tiled, Bool, ℕ}
+use Rattle.textwrap_calls.proofs.Common.{List, cond, flat, ◌++◌, sym, ◌∙◌, ◌∷◌, ◌≡◌}
+use Rattle.textwrap_calls.proofs.PlaceLemmas.{paragraph-cut, shown-places, AreCut}
 use Rattle.textwrap_step_calls.specs.Steps.{step_cuts}
 
 -- ---- the lines of a paragraph in steps stand where they are reported

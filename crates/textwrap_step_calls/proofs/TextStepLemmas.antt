@@ -1,31 +1,28 @@
 -- The lines of a text, each paragraph of which comes with its steps, as they are or justified.
-use Rattle.textwrap_calls.proofs.Common.{◌≡◌, ℕ, ◌+◌, ◌<◌, ◌≤◌, ◌||◌, nat_lt, Bool, false, List, []}
-use Rattle.textwrap_calls.proofs.Common.{◌∷◌, ◌++◌, ◌↔◌, length, map, refl, sym, ap, subst, ◌∙◌}
-use Rattle.textwrap_calls.proofs.Common.{arith, append_assoc, append-nil, length-append, length-map}
-use Rattle.textwrap_calls.proofs.Common.{StartsWith, ◌^◌, Tiles, ending_bytes, join_with, line_from}
-use Rattle.textwrap_calls.proofs.Common.{covered_by, paragraphs_of, Settings, is_whole, parts_from}
-use Rattle.textwrap_calls.proofs.Common.{line_view, flat, AreEnds, lines_between, rest-within}
-use Rattle.textwrap_calls.proofs.Common.{join-paragraphs_of, further-cut_lines, lines_of-cut_lines}
-use Rattle.textwrap_calls.proofs.Common.{HasPlaces, HasPlacesMore, pieces_at, joined_on}
-use Rattle.textwrap_calls.proofs.Common.{justified_after_indents, ShowLines}
+use Rattle.textwrap_calls.proofs.Common.{justified_after_indents, join-paragraphs_of, HasPlacesMore}
+use Rattle.textwrap_calls.proofs.Common.{lines_of-cut_lines, further-cut_lines, length-places_of, ℕ}
+use Rattle.textwrap_calls.proofs.Common.{length-append, lines_between, paragraphs_of, append_assoc}
+use Rattle.textwrap_calls.proofs.Common.{ending_bytes, is_later-or, rest-within, StartsWith, length}
+use Rattle.textwrap_calls.proofs.Common.{append-nil, covered_by, length-map, parts_from, HasPlaces}
+use Rattle.textwrap_calls.proofs.Common.{ShowLines, join_with, joined_on, line_from, line_view, map}
+use Rattle.textwrap_calls.proofs.Common.{pieces_at, Settings, is_whole, lines_of, AreEnds, nat_lt}
+use Rattle.textwrap_calls.proofs.Common.{Tiles, arith, false, subst, Bool, List, flat, refl, ◌++◌}
+use Rattle.textwrap_calls.proofs.Common.{◌||◌, sym, ◌+◌, ◌<◌, ◌^◌, ◌↔◌, ◌∙◌, ◌∷◌, ◌≡◌, ◌≤◌, [], ap}
 use Rattle.textwrap_text.specs.declared.line_ending.LineEnding.{LineEnding}
-use Rattle.textwrap_step_calls.proofs.Common.{justified_at, text_step_cuts}
-use Rattle.textwrap_text.proofs.Common.{Err, Ok, Result, starts_with_of_append}
-use Rattle.textwrap_layout.proofs.Common.{CutLine, cut_lines, text_cuts, further, lines_of}
+use Rattle.textwrap_step_calls.proofs.Common.{text_step_cuts, AreLineSteps, justified_at}
+use Rattle.textwrap_text.proofs.Common.{starts_with_of_append, Result, Err, Ok}
+use Rattle.textwrap_layout.proofs.Common.{cut_lines, text_cuts, CutLine, further}
 use Rattle.std.proofs.Common.{Fits, w64}
 use Rattle.std.specs.Result.{IfOk}
 use Rattle.std.specs.declared.borrow.CowStr.{CowStr}
-use Rattle.textwrap_text.proofs.Numbers.{is_later-or}
-use Rattle.textwrap_layout.proofs.Text.Sinks.{length-places_of}
 use Rattle.textwrap_layout.specs.Places.{division_cuts}
 use Rattle.textwrap_layout.specs.declared.places.PlacedLines.{PlacedLines}
-use Rattle.textwrap_display.proofs.JustifiedLines.{join-on, rows, rows-more}
+use Rattle.textwrap_display.proofs.JustifiedLines.{rows-more, join-on, rows}
 use Rattle.textwrap_calls.proofs.Lengths.Texts.{ending-length}
 use Rattle.textwrap_calls.proofs.Lengths.Sums.{texts-joined}
-use Rattle.textwrap_calls.proofs.PlaceLemmas.{AreBegun, groups-cut, shown-places}
+use Rattle.textwrap_calls.proofs.PlaceLemmas.{shown-places, groups-cut, AreBegun}
 use Rattle.textwrap_step_calls.proofs.StepLemmas.{step-rest}
-use Rattle.textwrap_step_calls.specs.Steps.{AreLineSteps}
-use Rattle.textwrap_step_calls.specs.TextSteps.{AreTextSteps, groups_at, parts_at, division_at}
+use Rattle.textwrap_step_calls.specs.TextSteps.{AreTextSteps, division_at, groups_at, parts_at}
 use Rattle.textwrap_step_calls.specs.declared.steps.TextwrapSteps.{TextwrapSteps}
 
 -- ---- the lines of a text, each paragraph of which comes with its steps

@@ -1,36 +1,32 @@
 -- How many lines and rows a text has at most, and how long they are together, by the options of C.
-use Rattle.textwrap_calls.proofs.Common.{◌≡◌, ℕ, ◌+◌, ◌*◌, ◌≤◌, ◌==◌, ◌&&◌, true, false, cond, List}
-use Rattle.textwrap_calls.proofs.Common.{[], ◌∷◌, All, All-tail, length, map, refl, sym, ap, ◌∙◌}
-use Rattle.textwrap_calls.proofs.Common.{subst, arith, IsUtf8, Bool, length-append, length-map, ◌-◌}
-use Rattle.textwrap_calls.proofs.Common.{get_or, flat_map, range_with_len, ◌<◌, nat_tests, cases_lt}
-use Rattle.textwrap_calls.proofs.Common.{inl, inr, Settings, LineParts, AreIndented, line_bytes}
-use Rattle.textwrap_calls.proofs.Common.{line_from, indent_of, ending_bytes, join_with}
-use Rattle.textwrap_calls.proofs.Common.{paragraphs_of, AreGroups, AreParagraphParts, IsFilled}
-use Rattle.textwrap_calls.proofs.Common.{mul-le, flat, HasNoHyphen, join-paragraphs_of}
-use Rattle.textwrap_calls.proofs.Common.{paragraphs_of-utf8, ending_bytes-some, table_rows}
-use Rattle.textwrap_calls.proofs.Common.{IsInColumns, algorithm_of, Divides, separator_of}
-use Rattle.textwrap_calls.proofs.Common.{splitter_of, settings_of, TextwrapOptions, All-head}
-use Rattle.textwrap_text.proofs.Common.{and_parts, ◌/◌, max}
-use Rattle.textwrap_layout.proofs.Common.{covered_by, AreTextLines, Line, Slice, built_bytes, built_text}
-use Rattle.textwrap.proofs.Common.{RowLayout, cell, cells, padded, row_text}
+use Rattle.textwrap_calls.proofs.Common.{join-paragraphs_of, paragraphs_of-utf8, AreParagraphParts}
+use Rattle.textwrap_calls.proofs.Common.{ending_bytes-some, length-replicate, TextwrapOptions, Bool}
+use Rattle.textwrap_calls.proofs.Common.{flat_map-append, div_ceil_times, range_with_len, AreGroups}
+use Rattle.textwrap_calls.proofs.Common.{length-append, paragraphs_of, algorithm_of, ending_bytes}
+use Rattle.textwrap_calls.proofs.Common.{separator_of, AreIndented, HasNoHyphen, IsInColumns, arith}
+use Rattle.textwrap_calls.proofs.Common.{settings_of, splitter_of, built_text, covered_by, All-head}
+use Rattle.textwrap_calls.proofs.Common.{groups-map, length-map, line_bytes, table_rows, LineParts}
+use Rattle.textwrap_calls.proofs.Common.{and_parts, indent_of, join_with, line_from, nat_tests, All}
+use Rattle.textwrap_calls.proofs.Common.{All-tail, IsFilled, Settings, cases_lt, flat_map, AreRows}
+use Rattle.textwrap_calls.proofs.Common.{Divides, IsUtf8, get_or, length, mul-le, false, subst, inl}
+use Rattle.textwrap_calls.proofs.Common.{List, cond, flat, refl, true, ◌&&◌, ◌==◌, inr, map, max, ℕ}
+use Rattle.textwrap_calls.proofs.Common.{sym, ◌*◌, ◌+◌, ◌-◌, ◌/◌, ◌<◌, ◌∙◌, ◌∷◌, ◌≡◌, ◌≤◌, [], ap}
+use Rattle.textwrap_layout.proofs.Common.{AreTextLines, built_bytes, Slice, Line}
+use Rattle.textwrap.proofs.Common.{RowLayout, row_text, padded, cells, cell}
 use Rattle.std.proofs.Common.{replicate}
-use Rattle.std.proofs.Math.Nat.{lt-mul-div-succ, lt_of_mul-lt-mul_right, mul-div-le}
-use Rattle.std.proofs.lemmas.Grind.{div_ceil_times, flat_map-append}
-use Rattle.std.proofs.lemmas.List.{length-replicate}
+use Rattle.std.proofs.Math.Nat.{lt_of_mul-lt-mul_right, lt-mul-div-succ, mul-div-le}
 use Rattle.std.proofs.lemmas.List.Concat.{length-flat_map}
-use Rattle.std.proofs.lemmas.List.Folds.{flat_map-map, sum_by-replicate}
-use Rattle.std.proofs.lemmas.List.FromFn.{fill_by_all, length-range_with_len}
+use Rattle.std.proofs.lemmas.List.Folds.{sum_by-replicate, flat_map-map}
+use Rattle.std.proofs.lemmas.List.FromFn.{length-range_with_len, fill_by_all}
 use Rattle.std.specs.Int.{div_ceil}
-use Rattle.textwrap_lines.proofs.Text.Groups.{groups-map}
 use Rattle.textwrap_layout.specs.Paragraph.{Built}
 use Rattle.textwrap.proofs.Text.Tables.{columns_kept}
-use Rattle.textwrap.specs.Columns.{row_count, layout_of, at_column_width, column_width, inner_width}
+use Rattle.textwrap.specs.Columns.{at_column_width, column_width, inner_width, layout_of, row_count}
 use Rattle.textwrap_plain.proofs.Words.{IsWrapped-at}
-use Rattle.textwrap_calls.proofs.Lengths.Lines.{count-lines, groups-size, indent-length}
-use Rattle.textwrap_calls.proofs.Lengths.Lines.{later-length, line-length, slices}
-use Rattle.textwrap_calls.proofs.Lengths.Sums.{by-columns, flat-each, joined-some, texts-joined}
-use Rattle.textwrap_calls.specs.Bounds.{wrap_room_bound, fill_bound, columns_room_bound, rows_bound}
-use Rattle.textwrap_calls.specs.Columns.{AreRows}
+use Rattle.textwrap_calls.proofs.Lengths.Lines.{indent-length, later-length, count-lines, slices}
+use Rattle.textwrap_calls.proofs.Lengths.Lines.{groups-size, line-length}
+use Rattle.textwrap_calls.proofs.Lengths.Sums.{texts-joined, joined-some, by-columns, flat-each}
+use Rattle.textwrap_calls.specs.Bounds.{columns_room_bound, wrap_room_bound, fill_bound, rows_bound}
 use Rattle.textwrap_calls.specs.declared.columns.TextwrapGaps.{TextwrapGaps}
 
 -- ---- lines of their own
@@ -109,7 +105,7 @@ pub lines-bounded : (o : TextwrapOptions) (settings : Settings) (len : ℕ) (tex
     (lines : List Line) → IsUtf8 text → length text ≡ len
     → AreTextLines settings (Divides o settings) text lines → AreBounded settings len lines
 lines-bounded o settings len text lines utf8 len_is are =
-    let all = IsWrapped-at (separator_of o) settings (algorithm_of o) (splitter_of o) text lines
+    let all = IsWrapped-at (separator_of o) {algorithm = algorithm_of o} {splitter = splitter_of o}
     utf8 are in
     let ending = settings.line_ending in
     let groups = all.are.groups in

@@ -1,36 +1,30 @@
 -- How many pieces and lines a paragraph has at most, and how long what they show is.
-use Rattle.textwrap_calls.proofs.Common.{AreParagraphParts, TextwrapOptions, range_with_len, IsUtf8}
+use Rattle.textwrap_calls.proofs.Common.{some_from_nonempty, AreParagraphParts, parts_from-pieces}
+use Rattle.textwrap_calls.proofs.Common.{TextwrapOptions, flat_map-append, range_with_len, All-cons}
 use Rattle.textwrap_calls.proofs.Common.{encodes-chars, length-append, algorithm_of, broken_texts}
 use Rattle.textwrap_calls.proofs.Common.{length-slice, separator_of, AreIndented, HasNoHyphen, Bool}
-use Rattle.textwrap_calls.proofs.Common.{length-drop, splitter_of, All-weaker, cases_Bool, All-cons}
-use Rattle.textwrap_calls.proofs.Common.{covered_by, length-map, line_bytes, parts_from, AreGroups}
-use Rattle.textwrap_calls.proofs.Common.{LineParts, indent_of, line_from, widths_of, All-head, List}
-use Rattle.textwrap_calls.proofs.Common.{All-tail, Settings, WordText, flat_map, is_whole, sizes_of}
-use Rattle.textwrap_calls.proofs.Common.{words_by, All-nil, Divides, word_of, filter, length, arith}
-use Rattle.textwrap_calls.proofs.Common.{nat_lt, false, subst, tiled, units, cond, drop, flat, refl}
-use Rattle.textwrap_calls.proofs.Common.{true, zero, ◌++◌, ◌||◌, All, inl, inr, map, suc, sym, ◌*◌}
-use Rattle.textwrap_calls.proofs.Common.{◌+◌, ◌-◌, ◌<◌, ◌∙◌, ◌∷◌, ◌≡◌, ◌≢◌, ◌≤◌, [], ap, ℕ}
-use Rattle.textwrap_text.proofs.Common.{All-map}
-use Rattle.textwrap_base.proofs.Common.{IsDivision}
-use Rattle.textwrap_words.proofs.Common.{tile_of, broken_words, pieces_with, AtHyphens, Splitter}
-use Rattle.textwrap_words.proofs.Common.{split_words, Whole, Algorithm, Greedy, LeastCost}
-use Rattle.textwrap_words.proofs.Common.{IsDividedBy, broken_word}
-use Rattle.textwrap_layout.proofs.Common.{empty_word, front_pieces, pieces_by, later_width}
-use Rattle.std.proofs.lemmas.Grind.{flat_map-append}
+use Rattle.textwrap_calls.proofs.Common.{broken_word, length-drop, splitter_of, All-weaker, All-map}
+use Rattle.textwrap_calls.proofs.Common.{IsDivision, cases_Bool, covered_by, length-map, line_bytes}
+use Rattle.textwrap_calls.proofs.Common.{parts_from, units_past, AreGroups, LineParts, indent_of, ℕ}
+use Rattle.textwrap_calls.proofs.Common.{line_from, widths_of, All-head, All-tail, Settings, IsUtf8}
+use Rattle.textwrap_calls.proofs.Common.{WordText, flat_map, is_whole, sizes_of, taken_at, words_by}
+use Rattle.textwrap_calls.proofs.Common.{All-nil, AreNext, Divides, word_of, filter, length, nat_lt}
+use Rattle.textwrap_calls.proofs.Common.{arith, false, subst, tiled, units, List, cond, drop, flat}
+use Rattle.textwrap_calls.proofs.Common.{refl, true, zero, ◌++◌, ◌||◌, All, inl, inr, map, suc, sym}
+use Rattle.textwrap_calls.proofs.Common.{◌*◌, ◌+◌, ◌-◌, ◌<◌, ◌∙◌, ◌∷◌, ◌≡◌, ◌≢◌, ◌≤◌, [], ap}
+use Rattle.textwrap_words.proofs.Common.{broken_words, IsDividedBy, pieces_with, split_words, Whole}
+use Rattle.textwrap_words.proofs.Common.{Algorithm, AtHyphens, LeastCost, Splitter, tile_of, Greedy}
+use Rattle.textwrap_layout.proofs.Common.{front_pieces, later_width, empty_word, pieces_by}
 use Rattle.std.proofs.lemmas.Str.{length-le-encodes}
 use Rattle.std.specs.List.{slice_range}
 use Rattle.std.specs.Prelude.{chars}
-use Rattle.textwrap_text.proofs.Lists.Parts.{some_from_nonempty}
 use Rattle.textwrap_words.proofs.Word.Breaking.{AreBroken-exists}
-use Rattle.textwrap_words.proofs.Word.Words.{All-each, IsMeasured, tile_of-word_of}
-use Rattle.textwrap_text.specs.Units.{taken_at, units_past}
-use Rattle.textwrap_words.specs.Cuts.{AreNext}
-use Rattle.textwrap_words.specs.WordSplitters.{cut_penalty, is_hyphen_point, split_from, split_word}
+use Rattle.textwrap_words.proofs.Word.Words.{tile_of-word_of, IsMeasured, All-each}
+use Rattle.textwrap_words.specs.WordSplitters.{is_hyphen_point, cut_penalty, split_from, split_word}
 use Rattle.textwrap_words.specs.Words.{piece}
-use Rattle.textwrap_lines.proofs.Paragraph.KeepsTo.{parts_from-pieces}
-use Rattle.textwrap_layout.proofs.Paragraph.LeftOff.{laid_out-cases, bytes-assembled}
-use Rattle.textwrap_layout.proofs.Paragraph.Pieces.{ArePieces-by, split_words-measured}
-use Rattle.textwrap_layout.proofs.Paragraph.Pieces.{split_words-tile}
+use Rattle.textwrap_layout.proofs.Paragraph.LeftOff.{bytes-assembled, laid_out-cases}
+use Rattle.textwrap_layout.proofs.Paragraph.Pieces.{split_words-measured, split_words-tile}
+use Rattle.textwrap_layout.proofs.Paragraph.Pieces.{ArePieces-by}
 use Rattle.textwrap_layout.specs.Paragraph.{indent_before}
 use Rattle.textwrap.proofs.Text.PlainFilled.{bytes_of}
 use Rattle.textwrap_plain.proofs.Words.{words_by-parts, words_by-texts}
@@ -163,14 +157,14 @@ count-pieces : (o : TextwrapOptions) (settings : Settings) (paragraph : List ℕ
 count-pieces o settings paragraph utf8 =
     let words = words_by (separator_of o) paragraph in
     let split = split_words (splitter_of o) words in
-    let parts = words_by-parts (separator_of o) paragraph utf8 in
+    let (parts, some, are) = words_by-parts (separator_of o) paragraph utf8 in
     let texts = words_by-texts (separator_of o) paragraph utf8 in
-    let covers = All-map CoversSome word_of parts.parts
+    let covers = All-map CoversSome word_of parts
     (All-weaker (λ part. part ≢ []) (λ part. CoversSome (word_of part))
     (λ part some. omega (arith, some_from_nonempty part some, ap length (tile_of-word_of part)))
-    parts.parts parts.some) in
+    parts some) in
     let cover = All-each CoversSome CoversSome (split_word (splitter_of o))
-    (word-cover (splitter_of o)) words (subst (All CoversSome) (sym parts.are) covers) in
+    (word-cover (splitter_of o)) words (subst (All CoversSome) (sym are) covers) in
     let measured = split_words-measured settings (splitter_of o) paragraph words utf8 texts in
     let total = ap length (split_words-tile settings (splitter_of o) paragraph words utf8 texts) in
     let limit = later_width settings in

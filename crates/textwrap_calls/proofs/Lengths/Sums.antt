@@ -1,12 +1,10 @@
 -- How long texts are together and joined, and bounds that a number may not hold.
-use Rattle.textwrap_calls.proofs.Common.{◌≡◌, ℕ, ◌+◌, ◌*◌, ◌≤◌, ◌<◌, List, [], ◌∷◌, ◌++◌, length, map}
-use Rattle.textwrap_calls.proofs.Common.{ap, ◌∙◌, refl, arith, flat, flat_map, length-append, zero, suc}
-use Rattle.textwrap_calls.proofs.Common.{join_with}
+use Rattle.textwrap_calls.proofs.Common.{flat_map-append, length-append, either_short, join_with, ℕ}
+use Rattle.textwrap_calls.proofs.Common.{flat_map, as_len, length, arith, List, flat, refl, zero}
+use Rattle.textwrap_calls.proofs.Common.{◌++◌, map, suc, ◌*◌, ◌+◌, ◌<◌, ◌∙◌, ◌∷◌, ◌≡◌, ◌≤◌, [], ap}
 use Rattle.std.proofs.Math.Nat.{mul_comm}
 use Rattle.std.proofs.lemmas.List.Folds.{flat_map-map}
-use Rattle.std.proofs.lemmas.Grind.{flat_map-append}
-use Rattle.textwrap_text.proofs.Numbers.{either_short}
-use Rattle.textwrap_calls.specs.Bounds.{as_len, Suffices}
+use Rattle.textwrap_calls.specs.Bounds.{Suffices}
 
 -- ---- how long texts are together and joined
 
@@ -56,9 +54,9 @@ joined-some ending (x ∷ y ∷ xs) some =
 -- ---- A bound that a number may not hold
 
 -- a bound that a number does not hold stays at the greatest
-pub within-limit : (needed most bound : ℕ) → needed ≤ most → bound ≡ as_len most
+pub within-limit : {needed most bound : ℕ} → needed ≤ most → bound ≡ as_len most
     → Suffices bound needed
-within-limit needed most bound within is = grind (arith, either_short)
+within-limit within is = grind (arith, either_short)
 
 -- ---- sums and products, step by step
 

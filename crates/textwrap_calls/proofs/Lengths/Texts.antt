@@ -1,30 +1,28 @@
 -- How long the lines of a text are, a text that is unfilled, and one that is dedented.
-use Rattle.textwrap_calls.proofs.Common.{◌≡◌, ℕ, ◌+◌, ◌-◌, ◌≤◌, ◌==◌, true, false, cond, List, []}
-use Rattle.textwrap_calls.proofs.Common.{◌∷◌, ◌++◌, length, map, take, sym, ap, ◌∙◌, arith, inl}
-use Rattle.textwrap_calls.proofs.Common.{inr, eqb-true, length-append, lines, slice_index, flat}
-use Rattle.textwrap_calls.proofs.Common.{drop, filter, length-drop, length-map, ◌*◌, Bool, refl}
-use Rattle.textwrap_calls.proofs.Common.{All-head, StartsWith, starts_with_length, ◌&&◌}
-use Rattle.textwrap_calls.proofs.Common.{take-append-drop, cases_Bool, All, subst, IsUtf8, All-nil}
-use Rattle.textwrap_calls.proofs.Common.{All-cons, encode_utf8_all, All-weaker, take_all, join_with}
-use Rattle.textwrap_calls.proofs.Common.{ending_bytes, is_blank_line, chars, ending_bytes-some}
-use Rattle.textwrap_calls.proofs.Common.{LineEnding, dedented, unfilled_parts, All-tail, flat_map}
-use Rattle.textwrap_text.proofs.Common.{last, length-take, ends_with, nat_eq, take_more, blank}
-use Rattle.textwrap_text.proofs.Common.{None, Option, Some}
-use Rattle.textwrap.proofs.Common.{EndedLine, joined_text, line_prefix, common_prefix, margin_of}
+use Rattle.textwrap_calls.proofs.Common.{strip_carriage_return, starts_with_length, encode_utf8_all}
+use Rattle.textwrap_calls.proofs.Common.{ending_bytes-some, take-append-drop, slice_index_or, arith}
+use Rattle.textwrap_calls.proofs.Common.{unfilled_parts, without_margin, is_blank_line, length-drop}
+use Rattle.textwrap_calls.proofs.Common.{length-append, ending_bytes, length-take, slice_index, All}
+use Rattle.textwrap_calls.proofs.Common.{All-weaker, LineEnding, StartsWith, cases_Bool, length-map}
+use Rattle.textwrap_calls.proofs.Common.{ends_with, join_with, All-cons, All-head, All-tail, IsUtf8}
+use Rattle.textwrap_calls.proofs.Common.{dedented, eqb-true, flat_map, take_all, All-nil, filter, ℕ}
+use Rattle.textwrap_calls.proofs.Common.{length, chars, false, lines, subst, Bool, List, cond, drop}
+use Rattle.textwrap_calls.proofs.Common.{flat, refl, take, true, ◌&&◌, ◌++◌, ◌==◌, inl, inr, map}
+use Rattle.textwrap_calls.proofs.Common.{sym, ◌*◌, ◌+◌, ◌-◌, ◌∙◌, ◌∷◌, ◌≡◌, ◌≤◌, [], ap}
+use Rattle.textwrap_text.proofs.Common.{take_more, Option, nat_eq, blank, None, Some, last}
+use Rattle.textwrap.proofs.Common.{common_prefix, joined_text, line_prefix, EndedLine, margin_of}
 use Rattle.std.proofs.lemmas.Slice.Eq.{bytes_eq-Decides}
-use Rattle.std.specs.Prelude.{slice_index_or}
-use Rattle.std.specs.Str.Lines.{strip_carriage_return}
 use Rattle.textwrap_text.proofs.Lists.Elements.{flat-map}
-use Rattle.textwrap_text.proofs.Lists.Parts.{last-cons, last-append}
-use Rattle.textwrap_text.proofs.Texts.{cut_text, ascii_seam}
+use Rattle.textwrap_text.proofs.Lists.Parts.{last-append, last-cons}
+use Rattle.textwrap_text.proofs.Texts.{ascii_seam, cut_text}
 use Rattle.textwrap_text.specs.declared.line_ending.LineEnding.TheVariants.{CRLF, LF}
-use Rattle.textwrap_text.proofs.TextLines.{by-lines, ended_lines-texts, ended_parts-flat, last-free}
-use Rattle.textwrap_text.proofs.TextLines.{lines-front, lines-made, lines-whole, made_of, texts_of}
+use Rattle.textwrap_text.proofs.TextLines.{ended_lines-texts, ended_parts-flat, lines-front}
+use Rattle.textwrap_text.proofs.TextLines.{lines-whole, lines-made, last-free, by-lines, texts_of}
+use Rattle.textwrap_text.proofs.TextLines.{made_of}
 use Rattle.textwrap_text.specs.TextLines.{bytes_at_end, ended_lines, with_ending}
 use Rattle.textwrap.proofs.Text.Unfilling.{common_prefix-begins, line_prefix-begins}
-use Rattle.textwrap.specs.Indentation.{without_margin}
-use Rattle.textwrap.specs.Refilling.{has_text, without_indents, added_ending}
-use Rattle.textwrap_calls.proofs.Lengths.Sums.{flat-each, texts-joined}
+use Rattle.textwrap.specs.Refilling.{without_indents, added_ending, has_text}
+use Rattle.textwrap_calls.proofs.Lengths.Sums.{texts-joined, flat-each}
 
 -- ---- how long the lines of a text are together
 

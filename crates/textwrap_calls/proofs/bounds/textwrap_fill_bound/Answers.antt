@@ -1,5 +1,4 @@
-use Rattle.textwrap_calls.proofs.Common.{settings_of}
-use Rattle.std.proofs.Common.{arith, rules}
+use Rattle.textwrap_calls.proofs.Common.{settings_of, arith, rules}
 use Rattle.textwrap_calls.proofs.Lengths.Bounds.{filled-bounded}
 use Rattle.textwrap_calls.proofs.Lengths.Sums.{within-limit}
 use Rattle.textwrap_calls.proofs.bounds.textwrap_fill_bound.Goals as goal
@@ -8,6 +7,5 @@ pub returns-clause-enough : goal.returns-clause-enough
 returns-clause-enough c =
     let o = c.args.options.now in
     λ text utf8 len_is filled are.
-    within-limit _ _ c.saturating_add.result
-    (filled-bounded o (settings_of o) c.args.text_len text filled utf8 len_is are)
+    within-limit (filled-bounded o (settings_of o) c.args.text_len text filled utf8 len_is are)
     (search (rules, arith))

@@ -10,7 +10,6 @@ returns-clause-value c =
 
 pub returns-clause-enough : goal.returns-clause-enough
 returns-clause-enough c = λ some text utf8 len_is rows are.
-    within-limit _ _ c.saturating_add.result
-    (room-within c.args.options.now c.args.gaps.now c.args.columns some c.args.text_len text utf8
-    len_is rows are)
-    (returns-clause-value c)
+    within-limit (room-within c.args.options.now c.args.gaps.now c.args.columns some c.args.text_len
+    text utf8
+    len_is rows are) (returns-clause-value c)

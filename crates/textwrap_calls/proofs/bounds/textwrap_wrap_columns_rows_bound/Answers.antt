@@ -5,6 +5,5 @@ use Rattle.textwrap_calls.proofs.bounds.textwrap_wrap_columns_rows_bound.Goals a
 
 pub returns-clause-enough : goal.returns-clause-enough
 returns-clause-enough c = λ some o gaps text utf8 len_is rows are.
-    within-limit _ _ c.saturating_add.result
-    (rows-within o gaps c.args.columns some c.args.text_len text utf8 len_is rows are)
+    within-limit (rows-within o gaps c.args.columns some c.args.text_len text utf8 len_is rows are)
     (search (rules, arith))

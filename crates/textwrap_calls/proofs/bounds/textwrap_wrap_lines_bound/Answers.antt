@@ -5,6 +5,6 @@ use Rattle.textwrap_calls.proofs.bounds.textwrap_wrap_lines_bound.Goals as goal
 
 pub returns-clause-enough : goal.returns-clause-enough
 returns-clause-enough c = λ o text utf8 len_is lines places are.
-    within-limit _ _ c.saturating_add.result
-    (lines-bounded o (settings_of o) c.args.text_len text lines utf8 len_is are.are).count
+    within-limit (lines-bounded o (settings_of o) c.args.text_len text lines
+    utf8 len_is are.are).count
     c.saturating_add.ensures

@@ -1,5 +1,4 @@
-use Rattle.textwrap_calls.proofs.Common.{settings_of}
-use Rattle.std.proofs.Common.{arith, rules}
+use Rattle.textwrap_calls.proofs.Common.{settings_of, arith, rules}
 use Rattle.textwrap_calls.proofs.Lengths.Bounds.{lines-bounded}
 use Rattle.textwrap_calls.proofs.Lengths.Sums.{within-limit}
 use Rattle.textwrap_calls.proofs.bounds.textwrap_wrap_room_bound.Goals as goal
@@ -8,14 +7,14 @@ pub returns-then-is_empty-2-clause-enough : goal.returns-then-is_empty-2-clause-
 returns-then-is_empty-2-clause-enough c =
     let o = c.args.options.now in
     λ text utf8 len_is lines places are.
-    within-limit _ _ 0
-    (lines-bounded o (settings_of o) c.args.text_len text lines utf8 len_is are.are).built
+    within-limit (lines-bounded o (settings_of o) c.args.text_len text lines
+    utf8 len_is are.are).built
     (search (rules, arith))
 
 pub returns-clause-enough : goal.returns-clause-enough
 returns-clause-enough c =
     let o = c.args.options.now in
     λ text utf8 len_is lines places are.
-    within-limit _ _ c.bytes_and_indents.result
-    (lines-bounded o (settings_of o) c.args.text_len text lines utf8 len_is are.are).built
+    within-limit (lines-bounded o (settings_of o) c.args.text_len text lines
+    utf8 len_is are.are).built
     (search (rules, arith))

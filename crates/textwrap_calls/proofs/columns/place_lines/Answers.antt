@@ -1,7 +1,6 @@
 use Rattle.textwrap_calls.proofs.columns.place_lines.Goals as goal
-use Rattle.textwrap_calls.proofs.Common.{IfOk, ◌≡◌, ap, subst, ◌∙◌, table_rows, texts_of}
-use Rattle.textwrap_calls.proofs.Common.{ArePlacedRows, bytes_of}
-use Rattle.textwrap.specs.Columns.{layout_view}
+use Rattle.textwrap_calls.proofs.Common.{ArePlacedRows, layout_view, table_rows, bytes_of, texts_of}
+use Rattle.textwrap_calls.proofs.Common.{subst, IfOk, ◌∙◌, ◌≡◌, ap}
 
 pub returns : goal.returns
 returns c =

@@ -1,6 +1,5 @@
 use Rattle.textwrap_calls.proofs.display.textwrap_shorten.Goals as goal
-use Rattle.textwrap_calls.proofs.Common.{rules}
-use Rattle.textwrap_calls.specs.Display.{IsShort}
+use Rattle.textwrap_calls.proofs.Common.{IsShort, rules}
 use Rattle.textwrap_calls.proofs.RoomLemmas.{WritesText-answer}
 
 pub returns-in-Ok-clause-short : goal.returns-in-Ok-clause-short

@@ -1,7 +1,6 @@
 use Rattle.textwrap_calls.proofs.line_lists.place_carried.Goals as goal
-use Rattle.textwrap_calls.proofs.Common.{IfOk, ◌≡◌, [], ap, map, subst, ◌∙◌, texts_of}
-use Rattle.textwrap_calls.proofs.Common.{carried_lines, ArePlacedRows, bytes_of}
-use Rattle.textwrap_layout.specs.Paragraph.{line_bytes}
+use Rattle.textwrap_calls.proofs.Common.{ArePlacedRows, carried_lines, line_bytes, bytes_of, subst}
+use Rattle.textwrap_calls.proofs.Common.{texts_of, IfOk, map, ◌∙◌, ◌≡◌, [], ap}
 
 pub returns : goal.returns
 returns g c =

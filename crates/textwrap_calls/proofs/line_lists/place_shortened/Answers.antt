@@ -1,7 +1,6 @@
 use Rattle.textwrap_calls.proofs.line_lists.place_shortened.Goals as goal
-use Rattle.textwrap_calls.proofs.Common.{ap, map, ◌∙◌, texts_of, bytes_of}
+use Rattle.textwrap_calls.proofs.Common.{line_view, bytes_of, texts_of, map, ◌∙◌, ap}
 use Rattle.std.proofs.lemmas.Result.{IfOk-weaker}
-use Rattle.textwrap_layout.specs.Paragraph.{line_view}
 use Rattle.textwrap_calls.proofs.TextLemmas.{lines-short}
 
 pub returns : goal.returns

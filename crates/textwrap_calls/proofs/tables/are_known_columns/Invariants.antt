@@ -1,6 +1,5 @@
 use Rattle.textwrap_calls.proofs.tables.are_known_columns.Given as goal
-use Rattle.textwrap_calls.proofs.Common.{ℕ, ◌<◌, get_or, TextwrapColumn}
-use Rattle.textwrap_calls.specs.Tables.{IsKnownColumn}
+use Rattle.textwrap_calls.proofs.Common.{TextwrapColumn, IsKnownColumn, get_or, ◌<◌, ℕ}
 
 -- the columns so far are known
 abbrev pub invariant-loop-column : goal.invariant-loop-column

@@ -1,14 +1,11 @@
 use Rattle.textwrap_calls.proofs.tables.have_text_lines.Goals as goal
-use Rattle.textwrap_calls.proofs.Common.{AllWithin-more, arith, get_or_default, refl, subst}
-use Rattle.textwrap_calls.proofs.Common.{HasTextLines}
+use Rattle.textwrap_calls.proofs.Common.{refl, HasTextLines}
+use Rattle.textwrap_calls.proofs.TextLemmas.{next-holds}
 
 pub loop-cell-preserved : goal.loop-cell-preserved
-loop-cell-preserved c = λ k d below.
-    let cells = c.args.cells.now in
-    let at = c.loop-cell.cell-index in
-    AllWithin-more HasTextLines cells 0 at (λ j e low less. c.loop-cell.invariant j e less)
-    (λ e. subst HasTextLines (get_or_default cells at _ e c.loop-cell-test.true)
-    (record { lines = c.if-not-are_utf8.ensures.0 refl })) k d (omega arith) below
+loop-cell-preserved c =
+    next-holds HasTextLines c.args.cells.now _ c.loop-cell.invariant c.loop-cell-test.true
+    (record { lines = c.if-not-are_utf8.ensures.0 refl })
 
 pub returns-then-not-are_utf8 : goal.returns-then-not-are_utf8
 returns-then-not-are_utf8 c = (

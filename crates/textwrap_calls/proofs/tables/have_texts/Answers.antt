@@ -1,14 +1,11 @@
 use Rattle.textwrap_calls.proofs.tables.have_texts.Goals as goal
-use Rattle.textwrap_calls.proofs.Common.{AllWithin-more, arith, get_or_default, refl, subst}
-use Rattle.textwrap_calls.proofs.Common.{HasTexts}
+use Rattle.textwrap_calls.proofs.Common.{refl, HasTexts}
+use Rattle.textwrap_calls.proofs.TextLemmas.{next-holds}
 
 pub loop-column-preserved : goal.loop-column-preserved
-loop-column-preserved c = λ k d below.
-    let columns = c.args.columns.now in
-    let at = c.loop-column.column-index in
-    AllWithin-more HasTexts columns 0 at (λ j e low less. c.loop-column.invariant j e less)
-    (λ e. subst HasTexts (get_or_default columns at _ e c.loop-column-test.true)
-    (c.if-not-has_texts.ensures.0 refl)) k d (omega arith) below
+loop-column-preserved c =
+    next-holds HasTexts c.args.columns.now _ c.loop-column.invariant c.loop-column-test.true
+    (c.if-not-has_texts.ensures.0 refl)
 
 pub returns-then-not-has_texts : goal.returns-then-not-has_texts
 returns-then-not-has_texts c = (

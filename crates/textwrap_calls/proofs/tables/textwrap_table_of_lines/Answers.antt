@@ -1,7 +1,7 @@
 use Rattle.textwrap_calls.proofs.tables.textwrap_table_of_lines.Goals as goal
 use Rattle.textwrap_calls.proofs.Common.{arith, refl}
 use Rattle.textwrap_calls.proofs.PlaceLemmas.{rows-written}
-use Rattle.textwrap_calls.proofs.TextLemmas.{written-apart}
+use Rattle.textwrap_calls.proofs.TextLemmas.{right-apart, written-apart}
 
 pub place_cells-requires-clause-cells : goal.place_cells-requires-clause-cells
 place_cells-requires-clause-cells c = c.if-not-have_text_lines.ensures.0 refl
@@ -21,19 +21,11 @@ returns-in-Ok-clause-unknown c = (
 )
 
 pub returns-in-Ok-clause-not_utf8 : goal.returns-in-Ok-clause-not_utf8
-returns-in-Ok-clause-not_utf8 c = (
-  λ is. absurd ((written-apart c.put_lines.result c.put_lines.ensures.statuses).0 is),
-  λ (_, _, wrong). absurd (wrong (
-    c.if-not-have_text_lines.ensures.0 refl,
-    c.in-Some.ensures.some,
-  )),
-)
+returns-in-Ok-clause-not_utf8 c =
+    right-apart (written-apart c.put_lines.result c.put_lines.ensures.statuses).0
+    (c.if-not-have_text_lines.ensures.0 refl, c.in-Some.ensures.some)
 
 pub returns-in-Err-clause-not_utf8 : goal.returns-in-Err-clause-not_utf8
-returns-in-Err-clause-not_utf8 c = (
-  λ is. let no : ⊥ = omega (arith, is) in absurd no,
-  λ (_, _, wrong). absurd (wrong (
-    c.if-not-have_text_lines.ensures.0 refl,
-    c.in-Some.ensures.some,
-  )),
-)
+returns-in-Err-clause-not_utf8 c =
+    right-apart (λ is. omega (arith, is))
+    (c.if-not-have_text_lines.ensures.0 refl, c.in-Some.ensures.some)

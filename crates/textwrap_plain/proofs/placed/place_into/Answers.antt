@@ -1,5 +1,4 @@
 use Rattle.textwrap_plain.proofs.placed.place_into.Goals as goal
-use Rattle.textwrap_text.proofs.Common.{refl}
 use Rattle.std.proofs.lemmas.Result.{IfOk-weaker}
 use Rattle.textwrap_plain.proofs.Named.{placed-at, parts-separated, separates-blanks}
 use Rattle.textwrap_plain.specs.Options.{algorithm_of, settings_of, splitter_of, words_by}
@@ -9,8 +8,8 @@ returns-then-are_direct-clause-lines c =
     let o = c.args.options.now in
     let options = c.at_blanks-options.result in
     let blanks = (c.are_direct.ensures.0 c.if-are_direct.true).0 in
-    let parts = parts-separated o options options options.word_separator c.at_blanks-options.ensures refl
-    refl refl refl (separates-blanks _ _ c.at_blanks-options.ensures.separator blanks) in
+    let parts = parts-separated o options c.at_blanks-options.ensures
+    (separates-blanks _ _ c.at_blanks-options.ensures.separator blanks) in
     IfOk-weaker c.place_into.result _ _ (λ counts (lines, places, are, writes). (
       lines,
       places,

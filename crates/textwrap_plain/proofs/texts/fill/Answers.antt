@@ -8,5 +8,5 @@ pub returns-clause-filled : goal.returns-clause-filled
 returns-clause-filled c =
     let said = c.built_in.ensures in
     named (λ settings Divides. IfOk c.fill_by.result (λ filled.
-    IsFilled settings (Divides settings) c.args.text.now (string_bytes filled))) _ _ _ _ _ _ _ _
+    IsFilled settings (Divides settings) c.args.text.now (string_bytes filled)))
     said.layout said.words said.splitter said.algorithm c.fill_by.ensures.filled

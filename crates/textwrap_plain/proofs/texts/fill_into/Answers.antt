@@ -1,5 +1,4 @@
 use Rattle.textwrap_plain.proofs.texts.fill_into.Goals as goal
-use Rattle.textwrap_text.proofs.Common.{refl}
 use Rattle.textwrap_plain.proofs.Named.{only-filled, filled-at, parts-separated, separates-blanks}
 use Rattle.std.proofs.lemmas.Result.{IfOk-weaker}
 use Rattle.textwrap_plain.specs.Options.{algorithm_of, DividesPlainly, settings_of, splitter_of}
@@ -23,8 +22,8 @@ returns-then-are_direct-clause-filled c =
     let o = c.args.options.now in
     let options = c.at_blanks.result in
     let blanks = (c.are_direct.ensures.0 c.if-are_direct.true).0 in
-    let parts = parts-separated o options options options.word_separator c.at_blanks.ensures refl refl
-    refl refl (separates-blanks _ _ c.at_blanks.ensures.separator blanks) in
+    let parts = parts-separated o options c.at_blanks.ensures
+    (separates-blanks _ _ c.at_blanks.ensures.separator blanks) in
     IfOk-weaker c.fill_into.result _ _ (λ len (filled, is, len_is, room). (
       filled,
       filled-at options (words_by o.word_separator) (settings_of o) (splitter_of o)

@@ -8,5 +8,5 @@ pub returns-clause-refilled : goal.returns-clause-refilled
 returns-clause-refilled c =
     let said = c.built_in.ensures in
     named (λ settings Divides. IfOk c.refill_built_in.result (λ refilled.
-    IsRefilled settings Divides c.args.filled_text.now (string_bytes refilled))) _ _ _ _ _ _ _ _
+    IsRefilled settings Divides c.args.filled_text.now (string_bytes refilled)))
     said.layout said.words said.splitter said.algorithm c.refill_built_in.ensures.refilled

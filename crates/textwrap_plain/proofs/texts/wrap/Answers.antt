@@ -5,7 +5,7 @@ use Rattle.std.specs.Prelude.{IfOk}
 use Rattle.textwrap_layout.proofs.Common.{AreTextLines, line_view}
 use Rattle.textwrap_plain.proofs.Words.{ArePrintedWithin-at, IsWrapped-at, LinesKeepToWidth-at}
 use Rattle.textwrap_plain.proofs.texts.wrap.Goals.{After-wrap_by}
-use Rattle.textwrap_plain.specs.Options.{algorithm_of, DividesPlainly, settings_of, splitter_of}
+use Rattle.textwrap_plain.specs.Options.{DividesPlainly, settings_of, splitter_of}
 
 lines : (c : After-wrap_by) → IfOk c.wrap_by.result (λ lines.
     AreTextLines (settings_of c.args.options.now)
@@ -20,21 +20,17 @@ lines c = rw (
 
 pub returns-clause-lines : goal.returns-clause-lines
 returns-clause-lines c =
-    let o = c.args.options.now in
     IfOk-weaker c.wrap_by.result _ _ (λ found.
-    IsWrapped-at o.word_separator (settings_of o) (algorithm_of o) (splitter_of o) c.args.text.now
-    (map line_view found.items) c.utf8.text) (lines c)
+    IsWrapped-at c.args.options.now.word_separator c.utf8.text) (lines c)
 
 pub returns-clause-even : goal.returns-clause-even
 returns-clause-even c = λ even first breaks.
     let o = c.args.options.now in
     IfOk-weaker c.wrap_by.result _ _ (λ found.
-    LinesKeepToWidth-at o.word_separator (settings_of o) (algorithm_of o) (splitter_of o)
-    c.args.text.now (map line_view found.items) c.utf8.text first even breaks) (lines c)
+    LinesKeepToWidth-at o.word_separator (splitter_of o) c.utf8.text first even breaks) (lines c)
 
 pub returns-clause-printed : goal.returns-clause-printed
 returns-clause-printed c = λ first can.
     let o = c.args.options.now in
     IfOk-weaker c.wrap_by.result _ _ (λ found.
-    ArePrintedWithin-at o.word_separator (settings_of o) (algorithm_of o) (splitter_of o)
-    c.args.text.now (map line_view found.items) c.utf8.text first can) (lines c)
+    ArePrintedWithin-at o.word_separator (splitter_of o) c.utf8.text first can) (lines c)

@@ -1,7 +1,6 @@
 use Rattle.textwrap_step_calls.proofs.fragments.textwrap_wrap_optimal_fit.Goals as goal
-use Rattle.textwrap_calls.proofs.Common.{◌∙◌, ap, map}
-use Rattle.textwrap_step_calls.proofs.Common.{ends_of}
-use Rattle.textwrap_calls.proofs.RoomLemmas.{WritesText-answer}
+use Rattle.textwrap_calls.proofs.Common.{map, ◌∙◌, ap}
+use Rattle.textwrap_step_calls.proofs.Common.{WritesText-answer, ends_of}
 
 pub returns-in-Ok-line_ends-clause-fit : goal.returns-in-Ok-line_ends-clause-fit
 returns-in-Ok-line_ends-clause-fit c =

@@ -1,20 +1,14 @@
 use Rattle.textwrap_step_calls.proofs.pieces.placed_pieces.Goals as goal
-use Rattle.textwrap_calls.proofs.Common.{ap, subst, sym, ◌∙◌, as_splitter, standing_left, pieces_of}
-use Rattle.textwrap_calls.proofs.Common.{settings_view}
-use Rattle.textwrap_layout.proofs.Paragraph.Pieces.{pieces_of-no_penalty}
-use Rattle.textwrap_step_calls.proofs.PieceLemmas.{HasLeft, HasNext, Left-start, Left-next}
-use Rattle.textwrap_step_calls.proofs.PieceLemmas.{Left-end}
+use Rattle.textwrap_calls.proofs.Common.{pieces_of-no_penalty, settings_view, standing_left}
+use Rattle.textwrap_calls.proofs.Common.{as_splitter, pieces_of, ◌∙◌, ap}
+use Rattle.textwrap_step_calls.proofs.PieceLemmas.{Left-start, Left-next, Left-end, HasNext}
 use Rattle.textwrap_step_calls.proofs.pieces.placed_pieces.Goals.{In-Some}
 
 pub loop-piece-init : goal.loop-piece-init
 loop-piece-init g c =
-    let all = pieces_of (settings_view c.args.options.now) (as_splitter c.args.splitter)
-    c.args.paragraph.now in
-    subst (λ places. HasLeft all places 0 (standing_left c.into_iter-piece-iterator.result))
-    (sym c.new-pieces.ensures.items)
-    (Left-start all (pieces_of-no_penalty (settings_view c.args.options.now)
-    (as_splitter c.args.splitter) c.args.paragraph.now c.utf8.paragraph)
-    (standing_left c.into_iter-piece-iterator.result)
+    rw c.new-pieces.ensures.items (Left-start
+    (pieces_of-no_penalty (settings_view c.args.options.now) (as_splitter c.args.splitter)
+    c.args.paragraph.now c.utf8.paragraph)
     (ap standing_left c.into_iter-piece-iterator.ensures.into_iter_gives
     ∙ c.paragraph_pieces-piece-items.ensures))
 
@@ -23,13 +17,7 @@ turn : (g : _) (c : In-Some g)
     → HasNext (pieces_of (settings_view c.args.options.now) (as_splitter c.args.splitter)
     c.args.paragraph.now) c.loop-piece.pieces.items c.loop-piece.offset c.in-Some.piece
     (standing_left c.next.new.self)
-turn g c =
-    let all = pieces_of (settings_view c.args.options.now) (as_splitter c.args.splitter)
-    c.args.paragraph.now in
-    Left-next all c.loop-piece.pieces.items c.loop-piece.offset c.in-Some.piece
-    (standing_left c.next.new.self)
-    (subst (HasLeft all c.loop-piece.pieces.items c.loop-piece.offset) c.in-Some.ensures.steps
-    c.loop-piece.invariant)
+turn g c = Left-next (rw c.in-Some.ensures.steps at c.loop-piece.invariant)
 
 pub overflow_sub-piece : goal.overflow_sub-piece
 overflow_sub-piece g c = (turn g (goal.at.overflow_sub-piece g c).In-Some).from
@@ -43,9 +31,4 @@ loop-piece-preserved g c =
     rw (c.in_ok-push.ensures.items) next.next
 
 pub returns : goal.returns
-returns g c =
-    let all = pieces_of (settings_view c.args.options.now) (as_splitter c.args.splitter)
-    c.args.paragraph.now in
-    Left-end all c.loop-piece.pieces.items c.loop-piece.offset
-    (subst (HasLeft all c.loop-piece.pieces.items c.loop-piece.offset) c.in-None.ensures.steps.0
-    c.loop-piece.invariant)
+returns g c = Left-end (rw c.in-None.ensures.steps.0 at c.loop-piece.invariant)

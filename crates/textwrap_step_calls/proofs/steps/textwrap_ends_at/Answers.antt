@@ -1,17 +1,13 @@
 use Rattle.textwrap_step_calls.proofs.steps.textwrap_ends_at.Goals as goal
-use Rattle.textwrap_calls.proofs.Common.{◌≡◌, ◌∷◌, ◌∙◌, [], ℕ, List, ap, map, subst, sym, total_width}
-use Rattle.textwrap_calls.proofs.Common.{sizes_of, word_view, total_width-same, WordText}
-use Rattle.textwrap_calls.proofs.Common.{widths_of, pieces_at, algorithm_of, says_yes, settings_of}
-use Rattle.textwrap_step_calls.proofs.Common.{ends_of}
+use Rattle.textwrap_calls.proofs.Common.{total_width-same, MayDivide-map, settings_view, IsSomeAnd}
+use Rattle.textwrap_calls.proofs.Common.{algorithm_of, division-as, first_width, settings_of, subst}
+use Rattle.textwrap_calls.proofs.Common.{total_width, pieces_at, widths_of, word_view, WordText, []}
+use Rattle.textwrap_calls.proofs.Common.{says_yes, sizes_of, List, map, sym, ◌∙◌, ◌∷◌, ◌≡◌, ap, ℕ}
+use Rattle.textwrap_step_calls.proofs.Common.{WritesText-answer, ends_of}
 use Rattle.textwrap_text.proofs.Common.{Some}
 use Rattle.textwrap_layout.proofs.Paragraph.Widths.{sizes-word_view}
-use Rattle.std.specs.Prelude.{IsSomeAnd}
 use Rattle.textwrap_words.specs.WrapAlgorithms.{algorithm_view, IsDividedBy, OverflowsBy}
-use Rattle.textwrap_words.proofs.Word.Divisions.{MayDivide-map}
-use Rattle.textwrap_layout.proofs.Common.{first_width, settings_view}
-use Rattle.textwrap_layout.proofs.Paragraph.Pieces.{division-as}
-use Rattle.textwrap_step_calls.proofs.EndLemmas.{ends_of-map, OverflowsBy-map}
-use Rattle.textwrap_calls.proofs.RoomLemmas.{WritesText-answer}
+use Rattle.textwrap_step_calls.proofs.EndLemmas.{OverflowsBy-map, ends_from-map}
 use Rattle.textwrap_step_calls.proofs.steps.textwrap_ends_at.Goals.{After-wrap}
 
 -- the pieces and the widths by the numbers of C, and the widths as they were found
@@ -92,7 +88,7 @@ returns-in-Ok-line_ends-clause-ends c =
     let is : c.deref-in-Ok-line_ends.result.now ≡ ends_of words =
     c.deref-in-Ok-line_ends.ensures.value ∙ c.in-Ok-line_ends.ensures
     ∙ ap (λ ls. ends_of (map (λ line. line.now) ls)) c.deref-3.ensures.value
-    ∙ sym (ends_of-map word_view lines) in
+    ∙ sym (ends_from-map word_view 0 lines) in
     WritesText-answer (words, divided, is) c.put.ensures.text
 
 pub returns-in-Ok-line_ends-clause-written_only : goal.returns-in-Ok-line_ends-clause-written_only

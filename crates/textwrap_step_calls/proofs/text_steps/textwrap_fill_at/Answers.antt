@@ -1,9 +1,7 @@
 use Rattle.textwrap_step_calls.proofs.text_steps.textwrap_fill_at.Goals as goal
-use Rattle.textwrap_calls.proofs.Common.{List, [], ap, append-nil, subst, ◌∙◌, settings_view, settings_of, ShowLines}
-use Rattle.textwrap_calls.proofs.Common.{Line, lines_of}
-use Rattle.textwrap_step_calls.proofs.Common.{text_step_cuts}
-use Rattle.textwrap_step_calls.specs.TextSteps.{filled_at}
-use Rattle.textwrap_calls.proofs.RoomLemmas.{WritesText-answer}
+use Rattle.textwrap_calls.proofs.Common.{settings_view, settings_of, append-nil, ShowLines, subst}
+use Rattle.textwrap_calls.proofs.Common.{lines_of, Line, List, ◌∙◌, [], ap}
+use Rattle.textwrap_step_calls.proofs.Common.{WritesText-answer, text_step_cuts, filled_at}
 use Rattle.textwrap_step_calls.proofs.text_steps.textwrap_fill_at.Goals.{After-as_bytes}
 
 abbrev lines : After-as_bytes → List Line

@@ -1,8 +1,7 @@
 use Rattle.textwrap_step_calls.proofs.text_steps.textwrap_wrap_at.Goals as goal
-use Rattle.textwrap_calls.proofs.Common.{◌++◌, ◌∙◌, ℕ, List, refl, subst, lines_of, ShowLines, Settings}
-use Rattle.textwrap_calls.proofs.Common.{ArePlacesOf, settings_of}
-use Rattle.textwrap_step_calls.proofs.Common.{text_step_cuts}
-use Rattle.textwrap_calls.proofs.RoomLemmas.{WritesLines-reported}
+use Rattle.textwrap_calls.proofs.Common.{ArePlacesOf, settings_of, ShowLines, Settings, lines_of, ℕ}
+use Rattle.textwrap_calls.proofs.Common.{subst, List, refl, ◌++◌, ◌∙◌}
+use Rattle.textwrap_step_calls.proofs.Common.{WritesLines-reported, text_step_cuts}
 
 pub returns-in-Ok-place_text-clause-lines : goal.returns-in-Ok-place_text-clause-lines
 returns-in-Ok-place_text-clause-lines c =

@@ -1,22 +1,17 @@
 -- Words that are split by a dictionary, and lines of their pieces.
-use Rattle.std.proofs.Common.{◌≡◌, ℕ, ◌+◌, ◌-◌, ◌<◌, ◌≤◌, List, [], ◌∷◌, ◌++◌, All, length, map}
-use Rattle.std.proofs.Common.{drop, get_or, take, refl, sym, ap, ◌∙◌, arith, append_assoc, IsUtf8}
-use Rattle.std.proofs.Common.{IsCharBoundary, length-append, length-drop, slice_range}
+use Rattle.textwrap_uses.proofs.Common.{IsCharBoundary-start, get_or_append_left, IsDivision-whole}
+use Rattle.textwrap_uses.proofs.Common.{some_from_nonempty, HaveRightPoints, tile_of-word_of, Entry}
+use Rattle.textwrap_uses.proofs.Common.{tiled-words_of, length-append, lines_between, AreInnerCuts}
+use Rattle.textwrap_uses.proofs.Common.{AreLaterCuts, append_assoc, later_begins, begins_from, List}
+use Rattle.textwrap_uses.proofs.Common.{get_or-drop, length-drop, slice_range, IsDivision, WordText}
+use Rattle.textwrap_uses.proofs.Common.{lines_from, points_for, IsNextEnd, drop-drop, points_in, []}
+use Rattle.textwrap_uses.proofs.Common.{words_of, AreEnds, AreNext, tile_of, word_of, IsUtf8, arith}
+use Rattle.textwrap_uses.proofs.Common.{chunks, get_or, length, tiled, drop, flat, refl, take, ◌++◌}
+use Rattle.textwrap_uses.proofs.Common.{All, map, sym, ◌+◌, ◌-◌, ◌<◌, ◌∙◌, ◌∷◌, ◌≡◌, ◌≤◌, ap, ℕ}
+use Rattle.std.proofs.Common.{IsCharBoundary}
 use Rattle.std.proofs.Math.Seq.{drop-append_seam, take-append_seam}
-use Rattle.std.proofs.lemmas.List.{drop-drop, get_or-drop, get_or_append_left}
-use Rattle.std.proofs.lemmas.List.Elements.{All-head, All-map, All-tail}
-use Rattle.std.proofs.lemmas.Str.{IsCharBoundary-start}
-use Rattle.textwrap.specs.Cuts.{AreInnerCuts, AreLaterCuts, AreNext}
-use Rattle.textwrap.specs.Division.{IsDivision}
-use Rattle.textwrap.specs.LineEnds.{AreEnds, IsNextEnd, lines_between, lines_from}
-use Rattle.textwrap.specs.Words.{WordText, chunks, tile_of, tiled, word_of, words_of}
-use Rattle.textwrap.proofs.Dividing.{IsDivision-whole}
-use Rattle.textwrap_text.proofs.Lists.Parts.{flat, some_from_nonempty}
-use Rattle.textwrap_text.proofs.Units.Chunks.{chunks-utf8, AreChunks-chunks}
-use Rattle.textwrap_words.proofs.Word.Words.{tile_of-word_of, tiled-words_of}
-use Rattle.textwrap_uses.specs.Hyphens.{begins_from, later_begins, HaveRightPoints, points_for}
-use Rattle.textwrap_uses.specs.Hyphens.{points_in}
-use Rattle.textwrap_uses.specs.declared.hyphens.Entry.{Entry}
+use Rattle.std.proofs.lemmas.List.Elements.{All-head, All-tail, All-map}
+use Rattle.textwrap_text.proofs.Units.Chunks.{AreChunks-chunks, chunks-utf8}
 
 -- ---- a part that stands in a list, and the places of one that stands in a text
 

@@ -1,1 +1,2 @@
+mod Common
 pub mod Dictionary

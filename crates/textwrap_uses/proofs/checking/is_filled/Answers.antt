@@ -1,6 +1,5 @@
-use Rattle.std.proofs.Common.{◌≡◌, string_bytes, rules}
-use Rattle.textwrap.specs.Options.{settings_at, default_algorithm}
-use Rattle.textwrap.specs.WordSplitters.{AtHyphens}
+use Rattle.textwrap_uses.proofs.Common.{default_algorithm, string_bytes, settings_at, AtHyphens}
+use Rattle.textwrap_uses.proofs.Common.{rules, ◌≡◌}
 use Rattle.textwrap_uses.proofs.checking.is_filled.Goals as goal
 
 pub returns-clause-yes : goal.returns-clause-yes

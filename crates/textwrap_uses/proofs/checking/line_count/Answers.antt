@@ -1,6 +1,4 @@
-use Rattle.std.proofs.Common.{rules, map}
-use Rattle.std.proofs.lemmas.List.{length-map}
-use Rattle.textwrap.specs.Paragraph.{line_view}
+use Rattle.textwrap_uses.proofs.Common.{length-map, line_view, rules, map}
 use Rattle.textwrap_uses.proofs.checking.line_count.Goals as goal
 
 pub returns-clause-counted : goal.returns-clause-counted

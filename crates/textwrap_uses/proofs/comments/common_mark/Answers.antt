@@ -1,6 +1,4 @@
-use Rattle.std.proofs.Common.{drop, map, ap, sym, ◌∙◌}
-use Rattle.std.specs.Str.Lines.{lines}
-use Rattle.textwrap.specs.Refilling.{line_prefix}
+use Rattle.textwrap_uses.proofs.Common.{line_prefix, lines, drop, map, sym, ◌∙◌, ap}
 use Rattle.textwrap_uses.proofs.comments.common_mark.Goals as goal
 
 pub returns : goal.returns

@@ -1,7 +1,4 @@
-use Rattle.std.proofs.Common.{rules, string_bytes}
-use Rattle.textwrap.specs.Laws.{unbroken_at}
-use Rattle.textwrap.specs.Options.{default_algorithm}
-use Rattle.textwrap.specs.WordSplitters.{Whole}
+use Rattle.textwrap_uses.proofs.Common.{default_algorithm, string_bytes, unbroken_at, Whole, rules}
 use Rattle.textwrap_uses.proofs.comments.rewrapped.Goals as goal
 
 pub returns-clause-kept : goal.returns-clause-kept

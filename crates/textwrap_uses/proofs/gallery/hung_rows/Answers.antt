@@ -1,5 +1,4 @@
-use Rattle.std.proofs.lemmas.Result.{IfOk-weaker}
-use Rattle.textwrap_base.proofs.Division.Greedy.{one-width}
+use Rattle.textwrap_uses.proofs.Common.{IfOk-weaker, one-width}
 use Rattle.textwrap_uses.proofs.gallery.hung_rows.Goals as goal
 
 pub returns : goal.returns

@@ -1,7 +1,5 @@
-use Rattle.std.proofs.Common.{◌≡◌, ◌+◌, ◌-◌, arith, refl, subst}
-use Rattle.textwrap.specs.Options.{HasParts, settings_at, default_algorithm}
-use Rattle.textwrap.specs.WordSplitters.{AtHyphens}
-use Rattle.textwrap_uses.specs.Help.{help_columns}
+use Rattle.textwrap_uses.proofs.Common.{default_algorithm, help_columns, settings_at, AtHyphens}
+use Rattle.textwrap_uses.proofs.Common.{HasParts, arith, subst, refl, ◌+◌, ◌-◌, ◌≡◌}
 use Rattle.textwrap_uses.proofs.help.help_rows.Goals as goal
 
 pub returns-clause-table : goal.returns-clause-table

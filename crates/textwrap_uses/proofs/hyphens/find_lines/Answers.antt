@@ -1,15 +1,9 @@
 use Rattle.textwrap_uses.proofs.hyphens.find_lines.Goals as goal
-use Rattle.std.proofs.Common.{◌≡◌, ◌∙◌, ap, map, subst, sym, false}
-use Rattle.textwrap.specs.Cuts.{AreInnerCuts}
-use Rattle.textwrap.specs.LineEnds.{lines_between}
-use Rattle.textwrap.specs.Words.{sizes_of, word_view, words_of}
-use Rattle.textwrap_base.specs.Algorithms.{Greedy}
-use Rattle.textwrap_base.proofs.Division.Map.{IsDividedBy-map}
-use Rattle.textwrap_words.proofs.Word.Divisions.{lines_from-map}
-use Rattle.textwrap_layout.specs.Places.{ArePlacesOf, division_cuts}
-use Rattle.textwrap_lines.specs.Steps.{pieces_at}
-use Rattle.textwrap_uses.specs.Hyphens.{hyphenated_pieces, later_begins, points_in}
-use Rattle.textwrap_uses.proofs.Dictionary.{cuts-are, points-are}
+use Rattle.textwrap_uses.proofs.Common.{hyphenated_pieces, IsDividedBy-map, lines_from-map, Greedy}
+use Rattle.textwrap_uses.proofs.Common.{division_cuts, lines_between, AreInnerCuts, later_begins}
+use Rattle.textwrap_uses.proofs.Common.{ArePlacesOf, pieces_at, points_in, word_view, sizes_of, map}
+use Rattle.textwrap_uses.proofs.Common.{words_of, false, subst, sym, ◌∙◌, ◌≡◌, ap}
+use Rattle.textwrap_uses.proofs.Dictionary.{points-are, cuts-are}
 
 pub pieces_at-requires-clause-cuts : goal.pieces_at-requires-clause-cuts
 pieces_at-requires-clause-cuts c =

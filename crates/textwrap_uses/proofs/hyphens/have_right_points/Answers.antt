@@ -1,8 +1,6 @@
 use Rattle.textwrap_uses.proofs.hyphens.have_right_points.Goals as goal
-use Rattle.std.proofs.Common.{◌∙◌, refl, sym}
-use Rattle.std.proofs.lemmas.Bool.{false≢true}
-use Rattle.std.proofs.lemmas.List.Elements.{All-cons, All-head, All-nil, All-tail}
-use Rattle.textwrap.specs.Words.{word_view}
+use Rattle.textwrap_uses.proofs.Common.{false≢true, word_view, refl, sym, ◌∙◌}
+use Rattle.std.proofs.lemmas.List.Elements.{All-cons, All-head, All-tail, All-nil}
 use Rattle.textwrap_uses.proofs.Dictionary.{HasRightPoints}
 
 pub loop-word-init : goal.loop-word-init

@@ -1,7 +1,5 @@
 use Rattle.textwrap_uses.proofs.hyphens.have_right_points.Given as goal
-use Rattle.std.proofs.Common.{◌↔◌}
-use Rattle.textwrap.specs.Words.{words_of}
-use Rattle.textwrap_uses.specs.Hyphens.{HaveRightPoints}
+use Rattle.textwrap_uses.proofs.Common.{HaveRightPoints, words_of, ◌↔◌}
 
 -- all words are right just if those that are left are
 abbrev pub invariant-loop-word : goal.invariant-loop-word

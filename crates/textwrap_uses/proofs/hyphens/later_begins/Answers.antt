@@ -1,8 +1,6 @@
 use Rattle.textwrap_uses.proofs.hyphens.later_begins.Goals as goal
-use Rattle.std.proofs.Common.{◌∷◌, ◌∙◌, ap, arith, length, sym}
-use Rattle.textwrap.specs.Words.{word_view}
-use Rattle.textwrap_uses.specs.Hyphens.{later_begins}
-use Rattle.textwrap_uses.proofs.Dictionary.{begins-first, room-all, room-next}
+use Rattle.textwrap_uses.proofs.Common.{later_begins, word_view, length, arith, sym, ◌∙◌, ◌∷◌, ap}
+use Rattle.textwrap_uses.proofs.Dictionary.{begins-first, room-next, room-all}
 
 pub loop-word-init : goal.loop-word-init
 loop-word-init c =

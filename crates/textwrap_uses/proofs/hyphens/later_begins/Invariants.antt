@@ -1,7 +1,6 @@
 use Rattle.textwrap_uses.proofs.hyphens.later_begins.Given as goal
-use Rattle.std.proofs.Common.{◌≡◌, ◌+◌, ◌++◌, length}
-use Rattle.textwrap.specs.Words.{tiled, words_of}
-use Rattle.textwrap_uses.specs.Hyphens.{begins_from, later_begins}
+use Rattle.textwrap_uses.proofs.Common.{later_begins, begins_from, words_of, length, tiled, ◌++◌}
+use Rattle.textwrap_uses.proofs.Common.{◌+◌, ◌≡◌}
 
 -- where words begin so far, and where those do that are left
 abbrev pub invariant-loop-word : goal.invariant-loop-word

@@ -1,7 +1,6 @@
 use Rattle.textwrap_uses.proofs.hyphens.line_ends.Goals as goal
-use Rattle.std.proofs.Common.{◌≡◌, ◌∙◌, append-nil, map, sym}
-use Rattle.std.proofs.lemmas.List.{drop_all}
-use Rattle.textwrap_uses.proofs.Dictionary.{division-ends, division-lines, ends_from}
+use Rattle.textwrap_uses.proofs.Common.{append-nil, drop_all, map, sym, ◌∙◌, ◌≡◌}
+use Rattle.textwrap_uses.proofs.Dictionary.{division-lines, division-ends, ends_from}
 use Rattle.textwrap_uses.proofs.hyphens.line_ends.Goals.{After-loop-line}
 
 -- no line is left

@@ -1,6 +1,5 @@
 use Rattle.textwrap_uses.proofs.hyphens.line_ends.Given as goal
-use Rattle.std.proofs.Common.{◌≡◌, ◌+◌, ◌++◌, drop, length, map}
-use Rattle.textwrap_text.proofs.Lists.Parts.{flat}
+use Rattle.textwrap_uses.proofs.Common.{length, drop, flat, ◌++◌, map, ◌+◌, ◌≡◌}
 use Rattle.textwrap_uses.proofs.Dictionary.{ends_from}
 
 -- the ends so far, and those of the lines that are left; these have no more pieces than there are

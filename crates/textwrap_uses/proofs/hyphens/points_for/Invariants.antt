@@ -1,6 +1,5 @@
 use Rattle.textwrap_uses.proofs.hyphens.points_for.Given as goal
-use Rattle.std.proofs.Common.{◌≡◌, drop}
-use Rattle.textwrap_uses.specs.Hyphens.{points_for}
+use Rattle.textwrap_uses.proofs.Common.{points_for, drop, ◌≡◌}
 
 -- the entries that are left give the points
 abbrev pub invariant-loop-entry : goal.invariant-loop-entry

@@ -1,11 +1,8 @@
 use Rattle.textwrap_uses.proofs.hyphens.points_in.Goals as goal
-use Rattle.std.proofs.Common.{◌+◌, ◌^◌, ◌<◌, ◌∙◌, arith, length}
+use Rattle.textwrap_uses.proofs.Common.{IsNextCut, points_in, word_view, words_of, next-at, length}
+use Rattle.textwrap_uses.proofs.Common.{arith, ◌+◌, ◌<◌, ◌^◌, ◌∙◌}
 use Rattle.std.proofs.lemmas.List.Elements.{All-from_get_or, All-head, All-tail}
-use Rattle.textwrap.specs.Cuts.{IsNextCut}
-use Rattle.textwrap_words.proofs.Word.Cuts.{next-at}
-use Rattle.textwrap.specs.Words.{word_view, words_of}
-use Rattle.textwrap_uses.specs.Hyphens.{points_in}
-use Rattle.textwrap_uses.proofs.Dictionary.{HasRightPoints, points-step, room-all, room-next}
+use Rattle.textwrap_uses.proofs.Dictionary.{HasRightPoints, points-step, room-next, room-all}
 
 pub loop-word-init : goal.loop-word-init
 loop-word-init c =

@@ -1,7 +1,6 @@
 use Rattle.textwrap_uses.proofs.hyphens.points_in.Given as goal
-use Rattle.std.proofs.Common.{◌≡◌, ◌+◌, ◌++◌, length}
-use Rattle.textwrap.specs.Words.{tiled, words_of}
-use Rattle.textwrap_uses.specs.Hyphens.{HaveRightPoints, points_in}
+use Rattle.textwrap_uses.proofs.Common.{HaveRightPoints, points_in, words_of, length, tiled, ◌++◌}
+use Rattle.textwrap_uses.proofs.Common.{◌+◌, ◌≡◌}
 
 -- the points so far, and those of the words that are left
 abbrev pub invariant-loop-word : goal.invariant-loop-word

@@ -1,5 +1,5 @@
 use Rattle.textwrap_uses.proofs.hyphens.push_points.Given as goal
-use Rattle.std.proofs.Common.{◌≡◌, ◌+◌, ◌++◌, map, take}
+use Rattle.textwrap_uses.proofs.Common.{take, ◌++◌, map, ◌+◌, ◌≡◌}
 
 -- the first points are added
 abbrev pub invariant-loop-point : goal.invariant-loop-point

@@ -1,5 +1,5 @@
 use Rattle.textwrap_uses.proofs.hyphens.words_of.Goals as goal
-use Rattle.textwrap_words.proofs.Word.Words.{words_unique}
+use Rattle.textwrap_uses.proofs.Common.{words_unique}
 
 pub returns : goal.returns
 returns c = (words_unique c.args.paragraph.now c.in-Ok.words).0 c.in-Ok.ensures.words

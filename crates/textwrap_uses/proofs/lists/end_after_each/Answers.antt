@@ -1,5 +1,4 @@
-use Rattle.std.proofs.Common.{◌+◌, arith}
-use Rattle.textwrap.proofs.Cutting.{EndWith-push, ends-push}
+use Rattle.textwrap_uses.proofs.Common.{EndWith-push, ends-push, arith, ◌+◌}
 use Rattle.textwrap_uses.proofs.lists.end_after_each.Goals as goal
 
 pub loop-before-preserved : goal.loop-before-preserved

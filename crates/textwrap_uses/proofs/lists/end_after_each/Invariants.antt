@@ -1,5 +1,4 @@
-use Rattle.textwrap.specs.LineEnds.{AreEnds}
-use Rattle.textwrap.proofs.Cutting.{EndWith}
+use Rattle.textwrap_uses.proofs.Common.{AreEnds, EndWith}
 use Rattle.textwrap_uses.proofs.lists.end_after_each.Given as goal
 
 -- the ends so far, the last of them after the words so far

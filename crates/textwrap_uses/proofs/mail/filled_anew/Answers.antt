@@ -1,6 +1,5 @@
-use Rattle.std.proofs.Common.{refl, string_bytes}
-use Rattle.textwrap.specs.Options.{settings_at, default_algorithm}
-use Rattle.textwrap.specs.WordSplitters.{AtHyphens}
+use Rattle.textwrap_uses.proofs.Common.{default_algorithm, string_bytes, settings_at, AtHyphens}
+use Rattle.textwrap_uses.proofs.Common.{refl}
 use Rattle.textwrap_uses.proofs.mail.filled_anew.Goals as goal
 
 pub returns-clause-filled : goal.returns-clause-filled

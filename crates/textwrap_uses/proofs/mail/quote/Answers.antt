@@ -1,6 +1,4 @@
-use Rattle.std.proofs.Common.{rules}
-use Rattle.textwrap.specs.Options.{default_algorithm}
-use Rattle.textwrap.specs.WordSplitters.{AtHyphens}
+use Rattle.textwrap_uses.proofs.Common.{default_algorithm, AtHyphens, rules}
 use Rattle.textwrap_uses.proofs.mail.quote.Goals as goal
 
 pub returns-clause-filled : goal.returns-clause-filled

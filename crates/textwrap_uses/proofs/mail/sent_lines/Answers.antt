@@ -1,10 +1,7 @@
 use Rattle.textwrap_uses.proofs.mail.sent_lines.Goals as goal
-use Rattle.std.proofs.Common.{map, subst}
-use Rattle.textwrap.specs.Options.{settings_view}
-use Rattle.textwrap.specs.Paragraph.{line_view, DividesUnder}
-use Rattle.textwrap.specs.Text.{AreTextLines}
+use Rattle.textwrap_uses.proofs.Common.{AreTextLines-methods, settings_view, AreTextLines, subst}
+use Rattle.textwrap_uses.proofs.Common.{DividesUnder, line_view, map}
 use Rattle.textwrap.specs.declared.LineEnding.TheVariants.{CRLF}
-use Rattle.textwrap.proofs.Text.Tables.{AreTextLines-methods}
 
 pub returns-clause-lines : goal.returns-clause-lines
 returns-clause-lines g c =

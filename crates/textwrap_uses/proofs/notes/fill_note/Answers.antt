@@ -1,6 +1,4 @@
-use Rattle.std.proofs.Common.{string_bytes}
-use Rattle.std.proofs.lemmas.Result.{on_ok_weaker}
-use Rattle.std.proofs.lemmas.Str.{IsUtf8-string_bytes}
+use Rattle.textwrap_uses.proofs.Common.{IsUtf8-string_bytes, on_ok_weaker, string_bytes}
 use Rattle.textwrap_uses.proofs.notes.fill_note.Goals as goal
 
 pub returns-clause-wrapped : goal.returns-clause-wrapped

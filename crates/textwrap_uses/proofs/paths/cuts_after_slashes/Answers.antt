@@ -1,8 +1,7 @@
-use Rattle.std.proofs.Common.{◌≡◌, ◌+◌, ◌-◌, ◌<◌, ◌++◌, ◌∷◌, [], length, get_or, ap, ◌∙◌, subst, arith, refl}
+use Rattle.textwrap_uses.proofs.Common.{IsCharBoundary-after_ascii, EndWith-push, length_push, refl}
+use Rattle.textwrap_uses.proofs.Common.{inner-push, get_or, length, arith, subst, ◌++◌, ◌+◌, ◌-◌}
+use Rattle.textwrap_uses.proofs.Common.{◌<◌, ◌∙◌, ◌∷◌, ◌≡◌, [], ap}
 use Rattle.std.specs.Prelude.{IsCharBoundary}
-use Rattle.std.proofs.lemmas.List.{length_push}
-use Rattle.std.proofs.lemmas.Str.{IsCharBoundary-after_ascii}
-use Rattle.textwrap.proofs.Cutting.{EndWith-push, inner-push}
 use Rattle.textwrap_uses.proofs.paths.cuts_after_slashes.Goals as goal
 use Rattle.textwrap_uses.proofs.paths.cuts_after_slashes.Goals.{then-as_bytes-cut-eq47+in_ok-push}
 use Rattle.textwrap_uses.proofs.paths.cuts_after_slashes.Goals.{else-as_bytes-cut-eq47}

@@ -1,5 +1,4 @@
-use Rattle.std.proofs.Common.{◌-◌, ◌<◌, length, get_or}
-use Rattle.textwrap.specs.Cuts.{AreInnerCuts}
+use Rattle.textwrap_uses.proofs.Common.{AreInnerCuts, get_or, length, ◌-◌, ◌<◌}
 use Rattle.textwrap_uses.proofs.paths.cuts_after_slashes.Given as goal
 
 -- the cuts so far, all before this offset

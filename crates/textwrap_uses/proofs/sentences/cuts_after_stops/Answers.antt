@@ -1,9 +1,6 @@
-use Rattle.std.proofs.Common.{◌-◌, ◌+◌, length, get_or, arith, refl}
-use Rattle.std.specs.Char.{len_utf8}
-use Rattle.std.proofs.lemmas.List.{length_push}
-use Rattle.std.proofs.lemmas.Str.{length-encode}
-use Rattle.textwrap.proofs.Cutting.{EndWith-push, HasReadTo-start, HasReadTo-next, inner-none}
-use Rattle.textwrap.proofs.Cutting.{inner-push-after}
+use Rattle.textwrap_uses.proofs.Common.{inner-push-after, HasReadTo-start, HasReadTo-next, len_utf8}
+use Rattle.textwrap_uses.proofs.Common.{length-encode, EndWith-push, length_push, inner-none, arith}
+use Rattle.textwrap_uses.proofs.Common.{get_or, length, refl, ◌+◌, ◌-◌}
 use Rattle.textwrap_uses.proofs.sentences.cuts_after_stops.Goals as goal
 
 pub loop-at-init : goal.loop-at-init

@@ -1,7 +1,5 @@
-use Rattle.std.proofs.Common.{◌-◌, ◌≤◌, length, get_or}
+use Rattle.textwrap_uses.proofs.Common.{AreInnerCuts, HasReadTo, get_or, length, ◌-◌, ◌≤◌}
 use Rattle.std.specs.Str.Iter.{char_indices_offset}
-use Rattle.textwrap.specs.Cuts.{AreInnerCuts}
-use Rattle.textwrap.proofs.Cutting.{HasReadTo}
 use Rattle.textwrap_uses.proofs.sentences.cuts_after_stops.Given as goal
 
 -- the cuts so far, none after the next character's offset

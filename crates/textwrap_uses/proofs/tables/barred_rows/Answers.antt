@@ -1,7 +1,5 @@
-use Rattle.std.proofs.Common.{codes, map, ◌∙◌}
-use Rattle.textwrap.specs.Options.{settings_at, default_algorithm}
-use Rattle.textwrap.specs.Paragraph.{line_bytes}
-use Rattle.textwrap.specs.WordSplitters.{AtHyphens}
+use Rattle.textwrap_uses.proofs.Common.{default_algorithm, settings_at, line_bytes, AtHyphens, map}
+use Rattle.textwrap_uses.proofs.Common.{codes, ◌∙◌}
 use Rattle.textwrap_uses.proofs.tables.barred_rows.Goals as goal
 
 pub returns-clause-table : goal.returns-clause-table

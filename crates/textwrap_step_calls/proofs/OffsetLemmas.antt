@@ -43,75 +43,54 @@ module _ (text : List ℕ) (utf8 : IsUtf8 text) where
         rest = rest;
       }
 
-  later-left : (cs : List ℕ) (at : ℕ) (offsets : List ℕ) → IsCharBoundary text at
-      → drop at text ≡ encode_utf8_all cs → AreNext (IsNextOffset text) offsets at
-      → left_after at cs offsets ≡ []
-  later-left cs at [] here is are = left_after-none cs at
-  later-left [] at (o ∷ os) here is ((past, boundary), are) =
-      absurd (omega (arith, past, boundary.0, ap length is, length-drop at text))
-  later-left (c ∷ cs) at (o ∷ os) here is ((past, boundary), are) =
-      let end = at + length (encode c) in
-      let next = read at c cs here is in
-      let reached = character-within text utf8 at c (encode_utf8_all cs) here is o past boundary in
-      elim (cases_Bool (eqb o end)) [
-        | inl same ↦
-            rw same (later-left cs end os next.boundary next.rest
-            (subst (AreNext (IsNextOffset text) os) (eqb-true o end same) are))
-        | inr other ↦
-            let beyond : end < o = omega (arith, reached, eqb-false o end other) in
-            rw other (later-left cs end (o ∷ os) next.boundary next.rest ((beyond, boundary), are))
-      ]
-
-  left-later : (cs : List ℕ) (at : ℕ) (offsets : List ℕ) → IsCharBoundary text at
-      → drop at text ≡ encode_utf8_all cs → left_after at cs offsets ≡ []
-      → AreNext (IsNextOffset text) offsets at
-  left-later cs at [] here is none = tt
-  left-later [] at (o ∷ os) here is none = absurd (omega (arith, ap length none))
-  left-later (c ∷ cs) at (o ∷ os) here is none =
+  left-next : (cs : List ℕ) (at : ℕ) (offsets : List ℕ) → IsCharBoundary text at
+      → drop at text ≡ encode_utf8_all cs
+      → (left_after at cs offsets ≡ []) ↔ AreNext (IsNextOffset text) offsets at
+  left-next cs at [] here is = (λ none. tt, λ are. left_after-none cs at)
+  left-next [] at (o ∷ os) here is = (
+    λ none. absurd (omega (arith, ap length none)),
+    λ are. absurd (omega (arith, are.0.0, are.0.1.0, ap length is, length-drop at text)),
+  )
+  left-next (c ∷ cs) at (o ∷ os) here is =
       let end = at + length (encode c) in
       let next = read at c cs here is in
       elim (cases_Bool (eqb o end)) [
         | inl same ↦
             let o_is = eqb-true o end same in
-            let are = left-later cs end os next.boundary next.rest (rw same at none) in (
-              (omega (arith, next.some, o_is), subst (IsCharBoundary text) (sym o_is) next.boundary),
-              subst (AreNext (IsNextOffset text) os) (sym o_is) are,
+            let rest = left-next cs end os next.boundary next.rest in
+            rw same (
+              λ none. rw o_is ((next.some, next.boundary), rest.0 none),
+              λ are. rest.1 (subst (AreNext (IsNextOffset text) os) o_is are.1),
             )
         | inr other ↦
-            let are = left-later cs end (o ∷ os) next.boundary next.rest (rw other at none) in
-            ((omega (arith, next.some, are.0.0), are.0.1), are.1)
+            let rest = left-next cs end (o ∷ os) next.boundary next.rest in
+            let reached = character-within text utf8 at c (encode_utf8_all cs) here is o in
+            rw other (
+              λ none.
+                  let are = rest.0 none in ((omega (arith, next.some, are.0.0), are.0.1), are.1),
+              λ are.
+                  let beyond = reached are.0.0 are.0.1 in
+                  rest.1 ((omega (arith, beyond, eqb-false o end other), are.0.1), are.1),
+            )
       ]
 
   module _ (cs : List ℕ) (is : text ≡ encode_utf8_all cs) where
-    offsets-left : (offsets : List ℕ) → AreOffsets text offsets
-        → left_after 0 cs (offsets_past 0 offsets) ≡ []
-    offsets-left [] are = left_after-none cs 0
-    offsets-left (o ∷ os) (first, later) =
-        let start = IsCharBoundary-start text utf8 in
-        elim (cases_Bool (eqb o 0)) [
-          | inl same ↦
-              rw same (later-left cs 0 os start is
-              (subst (AreNext (IsNextOffset text) os) (eqb-true o 0 same) later))
-          | inr other ↦
-              rw other (later-left cs 0 (o ∷ os) start is
-              ((omega (arith, eqb-false o 0 other), first), later))
-        ]
-
-    left-offsets : (offsets : List ℕ) → left_after 0 cs (offsets_past 0 offsets) ≡ []
-        → AreOffsets text offsets
-    left-offsets [] none = tt
-    left-offsets (o ∷ os) none =
-        let start = IsCharBoundary-start text utf8 in
-        elim (cases_Bool (eqb o 0)) [
-          | inl same ↦
-              rw (eqb-true o 0 same) (start, left-later cs 0 os start is (rw same at none))
-          | inr other ↦
-              let are = left-later cs 0 (o ∷ os) start is (rw other at none) in (are.0.1, are.1)
-        ]
-
     offsets-passed : (offsets : List ℕ)
         → (left_after 0 cs (offsets_past 0 offsets) ≡ []) ↔ AreOffsets text offsets
-    offsets-passed offsets = (left-offsets offsets, offsets-left offsets)
+    offsets-passed [] = (λ none. tt, λ are. left_after-none cs 0)
+    offsets-passed (o ∷ os) =
+        let start = IsCharBoundary-start text utf8 in
+        elim (cases_Bool (eqb o 0)) [
+          | inl same ↦
+              let rest = left-next cs 0 os start is in
+              rw (same, eqb-true o 0 same) (λ none. (start, rest.0 none), λ are. rest.1 are.1)
+          | inr other ↦
+              let rest = left-next cs 0 (o ∷ os) start is in
+              rw other (
+                λ none. let are = rest.0 none in (are.0.1, are.1),
+                λ are. rest.1 ((omega (arith, eqb-false o 0 other), are.0), are.1),
+              )
+        ]
 
 -- ---- the offsets of a line, by its visible characters
 

@@ -89,14 +89,17 @@ lines-short most width placeholder lines texts short are none whole cut =
 -- ---- what a call may return that reads columns of a table, and the shapes of these
 
 -- what was laid out is written, or has no room
-pub written-apart : (status : ℕ) → (status ≡ done) ⊎ (status ≡ too_small)
+pub written-apart : {status : ℕ} → (status ≡ done) ⊎ (status ≡ too_small)
     → (status ≢ not_utf8) × (status ≢ unknown_options)
-written-apart status (inl is) = (λ same. omega (arith, is, same), λ same. omega (arith, is, same))
-written-apart status (inr is) = (λ same. omega (arith, is, same), λ same. omega (arith, is, same))
+written-apart (inl is) = (λ same. omega (arith, is, same), λ same. omega (arith, is, same))
+written-apart (inr is) = (λ same. omega (arith, is, same), λ same. omega (arith, is, same))
 
 -- what is right refutes that it is wrong
 pub right-apart : {P A B R : Type 0} → (P → ⊥) → R → P ↔ A × B × (R → ⊥)
 right-apart not right = (λ is. absurd (not is), λ (_, _, wrong). absurd (wrong right))
+
+pub known-apart : {P R : Type 0} → (P → ⊥) → R → P ↔ (R → ⊥)
+known-apart not known = (λ is _. not is, λ unknown. absurd (unknown known))
 
 abbrev shape : ℕ → Alignment → Shape
 shape width alignment = record { width = width; alignment = alignment }

@@ -1,5 +1,4 @@
--- The names that most proofs cite: those of the standard library, of the crates below, and of the
--- definitions of this crate. Declares nothing.
+-- The names that most proofs cite. Declares nothing.
 pub use Rattle.std.proofs.Common.{length-append, append_assoc, string_bytes, length-drop, IsUtf8, ℕ}
 pub use Rattle.std.proofs.Common.{slice_range, append-nil, get_or, length, arith, codes, false, All}
 pub use Rattle.std.proofs.Common.{rules, subst, List, drop, refl, take, true, ◌++◌, map, sym, ◌+◌}

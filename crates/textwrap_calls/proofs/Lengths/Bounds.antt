@@ -237,8 +237,6 @@ rows-length layout lines some =
       ap (λ n. n * row_room layout) (length-range_with_len 0 count),
     )
 
--- ---- how many rows a text in columns has at most, and how long they are together
-
 -- ---- how many rows there are, and how wide
 
 rows_bound-some : (len columns : ℕ) → 1 ≤ columns → rows_bound len columns ≡ len / columns + 1

@@ -76,13 +76,6 @@ feed-within (c ∷ cs) = grind arith
 
 -- ---- how long the text is at most that unfilling joins
 
-drop-each : (n : ℕ) (xs : List (List ℕ)) → length (flat (map (drop n) xs)) ≤ length (flat xs)
-drop-each n xs = omega (
-  arith,
-  ap length (flat-map (drop n) xs),
-  flat-each (drop n) (λ x. x) 0 (λ x. omega (arith, length-drop n x)) xs,
-)
-
 without-length : (initial subsequent : List ℕ) (ls : List (List ℕ))
     → length (join_with (blank ∷ []) (without_indents initial subsequent ls)) ≤ ended_length ls - 1
 without-length initial subsequent [] = omega arith
@@ -92,7 +85,9 @@ without-length initial subsequent (x ∷ xs) =
       arith,
       texts-joined (blank ∷ []) (drop (length initial) x) later,
       length-map xs (drop {A = ℕ} (length subsequent)),
-      drop-each (length subsequent) xs,
+      ap length (flat-map (drop (length subsequent)) xs),
+      flat-each (drop (length subsequent)) (λ x. x) 0
+          (λ x. omega (arith, length-drop (length subsequent) x)) xs,
       length-drop (length initial) x,
       length-append {A = ℕ},
     )

@@ -1,7 +1,7 @@
 use Rattle.textwrap_calls.proofs.tables.textwrap_table_of_lines.Goals as goal
 use Rattle.textwrap_calls.proofs.Common.{arith, refl}
 use Rattle.textwrap_calls.proofs.PlaceLemmas.{rows-written}
-use Rattle.textwrap_calls.proofs.TextLemmas.{right-apart, written-apart}
+use Rattle.textwrap_calls.proofs.TextLemmas.{known-apart, right-apart, written-apart}
 
 pub place_cells-requires-clause-cells : goal.place_cells-requires-clause-cells
 place_cells-requires-clause-cells c = c.if-not-have_text_lines.ensures.0 refl
@@ -12,17 +12,13 @@ returns-in-Ok-clause-table c =
     c.put_lines.ensures.lines
 
 pub returns-in-Ok-clause-unknown : goal.returns-in-Ok-clause-unknown
-returns-in-Ok-clause-unknown c = (
-  λ is _. (written-apart c.put_lines.result c.put_lines.ensures.statuses).1 is,
-  λ unknown. absurd (unknown (
-    c.if-not-are_known_columns.ensures.0 refl,
-    c.if-not-are_known_gaps.ensures.0 refl,
-  )),
-)
+returns-in-Ok-clause-unknown c =
+    known-apart (written-apart c.put_lines.ensures.statuses).1
+    (c.if-not-are_known_columns.ensures.0 refl, c.if-not-are_known_gaps.ensures.0 refl)
 
 pub returns-in-Ok-clause-not_utf8 : goal.returns-in-Ok-clause-not_utf8
 returns-in-Ok-clause-not_utf8 c =
-    right-apart (written-apart c.put_lines.result c.put_lines.ensures.statuses).0
+    right-apart (written-apart c.put_lines.ensures.statuses).0
     (c.if-not-have_text_lines.ensures.0 refl, c.in-Some.ensures.some)
 
 pub returns-in-Err-clause-not_utf8 : goal.returns-in-Err-clause-not_utf8

@@ -24,8 +24,6 @@ use Rattle.textwrap_display.proofs.TableGroups.{MakeThose}
 use Rattle.textwrap_plain.specs.Tables.{plain_parts, plain_shape, PlainMakes}
 use Rattle.textwrap_plain.specs.declared.display.PlainColumn.{PlainColumn}
 
--- ---- what holds by the options that hold no function holds by what they name
-
 pub named : (P : Settings → (Settings → Bool → List ℕ → List (List WordText) → Type 0) → Type 0)
     {s t : Settings} {w v : PlainSeparator} {p q : Splitter} {a b : Algorithm} → s ≡ t → w ≡ v
     → p ≡ q → a ≡ b → P s (DividesAt (words_by w) p a) → P t (DividesAt (words_by v) q b)

@@ -19,7 +19,7 @@ use textwrap_calls::status::{OUT_OF_MEMORY, OVERFLOW, UNKNOWN_OPTIONS};
 
 /// An item that is placed on a line and never cut, in one unit of the caller's choice.
 #[repr(C)]
-#[derive(Clone, Copy)]
+#[derive(Clone, Copy, Debug)]
 pub struct TextwrapFragment {
     /// The width of the item itself.
     pub width: usize,

@@ -45,6 +45,7 @@ impl<'t> Lines<'t> {
     }
 
     /// The first line of a text, and what follows it.
+    #[inline(always)]
     fn first(text: &str) -> (TextLine<'_>, &str)
         requires { 0 < length text.now }
         ensures { ended_lines text.now ≡ ended_line_view result.0 ∷ ended_lines result.1.now }
@@ -81,6 +82,8 @@ impl<'t> Iterator for Lines<'t> {
 
     ghost remaining = { item_count (λ lines. lines) };
 
+    // In a loop it is a fifth of the instructions of a call, which returns six words by memory.
+    #[inline(always)]
     fn next(&mut self) -> Option<TextLine<'t>> {
         if self.0.is_empty() {
             return None;

@@ -224,6 +224,17 @@ HasEnd-last : (q : List Stretch) (n end : ℕ) → n + 1 ≡ length q → (stret
     → HasEnd q end n
 HasEnd-last q n end len begun = omega arith
 
+pub HasEnd-left : (q old : List Stretch) (n end k : ℕ) → q ≡ take n old → HasEnd old end k
+    → k < length q → HasEnd q end k
+HasEnd-left q old n end k is has held =
+    let len = ap length is ∙ length-take n old in
+    record {
+      within = held;
+      begun = rw (stretch_at-left q old n k is (omega arith)) has.begun;
+      before_next = λ l. rw (stretch_at-left q old n (k + 1) is (omega arith))
+          (has.before_next (omega arith));
+    }
+
 -- ---- the newest start against the last stretch
 
 module _ (costs : Costs) (suits : SuitQueue costs) (m start : ℕ) (next : start ≡ m + 1)
@@ -290,6 +301,16 @@ module _ (q more : List Stretch) (s : Stretch) (is : more ≡ q ++ s ∷ []) whe
 
   len-more : length more ≡ length q + 1
   len-more = ap length is ∙ length_push q s
+
+  pub HasEnd-push : (end k : ℕ) → HasEnd q end k → end < s.from → HasEnd more end k
+  HasEnd-push end k has above = record {
+    within = omega (arith, has.within, len-more);
+    begun = rw (at_old k has.within) has.begun;
+    before_next = λ l. elim (cases_lt (k + 1) (length q)) [
+      | inl old ↦ rw (at_old (k + 1) old) (has.before_next old)
+      | inr last ↦ rw (at_new (k + 1) (omega (arith, len-more))) above
+    ];
+  }
 
   AreRising-push : AreRising q → (stretch_at q (length q - 1)).from < s.from → 0 < length q
       → AreRising more

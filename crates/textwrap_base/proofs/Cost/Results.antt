@@ -1,6 +1,6 @@
 -- Only one division is the chosen one, and what a call by optimal fit returns.
-use Rattle.textwrap_text.proofs.Common.{length-take-le, append-nil, IsErrAnd, All-nil, reverse, Err}
-use Rattle.textwrap_text.proofs.Common.{Result, get_or, length, arith, subst, List, drop, refl, inl}
+use Rattle.textwrap_text.proofs.Common.{length-take-le, append-nil, IsErrAnd, All-nil, Err}
+use Rattle.textwrap_text.proofs.Common.{Result, reverse, get_or, length, arith, subst, List, drop, refl, inl}
 use Rattle.textwrap_text.proofs.Common.{take, zero, inr, map, suc, sym, ◌+◌, ◌<◌, ◌^◌, ◌↔◌, ◌∙◌, Ok}
 use Rattle.textwrap_text.proofs.Common.{◌∷◌, ◌≡◌, ◌≢◌, ◌≤◌, [], ap, ℕ}
 use Rattle.textwrap_base.proofs.Common.{AreEqualFromSecond, fragments_table, TableOverflows, Entry}
@@ -17,6 +17,8 @@ use Rattle.textwrap_text.proofs.Lists.Parts.{same_parts}
 use Rattle.textwrap_base.proofs.Cost.Table.{entry-table_first, table_followed, cost_reported}
 use Rattle.textwrap_base.proofs.Cost.Table.{FollowBack, AreStarts, starts_to}
 use Rattle.textwrap_base.specs.OptimalFit.{IsOptimalFitResult, IsTheResult}
+use Rattle.textwrap_base.specs.Queue.{CountsSearch}
+use Rattle.textwrap_base.specs.Table.{CountsSteps}
 use Rattle.textwrap_base.specs.declared.errors.WrapError.{WrapError}
 use Rattle.textwrap_base.specs.declared.errors.WrapError.TheVariants.{Overflow, Memory}
 
@@ -192,3 +194,26 @@ module _ {X A : Type 0} (problem : Problem X) (lines : A → List (List X)) wher
   results-same (Ok value) is (Err e) others = λ over. is.table_ok_only (others.table_overflow_only over)
   results-same (Err e) is (Ok other) others = λ over. others.table_ok_only (is.table_overflow_only over)
   results-same (Err e) is (Err f) others = tt
+
+-- ---- what a call counted, if it ends in an error after it
+
+pub search-refused : {A B E F : Type 0} (n old new : ℕ) (s : Result B F) (r : Result A E)
+    (P : E → Type 0) → IsErrAnd r P → CountsSearch n old new s → CountsSearch n old new r
+search-refused n old new s (Ok value) P is h = absurd is
+search-refused n old new s (Err e) P is h =
+    record { most = h.most; never_less = h.never_less; ok = tt; from_none = tt }
+
+-- the error of a call that only overflows where the counted one does
+pub steps-refused : {X A B : Type 0} (problem : Problem X) (old new : ℕ) (s : Result B WrapError)
+    (r : Result A WrapError) (e : WrapError) → IsErrAnd r (λ f. f ≡ e)
+    → (Overflowed {A = B} (Err e) → Overflowed s) → CountsSteps problem old new s
+    → CountsSteps problem old new r
+steps-refused problem old new s (Ok value) e is over h = absurd is
+steps-refused {X} {A} {B} problem old new s (Err f) e is over h = rw is record {
+  ok = tt;
+  exact = tt;
+  most = h.most;
+  least = h.least;
+  too_wide = h.too_wide;
+  overflow = λ fits past. h.overflow fits (over (passed_on A B e past));
+}

@@ -1,9 +1,11 @@
 use Rattle.textwrap_base.proofs.optimal_fit.wrap_optimal_fit_counted.Goals as goal
-use Rattle.textwrap_text.proofs.Common.{Vec, ◌∙◌}
+use Rattle.textwrap_text.proofs.Common.{Vec, inl, ◌∙◌}
 use Rattle.textwrap_base.proofs.Cost.Results.{optimal-returned, optimal-refused, results-same}
+use Rattle.textwrap_base.proofs.Cost.Results.{steps-refused, search-refused}
 use Rattle.textwrap_base.proofs.Cost.Table.{length_reported, starts_reported, first_reported}
 use Rattle.textwrap_base.proofs.Cost.Table.{later_reported}
 use Rattle.textwrap_base.proofs.Common.{Minimum}
+use Rattle.textwrap_base.specs.declared.errors.WrapError.TheVariants.{Memory}
 
 pub lines_by-requires-clause-len : goal.lines_by-requires-clause-len
 lines_by-requires-clause-len g c =
@@ -36,3 +38,52 @@ returns-clause-same g c = results-same _ _ _ (returns-clause-fit g c)
 
 pub returns-in_err-minima-clause-same : goal.returns-in_err-minima-clause-same
 returns-in_err-minima-clause-same g c = results-same _ _ _ (returns-in_err-minima-clause-fit g c)
+
+pub returns-in_err-lines_by-clause-fit : goal.returns-in_err-lines_by-clause-fit
+returns-in_err-lines_by-clause-fit g c =
+    let none = c.in_ok-minima.ensures.ok_only in
+    optimal-refused _ _ (Vec Minimum g.row.A.Denot) c.from_residual-in_err-lines_by.result
+    (Memory c.in_err-lines_by.field-0.0) c.from_residual-in_err-lines_by.ensures.1
+    (λ over. absurd over) (λ wide. absurd (none (inl wide))) (λ narrow over. over)
+
+pub returns-in_err-lines_by-clause-same : goal.returns-in_err-lines_by-clause-same
+returns-in_err-lines_by-clause-same g c =
+    results-same _ _ _ (returns-in_err-lines_by-clause-fit g c)
+
+pub returns-in_err-minima-clause-steps : goal.returns-in_err-minima-clause-steps
+returns-in_err-minima-clause-steps g c = λ none.
+    steps-refused _ _ _ _ c.from_residual.result c.in_err-minima.field-0.0 c.from_residual.ensures.1
+    (λ over. over) (c.in_err-minima.ensures.steps none)
+
+pub returns-in_err-minima-clause-queue_steps : goal.returns-in_err-minima-clause-queue_steps
+returns-in_err-minima-clause-queue_steps g c = λ case.
+    search-refused _ _ _ _ c.from_residual.result _ c.from_residual.ensures.1
+    (c.in_err-minima.ensures.queue_steps case)
+
+pub returns-in_err-lines_by-clause-steps : goal.returns-in_err-lines_by-clause-steps
+returns-in_err-lines_by-clause-steps g c = λ none.
+    steps-refused _ _ _ _ c.from_residual-in_err-lines_by.result
+    (Memory c.in_err-lines_by.field-0.0) c.from_residual-in_err-lines_by.ensures.1
+    (λ over. over) (c.in_ok-minima.ensures.steps none)
+
+pub returns-in_err-lines_by-clause-queue_steps : goal.returns-in_err-lines_by-clause-queue_steps
+returns-in_err-lines_by-clause-queue_steps g c = λ case.
+    search-refused _ _ _ _ c.from_residual-in_err-lines_by.result _
+    c.from_residual-in_err-lines_by.ensures.1 (c.in_ok-minima.ensures.queue_steps case)
+
+pub returns-clause-steps : goal.returns-clause-steps
+returns-clause-steps g c = λ none.
+    let h = c.in_ok-minima.ensures.steps none in
+    record {
+      ok = h.ok;
+      exact = h.exact;
+      most = h.most;
+      least = h.least;
+      too_wide = h.too_wide;
+      overflow = λ fits over. absurd over;
+    }
+
+pub returns-clause-queue_steps : goal.returns-clause-queue_steps
+returns-clause-queue_steps g c = λ case.
+    let h = c.in_ok-minima.ensures.queue_steps case in
+    record { most = h.most; never_less = h.never_less; ok = h.ok; from_none = h.from_none }

@@ -2,6 +2,7 @@ use Rattle.textwrap_base.proofs.minima.stretches.take_in.Goals as goal
 use Rattle.textwrap_text.proofs.Common.{◌≡◌, ◌-◌, ◌<◌, length, vec_len, arith, ap}
 use Rattle.textwrap_base.proofs.Common.{Costs, IsPriced}
 use Rattle.textwrap_base.proofs.Search.{AreStretches-left, AreStretches-push}
+use Rattle.textwrap_base.proofs.Search.{HasEnd-left, HasEnd-push}
 
 pub returns-in_ok-push-clause-stretches : goal.returns-in_ok-push-clause-stretches
 returns-in_ok-push-clause-stretches g c =
@@ -21,3 +22,13 @@ returns-else-stretch-ends-clause-stretches g c =
     let is = c.new_stretch-stretch.ensures in
     AreStretches-left _ _ _ _ _ _ _ (omega arith) c.requires.stretches is.left is.best
     (omega (arith, ap (λ (l : Costs). l.ends) is.same))
+
+pub returns-in_ok-push-clause-current : goal.returns-in_ok-push-clause-current
+returns-in_ok-push-clause-current g c =
+    let is = c.new_stretch-stretch.ensures in
+    HasEnd-push _ _ _ c.in_ok-push.ensures.items _ _
+    (HasEnd-left _ _ _ _ _ is.left c.requires.current (omega arith)) (omega arith)
+
+pub returns-else-stretch-ends-clause-current : goal.returns-else-stretch-ends-clause-current
+returns-else-stretch-ends-clause-current g c =
+    HasEnd-left _ _ _ _ _ c.new_stretch-stretch.ensures.left c.requires.current (omega arith)

@@ -235,6 +235,22 @@ HasEnd-left q old n end k is has held =
           (has.before_next (omega arith));
     }
 
+-- the stretch of start 1 alone
+pub AreStretches-one : (costs : Costs) (q : List Stretch)
+    → q ≡ record { start = 1; from = 1; cost = 0 } ∷ [] → 1 < costs.ends → AreStretches costs 1 q
+AreStretches-one costs q is l = rw is record {
+  rising = λ i k less within. absurd (omega arith);
+  priced = λ k held. let e : k ≡ 0 = omega arith in rw e (omega arith);
+  best = λ end k after before has.
+      let e : k ≡ 0 = omega (arith, has.within) in
+      rw e record {
+        positive = omega arith;
+        within = omega arith;
+        least = λ i some within. let e : i ≡ 1 = omega arith in rw e (omega arith);
+        first = λ i some less. absurd (omega arith);
+      };
+}
+
 -- ---- the newest start against the last stretch
 
 module _ (costs : Costs) (suits : SuitQueue costs) (m start : ℕ) (next : start ≡ m + 1)
@@ -367,3 +383,7 @@ AreStretches-drop costs m n q are = record {
   best = λ end k after before has. rw (stretch_at-drop q n k)
       (are.best end (n + k) after before (HasEnd-whole q n end k has));
 }
+
+pub HasEnd-drop : (q rest : List Stretch) (end k j : ℕ) → rest ≡ drop (k - j) q → j ≤ k
+    → HasEnd q end k → HasEnd rest end j
+HasEnd-drop q rest end k j is l has = rw is (grind (arith, length-drop, stretch_at-drop))

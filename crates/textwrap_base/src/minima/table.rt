@@ -18,7 +18,6 @@ pub(super) struct Entry {
 }
 
 /// The entries of the table over all ends of the source.
-#[tactic(auto, using(crate::proofs::Cost::Table::counted_within))]
 pub(super) fn fill_table<A: Allocator, C: CostSource>(
     alloc: A,
     costs: &mut C,

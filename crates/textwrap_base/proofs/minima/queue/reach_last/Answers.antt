@@ -1,7 +1,9 @@
 use Rattle.textwrap_base.proofs.minima.queue.reach_last.Goals as goal
 use Rattle.textwrap_text.proofs.Common.{◌≡◌, ◌+◌, ◌*◌, ◌-◌, ◌≤◌, vec_len, ap, sym, ◌∙◌, arith}
-use Rattle.textwrap_base.proofs.Common.{Costs, binary_digits}
+use Rattle.textwrap_text.proofs.Common.{List, [], length, ◌∷◌, ◌++◌}
+use Rattle.textwrap_base.proofs.Common.{Costs, Stretch, binary_digits}
 use Rattle.textwrap_base.proofs.Search.{steps_more, steps_within, AreStretches-drop}
+use Rattle.textwrap_base.proofs.Search.{AreMinima-push, AreStretches-one, HasEnd-drop}
 
 pub next_stretch-current-requires-clause-rising : goal.next_stretch-current-requires-clause-rising
 next_stretch-current-requires-clause-rising g c =
@@ -46,3 +48,29 @@ returns-in_err-advance-clause-steps g c =
     omega (arith, rw same at c.in_err-advance.ensures.steps, c.drop_passed-current.ensures.fewer) in
     rw (← c.ends-ends.ensures)
     (steps_within _ _ _ _ _ _ _ (omega arith) c.loop-stretches.invariant.steps step)
+
+pub loop-stretches-init : goal.loop-stretches-init
+loop-stretches-init g c =
+    let first = c.least_of_all-first.ensures in
+    let two : vec_len c.push.new.self ≡ 2 = omega (arith, c.in_ok-push.ensures.len) in
+    let one : vec_len c.push.new.self - 1 ≡ 1 = omega (arith, two) in
+    let is = c.in_ok-push-2.ensures.items
+    ∙ ap (λ (q : List Stretch). q ++ record { start = 1; from = 1; cost = 0 } ∷ [])
+    c.in_ok-stretches.ensures.items in
+    record {
+      same = first.same;
+      minima = AreMinima-push _ _ _ _ c.requires.minima
+          (rw c.deref.ensures.value at first.least) c.in_ok-push.ensures.items;
+      two = omega arith;
+      within = omega arith;
+      stretches = rw one (AreStretches-one _ _ is (omega arith));
+      current = rw (one, is) (omega arith);
+      steps = rw two (omega (arith, first.steps, ap (length {A = Stretch}) is));
+      never_less = omega (arith, first.steps);
+    }
+
+pub advance-requires-clause-current : goal.advance-requires-clause-current
+advance-requires-clause-current g c = HasEnd-drop _ _ _ _ _ c.drop_passed-current.ensures.left
+    c.drop_passed-current.ensures.within
+    (rw (c.deref-in-loop-stretches.ensures.value, c.len-in-loop-stretches.ensures)
+    at c.next_stretch-current.ensures)

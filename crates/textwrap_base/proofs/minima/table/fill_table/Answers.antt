@@ -1,8 +1,12 @@
 use Rattle.textwrap_base.proofs.minima.table.fill_table.Goals as goal
 use Rattle.textwrap_text.proofs.Common.{◌≡◌, [], ◌∷◌, ◌++◌, ap, ◌+◌, arith, rules, refl, ◌∙◌}
+use Rattle.textwrap_text.proofs.Common.{Vec}
+use Rattle.textwrap_base.proofs.Common.{Entry}
 use Rattle.textwrap_base.specs.Table.{table}
+use Rattle.textwrap_base.specs.declared.errors.WrapError.TheVariants.{Memory}
 use Rattle.textwrap_base.proofs.Cost.Table.{length-table, table_next, table_past, table_fits}
 use Rattle.textwrap_base.proofs.Cost.Table.{number-table, entry-table_longer, counted_next}
+use Rattle.textwrap_base.proofs.Cost.Table.{counted_within, overflowed_on}
 
 pub loop-last-init : goal.loop-last-init
 unfolding table
@@ -55,3 +59,40 @@ loop-last-preserved g c =
       steps = counted_next _ _ _ c.loop-last.last c.loop-last.invariant.steps
           c.cheapest.ensures.steps;
     }
+
+pub cheapest-requires-clause-within : goal.cheapest-requires-clause-within
+cheapest-requires-clause-within g c = rw c.loop-last.invariant.same (omega arith)
+
+pub returns-in_default-clause-steps_most : goal.returns-in_default-clause-steps_most
+returns-in_default-clause-steps_most g c = counted_within _ _ _ c.loop-last.last _
+    c.loop-last.invariant.steps c.cheapest.ensures.steps (omega arith)
+
+pub returns-in_err-push-2-clause-steps_most : goal.returns-in_err-push-2-clause-steps_most
+returns-in_err-push-2-clause-steps_most g c = counted_within _ _ _ c.loop-last.last _
+    c.loop-last.invariant.steps c.cheapest.ensures.steps (omega arith)
+
+pub returns-in_err-push-clause-overflow : goal.returns-in_err-push-clause-overflow
+returns-in_err-push-clause-overflow g c = λ over. absurd (overflowed_on (Vec Entry g.row.A.Denot)
+    c.from_residual.result (Memory _) c.from_residual.ensures.1 over)
+
+pub returns-in_err-push-2-clause-overflow : goal.returns-in_err-push-2-clause-overflow
+returns-in_err-push-2-clause-overflow g c = λ over. absurd (overflowed_on (Vec Entry g.row.A.Denot)
+    c.from_residual-in_err-push-2.result (Memory _) c.from_residual-in_err-push-2.ensures.1 over)
+
+pub returns-clause-entries : goal.returns-clause-entries
+returns-clause-entries g c =
+    let all : c.loop-last.last ≡ (g.C.CostSource.costs c.args.costs.now).ends = omega arith in
+    rw all at c.loop-last.invariant.entries
+
+pub returns-clause-ok_only : goal.returns-clause-ok_only
+returns-clause-ok_only g c =
+    let all : c.loop-last.last ≡ (g.C.CostSource.costs c.args.costs.now).ends = omega arith in
+    rw all at c.loop-last.invariant.fits
+
+pub returns-clause-steps_ok : goal.returns-clause-steps_ok
+returns-clause-steps_ok g c =
+    let all : c.loop-last.last ≡ (g.C.CostSource.costs c.args.costs.now).ends = omega arith in
+    rw all at c.loop-last.invariant.steps
+
+pub returns-clause-steps_most : goal.returns-clause-steps_most
+returns-clause-steps_most g c = omega (arith, returns-clause-steps_ok g c)

@@ -77,126 +77,109 @@ impl<'a> Options<'a> {
     }
 
     /// The same options with this width, in columns.
-    pub fn width(self, width: usize) -> Self
+    pub fn width(mut self, width: usize) -> Self
         ensures settings { settings_view result
             ≡ record (settings_view self.entry) { width = width } }
         ensures methods { KeepsMethods self.entry result }
     {
-        Options { width, ..self }
+        self.width = width;
+        self
     }
 
     /// The same options with this line ending.
-    pub fn line_ending(self, line_ending: LineEnding) -> Self
+    pub fn line_ending(mut self, line_ending: LineEnding) -> Self
         ensures settings { settings_view result
             ≡ record (settings_view self.entry) { line_ending = line_ending } }
         ensures methods { KeepsMethods self.entry result }
     {
-        Options {
-            line_ending,
-            ..self
-        }
+        self.line_ending = line_ending;
+        self
     }
 
     /// The same options with this indent of the first line.
-    pub fn initial_indent(self, initial_indent: &'a str) -> Self
+    pub fn initial_indent(mut self, initial_indent: &'a str) -> Self
         ensures settings { settings_view result
             ≡ record (settings_view self.entry) { initial_indent = initial_indent.now } }
         ensures methods { KeepsMethods self.entry result }
     {
-        Options {
-            initial_indent,
-            ..self
-        }
+        self.initial_indent = initial_indent;
+        self
     }
 
     /// The same options with this indent of the later lines.
-    pub fn subsequent_indent(self, subsequent_indent: &'a str) -> Self
+    pub fn subsequent_indent(mut self, subsequent_indent: &'a str) -> Self
         ensures settings { settings_view result
             ≡ record (settings_view self.entry) { subsequent_indent = subsequent_indent.now } }
         ensures methods { KeepsMethods self.entry result }
     {
-        Options {
-            subsequent_indent,
-            ..self
-        }
+        self.subsequent_indent = subsequent_indent;
+        self
     }
 
     /// The same options, breaking words or not.
-    pub fn break_words(self, break_words: bool) -> Self
+    pub fn break_words(mut self, break_words: bool) -> Self
         ensures settings { settings_view result
             ≡ record (settings_view self.entry) { break_words = break_words } }
         ensures methods { KeepsMethods self.entry result }
     {
-        Options {
-            break_words,
-            ..self
-        }
+        self.break_words = break_words;
+        self
     }
 
     /// The same options with this algorithm.
-    pub fn wrap_algorithm(self, wrap_algorithm: WrapAlgorithm) -> Self
+    pub fn wrap_algorithm(mut self, wrap_algorithm: WrapAlgorithm) -> Self
         ensures settings { settings_view result ≡ settings_view self.entry }
         ensures algorithm { result.wrap_algorithm ≡ wrap_algorithm }
         ensures separator { result.word_separator ≡ self.entry.word_separator }
         ensures splitter { result.word_splitter ≡ self.entry.word_splitter }
     {
-        Options {
-            wrap_algorithm,
-            ..self
-        }
+        self.wrap_algorithm = wrap_algorithm;
+        self
     }
 
     /// The same options with this separator of words.
-    pub fn word_separator(self, word_separator: WordSeparator) -> Self
+    pub fn word_separator(mut self, word_separator: WordSeparator) -> Self
         ensures settings { settings_view result ≡ settings_view self.entry }
         ensures algorithm { result.wrap_algorithm ≡ self.entry.wrap_algorithm }
         ensures separator { result.word_separator ≡ word_separator }
         ensures splitter { result.word_splitter ≡ self.entry.word_splitter }
     {
-        Options {
-            word_separator,
-            ..self
-        }
+        self.word_separator = word_separator;
+        self
     }
 
     /// The same options with this splitter of words.
-    pub fn word_splitter(self, word_splitter: WordSplitter) -> Self
+    pub fn word_splitter(mut self, word_splitter: WordSplitter) -> Self
         ensures settings { settings_view result ≡ settings_view self.entry }
         ensures algorithm { result.wrap_algorithm ≡ self.entry.wrap_algorithm }
         ensures separator { result.word_separator ≡ self.entry.word_separator }
         ensures splitter { result.word_splitter ≡ word_splitter }
     {
-        Options {
-            word_splitter,
-            ..self
-        }
+        self.word_splitter = word_splitter;
+        self
     }
 
     /// The same options, keeping blanks at line ends or not.
-    pub fn preserve_trailing_space(self, preserve_trailing_space: bool) -> Self
+    pub fn preserve_trailing_space(mut self, preserve_trailing_space: bool) -> Self
         ensures settings { settings_view result
             ≡ record (settings_view self.entry) {
               preserve_trailing_space = preserve_trailing_space;
             } }
         ensures methods { KeepsMethods self.entry result }
     {
-        Options {
-            preserve_trailing_space,
-            ..self
-        }
+        self.preserve_trailing_space = preserve_trailing_space;
+        self
     }
 
     /// The same options, dividing later paragraphs for the width that their own indent leaves, or
     /// not.
-    pub fn even_paragraphs(self, even_paragraphs: bool) -> Self
+    pub fn even_paragraphs(mut self, even_paragraphs: bool) -> Self
         ensures settings { settings_view result
             ≡ record (settings_view self.entry) { even_paragraphs = even_paragraphs } }
         ensures methods { KeepsMethods self.entry result }
     {
-        Options {
-            even_paragraphs,
-            ..self
-        }
+        self.even_paragraphs = even_paragraphs;
+        self
     }
 }
 

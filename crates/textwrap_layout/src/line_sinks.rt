@@ -1,6 +1,7 @@
 //! Where the lines of a text go as they are found: to a list, or into one text. (The module `places`
 //! has a third, where they stand.)
-ghost use Rattle.std.specs.Prelude.{◌≡◌, IfOk};
+ghost use Rattle.std.specs.Prelude.{◌≡◌, ◌++◌, IfOk, OnOk};
+ghost use Rattle.std.specs.String.{string_bytes};
 ghost use Rattle.textwrap_layout.specs.Paragraph.{assembled_line, line_view};
 
 use std::alloc::{AllocError, Allocator};
@@ -139,20 +140,30 @@ impl<A: Allocator> JoinedLines<A> {
             (indent.now ++ slice.now ++ penalty.now)) }
     {
         if self.begun {
-            match self.line_ending {
-                LineEnding::LF => self.text.push('\n')?,
-                LineEnding::CRLF => self.text.push_str("\r\n")?,
-            }
+            self.text.push_str(self.line_ending.as_str())?;
         }
         self.begun = true;
         // Most lines are the slice alone.
         if indent.is_empty() && penalty.is_empty() {
             return self.text.push_str(slice);
         }
-        self.text.push_str(indent)?;
-        self.text.push_str(slice)?;
-        self.text.push_str(penalty)
+        push_parts(&mut self.text, indent, slice, penalty)
     }
+}
+
+/// Writes the slice, with the indent before it and the penalty after it.
+fn push_parts<A: Allocator>(
+    text: &mut String<A>,
+    indent: &str,
+    slice: &str,
+    penalty: &str,
+) -> Result<(), AllocError>
+    ensures { OnOk result (string_bytes text.new
+        ≡ string_bytes text.old ++ indent.now ++ slice.now ++ penalty.now) }
+{
+    text.push_str(indent)?;
+    text.push_str(slice)?;
+    text.push_str(penalty)
 }
 
 /// A text of lines in lent room, with the line ending between each two.
@@ -203,10 +214,7 @@ impl LentLines<'_, '_> {
         ensures more { LentOneMore self.old self.new (indent.now ++ slice.now ++ penalty.now) }
     {
         if self.begun {
-            match self.line_ending {
-                LineEnding::LF => self.text.push_byte(b'\n'),
-                LineEnding::CRLF => self.text.push(b"\r\n"),
-            }
+            self.text.push(self.line_ending.as_str().as_bytes());
         }
         self.begun = true;
         // Most lines are the slice alone.
@@ -232,8 +240,7 @@ fn assemble<'t, A: Allocator>(
     if indent.is_empty() && penalty.is_empty() {
         return Ok(CowStr::Borrowed(slice));
     }
-    let mut line = String::from_str(alloc, indent)?;
-    line.push_str(slice)?;
-    line.push_str(penalty)?;
+    let mut line = String::new(alloc);
+    push_parts(&mut line, indent, slice, penalty)?;
     Ok(CowStr::Owned(line))
 }

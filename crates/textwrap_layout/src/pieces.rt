@@ -1,8 +1,9 @@
 //! The pieces of a paragraph, as a list: its words, split and broken as options say.
-ghost use Rattle.std.specs.Prelude.{◌≡◌, List, map, IfOk, IfSome, IsSomeAnd};
+ghost use Rattle.std.specs.Prelude.{◌≡◌, All, List, map, IfOk, IfSome, IsSomeAnd};
 ghost use Rattle.textwrap_layout.specs.Direct.{HasMethods, IsDirect, as_algorithm};
 ghost use Rattle.textwrap_words.specs.Breaking.{broken_words};
 ghost use Rattle.textwrap_words.specs.Pieces.{as_splitter};
+ghost use Rattle.textwrap_text.specs.Units.{text_width};
 ghost use Rattle.textwrap_words.specs.Words.{word_view, Tiles, WordText};
 ghost use Rattle.textwrap_layout.specs.Options.{settings_view, MayOverflow};
 ghost use Rattle.textwrap_layout.specs.Paragraph.{broken_pieces_of, ArePieces, DividesBy};
@@ -19,7 +20,7 @@ use std::alloc::{AllocError, Allocator};
 use textwrap_words::inner::{
     BuiltInSplitter, given_cuts, push_measured, split_at_cuts, stay_whole,
 };
-use textwrap_words::word_separators::WordSeparator;
+use textwrap_words::word_separators::{WordSeparator, Words};
 use textwrap_words::word_splitters::WordSplitter;
 use textwrap_words::words::{Word, break_words};
 use textwrap_words::wrap_algorithms::{WrapAlgorithm, WrapError};
@@ -39,8 +40,7 @@ fn find_pieces<'t, A: Allocator + Copy>(
     ensures tiles { IfOk result (λ pieces. Tiles (map word_view pieces.items) paragraph.now) }
 {
     let split = find_split_words(alloc, paragraph, options)?;
-    let pieces = break_pieces(alloc, split, options)?;
-    Ok(pieces)
+    break_pieces(alloc, split, options)
 }
 
 /// The pieces that split words are broken into, where the options ask for that. Where words are
@@ -82,8 +82,7 @@ fn break_wide<'t, A: Allocator + Copy>(
         return Ok(words);
     }
     // By reference, since the checker does not cover handing on a list that any allocator made.
-    let broken = break_words(alloc, words.iter().copied(), line_width)?;
-    Ok(broken)
+    break_words(alloc, words.iter().copied(), line_width)
 }
 
 /// The words of a paragraph, split.
@@ -97,12 +96,25 @@ fn find_split_words<'t, A: Allocator + Copy>(
         × AreSplit (MaySplit options.now.word_splitter) words (map word_view pieces.items)) }
 {
     if let WordSeparator::Custom(line_cuts) = options.word_separator {
-        let pieces = split_at_cuts(alloc, paragraph, line_cuts, &options.word_splitter)?;
-        return Ok(pieces);
+        return split_at_cuts(alloc, paragraph, line_cuts, &options.word_splitter);
     }
+    let words = options.word_separator.find_words(alloc, paragraph)?;
+    split_each(alloc, words, &options.word_splitter)
+}
+
+/// The words, split.
+fn split_each<'t, A: Allocator + Copy>(
+    alloc: A,
+    words: Words<'t, A>,
+    word_splitter: &WordSplitter,
+) -> Result<Vec<Word<'t>, A>, AllocError>
+    requires { All (λ word. word.width ≡ text_width word.word) words }
+    ensures { IfOk result (λ pieces.
+        AreSplit (MaySplit word_splitter.now) words.entry (map word_view pieces.items)) }
+{
     let mut pieces = Vec::new(alloc);
-    for word in options.word_separator.find_words(alloc, paragraph)? {
-        push_measured(alloc, &mut pieces, word, &options.word_splitter)?;
+    for word in words {
+        push_measured(alloc, &mut pieces, word, word_splitter)?;
     }
     Ok(pieces)
 }

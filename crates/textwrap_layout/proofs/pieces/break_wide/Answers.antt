@@ -1,6 +1,6 @@
 use Rattle.textwrap_layout.proofs.pieces.break_wide.Goals as goal
 use Rattle.textwrap_text.proofs.Common.{map, sym, ◌∙◌, ◌≡◌, ap}
-use Rattle.textwrap_layout.proofs.Common.{broken_words, word_view, Iter, Word}
+use Rattle.textwrap_layout.proofs.Common.{IfOk-weaker, broken_words, word_view, Iter, Word}
 use Rattle.std.specs.Iterator.Adapters.{copied_source}
 use Rattle.std.specs.Slice.Iter.{iter_rest}
 use Rattle.std.specs.declared.iter.Copied.{Copied}
@@ -11,10 +11,10 @@ returns-then-stay_whole g c =
     rw c.deref.ensures.value at (sym (c.stay_whole.ensures c.if-stay_whole.true))
 
 pub returns : goal.returns
-returns g c =
-    let more = c.in_ok-broken.ensures.pieces in
+returns g c = IfOk-weaker c.break_words.result _ _ (λ pieces more.
     let given : iter_rest (copied_source more.0) ≡ c.args.words.items =
     ap (λ (it : Copied (Iter Word)). iter_rest (copied_source it)) more.2
     ∙ ap iter_rest c.copied.ensures.source ∙ c.iter.ensures.rest ∙ c.deref-2.ensures.value in
     let all = given-copied more.0 c.args.words.items more.1 given more.3 in
-    more.4 ∙ ap (λ ws. broken_words c.args.line_width (map word_view ws)) all
+    more.4 ∙ ap (λ ws. broken_words c.args.line_width (map word_view ws)) all)
+    c.break_words.ensures.pieces

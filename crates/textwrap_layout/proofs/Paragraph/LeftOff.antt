@@ -8,7 +8,7 @@ use Rattle.textwrap_text.proofs.Common.{All-head, All-tail, add-zero, cases_lt, 
 use Rattle.textwrap_text.proofs.Common.{flat_map, is_blank, not-true, All-nil, take_at, IsUtf8, All}
 use Rattle.textwrap_text.proofs.Common.{get_or, is_cut, length, false, rules, subst, Bool, List, ap}
 use Rattle.textwrap_text.proofs.Common.{cond, drop, refl, true, zero, ◌++◌, ◌||◌, inl, inr, map, ℕ}
-use Rattle.textwrap_text.proofs.Common.{suc, sym, ◌+◌, ◌-◌, ◌<◌, ◌∙◌, ◌∷◌, ◌≡◌, ◌≢◌, ◌≤◌}
+use Rattle.textwrap_text.proofs.Common.{suc, sym, ◌+◌, ◌-◌, ◌<◌, ◌∙◌, ◌∷◌, ◌≡◌, ◌≤◌}
 use Rattle.textwrap_layout.proofs.Common.{IsNarrowWord-measured, AreParagraphParts, AreDividedParts}
 use Rattle.textwrap_layout.proofs.Common.{keeps_whitespace, assembled_line, BeforeOthers, LineParts}
 use Rattle.textwrap_layout.proofs.Common.{HasNoPenalty, IsNarrowWord, closed_width, tiled-append}

@@ -5,7 +5,7 @@ use Rattle.textwrap_text.proofs.Common.{take_at, le-ltb, length, arith, false, s
 use Rattle.textwrap_text.proofs.Common.{drop, refl, take, true, ◌++◌, All, sym, ◌+◌, ◌-◌, ◌<◌, ◌^◌}
 use Rattle.textwrap_text.proofs.Common.{◌∙◌, ◌∷◌, ◌≡◌, ◌≤◌, [], ap}
 use Rattle.textwrap_layout.proofs.Common.{IsCharBoundary-from_rest, IsNarrowWord-measured, AreTexts}
-use Rattle.textwrap_layout.proofs.Common.{broken_pieces_of, pieces_of_words, broken_pieces, tile_of}
+use Rattle.textwrap_layout.proofs.Common.{broken_pieces_of, pieces_of_words, tile_of}
 use Rattle.textwrap_layout.proofs.Common.{IsNarrowWord, broken_words, front_pieces, break_limit}
 use Rattle.textwrap_layout.proofs.Common.{later_width, split_words, IsMeasured, text_limit, tiled}
 use Rattle.textwrap_layout.proofs.Common.{Settings, Splitter, WordText, front_of, limit_at}

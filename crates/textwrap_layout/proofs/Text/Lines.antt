@@ -1,7 +1,7 @@
 -- Lemmas on the lines of a text.
 use Rattle.textwrap_text.proofs.Common.{paragraphs_of, append_assoc, map-append, join_with, Option}
 use Rattle.textwrap_text.proofs.Common.{take_more, get_or, length, arith, List, None, Some, refl, ℕ}
-use Rattle.textwrap_text.proofs.Common.{take, zero, ◌++◌, Bor, map, suc, ◌+◌, ◌<◌, ◌∷◌, ◌≡◌, [], ap}
+use Rattle.textwrap_text.proofs.Common.{take, zero, ◌++◌, Bor, map, suc, ◌+◌, ◌<◌, ◌∷◌, ◌≡◌, []}
 use Rattle.std.specs.declared.borrow.CowStr.{CowStr}
 use Rattle.textwrap_layout.proofs.Common.{MatchOption, LineEnding, line_bytes, line_view}
 use Rattle.std.specs.Cow.{cow_str_bytes}

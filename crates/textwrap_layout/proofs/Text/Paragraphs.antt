@@ -8,7 +8,7 @@ use Rattle.textwrap_text.proofs.Common.{starts_with, append-nil, onto_first, par
 use Rattle.textwrap_text.proofs.Common.{cond_both, drop_more, eqb-false, join_with, All-cons, arith}
 use Rattle.textwrap_text.proofs.Common.{All-drop, All-head, All-tail, add-zero, eqb-true, All-nil}
 use Rattle.textwrap_text.proofs.Common.{drop_at, take_at, get_or, length, nat_eq, false, rules, All}
-use Rattle.textwrap_text.proofs.Common.{subst, Bool, List, cond, drop, refl, take, zero, ◌++◌, ◌==◌}
+use Rattle.textwrap_text.proofs.Common.{subst, Bool, List, drop, refl, take, zero, ◌++◌, ◌==◌}
 use Rattle.textwrap_text.proofs.Common.{inl, suc, sym, ◌+◌, ◌-◌, ◌<◌, ◌↔◌, ◌∙◌, ◌∷◌, ◌≡◌, ◌≢◌, ◌≤◌}
 use Rattle.textwrap_text.proofs.Common.{ap}
 use Rattle.std.proofs.lemmas.List.Sums.{fails_before_first, passes_at_first}

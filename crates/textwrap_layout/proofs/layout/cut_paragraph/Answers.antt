@@ -1,5 +1,5 @@
 use Rattle.textwrap_layout.proofs.layout.cut_paragraph.Goals as goal
-use Rattle.textwrap_text.proofs.Common.{Option, arith, subst, List, map, ap, ℕ}
+use Rattle.textwrap_text.proofs.Common.{Option, arith, subst, List, ap, ℕ}
 use Rattle.std.specs.Option.{option_map}
 use Rattle.textwrap_layout.proofs.Common.{frame_settings, as_splitter, stand_from, words_cut}
 use Rattle.textwrap_layout.proofs.Common.{CanBeCut, cuts_of}

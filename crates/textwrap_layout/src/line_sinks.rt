@@ -140,7 +140,10 @@ impl<A: Allocator> JoinedLines<A> {
             (indent.now ++ slice.now ++ penalty.now)) }
     {
         if self.begun {
-            self.text.push_str(self.line_ending.as_str())?;
+            match self.line_ending {
+                LineEnding::LF => self.text.push('\n')?,
+                LineEnding::CRLF => self.text.push_str("\r\n")?,
+            }
         }
         self.begun = true;
         // Most lines are the slice alone.
@@ -214,7 +217,10 @@ impl LentLines<'_, '_> {
         ensures more { LentOneMore self.old self.new (indent.now ++ slice.now ++ penalty.now) }
     {
         if self.begun {
-            self.text.push(self.line_ending.as_str().as_bytes());
+            match self.line_ending {
+                LineEnding::LF => self.text.push_byte(b'\n'),
+                LineEnding::CRLF => self.text.push(b"\r\n"),
+            }
         }
         self.begun = true;
         // Most lines are the slice alone.

@@ -1,5 +1,5 @@
 use Rattle.textwrap_words.proofs.word_separators.offsets.find_cuts.Goals as goal
-use Rattle.textwrap_text.proofs.Common.{arith, false, refl, true, sym, ◌∙◌, ◌∷◌}
+use Rattle.textwrap_text.proofs.Common.{length-append, append-nil, arith, false, refl, true, sym, ◌∙◌, ◌∷◌, ℕ}
 use Rattle.textwrap_text.proofs.Units.Characters.{ahead-next}
 use Rattle.textwrap_words.proofs.Word.Offsets.{IsFinding-start, IsFinding-step, IsFinding}
 use Rattle.textwrap_text.specs.CharactersLeft.{characters_left}
@@ -15,6 +15,12 @@ before : (g : _) (c : In-Some g) → IsFinding c.args.offsets.now c.args.line.no
     (c.in-Some.character ∷ characters_left c.next.new.self) c.loop-character.shown
     c.loop-character.cuts.items
 before g c = grind arith
+
+pub overflow_add-shown : goal.overflow_add-shown
+overflow_add-shown g c =
+    let h = before g (goal.at.overflow_add-shown g c).In-Some in
+    let bytes = rw c.if-character.true at h.bytes in
+    omega (arith, bytes, c.len_utf8-len.ensures.len, c.visible_len-total.ensures, length-append {A = ℕ})
 
 pub overflow_add-character : goal.overflow_add-character
 overflow_add-character g c =
@@ -39,3 +45,7 @@ loop-character-preserved-else-is_cut_after g c =
 pub loop-character-preserved : goal.loop-character-preserved
 loop-character-preserved g c = IsFinding-step _ _ _ _ _ _ false _
     (before g (goal.at.loop-character-preserved g c).In-Some) c.if-character.false refl
+
+pub returns : goal.returns
+returns g c =
+    sym (append-nil _) ∙ rw c.in-None.ensures.steps.0 at c.loop-character.invariant.found

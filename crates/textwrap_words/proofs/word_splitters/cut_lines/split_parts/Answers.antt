@@ -1,5 +1,5 @@
 use Rattle.textwrap_text.proofs.Common.{append_assoc, slice_range, drop_more, drop_all, get_or, map}
-use Rattle.textwrap_text.proofs.Common.{arith, subst, drop, ◌++◌, sym, ◌+◌, ◌∙◌, ◌∷◌, [], ap}
+use Rattle.textwrap_text.proofs.Common.{arith, subst, refl, drop, ◌++◌, sym, ◌+◌, ◌∙◌, ◌∷◌, [], ap}
 use Rattle.textwrap_words.proofs.Common.{parts_onward, word_view, AreSplit, MaySplit, word_of}
 use Rattle.textwrap_words.proofs.Word.Pieces.{AreSplit-push}
 use Rattle.textwrap_words.proofs.word_splitters.cut_lines.split_parts.Goals as goal
@@ -31,3 +31,22 @@ loop-cut-preserved g c =
 
 pub returns : goal.returns
 returns g c = grind (arith, drop_all, AreSplit-push)
+
+pub returns-then-is_empty : goal.returns-then-is_empty
+returns-then-is_empty g c =
+    rw (c.in_ok-pieces.ensures.items, sym c.is_empty.ensures ∙ c.if-is_empty.true) refl
+
+pub loop-cut-init : goal.loop-cut-init
+loop-cut-init g c = record {
+  words = ([], refl, rw c.in_ok-pieces.ensures.items refl);
+  boundary = λ none. absurd (omega arith);
+  left = c.requires;
+}
+
+pub range-requires-clause-start_le_end : goal.range-requires-clause-start_le_end
+range-requires-clause-start_le_end g c =
+    (rw (drop_more c.args.cuts.now _ 0 c.loop-cut-test.true) at c.loop-cut.invariant.left).0.0
+
+pub range-requires-clause-end_boundary : goal.range-requires-clause-end_boundary
+range-requires-clause-end_boundary g c =
+    (rw (drop_more c.args.cuts.now _ 0 c.loop-cut-test.true) at c.loop-cut.invariant.left).0.2

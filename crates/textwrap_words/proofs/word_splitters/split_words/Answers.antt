@@ -1,6 +1,6 @@
 use Rattle.textwrap_words.proofs.word_splitters.split_words.Goals as goal
 use Rattle.textwrap_text.proofs.Common.{map_push, rules, ◌++◌, map, ◌∙◌, ap}
-use Rattle.textwrap_words.proofs.Common.{split_pieces, word_view, AreSplit}
+use Rattle.textwrap_words.proofs.Common.{split_pieces, word_view}
 use Rattle.textwrap_words.proofs.Word.Pieces.{AreSplit-push}
 
 pub loop-word-preserved : goal.loop-word-preserved

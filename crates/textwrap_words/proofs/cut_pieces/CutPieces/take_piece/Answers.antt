@@ -1,5 +1,5 @@
 use Rattle.textwrap_words.proofs.cut_pieces.CutPieces.take_piece.Goals as goal
-use Rattle.textwrap_text.proofs.Common.{slice_range, arith, subst, map, ◌+◌, ◌-◌, ◌≡◌, ap}
+use Rattle.textwrap_text.proofs.Common.{slice_range, arith, subst, map, ◌+◌, ◌-◌, ◌≡◌}
 use Rattle.textwrap_words.proofs.Common.{IsFirstWithin, broken_words, as_splitter, parts_after}
 use Rattle.textwrap_words.proofs.Common.{split_words, word_of}
 use Rattle.textwrap_words.proofs.Word.SplitParts.{within-stands}

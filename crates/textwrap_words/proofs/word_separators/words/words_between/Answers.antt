@@ -1,6 +1,6 @@
 use Rattle.textwrap_words.proofs.word_separators.words.words_between.Goals as goal
-use Rattle.textwrap_text.proofs.Common.{append_assoc, drop_more, drop_all, map_push, arith, refl, map}
-use Rattle.textwrap_text.proofs.Common.{append-nil, slice_range, get_or, List, drop, ◌++◌, sym, ◌+◌, ◌∙◌, ◌∷◌, ◌≡◌, [], ap}
+use Rattle.textwrap_text.proofs.Common.{append_assoc, drop_more, map_push, arith, refl, map}
+use Rattle.textwrap_text.proofs.Common.{slice_range, get_or, List, drop, ◌++◌, sym, ◌+◌, ◌∙◌, ◌∷◌, ◌≡◌, [], ap}
 use Rattle.textwrap_words.proofs.Common.{parts_onward, word_view, WordText, word_of, Word}
 
 pub returns-then-is_empty : goal.returns-then-is_empty

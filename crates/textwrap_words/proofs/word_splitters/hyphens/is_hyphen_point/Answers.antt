@@ -1,6 +1,6 @@
 use Rattle.textwrap_words.proofs.word_splitters.hyphens.is_hyphen_point.Goals as goal
 use Rattle.textwrap_text.proofs.Common.{length-take, get_or-take, slice_range, reverse, get_or, length, arith}
-use Rattle.textwrap_text.proofs.Common.{List, drop, refl, take, true, ◌&&◌, sym, ◌-◌, ◌<◌, ◌∙◌, ◌≡◌}
+use Rattle.textwrap_text.proofs.Common.{List, drop, take, true, ◌&&◌, sym, ◌-◌, ◌<◌, ◌∙◌, ◌≡◌}
 use Rattle.textwrap_text.proofs.Common.{ℕ}
 use Rattle.std.specs.Prelude.{chars}
 use Rattle.std.proofs.lemmas.Bool.{false_from_ne_true}

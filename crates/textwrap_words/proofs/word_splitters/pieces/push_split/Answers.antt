@@ -1,7 +1,5 @@
 use Rattle.textwrap_words.proofs.word_splitters.pieces.push_split.Goals as goal
-use Rattle.textwrap_text.proofs.Common.{append_assoc, drop_more, drop_all, map_push, arith, refl, map}
-use Rattle.textwrap_text.proofs.Common.{◌∙◌}
-use Rattle.textwrap_words.proofs.Common.{word_view}
+use Rattle.textwrap_text.proofs.Common.{append_assoc, drop_more, map_push, arith, refl}
 
 pub loop-point-init : goal.loop-point-init
 loop-point-init g c =

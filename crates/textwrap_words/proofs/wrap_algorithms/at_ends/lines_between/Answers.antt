@@ -1,5 +1,5 @@
 use Rattle.textwrap_words.proofs.wrap_algorithms.at_ends.lines_between.Goals as goal
-use Rattle.textwrap_text.proofs.Common.{append_assoc, drop_more, drop_all, map_push, arith, refl, map}
+use Rattle.textwrap_text.proofs.Common.{append_assoc, drop_more, drop_all, map_push, arith, refl}
 use Rattle.textwrap_text.proofs.Common.{◌∙◌, append-nil, sym}
 
 pub loop-end-init : goal.loop-end-init

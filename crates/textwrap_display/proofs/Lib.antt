@@ -9,5 +9,7 @@ pub mod Sequences
 pub mod StyleRows
 pub mod TableGroups
 pub mod TableRows
+pub mod TabLaws
+pub mod TabTexts
 pub mod WidenedWords
 pub mod Widths

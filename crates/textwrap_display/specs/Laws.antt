@@ -1,14 +1,16 @@
 -- The statements of the laws, each under a name that a caller can cite.
-use Rattle.std.specs.Prelude.{◌≡◌, ◌≢◌, ℕ, ◌+◌, ◌-◌, ◌*◌, ◌/◌, ◌%◌, ◌<◌, ◌≤◌, List, [], ◌++◌, All}
+use Rattle.std.specs.Prelude.{◌≡◌, ◌≢◌, ℕ, ◌+◌, ◌-◌, ◌*◌, ◌/◌, ◌%◌, ◌<◌, ◌≤◌, ◌==◌, List, [], ◌∷◌}
+use Rattle.std.specs.Prelude.{◌++◌, All}
 use Rattle.std.specs.Prelude.{IsUtf8, length, map, replicate, slice_index_or, sum_by, take}
-use Rattle.std.specs.List.{concat, flat_map, zip}
+use Rattle.std.specs.List.{concat, flat_map, slice_split, zip}
 use Rattle.textwrap_display.specs.Alignment.{aligned}
 use Rattle.textwrap_display.specs.Justifying.{gaps, indent_len, justified, line_words}
 use Rattle.textwrap_display.specs.Justifying.{widened_words}
 use Rattle.textwrap_display.specs.Shortening.{IsKeptBeginning, IsShortened}
 use Rattle.textwrap_display.specs.Tables.{group_rows, height, RowGaps, Shape}
+use Rattle.textwrap_display.specs.Tabs.{expanded_tabs, last_line, tab}
 use Rattle.textwrap_display.specs.declared.alignment.Alignment.{Alignment}
-use Rattle.textwrap_text.specs.LineEnding.{join_with}
+use Rattle.textwrap_text.specs.LineEnding.{join_with, line_feed}
 use Rattle.textwrap_layout.specs.Text.{HasWholeSequences}
 use Rattle.textwrap_text.specs.Units.{text_width}
 use Rattle.textwrap_words.specs.Words.{words_of}
@@ -163,3 +165,40 @@ abbrev pub TablesShowEachLineOnce : Type 0
 TablesShowEachLineOnce =
     (gaps : RowGaps) (columns : List Shape) (cells : List (List (List ℕ)))
     → ShowsEachLineOnce gaps columns cells (group_rows gaps columns cells)
+
+-- ---- tabs
+
+-- no tab is left
+abbrev pub NoTabIsLeft : Type 0
+NoTabIsLeft = (stop : ℕ) (text : List ℕ) → All (λ b. b ≢ tab) (expanded_tabs stop text)
+
+-- a text without a tab stays as it is
+abbrev pub TextsWithoutTabsStay : Type 0
+TextsWithoutTabsStay =
+    (stop : ℕ) (text : List ℕ) → All (λ b. b ≢ tab) text → expanded_tabs stop text ≡ text
+
+-- so what was expanded once stays
+abbrev pub ExpandedTextsStay : Type 0
+ExpandedTextsStay =
+    (stop later : ℕ) (text : List ℕ)
+    → expanded_tabs later (expanded_tabs stop text) ≡ expanded_tabs stop text
+
+-- behind a tab, the line so far takes a multiple of `stop` columns, if neither this tab nor one
+-- before it cuts an escape sequence of its line
+abbrev pub TabsReachStops : Type 0
+TabsReachStops =
+    (stop : ℕ) (before : List ℕ) → stop ≢ 0
+    → All (λ part. IsWholeText (last_line part)) (slice_split (λ b. b == tab) before)
+    → text_width (last_line (expanded_tabs stop (before ++ tab ∷ []))) % stop ≡ 0
+
+-- what follows a tab is expanded by itself
+abbrev pub TabsCutTexts : Type 0
+TabsCutTexts =
+    (stop : ℕ) (before after : List ℕ) → expanded_tabs stop (before ++ tab ∷ after)
+    ≡ expanded_tabs stop (before ++ tab ∷ []) ++ expanded_tabs stop after
+
+-- and so is each line
+abbrev pub LinesAreExpandedApart : Type 0
+LinesAreExpandedApart =
+    (stop : ℕ) (before after : List ℕ) → expanded_tabs stop (before ++ line_feed ∷ after)
+    ≡ expanded_tabs stop before ++ line_feed ∷ expanded_tabs stop after

@@ -7,4 +7,5 @@ pub mod Styles
 pub mod OpenStyles
 pub mod Styled
 pub mod Tables
+pub mod Tabs
 pub mod Laws

@@ -5,11 +5,13 @@
 //! `aligned_lines_are_as_wide();`.
 ghost use Rattle.textwrap_display.specs.Laws.{AlignedLinesAreAsWide, CarriedLinesAreAsWide};
 ghost use Rattle.textwrap_display.specs.Laws.{CarriedLinesEndPlain, CarriedLinesKeepStyles};
-ghost use Rattle.textwrap_display.specs.Laws.{CarriedLinesShowTheirText, JustifiedLinesAreAsWide};
-ghost use Rattle.textwrap_display.specs.Laws.{JustifiedLinesKeepWords, KeptBeginningsAreUnique};
-ghost use Rattle.textwrap_display.specs.Laws.{KeptWordsAreTheFirst, PlainLinesStay};
+ghost use Rattle.textwrap_display.specs.Laws.{CarriedLinesShowTheirText, ExpandedTextsStay};
+ghost use Rattle.textwrap_display.specs.Laws.{JustifiedLinesAreAsWide, JustifiedLinesKeepWords};
+ghost use Rattle.textwrap_display.specs.Laws.{KeptBeginningsAreUnique, KeptWordsAreTheFirst};
+ghost use Rattle.textwrap_display.specs.Laws.{LinesAreExpandedApart, NoTabIsLeft, PlainLinesStay};
 ghost use Rattle.textwrap_display.specs.Laws.{ShortenedLinesKeepToWidth, TableRowsAreEven};
-ghost use Rattle.textwrap_display.specs.Laws.{TablesShowEachLineOnce, WholeLinesMayCarry};
+ghost use Rattle.textwrap_display.specs.Laws.{TablesShowEachLineOnce, TabsCutTexts, TabsReachStops};
+ghost use Rattle.textwrap_display.specs.Laws.{TextsWithoutTabsStay, WholeLinesMayCarry};
 
 /// A line that is not wider than the width is exactly as wide once it is aligned, if its escape
 /// sequences end in it.
@@ -90,4 +92,35 @@ pub fn table_rows_are_even()
 /// So no line is lost, none is shown twice, and the last column is no exception.
 pub fn tables_show_each_line_once()
     ensures { TablesShowEachLineOnce }
+{}
+
+/// A text whose tabs were expanded has none.
+pub fn no_tab_is_left()
+    ensures { NoTabIsLeft }
+{}
+
+/// A text without a tab stays as it is if its tabs are expanded.
+pub fn texts_without_tabs_stay()
+    ensures { TextsWithoutTabsStay }
+{}
+
+/// So does a text whose tabs were expanded before, at whatever stops.
+pub fn expanded_texts_stay()
+    ensures { ExpandedTextsStay }
+{}
+
+/// What a tab becomes ends at a column of its line that `stop` divides, if neither this tab nor one
+/// before it cuts an escape sequence of its line.
+pub fn tabs_reach_stops()
+    ensures { TabsReachStops }
+{}
+
+/// What follows a tab is expanded as if it stood alone.
+pub fn tabs_cut_texts()
+    ensures { TabsCutTexts }
+{}
+
+/// Each line is expanded as if it stood alone.
+pub fn lines_are_expanded_apart()
+    ensures { LinesAreExpandedApart }
 {}

@@ -1,5 +1,5 @@
-//! Lines for display: aligned, justified, shortened, with their styles, and in the columns of a table.
-//! Beside `textwrap`, on its widths and words.
+//! Lines for display: aligned, justified, shortened, with their styles, and in the columns of a table;
+//! and texts without tabs. Beside `textwrap`, on its widths and words.
 //!
 //! ```rust
 //! let line = justify(alloc, "a few words", 14)?;
@@ -14,6 +14,7 @@ pub use justifying::justify;
 pub use shortening::{shorten, shorten_lines};
 pub use styles::carry_styles;
 pub use tables::{Column, Gaps, table, table_of_lines};
+pub use tabs::expand_tabs;
 
 mod alignment;
 mod filling;
@@ -24,3 +25,4 @@ pub mod laws;
 mod shortening;
 mod styles;
 mod tables;
+mod tabs;

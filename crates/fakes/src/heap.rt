@@ -76,39 +76,3 @@ unsafe impl Allocator for Heap {
         unsafe { self.inner.deallocate(ptr, size, align) }
     }
 }
-
-#[cfg(test)]
-mod tests {
-    use super::*;
-
-    /// The allocation after those that are allowed is refused, and no other: what comes after it is
-    /// allowed again. Only where none was refused, no allocation is left.
-    #[test]
-    fn refuses_one_allocation(rt: HostRuntime) {
-        let heap = Heap::new(rt.alloc(), 0);
-        for allowed in 0..5 {
-            heap.allow(allowed);
-            for earlier in 0..4 {
-                let is_made = Box::new(&heap, 'a').is_ok();
-                assert_eq!(rt; is_made, earlier != allowed, "{earlier} of {allowed}");
-            }
-            assert_eq!(rt; heap.left() == 0, allowed == 4, "{allowed}");
-        }
-    }
-
-    /// A block that grows counts as one allocation, and is as it was where that is refused.
-    #[test]
-    fn counts_growing_and_not_freeing(rt: HostRuntime) -> Result<(), AllocError> {
-        let heap = Heap::new(rt.alloc(), 2);
-        let mut letters = Vec::with_capacity(&heap, 1)?;
-        letters.push('a')?;
-        letters.reserve(1)?;
-        assert_eq!(rt; heap.left(), 0);
-        assert!(rt; letters.reserve(100).is_err());
-        assert_eq!(rt; letters.as_slice(), ['a'].as_slice());
-        heap.allow(3);
-        drop(letters);
-        assert_eq!(rt; heap.left(), 3);
-        Ok(())
-    }
-}

@@ -8,6 +8,7 @@ mod custom;
 mod divisions;
 mod ends;
 mod escapes;
+mod fakes;
 mod filling;
 mod given;
 mod indentation;

@@ -1,15 +1,15 @@
 -- A line that begins as another one leaves the fence that it leaves.
-use Rattle.textwrap_marks.proofs.Common.{◌≡◌, ℕ, ◌-◌, ◌<◌, ◌⊎◌, ◌||◌, not, Bool, true, false, cond}
-use Rattle.textwrap_marks.proofs.Common.{List, [], ◌∷◌, ◌++◌, All, All-head, All-nil, ap}
-use Rattle.textwrap_marks.proofs.Common.{append-nil, append_assoc, arith, drop, false_from_ne_true}
-use Rattle.textwrap_marks.proofs.Common.{inl, inr, length, get_or, reverse, suc, zero, nat_eq, None}
-use Rattle.textwrap_marks.proofs.Common.{Option, refl, Some, starts_with, subst, suffix_len}
-use Rattle.textwrap_marks.proofs.Common.{length-append, sym, take-append-drop, true≢false, ⊤, ◌∙◌}
-use Rattle.textwrap_marks.proofs.Common.{all-right, starts_with-rest, suffix_len-le-length}
-use Rattle.textwrap_marks.proofs.Common.{FenceText, entered, fence_at, is_return, StateText}
-use Rattle.textwrap_marks.proofs.Common.{without_returns, is_comment_at, comment_len, begins_text}
-use Rattle.textwrap_marks.proofs.Common.{first_word, is_white, spaced_text, SpacedText}
-use Rattle.textwrap_marks.proofs.Common.{spaced_words}
+use Rattle.textwrap_marked_lines.proofs.Common.{◌≡◌, ℕ, ◌-◌, ◌<◌, ◌⊎◌, ◌||◌, not, Bool, true, false, cond}
+use Rattle.textwrap_marked_lines.proofs.Common.{List, [], ◌∷◌, ◌++◌, All, All-head, All-nil, ap}
+use Rattle.textwrap_marked_lines.proofs.Common.{append-nil, append_assoc, arith, drop, false_from_ne_true}
+use Rattle.textwrap_marked_lines.proofs.Common.{inl, inr, length, get_or, reverse, suc, zero, nat_eq, None}
+use Rattle.textwrap_marked_lines.proofs.Common.{Option, refl, Some, starts_with, subst, suffix_len}
+use Rattle.textwrap_marked_lines.proofs.Common.{length-append, sym, take-append-drop, true≢false, ⊤, ◌∙◌}
+use Rattle.textwrap_marked_lines.proofs.Common.{all-right, starts_with-rest, suffix_len-le-length}
+use Rattle.textwrap_marked_lines.proofs.Common.{FenceText, entered, fence_at, is_return, StateText}
+use Rattle.textwrap_marked_lines.proofs.Common.{without_returns, is_comment_at, comment_len, begins_text}
+use Rattle.textwrap_marked_lines.proofs.Common.{first_word, is_white, spaced_text, SpacedText}
+use Rattle.textwrap_marked_lines.proofs.Common.{spaced_words}
 use Rattle.textwrap_marks.specs.declared.options.ReflowOptions.{ReflowOptions}
 use Rattle.textwrap_text.proofs.Common.{drop_all, drop_more}
 use Rattle.textwrap_text.proofs.Lists.Parts.{starts_with-true}
@@ -22,7 +22,7 @@ use Rattle.textwrap_marked.proofs.FenceMarks.{mark-first}
 use Rattle.textwrap_marked.proofs.HangingKinds.{before-full, full-before, IsFull}
 use Rattle.textwrap_marked.proofs.LaterLines.{IsRead}
 use Rattle.textwrap_marked.proofs.LineKinds.{one_if}
-use Rattle.textwrap_marks.proofs.OpenBehind.{not-yes}
+use Rattle.textwrap_marks.proofs.ListLemmas.{not-yes}
 use Rattle.textwrap_marked.proofs.ParagraphLines.{regroup, text-parts}
 use Rattle.textwrap_marked.proofs.SpacedBack.{AreSpaced, IsInk, IsLineText, IsSpaced, IsWhite}
 use Rattle.textwrap_marked.proofs.SpacedBack.{line-text, spaced-back, spaced-first}

@@ -1,14 +1,14 @@
 //! The lines of a text, read one after another.
 ghost use Rattle.std.specs.Prelude.{◌≡◌, ◌==◌, ◌<◌, ◌≤◌, ◌∷◌, length, map, IfOk, Some};
 ghost use Rattle.std.specs.List.{slice_split};
-ghost use Rattle.textwrap_marks.specs.Lines.{line_view, lines_of, read_lines, state_view};
+ghost use Rattle.textwrap_marked_lines.specs.Lines.{line_view, lines_of, read_lines, state_view};
 ghost use Rattle.textwrap_marked.specs.Reading.{bytes_ahead, lines_ahead};
 ghost use Rattle.textwrap_marks.specs.Words.{bytes_left, parts_left};
 
 use std::alloc::{AllocError, Global};
-use textwrap_marks::lines::{Line, is_title, read_line, without_returns};
+use textwrap_marked_lines::lines::{Line, is_title, read_line, without_returns};
+use textwrap_marked_lines::states::State;
 use textwrap_marks::options::ReflowOptions;
-use textwrap_marks::states::State;
 use textwrap_marks::words::split_at;
 
 /// The first line of a text, and what follows its line feed, if it has one.

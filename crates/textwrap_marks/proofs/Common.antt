@@ -27,13 +27,7 @@ pub use Rattle.textwrap_layout.specs.Paragraph.{covered}
 pub use Rattle.textwrap_text.specs.declared.line_ending.LineEnding.{LineEnding}
 pub use Rattle.textwrap_text.specs.declared.line_ending.LineEnding.TheVariants.{CRLF, LF}
 pub use Rattle.textwrap_marks.specs.Fences.{FenceText}
-pub use Rattle.textwrap_marks.specs.Lines.{LineText, StateText, as_title, deeper_by, entered}
-pub use Rattle.textwrap_marks.specs.Lines.{fence_at, first_state, has_words, is_ended, is_return}
-pub use Rattle.textwrap_marks.specs.Lines.{line_of, lines_of, new_fence, passed, read_lines}
-pub use Rattle.textwrap_marks.specs.Lines.{with_titles, without_returns}
 pub use Rattle.textwrap_marks.specs.Marks.{is_among, is_bullet, is_comment_at, is_opening, is_quote}
-pub use Rattle.textwrap_marks.specs.Prefixes.{blanks, bullets_len, comment_len, hanging_bullets}
-pub use Rattle.textwrap_marks.specs.Prefixes.{hanging_comments, quotes_len}
 pub use Rattle.textwrap_marks.specs.Signs.{begins_text, closes_block, closes_early, first_word}
 pub use Rattle.textwrap_marks.specs.Signs.{front_of, has_columns, is_column_word, is_key}
 pub use Rattle.textwrap_marks.specs.Signs.{last_white, last_word, opens_paragraph}

@@ -1,8 +1,6 @@
-pub mod BulletLemmas
 pub mod ContainedTexts
 pub mod Letterless
 pub mod ListLemmas
-pub mod OpenBehind
 pub mod PlainWords
 pub mod SpacedLemmas
 pub mod Common

@@ -5,7 +5,7 @@ use Rattle.textwrap_marks.proofs.Common.{arith, bytes_eq, codes, cond, contains,
 use Rattle.textwrap_marks.proofs.Common.{is_column_word, is_white, list_any, nat_tests, not, refl}
 use Rattle.textwrap_marks.proofs.Common.{spaced_words, SpacedText, ◌∙◌}
 use Rattle.textwrap_marks.proofs.ContainedTexts.{contains-lacks}
-use Rattle.textwrap_marks.proofs.OpenBehind.{none-any, or-left, or-right}
+use Rattle.textwrap_marks.proofs.ListLemmas.{none-any, or-left, or-right}
 use Rattle.textwrap_marks.specs.Fences.{has_pre}
 use Rattle.textwrap_marks.specs.Signs.{ArePlain, is_column_byte}
 use Rattle.textwrap_marks.specs.Words.{of_byte, onto_white, onto_word, onto_words, with_byte}

@@ -1,7 +1,5 @@
 pub mod Columns
 pub mod Fences
-pub mod Lines
 pub mod Marks
-pub mod Prefixes
 pub mod Signs
 pub mod Words

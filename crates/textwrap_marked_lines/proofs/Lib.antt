@@ -1,0 +1,3 @@
+pub mod BulletLemmas
+pub mod OpenBehind
+pub mod Common

@@ -22,7 +22,7 @@ use Rattle.textwrap.specs.Columns.{row_count, column_cells, cells_by_column, cel
 use Rattle.textwrap_words.proofs.Common.{MaySeparate, MaySplit, WordText, MayDivide}
 use Rattle.std.proofs.lemmas.List.Elements.{All-replicate}
 use Rattle.textwrap_text.proofs.Units.Reading.{printable-width}
-use Rattle.textwrap_layout.specs.Options.{KeepsMethods}
+use Rattle.textwrap_layout.specs.Options.{KeepsMethods, MayOverflow}
 use Rattle.textwrap_layout.specs.Paragraph.{DividesUnder}
 use Rattle.textwrap_layout.specs.Text.{SomeMayPass64Bits, SomeMayPass64BitsUnder}
 use Rattle.textwrap_words.specs.declared.wrap_algorithms.WrapAlgorithm.{WrapAlgorithm}
@@ -211,3 +211,7 @@ module _ {E C : Type 0} {e : _} {c : _} where
       → settings_view new ≡ settings → KeepsMethods old new → SomeMayPass64Bits new text
       → SomeMayPass64BitsUnder old settings text
   SomeMayPass64Bits-methods old new settings text same keeps some = search rules
+
+  pub MayOverflow-methods : (old new : Options E C e c) → KeepsMethods old new → MayOverflow new
+      → MayOverflow old
+  MayOverflow-methods old new keeps may = search rules

@@ -4,7 +4,8 @@ use Rattle.std.proofs.lemmas.Result.{IfOk-weaker}
 use Rattle.textwrap_layout.proofs.Common.{line_bytes, settings_view}
 use Rattle.textwrap.specs.Columns.{at_column_width, table_rows}
 use Rattle.textwrap.proofs.Text.Unfilling.{columns-as}
-use Rattle.textwrap.proofs.Text.Tables.{AreTextLines-methods, SomeMayPass64Bits-methods}
+use Rattle.textwrap.proofs.Text.Tables.{AreTextLines-methods, MayOverflow-methods}
+use Rattle.textwrap.proofs.Text.Tables.{SomeMayPass64Bits-methods}
 use Rattle.textwrap.proofs.columns.wrap_columns.Goals.{After-wrap_in_table}
 
 -- the options at the width of a column
@@ -35,3 +36,8 @@ returns-clause-no_overflow g c = λ none.
     none (SomeMayPass64Bits-methods c.args.options c.width.result (at_column_width
     (settings_view c.args.options) c.args.columns c.args.left_gap.now c.args.middle_gap.now
     c.args.right_gap.now) c.args.text.now (narrow g c) c.width.ensures.methods some))
+
+pub returns-clause-only_memory : goal.returns-clause-only_memory
+returns-clause-only_memory g c = λ never.
+    c.wrap_in_table.ensures.only_memory (λ may.
+    never (MayOverflow-methods c.args.options c.width.result c.width.ensures.methods may))

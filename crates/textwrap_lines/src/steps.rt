@@ -98,8 +98,7 @@ pub fn pieces_at<'t, A: Allocator + Copy>(
     ensures tiles { IfOk result (λ pieces. Tiles (map word_view pieces.items) paragraph.now) }
 {
     let split = split_at(alloc, paragraph, cuts, points)?;
-    let pieces = break_pieces(alloc, split, options)?;
-    Ok(pieces)
+    break_pieces(alloc, split, options)
 }
 
 /// The words of a paragraph between cuts, split at the points inside them.

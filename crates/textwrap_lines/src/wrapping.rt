@@ -101,8 +101,7 @@ pub fn wrap<'t, A: Allocator + Copy>(
     ensures no_overflow { ¬ SomeMayPass64Bits options.entry text.now
         → IfErr result (λ error. error ≡ WrapError.Memory alloc_error) }
 {
-    let lines = wrap_by(alloc, text, &options)?;
-    Ok(lines)
+    wrap_by(alloc, text, &options)
 }
 
 /// The lines that [`wrap`] returns, by any options that stay with the caller: many texts can be

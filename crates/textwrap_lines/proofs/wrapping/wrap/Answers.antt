@@ -1,29 +1,32 @@
 use Rattle.textwrap_lines.proofs.wrapping.wrap.Goals as goal
-use Rattle.textwrap_lines.proofs.Common.{Greedy}
+use Rattle.textwrap_lines.proofs.Common.{Greedy, IfOk-weaker}
 use Rattle.textwrap_lines.proofs.Text.Promises.{ArePrintedWithin-options, LinesKeepToWidth-options}
 use Rattle.textwrap_lines.proofs.Text.Promises.{IsWrapped-options, LinesKeepToWidth-from}
 use Rattle.textwrap_layout.proofs.Paragraph.Pieces.{lines-as}
 
 pub returns-clause-lines : goal.returns-clause-lines
-returns-clause-lines g c =
-    IsWrapped-options c.args.options c.args.text.now _ c.utf8.text c.in_ok-lines.ensures.lines
+returns-clause-lines g c = IfOk-weaker c.wrap_by.result _ _
+    (λ lines. IsWrapped-options c.args.options c.args.text.now _ c.utf8.text)
+    c.wrap_by.ensures.lines
 
 pub returns-clause-even : goal.returns-clause-even
-returns-clause-even g c = λ even first built_in breaks.
-    LinesKeepToWidth-options c.args.options c.args.text.now _ c.utf8.text even first built_in breaks
-    (returns-clause-lines g c).are
+returns-clause-even g c = λ even first built_in breaks. IfOk-weaker c.wrap_by.result _ _ (λ lines.
+    LinesKeepToWidth-options c.args.options c.args.text.now _ c.utf8.text even first built_in
+    breaks) c.wrap_by.ensures.lines
 
 pub returns-clause-built_in : goal.returns-clause-built_in
-returns-clause-built_in g c = λ settings splitter algorithm parts.
-    lines-as c.args.options settings splitter algorithm parts c.args.text.now _
-    (returns-clause-lines g c).are
+returns-clause-built_in g c = IfOk-weaker c.wrap_by.result _ _
+    (λ lines are settings splitter algorithm parts.
+    lines-as c.args.options settings splitter algorithm parts c.args.text.now _ are)
+    c.wrap_by.ensures.lines
 
 pub returns-clause-built_in_even : goal.returns-clause-built_in_even
-returns-clause-built_in_even g c = λ settings splitter parts even breaks.
+returns-clause-built_in_even g c = IfOk-weaker c.wrap_by.result _ _
+    (λ lines are settings splitter parts even breaks.
     LinesKeepToWidth-from settings splitter c.args.text.now _ c.utf8.text even breaks
-    (returns-clause-built_in g c settings splitter Greedy parts)
+    (are settings splitter Greedy parts)) (returns-clause-built_in g c)
 
 pub returns-clause-printed : goal.returns-clause-printed
-returns-clause-printed g c = λ first built_in can.
-    ArePrintedWithin-options c.args.options c.args.text.now _ c.utf8.text first built_in can
-    (returns-clause-lines g c).are
+returns-clause-printed g c = λ first built_in can. IfOk-weaker c.wrap_by.result _ _ (λ lines.
+    ArePrintedWithin-options c.args.options c.args.text.now _ c.utf8.text first built_in can)
+    c.wrap_by.ensures.lines

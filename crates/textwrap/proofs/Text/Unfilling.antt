@@ -263,6 +263,11 @@ detected_among-two (Some LF) None others = refl
 detected_among-two (Some LF) (Some CRLF) others = refl
 detected_among-two (Some LF) (Some LF) others = refl
 
+pub detected_among-one : (detected : Option LineEnding) → detected_among (detected ∷ []) ≡ detected
+detected_among-one None = refl
+detected_among-one (Some LF) = refl
+detected_among-one (Some CRLF) = refl
+
 pub keeps_ending-some : (text : List ℕ) (ending : LineEnding) → detected_ending text ≡ Some ending
     → keeps_ending text ≡ ends_with nat_eq text (ending_bytes ending)
 keeps_ending-some text ending is = search (rules, nat_eq)

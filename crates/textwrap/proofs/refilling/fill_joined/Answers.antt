@@ -1,29 +1,6 @@
 use Rattle.textwrap.proofs.refilling.fill_joined.Goals as goal
-use Rattle.textwrap_text.proofs.Common.{◌++◌, ap, append-nil, ending_bytes, refl, string_bytes, sym, ◌∙◌}
-use Rattle.std.specs.Prelude.{alloc_error}
-use Rattle.textwrap_base.specs.declared.errors.WrapError.TheVariants.{Memory}
+use Rattle.textwrap_text.proofs.Common.{◌++◌, ap, append-nil, ending_bytes, string_bytes, sym, ◌∙◌}
 use Rattle.textwrap.specs.Refilling.{added_ending}
-use Rattle.textwrap_lines.proofs.Paragraph.KeepsTo.{passed-on}
-
-pub returns-in_err-filled-clause-only_memory : goal.returns-in_err-filled-clause-only_memory
-returns-in_err-filled-clause-only_memory g c = λ never.
-    passed-on c.from_residual.result c.in_err-filled.field-0.0 c.from_residual.ensures.1
-    (c.in_err-filled.ensures.only_memory never)
-
-pub returns-in_err-filled-clause-no_overflow : goal.returns-in_err-filled-clause-no_overflow
-returns-in_err-filled-clause-no_overflow g c = λ never.
-    passed-on c.from_residual.result c.in_err-filled.field-0.0 c.from_residual.ensures.1
-    (c.in_err-filled.ensures.no_overflow never)
-
-pub returns-in_err-push_str-clause-only_memory : goal.returns-in_err-push_str-clause-only_memory
-returns-in_err-push_str-clause-only_memory g c = λ never.
-    passed-on c.from_residual-in_err-push_str.result (Memory alloc_error)
-    c.from_residual-in_err-push_str.ensures.1 refl
-
-pub returns-in_err-push_str-clause-no_overflow : goal.returns-in_err-push_str-clause-no_overflow
-returns-in_err-push_str-clause-no_overflow g c = λ never.
-    passed-on c.from_residual-in_err-push_str.result (Memory alloc_error)
-    c.from_residual-in_err-push_str.ensures.1 refl
 
 pub returns-clause-filled : goal.returns-clause-filled
 returns-clause-filled g c =

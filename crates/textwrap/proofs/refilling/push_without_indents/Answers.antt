@@ -4,7 +4,8 @@ use Rattle.textwrap_text.proofs.Common.{append_assoc, StartsWith, All-head, All-
 use Rattle.textwrap.proofs.Common.{detected_among}
 use Rattle.textwrap.specs.Refilling.{has_text}
 use Rattle.textwrap_text.specs.LineViews.{ended_line_view}
-use Rattle.textwrap.proofs.Text.Unfilling.{lines-begin, joined_text-some, detected_among-two}
+use Rattle.textwrap.proofs.Text.Unfilling.{detected_among-one, detected_among-two}
+use Rattle.textwrap.proofs.Text.Unfilling.{joined_text-some, lines-begin}
 
 pub without_indent-first-requires : goal.without_indent-first-requires
 without_indent-first-requires g c = subst (StartsWith c.in-Some.line.text.now) (sym c.requires.initial)
@@ -68,3 +69,7 @@ returns-clause-joined g c =
     subst (g.S.TextSink.holds c.args.joined.now c.loop-line.joined)
     (sym (append-nil so_far)
     ∙ (rw c.in-None.ensures.steps.0 at joined)) held
+
+pub returns-clause-detected : goal.returns-clause-detected
+returns-clause-detected g c = sym (detected_among-one c.loop-line.detected)
+    ∙ (rw c.in-None.ensures.steps.0 at c.loop-line.invariant.detected)

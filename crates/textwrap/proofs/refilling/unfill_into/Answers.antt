@@ -1,7 +1,8 @@
 use Rattle.textwrap.proofs.refilling.unfill_into.Goals as goal
 use Rattle.textwrap_text.proofs.Common.{◌≡◌, ◌++◌, [], List, ℕ, ap, ◌∙◌, subst, rules}
 use Rattle.std.proofs.Common.{ap₂}
-use Rattle.textwrap.specs.Refilling.{layout_settings, unfilled_parts, unfilled_settings, unfilled_text}
+use Rattle.textwrap.specs.Refilling.{layout_settings, unfilled_parts, unfilled_settings}
+use Rattle.textwrap.specs.Refilling.{unfilled_text}
 use Rattle.textwrap.specs.declared.refilling.TextLayout.{TextLayout}
 use Rattle.textwrap_text.specs.LentText.{IsLent, written_over}
 use Rattle.textwrap_text.specs.declared.lent_text.LentText.{LentText}
@@ -12,10 +13,10 @@ over-none : (before : List ℕ) → written_over before [] ≡ before
 over-none before = search rules
 
 -- the text, and then the bytes of both indents, are all parts
-with-indents : (text initial subsequent room before : List ℕ) (layout : TextLayout) (lent : LentText)
-    → layout_settings layout ≡ unfilled_settings text → initial ≡ layout.initial_indent.now
-    → subsequent ≡ layout.subsequent_indent.now → room ≡ before
-    → IsLent lent (unfilled_text text ++ initial ++ subsequent) room
+with-indents : (text initial subsequent room before : List ℕ) (layout : TextLayout)
+    (lent : LentText) → layout_settings layout ≡ unfilled_settings text
+    → initial ≡ layout.initial_indent.now → subsequent ≡ layout.subsequent_indent.now
+    → room ≡ before → IsLent lent (unfilled_text text ++ initial ++ subsequent) room
     → IsLent lent (unfilled_parts text) before
 with-indents text initial subsequent room before layout lent same first second begun is =
     subst (λ room. IsLent lent (unfilled_parts text) room) begun
@@ -23,8 +24,8 @@ with-indents text initial subsequent room before layout lent same first second b
     (ap₂ (λ a b. unfilled_text text ++ a ++ b) (first ∙ ap (λ s. s.initial_indent) same)
     (second ∙ ap (λ s. s.subsequent_indent) same)) is)
 
-pushed : (g : _) (c : After-with_layout g) → IsLent c.push-in-Ok.new.self (unfilled_parts c.args.text.now)
-    c.args.room.now
+pushed : (g : _) (c : After-with_layout g)
+    → IsLent c.push-in-Ok.new.self (unfilled_parts c.args.text.now) c.args.room.now
 pushed g c =
     let text = c.args.text.now in
     with-indents text _ _ _ _ c.in-Ok.layout _ c.in-Ok.ensures.layout c.as_bytes.ensures.value
@@ -38,6 +39,3 @@ returns-clause-len g c = c.len.ensures ∙ (pushed g c).len
 
 pub returns-clause-room : goal.returns-clause-room
 returns-clause-room g c = search (rules, (pushed g c).room)
-
-pub returns-clause-settings : goal.returns-clause-settings
-returns-clause-settings g c = c.with_layout.ensures.settings ∙ c.in-Ok.ensures.layout

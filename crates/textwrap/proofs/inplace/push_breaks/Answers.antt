@@ -4,6 +4,7 @@ use Rattle.textwrap_text.proofs.Common.{length-append, ⊎_elim, cases_lt}
 use Rattle.textwrap_words.proofs.Common.{word_view}
 use Rattle.textwrap.proofs.Text.InPlaceLines.{HasLine-begin, HasLine-break, HasLine-join, HasLine-none}
 use Rattle.textwrap.proofs.Text.InPlaceLines.{HasLine-within, HasLine-fits, HasLine-end}
+use Rattle.textwrap.proofs.Text.InPlaceLines.{passed}
 
 pub loop-word-init : goal.loop-word-init
 loop-word-init g c = (
@@ -70,3 +71,12 @@ loop-word-preserved g c =
 pub returns-clause-breaks : goal.returns-clause-breaks
 returns-clause-breaks g c =
     let (line, has) = c.loop-word.invariant.0 in HasLine-end has c.in-None.ensures.steps.0
+
+pub overflow_add-end-in-loop-word : goal.overflow_add-end-in-loop-word
+overflow_add-end-in-loop-word g c =
+    let (line, has) = c.loop-word.invariant.0 in
+    let word = word_view c.in-Some.word in
+    let len_is = length-append word.word word.whitespace in
+    let here = rw c.in-Some.ensures.steps at has in
+    let len = length word.word + length word.whitespace in
+    omega (arith, passed here len (omega (arith, len_is)))

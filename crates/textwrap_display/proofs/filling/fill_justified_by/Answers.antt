@@ -1,10 +1,12 @@
 use Rattle.textwrap_display.proofs.filling.fill_justified_by.Goals as goal
-use Rattle.textwrap_text.proofs.Common.{string_bytes, length, arith, subst, drop, ◌++◌, ◌∙◌, ap}
+use Rattle.textwrap_text.proofs.Common.{length-append, length-map, string_bytes, length, arith}
+use Rattle.textwrap_text.proofs.Common.{subst, drop, ◌++◌, ◌∙◌, ◌≤◌, ap}
 use Rattle.std.proofs.lemmas.Slice.{between_to_end}
 use Rattle.textwrap_display.proofs.Common.{IsJustifiedText, paragraphs_left, layout_view}
 use Rattle.textwrap_lines.proofs.Paragraph.KeepsTo.{passed-on}
 use Rattle.textwrap_layout.proofs.Text.Lines.{paragraphs_left-split}
 use Rattle.textwrap_display.proofs.JustifiedLines.{so_far-start, so_far-more, so_far-end}
+use Rattle.textwrap_display.proofs.filling.fill_justified_by.Goals.{After-deref}
 
 pub loop-rest-init : goal.loop-rest-init
 loop-rest-init g c =
@@ -56,3 +58,18 @@ returns-in_err-wrap_paragraph-clause-no_overflow g c = λ never.
       c.loop-rest.invariant.paragraphs ∙ ap (λ ps. c.loop-rest.invariant.done ++ ps) left,
       passes,
     )))
+
+-- the lines that were kept are among those that are lent
+kept : (g : _) (c : After-deref g) → c.len-start.result ≤ length c.deref.result.now
+kept g c =
+    let (parts, are, adds) = c.in_ok-wrap_paragraph.ensures.appended.lines in
+    omega (arith, ap length c.deref.ensures.value, simp (length-append, length-map) at (ap length adds))
+
+pub slice_bounds-push_justified_lines-count : goal.slice_bounds-push_justified_lines-count
+slice_bounds-push_justified_lines-count g c = kept g c
+
+pub slice_bounds-push_justified_lines-start : goal.slice_bounds-push_justified_lines-start
+slice_bounds-push_justified_lines-start g c = kept g c
+
+pub slice_bounds-push_justified_lines-end : goal.slice_bounds-push_justified_lines-end
+slice_bounds-push_justified_lines-end g c = omega (arith, kept g c)

@@ -1,6 +1,6 @@
 use Rattle.textwrap_display.proofs.filling.push_justified_lines.Goals as goal
 use Rattle.textwrap_text.proofs.Common.{string_bytes, drop_more, drop, ◌++◌, sym, ◌+◌, ◌∙◌, ◌∷◌, []}
-use Rattle.textwrap_text.proofs.Common.{ap}
+use Rattle.textwrap_text.proofs.Common.{nil_from_length, append-nil, ap}
 use Rattle.textwrap_display.proofs.Common.{layout_view}
 use Rattle.textwrap_display.proofs.JustifiedLines.{added-step, added}
 
@@ -19,3 +19,13 @@ loop-line-preserved g c =
     (ap (λ l. l ∷ drop (i + 1) others) c.line-item.is
     ∙ sym (drop_more others i line c.loop-line-test.true))
     ∙ c.loop-line.invariant
+
+pub loop-line-init : goal.loop-line-init
+loop-line-init g c =
+    ap (λ ls. string_bytes c.args.text.now
+    ++ added (layout_view c.args.layout.now) c.args.is_later ls) (sym c.in-Some.ensures.cases.0)
+
+pub returns-in_default : goal.returns-in_default
+returns-in_default g c =
+    rw (nil_from_length c.args.lines.now c.in_default.ensures.cases)
+    (sym (append-nil (string_bytes c.args.text.now)))

@@ -63,7 +63,11 @@ returns-in_err-wrap_paragraph-clause-no_overflow g c = λ never.
 kept : (g : _) (c : After-deref g) → c.len-start.result ≤ length c.deref.result.now
 kept g c =
     let (parts, are, adds) = c.in_ok-wrap_paragraph.ensures.appended.lines in
-    omega (arith, ap length c.deref.ensures.value, simp (length-append, length-map) at (ap length adds))
+    omega (
+      arith,
+      ap length c.deref.ensures.value,
+      simp (length-append, length-map) at (ap length adds),
+    )
 
 pub slice_bounds-push_justified_lines-count : goal.slice_bounds-push_justified_lines-count
 slice_bounds-push_justified_lines-count g c = kept g c

@@ -14,6 +14,11 @@ returns g c =
     record {
       len = len;
       kept = c.kept_len.ensures;
-      is = rw (c.in_ok-push_str-2.ensures.bytes, c.in_ok-push_str.ensures.bytes, c.in_ok-text.ensures.bytes, c.range-kept.ensures.value)
+      is = rw (
+        c.in_ok-push_str-2.ensures.bytes,
+        c.in_ok-push_str.ensures.bytes,
+        c.in_ok-text.ensures.bytes,
+        c.range-kept.ensures.value,
+      )
           (ap (λ n. Built (take n c.args.line.now ++ c.args.placeholder.now)) same);
     }

@@ -6,7 +6,7 @@ use Rattle.textwrap_text.proofs.Common.{drop_more, nat_tests, All-cons, All-drop
 use Rattle.textwrap_text.proofs.Common.{All-tail, flat_map, take_at, IsUtf8, filter, get_or, length}
 use Rattle.textwrap_text.proofs.Common.{nat_eq, sum_by, arith, subst, List, cond, drop, refl, take}
 use Rattle.textwrap_text.proofs.Common.{◌++◌, ◌==◌, All, inl, inr, map, not, sym, ◌+◌, ◌-◌, ◌<◌, []}
-use Rattle.textwrap_text.proofs.Common.{◌∙◌, ◌∷◌, ◌≡◌, ap, ℕ}
+use Rattle.textwrap_text.proofs.Common.{◌∙◌, ◌∷◌, ◌≡◌, ◌≤◌, Bool, ap, false, true, ℕ}
 use Rattle.textwrap_display.proofs.Common.{line_bytes-line_view, starts_with-rest, carried_lines}
 use Rattle.textwrap_display.proofs.Common.{concat-append, cow_str_bytes, styled_lines, IsWholeText}
 use Rattle.textwrap_display.proofs.Common.{open_styles, sequence_of, styled_text, has_target, Built}
@@ -14,7 +14,7 @@ use Rattle.textwrap_display.proofs.Common.{line_bytes, text_width, line_view, op
 use Rattle.textwrap_display.proofs.Common.{is_reset, is_style, texts_of, IsWhole, closing, is_link}
 use Rattle.textwrap_display.proofs.Common.{opening, CowStr, concat, styled, Slice, units, Line}
 use Rattle.textwrap_display.specs.Indents.{after_indent, before_text, indent_end}
-use Rattle.textwrap_display.specs.Styles.{carried_line}
+use Rattle.textwrap_display.specs.Styles.{carried_line, link_end, style_end}
 use Rattle.std.proofs.lemmas.List.Folds.{flat_map-map}
 use Rattle.textwrap_display.proofs.SequenceTexts.{closing-sequences, closing_sequences, IsSequence}
 use Rattle.textwrap_display.proofs.SequenceTexts.{text_units-append, parts-sequences, parts-visible}
@@ -25,6 +25,7 @@ use Rattle.textwrap_text.specs.Units.{columns}
 use Rattle.textwrap_display.specs.Styled.{EachWithIndent, EndsPlain, MayCarry}
 use Rattle.textwrap_display.proofs.OpenSequences.{styles-follow, link-follows, styles-again}
 use Rattle.textwrap_display.proofs.OpenSequences.{link-again}
+use Rattle.textwrap_display.proofs.LastOfEach.{All-last}
 use Rattle.std.specs.Str.{chars}
 use Rattle.textwrap_text.proofs.Texts.{StartsWith-boundary}
 
@@ -70,6 +71,33 @@ carried-parts : (indent : List ℕ) (before : List (List ℕ)) (line : List ℕ)
 carried-parts indent before line =
     grind (arith, nat_tests, nothing-added, take-append-drop (indent_end indent line) line)
 
+parts-len : (front start text end line whole : List ℕ) → whole ≡ front ++ start ++ text ++ end
+    → front ++ text ≡ line → length whole ≡ length line + length start + length end
+parts-len front start text end line whole are own = grind (arith, length-append)
+
+closing-short : (before : List (List ℕ))
+    → length (closing before) ≤ length style_end + length link_end
+closing-short before =
+    by (length (open_styles before) == 0) (length (open_link before) == 0)
+  where
+    by : (plain unlinked : Bool) → length (cond plain [] style_end ++ cond unlinked [] link_end)
+        ≤ length style_end + length link_end
+    by true true = omega arith
+    by true false = omega arith
+    by false true = omega arith
+    by false false = omega arith
+
+pub carried-short : (indent : List ℕ) (before : List (List ℕ)) (line : List ℕ)
+    → length (line_bytes (carried_line indent before line))
+    ≤ length line + length (opening before) + length style_end + length link_end
+carried-short indent before line =
+    let text = after_indent indent line in
+    let len = parts-len (before_text indent line) (opening before) text
+    (closing (before ++ sequences text)) line _ (carried-parts indent before line)
+    (take-append-drop (indent_end indent line) line) in
+    let ends = closing-short (before ++ sequences text) in
+    omega (arith, len, ends)
+
 pub carried-bytes : (indent : List ℕ) (before : List (List ℕ)) (line : List ℕ)
     → line_bytes (carried_line indent before line)
     ≡ before_text indent line ++ concat (open_link before ++ open_styles before)
@@ -87,7 +115,8 @@ open-sequences before are =
     All-append IsSequence (open_link before) (open_styles before)
     (All-filter has_target IsSequence (drop (length links - 1) links)
     (All-drop IsSequence (length links - 1) links (All-filter is_link IsSequence before are)))
-    (All-filter is_style IsSequence (drop n before) (All-drop IsSequence n before are))
+    (All-last IsSequence (filter is_style (drop n before))
+    (All-filter is_style IsSequence (drop n before) (All-drop IsSequence n before are)))
 
 module _ (indent : List ℕ) (before : List (List ℕ)) (line : List ℕ)
     (are : All IsSequence before) (may : MayCarry indent line) where

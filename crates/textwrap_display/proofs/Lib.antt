@@ -3,6 +3,7 @@ pub mod CarriedLines
 pub mod JustifiedLines
 pub mod KeptLines
 pub mod KeptWords
+pub mod LastOfEach
 pub mod OpenSequences
 pub mod SequenceTexts
 pub mod Sequences

@@ -4,7 +4,9 @@ use Rattle.textwrap_text.proofs.Common.{append-nil, cases_Bool, nat_tests, All-c
 use Rattle.textwrap_text.proofs.Common.{All-tail, and_from, All-nil, Option, filter, length, arith}
 use Rattle.textwrap_text.proofs.Common.{false, subst, cond, fold, refl, true, ◌&&◌, ◌++◌, ◌==◌, All}
 use Rattle.textwrap_text.proofs.Common.{◌||◌, Bor, sym, ◌<◌, ◌∙◌, ◌∷◌, ◌≡◌, [], ap, ℕ}
-use Rattle.std.proofs.lemmas.List.Elements.{filter-append}
+use Rattle.std.proofs.lemmas.List.Elements.{All-filter, Contains-get_or, filter-append}
+use Rattle.std.specs.List.{after_last}
+use Rattle.std.specs.Str.{bytes_eq}
 use Rattle.textwrap_display.proofs.Common.{style_parameters, option_to_list, concat-append, closing}
 use Rattle.textwrap_display.proofs.Common.{option_copied, IsOpenAfter, after_first, link_fields}
 use Rattle.textwrap_display.proofs.Common.{open_styles, has_target, open_link, style_end, is_reset}
@@ -12,13 +14,20 @@ use Rattle.textwrap_display.proofs.Common.{is_style, link_end, list_all, is_link
 use Rattle.textwrap_text.proofs.Lists.Parts.{after_last-push, last_one-push}
 use Rattle.textwrap_display.specs.declared.styles.OpenStyles.{OpenStyles}
 use Rattle.textwrap_display.proofs.Sequences.{reset-is_style, link-no_style, style-no_link}
-use Rattle.std.proofs.lemmas.List.Sums.{fold-append, fold_push}
+use Rattle.std.proofs.lemmas.List.Sums.{fold-append}
+use Rattle.textwrap_display.proofs.LastOfEach.{All-last, last-again, last-different, last-push}
+use Rattle.textwrap_display.proofs.LastOfEach.{without}
+use Rattle.textwrap_display.specs.Styles.{last_of_each}
+use Rattle.textwrap_text.proofs.Common.{All-drop, All-weaker, Contains, drop, length-map, map, not}
+use Rattle.textwrap_text.proofs.Common.{suffix_len, ◌-◌, ◌≢◌}
+use Rattle.std.specs.List.{AllPairs}
 
 -- ---- what is open after some sequences and after one more, or any more
 
 -- the styles after one more sequence
 abbrev pub next_styles : List (List ℕ) → List ℕ → List (List ℕ)
-next_styles styles s = cond (is_reset s) [] (styles ++ filter is_style (s ∷ []))
+next_styles styles s =
+    cond (is_reset s) [] (cond (is_style s) (without s styles ++ s ∷ []) styles)
 
 -- the link after it
 abbrev pub next_link : List (List ℕ) → List ℕ → List (List ℕ)
@@ -26,7 +35,8 @@ next_link link s = cond (is_link s) (filter has_target (s ∷ [])) link
 
 pub open_styles-push : (before : List (List ℕ)) (s : List ℕ)
     → open_styles (before ++ s ∷ []) ≡ next_styles (open_styles before) s
-open_styles-push before s = grind (arith, cases_Bool, after_last-push, filter-append)
+open_styles-push before s =
+    grind (arith, cases_Bool, append-nil, after_last-push, filter-append, last-push)
 
 pub open_link-push : (before : List (List ℕ)) (s : List ℕ)
     → open_link (before ++ s ∷ []) ≡ next_link (open_link before) s
@@ -64,24 +74,7 @@ pub link-follows : (first second more : List (List ℕ)) → open_link first ≡
     → open_link (first ++ more) ≡ open_link (second ++ more)
 link-follows = after-same open_link next_link open_link-push
 
--- ---- what a style is not
-
-style-some : (s : List ℕ) → is_style s ≡ true → 0 < length s
-style-some [] is = cc
-style-some (c ∷ cs) is = omega arith
-
--- so styles take no bytes just where there are none
-pub no_styles : (ss : List (List ℕ))
-    → (length (filter is_style ss) == 0) ≡ (length (concat (filter is_style ss)) == 0)
-no_styles [] = refl
-no_styles (s ∷ ss) =
-    grind (arith, cases_Bool, nat_tests, style-some s, length-append, no_styles ss)
-
 -- ---- one sequence more
-
-pub styles-push : (before : List (List ℕ)) (s : List ℕ) → open_styles (before ++ s ∷ [])
-    ≡ cond (is_reset s) [] (cond (is_style s) (open_styles before ++ s ∷ []) (open_styles before))
-styles-push before s = grind (arith, cases_Bool, append-nil, open_styles-push)
 
 -- what a link's command leaves open, by whether its target is empty
 pub target-set : (s target : List ℕ) (empty : Bool)
@@ -95,12 +88,16 @@ target-set s target empty are is = grind (arith, cases_Bool, nat_tests)
 abbrev zeros : List ℕ → Bool
 zeros s = list_all (λ c. (c == 0x30) || (c == 0x3B)) (style_parameters s)
 
+-- the styles that it keeps
+abbrev set_in : {Z : Type 0} → OpenStyles Z → List (List ℕ)
+set_in state = map (λ s. s.now) state.styles.items
+
 module _ {Z : Type 0} (before : List (List ℕ)) (s : List ℕ) (old new : OpenStyles Z)
     (state : IsOpenAfter before old) where
   styles-after : (reset style : Bool) → is_reset s ≡ reset → is_style s ≡ style
       → open_styles (before ++ s ∷ [])
-      ≡ cond reset [] (cond style (open_styles before ++ s ∷ []) (open_styles before))
-  styles-after reset style resets styles = rw (sym resets, sym styles) (styles-push before s)
+      ≡ cond reset [] (cond style (without s (open_styles before) ++ s ∷ []) (open_styles before))
+  styles-after reset style resets styles = rw (sym resets, sym styles) (open_styles-push before s)
 
   -- the link, by what the sequence does
   link-after : (link : Bool) → is_link s ≡ link → open_link (before ++ s ∷ [])
@@ -112,32 +109,30 @@ module _ {Z : Type 0} (before : List (List ℕ)) (s : List ℕ) (old new : OpenS
   same-link none same =
       ap (λ l. option_to_list (option_copied l)) same ∙ state.link ∙ sym (link-after false none)
 
-  same-styles : is_style s ≡ false → string_bytes new.styles ≡ string_bytes old.styles
-      → string_bytes new.styles ≡ concat (open_styles (before ++ s ∷ []))
+  same-styles : is_style s ≡ false → set_in new ≡ set_in old
+      → set_in new ≡ open_styles (before ++ s ∷ [])
   same-styles plain same =
-      same ∙ state.styles ∙ ap concat
-      (sym (styles-after false false (ap (λ b. b && zeros s) plain) plain))
+      same ∙ state.styles ∙ sym (styles-after false false (ap (λ b. b && zeros s) plain) plain)
 
-  pub after-reset : is_style s ≡ true → zeros s ≡ true → string_bytes new.styles ≡ []
+  pub after-reset : is_style s ≡ true → zeros s ≡ true → set_in new ≡ []
       → new.link ≡ old.link → IsOpenAfter (before ++ s ∷ []) new
   after-reset style reset none same = record {
-    styles = none ∙ ap concat
-        (sym (styles-after true true (and_from (is_style s) (zeros s) style reset) style));
+    styles = none ∙ sym
+        (styles-after true true (and_from (is_style s) (zeros s) style reset) style);
     link = same-link (style-no_link s style) same;
   }
 
   pub after-style : is_style s ≡ true → zeros s ≡ false
-      → string_bytes new.styles ≡ string_bytes old.styles ++ s → new.link ≡ old.link
+      → set_in new ≡ without s (set_in old) ++ s ∷ [] → new.link ≡ old.link
       → IsOpenAfter (before ++ s ∷ []) new
   after-style style more added same = record {
-    styles =
-        let now = styles-after false true (ap (λ b. b && zeros s) style ∙ more) style in
-        grind (arith, state.styles, append-nil, concat-append, now);
+    styles = added ∙ ap (λ ss. without s ss ++ s ∷ []) state.styles
+        ∙ sym (styles-after false true (ap (λ b. b && zeros s) style ∙ more) style);
     link = same-link (style-no_link s style) same;
   }
 
   pub after-link : is_style s ≡ false → is_link s ≡ true
-      → string_bytes new.styles ≡ string_bytes old.styles
+      → set_in new ≡ set_in old
       → option_to_list (option_copied new.link) ≡ cond (has_target s) (s ∷ []) []
       → IsOpenAfter (before ++ s ∷ []) new
   after-link plain link same set = record {
@@ -146,7 +141,7 @@ module _ {Z : Type 0} (before : List (List ℕ)) (s : List ℕ) (old new : OpenS
   }
 
   pub after-other : is_style s ≡ false → is_link s ≡ false
-      → string_bytes new.styles ≡ string_bytes old.styles → new.link ≡ old.link
+      → set_in new ≡ set_in old → new.link ≡ old.link
       → IsOpenAfter (before ++ s ∷ []) new
   after-other plain none same same_link =
       record { styles = same-styles plain same; link = same-link none same_link }
@@ -154,10 +149,12 @@ module _ {Z : Type 0} (before : List (List ℕ)) (s : List ℕ) (old new : OpenS
 -- what ends all that is open, by whether there are styles and a link
 pub closing-is : {Z : Type 0} (before : List (List ℕ)) (state : OpenStyles Z) (plain : Bool)
     (link : Option (Bor (List ℕ))) → IsOpenAfter before state
-    → plain ≡ (length (string_bytes state.styles) == 0) → state.link ≡ link
+    → plain ≡ (length state.styles.items == 0) → state.link ≡ link
     → cond plain [] style_end
     ++ cond (length (option_to_list (option_copied link)) == 0) [] link_end ≡ closing before
-closing-is before state plain link after is same = grind (arith, no_styles)
+closing-is before state plain link after is same =
+    let len = ap length after.styles in
+    grind (arith, length-map, len)
 
 -- ---- what is left open is as it was, if it is written anew; sequences of the other kind change
 -- nothing
@@ -179,24 +176,6 @@ record IsKept (next : List (List ℕ) → List ℕ → List (List ℕ)) (other :
 kept-nothing : (next : List (List ℕ) → List ℕ → List (List ℕ)) (other : List ℕ → Bool)
     → IsKept next other []
 kept-nothing next other = record { again = refl; none = All-nil (λ t. other t ≡ false) }
-
-next-styles : (styles : List (List ℕ)) (s : List ℕ) → IsKept next_styles is_link styles
-    → IsKept next_styles is_link (next_styles styles s)
-next-styles styles s kept = by (is_reset s) (is_style s) refl refl
-  where
-    by : (reset set : Bool) → is_reset s ≡ reset → is_style s ≡ set
-        → IsKept next_styles is_link (cond reset [] (styles ++ cond set (s ∷ []) []))
-    by true set resets sets = kept-nothing next_styles is_link
-    by false false resets sets = subst (IsKept next_styles is_link) (sym (append-nil styles)) kept
-    by false true resets sets = record {
-      again = fold_push next_styles [] styles s
-          ∙ ap (λ st. next_styles st s) kept.again
-          ∙ ap (λ b. cond b [] (styles ++ filter is_style (s ∷ []))) resets
-          ∙ ap (λ b. styles ++ cond b (s ∷ []) []) sets;
-      none = All-append (λ t. is_link t ≡ false) styles (s ∷ []) kept.none
-          (All-cons (λ t. is_link t ≡ false) s [] (style-no_link s sets)
-          (All-nil (λ t. is_link t ≡ false)));
-    }
 
 next-link : (link : List (List ℕ)) (s : List ℕ) → IsKept next_link is_style link
     → IsKept next_link is_style (next_link link s)
@@ -221,11 +200,44 @@ fold-keeps P next step [] now kept = kept
 fold-keeps P next step (s ∷ before) now kept =
     fold-keeps P next step before (next now s) (step now s kept)
 
+-- sequences that set styles, and take none back
+abbrev IsSet : List ℕ → Type 0
+IsSet s = (is_style s ≡ true) × (is_reset s ≡ false)
+
+next-set : (styles : List (List ℕ)) (s : List ℕ) → All IsSet styles
+    → All IsSet (next_styles styles s)
+next-set styles s are = by (is_reset s) (is_style s) refl refl
+  where
+    by : (reset set : Bool) → is_reset s ≡ reset → is_style s ≡ set
+        → All IsSet (cond reset [] (cond set (without s styles ++ s ∷ []) styles))
+    by true set resets sets = All-nil IsSet
+    by false false resets sets = are
+    by false true resets sets =
+        All-append IsSet (without s styles) (s ∷ [])
+        (All-filter (λ t. not (bytes_eq t s)) IsSet styles are)
+        (All-cons IsSet s [] (sets, resets) (All-nil IsSet))
+
+all-set : (before : List (List ℕ)) → All IsSet (open_styles before)
+all-set before =
+    subst (All IsSet) (sym (open_styles-append [] before))
+    (fold-keeps (All IsSet) next_styles next-set before [] (All-nil IsSet))
+
+-- written anew, each is set, of equal ones the last
+set-again : (first more : List (List ℕ)) → All IsSet more
+    → fold next_styles (last_of_each first) more ≡ last_of_each (first ++ more)
+set-again first [] are = ap last_of_each (sym (append-nil first))
+set-again first (s ∷ more) are =
+    let is = All-head IsSet s more are in
+    let others = set-again (first ++ s ∷ []) more (All-tail IsSet s more are) in
+    grind (arith, append_assoc, last-push first s, is.0, is.1, others)
+
 kept-styles : (before : List (List ℕ)) → IsKept next_styles is_link (open_styles before)
-kept-styles before =
-    subst (IsKept next_styles is_link) (sym (open_styles-append [] before))
-    (fold-keeps (IsKept next_styles is_link) next_styles next-styles before []
-    (kept-nothing next_styles is_link))
+kept-styles before = record {
+  again = set-again [] (open_styles before) (all-set before)
+      ∙ last-again (filter is_style (after_last is_reset before));
+  none = All-weaker IsSet (λ t. is_link t ≡ false) (λ t set. style-no_link t set.0)
+      (open_styles before) (all-set before);
+}
 
 kept-link : (before : List (List ℕ)) → IsKept next_link is_style (open_link before)
 kept-link before =
@@ -258,4 +270,18 @@ link-again front before plain =
       (kept-link before).again,
       passes next_link is_link (λ now s none. rw none refl) (open_styles before) (open_link before)
           (kept-styles before).none,
+    )
+
+-- ---- no two of the styles that are open are equal, and each was set before
+
+pub styles-different : (before : List (List ℕ))
+    → AllPairs (λ first second. first ≢ second) (open_styles before)
+    × All (Contains before) (open_styles before)
+styles-different before =
+    let n = length before - suffix_len (λ s. not (is_reset s)) before in
+    let all : All (Contains before) before = λ k d within. Contains-get_or before k d within in (
+      last-different (filter is_style (drop n before)),
+      All-last (Contains before) (filter is_style (drop n before))
+          (All-filter is_style (Contains before) (drop n before)
+          (All-drop (Contains before) n before all)),
     )

@@ -2,7 +2,7 @@
 -- text `\u{1b}` is ESC.
 use Rattle.textwrap_text.proofs.Common.{codes, false, refl, true, ◌∷◌, ◌≡◌, []}
 use Rattle.textwrap_display.proofs.Common.{carried_lines, styled_lines, styled_text, has_target}
-use Rattle.textwrap_display.proofs.Common.{is_reset, is_style, is_link, Built, Slice}
+use Rattle.textwrap_display.proofs.Common.{is_reset, is_style, is_link, open_styles, Built, Slice}
 use Rattle.std.specs.Str.{chars}
 use lib.Utf8.{encode}
 
@@ -20,6 +20,16 @@ bold-carried : carried_lines (codes "> ") (codes "> ") [] (codes "> a \u{1b}[1mb
     ∷ Built (codes "> \u{1b}[1md\u{1b}[m") ∷ Slice (codes "> e") ∷ []
 unfolding chars encode
 bold-carried = refl
+
+-- of equal styles the last: bold, not bold, bold; and a colour, none, the same colour, none
+bold-again : open_styles (codes "\u{1b}[1m" ∷ codes "\u{1b}[22m" ∷ codes "\u{1b}[1m" ∷ [])
+    ≡ codes "\u{1b}[22m" ∷ codes "\u{1b}[1m" ∷ []
+bold-again = refl
+
+red-again : open_styles (codes "\u{1b}[31m" ∷ codes "\u{1b}[39m" ∷ codes "\u{1b}[31m"
+    ∷ codes "\u{1b}[39m" ∷ [])
+    ≡ codes "\u{1b}[31m" ∷ codes "\u{1b}[39m" ∷ []
+red-again = refl
 
 link-is : is_link (codes "\u{1b}]8;id=1;http://x\u{7}") ≡ true
 link-is = refl

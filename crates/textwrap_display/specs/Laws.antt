@@ -2,7 +2,7 @@
 use Rattle.std.specs.Prelude.{◌≡◌, ◌≢◌, ℕ, ◌+◌, ◌-◌, ◌*◌, ◌/◌, ◌%◌, ◌<◌, ◌≤◌, ◌==◌, List, [], ◌∷◌}
 use Rattle.std.specs.Prelude.{◌++◌, All}
 use Rattle.std.specs.Prelude.{IsUtf8, length, map, replicate, slice_index_or, sum_by, take}
-use Rattle.std.specs.List.{concat, flat_map, slice_split, zip}
+use Rattle.std.specs.List.{AllPairs, Contains, concat, flat_map, slice_split, zip}
 use Rattle.textwrap_display.specs.Alignment.{aligned}
 use Rattle.textwrap_display.specs.Justifying.{gaps, indent_len, justified, line_words}
 use Rattle.textwrap_display.specs.Justifying.{widened_words}
@@ -18,7 +18,8 @@ use Rattle.textwrap_layout.specs.Paragraph.{Line, Slice, line_bytes}
 use Rattle.textwrap_display.specs.Styled.{EachWithIndent, EndsPlain, IsWholeText, MayCarry}
 use Rattle.textwrap_display.specs.Styled.{styled_lines, styled_text}
 use Rattle.textwrap_display.specs.Indents.{after_indent}
-use Rattle.textwrap_display.specs.Styles.{carried_lines, sequences}
+use Rattle.textwrap_display.specs.Styles.{carried_line, carried_lines, link_end, open_styles}
+use Rattle.textwrap_display.specs.Styles.{opening, sequences, style_end}
 
 -- a line that is not wider than the width is as wide once it is aligned
 abbrev pub AlignedLinesAreAsWide : Type 0
@@ -103,6 +104,19 @@ CarriedLinesAreAsWide =
     (indent later : List ℕ) (lines : List (List ℕ)) → EachWithIndent MayCarry indent later lines
     → map (λ l. text_width (line_bytes l)) (carried_lines indent later [] lines)
     ≡ map text_width lines
+
+-- no two of the styles that are open are equal, and each is one of the sequences before
+abbrev pub OpenStylesAreDifferent : Type 0
+OpenStylesAreDifferent =
+    (before : List (List ℕ)) → AllPairs (λ first second. first ≢ second) (open_styles before)
+    × All (Contains before) (open_styles before)
+
+-- a line is longer by what sets anew what is open before it, and by what ends it, at most
+abbrev pub CarriedLinesAreShort : Type 0
+CarriedLinesAreShort =
+    (indent : List ℕ) (before : List (List ℕ)) (line : List ℕ)
+    → length (line_bytes (carried_line indent before line))
+    ≤ length line + length (opening before) + length style_end + length link_end
 
 -- whole lines may carry styles under whole indents that leave nothing open
 abbrev pub WholeLinesMayCarry : Type 0

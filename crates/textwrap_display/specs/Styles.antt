@@ -1,7 +1,7 @@
 -- Styles and links that go on over the ends of lines: each line sets anew what is open where it
 -- begins, and ends plain.
 use Rattle.std.specs.Prelude.{ℕ, ◌-◌, Bool, ◌&&◌, ◌||◌, ◌==◌, nat_eq, nat_lt, List, [], ◌∷◌, ◌++◌}
-use Rattle.std.specs.Prelude.{length, take, drop, filter, chars, encode_utf8_all, codes}
+use Rattle.std.specs.Prelude.{length, take, drop, filter, chars, encode_utf8_all, codes, bytes_eq}
 use Rattle.std.specs.Prelude.{if◌then◌else◌}
 use Rattle.std.specs.Int.{is_in_range}
 use Rattle.std.specs.List.{after_first, after_last, concat, ends_with, flat_map, list_all, list_any}
@@ -52,9 +52,16 @@ has_target sequence = nat_lt 0 (length (after_first (λ c. c == 0x3B) (link_fiel
 
 -- ---- what is open after such sequences
 
--- the styles that were set since all were taken back
+-- of equal ones only the last
+abbrev pub last_of_each : List (List ℕ) → List (List ℕ)
+last_of_each [] = []
+last_of_each (s ∷ ss) =
+    if list_any (bytes_eq s) ss then last_of_each ss else s ∷ last_of_each ss
+
+-- the styles that were set since all were taken back, and of equal ones the last: it sets the same
+-- again
 abbrev pub open_styles : List (List ℕ) → List (List ℕ)
-open_styles before = filter is_style (after_last is_reset before)
+open_styles before = last_of_each (filter is_style (after_last is_reset before))
 
 -- the last link, if it has a target
 abbrev pub open_link : List (List ℕ) → List (List ℕ)

@@ -4,6 +4,7 @@
 //! A law has no example: its statement is all there is to it. A call is written
 //! `aligned_lines_are_as_wide();`.
 ghost use Rattle.textwrap_display.specs.Laws.{AlignedLinesAreAsWide, CarriedLinesAreAsWide};
+ghost use Rattle.textwrap_display.specs.Laws.{CarriedLinesAreShort, OpenStylesAreDifferent};
 ghost use Rattle.textwrap_display.specs.Laws.{CarriedLinesEndPlain, CarriedLinesKeepStyles};
 ghost use Rattle.textwrap_display.specs.Laws.{CarriedLinesShowTheirText, ExpandedTextsStay};
 ghost use Rattle.textwrap_display.specs.Laws.{JustifiedLinesAreAsWide, JustifiedLinesKeepWords};
@@ -67,6 +68,17 @@ pub fn carried_lines_end_plain()
 /// Each of these lines takes as many columns as it did.
 pub fn carried_lines_are_as_wide()
     ensures { CarriedLinesAreAsWide }
+{}
+
+/// No two of the styles that are open are equal, and each is one of the sequences before. So there
+/// are never more of them than there are different sequences.
+pub fn open_styles_are_different()
+    ensures { OpenStylesAreDifferent }
+{}
+
+/// A line is longer by what sets anew what is open before it, and by what ends it, at most.
+pub fn carried_lines_are_short()
+    ensures { CarriedLinesAreShort }
 {}
 
 /// These laws hold of lines whose escape sequences end in them, under indents of which the same is

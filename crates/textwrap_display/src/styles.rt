@@ -1,7 +1,7 @@
 //! Styles and links that go on over the ends of lines: each line sets anew what is open where it
 //! begins, and ends plain.
 ghost use Rattle.std.specs.Prelude.{◌≡◌, ℕ, ◌<◌, ◌==◌, ◌||◌, List, [], ◌∷◌, ◌++◌, chars, length};
-ghost use Rattle.std.specs.Prelude.{drop, encode_utf8_all, if◌then◌else◌, is_some, map};
+ghost use Rattle.std.specs.Prelude.{bytes_eq, drop, encode_utf8_all, filter, if◌then◌else◌, is_some, map, not};
 ghost use Rattle.std.specs.Prelude.{string_bytes, take, IfOk, IfSome, IsCharBoundary, IsUtf8};
 ghost use Rattle.std.specs.Prelude.{MatchOption, OnOk};
 ghost use Rattle.std.specs.Int.{is_in_range};
@@ -36,6 +36,8 @@ const STYLE_AND_LINK_END: &str = "\x1b[0m\x1b]8;;\x1b\\";
 /// - A style is set by ESC `[`, digits, colons and semicolons, and `m` (SGR, ECMA-48). Where there
 ///   are none of these, or zeros and semicolons alone, all styles are taken back. All that were set
 ///   since are open, also where a later one takes an earlier one back, as `"\x1b[22m"` does bold.
+///   Of equal ones only the last is: it sets the same again. So no more are open than there are
+///   different ones.
 /// - A link is set by ESC `]8;`, parameters, a semicolon, its target, and BEL or ESC `\` (OSC 8,
 ///   the hyperlinks of terminals). A later one takes its place, and one without a target ends it.
 /// - All other sequences are left as they are.
@@ -108,8 +110,8 @@ fn enclosed<'l, A: Allocator>(
 /// What is open at a place of a text.
 #[derive(Drop)]
 struct OpenStyles<'t, A: Allocator> {
-    /// The sequences of the styles, one after the other.
-    styles: String<A>,
+    /// The sequences of the styles in their order, of which no two are equal.
+    styles: Vec<&'t str, A>,
     /// The sequence of the link, if there is one.
     link: Option<&'t str>,
 }
@@ -120,7 +122,7 @@ impl<'t, A: Allocator> OpenStyles<'t, A> {
         ensures { IsOpenAfter [] result }
     {
         OpenStyles {
-            styles: String::new(alloc),
+            styles: Vec::new(alloc),
             link: None,
         }
     }
@@ -147,7 +149,7 @@ impl<'t, A: Allocator> OpenStyles<'t, A> {
             if are_zeros(parameters) {
                 self.styles.clear();
             } else {
-                self.styles.push_str(sequence)?;
+                self.push_style(sequence)?;
             }
         } else if let Some(target) = link_target(sequence) {
             self.link = if target.is_empty() {
@@ -159,6 +161,18 @@ impl<'t, A: Allocator> OpenStyles<'t, A> {
         Ok(())
     }
 
+    /// Adds a style as the last one, in place of an equal one.
+    fn push_style(&mut self, style: &'t str) -> Result<(), AllocError>
+        ensures styles { IfOk result (λ _. map (λ s. s.now) self.new.styles.items
+            ≡ filter (λ s. not (bytes_eq s style.now)) (map (λ s. s.now) self.old.styles.items)
+            ++ style.now ∷ []) }
+        ensures link { self.new.link ≡ self.old.link }
+    {
+        self.styles.retain(|other| *other != style);
+        self.styles.push(style)?;
+        Ok(())
+    }
+
     /// Adds what sets anew all that is open.
     fn push_opening(&self, text: &mut String<A>) -> Result<(), AllocError>
         ensures { (before : List (List ℕ)) → IsOpenAfter before self.now
@@ -167,7 +181,10 @@ impl<'t, A: Allocator> OpenStyles<'t, A> {
         if let Some(link) = self.link {
             text.push_str(link)?;
         }
-        text.push_str(&self.styles)
+        for style in &self.styles {
+            text.push_str(style)?;
+        }
+        Ok(())
     }
 
     /// What ends all that is open.
@@ -175,7 +192,7 @@ impl<'t, A: Allocator> OpenStyles<'t, A> {
         ensures { (before : List (List ℕ)) → IsOpenAfter before self.now
             → result.now ≡ closing before }
     {
-        match (self.styles.as_str().is_empty(), self.link) {
+        match (self.styles.is_empty(), self.link) {
             (true, None) => "",
             (false, None) => STYLE_END,
             (true, Some(_)) => LINK_END,

@@ -51,6 +51,12 @@ const CARRIED: &[(&str, [&str; 2], &[&str], &[&str])] = &[
     ("a colon between zeros", ["", ""],
         &["\x1b[0:0ma", "b"],
         &["\x1b[0:0ma\x1b[0m", "\x1b[0:0mb\x1b[0m"]),
+    ("of equal styles the last", ["", ""],
+        &["\x1b[1ma\x1b[22mb", "\x1b[1mc", "d"],
+        &["\x1b[1ma\x1b[22mb\x1b[0m", "\x1b[1m\x1b[22m\x1b[1mc\x1b[0m", "\x1b[22m\x1b[1md\x1b[0m"]),
+    ("of equal ones since all were taken back", ["", ""],
+        &["\x1b[1ma\x1b[0m\x1b[4mb\x1b[1mc\x1b[4md", "e"],
+        &["\x1b[1ma\x1b[0m\x1b[4mb\x1b[1mc\x1b[4md\x1b[0m", "\x1b[1m\x1b[4me\x1b[0m"]),
     ("a link that BEL ends", ["", ""],
         &["\x1b]8;;http://x\x07a", "b\x1b]8;;\x07c", "d"],
         &["\x1b]8;;http://x\x07a\x1b]8;;\x1b\\", "\x1b]8;;http://x\x07b\x1b]8;;\x07c", "d"]),
@@ -163,12 +169,17 @@ fn wrapped_lines_are_carried(rt: HostRuntime) {
     assert_wrapped_and_carried(&rt, text, 9, ["* ", "  "], &wanted);
 }
 
-/// So many lines after one that begins a link, each of which begins a style.
-fn many_lines<'l>(alloc: Global, count: usize) -> Result<Vec<CowStr<'l>>, AllocError> {
+/// The first line and so many others.
+fn many_lines<'l>(
+    alloc: Global,
+    first: &'l str,
+    count: usize,
+    other: &'l str,
+) -> Result<Vec<CowStr<'l>>, AllocError> {
     let mut lines = Vec::new(alloc);
-    lines.push(CowStr::Borrowed("\x1b]8;;u\x07some"))?;
+    lines.push(CowStr::Borrowed(first))?;
     for _ in 0..count {
-        lines.push(CowStr::Borrowed("more \x1b[0m\x1b[1mwords"))?;
+        lines.push(CowStr::Borrowed(other))?;
     }
     Ok(lines)
 }
@@ -182,10 +193,20 @@ fn assert_last(rt: &impl Abort, lines: &[CowStr<'_>], count: usize, text: &str) 
 
 #[test]
 fn many_lines_are_carried(rt: HostRuntime) {
-    let lines = many_lines(rt.alloc(), 9_999).expect(&rt, "lines");
+    let (first, other) = ("\x1b]8;;u\x07some", "more \x1b[0m\x1b[1mwords");
+    let lines = many_lines(rt.alloc(), first, 9_999, other).expect(&rt, "lines");
     let carried = plain_carry_styles(rt.alloc(), &lines, &Options::new(0)).expect(&rt, "carried");
     let last = "\x1b]8;;u\x07\x1b[1mmore \x1b[0m\x1b[1mwords\x1b[0m\x1b]8;;\x1b\\";
     assert_last(&rt, &carried, 10_000, last);
+}
+
+#[test]
+fn equal_styles_are_carried_once(rt: HostRuntime) {
+    let text = "\x1b[31mred\x1b[39m words";
+    let lines = many_lines(rt.alloc(), text, 999, text).expect(&rt, "lines");
+    let carried = plain_carry_styles(rt.alloc(), &lines, &Options::new(0)).expect(&rt, "carried");
+    let last = "\x1b[31m\x1b[39m\x1b[31mred\x1b[39m words\x1b[0m";
+    assert_last(&rt, &carried, 1_000, last);
 }
 
 /// Whether as many lines come of these where so many allocations are allowed once the lines are made.

@@ -1,17 +1,18 @@
 use Rattle.textwrap_display.proofs.styles.OpenStyles.read_sequence.Goals as goal
 use Rattle.textwrap_text.proofs.Common.{false, cond, refl, true, ◌==◌, ◌||◌, sym, ◌∙◌, ◌∷◌, ◌≡◌, []}
-use Rattle.textwrap_text.proofs.Common.{ap}
+use Rattle.textwrap_text.proofs.Common.{Bor, List, ap, map, ℕ}
 use Rattle.textwrap_display.proofs.Common.{option_to_list, option_copied, has_target, list_all}
 use Rattle.textwrap_display.proofs.OpenSequences.{after-other, after-reset, after-style, after-link}
 use Rattle.textwrap_display.proofs.OpenSequences.{target-set}
 use Rattle.textwrap_display.proofs.styles.OpenStyles.read_sequence.Goals.{else-is_empty}
 use Rattle.textwrap_display.proofs.styles.OpenStyles.read_sequence.Goals.{then-is_empty}
 
-pub returns-in_ok-push_str : goal.returns-in_ok-push_str
-returns-in_ok-push_str g c = λ before state.
+pub returns-in_ok-push_style : goal.returns-in_ok-push_style
+returns-in_ok-push_style g c = λ before state.
     after-style before c.args.sequence.now c.args.self.now _ state (sym c.in-Some.ensures.style)
     (ap (list_all (λ b. (b == 0x30) || (b == 0x3B))) (sym c.in-Some.ensures.parameters)
-    ∙ sym c.if-are_zeros.ensures) c.in_ok-push_str.ensures.bytes refl
+    ∙ sym c.if-are_zeros.ensures) c.in_ok-push_style.ensures.styles
+    c.push_style.ensures.link
 
 pub returns-after-is_empty : goal.returns-after-is_empty
 returns-after-is_empty g c = λ before state.
@@ -31,7 +32,7 @@ pub returns-then-are_zeros : goal.returns-then-are_zeros
 returns-then-are_zeros g c = λ before state.
     after-reset before c.args.sequence.now c.args.self.now _ state (sym c.in-Some.ensures.style)
     (ap (list_all (λ b. (b == 0x30) || (b == 0x3B))) (sym c.in-Some.ensures.parameters)
-    ∙ sym c.if-are_zeros.ensures) c.clear.ensures.bytes refl
+    ∙ sym c.if-are_zeros.ensures) (ap (map (λ (b : Bor (List ℕ)). b.now)) c.clear.ensures.items) refl
 
 pub returns-in_default-link_target : goal.returns-in_default-link_target
 returns-in_default-link_target g c = λ before state.

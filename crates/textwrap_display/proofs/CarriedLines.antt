@@ -14,7 +14,7 @@ use Rattle.textwrap_display.proofs.Common.{line_bytes, text_width, line_view, op
 use Rattle.textwrap_display.proofs.Common.{is_reset, is_style, texts_of, IsWhole, closing, is_link}
 use Rattle.textwrap_display.proofs.Common.{opening, CowStr, concat, styled, Slice, units, Line}
 use Rattle.textwrap_display.specs.Indents.{after_indent, before_text, indent_end}
-use Rattle.textwrap_display.specs.Styles.{carried_line, link_end, style_end}
+use Rattle.textwrap_display.specs.Styles.{carried_line, last_of_each, link_end, style_end}
 use Rattle.std.proofs.lemmas.List.Folds.{flat_map-map}
 use Rattle.textwrap_display.proofs.SequenceTexts.{closing-sequences, closing_sequences, IsSequence}
 use Rattle.textwrap_display.proofs.SequenceTexts.{text_units-append, parts-sequences, parts-visible}
@@ -24,7 +24,7 @@ use Rattle.std.proofs.lemmas.List.Elements.{All-filter}
 use Rattle.textwrap_text.specs.Units.{columns}
 use Rattle.textwrap_display.specs.Styled.{EachWithIndent, EndsPlain, MayCarry}
 use Rattle.textwrap_display.proofs.OpenSequences.{styles-follow, link-follows, styles-again}
-use Rattle.textwrap_display.proofs.OpenSequences.{link-again}
+use Rattle.textwrap_display.proofs.OpenSequences.{link-again, opening-bytes}
 use Rattle.textwrap_display.proofs.LastOfEach.{All-last}
 use Rattle.std.specs.Str.{chars}
 use Rattle.textwrap_text.proofs.Texts.{StartsWith-boundary}
@@ -89,14 +89,14 @@ closing-short before =
 
 pub carried-short : (indent : List ℕ) (before : List (List ℕ)) (line : List ℕ)
     → length (line_bytes (carried_line indent before line))
-    ≤ length line + length (opening before) + length style_end + length link_end
+    ≤ length line + length (concat (last_of_each before)) + length style_end + length link_end
 carried-short indent before line =
     let text = after_indent indent line in
     let len = parts-len (before_text indent line) (opening before) text
     (closing (before ++ sequences text)) line _ (carried-parts indent before line)
     (take-append-drop (indent_end indent line) line) in
     let ends = closing-short (before ++ sequences text) in
-    omega (arith, len, ends)
+    omega (arith, len, ends, opening-bytes before)
 
 pub carried-bytes : (indent : List ℕ) (before : List (List ℕ)) (line : List ℕ)
     → line_bytes (carried_line indent before line)

@@ -1,8 +1,11 @@
 -- Of equal sequences only the last: with one more, once more, and that no two are equal.
 use Rattle.textwrap_text.proofs.Common.{All-cons, All-head, All-nil, All-tail, true≢false, arith}
 use Rattle.textwrap_text.proofs.Common.{cases_Bool, list_any, filter, false, List, Bool, cond, not}
-use Rattle.textwrap_text.proofs.Common.{refl, true, ◌++◌, All, sym, ◌∙◌, ◌∷◌, ◌≡◌, ◌≢◌, ◌||◌, []}
-use Rattle.textwrap_text.proofs.Common.{Bor, map, ℕ, append-nil, append_assoc, get_or, length, map-append, take, take_more, ◌<◌, ◌+◌}
+use Rattle.textwrap_text.proofs.Common.{refl, true, ◌++◌, All, sym, ◌∙◌, ◌∷◌, ◌≡◌, ◌≢◌, []}
+use Rattle.textwrap_text.proofs.Common.{append-nil, append_assoc, length-append, map-append, drop}
+use Rattle.textwrap_text.proofs.Common.{get_or, length, take_more, take, suc, zero, Bor, map, ap, ℕ}
+use Rattle.textwrap_text.proofs.Common.{◌+◌, ◌-◌, ◌<◌, ◌≤◌}
+use Rattle.std.proofs.lemmas.Map.Views.{any-filter_same}
 use Rattle.textwrap_display.proofs.Common.{concat, concat-append}
 use Rattle.textwrap_display.specs.Styles.{last_of_each}
 use Rattle.std.specs.Str.{bytes_eq}
@@ -82,3 +85,62 @@ pub concat-more : (ss : List (Bor (List ℕ))) (n : ℕ) (d : Bor (List ℕ)) (f
 concat-more ss n d front old new within is more =
     let next = take_more ss n d within in
     grind (arith, append-nil, append_assoc, map-append, concat-append, next)
+
+-- ---- how many bytes they take together
+
+abbrev bytes : List (List ℕ) → ℕ
+bytes ss = length (concat ss)
+
+-- no fewer with one more in front
+front-bytes : (s : List ℕ) (ss : List (List ℕ))
+    → bytes (last_of_each ss) ≤ bytes (last_of_each (s ∷ ss))
+front-bytes s ss = grind (arith, cases_Bool, length-append)
+
+-- fewer, where some are left off in front
+pub rest-bytes : (p : List ℕ → Bool) (n : ℕ) (ss : List (List ℕ))
+    → bytes (last_of_each (filter p (drop n ss))) ≤ bytes (last_of_each (filter p ss))
+rest-bytes p zero ss = omega arith
+rest-bytes p (suc n) [] = omega arith
+rest-bytes p (suc n) (s ∷ ss) =
+    let one = front-bytes s (filter p ss) in
+    grind (arith, cases_Bool, rest-bytes p n ss, one)
+
+-- the last one alone
+pub one-bytes : (ss : List (List ℕ))
+    → bytes (drop (length ss - 1) ss) ≤ bytes (last_of_each ss)
+one-bytes [] = omega arith
+one-bytes (s ∷ []) = omega arith
+one-bytes (s ∷ t ∷ ss) =
+    let others = one-bytes (t ∷ ss) in
+    let one = front-bytes s (t ∷ ss) in
+    let place : length (s ∷ t ∷ ss) - 1 ≡ suc (length (t ∷ ss) - 1) = omega arith in
+    let same : bytes (drop (length (s ∷ t ∷ ss) - 1) (s ∷ t ∷ ss))
+    ≡ bytes (drop (length (t ∷ ss) - 1) (t ∷ ss)) = ap (λ n. bytes (drop n (s ∷ t ∷ ss))) place in
+    omega (arith, others, one, same)
+
+pub some-bytes : (p : List ℕ → Bool) (ss : List (List ℕ)) → bytes (filter p ss) ≤ bytes ss
+some-bytes p [] = omega arith
+some-bytes p (s ∷ ss) = grind (arith, cases_Bool, length-append, some-bytes p ss)
+
+-- those of two kinds
+module _ (p q : List ℕ → Bool) (apart : (s : List ℕ) → p s ≡ true → q s ≡ false) where
+  later-some : (test : List ℕ → Bool) (s : List ℕ) (ss : List (List ℕ)) → test s ≡ true
+      → list_any (bytes_eq s) (filter test ss) ≡ list_any (bytes_eq s) ss
+  later-some test s ss is =
+      any-filter_same (bytes_eq s) test true
+      (λ t same. ap test (sym ((bytes_eq-Decides s t).0 same)) ∙ is) ss
+
+  pub kinds-bytes : (ss : List (List ℕ))
+      → bytes (last_of_each (filter p ss)) + bytes (last_of_each (filter q ss))
+      ≤ bytes (last_of_each ss)
+  kinds-bytes [] = omega arith
+  kinds-bytes (s ∷ ss) =
+      grind (
+        arith,
+        cases_Bool,
+        length-append,
+        apart s,
+        later-some p s ss,
+        later-some q s ss,
+        kinds-bytes ss,
+      )

@@ -1,26 +1,26 @@
 -- What is open after some sequences, after one more, and once they are written anew.
-use Rattle.textwrap_text.proofs.Common.{length-append, append_assoc, string_bytes, All-append, Bool}
-use Rattle.textwrap_text.proofs.Common.{append-nil, cases_Bool, nat_tests, All-cons, All-head, List}
-use Rattle.textwrap_text.proofs.Common.{All-tail, and_from, All-nil, Option, filter, length, arith}
-use Rattle.textwrap_text.proofs.Common.{false, subst, cond, fold, refl, true, ◌&&◌, ◌++◌, ◌==◌, All}
-use Rattle.textwrap_text.proofs.Common.{◌||◌, Bor, sym, ◌<◌, ◌∙◌, ◌∷◌, ◌≡◌, [], ap, ℕ}
+use Rattle.textwrap_text.proofs.Common.{length-append, append_assoc, All-append, Bool, append-nil}
+use Rattle.textwrap_text.proofs.Common.{cases_Bool, nat_tests, All-cons, All-head, List, All-tail}
+use Rattle.textwrap_text.proofs.Common.{and_from, All-nil, Option, filter, length, arith, false}
+use Rattle.textwrap_text.proofs.Common.{subst, cond, fold, refl, true, ◌&&◌, ◌++◌, ◌==◌, All, ◌||◌}
+use Rattle.textwrap_text.proofs.Common.{Bor, sym, ◌∙◌, ◌∷◌, ◌≡◌, [], ap, ℕ, All-drop, All-weaker}
+use Rattle.textwrap_text.proofs.Common.{Contains, drop, length-map, map, not, suffix_len, ◌-◌, ◌≢◌}
+use Rattle.textwrap_text.proofs.Common.{◌≤◌}
 use Rattle.std.proofs.lemmas.List.Elements.{All-filter, Contains-get_or, filter-append}
-use Rattle.std.specs.List.{after_last}
+use Rattle.std.specs.List.{after_last, AllPairs}
 use Rattle.std.specs.Str.{bytes_eq}
-use Rattle.textwrap_display.proofs.Common.{style_parameters, option_to_list, concat-append, closing}
-use Rattle.textwrap_display.proofs.Common.{option_copied, IsOpenAfter, after_first, link_fields}
-use Rattle.textwrap_display.proofs.Common.{open_styles, has_target, open_link, style_end, is_reset}
-use Rattle.textwrap_display.proofs.Common.{is_style, link_end, list_all, is_link, concat}
+use Rattle.textwrap_display.proofs.Common.{style_parameters, option_to_list, closing, option_copied}
+use Rattle.textwrap_display.proofs.Common.{IsOpenAfter, after_first, link_fields, open_styles}
+use Rattle.textwrap_display.proofs.Common.{has_target, open_link, style_end, is_reset, is_style}
+use Rattle.textwrap_display.proofs.Common.{link_end, list_all, is_link, concat}
 use Rattle.textwrap_text.proofs.Lists.Parts.{after_last-push, last_one-push}
 use Rattle.textwrap_display.specs.declared.styles.OpenStyles.{OpenStyles}
 use Rattle.textwrap_display.proofs.Sequences.{reset-is_style, link-no_style, style-no_link}
 use Rattle.std.proofs.lemmas.List.Sums.{fold-append}
 use Rattle.textwrap_display.proofs.LastOfEach.{All-last, last-again, last-different, last-push}
+use Rattle.textwrap_display.proofs.LastOfEach.{kinds-bytes, one-bytes, rest-bytes, some-bytes}
 use Rattle.textwrap_display.proofs.LastOfEach.{without}
-use Rattle.textwrap_display.specs.Styles.{last_of_each}
-use Rattle.textwrap_text.proofs.Common.{All-drop, All-weaker, Contains, drop, length-map, map, not}
-use Rattle.textwrap_text.proofs.Common.{suffix_len, ◌-◌, ◌≢◌}
-use Rattle.std.specs.List.{AllPairs}
+use Rattle.textwrap_display.specs.Styles.{last_of_each, opening}
 
 -- ---- what is open after some sequences and after one more, or any more
 
@@ -284,4 +284,21 @@ styles-different before =
       All-last (Contains before) (filter is_style (drop n before))
           (All-filter is_style (Contains before) (drop n before)
           (All-drop (Contains before) n before all)),
+    )
+
+-- what sets anew what is open takes no more bytes than the different sequences before
+pub opening-bytes : (before : List (List ℕ))
+    → length (opening before) ≤ length (concat (last_of_each before))
+opening-bytes before =
+    let links = filter is_link before in
+    let n = length before - suffix_len (λ s. not (is_reset s)) before in
+    let link = some-bytes has_target (drop (length links - 1) links) in
+    let len = length-append (concat (open_link before)) (concat (open_styles before)) in
+    omega (
+      arith,
+      len,
+      link,
+      one-bytes links,
+      rest-bytes is_style n before,
+      kinds-bytes is_link is_style link-no_style before,
     )

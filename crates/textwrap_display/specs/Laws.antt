@@ -18,8 +18,8 @@ use Rattle.textwrap_layout.specs.Paragraph.{Line, Slice, line_bytes}
 use Rattle.textwrap_display.specs.Styled.{EachWithIndent, EndsPlain, IsWholeText, MayCarry}
 use Rattle.textwrap_display.specs.Styled.{styled_lines, styled_text}
 use Rattle.textwrap_display.specs.Indents.{after_indent}
-use Rattle.textwrap_display.specs.Styles.{carried_line, carried_lines, link_end, open_styles}
-use Rattle.textwrap_display.specs.Styles.{opening, sequences, style_end}
+use Rattle.textwrap_display.specs.Styles.{carried_line, carried_lines, last_of_each, link_end}
+use Rattle.textwrap_display.specs.Styles.{open_styles, sequences, style_end}
 
 -- a line that is not wider than the width is as wide once it is aligned
 abbrev pub AlignedLinesAreAsWide : Type 0
@@ -111,12 +111,12 @@ OpenStylesAreDifferent =
     (before : List (List ℕ)) → AllPairs (λ first second. first ≢ second) (open_styles before)
     × All (Contains before) (open_styles before)
 
--- a line is longer by what sets anew what is open before it, and by what ends it, at most
+-- a line is longer by the bytes of the different sequences before it, and of what ends it, at most
 abbrev pub CarriedLinesAreShort : Type 0
 CarriedLinesAreShort =
     (indent : List ℕ) (before : List (List ℕ)) (line : List ℕ)
     → length (line_bytes (carried_line indent before line))
-    ≤ length line + length (opening before) + length style_end + length link_end
+    ≤ length line + length (concat (last_of_each before)) + length style_end + length link_end
 
 -- whole lines may carry styles under whole indents that leave nothing open
 abbrev pub WholeLinesMayCarry : Type 0

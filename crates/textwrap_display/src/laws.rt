@@ -76,7 +76,8 @@ pub fn open_styles_are_different()
     ensures { OpenStylesAreDifferent }
 {}
 
-/// A line is longer by what sets anew what is open before it, and by what ends it, at most.
+/// A line is longer by the bytes of the different sequences before it, and of what ends it, at
+/// most: however often one of them stands there.
 pub fn carried_lines_are_short()
     ensures { CarriedLinesAreShort }
 {}

@@ -1,7 +1,8 @@
 //! Styles and links that go on over the ends of lines: each line sets anew what is open where it
 //! begins, and ends plain.
 ghost use Rattle.std.specs.Prelude.{◌≡◌, ℕ, ◌<◌, ◌==◌, ◌||◌, List, [], ◌∷◌, ◌++◌, chars, length};
-ghost use Rattle.std.specs.Prelude.{bytes_eq, drop, encode_utf8_all, filter, if◌then◌else◌, is_some, map, not};
+ghost use Rattle.std.specs.Prelude.{bytes_eq, drop, encode_utf8_all, filter, if◌then◌else◌, is_some};
+ghost use Rattle.std.specs.Prelude.{map, not};
 ghost use Rattle.std.specs.Prelude.{string_bytes, take, IfOk, IfSome, IsCharBoundary, IsUtf8};
 ghost use Rattle.std.specs.Prelude.{MatchOption, OnOk};
 ghost use Rattle.std.specs.Int.{is_in_range};

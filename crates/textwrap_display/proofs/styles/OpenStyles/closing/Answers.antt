@@ -1,5 +1,6 @@
 use Rattle.textwrap_display.proofs.styles.OpenStyles.closing.Goals as goal
-use Rattle.textwrap_text.proofs.Common.{true, None, Some, vec_len, length, arith, ◌∙◌, ◌==◌, ◌≡◌, ap}
+use Rattle.textwrap_text.proofs.Common.{true, None, Some, vec_len, length, arith, ◌∙◌, ◌==◌, ◌≡◌}
+use Rattle.textwrap_text.proofs.Common.{ap}
 use Rattle.textwrap_display.proofs.OpenSequences.{closing-is}
 
 pub returns-in-true-None : goal.returns-in-true-None

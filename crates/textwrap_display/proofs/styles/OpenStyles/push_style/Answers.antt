@@ -1,6 +1,6 @@
 use Rattle.textwrap_display.proofs.styles.OpenStyles.push_style.Goals as goal
-use Rattle.textwrap_text.proofs.Common.{Bor, List, filter, map, not, rules, ◌++◌, ◌∙◌, ◌∷◌, ◌≡◌}
-use Rattle.textwrap_text.proofs.Common.{[], ap, map-append, ℕ}
+use Rattle.textwrap_text.proofs.Common.{Bor, List, filter, map, not, rules, ◌++◌, ◌∙◌, ◌∷◌, ◌≡◌, []}
+use Rattle.textwrap_text.proofs.Common.{ap, map-append, ℕ}
 use Rattle.std.specs.Str.{bytes_eq}
 use Rattle.std.proofs.lemmas.Fn.{filter_same}
 use Rattle.textwrap_display.proofs.LastOfEach.{without-texts}

@@ -1,4 +1,4 @@
-//! Lines for display: aligned, justified and shortened.
+//! Lines for display: aligned, justified and shortened, and texts without tabs.
 ghost use Rattle.std.specs.Prelude.{◌≡◌, ◌<◌, ◌≤◌, ◌↔◌, IsUtf8};
 ghost use Rattle.textwrap.specs.Paragraph.{line_bytes};
 ghost use Rattle.textwrap_calls.specs.Display.{alignment_of, IsShort};
@@ -9,6 +9,7 @@ ghost use Rattle.textwrap_calls.specs.Status.{not_utf8, too_small, unknown_optio
 ghost use Rattle.textwrap_display.specs.Alignment.{aligned};
 ghost use Rattle.textwrap_display.specs.JustifiedText.{IsJustifiedText};
 ghost use Rattle.textwrap_display.specs.Justifying.{justified};
+ghost use Rattle.textwrap_display.specs.Tabs.{expanded};
 
 use std::alloc::Global;
 use textwrap_calls::display;
@@ -85,4 +86,21 @@ pub extern "C" fn textwrap_shorten(
     ensures statuses { result ≤ too_small }
 {
     display::textwrap_shorten(alloc, line, width, placeholder, room, len)
+}
+
+/// Exports [`textwrap_calls::display::textwrap_expand_tabs`].
+#[unsafe(no_mangle)]
+pub extern "C" fn textwrap_expand_tabs(
+    alloc: Global,
+    text: &[u8],
+    stop: usize,
+    room: &mut [u8],
+    len: &mut usize,
+) -> u32
+    ensures expanded { WritesText (λ answer. answer ≡ line_bytes (expanded stop text.now))
+        result room.old room.new len.old len.new }
+    ensures not_utf8 { result ≡ not_utf8 ↔ ¬ IsUtf8 text.now }
+    ensures statuses { result ≤ too_small }
+{
+    display::textwrap_expand_tabs(alloc, text, stop, room, len)
 }

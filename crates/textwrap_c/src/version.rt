@@ -1,12 +1,13 @@
 //! The version of the library.
 ghost use Rattle.std.specs.Prelude.{◌≡◌};
 
-use textwrap_calls::version;
+use textwrap_calls::version::LIBRARY_VERSION;
 
-/// Exports [`textwrap_calls::version::textwrap_library_version`].
+/// The version of the library, so that a program can tell whether it was linked to the one that its
+/// header is of. It allocates nothing.
 #[unsafe(no_mangle)]
 pub extern "C" fn textwrap_library_version() -> u32
     ensures { result ≡ 20000 }
 {
-    version::textwrap_library_version()
+    LIBRARY_VERSION
 }

@@ -1,4 +1,4 @@
-//! Lines for display: aligned, justified and shortened.
+//! Lines for display: aligned, justified and shortened, and texts without tabs.
 ghost use Rattle.std.specs.Prelude.{◌≡◌, ◌<◌, ◌≤◌, ◌↔◌, IsUtf8, IfSome, IfNone};
 ghost use Rattle.textwrap.specs.Paragraph.{line_bytes};
 ghost use Rattle.textwrap_calls.specs.Display.{alignment_of, IsShort};
@@ -9,13 +9,14 @@ ghost use Rattle.textwrap_calls.specs.Status.{not_utf8, too_small, unknown_optio
 ghost use Rattle.textwrap_display.specs.Alignment.{aligned};
 ghost use Rattle.textwrap_display.specs.JustifiedText.{IsJustifiedText};
 ghost use Rattle.textwrap_display.specs.Justifying.{justified};
+ghost use Rattle.textwrap_display.specs.Tabs.{expanded};
 
 use crate::options::{TextwrapOptions, read_options};
 use crate::room::put;
 use crate::status::{NOT_UTF8, OUT_OF_MEMORY, UNKNOWN_OPTIONS};
 use simdutf8::basic::from_utf8;
 use std::alloc::Global;
-use textwrap_display::{Alignment, align, justify, shorten};
+use textwrap_display::{Alignment, align, expand_tabs, justify, shorten};
 use textwrap_plain::fill_justified;
 
 /// Writes the line with blanks up to the width, as `textwrap_fill` writes a filled text. The
@@ -133,6 +134,29 @@ pub fn textwrap_shorten(
     };
     match shorten(alloc, line, width, placeholder) {
         Ok(short) => put(short.as_bytes(), room, len),
+        Err(_) => OUT_OF_MEMORY,
+    }
+}
+
+/// Writes the text with blanks in the place of each tab, up to the next column that `stop` divides, as
+/// `textwrap_fill` writes a filled text.
+pub fn textwrap_expand_tabs(
+    alloc: Global,
+    text: &[u8],
+    stop: usize,
+    room: &mut [u8],
+    len: &mut usize,
+) -> u32
+    ensures expanded { WritesText (λ answer. answer ≡ line_bytes (expanded stop text.now))
+        result room.old room.new len.old len.new }
+    ensures not_utf8 { result ≡ not_utf8 ↔ ¬ IsUtf8 text.now }
+    ensures statuses { result ≤ too_small }
+{
+    let Ok(text) = from_utf8(text) else {
+        return NOT_UTF8;
+    };
+    match expand_tabs(alloc, text, stop) {
+        Ok(expanded) => put(expanded.as_bytes(), room, len),
         Err(_) => OUT_OF_MEMORY,
     }
 }

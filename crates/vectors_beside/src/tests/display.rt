@@ -4,10 +4,11 @@ mod filling;
 mod shortening;
 mod styles;
 mod tables;
+mod tabs;
 mod widening;
 
 use super::plain::assert_line;
-use Change::{Aligned, Justified, Shortened};
+use Change::{Aligned, Expanded, Justified, Shortened};
 pub use filling::is_filled;
 pub use shortening::are_shortened;
 use std::alloc::{AllocError, Allocator};
@@ -15,7 +16,7 @@ use std::borrow::CowStr;
 use std::process::Abort;
 pub use styles::are_carried;
 pub use tables::is_table;
-use textwrap_display::{Alignment, align, justify, shorten};
+use textwrap_display::{Alignment, align, expand_tabs, justify, shorten};
 
 /// A call that makes one line of another.
 #[derive(Clone, Copy)]
@@ -26,6 +27,8 @@ pub enum Change<'p> {
     Aligned(Alignment),
     /// `justify`.
     Justified,
+    /// `expand_tabs`, whose stop is the number of columns.
+    Expanded,
 }
 
 /// The rule, the call, the line, the columns, and the line that it becomes.
@@ -48,6 +51,7 @@ pub fn changed<'l, A: Allocator>(
         Shortened(placeholder) => shorten(alloc, line, width, placeholder),
         Aligned(alignment) => align(alloc, line, width, alignment),
         Justified => justify(alloc, line, width),
+        Expanded => expand_tabs(alloc, line, width),
     }
 }
 

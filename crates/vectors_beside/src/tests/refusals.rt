@@ -1,6 +1,6 @@
 //! Each allocation of a call is refused in turn, until none is: a call that is refused is out of
 //! memory, and never gives another text or other lines.
-use super::display::Change::{self, Aligned, Justified, Shortened};
+use super::display::Change::{self, Aligned, Expanded, Justified, Shortened};
 use super::display::{are_carried, are_shortened, changed, is_filled, is_table};
 use super::plain::assert_holds;
 use fakes::heap::Heap;
@@ -28,6 +28,8 @@ const CALLS: &[(&str, Call, usize, usize)] = &[
     ("lines with blanks are allocated", Call::Line(Aligned(Left), "a", 3), 1, 99),
     ("in gaps too", Call::Line(Justified, "a b", 5), 1, 99),
     ("and those that stay are not", Call::Line(Justified, "a b", 3), 0, 0),
+    ("a text with tabs is allocated", Call::Line(Expanded, "a\tb\tc", 8), 1, 99),
+    ("and one without is not", Call::Line(Expanded, "a b", 8), 0, 0),
     ("the list, and the one line that is cut", Call::ShortenLines, 2, 2),
     ("styles and links that are open", Call::CarryStyles(&["\x1b[1ma", "b\x1b]8;;u\x07", "c\x1b[m\x1b]8;;\x07", "d"]), 7, 7),
     ("the list is allocated, and no line that stays", Call::CarryStyles(&["a", "b"]), 1, 1),

@@ -159,6 +159,7 @@ const TEXTS: &[TextRow] = &[
         10_000,
     ),
     (TextCall::Justify(45_011), "a ", 10, 45_011),
+    (TextCall::ExpandTabs(8), "abc\td\n", LINES, 10 * LINES),
 ];
 
 /// A call, what its text is made of and how often, how many lines there are at most, and how much room

@@ -6,7 +6,8 @@ use std::process::Abort;
 use textwrap_calls::breaks::textwrap_unicode_cuts;
 use textwrap_calls::columns::{TextwrapGaps, textwrap_rows_of_lines, textwrap_wrap_columns};
 use textwrap_calls::display::{
-    textwrap_align, textwrap_fill_justified, textwrap_justify, textwrap_shorten,
+    textwrap_align, textwrap_expand_tabs, textwrap_fill_justified, textwrap_justify,
+    textwrap_shorten,
 };
 use textwrap_calls::filling::textwrap_fill;
 use textwrap_calls::indentation::{textwrap_dedent, textwrap_indent};
@@ -177,6 +178,7 @@ pub(super) enum TextCall<'a> {
         alignment: u32,
     },
     Justify(usize),
+    ExpandTabs(usize),
     FillJustified(TextwrapOptions<'a>),
     Reflow(TextwrapReflowOptions<'a>),
     Shorten {
@@ -219,6 +221,7 @@ pub(super) fn write_text(
             textwrap_align(alloc, text, width, alignment, room, len)
         }
         TextCall::Justify(width) => textwrap_justify(alloc, text, width, room, len),
+        TextCall::ExpandTabs(stop) => textwrap_expand_tabs(alloc, text, stop, room, len),
         TextCall::FillJustified(options) => {
             textwrap_fill_justified(alloc, text, &options, room, len)
         }

@@ -444,6 +444,13 @@ const ALIGNED: &[TextRow] = &[
         b"______",
     ),
     (
+        TextCall::ExpandTabs(4),
+        b"a\tb\xff",
+        NOT_UTF8,
+        BEFORE,
+        b"______",
+    ),
+    (
         TextCall::Align {
             width: 7,
             alignment: 0,
@@ -456,7 +463,7 @@ const ALIGNED: &[TextRow] = &[
 ];
 
 /// Gaps are widened up to the width, but for the last line of a paragraph; a line is cut before its
-/// placeholder.
+/// placeholder; tabs become blanks.
 const WIDENED: &[TextRow] = &[
     (
         TextCall::Justify(14),
@@ -481,6 +488,13 @@ const WIDENED: &[TextRow] = &[
         DONE,
         12,
         b"a   bb\ncc dd____",
+    ),
+    (
+        TextCall::ExpandTabs(4),
+        b"a\tb\n\tc",
+        DONE,
+        11,
+        b"a   b\n    c_____",
     ),
 ];
 

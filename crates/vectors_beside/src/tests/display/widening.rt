@@ -1,6 +1,6 @@
 //! Lines that get blanks up to a width.
 use super::super::plain::{assert_count, assert_holds};
-use super::Change::{Aligned, Justified, Shortened};
+use super::Change::{Aligned, Expanded, Justified, Shortened};
 use super::{Change, LineRow, assert_all_changed, changed};
 use Alignment::{Centre, Left, Right};
 use std::process::Abort;
@@ -97,6 +97,9 @@ const LONG: &[LongRow] = &[
     ("an empty line", Aligned(Left), ("", 1), 10_000, 10_000, "  ", "  "),
     ("an empty line", Aligned(Right), ("", 1), 10_000, 10_000, "  ", "  "),
     ("an empty line", Aligned(Centre), ("", 1), 10_000, 10_000, "  ", "  "),
+    ("tabs on one line", Expanded, ("abc\t", 100_000), 8, 800_000, "abc     abc", "abc     "),
+    ("tabs on lines of their own", Expanded, ("abc\td\n", 100_000), 8, 1_000_000, "abc     d\na", "d\n"),
+    ("a tab of 100,000 columns", Expanded, ("\t", 1), 100_000, 100_000, "   ", "   "),
     ("gaps of 5,000 blanks", Justified, ("a ", 10), 45_011, 45_011, "a  ", "  a "),
 ];
 
@@ -126,4 +129,6 @@ fn limits_are_told(rt: HostRuntime) {
     assert_holds(&rt, "a line that is aligned", refused.is_err());
     let refused = changed(rt.alloc(), Justified, "a b", usize::MAX);
     assert_holds(&rt, "a line that is justified", refused.is_err());
+    let refused = changed(rt.alloc(), Expanded, "a\t", usize::MAX);
+    assert_holds(&rt, "a tab", refused.is_err());
 }

@@ -153,6 +153,11 @@ static textwrap_status justify(work *w) {
                             w->room_len, &len);
 }
 
+static textwrap_status expand_tabs(work *w) {
+    size_t len;
+    return textwrap_expand_tabs(w->text, w->text_len, 8, w->room, w->room_len, &len);
+}
+
 static textwrap_status fill_justified(work *w) {
     size_t len;
     return textwrap_fill_justified(w->text, w->text_len, &w->options, w->room, w->room_len, &len);
@@ -218,6 +223,7 @@ static const named_call calls[] = {
     {"unicode_cuts", unicode_cuts},
     {"align", align},
     {"justify", justify},
+    {"expand_tabs", expand_tabs},
     {"fill_justified", fill_justified},
     {"shorten", shorten},
     {"carry_styles", carry_styles},

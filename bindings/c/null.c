@@ -30,6 +30,7 @@ PROVED(dedent_utf8);
 PROVED(align);
 PROVED(justify);
 PROVED(fill_justified);
+PROVED(expand_tabs);
 PROVED(shorten);
 PROVED(shorten_lines);
 PROVED(carry_styles);
@@ -248,6 +249,11 @@ textwrap_status textwrap_align(const uint8_t *line, size_t line_len, size_t widt
 textwrap_status textwrap_justify(const uint8_t *line, size_t line_len, size_t width, uint8_t *room,
                                  size_t room_len, size_t *len) {
     return proved_justify(ARRAY(line, line_len), width, ARRAY(room, room_len), len);
+}
+
+textwrap_status textwrap_expand_tabs(const uint8_t *text, size_t text_len, size_t stop,
+                                     uint8_t *room, size_t room_len, size_t *len) {
+    return proved_expand_tabs(ARRAY(text, text_len), stop, ARRAY(room, room_len), len);
 }
 
 textwrap_status textwrap_fill_justified(const uint8_t *text, size_t text_len,

@@ -166,6 +166,10 @@ static textwrap_status justified(struct lent *lent) {
     return textwrap_justify(bytes("a few words"), 11, 14, lent->room, 256, &lent->len);
 }
 
+static textwrap_status without_tabs(struct lent *lent) {
+    return textwrap_expand_tabs(bytes("a\tb"), 3, 8, lent->room, 256, &lent->len);
+}
+
 static textwrap_status filled_justified(struct lent *lent) {
     textwrap_options o = options_of(1, 1);
     return textwrap_fill_justified(bytes(TEXT), strlen(TEXT), &o, lent->room, 256, &lent->len);
@@ -434,6 +438,7 @@ static const struct call CALLS[] = {
     {"refill_utf8", known_refilled},
     {"align", aligned},
     {"justify", justified},
+    {"expand_tabs", without_tabs},
     {"fill_justified", filled_justified},
     {"reflow", reflowed},
     {"shorten", shortened},

@@ -391,6 +391,22 @@ static void lines_are_justified(void) {
     CHECK(is_text(room, len, "ab"));
 }
 
+static void tabs_are_expanded(void) {
+    uint8_t room[24] = "...";
+    size_t len = 7;
+    CHECK(textwrap_expand_tabs(bytes("\t\xff"), 2, 4, room, sizeof room, &len) == TEXTWRAP_NOT_UTF8);
+    CHECK(len == 7 && memcmp(room, "...", 4) == 0);
+    CHECK(textwrap_expand_tabs(bytes("a\tb"), 3, 4, room, 4, &len) == TEXTWRAP_TOO_SMALL);
+    CHECK(len == 5 && memcmp(room, "a   ", 4) == 0);
+    CHECK(textwrap_expand_tabs(bytes("a\tb"), 3, 4, room, 5, &len) == TEXTWRAP_DONE);
+    CHECK(is_text(room, len, "a   b"));
+    CHECK(textwrap_expand_tabs(bytes("ab\tc\n\td"), 7, 2, room, sizeof room, &len)
+          == TEXTWRAP_DONE);
+    CHECK(is_text(room, len, "ab  c\n  d"));
+    CHECK(textwrap_expand_tabs(bytes("a\t\tb"), 4, 0, room, sizeof room, &len) == TEXTWRAP_DONE);
+    CHECK(is_text(room, len, "ab"));
+}
+
 static void texts_are_filled_and_justified(void) {
     textwrap_options o = textwrap_options_new(12);
     uint8_t room[64] = "...";
@@ -1245,6 +1261,7 @@ static void a_pointer_to_nothing_may_be_null(void) {
     CHECK(textwrap_align(NULL, 0, 0, TEXTWRAP_LEFT, NULL, 0, &len) == TEXTWRAP_DONE && len == 0);
     CHECK(textwrap_align(NULL, 0, 3, TEXTWRAP_LEFT, room, 10, &len) == TEXTWRAP_DONE && len == 3);
     CHECK(textwrap_justify(NULL, 0, 3, NULL, 0, &len) == TEXTWRAP_DONE && len == 0);
+    CHECK(textwrap_expand_tabs(NULL, 0, 3, NULL, 0, &len) == TEXTWRAP_DONE && len == 0);
     CHECK(textwrap_fill_justified(NULL, 0, &o, NULL, 0, &len) == TEXTWRAP_DONE && len == 0);
     textwrap_reflow_options reflowed = textwrap_reflow_options_new(10);
     reflowed.markers = reflowed.prefixes = NULL;
@@ -1301,6 +1318,7 @@ int main(void) {
     wrong_indents_are_refused_beside_known_texts();
     lines_are_aligned();
     lines_are_justified();
+    tabs_are_expanded();
     texts_are_filled_and_justified();
     texts_with_marks_are_reflowed();
     reflowing_is_refused();

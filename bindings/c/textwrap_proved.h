@@ -367,6 +367,12 @@ textwrap_status textwrap_fill_justified(const uint8_t *text, size_t text_len,
                                         const textwrap_options *options, uint8_t *room,
                                         size_t room_len, size_t *len);
 
+/* Writes the text with blanks in the place of each tab, up to the next column of its line that `stop`
+ * divides; where that is 0, without its tabs. */
+TEXTWRAP_CHECKED
+textwrap_status textwrap_expand_tabs(const uint8_t *text, size_t text_len, size_t stop,
+                                     uint8_t *room, size_t room_len, size_t *len);
+
 /* Writes the line; one that is wider than the width is cut, so that it ends in the placeholder. */
 TEXTWRAP_CHECKED
 textwrap_status textwrap_shorten(const uint8_t *line, size_t line_len, size_t width,

@@ -135,6 +135,28 @@ pub fn justify(line: &str, width: usize) -> String {
     or_abort(fallible::justify(line, width))
 }
 
+/// The text with blanks in the place of each tab, up to the next column that `stop` divides.
+///
+/// The columns are counted from the beginning of each line. A tab that stands at such a column takes
+/// all of them up to the next. With 0 the tabs are left out. Call this before a text with tabs is
+/// filled or aligned: there a tab takes no column.
+///
+/// # Panics
+///
+/// If the text would take more than `isize::MAX` bytes.
+///
+/// # Examples
+///
+/// ```
+/// use textwrap_proved::display::expand_tabs;
+///
+/// assert_eq!(expand_tabs("a\tbc\n\td", 4), "a   bc\n    d");
+/// assert_eq!(expand_tabs("안\tx", 4), "안  x");
+/// ```
+pub fn expand_tabs(text: &str, stop: usize) -> String {
+    or_abort(fallible::expand_tabs(text, stop))
+}
+
 /// The text, filled as by [`fill()`](crate::fill()), with all lines but the last of each paragraph
 /// justified.
 ///
@@ -217,7 +239,7 @@ where
 ///
 /// What lines before it left open is set anew in each line: first the link, by the sequence OSC 8
 /// that opened it, and then the styles, by the sequences `ESC [ .. m` since the last reset, which
-/// has no number but 0. They stand after the indent that the options name for the line, if it
+/// has no number but 0; of equal ones only by the last. They stand after the indent that the options name for the line, if it
 /// begins with that; no more of the options is used. What is open at the end of a line is taken
 /// back there. A line that needs neither stays as it is.
 ///

@@ -310,6 +310,15 @@ extern "C" {
         len: *mut usize,
     ) -> u32;
 
+    pub fn textwrap_expand_tabs(
+        text: *const u8,
+        text_len: usize,
+        stop: usize,
+        room: *mut u8,
+        room_len: usize,
+        len: *mut usize,
+    ) -> u32;
+
     pub fn textwrap_fill_justified(
         text: *const u8,
         text_len: usize,

@@ -4,8 +4,8 @@ mod drawn;
 use drawn::Random;
 use textwrap_proved::core::Word;
 use textwrap_proved::display::{
-    align, carry_styles, fallible, fill_justified, justify, shorten, shorten_lines, table,
-    Alignment, Column, Gaps,
+    align, carry_styles, expand_tabs, fallible, fill_justified, justify, shorten, shorten_lines,
+    table, Alignment, Column, Gaps,
 };
 use textwrap_proved::{
     wrap, LineEnding, Options, OutOfMemory, WordSeparator, WordSplitter, WrapAlgorithm,
@@ -48,6 +48,23 @@ fn lines_are_aligned_and_justified() {
         assert_eq!(justify(line, width), justified);
     }
     assert_eq!(justify("words", usize::MAX), "words");
+}
+
+#[test]
+fn tabs_are_expanded() {
+    for (text, stop, expanded) in [
+        ("a\tbc", 4, "a   bc"),
+        ("abcd\te", 4, "abcd    e"),
+        ("\t\tx", 3, "      x"),
+        ("ab\n\tc\r\n\u{1b}[1m\td", 2, "ab\n  c\r\n\u{1b}[1m  d"),
+        ("日\t本", 4, "日  本"),
+        ("a\t\tb", 0, "ab"),
+        ("a b", 8, "a b"),
+        ("", 8, ""),
+    ] {
+        assert_eq!(expand_tabs(text, stop), expanded);
+        assert_eq!(expand_tabs(expanded, 1), expanded);
+    }
 }
 
 #[test]
@@ -364,6 +381,7 @@ fn three_columns<'a>(
 fn the_twins_return_the_same() {
     assert_eq!(fallible::align("a", 3, Alignment::Right).as_deref(), Ok("  a"));
     assert_eq!(fallible::justify("a b", 5).as_deref(), Ok("a   b"));
+    assert_eq!(fallible::expand_tabs("a\tb", 3).as_deref(), Ok("a  b"));
     assert_eq!(fallible::shorten("a b", 2, ".").as_deref(), Ok("a."));
     assert_eq!(fallible::shorten_lines(&["a", "b"], 1, 2, "."), Ok(vec![String::from("a.")]));
     assert_eq!(fallible::carry_styles(&["a"], 1), Ok(vec![String::from("a")]));
@@ -379,6 +397,7 @@ fn the_twins_return_the_same() {
 fn the_twins_return_that_memory_ran_out() {
     assert_eq!(fallible::align("a", usize::MAX, Alignment::Centre), Err(OutOfMemory::default()));
     assert_eq!(fallible::justify("a b", usize::MAX), Err(OutOfMemory::default()));
+    assert_eq!(fallible::expand_tabs("\t", usize::MAX), Err(OutOfMemory::default()));
     // The words are an empty one before the indent's text, and three.
     let two_lines = WrapAlgorithm::Custom(|words, _| vec![&words[..3], &words[3..]]);
     let wide = Options::new(usize::MAX).initial_indent("*");

@@ -102,6 +102,7 @@ fn calls_on_texts() {
 fn calls_for_display() {
     refuse_each("align", || display::fallible::align("foo", 9, Alignment::Right));
     refuse_each("justify", || display::fallible::justify("a few words", 14));
+    refuse_each("expand_tabs", || display::fallible::expand_tabs("a\tb", 8));
     refuse_each("shorten", || display::fallible::shorten("foo bar", 5, ".."));
     refuse_each("shorten_lines", || display::fallible::shorten_lines(&["foo", "bar"], 1, 5, ".."));
     refuse_each("carry_styles", || display::fallible::carry_styles(&["\u{1b}[1mfoo", "bar"], 5));

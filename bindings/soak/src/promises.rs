@@ -45,10 +45,12 @@ pub enum Promise {
     Rows,
     /// A shortened line is as much of the line as fits.
     Shortened,
+    /// Blanks stand in the place of tabs, up to columns that the stop divides.
+    Expanded,
 }
 
 /// How many promises there are.
-pub const PROMISES_LEN: usize = 18;
+pub const PROMISES_LEN: usize = 19;
 
 /// All promises and what the program calls them, in the order in which a round checks them.
 pub const PROMISES: [(Promise, &str); PROMISES_LEN] = [
@@ -70,6 +72,7 @@ pub const PROMISES: [(Promise, &str); PROMISES_LEN] = [
     (Promise::Justified, "justified"),
     (Promise::Rows, "rows"),
     (Promise::Shortened, "shortened"),
+    (Promise::Expanded, "expanded"),
 ];
 
 impl Promise {
@@ -112,6 +115,7 @@ impl Promise {
             Promise::Justified => displaying::check_justified(case, displays?),
             Promise::Rows => displaying::check_rows(case, displays?),
             Promise::Shortened => displaying::check_shortened(case, displays?),
+            Promise::Expanded => displaying::check_expanded(case, displays?),
         })
     }
 }

@@ -34,6 +34,14 @@ pub fn justify(line: &str, width: usize) -> Result<String, OutOfMemory> {
     text_by!(line.len().max(width), textwrap_justify(line; width))
 }
 
+/// [`crate::display::expand_tabs`].
+///
+/// # Errors
+/// [`OutOfMemory`] if memory runs out.
+pub fn expand_tabs(text: &str, stop: usize) -> Result<String, OutOfMemory> {
+    text_by!(text.len(), textwrap_expand_tabs(text; stop))
+}
+
 /// [`crate::display::fill_justified`].
 ///
 /// # Errors

@@ -1,4 +1,5 @@
-//! The promises of texts for display: carried styles, justified lines, rows and shortened lines.
+//! The promises of texts for display: carried styles, justified lines, rows, shortened lines and texts
+//! without tabs.
 use super::styled::Reader;
 use super::Finding;
 use crate::cases::settings::Settings;
@@ -7,7 +8,7 @@ use crate::cases::Case;
 use std::borrow::Cow;
 use textwrap_proved::core::display_width;
 use textwrap_proved::display::{
-    carry_styles, fill_justified, shorten, table, Alignment, Column, Gaps,
+    carry_styles, expand_tabs, fill_justified, shorten, table, Alignment, Column, Gaps,
 };
 use textwrap_proved::{fill, wrap};
 
@@ -28,6 +29,8 @@ pub struct Displays<'c> {
     pub rows: Vec<String>,
     /// The text's first line, shortened.
     pub shortened: String,
+    /// The text with blanks in the place of its tabs.
+    pub expanded: String,
 }
 
 /// The greatest width: what is justified or stands in a column is written with all its blanks.
@@ -59,6 +62,7 @@ impl<'c> Displays<'c> {
             beside: wrap(plain, beside.options()),
             rows: table(&[text, plain], &columns, &GAPS),
             shortened: shorten(first_line(case), settings.width, PLACEHOLDER),
+            expanded: expand_tabs(&case.text, tab_stop(case)),
         }
     }
 }
@@ -76,6 +80,11 @@ fn display_settings(case: &Case) -> Settings {
 /// Those settings at the first width.
 fn beside_settings(case: &Case) -> Settings {
     Settings { width: case.first_width.min(GREATEST), ..display_settings(case) }
+}
+
+/// How far tabs reach in a case: up to each column that this divides.
+fn tab_stop(case: &Case) -> usize {
+    case.first_width % 10
 }
 
 /// The text up to its first line ending.
@@ -250,4 +259,30 @@ pub fn check_shortened(case: &Case, found: &Displays<'_>) -> Finding {
     let needed = display_width(short) as u128 + blanks as u128 + display_width(word) as u128;
     let has_room = !word.is_empty() && needed <= width as u128;
     Finding::of(is_short && !(has_whole_sequences(case) && has_room))
+}
+
+/// Checks that each tab became blanks up to the next column that the stop divides, or nothing where
+/// that is 0, and that all else stays. The columns of a line are counted from part to part.
+pub fn check_expanded(case: &Case, found: &Displays<'_>) -> Finding {
+    let stop = tab_stop(case);
+    let mut wanted = String::new();
+    for line in case.text.split_inclusive('\n') {
+        let mut column = 0;
+        for part in line.split_inclusive('\t') {
+            let Some(text) = part.strip_suffix('\t') else {
+                wanted.push_str(part);
+                continue;
+            };
+            wanted.push_str(text);
+            column += display_width(text);
+            while stop > 0 {
+                wanted.push(' ');
+                column += 1;
+                if column % stop == 0 {
+                    break;
+                }
+            }
+        }
+    }
+    Finding::of(found.expanded == wanted)
 }

@@ -1,6 +1,8 @@
 //! What a reader of a text sees: each visible character, with the styles and the link that it has.
 //! Of the texts that are read each escape sequence is whole: they are of the alphabets that cut
-//! none.
+//! none. A style is an attribute with its value, as a terminal keeps it (SGR of ECMA-48), so that
+//! other sequences which come to the same are the same.
+use std::collections::BTreeMap;
 
 /// An escape sequence.
 enum Sequence<'t> {
@@ -40,8 +42,8 @@ pub fn visible(text: &str) -> String {
 /// A reader of texts.
 #[derive(Debug, Default)]
 pub struct Reader {
-    /// The parameters of the styles that are set, each with its `m`.
-    styles: String,
+    /// The attributes that are set, each with the parameters that set it.
+    styles: BTreeMap<u32, String>,
     /// The command that set the link, or nothing.
     link: String,
     /// The visible characters that were read, and after each the styles and the link it has,
@@ -72,7 +74,9 @@ impl Reader {
     pub fn show(&mut self, visible: &str) {
         for ch in visible.chars() {
             self.shown.push(ch);
-            self.shown.extend(["\x1b", &self.styles, &self.link, "\x1b"]);
+            self.shown.push('\x1b');
+            self.shown.extend(self.styles.values().map(String::as_str));
+            self.shown.extend([&self.link, "\x1b"]);
         }
     }
 
@@ -87,13 +91,30 @@ impl Reader {
         rest
     }
 
-    /// Takes the parameters of styles. Without a number but 0 they take all styles back.
+    /// Takes the parameters of styles: the number 0, or none, takes all styles back. A colour of
+    /// several numbers is taken as one.
     fn take_styles(&mut self, parameters: &str) {
-        if parameters.trim_matches(['0', ';']).is_empty() {
-            self.styles.clear();
-        } else {
-            self.styles.push_str(parameters);
-            self.styles.push('m');
+        let mut rest = parameters;
+        loop {
+            let (first, later) = rest.split_once(';').unwrap_or((rest, ""));
+            let number = first.split(':').next().unwrap_or("").parse().unwrap_or(0);
+            if matches!(number, 38 | 48 | 58) {
+                self.styles.insert(attribute(number), format!("{rest}m"));
+                return;
+            }
+            match number {
+                0 => self.styles.clear(),
+                22..=25 | 27..=29 | 39 | 49 | 54 | 55 | 59 => {
+                    self.styles.remove(&attribute(number));
+                }
+                _ => {
+                    self.styles.insert(attribute(number), format!("{first}m"));
+                }
+            }
+            if rest.len() == first.len() {
+                return;
+            }
+            rest = later;
         }
     }
 
@@ -110,5 +131,22 @@ impl Reader {
         if !target.is_empty() {
             self.link.push_str(command);
         }
+    }
+}
+
+/// The number that takes back the attribute which this one sets, or this one where none does.
+fn attribute(number: u32) -> u32 {
+    match number {
+        1 | 2 => 22,
+        3 => 23,
+        4 | 21 => 24,
+        5 | 6 => 25,
+        7..=9 => number + 20,
+        30..=38 | 90..=97 => 39,
+        40..=48 | 100..=107 => 49,
+        51 | 52 => 54,
+        53 => 55,
+        58 => 59,
+        _ => number,
     }
 }

@@ -84,6 +84,7 @@ enum DisplayChange {
     Beside(Texts),
     Rows(Texts),
     Shortened(&'static str),
+    Expanded(&'static str),
 }
 
 impl Change {
@@ -182,6 +183,7 @@ impl DisplayChange {
             DisplayChange::Beside(texts) => displays.beside = lines_of(texts, false),
             DisplayChange::Rows(texts) => displays.rows = strings(texts),
             DisplayChange::Shortened(text) => displays.shortened = text.into(),
+            DisplayChange::Expanded(text) => displays.expanded = text.into(),
         }
     }
 }
@@ -266,13 +268,14 @@ const ROWS: &[(Change, &str)] = &[
     (Change::Display(DisplayChange::Beside(&["foo", "bar", "baz"])), "rows"),
     (Change::Display(DisplayChange::Shortened("foo ..")), ""),
     (Change::Display(DisplayChange::Shortened(" ..")), "shortened"),
+    (Change::Display(DisplayChange::Expanded("foo\tbar")), "expanded"),
     (Change::NoReflow, ""),
     (Change::FailedReflow, "reflowed_stays reflowed_once reflowed_words"),
     (
         Change::NoAnswer,
         "lossless fitting least_cost searching filled listed paragraphs shortcut in_place \
          refilled twice reflowed_stays reflowed_once reflowed_words carried justified rows \
-         shortened",
+         shortened expanded",
     ),
 ];
 

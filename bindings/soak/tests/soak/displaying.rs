@@ -4,7 +4,7 @@ use textwrap_soak::cases::settings::Settings;
 use textwrap_soak::cases::texts::Alphabet;
 use textwrap_soak::cases::Case;
 use textwrap_soak::checks::displaying::{
-    check_carried, check_justified, check_rows, check_shortened, Displays,
+    check_carried, check_expanded, check_justified, check_rows, check_shortened, Displays,
 };
 use textwrap_soak::checks::Finding;
 
@@ -157,5 +157,28 @@ fn other_cuts_are_noticed() {
         found.shortened = shortened.into();
         let finding = Finding::of(is_right);
         assert_eq!(check_shortened(&case, &found), finding, "{text:?} {shortened:?}");
+    }
+}
+
+/// What the library makes of `"a\tb\n\tc"`, whose tabs reach to each third column, and whether that is
+/// right.
+const EXPANDED: &[(&str, bool)] = &[
+    ("a  b\n   c", true),
+    ("a   b\n   c", false),
+    ("a  b\n  c", false),
+    ("a  b\nc", false),
+    ("a\tb\n   c", false),
+    ("a  b   c", false),
+];
+
+/// Blanks have to reach just to the next column that the stop divides.
+#[test]
+fn other_columns_are_noticed() {
+    let case = Case { first_width: 3, ..case_of("a\tb\n\tc", 4, "") };
+    for &(expanded, is_right) in EXPANDED {
+        let mut found = Displays::of_case(&case);
+        assert_eq!(check_expanded(&case, &found), Finding::Kept);
+        found.expanded = expanded.into();
+        assert_eq!(check_expanded(&case, &found), Finding::of(is_right), "{expanded:?}");
     }
 }

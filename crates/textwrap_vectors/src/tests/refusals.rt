@@ -95,7 +95,7 @@ const ON_TEXTS: &[(Given<'_>, usize)] = &[
             TEXT,
             "+* To be,|+  or not|+  to be:|+  that is|+  the|+  question|+  Hamlet|",
         ),
-        16,
+        11,
     ),
     // Without indents nothing is allocated but the list of lines.
     (
@@ -108,7 +108,7 @@ const ON_TEXTS: &[(Given<'_>, usize)] = &[
             TEXT,
             "+* To be,|+  or not|+  to be:|+  that|+  is the|+  question|+  Hamlet|",
         ),
-        27,
+        21,
     ),
     (Given(Wrap(10, OPTIMAL_FIT), "foo", "foo|"), 1),
     // What fills.
@@ -131,7 +131,7 @@ const ON_TEXTS: &[(Given<'_>, usize)] = &[
         ),
         14,
     ),
-    (Given(FillSlowly(10, INDENTED), TEXT, FILLED), 37),
+    (Given(FillSlowly(10, INDENTED), TEXT, FILLED), 31),
     // What indents, refills, makes columns or strips.
     (
         Given(Indent("    "), "foo\n\nbar\n", "    foo\n\n    bar\n"),
@@ -430,9 +430,9 @@ fn appends(heap: &Heap, slowly: bool) -> Result<bool, WrapError> {
 }
 
 const ON_OTHERS: &[(OnOthers, usize)] = &[
-    (OnOthers::WrapAtPoints, 33),
-    (OnOthers::Append { slowly: false }, 22),
-    (OnOthers::Append { slowly: true }, 26),
+    (OnOthers::WrapAtPoints, 26),
+    (OnOthers::Append { slowly: false }, 17),
+    (OnOthers::Append { slowly: true }, 21),
 ];
 
 /// What gives lines otherwise is out of memory too wherever one of its lists or texts cannot grow.

@@ -127,7 +127,11 @@ fn push_dedented<S: TextSink>(s: &str, text: &mut S) -> Result<(), AllocError>
 fn is_blank_line(text: &str) -> bool
     ensures { result ≡ is_blank_line text.now }
 {
-    text.trim_start().is_empty()
+    match text.as_bytes() {
+        // Most lines begin with such a character.
+        [b'!'..=b'~', ..] => false,
+        _ => text.trim_start().is_empty(),
+    }
 }
 
 /// The margin of a text: the leading whitespace of its first line that is not blank, up to the

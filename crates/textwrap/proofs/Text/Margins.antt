@@ -13,7 +13,9 @@ use Rattle.textwrap_text.proofs.Common.{Bor, inl, inr, map, min, sym, zip, ◌+�
 use Rattle.textwrap_text.proofs.Common.{◌∷◌, ◌≡◌, ◌⊎◌, ap}
 use Rattle.textwrap.proofs.Common.{leading_whitespace, is_blank_line, ended_parts, margin_of}
 use Rattle.textwrap.proofs.Common.{narrowed}
+use Rattle.textwrap_text.proofs.Common.{chars-IsAscii, IsAscii, nat_tests}
 use Rattle.std.proofs.lemmas.Grind.{common_steps}
+use Rattle.std.proofs.lemmas.Str.{IsUtf8-from_ascii}
 use Rattle.std.specs.Str.{drop_trailing_whitespace, skip_leading_whitespace, trim_start, trim_end}
 use Rattle.std.specs.Str.{chars}
 use Rattle.textwrap.specs.Indentation.{lines_from_first, IsMarginOfLines, margin_of_lines, AreEnded}
@@ -263,6 +265,18 @@ ended_parts_one text parts = (
 )
 
 -- ---- blank lines
+
+-- a visible character of ASCII is no whitespace
+pub is_blank_line-visible : (text : List ℕ) → 0 < length text → 32 < get_or text 0 0
+    → get_or text 0 0 < 127 → is_blank_line text ≡ false
+is_blank_line-visible [] some low high = absurd (omega arith)
+is_blank_line-visible (c ∷ cs) some low high =
+    let dark : is_whitespace c ≡ false = grind (arith, nat_tests, low, high) in
+    let ascii : IsAscii (c ∷ []) = grind (arith, high) in
+    let first : chars (c ∷ cs) ≡ c ∷ chars cs =
+    chars-append (c ∷ []) cs (IsUtf8-from_ascii (c ∷ []) ascii)
+    ∙ ap (λ l. l ++ chars cs) (chars-IsAscii (c ∷ []) ascii) in
+    rw (first, dark) refl
 
 pub is_blank_line-trim_start : (text : List ℕ)
     → (length (trim_start text) == 0) ≡ is_blank_line text

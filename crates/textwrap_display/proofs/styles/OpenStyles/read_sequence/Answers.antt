@@ -32,7 +32,8 @@ pub returns-then-are_zeros : goal.returns-then-are_zeros
 returns-then-are_zeros g c = λ before state.
     after-reset before c.args.sequence.now c.args.self.now _ state (sym c.in-Some.ensures.style)
     (ap (list_all (λ b. (b == 0x30) || (b == 0x3B))) (sym c.in-Some.ensures.parameters)
-    ∙ sym c.if-are_zeros.ensures) (ap (map (λ (b : Bor (List ℕ)). b.now)) c.clear.ensures.items) refl
+    ∙ sym c.if-are_zeros.ensures) (ap (map (λ (b : Bor (List ℕ)). b.now)) c.clear.ensures.items)
+    refl
 
 pub returns-in_default-link_target : goal.returns-in_default-link_target
 returns-in_default-link_target g c = λ before state.

@@ -1,4 +1,5 @@
--- Of equal sequences only the last: with one more, once more, and that no two are equal.
+-- Of equal sequences only the last: with one more, once more, that no two are equal, and how many
+-- bytes they have.
 use Rattle.textwrap_text.proofs.Common.{All-cons, All-head, All-nil, All-tail, true≢false, arith}
 use Rattle.textwrap_text.proofs.Common.{cases_Bool, list_any, filter, false, List, Bool, cond, not}
 use Rattle.textwrap_text.proofs.Common.{refl, true, ◌++◌, All, sym, ◌∙◌, ◌∷◌, ◌≡◌, ◌≢◌, []}

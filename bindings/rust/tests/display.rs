@@ -136,9 +136,13 @@ fn styles_are_carried_after_indents() {
     // A line that does not begin with its indent.
     assert_eq!(carry_styles(&[BOLD, "a"], &options)[1], format!("{BOLD}a{RESET}"));
     assert!(carry_styles::<&str, _>(&[], 7).is_empty());
+    // Of equal styles the last.
+    let lines = [RED.repeat(20) + BOLD + RED, String::new()];
+    assert_eq!(carry_styles(&lines, 7)[1], format!("{BOLD}{RED}{RESET}"));
     // More than the room that is made at first.
-    let lines = [RED.repeat(20), "a".repeat(9), String::new()];
-    assert_eq!(carry_styles(&lines, 7)[2], RED.repeat(20) + RESET);
+    let colours: String = (0..20).map(|number| format!("\u{1b}[38;5;{number}m")).collect();
+    let lines = [colours.clone(), "a".repeat(9), String::new()];
+    assert_eq!(carry_styles(&lines, 7)[2], colours + RESET);
 }
 
 // ---- Texts

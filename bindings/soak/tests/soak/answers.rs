@@ -333,12 +333,12 @@ fn kept_promises_are_counted() {
     assert_eq!(counts, [2; PROMISES_LEN]);
     let list = list_case();
     assert_eq!(broken_promise(&list, &right_answers(&list), &mut counts), Some("refilled"));
-    assert_eq!(counts, [3, 2, 3, 3, 3, 3, 3, 2, 3, 2, 2, 2, 2, 2, 2, 2, 2, 2]);
+    assert_eq!(counts, [3, 2, 3, 3, 3, 3, 3, 2, 3, 2, 2, 2, 2, 2, 2, 2, 2, 2, 2]);
     assert_eq!(
         describe_kept(3, &counts),
         "rounds=3 lossless=3 fitting=2 least_cost=3 searching=3 filled=3 listed=3 paragraphs=3 \
          shortcut=2 in_place=3 refilled=2 twice=2 reflowed_stays=2 reflowed_once=2 \
-         reflowed_words=2 carried=2 justified=2 rows=2 shortened=2"
+         reflowed_words=2 carried=2 justified=2 rows=2 shortened=2 expanded=2"
     );
 }
 

@@ -1,6 +1,6 @@
 -- What is open behind a line that does not stand apart.
 use Rattle.textwrap_marked_lines.proofs.Common.{◌≡◌, ℕ, ◌&&◌, ◌||◌, not, Bool, true, false, cond, List, []}
-use Rattle.textwrap_marked_lines.proofs.Common.{◌∷◌, All, All-cons, All-head, All-nil, All-tail}
+use Rattle.textwrap_marked_lines.proofs.Common.{◌∷◌, All}
 use Rattle.textwrap_marked_lines.proofs.Common.{All-weaker, ap, arith, cases_Bool, codes, eqb-true}
 use Rattle.textwrap_marked_lines.proofs.Common.{list_any, nat_eq, nat_lt, nat_tests, None, prefix_len}
 use Rattle.textwrap_marked_lines.proofs.Common.{refl, Some, starts_with, sym, true≢false}
@@ -11,7 +11,7 @@ use Rattle.textwrap_marked_lines.proofs.Common.{has_columns, is_column_word, con
 use Rattle.textwrap_marked_lines.proofs.Common.{has_letter, SpacedText}
 use Rattle.textwrap_text.proofs.Common.{option_map, slice_index}
 use Rattle.textwrap_marks.proofs.Letterless.{lettered-other}
-use Rattle.textwrap_marks.proofs.ListLemmas.{and-left, and-right, any-none, none-any, not-yes, or-left, or-right}
+use Rattle.textwrap_marks.proofs.ListLemmas.{and-left, and-right, any-none, none-any, or-left}
 use Rattle.textwrap_marks.specs.Columns.{depth_of, marks_of}
 use Rattle.textwrap_marks.specs.Fences.{has_pre_end, opened, opened_by, run_of}
 use Rattle.textwrap_marked_lines.specs.Lines.{is_before, is_in_block, is_prompted, new_before, new_by}

@@ -1,5 +1,7 @@
 //! Calls that write into what they are given, or a number.
-use super::plain::{BARS, BEFORE, NO_LAYOUT, UNKNOWN_GAPS, assert_told};
+use super::plain::{
+    BARS, BEFORE, NO_LAYOUT, UNKNOWN_GAPS, assert_holds, assert_number, assert_room, assert_told,
+};
 use std::alloc::Global;
 use textwrap_calls::breaks::{TextwrapLineBreak, textwrap_line_breaks};
 use textwrap_calls::columns::{TextwrapGaps, textwrap_column_width};
@@ -86,12 +88,20 @@ const NO_BREAK: TextwrapLineBreak = TextwrapLineBreak {
     is_mandatory: 0,
 };
 
+/// Texts, forms of the rules, and the breaks.
+const BREAKS: &[(&[u8], u32, &[(usize, usize)])] = &[
+    (b"foo bar\nbaz", 1, &[(4, 0), (8, 1), (11, 1)]),
+    (b"equals .35", 1, &[(10, 1)]),
+    (b"equals .35", 2, &[(8, 0), (10, 1)]),
+    (b"", 2, &[]),
+];
+
 #[test]
 fn lines_may_and_must_end(rt: HostRuntime) {
-    assert!(rt; has_breaks(rt.alloc(), b"foo bar\nbaz", 1, &[(4, 0), (8, 1), (11, 1)]));
-    assert!(rt; has_breaks(rt.alloc(), b"equals .35", 1, &[(10, 1)]));
-    assert!(rt; has_breaks(rt.alloc(), b"equals .35", 2, &[(8, 0), (10, 1)]));
-    assert!(rt; has_breaks(rt.alloc(), b"", 2, &[]));
+    for (row, &(text, unicode_breaks, expected)) in BREAKS.iter().enumerate() {
+        let are_found = has_breaks(rt.alloc(), text, unicode_breaks, expected);
+        assert_holds(&rt, row, are_found);
+    }
 }
 
 /// Texts and forms of the rules that are refused, or have no room.
@@ -115,8 +125,9 @@ fn line_breaks_are_refused(rt: HostRuntime) {
 #[test]
 fn a_text_is_filled_in_its_place(rt: HostRuntime) {
     let mut text = *b"foo  bar";
-    assert_eq!(rt; textwrap_fill_inplace(rt.alloc(), &mut text, 5), DONE);
-    assert_eq!(rt; &text, b"foo \nbar");
+    let status = textwrap_fill_inplace(rt.alloc(), &mut text, 5);
+    assert_holds(&rt, 0, status == DONE);
+    assert_room(&rt, 0, &text, b"foo \nbar");
 }
 
 #[test]
@@ -127,10 +138,9 @@ fn a_filled_text_has_a_layout(rt: HostRuntime) {
     let text = b"* foo\n  bar\n";
     let status = textwrap_unfill(text, &mut room, &mut len, &mut layout);
     assert_told(&rt, 0, (status, len), (DONE, 12));
-    assert_eq!(rt; (layout.width, layout.crlf), (5, 0));
-    assert_eq!(rt;
-        (layout.initial_indent_len, layout.subsequent_indent_len),
-        (2, 2)
-    );
-    assert_eq!(rt; layout.reserved_sizes, [0; 4]);
+    assert_number(&rt, 1, layout.width, 5);
+    assert_number(&rt, 2, layout.crlf, 0);
+    assert_number(&rt, 3, layout.initial_indent_len, 2);
+    assert_number(&rt, 4, layout.subsequent_indent_len, 2);
+    assert_holds(&rt, 5, layout.reserved_sizes == [0; 4]);
 }

@@ -1,7 +1,7 @@
 //! The bounds of answers: each is enough, and some answers are as long.
 use super::plain::{
     BARS, BEFORE, BLANK, DEFAULTS, HAMLET, LinesCall, NARROW, NO_GAPS, NOWHERE, TextCall,
-    assert_told, write_lines, write_text,
+    assert_number, assert_told, write_lines, write_text,
 };
 use std::process::Abort;
 use textwrap_calls::bounds::{
@@ -120,11 +120,10 @@ fn lines_and_their_room_keep_to_their_bounds(rt: HostRuntime) {
 /// No columns have no rows; the gaps of each row count, and those between its cells.
 #[test]
 fn bounds_count_rows_and_gaps(rt: HostRuntime) {
-    assert_eq!(rt; textwrap_wrap_columns_rows_bound(3, 0), 0);
-    assert_eq!(rt;
-        textwrap_wrap_columns_room_bound(5, 2, &DEFAULTS, &BARS),
-        44
-    );
+    let rows = textwrap_wrap_columns_rows_bound(3, 0);
+    let room = textwrap_wrap_columns_room_bound(5, 2, &DEFAULTS, &BARS);
+    assert_number(&rt, 0, rows, 0);
+    assert_number(&rt, 1, room, 44);
 }
 
 /// Lengths of texts, and the bounds of these filled. One that no number holds is the greatest.
@@ -133,14 +132,23 @@ const GREATEST: &[(usize, usize)] = &[
     (usize::MAX / 2, usize::MAX - 1),
 ];
 
+/// Calls, and the bounds of the lines and of the room of the greatest text.
+const GREATEST_LINES: &[(LinesCall<'_>, (usize, usize))] = &[
+    (LinesCall::Wrap(NARROW), (usize::MAX, usize::MAX)),
+    (LinesCall::Wrap(DEFAULTS), (usize::MAX, 0)),
+];
+
 #[test]
 fn a_bound_that_no_number_holds_is_the_greatest(rt: HostRuntime) {
     for (row, &(text_len, bound)) in GREATEST.iter().enumerate() {
         let most = textwrap_fill_bound(text_len, &DEFAULTS);
         assert_told(&rt, row, (DONE, most), (DONE, bound));
     }
-    let narrow = lines_bounds(LinesCall::Wrap(NARROW), usize::MAX);
-    assert_eq!(rt; narrow, (usize::MAX, usize::MAX));
-    assert_eq!(rt; textwrap_wrap_room_bound(usize::MAX, &DEFAULTS), 0);
-    assert_eq!(rt; textwrap_wrap_columns_rows_bound(usize::MAX, 1), usize::MAX);
+    for (row, &(call, (most, bound))) in GREATEST_LINES.iter().enumerate() {
+        let bounds = lines_bounds(call, usize::MAX);
+        assert_number(&rt, row, bounds.0, most);
+        assert_number(&rt, row, bounds.1, bound);
+    }
+    let rows = textwrap_wrap_columns_rows_bound(usize::MAX, 1);
+    assert_number(&rt, 2, rows, usize::MAX);
 }

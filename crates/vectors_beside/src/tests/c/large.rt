@@ -31,9 +31,14 @@ pub(super) const LEN: usize = LINES * 12;
 /// What a call tells where it has no room, and where it has just so much; and whether it then fills it.
 pub(super) type Told = ((u32, usize), (u32, usize), bool);
 
-/// Asserts that a call told this length both times.
-pub(super) fn assert_told_twice(rt: &impl Abort, row: usize, told: Told, len: usize) {
-    let (without, with, is_full) = told;
+/// Asserts that there was memory for a call, and that it told this length both times.
+pub(super) fn assert_told_twice(
+    rt: &impl Abort,
+    row: usize,
+    told: Result<Told, AllocError>,
+    len: usize,
+) {
+    let (without, with, is_full) = told.expect(rt, "memory");
     assert_told(rt, row, without, (TOO_SMALL, len));
     assert_told(rt, row, with, (DONE, len));
     assert_holds(rt, row, is_full);
@@ -224,15 +229,19 @@ fn told_of_text(
     write_text_twice(alloc, is_known, call, text.as_bytes())
 }
 
-/// What the calls tell with a prefix and with a placeholder of 1,000 bytes, which leaves ten columns.
-fn told_of_long(alloc: Global) -> Result<[Told; 2], AllocError> {
+/// What the calls tell with a prefix of 1,000 bytes, or with such a placeholder, which leaves ten
+/// columns.
+fn told_of_long(alloc: Global, is_placeholder: bool) -> Result<Told, AllocError> {
     let long = "+".repeat(alloc, 1_000)?;
     let text = LINE.repeat(alloc, 1_000)?;
-    let (placeholder, text) = (long.as_bytes(), text.as_bytes());
-    let indented = write_text_twice(alloc, false, TextCall::Indent(placeholder), text)?;
-    let width = 1_010;
-    let shortened = write_text_twice(alloc, false, TextCall::Shorten { width, placeholder }, text)?;
-    Ok([indented, shortened])
+    let call = match is_placeholder {
+        true => TextCall::Shorten {
+            width: 1_010,
+            placeholder: long.as_bytes(),
+        },
+        false => TextCall::Indent(long.as_bytes()),
+    };
+    write_text_twice(alloc, false, call, text.as_bytes())
 }
 
 /// The same of lines and rows.
@@ -248,18 +257,19 @@ fn told_of_lines(
 #[test]
 fn large_texts_are_written(rt: HostRuntime) {
     for (row, &texts) in TEXTS.iter().enumerate() {
-        let told = told_of_text(rt.alloc(), false, texts).expect(&rt, "memory");
+        let told = told_of_text(rt.alloc(), false, texts);
         assert_told_twice(&rt, row, told, texts.3);
     }
-    let [indented, shortened] = told_of_long(rt.alloc()).expect(&rt, "memory");
+    let indented = told_of_long(rt.alloc(), false);
     assert_told_twice(&rt, TEXTS.len(), indented, 1_000 * (1_000 + 12));
+    let shortened = told_of_long(rt.alloc(), true);
     assert_told_twice(&rt, TEXTS.len() + 1, shortened, 7 + 1_000);
 }
 
 #[test]
 fn large_texts_that_are_known_are_written(rt: HostRuntime) {
     for (row, &texts) in TEXTS.iter().enumerate() {
-        let told = told_of_text(rt.alloc(), true, texts).expect(&rt, "memory");
+        let told = told_of_text(rt.alloc(), true, texts);
         assert_told_twice(&rt, row, told, texts.3);
     }
 }
@@ -268,7 +278,7 @@ fn large_texts_that_are_known_are_written(rt: HostRuntime) {
 fn large_texts_have_their_lines_and_rows(rt: HostRuntime) {
     for is_known in [false, true] {
         for (row, &lines) in LINES_AND_ROWS.iter().enumerate() {
-            let told = told_of_lines(rt.alloc(), is_known, lines).expect(&rt, "memory");
+            let told = told_of_lines(rt.alloc(), is_known, lines);
             assert_told_twice(&rt, row, told, lines.4);
         }
     }
@@ -349,5 +359,5 @@ fn a_large_text_is_filled_in_place(rt: HostRuntime) {
         .repeat(rt.alloc(), LINES)
         .expect(&rt, "filled");
     let found = is_filled_as(rt.alloc(), &text, &filled).expect(&rt, "bytes");
-    assert_eq!(rt; found, (DONE, true));
+    assert_holds(&rt, 0, found == (DONE, true));
 }

@@ -5,9 +5,10 @@ use super::large::{
 };
 use super::plain::{
     AT_80, BARS, BEFORE, DEFAULTS, LinesCall, NO_PIECE, NOWHERE, OffsetsCall, PiecesCall,
-    assert_number, assert_told, write_offsets,
+    assert_holds, assert_number, assert_told, write_offsets,
 };
 use std::alloc::{AllocError, Global};
+use std::process::Abort;
 use textwrap_calls::options::TextwrapOptions;
 use textwrap_calls::status::{DONE, TOO_SMALL};
 use textwrap_calls::tables::{TextwrapCell, TextwrapColumn, textwrap_table_of_lines};
@@ -140,18 +141,13 @@ fn wide_table(alloc: Global) -> Result<Told, AllocError> {
 
 #[test]
 fn a_large_list_is_shortened_carried_and_laid_out(rt: HostRuntime) {
-    let told = shortened_lines(rt.alloc()).expect(&rt, "lines");
-    assert_told_twice(&rt, 0, told, 11 * (LINES - 2) + 10);
-    let told = carried(rt.alloc()).expect(&rt, "lines");
-    assert_told_twice(&rt, 1, told, 21 * HALF);
-    let told = table(rt.alloc()).expect(&rt, "cells");
-    assert_told_twice(&rt, 2, told, 25 * HALF);
-    let told = wide_table(rt.alloc()).expect(&rt, "cells");
-    assert_told_twice(&rt, 3, told, 2 * (200 * 11 + 201));
-    let told = rows_of_lines(rt.alloc()).expect(&rt, "lines");
-    assert_told_twice(&rt, 4, told, 25 * HALF);
+    assert_told_twice(&rt, 0, shortened_lines(rt.alloc()), 11 * (LINES - 2) + 10);
+    assert_told_twice(&rt, 1, carried(rt.alloc()), 21 * HALF);
+    assert_told_twice(&rt, 2, table(rt.alloc()), 25 * HALF);
+    assert_told_twice(&rt, 3, wide_table(rt.alloc()), 2 * (200 * 11 + 201));
+    assert_told_twice(&rt, 4, rows_of_lines(rt.alloc()), 25 * HALF);
     let told = table_of_lines(rt.alloc()).expect(&rt, "cells");
-    assert_eq!(rt; told, (DONE, HALF, 25 * HALF));
+    assert_holds(&rt, 5, told == (DONE, HALF, 25 * HALF));
 }
 
 /// The first so many multiples of a number.
@@ -163,19 +159,29 @@ fn multiples(alloc: Global, most: usize, step: usize) -> Result<Vec<usize>, Allo
     Ok(numbers)
 }
 
-/// What is told of the pieces of a text at cuts after each of its lines but the last, and at these
+/// What is told of the pieces of the large text at cuts after each of its lines but the last, and at these
 /// points; and where the last piece stands. Their lists are of several lifetimes, so the call is made
 /// here.
-fn pieces_in_steps(
-    alloc: Global,
-    text: &[u8],
-    points: &[usize],
-) -> Result<((u32, usize), usize), AllocError> {
+fn pieces_in_steps(alloc: Global, points: &[usize]) -> Result<((u32, usize), usize), AllocError> {
+    let text = LINE.repeat(alloc, LINES)?;
     let cuts = multiples(alloc, LINES - 1, LINE.len())?;
     let mut pieces = vec![in alloc; NO_PIECE; LINES]?;
     let mut count = BEFORE;
+    let text = text.as_bytes();
     let status = textwrap_pieces_at(alloc, text, &cuts, points, &AT_80, &mut pieces, &mut count);
     Ok(((status, count), offset_of_last(&pieces)))
+}
+
+/// Asserts that there was memory for a call, how many it told, and one of them.
+fn assert_one_told(
+    rt: &impl Abort,
+    row: usize,
+    found: Result<((u32, usize), usize), AllocError>,
+    (count, one): (usize, usize),
+) {
+    let (told, found) = found.expect(rt, "memory");
+    assert_told(rt, row, told, (DONE, count));
+    assert_number(rt, row, found, one);
 }
 
 /// Where the last piece stands.
@@ -223,10 +229,11 @@ fn place_at(lines: &[TextwrapLine], at: usize) -> (usize, usize) {
 }
 
 /// The lines that end after each piece.
-fn lines_in_steps(alloc: Global, text: &[u8]) -> Result<LinesTold, AllocError> {
+fn lines_in_steps(alloc: Global) -> Result<LinesTold, AllocError> {
+    let text = LINE.repeat(alloc, LINES)?;
     let cuts = multiples(alloc, LINES - 1, LINE.len())?;
     let ends = multiples(alloc, LINES, 1)?;
-    tenth_line(alloc, text, &cuts, &ends)
+    tenth_line(alloc, text.as_bytes(), &cuts, &ends)
 }
 
 /// What is told of the words of a line at 1,000 offsets, and where the last stands.
@@ -240,23 +247,19 @@ fn words_at_many(alloc: Global) -> Result<((u32, usize), usize), AllocError> {
 
 #[test]
 fn a_large_paragraph_has_pieces_in_steps(rt: HostRuntime) {
-    let text = LINE.repeat(rt.alloc(), LINES).expect(&rt, "text");
-    let (told, _) = pieces_in_steps(rt.alloc(), text.as_bytes(), &[2]).expect(&rt, "room");
+    let (told, _) = pieces_in_steps(rt.alloc(), &[2]).expect(&rt, "room");
     assert_told(&rt, 0, told, (TOO_SMALL, LINES + 1));
-    let (told, last) = pieces_in_steps(rt.alloc(), text.as_bytes(), &[]).expect(&rt, "room");
-    assert_told(&rt, 1, told, (DONE, LINES));
-    assert_number(&rt, 1, last, LEN - LINE.len());
-    let (told, last) = words_at_many(rt.alloc()).expect(&rt, "room");
-    assert_told(&rt, 2, told, (DONE, 1_001));
-    assert_number(&rt, 2, last, 1_000 * LINE.len());
+    let found = pieces_in_steps(rt.alloc(), &[]);
+    assert_one_told(&rt, 1, found, (LINES, LEN - LINE.len()));
+    let found = words_at_many(rt.alloc());
+    assert_one_told(&rt, 2, found, (1_001, 1_000 * LINE.len()));
 }
 
 #[test]
 fn a_large_paragraph_has_lines_in_steps(rt: HostRuntime) {
-    let text = LINE.repeat(rt.alloc(), LINES).expect(&rt, "text");
-    let (told, tenth) = lines_in_steps(rt.alloc(), text.as_bytes()).expect(&rt, "room");
-    assert_eq!(rt; told, (DONE, LINES, 0));
-    assert_eq!(rt; tenth, (9 * LINE.len(), LINE.len()));
+    let (told, tenth) = lines_in_steps(rt.alloc()).expect(&rt, "room");
+    assert_holds(&rt, 0, told == (DONE, LINES, 0));
+    assert_holds(&rt, 1, tenth == (9 * LINE.len(), LINE.len()));
 }
 
 /// The status, how many offsets are told, and the one at a place among so many.
@@ -301,33 +304,27 @@ const ONE: TextwrapFragment = TextwrapFragment {
     break_penalty: 0,
 };
 
-/// The last end of lines of many fragments, by first fit and by least cost.
-fn many_ends(alloc: Global) -> Result<[((u32, usize), usize); 2], AllocError> {
+/// The last end of lines of many fragments, by least cost or by first fit.
+fn many_ends(alloc: Global, is_optimal: bool) -> Result<((u32, usize), usize), AllocError> {
     let fragments = vec![in alloc; ONE; 100_000]?;
-    let first_fit = OffsetsCall::FirstFit {
-        fragments: &fragments,
-        line_widths: &[10],
+    let call = match is_optimal {
+        true => OffsetsCall::OptimalFit {
+            fragments: &fragments,
+            line_widths: &[10],
+            penalties: PENALTIES,
+        },
+        false => OffsetsCall::FirstFit {
+            fragments: &fragments,
+            line_widths: &[10],
+        },
     };
-    let greedy = offset_at(alloc, first_fit, 10_000, 9_999)?;
-    let optimal_fit = OffsetsCall::OptimalFit {
-        fragments: &fragments,
-        line_widths: &[10],
-        penalties: PENALTIES,
-    };
-    let cheapest = offset_at(alloc, optimal_fit, 10_000, 9_999)?;
-    Ok([greedy, cheapest])
+    offset_at(alloc, call, 10_000, 9_999)
 }
 
 #[test]
 fn many_points_cuts_and_ends_are_found(rt: HostRuntime) {
-    let (told, tenth) = many_points(rt.alloc()).expect(&rt, "points");
-    assert_told(&rt, 0, told, (DONE, LINES - 1));
-    assert_number(&rt, 0, tenth, 20);
-    let (told, tenth) = many_cuts(rt.alloc()).expect(&rt, "cuts");
-    assert_told(&rt, 1, told, (DONE, 1_999));
-    assert_number(&rt, 1, tenth, 25);
-    for (told, last) in many_ends(rt.alloc()).expect(&rt, "ends") {
-        assert_told(&rt, 2, told, (DONE, 10_000));
-        assert_number(&rt, 2, last, 100_000);
-    }
+    assert_one_told(&rt, 0, many_points(rt.alloc()), (LINES - 1, 20));
+    assert_one_told(&rt, 1, many_cuts(rt.alloc()), (1_999, 25));
+    assert_one_told(&rt, 2, many_ends(rt.alloc(), false), (10_000, 100_000));
+    assert_one_told(&rt, 3, many_ends(rt.alloc(), true), (10_000, 100_000));
 }

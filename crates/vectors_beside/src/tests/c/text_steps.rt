@@ -535,43 +535,55 @@ const MANY: usize = 10_000;
 /// What is told of lines and of room.
 type Told = (u32, usize, usize);
 
-/// What is told of a text of many paragraphs, each one line as a whole: as lines, filled, and justified.
-fn many_paragraphs(alloc: Global) -> Result<(Told, (u32, usize), (u32, usize)), AllocError> {
+/// What is told of the lines of a text of many paragraphs, each one line as a whole, which take no room.
+fn many_lines(alloc: Global) -> Result<Told, AllocError> {
     let text = "ab\n".repeat(alloc, MANY - 1)?;
     let steps = vec![in alloc; NO_STEPS; MANY]?;
     let mut lines = vec![in alloc; NOWHERE; MANY]?;
-    let mut room = vec![in alloc; 0; 3 * MANY]?;
     let (mut count, mut len) = (BEFORE, BEFORE);
     let wrap = LinesCall::WrapAt {
         steps: &steps,
         options: DEFAULTS,
     };
-    let fill = TextCall::FillAt {
-        steps: &steps,
-        options: DEFAULTS,
-    };
-    let justify = TextCall::JustifyAt {
-        steps: &steps,
-        options: DEFAULTS,
-    };
-    let bytes = text.as_bytes();
-    let wrapped = write_lines(
-        alloc, false, wrap, bytes, &mut lines, &mut count, &mut room, &mut len,
+    let status = write_lines(
+        alloc,
+        false,
+        wrap,
+        text.as_bytes(),
+        &mut lines,
+        &mut count,
+        &mut [],
+        &mut len,
     );
-    let (mut filled_len, mut justified_len) = (BEFORE, BEFORE);
-    let filled = write_text(alloc, false, fill, bytes, &mut room, &mut filled_len);
-    let justified = write_text(alloc, false, justify, bytes, &mut room, &mut justified_len);
-    Ok((
-        (wrapped, count, len),
-        (filled, filled_len),
-        (justified, justified_len),
-    ))
+    Ok((status, count, len))
+}
+
+/// What is told of the same text, filled or justified.
+fn many_paragraphs(alloc: Global, is_justified: bool) -> Result<(u32, usize), AllocError> {
+    let text = "ab\n".repeat(alloc, MANY - 1)?;
+    let steps = vec![in alloc; NO_STEPS; MANY]?;
+    let mut room = vec![in alloc; 0; 3 * MANY]?;
+    let call = match is_justified {
+        true => TextCall::JustifyAt {
+            steps: &steps,
+            options: DEFAULTS,
+        },
+        false => TextCall::FillAt {
+            steps: &steps,
+            options: DEFAULTS,
+        },
+    };
+    let mut len = BEFORE;
+    let status = write_text(alloc, false, call, text.as_bytes(), &mut room, &mut len);
+    Ok((status, len))
 }
 
 #[test]
 fn a_text_of_many_paragraphs_has_lines_in_steps(rt: HostRuntime) {
-    let (wrapped, filled, justified) = many_paragraphs(rt.alloc()).expect(&rt, "room");
-    assert_eq!(rt; wrapped, (DONE, MANY, 0));
-    assert_told(&rt, 0, filled, (DONE, 3 * (MANY - 1)));
-    assert_told(&rt, 1, justified, (DONE, 3 * (MANY - 1)));
+    let told = many_lines(rt.alloc()).expect(&rt, "room");
+    assert_holds(&rt, 0, told == (DONE, MANY, 0));
+    for is_justified in [false, true] {
+        let told = many_paragraphs(rt.alloc(), is_justified).expect(&rt, "room");
+        assert_told(&rt, 1, told, (DONE, 3 * (MANY - 1)));
+    }
 }

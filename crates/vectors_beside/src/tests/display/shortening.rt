@@ -63,15 +63,22 @@ const FEWER: &[(&str, usize, &[&str])] = &[
 
 const LINES: [&str; 5] = ["one two three", "four", "five  ", "", "six seven eight"];
 
-/// The lines of `LINES`, of which `four` is a text of its own.
+/// A line of `LINES`: `four` is a text of its own.
+fn line<A: Allocator + Copy>(
+    alloc: A,
+    line: &'static str,
+) -> Result<CowStr<'static, A>, AllocError> {
+    match line {
+        "four" => Ok(CowStr::Owned(String::from_str(alloc, line)?)),
+        _ => Ok(CowStr::Borrowed(line)),
+    }
+}
+
+/// The lines of `LINES`.
 fn lines<A: Allocator + Copy>(alloc: A) -> Result<Vec<CowStr<'static, A>, A>, AllocError> {
     let mut lines = Vec::new(alloc);
-    for line in LINES {
-        if line == "four" {
-            lines.push(CowStr::Owned(String::from_str(alloc, line)?))?;
-        } else {
-            lines.push(CowStr::Borrowed(line))?;
-        }
+    for text in LINES {
+        lines.push(line(alloc, text)?)?;
     }
     Ok(lines)
 }

@@ -1,8 +1,10 @@
 //! What would change, as a unified diff. What is expected is what GNU `diff -u` writes, with the
 //! length of each range.
+use super::super::plain::assert_holds;
 use super::folder::{FileFault, Given};
 use super::plain::{
-    Start, assert_bytes, assert_ending, assert_left, assert_number, assert_reflowed, run,
+    Start, assert_bytes, assert_ending, assert_left, assert_number, assert_reflowed, assert_spans,
+    run,
 };
 use fakes::heap::Heap;
 use fakes::streams::{Feed, FeedFault, SinkFault};
@@ -69,7 +71,8 @@ fn a_large_text_without_a_common_line(rt: HostRuntime) {
         .expect(&rt, "old");
     let new = "one two\n".repeat(rt.alloc(), 700).expect(&rt, "new");
     let found = diff_text(rt.alloc(), "a", old.as_bytes(), new.as_bytes()).expect(&rt, "a diff");
-    assert!(rt; found.starts_with(b"--- a\n+++ a\n@@ -1,600 +1,700 @@\n-one two three four\n"));
+    let first = "--- a\n+++ a\n@@ -1,600 +1,700 @@\n-one two three four\n";
+    assert_spans(&rt, "a diff", &found, first, "+one two\n");
     assert_number(&rt, "its length", found.len(), 32 + 600 * 20 + 700 * 9);
 }
 
@@ -143,21 +146,47 @@ const OLD_TO_NEW: &str =
     "--- a\n+++ a\n@@ -1,7 +1,8 @@\n - a\n - b\n \n-one two three four\n+one two\n+three four\n \n - c\n - d\n\
 @@ -10,4 +11,5 @@\n - g\n - h\n \n-five six seven\n+five six\n+seven\n";
 
+/// Whether the heap made a call fail, which is then out of memory; once it did not, asserts that what
+/// was found is right, and took all that was allowed.
+fn is_refused(rt: &impl Abort, heap: &Heap, allowed: usize, found: Option<bool>) -> bool {
+    let left = match found {
+        Some(_) => 0,
+        None => usize::MAX,
+    };
+    assert!(rt; heap.left() == left, "{allowed} allocations");
+    assert!(rt; found != Some(false), "{allowed} allocations");
+    found.is_none()
+}
+
+/// Whether the diff is right, if there was memory for it.
+fn is_diff(heap: &Heap) -> Option<bool> {
+    match diff_text(heap, "a", OLD.as_bytes(), NEW.as_bytes()) {
+        Ok(diff) => Some(diff.as_slice() == OLD_TO_NEW.as_bytes()),
+        Err(_) => None,
+    }
+}
+
 /// Each allocation of a diff is refused in turn: then it is out of memory, and never another text.
 #[test]
 fn refused_allocations_of_a_diff_are_told(rt: HostRuntime) {
     let heap = Heap::new(rt.alloc(), 0);
     for allowed in 0..100 {
         heap.allow(allowed);
-        if let Ok(diff) = diff_text(&heap, "a", OLD.as_bytes(), NEW.as_bytes()) {
-            assert_bytes(&rt, "a diff", &diff, OLD_TO_NEW.as_bytes());
-            assert_number(&rt, "allocations left", heap.left(), 0);
-            assert!(rt; 10 < allowed, "{allowed} allocations");
+        if !is_refused(&rt, &heap, allowed, is_diff(&heap)) {
+            assert_holds(&rt, "more than ten", 10 < allowed);
             return;
         }
-        assert!(rt; heap.left() == usize::MAX, "{allowed} allocations");
     }
-    assert!(rt; false, "a diff takes more than a hundred allocations");
+    assert_holds(&rt, "at most a hundred", false);
+}
+
+/// Whether all is read, if there was memory for it.
+fn is_read(heap: &Heap, mut reader: Feed) -> Option<bool> {
+    match read_to_end(heap, &mut reader) {
+        Ok(input) => Some(input.as_slice() == OLD.as_bytes()),
+        Err(RunError::Memory) => None,
+        Err(_) => Some(false),
+    }
 }
 
 /// The same of a reader that is read to its end.
@@ -166,20 +195,11 @@ fn refused_allocations_of_reading_are_told(rt: HostRuntime) {
     let heap = Heap::new(rt.alloc(), 0);
     for allowed in 0..100 {
         heap.allow(allowed);
-        let mut reader = Feed::new(rt.alloc(), OLD.as_bytes(), 3, FeedFault::Nothing).expect(
-            &rt, "a reader",
-        );
-        match read_to_end(&heap, &mut reader) {
-            Ok(input) => {
-                assert_bytes(&rt, "the input", &input, OLD.as_bytes());
-                assert_number(&rt, "allocations left", heap.left(), 0);
-                return;
-            }
-            Err(error) => {
-                assert!(rt; error == RunError::Memory, "{allowed} allocations");
-                assert!(rt; heap.left() == usize::MAX, "{allowed} allocations");
-            }
+        let reader = Feed::new(rt.alloc(), OLD.as_bytes(), 3, FeedFault::Nothing);
+        let found = is_read(&heap, reader.expect(&rt, "a reader"));
+        if !is_refused(&rt, &heap, allowed, found) {
+            return;
         }
     }
-    assert!(rt; false, "reading takes more than a hundred allocations");
+    assert_holds(&rt, "at most a hundred", false);
 }

@@ -1,61 +1,75 @@
 //! Files of the file system, in a folder of their own.
+use super::super::plain::assert_holds;
 use super::folder::WRITTEN_AT_ONCE;
-use super::plain::{SOUND, assert_number, strings};
+use super::plain::{SOUND, strings};
 use fakes::streams::{Sink, SinkFault};
 use reflow_program::disk::Disk;
 use reflow_program::files::Files;
 use reflow_program::program::execute;
+use std::alloc::AllocError;
 use std::fs::OpenOptions;
 use std::io::{ErrorKind, Write};
 use std::os::unix::fs::{MetadataExt, PermissionsExt, lchown, symlink};
 use std::process::Abort;
-use std::test::Fail;
 use std::{env, fs, io, process, rt};
 
 const COUNT: &str = "one two three four\n";
 
 const COUNT_AT_10: &str = "one two\nthree four\n";
 
-/// The path of a file in the folder.
-fn path(rt: &impl AllocGlobal, folder: &str, name: &str) -> io::Result<String> {
-    Ok(format!(in rt.alloc(); "{folder}/{name}")?)
+/// Asserts that something was done without a fault of the file system.
+fn assert_done(rt: &impl Abort, rule: &str, done: io::Result<()>) {
+    assert_holds(rt, rule, done.is_ok());
+}
+
+/// Asserts that something was found without a fault of the file system, and that it holds.
+fn assert_found(rt: &impl Abort, rule: &str, found: io::Result<bool>) {
+    assert_holds(rt, rule, matches!(found, Ok(true)));
+}
+
+/// The path of a file in the folder, for which there has to be memory.
+fn path(rt: &(impl AllocGlobal + Abort), folder: &str, name: &str) -> String {
+    format!(in rt.alloc(); "{folder}/{name}").expect(rt, name)
 }
 
 /// Writes a text into a file of the folder, and gives it this mode.
 fn write(
-    rt: &(impl rt::Files + AllocGlobal),
+    rt: &(impl rt::Files + AllocGlobal + Abort),
     folder: &str,
     (name, text, mode): (&str, &str, u32),
 ) -> io::Result<()> {
-    let file = path(rt, folder, name)?;
+    let file = path(rt, folder, name);
     fs::write(rt, file.as_str(), text)?;
     fs::set_permissions(rt, file.as_str(), fs::Permissions::from_mode(mode))
 }
 
 /// Whether this text stands in the file of the folder.
 fn holds(
-    rt: &(impl rt::Files + AllocGlobal),
+    rt: &(impl rt::Files + AllocGlobal + Abort),
     folder: &str,
-    name: &str,
-    text: &str,
+    (name, text): (&str, &str),
 ) -> io::Result<bool> {
-    let file = path(rt, folder, name)?;
+    let file = path(rt, folder, name);
     Ok(fs::read_to_string(rt, file.as_str())?.as_str() == text)
 }
 
-/// Whether there is a file of this name in the folder.
-fn is_there(rt: &(impl rt::Files + AllocGlobal), folder: &str, name: &str) -> io::Result<bool> {
-    let file = path(rt, folder, name)?;
-    fs::exists(rt, file.as_str())
+/// Whether there is no file of this name in the folder.
+fn is_gone(
+    rt: &(impl rt::Files + AllocGlobal + Abort),
+    folder: &str,
+    name: &str,
+) -> io::Result<bool> {
+    let file = path(rt, folder, name);
+    Ok(!fs::exists(rt, file.as_str())?)
 }
 
 /// The owner, the group and the mode of a file of the folder.
 fn rights(
-    rt: &(impl rt::Files + AllocGlobal),
+    rt: &(impl rt::Files + AllocGlobal + Abort),
     folder: &str,
     name: &str,
 ) -> io::Result<(u32, u32, u32)> {
-    let file = path(rt, folder, name)?;
+    let file = path(rt, folder, name);
     let found = fs::metadata(rt, file.as_str())?;
     Ok((found.uid(), found.gid(), found.mode() & 0o7777))
 }
@@ -69,39 +83,56 @@ const BEFORE: &[(&str, &str, u32)] = &[
 ];
 
 /// Makes the files.
-fn make_files(rt: &(impl rt::Files + AllocGlobal), folder: &str) -> io::Result<()> {
+fn make_files(rt: &(impl rt::Files + AllocGlobal + Abort), folder: &str) {
     for &file in BEFORE {
-        write(rt, folder, file)?;
+        assert_done(rt, file.0, write(rt, folder, file));
     }
-    Ok(())
 }
 
-/// Makes links to the files `a` and `b`.
-fn make_links(rt: &(impl rt::Files + AllocGlobal), folder: &str) -> io::Result<()> {
-    let link = path(rt, folder, "link")?;
-    symlink(rt, "a", link.as_str())?;
-    let to_b = path(rt, folder, "to_b")?;
-    symlink(rt, "b", to_b.as_str())
+/// Makes a link to a file of the folder.
+fn make_link(
+    rt: &(impl rt::Files + AllocGlobal + Abort),
+    folder: &str,
+    (name, target): (&str, &str),
+) -> io::Result<()> {
+    let link = path(rt, folder, name);
+    symlink(rt, target, link.as_str())
 }
 
 /// Gives the file `a` to another owner and another group, if the tests may do that: only the
 /// super-user may.
-fn give_away(rt: &(impl rt::Files + AllocGlobal), folder: &str) -> io::Result<()> {
-    let a = path(rt, folder, "a")?;
+fn give_away(rt: &(impl rt::Files + AllocGlobal + Abort), folder: &str) {
+    let a = path(rt, folder, "a");
     let _given = lchown(rt, a.as_str(), Some(1), Some(2));
-    Ok(())
 }
 
-/// Runs the program on a file of the folder, and returns the status, and whether the output and the
-/// end of the messages are these.
-fn run(
-    rt: &(impl rt::Files + AllocGlobal),
+/// A way, the name of a file, the output, the end of the messages, and the status.
+type Run<'a> = (&'a str, &'a str, &'a str, &'a str, u8);
+
+/// The words that ask for ten columns and name a file of the folder.
+fn words(
+    rt: &(impl AllocGlobal + Abort),
     folder: &str,
     (way, name): (&str, &str),
-    (output, message): (&str, &str),
-) -> io::Result<(u8, bool)> {
-    let file = path(rt, folder, name)?;
-    let words = strings(rt.alloc(), &["-w", "10", way, file.as_str()])?;
+) -> Result<Vec<String>, AllocError> {
+    let file = path(rt, folder, name);
+    strings(rt.alloc(), &["-w", "10", way, file.as_str()])
+}
+
+/// Whether the output is this, and so is the end of the messages.
+fn are_written(written: Sink, said: Sink, (output, message): (&str, &str)) -> bool {
+    written.taken.as_slice() == output.as_bytes()
+        && said.taken.ends_with(message.as_bytes())
+        && said.taken.is_empty() == message.is_empty()
+}
+
+/// Whether a run of the program on a file of the folder ends as the row says.
+fn is_run(
+    rt: &(impl rt::Files + AllocGlobal + Abort),
+    folder: &str,
+    (way, name, output, message, status): Run<'_>,
+) -> io::Result<bool> {
+    let words = words(rt, folder, (way, name))?;
     let mut written = Sink::new(rt.alloc(), WRITTEN_AT_ONCE, SOUND.1);
     let mut said = Sink::new(rt.alloc(), WRITTEN_AT_ONCE, SOUND.2);
     let ending = execute(
@@ -112,16 +143,11 @@ fn run(
         &mut written,
         &mut said,
     );
-    let is_said = said.taken.ends_with(message.as_bytes())
-        && said.taken.is_empty() == message.is_empty();
-    Ok((
-        ending.status,
-        written.taken.as_slice() == output.as_bytes() && is_said,
-    ))
+    let are_written = are_written(written, said, (output, message));
+    Ok(ending.status == status && are_written)
 }
 
-/// A way, the name of a file, the output, the end of the messages, and the status.
-const RUNS: &[(&str, &str, &str, &str, u8)] = &[
+const RUNS: &[Run<'_>] = &[
     ("--first-fit", "a", COUNT_AT_10, "", 0),
     ("--in-place", "none", "", "/none: not found\n", 2),
     ("--in-place", "", "", "/: is a folder\n", 2),
@@ -135,106 +161,129 @@ const RUNS: &[(&str, &str, &str, &str, u8)] = &[
 ];
 
 /// Asserts what comes of the runs.
-fn assert_runs(rt: &(impl rt::Files + AllocGlobal + Abort), folder: &str) -> io::Result<()> {
-    for &(way, name, output, message, status) in RUNS {
-        let (ended, is_told) = run(rt, folder, (way, name), (output, message))?;
-        assert_number(rt, name, usize::from(ended), usize::from(status));
-        assert!(rt; is_told, "{way} {name}");
+fn assert_runs(rt: &(impl rt::Files + AllocGlobal + Abort), folder: &str) {
+    for &row in RUNS {
+        assert_found(rt, row.1, is_run(rt, folder, row));
     }
-    Ok(())
 }
 
 /// What stands in the files after the runs.
 const AFTER: &[(&str, &str)] = &[("a", COUNT_AT_10), ("b", COUNT), ("b.reflow", "old")];
 
 /// Whether the link is one.
-fn is_link(rt: &(impl rt::Files + AllocGlobal), folder: &str) -> io::Result<bool> {
-    let link = path(rt, folder, "link")?;
+fn is_link(rt: &(impl rt::Files + AllocGlobal + Abort), folder: &str) -> io::Result<bool> {
+    let link = path(rt, folder, "link");
     Ok(fs::symlink_metadata(rt, link.as_str())?.is_symlink())
 }
 
-/// How many files there are in the folder.
-fn count_files(rt: &(impl rt::Runtime + AllocGlobal), folder: &str) -> io::Result<usize> {
-    Ok(fs::read_dir(rt, folder)?.count())
+/// Whether there are so many files in the folder.
+fn has_files(rt: &impl rt::Runtime, folder: &str, count: usize) -> io::Result<bool> {
+    Ok(fs::read_dir(rt, folder)?.count() == count)
 }
 
 /// Asserts that one file was replaced, and no other written. The link is still one.
-fn assert_replaced(rt: &(impl rt::Runtime + AllocGlobal + Abort), folder: &str) -> io::Result<()> {
-    for &(name, text) in AFTER {
-        let is_held = holds(rt, folder, name, text)?;
-        assert!(rt; is_held, "{name}");
+fn assert_replaced(rt: &(impl rt::Runtime + AllocGlobal + Abort), folder: &str) {
+    for &file in AFTER {
+        assert_found(rt, file.0, holds(rt, folder, file));
     }
-    let is_link = is_link(rt, folder)?;
-    assert!(rt; is_link);
-    let count = count_files(rt, folder)?;
-    assert_number(rt, "files and links", count, BEFORE.len() + 2);
-    Ok(())
+    assert_found(rt, "the link", is_link(rt, folder));
+    assert_found(
+        rt,
+        "files and links",
+        has_files(rt, folder, BEFORE.len() + 2),
+    );
 }
 
-/// Whether a file that may not be written is left alone, though its folder may be. (The super-user may
-/// write any file.)
-fn is_closed_file_kept(rt: &(impl rt::Files + AllocGlobal), folder: &str) -> io::Result<bool> {
-    let file = path(rt, folder, "closed")?;
-    let may_write = OpenOptions::new()
+/// Whether the tests may write the file `closed`, as the super-user may write any.
+fn may_write(rt: &(impl rt::Files + AllocGlobal + Abort), folder: &str) -> bool {
+    let file = path(rt, folder, "closed");
+    OpenOptions::new()
         .write(true)
         .open(rt, file.as_str())
-        .is_ok();
-    let ended = run(
-        rt,
-        folder,
-        ("--in-place", "closed"),
-        ("", "/closed: may not be written\n"),
-    )?;
-    Ok(may_write || (ended == (2, true) && holds(rt, folder, "closed", COUNT)?))
+        .is_ok()
+}
+
+/// A run on a file that may not be written, though its folder may be.
+const OF_CLOSED: Run<'_> = (
+    "--in-place",
+    "closed",
+    "",
+    "/closed: may not be written\n",
+    2,
+);
+
+/// Asserts that such a file is left alone.
+fn assert_closed_kept(rt: &(impl rt::Files + AllocGlobal + Abort), folder: &str) {
+    if !may_write(rt, folder) {
+        assert_found(rt, "closed", is_run(rt, folder, OF_CLOSED));
+        assert_found(rt, "closed", holds(rt, folder, ("closed", COUNT)));
+    }
+}
+
+/// Whether these are the rights of a file before it is replaced and after.
+fn are_kept(
+    before: io::Result<(u32, u32, u32)>,
+    after: io::Result<(u32, u32, u32)>,
+) -> io::Result<bool> {
+    let before = before?;
+    Ok(before.2 == 0o640 && after? == before)
 }
 
 /// A file is replaced with its owner, its group and its mode, and through a link, and no other file is
 /// written.
-fn assert_files_are_replaced(
-    rt: &(impl rt::Runtime + AllocGlobal + Abort),
-    folder: &str,
-) -> io::Result<()> {
-    make_files(rt, folder)?;
-    make_links(rt, folder)?;
-    give_away(rt, folder)?;
-    let before = rights(rt, folder, "a")?;
-    assert_runs(rt, folder)?;
-    let is_kept = rights(rt, folder, "a")? == before && before.2 == 0o640;
-    assert!(rt; is_kept);
-    let is_closed = is_closed_file_kept(rt, folder)?;
-    assert!(rt; is_closed);
-    assert_replaced(rt, folder)
+fn assert_files_are_replaced(rt: &(impl rt::Runtime + AllocGlobal + Abort), folder: &str) {
+    make_files(rt, folder);
+    assert_done(rt, "link", make_link(rt, folder, ("link", "a")));
+    assert_done(rt, "to_b", make_link(rt, folder, ("to_b", "b")));
+    give_away(rt, folder);
+    let before = rights(rt, folder, "a");
+    assert_runs(rt, folder);
+    let after = rights(rt, folder, "a");
+    assert_found(rt, "the rights", are_kept(before, after));
+    assert_closed_kept(rt, folder);
+    assert_replaced(rt, folder);
 }
 
-/// Makes a draft for a file, writes the text into it and discards it. Returns its mode, and whether
-/// the write says how much it wrote.
-fn drafted(
-    rt: &(impl rt::Files + AllocGlobal),
+/// Whether a draft of so many bytes is its owner's alone.
+fn is_draft(found: io::Result<fs::Metadata>, len: u64) -> io::Result<bool> {
+    let found = found?;
+    Ok(found.mode() & 0o7777 == 0o600 && found.len() == len)
+}
+
+/// Makes a draft for a file, writes the text into it and discards it. Returns whether the draft is its
+/// owner's alone, and the write says how much it wrote.
+fn is_drafted(
+    rt: &(impl rt::Files + AllocGlobal + Abort),
     (file, draft_path): (&str, &str),
     text: &str,
-) -> io::Result<(u32, bool)> {
+) -> io::Result<bool> {
     let mut disk = Disk::new(rt);
     let mut draft = disk.draft(file)?;
-    let count = draft.write(text.as_bytes())?;
-    let found = fs::metadata(rt, draft_path)?;
+    let count = draft.write(text.as_bytes()).expect(rt, "a write");
+    let found = fs::metadata(rt, draft_path);
     disk.discard(file, draft);
-    Ok((found.mode() & 0o7777, found.len() == count as u64))
+    is_draft(found, count as u64)
 }
 
 /// The same for the file `a`, with a long text.
-fn drafted_long(rt: &(impl rt::Files + AllocGlobal), folder: &str) -> io::Result<(u32, bool)> {
-    let (a, beside) = (path(rt, folder, "a")?, path(rt, folder, "a.reflow")?);
-    let text = COUNT.repeat(rt.alloc(), 5_000)?;
-    drafted(rt, (a.as_str(), beside.as_str()), text.as_str())
+fn is_drafted_long(rt: &(impl rt::Files + AllocGlobal + Abort), folder: &str) -> io::Result<bool> {
+    let (a, beside) = (path(rt, folder, "a"), path(rt, folder, "a.reflow"));
+    let text = COUNT.repeat(rt.alloc(), 5_000).expect(rt, "a text");
+    is_drafted(rt, (a.as_str(), beside.as_str()), text.as_str())
+}
+
+/// Puts a folder in the place of a file.
+fn replace_by_folder(rt: &impl rt::Files, file: &str) -> io::Result<()> {
+    fs::remove_file(rt, file)?;
+    fs::create_dir(rt, file)
 }
 
 /// Whether a draft cannot be put in the place of its file, once this is a folder.
-fn is_refused(rt: &(impl rt::Files + AllocGlobal), folder: &str) -> io::Result<bool> {
-    let a = path(rt, folder, "a")?;
+fn is_refused(rt: &(impl rt::Files + AllocGlobal + Abort), folder: &str) -> io::Result<bool> {
+    let a = path(rt, folder, "a");
     let mut disk = Disk::new(rt);
     let draft = disk.draft(a.as_str())?;
-    fs::remove_file(rt, a.as_str())?;
-    fs::create_dir(rt, a.as_str())?;
+    assert_done(rt, "a folder", replace_by_folder(rt, a.as_str()));
     Ok(disk.replace(a.as_str(), draft).is_err())
 }
 
@@ -252,45 +301,34 @@ fn fault_of_folder(rt: &(impl rt::Files + AllocGlobal), folder: &str) -> Option<
 
 /// A draft is its owner's alone, and is gone once it is discarded, or once it cannot be put in the
 /// place of its file. What is no regular file has none.
-fn assert_drafts_are_made_and_removed(
-    rt: &(impl rt::Files + AllocGlobal + Abort),
-    folder: &str,
-) -> io::Result<()> {
-    write(rt, folder, ("a", COUNT, 0o644))?;
-    let (mode, is_counted) = drafted_long(rt, folder)?;
-    assert_number(rt, "the mode of a draft", mode as usize, 0o600);
-    assert!(rt; is_counted);
-    let is_left = is_there(rt, folder, "a.reflow")?;
-    assert!(rt; !is_left, "a draft is left that was discarded");
-    let is_refused = is_refused(rt, folder)?;
-    assert!(rt; is_refused);
-    let is_left = is_there(rt, folder, "a.reflow")?;
-    assert!(rt; !is_left, "a draft is left that was refused");
+fn assert_drafts_are_made_and_removed(rt: &(impl rt::Files + AllocGlobal + Abort), folder: &str) {
+    assert_done(rt, "a file", write(rt, folder, ("a", COUNT, 0o644)));
+    assert_found(rt, "a draft", is_drafted_long(rt, folder));
+    assert_found(rt, "it is discarded", is_gone(rt, folder, "a.reflow"));
+    assert_found(rt, "a draft for a folder", is_refused(rt, folder));
+    assert_found(rt, "it is refused", is_gone(rt, folder, "a.reflow"));
     let fault = fault_of_folder(rt, folder);
-    assert!(rt; fault == Some(ErrorKind::InvalidInput));
-    Ok(())
+    assert_holds(rt, "no draft", fault == Some(ErrorKind::InvalidInput));
 }
 
 /// The path of a new folder of the process of this number.
-fn made_folder(rt: &(impl rt::Runtime + AllocGlobal), process: u32) -> io::Result<String> {
-    let temporary = env::temp_dir(rt)?.into_string();
-    let folder = format!(in rt.alloc(); "{temporary}/reflow-test-{process}")?;
-    fs::create_dir(rt, folder.as_str())?;
-    Ok(folder)
+fn made_folder(rt: &(impl rt::Runtime + AllocGlobal + Abort), process: u32) -> String {
+    let temporary = env::temp_dir(rt).expect(rt, "a folder").into_string();
+    let folder = format!(in rt.alloc(); "{temporary}/reflow-test-{process}").expect(rt, "a path");
+    assert_done(rt, "a folder", fs::create_dir(rt, folder.as_str()));
+    folder
 }
 
 #[test]
-fn files_of_the_file_system_are_replaced(rt: HostRuntime) -> Result<(), Fail> {
-    let folder = made_folder(&rt, process::id(rt.process()))?;
-    let done = assert_files_are_replaced(&rt, folder.as_str());
+fn files_of_the_file_system_are_replaced(rt: HostRuntime) {
+    let folder = made_folder(&rt, process::id(rt.process()));
+    assert_files_are_replaced(&rt, folder.as_str());
     let _removed = fs::remove_dir_all(&rt, folder.as_str());
-    Ok(done?)
 }
 
 #[test]
-fn drafts_are_made_and_removed(rt: HostRuntime) -> Result<(), Fail> {
-    let folder = made_folder(&rt, process::id(rt.process()))?;
-    let done = assert_drafts_are_made_and_removed(&rt, folder.as_str());
+fn drafts_are_made_and_removed(rt: HostRuntime) {
+    let folder = made_folder(&rt, process::id(rt.process()));
+    assert_drafts_are_made_and_removed(&rt, folder.as_str());
     let _removed = fs::remove_dir_all(&rt, folder.as_str());
-    Ok(done?)
 }

@@ -1,5 +1,6 @@
 //! What becomes of texts in which marks stand before the words. Each row has the kind of text that it
 //! shows.
+use super::plain::assert_gives;
 use std::process::Abort;
 use textwrap_lines::LineEnding;
 use textwrap_marked::{Algorithm, ReflowOptions, reflow};
@@ -234,10 +235,7 @@ fn assert_becomes(
     text: &str,
     wanted: &str,
 ) {
-    match reflow(rt.alloc(), text, options) {
-        Ok(found) => assert!(rt; found.as_str() == wanted, "{kind}: {found:?}"),
-        Err(_) => assert!(rt; false, "{kind}"),
-    }
+    assert_gives(rt, kind, reflow(rt.alloc(), text, options), wanted);
 }
 
 /// Each kind of text is filled by its marks, and what is no running text stays.
@@ -367,18 +365,23 @@ fn what_is_declared_counts(rt: HostRuntime) {
 /// How many paragraphs the large text has.
 const MANY: usize = 2_000;
 
+/// Asserts what becomes of the large text, as often.
+fn assert_large_becomes(
+    rt: &(impl Abort + AllocGlobal),
+    options: &ReflowOptions<'_>,
+    paragraph: &str,
+) {
+    let text = "> one two three four\n> five\n\n"
+        .repeat(rt.alloc(), MANY)
+        .expect(rt, "text");
+    let wanted = paragraph.repeat(rt.alloc(), MANY).expect(rt, "text");
+    assert_becomes(rt, paragraph, options, &text, &wanted);
+}
+
 /// A large text is filled paragraph by paragraph.
 #[test]
 fn a_large_text_is_filled(rt: HostRuntime) {
-    let text = "> one two three four\n> five\n\n"
-        .repeat(rt.alloc(), MANY)
-        .expect(&rt, "text");
-    let wanted = "> one two three\n> four five\n\n"
-        .repeat(rt.alloc(), MANY)
-        .expect(&rt, "text");
-    let justified = "> one  two three\n> four five\n\n"
-        .repeat(rt.alloc(), MANY)
-        .expect(&rt, "text");
-    assert_becomes(&rt, "large", &ReflowOptions::new(16), &text, &wanted);
-    assert_becomes(&rt, "large, justified", &JUSTIFIED, &text, &justified);
+    let options = ReflowOptions::new(16);
+    assert_large_becomes(&rt, &options, "> one two three\n> four five\n\n");
+    assert_large_becomes(&rt, &JUSTIFIED, "> one  two three\n> four five\n\n");
 }

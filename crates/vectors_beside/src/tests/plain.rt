@@ -63,6 +63,11 @@ pub fn assert_holds(rt: &impl Abort, rule: &str, holds: bool) {
     assert!(rt; holds, "{rule}");
 }
 
+/// Asserts that a call did not fail, and that what it found holds.
+pub fn assert_found<E: Drop>(rt: &impl Abort, rule: &str, found: Result<bool, E>) {
+    assert_holds(rt, rule, matches!(found, Ok(true)));
+}
+
 /// Asserts that there are so many, of whatever is counted.
 pub fn assert_count(rt: &impl Abort, rule: &str, count: usize, wanted: usize) {
     assert!(rt; count == wanted, "{rule}: {count} and not {wanted}");

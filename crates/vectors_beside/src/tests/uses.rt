@@ -155,10 +155,18 @@ fn assert_hung(rt: &impl Abort, rule: &str, rows: &[&[Picture]], wanted: &[usize
 
 #[test]
 fn pictures_fill_rows(rt: HostRuntime) {
-    let rows = hung_rows(rt.alloc(), PICTURES, 150).expect(&rt, "rows");
-    assert_hung(&rt, "rows", &rows, &[2, 2]);
-    let rows = few_rows(rt.alloc(), PICTURES, 150).expect(&rt, "few rows");
-    assert_hung(&rt, "few rows", &rows, &[2, 2]);
+    assert_hung(
+        &rt,
+        "rows",
+        &hung_rows(rt.alloc(), PICTURES, 150).expect(&rt, "rows"),
+        &[2, 2],
+    );
+    assert_hung(
+        &rt,
+        "few rows",
+        &few_rows(rt.alloc(), PICTURES, 150).expect(&rt, "few rows"),
+        &[2, 2],
+    );
 }
 
 /// A caller that gives the lines of a text, each a part of it.
@@ -229,21 +237,20 @@ const LISTED: &[(&str, usize, &[&str])] = &[
     ("one\ntwo three", 5, &["one", "two", "three"]),
 ];
 
-/// Whether the words of a text are listed so.
-fn is_listed(alloc: Global, text: &str, width: usize, wanted: &[&str]) -> Result<bool, WrapError> {
-    let lines = listed_lines(alloc, text, width)?;
+/// Whether lines are these.
+fn are_lines(lines: &[CowStr<'_>], wanted: &[&str]) -> bool {
     for (line, wanted) in lines.iter().zip(wanted) {
         if line.as_str() != *wanted {
-            return Ok(false);
+            return false;
         }
     }
-    Ok(lines.len() == wanted.len())
+    lines.len() == wanted.len()
 }
 
 #[test]
 fn words_are_listed(rt: HostRuntime) {
     for &(text, width, wanted) in LISTED {
-        let is_listed = is_listed(rt.alloc(), text, width, wanted).expect(&rt, text);
-        assert_holds(&rt, text, is_listed);
+        let lines = listed_lines(rt.alloc(), text, width).expect(&rt, text);
+        assert_holds(&rt, text, are_lines(&lines, wanted));
     }
 }

@@ -345,19 +345,16 @@ fn a_large_text_is_measured(rt: HostRuntime) {
     assert_told(&rt, 1, told_known_width(&text), (DONE, LEN - LINES));
 }
 
-/// The status, and whether a text is then this one.
-fn is_filled_as(alloc: Global, text: &str, filled: &str) -> Result<(u32, bool), AllocError> {
-    let mut bytes = Vec::from_slice(alloc, text.as_bytes())?;
+/// The status, and whether the text is then filled.
+fn is_filled_in_place(alloc: Global) -> Result<(u32, bool), AllocError> {
+    let mut bytes = LINE.repeat(alloc, LINES)?.into_bytes();
+    let filled = "foo bar\nbaz\n".repeat(alloc, LINES)?;
     let status = textwrap_fill_inplace(alloc, &mut bytes, 7);
     Ok((status, bytes.as_slice() == filled.as_bytes()))
 }
 
 #[test]
 fn a_large_text_is_filled_in_place(rt: HostRuntime) {
-    let text = LINE.repeat(rt.alloc(), LINES).expect(&rt, "text");
-    let filled = "foo bar\nbaz\n"
-        .repeat(rt.alloc(), LINES)
-        .expect(&rt, "filled");
-    let found = is_filled_as(rt.alloc(), &text, &filled).expect(&rt, "bytes");
+    let found = is_filled_in_place(rt.alloc()).expect(&rt, "bytes");
     assert_holds(&rt, 0, found == (DONE, true));
 }

@@ -1,5 +1,5 @@
 //! The examples that others document, and what they become here.
-use super::super::plain::{assert_count, assert_holds};
+use super::super::plain::{assert_count, assert_found};
 use super::Change::Shortened;
 use super::assert_changed;
 use super::styles::assert_wrapped_and_carried;
@@ -68,11 +68,7 @@ fn is_same_shown(alloc: Global, line: &str, other: &str) -> Result<bool, AllocEr
 /// Asserts that lines show the same texts as others.
 fn assert_same_shown(rt: &(impl Abort + AllocGlobal), lines: &[&str], others: &[&str]) {
     for (line, other) in lines.iter().zip(others) {
-        assert_holds(
-            rt,
-            line,
-            is_same_shown(rt.alloc(), line, other).expect(rt, line),
-        );
+        assert_found(rt, line, is_same_shown(rt.alloc(), line, other));
     }
     assert_count(rt, "lines", lines.len(), others.len());
 }

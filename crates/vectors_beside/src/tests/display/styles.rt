@@ -127,17 +127,26 @@ fn lines<A: Allocator + Copy>(
     Ok(lines)
 }
 
+/// The lines with what is open at the end of each carried behind the indent of the next.
+fn carried_behind<'l>(
+    alloc: Global,
+    lines: &'l [CowStr<'_>],
+    [initial, later]: [&str; 2],
+) -> Result<Vec<CowStr<'l>>, AllocError> {
+    let options = plain_options(0, initial, later, WrapAlgorithm::FirstFit);
+    plain_carry_styles(alloc, lines, &options)
+}
+
 /// Asserts what lines with these indents become, of which as few are copied as change.
 fn assert_carried(
     rt: &(impl Abort + AllocGlobal),
     rule: &str,
-    [initial, later]: [&str; 2],
+    indents: [&str; 2],
     texts: &[&'static str],
     wanted: &[&str],
 ) {
     let lines = lines(rt.alloc(), texts).expect(rt, rule);
-    let options = plain_options(0, initial, later, WrapAlgorithm::FirstFit);
-    let carried = plain_carry_styles(rt.alloc(), &lines, &options).expect(rt, rule);
+    let carried = carried_behind(rt.alloc(), &lines, indents).expect(rt, rule);
     assert_lines(rt, rule, &lines, &carried, wanted);
 }
 
@@ -157,8 +166,8 @@ pub fn assert_wrapped_and_carried(
     wanted: &[&str],
 ) {
     let options = plain_options(width, initial, later, WrapAlgorithm::FirstFit);
-    let lines = plain_wrap(rt.alloc(), text, Options::from(&options)).expect(rt, text);
-    let carried = plain_carry_styles(rt.alloc(), &lines, &options).expect(rt, text);
+    let lines = plain_wrap(rt.alloc(), text, options).expect(rt, text);
+    let carried = carried_behind(rt.alloc(), &lines, [initial, later]).expect(rt, text);
     assert_lines(rt, text, &lines, &carried, wanted);
 }
 

@@ -1,5 +1,5 @@
 //! Texts in the columns of a table.
-use super::super::plain::{assert_count, assert_gives_texts, assert_text};
+use super::super::plain::{assert_count, assert_gives_texts, assert_holds, assert_text};
 use Alignment::{Centre, Left, Right};
 use fakes::heap::Heap;
 use std::alloc::{Allocator, Global};
@@ -167,12 +167,12 @@ const TWO_COLUMNS: &[(usize, Alignment)] = &[(1, Left), (1, Left)];
 #[test]
 fn a_high_row_is_made(rt: HostRuntime) {
     let text = "a\n".repeat(rt.alloc(), 20_000).expect(&rt, "text");
-    let rows = rows_of(rt.alloc(), TWO_COLUMNS, &[&text, "b"], &BARS).expect(&rt, "rows");
-    assert_high_row(&rt, &rows);
+    assert_high_row(&rt, rows_of(rt.alloc(), TWO_COLUMNS, &[&text, "b"], &BARS));
 }
 
 /// Asserts that the first row has both texts, the last none, and each other the left one.
-fn assert_high_row(rt: &impl Abort, rows: &[String]) {
+fn assert_high_row(rt: &impl Abort, rows: Result<Vec<String>, WrapError>) {
+    let rows = rows.expect(rt, "rows");
     assert_count(rt, "rows", rows.len(), 20_001);
     for (r, row) in rows.iter().enumerate() {
         let wanted = match r {
@@ -227,8 +227,7 @@ fn is_refused(alloc: Global, shapes: &[(usize, Alignment)]) -> bool {
 #[test]
 fn limits_are_told(rt: HostRuntime) {
     for shapes in TOO_WIDE {
-        let is_told = is_refused(rt.alloc(), shapes);
-        assert!(rt; is_told, "{shapes:?}");
+        assert_holds(&rt, "out of memory", is_refused(rt.alloc(), shapes));
     }
 }
 

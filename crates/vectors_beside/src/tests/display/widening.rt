@@ -103,6 +103,13 @@ const LONG: &[LongRow] = &[
     ("gaps of 5,000 blanks", Justified, ("a ", 10), 45_011, 45_011, "a  ", "  a "),
 ];
 
+/// Asserts how long a line is, and how it begins and ends.
+fn assert_spans(rt: &impl Abort, rule: &str, line: &str, (len, start, end): (usize, &str, &str)) {
+    assert_count(rt, rule, line.len(), len);
+    assert_holds(rt, rule, line.starts_with(start));
+    assert_holds(rt, rule, line.ends_with(end));
+}
+
 /// Asserts what a line of so many parts becomes.
 fn assert_long(
     rt: &(impl Abort + AllocGlobal),
@@ -110,9 +117,7 @@ fn assert_long(
 ) {
     let line = part.repeat(rt.alloc(), times).expect(rt, rule);
     let found = changed(rt.alloc(), change, &line, width).expect(rt, rule);
-    assert_count(rt, rule, found.len(), len);
-    assert_holds(rt, rule, found.starts_with(start));
-    assert_holds(rt, rule, found.ends_with(end));
+    assert_spans(rt, rule, found.as_str(), (len, start, end));
 }
 
 #[test]

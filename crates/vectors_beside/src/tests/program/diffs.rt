@@ -3,8 +3,7 @@
 use super::super::plain::assert_holds;
 use super::folder::{FileFault, Given};
 use super::plain::{
-    Start, assert_bytes, assert_ending, assert_left, assert_number, assert_reflowed, assert_spans,
-    run,
+    Start, assert_bytes, assert_number, assert_reflowed, assert_spans, assert_whole_run, run,
 };
 use fakes::heap::Heap;
 use fakes::streams::{Feed, FeedFault, SinkFault};
@@ -122,11 +121,9 @@ fn assert_run(rt: &(impl Abort + AllocGlobal), row: &Run) {
         files: FILES,
         faults: (FeedFault::Nothing, fault, SinkFault::Nothing),
     };
-    let left = run(rt, rule, start);
     let output = format!(in rt.alloc(); "{first}{second}").expect(rt, rule);
-    assert_left(rt, rule, &left, (output.as_bytes(), messages.as_bytes()));
-    assert_ending(rt, rule, left.ending, status, true);
-    assert_number(rt, rule, left.folder.replaced, 0);
+    let written = (output.as_bytes(), messages.as_bytes());
+    assert_whole_run(rt, rule, &run(rt, rule, start), written, (status, true));
 }
 
 #[test]

@@ -1,5 +1,5 @@
 //! Files of the file system, in a folder of their own.
-use super::super::plain::assert_holds;
+use super::super::plain::{assert_found, assert_holds};
 use super::folder::WRITTEN_AT_ONCE;
 use super::plain::{SOUND, strings};
 use fakes::streams::{Sink, SinkFault};
@@ -20,11 +20,6 @@ const COUNT_AT_10: &str = "one two\nthree four\n";
 /// Asserts that something was done without a fault of the file system.
 fn assert_done(rt: &impl Abort, rule: &str, done: io::Result<()>) {
     assert_holds(rt, rule, done.is_ok());
-}
-
-/// Asserts that something was found without a fault of the file system, and that it holds.
-fn assert_found(rt: &impl Abort, rule: &str, found: io::Result<bool>) {
-    assert_holds(rt, rule, matches!(found, Ok(true)));
 }
 
 /// The path of a file in the folder, for which there has to be memory.

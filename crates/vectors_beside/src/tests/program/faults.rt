@@ -1,8 +1,6 @@
 //! Reads and writes of the standard streams that fail, and texts that come and go in pieces.
 use super::folder::{FileFault, Given};
-use super::plain::{
-    Faults, SOUND, Start, assert_ending, assert_left, assert_number, assert_reflowed, run,
-};
+use super::plain::{Faults, SOUND, Start, assert_reflowed, assert_whole_run, run};
 use fakes::streams::{FeedFault, SinkFault};
 use std::io::ErrorKind;
 use std::process::Abort;
@@ -266,11 +264,9 @@ fn assert_fault_run(rt: &(impl Abort + AllocGlobal), row: &FaultRun) {
         files: FILES,
         faults,
     };
-    let left = run(rt, rule, start);
-    assert_left(rt, rule, &left, (output.as_bytes(), messages.as_bytes()));
     let said = matches!(faults.2, SinkFault::Nothing);
-    assert_ending(rt, rule, left.ending, status, said);
-    assert_number(rt, rule, left.folder.replaced, 0);
+    let written = (output.as_bytes(), messages.as_bytes());
+    assert_whole_run(rt, rule, &run(rt, rule, start), written, (status, said));
 }
 
 #[test]

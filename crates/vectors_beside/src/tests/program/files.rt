@@ -1,6 +1,8 @@
 //! What becomes of files, one after another.
 use super::folder::{FileFault, Folder, Given};
-use super::plain::{SOUND, Start, assert_bytes, assert_left, assert_number, assert_unread, run};
+use super::plain::{
+    Left, SOUND, Start, assert_bytes, assert_left, assert_number, assert_unread, run,
+};
 use fakes::streams::{FeedFault, SinkFault};
 use std::io::ErrorKind;
 use std::process::Abort;
@@ -346,6 +348,14 @@ fn assert_folder(rt: &impl Abort, row: &FileRun, folder: &Folder) {
     assert_number(rt, row.rule, folder.drafts, 0);
 }
 
+/// Asserts what a run left behind, and how it ended.
+fn assert_row_left(rt: &impl Abort, row: &FileRun, left: &Left) {
+    let written = (row.output.as_bytes(), row.messages.as_bytes());
+    assert_left(rt, row.rule, left, written);
+    assert_unread(rt, row.rule, left, row.status);
+    assert_folder(rt, row, &left.folder);
+}
+
 /// Asserts what comes of a run over files, and that it does not read the standard input.
 fn assert_file_run(rt: &(impl Abort + AllocGlobal), row: &FileRun) {
     let start = Start {
@@ -354,15 +364,7 @@ fn assert_file_run(rt: &(impl Abort + AllocGlobal), row: &FileRun) {
         files: row.files,
         faults: SOUND,
     };
-    let left = run(rt, row.rule, start);
-    assert_left(
-        rt,
-        row.rule,
-        &left,
-        (row.output.as_bytes(), row.messages.as_bytes()),
-    );
-    assert_unread(rt, row.rule, &left, row.status);
-    assert_folder(rt, row, &left.folder);
+    assert_row_left(rt, row, &run(rt, row.rule, start));
 }
 
 #[test]

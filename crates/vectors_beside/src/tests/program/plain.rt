@@ -94,6 +94,19 @@ pub fn assert_left(rt: &impl Abort, rule: &str, left: &Left, (output, messages):
     assert_bytes(rt, rule, &left.messages.taken, messages);
 }
 
+/// Asserts the same, that no file was replaced, and how the run ended.
+pub fn assert_whole_run(
+    rt: &impl Abort,
+    rule: &str,
+    left: &Left,
+    written: (&[u8], &[u8]),
+    (status, said): (u8, bool),
+) {
+    assert_left(rt, rule, left, written);
+    assert_ending(rt, rule, left.ending, status, said);
+    assert_number(rt, rule, left.folder.replaced, 0);
+}
+
 /// Asserts that a run read no input, and how it ended. Each message was written whole.
 pub fn assert_unread(rt: &impl Abort, rule: &str, left: &Left, status: u8) {
     assert_number(rt, rule, left.reader.reads, 0);
@@ -115,6 +128,5 @@ pub fn assert_reflowed(
         faults: SOUND,
     };
     let left = run(rt, rule, start);
-    assert_left(rt, rule, &left, (output.as_bytes(), b""));
-    assert_ending(rt, rule, left.ending, 0, true);
+    assert_whole_run(rt, rule, &left, (output.as_bytes(), b""), (0, true));
 }

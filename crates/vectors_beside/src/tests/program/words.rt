@@ -1,5 +1,7 @@
 //! What the words after the program's name mean, seen by what is done with the standard input.
-use super::plain::{SOUND, Start, assert_bytes, assert_reflowed, assert_spans, assert_unread, run};
+use super::plain::{
+    Left, SOUND, Start, assert_bytes, assert_reflowed, assert_spans, assert_unread, run,
+};
 use fakes::streams::{FeedFault, SinkFault};
 use reflow_program::arguments::{HELP, VERSION, matches_in};
 use std::alloc::{AllocError, Global};
@@ -357,6 +359,13 @@ const REFUSED: &[Refused] = &[
     ),
 ];
 
+/// Asserts that a run read and wrote nothing, and how its message begins and ends.
+fn assert_no_request(rt: &impl Abort, rule: &str, left: &Left, (first, last): (&str, &str)) {
+    assert_unread(rt, rule, left, 2);
+    assert_spans(rt, rule, &left.messages.taken, first, last);
+    assert_bytes(rt, rule, &left.output.taken, b"");
+}
+
 /// Asserts that words are no request, and how the message begins and ends.
 fn assert_refused(rt: &(impl Abort + AllocGlobal), row: &Refused) {
     let &(rule, words, first, last) = row;
@@ -366,10 +375,7 @@ fn assert_refused(rt: &(impl Abort + AllocGlobal), row: &Refused) {
         files: &[],
         faults: SOUND,
     };
-    let left = run(rt, rule, start);
-    assert_unread(rt, rule, &left, 2);
-    assert_spans(rt, rule, &left.messages.taken, first, last);
-    assert_bytes(rt, rule, &left.output.taken, b"");
+    assert_no_request(rt, rule, &run(rt, rule, start), (first, last));
 }
 
 #[test]
@@ -398,6 +404,15 @@ const SHOWING_FAULTS: &[(SinkFault, &[u8], u8)] = &[
     (SinkFault::FlushFails, b"reflow: cannot write\n", 2),
 ];
 
+/// Asserts that a run read nothing, what it said, and what it answered if it could be written.
+fn assert_answer(rt: &impl Abort, answer: &str, left: &Left, (message, status): (&[u8], u8)) {
+    assert_unread(rt, answer, left, status);
+    assert_bytes(rt, answer, &left.messages.taken, message);
+    if status == 0 {
+        assert_bytes(rt, answer, &left.output.taken, answer.as_bytes());
+    }
+}
+
 /// Asserts what the answer is, and what is said where it cannot be written.
 fn assert_shown(
     rt: &(impl Abort + AllocGlobal),
@@ -410,12 +425,7 @@ fn assert_shown(
         files: &[],
         faults: (FeedFault::Nothing, fault, SinkFault::Nothing),
     };
-    let left = run(rt, answer, start);
-    assert_unread(rt, answer, &left, status);
-    assert_bytes(rt, answer, &left.messages.taken, message);
-    if status == 0 {
-        assert_bytes(rt, answer, &left.output.taken, answer.as_bytes());
-    }
+    assert_answer(rt, answer, &run(rt, answer, start), (message, status));
 }
 
 /// The answer goes to the output, and if that fails, a message says so.

@@ -1,5 +1,5 @@
 //! Words that are hyphenated by a dictionary.
-use super::super::plain::assert_holds;
+use super::super::plain::assert_found;
 use std::alloc::{AllocError, Global};
 use textwrap_lines::placed::Place;
 use textwrap_uses::hyphens::{Entry, HyphenError, hyphenated_lines};
@@ -72,7 +72,7 @@ fn is_hyphenated(
 fn words_are_hyphenated_by_a_dictionary(rt: HostRuntime) {
     for &(paragraph, width, expected) in HYPHENATED {
         let is_right = is_hyphenated(rt.alloc(), paragraph, DICTIONARY, width, expected);
-        assert_holds(&rt, paragraph, is_right.expect(&rt, paragraph));
+        assert_found(&rt, paragraph, is_right);
     }
 }
 
@@ -99,8 +99,7 @@ fn is_refused(alloc: Global, dictionary: &[Entry<'_>]) -> Result<bool, HyphenErr
 #[test]
 fn wrong_points_of_a_word_are_refused(rt: HostRuntime) {
     for &(word, points) in WRONG {
-        let is_refused = is_refused(rt.alloc(), &[Entry { word, points }]).expect(&rt, word);
-        assert!(rt; is_refused, "{points:?}");
+        assert_found(&rt, word, is_refused(rt.alloc(), &[Entry { word, points }]));
     }
 }
 
@@ -120,5 +119,5 @@ fn a_long_paragraph_is_hyphenated(rt: HostRuntime) {
         .expect(&rt, "text");
     let expected = many_lines(rt.alloc(), 1000).expect(&rt, "lines");
     let is_right = is_hyphenated(rt.alloc(), &paragraph, DICTIONARY, 10, &expected);
-    assert_holds(&rt, "long", is_right.expect(&rt, "memory"));
+    assert_found(&rt, "long", is_right);
 }

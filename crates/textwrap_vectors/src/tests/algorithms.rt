@@ -45,16 +45,11 @@ const DIVIDED_TEXTS: &[DividedTexts<'_>] = &[
 /// `WrapAlgorithm::wrap` divides words by first fit, or at the least cost.
 #[test]
 fn algorithms_divide_words(rt: HostRuntime) {
+    let alloc = rt.alloc();
     for &(texts, line_widths, least, first) in DIVIDED_TEXTS {
-        let divided = divides(rt.alloc(), WrapAlgorithm::new(), texts, line_widths, least);
+        let divided = divides(alloc, WrapAlgorithm::new(), texts, line_widths, least);
         assert_found(&rt, texts, divided);
-        let divided = divides(
-            rt.alloc(),
-            WrapAlgorithm::FirstFit,
-            texts,
-            line_widths,
-            first,
-        );
+        let divided = divides(alloc, WrapAlgorithm::FirstFit, texts, line_widths, first);
         assert_found(&rt, texts, divided);
     }
 }
@@ -198,23 +193,30 @@ const WIDEST: Word<'_> = Word {
     width: MAX,
 };
 
+const TWO_WIDEST: [Word<'_>; 2] = [WIDEST; 2];
+
 /// Words that are too wide for the costs are refused at the least cost alone: first fit has none.
 #[test]
 fn words_too_wide_for_128_bits_are_refused_by_cost_alone(rt: HostRuntime) {
-    let words = [WIDEST, WIDEST];
     let strict = WrapAlgorithm::OptimalFit(STRICT);
-    let refused = plain_divide(rt.alloc(), strict, &words, &[0]);
-    assert!(rt; matches!(refused, Err(WrapError::Overflow(_))));
-    assert_divided(&rt, WrapAlgorithm::FirstFit, [WIDEST, WIDEST], 0, &[1, 1]);
+    let refused = matches!(
+        plain_divide(rt.alloc(), strict, &TWO_WIDEST, &[0]),
+        Err(WrapError::Overflow(_))
+    );
+    assert!(rt; refused);
+    assert_divided(&rt, WrapAlgorithm::FirstFit, TWO_WIDEST, 0, &[1, 1]);
 }
 
 /// Equal are first fit to itself, and optimal fit to itself at equal penalties.
 #[test]
 fn algorithms_are_equal_by_their_penalties(rt: HostRuntime) {
     let optimal = WrapAlgorithm::OptimalFit(Penalties::new());
-    assert!(rt; optimal == WrapAlgorithm::new());
-    assert!(rt; WrapAlgorithm::default() == WrapAlgorithm::new_optimal_fit());
-    assert!(rt; WrapAlgorithm::OptimalFit(STRICT) != optimal);
-    assert!(rt; WrapAlgorithm::FirstFit != optimal);
-    assert!(rt; WrapAlgorithm::FirstFit == WrapAlgorithm::FirstFit);
+    let are_right = [
+        optimal == WrapAlgorithm::new(),
+        WrapAlgorithm::default() == WrapAlgorithm::new_optimal_fit(),
+        WrapAlgorithm::FirstFit == WrapAlgorithm::FirstFit,
+        WrapAlgorithm::OptimalFit(STRICT) != optimal,
+        WrapAlgorithm::FirstFit != optimal,
+    ];
+    assert!(rt; are_right == [true; 5]);
 }

@@ -2,6 +2,7 @@
 use super::given::{assert_found, assert_row, has_lens, has_minima};
 use super::minima::{LIMIT, all_penalties, assert_agreed, drawn_blocks, least_cost};
 use super::plain::{plain_is_queue_case, plain_optimal_fit, plain_table};
+use super::texts::PENALTIES;
 use crate::Card;
 use std::alloc::{AllocError, Global};
 use std::process::Abort;
@@ -9,15 +10,13 @@ use textwrap::WrapError;
 use textwrap::words::Fragment;
 use textwrap::wrap_algorithms::Penalties;
 
-/// A card of this width, with a space of 1 after it, and its break penalty.
-fn card(width: usize, keep: usize) -> Card {
-    Card {
-        width,
-        whitespace: 1,
-        penalty: 0,
-        keep,
-    }
-}
+/// A card with a space after it, of which a break costs nothing.
+const FREE: Card = Card {
+    width: 4,
+    whitespace: 1,
+    penalty: 0,
+    keep: 0,
+};
 
 const VERSES: &[(usize, &[usize], u128, bool)] = &[
     (0, &[2, 1], 2000, true),
@@ -33,13 +32,12 @@ const VERSES: &[(usize, &[usize], u128, bool)] = &[
 /// division; at a tie the last row begins earlier. A break penalty above 2^62 is no queue case.
 #[test]
 fn a_dear_break_keeps_two_cards_together(rt: HostRuntime) {
-    let penalties = Penalties::new();
     for &(keep, lens, cost, is_case) in VERSES {
-        let cards = [card(4, 0), card(4, keep), card(4, 0)];
-        let lines = plain_optimal_fit(rt.alloc(), &cards, &[9], &penalties);
+        let cards = [FREE, Card { keep, ..FREE }, FREE];
+        let lines = plain_optimal_fit(rt.alloc(), &cards, &[9], &PENALTIES);
         assert_found(&rt, keep, has_lens(lines, lens));
-        let least = least_cost(&rt, &cards, 9, &penalties);
-        let case = plain_is_queue_case(&cards, &[9], &penalties);
+        let least = least_cost(&rt, &cards, 9, &PENALTIES);
+        let case = plain_is_queue_case(&cards, &[9], &PENALTIES);
         assert_row(&rt, keep, least == Some(cost) && case == is_case);
     }
 }
@@ -55,12 +53,13 @@ const GREATEST: Card = Card {
 /// With all numbers at their greatest, one card costs 2^128 - 1 and two on one line less than that.
 #[test]
 fn the_greatest_break_penalties_fit(rt: HostRuntime) {
+    let alloc = rt.alloc();
     let penalties = all_penalties(usize::MAX);
     let cards = [GREATEST; 2];
-    let (minima, _asked) = plain_table(rt.alloc(), &cards, &[usize::MAX], &penalties);
+    let (minima, _asked) = plain_table(alloc, &cards, &[usize::MAX], &penalties);
     let expected = [(0, 0), (0, u128::MAX), (0, 36_893_488_147_419_103_230)];
     assert_found(&rt, "cards", has_minima(minima, &expected));
-    let lines = plain_optimal_fit(rt.alloc(), &cards, &[usize::MAX], &penalties);
+    let lines = plain_optimal_fit(alloc, &cards, &[usize::MAX], &penalties);
     assert_found(&rt, "cards", has_lens(lines, &[2]));
     assert!(rt; !plain_is_queue_case(&cards, &[usize::MAX], &penalties));
 }
@@ -133,7 +132,7 @@ fn a_break_penalty_may_come_from_the_penalties(rt: HostRuntime) {
         let penalties = Penalties {
             nline_penalty: *nline_penalty,
             short_last_line_penalty: 0,
-            ..Penalties::new()
+            ..PENALTIES
         };
         let least = least_cost(&rt, &POEM, 10, &penalties);
         assert_row(&rt, *nline_penalty, least == Some(*cost));
@@ -175,7 +174,7 @@ fn assert_agreed_on_cards(
 fn the_search_agrees_with_the_table_on_cards(rt: HostRuntime) {
     for count in [1, 2, 5, 40] {
         for mask in [0, 1, 31, 1023] {
-            assert_agreed_on_cards(&rt, count, mask, &Penalties::new());
+            assert_agreed_on_cards(&rt, count, mask, &PENALTIES);
             assert_agreed_on_cards(&rt, count, mask, &all_penalties(0));
         }
     }

@@ -32,29 +32,32 @@ const CHARACTERS_AS_WORDS: &[(&str, usize, &str, &[usize], &[&str])] = &[
 /// A text of one character is one word, which may be cut at all offsets of its visible text.
 #[test]
 fn a_single_character_is_one_word(rt: HostRuntime) {
+    let alloc = rt.alloc();
     for &(text, columns, visible, offsets, _) in CHARACTERS_AS_WORDS {
         assert_row(&rt, text, plain_width(text) == columns);
         assert_gives(&rt, Strip, text, visible);
-        let words = plain_find_words(rt.alloc(), rt.alloc(), WordSeparator::new(), text);
+        let words = plain_find_words(alloc, alloc, WordSeparator::new(), text);
         assert_found(&rt, text, has_words(words, &[text]));
-        let words = plain_find_words_at(&rt, rt.alloc(), text, offsets);
+        let words = plain_find_words_at(&rt, alloc, text, offsets);
         assert_found(&rt, text, has_words(words, &[text]));
     }
 }
 
 /// Asserts that a splitter does not split the word of a text.
 fn assert_unsplit(rt: &(impl Abort + AllocGlobal), text: &str, splitter: WordSplitter) {
-    let points = plain_points(rt.alloc(), &splitter, text);
+    let alloc = rt.alloc();
+    let points = plain_points(alloc, &splitter, text);
     assert_found(rt, text, has_numbers(points, &[]));
-    let pieces = plain_split(rt.alloc(), &[Word::from(text)], &splitter);
+    let pieces = plain_split(alloc, &[Word::from(text)], &splitter);
     assert_found(rt, text, has_words(pieces, &[text]));
 }
 
 /// Asserts that a text is broken into these pieces at the limit, and that its word is kept.
 fn assert_kept(rt: &(impl Abort + AllocGlobal), text: &str, line_width: usize, broken: &[&str]) {
-    let pieces = plain_break_apart(rt.alloc(), Word::from(text), line_width);
+    let alloc = rt.alloc();
+    let pieces = plain_break_apart(alloc, Word::from(text), line_width);
     assert_found(rt, text, has_words(pieces, broken));
-    let pieces = plain_break(rt.alloc(), &[Word::from(text)], line_width);
+    let pieces = plain_break(alloc, &[Word::from(text)], line_width);
     assert_found(rt, text, has_words(pieces, &[text]));
 }
 

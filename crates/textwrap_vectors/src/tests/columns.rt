@@ -66,14 +66,15 @@ const WITHOUT_LINES: &[(usize, usize)] = &[(1, 0), (1, MAX), (MAX - 1, 1), (MAX,
 /// A text without lines has no rows, however many columns there are and however wide they are.
 #[test]
 fn a_text_without_lines_has_no_rows(rt: HostRuntime) {
-    let nowhere = WrapAlgorithm::Custom(LineEnds::new(rt.alloc(), end_nowhere));
+    let alloc = rt.alloc();
+    let nowhere = WrapAlgorithm::Custom(LineEnds::new(alloc, end_nowhere));
     for &(columns, width) in WITHOUT_LINES {
         let options = Options {
             initial_indent: "> ",
             wrap_algorithm: nowhere,
             ..options_of(width, &OPTIMAL_FIT)
         };
-        let rows = plain_columns(rt.alloc(), "foo", columns, options, ["<", "xx", ">"]);
+        let rows = plain_columns(alloc, "foo", columns, options, ["<", "xx", ">"]);
         assert_found(&rt, (columns, width), has_rows(rows, ""));
     }
 }

@@ -114,9 +114,10 @@ fn are_pieces(pieces: &[Word<'_>], expected: &[(&str, &str)]) -> bool {
 /// word has none.
 #[test]
 fn a_word_is_split_where_the_function_says(rt: HostRuntime) {
-    let splitter = WordSplitter::Custom(WordCuts::new(rt.alloc(), split_in_middle));
+    let alloc = rt.alloc();
+    let splitter = WordSplitter::Custom(WordCuts::new(alloc, split_in_middle));
     let words = [Word::from("fo-bar"), Word::from("foobar  ")];
-    let pieces = plain_split(rt.alloc(), &words, &splitter).expect(&rt, "pieces");
+    let pieces = plain_split(alloc, &words, &splitter).expect(&rt, "pieces");
     assert_row(&rt, "foobar", are_pieces(&pieces, SPLIT_IN_MIDDLE));
 }
 
@@ -129,10 +130,11 @@ const HYPHENED: Rows<'_> = &[
 /// A line that ends at a point of the caller shows the hyphen, and is no slice of the text then.
 #[test]
 fn a_split_word_has_a_hyphen_at_the_end_of_its_line(rt: HostRuntime) {
-    let in_middle = WordCuts::new(rt.alloc(), split_in_middle);
+    let alloc = rt.alloc();
+    let in_middle = WordCuts::new(alloc, split_in_middle);
     for &(text, width, expected) in HYPHENED {
         let options = split_at(width, &OPTIMAL_FIT, in_middle);
-        assert_found(&rt, text, wraps(rt.alloc(), text, options, expected));
+        assert_found(&rt, text, wraps(alloc, text, options, expected));
     }
 }
 
@@ -169,10 +171,12 @@ fn keeps_lines(alloc: Global, options: &Options<'_>) -> Result<bool, WrapError> 
     Ok(is_refused & has_lines(Ok(lines), "x|")?)
 }
 
+const REFUSED: &[&str] = &["baz", "foo\nbaz"];
+
 /// Asserts that with these options `baz` is refused, alone, after another paragraph, and where a
 /// list of lines is lent, and that other words are not.
 fn assert_refuses_baz(rt: &(impl Abort + AllocGlobal), options: Options<'_>) {
-    for text in ["baz", "foo\nbaz"] {
+    for &text in REFUSED {
         let refused = wraps(rt.alloc(), text, Options::from(&options), "");
         assert_out_of_memory(rt, text, refused);
     }
@@ -185,11 +189,12 @@ fn assert_refuses_baz(rt: &(impl Abort + AllocGlobal), options: Options<'_>) {
 /// was.
 #[test]
 fn a_function_may_refuse(rt: HostRuntime) {
-    let cuts = LineCuts::new(rt.alloc(), refuse_line);
+    let alloc = rt.alloc();
+    let cuts = LineCuts::new(alloc, refuse_line);
     assert_refuses_baz(&rt, cut_at(2, &WHOLE_WORDS, cuts));
-    let points = WordCuts::new(rt.alloc(), refuse_word);
+    let points = WordCuts::new(alloc, refuse_word);
     assert_refuses_baz(&rt, split_at(2, &WHOLE_WORDS, points));
-    let ends = LineEnds::new(rt.alloc(), refuse_words);
+    let ends = LineEnds::new(alloc, refuse_words);
     assert_refuses_baz(&rt, ended_at(2, ends));
 }
 
@@ -217,44 +222,40 @@ fn grow_refused(alloc: Global, line: &str) -> Result<Vec<usize>, AllocError>
 /// list that the function makes for itself cannot grow.
 #[test]
 fn a_refusal_is_passed_on(rt: HostRuntime) {
-    let refused = LineCuts::new(rt.alloc(), refuse_each);
-    let stuck = LineCuts::new(rt.alloc(), grow_refused);
+    let alloc = rt.alloc();
+    let refused = LineCuts::new(alloc, refuse_each);
+    let stuck = LineCuts::new(alloc, grow_refused);
     for cuts in [refused, stuck] {
         let options = cut_at(5, &OPTIMAL_FIT, cuts);
-        let given = wraps(rt.alloc(), "foobar", options, "");
+        let given = wraps(alloc, "foobar", options, "");
         assert_out_of_memory(&rt, "foobar", given);
     }
+}
+
+/// Whether a part that holds a function equals nothing, not even itself, on either side of built-in
+/// parts, of which the first equals itself.
+fn equals_nothing<T: PartialEq>(custom: &T, first: &T, second: &T) -> bool {
+    *custom != *custom && *custom != *first && *second != *custom && *first == *first
 }
 
 /// A function of the caller equals nothing, not even itself. Parts that are built in equal themselves.
 #[test]
 fn only_built_in_parts_are_equal(rt: HostRuntime) {
-    let separator = WordSeparator::Custom(LineCuts::new(rt.alloc(), cut_nowhere));
-    assert_row(&rt, "itself", separator != separator);
-    assert_row(&rt, "blanks", separator != WordSeparator::AsciiSpace);
-    assert_row(&rt, "to blanks", WordSeparator::AsciiSpace != separator);
-    let splitter = WordSplitter::Custom(WordCuts::new(rt.alloc(), split_in_middle));
-    assert_row(&rt, "itself", splitter != splitter);
-    assert_row(&rt, "hyphens", splitter != WordSplitter::HyphenSplitter);
-    assert_row(&rt, "to none", WordSplitter::NoHyphenation != splitter);
-    let algorithm = WrapAlgorithm::Custom(LineEnds::new(rt.alloc(), end_all));
-    assert_row(&rt, "itself", algorithm != algorithm);
-    assert_row(&rt, "first fit", algorithm != WrapAlgorithm::FirstFit);
-    assert_row(&rt, "to optimal fit", WrapAlgorithm::new() != algorithm);
+    let alloc = rt.alloc();
+    let cuts = WordSeparator::Custom(LineCuts::new(alloc, cut_nowhere));
+    let blanks = WordSeparator::AsciiSpace;
+    assert_row(&rt, "separators", equals_nothing(&cuts, &blanks, &blanks));
+    let points = WordSplitter::Custom(WordCuts::new(alloc, split_in_middle));
+    let hyphens = WordSplitter::HyphenSplitter;
+    let none = WordSplitter::NoHyphenation;
+    assert_row(&rt, "splitters", equals_nothing(&points, &hyphens, &none));
+    let ends = WrapAlgorithm::Custom(LineEnds::new(alloc, end_all));
+    let first_fit = WrapAlgorithm::FirstFit;
+    let least_cost = WrapAlgorithm::new();
     assert_row(
         &rt,
-        "blanks",
-        WordSeparator::AsciiSpace == WordSeparator::AsciiSpace,
-    );
-    assert_row(
-        &rt,
-        "hyphens",
-        WordSplitter::HyphenSplitter == WordSplitter::HyphenSplitter,
-    );
-    assert_row(
-        &rt,
-        "first fit",
-        WrapAlgorithm::FirstFit == WrapAlgorithm::FirstFit,
+        "algorithms",
+        equals_nothing(&ends, &first_fit, &least_cost),
     );
 }
 
@@ -267,10 +268,11 @@ fn is_shown(alloc: Global, value: &impl Debug, expected: &str) -> Result<bool, W
 /// A debug text shows the type alone.
 #[test]
 fn functions_are_shown_by_their_types(rt: HostRuntime) {
-    let cuts = LineCuts::new(rt.alloc(), cut_nowhere);
-    assert_found(&rt, "cuts", is_shown(rt.alloc(), &cuts, "LineCuts"));
-    let points = WordCuts::new(rt.alloc(), split_in_middle);
-    assert_found(&rt, "points", is_shown(rt.alloc(), &points, "WordCuts"));
-    let ends = LineEnds::new(rt.alloc(), end_all);
-    assert_found(&rt, "ends", is_shown(rt.alloc(), &ends, "LineEnds"));
+    let alloc = rt.alloc();
+    let cuts = LineCuts::new(alloc, cut_nowhere);
+    assert_found(&rt, "cuts", is_shown(alloc, &cuts, "LineCuts"));
+    let points = WordCuts::new(alloc, split_in_middle);
+    assert_found(&rt, "points", is_shown(alloc, &points, "WordCuts"));
+    let ends = LineEnds::new(alloc, end_all);
+    assert_found(&rt, "ends", is_shown(alloc, &ends, "LineEnds"));
 }

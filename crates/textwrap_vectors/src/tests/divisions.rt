@@ -3,6 +3,7 @@ ghost use Rattle.textwrap.specs.Sizes.{Sizes};
 
 use super::given::{assert_found, assert_row, has_lens, have_lens};
 use super::plain::{plain_first_fit, plain_optimal_fit, plain_optimal_fit_counted};
+use super::texts::PENALTIES;
 use std::alloc::{AllocError, AllocFailed, Global};
 use std::fmt::Display;
 use textwrap::WrapError;
@@ -139,14 +140,28 @@ fn each_line_takes_what_fits(rt: HostRuntime) {
     }
 }
 
+/// A word of three columns and a blank.
+const FOO: Word<'_> = Word {
+    word: "foo",
+    whitespace: " ",
+    penalty: "",
+    width: 3,
+};
+
+const BAR: Word<'_> = Word { word: "bar", ..FOO };
+
+const BAZ: Word<'_> = Word {
+    word: "baz",
+    whitespace: "",
+    ..FOO
+};
+
 /// The lines are slices of the list that was given.
 #[test]
 fn words_are_divided(rt: HostRuntime) {
-    let words = [Word::from("foo "), Word::from("bar "), Word::from("baz")];
-    let lines = plain_first_fit(rt.alloc(), &words, &[10]).expect(&rt, "lines");
-    assert!(rt; lines.len() == 2);
-    assert_row(&rt, "first", lines[0] == &words[..2]);
-    assert_row(&rt, "second", lines[1] == &words[2..]);
+    let lines = plain_first_fit(rt.alloc(), &[FOO, BAR, BAZ], &[10]).expect(&rt, "lines");
+    let expected: [&[Word<'_>]; 2] = [&[FOO, BAR], &[BAZ]];
+    assert!(rt; lines.as_slice() == expected.as_slice());
 }
 
 const OPTIMAL_FITS: &[(&[Block], &[usize], &[usize])] = &[
@@ -190,7 +205,7 @@ const OPTIMAL_FITS: &[(&[Block], &[usize], &[usize])] = &[
 #[test]
 fn fragments_are_divided_at_least_cost(rt: HostRuntime) {
     for &(blocks, line_widths, lens) in OPTIMAL_FITS {
-        let lines = plain_optimal_fit(rt.alloc(), blocks, line_widths, &Penalties::new());
+        let lines = plain_optimal_fit(rt.alloc(), blocks, line_widths, &PENALTIES);
         assert_found(&rt, (blocks, line_widths), has_lens(lines, lens));
     }
 }
@@ -237,20 +252,11 @@ fn costs_past_128_bits_are_refused(rt: HostRuntime) {
     }
 }
 
-/// The default penalties.
-const DEFAULTS: Penalties = Penalties {
-    nline_penalty: 1000,
-    overflow_penalty: 2500,
-    short_last_line_fraction: 4,
-    short_last_line_penalty: 25,
-    hyphen_penalty: 25,
-};
-
 /// The default penalties are the new ones.
 #[test]
 fn the_default_penalties_are_the_new_ones(rt: HostRuntime) {
-    assert!(rt; Penalties::default() == DEFAULTS);
-    assert!(rt; Penalties::new() == DEFAULTS);
+    assert!(rt; Penalties::default() == PENALTIES);
+    assert!(rt; Penalties::new() == PENALTIES);
 }
 
 /// Whether this is what an error says.
@@ -262,16 +268,13 @@ fn is_shown(alloc: Global, error: &impl Display, text: &str) -> Result<bool, Wra
 /// An error says what it is, and each failed allocation is out of memory.
 #[test]
 fn errors_have_their_texts(rt: HostRuntime) {
+    let alloc = rt.alloc();
     let text = "wrap_optimal_fit cost computation overflowed";
-    assert_found(&rt, "itself", is_shown(rt.alloc(), &OverflowError, text));
+    assert_found(&rt, "itself", is_shown(alloc, &OverflowError, text));
     let overflow = WrapError::Overflow(OverflowError);
-    assert_found(&rt, "overflow", is_shown(rt.alloc(), &overflow, text));
+    assert_found(&rt, "overflow", is_shown(alloc, &overflow, text));
     let memory = WrapError::Memory(AllocError);
-    assert_found(
-        &rt,
-        "memory",
-        is_shown(rt.alloc(), &memory, "out of memory"),
-    );
+    assert_found(&rt, "memory", is_shown(alloc, &memory, "out of memory"));
     let refused = WrapError::from(AllocFailed { value: "foo" });
     assert!(rt; matches!(refused, WrapError::Memory(_)));
     assert!(rt; matches!(WrapError::from(AllocError), WrapError::Memory(_)));

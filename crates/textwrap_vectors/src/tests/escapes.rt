@@ -72,11 +72,12 @@ fn are_lines(alloc: Global, text: &str, lines: &[&str]) -> Result<bool, WrapErro
 /// than one visible character.
 #[test]
 fn sequences_may_be_cut_at_each_place(rt: HostRuntime) {
+    let alloc = rt.alloc();
     for &(text, visible, columns, pieces) in CUT_SEQUENCES {
         assert_row(&rt, text, plain_width(text) == columns);
         assert_gives(&rt, Strip, text, visible);
-        let broken = plain_break(rt.alloc(), &[Word::from(text)], 1);
+        let broken = plain_break(alloc, &[Word::from(text)], 1);
         assert_found(&rt, text, has_words(broken, pieces));
-        assert_found(&rt, text, are_lines(rt.alloc(), text, pieces));
+        assert_found(&rt, text, are_lines(alloc, text, pieces));
     }
 }

@@ -142,12 +142,16 @@ const WIDTHS: &[usize] = &[
     usize::MAX,
 ];
 
+const ALL_PENALTIES: &[Option<Penalties>] = &[None, Some(PENALTIES), Some(ODD), Some(GREAT)];
+
+const SPLIT: &[bool] = &[true, false];
+
 /// Most paragraphs are divided without a list of their words; the lines are those of the lists.
 #[test]
 fn a_list_of_words_makes_no_difference(rt: HostRuntime) {
-    for penalties in [None, Some(PENALTIES), Some(ODD), Some(GREAT)] {
+    for &penalties in ALL_PENALTIES {
         for &width in WIDTHS {
-            for split_words in [true, false] {
+            for &split_words in SPLIT {
                 let layout = Layout {
                     penalties,
                     split_words,
@@ -244,16 +248,11 @@ fn assert_same_lines(rt: &(impl Abort + AllocGlobal), width: usize, layout: Layo
 
 /// Asserts that a text has the lines of the lists of words, in a list and in one text.
 fn assert_listed(rt: &(impl Abort + AllocGlobal), text: &str, options: &Options<'_>) {
-    let row = (text, options.width);
-    assert_found(rt, row, has_listed_lines(rt.alloc(), text, options));
-    assert_found(rt, row, is_listed_text(rt.alloc(), text, options));
-}
-
-/// Whether the list of the lines of a text has the texts of those by way of lists of words.
-fn has_listed_lines(alloc: Global, text: &str, options: &Options<'_>) -> Result<bool, WrapError> {
-    let listed = listed_lines(alloc, text, options)?;
-    let lines = plain_wrap(alloc, text, Options::from(options))?;
-    Ok(are_same(&lines, &listed))
+    assert_found(
+        rt,
+        (text, options.width),
+        is_listed(rt.alloc(), text, options),
+    );
 }
 
 /// Whether the lines have the same texts.
@@ -266,11 +265,13 @@ fn are_same(lines: &[CowStr<'_>], listed: &[CowStr<'_>]) -> bool {
     lines.len() == listed.len()
 }
 
-/// Whether a text is filled to the lines by way of lists of words.
-fn is_listed_text(alloc: Global, text: &str, options: &Options<'_>) -> Result<bool, WrapError> {
+/// Whether a text is wrapped and filled to the lines by way of lists of words.
+fn is_listed(alloc: Global, text: &str, options: &Options<'_>) -> Result<bool, WrapError> {
     let listed = listed_lines(alloc, text, options)?;
+    let lines = plain_wrap(alloc, text, Options::from(options))?;
     let filled = plain_fill(alloc, text, Options::from(options))?;
-    Ok(are_joined(&listed, options.line_ending.as_str(), &filled))
+    let is_filled = are_joined(&listed, options.line_ending.as_str(), &filled);
+    Ok(is_filled && are_same(&lines, &listed))
 }
 
 /// The lines of a text, paragraph by paragraph. Each is divided by way of a list of its words, unless

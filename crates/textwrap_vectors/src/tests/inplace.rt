@@ -42,11 +42,11 @@ impl Refusable for InPlace<'_> {
         heap.allow(allowed);
         let filled = fill_inplace(heap, &mut text, self.1);
         let expected = if filled.is_ok() { self.2 } else { self.0 };
-        if text.as_str() != expected {
-            return Ok(false);
+        let is_right = text.as_str() == expected;
+        if is_right {
+            filled?;
         }
-        filled?;
-        Ok(true)
+        Ok(is_right)
     }
 }
 

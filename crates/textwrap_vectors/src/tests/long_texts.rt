@@ -157,6 +157,21 @@ const ROWS: &[Row<'_>] = &[
         (">", " ", MILLION, "", 1, ""),
     ),
     ("blanks dedented", Dedent, NONE, BLANKS, EMPTY),
+    // Line endings have no text, and blanks are the indent of a line that has nothing else.
+    (
+        "line feeds unfilled",
+        Unfill(0, "", "", LF),
+        NONE,
+        LINE_FEEDS,
+        EMPTY,
+    ),
+    (
+        "blanks unfilled",
+        Unfill(MILLION, "", "", LF),
+        BLANKS,
+        BLANKS,
+        EMPTY,
+    ),
     // Lines of three words are full, so no others cost less.
     (
         "words filled",
@@ -264,10 +279,12 @@ const ROWS: &[Row<'_>] = &[
     ),
 ];
 
-/// The call with this indent, before the first line and each later one.
+/// The call with this indent, before the first line and each later one, or as what is found before
+/// the first.
 fn with_indent<'a>(call: Call<'a>, indent: &'a str) -> Call<'a> {
     match call {
         Indent(_) => Indent(indent),
+        Unfill(width, _, later, ending) => Unfill(width, indent, later, ending),
         Fill(width, layout) => Fill(
             width,
             Layout {
@@ -306,28 +323,19 @@ fn long_texts_are_laid_out(rt: HostRuntime) {
     }
 }
 
-/// Whether the text is unfilled to nothing, with this width, and is one word. All of it is the
-/// indent and the whitespace of the word, or nothing.
-fn is_empty(
-    alloc: Global,
-    text: Long<'_>,
-    width: usize,
-    is_blank: bool,
-) -> Result<bool, WrapError> {
+/// Whether the text is one word, of which so many bytes are whitespace.
+fn is_one_word(alloc: Global, text: Long<'_>, blanks: usize) -> Result<bool, WrapError> {
     let text = whole(alloc, text)?;
-    let blanks = if is_blank { text.as_str() } else { "" };
+    let has_blanks = Word::from(text.as_str()).whitespace.len() == blanks;
     let words = plain_find_words(alloc, alloc, WordSeparator::new(), &text);
-    let is_one_word = has_words(words, &[text.as_str()])?;
-    let is_unfilled = gives(alloc, Unfill(width, blanks, "", LF), &text, "")?;
-    Ok(is_one_word && is_unfilled && Word::from(text.as_str()).whitespace == blanks)
+    Ok(has_words(words, &[text.as_str()])? && has_blanks)
 }
 
-/// Line endings have no text, and are a word of no blanks. Blanks are a word without text, and the
-/// indent of a line that has nothing else.
+/// Line endings are a word of no blanks, and blanks a word without text.
 #[test]
-fn long_texts_are_unfilled_to_nothing(rt: HostRuntime) {
-    for (text, width, is_blank) in [(LINE_FEEDS, 0, false), (BLANKS, MILLION, true)] {
-        assert_found(&rt, width, is_empty(rt.alloc(), text, width, is_blank));
+fn long_texts_are_one_word(rt: HostRuntime) {
+    for (text, blanks) in [(LINE_FEEDS, 0), (BLANKS, MILLION)] {
+        assert_found(&rt, blanks, is_one_word(rt.alloc(), text, blanks));
     }
 }
 

@@ -152,25 +152,37 @@ fn a_word_is_cut_where_it_would_pass_the_limit(rt: HostRuntime) {
     }
 }
 
+/// A word with whitespace and a penalty, of another width than that of its text.
+const ENDED: Word<'_> = Word {
+    word: "abcd",
+    whitespace: "  ",
+    penalty: "-",
+    width: 9,
+};
+
+/// Its pieces of two columns, and what is given after the last.
+const PIECES: [Option<Word<'_>>; 4] = [
+    Some(Word {
+        word: "ab",
+        whitespace: "",
+        penalty: "",
+        width: 2,
+    }),
+    Some(Word {
+        word: "cd",
+        width: 2,
+        ..ENDED
+    }),
+    None,
+    None,
+];
+
 /// The last piece has the whitespace and the penalty of the word, and each piece its own width.
 #[test]
 fn the_last_piece_has_the_ends_of_the_word(rt: HostRuntime) {
-    let word = Word {
-        word: "abcd",
-        whitespace: "  ",
-        penalty: "-",
-        width: 9,
-    };
-    let mut pieces = word.break_apart(2);
-    assert_eq!(rt; pieces.next(), Some(Word::from("ab")));
-    let last = Word {
-        word: "cd",
-        width: 2,
-        ..word
-    };
-    assert_eq!(rt; pieces.next(), Some(last));
-    assert_eq!(rt; pieces.next(), None);
-    assert_eq!(rt; pieces.next(), None);
+    let mut pieces = ENDED.break_apart(2);
+    let given = [pieces.next(), pieces.next(), pieces.next(), pieces.next()];
+    assert!(rt; given == PIECES);
 }
 
 const WORDS_OF_ANY_WIDTH: &[(&str, usize, usize, usize)] = &[

@@ -63,7 +63,7 @@ pub(super) fn plain_find_words_at<'t, A: Allocator + Copy>(
     offsets: &[usize],
 ) -> Result<Vec<Word<'t>, A>, WrapError> {
     let visible = strip_ansi_escape_sequences(rt.alloc(), line)?;
-    assert!(rt; are_offsets(&visible, offsets), "{line:?}");
+    assert!(rt; are_offsets(&visible, offsets));
     Ok(find_words_at(alloc, line, offsets)?)
 }
 
@@ -173,10 +173,7 @@ pub(super) fn plain_queue<A: Allocator + Copy, T: Fragment>(
     line_widths: &[usize],
     penalties: &Penalties,
 ) -> (Result<Vec<Minimum, A>, WrapError>, u128) {
-    assert!(rt;
-        is_queue_case(fragments, line_widths, penalties),
-        "{fragments:?}"
-    );
+    assert!(rt; is_queue_case(fragments, line_widths, penalties));
     let mut steps = Steps::new();
     match queue_minima(alloc, fragments, line_widths, penalties, &mut steps) {
         Ok(minima) => (Ok(minima), steps.count()),

@@ -2,92 +2,86 @@
 use super::given::{assert_found, is_text};
 use super::plain::{plain_fill, plain_refill};
 use super::texts::Call::{Refill, Unfill};
-use super::texts::{FIRST_FIT, Layout, OPTIMAL_FIT, assert_gives, options_of};
+use super::texts::{Call, FIRST_FIT, Layout, OPTIMAL_FIT, assert_gives, options_of};
 use LineEnding::{CRLF, LF};
 use std::alloc::Global;
 use textwrap::{LineEnding, WrapError};
 
-const UNFILLED: &[(&str, &str, usize, [&str; 2], LineEnding)] = &[
-    ("", "", 0, ["", ""], LF),
-    ("foo\n*\n/", "foo * /", 3, ["", ""], LF),
+const ROWS: &[(Call<'_>, &str, &str)] = &[
+    // The lines lose their prefixes and are joined by blanks; the options have the widest line, the
+    // prefixes as indents, and the ending.
+    (Unfill(0, "", "", LF), "", ""),
+    (Unfill(3, "", "", LF), "foo\n*\n/", "foo * /"),
     (
+        Unfill(14, "    // ", "    // ", LF),
         "    // foo bar\n    // baz\n    // quux",
         "foo bar baz quux",
-        14,
-        ["    // ", "    // "],
-        LF,
     ),
-    ("foo\n##\n\n\r", "foo ## \r", 3, ["", ""], LF),
+    (Unfill(3, "", "", LF), "foo\n##\n\n\r", "foo ## \r"),
     (
+        Unfill(7, "  ", "  ", LF),
         "  foo\n    bar\n  baz",
         "foo   bar baz",
-        7,
-        ["  ", "  "],
-        LF,
     ),
-    ("######\nfoo", " foo", 6, ["######", ""], LF),
-    ("foo\r\nbar\n\r\n\n", "foo bar\n", 3, ["", ""], LF),
-    ("foo\r\n\n", "foo", 3, ["", ""], CRLF),
-    ("\n", "", 0, ["", ""], LF),
-];
-
-/// The lines lose their prefixes and are joined by blanks; the options have the widest line, the
-/// prefixes as indents, and the ending.
-#[test]
-fn texts_are_unfilled(rt: HostRuntime) {
-    for &(text, unfilled, width, [initial, subsequent], ending) in UNFILLED {
-        let call = Unfill(width, initial, subsequent, ending);
-        assert_gives(&rt, call, text, unfilled);
-    }
-}
-
-const REFILLED: &[(&str, usize, Layout<'_>, &str)] = &[
+    (Unfill(6, "######", "", LF), "######\nfoo", " foo"),
+    (Unfill(3, "", "", LF), "foo\r\nbar\n\r\n\n", "foo bar\n"),
+    (Unfill(3, "", "", CRLF), "foo\r\n\n", "foo"),
+    (Unfill(0, "", "", LF), "\n", ""),
+    // A text is unfilled and filled again, with its own indents and the algorithm and the ending of
+    // the options.
     (
+        Refill(
+            5,
+            Layout {
+                initial_indent: "!",
+                ..OPTIMAL_FIT
+            },
+        ),
         "",
-        5,
-        Layout {
-            initial_indent: "!",
-            ..OPTIMAL_FIT
-        },
         "",
     ),
     (
+        Refill(
+            5,
+            Layout {
+                initial_indent: "!",
+                ..OPTIMAL_FIT
+            },
+        ),
         "foo bar baz",
-        5,
-        Layout {
-            initial_indent: "!",
-            ..OPTIMAL_FIT
-        },
         "foo\nbar\nbaz",
     ),
     (
+        Refill(
+            20,
+            Layout {
+                initial_indent: "!",
+                ..OPTIMAL_FIT
+            },
+        ),
         "> Memory\n> safety without garbage\n> collection.\n",
-        20,
-        Layout {
-            initial_indent: "!",
-            ..OPTIMAL_FIT
-        },
         "> Memory safety\n> without garbage\n> collection.\n",
     ),
     (
+        Refill(
+            5,
+            Layout {
+                line_ending: CRLF,
+                initial_indent: "!",
+                ..OPTIMAL_FIT
+            },
+        ),
         "foo\r\nbar\n",
-        5,
-        Layout {
-            line_ending: CRLF,
-            initial_indent: "!",
-            ..OPTIMAL_FIT
-        },
         "foo\r\nbar\r\n",
     ),
-    ("aa bb\ncc dd", 8, FIRST_FIT, "aa bb cc\ndd"),
+    (Refill(8, FIRST_FIT), "aa bb\ncc dd", "aa bb cc\ndd"),
 ];
 
-/// A text is unfilled and filled again, with its own indents and the algorithm and the ending of the
-/// options.
+/// Texts are joined to one line for each paragraph, or filled again.
 #[test]
-fn texts_are_refilled(rt: HostRuntime) {
-    for &(text, width, layout, expected) in REFILLED {
-        assert_gives(&rt, Refill(width, layout), text, expected);
+fn texts_are_unfilled_and_refilled(rt: HostRuntime) {
+    for &(call, text, expected) in ROWS {
+        assert_gives(&rt, call, text, expected);
     }
 }
 

@@ -6,7 +6,9 @@ use super::plain::{
     plain_split, plain_table, plain_wrap,
 };
 use super::texts::Call::{Columns, Dedent, Fill, FillSlowly, Indent, Refill, Strip, Unfill, Wrap};
-use super::texts::{Call, FIRST_FIT, Layout, OPTIMAL_FIT, gives, options_of};
+use super::texts::{
+    Call, FIRST_FIT, Layout, OPTIMAL_FIT, PENALTIES, algorithm_of, gives, options_of,
+};
 use crate::functions::{cut_everywhere, end_all, split_in_middle};
 use fakes::heap::Heap;
 use std::alloc::AllocError;
@@ -175,6 +177,61 @@ fn refused_texts_are_no_other_texts(rt: HostRuntime) {
     }
 }
 
+/// The words of `a-b-c foobar`.
+const WORDS: [Word<'_>; 2] = [LETTERS, FOOBAR];
+
+const LETTERS: Word<'_> = Word {
+    word: "a-b-c",
+    whitespace: " ",
+    penalty: "",
+    width: 5,
+};
+
+const FOOBAR: Word<'_> = Word {
+    word: "foobar",
+    whitespace: "",
+    penalty: "",
+    width: 6,
+};
+
+/// A word of two columns.
+const TWO: Word<'_> = Word {
+    word: "a-",
+    width: 2,
+    ..FOOBAR
+};
+
+/// A word of three.
+const THREE: Word<'_> = Word {
+    word: "bar",
+    width: 3,
+    ..FOOBAR
+};
+
+/// The pieces at the hyphens.
+const AT_HYPHENS: &[Word<'_>] = &[
+    TWO,
+    Word { word: "b-", ..TWO },
+    Word {
+        word: "c",
+        whitespace: " ",
+        width: 1,
+        ..FOOBAR
+    },
+    FOOBAR,
+];
+
+/// The pieces at the points of a caller: there `foo` gets a hyphen if it ends its line.
+const IN_MIDDLE: &[Word<'_>] = &[
+    LETTERS,
+    Word {
+        word: "foo",
+        penalty: "-",
+        ..THREE
+    },
+    THREE,
+];
+
 /// A call on words.
 enum OnWords {
     Break,
@@ -182,71 +239,57 @@ enum OnWords {
     FindAtOffsets,
     Hyphens,
     Points,
-    Split,
+    SplitAtHyphens,
     SplitAtPoints,
 }
-
-/// The words of `a-b-c foobar`.
-const WORDS: [Word<'_>; 2] = [
-    Word {
-        word: "a-b-c",
-        whitespace: " ",
-        penalty: "",
-        width: 5,
-    },
-    Word {
-        word: "foobar",
-        whitespace: "",
-        penalty: "",
-        width: 6,
-    },
-];
 
 impl Refusable for OnWords {
     fn is_right<R: Abort + AllocGlobal>(&self, rt: &R, heap: &Heap) -> Result<bool, WrapError> {
         let alloc = rt.alloc();
-        let hyphens = WordSplitter::HyphenSplitter;
-        let at_points = WordSplitter::Custom(WordCuts::new(alloc, split_in_middle));
         match self {
-            OnWords::Break => {
-                let letters = ["a", "-", "b", "-", "c ", "f", "o", "o", "b", "a", "r"];
-                has_words(plain_break(heap, &WORDS, 1), &letters)
-            }
+            OnWords::Break => has_words(plain_break(heap, &WORDS, 1), BROKEN),
             OnWords::FindAtCuts => {
                 let separator = WordSeparator::Custom(LineCuts::new(alloc, cut_everywhere));
-                let words = plain_find_words(alloc, heap, separator, "abcde");
-                has_words(words, &["a", "b", "c", "d", "e"])
+                has_words(plain_find_words(alloc, heap, separator, "abcde"), FIVE)
             }
             OnWords::FindAtOffsets => {
                 let words = plain_find_words_at(rt, heap, "abcdef", &[1, 2, 3, 4, 5]);
-                has_words(words, &["a", "b", "c", "d", "e", "f"])
+                has_words(words, SIX)
             }
             OnWords::Hyphens => {
-                has_numbers(
-                    plain_points(heap, &hyphens, "a-b-c-d-e-f"),
-                    &[2, 4, 6, 8, 10],
-                )
+                let points = plain_points(heap, &WordSplitter::HyphenSplitter, "a-b-c-d-e-f");
+                has_numbers(points, &[2, 4, 6, 8, 10])
             }
-            OnWords::Points => has_numbers(plain_points(heap, &at_points, "foobar"), &[3]),
-            OnWords::Split => {
-                has_words(
-                    plain_split(heap, &WORDS, &hyphens),
-                    &["a-", "b-", "c ", "foobar"],
-                )
+            OnWords::Points => {
+                let splitter = WordSplitter::Custom(WordCuts::new(alloc, split_in_middle));
+                has_numbers(plain_points(heap, &splitter, "foobar"), &[3])
             }
-            OnWords::SplitAtPoints => are_split_in_middle(plain_split(heap, &WORDS, &at_points)),
+            OnWords::SplitAtHyphens => {
+                let pieces = plain_split(heap, &WORDS, &WordSplitter::HyphenSplitter);
+                are_pieces(pieces, AT_HYPHENS)
+            }
+            OnWords::SplitAtPoints => {
+                let splitter = WordSplitter::Custom(WordCuts::new(alloc, split_in_middle));
+                are_pieces(plain_split(heap, &WORDS, &splitter), IN_MIDDLE)
+            }
         }
     }
 }
 
-/// Whether the pieces are `a-b-c`, `foo` with a hyphen if it ends its line, and `bar`.
-fn are_split_in_middle(given: Result<Vec<Word<'_>, &Heap>, WrapError>) -> Result<bool, WrapError> {
-    let foo = Word {
-        penalty: "-",
-        ..Word::from("foo")
-    };
+/// The letters of the words.
+const BROKEN: &[&str] = &["a", "-", "b", "-", "c ", "f", "o", "o", "b", "a", "r"];
+
+const FIVE: &[&str] = &["a", "b", "c", "d", "e"];
+
+const SIX: &[&str] = &["a", "b", "c", "d", "e", "f"];
+
+/// Whether the pieces are these, also their penalties.
+fn are_pieces(
+    given: Result<Vec<Word<'_>, &Heap>, WrapError>,
+    expected: &[Word<'_>],
+) -> Result<bool, WrapError> {
     let pieces = given?;
-    Ok(pieces.as_slice() == [WORDS[0], foo, Word::from("bar")].as_slice())
+    Ok(pieces.as_slice() == expected)
 }
 
 const ON_WORDS: &[(OnWords, usize)] = &[
@@ -255,7 +298,7 @@ const ON_WORDS: &[(OnWords, usize)] = &[
     (OnWords::FindAtOffsets, 4),
     (OnWords::Hyphens, 2),
     (OnWords::Points, 1),
-    (OnWords::Split, 2),
+    (OnWords::SplitAtHyphens, 2),
     (OnWords::SplitAtPoints, 2),
 ];
 
@@ -272,8 +315,8 @@ enum OnLines {
     FirstFit,
     OptimalFitByQueue,
     OptimalFitByTable,
-    ByFirstFit,
-    ByOptimalFit,
+    /// By the algorithm of these penalties, or by first fit, six words.
+    By(Option<Penalties>),
     ByEnds,
     NewCosts,
     Table,
@@ -287,6 +330,12 @@ const NINE: [Word<'_>; 9] = [Word {
     penalty: "",
     width: 3,
 }; 9];
+
+/// Widths by which the table is asked.
+const WIDTHS: &[usize] = &[7, 3, 7];
+
+/// The words on lines of 7 columns.
+const TWO_ON_EACH: &[usize] = &[2, 2, 2, 2, 1];
 
 /// The least costs of these words on lines of 7, 3 and again 7 columns.
 const BY_TABLE: &[(usize, u128)] = &[
@@ -318,31 +367,28 @@ const BY_QUEUE: &[(usize, u128)] = &[
 
 impl Refusable for OnLines {
     fn is_right<R: Abort + AllocGlobal>(&self, rt: &R, heap: &Heap) -> Result<bool, WrapError> {
-        let penalties = Penalties::new();
-        let widths = [7, 3, 7];
         match self {
-            OnLines::FirstFit => has_lens(plain_first_fit(heap, &NINE, &[7]), &[2, 2, 2, 2, 1]),
+            OnLines::FirstFit => has_lens(plain_first_fit(heap, &NINE, &[7]), TWO_ON_EACH),
             OnLines::OptimalFitByQueue => {
-                let lines = plain_optimal_fit(heap, &NINE, &[7], &penalties);
-                has_lens(lines, &[2, 2, 2, 2, 1])
+                let lines = plain_optimal_fit(heap, &NINE, &[7], &PENALTIES);
+                has_lens(lines, TWO_ON_EACH)
             }
             OnLines::OptimalFitByTable => {
-                let (lines, _asked) = plain_optimal_fit_counted(heap, &NINE, &widths, &penalties);
+                let (lines, _asked) = plain_optimal_fit_counted(heap, &NINE, WIDTHS, &PENALTIES);
                 has_lens(lines, &[2, 1, 2, 2, 2])
             }
-            OnLines::ByFirstFit => divides(heap, WrapAlgorithm::FirstFit, &[1; 6]),
-            OnLines::ByOptimalFit => divides(heap, WrapAlgorithm::new(), &[1; 6]),
+            OnLines::By(penalties) => divides(heap, algorithm_of(*penalties), &[1; 6]),
             OnLines::ByEnds => {
                 let ends = LineEnds::new(rt.alloc(), end_all);
                 divides(heap, WrapAlgorithm::Custom(ends), &[1, 2, 3])
             }
-            OnLines::NewCosts => Ok(LineCosts::new(heap, &NINE, &[7, 5], &penalties)?.ends() == 9),
+            OnLines::NewCosts => Ok(LineCosts::new(heap, &NINE, &[7, 5], &PENALTIES)?.ends() == 9),
             OnLines::Table => {
-                let (minima, _asked) = plain_table(heap, &NINE, &widths, &penalties);
+                let (minima, _asked) = plain_table(heap, &NINE, WIDTHS, &PENALTIES);
                 has_minima(minima, BY_TABLE)
             }
             OnLines::Queue => {
-                let (minima, _asked) = plain_queue(rt, heap, &NINE, &[7], &penalties);
+                let (minima, _asked) = plain_queue(rt, heap, &NINE, &[7], &PENALTIES);
                 has_minima(minima, BY_QUEUE)
             }
         }
@@ -358,8 +404,8 @@ const ON_LINES: &[(OnLines, usize)] = &[
     (OnLines::FirstFit, 2),
     (OnLines::OptimalFitByQueue, 8),
     (OnLines::OptimalFitByTable, 10),
-    (OnLines::ByFirstFit, 2),
-    (OnLines::ByOptimalFit, 7),
+    (OnLines::By(None), 2),
+    (OnLines::By(Some(PENALTIES)), 7),
     (OnLines::ByEnds, 1),
     (OnLines::NewCosts, 4),
     (OnLines::Table, 8),
@@ -419,14 +465,19 @@ const APPENDED: &str = "x|+  To be,|+  or not|+  to be:|+  that|+  is the|+  que
 /// leave that list as it was.
 fn appends(heap: &Heap, slowly: bool) -> Result<bool, WrapError> {
     let mut lines = list_of_one(heap)?;
-    let options = options_of(10, &INDENTED);
-    let appended = plain_append(heap, PARAGRAPH, &options, slowly, &mut lines);
+    let appended = plain_append(
+        heap,
+        PARAGRAPH,
+        &options_of(10, &INDENTED),
+        slowly,
+        &mut lines,
+    );
     let expected = if appended.is_ok() { APPENDED } else { "x|" };
-    if !has_lines(Ok(lines), expected)? {
-        return Ok(false);
+    let is_right = has_lines(Ok(lines), expected)?;
+    if is_right {
+        appended?;
     }
-    appended?;
-    Ok(true)
+    Ok(is_right)
 }
 
 const ON_OTHERS: &[(OnOthers, usize)] = &[
@@ -451,24 +502,30 @@ fn is_full_at_its_end(mut lines: Vec<CowStr<'_, &Heap>, &Heap>) -> Result<bool, 
     Ok(lines.push(CowStr::Borrowed("x")).is_err())
 }
 
-/// Appends the lines of a text to a list of a heap that allows one allocation, and asserts that it
-/// was made, and that each line was allocated by the heap that was passed.
-fn assert_lent(rt: &(impl Abort + AllocGlobal), slowly: bool) {
-    let of_lines = Heap::new(rt.alloc(), 100);
-    let of_list = Heap::new(rt.alloc(), 1);
-    let mut lines = Vec::new(&of_list);
-    let options = options_of(10, &INDENTED);
-    let appended = plain_append(&of_lines, TEXT, &options, slowly, &mut lines);
-    assert!(rt; appended.is_ok());
-    assert!(rt; of_list.left() == 0);
-    assert!(rt; of_lines.left() < 100_usize.saturating_sub(lines.len()));
-    assert_found(rt, slowly, is_full_at_its_end(lines));
+/// Appends the lines of a text to a list of a heap that allows one allocation. Whether it was made,
+/// each line was allocated by the heap that was passed, and the list can grow no more.
+fn is_lent(of_lines: &Heap, of_list: &Heap, slowly: bool) -> Result<bool, WrapError> {
+    let mut lines = Vec::new(of_list);
+    plain_append(
+        of_lines,
+        TEXT,
+        &options_of(10, &INDENTED),
+        slowly,
+        &mut lines,
+    )?;
+    let is_made = of_list.left() == 0;
+    let are_allocated = of_lines.left() < 100_usize.saturating_sub(lines.len());
+    Ok(is_full_at_its_end(lines)? && is_made && are_allocated)
 }
 
 /// Appended lines lie in the allocator that is passed, and the list stays in its own: it can grow no
 /// more where that refuses.
 #[test]
 fn a_lent_list_keeps_its_allocator(rt: HostRuntime) {
-    assert_lent(&rt, false);
-    assert_lent(&rt, true);
+    let alloc = rt.alloc();
+    for slowly in [false, true] {
+        let of_lines = Heap::new(alloc, 100);
+        let of_list = Heap::new(alloc, 1);
+        assert_found(&rt, slowly, is_lent(&of_lines, &of_list, slowly));
+    }
 }

@@ -56,7 +56,7 @@ pub(super) const FIRST_FIT: Layout<'static> = Layout {
 };
 
 /// First fit, or optimal fit by these penalties.
-fn algorithm_of(penalties: Option<Penalties>) -> WrapAlgorithm {
+pub(super) fn algorithm_of(penalties: Option<Penalties>) -> WrapAlgorithm {
     match penalties {
         Some(penalties) => WrapAlgorithm::OptimalFit(penalties),
         None => WrapAlgorithm::FirstFit,
@@ -171,15 +171,10 @@ pub(super) fn gives<A: Allocator + Copy>(
                 expected,
             )
         }
-        Append(width, layout) => {
+        Append(width, layout) | AppendSlowly(width, layout) => {
+            let slowly = matches!(call, AppendSlowly(_, _));
             has_lines(
-                appended(alloc, text, &options_of(width, &layout), false),
-                expected,
-            )
-        }
-        AppendSlowly(width, layout) => {
-            has_lines(
-                appended(alloc, text, &options_of(width, &layout), true),
+                appended(alloc, text, &options_of(width, &layout), slowly),
                 expected,
             )
         }

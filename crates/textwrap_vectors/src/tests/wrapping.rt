@@ -156,55 +156,94 @@ const WRAPPED: &[(&str, usize, Layout<'_>, &str)] = &[
         },
         "a|b\nc|",
     ),
+    // The first line has the initial indent, and each later one with pieces the subsequent one; a
+    // line to which nothing was added is borrowed.
+    (
+        "",
+        10,
+        Layout {
+            initial_indent: "!!!",
+            subsequent_indent: "",
+            ..OPTIMAL_FIT
+        },
+        "+!!!|",
+    ),
+    (
+        "foobarbaz",
+        5,
+        Layout {
+            initial_indent: "-->",
+            subsequent_indent: "",
+            ..OPTIMAL_FIT
+        },
+        "+-->|fooba|rbaz|",
+    ),
+    (
+        "foobarbaz",
+        5,
+        Layout {
+            initial_indent: "* ",
+            subsequent_indent: "  ",
+            ..OPTIMAL_FIT
+        },
+        "+* foo|+  bar|+  baz|",
+    ),
+    (
+        "This is a little example.",
+        12,
+        Layout {
+            initial_indent: "* ",
+            subsequent_indent: "  ",
+            ..OPTIMAL_FIT
+        },
+        "+* This is|+  a little|+  example.|",
+    ),
+    (
+        "x x x x x x x x x x x x x",
+        10,
+        Layout {
+            initial_indent: "👉👉",
+            subsequent_indent: "",
+            ..OPTIMAL_FIT
+        },
+        "+👉👉x x x|x x x x x|x x x x x|",
+    ),
+    (
+        "Wrapping text all day long.",
+        15,
+        Layout {
+            initial_indent: "",
+            subsequent_indent: "....",
+            ..OPTIMAL_FIT
+        },
+        "Wrapping text|+....all day|+....long.|",
+    ),
+    (
+        "a\n\nb",
+        10,
+        Layout {
+            initial_indent: "",
+            subsequent_indent: "> ",
+            ..OPTIMAL_FIT
+        },
+        "a||+> b|",
+    ),
+    (
+        "aaa\nbbb ccc",
+        7,
+        Layout {
+            initial_indent: "",
+            subsequent_indent: "    ",
+            ..OPTIMAL_FIT
+        },
+        "aaa|+    bbb ccc|",
+    ),
 ];
 
 /// A text has the lines of its options, each a slice of the text if nothing was added to it.
 #[test]
 fn texts_are_wrapped(rt: HostRuntime) {
     for &(text, width, layout, expected) in WRAPPED {
-        assert_gives(&rt, Wrap(width, layout), text, expected);
-    }
-}
-
-const INDENTED: &[(&str, usize, &str, &str, &str)] = &[
-    ("", 10, "!!!", "", "+!!!|"),
-    ("foobarbaz", 5, "-->", "", "+-->|fooba|rbaz|"),
-    ("foobarbaz", 5, "* ", "  ", "+* foo|+  bar|+  baz|"),
-    (
-        "This is a little example.",
-        12,
-        "* ",
-        "  ",
-        "+* This is|+  a little|+  example.|",
-    ),
-    (
-        "x x x x x x x x x x x x x",
-        10,
-        "👉👉",
-        "",
-        "+👉👉x x x|x x x x x|x x x x x|",
-    ),
-    (
-        "Wrapping text all day long.",
-        15,
-        "",
-        "....",
-        "Wrapping text|+....all day|+....long.|",
-    ),
-    ("a\n\nb", 10, "", "> ", "a||+> b|"),
-    ("aaa\nbbb ccc", 7, "", "    ", "aaa|+    bbb ccc|"),
-];
-
-/// The first line has the initial indent, and each later one with pieces the subsequent one; a line
-/// to which nothing was added is borrowed.
-#[test]
-fn lines_are_indented(rt: HostRuntime) {
-    for &(text, width, initial_indent, subsequent_indent, expected) in INDENTED {
-        let layout = Layout {
-            initial_indent,
-            subsequent_indent,
-            ..OPTIMAL_FIT
-        };
         assert_gives(&rt, Wrap(width, layout), text, expected);
     }
 }

@@ -1,5 +1,5 @@
 //! What the words after the program's name mean.
-use super::plain::{assert_number, strings};
+use super::plain::strings;
 use fakes::heap::Heap;
 use std::alloc::{AllocError, Global};
 use std::test::Fail;
@@ -43,18 +43,20 @@ fn count_after_name(alloc: Global, heap: &Heap) -> Result<Option<usize>, AllocEr
     }
 }
 
+/// How many allocations are allowed, and the count: they are three.
+const COUNTED: &[(usize, Option<usize>)] = &[(0, None), (1, None), (2, None), (3, Some(8))];
+
 #[test]
 fn words_out_of_memory_are_no_fewer_words(rt: HostRuntime) -> Result<(), Fail> {
     let heap = Heap::new(rt.alloc(), 0);
-    for allowed in 0..3 {
-        heap.allow(allowed);
-        let count = count_after_name(rt.alloc(), &heap)?;
-        assert_eq!(rt; count, None, "{allowed}");
+    for (allowed, expected) in COUNTED {
+        heap.allow(*allowed);
+        assert!(rt;
+            count_after_name(rt.alloc(), &heap)? == *expected,
+            "{allowed}"
+        );
     }
-    heap.allow(3);
-    let count = count_after_name(rt.alloc(), &heap)?;
-    assert_eq!(rt; count, Some(8));
-    assert_number(&rt, "allocations left", heap.left(), 0);
+    assert!(rt; heap.left() == 0);
     Ok(())
 }
 

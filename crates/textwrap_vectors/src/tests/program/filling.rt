@@ -381,30 +381,40 @@ const REFUSALS: &[(Algorithm, usize, &[u8])] = &[
     ),
 ];
 
+/// What a run returns and writes.
+type Ended = (Result<(), RunError>, &'static [u8]);
+
+const OUT_OF_MEMORY: Ended = (Err(RunError::Memory), b"");
+
 /// Where memory runs out at any of the allocations of a run, nothing is written.
 #[test]
 fn a_run_out_of_memory_writes_nothing(rt: HostRuntime) -> Result<(), AllocError> {
     let heap = Heap::new(rt.alloc(), 0);
     for &(algorithm, refusals, output) in REFUSALS {
-        for allowed in 0..refusals {
+        for allowed in 0..=refusals {
             heap.allow(allowed);
-            assert_run_over(&rt, &heap, algorithm, Err(RunError::Memory), b"")?;
+            let (done, written): Ended = if allowed < refusals {
+                OUT_OF_MEMORY
+            } else {
+                (Ok(()), output)
+            };
+            assert_run_over(&rt, &heap, algorithm, done, written)?;
         }
-        heap.allow(refusals);
-        assert_run_over(&rt, &heap, algorithm, Ok(()), output)?;
         assert_number(&rt, "allocations left", heap.left(), 0);
     }
     Ok(())
 }
 
+const FAULT_LINES: &[(RunError, &str)] = &[
+    (RunError::Read, "textwrap_cli: cannot read input"),
+    (RunError::NotUtf8, "textwrap_cli: input is not UTF-8"),
+    (RunError::Memory, "textwrap_cli: out of memory"),
+    (RunError::Write, "textwrap_cli: cannot write output"),
+];
+
 #[test]
 fn faults_have_their_lines(rt: HostRuntime) {
-    for (error, line) in [
-        (RunError::Read, "textwrap_cli: cannot read input"),
-        (RunError::NotUtf8, "textwrap_cli: input is not UTF-8"),
-        (RunError::Memory, "textwrap_cli: out of memory"),
-        (RunError::Write, "textwrap_cli: cannot write output"),
-    ] {
-        assert_eq!(rt; fault(&error), line, "{error:?}");
+    for (error, line) in FAULT_LINES {
+        assert!(rt; fault(error) == *line, "{line}");
     }
 }

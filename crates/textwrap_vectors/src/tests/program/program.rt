@@ -2,7 +2,7 @@
 use super::plain::{assert_number, assert_taken, plain_execute, strings};
 use fakes::heap::Heap;
 use fakes::streams::{Feed, FeedFault, Sink, SinkFault};
-use std::alloc::AllocError;
+use std::alloc::{AllocError, Allocator};
 use std::io::ErrorKind;
 use std::process::Abort;
 
@@ -146,14 +146,18 @@ const RUNS: &[Run] = &[
     ("no message", &["10"], &[0xFF], NO_MESSAGES, "", "", 1),
 ];
 
-/// Asserts that a run gives its output, its messages and its status.
-fn assert_run(rt: &(impl Abort + AllocGlobal), run: &Run) -> Result<(), AllocError> {
+/// Asserts that a run over this allocator gives its output, its messages and its status.
+fn assert_run<A: Allocator + Copy>(
+    rt: &(impl Abort + AllocGlobal),
+    alloc: A,
+    run: &Run,
+) -> Result<(), AllocError> {
     let &(rule, words, input, faults, output, messages, status) = run;
     let words = strings(rt.alloc(), words)?;
     let mut reader = Feed::new(rt.alloc(), input, 50, faults.0)?;
     let mut written = Sink::new(rt.alloc(), 50, faults.1);
     let mut said = Sink::new(rt.alloc(), 50, faults.2);
-    let ended = plain_execute(rt.alloc(), &words, &mut reader, &mut written, &mut said);
+    let ended = plain_execute(alloc, &words, &mut reader, &mut written, &mut said);
     assert_number(rt, rule, usize::from(ended), usize::from(status));
     assert_taken(rt, rule, &written, output.as_bytes());
     assert_taken(rt, rule, &said, messages.as_bytes());
@@ -163,48 +167,49 @@ fn assert_run(rt: &(impl Abort + AllocGlobal), run: &Run) -> Result<(), AllocErr
 #[test]
 fn words_and_input_give_output_messages_and_status(rt: HostRuntime) -> Result<(), AllocError> {
     for run in RUNS {
-        assert_run(&rt, run)?;
+        assert_run(&rt, rt.alloc(), run)?;
     }
-    Ok(())
-}
-
-/// Runs the program over the heap, and asserts the output, the messages and the status.
-fn assert_run_over(
-    rt: &(impl Abort + AllocGlobal),
-    heap: &Heap,
-    output: &[u8],
-    messages: &[u8],
-    status: usize,
-) -> Result<(), AllocError> {
-    let words = strings(rt.alloc(), &["10"])?;
-    let mut reader = Feed::new(rt.alloc(), HAMLET, 50, FeedFault::Nothing)?;
-    let mut written = Sink::new(rt.alloc(), 50, SinkFault::Nothing);
-    let mut said = Sink::new(rt.alloc(), 50, SinkFault::Nothing);
-    let ended = plain_execute(heap, &words, &mut reader, &mut written, &mut said);
-    assert_number(rt, "the status over a heap", usize::from(ended), status);
-    assert_taken(rt, "the output over a heap", &written, output);
-    assert_taken(rt, "the messages over a heap", &said, messages);
     Ok(())
 }
 
 /// How many allocations filling [`HAMLET`] by the least cost takes.
 const REFUSALS: usize = 9;
 
-const FILLED: &[u8] = b"To be,\nor not to\nbe: that\nis the\nquestion";
+/// The run over a heap that allows them, and over one that refuses any.
+const ALLOWED: Run = (
+    "over a heap",
+    &["10"],
+    HAMLET,
+    SOUND,
+    "To be,\nor not to\nbe: that\nis the\nquestion",
+    "",
+    0,
+);
 
-const OUT_OF_MEMORY: &[u8] = b"textwrap_cli: out of memory\n";
+const REFUSED: Run = (
+    "over a heap that refuses",
+    &["10"],
+    HAMLET,
+    SOUND,
+    "",
+    "textwrap_cli: out of memory\n",
+    1,
+);
 
 /// Wherever one of its allocations is refused, the program says that it is out of memory, and writes
 /// nothing.
 #[test]
 fn a_program_out_of_memory_says_so(rt: HostRuntime) -> Result<(), AllocError> {
     let heap = Heap::new(rt.alloc(), 0);
-    for allowed in 0..REFUSALS {
+    for allowed in 0..=REFUSALS {
         heap.allow(allowed);
-        assert_run_over(&rt, &heap, b"", OUT_OF_MEMORY, 1)?;
+        let run = if allowed < REFUSALS {
+            &REFUSED
+        } else {
+            &ALLOWED
+        };
+        assert_run(&rt, &heap, run)?;
     }
-    heap.allow(REFUSALS);
-    assert_run_over(&rt, &heap, FILLED, b"", 0)?;
     assert_number(&rt, "allocations left", heap.left(), 0);
     Ok(())
 }

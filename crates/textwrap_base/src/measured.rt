@@ -60,34 +60,21 @@ pub fn line_cost<M: Measured>(
         target: line_width(line_widths, number).max(1),
         is_last: end == fragments.len(),
         is_single: end == start + 1,
-        break_penalty: last.break_penalty(),
     };
-    line.cost(penalties)
+    let added = penalties.nline_penalty as u128 + last.break_penalty() as u128;
+    line.fit_cost(penalties)?.checked_add(added)
 }
 
-/// What the cost of a line comes from.
+/// What the cost of missing a line's target comes from.
 #[derive(Clone, Copy)]
 struct CostedLine {
     closed: u128,
     target: usize,
     is_last: bool,
     is_single: bool,
-    break_penalty: usize,
 }
 
 impl CostedLine {
-    /// The cost of the line, or `None` where it needs more than 128 bits.
-    #[inline(always)]
-    fn cost(self, penalties: &Penalties) -> Option<u128>
-        ensures { let cost = penalties.now.nline_penalty
-            + fit_cost penalties.now self.target self.closed self.is_last self.is_single
-            + self.break_penalty
-            in SomeIff result (Fits128Bits cost) cost }
-    {
-        let fit_cost = self.fit_cost(penalties)?;
-        fit_cost.checked_add(penalties.nline_penalty as u128 + self.break_penalty as u128)
-    }
-
     /// The cost of missing the target, or `None` where it needs more than 128 bits.
     #[inline(always)]
     fn fit_cost(self, penalties: &Penalties) -> Option<u128>
@@ -96,7 +83,13 @@ impl CostedLine {
     {
         let target = self.target as u128;
         if self.closed > target {
-            return product(self.closed - target, penalties.overflow_penalty);
+            let past = self.closed - target;
+            let penalty = penalties.overflow_penalty as u128;
+            // Numbers of 64 bits are multiplied at once, and most are such.
+            return match u64::try_from(past) {
+                Ok(past) => Some(past as u128 * penalty),
+                Err(_) => past.checked_mul(penalty),
+            };
         }
         if !self.is_last {
             let gap = (target - self.closed) as u64;
@@ -108,16 +101,5 @@ impl CostedLine {
         } else {
             0
         })
-    }
-}
-
-/// The product of two numbers, or `None` where it needs more than 128 bits.
-fn product(number: u128, factor: usize) -> Option<u128>
-    ensures { SomeIff result (Fits128Bits (number * factor)) (number * factor) }
-{
-    // Numbers of 64 bits are multiplied at once, and most are such.
-    match u64::try_from(number) {
-        Ok(number) => Some(number as u128 * factor as u128),
-        Err(_) => number.checked_mul(factor as u128),
     }
 }

@@ -138,21 +138,11 @@ pub fn lines_by<'a, A: Allocator, T>(
     }
     let mut end = fragments.len();
     while end > 0 {
-        let start = line_start(minima, end);
+        let start = minima[end].start;
         let line = &fragments[start..end];
         lines.push(line)?;
         end = start;
     }
     lines.reverse();
     Ok(lines)
-}
-
-/// Where the line starts that ends at `end`.
-fn line_start(minima: &[Minimum], end: usize) -> usize
-    requires within { end < length minima.now }
-    requires before { slice_index (map (λ minimum. minimum.start) minima.now) end < end }
-    ensures start { result ≡ slice_index (map (λ minimum. minimum.start) minima.now) end }
-    ensures before { result < end }
-{
-    minima[end].start
 }

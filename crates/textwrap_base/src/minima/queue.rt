@@ -13,7 +13,7 @@ ghost use Rattle.textwrap_base.specs.Search.{least_entry, cost_from, AreMinima, 
 ghost use Rattle.textwrap_base.specs.Stretches.{HasEnd, AreStretches};
 ghost use Rattle.textwrap_base.specs.Table.{table, minimum_of};
 
-use super::stretches::{Stretch, drop_passed, first_capacity, next_stretch, price, take_in};
+use super::stretches::{FIRST_CAPACITY, Stretch, next_stretch, price, take_in};
 use super::{CostSource, Minimum};
 use std::alloc::{AllocError, Allocator};
 
@@ -83,7 +83,7 @@ fn reach_last<A: Allocator, C: CostSource>(
     }
     let first = least_of_all(costs, minima);
     minima.push(first)?;
-    let mut stretches = Vec::with_capacity(alloc, first_capacity(ends))?;
+    let mut stretches = Vec::with_capacity(alloc, ends.min(FIRST_CAPACITY))?;
     stretches.push(Stretch {
         start: 1,
         from: 1,
@@ -91,42 +91,12 @@ fn reach_last<A: Allocator, C: CostSource>(
     })?;
     let mut current = 0;
     while minima.len() < ends {
-        current = next_stretch(&stretches, current, minima.len());
-        current = drop_passed(&mut stretches, current);
-        advance(costs, minima, &mut stretches, current)?;
+        current = next_stretch(&mut stretches, current, minima.len());
+        let least = least_by_stretch(costs, minima, stretches[current]);
+        minima.push(least)?;
+        take_in(costs, minima, &mut stretches, current)?;
     }
     Ok(())
-}
-
-/// Adds the least cost of the next end, which the current stretch has, and gives the end a stretch
-/// as a start.
-fn advance<A: Allocator, C: CostSource>(
-    costs: &mut C,
-    minima: &mut Vec<Minimum, A>,
-    stretches: &mut Vec<Stretch, A>,
-    current: usize,
-) -> Result<(), AllocError>
-    requires suits { SuitQueue (C.costs costs.old) }
-    requires minima { AreMinima (C.costs costs.old) minima.old.items }
-    requires two { 1 < vec_len minima.old }
-    requires within { vec_len minima.old < (C.costs costs.old).ends }
-    requires stretches { AreStretches (C.costs costs.old) (vec_len minima.old - 1)
-        stretches.old.items }
-    requires current { HasEnd stretches.old.items (vec_len minima.old) current }
-    ensures minima { OnOk result (AreMinima (C.costs costs.old) minima.new.items) }
-    ensures len { OnOk result (vec_len minima.new ≡ vec_len minima.old + 1) }
-    ensures stretches { OnOk result (AreStretches (C.costs costs.old) (vec_len minima.old)
-        stretches.new.items) }
-    ensures current { OnOk result (HasEnd stretches.new.items (vec_len minima.old) current) }
-    ensures same { C.costs costs.new ≡ C.costs costs.old }
-    ensures steps { C.steps costs.new + vec_len stretches.new ≤ C.steps costs.old
-        + vec_len stretches.old + 10
-        + 2 * binary_digits ((C.costs costs.old).ends - (vec_len minima.old + 1)) }
-    ensures never_less { C.steps costs.old ≤ C.steps costs.new }
-{
-    let least = least_by_stretch(costs, minima, stretches[current]);
-    minima.push(least)?;
-    take_in(costs, minima, stretches, current)
 }
 
 /// The least cost of the next end, by trying each start.
@@ -152,8 +122,8 @@ fn least_of_all<C: CostSource>(costs: &mut C, minima: &[Minimum]) -> Minimum
     best
 }
 
-/// The least cost of the next end, where the stretch has its best start from 1 on. Start 0 is the
-/// earlier, so it wins a tie.
+/// The least cost of the next end, where the stretch has its best start from 1 on, and knows what that
+/// costs at its first end. Start 0 is the earlier, so it wins a tie.
 fn least_by_stretch<C: CostSource>(costs: &mut C, minima: &[Minimum], stretch: Stretch) -> Minimum
     requires suits { SuitQueue (C.costs costs.old) }
     requires minima { AreMinima (C.costs costs.old) minima.now }
@@ -169,7 +139,11 @@ fn least_by_stretch<C: CostSource>(costs: &mut C, minima: &[Minimum], stretch: S
 {
     let end = minima.len();
     let first = price(costs, minima, 0, end);
-    let later = stretch_price(costs, minima, stretch, end);
+    let later = if stretch.from == end {
+        stretch.cost
+    } else {
+        price(costs, minima, stretch.start, end)
+    };
     if later < first {
         Minimum {
             start: stretch.start,
@@ -180,32 +154,5 @@ fn least_by_stretch<C: CostSource>(costs: &mut C, minima: &[Minimum], stretch: S
             start: 0,
             cost: first,
         }
-    }
-}
-
-/// What the first `end` fragments cost if their last line starts where the stretch says, which
-/// knows it at its first end.
-fn stretch_price<C: CostSource>(
-    costs: &mut C,
-    minima: &[Minimum],
-    stretch: Stretch,
-    end: usize,
-) -> u128
-    requires suits { SuitQueue (C.costs costs.old) }
-    requires minima { AreMinima (C.costs costs.old) minima.now }
-    requires known { stretch.start < length minima.now }
-    requires ordered { stretch.start < end }
-    requires within { end ≤ (C.costs costs.old).ends }
-    requires priced { stretch.from ≡ end
-        → stretch.cost ≡ cost_from (C.costs costs.old) stretch.start stretch.from }
-    ensures price { result ≡ cost_from (C.costs costs.old) stretch.start end }
-    ensures same { C.costs costs.new ≡ C.costs costs.old }
-    ensures steps { C.steps costs.new ≤ C.steps costs.old + 1 }
-    ensures never_less { C.steps costs.old ≤ C.steps costs.new }
-{
-    if stretch.from == end {
-        stretch.cost
-    } else {
-        price(costs, minima, stretch.start, end)
     }
 }

@@ -51,36 +51,32 @@ pub(super) fn price<C: CostSource>(
         .unwrap()
 }
 
-/// The stretch of an end, where `before` is that of the end before it.
-pub(super) fn next_stretch(stretches: &[Stretch], before: usize, end: usize) -> usize
-    requires before { HasEnd stretches.now (end - 1) before }
-    requires rising { AreRising stretches.now }
-    requires later { 0 < end }
-    ensures { HasEnd stretches.now end result }
-{
-    match stretches.get(before + 1) {
-        Some(next) if next.from <= end => before + 1,
-        _ => before,
-    }
-}
-
 /// How many stretches have passed at least before they are dropped.
 const PASSED_STRETCHES: usize = 64;
 
-/// How many stretches there is room for at first, for so many ends. The list grows where more are
-/// known than have passed, and most texts of any length need no more.
-pub(super) fn first_capacity(ends: usize) -> usize {
-    ends.min(2 * PASSED_STRETCHES)
-}
+/// How many stretches there is room for at first. The list grows where more are known than have passed,
+/// and most texts of any length need no more.
+pub(super) const FIRST_CAPACITY: usize = 2 * PASSED_STRETCHES;
 
-/// Drops the stretches before the current one where they are most of the list, so that it stays
-/// short: their ends have passed. Returns where the current one stands then.
-pub(super) fn drop_passed<A: Allocator>(stretches: &mut Vec<Stretch, A>, current: usize) -> usize
-    requires { current < vec_len stretches.old }
-    ensures within { result ≤ current }
-    ensures left { stretches.new.items ≡ drop (current - result) stretches.old.items }
+/// Goes on to the stretch of an end, where `before` is that of the end before it, and returns where it
+/// stands then: the stretches before it, whose ends have passed, are dropped where they are most of the
+/// list, so that it stays short.
+pub(super) fn next_stretch<A: Allocator>(
+    stretches: &mut Vec<Stretch, A>,
+    before: usize,
+    end: usize,
+) -> usize
+    requires before { HasEnd stretches.old.items (end - 1) before }
+    requires rising { AreRising stretches.old.items }
+    requires later { 0 < end }
+    ensures left { (passed : ℕ) × (stretches.new.items ≡ drop passed stretches.old.items) }
+    ensures current { HasEnd stretches.new.items end result }
     ensures fewer { vec_len stretches.new ≤ vec_len stretches.old }
 {
+    let current = match stretches.get(before + 1) {
+        Some(next) if next.from <= end => before + 1,
+        _ => before,
+    };
     if current < PASSED_STRETCHES || current < stretches.len() / 2 {
         return current;
     }
@@ -90,8 +86,9 @@ pub(super) fn drop_passed<A: Allocator>(stretches: &mut Vec<Stretch, A>, current
     0
 }
 
-/// Gives the newest start, the last of `minima`, its stretch. The stretches are then those of all
-/// starts from 1 to this one.
+/// Gives the newest start, the last of `minima`, its stretch, if it is the best for any end, and drops
+/// those that it beats at all their ends. The stretches are then those of all starts from 1 to this
+/// one.
 pub(super) fn take_in<A: Allocator, C: CostSource>(
     costs: &mut C,
     minima: &[Minimum],
@@ -114,50 +111,14 @@ pub(super) fn take_in<A: Allocator, C: CostSource>(
         + 2 * binary_digits ((C.costs costs.old).ends - length minima.now) }
     ensures never_less { C.steps costs.old ≤ C.steps costs.new }
 {
-    let stretch = new_stretch(costs, minima, stretches, current);
+    let won = drop_beaten(costs, minima, stretches, current);
+    let rival = stretches[stretches.len() - 1];
+    let low = minima.len().max(rival.from + 1);
+    let stretch = take_over(costs, minima, rival.start, low, won);
     if stretch.from < costs.ends() {
         stretches.push(stretch)?;
     }
     Ok(())
-}
-
-/// The stretch of the newest start. Those that it beats at all their ends are dropped. It begins at
-/// the last end, and so is empty, where the start is the best for no end.
-fn new_stretch<A: Allocator, C: CostSource>(
-    costs: &mut C,
-    minima: &[Minimum],
-    stretches: &mut Vec<Stretch, A>,
-    current: usize,
-) -> Stretch
-    requires suits { SuitQueue (C.costs costs.old) }
-    requires minima { AreMinima (C.costs costs.old) minima.now }
-    requires two { 2 < length minima.now }
-    requires within { length minima.now ≤ (C.costs costs.old).ends }
-    requires stretches { AreStretches (C.costs costs.old) (length minima.now - 2)
-        stretches.old.items }
-    requires current { HasEnd stretches.old.items (length minima.now - 1) current }
-    ensures left { stretches.new.items ≡ take (vec_len stretches.new) stretches.old.items }
-    ensures current { current < vec_len stretches.new }
-    ensures start { result.start ≡ length minima.now - 1 }
-    ensures after { length minima.now ≤ result.from }
-    ensures later { (stretch_at stretches.new.items (vec_len stretches.new - 1)).from
-        < result.from }
-    ensures before { result.from ≤ (C.costs costs.old).ends }
-    ensures priced { result.from < (C.costs costs.old).ends
-        → result.cost ≡ cost_from (C.costs costs.old) result.start result.from }
-    ensures best { HaveBest (C.costs costs.old) (length minima.now - 1) result.from
-        stretches.new.items }
-    ensures wins { IsBestFrom (C.costs costs.old) (length minima.now - 1) result.from }
-    ensures same { C.costs costs.new ≡ C.costs costs.old }
-    ensures steps { C.steps costs.new + vec_len stretches.new ≤ C.steps costs.old
-        + vec_len stretches.old + 7
-        + 2 * binary_digits ((C.costs costs.old).ends - length minima.now) }
-    ensures never_less { C.steps costs.old ≤ C.steps costs.new }
-{
-    let won = drop_beaten(costs, minima, stretches, current);
-    let rival = stretches[stretches.len() - 1];
-    let low = minima.len().max(rival.from + 1);
-    take_over(costs, minima, rival.start, low, won)
 }
 
 /// Drops the stretches after the current one that the newest start beats at their first end, and so

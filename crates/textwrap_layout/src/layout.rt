@@ -2,11 +2,10 @@
 ghost use Rattle.std.specs.Prelude.{◌≡◌};
 ghost use Rattle.textwrap_layout.specs.Direct.{CanBeCut, pieces_cut, cuts_of};
 ghost use Rattle.textwrap_layout.specs.PiecesLeft.{left_standing};
-ghost use Rattle.textwrap_words.specs.Pieces.{as_splitter, stand_from};
-ghost use Rattle.textwrap_words.specs.PiecesLeft.{standing_left};
+ghost use Rattle.textwrap_words.specs.Pieces.{stand_from};
 ghost use Rattle.textwrap_layout.specs.Frame.{frame_settings};
 ghost use Rattle.textwrap_layout.specs.Options.{layout_view};
-ghost use Rattle.textwrap_layout.specs.Paragraph.{indent_of, pieces_of};
+ghost use Rattle.textwrap_layout.specs.Paragraph.{indent_of};
 
 use crate::frame::Frame;
 use crate::options::Options;
@@ -73,18 +72,6 @@ pub fn next_indent<'a>(layout: &Layout<'a>, is_later: bool) -> &'a str
     }
 }
 
-/// The pieces of a paragraph by built-in parts, one after another: those that its lines are made of.
-pub fn paragraph_pieces<'t>(
-    paragraph: &'t str,
-    frame: &Frame<'_>,
-    splitter: BuiltInSplitter,
-) -> Pieces<'t>
-    ensures { standing_left result ≡ stand_from 0
-        (pieces_of (frame_settings frame.now) (as_splitter splitter) paragraph.now) }
-{
-    Pieces::of(paragraph, frame.limit, splitter, frame.has_front)
-}
-
 /// Where a paragraph is cut into pieces by built-in parts.
 #[derive(Clone, Copy)]
 pub struct Cuts<'c> {
@@ -132,7 +119,12 @@ pub fn cut_paragraph<'t, 'c>(
         ≡ stand_from 0 (pieces_cut (frame_settings frame.now) cuts.now paragraph.now) }
 {
     let Some(words) = cuts.words else {
-        return ParagraphPieces::AtBlanks(paragraph_pieces(paragraph, frame, cuts.splitter));
+        return ParagraphPieces::AtBlanks(Pieces::of(
+            paragraph,
+            frame.limit,
+            cuts.splitter,
+            frame.has_front,
+        ));
     };
     ParagraphPieces::AtCuts(CutPieces::of(
         paragraph,

@@ -1,12 +1,9 @@
 //! The lines of least cost of a paragraph, found from where its pieces stand, without a list of
 //! words.
-ghost use Rattle.std.specs.Prelude.{ℕ, ◌≡◌, ◌<◌, ◌≤◌, ◌+◌, ◌-◌, ◌^◌, List, [], ◌∷◌};
-ghost use Rattle.std.specs.Prelude.{map, length, slice_index, IsTrue, IfOk, OnOk};
+ghost use Rattle.std.specs.Prelude.{◌≡◌, ◌<◌, ◌-◌, ◌^◌, List, map, length, IsTrue, OnOk};
 ghost use Rattle.textwrap_base.specs.Cost.{problem_at, problem_by};
-ghost use Rattle.textwrap_base.specs.Division.{IsDivision};
 ghost use Rattle.textwrap_base.specs.OptimalFit.{IsByOptimalFit};
-ghost use Rattle.textwrap_base.specs.Queue.{AreAtMost, SuitQueue, queue_limit};
-ghost use Rattle.textwrap_base.specs.Table.{fragment_costs, FollowStarts, IsByTable};
+ghost use Rattle.textwrap_base.specs.Table.{fragment_costs};
 ghost use Rattle.textwrap_words.specs.Words.{WordText, sizes_of};
 ghost use Rattle.textwrap_lines.specs.Cheapest.{SuitSearch};
 ghost use Rattle.textwrap_layout.specs.Direct.{CanBeCut, pieces_cut, cuts_of};
@@ -40,14 +37,7 @@ pub(crate) fn suits_search(paragraph: &str, frame: &Frame<'_>, penalties: &Penal
         && paragraph.len() <= LIMIT
         && frame.first_columns <= LIMIT
         && frame.later_columns <= LIMIT
-        && penalties_suit(penalties)
-}
-
-/// Whether none of the penalties is too great.
-fn penalties_suit(penalties: &Penalties) -> bool
-    ensures { IsTrue result → AreAtMost queue_limit penalties.now }
-{
-    penalties.nline_penalty <= LIMIT
+        && penalties.nline_penalty <= LIMIT
         && penalties.overflow_penalty <= LIMIT
         && penalties.short_last_line_fraction <= LIMIT
         && penalties.short_last_line_penalty <= LIMIT
@@ -77,32 +67,14 @@ pub(crate) fn push_cheapest_lines<'t, A: Allocator + Copy, S: LineSink<'t, A>>(
 {
     let spans = find_spans(alloc, paragraph, frame, cuts)?;
     let line_widths = [frame.first_columns, frame.later_columns];
-    let division = cheapest_lines(alloc, &spans, &line_widths, penalties)?;
-    push_lines(alloc, paragraph, &division, frame, lines)
-}
-
-/// The lines of least cost of some pieces.
-fn cheapest_lines<'a, A: Allocator + Copy>(
-    alloc: A,
-    spans: &'a [Span],
-    line_widths: &[usize],
-    penalties: &Penalties,
-) -> Result<Vec<&'a [Span], A>, AllocError>
-    requires measured { AreSpans spans.now }
-    requires some { 0 < length spans.now }
-    requires suits { SuitQueue (fragment_costs
-        (problem_by span_priced penalties.now line_widths.now spans.now)) }
-    ensures { IfOk result (λ lines. IsByTable
-        (problem_by span_priced penalties.now line_widths.now spans.now)
-        (map (λ line. line.now) lines.items)) }
-{
     let mut costs = SpanCosts {
-        spans,
-        line_widths,
+        spans: &spans,
+        line_widths: &line_widths,
         penalties: *penalties,
     };
     let minima = queue_search(alloc, &mut costs)?;
-    lines_by(alloc, spans, &minima)
+    let division = lines_by(alloc, &spans, &minima)?;
+    push_lines(alloc, paragraph, &division, frame, lines)
 }
 
 /// The costs of the lines of pieces. Their count of steps stands at its end from the start, so that

@@ -1,27 +1,19 @@
 //! What the crates above need beside the public calls, which `textwrap` does not pass on.
-ghost use Rattle.std.specs.Prelude.{◌≡◌, if◌then◌else◌, map, IfOk};
-ghost use Rattle.std.specs.Io.{StartsWith};
-ghost use Rattle.std.specs.List.{flat_map};
+ghost use Rattle.std.specs.Prelude.{◌≡◌, if◌then◌else◌};
 ghost use Rattle.textwrap_text.specs.Blanks.{without_final_blanks};
 ghost use Rattle.textwrap_words.specs.Pieces.{as_splitter, stand_from};
 ghost use Rattle.textwrap_words.specs.PiecesLeft.{standing_left};
-ghost use Rattle.textwrap_words.specs.Words.{tiled, word_view};
 ghost use Rattle.textwrap_layout.specs.Options.{settings_view};
-ghost use Rattle.textwrap_layout.specs.Paragraph.{first_width, is_whole, later_width, line_from};
-ghost use Rattle.textwrap_layout.specs.Paragraph.{line_view, parts_from, pieces_of};
+ghost use Rattle.textwrap_layout.specs.Paragraph.{first_width, is_whole, later_width, pieces_of};
 
 pub use crate::filling::{fill_by, fill_into};
 pub use crate::placed::{place_into, place_lines_by};
 use crate::wrapping;
 pub use crate::wrapping::{wrap_by, wrap_paragraph};
-use std::alloc::{AllocError, Allocator};
-use std::borrow::CowStr;
 use textwrap_layout::frame::Frame;
-use textwrap_layout::layout;
-use textwrap_layout::layout::Layout;
+use textwrap_layout::layout::{Layout, next_indent};
 use textwrap_layout::options::Options;
 use textwrap_words::inner::{BuiltInSplitter, Pieces};
-use textwrap_words::words::Word;
 
 /// The pieces of a paragraph by built-in parts, one after another: those that its lines are made of.
 pub fn paragraph_pieces<'t>(
@@ -32,7 +24,8 @@ pub fn paragraph_pieces<'t>(
     ensures { standing_left result ≡ stand_from 0
         (pieces_of (settings_view options.now) (as_splitter splitter) paragraph.now) }
 {
-    layout::paragraph_pieces(paragraph, &Frame::of(Layout::of(options)), splitter)
+    let frame = Frame::of(Layout::of(options));
+    Pieces::of(paragraph, frame.limit, splitter, frame.has_front)
 }
 
 /// The width of a paragraph's first line, and that of its others. `is_later` says that a line stands
@@ -49,7 +42,8 @@ pub fn line_widths(options: &Options<'_>, is_later: bool) -> (usize, usize)
 pub fn is_one_line(paragraph: &str, options: &Options<'_>, is_later: bool) -> bool
     ensures { result ≡ is_whole (settings_view options.now) is_later paragraph.now }
 {
-    wrapping::is_one_line(paragraph, &Layout::of(options), is_later)
+    let layout = Layout::of(options);
+    wrapping::is_one_line(paragraph, next_indent(&layout, is_later), layout.width)
 }
 
 /// The line of a paragraph that is one as a whole.

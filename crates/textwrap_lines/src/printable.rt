@@ -3,7 +3,7 @@
 //! is cut.
 ghost use Rattle.std.specs.Prelude.{◌≡◌, ◌<◌, ◌≤◌, ◌-◌, length, slice_range, true};
 ghost use Rattle.std.specs.Prelude.{OnOk, IsOk};
-ghost use Rattle.textwrap_words.specs.PieceCuts.{is_point, pieces_from};
+ghost use Rattle.textwrap_words.specs.PieceCuts.{pieces_from};
 ghost use Rattle.textwrap_words.specs.Pieces.{as_splitter, stand_from};
 ghost use Rattle.textwrap_layout.specs.Frame.{frame_settings};
 ghost use Rattle.textwrap_layout.specs.Layout.{break_limit, limit_at};
@@ -168,7 +168,9 @@ fn next_cut<C: PrintableCuts>(
     place
 }
 
-/// Whether a printable text is cut before the byte at a place: between two words, or by the splitter.
+/// Whether a printable text is cut before the byte at a place: between two words, or by the splitter,
+/// after a hyphen between letters or digits.
+#[tactic(auto, using(crate::proofs::PrintableTexts::Bytes::point_printable))]
 fn is_cut_at<C: PrintableCuts>(
     text: &[u8],
     place: usize,
@@ -180,17 +182,9 @@ fn is_cut_at<C: PrintableCuts>(
     requires inside { place < length text.now }
     ensures { result ≡ is_cut_by (C.cuts cuts.now text.now) (as_splitter splitter) text.now place }
 {
-    cuts.is_cut(text, place) || is_point(text, place, splitter)
-}
-
-/// Whether the splitter splits a printable text at a place: after a hyphen between letters or digits.
-#[tactic(auto, using(crate::proofs::PrintableTexts::Bytes::point_printable))]
-fn is_point(text: &[u8], place: usize, splitter: BuiltInSplitter) -> bool
-    requires printable { IsPrintable text.now }
-    requires after_start { 0 < place }
-    requires inside { place < length text.now }
-    ensures { result ≡ is_point (as_splitter splitter) text.now place }
-{
+    if cuts.is_cut(text, place) {
+        return true;
+    }
     text[place - 1] == b'-'
         && matches!(splitter, BuiltInSplitter::HyphenSplitter)
         && place > 1

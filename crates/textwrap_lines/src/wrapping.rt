@@ -1,7 +1,7 @@
 //! Wrapping a text into lines.
 ghost use Rattle.std.specs.Prelude.{◌≡◌, ℕ, List, ◌∷◌, [], ◌++◌, ◌<◌, length, drop, map};
 ghost use Rattle.std.specs.Prelude.{◌+◌, IsCharBoundary, nat_lt, if◌then◌else◌, alloc_error, true, IfOk, IfErr, IfSome};
-ghost use Rattle.std.specs.Prelude.{◌≢◌, OnOk, IsOk, IsSomeAnd, MatchOption, None};
+ghost use Rattle.std.specs.Prelude.{◌≢◌, ◌==◌, ◌&&◌, OnOk, IsOk, IsSomeAnd, MatchOption, None};
 ghost use Rattle.textwrap_layout.specs.Direct.{AreParts};
 ghost use Rattle.std.specs.List.{flat_map};
 ghost use Rattle.std.specs.Str.{IsUtf8};
@@ -18,7 +18,7 @@ ghost use Rattle.textwrap_layout.specs.LineSinks.{Took};
 ghost use Rattle.textwrap_layout.specs.Options.{Settings, layout_view, settings_view};
 ghost use Rattle.textwrap_layout.specs.Options.{HasBuiltInParts, HasParts, MayOverflow};
 ghost use Rattle.textwrap_layout.specs.Paragraph.{text_limit, LineParts, line_view, covered};
-ghost use Rattle.textwrap_layout.specs.Paragraph.{widths_of, is_whole, parts_of, parts_from, Adds};
+ghost use Rattle.textwrap_layout.specs.Paragraph.{widths_of, parts_of, parts_from, Adds};
 ghost use Rattle.textwrap_layout.specs.Paragraph.{DividesBy, AreDividedParts, AreParagraphParts};
 ghost use Rattle.textwrap_layout.specs.Paragraph.{DividesAs, MayPass64Bits, OnlyCharactersPass};
 ghost use Rattle.textwrap_layout.specs.Places.{AreCutLines, CutLine, cut_lines};
@@ -27,7 +27,8 @@ ghost use Rattle.textwrap_layout.specs.Text.{CanKeepToWidth, ArePrintedWithin, H
 ghost use Rattle.textwrap_layout.specs.Text.{SomeMayPass64Bits};
 ghost use Rattle.textwrap_words.specs.WordSplitters.{Splitter, splitter_view};
 
-use crate::direct::{jump_cuts, push_by_jumps, push_directly};
+use crate::cheapest::{push_cheapest_lines, suits_search};
+use crate::direct::push_by_first_fit;
 use std::alloc::{AllocError, Allocator};
 use std::borrow::CowStr;
 use textwrap_layout::any_options::{AnyOptions, BuiltInAlgorithm, BuiltInParts};
@@ -199,7 +200,7 @@ fn push_paragraph<'t, A: Allocator + Copy, S: LineSink<'t, A>, O: AnyOptions<A>>
     ensures no_overflow { ¬ O.may_pass options.now paragraph.now
         → IfErr result (λ error. error ≡ WrapError.Memory alloc_error) }
 {
-    if is_one_line(paragraph, &frame.layout, frame.is_later) {
+    if is_one_line(paragraph, frame.indent, frame.layout.width) {
         let slice = whole_line(paragraph, &frame.layout);
         return Ok(lines.push_line(alloc, "", 0, slice, "")?);
     }
@@ -207,7 +208,15 @@ fn push_paragraph<'t, A: Allocator + Copy, S: LineSink<'t, A>, O: AnyOptions<A>>
 }
 
 /// Pushes the lines of the pieces of a paragraph: without a list of its words, where the parts are
-/// built in.
+/// built in and no number is too great.
+///
+/// This is where the way of a paragraph is chosen. What comes first in the table is taken:
+///
+/// | Algorithm | Paragraph | Way |
+/// |---|---|---|
+/// | first fit | any | [`push_by_first_fit`], which has its own table |
+/// | least cost | not empty, no number too great | [`push_cheapest_lines`] |
+/// | any, also of a caller | any | [`push_divided`]: by lists of its words and pieces |
 ///
 /// # Errors
 /// Those of [`wrap`].
@@ -236,20 +245,19 @@ fn push_pieces<'t, A: Allocator + Copy, S: LineSink<'t, A>, O: AnyOptions<A>>(
     let Some(parts) = parts else {
         return push_divided(alloc, paragraph, options, frame, lines);
     };
-    if let Some(cuts) = jump_cuts(options, parts.algorithm, paragraph, frame) {
+    let BuiltInAlgorithm::LeastCost(penalties) = parts.algorithm else {
         let splitter = parts.splitter;
-        return Ok(push_by_jumps(alloc, paragraph, frame, &cuts, splitter, lines)?);
+        return Ok(push_by_first_fit(alloc, paragraph, options, frame, splitter, lines)?);
+    };
+    if !suits_search(paragraph, frame, &penalties) {
+        return push_divided(alloc, paragraph, options, frame, lines);
     }
     let found = options.word_cuts(paragraph)?;
     let cuts = Cuts {
         words: found.as_deref(),
         splitter: parts.splitter,
     };
-    let pushed = push_directly(alloc, paragraph, frame, &cuts, parts.algorithm, lines)?;
-    if pushed {
-        return Ok(());
-    }
-    push_divided(alloc, paragraph, options, frame, lines)
+    Ok(push_cheapest_lines(alloc, paragraph, frame, &cuts, &penalties, lines)?)
 }
 
 /// The same by lists of its words and pieces.
@@ -358,11 +366,11 @@ pub fn wrap_paragraph<'t, A: Allocator + Copy, O: AnyOptions<A>>(
     Ok(lines.append(&mut own)?)
 }
 
-/// Whether a paragraph is one line as a whole. `is_later` says that a line stands before it.
-pub(crate) fn is_one_line(paragraph: &str, layout: &Layout<'_>, is_later: bool) -> bool
-    ensures { result ≡ is_whole (layout_view layout.now) is_later paragraph.now }
+/// Whether a paragraph is one line as a whole, with this indent before it in so many columns.
+pub(crate) fn is_one_line(paragraph: &str, indent: &str, width: usize) -> bool
+    ensures { result ≡ ((length indent.now == 0) && nat_lt (length paragraph.now) width) }
 {
-    next_indent(layout, is_later).is_empty() && paragraph.len() < layout.width
+    indent.is_empty() && paragraph.len() < width
 }
 
 /// The line of a paragraph that is one as a whole.

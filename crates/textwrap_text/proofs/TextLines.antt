@@ -1,57 +1,23 @@
 -- The lines of a text with their endings, one after another, and the text that they make.
-use Rattle.textwrap_text.proofs.Common.{nil_from_length, join_with_byte, append_assoc, length_push}
+use Rattle.textwrap_text.proofs.Common.{nil_from_length, join_with_byte, append_assoc}
 use Rattle.textwrap_text.proofs.Common.{slice_split, All-append, All-weaker, append-nil, cases_Bool}
 use Rattle.textwrap_text.proofs.Common.{length-map, eqb-false, take_more, All-cons, eqb-true, arith}
-use Rattle.textwrap_text.proofs.Common.{flat_map, not-true, All-nil, take_at, length, ne_eqb, false}
-use Rattle.textwrap_text.proofs.Common.{lines, rules, subst, Bool, List, None, Some, cond, last, []}
-use Rattle.textwrap_text.proofs.Common.{refl, ◌++◌, ◌==◌, All, inl, inr, map, not, sym, ◌-◌, ◌<◌, ℕ}
+use Rattle.textwrap_text.proofs.Common.{flat_map, All-nil, length, ne_eqb, false}
+use Rattle.textwrap_text.proofs.Common.{lines, rules, subst, Bool, List, None, cond, last, []}
+use Rattle.textwrap_text.proofs.Common.{refl, ◌++◌, ◌==◌, All, inl, inr, map, sym, ◌-◌, ◌<◌, ℕ}
 use Rattle.textwrap_text.proofs.Common.{◌∙◌, ◌∷◌, ◌≡◌, ◌≢◌, ap}
-use Rattle.std.specs.List.{position_or_len, before_first, after_first}
 use Rattle.std.specs.Str.Lines.{strip_carriage_return, lines_of_parts}
 use Rattle.std.proofs.Common.{ap₂}
 use Rattle.std.specs.Prelude.{is_some}
 use Rattle.std.proofs.lemmas.Grind.{common_steps}
 use Rattle.std.proofs.lemmas.List.Splits.{join_with_byte-slice_split, length-slice_split}
-use Rattle.std.proofs.lemmas.List.Splits.{slice_split_first, slice_split_none, slice_split_at}
-use Rattle.std.proofs.lemmas.List.Sums.{prefix_len_passes}
+use Rattle.std.proofs.lemmas.List.Splits.{slice_split_none, slice_split_at}
 use Rattle.textwrap_text.proofs.Lists.Parts.{some_from_nonempty, last-append, last-cons, last-push}
 use Rattle.textwrap_text.specs.TextLines.{line_before_feed, ended_lines_of, ended_lines, EndedLine}
 use Rattle.textwrap_text.specs.TextLines.{ended_parts, with_ending}
-use Rattle.textwrap_text.specs.declared.line_ending.LineEnding.TheVariants.{CRLF, LF}
 
 abbrev pub is_feed : ℕ → Bool
 is_feed b = b == 10
-
--- ---- one carriage return at the end
-
-pub line_before_feed-return : (part line : List ℕ) → part ≡ line ++ 13 ∷ []
-    → line_before_feed part ≡ record { line = line; ending = Some CRLF }
-line_before_feed-return part line is =
-    search (rules, length_push, last-push, take_at)
-
-pub line_before_feed-plain : (part : List ℕ) → ((front : List ℕ) → part ≢ front ++ 13 ∷ [])
-    → line_before_feed part ≡ record { line = part; ending = Some LF }
-line_before_feed-plain part plain = grind (arith, common_steps)
-
--- ---- the first line of a text
-
-pub ended_lines-feed : (text : List ℕ) → position_or_len is_feed text < length text
-    → ended_lines text
-    ≡ line_before_feed (before_first is_feed text) ∷ ended_lines (after_first is_feed text)
-ended_lines-feed text within =
-    grind (arith, common_steps, slice_split_first, length-slice_split)
-
-pub ended_lines-one : (text : List ℕ) → 0 < length text
-    → position_or_len is_feed text ≡ length text
-    → ended_lines text ≡ record { line = text; ending = None } ∷ []
-ended_lines-one text some all =
-    search (rules, slice_split_none, not-true, prefix_len_passes, not)
-
-pub ended_lines-cut : (text part rest : List ℕ) (l : EndedLine)
-    → (position_or_len is_feed text < length text) × (part ≡ before_first is_feed text)
-    × (rest ≡ after_first is_feed text)
-    → line_before_feed part ≡ l → ended_lines text ≡ l ∷ ended_lines rest
-ended_lines-cut text part rest l cut first = search (rules, ended_lines-feed)
 
 -- ---- a text whose first line feed is known, and one that has none
 

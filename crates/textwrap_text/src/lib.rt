@@ -10,6 +10,7 @@ pub mod escapes;
 pub mod laws;
 pub mod lent_text;
 pub mod line_ending;
+mod line_feeds;
 pub mod printable;
 pub mod text_lines;
 pub mod widths;

@@ -1,8 +1,9 @@
 //! The lines of a text, each with its ending.
-ghost use Rattle.std.specs.Prelude.{◌≡◌, ◌++◌};
-ghost use Rattle.textwrap_text.specs.TextLines.{bytes_at_end};
+ghost use Rattle.std.specs.Prelude.{◌≡◌, ◌++◌, Some};
+ghost use Rattle.textwrap_text.specs.TextLines.{bytes_at_end, line_before_feed};
 
 use crate::line_ending::LineEnding;
+use crate::line_feeds::split_at_line_feed;
 use std::marker::Model;
 
 /// A line of a text.
@@ -50,7 +51,7 @@ impl<'t> Lines<'t> {
         requires { 0 < length text.now }
         ensures { ended_lines text.now ≡ ended_line_view result.0 ∷ ended_lines result.1.now }
     {
-        let Some((part, rest)) = text.split_once('\n') else {
+        let Some((part, rest)) = split_at_line_feed(text) else {
             let line = TextLine {
                 text,
                 ending: None,
@@ -59,16 +60,25 @@ impl<'t> Lines<'t> {
             return (line, "");
         };
         let whole = &text[..part.len() + 1];
-        let (text, ending) = match part.strip_suffix('\r') {
-            Some(line) => (line, Some(LineEnding::CRLF)),
-            None => (part, Some(LineEnding::LF)),
-        };
+        let (text, ending) = before_line_feed(part);
         let line = TextLine {
             text,
-            ending,
+            ending: Some(ending),
             whole,
         };
         (line, rest)
+    }
+}
+
+/// The line that is this text before a line feed, and its ending.
+#[inline(always)]
+fn before_line_feed(part: &str) -> (&str, LineEnding)
+    ensures line { (line_before_feed part.now).line ≡ result.0.now }
+    ensures ending { (line_before_feed part.now).ending ≡ Some result.1 }
+{
+    match part.as_bytes() {
+        [.., b'\r'] => (&part[..part.len() - 1], LineEnding::CRLF),
+        _ => (part, LineEnding::LF),
     }
 }
 

@@ -1,25 +1,35 @@
 use Rattle.textwrap_text.proofs.text_lines.Lines.first.Goals as goal
-use Rattle.textwrap_text.proofs.Common.{None, Some}
-use Rattle.std.proofs.Common.{lit<}
-use Rattle.std.proofs.lemmas.Str.Pattern.{split_once_first, strip_suffix_char}
-use Rattle.textwrap_text.proofs.TextLines.{ended_lines-one, ended_lines-cut}
-use Rattle.textwrap_text.proofs.TextLines.{line_before_feed-return, line_before_feed-plain}
+use Rattle.textwrap_text.proofs.Common.{[], ap, arith, length, sym, take-append-add, ◌++◌, ◌∙◌}
+use Rattle.textwrap_text.proofs.Common.{◌∷◌, ◌≡◌, IsCharBoundary-after_ascii}
+use Rattle.textwrap_text.proofs.Lists.Parts.{from_start}
+use Rattle.std.proofs.Math.Seq.{get_or-append_seam}
+use Rattle.std.proofs.lemmas.Grind.{common_steps}
+use Rattle.textwrap_text.specs.TextLines.{bytes_at_end, ended_lines}
+use Rattle.textwrap_text.proofs.TextLines.{ended_lines-front, ended_lines-whole, with_ending-feed}
 
 pub returns-in_default : goal.returns-in_default
-returns-in_default c = ended_lines-one c.args.text.now c.requires
-    (split_once_first 10 c.args.text.now None c.in_default.ensures.cases (lit< tt))
+returns-in_default c =
+    ended_lines-whole c.args.text.now c.in_default.ensures (λ is. omega (arith, ap length is))
+
+pub range-whole-requires-clause-end_boundary : goal.range-whole-requires-clause-end_boundary
+range-whole-requires-clause-end_boundary c =
+    grind (arith, common_steps, IsCharBoundary-after_ascii, get_or-append_seam)
+
+pub invariant_of-line-2 : goal.invariant_of-line-2
+invariant_of-line-2 c =
+    let part = c.in-Some.part.now in
+    let l = c.before_line_feed-ending.ensures in
+    let more = take-append-add part (10 ∷ c.in-Some.rest.now) 1 in
+    let whole : c.range-whole.result.now ≡ part ++ 10 ∷ []
+    = grind (arith, common_steps, from_start, more) in
+    record {
+      ended = whole ∙ sym (with_ending-feed part) ∙ (λ i. l.line i ++ bytes_at_end (l.ending i));
+    }
 
 pub returns : goal.returns
 returns c =
-    let part = c.in-Some.part.now in
-    ended_lines-cut c.args.text.now part c.in-Some.rest.now _
-    (split_once_first 10 c.args.text.now (Some (c.in-Some.part, c.in-Some.rest))
-    c.in-Some.ensures.cases (lit< tt))
-    (elim c.match-strip_suffix.branch [
-      | goal.in-Some-strip_suffix w ↦ rw w.ending-is
-          (line_before_feed-return part w.in-Some-strip_suffix.line.now
-          (strip_suffix_char 13 part (Some w.in-Some-strip_suffix.line)
-          w.in-Some-strip_suffix.ensures.cases (lit< tt)))
-      | goal.in-None w ↦ rw w.ending-is (line_before_feed-plain part
-          (strip_suffix_char 13 part None w.in-None.ensures.cases (lit< tt)))
-    ])
+    let rest = c.in-Some.rest.now in
+    let l = c.before_line_feed-ending.ensures in
+    ap ended_lines c.in-Some.ensures.1
+    ∙ ended_lines-front c.in-Some.part.now rest c.in-Some.ensures.0
+    ∙ (λ i. record { line = l.line i; ending = l.ending i } ∷ ended_lines rest)

@@ -1,0 +1,10 @@
+use Rattle.textwrap_text.proofs.Common.{◌≢◌, ◌≤◌, ◌-◌, ◌<◌, ℕ, length, slice_index}
+use Rattle.textwrap_text.specs.LineEnding.{line_feed}
+use Rattle.textwrap_text.proofs.line_feeds.near_line_feed_at.Given as goal
+
+abbrev pub invariant-loop-at : goal.invariant-loop-at
+invariant-loop-at l = (l.at ≤ length l.text)
+    × ((k : ℕ) → k < l.at → slice_index l.text k ≢ line_feed)
+
+abbrev pub decreases-loop-at : goal.decreases-loop-at
+decreases-loop-at l = length l.text - l.at

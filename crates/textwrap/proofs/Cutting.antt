@@ -2,19 +2,17 @@
 -- is right, and a right one grows, also at the characters of a loop over `char_indices`. What is right
 -- by index, `next-by_index` says.
 pub use Rattle.textwrap_words.proofs.Word.Cuts.{inner-cuts, next-by_index}
+use Rattle.textwrap.proofs.Common.{len_utf8_bounds, IsCharBoundary, AreInnerCuts, length_push, List}
+use Rattle.textwrap.proofs.Common.{len_utf8, IsUtf8, get_or, length, arith, rules, Some, ◌++◌, ◌+◌}
+use Rattle.textwrap.proofs.Common.{◌-◌, ◌<◌, ◌∷◌, ◌≡◌, ◌≤◌, [], ℕ}
 use Rattle.textwrap_words.proofs.Word.Cuts.{next-push}
 use Rattle.textwrap_words.specs.Cuts.{IsNextCut}
-use Rattle.textwrap_text.proofs.Common.{◌+◌, ◌-◌, ◌≡◌, ℕ, ◌<◌, ◌≤◌, List, [], ◌∷◌, ◌++◌, length}
-use Rattle.textwrap_text.proofs.Common.{get_or, arith, IsCharBoundary, length_push, get_or_push}
-use Rattle.textwrap_text.proofs.Common.{rules, IsUtf8, Some, char_indices_offset, length-encode}
-use Rattle.std.proofs.lemmas.Str.{len_utf8_bounds}
-use Rattle.textwrap_words.proofs.Common.{AreInnerCuts}
-use Rattle.std.specs.Char.{len_utf8}
-use Rattle.std.specs.Str.Iter.{char_indices_rest, char_indices_steps}
+use Rattle.textwrap_text.proofs.Common.{char_indices_offset, length-encode, get_or_push}
+use Rattle.std.specs.Str.Iter.{char_indices_steps, char_indices_rest}
 use Rattle.std.specs.declared.str.CharIndices.{CharIndices}
-use Rattle.textwrap_words.specs.LineEnds.{AreEnds, IsNextEnd}
+use Rattle.textwrap_words.specs.LineEnds.{IsNextEnd, AreEnds}
 use Rattle.textwrap_text.proofs.Texts.{some-bytes}
-use Rattle.textwrap_text.proofs.Units.Reading.{IsRead, read-next, read-room, read-start}
+use Rattle.textwrap_text.proofs.Units.Reading.{read-start, read-next, read-room, IsRead}
 
 -- the last of the numbers, if there are any, is this one
 abbrev pub EndWith : List ℕ → ℕ → Type 0

@@ -1,31 +1,20 @@
 -- Texts that are filled in place: only blanks change, to line feeds in their places.
-use Rattle.textwrap_text.proofs.Common.{IsUtf8-from_ascii, IsUtf8-append, length-append, All-append}
-use Rattle.textwrap_text.proofs.Common.{paragraphs_of, append_assoc, length_push, All-weaker, arith}
-use Rattle.textwrap_text.proofs.Common.{append-nil, join_with, line_feed, All-cons, flat_map, blank}
-use Rattle.textwrap_text.proofs.Common.{zero-add, All-nil, IsUtf8, Option, length, rules, subst, []}
-use Rattle.textwrap_text.proofs.Common.{List, None, Some, refl, ◌++◌, All, Bor, inl, inr, map, sym}
-use Rattle.textwrap_text.proofs.Common.{◌+◌, ◌-◌, ◌<◌, ◌∙◌, ◌∷◌, ◌≡◌, ◌⊎◌, ap, ℕ}
-use Rattle.textwrap_base.proofs.Division.Greedy.{line_width-one, greedy_unique}
-use Rattle.textwrap_base.proofs.Division.Grown.{grown-greedy, grown}
-use Rattle.std.proofs.lemmas.List.Folds.{flat_map-map}
-use Rattle.std.proofs.lemmas.List.Elements.{length_all_zip, AllZip-get_or}
+use Rattle.textwrap.proofs.Common.{IsUtf8-from_ascii, IsBroken-greedy, IsFilledInPlace, breaks_from}
+use Rattle.textwrap.proofs.Common.{parts_past-some, with_line_feeds, length_all_zip, line_width-one}
+use Rattle.textwrap.proofs.Common.{AllZip-get_or, AreLinesApart, greedy_unique, length-append, List}
+use Rattle.textwrap.proofs.Common.{paragraphs_of, IsAscii-cons, append_assoc, broken_lines, All-nil}
+use Rattle.textwrap.proofs.Common.{flat_map-map, grown-greedy, tiled-append, length_push, breaks_of}
+use Rattle.textwrap.proofs.Common.{All-weaker, append-nil, join_with, line_feed, shortened, IsUtf8}
+use Rattle.textwrap.proofs.Common.{All-cons, IsBroken, IsGreedy, WordText, flat_map, sizes_of, None}
+use Rattle.textwrap.proofs.Common.{words_of, Option, length, set_at, arith, blank, grown, rules, LF}
+use Rattle.textwrap.proofs.Common.{subst, tiled, Some, flat, refl, ◌++◌, All, Bor, inl, inr, map, ℕ}
+use Rattle.textwrap.proofs.Common.{sym, ◌+◌, ◌-◌, ◌<◌, ◌∙◌, ◌∷◌, ◌≡◌, ◌⊎◌, [], ap}
+use Rattle.textwrap_text.proofs.Common.{IsUtf8-append, All-append, zero-add}
 use Rattle.std.specs.List.{AllZip}
-use Rattle.std.proofs.lemmas.Str.Ascii.{IsAscii-cons}
-use Rattle.textwrap_base.proofs.Common.{IsGreedy}
-use Rattle.textwrap_words.proofs.Common.{WordText, sizes_of, words_of, tiled}
-use Rattle.textwrap.proofs.Common.{IsFilledInPlace, with_line_feeds, AreDividedAt, broken_lines}
-use Rattle.textwrap.proofs.Common.{breaks_from, breaks_of}
-use Rattle.textwrap_text.proofs.Lists.Parts.{flat}
-use Rattle.textwrap_words.proofs.Word.Words.{tiled-append}
-use Rattle.textwrap_layout.proofs.Text.Paragraphs.{join-paragraphs_of, parts_past-some}
-use Rattle.textwrap_layout.proofs.Text.Paragraphs.{join_with-cons}
-use Rattle.textwrap_layout.proofs.Paragraph.Covered.{IsBroken-greedy, AreLinesApart, shortened}
-use Rattle.textwrap_layout.proofs.Paragraph.Covered.{IsBroken}
-use Rattle.textwrap_text.specs.declared.line_ending.LineEnding.TheVariants.{LF}
+use Rattle.textwrap.specs.InPlace.{OnlyBlanksChange, AreDividedAt}
+use Rattle.textwrap_layout.proofs.Text.Paragraphs.{join-paragraphs_of, join_with-cons}
 use Rattle.textwrap_layout.proofs.Text.Lines.{paragraphs_left, bytes_left}
-use Rattle.std.proofs.lemmas.List.{set_at}
 use Rattle.textwrap_text.proofs.Texts.{ascii_seam}
-use Rattle.textwrap.specs.InPlace.{OnlyBlanksChange}
 
 -- ---- the lines of a part in a row, joined by blanks and by line feeds
 

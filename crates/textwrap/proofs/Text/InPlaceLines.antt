@@ -1,45 +1,38 @@
 -- The lines of a text that is filled in place are lines of the wrapped text; and a part that is filled
 -- in place word by word: the line so far, and the blanks that become line feeds.
-use Rattle.textwrap_text.proofs.Common.{without_final_blanks, reverse-append, take-append-le, arith}
-use Rattle.textwrap_text.proofs.Common.{length-append, paragraphs_of, append_assoc, ending_bytes, ℕ}
-use Rattle.textwrap_text.proofs.Common.{length_push, trimmed_len, All-append, append-nil, and_parts}
-use Rattle.textwrap_text.proofs.Common.{map-append, join_with, All-cons, All-head, All-tail, IsUtf8}
-use Rattle.textwrap_text.proofs.Common.{flat_map, ltb-true, All-map, All-nil, chunks, length, blank}
-use Rattle.textwrap_text.proofs.Common.{nat_lt, false, rules, subst, Bool, List, refl, true, ◌++◌}
-use Rattle.textwrap_text.proofs.Common.{◌||◌, All, map, suc, sym, ◌+◌, ◌-◌, ◌<◌, ◌∙◌, ◌∷◌, ◌≡◌, ◌≢◌}
-use Rattle.textwrap_text.proofs.Common.{◌≤◌, [], ap}
-use Rattle.textwrap_base.proofs.Common.{closed_width, line_width, open_width, IsGreedy, Fits}
-use Rattle.textwrap_words.proofs.Common.{AreWordsOf, WordText, sizes_of, words_of, tile_of, word_of}
-use Rattle.textwrap_words.proofs.Common.{Greedy, Whole, tiled}
-use Rattle.textwrap_layout.proofs.Common.{AreParagraphParts, AreTextLines, parts_from, AreGroups}
-use Rattle.textwrap_layout.proofs.Common.{DividesAs, LineParts, indent_of, line_from, pieces_of}
-use Rattle.textwrap_layout.proofs.Common.{widths_of, is_whole, parts_of, covered, Slice, Line}
-use Rattle.textwrap.proofs.Common.{IsFilledInPlace, broken_lines, FitsOneLine, unbroken_at}
-use Rattle.textwrap.proofs.Common.{breaks_of}
+use Rattle.textwrap.proofs.Common.{some_from_nonempty, AreParagraphParts, IsBroken-greedy, All-cons}
+use Rattle.textwrap.proofs.Common.{IsFilledInPlace, parts_past-some, line_width-one, text_width-nil}
+use Rattle.textwrap.proofs.Common.{tiled-words_of, AreLinesApart, greedy_unique, length-append, All}
+use Rattle.textwrap.proofs.Common.{paragraphs_of, append_assoc, broken_lines, common_steps, All-nil}
+use Rattle.textwrap.proofs.Common.{ending_bytes, grown-greedy, tiled-append, words_unique, All-head}
+use Rattle.textwrap.proofs.Common.{FitsOneLine, length_push, split-whole, trimmed_len, AreWordsOf}
+use Rattle.textwrap.proofs.Common.{append-nil, map-append, parts_from, AreGroups, DividesAs, Greedy}
+use Rattle.textwrap.proofs.Common.{LineParts, and_parts, breaks_of, indent_of, join_with, line_from}
+use Rattle.textwrap.proofs.Common.{shortened, widths_of, All-tail, IsGreedy, WordText, flat_map, LF}
+use Rattle.textwrap.proofs.Common.{is_whole, parts_of, sizes_of, words_of, covered, tile_of, IsUtf8}
+use Rattle.textwrap.proofs.Common.{word_of, chunks, length, Slice, Whole, arith, blank, false, Bool}
+use Rattle.textwrap.proofs.Common.{grown, rules, subst, tiled, Line, List, flat, refl, true, ◌++◌}
+use Rattle.textwrap.proofs.Common.{map, suc, sym, ◌+◌, ◌-◌, ◌<◌, ◌∙◌, ◌∷◌, ◌≡◌, ◌≢◌, ◌≤◌, [], ap, ℕ}
+use Rattle.textwrap_text.proofs.Common.{without_final_blanks, reverse-append, take-append-le, ◌||◌}
+use Rattle.textwrap_text.proofs.Common.{All-append, ltb-true, All-map, nat_lt}
+use Rattle.textwrap_base.proofs.Common.{closed_width, line_width, open_width, Fits}
+use Rattle.textwrap_layout.proofs.Common.{AreTextLines, pieces_of}
+use Rattle.textwrap.specs.Laws.{unbroken_at}
 use Rattle.textwrap_base.proofs.Division.Greedy.{closed_width-push, open_width-append}
-use Rattle.textwrap_base.proofs.Division.Greedy.{line_width-one, line_width-two, IsGreedy-same}
-use Rattle.textwrap_base.proofs.Division.Greedy.{greedy_unique}
-use Rattle.textwrap_text.specs.declared.line_ending.LineEnding.TheVariants.{LF}
+use Rattle.textwrap_base.proofs.Division.Greedy.{line_width-two, IsGreedy-same}
 use Rattle.textwrap_text.specs.LineEnding.{Lacks}
-use Rattle.textwrap_layout.proofs.Text.Paragraphs.{paragraphs_of-utf8, parts_past-some}
-use Rattle.textwrap_layout.proofs.Text.Paragraphs.{paragraphs_one}
-use Rattle.textwrap_layout.proofs.Paragraph.Covered.{IsBroken-greedy, AreLinesApart, shortened}
+use Rattle.textwrap_layout.proofs.Text.Paragraphs.{paragraphs_of-utf8, paragraphs_one}
 use Rattle.textwrap.proofs.Text.InPlace.{greedy_lines, lines-broken, lines-greedy, join-broken}
 use Rattle.textwrap.proofs.Text.InPlace.{lines-some, part_lines, filled-is}
-use Rattle.textwrap_words.proofs.Word.Words.{text_width-nil, tiled-words_of, HasNoPenalty}
-use Rattle.textwrap_words.proofs.Word.Words.{tiled-append, words_unique, tiled-push}
+use Rattle.textwrap_words.proofs.Word.Words.{HasNoPenalty, tiled-push}
 use Rattle.textwrap_layout.proofs.Paragraph.LeftOff.{AreParagraphParts-divided, closed-pieces_of}
 use Rattle.textwrap_layout.proofs.Paragraph.LeftOff.{AreParagraphParts-whole, covered-words_of}
 use Rattle.textwrap_layout.proofs.Paragraph.LeftOff.{line_from-pieces, line_from-whole}
 use Rattle.textwrap_layout.proofs.Paragraph.LeftOff.{tiled-word_of}
 use Rattle.textwrap_base.proofs.Cost.Chosen.{IsDividedBy-one_line}
-use Rattle.textwrap_text.proofs.Lists.Parts.{some_from_nonempty, flat}
 use Rattle.textwrap_layout.proofs.Paragraph.Pieces.{ArePieces-computed}
-use Rattle.textwrap_lines.proofs.PrintableTexts.Bytes.{split-whole}
 use Rattle.textwrap_base.proofs.Division.Map.{IsDivision-whole}
-use Rattle.textwrap_base.proofs.Division.Grown.{prefix-closes, grown-begins, grown-greedy, grown}
-use Rattle.textwrap_base.proofs.Division.Grown.{grown-full}
-use Rattle.std.proofs.lemmas.Grind.{common_steps}
+use Rattle.textwrap_base.proofs.Division.Grown.{prefix-closes, grown-begins, grown-full}
 
 -- ---- there is one text filled in place, and it has its lines between its line feeds
 

@@ -1,40 +1,30 @@
 -- The margin of a text, the parts of a text that are indented, and indents that are put before lines
 -- and taken off again.
-use Rattle.textwrap_text.proofs.Common.{starts_with_length, length-prefix_len, starts_with_of_eq, ℕ}
-use Rattle.textwrap_text.proofs.Common.{starts_with_trans, take-append-drop, encode_utf8_all, arith}
-use Rattle.textwrap_text.proofs.Common.{append_assoc, chars-append, All-append, All-weaker, All-nil}
-use Rattle.textwrap_text.proofs.Common.{StartsWith, append-nil, false≢true, option_map, prefix_len}
-use Rattle.textwrap_text.proofs.Common.{and_parts, and_right, chars-nil, drop_more, take_more, Bool}
-use Rattle.textwrap_text.proofs.Common.{unwrap_or, All-cons, All-head, All-tail, drop_all, flat_map}
-use Rattle.textwrap_text.proofs.Common.{list_all, take_all, drop_at, IsUtf8, Option, eq-eqb, get_or}
-use Rattle.textwrap_text.proofs.Common.{length, ne_eqb, ⊎_elim, false, lines, rules, List, None, []}
-use Rattle.textwrap_text.proofs.Common.{Some, cond, drop, fold, refl, take, true, ◌++◌, ◌==◌, All}
-use Rattle.textwrap_text.proofs.Common.{Bor, inl, inr, map, min, sym, zip, ◌+◌, ◌-◌, ◌<◌, ◌↔◌, ◌∙◌}
-use Rattle.textwrap_text.proofs.Common.{◌∷◌, ◌≡◌, ◌⊎◌, ap}
-use Rattle.textwrap.proofs.Common.{leading_whitespace, is_blank_line, ended_parts, margin_of}
-use Rattle.textwrap.proofs.Common.{narrowed}
-use Rattle.textwrap_text.proofs.Common.{chars-IsAscii, IsAscii, nat_tests}
-use Rattle.std.proofs.lemmas.Grind.{common_steps}
-use Rattle.std.proofs.lemmas.Str.{IsUtf8-from_ascii}
-use Rattle.std.specs.Str.{drop_trailing_whitespace, skip_leading_whitespace, trim_start, trim_end}
-use Rattle.std.specs.Str.{chars}
+use Rattle.textwrap.proofs.Common.{append_cancel_left, leading_whitespace, starts_with_length, Bool}
+use Rattle.textwrap.proofs.Common.{IsUtf8-from_ascii, length-prefix_len, starts_with_of_eq, All-nil}
+use Rattle.textwrap.proofs.Common.{starts_with_trans, take-append-drop, encode_utf8_all, All-weaker}
+use Rattle.textwrap.proofs.Common.{list_all-append, indent_of_part, is_blank_line, is_whitespace, ℕ}
+use Rattle.textwrap.proofs.Common.{scalars-chars, append_assoc, common_steps, either_short, IsAscii}
+use Rattle.textwrap.proofs.Common.{StartsWith, append-nil, false≢true, option_map, prefix_len, List}
+use Rattle.textwrap.proofs.Common.{and_parts, margin_of, nat_tests, take_more, unwrap_or, All-cons}
+use Rattle.textwrap.proofs.Common.{All-head, All-tail, by-lines, flat_map, indented, take_all, None}
+use Rattle.textwrap.proofs.Common.{drop_at, IsUtf8, Option, eq-eqb, get_or, length, ne_eqb, ⊎_elim}
+use Rattle.textwrap.proofs.Common.{arith, chars, false, lines, rules, Some, cond, drop, fold, refl}
+use Rattle.textwrap.proofs.Common.{take, true, ◌++◌, ◌==◌, All, Bor, inl, inr, map, min, sym, zip}
+use Rattle.textwrap.proofs.Common.{◌+◌, ◌-◌, ◌<◌, ◌↔◌, ◌∙◌, ◌∷◌, ◌≡◌, ◌⊎◌, [], ap}
+use Rattle.textwrap_text.proofs.Common.{chars-IsAscii, chars-append, All-append, and_right}
+use Rattle.textwrap_text.proofs.Common.{chars-nil, drop_more, drop_all, list_all}
 use Rattle.textwrap.specs.Indentation.{lines_from_first, IsMarginOfLines, margin_of_lines, AreEnded}
-use Rattle.textwrap.specs.Indentation.{unindented_part, EndsInLineFeed, indent_of_part, IsMarginOf}
-use Rattle.textwrap.specs.Indentation.{AreComparable, AreEndedParts, HasNoLineFeed, IsMargin}
-use Rattle.textwrap.specs.Indentation.{indented}
+use Rattle.textwrap.specs.Indentation.{unindented_part, EndsInLineFeed, AreComparable, ended_parts}
+use Rattle.textwrap.specs.Indentation.{AreEndedParts, HasNoLineFeed, IsMarginOf, IsMargin, narrowed}
+use Rattle.std.specs.Str.{drop_trailing_whitespace, skip_leading_whitespace, trim_start, trim_end}
 use Rattle.textwrap_text.proofs.Lists.Parts.{nothing-starts, longest-step, starts-cons, starts-head}
 use Rattle.textwrap_text.proofs.Lists.Parts.{starts-tail, nil_after, all-left}
-use Rattle.std.specs.Char.{is_whitespace}
 use Rattle.textwrap_text.proofs.Texts.{leading-skipped, trim_end-front, white-leading, white-front}
 use Rattle.textwrap_text.proofs.Texts.{cut_text, skipped, IsCut}
 use Rattle.std.proofs.lemmas.Slice.Zip.{get_or-zip, length-zip}
-use Rattle.textwrap_text.proofs.Numbers.{either_short}
-use Rattle.std.proofs.lemmas.List.{append_cancel_left}
 use Rattle.textwrap_text.proofs.TextLines.{ended_parts-front, ended_parts-whole, ended_parts-flat}
-use Rattle.textwrap_text.proofs.TextLines.{by-lines}
 use Rattle.textwrap_text.proofs.Lists.Elements.{dropped-map, flat-map}
-use Rattle.std.proofs.lemmas.List.Folds.{list_all-append}
-use Rattle.std.proofs.lemmas.Str.{scalars-chars}
 use lib.Utf8.{scalars, scalar}
 
 -- ---- a margin and one line, and the later lines

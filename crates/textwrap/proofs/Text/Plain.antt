@@ -1,28 +1,21 @@
 -- Plain lines: their parts between blanks, their endings, and their text, unfilled.
-use Rattle.textwrap_text.proofs.Common.{without_final_blanks, take-append-drop, length-append, List}
-use Rattle.textwrap_text.proofs.Common.{append_assoc, ending_bytes, length-take, trimmed_len, arith}
-use Rattle.textwrap_text.proofs.Common.{All-append, All-weaker, map-append, prefix_len, ends_with}
-use Rattle.textwrap_text.proofs.Common.{line_feed, All-cons, All-head, All-tail, take_all, All-nil}
-use Rattle.textwrap_text.proofs.Common.{filter, get_or, length, lt-ltb, nat_eq, ne_eqb, blank, cond}
-use Rattle.textwrap_text.proofs.Common.{false, lines, rules, subst, drop, last, refl, take, true, ℕ}
-use Rattle.textwrap_text.proofs.Common.{◌++◌, ◌==◌, All, sym, ◌+◌, ◌-◌, ◌<◌, ◌∙◌, ◌∷◌, ◌≡◌, ◌≢◌, []}
-use Rattle.textwrap_text.proofs.Common.{ap}
-use Rattle.textwrap.proofs.Common.{is_prefix_character, nonempty_lines, keeps_ending, IsPlainByte}
-use Rattle.textwrap.proofs.Common.{IsPlainLine, IsPlainWord, line_prefix, EndedLine, blanked}
-use Rattle.std.proofs.lemmas.List.Elements.{All-get_or}
-use Rattle.std.proofs.lemmas.List.Folds.{map_fixed}
-use Rattle.textwrap_text.proofs.Lists.Parts.{some_from_nonempty, last-append, all-right}
+use Rattle.textwrap.proofs.Common.{is_prefix_character, some_from_nonempty, ended_lines-texts, CRLF}
+use Rattle.textwrap.proofs.Common.{ending_bytes-some, take-append-drop, nonempty_lines, IsPlainByte}
+use Rattle.textwrap.proofs.Common.{length-append, append_assoc, ending_bytes, keeps_ending, All-nil}
+use Rattle.textwrap.proofs.Common.{IsPlainLine, IsPlainWord, ended_lines, line_prefix, trimmed_len}
+use Rattle.textwrap.proofs.Common.{All-get_or, All-weaker, LineEnding, map-append, prefix_len, List}
+use Rattle.textwrap.proofs.Common.{EndedLine, all-right, ends_with, line_feed, map_fixed, All-cons}
+use Rattle.textwrap.proofs.Common.{All-head, All-tail, has_text, take_all, texts_of, blanked, arith}
+use Rattle.textwrap.proofs.Common.{filter, get_or, length, nat_eq, ne_eqb, blank, false, lines, All}
+use Rattle.textwrap.proofs.Common.{rules, subst, cond, drop, refl, take, true, ◌++◌, ◌==◌, ap₂, sym}
+use Rattle.textwrap.proofs.Common.{◌+◌, ◌-◌, ◌<◌, ◌∙◌, ◌∷◌, ◌≡◌, ◌≢◌, LF, [], ap, ℕ}
+use Rattle.textwrap_text.proofs.Common.{without_final_blanks, length-take, All-append, lt-ltb, last}
+use Rattle.textwrap_text.proofs.Lists.Parts.{last-append}
 use Rattle.textwrap_words.proofs.Word.Texts.{trimmed-past}
 use Rattle.textwrap.proofs.Text.InPlace.{blank_joined, feed_joined}
 use Rattle.std.specs.Str.Lines.{strip_carriage_return}
-use Rattle.textwrap.specs.Refilling.{ended_lines, has_text}
-use Rattle.textwrap_text.proofs.TextLines.{ended_lines-front, ended_lines-texts, ended_lines-whole}
-use Rattle.textwrap_text.proofs.TextLines.{texts_of}
-use Rattle.std.proofs.Common.{ap₂}
+use Rattle.textwrap_text.proofs.TextLines.{ended_lines-front, ended_lines-whole}
 use Rattle.std.proofs.lemmas.Slice.Eq.{bytes_eq-Decides}
-use Rattle.textwrap_text.specs.declared.line_ending.LineEnding.{LineEnding}
-use Rattle.textwrap_text.specs.declared.line_ending.LineEnding.TheVariants.{CRLF, LF}
-use Rattle.textwrap_layout.proofs.Text.Paragraphs.{ending_bytes-some}
 
 -- ---- what plain lines begin and end with
 

@@ -1,39 +1,33 @@
 -- Plain texts: their lines under indents, what unfilling finds, and plain texts that are filled with
 -- whole words, unfilled and filled again.
-use Rattle.textwrap_text.proofs.Common.{without_final_blanks, starts_with_of_eq, append_assoc, Bool}
-use Rattle.textwrap_text.proofs.Common.{All-weaker, append-nil, MatchBool, line_feed, All-cons, All}
-use Rattle.textwrap_text.proofs.Common.{All-head, All-tail, take_all, All-nil, drop_at, chunks, map}
-use Rattle.textwrap_text.proofs.Common.{length, arith, false, lines, rules, subst, List, cond, drop}
-use Rattle.textwrap_text.proofs.Common.{fold, refl, true, ◌++◌, suc, sym, ◌↔◌, ◌∙◌, ◌∷◌, ◌≡◌, ◌≢◌}
-use Rattle.textwrap_text.proofs.Common.{◌≤◌, [], ap, ℕ}
+use Rattle.textwrap.proofs.Common.{is_prefix_character, unfilled_subsequent, AreParagraphParts, All}
+use Rattle.textwrap.proofs.Common.{starts_with_of_eq, unfilled_initial, with_indents_of, All-weaker}
+use Rattle.textwrap.proofs.Common.{tiled-words_of, AreLinesApart, common_prefix, added_ending, Bool}
+use Rattle.textwrap.proofs.Common.{append_assoc, broken_lines, common_start, keeps_ending, All-cons}
+use Rattle.textwrap.proofs.Common.{words_unique, IsDividedBy, IsPlainLine, joined_text, line_prefix}
+use Rattle.textwrap.proofs.Common.{split-whole, AreWordsOf, IsRefilled, apart_from, append-nil, map}
+use Rattle.textwrap.proofs.Common.{line_bytes, parts_from, Algorithm, AreGroups, DividesAs, All-nil}
+use Rattle.textwrap.proofs.Common.{LeastCost, LineParts, all-right, indent_of, line_feed, line_from}
+use Rattle.textwrap.proofs.Common.{map_fixed, shortened, widths_of, All-head, All-tail, IsFilled, ℕ}
+use Rattle.textwrap.proofs.Common.{Settings, Splitter, WordText, is_whole, parts_of, sizes_of, List}
+use Rattle.textwrap.proofs.Common.{take_all, words_of, IsPlain, blanked, covered, drop_at, word_of}
+use Rattle.textwrap.proofs.Common.{Greedy, chunks, length, Whole, arith, false, lines, rules, subst}
+use Rattle.textwrap.proofs.Common.{tiled, cond, drop, flat, fold, refl, true, ◌++◌, suc, sym, ◌↔◌}
+use Rattle.textwrap.proofs.Common.{◌∙◌, ◌∷◌, ◌≡◌, ◌≢◌, ◌≤◌, [], ap}
+use Rattle.textwrap_text.proofs.Common.{without_final_blanks, MatchBool}
 use Rattle.textwrap_base.proofs.Common.{IsDivision, Sizes}
-use Rattle.textwrap_layout.proofs.Common.{AreParagraphParts, line_bytes, parts_from, AreGroups}
-use Rattle.textwrap_layout.proofs.Common.{DividesAs, LineParts, indent_of, line_from, widths_of}
-use Rattle.textwrap_layout.proofs.Common.{IsFilled, Settings, is_whole, parts_of, covered}
-use Rattle.textwrap.proofs.Common.{is_prefix_character, unfilled_subsequent, unfilled_initial}
-use Rattle.textwrap.proofs.Common.{IsFilledWhole, common_prefix, broken_lines, common_start}
-use Rattle.textwrap.proofs.Common.{keeps_ending, IsPlainLine, joined_text, line_prefix, KeepsWords}
-use Rattle.textwrap.proofs.Common.{IsIndent, IsPlain, blanked}
+use Rattle.textwrap.specs.Laws.{with_indents_as, IsIndentedFill, IsFilledWhole, IsUnindented}
+use Rattle.textwrap.specs.Laws.{KeepsWords, IsIndent}
 use Rattle.textwrap.proofs.Text.Plain.{blanked-joined, plain_parts, unblank-row, keeps-rows, IsRow}
 use Rattle.textwrap.proofs.Text.Plain.{lines-rows, row-append, texts-rows, solid}
 use Rattle.std.proofs.lemmas.List.Sums.{take_while-cons}
-use Rattle.textwrap.specs.Refilling.{with_indents_of, added_ending, IsRefilled}
 use Rattle.textwrap.proofs.Text.InPlace.{blank_joined, tiled-broken, feed_joined}
-use Rattle.textwrap_words.proofs.Common.{IsDividedBy, AreWordsOf, Algorithm, LeastCost, Splitter}
-use Rattle.textwrap_words.proofs.Common.{WordText, sizes_of, words_of, word_of, Greedy, Whole}
-use Rattle.textwrap_words.proofs.Common.{tiled}
 use Rattle.textwrap_layout.proofs.Paragraph.LeftOff.{whole_unindented, assembled-parts}
 use Rattle.textwrap_layout.proofs.Paragraph.LeftOff.{bytes-assembled, line_from-whole}
-use Rattle.textwrap_layout.proofs.Paragraph.Covered.{AreLinesApart, apart_from, shortened}
 use Rattle.textwrap.proofs.Text.InPlaceLines.{without_final_blanks-push, words-no_penalty}
 use Rattle.textwrap.proofs.Text.InPlaceLines.{covered-words}
-use Rattle.textwrap_text.proofs.Lists.Parts.{all-right, flat}
-use Rattle.textwrap_words.proofs.Word.Words.{tiled-words_of, words_unique}
 use Rattle.textwrap_layout.proofs.Paragraph.Pieces.{ArePieces-is}
-use Rattle.textwrap_lines.proofs.PrintableTexts.Bytes.{split-whole}
 use Rattle.textwrap_layout.proofs.Text.Paragraphs.{one-paragraph}
-use Rattle.std.proofs.lemmas.List.Folds.{map_fixed}
-use Rattle.textwrap.specs.Laws.{with_indents_as, IsIndentedFill, IsUnindented}
 use Rattle.textwrap.proofs.Text.Unfilling.{common_len-longest}
 
 -- ---- a line and its indent

@@ -1,7 +1,7 @@
 -- Worked rows on plain texts.
-use Rattle.textwrap_text.proofs.Common.{All-cons, All-nil, length, arith, codes, rules, refl, ◌∷◌}
-use Rattle.textwrap_text.proofs.Common.{◌≡◌, ◌≤◌, [], ap, ℕ}
-use Rattle.textwrap.proofs.Common.{IsPlainLine, IsPlainWord, line_prefix, IsPlain, blanked}
+use Rattle.textwrap.proofs.Common.{IsPlainLine, IsPlainWord, line_prefix, All-cons, All-nil, length}
+use Rattle.textwrap.proofs.Common.{IsPlain, blanked, arith, rules, refl, ◌∷◌, ◌≡◌, ◌≤◌, [], ap, ℕ}
+use Rattle.textwrap_text.proofs.Common.{codes}
 use Rattle.textwrap.proofs.Text.PlainFilled.{unfilled-plain}
 
 pub blanked-lines : blanked (codes "a b\nc") ≡ codes "a b c"

@@ -1,13 +1,12 @@
 -- Rows of cells between gaps: one cell more, how many bytes they have, and the text of a line.
-use Rattle.textwrap_text.proofs.Common.{◌≡◌, ℕ, zero, suc, ◌+◌, ◌-◌, ◌*◌, ◌<◌, ◌≤◌, List, [], ◌∷◌}
-use Rattle.textwrap_text.proofs.Common.{◌++◌, append_assoc, arith, get_or, join_with, length, ap}
-use Rattle.textwrap_text.proofs.Common.{length-append, length-take-le, sum_by, sum_by-cons, sym}
-use Rattle.textwrap_text.proofs.Common.{take, take_more, refl, ◌∙◌, get_or-map, length-map, map}
-use Rattle.std.proofs.lemmas.List.{length-replicate}
+use Rattle.textwrap.proofs.Common.{length-replicate, length-append, append_assoc, sum_by-cons, List}
+use Rattle.textwrap.proofs.Common.{get_or-map, length-map, line_bytes, join_with, line_view, get_or}
+use Rattle.textwrap.proofs.Common.{take_more, length, sum_by, arith, refl, take, zero, ◌++◌, map, ℕ}
+use Rattle.textwrap.proofs.Common.{suc, sym, ◌*◌, ◌+◌, ◌-◌, ◌<◌, ◌∙◌, ◌∷◌, ◌≡◌, ◌≤◌, [], ap}
+use Rattle.textwrap_text.proofs.Common.{length-take-le}
 use Rattle.std.proofs.lemmas.List.Sums.{sum_by_more}
 use Rattle.std.specs.Cow.{cow_str_bytes}
 use Rattle.std.specs.declared.borrow.CowStr.{CowStr}
-use Rattle.textwrap_layout.proofs.Common.{line_bytes, line_view}
 use Rattle.textwrap_layout.proofs.Text.Lines.{line_bytes-line_view}
 use Rattle.textwrap.specs.Rows.{gap_before, row_text}
 

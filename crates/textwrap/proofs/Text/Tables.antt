@@ -1,32 +1,23 @@
 -- The cells and rows of texts in columns: which lines they show, and that rows are even.
-use Rattle.textwrap_text.proofs.Common.{◌≡◌, ℕ, zero, suc, ◌+◌, ◌-◌, ◌*◌, ◌<◌, ◌≤◌, List, [], ◌∷◌}
-use Rattle.textwrap_text.proofs.Common.{◌++◌, length, get_or, map, refl, sym, ap, ◌∙◌, arith}
-use Rattle.textwrap_text.proofs.Common.{append_assoc, append-nil, inl, inr, range_with_len}
-use Rattle.textwrap_text.proofs.Common.{get_or-map, get_or_past, length-map, map-append}
-use Rattle.textwrap_text.proofs.Common.{flat_map-append, rules, flat_map, All, sum_by, All-head}
-use Rattle.textwrap_text.proofs.Common.{All-tail, sum_by-cons, sum_by-append, Bool, join_with}
-use Rattle.textwrap_text.proofs.Common.{text_width, cases_lt, min}
-use Rattle.textwrap_layout.proofs.Common.{Settings, settings_view, Line, IsDividedInto, DividesBy}
-use Rattle.textwrap_layout.proofs.Common.{AreTextLines}
-use Rattle.textwrap.proofs.Common.{RowLayout, blanks, cell, padded, cells, row_text, layout_of}
-use Rattle.textwrap.proofs.Common.{inner_width}
-use Rattle.textwrap_words.proofs.Word.Words.{text_width-nil}
+use Rattle.textwrap.proofs.Common.{length-replicate, cells_by_column, div_ceil_times, All-replicate}
+use Rattle.textwrap.proofs.Common.{range_with_len, text_width-nil, settings_view, DividesUnder, All}
+use Rattle.textwrap.proofs.Common.{KeepsMethods, append_assoc, column_cells, MayOverflow, MayDivide}
+use Rattle.textwrap.proofs.Common.{MaySeparate, inner_width, sum_by-cons, append-nil, cell_parts, ℕ}
+use Rattle.textwrap.proofs.Common.{get_or-map, length-map, map-append, text_width, RowLayout, arith}
+use Rattle.textwrap.proofs.Common.{join_with, layout_of, replicate, row_count, row_parts, All-head}
+use Rattle.textwrap.proofs.Common.{All-tail, MaySplit, Settings, WordText, cases_lt, flat_map, Bool}
+use Rattle.textwrap.proofs.Common.{row_text, Options, blanks, get_or, length, padded, sum_by, cells}
+use Rattle.textwrap.proofs.Common.{rules, Line, List, cell, refl, zero, ◌++◌, inl, inr, map, min}
+use Rattle.textwrap.proofs.Common.{suc, sym, ◌*◌, ◌+◌, ◌-◌, ◌<◌, ◌∙◌, ◌∷◌, ◌≡◌, ◌≤◌, [], ap}
+use Rattle.textwrap_text.proofs.Common.{flat_map-append, sum_by-append, get_or_past}
+use Rattle.textwrap_layout.proofs.Common.{IsDividedInto, AreTextLines, DividesBy}
 use Rattle.textwrap_text.proofs.Lists.Elements.{range-split}
-use Rattle.std.proofs.lemmas.List.{length-replicate}
-use Rattle.std.proofs.Common.{replicate}
 use Rattle.std.proofs.Math.Nat.{mul-le-mul_right}
-use Rattle.std.proofs.lemmas.Grind.{div_ceil_times}
-use Rattle.std.proofs.lemmas.List.FromFn.{get_or-map-range_with_len, fill_by_all}
-use Rattle.std.proofs.lemmas.List.FromFn.{length-map-range_with_len}
-use Rattle.textwrap.specs.Columns.{row_count, column_cells, cells_by_column, cell_parts, row_parts}
-use Rattle.textwrap_words.proofs.Common.{MaySeparate, MaySplit, WordText, MayDivide}
-use Rattle.std.proofs.lemmas.List.Elements.{All-replicate}
+use Rattle.std.proofs.lemmas.List.FromFn.{get_or-map-range_with_len, length-map-range_with_len}
+use Rattle.std.proofs.lemmas.List.FromFn.{fill_by_all}
 use Rattle.textwrap_text.proofs.Units.Reading.{printable-width}
-use Rattle.textwrap_layout.specs.Options.{KeepsMethods, MayOverflow}
-use Rattle.textwrap_layout.specs.Paragraph.{DividesUnder}
-use Rattle.textwrap_layout.specs.Text.{SomeMayPass64Bits, SomeMayPass64BitsUnder}
+use Rattle.textwrap_layout.specs.Text.{SomeMayPass64BitsUnder, SomeMayPass64Bits}
 use Rattle.textwrap_words.specs.declared.wrap_algorithms.WrapAlgorithm.{WrapAlgorithm}
-use Rattle.textwrap_layout.specs.declared.options.Options.{Options}
 use Rattle.textwrap_words.specs.declared.word_separators.WordSeparator.{WordSeparator}
 use Rattle.textwrap_words.specs.declared.word_splitters.WordSplitter.{WordSplitter}
 

@@ -1,41 +1,29 @@
 -- What texts begin with together, the layout of a text and what unfilling gives; a text that is filled
 -- with the indents of another.
-use Rattle.textwrap_text.proofs.Common.{IsCharBoundary-from_take, starts_with_of_append, StartsWith}
-use Rattle.textwrap_text.proofs.Common.{starts_with_length, IsUtf8-from_ascii, common_prefix_len, ℕ}
-use Rattle.textwrap_text.proofs.Common.{starts_with_of_eq, starts_with_trans, take-append-drop, All}
-use Rattle.textwrap_text.proofs.Common.{nil_from_length, IsCharBoundary, append_assoc, ending_bytes}
-use Rattle.textwrap_text.proofs.Common.{append-nil, cases_Bool, prefix_len, text_width, ends_with}
-use Rattle.textwrap_text.proofs.Common.{join_with, nat_tests, take-take, unwrap_or, All-cons, arith}
-use Rattle.textwrap_text.proofs.Common.{All-head, All-tail, flat_map, All-nil, IsAscii, IsUtf8, Bor}
-use Rattle.textwrap_text.proofs.Common.{Option, eq-eqb, filter, get_or, length, nat_eq, blank, Bool}
-use Rattle.textwrap_text.proofs.Common.{false, lines, rules, subst, List, None, Some, cond, drop}
-use Rattle.textwrap_text.proofs.Common.{fold, refl, take, true, ◌++◌, inl, inr, map, max, sym, ◌+◌}
-use Rattle.textwrap_text.proofs.Common.{◌↔◌, ◌∷◌, ◌≡◌, ◌≤◌, [], ap}
-use Rattle.textwrap.proofs.Common.{is_prefix_character, unfilled_subsequent, unfilled_initial}
-use Rattle.textwrap.proofs.Common.{detected_ending, detected_among, nonempty_lines, common_prefix}
-use Rattle.textwrap.proofs.Common.{common_start, keeps_ending, joined_text, line_prefix, EndedLine}
-use Rattle.textwrap.proofs.Common.{layout_of}
-use Rattle.std.proofs.lemmas.Str.{IsAscii-take}
-use Rattle.std.proofs.lemmas.Str.Ascii.{IsAscii-cons}
+use Rattle.textwrap.proofs.Common.{is_prefix_character, unfilled_subsequent, starts_with_length, LF}
+use Rattle.textwrap.proofs.Common.{IsUtf8-from_ascii, common_prefix_len, ended_lines-texts, All-nil}
+use Rattle.textwrap.proofs.Common.{starts_with_of_eq, starts_with_trans, take-append-drop, All-cons}
+use Rattle.textwrap.proofs.Common.{unfilled_initial, detected_ending, with_indents_of, DividesUnder}
+use Rattle.textwrap.proofs.Common.{IsCharBoundary, detected_among, nonempty_lines, text_width-nil}
+use Rattle.textwrap.proofs.Common.{common_prefix, settings_view, IsAscii-cons, IsAscii-take, IfSome}
+use Rattle.textwrap.proofs.Common.{added_ending, append_assoc, common_start, common_steps, All-head}
+use Rattle.textwrap.proofs.Common.{ending_bytes, keeps_ending, IsInColumns, joined_text, All-filter}
+use Rattle.textwrap.proofs.Common.{line_prefix, settings_at, IsRefilled, LineEnding, StartsWith, []}
+use Rattle.textwrap.proofs.Common.{append-nil, prefix_len, text_width, Algorithm, DividesAs, IsUtf8}
+use Rattle.textwrap.proofs.Common.{EndedLine, ends_with, join_with, layout_of, nat_tests, unwrap_or}
+use Rattle.textwrap.proofs.Common.{All-tail, IsFilled, Settings, Splitter, WordText, flat_map, Bool}
+use Rattle.textwrap.proofs.Common.{has_text, texts_of, IsAscii, Options, Option, eq-eqb, filter, ap}
+use Rattle.textwrap.proofs.Common.{get_or, length, nat_eq, arith, blank, false, lines, rules, subst}
+use Rattle.textwrap.proofs.Common.{CRLF, List, None, Some, cond, drop, fold, refl, take, true, ◌++◌}
+use Rattle.textwrap.proofs.Common.{All, Bor, inl, inr, map, max, sym, ◌+◌, ◌↔◌, ◌∷◌, ◌≡◌, ◌≤◌, ℕ}
+use Rattle.textwrap_text.proofs.Common.{IsCharBoundary-from_take, starts_with_of_append, cases_Bool}
+use Rattle.textwrap_text.proofs.Common.{nil_from_length, take-take}
 use Rattle.std.proofs.lemmas.List.Sums.{prefix_len-le-length}
-use Rattle.std.proofs.lemmas.Grind.{common_steps}
-use Rattle.textwrap_text.proofs.TextLines.{ended_lines-texts, texts_of}
-use Rattle.textwrap_words.proofs.Common.{Algorithm, Splitter, WordText}
-use Rattle.textwrap_layout.proofs.Common.{settings_view, AreTextLines, DividesAs, HasParts}
-use Rattle.textwrap_layout.proofs.Common.{IsFilled, Settings}
-use Rattle.std.specs.Prelude.{option_to_list, IfSome}
-use Rattle.textwrap_words.proofs.Word.Words.{text_width-nil}
-use Rattle.textwrap_layout.specs.Options.{settings_at}
-use Rattle.std.proofs.lemmas.List.Elements.{All-filter}
-use Rattle.textwrap_text.specs.declared.line_ending.LineEnding.{LineEnding}
-use Rattle.textwrap_text.specs.declared.line_ending.LineEnding.TheVariants.{CRLF, LF}
-use Rattle.textwrap.specs.Refilling.{unfilled_settings, layout_settings, with_indents_of, has_text}
-use Rattle.textwrap.specs.Refilling.{IsCommonPrefix, added_ending, IsRefilled}
+use Rattle.textwrap_layout.proofs.Common.{AreTextLines, HasParts}
+use Rattle.std.specs.Prelude.{option_to_list}
+use Rattle.textwrap.specs.Refilling.{unfilled_settings, layout_settings, IsCommonPrefix}
 use Rattle.textwrap.specs.declared.refilling.TextLayout.{TextLayout}
-use Rattle.textwrap_layout.specs.declared.options.Options.{Options}
-use Rattle.textwrap_layout.specs.Paragraph.{DividesUnder}
 use Rattle.textwrap_layout.proofs.Paragraph.Pieces.{divides-under}
-use Rattle.textwrap.specs.Columns.{IsInColumns}
 
 -- ---- what two texts begin with, and what all texts do
 

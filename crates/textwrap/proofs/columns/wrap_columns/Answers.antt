@@ -1,11 +1,9 @@
 use Rattle.textwrap.proofs.columns.wrap_columns.Goals as goal
-use Rattle.textwrap_text.proofs.Common.{◌≡◌, map, ap, ◌∙◌}
-use Rattle.std.proofs.lemmas.Result.{IfOk-weaker}
-use Rattle.textwrap_layout.proofs.Common.{line_bytes, settings_view}
-use Rattle.textwrap.specs.Columns.{at_column_width, table_rows}
+use Rattle.textwrap.proofs.Common.{at_column_width, settings_view, IfOk-weaker, line_bytes, map, ap}
+use Rattle.textwrap.proofs.Common.{table_rows, ◌∙◌, ◌≡◌}
 use Rattle.textwrap.proofs.Text.Unfilling.{columns-as}
-use Rattle.textwrap.proofs.Text.Tables.{AreTextLines-methods, MayOverflow-methods}
-use Rattle.textwrap.proofs.Text.Tables.{SomeMayPass64Bits-methods}
+use Rattle.textwrap.proofs.Text.Tables.{SomeMayPass64Bits-methods, AreTextLines-methods}
+use Rattle.textwrap.proofs.Text.Tables.{MayOverflow-methods}
 use Rattle.textwrap.proofs.columns.wrap_columns.Goals.{After-wrap_in_table}
 
 -- the options at the width of a column

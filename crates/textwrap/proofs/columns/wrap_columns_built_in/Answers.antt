@@ -1,11 +1,7 @@
 use Rattle.textwrap.proofs.columns.wrap_columns_built_in.Goals as goal
-use Rattle.textwrap_text.proofs.Common.{map, ap, ◌∙◌, subst}
-use Rattle.std.proofs.lemmas.Result.{IfOk-weaker}
-use Rattle.textwrap_words.proofs.Common.{as_splitter}
-use Rattle.textwrap_layout.proofs.Common.{AreTextLines, DividesAt, layout_view, line_bytes}
-use Rattle.textwrap_layout.proofs.Common.{Settings}
-use Rattle.textwrap_layout.specs.Direct.{as_algorithm}
-use Rattle.textwrap.specs.Columns.{table_rows}
+use Rattle.textwrap.proofs.Common.{as_algorithm, IfOk-weaker, as_splitter, layout_view, line_bytes}
+use Rattle.textwrap.proofs.Common.{table_rows, DividesAt, Settings, subst, map, ◌∙◌, ap}
+use Rattle.textwrap_layout.proofs.Common.{AreTextLines}
 
 pub returns-clause-rows : goal.returns-clause-rows
 returns-clause-rows g c =

@@ -1,7 +1,6 @@
 use Rattle.textwrap.proofs.columns.wrap_in_table.Goals as goal
-use Rattle.textwrap_text.proofs.Common.{map, ap, ◌∙◌}
-use Rattle.textwrap_layout.proofs.Common.{line_bytes, line_view}
-use Rattle.textwrap.specs.Columns.{layout_view, table_rows}
+use Rattle.textwrap.proofs.Common.{line_bytes, table_rows, line_view, map, ◌∙◌, ap}
+use Rattle.textwrap.specs.Columns.{layout_view}
 
 pub returns-clause-rows : goal.returns-clause-rows
 returns-clause-rows g c = (

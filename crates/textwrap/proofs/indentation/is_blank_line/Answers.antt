@@ -1,5 +1,5 @@
 use Rattle.textwrap.proofs.indentation.is_blank_line.Goals as goal
-use Rattle.textwrap_text.proofs.Common.{arith, ap, get_or, length, sym, ◌==◌, ◌∙◌}
+use Rattle.textwrap.proofs.Common.{get_or, length, arith, ◌==◌, sym, ◌∙◌, ap}
 use Rattle.textwrap.proofs.Text.Margins.{is_blank_line-trim_start, is_blank_line-visible}
 
 pub returns-in-33-to-126 : goal.returns-in-33-to-126

@@ -1,8 +1,6 @@
 use Rattle.textwrap.proofs.indentation.leading_whitespace.Goals as goal
-use Rattle.textwrap_text.proofs.Common.{◌≡◌, ◌-◌, length, take, sym, ap, ◌∙◌, encode_utf8_all}
-use Rattle.textwrap_text.proofs.Common.{chars_from_encodes}
-use Rattle.textwrap.proofs.Common.{leading_whitespace}
-use Rattle.textwrap_text.proofs.Lists.Parts.{from_start}
+use Rattle.textwrap.proofs.Common.{chars_from_encodes, leading_whitespace, encode_utf8_all, length}
+use Rattle.textwrap.proofs.Common.{from_start, take, sym, ◌-◌, ◌∙◌, ◌≡◌, ap}
 use Rattle.textwrap.proofs.Text.Margins.{leading-cut, leading-len}
 
 pub range-requires-clause-end_boundary : goal.range-requires-clause-end_boundary

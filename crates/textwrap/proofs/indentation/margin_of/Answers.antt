@@ -1,9 +1,7 @@
 use Rattle.textwrap.proofs.indentation.margin_of.Goals as goal
-use Rattle.textwrap_text.proofs.Common.{◌∙◌, ap, None, refl, sym}
-use Rattle.std.specs.Str.{chars}
-use Rattle.textwrap.proofs.Text.Margins.{margin_after, margin_after-blank, margin_after-first}
-use Rattle.textwrap.proofs.Text.Margins.{margin_after-end}
-use Rattle.textwrap_text.proofs.TextLines.{ended_lines-texts, texts_of}
+use Rattle.textwrap.proofs.Common.{ended_lines-texts, texts_of, chars, None, refl, sym, ◌∙◌, ap}
+use Rattle.textwrap.proofs.Text.Margins.{margin_after-blank, margin_after-first, margin_after-end}
+use Rattle.textwrap.proofs.Text.Margins.{margin_after}
 
 pub loop-line-init : goal.loop-line-init
 loop-line-init c =

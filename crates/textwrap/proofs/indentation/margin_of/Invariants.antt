@@ -1,9 +1,6 @@
 use Rattle.textwrap.proofs.indentation.margin_of.Given as goal
-use Rattle.textwrap_text.proofs.Common.{◌≡◌, option_map}
-use Rattle.textwrap.proofs.Common.{margin_of}
-use Rattle.std.specs.Str.{chars}
+use Rattle.textwrap.proofs.Common.{option_map, margin_of, texts_of, chars, ◌≡◌}
 use Rattle.textwrap.proofs.Text.Margins.{margin_after}
-use Rattle.textwrap_text.proofs.TextLines.{texts_of}
 
 -- the margin so far, narrowed by the lines to come, is that of the text
 abbrev pub invariant-loop-line : goal.invariant-loop-line

@@ -1,12 +1,10 @@
 use Rattle.textwrap.proofs.indentation.narrowed.Goals as goal
-use Rattle.textwrap_text.proofs.Common.{◌+◌, take, drop, sym, ◌∙◌, subst, arith, length_push}
-use Rattle.textwrap_text.proofs.Common.{length, ap, IsCharBoundary, YieldsList-turn, YieldsList-end}
-use Rattle.textwrap_text.proofs.Common.{take-append-drop, YieldsList-from_chars, chars_from_encodes}
-use Rattle.std.specs.Str.{chars}
-use Rattle.std.proofs.lemmas.Iterator.{YieldsList-from_zip}
-use Rattle.textwrap_text.proofs.Lists.Parts.{from_start}
-use Rattle.textwrap.proofs.Text.Margins.{AreAt, zip_at, narrowed-stop, narrowed-step, narrowed-done}
-use Rattle.textwrap_text.proofs.Texts.{IsCut, cut_text, encoded-more, encoded-within}
+use Rattle.textwrap.proofs.Common.{YieldsList-from_zip, chars_from_encodes, take-append-drop, arith}
+use Rattle.textwrap.proofs.Common.{IsCharBoundary, length_push, from_start, length, chars, subst}
+use Rattle.textwrap.proofs.Common.{drop, take, sym, ◌+◌, ◌∙◌, ap}
+use Rattle.textwrap_text.proofs.Common.{YieldsList-from_chars, YieldsList-turn, YieldsList-end}
+use Rattle.textwrap.proofs.Text.Margins.{narrowed-done, narrowed-step, narrowed-stop, zip_at, AreAt}
+use Rattle.textwrap_text.proofs.Texts.{encoded-within, encoded-more, cut_text, IsCut}
 use Rattle.textwrap.proofs.indentation.narrowed.Goals.{In-Some}
 
 -- the characters of this turn

@@ -1,7 +1,6 @@
 use Rattle.textwrap.proofs.indentation.narrowed.Given as goal
-use Rattle.textwrap_text.proofs.Common.{◌≡◌, ◌++◌, length, take, drop, encode_utf8_all}
-use Rattle.textwrap.proofs.Common.{narrowed}
-use Rattle.std.specs.Str.{chars}
+use Rattle.textwrap.proofs.Common.{encode_utf8_all, length, chars, drop, take, ◌++◌, ◌≡◌}
+use Rattle.textwrap.specs.Indentation.{narrowed}
 
 -- the characters so far are the same in both
 abbrev pub invariant-loop-ours : goal.invariant-loop-ours

@@ -1,11 +1,9 @@
 use Rattle.textwrap.proofs.indentation.push_dedented.Goals as goal
-use Rattle.textwrap_text.proofs.Common.{◌≡◌, ◌++◌, ◌∷◌, [], ◌∙◌, All-head, All-tail, append-nil}
-use Rattle.textwrap_text.proofs.Common.{append_assoc, false, refl, StartsWith, subst, sym}
-use Rattle.std.specs.Str.{chars}
-use Rattle.textwrap.proofs.Common.{is_blank_line, margin_of}
-use Rattle.textwrap.specs.Indentation.{without_margin}
+use Rattle.textwrap.proofs.Common.{ended_lines-texts, without_margin, is_blank_line, append_assoc}
+use Rattle.textwrap.proofs.Common.{StartsWith, append-nil, margin_of, All-head, All-tail, texts_of}
+use Rattle.textwrap.proofs.Common.{chars, false, subst, refl, ◌++◌, sym, ◌∙◌, ◌∷◌, ◌≡◌, []}
 use Rattle.textwrap.proofs.Text.Margins.{lines_begin_with_margin}
-use Rattle.textwrap_text.proofs.TextLines.{ended_lines-texts, lines-made, texts_of}
+use Rattle.textwrap_text.proofs.TextLines.{lines-made}
 
 pub loop-line-init : goal.loop-line-init
 loop-line-init g c =

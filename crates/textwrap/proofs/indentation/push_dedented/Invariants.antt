@@ -1,9 +1,6 @@
 use Rattle.textwrap.proofs.indentation.push_dedented.Given as goal
-use Rattle.textwrap_text.proofs.Common.{◌≡◌, ◌++◌, ℕ, List, All, StartsWith, false, flat_map}
-use Rattle.std.specs.Str.{chars}
-use Rattle.textwrap.proofs.Common.{is_blank_line}
-use Rattle.textwrap.specs.Indentation.{dedented, without_margin}
-use Rattle.textwrap_text.proofs.TextLines.{made_of, texts_of}
+use Rattle.textwrap.proofs.Common.{without_margin, is_blank_line, StartsWith, dedented, flat_map, ℕ}
+use Rattle.textwrap.proofs.Common.{texts_of, made_of, chars, false, List, ◌++◌, All, ◌≡◌}
 
 -- the text so far, and what the lines to come make, are the dedented text; of these, each that is
 -- not blank begins with the margin

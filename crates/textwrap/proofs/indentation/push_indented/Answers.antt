@@ -1,7 +1,6 @@
 use Rattle.textwrap.proofs.indentation.push_indented.Goals as goal
-use Rattle.textwrap_text.proofs.Common.{[], ◌≡◌, ◌++◌, ◌∙◌, append-nil, append_assoc, refl, subst}
-use Rattle.textwrap_text.proofs.Common.{sym}
-use Rattle.textwrap.specs.Indentation.{indent_of_part}
+use Rattle.textwrap.proofs.Common.{indent_of_part, append_assoc, append-nil, subst, refl, ◌++◌, sym}
+use Rattle.textwrap.proofs.Common.{◌∙◌, ◌≡◌, []}
 
 pub loop-line-init : goal.loop-line-init
 loop-line-init g c =

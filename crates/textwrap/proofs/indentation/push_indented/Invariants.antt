@@ -1,6 +1,6 @@
 use Rattle.textwrap.proofs.indentation.push_indented.Given as goal
-use Rattle.textwrap_text.proofs.Common.{◌≡◌, ◌++◌, ℕ, List, map, flat_map}
-use Rattle.textwrap.specs.Indentation.{indented, indented_part}
+use Rattle.textwrap.proofs.Common.{flat_map, indented, List, ◌++◌, map, ◌≡◌, ℕ}
+use Rattle.textwrap.specs.Indentation.{indented_part}
 use Rattle.textwrap_text.specs.TextLines.{with_ending}
 
 -- the text so far, and the lines to come, each indented, are the indented text

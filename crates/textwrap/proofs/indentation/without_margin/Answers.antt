@@ -1,6 +1,5 @@
 use Rattle.textwrap.proofs.indentation.without_margin.Goals as goal
-use Rattle.textwrap_text.proofs.Common.{◌≡◌, false, sym, ◌∙◌}
-use Rattle.textwrap.proofs.Common.{is_blank_line}
+use Rattle.textwrap.proofs.Common.{is_blank_line, false, sym, ◌∙◌, ◌≡◌}
 use Rattle.textwrap_text.proofs.Texts.{after-margin}
 
 pub range_from-requires : goal.range_from-requires

@@ -1,12 +1,9 @@
 use Rattle.textwrap.proofs.inplace.fill_inplace.Goals as goal
-use Rattle.textwrap_text.proofs.Common.{◌≡◌, ◌<◌, All, length, sym, ap, ◌∙◌, subst, arith}
-use Rattle.textwrap_text.proofs.Common.{string_bytes, IsUtf8, false≢true, paragraphs_of}
-use Rattle.textwrap.proofs.Common.{IsFilledInPlace, FitsOneLine, breaks_from}
+use Rattle.textwrap.proofs.Common.{IsUtf8-string_bytes, IsFilledInPlace, paragraphs_of, FitsOneLine}
+use Rattle.textwrap.proofs.Common.{with_items_is, string_bytes, breaks_from, false≢true, IsUtf8, LF}
+use Rattle.textwrap.proofs.Common.{length, arith, subst, All, sym, ◌<◌, ◌∙◌, ◌≡◌, ap}
 use Rattle.std.specs.Vec.{with_items}
-use Rattle.std.proofs.lemmas.List.{with_items_is}
-use Rattle.std.proofs.lemmas.Str.{IsUtf8-string_bytes}
-use Rattle.textwrap_text.specs.declared.line_ending.LineEnding.TheVariants.{LF}
-use Rattle.textwrap.proofs.Text.InPlace.{feeds-within, filled-by_feeds, filled-keeps}
+use Rattle.textwrap.proofs.Text.InPlace.{filled-by_feeds, feeds-within, filled-keeps}
 use Rattle.textwrap.proofs.Text.InPlaceLines.{unchanged-fits}
 use Rattle.textwrap.proofs.inplace.fill_inplace.Goals.{After-put_line_feeds}
 

@@ -1,9 +1,8 @@
 use Rattle.textwrap.proofs.inplace.find_breaks.Goals as goal
-use Rattle.textwrap_text.proofs.Common.{ap, ◌∙◌, subst, arith, false≢true, All-head, All-tail}
-use Rattle.textwrap.proofs.Common.{FitsOneLine}
-use Rattle.textwrap_text.specs.declared.line_ending.LineEnding.TheVariants.{LF}
-use Rattle.textwrap.proofs.Text.InPlace.{HasBreaks, HasBreaks-more, HasBreaks-end, bytes_left-split}
-use Rattle.textwrap_layout.proofs.Text.Lines.{paragraphs_left, paragraphs_left-split, bytes_left}
+use Rattle.textwrap.proofs.Common.{FitsOneLine, false≢true, All-head, All-tail, arith, subst, ◌∙◌}
+use Rattle.textwrap.proofs.Common.{LF, ap}
+use Rattle.textwrap.proofs.Text.InPlace.{bytes_left-split, HasBreaks-more, HasBreaks-end, HasBreaks}
+use Rattle.textwrap_layout.proofs.Text.Lines.{paragraphs_left-split, paragraphs_left, bytes_left}
 
 pub loop-rest-preserved : goal.loop-rest-preserved
 loop-rest-preserved g c =

@@ -1,7 +1,5 @@
 use Rattle.textwrap.proofs.inplace.find_breaks.Given as goal
-use Rattle.textwrap_text.proofs.Common.{◌+◌, ◌≤◌, All, length, paragraphs_of}
-use Rattle.textwrap.proofs.Common.{FitsOneLine}
-use Rattle.textwrap_text.specs.declared.line_ending.LineEnding.TheVariants.{LF}
+use Rattle.textwrap.proofs.Common.{paragraphs_of, FitsOneLine, length, All, ◌+◌, ◌≤◌, LF}
 use Rattle.textwrap.proofs.Text.InPlace.{HasBreaks}
 use Rattle.textwrap_layout.proofs.Text.Lines.{paragraphs_left, bytes_left}
 

@@ -1,10 +1,8 @@
 use Rattle.textwrap.proofs.inplace.push_breaks.Goals as goal
-use Rattle.textwrap_text.proofs.Common.{◌+◌, ◌<◌, ◌≤◌, [], ◌∷◌, ◌++◌, length, ap, ◌∙◌, arith}
-use Rattle.textwrap_text.proofs.Common.{length-append, ⊎_elim, cases_lt}
-use Rattle.textwrap_words.proofs.Common.{word_view}
-use Rattle.textwrap.proofs.Text.InPlaceLines.{HasLine-begin, HasLine-break, HasLine-join, HasLine-none}
-use Rattle.textwrap.proofs.Text.InPlaceLines.{HasLine-within, HasLine-fits, HasLine-end}
-use Rattle.textwrap.proofs.Text.InPlaceLines.{passed}
+use Rattle.textwrap.proofs.Common.{length-append, word_view, cases_lt, length, ⊎_elim, arith, ◌++◌}
+use Rattle.textwrap.proofs.Common.{◌+◌, ◌<◌, ◌∙◌, ◌∷◌, ◌≤◌, [], ap}
+use Rattle.textwrap.proofs.Text.InPlaceLines.{HasLine-within, HasLine-begin, HasLine-break, passed}
+use Rattle.textwrap.proofs.Text.InPlaceLines.{HasLine-fits, HasLine-join, HasLine-none, HasLine-end}
 
 pub loop-word-init : goal.loop-word-init
 loop-word-init g c = (

@@ -1,6 +1,5 @@
 use Rattle.textwrap.proofs.inplace.push_breaks.Given as goal
-use Rattle.textwrap_text.proofs.Common.{List, ◌<◌, ◌^◌}
-use Rattle.textwrap_words.proofs.Common.{WordText}
+use Rattle.textwrap.proofs.Common.{WordText, List, ◌<◌, ◌^◌}
 use Rattle.textwrap.proofs.Text.InPlaceLines.{HasLine}
 
 -- the words so far are the lines whose ends are known, and those of a line that may grow

@@ -1,6 +1,5 @@
 use Rattle.textwrap.proofs.inplace.put_line_feeds.Given as goal
-use Rattle.textwrap_text.proofs.Common.{◌≡◌, length, drop}
-use Rattle.textwrap.proofs.Common.{with_line_feeds}
+use Rattle.textwrap.proofs.Common.{with_line_feeds, length, drop, ◌≡◌}
 
 -- line feeds in the places left make of the bytes what they are to become
 abbrev pub invariant-loop-place : goal.invariant-loop-place

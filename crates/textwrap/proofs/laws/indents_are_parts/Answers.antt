@@ -1,6 +1,6 @@
 use Rattle.textwrap.proofs.laws.indents_are_parts.Goals as goal
-use Rattle.textwrap.proofs.Text.Margins.{ended_parts_one, ended_parts-indented, indented-whole}
-use Rattle.textwrap.proofs.Text.Margins.{indents-removed, text-removed, indents-back}
+use Rattle.textwrap.proofs.Text.Margins.{ended_parts-indented, ended_parts_one, indents-removed}
+use Rattle.textwrap.proofs.Text.Margins.{indented-whole, indents-back, text-removed}
 
 pub returns : goal.returns
 returns c = record {

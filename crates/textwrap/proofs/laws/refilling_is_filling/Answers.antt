@@ -1,6 +1,6 @@
 use Rattle.textwrap.proofs.laws.refilling_is_filling.Goals as goal
-use Rattle.textwrap_layout.proofs.Common.{DividesAs}
-use Rattle.textwrap.proofs.Text.PlainFilled.{refilled-filled, filled-is_plain, refilled-twice}
+use Rattle.textwrap.proofs.Common.{DividesAs}
+use Rattle.textwrap.proofs.Text.PlainFilled.{filled-is_plain, refilled-filled, refilled-twice}
 
 pub returns : goal.returns
 returns c = record {

@@ -1,14 +1,10 @@
 use Rattle.textwrap.proofs.refilling.common_start.Goals as goal
-use Rattle.textwrap_text.proofs.Common.{◌≡◌, nat_eq, rules, take, ap, ◌∙◌, common_prefix_len, zip}
-use Rattle.textwrap_text.proofs.Common.{length-prefix_len}
-use Rattle.std.proofs.lemmas.Iterator.{YieldsList-from_zip}
-use Rattle.std.proofs.lemmas.Iterator.Adapters.{YieldsList-from_bytes}
-use Rattle.std.proofs.lemmas.Iterator.Consumers.{count_from_yields_List}
-use Rattle.std.proofs.lemmas.Iterator.Search.{YieldsList-from_take_while}
+use Rattle.textwrap.proofs.Common.{YieldsList-from_take_while, IsCharBoundary-from_ascii, nat_eq}
+use Rattle.textwrap.proofs.Common.{count_from_yields_List, YieldsList-from_bytes, common_prefix_len}
+use Rattle.textwrap.proofs.Common.{YieldsList-from_zip, length-prefix_len, from_start, rules, tests}
+use Rattle.textwrap.proofs.Common.{take, zip, ◌∙◌, ◌≡◌, ap}
 use Rattle.std.proofs.lemmas.List.Sums.{common_prefix_len-le}
-use Rattle.std.proofs.lemmas.Str.{IsCharBoundary-from_ascii}
-use borrow.Author.Tests.{tests}
-use Rattle.textwrap_text.proofs.Lists.Parts.{from_start, zip-common}
+use Rattle.textwrap_text.proofs.Lists.Parts.{zip-common}
 use Rattle.textwrap.proofs.refilling.common_start.Goals.{After-count-len}
 
 -- the bytes that are counted are those that both texts begin with

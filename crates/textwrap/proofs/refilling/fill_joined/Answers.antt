@@ -1,6 +1,6 @@
 use Rattle.textwrap.proofs.refilling.fill_joined.Goals as goal
-use Rattle.textwrap_text.proofs.Common.{◌++◌, ap, append-nil, ending_bytes, string_bytes, sym, ◌∙◌}
-use Rattle.textwrap.specs.Refilling.{added_ending}
+use Rattle.textwrap.proofs.Common.{added_ending, ending_bytes, string_bytes, append-nil, ◌++◌, sym}
+use Rattle.textwrap.proofs.Common.{◌∙◌, ap}
 
 pub returns-clause-filled : goal.returns-clause-filled
 returns-clause-filled g c =

@@ -1,12 +1,10 @@
 use Rattle.textwrap.proofs.refilling.find_layout.Goals as goal
-use Rattle.textwrap_text.proofs.Common.{◌≡◌, ◌++◌, ◌∷◌, [], max, get_or, refl, sym, ap, ◌∙◌, subst}
-use Rattle.textwrap_text.proofs.Common.{IsAscii, append-nil, drop, fold, lines, map, text_width}
-use Rattle.textwrap_text.proofs.TextLines.{ended_lines-texts, texts_of}
-use Rattle.textwrap.proofs.Common.{line_prefix, common_prefix, unfilled_initial}
-use Rattle.textwrap.proofs.Common.{unfilled_subsequent}
-use Rattle.textwrap.specs.Refilling.{ended_lines, unfilled_width}
-use Rattle.textwrap.proofs.Text.Unfilling.{width-first, texts_of-later, narrowed, narrowed-ascii}
-use Rattle.textwrap.proofs.Text.Unfilling.{common-end, settings-with, texts_in}
+use Rattle.textwrap.proofs.Common.{unfilled_subsequent, ended_lines-texts, unfilled_initial, get_or}
+use Rattle.textwrap.proofs.Common.{unfilled_width, common_prefix, ended_lines, line_prefix, IsAscii}
+use Rattle.textwrap.proofs.Common.{append-nil, text_width, texts_of, lines, subst, drop, fold, refl}
+use Rattle.textwrap.proofs.Common.{◌++◌, map, max, sym, ◌∙◌, ◌∷◌, ◌≡◌, [], ap}
+use Rattle.textwrap.proofs.Text.Unfilling.{narrowed-ascii, texts_of-later, settings-with, narrowed}
+use Rattle.textwrap.proofs.Text.Unfilling.{width-first, common-end, texts_in}
 
 pub loop-line-init : goal.loop-line-init
 loop-line-init c =

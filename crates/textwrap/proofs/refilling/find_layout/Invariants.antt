@@ -1,10 +1,7 @@
 use Rattle.textwrap.proofs.refilling.find_layout.Given as goal
-use Rattle.textwrap_text.proofs.Common.{◌≡◌, ◌++◌, map, max, fold, IsAscii, text_width}
-use Rattle.textwrap.proofs.Common.{line_prefix, common_prefix, unfilled_subsequent}
-use Rattle.std.proofs.Common.{IfSome}
-use Rattle.textwrap.specs.Refilling.{unfilled_width}
+use Rattle.textwrap.proofs.Common.{unfilled_subsequent, unfilled_width, common_prefix, line_prefix}
+use Rattle.textwrap.proofs.Common.{text_width, texts_of, IsAscii, IfSome, fold, ◌++◌, map, max, ◌≡◌}
 use Rattle.textwrap.proofs.Text.Unfilling.{texts_in}
-use Rattle.textwrap_text.proofs.TextLines.{texts_of}
 
 -- the widest line so far, and the lines to come, make the width; what the later lines have had in
 -- common so far, and the prefixes to come, make the subsequent indent

@@ -1,11 +1,7 @@
 use Rattle.textwrap.proofs.refilling.line_prefix.Goals as goal
-use Rattle.textwrap_text.proofs.Common.{◌≡◌, rules, take, ap, ◌∙◌, prefix_len, length-prefix_len}
-use Rattle.textwrap.proofs.Common.{is_prefix_character}
-use Rattle.std.proofs.lemmas.Iterator.Adapters.{YieldsList-from_bytes}
-use Rattle.std.proofs.lemmas.Iterator.Consumers.{count_from_yields_List}
-use Rattle.std.proofs.lemmas.Iterator.Search.{YieldsList-from_take_while}
-use Rattle.textwrap_text.proofs.Lists.Parts.{from_start}
-use borrow.Author.Tests.{tests}
+use Rattle.textwrap.proofs.Common.{YieldsList-from_take_while, count_from_yields_List, from_start}
+use Rattle.textwrap.proofs.Common.{YieldsList-from_bytes, is_prefix_character, length-prefix_len}
+use Rattle.textwrap.proofs.Common.{prefix_len, rules, tests, take, ◌∙◌, ◌≡◌, ap}
 use Rattle.textwrap.proofs.Text.Unfilling.{line_prefix-boundary}
 use Rattle.textwrap.proofs.refilling.line_prefix.Goals.{After-count-len}
 

@@ -1,5 +1,5 @@
 use Rattle.textwrap.proofs.refilling.push_joined.Goals as goal
-use Rattle.textwrap_text.proofs.Common.{nat_eq, sym, ap, ◌∙◌, ends_with}
+use Rattle.textwrap.proofs.Common.{ends_with, nat_eq, sym, ◌∙◌, ap}
 use Rattle.std.proofs.lemmas.Str.Pattern.{ends_text}
 use Rattle.textwrap.proofs.Text.Unfilling.{keeps_ending-some}
 

@@ -1,11 +1,10 @@
 use Rattle.textwrap.proofs.refilling.push_without_indents.Goals as goal
-use Rattle.textwrap_text.proofs.Common.{[], ◌∷◌, ◌++◌, filter, map, subst, sym, ap, ◌∙◌, append-nil}
-use Rattle.textwrap_text.proofs.Common.{append_assoc, StartsWith, All-head, All-tail, blank}
-use Rattle.textwrap.proofs.Common.{detected_among}
-use Rattle.textwrap.specs.Refilling.{has_text}
+use Rattle.textwrap.proofs.Common.{detected_among, append_assoc, StartsWith, append-nil, All-head}
+use Rattle.textwrap.proofs.Common.{All-tail, has_text, filter, blank, subst, ◌++◌, map, sym, ◌∙◌}
+use Rattle.textwrap.proofs.Common.{◌∷◌, [], ap}
 use Rattle.textwrap_text.specs.LineViews.{ended_line_view}
-use Rattle.textwrap.proofs.Text.Unfilling.{detected_among-one, detected_among-two}
-use Rattle.textwrap.proofs.Text.Unfilling.{joined_text-some, lines-begin}
+use Rattle.textwrap.proofs.Text.Unfilling.{detected_among-one, detected_among-two, joined_text-some}
+use Rattle.textwrap.proofs.Text.Unfilling.{lines-begin}
 
 pub without_indent-first-requires : goal.without_indent-first-requires
 without_indent-first-requires g c = subst (StartsWith c.in-Some.line.text.now) (sym c.requires.initial)

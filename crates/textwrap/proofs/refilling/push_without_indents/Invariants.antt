@@ -1,6 +1,6 @@
 use Rattle.textwrap.proofs.refilling.push_without_indents.Given as goal
-use Rattle.textwrap_text.proofs.Common.{◌≡◌, ◌∷◌, ◌++◌, ℕ, List, length, map, All, StartsWith}
-use Rattle.textwrap.proofs.Common.{joined_text, detected_among, detected_ending}
+use Rattle.textwrap.proofs.Common.{detected_ending, detected_among, joined_text, StartsWith, length}
+use Rattle.textwrap.proofs.Common.{List, ◌++◌, All, map, ◌∷◌, ◌≡◌, ℕ}
 use Rattle.textwrap.proofs.Text.Unfilling.{added_lines}
 
 -- the text so far, and what the lines to come add, are the joined text; these lines begin with

@@ -1,9 +1,6 @@
 use Rattle.textwrap.proofs.refilling.refill.Goals as goal
-use Rattle.textwrap_text.proofs.Common.{ap, ◌∙◌, string_bytes}
-use Rattle.std.proofs.lemmas.Result.{IfOk-weaker}
-use Rattle.textwrap_layout.proofs.Common.{settings_view}
-use Rattle.textwrap_layout.specs.Paragraph.{DividesUnder}
-use Rattle.textwrap.proofs.Text.Unfilling.{refilled-as, refilled-from}
+use Rattle.textwrap.proofs.Common.{settings_view, DividesUnder, string_bytes, IfOk-weaker, ◌∙◌, ap}
+use Rattle.textwrap.proofs.Text.Unfilling.{refilled-from, refilled-as}
 
 pub returns-clause-refilled : goal.returns-clause-refilled
 returns-clause-refilled g c = IfOk-weaker c.fill_joined.result _ _ (λ refilled.

@@ -1,9 +1,6 @@
 use Rattle.textwrap.proofs.refilling.refill_built_in.Goals as goal
-use Rattle.textwrap_text.proofs.Common.{◌∙◌, string_bytes}
-use Rattle.std.proofs.lemmas.Result.{IfOk-weaker}
-use Rattle.textwrap_words.proofs.Common.{as_splitter}
-use Rattle.textwrap_layout.proofs.Common.{DividesAt, layout_view}
-use Rattle.textwrap_layout.specs.Direct.{as_algorithm}
+use Rattle.textwrap.proofs.Common.{as_algorithm, string_bytes, IfOk-weaker, as_splitter, DividesAt}
+use Rattle.textwrap.proofs.Common.{layout_view, ◌∙◌}
 use Rattle.textwrap.proofs.Text.Unfilling.{refilled-from}
 
 pub returns-clause-refilled : goal.returns-clause-refilled

@@ -1,7 +1,7 @@
 use Rattle.textwrap.proofs.refilling.unfill_into.Goals as goal
-use Rattle.textwrap_text.proofs.Common.{◌≡◌, ◌++◌, [], List, ℕ, ap, ◌∙◌, rules}
+use Rattle.textwrap.proofs.Common.{rules, List, ◌++◌, ◌∙◌, ◌≡◌, [], ap, ℕ}
 use Rattle.textwrap.specs.Refilling.{unfilled_parts, unfilled_text}
-use Rattle.textwrap_text.specs.LentText.{IsLent, written_over}
+use Rattle.textwrap_text.specs.LentText.{written_over, IsLent}
 use Rattle.textwrap.proofs.refilling.unfill_into.Goals.{After-with_layout}
 
 -- no text leaves the room as it was

@@ -1,5 +1,5 @@
 use Rattle.textwrap.proofs.rows.line_at.Goals as goal
-use Rattle.textwrap_text.proofs.Common.{sym, ◌∙◌}
+use Rattle.textwrap.proofs.Common.{sym, ◌∙◌}
 use Rattle.textwrap.proofs.Text.Rows.{line-is}
 
 pub returns-then-place-lines : goal.returns-then-place-lines

@@ -1,6 +1,5 @@
 use Rattle.textwrap.proofs.rows.push_rows.Goals as goal
-use Rattle.textwrap_text.proofs.Common.{append_assoc, arith, map-append, map-range_with_len_more}
-use Rattle.textwrap.specs.Rows.{framed}
+use Rattle.textwrap.proofs.Common.{map-range_with_len_more, append_assoc, map-append, framed, arith}
 
 pub loop-r-preserved : goal.loop-r-preserved
 loop-r-preserved g c =

@@ -1,6 +1,5 @@
 use Rattle.textwrap.proofs.rows.push_rows.Given as goal
-use Rattle.textwrap_text.proofs.Common.{◌≡◌, ◌++◌, map, range_with_len, string_bytes}
-use Rattle.textwrap.specs.Rows.{framed}
+use Rattle.textwrap.proofs.Common.{range_with_len, string_bytes, framed, ◌++◌, map, ◌≡◌}
 
 -- the rows so far were added
 abbrev pub invariant-loop-r : goal.invariant-loop-r

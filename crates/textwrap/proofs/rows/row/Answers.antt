@@ -1,5 +1,5 @@
 use Rattle.textwrap.proofs.rows.row.Goals as goal
-use Rattle.textwrap_text.proofs.Common.{append_assoc, arith, sym, take_all, ◌∙◌}
+use Rattle.textwrap.proofs.Common.{append_assoc, take_all, arith, sym, ◌∙◌}
 use Rattle.textwrap.proofs.Text.Rows.{join-more}
 
 pub loop-at-preserved : goal.loop-at-preserved

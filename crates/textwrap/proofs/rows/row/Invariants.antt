@@ -1,5 +1,5 @@
 use Rattle.textwrap.proofs.rows.row.Given as goal
-use Rattle.textwrap_text.proofs.Common.{◌≡◌, ◌-◌, ◌++◌, ◌≤◌, join_with, string_bytes, take}
+use Rattle.textwrap.proofs.Common.{string_bytes, join_with, take, ◌++◌, ◌-◌, ◌≡◌, ◌≤◌}
 
 -- the left gap and the first cells
 abbrev pub invariant-loop-c : goal.invariant-loop-c

@@ -1,8 +1,6 @@
 use Rattle.textwrap.proofs.rows.row_len.Goals as goal
-use Rattle.textwrap_text.proofs.Common.{◌≡◌, ◌-◌, ◌*◌, ◌^◌, ◌<◌, ap, arith, length, min, sum_by}
-use Rattle.textwrap_text.proofs.Common.{take_all, sym, ◌∙◌}
-use Rattle.textwrap_text.proofs.Numbers.{SomeIff-ok}
-use Rattle.textwrap.specs.Rows.{framed}
+use Rattle.textwrap.proofs.Common.{SomeIff-ok, take_all, framed, length, sum_by, arith, min, sym}
+use Rattle.textwrap.proofs.Common.{◌*◌, ◌-◌, ◌<◌, ◌^◌, ◌∙◌, ◌≡◌, ap}
 use Rattle.textwrap.proofs.Text.Rows.{length-alike, length-row}
 
 pub loop-c-preserved : goal.loop-c-preserved

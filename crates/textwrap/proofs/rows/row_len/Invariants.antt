@@ -1,5 +1,5 @@
 use Rattle.textwrap.proofs.rows.row_len.Given as goal
-use Rattle.textwrap_text.proofs.Common.{◌≡◌, ◌-◌, ◌^◌, ◌≤◌, length, min, sum_by, take}
+use Rattle.textwrap.proofs.Common.{length, sum_by, take, min, ◌-◌, ◌^◌, ◌≡◌, ◌≤◌}
 
 -- the bytes of the first cells
 abbrev pub invariant-loop-c : goal.invariant-loop-c

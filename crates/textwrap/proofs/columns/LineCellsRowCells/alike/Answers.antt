@@ -1,6 +1,5 @@
 use Rattle.textwrap.proofs.columns.LineCellsRowCells.alike.Goals as goal
-use Rattle.textwrap_text.proofs.Common.{arith, length-map, map}
-use Rattle.textwrap_layout.proofs.Common.{line_view, line_bytes}
+use Rattle.textwrap.proofs.Common.{length-map, line_bytes, line_view, arith, map}
 use Rattle.textwrap.proofs.Text.Tables.{shown-past}
 
 pub returns-else-place-self-clause-same : goal.returns-else-place-self-clause-same

@@ -1,6 +1,5 @@
 use Rattle.textwrap.proofs.columns.LineCellsRowCells.columns.Goals as goal
-use Rattle.textwrap_text.proofs.Common.{map}
-use Rattle.textwrap_layout.proofs.Common.{line_view, line_bytes}
+use Rattle.textwrap.proofs.Common.{line_bytes, line_view, map}
 use Rattle.textwrap.proofs.Text.Tables.{length-shown}
 
 pub returns-clause-all : goal.returns-clause-all

@@ -1,6 +1,5 @@
 use Rattle.textwrap.proofs.refilling.lines.NonEmptyLinesIterator.next.Given as goal
-use Rattle.textwrap_text.proofs.Common.{◌≡◌, filter, length}
-use Rattle.textwrap.specs.Refilling.{has_text}
+use Rattle.textwrap.proofs.Common.{has_text, filter, length, ◌≡◌}
 
 -- the lines that were passed over are empty
 abbrev pub invariant-loop-line : goal.invariant-loop-line

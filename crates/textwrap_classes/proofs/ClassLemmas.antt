@@ -1,28 +1,22 @@
 -- The classes of characters, told without the tables.
-use Rattle.textwrap_classes.proofs.Common.{slice_index_or, if◌then◌else◌, Ideographic, cases_Bool}
-use Rattle.textwrap_classes.proofs.Common.{Ambiguous, not-true, class_of, CLASSES, unit_of, false}
-use Rattle.textwrap_classes.proofs.Common.{arith, subst, Bool, true, ◌&&◌, ◌==◌, refl, ◌||◌, Unit}
-use Rattle.textwrap_classes.proofs.Common.{List, ◌≡◌, ◌<◌, ◌≤◌, not, ◌-◌, ◌+◌, sym, ◌∙◌, ap, ℕ}
 use Rattle.std.proofs.Common.{eqb-true}
-use Rattle.unicode.specs.Binary.{is_extended_pictographic}
-use Rattle.unicode.specs.EastAsianWidth.{east_asian_width}
-use Rattle.unicode.specs.GeneralCategory.{general_category}
-use Rattle.unicode.specs.LineBreak.{line_break_number, line_break}
-use Rattle.unicode.proofs.BinaryLemmas.{is_extended_pictographic_stepped}
-use Rattle.unicode.proofs.BreaksComputing.{ucd_breaks}
-use Rattle.unicode.proofs.CategoryComputing.{ucd_category}
-use Rattle.unicode.proofs.EastAsianComputing.{ucd_east_asian}
-use Rattle.unicode.proofs.EmojiComputing.{ucd_emoji}
-use Rattle.unicode.proofs.EastAsianWidthLemmas.{east_asian_width_stepped}
-use Rattle.unicode.proofs.GeneralCategoryLemmas.{general_category_stepped}
-use Rattle.unicode.proofs.LineBreakLemmas.{line_break_number_injective, line_break_stepped}
-use Rattle.unicode.proofs.Stepped.{map_stepped, zip_stepped, Stepped}
-use Rattle.unicode.proofs.StepsLemmas.{step_value-skip, skip}
-use Rattle.unicode.proofs.TrieCheck.{all_below-at, all_below}
-use Rattle.unicode.specs.Steps.{step_value, Step}
-use Rattle.textwrap_text.proofs.Units.Texts.{passes-within}
+use Rattle.textwrap_classes.proofs.Common.{Ideographic, cases_Bool, if◌then◌else◌, slice_index_or}
+use Rattle.textwrap_classes.proofs.Common.{Ambiguous, CLASSES, arith, class_of, not-true, unit_of}
+use Rattle.textwrap_classes.proofs.Common.{Bool, List, Unit, false, refl, subst, true, ◌&&◌, ◌==◌}
+use Rattle.textwrap_classes.proofs.Common.{ap, not, sym, ℕ, ◌+◌, ◌-◌, ◌<◌, ◌||◌, ◌∙◌, ◌≡◌, ◌≤◌}
 use Rattle.textwrap_classes.specs.Classes.{is_unassigned, is_wide, resolve}
 use Rattle.textwrap_classes.specs.declared.japanese.TheConstants.{SYLLABLES, WIDE}
+use Rattle.textwrap_text.proofs.Units.Texts.{passes-within}
+use Rattle.unicode.proofs.{BinaryLemmas.is_extended_pictographic_stepped, Stepped.map_stepped}
+use Rattle.unicode.proofs.{CategoryComputing.ucd_category, EastAsianComputing.ucd_east_asian}
+use Rattle.unicode.proofs.{EastAsianWidthLemmas.east_asian_width_stepped, Stepped.Stepped}
+use Rattle.unicode.proofs.{BreaksComputing.ucd_breaks, EmojiComputing.ucd_emoji, StepsLemmas.skip}
+use Rattle.unicode.proofs.{GeneralCategoryLemmas.general_category_stepped, Stepped.zip_stepped}
+use Rattle.unicode.proofs.{StepsLemmas.step_value-skip, TrieCheck.all_below, TrieCheck.all_below-at}
+use Rattle.unicode.proofs.LineBreakLemmas.{line_break_number_injective, line_break_stepped}
+use Rattle.unicode.specs.{Binary.is_extended_pictographic, EastAsianWidth.east_asian_width}
+use Rattle.unicode.specs.{GeneralCategory.general_category, Steps.Step, Steps.step_value}
+use Rattle.unicode.specs.LineBreak.{line_break, line_break_number}
 
 -- ---- what is asked of a character, as steps, over which proofs compute
 
@@ -61,9 +55,9 @@ passes-stretch f s test from n ok c low high =
     (all_below-at (λ k. test (from + k) (step_value s.default (skip s.steps from) (from + k))) n
     (c - from) ok (omega (arith, low, high)))
 
-pub early-assigned : (c : ℕ) → c < 0x1_F000 → unassigned_at c ≡ false
+pub early_assigned : (c : ℕ) → c < 0x1_F000 → unassigned_at c ≡ false
 unfolding ucd_emoji ucd_category
-early-assigned c below =
+early_assigned c below =
     not-true _
     (passes-within (0, 0x1_EFFF) refl unassigned_at unassigned_stepped not (omega arith)
     refl c (omega arith) (omega (arith, below)))
@@ -84,13 +78,13 @@ ascii-narrow c below =
     not-true _
     (passes-stretch wide_at wide_stepped (λ x v. not v) 0 128 refl c (omega arith) below)
 
-pub ascii-unit : (c : ℕ) → c < 128 → ◌≡◌ {A = Unit} (record {
+pub ascii_unit : (c : ℕ) → c < 128 → ◌≡◌ {A = Unit} (record {
   class = slice_index_or CLASSES c Ambiguous;
   is_wide = false;
   is_unassigned_pictograph = false;
 }) (unit_of c)
-ascii-unit c below =
-    rw (ascii-class c below, ascii-narrow c below, early-assigned c (omega (arith, below))) refl
+ascii_unit c below =
+    rw (ascii-class c below, ascii-narrow c below, early_assigned c (omega (arith, below))) refl
 
 -- ---- ideographs
 
@@ -107,12 +101,12 @@ unfolding ucd_east_asian
 ideograph-wide c low high =
     passes-within (0x4E00, 0x9FFF) refl wide_at wide_stepped (λ v. v) (omega arith) refl c low high
 
-pub ideograph-unit : (c : ℕ) → 0x4E00 ≤ c → c ≤ 0x9FFF → ◌≡◌ {A = Unit} (record {
+pub ideograph_unit : (c : ℕ) → 0x4E00 ≤ c → c ≤ 0x9FFF → ◌≡◌ {A = Unit} (record {
   class = Ideographic;
   is_wide = true;
   is_unassigned_pictograph = false;
 }) (unit_of c)
-ideograph-unit c low high = grind (arith, ideograph-class, ideograph-wide, early-assigned)
+ideograph_unit c low high = grind (arith, ideograph-class, ideograph-wide, early_assigned)
 
 -- ---- what the tables of Unicode give for the signs and syllables of Japanese, which the code
 -- does not look up
@@ -144,10 +138,10 @@ syllable-wide c from to =
     (passes-stretch wide_at wide_stepped (λ x v. agree (slice_index_or WIDE (x - 0x3000) false) v)
     0x3000 0x100 refl c from (omega (arith, to)))
 
-pub japanese-unit : (c : ℕ) → 0x3000 ≤ c → c ≤ 0x30FF → ◌≡◌ {A = Unit} (record {
+pub japanese_unit : (c : ℕ) → 0x3000 ≤ c → c ≤ 0x30FF → ◌≡◌ {A = Unit} (record {
   class = slice_index_or SYLLABLES (c - 0x3000) Ambiguous;
   is_wide = slice_index_or WIDE (c - 0x3000) false;
   is_unassigned_pictograph = false;
 }) (unit_of c)
-japanese-unit c from to =
-    rw (syllable-class c from to, syllable-wide c from to, early-assigned c (omega (arith, to))) refl
+japanese_unit c from to =
+    rw (syllable-class c from to, syllable-wide c from to, early_assigned c (omega (arith, to))) refl

@@ -25,6 +25,7 @@ pub struct Unit {
 impl Unit {
     /// What the rules ask of this character.
     #[inline]
+    #[tactic(auto, using(crate::proofs::ClassLemmas::ascii_unit, crate::proofs::ClassLemmas::ideograph_unit))]
     pub fn of(c: char) -> Unit
         ensures { result ≡ unit_of c }
     {
@@ -82,6 +83,7 @@ impl Unit {
 
 /// What the rules ask of a sign or a syllable of Japanese.
 #[inline]
+#[tactic(auto, using(crate::proofs::ClassLemmas::japanese_unit))]
 fn japanese_unit(code: usize) -> Unit
     requires from { 0x3000 ≤ code }
     requires to { code ≤ 0x30FF }
@@ -98,6 +100,7 @@ fn japanese_unit(code: usize) -> Unit
 /// Whether this is a common ideograph, or a syllable of Japanese that is like one to the rules. Each of
 /// these takes three bytes.
 #[inline]
+#[tactic(auto, using(crate::proofs::ClassLemmas::ideograph_unit))]
 pub fn is_common_ideograph(c: char) -> bool
     ensures { result ≡ true → IsCommonIdeograph c }
 {
@@ -123,6 +126,7 @@ pub fn class_of(c: char) -> LineBreak
 /// Whether it is a pictograph that is not assigned yet. The first such one is past U+1F000, so for
 /// most texts nothing is looked up.
 #[inline]
+#[tactic(auto, using(crate::proofs::ClassLemmas::early_assigned))]
 fn is_unassigned_pictograph(c: char) -> bool
     ensures { result ≡ is_extended_pictographic c && is_unassigned (general_category c) }
 {

@@ -17,7 +17,7 @@ use Rattle.textwrap_text.proofs.Common.{length-encode, visible_in, drop-drop, dr
 use Rattle.textwrap_text.proofs.Common.{eqb}
 use Rattle.textwrap_classes.specs.ClassSets.{is_letter, is_infix}
 use Rattle.textwrap_unicode.specs.declared.numbers.Numbers.TheVariants.{ByExpression}
-use Rattle.textwrap_classes.proofs.ClassLemmas.{ascii-class, ascii-unit}
+use Rattle.textwrap_classes.proofs.ClassLemmas.{ascii-class, ascii_unit}
 use Rattle.std.proofs.lemmas.Str.{encode_ascii}
 use Rattle.textwrap_text.proofs.Units.Reading.{plain-step}
 use Rattle.textwrap_text.specs.declared.escapes.State.{State}
@@ -60,7 +60,7 @@ abbrev pub unit_with : LineBreak → Unit
 unit_with class = record { class = class; is_wide = false; is_unassigned_pictograph = false }
 
 pub ascii-is : (c : ℕ) → c < 128 → unit_of c ≡ unit_with (class_of c)
-ascii-is c below = sym (ascii-unit c below) ∙ ap (λ u. unit_with u.class) (ascii-unit c below)
+ascii-is c below = sym (ascii_unit c below) ∙ ap (λ u. unit_with u.class) (ascii_unit c below)
 
 abbrev is_of_word : LineBreak → Bool
 is_of_word class = is_letter class || is_space class || is_infix class

@@ -1,6 +1,6 @@
 use Rattle.textwrap_classes.proofs.Common.{arith}
 use Rattle.textwrap_text.proofs.Common.{length-take-le}
-use Rattle.textwrap_classes.proofs.ClassLemmas.{ascii-unit}
+use Rattle.textwrap_classes.proofs.ClassLemmas.{ascii_unit}
 use Rattle.textwrap_unicode.proofs.PrintableBytes.{past-none, past-some}
 use Rattle.textwrap_unicode.proofs.pairs.class_past_blanks.Goals as goal
 
@@ -8,4 +8,4 @@ pub returns-then-end-eq0 : goal.returns-then-end-eq0
 returns-then-end-eq0 c = grind (arith, past-none)
 
 pub returns : goal.returns
-returns c = grind (arith, length-take-le, ascii-unit, c.trimmed_len-end.ensures.value, past-some)
+returns c = grind (arith, length-take-le, ascii_unit, c.trimmed_len-end.ensures.value, past-some)

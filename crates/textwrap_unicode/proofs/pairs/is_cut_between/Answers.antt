@@ -1,5 +1,5 @@
 use Rattle.textwrap_classes.proofs.Common.{is_blank, ne_eqb, arith, sym, ◌∙◌, ap}
-use Rattle.textwrap_classes.proofs.ClassLemmas.{ascii-unit}
+use Rattle.textwrap_classes.proofs.ClassLemmas.{ascii_unit}
 use Rattle.textwrap_unicode.proofs.PrintableCuts.{cut-told}
 use Rattle.textwrap_unicode.proofs.pairs.is_cut_between.Goals as goal
 
@@ -19,7 +19,7 @@ returns c =
       c.if-before-ne32.false,
       c.may_follow_blanks.ensures,
       c.class_past_blanks.ensures,
-      ascii-unit,
+      ascii_unit,
       ne_eqb _ 32 c.if-after-eq32.false,
       cut-told c.args.text.now c.requires.printable c.args.place c.requires.after_start
           c.requires.inside,

@@ -64,9 +64,9 @@ early_assigned c below =
 
 -- ---- ASCII
 
-pub ascii-class : (c : ℕ) → c < 128 → slice_index_or CLASSES c Ambiguous ≡ class_of c
+pub ascii_class : (c : ℕ) → c < 128 → slice_index_or CLASSES c Ambiguous ≡ class_of c
 unfolding ucd_breaks ucd_category stretch_passes
-ascii-class c below =
+ascii_class c below =
     line_break_number_injective _ _ (eqb-true _ _
     (passes-stretch class_of class_stepped
     (λ x v. line_break_number (slice_index_or CLASSES x Ambiguous) == line_break_number v) 0 128
@@ -84,7 +84,7 @@ pub ascii_unit : (c : ℕ) → c < 128 → ◌≡◌ {A = Unit} (record {
   is_unassigned_pictograph = false;
 }) (unit_of c)
 ascii_unit c below =
-    rw (ascii-class c below, ascii-narrow c below, early_assigned c (omega (arith, below))) refl
+    rw (ascii_class c below, ascii-narrow c below, early_assigned c (omega (arith, below))) refl
 
 -- ---- ideographs
 

@@ -281,3 +281,31 @@ pub fn is_letter_or_number(class: LineBreak) -> bool
         LineBreak::Alphabetic | LineBreak::HebrewLetter | LineBreak::Numeric
     )
 }
+
+/// PR.
+pub fn is_prefix(class: LineBreak) -> bool
+    ensures { result ≡ is_prefix class }
+{
+    matches!(class, LineBreak::PrefixNumeric)
+}
+
+/// PO.
+pub fn is_postfix(class: LineBreak) -> bool
+    ensures { result ≡ is_postfix class }
+{
+    matches!(class, LineBreak::PostfixNumeric)
+}
+
+/// JL.
+pub fn is_leading_jamo(class: LineBreak) -> bool
+    ensures { result ≡ is_leading_jamo class }
+{
+    matches!(class, LineBreak::Jl)
+}
+
+/// JT.
+pub fn is_trailing_jamo(class: LineBreak) -> bool
+    ensures { result ≡ is_trailing_jamo class }
+{
+    matches!(class, LineBreak::Jt)
+}

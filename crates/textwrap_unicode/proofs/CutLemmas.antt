@@ -1,34 +1,31 @@
 -- The breaks that are still to come: those the iterator gives, and where a line is cut at them.
-use Rattle.std.proofs.lemmas.List.Folds.{list_any-append, list_any_none}
-use Rattle.textwrap_classes.proofs.Common.{if◌then◌else◌, length-append, takes_no_mark, append-nil}
-use Rattle.textwrap_classes.proofs.Common.{append_assoc, cases_Bool, is_number, nat_tests, class_of}
-use Rattle.textwrap_classes.proofs.Common.{read-next, list_any, is_mark, unit_of, IsUtf8, encode, ℕ}
-use Rattle.textwrap_classes.proofs.Common.{get_or, length, ne_eqb, arith, chars, false, subst, Bool}
-use Rattle.textwrap_classes.proofs.Common.{List, drop, refl, true, ◌&&◌, ◌++◌, ◌==◌, ◌||◌, inl, inr}
-use Rattle.textwrap_classes.proofs.Common.{map, not, sym, ◌+◌, ◌<◌, ◌∙◌, ◌∷◌, ◌≡◌, ◌≢◌, ◌≤◌, [], ap}
-use Rattle.textwrap_unicode.proofs.Common.{is_any_hyphen, breaks_after, number_first, numbers_rule}
-use Rattle.textwrap_unicode.proofs.Common.{breaks_from, Prohibited, offsets_of, Mandatory, break_at}
-use Rattle.textwrap_unicode.proofs.Common.{before_of, breaks_by, decide_by, cut_here, Allowed}
-use Rattle.textwrap_unicode.proofs.Common.{Numbers, Verdict, cuts_by, may_end, nothing, Before, and}
-use Rattle.textwrap_unicode.specs.Before.{first_class, takes_marks, with_unit, is_empty, Text}
-use Rattle.textwrap_classes.specs.declared.classes.Unit.{Unit}
-use Rattle.std.proofs.lemmas.List.{at_drop_more}
-use Rattle.textwrap_text.proofs.Units.Reading.{read-ahead, read-start, read-none, read-all, IsRead}
-use Rattle.textwrap_text.proofs.Units.Reading.{units_in}
-use Rattle.textwrap_text.proofs.Common.{chars_from_encodes, encode_utf8_all, encodes-append, units}
-use Rattle.textwrap_text.proofs.Common.{IsUtf8-append, encodes-chars, All-append, All-weaker, shows}
+use Rattle.std.proofs.lemmas.List.{Elements.All-map, Folds.list_any-append, at_drop_more}
+use Rattle.std.proofs.lemmas.List.Folds.{list_any_none}
+use Rattle.textwrap_classes.{proofs.Common.◌∙◌, specs.declared.classes.Unit.Unit}
+use Rattle.textwrap_classes.proofs.Common.{append-nil, if◌then◌else◌, length-append, takes_no_mark}
+use Rattle.textwrap_classes.proofs.Common.{append_assoc, cases_Bool, class_of, is_number, nat_tests}
+use Rattle.textwrap_classes.proofs.Common.{IsUtf8, encode, is_mark, list_any, read-next, unit_of, ℕ}
+use Rattle.textwrap_classes.proofs.Common.{Bool, arith, chars, false, get_or, length, ne_eqb, subst}
+use Rattle.textwrap_classes.proofs.Common.{List, drop, inl, inr, refl, true, ◌&&◌, ◌++◌, ◌==◌, ◌||◌}
+use Rattle.textwrap_classes.proofs.Common.{[], ap, map, not, sym, ◌+◌, ◌<◌, ◌∷◌, ◌≡◌, ◌≢◌, ◌≤◌}
+use Rattle.textwrap_text.proofs.{Common.All-append, Texts.some-bytes, Units.Reading.units_in}
+use Rattle.textwrap_text.proofs.{Texts.utf8-back, Texts.utf8-front, Units.Texts.units-tile}
+use Rattle.textwrap_text.proofs.Common.{chars_from_encodes, encode_utf8_all, encodes-append, shows}
+use Rattle.textwrap_text.proofs.Common.{IsUtf8-append, encodes-chars, units}
 use Rattle.textwrap_text.proofs.Common.{IsUtf8-nil, characters, map-append, visible_in, visible_of}
-use Rattle.textwrap_text.proofs.Common.{chars-nil, All-cons, Sequence, TextUnit, cases_eq, flat_map}
-use Rattle.textwrap_text.proofs.Common.{stripped, All-nil, Visible, next_of, cond, All}
-use Rattle.textwrap_unicode.specs.declared.breaks.LineBreak.{LineBreak}
-use Rattle.textwrap_text.proofs.Texts.{some-bytes, utf8-front, utf8-back}
-use Rattle.textwrap_words.proofs.Common.{is_cut_after, VisibleEnd, cuts_among, ends_from}
-use Rattle.textwrap_words.proofs.Word.Offsets.{ends-step, ends_past, ends_in, end_of}
+use Rattle.textwrap_text.proofs.Common.{All-cons, Sequence, TextUnit, cases_eq, chars-nil, flat_map}
+use Rattle.textwrap_text.proofs.Common.{All, All-nil, All-weaker, Visible, cond, next_of, stripped}
+use Rattle.textwrap_text.proofs.Units.Reading.{IsRead, read-ahead, read-all, read-none, read-start}
+use Rattle.textwrap_text.specs.declared.escapes.State.{State, TheVariants.Text as InText}
+use Rattle.textwrap_unicode.{proofs.Common.Verdict, specs.declared.breaks.LineBreak.LineBreak}
+use Rattle.textwrap_unicode.proofs.Common.{breaks_after, is_any_hyphen, number_first, numbers_rule}
+use Rattle.textwrap_unicode.proofs.Common.{Mandatory, Prohibited, break_at, breaks_from, offsets_of}
+use Rattle.textwrap_unicode.proofs.Common.{Allowed, and, before_of, cut_here, decide_by}
+use Rattle.textwrap_unicode.proofs.Common.{Before, Numbers, breaks_by, cuts_by, may_end, nothing}
+use Rattle.textwrap_unicode.specs.Before.{Text, first_class, is_empty, takes_marks, with_unit}
+use Rattle.textwrap_words.proofs.Common.{VisibleEnd, cuts_among, ends_from, is_cut_after}
+use Rattle.textwrap_words.proofs.Word.Offsets.{end_of, ends-step, ends_in, ends_past}
 use Rattle.textwrap_words.proofs.Word.Parts.{places-above, places_by}
-use Rattle.textwrap_text.proofs.Units.Texts.{units-tile}
-use Rattle.textwrap_text.specs.declared.escapes.State.{State}
-use Rattle.textwrap_text.specs.declared.escapes.State.TheVariants.{Text as InText}
-use Rattle.std.proofs.lemmas.List.Elements.{All-map}
 
 -- ---- what the rules ask of the text before a place, when a unit is added to it
 
@@ -159,9 +156,11 @@ none-equal s os differ = list_any_none (λ o. o == s) os
 
 any-below : (s : ℕ) (front rest : List ℕ) → All (λ o. o < s) front
     → list_any (λ o. o == s) (front ++ rest) ≡ list_any (λ o. o == s) rest
-any-below s front rest below = list_any-append (λ o. o == s) front rest
-    ∙ ap (λ b. b || list_any (λ o. o == s) rest) (none-equal s front
-    (All-weaker (λ o. o < s) (λ o. o ≢ s) (λ o h e. omega (arith, h, e)) front below))
+any-below s front rest below = rw (
+  list_any-append (λ o. o == s) front rest,
+  none-equal s front
+      (All-weaker (λ o. o < s) (λ o. o ≢ s) (λ o h e. omega (arith, h, e)) front below),
+) refl
 
 any-above : (s : ℕ) (os : List ℕ) → All (λ o. s < o) os → list_any (λ o. o == s) os ≡ false
 any-above s os above = none-equal s os
@@ -299,10 +298,9 @@ visible-utf8 (Sequence cs ∷ us) utf8 =
     visible-utf8 us (utf8-back cs (flat_map characters us) utf8)
 visible-utf8 (Visible c ∷ us) utf8 =
     let one = c ∷ [] in
-    subst IsUtf8 (sym (encodes-append one (visible_among us)))
-    (IsUtf8-append (encode_utf8_all one) (encode_utf8_all (visible_among us))
-    (utf8-front one (flat_map characters us) utf8)
-    (visible-utf8 us (utf8-back one (flat_map characters us) utf8)))
+    let rest = visible-utf8 us (utf8-back one (flat_map characters us) utf8) in
+    rw (encodes-append one (visible_among us))
+    (IsUtf8-append _ _ (utf8-front one (flat_map characters us) utf8) rest)
 
 -- ---- the code that cuts a line at its breaks
 
@@ -354,16 +352,10 @@ pub IsCutting-step : (numbers : Numbers) (line : List ℕ) (at : ℕ) (rest : Li
 IsCutting-step numbers line at rest s before end hyphen cuts c after p h e step at' before' end'
     hyphen' cuts' at_is before_is end_is hyphen_is cuts_is =
     let ends : ends_in s at h.shown (chars rest) ≡ ends_past p at h.shown c (chars after) =
-    ap (ends_in s at h.shown) (read-ahead h.read c after e)
-    ∙ ends-step s at h.shown c (chars after)
-    ∙ ap (λ p. ends_past p at h.shown c (chars after)) (sym step) in
+    rw (step, read-ahead h.read c after e) (ends-step s at h.shown c (chars after)) in
     let es = ends_in p.0 (at + length (encode c)) (h.shown + length (encode c)) (chars after) in
     let behind : map (λ e. e.character) es ≡ visible_in p.0 (chars after) =
     ends-characters (units_in p.0 (chars after)) _ _ in
-    let later = cuts_ahead numbers (and before (unit_of c)) (at + length (encode c))
-    (is_any_hyphen c) es in
-    let cut_before : List ℕ → List ℕ = λ back. cut_here (not hyphen
-    && may_end (decide_by (numbers_rule numbers back) before (unit_of c))) end in
     let here : cuts ++ cuts_ahead numbers before end hyphen (ends_past p at h.shown c (chars after))
     ≡ cuts_by numbers line =
     ap (λ es. cuts ++ cuts_ahead numbers before end hyphen es) (sym ends) ∙ h.found in
@@ -371,9 +363,7 @@ IsCutting-step numbers line at rest s before end hyphen cuts c after p h e step 
       read = read-next h.read c after e _ refl;
       shown = cond p.1 (h.shown + length (encode c)) h.shown;
       found = elim (cases_Bool p.1) [
-        | inl t ↦ rw t (append_assoc cuts (cut_before (visible_in p.0 (chars after))) later
-            ∙ ap (λ back. cuts ++ (cut_before back ++ later)) (sym behind)
-            ∙ (rw t at here))
+        | inl t ↦ rw (t, append_assoc, ← behind) (rw t at here)
         | inr f ↦ rw f (rw f at here)
       ];
     })

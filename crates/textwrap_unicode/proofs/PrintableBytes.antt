@@ -1,35 +1,33 @@
 -- The classes of printable bytes, what the rules say between them, and what stands before a place,
 -- also before blanks.
-use Rattle.textwrap_classes.proofs.Common.{slice_index_or, if◌then◌else◌, is_after_text, cases_Bool}
-use Rattle.textwrap_classes.proofs.Common.{is_opening, Ambiguous, and_parts, nat_tests, class_of, ℕ}
-use Rattle.textwrap_classes.proofs.Common.{is_blank, is_space, list_any, add-one, is_mark, unit_of}
-use Rattle.textwrap_classes.proofs.Common.{get_or, length, nat_lt, arith, false, subst, Bool, List}
-use Rattle.textwrap_classes.proofs.Common.{refl, take, true, zero, ◌&&◌, ◌==◌, ◌||◌, inl, inr, not}
-use Rattle.textwrap_classes.proofs.Common.{suc, sym, ◌+◌, ◌-◌, ◌<◌, ◌∙◌, ◌∷◌, ◌≡◌, ◌≤◌, [], ap}
-use Rattle.textwrap_unicode.proofs.Common.{class_past_blanks, is_any_hyphen, is_unusual, before_of}
-use Rattle.textwrap_unicode.proofs.Common.{not-true, may_end, nothing, Before, decide, and}
-use Rattle.textwrap_classes.specs.declared.ascii.TheConstants.{CLASSES}
-use Rattle.textwrap_unicode.specs.Pairs.{may_follow_blanks, behind_classes, is_cut_behind}
-use Rattle.unicode.specs.declared.properties.LineBreak.TheVariants.{CloseParenthesis, PrefixNumeric}
-use Rattle.unicode.specs.declared.properties.LineBreak.TheVariants.{ClosePunctuation, BreakSymbols}
-use Rattle.unicode.specs.declared.properties.LineBreak.TheVariants.{OpenPunctuation, PostfixNumeric}
-use Rattle.unicode.specs.declared.properties.LineBreak.TheVariants.{InfixNumeric, Exclamation}
-use Rattle.unicode.specs.declared.properties.LineBreak.TheVariants.{Alphabetic, BreakAfter, Numeric}
-use Rattle.unicode.specs.declared.properties.LineBreak.TheVariants.{Quotation, Unknown, Hyphen}
-use Rattle.unicode.specs.declared.properties.LineBreak.TheVariants.{Space}
-use Rattle.unicode.specs.declared.properties.LineBreak.{LineBreak}
-use Rattle.textwrap_text.proofs.Common.{IsPrintableByte, length-take-le, IsPrintable, get_or-drop}
-use Rattle.textwrap_text.proofs.Common.{get_or-take, length-drop, trimmed_len, add-zero, eqb-true}
-use Rattle.textwrap_text.proofs.Common.{list_all}
-use Rattle.unicode.specs.LineBreak.{line_break_number}
-use Rattle.std.proofs.lemmas.Bool.{agree_below_at, agree_below, or_right}
-use Rattle.unicode.proofs.LineBreakLemmas.{line_break_number_injective}
-use Rattle.textwrap_unicode.specs.declared.pairs.TheConstants.{UNUSUAL_AFTER, KINDS}
-use Rattle.textwrap_classes.specs.ClassSets.{is_regional_indicator, is_hebrew, is_zwj}
-use Rattle.textwrap_classes.proofs.ClassLemmas.{ascii-class, agree-same, past-first, agree}
-use Rattle.std.specs.Prelude.{bit_and}
-use Rattle.textwrap_unicode.proofs.WordVerdicts.{unit_with, ascii-is}
+use Rattle.std.{proofs.lemmas.Bool.agree_below, proofs.lemmas.Bool.or_right, specs.Prelude.bit_and}
+use Rattle.std.proofs.lemmas.Bool.{agree_below_at}
+use Rattle.textwrap_classes.{proofs.Common.list_any, specs.declared.ascii.TheConstants.CLASSES}
+use Rattle.textwrap_classes.proofs.ClassLemmas.{agree, agree-same, ascii_class, past-first}
+use Rattle.textwrap_classes.proofs.Common.{cases_Bool, if◌then◌else◌, is_after_text, slice_index_or}
+use Rattle.textwrap_classes.proofs.Common.{Ambiguous, and_parts, false, is_opening, nat_tests, ℕ}
+use Rattle.textwrap_classes.proofs.Common.{add-one, class_of, is_blank, is_mark, is_space, unit_of}
+use Rattle.textwrap_classes.proofs.Common.{Bool, List, arith, get_or, length, nat_lt, subst}
+use Rattle.textwrap_classes.proofs.Common.{inl, inr, not, refl, take, true, zero, ◌&&◌, ◌==◌, ◌||◌}
+use Rattle.textwrap_classes.proofs.Common.{[], ap, suc, sym, ◌+◌, ◌-◌, ◌<◌, ◌∙◌, ◌∷◌, ◌≡◌, ◌≤◌}
+use Rattle.textwrap_classes.specs.ClassSets.{is_hebrew, is_regional_indicator, is_zwj}
+use Rattle.textwrap_text.proofs.Common.{IsPrintable, IsPrintableByte, get_or-drop, length-take-le}
+use Rattle.textwrap_text.proofs.Common.{eqb-true, get_or-take, length-drop, trimmed_len}
+use Rattle.textwrap_text.proofs.Common.{add-zero, list_all}
+use Rattle.textwrap_unicode.proofs.Common.{class_past_blanks, is_any_hyphen, is_unusual, nothing}
+use Rattle.textwrap_unicode.proofs.Common.{Before, and, before_of, decide, may_end, not-true}
+use Rattle.textwrap_unicode.proofs.WordVerdicts.{ascii-is, unit_with}
+use Rattle.textwrap_unicode.specs.Pairs.{behind_classes, is_cut_behind, may_follow_blanks}
+use Rattle.textwrap_unicode.specs.declared.pairs.TheConstants.{KINDS, UNUSUAL_AFTER}
 use Rattle.textwrap_words.proofs.Word.Texts.{final_blanks-blank, trimmed-other}
+use Rattle.unicode.proofs.LineBreakLemmas.{line_break_number_injective}
+use Rattle.unicode.specs.{LineBreak.line_break_number, declared.properties.LineBreak.LineBreak}
+use Rattle.unicode.specs.declared.properties.LineBreak.TheVariants.{ClosePunctuation, PrefixNumeric}
+use Rattle.unicode.specs.declared.properties.LineBreak.TheVariants.{OpenPunctuation, PostfixNumeric}
+use Rattle.unicode.specs.declared.properties.LineBreak.TheVariants.{CloseParenthesis, InfixNumeric}
+use Rattle.unicode.specs.declared.properties.LineBreak.TheVariants.{Alphabetic, BreakAfter, Numeric}
+use Rattle.unicode.specs.declared.properties.LineBreak.TheVariants.{BreakSymbols, Hyphen, Unknown}
+use Rattle.unicode.specs.declared.properties.LineBreak.TheVariants.{Exclamation, Quotation, Space}
 
 -- ---- the classes
 
@@ -51,10 +49,7 @@ pub passes-among : (p : LineBreak → Bool) (classes : List LineBreak) → list_
 passes-among p [] all v inside = cc
 passes-among p (w ∷ classes) all v inside =
     let (here, others) = and_parts (p w) (list_all p classes) all in
-    elim (cases_Bool (same_class v w)) [
-      | inl same ↦ ap p (line_break_number_injective v w (eqb-true _ _ same)) ∙ here
-      | inr other ↦ passes-among p classes others v (rw other at inside)
-    ]
+    grind (arith, cases_Bool, line_break_number_injective, eqb-true, passes-among p classes others v)
 
 -- HY
 abbrev pub is_hyphen_class : LineBreak → Bool
@@ -112,7 +107,7 @@ all-told = refl
 pub told : (c : ℕ) → IsPrintableByte c → IsTold c
 told c (low, high) =
     let all : is_told c (class_of c) ≡ true =
-    subst (λ v. is_told c v ≡ true) (ascii-class c (omega arith))
+    subst (λ v. is_told c v ≡ true) (ascii_class c (omega arith))
     (past-first (nat_lt c 32) _ (grind (arith, nat_tests))
     (agree_below_at (λ x. nat_lt x 32 || is_told x (slice_index_or CLASSES x Ambiguous)) (λ x. true)
     127 c all-told high)) in
@@ -190,10 +185,10 @@ unusual-classes : (b c : ℕ) → IsPrintableByte b → IsPrintableByte c
     → unusual_behind (class_of b) (class_of c) ≡ is_unusual b c
 unusual-classes b c first next = grind (arith, cut-classes)
 
-pub unusual-bits : (b c : ℕ) → IsPrintableByte b → IsPrintableByte c
+pub unusual_bits : (b c : ℕ) → IsPrintableByte b → IsPrintableByte c
     → not (bit_and (slice_index_or UNUSUAL_AFTER b 0) (slice_index_or KINDS c 0) == 0)
     ≡ is_unusual b c
-unusual-bits b c first next =
+unusual_bits b c first next =
     let one = told b first in
     let other = told c next in
     rw (one.unusual, other.kind)
@@ -212,17 +207,15 @@ pub cut-behind : (past : LineBreak) (b c : ℕ) → IsPrintableByte b → IsPrin
 cut-behind past b c first next among word =
     let one = told b first in
     let other = told c next in
+    let blanks = cut-blanks past (class_of c) among other.class in
+    let words = cut-words (class_of b) (class_of c) one.class other.class in
     elim (cases_Bool (is_blank b)) [
       | inl blank ↦
           let space = class-space (class_of b) (sym one.blank ∙ blank) in
-          rw (blank, other.blank) (cut-classes past b c first next
-          ∙ ap (λ v. cut_behind past v (class_of c)) space
-          ∙ cut-blanks past (class_of c) among other.class)
+          rw (blank, other.blank) (cut-classes past b c first next ∙ rw space blanks)
       | inr none ↦
-          rw (none, other.blank) (ap (λ p. is_cut_behind p b c) (word none)
-          ∙ cut-classes (class_of b) b c first next
-          ∙ cut-words (class_of b) (class_of c) one.class other.class (sym one.blank ∙ none)
-          ∙ ap (λ u. not (is_space (class_of c)) && u) (unusual-classes b c first next))
+          rw (none, other.blank, word none) (cut-classes (class_of b) b c first next
+          ∙ rw (← unusual-classes b c first next) (words (sym one.blank ∙ none)))
     ]
 
 -- a blank is unusual behind what opens alone
@@ -275,13 +268,9 @@ pub byte-step : (past : LineBreak) (b c : ℕ) (before : Before) → IsBehind pa
     → IsBehind (if is_space (class_of c) then past else class_of c) (class_of c)
     (and before (unit_of c))
 byte-step past b c before h first next =
-    grind (
-      arith,
-      ascii-is,
-      h.is,
-      unit-behind (class_of c) (told c next).class past (class_of b) h.inside h.number
-          (none-has is_hebrew refl (class_of b) (told b first).class),
-    )
+    let step = unit-behind (class_of c) (told c next).class past (class_of b) h.inside h.number
+    (none-has is_hebrew refl (class_of b) (told b first).class) in
+    grind (arith, ascii-is, h.is, step)
 
 pub byte-first : (b : ℕ) → IsPrintableByte b
     → IsBehind (if is_space (class_of b) then Unknown else class_of b) (class_of b)
@@ -316,9 +305,9 @@ module _ (text : List ℕ) (printable : IsPrintable text) where
   past-blanks end zero within blanks = ap (class_past_blanks text) (add-zero end)
   past-blanks end (suc n) within blanks =
       let next : end + suc n ≡ suc (end + n) = omega arith in
-      ap (class_past_blanks text) next
-      ∙ past-blank (end + n) (omega (arith, within)) (blanks (end + n) (omega arith) (omega arith))
-      ∙ past-blanks end n (omega (arith, within)) (λ k from below. blanks k from (omega (arith, below)))
+      let last = blanks (end + n) (omega arith) (omega arith) in
+      rw (next, past-blank (end + n) (omega (arith, within)) last)
+      (past-blanks end n (omega (arith, within)) (λ k from below. blanks k from (omega (arith, below))))
 
   pub past-among : (n : ℕ) → n ≤ length text
       → is_among past_classes (class_past_blanks text n) ≡ true
@@ -346,10 +335,9 @@ module _ (text : List ℕ) (printable : IsPrintable text) where
         ap (class_past_blanks text) (sym all)
         ∙ past-blanks end (place - end) (omega (arith, all, within)) (λ k from below.
         let same : end + (k - end) ≡ k = omega (arith, from) in
-        ap is_blank (sym (get_or-take place text k 0 (omega (arith, below, all)))
-        ∙ ap (λ j. get_or (take place text) j 0) (sym same)
-        ∙ sym (get_or-drop end (take place text) (k - end) 0))
-        ∙ blanks (k - end) 0 (omega (arith, length-drop end (take place text), long, from, below, all)))
+        let size = length-drop end (take place text) in
+        rw (← get_or-take place text k 0 (omega (arith, below, all)))
+        (rw (get_or-drop, same) at (blanks (k - end) 0 (omega (arith, long, from, below, all)))))
 
     pub past-none : end ≡ 0 → class_past_blanks text place ≡ Unknown
     past-none none = end-past ∙ ap (class_past_blanks text) none

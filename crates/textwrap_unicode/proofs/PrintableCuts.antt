@@ -1,40 +1,34 @@
 -- A printable text is cut where its bytes say so, also past blanks, and where it is cut as at its
 -- blanks.
-use Rattle.std.proofs.lemmas.Bool.{agree_below_at, agree_below, not-false, or_parts}
-use Rattle.textwrap_classes.proofs.Common.{slice_index_or, if◌then◌else◌, is_after_text, cases_Bool}
-use Rattle.textwrap_classes.proofs.Common.{is_opening, true≢false, and-false, and_parts, cases_lt}
-use Rattle.textwrap_classes.proofs.Common.{class_of, is_blank, is_space, unit_of, encode, get_or, ℕ}
-use Rattle.textwrap_classes.proofs.Common.{length, arith, false, subst, Bool, List, drop, refl, inl}
-use Rattle.textwrap_classes.proofs.Common.{true, zero, ◌&&◌, ◌++◌, ◌==◌, ◌||◌, inr, map, not, suc}
-use Rattle.textwrap_classes.proofs.Common.{sym, ◌+◌, ◌-◌, ◌<◌, ◌∙◌, ◌∷◌, ◌≡◌, ◌≤◌, [], ap}
-use Rattle.textwrap_unicode.proofs.Common.{class_past_blanks, is_any_hyphen, printable_cut, ByPairs}
-use Rattle.textwrap_unicode.proofs.Common.{unicode_cuts, is_unusual, before_of, cut_here, not-true}
-use Rattle.textwrap_unicode.proofs.Common.{IsUsual, may_end, nothing, Before, decide, and, ◌↔◌}
-use Rattle.textwrap_unicode.specs.Pairs.{may_follow_blanks, IsCutAtBlanks, is_cut_behind, at_breaks}
-use Rattle.unicode.specs.declared.properties.LineBreak.{LineBreak}
-use Rattle.textwrap_text.proofs.Common.{is_ascii_alphanumeric, false_from_ne_true, IsPrintableByte}
-use Rattle.textwrap_text.proofs.Common.{IsUtf8-from_ascii, chars-IsAscii, IsPrintable, get_or-drop}
-use Rattle.textwrap_text.proofs.Common.{length-drop, trimmed_len, false≢true, add-zero, eqb-true}
-use Rattle.textwrap_text.proofs.Common.{Visible, is_cut}
-use Rattle.unicode.specs.declared.properties.LineBreak.TheVariants.{OpenPunctuation}
-use Rattle.textwrap_words.proofs.Common.{parts_between, ends_from, words_of, word_of}
-use Rattle.textwrap_words.proofs.Word.Texts.{final_blanks-blank, trimmed-other}
-use Rattle.textwrap_unicode.proofs.PrintableBytes.{unusual-space, unusual-bits, class-space}
-use Rattle.textwrap_unicode.proofs.PrintableBytes.{byte-first, cut-behind, past-among, past-blank}
-use Rattle.textwrap_unicode.proofs.PrintableBytes.{byte-step, past-byte, past-more, IsBehind}
-use Rattle.textwrap_unicode.proofs.PrintableBytes.{space-at}
-use Rattle.std.proofs.lemmas.Str.{encode_ascii}
+use Rattle.std.proofs.{Common.bit_and, Math.Bool.and-true, lemmas.Str.encode_ascii}
+use Rattle.std.proofs.lemmas.Bool.{agree_below, agree_below_at, not-false, or_parts}
+use Rattle.textwrap_classes.{proofs.Common.◌≤◌, specs.ClassSets.is_quotation}
+use Rattle.textwrap_classes.proofs.Common.{cases_Bool, if◌then◌else◌, is_after_text, slice_index_or}
+use Rattle.textwrap_classes.proofs.Common.{and-false, and_parts, cases_lt, true≢false}
+use Rattle.textwrap_classes.proofs.Common.{class_of, encode, get_or, is_blank, map, unit_of, ℕ}
+use Rattle.textwrap_classes.proofs.Common.{Bool, List, arith, drop, false, inl, length, refl, subst}
+use Rattle.textwrap_classes.proofs.Common.{is_opening, not, suc, true, zero, ◌&&◌, ◌++◌, ◌==◌, ◌||◌}
+use Rattle.textwrap_classes.proofs.Common.{[], ap, inr, is_space, sym, ◌+◌, ◌-◌, ◌<◌, ◌∙◌, ◌∷◌, ◌≡◌}
+use Rattle.textwrap_text.{proofs.Common.get_or-drop, specs.declared.escapes.State.TheVariants.Text}
+use Rattle.textwrap_text.proofs.Common.{IsPrintableByte, false_from_ne_true, is_ascii_alphanumeric}
+use Rattle.textwrap_text.proofs.Common.{add-zero, chars-IsAscii, eqb-true, length-drop, trimmed_len}
+use Rattle.textwrap_text.proofs.Common.{IsPrintable, IsUtf8-from_ascii, Visible, false≢true, is_cut}
 use Rattle.textwrap_text.proofs.Units.Reading.{printable-ascii, units-printable}
-use Rattle.textwrap_words.proofs.Word.Offsets.{ends_in}
-use Rattle.textwrap_text.specs.declared.escapes.State.TheVariants.{Text}
-use Rattle.textwrap_unicode.proofs.CutLemmas.{IsCutting-start, place-found, cuts_ahead}
-use Rattle.textwrap_words.proofs.Word.Parts.{parts_between-places, parts-chunks, byte-inside}
-use Rattle.textwrap_words.proofs.Word.Parts.{bytes-after, parts-same, byte-here, places_by}
-use Rattle.textwrap_words.specs.PieceCuts.{parts_by}
-use Rattle.std.proofs.Common.{bit_and}
-use Rattle.textwrap_unicode.specs.declared.pairs.TheConstants.{UNUSUAL_AFTER, KINDS}
-use Rattle.std.proofs.Math.Bool.{and-true}
-use Rattle.textwrap_classes.specs.ClassSets.{is_quotation}
+use Rattle.textwrap_unicode.proofs.Common.{ByPairs, class_past_blanks, is_any_hyphen, printable_cut}
+use Rattle.textwrap_unicode.proofs.Common.{before_of, cut_here, is_unusual, not-true, unicode_cuts}
+use Rattle.textwrap_unicode.proofs.Common.{Before, IsUsual, and, decide, may_end, nothing, ◌↔◌}
+use Rattle.textwrap_unicode.proofs.CutLemmas.{IsCutting-start, cuts_ahead, place-found}
+use Rattle.textwrap_unicode.proofs.PrintableBytes.{IsBehind, class-space, past-more, unusual-space}
+use Rattle.textwrap_unicode.proofs.PrintableBytes.{byte-first, cut-behind, past-among, past-blank}
+use Rattle.textwrap_unicode.proofs.PrintableBytes.{byte-step, past-byte, space-at, unusual_bits}
+use Rattle.textwrap_unicode.specs.Pairs.{IsCutAtBlanks, at_breaks, is_cut_behind, may_follow_blanks}
+use Rattle.textwrap_unicode.specs.declared.pairs.TheConstants.{KINDS, UNUSUAL_AFTER}
+use Rattle.textwrap_words.{proofs.Word.Offsets.ends_in, specs.PieceCuts.parts_by}
+use Rattle.textwrap_words.proofs.Common.{ends_from, parts_between, word_of, words_of}
+use Rattle.textwrap_words.proofs.Word.Parts.{byte-inside, parts-chunks, parts_between-places}
+use Rattle.textwrap_words.proofs.Word.Parts.{byte-here, bytes-after, parts-same, places_by}
+use Rattle.textwrap_words.proofs.Word.Texts.{final_blanks-blank, trimmed-other}
+use Rattle.unicode.specs.declared.properties.LineBreak.{LineBreak, TheVariants.OpenPunctuation}
 
 -- ---- a printable text is cut where its bytes say so
 
@@ -54,10 +48,7 @@ module _ (text : List ℕ) (printable : IsPrintable text) where
       → not (is_any_hyphen b) && may_end (decide before (unit_of c)) ≡ cut (n + 1)
   cut-is n b c before h first next =
       let back : n + 1 - 1 ≡ n = omega arith in
-      ap (λ f. not (is_any_hyphen b) && may_end (decide f (unit_of c))) h.is
-      ∙ ap (λ d. is_cut_behind (past (n + 1)) d c)
-      (sym (ap (λ k. get_or text k 0) back ∙ first))
-      ∙ ap (is_cut_behind (past (n + 1)) (get_or text (n + 1 - 1) 0)) (sym next)
+      rw (h.is, back, first, next) refl
 
   ahead-behind : (n b : ℕ) (rest : List ℕ) → drop n text ≡ b ∷ rest → (before : Before)
       → IsBehind (past (n + 1)) (class_of b) before → (shown : ℕ)
@@ -73,15 +64,9 @@ module _ (text : List ℕ) (printable : IsPrintable text) where
       let more : IsBehind (past (n + 1 + 1)) (class_of c) after =
       subst (λ p. IsBehind p (class_of c) after) (sym (past-more text (n + 1) c here))
       (byte-step (past (n + 1)) b c before h (byte-at n b (c ∷ cs) is) printable_c) in
-      ap (λ t. cut_here t (n + 1)
-      ++ cuts_ahead ByPairs after (n + 1 + length (encode c)) (is_any_hyphen c)
-      (ends_from (n + 1 + length (encode c)) (shown + length (encode c)) (map Visible cs)))
-      (cut-is n b c before h (byte-here text n b (c ∷ cs) is) here)
-      ∙ ap (λ k. cut_here (cut (n + 1)) (n + 1)
-      ++ cuts_ahead ByPairs after (n + 1 + k) (is_any_hyphen c)
-      (ends_from (n + 1 + k) (shown + length (encode c)) (map Visible cs))) one
-      ∙ ap (λ l. cut_here (cut (n + 1)) (n + 1) ++ l)
-      (ahead-behind (n + 1) c cs next after more (shown + length (encode c)))
+      rw (cut-is n b c before h (byte-here text n b (c ∷ cs) is) here, one)
+      (ap (λ l. cut_here (cut (n + 1)) (n + 1) ++ l)
+      (ahead-behind (n + 1) c cs next after more (shown + 1)))
 
   ahead-all : (bytes : List ℕ) → text ≡ bytes → (shown : ℕ)
       → cuts_ahead ByPairs (before_of nothing) 0 false (ends_from 0 shown (map Visible bytes))
@@ -94,13 +79,8 @@ module _ (text : List ℕ) (printable : IsPrintable text) where
       let ascii = printable-ascii text printable in
       let start = IsCutting-start ByPairs text 0 text (before_of nothing) []
       (IsUtf8-from_ascii text ascii) refl refl refl refl in
-      let ahead = λ (cs : List ℕ).
-      cuts_ahead ByPairs (before_of nothing) 0 false (ends_in Text 0 start.shown cs) in
-      sym start.found
-      ∙ ap ahead (chars-IsAscii text ascii)
-      ∙ ap (λ us. cuts_ahead ByPairs (before_of nothing) 0 false (ends_from 0 start.shown us))
-      (units-printable text printable)
-      ∙ ahead-all text refl start.shown
+      sym start.found ∙ rw (chars-IsAscii text ascii, units-printable text printable)
+      (ahead-all text refl start.shown)
 
   -- what the calls promise is what the bytes say
   pub breaks-cut : (place : ℕ) → 0 < place → place < length text
@@ -151,8 +131,7 @@ letters-plain = refl
 
 -- of two parts the first fails if the second does not
 and-first : (a b : Bool) → b ≡ true → a && b ≡ false → a ≡ false
-and-first true b is none = absurd (true≢false (sym is ∙ none))
-and-first false b is none = refl
+and-first a b is none = grind (arith, cases_Bool)
 
 module _ (text : List ℕ) (printable : IsPrintable text) where
   -- no bracket that opens stands before the blanks there
@@ -169,10 +148,7 @@ module _ (text : List ℕ) (printable : IsPrintable text) where
             (space-at text printable n (omega (arith, inside)) ∙ blank))
         | inr other ↦
             rw (past-byte text printable n (omega (arith, inside)) other)
-            (and-first _ _ space
-            (ap (λ k. is_opening (class_of (get_or text k 0))
-            && is_space (class_of (get_or text (suc n) 0)))
-            (sym back) ∙ (usual (suc n) (omega arith) (omega arith)).unopened))
+            (and-first _ _ space (rw back at (usual (suc n) (omega arith) (omega arith)).unopened))
       ]
 
   module _ (place : ℕ) (start : 0 < place) (inside : place < length text) where
@@ -200,27 +176,18 @@ module _ (text : List ℕ) (printable : IsPrintable text) where
         ∙ ap is_opening (past-blank text printable (place - 1) (omega (arith, start, inside)) blank)
         ∙ past-closed (place - 1) (omega (arith, start, inside))
         (λ k some below. usual k some (omega (arith, below, last))) space in
-        let may : may_follow_blanks (class_past_blanks text place) (class_of after) ≡ true =
-        rw (follows, opens, past) (ap not (and-false (is_quotation (class_past_blanks text place)))) in
         let told = cut-told text printable place start inside in
-        record {
-          cut = rw (blank, may) at told ∙ and-true (not (is_blank after)) ∙ sym (rw blank refl);
-          unopened = ap (λ v. is_opening v && is_space (class_of after))
-              (class-space (class_of before) space);
-        }
+        let class = class-space (class_of before) space in
+        grind (arith, told, class, and-true, and-false)
 
     usual-word : is_blank before ≡ false → is_unusual before after ≡ false → IsUsual text place
     usual-word other none =
         let told = cut-told text printable place start inside in
-        record {
-          cut = rw (other, none) at told ∙ and-false (not (is_blank after)) ∙ sym (rw other refl);
-          unopened = (or_parts (is_opening (class_of before) && is_space (class_of after)) _
-              (rw (space-before ∙ other) at none)).0;
-        }
+        grind (arith, told, space-before, and-false, or_parts)
 
-    pub usual-pair : ((k : ℕ) → 0 < k → k < place → IsUsual text k)
+    pub usual_pair : ((k : ℕ) → 0 < k → k < place → IsUsual text k)
         → is_unusual before after ≡ false → IsUsual text place
-    usual-pair usual none = grind (arith, cases_Bool, usual-blank, usual-word)
+    usual_pair usual none = grind (arith, cases_Bool, usual-blank, usual-word)
 
     cut-usual : is_blank after ≡ false → at_breaks text place ≡ is_blank before
         → IsUsual text place
@@ -233,9 +200,9 @@ module _ (text : List ℕ) (printable : IsPrintable text) where
         (cut-usual other, λ usual. usual.cut ∙ (rw other (and-true (is_blank before))))
 
     -- nothing unusual is a blank
-    pub unusual-blank : is_blank after ≡ true → is_unusual before after ≡ true
+    pub unusual_blank : is_blank after ≡ true → is_unusual before after ≡ true
         → IsUsual text place → ⊥
-    unusual-blank blank is usual =
+    unusual_blank blank is usual =
         let first = printable (place - 1) 0 (omega (arith, start, inside)) in
         let opens = sym (unusual-space before after first (printable place 0 inside) blank) ∙ is in
         true≢false (sym opens ∙ and-first _ _ (space-at text printable place inside ∙ blank)
@@ -262,13 +229,10 @@ module _ (text : List ℕ) (printable : IsPrintable text) where
           (λ c. is_ascii_alphanumeric c && is_followed c) (λ c. false) 128 before letters-plain
           (omega (arith, byte.1)))) in
           let usual : is_unusual before after ≡ false =
-          sym (unusual-bits before after byte (printable place 0 inside))
+          sym (unusual_bits before after byte (printable place 0 inside))
           ∙ ap (λ u. not (bit_and u (slice_index_or KINDS after 0) == 0))
           (eqb-true (slice_index_or UNUSUAL_AFTER before 0) 0 (not-false _ none)) in
-          let unusual : is_unusual before after ≡ true = sym (ap (λ b. if b
-          then may_follow_blanks (class_past_blanks text place) (class_of after)
-          else is_unusual before after) other) ∙ sides.1 in
-          false≢true (sym usual ∙ unusual))
+          false≢true (sym usual ∙ (rw other at sides.1)))
 
   -- one after another
   pub usual-run : (from n : ℕ) → 0 < from → from + n ≤ length text
@@ -281,7 +245,7 @@ module _ (text : List ℕ) (printable : IsPrintable text) where
   usual-run from (suc n) start within usual none =
       let before = usual-run from n start (omega (arith, within)) usual
       (λ k at below. none k at (omega (arith, below))) in
-      let here = usual-pair (from + n) (omega (arith, start)) (omega (arith, within)) before
+      let here = usual_pair (from + n) (omega (arith, start)) (omega (arith, within)) before
       (none (from + n) (omega arith) (omega arith)) in
       λ k some below. elim (cases_lt k (from + n)) [
         | inl less ↦ before k some less
@@ -335,8 +299,7 @@ module _ (text : List ℕ) (h : IsCutAtBlanks text) where
             (blank, ap is_opening (past-blank text h.printable (suc q) inside blank) ∙ past)
         | inr other ↦
             let back : suc q - 1 ≡ q = omega arith in
-            let first : is_blank (byte (suc q - 1)) ≡ true =
-            ap (λ j. is_blank (byte j)) back ∙ before in
+            let first : is_blank (byte (suc q - 1)) ≡ true = rw back before in
             let told = cut-told text h.printable (suc q) (omega arith) inside in
             let cut = h.cuts (suc q) (omega arith) inside in
             let kept = kept-open (class_past_blanks text (suc q)) (class_of (byte (suc q))) past in
@@ -346,20 +309,13 @@ module _ (text : List ℕ) (h : IsCutAtBlanks text) where
   closed : (k : ℕ) → 0 < k → k < trimmed_len text
       → is_opening (class_of (byte (k - 1))) && is_space (class_of (byte k)) ≡ false
   closed k start below =
-      elim (cases_Bool (is_opening (class_of (byte (k - 1))))) [
-        | inr other ↦ rw other refl
-        | inl opens ↦ elim (cases_Bool (is_blank (byte k))) [
-          | inr other ↦
-              rw (space-at text h.printable k (within k below) ∙ other)
-              (and-false (is_opening (class_of (byte (k - 1)))))
-          | inl blank ↦
-              let n = trimmed_len text - 1 - k in
-              let last : k + n ≡ trimmed_len text - 1 = omega (arith, below) in
-              let (at_end, _) = blanks-on k start opens blank n (omega (arith, below, last)) in
-              absurd (true≢false (sym at_end ∙ ap (λ j. is_blank (byte j)) last
-              ∙ trimmed-other text (omega (arith, below))))
-        ]
-      ]
+      let n = trimmed_len text - 1 - k in
+      let last : k + n ≡ trimmed_len text - 1 = omega (arith, below) in
+      let on = λ (opens : is_opening (class_of (byte (k - 1))) ≡ true) (blank : is_blank (byte k) ≡ true).
+      rw last at (blanks-on k start opens blank n (omega (arith, below, last))).0 in
+      let other = trimmed-other text (omega (arith, below)) in
+      let space = space-at text h.printable k (within k below) in
+      grind (arith, cases_Bool, on, other, space, and-false)
 
   pub all-usual : (k : ℕ) → 0 < k → k < trimmed_len text → IsUsual text k
   all-usual k start below =

@@ -1,30 +1,29 @@
 -- The sets of classes, what the rules come to after each class and after given characters, and
 -- places for which few of them are needed.
-use Rattle.std.proofs.lemmas.Bool.{true_from_ne_false, cond-false, cond-true, and_left, or_parts}
+use Rattle.std.proofs.lemmas.Bool.{and_left, cond-false, cond-true, or_parts, true_from_ne_false}
 use Rattle.std.proofs.lemmas.Bool.{or_left}
-use Rattle.textwrap_classes.proofs.Common.{if◌then◌else◌, is_after_text, takes_no_mark, cases_Bool}
-use Rattle.textwrap_classes.proofs.Common.{is_opening, and-false, and_from, class_of, is_space, not}
-use Rattle.textwrap_classes.proofs.Common.{is_mark, unit_of, arith, false, Bool, List, refl, true}
-use Rattle.textwrap_classes.proofs.Common.{◌&&◌, ◌++◌, ◌||◌, sym, ◌∙◌, ◌∷◌, ◌≡◌, ◌≢◌, [], ap, ℕ}
-use Rattle.textwrap_unicode.proofs.Common.{numbers_rule, Prohibited, verdict_by, Mandatory, Allowed}
-use Rattle.textwrap_unicode.proofs.Common.{before_of, decide_by, not-true, Numbers, Verdict, Before}
-use Rattle.textwrap_unicode.proofs.Common.{is_kept, decide, ◌↔◌}
-use Rattle.textwrap_unicode.specs.Before.{class_past_spaces, first_class, takes_marks, as_letter}
-use Rattle.textwrap_unicode.specs.Before.{with_unit, text_of, Text}
+use Rattle.textwrap_classes.proofs.Common.{cases_Bool, if◌then◌else◌, is_after_text, takes_no_mark}
+use Rattle.textwrap_classes.proofs.Common.{and-false, and_from, class_of, is_opening, is_space, not}
+use Rattle.textwrap_classes.proofs.Common.{Bool, List, arith, false, is_mark, refl, true, unit_of}
+use Rattle.textwrap_classes.proofs.Common.{[], ap, sym, ℕ, ◌&&◌, ◌++◌, ◌||◌, ◌∙◌, ◌∷◌, ◌≡◌, ◌≢◌}
+use Rattle.textwrap_classes.specs.ClassSets.{breaks_on_both_sides, is_line_end, is_zero_width_space}
+use Rattle.textwrap_classes.specs.ClassSets.{is_carriage_return, is_closing, is_quotation}
+use Rattle.textwrap_classes.specs.declared.classes.Unit.{Unit}
+use Rattle.textwrap_text.proofs.Common.{◌⊎◌}
+use Rattle.textwrap_unicode.{proofs.Common.decide, proofs.Common.is_kept, specs.Laws.ends_line}
+use Rattle.textwrap_unicode.proofs.{Common.◌↔◌, TextBreaks.not-empty, TextBreaks.text_of-push}
+use Rattle.textwrap_unicode.proofs.Common.{Allowed, Mandatory, Prohibited, numbers_rule, verdict_by}
+use Rattle.textwrap_unicode.proofs.Common.{Before, Numbers, Verdict, before_of, decide_by, not-true}
+use Rattle.textwrap_unicode.specs.Before.{as_letter, class_past_spaces, first_class, takes_marks}
+use Rattle.textwrap_unicode.specs.Before.{Text, text_of, with_unit}
+use Rattle.textwrap_unicode.specs.Rules.{Rule, Saying, first_said, is_glued, lb4, lb8, lb9, rules}
+use Rattle.unicode.proofs.BreaksComputing.{ucd_breaks}
+use Rattle.unicode.specs.declared.properties.LineBreak.{LineBreak}
 use Rattle.unicode.specs.declared.properties.LineBreak.TheVariants.{ClosePunctuation, CombiningMark}
 use Rattle.unicode.specs.declared.properties.LineBreak.TheVariants.{CarriageReturn, MandatoryBreak}
 use Rattle.unicode.specs.declared.properties.LineBreak.TheVariants.{HebrewLetter, Ideographic, Zwj}
 use Rattle.unicode.specs.declared.properties.LineBreak.TheVariants.{Alphabetic, LineFeed, NextLine}
-use Rattle.unicode.specs.declared.properties.LineBreak.TheVariants.{Numeric, ZWSpace, Space, H2, H3}
-use Rattle.unicode.specs.declared.properties.LineBreak.{LineBreak}
-use Rattle.textwrap_classes.specs.declared.classes.Unit.{Unit}
-use Rattle.textwrap_classes.specs.ClassSets.{breaks_on_both_sides, is_zero_width_space, is_line_end}
-use Rattle.textwrap_classes.specs.ClassSets.{is_carriage_return, is_quotation, is_closing}
-use Rattle.textwrap_unicode.specs.Rules.{first_said, is_glued, Saying, rules, Rule, lb4, lb8, lb9}
-use Rattle.textwrap_text.proofs.Common.{◌⊎◌}
-use Rattle.unicode.proofs.BreaksComputing.{ucd_breaks}
-use Rattle.textwrap_unicode.specs.Laws.{ends_line}
-use Rattle.textwrap_unicode.proofs.TextBreaks.{text_of-push, not-empty}
+use Rattle.unicode.specs.declared.properties.LineBreak.TheVariants.{H2, H3, Numeric, Space, ZWSpace}
 
 -- ---- classes
 
@@ -88,16 +87,11 @@ abbrev NeverMust : List Saying → Type 0
 NeverMust [] = Prim.Unit {0}
 NeverMust (rule ∷ others) = (rule.says ≢ Mandatory) × NeverMust others
 
-either-not : (b : Bool) (x y : Verdict) → x ≢ Mandatory → y ≢ Mandatory
-    → (if b then x else y) ≢ Mandatory
-either-not b x y hx hy = grind (arith, cases_Bool)
-
 never-must : (sayings : List Saying) (before : Before) (next : Unit) → NeverMust sayings
     → first_said sayings before next ≢ Mandatory
 never-must [] before next h = λ e. cc
 never-must (rule ∷ others) before next h =
-    either-not (rule.where_applies before next) rule.says (first_said others before next) h.0
-    (never-must others before next h.1)
+    grind (arith, cases_Bool, h.0, never-must others before next h.1)
 
 abbrev tail : List Saying → List Saying
 tail [] = []
@@ -145,11 +139,10 @@ module _ (numbers : Rule) (before : Before) (next : Unit) (some : before.is_star
   pub decide-closing : lb4 before next ≡ false → lb8 before next ≡ false
       → is_after_text next.class ≡ true → decide_by numbers before next ≡ Prohibited
   decide-closing free after closing =
-      rw (some, free, after)
-      (prohibited-or (is_kept before next) _ (prohibited-or before.is_joined _ (prohibited-or
-      (lb9 before next) _ (cond-true (is_glued before (as_letter next)) Prohibited _
-      (ap (is_glued before) (same-letter next (closing-mark next.class closing))
-      ∙ glued-closing closing)))))
+      let glued : is_glued before (as_letter next) ≡ true =
+      rw (same-letter next (closing-mark next.class closing)) (glued-closing closing) in
+      rw (some, free, after, glued) (prohibited-or (is_kept before next) _
+      (prohibited-or before.is_joined _ (prohibited-or (lb9 before next) _ refl)))
 
 -- ---- after a character
 
@@ -173,12 +166,10 @@ module _ (numbers : Numbers) (front back : List ℕ) (c : ℕ) where
 
   after-ends : (next : ℕ) → lb4 after (unit_of next) ≡ ends_line c next
   after-ends next =
-      let end = after-class is_line_end refl refl refl line_end-takes in
-      let return = after-class is_carriage_return refl refl refl return-takes in
-      rw (end, return) refl
-
-  after-takes : takes_no_mark after.class ≡ takes_no_mark (class_of c)
-  after-takes = after-class takes_no_mark refl refl refl (λ class e. e)
+      rw (
+        after-class is_line_end refl refl refl line_end-takes,
+        after-class is_carriage_return refl refl refl return-takes,
+      ) refl
 
   pub must-after : (next : ℕ)
       → (verdict_by numbers (front ++ c ∷ []) next back ≡ Mandatory) ↔ (ends_line c next ≡ true)
@@ -202,7 +193,7 @@ module _ (numbers : Numbers) (front back : List ℕ) (c : ℕ) where
       → is_mark (class_of next) ≡ true
       → verdict_by numbers (front ++ c ∷ []) next back ≡ Prohibited
   marked-after next takes mark =
-      let base : takes_no_mark after.class ≡ false = after-takes ∙ takes in
+      let base = after-class takes_no_mark refl refl refl (λ class e. e) ∙ takes in
       let free : ends_line c next ≡ false = and_left (is_line_end (class_of c)) _
       (line_end-takes (class_of c) takes) in
       decide-marked form after (unit_of next) after-started (after-ends next ∙ free)
@@ -219,20 +210,15 @@ return-class : class_of 0x0D ≡ CarriageReturn
 unfolding ucd_breaks
 return-class = refl
 
-feed-ends : (next : ℕ) → ends_line 0x0A next ≡ true
-feed-ends next = rw feed-class refl
-
-return-waits : ends_line 0x0D 0x0A ≡ false
-return-waits = rw (return-class, feed-class) refl
-
 pub feeds-end : (numbers : Numbers) (front back : List ℕ) (next : ℕ)
     → verdict_by numbers (front ++ 0x0A ∷ []) next back ≡ Mandatory
-feeds-end numbers front back next = (must-after numbers front back 0x0A next).1 (feed-ends next)
+feeds-end numbers front back next = (must-after numbers front back 0x0A next).1 (rw feed-class refl)
 
 pub return-kept : (numbers : Numbers) (front back : List ℕ)
     → verdict_by numbers (front ++ 0x0D ∷ []) 0x0A back ≡ Prohibited
 return-kept numbers front back =
-    kept-after numbers front back 0x0D 0x0A return-waits (ap takes_no_mark feed-class)
+    kept-after numbers front back 0x0D 0x0A (rw (return-class, feed-class) refl)
+    (ap takes_no_mark feed-class)
 
 -- ---- what is left of the rules between known classes
 
@@ -251,12 +237,6 @@ none-forbids zero quoted closed both = grind (arith, cases_Bool, and-false)
 abbrev unglued : LineBreak → Bool
 unglued past =
     (is_quotation past && false) || (is_closing past && false)
-    || (breaks_on_both_sides past && false)
-
--- the same with LB14
-abbrev glued : LineBreak → Bool
-glued past =
-    is_opening past || (is_quotation past && false) || (is_closing past && false)
     || (breaks_on_both_sides past && false)
 
 none-after : (past : LineBreak) → Allowed

@@ -1,31 +1,28 @@
 -- The breaks of a text that the definition computes are those that the rules name: one list in
 -- order, and what is said of one place.
-use Rattle.textwrap_classes.proofs.Common.{if◌then◌else◌, length-append, append_assoc, cases_Bool}
-use Rattle.textwrap_classes.proofs.Common.{unit_of, IsUtf8, encode, get_or, length, arith, chars, ℕ}
-use Rattle.textwrap_classes.proofs.Common.{false, subst, Bool, List, refl, take, true, ◌++◌, inl}
-use Rattle.textwrap_classes.proofs.Common.{inr, map, sym, ◌+◌, ◌<◌, ◌∙◌, ◌∷◌, ◌≡◌, ◌≢◌, ◌≤◌, [], ap}
-use Rattle.textwrap_unicode.proofs.Common.{numbers_rule, breaks_from, Prohibited, verdict_by, ◌↔◌}
-use Rattle.textwrap_unicode.proofs.Common.{Mandatory, before_of, breaks_by, decide_by, break_at}
-use Rattle.textwrap_unicode.proofs.Common.{Allowed, Numbers, Verdict, nothing}
-use Rattle.textwrap_unicode.specs.Before.{with_unit, is_empty, text_of, Text}
-use Rattle.textwrap_classes.specs.declared.classes.Unit.{Unit}
-use Rattle.textwrap_text.proofs.Common.{IsCharBoundary-from_take, encodes-append, encodes-chars}
-use Rattle.textwrap_text.proofs.Common.{map-append, chars-nil}
-use Rattle.std.specs.List.{Contains, fold, All}
-use Rattle.std.proofs.lemmas.List.{append_cancel_left, append-nil}
-use Rattle.std.proofs.lemmas.List.Sums.{fold-append}
-use lib.Utf8.{encodes}
-use Rattle.textwrap_unicode.specs.Breaks.{AreBreaksBy, IsBreakBy, IsPlaceBy, EndsBy, IsEnd}
+use Rattle.std.{proofs.Math.Seq.take-append_seam, specs.List.Contains, specs.Str.IsCharBoundary}
+use Rattle.std.{proofs.lemmas.List.Sums.fold-append, specs.List.All, specs.List.fold}
+use Rattle.std.proofs.lemmas.{List.Elements.All-get_or, Str.encodes_same, Str.length-le-encodes}
+use Rattle.std.proofs.lemmas.List.{Elements.Contains-append_left, append-nil, append_cancel_left}
 use Rattle.std.proofs.lemmas.List.Elements.{Contains-append_cases, Contains-append_right}
-use Rattle.std.proofs.lemmas.List.Elements.{Contains-append_left, All-get_or}
-use Rattle.std.proofs.lemmas.Str.{length-le-encodes, encodes_same}
-use Rattle.textwrap_unicode.specs.declared.breaks.LineBreak.{LineBreak}
-use Rattle.textwrap_text.proofs.Texts.{some-bytes, utf8-front}
+use Rattle.textwrap_classes.proofs.Common.{append_assoc, cases_Bool, if◌then◌else◌, length-append}
+use Rattle.textwrap_classes.proofs.Common.{IsUtf8, arith, chars, encode, get_or, length, unit_of, ℕ}
+use Rattle.textwrap_classes.proofs.Common.{Bool, List, false, inl, refl, subst, take, true, ◌++◌}
+use Rattle.textwrap_classes.proofs.Common.{[], ap, inr, map, sym, ◌+◌, ◌<◌, ◌∙◌, ◌∷◌, ◌≡◌, ◌≢◌, ◌≤◌}
+use Rattle.textwrap_classes.specs.declared.classes.Unit.{Unit}
+use Rattle.textwrap_text.proofs.{Common.chars-nil, Common.map-append, Lists.Elements.order-nil}
+use Rattle.textwrap_text.proofs.Common.{IsCharBoundary-from_take, encodes-append, encodes-chars}
 use Rattle.textwrap_text.proofs.Lists.Elements.{contains-cases, contains-here, contains-nil}
-use Rattle.textwrap_text.proofs.Lists.Elements.{same-members, order-cons, IsInOrder, order-nil}
-use Rattle.std.specs.Str.{IsCharBoundary}
-use Rattle.std.proofs.Math.Seq.{take-append_seam}
-use Rattle.textwrap_unicode.proofs.CutLemmas.{breaks_after-from, breaks-above}
+use Rattle.textwrap_text.proofs.Lists.Elements.{IsInOrder, order-cons, same-members}
+use Rattle.textwrap_text.proofs.Texts.{some-bytes, utf8-front}
+use Rattle.textwrap_unicode.{proofs.Common.nothing, specs.declared.breaks.LineBreak.LineBreak}
+use Rattle.textwrap_unicode.proofs.Common.{Prohibited, breaks_from, numbers_rule, verdict_by, ◌↔◌}
+use Rattle.textwrap_unicode.proofs.Common.{Mandatory, before_of, break_at, breaks_by, decide_by}
+use Rattle.textwrap_unicode.proofs.Common.{Allowed, Numbers, Verdict}
+use Rattle.textwrap_unicode.proofs.CutLemmas.{breaks-above, breaks_after-from}
+use Rattle.textwrap_unicode.specs.Before.{Text, is_empty, text_of, with_unit}
+use Rattle.textwrap_unicode.specs.Breaks.{AreBreaksBy, EndsBy, IsBreakBy, IsEnd, IsPlaceBy}
+use lib.Utf8.{encodes}
 
 -- ---- a place among the characters that are still to be read
 
@@ -65,9 +62,7 @@ module _ (numbers : Numbers) where
       → Contains (breaks_from numbers (text_of (front ++ c ∷ []))
       (length (encodes (front ++ c ∷ []))) cs) place
       → Contains (breaks_from numbers (text_of front) (length (encodes front)) (c ∷ cs)) place
-  contains-after front c cs place h = Contains-append_right
-      (break_at (verdict_by numbers front c cs) (length (encodes front))) _ place
-      (subst (λ breaks. Contains breaks place) (breaks-after front c cs) h)
+  contains-after front c cs place h = grind (arith, Contains-append_right, breaks-after)
 
   contains-before : (verdict : Verdict) (front : List ℕ) (c : ℕ) (cs : List ℕ) (place : LineBreak)
       → verdict_by numbers front c cs ≡ verdict
@@ -81,11 +76,13 @@ module _ (numbers : Numbers) where
       → Contains (breaks_from numbers (text_of front) (length (encodes front))
       (middle ++ next ∷ back)) place
   contains-later front [] back next verdict place said is =
-      contains-before verdict front next back place (rw append-nil at said) (rw append-nil at is)
+      grind (arith, append-nil, contains-before verdict front next back place)
   contains-later front (m ∷ ms) back next verdict place said is =
-      contains-after front m (ms ++ next ∷ back) place
-      (contains-later (front ++ m ∷ []) ms back next verdict place
-      (rw append_assoc said) (rw append_assoc is))
+      contains-after front m (ms ++ next ∷ back) place (grind (
+        arith,
+        append_assoc,
+        contains-later (front ++ m ∷ []) ms back next verdict place,
+      ))
 
 only : (x y : LineBreak) → Contains (x ∷ []) y → x ≡ y
 only x y h = grind (arith, contains-cases, contains-nil)
@@ -100,14 +97,9 @@ module _ (numbers : Numbers) (text : List ℕ) (utf8 : IsUtf8 text) where
   ends-here : (front : List ℕ) (c : ℕ) (cs : List ℕ) (verdict : Verdict) (place : LineBreak)
       → chars text ≡ front ++ c ∷ cs → verdict_by numbers front c cs ≡ verdict
       → Contains (break_at verdict (length (encodes front))) place → IsBreakBy numbers text place
-  ends-here front c cs Mandatory place divided said h = subst (IsBreakBy numbers text)
-      (only _ place h) (inl (place-here front c cs Mandatory divided said))
-  ends-here front c cs Allowed place divided said h = subst (IsBreakBy numbers text)
-      (only _ place h) (place-here front c cs Allowed divided said)
+  ends-here front c cs Mandatory place divided said h = grind (arith, only, place-here)
+  ends-here front c cs Allowed place divided said h = grind (arith, only, place-here)
   ends-here front c cs Prohibited place divided said h = absurd (contains-nil place h)
-
-  no-chars : chars text ≡ [] → text ≡ []
-  no-chars none = sym (encodes-chars text utf8) ∙ ap encodes none
 
   -- each computed break is one that the rules say
   computed-said : (front cs : List ℕ) (place : LineBreak) → chars text ≡ front ++ cs
@@ -120,12 +112,12 @@ module _ (numbers : Numbers) (text : List ℕ) (utf8 : IsUtf8 text) where
         λ none. let e : f ∷ fs ≡ [] = all ∙ ap chars none ∙ chars-nil in cc,
         ap (λ cs. length (encodes cs)) all ∙ ap length (encodes-chars text utf8),
       ))
-  computed-said front (c ∷ cs) place whole h = elim (Contains-append_cases _ _ place h) [
-    | inl first ↦ ends-here front c cs (verdict_by numbers front c cs) place whole refl first
-    | inr rest ↦ computed-said (front ++ c ∷ []) cs place
-        (whole ∙ sym (append_assoc front (c ∷ []) cs))
-        (subst (λ breaks. Contains breaks place) (sym (breaks-after numbers front c cs)) rest)
-  ]
+  computed-said front (c ∷ cs) place whole h =
+      elim (Contains-append_cases _ _ place h) [
+        | inl first ↦ ends-here front c cs (verdict_by numbers front c cs) place whole refl first
+        | inr rest ↦ computed-said (front ++ c ∷ []) cs place (rw append_assoc whole)
+            (rw (breaks-after numbers front c cs) rest)
+      ]
 
   -- and each that they say is computed
   said-place : (verdict : Verdict) (place : LineBreak) → break_at verdict place.at ≡ place ∷ []
@@ -138,7 +130,7 @@ module _ (numbers : Numbers) (text : List ℕ) (utf8 : IsUtf8 text) where
   said-end : (front cs : List ℕ) → chars text ≡ front ++ cs → text ≢ []
       → Contains (breaks_from numbers (text_of front) (length (encodes front)) cs)
       (record { at = length text; is_mandatory = true })
-  said-end [] [] whole some = absurd (some (no-chars whole))
+  said-end [] [] whole some = absurd (some (sym (encodes-chars text utf8) ∙ ap encodes whole))
   said-end (f ∷ fs) [] whole some =
       let end : length text ≡ length (encodes (f ∷ fs)) = ap length (sym (encodes-chars text utf8)
       ∙ ap encodes (whole ∙ append-nil (f ∷ fs))) in
@@ -185,12 +177,8 @@ module _ (numbers : Numbers) (text : List ℕ) (utf8 : IsUtf8 text) where
       let taken = before-place text utf8 h.front h.back h.next h.divided in
       let own = utf8-front h.front (h.next ∷ h.back)
       (subst IsUtf8 (sym (encodes-chars text utf8) ∙ ap encodes h.divided) utf8) in
-      let within : at ≤ length text = omega (
-        arith,
-        h.offset,
-        ap length parts,
-        length-append (encodes h.front) (encodes (h.next ∷ h.back)),
-      ) in (
+      let size = length-append (encodes h.front) (encodes (h.next ∷ h.back)) in
+      let within : at ≤ length text = omega (arith, h.offset, ap length parts) in (
         IsCharBoundary-from_take text at utf8 within
             (subst IsUtf8 (sym (ap (λ n. take n text) h.offset ∙ taken)) own),
         omega (arith, h.offset, some-front numbers h.front h.next h.back (λ none. some (sym h.said ∙ none))),
@@ -241,13 +229,11 @@ pub breaks-in-order : (numbers : Numbers) (text : Text) (at : ℕ) (cs : List �
     → IsInOrder offset_of (breaks_from numbers text at cs)
 breaks-in-order numbers text at [] = order-end at (is_empty text.units)
 breaks-in-order numbers text at (c ∷ cs) =
+    let after = with_unit text (unit_of c) in
+    let next = at + length (encode c) in
     order-place at (decide_by (numbers_rule numbers cs) (before_of text) (unit_of c)) _
-    (λ i none within. omega (
-      arith,
-      some-bytes c,
-      from-there numbers (with_unit text (unit_of c)) (at + length (encode c)) cs i none within,
-    ))
-    (breaks-in-order numbers (with_unit text (unit_of c)) (at + length (encode c)) cs)
+    (λ i none within. let more = from-there numbers after next cs i none within in
+    omega (arith, some-bytes c)) (breaks-in-order numbers after next cs)
 
 -- the breaks of a text are the computed ones, and no others
 pub breaks-unique : (numbers : Numbers) (text : List ℕ) (breaks : List LineBreak) → IsUtf8 text
@@ -274,13 +260,10 @@ module _ (numbers : Numbers) (text front back : List ℕ) (next : ℕ) (utf8 : I
   here-said verdict h =
       let same : h.front ≡ front = encodes_same h.front front
       (sym (before-place text utf8 h.front h.back h.next h.divided)
-      ∙ ap (λ n. take n text) (sym h.offset)
-      ∙ before-place text utf8 front back next divided) in
+      ∙ rw (← h.offset) (before-place text utf8 front back next divided)) in
       let rest : h.next ∷ h.back ≡ next ∷ back = append_cancel_left front _ _
-      (ap (λ cs. cs ++ h.next ∷ h.back) (sym same) ∙ sym h.divided ∙ divided) in
-      let first : h.next ≡ next = cc in
-      let later : h.back ≡ back = cc in
-      grind (arith, same, first, later, h.said)
+      (rw same at (sym h.divided ∙ divided)) in
+      grind (arith, same, rest, h.said)
 
   here-inside : IsEnd text (length (encodes front)) → ⊥
   here-inside h =

@@ -1,30 +1,26 @@
 -- What the rules say behind letters and ideographs, over which a line is read all at once.
-use Rattle.textwrap_classes.proofs.Common.{ideograph_places, IsIdeographAt, if◌then◌else◌, class_of}
-use Rattle.textwrap_classes.proofs.Common.{append_assoc, append-nil, cases_Bool, nat_tests, add-one}
-use Rattle.textwrap_classes.proofs.Common.{is_space, unit_of, encode, get_or, length, arith, chars}
-use Rattle.textwrap_classes.proofs.Common.{false, subst, Bool, List, drop, refl, true, zero, ◌&&◌}
-use Rattle.textwrap_classes.proofs.Common.{◌++◌, ◌==◌, ◌||◌, suc, sym, ◌*◌, ◌+◌, ◌<◌, ◌∙◌, ◌∷◌, ◌≡◌}
-use Rattle.textwrap_classes.proofs.Common.{◌≤◌, [], ap, ℕ}
-use Rattle.textwrap_unicode.specs.WordStarts.{is_behind_blank, is_behind_sign, IsPlainLetter}
-use Rattle.textwrap_unicode.specs.WordStarts.{plain_letter, IsWordClass, word_starts, IsWordByte}
-use Rattle.textwrap_unicode.proofs.Common.{is_any_hyphen, numbers_rule, Prohibited, and_words, and}
-use Rattle.textwrap_unicode.proofs.Common.{decide_by, cut_here, ByPairs, Numbers, may_end, Before}
-use Rattle.unicode.specs.declared.properties.LineBreak.TheVariants.{InfixNumeric, Ideographic}
-use Rattle.unicode.specs.declared.properties.LineBreak.TheVariants.{Alphabetic, Space}
-use Rattle.unicode.specs.declared.properties.LineBreak.{LineBreak}
-use Rattle.textwrap_classes.specs.declared.classes.Unit.{Unit}
-use Rattle.textwrap_text.proofs.Common.{length-encode, visible_in, drop-drop, drop_more, add-zero}
-use Rattle.textwrap_text.proofs.Common.{eqb}
-use Rattle.textwrap_classes.specs.ClassSets.{is_letter, is_infix}
-use Rattle.textwrap_unicode.specs.declared.numbers.Numbers.TheVariants.{ByExpression}
-use Rattle.textwrap_classes.proofs.ClassLemmas.{ascii-class, ascii_unit}
-use Rattle.std.proofs.lemmas.Str.{encode_ascii}
-use Rattle.textwrap_text.proofs.Units.Reading.{plain-step}
-use Rattle.textwrap_text.specs.declared.escapes.State.{State}
-use Rattle.textwrap_text.specs.declared.escapes.State.TheVariants.{Text}
-use Rattle.textwrap_unicode.proofs.CutLemmas.{IsCutting-step, IsCutting}
-use Rattle.std.specs.Char.{len_utf8}
+use Rattle.std.{proofs.lemmas.Str.encode_ascii, specs.Char.len_utf8}
+use Rattle.textwrap_classes.{proofs.Common.ℕ, specs.ClassSets.is_infix, specs.ClassSets.is_letter}
+use Rattle.textwrap_classes.{proofs.Common.[], proofs.Common.◌≤◌, specs.declared.classes.Unit.Unit}
+use Rattle.textwrap_classes.proofs.{ClassLemmas.ascii_class, ClassLemmas.ascii_unit, Common.chars}
+use Rattle.textwrap_classes.proofs.Common.{IsIdeographAt, class_of, ideograph_places, if◌then◌else◌}
+use Rattle.textwrap_classes.proofs.Common.{add-one, append-nil, append_assoc, cases_Bool, nat_tests}
+use Rattle.textwrap_classes.proofs.Common.{ap, arith, encode, get_or, is_space, length, unit_of}
+use Rattle.textwrap_classes.proofs.Common.{Bool, List, drop, false, refl, subst, true, zero, ◌&&◌}
+use Rattle.textwrap_classes.proofs.Common.{suc, sym, ◌*◌, ◌++◌, ◌+◌, ◌<◌, ◌==◌, ◌||◌, ◌∙◌, ◌∷◌, ◌≡◌}
 use Rattle.textwrap_classes.specs.Ideographs.{IsCommonIdeograph, wide_ideograph}
+use Rattle.textwrap_text.proofs.{Common.drop-drop, Common.eqb, Units.Reading.plain-step}
+use Rattle.textwrap_text.proofs.Common.{add-zero, drop_more, length-encode, visible_in}
+use Rattle.textwrap_text.specs.declared.escapes.State.{State, TheVariants.Text}
+use Rattle.textwrap_unicode.proofs.Common.{Prohibited, and, and_words, is_any_hyphen, numbers_rule}
+use Rattle.textwrap_unicode.proofs.Common.{Before, ByPairs, Numbers, cut_here, decide_by, may_end}
+use Rattle.textwrap_unicode.proofs.CutLemmas.{IsCutting, IsCutting-step}
+use Rattle.textwrap_unicode.specs.Pairs.{behind_classes}
+use Rattle.textwrap_unicode.specs.WordStarts.{IsPlainLetter, is_behind_blank, is_behind_sign}
+use Rattle.textwrap_unicode.specs.WordStarts.{IsWordByte, IsWordClass, plain_letter, word_starts}
+use Rattle.textwrap_unicode.specs.declared.numbers.Numbers.TheVariants.{ByExpression}
+use Rattle.unicode.specs.declared.properties.LineBreak.{LineBreak, TheVariants.InfixNumeric}
+use Rattle.unicode.specs.declared.properties.LineBreak.TheVariants.{Alphabetic, Ideographic, Space}
 
 -- ---- letters behind a letter, which are passed all at once
 
@@ -48,11 +44,7 @@ letters-same at bytes n (suc k) plain letters =
     let h = letters-same at bytes n k (λ _. (blank, sign)) (λ j below. letters j (omega (arith, below))) in
     let one = one-letter at bytes (n + k) (letters k (omega arith)) (h.blank ∙ blank) (h.sign ∙ sign) in
     let place : suc (n + k) ≡ n + suc k = omega arith in
-    subst (IsSame at bytes n) place (record {
-      blank = one.blank ∙ h.blank;
-      sign = one.sign ∙ h.sign;
-      starts = one.starts ∙ h.starts;
-    })
+    subst (IsSame at bytes n) place (grind (arith, one, h))
 
 -- ---- the units
 
@@ -74,18 +66,7 @@ not-same c d word other = grind (arith, nat_tests)
 
 -- a letter stands there, and nothing else that a rule asks for
 abbrev pub in_word : Before
-in_word = record {
-  is_start = false;
-  class = Alphabetic;
-  past_spaces = Alphabetic;
-  follows_hebrew = false;
-  is_half_flag = false;
-  is_wide = false;
-  is_unassigned_pictograph = false;
-  is_joined = false;
-  is_in_number = false;
-  is_past_number = false;
-}
+in_word = behind_classes Alphabetic Alphabetic
 
 -- a letter more changes nothing
 pub letter-step : (numbers : Numbers) (back : List ℕ) (before : Before) (unit : Unit)
@@ -128,12 +109,10 @@ of-word : (class : LineBreak) → IsWordClass class → is_of_word class ≡ tru
 of-word class is = grind arith
 
 pub no-escape : (c : ℕ) → IsWordByte c → eqb c 27 ≡ false
-no-escape c word =
-    not-same c 27 (of-word (class_of c) word.class)
-    (ap is_of_word (sym (ascii-class 27 (omega arith))))
+no-escape c word = grind (arith, not-same, of-word, ascii_class, nat_tests)
 
 pub no-hyphen : (c : ℕ) → IsWordByte c → is_any_hyphen c ≡ false
-no-hyphen c word = grind (arith, not-same, of-word, ascii-class, nat_tests)
+no-hyphen c word = grind (arith, not-same, of-word, ascii_class, nat_tests)
 
 -- ---- letters, blanks and signs behind a letter of a word, over which a line is read all at
 -- once
@@ -156,9 +135,7 @@ module _ (numbers : Numbers) (line : List ℕ) (at : ℕ) (rest : List ℕ) wher
       let (ends_is, and_is) = said numbers back blank sign (class_of c) word.class in
       let unit = ascii-is c word.ascii in
       let one : encode c ≡ c ∷ [] = encode_ascii c word.ascii in
-      let is : drop n rest ≡ encode c ++ after =
-      drop_more rest n 0 inside ∙ ap (λ k. c ∷ drop k rest) (add-one n)
-      ∙ sym (ap (λ bs. bs ++ after) one) in
+      let is : drop n rest ≡ encode c ++ after = rw (one, ← add-one n) (drop_more rest n 0 inside) in
       let place : at + suc n ≡ at + n + length (encode c) = omega (arith, ap length one) in
       IsCutting-step numbers line (at + n) (drop n rest) Text (behind blank sign) (at + n) false cuts c
       after (Text, true) h is (plain-step c (no-escape c word)) (at + suc n)
@@ -187,7 +164,7 @@ module _ (numbers : Numbers) (line : List ℕ) (at : ℕ) (rest : List ℕ) wher
   words-passed n state before after end hyphen blank sign cuts found h text first same none is
       within words found_is blank_is sign_is after_is =
       let start = rw (text, first, same, none, ← is) at h in
-      rw (text, none, found_is, after_is, first, blank_is, sign_is, sym (drop-drop n at line), ← is)
+      rw (text, none, found_is, after_is, first, blank_is, sign_is, ← drop-drop n at line, ← is)
       (past-words cuts start n within words)
 
 -- ---- the characters
@@ -205,18 +182,7 @@ ideograph-no-hyphen c is = grind (arith, nat_tests, is.from, is.from)
 
 -- one stands there, and nothing else that a rule asks for
 abbrev pub behind_ideograph : Before
-behind_ideograph = record {
-  is_start = false;
-  class = Ideographic;
-  past_spaces = Ideographic;
-  follows_hebrew = false;
-  is_half_flag = false;
-  is_wide = true;
-  is_unassigned_pictograph = false;
-  is_joined = false;
-  is_in_number = false;
-  is_past_number = false;
-}
+behind_ideograph = record (behind_classes Ideographic Ideographic) { is_wide = true }
 
 -- a line may end before one more, which changes nothing
 ideograph-verdict : (numbers : Numbers) (back : List ℕ)

@@ -1,5 +1,5 @@
 //! The function for `LineCuts` that cuts a line into words where it may end.
-ghost use Rattle.std.specs.Prelude.{◌≡◌, ℕ, ◌+◌, ◌*◌, ◌^◌, ◌<◌, ◌≤◌, ◌++◌, true, IfOk, chars, drop};
+ghost use Rattle.std.specs.Prelude.{◌≡◌, ℕ, ◌+◌, ◌*◌, ◌^◌, ◌<◌, ◌≤◌, [], ◌∷◌, ◌++◌, true, IfOk, chars, drop};
 ghost use Rattle.std.specs.Prelude.{if◌then◌else◌, length, slice_index, IsCharBoundary};
 ghost use Rattle.textwrap_unicode.specs.BreaksLeft.{and};
 ghost use Rattle.textwrap_unicode.specs.Rules.{decide_by, numbers_rule};
@@ -11,6 +11,7 @@ ghost use Rattle.textwrap_classes.specs.Ideographs.{IsIdeographAt, ideograph_pla
 ghost use Rattle.textwrap_classes.specs.ClassSets.{is_infix, is_letter, is_space};
 ghost use Rattle.textwrap_classes.specs.Classes.{class_of};
 ghost use Rattle.textwrap_unicode.specs.declared.numbers.Numbers.TheVariants.{ByExpression};
+ghost use Rattle.textwrap_text.specs.declared.escapes.State.TheVariants.{Text};
 ghost use Rattle.textwrap_words.specs.Cuts.{AreInnerCuts};
 ghost use Rattle.textwrap_words.specs.WordOffsets.{is_any_hyphen};
 
@@ -72,15 +73,13 @@ fn find_cuts(alloc: Global, line: &str, numbers: Numbers) -> Result<Vec<usize>, 
             let unit = Unit::of(ch);
             let (verdict, after) = step_past(line, at, next, before, unit, numbers);
             let is_cut = !is_hyphen & may_end(verdict);
-            if is_cut {
-                cuts.push(end)?;
-            }
+            push_cut(&mut cuts, is_cut, end)?;
             before = after;
             end = at;
             is_hyphen = is_any_hyphen(ch);
         }
         state = next;
-        if end == at && !is_hyphen && matches!(state, State::Text) {
+        if end == at && !is_hyphen && is_in_text(state) {
             if before.is_in_word() {
                 let rest = line[at..].as_bytes();
                 let passed = push_words(rest, at, &mut cuts)?;
@@ -94,6 +93,21 @@ fn find_cuts(alloc: Global, line: &str, numbers: Numbers) -> Result<Vec<usize>, 
         }
     }
     Ok(cuts)
+}
+
+/// Adds a place where it is a cut.
+///
+/// # Errors
+/// [`AllocError`] where memory runs out.
+fn push_cut(cuts: &mut Vec<usize>, is_cut: bool, place: usize) -> Result<(), AllocError>
+    ensures { IfOk result (λ _. cuts.new.items
+        ≡ cuts.old.items ++ (if is_cut then place ∷ [] else [])) }
+{
+    if !is_cut {
+        return Ok(());
+    }
+    cuts.push(place)?;
+    Ok(())
 }
 
 /// Letters, blanks and signs such as commas, which stand behind a letter of a word.
@@ -130,9 +144,7 @@ fn push_words(rest: &[u8], at: usize, cuts: &mut Vec<usize>) -> Result<Passed, A
     while len < rest.len() && is_word_byte(rest[len]) {
         let class = ascii_class(rest[len]);
         let is_start = is_behind_blank & is_letter(class);
-        if is_start {
-            cuts.push(at + len)?;
-        }
+        push_cut(cuts, is_start, at + len)?;
         is_behind_blank = is_space(class);
         is_behind_sign = is_sign_behind(class, is_behind_sign);
         len += 1;
@@ -160,6 +172,7 @@ fn letters_len(rest: &[u8], from: usize, is_behind_other: bool) -> usize
 }
 
 /// Whether a byte is a letter of ASCII: AL.
+#[tactic(auto, using(textwrap_classes::proofs::ClassLemmas::ascii_unit))]
 fn is_plain_letter(byte: u8) -> bool
     ensures { result ≡ true → IsPlainLetter byte }
 {
@@ -195,6 +208,7 @@ fn is_word_class(class: LineBreak) -> bool
 }
 
 /// The class of a character of ASCII.
+#[tactic(auto, using(textwrap_classes::proofs::ClassLemmas::ascii_class))]
 fn ascii_class(byte: u8) -> LineBreak
     requires { byte < 128 }
     ensures { result ≡ class_of byte }
@@ -257,6 +271,13 @@ fn may_end(verdict: Verdict) -> bool
     ensures { result ≡ may_end verdict }
 {
     matches!(verdict, Verdict::Mandatory | Verdict::Allowed)
+}
+
+/// Whether the next character belongs to no escape sequence that has begun.
+fn is_in_text(state: State) -> bool
+    ensures { result ≡ true → state ≡ Text }
+{
+    matches!(state, State::Text)
 }
 
 /// Whether this is a hyphen or a soft hyphen.

@@ -101,6 +101,7 @@ fn may_follow_blanks(past: LineBreak, class: LineBreak) -> bool
 
 /// Whether a byte is of a kind that is unusual behind another.
 #[inline]
+#[tactic(auto, using(crate::proofs::PrintableBytes::unusual_bits))]
 fn is_unusual(before: u8, after: u8) -> bool
     requires before { IsPrintableByte before }
     requires after { IsPrintableByte after }
@@ -112,6 +113,7 @@ fn is_unusual(before: u8, after: u8) -> bool
 /// Whether a printable text is cut at a place as at its blanks, and has no blank there behind a
 /// bracket that opens, if both hold at each place before.
 #[inline]
+#[tactic(auto, using(crate::proofs::PrintableCuts::usual_pair, crate::proofs::PrintableCuts::unusual_blank))]
 fn is_usual(text: &[u8], place: usize) -> bool
     requires printable { IsPrintable text.now }
     requires after_start { 0 < place }

@@ -14,9 +14,9 @@ use crate::before::{Before, as_letter};
 use textwrap_classes::class_sets::{
     breaks_before_glue, ends_in_trailing, ends_in_vowel, ends_number, follows_leading,
     follows_vowel, goes_on_number, is_affix, is_after_text, is_closing, is_hebrew, is_hyphen,
-    is_ideograph, is_jamo, is_letter, is_letter_or_number, is_line_end, is_mark, is_never_first,
-    is_opening, is_regional_indicator, is_space, is_zero_width_space, leads_to_number,
-    opens_number, takes_no_mark,
+    is_ideograph, is_jamo, is_leading_jamo, is_letter, is_letter_or_number, is_line_end, is_mark,
+    is_never_first, is_opening, is_postfix, is_prefix, is_regional_indicator, is_space,
+    is_trailing_jamo, is_zero_width_space, leads_to_number, opens_number, takes_no_mark,
 };
 use textwrap_classes::classes::Unit;
 use unicode::properties::LineBreak;
@@ -201,8 +201,8 @@ fn lb23(before: &Before, next: Unit) -> bool
 fn lb23a(before: &Before, next: Unit) -> bool
     ensures { result ≡ lb23a before.now next }
 {
-    (matches!(before.class, LineBreak::PrefixNumeric) & is_ideograph(next.class))
-        | (is_ideograph(before.class) & matches!(next.class, LineBreak::PostfixNumeric))
+    (is_prefix(before.class) & is_ideograph(next.class))
+        | (is_ideograph(before.class) & is_postfix(next.class))
 }
 
 /// LB24: (PR | PO) × (AL | HL), (AL | HL) × (PR | PO)
@@ -240,17 +240,17 @@ fn lb25_by_expression(before: &Before, next: Unit, number_follows: bool) -> bool
 fn lb26(before: &Before, next: Unit) -> bool
     ensures { result ≡ lb26 before.now next }
 {
-    (matches!(before.class, LineBreak::Jl) & follows_leading(next.class))
+    (is_leading_jamo(before.class) & follows_leading(next.class))
         | (ends_in_vowel(before.class) & follows_vowel(next.class))
-        | (ends_in_trailing(before.class) & matches!(next.class, LineBreak::Jt))
+        | (ends_in_trailing(before.class) & is_trailing_jamo(next.class))
 }
 
 /// LB27: (JL | JV | JT | H2 | H3) × PO, PR × (JL | JV | JT | H2 | H3)
 fn lb27(before: &Before, next: Unit) -> bool
     ensures { result ≡ lb27 before.now next }
 {
-    (is_jamo(before.class) & matches!(next.class, LineBreak::PostfixNumeric))
-        | (matches!(before.class, LineBreak::PrefixNumeric) & is_jamo(next.class))
+    (is_jamo(before.class) & is_postfix(next.class))
+        | (is_prefix(before.class) & is_jamo(next.class))
 }
 
 /// LB28: (AL | HL) × (AL | HL)

@@ -1,5 +1,4 @@
-use Rattle.std.proofs.Common.{◌≡◌, drop}
-use Rattle.std.specs.Str.{all_ascii_digits}
+use Rattle.std.{proofs.Common.drop, proofs.Common.◌≡◌, specs.Str.all_ascii_digits}
 use Rattle.textwrap_program.proofs.arguments.is_all_digits.Given as goal
 
 -- the bytes to come decide

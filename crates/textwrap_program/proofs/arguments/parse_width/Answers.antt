@@ -1,5 +1,4 @@
-use Rattle.std.proofs.Common.{◌∙◌, sym, ap}
-use Rattle.std.specs.Str.{all_ascii_digits}
+use Rattle.std.{proofs.Common.ap, proofs.Common.sym, proofs.Common.◌∙◌, specs.Str.all_ascii_digits}
 use Rattle.textwrap_program.proofs.ArgumentLemmas.{width_of-parsed}
 use Rattle.textwrap_program.proofs.arguments.parse_width.Goals as goal
 

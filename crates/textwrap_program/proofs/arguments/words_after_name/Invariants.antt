@@ -1,6 +1,5 @@
+use Rattle.std.specs.{Iterator.IsFinite, Prelude.◌≡◌}
 use Rattle.textwrap_program.proofs.arguments.words_after_name.Given as goal
-use Rattle.std.specs.Prelude.{◌≡◌}
-use Rattle.std.specs.Iterator.{IsFinite}
 
 abbrev pub invariant-loop-word : goal.invariant-loop-word
 invariant-loop-word g l = g.I.Iterator.can_next l.word-iterator

@@ -7,10 +7,5 @@ use Rattle.textwrap_program.proofs.filling.fill_input.Goals as goal
 pub returns-in-Ok-fill-clause-filled : goal.returns-in-Ok-fill-clause-filled
 returns-in-Ok-fill-clause-filled g c =
     let filled = c.in-Ok-fill.ensures.built_in (settings_at c.args.width) AtHyphens
-    (algorithm_view c.args.algorithm) (record {
-      settings_are = search rules;
-      separator = search rules;
-      splitter_is = search rules;
-      algorithm_is = search rules;
-    }) in
+    (algorithm_view c.args.algorithm) (search rules) in
     search (rules, filled)

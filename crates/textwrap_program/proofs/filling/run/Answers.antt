@@ -1,6 +1,5 @@
 use Rattle.std.specs.Result.{result_err}
-use Rattle.textwrap_program.specs.Arguments.{algorithm_view}
-use Rattle.textwrap_program.proofs.FillingLemmas.{Runs-read}
+use Rattle.textwrap_program.{proofs.FillingLemmas.Runs-read, specs.Arguments.algorithm_view}
 use Rattle.textwrap_program.proofs.filling.run.Goals as goal
 
 pub returns : goal.returns

@@ -1,9 +1,7 @@
-use Rattle.std.proofs.Common.{[], ◌∷◌, subst}
-use Rattle.std.proofs.lemmas.Result.{on_err_weaker}
-use Rattle.std.specs.Io.KnownBytes.{Appends}
-use Rattle.textwrap_program.specs.Filling.{WritesPrefix}
-use Rattle.textwrap_program.specs.Program.{line_feed}
-use Rattle.textwrap_program.proofs.WriteLemmas.{OnErr-from, WritesPrefix-longer, WritesPrefix-after}
+use Rattle.std.{proofs.lemmas.Result.on_err_weaker, specs.Io.KnownBytes.Appends}
+use Rattle.std.proofs.Common.{[], subst, ◌∷◌}
+use Rattle.textwrap_program.proofs.WriteLemmas.{OnErr-from, WritesPrefix-after, WritesPrefix-longer}
+use Rattle.textwrap_program.specs.{Filling.WritesPrefix, Program.line_feed}
 use Rattle.textwrap_program.proofs.filling.write_line.Goals as goal
 
 pub returns-in_err-write_to_end-clause-prefix : goal.returns-in_err-write_to_end-clause-prefix

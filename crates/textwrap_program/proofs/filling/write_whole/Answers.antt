@@ -1,17 +1,13 @@
-use Rattle.std.proofs.Common.{◌≡◌, [], length, refl, arith}
-use Rattle.std.proofs.lemmas.Bool.Decides.{nat_tests}
-use Rattle.std.proofs.lemmas.List.{nil_from_length}
-use Rattle.std.proofs.KnownBytes.{Appends-nil, Appends-kept}
-use Rattle.textwrap_program.proofs.WriteLemmas.{WrittenSoFar-more, WritesPrefix-nothing_more}
-use Rattle.textwrap_program.proofs.WriteLemmas.{WritesPrefix-kept, Appends-whole}
+use Rattle.std.proofs.Common.{[], arith, length, refl, ◌≡◌}
+use Rattle.std.proofs.KnownBytes.{Appends-kept, Appends-nil}
+use Rattle.std.proofs.lemmas.{Bool.Decides.nat_tests, List.nil_from_length}
+use Rattle.textwrap_program.proofs.WriteLemmas.{WritesPrefix-kept, WritesPrefix-nothing_more}
+use Rattle.textwrap_program.proofs.WriteLemmas.{Appends-whole, WrittenSoFar-more}
 use Rattle.textwrap_program.proofs.filling.write_whole.Goals as goal
 
 pub loop-rest-init : goal.loop-rest-init
-loop-rest-init g c = record {
-  written = [];
-  whole = refl;
-  appends = Appends-nil (g.W.Write.contents c.args.writer.now);
-}
+loop-rest-init g c =
+    record { written = []; whole = refl; appends = Appends-nil (g.W.Write.contents c.args.writer.now) }
 
 pub loop-rest-preserved : goal.loop-rest-preserved
 loop-rest-preserved g c = rw c.split_at.ensures.back

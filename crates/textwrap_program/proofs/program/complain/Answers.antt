@@ -1,6 +1,5 @@
-use Rattle.std.proofs.Common.{[], ◌∷◌, ◌++◌}
-use Rattle.textwrap_program.specs.Program.{line_feed}
-use Rattle.textwrap_program.proofs.WriteLemmas.{WritesPrefix-result}
+use Rattle.std.proofs.Common.{[], ◌++◌, ◌∷◌}
+use Rattle.textwrap_program.{proofs.WriteLemmas.WritesPrefix-result, specs.Program.line_feed}
 use Rattle.textwrap_program.proofs.program.complain.Goals as goal
 
 pub returns-clause-line : goal.returns-clause-line

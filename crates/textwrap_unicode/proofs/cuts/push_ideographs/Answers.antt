@@ -19,6 +19,8 @@ loop-after-preserved c =
     let common = c.is_common_ideograph.ensures c.if-not-is_common_ideograph.false in
     let three = three-bytes ch common in
     let is : drop (3 * n) rest ≡ encode ch ++ left = h.left ∙ s.1 in
+    let size = length-encode ch in
+    let sum = length-append (encode ch) left in
     let next : 3 * (n + 1) ≡ 3 * n + 3 = omega arith in
     let past : drop (3 * n + 3) rest ≡ left =
     ap (λ k. drop (3 * n + k) rest) (sym three) ∙ drop_past_char rest left (3 * n) ch is in
@@ -29,17 +31,9 @@ loop-after-preserved c =
     } in
     let place : at + c.in-Some.after ≡ at + 3 * n = omega (arith, s.0, h.place) in
     record {
-      place = omega (arith, s.2, h.place, length-encode ch, three);
+      place = omega (arith, s.2, h.place, size);
       left = ap (λ k. drop k rest) next ∙ past;
-      within = omega (
-        arith,
-        h.within,
-        ap length is,
-        length-drop (3 * n) rest,
-        length-append (encode ch) left,
-        length-encode ch,
-        three,
-      );
+      within = omega (arith, h.within, ap length is, length-drop (3 * n) rest, size);
       ideographs = λ k below. elim (cases_lt k n) [
         | inl before ↦ h.ideographs k before
         | inr from ↦

@@ -2,12 +2,12 @@ use Rattle.textwrap_classes.proofs.Common.{if◌then◌else◌, append_assoc, sl
 use Rattle.textwrap_classes.proofs.Common.{cases_Bool, cases_lt, class_of, is_space, add-one, arith}
 use Rattle.textwrap_classes.proofs.Common.{false, subst, Bool, true, ◌++◌, ◌||◌, inl, inr, sym, ◌+◌}
 use Rattle.textwrap_classes.proofs.Common.{◌-◌, ◌<◌, ◌∙◌, ◌∷◌, ◌≡◌, ap, ℕ}
+use Rattle.std.proofs.Common.{refl}
 use Rattle.textwrap_unicode.specs.WordStarts.{is_behind_blank, is_behind_sign, IsPlainLetter}
 use Rattle.textwrap_unicode.specs.WordStarts.{word_starts, IsWordByte}
 use Rattle.textwrap_text.proofs.Common.{cases_eq}
 use Rattle.textwrap_classes.specs.ClassSets.{is_letter, is_infix}
 use Rattle.textwrap_unicode.proofs.WordVerdicts.{letters-same}
-use Rattle.textwrap_unicode.proofs.cuts.push_words.Goals.{then-is_start+in_ok-push, else-is_start}
 use Rattle.textwrap_unicode.proofs.cuts.push_words.Goals as goal
 
 pub loop-len-init : goal.loop-len-init
@@ -29,24 +29,14 @@ loop-len-preserved c =
     let old = c.args.cuts.now.items in
     let found = c.is_word_byte.ensures c.if-is_word_byte.true in
     let class = c.ascii_class-class.ensures in
-    let starts = word_starts at rest len in
     let blank : c.is_space-is_behind_blank.result ≡ is_behind_blank rest (len + 1) =
     rw (add-one len) (c.is_space-is_behind_blank.ensures ∙ ap is_space class) in
     let sign : c.is_sign_behind-is_behind_sign.result ≡ is_behind_sign rest (len + 1) =
-    rw (add-one len) (c.is_sign_behind-is_behind_sign.ensures
-    ∙ ap (λ v. if is_space v then c.loop-len.is_behind_sign else is_infix v) class
-    ∙ ap (λ b. if is_space (class_of (slice_index rest len)) then b
-    else is_infix (class_of (slice_index rest len))) h.sign) in
+    rw (add-one len, ← h.sign, ← class) c.is_sign_behind-is_behind_sign.ensures in
     let letter = c.is_letter.ensures ∙ ap is_letter class in
-    let cuts : c.if-is_start.cuts.items ≡ old ++ word_starts at rest (len + 1) =
-    rw (add-one len) (elim c.if-is_start.branch [
-      | then-is_start+in_ok-push w ↦ rw (← h.blank, ← letter, w.if-is_start.true)
-          (ap (λ v. v.items) w.cuts-is ∙ w.in_ok-push.ensures.items
-          ∙ ap (λ l. l ++ (at + len) ∷ []) h.cuts
-          ∙ append_assoc old starts ((at + len) ∷ []))
-      | else-is_start w ↦ rw (← h.blank, ← letter, w.if-is_start.false)
-          (ap (λ v. v.items) w.cuts-is ∙ h.cuts ∙ ap (λ l. old ++ l) (sym (append-nil starts)))
-    ]) in
+    let cuts : c.push_cut.new.cuts.items ≡ old ++ word_starts at rest (len + 1) =
+    rw (add-one len, ← h.blank, ← letter)
+    (c.in_ok-push_cut.ensures ∙ rw (h.cuts, append_assoc old (word_starts at rest len)) refl) in
     let more = c.letters_len-len.ensures in
     let k = c.letters_len-len.result in
     let same = letters-same at rest (len + 1) k

@@ -1,8 +1,7 @@
-use Rattle.textwrap_classes.proofs.Common.{arith, length, chars, is_mark, is_number, sym, ap, ◌∙◌}
-use Rattle.textwrap_unicode.proofs.Common.{number_first}
-use Rattle.textwrap_text.proofs.Common.{YieldsList-from_chars, YieldsList-turn, YieldsList-end}
+use Rattle.textwrap_classes.proofs.Common.{ap, arith, chars, is_mark, is_number, length, sym, ◌∙◌}
+use Rattle.textwrap_text.proofs.Common.{YieldsList-end, YieldsList-from_chars, YieldsList-turn}
 use Rattle.textwrap_text.proofs.Common.{at_drop_all, length_push}
-use Rattle.textwrap_unicode.proofs.CutLemmas.{number-step}
+use Rattle.textwrap_unicode.proofs.{Common.number_first, CutLemmas.number-step}
 use Rattle.textwrap_unicode.proofs.numbers.number_first.Goals as goal
 
 pub returns-then-not-is_mark : goal.returns-then-not-is_mark

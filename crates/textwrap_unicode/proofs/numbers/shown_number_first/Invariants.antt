@@ -1,8 +1,7 @@
-use Rattle.textwrap_classes.proofs.Common.{◌≡◌, chars, visible_in}
+use Rattle.textwrap_classes.proofs.Common.{chars, visible_in, ◌≡◌}
+use Rattle.textwrap_text.specs.{Characters.shown, CharactersLeft.characters_left}
 use Rattle.textwrap_unicode.proofs.Common.{number_first}
 use Rattle.textwrap_unicode.proofs.numbers.shown_number_first.Given as goal
-use Rattle.textwrap_text.specs.Characters.{shown}
-use Rattle.textwrap_text.specs.CharactersLeft.{characters_left}
 
 -- the visible characters to come give the answer
 abbrev pub invariant-loop-character : goal.invariant-loop-character

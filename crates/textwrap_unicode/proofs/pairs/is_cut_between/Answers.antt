@@ -4,23 +4,17 @@ use Rattle.textwrap_unicode.proofs.PrintableCuts.{cut-told}
 use Rattle.textwrap_unicode.proofs.pairs.is_cut_between.Goals as goal
 
 pub returns-then-after-eq32 : goal.returns-then-after-eq32
-returns-then-after-eq32 c = sym (rw (ap is_blank c.if-after-eq32.true) at (cut-told c.args.text.now
-    c.requires.printable c.args.place c.requires.after_start c.requires.inside))
+returns-then-after-eq32 c = sym (rw (ap is_blank c.if-after-eq32.true)
+    at (cut-told _ c.requires.printable _ c.requires.after_start c.requires.inside))
 
 pub returns-then-before-ne32 : goal.returns-then-before-ne32
 returns-then-before-ne32 c = c.is_unusual.ensures
-    ∙ sym (rw (ne_eqb _ 32 c.if-after-eq32.false, ne_eqb _ 32 c.if-before-ne32.true) at (cut-told
-    c.args.text.now c.requires.printable c.args.place c.requires.after_start c.requires.inside))
+    ∙ sym (rw (ne_eqb _ 32 c.if-after-eq32.false, ne_eqb _ 32 c.if-before-ne32.true)
+    at (cut-told _ c.requires.printable _ c.requires.after_start c.requires.inside))
 
 pub returns : goal.returns
 returns c =
-    grind (
-      arith,
-      c.if-before-ne32.false,
-      c.may_follow_blanks.ensures,
-      c.class_past_blanks.ensures,
-      ascii_unit,
-      ne_eqb _ 32 c.if-after-eq32.false,
-      cut-told c.args.text.now c.requires.printable c.args.place c.requires.after_start
-          c.requires.inside,
-    )
+    let told = cut-told _ c.requires.printable _ c.requires.after_start c.requires.inside in
+    let blank = ne_eqb _ 32 c.if-after-eq32.false in
+    let past = c.class_past_blanks.ensures in
+    grind (arith, told, past, ascii_unit, c.if-before-ne32.false, c.may_follow_blanks.ensures, blank)

@@ -1,10 +1,7 @@
 use Rattle.textwrap_classes.proofs.Common.{arith, sym, ◌∙◌, ne_eqb}
 use Rattle.std.specs.Cmp.{booleans_Decides}
-use Rattle.textwrap_unicode.proofs.PrintableCuts.{unusual-blank, usual-cut, usual-pair}
+use Rattle.textwrap_unicode.proofs.PrintableCuts.{usual-cut}
 use Rattle.textwrap_unicode.proofs.pairs.is_usual.Goals as goal
-
-pub returns-then-not-is_unusual : goal.returns-then-not-is_unusual
-returns-then-not-is_unusual c = grind (arith, usual-pair)
 
 pub returns-then-after-ne32 : goal.returns-then-after-ne32
 returns-then-after-ne32 c =
@@ -13,6 +10,3 @@ returns-then-after-ne32 c =
       λ same. both.0 (sym c.is_cut_between.ensures ∙ (booleans_Decides _ _).0 same),
       λ usual. (booleans_Decides _ _).1 (c.is_cut_between.ensures ∙ both.1 usual),
     )
-
-pub returns-else-after-ne32 : goal.returns-else-after-ne32
-returns-else-after-ne32 c = grind (arith, unusual-blank)

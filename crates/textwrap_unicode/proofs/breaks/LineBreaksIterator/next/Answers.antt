@@ -1,14 +1,11 @@
-use Rattle.textwrap_classes.proofs.Common.{true, length, char_indices_rest, read-next, ◌+◌, ◌∷◌}
-use Rattle.textwrap_classes.proofs.Common.{refl, sym, ap, ◌∙◌, arith, chars}
-use Rattle.textwrap_unicode.proofs.Common.{breaks_after, and}
-use Rattle.textwrap_text.proofs.Common.{rules}
 use Rattle.std.specs.Str.Iter.{char_indices_offset}
+use Rattle.textwrap_classes.proofs.Common.{arith, char_indices_rest, chars, length, read-next, refl}
+use Rattle.textwrap_classes.proofs.Common.{ap, sym, true, ◌+◌, ◌∙◌, ◌∷◌}
+use Rattle.textwrap_text.proofs.Common.{rules}
+use Rattle.textwrap_unicode.{proofs.Common.breaks_after, specs.declared.breaks.LineBreak.LineBreak}
+use Rattle.textwrap_unicode.proofs.{Common.and, CutLemmas.reading-end, WordVerdicts.letter-step}
+use Rattle.textwrap_unicode.proofs.CutLemmas.{none-left, reading-break, reading-start, reading-step}
 use Rattle.textwrap_unicode.proofs.breaks.LineBreaksIterator.next.Goals as goal
-use Rattle.textwrap_unicode.proofs.CutLemmas.{reading-start, reading-step, reading-break}
-use Rattle.textwrap_unicode.proofs.CutLemmas.{reading-end, none-left}
-use Rattle.textwrap_unicode.proofs.WordVerdicts.{letter-step}
-use Rattle.textwrap_unicode.specs.declared.breaks.LineBreak.{LineBreak}
-use Rattle.textwrap_unicode.proofs.breaks.LineBreaksIterator.next.Goals.{in-Allowed, in-Mandatory}
 
 pub loop-offset-init : goal.loop-offset-init
 loop-offset-init c = (
@@ -63,12 +60,11 @@ returns-in-loop-offset-clause-steps c =
     let said = rw (s.0, c.len_utf8.ensures.len, c.of-unit.ensures)
     at (sym c.decide_in-verdict.ensures) in
     let stands = c.and-before.ensures ∙ ap (and c.loop-offset.before) c.of-unit.ensures in
+    let ends = reading-break _ _ _ _ _ _ _ c.loop-offset.invariant.0 c.in-Some.c _ s.1 in
     sym c.self.view_is
     ∙ rw (c.range_from.ensures.value, s.0, c.len_utf8.ensures.len) (elim c.match-verdict.branch [
-      | in-Allowed w ↦ reading-break _ _ _ _ _ _ _ c.loop-offset.invariant.0 c.in-Some.c _ s.1 _ _ _
-          (said ∙ w.in-Allowed.is) (rw w.is_mandatory-is refl) stands
-      | in-Mandatory w ↦ reading-break _ _ _ _ _ _ _ c.loop-offset.invariant.0 c.in-Some.c _ s.1 _ _ _
-          (said ∙ w.in-Mandatory.is) (rw w.is_mandatory-is refl) stands
+      | goal.in-Allowed w ↦ ends _ _ _ (said ∙ w.in-Allowed.is) (rw w.is_mandatory-is refl) stands
+      | goal.in-Mandatory w ↦ ends _ _ _ (said ∙ w.in-Mandatory.is) (rw w.is_mandatory-is refl) stands
     ])
 
 pub returns-in-loop-offset-clause-goes : goal.returns-in-loop-offset-clause-goes

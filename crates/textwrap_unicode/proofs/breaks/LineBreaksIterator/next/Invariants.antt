@@ -1,8 +1,7 @@
-use Rattle.textwrap_classes.proofs.Common.{◌≡◌, true, char_indices_rest}
 use Rattle.std.specs.Str.Iter.{char_indices_offset}
+use Rattle.textwrap_classes.proofs.Common.{char_indices_rest, true, ◌≡◌}
+use Rattle.textwrap_unicode.proofs.{CutLemmas.IsReading, WordVerdicts.in_word}
 use Rattle.textwrap_unicode.proofs.breaks.LineBreaksIterator.next.Given as goal
-use Rattle.textwrap_unicode.proofs.CutLemmas.{IsReading}
-use Rattle.textwrap_unicode.proofs.WordVerdicts.{in_word}
 
 abbrev pub invariant-loop-offset : goal.invariant-loop-offset
 invariant-loop-offset l =

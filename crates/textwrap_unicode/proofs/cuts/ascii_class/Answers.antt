@@ -1,5 +1,0 @@
-use Rattle.textwrap_classes.proofs.ClassLemmas.{ascii-class}
-use Rattle.textwrap_unicode.proofs.cuts.ascii_class.Goals as goal
-
-pub returns : goal.returns
-returns c = ascii-class c.args.byte c.requires

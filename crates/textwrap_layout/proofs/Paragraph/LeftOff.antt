@@ -2,21 +2,21 @@
 use Rattle.textwrap_text.proofs.Common.{without_final_blanks, false_from_ne_true, IsUtf8-from_ascii}
 use Rattle.textwrap_text.proofs.Common.{take-append-drop, nil_from_length, length-append, MatchBool}
 use Rattle.textwrap_text.proofs.Common.{append_assoc, final_blanks, get_or-drop, length-drop, arith}
-use Rattle.textwrap_text.proofs.Common.{slice_range, trimmed_len, append-nil, false≢true, and_parts}
-use Rattle.textwrap_text.proofs.Common.{length-map, map-append, true≢false, drop_more, All-cons, []}
-use Rattle.textwrap_text.proofs.Common.{All-head, All-tail, add-zero, cases_lt, drop_all, eqb-true}
-use Rattle.textwrap_text.proofs.Common.{flat_map, is_blank, not-true, All-nil, take_at, IsUtf8, All}
-use Rattle.textwrap_text.proofs.Common.{get_or, is_cut, length, false, rules, subst, Bool, List, ap}
-use Rattle.textwrap_text.proofs.Common.{cond, drop, refl, true, zero, ◌++◌, ◌||◌, inl, inr, map, ℕ}
-use Rattle.textwrap_text.proofs.Common.{suc, sym, ◌+◌, ◌-◌, ◌<◌, ◌∙◌, ◌∷◌, ◌≡◌, ◌≤◌}
+use Rattle.textwrap_text.proofs.Common.{slice_range, trimmed_len, append-nil, length-map, and_parts}
+use Rattle.textwrap_text.proofs.Common.{map-append, true≢false, drop_more, All-cons, All-head, Bool}
+use Rattle.textwrap_text.proofs.Common.{All-tail, add-zero, cases_lt, drop_all, eqb-true, flat_map}
+use Rattle.textwrap_text.proofs.Common.{is_blank, not-true, All-nil, take_at, IsUtf8, get_or, false}
+use Rattle.textwrap_text.proofs.Common.{is_cut, length, rules, subst, List, cond, drop, refl, true}
+use Rattle.textwrap_text.proofs.Common.{zero, ◌++◌, All, inl, inr, map, suc, sym, ◌+◌, ◌-◌, ◌<◌, []}
+use Rattle.textwrap_text.proofs.Common.{◌∙◌, ◌∷◌, ◌≡◌, ◌≤◌, ap, ℕ}
 use Rattle.textwrap_layout.proofs.Common.{IsNarrowWord-measured, AreParagraphParts, AreDividedParts}
 use Rattle.textwrap_layout.proofs.Common.{keeps_whitespace, assembled_line, BeforeOthers, LineParts}
 use Rattle.textwrap_layout.proofs.Common.{HasNoPenalty, IsNarrowWord, closed_width, tiled-append}
 use Rattle.textwrap_layout.proofs.Common.{broken_word, later_width, IsMeasured, covered_by, covered}
 use Rattle.textwrap_layout.proofs.Common.{last_piece, last_space, line_bytes, parts_from, indent_of}
 use Rattle.textwrap_layout.proofs.Common.{is_cut_by, line_from, pieces_of, word_view, Settings}
-use Rattle.textwrap_layout.proofs.Common.{Splitter, WordText, is_point, is_whole, parts_by, tile_of}
-use Rattle.textwrap_layout.proofs.Common.{parts_of, sizes_of, words_of, word_of, Slice, tiled, Word}
+use Rattle.textwrap_layout.proofs.Common.{Splitter, WordText, is_whole, parts_by, parts_of, tile_of}
+use Rattle.textwrap_layout.proofs.Common.{sizes_of, words_of, word_of, Slice, tiled, Word}
 use Rattle.textwrap_words.proofs.Word.Texts.{final_blanks-blank, trimmed-front, trimmed-past}
 use Rattle.textwrap_words.proofs.Word.Texts.{AreBlanks}
 use Rattle.textwrap_words.proofs.Word.Words.{closed_width-narrow, tiled-words_of, EndsInBlanks}
@@ -202,8 +202,7 @@ module _ (test : ℕ → Bool) (text : List ℕ) (before : BeforeOthers test tex
   HasSpace at = last_space (map word_of (parts_at at)) ≡ final_blanks (drop at text)
 
   space-end : (at : ℕ) → length text ≤ at → HasSpace at
-  space-end at past = subst (λ l. last_space (map word_of (parts_by test at l)) ≡ final_blanks l)
-      (sym (drop_all at text past)) refl
+  space-end at past = search (rules, arith, drop_all)
 
   parts-some : (at : ℕ) → at < length text → 0 < length (map word_of (parts_at at))
   parts-some at inside =
@@ -254,12 +253,7 @@ module _ (test : ℕ → Bool) (text : List ℕ) (before : BeforeOthers test tex
 pub cut_by-others : (cuts : ℕ → Bool) (splitter : Splitter) (text : List ℕ)
     → BeforeOthers cuts text → BeforeOthers (is_cut_by cuts splitter text) text
 cut_by-others cuts splitter text before k some inside is =
-    false_from_ne_true (is_blank (get_or text k 0)) (λ blank.
-    let seam : cuts k ≡ false =
-    false_from_ne_true (cuts k) (λ cut. false≢true (sym (before k some inside cut) ∙ blank)) in
-    let none : is_cut_by cuts splitter text k ≡ false =
-    ap (λ t. t || is_point splitter text k) seam ∙ point-none splitter text k inside blank in
-    false≢true (sym none ∙ is))
+    search (rules, arith, false_from_ne_true, point-none)
 
 -- ---- the words of a line
 
@@ -296,9 +290,7 @@ covered-space (w ∷ ws) = covered-last w ws
 pub covered-tiled : (ws : List WordText) (text : List ℕ) → last_space ws ≡ final_blanks text
     → tiled ws ≡ text → covered ws ≡ without_final_blanks text
 covered-tiled ws text space tile =
-    let whole : covered ws ++ final_blanks text ≡ text =
-    ap (λ l. covered ws ++ l) (sym space) ∙ covered-space ws ∙ tile in
-    search (rules, length-append, length-drop, take_at)
+    search (rules, arith, covered-space ws, length-append, length-drop, take_at)
 
 pub covered-words_of : (line : List ℕ) → covered (words_of line) ≡ without_final_blanks line
 covered-words_of line = search (rules, covered-tiled, words_of-space, tiled-words_of)
@@ -310,8 +302,7 @@ blanks-utf8 bytes blanks = search (rules, IsUtf8-from_ascii, IsAscii-from_all, e
 
 pub narrow_words : (ws : List WordText) → All IsMeasured ws → All HasNoPenalty ws
     → All IsNarrowWord ws
-narrow_words ws measured none = λ k d within.
-    IsNarrowWord-measured (get_or ws k d) (measured k d within) (none k d within)
+narrow_words ws measured none = search (rules, arith, IsNarrowWord-measured)
 
 pub closed-pieces_of : (settings : Settings) (splitter : Splitter)
     (paragraph : List ℕ) → IsUtf8 paragraph

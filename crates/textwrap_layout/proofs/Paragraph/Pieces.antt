@@ -6,18 +6,18 @@ use Rattle.textwrap_text.proofs.Common.{flat_map, ltb-true, IsUtf8, Option, leng
 use Rattle.textwrap_text.proofs.Common.{subst, Bool, List, None, Some, cond, refl, take, true, ◌++◌}
 use Rattle.textwrap_text.proofs.Common.{All, sym, ◌<◌, ◌↔◌, ◌∙◌, ◌∷◌, ◌≡◌, ◌≢◌, ◌≤◌, [], ap}
 use Rattle.textwrap_layout.proofs.Common.{IsNarrowWord-measured, AreSplit-computed, pieces_of_words}
-use Rattle.textwrap_layout.proofs.Common.{broken_pieces_of, ArePlacedLines, algorithm_view, AreCuts}
-use Rattle.textwrap_layout.proofs.Common.{ends_in_hyphen, IsDividedInto, settings_view, IsDividedBy}
-use Rattle.textwrap_layout.proofs.Common.{splitter_view, AreTextLines, HasNoPenalty, IsNarrowWord}
-use Rattle.textwrap_layout.proofs.Common.{broken_words, front_pieces, tiled-append, words_unique}
-use Rattle.textwrap_layout.proofs.Common.{MaySeparate, broken_word, later_width, pieces_with, Whole}
-use Rattle.textwrap_layout.proofs.Common.{split_words, total_width, AreWordsOf, HasMethods, Options}
-use Rattle.textwrap_layout.proofs.Common.{IsMeasured, empty_word, last_piece, last_space, Algorithm}
-use Rattle.textwrap_layout.proofs.Common.{split_from, split_word, ArePieces, ArePoints, AtHyphens}
-use Rattle.textwrap_layout.proofs.Common.{DividesAs, DividesBy, LeastCost, MayDivide, pieces_by}
-use Rattle.textwrap_layout.proofs.Common.{pieces_of, widths_of, words_cut, AreTexts, CanBeCut, Line}
-use Rattle.textwrap_layout.proofs.Common.{HasParts, IsFilled, MaySplit, Settings, Splitter, word_of}
-use Rattle.textwrap_layout.proofs.Common.{WordText, sizes_of, words_of, Greedy, piece, tiled}
+use Rattle.textwrap_layout.proofs.Common.{ArePlacedLines, algorithm_view, ends_in_hyphen, Algorithm}
+use Rattle.textwrap_layout.proofs.Common.{IsDividedInto, settings_view, splitter_view, AreTextLines}
+use Rattle.textwrap_layout.proofs.Common.{HasNoPenalty, IsNarrowWord, broken_words, front_pieces}
+use Rattle.textwrap_layout.proofs.Common.{tiled-append, words_unique, IsDividedBy, MaySeparate}
+use Rattle.textwrap_layout.proofs.Common.{broken_word, later_width, pieces_with, split_words, Whole}
+use Rattle.textwrap_layout.proofs.Common.{total_width, AreWordsOf, HasMethods, IsMeasured, AreTexts}
+use Rattle.textwrap_layout.proofs.Common.{empty_word, last_piece, last_space, split_from, ArePieces}
+use Rattle.textwrap_layout.proofs.Common.{split_word, ArePoints, DividesAs, DividesBy, MayDivide}
+use Rattle.textwrap_layout.proofs.Common.{pieces_by, pieces_of, widths_of, words_cut, CanBeCut}
+use Rattle.textwrap_layout.proofs.Common.{HasParts, IsFilled, MaySplit, Settings, Splitter, AreCuts}
+use Rattle.textwrap_layout.proofs.Common.{WordText, sizes_of, words_of, Options, word_of, piece}
+use Rattle.textwrap_layout.proofs.Common.{tiled, Line}
 use Rattle.textwrap_text.proofs.Lists.Parts.{all-left, Begins, flat}
 use Rattle.textwrap_words.proofs.Word.BrokenPieces.{broken_words-no_penalty, broken_words-measured}
 use Rattle.textwrap_words.proofs.Word.BrokenPieces.{tiled-broken_words, broken_texts-some}
@@ -133,9 +133,7 @@ pub ArePieces-by : (Words : List ℕ → List WordText → Type 0) (words : List
     → ArePieces settings Words (ArePoints splitter) paragraph pieces
     → pieces ≡ pieces_by settings words splitter paragraph
 ArePieces-by Words words named settings splitter paragraph pieces
-    (ws, split, ws_are, split_are, is) =
-    is ∙ ap (broken_pieces_of settings) (AreSplit-is splitter ws split split_are
-    ∙ ap (split_words splitter) (named paragraph ws ws_are))
+    (ws, split, ws_are, split_are, is) = search (rules, arith, AreSplit-is)
 
 pub ArePieces-is : (settings : Settings) (splitter : Splitter) (paragraph : List ℕ)
     (pieces : List WordText) → ArePieces settings AreWordsOf (ArePoints splitter) paragraph pieces
@@ -184,12 +182,10 @@ module _ (settings : Settings) (splitter : Splitter) (paragraph : List ℕ) (wor
       (ArePoints-cuts splitter) paragraph _ utf8 (words, texts, AreSplit-computed splitter words)
 
   pub pieces_of_words-tile : tiled (pieces_of_words settings splitter words) ≡ paragraph
-  pieces_of_words-tile = pieces-tile settings AreTexts (ArePoints splitter) (λ _ _ _ given. given)
-      (ArePoints-cuts splitter) paragraph _ utf8 are
+  pieces_of_words-tile = search (rules, arith, pieces-tile, ArePoints-cuts, are)
 
   pub pieces_of_words-measured : All IsMeasured (pieces_of_words settings splitter words)
-  pieces_of_words-measured = pieces-measured settings AreTexts (ArePoints splitter)
-      (λ _ _ _ given. given) (ArePoints-cuts splitter) paragraph _ utf8 are
+  pieces_of_words-measured = search (rules, arith, pieces-measured, ArePoints-cuts, are)
 
   pub pieces_of_words-no_penalty : All HasNoPenalty (pieces_of_words settings splitter words)
   pieces_of_words-no_penalty = pieces-no_penalty settings AreTexts (ArePoints splitter)
@@ -227,8 +223,7 @@ module _ (settings : Settings) (splitter : Splitter) (paragraph : List ℕ)
 pub words_cut-texts : (cuts : Option (List ℕ)) (paragraph : List ℕ) → IsUtf8 paragraph
     → CanBeCut cuts paragraph → AreTexts paragraph (words_cut cuts paragraph)
 words_cut-texts None paragraph utf8 can = words_of-texts paragraph utf8
-words_cut-texts (Some cuts) paragraph utf8 can =
-    parts-texts paragraph cuts utf8 (inner-cuts paragraph cuts can)
+words_cut-texts (Some cuts) paragraph utf8 can = search (rules, arith, parts-texts, inner-cuts)
 
 -- ---- words that are replaced by pieces of them end as they did
 
@@ -258,8 +253,7 @@ flat_map-space f [] all = refl
 flat_map-space f (w ∷ []) all = search (rules, append-nil, All-head)
 flat_map-space f (w ∷ v ∷ ws) all =
     let rest = All-tail (EndsAs f) w (v ∷ ws) all in
-    last_space-append (f w) (flat_map f (v ∷ ws))
-    (flat_map-some f v ws (All-head (EndsAs f) v ws rest)) ∙ flat_map-space f (v ∷ ws) rest
+    search (rules, arith, last_space-append, All-head, flat_map-space f (v ∷ ws) rest)
 
 split_from-some : (w : WordText) (start : ℕ) (points : List ℕ)
     → 0 < length (split_from w start points)
@@ -308,16 +302,13 @@ broken_words-ends limit words measured = All-weaker IsMeasured (EndsAs (broken_w
 pub points-as : {C : Type 0} {c : _} (splitter : splitters.WordSplitter C c) (s : Splitter)
     → splitter_view splitter ≡ Some s → MaySplit splitter ≡ ArePoints s
 points-as splitters.TheVariants.NoHyphenation s is = let same : Whole ≡ s = cc in ap ArePoints same
-points-as splitters.TheVariants.HyphenSplitter s is =
-    let same : AtHyphens ≡ s = cc in ap ArePoints same
+points-as splitters.TheVariants.HyphenSplitter s is = search (rules, arith)
 points-as (splitters.TheVariants.Custom given) s is = cc
 
 pub division-as : {E : Type 0} {e : _} (algorithm : algorithms.WrapAlgorithm E e) (a : Algorithm)
     → algorithm_view algorithm ≡ Some a → MayDivide algorithm (λ w. w) ≡ IsDividedBy a sizes_of
-division-as algorithms.TheVariants.FirstFit a is =
-    let same : Greedy ≡ a = cc in ap (λ b. IsDividedBy b sizes_of) same
-division-as (algorithms.TheVariants.OptimalFit penalties) a is =
-    let same : LeastCost penalties ≡ a = cc in ap (λ b. IsDividedBy b sizes_of) same
+division-as algorithms.TheVariants.FirstFit a is = search (rules, arith)
+division-as (algorithms.TheVariants.OptimalFit penalties) a is = search (rules, arith)
 division-as (algorithms.TheVariants.Custom given) a is = cc
 
 module _ {E C : Type 0} {e : _} {c : _} (settings : Settings) where

@@ -1,14 +1,13 @@
 -- Where the pieces of a paragraph stand in it, and words that stay whole under a limit.
 use Rattle.textwrap_text.proofs.Common.{IsCharBoundary, length-append, append_assoc, IsUtf8-drop, ℕ}
 use Rattle.textwrap_text.proofs.Common.{slice_range, drop-drop, All-head, All-tail, drop_at, IsUtf8}
-use Rattle.textwrap_text.proofs.Common.{take_at, le-ltb, length, arith, false, subst, List, cond}
-use Rattle.textwrap_text.proofs.Common.{drop, refl, take, true, ◌++◌, All, sym, ◌+◌, ◌-◌, ◌<◌, ◌^◌}
-use Rattle.textwrap_text.proofs.Common.{◌∙◌, ◌∷◌, ◌≡◌, ◌≤◌, [], ap}
+use Rattle.textwrap_text.proofs.Common.{take_at, le-ltb, length, rules, arith, subst, List, drop}
+use Rattle.textwrap_text.proofs.Common.{refl, take, ◌++◌, All, sym, ◌+◌, ◌-◌, ◌<◌, ◌∙◌, ◌∷◌, ◌≡◌}
+use Rattle.textwrap_text.proofs.Common.{◌≤◌, [], ap}
 use Rattle.textwrap_layout.proofs.Common.{IsCharBoundary-from_rest, IsNarrowWord-measured, AreTexts}
-use Rattle.textwrap_layout.proofs.Common.{broken_pieces_of, pieces_of_words, tile_of}
-use Rattle.textwrap_layout.proofs.Common.{IsNarrowWord, broken_words, front_pieces, break_limit}
-use Rattle.textwrap_layout.proofs.Common.{later_width, split_words, IsMeasured, text_limit, tiled}
-use Rattle.textwrap_layout.proofs.Common.{Settings, Splitter, WordText, front_of, limit_at}
+use Rattle.textwrap_layout.proofs.Common.{broken_pieces_of, pieces_of_words, IsNarrowWord, Settings}
+use Rattle.textwrap_layout.proofs.Common.{broken_words, break_limit, split_words, IsMeasured, tiled}
+use Rattle.textwrap_layout.proofs.Common.{text_limit, Splitter, WordText, front_of, tile_of}
 use Rattle.textwrap_text.proofs.Texts.{StartsWith-boundary}
 use Rattle.textwrap_layout.proofs.Paragraph.LeftOff.{blanks-utf8}
 use Rattle.textwrap_layout.proofs.Paragraph.Pieces.{split_words-no_penalty, split_words-measured}
@@ -71,12 +70,7 @@ pub limited-words : (settings : Settings) (split : List WordText) → All IsNarr
     → length (tiled split) < text_limit
     → front_of settings ++ broken_words (break_limit settings) split
     ≡ broken_pieces_of settings split
-limited-words settings split bounded short = elim settings.break_words as (λ b.
-    cond b (front_pieces settings) [] ++ broken_words (limit_at b (later_width settings)) split
-    ≡ cond b (front_pieces settings ++ broken_words (later_width settings) split) split) [
-      | true ↦ refl
-      | false ↦ unbroken (2 ^ 64 - 1) split bounded (omega (arith, short))
-    ]
+limited-words settings split bounded short = search (rules, arith, unbroken)
 
 pub limited-pieces : (settings : Settings) (splitter : Splitter) (paragraph : List ℕ)
     (words : List WordText) → IsUtf8 paragraph → AreTexts paragraph words
@@ -87,5 +81,4 @@ limited-pieces settings splitter paragraph words utf8 texts short =
     let measured = split_words-measured settings splitter paragraph words utf8 texts in
     let plain = split_words-no_penalty settings splitter paragraph words utf8 texts in
     let tile = ap length (split_words-tile settings splitter paragraph words utf8 texts) in
-    limited-words settings (split_words splitter words)
-    (λ k d lt. IsNarrowWord-measured _ (measured k d lt) (plain k d lt)) (omega (arith, tile, short))
+    search (rules, arith, limited-words, IsNarrowWord-measured)

@@ -10,11 +10,11 @@ use Rattle.textwrap_layout.proofs.Common.{OnlyCharactersPass, IsOneCharacter, al
 use Rattle.textwrap_layout.proofs.Common.{ends_in_hyphen, IsDividedInto, settings_view, IsDividedBy}
 use Rattle.textwrap_layout.proofs.Common.{splitter_view, HasNoPenalty, IsNarrowWord, broken_words}
 use Rattle.textwrap_layout.proofs.Common.{closed_width, front_pieces, tiled-append, MayOverflow}
-use Rattle.textwrap_layout.proofs.Common.{MaySeparate, first_width, later_width, total_width, Tiles}
-use Rattle.textwrap_layout.proofs.Common.{Overflowed, empty_word, line_width, ArePieces, LeastCost}
-use Rattle.textwrap_layout.proofs.Common.{LineParts, MayDivide, line_from, line_view, widths_of}
-use Rattle.textwrap_layout.proofs.Common.{word_view, AreTexts, MaySplit, Settings, WordText, AllFit}
-use Rattle.textwrap_layout.proofs.Common.{sizes_of, AreCuts, Options, Greedy, tiled, Fits, Word}
+use Rattle.textwrap_layout.proofs.Common.{MaySeparate, later_width, total_width, Overflowed, AllFit}
+use Rattle.textwrap_layout.proofs.Common.{empty_word, line_width, ArePieces, LeastCost, LineParts}
+use Rattle.textwrap_layout.proofs.Common.{MayDivide, line_from, line_view, widths_of, word_view}
+use Rattle.textwrap_layout.proofs.Common.{AreTexts, MaySplit, Settings, WordText, sizes_of, AreCuts}
+use Rattle.textwrap_layout.proofs.Common.{Options, Greedy, Tiles, tiled, Fits, Word}
 use Rattle.std.specs.declared.borrow.CowStr.{CowStr}
 use Rattle.textwrap_text.proofs.Lists.Parts.{all-right, all-left, flat}
 use Rattle.textwrap_base.specs.declared.penalties.Penalties.{Penalties}
@@ -80,8 +80,7 @@ pub division-begins : {D F : Type 0} {f : _} (v : D → List Word) (algorithm : 
     → StartsWith (tiled (map word_view pieces))
     (flat_map (λ line. tiled (map word_view (v line))) division)
 division-begins v algorithm widths pieces division divided =
-    let (rest, is) = MayDivide-begins algorithm word_view widths pieces (map v division) divided in
-    lines-begin v pieces rest division is
+    search (rules, arith, MayDivide-begins, lines-begin)
 
 -- ---- the widths of the pieces
 
@@ -166,20 +165,15 @@ pub appends-none : {Z A : Type 0} (Refuses : Type 0) (Are : List LineParts → T
     → IsErrAnd result (λ e. e ≡ error) → (¬ Refuses → error ≡ Memory alloc_error)
     → AppendsLines Refuses Are lines lines result
 appends-none Refuses Are lines (Ok value) error is only = absurd is
-appends-none Refuses Are lines (Err e) error is only =
-    record { lines = tt; kept = tt; unchanged = refl; only_memory = λ never. is ∙ only never }
+appends-none Refuses Are lines (Err e) error is only = search (rules, arith)
 
 -- a call that succeeds appends lines of its own
 pub appends-own : {Z A : Type 0} (Refuses : Type 0) (Are : List LineParts → Type 0)
     (old own new : List (CowStr Z)) (parts : List LineParts) (value : A) → Are parts
     → map line_view own ≡ map line_from parts → new ≡ old ++ own
     → AppendsLines Refuses Are old new (Ok value)
-appends-own Refuses Are old own new parts value are own_are is = record {
-  lines = search (rules, arith, map-append);
-  kept = ap (take (length old)) is ∙ take_at old own (length old) refl;
-  unchanged = tt;
-  only_memory = λ never. tt;
-}
+appends-own Refuses Are old own new parts value are own_are is =
+    search (rules, arith, map-append, take_at)
 
 -- ---- a line that passes its width, and the lines of a division that do
 
@@ -260,8 +254,7 @@ module _ (settings : Settings) (Words : List ℕ → List WordText → Type 0)
       broken = broken_words (later_width settings) split
 
       pieces_are : pieces ≡ front_pieces settings ++ broken_words (later_width settings) split
-      pieces_are = are.4 ∙ ap (λ b. cond b
-          (front_pieces settings ++ broken_words (later_width settings) split) split) breaks
+      pieces_are = search (rules, arith)
 
       whole : flat division ≡ pieces
       whole = IsDivision-whole pieces division greedy.admissible.division
@@ -276,14 +269,12 @@ module _ (settings : Settings) (Words : List ℕ → List WordText → Type 0)
           (are.0, are.2, are.3))))
 
       none : All HasNoPenalty (flat division)
-      none = subst (All HasNoPenalty) (sym whole)
-          (pieces-no_penalty settings Words Points texts cuts hyphens paragraph pieces utf8 are)
+      none = search (rules, arith, whole, pieces-no_penalty)
 
       room : text_width settings.initial_indent ≡ 0 → (k : ℕ) → 0 ≤ k
           → later_width settings ≤ line_width (widths_of settings is_later) k
       room narrow zero from = search (rules, cond_both)
-      room narrow (suc k) from = let same = later_is (first_width settings is_later)
-          (later_width settings) (suc k) (omega arith) in omega (arith, same)
+      room narrow (suc k) from = search (rules, arith, later_is)
 
       by_front : (b : Bool) → (length settings.initial_indent == 0) ≡ b
           → OnlyCharactersPass (widths_of settings is_later) 0 division
@@ -291,10 +282,5 @@ module _ (settings : Settings) (Words : List ℕ → List WordText → Type 0)
           let empty = nil_from_length settings.initial_indent
           (eqb-true (length settings.initial_indent) 0 unindented) in
           let narrow : text_width settings.initial_indent ≡ 0 = ap text_width empty
-          ∙ text_width-nil in
-          lines_pass (later_width settings) (widths_of settings is_later) 0 division
-          greedy.admissible.fit (room narrow) tight none
-      by_front false indented =
-          front_passes (first_width settings is_later)
-          (later_width settings) division broken
-          (search (rules, arith)) greedy.admissible.fit tight none
+          ∙ text_width-nil in search (rules, arith, lines_pass, room, tight, none)
+      by_front false indented = search (rules, arith, front_passes, tight, none)

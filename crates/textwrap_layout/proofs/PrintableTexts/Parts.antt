@@ -1,9 +1,8 @@
 -- The parts that a text is cut into wherever a test of its places says so.
 use Rattle.textwrap_text.proofs.Common.{take-append-drop, length-drop, slice_range, append-nil, inl}
-use Rattle.textwrap_text.proofs.Common.{onto_first, drop-drop, cases_lt, drop_all, take_all, length}
-use Rattle.textwrap_text.proofs.Common.{arith, false, Bool, List, drop, refl, take, true, zero, inr}
-use Rattle.textwrap_text.proofs.Common.{◌++◌, suc, sym, ◌+◌, ◌-◌, ◌<◌, ◌∙◌, ◌∷◌, ◌≡◌, ◌≤◌, [], ap}
-use Rattle.textwrap_text.proofs.Common.{ℕ}
+use Rattle.textwrap_text.proofs.Common.{drop-drop, cases_lt, drop_all, take_all, length, rules, inr}
+use Rattle.textwrap_text.proofs.Common.{arith, false, Bool, List, drop, refl, take, true, zero, suc}
+use Rattle.textwrap_text.proofs.Common.{◌++◌, sym, ◌+◌, ◌-◌, ◌<◌, ◌∙◌, ◌∷◌, ◌≡◌, ◌≤◌, [], ap, ℕ}
 use Rattle.textwrap_layout.proofs.Common.{drop-take, parts_by, IsPart}
 use Rattle.textwrap_text.proofs.Lists.Parts.{onto_first-append, flat-onto_first, flat}
 use Rattle.textwrap_words.proofs.Word.Parts.{parts_by-some, end-from, next_by, HasEnd}
@@ -14,16 +13,13 @@ use Rattle.textwrap_layout.specs.Printable.{NoCutBetween}
 pub slice-rest : (text : List ℕ) (at end : ℕ) → at ≤ end
     → slice_range text at end ++ drop end text ≡ drop at text
 slice-rest text at end from =
-    let place : at + (end - at) ≡ end = omega (arith, from) in
-    ap (λ l. slice_range text at end ++ l) (ap (λ k. drop k text) (sym place)
-    ∙ sym (drop-drop (end - at) at text)) ∙ take-append-drop (end - at) (drop at text)
+    search (rules, arith, drop-drop (end - at) at text, take-append-drop (end - at) (drop at text))
 
 -- the front of a text from a place on
 pub front-slice : (text : List ℕ) (at end : ℕ) → at ≤ end
     → drop at (take end text) ≡ slice_range text at end
 front-slice text at end from =
-    let place : at + (end - at) ≡ end = omega (arith, from) in
-    ap (λ k. drop at (take k text)) (sym place) ∙ drop-take at (end - at) text
+    let place : at + (end - at) ≡ end = omega (arith, from) in search (rules, arith, drop-take)
 
 -- ---- parts
 
@@ -31,12 +27,7 @@ module _ (test : ℕ → Bool) where
   pub flat-parts : (at : ℕ) (rest : List ℕ) → flat (parts_by test at rest) ≡ rest
   flat-parts at [] = refl
   flat-parts at (b ∷ []) = refl
-  flat-parts at (b ∷ c ∷ cs) =
-      let others = flat-parts (at + 1) (c ∷ cs) in
-      elim (test (at + 1)) as (λ t. flat (next_by test t at b (c ∷ cs)) ≡ b ∷ c ∷ cs) [
-        | true ↦ ap (λ l. b ∷ l) others
-        | false ↦ flat-onto_first b (parts_by test (at + 1) (c ∷ cs)) ∙ ap (λ l. b ∷ l) others
-      ]
+  flat-parts at (b ∷ c ∷ cs) = search (rules, arith, flat-onto_first, flat-parts (at + 1) (c ∷ cs))
 
   -- ---- at a cut
 
@@ -44,8 +35,7 @@ module _ (test : ℕ → Bool) where
       → parts_by test (at + 1) all ≡ parts_by test (at + 1) (c ∷ cs) ++ qs
       → next_by test here at b all ≡ next_by test here at b (c ∷ cs) ++ qs
   next-append true at b c cs all qs e = ap (λ ps. (b ∷ []) ∷ ps) e
-  next-append false at b c cs all qs e = ap (onto_first b) e
-      ∙ onto_first-append b (parts_by test (at + 1) (c ∷ cs)) qs (parts_by-some test (at + 1) c cs)
+  next-append false at b c cs all qs e = search (rules, arith, onto_first-append, parts_by-some)
 
   parts-at_cut : (rest : List ℕ) (at n : ℕ) → 0 < n → n < length rest → test (at + n) ≡ true
       → parts_by test at rest

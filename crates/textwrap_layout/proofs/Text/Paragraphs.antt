@@ -1,16 +1,15 @@
 -- A text has its paragraphs in exactly one way; they are UTF-8, and end in no sequence where it
 -- does not.
 use Rattle.textwrap_text.proofs.Common.{get_or_append_left, IsUtf8-from_ascii, take-append-drop, []}
-use Rattle.textwrap_text.proofs.Common.{IsPrintableByte, flat_map-append, length-append, All-weaker}
-use Rattle.textwrap_text.proofs.Common.{paragraphs_of, sum_by-append, append_assoc, chars-append, ℕ}
-use Rattle.textwrap_text.proofs.Common.{ending_bytes, IsPrintable, get_or-drop, length-drop, IsUtf8}
-use Rattle.textwrap_text.proofs.Common.{starts_with, append-nil, onto_first, parts_past, text_width}
-use Rattle.textwrap_text.proofs.Common.{cond_both, drop_more, eqb-false, join_with, All-cons, arith}
-use Rattle.textwrap_text.proofs.Common.{All-drop, All-head, All-tail, add-zero, eqb-true, All-nil}
-use Rattle.textwrap_text.proofs.Common.{drop_at, take_at, get_or, length, nat_eq, false, rules, All}
-use Rattle.textwrap_text.proofs.Common.{subst, Bool, List, drop, refl, take, zero, ◌++◌, ◌==◌}
-use Rattle.textwrap_text.proofs.Common.{inl, suc, sym, ◌+◌, ◌-◌, ◌<◌, ◌↔◌, ◌∙◌, ◌∷◌, ◌≡◌, ◌≢◌, ◌≤◌}
-use Rattle.textwrap_text.proofs.Common.{ap}
+use Rattle.textwrap_text.proofs.Common.{flat_map-append, length-append, paragraphs_of, append_assoc}
+use Rattle.textwrap_text.proofs.Common.{sum_by-append, chars-append, ending_bytes, IsPrintable, All}
+use Rattle.textwrap_text.proofs.Common.{get_or-drop, length-drop, starts_with, All-weaker, All-cons}
+use Rattle.textwrap_text.proofs.Common.{append-nil, onto_first, parts_past, text_width, cond_both}
+use Rattle.textwrap_text.proofs.Common.{drop_more, eqb-false, join_with, All-drop, All-head, IsUtf8}
+use Rattle.textwrap_text.proofs.Common.{All-tail, add-zero, eqb-true, All-nil, drop_at, take_at, ap}
+use Rattle.textwrap_text.proofs.Common.{get_or, length, nat_eq, arith, false, rules, subst, Bool, ℕ}
+use Rattle.textwrap_text.proofs.Common.{List, drop, refl, take, zero, ◌++◌, ◌==◌, inl, suc, sym}
+use Rattle.textwrap_text.proofs.Common.{◌+◌, ◌-◌, ◌<◌, ◌↔◌, ◌∙◌, ◌∷◌, ◌≡◌, ◌≢◌, ◌≤◌}
 use Rattle.std.proofs.lemmas.List.Sums.{fails_before_first, passes_at_first}
 use Rattle.std.specs.List.{position_or_len, before_first, after_first}
 use Rattle.textwrap_text.specs.LineEnding.{AreParagraphs, line_feed, Lacks}
@@ -80,9 +79,7 @@ one-paragraph ending text none =
         (All-tail (λ c. c ≢ line_feed) 13 (line_feed ∷ others) all) refl
 
 pub printable-free : (text : List ℕ) → IsPrintable text → All (λ c. c ≢ line_feed) text
-printable-free text printable =
-    All-weaker IsPrintableByte (λ c. c ≢ line_feed) (λ c (low, high) is. omega (arith, low, is)) text
-    printable
+printable-free text printable = search (rules, arith, All-weaker)
 
 -- ---- at a line feed
 
@@ -159,10 +156,8 @@ join-parts_past ending some (suc n) (c ∷ cs) = join-parts_past ending some n c
 parts_past-utf8 : (ending : List ℕ) → 0 < length ending → All (λ c. c < 128) ending
     → (n : ℕ) (before cs : List ℕ) → IsUtf8 (before ++ drop n cs)
     → All IsUtf8 (onto_front before (parts_past ending n cs))
-parts_past-utf8 ending some ascii zero before [] utf8 =
-    All-cons IsUtf8 (before ++ []) [] utf8 (All-nil IsUtf8)
-parts_past-utf8 ending some ascii (suc n) before [] utf8 =
-    All-cons IsUtf8 (before ++ []) [] utf8 (All-nil IsUtf8)
+parts_past-utf8 ending some ascii zero before [] utf8 = search (rules, arith, All-cons, All-nil)
+parts_past-utf8 ending some ascii (suc n) before [] utf8 = search (rules, arith, All-cons, All-nil)
 parts_past-utf8 ending some ascii zero before (c ∷ cs) utf8 =
     cond_both (starts_with nat_eq (c ∷ cs) ending) ([] ∷ parts_past ending (length ending - 1) cs)
     (onto_first c (parts_past ending 0 cs)) (λ ps. All IsUtf8 (onto_front before ps))
@@ -186,8 +181,7 @@ parts_past-utf8 ending some ascii (suc n) before (c ∷ cs) utf8 =
     parts_past-utf8 ending some ascii n before cs utf8
 
 pub ending_bytes-ascii : (ending : LineEnding) → All (λ c. c < 128) (ending_bytes ending)
-ending_bytes-ascii CRLF = All-cons (λ c. c < 128) 13 (10 ∷ []) (omega arith)
-    (All-cons (λ c. c < 128) 10 [] (omega arith) (All-nil (λ c. c < 128)))
+ending_bytes-ascii CRLF = search (rules, arith, All-cons, All-nil)
 ending_bytes-ascii LF = All-cons (λ c. c < 128) 10 [] (omega arith) (All-nil (λ c. c < 128))
 
 pub paragraphs_of-utf8 : (ending : LineEnding) (text : List ℕ) → IsUtf8 text
@@ -197,8 +191,7 @@ paragraphs_of-utf8 ending text utf8 =
 
 pub join-paragraphs_of : (ending : LineEnding) (text : List ℕ)
     → join_with (ending_bytes ending) (paragraphs_of ending text) ≡ text
-join-paragraphs_of ending text =
-    join-parts_past (ending_bytes ending) (ending_bytes-some ending) 0 text
+join-paragraphs_of ending text = search (rules, arith, join-parts_past, ending_bytes-some)
 
 -- ---- no part has an ending in it
 
@@ -218,8 +211,7 @@ lacks-cons : (ending : List ℕ) (c : ℕ) (part more : List ℕ)
     → Lacks ending (c ∷ part)
 lacks-cons ending c part more not_here lacks [] after is =
     search (rules, arith, append_assoc ending after more, starts_with-true)
-lacks-cons ending c part more not_here lacks (b ∷ before) after is =
-    lacks before after (ap (drop 1) is)
+lacks-cons ending c part more not_here lacks (b ∷ before) after is = search (rules, arith)
 
 lacks-onto_first : (ending : List ℕ) → 0 < length ending
     → (c : ℕ) (cs : List ℕ) (parts : List (List ℕ)) → starts_with nat_eq (c ∷ cs) ending ≡ false
@@ -234,8 +226,7 @@ lacks-onto_first ending some c cs (part ∷ parts) not_here any is all =
 
 parts_past-lacks : (ending : List ℕ) → 0 < length ending → (n : ℕ) (cs : List ℕ)
     → All (Lacks ending) (parts_past ending n cs)
-parts_past-lacks ending some n [] = All-cons (Lacks ending) [] [] (lacks-nil ending some)
-    (All-nil (Lacks ending))
+parts_past-lacks ending some n [] = search (rules, arith, All-cons, lacks-nil, All-nil)
 parts_past-lacks ending some zero (c ∷ cs) =
     cond_both (starts_with nat_eq (c ∷ cs) ending) ([] ∷ parts_past ending (length ending - 1) cs)
     (onto_first c (parts_past ending 0 cs)) (All (Lacks ending))
@@ -254,8 +245,7 @@ no_straddle : (ending : LineEnding) (text front tail rest others : List ℕ)
     → tail ++ (ending_bytes ending ++ rest) ≢ ending_bytes ending ++ others
 no_straddle ending text front [] rest others lacks is some here = absurd (omega arith)
 no_straddle LF text front (c ∷ tail) rest others lacks is some here = grind arith
-no_straddle CRLF text front (c ∷ []) rest others lacks is some here = let second : 13 ≡ 10 =
-    ap (λ l. get_or l 1 0) here in absurd (omega (arith, second))
+no_straddle CRLF text front (c ∷ []) rest others lacks is some here = search (rules, arith)
 no_straddle CRLF text front (c ∷ d ∷ tail) rest others lacks is some here = grind arith
 
 parts_one : (ending : LineEnding) (parts : List (List ℕ)) → parts ≢ []
@@ -295,7 +285,6 @@ paragraphs_one ending text paragraphs =
       parts_past-some (ending_bytes ending) 0 text,
       join-paragraphs_of ending text,
       parts_past-lacks (ending_bytes ending) (ending_bytes-some ending) 0 text,
-      ending_bytes-some ending,
     )
 
 -- ---- lemmas on texts of which something holds of each character, as that it is no ESC
@@ -314,8 +303,7 @@ module _ (Holds : ℕ → Type 0) where
   joined-each : (separator : List ℕ) → IsUtf8 separator → (parts : List (List ℕ))
       → All IsUtf8 parts → Each (join_with separator parts) → All Each parts
   joined-each separator between [] utf8 each = All-nil Each
-  joined-each separator between (part ∷ []) utf8 each =
-      All-cons Each part [] each (All-nil Each)
+  joined-each separator between (part ∷ []) utf8 each = search (rules, arith, All-cons, All-nil)
   joined-each separator between (part ∷ next ∷ parts) utf8 each =
       let others = join_with separator (next ∷ parts) in
       let (here, after) = each_part part (separator ++ others)

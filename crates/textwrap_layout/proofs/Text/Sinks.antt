@@ -199,8 +199,7 @@ module _ {S : Type 0} {Holds : S → S → ℕ → List CutLine → Type 0} wher
 
 nothing_added : (indent slice penalty : List ℕ) → length (indent ++ penalty) ≡ 0
     → indent ++ slice ++ penalty ≡ slice
-nothing_added [] slice penalty none =
-    ap (λ p. slice ++ p) (nil_from_length penalty none) ∙ append-nil slice
+nothing_added [] slice penalty none = search (rules, arith, nil_from_length)
 nothing_added (i ∷ indent) slice penalty none = absurd (omega (arith, none))
 
 pub assembled-bytes : (indent slice penalty : List ℕ)

@@ -1,4 +1,5 @@
 -- A paragraph in steps: the points of a text that are inside a part of it, and its words, split there.
+use Rattle.textwrap_lines.proofs.Common.{rules}
 use Rattle.textwrap_lines.proofs.Common.{append_assoc, get_or-drop, IsCharBoundary, length-append}
 use Rattle.textwrap_lines.proofs.Common.{and_parts, append-nil, cases_Bool, drop-drop, length-drop}
 use Rattle.textwrap_lines.proofs.Common.{AreCuts, drop_at, ltb-false, ltb-true, split_at, WordText}
@@ -58,9 +59,7 @@ between-both start end p is =
 pub between-after : (start end : ℕ) (points : List ℕ) (k d : ℕ)
     → k < length (filter (is_between start end) points)
     → start ≤ get_or (filter (is_between start end) points) k d
-between-after start end points k d within =
-    let both = between-both start end _ (filter_passes (is_between start end) points k d within) in
-    omega (arith, both.0)
+between-after start end points k d within = search (rules, arith, between-both, filter_passes)
 
 -- a list that was cut where a test of its numbers changes, and again
 pub between-are : (points later : List ℕ) (i j start end : ℕ) → later ≡ drop i points
@@ -99,14 +98,7 @@ module _ (text part rest : List ℕ) (at : ℕ) (stands : drop at text ≡ part 
         get_or_append_left part rest 0 (point - at),
       ) in
       let len : length text - at ≡ length part + length rest =
-      grind (arith, length-drop at text, length-append part rest) in (
-        omega arith,
-        λ within high. omega (
-          arith,
-          byte,
-          boundary.1 (omega (arith, len)) (omega (arith, byte, high)),
-        ),
-      )
+      grind (arith, length-drop at text, length-append part rest) in search (rules, arith)
 
   -- the points inside it are places where it may be cut
   within-next : (points : List ℕ) (last low : ℕ) → low ≤ last - at → AreLaterCuts last text points

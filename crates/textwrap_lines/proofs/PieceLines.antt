@@ -1,20 +1,19 @@
 -- The lines of first fit, found piece by piece: the pieces that come, the line so far, the first
 -- line.
-use Rattle.textwrap_lines.proofs.Common.{All-head, IsCharBoundary-start, pieces_of_words-no_penalty}
-use Rattle.textwrap_lines.proofs.Common.{All, IsCharBoundary, pieces_of_words, pieces_of_words-tile}
-use Rattle.textwrap_lines.proofs.Common.{assembled_line, break_limit, cut_lines-next, length-append}
-use Rattle.textwrap_lines.proofs.Common.{[], append_assoc, closed_width, HasNoPenalty, tiled-append}
-use Rattle.textwrap_lines.proofs.Common.{covered, first_width, IsMeasured, later_width, slice_range}
-use Rattle.textwrap_lines.proofs.Common.{cases_Bool, lines_past, open_width, parts_from, stand_from}
-use Rattle.textwrap_lines.proofs.Common.{all-right, and_parts, LineSoFar, text_limit, with_piece, ℕ}
-use Rattle.textwrap_lines.proofs.Common.{cond_both, cut_lines, drop-drop, indent_of, inl, line_from}
-use Rattle.textwrap_lines.proofs.Common.{All-tail, Bool, ltb-false, no_pieces, pieces_of, widths_of}
-use Rattle.textwrap_lines.proofs.Common.{add-zero, all-left, AreTexts, Settings, Splitter, WordText}
-use Rattle.textwrap_lines.proofs.Common.{cut_line, front_of, ltb-true, parts_of, sizes_of, words_of}
-use Rattle.textwrap_lines.proofs.Common.{drop_at, IsUtf8, length, line_of, lt-ltb, nat_lt, take_at}
-use Rattle.textwrap_lines.proofs.Common.{arith, cond, drop, false, List, refl, rules, subst, tiled}
-use Rattle.textwrap_lines.proofs.Common.{inr, sym, true, ◌&&◌, ◌++◌, ◌+◌, ◌-◌, ◌<◌, ◌∙◌, ◌∷◌, ◌≡◌}
-use Rattle.textwrap_lines.proofs.Common.{ap, ⊤, ◌≤◌}
+use Rattle.textwrap_lines.proofs.Common.{pieces_of_words-no_penalty, IsCharBoundary-start, All-head}
+use Rattle.textwrap_lines.proofs.Common.{pieces_of_words-tile, pieces_of_words, IsCharBoundary, All}
+use Rattle.textwrap_lines.proofs.Common.{cut_lines-next, length-append, append_assoc, closed_width}
+use Rattle.textwrap_lines.proofs.Common.{HasNoPenalty, tiled-append, break_limit, first_width, Bool}
+use Rattle.textwrap_lines.proofs.Common.{later_width, slice_range, IsMeasured, cases_Bool, All-tail}
+use Rattle.textwrap_lines.proofs.Common.{lines_past, open_width, parts_from, stand_from, text_limit}
+use Rattle.textwrap_lines.proofs.Common.{with_piece, all-right, and_parts, LineSoFar, cond_both, []}
+use Rattle.textwrap_lines.proofs.Common.{cut_lines, drop-drop, indent_of, line_from, ltb-false, inl}
+use Rattle.textwrap_lines.proofs.Common.{no_pieces, pieces_of, widths_of, add-zero, all-left, arith}
+use Rattle.textwrap_lines.proofs.Common.{AreTexts, Settings, Splitter, WordText, cut_line, front_of}
+use Rattle.textwrap_lines.proofs.Common.{ltb-true, parts_of, sizes_of, words_of, covered, drop_at}
+use Rattle.textwrap_lines.proofs.Common.{line_of, take_at, IsUtf8, length, lt-ltb, nat_lt, false, ℕ}
+use Rattle.textwrap_lines.proofs.Common.{rules, subst, tiled, cond, drop, List, refl, true, ◌&&◌, ⊤}
+use Rattle.textwrap_lines.proofs.Common.{◌++◌, inr, sym, ◌+◌, ◌-◌, ◌<◌, ◌∙◌, ◌∷◌, ◌≡◌, ◌≤◌, ap}
 use Rattle.textwrap_text.proofs.Common.{length_push}
 use Rattle.textwrap_base.proofs.Common.{IsGreedy}
 use Rattle.textwrap_words.specs.Pieces.{empty_front}
@@ -138,7 +137,6 @@ module _ (text : List ℕ) where
       → with_piece (so_far at width indent ps) (stands_at (at + length (tiled ps)) x)
       ≡ so_far at width indent (ps ++ x ∷ [])
   so_far-push at width indent ps x =
-      let word = at + length (tiled ps) + length x.word in
       search (
         rules,
         arith,
@@ -155,9 +153,7 @@ module _ (text : List ℕ) where
       → drop at text ≡ tiled ps ++ after
       → slice_range text at (cond keeps (at + length (tiled ps)) (at + length (covered ps)))
       ≡ cond keeps (tiled ps) (covered ps)
-  slice-pieces at ps after true seam =
-      let len : at + length (tiled ps) - at ≡ length (tiled ps) = omega arith in
-      rw (len, seam, take_at)
+  slice-pieces at ps after true seam = search (rules, arith, take_at)
   slice-pieces at ps after false seam =
       let len : at + length (covered ps) - at ≡ length (covered ps) = omega arith in
       rw (len, seam, ← covered-space, append_assoc, take_at)
@@ -179,13 +175,7 @@ module _ (settings : Settings) (text : List ℕ) where
         let p = stands_at (at + length (tiled ps)) x in
         let pushed = so_far-push text at width indent ps x in
         let more = so_far text at width indent (ps ++ x ∷ []) in
-        cond_both (is_past here p) _
-        (lines_past settings (with_piece here p) (stand_from p.end left))
-        (λ ls. ls ≡ lines_past settings more (stand_from more.bounds.end left)) (λ past.
-        let (some, over) = and_parts (nat_lt 0 (length ps)) _ past in
-        absurd (omega (arith, room (ltb-true 0 (length ps) some), ltb-true width _ over)))
-        (λ _. ap (λ l. lines_past settings l (stand_from p.end left)) pushed
-        ∙ ap (λ l. lines_past settings more (stand_from l.bounds.end left)) pushed)
+        search (rules, arith, cond_both, ltb-true)
 
     -- one that has none begins the next line
     pub lines-full : (x : WordText) (left : List WordText) → 0 < length ps
@@ -194,10 +184,7 @@ module _ (settings : Settings) (text : List ℕ) where
         ≡ line_of settings.preserve_trailing_space here
         ∷ lines_left settings (no_pieces text (at + length (tiled ps)) (later_width settings)
         settings.subsequent_indent) (stand_from (at + length (tiled ps)) (x ∷ left))
-    lines-full x left some over = rw (
-      lt-ltb 0 (length ps) some,
-      lt-ltb width (open_width sizes_of ps + x.width) over,
-    ) refl
+    lines-full x left some over = search (rules, arith, lt-ltb)
 
   -- the line of these pieces is that of the settings
   pub line_of-pieces : (at width : ℕ) (is_later : Bool) (ps : List WordText) (after : List ℕ)
@@ -207,14 +194,13 @@ module _ (settings : Settings) (text : List ℕ) where
       ≡ cut_line at (line_from (parts_of settings is_later ps))
   line_of-pieces at width is_later [] after seam none = grind (arith, slice-pieces)
   line_of-pieces at width is_later (w ∷ ws) after seam none =
-      let indent = indent_of settings is_later in
-      let keeps = settings.preserve_trailing_space in
-      let ps = w ∷ ws in
-      let end = cond keeps (at + length (tiled ps)) (at + length (covered ps)) in
-      ap (cut_line at) (ap (λ b. assembled_line (cond b indent []) (slice_range text at end) [])
-      (lt-ltb 0 (length ps) (omega arith))
-      ∙ ap (λ s. assembled_line indent s []) (slice-pieces text at ps after keeps seam)
-      ∙ assembled-parts settings is_later w ws none)
+      grind (
+        arith,
+        cut_line at,
+        lt-ltb 0 (length (w ∷ ws)) (omega arith),
+        slice-pieces text at (w ∷ ws) after settings.preserve_trailing_space seam,
+        assembled-parts settings is_later w ws none,
+      )
 
   abbrev AreLines : ℕ → ℕ → Bool → List WordText → List WordText → Type 0
   AreLines at width is_later left ps =

@@ -120,14 +120,7 @@ spans-case text penalties first later ws tile bounded suit =
     let total = total_width-same span_sizes sizes_of spans ws
     (sizes-same span_priced (λ w. priced_at penalties (sizes_of w)) spans ws
     (priced-spans penalties 0 0 ws (λ k d lt. (bounded k d lt).penalty))) in
-    let len = ap length tile in record {
-      equal = two-equal first later;
-      rising = never_falls spans;
-      small_widths = suit.small_widths;
-      small_penalties = suit.small_penalties;
-      small_break_penalties = λ k d lt. omega arith;
-      small_sum = omega (arith, total, total_width-narrow ws bounded, len, suit.small_len);
-    }
+    let len = ap length tile in search (rules, arith, two-equal, never_falls, total_width-narrow)
 
 pub AreSpans-from : (penalties : Penalties) (widths : List ℕ) (ws : List WordText)
     → IsQueueCase (problem_by span_priced penalties widths (spans_from 0 0 ws))
@@ -204,8 +197,7 @@ module _ (settings : Settings) (text : List ℕ) (utf8 : IsUtf8 text) (starts : 
       → AreLeft at (words ++ back) → (AreLeft (at + length (tiled words)) back
       → AreLinesFound true (from + length line) (at + length (tiled words)) back lines)
       → AreLinesFound is_later from at (words ++ back) (line ∷ lines)
-  line-found is_later from at columns [] back line lines some here start left others =
-      absurd (some here)
+  line-found is_later from at columns [] back line lines some here start left others = grind arith
   line-found is_later from at columns (w ∷ ws) back line lines some here start left others =
       let words = w ∷ ws in
       let last = last_span (spans_from at columns words) in

@@ -1,17 +1,17 @@
 -- What the lines of a paragraph keep to, and the shortcut for a paragraph that is one line.
-use Rattle.textwrap_lines.proofs.Common.{algorithm_view, AreDividedParts, AreParagraphParts, Greedy}
-use Rattle.textwrap_lines.proofs.Common.{AreIndented, ends_in_hyphen, IsDividedInto, laid_out-cases}
-use Rattle.textwrap_lines.proofs.Common.{HasNoPenalty, KeepToWidths, splitter_view, tiled-word_of}
-use Rattle.textwrap_lines.proofs.Common.{Bool, closed_width, IsDividedBy, KeepsToWidth, MaySeparate}
-use Rattle.textwrap_lines.proofs.Common.{All-cons, All-weaker, first_width, IsMeasured, later_width}
-use Rattle.textwrap_lines.proofs.Common.{Algorithm, DividesAs, length-map, LineParts, parts_from, ℕ}
-use Rattle.textwrap_lines.proofs.Common.{All, all-right, and_parts, cond_both, MatchBool, MayDivide}
-use Rattle.textwrap_lines.proofs.Common.{AreTexts, indent_of, Line, line_from, pieces_of, widths_of}
+use Rattle.textwrap_lines.proofs.Common.{AreParagraphParts, AreDividedParts, algorithm_view, Greedy}
+use Rattle.textwrap_lines.proofs.Common.{ends_in_hyphen, laid_out-cases, IsDividedInto, AreIndented}
+use Rattle.textwrap_lines.proofs.Common.{splitter_view, tiled-word_of, HasNoPenalty, KeepToWidths}
+use Rattle.textwrap_lines.proofs.Common.{closed_width, KeepsToWidth, IsDividedBy, MaySeparate, Bool}
+use Rattle.textwrap_lines.proofs.Common.{first_width, later_width, All-weaker, length-map, All-cons}
+use Rattle.textwrap_lines.proofs.Common.{parts_from, IsMeasured, Algorithm, DividesAs, LineParts, ℕ}
+use Rattle.textwrap_lines.proofs.Common.{all-right, and_parts, cond_both, MatchBool, MayDivide, All}
+use Rattle.textwrap_lines.proofs.Common.{indent_of, line_from, pieces_of, widths_of, AreTexts, Line}
 use Rattle.textwrap_lines.proofs.Common.{all-left, is_whole, MaySplit, Settings, Splitter, WordText}
-use Rattle.textwrap_lines.proofs.Common.{All-nil, AreCuts, ltb-true, parts_of, sizes_of, word_of}
-use Rattle.textwrap_lines.proofs.Common.{arith, false, IsUtf8, length, nat_lt, Option, rules, subst}
-use Rattle.textwrap_lines.proofs.Common.{cond, flat, List, None, refl, Some, take, true, ◌&&◌, ◌==◌}
-use Rattle.textwrap_lines.proofs.Common.{[], ap, inl, map, sym, ◌+◌, ◌<◌, ◌∙◌, ◌∷◌, ◌≡◌, ◌≢◌, ◌≤◌}
+use Rattle.textwrap_lines.proofs.Common.{ltb-true, parts_of, sizes_of, All-nil, AreCuts, word_of}
+use Rattle.textwrap_lines.proofs.Common.{IsUtf8, length, nat_lt, Option, arith, false, rules, subst}
+use Rattle.textwrap_lines.proofs.Common.{flat, List, None, refl, Some, take, true, ◌==◌, inl, map}
+use Rattle.textwrap_lines.proofs.Common.{sym, ◌+◌, ◌<◌, ◌∙◌, ◌∷◌, ◌≡◌, ◌≢◌, ◌≤◌, [], ap}
 use Rattle.textwrap_layout.proofs.Common.{IsOneCharacter, OnlyCharactersPass, width_after}
 use Rattle.textwrap_text.proofs.Lists.Parts.{Begins}
 use Rattle.textwrap_words.proofs.Word.Words.{closed_width-narrow, text_width-nil}
@@ -118,10 +118,8 @@ module _ (settings : Settings) where
   -- where paragraphs are even, each line has the width that its indent leaves
   pub first_width-own : settings.even_paragraphs ≡ true → (is_later : Bool)
       → first_width settings is_later ≡ own_width is_later
-  first_width-own even true = ap (λ b. cond (b && true) (later_width settings)
-      (width_after settings settings.initial_indent)) even
-  first_width-own even false = ap (λ b. cond (b && false) (later_width settings)
-      (width_after settings settings.initial_indent)) even
+  first_width-own even true = search (rules, arith)
+  first_width-own even false = search (rules, arith)
 
   -- the lines of a division
   pub division-even : (is_later : Bool) → first_width settings is_later ≡ own_width is_later
@@ -241,8 +239,7 @@ module _ (settings : Settings) (Words : List ℕ → List WordText → Type 0)
 -- without indents, a paragraph's first line has the whole width
 first_width-unindented : (settings : Settings) (is_later : Bool) → settings.initial_indent ≡ []
     → indent_of settings is_later ≡ [] → settings.width ≤ first_width settings is_later
-first_width-unindented settings is_later unindented none =
-    search (rules, cond_both, and_parts, text_width-nil)
+first_width-unindented settings is_later unindented none = grind (arith, cond_both, text_width-nil)
 
 module _ (settings : Settings) (algorithm : Algorithm) (splitter : Splitter) where
   -- the lines of a paragraph are those of a division of its pieces

@@ -1,22 +1,21 @@
 -- Texts of printable ASCII: each byte is one column, and bytes tell where words are split and
 -- broken.
-use Rattle.textwrap_lines.proofs.Common.{IsPrintableByte, take-append-drop, without_final_blanks, ℕ}
-use Rattle.textwrap_lines.proofs.Common.{All-append, chars-IsAscii, length-take-le, printable-width}
-use Rattle.textwrap_lines.proofs.Common.{broken_words, closed_width, HasNoPenalty, length-append}
-use Rattle.textwrap_lines.proofs.Common.{broken_word, IsPrintable, IsUtf8, length-drop, split_words}
-use Rattle.textwrap_lines.proofs.Common.{all-right, All-weaker, IsMeasured, open_width, trimmed_len}
-use Rattle.textwrap_lines.proofs.Common.{All-cons, All-drop, arith, cond_both, drop_more, ltb-false}
+use Rattle.textwrap_lines.proofs.Common.{without_final_blanks, take-append-drop, IsPrintableByte, ℕ}
+use Rattle.textwrap_lines.proofs.Common.{printable-width, length-take-le, chars-IsAscii, All-append}
+use Rattle.textwrap_lines.proofs.Common.{length-append, broken_words, closed_width, HasNoPenalty}
+use Rattle.textwrap_lines.proofs.Common.{broken_word, IsPrintable, length-drop, split_words, IsUtf8}
+use Rattle.textwrap_lines.proofs.Common.{trimmed_len, All-weaker, IsMeasured, open_width, all-right}
+use Rattle.textwrap_lines.proofs.Common.{cond_both, drop_more, ltb-false, All-cons, All-drop, rules}
 use Rattle.textwrap_lines.proofs.Common.{All-head, all-left, All-tail, All-take, cases_lt, WordText}
-use Rattle.textwrap_lines.proofs.Common.{[], All-nil, covered, drop_at, ltb-true, sizes_of, take_at}
-use Rattle.textwrap_lines.proofs.Common.{get_or, le-ltb, length, lt-ltb, nat_lt, tile_of, word_of}
-use Rattle.textwrap_lines.proofs.Common.{drop, Fits, flat, List, piece, refl, subst, take, tiled}
-use Rattle.textwrap_lines.proofs.Common.{All, inl, inr, map, suc, sym, true, zero, ◌&&◌, ◌++◌, ◌==◌}
-use Rattle.textwrap_lines.proofs.Common.{ap, ◌+◌, ◌-◌, ◌<◌, ◌∙◌, ◌∷◌, ◌≡◌, ◌≢◌, ◌≤◌}
-use Rattle.textwrap_words.proofs.Common.{broken_pieces, broken_texts, broken_units, is_hyphen_point}
+use Rattle.textwrap_lines.proofs.Common.{ltb-true, sizes_of, All-nil, covered, drop_at, take_at, []}
+use Rattle.textwrap_lines.proofs.Common.{tile_of, word_of, get_or, le-ltb, length, lt-ltb, nat_lt}
+use Rattle.textwrap_lines.proofs.Common.{arith, piece, subst, tiled, drop, Fits, flat, List, refl}
+use Rattle.textwrap_lines.proofs.Common.{take, true, zero, ◌&&◌, ◌++◌, ◌==◌, All, inl, inr, map, ap}
+use Rattle.textwrap_lines.proofs.Common.{suc, sym, ◌+◌, ◌-◌, ◌<◌, ◌∙◌, ◌∷◌, ◌≡◌, ◌≢◌, ◌≤◌}
+use Rattle.textwrap_words.proofs.Common.{is_hyphen_point, broken_pieces, broken_texts, broken_units}
 use Rattle.textwrap_words.proofs.Common.{pieces_with, units_text, Whole}
 use Rattle.textwrap_text.proofs.Common.{is_ascii_alphanumeric, IsUtf8-from_ascii, take-append-add}
-use Rattle.textwrap_text.proofs.Common.{columns, final_blanks, reverse-append, TextUnit, Visible}
-use Rattle.textwrap_text.proofs.Common.{reverse, units}
+use Rattle.textwrap_text.proofs.Common.{reverse-append, TextUnit, columns, Visible, reverse, units}
 use Rattle.std.specs.Prelude.{chars}
 use Rattle.textwrap_text.proofs.Units.Reading.{units-printable}
 pub use Rattle.textwrap_text.proofs.Units.Reading.{columns-printable, printable-ascii}
@@ -44,8 +43,7 @@ abbrev pub units_of : List ℕ → List TextUnit
 units_of text = units (chars text)
 
 pub units_of-printable : (text : List ℕ) → IsPrintable text → units_of text ≡ map Visible text
-units_of-printable text printable = ap units (chars-IsAscii text (printable-ascii text printable))
-    ∙ units-printable text printable
+units_of-printable text printable = grind (arith, chars-IsAscii, printable-ascii, units-printable)
 
 -- ---- the parts of a printable text
 
@@ -119,15 +117,12 @@ part-printable : (limit width : ℕ) (cs : List ℕ) → IsPrintable cs → 0 < 
 part-printable limit width [] printable some zero is = (refl, refl)
 part-printable limit width [] printable some (suc room) is = (refl, refl)
 part-printable limit width (c ∷ cs) printable some zero is =
-    let one = columns-printable c (All-head IsPrintableByte c cs printable) in
-    rw (due-true limit width c some (omega (arith, one, is))) (refl, refl)
+    search (rules, arith, columns-printable, All-head, due-true)
 part-printable limit width (c ∷ cs) printable some (suc room) is =
     let one = columns-printable c (All-head IsPrintableByte c cs printable) in
     let next : width + columns c ≡ suc width = omega (arith, one) in
     let rest = part-printable limit (suc width) cs (All-tail IsPrintableByte c cs printable)
-    (omega arith) room (omega (arith, is)) in
-    rw (due-false limit width c (λ _. omega (arith, one, is)), next)
-    (ap (λ us. Visible c ∷ us) rest.0, rest.1)
+    (omega arith) room (omega (arith, is)) in search (rules, arith, due-false, width)
 
 units_text-printable : (text : List ℕ) → IsPrintable text → units_text (map Visible text) ≡ text
 units_text-printable text printable = ap units_text (sym (units_of-printable text printable))
@@ -227,9 +222,7 @@ broken-front limit front p printable room len some =
     (omega (arith, word_len, rest_len, some))
     ∙ ap (λ t. t ∷ broken_texts limit (drop limit (front ++ rest))) (take_at front rest limit len)
     ∙ ap (λ t. front ∷ broken_texts limit t) (drop_at front rest limit len) in
-    rw (word, both.1) (broken_word-front limit (front ++ rest) front rest (final_blanks p)
-    (printable-utf8 rest rest_printable) nonempty
-    (omega (arith, width, word_len, len, rest_len, some)) texts)
+    search (rules, arith, broken_word-front, printable-utf8, width)
 
 -- ---- the points of a splitter in a printable text, told by three bytes
 
@@ -245,8 +238,7 @@ alphanumeric-printable c printable =
 begins-printable : (c : ℕ) (cs : List ℕ) → IsPrintable (c ∷ cs)
     → begins_alphanumeric (chars (c ∷ cs)) ≡ is_ascii_alphanumeric c
 begins-printable c cs printable =
-    ap begins_alphanumeric (chars-IsAscii (c ∷ cs) (printable-ascii (c ∷ cs) printable))
-    ∙ alphanumeric-printable c (All-head IsPrintableByte c cs printable)
+    search (rules, arith, chars-IsAscii, printable-ascii, alphanumeric-printable, All-head)
 
 -- whether a text ends so, by the last of its first bytes
 pub ends-printable : (text : List ℕ) (n : ℕ) → IsPrintable text → n < length text

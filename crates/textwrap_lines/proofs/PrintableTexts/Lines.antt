@@ -1,22 +1,21 @@
 -- The lines of a paragraph of printable ASCII, found by its bytes.
-use Rattle.textwrap_lines.proofs.Common.{[], IsPrintableByte, printable-width, without_final_blanks}
-use Rattle.textwrap_lines.proofs.Common.{BeforeOthers, HasNoPenalty, length-append, length-take-le}
-use Rattle.textwrap_lines.proofs.Common.{ap, append_assoc, broken_words, closed_width, NoCutBetween}
-use Rattle.textwrap_lines.proofs.Common.{Bool, IsFirstLine, IsPrintable, length-slice, tiled-append}
-use Rattle.textwrap_lines.proofs.Common.{break_limit, get_or, get_or-drop, get_or-take, later_width}
-use Rattle.textwrap_lines.proofs.Common.{le-ltb, length-drop, pieces_from, slice_range, trimmed_len}
-use Rattle.textwrap_lines.proofs.Common.{All-weaker, append-nil, line_slice, lines_past, open_width}
-use Rattle.textwrap_lines.proofs.Common.{All-head, indent_of, no_pieces, stand_from, text_limit}
-use Rattle.textwrap_lines.proofs.Common.{add-zero, All-take, cases_lt, drop_all, Settings, WordText}
-use Rattle.textwrap_lines.proofs.Common.{CutLine, front_of, is_blank, limit_at, parts_by, sizes_of}
-use Rattle.textwrap_lines.proofs.Common.{arith, covered, false, length, line_of, lt-ltb, word_of, ℕ}
-use Rattle.textwrap_lines.proofs.Common.{cond, drop, Fits, List, piece, refl, rules, subst, tiled}
-use Rattle.textwrap_lines.proofs.Common.{All, inl, inr, map, sym, take, true, ◌++◌, ◌+◌, ◌-◌, ◌==◌}
-use Rattle.textwrap_lines.proofs.Common.{◌<◌, ◌∙◌, ◌∷◌, ◌≡◌, ◌≤◌}
-use Rattle.textwrap_text.proofs.Common.{BlanksBetween, false_from_ne_true, false≢true, length-take}
+use Rattle.textwrap_lines.proofs.Common.{without_final_blanks, IsPrintableByte, printable-width, []}
+use Rattle.textwrap_lines.proofs.Common.{length-take-le, length-append, BeforeOthers, HasNoPenalty}
+use Rattle.textwrap_lines.proofs.Common.{append_assoc, closed_width, NoCutBetween, length-slice, ap}
+use Rattle.textwrap_lines.proofs.Common.{tiled-append, IsFirstLine, IsPrintable, break_limit, arith}
+use Rattle.textwrap_lines.proofs.Common.{get_or-drop, get_or-take, later_width, length-drop, get_or}
+use Rattle.textwrap_lines.proofs.Common.{pieces_from, slice_range, trimmed_len, All-weaker, CutLine}
+use Rattle.textwrap_lines.proofs.Common.{append-nil, line_slice, lines_past, open_width, stand_from}
+use Rattle.textwrap_lines.proofs.Common.{text_limit, indent_of, no_pieces, All-head, add-zero, Bool}
+use Rattle.textwrap_lines.proofs.Common.{All-take, drop_all, Settings, WordText, front_of, is_blank}
+use Rattle.textwrap_lines.proofs.Common.{limit_at, parts_by, sizes_of, covered, line_of, word_of, ℕ}
+use Rattle.textwrap_lines.proofs.Common.{le-ltb, length, lt-ltb, false, piece, rules, subst, tiled}
+use Rattle.textwrap_lines.proofs.Common.{cond, Fits, List, refl, take, true, ◌++◌, ◌==◌, All, map}
+use Rattle.textwrap_lines.proofs.Common.{sym, ◌+◌, ◌-◌, ◌<◌, ◌∙◌, ◌∷◌, ◌≡◌, ◌≤◌}
+use Rattle.textwrap_text.proofs.Common.{false_from_ne_true, BlanksBetween, length-take}
 use Rattle.textwrap_words.proofs.Word.Texts.{trimmed-le}
 use Rattle.textwrap_base.proofs.Division.Greedy.{closed_width-push}
-use Rattle.textwrap_lines.proofs.PrintableTexts.Bytes.{BeginsWide, IsExact, open-exact}
+use Rattle.textwrap_lines.proofs.PrintableTexts.Bytes.{BeginsWide, open-exact}
 use Rattle.textwrap_lines.proofs.PrintableTexts.Pieces.{begins_narrow, begins_wide, printable-slice}
 use Rattle.textwrap_lines.proofs.PrintableTexts.Pieces.{pieces-broken, pieces-cover, pieces-exact}
 use Rattle.textwrap_lines.proofs.PrintableTexts.Pieces.{pieces-some, pieces-split, words-narrow}
@@ -36,10 +35,7 @@ use Rattle.textwrap_layout.proofs.Paragraph.Standing.{limited-words}
 pub blanks-keep : (text : List ℕ) (at width end : ℕ) → end ≤ length text
     → BlanksBetween text (at + width) end → trimmed_len (slice_range text at end) ≤ width
 blanks-keep text at width end within blanks =
-    let len = length-slice text at end within in
-    trimmed-le (slice_range text at end) width (λ k from inside.
-    ap is_blank (get_or-take (end - at) (drop at text) k 0 (omega (arith, inside, len))
-    ∙ get_or-drop at text k 0) ∙ blanks (at + k) (omega (arith, from)) (omega (arith, inside, len)))
+    search (rules, arith, length-slice, trimmed-le, get_or-take, get_or-drop)
 
 module _ (test : ℕ → Bool) where
   -- the text is not cut before its blanks either, nor behind them
@@ -47,47 +43,27 @@ module _ (test : ℕ → Bool) where
       → NoCutBetween test from (limit - 1) → past < length text → BlanksBetween text limit past
       → test past ≡ false → NoCutBetween test from past
   none-past text before from limit past none within blanks end k after up_to =
-      elim (cases_lt k limit) [
-        | inl below ↦ none k after (omega (arith, below))
-        | inr on ↦ elim (cases_lt k past) [
-          | inl inside ↦
-              false_from_ne_true (test k) (λ is.
-              false≢true (sym (before k (omega (arith, after)) (omega (arith, inside, within)) is) ∙ blanks k on inside))
-          | inr here ↦
-              let same : past ≡ k = omega (arith, here, up_to) in
-              ap test (sym same) ∙ end
-        ]
-      ]
+      search (rules, arith, false_from_ne_true)
 
   pub none-at : (place : ℕ) → test place ≡ false → NoCutBetween test (place - 1) place
-  none-at place not k after up_to =
-      let same : k ≡ place = omega (arith, after, up_to) in rw same not
+  none-at place not k after up_to = search (rules, arith)
 
   -- nor in two stretches, one after the other
   pub none-then : (from middle to : ℕ) → NoCutBetween test from middle
       → NoCutBetween test middle to → NoCutBetween test from to
-  none-then from middle to one two k after up_to = elim (cases_lt middle k) [
-    | inl later ↦ two k later up_to
-    | inr before ↦ one k after before
-  ]
+  none-then from middle to one two k after up_to = search (rules, arith)
 
 -- ---- the first line of a printable text, found by its bytes
 
 -- the first of these pieces has as many columns
 wide-first : (limit n : ℕ) (vs : List WordText) → BeginsWide limit n vs → (w : WordText)
     (ws : List WordText) → vs ≡ w ∷ ws → n ≤ w.width
-wide-first limit n vs wide w ws is =
-    let are = wide.are in
-    let same : w ≡ wide.first = cc in
-    let width = ap (λ v. v.width) same in omega (arith, width, wide.wide)
+wide-first limit n vs wide w ws is = search (rules, arith)
 
 module _ (test : ℕ → Bool) (limit width : ℕ) (text : List ℕ) (printable : IsPrintable text)
     (before : BeforeOthers test text) where
   others-front : (n : ℕ) → BeforeOthers test (take n text)
-  others-front n k some inside is =
-      let len = length-take n text in
-      ap is_blank (get_or-take n text k 0 (omega (arith, inside, len)))
-      ∙ before k some (omega (arith, inside, len)) is
+  others-front n k some inside is = search (rules, arith, length-take, get_or-take)
 
   -- a line up to a place where the text is cut, or ends
   ends_at : (at end : ℕ) → at < end → end ≤ length text → (end < length text → test end ≡ true)
@@ -126,13 +102,7 @@ module _ (test : ℕ → Bool) (limit width : ℕ) (text : List ℕ) (printable 
   pub line-all : (at : ℕ) → at < length text
       → trimmed_len (slice_range text at (length text)) ≤ width
       → IsFirstLine test limit width text at (length text) false
-  line-all at some most =
-      let n = length text in
-      ends_at at n some (omega arith) (λ inside. absurd (omega (arith, inside)))
-      (keeps at n some most) (λ w ws is.
-      let none : pieces_from test limit text n ≡ [] =
-      ap (λ l. broken_words limit (map word_of (parts_by test n l))) (drop_all n text (omega arith)) in
-      absurd (let len = ap length (sym none ∙ is) in omega (arith, len)))
+  line-all at some most = search (rules, arith, ends_at, keeps, drop_all)
 
   -- what comes before a cut keeps to the width, and what follows passes it before the next
   pub line-cut : (at end place : ℕ) → 0 < width → width ≤ limit → at < end → end ≤ place
@@ -143,18 +113,13 @@ module _ (test : ℕ → Bool) (limit width : ℕ) (text : List ℕ) (printable 
       let n = at + width + 1 - end in
       let wide = begins_wide test limit text printable end place n from inside none other
       (omega (arith, room, order)) (omega (arith, some, order)) (omega (arith, from, past)) in
-      ends_at at end some (omega (arith, from, inside)) (λ _. is) (keeps at end some most)
-      (λ w ws e. let here = wide-first limit n (pieces_from test limit text end) wide w ws e in
-      omega (arith, here, some))
+      search (rules, arith, ends_at, keeps, wide-first)
 
   -- a first word that is wider than the width, and goes on to its end
   pub line-whole : (at end : ℕ) → at + width < end → end ≤ length text → length text ≤ limit
       → NoCutBetween test at (end - 1) → (end < length text → test end ≡ true)
       → IsFirstLine test limit width text at end false
-  line-whole at end past within short none ends = ends_at at end (omega (arith, past)) within ends
-      (subst (Fits sizes_of width) (sym (one_piece test limit text printable at end
-      (omega (arith, past)) within short none)) (λ k two le. absurd (omega (arith, two, le))))
-      (λ w ws e. omega (arith, past))
+  line-whole at end past within short none ends = search (rules, arith, ends_at, one_piece)
 
 -- a first word that is broken at the width
 pub line-broken : (test : ℕ → Bool) (limit : ℕ) (text : List ℕ) (printable : IsPrintable text)
@@ -258,10 +223,7 @@ module _ (settings : Settings) (text : List ℕ) where
         arith,
         ap length (first.covers ∙ sym slice),
         length-slice text at word_end (omega (arith, order, within)),
-      ) in
-      ap (lines_at at width is_later) first.are ∙ lines-next at width is_later line others
-      (All-weaker IsExact HasNoPenalty (λ w exact. exact.penalty) others exact) some first.fits
-      first.full ∙ rw (end_is, word_is, lt-ltb 0 (length line) some) refl
+      ) in search (rules, arith, lines-next, All-weaker, lt-ltb)
 
 -- ---- those lines are the lines of the settings
 

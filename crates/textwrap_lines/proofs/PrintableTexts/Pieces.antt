@@ -1,15 +1,15 @@
 -- The pieces of a text of printable ASCII, the first of them, and its words, split.
-use Rattle.textwrap_lines.proofs.Common.{IsPrintableByte, take-append-drop, without_final_blanks, ℕ}
-use Rattle.textwrap_lines.proofs.Common.{BeforeOthers, IsPrintable, length-take-le, printable-width}
-use Rattle.textwrap_lines.proofs.Common.{[], broken_words, HasNoPenalty, length-slice, NoCutBetween}
-use Rattle.textwrap_lines.proofs.Common.{broken_word, get_or-drop, get_or-take, IsUtf8, length-drop}
-use Rattle.textwrap_lines.proofs.Common.{get_or, pieces_from, slice_range, split_words, trimmed_len}
-use Rattle.textwrap_lines.proofs.Common.{All, All-drop, All-take, All-weaker, is_cut_by, IsMeasured}
+use Rattle.textwrap_lines.proofs.Common.{without_final_blanks, take-append-drop, IsPrintableByte, ℕ}
+use Rattle.textwrap_lines.proofs.Common.{printable-width, length-take-le, BeforeOthers, IsPrintable}
+use Rattle.textwrap_lines.proofs.Common.{broken_words, HasNoPenalty, length-slice, NoCutBetween, []}
+use Rattle.textwrap_lines.proofs.Common.{broken_word, get_or-drop, get_or-take, length-drop, IsUtf8}
+use Rattle.textwrap_lines.proofs.Common.{pieces_from, slice_range, split_words, trimmed_len, get_or}
+use Rattle.textwrap_lines.proofs.Common.{All-weaker, IsMeasured, is_cut_by, All-drop, All-take, All}
 use Rattle.textwrap_lines.proofs.Common.{AreTexts, cases_lt, drop_all, is_blank, Splitter, WordText}
-use Rattle.textwrap_lines.proofs.Common.{Bool, covered, le-ltb, length, parts_by, sizes_of, word_of}
-use Rattle.textwrap_lines.proofs.Common.{arith, drop, false, Fits, List, piece, refl, subst, tiled}
-use Rattle.textwrap_lines.proofs.Common.{inl, inr, map, suc, sym, take, true, zero, ◌++◌, ◌+◌, ◌||◌}
-use Rattle.textwrap_lines.proofs.Common.{ap, ◌-◌, ◌<◌, ◌∙◌, ◌∷◌, ◌≡◌, ◌≢◌, ◌≤◌}
+use Rattle.textwrap_lines.proofs.Common.{parts_by, sizes_of, covered, word_of, le-ltb, length, Bool}
+use Rattle.textwrap_lines.proofs.Common.{rules, arith, false, piece, subst, tiled, drop, Fits, List}
+use Rattle.textwrap_lines.proofs.Common.{refl, take, true, zero, ◌++◌, ◌||◌, inl, inr, map, suc, ap}
+use Rattle.textwrap_lines.proofs.Common.{sym, ◌+◌, ◌-◌, ◌<◌, ◌∙◌, ◌∷◌, ◌≡◌, ◌≢◌, ◌≤◌}
 use Rattle.textwrap_text.proofs.Common.{All-map, and_right, flat_map-append, map-append}
 use Rattle.textwrap_words.proofs.Common.{split_word}
 use Rattle.textwrap_words.specs.PieceCuts.{is_point, IsPart}
@@ -98,8 +98,7 @@ module _ (test : ℕ → Bool) (limit : ℕ) (text : List ℕ) (printable : IsPr
     -- a text that keeps to the width fits one line
     pub pieces-fit : (width : ℕ) → trimmed_len rest ≤ width → Fits sizes_of width pieces
     pieces-fit width keeps =
-        let len = length-take-le (trimmed_len rest) rest (omega arith) in
-        Fits-exact width pieces pieces-exact (omega (arith, len, ap length pieces-cover, keeps))
+        search (rules, arith, length-take-le, Fits-exact, pieces-exact, pieces-cover)
 
 pub words-texts : (test : ℕ → Bool) (text : List ℕ) → IsPrintable text
     → AreTexts text (map word_of (parts_by test 0 text))
@@ -110,8 +109,7 @@ words-texts test text printable = record {
 }
 
 pub printable-slice : (text : List ℕ) (i j : ℕ) → IsPrintable text → IsPrintable (slice_range text i j)
-printable-slice text i j printable =
-    All-take IsPrintableByte (j - i) (drop i text) (All-drop IsPrintableByte i text printable)
+printable-slice text i j printable = search (rules, arith, All-take, All-drop)
 
 -- ---- the pieces that a printable text begins with
 
@@ -122,9 +120,7 @@ past-byte text at place end from before within other =
     let k = place - at in
     let here : at + k ≡ place = omega (arith, from) in
     let len = length-slice text at end within in
-    trimmed-past (slice_range text at end) k (omega (arith, len, from, before))
-    (ap is_blank (get_or-take (end - at) (drop at text) k 0 (omega (arith, from, before))
-    ∙ get_or-drop at text k 0 ∙ ap (λ n. get_or text n 0) here) ∙ other)
+    search (rules, arith, trimmed-past, get_or-take, get_or-drop)
 
 -- the word of a printable part has as many columns as bytes
 pub word-width : (part : List ℕ) → IsPrintable part → (word_of part).width ≡ trimmed_len part
@@ -172,25 +168,14 @@ module _ (test : ℕ → Bool) (limit : ℕ) (text : List ℕ) (printable : IsPr
   -- the first piece of any text
   pub begins_narrow : (at : ℕ) → at < length text → 0 < limit
       → BeginsWide limit 0 (pieces_from test limit text at)
-  begins_narrow at inside room = begins_first at at 0 (omega arith) inside
-      (λ k from to. absurd (omega (arith, from, to))) room (omega arith)
-      (λ end past within. omega arith)
+  begins_narrow at inside room = search (rules, arith, begins_first)
 
   -- a part that keeps to the limit is one piece
   pub one_piece : (at end : ℕ) → at < end → end ≤ length text → length text ≤ limit
       → NoCutBetween test at (end - 1)
       → pieces_from test limit (take end text) at ≡ word_of (slice_range text at end) ∷ []
   one_piece at end some within short none =
-      let part = slice_range text at end in
-      let w = word_of part in
-      let width = word-width part (printable-slice text at end printable) in
-      let len = length-slice text at end within in
-      rw (
-        front-slice text at end (omega (arith, some)),
-        parts_by-whole test part at (omega (arith, len, some))
-            (λ k from inside. none (at + k) (omega (arith, from)) (omega (arith, inside, len))),
-        le-ltb limit w.width (omega (arith, width, len, within, short)),
-      ) refl
+      grind (arith, word-width, printable-slice, length-slice, front-slice, parts_by-whole, le-ltb)
 
   -- a first word that is broken at the limit
   pub pieces-broken : (at place : ℕ) → at + limit ≤ place → place < length text
@@ -217,11 +202,7 @@ module _ (test : ℕ → Bool) (limit : ℕ) (text : List ℕ) (printable : IsPr
       let first = broken-front limit front back
       (subst IsPrintable whole (printable-slice text at end printable)) room (omega (arith, len))
       (omega (arith, past-byte text middle place end from past within other)) in
-      rw (
-        parts-front test text at end found.part,
-        whole,
-        parts-front test text middle end rest,
-      ) (ap (λ ws. ws ++ pieces_from test limit text end) first)
+      search (rules, arith, parts-front)
 
 -- ---- the words of a printable text, split by a splitter, are its parts where it is cut by both
 

@@ -47,8 +47,7 @@ pub groups-all : (Keeps : LineParts → Type 0) (is_later : Bool) (paragraphs : 
     (groups : List (List LineParts))
     → AreGroups (λ is_later paragraph parts. All Keeps parts) is_later paragraphs groups
     → All Keeps (flat_map (λ ps. ps) groups)
-groups-all Keeps is_later [] groups are =
-    subst (λ gs. All Keeps (flat_map (λ ps. ps) gs)) (sym are) (All-nil Keeps)
+groups-all Keeps is_later [] groups are = search (rules, arith, All-nil)
 groups-all Keeps is_later (paragraph ∷ paragraphs) [] are = absurd are
 groups-all Keeps is_later (paragraph ∷ paragraphs) (parts ∷ groups) are =
     All-append Keeps parts (flat_map (λ ps. ps) groups) are.0
@@ -58,8 +57,7 @@ AreIndented-append : (settings : Settings) (is_later : Bool) (parts others : Lis
     → AreIndented settings is_later parts
     → AreIndented settings (is_later || nat_lt 0 (length parts)) others
     → AreIndented settings is_later (parts ++ others)
-AreIndented-append settings is_later [] others here after =
-    subst (λ b. AreIndented settings b others) (or_false is_later) after
+AreIndented-append settings is_later [] others here after = search (rules, arith, or_false)
 AreIndented-append settings is_later (p ∷ parts) others here after = (
   here.0,
   AreIndented-append settings true parts others here.1
@@ -70,8 +68,7 @@ pub groups-indented : (settings : Settings) (is_later : Bool) (paragraphs : List
     (groups : List (List LineParts))
     → AreGroups (λ is_later paragraph parts. AreIndented settings is_later parts) is_later
     paragraphs groups → AreIndented settings is_later (flat groups)
-groups-indented settings is_later [] groups are =
-    subst (λ gs. AreIndented settings is_later (flat gs)) (sym are) tt
+groups-indented settings is_later [] groups are = search (rules, arith)
 groups-indented settings is_later (paragraph ∷ paragraphs) [] are = absurd are
 groups-indented settings is_later (paragraph ∷ paragraphs) (parts ∷ groups) are =
     AreIndented-append settings is_later parts (flat groups) are.0
@@ -215,8 +212,7 @@ divided_one : {X : Type 0} (algorithm : Algorithm) (sizes : X → Sizes) (widths
     (xs : List X) (lines others : List (List X)) → AreEqualFromSecond widths
     → IsDividedBy algorithm sizes widths xs lines → IsDividedBy algorithm sizes widths xs others
     → lines ≡ others
-divided_one Greedy sizes widths xs lines others equal one other =
-    greedy_unique sizes widths xs lines others one other
+divided_one Greedy sizes widths xs lines others equal one other = grind (arith, greedy_unique)
 divided_one (LeastCost penalties) sizes widths xs lines others equal one other =
     chosen_one _ lines others (one.chosen equal) (other.chosen equal)
 
@@ -265,8 +261,7 @@ module _ (settings : Settings) (Divides : Bool → List ℕ → List (List WordT
       → MatchBool whole (other ≡ (word_of paragraph ∷ []) ∷ []) (Divides is_later paragraph other)
       → division ≡ other
   laid_out_one is_later paragraph division other true is other_is = is ∙ sym other_is
-  laid_out_one is_later paragraph division other false divided other_divided =
-      one is_later paragraph division other divided other_divided
+  laid_out_one is_later paragraph division other false divided other_divided = search (rules, arith)
 
   pub paragraph_one : (is_later : Bool) (paragraph : List ℕ) (parts others : List LineParts)
       → AreParagraphParts settings Divides is_later paragraph parts

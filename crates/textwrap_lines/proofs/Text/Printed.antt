@@ -1,18 +1,18 @@
 -- Lines as they are printed are as wide as their indents and pieces.
-use Rattle.textwrap_lines.proofs.Common.{AreParagraphParts, ArePrintedWithin, paragraphs_of-utf8, ℕ}
-use Rattle.textwrap_lines.proofs.Common.{AreGroups, AreTexts-words, CanKeepToWidth, printable-width}
-use Rattle.textwrap_lines.proofs.Common.{All-weaker, assembled_line, ends_in_hyphen, laid_out-cases}
+use Rattle.textwrap_lines.proofs.Common.{paragraphs_of-utf8, AreParagraphParts, ArePrintedWithin, ℕ}
+use Rattle.textwrap_lines.proofs.Common.{printable-width, AreTexts-words, CanKeepToWidth, AreGroups}
+use Rattle.textwrap_lines.proofs.Common.{assembled_line, ends_in_hyphen, laid_out-cases, All-weaker}
 use Rattle.textwrap_lines.proofs.Common.{chars-IsAscii, IsDividedInto, paragraphs_of, tiled-word_of}
-use Rattle.textwrap_lines.proofs.Common.{[], append_assoc, AreTextLines, HasNoPenalty, KeepsToWidth}
-use Rattle.textwrap_lines.proofs.Common.{arith, closed_width, first_width, IsDividedBy, IsPrintable}
-use Rattle.textwrap_lines.proofs.Common.{append-nil, ArePoints, AreWordsOf, IsMeasured, pieces-tile}
-use Rattle.textwrap_lines.proofs.Common.{DividesAs, line_bytes, LineParts, MatchBool, parts_from}
-use Rattle.textwrap_lines.proofs.Common.{All-cons, all-right, Bool, indent_of, line_from, widths_of}
-use Rattle.textwrap_lines.proofs.Common.{All-head, All-tail, AreTexts, Settings, Splitter, WordText}
-use Rattle.textwrap_lines.proofs.Common.{all-left, All-nil, AreCuts, is_whole, parts_of, sizes_of}
-use Rattle.textwrap_lines.proofs.Common.{ap, covered, false, get_or, Greedy, IsUtf8, rules, word_of}
-use Rattle.textwrap_lines.proofs.Common.{cond, flat, Line, List, refl, subst, take, tiled, true}
-use Rattle.textwrap_lines.proofs.Common.{All, inl, inr, sym, ◌++◌, ◌+◌, ◌∙◌, ◌∷◌, ◌≡◌, ◌≢◌}
+use Rattle.textwrap_lines.proofs.Common.{append_assoc, AreTextLines, HasNoPenalty, KeepsToWidth, []}
+use Rattle.textwrap_lines.proofs.Common.{closed_width, first_width, IsDividedBy, IsPrintable, arith}
+use Rattle.textwrap_lines.proofs.Common.{pieces-tile, append-nil, IsMeasured, line_bytes, DividesAs}
+use Rattle.textwrap_lines.proofs.Common.{parts_from, LineParts, MatchBool, all-right, indent_of, ap}
+use Rattle.textwrap_lines.proofs.Common.{line_from, widths_of, All-cons, All-head, All-tail, Greedy}
+use Rattle.textwrap_lines.proofs.Common.{AreTexts, Settings, Splitter, WordText, all-left, is_whole}
+use Rattle.textwrap_lines.proofs.Common.{parts_of, sizes_of, All-nil, AreCuts, covered, word_of}
+use Rattle.textwrap_lines.proofs.Common.{IsUtf8, false, rules, subst, tiled, Bool, cond, flat, Line}
+use Rattle.textwrap_lines.proofs.Common.{List, refl, take, true, ◌++◌, All, inl, inr, sym, ◌+◌, ◌∙◌}
+use Rattle.textwrap_lines.proofs.Common.{◌∷◌, ◌≡◌, ◌≢◌}
 use Rattle.textwrap_text.proofs.Common.{chars-nil, eqb-true, text_width, ◌⊎◌}
 use Rattle.textwrap_text.specs.Units.{escape}
 use Rattle.std.specs.Prelude.{chars}
@@ -153,9 +153,7 @@ module _ (settings : Settings) (Words : List ℕ → List WordText → Type 0)
 
   division-whole : (widths : List ℕ) (pieces : List WordText) (division : List (List WordText))
       → Lines widths pieces division → flat division ≡ pieces
-  division-whole widths pieces division divided =
-      IsDividedBy-whole sizes_of Greedy widths pieces division
-      (greedy widths pieces division divided)
+  division-whole widths pieces division divided = search (rules, arith, IsDividedBy-whole)
 
   division-pieces : (is_later : Bool) (paragraph : List ℕ) (division : List (List WordText))
       → IsUtf8 paragraph
@@ -201,8 +199,7 @@ module _ (settings : Settings) (Words : List ℕ → List WordText → Type 0)
         let printed = subst (All PrintsAsMeasured) (sym is)
         (search (rules, arith, lines-printed)) in
         let keeps = paragraph-even settings Words Points Lines texts cuts hyphens greedy can.breaks
-        is_later own paragraph parts utf8 (division, laid_out, is) in
-        λ k d lt. within (get_or parts k d) (keeps k d lt) (printed k d lt)
+        is_later own paragraph parts utf8 (division, laid_out, is) in search (rules, arith, within)
 
     -- one paragraph, or even ones
     groups-within : (paragraphs : List (List ℕ)) (groups : List (List LineParts))
@@ -246,6 +243,4 @@ pub ArePrintedWithin-from : (settings : Settings) (splitter : Splitter) (text : 
     → AreTextLines settings (DividesAs splitter Greedy settings) text lines
     → ArePrintedWithin settings (DividesAs splitter Greedy settings) text lines
 ArePrintedWithin-from settings splitter =
-    ArePrintedWithin-by settings AreWordsOf (ArePoints splitter) (IsDividedBy Greedy sizes_of)
-    AreTexts-words (ArePoints-cuts splitter) (ArePoints-hyphens splitter)
-    (λ widths pieces division divided. divided)
+    search (rules, arith, ArePrintedWithin-by, AreTexts-words, ArePoints-cuts, ArePoints-hyphens)

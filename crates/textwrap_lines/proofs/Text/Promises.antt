@@ -1,15 +1,15 @@
 -- What `wrap` promises, by what the lines of each paragraph keep to.
-use Rattle.textwrap_lines.proofs.Common.{ArePrintedWithin, AreTexts-words, Bool, paragraphs_of-utf8}
-use Rattle.textwrap_lines.proofs.Common.{algorithm_view, AreWordsOf, CanKeepToWidth, ends_in_hyphen}
+use Rattle.textwrap_lines.proofs.Common.{paragraphs_of-utf8, ArePrintedWithin, AreTexts-words, Bool}
+use Rattle.textwrap_lines.proofs.Common.{algorithm_view, CanKeepToWidth, ends_in_hyphen, AreWordsOf}
 use Rattle.textwrap_lines.proofs.Common.{IsDividedInto, paragraphs_of, settings_view, splitter_view}
-use Rattle.textwrap_lines.proofs.Common.{[], AreTextLines, ending_bytes, KeepsToWidth, KeepToWidths}
-use Rattle.textwrap_lines.proofs.Common.{AreCuts, IsDividedBy, MaySeparate, pieces-tile, StartsWith}
-use Rattle.textwrap_lines.proofs.Common.{Algorithm, append-nil, ArePoints, DividesAs, length-map, ℕ}
-use Rattle.textwrap_lines.proofs.Common.{All, DividesBy, LeastCost, line_from, MayDivide, widths_of}
-use Rattle.textwrap_lines.proofs.Common.{AreTexts, MaySplit, Settings, sizes_of, Splitter, WordText}
-use Rattle.textwrap_lines.proofs.Common.{arith, false, Greedy, IsUtf8, length, Option, rules, subst}
-use Rattle.textwrap_lines.proofs.Common.{flat, Line, List, None, refl, Some, sym, take, tiled, true}
-use Rattle.textwrap_lines.proofs.Common.{ap, ◌<◌, ◌∙◌, ◌≡◌, ◌≢◌}
+use Rattle.textwrap_lines.proofs.Common.{AreTextLines, ending_bytes, KeepsToWidth, KeepToWidths, []}
+use Rattle.textwrap_lines.proofs.Common.{IsDividedBy, MaySeparate, pieces-tile, StartsWith, AreCuts}
+use Rattle.textwrap_lines.proofs.Common.{append-nil, length-map, Algorithm, ArePoints, DividesAs, ℕ}
+use Rattle.textwrap_lines.proofs.Common.{DividesBy, LeastCost, line_from, MayDivide, AreTexts, flat}
+use Rattle.textwrap_lines.proofs.Common.{MaySplit, Settings, sizes_of, Splitter, WordText, Greedy}
+use Rattle.textwrap_lines.proofs.Common.{IsUtf8, length, Option, arith, false, rules, subst, tiled}
+use Rattle.textwrap_lines.proofs.Common.{Line, List, None, refl, Some, take, true, All, ◌<◌, ◌≡◌}
+use Rattle.textwrap_lines.proofs.Common.{◌≢◌, ap}
 use Rattle.textwrap_text.proofs.Common.{starts_with_of_append}
 use Rattle.textwrap_layout.proofs.Common.{IsWrapped, LinesKeepToWidth}
 use Rattle.textwrap_layout.specs.declared.options.Options.{Options}
@@ -47,16 +47,14 @@ module _ (settings : Settings) (Words : List ℕ → List WordText → Type 0)
         → IsUtf8 paragraph → Divides settings Words Points Lines is_later paragraph division
         → tiled (flat division) ≡ paragraph
     divided-tile whole is_later paragraph division utf8 (pieces, are, divided) =
-        ap tiled (whole (widths_of settings is_later) pieces division divided)
-        ∙ pieces-tile settings Words Points texts cuts paragraph pieces utf8 are
+        grind (arith, pieces-tile settings Words Points texts cuts paragraph pieces utf8 are)
 
     divided-starts : (is_later : Bool) (paragraph : List ℕ) (division : List (List WordText))
         → IsUtf8 paragraph → Divides settings Words Points Lines is_later paragraph division
         → StartsWith paragraph (tiled (flat division))
     divided-starts is_later paragraph division utf8 divided =
         let (rest, is) = divided-begin settings Words Points texts cuts Lines begins is_later
-        paragraph division utf8 divided in
-        starts_with_of_append paragraph (tiled (flat division)) rest (sym is)
+        paragraph division utf8 divided in search (rules, arith, starts_with_of_append)
 
     -- what is promised where the splitter and the algorithm are built in
     pub IsWrapped-by : (splitter : Option Splitter) (algorithm : Option Algorithm)

@@ -1,5 +1,5 @@
-use Rattle.textwrap_lines.proofs.filling.fill.Goals as goal
 use Rattle.textwrap_lines.proofs.Common.{IfOk-weaker}
+use Rattle.textwrap_lines.proofs.filling.fill.Goals as goal
 use Rattle.textwrap_layout.proofs.Paragraph.Pieces.{filled-as}
 
 pub returns-clause-built_in : goal.returns-clause-built_in

@@ -1,6 +1,5 @@
+use Rattle.textwrap_lines.proofs.Common.{arith, rules}
 use Rattle.textwrap_lines.proofs.filling.fill_slow_path.Goals as goal
-use Rattle.textwrap_lines.proofs.Common.{ending_bytes, join_with, line_bytes, line_view, lines_of}
-use Rattle.textwrap_lines.proofs.Common.{ap, map, rules, ◌∙◌}
 use Rattle.textwrap_layout.proofs.Paragraph.Pieces.{filled-as}
 use Rattle.textwrap_lines.proofs.Paragraph.KeepsTo.{passed-on}
 
@@ -11,15 +10,8 @@ returns-in_err-push_text-clause-only_memory g c = λ never.
 
 pub returns-clause-filled : goal.returns-clause-filled
 returns-clause-filled g c =
-    let (taken, are, end, holds) = c.in_ok-push_text.ensures.lines in (
-      lines_of taken,
-      are.are,
-      c.in_ok-join_lines.ensures
-          ∙ ap (λ ls. join_with (ending_bytes c.args.options.line_ending) (map line_bytes ls))
-          (ap (map line_view) c.deref.ensures.value ∙ (search rules ∙ holds)),
-    )
+    let (taken, are, end, holds) = c.in_ok-push_text.ensures.lines in
+    search (rules, arith, c.in_ok-join_lines.ensures, c.deref.ensures.value)
 
 pub returns-clause-built_in : goal.returns-clause-built_in
-returns-clause-built_in g c = λ settings splitter algorithm parts.
-    filled-as c.args.options settings splitter algorithm parts c.args.text.now _
-    (returns-clause-filled g c)
+returns-clause-built_in g c = search (rules, arith, filled-as, returns-clause-filled)

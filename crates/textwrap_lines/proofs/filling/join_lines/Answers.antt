@@ -1,6 +1,6 @@
+use Rattle.textwrap_lines.proofs.Common.{ending_bytes, string_bytes, line_bytes, join_with, arith}
+use Rattle.textwrap_lines.proofs.Common.{line_view, take, ◌++◌, map, sym, ◌∙◌, ◌≡◌, ap}
 use Rattle.textwrap_lines.proofs.filling.join_lines.Goals as goal
-use Rattle.textwrap_lines.proofs.Common.{arith, ending_bytes, join_with, line_bytes, string_bytes}
-use Rattle.textwrap_lines.proofs.Common.{ap, line_view, map, sym, take, ◌++◌, ◌∙◌, ◌≡◌}
 use Rattle.textwrap_layout.proofs.Text.Lines.{join-take_first, join-take_more}
 
 pub loop-i-preserved : goal.loop-i-preserved

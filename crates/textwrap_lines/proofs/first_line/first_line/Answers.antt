@@ -1,5 +1,5 @@
+use Rattle.textwrap_lines.proofs.Common.{IsCharBoundary-start, frame_settings, as_splitter, arith}
 use Rattle.textwrap_lines.proofs.first_line.first_line.Goals as goal
-use Rattle.textwrap_lines.proofs.Common.{arith, as_splitter, frame_settings, IsCharBoundary-start}
 use Rattle.textwrap_lines.proofs.PieceLines.{goes_on-start}
 
 pub at-line-requires : goal.at-line-requires

@@ -1,5 +1,5 @@
-use Rattle.textwrap_lines.proofs.laws.lines_are_unique.Goals as goal
 use Rattle.textwrap_lines.proofs.Common.{DividesAs}
+use Rattle.textwrap_lines.proofs.laws.lines_are_unique.Goals as goal
 use Rattle.textwrap_lines.proofs.Text.Groups.{divided_parts_one, division_one, paragraph_one}
 use Rattle.textwrap_lines.proofs.Text.Groups.{filled_one, text_one}
 

@@ -1,5 +1,5 @@
-use Rattle.textwrap_lines.proofs.laws.text_lines_are_wrapped.Goals as goal
 use Rattle.textwrap_lines.proofs.Common.{AreTexts-words, AreWordsOf}
+use Rattle.textwrap_lines.proofs.laws.text_lines_are_wrapped.Goals as goal
 use Rattle.textwrap_lines.proofs.Text.Printed.{ArePrintedWithin-from}
 use Rattle.textwrap_lines.proofs.Text.Promises.{IsWrapped-parts, LinesKeepToWidth-from}
 

@@ -1,10 +1,10 @@
+use Rattle.textwrap_lines.proofs.Common.{IsCharBoundary-start, words_cut-texts, HasTaken-start, sym}
+use Rattle.textwrap_lines.proofs.Common.{frame_settings, HasTaken-next, left_standing, HasTaken-end}
+use Rattle.textwrap_lines.proofs.Common.{on_ok_weaker, as_splitter, frame_lines, later_width, rules}
+use Rattle.textwrap_lines.proofs.Common.{line_so_far, lines_past, stand_from, with_piece, LineSoFar}
+use Rattle.textwrap_lines.proofs.Common.{no_pieces, words_cut, cuts_of, arith, subst, refl, Took}
+use Rattle.textwrap_lines.proofs.Common.{◌∙◌, ◌≡◌, [], ap}
 use Rattle.textwrap_lines.proofs.piece_lines.push_lines_by_pieces.Goals as goal
-use Rattle.textwrap_lines.proofs.Common.{HasTaken-start, IsCharBoundary-start, sym, words_cut-texts}
-use Rattle.textwrap_lines.proofs.Common.{frame_settings, HasTaken-end, HasTaken-next, left_standing}
-use Rattle.textwrap_lines.proofs.Common.{as_splitter, frame_lines, later_width, on_ok_weaker, subst}
-use Rattle.textwrap_lines.proofs.Common.{line_so_far, lines_past, LineSoFar, stand_from, with_piece}
-use Rattle.textwrap_lines.proofs.Common.{cuts_of, HasTaken, no_pieces, refl, Took, words_cut, ◌∙◌}
-use Rattle.textwrap_lines.proofs.Common.{[], ap, ◌≡◌}
 use Rattle.textwrap_layout.specs.Direct.{pieces_cut}
 use Rattle.textwrap_lines.proofs.PieceLines.{AllCome, lines-greedy, pieces-come}
 
@@ -44,34 +44,16 @@ loop-piece-preserved g c =
     let come = (subst (AllCome here.text here.bounds.end) c.in-Some.ensures.steps
     c.loop-piece.invariant.come).1 in
     let taken = rw c.in-Some.ensures.steps at c.loop-piece.invariant.taken in
-    elim c.if-is_past.branch [
-      | goal.then-is_past+in_ok-push_to w ↦
-          let is : line_so_far c.take.new.self ≡ next =
-          c.take.ensures ∙ ap (λ l. with_piece (line_so_far l) piece) w.line-is
-          ∙ ap (λ l. with_piece l piece) w.at-line-then-is_past.ensures
-          ∙ ap (λ n. with_piece (no_pieces here.text here.bounds.end n settings.subsequent_indent) piece)
-          c.args.frame.now.later in
-          rw (w.lines-is) (record {
-            taken = subst (λ l. HasTaken g.S.LineSink.holds all before w.push_to.new.lines
-                (lines_past settings l left))
-                (sym is) (HasTaken-next _ before now w.push_to.new.lines _
-                (lines_past settings next left)
-                (rw (sym c.is_past.ensures ∙ w.if-is_past.true) at taken)
-                w.in_ok-push_to.ensures.took);
-            come = subst (λ (line : LineSoFar). AllCome line.text line.bounds.end left) (sym is) come;
-            name = w.push_to.ensures.name ∙ c.loop-piece.invariant.name;
-          })
-      | goal.else-is_past w ↦
-          let is : line_so_far c.take.new.self ≡ with_piece here piece =
-          c.take.ensures ∙ ap (λ l. with_piece (line_so_far l) piece) w.line-is in
-          rw (w.lines-is) (record {
-            taken = subst (λ l. HasTaken g.S.LineSink.holds all before now
-                (lines_past settings l left)) (sym is)
-                (rw (sym c.is_past.ensures ∙ w.if-is_past.false) at taken);
-            come = subst (λ (line : LineSoFar). AllCome line.text line.bounds.end left) (sym is) come;
-            name = c.loop-piece.invariant.name;
-          })
-    ]
+    search (
+      rules,
+      arith,
+      no_pieces,
+      HasTaken-next,
+      c.if-is_past.branch,
+      c.take.ensures,
+      c.is_past.ensures,
+      c.loop-piece.invariant.name,
+    )
 
 pub returns-clause-took : goal.returns-clause-took
 returns-clause-took g c =

@@ -1,5 +1,5 @@
+use Rattle.textwrap_lines.proofs.Common.{places_of, lines_of, rules, map, ◌∙◌, ap}
 use Rattle.textwrap_lines.proofs.placed.place_into.Goals as goal
-use Rattle.textwrap_lines.proofs.Common.{ap, lines_of, map, places_of, rules, ◌∙◌}
 use Rattle.textwrap_text.specs.LentText.{written_over}
 use Rattle.textwrap_layout.proofs.Common.{built_text}
 use Rattle.textwrap_layout.specs.LentPlaces.{reported_line}

@@ -1,5 +1,5 @@
-use Rattle.textwrap_lines.proofs.placed.place_lines.Goals as goal
 use Rattle.textwrap_lines.proofs.Common.{IfOk-weaker}
+use Rattle.textwrap_lines.proofs.placed.place_lines.Goals as goal
 use Rattle.textwrap_layout.proofs.Paragraph.Pieces.{placed-as}
 
 pub returns-clause-built_in : goal.returns-clause-built_in

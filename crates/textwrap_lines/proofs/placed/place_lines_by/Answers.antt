@@ -1,5 +1,5 @@
+use Rattle.textwrap_lines.proofs.Common.{places_of, lines_of, ◌∙◌, ap}
 use Rattle.textwrap_lines.proofs.placed.place_lines_by.Goals as goal
-use Rattle.textwrap_lines.proofs.Common.{ap, lines_of, places_of, ◌∙◌}
 
 pub returns-clause-lines : goal.returns-clause-lines
 returns-clause-lines g c =

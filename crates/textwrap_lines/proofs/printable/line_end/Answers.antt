@@ -1,7 +1,7 @@
+use Rattle.textwrap_lines.proofs.Common.{length-slice, NoCutBetween, as_splitter, is_cut_by, length}
+use Rattle.textwrap_lines.proofs.Common.{limit_at, rules, arith, false, Bool, true, sym, ◌+◌, ◌-◌}
+use Rattle.textwrap_lines.proofs.Common.{◌<◌, ◌^◌, ◌∙◌, ◌≡◌, ◌≤◌, ℕ}
 use Rattle.textwrap_lines.proofs.printable.line_end.Goals as goal
-use Rattle.textwrap_lines.proofs.Common.{as_splitter, is_cut_by, length, length-slice, NoCutBetween}
-use Rattle.textwrap_lines.proofs.Common.{arith, Bool, false, limit_at, sym, true, ℕ, ◌+◌, ◌-◌, ◌<◌}
-use Rattle.textwrap_lines.proofs.Common.{◌^◌, ◌∙◌, ◌≡◌, ◌≤◌}
 use Rattle.textwrap_text.proofs.Common.{ne_eqb}
 use Rattle.textwrap_lines.proofs.printable.line_end.Goals.{After-last_cut-cut}
 use Rattle.textwrap_layout.proofs.Paragraph.LeftOff.{cut_by-others}
@@ -30,19 +30,18 @@ returns-then-past-text-clause-line g c =
     let past = c.blanks_end-past.result in
     let found = c.blanks_end-past.ensures in
     let keeps = blanks-keep text at width past found.within found.blanks in
-    elim c.then-past-text.branch [
-      | goal.then-past-text-via-then-past-text w ↦
-          let end : length text ≡ past = sym w.if-past-text.true in
-          rw end at (line-all _ (limit_at c.args.breaks width) width text c.requires.printable
-          before at c.requires.inside (rw end keeps))
-      | goal.then-past-text-via-else-past-text+then-is_cut_at w ↦
-          let inside : past < length text = omega (arith, found.within, w.if-past-text.false) in
-          line-cut _ _ width text c.requires.printable before at past past c.requires.width
-          (above c.args.breaks width c.ranges.width.fits)
-          (omega (arith, found.after, c.requires.width)) (omega arith) found.after inside
-          (sym w.is_cut_at.ensures ∙ w.if-is_cut_at.true)
-          (λ k from to. absurd (omega (arith, from, to))) (ne_eqb _ 32 (found.stops inside)) keeps
-    ]
+    search (
+      rules,
+      arith,
+      line-all,
+      line-cut,
+      above,
+      ne_eqb,
+      c.then-past-text.branch,
+      c.requires.printable,
+      c.requires.inside,
+      c.requires.width,
+    )
 
 -- the text goes on behind the blanks after the width
 inside : (g : _) (c : After-last_cut-cut g) → c.blanks_end-past.result < length c.args.text.now

@@ -1,17 +1,13 @@
+use Rattle.textwrap_lines.proofs.Common.{frame_settings, HasTaken-start, HasTaken-next, IsFirstLine}
+use Rattle.textwrap_lines.proofs.Common.{as_splitter, break_limit, later_width, slice_range, length}
+use Rattle.textwrap_lines.proofs.Common.{line_slice, is_cut_by, rules, arith, ◌≡◌, ◌≤◌}
 use Rattle.textwrap_lines.proofs.printable.push_printable_lines.Goals as goal
-use Rattle.textwrap_lines.proofs.Common.{frame_settings, HasTaken-next, HasTaken-start, IsFirstLine}
-use Rattle.textwrap_lines.proofs.Common.{as_splitter, break_limit, later_width, length, slice_range}
-use Rattle.textwrap_lines.proofs.Common.{HasTaken, is_cut_by, line_slice, refl, subst, true, ◌∙◌}
-use Rattle.textwrap_lines.proofs.Common.{◌≡◌, ◌≤◌}
 use Rattle.textwrap_lines.proofs.PrintableTexts.Lines.{lines-step}
 use Rattle.textwrap_lines.proofs.printable.push_printable_lines.Invariants.{lines_after}
 
 pub loop-at-init : goal.loop-at-init
-loop-at-init g c = record {
-  within = c.requires.start;
-  taken = (c.args.frame.now.is_later, c.args.frame.now.indented, HasTaken-start _ c.args.lines.now);
-  name = refl;
-}
+loop-at-init g c =
+    search (rules, arith, HasTaken-start, c.requires.start, c.args.frame.now.is_later)
 
 pub loop-at-preserved : goal.loop-at-preserved
 loop-at-preserved g c =
@@ -36,14 +32,10 @@ loop-at-preserved g c =
     let (is_later, indented, taken) = so_far.taken in
     let step = lines-step settings text test limit width at next word_end goes_on is_later
     c.requires.printable c.word_end.ensures.from c.word_end.ensures.within within slice first in
-    record {
-      within = within;
-      taken = (
-        true,
-        refl,
-        HasTaken-next all c.args.lines.now c.loop-at.lines c.push_between.new.lines _ _
-            (subst (HasTaken _ all c.args.lines.now c.loop-at.lines) step taken)
-            (rw indented at c.in_ok-push_between.ensures.took),
-      );
-      name = c.push_between.ensures.name ∙ so_far.name;
-    }
+    search (
+      rules,
+      arith,
+      HasTaken-next,
+      c.in_ok-push_between.ensures.took,
+      c.push_between.ensures.name,
+    )

@@ -1,6 +1,6 @@
+use Rattle.textwrap_lines.proofs.Common.{IfOk-weaker, StartsWith, word_view, flat_map, rules, arith}
+use Rattle.textwrap_lines.proofs.Common.{subst, tiled, flat, List, Word, ◌++◌, Bor, map, ◌∙◌, ap}
 use Rattle.textwrap_lines.proofs.steps.division_at.Goals as goal
-use Rattle.textwrap_lines.proofs.Common.{flat_map, IfOk-weaker, StartsWith, subst, tiled, word_view}
-use Rattle.textwrap_lines.proofs.Common.{ap, Bor, flat, List, map, sym, Word, ◌++◌, ◌∙◌}
 use Rattle.std.proofs.lemmas.Simd.{map-map}
 use Rattle.textwrap_layout.proofs.Paragraph.Widths.{lines-begin}
 use Rattle.textwrap_words.proofs.Word.Divisions.{lines_from-begin, lines_from-map}
@@ -14,8 +14,5 @@ returns-clause-begins g c =
     (ap (λ lines. flat lines ++ rest) are ∙ is))) c.lines_between.ensures.lines
 
 pub returns-clause-lines : goal.returns-clause-lines
-returns-clause-lines g c = IfOk-weaker c.lines_between.result _ _
-    (λ division are.
-    sym (map-map (map word_view) (λ (line : Bor (List Word)). line.now) division.items)
-    ∙ ap (map (map word_view)) are
-    ∙ lines_from-map word_view c.args.pieces.now 0 c.args.ends.now) c.lines_between.ensures.lines
+returns-clause-lines g c =
+    search (rules, arith, map-map, lines_from-map, c.lines_between.ensures.lines)

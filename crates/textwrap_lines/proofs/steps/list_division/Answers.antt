@@ -1,7 +1,7 @@
+use Rattle.textwrap_lines.proofs.Common.{lines_of-cut_lines, lines_of-more, settings_view, arith}
+use Rattle.textwrap_lines.proofs.Common.{parts_from, cut_lines, line_from, line_view, word_view, []}
+use Rattle.textwrap_lines.proofs.Common.{rules, map, ◌∙◌, ◌≡◌, ap}
 use Rattle.textwrap_lines.proofs.steps.list_division.Goals as goal
-use Rattle.textwrap_lines.proofs.Common.{lines_of-cut_lines, lines_of-more, rules, settings_view}
-use Rattle.textwrap_lines.proofs.Common.{[], cut_lines, line_from, line_view, parts_from, word_view}
-use Rattle.textwrap_lines.proofs.Common.{ap, map, ◌∙◌, ◌≡◌}
 
 pub returns : goal.returns
 returns g c =
@@ -12,5 +12,4 @@ returns g c =
     (rw (c.at-frame.ensures.layout, c.at-frame.ensures.later, c.of.ensures) at took).held
     c.push_lines.new.lines 0 []
     (ap (map line_view) c.new-list.ensures.items) ∙ lines_of-more [] 0 (cut_lines 0 parts)
-    ∙ lines_of-cut_lines 0 parts in
-    search rules ∙ are
+    ∙ lines_of-cut_lines 0 parts in search (rules, arith)

@@ -1,19 +1,16 @@
+use Rattle.textwrap_lines.proofs.Common.{settings_view, pieces-tile, word_view, AreTexts, WordText}
+use Rattle.textwrap_lines.proofs.Common.{split_at, AreCuts, word_of, IsUtf8, rules, arith, subst, ℕ}
+use Rattle.textwrap_lines.proofs.Common.{List, refl, map, sym}
 use Rattle.textwrap_lines.proofs.steps.pieces_at.Goals as goal
-use Rattle.textwrap_lines.proofs.Common.{AreTexts, pieces-tile, settings_view, word_view, WordText}
-use Rattle.textwrap_lines.proofs.Common.{AreCuts, IsUtf8, List, map, refl, split_at, subst, word_of}
-use Rattle.textwrap_lines.proofs.Common.{ap, sym, ℕ, ◌∙◌}
 use Rattle.textwrap_words.proofs.Common.{parts_between}
 use Rattle.textwrap_words.proofs.Word.Cuts.{inner-cuts}
 use Rattle.textwrap_words.proofs.Word.Parts.{parts-texts, parts_between-tile}
 use Rattle.textwrap_layout.proofs.Common.{IfOk-weaker}
-use Rattle.textwrap_layout.specs.Paragraph.{broken_pieces_of}
 use Rattle.textwrap_lines.specs.Steps.{AreWordsBetween}
 use Rattle.textwrap_lines.proofs.InSteps.{split_at-are}
 
 pub returns-clause-pieces : goal.returns-clause-pieces
-returns-clause-pieces g c = IfOk-weaker c.break_pieces.result _ _ (λ pieces is.
-    is ∙ ap (broken_pieces_of (settings_view c.args.options.now)) c.in_ok-split.ensures)
-    c.break_pieces.ensures
+returns-clause-pieces g c = search (rules, arith, c.in_ok-split.ensures, c.break_pieces.ensures)
 
 pub returns-clause-are : goal.returns-clause-are
 returns-clause-are g c =

@@ -1,6 +1,6 @@
-use Rattle.textwrap_lines.proofs.steps.split_at.Goals as goal
-use Rattle.textwrap_lines.proofs.Common.{ap, arith, drop_all, drop_more, split_at, tiled, word_view}
+use Rattle.textwrap_lines.proofs.Common.{drop_more, word_view, drop_all, split_at, arith, tiled, ap}
 use Rattle.textwrap_lines.proofs.Common.{map, ◌∙◌, ◌∷◌}
+use Rattle.textwrap_lines.proofs.steps.split_at.Goals as goal
 use Rattle.std.proofs.lemmas.List.Sorted.{IsNonDecreasingBy-drop}
 use Rattle.textwrap_words.specs.Cuts.{IsNextCut}
 use Rattle.textwrap_words.proofs.Word.Cuts.{inner-cuts, next-in_order}

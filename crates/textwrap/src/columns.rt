@@ -1,6 +1,6 @@
 //! A text in columns beside one another.
-ghost use Rattle.std.specs.Prelude.{◌≡◌, ◌+◌, ◌-◌, ◌*◌, ◌≤◌, List, length, map, alloc_error};
-ghost use Rattle.std.specs.Prelude.{string_bytes, IfOk, IfErr, min};
+ghost use Rattle.std.specs.Prelude.{◌≡◌, ◌+◌, ◌-◌, ◌*◌, ◌≤◌, List, length, map};
+ghost use Rattle.std.specs.Prelude.{string_bytes, IfOk, min};
 ghost use Rattle.textwrap.specs.Columns.{inner_width, layout_of, layout_view, table_rows};
 ghost use Rattle.textwrap.specs.Columns.{IsInColumns};
 ghost use Rattle.textwrap.specs.Columns.{at_column_width};
@@ -14,6 +14,7 @@ ghost use Rattle.textwrap_layout.specs.Text.{SomeMayPass64BitsUnder};
 ghost use Rattle.textwrap_words.specs.Pieces.{as_splitter};
 ghost use Rattle.textwrap_words.specs.WordSplitters.{Splitter};
 ghost use Rattle.textwrap_words.specs.WrapAlgorithms.{Algorithm};
+ghost use Rattle.textwrap_base.specs.Errors.{OnlyMemoryRunsOut};
 
 use crate::rows::{RowCell, RowCells, RowFrame, line_at, push_rows};
 use crate::words::display_width;
@@ -107,12 +108,11 @@ pub fn wrap_columns<A: Allocator + Copy>(
         → HasParts options.entry settings splitter algorithm → IsInColumns settings
         (DividesAs splitter algorithm) columns text.now left_gap.now middle_gap.now right_gap.now
         (map string_bytes rows.items)) }
-    ensures only_memory { ¬ MayOverflow options.entry
-        → IfErr result (λ error. error ≡ WrapError.Memory alloc_error) }
+    ensures only_memory { ¬ MayOverflow options.entry → OnlyMemoryRunsOut result }
     // Overflow only where a paragraph may have pieces that pass 64 bits together.
     ensures no_overflow { ¬ SomeMayPass64BitsUnder options.entry (at_column_width
         (settings_view options.entry) columns left_gap.now middle_gap.now right_gap.now) text.now
-        → IfErr result (λ error. error ≡ WrapError.Memory alloc_error) }
+        → OnlyMemoryRunsOut result }
 {
     let table = Table::new(columns, options.width, left_gap, middle_gap, right_gap);
     wrap_in_table(alloc, text, &table, &options.width(table.column_width))
@@ -136,7 +136,7 @@ pub fn wrap_columns_built_in<A: Allocator + Copy, W: PrintableCuts + Copy>(
         (DividesAt (W.words options.now.words) (as_splitter options.now.parts.splitter)
         (as_algorithm options.now.parts.algorithm)) columns text.now left_gap.now middle_gap.now
         right_gap.now (map string_bytes rows.items)) }
-    ensures only_memory { IfErr result (λ error. error ≡ WrapError.Memory alloc_error) }
+    ensures only_memory { OnlyMemoryRunsOut result }
 {
     let table = Table::new(
         columns,
@@ -166,11 +166,9 @@ fn wrap_in_table<A: Allocator + Copy, O: AnyOptions<A>>(
     ensures rows { IfOk result (λ rows. (lines : List Line) × AreTextLines (O.settings options.now)
         (O.divides options.now) text.now lines × (map string_bytes rows.items
         ≡ table_rows (layout_view table.now) (map line_bytes lines))) }
-    ensures only_memory { ¬ O.may_overflow options.now
-        → IfErr result (λ error. error ≡ WrapError.Memory alloc_error) }
+    ensures only_memory { ¬ O.may_overflow options.now → OnlyMemoryRunsOut result }
     ensures no_overflow { ¬ HasParagraphThat (O.may_pass options.now)
-        (O.settings options.now).line_ending text.now
-        → IfErr result (λ error. error ≡ WrapError.Memory alloc_error) }
+        (O.settings options.now).line_ending text.now → OnlyMemoryRunsOut result }
 {
     let lines = wrap_by(alloc, text, options)?;
     Ok(table_rows(alloc, &lines, table)?)

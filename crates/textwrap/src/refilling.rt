@@ -1,5 +1,5 @@
 //! Unfilling, which joins the lines of a filled text, and refilling, which fills them again.
-ghost use Rattle.std.specs.Prelude.{◌≡◌, ℕ, List, [], ◌∷◌, ◌++◌, length, drop, alloc_error, IfOk, IfErr};
+ghost use Rattle.std.specs.Prelude.{◌≡◌, ℕ, List, [], ◌∷◌, ◌++◌, length, drop, IfOk};
 ghost use Rattle.std.specs.Prelude.{IfSome, IsOk, OnOk, string_bytes, map, option_to_list};
 ghost use Rattle.std.specs.Prelude.{slice_index_or};
 ghost use Rattle.std.specs.Io.{StartsWith};
@@ -25,6 +25,7 @@ ghost use Rattle.textwrap.specs.Refilling.{detected_among, detected_ending, comm
 ghost use Rattle.textwrap_text.specs.LentText.{as_len, written_over};
 ghost use Rattle.textwrap_words.specs.declared.word_separators.WordSeparator.TheVariants.{AsciiSpace};
 ghost use Rattle.textwrap_words.specs.declared.word_splitters.WordSplitter.TheVariants.{HyphenSplitter};
+ghost use Rattle.textwrap_base.specs.Errors.{OnlyMemoryRunsOut};
 
 use crate::text_sinks::TextSink;
 use crate::words::display_width;
@@ -139,12 +140,11 @@ pub fn refill<A: Allocator + Copy>(
         (settings : Settings) (splitter : Splitter) (algorithm : Algorithm)
         → HasParts options.entry settings splitter algorithm → IsRefilled settings
         (DividesAs splitter algorithm) filled_text.now (string_bytes refilled)) }
-    ensures only_memory { ¬ MayOverflow options.entry
-        → IfErr result (λ error. error ≡ WrapError.Memory alloc_error) }
+    ensures only_memory { ¬ MayOverflow options.entry → OnlyMemoryRunsOut result }
     // Overflow only where a paragraph of the joined text may have pieces that pass 64 bits together.
     ensures no_overflow { ¬ SomeMayPass64BitsUnder options.entry
         (with_indents_of filled_text.now (settings_view options.entry)) (joined_text filled_text.now)
-        → IfErr result (λ error. error ≡ WrapError.Memory alloc_error) }
+        → OnlyMemoryRunsOut result }
 {
     let (unfilled, layout, keeps_ending) = join_lines(alloc, filled_text)?;
     let options = Options {
@@ -167,7 +167,7 @@ pub fn refill_built_in<A: Allocator + Copy, W: PrintableCuts + Copy>(
     ensures refilled { IfOk result (λ refilled. IsRefilled (layout_view options.now.layout)
         (DividesAt (W.words options.now.words) (as_splitter options.now.parts.splitter)
         (as_algorithm options.now.parts.algorithm)) filled_text.now (string_bytes refilled)) }
-    ensures only_memory { IfErr result (λ error. error ≡ WrapError.Memory alloc_error) }
+    ensures only_memory { OnlyMemoryRunsOut result }
 {
     let (unfilled, layout, keeps_ending) = join_lines(alloc, filled_text)?;
     let layout = Layout {
@@ -196,11 +196,9 @@ fn fill_joined<A: Allocator + Copy, O: AnyOptions<A>>(
     ensures filled { IfOk result (λ refilled. (filled : List ℕ) × IsFilled (O.settings options.now)
         (O.divides options.now) joined.now filled × (string_bytes refilled
         ≡ filled ++ added_ending keeps_ending (O.settings options.now).line_ending)) }
-    ensures only_memory { ¬ O.may_overflow options.now
-        → IfErr result (λ error. error ≡ WrapError.Memory alloc_error) }
+    ensures only_memory { ¬ O.may_overflow options.now → OnlyMemoryRunsOut result }
     ensures no_overflow { ¬ HasParagraphThat (O.may_pass options.now)
-        (O.settings options.now).line_ending joined.now
-        → IfErr result (λ error. error ≡ WrapError.Memory alloc_error) }
+        (O.settings options.now).line_ending joined.now → OnlyMemoryRunsOut result }
 {
     let mut filled = fill_by(alloc, joined, options)?;
     if keeps_ending {

@@ -1,5 +1,5 @@
 -- What a call refuses, and the numbers that it can still hold.
-use Rattle.std.specs.Prelude.{ℕ, ◌^◌, ◌<◌, ◌≤◌, ⊤, Result, Ok, Err}
+use Rattle.std.specs.Prelude.{ℕ, ◌≡◌, ◌^◌, ◌<◌, ◌≤◌, ⊤, Result, Ok, Err, IfErr, alloc_error}
 use Rattle.textwrap_base.specs.declared.errors.WrapError.{WrapError}
 use Rattle.textwrap_base.specs.declared.errors.WrapError.TheVariants.{Memory, Overflow}
 
@@ -17,3 +17,7 @@ abbrev pub Overflowed : {A : Type 0} → Result A WrapError → Type 0
 Overflowed (Ok value) = ⊥
 Overflowed (Err (Memory error)) = ⊥
 Overflowed (Err (Overflow error)) = ⊤
+
+-- the call returned no error but out of memory
+abbrev pub OnlyMemoryRunsOut : {A : Type 0} → Result A WrapError → Type 0
+OnlyMemoryRunsOut result = IfErr result (λ error. error ≡ Memory alloc_error)

@@ -1,6 +1,6 @@
 //! A text filled with its lines justified.
-ghost use Rattle.std.specs.Prelude.{◌≡◌, ◌++◌, [], alloc_error, map, string_bytes};
-ghost use Rattle.std.specs.Prelude.{if◌then◌else◌, IfErr, IfOk, OnOk};
+ghost use Rattle.std.specs.Prelude.{◌≡◌, ◌++◌, [], map, string_bytes};
+ghost use Rattle.std.specs.Prelude.{if◌then◌else◌, IfOk, OnOk};
 ghost use Rattle.textwrap_display.specs.JustifiedText.{IsJustifiedText, joined_on};
 ghost use Rattle.textwrap_display.specs.JustifiedText.{justified_after, justified_after_indents};
 ghost use Rattle.textwrap_text.specs.LineEnding.{ending_bytes};
@@ -10,6 +10,7 @@ ghost use Rattle.textwrap_layout.specs.Paragraph.{line_view, DividesAs, DividesB
 ghost use Rattle.textwrap_layout.specs.Text.{HasParagraphThat, SomeMayPass64Bits};
 ghost use Rattle.textwrap_words.specs.WordSplitters.{Splitter};
 ghost use Rattle.textwrap_words.specs.WrapAlgorithms.{Algorithm};
+ghost use Rattle.textwrap_base.specs.Errors.{OnlyMemoryRunsOut};
 
 use crate::indents::indent_end;
 use crate::justifying::push_justified;
@@ -42,11 +43,9 @@ pub fn fill_justified<A: Allocator + Copy>(
         (settings : Settings) (splitter : Splitter) (algorithm : Algorithm)
         → HasParts options.entry settings splitter algorithm → IsJustifiedText settings
         (DividesAs splitter algorithm settings) text.now (string_bytes filled)) }
-    ensures only_memory { ¬ MayOverflow options.entry
-        → IfErr result (λ error. error ≡ WrapError.Memory alloc_error) }
+    ensures only_memory { ¬ MayOverflow options.entry → OnlyMemoryRunsOut result }
     // Overflow needs a paragraph whose pieces are together wider than 64 bits can say.
-    ensures no_overflow { ¬ SomeMayPass64Bits options.entry text.now
-        → IfErr result (λ error. error ≡ WrapError.Memory alloc_error) }
+    ensures no_overflow { ¬ SomeMayPass64Bits options.entry text.now → OnlyMemoryRunsOut result }
 {
     fill_justified_by(alloc, text, &options)
 }
@@ -62,11 +61,9 @@ pub fn fill_justified_by<A: Allocator + Copy, O: AnyOptions<A>>(
 ) -> Result<String<A>, WrapError>
     ensures filled { IfOk result (λ filled. IsJustifiedText (O.settings options.now)
         (O.divides options.now) text.now (string_bytes filled)) }
-    ensures only_memory { ¬ O.may_overflow options.now
-        → IfErr result (λ error. error ≡ WrapError.Memory alloc_error) }
+    ensures only_memory { ¬ O.may_overflow options.now → OnlyMemoryRunsOut result }
     ensures no_overflow { ¬ HasParagraphThat (O.may_pass options.now)
-        (O.settings options.now).line_ending text.now
-        → IfErr result (λ error. error ≡ WrapError.Memory alloc_error) }
+        (O.settings options.now).line_ending text.now → OnlyMemoryRunsOut result }
 {
     let layout = options.layout();
     let mut filled = String::with_capacity(alloc, text.len())?;

@@ -1,6 +1,6 @@
 //! Texts in the columns of a table.
 ghost use Rattle.std.specs.Prelude.{◌≡◌, List, [], ◌++◌, All, length, map};
-ghost use Rattle.std.specs.Prelude.{slice_index_or, string_bytes, alloc_error, IfErr, IfOk, OnOk};
+ghost use Rattle.std.specs.Prelude.{slice_index_or, string_bytes, IfOk, OnOk};
 ghost use Rattle.textwrap_display.specs.Tables.{NonePasses, AllFit64Bits, AreCells, ColumnParts};
 ghost use Rattle.textwrap_display.specs.Tables.{HaveParts, groups_of};
 ghost use Rattle.textwrap_display.specs.Tables.{AreTableRows, IsTableBy, IsTableOf, cell_line};
@@ -8,6 +8,7 @@ ghost use Rattle.textwrap_display.specs.Tables.{cell_texts};
 ghost use Rattle.textwrap_display.specs.Tables.{gaps_view, group_rows, height};
 ghost use Rattle.textwrap_display.specs.Tables.{rows_of_cells, shape_of, texts_in};
 ghost use Rattle.textwrap_layout.specs.Options.{MayOverflow};
+ghost use Rattle.textwrap_base.specs.Errors.{OnlyMemoryRunsOut};
 
 use crate::alignment::{Alignment, aligned_cell};
 use std::alloc::{AllocError, Allocator};
@@ -27,7 +28,7 @@ pub struct Column<'o> {
 
 /// A column of a table: how its texts are wrapped, and where their lines stand in it.
 pub trait AnyColumn<A: Allocator> {
-    ghost use Rattle.std.specs.Prelude.{◌≡◌, ℕ, List, alloc_error, map, IfErr, IfOk};
+    ghost use Rattle.std.specs.Prelude.{◌≡◌, ℕ, List, map, IfOk};
     ghost use Rattle.textwrap_layout.specs.Paragraph.{Line, line_view};
     ghost use Rattle.textwrap_display.specs.Tables.{Shape};
 
@@ -56,10 +57,8 @@ pub trait AnyColumn<A: Allocator> {
     /// Those of `wrap`.
     fn wrap_cell<'t>(&self, alloc: A, text: &'t str) -> Result<Vec<CowStr<'t, A>, A>, WrapError>
         ensures lines { IfOk result (λ lines. makes self.now text.now (map line_view lines.items)) }
-        ensures only_memory { ¬ may_overflow self.now
-            → IfErr result (λ error. error ≡ WrapError.Memory alloc_error) }
-        ensures no_overflow { ¬ may_pass self.now text.now
-            → IfErr result (λ error. error ≡ WrapError.Memory alloc_error) };
+        ensures only_memory { ¬ may_overflow self.now → OnlyMemoryRunsOut result }
+        ensures no_overflow { ¬ may_pass self.now text.now → OnlyMemoryRunsOut result };
 }
 
 impl<A: Allocator + Copy> AnyColumn<A> for Column<'_> {
@@ -140,10 +139,10 @@ pub fn table<A: Allocator + Copy>(
     ensures built_in { IfOk result (λ rows. (parts : List ColumnParts) → HaveParts columns.now parts
         → IsTableOf parts (gaps_view gaps.now) (texts_in cells.now) (map string_bytes rows.items)) }
     ensures only_memory { All (λ column. ¬ MayOverflow column.options) columns.now
-        → IfErr result (λ error. error ≡ WrapError.Memory alloc_error) }
+        → OnlyMemoryRunsOut result }
     // Overflow needs a text with a paragraph whose pieces are together wider than 64 bits can say.
     ensures no_overflow { All (AllFit64Bits columns.now) (groups_of (length columns.now) (texts_in cells.now))
-        → IfErr result (λ error. error ≡ WrapError.Memory alloc_error) }
+        → OnlyMemoryRunsOut result }
 {
     table_by(alloc, cells, columns, gaps)
 }
@@ -161,10 +160,9 @@ pub fn table_by<A: Allocator + Copy, C: AnyColumn<A>>(
     ensures rows { IfOk result (λ rows. IsTableBy C.makes C.shape columns.now (gaps_view gaps.now)
         (texts_in cells.now) (map string_bytes rows.items)) }
     ensures only_memory { All (λ column. ¬ C.may_overflow column) columns.now
-        → IfErr result (λ error. error ≡ WrapError.Memory alloc_error) }
+        → OnlyMemoryRunsOut result }
     ensures no_overflow { All (NonePasses C.may_pass columns.now)
-        (groups_of (length columns.now) (texts_in cells.now))
-        → IfErr result (λ error. error ≡ WrapError.Memory alloc_error) }
+        (groups_of (length columns.now) (texts_in cells.now)) → OnlyMemoryRunsOut result }
 {
     let mut rows = Vec::new(alloc);
     if columns.is_empty() {
@@ -215,9 +213,9 @@ fn wrap_cells<'t, A: Allocator + Copy, C: AnyColumn<A>>(
     ensures cells { IfOk result (λ cells.
         AreCells C.makes columns.now (texts_in texts.now) (cell_texts cells.items)) }
     ensures only_memory { All (λ column. ¬ C.may_overflow column) columns.now
-        → IfErr result (λ error. error ≡ WrapError.Memory alloc_error) }
+        → OnlyMemoryRunsOut result }
     ensures no_overflow { NonePasses C.may_pass columns.now (texts_in texts.now)
-        → IfErr result (λ error. error ≡ WrapError.Memory alloc_error) }
+        → OnlyMemoryRunsOut result }
 {
     let mut cells = Vec::new(alloc);
     for (text, column) in texts.iter().zip(columns) {

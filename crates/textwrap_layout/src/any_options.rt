@@ -32,8 +32,9 @@ pub trait AnyOptions<A: Allocator> {
     type Words: PrintableCuts + Copy;
 
     ghost use Rattle.std.specs.Prelude.{◌≡◌, ◌<◌, ◌^◌, ℕ, Bool, List, None, map, length};
-    ghost use Rattle.std.specs.Prelude.{IfOk, IsOkAnd, IfErr, IfSome, IsSomeAnd, alloc_error};
+    ghost use Rattle.std.specs.Prelude.{IfOk, IsOkAnd, IfSome, IsSomeAnd};
     ghost use Rattle.std.specs.Option.{option_map};
+    ghost use Rattle.textwrap_base.specs.Errors.{OnlyMemoryRunsOut};
     ghost use Rattle.std.specs.Io.{StartsWith};
     ghost use Rattle.std.specs.List.{flat_map};
     ghost use Rattle.std.specs.Str.{IsUtf8};
@@ -121,9 +122,8 @@ pub trait AnyOptions<A: Allocator> {
         ensures only_memory { (paragraph : List ℕ) → IsUtf8 paragraph → length paragraph < 2 ^ 63
             → has_pieces self.now paragraph (map word_view pieces.now)
             → Tiles (map word_view pieces.now) paragraph → ¬ may_overflow self.now
-            → IfErr result (λ error. error ≡ WrapError.Memory alloc_error) }
+            → OnlyMemoryRunsOut result }
         ensures no_overflow { (paragraph : List ℕ)
             → has_pieces self.now paragraph (map word_view pieces.now)
-            → ¬ may_pass self.now paragraph
-            → IfErr result (λ error. error ≡ WrapError.Memory alloc_error) };
+            → ¬ may_pass self.now paragraph → OnlyMemoryRunsOut result };
 }

@@ -1,6 +1,6 @@
 //! Filling: a wrapped text as one text.
-ghost use Rattle.std.specs.Prelude.{◌≡◌, ℕ, List, length, alloc_error, map, string_bytes};
-ghost use Rattle.std.specs.Prelude.{IfOk, IfErr, IsOk};
+ghost use Rattle.std.specs.Prelude.{◌≡◌, ℕ, List, length, map, string_bytes};
+ghost use Rattle.std.specs.Prelude.{IfOk, IsOk};
 ghost use Rattle.textwrap_layout.specs.Direct.{IsDirect};
 ghost use Rattle.textwrap_text.specs.LentText.{as_len, written_over};
 ghost use Rattle.textwrap_text.specs.LineEnding.{ending_bytes, join_with};
@@ -10,6 +10,7 @@ ghost use Rattle.textwrap_words.specs.WrapAlgorithms.{Algorithm};
 ghost use Rattle.textwrap_layout.specs.Paragraph.{DividesAs, DividesBy, line_bytes, line_view};
 ghost use Rattle.textwrap_layout.specs.Filling.{IsFilled};
 ghost use Rattle.textwrap_layout.specs.Text.{HasParagraphThat, SomeMayPass64Bits};
+ghost use Rattle.textwrap_base.specs.Errors.{OnlyMemoryRunsOut};
 
 use crate::wrapping::push_text;
 use std::alloc::{AllocError, Allocator};
@@ -38,11 +39,9 @@ pub fn fill<A: Allocator + Copy>(
         (settings : Settings) (splitter : Splitter) (algorithm : Algorithm)
         → HasParts options.entry settings splitter algorithm → IsFilled settings
         (DividesAs splitter algorithm settings) text.now (string_bytes filled)) }
-    ensures only_memory { ¬ MayOverflow options.entry
-        → IfErr result (λ error. error ≡ WrapError.Memory alloc_error) }
+    ensures only_memory { ¬ MayOverflow options.entry → OnlyMemoryRunsOut result }
     // Overflow needs a paragraph whose pieces are together wider than 64 bits can say.
-    ensures no_overflow { ¬ SomeMayPass64Bits options.entry text.now
-        → IfErr result (λ error. error ≡ WrapError.Memory alloc_error) }
+    ensures no_overflow { ¬ SomeMayPass64Bits options.entry text.now → OnlyMemoryRunsOut result }
 {
     fill_by(alloc, text, &options)
 }
@@ -58,11 +57,9 @@ pub fn fill_by<A: Allocator + Copy, O: AnyOptions<A>>(
 ) -> Result<String<A>, WrapError>
     ensures filled { IfOk result (λ filled. IsFilled (O.settings options.now)
         (O.divides options.now) text.now (string_bytes filled)) }
-    ensures only_memory { ¬ O.may_overflow options.now
-        → IfErr result (λ error. error ≡ WrapError.Memory alloc_error) }
+    ensures only_memory { ¬ O.may_overflow options.now → OnlyMemoryRunsOut result }
     ensures no_overflow { ¬ HasParagraphThat (O.may_pass options.now)
-        (O.settings options.now).line_ending text.now
-        → IfErr result (λ error. error ≡ WrapError.Memory alloc_error) }
+        (O.settings options.now).line_ending text.now → OnlyMemoryRunsOut result }
 {
     // This is enough but where lines end inside words or have indents, or the ending is CRLF.
     let filled = String::with_capacity(alloc, text.len())?;
@@ -93,10 +90,8 @@ pub fn fill_into<A: Allocator + Copy>(
         × (room.new ≡ written_over room.old filled)) }
     // By first fit and built-in parts no memory is needed.
     ensures done { IsDirect options.now → IsOk result }
-    ensures only_memory { ¬ MayOverflow options.now
-        → IfErr result (λ error. error ≡ WrapError.Memory alloc_error) }
-    ensures no_overflow { ¬ SomeMayPass64Bits options.now text.now
-        → IfErr result (λ error. error ≡ WrapError.Memory alloc_error) }
+    ensures only_memory { ¬ MayOverflow options.now → OnlyMemoryRunsOut result }
+    ensures no_overflow { ¬ SomeMayPass64Bits options.now text.now → OnlyMemoryRunsOut result }
 {
     let mut filled = LentText::new(room);
     let mut lines = LentLines {
@@ -127,11 +122,9 @@ pub fn fill_slow_path<A: Allocator + Copy>(
         (settings : Settings) (splitter : Splitter) (algorithm : Algorithm)
         → HasParts options.entry settings splitter algorithm → IsFilled settings
         (DividesAs splitter algorithm settings) text.now (string_bytes filled)) }
-    ensures only_memory { ¬ MayOverflow options.entry
-        → IfErr result (λ error. error ≡ WrapError.Memory alloc_error) }
+    ensures only_memory { ¬ MayOverflow options.entry → OnlyMemoryRunsOut result }
     // Overflow needs a paragraph whose pieces are together wider than 64 bits can say.
-    ensures no_overflow { ¬ SomeMayPass64Bits options.entry text.now
-        → IfErr result (λ error. error ≡ WrapError.Memory alloc_error) }
+    ensures no_overflow { ¬ SomeMayPass64Bits options.entry text.now → OnlyMemoryRunsOut result }
 {
     let mut list = Vec::new(alloc);
     let mut lines = ListedLines { lines: &mut list };

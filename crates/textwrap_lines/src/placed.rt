@@ -1,6 +1,6 @@
 //! The lines of a text by where they stand, for the calls from C. The crate `textwrap` does not
 //! re-export this module.
-ghost use Rattle.std.specs.Prelude.{◌≡◌, ◌<◌, ℕ, [], ◌∷◌, List, alloc_error, map, IfOk, IfErr, OnOk};
+ghost use Rattle.std.specs.Prelude.{◌≡◌, ◌<◌, ℕ, [], ◌∷◌, List, map, IfOk, OnOk};
 ghost use Rattle.std.specs.Prelude.{IsOk};
 ghost use Rattle.std.specs.Io.{StartsWith};
 ghost use Rattle.std.specs.List.{flat_map};
@@ -14,6 +14,7 @@ ghost use Rattle.textwrap_layout.specs.Text.{HasParagraphThat, SomeMayPass64Bits
 ghost use Rattle.textwrap_words.specs.WordSplitters.{Splitter};
 ghost use Rattle.textwrap_words.specs.Words.{tiled, word_view};
 ghost use Rattle.textwrap_words.specs.WrapAlgorithms.{Algorithm};
+ghost use Rattle.textwrap_base.specs.Errors.{OnlyMemoryRunsOut};
 
 use crate::wrapping::{push_lines, push_text};
 use std::alloc::{AllocError, Allocator};
@@ -47,10 +48,8 @@ pub fn place_lines<A: Allocator + Copy>(
         → HasParts options.now settings splitter algorithm → (lines : List Line)
         × ArePlacedLines settings (DividesAs splitter algorithm settings) text.now lines
         placed.places.items × (placed.built.items ≡ built_text lines)) }
-    ensures only_memory { ¬ MayOverflow options.now
-        → IfErr result (λ error. error ≡ WrapError.Memory alloc_error) }
-    ensures no_overflow { ¬ SomeMayPass64Bits options.now text.now
-        → IfErr result (λ error. error ≡ WrapError.Memory alloc_error) }
+    ensures only_memory { ¬ MayOverflow options.now → OnlyMemoryRunsOut result }
+    ensures no_overflow { ¬ SomeMayPass64Bits options.now text.now → OnlyMemoryRunsOut result }
 {
     place_lines_by(alloc, text, options)
 }
@@ -67,11 +66,9 @@ pub fn place_lines_by<A: Allocator + Copy, O: AnyOptions<A>>(
     ensures lines { IfOk result (λ placed. (lines : List Line)
         × ArePlacedLines (O.settings options.now) (O.divides options.now) text.now lines
         placed.places.items × (placed.built.items ≡ built_text lines)) }
-    ensures only_memory { ¬ O.may_overflow options.now
-        → IfErr result (λ error. error ≡ WrapError.Memory alloc_error) }
+    ensures only_memory { ¬ O.may_overflow options.now → OnlyMemoryRunsOut result }
     ensures no_overflow { ¬ HasParagraphThat (O.may_pass options.now)
-        (O.settings options.now).line_ending text.now
-        → IfErr result (λ error. error ≡ WrapError.Memory alloc_error) }
+        (O.settings options.now).line_ending text.now → OnlyMemoryRunsOut result }
 {
     let mut lines = PlacedLines::new(alloc);
     push_text(alloc, text, options, options.built_in_parts(), &mut lines)?;
@@ -98,10 +95,8 @@ pub fn place_into<A: Allocator + Copy>(
         × WritesPlaces places (built_text placed) counts lines.old lines.new room.old room.new) }
     // By first fit and built-in parts no memory is needed.
     ensures done { IsDirect options.now → IsOk result }
-    ensures only_memory { ¬ MayOverflow options.now
-        → IfErr result (λ error. error ≡ WrapError.Memory alloc_error) }
-    ensures no_overflow { ¬ SomeMayPass64Bits options.now text.now
-        → IfErr result (λ error. error ≡ WrapError.Memory alloc_error) }
+    ensures only_memory { ¬ MayOverflow options.now → OnlyMemoryRunsOut result }
+    ensures no_overflow { ¬ SomeMayPass64Bits options.now text.now → OnlyMemoryRunsOut result }
 {
     let mut placed = LentPlaces::new(lines, room);
     let mut sink = LentLinePlaces {

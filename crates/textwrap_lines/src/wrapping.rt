@@ -1,6 +1,6 @@
 //! Wrapping a text into lines.
 ghost use Rattle.std.specs.Prelude.{◌≡◌, ℕ, List, ◌∷◌, [], ◌++◌, ◌<◌, length, drop, map};
-ghost use Rattle.std.specs.Prelude.{◌+◌, IsCharBoundary, nat_lt, if◌then◌else◌, alloc_error, true, IfOk, IfErr, IfSome};
+ghost use Rattle.std.specs.Prelude.{◌+◌, IsCharBoundary, nat_lt, if◌then◌else◌, true, IfOk, IfSome};
 ghost use Rattle.std.specs.Prelude.{◌≢◌, ◌==◌, ◌&&◌, OnOk, IsOk, IsSomeAnd, MatchOption, None};
 ghost use Rattle.textwrap_layout.specs.Direct.{AreParts};
 ghost use Rattle.std.specs.List.{flat_map};
@@ -26,6 +26,7 @@ ghost use Rattle.textwrap_layout.specs.Text.{AreTextLines, IsWrapped, LinesKeepT
 ghost use Rattle.textwrap_layout.specs.Text.{CanKeepToWidth, ArePrintedWithin, HasParagraphThat};
 ghost use Rattle.textwrap_layout.specs.Text.{SomeMayPass64Bits};
 ghost use Rattle.textwrap_words.specs.WordSplitters.{Splitter, splitter_view};
+ghost use Rattle.textwrap_base.specs.Errors.{OnlyMemoryRunsOut};
 
 use crate::cheapest::{push_cheapest_lines, suits_search};
 use crate::direct::push_by_first_fit;
@@ -96,11 +97,9 @@ pub fn wrap<'t, A: Allocator + Copy>(
         → CanKeepToWidth (settings_view options.entry) text.now
         → IfOk result (λ lines. ArePrintedWithin (settings_view options.entry)
         (DividesBy options.entry) text.now (map line_view lines.items)) }
-    ensures only_memory { ¬ MayOverflow options.entry
-        → IfErr result (λ error. error ≡ WrapError.Memory alloc_error) }
+    ensures only_memory { ¬ MayOverflow options.entry → OnlyMemoryRunsOut result }
     // Overflow needs a paragraph whose pieces are together wider than 64 bits can say.
-    ensures no_overflow { ¬ SomeMayPass64Bits options.entry text.now
-        → IfErr result (λ error. error ≡ WrapError.Memory alloc_error) }
+    ensures no_overflow { ¬ SomeMayPass64Bits options.entry text.now → OnlyMemoryRunsOut result }
 {
     wrap_by(alloc, text, &options)
 }
@@ -117,11 +116,9 @@ pub fn wrap_by<'t, A: Allocator + Copy, O: AnyOptions<A>>(
 ) -> Result<Vec<CowStr<'t, A>, A>, WrapError>
     ensures lines { IfOk result (λ lines. AreTextLines (O.settings options.now)
         (O.divides options.now) text.now (map line_view lines.items)) }
-    ensures only_memory { ¬ O.may_overflow options.now
-        → IfErr result (λ error. error ≡ WrapError.Memory alloc_error) }
+    ensures only_memory { ¬ O.may_overflow options.now → OnlyMemoryRunsOut result }
     ensures no_overflow { ¬ HasParagraphThat (O.may_pass options.now)
-        (O.settings options.now).line_ending text.now
-        → IfErr result (λ error. error ≡ WrapError.Memory alloc_error) }
+        (O.settings options.now).line_ending text.now → OnlyMemoryRunsOut result }
 {
     let mut list = Vec::new(alloc);
     let mut lines = ListedLines { lines: &mut list };
@@ -150,11 +147,9 @@ pub(crate) fn push_text<'t, A: Allocator + Copy, S: LineSink<'t, A>, O: AnyOptio
     ensures lines { OnOk result ((taken : List CutLine) × AreCutLines (O.settings options.now)
         (O.divides options.now) text.now taken
         × (end : ℕ) × S.holds lines.old lines.new end taken) }
-    ensures only_memory { ¬ O.may_overflow options.now
-        → IfErr result (λ error. error ≡ WrapError.Memory alloc_error) }
+    ensures only_memory { ¬ O.may_overflow options.now → OnlyMemoryRunsOut result }
     ensures no_overflow { ¬ HasParagraphThat (O.may_pass options.now)
-        (O.settings options.now).line_ending text.now
-        → IfErr result (λ error. error ≡ WrapError.Memory alloc_error) }
+        (O.settings options.now).line_ending text.now → OnlyMemoryRunsOut result }
 {
     let layout = options.layout();
     let line_ending = layout.line_ending;
@@ -195,10 +190,8 @@ fn push_paragraph<'t, A: Allocator + Copy, S: LineSink<'t, A>, O: AnyOptions<A>>
         × AreParagraphParts (frame_settings frame.now) (O.divides options.now) frame.now.is_later
         paragraph.now parts
         × Took S.holds lines.old lines.new (cut_lines 0 parts)) }
-    ensures only_memory { ¬ O.may_overflow options.now
-        → IfErr result (λ error. error ≡ WrapError.Memory alloc_error) }
-    ensures no_overflow { ¬ O.may_pass options.now paragraph.now
-        → IfErr result (λ error. error ≡ WrapError.Memory alloc_error) }
+    ensures only_memory { ¬ O.may_overflow options.now → OnlyMemoryRunsOut result }
+    ensures no_overflow { ¬ O.may_pass options.now paragraph.now → OnlyMemoryRunsOut result }
 {
     if is_one_line(paragraph, frame.indent, frame.layout.width) {
         let slice = whole_line(paragraph, &frame.layout);
@@ -237,10 +230,8 @@ fn push_pieces<'t, A: Allocator + Copy, S: LineSink<'t, A>, O: AnyOptions<A>>(
     ensures taken { OnOk result ((division : List (List WordText))
         × O.divides options.now frame.now.is_later paragraph.now division
         × Took S.holds lines.old lines.new (frame_lines frame.now division)) }
-    ensures only_memory { ¬ O.may_overflow options.now
-        → IfErr result (λ error. error ≡ WrapError.Memory alloc_error) }
-    ensures no_overflow { ¬ O.may_pass options.now paragraph.now
-        → IfErr result (λ error. error ≡ WrapError.Memory alloc_error) }
+    ensures only_memory { ¬ O.may_overflow options.now → OnlyMemoryRunsOut result }
+    ensures no_overflow { ¬ O.may_pass options.now paragraph.now → OnlyMemoryRunsOut result }
 {
     let Some(parts) = parts else {
         return push_divided(alloc, paragraph, options, frame, lines);
@@ -276,10 +267,8 @@ fn push_divided<'t, A: Allocator + Copy, S: LineSink<'t, A>, O: AnyOptions<A>>(
     ensures taken { OnOk result ((division : List (List WordText))
         × O.divides options.now frame.now.is_later paragraph.now division
         × Took S.holds lines.old lines.new (frame_lines frame.now division)) }
-    ensures only_memory { ¬ O.may_overflow options.now
-        → IfErr result (λ error. error ≡ WrapError.Memory alloc_error) }
-    ensures no_overflow { ¬ O.may_pass options.now paragraph.now
-        → IfErr result (λ error. error ≡ WrapError.Memory alloc_error) }
+    ensures only_memory { ¬ O.may_overflow options.now → OnlyMemoryRunsOut result }
+    ensures no_overflow { ¬ O.may_pass options.now paragraph.now → OnlyMemoryRunsOut result }
 {
     let pieces = options.find_pieces(alloc, paragraph)?;
     let line_widths = [frame.first_columns, frame.later_columns];
@@ -329,8 +318,7 @@ pub fn wrap_single_line<'t, A: Allocator + Copy>(
         (AreParagraphParts (settings_view options.now) (DividesBy options.now)
         (nat_lt 0 (length lines.old.items)) line.now) lines.old.items lines.new.items result }
     // Overflow needs pieces that are together wider than 64 bits can say.
-    ensures no_overflow { ¬ MayPass64Bits options.now line.now
-        → IfErr result (λ error. error ≡ WrapError.Memory alloc_error) }
+    ensures no_overflow { ¬ MayPass64Bits options.now line.now → OnlyMemoryRunsOut result }
     // By built-in parts, without an initial indent, these are lines of the slow path.
     ensures as_slow_path { HasBuiltInParts options.now → options.now.initial_indent.now ≡ []
         → OnOk result ((parts : List LineParts)
@@ -354,8 +342,7 @@ pub fn wrap_paragraph<'t, A: Allocator + Copy, O: AnyOptions<A>>(
     ensures appended { AppendsLines (O.may_overflow options.now)
         (AreParagraphParts (O.settings options.now) (O.divides options.now)
         (nat_lt 0 (length lines.old.items)) paragraph.now) lines.old.items lines.new.items result }
-    ensures no_overflow { ¬ O.may_pass options.now paragraph.now
-        → IfErr result (λ error. error ≡ WrapError.Memory alloc_error) }
+    ensures no_overflow { ¬ O.may_pass options.now paragraph.now → OnlyMemoryRunsOut result }
 {
     // A list of its own, so that an error leaves the other as it was.
     let frame = Frame::at(options.layout(), !lines.is_empty());
@@ -405,8 +392,7 @@ pub fn wrap_single_line_slow_path<'t, A: Allocator + Copy>(
         (AreDividedParts (settings_view options.now) (DividesBy options.now)
         (nat_lt 0 (length lines.old.items)) line.now) lines.old.items lines.new.items result }
     // Overflow needs pieces that are together wider than 64 bits can say.
-    ensures no_overflow { ¬ MayPass64Bits options.now line.now
-        → IfErr result (λ error. error ≡ WrapError.Memory alloc_error) }
+    ensures no_overflow { ¬ MayPass64Bits options.now line.now → OnlyMemoryRunsOut result }
     // By first fit and a built-in splitter, where words are broken, a line passes its width only
     // where it is one piece with one character that takes columns.
     ensures overlong { options.now.wrap_algorithm ≡ FirstFit

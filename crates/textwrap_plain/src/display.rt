@@ -1,9 +1,10 @@
 //! Lines for display, by options without functions.
-ghost use Rattle.std.specs.Prelude.{◌≡◌, IfErr, IfOk, alloc_error, map, string_bytes};
+ghost use Rattle.std.specs.Prelude.{◌≡◌, IfOk, map, string_bytes};
 ghost use Rattle.textwrap_display.specs.JustifiedText.{IsJustifiedText};
 ghost use Rattle.textwrap_display.specs.Tables.{gaps_view, texts_in};
 ghost use Rattle.textwrap_plain.specs.Options.{DividesPlainly, settings_of};
 ghost use Rattle.textwrap_plain.specs.Tables.{IsPlainTable, plain_parts};
+ghost use Rattle.textwrap_base.specs.Errors.{OnlyMemoryRunsOut};
 
 use crate::options::PlainOptions;
 use std::alloc::Global;
@@ -59,7 +60,7 @@ pub fn fill_justified(
 ) -> Result<String, WrapError>
     ensures filled { IfOk result (λ filled. IsJustifiedText (settings_of options.now)
         (DividesPlainly options.now (settings_of options.now)) text.now (string_bytes filled)) }
-    ensures only_memory { IfErr result (λ error. error ≡ WrapError.Memory alloc_error) }
+    ensures only_memory { OnlyMemoryRunsOut result }
 {
     fill_justified_by(alloc, text, &options.built_in(alloc))
 }
@@ -77,7 +78,7 @@ pub fn table(
 ) -> Result<Vec<String>, WrapError>
     ensures rows { IfOk result (λ rows. IsPlainTable (map plain_parts columns.now)
         (gaps_view gaps.now) (texts_in cells.now) (map string_bytes rows.items)) }
-    ensures only_memory { IfErr result (λ error. error ≡ WrapError.Memory alloc_error) }
+    ensures only_memory { OnlyMemoryRunsOut result }
 {
     table_by(alloc, cells, columns, gaps)
 }

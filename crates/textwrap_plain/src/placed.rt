@@ -1,5 +1,5 @@
 //! Lines and pieces by where they stand, which the calls from C report.
-ghost use Rattle.std.specs.Prelude.{◌≡◌, IfErr, IfOk, IsOk, List, alloc_error, map};
+ghost use Rattle.std.specs.Prelude.{◌≡◌, IfErr, IfOk, IsOk, List, map};
 ghost use Rattle.textwrap.specs.Paragraph.{Line, pieces_by};
 ghost use Rattle.textwrap.specs.Words.{word_view, Tiles};
 ghost use Rattle.textwrap.specs.WrapAlgorithms.{Greedy};
@@ -9,6 +9,7 @@ ghost use Rattle.textwrap_layout.specs.declared.places.Place.{Place};
 ghost use Rattle.textwrap_plain.specs.Options.{algorithm_of, DividesPlainly, settings_of, splitter_of};
 ghost use Rattle.textwrap_plain.specs.Options.{words_by};
 ghost use Rattle.textwrap_plain.specs.declared.options.PlainSeparator.TheVariants.{AtBlanks};
+ghost use Rattle.textwrap_base.specs.Errors.{OnlyMemoryRunsOut};
 
 use crate::options::PlainOptions;
 use std::alloc::{AllocError, Global};
@@ -31,7 +32,7 @@ pub fn place_lines(
         × ArePlacedLines (settings_of options.now)
         (DividesPlainly options.now (settings_of options.now)) text.now lines placed.places.items
         × (placed.built.items ≡ built_text lines)) }
-    ensures only_memory { IfErr result (λ error. error ≡ WrapError.Memory alloc_error) }
+    ensures only_memory { OnlyMemoryRunsOut result }
 {
     place_lines_by(alloc, text, &options.built_in(alloc))
 }
@@ -57,7 +58,7 @@ pub fn place_into(
         → IsOk result }
     ensures kept_lines { IfErr result (λ _. lines.new ≡ lines.old) }
     ensures kept_room { IfErr result (λ _. room.new ≡ room.old) }
-    ensures only_memory { IfErr result (λ error. error ≡ WrapError.Memory alloc_error) }
+    ensures only_memory { OnlyMemoryRunsOut result }
 {
     if options.are_direct() {
         let options = options.at_blanks();

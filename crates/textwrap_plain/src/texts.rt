@@ -1,6 +1,6 @@
 //! Texts, wrapped and filled by options without functions.
 ghost use Rattle.std.specs.Prelude.{◌≡◌, ◌≤◌, ◌∷◌, [], ℕ, List, length, Some, IfErr, IfOk, IfSome, IsOk};
-ghost use Rattle.std.specs.Prelude.{alloc_error, false, if◌then◌else◌, map, string_bytes, true};
+ghost use Rattle.std.specs.Prelude.{false, if◌then◌else◌, map, string_bytes, true};
 ghost use Rattle.textwrap.specs.Columns.{IsInColumns};
 ghost use Rattle.textwrap.specs.Filling.{IsFilled};
 ghost use Rattle.textwrap.specs.Paragraph.{is_whole, line_view};
@@ -12,6 +12,7 @@ ghost use Rattle.textwrap_plain.specs.declared.options.PlainSeparator.TheVariant
 ghost use Rattle.textwrap_text.specs.LineEnding.{paragraphs_of};
 ghost use Rattle.textwrap_text.specs.Blanks.{without_final_blanks};
 ghost use Rattle.textwrap_text.specs.LentText.{as_len, written_over};
+ghost use Rattle.textwrap_base.specs.Errors.{OnlyMemoryRunsOut};
 
 use crate::options::PlainOptions;
 use std::alloc::Global;
@@ -52,7 +53,7 @@ pub fn wrap<'t>(
         → CanKeepToWidth (settings_of options.now) text.now → IfOk result (λ lines. ArePrintedWithin
         (settings_of options.now) (DividesPlainly options.now (settings_of options.now)) text.now
         (map line_view lines.items)) }
-    ensures only_memory { IfErr result (λ error. error ≡ WrapError.Memory alloc_error) }
+    ensures only_memory { OnlyMemoryRunsOut result }
 {
     wrap_by(alloc, text, &options.built_in(alloc))
 }
@@ -64,7 +65,7 @@ pub fn wrap<'t>(
 pub fn fill(alloc: Global, text: &str, options: &PlainOptions<'_>) -> Result<String, WrapError>
     ensures filled { IfOk result (λ filled. IsFilled (settings_of options.now)
         (DividesPlainly options.now (settings_of options.now)) text.now (string_bytes filled)) }
-    ensures only_memory { IfErr result (λ error. error ≡ WrapError.Memory alloc_error) }
+    ensures only_memory { OnlyMemoryRunsOut result }
 {
     fill_by(alloc, text, &options.built_in(alloc))
 }
@@ -87,7 +88,7 @@ pub fn fill_into(
     ensures done { options.now.word_separator ≡ AtBlanks → algorithm_of options.now ≡ Greedy
         → IsOk result }
     ensures kept { IfErr result (λ _. room.new ≡ room.old) }
-    ensures only_memory { IfErr result (λ error. error ≡ WrapError.Memory alloc_error) }
+    ensures only_memory { OnlyMemoryRunsOut result }
 {
     if let Some(line) = only_line(text, options) {
         return Ok(write_over(room, line));
@@ -155,7 +156,7 @@ pub fn refill(
 ) -> Result<String, WrapError>
     ensures refilled { IfOk result (λ refilled. IsRefilled (settings_of options.now)
         (DividesPlainly options.now) filled_text.now (string_bytes refilled)) }
-    ensures only_memory { IfErr result (λ error. error ≡ WrapError.Memory alloc_error) }
+    ensures only_memory { OnlyMemoryRunsOut result }
 {
     refill_built_in(alloc, filled_text, &options.built_in(alloc))
 }
@@ -177,7 +178,7 @@ pub fn wrap_columns(
     ensures rows { IfOk result (λ rows. IsInColumns (settings_of options.now)
         (DividesPlainly options.now) columns text.now left_gap.now middle_gap.now right_gap.now
         (map string_bytes rows.items)) }
-    ensures only_memory { IfErr result (λ error. error ≡ WrapError.Memory alloc_error) }
+    ensures only_memory { OnlyMemoryRunsOut result }
 {
     let options = options.built_in(alloc);
     wrap_columns_built_in(

@@ -1,12 +1,12 @@
 //! Checks of a text: whether it is filled already, as a formatter asks, and how many lines it
 //! takes.
-ghost use Rattle.std.specs.Prelude.{◌≡◌, ◌<◌, List, length, IfOk, IfErr, IsTrue, IsFalse};
-ghost use Rattle.std.specs.Prelude.{alloc_error};
+ghost use Rattle.std.specs.Prelude.{◌≡◌, ◌<◌, List, length, IfOk, IsTrue, IsFalse};
 ghost use Rattle.textwrap.specs.Filling.{IsFilledAt};
 ghost use Rattle.textwrap.specs.Options.{settings_at, default_algorithm};
 ghost use Rattle.textwrap.specs.Paragraph.{Line};
 ghost use Rattle.textwrap.specs.Text.{AreLinesBy};
 ghost use Rattle.textwrap.specs.WrapAlgorithms.{Greedy};
+ghost use Rattle.textwrap.specs.Errors.{OnlyMemoryRunsOut};
 
 use std::alloc::Global;
 use textwrap::laws::lines_are_unique;
@@ -29,7 +29,7 @@ pub fn line_count(alloc: Global, text: &str, width: usize) -> Result<usize, Wrap
     ensures counted { IfOk result (λ count. (lines : List Line)
         × AreLinesBy (settings_at width) Greedy text.now lines × (length lines ≡ count)) }
     ensures some { IfOk result (λ count. 0 < count) }
-    ensures only_memory { IfErr result (λ error. error ≡ WrapError.Memory alloc_error) }
+    ensures only_memory { OnlyMemoryRunsOut result }
 {
     let options = Options::new(width).wrap_algorithm(WrapAlgorithm::FirstFit);
     let lines = wrap(alloc, text, options)?;

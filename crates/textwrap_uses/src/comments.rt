@@ -1,10 +1,11 @@
 //! Comments in the source of a program.
-ghost use Rattle.std.specs.Prelude.{◌≡◌, ℕ, List, drop, map, string_bytes, IfOk, IfErr, alloc_error};
+ghost use Rattle.std.specs.Prelude.{◌≡◌, ℕ, List, drop, map, string_bytes, IfOk};
 ghost use Rattle.std.specs.Str.Lines.{lines};
 ghost use Rattle.textwrap.specs.Laws.{IsIndentedFill, IsFilledWhole, unbroken_at, with_indents_as};
 ghost use Rattle.textwrap.specs.Options.{Settings, default_algorithm};
 ghost use Rattle.textwrap.specs.Refilling.{IsCommonPrefix, line_prefix};
 ghost use Rattle.textwrap.specs.WrapAlgorithms.{Algorithm};
+ghost use Rattle.textwrap.specs.Errors.{OnlyMemoryRunsOut};
 
 use std::alloc::{AllocError, Global};
 use textwrap::laws::{common_prefixes_are_unique, refilling_keeps_indents};
@@ -20,7 +21,7 @@ pub fn rewrapped(alloc: Global, comment: &str, width: usize) -> Result<String, W
         → IsIndentedFill first one text comment.now
         → IsFilledWhole (with_indents_as first (unbroken_at width)) default_algorithm text
         (string_bytes rewrapped)) }
-    ensures only_memory { IfErr result (λ error. error ≡ WrapError.Memory alloc_error) }
+    ensures only_memory { OnlyMemoryRunsOut result }
 {
     refilling_keeps_indents();
     let unsplit = WordSplitter::NoHyphenation;

@@ -1,9 +1,10 @@
 //! The help texts of a program.
-ghost use Rattle.std.specs.Prelude.{◌≡◌, codes, map, string_bytes, IfOk, IfErr, alloc_error};
+ghost use Rattle.std.specs.Prelude.{◌≡◌, codes, map, string_bytes, IfOk};
 ghost use Rattle.textwrap.specs.Filling.{IsFilledBy};
 ghost use Rattle.textwrap.specs.Options.{settings_at, default_algorithm};
 ghost use Rattle.textwrap_display.specs.Tables.{IsTableOf, texts_in};
 ghost use Rattle.textwrap_uses.specs.Help.{help_columns, help_gaps};
+ghost use Rattle.textwrap.specs.Errors.{OnlyMemoryRunsOut};
 
 use std::alloc::Global;
 use textwrap::{Options, WrapError, fill};
@@ -18,7 +19,7 @@ pub fn help_entry(alloc: Global, flag: &str, text: &str, width: usize) -> Result
           subsequent_indent = codes "        ";
         })
         default_algorithm text.now (string_bytes entry)) }
-    ensures only_memory { IfErr result (λ error. error ≡ WrapError.Memory alloc_error) }
+    ensures only_memory { OnlyMemoryRunsOut result }
 {
     let options = Options::new(width)
         .initial_indent(flag)
@@ -41,7 +42,7 @@ pub fn help_rows(
 ) -> Result<Vec<String>, WrapError>
     ensures table { IfOk result (λ rows. IsTableOf (help_columns flag_width width) help_gaps
         (texts_in entries.now) (map string_bytes rows.items)) }
-    ensures only_memory { IfErr result (λ error. error ≡ WrapError.Memory alloc_error) }
+    ensures only_memory { OnlyMemoryRunsOut result }
 {
     let text_width = width.saturating_sub(flag_width.saturating_add(4));
     let columns = [

@@ -1,7 +1,8 @@
 //! Words one below another, each split after its prefix.
-ghost use Rattle.std.specs.Prelude.{◌≡◌, IfOk, IfErr, alloc_error};
+ghost use Rattle.std.specs.Prelude.{◌≡◌, IfOk};
 ghost use Rattle.textwrap.specs.Cuts.{AreCuts};
 ghost use Rattle.textwrap.specs.LineEnds.{AreEnds};
+ghost use Rattle.textwrap.specs.Errors.{OnlyMemoryRunsOut};
 
 use std::alloc::{AllocError, Global};
 use std::borrow::CowStr;
@@ -17,7 +18,7 @@ pub fn listed_lines<'t>(
     text: &'t str,
     width: usize,
 ) -> Result<Vec<CowStr<'t>>, WrapError>
-    ensures only_memory { IfErr result (λ error. error ≡ WrapError.Memory alloc_error) }
+    ensures only_memory { OnlyMemoryRunsOut result }
 {
     let options = Options::new(width)
         .word_splitter(WordSplitter::Custom(WordCuts::new(alloc, point_after_super)))

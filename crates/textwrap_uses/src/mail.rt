@@ -1,5 +1,5 @@
 //! Quoted mail.
-ghost use Rattle.std.specs.Prelude.{◌≡◌, codes, map, string_bytes, IfOk, IfErr, alloc_error};
+ghost use Rattle.std.specs.Prelude.{◌≡◌, codes, map, string_bytes, IfOk};
 ghost use Rattle.std.specs.List.{flat_map};
 ghost use Rattle.textwrap.specs.Filling.{IsFilledAt, IsFilledBy};
 ghost use Rattle.textwrap.specs.Indentation.{ended_parts, indented, unindented_part};
@@ -9,6 +9,7 @@ ghost use Rattle.textwrap.specs.Paragraph.{line_view, DividesBy};
 ghost use Rattle.textwrap.specs.Refilling.{IsPlain, blanked};
 ghost use Rattle.textwrap.specs.Text.{AreTextLines};
 ghost use Rattle.textwrap.specs.declared.LineEnding.TheVariants.{CRLF};
+ghost use Rattle.textwrap.specs.Errors.{OnlyMemoryRunsOut};
 
 use std::alloc::{AllocError, Global};
 use std::borrow::CowStr;
@@ -23,7 +24,7 @@ pub fn quote(alloc: Global, mail: &str, width: usize) -> Result<String, WrapErro
           subsequent_indent = codes "> ";
         })
         default_algorithm mail.now (string_bytes quoted)) }
-    ensures only_memory { IfErr result (λ error. error ≡ WrapError.Memory alloc_error) }
+    ensures only_memory { OnlyMemoryRunsOut result }
 {
     let options = Options::new(width)
         .initial_indent("> ")
@@ -52,7 +53,7 @@ pub fn filled_anew(alloc: Global, paragraph: &str, width: usize) -> Result<Strin
     // line.
     ensures filled { IfOk result (λ filled. IsPlain paragraph.now
         → IsFilledAt width default_algorithm (blanked paragraph.now) (string_bytes filled)) }
-    ensures only_memory { IfErr result (λ error. error ≡ WrapError.Memory alloc_error) }
+    ensures only_memory { OnlyMemoryRunsOut result }
 {
     refilling_is_filling();
     let filled = refill(alloc, paragraph, Options::new(width))?;
@@ -70,8 +71,7 @@ pub fn sent_lines<'m>(
         (record (settings_view options.now) { line_ending = CRLF })
         (DividesBy (record options.now { line_ending = CRLF })) mail.now
         (map line_view lines.items)) }
-    ensures only_memory { ¬ MayOverflow options.now
-        → IfErr result (λ error. error ≡ WrapError.Memory alloc_error) }
+    ensures only_memory { ¬ MayOverflow options.now → OnlyMemoryRunsOut result }
 {
     let options = Options::from(options).line_ending(LineEnding::CRLF);
     let lines = wrap(alloc, mail, options)?;

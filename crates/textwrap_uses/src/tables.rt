@@ -1,10 +1,11 @@
 //! A text in columns between bars.
-ghost use Rattle.std.specs.Prelude.{◌≡◌, ◌≤◌, List, map, string_bytes, IfOk, IfErr, alloc_error};
+ghost use Rattle.std.specs.Prelude.{◌≡◌, ◌≤◌, List, map, string_bytes, IfOk};
 ghost use Rattle.textwrap.specs.Columns.{table_rows};
 ghost use Rattle.textwrap.specs.Options.{settings_at, default_algorithm};
 ghost use Rattle.textwrap.specs.Paragraph.{Line, line_bytes};
 ghost use Rattle.textwrap.specs.Text.{AreLinesBy};
 ghost use Rattle.textwrap_uses.specs.Tables.{barred, IsEachShownOnce, IsEven};
+ghost use Rattle.textwrap.specs.Errors.{OnlyMemoryRunsOut};
 
 use std::alloc::Global;
 use textwrap::laws::{columns_keep_lines, rows_are_even};
@@ -29,7 +30,7 @@ pub fn barred_rows(
         × (map string_bytes rows.items ≡ table_rows (barred width columns) (map line_bytes lines))
         × IsEachShownOnce (map line_bytes lines) columns
         × IsEven width columns (map line_bytes lines)) }
-    ensures only_memory { IfErr result (λ error. error ≡ WrapError.Memory alloc_error) }
+    ensures only_memory { OnlyMemoryRunsOut result }
 {
     columns_keep_lines();
     rows_are_even();

@@ -23,8 +23,8 @@ use Rattle.textwrap_words.proofs.Word.Divisions.{MayDivide-begins, MayDivide-map
 use Rattle.textwrap_base.proofs.Cost.Measures.{total_width-same}
 use Rattle.textwrap_words.proofs.Word.Words.{total_width-narrow, text_width-nil}
 use Rattle.std.proofs.lemmas.Grind.{common_steps}
-use Rattle.std.specs.Prelude.{alloc_error, IsSomeAnd, IfErr}
-use Rattle.textwrap_base.specs.Errors.{Fits64Bits}
+use Rattle.std.specs.Prelude.{alloc_error, IsSomeAnd}
+use Rattle.textwrap_base.specs.Errors.{Fits64Bits, OnlyMemoryRunsOut}
 use Rattle.textwrap_words.specs.WrapAlgorithms.{OverflowsBy}
 use Rattle.textwrap_base.specs.declared.errors.WrapError.{WrapError}
 use Rattle.textwrap_base.specs.declared.errors.WrapError.TheVariants.{Overflow, Memory}
@@ -111,7 +111,7 @@ overflow-optimal (algorithms.TheVariants.Custom given) sizes widths xs overflows
 
 -- an error that is no overflow
 pub only-without : {A : Type 0} (result : Result A WrapError) → ¬ Overflowed result
-    → IfErr result (λ error. error ≡ Memory alloc_error)
+    → OnlyMemoryRunsOut result
 only-without (Ok value) never = tt
 only-without (Err (Memory error)) never = refl
 only-without (Err (Overflow error)) never = absurd (never tt)
@@ -134,7 +134,7 @@ module _ {E C : Type 0} {e : _} {c : _} (options : Options E C e c) where
       × (algorithm_view options.wrap_algorithm ≡ Some (LeastCost penalties)))
       → (Fits64Bits (total_width (λ word. sizes_of (word_view word)) pieces)
       → ¬ Overflowed result)
-      → ¬ MayOverflow options → IfErr result (λ error. error ≡ Memory alloc_error)
+      → ¬ MayOverflow options → OnlyMemoryRunsOut result
   only-memory A paragraph pieces result utf8 short are tile overflow_only fits never =
       only-without result (λ over.
       built_in-or options.word_splitter (λ given. never (given, overflow_only over))
@@ -152,8 +152,7 @@ module _ {E C : Type 0} {e : _} {c : _} (options : Options E C e c) where
       (MaySplit options.word_splitter) paragraph (map word_view pieces)
       → (Fits64Bits (total_width (λ word. sizes_of (word_view word)) pieces)
       → ¬ Overflowed result)
-      → ¬ MayPass64Bits options paragraph
-      → IfErr result (λ error. error ≡ Memory alloc_error)
+      → ¬ MayPass64Bits options paragraph → OnlyMemoryRunsOut result
   only-fitting A paragraph pieces result are fits never = only-without result (λ over.
       let same = total_width-same (λ word. sizes_of (word_view word)) sizes_of pieces
       (map word_view pieces) (sizes-word_view pieces) in

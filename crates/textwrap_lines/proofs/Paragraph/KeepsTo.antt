@@ -25,7 +25,8 @@ use Rattle.textwrap_layout.proofs.Paragraph.Pieces.{ArePieces-computed, pieces_o
 use Rattle.textwrap_layout.proofs.Paragraph.Pieces.{divided-as, pieces-no_penalty}
 use Rattle.textwrap_base.proofs.Cost.Chosen.{IsDividedBy-one_line}
 use Rattle.textwrap_text.proofs.Common.{Err, IsErrAnd, Ok, Result}
-use Rattle.std.specs.Prelude.{alloc_error, IfErr}
+use Rattle.std.specs.Prelude.{alloc_error}
+use Rattle.textwrap_base.specs.Errors.{OnlyMemoryRunsOut}
 use Rattle.textwrap_base.specs.declared.errors.WrapError.{WrapError}
 use Rattle.textwrap_base.specs.declared.errors.WrapError.TheVariants.{Memory}
 use Rattle.textwrap_words.specs.declared.word_separators.WordSeparator as separators
@@ -327,7 +328,6 @@ module _ {E C : Type 0} {e : _} {c : _} (settings : Settings) where
 -- ---- errors that are passed on
 
 pub passed-on : {A : Type 0} (result : Result A WrapError) (error : WrapError)
-    → IsErrAnd result (λ e. e ≡ error) → error ≡ Memory alloc_error
-    → IfErr result (λ e. e ≡ Memory alloc_error)
+    → IsErrAnd result (λ e. e ≡ error) → error ≡ Memory alloc_error → OnlyMemoryRunsOut result
 passed-on (Ok value) error is only = tt
 passed-on (Err e) error is only = is ∙ only

@@ -18,7 +18,7 @@ pub use Rattle.std.specs.Char.{is_whitespace, len_utf8}
 pub use Rattle.std.specs.Str.{chars}
 pub use Rattle.textwrap.specs.Columns.{at_column_width, cells_by_column, column_cells, IsInColumns}
 pub use Rattle.textwrap.specs.Columns.{inner_width, cell_parts, table_rows, RowLayout, layout_of}
-pub use Rattle.textwrap.specs.Columns.{row_count, row_parts, row_text, blanks, padded, cells, cell}
+pub use Rattle.textwrap.specs.Columns.{row_count, row_parts, column_row, blanks, padded, cells, cell}
 pub use Rattle.textwrap.specs.InPlace.{IsFilledInPlace, with_line_feeds, broken_lines, FitsOneLine}
 pub use Rattle.textwrap.specs.InPlace.{breaks_from, breaks_of}
 pub use Rattle.textwrap.specs.Indentation.{leading_whitespace, indent_of_part, without_margin}

@@ -9,7 +9,7 @@ use Rattle.textwrap_words.specs.Words.{WordText}
 use Rattle.textwrap_layout.specs.Options.{Settings}
 use Rattle.textwrap_layout.specs.Paragraph.{Line, line_bytes}
 use Rattle.textwrap_layout.specs.Text.{AreTextLines}
-use Rattle.textwrap.specs.Rows as any_rows
+use Rattle.textwrap.specs.Rows.{row_text}
 use Rattle.textwrap.specs.declared.columns.Table.{Table}
 
 abbrev pub blanks : ℕ → List ℕ
@@ -77,16 +77,16 @@ abbrev pub padded : ℕ → List ℕ → List ℕ
 padded width text = text ++ blanks (width - text_width text)
 
 module _ (layout : RowLayout) where
-  abbrev pub row_text : List (List ℕ) → List ℕ
-  row_text row =
-      any_rows.row_text layout.left layout.middle layout.spare_width layout.right
+  abbrev pub column_row : List (List ℕ) → List ℕ
+  column_row row =
+      row_text layout.left layout.middle layout.spare_width layout.right
       (map (padded layout.column_width) row)
 
   -- the rows of a table of these lines
   abbrev pub table_rows : List (List ℕ) → List (List ℕ)
   table_rows lines =
       let rows = row_count lines layout.columns in
-      map (λ r. row_text (cells lines rows layout.columns r)) (range_with_len 0 rows)
+      map (λ r. column_row (cells lines rows layout.columns r)) (range_with_len 0 rows)
 
 -- ---- a row, part by part
 

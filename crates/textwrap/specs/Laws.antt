@@ -15,7 +15,7 @@ use Rattle.textwrap_layout.specs.Paragraph.{DividesAs, Slice}
 use Rattle.textwrap_layout.specs.Text.{AreTextLines}
 use Rattle.textwrap_words.specs.WordSplitters.{Splitter, Whole}
 use Rattle.textwrap_text.specs.declared.line_ending.LineEnding.TheVariants.{LF}
-use Rattle.textwrap.specs.Columns.{RowLayout, layout_of, inner_width, row_count, cells, row_text}
+use Rattle.textwrap.specs.Columns.{RowLayout, layout_of, inner_width, row_count, cells, column_row}
 use Rattle.textwrap.specs.Columns.{row_parts, cells_by_column}
 use Rattle.textwrap.specs.InPlace.{IsFilledInPlace}
 use Rattle.textwrap.specs.Indentation.{is_blank_line, ended_parts, indented, indented_part}
@@ -195,7 +195,7 @@ RefilledTwiceIsRefilledOnce =
 abbrev pub RowsAreParts : Type 0
 RowsAreParts =
     (layout : RowLayout) (row : List (List ℕ))
-    → flat_map (λ part. part) (row_parts layout row) ≡ row_text layout row
+    → flat_map (λ part. part) (row_parts layout row) ≡ column_row layout row
 
 -- where no line is wider than a column, and the gaps leave room for all columns, the parts of each
 -- row take together the columns of the gaps and the inner width, and these are the width

@@ -10,7 +10,7 @@ use Rattle.textwrap.proofs.Text.Tables.{lines-kept}
 use Rattle.textwrap_display.specs.Laws.{cell_shown, row_of, ShowsEachLineOnce, KeepToColumns}
 use Rattle.textwrap_display.specs.Laws.{row_width}
 use Rattle.textwrap_display.specs.Tables.{cell_line, group_rows, height, RowGaps, Shape, shown}
-use Rattle.textwrap_display.specs.Tables.{shown_lines, row_text}
+use Rattle.textwrap_display.specs.Tables.{shown_lines, table_row}
 use Rattle.textwrap_display.proofs.TableGroups.{length-shown, shown-at, length-padded}
 use Rattle.std.proofs.Math.Nat.{suc-mul}
 use Rattle.textwrap_layout.proofs.Text.Paragraphs.{text_width-append}
@@ -180,11 +180,11 @@ pub rows-even : (gaps : RowGaps) (columns : List Shape) (cells : List (List (Lis
     → IsWholeText gaps.left → IsWholeText gaps.middle → KeepToColumns columns cells
     → All (λ row. text_width row ≡ row_width gaps columns) (group_rows gaps columns cells)
 rows-even gaps columns cells left middle keep =
-    All-map (λ row. text_width row ≡ row_width gaps columns) (row_text gaps columns cells)
+    All-map (λ row. text_width row ≡ row_width gaps columns) (table_row gaps columns cells)
     (range_with_len 0 (height cells))
     (λ k d within. even (get_or (range_with_len 0 (height cells)) k d))
   where
-    even : (r : ℕ) → text_width (row_text gaps columns cells r) ≡ row_width gaps columns
+    even : (r : ℕ) → text_width (table_row gaps columns cells r) ≡ row_width gaps columns
     even r =
         let padded = cells ++ replicate (length columns) [] in
         let ps = zip columns padded in

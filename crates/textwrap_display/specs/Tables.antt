@@ -7,7 +7,7 @@ use Rattle.std.specs.Fork.{slice_chunk}
 use Rattle.std.specs.List.{AllZip, flat_map, range_with_len, zip}
 use Rattle.std.specs.Slice.Iter.{chunk_count}
 use Rattle.std.specs.declared.borrow.CowStr.{CowStr}
-use Rattle.textwrap.specs.Rows as any_rows
+use Rattle.textwrap.specs.Rows.{row_text}
 use Rattle.textwrap_layout.specs.Options.{HasParts, Settings, settings_view}
 use Rattle.textwrap_layout.specs.Paragraph.{DividesAs, DividesBy, Line, line_bytes}
 use Rattle.textwrap_layout.specs.Text.{AreTextLines, SomeMayPass64Bits}
@@ -69,12 +69,12 @@ abbrev pub height : List (List (List ℕ)) → ℕ
 height cells = fold (λ most lines. max most (length lines)) 0 cells
 
 module _ (gaps : RowGaps) (columns : List Shape) where
-  abbrev pub row_text : List (List (List ℕ)) → ℕ → List ℕ
-  row_text cells r =
-      any_rows.row_text gaps.left gaps.middle 0 gaps.right (shown_lines columns cells r)
+  abbrev pub table_row : List (List (List ℕ)) → ℕ → List ℕ
+  table_row cells r =
+      row_text gaps.left gaps.middle 0 gaps.right (shown_lines columns cells r)
 
   abbrev pub group_rows : List (List (List ℕ)) → List (List ℕ)
-  group_rows cells = map (row_text cells) (range_with_len 0 (height cells))
+  group_rows cells = map (table_row cells) (range_with_len 0 (height cells))
 
 -- ---- a table
 

@@ -25,7 +25,7 @@ use Rattle.textwrap_text.proofs.Lists.Parts.{same_parts}
 use Rattle.textwrap_base.proofs.Cost.Measures.{sizes-same, total_width-same}
 use Rattle.textwrap_words.proofs.Word.Words.{IsNarrowWord-measured, total_width-narrow}
 use Rattle.textwrap_words.proofs.Word.Words.{IsNarrowWord}
-use Rattle.textwrap_lines.specs.Cheapest.{SuitSearch}
+use Rattle.textwrap_lines.specs.LeastCost.{SuitSearch}
 use Rattle.textwrap_layout.specs.LineBounds.{AreBounds}
 use Rattle.textwrap_layout.proofs.Paragraph.Standing.{stands-at}
 use Rattle.textwrap_lines.proofs.PieceLines.{line_of-pieces}

@@ -1,5 +1,5 @@
-pub mod Cheapest
 pub mod Laws
+pub mod LeastCost
 pub mod PieceLines
 pub mod Spans
 pub mod Steps

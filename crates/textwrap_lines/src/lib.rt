@@ -8,13 +8,13 @@ pub use textwrap_layout::options::Options;
 pub use textwrap_text::line_ending::LineEnding;
 pub use wrapping::wrap;
 
-mod cheapest;
-mod direct;
 mod filling;
+mod first_fit;
 mod first_line;
 pub mod fuzzing;
 pub mod inner;
 pub mod laws;
+mod least_cost;
 pub mod parts;
 mod piece_lines;
 pub mod placed;

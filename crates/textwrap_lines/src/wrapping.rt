@@ -28,8 +28,8 @@ ghost use Rattle.textwrap_layout.specs.Text.{SomeMayPass64Bits};
 ghost use Rattle.textwrap_words.specs.WordSplitters.{Splitter, splitter_view};
 ghost use Rattle.textwrap_base.specs.Errors.{OnlyMemoryRunsOut};
 
-use crate::cheapest::{push_cheapest_lines, suits_search};
-use crate::direct::push_by_first_fit;
+use crate::first_fit::push_by_first_fit;
+use crate::least_cost::{push_by_least_cost, suits_search};
 use std::alloc::{AllocError, Allocator};
 use std::borrow::CowStr;
 use textwrap_layout::any_options::{AnyOptions, BuiltInAlgorithm, BuiltInParts};
@@ -208,7 +208,7 @@ fn push_paragraph<'t, A: Allocator + Copy, S: LineSink<'t, A>, O: AnyOptions<A>>
 /// | Algorithm | Paragraph | Way |
 /// |---|---|---|
 /// | first fit | any | [`push_by_first_fit`], which has its own table |
-/// | least cost | not empty, no number too great | [`push_cheapest_lines`] |
+/// | least cost | not empty, no number too great | [`push_by_least_cost`] |
 /// | any, also of a caller | any | [`push_divided`]: by lists of its words and pieces |
 ///
 /// # Errors
@@ -248,7 +248,7 @@ fn push_pieces<'t, A: Allocator + Copy, S: LineSink<'t, A>, O: AnyOptions<A>>(
         words: found.as_deref(),
         splitter: parts.splitter,
     };
-    Ok(push_cheapest_lines(alloc, paragraph, frame, &cuts, &penalties, lines)?)
+    Ok(push_by_least_cost(alloc, paragraph, frame, &cuts, &penalties, lines)?)
 }
 
 /// The same by lists of its words and pieces.

@@ -6,7 +6,7 @@ use Rattle.textwrap.proofs.Common.{MaySeparate, inner_width, sum_by-cons, append
 use Rattle.textwrap.proofs.Common.{get_or-map, length-map, map-append, text_width, RowLayout, arith}
 use Rattle.textwrap.proofs.Common.{join_with, layout_of, replicate, row_count, row_parts, All-head}
 use Rattle.textwrap.proofs.Common.{All-tail, MaySplit, Settings, WordText, cases_lt, flat_map, Bool}
-use Rattle.textwrap.proofs.Common.{row_text, Options, blanks, get_or, length, padded, sum_by, cells}
+use Rattle.textwrap.proofs.Common.{column_row, Options, blanks, get_or, length, padded, sum_by, cells}
 use Rattle.textwrap.proofs.Common.{rules, Line, List, cell, refl, zero, ◌++◌, inl, inr, map, min}
 use Rattle.textwrap.proofs.Common.{suc, sym, ◌*◌, ◌+◌, ◌-◌, ◌<◌, ◌∙◌, ◌∷◌, ◌≡◌, ◌≤◌, [], ap}
 use Rattle.textwrap_text.proofs.Common.{flat_map-append, sum_by-append, get_or_past}
@@ -132,7 +132,7 @@ cell_parts-joined layout (text ∷ next ∷ texts) =
     simp (append_assoc, cell_parts-joined layout (next ∷ texts))
 
 pub row_parts-joined : (layout : RowLayout) (row : List (List ℕ))
-    → flat_map (λ part. part) (row_parts layout row) ≡ row_text layout row
+    → flat_map (λ part. part) (row_parts layout row) ≡ column_row layout row
 row_parts-joined layout row = simp (append_assoc, append-nil, flat_map-append, cell_parts-joined)
 
 -- ---- their widths

@@ -12,7 +12,7 @@ use Rattle.textwrap_calls.proofs.Common.{Divides, IsUtf8, get_or, length, mul-le
 use Rattle.textwrap_calls.proofs.Common.{List, cond, flat, refl, true, ◌&&◌, ◌==◌, inr, map, max, ℕ}
 use Rattle.textwrap_calls.proofs.Common.{sym, ◌*◌, ◌+◌, ◌-◌, ◌/◌, ◌<◌, ◌∙◌, ◌∷◌, ◌≡◌, ◌≤◌, [], ap}
 use Rattle.textwrap_layout.proofs.Common.{AreTextLines, built_bytes, Slice, Line}
-use Rattle.textwrap.proofs.Common.{RowLayout, row_text, padded, cells, cell}
+use Rattle.textwrap.proofs.Common.{RowLayout, column_row, padded, cells, cell}
 use Rattle.std.proofs.Common.{replicate}
 use Rattle.std.proofs.Math.Nat.{lt_of_mul-lt-mul_right, lt-mul-div-succ, mul-div-le}
 use Rattle.std.proofs.lemmas.List.Concat.{length-flat_map}
@@ -204,7 +204,7 @@ row_room layout =
 
 row-within : (layout : RowLayout) (row : List (List ℕ)) → 1 ≤ layout.columns
     → length row ≡ layout.columns
-    → length (row_text layout row) ≤ row_room layout + length (flat row)
+    → length (column_row layout row) ≤ row_room layout + length (flat row)
 row-within layout [] some is = absurd (omega (arith, some, is))
 row-within layout (x ∷ xs) some is =
     let fill = padded layout.column_width in
@@ -230,8 +230,8 @@ rows-length layout lines some =
     let row = cells lines count layout.columns in
     omega (
       arith,
-      ap length (flat_map-map (λ text. text) (λ r. row_text layout (row r)) all),
-      flat-each (λ r. row_text layout (row r)) (λ r. flat (row r)) (row_room layout)
+      ap length (flat_map-map (λ text. text) (λ r. column_row layout (row r)) all),
+      flat-each (λ r. column_row layout (row r)) (λ r. flat (row r)) (row_room layout)
           (λ r. row-within layout (row r) some (row-length lines layout.columns some r)) all,
       cells-length lines layout.columns some,
       ap (λ n. n * row_room layout) (length-range_with_len 0 count),

@@ -1,4 +1,4 @@
-use Rattle.textwrap_lines.proofs.cheapest.push_lines.Given as goal
+use Rattle.textwrap_lines.proofs.least_cost.push_lines.Given as goal
 use Rattle.textwrap_lines.proofs.Common.{drop, frame_settings, HasTaken, HaveTexts, map, span_lines}
 use Rattle.textwrap_lines.proofs.Common.{◌≡◌}
 

@@ -1,4 +1,4 @@
-use Rattle.textwrap_lines.proofs.cheapest.push_cheapest_lines.Goals as goal
+use Rattle.textwrap_lines.proofs.least_cost.push_by_least_cost.Goals as goal
 use Rattle.textwrap_lines.proofs.Common.{as_splitter, frame_settings, on_ok_weaker, words_cut-texts}
 use Rattle.textwrap_lines.proofs.Common.{arith, Bor, cuts_of, FollowStarts, List, map, refl, Span}
 use Rattle.textwrap_lines.proofs.Common.{[], subst, Took, words_cut, ◌∙◌, ◌∷◌}
@@ -8,7 +8,7 @@ use Rattle.textwrap_base.specs.Cost.{problem_by}
 use Rattle.textwrap_base.specs.Table.{IsByTable}
 use Rattle.textwrap_lines.specs.Spans.{span_priced}
 use Rattle.textwrap_lines.proofs.PlacedPieces.{AreSearched, are_searched, found-lines, FoundLines}
-use Rattle.textwrap_lines.proofs.cheapest.push_cheapest_lines.Goals.{After-deref-4, In_ok-spans}
+use Rattle.textwrap_lines.proofs.least_cost.push_by_least_cost.Goals.{After-deref-4, In_ok-spans}
 
 -- the spans are measured, and what lines of them cost suits the search
 searched : (g : _) (c : In_ok-spans g) → AreSearched (frame_settings c.args.frame.now)

@@ -1,4 +1,4 @@
-use Rattle.textwrap_lines.proofs.direct.push_after_first.Goals as goal
+use Rattle.textwrap_lines.proofs.first_fit.push_after_first.Goals as goal
 use Rattle.textwrap_lines.proofs.Common.{as_splitter, frame_settings, on_ok_weaker, subst, words_of}
 use Rattle.textwrap_lines.proofs.Common.{[], sym, Took, ◌∙◌, ◌∷◌}
 use Rattle.textwrap_layout.proofs.Paragraph.Pieces.{words_of-texts}

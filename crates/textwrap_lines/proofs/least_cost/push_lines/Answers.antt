@@ -1,4 +1,4 @@
-use Rattle.textwrap_lines.proofs.cheapest.push_lines.Goals as goal
+use Rattle.textwrap_lines.proofs.least_cost.push_lines.Goals as goal
 use Rattle.textwrap_lines.proofs.Common.{drop_more, HasTaken-end, HasTaken-next, HasTaken-start}
 use Rattle.textwrap_lines.proofs.Common.{arith, drop_all, refl, ◌∙◌}
 

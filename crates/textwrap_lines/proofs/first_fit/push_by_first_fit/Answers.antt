@@ -1,4 +1,4 @@
-use Rattle.textwrap_lines.proofs.direct.push_by_first_fit.Goals as goal
+use Rattle.textwrap_lines.proofs.first_fit.push_by_first_fit.Goals as goal
 use Rattle.textwrap_lines.proofs.Common.{as_splitter, frame_settings, on_ok_weaker, pieces_of_words}
 use Rattle.textwrap_lines.proofs.Common.{indent_of, is_cut_by, parts_by, split_words, Took, word_of}
 use Rattle.textwrap_lines.proofs.Common.{ap, arith, map, subst, sym, ◌∙◌}

@@ -5,7 +5,7 @@ ghost use Rattle.textwrap_base.specs.Cost.{problem_at, problem_by};
 ghost use Rattle.textwrap_base.specs.OptimalFit.{IsByOptimalFit};
 ghost use Rattle.textwrap_base.specs.Table.{fragment_costs};
 ghost use Rattle.textwrap_words.specs.Words.{WordText, sizes_of};
-ghost use Rattle.textwrap_lines.specs.Cheapest.{SuitSearch};
+ghost use Rattle.textwrap_lines.specs.LeastCost.{SuitSearch};
 ghost use Rattle.textwrap_layout.specs.Direct.{CanBeCut, pieces_cut, cuts_of};
 ghost use Rattle.textwrap_layout.specs.Frame.{frame_lines, frame_settings, frame_widths};
 ghost use Rattle.textwrap_layout.specs.LineSinks.{Took};
@@ -48,7 +48,7 @@ pub(crate) fn suits_search(paragraph: &str, frame: &Frame<'_>, penalties: &Penal
 ///
 /// # Errors
 /// [`AllocError`] where memory runs out.
-pub(crate) fn push_cheapest_lines<'t, A: Allocator + Copy, S: LineSink<'t, A>>(
+pub(crate) fn push_by_least_cost<'t, A: Allocator + Copy, S: LineSink<'t, A>>(
     alloc: A,
     paragraph: &'t str,
     frame: &Frame<'_>,

@@ -1,7 +1,7 @@
 //! Where words may be split after their hyphens.
-ghost use Rattle.std.specs.Prelude.{◌≡◌, ◌<◌, length, reverse, chars, IfOk};
+ghost use Rattle.std.specs.Prelude.{◌≡◌, ◌<◌, length, IfOk};
 ghost use Rattle.textwrap_words.specs.Cuts.{AreCuts};
-ghost use Rattle.textwrap_words.specs.WordSplitters.{is_alphanumeric, begins_alphanumeric};
+ghost use Rattle.textwrap_words.specs.WordSplitters.{is_alphanumeric};
 ghost use Rattle.textwrap_words.specs.WordSplitters.{is_hyphen_point, hyphen_points};
 
 use std::alloc::{AllocError, Allocator};
@@ -33,24 +33,9 @@ pub(crate) fn is_hyphen_point(word: &str, point: usize) -> bool
     if word.as_bytes()[point - 1] != b'-' {
         return false;
     }
-    ends_alphanumeric(&word[..point - 1]) && begins_alphanumeric(&word[point..])
-}
-
-/// Whether the text has a first character, and this is alphanumeric.
-fn begins_alphanumeric(text: &str) -> bool
-    ensures { result ≡ begins_alphanumeric (chars text.now) }
-{
-    text.chars().next().is_some_and(is_alphanumeric)
-}
-
-/// Whether the text has a last character, and this is alphanumeric.
-fn ends_alphanumeric(text: &str) -> bool
-    ensures { result ≡ begins_alphanumeric (reverse (chars text.now)) }
-{
-    match text.chars().next_back() {
-        Some(last) => is_alphanumeric(last),
-        None => false,
-    }
+    let before = word[..point - 1].chars().next_back();
+    let after = word[point..].chars().next();
+    before.is_some_and(is_alphanumeric) && after.is_some_and(is_alphanumeric)
 }
 
 /// Whether a character is Alphabetic or a number (general category Nd, Nl or No).

@@ -60,46 +60,50 @@ pub fn line_cost<M: Measured>(
         target: line_width(line_widths, number).max(1),
         is_last: end == fragments.len(),
         is_single: end == start + 1,
+        break_penalty: last.break_penalty(),
     };
-    let added = penalties.nline_penalty as u128 + last.break_penalty() as u128;
-    line.fit_cost(penalties)?.checked_add(added)
+    line.cost(penalties)
 }
 
-/// What the cost of missing a line's target comes from.
+/// What the cost of a line comes from.
 #[derive(Clone, Copy)]
 struct CostedLine {
     closed: u128,
     target: usize,
     is_last: bool,
     is_single: bool,
+    break_penalty: usize,
 }
 
 impl CostedLine {
-    /// The cost of missing the target, or `None` where it needs more than 128 bits.
+    /// The cost of the line, or `None` where it needs more than 128 bits.
     #[inline(always)]
-    fn fit_cost(self, penalties: &Penalties) -> Option<u128>
-        ensures { let cost = fit_cost penalties.now self.target self.closed self.is_last
-            self.is_single in SomeIff result (Fits128Bits cost) cost }
+    fn cost(self, penalties: &Penalties) -> Option<u128>
+        ensures { let cost = penalties.now.nline_penalty
+            + fit_cost penalties.now self.target self.closed self.is_last self.is_single
+            + self.break_penalty
+            in SomeIff result (Fits128Bits cost) cost }
     {
         let target = self.target as u128;
+        let added = penalties.nline_penalty as u128 + self.break_penalty as u128;
         if self.closed > target {
             let past = self.closed - target;
             let penalty = penalties.overflow_penalty as u128;
             // Numbers of 64 bits are multiplied at once, and most are such.
-            return match u64::try_from(past) {
-                Ok(past) => Some(past as u128 * penalty),
-                Err(_) => past.checked_mul(penalty),
+            let missed = match u64::try_from(past) {
+                Ok(past) => past as u128 * penalty,
+                Err(_) => past.checked_mul(penalty)?,
             };
+            return missed.checked_add(added);
         }
         if !self.is_last {
             let gap = (target - self.closed) as u64;
-            return Some(gap as u128 * gap as u128);
+            return (gap as u128 * gap as u128).checked_add(added);
         }
         let is_short = self.closed * (penalties.short_last_line_fraction as u128) < target;
-        Some(if self.is_single && is_short {
-            penalties.short_last_line_penalty as u128
-        } else {
-            0
-        })
+        if self.is_single && is_short {
+            return Some(added + penalties.short_last_line_penalty as u128);
+        }
+        Some(added)
     }
 }

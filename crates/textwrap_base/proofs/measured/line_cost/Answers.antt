@@ -9,20 +9,6 @@ closed_width-requires g c =
     c.index-fragments-start.is c.index-fragments-end.is in
     record { ordered = takes.ordered; fits = takes.fits }
 
-pub returns-in_err-fit_cost : goal.returns-in_err-fit_cost
-returns-in_err-fit_cost g c =
-    let takes = takes_by_sums c.requires.measured c.requires.ordered c.requires.within
-    c.index-fragments-start.is c.index-fragments-end.is in
-    let cost = line_cost-slice g.M.Measured.priced c.args.penalties.now c.line_width.result
-    (eqb c.args.end (length c.args.fragments.now)) c.args.fragments.now c.args.start c.args.end
-    c.index-fragments-end.result c.requires.ordered c.requires.within in
-    rw (
-      ← c.line_width.ensures,
-      cost,
-      ← c.index-fragments-end.is,
-      ← (c.closed_width.ensures ∙ takes.takes),
-    ) (search rules)
-
 pub returns : goal.returns
 returns g c =
     let takes = takes_by_sums c.requires.measured c.requires.ordered c.requires.within

@@ -5,7 +5,7 @@ use Rattle.textwrap.proofs.Common.{IsFilledInPlace, parts_past-some, line_width-
 use Rattle.textwrap.proofs.Common.{tiled-words_of, AreLinesApart, greedy_unique, length-append, All}
 use Rattle.textwrap.proofs.Common.{paragraphs_of, append_assoc, broken_lines, common_steps, All-nil}
 use Rattle.textwrap.proofs.Common.{ending_bytes, grown-greedy, tiled-append, words_unique, All-head}
-use Rattle.textwrap.proofs.Common.{FitsOneLine, length_push, split-whole, trimmed_len, AreWordsOf}
+use Rattle.textwrap.proofs.Common.{FitsOneLine, length_push, split-whole, AreWordsOf}
 use Rattle.textwrap.proofs.Common.{append-nil, map-append, parts_from, AreGroups, DividesAs, Greedy}
 use Rattle.textwrap.proofs.Common.{LineParts, and_parts, breaks_of, indent_of, join_with, line_from}
 use Rattle.textwrap.proofs.Common.{shortened, widths_of, All-tail, IsGreedy, WordText, flat_map, LF}
@@ -90,13 +90,10 @@ filled-paragraphs width text filled is =
 
 -- ---- the lines of a part, with the blanks at their ends left off
 
-trimmed_len-push : (text : List ℕ) → trimmed_len (text ++ blank ∷ []) ≡ trimmed_len text
-trimmed_len-push text = search (rules, reverse-append, length_push)
-
 -- a blank at the end of a text is one of its final blanks
 pub without_final_blanks-push : (text : List ℕ)
     → without_final_blanks (text ++ blank ∷ []) ≡ without_final_blanks text
-without_final_blanks-push text = search (rules, trimmed_len-push, take-append-le)
+without_final_blanks-push text = search (rules, reverse-append, length_push, take-append-le)
 
 pub covered-words : (line : List WordText) → AreWordsOf (tiled line) line
     → covered line ≡ without_final_blanks (tiled line)
@@ -306,11 +303,6 @@ module _ {width start : ℕ} {part old breaks : List ℕ} {begin end taken : ℕ
       → end + len + length (tiled left) ≡ start + length part
   passed len is = search (rules, tiled-append, length-append, append-nil)
 
--- ---- the line so far, from the offset `begin` of the text, and the words that are left
-
-module _ {width start : ℕ} {part old breaks : List ℕ} {begin end taken : ℕ} {x : WordText}
-    {left line : List WordText}
-    (has : HasLine width start part old breaks begin end taken (x ∷ left) line) where
   -- the line has no room for the word, so the blank before it is a place
   pub HasLine-break : (from len more : ℕ) (pushed : List ℕ) → begin < end
       → width < taken + x.width → from ≡ end → len ≡ length (tile_of x)
@@ -318,7 +310,7 @@ module _ {width start : ℕ} {part old breaks : List ℕ} {begin end taken : ℕ
       → HasLine width start part old pushed from (end + len) more left (x ∷ [])
   HasLine-break from len more pushed began over from_is len_is more_is pushed_is =
       let some : 0 < length line = line_some line (omega (arith, began, has.end_is)) in
-      let full : width < closed_width sizes_of (line ++ x ∷ []) = omega (arith, closes has, over) in
+      let full : width < closed_width sizes_of (line ++ x ∷ []) = omega (arith, closes, over) in
       let (others, rest, is) = grown-begins sizes_of width width left (x ∷ []) in
       let next = grown sizes_of width width left (x ∷ []) in
       let after : breaks_of begin (line ∷ next) ≡ (end - 1) ∷ breaks_of end next = cc in
@@ -326,9 +318,9 @@ module _ {width start : ℕ} {part old breaks : List ℕ} {begin end taken : ℕ
         after = omega (arith, from_is, has.after, has.end_is);
         end_is = omega (arith, from_is, len_is, ap length (append-nil (tile_of x)));
         taken_is = omega (arith, more_is);
-        some = λ any. omega (arith, from_is, len_is, (first has).some);
+        some = λ any. omega (arith, from_is, len_is, first.some);
         plain = All-tail IsPlain x left has.plain;
-        room = passed has len len_is;
+        room = passed len len_is;
         places = search (rules, append_assoc, grown-full);
         whole = λ fits. absurd (omega (
           arith,
@@ -346,12 +338,12 @@ module _ {width start : ℕ} {part old breaks : List ℕ} {begin end taken : ℕ
   HasLine-join from len more kept within from_is len_is more_is kept_is = grind (
     arith,
     common_steps,
-    closes has,
+    closes,
     tiled-push line x,
     length-append (tiled line) (tile_of x),
     open_width-append sizes_of line (x ∷ []),
     All-tail IsPlain x left has.plain,
-    passed has len len_is,
+    passed len len_is,
   )
 
   -- a line without bytes has no columns
@@ -366,7 +358,7 @@ module _ {width start : ℕ} {part old breaks : List ℕ} {begin end taken : ℕ
   pub HasLine-fits : FitsOneLine width part → begin < end → taken + x.width ≤ width
   HasLine-fits fits began = omega (
     arith,
-    closes has,
+    closes,
     prefix-closes sizes_of width line x left
         (search (rules, arith)) (line_some line (omega (arith, began, has.end_is))),
   )

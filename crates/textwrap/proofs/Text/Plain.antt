@@ -13,7 +13,6 @@ use Rattle.textwrap_text.proofs.Common.{without_final_blanks, length-take, All-a
 use Rattle.textwrap_text.proofs.Lists.Parts.{last-append}
 use Rattle.textwrap_words.proofs.Word.Texts.{trimmed-past}
 use Rattle.textwrap.proofs.Text.InPlace.{blank_joined, feed_joined}
-use Rattle.std.specs.Str.Lines.{strip_carriage_return}
 use Rattle.textwrap_text.proofs.TextLines.{ended_lines-front, ended_lines-whole}
 use Rattle.std.proofs.lemmas.Slice.Eq.{bytes_eq-Decides}
 
@@ -181,10 +180,6 @@ plain_parts (part ∷ next ∷ parts) plain =
 
 -- ---- the lines of a text of rows, unfilled
 
-kept_return : (line : List ℕ) → IsRow line → strip_carriage_return line ≡ line
-kept_return line here = ap (λ b. cond b (take (length line - 1) line) line)
-    (ne_eqb (last line) 13 here.ends.1)
-
 ended-rows : (rows : List (List ℕ)) → All IsRow rows
     → texts_of (ended_lines (feed_joined rows)) ≡ rows
 ended-rows [] are = refl
@@ -196,7 +191,7 @@ ended-rows (row ∷ next ∷ rows) are =
     let more = feed_joined (next ∷ rows) in
     ap (λ t. texts_of (ended_lines t)) (append_assoc row (line_feed ∷ []) more)
     ∙ ap texts_of (ended_lines-front row more here.no_feed)
-    ∙ ap₂ (λ l ls. l ∷ ls) (kept_return row here)
+    ∙ ap₂ (λ l ls. l ∷ ls) (ap (λ b. cond b (take (length row - 1) row) row) (ne_eqb (last row) 13 here.ends.1))
     (ended-rows (next ∷ rows) (All-tail IsRow row (next ∷ rows) are))
 
 pub lines-rows : (rows : List (List ℕ)) → All IsRow rows → lines (feed_joined rows) ≡ rows

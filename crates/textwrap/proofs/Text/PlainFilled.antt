@@ -143,12 +143,6 @@ pub record IsPlainCut (initial subsequent text filled : List ℕ) : Type 0 where
   pub text_is : text ≡ blank_joined parts
   pub filled_is : filled ≡ feed_joined (indented_rows initial subsequent parts)
 
-unblank-plain : (parts : List (List ℕ)) → All IsPlainLine parts
-    → map without_final_blanks parts ≡ parts
-unblank-plain parts plain =
-    map_fixed without_final_blanks parts
-    (search (rules, arith, All-weaker, unblank-row, solid))
-
 division-by : {X : Type 0} (algorithm : Algorithm) (sizes : X → Sizes) (widths : List ℕ)
     (xs : List X) (lines : List (List X)) → IsDividedBy algorithm sizes widths xs lines
     → IsDivision xs lines
@@ -211,7 +205,8 @@ module _ (settings : Settings) (keeps : KeepsWords settings) where
         text_is = text_is;
         filled_is = ap feed_joined (bytes-broken false (line ∷ lines) division.1 apart
             ∙ ap (indented_rows settings.initial_indent settings.subsequent_indent)
-            (unblank-plain parts all));
+            (map_fixed without_final_blanks parts
+            (search (rules, arith, All-weaker, unblank-row, solid))));
       }
 
   module _ (algorithm : Algorithm) (text : List ℕ) (none : All (λ c. c ≢ line_feed) text) where

@@ -8,7 +8,7 @@ use Rattle.textwrap.proofs.Common.{IsCharBoundary, detected_among, nonempty_line
 use Rattle.textwrap.proofs.Common.{common_prefix, settings_view, IsAscii-cons, IsAscii-take, IfSome}
 use Rattle.textwrap.proofs.Common.{added_ending, append_assoc, common_start, common_steps, All-head}
 use Rattle.textwrap.proofs.Common.{ending_bytes, keeps_ending, IsInColumns, joined_text, All-filter}
-use Rattle.textwrap.proofs.Common.{line_prefix, settings_at, IsRefilled, LineEnding, StartsWith, []}
+use Rattle.textwrap.proofs.Common.{line_prefix, IsRefilled, LineEnding, StartsWith, []}
 use Rattle.textwrap.proofs.Common.{append-nil, prefix_len, text_width, Algorithm, DividesAs, IsUtf8}
 use Rattle.textwrap.proofs.Common.{EndedLine, ends_with, join_with, layout_of, nat_tests, unwrap_or}
 use Rattle.textwrap.proofs.Common.{All-tail, IsFilled, Settings, Splitter, WordText, flat_map, Bool}
@@ -42,9 +42,6 @@ take_common [] ys = refl
 take_common (x ∷ xs) [] = refl
 take_common (x ∷ xs) (y ∷ ys) = search (rules, take_common-cut, nat_eq, take_common xs ys)
 
-common_start-right : (xs ys : List ℕ) → StartsWith ys (common_start xs ys)
-common_start-right xs ys = grind (arith, common_steps, take_common xs ys)
-
 pub common_len-longest : (other xs ys : List ℕ) → StartsWith xs other → StartsWith ys other
     → length other ≤ common_len xs ys
 common_len-longest [] xs ys left right = omega arith
@@ -52,10 +49,6 @@ common_len-longest (o ∷ os) [] ys left right = cc
 common_len-longest (o ∷ os) (x ∷ xs) [] left right = cc
 common_len-longest (o ∷ os) (x ∷ xs) (y ∷ ys) left right =
     search (rules, eq-eqb, common_len-longest os xs ys (ap (drop 1) left) (ap (drop 1) right))
-
-common_start-longest : (other xs ys : List ℕ) → StartsWith xs other → StartsWith ys other
-    → StartsWith (common_start xs ys) other
-common_start-longest other xs ys left right = search (rules, take-take, common_len-longest)
 
 fold-begins : (text : List ℕ) (texts : List (List ℕ))
     → StartsWith text (fold common_start text texts)
@@ -70,7 +63,8 @@ fold-begins text (next ∷ texts) =
           (starts_with_of_append text (take n text) (drop n text) (sym (take-append-drop n text)))
           first,
       All-cons (λ t. StartsWith t whole) next texts
-          (starts_with_trans next start whole (common_start-right text next) first) others,
+          (starts_with_trans next start whole
+          (grind (arith, common_steps, take_common text next)) first) others,
     )
 
 pub common_prefix-begins : (texts : List (List ℕ))
@@ -83,7 +77,7 @@ fold-longest : (other text : List ℕ) (texts : List (List ℕ)) → StartsWith 
 fold-longest other text [] first others = starts_with_length text other first
 fold-longest other text (next ∷ texts) first others =
     fold-longest other (common_start text next) texts
-    (search (rules, common_start-longest, All-head))
+    (search (rules, take-take, common_len-longest, All-head))
     (All-tail (λ t. StartsWith t other) next texts others)
 
 common_prefix-is : (texts : List (List ℕ)) → IsCommonPrefix texts (common_prefix texts)
@@ -119,11 +113,6 @@ line_prefix-boundary line utf8 =
     (prefix_len-le-length is_prefix_character line)
     (IsUtf8-from_ascii (line_prefix line) (line_prefix-ascii line))
 
--- ---- what two texts have in common
-
-pub common_start-ascii : (xs ys : List ℕ) → IsAscii xs → IsAscii (common_start xs ys)
-common_start-ascii xs ys ascii = IsAscii-take xs (common_prefix_len nat_eq xs ys) ascii
-
 -- ---- what a text begins with
 
 pub line_prefix-begins : (line : List ℕ) → StartsWith line (line_prefix line)
@@ -142,10 +131,6 @@ pub width-first : (es : List EndedLine)
 width-first [] = text_width-nil
 width-first (e ∷ es) = search rules
 
-pub texts_of-later : (es : List EndedLine) → texts_of (drop 1 es) ≡ drop 1 (texts_of es)
-texts_of-later [] = refl
-texts_of-later (e ∷ es) = refl
-
 -- ---- one more line
 
 pub narrowed : (common : Option (Bor (List ℕ))) (prefix : List ℕ) (rest : List (List ℕ))
@@ -158,7 +143,7 @@ pub narrowed-ascii : (common : Option (Bor (List ℕ))) (text : List ℕ)
     → IfSome common (λ c. IsAscii c.now)
     → IsAscii (common_prefix (texts_in common ++ line_prefix text ∷ []))
 narrowed-ascii None text ascii = line_prefix-ascii text
-narrowed-ascii (Some common) text ascii = search (rules, common_start-ascii)
+narrowed-ascii (Some common) text ascii = search (rules, IsAscii-take)
 
 -- ---- no more lines
 
@@ -166,17 +151,6 @@ pub common-end : (common : Option (Bor (List ℕ))) (none : Bor (List ℕ)) → 
     → (unwrap_or common none).now ≡ common_prefix (texts_in common)
 common-end None none empty = empty
 common-end (Some common) none empty = refl
-
-abbrev pub with_indents : List ℕ → List ℕ → Settings → Settings
-with_indents initial subsequent settings =
-    record settings { initial_indent = initial; subsequent_indent = subsequent }
-
--- the defaults at a width, with these indents
-pub settings-with : (width found : ℕ) (initial subsequent first later : List ℕ)
-    → width ≡ found → initial ≡ first → subsequent ≡ later
-    → with_indents initial subsequent (settings_at width)
-    ≡ with_indents first later (settings_at found)
-settings-with width found initial subsequent first later wide begins goes_on = cc
 
 -- ---- the lines that are not empty begin with their indents
 

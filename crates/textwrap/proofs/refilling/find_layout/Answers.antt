@@ -3,8 +3,8 @@ use Rattle.textwrap.proofs.Common.{unfilled_subsequent, ended_lines-texts, unfil
 use Rattle.textwrap.proofs.Common.{unfilled_width, common_prefix, ended_lines, line_prefix, IsAscii}
 use Rattle.textwrap.proofs.Common.{append-nil, text_width, texts_of, lines, subst, drop, fold, refl}
 use Rattle.textwrap.proofs.Common.{◌++◌, map, max, sym, ◌∙◌, ◌∷◌, ◌≡◌, [], ap}
-use Rattle.textwrap.proofs.Text.Unfilling.{narrowed-ascii, texts_of-later, settings-with, narrowed}
-use Rattle.textwrap.proofs.Text.Unfilling.{width-first, common-end, texts_in}
+use Rattle.textwrap.proofs.Text.Unfilling.{narrowed-ascii, narrowed, width-first, common-end, texts_in}
+use Rattle.std.proofs.lemmas.List.{drop-map}
 
 pub loop-line-init : goal.loop-line-init
 loop-line-init c =
@@ -17,7 +17,8 @@ loop-line-init c =
     record {
       width = rw (left, c.display_width-width.ensures.width, first) (width-first es
           ∙ ap (λ ls. fold max 0 (map text_width ls)) (ended_lines-texts text));
-      common = ap (λ ls. common_prefix (map line_prefix ls)) (ap texts_of left ∙ texts_of-later es
+      common = ap (λ ls. common_prefix (map line_prefix ls)) (ap texts_of left
+          ∙ sym (drop-map (λ e. e.line) 1 es)
           ∙ ap (drop 1) (ended_lines-texts text));
       ascii = tt;
     }
@@ -51,4 +52,4 @@ returns c =
     let subsequent : c.unwrap_or.result.now ≡ unfilled_subsequent text =
     ap (λ b. b.now) c.unwrap_or.ensures ∙ common-end c.loop-line.common _ refl
     ∙ (rw (none, append-nil) at c.loop-line.invariant.common) in
-    settings-with c.loop-line.width _ _ _ _ _ width initial subsequent
+    cc

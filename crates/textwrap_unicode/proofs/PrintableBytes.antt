@@ -18,6 +18,7 @@ use Rattle.textwrap_unicode.proofs.Common.{class_past_blanks, is_any_hyphen, is_
 use Rattle.textwrap_unicode.proofs.Common.{Before, and, before_of, decide, may_end, not-true}
 use Rattle.textwrap_unicode.proofs.WordVerdicts.{ascii-is, unit_with}
 use Rattle.textwrap_unicode.specs.Pairs.{behind_classes, is_cut_behind, may_follow_blanks}
+use Rattle.textwrap_classes.specs.ClassSets.{is_affix, is_letter, is_number}
 use Rattle.textwrap_unicode.specs.declared.pairs.TheConstants.{KINDS, UNUSUAL_AFTER}
 use Rattle.textwrap_words.proofs.Word.Texts.{final_blanks-blank, trimmed-other}
 use Rattle.unicode.proofs.LineBreakLemmas.{line_break_number_injective}
@@ -58,32 +59,21 @@ is_hyphen_class class = false
 
 -- the bit of its kind in the table
 abbrev pub kind_of : LineBreak → ℕ
-kind_of Space = 1
-kind_of Exclamation = 2
-kind_of ClosePunctuation = 2
-kind_of CloseParenthesis = 2
-kind_of InfixNumeric = 2
-kind_of BreakSymbols = 2
-kind_of Alphabetic = 4
-kind_of PrefixNumeric = 8
-kind_of PostfixNumeric = 8
-kind_of OpenPunctuation = 16
-kind_of Numeric = 32
-kind_of class = 0
+kind_of class =
+    if is_space class then 1 else if is_after_text class then 2 else if is_letter class then 4
+    else if is_affix class then 8 else if is_opening class then 16
+    else if is_number class then 32 else 0
 
 -- the kinds that are unusual behind it
 abbrev pub unusual_after : LineBreak → ℕ
-unusual_after Space = 18
 unusual_after Exclamation = 60
 unusual_after BreakAfter = 60
-unusual_after PrefixNumeric = 8
-unusual_after PostfixNumeric = 8
-unusual_after OpenPunctuation = 1
 unusual_after CloseParenthesis = 16
 unusual_after ClosePunctuation = 52
 unusual_after InfixNumeric = 24
 unusual_after BreakSymbols = 28
-unusual_after class = 0
+unusual_after class =
+    if is_space class then 18 else if is_affix class then 8 else if is_opening class then 1 else 0
 
 -- ---- the bytes
 

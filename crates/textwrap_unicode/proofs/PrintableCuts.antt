@@ -247,10 +247,7 @@ module _ (text : List ℕ) (printable : IsPrintable text) where
       (λ k at below. none k at (omega (arith, below))) in
       let here = usual_pair (from + n) (omega (arith, start)) (omega (arith, within)) before
       (none (from + n) (omega arith) (omega arith)) in
-      λ k some below. elim (cases_lt k (from + n)) [
-        | inl less ↦ before k some less
-        | inr at ↦ subst (IsUsual text) (omega (arith, at, below)) here
-      ]
+      grind (arith, cases_lt, before, here)
 
 -- ---- in a text that is cut at its blanks alone no blank stands behind a bracket that opens,
 -- but at the end
@@ -278,13 +275,9 @@ module _ (text : List ℕ) (h : IsCutAtBlanks text) where
       let inside = within (k + 0) below in
       let before : k - 1 < length text = omega (arith, inside) in
       let other = sym (space-at text h.printable (k - 1) before) ∙ open-other _ opens in
-      rw (add-zero k) (
-        blank,
-        ap is_opening (past-blank text h.printable k (omega (arith, inside)) blank
-            ∙ ap (class_past_blanks text) (sym last)
-            ∙ past-byte text h.printable (k - 1) before other)
-            ∙ opens,
-      )
+      let past = past-blank text h.printable k (omega (arith, inside)) blank
+      ∙ ap (class_past_blanks text) (sym last) ∙ past-byte text h.printable (k - 1) before other in
+      rw (add-zero k) (blank, ap is_opening past ∙ opens)
   blanks-on k start opens blank (suc n) below =
       let next : suc (k + n) ≡ k + suc n = omega arith in
       let (before, past) = blanks-on k start opens blank n (omega (arith, below)) in

@@ -137,10 +137,8 @@ module _ (numbers : Numbers) (line : List ℕ) (at : ℕ) (rest : List ℕ) wher
       let one : encode c ≡ c ∷ [] = encode_ascii c word.ascii in
       let is : drop n rest ≡ encode c ++ after = rw (one, ← add-one n) (drop_more rest n 0 inside) in
       let place : at + suc n ≡ at + n + length (encode c) = omega (arith, ap length one) in
-      IsCutting-step numbers line (at + n) (drop n rest) Text (behind blank sign) (at + n) false cuts c
-      after (Text, true) h is (plain-step c (no-escape c word)) (at + suc n)
-      (behind (is_behind_blank rest (suc n)) (is_behind_sign rest (suc n))) (at + suc n) false _
-      place (sym (ap (and (behind blank sign)) unit ∙ and_is)) place (sym (no-hyphen c word))
+      IsCutting-step _ _ _ _ _ _ _ _ _ c after (Text, true) h is (plain-step c (no-escape c word))
+      _ _ _ _ _ place (sym (ap (and (behind blank sign)) unit ∙ and_is)) place (sym (no-hyphen c word))
       (ap (λ b. cuts ++ cut_here b (at + n)) (sym (ap (ends numbers back blank sign) unit ∙ ends_is)))
 
   past-words : (cuts : List ℕ) → IsCutting numbers line at rest Text in_word at false cuts
@@ -211,9 +209,8 @@ module _ (numbers : Numbers) (line : List ℕ) (at : ℕ) (rest : List ℕ) wher
       let place : at + 3 * suc n ≡ at + 3 * n + length (encode c) = omega (arith, three) in
       subst (λ k. IsCutting numbers line (at + 3 * suc n) (drop k rest) Text behind_ideograph
       (at + 3 * suc n) false (cuts ++ (at + 3 * n) ∷ [])) (sym next)
-      (IsCutting-step numbers line (at + 3 * n) (drop (3 * n) rest) Text behind_ideograph (at + 3 * n)
-      false cuts c after (Text, true) h here.stands (plain-step c (ideograph-no-escape c here.common))
-      (at + 3 * suc n) behind_ideograph (at + 3 * suc n) false _ place
+      (IsCutting-step _ _ _ _ _ _ _ _ _ c after (Text, true) h here.stands
+      (plain-step c (ideograph-no-escape c here.common)) _ _ _ _ _ place
       (sym (ap (and behind_ideograph) unit ∙ and_is)) place (sym (ideograph-no-hyphen c here.common))
       (ap (λ b. cuts ++ cut_here b (at + 3 * n))
       (sym (ap (λ u. may_end (decide_by (numbers_rule numbers (visible_in Text (chars after)))

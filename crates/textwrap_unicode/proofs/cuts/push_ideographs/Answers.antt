@@ -1,9 +1,9 @@
-use Rattle.textwrap_classes.proofs.Common.{◌++◌, length-append, char_indices_rest, ideograph_places}
-use Rattle.textwrap_classes.proofs.Common.{length, add-one, append_assoc, cases_lt, IsIdeographAt}
-use Rattle.textwrap_classes.proofs.Common.{◌≡◌, ◌+◌, ◌*◌, ◌∷◌, drop, sym, ◌∙◌, subst, arith, encode}
-use Rattle.textwrap_classes.proofs.Common.{[], ap, inl, inr}
+use Rattle.std.proofs.{Common.refl, lemmas.Str.drop_past_char}
+use Rattle.textwrap_classes.proofs.Common.{IsIdeographAt, char_indices_rest, drop, ideograph_places}
+use Rattle.textwrap_classes.proofs.Common.{add-one, append_assoc, cases_lt, encode, length-append}
+use Rattle.textwrap_classes.proofs.Common.{arith, inl, inr, length, subst, sym, ◌*◌, ◌++◌, ◌+◌, ◌∙◌}
+use Rattle.textwrap_classes.proofs.Common.{[], ap, ◌∷◌, ◌≡◌}
 use Rattle.textwrap_text.proofs.Common.{length-drop, length-encode}
-use Rattle.std.proofs.lemmas.Str.{drop_past_char}
 use Rattle.textwrap_unicode.proofs.WordVerdicts.{three-bytes}
 use Rattle.textwrap_unicode.proofs.cuts.push_ideographs.Goals as goal
 
@@ -34,14 +34,7 @@ loop-after-preserved c =
       place = omega (arith, s.2, h.place, size);
       left = ap (λ k. drop k rest) next ∙ past;
       within = omega (arith, h.within, ap length is, length-drop (3 * n) rest, size);
-      ideographs = λ k below. elim (cases_lt k n) [
-        | inl before ↦ h.ideographs k before
-        | inr from ↦
-            let last : n ≡ k = omega (arith, from, below) in
-            subst (λ i. IsIdeographAt rest (3 * i)) last here
-      ];
+      ideographs = grind (arith, cases_lt, h.ideographs, here);
       cuts = rw (add-one n) (c.in_ok-push.ensures.items
-          ∙ ap (λ l. l ++ (at + c.in-Some.after) ∷ []) h.cuts
-          ∙ ap (λ p. (c.args.cuts.now.items ++ ideograph_places at n) ++ p ∷ []) place
-          ∙ append_assoc c.args.cuts.now.items (ideograph_places at n) ((at + 3 * n) ∷ []));
+          ∙ rw (h.cuts, place, append_assoc c.args.cuts.now.items (ideograph_places at n)) refl);
     }

@@ -8,13 +8,9 @@ use Rattle.textwrap_unicode.proofs.CutLemmas.{none-left, reading-break, reading-
 use Rattle.textwrap_unicode.proofs.breaks.LineBreaksIterator.next.Goals as goal
 
 pub loop-offset-init : goal.loop-offset-init
-loop-offset-init c = (
-  reading-start _ _ _ _ _ _ _ (search rules)
-      (ap char_indices_offset c.into_iter-offset-iterator.ensures.into_iter_gives
-      ∙ c.char_indices-offset-items.ensures.offset)
-      (ap char_indices_rest c.into_iter-offset-iterator.ensures.into_iter_gives
-      ∙ c.char_indices-offset-items.ensures.rest)
-      refl,
+loop-offset-init c = rw c.into_iter-offset-iterator.ensures.into_iter_gives (
+  reading-start _ _ _ _ _ _ _ (search rules) c.char_indices-offset-items.ensures.offset
+      c.char_indices-offset-items.ensures.rest refl,
   refl,
   c.is_in_word-is_in_word.ensures,
 )
@@ -43,16 +39,12 @@ loop-offset-preserved-then-is_plain_letter c =
     )
 
 pub decide_in-verdict-requires : goal.decide_in-verdict-requires
-decide_in-verdict-requires c =
-    let s = c.in-Some.ensures.steps in
-    rw (s.0, c.len_utf8.ensures.len)
-    (read-next c.loop-offset.invariant.0.read _ _ s.1 _ refl).boundary
+decide_in-verdict-requires c = rw (c.in-Some.ensures.steps.0, c.len_utf8.ensures.len)
+    (read-next c.loop-offset.invariant.0.read _ _ c.in-Some.ensures.steps.1 _ refl).boundary
 
 pub range_from-requires : goal.range_from-requires
-range_from-requires c = λ some.
-    let s = c.in-Some.ensures.steps in
-    rw (s.0, c.len_utf8.ensures.len)
-    (read-next c.loop-offset.invariant.0.read _ _ s.1 _ refl).boundary
+range_from-requires c = λ _. rw (c.in-Some.ensures.steps.0, c.len_utf8.ensures.len)
+    (read-next c.loop-offset.invariant.0.read _ _ c.in-Some.ensures.steps.1 _ refl).boundary
 
 pub returns-in-loop-offset-clause-steps : goal.returns-in-loop-offset-clause-steps
 returns-in-loop-offset-clause-steps c =
@@ -69,8 +61,7 @@ returns-in-loop-offset-clause-steps c =
 
 pub returns-in-loop-offset-clause-goes : goal.returns-in-loop-offset-clause-goes
 returns-in-loop-offset-clause-goes c =
-    let shorter = ap length (returns-in-loop-offset-clause-steps c) in
-    search (rules, arith)
+    search (rules, arith, ap length (returns-in-loop-offset-clause-steps c))
 
 pub returns-then-before-clause-steps : goal.returns-then-before-clause-steps
 returns-then-before-clause-steps c =
@@ -91,6 +82,4 @@ returns-clause-steps c =
     sym c.self.view_is ∙ one ∙ ap (λ ls. place ∷ ls) (sym (none-left _ _ end c.new.ensures))
 
 pub returns-clause-goes : goal.returns-clause-goes
-returns-clause-goes c =
-    let shorter = ap length (returns-clause-steps c) in
-    search (rules, arith)
+returns-clause-goes c = search (rules, arith, ap length (returns-clause-steps c))

@@ -18,7 +18,7 @@ pub use Rattle.textwrap_display.specs.JustifiedText.{IsJustifiedText}
 pub use Rattle.textwrap_display.specs.Justifying.{indent_len, justified, line_words, widened_words}
 pub use Rattle.textwrap_display.specs.Justifying.{gaps}
 pub use Rattle.textwrap_display.specs.Laws.{KeepsWords, word_texts}
-pub use Rattle.textwrap_display.specs.OpenStyles.{IsOpenAfter}
+pub use Rattle.textwrap_display.specs.OpenStyles.{AreStyles, IsOpenAfter}
 pub use Rattle.textwrap_display.specs.Shortening.{AreShortened, IsShortened, can_end, texts_of}
 pub use Rattle.textwrap_display.specs.Styled.{IsWholeText, styled, styled_lines, styled_text}
 pub use Rattle.textwrap_display.specs.Styles.{carried_lines, closing, link_fields, style_parameters}

@@ -5,7 +5,7 @@ use Rattle.textwrap_text.proofs.Common.{cases_Bool, list_any, filter, false, Lis
 use Rattle.textwrap_text.proofs.Common.{refl, true, ◌++◌, All, sym, ◌∙◌, ◌∷◌, ◌≡◌, ◌≢◌, []}
 use Rattle.textwrap_text.proofs.Common.{append-nil, append_assoc, length-append, map-append, drop}
 use Rattle.textwrap_text.proofs.Common.{get_or, length, take_more, take, suc, zero, Bor, map, ap, ℕ}
-use Rattle.textwrap_text.proofs.Common.{◌+◌, ◌-◌, ◌<◌, ◌≤◌}
+use Rattle.textwrap_text.proofs.Common.{nat_tests, ◌+◌, ◌-◌, ◌<◌, ◌==◌, ◌≤◌}
 use Rattle.std.proofs.lemmas.Map.Views.{any-filter_same}
 use Rattle.textwrap_display.proofs.Common.{concat, concat-append}
 use Rattle.textwrap_display.specs.Styles.{last_of_each}
@@ -47,6 +47,20 @@ pub last-again : (ss : List (List ℕ)) → last_of_each (last_of_each ss) ≡ l
 last-again [] = refl
 last-again (s ∷ ss) = grind (arith, cases_Bool, last-again ss, none-last (bytes_eq s) ss)
 
+-- with one more that takes the place of an equal one, they are so too
+pub last-pushed : (ss : List (List ℕ)) (s : List ℕ) → last_of_each ss ≡ ss
+    → last_of_each (without s ss ++ s ∷ []) ≡ without s ss ++ s ∷ []
+last-pushed ss s are =
+    let pushed : last_of_each (ss ++ s ∷ []) ≡ without s ss ++ s ∷ [] =
+    last-push ss s ∙ ap (λ ts. without s ts ++ s ∷ []) are in
+    ap last_of_each (sym pushed) ∙ last-again (ss ++ s ∷ []) ∙ pushed
+
+-- there is a last one wherever there is one
+pub last-none : (ss : List (List ℕ)) → (length (last_of_each ss) == 0) ≡ (length ss == 0)
+last-none [] = refl
+last-none (s ∷ []) = refl
+last-none (s ∷ t ∷ ss) = grind (arith, cases_Bool, nat_tests, last-none (t ∷ ss))
+
 -- ---- no two are equal
 
 none-equal : (s : List ℕ) (ss : List (List ℕ)) → list_any (bytes_eq s) ss ≡ false
@@ -70,6 +84,9 @@ last-different (s ∷ ss) = by (list_any (bytes_eq s) ss) refl (last-different s
         (All-last (λ t. s ≢ t) ss (none-equal s ss is)) others
 
 -- ---- the texts of a list, and of one whose equal elements are taken out
+
+abbrev pub texts : List (Bor (List ℕ)) → List (List ℕ)
+texts ss = map (λ s. s.now) ss
 
 pub without-texts : (s : List ℕ) (ss : List (Bor (List ℕ)))
     → map (λ (t : Bor (List ℕ)). t.now)

@@ -18,8 +18,9 @@ use Rattle.textwrap_display.specs.declared.styles.OpenStyles.{OpenStyles}
 use Rattle.textwrap_display.proofs.Sequences.{reset-is_style, link-no_style, style-no_link}
 use Rattle.std.proofs.lemmas.List.Sums.{fold-append}
 use Rattle.textwrap_display.proofs.LastOfEach.{All-last, last-again, last-different, last-push}
-use Rattle.textwrap_display.proofs.LastOfEach.{kinds-bytes, one-bytes, rest-bytes, some-bytes}
-use Rattle.textwrap_display.proofs.LastOfEach.{without}
+use Rattle.textwrap_display.proofs.LastOfEach.{kinds-bytes, last-none, one-bytes, rest-bytes}
+use Rattle.textwrap_display.proofs.LastOfEach.{some-bytes, without}
+use Rattle.textwrap_display.specs.OpenStyles.{AreStyles}
 use Rattle.textwrap_display.specs.Styles.{last_of_each, opening}
 
 -- ---- what is open after some sequences and after one more, or any more
@@ -88,18 +89,19 @@ target-set s target empty are is = grind (arith, cases_Bool, nat_tests)
 abbrev zeros : List ℕ → Bool
 zeros s = list_all (λ c. (c == 0x30) || (c == 0x3B)) (style_parameters s)
 
--- the styles that it keeps
-abbrev set_in : {Z : Type 0} → OpenStyles Z → List (List ℕ)
-set_in state = map (λ s. s.now) state.styles.items
-
 module _ {Z : Type 0} (before : List (List ℕ)) (s : List ℕ) (old new : OpenStyles Z)
     (state : IsOpenAfter before old) where
+  -- the styles, by what the sequence does
   styles-after : (reset style : Bool) → is_reset s ≡ reset → is_style s ≡ style
-      → open_styles (before ++ s ∷ [])
-      ≡ cond reset [] (cond style (without s (open_styles before) ++ s ∷ []) (open_styles before))
-  styles-after reset style resets styles = rw (sym resets, sym styles) (open_styles-push before s)
+      → AreStyles
+      (cond reset [] (cond style (without s (open_styles before) ++ s ∷ []) (open_styles before)))
+      new
+      → AreStyles (open_styles (before ++ s ∷ [])) new
+  styles-after reset style resets styles are =
+      subst (λ are. AreStyles are new)
+      (sym (rw (sym resets, sym styles) (open_styles-push before s))) are
 
-  -- the link, by what the sequence does
+  -- the link, by what it does
   link-after : (link : Bool) → is_link s ≡ link → open_link (before ++ s ∷ [])
       ≡ cond link (cond (has_target s) (s ∷ []) []) (open_link before)
   link-after link is = rw (sym is) (open_link-push before s)
@@ -109,40 +111,33 @@ module _ {Z : Type 0} (before : List (List ℕ)) (s : List ℕ) (old new : OpenS
   same-link none same =
       ap (λ l. option_to_list (option_copied l)) same ∙ state.link ∙ sym (link-after false none)
 
-  same-styles : is_style s ≡ false → set_in new ≡ set_in old
-      → set_in new ≡ open_styles (before ++ s ∷ [])
-  same-styles plain same =
-      same ∙ state.styles ∙ sym (styles-after false false (ap (λ b. b && zeros s) plain) plain)
+  same-styles : is_style s ≡ false → AreStyles (open_styles before) new
+      → AreStyles (open_styles (before ++ s ∷ [])) new
+  same-styles plain = styles-after false false (ap (λ b. b && zeros s) plain) plain
 
-  pub after-reset : is_style s ≡ true → zeros s ≡ true → set_in new ≡ []
+  pub after-reset : is_style s ≡ true → zeros s ≡ true → AreStyles [] new
       → new.link ≡ old.link → IsOpenAfter (before ++ s ∷ []) new
   after-reset style reset none same = record {
-    styles = none ∙ sym
-        (styles-after true true (and_from (is_style s) (zeros s) style reset) style);
+    styles = styles-after true true (and_from (is_style s) (zeros s) style reset) style none;
     link = same-link (style-no_link s style) same;
   }
 
   pub after-style : is_style s ≡ true → zeros s ≡ false
-      → set_in new ≡ without s (set_in old) ++ s ∷ [] → new.link ≡ old.link
+      → AreStyles (without s (open_styles before) ++ s ∷ []) new → new.link ≡ old.link
       → IsOpenAfter (before ++ s ∷ []) new
   after-style style more added same = record {
-    styles = added ∙ ap (λ ss. without s ss ++ s ∷ []) state.styles
-        ∙ sym (styles-after false true (ap (λ b. b && zeros s) style ∙ more) style);
+    styles = styles-after false true (ap (λ b. b && zeros s) style ∙ more) style added;
     link = same-link (style-no_link s style) same;
   }
 
-  pub after-link : is_style s ≡ false → is_link s ≡ true
-      → set_in new ≡ set_in old
+  pub after-link : is_style s ≡ false → is_link s ≡ true → AreStyles (open_styles before) new
       → option_to_list (option_copied new.link) ≡ cond (has_target s) (s ∷ []) []
       → IsOpenAfter (before ++ s ∷ []) new
-  after-link plain link same set = record {
-    styles = same-styles plain same;
-    link = set ∙ sym (link-after true link);
-  }
+  after-link plain link same set =
+      record { styles = same-styles plain same; link = set ∙ sym (link-after true link) }
 
-  pub after-other : is_style s ≡ false → is_link s ≡ false
-      → set_in new ≡ set_in old → new.link ≡ old.link
-      → IsOpenAfter (before ++ s ∷ []) new
+  pub after-other : is_style s ≡ false → is_link s ≡ false → AreStyles (open_styles before) new
+      → new.link ≡ old.link → IsOpenAfter (before ++ s ∷ []) new
   after-other plain none same same_link =
       record { styles = same-styles plain same; link = same-link none same_link }
 
@@ -153,8 +148,8 @@ pub closing-is : {Z : Type 0} (before : List (List ℕ)) (state : OpenStyles Z) 
     → cond plain [] style_end
     ++ cond (length (option_to_list (option_copied link)) == 0) [] link_end ≡ closing before
 closing-is before state plain link after is same =
-    let len = ap length after.styles in
-    grind (arith, length-map, len)
+    let some = last-none (map (λ s. s.now) state.styles.items) in
+    grind (arith, length-map, some, after.styles.last)
 
 -- ---- what is left open is as it was, if it is written anew; sequences of the other kind change
 -- nothing

@@ -7,16 +7,18 @@ ghost use Rattle.std.specs.Prelude.{string_bytes, take, IfOk, IfSome, IsCharBoun
 ghost use Rattle.std.specs.Prelude.{MatchOption, OnOk};
 ghost use Rattle.std.specs.Int.{is_in_range};
 ghost use Rattle.std.specs.List.{after_first, list_all};
-ghost use Rattle.textwrap_display.specs.OpenStyles.{IsOpenAfter};
+ghost use Rattle.textwrap_display.specs.OpenStyles.{AreStyles, IsOpenAfter};
 ghost use Rattle.textwrap_display.specs.Shortening.{texts_of};
 ghost use Rattle.textwrap_display.specs.Styles.{carried_lines, closing, is_link, is_style};
-ghost use Rattle.textwrap_display.specs.Styles.{link_fields, opening, sequences, style_parameters};
+ghost use Rattle.textwrap_display.specs.Styles.{last_of_each, link_fields, opening, sequences};
+ghost use Rattle.textwrap_display.specs.Styles.{style_parameters};
 ghost use Rattle.textwrap_layout.specs.Paragraph.{Built, Slice, line_view};
 ghost use Rattle.textwrap_text.specs.Units.{escape_len};
 
 use crate::indents::indent_end;
 use std::alloc::{AllocError, Allocator};
 use std::borrow::CowStr;
+use std::collections::BTreeSet;
 use textwrap::Options;
 use textwrap_text::escapes::State;
 
@@ -26,6 +28,11 @@ const STYLE_END: &str = "\x1b[0m";
 const LINK_END: &str = "\x1b]8;;\x1b\\";
 /// Does both.
 const STYLE_AND_LINK_END: &str = "\x1b[0m\x1b]8;;\x1b\\";
+
+/// So many styles of a line are compared with each that is open, all of which were written where
+/// the line began. If it sets more, equal ones are taken out where the next line begins, by a set.
+/// So the time grows with what is read and written, times a logarithm at most.
+const COMPARED: usize = 32;
 
 /// The lines of one text, each so that it stands by itself: what is open where a line ends is ended
 /// there, and set anew in the next line, after its indent. So lines may stand beside other text, as
@@ -51,6 +58,8 @@ const STYLE_AND_LINK_END: &str = "\x1b[0m\x1b]8;;\x1b\\";
 /// itself: the part in the first line has no end, so it may take in what is added after it, and the
 /// rest is visible in the second line.
 ///
+/// The time grows with what is read and written, times a logarithm at most.
+///
 /// # Errors
 /// Out of memory, also where a line would be longer than 64 bits can say.
 pub fn carry_styles<'l, A: Allocator + Copy>(
@@ -71,7 +80,7 @@ pub fn carry_styles<'l, A: Allocator + Copy>(
         let indent_end = indent_end(line, indent);
         // Written before the line is read, which changes what is open.
         opening.clear();
-        open.push_opening(&mut opening)?;
+        open.push_opening(alloc, &mut opening)?;
         open.read(&line[indent_end..])?;
         carried.push(enclosed(alloc, line, indent_end, &opening, open.closing())?)?;
         indent = options.subsequent_indent;
@@ -111,19 +120,23 @@ fn enclosed<'l, A: Allocator>(
 /// What is open at a place of a text.
 #[derive(Drop)]
 struct OpenStyles<'t, A: Allocator> {
-    /// The sequences of the styles in their order, of which no two are equal.
+    /// The sequences of the styles in their order. Of equal ones the last alone is open.
     styles: Vec<&'t str, A>,
+    /// How many were added since the line began, or since all were taken back. Up to `COMPARED`, no
+    /// two are equal.
+    added: usize,
     /// The sequence of the link, if there is one.
     link: Option<&'t str>,
 }
 
-impl<'t, A: Allocator> OpenStyles<'t, A> {
+impl<'t, A: Allocator + Copy> OpenStyles<'t, A> {
     /// Nothing is open.
     fn new(alloc: A) -> Self
         ensures { IsOpenAfter [] result }
     {
         OpenStyles {
             styles: Vec::new(alloc),
+            added: 0,
             link: None,
         }
     }
@@ -149,6 +162,7 @@ impl<'t, A: Allocator> OpenStyles<'t, A> {
         if let Some(parameters) = style_parameters(sequence) {
             if are_zeros(parameters) {
                 self.styles.clear();
+                self.added = 0;
             } else {
                 self.push_style(sequence)?;
             }
@@ -164,21 +178,41 @@ impl<'t, A: Allocator> OpenStyles<'t, A> {
 
     /// Adds a style as the last one, in place of an equal one.
     fn push_style(&mut self, style: &'t str) -> Result<(), AllocError>
-        ensures styles { IfOk result (λ _. map (λ s. s.now) self.new.styles.items
-            ≡ filter (λ s. not (bytes_eq s style.now)) (map (λ s. s.now) self.old.styles.items)
-            ++ style.now ∷ []) }
+        ensures styles { (styles : List (List ℕ)) → AreStyles styles self.old
+            → OnOk result (AreStyles (filter (λ s. not (bytes_eq s style.now)) styles
+            ++ style.now ∷ []) self.new) }
         ensures link { self.new.link ≡ self.old.link }
     {
-        self.styles.retain(|other| *other != style);
+        if self.added < COMPARED {
+            self.styles.retain(|other| *other != style);
+        }
         self.styles.push(style)?;
+        self.added = self.added.saturating_add(1);
+        Ok(())
+    }
+
+    /// Takes equal styles out, so that all can be set anew.
+    fn take_out_equal(&mut self, alloc: A) -> Result<(), AllocError>
+        ensures styles { (styles : List (List ℕ)) → AreStyles styles self.old
+            → OnOk result (AreStyles styles self.new) }
+        ensures link { self.new.link ≡ self.old.link }
+        ensures none_added { OnOk result (self.new.added ≡ 0) }
+    {
+        if self.added > COMPARED {
+            keep_last_of_each(alloc, &mut self.styles)?;
+        }
+        self.added = 0;
         Ok(())
     }
 
     /// Adds what sets anew all that is open.
-    fn push_opening(&self, text: &mut String<A>) -> Result<(), AllocError>
-        ensures { (before : List (List ℕ)) → IsOpenAfter before self.now
+    fn push_opening(&mut self, alloc: A, text: &mut String<A>) -> Result<(), AllocError>
+        ensures opening { (before : List (List ℕ)) → IsOpenAfter before self.old
             → OnOk result (string_bytes text.new ≡ string_bytes text.old ++ opening before) }
+        ensures state { (before : List (List ℕ)) → IsOpenAfter before self.old
+            → OnOk result (IsOpenAfter before self.new) }
     {
+        self.take_out_equal(alloc)?;
         if let Some(link) = self.link {
             text.push_str(link)?;
         }
@@ -200,6 +234,26 @@ impl<'t, A: Allocator> OpenStyles<'t, A> {
             (false, Some(_)) => STYLE_AND_LINK_END,
         }
     }
+}
+
+/// Keeps of equal styles the last alone.
+fn keep_last_of_each<A: Allocator + Copy>(
+    alloc: A,
+    styles: &mut Vec<&str, A>,
+) -> Result<(), AllocError>
+    ensures { OnOk result (map (λ s. s.now) styles.new.items
+        ≡ last_of_each (map (λ s. s.now) styles.old.items)) }
+{
+    let mut seen = BTreeSet::new(alloc);
+    let mut kept = Vec::new(alloc);
+    while let Some(style) = styles.pop() {
+        if seen.insert(style)? {
+            kept.push(style)?;
+        }
+    }
+    kept.reverse();
+    *styles = kept;
+    Ok(())
 }
 
 /// The first escape sequence of a text, and what follows it.

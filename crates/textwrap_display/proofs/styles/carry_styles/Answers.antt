@@ -11,9 +11,9 @@ loop-line-preserved g c =
     let indent = c.loop-line.indent.now in
     let end = c.indent_end-indent_end in
     let text = c.range_from.result.now in
-    let state = c.in_ok-read.ensures before so_far.1 in
+    let state = c.in_ok-read.ensures before (c.in_ok-push_opening.ensures.state before so_far.1) in
     let starts : c.deref.result.now ≡ opening before =
-    c.deref.ensures ∙ c.in_ok-push_opening.ensures before so_far.1
+    c.deref.ensures ∙ c.in_ok-push_opening.ensures.opening before so_far.1
     ∙ ap (λ l. l ++ opening before) c.clear.ensures.bytes in
     let ends : c.closing.result.now ≡ closing (before ++ sequences (drop end.result line)) =
     c.closing.ensures (before ++ sequences text) state

@@ -1,5 +1,5 @@
-//! The lines of a paragraph by first fit, without a list of its words: line by line where its bytes tell
-//! it, and else piece by piece.
+//! The lines of a paragraph by first fit, without a list of its words: line by line where its bytes
+//! tell it, and else piece by piece.
 ghost use Rattle.std.specs.Prelude.{◌≡◌, ◌<◌, IsOk, IsTrue, List, OnOk, length};
 ghost use Rattle.textwrap_base.specs.Division.{IsGreedy};
 ghost use Rattle.textwrap_words.specs.Pieces.{as_splitter};
@@ -28,7 +28,7 @@ use textwrap_words::inner::BuiltInSplitter;
 ///
 /// | Paragraph | Way |
 /// |---|---|
-/// | told from its bytes, as its words are, and its lines have one width | [`push_printable_lines`] |
+/// | told from its bytes, as its words are, with lines of one width | [`push_printable_lines`] |
 /// | told from its bytes, with words between blanks | [`push_after_first`] |
 /// | any | [`push_lines_by_pieces`] |
 ///

@@ -168,8 +168,8 @@ fn next_cut<C: PrintableCuts>(
     place
 }
 
-/// Whether a printable text is cut before the byte at a place: between two words, or by the splitter,
-/// after a hyphen between letters or digits.
+/// Whether a printable text is cut before the byte at a place: between two words, or by the
+/// splitter, after a hyphen between letters or digits.
 #[tactic(auto, using(crate::proofs::PrintableTexts::Bytes::point_printable))]
 fn is_cut_at<C: PrintableCuts>(
     text: &[u8],

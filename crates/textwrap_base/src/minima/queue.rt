@@ -122,8 +122,8 @@ fn least_of_all<C: CostSource>(costs: &mut C, minima: &[Minimum]) -> Minimum
     best
 }
 
-/// The least cost of the next end, where the stretch has its best start from 1 on, and knows what that
-/// costs at its first end. Start 0 is the earlier, so it wins a tie.
+/// The least cost of the next end, where the stretch has its best start from 1 on, and knows what
+/// that costs at its first end. Start 0 is the earlier, so it wins a tie.
 fn least_by_stretch<C: CostSource>(costs: &mut C, minima: &[Minimum], stretch: Stretch) -> Minimum
     requires suits { SuitQueue (C.costs costs.old) }
     requires minima { AreMinima (C.costs costs.old) minima.now }

@@ -54,13 +54,13 @@ pub(super) fn price<C: CostSource>(
 /// How many stretches have passed at least before they are dropped.
 const PASSED_STRETCHES: usize = 64;
 
-/// How many stretches there is room for at first. The list grows where more are known than have passed,
-/// and most texts of any length need no more.
+/// How many stretches there is room for at first. The list grows where more are known than have
+/// passed, and most texts of any length need no more.
 pub(super) const FIRST_CAPACITY: usize = 2 * PASSED_STRETCHES;
 
-/// Goes on to the stretch of an end, where `before` is that of the end before it, and returns where it
-/// stands then: the stretches before it, whose ends have passed, are dropped where they are most of the
-/// list, so that it stays short.
+/// Goes on to the stretch of an end, where `before` is that of the end before it, and returns where
+/// it stands then: the stretches before it, whose ends have passed, are dropped where they are most
+/// of the list, so that it stays short.
 pub(super) fn next_stretch<A: Allocator>(
     stretches: &mut Vec<Stretch, A>,
     before: usize,
@@ -86,9 +86,9 @@ pub(super) fn next_stretch<A: Allocator>(
     0
 }
 
-/// Gives the newest start, the last of `minima`, its stretch, if it is the best for any end, and drops
-/// those that it beats at all their ends. The stretches are then those of all starts from 1 to this
-/// one.
+/// Gives the newest start, the last of `minima`, its stretch, if it is the best for any end, and
+/// drops those that it beats at all their ends. The stretches are then those of all starts from 1
+/// to this one.
 pub(super) fn take_in<A: Allocator, C: CostSource>(
     costs: &mut C,
     minima: &[Minimum],

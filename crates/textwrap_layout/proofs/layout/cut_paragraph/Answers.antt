@@ -19,7 +19,8 @@ returns c =
     let pieces = limited-pieces (frame_settings c.args.frame.now) (as_splitter cuts.splitter) text
     (words_cut (cuts_of cuts) text) c.utf8.paragraph
     (words_cut-texts (cuts_of cuts) text c.utf8.paragraph c.requires) (omega arith) in
-    rw (c.of-2.ensures, c.args.frame.now.front, c.args.frame.now.limited, ← named) (ap (stand_from 0) pieces)
+    rw (c.of-2.ensures, c.args.frame.now.front, c.args.frame.now.limited, ← named)
+    (ap (stand_from 0) pieces)
 
 pub returns-in_default : goal.returns-in_default
 returns-in_default c =

@@ -14,8 +14,8 @@ use Rattle.textwrap_lines.proofs.least_cost.push_by_least_cost.Goals.{After-dere
 searched : (g : _) (c : In_ok-spans g) → AreSearched (frame_settings c.args.frame.now)
     (as_splitter c.args.cuts.now.splitter) c.args.frame.now.is_later c.args.paragraph.now
     (words_cut (cuts_of c.args.cuts.now) c.args.paragraph.now) c.args.penalties.now c.utf8.paragraph
-    (words_cut-texts (cuts_of c.args.cuts.now) c.args.paragraph.now c.utf8.paragraph c.requires.cuts)
-    c.requires.some c.in_ok-spans.spans.items c.in_ok-spans.ensures
+    (words_cut-texts (cuts_of c.args.cuts.now) c.args.paragraph.now c.utf8.paragraph
+    c.requires.cuts) c.requires.some c.in_ok-spans.spans.items c.in_ok-spans.ensures
 searched g c = are_searched _ _ _ _ _ _ _ _ _ _ _ c.requires.suits
 
 pub invariant_of-costs : goal.invariant_of-costs
@@ -47,8 +47,8 @@ lines_by-requires-clause-later g c = λ j some within.
 lines_found : (g : _) (c : After-deref-4 g) → FoundLines (frame_settings c.args.frame.now)
     (as_splitter c.args.cuts.now.splitter) c.args.frame.now.is_later c.args.paragraph.now
     (words_cut (cuts_of c.args.cuts.now) c.args.paragraph.now) c.args.penalties.now c.utf8.paragraph
-    (words_cut-texts (cuts_of c.args.cuts.now) c.args.paragraph.now c.utf8.paragraph c.requires.cuts)
-    c.requires.some c.in_ok-spans.spans.items c.in_ok-spans.ensures
+    (words_cut-texts (cuts_of c.args.cuts.now) c.args.paragraph.now c.utf8.paragraph
+    c.requires.cuts) c.requires.some c.in_ok-spans.spans.items c.in_ok-spans.ensures
     (map (λ (line : Bor (List Span)). line.now) c.deref-4.result.now)
 lines_found g c =
     let frame = c.args.frame.now in

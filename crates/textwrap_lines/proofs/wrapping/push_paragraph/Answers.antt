@@ -9,7 +9,8 @@ returns-then-is_one_line-clause-taken g c =
     let settings = frame_settings c.args.frame.now in
     let is_later = c.args.frame.now.is_later in
     let paragraph = c.args.paragraph.now in
-    let whole = sym (rw c.args.frame.now.indented at c.is_one_line.ensures) ∙ c.if-is_one_line.true in (
+    let whole = sym (rw c.args.frame.now.indented at c.is_one_line.ensures)
+    ∙ c.if-is_one_line.true in (
       parts_of settings is_later (word_of paragraph ∷ []) ∷ [],
       AreParagraphParts-whole settings (g.O.AnyOptions.divides c.args.options.now) is_later
           paragraph whole,
@@ -25,6 +26,7 @@ returns-clause-taken g c =
       parts_from settings is_later division,
       AreParagraphParts-divided settings (g.O.AnyOptions.divides c.args.options.now) is_later
           c.args.paragraph.now (parts_from settings is_later division)
-          (sym (rw c.args.frame.now.indented at c.is_one_line.ensures) ∙ c.if-is_one_line.false) (division, divides, refl),
+          (sym (rw c.args.frame.now.indented at c.is_one_line.ensures)
+          ∙ c.if-is_one_line.false) (division, divides, refl),
       took,
     )) c.push_pieces.ensures.taken

@@ -69,7 +69,8 @@ returns-clause-boundary c =
     let end = c.blanks_end.result in
     let (word_end, width) = c.if-stop-bytes.word_end in
     blanks-end (as_splitter c.args.splitter) c.args.limit c.args.text.now c.args.at word_end width
-    (word (goal.at.returns-clause-boundary c).Joined-stop-bytes) end found.after (omega (arith, found.within, ap length bytes))
+    (word (goal.at.returns-clause-boundary c).Joined-stop-bytes) end found.after
+    (omega (arith, found.within, ap length bytes))
     (subst (λ bs. BlanksBetween bs word_end end) bytes found.blanks) c.utf8.text
 
 pub returns-clause-first : goal.returns-clause-first
@@ -79,7 +80,8 @@ returns-clause-first c =
     let end = c.blanks_end.result in
     let (word_end, width) = c.if-stop-bytes.word_end in
     word-stands (as_splitter c.args.splitter) c.args.limit c.args.text.now c.args.at word_end width
-    (word (goal.at.returns-clause-first c).Joined-stop-bytes) end found.after (omega (arith, found.within, ap length bytes))
+    (word (goal.at.returns-clause-first c).Joined-stop-bytes) end found.after
+    (omega (arith, found.within, ap length bytes))
     (subst (λ bs. BlanksBetween bs word_end end) bytes found.blanks)
     (λ inside. ne_eqb (get_or c.args.text.now end 0) 32
     (λ is. found.stops (omega (arith, inside, ap length bytes))

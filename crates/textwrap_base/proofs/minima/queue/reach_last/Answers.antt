@@ -29,15 +29,18 @@ pub least_by_stretch-least-requires-clause-best : goal.least_by_stretch-least-re
 least_by_stretch-least-requires-clause-best g c =
     let at = goal.at.least_by_stretch-least-requires-clause-best g c in
     let (are, has) = gone_on g at.After-next_stretch-current in
-    let read = stretch_at-read _ _ c.next_stretch-current.result _ c.index.ensures refl has.within in
+    let read = stretch_at-read _ _ c.next_stretch-current.result _ c.index.ensures refl
+    has.within in
     rw (c.loop-stretches.invariant.same, c.deref-in-loop-stretches.ensures.len, read)
     (are.best (vec_len c.loop-stretches.minima) _ (omega arith) (omega arith) has)
 
-pub least_by_stretch-least-requires-clause-priced : goal.least_by_stretch-least-requires-clause-priced
+pub least_by_stretch-least-requires-clause-priced
+    : goal.least_by_stretch-least-requires-clause-priced
 least_by_stretch-least-requires-clause-priced g c =
     let at = goal.at.least_by_stretch-least-requires-clause-priced g c in
     let (are, has) = gone_on g at.After-next_stretch-current in
-    let read = stretch_at-read _ _ c.next_stretch-current.result _ c.index.ensures refl has.within in
+    let read = stretch_at-read _ _ c.next_stretch-current.result _ c.index.ensures refl
+    has.within in
     let priced : IsPriced (g.C.CostSource.costs c.args.costs.now)
     (vec_len c.loop-stretches.minima - 1) c.index.result.now =
     rw read (are.priced _ has.within) in

@@ -84,7 +84,8 @@ returns-in_ok-push-clause-stretches g c =
     let q = c.drop_beaten-won.new.stretches.items in
     let read = stretch_at-read q _ (length q - 1) c.index-rival.result.now c.index-rival.ensures
     (omega arith) (omega arith) in
-    let (best, wins) = taken g (goal.at.returns-in_ok-push-clause-stretches g c).After-take_over-stretch in
+    let at = goal.at.returns-in_ok-push-clause-stretches g c in
+    let (best, wins) = taken g at.After-take_over-stretch in
     let before_last : s.from < costs.ends =
     omega (arith, ap (λ (l : Costs). l.ends) (is.same ∙ won.same)) in
     let priced : IsPriced costs (length c.args.minima.now - 1) s = record {
@@ -93,12 +94,14 @@ returns-in_ok-push-clause-stretches g c =
       cost = λ _. (rw won.same at is.priced) before_last;
     } in
     AreStretches-push _ _ s c.in_ok-push.ensures.items _ _ _ _ _ (omega arith) c.requires.stretches
-    won.left (omega arith) priced is.start (omega (arith, ap (λ (t : Stretch). t.from) read)) best wins
+    won.left (omega arith) priced is.start (omega (arith, ap (λ (t : Stretch). t.from) read)) best
+    wins
 
 pub returns-else-stretch-ends-clause-stretches : goal.returns-else-stretch-ends-clause-stretches
 returns-else-stretch-ends-clause-stretches g c =
     let same = c.take_over-stretch.ensures.same ∙ c.drop_beaten-won.ensures.same in
-    AreStretches-left _ _ _ _ _ _ _ (omega arith) c.requires.stretches c.drop_beaten-won.ensures.left
+    AreStretches-left _ _ _ _ _ _ _ (omega arith) c.requires.stretches
+    c.drop_beaten-won.ensures.left
     (taken g (goal.at.returns-else-stretch-ends-clause-stretches g c).After-take_over-stretch).0
     (omega (arith, ap (λ (l : Costs). l.ends) same))
 
@@ -112,8 +115,9 @@ returns-else-stretch-ends-clause-current g c =
     HasEnd-left _ _ _ _ _ c.drop_beaten-won.ensures.left c.requires.current (omega arith)
 
 pub returns-in_ok-push-clause-steps : goal.returns-in_ok-push-clause-steps
-returns-in_ok-push-clause-steps g c = omega
-    (arith, counted g (goal.at.returns-in_ok-push-clause-steps g c).After-take_over-stretch, c.in_ok-push.ensures.len)
+returns-in_ok-push-clause-steps g c =
+    let at = goal.at.returns-in_ok-push-clause-steps g c in
+    omega (arith, counted g at.After-take_over-stretch, c.in_ok-push.ensures.len)
 
 pub returns-in_err-push-clause-steps : goal.returns-in_err-push-clause-steps
 returns-in_err-push-clause-steps g c = omega

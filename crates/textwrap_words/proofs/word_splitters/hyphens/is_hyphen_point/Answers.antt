@@ -1,13 +1,13 @@
 use Rattle.textwrap_words.proofs.word_splitters.hyphens.is_hyphen_point.Goals as goal
 use Rattle.textwrap_text.proofs.Common.{length-take, get_or-take, slice_range, reverse, get_or, length, arith}
-use Rattle.textwrap_text.proofs.Common.{ap, Bool, drop, false, IsUtf8, List, None, Option, refl, Some, sym}
+use Rattle.textwrap_text.proofs.Common.{ap, Bool, drop, false, IsUtf8, List, None, Option, refl}
 use Rattle.textwrap_text.proofs.Common.{subst, take, true, ◌-◌, ◌&&◌, ◌<◌, ◌∙◌, ◌∷◌, ◌≡◌, [], ℕ}
 use Rattle.std.specs.Prelude.{chars, MatchOption, slice_get}
 use Rattle.textwrap_words.proofs.Common.{IsCharBoundary-before_ascii, is_hyphen_point, ends_in_hyphen}
 use Rattle.textwrap_words.specs.WordSplitters.{begins_alphanumeric, is_alphanumeric}
 use Rattle.textwrap_words.proofs.Word.Splitting.{after-hyphen_byte, ends-none, ends-some}
 use lib.Utf8.{encode}
-use Rattle.textwrap_text.proofs.Common.{◌++◌}
+use Rattle.textwrap_text.proofs.Common.{Some, sym, ◌++◌}
 use Rattle.textwrap_words.proofs.word_splitters.hyphens.is_hyphen_point.Goals.{After-is_some_and}
 
 pub range_from-requires : goal.range_from-requires
@@ -63,8 +63,10 @@ returns-then-is_some_and c =
     (subst (λ (f : Option ℕ). MatchOption f (answer ≡ false) (λ ch. answer ≡ is_alphanumeric ch))
     found c.is_some_and-then-is_some_and.ensures) in
     record {
-      point = rw (told (goal.at.returns-then-is_some_and c).After-is_some_and, c.if-is_some_and.true)
-          (sym after);
+      point = rw (
+        told (goal.at.returns-then-is_some_and c).After-is_some_and,
+        c.if-is_some_and.true,
+      ) (sym after);
     }
 
 pub returns-else-is_some_and : goal.returns-else-is_some_and

@@ -1,7 +1,7 @@
 -- The cells and rows of texts in columns: which lines they show, and that rows are even.
 use Rattle.textwrap.proofs.Common.{length-replicate, cells_by_column, div_ceil_times, All-replicate}
 use Rattle.textwrap.proofs.Common.{range_with_len, text_width-nil, settings_view, DividesUnder, All}
-use Rattle.textwrap.proofs.Common.{KeepsMethods, append_assoc, column_cells, MayDivide}
+use Rattle.textwrap.proofs.Common.{KeepsMethods, append_assoc, column_cells, MayOverflow, MayDivide}
 use Rattle.textwrap.proofs.Common.{MaySeparate, inner_width, sum_by-cons, append-nil, cell_parts, ℕ}
 use Rattle.textwrap.proofs.Common.{get_or-map, map-append, text_width, RowLayout, arith}
 use Rattle.textwrap.proofs.Common.{join_with, layout_of, replicate, row_count, row_parts, All-head}
@@ -198,3 +198,7 @@ module _ {E C : Type 0} {e : _} {c : _} where
       → settings_view new ≡ settings → KeepsMethods old new → SomeMayPass64Bits new text
       → SomeMayPass64BitsUnder old settings text
   SomeMayPass64Bits-methods old new settings text same keeps some = search rules
+
+  pub MayOverflow-methods : (old new : Options E C e c) → KeepsMethods old new → MayOverflow new
+      → MayOverflow old
+  MayOverflow-methods old new keeps may = search rules

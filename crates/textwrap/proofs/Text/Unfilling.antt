@@ -42,6 +42,9 @@ take_common [] ys = refl
 take_common (x ∷ xs) [] = refl
 take_common (x ∷ xs) (y ∷ ys) = search (rules, take_common-cut, nat_eq, take_common xs ys)
 
+common_start-right : (xs ys : List ℕ) → StartsWith ys (common_start xs ys)
+common_start-right xs ys = grind (arith, common_steps, take_common xs ys)
+
 pub common_len-longest : (other xs ys : List ℕ) → StartsWith xs other → StartsWith ys other
     → length other ≤ common_len xs ys
 common_len-longest [] xs ys left right = omega arith
@@ -49,6 +52,10 @@ common_len-longest (o ∷ os) [] ys left right = cc
 common_len-longest (o ∷ os) (x ∷ xs) [] left right = cc
 common_len-longest (o ∷ os) (x ∷ xs) (y ∷ ys) left right =
     search (rules, eq-eqb, common_len-longest os xs ys (ap (drop 1) left) (ap (drop 1) right))
+
+common_start-longest : (other xs ys : List ℕ) → StartsWith xs other → StartsWith ys other
+    → StartsWith (common_start xs ys) other
+common_start-longest other xs ys left right = search (rules, take-take, common_len-longest)
 
 fold-begins : (text : List ℕ) (texts : List (List ℕ))
     → StartsWith text (fold common_start text texts)
@@ -63,8 +70,7 @@ fold-begins text (next ∷ texts) =
           (starts_with_of_append text (take n text) (drop n text) (sym (take-append-drop n text)))
           first,
       All-cons (λ t. StartsWith t whole) next texts
-          (starts_with_trans next start whole
-          (grind (arith, common_steps, take_common text next)) first) others,
+          (starts_with_trans next start whole (common_start-right text next) first) others,
     )
 
 pub common_prefix-begins : (texts : List (List ℕ))
@@ -77,7 +83,7 @@ fold-longest : (other text : List ℕ) (texts : List (List ℕ)) → StartsWith 
 fold-longest other text [] first others = starts_with_length text other first
 fold-longest other text (next ∷ texts) first others =
     fold-longest other (common_start text next) texts
-    (search (rules, take-take, common_len-longest, All-head))
+    (search (rules, common_start-longest, All-head))
     (All-tail (λ t. StartsWith t other) next texts others)
 
 common_prefix-is : (texts : List (List ℕ)) → IsCommonPrefix texts (common_prefix texts)

@@ -3,7 +3,7 @@ use Rattle.textwrap.proofs.Common.{at_column_width, settings_view, IfOk-weaker, 
 use Rattle.textwrap.proofs.Common.{table_rows, ◌∙◌, ◌≡◌}
 use Rattle.textwrap.proofs.Text.Unfilling.{columns-as}
 use Rattle.textwrap.proofs.Text.Tables.{SomeMayPass64Bits-methods, AreTextLines-methods}
-use Rattle.textwrap.proofs.Common.{rules}
+use Rattle.textwrap.proofs.Text.Tables.{MayOverflow-methods}
 use Rattle.textwrap.proofs.columns.wrap_columns.Goals.{After-wrap_in_table}
 
 -- the options at the width of a column
@@ -37,4 +37,5 @@ returns-clause-no_overflow g c = λ none.
 
 pub returns-clause-only_memory : goal.returns-clause-only_memory
 returns-clause-only_memory g c = λ never.
-    c.wrap_in_table.ensures.only_memory (λ may. never (search rules))
+    c.wrap_in_table.ensures.only_memory (λ may.
+    never (MayOverflow-methods c.args.options c.width.result c.width.ensures.methods may))

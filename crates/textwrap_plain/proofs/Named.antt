@@ -1,28 +1,25 @@
 -- What holds by the options that hold no function holds by what they name.
-use Rattle.textwrap_text.proofs.Common.{◌≡◌, ℕ, Bool, List, subst, true, false, [], ◌∷◌, cond, map}
-use Rattle.textwrap_text.proofs.Common.{refl, sym, ap, ◌∙◌, without_final_blanks, ending_bytes}
-use Rattle.textwrap_text.proofs.Common.{join_with, paragraphs_of}
-use Rattle.textwrap_words.proofs.Common.{Algorithm, Splitter, WordText, word_of, MaySeparate}
-use Rattle.textwrap_layout.proofs.Common.{DividesAt, Settings, is_whole, IsFilled, line_bytes}
-use Rattle.textwrap_layout.proofs.Common.{line_from, parts_of, DividesBy, HasPartsAt, Line}
-use Rattle.textwrap_layout.proofs.Common.{settings_view, HasParts}
-use Rattle.textwrap_plain.specs.Options.{words_by, algorithm_of, settings_of, splitter_of}
-use Rattle.textwrap_plain.specs.declared.options.PlainSeparator.{PlainSeparator}
+use Rattle.textwrap_display.proofs.TableGroups.{MakeThose}
+use Rattle.textwrap_layout.{proofs.Text.Paragraphs.join-paragraphs_of, specs.Places.ArePlacedLines}
+use Rattle.textwrap_layout.proofs.Common.{DividesAt, line_bytes, settings_view}
+use Rattle.textwrap_layout.proofs.Common.{DividesBy, HasParts, IsFilled, Line, Settings, is_whole}
+use Rattle.textwrap_layout.proofs.Common.{HasPartsAt, line_from, parts_of}
 use Rattle.textwrap_layout.proofs.Paragraph.LeftOff.{AreParagraphParts-whole, line_from-whole}
-use Rattle.textwrap_layout.proofs.Text.Paragraphs.{join-paragraphs_of}
-use Rattle.textwrap_text.specs.declared.line_ending.LineEnding.{LineEnding}
+use Rattle.textwrap_layout.specs.declared.{options.Options.Options, places.Place.Place}
 use Rattle.textwrap_lines.proofs.Text.Groups.{divides-at, filled-map, placed-map}
-use Rattle.textwrap_layout.specs.Places.{ArePlacedLines}
-use Rattle.textwrap_layout.specs.declared.options.Options.{Options}
-use Rattle.textwrap_layout.specs.declared.places.Place.{Place}
-use Rattle.textwrap_words.proofs.Word.Words.{words_unique}
+use Rattle.textwrap_plain.specs.{Tables.PlainMakes, declared.display.PlainColumn.PlainColumn}
+use Rattle.textwrap_plain.specs.{Tables.plain_shape, declared.options.PlainOptions.PlainOptions}
+use Rattle.textwrap_plain.specs.{Tables.plain_parts, declared.options.PlainSeparator.PlainSeparator}
+use Rattle.textwrap_plain.specs.Options.{algorithm_of, settings_of, splitter_of, words_by}
+use Rattle.textwrap_plain.specs.declared.options.PlainSeparator.TheVariants.{AtBlanks}
+use Rattle.textwrap_text.proofs.Common.{ap, cond, false, refl, true, ℕ, ◌∙◌}
+use Rattle.textwrap_text.proofs.Common.{Bool, [], join_with, sym, without_final_blanks, ◌∷◌}
+use Rattle.textwrap_text.proofs.Common.{List, ending_bytes, map, paragraphs_of, subst, ◌≡◌}
+use Rattle.textwrap_text.specs.declared.line_ending.LineEnding.{LineEnding}
+use Rattle.textwrap_words.proofs.{Common.word_of, Word.Words.words_unique}
+use Rattle.textwrap_words.proofs.Common.{Algorithm, MaySeparate, Splitter, WordText}
 use Rattle.textwrap_words.specs.declared.word_separators.WordSeparator.{WordSeparator}
 use Rattle.textwrap_words.specs.declared.word_separators.WordSeparator.TheVariants.{AsciiSpace}
-use Rattle.textwrap_plain.specs.declared.options.PlainOptions.{PlainOptions}
-use Rattle.textwrap_plain.specs.declared.options.PlainSeparator.TheVariants.{AtBlanks}
-use Rattle.textwrap_display.proofs.TableGroups.{MakeThose}
-use Rattle.textwrap_plain.specs.Tables.{plain_parts, plain_shape, PlainMakes}
-use Rattle.textwrap_plain.specs.declared.display.PlainColumn.{PlainColumn}
 
 pub named : (P : Settings → (Settings → Bool → List ℕ → List (List WordText) → Type 0) → Type 0)
     {s t : Settings} {w v : PlainSeparator} {p q : Splitter} {a b : Algorithm} → s ≡ t → w ≡ v

@@ -1,30 +1,24 @@
 -- The words of a line by options without functions, and what lines of them keep to.
-use Rattle.textwrap_text.proofs.Common.{length-drop, append-nil, All-cons, stripped, All-nil, arith}
-use Rattle.textwrap_text.proofs.Common.{IsUtf8, chunks, length, ne_eqb, rules, subst, List, Some, ℕ}
-use Rattle.textwrap_text.proofs.Common.{drop, refl, true, All, map, sym, ◌<◌, ◌∷◌, ◌≡◌, ◌≢◌, [], ap}
-use Rattle.textwrap_text.proofs.Lists.Parts.{length-slice}
 use Rattle.std.specs.List.{slice_range}
-use Rattle.textwrap_words.proofs.Common.{word_of, words_of, WordText, Algorithm, ArePoints, Greedy}
-use Rattle.textwrap_words.proofs.Common.{IsDividedBy, sizes_of, Splitter}
-use Rattle.textwrap_words.proofs.Word.Cuts.{inner-cuts}
-use Rattle.textwrap_words.proofs.Word.Offsets.{cuts_at-AreInnerCuts}
-use Rattle.textwrap_words.proofs.Word.Parts.{parts-texts}
-use Rattle.textwrap_words.proofs.Word.Pieces.{AreTexts, AreTexts-words, ArePoints-cuts}
-use Rattle.textwrap_words.proofs.Word.Pieces.{ArePoints-hyphens}
-use Rattle.textwrap_text.proofs.Units.Chunks.{AreChunks-chunks}
-use Rattle.textwrap_words.proofs.Word.Words.{words_unique}
-use Rattle.textwrap_words.specs.Cuts.{AreInnerCuts, AreLaterCuts, parts_between, parts_onward}
-use Rattle.textwrap_unicode.specs.Breaks.{breaks_by}
-use Rattle.textwrap_unicode.specs.Cuts.{cuts_by, offsets_of}
-use Rattle.textwrap_unicode.specs.declared.numbers.Numbers.{Numbers}
-use Rattle.textwrap_plain.specs.Options.{words_by}
-use Rattle.textwrap_plain.specs.declared.options.PlainSeparator.{PlainSeparator}
-use Rattle.textwrap_plain.specs.declared.options.PlainSeparator.TheVariants.{AtBlanks, AtBreaks}
 use Rattle.textwrap_base.proofs.Division.Map.{IsDividedBy-whole}
-use Rattle.textwrap_layout.proofs.Common.{ArePrintedWithin, AreTextLines, CanKeepToWidth, DividesAt}
-use Rattle.textwrap_layout.proofs.Common.{IsWrapped, Line, LinesKeepToWidth, Settings}
+use Rattle.textwrap_layout.proofs.Common.{ArePrintedWithin, CanKeepToWidth, Line, LinesKeepToWidth}
+use Rattle.textwrap_layout.proofs.Common.{AreTextLines, DividesAt, IsWrapped, Settings}
 use Rattle.textwrap_lines.proofs.Text.Printed.{ArePrintedWithin-by}
-use Rattle.textwrap_lines.proofs.Text.Promises.{LinesKeepToWidth-by, IsWrapped-parts}
+use Rattle.textwrap_lines.proofs.Text.Promises.{IsWrapped-parts, LinesKeepToWidth-by}
+use Rattle.textwrap_plain.specs.{Options.words_by, declared.options.PlainSeparator.PlainSeparator}
+use Rattle.textwrap_plain.specs.declared.options.PlainSeparator.TheVariants.{AtBlanks, AtBreaks}
+use Rattle.textwrap_text.proofs.{Lists.Parts.length-slice, Units.Chunks.AreChunks-chunks}
+use Rattle.textwrap_text.proofs.Common.{All-cons, All-nil, append-nil, arith, length-drop, stripped}
+use Rattle.textwrap_text.proofs.Common.{IsUtf8, List, Some, chunks, length, ne_eqb, rules, subst, ℕ}
+use Rattle.textwrap_text.proofs.Common.{All, [], ap, drop, map, refl, sym, true, ◌<◌, ◌∷◌, ◌≡◌, ◌≢◌}
+use Rattle.textwrap_unicode.specs.{Breaks.breaks_by, declared.numbers.Numbers.Numbers}
+use Rattle.textwrap_unicode.specs.Cuts.{cuts_by, offsets_of}
+use Rattle.textwrap_words.proofs.Common.{Algorithm, ArePoints, IsDividedBy, Splitter, WordText}
+use Rattle.textwrap_words.proofs.Common.{Greedy, sizes_of, word_of, words_of}
+use Rattle.textwrap_words.proofs.Word.{Offsets.cuts_at-AreInnerCuts, Pieces.AreTexts}
+use Rattle.textwrap_words.proofs.Word.{Cuts.inner-cuts, Parts.parts-texts, Words.words_unique}
+use Rattle.textwrap_words.proofs.Word.Pieces.{ArePoints-cuts, ArePoints-hyphens, AreTexts-words}
+use Rattle.textwrap_words.specs.Cuts.{AreInnerCuts, AreLaterCuts, parts_between, parts_onward}
 
 -- ---- the words of a line: they are the line, and each covers some of it
 

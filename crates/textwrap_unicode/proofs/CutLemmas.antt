@@ -39,15 +39,6 @@ pub and-is : (text : Text) (next : Unit)
 and-is text next =
     grind (arith, cases_Bool, takes_marks-is)
 
--- ---- the look past the next unit for a number, as the text is read
-
--- the answer after one more character
-pub number-step : (cs : List ℕ) (n c : ℕ) → (n < length cs) × (c ≡ get_or cs n c)
-    → number_first (drop n cs)
-    ≡ (if is_mark (class_of c) then number_first (drop (n + 1) cs) else is_number (class_of c))
-number-step cs n c here = at_drop_more number_first cs n c here.0
-    ∙ ap (λ x. number_first (x ∷ drop (n + 1) cs)) (sym here.1)
-
 -- ---- the breaks that the iterator has still to give
 
 pub breaks_after-from : (numbers : Numbers) (text : Text) (at : ℕ) (cs : List ℕ)
@@ -216,10 +207,6 @@ cut-after : (offsets : List ℕ) (total c s : ℕ) (v : Verdict) (front later : 
 cut-after offsets total c s v front later is below above inside =
     grind (arith, any-below, any-here, nat_tests)
 
-none-after : (offsets : List ℕ) (total c s : ℕ) → s ≡ total
-    → is_cut_after offsets total c s ≡ false
-none-after offsets total c s end = grind (arith, nat_tests)
-
 cuts-first : (offsets : List ℕ) (total : ℕ) (last : VisibleEnd) (es : List VisibleEnd) (b : Bool)
     → is_cut_after offsets total last.character last.shown ≡ b
     → cuts_among offsets total (last ∷ es) ≡ cut_here b last.end ++ cuts_among offsets total es
@@ -242,8 +229,7 @@ ends-cuts : (numbers : Numbers) (us : List TextUnit) (at : ℕ) (last : VisibleE
     → total ≡ last.shown + length (encode_utf8_all (visible_among us))
     → cuts_among offsets total (last ∷ ends_from at last.shown us)
     ≡ cuts_ahead numbers before last.end (is_any_hyphen last.character) (ends_from at last.shown us)
-ends-cuts numbers [] at last before front offsets total is below end =
-    rw (none-after offsets total last.character last.shown (omega (arith, end))) refl
+ends-cuts numbers [] at last before front offsets total is below end = grind (arith, nat_tests)
 ends-cuts numbers (Sequence cs ∷ us) at last before front offsets total is below end =
     ends-cuts numbers us (at + length (encode_utf8_all cs)) last before front offsets total is below end
 ends-cuts numbers (Visible c ∷ us) at last before front offsets total is below end =
@@ -268,11 +254,9 @@ ends-cuts numbers (Visible c ∷ us) at last before front offsets total is below
     All-append (λ o. o < s + len) front here
     (All-weaker (λ o. o < s) (λ o. o < s + len) (λ o h. omega (arith, h)) front below)
     (here-below v s (s + len) (omega (arith, some))) in
-    let es = ends_from (at + len) (s + len) us in
     let rest = ends-cuts numbers us (at + len) e after (front ++ here) offsets total
     (parts ∙ sym (append_assoc front here (offsets_of more))) behind (omega (arith, end, size)) in
-    let first = cuts-first offsets total last (e ∷ es) (not (is_any_hyphen last.character) && may_end v)
-    test in
+    let first = cuts-first offsets total last (e ∷ ends_from (at + len) (s + len) us) _ test in
     grind (arith, first, rest, ends-characters us (at + len) (s + len))
 
 -- from the start: there is no place before the first visible character

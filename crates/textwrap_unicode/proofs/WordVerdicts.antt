@@ -72,9 +72,8 @@ in_word = behind_classes Alphabetic Alphabetic
 pub letter-step : (numbers : Numbers) (back : List ℕ) (before : Before) (unit : Unit)
     → before ≡ in_word → unit ≡ plain_letter
     → (decide_by (numbers_rule numbers back) before unit ≡ Prohibited) × (and before unit ≡ before)
-letter-step ByPairs back before unit in_word_is letter_is = rw (in_word_is, letter_is) (refl, refl)
-letter-step ByExpression back before unit in_word_is letter_is =
-    rw (in_word_is, letter_is) (refl, refl)
+letter-step ByPairs back before unit is letter = rw (is, letter) (refl, refl)
+letter-step ByExpression back before unit is letter = rw (is, letter) (refl, refl)
 
 -- ---- what the rules say
 
@@ -93,17 +92,10 @@ IsSaid numbers back blank sign class =
     × (and (behind blank sign) (unit_with class)
     ≡ behind (is_space class) (if is_space class then sign else is_infix class))
 
-said-each : (numbers : Numbers) (back : List ℕ) (blank sign : Bool)
-    → IsSaid numbers back blank sign Alphabetic × IsSaid numbers back blank sign Space
-    × IsSaid numbers back blank sign InfixNumeric
-said-each ByPairs back blank sign = grind (arith, cases_Bool)
-said-each ByExpression back blank sign = grind (arith, cases_Bool)
-
 pub said : (numbers : Numbers) (back : List ℕ) (blank sign : Bool) (class : LineBreak)
     → IsWordClass class → IsSaid numbers back blank sign class
-said numbers back blank sign class is =
-    let (letter, space, sign_of) = said-each numbers back blank sign in
-    grind (arith, letter, space, sign_of)
+said ByPairs back blank sign class is = grind (arith, cases_Bool)
+said ByExpression back blank sign class is = grind (arith, cases_Bool)
 
 of-word : (class : LineBreak) → IsWordClass class → is_of_word class ≡ true
 of-word class is = grind arith

@@ -10,13 +10,10 @@ returns-then-are_direct-clause-lines c =
     let blanks = (c.are_direct.ensures.0 c.if-are_direct.true).0 in
     let parts = parts-separated o options c.at_blanks-options.ensures
     (separates-blanks _ _ c.at_blanks-options.ensures.separator blanks) in
-    IfOk-weaker c.place_into.result _ _ (λ counts (lines, places, are, writes). (
-      lines,
-      places,
-      placed-at options (words_by o.word_separator) (settings_of o) (splitter_of o)
-          (algorithm_of o) parts c.args.text.now lines places are,
-      writes,
-    )) c.place_into.ensures.lines
+    let at = placed-at options (words_by o.word_separator) (settings_of o) (splitter_of o)
+    (algorithm_of o) parts c.args.text.now in
+    IfOk-weaker c.place_into.result _ _ (λ counts (lines, places, are, writes).
+    (lines, places, at lines places are, writes)) c.place_into.ensures.lines
 
 pub returns-clause-lines : goal.returns-clause-lines
 returns-clause-lines c =

@@ -7,15 +7,10 @@ use Rattle.textwrap_plain.specs.Options.{words_by}
 pub returns-in-Some-clause-filled : goal.returns-in-Some-clause-filled
 returns-in-Some-clause-filled c =
     let o = c.args.options.now in
-    let Divides = DividesPlainly o (settings_of o) in
-    let text = c.args.text.now in
-    let line = c.in-Some.line.now in (
-      line,
-      only-filled (settings_of o) Divides text line c.in-Some.ensures.one c.in-Some.ensures.whole
-          c.in-Some.ensures.line,
-      c.write_over.ensures.len,
-      c.write_over.ensures.room,
-    )
+    let line = c.in-Some.line.now in
+    let filled = only-filled (settings_of o) (DividesPlainly o (settings_of o)) c.args.text.now line
+    c.in-Some.ensures.one c.in-Some.ensures.whole c.in-Some.ensures.line in
+    (line, filled, c.write_over.ensures.len, c.write_over.ensures.room)
 
 pub returns-then-are_direct-clause-filled : goal.returns-then-are_direct-clause-filled
 returns-then-are_direct-clause-filled c =
@@ -24,10 +19,7 @@ returns-then-are_direct-clause-filled c =
     let blanks = (c.are_direct.ensures.0 c.if-are_direct.true).0 in
     let parts = parts-separated o options c.at_blanks.ensures
     (separates-blanks _ _ c.at_blanks.ensures.separator blanks) in
-    IfOk-weaker c.fill_into.result _ _ (λ len (filled, is, len_is, room). (
-      filled,
-      filled-at options (words_by o.word_separator) (settings_of o) (splitter_of o)
-          (algorithm_of o) parts c.args.text.now filled is,
-      len_is,
-      room,
-    )) c.fill_into.ensures.filled
+    let at = filled-at options (words_by o.word_separator) (settings_of o) (splitter_of o)
+    (algorithm_of o) parts c.args.text.now in
+    IfOk-weaker c.fill_into.result _ _ (λ len (filled, is, len_is, room).
+    (filled, at filled is, len_is, room)) c.fill_into.ensures.filled

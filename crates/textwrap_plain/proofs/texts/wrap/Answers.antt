@@ -1,22 +1,18 @@
-use Rattle.textwrap_plain.proofs.texts.wrap.Goals as goal
-use Rattle.textwrap_text.proofs.Common.{map}
-use Rattle.std.proofs.lemmas.Result.{IfOk-weaker}
-use Rattle.std.specs.Prelude.{IfOk}
+use Rattle.std.{proofs.lemmas.Result.IfOk-weaker, specs.Prelude.IfOk}
 use Rattle.textwrap_layout.proofs.Common.{AreTextLines, line_view}
 use Rattle.textwrap_plain.proofs.Words.{ArePrintedWithin-at, IsWrapped-at, LinesKeepToWidth-at}
 use Rattle.textwrap_plain.proofs.texts.wrap.Goals.{After-wrap_by}
 use Rattle.textwrap_plain.specs.Options.{DividesPlainly, settings_of, splitter_of}
+use Rattle.textwrap_text.proofs.Common.{map}
+use Rattle.textwrap_plain.proofs.texts.wrap.Goals as goal
 
 lines : (c : After-wrap_by) → IfOk c.wrap_by.result (λ lines.
     AreTextLines (settings_of c.args.options.now)
     (DividesPlainly c.args.options.now (settings_of c.args.options.now)) c.args.text.now
     (map line_view lines.items))
-lines c = rw (
-  ← c.built_in.ensures.layout,
-  ← c.built_in.ensures.words,
-  ← c.built_in.ensures.splitter,
-  ← c.built_in.ensures.algorithm,
-) c.wrap_by.ensures.lines
+lines c =
+    let o = c.built_in.ensures in
+    rw (← o.layout, ← o.words, ← o.splitter, ← o.algorithm) c.wrap_by.ensures.lines
 
 pub returns-clause-lines : goal.returns-clause-lines
 returns-clause-lines c =

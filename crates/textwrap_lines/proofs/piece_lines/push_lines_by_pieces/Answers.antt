@@ -1,9 +1,8 @@
 use Rattle.textwrap_lines.proofs.Common.{IsCharBoundary-start, words_cut-texts, HasTaken-start, sym}
 use Rattle.textwrap_lines.proofs.Common.{frame_settings, HasTaken-next, left_standing, HasTaken-end}
-use Rattle.textwrap_lines.proofs.Common.{on_ok_weaker, as_splitter, frame_lines, later_width, rules}
-use Rattle.textwrap_lines.proofs.Common.{line_so_far, lines_past, stand_from, with_piece, LineSoFar}
-use Rattle.textwrap_lines.proofs.Common.{no_pieces, words_cut, cuts_of, arith, subst, refl, Took}
-use Rattle.textwrap_lines.proofs.Common.{◌∙◌, ◌≡◌, [], ap}
+use Rattle.textwrap_lines.proofs.Common.{on_ok_weaker, as_splitter, frame_lines, line_so_far, rules}
+use Rattle.textwrap_lines.proofs.Common.{lines_past, stand_from, LineSoFar, words_cut, cuts_of, ◌∙◌}
+use Rattle.textwrap_lines.proofs.Common.{arith, subst, refl, Took, ◌≡◌, [], ap}
 use Rattle.textwrap_lines.proofs.piece_lines.push_lines_by_pieces.Goals as goal
 use Rattle.textwrap_layout.specs.Direct.{pieces_cut}
 use Rattle.textwrap_lines.proofs.PieceLines.{AllCome, lines-greedy, pieces-come}
@@ -31,29 +30,11 @@ loop-piece-init g c =
 
 pub loop-piece-preserved : goal.loop-piece-preserved
 loop-piece-preserved g c =
-    let settings = frame_settings c.args.frame.now in
-    let all = lines_past settings (line_so_far c.at-line.result)
-    (left_standing c.into_iter-piece-iterator.result) in
-    let before = c.args.lines.now in
-    let now = c.loop-piece.lines in
     let here = line_so_far c.loop-piece.line in
-    let piece = c.in-Some.piece in
-    let left = left_standing c.next.new.self in
-    let next = with_piece (no_pieces here.text here.bounds.end (later_width settings)
-    settings.subsequent_indent) piece in
     let come = (subst (AllCome here.text here.bounds.end) c.in-Some.ensures.steps
     c.loop-piece.invariant.come).1 in
     let taken = rw c.in-Some.ensures.steps at c.loop-piece.invariant.taken in
-    search (
-      rules,
-      arith,
-      no_pieces,
-      HasTaken-next,
-      c.if-is_past.branch,
-      c.take.ensures,
-      c.is_past.ensures,
-      c.loop-piece.invariant.name,
-    )
+    search (rules, arith, HasTaken-next, c.if-is_past.branch)
 
 pub returns-clause-took : goal.returns-clause-took
 returns-clause-took g c =

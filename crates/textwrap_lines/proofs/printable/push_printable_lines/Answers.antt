@@ -3,7 +3,6 @@ use Rattle.textwrap_lines.proofs.Common.{as_splitter, break_limit, later_width, 
 use Rattle.textwrap_lines.proofs.Common.{line_slice, is_cut_by, rules, arith, ◌≡◌, ◌≤◌}
 use Rattle.textwrap_lines.proofs.printable.push_printable_lines.Goals as goal
 use Rattle.textwrap_lines.proofs.PrintableTexts.Lines.{lines-step}
-use Rattle.textwrap_lines.proofs.printable.push_printable_lines.Invariants.{lines_after}
 
 pub loop-at-init : goal.loop-at-init
 loop-at-init g c =
@@ -28,14 +27,7 @@ loop-at-preserved g c =
     let word_end = c.word_end.result in
     let slice : slice_range text at word_end ≡ line_slice text at next goes_on =
     rw bytes at c.word_end.ensures.slice in
-    let all = lines_after settings test text c.args.start c.args.frame.now.is_later in
     let (is_later, indented, taken) = so_far.taken in
     let step = lines-step settings text test limit width at next word_end goes_on is_later
     c.requires.printable c.word_end.ensures.from c.word_end.ensures.within within slice first in
-    search (
-      rules,
-      arith,
-      HasTaken-next,
-      c.in_ok-push_between.ensures.took,
-      c.push_between.ensures.name,
-    )
+    search (rules, arith, HasTaken-next)

@@ -1,13 +1,9 @@
 -- Numbers, tests of them, and results that hold them.
-use Rattle.textwrap_text.proofs.Common.{◌≡◌, ℕ, ◌<◌, eqb, false, arith, ◌+◌, ◌≤◌, Bool, true}
-use Rattle.textwrap_text.proofs.Common.{if◌then◌else◌, ◌^◌, not, ◌==◌, nat_lt, ◌||◌, suc, refl, ◌⊎◌}
-use Rattle.textwrap_text.proofs.Common.{inl, inr, min, ◌∙◌, rules, eqb-false, cases_lt, nat_tests}
-use Rattle.textwrap_text.proofs.Common.{⊎_elim, Option, None, Some, SomeIff, Result, Ok, Err}
-use Rattle.std.proofs.Common.{IsSome}
-use Rattle.std.proofs.Math.Nat.{le-mul_of_pos_right, min-le_right, mod-add-div'}
-use Rattle.std.specs.Int.{div_ceil}
-use Rattle.std.specs.Prelude.{IfOk}
-use Rattle.std.specs.Result.{OkIff, result_ok}
+use Rattle.textwrap_text.proofs.Common.{if◌then◌else◌, eqb-false, nat_tests, cases_lt, SomeIff, Err}
+use Rattle.textwrap_text.proofs.Common.{IsSome, Option, Result, nat_lt, ⊎_elim, arith, false, rules}
+use Rattle.textwrap_text.proofs.Common.{Bool, IfOk, None, Some, refl, true, ◌==◌, ◌||◌, eqb, inl, ℕ}
+use Rattle.textwrap_text.proofs.Common.{inr, min, not, suc, ◌+◌, ◌<◌, ◌^◌, ◌∙◌, ◌≡◌, ◌≤◌, ◌⊎◌, Ok}
+use Rattle.std.specs.Result.{result_ok, OkIff}
 
 pub some_from_test : (n : ℕ) → eqb n 0 ≡ false → 0 < n
 some_from_test n e = let ne = eqb-false n 0 e in omega (arith, ne)
@@ -38,10 +34,6 @@ some_later false n = grind (arith, nat_tests)
 pub either_short : (a b n : ℕ) → n ≡ min a b → (a ≤ n) ⊎ (b ≤ n)
 either_short a b n is = ⊎_elim {C = (a ≤ n) ⊎ (b ≤ n)} (λ (less : a < b). inl (omega arith))
     (λ (more : b ≤ a). inr (omega arith)) (cases_lt a b)
-
--- no table has more rows than lines
-pub rows-le_lines : (lines columns : ℕ) → 1 ≤ columns → div_ceil lines columns ≤ lines
-rows-le_lines lines columns some = grind (arith, le-mul_of_pos_right, mod-add-div', min-le_right)
 
 pub some_where : (o : Option ℕ) (P : Type 0) (v : ℕ) → SomeIff o P v → P → IsSome o
 some_where None P v h p = absurd (h p)

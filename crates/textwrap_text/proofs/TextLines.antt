@@ -1,15 +1,11 @@
 -- The lines of a text with their endings, one after another, and the text that they make.
-use Rattle.textwrap_text.proofs.Common.{nil_from_length, join_with_byte, append_assoc}
-use Rattle.textwrap_text.proofs.Common.{slice_split, All-append, All-weaker, append-nil, cases_Bool}
-use Rattle.textwrap_text.proofs.Common.{length-map, eqb-false, take_more, All-cons, eqb-true, arith}
-use Rattle.textwrap_text.proofs.Common.{flat_map, All-nil, length, ne_eqb, false}
-use Rattle.textwrap_text.proofs.Common.{lines, rules, subst, Bool, List, None, cond, last, []}
-use Rattle.textwrap_text.proofs.Common.{refl, ◌++◌, ◌==◌, All, inl, inr, map, sym, ◌-◌, ◌<◌, ℕ}
-use Rattle.textwrap_text.proofs.Common.{◌∙◌, ◌∷◌, ◌≡◌, ◌≢◌, ap}
-use Rattle.std.specs.Str.Lines.{strip_carriage_return, lines_of_parts}
-use Rattle.std.proofs.Common.{ap₂}
-use Rattle.std.specs.Prelude.{is_some}
-use Rattle.std.proofs.lemmas.Grind.{common_steps}
+use Rattle.textwrap_text.proofs.Common.{strip_carriage_return, nil_from_length, join_with_byte, All}
+use Rattle.textwrap_text.proofs.Common.{lines_of_parts, append_assoc, common_steps, slice_split, []}
+use Rattle.textwrap_text.proofs.Common.{All-append, All-weaker, append-nil, cases_Bool, length-map}
+use Rattle.textwrap_text.proofs.Common.{eqb-false, take_more, All-cons, eqb-true, flat_map, All-nil}
+use Rattle.textwrap_text.proofs.Common.{is_some, length, ne_eqb, arith, false, lines, rules, subst}
+use Rattle.textwrap_text.proofs.Common.{Bool, List, None, cond, last, refl, ◌++◌, ◌==◌, ap₂, inl, ℕ}
+use Rattle.textwrap_text.proofs.Common.{inr, map, sym, ◌-◌, ◌<◌, ◌∙◌, ◌∷◌, ◌≡◌, ◌≢◌, ap}
 use Rattle.std.proofs.lemmas.List.Splits.{join_with_byte-slice_split, length-slice_split}
 use Rattle.std.proofs.lemmas.List.Splits.{slice_split_none, slice_split_at}
 use Rattle.textwrap_text.proofs.Lists.Parts.{some_from_nonempty, last-append, last-cons, last-push}

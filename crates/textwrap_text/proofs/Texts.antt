@@ -1,26 +1,22 @@
 -- Texts of UTF-8: where their characters end, what is left of one that is cut, and whitespace at
 -- its ends.
-use Rattle.textwrap_text.proofs.Common.{IsCharBoundary-after_ascii, IsCharBoundary-from_take, arith}
-use Rattle.textwrap_text.proofs.Common.{starts_with_length, IsUtf8-past_char, take-append-drop, All}
-use Rattle.textwrap_text.proofs.Common.{encode_utf8_all, IsCharBoundary, encodes-append, StartsWith}
-use Rattle.textwrap_text.proofs.Common.{chars-IsAscii, encodes-chars, length-append, length-encode}
-use Rattle.textwrap_text.proofs.Common.{append_assoc, IsUtf8-drop, IsUtf8-take, get_or-drop, IsUtf8}
-use Rattle.textwrap_text.proofs.Common.{length-drop, length_push, append-nil, prefix_len, and_parts}
-use Rattle.textwrap_text.proofs.Common.{cond_both, drop-drop, take_more, All-head, All-tail, get_or}
-use Rattle.textwrap_text.proofs.Common.{add-zero, and_from, list_all, ltb-true, add-one, drop_at, ℕ}
-use Rattle.textwrap_text.proofs.Common.{take_at, length, ne_eqb, false, subst, List, cond, drop, []}
-use Rattle.textwrap_text.proofs.Common.{refl, take, true, zero, ◌&&◌, ◌++◌, ◌==◌, suc, sym, ◌+◌, ap}
-use Rattle.textwrap_text.proofs.Common.{◌-◌, ◌<◌, ◌∙◌, ◌∷◌, ◌≡◌, ◌≤◌}
-use Rattle.std.proofs.Common.{ltb}
+use Rattle.textwrap_text.proofs.Common.{IsCharBoundary-after_ascii, IsCharBoundary-from_drop, arith}
+use Rattle.textwrap_text.proofs.Common.{IsCharBoundary-from_take, starts_with_length, chars-IsAscii}
+use Rattle.textwrap_text.proofs.Common.{IsUtf8-past_char, take-append-drop, encode_utf8_all, IsUtf8}
+use Rattle.textwrap_text.proofs.Common.{IsCharBoundary, encodes-append, encodes-chars, append_assoc}
+use Rattle.textwrap_text.proofs.Common.{length-append, length-encode, encode_ascii, IsUtf8-drop, []}
+use Rattle.textwrap_text.proofs.Common.{IsUtf8-take, all_scalars, get_or-drop, length-drop, add-one}
+use Rattle.textwrap_text.proofs.Common.{length_push, StartsWith, append-nil, prefix_len, take_while}
+use Rattle.textwrap_text.proofs.Common.{and_parts, cond_both, drop-drop, take_more, All-head, false}
+use Rattle.textwrap_text.proofs.Common.{All-tail, add-zero, and_from, list_all, ltb-true, drop_at}
+use Rattle.textwrap_text.proofs.Common.{take_at, encode, get_or, length, ne_eqb, scalar, subst, All}
+use Rattle.textwrap_text.proofs.Common.{List, cond, drop, refl, take, true, zero, ◌&&◌, ◌++◌, ◌==◌}
+use Rattle.textwrap_text.proofs.Common.{ltb, suc, sym, ◌+◌, ◌-◌, ◌<◌, ◌∙◌, ◌∷◌, ◌≡◌, ◌≤◌, ap, ℕ}
 use Rattle.std.proofs.lemmas.List.{get_or-append-add, get_or_at}
-use lib.Utf8.{encode, scalar}
-use Rattle.std.specs.Str.{drop_trailing_whitespace, skip_leading_whitespace, all_scalars, trim_end}
-use Rattle.std.specs.Str.{chars}
-use Rattle.std.proofs.lemmas.Str.{IsCharBoundary-from_drop, IsCharBoundary-at_seam, len_utf8_bounds}
-use Rattle.std.proofs.lemmas.Str.{scalars-chars, encode_ascii}
+use Rattle.std.specs.Str.{drop_trailing_whitespace, skip_leading_whitespace, trim_end, chars}
+use Rattle.std.proofs.lemmas.Str.{IsCharBoundary-at_seam, len_utf8_bounds, scalars-chars}
 use Rattle.std.specs.Char.{is_whitespace, encode_utf8}
 use Rattle.textwrap_text.proofs.Lists.Parts.{nothing-starts, starts-head, starts-tail}
-use Rattle.std.specs.List.{take_while}
 
 -- ---- texts of UTF-8: where characters end, and what is left of a text
 

@@ -1,14 +1,14 @@
 -- The elements of lists: what functions make of them, what a list contains, and lists of numbers in
 -- order.
-use Rattle.textwrap_text.proofs.Common.{map-range_with_len_more, All-from_get_or, get_or_default, ℕ}
-use Rattle.textwrap_text.proofs.Common.{join_with_byte, range_with_len, reverse-append, append-nil}
-use Rattle.textwrap_text.proofs.Common.{length-append, append_assoc, false≢true, map-append, Result}
-use Rattle.textwrap_text.proofs.Common.{Contains, cases_eq, cases_lt, eqb-true, flat_map, list_any}
-use Rattle.textwrap_text.proofs.Common.{map_push, drop_at, reverse, eq-eqb, filter, get_or, length}
-use Rattle.textwrap_text.proofs.Common.{map-id, ne_eqb, repeat, arith, false, Bool, List, cond, Err}
-use Rattle.textwrap_text.proofs.Common.{drop, refl, true, zero, ◌++◌, ◌==◌, inl, inr, map, suc, sym}
-use Rattle.textwrap_text.proofs.Common.{◌*◌, ◌+◌, ◌-◌, ◌<◌, ◌∙◌, ◌∷◌, ◌≡◌, ◌≤◌, ◌⊎◌, Ok, [], ap}
-use Rattle.std.proofs.Common.{Iter}
+use Rattle.textwrap_text.proofs.Common.{map-range_with_len_more, IsStrictlyIncreasing, append_assoc}
+use Rattle.textwrap_text.proofs.Common.{All-from_get_or, get_or_default, join_with_byte, append-nil}
+use Rattle.textwrap_text.proofs.Common.{range_with_len, reverse-append, filter-append, false≢true}
+use Rattle.textwrap_text.proofs.Common.{length-append, map-append, Contains, cases_eq, cases_lt, Ok}
+use Rattle.textwrap_text.proofs.Common.{eqb-true, flat_map, list_any, map_push, or_cases, drop_at}
+use Rattle.textwrap_text.proofs.Common.{reverse, Result, eq-eqb, filter, get_or, length, map-id, []}
+use Rattle.textwrap_text.proofs.Common.{ne_eqb, repeat, arith, false, Bool, Iter, List, cond, drop}
+use Rattle.textwrap_text.proofs.Common.{refl, true, zero, ◌++◌, ◌==◌, Err, inl, inr, map, suc, sym}
+use Rattle.textwrap_text.proofs.Common.{◌*◌, ◌+◌, ◌-◌, ◌<◌, ◌∙◌, ◌∷◌, ◌≡◌, ◌≤◌, ◌⊎◌, ap, ℕ}
 use mathlib.Core.List.{reverse_aux}
 use Rattle.std.specs.Iterator.{Drains}
 use Rattle.std.specs.Iterator.Adapters.{copied_source, copied_steps}
@@ -16,10 +16,7 @@ use Rattle.std.specs.Slice.Iter.{iter_steps, iter_rest}
 use Rattle.std.specs.declared.iter.Copied.{Copied}
 use Rattle.std.proofs.lemmas.Iterator.{YieldsList-from_slice, items_from_drains}
 use Rattle.std.proofs.lemmas.Iterator.Consumers.{YieldsList-from_copied}
-use Rattle.std.proofs.lemmas.List.Elements.{filter-append}
-use Rattle.std.specs.List.Sorted.{IsStrictlyIncreasing}
 use Rattle.std.specs.Result.{MatchResult, is_ok}
-use Rattle.std.proofs.lemmas.Bool.{or_cases}
 use Rattle.std.proofs.lemmas.List.Folds.{list_any_none, list_any_at}
 
 -- ---- what functions make of the elements of a list
@@ -97,11 +94,6 @@ range-split a (suc n) m =
 pub repeat_more : (n : ℕ) (xs : List ℕ) → repeat n xs ++ xs ≡ repeat (n + 1) xs
 repeat_more zero xs = sym (append-nil xs)
 repeat_more (suc n) xs = grind (arith, append_assoc, repeat_more n xs)
-
--- one more text after what stands before a run of it
-pub run_more : (before after xs : List ℕ) (n : ℕ) → after ≡ before ++ repeat n xs
-    → after ++ xs ≡ before ++ repeat (n + 1) xs
-run_more before after xs n is = rw (is, append_assoc before (repeat n xs) xs, repeat_more n xs) refl
 
 pub length-repeat : (n : ℕ) (xs : List ℕ) → length (repeat n xs) ≡ n * length xs
 length-repeat zero xs = omega arith

@@ -1,20 +1,19 @@
 -- Lists and their parts: slices, what a list begins and ends with, and lists of parts.
 use Rattle.textwrap_text.proofs.Common.{starts_with_of_append, false_from_ne_true, take-append-drop}
-use Rattle.textwrap_text.proofs.Common.{get_or_append_left, common_prefix_len, length-append, arith}
-use Rattle.textwrap_text.proofs.Common.{append_assoc, get_or-drop, get_or_push, length-drop, get_or}
-use Rattle.textwrap_text.proofs.Common.{length-take, length_push, slice_index, slice_range, drop_at}
-use Rattle.textwrap_text.proofs.Common.{starts_with, StartsWith, cases_Bool, onto_first, prefix_len}
+use Rattle.textwrap_text.proofs.Common.{get_or_append_left, common_prefix_len, drop-append-add, All}
+use Rattle.textwrap_text.proofs.Common.{position_or_len, reverse-append, length-append, get_or-drop}
+use Rattle.textwrap_text.proofs.Common.{append_assoc, get_or_push, length-drop, length-take, get_or}
+use Rattle.textwrap_text.proofs.Common.{length_push, slice_index, slice_range, starts_with, drop_at}
+use Rattle.textwrap_text.proofs.Common.{StartsWith, after_last, cases_Bool, onto_first, prefix_len}
 use Rattle.textwrap_text.proofs.Common.{drop-drop, drop_more, ends_with, eqb-false, nat_tests, Bool}
 use Rattle.textwrap_text.proofs.Common.{take-take, take_more, All-drop, All-take, drop_all, take_at}
-use Rattle.textwrap_text.proofs.Common.{flat_map, list_any, length, nat_eq, nat_lt, false, rules, ℕ}
-use Rattle.textwrap_text.proofs.Common.{subst, List, cond, drop, last, refl, take, true, ◌++◌, ◌==◌}
-use Rattle.textwrap_text.proofs.Common.{All, suc, sym, zip, ◌+◌, ◌-◌, ◌<◌, ◌∙◌, ◌∷◌, ◌≡◌, ◌≢◌, ◌≤◌}
-use Rattle.textwrap_text.proofs.Common.{[], ap}
-use Rattle.std.proofs.Math.Seq.{drop-append-add, take-add}
-use Rattle.std.proofs.lemmas.List.{get_or-append_right, drop-append-le, reverse-append, drop-take}
+use Rattle.textwrap_text.proofs.Common.{flat_map, list_any, take-add, length, nat_eq, nat_lt, arith}
+use Rattle.textwrap_text.proofs.Common.{false, rules, subst, List, cond, drop, last, refl, take, []}
+use Rattle.textwrap_text.proofs.Common.{true, ◌++◌, ◌==◌, suc, sym, zip, ◌+◌, ◌-◌, ◌<◌, ◌∙◌, ◌∷◌, ℕ}
+use Rattle.textwrap_text.proofs.Common.{◌≡◌, ◌≢◌, ◌≤◌, ap}
+use Rattle.std.proofs.lemmas.List.{get_or-append_right, drop-append-le, drop-take}
 use Rattle.std.proofs.lemmas.Slice.Eq.{bytes_eq-Decides}
 use Rattle.std.proofs.lemmas.List.Prefix.{end_rest}
-use Rattle.std.specs.List.{position_or_len, after_last}
 use Rattle.std.specs.Str.Pattern.{FindsTextPrefix, FindsTextSuffix, StripsPrefix, StripsSuffix}
 
 -- ---- lists and their parts: slices, the last elements, and lists of parts

@@ -1,11 +1,12 @@
 -- The characters of a text, one after another: what is shown of them, and where they stand.
-use Rattle.textwrap_text.proofs.Common.{encode_utf8_all, IsCharBoundary, encodes-chars, encode_utf8}
-use Rattle.textwrap_text.proofs.Common.{length-append, cases_Bool, visible_in, stripped, next_of, ℕ}
-use Rattle.textwrap_text.proofs.Common.{IsUtf8, get_or, length, State, arith, chars, List, Text, []}
-use Rattle.textwrap_text.proofs.Common.{cond, drop, refl, ◌++◌, sym, ◌+◌, ◌∙◌, ◌∷◌, ◌≡◌, ◌≤◌, ap}
+use Rattle.textwrap_text.proofs.Common.{encode_utf8_all, IsCharBoundary, encodes-chars, cases_Bool}
+use Rattle.textwrap_text.proofs.Common.{length-append, shown_text, visible_in, stripped, next_of, ℕ}
+use Rattle.textwrap_text.proofs.Common.{IsUtf8, get_or, length, State, arith, List, Text, cond, sym}
+use Rattle.textwrap_text.proofs.Common.{drop, refl, ◌++◌, ◌+◌, ◌∙◌, ◌∷◌, ◌≡◌, ◌≤◌, [], ap}
+use Rattle.std.specs.Prelude.{encode_utf8, chars}
 use Rattle.textwrap_text.proofs.Units.Reading.{visible-step, read-ahead, read-start, read-next}
 use Rattle.textwrap_text.proofs.Units.Reading.{read-room, IsRead}
-use Rattle.textwrap_text.specs.Characters.{characters_from, characters_of, shown_text, shown}
+use Rattle.textwrap_text.specs.Characters.{characters_from, characters_of, shown}
 use Rattle.textwrap_text.specs.declared.characters.Character.{Character}
 
 -- ---- what is shown of them

@@ -1,14 +1,13 @@
 -- The chunks of a line: there is one list of them, and it is computed.
 use Rattle.textwrap_text.proofs.Common.{length-append, append_assoc, AreCutApart, slice_index, Bool}
-use Rattle.textwrap_text.proofs.Common.{append-nil, cases_Bool, onto_first, and_parts, All-cons, []}
-use Rattle.textwrap_text.proofs.Common.{All-head, All-tail, eqb-true, is_blank, All-nil, IsUncut, ℕ}
-use Rattle.textwrap_text.proofs.Common.{add-one, IsUtf8, chunks, get_or, is_cut, length, arith, All}
-use Rattle.textwrap_text.proofs.Common.{false, subst, List, cond, drop, last, refl, take, true, not}
-use Rattle.textwrap_text.proofs.Common.{zero, ◌++◌, suc, sym, ◌+◌, ◌-◌, ◌<◌, ◌∙◌, ◌∷◌, ◌≡◌, ◌≢◌, ap}
-use Rattle.textwrap_text.proofs.Common.{◌≤◌, ⊤}
+use Rattle.textwrap_text.proofs.Common.{append-nil, cases_Bool, onto_first, AreChunks, and_parts, ℕ}
+use Rattle.textwrap_text.proofs.Common.{All-cons, All-head, All-tail, eqb-true, is_blank, All-nil}
+use Rattle.textwrap_text.proofs.Common.{IsUncut, add-one, IsUtf8, chunks, get_or, is_cut, length, ⊤}
+use Rattle.textwrap_text.proofs.Common.{arith, false, subst, List, cond, drop, last, refl, take, []}
+use Rattle.textwrap_text.proofs.Common.{true, zero, ◌++◌, All, not, suc, sym, ◌+◌, ◌-◌, ◌<◌, ◌∙◌}
+use Rattle.textwrap_text.proofs.Common.{◌∷◌, ◌≡◌, ◌≢◌, ◌≤◌, ap}
 use Rattle.textwrap_text.proofs.Lists.Parts.{onto_front-onto_first, flat-onto_first, onto_front}
 use Rattle.textwrap_text.proofs.Lists.Parts.{last-cons, flat}
-use Rattle.textwrap_text.specs.Chunks.{AreChunks}
 use Rattle.textwrap_text.proofs.Texts.{ascii_seam}
 
 -- ---- chunks

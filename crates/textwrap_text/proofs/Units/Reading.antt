@@ -1,28 +1,27 @@
 -- The reader of characters: its states, what it shows, the columns of that, and how far it has
 -- come.
-use Rattle.textwrap_text.proofs.Common.{IsCharBoundary-start, chars_from_encodes, IsUtf8-past_char}
-use Rattle.textwrap_text.proofs.Common.{All-from_get_or, IsPrintableByte, chars_past_char, All-head}
-use Rattle.textwrap_text.proofs.Common.{encode_utf8_all, nil_from_length, IsCharBoundary, chars-nil}
-use Rattle.textwrap_text.proofs.Common.{encodes-append, chars-IsAscii, encodes-chars, length-append}
-use Rattle.textwrap_text.proofs.Common.{length-encode, sum_by-append, IsPrintable, encode_utf8, All}
-use Rattle.textwrap_text.proofs.Common.{get_or_past, length-drop, sum_by-cons, All-append, All-tail}
-use Rattle.textwrap_text.proofs.Common.{append-nil, cases_Bool, escape_len, text_width, units_past}
-use Rattle.textwrap_text.proofs.Common.{visible_in, visible_of, drop_more, nat_tests, IsNarrow, eqb}
-use Rattle.textwrap_text.proofs.Common.{TextUnit, cases_eq, cases_lt, flat_map, stripped, taken_at}
-use Rattle.textwrap_text.proofs.Common.{taken_in, zero-add, All-nil, IsAscii, Visible, columns, inl}
-use Rattle.textwrap_text.proofs.Common.{next_of, unit_at, IsUtf8, escape, get_or, length, ne_eqb, ℕ}
-use Rattle.textwrap_text.proofs.Common.{sum_by, State, arith, chars, false, shows, subst, units, []}
-use Rattle.textwrap_text.proofs.Common.{Bool, List, cond, drop, refl, true, zero, ◌++◌, inr, map}
-use Rattle.textwrap_text.proofs.Common.{suc, sym, ◌+◌, ◌<◌, ◌∙◌, ◌∷◌, ◌≡◌, ◌≢◌, ◌≤◌, ap}
-use Rattle.textwrap_text.specs.declared.escapes.State.TheVariants.{Command, Control, Escape, Text}
-use Rattle.std.proofs.lemmas.Str.{IsCharBoundary-from_drop, encode_ascii, inside_one}
-use lib.Utf8.{encodes, encode}
+use Rattle.unicode_width.specs.declared.kind.Kind.TheVariants as kinds
+use Rattle.textwrap_text.proofs.Common.{IsCharBoundary-from_drop, IsCharBoundary-start, IsPrintable}
+use Rattle.textwrap_text.proofs.Common.{chars_from_encodes, IsUtf8-past_char, All-from_get_or, Bool}
+use Rattle.textwrap_text.proofs.Common.{IsPrintableByte, chars_past_char, encode_utf8_all, All-head}
+use Rattle.textwrap_text.proofs.Common.{nil_from_length, IsCharBoundary, encodes-append, All-append}
+use Rattle.textwrap_text.proofs.Common.{chars-IsAscii, encodes-chars, length-append, length-encode}
+use Rattle.textwrap_text.proofs.Common.{sum_by-append, encode_ascii, get_or_past, length-drop, List}
+use Rattle.textwrap_text.proofs.Common.{sum_by-cons, append-nil, cases_Bool, escape_len, inside_one}
+use Rattle.textwrap_text.proofs.Common.{text_width, units_past, visible_in, visible_of, chars-nil}
+use Rattle.textwrap_text.proofs.Common.{drop_more, nat_tests, All-tail, IsNarrow, TextUnit, All-nil}
+use Rattle.textwrap_text.proofs.Common.{cases_eq, cases_lt, flat_map, stripped, taken_at, taken_in}
+use Rattle.textwrap_text.proofs.Common.{zero-add, IsAscii, Visible, columns, encodes, next_of, Text}
+use Rattle.textwrap_text.proofs.Common.{unit_at, IsUtf8, encode, escape, get_or, length, ne_eqb, []}
+use Rattle.textwrap_text.proofs.Common.{sum_by, State, arith, false, shows, subst, units, cond, All}
+use Rattle.textwrap_text.proofs.Common.{drop, kind, refl, true, zero, ◌++◌, eqb, inl, inr, map, suc}
+use Rattle.textwrap_text.proofs.Common.{sym, ◌+◌, ◌<◌, ◌∙◌, ◌∷◌, ◌≡◌, ◌≢◌, ◌≤◌, ap, ℕ}
+use Rattle.std.specs.Prelude.{encode_utf8, chars}
+use Rattle.textwrap_text.specs.declared.escapes.State.TheVariants.{Command, Control, Escape}
 use Rattle.unicode_width.specs.Width.{char_width, of_kind, alone}
 use Rattle.unicode_width.proofs.Rules.{width_or_zero-le}
-use Rattle.unicode_width.specs.Kind.{kind}
 use Rattle.unicode_width.specs.declared.kind.Kind.{Kind}
 use Rattle.textwrap_text.proofs.Texts.{ends-within, left-after}
-use Rattle.unicode_width.specs.declared.kind.Kind.TheVariants as kinds
 
 -- ---- what the states of the reader show and take of a text
 

@@ -1,23 +1,21 @@
 -- The units of a text and of its parts: there is one list of them, and it is computed.
-use Rattle.textwrap_text.proofs.Common.{is_command_start, is_control_start, take-append-drop, arith}
-use Rattle.textwrap_text.proofs.Common.{is_command_end, is_control_end, length-take-le, command_len}
-use Rattle.textwrap_text.proofs.Common.{take-append-le, length-append, append_assoc, sum_by-cons, ℕ}
+use Rattle.textwrap_text.proofs.Common.{take-append-drop, length-take-le, take-append-le, eqb-false}
+use Rattle.textwrap_text.proofs.Common.{length-append, append_assoc, kind_number, sum_by-cons, Bool}
 use Rattle.textwrap_text.proofs.Common.{units_width, append-nil, cases_Bool, characters, escape_len}
-use Rattle.textwrap_text.proofs.Common.{unit_width, units_past, visible_of, eqb-false, nat_tests}
-use Rattle.textwrap_text.proofs.Common.{take-take, Sequence, TextUnit, cases_lt, drop_all, eqb-true}
+use Rattle.textwrap_text.proofs.Common.{unit_width, units_past, visible_of, nat_tests, take-take, ℕ}
+use Rattle.textwrap_text.proofs.Common.{AreUnits, Sequence, TextUnit, cases_lt, drop_all, eqb-true}
 use Rattle.textwrap_text.proofs.Common.{flat_map, take_all, taken_at, zero-add, Visible, columns}
-use Rattle.textwrap_text.proofs.Common.{take_at, escape, length, ne_eqb, sum_by, ⊎_elim, false, inl}
-use Rattle.textwrap_text.proofs.Common.{subst, units, Bool, List, cond, drop, ends, last, refl, inr}
-use Rattle.textwrap_text.proofs.Common.{take, true, zero, ◌++◌, ◌==◌, ◌||◌, not, suc, sym, ◌+◌, ◌<◌}
-use Rattle.textwrap_text.proofs.Common.{◌↔◌, ◌∙◌, ◌∷◌, ◌≡◌, ◌≢◌, ◌≤◌, ◌⊎◌, [], ap}
+use Rattle.textwrap_text.proofs.Common.{take_at, escape, le-leb, length, ne_eqb, sum_by, ⊎_elim, []}
+use Rattle.textwrap_text.proofs.Common.{arith, false, subst, units, List, cond, drop, last, refl}
+use Rattle.textwrap_text.proofs.Common.{take, true, zero, ◌++◌, ◌==◌, ◌||◌, inl, inr, not, suc, sym}
+use Rattle.textwrap_text.proofs.Common.{◌+◌, ◌<◌, ◌↔◌, ◌∙◌, ◌∷◌, ◌≡◌, ◌≢◌, ◌≤◌, ◌⊎◌, ap}
+use Rattle.textwrap_text.specs.Units.{is_command_start, is_control_start, is_command_end, IsInUnits}
+use Rattle.textwrap_text.specs.Units.{is_control_end, command_len, control_len, IsWhole, ends}
 use Rattle.textwrap_text.proofs.Lists.Parts.{last_but_one-push, last_but_one, last-push}
-use Rattle.textwrap_text.specs.Units.{control_len, IsInUnits, AreUnits, IsWhole}
-use Rattle.std.proofs.lemmas.Bool.{le-leb}
 use Rattle.unicode.specs.Rows.{in_ranges, Range}
 use Rattle.unicode.proofs.Facts.{Stepped-always, always}
 use Rattle.unicode.proofs.Stepped.{zip_stepped, of_ranges, Stepped}
 use Rattle.unicode.proofs.StepsLemmas.{range_rows, rises_from}
-use Rattle.unicode_width.specs.Kind.{kind_number}
 use Rattle.unicode_width.specs.Width.{char_width, alone}
 use Rattle.unicode_width.proofs.KindLemmas.{kind_from_number-kind_number, kind_number_stepped}
 use Rattle.unicode.proofs.TableComputing.{tables}

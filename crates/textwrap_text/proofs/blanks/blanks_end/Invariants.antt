@@ -1,5 +1,5 @@
 use Rattle.textwrap_text.proofs.blanks.blanks_end.Given as goal
-use Rattle.textwrap_text.proofs.Common.{length, ◌-◌, ◌≤◌, BlanksBetween}
+use Rattle.textwrap_text.proofs.Common.{BlanksBetween, length, ◌-◌, ◌≤◌}
 
 abbrev pub invariant-loop-end : goal.invariant-loop-end
 invariant-loop-end l =

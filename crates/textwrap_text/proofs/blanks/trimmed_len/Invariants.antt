@@ -1,6 +1,6 @@
 use Rattle.textwrap_text.proofs.blanks.trimmed_len.Given as goal
-use Rattle.textwrap_text.proofs.Common.{◌≡◌, ◌+◌, ◌<◌, ◌≤◌, take, length, get_or, suffix_len}
-use Rattle.textwrap_text.proofs.Common.{is_blank}
+use Rattle.textwrap_text.proofs.Common.{suffix_len, is_blank, get_or, length, take, ◌+◌, ◌<◌, ◌≡◌}
+use Rattle.textwrap_text.proofs.Common.{◌≤◌}
 
 -- the blanks passed, and those of what is left, are the blanks at the end
 abbrev pub invariant-loop-end : goal.invariant-loop-end

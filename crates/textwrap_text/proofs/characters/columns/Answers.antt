@@ -1,5 +1,5 @@
-use Rattle.textwrap_text.proofs.Units.Texts.{ideograph-columns, syllable-columns}
 use Rattle.textwrap_text.proofs.characters.columns.Goals as goal
+use Rattle.textwrap_text.proofs.Units.Texts.{ideograph-columns, syllable-columns}
 
 pub returns-then-code-le12438 : goal.returns-then-code-le12438
 returns-then-code-le12438 c =

@@ -1,5 +1,5 @@
 use Rattle.textwrap_text.proofs.chunks.chunk_len.Given as goal
-use Rattle.textwrap_text.proofs.Common.{◌≡◌, ℕ, ◌+◌, ◌-◌, ◌<◌, ◌≤◌, false, get_or, length, is_cut}
+use Rattle.textwrap_text.proofs.Common.{get_or, is_cut, length, false, ◌+◌, ◌-◌, ◌<◌, ◌≡◌, ◌≤◌, ℕ}
 
 -- there is no cut before the end so far
 abbrev pub invariant-loop-end : goal.invariant-loop-end

@@ -1,13 +1,11 @@
 use Rattle.textwrap_text.proofs.line_feeds.feeds_in_block.Goals as goal
-use Rattle.textwrap_text.proofs.Common.{[], ap, arith, eqb, eqb-false, eqb-true, length, List, map}
-use Rattle.textwrap_text.proofs.Common.{not, prefix_len, sym, ℕ, ◌<◌, ◌∙◌, ◌∷◌}
+use Rattle.textwrap_text.proofs.Common.{common_steps, prefix_len, eqb-false, eqb-true, length, List}
+use Rattle.textwrap_text.proofs.Common.{arith, eqb, map, not, sym, ◌<◌, ◌∙◌, ◌∷◌, [], ap, w8, ℕ}
 use Rattle.textwrap_text.proofs.TextLines.{is_feed}
-use Rattle.std.proofs.Common.{w8}
-use Rattle.std.proofs.lemmas.Grind.{common_steps}
-use Rattle.std.proofs.lemmas.Simd.{bitmask_splat, length-chunk, none_from_empty_mask}
-use Rattle.std.proofs.lemmas.Simd.{run_in_chunk_fails, run_in_chunk_stops, trailing_mask_l}
+use Rattle.std.proofs.lemmas.Simd.{none_from_empty_mask, run_in_chunk_fails, run_in_chunk_stops}
+use Rattle.std.proofs.lemmas.Simd.{trailing_mask_l, bitmask_splat, length-chunk}
 use lib.Count.{count_trailing_zeros}
-use lib.Lanes.{chunk, mask_l}
+use lib.Lanes.{mask_l, chunk}
 
 some-lane : (bytes : List ℕ) → 0 < mask_l (map is_feed bytes)
     → prefix_len (λ b. not (is_feed b)) bytes < length bytes

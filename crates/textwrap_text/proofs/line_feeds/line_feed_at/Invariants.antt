@@ -1,6 +1,5 @@
-use Rattle.textwrap_text.proofs.Common.{◌≢◌, ◌≤◌, ◌-◌, ◌<◌, ℕ, length, slice_index}
-use Rattle.textwrap_text.specs.LineEnding.{line_feed}
 use Rattle.textwrap_text.proofs.line_feeds.line_feed_at.Given as goal
+use Rattle.textwrap_text.proofs.Common.{slice_index, line_feed, length, ◌-◌, ◌<◌, ◌≢◌, ◌≤◌, ℕ}
 
 abbrev pub invariant-loop-at : goal.invariant-loop-at
 invariant-loop-at l = (l.at ≤ length l.text)

@@ -1,9 +1,7 @@
 use Rattle.textwrap_text.proofs.line_feeds.split_at_line_feed.Goals as goal
-use Rattle.textwrap_text.proofs.Common.{◌≢◌, All, All-from_get_or, arith, get_or-take}
-use Rattle.textwrap_text.proofs.Common.{IsCharBoundary-after_ascii, subst}
+use Rattle.textwrap_text.proofs.Common.{IsCharBoundary-after_ascii, All-from_get_or, common_steps}
+use Rattle.textwrap_text.proofs.Common.{get_or-take, split_at, arith, subst, All, ◌≢◌}
 use Rattle.textwrap_text.proofs.Lists.Parts.{from_start}
-use Rattle.std.proofs.Math.Seq.{split_at}
-use Rattle.std.proofs.lemmas.Grind.{common_steps}
 
 pub returns-then-at-text : goal.returns-then-at-text
 returns-then-at-text c =

@@ -1,6 +1,6 @@
 use Rattle.textwrap_text.proofs.printable.is_printable.Given as goal
-use Rattle.textwrap_text.proofs.Common.{◌≡◌, ℕ, ◌<◌, true, slice_index, IsPrintableByte}
-use Rattle.textwrap_text.proofs.Common.{IsPrintable}
+use Rattle.textwrap_text.proofs.Common.{IsPrintableByte, IsPrintable, slice_index, true, ◌<◌, ◌≡◌}
+use Rattle.textwrap_text.proofs.Common.{ℕ}
 
 -- it says whether the bytes so far are printable
 abbrev pub invariant-loop-byte : goal.invariant-loop-byte

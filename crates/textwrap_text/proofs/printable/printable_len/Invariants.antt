@@ -1,5 +1,5 @@
 use Rattle.textwrap_text.proofs.printable.printable_len.Given as goal
-use Rattle.textwrap_text.proofs.Common.{ℕ, ◌-◌, ◌≤◌, ◌<◌, length, slice_index, IsPrintableByte}
+use Rattle.textwrap_text.proofs.Common.{IsPrintableByte, slice_index, length, ◌-◌, ◌<◌, ◌≤◌, ℕ}
 
 abbrev pub invariant-loop-end : goal.invariant-loop-end
 invariant-loop-end l =

@@ -1,5 +1,5 @@
 use Rattle.textwrap_text.proofs.widths.display_width.Given as goal
-use Rattle.textwrap_text.proofs.Common.{◌≡◌, ◌+◌, length, shadow, Utf8, text_width}
+use Rattle.textwrap_text.proofs.Common.{text_width, length, shadow, Utf8, ◌+◌, ◌≡◌}
 
 -- the columns so far, and those of what is left, are the whole
 abbrev pub invariant-loop-rest : goal.invariant-loop-rest

@@ -1,5 +1,5 @@
 use Rattle.textwrap_text.proofs.widths.visible_len.Goals as goal
-use Rattle.textwrap_text.proofs.Common.{arith, length-append}
+use Rattle.textwrap_text.proofs.Common.{length-append, arith}
 use Rattle.textwrap_text.proofs.Units.Characters.{shown-all}
 use Rattle.textwrap_text.proofs.Units.Reading.{stripped-short}
 

@@ -1,6 +1,6 @@
 use Rattle.textwrap_text.proofs.characters.CharactersIterator.next.Goals as goal
-use Rattle.textwrap_text.proofs.Common.{arith, ap, length, chars_past_char, IsUtf8-past_char}
-use Rattle.textwrap_text.proofs.Common.{length-append, ℕ, chars-nil, nil_from_length}
+use Rattle.textwrap_text.proofs.Common.{IsUtf8-past_char, chars_past_char, nil_from_length, length}
+use Rattle.textwrap_text.proofs.Common.{length-append, chars-nil, arith, ap, ℕ}
 
 pub returns-in_default-clause-steps : goal.returns-in_default-clause-steps
 returns-in_default-clause-steps c = grind (arith, nil_from_length, chars-nil)

@@ -1,7 +1,6 @@
 use Rattle.textwrap_text.proofs.lent_text.LentText.push_bytes.Goals as goal
-use Rattle.textwrap_text.proofs.Common.{append_assoc, take_more, subst, take, ◌++◌, sym, ◌∙◌, ◌∷◌}
-use Rattle.textwrap_text.proofs.Common.{[], ap}
-use Rattle.textwrap_text.specs.LentText.{IsLent}
+use Rattle.textwrap_text.proofs.Common.{append_assoc, take_more, IsLent, subst, take, ◌++◌, sym, []}
+use Rattle.textwrap_text.proofs.Common.{◌∙◌, ◌∷◌, ap}
 
 pub loop-byte-preserved : goal.loop-byte-preserved
 loop-byte-preserved c = record {

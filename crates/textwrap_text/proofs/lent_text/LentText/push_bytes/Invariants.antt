@@ -1,6 +1,5 @@
 use Rattle.textwrap_text.proofs.lent_text.LentText.push_bytes.Given as goal
-use Rattle.textwrap_text.proofs.Common.{◌≡◌, ◌++◌, ℕ, List, take}
-use Rattle.textwrap_text.specs.LentText.{IsLent}
+use Rattle.textwrap_text.proofs.Common.{IsLent, List, take, ◌++◌, ◌≡◌, ℕ}
 
 -- the bytes so far are appended
 abbrev pub invariant-loop-byte : goal.invariant-loop-byte

@@ -1,9 +1,8 @@
 use Rattle.textwrap_text.proofs.text_lines.Lines.first.Goals as goal
-use Rattle.textwrap_text.proofs.Common.{[], ap, arith, length, sym, take-append-add, ◌++◌, ◌∙◌}
-use Rattle.textwrap_text.proofs.Common.{◌∷◌, ◌≡◌, IsCharBoundary-after_ascii}
+use Rattle.textwrap_text.proofs.Common.{IsCharBoundary-after_ascii, take-append-add, common_steps}
+use Rattle.textwrap_text.proofs.Common.{length, arith, ◌++◌, sym, ◌∙◌, ◌∷◌, ◌≡◌, [], ap}
 use Rattle.textwrap_text.proofs.Lists.Parts.{from_start}
 use Rattle.std.proofs.Math.Seq.{get_or-append_seam}
-use Rattle.std.proofs.lemmas.Grind.{common_steps}
 use Rattle.textwrap_text.specs.TextLines.{bytes_at_end, ended_lines}
 use Rattle.textwrap_text.proofs.TextLines.{ended_lines-front, ended_lines-whole, with_ending-feed}
 

@@ -1,17 +1,16 @@
 -- Words that are split by a dictionary, and lines of their pieces.
-use Rattle.textwrap_uses.proofs.Common.{IsCharBoundary-start, get_or_append_left, IsDivision-whole}
-use Rattle.textwrap_uses.proofs.Common.{some_from_nonempty, HaveRightPoints, tile_of-word_of, Entry}
-use Rattle.textwrap_uses.proofs.Common.{tiled-words_of, length-append, lines_between, AreInnerCuts}
-use Rattle.textwrap_uses.proofs.Common.{AreLaterCuts, append_assoc, later_begins, begins_from, List}
-use Rattle.textwrap_uses.proofs.Common.{get_or-drop, length-drop, slice_range, IsDivision, WordText}
-use Rattle.textwrap_uses.proofs.Common.{lines_from, points_for, IsNextEnd, drop-drop, points_in, []}
-use Rattle.textwrap_uses.proofs.Common.{words_of, AreEnds, AreNext, tile_of, word_of, IsUtf8, arith}
-use Rattle.textwrap_uses.proofs.Common.{chunks, get_or, length, tiled, drop, flat, refl, take, ◌++◌}
-use Rattle.textwrap_uses.proofs.Common.{All, map, sym, ◌+◌, ◌-◌, ◌<◌, ◌∙◌, ◌∷◌, ◌≡◌, ◌≤◌, ap, ℕ}
-use Rattle.std.proofs.Common.{IsCharBoundary}
-use Rattle.std.proofs.Math.Seq.{drop-append_seam, take-append_seam}
-use Rattle.std.proofs.lemmas.List.Elements.{All-head, All-tail, All-map}
+use Rattle.std.proofs.{Common.IsCharBoundary, Math.Seq.drop-append_seam, Math.Seq.take-append_seam}
+use Rattle.std.proofs.lemmas.List.Elements.{All-head, All-map, All-tail}
 use Rattle.textwrap_text.proofs.Units.Chunks.{AreChunks-chunks, chunks-utf8}
+use Rattle.textwrap_uses.proofs.Common.{IsCharBoundary-start, IsDivision-whole, get_or_append_left}
+use Rattle.textwrap_uses.proofs.Common.{Entry, HaveRightPoints, some_from_nonempty, tile_of-word_of}
+use Rattle.textwrap_uses.proofs.Common.{AreInnerCuts, length-append, lines_between, tiled-words_of}
+use Rattle.textwrap_uses.proofs.Common.{AreLaterCuts, List, append_assoc, begins_from, later_begins}
+use Rattle.textwrap_uses.proofs.Common.{IsDivision, WordText, get_or-drop, length-drop, slice_range}
+use Rattle.textwrap_uses.proofs.Common.{IsNextEnd, [], drop-drop, lines_from, points_for, points_in}
+use Rattle.textwrap_uses.proofs.Common.{AreEnds, AreNext, IsUtf8, arith, tile_of, word_of, words_of}
+use Rattle.textwrap_uses.proofs.Common.{chunks, drop, flat, get_or, length, refl, take, tiled, ◌++◌}
+use Rattle.textwrap_uses.proofs.Common.{All, ap, map, sym, ℕ, ◌+◌, ◌-◌, ◌<◌, ◌∙◌, ◌∷◌, ◌≡◌, ◌≤◌}
 
 -- ---- a part that stands in a list, and the places of one that stands in a text
 
@@ -22,8 +21,7 @@ module _ {X : Type 0} (xs part rest : List X) (at : ℕ) (stands : drop at xs �
 
   part-after : drop (at + length part) xs ≡ rest
   part-after =
-      sym (drop-drop (length part) at xs) ∙ ap (drop (length part)) stands
-      ∙ drop-append_seam part rest
+      rw (← drop-drop (length part) at xs, stands) (drop-append_seam part rest)
 
 boundary-in : (text part rest : List ℕ) (at point : ℕ) → drop at text ≡ part ++ rest
     → at ≤ length text → point < length part → IsCharBoundary part point
@@ -158,11 +156,9 @@ module _ (dictionary : List Entry) where
       → more ++ points_in dictionary (start + (length w.word + length w.whitespace)) left ≡ all
   points-step w words left start points more inner all is so_far inner_is more_is =
       let next = start + (length w.word + length w.whitespace) in
-      cc (
-        rw is at so_far,
-        length-append w.word w.whitespace,
-        append_assoc points (map (λ p. start + p) inner) (points_in dictionary next left),
-      )
+      let size = length-append w.word w.whitespace in
+      let parts = append_assoc points (map (λ p. start + p) inner) (points_in dictionary next left) in
+      cc (rw is at so_far)
 
 -- ---- where lines end that a list was divided into
 
@@ -189,8 +185,7 @@ module _ {X : Type 0} where
     lines-back (line ∷ lines) at stands =
         let len : at + length line - at ≡ length line = omega arith in
         let first : slice_range xs at (at + length line) ≡ line =
-        ap (λ n. take n (drop at xs)) len ∙ ap (take (length line)) stands
-        ∙ take-append_seam line (flat lines) in
+        rw (len, stands) (take-append_seam line (flat lines)) in
         rw (first, lines-back lines (at + length line) (part-after xs line (flat lines) at stands))
 
     module _ (lines : List (List X)) (division : IsDivision xs lines) where

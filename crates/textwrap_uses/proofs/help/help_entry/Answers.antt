@@ -3,9 +3,4 @@ use Rattle.textwrap_uses.proofs.help.help_entry.Goals as goal
 
 pub returns-clause-filled : goal.returns-clause-filled
 returns-clause-filled c =
-    c.in_ok-entry.ensures.built_in _ AtHyphens default_algorithm (record {
-      settings_are = search rules;
-      separator = search rules;
-      splitter_is = search rules;
-      algorithm_is = search rules;
-    })
+    c.in_ok-entry.ensures.built_in _ AtHyphens default_algorithm (search rules)

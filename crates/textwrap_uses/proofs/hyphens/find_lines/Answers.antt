@@ -21,13 +21,12 @@ pub returns : goal.returns
 returns c =
     let lines = map (λ line. line.now) c.in_ok-lines.lines.items in
     let words = words_of c.args.paragraph.now in
+    let cuts = c.deref.ensures.value ∙ c.in_ok-cuts.ensures in
+    let points = c.deref-2.ensures.value ∙ c.in_ok-points.ensures in
     let pieces_are : map word_view c.deref-3.result.now
-    ≡ hyphenated_pieces c.args.dictionary.now c.args.width c.args.paragraph.now = rw (
-      c.deref-3.ensures.value,
-      c.in_ok-pieces.ensures.pieces,
-      c.deref.ensures.value ∙ c.in_ok-cuts.ensures,
-      c.deref-2.ensures.value ∙ c.in_ok-points.ensures,
-    ) (ap (λ s. pieces_at s (later_begins words) (points_in c.args.dictionary.now 0 words)
+    ≡ hyphenated_pieces c.args.dictionary.now c.args.width c.args.paragraph.now =
+    rw (c.deref-3.ensures.value, c.in_ok-pieces.ensures.pieces, cuts, points)
+    (ap (λ s. pieces_at s (later_begins words) (points_in c.args.dictionary.now 0 words)
     c.args.paragraph.now) c.new-options.ensures.settings_are) in
     let between : lines_between c.deref-7.result.now c.deref-6.result.now ≡ lines =
     rw (c.deref-7.ensures.value, c.deref-6.ensures.value, ← c.deref-4.ensures.value)

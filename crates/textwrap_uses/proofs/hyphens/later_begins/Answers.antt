@@ -9,11 +9,9 @@ loop-word-init c =
     let left = c.into_iter-word-iterator.result in
     let step = c.in-Some.ensures.steps
     ∙ ap (λ ws. first ∷ ws) (sym c.into_iter-word-iterator.ensures.into_iter_gives) in
+    let room = room-all c.args.paragraph.now words c.words_of-words.ensures in
+    let next = room-next first words left 0 (length c.args.paragraph.now) step (omega (arith, room)) in
     rw c.new-begins.ensures.items (record {
       begins = begins-first first words left step ∙ ap later_begins c.words_of-words.ensures;
-      room = omega (
-        arith,
-        room-next first words left 0 (length c.args.paragraph.now) step
-            (omega (arith, room-all c.args.paragraph.now words c.words_of-words.ensures)),
-      );
+      room = omega arith;
     })

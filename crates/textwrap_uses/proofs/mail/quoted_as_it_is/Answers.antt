@@ -1,9 +1,8 @@
-use Rattle.std.proofs.Common.{◌≡◌, codes, refl, rules, true}
-use Rattle.std.specs.Str.{is_utf8, chars}
-use Rattle.std.proofs.lemmas.Str.{IsUtf8-from_is_utf8}
+use Rattle.std.{proofs.lemmas.Str.IsUtf8-from_is_utf8, specs.Str.chars, specs.Str.is_utf8}
+use Rattle.std.proofs.Common.{codes, refl, rules, true, ◌≡◌}
 use Rattle.textwrap.specs.Indentation.{HasNoLineFeed}
-use Rattle.textwrap_uses.proofs.mail.quoted_as_it_is.Goals as goal
 use lib.Utf8.{encode}
+use Rattle.textwrap_uses.proofs.mail.quoted_as_it_is.Goals as goal
 
 is_text : is_utf8 (codes "> ") ≡ true
 unfolding is_utf8 chars encode

@@ -3,12 +3,10 @@ use Rattle.textwrap_uses.proofs.Common.{inner-push, get_or, length, arith, subst
 use Rattle.textwrap_uses.proofs.Common.{◌<◌, ◌∙◌, ◌∷◌, ◌≡◌, [], ap}
 use Rattle.std.specs.Prelude.{IsCharBoundary}
 use Rattle.textwrap_uses.proofs.paths.cuts_after_slashes.Goals as goal
-use Rattle.textwrap_uses.proofs.paths.cuts_after_slashes.Goals.{then-as_bytes-cut-eq47+in_ok-push}
-use Rattle.textwrap_uses.proofs.paths.cuts_after_slashes.Goals.{else-as_bytes-cut-eq47}
 
 pub loop-cut-preserved : goal.loop-cut-preserved
 loop-cut-preserved c = elim c.if-as_bytes-cut-eq47.branch [
-  | then-as_bytes-cut-eq47+in_ok-push w ↦
+  | goal.then-as_bytes-cut-eq47+in_ok-push w ↦
       let path = c.args.path.now in
       let cut = c.loop-cut.cut in
       let cuts = c.loop-cut.cuts.items in
@@ -29,7 +27,7 @@ loop-cut-preserved c = elim c.if-as_bytes-cut-eq47.branch [
             (λ _. refl) c.loop-cut.invariant.before inside boundary;
         before = omega (arith, last);
       })
-  | else-as_bytes-cut-eq47 w ↦
+  | goal.else-as_bytes-cut-eq47 w ↦
       rw w.cuts-is (record {
         cuts = c.loop-cut.invariant.cuts;
         before = omega (arith, c.loop-cut.invariant.before);

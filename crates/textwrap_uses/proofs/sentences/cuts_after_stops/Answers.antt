@@ -24,20 +24,15 @@ loop-at-preserved-then-end-text c =
     let ch = c.in-Some.ch in
     let step = c.in-Some.ensures.steps in
     let size = c.len_utf8.ensures.value in
-    let last = EndWith-push cuts (at + len_utf8 ch) in
+    let grown = length_push cuts (at + len_utf8 ch) in
+    let last = EndWith-push cuts (at + len_utf8 ch) (omega (arith, grown)) in
+    let bytes = length-encode ch in
     rw (c.in_ok-push.ensures.items, size) (record {
       reader = HasReadTo-next text here next at ch c.utf8.text before.reader step;
       cuts = inner-push-after text cuts here next at ch (get_or cuts (length cuts - 1) 0)
           c.utf8.text before.reader step before.cuts (λ _. refl)
           (omega (arith, before.before, step.0)) (omega (arith, c.if-end-text.true, size));
-      before = omega (
-        arith,
-        length_push cuts (at + len_utf8 ch),
-        last (omega (arith, length_push cuts (at + len_utf8 ch))),
-        step.0,
-        step.2,
-        length-encode ch,
-      );
+      before = omega (arith, step.0, step.2);
     })
 
 pub loop-at-preserved : goal.loop-at-preserved

@@ -5,12 +5,12 @@ use Rattle.textwrap_uses.proofs.tables.barred_rows.Goals as goal
 pub returns-clause-table : goal.returns-clause-table
 returns-clause-table c =
     let columns = c.args.columns in
-    let is_in_columns = c.in_ok-rows.ensures.built_in (settings_at c.args.width) AtHyphens
+    let rows = c.in_ok-rows.ensures.built_in (settings_at c.args.width) AtHyphens
     default_algorithm c.new-options.ensures in
-    let lines = map line_bytes is_in_columns.0 in (
-      is_in_columns.0,
-      is_in_columns.1,
-      is_in_columns.2,
+    let lines = map line_bytes rows.0 in (
+      rows.0,
+      rows.1,
+      rows.2,
       c.columns_keep_lines.ensures lines columns c.requires,
       λ room fits r. let even = c.rows_are_even.ensures.even c.args.width columns (codes "| ")
           (codes " | ") (codes " |") lines r c.requires room fits in even.0 ∙ even.1,

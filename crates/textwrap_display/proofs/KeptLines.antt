@@ -1,10 +1,10 @@
 -- The longest beginning of a line that may be kept, and the first lines as they are.
 use Rattle.textwrap_text.proofs.Common.{take-append-drop, length-take-le, append_assoc, length-map}
 use Rattle.textwrap_text.proofs.Common.{string_bytes, map-append, text_width, drop_more, take_more}
-use Rattle.textwrap_text.proofs.Common.{cases_lt, eqb-true, IsUtf8, get_or, length, arith, false, ℕ}
-use Rattle.textwrap_text.proofs.Common.{subst, Bool, List, drop, refl, take, true, ◌++◌, Bor, eqb}
-use Rattle.textwrap_text.proofs.Common.{inl, inr, map, sym, ◌+◌, ◌<◌, ◌∙◌, ◌∷◌, ◌≡◌, ◌≢◌, ◌≤◌, ◌⊎◌}
-use Rattle.textwrap_text.proofs.Common.{[], ap}
+use Rattle.textwrap_text.proofs.Common.{cases_lt, eqb-true, IsUtf8, get_or, length, rules, arith, ℕ}
+use Rattle.textwrap_text.proofs.Common.{false, subst, Bool, List, drop, refl, take, true, ◌++◌, Bor}
+use Rattle.textwrap_text.proofs.Common.{eqb, inl, inr, map, sym, ◌+◌, ◌<◌, ◌∙◌, ◌∷◌, ◌≡◌, ◌≢◌, ◌≤◌}
+use Rattle.textwrap_text.proofs.Common.{◌⊎◌, [], ap}
 use Rattle.textwrap_display.proofs.Common.{line_bytes-line_view, cow_str_bytes, AreShortened, Built}
 use Rattle.textwrap_display.proofs.Common.{IsShortened, encode_utf8, line_bytes, line_view, can_end}
 use Rattle.textwrap_display.proofs.Common.{read-all, texts_of, CowStr, String, Slice, State, Line}
@@ -28,11 +28,7 @@ pub record IsFound (room : ℕ) (line : List ℕ) (place kept : ℕ) : Type 0 wh
   pub longest : (m : ℕ) → m < place → can_end line m ≡ true → HasRoom room line m → m ≤ kept
 
 pub found-none : (room : ℕ) (line : List ℕ) (place : ℕ) → place ≡ 0 → IsFound room line place 0
-found-none room line place start = record {
-  ends = refl;
-  fits = inl refl;
-  longest = λ m before may has. absurd (omega (arith, start, before));
-}
+found-none room line place start = search (rules, arith)
 
 -- what is found at the end is kept, where this is the room beside the placeholder
 pub found-kept : (room width : ℕ) (placeholder line : List ℕ) (n : ℕ)
@@ -54,14 +50,7 @@ module _ {room : ℕ} {line : List ℕ} (utf8 : IsUtf8 line) {place : ℕ} {rest
   found-until : (end : ℕ)
       → ((m : ℕ) → place ≤ m → m < end → can_end line m ≡ true → HasRoom room line m → m ≡ 0)
       → IsFound room line end kept
-  found-until end none = record {
-    ends = found.ends;
-    fits = found.fits;
-    longest = λ m before may has. elim (cases_lt m place) [
-      | inl less ↦ found.longest m less may has
-      | inr later ↦ omega (arith, none m later before may has)
-    ];
-  }
+  found-until end none = search (rules, arith)
 
   -- past the room nothing has room
   pub found-past : room < taken → IsFound room line (length line + 1) kept
@@ -123,18 +112,13 @@ module _ {room : ℕ} {line : List ℕ} (utf8 : IsUtf8 line) {place : ℕ} {rest
 
     -- it ends in a blank
     pub found-blank : after_blank ≡ true → IsFound room line (length line + 1) kept
-    found-blank blank = found-until (length line + 1) (λ m later before may has.
-        let here : m ≡ length line = omega (arith, later, before, at_end) in
-        here ∙ may_end-blanks line (sym after_last ∙ blank)
-        (subst (λ n. can_end line n ≡ true) here may))
+    found-blank blank = grind (arith, found-until, at_end, may_end-blanks, after_last)
 
 -- ---- the first lines as they are, and the one after them cut
 
 texts-append : {Z : Type 0} (xs ys : List (CowStr Z))
     → texts_of (xs ++ ys) ≡ texts_of xs ++ texts_of ys
-texts-append xs ys =
-    ap (map line_bytes) (map-append line_view xs ys)
-    ∙ map-append line_bytes (map line_view xs) (map line_view ys)
+texts-append xs ys = search (rules, arith, map-append)
 
 pub cut-lines : {Z : Type 0} (most width : ℕ) (placeholder : List ℕ) (lines : List (CowStr Z))
     (n : ℕ) (line : CowStr Z) (last : Line) → n + 1 ≡ most → n < length lines
@@ -177,10 +161,7 @@ views-more lines n line before after old text within is same so_far more =
 
 kept-le : (width : ℕ) (placeholder line : List ℕ) (m n : ℕ) → IsKeptBeginning width placeholder line m
     → IsKeptBeginning width placeholder line n → m ≤ n
-kept-le width placeholder line m n first second = elim first.room [
-  | inl none ↦ omega (arith, none)
-  | inr has ↦ second.longest m first.ends has
-]
+kept-le width placeholder line m n first second = search (rules, arith)
 
 pub kept-unique : (width : ℕ) (placeholder line : List ℕ) (m n : ℕ)
     → IsKeptBeginning width placeholder line m → IsKeptBeginning width placeholder line n → m ≡ n

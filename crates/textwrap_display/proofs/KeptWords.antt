@@ -2,94 +2,26 @@
 use Rattle.textwrap_text.proofs.Common.{take-append-drop, IsCharBoundary, length-take-le, chars-nil}
 use Rattle.textwrap_text.proofs.Common.{reverse-append, take-append-le, append_assoc, chars-append}
 use Rattle.textwrap_text.proofs.Common.{IsUtf8-take, get_or-drop, get_or_past, length_push, All-nil}
-use Rattle.textwrap_text.proofs.Common.{slice_range, append-nil, cases_Bool, length-map, map-append}
-use Rattle.textwrap_text.proofs.Common.{onto_first, text_width, eqb-false, nat_tests, All-cons, eqb}
-use Rattle.textwrap_text.proofs.Common.{All-head, All-tail, add-zero, cases_lt, drop_all, eqb-true}
-use Rattle.textwrap_text.proofs.Common.{zero-add, IsUncut, next_of, take_at, IsUtf8, get_or, length}
-use Rattle.textwrap_text.proofs.Common.{arith, false, rules, subst, Bool, List, drop, refl, take, ℕ}
-use Rattle.textwrap_text.proofs.Common.{true, ◌++◌, ◌||◌, inl, inr, map, sym, ◌+◌, ◌-◌, ◌<◌, ◌∙◌}
-use Rattle.textwrap_text.proofs.Common.{◌∷◌, ◌≡◌, ◌≤◌, ◌⊎◌, [], ap}
+use Rattle.textwrap_text.proofs.Common.{slice_range, append-nil, cases_Bool, length-map, text_width}
+use Rattle.textwrap_text.proofs.Common.{eqb-false, nat_tests, All-cons, All-head, All-tail, IsUncut}
+use Rattle.textwrap_text.proofs.Common.{add-zero, cases_lt, drop_all, eqb-true, next_of, take_at, ℕ}
+use Rattle.textwrap_text.proofs.Common.{IsUtf8, get_or, length, arith, false, rules, subst, Bool}
+use Rattle.textwrap_text.proofs.Common.{List, drop, refl, take, true, ◌++◌, ◌||◌, eqb, inl, inr, []}
+use Rattle.textwrap_text.proofs.Common.{map, sym, ◌+◌, ◌-◌, ◌<◌, ◌∙◌, ◌∷◌, ◌≡◌, ◌≤◌, ◌⊎◌, ap}
 use Rattle.textwrap_display.proofs.Common.{IsCharBoundary-start, encode_ascii, chunks-from, can_end}
 use Rattle.textwrap_display.proofs.Common.{encode_utf8, read-start, word_texts, AreBlanks, is_blank}
 use Rattle.textwrap_display.proofs.Common.{read-next, word_of, IsRead, chunks, is_cut, State, added}
-use Rattle.textwrap_text.specs.Blanks.{without_final_blanks, trimmed_len}
+use Rattle.textwrap_text.specs.Blanks.{without_final_blanks, final_blanks, trimmed_len}
 use Rattle.std.specs.Prelude.{chars}
 use Rattle.std.proofs.lemmas.Str.{IsCharBoundary-end}
 use Rattle.textwrap_text.proofs.Texts.{starts-within, ends-within, ascii-here, some-bytes}
 use Rattle.textwrap_words.proofs.Word.Ahead.{character-within, plain-bytes}
 use Rattle.textwrap_text.proofs.Lists.Parts.{take_slice}
+use Rattle.textwrap_words.proofs.Word.Texts.{final_blanks-blank}
 use Rattle.std.proofs.Math.Seq.{take-add}
 use Rattle.textwrap_text.proofs.Units.Reading.{columns_in-step, text_width-le, chars-push}
 use Rattle.textwrap_text.proofs.Units.Reading.{columns_in}
 use Rattle.textwrap_text.specs.declared.escapes.State.TheVariants.{Text}
-
--- ---- the chunks of a line's beginning, where blanks follow it, are the first chunks of the
--- line, but for blanks after the last one
-
--- nothing follows, or a blank
-abbrev pub BlankFollows : List ℕ → Type 0
-BlankFollows ys = (ys ≡ []) ⊎ (is_blank (get_or ys 0 0) ≡ true)
-
--- a chunk that begins with a blank is blanks
-uncut-blanks : (y : ℕ) (part : List ℕ) → is_blank y ≡ true → IsUncut (y ∷ part)
-    → AreBlanks (y ∷ part)
-uncut-blanks y [] blank uncut =
-    All-cons (λ c. is_blank c ≡ true) y [] blank (All-nil (λ c. is_blank c ≡ true))
-uncut-blanks y (d ∷ part) blank uncut =
-    let next : is_blank d ≡ true = grind (arith, cases_Bool, uncut [] part y d refl) in
-    All-cons (λ c. is_blank c ≡ true) y (d ∷ part) blank (uncut-blanks d part next
-    (λ before after c e is. uncut (y ∷ before) after c e (ap (λ l. y ∷ l) is)))
-
--- these chunks are the first of the others, where the last of them may have more blanks
-abbrev AreFirst : List (List ℕ) → List (List ℕ) → Type 0
-AreFirst front whole =
-    (before : List (List ℕ)) × (last : List ℕ) × (blanks : List ℕ) × (after : List (List ℕ))
-    × (front ≡ before ++ last ∷ []) × (whole ≡ before ++ (last ++ blanks) ∷ after)
-    × AreBlanks blanks
-
-first-more : (part : List ℕ) (front whole : List (List ℕ)) → AreFirst front whole
-    → AreFirst (part ∷ front) (part ∷ whole)
-first-more part front whole (before, last, blanks, after, is, all_is, are) = (
-  part ∷ before,
-  last,
-  blanks,
-  after,
-  ap (λ l. part ∷ l) is,
-  ap (λ l. part ∷ l) all_is,
-  are,
-)
-
-first-onto : (c : ℕ) (front whole : List (List ℕ)) → AreFirst front whole
-    → AreFirst (onto_first c front) (onto_first c whole)
-first-onto c front whole ([], last, blanks, after, is, all_is, are) =
-    ([], c ∷ last, blanks, after, ap (onto_first c) is, ap (onto_first c) all_is, are)
-first-onto c front whole (part ∷ before, last, blanks, after, is, all_is, are) = (
-  (c ∷ part) ∷ before,
-  last,
-  blanks,
-  after,
-  ap (onto_first c) is,
-  ap (onto_first c) all_is,
-  are,
-)
-
-first-chunks : (c : ℕ) (cs ys : List ℕ) → BlankFollows ys
-    → AreFirst (chunks (c ∷ cs)) (chunks (c ∷ (cs ++ ys)))
-first-chunks c [] [] follows =
-    ([], c ∷ [], [], [], refl, refl, All-nil (λ x. is_blank x ≡ true))
-first-chunks c [] (y ∷ ys) (inl none) = cc
-first-chunks c [] (y ∷ ys) (inr blank) =
-    let h = chunks-from y ys in
-    let uncut : is_cut c y ≡ false = grind (arith, cases_Bool) in
-    let all = uncut-blanks y h.first blank (All-head IsUncut (y ∷ h.first) h.rest h.uncut) in
-    ([], c ∷ [], y ∷ h.first, h.rest, refl, rw uncut (ap (onto_first c) h.shape), all)
-first-chunks c (d ∷ cs) ys follows =
-    let are = first-chunks d cs ys follows in
-    elim (cases_Bool (is_cut c d)) [
-      | inl cut ↦
-          rw cut (first-more (c ∷ []) (chunks (d ∷ cs)) (chunks (d ∷ (cs ++ ys))) are)
-      | inr uncut ↦ rw uncut (first-onto c (chunks (d ∷ cs)) (chunks (d ∷ (cs ++ ys))) are)
-    ]
 
 -- ---- where a beginning of a line may end: these places are within the line, and characters end
 -- there
@@ -149,15 +81,11 @@ module _ (line : List ℕ) (utf8 : IsUtf8 line) (place c : ℕ) (after : List �
   -- inside a character no line may end
   pub may_end-past : (m : ℕ) → place < m → can_end line m ≡ true
       → place + length (encode_utf8 c) ≤ m
-  may_end-past m past may =
-      character-within line utf8 place c after here is m past (may_end-boundary line m utf8 may)
+  may_end-past m past may = search (rules, arith, character-within, may_end-boundary)
 
   pub after_blank-past : (end : ℕ) → end ≡ place + length (encode_utf8 c)
       → is_after_blank line end ≡ eqb c 32
-  after_blank-past end past =
-      let last = byte-blank (end - 1) (omega (arith, past, some-bytes c))
-      (omega (arith, past, some-bytes c)) in
-      grind (arith, nat_tests, cases_Bool, some-bytes c, last)
+  after_blank-past end past = search (rules, arith, byte-blank, some-bytes, cases_Bool)
 
 -- ---- the end of the line
 
@@ -170,6 +98,19 @@ pub may_end-blanks : (line : List ℕ) → is_after_blank line (length line) ≡
 may_end-blanks line blank may = grind (arith, may_end-cases, cases_Bool)
 
 -- ---- the words of a line's beginning, where blanks follow it, are the first words of the line
+
+-- nothing follows, or a blank
+abbrev pub BlankFollows : List ℕ → Type 0
+BlankFollows ys = (ys ≡ []) ⊎ (is_blank (get_or ys 0 0) ≡ true)
+
+-- a chunk that begins with a blank is blanks
+uncut-blanks : (y : ℕ) (part : List ℕ) → is_blank y ≡ true → IsUncut (y ∷ part)
+    → AreBlanks (y ∷ part)
+uncut-blanks y [] blank uncut = search (rules, arith, All-cons, All-nil)
+uncut-blanks y (d ∷ part) blank uncut =
+    let next : is_blank d ≡ true = grind (arith, cases_Bool, uncut [] part y d refl) in
+    All-cons (λ c. is_blank c ≡ true) y (d ∷ part) blank (uncut-blanks d part next
+    (λ before after c e is. uncut (y ∷ before) after c e (ap (λ l. y ∷ l) is)))
 
 -- blanks at the end of a text are final ones
 pub trimmed_len-blanks : (text bs : List ℕ) → AreBlanks bs
@@ -190,22 +131,39 @@ word_texts-parts : (parts : List (List ℕ))
 word_texts-parts [] = refl
 word_texts-parts (part ∷ parts) = ap (λ l. without_final_blanks part ∷ l) (word_texts-parts parts)
 
-first-texts : (front whole : List (List ℕ)) → AreFirst front whole
-    → take (length front) (map without_final_blanks whole) ≡ map without_final_blanks front
-first-texts front whole (before, last, blanks, after, is, all_is, are) =
-    let f = without_final_blanks in
-    let same : map f whole ≡ map f front ++ map f after =
-    rw (is, all_is) (simp (map-append, trimmed-blanks last blanks are, append_assoc)) in
-    ap (take (length front)) same ∙ take_at (map f front) (map f after) (length front)
-    (length-map front f)
+-- blanks at the end of a text stay final ones behind one more byte
+trimmed-cons : (c : ℕ) (part : List ℕ)
+    → without_final_blanks (c ∷ part) ≡ without_final_blanks (c ∷ without_final_blanks part)
+trimmed-cons c part =
+    ap (λ l. without_final_blanks (c ∷ l)) (sym (take-append-drop (trimmed_len part) part))
+    ∙ trimmed-blanks (c ∷ without_final_blanks part) (final_blanks part) (final_blanks-blank part)
+
+first-texts : (c : ℕ) (cs ys : List ℕ) → BlankFollows ys
+    → take (length (chunks (c ∷ cs))) (map without_final_blanks (chunks (c ∷ (cs ++ ys))))
+    ≡ map without_final_blanks (chunks (c ∷ cs))
+first-texts c [] [] follows = refl
+first-texts c [] (y ∷ ys) (inl none) = cc
+first-texts c [] (y ∷ ys) (inr blank) =
+    let h = chunks-from y ys in
+    let uncut : is_cut c y ≡ false = grind (arith, cases_Bool) in
+    let all = uncut-blanks y h.first blank (All-head IsUncut (y ∷ h.first) h.rest h.uncut) in
+    rw (uncut, h.shape) (ap (λ l. l ∷ []) (trimmed-blanks (c ∷ []) (y ∷ h.first) all))
+first-texts c (d ∷ cs) ys follows =
+    let h = chunks-from d cs in
+    let k = chunks-from d (cs ++ ys) in
+    let rest = rw (h.shape, k.shape) at (first-texts d cs ys follows) in
+    let first = trimmed-cons c (d ∷ h.first) in
+    let same = trimmed-cons c (d ∷ k.first) in
+    elim (cases_Bool (is_cut c d)) [
+      | inl cut ↦ rw (h.shape, k.shape, cut) (ap (λ l. without_final_blanks (c ∷ []) ∷ l) rest)
+      | inr uncut ↦ rw (h.shape, k.shape, uncut) (cc (rest, first, same))
+    ]
 
 word_texts-front : (xs ys : List ℕ) → BlankFollows ys
     → take (length (word_texts xs)) (word_texts (xs ++ ys)) ≡ word_texts xs
 word_texts-front [] ys follows = refl
 word_texts-front (c ∷ cs) ys follows =
-    let first = first-texts (chunks (c ∷ cs)) (chunks (c ∷ (cs ++ ys)))
-    (first-chunks c cs ys follows) in
-    grind (arith, length-map, word_texts-parts, first)
+    grind (arith, length-map, word_texts-parts, first-texts c cs ys follows)
 
 pub word_texts-take : (line : List ℕ) (n : ℕ) → can_end line n ≡ true
     → take (length (word_texts (take n line))) (word_texts line) ≡ word_texts (take n line)
@@ -234,12 +192,7 @@ pub record IsReadTo (line : List ℕ) (place : ℕ) (rest : List ℕ) (state : S
   pub blank : after_blank ≡ is_after_blank line place
 
 pub read_to-start : (line : List ℕ) → IsUtf8 line → IsReadTo line 0 line Text 0 true
-read_to-start line utf8 = record {
-  read = read-start line utf8;
-  columns = λ ds. ap (λ cs. columns_in Text (cs ++ ds)) chars-nil
-      ∙ sym (zero-add (columns_in Text ds));
-  blank = refl;
-}
+read_to-start line utf8 = search (rules, arith, read-start, chars-nil)
 
 module _ {line : List ℕ} (utf8 : IsUtf8 line) {place : ℕ} {rest : List ℕ} {state : State}
     {taken : ℕ} {after_blank : Bool}
@@ -274,12 +227,7 @@ module _ {line : List ℕ} (utf8 : IsUtf8 line) {place : ℕ} {rest : List ℕ} 
       ∙ add-zero taken
 
   pub read-le : taken ≤ length line
-  read-le = omega (
-    arith,
-    read-width,
-    text_width-le (take place line) (IsUtf8-take line place utf8 h.read.boundary),
-    length-take-le place line h.read.boundary.0,
-  )
+  read-le = search (rules, arith, read-width, text_width-le, IsUtf8-take, length-take-le)
 
   -- no later beginning has fewer columns
   pub read-more : (m : ℕ) → place ≤ m → IsCharBoundary line m → taken ≤ text_width (take m line)

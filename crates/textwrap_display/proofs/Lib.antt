@@ -1,4 +1,5 @@
 pub mod Common
+pub mod ProvedLaws
 pub mod CarriedLines
 pub mod JustifiedLines
 pub mod KeptLines
@@ -10,7 +11,6 @@ pub mod Sequences
 pub mod StyleRows
 pub mod TableGroups
 pub mod TableRows
-pub mod TabLaws
-pub mod TabTexts
 pub mod WidenedWords
 pub mod Widths
+pub mod TabTexts

@@ -1,20 +1,33 @@
--- Texts with blanks in the place of their tabs: what stands behind the last line feed, and one part
--- after another.
-use Rattle.textwrap_text.proofs.Common.{[], ap, append_assoc, arith, Bool, cases_Bool, drop, false}
-use Rattle.textwrap_text.proofs.Common.{false≢true, get_or, get_or-drop, inl, inr, length}
-use Rattle.textwrap_text.proofs.Common.{length-drop, List, ne_eqb, None, not, not-true, refl, rules}
-use Rattle.textwrap_text.proofs.Common.{slice_split, Some, subst, sym, true, ℕ, ◌++◌, ◌+◌, ◌-◌, ◌<◌}
-use Rattle.textwrap_text.proofs.Common.{◌==◌, ◌∙◌, ◌∷◌, ◌≡◌, ◌≢◌, ◌≤◌}
-use Rattle.std.specs.List.{after_first, before_first, list_any, position_or_len}
+-- Texts with blanks in the place of their tabs: what stands behind the last line feed, one part
+-- after another, and the laws of them.
+use Rattle.textwrap_text.proofs.Common.{append_assoc, get_or-drop, length-drop, slice_split, get_or}
+use Rattle.textwrap_text.proofs.Common.{cases_Bool, false≢true, append-nil, All-append, All-weaker}
+use Rattle.textwrap_text.proofs.Common.{text_width, eqb-false, not-true, All-cons, All-head, length}
+use Rattle.textwrap_text.proofs.Common.{All-tail, eqb-true, All-nil, ne_eqb, arith, false, rules, ℕ}
+use Rattle.textwrap_text.proofs.Common.{subst, blank, Bool, drop, List, None, refl, Some, true, inl}
+use Rattle.textwrap_text.proofs.Common.{◌++◌, ◌==◌, inr, not, sym, ◌+◌, ◌-◌, ◌<◌, ◌∙◌, ◌∷◌, ◌≡◌, []}
+use Rattle.textwrap_text.proofs.Common.{◌≢◌, ◌≤◌, All, suc, ◌*◌, ◌/◌, ◌⊎◌, ap}
+use Rattle.std.specs.List.{position_or_len, before_first, after_first, list_any}
 use Rattle.std.specs.Str.{NoCharPasses}
 use Rattle.std.specs.Str.Pattern.{FindsChar, HasCharAt}
 use Rattle.std.proofs.lemmas.List.Splits.{length-slice_split, slice_split_first, slice_split_none}
+use Rattle.std.proofs.lemmas.List.Splits.{slice_split_at}
 use Rattle.std.proofs.lemmas.List.Sums.{prefix_len_passes, suffix_len_is}
 use Rattle.std.proofs.lemmas.List.{get_or_default}
-use Rattle.std.proofs.lemmas.Str.Pattern.{contains_char, NoCharPasses-char}
-use Rattle.std.specs.Prelude.{MatchBool}
+use Rattle.std.proofs.lemmas.Str.Pattern.{NoCharPasses-char, contains_char}
+use Rattle.std.specs.Prelude.{MatchBool, replicate}
 use Rattle.textwrap_text.proofs.Lists.Elements.{any-contains, contains-any}
-use Rattle.textwrap_display.specs.Tabs.{expanded_tabs, filled_parts, filled_up, last_line, tab}
+use Rattle.textwrap_display.specs.Tabs.{expanded_tabs, filled_parts, tab_blanks, filled_up, tab}
+use Rattle.textwrap_display.specs.Tabs.{last_line}
+use Rattle.std.proofs.Common.{◌%◌}
+use Rattle.std.proofs.Math.Nat.{add-mul, suc-mul}
+use Rattle.std.proofs.lemmas.Nat.{div-add-mod', mod_below}
+use Rattle.std.proofs.lemmas.List.Elements.{All-replicate}
+use Rattle.textwrap_text.proofs.Lists.Parts.{after_last-push}
+use Rattle.textwrap_words.proofs.Word.Words.{text_width-nil}
+use Rattle.textwrap_layout.proofs.Text.Paragraphs.{text_width-append}
+use Rattle.textwrap_display.proofs.Widths.{more-blanks}
+use Rattle.textwrap_display.specs.Styled.{IsWholeText}
 
 -- ---- what stands behind the last line feed
 
@@ -43,8 +56,7 @@ last_line-behind text i j none feed within =
     let stop : is_other (get_or text (j - 1) 0) ≡ false =
     rw (place, feed.byte (omega arith)) refl in
     let some = suffix_len_is is_other text j 0 within others (λ _. stop) in
-    let left : length text - (length text - j) ≡ j = omega (arith, within) in
-    rw (some, left) refl
+    let left : length text - (length text - j) ≡ j = omega (arith, within) in search (rules, arith)
 
 -- ---- whether a text has a tab
 
@@ -76,10 +88,7 @@ expanded-next : (stop : ℕ) (text part rest : List ℕ)
     × (rest ≡ after_first is_tab text)
     → expanded_tabs stop text ≡ filled_up stop part ++ expanded_tabs stop rest
 expanded-next stop text part rest (within, first, later) =
-    ap (filled_parts stop) (slice_split_first is_tab text 0 within)
-    ∙ filled-more stop (before_first is_tab text) (slice_split is_tab (after_first is_tab text))
-    (omega (arith, length-slice_split is_tab (after_first is_tab text)))
-    ∙ cc
+    search (rules, arith, slice_split_first, filled-more, length-slice_split)
 
 -- a part more of what is expanded, and what is left
 pub expanded-step : (stop : ℕ) (text part rest old new whole : List ℕ)
@@ -98,6 +107,227 @@ pub expanded-last : (stop : ℕ) (text old new whole : List ℕ)
     → position_or_len is_tab text ≡ length text → new ≡ old ++ text
     → old ++ expanded_tabs stop text ≡ whole → new ≡ whole
 expanded-last stop text old new whole all added is =
-    let last : expanded_tabs stop text ≡ text =
-    search (rules, slice_split_none, not-true, prefix_len_passes, not) in
-    added ∙ ap (λ t. old ++ t) (sym last) ∙ is
+    search (rules, arith, slice_split_none, not-true, prefix_len_passes)
+
+-- ---- a text is its parts between tabs
+
+-- a byte stands nowhere in a text; blanks are neither tabs nor line feeds
+abbrev Lacks : ℕ → List ℕ → Type 0
+Lacks c text = All (λ b. b ≢ c) text
+
+lacks-one : (c b : ℕ) (text : List ℕ) → b ≢ c → Lacks c text → Lacks c (b ∷ text)
+lacks-one c b text other lacks = All-cons (λ b. b ≢ c) b text other lacks
+
+lacks-both : (c : ℕ) (xs ys : List ℕ) → Lacks c xs → Lacks c ys → Lacks c (xs ++ ys)
+lacks-both c xs ys = All-append (λ b. b ≢ c) xs ys
+
+lacks-blanks : (c n : ℕ) → c < 32 → Lacks c (replicate n blank)
+lacks-blanks c n low = All-replicate (λ b. b ≢ c) n blank (λ is. omega (arith, is, low))
+
+no-tabs : (part : List ℕ) → Lacks 9 part → All (λ b. is_tab b ≡ false) part
+no-tabs part lacks = search (rules, arith, All-weaker, ne_eqb)
+
+module _ (P : List ℕ → Type 0) (whole : (part : List ℕ) → Lacks 9 part → P part)
+    (more : (part rest : List ℕ) → Lacks 9 part → P rest → P (part ++ 9 ∷ rest)) where
+  parts-past : (part text : List ℕ) → Lacks 9 part → P (part ++ text)
+  parts-past part [] lacks = subst P (sym (append-nil part)) (whole part lacks)
+  parts-past part (c ∷ cs) lacks = elim (cases_Bool (is_tab c)) [
+    | inl here ↦ subst (λ b. P (part ++ b ∷ cs)) (sym (eqb-true c 9 here))
+        (more part cs lacks (parts-past [] cs (All-nil (λ b. b ≢ 9))))
+    | inr other ↦ subst P (append_assoc part (c ∷ []) cs) (parts-past (part ++ c ∷ []) cs
+        (lacks-both 9 part (c ∷ []) lacks
+        (lacks-one 9 c [] (eqb-false c 9 other) (All-nil (λ b. b ≢ 9)))))
+  ]
+
+  by-parts : (text : List ℕ) → P text
+  by-parts text = parts-past [] text (All-nil (λ b. b ≢ 9))
+
+-- ---- what stands behind the last line feed of a longer text
+
+last_line-free : (text more : List ℕ) → Lacks 10 more
+    → last_line (text ++ more) ≡ last_line text ++ more
+last_line-free text [] lacks = ap last_line (append-nil text) ∙ sym (append-nil (last_line text))
+last_line-free text (c ∷ cs) lacks =
+    let other : (c == 10) ≡ false = ne_eqb c 10 (All-head (λ b. b ≢ 10) c cs lacks) in
+    let push : last_line (text ++ c ∷ []) ≡ last_line text ++ c ∷ [] =
+    after_last-push (λ b. b == 10) text c ∙ rw other refl in
+    ap last_line (sym (append_assoc text (c ∷ []) cs))
+    ∙ last_line-free (text ++ c ∷ []) cs (All-tail (λ b. b ≢ 10) c cs lacks)
+    ∙ ap (λ l. l ++ cs) push ∙ append_assoc (last_line text) (c ∷ []) cs
+
+behind-feed : (text more : List ℕ) → Lacks 10 more → last_line (text ++ 10 ∷ more) ≡ more
+behind-feed text more lacks =
+    ap last_line (sym (append_assoc text (10 ∷ []) more))
+    ∙ last_line-free (text ++ 10 ∷ []) more lacks
+    ∙ ap (λ l. l ++ more) (after_last-push (λ b. b == 10) text 10)
+
+-- a text has no line feed, or its last line is that of each text that ends with it
+last_line-cases : (more : List ℕ)
+    → ((text : List ℕ) → last_line (text ++ more) ≡ last_line more) ⊎ Lacks 10 more
+last_line-cases [] = inr (All-nil (λ b. b ≢ 10))
+last_line-cases (c ∷ cs) = elim (last_line-cases cs) [
+  | inl later ↦ inl (λ text. ap last_line (sym (append_assoc text (c ∷ []) cs))
+      ∙ later (text ++ c ∷ []) ∙ sym (later (c ∷ [])))
+  | inr lacks ↦ elim (cases_Bool (c == 10)) [
+    | inl here ↦ inl (subst
+        (λ d. (text : List ℕ) → last_line (text ++ d ∷ cs) ≡ last_line (d ∷ cs))
+        (sym (eqb-true c 10 here))
+        (λ text. behind-feed text cs lacks ∙ sym (behind-feed [] cs lacks)))
+    | inr other ↦ inr (lacks-one 10 c cs (eqb-false c 10 other) lacks)
+  ]
+]
+
+last_line-past : (text more : List ℕ) → last_line (text ++ 10 ∷ more) ≡ last_line more
+last_line-past text more = elim (last_line-cases more) [
+  | inl later ↦ ap last_line (sym (append_assoc text (10 ∷ []) more)) ∙ later (text ++ 10 ∷ [])
+  | inr lacks ↦ behind-feed text more lacks ∙ sym (last_line-free [] more lacks)
+]
+
+module _ (stop : ℕ) where
+  pub expanded-free : (text : List ℕ) → Lacks 9 text → expanded_tabs stop text ≡ text
+  expanded-free text lacks = search (rules, arith, slice_split_none, no-tabs)
+
+  -- a part that a tab follows
+  expanded-tab : (part rest : List ℕ) → Lacks 9 part
+      → expanded_tabs stop (part ++ 9 ∷ rest) ≡ filled_up stop part ++ expanded_tabs stop rest
+  expanded-tab part rest lacks =
+      search (rules, arith, slice_split_at, no-tabs, filled-more, length-slice_split)
+
+  -- and what follows it is a text and more
+  expanded-more : (part rest more : List ℕ) → Lacks 9 part
+      → expanded_tabs stop ((part ++ 9 ∷ rest) ++ more)
+      ≡ filled_up stop part ++ expanded_tabs stop (rest ++ more)
+  expanded-more part rest more lacks =
+      ap (expanded_tabs stop) (append_assoc part (9 ∷ rest) more)
+      ∙ expanded-tab part (rest ++ more) lacks
+
+  -- ---- no tab is left
+
+  pub no_tab-left : (text : List ℕ) → Lacks 9 (expanded_tabs stop text)
+  no_tab-left = by-parts (λ text. Lacks 9 (expanded_tabs stop text))
+      (λ part lacks. subst (Lacks 9) (sym (expanded-free part lacks)) lacks)
+      (λ part rest lacks left. subst (Lacks 9) (sym (expanded-tab part rest lacks))
+      (lacks-both 9 (filled_up stop part) (expanded_tabs stop rest) (lacks-both 9 part _ lacks
+      (lacks-blanks 9 (tab_blanks stop (text_width (last_line part))) (omega arith))) left))
+
+  -- ---- what follows a tab is expanded by itself
+
+  pub expanded-cut : (before after : List ℕ) → expanded_tabs stop (before ++ 9 ∷ after)
+      ≡ expanded_tabs stop (before ++ 9 ∷ []) ++ expanded_tabs stop after
+  expanded-cut before after =
+      by-parts (λ text. expanded_tabs stop (text ++ 9 ∷ after)
+      ≡ expanded_tabs stop (text ++ 9 ∷ []) ++ expanded_tabs stop after)
+      (λ part lacks.
+      rw (expanded-tab part after lacks, expanded-tab part [] lacks, append-nil) refl)
+      (λ part rest lacks is. rw (
+        expanded-more part rest (9 ∷ after) lacks,
+        expanded-more part rest (9 ∷ []) lacks,
+        is,
+      ) (sym (append_assoc (filled_up stop part) _ _)))
+      before
+
+  -- ---- each line is expanded by itself
+
+  -- the first line has no tab
+  line-after : (line after : List ℕ) → Lacks 9 line
+      → expanded_tabs stop (line ++ 10 ∷ after) ≡ line ++ 10 ∷ expanded_tabs stop after
+  line-after line after lacks =
+      by-parts (λ text. expanded_tabs stop (line ++ 10 ∷ text)
+      ≡ line ++ 10 ∷ expanded_tabs stop text)
+      (λ part none. expanded-free (line ++ 10 ∷ part) (joined part none)
+      ∙ ap (λ t. line ++ 10 ∷ t) (sym (expanded-free part none)))
+      (λ part rest none _.
+      ap (expanded_tabs stop) (sym (append_assoc line (10 ∷ part) (9 ∷ rest)))
+      ∙ expanded-tab (line ++ 10 ∷ part) rest (joined part none)
+      ∙ rw (last_line-past line part, expanded-tab part rest none) (simp append_assoc))
+      after
+    where
+      joined : (part : List ℕ) → Lacks 9 part → Lacks 9 (line ++ 10 ∷ part)
+      joined part none = lacks-both 9 line (10 ∷ part) lacks
+          (lacks-one 9 10 part (λ is. omega (arith, is)) none)
+
+  pub expanded-lines : (before after : List ℕ) → expanded_tabs stop (before ++ 10 ∷ after)
+      ≡ expanded_tabs stop before ++ 10 ∷ expanded_tabs stop after
+  expanded-lines before after =
+      by-parts (λ text. expanded_tabs stop (text ++ 10 ∷ after)
+      ≡ expanded_tabs stop text ++ 10 ∷ expanded_tabs stop after)
+      (λ part lacks. rw (line-after part after lacks, expanded-free part lacks) refl)
+      (λ part rest lacks is. rw (
+        expanded-more part rest (10 ∷ after) lacks,
+        expanded-tab part rest lacks,
+        is,
+      ) (sym (append_assoc (filled_up stop part) _ _)))
+      before
+
+pub expanded-twice : (stop later : ℕ) (text : List ℕ)
+    → expanded_tabs later (expanded_tabs stop text) ≡ expanded_tabs stop text
+expanded-twice stop later text = search (rules, arith, expanded-free, no_tab-left)
+
+-- ---- a tab leads to a stop
+
+abbrev IsMultiple : ℕ → ℕ → Type 0
+IsMultiple stop n = (k : ℕ) × (n ≡ k * stop)
+
+filled-columns : (stop columns more : ℕ) → stop ≢ 0 → IsMultiple stop more
+    → IsMultiple stop (columns + (tab_blanks stop columns + more))
+filled-columns stop columns more some (k, is) =
+    let full : tab_blanks stop columns ≡ stop - columns % stop =
+    rw (ne_eqb stop 0 some) refl in (
+      suc (columns / stop + k),
+      omega (
+        arith,
+        full,
+        is,
+        some,
+        mod_below columns stop (omega (arith, some)),
+        div-add-mod' columns stop,
+        suc-mul (columns / stop + k) stop,
+        add-mul (columns / stop) k stop,
+      ),
+    )
+
+-- no escape sequence of the line goes on over the end of the part
+abbrev EndsWhole : List ℕ → Type 0
+EndsWhole part = IsWholeText (last_line part)
+
+module _ (stop : ℕ) (some : stop ≢ 0) where
+  abbrev Reaches : List ℕ → Type 0
+  Reaches text = IsMultiple stop (text_width (last_line text))
+
+  reaches-more : (part rest : List ℕ) → EndsWhole part → Reaches rest
+      → Reaches (filled_up stop part ++ rest)
+  reaches-more part rest whole reaches = elim (last_line-cases rest) [
+    | inl later ↦ rw (later (filled_up stop part)) reaches
+    | inr lacks ↦
+        let line = last_line part in
+        let n = tab_blanks stop (text_width line) in
+        let blanks = replicate n blank in
+        let all : last_line (filled_up stop part ++ rest) ≡ line ++ (blanks ++ rest) =
+        ap last_line (append_assoc part blanks rest) ∙ last_line-free part (blanks ++ rest)
+        (lacks-both 10 blanks rest (lacks-blanks 10 n (omega arith)) lacks) in
+        rw (all, text_width-append line (blanks ++ rest) whole.0 whole.1, more-blanks n rest)
+        (filled-columns stop (text_width line) (text_width rest) some
+        (rw (last_line-free [] rest lacks) at reaches))
+  ]
+
+  reaches : (before : List ℕ) → All EndsWhole (slice_split is_tab before)
+      → Reaches (expanded_tabs stop (before ++ 9 ∷ []))
+  reaches = by-parts (λ text. All EndsWhole (slice_split is_tab text)
+      → Reaches (expanded_tabs stop (text ++ 9 ∷ [])))
+      (λ part lacks whole.
+      subst Reaches (sym (expanded-tab stop part [] lacks)) (reaches-more part []
+      (All-head EndsWhole part []
+      (subst (All EndsWhole) (slice_split_none is_tab part (no-tabs part lacks)) whole))
+      (0, omega (arith, text_width-nil))))
+      (λ part rest lacks more whole.
+      let parts = subst (All EndsWhole)
+      (slice_split_at is_tab part 9 rest (no-tabs part lacks) refl) whole in
+      subst Reaches (sym (expanded-more stop part rest (9 ∷ []) lacks))
+      (reaches-more part (expanded_tabs stop (rest ++ 9 ∷ []))
+      (All-head EndsWhole part (slice_split is_tab rest) parts)
+      (more (All-tail EndsWhole part (slice_split is_tab rest) parts))))
+
+pub tab-reaches : (stop : ℕ) (before : List ℕ) → stop ≢ 0
+    → All EndsWhole (slice_split is_tab before)
+    → text_width (last_line (expanded_tabs stop (before ++ 9 ∷ []))) % stop ≡ 0
+tab-reaches stop before some whole = grind (arith, reaches stop some before whole)

@@ -1,10 +1,9 @@
 -- The groups of a table's texts, the cells of each, and the rows of these.
-use Rattle.textwrap_text.proofs.Common.{◌≡◌, ℕ, zero, suc, ◌+◌, ◌*◌, ◌<◌, ◌≤◌, List, [], ◌∷◌, ◌++◌}
-use Rattle.textwrap_text.proofs.Common.{ap, arith, get_or, get_or-map, length, length-append}
-use Rattle.textwrap_text.proofs.Common.{length-map, refl, sym, zip, ◌∙◌, ◌-◌, ◌/◌, map-append, min}
-use Rattle.textwrap_text.proofs.Common.{take, drop, map, subst, append_assoc, Bor, cases_lt}
-use Rattle.textwrap_text.proofs.Common.{range_with_len, take_at, drop_at, drop-drop, All, All-head}
-use Rattle.textwrap_text.proofs.Common.{All-tail}
+use Rattle.textwrap_text.proofs.Common.{range_with_len, length-append, get_or-map, length-map, zero}
+use Rattle.textwrap_text.proofs.Common.{map-append, drop-drop, take_at, drop_at, get_or, length, []}
+use Rattle.textwrap_text.proofs.Common.{rules, arith, subst, List, ◌++◌, refl, drop, ◌≡◌, suc, ◌+◌}
+use Rattle.textwrap_text.proofs.Common.{◌<◌, ◌≤◌, ◌∷◌, sym, zip, ◌∙◌, ◌-◌, ◌/◌, min, map, Bor, ap}
+use Rattle.textwrap_text.proofs.Common.{ℕ}
 use Rattle.std.proofs.Common.{replicate}
 use Rattle.std.proofs.lemmas.List.{length-replicate, take_min, drop_min}
 use Rattle.std.proofs.lemmas.Slice.Zip.{get_or-zip, length-zip, AllZip-long}
@@ -12,10 +11,10 @@ use Rattle.textwrap_display.specs.Tables.{Shape, shown, shown_lines, AreCells, g
 use Rattle.textwrap_display.specs.Tables.{groups_of, IsTableBy, RowGaps, texts_in, ColumnMakes}
 use Rattle.textwrap_display.specs.Tables.{ColumnParts, HaveParts, AreTableRows, IsTableOf}
 use Rattle.textwrap_display.specs.Tables.{PartsMake, shape_of, shape_of_parts, rows_of_cells}
-use Rattle.std.proofs.Math.Nat.{add-div_right, div-eq_of_lt, div-le_self}
+use Rattle.std.proofs.Math.Nat.{add-div_right, div-le_self}
 use Rattle.std.specs.Fork.{slice_chunk}
 use Rattle.std.specs.Slice.Iter.{chunk_count}
-use Rattle.std.specs.List.{AllZip, flat_map}
+use Rattle.std.specs.List.{AllZip}
 use Rattle.textwrap_layout.proofs.Common.{Line}
 use Rattle.textwrap_layout.proofs.Paragraph.Pieces.{lines-as}
 use Rattle.textwrap_display.specs.declared.tables.Column.{Column}
@@ -37,12 +36,7 @@ module _ (columns : List Shape) (cells : List (List (List ℕ))) where
   padded = cells ++ replicate (length columns) []
 
   pub length-padded : length columns ≤ length padded
-  length-padded =
-      omega (
-        arith,
-        length-append cells (replicate (length columns) []),
-        length-replicate {A = List (List ℕ)} (length columns) [],
-      )
+  length-padded = search (rules, arith, length-append, length-replicate)
 
   length-zipped : length (zip columns padded) ≡ length columns
   length-zipped = omega (arith, length-zip columns padded, length-padded)
@@ -68,8 +62,7 @@ count-some total count some more = grind (arith, add-div_right, div-le_self)
 
 count-less : (total count : ℕ) → 0 < count → 0 < total
     → chunk_count total count ≡ suc (chunk_count (total - count) count)
-count-less total count some more =
-    grind (arith, cases_lt, count-some, add-div_right, div-eq_of_lt)
+count-less total count some more = grind (arith, count-some)
 
 -- ---- the first group, and the others
 
@@ -94,17 +87,7 @@ module _ {X : Type 0} (count : ℕ) (items front rest : List X) where
 
   pub groups-more : IsFirstGroup → groups_of count items ≡ front ∷ groups_of count rest
   groups-more h =
-      let most = min count (length items) in
-      let first : take count items ≡ front =
-      sym (take_min count items) ∙ ap (take most) h.whole ∙ take_at front rest most h.size in
-      let left : drop count items ≡ rest =
-      sym (drop_min count items) ∙ ap (drop most) h.whole ∙ drop_at front rest most h.size in
-      let none : 0 * count ≡ 0 = omega arith in
-      let after : length items - count ≡ length rest =
-      omega (arith, h.size, ap length h.whole, length-append front rest) in
-      ap (λ n. map (slice_chunk items count) (range_with_len 0 n))
-      (count-less (length items) count h.some h.more ∙ ap (λ n. suc (chunk_count n count)) after)
-      ∙ rw (none, first, chunks-more items count 0 (chunk_count (length rest) count), left) refl
+      grind (arith, take_min, take_at, drop_min, drop_at, length-append, count-less, chunks-more)
 
 pub group-map : {X Y : Type 0} (f : X → Y) (count : ℕ) (items front rest : List X)
     → IsFirstGroup count items front rest
@@ -115,12 +98,6 @@ group-map f count items front rest h = record {
   more = omega (arith, h.more, length-map items f);
   size = omega (arith, h.size, length-map items f, length-map front f);
 }
-
--- the rows of one group more
-pub rows-more : (before after rows others : List (List ℕ)) → after ≡ before ++ rows
-    → after ++ others ≡ before ++ (rows ++ others)
-rows-more before after rows others is =
-    ap (λ l. l ++ others) is ∙ append_assoc before rows others
 
 -- the column and the text of one cell
 pub cell-at : {X : Type 0} (columns : List X) (texts : List (Bor (List ℕ))) (n : ℕ) (column : X)
@@ -135,22 +112,20 @@ module _ {X : Type 0} (Makes : X → List ℕ → List Line → Type 0) where
   module _ (shape : X → Shape) (columns : List X) (gaps : RowGaps) where
     pub table-none : (texts : List (List ℕ)) → length texts ≡ 0
         → IsTableBy Makes shape columns gaps texts []
-    table-none [] none =
-        let few : chunk_count 0 (length columns) ≡ 0 = omega arith in simp few ([], tt, refl)
+    table-none [] none = search (rules, arith)
     table-none (text ∷ texts) none = absurd (omega (arith, none))
 
     -- the rows of the first group, and those of the others
-    pub table-more : (texts front rest : List (List ℕ)) (cells : List (List (List ℕ)))
+    pub table-more : {texts front rest : List (List ℕ)} (cells : List (List (List ℕ)))
         (others : List (List ℕ)) → IsFirstGroup (length columns) texts front rest
         → AreCells Makes columns front cells → IsTableBy Makes shape columns gaps rest others
         → IsTableBy Makes shape columns gaps texts
         (group_rows gaps (map shape columns) cells ++ others)
-    table-more texts front rest cells others first are (groups, all, given) =
-        let parted = groups-more (length columns) texts front rest first in (
-          cells ∷ groups,
-          subst (λ gs. AllZip (AreCells Makes columns) gs (cells ∷ groups)) (sym parted) (are, all),
-          ap (λ rows. group_rows gaps (map shape columns) cells ++ rows) given,
-        )
+    table-more cells others first are (groups, all, given) = (
+      cells ∷ groups,
+      rw (groups-more _ _ _ _ first) (are, all),
+      ap (λ rows. group_rows gaps (map shape columns) cells ++ rows) given,
+    )
 
 -- ---- columns of any kind, and others that make the same lines in the same shape
 
@@ -233,26 +208,11 @@ module _ {E C : Type 0} {e : _} {c : _} where
 module _ (gaps : RowGaps) (columns : List Shape) where
   pub cells-rows-none : (cells : List (List (List ℕ))) → length cells ≡ 0
       → rows_of_cells gaps columns cells ≡ []
-  cells-rows-none [] none =
-      let few : chunk_count 0 (length columns) ≡ 0 = omega arith in rw few refl
+  cells-rows-none [] none = search (rules, arith)
   cells-rows-none (cell ∷ cells) none = absurd (omega (arith, none))
 
   -- the rows of the first group, and those of the others
   pub cells-rows-more : (cells front rest : List (List (List ℕ)))
       → IsFirstGroup (length columns) cells front rest → rows_of_cells gaps columns cells
       ≡ group_rows gaps columns front ++ rows_of_cells gaps columns rest
-  cells-rows-more cells front rest first =
-      ap (flat_map (group_rows gaps columns)) (groups-more (length columns) cells front rest first)
-
--- ---- what holds of all groups holds of the first and of those after it
-
-module _ (P : List (List ℕ) → Type 0) (count : ℕ) (texts front rest : List (List ℕ))
-    (first : IsFirstGroup count texts front rest) (fit : All P (groups_of count texts)) where
-  in_groups : All P (front ∷ groups_of count rest)
-  in_groups = subst (All P) (groups-more count texts front rest first) fit
-
-  pub group_fits : P front
-  group_fits = All-head P front (groups_of count rest) in_groups
-
-  pub groups_fit : All P (groups_of count rest)
-  groups_fit = All-tail P front (groups_of count rest) in_groups
+  cells-rows-more cells front rest first = search (rules, arith, groups-more)

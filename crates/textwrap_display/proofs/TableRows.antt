@@ -1,10 +1,9 @@
 -- The rows of a table: their text, that they are even, and that they show each line once.
-use Rattle.textwrap_text.proofs.Common.{◌≡◌, ℕ, ◌+◌, ◌-◌, ◌≤◌, max, List, [], ◌∷◌, ◌++◌, All}
-use Rattle.textwrap_text.proofs.Common.{All-cons, All-map, All-nil, ap, arith, cases_lt, fold}
-use Rattle.textwrap_text.proofs.Common.{get_or, get_or_past, inl, inr, length, map, range_with_len}
-use Rattle.textwrap_text.proofs.Common.{refl, sym, ◌<◌, ◌∙◌, zero, suc, ◌*◌, All-head, All-tail}
-use Rattle.textwrap_text.proofs.Common.{append_assoc, length-map, subst, sum_by, sum_by-cons, zip}
-use Rattle.textwrap_text.proofs.Common.{join_with}
+use Rattle.textwrap_text.proofs.Common.{range_with_len, append_assoc, get_or_past, sum_by-cons, ◌≡◌}
+use Rattle.textwrap_text.proofs.Common.{length-map, join_with, All-cons, cases_lt, All-head, get_or}
+use Rattle.textwrap_text.proofs.Common.{All-tail, All-map, All-nil, length, sum_by, rules, arith, ℕ}
+use Rattle.textwrap_text.proofs.Common.{subst, List, ◌++◌, fold, refl, zero, ◌+◌, ◌-◌, ◌≤◌, max, []}
+use Rattle.textwrap_text.proofs.Common.{◌∷◌, All, inl, inr, map, sym, ◌<◌, ◌∙◌, suc, ◌*◌, zip, ap}
 use Rattle.std.proofs.Common.{replicate}
 use Rattle.textwrap.proofs.Text.Tables.{lines-kept}
 use Rattle.textwrap_display.specs.Laws.{cell_shown, row_of, ShowsEachLineOnce, KeepToColumns}
@@ -13,6 +12,7 @@ use Rattle.textwrap_display.specs.Tables.{cell_line, group_rows, height, RowGaps
 use Rattle.textwrap_display.specs.Tables.{shown_lines, table_row}
 use Rattle.textwrap_display.proofs.TableGroups.{length-shown, shown-at, length-padded}
 use Rattle.std.proofs.Math.Nat.{suc-mul}
+use Rattle.std.proofs.lemmas.Simd.{map-map}
 use Rattle.textwrap_layout.proofs.Text.Paragraphs.{text_width-append}
 use Rattle.textwrap_words.proofs.Word.Words.{text_width-nil}
 use Rattle.textwrap_text.specs.Units.{text_width}
@@ -30,19 +30,12 @@ highest : (most : ℕ) (cells : List (List (List ℕ)))
     → (most ≤ fold higher most cells) × All (λ lines. length lines ≤ fold higher most cells) cells
 highest most [] = (omega arith, All-nil (λ lines. length lines ≤ most))
 highest most (lines ∷ cells) =
-    let rest = highest (higher most lines) cells in
-    let all = fold higher (higher most lines) cells in (
-      omega (arith, rest.0),
-      All-cons (λ l. length l ≤ all) lines cells (omega (arith, rest.0)) rest.1,
-    )
+    search (rules, arith, fold, All-cons, highest (higher most lines) cells)
 
 -- a cell shows its lines, and below them nothing
 lines-shown : (lines : List (List ℕ)) (rows : ℕ) → length lines ≤ rows
     → map (cell_line lines) (range_with_len 0 rows) ≡ lines ++ replicate (rows - length lines) []
-lines-shown lines rows high =
-    let whole : rows ≡ length lines + (rows - length lines) = omega (arith, high) in
-    ap (λ n. map (cell_line lines) (range_with_len 0 n)) whole
-    ∙ lines-kept lines (rows - length lines)
+lines-shown lines rows high = grind (arith, lines-kept lines (rows - length lines))
 
 -- no cell is higher than its row, and none at all is no higher
 cell-high : (cells : List (List (List ℕ))) (at : ℕ) → length (get_or cells at []) ≤ height cells
@@ -53,15 +46,9 @@ cell-high cells at = elim (cases_lt at (length cells)) [
 
 -- ---- what functions make of a list
 
-map-twice : {X Y Z : Type 0} (f : Y → Z) (g : X → Y) (xs : List X)
-    → map f (map g xs) ≡ map (λ x. f (g x)) xs
-map-twice f g [] = refl
-map-twice f g (x ∷ xs) = ap (λ l. f (g x) ∷ l) (map-twice f g xs)
-
 map-alike : {X Y : Type 0} (f g : X → Y) (xs : List X) → ((x : X) → f x ≡ g x) → map f xs ≡ map g xs
 map-alike f g [] alike = refl
-map-alike f g (x ∷ xs) alike =
-    ap (λ y. y ∷ map f xs) (alike x) ∙ ap (λ l. g x ∷ l) (map-alike f g xs alike)
+map-alike f g (x ∷ xs) alike = search (rules, arith, map-alike f g xs alike)
 
 -- ---- the rows of a group
 
@@ -79,12 +66,12 @@ module _ (gaps : RowGaps) (columns : List Shape) (cells : List (List (List ℕ))
       let lines = get_or cells at [] in
       let shows = map-alike (λ r. get_or (shown_lines columns cells r) at []) (shown column lines)
       places (λ r. shown-at columns cells r at column within is) in
-      grind (arith, map-twice, lines-shown lines (height cells) (cell-high cells at), shows)
+      grind (arith, map-map, lines-shown lines (height cells) (cell-high cells at), shows)
 
   pub each-line-shown : ShowsEachLineOnce gaps columns cells (group_rows gaps columns cells)
   each-line-shown = record {
     texts = texts;
-    rows_are = sym (map-twice (row_of gaps) (shown_lines columns cells) places);
+    rows_are = sym (map-map (row_of gaps) (shown_lines columns cells) places);
     each_column = All-map (λ row. length row ≡ length columns) (shown_lines columns cells) places
         (λ k d within. length-shown columns cells (get_or places k d));
     each_cell = column-shown;
@@ -140,9 +127,7 @@ widths-zip : (columns : List Shape) (cells : List (List (List ℕ))) → length 
 widths-zip [] cells few = refl
 widths-zip (column ∷ columns) [] few = absurd (omega arith)
 widths-zip (column ∷ columns) (lines ∷ cells) few =
-    sum_by-cons (λ p. p.0.width) (column, lines) (zip columns cells)
-    ∙ ap (λ n. column.width + n) (widths-zip columns cells (omega (arith, few)))
-    ∙ sym (sum_by-cons (λ c. c.width) column columns)
+    search (rules, arith, sum_by-cons, zip, widths-zip columns cells (omega (arith, few)))
 
 module _ (middle : List ℕ) (whole : IsWholeText middle) (r : ℕ) where
   abbrev joined : List (Shape × List (List ℕ)) → List ℕ
@@ -152,12 +137,7 @@ module _ (middle : List ℕ) (whole : IsWholeText middle) (r : ℕ) where
       → text_width (joined ps ++ text)
       ≡ sum_by (λ p. p.0.width) ps + (length ps - 1) * text_width middle + text_width text
   joined-before [] keep text = omega arith
-  joined-before (p ∷ []) keep text =
-      omega (
-        arith,
-        shown-before p.0 p.1 (All-head KeepTo p [] keep) r text,
-        sum_by-cons (λ q. q.0.width) p [],
-      )
+  joined-before (p ∷ []) keep text = search (rules, arith, shown-before, All-head, sum_by-cons)
   joined-before (p ∷ q ∷ ps) keep text =
       let x = shown p.0 p.1 r in
       let others = joined (q ∷ ps) in

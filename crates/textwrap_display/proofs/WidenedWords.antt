@@ -1,10 +1,10 @@
 -- The words of a line whose gaps are widened.
-use Rattle.textwrap_text.proofs.Common.{IsCharBoundary, take-append-le, append_assoc, append-nil, ℕ}
-use Rattle.textwrap_text.proofs.Common.{cases_Bool, onto_first, prefix_len, and_parts, cond_both}
-use Rattle.textwrap_text.proofs.Common.{nat_tests, cases_lt, eqb-true, take_at, IsUtf8, get_or, inl}
-use Rattle.textwrap_text.proofs.Common.{length, ne_eqb, arith, false, List, drop, refl, take, true}
-use Rattle.textwrap_text.proofs.Common.{zero, ◌++◌, ◌==◌, ◌||◌, inr, map, min, not, suc, sym, ◌+◌}
-use Rattle.textwrap_text.proofs.Common.{◌-◌, ◌/◌, ◌<◌, ◌∙◌, ◌∷◌, ◌≡◌, ◌≢◌, ◌≤◌, [], ap}
+use Rattle.textwrap_text.proofs.Common.{IsCharBoundary, take-append-le, append_assoc, cases_Bool, ℕ}
+use Rattle.textwrap_text.proofs.Common.{onto_first, prefix_len, and_parts, cond_both, nat_tests, []}
+use Rattle.textwrap_text.proofs.Common.{cases_lt, eqb-true, take_at, IsUtf8, get_or, length, ne_eqb}
+use Rattle.textwrap_text.proofs.Common.{rules, arith, false, List, drop, refl, take, true, zero, ap}
+use Rattle.textwrap_text.proofs.Common.{◌++◌, ◌==◌, ◌||◌, inl, inr, map, min, not, suc, sym, ◌+◌}
+use Rattle.textwrap_text.proofs.Common.{◌-◌, ◌/◌, ◌<◌, ◌∙◌, ◌∷◌, ◌≡◌, ◌≢◌, ◌≤◌}
 use Rattle.std.proofs.lemmas.List.{replicate-append-replicate, drop-append-le, drop_at}
 use Rattle.textwrap_display.proofs.Common.{IsCharBoundary-start, length-prefix_len, BlanksBetween}
 use Rattle.textwrap_display.proofs.Common.{widened_words, final_blanks, chunks-from, slice_index}
@@ -78,16 +78,14 @@ module _ (each extra c d : ℕ) (part : List ℕ) (parts : List (List ℕ)) wher
       ≡ widened_chunks each (extra - 1) ((d ∷ part) ∷ parts)
       → chunks (flat (widened_chunks each extra ((c ∷ []) ∷ (d ∷ part) ∷ parts)))
       ≡ widened_chunks each extra ((c ∷ []) ∷ (d ∷ part) ∷ parts)
-  cut-before blank other same =
-      grind (arith, begins each (extra - 1) d part parts, blanks-chunk, same)
+  cut-before blank other same = search (rules, arith, begins, blanks-chunk)
 
   uncut-before : is_cut c d ≡ false
       → chunks (flat (widened_chunks each extra ((d ∷ part) ∷ parts)))
       ≡ widened_chunks each extra ((d ∷ part) ∷ parts)
       → chunks (flat (widened_chunks each extra (onto_first c ((d ∷ part) ∷ parts))))
       ≡ widened_chunks each extra (onto_first c ((d ∷ part) ∷ parts))
-  uncut-before uncut same =
-      grind (arith, begins each extra d part parts, flat-onto_first, onto-widened, same)
+  uncut-before uncut same = search (rules, arith, begins, flat-onto_first, onto-widened)
 
 pub widened-chunks : (each extra : ℕ) (line : List ℕ)
     → chunks (flat (widened_chunks each extra (chunks line)))
@@ -110,9 +108,7 @@ widened-chunks each extra (c ∷ d ∷ cs) =
 pub widened-plain : (each extra : ℕ) (text : List ℕ) → prefix_len is_blank text ≡ 0
     → prefix_len is_blank (flat (widened_chunks each extra (chunks text))) ≡ 0
 widened-plain each extra [] none = refl
-widened-plain each extra (d ∷ ds) none =
-    let h = chunks-from d ds in
-    rw (h.shape, begins each extra d h.first h.rest) (grind (arith, cases_Bool, none))
+widened-plain each extra (d ∷ ds) none = search (rules, arith, chunks-from, begins, cases_Bool)
 
 -- ---- the words of a line whose gaps are widened: the same words, each but the last with more
 -- blanks
@@ -121,8 +117,7 @@ widened-plain each extra (d ∷ ds) none =
 word_of-more : (chunk : List ℕ) (k : ℕ) → word_of (chunk ++ blanks k)
     ≡ record (word_of chunk) { whitespace = final_blanks chunk ++ blanks k }
 word_of-more chunk k =
-    let same = trimmed_len-blanks chunk (blanks k) (blanks-are k) in
-    grind (arith, take-append-le, drop-append-le, same)
+    search (rules, arith, trimmed_len-blanks, blanks, blanks-are, take-append-le, drop-append-le)
 
 pub widened-words : (each extra : ℕ) (cs : List (List ℕ))
     → map word_of (widened_chunks each extra cs) ≡ widened_words each extra (map word_of cs)
@@ -148,9 +143,7 @@ same-texts each extra (w ∷ v ∷ ws) = ap (λ l. w.word ∷ l) (same-texts eac
 pub widened-none : (ws : List WordText) → widened_words 0 0 ws ≡ ws
 widened-none [] = refl
 widened-none (w ∷ []) = refl
-widened-none (w ∷ v ∷ ws) =
-    ap (λ l. record w { whitespace = w.whitespace ++ [] } ∷ l) (widened-none (v ∷ ws))
-    ∙ ap (λ s. record w { whitespace = s } ∷ v ∷ ws) (append-nil w.whitespace)
+widened-none (w ∷ v ∷ ws) = search (rules, arith, widened-none (v ∷ ws))
 
 pub widened-one : (each extra : ℕ) (ws : List WordText) → length ws - 1 ≡ 0
     → widened_words each extra ws ≡ ws
@@ -177,10 +170,7 @@ pub indent-boundary : (text : List ℕ) (n : ℕ) → IsUtf8 text → n ≤ leng
     → BlanksBetween text 0 n → IsCharBoundary text n
 indent-boundary text zero utf8 within blanks = IsCharBoundary-start text utf8
 indent-boundary text (suc n) utf8 within blanks =
-    let here : suc n - 1 ≡ n = omega arith in
-    IsCharBoundary-after_blank text (suc n) utf8 (omega arith) within
-    (λ inside. ap (λ m. get_or text m 0) here
-    ∙ eqb-true (get_or text n 0) blank (blanks n (omega arith) (omega arith)))
+    search (rules, arith, IsCharBoundary-after_blank, eqb-true, blank)
 
 -- ---- what follows the blanks before the first word
 

@@ -1,9 +1,9 @@
 -- How wide blanks are, and lines that are aligned or justified.
-use Rattle.textwrap_text.proofs.Common.{take-append-drop, All-from_get_or, nat_tests}
-use Rattle.textwrap_text.proofs.Common.{append_assoc, get_or-take, length-take, All-weaker, IsUtf8}
-use Rattle.textwrap_text.proofs.Common.{append-nil, All-head, All-tail, eqb-true, length, arith, []}
-use Rattle.textwrap_text.proofs.Common.{subst, List, drop, refl, take, true, ◌++◌, All, min, suc, ℕ}
-use Rattle.textwrap_text.proofs.Common.{sym, ◌*◌, ◌+◌, ◌-◌, ◌/◌, ◌<◌, ◌∙◌, ◌∷◌, ◌≡◌, ◌≢◌, ◌≤◌, ap}
+use Rattle.textwrap_text.proofs.Common.{take-append-drop, All-from_get_or, append_assoc, All-weaker}
+use Rattle.textwrap_text.proofs.Common.{get_or-take, length-take, All-head, All-tail, eqb-true, All}
+use Rattle.textwrap_text.proofs.Common.{IsUtf8, length, rules, arith, subst, List, drop, refl, take}
+use Rattle.textwrap_text.proofs.Common.{true, ◌++◌, min, suc, sym, ◌*◌, ◌+◌, ◌-◌, ◌/◌, ◌<◌, ◌∷◌, []}
+use Rattle.textwrap_text.proofs.Common.{◌≡◌, ◌≢◌, ◌≤◌, ap, ℕ}
 use Rattle.std.proofs.lemmas.List.{length-replicate}
 use Rattle.std.proofs.lemmas.List.Elements.{All-replicate}
 use Rattle.textwrap_display.proofs.Common.{text_width-append, widened_words, indent_len, line_bytes}
@@ -32,13 +32,11 @@ blanks-are n = All-replicate (λ c. is_blank c ≡ true) n blank refl
 pub blanks-before : (bytes text : List ℕ) → AreBlanks bytes
     → text_width (bytes ++ text) ≡ length bytes + text_width text
 blanks-before bytes text are =
-    text_width-append bytes text (blanks-utf8 bytes are) (blanks-whole bytes are)
-    ∙ ap (λ n. n + text_width text) (printable-width bytes (blanks-printable bytes are))
+    grind (arith, text_width-append, blanks-utf8, blanks-whole, printable-width, blanks-printable)
 
 pub more-blanks : (n : ℕ) (text : List ℕ) → text_width (blanks n ++ text) ≡ n + text_width text
 more-blanks n text =
-    blanks-before (blanks n) text (blanks-are n)
-    ∙ ap (λ m. m + text_width text) (length-replicate n blank)
+    search (rules, arith, blanks-before, blanks, blanks-are, length-replicate, blank)
 
 -- ---- a line that is aligned: its bytes, and that it is as wide as was asked
 
@@ -66,23 +64,13 @@ pub aligned-before : (alignment : Alignment) (width : ℕ) (line text : List ℕ
     → HasWholeSequences line → text_width line ≤ width
     → text_width (line_bytes (aligned alignment width line) ++ text) ≡ width + text_width text
 aligned-before alignment width line text utf8 whole fits =
-    grind (
-      arith,
-      nat_tests,
-      text_width-append line text utf8 whole,
-      spread-before alignment (width - text_width line) line text utf8 whole,
-    )
+    search (rules, arith, text_width-append, spread-before)
 
 pub aligned-width : (alignment : Alignment) (width : ℕ) (line : List ℕ) → IsUtf8 line
     → HasWholeSequences line → text_width line ≤ width
     → text_width (line_bytes (aligned alignment width line)) ≡ width
 aligned-width alignment width line utf8 whole fits =
-    grind (
-      arith,
-      append-nil,
-      text_width-nil,
-      aligned-before alignment width line [] utf8 whole fits,
-    )
+    search (rules, arith, text_width-nil, aligned-before alignment width line [] utf8 whole fits)
 
 -- ---- words with wider gaps
 
@@ -132,10 +120,7 @@ widened-width each extra (w ∷ v ∷ ws) measured whole =
 -- the blanks that a line begins with
 indent-blanks : (line : List ℕ) → AreBlanks (take (indent_len line) line)
 indent-blanks line =
-    let n = indent_len line in
-    All-from_get_or (λ c. is_blank c ≡ true) (take n line) 0 (λ i within.
-    let inside : i < n = omega (arith, within, length-take n line) in
-    ap is_blank (get_or-take n line i 0 inside) ∙ prefix_len_passes is_blank line i 0 inside)
+    search (rules, arith, All-from_get_or, length-take, get_or-take, prefix_len_passes)
 
 module _ (line : List ℕ) (utf8 : IsUtf8 line)
     (whole : All (λ w. HasWholeSequences w.word) (line_words line)) (some : gaps line ≢ 0) where
@@ -175,5 +160,4 @@ module _ (line : List ℕ) (utf8 : IsUtf8 line)
 
   pub justified-width : (width : ℕ) → text_width line ≤ width
       → text_width (line_bytes (justified width line)) ≡ width
-  justified-width width fits =
-      grind (arith, nat_tests, widened-line (width - text_width line))
+  justified-width width fits = search (rules, arith, widened-line)

@@ -3,6 +3,8 @@
 //!
 //! A law has no example: its statement is all there is to it. A call is written
 //! `aligned_lines_are_as_wide();`.
+#![tactic(auto, using(crate::proofs::ProvedLaws::laws))]
+
 ghost use Rattle.textwrap_display.specs.Laws.{AlignedLinesAreAsWide, CarriedLinesAreAsWide};
 ghost use Rattle.textwrap_display.specs.Laws.{CarriedLinesAreShort, OpenStylesAreDifferent};
 ghost use Rattle.textwrap_display.specs.Laws.{CarriedLinesEndPlain, CarriedLinesKeepStyles};

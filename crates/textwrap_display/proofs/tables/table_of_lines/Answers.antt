@@ -1,12 +1,10 @@
 use Rattle.textwrap_display.proofs.tables.table_of_lines.Goals as goal
-use Rattle.textwrap_text.proofs.Common.{◌≡◌, ◌++◌, ◌∙◌, ap, append-nil, arith, length, length-map}
-use Rattle.textwrap_text.proofs.Common.{map, rules, string_bytes, sym}
+use Rattle.textwrap_text.proofs.Common.{append_assoc, append-nil, length-map, length, arith, rules}
+use Rattle.textwrap_text.proofs.Common.{◌≡◌, ◌∙◌, map}
 use Rattle.std.specs.Slice.Iter.{chunks_rest, chunks_size}
 use Rattle.textwrap_display.specs.Shortening.{texts_of}
-use Rattle.textwrap_display.specs.Tables.{cell_texts, gaps_view, group_rows, rows_of_cells}
-use Rattle.textwrap_display.specs.Tables.{shape_of}
+use Rattle.textwrap_display.specs.Tables.{cell_texts, gaps_view, shape_of}
 use Rattle.textwrap_display.proofs.TableGroups.{cells-rows-more, cells-rows-none, group-map}
-use Rattle.textwrap_display.proofs.TableGroups.{rows-more}
 
 pub loop-group-init : goal.loop-group-init
 loop-group-init g c =
@@ -19,33 +17,26 @@ pub loop-group-preserved : goal.loop-group-preserved
 loop-group-preserved g c =
     let (size, (whole, front, some)) = c.in-Some.ensures.steps in
     let columns = map shape_of c.args.columns.now in
-    let gaps = gaps_view c.args.gaps.now in
-    let left = chunks_rest c.loop-group.group-iterator in
-    let rest = chunks_rest c.next.new.self in
-    let first = c.in-Some.group.now in
-    let before = map string_bytes c.loop-group.rows.items in
     let shapes = length-map c.args.columns.now shape_of in
-    let group = group-map (λ lines. texts_of lines.items) (length columns) left first rest (record {
+    let group = group-map (λ lines. texts_of lines.items) (length columns)
+    (chunks_rest c.loop-group.group-iterator) c.in-Some.group.now (chunks_rest c.next.new.self)
+    (record {
       some = omega (arith, shapes, c.loop-group.iterator.0, c.loop-group.invariant.0);
       whole = whole;
       more = omega (arith, some);
       size = omega (arith, shapes, front, c.loop-group.invariant.0);
     }) in (
       size ∙ c.loop-group.invariant.0,
-      rows-more before (map string_bytes c.push_group.new.rows.items)
-          (group_rows gaps columns (cell_texts first)) (rows_of_cells gaps columns (cell_texts rest))
-          c.in_ok-push_group.ensures
-          ∙ ap (λ rows. before ++ rows) (sym (cells-rows-more gaps columns (cell_texts left)
-          (cell_texts first) (cell_texts rest) group))
-          ∙ c.loop-group.invariant.1,
+      rw (
+        c.in_ok-push_group.ensures,
+        append_assoc,
+        ← cells-rows-more (gaps_view c.args.gaps.now) columns _ _ _ group,
+      ) c.loop-group.invariant.1,
     )
 
 pub returns : goal.returns
 returns g c =
-    let rows = map string_bytes c.loop-group.rows.items in
     let left = chunks_rest c.loop-group.group-iterator in
-    sym (append-nil rows)
-    ∙ ap (λ others. rows ++ others) (sym (cells-rows-none (gaps_view c.args.gaps.now)
-    (map shape_of c.args.columns.now) (cell_texts left)
-    (length-map left (λ lines. texts_of lines.items) ∙ c.in-None.ensures.steps.1.0)))
-    ∙ c.loop-group.invariant.1
+    let none = cells-rows-none (gaps_view c.args.gaps.now) (map shape_of c.args.columns.now)
+    (cell_texts left) (length-map left (λ lines. texts_of lines.items) ∙ c.in-None.ensures.steps.1.0) in
+    rw (none, append-nil) at c.loop-group.invariant.1

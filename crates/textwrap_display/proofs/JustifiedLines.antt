@@ -2,9 +2,9 @@
 use Rattle.textwrap_text.proofs.Common.{length-append, paragraphs_of, append_assoc, ending_bytes, ℕ}
 use Rattle.textwrap_text.proofs.Common.{append-nil, cases_Bool, length-map, text_width, join_with}
 use Rattle.textwrap_text.proofs.Common.{drop_all, flat_map, take_all, drop_at, take_at, length, map}
-use Rattle.textwrap_text.proofs.Common.{nat_lt, arith, false, subst, Bool, List, cond, drop, refl}
-use Rattle.textwrap_text.proofs.Common.{take, true, ◌++◌, ◌||◌, suc, sym, ◌+◌, ◌-◌, ◌∙◌, ◌∷◌, ◌≡◌}
-use Rattle.textwrap_text.proofs.Common.{[], ap}
+use Rattle.textwrap_text.proofs.Common.{nat_lt, rules, arith, false, subst, Bool, List, cond, drop}
+use Rattle.textwrap_text.proofs.Common.{refl, take, true, ◌++◌, ◌||◌, suc, sym, ◌+◌, ◌-◌, ◌∙◌, ◌∷◌}
+use Rattle.textwrap_text.proofs.Common.{◌≡◌, [], ap}
 use Rattle.textwrap_display.proofs.Common.{line_bytes-line_view, IsJustifiedText, cow_str_bytes}
 use Rattle.textwrap_display.proofs.Common.{line_bytes, justified, line_view, WordText, CowStr, Adds}
 use Rattle.textwrap_layout.proofs.Common.{AreParagraphParts, settings_view, parts_from, AreGroups}
@@ -54,8 +54,7 @@ module _ {Z : Type 0} (settings : Settings) where
 after-front : (width : ℕ) (indent line rest : List ℕ) → line ≡ indent ++ rest
     → justified_after width indent line
     ≡ indent ++ line_bytes (justified (width - text_width indent) rest)
-after-front width indent line rest is =
-    grind (arith, starts_with-true indent line rest is, take_at, drop_at)
+after-front width indent line rest is = search (rules, arith, starts_with-true, take_at, drop_at)
 
 -- an empty line stays empty
 empty-stays : (width : ℕ) → line_bytes (justified width []) ≡ []
@@ -152,15 +151,7 @@ module _ (settings : Settings) (Divides : Bool → List ℕ → List (List WordT
 
   pub so_far-start : (text filled : List ℕ) → filled ≡ []
       → IsJustifiedSoFar text filled false (paragraphs_of settings.line_ending text)
-  so_far-start text filled none = record {
-    done = [];
-    paragraphs = refl;
-    whole = λ groups are. record {
-      groups = groups;
-      defined = are;
-      joined = grind (arith, join-on);
-    };
-  }
+  so_far-start text filled none = search (rules, arith, join-on)
 
   -- the lines of one more paragraph
   pub so_far-more : {Z : Type 0} (text filled new : List ℕ)
@@ -210,7 +201,4 @@ pub justified-as : {E C : Type 0} {e : _} {c : _} (options : Options E C e c) (s
     → IsJustifiedText (settings_view options) (DividesBy options) text filled
     → IsJustifiedText settings (DividesAs splitter algorithm settings) text filled
 justified-as options settings splitter algorithm parts text filled is =
-    subst (λ s. IsJustifiedText s (DividesAs splitter algorithm settings) text filled)
-    parts.settings_are
-    (subst (λ Divides. IsJustifiedText (settings_view options) Divides text filled)
-    (divides options settings splitter algorithm parts) is)
+    search (rules, arith, divides)

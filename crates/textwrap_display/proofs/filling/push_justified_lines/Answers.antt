@@ -1,6 +1,6 @@
+use Rattle.textwrap_text.proofs.Common.{nil_from_length, string_bytes, drop_more, rules, arith, sym}
+use Rattle.textwrap_text.proofs.Common.{drop, ◌++◌, ◌+◌, ◌∙◌, ◌∷◌, [], ap}
 use Rattle.textwrap_display.proofs.filling.push_justified_lines.Goals as goal
-use Rattle.textwrap_text.proofs.Common.{string_bytes, drop_more, drop, ◌++◌, sym, ◌+◌, ◌∙◌, ◌∷◌, []}
-use Rattle.textwrap_text.proofs.Common.{nil_from_length, append-nil, ap}
 use Rattle.textwrap_display.proofs.Common.{layout_view}
 use Rattle.textwrap_display.proofs.JustifiedLines.{added-step, added}
 
@@ -21,11 +21,7 @@ loop-line-preserved g c =
     ∙ c.loop-line.invariant
 
 pub loop-line-init : goal.loop-line-init
-loop-line-init g c =
-    ap (λ ls. string_bytes c.args.text.now
-    ++ added (layout_view c.args.layout.now) c.args.is_later ls) (sym c.in-Some.ensures.cases.0)
+loop-line-init g c = search (rules, arith, added, c.args.is_later, c.in-Some.ensures.cases.0)
 
 pub returns-in_default : goal.returns-in_default
-returns-in_default g c =
-    rw (nil_from_length c.args.lines.now c.in_default.ensures.cases)
-    (sym (append-nil (string_bytes c.args.text.now)))
+returns-in_default g c = search (rules, arith, nil_from_length, c.in_default.ensures.cases)

@@ -1,7 +1,7 @@
+use Rattle.textwrap_text.proofs.Common.{slice_index, length, rules, arith, subst, drop, take, ◌<◌}
+use Rattle.textwrap_text.proofs.Common.{◌∙◌, ◌≡◌, ◌≢◌, ap}
 use Rattle.textwrap_display.proofs.justifying.split_indent.Goals as goal
 use Rattle.textwrap_display.proofs.justifying.split_indent.Goals.{After-blanks_end}
-use Rattle.textwrap_text.proofs.Common.{slice_index, length, arith, subst, drop, take, ◌<◌, ◌∙◌, ap}
-use Rattle.textwrap_text.proofs.Common.{◌≡◌, ◌≢◌}
 use Rattle.textwrap_display.proofs.Common.{BlanksBetween, indent_len, blank}
 use Rattle.textwrap_display.proofs.WidenedWords.{indent-boundary, indent-is}
 
@@ -15,9 +15,7 @@ at c =
     (subst (λ t. n < length t → slice_index t n ≢ blank) c.as_bytes.ensures.value c.blanks_end.ensures.stops)
 
 pub split_at-requires : goal.split_at-requires
-split_at-requires c =
-    indent-boundary c.args.line.now c.blanks_end.result c.utf8.line
-    (omega (arith, ap length c.as_bytes.ensures.value)) (blanks c)
+split_at-requires c = search (rules, arith, indent-boundary, blanks, c.as_bytes.ensures.value)
 
 pub returns-clause-indent : goal.returns-clause-indent
 returns-clause-indent c = c.split_at.ensures.front

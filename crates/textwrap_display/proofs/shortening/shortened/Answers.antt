@@ -1,6 +1,5 @@
+use Rattle.textwrap_text.proofs.Common.{rules, arith}
 use Rattle.textwrap_display.proofs.shortening.shortened.Goals as goal
-use Rattle.textwrap_text.proofs.Common.{arith, take, ◌++◌, ◌-◌, ◌≡◌, ap}
-use Rattle.textwrap_display.proofs.Common.{Built}
 use Rattle.textwrap_display.proofs.KeptWords.{may_end-boundary}
 
 pub range-kept-requires-clause-end_boundary : goal.range-kept-requires-clause-end_boundary
@@ -9,16 +8,12 @@ range-kept-requires-clause-end_boundary g c =
 
 pub returns : goal.returns
 returns g c =
-    let len = c.kept_len.result in
-    let same : len - 0 ≡ len = omega arith in
-    record {
-      len = len;
-      kept = c.kept_len.ensures;
-      is = rw (
-        c.in_ok-push_str-2.ensures.bytes,
-        c.in_ok-push_str.ensures.bytes,
-        c.in_ok-text.ensures.bytes,
-        c.range-kept.ensures.value,
-      )
-          (ap (λ n. Built (take n c.args.line.now ++ c.args.placeholder.now)) same);
-    }
+    search (
+      rules,
+      arith,
+      c.kept_len.ensures,
+      c.in_ok-push_str-2.ensures.bytes,
+      c.in_ok-push_str.ensures.bytes,
+      c.in_ok-text.ensures.bytes,
+      c.range-kept.ensures.value,
+    )

@@ -1,9 +1,8 @@
 use Rattle.textwrap_display.proofs.tables.table_by.Goals as goal
 use Rattle.textwrap_display.proofs.tables.table_by.Goals.{In-Some}
 use Rattle.textwrap_text.proofs.Common.{string_bytes, append_assoc, append-nil, length-map, length}
-use Rattle.textwrap_text.proofs.Common.{All-head, All-tail, arith, rules, subst, ◌++◌, ◌≡◌, ◌∙◌, []}
-use Rattle.textwrap_text.proofs.Common.{map}
-use Rattle.std.specs.Slice.Iter.{chunks_rest, chunks_size}
+use Rattle.textwrap_text.proofs.Common.{All-head, All-tail, arith, rules, subst, ◌++◌, ◌∙◌, map, []}
+use Rattle.std.specs.Slice.Iter.{chunks_rest}
 use Rattle.textwrap_lines.proofs.Paragraph.KeepsTo.{passed-on}
 use Rattle.textwrap_display.specs.Tables.{NonePasses, cell_texts, group_rows, gaps_view, IsTableBy}
 use Rattle.textwrap_display.specs.Tables.{texts_in}
@@ -11,11 +10,7 @@ use Rattle.textwrap_display.proofs.TableGroups.{group-map, groups-more, IsFirstG
 use Rattle.textwrap_display.proofs.TableGroups.{table-more, table-none}
 
 pub loop-texts-init : goal.loop-texts-init
-loop-texts-init g c =
-    let left = c.into_iter-texts-iterator.result in
-    let size : chunks_size left ≡ length c.args.columns.now = search rules in
-    let texts : chunks_rest left ≡ c.args.cells.now = search rules in
-    (size, λ others is. search rules, λ fit. rw texts fit)
+loop-texts-init g c = search (rules, arith)
 
 first_group : (g : _) (c : In-Some g) → IsFirstGroup (length c.args.columns.now)
     (texts_in (chunks_rest c.loop-texts.texts-iterator)) (texts_in c.in-Some.texts.now)
@@ -47,9 +42,8 @@ loop-texts-preserved g c =
     )
 
 pub returns-in_err-group-clause-only_memory : goal.returns-in_err-group-clause-only_memory
-returns-in_err-group-clause-only_memory g c = λ never.
-    passed-on c.from_residual.result c.in_err-group.field-0.0 c.from_residual.ensures.1
-    (c.in_err-group.ensures.only_memory never)
+returns-in_err-group-clause-only_memory g c =
+    search (rules, arith, passed-on, c.from_residual.ensures.1, c.in_err-group.ensures.only_memory)
 
 pub returns-in_err-group-clause-no_overflow : goal.returns-in_err-group-clause-no_overflow
 returns-in_err-group-clause-no_overflow g c = λ fit.

@@ -1,17 +1,13 @@
 use Rattle.textwrap_display.proofs.tables.table_of_lines.Goals as goal
 use Rattle.textwrap_text.proofs.Common.{append_assoc, append-nil, length-map, length, arith, rules}
-use Rattle.textwrap_text.proofs.Common.{◌≡◌, ◌∙◌, map}
-use Rattle.std.specs.Slice.Iter.{chunks_rest, chunks_size}
+use Rattle.textwrap_text.proofs.Common.{◌∙◌, map}
+use Rattle.std.specs.Slice.Iter.{chunks_rest}
 use Rattle.textwrap_display.specs.Shortening.{texts_of}
 use Rattle.textwrap_display.specs.Tables.{cell_texts, gaps_view, shape_of}
 use Rattle.textwrap_display.proofs.TableGroups.{cells-rows-more, cells-rows-none, group-map}
 
 pub loop-group-init : goal.loop-group-init
-loop-group-init g c =
-    let left = c.into_iter-group-iterator.result in
-    let size : chunks_size left ≡ length c.args.columns.now = search rules in
-    let cells : chunks_rest left ≡ c.args.cells.now = search rules in
-    (size, rw cells search rules)
+loop-group-init g c = search (rules, arith)
 
 pub loop-group-preserved : goal.loop-group-preserved
 loop-group-preserved g c =

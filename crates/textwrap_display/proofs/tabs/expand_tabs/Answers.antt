@@ -1,14 +1,12 @@
+use Rattle.textwrap_text.proofs.Common.{rules, arith, ◌++◌, sym, ◌∙◌, ap}
 use Rattle.textwrap_display.proofs.tabs.expand_tabs.Goals as goal
 use Rattle.textwrap_display.proofs.TabTexts.{has-tab}
 use Rattle.textwrap_layout.specs.Paragraph.{Built}
 use Rattle.textwrap_display.specs.Tabs.{expanded_tabs}
-use Rattle.textwrap_text.proofs.Common.{ap, refl, sym, ◌∙◌, ◌++◌}
 
 pub returns-then-not-contains : goal.returns-then-not-contains
-returns-then-not-contains g c = record {
-  expanded = let none = sym (has-tab c.args.text.now c.contains.result c.contains.ensures.cases)
-      ∙ c.if-not-contains.true in rw none refl;
-}
+returns-then-not-contains g c =
+    search (rules, arith, has-tab, c.contains.ensures.cases, c.if-not-contains.true)
 
 pub returns : goal.returns
 returns g c = record {

@@ -208,7 +208,6 @@ fn is_word_class(class: LineBreak) -> bool
 }
 
 /// The class of a character of ASCII.
-#[tactic(auto, using(textwrap_classes::proofs::ClassLemmas::ascii_class))]
 fn ascii_class(byte: u8) -> LineBreak
     requires { byte < 128 }
     ensures { result ≡ class_of byte }

@@ -83,7 +83,6 @@ impl Unit {
 
 /// What the rules ask of a sign or a syllable of Japanese.
 #[inline]
-#[tactic(auto, using(crate::proofs::ClassLemmas::japanese_unit))]
 fn japanese_unit(code: usize) -> Unit
     requires from { 0x3000 ≤ code }
     requires to { code ≤ 0x30FF }

@@ -50,7 +50,8 @@ pub passes-among : (p : LineBreak → Bool) (classes : List LineBreak) → list_
 passes-among p [] all v inside = cc
 passes-among p (w ∷ classes) all v inside =
     let (here, others) = and_parts (p w) (list_all p classes) all in
-    grind (arith, cases_Bool, line_break_number_injective, eqb-true, passes-among p classes others v)
+    grind (arith, cases_Bool, line_break_number_injective, eqb-true, passes-among p classes others
+    v)
 
 -- HY
 abbrev pub is_hyphen_class : LineBreak → Bool
@@ -297,7 +298,8 @@ module _ (text : List ℕ) (printable : IsPrintable text) where
       let next : end + suc n ≡ suc (end + n) = omega arith in
       let last = blanks (end + n) (omega arith) (omega arith) in
       rw (next, past-blank (end + n) (omega (arith, within)) last)
-      (past-blanks end n (omega (arith, within)) (λ k from below. blanks k from (omega (arith, below))))
+      (past-blanks end n (omega (arith, within)) (λ k from below. blanks k from (omega
+      (arith, below))))
 
   pub past-among : (n : ℕ) → n ≤ length text
       → is_among past_classes (class_past_blanks text n) ≡ true

@@ -304,7 +304,8 @@ module _ (text : List ℕ) (h : IsCutAtBlanks text) where
   closed k start below =
       let n = trimmed_len text - 1 - k in
       let last : k + n ≡ trimmed_len text - 1 = omega (arith, below) in
-      let on = λ (opens : is_opening (class_of (byte (k - 1))) ≡ true) (blank : is_blank (byte k) ≡ true).
+      let on = λ (opens : is_opening (class_of (byte (k - 1))) ≡ true) (blank : is_blank
+      (byte k) ≡ true).
       rw last at (blanks-on k start opens blank n (omega (arith, below, last))).0 in
       let other = trimmed-other text (omega (arith, below)) in
       let space = space-at text h.printable k (within k below) in

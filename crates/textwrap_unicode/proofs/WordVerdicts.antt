@@ -127,10 +127,12 @@ module _ (numbers : Numbers) (line : List ℕ) (at : ℕ) (rest : List ℕ) wher
       let (ends_is, and_is) = said numbers back blank sign (class_of c) word.class in
       let unit = ascii-is c word.ascii in
       let one : encode c ≡ c ∷ [] = encode_ascii c word.ascii in
-      let is : drop n rest ≡ encode c ++ after = rw (one, ← add-one n) (drop_more rest n 0 inside) in
+      let is : drop n rest ≡ encode c ++ after = rw (one, ← add-one n)
+      (drop_more rest n 0 inside) in
       let place : at + suc n ≡ at + n + length (encode c) = omega (arith, ap length one) in
       IsCutting-step _ _ _ _ _ _ _ _ _ c after (Text, true) h is (plain-step c (no-escape c word))
-      _ _ _ _ _ place (sym (ap (and (behind blank sign)) unit ∙ and_is)) place (sym (no-hyphen c word))
+      _ _ _ _ _ place (sym (ap (and (behind blank sign)) unit ∙ and_is)) place (sym
+      (no-hyphen c word))
       (ap (λ b. cuts ++ cut_here b (at + n)) (sym (ap (ends numbers back blank sign) unit ∙ ends_is)))
 
   past-words : (cuts : List ℕ) → IsCutting numbers line at rest Text in_word at false cuts

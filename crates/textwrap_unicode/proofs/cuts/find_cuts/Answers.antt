@@ -21,17 +21,20 @@ range_from-requires c = λ _.
 pub step_past-verdict-requires : goal.step_past-verdict-requires
 step_past-verdict-requires c =
     rw c.len_utf8.ensures.len
-    (read-next c.loop-ch.invariant.read _ _ (sym c.range_from.ensures.value ∙ sym c.chars.ensures.rest
+    (read-next c.loop-ch.invariant.read _ _
+    (sym c.range_from.ensures.value ∙ sym c.chars.ensures.rest
     ∙ c.in-Some.ensures.steps.0) _ refl).boundary
 
 -- the reader past the character
-past : (c : Joined-is_visible) → IsCutting c.args.numbers c.args.line.now (c.loop-ch.at + c.len_utf8.result)
+past : (c : Joined-is_visible) → IsCutting c.args.numbers c.args.line.now
+    (c.loop-ch.at + c.len_utf8.result)
     (drop (c.loop-ch.at + c.len_utf8.result) c.args.line.now) c.step-next.result.0 c.if-is_visible.before
     c.if-is_visible.end c.if-is_visible.is_hyphen c.if-is_visible.cuts.items
 past c =
     let line = c.args.line.now in
     let ch = c.in-Some.ch in
-    let is = sym c.range_from.ensures.value ∙ sym c.chars.ensures.rest ∙ c.in-Some.ensures.steps.0 in
+    let is = sym c.range_from.ensures.value ∙ sym c.chars.ensures.rest ∙ c.in-Some.ensures.steps.0
+    in
     let after = (read-next c.loop-ch.invariant.read ch _ is _ refl).place in
     rw (c.len_utf8.ensures.len, after) (elim c.if-is_visible.branch [
       | goal.then-is_visible+in_ok-push_cut w ↦

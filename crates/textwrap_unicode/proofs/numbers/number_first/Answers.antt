@@ -18,14 +18,17 @@ next c =
 
 pub returns-then-not-is_mark : goal.returns-then-not-is_mark
 returns-then-not-is_mark c =
-    let other = sym (c.is_mark.ensures ∙ ap is_mark c.class_of-class.ensures) ∙ c.if-not-is_mark.true in
+    let other = sym (c.is_mark.ensures ∙ ap is_mark c.class_of-class.ensures) ∙
+    c.if-not-is_mark.true in
     c.is_number.ensures ∙ ap is_number c.class_of-class.ensures
     ∙ sym (rw other at (next (goal.at.returns-then-not-is_mark c).In-Some)) ∙ c.loop-c.invariant
 
 pub loop-c-preserved : goal.loop-c-preserved
 loop-c-preserved c =
-    let mark = sym (c.is_mark.ensures ∙ ap is_mark c.class_of-class.ensures) ∙ c.if-not-is_mark.false in
-    rw length_push (sym (rw mark at (next (goal.at.loop-c-preserved c).In-Some)) ∙ c.loop-c.invariant)
+    let mark = sym (c.is_mark.ensures ∙ ap is_mark c.class_of-class.ensures) ∙
+    c.if-not-is_mark.false in
+    rw length_push (sym (rw mark at (next
+    (goal.at.loop-c-preserved c).In-Some)) ∙ c.loop-c.invariant)
 
 pub returns : goal.returns
 returns c =

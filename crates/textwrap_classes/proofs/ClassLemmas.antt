@@ -144,5 +144,5 @@ pub japanese_unit : (c : ℕ) → 0x3000 ≤ c → c ≤ 0x30FF → ◌≡◌ {A
   is_unassigned_pictograph = false;
 }) (unit_of c)
 japanese_unit c from to =
-    rw (syllable-class c from to, syllable-wide c from to, early_assigned c (omega
-    (arith, to))) refl
+    let assigned = early_assigned c (omega (arith, to)) in
+    rw (syllable-class c from to, syllable-wide c from to, assigned) refl

@@ -50,8 +50,8 @@ pub passes-among : (p : LineBreak → Bool) (classes : List LineBreak) → list_
 passes-among p [] all v inside = cc
 passes-among p (w ∷ classes) all v inside =
     let (here, others) = and_parts (p w) (list_all p classes) all in
-    grind (arith, cases_Bool, line_break_number_injective, eqb-true, passes-among p classes others
-    v)
+    let among = passes-among p classes others v in
+    grind (arith, cases_Bool, line_break_number_injective, eqb-true, among)
 
 -- HY
 abbrev pub is_hyphen_class : LineBreak → Bool

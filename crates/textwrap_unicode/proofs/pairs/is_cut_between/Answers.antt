@@ -17,5 +17,5 @@ returns c =
     let told = cut-told _ c.requires.printable _ c.requires.after_start c.requires.inside in
     let blank = ne_eqb _ 32 c.if-after-eq32.false in
     let past = c.class_past_blanks.ensures in
-    grind (arith, told, past, ascii_unit, c.if-before-ne32.false, c.may_follow_blanks.ensures,
-    blank)
+    let follows = c.may_follow_blanks.ensures in
+    grind (arith, told, past, ascii_unit, c.if-before-ne32.false, follows, blank)

@@ -57,7 +57,7 @@ returns-in-loop-offset-clause-steps c =
     ∙ rw (c.range_from.ensures.value, s.0, c.len_utf8.ensures.len) (elim c.match-verdict.branch [
       | goal.in-Allowed w ↦ ends _ _ _ (said ∙ w.in-Allowed.is) (rw w.is_mandatory-is refl) stands
       | goal.in-Mandatory w ↦ ends _ _ _ (said ∙ w.in-Mandatory.is)
-      (rw w.is_mandatory-is refl) stands
+          (rw w.is_mandatory-is refl) stands
     ])
 
 pub returns-in-loop-offset-clause-goes : goal.returns-in-loop-offset-clause-goes

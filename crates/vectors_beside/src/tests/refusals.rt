@@ -20,6 +20,15 @@ enum Call {
     Table,
 }
 
+/// A line that sets one style more than are compared with each other, and one after it.
+#[rattlefmt::skip]
+const MANY_STYLES: &[&str] = &[
+    "\x1b[1m\x1b[2m\x1b[3m\x1b[4m\x1b[5m\x1b[6m\x1b[7m\x1b[8m\x1b[9m\x1b[10m\x1b[11m\
+     \x1b[12m\x1b[13m\x1b[14m\x1b[15m\x1b[16m\x1b[17m\x1b[18m\x1b[19m\x1b[20m\x1b[21m\x1b[22m\
+     \x1b[23m\x1b[24m\x1b[25m\x1b[26m\x1b[27m\x1b[28m\x1b[29m\x1b[30m\x1b[31m\x1b[32m\x1b[33m",
+    "b",
+];
+
 /// The rule, the call, and how many allocations it makes at least and at most.
 #[rattlefmt::skip]
 const CALLS: &[(&str, Call, usize, usize)] = &[
@@ -32,6 +41,7 @@ const CALLS: &[(&str, Call, usize, usize)] = &[
     ("and one without is not", Call::Line(Expanded, "a b", 8), 0, 0),
     ("the list, and the one line that is cut", Call::ShortenLines, 2, 2),
     ("styles and links that are open", Call::CarryStyles(&["\x1b[1ma", "b\x1b]8;;u\x07", "c\x1b[m\x1b]8;;\x07", "d"]), 7, 7),
+    ("more styles than are compared", Call::CarryStyles(MANY_STYLES), 9, 99),
     ("the list is allocated, and no line that stays", Call::CarryStyles(&["a", "b"]), 1, 1),
     ("a text that is filled", Call::FillJustified, 0, 99),
     ("a table", Call::Table, 0, 99),

@@ -84,26 +84,40 @@ impl CostedLine {
             + self.break_penalty
             in SomeIff result (Fits128Bits cost) cost }
     {
+        let fit_cost = self.fit_cost(penalties)?;
+        fit_cost.checked_add(penalties.nline_penalty as u128 + self.break_penalty as u128)
+    }
+
+    /// The cost of missing the target, or `None` where it needs more than 128 bits.
+    #[inline(always)]
+    fn fit_cost(self, penalties: &Penalties) -> Option<u128>
+        ensures { let cost = fit_cost penalties.now self.target self.closed self.is_last
+            self.is_single in SomeIff result (Fits128Bits cost) cost }
+    {
         let target = self.target as u128;
-        let added = penalties.nline_penalty as u128 + self.break_penalty as u128;
         if self.closed > target {
-            let past = self.closed - target;
-            let penalty = penalties.overflow_penalty as u128;
-            // Numbers of 64 bits are multiplied at once, and most are such.
-            let missed = match u64::try_from(past) {
-                Ok(past) => past as u128 * penalty,
-                Err(_) => past.checked_mul(penalty)?,
-            };
-            return missed.checked_add(added);
+            return product(self.closed - target, penalties.overflow_penalty);
         }
         if !self.is_last {
             let gap = (target - self.closed) as u64;
-            return (gap as u128 * gap as u128).checked_add(added);
+            return Some(gap as u128 * gap as u128);
         }
         let is_short = self.closed * (penalties.short_last_line_fraction as u128) < target;
-        if self.is_single && is_short {
-            return Some(added + penalties.short_last_line_penalty as u128);
-        }
-        Some(added)
+        Some(if self.is_single && is_short {
+            penalties.short_last_line_penalty as u128
+        } else {
+            0
+        })
+    }
+}
+
+/// The product of two numbers, or `None` where it needs more than 128 bits.
+fn product(number: u128, factor: usize) -> Option<u128>
+    ensures { SomeIff result (Fits128Bits (number * factor)) (number * factor) }
+{
+    // Numbers of 64 bits are multiplied at once, and most are such.
+    match u64::try_from(number) {
+        Ok(number) => Some(number as u128 * factor as u128),
+        Err(_) => number.checked_mul(factor as u128),
     }
 }

@@ -5,7 +5,7 @@ ghost use Rattle.textwrap_text.specs.Blanks.{blank, is_blank};
 ghost use Rattle.textwrap_words.specs.Breaking.{broken_words};
 ghost use Rattle.textwrap_words.specs.PieceCuts.{is_point, pieces_from_place};
 ghost use Rattle.textwrap_words.specs.Pieces.{as_splitter, stand_from, empty_front};
-ghost use Rattle.textwrap_words.specs.Pieces.{is_stop, IsFirstStop, IsLetter};
+ghost use Rattle.textwrap_words.specs.Pieces.{is_stop, IsFirstStop, IsFirstWord, IsLetter};
 ghost use Rattle.textwrap_words.specs.WordSplitters.{split_words};
 ghost use Rattle.textwrap_words.specs.Words.{words_of};
 
@@ -105,20 +105,28 @@ pub fn next_piece(text: &str, at: usize, limit: usize, splitter: BuiltInSplitter
         ≡ result ∷ stand_from result.end
         (pieces_from_place (as_splitter splitter) limit text.now result.end) }
 {
-    let bytes = text.as_bytes();
-    let letters = letters_len(bytes, at, limit);
-    let stop = at + letters;
-    // Most words end so, and no character has to be decoded for them.
-    let (word_end, width) = if stop < bytes.len() && bytes[stop] == b' ' {
-        (stop, letters)
-    } else {
-        read_on(text, at, letters, text.len(), limit, splitter, true)
-    };
+    let (word_end, width) = first_word(text, at, limit, splitter);
     Piece {
         word_end,
-        end: blanks_end(bytes, word_end),
+        end: blanks_end(text.as_bytes(), word_end),
         width,
     }
+}
+
+/// Where the word of the piece ends that begins at a place, and its columns.
+fn first_word(text: &str, at: usize, limit: usize, splitter: BuiltInSplitter) -> (usize, usize)
+    requires boundary { IsCharBoundary text.now at }
+    requires inside { at < length text.now }
+    ensures { IsFirstWord (as_splitter splitter) limit text.now at result.0 result.1 }
+{
+    let bytes = text.as_bytes();
+    let width = letters_len(bytes, at, limit);
+    let start = at + width;
+    // Most words end so, and no character has to be decoded for them.
+    if start < bytes.len() && bytes[start] == b' ' {
+        return (start, width);
+    }
+    read_on(text, at, width, text.len(), limit, splitter, true)
 }
 
 /// Where the first piece from a place on stops, which begins with so many letters, and its columns: at
@@ -176,10 +184,17 @@ pub(crate) fn letters_len(text: &[u8], at: usize, most: usize) -> usize
 {
     let last = text.len().min(at.saturating_add(most));
     let mut end = at;
-    while end < last && matches!(text[end], b'!'..=b',' | b'.'..=b'~') {
+    while end < last && is_letter(text[end]) {
         end += 1;
     }
     end - at
+}
+
+/// Whether a byte is printable ASCII, and neither a blank nor a hyphen.
+fn is_letter(byte: u8) -> bool
+    ensures { result ≡ true → IsLetter byte }
+{
+    byte > b' ' && byte <= b'~' && byte != b'-'
 }
 
 /// Whether a text is split at a place, after a hyphen.

@@ -1,26 +1,21 @@
 -- The names that most proofs cite: those of the standard library, of the crates below, and of the
 -- definitions of this crate. Declares nothing.
-pub use Rattle.std.proofs.Common.{replicate, IfSome, ap₂}
-pub use Rattle.std.proofs.lemmas.Grind.{div_ceil_times, common_steps}
-pub use Rattle.std.proofs.lemmas.Iterator.{YieldsList-from_zip}
-pub use Rattle.std.proofs.lemmas.Iterator.Adapters.{YieldsList-from_bytes}
-pub use Rattle.std.proofs.lemmas.Iterator.Consumers.{count_from_yields_List}
-pub use Rattle.std.proofs.lemmas.Iterator.Search.{YieldsList-from_take_while}
-pub use Rattle.std.proofs.lemmas.List.{append_cancel_left, length-replicate, with_items_is, set_at}
-pub use Rattle.std.proofs.lemmas.List.Elements.{length_all_zip, All-replicate, AllZip-get_or}
-pub use Rattle.std.proofs.lemmas.List.Elements.{All-filter, All-get_or}
+pub use Rattle.std.proofs.{Common.IfSome, Common.replicate, Common.ap₂, lemmas.Result.IfOk-weaker}
+pub use Rattle.std.proofs.lemmas.{Grind.common_steps, Grind.div_ceil_times, Str.IsUtf8-string_bytes}
+pub use Rattle.std.proofs.lemmas.{Iterator.Adapters.YieldsList-from_bytes, Str.Ascii.IsAscii-cons}
+pub use Rattle.std.proofs.lemmas.Iterator.{Consumers.count_from_yields_List, YieldsList-from_zip}
+pub use Rattle.std.{proofs.lemmas.Iterator.Search.YieldsList-from_take_while, specs.Str.chars}
+pub use Rattle.std.proofs.lemmas.List.{append_cancel_left, with_items_is, set_at, length-replicate}
+pub use Rattle.std.proofs.lemmas.List.Elements.{All-replicate, length_all_zip, All-filter}
+pub use Rattle.std.proofs.lemmas.List.Elements.{AllZip-get_or, All-get_or}
 pub use Rattle.std.proofs.lemmas.List.Folds.{list_all-append, flat_map-map, map_fixed}
-pub use Rattle.std.proofs.lemmas.Result.{IfOk-weaker}
-pub use Rattle.std.proofs.lemmas.Str.{IsCharBoundary-from_ascii, IsUtf8-string_bytes, scalars-chars}
-pub use Rattle.std.proofs.lemmas.Str.{len_utf8_bounds, IsAscii-take}
-pub use Rattle.std.proofs.lemmas.Str.Ascii.{IsAscii-cons}
-pub use Rattle.std.specs.Char.{is_whitespace, len_utf8}
-pub use Rattle.std.specs.Str.{chars}
+pub use Rattle.std.proofs.lemmas.Str.{len_utf8_bounds, IsCharBoundary-from_ascii, IsAscii-take}
+pub use Rattle.std.{specs.Char.is_whitespace, specs.Char.len_utf8, proofs.lemmas.Str.scalars-chars}
 pub use Rattle.textwrap.specs.Columns.{at_column_width, cells_by_column, column_cells, IsInColumns}
-pub use Rattle.textwrap.specs.Columns.{inner_width, cell_parts, table_rows, RowLayout, layout_of}
-pub use Rattle.textwrap.specs.Columns.{row_count, row_parts, column_row, blanks, padded, cells, cell}
+pub use Rattle.textwrap.specs.Columns.{inner_width, cell_parts, table_rows, column_row, RowLayout}
+pub use Rattle.textwrap.specs.Columns.{layout_of, row_count, row_parts, blanks, padded, cells, cell}
 pub use Rattle.textwrap.specs.InPlace.{IsFilledInPlace, with_line_feeds, broken_lines, FitsOneLine}
-pub use Rattle.textwrap.specs.InPlace.{breaks_from, breaks_of}
+pub use Rattle.textwrap.specs.{InPlace.breaks_from, InPlace.breaks_of, Rows.framed}
 pub use Rattle.textwrap.specs.Indentation.{leading_whitespace, indent_of_part, without_margin}
 pub use Rattle.textwrap.specs.Indentation.{is_blank_line, margin_of, dedented, indented}
 pub use Rattle.textwrap.specs.Paragraph.{Built, Slice, Line}
@@ -30,10 +25,8 @@ pub use Rattle.textwrap.specs.Refilling.{nonempty_lines, unfilled_width, common_
 pub use Rattle.textwrap.specs.Refilling.{added_ending, common_start, keeps_ending, IsPlainLine}
 pub use Rattle.textwrap.specs.Refilling.{IsPlainWord, ended_lines, joined_text, line_prefix}
 pub use Rattle.textwrap.specs.Refilling.{IsRefilled, EndedLine, IsPlain, blanked}
-pub use Rattle.textwrap.specs.Rows.{framed}
-pub use Rattle.textwrap_base.proofs.Common.{IsGreedy}
-pub use Rattle.textwrap_base.proofs.Division.Greedy.{line_width-one, greedy_unique}
-pub use Rattle.textwrap_base.proofs.Division.Grown.{grown-greedy, grown}
+pub use Rattle.textwrap_base.proofs.{Common.IsGreedy, Division.Greedy.line_width-one}
+pub use Rattle.textwrap_base.proofs.Division.{Grown.grown-greedy, Grown.grown, Greedy.greedy_unique}
 pub use Rattle.textwrap_layout.proofs.Common.{AreParagraphParts, settings_view, layout_view}
 pub use Rattle.textwrap_layout.proofs.Common.{line_bytes, parts_from, AreGroups, DividesAs, covered}
 pub use Rattle.textwrap_layout.proofs.Common.{DividesAt, LineParts, indent_of, line_from, line_view}
@@ -41,10 +34,9 @@ pub use Rattle.textwrap_layout.proofs.Common.{widths_of, IsFilled, Settings, is_
 pub use Rattle.textwrap_layout.proofs.Paragraph.Covered.{IsBroken-greedy, AreLinesApart, apart_from}
 pub use Rattle.textwrap_layout.proofs.Paragraph.Covered.{shortened, IsBroken}
 pub use Rattle.textwrap_layout.proofs.Text.Paragraphs.{ending_bytes-some, parts_past-some}
-pub use Rattle.textwrap_layout.specs.Direct.{as_algorithm}
+pub use Rattle.textwrap_layout.specs.{Direct.as_algorithm, declared.options.Options.Options}
 pub use Rattle.textwrap_layout.specs.Options.{KeepsMethods, MayOverflow, settings_at}
 pub use Rattle.textwrap_layout.specs.Paragraph.{DividesUnder}
-pub use Rattle.textwrap_layout.specs.declared.options.Options.{Options}
 pub use Rattle.textwrap_lines.proofs.PrintableTexts.Bytes.{split-whole}
 pub use Rattle.textwrap_text.proofs.Common.{map-range_with_len_more, chars_from_encodes, All-weaker}
 pub use Rattle.textwrap_text.proofs.Common.{starts_with_length, IsUtf8-from_ascii, take-append-drop}

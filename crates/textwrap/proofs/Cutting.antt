@@ -1,18 +1,16 @@
 -- Lemmas for a caller whose function finds cuts, points or ends one after another: the empty list
 -- is right, and a right one grows, also at the characters of a loop over `char_indices`. What is right
 -- by index, `next-by_index` says.
-pub use Rattle.textwrap_words.proofs.Word.Cuts.{inner-cuts, next-by_index}
+pub use Rattle.textwrap_words.proofs.Word.Cuts.{next-by_index, inner-cuts}
 use Rattle.textwrap.proofs.Common.{len_utf8_bounds, IsCharBoundary, AreInnerCuts, length_push, List}
 use Rattle.textwrap.proofs.Common.{len_utf8, IsUtf8, get_or, length, arith, rules, Some, ◌++◌, ◌+◌}
 use Rattle.textwrap.proofs.Common.{◌-◌, ◌<◌, ◌∷◌, ◌≡◌, ◌≤◌, [], ℕ}
-use Rattle.textwrap_words.proofs.Word.Cuts.{next-push}
-use Rattle.textwrap_words.specs.Cuts.{IsNextCut}
+use Rattle.textwrap_words.{proofs.Word.Cuts.next-push, specs.LineEnds.AreEnds}
 use Rattle.textwrap_text.proofs.Common.{char_indices_offset, length-encode, get_or_push}
-use Rattle.std.specs.Str.Iter.{char_indices_steps, char_indices_rest}
-use Rattle.std.specs.declared.str.CharIndices.{CharIndices}
-use Rattle.textwrap_words.specs.LineEnds.{IsNextEnd, AreEnds}
 use Rattle.textwrap_text.proofs.Texts.{some-bytes}
 use Rattle.textwrap_text.proofs.Units.Reading.{read-start, read-next, read-room, IsRead}
+use Rattle.std.specs.Str.Iter.{char_indices_steps, char_indices_rest}
+use Rattle.std.specs.declared.str.CharIndices.{CharIndices}
 
 -- the last of the numbers, if there are any, is this one
 abbrev pub EndWith : List ℕ → ℕ → Type 0
@@ -24,9 +22,7 @@ EndWith-push ns n some = search (rules, length_push, get_or_push)
 -- which is 0 where there are none
 last-or_zero : (ns : List ℕ) (last : ℕ) → EndWith ns last → get_or (0 ∷ ns) (length ns) 0 ≤ last
 last-or_zero [] last ends = omega arith
-last-or_zero (n ∷ ns) last ends =
-    let end : length (n ∷ ns) - 1 ≡ length ns = omega arith in
-    omega (arith, rw end at (ends (omega arith)))
+last-or_zero (n ∷ ns) last ends = search (rules, arith)
 
 pub inner-none : (text : List ℕ) → AreInnerCuts text []
 inner-none text = tt
@@ -34,8 +30,7 @@ inner-none text = tt
 pub inner-push : (text cuts : List ℕ) (cut last : ℕ) → AreInnerCuts text cuts → EndWith cuts last
     → last < cut → cut < length text → IsCharBoundary text cut → AreInnerCuts text (cuts ++ cut ∷ [])
 inner-push text cuts cut last are ends above inside boundary =
-    next-push (IsNextCut text) cuts cut 0 are
-    (omega (arith, last-or_zero cuts last ends, above), inside, boundary)
+    search (rules, arith, next-push, last-or_zero)
 
 -- where a reader by `char_indices` stands in a text: before a character, or at the end
 abbrev pub HasReadTo : List ℕ → CharIndices → Type 0
@@ -48,8 +43,7 @@ HasReadTo-start text reader utf8 all start = rw (all, start) (read-start text ut
 -- it stands so after each character too
 pub HasReadTo-next : (text : List ℕ) (here next : CharIndices) (at c : ℕ) → IsUtf8 text
     → HasReadTo text here → char_indices_steps here (Some (at, c)) next → HasReadTo text next
-HasReadTo-next text here next at c utf8 read step =
-    read-next read c (char_indices_rest next) step.1 (char_indices_offset next) step.2
+HasReadTo-next text here next at c utf8 read step = search (rules, arith, read-next, step.1, step.2)
 
 -- a cut before a character that is not the first
 pub inner-push-before : (text cuts : List ℕ) (here next : CharIndices) (at c last : ℕ)
@@ -78,5 +72,4 @@ ends-none xs = tt
 pub ends-push : {X : Type 0} (xs : List X) (ends : List ℕ) (end last : ℕ) → AreEnds xs ends
     → EndWith ends last → last ≤ end → end ≤ length xs → AreEnds xs (ends ++ end ∷ [])
 ends-push xs ends end last are ends_with above inside =
-    next-push (IsNextEnd (length xs)) ends end 0 are
-    (omega (arith, last-or_zero ends last ends_with, above), inside)
+    search (rules, arith, next-push, last-or_zero)

@@ -34,7 +34,7 @@ pub(crate) trait TextSink {
     fn push_part(&mut self, part: &str) -> Result<(), AllocError>
         ensures name { name self.new ≡ name self.old }
         ensures done { never_fails → IsOk result }
-        ensures took { OnOk result ((first : Self) (text : List ℕ) → holds first self.old text
+        ensures pushed { OnOk result ((first : Self) (text : List ℕ) → holds first self.old text
             → holds first self.new (text ++ part.now)) };
 }
 

@@ -1,9 +1,9 @@
 -- Worked rows on the widths of lines, on divisions, on what lines cost, and on tables of costs.
-use Rattle.textwrap_text.proofs.Common.{All-head, flat_map, arith, List, refl, take, map, ◌∷◌, ◌≡◌}
-use Rattle.textwrap_text.proofs.Common.{◌≢◌, [], ℕ}
-use Rattle.textwrap_base.proofs.Common.{default_penalties, fragments_table, fragment_costs, Sizes}
-use Rattle.textwrap_base.proofs.Common.{division_cost, closed_width, IsDivision, line_width, Entry}
-use Rattle.textwrap_base.proofs.Common.{problem_at, problem_by, AreConvex}
+use Rattle.textwrap_text.proofs.Common.{[], All-head, arith, flat_map, List, map, refl, rules, take}
+use Rattle.textwrap_text.proofs.Common.{ℕ, ◌∷◌, ◌≡◌}
+use Rattle.textwrap_base.proofs.Common.{default_penalties, Entry, fragment_costs, fragments_table}
+use Rattle.textwrap_base.proofs.Common.{closed_width, division_cost, IsDivision, line_width, Sizes}
+use Rattle.textwrap_base.proofs.Common.{AreConvex, problem_at, problem_by}
 use Rattle.textwrap_base.specs.Table.{table}
 
 -- ---- the width of a line
@@ -40,8 +40,7 @@ IsDivision-not_no_line : IsDivision {X = Sizes} [] [] → ⊥
 IsDivision-not_no_line division = cc
 
 IsDivision-not_empty_line : IsDivision (sized 5 0 0 ∷ []) ([] ∷ (sized 5 0 0 ∷ []) ∷ []) → ⊥
-IsDivision-not_empty_line division =
-    All-head (λ line. line ≢ []) [] ((sized 5 0 0 ∷ []) ∷ []) division.1 refl
+IsDivision-not_empty_line division = search (rules, arith, All-head)
 
 -- ---- what lines cost
 

@@ -1,20 +1,18 @@
 -- The search by a queue: its steps, the costs that suit it, and the stretches of ends that each
 -- start takes.
-use Rattle.textwrap_text.proofs.Common.{get_or_append_left, get_or-drop, get_or-take, get_or_push}
-use Rattle.textwrap_text.proofs.Common.{length-drop, length-take, length_push, get_or-map, cases_lt}
-use Rattle.textwrap_text.proofs.Common.{length-map, get_or, length, arith, rules, subst, List, drop}
-use Rattle.textwrap_text.proofs.Common.{refl, take, zero, ◌++◌, inl, inr, map, max, min, suc, sym}
-use Rattle.textwrap_text.proofs.Common.{◌*◌, ◌+◌, ◌-◌, ◌/◌, ◌<◌, ◌^◌, ◌∙◌, ◌∷◌, ◌≡◌, ◌≤◌, [], ap, ℕ}
-use Rattle.textwrap_base.proofs.Common.{binary_digits, AreStretches, IsLeastBelow, IsBestStart}
-use Rattle.textwrap_base.proofs.Common.{first_entry, least_entry, IsBestFrom, entry_from, AreMinima}
-use Rattle.textwrap_base.proofs.Common.{minimum_of, stretch_at, SuitQueue, cost_from, HaveBest}
-use Rattle.textwrap_base.proofs.Common.{IsPriced, Minimum, Stretch, HasEnd, Costs, Entry, table}
-use Rattle.std.proofs.Math.Nat.{mul-le-mul_right}
-use Rattle.textwrap_base.specs.Queue.{digits_within}
-use Rattle.std.proofs.lemmas.List.{get_or_read, ext_get_or}
-use Rattle.textwrap_base.proofs.Cost.Table.{entry-table_first, table-is_table, length-table}
-use Rattle.textwrap_base.proofs.Cost.Table.{least_one}
-use Rattle.textwrap_base.specs.Stretches.{no_stretch, AreRising}
+use Rattle.textwrap_text.proofs.Common.{get_or-drop, get_or-take, get_or_append_left, get_or_push}
+use Rattle.textwrap_text.proofs.Common.{cases_lt, get_or-map, length-drop, length-take, length_push}
+use Rattle.textwrap_text.proofs.Common.{arith, drop, get_or, length, length-map, List, rules, subst}
+use Rattle.textwrap_text.proofs.Common.{inl, inr, map, max, min, refl, suc, sym, take, zero, ◌++◌}
+use Rattle.textwrap_text.proofs.Common.{[], ap, ℕ, ◌*◌, ◌+◌, ◌-◌, ◌/◌, ◌<◌, ◌^◌, ◌∙◌, ◌∷◌, ◌≡◌, ◌≤◌}
+use Rattle.std.proofs.{lemmas.List.ext_get_or, lemmas.List.get_or_read, Math.Nat.mul-le-mul_right}
+use Rattle.textwrap_base.{proofs.Cost.Table.least_one, specs.Queue.digits_within}
+use Rattle.textwrap_base.proofs.Common.{AreStretches, binary_digits, IsBestStart, IsLeastBelow}
+use Rattle.textwrap_base.proofs.Common.{AreMinima, entry_from, first_entry, IsBestFrom, least_entry}
+use Rattle.textwrap_base.proofs.Common.{cost_from, HaveBest, minimum_of, stretch_at, SuitQueue}
+use Rattle.textwrap_base.proofs.Common.{Costs, Entry, HasEnd, IsPriced, Minimum, Stretch, table}
+use Rattle.textwrap_base.proofs.Cost.Table.{entry-table_first, length-table, table-is_table}
+use Rattle.textwrap_base.specs.Stretches.{AreRising, no_stretch}
 
 -- ---- how many binary digits a number has
 
@@ -63,8 +61,7 @@ least_entry-first costs = entry-table_first costs.cost costs.ends
 later_number : (costs : Costs) (start : ℕ) → 0 < start → start ≤ costs.ends
     → 0 < (least_entry costs start).line_number
 later_number costs start some l =
-    let later = (table-is_table costs.cost costs.ends).later start some l in
-    omega (arith, ap (λ (e : Entry). e.line_number) later.from_start)
+    let later = (table-is_table costs.cost costs.ends).later start some l in search (rules, arith)
 
 cost_from-first : (costs : Costs) (end : ℕ) → cost_from costs 0 end ≡ costs.cost 0 end 0
 cost_from-first costs end = rw (least_entry-first costs) (omega arith)
@@ -186,10 +183,6 @@ module _ (costs : Costs) (m end s : ℕ) (last : end ≡ m + 1) (l : end ≤ cos
 stretch_at-take : (q : List Stretch) (n k : ℕ) → k < n → stretch_at (take n q) k ≡ stretch_at q k
 stretch_at-take q n k l = get_or-take n q k no_stretch l
 
-HasEnd-take : (q : List Stretch) (n end k : ℕ) → n + 1 ≡ length q → end < (stretch_at q n).from
-    → HasEnd (take n q) end k → HasEnd q end k
-HasEnd-take q n end k len before has = grind (arith, length-take, stretch_at-take)
-
 pub HaveBest-take : (costs : Costs) (m high n from : ℕ) (q less : List Stretch)
     → HaveBest costs m high q → n + 1 ≡ length q → less ≡ take n q → from ≡ (stretch_at q n).from
     → from ≤ high → HaveBest costs m from less
@@ -197,13 +190,12 @@ HaveBest-take costs m high n from q less best len is begins l = rw is (λ end k 
     let old : k < n = omega (arith, length-take n q, has.within) in
     let before' : end < (stretch_at q n).from = omega arith in
     rw (stretch_at-take q n k old)
-    (best end k after (omega arith) (HasEnd-take q n end k len before' has)))
+    (best end k after (omega arith) (search (rules, arith, length-take, stretch_at-take))))
 
 -- what is read
 pub stretch_at-read : (q : List Stretch) (i k : ℕ) (s : Stretch) → s ≡ get_or q i s → i ≡ k
     → k < length q → s ≡ stretch_at q k
-stretch_at-read q i k s is same within =
-    get_or_read q i s (omega arith) is no_stretch ∙ ap (stretch_at q) same
+stretch_at-read q i k s is same within = search (rules, arith, get_or_read)
 
 -- some of the first
 pub stretch_at-left : (q old : List Stretch) (n k : ℕ) → q ≡ take n old → k < n
@@ -216,8 +208,7 @@ AreRising-left q old n is rising = rw is (grind (arith, length-take, stretch_at-
 -- the stretches after that of an end begin after the end
 pub begins_after : (q : List Stretch) (end i k : ℕ) → AreRising q → HasEnd q end i → i < k
     → k < length q → end < (stretch_at q k).from
-begins_after q end i k rising has l within =
-    grind (arith, has.before_next (omega arith), rising (i + 1) k)
+begins_after q end i k rising has l within = search (rules, arith)
 
 -- the last stretch has all ends from its first on
 HasEnd-last : (q : List Stretch) (n end : ℕ) → n + 1 ≡ length q → (stretch_at q n).from ≤ end
@@ -226,30 +217,12 @@ HasEnd-last q n end len begun = omega arith
 
 pub HasEnd-left : (q old : List Stretch) (n end k : ℕ) → q ≡ take n old → HasEnd old end k
     → k < length q → HasEnd q end k
-HasEnd-left q old n end k is has held =
-    let len = ap length is ∙ length-take n old in
-    record {
-      within = held;
-      begun = rw (stretch_at-left q old n k is (omega arith)) has.begun;
-      before_next = λ l. rw (stretch_at-left q old n (k + 1) is (omega arith))
-          (has.before_next (omega arith));
-    }
+HasEnd-left q old n end k is has held = search (rules, arith, length-take, stretch_at-left)
 
 -- the stretch of start 1 alone
 pub AreStretches-one : (costs : Costs) (q : List Stretch)
     → q ≡ record { start = 1; from = 1; cost = 0 } ∷ [] → 1 < costs.ends → AreStretches costs 1 q
-AreStretches-one costs q is l = rw is record {
-  rising = λ i k less within. absurd (omega arith);
-  priced = λ k held. let e : k ≡ 0 = omega arith in rw e (omega arith);
-  best = λ end k after before has.
-      let e : k ≡ 0 = omega (arith, has.within) in
-      rw e record {
-        positive = omega arith;
-        within = omega arith;
-        least = λ i some within. let e : i ≡ 1 = omega arith in rw e (omega arith);
-        first = λ i some less. absurd (omega arith);
-      };
-}
+AreStretches-one costs q is l = search (rules, arith)
 
 -- ---- the newest start against the last stretch
 
@@ -319,14 +292,7 @@ module _ (q more : List Stretch) (s : Stretch) (is : more ≡ q ++ s ∷ []) whe
   len-more = ap length is ∙ length_push q s
 
   pub HasEnd-push : (end k : ℕ) → HasEnd q end k → end < s.from → HasEnd more end k
-  HasEnd-push end k has above = record {
-    within = omega (arith, has.within, len-more);
-    begun = rw (at_old k has.within) has.begun;
-    before_next = λ l. elim (cases_lt (k + 1) (length q)) [
-      | inl old ↦ rw (at_old (k + 1) old) (has.before_next old)
-      | inr last ↦ rw (at_new (k + 1) (omega (arith, len-more))) above
-    ];
-  }
+  HasEnd-push end k has above = search (rules, arith, len-more, at_old, cases_lt, at_new)
 
   AreRising-push : AreRising q → (stretch_at q (length q - 1)).from < s.from → 0 < length q
       → AreRising more
@@ -383,7 +349,3 @@ AreStretches-drop costs m n q are = record {
   best = λ end k after before has. rw (stretch_at-drop q n k)
       (are.best end (n + k) after before (HasEnd-whole q n end k has));
 }
-
-pub HasEnd-drop : (q rest : List Stretch) (end k j : ℕ) → rest ≡ drop (k - j) q → j ≤ k
-    → HasEnd q end k → HasEnd rest end j
-HasEnd-drop q rest end k j is l has = rw is (grind (arith, length-drop, stretch_at-drop))

@@ -4,7 +4,7 @@ pub mod Division
 pub mod Errors
 pub mod Laws
 pub mod LineCosts
-pub mod Measured
+pub mod PrefixSums
 pub mod Minima
 pub mod OptimalFit
 pub mod Penalties

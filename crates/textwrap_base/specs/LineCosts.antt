@@ -3,7 +3,7 @@
 use Rattle.std.specs.Prelude.{◌+◌, List}
 use Rattle.textwrap_base.specs.Sizes.{Sizes}
 use Rattle.textwrap_base.specs.Cost.{PricedSizes}
-use Rattle.textwrap_base.specs.Measured.{AreMeasured}
+use Rattle.textwrap_base.specs.PrefixSums.{HavePrefixSums}
 use Rattle.textwrap_base.specs.declared.minima.line_costs.Measure.{Measure}
 
 abbrev pub measured : Measure → PricedSizes
@@ -14,4 +14,4 @@ measured m =
 -- each measure knows the open width of those before it, and all widths together keep to 128 bits
 abbrev pub AreMeasures : List Measure → Type 0
 AreMeasures measures =
-    AreMeasured measured (λ m. m.before) (λ m. m.before + m.width + m.penalty) measures
+    HavePrefixSums measured (λ m. m.before) (λ m. m.before + m.width + m.penalty) measures

@@ -15,7 +15,7 @@ mod fragments;
 pub mod inner;
 pub mod laws;
 mod line_widths;
-mod measured;
 pub mod minima;
 mod optimal_fit;
 mod penalties;
+mod prefix_sums;

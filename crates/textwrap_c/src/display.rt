@@ -1,8 +1,8 @@
 //! Lines for display: aligned, justified and shortened, and texts without tabs.
-ghost use Rattle.std.specs.Prelude.{◌≡◌, ◌<◌, ◌≤◌, ◌↔◌, IsUtf8};
+ghost use Rattle.std.specs.Prelude.{◌≡◌, false, ◌<◌, ◌≤◌, ◌↔◌, IsUtf8};
 ghost use Rattle.textwrap.specs.Paragraph.{line_bytes};
 ghost use Rattle.textwrap_calls.specs.Display.{alignment_of, IsShort};
-ghost use Rattle.textwrap_calls.specs.Options.{settings_of, Divides};
+ghost use Rattle.textwrap_calls.specs.Options.{settings_of, says_yes, Divides};
 ghost use Rattle.textwrap_calls.specs.Options.{TellsUnknown, TellsNotUtf8};
 ghost use Rattle.textwrap_calls.specs.Room.{WritesText};
 ghost use Rattle.textwrap_calls.specs.Status.{not_utf8, too_small, unknown_options};
@@ -80,12 +80,33 @@ pub extern "C" fn textwrap_shorten(
     room: &mut [u8],
     len: &mut usize,
 ) -> u32
-    ensures short { WritesText (IsShort width placeholder.now line.now)
+    ensures short { WritesText (IsShort false width placeholder.now line.now)
         result room.old room.new len.old len.new }
     ensures not_utf8 { result ≡ not_utf8 ↔ ¬ (IsUtf8 line.now × IsUtf8 placeholder.now) }
     ensures statuses { result ≤ too_small }
 {
     display::textwrap_shorten(alloc, line, width, placeholder, room, len)
+}
+
+/// Exports [`textwrap_calls::display::textwrap_shorten_by`].
+#[unsafe(no_mangle)]
+pub extern "C" fn textwrap_shorten_by(
+    alloc: Global,
+    line: &[u8],
+    width: usize,
+    placeholder: &[u8],
+    break_words: u32,
+    room: &mut [u8],
+    len: &mut usize,
+) -> u32
+    ensures short { WritesText (IsShort (says_yes break_words) width placeholder.now line.now)
+        result room.old room.new len.old len.new }
+    ensures unknown { result ≡ unknown_options ↔ 1 < break_words }
+    ensures not_utf8 { result ≡ not_utf8
+        ↔ (break_words ≤ 1) × ¬ (IsUtf8 line.now × IsUtf8 placeholder.now) }
+    ensures statuses { result ≤ unknown_options }
+{
+    display::textwrap_shorten_by(alloc, line, width, placeholder, break_words, room, len)
 }
 
 /// Exports [`textwrap_calls::display::textwrap_expand_tabs`].

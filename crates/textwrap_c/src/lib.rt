@@ -1,15 +1,19 @@
 //! `textwrap` for callers in C, and in all languages that call C.
 //!
-//! Each export passes its arguments on to the function of its name in `textwrap_calls`, where it is
-//! described, and makes the same promises. Only a static library has exports, and none stands on one;
-//! so the calls stand in a library, on which tests may stand too.
+//! Each export passes its arguments on to the function of its name in `textwrap_calls`,
+//! `textwrap_step_calls` or `textwrap_display_calls`, where it is described, and makes the same promises.
+//! Only a static library has exports, and none stands on one; so the calls stand in libraries, on which
+//! tests may stand too.
 #![tactic(auto)]
 
+pub mod attributes;
+pub mod balancing;
 pub mod bounds;
 pub mod breaks;
 pub mod columns;
 pub mod display;
 pub mod filling;
+pub mod fitting;
 pub mod fragments;
 pub mod indentation;
 pub mod line_lists;

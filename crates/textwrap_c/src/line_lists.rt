@@ -1,9 +1,10 @@
 //! Lists of lines for display: shortened, and with styles carried over their ends.
-ghost use Rattle.std.specs.Prelude.{◌≡◌, ◌≤◌, ◌↔◌, [], map, All, IsUtf8};
+ghost use Rattle.std.specs.Prelude.{◌≡◌, false, ◌<◌, ◌≤◌, ◌↔◌, [], map, All, IsUtf8};
 ghost use Rattle.textwrap.specs.Paragraph.{line_bytes};
 ghost use Rattle.textwrap_calls.specs.Columns.{AreRows};
 ghost use Rattle.textwrap_calls.specs.Display.{AreShort};
-ghost use Rattle.textwrap_calls.specs.Options.{settings_of, AreKnown, AreTexts, TellsUnknown};
+ghost use Rattle.textwrap_calls.specs.Options.{settings_of, says_yes, AreKnown, AreTexts};
+ghost use Rattle.textwrap_calls.specs.Options.{TellsUnknown};
 ghost use Rattle.textwrap_calls.specs.Status.{not_utf8, too_small, unknown_options};
 ghost use Rattle.textwrap_calls.specs.Texts.{bytes_of, IsText};
 ghost use Rattle.textwrap_calls.specs.Wrapping.{WritesLines};
@@ -28,7 +29,7 @@ pub extern "C" fn textwrap_shorten_lines(
     room: &mut [u8],
     len: &mut usize,
 ) -> u32
-    ensures short { WritesLines (λ answer _. AreRows (AreShort most width placeholder.now
+    ensures short { WritesLines (λ answer _. AreRows (AreShort false most width placeholder.now
         (bytes_of lines.now)) answer)
         [] result places.old places.new count.old count.new room.old room.new len.old len.new }
     ensures not_utf8 { result ≡ not_utf8
@@ -41,6 +42,42 @@ pub extern "C" fn textwrap_shorten_lines(
         most,
         width,
         placeholder,
+        places,
+        count,
+        room,
+        len,
+    )
+}
+
+/// Exports [`textwrap_calls::line_lists::textwrap_shorten_lines_by`].
+#[unsafe(no_mangle)]
+pub extern "C" fn textwrap_shorten_lines_by(
+    alloc: Global,
+    lines: &[TextwrapText<'_>],
+    most: usize,
+    width: usize,
+    placeholder: &[u8],
+    break_words: u32,
+    places: &mut [TextwrapLine],
+    count: &mut usize,
+    room: &mut [u8],
+    len: &mut usize,
+) -> u32
+    ensures short { WritesLines (λ answer _. AreRows (AreShort (says_yes break_words) most width
+        placeholder.now (bytes_of lines.now)) answer)
+        [] result places.old places.new count.old count.new room.old room.new len.old len.new }
+    ensures unknown { result ≡ unknown_options ↔ 1 < break_words }
+    ensures not_utf8 { result ≡ not_utf8
+        ↔ (break_words ≤ 1) × ¬ (All IsText lines.now × IsUtf8 placeholder.now) }
+    ensures statuses { result ≤ unknown_options }
+{
+    line_lists::textwrap_shorten_lines_by(
+        alloc,
+        lines,
+        most,
+        width,
+        placeholder,
+        break_words,
         places,
         count,
         room,

@@ -1,29 +1,28 @@
 -- Lines stand where they are reported: those that were cut from a text, all of a text, and rows.
-use Rattle.textwrap_calls.proofs.Common.{join-paragraphs_of, lines_of-cut_lines, paragraphs_of-utf8}
-use Rattle.textwrap_calls.proofs.Common.{starts_with_length, take-append-drop, built_text-push, map}
-use Rattle.textwrap_calls.proofs.Common.{ArePlacedLines, WritesReported, places_of-push, StartsWith}
-use Rattle.textwrap_calls.proofs.Common.{ArePlacedRows, length-append, paragraphs_of, TextwrapLine}
-use Rattle.textwrap_calls.proofs.Common.{append_assoc, ending_bytes, WritesLines, groups-tile, Bool}
-use Rattle.textwrap_calls.proofs.Common.{length-drop, slice_range, append-nil, built_text, Settings}
-use Rattle.textwrap_calls.proofs.Common.{covered_by, map-append, AreGroups, ArePoints, LineParts, ℕ}
-use Rattle.textwrap_calls.proofs.Common.{ShowLines, drop-drop, join_with, line_from, places_of, sym}
-use Rattle.textwrap_calls.proofs.Common.{too_small, widths_of, WordText, lines_of, map_push, IsUtf8}
-use Rattle.textwrap_calls.proofs.Common.{place_of, row_cuts, sizes_of, words_by, AreRows, length, ⊤}
-use Rattle.textwrap_calls.proofs.Common.{nat_lt, Built, Place, Slice, arith, false, subst, tiled}
-use Rattle.textwrap_calls.proofs.Common.{Line, List, cond, done, drop, flat, refl, take, true, ◌++◌}
-use Rattle.textwrap_calls.proofs.Common.{◌==◌, ◌||◌, ◌+◌, ◌-◌, ◌∙◌, ◌∷◌, ◌≡◌, ◌≤◌, ◌⊎◌, [], ap}
 use Rattle.std.proofs.Math.Seq.{drop-append_seam, take-append_seam, take-length}
 use Rattle.std.proofs.lemmas.Simd.{map-map}
+use Rattle.textwrap.specs.{Paragraph.DividesAt, WordSplitters.Splitter, WrapAlgorithms.Algorithm}
 use Rattle.textwrap_base.proofs.Division.Map.{IsDividedBy-whole}
-use Rattle.textwrap_words.proofs.Word.Pieces.{ArePoints-cuts}
-use Rattle.textwrap_layout.proofs.Paragraph.Pieces.{pieces-tile}
-use Rattle.textwrap_layout.specs.Places.{built_bytes, cut_lines, text_cuts, cut_line, CutLine}
-use Rattle.textwrap.specs.Paragraph.{DividesAt}
-use Rattle.textwrap.specs.WordSplitters.{Splitter}
-use Rattle.textwrap.specs.WrapAlgorithms.{Algorithm}
-use Rattle.textwrap_plain.proofs.Words.{texts-at}
+use Rattle.textwrap_calls.proofs.Common.{AreGroups, length-drop, Place, Settings, Slice, WordText}
+use Rattle.textwrap_calls.proofs.Common.{Bool, Built, lines_of, map, take, tiled, ◌++◌, ◌∙◌, ◌≡◌}
+use Rattle.textwrap_calls.proofs.Common.{[], built_text, drop, nat_lt, StartsWith, sym, ℕ, ◌+◌, ◌≤◌}
+use Rattle.textwrap_calls.proofs.Common.{ap, done, false, flat, IsUtf8, Line, refl, ◌==◌, ◌||◌, ◌∷◌}
+use Rattle.textwrap_calls.proofs.Common.{append-nil, covered_by, places_of, subst, widths_of, ◌-◌}
+use Rattle.textwrap_calls.proofs.Common.{append_assoc, ArePlacedRows, length-append, map_push, true}
+use Rattle.textwrap_calls.proofs.Common.{arith, join_with, LineParts, take-append-drop, too_small}
+use Rattle.textwrap_calls.proofs.Common.{ending_bytes, length, List, place_of, ShowLines, sizes_of}
+use Rattle.textwrap_calls.proofs.Common.{join-paragraphs_of, line_from, paragraphs_of, slice_range}
+use Rattle.textwrap_calls.proofs.{Common.{cond, ◌⊎◌}, RoomLemmas.WritesLines-reported}
+use Rattle.textwrap_calls.specs.{Columns.{AreRows, row_cuts}, Reported.WritesReported}
+use Rattle.textwrap_calls.{proofs.Common.{ArePlacedLines, TextwrapLine}, specs.Wrapping.WritesLines}
+use Rattle.textwrap_layout.proofs.Text.Sinks.{built_text-push, lines_of-cut_lines, places_of-push}
+use Rattle.textwrap_layout.proofs.{Paragraph.Pieces.pieces-tile, Text.Paragraphs.paragraphs_of-utf8}
+use Rattle.textwrap_layout.specs.Places.{built_bytes, cut_line, cut_lines, CutLine, text_cuts}
+use Rattle.textwrap_lines.proofs.Text.Groups.{groups-tile}
 use Rattle.textwrap_plain.specs.declared.options.PlainSeparator.{PlainSeparator}
-use Rattle.textwrap_calls.proofs.RoomLemmas.{WritesLines-reported}
+use Rattle.textwrap_plain.{proofs.Words.texts-at, specs.Options.words_by}
+use Rattle.textwrap_text.proofs.Common.{drop-drop, map-append, starts_with_length, ⊤}
+use Rattle.textwrap_words.proofs.{Common.ArePoints, Word.Pieces.ArePoints-cuts}
 
 -- ---- lines that were cut from a text stand where they are reported
 

@@ -1,27 +1,24 @@
 -- Texts of printable ASCII, block by block, and texts that are one line.
-use Rattle.textwrap_calls.proofs.Common.{without_final_blanks, All-from_get_or, IsPrintableByte, []}
-use Rattle.textwrap_calls.proofs.Common.{TextwrapOptions, is_blank_line, algorithm_of, length-slice}
-use Rattle.textwrap_calls.proofs.Common.{separator_of, settings_of, slice_range, splitter_of, arith}
-use Rattle.textwrap_calls.proofs.Common.{IsRefilled, append-nil, true≢false, ShowLines, nat_tests}
-use Rattle.textwrap_calls.proofs.Common.{All-head, IsFilled, cases_lt, is_whole, list_any, place_of}
-use Rattle.textwrap_calls.proofs.Common.{says_yes, Divides, word_of, IsUtf8, get_or, length, lt-ltb}
-use Rattle.textwrap_calls.proofs.Common.{false, subst, List, cond, drop, refl, true, ◌++◌, ◌==◌, ap}
-use Rattle.textwrap_calls.proofs.Common.{inl, inr, sym, ◌+◌, ◌-◌, ◌<◌, ◌∙◌, ◌∷◌, ◌≡◌, ◌≢◌, ◌≤◌, ℕ}
-use Rattle.textwrap_text.proofs.Common.{IsPrintable, get_or-drop, get_or-take, All-drop, All-take}
-use Rattle.textwrap_layout.proofs.Common.{parts_of, Slice}
-use Rattle.std.proofs.lemmas.Str.{IsUtf8-from_ascii, chars-IsAscii}
-use Rattle.std.specs.Char.{is_whitespace}
-use Rattle.textwrap_text.proofs.Lists.Elements.{contains-any}
-use Rattle.textwrap_text.proofs.Units.Reading.{printable-ascii}
-use Rattle.textwrap_layout.proofs.Paragraph.LeftOff.{AreParagraphParts-whole, line_from-whole}
-use Rattle.textwrap_layout.proofs.Text.Paragraphs.{printable-free, one-paragraph}
-use Rattle.textwrap_text.specs.LineEnding.{line_feed}
-use Rattle.textwrap_text.proofs.TextLines.{ended_lines-whole, ended_parts-whole, lines-whole}
+use Rattle.std.{proofs.lemmas.Str.{chars-IsAscii, IsUtf8-from_ascii}, specs.Char.is_whitespace}
 use Rattle.textwrap.specs.Indentation.{HasNoLineFeed, indented}
-use Rattle.textwrap.specs.Refilling.{unfilled_subsequent, unfilled_initial, with_indents_of}
-use Rattle.textwrap.specs.Refilling.{keeps_ending, joined_text, line_prefix}
-use Rattle.textwrap_calls.proofs.PlaceLemmas.{placed-shown}
-use Rattle.textwrap_calls.specs.Printable.{AreWithoutIndents, IsOnlyLine}
+use Rattle.textwrap.specs.Refilling.{joined_text, keeps_ending, line_prefix}
+use Rattle.textwrap.specs.Refilling.{unfilled_initial, unfilled_subsequent, with_indents_of}
+use Rattle.textwrap_calls.proofs.Common.{All-from_get_or, Divides, IsPrintableByte, TextwrapOptions}
+use Rattle.textwrap_calls.proofs.Common.{IsRefilled, settings_of, slice_range, splitter_of, word_of}
+use Rattle.textwrap_calls.proofs.Common.{[], All-head, append-nil, nat_tests, ShowLines, true≢false}
+use Rattle.textwrap_calls.proofs.Common.{algorithm_of, is_blank_line, length-slice, separator_of, ℕ}
+use Rattle.textwrap_calls.proofs.Common.{arith, cond, false, get_or, length, List, lt-ltb, subst}
+use Rattle.textwrap_calls.proofs.Common.{cases_lt, is_whole, IsFilled, IsUtf8, place_of, says_yes}
+use Rattle.textwrap_calls.proofs.Common.{drop, inl, inr, refl, sym, true, ◌++◌, ◌+◌, ◌-◌, ◌<◌, ◌==◌}
+use Rattle.textwrap_calls.{proofs.Common.{ap, ◌∙◌, ◌∷◌, ◌≡◌, ◌≢◌, ◌≤◌}, specs.Printable.IsOnlyLine}
+use Rattle.textwrap_calls.{proofs.PlaceLemmas.placed-shown, specs.Printable.AreWithoutIndents}
+use Rattle.textwrap_layout.proofs.Paragraph.LeftOff.{AreParagraphParts-whole, line_from-whole}
+use Rattle.textwrap_layout.proofs.Text.Paragraphs.{one-paragraph}
+use Rattle.textwrap_layout.proofs.{Common.{parts_of, Slice}, Text.Paragraphs.printable-free}
+use Rattle.textwrap_text.proofs.Common.{get_or-drop, get_or-take, IsPrintable, without_final_blanks}
+use Rattle.textwrap_text.proofs.TextLines.{ended_lines-whole, ended_parts-whole, lines-whole}
+use Rattle.textwrap_text.proofs.{Common.{All-drop, All-take, list_any}, Lists.Elements.contains-any}
+use Rattle.textwrap_text.{proofs.Units.Reading.printable-ascii, specs.LineEnding.line_feed}
 
 -- ---- texts of printable ASCII, block by block, and texts that are one line
 

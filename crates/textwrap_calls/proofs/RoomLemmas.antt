@@ -1,13 +1,14 @@
 -- What is written into lent room, seen as an answer, and what of it are lines that are reported.
-use Rattle.textwrap_calls.proofs.Common.{WritesReported, WritesLinesAs, TextwrapLine, written_over}
-use Rattle.textwrap_calls.proofs.Common.{slice_range, WritesText, built_text, length-map, ShowLines}
-use Rattle.textwrap_calls.proofs.Common.{line_bytes, too_small, All-cons, cases_lt, take_all, Built}
-use Rattle.textwrap_calls.proofs.Common.{All-nil, Reports, as_len, length, Place, Slice, arith, All}
-use Rattle.textwrap_calls.proofs.Common.{rules, subst, Line, List, cond, done, drop, refl, ◌++◌, []}
-use Rattle.textwrap_calls.proofs.Common.{inl, inr, map, sym, ◌+◌, ◌<◌, ◌^◌, ◌↔◌, ◌∙◌, ◌∷◌, ◌≡◌, ◌≤◌}
-use Rattle.textwrap_calls.proofs.Common.{◌⊎◌, ap, ℕ}
+use Rattle.textwrap_calls.proofs.Common.{All, cond, done, drop, inl, inr, map, refl, sym, ◌++◌, ◌+◌}
+use Rattle.textwrap_calls.proofs.Common.{All-cons, cases_lt, Line, line_bytes, ShowLines, too_small}
+use Rattle.textwrap_calls.proofs.Common.{[], ap, ℕ, ◌<◌, ◌^◌, ◌↔◌, ◌∙◌, ◌∷◌, ◌≡◌, ◌≤◌, ◌⊎◌}
+use Rattle.textwrap_calls.proofs.Common.{arith, Built, List, Place, rules, Slice, subst, take_all}
+use Rattle.textwrap_calls.proofs.Common.{built_text, length, length-map, slice_range, TextwrapLine}
+use Rattle.textwrap_calls.specs.Wrapping.{WritesLinesAs}
+use Rattle.textwrap_calls.specs.{Reported.{Reports, WritesReported}, Room.WritesText}
 use Rattle.textwrap_layout.specs.LentPlaces.{WritesPlaces}
 use Rattle.textwrap_layout.specs.declared.lent_places.LineCounts.{LineCounts}
+use Rattle.textwrap_text.{proofs.Common.All-nil, specs.LentText.{as_len, written_over}}
 
 -- ---- what is written into lent room, seen as an answer
 

@@ -1,5 +1,4 @@
 pub mod Bounds
-pub mod Breaks
 pub mod Columns
 pub mod Display
 pub mod Options

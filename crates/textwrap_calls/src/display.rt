@@ -1,8 +1,8 @@
 //! Lines for display: aligned, justified and shortened, and texts without tabs.
-ghost use Rattle.std.specs.Prelude.{◌≡◌, ◌<◌, ◌≤◌, ◌↔◌, IsUtf8, IfSome, IfNone};
+ghost use Rattle.std.specs.Prelude.{◌≡◌, false, ◌<◌, ◌≤◌, ◌↔◌, IsUtf8, IfSome, IfNone};
 ghost use Rattle.textwrap.specs.Paragraph.{line_bytes};
 ghost use Rattle.textwrap_calls.specs.Display.{alignment_of, IsShort};
-ghost use Rattle.textwrap_calls.specs.Options.{settings_of, Divides};
+ghost use Rattle.textwrap_calls.specs.Options.{settings_of, says_yes, Divides};
 ghost use Rattle.textwrap_calls.specs.Options.{TellsUnknown, TellsNotUtf8};
 ghost use Rattle.textwrap_calls.specs.Room.{WritesText};
 ghost use Rattle.textwrap_calls.specs.Status.{not_utf8, too_small, unknown_options};
@@ -16,7 +16,7 @@ use crate::room::put;
 use crate::status::{NOT_UTF8, OUT_OF_MEMORY, UNKNOWN_OPTIONS};
 use simdutf8::basic::from_utf8;
 use std::alloc::Global;
-use textwrap_display::{Alignment, align, expand_tabs, justify, shorten};
+use textwrap_display::{Alignment, Shortening, align, expand_tabs, justify, shorten, shorten_by};
 use textwrap_plain::fill_justified;
 
 /// Writes the line with blanks up to the width, as `textwrap_fill` writes a filled text. The
@@ -124,7 +124,7 @@ pub fn textwrap_shorten(
     room: &mut [u8],
     len: &mut usize,
 ) -> u32
-    ensures short { WritesText (IsShort width placeholder.now line.now)
+    ensures short { WritesText (IsShort false width placeholder.now line.now)
         result room.old room.new len.old len.new }
     ensures not_utf8 { result ≡ not_utf8 ↔ ¬ (IsUtf8 line.now × IsUtf8 placeholder.now) }
     ensures statuses { result ≤ too_small }
@@ -133,6 +133,37 @@ pub fn textwrap_shorten(
         return NOT_UTF8;
     };
     match shorten(alloc, line, width, placeholder) {
+        Ok(short) => put(short.as_bytes(), room, len),
+        Err(_) => OUT_OF_MEMORY,
+    }
+}
+
+/// Writes the same line, where words may be cut that are too wide if `break_words` is 1, and not if it
+/// is 0; any other number is `UNKNOWN_OPTIONS`.
+pub fn textwrap_shorten_by(
+    alloc: Global,
+    line: &[u8],
+    width: usize,
+    placeholder: &[u8],
+    break_words: u32,
+    room: &mut [u8],
+    len: &mut usize,
+) -> u32
+    ensures short { WritesText (IsShort (says_yes break_words) width placeholder.now line.now)
+        result room.old room.new len.old len.new }
+    ensures unknown { result ≡ unknown_options ↔ 1 < break_words }
+    ensures not_utf8 { result ≡ not_utf8
+        ↔ (break_words ≤ 1) × ¬ (IsUtf8 line.now × IsUtf8 placeholder.now) }
+    ensures statuses { result ≤ unknown_options }
+{
+    if break_words > 1 {
+        return UNKNOWN_OPTIONS;
+    }
+    let (Ok(line), Ok(placeholder)) = (from_utf8(line), from_utf8(placeholder)) else {
+        return NOT_UTF8;
+    };
+    let shortening = Shortening::new(width, placeholder).break_words(break_words != 0);
+    match shorten_by(alloc, line, &shortening) {
         Ok(short) => put(short.as_bytes(), room, len),
         Err(_) => OUT_OF_MEMORY,
     }

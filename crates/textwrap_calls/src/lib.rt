@@ -9,7 +9,6 @@
 #![tactic(auto)]
 
 pub mod bounds;
-pub mod breaks;
 pub mod columns;
 pub mod display;
 pub mod filling;

@@ -19,7 +19,7 @@ pub struct TextwrapText<'a> {
 }
 
 /// Whether all of these are UTF-8.
-pub(crate) fn are_utf8(texts: &[TextwrapText<'_>]) -> bool
+pub fn are_utf8(texts: &[TextwrapText<'_>]) -> bool
     ensures { result ≡ true ↔ All IsText texts.now }
 {
     for text in texts {
@@ -31,7 +31,10 @@ pub(crate) fn are_utf8(texts: &[TextwrapText<'_>]) -> bool
 }
 
 /// The texts as lines, borrowed.
-pub(crate) fn lines_of<'t>(
+///
+/// # Errors
+/// Out of memory.
+pub fn lines_of<'t>(
     alloc: Global,
     texts: &[TextwrapText<'t>],
 ) -> Result<Vec<CowStr<'t>>, AllocError>
@@ -49,10 +52,10 @@ pub(crate) fn lines_of<'t>(
 }
 
 /// The texts as the library has them.
-pub(crate) fn strs_of<'t>(
-    alloc: Global,
-    texts: &[TextwrapText<'t>],
-) -> Result<Vec<&'t str>, AllocError>
+///
+/// # Errors
+/// Out of memory.
+pub fn strs_of<'t>(alloc: Global, texts: &[TextwrapText<'t>]) -> Result<Vec<&'t str>, AllocError>
     requires { All IsText texts.now }
     ensures { IfOk result (λ strs. texts_in strs.items ≡ bytes_of texts.now) }
 {
@@ -67,10 +70,10 @@ pub(crate) fn strs_of<'t>(
 }
 
 /// The lines, placed as lines of their own.
-pub(crate) fn place_all(
-    alloc: Global,
-    lines: Vec<CowStr<'_>>,
-) -> Result<PlacedLines<Global>, AllocError>
+///
+/// # Errors
+/// Out of memory.
+pub fn place_all(alloc: Global, lines: Vec<CowStr<'_>>) -> Result<PlacedLines<Global>, AllocError>
     ensures { IfOk result (λ placed. ArePlacedRows (texts_of lines.entry.items)
         placed.places.items placed.built.items) }
 {

@@ -10,7 +10,8 @@ use Rattle.textwrap_display.proofs.Common.{line_bytes, justified, line_view, Wor
 use Rattle.textwrap_layout.proofs.Common.{AreParagraphParts, settings_view, parts_from, AreGroups}
 use Rattle.textwrap_layout.proofs.Common.{DividesAs, DividesBy, LineParts, indent_of, line_from}
 use Rattle.textwrap_layout.proofs.Common.{HasParts, Settings, parts_of}
-use Rattle.textwrap_display.specs.JustifiedText.{justified_after_indents, justified_after}
+use Rattle.textwrap_display.specs.JustifiedText.{all_but_last, justified_after_indents}
+use Rattle.textwrap_display.specs.JustifiedText.{justified_after}
 use Rattle.textwrap_display.specs.JustifiedText.{justified_lines, justified_line, joined_on}
 use Rattle.textwrap_text.proofs.Lists.Parts.{starts_with-true}
 use Rattle.textwrap_text.proofs.Numbers.{is_later-or, some_later, or_false}
@@ -19,6 +20,21 @@ use Rattle.textwrap_layout.proofs.Text.Sinks.{assembled-bytes}
 use Rattle.textwrap_layout.specs.declared.options.Options.{Options}
 use Rattle.textwrap_layout.proofs.Paragraph.Pieces.{divides}
 use Rattle.std.proofs.lemmas.List.{drop-map}
+
+-- ---- worked rows on lists of which all but the last are changed
+
+rows-of-four : all_but_last (λ n. n + 10) (λ n. n + 20) (λ n. n) (1 ∷ 2 ∷ 3 ∷ 4 ∷ [])
+    ≡ 11 ∷ 22 ∷ 23 ∷ 4 ∷ []
+rows-of-four = refl
+
+rows-of-two : all_but_last (λ n. n + 10) (λ n. n + 20) (λ n. n) (1 ∷ 2 ∷ []) ≡ 11 ∷ 2 ∷ []
+rows-of-two = refl
+
+row-of-one : all_but_last (λ n. n + 10) (λ n. n + 20) (λ n. n) (1 ∷ []) ≡ 1 ∷ []
+row-of-one = refl
+
+rows-of-none : all_but_last (λ (n : ℕ). n + 10) (λ n. n + 20) (λ n. n) [] ≡ []
+rows-of-none = refl
 
 -- ---- what the lines of a paragraph add to a text, the first of them and those after it
 

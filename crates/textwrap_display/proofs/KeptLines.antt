@@ -8,7 +8,12 @@ use Rattle.textwrap_text.proofs.Common.{◌⊎◌, [], ap}
 use Rattle.textwrap_display.proofs.Common.{line_bytes-line_view, cow_str_bytes, AreShortened, Built}
 use Rattle.textwrap_display.proofs.Common.{IsShortened, encode_utf8, line_bytes, line_view, can_end}
 use Rattle.textwrap_display.proofs.Common.{read-all, texts_of, CowStr, String, Slice, State, Line}
-use Rattle.textwrap_display.specs.Shortening.{IsKeptBeginning}
+use Rattle.textwrap_display.specs.Shortening.{CanEnd, IsKeptBeginning}
+use Rattle.textwrap_layout.specs.Text.{HasWholeSequences}
+use Rattle.textwrap_text.specs.declared.escapes.State.TheVariants.{Text}
+use Rattle.textwrap_text.proofs.Common.{cases_Bool}
+use Rattle.textwrap_display.proofs.WholeBeginnings.{read-whole, whole-read}
+use Rattle.textwrap_styles.proofs.SequenceTexts.{nil-whole}
 use Rattle.textwrap_display.proofs.KeptWords.{may_end-boundary, is_after_blank, may_end-blanks}
 use Rattle.textwrap_display.proofs.KeptWords.{may_end-within, may_end-other, may_end-whole}
 use Rattle.textwrap_display.proofs.KeptWords.{may_end-here, may_end-past, read-width, read-more}
@@ -23,22 +28,30 @@ HasRoom room line n = text_width (take n line) ≤ room
 
 -- the longest beginning before the place that may be kept
 pub record IsFound (room : ℕ) (line : List ℕ) (place kept : ℕ) : Type 0 where
-  pub ends : can_end line kept ≡ true
+  pub ends : CanEnd line kept
   pub fits : (kept ≡ 0) ⊎ HasRoom room line kept
-  pub longest : (m : ℕ) → m < place → can_end line m ≡ true → HasRoom room line m → m ≤ kept
+  pub longest : (m : ℕ) → m < place → CanEnd line m → HasRoom room line m → m ≤ kept
+
+-- nothing may be kept
+pub none-kept : (line : List ℕ) → CanEnd line 0
+none-kept line = (refl, nil-whole.1)
 
 pub found-none : (room : ℕ) (line : List ℕ) (place : ℕ) → place ≡ 0 → IsFound room line place 0
-found-none room line place start = search (rules, arith)
+found-none room line place start = record {
+  ends = none-kept line;
+  fits = inl refl;
+  longest = λ m before may room. omega (arith, before, start);
+}
 
 -- what is found at the end is kept, where this is the room beside the placeholder
 pub found-kept : (room width : ℕ) (placeholder line : List ℕ) (n : ℕ)
     → room + text_width placeholder ≡ width → IsFound room line (length line + 1) n
     → IsKeptBeginning width placeholder line n
 found-kept room width placeholder line n is h = record {
-  within = may_end-within line n h.ends;
+  within = may_end-within line n h.ends.0;
   ends = h.ends;
   room = elim h.fits [ inl none ↦ inl none | inr has ↦ inr (omega (arith, has, is)) ];
-  longest = λ m may has. h.longest m (omega (arith, may_end-within line m may)) may
+  longest = λ m may has. h.longest m (omega (arith, may_end-within line m may.0)) may
       (omega (arith, has, is));
 }
 
@@ -48,14 +61,14 @@ module _ {room : ℕ} {line : List ℕ} (utf8 : IsUtf8 line) {place : ℕ} {rest
     (found : IsFound room line place kept) where
   -- what else may have room before a later place is before this one
   found-until : (end : ℕ)
-      → ((m : ℕ) → place ≤ m → m < end → can_end line m ≡ true → HasRoom room line m → m ≡ 0)
+      → ((m : ℕ) → place ≤ m → m < end → CanEnd line m → HasRoom room line m → m ≡ 0)
       → IsFound room line end kept
   found-until end none = search (rules, arith)
 
   -- past the room nothing has room
   pub found-past : room < taken → IsFound room line (length line + 1) kept
   found-past past = found-until (length line + 1) (λ m later before may has.
-      let more = read-more utf8 read m later (may_end-boundary line m utf8 may) in
+      let more = read-more utf8 read m later (may_end-boundary line m utf8 may.0) in
       absurd (omega (arith, has, past, more)))
 
   module _ (c : ℕ) (after : List ℕ) (is : rest ≡ encode_utf8 c ++ after) (end : ℕ)
@@ -64,34 +77,38 @@ module _ {room : ℕ} {line : List ℕ} (utf8 : IsUtf8 line) {place : ℕ} {rest
     whole = read.read.place ∙ is
 
     -- in the character no beginning ends
-    outside : (m : ℕ) → m < end → can_end line m ≡ true → m ≤ place
+    outside : (m : ℕ) → m < end → CanEnd line m → m ≤ place
     outside m before may = elim (cases_lt place m) [
       | inl inside ↦
-          let end_of = may_end-past line utf8 place c after read.read.boundary whole m inside may in
+          let end_of = may_end-past line utf8 place c after read.read.boundary whole m inside may.0 in
           absurd (omega (arith, before, past, end_of))
       | inr up ↦ up
     ]
 
     -- one may end before it
-    pub found-here : taken ≤ room → c ≡ 32 → after_blank ≡ false → IsFound room line end place
-    found-here has blank some = record {
-      ends = may_end-here line utf8 place c after read.read.boundary whole (ap (λ x. eqb x 32) blank)
-          (sym read.blank ∙ some);
+    pub found-here : taken ≤ room → c ≡ 32 → after_blank ≡ false → state ≡ Text
+        → IsFound room line end place
+    found-here has blank some ended = record {
+      ends = (
+        may_end-here line utf8 place c after read.read.boundary whole (ap (λ x. eqb x 32) blank)
+            (sym read.blank ∙ some),
+        read-whole read ended,
+      );
       fits = inr (omega (arith, has, read-width utf8 read));
       longest = λ m before may room. outside m before may;
     }
 
     -- none may
-    pub found-on : ((c ≡ 32) × (after_blank ≡ true)) ⊎ (c ≢ 32) → IsFound room line end kept
+    pub found-on : (c ≡ 32 → after_blank ≡ false → state ≢ Text) → IsFound room line end kept
     found-on other = found-until end (λ m later before may has.
         let here : m ≡ place = omega (arith, later, outside m before may) in
+        let ended = whole-read read (subst (λ n. HasWholeSequences (take n line)) here may.1) in
         here ∙ may_end-other line utf8 place c after read.read.boundary whole
-        (λ blank. sym read.blank ∙ follows (eqb-true c 32 blank) other)
-        (subst (λ n. can_end line n ≡ true) here may))
-      where
-        follows : c ≡ 32 → ((c ≡ 32) × (after_blank ≡ true)) ⊎ (c ≢ 32) → after_blank ≡ true
-        follows blank (inl (_, after)) = after
-        follows blank (inr none) = absurd (none blank)
+        (λ blank. sym read.blank ∙ elim (cases_Bool after_blank) [
+          | inl is ↦ is
+          | inr some ↦ absurd (other (eqb-true c 32 blank) some ended)
+        ])
+        (subst (λ n. can_end line n ≡ true) here may.0))
 
   module _ (ended : length rest ≡ 0) where
     at_end : place ≡ length line
@@ -101,18 +118,33 @@ module _ {room : ℕ} {line : List ℕ} (utf8 : IsUtf8 line) {place : ℕ} {rest
     after_last = read.blank ∙ ap (is_after_blank line) at_end
 
     -- the whole line may be kept
-    pub found-whole : taken ≤ room → after_blank ≡ false
+    pub found-whole : taken ≤ room → after_blank ≡ false → state ≡ Text
         → IsFound room line (length line + 1) (length line)
-    found-whole has some = record {
-      ends = may_end-whole line (sym after_last ∙ some);
+    found-whole has some outside = record {
+      ends = (
+        may_end-whole line (sym after_last ∙ some),
+        subst (λ n. HasWholeSequences (take n line)) at_end (read-whole read outside),
+      );
       fits = inr (subst (HasRoom room line) at_end
           (omega (arith, has, read-width utf8 read)));
       longest = λ m before may room. omega (arith, before);
     }
 
+    at_last : (m : ℕ) → place ≤ m → m < length line + 1 → m ≡ length line
+    at_last m later before = omega (arith, later, before, at_end)
+
     -- it ends in a blank
     pub found-blank : after_blank ≡ true → IsFound room line (length line + 1) kept
-    found-blank blank = grind (arith, found-until, at_end, may_end-blanks, after_last)
+    found-blank blank = found-until (length line + 1) (λ m later before may has.
+        let here = at_last m later before in
+        here ∙ may_end-blanks line (sym after_last ∙ blank)
+        (subst (λ n. can_end line n ≡ true) here may.0))
+
+    -- it ends in a sequence
+    pub found-open : state ≢ Text → IsFound room line (length line + 1) kept
+    found-open inside = found-until (length line + 1) (λ m later before may has.
+        absurd (inside (whole-read read
+        (subst (λ n. HasWholeSequences (take n line)) (at_last m later before ∙ sym at_end) may.1))))
 
 -- ---- the first lines as they are, and the one after them cut
 
@@ -120,12 +152,12 @@ texts-append : {Z : Type 0} (xs ys : List (CowStr Z))
     → texts_of (xs ++ ys) ≡ texts_of xs ++ texts_of ys
 texts-append xs ys = search (rules, arith, map-append)
 
-pub cut-lines : {Z : Type 0} (most width : ℕ) (placeholder : List ℕ) (lines : List (CowStr Z))
-    (n : ℕ) (line : CowStr Z) (last : Line) → n + 1 ≡ most → n < length lines
-    → line ≡ get_or lines n line → IsShortened width placeholder (cow_str_bytes line) last
-    → AreShortened most width placeholder (texts_of lines)
+pub cut-lines : {Z : Type 0} (breaks : Bool) (most width : ℕ) (placeholder : List ℕ)
+    (lines : List (CowStr Z)) (n : ℕ) (line : CowStr Z) (last : Line) → n + 1 ≡ most → n < length lines
+    → line ≡ get_or lines n line → IsShortened breaks width placeholder (cow_str_bytes line) last
+    → AreShortened breaks most width placeholder (texts_of lines)
     (map Slice (texts_of (take n lines)) ++ last ∷ [])
-cut-lines most width placeholder lines n line last number within is cut = record {
+cut-lines breaks most width placeholder lines n line last number within is cut = record {
   whole = texts_of (take n lines);
   line = line_bytes (line_view line);
   left_out = texts_of (drop (n + 1) lines);
@@ -136,7 +168,7 @@ cut-lines most width placeholder lines n line last number within is cut = record
   count = ap (λ k. k + 1) (length-map (map line_view (take n lines)) line_bytes
       ∙ length-map (take n lines) line_view ∙ length-take-le n lines (omega (arith, within)))
       ∙ number;
-  cut = subst (λ l. IsShortened width placeholder l last) (sym (line_bytes-line_view line)) cut;
+  cut = subst (λ l. IsShortened breaks width placeholder l last) (sym (line_bytes-line_view line)) cut;
   are = refl;
 }
 
@@ -156,13 +188,3 @@ pub views-more : {Z : Type 0} (lines : List (CowStr Z)) (n : ℕ) (line : CowStr
 views-more lines n line before after old text within is same so_far more =
     let front = take_more lines n line within in
     grind (arith, append_assoc, line_bytes-line_view, map-append, texts-append, front)
-
--- ---- only one number of bytes may be kept of a line
-
-kept-le : (width : ℕ) (placeholder line : List ℕ) (m n : ℕ) → IsKeptBeginning width placeholder line m
-    → IsKeptBeginning width placeholder line n → m ≤ n
-kept-le width placeholder line m n first second = search (rules, arith)
-
-pub kept-unique : (width : ℕ) (placeholder line : List ℕ) (m n : ℕ)
-    → IsKeptBeginning width placeholder line m → IsKeptBeginning width placeholder line n → m ≡ n
-kept-unique width placeholder line m n first second = grind (arith, kept-le)

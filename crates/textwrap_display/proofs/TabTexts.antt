@@ -27,7 +27,7 @@ use Rattle.textwrap_text.proofs.Lists.Parts.{after_last-push}
 use Rattle.textwrap_words.proofs.Word.Words.{text_width-nil}
 use Rattle.textwrap_layout.proofs.Text.Paragraphs.{text_width-append}
 use Rattle.textwrap_display.proofs.Widths.{more-blanks}
-use Rattle.textwrap_display.specs.Styled.{IsWholeText}
+use Rattle.textwrap_styles.specs.Styled.{IsWholeText}
 
 -- ---- what stands behind the last line feed
 

@@ -16,9 +16,9 @@ use Rattle.std.proofs.lemmas.Simd.{map-map}
 use Rattle.textwrap_layout.proofs.Text.Paragraphs.{text_width-append}
 use Rattle.textwrap_words.proofs.Word.Words.{text_width-nil}
 use Rattle.textwrap_text.specs.Units.{text_width}
-use Rattle.textwrap_display.specs.Styled.{IsWholeText}
+use Rattle.textwrap_styles.specs.Styled.{IsWholeText}
 use Rattle.textwrap_display.proofs.Widths.{aligned-before}
-use Rattle.textwrap_display.proofs.SequenceTexts.{nil-whole}
+use Rattle.textwrap_styles.proofs.SequenceTexts.{nil-whole}
 
 -- ---- the rows of a table show each line once
 

@@ -118,7 +118,7 @@ widened-width each extra (w ∷ v ∷ ws) measured whole =
 -- ---- the line
 
 -- the blanks that a line begins with
-indent-blanks : (line : List ℕ) → AreBlanks (take (indent_len line) line)
+pub indent-blanks : (line : List ℕ) → AreBlanks (take (indent_len line) line)
 indent-blanks line =
     search (rules, arith, All-from_get_or, length-take, get_or-take, prefix_len_passes)
 

@@ -2,7 +2,7 @@
 use Rattle.std.specs.Prelude.{◌≡◌, ℕ, ◌-◌, Bool, true, false, List, [], ◌∷◌, ◌++◌}
 use Rattle.std.specs.Prelude.{if◌then◌else◌}
 use Rattle.std.specs.List.{flat_map}
-use Rattle.textwrap_display.specs.Indents.{after_indent, before_text}
+use Rattle.textwrap_styles.specs.Indents.{after_indent, before_text}
 use Rattle.textwrap_display.specs.Justifying.{justified}
 use Rattle.textwrap_text.specs.LineEnding.{ending_bytes, join_with, paragraphs_of}
 use Rattle.textwrap_layout.specs.Options.{Settings}
@@ -12,6 +12,13 @@ use Rattle.textwrap_layout.specs.Text.{AreGroups}
 use Rattle.textwrap_text.specs.Units.{text_width}
 use Rattle.textwrap_words.specs.Words.{WordText}
 
+-- the last by one function, and of those before it the first by another, the later ones by a third
+abbrev pub all_but_last : {X Y : Type 0} → (X → Y) → (X → Y) → (X → Y) → List X → List Y
+all_but_last first later last [] = []
+all_but_last first later last (x ∷ []) = last x ∷ []
+all_but_last first later last (x ∷ next ∷ xs) =
+    first x ∷ all_but_last later later last (next ∷ xs)
+
 -- a line, justified after its indent: the gaps of the indent stay
 abbrev pub justified_line : ℕ → LineParts → List ℕ
 justified_line width p =
@@ -19,10 +26,8 @@ justified_line width p =
 
 -- the lines of a paragraph: all but the last are justified
 abbrev pub justified_lines : ℕ → List LineParts → List (List ℕ)
-justified_lines width [] = []
-justified_lines width (p ∷ []) = line_bytes (line_from p) ∷ []
-justified_lines width (p ∷ q ∷ parts) =
-    justified_line width p ∷ justified_lines width (q ∷ parts)
+justified_lines width =
+    all_but_last (justified_line width) (justified_line width) (λ p. line_bytes (line_from p))
 
 -- the lines of each paragraph, joined by the line ending
 pub record IsJustifiedText (settings : Settings)
@@ -41,13 +46,16 @@ justified_after width indent line =
     before_text indent line
     ++ line_bytes (justified (width - text_width indent) (after_indent indent line))
 
--- `is_later` says that a line stands before them
-abbrev pub justified_after_indents : Settings → Bool → List Line → List (List ℕ)
-justified_after_indents settings is_later [] = []
-justified_after_indents settings is_later (line ∷ []) = line_bytes line ∷ []
-justified_after_indents settings is_later (line ∷ next ∷ lines) =
+-- after the indent that a line has where one stands before it, or where none does
+abbrev pub justified_after_its : Settings → Bool → Line → List ℕ
+justified_after_its settings is_later line =
     justified_after settings.width (indent_of settings is_later) (line_bytes line)
-    ∷ justified_after_indents settings true (next ∷ lines)
+
+-- all but the last are; `is_later` says that a line stands before them
+abbrev pub justified_after_indents : Settings → Bool → List Line → List (List ℕ)
+justified_after_indents settings is_later =
+    all_but_last (justified_after_its settings is_later) (justified_after_its settings true)
+    line_bytes
 
 -- the lines one after another, each with the ending before it; the first has none if no line stands
 -- before it

@@ -1,25 +1,33 @@
 -- The statements of the laws, each under a name that a caller can cite.
 use Rattle.std.specs.Prelude.{◌≡◌, ◌≢◌, ℕ, ◌+◌, ◌-◌, ◌*◌, ◌/◌, ◌%◌, ◌<◌, ◌≤◌, ◌==◌, List, [], ◌∷◌}
-use Rattle.std.specs.Prelude.{◌++◌, All}
-use Rattle.std.specs.Prelude.{IsUtf8, length, map, replicate, slice_index_or, sum_by, take}
-use Rattle.std.specs.List.{AllPairs, Contains, concat, flat_map, slice_split, zip}
+use Rattle.std.specs.Prelude.{◌++◌, All, Bool}
+use Rattle.std.specs.Prelude.{IsUtf8, length, map, replicate, slice_index_or, sum, sum_by, take}
+use Rattle.std.specs.List.{AllZip, slice_split, zip}
 use Rattle.textwrap_display.specs.Alignment.{aligned}
+use Rattle.textwrap_display.specs.Fitting.{fitting_widths, widest_line, widest_word}
 use Rattle.textwrap_display.specs.Justifying.{gaps, indent_len, justified, line_words}
 use Rattle.textwrap_display.specs.Justifying.{widened_words}
-use Rattle.textwrap_display.specs.Shortening.{IsKeptBeginning, IsShortened}
+use Rattle.textwrap_display.specs.Shortening.{IsKept, IsKeptBeginning, IsShortened}
 use Rattle.textwrap_display.specs.Tables.{group_rows, height, RowGaps, Shape}
 use Rattle.textwrap_display.specs.Tabs.{expanded_tabs, last_line, tab}
 use Rattle.textwrap_display.specs.declared.alignment.Alignment.{Alignment}
+use Rattle.textwrap_display.specs.declared.needs.Need.{Need}
 use Rattle.textwrap_text.specs.LineEnding.{join_with, line_feed}
 use Rattle.textwrap_layout.specs.Text.{HasWholeSequences}
 use Rattle.textwrap_text.specs.Units.{text_width}
 use Rattle.textwrap_words.specs.Words.{words_of}
-use Rattle.textwrap_layout.specs.Paragraph.{Line, Slice, line_bytes}
-use Rattle.textwrap_display.specs.Styled.{EachWithIndent, EndsPlain, IsWholeText, MayCarry}
-use Rattle.textwrap_display.specs.Styled.{styled_lines, styled_text}
-use Rattle.textwrap_display.specs.Indents.{after_indent}
-use Rattle.textwrap_display.specs.Styles.{carried_line, carried_lines, last_of_each, link_end}
-use Rattle.textwrap_display.specs.Styles.{open_styles, sequences, style_end}
+use Rattle.textwrap_layout.specs.Paragraph.{Line, line_bytes}
+use Rattle.textwrap_styles.specs.Styled.{EndsPlain, IsWholeText, styled_text}
+use Rattle.textwrap_styles.specs.Styles.{closing, sequences}
+pub use Rattle.textwrap_styles.specs.Laws.{AttributedLinesAreAsWide, AttributedLinesAreShort}
+pub use Rattle.textwrap_styles.specs.Laws.{AttributedLinesEndPlain, AttributedLinesKeepAttributes}
+pub use Rattle.textwrap_styles.specs.Laws.{AttributedLinesShowTheirText, AttributesAreFew}
+pub use Rattle.textwrap_styles.specs.Laws.{AttributesAreSetAnew, CarriedLinesAreAsWide}
+pub use Rattle.textwrap_styles.specs.Laws.{CarriedLinesAreShort, CarriedLinesEndPlain}
+pub use Rattle.textwrap_styles.specs.Laws.{CarriedLinesKeepStyles, CarriedLinesShowTheirText}
+pub use Rattle.textwrap_styles.specs.Laws.{OpenStylesAreDifferent, PlainLinesStay}
+pub use Rattle.textwrap_styles.specs.Laws.{PlainLinesStayAttributed, WholeLinesMayCarry}
+pub use Rattle.textwrap_styles.specs.Laws.{WholeLinesMayCarryAttributes}
 
 -- a line that is not wider than the width is as wide once it is aligned
 abbrev pub AlignedLinesAreAsWide : Type 0
@@ -54,83 +62,43 @@ JustifiedLinesKeepWords =
 -- only one number of bytes may be kept of a line
 abbrev pub KeptBeginningsAreUnique : Type 0
 KeptBeginningsAreUnique =
-    (width : ℕ) (placeholder line : List ℕ) (first second : ℕ)
-    → IsKeptBeginning width placeholder line first → IsKeptBeginning width placeholder line second → first ≡ second
+    (breaks : Bool) (width : ℕ) (placeholder line : List ℕ) (first second : ℕ)
+    → IsKept breaks width placeholder line first → IsKept breaks width placeholder line second
+    → first ≡ second
 
--- a shortened line takes no more than the width, if the placeholder alone does not, and each escape
--- sequence of what is kept ends in it
+-- a shortened line takes no more than the width, if the placeholder alone does not
 abbrev pub ShortenedLinesKeepToWidth : Type 0
 ShortenedLinesKeepToWidth =
-    (width : ℕ) (placeholder line : List ℕ) (short : Line)
+    (breaks : Bool) (width : ℕ) (placeholder line : List ℕ) (short : Line)
     → IsUtf8 line → text_width placeholder ≤ width
-    → (is : IsShortened width placeholder line short) → HasWholeSequences (take is.len line)
-    → text_width (line_bytes short) ≤ width
+    → IsShortened breaks width placeholder line short → text_width (line_bytes short) ≤ width
+
+-- before the placeholder no style and no link is open
+abbrev pub ShortenedLinesAreClosed : Type 0
+ShortenedLinesAreClosed =
+    (breaks : Bool) (width : ℕ) (placeholder line : List ℕ) (short : Line) → IsUtf8 line
+    → (is : IsShortened breaks width placeholder line short)
+    → let kept = take is.len line in EndsPlain (kept ++ closing (sequences kept))
+
+-- what is kept shows what the line shows first, with the same link and styles, and behind it the
+-- placeholder shows what it shows by itself
+abbrev pub ShortenedLinesShowTheBeginning : Type 0
+ShortenedLinesShowTheBeginning =
+    (breaks : Bool) (width : ℕ) (placeholder line : List ℕ) (short : Line) → IsUtf8 line
+    → (is : IsShortened breaks width placeholder line short)
+    → let kept = styled_text [] (take is.len line) in
+    (take (length kept) (styled_text [] line) ≡ kept)
+    × (styled_text [] (line_bytes short) ≡ kept ++ styled_text [] placeholder)
 
 -- the texts of a line's words
 abbrev pub word_texts : List ℕ → List (List ℕ)
 word_texts line = map (λ w. w.word) (words_of line)
 
--- the words of what is kept are the first words of the line
+-- where no word is cut, the words of what is kept are the first words of the line
 abbrev pub KeptWordsAreTheFirst : Type 0
 KeptWordsAreTheFirst =
     (width : ℕ) (placeholder line : List ℕ) (n : ℕ) → IsKeptBeginning width placeholder line n
     → let kept = word_texts (take n line) in take (length kept) (word_texts line) ≡ kept
-
--- ---- styles that are carried over the ends of lines
-
--- each visible character has the link and the styles that it has in the text
-abbrev pub CarriedLinesKeepStyles : Type 0
-CarriedLinesKeepStyles =
-    (indent later : List ℕ) (lines : List (List ℕ)) → EachWithIndent MayCarry indent later lines
-    → map (λ l. styled_text [] (line_bytes l)) (carried_lines indent later [] lines)
-    ≡ styled_lines indent later [] lines
-
--- lines without indents, each read by itself, show what the text shows that they join to
-abbrev pub CarriedLinesShowTheirText : Type 0
-CarriedLinesShowTheirText =
-    (lines : List (List ℕ)) → All IsWholeText lines
-    → flat_map (λ l. styled_text [] (line_bytes l)) (carried_lines [] [] [] lines)
-    ≡ styled_text [] (concat lines)
-
--- at the end of each line no style and no link is open
-abbrev pub CarriedLinesEndPlain : Type 0
-CarriedLinesEndPlain =
-    (indent later : List ℕ) (lines : List (List ℕ)) → EachWithIndent MayCarry indent later lines
-    → All (λ l. EndsPlain (line_bytes l)) (carried_lines indent later [] lines)
-
--- each line is as wide as it was
-abbrev pub CarriedLinesAreAsWide : Type 0
-CarriedLinesAreAsWide =
-    (indent later : List ℕ) (lines : List (List ℕ)) → EachWithIndent MayCarry indent later lines
-    → map (λ l. text_width (line_bytes l)) (carried_lines indent later [] lines)
-    ≡ map text_width lines
-
--- no two of the styles that are open are equal, and each is one of the sequences before
-abbrev pub OpenStylesAreDifferent : Type 0
-OpenStylesAreDifferent =
-    (before : List (List ℕ)) → AllPairs (λ first second. first ≢ second) (open_styles before)
-    × All (Contains before) (open_styles before)
-
--- a line is longer by the bytes of the different sequences before it, and of what ends it, at most
-abbrev pub CarriedLinesAreShort : Type 0
-CarriedLinesAreShort =
-    (indent : List ℕ) (before : List (List ℕ)) (line : List ℕ)
-    → length (line_bytes (carried_line indent before line))
-    ≤ length line + length (concat (last_of_each before)) + length style_end + length link_end
-
--- whole lines may carry styles under whole indents that leave nothing open
-abbrev pub WholeLinesMayCarry : Type 0
-WholeLinesMayCarry =
-    (indent later : List ℕ) (lines : List (List ℕ)) → IsWholeText indent → EndsPlain indent
-    → IsWholeText later → EndsPlain later → All IsWholeText lines
-    → EachWithIndent MayCarry indent later lines
-
--- lines whose texts have no escape sequence stay as they are
-abbrev pub PlainLinesStay : Type 0
-PlainLinesStay =
-    (indent later : List ℕ) (lines : List (List ℕ))
-    → EachWithIndent (λ i line. sequences (after_indent i line) ≡ []) indent later lines
-    → carried_lines indent later [] lines ≡ map Slice lines
 
 -- ---- tables
 
@@ -179,6 +147,37 @@ abbrev pub TablesShowEachLineOnce : Type 0
 TablesShowEachLineOnce =
     (gaps : RowGaps) (columns : List Shape) (cells : List (List (List ℕ)))
     → ShowsEachLineOnce gaps columns cells (group_rows gaps columns cells)
+
+-- ---- columns that fit what stands in them
+
+-- the widths are the total together
+abbrev pub FittingWidthsAddUp : Type 0
+FittingWidthsAddUp =
+    (total : ℕ) (needs : List Need) → 0 < length needs → sum (fitting_widths total needs) ≡ total
+
+-- where the widest words have room, no column is narrower than its own
+abbrev pub FittingWidthsHoldWords : Type 0
+FittingWidthsHoldWords =
+    (total : ℕ) (needs : List Need) → sum_by widest_word needs ≤ total
+    → AllZip (λ need width. need.least ≤ width) needs (fitting_widths total needs)
+
+-- where the widest lines have room, no column is narrower than its own
+abbrev pub FittingWidthsHoldLines : Type 0
+FittingWidthsHoldLines =
+    (total : ℕ) (needs : List Need) → sum_by widest_line needs ≤ total
+    → AllZip (λ need width. widest_line need ≤ width) needs (fitting_widths total needs)
+
+-- where they have no more than room, no column is wider than its own
+abbrev pub FittingWidthsKeepToLines : Type 0
+FittingWidthsKeepToLines =
+    (total : ℕ) (needs : List Need) → total ≤ sum_by widest_line needs
+    → AllZip (λ need width. width ≤ widest_line need) needs (fitting_widths total needs)
+
+-- where not even the widest words have room, no column is wider than its own
+abbrev pub FittingWidthsKeepToWords : Type 0
+FittingWidthsKeepToWords =
+    (total : ℕ) (needs : List Need) → total < sum_by widest_word needs
+    → AllZip (λ need width. width ≤ need.least) needs (fitting_widths total needs)
 
 -- ---- tabs
 

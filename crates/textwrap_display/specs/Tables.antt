@@ -14,7 +14,7 @@ use Rattle.textwrap_layout.specs.Text.{AreTextLines, SomeMayPass64Bits}
 use Rattle.textwrap_words.specs.WordSplitters.{Splitter}
 use Rattle.textwrap_words.specs.WrapAlgorithms.{Algorithm}
 use Rattle.textwrap_display.specs.Alignment.{aligned}
-use Rattle.textwrap_display.specs.Shortening.{texts_of}
+use Rattle.textwrap_styles.specs.Styles.{texts_of}
 use Rattle.textwrap_display.specs.declared.alignment.Alignment.{Alignment}
 use Rattle.textwrap_display.specs.declared.tables.Column.{Column}
 use Rattle.textwrap_display.specs.declared.tables.Gaps.{Gaps}

@@ -12,7 +12,6 @@ ghost use Rattle.textwrap_words.specs.WordSplitters.{Splitter};
 ghost use Rattle.textwrap_words.specs.WrapAlgorithms.{Algorithm};
 ghost use Rattle.textwrap_base.specs.Errors.{OnlyMemoryRunsOut};
 
-use crate::indents::indent_end;
 use crate::justifying::push_justified;
 use std::alloc::{AllocError, Allocator};
 use std::borrow::CowStr;
@@ -22,6 +21,7 @@ use textwrap_layout::any_options::AnyOptions;
 use textwrap_layout::layout::{Layout, next_indent};
 use textwrap_lines::inner::wrap_paragraph;
 use textwrap_lines::parts::split_paragraph;
+use textwrap_styles::inner::indent_end;
 
 /// The text that [`fill`](textwrap::fill) gives, with its lines justified to the width of the
 /// options, as [`justify`](crate::justify) does: all but the last of each paragraph. The gaps of an

@@ -92,7 +92,7 @@ fn push_spread<A: Allocator>(
 }
 
 /// The blanks before the first word, and what follows them.
-fn split_indent(line: &str) -> (&str, &str)
+pub(crate) fn split_indent(line: &str) -> (&str, &str)
     ensures indent { result.0.now ≡ take (indent_len line.now) line.now }
     ensures rest { result.1.now ≡ drop (indent_len line.now) line.now }
 {

@@ -5,16 +5,26 @@
 //! `aligned_lines_are_as_wide();`.
 #![tactic(auto, using(crate::proofs::ProvedLaws::laws))]
 
-ghost use Rattle.textwrap_display.specs.Laws.{AlignedLinesAreAsWide, CarriedLinesAreAsWide};
-ghost use Rattle.textwrap_display.specs.Laws.{CarriedLinesAreShort, OpenStylesAreDifferent};
-ghost use Rattle.textwrap_display.specs.Laws.{CarriedLinesEndPlain, CarriedLinesKeepStyles};
-ghost use Rattle.textwrap_display.specs.Laws.{CarriedLinesShowTheirText, ExpandedTextsStay};
-ghost use Rattle.textwrap_display.specs.Laws.{JustifiedLinesAreAsWide, JustifiedLinesKeepWords};
-ghost use Rattle.textwrap_display.specs.Laws.{KeptBeginningsAreUnique, KeptWordsAreTheFirst};
-ghost use Rattle.textwrap_display.specs.Laws.{LinesAreExpandedApart, NoTabIsLeft, PlainLinesStay};
-ghost use Rattle.textwrap_display.specs.Laws.{ShortenedLinesKeepToWidth, TableRowsAreEven};
+ghost use Rattle.textwrap_display.specs.Laws.{AlignedLinesAreAsWide, ExpandedTextsStay};
+ghost use Rattle.textwrap_display.specs.Laws.{FittingWidthsAddUp, FittingWidthsHoldLines};
+ghost use Rattle.textwrap_display.specs.Laws.{FittingWidthsHoldWords, FittingWidthsKeepToLines};
+ghost use Rattle.textwrap_display.specs.Laws.{FittingWidthsKeepToWords, JustifiedLinesAreAsWide};
+ghost use Rattle.textwrap_display.specs.Laws.{JustifiedLinesKeepWords, KeptBeginningsAreUnique};
+ghost use Rattle.textwrap_display.specs.Laws.{KeptWordsAreTheFirst, LinesAreExpandedApart};
+ghost use Rattle.textwrap_display.specs.Laws.{NoTabIsLeft, ShortenedLinesAreClosed};
+ghost use Rattle.textwrap_display.specs.Laws.{ShortenedLinesKeepToWidth};
+ghost use Rattle.textwrap_display.specs.Laws.{ShortenedLinesShowTheBeginning, TableRowsAreEven};
 ghost use Rattle.textwrap_display.specs.Laws.{TablesShowEachLineOnce, TabsCutTexts, TabsReachStops};
-ghost use Rattle.textwrap_display.specs.Laws.{TextsWithoutTabsStay, WholeLinesMayCarry};
+ghost use Rattle.textwrap_display.specs.Laws.{TextsWithoutTabsStay};
+
+pub use textwrap_styles::laws::{
+    attributed_lines_are_as_wide, attributed_lines_are_short, attributed_lines_end_plain,
+    attributed_lines_keep_attributes, attributed_lines_show_their_text, attributes_are_few,
+    attributes_are_set_anew, carried_lines_are_as_wide, carried_lines_are_short,
+    carried_lines_end_plain, carried_lines_keep_styles, carried_lines_show_their_text,
+    open_styles_are_different, plain_lines_stay, plain_lines_stay_attributed,
+    whole_lines_may_carry, whole_lines_may_carry_attributes,
+};
 
 /// A line that is not wider than the width is exactly as wide once it is aligned, if its escape
 /// sequences end in it.
@@ -40,59 +50,26 @@ pub fn kept_beginnings_are_unique()
     ensures { KeptBeginningsAreUnique }
 {}
 
-/// A line that was cut takes no more columns than the width, if the placeholder alone does not, and
-/// each escape sequence of what is kept ends in it.
+/// A line that was cut takes no more columns than the width, if the placeholder alone does not.
 pub fn shortened_lines_keep_to_width()
     ensures { ShortenedLinesKeepToWidth }
 {}
 
-/// No word is cut: the words of what is kept are the first words of the line.
+/// Where a line was cut, no style and no link is open before the placeholder.
+pub fn shortened_lines_are_closed()
+    ensures { ShortenedLinesAreClosed }
+{}
+
+/// What is kept of a line that was cut shows the first of what the line shows, each character with
+/// the link and the styles that it has in the line. Behind it the placeholder shows what it shows by
+/// itself.
+pub fn shortened_lines_show_the_beginning()
+    ensures { ShortenedLinesShowTheBeginning }
+{}
+
+/// Where no word is to be cut, none is: the words of what is kept are the first words of the line.
 pub fn kept_words_are_the_first()
     ensures { KeptWordsAreTheFirst }
-{}
-
-/// Where styles are carried over the ends of lines, each visible character of a line has the link
-/// and the styles that it has in the text that goes on from line to line.
-pub fn carried_lines_keep_styles()
-    ensures { CarriedLinesKeepStyles }
-{}
-
-/// Without indents these lines, each read by itself, show what the text shows that they join to.
-pub fn carried_lines_show_their_text()
-    ensures { CarriedLinesShowTheirText }
-{}
-
-/// Each of these lines ends with no style and no link open.
-pub fn carried_lines_end_plain()
-    ensures { CarriedLinesEndPlain }
-{}
-
-/// Each of these lines takes as many columns as it did.
-pub fn carried_lines_are_as_wide()
-    ensures { CarriedLinesAreAsWide }
-{}
-
-/// No two of the styles that are open are equal, and each is one of the sequences before. So there
-/// are never more of them than there are different sequences.
-pub fn open_styles_are_different()
-    ensures { OpenStylesAreDifferent }
-{}
-
-/// A line is longer by the bytes of the different sequences before it, and of what ends it, at
-/// most: however often one of them stands there.
-pub fn carried_lines_are_short()
-    ensures { CarriedLinesAreShort }
-{}
-
-/// These laws hold of lines whose escape sequences end in them, under indents of which the same is
-/// true and that leave no style and no link open.
-pub fn whole_lines_may_carry()
-    ensures { WholeLinesMayCarry }
-{}
-
-/// Lines whose texts have no escape sequence stay as they are.
-pub fn plain_lines_stay()
-    ensures { PlainLinesStay }
 {}
 
 /// Each row of a table is exactly as wide as its gaps and its columns together, if no line is wider
@@ -107,6 +84,34 @@ pub fn table_rows_are_even()
 /// So no line is lost, none is shown twice, and the last column is no exception.
 pub fn tables_show_each_line_once()
     ensures { TablesShowEachLineOnce }
+{}
+
+/// The widths of columns that fit what stands in them are exactly the total together, whatever it
+/// is, if there is a column.
+pub fn fitting_widths_add_up()
+    ensures { FittingWidthsAddUp }
+{}
+
+/// Where the widest words of all columns have room in the total, no column is narrower than its
+/// widest word.
+pub fn fitting_widths_hold_words()
+    ensures { FittingWidthsHoldWords }
+{}
+
+/// Where the widest lines of all columns have room in the total, no column is narrower than its
+/// widest line.
+pub fn fitting_widths_hold_lines()
+    ensures { FittingWidthsHoldLines }
+{}
+
+/// Where they have just room or none, no column is wider than its widest line.
+pub fn fitting_widths_keep_to_lines()
+    ensures { FittingWidthsKeepToLines }
+{}
+
+/// Where not even the widest words have room, no column is wider than its widest word.
+pub fn fitting_widths_keep_to_words()
+    ensures { FittingWidthsKeepToWords }
 {}
 
 /// A text whose tabs were expanded has none.

@@ -10,19 +10,21 @@
 
 pub use alignment::{Alignment, align};
 pub use filling::fill_justified;
+pub use fitting::fitting_widths;
 pub use justifying::justify;
-pub use shortening::{shorten, shorten_lines};
-pub use styles::carry_styles;
+pub use needs::{Need, needs_of};
+pub use shortening::{Shortening, shorten, shorten_by, shorten_lines, shorten_lines_by};
 pub use tables::{Column, Gaps, table, table_of_lines};
 pub use tabs::expand_tabs;
+pub use textwrap_styles::{carry_attributes, carry_styles};
 
 mod alignment;
 mod filling;
-mod indents;
+mod fitting;
 pub mod inner;
 mod justifying;
 pub mod laws;
+mod needs;
 mod shortening;
-mod styles;
 mod tables;
 mod tabs;

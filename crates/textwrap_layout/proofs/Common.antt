@@ -2,7 +2,7 @@
 pub use Rattle.textwrap_layout.specs.Filling.{IsFilled}
 pub use Rattle.textwrap_layout.specs.Frame.{frame_settings, frame_widths, frame_lines}
 pub use Rattle.textwrap_layout.specs.Layout.{break_limit, front_of, limit_at}
-pub use Rattle.textwrap_layout.specs.LineSinks.{Took}
+pub use Rattle.textwrap_layout.specs.LineSinks.{Pushed}
 pub use Rattle.textwrap_layout.specs.Options.{settings_view, MayOverflow, layout_view, HasPartsAt}
 pub use Rattle.textwrap_layout.specs.Options.{HasParts, Settings}
 pub use Rattle.textwrap_layout.specs.Paragraph.{OnlyCharactersPass, AreParagraphParts, KeepToWidths}

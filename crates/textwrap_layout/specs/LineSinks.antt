@@ -13,7 +13,7 @@ use Rattle.textwrap_layout.specs.declared.line_sinks.ListedLines.{ListedLines}
 use Rattle.textwrap_layout.specs.declared.places.PlacedLines.{PlacedLines}
 
 -- after the lines that it took, whatever they are, it took these of the paragraph
-pub record Took {S : Type 0} (Holds : S → S → ℕ → List CutLine → Type 0) (old new : S)
+pub record Pushed {S : Type 0} (Holds : S → S → ℕ → List CutLine → Type 0) (old new : S)
     (lines : List CutLine) : Type 0 where
   pub held : (first : S) (start : ℕ) (before : List CutLine) → Holds first old start before
       → Holds first new start (before ++ map (further start) lines)
@@ -27,7 +27,7 @@ pub record HoldsText {Z : Type 0} (first now : JoinedLines Z) (held : List CutLi
   pub text : string_bytes now.text
       ≡ join_with (ending_bytes first.line_ending) (map line_bytes (lines_of held))
   pub ending : now.line_ending ≡ first.line_ending
-  pub begun : now.begun ≡ nat_lt 0 (length held)
+  pub has_lines : now.has_lines ≡ nat_lt 0 (length held)
 
 -- the room that it began with was written over by the text of these lines
 pub record HoldsLent (first now : LentLines) (held : List CutLine) : Type 0 where
@@ -35,7 +35,7 @@ pub record HoldsLent (first now : LentLines) (held : List CutLine) : Type 0 wher
   pub text : IsLent now.text.now (join_with (ending_bytes first.line_ending)
       (map line_bytes (lines_of held))) first.text.now.room.now
   pub ending : now.line_ending ≡ first.line_ending
-  pub begun : now.begun ≡ nat_lt 0 (length held)
+  pub has_lines : now.has_lines ≡ nat_lt 0 (length held)
 
 -- the lines stand at these places, and its paragraph begins here
 pub record HoldsPlaces {Z : Type 0} (placed : PlacedLines Z) (start : ℕ) (held : List CutLine)
@@ -55,17 +55,17 @@ pub record HoldsLentPlaces (first now : LentLinePlaces) (start : ℕ) (held : Li
 
 -- a text of lines with one more line, after the ending if it has any
 pub record HasOneMore {Z : Type 0} (old new : JoinedLines Z) (line : List ℕ) : Type 0 where
-  pub text : string_bytes new.text ≡ (if old.begun
+  pub text : string_bytes new.text ≡ (if old.has_lines
       then string_bytes old.text ++ ending_bytes old.line_ending ++ line
       else string_bytes old.text ++ line)
   pub ending : new.line_ending ≡ old.line_ending
-  pub begun : new.begun ≡ true
+  pub has_lines : new.has_lines ≡ true
 
 -- the same in lent room
 pub record LentOneMore (old new : LentLines) (line : List ℕ) : Type 0 where
   pub same : new.text.now.room.ghost_name ≡ old.text.now.room.ghost_name
   pub text : (text before : List ℕ) → IsLent old.text.now text before
-      → IsLent new.text.now (if old.begun then text ++ ending_bytes old.line_ending ++ line
+      → IsLent new.text.now (if old.has_lines then text ++ ending_bytes old.line_ending ++ line
       else text ++ line) before
   pub ending : new.line_ending ≡ old.line_ending
-  pub begun : new.begun ≡ true
+  pub has_lines : new.has_lines ≡ true

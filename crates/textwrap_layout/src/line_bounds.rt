@@ -1,6 +1,6 @@
 //! Lines of a paragraph by where they stand in it.
 ghost use Rattle.std.specs.Prelude.{◌≡◌, [], ◌∷◌, IsOk, OnOk};
-ghost use Rattle.textwrap_layout.specs.LineSinks.{Took};
+ghost use Rattle.textwrap_layout.specs.LineSinks.{Pushed};
 ghost use Rattle.textwrap_layout.specs.LineBounds.{AreBounds, line_between};
 
 use crate::layout::Layout;
@@ -36,7 +36,7 @@ pub fn push_between<'t, A: Allocator + Copy, S: LineSink<'t, A>>(
     requires { AreBounds paragraph.now bounds }
     ensures name { S.name lines.new ≡ S.name lines.old }
     ensures done { S.never_fails → IsOk result }
-    ensures took { OnOk result (Took S.holds lines.old lines.new
+    ensures pushed { OnOk result (Pushed S.holds lines.old lines.new
         (line_between layout.now.preserve_trailing_space paragraph.now indent.now penalty.now bounds
         ∷ [])) }
 {

@@ -12,7 +12,7 @@ use textwrap_text::line_ending::LineEnding;
 /// What takes lines, one after another.
 pub trait LineSink<'t, A: Allocator> {
     ghost use Rattle.std.specs.Prelude.{◌≡◌, ◌<◌, ◌++◌, ℕ, [], ◌∷◌, List, length, nat_lt, OnOk, IsOk};
-    ghost use Rattle.textwrap_layout.specs.LineSinks.{Took};
+    ghost use Rattle.textwrap_layout.specs.LineSinks.{Pushed};
     ghost use Rattle.textwrap_layout.specs.Paragraph.{assembled_line, text_limit};
     ghost use Rattle.textwrap_layout.specs.Places.{CutLine, cut_line};
 
@@ -55,7 +55,7 @@ pub trait LineSink<'t, A: Allocator> {
         requires { start < text_limit }
         ensures name { name self.new ≡ name self.old }
         ensures done { never_fails → IsOk result }
-        ensures took { OnOk result (Took holds self.old self.new
+        ensures pushed { OnOk result (Pushed holds self.old self.new
             (cut_line start (assembled_line indent.now slice.now penalty.now) ∷ [])) };
 }
 
@@ -100,7 +100,7 @@ pub struct JoinedLines<A: Allocator> {
     pub text: String<A>,
     pub line_ending: LineEnding,
     /// Whether it has a line. One may be empty, so the text does not tell.
-    pub begun: bool,
+    pub has_lines: bool,
 }
 
 impl<'t, A: Allocator> LineSink<'t, A> for JoinedLines<A> {
@@ -113,7 +113,7 @@ impl<'t, A: Allocator> LineSink<'t, A> for JoinedLines<A> {
     ghost holds = { λ first now start held. HoldsText first now held };
 
     fn has_line(&self) -> bool {
-        self.begun
+        self.has_lines
     }
 
     fn begin_paragraph(&mut self, offset: usize) {}
@@ -139,13 +139,13 @@ impl<A: Allocator> JoinedLines<A> {
         ensures { OnOk result (HasOneMore self.old self.new
             (indent.now ++ slice.now ++ penalty.now)) }
     {
-        if self.begun {
+        if self.has_lines {
             match self.line_ending {
                 LineEnding::LF => self.text.push('\n')?,
                 LineEnding::CRLF => self.text.push_str("\r\n")?,
             }
         }
-        self.begun = true;
+        self.has_lines = true;
         // Most lines are the slice alone.
         if indent.is_empty() && penalty.is_empty() {
             return self.text.push_str(slice);
@@ -175,7 +175,7 @@ pub struct LentLines<'l, 'r> {
     pub text: &'l mut LentText<'r>,
     pub line_ending: LineEnding,
     /// Whether it has a line.
-    pub begun: bool,
+    pub has_lines: bool,
 }
 
 impl<'t, 'l, 'r, A: Allocator> LineSink<'t, A> for LentLines<'l, 'r> {
@@ -189,7 +189,7 @@ impl<'t, 'l, 'r, A: Allocator> LineSink<'t, A> for LentLines<'l, 'r> {
     ghost holds = { λ first now start held. HoldsLent first now held };
 
     fn has_line(&self) -> bool {
-        self.begun
+        self.has_lines
     }
 
     fn begin_paragraph(&mut self, offset: usize) {}
@@ -216,13 +216,13 @@ impl LentLines<'_, '_> {
         ensures same { self.new.text.ghost_name ≡ self.old.text.ghost_name }
         ensures more { LentOneMore self.old self.new (indent.now ++ slice.now ++ penalty.now) }
     {
-        if self.begun {
+        if self.has_lines {
             match self.line_ending {
                 LineEnding::LF => self.text.push_byte(b'\n'),
                 LineEnding::CRLF => self.text.push(b"\r\n"),
             }
         }
-        self.begun = true;
+        self.has_lines = true;
         // Most lines are the slice alone.
         if indent.is_empty() && penalty.is_empty() {
             return self.text.push(slice.as_bytes());

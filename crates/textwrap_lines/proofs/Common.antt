@@ -9,7 +9,7 @@ pub use Rattle.textwrap_layout.proofs.Common.{CutLine, frame_settings, IsDivided
 pub use Rattle.textwrap_layout.proofs.Common.{AreIndented, AreTextLines, BeforeOthers, KeepToWidths}
 pub use Rattle.textwrap_layout.proofs.Common.{first_width, IsFirstLine, KeepsToWidth, NoCutBetween}
 pub use Rattle.textwrap_layout.proofs.Common.{frame_lines, later_width, layout_view, line_bytes}
-pub use Rattle.textwrap_layout.proofs.Common.{AreGroups, line_slice, parts_from, text_limit, Took}
+pub use Rattle.textwrap_layout.proofs.Common.{AreGroups, line_slice, parts_from, text_limit, Pushed}
 pub use Rattle.textwrap_layout.proofs.Common.{cut_lines, DividesAs, DividesBy, indent_of, LineParts}
 pub use Rattle.textwrap_layout.proofs.Common.{is_cut_by, line_from, line_view, pieces_of, places_of}
 pub use Rattle.textwrap_layout.proofs.Common.{cut_line, front_of, is_whole, Settings, widths_of}

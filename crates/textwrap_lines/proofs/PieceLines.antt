@@ -130,7 +130,7 @@ module _ (text : List ℕ) where
       end = at + length (tiled ps);
     };
     columns = open_width sizes_of ps;
-    begun = nat_lt 0 (length ps);
+    has_piece = nat_lt 0 (length ps);
   }
 
   pub so_far-push : (at width : ℕ) (indent : List ℕ) (ps : List WordText) (x : WordText)

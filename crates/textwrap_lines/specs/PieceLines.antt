@@ -23,17 +23,17 @@ pub record LineSoFar : Type 0 where
   pub indent : List ℕ
   pub bounds : LineBounds
   pub columns : ℕ
-  pub begun : Bool
+  pub has_piece : Bool
 
 -- a line from a place on without pieces, or of one without text where that is asked
 abbrev pub line_opened : List ℕ → ℕ → ℕ → List ℕ → Bool → LineSoFar
-line_opened text start width indent begun = record {
+line_opened text start width indent has_piece = record {
   text = text;
   width = width;
   indent = indent;
   bounds = record { start = start; word_end = start; end = start };
   columns = 0;
-  begun = begun;
+  has_piece = has_piece;
 }
 
 abbrev pub no_pieces : List ℕ → ℕ → ℕ → List ℕ → LineSoFar
@@ -50,7 +50,7 @@ with_piece line piece = record {
     end = piece.end;
   };
   columns = line.columns + (piece.width + (piece.end - piece.word_end));
-  begun = true;
+  has_piece = true;
 }
 
 abbrev pub line_so_far : OpenLine → LineSoFar
@@ -60,7 +60,7 @@ line_so_far line = record {
   indent = line.indent.now;
   bounds = line.bounds;
   columns = line.columns;
-  begun = line.begun;
+  has_piece = line.has_piece;
 }
 
 -- a piece stands after the place, characters end where its word and its whitespace do, and its
@@ -77,11 +77,11 @@ pub record ComesAt (text : List ℕ) (at : ℕ) (piece : Piece) : Type 0 where
 -- a line without pieces is empty
 abbrev pub line_of : Bool → LineSoFar → CutLine
 line_of keeps_blanks line =
-    line_between keeps_blanks line.text (if line.begun then line.indent else []) [] line.bounds
+    line_between keeps_blanks line.text (if line.has_piece then line.indent else []) [] line.bounds
 
 -- the line has a piece, and no room for one more
 abbrev pub is_past : LineSoFar → Piece → Bool
-is_past line piece = line.begun && nat_lt line.width (line.columns + piece.width)
+is_past line piece = line.has_piece && nat_lt line.width (line.columns + piece.width)
 
 module _ (settings : Settings) where
   -- the lines, where these pieces follow those on the line

@@ -2,7 +2,7 @@
 use Rattle.std.specs.Prelude.{ℕ, ◌+◌, ◌-◌, ◌<◌, Bool, true, List, [], ◌∷◌, length, ⊤}
 use Rattle.std.specs.Prelude.{slice_index_or}
 use Rattle.textwrap_base.specs.Cost.{PricedSizes}
-use Rattle.textwrap_base.specs.Measured.{AreMeasured}
+use Rattle.textwrap_base.specs.PrefixSums.{HavePrefixSums}
 use Rattle.textwrap_base.specs.Sizes.{Sizes}
 use Rattle.textwrap_words.specs.Words.{WordText}
 use Rattle.textwrap_layout.specs.Options.{Settings}
@@ -45,7 +45,7 @@ span_priced s = record { sizes = span_sizes s; break_penalty = 0 }
 
 -- each opens after the columns of those before it, and closes with its own
 abbrev pub AreSpans : List Span → Type 0
-AreSpans spans = AreMeasured span_priced (λ s. s.opens) (λ s. s.closes) spans
+AreSpans spans = HavePrefixSums span_priced (λ s. s.opens) (λ s. s.closes) spans
 
 -- ---- the lines of a text, cut after the last piece of each
 

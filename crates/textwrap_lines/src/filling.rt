@@ -66,7 +66,7 @@ pub fn fill_by<A: Allocator + Copy, O: AnyOptions<A>>(
     let mut lines = JoinedLines {
         text: filled,
         line_ending: options.layout().line_ending,
-        begun: false,
+        has_lines: false,
     };
     push_text(alloc, text, options, options.built_in_parts(), &mut lines)?;
     Ok(lines.text)
@@ -97,7 +97,7 @@ pub fn fill_into<A: Allocator + Copy>(
     let mut lines = LentLines {
         text: &mut filled,
         line_ending: options.line_ending,
-        begun: false,
+        has_lines: false,
     };
     let parts = AnyOptions::<A>::built_in_parts(options);
     push_text(alloc, text, options, parts, &mut lines)?;

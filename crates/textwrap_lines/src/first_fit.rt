@@ -5,7 +5,7 @@ ghost use Rattle.textwrap_base.specs.Division.{IsGreedy};
 ghost use Rattle.textwrap_words.specs.Pieces.{as_splitter};
 ghost use Rattle.textwrap_text.specs.Units.{IsPrintable};
 ghost use Rattle.textwrap_words.specs.Words.{WordText, sizes_of};
-ghost use Rattle.textwrap_layout.specs.LineSinks.{Took};
+ghost use Rattle.textwrap_layout.specs.LineSinks.{Pushed};
 ghost use Rattle.textwrap_layout.specs.Frame.{frame_lines, frame_settings, frame_widths};
 ghost use Rattle.textwrap_layout.specs.Paragraph.{later_width, pieces_of, pieces_of_words};
 
@@ -44,11 +44,11 @@ pub(crate) fn push_by_first_fit<'t, A: Allocator + Copy, S: LineSink<'t, A>, O: 
 ) -> Result<(), AllocError>
     ensures name { S.name lines.new ≡ S.name lines.old }
     ensures done { S.never_fails → O.is_direct options.now → IsOk result }
-    ensures took { OnOk result ((words : List WordText) × (division : List (List WordText))
+    ensures pushed { OnOk result ((words : List WordText) × (division : List (List WordText))
         × O.may_separate options.now paragraph.now words
         × IsGreedy sizes_of (frame_widths frame.now)
         (pieces_of_words (frame_settings frame.now) (as_splitter splitter) words) division
-        × Took S.holds lines.old lines.new (frame_lines frame.now division)) }
+        × Pushed S.holds lines.old lines.new (frame_lines frame.now division)) }
 {
     let jumps = can_jump(paragraph, frame);
     if jumps && frame.first_columns == frame.later_columns {
@@ -93,10 +93,10 @@ fn push_after_first<'t, A: Allocator + Copy, S: LineSink<'t, A>>(
     requires room { 0 < later_width (frame_settings frame.now) }
     ensures name { S.name lines.new ≡ S.name lines.old }
     ensures done { S.never_fails → IsOk result }
-    ensures took { OnOk result ((division : List (List WordText))
+    ensures pushed { OnOk result ((division : List (List WordText))
         × IsGreedy sizes_of (frame_widths frame.now)
         (pieces_of (frame_settings frame.now) (as_splitter splitter) paragraph.now) division
-        × Took S.holds lines.old lines.new (frame_lines frame.now division)) }
+        × Pushed S.holds lines.old lines.new (frame_lines frame.now division)) }
 {
     let end = push_first_line(alloc, paragraph, frame, splitter, lines)?;
     let cuts = BlankCuts {};

@@ -3,7 +3,7 @@
 ghost use Rattle.std.specs.Prelude.{◌≡◌, List, [], ◌∷◌, IsCharBoundary, IfOk, IsOk};
 ghost use Rattle.textwrap_words.specs.Pieces.{as_splitter};
 ghost use Rattle.textwrap_layout.specs.Frame.{frame_settings};
-ghost use Rattle.textwrap_layout.specs.LineSinks.{Took};
+ghost use Rattle.textwrap_layout.specs.LineSinks.{Pushed};
 ghost use Rattle.textwrap_layout.specs.Places.{CutLine};
 ghost use Rattle.textwrap_lines.specs.PieceLines.{IsFirstUpTo, line_of, line_so_far};
 
@@ -29,7 +29,7 @@ pub(crate) fn push_first_line<'t, A: Allocator + Copy, S: LineSink<'t, A>>(
     ensures done { S.never_fails → IsOk result }
     ensures boundary { IfOk result (λ end. IsCharBoundary paragraph.now end) }
     ensures first { IfOk result (λ end. (line : CutLine)
-        × Took S.holds lines.old lines.new (line ∷ []) × IsFirstUpTo (frame_settings frame.now)
+        × Pushed S.holds lines.old lines.new (line ∷ []) × IsFirstUpTo (frame_settings frame.now)
         (as_splitter splitter) frame.now.is_later paragraph.now line end) }
 {
     let line = first_line(paragraph, frame, splitter);

@@ -9,7 +9,7 @@ ghost use Rattle.textwrap_words.specs.Words.{WordText, sizes_of};
 ghost use Rattle.textwrap_lines.specs.LeastCost.{SuitSearch};
 ghost use Rattle.textwrap_layout.specs.Direct.{CanBeCut, pieces_cut, cuts_of};
 ghost use Rattle.textwrap_layout.specs.Frame.{frame_lines, frame_settings, frame_widths};
-ghost use Rattle.textwrap_layout.specs.LineSinks.{Took};
+ghost use Rattle.textwrap_layout.specs.LineSinks.{Pushed};
 ghost use Rattle.textwrap_lines.specs.Spans.{AreSpans, HaveTexts, span_lines};
 ghost use Rattle.textwrap_lines.specs.Spans.{span_priced};
 
@@ -61,10 +61,10 @@ pub(crate) fn push_by_least_cost<'t, A: Allocator + Copy, S: LineSink<'t, A>>(
     requires some { 0 < length paragraph.now }
     requires suits { SuitSearch (length paragraph.now) (frame_widths frame.now) penalties.now }
     ensures name { S.name lines.new ≡ S.name lines.old }
-    ensures took { OnOk result ((division : List (List WordText))
+    ensures pushed { OnOk result ((division : List (List WordText))
         × IsByOptimalFit (problem_at penalties.now sizes_of (frame_widths frame.now)
         (pieces_cut (frame_settings frame.now) cuts.now paragraph.now)) division
-        × Took S.holds lines.old lines.new (frame_lines frame.now division)) }
+        × Pushed S.holds lines.old lines.new (frame_lines frame.now division)) }
 {
     let spans = find_spans(alloc, paragraph, frame, cuts)?;
     let line_widths = [frame.first_columns, frame.later_columns];
@@ -146,8 +146,9 @@ fn push_lines<'t, A: Allocator + Copy, S: LineSink<'t, A>>(
 ) -> Result<(), AllocError>
     requires { HaveTexts paragraph.now 0 (map (λ line. line.now) division.now) }
     ensures name { S.name lines.new ≡ S.name lines.old }
-    ensures took { OnOk result (Took S.holds lines.old lines.new (span_lines (frame_settings frame.now)
-        paragraph.now frame.now.is_later 0 (map (λ line. line.now) division.now))) }
+    ensures pushed { OnOk result (Pushed S.holds lines.old lines.new
+        (span_lines (frame_settings frame.now) paragraph.now frame.now.is_later 0
+        (map (λ line. line.now) division.now))) }
 {
     let layout = &frame.layout;
     let mut start = 0;

@@ -7,7 +7,7 @@ ghost use Rattle.textwrap_words.specs.Words.{WordText, sizes_of};
 ghost use Rattle.textwrap_layout.specs.Direct.{CanBeCut, pieces_cut, cuts_of};
 ghost use Rattle.textwrap_layout.specs.Frame.{frame_lines, frame_settings, frame_widths};
 ghost use Rattle.textwrap_layout.specs.LineBounds.{AreBounds};
-ghost use Rattle.textwrap_layout.specs.LineSinks.{Took};
+ghost use Rattle.textwrap_layout.specs.LineSinks.{Pushed};
 ghost use Rattle.textwrap_layout.specs.Paragraph.{text_limit};
 
 use std::alloc::{AllocError, Allocator};
@@ -29,7 +29,7 @@ pub(crate) struct OpenLine<'t, 'a> {
     /// The columns of the pieces and of all their whitespace.
     columns: usize,
     /// Whether the line has a piece.
-    begun: bool,
+    has_piece: bool,
     ghost limit: { length text.now < text_limit },
     ghost stands: { AreBounds text.now bounds },
     ghost bounded: { columns ≤ bounds.end },
@@ -49,10 +49,10 @@ pub(crate) fn push_lines_by_pieces<'t, A: Allocator + Copy, S: LineSink<'t, A>>(
     requires { CanBeCut (cuts_of cuts.now) paragraph.now }
     ensures name { S.name lines.new ≡ S.name lines.old }
     ensures done { S.never_fails → IsOk result }
-    ensures took { OnOk result ((division : List (List WordText))
+    ensures pushed { OnOk result ((division : List (List WordText))
         × IsGreedy sizes_of (frame_widths frame.now)
         (pieces_cut (frame_settings frame.now) cuts.now paragraph.now) division
-        × Took S.holds lines.old lines.new (frame_lines frame.now division)) }
+        × Pushed S.holds lines.old lines.new (frame_lines frame.now division)) }
 {
     let layout = &frame.layout;
     let width = frame.later_columns;
@@ -72,16 +72,17 @@ impl<'t, 'a> OpenLine<'t, 'a> {
     ghost use Rattle.textwrap_lines.specs.PieceLines.{is_past, line_of, line_opened, line_so_far};
     ghost use Rattle.textwrap_lines.specs.PieceLines.{with_piece, ComesAt};
 
-    /// A line from a place in a text on: without pieces, or of a piece without text if `begun` says so.
+    /// A line from a place in a text on: without pieces, or of a piece without text if `has_piece`
+    /// says so.
     pub(crate) fn at(
         text: &'t str,
         start: usize,
         width: usize,
         indent: &'a str,
-        begun: bool,
+        has_piece: bool,
     ) -> OpenLine<'t, 'a>
         requires { IsCharBoundary text.now start }
-        ensures { line_so_far result ≡ line_opened text.now start width indent.now begun }
+        ensures { line_so_far result ≡ line_opened text.now start width indent.now has_piece }
     {
         OpenLine {
             text,
@@ -93,7 +94,7 @@ impl<'t, 'a> OpenLine<'t, 'a> {
                 end: start,
             },
             columns: 0,
-            begun,
+            has_piece,
         }
     }
 
@@ -102,7 +103,7 @@ impl<'t, 'a> OpenLine<'t, 'a> {
         requires { ComesAt self.now.text.now self.now.bounds.end piece.now }
         ensures { result ≡ is_past (line_so_far self.now) piece.now }
     {
-        self.begun && self.columns + piece.width > self.width
+        self.has_piece && self.columns + piece.width > self.width
     }
 
     /// Takes one more piece.
@@ -120,7 +121,7 @@ impl<'t, 'a> OpenLine<'t, 'a> {
                 end: piece.end,
             },
             columns: self.columns + (piece.width + (piece.end - piece.word_end)),
-            begun: true,
+            has_piece: true,
         };
     }
 
@@ -136,10 +137,10 @@ impl<'t, 'a> OpenLine<'t, 'a> {
     ) -> Result<(), AllocError>
         ensures name { S.name lines.new ≡ S.name lines.old }
         ensures done { S.never_fails → IsOk result }
-        ensures took { OnOk result (Took S.holds lines.old lines.new
+        ensures pushed { OnOk result (Pushed S.holds lines.old lines.new
             (line_of layout.now.preserve_trailing_space (line_so_far self.now) ∷ [])) }
     {
-        let indent = if self.begun { self.indent } else { "" };
+        let indent = if self.has_piece { self.indent } else { "" };
         push_between(alloc, self.text, self.bounds, layout, indent, "", lines)
     }
 }

@@ -7,7 +7,7 @@ ghost use Rattle.textwrap_words.specs.PieceCuts.{pieces_from};
 ghost use Rattle.textwrap_words.specs.Pieces.{as_splitter, stand_from};
 ghost use Rattle.textwrap_layout.specs.Frame.{frame_settings};
 ghost use Rattle.textwrap_layout.specs.Layout.{break_limit, limit_at};
-ghost use Rattle.textwrap_layout.specs.LineSinks.{Took};
+ghost use Rattle.textwrap_layout.specs.LineSinks.{Pushed};
 ghost use Rattle.textwrap_layout.specs.Paragraph.{indent_of, later_width};
 ghost use Rattle.textwrap_text.specs.Units.{IsPrintable};
 ghost use Rattle.textwrap_layout.specs.Printable.{IsFirstLine, NoCutBetween, is_cut_by, line_slice};
@@ -40,8 +40,9 @@ pub(crate) fn push_printable_lines<'t, A: Allocator + Copy, C: PrintableCuts, S:
     requires room { 0 < later_width (frame_settings frame.now) }
     ensures name { S.name lines.new ≡ S.name lines.old }
     ensures done { S.never_fails → IsOk result }
-    ensures took { OnOk result (Took S.holds lines.old lines.new (lines_left (frame_settings frame.now)
-        (no_pieces paragraph.now start (later_width (frame_settings frame.now))
+    ensures pushed { OnOk result (Pushed S.holds lines.old lines.new
+        (lines_left (frame_settings frame.now) (no_pieces paragraph.now start
+        (later_width (frame_settings frame.now))
         (indent_of (frame_settings frame.now) frame.now.is_later)) (stand_from start
         (pieces_from (is_cut_by (C.cuts cuts.now paragraph.now) (as_splitter splitter)
         paragraph.now) (break_limit (frame_settings frame.now)) paragraph.now start)))) }

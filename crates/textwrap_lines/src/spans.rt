@@ -5,7 +5,7 @@ ghost use Rattle.textwrap_layout.specs.Frame.{frame_settings};
 ghost use Rattle.textwrap_lines.specs.Spans.{spans_from, span_priced};
 
 use std::alloc::{AllocError, Allocator};
-use textwrap_base::inner::Measured;
+use textwrap_base::inner::PrefixSums;
 use textwrap_layout::frame::Frame;
 use textwrap_layout::layout::{Cuts, cut_paragraph};
 
@@ -22,7 +22,7 @@ pub(crate) struct Span {
     closes: usize,
 }
 
-impl Measured for Span {
+impl PrefixSums for Span {
     ghost priced = { span_priced };
 
     ghost opens = { λ s. s.opens };

@@ -14,7 +14,7 @@ ghost use Rattle.textwrap_layout.specs.Frame.{frame_lines, frame_settings};
 ghost use Rattle.textwrap_layout.specs.Fuzzing.{AppendsLines};
 ghost use Rattle.textwrap_layout.specs.LineBounds.{AreBounds};
 ghost use Rattle.textwrap_text.specs.LineEnding.{paragraphs_of};
-ghost use Rattle.textwrap_layout.specs.LineSinks.{Took};
+ghost use Rattle.textwrap_layout.specs.LineSinks.{Pushed};
 ghost use Rattle.textwrap_layout.specs.Options.{Settings, layout_view, settings_view};
 ghost use Rattle.textwrap_layout.specs.Options.{HasBuiltInParts, HasParts, MayOverflow};
 ghost use Rattle.textwrap_layout.specs.Paragraph.{text_limit, LineParts, line_view, covered};
@@ -189,7 +189,7 @@ fn push_paragraph<'t, A: Allocator + Copy, S: LineSink<'t, A>, O: AnyOptions<A>>
     ensures taken { OnOk result ((parts : List LineParts)
         × AreParagraphParts (frame_settings frame.now) (O.divides options.now) frame.now.is_later
         paragraph.now parts
-        × Took S.holds lines.old lines.new (cut_lines 0 parts)) }
+        × Pushed S.holds lines.old lines.new (cut_lines 0 parts)) }
     ensures only_memory { ¬ O.may_overflow options.now → OnlyMemoryRunsOut result }
     ensures no_overflow { ¬ O.may_pass options.now paragraph.now → OnlyMemoryRunsOut result }
 {
@@ -229,7 +229,7 @@ fn push_pieces<'t, A: Allocator + Copy, S: LineSink<'t, A>, O: AnyOptions<A>>(
         → IsSomeAnd parts.now (λ parts. parts.algorithm ≡ BuiltInAlgorithm.FirstFit) → IsOk result }
     ensures taken { OnOk result ((division : List (List WordText))
         × O.divides options.now frame.now.is_later paragraph.now division
-        × Took S.holds lines.old lines.new (frame_lines frame.now division)) }
+        × Pushed S.holds lines.old lines.new (frame_lines frame.now division)) }
     ensures only_memory { ¬ O.may_overflow options.now → OnlyMemoryRunsOut result }
     ensures no_overflow { ¬ O.may_pass options.now paragraph.now → OnlyMemoryRunsOut result }
 {
@@ -266,7 +266,7 @@ fn push_divided<'t, A: Allocator + Copy, S: LineSink<'t, A>, O: AnyOptions<A>>(
     ensures name { S.name lines.new ≡ S.name lines.old }
     ensures taken { OnOk result ((division : List (List WordText))
         × O.divides options.now frame.now.is_later paragraph.now division
-        × Took S.holds lines.old lines.new (frame_lines frame.now division)) }
+        × Pushed S.holds lines.old lines.new (frame_lines frame.now division)) }
     ensures only_memory { ¬ O.may_overflow options.now → OnlyMemoryRunsOut result }
     ensures no_overflow { ¬ O.may_pass options.now paragraph.now → OnlyMemoryRunsOut result }
 {
@@ -422,7 +422,7 @@ pub(crate) fn push_lines<'t, A: Allocator + Copy, S: LineSink<'t, A>>(
     requires { StartsWith paragraph.now
         (flat_map (λ line. tiled (map word_view line.now)) division.now) }
     ensures name { S.name lines.new ≡ S.name lines.old }
-    ensures took { OnOk result (Took S.holds lines.old lines.new (frame_lines frame.now
+    ensures pushed { OnOk result (Pushed S.holds lines.old lines.new (frame_lines frame.now
         (map (λ line. map word_view line.now) division.now))) }
 {
     let layout = &frame.layout;
@@ -449,7 +449,7 @@ fn push_line<'t, A: Allocator + Copy, S: LineSink<'t, A>>(
     requires start { IsCharBoundary paragraph.now start }
     requires begins { StartsWith (drop start paragraph.now) (tiled (map word_view pieces.now)) }
     ensures name { S.name lines.new ≡ S.name lines.old }
-    ensures line { OnOk result (Took S.holds lines.old lines.new (cut_lines start
+    ensures line { OnOk result (Pushed S.holds lines.old lines.new (cut_lines start
         (parts_of (layout_view layout.now) is_later (map word_view pieces.now) ∷ []))) }
     ensures end { IfOk result (λ end. end ≡ start + length (tiled (map word_view pieces.now))) }
     ensures boundary { IfOk result (λ end. IsCharBoundary paragraph.now end) }

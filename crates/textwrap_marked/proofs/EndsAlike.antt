@@ -13,6 +13,7 @@ use Rattle.textwrap_marked.proofs.Common.{line_texts, printed, shown_lines}
 use Rattle.textwrap_marks.specs.declared.options.ReflowOptions.{ReflowOptions}
 use Rattle.textwrap_marked.proofs.BegunAlike.{AreBegun}
 use Rattle.textwrap_marked.proofs.Feedless.{NoFeed}
+use Rattle.textwrap_marked.proofs.PrintedLines.{texts_more}
 use Rattle.textwrap_marked.proofs.PrintedText.{filled-last}
 use Rattle.textwrap_marked.proofs.AnewLines.{returns_by}
 use Rattle.textwrap_marked.proofs.TextBack.{IsTextBack}
@@ -93,16 +94,16 @@ module _ (options : ReflowOptions) (ending other front_end : List ℕ) (feed : e
   )
   one-block false text all (l ∷ m ∷ ls, divided, is) =
       let room = later_room options line in
-      let first = line.prefix ++ line_text (options.justify && nat_lt 0 (length (m ∷ ls)))
-      (first_room options line) l in
+      let first = line.prefix ++ line_text options.justify (first_room options line) l in
       let next = line_text (options.justify && nat_lt 0 (length ls)) room m in
-      let later = flat_map (λ (x : List ℕ). (ending ++ line.hanging) ++ x)
-      (line_texts options.justify room room ls) in
+      let behind = flat_map (λ (x : List ℕ). (ending ++ line.hanging) ++ x) in
+      let later = behind (line_texts options.justify room room ls) in
       let end = filled_end ending (line ∷ []) in
       let grouped : (first ++ (((ending ++ line.hanging) ++ next) ++ later)) ++ end
       ≡ first ++ (ending ++ (((line.hanging ++ next) ++ later) ++ end)) = simp append_assoc in
       absurd (fed-none first (((line.hanging ++ next) ++ later) ++ end)
-      (subst (All NoFeed) (is ∙ grouped) all))
+      (subst (All NoFeed) (is ∙ ap (λ ls. (first ++ behind ls) ++ end)
+      (texts_more options.justify room room m ls) ∙ grouped) all))
 
   pub one-line : (text : List ℕ) → All NoFeed text
       → AreOfBlocks options ending false ((line ∷ []) ∷ []) text

@@ -1,14 +1,16 @@
 -- What the laws say of a part.
-use Rattle.textwrap_marked_lines.proofs.Common.{◌≡◌, ℕ, Bool, true, false, List, [], ◌∷◌, ap, arith, ◌&&◌}
+use Rattle.textwrap_marked_lines.proofs.Common.{◌≡◌, ℕ, Bool, true, false, List, [], ◌∷◌, ◌++◌, ap, arith, ◌&&◌}
 use Rattle.textwrap_marked_lines.proofs.Common.{flat_map, length, nat_lt, None, subst, sym, ◌∙◌}
 use Rattle.textwrap_marked_lines.proofs.Common.{IsDivision, IsDividedBy, sizes_of, WordText, LineText}
 use Rattle.textwrap_marked.proofs.Common.{Part, piece_words, algorithm_of, first_room, IsOfBlock}
-use Rattle.textwrap_marked.proofs.Common.{kept_line, later_room, line_text, line_texts}
+use Rattle.textwrap_marked.proofs.Common.{filled_end, kept_line, later_room, line_text, line_texts}
+use Rattle.textwrap_marked.proofs.Common.{printed, words_in}
 use Rattle.textwrap_marks.specs.declared.options.ReflowOptions.{ReflowOptions}
 use Rattle.textwrap_base.specs.declared.penalties.Penalties.{Penalties}
 use Rattle.textwrap_words.proofs.Common.{Algorithm, Greedy, LeastCost}
 use Rattle.textwrap_marked.proofs.KeptWords.{printed-words}
 use Rattle.textwrap_marked.proofs.PlainLines.{IsPlainBlock}
+use Rattle.textwrap_marked.proofs.PrintedLines.{texts_more}
 use Rattle.textwrap_marked.proofs.PrintedWidths.{lines-as-wide, printed-within, two-widths}
 use Rattle.textwrap_marked.specs.Laws.{AreAsWide, CostsLeast, FillsWidth, IsKeptOrBehind}
 use Rattle.textwrap_marked.specs.Laws.{KeepsToWidth, KeepsWords, widths_left}
@@ -36,13 +38,16 @@ module _ (options : ReflowOptions) where
   kept-words ending true first lines text plain is = is
   kept-words ending false first lines text plain ([], divided, is) =
       absurd (no-division (piece_words options first lines) (divided-is _ _ _ [] divided))
-  kept-words ending false first lines text plain (line ∷ others, divided, is) = (
-    line_text (options.justify && nat_lt 0 (length others)) (first_room options first) line,
-    line_texts options.justify (later_room options first) (later_room options first) others,
-    is,
-    printed-words options first lines (line ∷ others) plain
-        (divided-is _ _ (piece_words options first lines) (line ∷ others) divided),
-  )
+  kept-words ending false first lines text plain (line ∷ others, divided, is) =
+      let more = texts_more options.justify (first_room options first) (later_room options first) line
+      others in (
+        line_text (options.justify && nat_lt 0 (length others)) (first_room options first) line,
+        line_texts options.justify (later_room options first) (later_room options first) others,
+        is ∙ ap (λ ls. printed ending first.prefix first.hanging ls ++ filled_end ending lines) more,
+        sym (ap (flat_map words_in) more)
+            ∙ printed-words options first lines (line ∷ others) plain
+            (divided-is _ _ (piece_words options first lines) (line ∷ others) divided),
+      )
 
   pub kept-or-behind : options.ending ≡ None → (ending : List ℕ) (is_kept : Bool) (first : LineText)
       (lines : List LineText) (text : List ℕ) → IsPlainBlock lines

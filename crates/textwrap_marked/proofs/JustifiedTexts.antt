@@ -18,6 +18,7 @@ use Rattle.textwrap_display.proofs.WidenedWords.{widened_chunks, widened-text}
 use Rattle.textwrap_display.specs.Justifying.{gaps, indent_len, justified, widened_words}
 use Rattle.textwrap_marked.proofs.LineWords.{all_shown, AreCutInto, division-words, ink-blank}
 use Rattle.textwrap_marked.proofs.LineWords.{joined, shown}
+use Rattle.textwrap_marked.proofs.PrintedLines.{texts_more}
 use Rattle.textwrap_marked.proofs.SpacedBack.{IsInk}
 use Rattle.textwrap_marked.proofs.WordsIn.{IsPlain}
 
@@ -174,11 +175,13 @@ module _ (options : ReflowOptions) (starred : Bool) where
   widened-lines room later (line ∷ division) words [] plain cut is = absurd (omega (arith, ap length is))
   widened-lines room later (line ∷ division) words (own ∷ lines) plain (behind, some, parts, may, cut) is =
       let each = subst (All IsPlain) parts plain in
-      more-shown (line_text (nat_lt 0 (length division)) room line) (line_texts true later later division)
+      subst (λ texts. AreShown true texts (own ∷ lines)) (sym (texts_more true room later line division))
+      (more-shown (line_text (nat_lt 0 (length division)) room line) (line_texts true later later division)
       own lines
       (line-shown (nat_lt 0 (length division)) room line own some (all-left IsPlain own behind each)
       (ap first_of is))
-      (widened-lines later later division behind lines (all-right IsPlain own behind each) cut (ap rest_of is))
+      (widened-lines later later division behind lines (all-right IsPlain own behind each) cut
+      (ap rest_of is)))
     where
       first_of : List (List ℕ) → List ℕ
       first_of [] = []
@@ -191,7 +194,9 @@ module _ (options : ReflowOptions) (starred : Bool) where
   plain-lines : (room later : ℕ) (division : List (List WordText))
       → line_texts false room later division ≡ map covered division
   plain-lines room later [] = refl
-  plain-lines room later (line ∷ division) = ap (λ l. covered line ∷ l) (plain-lines later later division)
+  plain-lines room later (line ∷ []) = refl
+  plain-lines room later (line ∷ next ∷ division) =
+      ap (λ l. covered line ∷ l) (plain-lines later later (next ∷ division))
 
   texts-shown : (justify : Bool) (room later : ℕ) (division : List (List WordText)) (words : List (List ℕ))
       (lines : List (List (List ℕ))) → All IsPlain words → AreCutInto options starred words lines

@@ -1,5 +1,5 @@
 -- The lines of a paragraph, as they are printed, have its words in order.
-use Rattle.textwrap_marked_lines.proofs.Common.{◌≡◌, ℕ, Bool, true, false, List, [], ◌∷◌, ◌++◌, All}
+use Rattle.textwrap_marked_lines.proofs.Common.{◌≡◌, ℕ, Bool, List, [], ◌∷◌, ◌++◌, All}
 use Rattle.textwrap_marked_lines.proofs.Common.{All-append, All-head, All-map, All-nil, All-tail, ap}
 use Rattle.textwrap_marked_lines.proofs.Common.{flat_map, length, map, refl, subst, sym, ◌∙◌, all-left}
 use Rattle.textwrap_marked_lines.proofs.Common.{all-right, word_of, WordText, LineText}
@@ -48,8 +48,7 @@ printed-words options first lines division plain = cut (words_of lines) (words-p
   where
     none : (justify : Bool) (room later : ℕ)
         → flat_map words_in (line_texts justify room later ([] ∷ [])) ≡ []
-    none true room later = refl
-    none false room later = refl
+    none justify room later = refl
 
     cut : (words : List (List ℕ)) → All IsPlain words
         → IsDivision (map word_of (pieces options first.starred words)) division

@@ -36,6 +36,7 @@ pub mod ParagraphLines
 pub mod PieceCuts
 pub mod PieceLemmas
 pub mod PlainLines
+pub mod PrintedLines
 pub mod PrintedText
 pub mod PrintedWidths
 pub mod ReadBack

@@ -1,7 +1,7 @@
 -- What the printed lines of a paragraph keep to.
 use Rattle.textwrap_marked_lines.proofs.Common.{◌≡◌, ℕ, ◌+◌, ◌-◌, ◌<◌, ◌≤◌, true, List, [], ◌∷◌, All}
 use Rattle.textwrap_marked_lines.proofs.Common.{All-cons, All-head, All-nil, All-tail, arith, inl, inr}
-use Rattle.textwrap_marked_lines.proofs.Common.{length, lt-ltb, refl, reverse, subst, sym, ap, ◌∙◌}
+use Rattle.textwrap_marked_lines.proofs.Common.{length, refl, reverse, subst, sym, ap, ◌∙◌}
 use Rattle.textwrap_marked_lines.proofs.Common.{take_all, suffix_len-le-length, IsDivision, blank}
 use Rattle.textwrap_marked_lines.proofs.Common.{is_blank, sizes_of, word_of, WordText, covered, LineText}
 use Rattle.textwrap_marked.proofs.Common.{piece_words, line_text, line_texts}
@@ -85,8 +85,7 @@ pub lines-as-wide : (width : ℕ) (first later : List ℕ) (lines : List (List W
 lines-as-wide width first later [] = tt
 lines-as-wide width first later (line ∷ []) = tt
 lines-as-wide width first later (line ∷ next ∷ lines) = (
-  subst (λ b. IsAsWide width first line (line_text b (width - columns first) line))
-      (sym (lt-ltb 0 (length (next ∷ lines)) (omega arith))) (line-as-wide width first line),
+  line-as-wide width first line,
   lines-as-wide width later later (next ∷ lines),
 )
 

@@ -6,6 +6,7 @@ use Rattle.std.specs.List.{ends_with, flat_map, slice_split, starts_with}
 use Rattle.textwrap_base.specs.Algorithms as base
 use Rattle.textwrap_words.specs.Words.{WordText, sizes_of, word_of}
 use Rattle.textwrap_text.specs.LineEnding.{ending_bytes}
+use Rattle.textwrap_display.specs.JustifiedText.{all_but_last}
 use Rattle.textwrap_display.specs.Justifying.{justified}
 use Rattle.textwrap_layout.specs.Paragraph.{covered, line_bytes}
 use Rattle.textwrap_text.specs.declared.line_ending.LineEnding.{LineEnding}
@@ -47,9 +48,8 @@ line_text justify room line =
 -- the lines of a division, of which the later ones have other room than the first: where lines are
 -- justified, all but the last are
 abbrev pub line_texts : Bool → ℕ → ℕ → List (List WordText) → List (List ℕ)
-line_texts justify room later [] = []
-line_texts justify room later (line ∷ lines) =
-    line_text (justify && nat_lt 0 (length lines)) room line ∷ line_texts justify later later lines
+line_texts justify room later =
+    all_but_last (line_text justify room) (line_text justify later) covered
 
 -- lines: the first behind its prefix, each later one behind an ending and the hanging form
 abbrev pub printed : List ℕ → List ℕ → List ℕ → List (List ℕ) → List ℕ

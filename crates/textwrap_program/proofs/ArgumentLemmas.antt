@@ -1,11 +1,9 @@
 -- Lemmas on the digits of a width.
-use Rattle.std.{proofs.lemmas.Bool.Decides.nat_tests, specs.Result.OkIff}
-use Rattle.std.{proofs.lemmas.Str.Parse.parse_digits, specs.Result.result_ok}
-use Rattle.std.proofs.Common.{List, None, Result, Some, arith, cond, false, length, nat_lt, refl, ℕ}
-use Rattle.std.proofs.Common.{Err, Ok, ap, sym, true, ◌&&◌, ◌<◌, ◌^◌, ◌∙◌, ◌≡◌}
-use Rattle.std.proofs.lemmas.Bool.{and_parts, cases_Bool, false_from_ne_true, ltb-true}
-use Rattle.std.proofs.lemmas.Str.Parse.{IsNumeralModel, numerals_by_value, tells_all_ascii_digits}
-use Rattle.std.specs.Str.{Parse.ParsesUnsigned, Parse.digits_value, all_ascii_digits}
+use Rattle.std.proofs.Common.{Err, List, Result, arith, false, length, refl, true, ℕ, ◌<◌, ◌^◌, ◌≡◌}
+use Rattle.std.proofs.lemmas.Str.Parse.{numerals_by_value, parse_digits, tells_all_ascii_digits}
+use Rattle.std.proofs.{Common.Ok, lemmas.Bool.Decides.nat_tests, lemmas.Bool.cases_Bool}
+use Rattle.std.specs.Str.Parse.{ParsesUnsigned, digits_value}
+use Rattle.std.specs.{Result.OkIff, Result.result_ok, Str.all_ascii_digits}
 use Rattle.textwrap_program.specs.Arguments.{is_width, width_of}
 
 width_of-is : {E : Type 0} (word : List ℕ) (r : Result ℕ E) → all_ascii_digits word ≡ true

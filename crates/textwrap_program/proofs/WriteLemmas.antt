@@ -1,6 +1,6 @@
 -- Lemmas on what a writer took.
+use Rattle.std.proofs.Common.{Err, List, OnOk, [], drop, subst, sym, take, ℕ, ◌++◌, ◌≡◌}
 use Rattle.std.proofs.Common.{Ok, OnErr, Option, Result, append-nil, append_assoc, take-append-drop}
-use Rattle.std.proofs.Common.{Err, List, OnOk, [], ap, drop, subst, sym, take, ℕ, ◌++◌, ◌∙◌, ◌≡◌}
 use Rattle.std.proofs.KnownBytes.{Appends-kept, Appends-trans}
 use Rattle.std.specs.Io.KnownBytes.{Appends, Keeps}
 use Rattle.textwrap_program.specs.Filling.{WritesPrefix}

@@ -1,10 +1,11 @@
 -- Where lines end that a built-in algorithm finds of pieces, seen by their words.
-use Rattle.textwrap_calls.proofs.Common.{total_width-same, length-map, priced_at, length, Sizes, []}
-use Rattle.textwrap_calls.proofs.Common.{List, refl, map, sym, ◌+◌, ◌∷◌, ◌≡◌, ap, ℕ}
-use Rattle.textwrap_step_calls.proofs.Common.{ends_from}
 use Rattle.std.proofs.lemmas.Simd.{map-map}
-use Rattle.textwrap_base.specs.Algorithms.{OverflowsBy, Algorithm, LeastCost, Greedy}
-use Rattle.textwrap_base.proofs.Cost.Chosen.{fragments_table-map}
+use Rattle.textwrap_base.proofs.Common.{priced_at, Sizes}
+use Rattle.textwrap_base.proofs.Cost.{Chosen.fragments_table-map, Measures.total_width-same}
+use Rattle.textwrap_base.specs.Algorithms.{Algorithm, Greedy, LeastCost, OverflowsBy}
+use Rattle.textwrap_calls.proofs.Common.{[], ap}
+use Rattle.textwrap_calls.proofs.Common.{length, length-map, List, map, refl, sym, ℕ, ◌+◌, ◌∷◌, ◌≡◌}
+use Rattle.textwrap_step_calls.specs.Fragments.{ends_from}
 
 module _ {X Y : Type 0} (f : X → Y) where
   pub ends_from-map : (at : ℕ) (lines : List (List X))

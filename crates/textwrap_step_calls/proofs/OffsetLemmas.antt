@@ -1,16 +1,15 @@
 -- Each offset is passed where a character ends if they are offsets of the text, and only then.
-use Rattle.textwrap_calls.proofs.Common.{IsCharBoundary-start, IsUtf8-past_char, encode_utf8_all, ℕ}
-use Rattle.textwrap_calls.proofs.Common.{IsCharBoundary, encodes-chars, IsUtf8-drop, length-drop}
-use Rattle.textwrap_calls.proofs.Common.{cases_Bool, eqb-false, eqb-true, stripped, AreNext, IsUtf8}
-use Rattle.textwrap_calls.proofs.Common.{visible, length, arith, chars, subst, units, List, drop}
-use Rattle.textwrap_calls.proofs.Common.{refl, eqb, inl, inr, sym, ◌+◌, ◌<◌, ◌↔◌, ◌∷◌, ◌≡◌, [], ap}
-use Rattle.textwrap_text.proofs.Units.Texts.{units-tile}
-use Rattle.textwrap_unicode.proofs.CutLemmas.{visible-utf8}
 use Rattle.std.proofs.lemmas.Str.{IsCharBoundary-from_drop}
+use Rattle.textwrap_calls.proofs.Common.{[], ap, chars, eqb-true, inl, inr, length, List, refl, ◌∷◌}
+use Rattle.textwrap_calls.proofs.Common.{arith, cases_Bool, drop, IsUtf8, length-drop, visible, ◌≡◌}
+use Rattle.textwrap_calls.proofs.Common.{eqb-false, stripped, subst, sym, units, ℕ, ◌+◌, ◌<◌, ◌↔◌}
+use Rattle.textwrap_step_calls.specs.Pieces.{AreOffsets, IsNextOffset, offsets_past}
+use Rattle.textwrap_text.proofs.Common.{encode_utf8_all, eqb, IsCharBoundary-start, IsUtf8-drop}
+use Rattle.textwrap_text.proofs.{Common.IsCharBoundary, Texts.{ends-within, left-after, some-bytes}}
+use Rattle.textwrap_text.proofs.{Common.{encodes-chars, IsUtf8-past_char}, Units.Texts.units-tile}
+use Rattle.textwrap_unicode.proofs.CutLemmas.{visible-utf8}
+use Rattle.textwrap_words.{proofs.Word.Ahead.character-within, specs.Cuts.AreNext}
 use lib.Utf8.{encode}
-use Rattle.textwrap_text.proofs.Texts.{ends-within, left-after, some-bytes}
-use Rattle.textwrap_words.proofs.Word.Ahead.{character-within}
-use Rattle.textwrap_step_calls.specs.Pieces.{IsNextOffset, offsets_past, AreOffsets}
 
 -- the offsets that are left after these characters, of which the first begins at the place
 abbrev pub left_after : ℕ → List ℕ → List ℕ → List ℕ

@@ -1,19 +1,17 @@
 -- Where the paragraphs of a text stand, and pieces: those of a paragraph, and those of a word.
-use Rattle.textwrap_calls.proofs.Common.{join-paragraphs_of, paragraphs_of, HasNoPenalty, join_with}
-use Rattle.textwrap_calls.proofs.Common.{append_assoc, broken_texts, ending_bytes, rest-within, All}
-use Rattle.textwrap_calls.proofs.Common.{append-nil, All-head, All-tail, WordText, flat_map, IsUtf8}
-use Rattle.textwrap_calls.proofs.Common.{get_or, length, arith, rules, tiled, List, refl, ◌++◌, sym}
-use Rattle.textwrap_calls.proofs.Common.{◌+◌, ◌-◌, ◌<◌, ◌∙◌, ◌∷◌, ◌≡◌, ◌≤◌, [], ap, ℕ}
-use Rattle.textwrap_text.specs.declared.line_ending.LineEnding.{LineEnding}
-use Rattle.textwrap_step_calls.proofs.Common.{piece_places}
-use Rattle.textwrap_words.proofs.Common.{broken_pieces, piece}
-use Rattle.textwrap_words.proofs.Word.BrokenPieces.{broken_texts-tile, tiled-pieces_with}
-use Rattle.textwrap_words.specs.Breaking.{pieces_with}
-use Rattle.textwrap_words.specs.Pieces.{stand_from}
-use Rattle.textwrap_words.specs.declared.pieces.Piece.{Piece}
-use Rattle.textwrap_step_calls.specs.Paragraphs.{paragraph_places}
+use Rattle.textwrap_calls.proofs.Common.{All, List, refl, sym, tiled, ◌++◌, ◌+◌, ◌-◌, ◌<◌, ◌∙◌, ◌∷◌}
+use Rattle.textwrap_calls.proofs.Common.{All-head, All-tail, append-nil, ending_bytes, rest-within}
+use Rattle.textwrap_calls.proofs.Common.{[], ap, ℕ, ◌≡◌, ◌≤◌}
+use Rattle.textwrap_calls.proofs.Common.{append_assoc, join-paragraphs_of, join_with, paragraphs_of}
+use Rattle.textwrap_calls.proofs.Common.{arith, flat_map, get_or, IsUtf8, length, rules, WordText}
 use Rattle.textwrap_step_calls.specs.declared.paragraphs.TextwrapParagraph.{TextwrapParagraph}
 use Rattle.textwrap_step_calls.specs.declared.pieces.TextwrapPiece.{TextwrapPiece}
+use Rattle.textwrap_step_calls.specs.{Paragraphs.paragraph_places, Pieces.piece_places}
+use Rattle.textwrap_text.specs.declared.line_ending.LineEnding.{LineEnding}
+use Rattle.textwrap_words.proofs.Common.{broken_pieces, broken_texts, piece}
+use Rattle.textwrap_words.proofs.Word.BrokenPieces.{broken_texts-tile, tiled-pieces_with}
+use Rattle.textwrap_words.specs.{Breaking.pieces_with, Pieces.stand_from}
+use Rattle.textwrap_words.{proofs.Word.Words.HasNoPenalty, specs.declared.pieces.Piece.Piece}
 
 -- ---- where pieces stand: those of a paragraph, and those of a word
 

@@ -1,12 +1,13 @@
 -- The lines of a paragraph in steps stand where they are reported, and joined where they are shown.
-use Rattle.textwrap_calls.proofs.Common.{covered_by-parts_from, lines_from-begin, lines_between, []}
-use Rattle.textwrap_calls.proofs.Common.{tiled-append, append-nil, built_text, covered_by, Settings}
-use Rattle.textwrap_calls.proofs.Common.{parts_from, ShowLines, join-push, join_with, pieces_at, ap}
-use Rattle.textwrap_calls.proofs.Common.{places_of, WordText, lines_of, says_yes, AreEnds, length}
-use Rattle.textwrap_calls.proofs.Common.{lt-ltb, nat_lt, Place, Tiles, arith, subst, tiled, Bool, ℕ}
-use Rattle.textwrap_calls.proofs.Common.{List, cond, flat, ◌++◌, sym, ◌∙◌, ◌∷◌, ◌≡◌}
-use Rattle.textwrap_calls.proofs.PlaceLemmas.{paragraph-cut, shown-places, AreCut}
+use Rattle.textwrap_calls.proofs.Common.{[], join_with, parts_from, pieces_at, places_of, ShowLines}
+use Rattle.textwrap_calls.proofs.Common.{ap, length, lines_of, lt-ltb, says_yes, Settings, WordText}
+use Rattle.textwrap_calls.proofs.Common.{append-nil, AreEnds, built_text, covered_by, lines_between}
+use Rattle.textwrap_calls.proofs.Common.{arith, Bool, List, nat_lt, Place, subst, sym, tiled, Tiles}
+use Rattle.textwrap_calls.proofs.Common.{cond, flat, ℕ, ◌++◌, ◌∙◌, ◌∷◌, ◌≡◌}
+use Rattle.textwrap_calls.proofs.PlaceLemmas.{AreCut, paragraph-cut, shown-places}
+use Rattle.textwrap_layout.proofs.{Paragraph.LeftOff.covered_by-parts_from, Text.Lines.join-push}
 use Rattle.textwrap_step_calls.specs.Steps.{step_cuts}
+use Rattle.textwrap_words.proofs.Word.{Divisions.lines_from-begin, Words.tiled-append}
 
 -- ---- the lines of a paragraph in steps stand where they are reported
 

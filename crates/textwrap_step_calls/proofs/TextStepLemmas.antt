@@ -1,29 +1,25 @@
 -- The lines of a text, each paragraph of which comes with its steps, as they are or justified.
-use Rattle.textwrap_calls.proofs.Common.{justified_after_indents, join-paragraphs_of, HasPlacesMore}
-use Rattle.textwrap_calls.proofs.Common.{lines_of-cut_lines, further-cut_lines, length-places_of, ℕ}
-use Rattle.textwrap_calls.proofs.Common.{length-append, lines_between, paragraphs_of, append_assoc}
-use Rattle.textwrap_calls.proofs.Common.{ending_bytes, is_later-or, rest-within, StartsWith, length}
-use Rattle.textwrap_calls.proofs.Common.{append-nil, covered_by, length-map, parts_from, HasPlaces}
-use Rattle.textwrap_calls.proofs.Common.{ShowLines, join_with, joined_on, line_from, line_view, map}
-use Rattle.textwrap_calls.proofs.Common.{pieces_at, Settings, is_whole, lines_of, AreEnds, nat_lt}
-use Rattle.textwrap_calls.proofs.Common.{Tiles, arith, false, subst, Bool, List, flat, refl, ◌++◌}
-use Rattle.textwrap_calls.proofs.Common.{◌||◌, sym, ◌+◌, ◌<◌, ◌^◌, ◌↔◌, ◌∙◌, ◌∷◌, ◌≡◌, ◌≤◌, [], ap}
-use Rattle.textwrap_text.specs.declared.line_ending.LineEnding.{LineEnding}
-use Rattle.textwrap_step_calls.proofs.Common.{text_step_cuts, AreLineSteps, justified_at}
-use Rattle.textwrap_text.proofs.Common.{starts_with_of_append, Result, Err, Ok}
-use Rattle.textwrap_layout.proofs.Common.{cut_lines, text_cuts, CutLine, further}
-use Rattle.std.proofs.Common.{Fits, w64}
-use Rattle.std.specs.Result.{IfOk}
-use Rattle.std.specs.declared.borrow.CowStr.{CowStr}
-use Rattle.textwrap_layout.specs.Places.{division_cuts}
-use Rattle.textwrap_layout.specs.declared.places.PlacedLines.{PlacedLines}
-use Rattle.textwrap_display.proofs.JustifiedLines.{rows-more, join-on, rows}
-use Rattle.textwrap_calls.proofs.Lengths.Texts.{ending-length}
-use Rattle.textwrap_calls.proofs.Lengths.Sums.{texts-joined}
-use Rattle.textwrap_calls.proofs.PlaceLemmas.{shown-places, groups-cut, AreBegun}
-use Rattle.textwrap_step_calls.proofs.StepLemmas.{step-rest}
+use Rattle.std.{proofs.Common.{Fits, w64}, specs.declared.borrow.CowStr.CowStr, specs.Result.IfOk}
+use Rattle.textwrap_calls.proofs.Common.{AreEnds, is_whole, length, lines_of, pieces_at, Settings}
+use Rattle.textwrap_calls.proofs.Common.{HasPlacesMore, join-paragraphs_of, justified_after_indents}
+use Rattle.textwrap_calls.proofs.Common.{[], append_assoc, ending_bytes, paragraphs_of, rest-within}
+use Rattle.textwrap_calls.proofs.Common.{append-nil, covered_by, length-map, parts_from, StartsWith}
+use Rattle.textwrap_calls.proofs.Common.{arith, Bool, false, flat, List, nat_lt, refl, subst, Tiles}
+use Rattle.textwrap_calls.proofs.Common.{further-cut_lines, HasPlaces, length-append, lines_between}
+use Rattle.textwrap_calls.proofs.Common.{join_with, joined_on, line_from, line_view, map, ShowLines}
+use Rattle.textwrap_calls.proofs.Common.{sym, ℕ, ◌++◌, ◌+◌, ◌<◌, ◌^◌, ◌||◌, ◌↔◌, ◌∙◌, ◌∷◌, ◌≡◌, ◌≤◌}
+use Rattle.textwrap_calls.proofs.PlaceLemmas.{AreBegun, groups-cut, shown-places}
+use Rattle.textwrap_calls.proofs.{Common.ap, Lengths.Sums.texts-joined, Lengths.Texts.ending-length}
+use Rattle.textwrap_display.proofs.JustifiedLines.{join-on, rows, rows-more}
+use Rattle.textwrap_layout.proofs.Common.{cut_lines, CutLine, further, text_cuts}
+use Rattle.textwrap_layout.proofs.Text.Sinks.{length-places_of, lines_of-cut_lines}
+use Rattle.textwrap_layout.specs.{declared.places.PlacedLines.PlacedLines, Places.division_cuts}
 use Rattle.textwrap_step_calls.specs.TextSteps.{AreTextSteps, division_at, groups_at, parts_at}
 use Rattle.textwrap_step_calls.specs.declared.steps.TextwrapSteps.{TextwrapSteps}
+use Rattle.textwrap_step_calls.{proofs.Common.text_step_cuts, specs.JustifiedSteps.justified_at}
+use Rattle.textwrap_step_calls.{proofs.StepLemmas.step-rest, specs.Steps.AreLineSteps}
+use Rattle.textwrap_text.proofs.{Common.{Err, Result, starts_with_of_append}, Numbers.is_later-or}
+use Rattle.textwrap_text.{proofs.Common.Ok, specs.declared.line_ending.LineEnding.LineEnding}
 
 -- ---- the lines of a text, each paragraph of which comes with its steps
 

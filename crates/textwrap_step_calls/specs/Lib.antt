@@ -1,3 +1,4 @@
+pub mod Breaks
 pub mod Fragments
 pub mod JustifiedSteps
 pub mod Paragraphs

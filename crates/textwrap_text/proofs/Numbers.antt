@@ -1,8 +1,8 @@
 -- Numbers, tests of them, and results that hold them.
 use Rattle.textwrap_text.proofs.Common.{if◌then◌else◌, eqb-false, nat_tests, cases_lt, SomeIff, Err}
-use Rattle.textwrap_text.proofs.Common.{IsSome, Option, Result, nat_lt, ⊎_elim, arith, false, rules}
-use Rattle.textwrap_text.proofs.Common.{Bool, IfOk, None, Some, refl, true, ◌==◌, ◌||◌, eqb, inl, ℕ}
-use Rattle.textwrap_text.proofs.Common.{inr, min, not, suc, ◌+◌, ◌<◌, ◌^◌, ◌∙◌, ◌≡◌, ◌≤◌, ◌⊎◌, Ok}
+use Rattle.textwrap_text.proofs.Common.{IsSome, Option, Result, nat_lt, arith, false, rules}
+use Rattle.textwrap_text.proofs.Common.{Bool, IfOk, None, Some, refl, true, ◌==◌, ◌||◌, eqb, ℕ}
+use Rattle.textwrap_text.proofs.Common.{min, not, suc, ◌+◌, ◌<◌, ◌^◌, ◌∙◌, ◌≡◌, ◌≤◌, ◌⊎◌, Ok}
 use Rattle.std.specs.Result.{result_ok, OkIff}
 
 pub some_from_test : (n : ℕ) → eqb n 0 ≡ false → 0 < n
@@ -32,8 +32,7 @@ some_later true n = refl
 some_later false n = grind (arith, nat_tests)
 
 pub either_short : (a b n : ℕ) → n ≡ min a b → (a ≤ n) ⊎ (b ≤ n)
-either_short a b n is = ⊎_elim {C = (a ≤ n) ⊎ (b ≤ n)} (λ (less : a < b). inl (omega arith))
-    (λ (more : b ≤ a). inr (omega arith)) (cases_lt a b)
+either_short a b n is = search (rules, arith, cases_lt)
 
 pub some_where : (o : Option ℕ) (P : Type 0) (v : ℕ) → SomeIff o P v → P → IsSome o
 some_where None P v h p = absurd (h p)

@@ -4,8 +4,8 @@ use Rattle.textwrap_text.proofs.Common.{lines_of_parts, append_assoc, common_ste
 use Rattle.textwrap_text.proofs.Common.{All-append, All-weaker, append-nil, cases_Bool, length-map}
 use Rattle.textwrap_text.proofs.Common.{eqb-false, take_more, All-cons, eqb-true, flat_map, All-nil}
 use Rattle.textwrap_text.proofs.Common.{is_some, length, ne_eqb, arith, false, lines, rules, subst}
-use Rattle.textwrap_text.proofs.Common.{Bool, List, None, cond, last, refl, ◌++◌, ◌==◌, ap₂, inl, ℕ}
-use Rattle.textwrap_text.proofs.Common.{inr, map, sym, ◌-◌, ◌<◌, ◌∙◌, ◌∷◌, ◌≡◌, ◌≢◌, ap}
+use Rattle.textwrap_text.proofs.Common.{Bool, List, None, cond, last, refl, ◌++◌, ◌==◌, inl, ℕ}
+use Rattle.textwrap_text.proofs.Common.{inr, map, sym, ◌<◌, ◌∙◌, ◌∷◌, ◌≡◌, ◌≢◌, ap}
 use Rattle.std.proofs.lemmas.List.Splits.{join_with_byte-slice_split, length-slice_split}
 use Rattle.std.proofs.lemmas.List.Splits.{slice_split_none, slice_split_at}
 use Rattle.textwrap_text.proofs.Lists.Parts.{some_from_nonempty, last-append, last-cons, last-push}
@@ -28,14 +28,11 @@ free part lacks = search (rules, arith, All-weaker, ne_eqb)
 pub ended_lines-front : (front rest : List ℕ) → All (λ c. c ≢ 10) front
     → ended_lines (front ++ 10 ∷ rest) ≡ line_before_feed front ∷ ended_lines rest
 ended_lines-front front rest lacks =
-    ap ended_lines_of (slice_split_at is_feed front 10 rest (free front lacks) refl)
-    ∙ lines-more front (slice_split is_feed rest) (omega (arith, length-slice_split is_feed rest))
+    search (rules, arith, slice_split_at, free, lines-more, length-slice_split)
 
 pub ended_lines-whole : (part : List ℕ) → All (λ c. c ≢ 10) part → part ≢ []
     → ended_lines part ≡ record { line = part; ending = None } ∷ []
-ended_lines-whole part lacks some =
-    let one = ap ended_lines_of (slice_split_none is_feed part (free part lacks)) in
-    grind (arith, nil_from_length)
+ended_lines-whole part lacks some = search (rules, arith, slice_split_none, free, nil_from_length)
 
 -- ---- each line with its ending
 
@@ -68,22 +65,18 @@ lines-whole part lacks some =
 
 pub ended_parts-front : (front rest : List ℕ) → All (λ c. c ≢ 10) front
     → ended_parts (front ++ 10 ∷ rest) ≡ (front ++ 10 ∷ []) ∷ ended_parts rest
-ended_parts-front front rest lacks =
-    ap (map with_ending) (ended_lines-front front rest lacks)
-    ∙ ap (λ part. part ∷ ended_parts rest) (with_ending-feed front)
+ended_parts-front front rest lacks = search (rules, arith, ended_lines-front, with_ending-feed)
 
 pub ended_parts-whole : (part : List ℕ) → All (λ c. c ≢ 10) part → part ≢ []
     → ended_parts part ≡ part ∷ []
-ended_parts-whole part lacks some =
-    ap (map with_ending) (ended_lines-whole part lacks some) ∙ ap (λ p. p ∷ []) (append-nil part)
+ended_parts-whole part lacks some = search (rules, arith, ended_lines-whole, append-nil)
 
 flat-of : (parts : List (List ℕ))
     → flat_map (λ part. part) (map with_ending (ended_lines_of parts)) ≡ join_with_byte 10 parts
 flat-of [] = refl
 flat-of (part ∷ []) = grind (arith, append-nil, nil_from_length)
 flat-of (part ∷ next ∷ parts) =
-    ap₂ (λ xs ys. xs ++ ys) (with_ending-feed part) (flat-of (next ∷ parts))
-    ∙ append_assoc part (10 ∷ []) (join_with_byte 10 (next ∷ parts))
+    search (rules, arith, with_ending-feed, append_assoc, flat-of (next ∷ parts))
 
 pub ended_parts-flat : (text : List ℕ) → flat_map (λ part. part) (ended_parts text) ≡ text
 ended_parts-flat text = flat-of (slice_split is_feed text) ∙ join_with_byte-slice_split 10 text
@@ -107,8 +100,7 @@ module _ (P : List ℕ → Type 0) (none : P [])
 
 -- no line feed is at the end of a text that has none
 pub last-free : (part : List ℕ) → All (λ c. c ≢ 10) part → part ≢ [] → (last part == 10) ≡ false
-last-free part lacks some =
-    ne_eqb (last part) 10 (lacks (length part - 1) 0 (omega (arith, some_from_nonempty part some)))
+last-free part lacks some = search (rules, arith, ne_eqb, some_from_nonempty)
 
 -- ---- what is made of each line, with a line feed between each two, and the last one's
 
@@ -138,10 +130,7 @@ made-more : (f : List ℕ → List ℕ) (line front rest : List ℕ)
     ++ cond (last (front ++ 10 ∷ rest) == 10) (10 ∷ []) [] ≡ (f line ++ 10 ∷ []) ++ joined_of f rest
 made-more f line front [] = rw last-push (sym (append-nil (f line ++ 10 ∷ [])))
 made-more f line front (d ∷ ds) =
-    ap₂ (λ l b. l ++ cond (b == 10) (10 ∷ []) [])
-    (join-more (f line) (map f (lines (d ∷ ds))) (rw length-map (lines-some d ds)))
-    (last-append front (10 ∷ d ∷ ds) (omega arith) ∙ last-cons 10 d ds)
-    ∙ simp append_assoc
+    search (rules, arith, join-more, length-map, lines-some, last-append, last-cons, append_assoc)
 
 pub lines-made : (f : List ℕ → List ℕ) (text : List ℕ)
     → joined_of f text ≡ flat_map (made_of f) (ended_lines text)

@@ -1,22 +1,22 @@
 -- Texts of UTF-8: where their characters end, what is left of one that is cut, and whitespace at
 -- its ends.
-use Rattle.textwrap_text.proofs.Common.{IsCharBoundary-after_ascii, IsCharBoundary-from_drop, arith}
-use Rattle.textwrap_text.proofs.Common.{IsCharBoundary-from_take, starts_with_length, chars-IsAscii}
-use Rattle.textwrap_text.proofs.Common.{IsUtf8-past_char, take-append-drop, encode_utf8_all, IsUtf8}
-use Rattle.textwrap_text.proofs.Common.{IsCharBoundary, encodes-append, encodes-chars, append_assoc}
-use Rattle.textwrap_text.proofs.Common.{length-append, length-encode, encode_ascii, IsUtf8-drop, []}
-use Rattle.textwrap_text.proofs.Common.{IsUtf8-take, all_scalars, get_or-drop, length-drop, add-one}
-use Rattle.textwrap_text.proofs.Common.{length_push, StartsWith, append-nil, prefix_len, take_while}
-use Rattle.textwrap_text.proofs.Common.{and_parts, cond_both, drop-drop, take_more, All-head, false}
-use Rattle.textwrap_text.proofs.Common.{All-tail, add-zero, and_from, list_all, ltb-true, drop_at}
-use Rattle.textwrap_text.proofs.Common.{take_at, encode, get_or, length, ne_eqb, scalar, subst, All}
-use Rattle.textwrap_text.proofs.Common.{List, cond, drop, refl, take, true, zero, ◌&&◌, ◌++◌, ◌==◌}
-use Rattle.textwrap_text.proofs.Common.{ltb, suc, sym, ◌+◌, ◌-◌, ◌<◌, ◌∙◌, ◌∷◌, ◌≡◌, ◌≤◌, ap, ℕ}
-use Rattle.std.proofs.lemmas.List.{get_or-append-add, get_or_at}
-use Rattle.std.specs.Str.{drop_trailing_whitespace, skip_leading_whitespace, trim_end, chars}
-use Rattle.std.proofs.lemmas.Str.{IsCharBoundary-at_seam, len_utf8_bounds, scalars-chars}
-use Rattle.std.specs.Char.{is_whitespace, encode_utf8}
+use Rattle.textwrap_text.proofs.Common.{arith, IsCharBoundary-after_ascii, IsCharBoundary-from_drop}
+use Rattle.textwrap_text.proofs.Common.{chars-IsAscii, IsCharBoundary-from_take, starts_with_length}
+use Rattle.textwrap_text.proofs.Common.{encode_utf8_all, IsUtf8, IsUtf8-past_char, take-append-drop}
+use Rattle.textwrap_text.proofs.Common.{append_assoc, encodes-append, encodes-chars, IsCharBoundary}
+use Rattle.textwrap_text.proofs.Common.{[], encode_ascii, IsUtf8-drop, length-append, length-encode}
+use Rattle.textwrap_text.proofs.Common.{add-one, all_scalars, get_or-drop, IsUtf8-take, length-drop}
+use Rattle.textwrap_text.proofs.Common.{append-nil, length_push, prefix_len, StartsWith, take_while}
+use Rattle.textwrap_text.proofs.Common.{All-head, and_parts, cond_both, drop-drop, false, take_more}
+use Rattle.textwrap_text.proofs.Common.{add-zero, All-tail, and_from, drop_at, list_all, ltb-true}
+use Rattle.textwrap_text.proofs.Common.{All, encode, get_or, length, ne_eqb, rules, scalar, take_at}
+use Rattle.textwrap_text.proofs.Common.{cond, drop, List, refl, subst, take, true, zero, ◌&&◌, ◌++◌}
+use Rattle.textwrap_text.proofs.Common.{ap, suc, sym, ℕ, ◌+◌, ◌-◌, ◌<◌, ◌==◌, ◌∙◌, ◌∷◌, ◌≡◌, ◌≤◌}
 use Rattle.textwrap_text.proofs.Lists.Parts.{nothing-starts, starts-head, starts-tail}
+use Rattle.std.proofs.lemmas.List.{get_or-append-add, get_or_at}
+use Rattle.std.proofs.lemmas.Str.{IsCharBoundary-at_seam, len_utf8_bounds, scalars-chars}
+use Rattle.std.specs.Char.{encode_utf8, is_whitespace}
+use Rattle.std.specs.Str.{chars, drop_trailing_whitespace, skip_leading_whitespace, trim_end}
 
 -- ---- texts of UTF-8: where characters end, and what is left of a text
 
@@ -34,10 +34,7 @@ IsLead bytes = 128 ≤ get_or bytes 0 0 → 192 ≤ get_or bytes 0 0
 
 encode-lead : (c : ℕ) → IsLead (encode c)
 unfolding encode
-encode-lead c =
-    cond_both (ltb c 128) _ _ IsLead (λ low high. absurd (omega (arith, ltb-true c 128 low))) (λ _.
-    cond_both (ltb c 2048) _ _ IsLead (λ _ _. omega arith) (λ _.
-    cond_both (ltb c 65536) _ _ IsLead (λ _ _. omega arith) (λ _ _. omega arith)))
+encode-lead c = search (rules, arith, cond_both, ltb-true)
 
 -- a text may be cut before its last character
 pub before-last : (text rest : List ℕ) (c : ℕ) → text ≡ rest ++ encode c
@@ -107,16 +104,14 @@ utf8-front xs ys u =
     ∙ drop_at front back (length front) refl in
     let cut = IsCharBoundary-from_drop whole (length front) within
     (subst IsUtf8 (sym rest) (utf8-back xs ys u)) in
-    subst IsUtf8 (ap (take (length front)) all ∙ take_at front back (length front) refl)
-    (IsUtf8-take whole (length front) u cut)
+    search (rules, arith, front, take_at, back, IsUtf8-take, whole)
 
 scalars-parts : (cs ds : List ℕ) → all_scalars (cs ++ ds) ≡ true
     → (all_scalars cs ≡ true) × (all_scalars ds ≡ true)
 scalars-parts [] ds all = (refl, all)
 scalars-parts (c ∷ cs) ds all =
     let (here, rest) = and_parts (scalar c) (all_scalars (cs ++ ds)) all in
-    let (front, back) = scalars-parts cs ds rest in
-    (and_from (scalar c) (all_scalars cs) here front, back)
+    let (front, back) = scalars-parts cs ds rest in search (rules, arith, and_from, front, back)
 
 -- the bytes before and after the cut
 pub record IsCut (text cs ds : List ℕ) : Type 0 where
@@ -226,8 +221,7 @@ white-leading [] = refl
 white-leading (c ∷ cs) =
     let n = prefix_len is_whitespace cs in
     let more : 1 + n ≡ suc n = omega arith in
-    cond_both (is_whitespace c) (1 + n) 0 (λ k. list_all is_whitespace (take k (c ∷ cs)) ≡ true)
-    (λ white. rw more (and_from (is_whitespace c) _ white (white-leading cs))) (λ other. refl)
+    search (rules, arith, cond_both, and_from, white-leading cs)
 
 -- ---- a character that begins at a place of a text
 
@@ -252,6 +246,4 @@ module _ (text : List ℕ) (place c : ℕ) (after : List ℕ)
 
   pub ascii-here : c < 128 → get_or text place 0 ≡ c
   ascii-here low =
-      let at : place ≡ place + 0 = omega arith in
-      ap (λ k. get_or text k 0) at ∙ sym (get_or-drop place text 0 0)
-      ∙ ap (λ l. get_or l 0 0) is ∙ ap (λ bs. get_or (bs ++ after) 0 0) (encode_ascii c low)
+      let at : place ≡ place + 0 = omega arith in search (rules, arith, get_or-drop, encode_ascii)

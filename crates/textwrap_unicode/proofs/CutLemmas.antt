@@ -1,28 +1,26 @@
 -- The breaks that are still to come: those the iterator gives, and where a line is cut at them.
-use Rattle.std.proofs.lemmas.List.{Elements.All-map, Folds.list_any-append, at_drop_more}
-use Rattle.std.proofs.lemmas.List.Folds.{list_any_none}
-use Rattle.textwrap_classes.{proofs.Common.◌∙◌, specs.declared.classes.Unit.Unit}
-use Rattle.textwrap_classes.proofs.Common.{append-nil, if◌then◌else◌, length-append, takes_no_mark}
-use Rattle.textwrap_classes.proofs.Common.{append_assoc, cases_Bool, class_of, is_number, nat_tests}
-use Rattle.textwrap_classes.proofs.Common.{IsUtf8, encode, is_mark, list_any, read-next, unit_of, ℕ}
-use Rattle.textwrap_classes.proofs.Common.{Bool, arith, chars, false, get_or, length, ne_eqb, subst}
-use Rattle.textwrap_classes.proofs.Common.{List, drop, inl, inr, refl, true, ◌&&◌, ◌++◌, ◌==◌, ◌||◌}
-use Rattle.textwrap_classes.proofs.Common.{[], ap, map, not, sym, ◌+◌, ◌<◌, ◌∷◌, ◌≡◌, ◌≢◌, ◌≤◌}
-use Rattle.textwrap_text.proofs.{Common.All-append, Texts.some-bytes, Units.Reading.units_in}
-use Rattle.textwrap_text.proofs.{Texts.utf8-back, Texts.utf8-front, Units.Texts.units-tile}
-use Rattle.textwrap_text.proofs.Common.{chars_from_encodes, encode_utf8_all, encodes-append, shows}
-use Rattle.textwrap_text.proofs.Common.{IsUtf8-append, encodes-chars, units}
-use Rattle.textwrap_text.proofs.Common.{IsUtf8-nil, characters, map-append, visible_in, visible_of}
-use Rattle.textwrap_text.proofs.Common.{All-cons, Sequence, TextUnit, cases_eq, chars-nil, flat_map}
-use Rattle.textwrap_text.proofs.Common.{All, All-nil, All-weaker, Visible, cond, next_of, stripped}
-use Rattle.textwrap_text.proofs.Units.Reading.{IsRead, read-ahead, read-all, read-none, read-start}
+use Rattle.std.proofs.lemmas.List.{Elements.All-map, Folds.list_any-append, Folds.list_any_none}
+use Rattle.textwrap_classes.proofs.Common.{Bool, append_assoc, map, read-next, refl, sym, ◌∙◌, ◌≢◌}
+use Rattle.textwrap_classes.proofs.Common.{IsUtf8, [], drop, length-append, list_any, true, unit_of}
+use Rattle.textwrap_classes.proofs.Common.{List, encode, false, not, takes_no_mark, ◌++◌, ◌≡◌, ◌≤◌}
+use Rattle.textwrap_classes.proofs.Common.{ap, append-nil, arith, inl, inr, nat_tests, ℕ, ◌<◌, ◌==◌}
+use Rattle.textwrap_classes.proofs.Common.{cases_Bool, chars, length, ne_eqb, subst, ◌&&◌, ◌+◌, ◌∷◌}
+use Rattle.textwrap_classes.{proofs.Common.if◌then◌else◌, specs.declared.classes.Unit.Unit}
+use Rattle.textwrap_text.proofs.Common.{All, All-nil, Visible, cond, flat_map, next_of, rules}
+use Rattle.textwrap_text.proofs.Common.{All-append, IsUtf8-append, IsUtf8-nil, encodes-chars, shows}
+use Rattle.textwrap_text.proofs.Common.{All-cons, Sequence, TextUnit, cases_eq, chars-nil, stripped}
+use Rattle.textwrap_text.proofs.Common.{All-weaker, characters, map-append, visible_in, visible_of}
+use Rattle.textwrap_text.proofs.Common.{chars_from_encodes, encode_utf8_all, encodes-append, units}
+use Rattle.textwrap_text.proofs.Texts.{some-bytes, utf8-back, utf8-front}
+use Rattle.textwrap_text.proofs.Units.Reading.{IsRead, read-ahead, read-none, read-start, units_in}
+use Rattle.textwrap_text.proofs.Units.{Reading.read-all, Texts.units-tile}
 use Rattle.textwrap_text.specs.declared.escapes.State.{State, TheVariants.Text as InText}
-use Rattle.textwrap_unicode.{proofs.Common.Verdict, specs.declared.breaks.LineBreak.LineBreak}
-use Rattle.textwrap_unicode.proofs.Common.{breaks_after, is_any_hyphen, number_first, numbers_rule}
-use Rattle.textwrap_unicode.proofs.Common.{Mandatory, Prohibited, break_at, breaks_from, offsets_of}
-use Rattle.textwrap_unicode.proofs.Common.{Allowed, and, before_of, cut_here, decide_by}
-use Rattle.textwrap_unicode.proofs.Common.{Before, Numbers, breaks_by, cuts_by, may_end, nothing}
+use Rattle.textwrap_unicode.proofs.Common.{Allowed, Numbers, break_at, cut_here, cuts_by, decide_by}
+use Rattle.textwrap_unicode.proofs.Common.{Before, Verdict, and, may_end, nothing}
+use Rattle.textwrap_unicode.proofs.Common.{Mandatory, Prohibited, before_of, breaks_by, offsets_of}
+use Rattle.textwrap_unicode.proofs.Common.{breaks_after, breaks_from, is_any_hyphen, numbers_rule}
 use Rattle.textwrap_unicode.specs.Before.{Text, first_class, is_empty, takes_marks, with_unit}
+use Rattle.textwrap_unicode.specs.declared.breaks.LineBreak.{LineBreak}
 use Rattle.textwrap_words.proofs.Common.{VisibleEnd, cuts_among, ends_from, is_cut_after}
 use Rattle.textwrap_words.proofs.Word.Offsets.{end_of, ends-step, ends_in, ends_past}
 use Rattle.textwrap_words.proofs.Word.Parts.{places-above, places_by}
@@ -34,10 +32,9 @@ takes_marks-is : (units : List Unit)
 takes_marks-is [] = refl
 takes_marks-is (unit ∷ units) = refl
 
-pub and-is : (text : Text) (next : Unit)
+and-is : (text : Text) (next : Unit)
     → and (before_of text) next ≡ before_of (with_unit text next)
-and-is text next =
-    grind (arith, cases_Bool, takes_marks-is)
+and-is text next = grind (arith, cases_Bool, takes_marks-is)
 
 -- ---- the breaks that the iterator has still to give
 
@@ -106,10 +103,7 @@ module _ (numbers : Numbers) (rest : List ℕ) (start : ℕ) (first : Before) (o
         → offset' ≡ next_at → before' ≡ and before (unit_of c)
         → IsReading numbers rest start first offset' after before'
     reading-step offset' before' prohibited offset_is before_is =
-        rw (offset_is, before_is) (record {
-          read = read-next h.read c after e _ refl;
-          left = rw prohibited at here;
-        })
+        search (rules, arith, read-next, here)
 
     -- a line may or must end there
     pub reading-break : (verdict : Verdict) (place : LineBreak) (before' : Before)
@@ -125,8 +119,7 @@ module _ (numbers : Numbers) (rest : List ℕ) (start : ℕ) (first : Before) (o
       → breaks_after numbers first start (chars rest)
       ≡ (if before.is_start then []
       else record { at = start + length rest; is_mandatory = true } ∷ [])
-  reading-end none =
-      sym (rw (read-none h.read none, read-all h.read none) at h.left)
+  reading-end none = search (rules, arith, read-none, read-all)
 
 -- ---- the cuts that are ahead
 
@@ -142,20 +135,10 @@ cuts_ahead numbers before end hyphen (e ∷ es) =
 -- ---- an offset among those of the breaks
 
 none-equal : (s : ℕ) (os : List ℕ) → All (λ o. o ≢ s) os → list_any (λ o. o == s) os ≡ false
-none-equal s os differ = list_any_none (λ o. o == s) os
-    (All-weaker (λ o. o ≢ s) (λ o. (o == s) ≡ false) (λ o. ne_eqb o s) os differ)
-
-any-below : (s : ℕ) (front rest : List ℕ) → All (λ o. o < s) front
-    → list_any (λ o. o == s) (front ++ rest) ≡ list_any (λ o. o == s) rest
-any-below s front rest below = rw (
-  list_any-append (λ o. o == s) front rest,
-  none-equal s front
-      (All-weaker (λ o. o < s) (λ o. o ≢ s) (λ o h e. omega (arith, h, e)) front below),
-) refl
+none-equal s os differ = search (rules, arith, list_any_none, All-weaker, ne_eqb)
 
 any-above : (s : ℕ) (os : List ℕ) → All (λ o. s < o) os → list_any (λ o. o == s) os ≡ false
-any-above s os above = none-equal s os
-    (All-weaker (λ o. s < o) (λ o. o ≢ s) (λ o h e. omega (arith, h, e)) os above)
+any-above s os above = search (rules, arith, none-equal, All-weaker)
 
 -- a break stands at a place among all if the rules say so there
 pub any-here : (v : Verdict) (s : ℕ) (later : List ℕ) → All (λ o. s < o) later
@@ -205,7 +188,7 @@ cut-after : (offsets : List ℕ) (total c s : ℕ) (v : Verdict) (front later : 
     → All (λ o. s < o) later → s < total
     → is_cut_after offsets total c s ≡ not (is_any_hyphen c) && may_end v
 cut-after offsets total c s v front later is below above inside =
-    grind (arith, any-below, any-here, nat_tests)
+    grind (arith, list_any-append, none-equal, All-weaker, any-here, nat_tests)
 
 cuts-first : (offsets : List ℕ) (total : ℕ) (last : VisibleEnd) (es : List VisibleEnd) (b : Bool)
     → is_cut_after offsets total last.character last.shown ≡ b

@@ -1,33 +1,32 @@
 -- A printable text is cut where its bytes say so, also past blanks, and where it is cut as at its
 -- blanks.
-use Rattle.std.proofs.{Common.bit_and, Math.Bool.and-true, lemmas.Str.encode_ascii}
 use Rattle.std.proofs.lemmas.Bool.{agree_below, agree_below_at, not-false, or_parts}
-use Rattle.textwrap_classes.{proofs.Common.◌≤◌, specs.ClassSets.is_quotation}
-use Rattle.textwrap_classes.proofs.Common.{cases_Bool, if◌then◌else◌, is_after_text, slice_index_or}
-use Rattle.textwrap_classes.proofs.Common.{and-false, and_parts, cases_lt, true≢false}
-use Rattle.textwrap_classes.proofs.Common.{class_of, encode, get_or, is_blank, map, unit_of, ℕ}
-use Rattle.textwrap_classes.proofs.Common.{Bool, List, arith, drop, false, inl, length, refl, subst}
-use Rattle.textwrap_classes.proofs.Common.{is_opening, not, suc, true, zero, ◌&&◌, ◌++◌, ◌==◌, ◌||◌}
-use Rattle.textwrap_classes.proofs.Common.{[], ap, inr, is_space, sym, ◌+◌, ◌-◌, ◌<◌, ◌∙◌, ◌∷◌, ◌≡◌}
-use Rattle.textwrap_text.{proofs.Common.get_or-drop, specs.declared.escapes.State.TheVariants.Text}
+use Rattle.std.proofs.{Common.bit_and, Math.Bool.and-true, lemmas.Str.encode_ascii}
+use Rattle.textwrap_classes.proofs.Common.{Bool, List, arith, drop, false, get_or, refl, subst, ◌≤◌}
+use Rattle.textwrap_classes.proofs.Common.{[], ap, inl, map, not, suc, ◌<◌, ◌∙◌, ◌∷◌, ◌≡◌}
+use Rattle.textwrap_classes.proofs.Common.{and-false, and_parts, cases_Bool, cases_lt, true≢false}
+use Rattle.textwrap_classes.proofs.Common.{class_of, encode, is_blank, is_space, length, unit_of, ℕ}
+use Rattle.textwrap_classes.proofs.Common.{if◌then◌else◌, is_after_text, is_opening, slice_index_or}
+use Rattle.textwrap_classes.proofs.Common.{inr, sym, true, zero, ◌&&◌, ◌++◌, ◌+◌, ◌-◌, ◌==◌, ◌||◌}
+use Rattle.textwrap_text.proofs.Common.{IsPrintable, IsUtf8-from_ascii, chars-IsAscii, trimmed_len}
 use Rattle.textwrap_text.proofs.Common.{IsPrintableByte, false_from_ne_true, is_ascii_alphanumeric}
-use Rattle.textwrap_text.proofs.Common.{add-zero, chars-IsAscii, eqb-true, length-drop, trimmed_len}
-use Rattle.textwrap_text.proofs.Common.{IsPrintable, IsUtf8-from_ascii, Visible, false≢true, is_cut}
+use Rattle.textwrap_text.proofs.Common.{Visible, is_cut, rules}
+use Rattle.textwrap_text.proofs.Common.{add-zero, eqb-true, false≢true, get_or-drop, length-drop}
 use Rattle.textwrap_text.proofs.Units.Reading.{printable-ascii, units-printable}
-use Rattle.textwrap_unicode.proofs.Common.{ByPairs, class_past_blanks, is_any_hyphen, printable_cut}
-use Rattle.textwrap_unicode.proofs.Common.{before_of, cut_here, is_unusual, not-true, unicode_cuts}
-use Rattle.textwrap_unicode.proofs.Common.{Before, IsUsual, and, decide, may_end, nothing, ◌↔◌}
+use Rattle.textwrap_unicode.proofs.Common.{Before, ByPairs, decide, is_any_hyphen, is_unusual}
+use Rattle.textwrap_unicode.proofs.Common.{IsUsual, and, before_of, cut_here, may_end, unicode_cuts}
+use Rattle.textwrap_unicode.proofs.Common.{class_past_blanks, not-true, nothing, printable_cut, ◌↔◌}
 use Rattle.textwrap_unicode.proofs.CutLemmas.{IsCutting-start, cuts_ahead, place-found}
-use Rattle.textwrap_unicode.proofs.PrintableBytes.{IsBehind, class-space, past-more, unusual-space}
-use Rattle.textwrap_unicode.proofs.PrintableBytes.{byte-first, cut-behind, past-among, past-blank}
-use Rattle.textwrap_unicode.proofs.PrintableBytes.{byte-step, past-byte, space-at, unusual_bits}
-use Rattle.textwrap_unicode.specs.Pairs.{IsCutAtBlanks, at_breaks, is_cut_behind, may_follow_blanks}
+use Rattle.textwrap_unicode.proofs.PrintableBytes.{IsBehind, byte-first, class-space, space-at}
+use Rattle.textwrap_unicode.proofs.PrintableBytes.{byte-step, past-blank, past-more, unusual-space}
+use Rattle.textwrap_unicode.proofs.PrintableBytes.{cut-behind, past-among, past-byte, unusual_bits}
+use Rattle.textwrap_unicode.specs.Pairs.{IsCutAtBlanks, at_breaks, may_follow_blanks}
 use Rattle.textwrap_unicode.specs.declared.pairs.TheConstants.{KINDS, UNUSUAL_AFTER}
-use Rattle.textwrap_words.{proofs.Word.Offsets.ends_in, specs.PieceCuts.parts_by}
 use Rattle.textwrap_words.proofs.Common.{ends_from, parts_between, word_of, words_of}
-use Rattle.textwrap_words.proofs.Word.Parts.{byte-inside, parts-chunks, parts_between-places}
-use Rattle.textwrap_words.proofs.Word.Parts.{byte-here, bytes-after, parts-same, places_by}
+use Rattle.textwrap_words.proofs.Word.Parts.{byte-here, byte-inside, parts-same, places_by}
+use Rattle.textwrap_words.proofs.Word.Parts.{bytes-after, parts-chunks, parts_between-places}
 use Rattle.textwrap_words.proofs.Word.Texts.{final_blanks-blank, trimmed-other}
+use Rattle.textwrap_words.specs.PieceCuts.{parts_by}
 use Rattle.unicode.specs.declared.properties.LineBreak.{LineBreak, TheVariants.OpenPunctuation}
 
 -- ---- a printable text is cut where its bytes say so
@@ -40,8 +39,7 @@ module _ (text : List ℕ) (printable : IsPrintable text) where
   cut = printable_cut text
 
   byte-at : (n b : ℕ) (rest : List ℕ) → drop n text ≡ b ∷ rest → IsPrintableByte b
-  byte-at n b rest is = subst IsPrintableByte (byte-here text n b rest is)
-      (printable n 0 (byte-inside text n b rest is))
+  byte-at n b rest is = search (rules, arith, byte-here, byte-inside)
 
   cut-is : (n b c : ℕ) (before : Before) → IsBehind (past (n + 1)) (class_of b) before
       → get_or text n 0 ≡ b → get_or text (n + 1) 0 ≡ c
@@ -113,11 +111,7 @@ module _ (text : List ℕ) (printable : IsPrintable text) where
 
   -- its words are the parts between its cuts
   pub parts-cut : parts_between (unicode_cuts text) text ≡ parts_by (at_breaks text) 0 text
-  parts-cut =
-      ap (λ cuts. parts_between cuts text) (cuts-places text printable)
-      ∙ parts_between-places (printable_cut text) text
-      ∙ parts-same (printable_cut text) (at_breaks text) text 0
-      (λ k start inside. sym (breaks-cut text printable k start (omega (arith, inside))))
+  parts-cut = search (rules, arith, cuts-places, parts_between-places, parts-same, breaks-cut)
 
 -- ---- places where it is cut as at its blanks, told from two bytes
 
@@ -189,24 +183,15 @@ module _ (text : List ℕ) (printable : IsPrintable text) where
         → is_unusual before after ≡ false → IsUsual text place
     usual_pair usual none = grind (arith, cases_Bool, usual-blank, usual-word)
 
-    cut-usual : is_blank after ≡ false → at_breaks text place ≡ is_blank before
-        → IsUsual text place
-    cut-usual other cut = grind (arith, space-at, and-true, and-false)
-
     -- before a byte that is no blank
     pub usual-cut : is_blank after ≡ false
         → (at_breaks text place ≡ is_blank before) ↔ IsUsual text place
-    usual-cut other =
-        (cut-usual other, λ usual. usual.cut ∙ (rw other (and-true (is_blank before))))
+    usual-cut other = grind (arith, space-at, and-true, and-false)
 
     -- nothing unusual is a blank
     pub unusual_blank : is_blank after ≡ true → is_unusual before after ≡ true
         → IsUsual text place → ⊥
-    unusual_blank blank is usual =
-        let first = printable (place - 1) 0 (omega (arith, start, inside)) in
-        let opens = sym (unusual-space before after first (printable place 0 inside) blank) ∙ is in
-        true≢false (sym opens ∙ and-first _ _ (space-at text printable place inside ∙ blank)
-        usual.unopened)
+    unusual_blank blank is usual = search (rules, arith, unusual-space, and-first, space-at)
 
     -- which printable bytes stand on either side of a cut
     module _ (is : at_breaks text place ≡ true) where
@@ -240,8 +225,7 @@ module _ (text : List ℕ) (printable : IsPrintable text) where
       → ((k : ℕ) → from ≤ k → k < from + n
       → is_unusual (get_or text (k - 1) 0) (get_or text k 0) ≡ false)
       → (k : ℕ) → 0 < k → k < from + n → IsUsual text k
-  usual-run from zero start within usual none = λ k some below.
-      usual k some (omega (arith, below))
+  usual-run from zero start within usual none = search (rules, arith)
   usual-run from (suc n) start within usual none =
       let before = usual-run from n start (omega (arith, within)) usual
       (λ k at below. none k at (omega (arith, below))) in
@@ -312,8 +296,7 @@ module _ (text : List ℕ) (h : IsCutAtBlanks text) where
       grind (arith, cases_Bool, on, other, space, and-false)
 
   pub all-usual : (k : ℕ) → 0 < k → k < trimmed_len text → IsUsual text k
-  all-usual k start below =
-      record { cut = h.cuts k start (within k below); unopened = closed k start below }
+  all-usual k start below = search (rules, arith, within, closed)
 
 -- ---- a printable text that is cut at its blanks alone has the words between these
 

@@ -1,29 +1,28 @@
 -- The sets of classes, what the rules come to after each class and after given characters, and
 -- places for which few of them are needed.
-use Rattle.std.proofs.lemmas.Bool.{and_left, cond-false, cond-true, or_parts, true_from_ne_false}
-use Rattle.std.proofs.lemmas.Bool.{or_left}
-use Rattle.textwrap_classes.proofs.Common.{cases_Bool, if◌then◌else◌, is_after_text, takes_no_mark}
-use Rattle.textwrap_classes.proofs.Common.{and-false, and_from, class_of, is_opening, is_space, not}
+use Rattle.std.proofs.lemmas.Bool.{and_left, cond-false, or_left, or_parts, true_from_ne_false}
 use Rattle.textwrap_classes.proofs.Common.{Bool, List, arith, false, is_mark, refl, true, unit_of}
-use Rattle.textwrap_classes.proofs.Common.{[], ap, sym, ℕ, ◌&&◌, ◌++◌, ◌||◌, ◌∙◌, ◌∷◌, ◌≡◌, ◌≢◌}
+use Rattle.textwrap_classes.proofs.Common.{[], ap, not, ℕ, ◌&&◌, ◌++◌, ◌||◌, ◌∙◌, ◌∷◌, ◌≡◌, ◌≢◌}
+use Rattle.textwrap_classes.proofs.Common.{and-false, and_from, cases_Bool, class_of, is_space, sym}
+use Rattle.textwrap_classes.proofs.Common.{if◌then◌else◌, is_after_text, is_opening, takes_no_mark}
 use Rattle.textwrap_classes.specs.ClassSets.{breaks_on_both_sides, is_line_end, is_zero_width_space}
 use Rattle.textwrap_classes.specs.ClassSets.{is_carriage_return, is_closing, is_quotation}
 use Rattle.textwrap_classes.specs.declared.classes.Unit.{Unit}
 use Rattle.textwrap_text.proofs.Common.{◌⊎◌}
-use Rattle.textwrap_unicode.{proofs.Common.decide, proofs.Common.is_kept, specs.Laws.ends_line}
-use Rattle.textwrap_unicode.proofs.{Common.◌↔◌, TextBreaks.not-empty, TextBreaks.text_of-push}
 use Rattle.textwrap_unicode.proofs.Common.{Allowed, Mandatory, Prohibited, numbers_rule, verdict_by}
 use Rattle.textwrap_unicode.proofs.Common.{Before, Numbers, Verdict, before_of, decide_by, not-true}
+use Rattle.textwrap_unicode.proofs.Common.{decide, ◌↔◌}
+use Rattle.textwrap_unicode.proofs.TextBreaks.{not-empty, text_of-push}
 use Rattle.textwrap_unicode.specs.Before.{as_letter, class_past_spaces, first_class, takes_marks}
-use Rattle.textwrap_unicode.specs.Before.{Text, text_of, with_unit}
-use Rattle.textwrap_unicode.specs.Rules.{Rule, Saying, first_said, is_glued, lb4, lb8, lb9, rules}
+use Rattle.textwrap_unicode.specs.Rules.{Rule, Saying, first_said, lb4, lb8, lb9, rules}
+use Rattle.textwrap_unicode.specs.{Before.Text, Before.text_of, Before.with_unit, Laws.ends_line}
 use Rattle.unicode.proofs.BreaksComputing.{ucd_breaks}
-use Rattle.unicode.specs.declared.properties.LineBreak.{LineBreak}
-use Rattle.unicode.specs.declared.properties.LineBreak.TheVariants.{ClosePunctuation, CombiningMark}
-use Rattle.unicode.specs.declared.properties.LineBreak.TheVariants.{CarriageReturn, MandatoryBreak}
-use Rattle.unicode.specs.declared.properties.LineBreak.TheVariants.{HebrewLetter, Ideographic, Zwj}
 use Rattle.unicode.specs.declared.properties.LineBreak.TheVariants.{Alphabetic, LineFeed, NextLine}
+use Rattle.unicode.specs.declared.properties.LineBreak.TheVariants.{CarriageReturn, MandatoryBreak}
+use Rattle.unicode.specs.declared.properties.LineBreak.TheVariants.{ClosePunctuation, CombiningMark}
 use Rattle.unicode.specs.declared.properties.LineBreak.TheVariants.{H2, H3, Numeric, Space, ZWSpace}
+use Rattle.unicode.specs.declared.properties.LineBreak.TheVariants.{HebrewLetter, Ideographic, Zwj}
+use Rattle.unicode.specs.declared.properties.LineBreak.{LineBreak}
 
 -- ---- classes
 
@@ -129,20 +128,12 @@ module _ (numbers : Rule) (before : Before) (next : Unit) (some : before.is_star
 
   pub decide-marked : lb4 before next ≡ false → lb8 before next ≡ false → lb9 before next ≡ true
       → decide_by numbers before next ≡ Prohibited
-  decide-marked free after marked =
-      rw (some, free, after, marked)
-      (prohibited-or (is_kept before next) _ (prohibited-or before.is_joined _ refl))
-
-  glued-closing : is_after_text next.class ≡ true → is_glued before next ≡ true
-  glued-closing closing = grind (arith, or_left)
+  decide-marked free after marked = search (rules, arith, prohibited-or)
 
   pub decide-closing : lb4 before next ≡ false → lb8 before next ≡ false
       → is_after_text next.class ≡ true → decide_by numbers before next ≡ Prohibited
   decide-closing free after closing =
-      let glued : is_glued before (as_letter next) ≡ true =
-      rw (same-letter next (closing-mark next.class closing)) (glued-closing closing) in
-      rw (some, free, after, glued) (prohibited-or (is_kept before next) _
-      (prohibited-or before.is_joined _ (prohibited-or (lb9 before next) _ refl)))
+      search (rules, arith, same-letter, closing-mark, or_left, prohibited-or)
 
 -- ---- after a character
 
@@ -180,8 +171,7 @@ module _ (numbers : Numbers) (front back : List ℕ) (c : ℕ) where
 
   pub kept-after : (next : ℕ) → ends_line c next ≡ false → takes_no_mark (class_of next) ≡ true
       → verdict_by numbers (front ++ c ∷ []) next back ≡ Prohibited
-  kept-after next free kept =
-      rw (after-started, after-ends next ∙ free, sym (takes-is (class_of next)) ∙ kept) refl
+  kept-after next free kept = search (rules, arith, after-started, after-ends, takes-is)
 
   pub closing-after : (next : ℕ) → ends_line c next ≡ false
       → is_zero_width_space (class_past_spaces (text_of (front ++ c ∷ [])).units) ≡ false
@@ -216,9 +206,7 @@ feeds-end numbers front back next = (must-after numbers front back 0x0A next).1 
 
 pub return-kept : (numbers : Numbers) (front back : List ℕ)
     → verdict_by numbers (front ++ 0x0D ∷ []) 0x0A back ≡ Prohibited
-return-kept numbers front back =
-    kept-after numbers front back 0x0D 0x0A (rw (return-class, feed-class) refl)
-    (ap takes_no_mark feed-class)
+return-kept numbers front back = search (rules, arith, kept-after, return-class, feed-class)
 
 -- ---- what is left of the rules between known classes
 
@@ -226,12 +214,6 @@ all-forbid : (starts joined glued : Bool) → Prohibited
     ≡ (if starts then Prohibited else if joined then Prohibited
     else if glued then Prohibited else Prohibited)
 all-forbid starts joined glued = grind (arith, cases_Bool)
-
-none-forbids : (zero quoted closed both : Bool) → Allowed
-    ≡ (if zero then Allowed
-    else if (quoted && false) || (closed && false) || (both && false) then Prohibited
-    else Allowed)
-none-forbids zero quoted closed both = grind (arith, cases_Bool, and-false)
 
 -- LB15 to LB17, before a class of which these rules do not speak
 abbrev unglued : LineBreak → Bool
@@ -241,7 +223,7 @@ unglued past =
 
 none-after : (past : LineBreak) → Allowed
     ≡ (if is_zero_width_space past then Allowed else if unglued past then Prohibited else Allowed)
-none-after past = grind (arith, none-forbids)
+none-after past = grind (arith, cases_Bool, and-false)
 
 -- nothing but the class of the last unit can forbid that a line ends there
 abbrev pub IsFree : Before → Type 0

@@ -1,27 +1,27 @@
 -- The breaks of a text that the definition computes are those that the rules name: one list in
 -- order, and what is said of one place.
-use Rattle.std.{proofs.Math.Seq.take-append_seam, specs.List.Contains, specs.Str.IsCharBoundary}
-use Rattle.std.{proofs.lemmas.List.Sums.fold-append, specs.List.All, specs.List.fold}
-use Rattle.std.proofs.lemmas.{List.Elements.All-get_or, Str.encodes_same, Str.length-le-encodes}
-use Rattle.std.proofs.lemmas.List.{Elements.Contains-append_left, append-nil, append_cancel_left}
-use Rattle.std.proofs.lemmas.List.Elements.{Contains-append_cases, Contains-append_right}
-use Rattle.textwrap_classes.proofs.Common.{append_assoc, cases_Bool, if◌then◌else◌, length-append}
-use Rattle.textwrap_classes.proofs.Common.{IsUtf8, arith, chars, encode, get_or, length, unit_of, ℕ}
+use Rattle.std.proofs.lemmas.List.Elements.{All-get_or, Contains-append_left, Contains-append_right}
+use Rattle.std.proofs.lemmas.List.{Elements.Contains-append_cases, append-nil, append_cancel_left}
+use Rattle.std.proofs.lemmas.{List.Sums.fold-append, Str.encodes_same, Str.length-le-encodes}
+use Rattle.std.specs.List.{All, Contains, fold}
+use Rattle.std.{proofs.Math.Seq.take-append_seam, specs.Str.IsCharBoundary}
 use Rattle.textwrap_classes.proofs.Common.{Bool, List, false, inl, refl, subst, take, true, ◌++◌}
-use Rattle.textwrap_classes.proofs.Common.{[], ap, inr, map, sym, ◌+◌, ◌<◌, ◌∙◌, ◌∷◌, ◌≡◌, ◌≢◌, ◌≤◌}
+use Rattle.textwrap_classes.proofs.Common.{IsUtf8, arith, chars, encode, get_or, length, unit_of, ℕ}
+use Rattle.textwrap_classes.proofs.Common.{[], ap, inr, sym, ◌+◌, ◌<◌, ◌∙◌, ◌∷◌, ◌≡◌, ◌≢◌, ◌≤◌}
+use Rattle.textwrap_classes.proofs.Common.{append_assoc, cases_Bool, if◌then◌else◌, length-append}
 use Rattle.textwrap_classes.specs.declared.classes.Unit.{Unit}
-use Rattle.textwrap_text.proofs.{Common.chars-nil, Common.map-append, Lists.Elements.order-nil}
 use Rattle.textwrap_text.proofs.Common.{IsCharBoundary-from_take, encodes-append, encodes-chars}
+use Rattle.textwrap_text.proofs.Common.{chars-nil, map-append, rules}
+use Rattle.textwrap_text.proofs.Lists.Elements.{IsInOrder, order-cons, order-nil, same-members}
 use Rattle.textwrap_text.proofs.Lists.Elements.{contains-cases, contains-here, contains-nil}
-use Rattle.textwrap_text.proofs.Lists.Elements.{IsInOrder, order-cons, same-members}
 use Rattle.textwrap_text.proofs.Texts.{some-bytes, utf8-front}
-use Rattle.textwrap_unicode.{proofs.Common.nothing, specs.declared.breaks.LineBreak.LineBreak}
-use Rattle.textwrap_unicode.proofs.Common.{Prohibited, breaks_from, numbers_rule, verdict_by, ◌↔◌}
+use Rattle.textwrap_unicode.proofs.Common.{Allowed, Numbers, Verdict, nothing}
 use Rattle.textwrap_unicode.proofs.Common.{Mandatory, before_of, break_at, breaks_by, decide_by}
-use Rattle.textwrap_unicode.proofs.Common.{Allowed, Numbers, Verdict}
+use Rattle.textwrap_unicode.proofs.Common.{Prohibited, breaks_from, numbers_rule, verdict_by, ◌↔◌}
 use Rattle.textwrap_unicode.proofs.CutLemmas.{breaks-above, breaks_after-from}
 use Rattle.textwrap_unicode.specs.Before.{Text, is_empty, text_of, with_unit}
 use Rattle.textwrap_unicode.specs.Breaks.{AreBreaksBy, EndsBy, IsBreakBy, IsEnd, IsPlaceBy}
+use Rattle.textwrap_unicode.specs.declared.breaks.LineBreak.{LineBreak}
 use lib.Utf8.{encodes}
 
 -- ---- a place among the characters that are still to be read
@@ -40,22 +40,18 @@ stays text [] some = some
 stays text (u ∷ units) some = stays (with_unit text u) units (not-empty text u)
 
 pub some-units : (c : ℕ) (cs : List ℕ) → is_empty (text_of (c ∷ cs)).units ≡ false
-some-units c cs =
-    stays (with_unit nothing (unit_of c)) (map unit_of cs) (not-empty nothing (unit_of c))
+some-units c cs = search (rules, arith, stays, not-empty)
 
 -- ---- the breaks that the definition computes are those that the rules name
 
 module _ (numbers : Numbers) where
-  length-push : (front : List ℕ) (c : ℕ)
-      → length (encodes (front ++ c ∷ [])) ≡ length (encodes front) + length (encode c)
-  length-push front c = grind (arith, encodes-append, length-append, append-nil)
-
   -- the breaks after a character
   breaks-after : (front : List ℕ) (c : ℕ) (cs : List ℕ)
       → breaks_from numbers (text_of (front ++ c ∷ [])) (length (encodes (front ++ c ∷ []))) cs
       ≡ breaks_from numbers (with_unit (text_of front) (unit_of c))
       (length (encodes front) + length (encode c)) cs
-  breaks-after front c cs = grind (arith, text_of-push, length-push)
+  breaks-after front c cs =
+      grind (arith, text_of-push, encodes-append, length-append, append-nil)
 
   -- a break after the next character is among those from here
   contains-after : (front : List ℕ) (c : ℕ) (cs : List ℕ) (place : LineBreak)
@@ -91,8 +87,7 @@ module _ (numbers : Numbers) (text : List ℕ) (utf8 : IsUtf8 text) where
   pub place-here : (front : List ℕ) (c : ℕ) (cs : List ℕ) (verdict : Verdict)
       → chars text ≡ front ++ c ∷ cs → verdict_by numbers front c cs ≡ verdict
       → IsPlaceBy numbers text (length (encodes front)) verdict
-  place-here front c cs verdict divided said =
-      record { front = front; next = c; back = cs; divided = divided; offset = refl; said = said }
+  place-here front c cs verdict divided said = search (rules, arith)
 
   ends-here : (front : List ℕ) (c : ℕ) (cs : List ℕ) (verdict : Verdict) (place : LineBreak)
       → chars text ≡ front ++ c ∷ cs → verdict_by numbers front c cs ≡ verdict

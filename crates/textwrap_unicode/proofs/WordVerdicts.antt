@@ -1,26 +1,26 @@
 -- What the rules say behind letters and ideographs, over which a line is read all at once.
 use Rattle.std.{proofs.lemmas.Str.encode_ascii, specs.Char.len_utf8}
-use Rattle.textwrap_classes.{proofs.Common.ℕ, specs.ClassSets.is_infix, specs.ClassSets.is_letter}
-use Rattle.textwrap_classes.{proofs.Common.[], proofs.Common.◌≤◌, specs.declared.classes.Unit.Unit}
-use Rattle.textwrap_classes.proofs.{ClassLemmas.ascii_class, ClassLemmas.ascii_unit, Common.chars}
+use Rattle.textwrap_classes.proofs.Common.{Bool, List, arith, chars, drop, refl, true, zero, ◌&&◌}
 use Rattle.textwrap_classes.proofs.Common.{IsIdeographAt, class_of, ideograph_places, if◌then◌else◌}
 use Rattle.textwrap_classes.proofs.Common.{add-one, append-nil, append_assoc, cases_Bool, nat_tests}
-use Rattle.textwrap_classes.proofs.Common.{ap, arith, encode, get_or, is_space, length, unit_of}
-use Rattle.textwrap_classes.proofs.Common.{Bool, List, drop, false, refl, subst, true, zero, ◌&&◌}
-use Rattle.textwrap_classes.proofs.Common.{suc, sym, ◌*◌, ◌++◌, ◌+◌, ◌<◌, ◌==◌, ◌||◌, ◌∙◌, ◌∷◌, ◌≡◌}
+use Rattle.textwrap_classes.proofs.Common.{encode, false, get_or, is_space, length, subst, unit_of}
+use Rattle.textwrap_classes.proofs.Common.{suc, sym, ◌*◌, ◌++◌, ◌+◌, ◌<◌, ◌==◌, ◌||◌, ◌∙◌, ◌∷◌, ◌≤◌}
+use Rattle.textwrap_classes.proofs.{ClassLemmas.ascii_class, ClassLemmas.ascii_unit, Common.[]}
 use Rattle.textwrap_classes.specs.Ideographs.{IsCommonIdeograph, wide_ideograph}
-use Rattle.textwrap_text.proofs.{Common.drop-drop, Common.eqb, Units.Reading.plain-step}
-use Rattle.textwrap_text.proofs.Common.{add-zero, drop_more, length-encode, visible_in}
+use Rattle.textwrap_classes.{proofs.Common.ap, proofs.Common.◌≡◌, specs.declared.classes.Unit.Unit}
+use Rattle.textwrap_classes.{proofs.Common.ℕ, specs.ClassSets.is_infix, specs.ClassSets.is_letter}
+use Rattle.textwrap_text.proofs.Common.{add-zero, drop-drop, drop_more, length-encode, visible_in}
+use Rattle.textwrap_text.proofs.{Common.eqb, Common.rules, Units.Reading.plain-step}
 use Rattle.textwrap_text.specs.declared.escapes.State.{State, TheVariants.Text}
-use Rattle.textwrap_unicode.proofs.Common.{Prohibited, and, and_words, is_any_hyphen, numbers_rule}
-use Rattle.textwrap_unicode.proofs.Common.{Before, ByPairs, Numbers, cut_here, decide_by, may_end}
+use Rattle.textwrap_unicode.proofs.Common.{Before, ByPairs, Numbers, and_words, cut_here, may_end}
+use Rattle.textwrap_unicode.proofs.Common.{Prohibited, and, decide_by, is_any_hyphen, numbers_rule}
 use Rattle.textwrap_unicode.proofs.CutLemmas.{IsCutting, IsCutting-step}
 use Rattle.textwrap_unicode.specs.Pairs.{behind_classes}
 use Rattle.textwrap_unicode.specs.WordStarts.{IsPlainLetter, is_behind_blank, is_behind_sign}
 use Rattle.textwrap_unicode.specs.WordStarts.{IsWordByte, IsWordClass, plain_letter, word_starts}
 use Rattle.textwrap_unicode.specs.declared.numbers.Numbers.TheVariants.{ByExpression}
-use Rattle.unicode.specs.declared.properties.LineBreak.{LineBreak, TheVariants.InfixNumeric}
-use Rattle.unicode.specs.declared.properties.LineBreak.TheVariants.{Alphabetic, Ideographic, Space}
+use Rattle.unicode.specs.declared.properties.LineBreak.TheVariants.{Alphabetic, Ideographic}
+use Rattle.unicode.specs.declared.properties.LineBreak.{LineBreak}
 
 -- ---- letters behind a letter, which are passed all at once
 
@@ -37,8 +37,7 @@ one-letter at bytes n letter blank sign = grind (arith, append-nil)
 pub letters-same : (at : ℕ) (bytes : List ℕ) (n k : ℕ)
     → (0 < k → (is_behind_blank bytes n ≡ false) × (is_behind_sign bytes n ≡ false))
     → ((j : ℕ) → j < k → IsPlainLetter (get_or bytes (n + j) 0)) → IsSame at bytes n (n + k)
-letters-same at bytes n zero plain letters =
-    rw (add-zero n) (record { blank = refl; sign = refl; starts = refl })
+letters-same at bytes n zero plain letters = search (rules, arith, add-zero)
 letters-same at bytes n (suc k) plain letters =
     let (blank, sign) = plain (omega arith) in
     let h = letters-same at bytes n k (λ _. (blank, sign)) (λ j below. letters j (omega (arith, below))) in

@@ -9,7 +9,7 @@ use Rattle.textwrap_uses.proofs.Common.{AreLaterCuts, List, append_assoc, begins
 use Rattle.textwrap_uses.proofs.Common.{IsDivision, WordText, get_or-drop, length-drop, slice_range}
 use Rattle.textwrap_uses.proofs.Common.{IsNextEnd, [], drop-drop, lines_from, points_for, points_in}
 use Rattle.textwrap_uses.proofs.Common.{AreEnds, AreNext, IsUtf8, arith, tile_of, word_of, words_of}
-use Rattle.textwrap_uses.proofs.Common.{chunks, drop, flat, get_or, length, refl, take, tiled, ◌++◌}
+use Rattle.textwrap_uses.proofs.Common.{chunks, drop, flat, get_or, length, refl, tiled, ◌++◌}
 use Rattle.textwrap_uses.proofs.Common.{All, ap, map, sym, ℕ, ◌+◌, ◌-◌, ◌<◌, ◌∙◌, ◌∷◌, ◌≡◌, ◌≤◌}
 
 -- ---- a part that stands in a list, and the places of one that stands in a text

@@ -1,2 +1,3 @@
 mod Common
 pub mod Dictionary
+pub mod Fitted

@@ -1,3 +1,4 @@
 pub mod Help
 pub mod Hyphens
+pub mod Styled
 pub mod Tables

@@ -3,12 +3,13 @@ ghost use Rattle.std.specs.Prelude.{◌≡◌, codes, map, string_bytes, IfOk};
 ghost use Rattle.textwrap.specs.Filling.{IsFilledBy};
 ghost use Rattle.textwrap.specs.Options.{settings_at, default_algorithm};
 ghost use Rattle.textwrap_display.specs.Tables.{IsTableOf, texts_in};
-ghost use Rattle.textwrap_uses.specs.Help.{help_columns, help_gaps};
+ghost use Rattle.textwrap_uses.specs.Help.{help_columns, help_gaps, IsFittedHelp};
 ghost use Rattle.textwrap.specs.Errors.{OnlyMemoryRunsOut};
 
 use std::alloc::Global;
 use textwrap::{Options, WrapError, fill};
-use textwrap_display::{Alignment, Column, Gaps, table};
+use textwrap_display::laws::{fitting_widths_add_up, table_rows_are_even};
+use textwrap_display::{Alignment, Column, Gaps, Need, fitting_widths, needs_of, table};
 
 /// The help of a flag: the flag, and beside it the text, filled at the width. Later lines are
 /// indented by eight blanks.
@@ -62,4 +63,38 @@ pub fn help_rows(
     };
     let rows = table(alloc, entries, &columns, &gaps)?;
     Ok(rows)
+}
+
+/// The same, where the flags are as wide as the widest of them if the words of the texts have room
+/// beside them, and the rows no wider than what stands in them.
+///
+/// At 60 columns `-h`, `Print this help.`, `--width N` and `Wrap at N columns.` have the rows
+/// `  -h         Print this help.` and `  --width N  Wrap at N columns.`; at 20 the texts become
+/// narrower, and the flags stay.
+pub fn fitted_help_rows(
+    alloc: Global,
+    entries: &[&str],
+    width: usize,
+) -> Result<Vec<String>, WrapError>
+    // The widths add up, and the rows are a table of columns of these widths. All rows are as wide as
+    // one another, if no line is wider than its column and its escape sequences end in it.
+    ensures table { IfOk result (λ rows. IsFittedHelp width (texts_in entries.now)
+        (map string_bytes rows.items)) }
+    ensures only_memory { OnlyMemoryRunsOut result }
+{
+    fitting_widths_add_up();
+    table_rows_are_even();
+    let needs = needs_of(alloc, entries, 2)?;
+    let (flags, texts) = (needs[0].most, needs[1]);
+    let needs = [
+        Need {
+            least: flags,
+            most: flags,
+        },
+        texts,
+    ];
+    let lines = flags.saturating_add(texts.least.max(texts.most));
+    let total = width.saturating_sub(4).min(lines);
+    let widths = fitting_widths(alloc, total, &needs)?;
+    help_rows(alloc, entries, widths[0], total + 4)
 }

@@ -1,6 +1,6 @@
 //! Callers of `textwrap`, with contracts that rest on the library's. They show how the library is
 //! called, and that its contracts suffice: but for `hyphens`, which stands between its steps, none of
-//! them names a crate below it. `help` calls `textwrap_display` too.
+//! them names a crate below it. `help` and `styled` call `textwrap_display` too.
 #![tactic(auto)]
 
 pub mod checking;
@@ -15,4 +15,5 @@ pub mod notes;
 pub mod paths;
 pub mod scripts;
 pub mod sentences;
+pub mod styled;
 pub mod tables;

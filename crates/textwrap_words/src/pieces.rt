@@ -184,17 +184,10 @@ pub(crate) fn letters_len(text: &[u8], at: usize, most: usize) -> usize
 {
     let last = text.len().min(at.saturating_add(most));
     let mut end = at;
-    while end < last && is_letter(text[end]) {
+    while end < last && text[end] > b' ' && text[end] <= b'~' && text[end] != b'-' {
         end += 1;
     }
     end - at
-}
-
-/// Whether a byte is printable ASCII, and neither a blank nor a hyphen.
-fn is_letter(byte: u8) -> bool
-    ensures { result ≡ true → IsLetter byte }
-{
-    byte > b' ' && byte <= b'~' && byte != b'-'
 }
 
 /// Whether a text is split at a place, after a hyphen.

@@ -54,9 +54,7 @@ greedy_lines width part = grown sizes_of width width (words_of part) []
 pub lines-greedy : (width : ℕ) (part : List ℕ)
     → IsGreedy sizes_of (width ∷ []) (words_of part) (greedy_lines width part)
 unfolding greedy_lines
-lines-greedy width part =
-    grown-greedy sizes_of width (width ∷ []) (λ n. line_width-one width (n + 1)) width
-    (line_width-one width 0) (words_of part)
+lines-greedy width part = search (rules, arith, grown-greedy, line_width-one)
 
 pub lines-broken : (width : ℕ) (part : List ℕ) → IsBroken part (greedy_lines width part)
 lines-broken width part =
@@ -88,9 +86,7 @@ places_of width start parts = breaks_from start (map (greedy_lines width) parts)
 pub filled-is : (width : ℕ) (text filled : List ℕ) → IsFilledInPlace width text filled
     → filled ≡ feed_joined (flat_map (part_lines width) (paragraphs_of LF text))
 filled-is width text filled (divisions, divided, is) =
-    is ∙ ap feed_joined (ap (flat_map broken_lines)
-    (divided_one width (paragraphs_of LF text) divisions divided)
-    ∙ flat_map-map broken_lines (greedy_lines width) (paragraphs_of LF text))
+    search (rules, arith, divided_one, flat_map-map, greedy_lines)
 
 join-append : (separator : List ℕ) (xs ys : List (List ℕ)) → 0 < length xs → 0 < length ys
     → join_with separator (xs ++ ys)
@@ -127,8 +123,7 @@ pub HasBreaks-end : (width : ℕ) (text breaks : List ℕ) (start : ℕ)
     → (all : List (List (List WordText))) × AreDividedAt width (paragraphs_of LF text) all
     × (breaks ≡ breaks_from 0 all)
 HasBreaks-end width text breaks start so_far =
-    let parts = paragraphs_of LF text in
-    (map (greedy_lines width) parts, are_divided width parts, sym (append-nil breaks) ∙ so_far)
+    search (rules, arith, greedy_lines, are_divided, append-nil)
 
 -- the bytes of a part and of what follows its line feed
 pub bytes_left-split : (rest part : List ℕ) (after : Option (Bor (List ℕ)))
@@ -142,12 +137,8 @@ bytes_left-split rest part (Some more) is =
     ∙ join_with-cons (line_feed ∷ []) part (paragraphs_of LF more.now)
     (parts_past-some (line_feed ∷ []) 0 more.now)
     ∙ ap (λ l. (part ++ line_feed ∷ []) ++ l) (join-paragraphs_of LF more.now) in
-    omega (
-      arith,
-      ap length whole,
-      length-append (part ++ line_feed ∷ []) more.now,
-      length_push part line_feed,
-    )
+    let size = length-append (part ++ line_feed ∷ []) more.now in
+    omega (arith, ap length whole, size, length_push part line_feed)
 
 -- ---- blanks become line feeds in their places
 
@@ -175,12 +166,7 @@ feeds-none start text = record {
 
 feeds-one : (start place : ℕ) → start ≡ place
     → Feeds start (blank ∷ []) (place ∷ []) (line_feed ∷ [])
-feeds-one start place is = record {
-  changes = (inr (refl, refl), tt);
-  within = All-cons (λ p. p < start + 1) place [] (omega (arith, is)) (All-nil (λ p. p < start + 1));
-  puts = λ before after more len.
-      ap (with_line_feeds more) (set_at before blank after line_feed place (len ∙ is));
-}
+feeds-one start place is = search (rules, arith, All-cons, All-nil, set_at)
 
 changes-append : (old new others more : List ℕ) → AllZip IsChange old new
     → AllZip IsChange others more → AllZip IsChange (old ++ others) (new ++ more)
@@ -205,13 +191,9 @@ module _ {start next : ℕ} {old places new others further more : List ℕ}
             (λ p less. omega (arith, less, len, at)) further second.within);
         puts = λ before after rest begin.
             let here = first.puts before (others ++ after) (further ++ rest) begin in
-            let past : length (before ++ new) ≡ next = omega (
-              arith,
-              length-append before new,
-              length_all_zip IsChange old new first.changes,
-              begin,
-              at,
-            ) in
+            let same = length_all_zip IsChange old new first.changes in
+            let past : length (before ++ new) ≡ next =
+            omega (arith, length-append before new, same, begin, at) in
             let there = second.puts (before ++ new) after rest past in
             simp append_assoc (here ∙ (simp append_assoc at there));
       }
@@ -220,9 +202,7 @@ module _ {start next : ℕ} {old places new others further more : List ℕ}
 feeds-part : (start : ℕ) (lines : List (List WordText)) → AreLinesApart lines
     → Feeds start (tiled (flat lines)) (breaks_of start lines) (feed_joined (broken_lines lines))
 feeds-part start [] apart = feeds-none start []
-feeds-part start (line ∷ []) words =
-    subst (λ l. Feeds start l [] (tiled line)) (sym (ap tiled (append-nil line)))
-    (feeds-none start (tiled line))
+feeds-part start (line ∷ []) words = search (rules, arith, append-nil, feeds-none)
 feeds-part start (line ∷ next ∷ lines) (words, ending, apart) =
     let text = shortened (tiled line) in
     let end = start + length (tiled line) in
@@ -256,11 +236,8 @@ feeds-parts width start (part ∷ next ∷ parts) =
     let row = feed_joined (part_lines width part) in
     let rows = flat_map (part_lines width) (next ∷ parts) in
     let past = start + length (tiled (flat lines)) + 1 in
-    let more : 0 < length rows = omega (
-      arith,
-      lines-some width next,
-      length-append (part_lines width next) (flat_map (part_lines width) parts),
-    ) in
+    let size = length-append (part_lines width next) (flat_map (part_lines width) parts) in
+    let more : 0 < length rows = omega (arith, lines-some width next, size) in
     let first = feeds-append (feeds-lines width start part)
     (feeds-none (start + length part) (line_feed ∷ [])) refl in
     let all = feeds-append (rw append-nil at first) (feeds-parts width past (next ∷ parts))

@@ -5,34 +5,32 @@ use Rattle.textwrap.proofs.Common.{IsFilledInPlace, parts_past-some, line_width-
 use Rattle.textwrap.proofs.Common.{tiled-words_of, AreLinesApart, greedy_unique, length-append, All}
 use Rattle.textwrap.proofs.Common.{paragraphs_of, append_assoc, broken_lines, common_steps, All-nil}
 use Rattle.textwrap.proofs.Common.{ending_bytes, grown-greedy, tiled-append, words_unique, All-head}
-use Rattle.textwrap.proofs.Common.{FitsOneLine, length_push, split-whole, AreWordsOf}
-use Rattle.textwrap.proofs.Common.{append-nil, map-append, parts_from, AreGroups, DividesAs, Greedy}
-use Rattle.textwrap.proofs.Common.{LineParts, and_parts, breaks_of, indent_of, join_with, line_from}
-use Rattle.textwrap.proofs.Common.{shortened, widths_of, All-tail, IsGreedy, WordText, flat_map, LF}
-use Rattle.textwrap.proofs.Common.{is_whole, parts_of, sizes_of, words_of, covered, tile_of, IsUtf8}
-use Rattle.textwrap.proofs.Common.{word_of, chunks, length, Slice, Whole, arith, blank, false, Bool}
-use Rattle.textwrap.proofs.Common.{grown, rules, subst, tiled, Line, List, flat, refl, true, ◌++◌}
-use Rattle.textwrap.proofs.Common.{map, suc, sym, ◌+◌, ◌-◌, ◌<◌, ◌∙◌, ◌∷◌, ◌≡◌, ◌≢◌, ◌≤◌, [], ap, ℕ}
-use Rattle.textwrap_text.proofs.Common.{without_final_blanks, reverse-append, take-append-le, ◌||◌}
-use Rattle.textwrap_text.proofs.Common.{All-append, ltb-true, All-map, nat_lt}
-use Rattle.textwrap_base.proofs.Common.{closed_width, line_width, open_width, Fits}
-use Rattle.textwrap_layout.proofs.Common.{AreTextLines, pieces_of}
+use Rattle.textwrap.proofs.Common.{FitsOneLine, length_push, split-whole, AreWordsOf, append-nil, ℕ}
+use Rattle.textwrap.proofs.Common.{map-append, parts_from, AreGroups, DividesAs, LineParts, covered}
+use Rattle.textwrap.proofs.Common.{and_parts, breaks_of, indent_of, join_with, line_from, shortened}
+use Rattle.textwrap.proofs.Common.{widths_of, All-tail, IsGreedy, WordText, flat_map, is_whole, map}
+use Rattle.textwrap.proofs.Common.{parts_of, sizes_of, words_of, tile_of, word_of, Greedy, IsUtf8}
+use Rattle.textwrap.proofs.Common.{chunks, length, Slice, Whole, arith, blank, false, grown, rules}
+use Rattle.textwrap.proofs.Common.{subst, tiled, Bool, Line, List, flat, refl, true, ◌++◌, suc, sym}
+use Rattle.textwrap.proofs.Common.{◌+◌, ◌-◌, ◌<◌, ◌∙◌, ◌∷◌, ◌≡◌, ◌≢◌, ◌≤◌, LF, [], ap}
 use Rattle.textwrap.specs.Laws.{unbroken_at}
-use Rattle.textwrap_base.proofs.Division.Greedy.{closed_width-push, open_width-append}
-use Rattle.textwrap_base.proofs.Division.Greedy.{line_width-two, IsGreedy-same}
-use Rattle.textwrap_text.specs.LineEnding.{Lacks}
-use Rattle.textwrap_layout.proofs.Text.Paragraphs.{paragraphs_of-utf8, paragraphs_one}
 use Rattle.textwrap.proofs.Text.InPlace.{greedy_lines, lines-broken, lines-greedy, join-broken}
 use Rattle.textwrap.proofs.Text.InPlace.{lines-some, part_lines, filled-is}
-use Rattle.textwrap_words.proofs.Word.Words.{HasNoPenalty, tiled-push}
+use Rattle.textwrap_text.proofs.Common.{without_final_blanks, reverse-append, take-append-le, ◌||◌}
+use Rattle.textwrap_text.proofs.Common.{All-append, ltb-true, All-map, nat_lt}
+use Rattle.textwrap_text.specs.LineEnding.{Lacks}
+use Rattle.textwrap_base.proofs.Common.{closed_width, line_width, open_width, Fits}
+use Rattle.textwrap_base.proofs.Division.Greedy.{closed_width-push, open_width-append}
+use Rattle.textwrap_base.proofs.Division.Greedy.{line_width-two, IsGreedy-same}
+use Rattle.textwrap_base.proofs.{Cost.Chosen.IsDividedBy-one_line, Division.Map.IsDivision-whole}
+use Rattle.textwrap_base.proofs.Division.Grown.{prefix-closes, grown-begins, grown-full}
+use Rattle.textwrap_layout.proofs.Common.{AreTextLines, pieces_of}
+use Rattle.textwrap_layout.proofs.Text.Paragraphs.{paragraphs_of-utf8, paragraphs_one}
 use Rattle.textwrap_layout.proofs.Paragraph.LeftOff.{AreParagraphParts-divided, closed-pieces_of}
 use Rattle.textwrap_layout.proofs.Paragraph.LeftOff.{AreParagraphParts-whole, covered-words_of}
 use Rattle.textwrap_layout.proofs.Paragraph.LeftOff.{line_from-pieces, line_from-whole}
-use Rattle.textwrap_layout.proofs.Paragraph.LeftOff.{tiled-word_of}
-use Rattle.textwrap_base.proofs.Cost.Chosen.{IsDividedBy-one_line}
-use Rattle.textwrap_layout.proofs.Paragraph.Pieces.{ArePieces-computed}
-use Rattle.textwrap_base.proofs.Division.Map.{IsDivision-whole}
-use Rattle.textwrap_base.proofs.Division.Grown.{prefix-closes, grown-begins, grown-full}
+use Rattle.textwrap_layout.proofs.Paragraph.{Pieces.ArePieces-computed, LeftOff.tiled-word_of}
+use Rattle.textwrap_words.proofs.Word.Words.{HasNoPenalty, tiled-push}
 
 -- ---- there is one text filled in place, and it has its lines between its line feeds
 
@@ -65,24 +63,17 @@ lacks-lines ending width (part ∷ parts) all =
 lines-least : (width : ℕ) (parts : List (List ℕ))
     → length parts ≤ length (flat_map (part_lines width) parts)
 lines-least width [] = omega arith
-lines-least width (part ∷ parts) = omega (
-  arith,
-  lines-least width parts,
-  lines-some width part,
-  length-append (part_lines width part) (flat_map (part_lines width) parts),
-)
+lines-least width (part ∷ parts) =
+    let size = length-append (part_lines width part) (flat_map (part_lines width) parts) in
+    omega (arith, lines-least width parts, lines-some width part, size)
 
 filled-paragraphs : (width : ℕ) (text filled : List ℕ) → IsFilledInPlace width text filled
     → paragraphs_of LF filled ≡ flat_map (part_lines width) (paragraphs_of LF text)
 filled-paragraphs width text filled is =
     let parts = paragraphs_of LF text in
+    let any = parts_past-some (ending_bytes LF) 0 text in
     sym ((paragraphs_one LF filled (flat_map (part_lines width) parts)).0 (record {
-      some = λ none. omega (
-        arith,
-        lines-least width parts,
-        parts_past-some (ending_bytes LF) 0 text,
-        ap length none,
-      );
+      some = λ none. omega (arith, lines-least width parts, any, ap length none);
       joined = sym (filled-is width text filled is);
       lacking = lacks-lines (ending_bytes LF) width parts
           ((paragraphs_one LF text parts).1 refl).lacking;
@@ -251,8 +242,7 @@ all_fit width (part ∷ parts) few =
 
 pub unchanged-fits : (width : ℕ) (text : List ℕ) → IsFilledInPlace width text text
     → All (FitsOneLine width) (paragraphs_of LF text)
-unchanged-fits width text is = all_fit width (paragraphs_of LF text)
-    (omega (arith, ap length (filled-paragraphs width text text is)))
+unchanged-fits width text is = search (rules, arith, all_fit, filled-paragraphs)
 
 -- ---- the line so far of a part that is filled in place
 
@@ -322,12 +312,9 @@ module _ {width start : ℕ} {part old breaks : List ℕ} {begin end taken : ℕ
         plain = All-tail IsPlain x left has.plain;
         room = passed len len_is;
         places = search (rules, append_assoc, grown-full);
-        whole = λ fits. absurd (omega (
-          arith,
-          full,
-          prefix-closes sizes_of width line x left
-              (subst (λ ws. Fits sizes_of width ws) (sym (has.whole fits)) fits) some,
-        ));
+        whole = λ fits.
+            let all = subst (λ ws. Fits sizes_of width ws) (sym (has.whole fits)) fits in
+            absurd (omega (arith, full, prefix-closes sizes_of width line x left all some));
       }
 
   -- the line takes the word
@@ -335,16 +322,12 @@ module _ {width start : ℕ} {part old breaks : List ℕ} {begin end taken : ℕ
       → (begin < end → taken + x.width ≤ width) → from ≡ begin → len ≡ length (tile_of x)
       → more ≡ taken + (x.width + length x.whitespace) → kept ≡ breaks
       → HasLine width start part old kept from (end + len) more left (line ++ x ∷ [])
-  HasLine-join from len more kept within from_is len_is more_is kept_is = grind (
-    arith,
-    common_steps,
-    closes,
-    tiled-push line x,
-    length-append (tiled line) (tile_of x),
-    open_width-append sizes_of line (x ∷ []),
-    All-tail IsPlain x left has.plain,
-    passed len len_is,
-  )
+  HasLine-join from len more kept within from_is len_is more_is kept_is =
+      let size = length-append (tiled line) (tile_of x) in
+      let width_is = open_width-append sizes_of line (x ∷ []) in
+      let plain = All-tail IsPlain x left has.plain in
+      let room = passed len len_is in
+      grind (arith, common_steps, closes, tiled-push line x, size, width_is, plain, room)
 
   -- a line without bytes has no columns
   pub HasLine-none : end ≤ begin → taken ≡ 0
@@ -356,12 +339,9 @@ module _ {width start : ℕ} {part old breaks : List ℕ} {begin end taken : ℕ
 
   -- where all words fit one line, this one does
   pub HasLine-fits : FitsOneLine width part → begin < end → taken + x.width ≤ width
-  HasLine-fits fits began = omega (
-    arith,
-    closes,
-    prefix-closes sizes_of width line x left
-        (search (rules, arith)) (line_some line (omega (arith, began, has.end_is))),
-  )
+  HasLine-fits fits began =
+      let some = line_some line (omega (arith, began, has.end_is)) in
+      omega (arith, closes, prefix-closes sizes_of width line x left (search (rules, arith)) some)
 
 pub HasLine-end : {width start : ℕ} {part old breaks : List ℕ} {begin end taken : ℕ}
     {left line : List WordText} → HasLine width start part old breaks begin end taken left line

@@ -249,10 +249,8 @@ ended_parts-of (part ∷ next ∷ parts) ((front, lacks, is), all) =
 
 pub ended_parts_one : (text : List ℕ) (parts : List (List ℕ))
     → AreEndedParts text parts ↔ (parts ≡ ended_parts text)
-ended_parts_one text parts = (
-  λ is. sym (ended_parts-of parts is.ended) ∙ ap ended_parts is.joined,
-  λ is. rw is (record { joined = ended_parts-flat text; ended = AreEnded-ended_parts text }),
-)
+ended_parts_one text parts =
+    search (rules, arith, ended_parts-of, ended_parts-flat, AreEnded-ended_parts)
 
 -- ---- blank lines
 
@@ -335,9 +333,7 @@ pub text-removed : (prefix text : List ℕ) → HasNoLineFeed prefix
     → (trim_end prefix ≡ prefix) ⊎ All (λ part. is_blank_line part ≡ false) (ended_parts text)
     → flat_map (drop (length prefix)) (ended_parts (indented prefix text)) ≡ text
 text-removed prefix text free whole =
-    sym (flat-map (drop (length prefix)) (ended_parts (indented prefix text)))
-    ∙ ap (flat_map (λ part. part)) (indents-removed prefix text free whole)
-    ∙ ended_parts-flat text
+    search (rules, arith, flat-map, indents-removed, ended_parts-flat)
 
 -- ---- the parts of an indented text come back when each loses what was put before it
 
@@ -349,10 +345,7 @@ trimmed-scalars (c ∷ cs) are =
 
 trim_end-utf8 : (text : List ℕ) → IsUtf8 text → IsUtf8 (trim_end text)
 unfolding trim_end
-trim_end-utf8 text utf8 = (
-  drop_trailing_whitespace (chars text),
-  (trimmed-scalars (chars text) (scalars-chars text utf8), refl),
-)
+trim_end-utf8 text utf8 = search (rules, arith, trimmed-scalars, scalars-chars)
 
 module _ (prefix : List ℕ) (utf8 : IsUtf8 prefix) where
   abbrev trimmed : List ℕ

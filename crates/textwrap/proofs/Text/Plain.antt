@@ -7,13 +7,13 @@ use Rattle.textwrap.proofs.Common.{All-get_or, All-weaker, LineEnding, map-appen
 use Rattle.textwrap.proofs.Common.{EndedLine, all-right, ends_with, line_feed, map_fixed, All-cons}
 use Rattle.textwrap.proofs.Common.{All-head, All-tail, has_text, take_all, texts_of, blanked, arith}
 use Rattle.textwrap.proofs.Common.{filter, get_or, length, nat_eq, ne_eqb, blank, false, lines, All}
-use Rattle.textwrap.proofs.Common.{rules, subst, cond, drop, refl, take, true, ◌++◌, ◌==◌, ap₂, sym}
-use Rattle.textwrap.proofs.Common.{◌+◌, ◌-◌, ◌<◌, ◌∙◌, ◌∷◌, ◌≡◌, ◌≢◌, LF, [], ap, ℕ}
+use Rattle.textwrap.proofs.Common.{rules, subst, cond, drop, refl, take, true, ◌++◌, ap₂, sym, ◌+◌}
+use Rattle.textwrap.proofs.Common.{◌-◌, ◌<◌, ◌∙◌, ◌∷◌, ◌≡◌, ◌≢◌, LF, [], ap, ℕ}
+use Rattle.textwrap.proofs.Text.InPlace.{blank_joined, feed_joined}
 use Rattle.textwrap_text.proofs.Common.{without_final_blanks, length-take, All-append, lt-ltb, last}
 use Rattle.textwrap_text.proofs.Lists.Parts.{last-append}
-use Rattle.textwrap_words.proofs.Word.Texts.{trimmed-past}
-use Rattle.textwrap.proofs.Text.InPlace.{blank_joined, feed_joined}
 use Rattle.textwrap_text.proofs.TextLines.{ended_lines-front, ended_lines-whole}
+use Rattle.textwrap_words.proofs.Word.Texts.{trimmed-past}
 use Rattle.std.proofs.lemmas.Slice.Eq.{bytes_eq-Decides}
 
 -- ---- what plain lines begin and end with
@@ -81,9 +81,7 @@ unblank-row line is =
 -- ---- blanks in the place of line feeds
 
 blanked-same : (text : List ℕ) → All (λ c. c ≢ line_feed) text → blanked text ≡ text
-blanked-same text none =
-    map_fixed (λ c. cond (c == line_feed) blank c) text
-    (search (rules, arith, All-weaker))
+blanked-same text none = search (rules, arith, map_fixed, All-weaker)
 
 pub blanked-joined : (lines : List (List ℕ)) → All IsPlainLine lines
     → blanked (feed_joined lines) ≡ blank_joined lines
@@ -92,11 +90,8 @@ blanked-joined (line ∷ []) plain =
     blanked-same line (solid line (All-head IsPlainLine line [] plain)).row.no_feed
 blanked-joined (line ∷ next ∷ lines) plain =
     let here = solid line (All-head IsPlainLine line (next ∷ lines) plain) in
-    simp (
-      map-append,
-      blanked-same line here.row.no_feed,
-      blanked-joined (next ∷ lines) (All-tail IsPlainLine line (next ∷ lines) plain),
-    )
+    let rest = blanked-joined (next ∷ lines) (All-tail IsPlainLine line (next ∷ lines) plain) in
+    simp (map-append, blanked-same line here.row.no_feed, rest)
 
 -- ---- the parts of plain lines between blanks
 
@@ -201,16 +196,12 @@ all-text : (es : List EndedLine) → All IsRow (texts_of es)
     → texts_of (filter has_text es) ≡ texts_of es
 all-text [] rows = refl
 all-text (e ∷ es) rows =
-    rw (
-      lt-ltb 0 (length e.line) (All-head IsRow e.line (texts_of es) rows).some,
-      all-text es (All-tail IsRow e.line (texts_of es) rows),
-    )
+    let rest = all-text es (All-tail IsRow e.line (texts_of es) rows) in
+    rw (lt-ltb 0 (length e.line) (All-head IsRow e.line (texts_of es) rows).some, rest)
 
 pub texts-rows : (rows : List (List ℕ)) → All IsRow rows
     → texts_of (nonempty_lines (feed_joined rows)) ≡ rows
-texts-rows rows are =
-    let is = ended-rows rows are in
-    all-text (ended_lines (feed_joined rows)) (subst (All IsRow) (sym is) are) ∙ is
+texts-rows rows are = search (rules, arith, ended-rows, all-text)
 
 -- ---- lines that end in no line feed: joined by line feeds, they keep no ending
 

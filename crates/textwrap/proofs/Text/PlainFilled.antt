@@ -14,21 +14,19 @@ use Rattle.textwrap.proofs.Common.{take_all, words_of, IsPlain, blanked, covered
 use Rattle.textwrap.proofs.Common.{Greedy, chunks, length, Whole, arith, false, lines, rules, subst}
 use Rattle.textwrap.proofs.Common.{tiled, cond, drop, flat, fold, refl, true, ◌++◌, suc, sym, ◌↔◌}
 use Rattle.textwrap.proofs.Common.{◌∙◌, ◌∷◌, ◌≡◌, ◌≢◌, ◌≤◌, [], ap}
-use Rattle.textwrap_text.proofs.Common.{without_final_blanks, MatchBool}
-use Rattle.textwrap_base.proofs.Common.{IsDivision, Sizes}
 use Rattle.textwrap.specs.Laws.{with_indents_as, IsIndentedFill, IsFilledWhole, IsUnindented}
 use Rattle.textwrap.specs.Laws.{KeepsWords, IsIndent}
 use Rattle.textwrap.proofs.Text.Plain.{blanked-joined, plain_parts, unblank-row, keeps-rows, IsRow}
 use Rattle.textwrap.proofs.Text.Plain.{lines-rows, row-append, texts-rows, solid}
-use Rattle.std.proofs.lemmas.List.Sums.{take_while-cons}
 use Rattle.textwrap.proofs.Text.InPlace.{blank_joined, tiled-broken, feed_joined}
+use Rattle.textwrap.proofs.Text.InPlaceLines.{without_final_blanks-push, words-no_penalty}
+use Rattle.textwrap.proofs.Text.{Unfilling.common_len-longest, InPlaceLines.covered-words}
+use Rattle.textwrap_text.proofs.Common.{without_final_blanks, MatchBool}
+use Rattle.textwrap_base.proofs.Common.{IsDivision, Sizes}
+use Rattle.std.proofs.lemmas.List.Sums.{take_while-cons}
 use Rattle.textwrap_layout.proofs.Paragraph.LeftOff.{whole_unindented, assembled-parts}
 use Rattle.textwrap_layout.proofs.Paragraph.LeftOff.{bytes-assembled, line_from-whole}
-use Rattle.textwrap.proofs.Text.InPlaceLines.{without_final_blanks-push, words-no_penalty}
-use Rattle.textwrap.proofs.Text.InPlaceLines.{covered-words}
-use Rattle.textwrap_layout.proofs.Paragraph.Pieces.{ArePieces-is}
-use Rattle.textwrap_layout.proofs.Text.Paragraphs.{one-paragraph}
-use Rattle.textwrap.proofs.Text.Unfilling.{common_len-longest}
+use Rattle.textwrap_layout.proofs.{Text.Paragraphs.one-paragraph, Paragraph.Pieces.ArePieces-is}
 
 -- ---- a line and its indent
 
@@ -100,8 +98,7 @@ unfilled-rows : (initial subsequent joined text : List ℕ) (parts : List (List 
     → (length parts ≡ 0 → initial ≡ []) → (length parts ≤ 1 → subsequent ≡ [])
     → IsUnfilledAs initial subsequent joined text
 unfilled-rows initial subsequent joined text [] first later plain is given some more =
-    rw (is, given, some refl, more (omega arith))
-    (record { initial_is = refl; subsequent_is = refl; joined_is = refl; keeps = refl })
+    search (rules, arith)
 unfilled-rows initial subsequent joined text (line ∷ parts) first later plain is given some more =
     let rows = indented_rows initial subsequent (line ∷ parts) in
     let are = are_rows initial subsequent (line ∷ parts) first later plain in
@@ -174,8 +171,7 @@ module _ (settings : Settings) (keeps : KeepsWords settings) where
       ≡ indented_rows (indent_of settings is_later) settings.subsequent_indent
       (map without_final_blanks (broken_lines lines))
   bytes-broken is_later [] some apart = refl
-  bytes-broken is_later (line ∷ []) some words =
-      ap (λ l. l ∷ []) (bytes-line is_later line words (All-head (λ l. l ≢ []) line [] some))
+  bytes-broken is_later (line ∷ []) some words = search (rules, arith, bytes-line, All-head)
   bytes-broken is_later (line ∷ next ∷ lines) some (words, ending, apart) =
       let here = bytes-line is_later line words (All-head (λ l. l ≢ []) line (next ∷ lines) some) in
       let rest = bytes-broken true (next ∷ lines) (All-tail (λ l. l ≢ []) line (next ∷ lines) some)

@@ -1,14 +1,13 @@
 -- Rows of cells between gaps: one cell more, how many bytes they have, and the text of a line.
+use Rattle.textwrap_text.proofs.Common.{length-take-le, rules}
 use Rattle.textwrap.proofs.Common.{length-replicate, length-append, append_assoc, sum_by-cons, List}
 use Rattle.textwrap.proofs.Common.{get_or-map, length-map, line_bytes, join_with, line_view, get_or}
 use Rattle.textwrap.proofs.Common.{take_more, length, sum_by, arith, refl, take, zero, ◌++◌, map, ℕ}
 use Rattle.textwrap.proofs.Common.{suc, sym, ◌*◌, ◌+◌, ◌-◌, ◌<◌, ◌∙◌, ◌∷◌, ◌≡◌, ◌≤◌, [], ap}
-use Rattle.textwrap_text.proofs.Common.{length-take-le}
-use Rattle.std.proofs.lemmas.List.Sums.{sum_by_more}
-use Rattle.std.specs.Cow.{cow_str_bytes}
-use Rattle.std.specs.declared.borrow.CowStr.{CowStr}
-use Rattle.textwrap_layout.proofs.Text.Lines.{line_bytes-line_view}
 use Rattle.textwrap.specs.Rows.{gap_before, row_text}
+use Rattle.std.proofs.lemmas.List.Sums.{sum_by_more}
+use Rattle.std.specs.{Cow.cow_str_bytes, declared.borrow.CowStr.CowStr}
+use Rattle.textwrap_layout.proofs.Text.Lines.{line_bytes-line_view}
 
 -- a cell after others stands after the gap
 join-last : (middle : List ℕ) (cells : List (List ℕ)) (cell : List ℕ)
@@ -33,13 +32,10 @@ length-join middle (x ∷ []) = omega (arith, sum_by-cons length x [])
 length-join middle (x ∷ y ∷ cells) =
     let one : suc (suc (length cells)) - 1 ≡ suc (length cells) = omega arith in
     let less : suc (length cells) - 1 ≡ length cells = omega arith in
-    simp length-append (omega (
-      arith,
-      sum_by-cons length x (y ∷ cells),
-      length-join middle (y ∷ cells),
-      ap (λ n. n * length middle) one,
-      ap (λ n. n * length middle) less,
-    ))
+    let rest = length-join middle (y ∷ cells) in
+    let more = ap (λ n. n * length middle) one in
+    let same = ap (λ n. n * length middle) less in
+    simp length-append (omega (arith, sum_by-cons length x (y ∷ cells), rest, more, same))
 
 pub length-row : (left middle right : List ℕ) (spare : ℕ) (cells : List (List ℕ))
     → length (row_text left middle spare right cells)
@@ -53,9 +49,7 @@ pub length-alike : (cells : List (List ℕ)) (c count : ℕ) → c + count ≤ l
     → ((i : ℕ) → c ≤ i → i < c + count → get_or cells i [] ≡ get_or cells c [])
     → sum_by length (take (c + count) cells)
     ≡ sum_by length (take c cells) + count * length (get_or cells c [])
-length-alike cells c zero within same =
-    let none : c + 0 ≡ c = omega arith in
-    omega (arith, ap (λ n. sum_by length (take n cells)) none)
+length-alike cells c zero within same = search (rules, arith)
 length-alike cells c (suc count) within same =
     let last : c + suc count ≡ (c + count) + 1 = omega arith in
     omega (

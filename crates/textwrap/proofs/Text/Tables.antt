@@ -3,20 +3,18 @@ use Rattle.textwrap.proofs.Common.{length-replicate, cells_by_column, div_ceil_t
 use Rattle.textwrap.proofs.Common.{range_with_len, text_width-nil, settings_view, DividesUnder, All}
 use Rattle.textwrap.proofs.Common.{KeepsMethods, append_assoc, column_cells, MayOverflow, MayDivide}
 use Rattle.textwrap.proofs.Common.{MaySeparate, inner_width, sum_by-cons, append-nil, cell_parts, ℕ}
-use Rattle.textwrap.proofs.Common.{get_or-map, map-append, text_width, RowLayout, arith}
+use Rattle.textwrap.proofs.Common.{get_or-map, map-append, text_width, column_row, RowLayout, arith}
 use Rattle.textwrap.proofs.Common.{join_with, layout_of, replicate, row_count, row_parts, All-head}
 use Rattle.textwrap.proofs.Common.{All-tail, MaySplit, Settings, WordText, cases_lt, flat_map, Bool}
-use Rattle.textwrap.proofs.Common.{column_row, Options, blanks, get_or, length, padded, sum_by, cells}
-use Rattle.textwrap.proofs.Common.{rules, Line, List, cell, refl, zero, ◌++◌, inl, inr, map, min}
-use Rattle.textwrap.proofs.Common.{suc, sym, ◌*◌, ◌+◌, ◌-◌, ◌<◌, ◌∙◌, ◌∷◌, ◌≡◌, ◌≤◌, [], ap}
+use Rattle.textwrap.proofs.Common.{Options, blanks, get_or, length, padded, sum_by, cells, rules}
+use Rattle.textwrap.proofs.Common.{Line, List, cell, refl, zero, ◌++◌, inl, inr, map, min, suc, sym}
+use Rattle.textwrap.proofs.Common.{◌*◌, ◌+◌, ◌-◌, ◌<◌, ◌∙◌, ◌∷◌, ◌≡◌, ◌≤◌, [], ap}
 use Rattle.textwrap_text.proofs.Common.{flat_map-append, sum_by-append, get_or_past}
+use Rattle.textwrap_text.proofs.{Units.Reading.printable-width, Lists.Elements.range-split}
 use Rattle.textwrap_layout.proofs.Common.{IsDividedInto, AreTextLines, DividesBy}
-use Rattle.textwrap_text.proofs.Lists.Elements.{range-split}
-use Rattle.std.proofs.Math.Nat.{mul-le-mul_right}
-use Rattle.std.proofs.lemmas.List.FromFn.{get_or-map-range_with_len, length-map-range_with_len}
-use Rattle.std.proofs.lemmas.List.FromFn.{fill_by_all}
-use Rattle.textwrap_text.proofs.Units.Reading.{printable-width}
 use Rattle.textwrap_layout.specs.Text.{SomeMayPass64BitsUnder, SomeMayPass64Bits}
+use Rattle.std.proofs.{Math.Nat.mul-le-mul_right, lemmas.List.FromFn.fill_by_all}
+use Rattle.std.proofs.lemmas.List.FromFn.{get_or-map-range_with_len, length-map-range_with_len}
 use Rattle.textwrap_words.specs.declared.wrap_algorithms.WrapAlgorithm.{WrapAlgorithm}
 use Rattle.textwrap_words.specs.declared.word_separators.WordSeparator.{WordSeparator}
 use Rattle.textwrap_words.specs.declared.word_splitters.WordSplitter.{WordSplitter}
@@ -43,10 +41,7 @@ module _ (lines : List (List ℕ)) (rows columns r width : ℕ) where
   -- past the last line all columns show the same
   pub shown-past : (c i : ℕ) → length lines ≤ r + c * rows → c ≤ i → i < columns
       → get_or shown i [] ≡ get_or shown c []
-  shown-past c i past after within =
-      let later : c * rows ≤ i * rows = mul-le-mul_right rows after in
-      shown-at i (length lines) within (omega (arith, later))
-      ∙ sym (shown-at c (length lines) (omega arith) (omega arith))
+  shown-past c i past after within = search (rules, arith, mul-le-mul_right, shown-at)
 
 -- ---- the cells of a table, one column after another
 
@@ -64,11 +59,8 @@ module _ (lines : List (List ℕ)) where
       → lines_at lines 0 (length lines + empty) ≡ lines ++ replicate empty []
   lines-kept empty =
       let from : 0 + length lines ≡ length lines = omega arith in
-      rw (
-        range-split 0 (length lines) empty,
-        map-append,
-        past-empty (0 + length lines) empty (omega (arith, from)),
-      )
+      let past = past-empty (0 + length lines) empty (omega (arith, from)) in
+      rw (range-split 0 (length lines) empty, map-append, past)
       (ap (λ l. l ++ replicate empty [])
       (sym (fill_by_all (λ i. get_or lines i []) lines (length lines) [] refl
       (λ k within. refl))))
@@ -92,15 +84,10 @@ module _ (lines : List (List ℕ)) where
       let start : c * rows + 0 ≡ c * rows = omega arith in
       let next : (c + 1) * rows ≡ c * rows + rows = omega arith in
       let all : rows + count * rows ≡ suc count * rows = omega arith in
-      rw (
-        column-at columns c (omega arith) 0 rows,
-        start,
-        columns-at columns (c + 1) count (omega arith),
-        next,
-        ← all,
-        range-split (c * rows) rows (count * rows),
-        map-append,
-      )
+      let first = column-at columns c (omega arith) 0 rows in
+      let others = columns-at columns (c + 1) count (omega arith) in
+      let parts = range-split (c * rows) rows (count * rows) in
+      rw (first, start, others, next, ← all, parts, map-append)
 
 pub columns_kept : (lines : List (List ℕ)) (columns : ℕ) → 1 ≤ columns
     → (empty : ℕ) × (cells_by_column lines columns ≡ lines ++ replicate empty [])

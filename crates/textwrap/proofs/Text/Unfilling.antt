@@ -8,21 +8,20 @@ use Rattle.textwrap.proofs.Common.{IsCharBoundary, detected_among, nonempty_line
 use Rattle.textwrap.proofs.Common.{common_prefix, settings_view, IsAscii-cons, IsAscii-take, IfSome}
 use Rattle.textwrap.proofs.Common.{added_ending, append_assoc, common_start, common_steps, All-head}
 use Rattle.textwrap.proofs.Common.{ending_bytes, keeps_ending, IsInColumns, joined_text, All-filter}
-use Rattle.textwrap.proofs.Common.{line_prefix, IsRefilled, LineEnding, StartsWith, []}
-use Rattle.textwrap.proofs.Common.{append-nil, prefix_len, text_width, Algorithm, DividesAs, IsUtf8}
-use Rattle.textwrap.proofs.Common.{EndedLine, ends_with, join_with, layout_of, nat_tests, unwrap_or}
-use Rattle.textwrap.proofs.Common.{All-tail, IsFilled, Settings, Splitter, WordText, flat_map, Bool}
-use Rattle.textwrap.proofs.Common.{has_text, texts_of, IsAscii, Options, Option, eq-eqb, filter, ap}
-use Rattle.textwrap.proofs.Common.{get_or, length, nat_eq, arith, blank, false, lines, rules, subst}
-use Rattle.textwrap.proofs.Common.{CRLF, List, None, Some, cond, drop, fold, refl, take, true, ◌++◌}
-use Rattle.textwrap.proofs.Common.{All, Bor, inl, inr, map, max, sym, ◌+◌, ◌↔◌, ◌∷◌, ◌≡◌, ◌≤◌, ℕ}
-use Rattle.textwrap_text.proofs.Common.{IsCharBoundary-from_take, starts_with_of_append, cases_Bool}
-use Rattle.textwrap_text.proofs.Common.{nil_from_length, take-take}
-use Rattle.std.proofs.lemmas.List.Sums.{prefix_len-le-length}
-use Rattle.textwrap_layout.proofs.Common.{AreTextLines, HasParts}
-use Rattle.std.specs.Prelude.{option_to_list}
+use Rattle.textwrap.proofs.Common.{line_prefix, IsRefilled, LineEnding, StartsWith, append-nil, All}
+use Rattle.textwrap.proofs.Common.{prefix_len, text_width, Algorithm, DividesAs, EndedLine, IsAscii}
+use Rattle.textwrap.proofs.Common.{ends_with, join_with, layout_of, nat_tests, unwrap_or, All-tail}
+use Rattle.textwrap.proofs.Common.{IsFilled, Settings, Splitter, WordText, flat_map, has_text, Bool}
+use Rattle.textwrap.proofs.Common.{texts_of, Options, IsUtf8, Option, eq-eqb, filter, get_or, arith}
+use Rattle.textwrap.proofs.Common.{length, nat_eq, blank, false, lines, rules, subst, CRLF, List, ℕ}
+use Rattle.textwrap.proofs.Common.{None, Some, cond, drop, fold, refl, take, true, ◌++◌, Bor, inl}
+use Rattle.textwrap.proofs.Common.{inr, map, max, sym, ◌+◌, ◌↔◌, ◌∷◌, ◌≡◌, ◌≤◌, [], ap}
 use Rattle.textwrap.specs.Refilling.{unfilled_settings, layout_settings, IsCommonPrefix}
 use Rattle.textwrap.specs.declared.refilling.TextLayout.{TextLayout}
+use Rattle.textwrap_text.proofs.Common.{IsCharBoundary-from_take, starts_with_of_append, cases_Bool}
+use Rattle.textwrap_text.proofs.Common.{nil_from_length, take-take}
+use Rattle.std.{proofs.lemmas.List.Sums.prefix_len-le-length, specs.Prelude.option_to_list}
+use Rattle.textwrap_layout.proofs.Common.{AreTextLines, HasParts}
 use Rattle.textwrap_layout.proofs.Paragraph.Pieces.{divides-under}
 
 -- ---- what two texts begin with, and what all texts do
@@ -252,12 +251,8 @@ pub refilled-from : (settings : Settings)
     } in (filled : List ℕ) × IsFilled indented (Divides indented) joined filled
     × (refilled ≡ filled ++ added_ending keeps settings.line_ending)
     → IsRefilled settings Divides text refilled
-refilled-from settings Divides text refilled layout found joined joined_is keeps keeps_is is = rw (
-  ap (λ s. s.initial_indent) found,
-  ap (λ s. s.subsequent_indent) found,
-  joined_is,
-  keeps_is,
-) at is
+refilled-from settings Divides text refilled layout found joined joined_is keeps keeps_is is =
+    search (rules, arith)
 
 -- ---- refilled texts and texts in columns under options with built-in parts: what they divide
 -- is what the parts do as values

@@ -1,27 +1,25 @@
 -- The table gives the chosen division, if all lines but the first have one width.
-use Rattle.textwrap_text.proofs.Common.{take-append-drop, length-take-le, length-append, drop_split}
-use Rattle.textwrap_text.proofs.Common.{append_assoc, length-drop, slice_range, length-map, drop_at}
-use Rattle.textwrap_text.proofs.Common.{drop-drop, nat_tests, All-cons, All-head, All-tail, reverse}
-use Rattle.textwrap_text.proofs.Common.{add-zero, flat_map, take_all, zero-add, take_at, eq-eqb, []}
-use Rattle.textwrap_text.proofs.Common.{get_or, length, arith, Bool, List, drop, refl, take, true}
-use Rattle.textwrap_text.proofs.Common.{◌++◌, All, eqb, map, suc, sym, ◌+◌, ◌-◌, ◌<◌, ◌∙◌, ◌∷◌, ◌≡◌}
-use Rattle.textwrap_text.proofs.Common.{◌≢◌, ◌≤◌, ap, ℕ}
-use Rattle.textwrap_base.proofs.Common.{AreEqualFromSecond, last_break_penalty, fragments_table}
-use Rattle.textwrap_base.proofs.Common.{division_cost, FollowStarts, closed_width, PricedSizes}
-use Rattle.textwrap_base.proofs.Common.{IsDivision, line_costs, line_width, problem_by, IsByTable}
-use Rattle.textwrap_base.proofs.Common.{Penalties, line_cost, priced_at, entry_at, Problem, Sizes}
-use Rattle.textwrap_base.proofs.Common.{table}
-use mathlib.Core.List.{reverse_aux}
-use Rattle.textwrap_base.specs.Cost.{starts_from, lines_cost, IsChosen}
-use Rattle.textwrap_text.proofs.Lists.Parts.{some_from_nonempty, length-slice, take_slice}
-use Rattle.textwrap_base.proofs.Cost.Table.{table-is_table, table_earliest, table_followed}
-use Rattle.textwrap_base.proofs.Cost.Table.{table_starts, starts_cost, table_least, FollowBack}
-use Rattle.textwrap_base.proofs.Cost.Table.{AreStarts, IsSteady, start-at}
-use Rattle.textwrap_base.proofs.Division.Greedy.{division_one, closed-take}
-use Rattle.textwrap_base.specs.Algorithms.{IsDividedBy, Algorithm, LeastCost, Greedy}
+use Rattle.textwrap_text.proofs.Common.{add-zero, arith, drop_at, get_or, length-map, List, ℕ, ◌≡◌}
+use Rattle.textwrap_text.proofs.Common.{All, Bool, length-drop, map, suc, sym, take_at, ◌++◌, ◌≢◌}
+use Rattle.textwrap_text.proofs.Common.{All-cons, append_assoc, slice_range, take-append-drop, ◌∷◌}
+use Rattle.textwrap_text.proofs.Common.{All-tail, drop, drop-drop, length-take-le, refl, rules, ◌∙◌}
+use Rattle.textwrap_text.proofs.Common.{All-head, drop_split, flat_map, length-append, nat_tests}
+use Rattle.textwrap_text.proofs.Common.{[], eq-eqb, length, reverse, take, take_all, true, zero-add}
+use Rattle.textwrap_text.proofs.Common.{ap, eqb, ◌+◌, ◌-◌, ◌<◌, ◌≤◌}
+use Rattle.textwrap_text.proofs.Lists.Parts.{length-slice, some_from_nonempty, take_slice}
 use Rattle.std.proofs.lemmas.Simd.{map-map}
-use Rattle.textwrap_base.specs.OptimalFit.{IsByOptimalFit}
-use Rattle.textwrap_base.proofs.Cost.LineCosts.{line_costs-map}
+use Rattle.textwrap_base.{proofs.Cost.LineCosts.line_costs-map, specs.OptimalFit.IsByOptimalFit}
+use Rattle.textwrap_base.proofs.Common.{AreEqualFromSecond, IsByTable, line_cost, line_costs, table}
+use Rattle.textwrap_base.proofs.Common.{fragments_table, IsDivision, last_break_penalty, line_width}
+use Rattle.textwrap_base.proofs.Common.{closed_width, division_cost, FollowStarts, PricedSizes}
+use Rattle.textwrap_base.proofs.Common.{entry_at, Penalties, priced_at, Problem, problem_by, Sizes}
+use Rattle.textwrap_base.proofs.Cost.Table.{AreStarts, IsSteady, start-at, table-is_table}
+use Rattle.textwrap_base.proofs.Cost.Table.{table_earliest, table_followed, table_starts}
+use Rattle.textwrap_base.proofs.Cost.Table.{FollowBack, starts_cost, table_least}
+use Rattle.textwrap_base.proofs.Division.Greedy.{closed-take, division_one}
+use Rattle.textwrap_base.specs.Algorithms.{Algorithm, Greedy, IsDividedBy, LeastCost}
+use Rattle.textwrap_base.specs.Cost.{IsChosen, lines_cost, starts_from}
+use mathlib.Core.List.{reverse_aux}
 
 -- ---- from lines to the starts of lines
 
@@ -153,8 +151,7 @@ pub cost_after_starts : {X : Type 0} (problem : Problem X) (starts : List ℕ) (
 cost_after_starts problem [] j after l h = rw h (omega arith)
 cost_after_starts problem (i ∷ rest) j after l (h, hs) =
     let again = cost_after_starts problem rest i (slice_range problem.fragments i j ∷ after)
-    (omega arith) hs in
-    grind (arith, length-slice)
+    (omega arith) hs in search (rules, arith, length-slice)
 
 -- ---- the chosen division
 
@@ -183,13 +180,10 @@ module _ {X : Type 0} (problem : Problem X) where
 
     begins : (others : List (List X)) → IsDivision problem.fragments others
         → AreStarts (starts_back others) all
-    begins others o =
-        let (tiles, some) = whole problem.fragments others p o in
-        begin_starts problem.fragments others all (omega arith) tiles some
+    begins others o = search (rules, arith, whole, begin_starts)
 
     follows : FollowBack (starts_back lines) (table_starts (line_costs problem) all) all
-    follows = begin_follow problem.fragments lines all (omega arith)
-        (whole problem.fragments lines p by.division).0 _ by.starts
+    follows = search (rules, arith, begin_follow, whole)
 
     -- a division costs what its starts do
     costs_starts : (others : List (List X)) → IsDivision problem.fragments others
@@ -198,9 +192,7 @@ module _ {X : Type 0} (problem : Problem X) where
 
     -- the division by the table costs what its last entry says
     by_table-cost : division_cost problem lines ≡ cost_at all
-    by_table-cost = sym (costs_starts lines by.division)
-        ∙ table_followed _ all (line_costs-steady problem equal) _ all (omega arith)
-        (begins lines by.division) follows
+    by_table-cost = grind (arith, costs_starts, table_followed, line_costs-steady, begins, follows)
 
     by_table-is_chosen : IsChosen problem lines
     by_table-is_chosen = record {
@@ -260,8 +252,7 @@ last-none : {X : Type 0} (penalties : Penalties) (sizes : X → Sizes) (xs : Lis
     → All (λ x. (sizes x).penalty ≡ 0) xs
     → last_break_penalty (λ x. priced_at penalties (sizes x)) xs ≡ 0
 last-none penalties sizes [] none = refl
-last-none penalties sizes (x ∷ []) none = let here =
-    All-head (λ x. (sizes x).penalty ≡ 0) x [] none in rw here refl
+last-none penalties sizes (x ∷ []) none = search (rules, arith, All-head)
 last-none penalties sizes (x ∷ y ∷ xs) none =
     last-none penalties sizes (y ∷ xs) (All-tail (λ x. (sizes x).penalty ≡ 0) x (y ∷ xs) none)
 

@@ -1,21 +1,19 @@
 -- What one line costs: its gap, its slices, its sizes, its bounds, and that line costs are convex.
-use Rattle.textwrap_text.proofs.Common.{slice_range, sum_by-cons, get_or-map, length-map, nat_tests}
-use Rattle.textwrap_text.proofs.Common.{All-head, All-tail, add-zero, cases_lt, take-map, All-map}
-use Rattle.textwrap_text.proofs.Common.{get_or, length, arith, false, rules, subst, Bool, List, All}
-use Rattle.textwrap_text.proofs.Common.{refl, take, zero, ◌++◌, eqb, map, max, suc, sym, ◌*◌, ◌+◌}
-use Rattle.textwrap_text.proofs.Common.{◌-◌, ◌<◌, ◌∙◌, ◌∷◌, ◌≡◌, ◌≤◌, [], ap, ℕ}
-use Rattle.textwrap_base.proofs.Common.{last_break_penalty, fragment_costs, closed_width, AreAtMost}
-use Rattle.textwrap_base.proofs.Common.{PricedSizes, total_width, NeverFalls, line_costs, AreConvex}
-use Rattle.textwrap_base.proofs.Common.{line_width, open_width, problem_by, Penalties, line_cost}
-use Rattle.textwrap_base.proofs.Common.{fit_cost, measured, Measure, Problem, Sizes}
+use Rattle.textwrap_text.proofs.Common.{get_or-map, length-map, nat_tests, slice_range, sum_by-cons}
+use Rattle.textwrap_text.proofs.Common.{add-zero, All-head, All-map, All-tail, cases_lt, take-map}
+use Rattle.textwrap_text.proofs.Common.{All, arith, Bool, false, get_or, length, List, rules, subst}
+use Rattle.textwrap_text.proofs.Common.{eqb, map, max, refl, suc, sym, take, zero, ◌*◌, ◌++◌, ◌+◌}
+use Rattle.textwrap_text.proofs.Common.{[], ap, ℕ, ◌-◌, ◌<◌, ◌∙◌, ◌∷◌, ◌≡◌, ◌≤◌}
+use Rattle.textwrap_text.proofs.Lists.Parts.{length-slice, slice_push, take_slice}
+use Rattle.textwrap_text.proofs.Numbers.{if_le}
+use Rattle.std.proofs.{lemmas.List.drop-map, lemmas.List.Sums.sum_by-take-le, Math.Nat.mul-le-mul}
+use Rattle.textwrap_base.proofs.Common.{AreAtMost, closed_width, fragment_costs, last_break_penalty}
+use Rattle.textwrap_base.proofs.Common.{AreConvex, line_costs, NeverFalls, PricedSizes, total_width}
+use Rattle.textwrap_base.proofs.Common.{line_cost, line_width, open_width, Penalties, problem_by}
+use Rattle.textwrap_base.proofs.Common.{fit_cost, Measure, measured, Problem, Sizes}
 use Rattle.textwrap_base.proofs.Division.Greedy.{closed_width-push, open_width-append}
 use Rattle.textwrap_base.proofs.Division.Greedy.{closed_width-map}
-use Rattle.textwrap_text.proofs.Lists.Parts.{length-slice, slice_push, take_slice}
 use mathlib.Core.Path.{fun_ext}
-use Rattle.std.proofs.lemmas.List.Sums.{sum_by-take-le}
-use Rattle.std.proofs.Math.Nat.{mul-le-mul}
-use Rattle.textwrap_text.proofs.Numbers.{if_le}
-use Rattle.std.proofs.lemmas.List.{drop-map}
 
 -- ---- what it costs to miss the target
 
@@ -73,8 +71,7 @@ module _ {X : Type 0} (priced : X → PricedSizes) where
 -- a part is the one without its last element, and that element
 slice_pushed : {X : Type 0} (xs : List X) (i j : ℕ) (d : X) → i < j → j ≤ length xs
     → slice_range xs i j ≡ slice_range xs i (j - 1) ++ get_or xs (j - 1) d ∷ []
-slice_pushed xs i j d h l = let same : j - 1 + 1 ≡ j = omega arith in
-    rw same at (slice_push xs i (j - 1) d (omega arith) (omega arith))
+slice_pushed xs i j d h l = search (rules, arith, slice_push)
 
 pub open_width-slice : {X : Type 0} (sizes : X → Sizes) (xs : List X) (i k : ℕ) → i ≤ k
     → open_width sizes (take i xs) + open_width sizes (slice_range xs i k) ≡ open_width sizes
@@ -110,8 +107,7 @@ module _ {X : Type 0} (sizes : X → Sizes) where
   pub total_width-cons : (x : X) (xs : List X)
       → total_width sizes (x ∷ xs) ≡ (sizes x).width + (sizes x).whitespace +
       (sizes x).penalty + total_width sizes xs
-  total_width-cons x xs = sum_by-cons (λ (y : X). (sizes y).width + (sizes y).whitespace +
-      (sizes y).penalty) x xs
+  total_width-cons x xs = search (rules, arith, sum_by-cons)
 
 pub last_break_penalty-map : {X : Type 0} (priced : X → PricedSizes) (xs : List X)
     → last_break_penalty (λ (p : PricedSizes). p) (map priced xs) ≡ last_break_penalty priced xs
@@ -147,13 +143,11 @@ pub closed_width-le : {X : Type 0} (sizes : X → Sizes) (line : List X)
 closed_width-le sizes [] = omega arith
 closed_width-le sizes (x ∷ []) = omega arith
 closed_width-le sizes (x ∷ y ∷ line) =
-    let h = closed_width-le sizes (y ∷ line) in
-    let e = total_width-cons sizes x (y ∷ line) in omega (arith, e, h)
+    search (rules, arith, total_width-cons, closed_width-le sizes (y ∷ line))
 
 pub total_width-take : {X : Type 0} (sizes : X → Sizes) (xs : List X) (j : ℕ)
     → total_width sizes (take j xs) ≤ total_width sizes xs
-total_width-take {X = X} sizes xs j =
-    sum_by-take-le (λ (x : X). (sizes x).width + (sizes x).whitespace + (sizes x).penalty) xs j
+total_width-take {X = X} sizes xs j = search (rules, arith, sum_by-take-le)
 
 module _ (limit : ℕ) where
   fit_cost-le : (p : Penalties) (t closed : ℕ) (is_last is_single : Bool) → AreAtMost limit p

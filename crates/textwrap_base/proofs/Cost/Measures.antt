@@ -1,14 +1,12 @@
 -- Running sums of the widths of fragments, and what lines take and cost by them.
-use Rattle.textwrap_text.proofs.Common.{slice_range, length-map, get_or, length, arith, List, take}
-use Rattle.textwrap_text.proofs.Common.{map, sym, ◌+◌, ◌-◌, ◌<◌, ◌^◌, ◌∙◌, ◌≡◌, ◌≤◌, ap, ℕ}
-use Rattle.textwrap_base.proofs.Common.{fragment_costs, closed_width, PricedSizes, total_width}
-use Rattle.textwrap_base.proofs.Common.{open_width, measured, Measure, Problem, Sizes}
-use Rattle.std.proofs.Common.{sum_by, sum}
-use Rattle.std.proofs.lemmas.List.Sums.{sum_by_more_le_part, sum-map}
-use Rattle.std.proofs.lemmas.Simd.{map-map}
-use Rattle.textwrap_base.specs.Measured.{AreMeasured}
+use Rattle.textwrap_text.proofs.Common.{arith, get_or, length, length-map, List, slice_range, take}
+use Rattle.textwrap_text.proofs.Common.{ap, map, sym, ℕ, ◌+◌, ◌-◌, ◌<◌, ◌^◌, ◌∙◌, ◌≡◌, ◌≤◌}
+use Rattle.std.proofs.Common.{sum, sum_by}
+use Rattle.std.proofs.lemmas.{List.Sums.sum-map, List.Sums.sum_by_more_le_part, Simd.map-map}
+use Rattle.textwrap_base.{proofs.Cost.LineCosts.line_costs-map, specs.PrefixSums.HavePrefixSums}
+use Rattle.textwrap_base.proofs.Common.{closed_width, fragment_costs, PricedSizes, total_width}
+use Rattle.textwrap_base.proofs.Common.{Measure, measured, open_width, Problem, Sizes}
 use Rattle.textwrap_base.proofs.Cost.LineCosts.{closed_width-slice, open_width-slice, priced_alone}
-use Rattle.textwrap_base.proofs.Cost.LineCosts.{line_costs-map}
 
 abbrev pub measured_sizes : Measure → Sizes
 measured_sizes m = (measured m).sizes
@@ -31,7 +29,7 @@ pub record TakesBySums {X : Type 0} (sizes : X → Sizes) (opened closed : ℕ) 
   pub takes : closed - opened ≡ closed_width sizes line
 
 pub takes_by_sums : {X : Type 0} {priced : X → PricedSizes} {opens closes : X → ℕ} {xs : List X}
-    {i j : ℕ} {first last : X} → AreMeasured priced opens closes xs → i < j → j ≤ length xs
+    {i j : ℕ} {first last : X} → HavePrefixSums priced opens closes xs → i < j → j ≤ length xs
     → first ≡ get_or xs i first → last ≡ get_or xs (j - 1) last
     → TakesBySums (λ x. (priced x).sizes) (opens first) (closes last) (slice_range xs i j)
 takes_by_sums measured ordered within is_first is_last = grind (arith, open_width-slice, open_width-total, closed_width-slice)

@@ -1,26 +1,23 @@
 -- Only one division is the chosen one, and what a call by optimal fit returns.
-use Rattle.textwrap_text.proofs.Common.{length-take-le, append-nil, IsErrAnd, All-nil, Err}
-use Rattle.textwrap_text.proofs.Common.{Result, reverse, get_or, length, arith, subst, List, drop, refl, inl}
-use Rattle.textwrap_text.proofs.Common.{take, zero, inr, map, suc, sym, ◌+◌, ◌<◌, ◌^◌, ◌↔◌, ◌∙◌, Ok}
-use Rattle.textwrap_text.proofs.Common.{◌∷◌, ◌≡◌, ◌≢◌, ◌≤◌, [], ap, ℕ}
-use Rattle.textwrap_base.proofs.Common.{AreEqualFromSecond, fragments_table, TableOverflows, Entry}
-use Rattle.textwrap_base.proofs.Common.{division_cost, IsLeastCost, total_width, AreNoLater}
-use Rattle.textwrap_base.proofs.Common.{IsDivision, Overflowed, line_costs, minimum_of, IsByTable}
-use Rattle.textwrap_base.proofs.Common.{Minimum, Problem}
-use Rattle.std.proofs.lemmas.List.{reverse-reverse}
-use Rattle.textwrap_base.specs.Cost.{starts_from, IsTooWide, Overflows, IsChosen}
-use Rattle.textwrap_base.proofs.Cost.Chosen.{cost_after_starts, line_costs-steady, by_table-chosen}
-use Rattle.textwrap_base.proofs.Cost.Chosen.{division_joined, joined_division, begin_follow, joined}
-use Rattle.textwrap_base.proofs.Cost.Chosen.{begin_starts, joined_after, begin-least, starts_back}
-use Rattle.textwrap_base.proofs.Cost.Chosen.{some_after, cost_at, whole}
+use Rattle.textwrap_text.proofs.Common.{[], drop, inl, inr, length-take-le, rules, ℕ, ◌+◌, ◌↔◌, ◌≡◌}
+use Rattle.textwrap_text.proofs.Common.{All-nil, get_or, get_or-map, List, refl, Result, subst, ◌∷◌}
+use Rattle.textwrap_text.proofs.Common.{append-nil, arith, IsErrAnd, length, reverse, take, zero}
+use Rattle.textwrap_text.proofs.Common.{ap, Err, map, Ok, suc, sym, ◌<◌, ◌^◌, ◌∙◌, ◌≢◌, ◌≤◌}
 use Rattle.textwrap_text.proofs.Lists.Parts.{same_parts}
-use Rattle.textwrap_base.proofs.Cost.Table.{entry-table_first, table_followed, cost_reported}
-use Rattle.textwrap_base.proofs.Cost.Table.{FollowBack, AreStarts, starts_to}
+use Rattle.std.proofs.lemmas.{List.reverse-reverse, Simd.map-map}
+use Rattle.textwrap_base.{proofs.Cost.Chosen.division_joined, specs.Queue.CountsSearch}
+use Rattle.textwrap_base.proofs.Common.{division_cost, line_costs, Minimum, Overflowed, total_width}
+use Rattle.textwrap_base.proofs.Common.{AreEqualFromSecond, IsLeastCost, minimum_of, TableOverflows}
+use Rattle.textwrap_base.proofs.Common.{AreNoLater, fragments_table, IsByTable, IsDivision, Problem}
+use Rattle.textwrap_base.proofs.Cost.{Chosen.joined_after, Table.length-table, Table.table_followed}
+use Rattle.textwrap_base.proofs.Cost.Chosen.{begin_starts, joined, line_costs-steady, starts_back}
+use Rattle.textwrap_base.proofs.Cost.Chosen.{by_table-chosen, cost_after_starts, cost_at, whole}
+use Rattle.textwrap_base.proofs.Cost.Chosen.{begin-least, begin_follow, joined_division, some_after}
+use Rattle.textwrap_base.proofs.Cost.Table.{AreStarts, entry-table_first, FollowBack, starts_to}
+use Rattle.textwrap_base.specs.{declared.errors.WrapError.TheVariants.Memory, Table.CountsSteps}
+use Rattle.textwrap_base.specs.Cost.{IsChosen, IsTooWide, Overflows, starts_from}
 use Rattle.textwrap_base.specs.OptimalFit.{IsOptimalFitResult, IsTheResult}
-use Rattle.textwrap_base.specs.Queue.{CountsSearch}
-use Rattle.textwrap_base.specs.Table.{CountsSteps}
-use Rattle.textwrap_base.specs.declared.errors.WrapError.{WrapError}
-use Rattle.textwrap_base.specs.declared.errors.WrapError.TheVariants.{Overflow, Memory}
+use Rattle.textwrap_base.specs.declared.errors.WrapError.{TheVariants.Overflow, WrapError}
 
 -- ---- only one division is the chosen one, and only one follows the table
 
@@ -49,8 +46,7 @@ lines_same (l ∷ m ∷ lines) (o ∷ p ∷ others) at s j =
     let len : length l ≡ length o = omega (arith, ap (λ (x : List ℕ). get_or x 0 0) t) in
     let parts = same_parts l o (joined (m ∷ lines)) (joined (p ∷ others)) j len in
     let next = lines_same (m ∷ lines) (p ∷ others) (at + length l)
-    (t ∙ ap (λ k. starts_from (at + k) (p ∷ others)) (sym len)) parts.1 in
-    ap (λ x. x ∷ (m ∷ lines)) parts.0 ∙ ap (λ x. o ∷ x) next
+    (t ∙ ap (λ k. starts_from (at + k) (p ∷ others)) (sym len)) parts.1 in search (rules, arith)
 
 -- so do the starts from the last line back
 lines_back_same : {X : Type 0} (lines others : List (List X)) → starts_back lines ≡ starts_back others
@@ -63,13 +59,11 @@ lines_back_same lines others back same =
 divisions_same : {X : Type 0} (xs : List X) (lines others : List (List X)) → IsDivision xs lines
     → IsDivision xs others → (0 < length xs → starts_back lines ≡ starts_back others) → lines ≡ others
 divisions_same [] lines others h k same = h ∙ sym k
-divisions_same (x ∷ xs) lines others h k same =
-    lines_back_same lines others (same (omega arith)) (h.0 ∙ sym k.0)
+divisions_same (x ∷ xs) lines others h k same = search (rules, arith, lines_back_same)
 
 pub chosen_one : {X : Type 0} (problem : Problem X) (lines others : List (List X))
     → IsChosen problem lines → IsChosen problem others → lines ≡ others
-chosen_one problem lines others h k =
-    divisions_same problem.fragments lines others h.division k.division (grind (arith, starts_same))
+chosen_one problem lines others h k = search (rules, arith, divisions_same, starts_same)
 
 -- ---- only one division follows the table
 
@@ -81,8 +75,7 @@ follow_one (s ∷ starts) [] follow j (h, hs) k f g = absurd (omega (arith, h, k
 follow_one (s ∷ starts) (o ∷ others) follow j (h, hs) (k, ks) (f, fs) (g, gs) =
     let same : o ≡ s = sym g ∙ f in
     let rest = follow_one starts others follow s hs (subst (AreStarts others) same ks) fs
-    (subst (FollowBack others follow) same gs) in
-    ap (λ l. s ∷ l) rest ∙ ap (λ n. n ∷ others) (sym same)
+    (subst (FollowBack others follow) same gs) in search (rules, arith)
 
 pub by_table_one : {X : Type 0} (problem : Problem X) (lines others : List (List X))
     → IsByTable problem lines → IsByTable problem others → lines ≡ others
@@ -101,8 +94,7 @@ by_table_one problem lines others h k =
 
 module _ {X : Type 0} (problem : Problem X) where
   first-costs_nothing : cost_at problem 0 ≡ 0
-  first-costs_nothing = ap (λ (e : Entry). e.cost)
-      (entry-table_first (line_costs problem) (length problem.fragments))
+  first-costs_nothing = search (rules, arith, entry-table_first)
 
   module _ (equal : AreEqualFromSecond problem.widths) where
     -- a division of the prefix costs what its entry says
@@ -131,8 +123,7 @@ module _ {X : Type 0} (problem : Problem X) where
         → IsLeastCost problem j (get_or (map (λ (m : Minimum). m.cost) minima) j 0)
     reported-least_cost minima is j l =
         let (lines, division, reached) = entry-reached j l in
-        rw (cost_reported (line_costs problem) (length problem.fragments) minima is j l)
-        (search (entry-least))
+        search (rules, arith, length-table, map-map, get_or-map, entry-least)
 
     pub table_overflow-is : TableOverflows problem ↔ Overflows problem
     table_overflow-is = (
@@ -176,16 +167,7 @@ module _ {X A : Type 0} (problem : Problem X) (lines : A → List (List X)) wher
       → ¬ Overflowed {A = B} (Err e))
       → IsOptimalFitResult problem lines r
   optimal-refused B (Ok value) e is table wide narrow = absurd is
-  optimal-refused B (Err f) e is table wide narrow = rw is record {
-    divided = tt;
-    overflow_only = λ equal over.
-        (table_overflow-is problem equal).0 (table (passed_on A B e over));
-    ok_only = λ equal. tt;
-    table_overflow_only = λ over. table (passed_on A B e over);
-    table_ok_only = tt;
-    too_wide = λ much. passed_on B A e (wide much);
-    no_overflow = λ little over. narrow little (passed_on A B e over);
-  }
+  optimal-refused B (Err f) e is table wide narrow = grind (arith, table_overflow-is, passed_on)
 
   -- two results of the same division
   pub results-same : (r : Result A WrapError) → IsOptimalFitResult problem lines r
@@ -200,8 +182,7 @@ module _ {X A : Type 0} (problem : Problem X) (lines : A → List (List X)) wher
 pub search-refused : {A B E F : Type 0} (n old new : ℕ) (s : Result B F) (r : Result A E)
     (P : E → Type 0) → IsErrAnd r P → CountsSearch n old new s → CountsSearch n old new r
 search-refused n old new s (Ok value) P is h = absurd is
-search-refused n old new s (Err e) P is h =
-    record { most = h.most; never_less = h.never_less; ok = tt; from_none = tt }
+search-refused n old new s (Err e) P is h = search (rules, arith)
 
 -- the error of a call that only overflows where the counted one does
 pub steps-refused : {X A B : Type 0} (problem : Problem X) (old new : ℕ) (s : Result B WrapError)
@@ -209,11 +190,4 @@ pub steps-refused : {X A B : Type 0} (problem : Problem X) (old new : ℕ) (s : 
     → (Overflowed {A = B} (Err e) → Overflowed s) → CountsSteps problem old new s
     → CountsSteps problem old new r
 steps-refused problem old new s (Ok value) e is over h = absurd is
-steps-refused {X} {A} {B} problem old new s (Err f) e is over h = rw is record {
-  ok = tt;
-  exact = tt;
-  most = h.most;
-  least = h.least;
-  too_wide = h.too_wide;
-  overflow = λ fits past. h.overflow fits (over (passed_on A B e past));
-}
+steps-refused {X} {A} {B} problem old new s (Err f) e is over h = search (rules, arith, passed_on)

@@ -1,36 +1,31 @@
 -- The entries of the table, which are the least ones, where it overflows, and the starts of lines
 -- that it gives.
-use Rattle.textwrap_text.proofs.Common.{get_or_append_left, get_or_push, length_push, get_or-map, ℕ}
-use Rattle.textwrap_text.proofs.Common.{length-map, All-take, IsErrAnd, cases_eq, SomeIff, add-one}
-use Rattle.textwrap_text.proofs.Common.{Option, Result, get_or, le-ltb, length, lt-ltb, arith, List}
-use Rattle.textwrap_text.proofs.Common.{subst, None, Some, refl, take, zero, ◌++◌, All, Err, eqb, ⊤}
-use Rattle.textwrap_text.proofs.Common.{inl, inr, map, min, suc, sym, ◌+◌, ◌-◌, ◌<◌, ◌^◌, ◌∙◌, ◌∷◌}
-use Rattle.textwrap_text.proofs.Common.{◌≡◌, ◌≤◌, Ok, [], ap}
-use Rattle.textwrap_base.proofs.Common.{fragments_table, IsLeastBelow, first_entry, table_steps}
-use Rattle.textwrap_base.proofs.Common.{total_width, AreNoLater, Overflowed, entry_from, line_costs}
-use Rattle.textwrap_base.proofs.Common.{line_width, minimum_of, AreAtMost, entry_at, Minimum, Entry}
-use Rattle.textwrap_base.proofs.Common.{Problem, counted}
-use Rattle.std.proofs.Math.Nat.{mul-le-mul}
-use Rattle.textwrap_base.specs.Table.{IsBestBelow, cheaper_of, cheapest, IsTable, cheaper, table}
+use Rattle.textwrap_text.proofs.Common.{get_or-map, get_or_append_left, get_or_push, length_push, ℕ}
+use Rattle.textwrap_text.proofs.Common.{add-one, All-take, cases_eq, IsErrAnd, length-map, SomeIff}
+use Rattle.textwrap_text.proofs.Common.{arith, get_or, le-ltb, length, List, lt-ltb, Option, Result}
+use Rattle.textwrap_text.proofs.Common.{All, Err, None, refl, rules, Some, subst, take, zero, ◌++◌}
+use Rattle.textwrap_text.proofs.Common.{eqb, inl, inr, map, min, suc, sym, ◌+◌, ◌-◌, ◌<◌, ◌^◌, ◌∙◌}
+use Rattle.textwrap_text.proofs.Common.{[], ap, Ok, ⊤, ◌∷◌, ◌≡◌, ◌≤◌}
 use Rattle.textwrap_text.proofs.Numbers.{past_from_not}
-use Rattle.textwrap_base.specs.declared.errors.WrapError.{WrapError}
-use Rattle.textwrap_base.specs.declared.errors.WrapError.TheVariants.{Overflow, Memory}
-use Rattle.textwrap_base.proofs.Cost.LineCosts.{total_width-take, closed_width-le, line_cost-le}
-use Rattle.std.proofs.lemmas.Simd.{map-map}
+use Rattle.std.proofs.{lemmas.Simd.map-map, Math.Nat.mul-le-mul}
+use Rattle.textwrap_base.proofs.Common.{first_entry, fragments_table, IsLeastBelow, table_steps}
+use Rattle.textwrap_base.proofs.Common.{AreNoLater, entry_from, line_costs, Overflowed, total_width}
+use Rattle.textwrap_base.proofs.Common.{AreAtMost, Entry, entry_at, line_width, Minimum, minimum_of}
+use Rattle.textwrap_base.proofs.Common.{counted, Problem}
+use Rattle.textwrap_base.proofs.Cost.LineCosts.{closed_width-le, line_cost-le, total_width-take}
+use Rattle.textwrap_base.specs.Table.{cheaper, cheaper_of, cheapest, IsBestBelow, IsTable, table}
+use Rattle.textwrap_base.specs.declared.errors.WrapError.{TheVariants.Overflow, WrapError}
+use Rattle.textwrap_base.specs.declared.errors.WrapError.TheVariants.{Memory}
 
 -- ---- how many steps a table takes
 
 table_steps_more : (n : ℕ) → table_steps (n + 1) ≡ table_steps n + (n + 1)
 table_steps_more n = omega arith
 
-table_steps_mono : (m n : ℕ) → m ≤ n → table_steps m ≤ table_steps n
-table_steps_mono m n l = grind (arith, mul-le-mul)
-
 -- the count goes on
 pub counted_within : (count before after n all : ℕ) → before ≡ counted count (table_steps n)
     → after ≡ counted before (n + 1) → n < all → after ≤ counted count (table_steps all)
-counted_within count before after n all h k l =
-    omega (arith, table_steps_mono (n + 1) all (omega arith), table_steps_more n)
+counted_within count before after n all h k l = grind (arith, mul-le-mul, table_steps_more)
 
 pub counted_next : (count before after n : ℕ) → before ≡ counted count (table_steps n)
     → after ≡ counted before (n + 1) → after ≡ counted count (table_steps (n + 1))
@@ -147,11 +142,7 @@ pub table_past : (cost : ℕ → ℕ → ℕ → ℕ) (n m : ℕ) → n < m
     → 2 ^ 128 ≤ (entry_at (table cost m) (n + 1)).cost
 table_past cost n m l past =
     let h = cheapest-least n cost (table cost n) (suc n) in
-    rw (
-      add-one,
-      entry-table_longer cost m (suc n) (suc n) (omega arith) (omega arith),
-      entry-table_last cost n,
-    ) (grind (arith, add-one))
+    search (rules, arith, add-one, entry-table_longer, entry-table_last)
 
 pub table_fits : (cost : ℕ → ℕ → ℕ → ℕ) (n : ℕ) (e : Entry)
     → table cost n ++ e ∷ [] ≡ table cost (n + 1) → e.cost < 2 ^ 128
@@ -224,8 +215,7 @@ table_starts cost n = map (λ (x : Entry). x.start) (table cost n)
 
 pub start-at : (cost : ℕ → ℕ → ℕ → ℕ) (n j : ℕ) → j ≤ n
     → get_or (table_starts cost n) j 0 ≡ (entry_at (table cost n) j).start
-start-at cost n j l = get_or-map (λ (x : Entry). x.start) (table cost n) j first_entry 0
-    (omega (arith, length-table cost n))
+start-at cost n j l = search (rules, arith, get_or-map, length-table)
 
 -- ---- what it follows
 
@@ -295,12 +285,7 @@ module _ (cost : ℕ → ℕ → ℕ → ℕ) (n : ℕ) (minima : List Minimum)
     (reported : minima ≡ map minimum_of (table cost n)) where
   pub starts_reported : map (λ (m : Minimum). m.start) minima ≡ map (λ (x : Entry). x.start)
       (table cost n)
-  starts_reported = ap (map (λ (m : Minimum). m.start)) reported
-      ∙ map-map (λ (m : Minimum). m.start) minimum_of (table cost n)
-
-  pub cost_reported : (j : ℕ) → j ≤ n
-      → get_or (map (λ (m : Minimum). m.cost) minima) j 0 ≡ (entry_at (table cost n) j).cost
-  cost_reported j l = grind (arith, length-table, map-map, get_or-map)
+  starts_reported = search (rules, arith, map-map)
 
   pub length_reported : length minima ≡ n + 1
   length_reported = ap length reported ∙ length-map (table cost n) minimum_of ∙ length-table cost n

@@ -64,8 +64,7 @@ pub closed_width-map : {X Y : Type 0} (f : X → Y) (sizes : Y → Sizes) (xs : 
     → closed_width sizes (map f xs) ≡ closed_width (λ x. sizes (f x)) xs
 closed_width-map f sizes [] = refl
 closed_width-map f sizes (x ∷ []) = refl
-closed_width-map f sizes (x ∷ y ∷ xs) = ap (λ n. (sizes (f x)).width + (sizes (f x)).whitespace + n)
-    (closed_width-map f sizes (y ∷ xs))
+closed_width-map f sizes (x ∷ y ∷ xs) = search (rules, arith, closed_width-map f sizes (y ∷ xs))
 
 -- ---- line widths that are equal line by line
 
@@ -77,8 +76,7 @@ pub line_width-one : (width number : ℕ) → line_width (width ∷ []) number �
 line_width-one width number = let first : min number 0 ≡ 0 = omega arith in rw first refl
 
 pub line_width-later : (first later number : ℕ) → line_width (first ∷ later ∷ []) (number + 1) ≡ later
-line_width-later first later number =
-    let second : min (number + 1) 1 ≡ 1 = omega arith in rw second refl
+line_width-later first later number = search (rules, arith)
 
 pub line_width-two : (width number : ℕ) → line_width (width ∷ width ∷ []) number ≡ width
 line_width-two width zero = refl
@@ -122,8 +120,7 @@ module _ {X : Type 0} (sizes : X → Sizes) where
   closed-take (x ∷ xs) zero none = omega arith
   closed-take (x ∷ []) (suc zero) none = omega arith
   closed-take (x ∷ []) (suc (suc k)) none = omega arith
-  closed-take (x ∷ y ∷ xs) (suc zero) none = let here = All-head HasNone x (y ∷ xs) none in
-      omega (arith, here)
+  closed-take (x ∷ y ∷ xs) (suc zero) none = search (rules, arith, All-head)
   closed-take (x ∷ y ∷ xs) (suc (suc k)) none = let rest =
       closed-take (y ∷ xs) (suc k) (All-tail HasNone x (y ∷ xs) none) in omega (arith, rest)
 
@@ -149,8 +146,7 @@ module _ {X : Type 0} (sizes : X → Sizes) where
   closed_width-end [] line = omega arith
   closed_width-end (x ∷ []) [] = omega arith
   closed_width-end (x ∷ []) (y ∷ line) = omega arith
-  closed_width-end (x ∷ y ∷ before) line =
-      let rest = closed_width-end (y ∷ before) line in omega (arith, rest)
+  closed_width-end (x ∷ y ∷ before) line = search (rules, arith, closed_width-end (y ∷ before) line)
 
   -- where a line has no room for the fragment after it, no line that fits and begins no later ends
   -- after it
@@ -158,8 +154,7 @@ module _ {X : Type 0} (sizes : X → Sizes) where
       → other ++ others ≡ (before ++ line) ++ (next ++ rest) → line ≢ [] → next ≢ []
       → width < closed_width sizes (line ++ take 1 next) → Fits sizes width other
       → length other ≤ length (before ++ line)
-  full_line_ends_last width before line [] rest other others same some more full fits =
-      absurd (more refl)
+  full_line_ends_last width before line [] rest other others same some more full fits = grind arith
   full_line_ends_last width before line (x ∷ next) rest other others same some more full fits =
       elim (cases_lt (length (before ++ line)) (length other)) [
         | inl past ↦
@@ -191,8 +186,7 @@ module _ {X : Type 0} (sizes : X → Sizes) (widths : List ℕ) where
       → flat_map (λ line. line) tail ≡ drop n xs → All (λ line. line ≢ []) tail
       → AllFull sizes widths (number + 1) tail → AllFull sizes widths number (take n xs ∷ tail)
   full-cons number xs n full [] whole nonempty tail = tt
-  full-cons number xs n full ([] ∷ lines) whole nonempty tail =
-      absurd (All-head (λ line. line ≢ []) [] lines nonempty refl)
+  full-cons number xs n full ([] ∷ lines) whole nonempty tail = grind (arith, All-head, nonempty)
   full-cons number xs n full ((x ∷ line) ∷ lines) whole nonempty tail =
       let len : length (drop n xs) ≡ suc (length (line ++ flat_map (λ l. l) lines)) =
       ap length (sym whole) in
@@ -268,8 +262,7 @@ module _ {X : Type 0} (sizes : X → Sizes) (widths : List ℕ) where
       let tails = same_lines lines others (number + 1) (flat lines)
       (IsGreedyFrom-tail number xs line lines first)
       (subst (λ ys. IsGreedyFrom sizes widths (number + 1) ys others) (sym parts.1)
-      (IsGreedyFrom-tail number xs other others second)) in
-      cc
+      (IsGreedyFrom-tail number xs other others second)) in search (rules, arith)
 
   pub greedy_unique : (xs : List X) (first second : List (List X)) → IsGreedy sizes widths xs first
       → IsGreedy sizes widths xs second → first ≡ second
@@ -305,13 +298,11 @@ module _ {X : Type 0} (sizes : X → Sizes) (widths : List ℕ) where
       sym (drop_at other (flat others) (length other) refl) ∙ ap (drop (length other)) whole
       ∙ drop-append-le (length other) (before ++ line) (flat (next ∷ lines)) within in
       let again = fewest_from (number + 1) (drop (length other) (before ++ line)) (next ∷ lines)
-      others left later full.1 fit.1 in
-      grind arith
+      others left later full.1 fit.1 in search (rules, arith)
 
   pub greedy_fewest : (xs : List X) (lines others : List (List X)) → IsGreedy sizes widths xs lines
       → IsAdmissible sizes widths xs others → length lines ≤ length others
-  greedy_fewest [] lines others greedy admissible =
-      omega (arith, ap length greedy.admissible.division, ap length admissible.division)
+  greedy_fewest [] lines others greedy admissible = search (rules, arith)
   greedy_fewest (x ∷ xs) lines others greedy admissible = fewest_from 0 [] lines others
       (admissible.division.0 ∙ sym greedy.admissible.division.0) greedy.admissible.division.1
       greedy.full admissible.fit

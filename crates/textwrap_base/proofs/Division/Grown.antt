@@ -1,14 +1,14 @@
 -- First fit fragment by fragment: the lines that are found so are the greedy division.
-use Rattle.textwrap_text.proofs.Common.{if◌then◌else◌, length-append, append_assoc, length_push, []}
-use Rattle.textwrap_text.proofs.Common.{append-nil, and_parts, and_right, cond_both, All-cons, Bool}
-use Rattle.textwrap_text.proofs.Common.{and_from, ltb-true, All-nil, take_at, le-ltb, length, arith}
-use Rattle.textwrap_text.proofs.Common.{lt-ltb, nat_lt, false, subst, List, refl, take, true, ◌&&◌}
-use Rattle.textwrap_text.proofs.Common.{◌++◌, All, sym, ◌+◌, ◌<◌, ◌∙◌, ◌∷◌, ◌≡◌, ◌≢◌, ◌≤◌, ap, ℕ}
-use Rattle.textwrap_base.proofs.Common.{closed_width, line_width, IsGreedy, AllFull, AllFit, Sizes}
-use Rattle.textwrap_base.proofs.Common.{Fits}
+use Rattle.textwrap_text.proofs.{Common.ℕ, Lists.Parts.flat}
+use Rattle.textwrap_text.proofs.Common.{[], append_assoc, if◌then◌else◌, length-append, length_push}
+use Rattle.textwrap_text.proofs.Common.{All-cons, and_parts, and_right, append-nil, Bool, cond_both}
+use Rattle.textwrap_text.proofs.Common.{All-nil, and_from, arith, le-ltb, length, ltb-true, take_at}
+use Rattle.textwrap_text.proofs.Common.{false, List, lt-ltb, nat_lt, refl, rules, subst, take, true}
+use Rattle.textwrap_text.proofs.Common.{All, ap, sym, ◌&&◌, ◌++◌, ◌+◌, ◌<◌, ◌∙◌, ◌∷◌, ◌≡◌, ◌≢◌, ◌≤◌}
 use Rattle.std.proofs.lemmas.Bool.{cond-false, cond-true}
-use Rattle.textwrap_base.proofs.Division.Greedy.{IsGreedy-from, Fits-push}
-use Rattle.textwrap_text.proofs.Lists.Parts.{flat}
+use Rattle.textwrap_base.proofs.Common.{AllFit, AllFull, closed_width, IsGreedy, line_width, Sizes}
+use Rattle.textwrap_base.proofs.Common.{Fits}
+use Rattle.textwrap_base.proofs.Division.Greedy.{Fits-push, IsGreedy-from}
 
 -- ---- lemmas on first fit fragment by fragment, where all lines but the first have one width: a
 -- line takes the next one where it has room for it, and else the next one begins a line
@@ -21,8 +21,7 @@ module _ {X : Type 0} (sizes : X → Sizes) where
   not_full : (width : ℕ) (x : X) (line : List X)
       → (0 < length line → closed_width sizes (line ++ x ∷ []) ≤ width) → is_full width line x ≡ false
   not_full width x [] room = refl
-  not_full width x (y ∷ line) room = and_right (nat_lt 0 (length (y ∷ line))) _
-      (le-ltb width (closed_width sizes ((y ∷ line) ++ x ∷ [])) (room (omega arith)))
+  not_full width x (y ∷ line) room = search (rules, arith, and_right, le-ltb)
 
   -- where all fragments fit one line, no prefix of them is full
   pub prefix-closes : (width : ℕ) (line : List X) (x : X) (xs : List X)

@@ -1,11 +1,10 @@
 -- A division of fragments is one of what a function makes of them.
-use Rattle.textwrap_text.proofs.Common.{◌≡◌, ◌≢◌, ℕ, ◌+◌, ◌<◌, List, [], ◌∷◌, ◌++◌, take, map, All}
-use Rattle.textwrap_text.proofs.Common.{refl, sym, ap, ◌∙◌, arith, length, flat_map, map-append}
-use Rattle.textwrap_text.proofs.Common.{length-map, take-map, All-map, get_or}
-use Rattle.textwrap_base.proofs.Common.{Sizes, closed_width, IsDivision, AllFit, AllFull, priced_at}
-use Rattle.textwrap_base.specs.Algorithms.{Algorithm, Greedy, LeastCost, IsDividedBy}
-use Rattle.textwrap_base.proofs.Division.Greedy.{closed_width-map}
-use Rattle.textwrap_base.proofs.Cost.Chosen.{IsByOptimalFit-map}
+use Rattle.textwrap_text.proofs.Common.{All-map, flat_map, get_or, length-map, map-append, take-map}
+use Rattle.textwrap_text.proofs.Common.{All, arith, length, List, map, refl, rules, take, ◌++◌, ◌+◌}
+use Rattle.textwrap_text.proofs.Common.{[], ap, ℕ, ◌<◌, ◌∷◌, ◌≡◌, ◌≢◌}
+use Rattle.textwrap_base.proofs.{Cost.Chosen.IsByOptimalFit-map, Division.Greedy.closed_width-map}
+use Rattle.textwrap_base.proofs.Common.{AllFit, AllFull, closed_width, IsDivision, Sizes}
+use Rattle.textwrap_base.specs.Algorithms.{Algorithm, Greedy, IsDividedBy, LeastCost}
 
 module _ {X Y : Type 0} (f : X → Y) (sizes : Y → Sizes) where
   AllFit-map : (widths : List ℕ) (number : ℕ) (lines : List (List X))
@@ -36,8 +35,7 @@ module _ {X Y : Type 0} (f : X → Y) (sizes : Y → Sizes) where
   join-map : (lines : List (List X))
       → flat_map (λ line. line) (map (map f) lines) ≡ map f (flat_map (λ line. line) lines)
   join-map [] = refl
-  join-map (line ∷ lines) = ap (λ l. map f line ++ l) (join-map lines)
-      ∙ sym (map-append f line (flat_map (λ l. l) lines))
+  join-map (line ∷ lines) = search (rules, arith, map-append, join-map lines)
 
   nonempty-map : (line : List X) → line ≢ [] → map f line ≢ []
   nonempty-map [] some is = some refl
@@ -51,16 +49,14 @@ module _ {X Y : Type 0} (f : X → Y) (sizes : Y → Sizes) where
   pub IsDivision-map : (xs : List X) (lines : List (List X)) → IsDivision xs lines
       → IsDivision (map f xs) (map (map f) lines)
   IsDivision-map [] lines division = ap (map (map f)) division
-  IsDivision-map (x ∷ xs) lines division =
-      (join-map lines ∙ ap (map f) division.0, all_nonempty-map lines division.1)
+  IsDivision-map (x ∷ xs) lines division = search (rules, arith, join-map, all_nonempty-map)
 
   pub IsDividedBy-map : (algorithm : Algorithm) (widths : List ℕ) (xs : List X)
       (lines : List (List X)) → IsDividedBy algorithm (λ x. sizes (f x)) widths xs lines
       → IsDividedBy algorithm sizes widths (map f xs) (map (map f) lines)
   IsDividedBy-map Greedy widths xs lines divided = search (IsDivision-map, AllFit-map, AllFull-map)
   IsDividedBy-map (LeastCost penalties) widths xs lines divided =
-      IsByOptimalFit-map f (λ y. priced_at penalties (sizes y)) penalties widths xs lines
-      (IsDivision-map xs lines divided.by_table.division) divided
+      search (rules, arith, IsByOptimalFit-map, IsDivision-map)
 
 -- the lines of a division are the fragments in order
 pub IsDivision-whole : {X : Type 0} (xs : List X) (lines : List (List X)) → IsDivision xs lines
@@ -71,8 +67,7 @@ IsDivision-whole (x ∷ xs) lines division = division.0
 pub IsDividedBy-whole : {X : Type 0} (sizes : X → Sizes) (algorithm : Algorithm) (widths : List ℕ)
     (xs : List X) (lines : List (List X)) → IsDividedBy algorithm sizes widths xs lines
     → flat_map (λ line. line) lines ≡ xs
-IsDividedBy-whole sizes Greedy widths xs lines divided =
-    IsDivision-whole xs lines divided.admissible.division
+IsDividedBy-whole sizes Greedy widths xs lines divided = search (rules, arith, IsDivision-whole)
 IsDividedBy-whole sizes (LeastCost penalties) widths xs lines divided =
     IsDivision-whole xs lines divided.by_table.division
 
@@ -86,7 +81,6 @@ IsDivision-some (x ∷ xs) (line ∷ lines) division = omega arith
 pub IsDividedBy-some : {X : Type 0} (sizes : X → Sizes) (algorithm : Algorithm) (widths : List ℕ)
     (xs : List X) (lines : List (List X)) → IsDividedBy algorithm sizes widths xs lines
     → 0 < length lines
-IsDividedBy-some sizes Greedy widths xs lines divided =
-    IsDivision-some xs lines divided.admissible.division
+IsDividedBy-some sizes Greedy widths xs lines divided = search (rules, arith, IsDivision-some)
 IsDividedBy-some sizes (LeastCost penalties) widths xs lines divided =
     IsDivision-some xs lines divided.by_table.division

@@ -11,8 +11,8 @@ ghost use Rattle.textwrap_base.specs.Table.{fragment_costs};
 use super::{CostSource, Steps};
 use crate::errors::{OverflowError, WrapError};
 use crate::fragments::Fragment;
-use crate::measured::{Measured, line_cost};
 use crate::penalties::Penalties;
+use crate::prefix_sums::{PrefixSums, line_cost};
 use std::alloc::{AllocError, Allocator};
 use std::marker::Model;
 
@@ -26,7 +26,7 @@ struct Measure {
     break_penalty: usize,
 }
 
-impl Measured for Measure {
+impl PrefixSums for Measure {
     ghost priced = { measured };
 
     ghost opens = { λ m. m.before };

@@ -1,16 +1,20 @@
 -- How many lines and rows a text has at most, and how long they are together, by the options of C.
-use Rattle.textwrap_calls.proofs.Common.{join-paragraphs_of, paragraphs_of-utf8, AreParagraphParts}
-use Rattle.textwrap_calls.proofs.Common.{ending_bytes-some, length-replicate, TextwrapOptions, Bool}
-use Rattle.textwrap_calls.proofs.Common.{flat_map-append, div_ceil_times, range_with_len, AreGroups}
-use Rattle.textwrap_calls.proofs.Common.{length-append, paragraphs_of, algorithm_of, ending_bytes}
-use Rattle.textwrap_calls.proofs.Common.{separator_of, AreIndented, HasNoHyphen, IsInColumns, arith}
-use Rattle.textwrap_calls.proofs.Common.{settings_of, splitter_of, built_text, covered_by, All-head}
-use Rattle.textwrap_calls.proofs.Common.{groups-map, length-map, line_bytes, table_rows, LineParts}
-use Rattle.textwrap_calls.proofs.Common.{and_parts, indent_of, join_with, line_from, nat_tests, All}
-use Rattle.textwrap_calls.proofs.Common.{All-tail, IsFilled, Settings, cases_lt, flat_map, AreRows}
-use Rattle.textwrap_calls.proofs.Common.{Divides, IsUtf8, get_or, length, mul-le, false, subst, inl}
-use Rattle.textwrap_calls.proofs.Common.{List, cond, flat, refl, true, ◌&&◌, ◌==◌, inr, map, max, ℕ}
-use Rattle.textwrap_calls.proofs.Common.{sym, ◌*◌, ◌+◌, ◌-◌, ◌/◌, ◌<◌, ◌∙◌, ◌∷◌, ◌≡◌, ◌≤◌, [], ap}
+use Rattle.std.proofs.lemmas.{Grind.div_ceil_times, List.length-replicate, Nat.mul-le}
+use Rattle.textwrap_text.proofs.Common.{and_parts, max, range_with_len, ◌/◌}
+use Rattle.textwrap_layout.proofs.Common.{AreIndented, indent_of}
+use Rattle.textwrap_lines.proofs.Paragraph.KeepsTo.{HasNoHyphen}
+use Rattle.textwrap_calls.specs.Columns.{AreRows}
+use Rattle.textwrap_calls.proofs.Common.{TextwrapOptions, Bool}
+use Rattle.textwrap_calls.proofs.Common.{flat_map-append}
+use Rattle.textwrap_calls.proofs.Common.{length-append, algorithm_of, ending_bytes}
+use Rattle.textwrap_calls.proofs.Common.{separator_of, IsInColumns, arith}
+use Rattle.textwrap_calls.proofs.Common.{settings_of, splitter_of, built_text, All-head}
+use Rattle.textwrap_calls.proofs.Common.{length-map, line_bytes, table_rows, LineParts}
+use Rattle.textwrap_calls.proofs.Common.{join_with, line_from, nat_tests, All}
+use Rattle.textwrap_calls.proofs.Common.{All-tail, IsFilled, Settings, cases_lt, flat_map}
+use Rattle.textwrap_calls.proofs.Common.{Divides, IsUtf8, get_or, length, false, subst, inl}
+use Rattle.textwrap_calls.proofs.Common.{List, cond, flat, refl, true, ◌&&◌, ◌==◌, inr, map, ℕ}
+use Rattle.textwrap_calls.proofs.Common.{sym, ◌*◌, ◌+◌, ◌-◌, ◌<◌, ◌∙◌, ◌∷◌, ◌≡◌, ◌≤◌, [], ap}
 use Rattle.textwrap_layout.proofs.Common.{AreTextLines, built_bytes, Slice, Line}
 use Rattle.textwrap.proofs.Common.{RowLayout, column_row, padded, cells, cell}
 use Rattle.std.proofs.Common.{replicate}
@@ -23,9 +27,9 @@ use Rattle.textwrap_layout.specs.Paragraph.{Built}
 use Rattle.textwrap.proofs.Text.Tables.{columns_kept}
 use Rattle.textwrap.specs.Columns.{at_column_width, column_width, inner_width, layout_of, row_count}
 use Rattle.textwrap_plain.proofs.Words.{IsWrapped-at}
-use Rattle.textwrap_calls.proofs.Lengths.Lines.{indent-length, later-length, count-lines, slices}
-use Rattle.textwrap_calls.proofs.Lengths.Lines.{groups-size, line-length}
-use Rattle.textwrap_calls.proofs.Lengths.Sums.{texts-joined, joined-some, by-columns, flat-each}
+use Rattle.textwrap_calls.proofs.Lengths.Lines.{indent-length, later-length, line-length}
+use Rattle.textwrap_plain.proofs.Counts.{slices, text-size}
+use Rattle.textwrap_calls.proofs.Lengths.Sums.{texts-joined, by-columns, flat-each}
 use Rattle.textwrap_calls.specs.Bounds.{columns_room_bound, wrap_room_bound, fill_bound, rows_bound}
 use Rattle.textwrap_calls.specs.declared.columns.TextwrapGaps.{TextwrapGaps}
 
@@ -107,25 +111,12 @@ pub lines-bounded : (o : TextwrapOptions) (settings : Settings) (len : ℕ) (tex
 lines-bounded o settings len text lines utf8 len_is are =
     let all = IsWrapped-at (separator_of o) {algorithm = algorithm_of o} {splitter = splitter_of o}
     utf8 are in
-    let ending = settings.line_ending in
     let groups = all.are.groups in
-    let Counted : Bool → List ℕ → List LineParts → Type 0 =
-    λ is_later paragraph parts. length parts ≤ length paragraph + 1 in
-    let counted = groups-map IsUtf8 (AreParagraphParts settings (Divides o settings)) Counted
-    (count-lines o settings) false (paragraphs_of ending text) groups
-    (paragraphs_of-utf8 ending text utf8) all.are.defined in
-    let tile = all.tile (λ e. cc) in
-    let size = groups-size false groups
-    (subst (λ ps. AreGroups Counted false ps groups) (sym tile) counted) in
-    let joined = joined-some (ending_bytes ending) (paragraphs_of ending text)
-    (ending_bytes-some ending) in
-    let whole = ap length (join-paragraphs_of ending text) in
-    let same = ap (λ ps. length (flat ps)) tile in
-    let many = ap length tile in
+    let size = text-size (separator_of o) (splitter_of o) (algorithm_of o) settings text groups utf8
+    all.are.defined (all.tile (λ e. cc)) in
     subst (AreBounded settings len) (sym all.are.given)
     (parts-bounded settings len (flat groups) all.adds.indents (all.adds.no_hyphen (λ e. cc))
-    (omega (arith, size.0, joined, whole, len_is, same, many, length-map groups covered_by))
-    (omega (arith, size.1, joined, whole, len_is, same, many, length-map groups covered_by)))
+    (omega (arith, size.0, len_is)) (omega (arith, size.1, len_is)))
 
 -- ---- how long a filled text is at most
 

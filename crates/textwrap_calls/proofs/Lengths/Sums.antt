@@ -1,19 +1,16 @@
 -- How long texts are together and joined, and bounds that a number may not hold.
-use Rattle.textwrap_calls.proofs.Common.{flat_map-append, length-append, either_short, join_with, ℕ}
-use Rattle.textwrap_calls.proofs.Common.{flat_map, as_len, length, arith, List, flat, refl, zero}
-use Rattle.textwrap_calls.proofs.Common.{◌++◌, map, suc, ◌*◌, ◌+◌, ◌<◌, ◌∙◌, ◌∷◌, ◌≡◌, ◌≤◌, [], ap}
+use Rattle.textwrap_text.{proofs.Common.zero, proofs.Numbers.either_short, specs.LentText.as_len}
+use Rattle.textwrap_calls.proofs.Common.{flat_map-append, length-append, join_with, ℕ}
+use Rattle.textwrap_calls.proofs.Common.{flat_map, length, arith, List, flat}
+use Rattle.textwrap_calls.proofs.Common.{map, suc, ◌*◌, ◌+◌, ◌∙◌, ◌∷◌, ◌≡◌, ◌≤◌, [], ap}
 use Rattle.std.proofs.Math.Nat.{mul_comm}
+use Rattle.textwrap_plain.proofs.Counts.{flat-plus}
 use Rattle.std.proofs.lemmas.List.Folds.{flat_map-map}
 use Rattle.textwrap_calls.specs.Bounds.{Suffices}
 
 -- ---- how long texts are together and joined
 
 module _ {X : Type 0} where
-  pub flat-plus : (f g : X → List ℕ) (xs : List X)
-      → length (flat_map (λ x. f x ++ g x) xs) ≡ length (flat_map f xs) + length (flat_map g xs)
-  flat-plus f g [] = refl
-  flat-plus f g (x ∷ xs) = omega (arith, flat-plus f g xs, length-append {A = ℕ})
-
   pub flat-each : (f g : X → List ℕ) (more : ℕ) → ((x : X) → length (f x) ≤ more + length (g x))
       → (xs : List X) → length (flat_map f xs) ≤ length xs * more + length (flat_map g xs)
   flat-each f g more each [] = omega arith
@@ -41,15 +38,6 @@ pub texts-joined : (ending x : List ℕ) (xs : List (List ℕ))
     → length (join_with ending (x ∷ xs)) ≡ length (flat (x ∷ xs)) + length xs * length ending
 texts-joined ending x [] = omega (arith, length-append {A = ℕ})
 texts-joined ending x (y ∷ xs) = omega (arith, texts-joined ending y xs, length-append {A = ℕ})
-
--- by an ending, they are longer than texts that each end in a byte but for the last
-pub joined-some : (ending : List ℕ) (xs : List (List ℕ)) → 0 < length ending
-    → (length (flat xs) + length xs ≤ length (join_with ending xs) + 1)
-    × (length (flat xs) ≤ length (join_with ending xs))
-joined-some ending [] some = omega arith
-joined-some ending (x ∷ []) some = omega (arith, length-append {A = ℕ})
-joined-some ending (x ∷ y ∷ xs) some =
-    omega (arith, some, joined-some ending (y ∷ xs) some, length-append {A = ℕ})
 
 -- ---- A bound that a number may not hold
 

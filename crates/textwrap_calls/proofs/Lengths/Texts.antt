@@ -1,28 +1,25 @@
 -- How long the lines of a text are, a text that is unfilled, and one that is dedented.
-use Rattle.textwrap_calls.proofs.Common.{strip_carriage_return, starts_with_length, encode_utf8_all}
-use Rattle.textwrap_calls.proofs.Common.{ending_bytes-some, take-append-drop, slice_index_or, arith}
-use Rattle.textwrap_calls.proofs.Common.{unfilled_parts, without_margin, is_blank_line, length-drop}
-use Rattle.textwrap_calls.proofs.Common.{length-append, ending_bytes, length-take, slice_index, All}
-use Rattle.textwrap_calls.proofs.Common.{All-weaker, LineEnding, StartsWith, cases_Bool, length-map}
-use Rattle.textwrap_calls.proofs.Common.{ends_with, join_with, All-cons, All-head, All-tail, IsUtf8}
-use Rattle.textwrap_calls.proofs.Common.{dedented, eqb-true, flat_map, take_all, All-nil, filter, ℕ}
-use Rattle.textwrap_calls.proofs.Common.{length, chars, false, lines, subst, Bool, List, cond, drop}
-use Rattle.textwrap_calls.proofs.Common.{flat, refl, take, true, ◌&&◌, ◌++◌, ◌==◌, inl, inr, map}
-use Rattle.textwrap_calls.proofs.Common.{sym, ◌*◌, ◌+◌, ◌-◌, ◌∙◌, ◌∷◌, ◌≡◌, ◌≤◌, [], ap}
-use Rattle.textwrap_text.proofs.Common.{take_more, Option, nat_eq, blank, None, Some, last}
-use Rattle.textwrap.proofs.Common.{common_prefix, joined_text, line_prefix, EndedLine, margin_of}
-use Rattle.std.proofs.lemmas.Slice.Eq.{bytes_eq-Decides}
-use Rattle.textwrap_text.proofs.Lists.Elements.{flat-map}
-use Rattle.textwrap_text.proofs.Lists.Parts.{last-append, last-cons}
-use Rattle.textwrap_text.proofs.Texts.{ascii_seam, cut_text}
-use Rattle.textwrap_text.specs.declared.line_ending.LineEnding.TheVariants.{CRLF, LF}
-use Rattle.textwrap_text.proofs.TextLines.{ended_lines-texts, ended_parts-flat, lines-front}
-use Rattle.textwrap_text.proofs.TextLines.{lines-whole, lines-made, last-free, by-lines, texts_of}
-use Rattle.textwrap_text.proofs.TextLines.{made_of}
-use Rattle.textwrap_text.specs.TextLines.{bytes_at_end, ended_lines, with_ending}
+use Rattle.std.specs.Str.Lines.{strip_carriage_return}
+use Rattle.std.{proofs.lemmas.Slice.Eq.bytes_eq-Decides, specs.Prelude.slice_index_or}
+use Rattle.textwrap.proofs.Common.{common_prefix, EndedLine, joined_text, line_prefix, margin_of}
 use Rattle.textwrap.proofs.Text.Unfilling.{common_prefix-begins, line_prefix-begins}
-use Rattle.textwrap.specs.Refilling.{without_indents, added_ending, has_text}
-use Rattle.textwrap_calls.proofs.Lengths.Sums.{texts-joined, flat-each}
+use Rattle.textwrap.specs.Indentation.{without_margin}
+use Rattle.textwrap.specs.Refilling.{added_ending, has_text, without_indents}
+use Rattle.textwrap_calls.proofs.Common.{All-head, filter, flat_map, List, StartsWith, ℕ, ◌&&◌, ◌≤◌}
+use Rattle.textwrap_calls.proofs.Common.{[], Bool, drop, false, inl, map, sym, ◌++◌, ◌+◌, ◌-◌, ◌≡◌}
+use Rattle.textwrap_calls.proofs.Common.{ap, arith, cases_Bool, IsUtf8, join_with, take, true, ◌==◌}
+use Rattle.textwrap_calls.proofs.Common.{chars, dedented, ending_bytes-some, eqb-true, length-take}
+use Rattle.textwrap_calls.proofs.Common.{cond, length, length-append, length-drop, refl, subst, ◌∙◌}
+use Rattle.textwrap_calls.proofs.Common.{ending_bytes, flat, inr, is_blank_line, take_all, ◌*◌, ◌∷◌}
+use Rattle.textwrap_calls.proofs.Common.{length-map, slice_index, take-append-drop, unfilled_parts}
+use Rattle.textwrap_calls.proofs.Lengths.Sums.{flat-each, texts-joined}
+use Rattle.textwrap_text.proofs.Common.{blank, encode_utf8_all, ends_with, last, nat_eq, take_more}
+use Rattle.textwrap_text.proofs.TextLines.{by-lines, lines-front, lines-made, lines-whole}
+use Rattle.textwrap_text.proofs.TextLines.{ended_lines-front, ended_lines-texts, last-free, made_of}
+use Rattle.textwrap_text.proofs.{Common.{lines, starts_with_length}, Texts.{ascii_seam, cut_text}}
+use Rattle.textwrap_text.proofs.{Lists.Elements.flat-map, TextLines.{ended_lines-whole, texts_of}}
+use Rattle.textwrap_text.specs.declared.line_ending.LineEnding.{LineEnding, TheVariants.{CRLF, LF}}
+use Rattle.textwrap_text.{proofs.Lists.Parts.{last-append, last-cons}, specs.TextLines.ended_lines}
 
 -- ---- how long the lines of a text are together
 
@@ -195,15 +192,6 @@ strip-utf8 (c ∷ cs) utf8 =
       | inr other ↦ rw other utf8
     ]
 
-lines-utf8 : (text : List ℕ) → IsUtf8 text → All IsUtf8 (lines text)
-lines-utf8 = by-lines (λ text. IsUtf8 text → All IsUtf8 (lines text)) (λ _. All-nil IsUtf8)
-    (λ part lacks some utf8.
-    rw (lines-whole part lacks some) (All-cons IsUtf8 part [] utf8 (All-nil IsUtf8)))
-    (λ front rest lacks are utf8.
-    let seam = ascii_seam front rest 10 utf8 (omega arith) in
-    rw (lines-front front rest lacks) (All-cons IsUtf8 (strip_carriage_return front) (lines rest)
-    (strip-utf8 front seam.front) (are seam.back)))
-
 -- ---- a dedented text
 
 margin-le : (margin line : List ℕ) → IsUtf8 line
@@ -219,40 +207,27 @@ margin-le margin line utf8 =
       | false ↦ omega (arith, ap length cut.whole, length-append front back)
     ]
 
--- ---- what is made of each line, with its ending
-
-made-le : (f : List ℕ → List ℕ) (e : EndedLine) → length (f e.line) ≤ length e.line
-    → length (made_of f e) ≤ length (with_ending e)
-made-le f e shorter = by e.ending
-  where
-    by : (ending : Option LineEnding)
-        → length (made_of f record { line = e.line; ending = ending })
-        ≤ length (e.line ++ bytes_at_end ending)
-    by None = simp length-append (omega (arith, shorter))
-    by (Some CRLF) = simp length-append (omega (arith, shorter))
-    by (Some LF) = simp length-append (omega (arith, shorter))
-
-made-length : (f : List ℕ → List ℕ) (es : List EndedLine)
-    → All (λ line. length (f line) ≤ length line) (texts_of es)
-    → length (flat_map (made_of f) es) ≤ length (flat (map with_ending es))
-made-length f [] shorter = omega arith
-made-length f (e ∷ es) shorter =
-    let Short = λ (line : List ℕ). length (f line) ≤ length line in
-    omega (
-      arith,
-      made-le f e (All-head Short e.line (texts_of es) shorter),
-      made-length f es (All-tail Short e.line (texts_of es) shorter),
-      length-append {A = ℕ},
-    )
-
 pub dedented-length : (text : List ℕ) → IsUtf8 text → length (dedented text) ≤ length text
 dedented-length text utf8 =
-    let f = without_margin (margin_of text) in
+    let margin = margin_of text in
+    let made = λ (t : List ℕ). flat_map (made_of (without_margin margin)) (ended_lines t) in
     omega (
       arith,
-      ap length (lines-made f text),
-      ap length (ended_parts-flat text),
-      made-length f (ended_lines text) (rw ended_lines-texts
-          (All-weaker IsUtf8 (λ line. length (f line) ≤ length line) (margin-le (margin_of text))
-          (lines text) (lines-utf8 text utf8))),
+      ap length (lines-made (without_margin margin) text),
+      by-lines (λ t. IsUtf8 t → length (made t) ≤ length t) (λ _. omega arith)
+          (λ part lacks some whole.
+          rw (ended_lines-whole part lacks some)
+          (omega (arith, margin-le margin part whole, length-append {A = ℕ})))
+          (λ front rest lacks is whole.
+          let seam = ascii_seam front rest 10 whole (omega arith) in
+          let line = strip-utf8 front seam.front in
+          rw (ended_lines-front front rest lacks)
+          (omega (
+            arith,
+            margin-le margin (strip_carriage_return front) line,
+            strip-le front,
+            is seam.back,
+            length-append {A = ℕ},
+          )))
+          text utf8,
     )

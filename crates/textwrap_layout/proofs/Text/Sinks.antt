@@ -9,7 +9,7 @@ use Rattle.textwrap_layout.proofs.Common.{AreParagraphParts, assembled_line, Has
 use Rattle.textwrap_layout.proofs.Common.{AreCutLines, built_bytes, built_text, line_bytes, further}
 use Rattle.textwrap_layout.proofs.Common.{parts_from, AddsPlace, AreGroups, LineParts, cut_lines}
 use Rattle.textwrap_layout.proofs.Common.{line_from, places_of, text_cuts, Settings, WordText, Line}
-use Rattle.textwrap_layout.proofs.Common.{cut_line, lines_of, parts_of, place_of, tiled, Took}
+use Rattle.textwrap_layout.proofs.Common.{cut_line, lines_of, parts_of, place_of, tiled, Pushed}
 use Rattle.textwrap_layout.proofs.Paragraph.LeftOff.{parts_of-tile}
 use Rattle.textwrap_text.specs.LentText.{IsLent}
 use Rattle.textwrap_layout.specs.LineSinks.{HoldsLentPlaces, HoldsPlaces, LentOneMore, HasOneMore}
@@ -92,30 +92,30 @@ joined-more separator text bytes begun (first ∷ before) line given some is =
     grind (arith, lt-ltb, join-push, map-append)
 
 module _ {Z : Type 0} where
-  pub Took-joined : (old new : JoinedLines Z) (bytes : List ℕ) (at : ℕ) (line : Line)
+  pub Pushed-joined : (old new : JoinedLines Z) (bytes : List ℕ) (at : ℕ) (line : Line)
       → bytes ≡ line_bytes line → HasOneMore old new bytes
-      → Took (λ first now start. HoldsText first now) old new (cut_line at line ∷ [])
-  Took-joined old new bytes at line is more = record {
+      → Pushed (λ first now start. HoldsText first now) old new (cut_line at line ∷ [])
+  Pushed-joined old new bytes at line is more = record {
     held = λ first start before given. record {
       text = cc (
         more.text,
-        joined-more (ending_bytes first.line_ending) _ bytes old.begun (lines_of before) line
-            given.text (given.begun
+        joined-more (ending_bytes first.line_ending) _ bytes old.has_lines (lines_of before) line
+            given.text (given.has_lines
             ∙ ap (nat_lt 0) (sym (length-map before (λ (c : CutLine). c.line)))) is,
         lines_of-more before start (cut_line at line ∷ []),
         given.ending,
       );
       ending = more.ending ∙ given.ending;
-      begun = search (rules, arith, lt-ltb, length_push);
+      has_lines = search (rules, arith, lt-ltb, length_push);
     };
   }
 
-  pub Took-placed : (old new : PlacedLines Z) (at : ℕ) (line : Line)
+  pub Pushed-placed : (old new : PlacedLines Z) (at : ℕ) (line : Line)
       → new.places.items ≡ old.places.items
       ++ place_of (old.offset + at) (length old.built.items) line ∷ []
       → new.built.items ≡ old.built.items ++ built_bytes line → new.offset ≡ old.offset
-      → Took (λ first. HoldsPlaces) old new (cut_line at line ∷ [])
-  Took-placed old new at line places built offset = record {
+      → Pushed (λ first. HoldsPlaces) old new (cut_line at line ∷ [])
+  Pushed-placed old new at line places built offset = record {
     held = λ first start before given.
         let cut = cut_line (start + at) line in
         let used = ap length given.built in record {
@@ -126,29 +126,29 @@ module _ {Z : Type 0} where
         };
   }
 
-pub Took-lent : (old new : LentLines) (bytes : List ℕ) (at : ℕ) (line : Line)
+pub Pushed-lent : (old new : LentLines) (bytes : List ℕ) (at : ℕ) (line : Line)
     → bytes ≡ line_bytes line → LentOneMore old new bytes
-    → Took (λ first now start. HoldsLent first now) old new (cut_line at line ∷ [])
-Took-lent old new bytes at line is more = record {
+    → Pushed (λ first now start. HoldsLent first now) old new (cut_line at line ∷ [])
+Pushed-lent old new bytes at line is more = record {
   held = λ first start before given. record {
     same = more.same ∙ given.same;
     text = subst (λ text. IsLent new.text.now text first.text.now.room.now)
         (cc (
-          joined-more (ending_bytes first.line_ending) _ bytes old.begun (lines_of before) line
-              refl (given.begun
+          joined-more (ending_bytes first.line_ending) _ bytes old.has_lines (lines_of before) line
+              refl (given.has_lines
               ∙ ap (nat_lt 0) (sym (length-map before (λ (c : CutLine). c.line)))) is,
           lines_of-more before start (cut_line at line ∷ []),
           given.ending,
         )) (more.text _ first.text.now.room.now given.text);
     ending = more.ending ∙ given.ending;
-    begun = search (rules, arith, lt-ltb, length_push);
+    has_lines = search (rules, arith, lt-ltb, length_push);
   };
 }
 
-pub Took-lent-places : (old new : LentLinePlaces) (at : ℕ) (line : Line)
+pub Pushed-lent-places : (old new : LentLinePlaces) (at : ℕ) (line : Line)
     → AddsPlace old.placed.now new.placed.now (old.placed.now.offset + at) line
-    → Took HoldsLentPlaces old new (cut_line at line ∷ [])
-Took-lent-places old new at line adds = record {
+    → Pushed HoldsLentPlaces old new (cut_line at line ∷ [])
+Pushed-lent-places old new at line adds = record {
   held = λ first start before given.
       let cut = cut_line (start + at) line in
       let used = length (built_text (lines_of before)) in
@@ -166,36 +166,36 @@ Took-lent-places old new at line adds = record {
 pub record HasTaken {S : Type 0} (Holds : S → S → ℕ → List CutLine → Type 0)
     (all : List CutLine) (old now : S) (left : List CutLine) : Type 0 where
   pub taken : List CutLine
-  pub took : Took Holds old now taken
+  pub pushed : Pushed Holds old now taken
   pub are : all ≡ taken ++ left
 
 -- ---- one after another
 
 module _ {S : Type 0} {Holds : S → S → ℕ → List CutLine → Type 0} where
-  pub Took-then : (first next last : S) (xs ys : List CutLine) → Took Holds first next xs
-      → Took Holds next last ys → Took Holds first last (xs ++ ys)
-  Took-then first next last xs ys one two = record {
+  pub Pushed-then : (first next last : S) (xs ys : List CutLine) → Pushed Holds first next xs
+      → Pushed Holds next last ys → Pushed Holds first last (xs ++ ys)
+  Pushed-then first next last xs ys one two = record {
     held = λ sink start before holds. rw (map-append, ← append_assoc)
         (two.held sink start (before ++ map (further start) xs)
         (one.held sink start before holds));
   }
 
   pub HasTaken-start : (all : List CutLine) (sink : S) → HasTaken Holds all sink sink all
-  HasTaken-start all sink = record { taken = []; took = grind (arith, append-nil); are = refl }
+  HasTaken-start all sink = record { taken = []; pushed = grind (arith, append-nil); are = refl }
 
   pub HasTaken-next : (all : List CutLine) (old now next : S) (cut : CutLine)
       (left : List CutLine) → HasTaken Holds all old now (cut ∷ left)
-      → Took Holds now next (cut ∷ []) → HasTaken Holds all old next left
+      → Pushed Holds now next (cut ∷ []) → HasTaken Holds all old next left
   HasTaken-next all old now next cut left so_far one = record {
     taken = so_far.taken ++ cut ∷ [];
-    took = Took-then old now next so_far.taken (cut ∷ []) so_far.took one;
+    pushed = Pushed-then old now next so_far.taken (cut ∷ []) so_far.pushed one;
     are = so_far.are ∙ sym (append_assoc so_far.taken (cut ∷ []) left);
   }
 
   pub HasTaken-end : (all : List CutLine) (old now : S) → HasTaken Holds all old now []
-      → Took Holds old now all
+      → Pushed Holds old now all
   HasTaken-end all old now so_far =
-      subst (Took Holds old now) (sym (so_far.are ∙ append-nil so_far.taken)) so_far.took
+      subst (Pushed Holds old now) (sym (so_far.are ∙ append-nil so_far.taken)) so_far.pushed
 
 nothing_added : (indent slice penalty : List ℕ) → length (indent ++ penalty) ≡ 0
     → indent ++ slice ++ penalty ≡ slice
@@ -209,12 +209,12 @@ assembled-bytes indent slice penalty = grind (arith, nothing_added, eqb-true)
 -- ---- where lines stand
 
 -- lines of a paragraph that were taken came after those that stood there
-pub HasPlaces-took : {Z : Type 0} (old begun new : PlacedLines Z) (start : ℕ)
+pub HasPlaces-pushed : {Z : Type 0} (old begun new : PlacedLines Z) (start : ℕ)
     (lines : List CutLine) → ((first : PlacedLines Z) (at : ℕ) (held : List CutLine)
     → HoldsPlaces old at held → HoldsPlaces begun start held)
-    → Took (λ (first : PlacedLines Z) now at held. HoldsPlaces now at held) begun new lines
+    → Pushed (λ (first : PlacedLines Z) now at held. HoldsPlaces now at held) begun new lines
     → HasPlacesMore old new (map (further start) lines)
-HasPlaces-took old begun new start lines begins took = λ before (places, built).
+HasPlaces-pushed old begun new start lines begins took = λ before (places, built).
     let held = took.held old start before (begins old old.offset before
     (record { places = places; built = built; offset = refl })) in
     (held.places, held.built)
@@ -269,7 +269,7 @@ module _ (settings : Settings) (Divides : Bool → List ℕ → List (List WordT
       → ((sink : S) (place : ℕ) (held : List CutLine) → Holds sink begun place held
       → is_later ≡ nat_lt 0 (length held))
       → (parts : List LineParts) × AreParagraphParts settings Divides is_later paragraph parts
-      × Took Holds begun then (cut_lines 0 parts)
+      × Pushed Holds begun then (cut_lines 0 parts)
       → HasParagraphs text first then after next
   HasParagraphs-more text first now begun then after start next paragraph is_later so_far next_is
       begins is_out (parts, are, took) =

@@ -1,31 +1,28 @@
 -- The elements of lists: what functions make of them, what a list contains, and lists of numbers in
 -- order.
-use Rattle.textwrap_text.proofs.Common.{map-range_with_len_more, IsStrictlyIncreasing, append_assoc}
-use Rattle.textwrap_text.proofs.Common.{All-from_get_or, get_or_default, join_with_byte, append-nil}
-use Rattle.textwrap_text.proofs.Common.{range_with_len, reverse-append, filter-append, false≢true}
-use Rattle.textwrap_text.proofs.Common.{length-append, map-append, Contains, cases_eq, cases_lt, Ok}
-use Rattle.textwrap_text.proofs.Common.{eqb-true, flat_map, list_any, map_push, or_cases, drop_at}
-use Rattle.textwrap_text.proofs.Common.{reverse, Result, eq-eqb, filter, get_or, length, map-id, []}
-use Rattle.textwrap_text.proofs.Common.{ne_eqb, repeat, arith, false, Bool, Iter, List, cond, drop}
-use Rattle.textwrap_text.proofs.Common.{refl, true, zero, ◌++◌, ◌==◌, Err, inl, inr, map, suc, sym}
-use Rattle.textwrap_text.proofs.Common.{◌*◌, ◌+◌, ◌-◌, ◌<◌, ◌∙◌, ◌∷◌, ◌≡◌, ◌≤◌, ◌⊎◌, ap, ℕ}
-use mathlib.Core.List.{reverse_aux}
-use Rattle.std.specs.Iterator.{Drains}
-use Rattle.std.specs.Iterator.Adapters.{copied_source, copied_steps}
-use Rattle.std.specs.Slice.Iter.{iter_steps, iter_rest}
-use Rattle.std.specs.declared.iter.Copied.{Copied}
-use Rattle.std.proofs.lemmas.Iterator.{YieldsList-from_slice, items_from_drains}
+use Rattle.textwrap_text.proofs.Common.{append_assoc, IsStrictlyIncreasing, map-range_with_len_more}
+use Rattle.textwrap_text.proofs.Common.{All-from_get_or, append-nil, get_or_default, join_with_byte}
+use Rattle.textwrap_text.proofs.Common.{false≢true, filter-append, range_with_len, reverse-append}
+use Rattle.textwrap_text.proofs.Common.{cases_eq, cases_lt, Contains, length-append, map-append, Ok}
+use Rattle.textwrap_text.proofs.Common.{drop_at, eqb-true, flat_map, list_any, map_push, or_cases}
+use Rattle.textwrap_text.proofs.Common.{[], eq-eqb, filter, get_or, length, map-id, Result, reverse}
+use Rattle.textwrap_text.proofs.Common.{arith, Bool, cond, false, Iter, List, ne_eqb, repeat, rules}
+use Rattle.textwrap_text.proofs.Common.{drop, Err, inl, inr, map, refl, suc, true, zero, ◌++◌, ◌==◌}
+use Rattle.textwrap_text.proofs.Common.{ap, sym, ℕ, ◌*◌, ◌+◌, ◌-◌, ◌<◌, ◌∙◌, ◌∷◌, ◌≡◌, ◌≤◌, ◌⊎◌}
+use Rattle.std.proofs.lemmas.Iterator.{items_from_drains, YieldsList-from_slice}
 use Rattle.std.proofs.lemmas.Iterator.Consumers.{YieldsList-from_copied}
-use Rattle.std.specs.Result.{MatchResult, is_ok}
-use Rattle.std.proofs.lemmas.List.Folds.{list_any_none, list_any_at}
+use Rattle.std.proofs.lemmas.List.Folds.{list_any_at, list_any_none}
+use Rattle.std.specs.{declared.iter.Copied.Copied, Result.is_ok, Result.MatchResult}
+use Rattle.std.specs.Iterator.{Adapters.copied_source, Adapters.copied_steps, Drains}
+use Rattle.std.specs.Slice.Iter.{iter_rest, iter_steps}
+use mathlib.Core.List.{reverse_aux}
 
 -- ---- what functions make of the elements of a list
 
 -- a list of views that was pushed to, and what follows it
 pub map-push-append : {X Y : Type 0} (f : X → Y) (xs ys : List X) (x : X) (y : Y) (rest : List Y)
     → ys ≡ xs ++ x ∷ [] → f x ≡ y → map f ys ++ rest ≡ map f xs ++ (y ∷ rest)
-map-push-append f xs ys x y rest pushed is =
-    rw (pushed, map-append f xs (x ∷ []), append_assoc (map f xs) (f x ∷ []) rest, is) refl
+map-push-append f xs ys x y rest pushed is = search (rules, arith, map-append, append_assoc)
 
 pub reverse_map_push : {X Y : Type 0} (f : X → Y) (xs : List X) (x : X)
     → reverse (map f (xs ++ x ∷ [])) ≡ f x ∷ reverse (map f xs)
@@ -47,8 +44,7 @@ flat-map f (part ∷ parts) = ap (λ l. f part ++ l) (flat-map f parts)
 pub dropped-map : (prefix : List ℕ) (parts : List (List ℕ))
     → map (drop (length prefix)) (map (λ part. prefix ++ part) parts) ≡ parts
 dropped-map prefix [] = refl
-dropped-map prefix (part ∷ parts) =
-    rw (drop_at prefix part (length prefix) refl, dropped-map prefix parts) refl
+dropped-map prefix (part ∷ parts) = search (rules, arith, drop_at, dropped-map prefix parts)
 
 pub given-copied : {A : Type 0} (it : Copied (Iter A)) (items xs : List A)
     → iter_rest (copied_source it) ≡ items → Drains (copied_steps iter_steps) it xs → xs ≡ items
@@ -86,8 +82,7 @@ pub range-split : (a n m : ℕ) → range_with_len a (n + m) ≡ range_with_len 
 range-split a zero m = grind arith
 range-split a (suc n) m =
     let more : suc n + m ≡ suc (n + m) = omega arith in
-    let on : (a + 1) + n ≡ a + suc n = omega arith in
-    rw (more, ← on) (ap (λ l. a ∷ l) (range-split (a + 1) n m))
+    let on : (a + 1) + n ≡ a + suc n = omega arith in search (rules, arith, range-split (a + 1) n m)
 
 -- ---- a list, repeated
 
@@ -131,8 +126,7 @@ module _ {X : Type 0} (number : X → ℕ) where
   order-cons x xs below order zero zero none lt within = omega arith
   order-cons x xs below order zero (suc j) none lt within = below j none (omega arith)
   order-cons x xs below order (suc i) zero none lt within = omega arith
-  order-cons x xs below order (suc i) (suc j) none lt within =
-      order i j none (omega arith) (omega arith)
+  order-cons x xs below order (suc i) (suc j) none lt within = search (rules, arith)
 
   order-tail : (x : X) (xs : List X) → IsInOrder (x ∷ xs) → IsInOrder xs
   order-tail x xs order = λ i j none lt within.
@@ -141,8 +135,7 @@ module _ {X : Type 0} (number : X → ℕ) where
   order-below : (x y : X) (xs : List X) → IsInOrder (x ∷ xs) → Contains xs y → number x < number y
   order-below x y xs order h =
       let far : number x < number (get_or xs h.0 y) =
-      order 0 (suc h.0) y (omega arith) (omega (arith, h.1)) in
-      omega (arith, far, ap number h.2)
+      order 0 (suc h.0) y (omega arith) (omega (arith, h.1)) in search (rules, arith)
 
   members-tail : (x y : X) (xs ys : List X) → IsInOrder (x ∷ xs) → x ≡ y
       → ((z : X) → Contains (x ∷ xs) z → Contains (y ∷ ys) z) → (z : X) → Contains xs z
@@ -190,18 +183,11 @@ increasing-le xs up i (suc j) le within = elim (cases_eq i (suc j)) [
 ]
 
 pub increasing-rising : (xs : List ℕ) → IsStrictlyIncreasing xs → IsRising xs
-increasing-rising xs up = λ i j lt within.
-    omega (arith, up i (omega arith), increasing-le xs up (i + 1) j (omega arith) within)
+increasing-rising xs up = search (rules, arith, increasing-le)
 
 -- so they are in the order of themselves
 pub rising-in_order : (xs : List ℕ) → IsRising xs → IsInOrder (λ x. x) xs
-rising-in_order xs rising = λ i j none lt within.
-    omega (
-      arith,
-      rising i j lt within,
-      get_or_default xs i 0 none (omega (arith, lt, within)),
-      get_or_default xs j 0 none within,
-    )
+rising-in_order xs rising = search (rules, arith, get_or_default)
 
 pub contains-any : (x : ℕ) (xs : List ℕ) → Contains xs x → list_any (λ y. y == x) xs ≡ true
 contains-any x xs h = list_any_at (λ y. y == x) xs h.0 x h.1 (eq-eqb (get_or xs h.0 x) x h.2)

@@ -1,19 +1,18 @@
 -- Lists and their parts: slices, what a list begins and ends with, and lists of parts.
-use Rattle.textwrap_text.proofs.Common.{starts_with_of_append, false_from_ne_true, take-append-drop}
-use Rattle.textwrap_text.proofs.Common.{get_or_append_left, common_prefix_len, drop-append-add, All}
-use Rattle.textwrap_text.proofs.Common.{position_or_len, reverse-append, length-append, get_or-drop}
-use Rattle.textwrap_text.proofs.Common.{append_assoc, get_or_push, length-drop, length-take, get_or}
-use Rattle.textwrap_text.proofs.Common.{length_push, slice_index, slice_range, starts_with, drop_at}
-use Rattle.textwrap_text.proofs.Common.{StartsWith, after_last, cases_Bool, onto_first, prefix_len}
-use Rattle.textwrap_text.proofs.Common.{drop-drop, drop_more, ends_with, eqb-false, nat_tests, Bool}
-use Rattle.textwrap_text.proofs.Common.{take-take, take_more, All-drop, All-take, drop_all, take_at}
-use Rattle.textwrap_text.proofs.Common.{flat_map, list_any, take-add, length, nat_eq, nat_lt, arith}
-use Rattle.textwrap_text.proofs.Common.{false, rules, subst, List, cond, drop, last, refl, take, []}
-use Rattle.textwrap_text.proofs.Common.{true, ◌++◌, ◌==◌, suc, sym, zip, ◌+◌, ◌-◌, ◌<◌, ◌∙◌, ◌∷◌, ℕ}
-use Rattle.textwrap_text.proofs.Common.{◌≡◌, ◌≢◌, ◌≤◌, ap}
-use Rattle.std.proofs.lemmas.List.{get_or-append_right, drop-append-le, drop-take}
+use Rattle.textwrap_text.proofs.Common.{false_from_ne_true, starts_with_of_append, take-append-drop}
+use Rattle.textwrap_text.proofs.Common.{All, common_prefix_len, drop-append-add, get_or_append_left}
+use Rattle.textwrap_text.proofs.Common.{get_or-drop, length-append, position_or_len, reverse-append}
+use Rattle.textwrap_text.proofs.Common.{append_assoc, get_or, get_or_push, length-drop, length-take}
+use Rattle.textwrap_text.proofs.Common.{drop_at, length_push, slice_index, slice_range, starts_with}
+use Rattle.textwrap_text.proofs.Common.{after_last, cases_Bool, onto_first, prefix_len, StartsWith}
+use Rattle.textwrap_text.proofs.Common.{Bool, drop-drop, drop_more, ends_with, eqb-false, nat_tests}
+use Rattle.textwrap_text.proofs.Common.{All-drop, All-take, drop_all, take-take, take_at, take_more}
+use Rattle.textwrap_text.proofs.Common.{arith, flat_map, length, list_any, nat_eq, nat_lt, take-add}
+use Rattle.textwrap_text.proofs.Common.{[], cond, drop, false, last, List, refl, rules, subst, take}
+use Rattle.textwrap_text.proofs.Common.{sym, true, zip, ℕ, ◌++◌, ◌+◌, ◌-◌, ◌<◌, ◌==◌, ◌∙◌, ◌∷◌, ◌≡◌}
+use Rattle.textwrap_text.proofs.Common.{ap, ◌≢◌, ◌≤◌}
+use Rattle.std.proofs.lemmas.List.{drop-append-le, drop-take, get_or-append_right, Prefix.end_rest}
 use Rattle.std.proofs.lemmas.Slice.Eq.{bytes_eq-Decides}
-use Rattle.std.proofs.lemmas.List.Prefix.{end_rest}
 use Rattle.std.specs.Str.Pattern.{FindsTextPrefix, FindsTextSuffix, StripsPrefix, StripsSuffix}
 
 -- ---- lists and their parts: slices, the last elements, and lists of parts
@@ -69,8 +68,7 @@ pub last-append : (text more : List ℕ) → 0 < length more → last (text ++ m
 last-append text more some = search (rules, length-append, get_or-append_right)
 
 pub last-push : (front : List ℕ) (c : ℕ) → last (front ++ c ∷ []) ≡ c
-last-push front c = let place : length front ≡ length (front ++ c ∷ []) - 1 =
-    omega (arith, length_push front c) in get_or_push front c 0 _ place
+last-push front c = search (rules, arith, length_push, get_or_push)
 
 pub last_but_one-push : (front : List ℕ) (b c : ℕ) → last_but_one ((front ++ b ∷ []) ++ c ∷ []) ≡ b
 last_but_one-push front b c = grind (arith, length_push, get_or_append_left, get_or_push)
@@ -95,8 +93,7 @@ onto_front before (part ∷ parts) = (before ++ part) ∷ parts
 pub onto_front-onto_first : {X : Type 0} (before : List X) (x : X) (parts : List (List X))
     → onto_front before (onto_first x parts) ≡ onto_front (before ++ x ∷ []) parts
 onto_front-onto_first before x [] = refl
-onto_front-onto_first before x (part ∷ parts) =
-    ap (λ p. p ∷ parts) (sym (append_assoc before (x ∷ []) part))
+onto_front-onto_first before x (part ∷ parts) = search (rules, arith, append_assoc)
 
 pub onto_front-nil : {X : Type 0} (parts : List (List X)) → 0 < length parts
     → onto_front [] parts ≡ parts
@@ -175,13 +172,11 @@ nothing-starts y ys is = omega (arith, ap length is)
 pub longest-step : (c d e : ℕ) (rest other : List ℕ) (b : Bool) → (c == d) ≡ b → c ≡ e → e ≡ d
     → StartsWith rest other → StartsWith (cond b (c ∷ rest) []) (e ∷ other)
 longest-step c d e rest other true is first second more = starts-cons c e rest other first more
-longest-step c d e rest other false is first second more =
-    absurd (eqb-false c d is (first ∙ second))
+longest-step c d e rest other false is first second more = search (rules, arith, eqb-false)
 
 pub starts_with-true : (ending xs rest : List ℕ) → xs ≡ ending ++ rest
     → starts_with nat_eq xs ending ≡ true
-starts_with-true ending xs rest is = (bytes_eq-Decides ending (take (length ending) xs)).1
-    (sym (ap (take (length ending)) is ∙ take_at ending rest (length ending) refl))
+starts_with-true ending xs rest is = search (rules, arith, bytes_eq-Decides, take_at)
 
 pub starts_with-rest : (ending xs : List ℕ) → starts_with nat_eq xs ending ≡ true
     → xs ≡ ending ++ drop (length ending) xs
@@ -196,8 +191,7 @@ starts_with-false ending xs lacks = false_from_ne_true (starts_with nat_eq xs en
 pub drop-ending : (ending : List ℕ) (c : ℕ) (cs : List ℕ) → 0 < length ending
     → drop (length ending) (c ∷ cs) ≡ drop (length ending - 1) cs
 drop-ending [] c cs some = absurd (omega arith)
-drop-ending (e ∷ es) c cs some = let same : suc (length es) - 1 ≡ length es = omega arith in
-    ap (λ n. drop n cs) (sym same)
+drop-ending (e ∷ es) c cs some = search (rules, arith)
 
 pub zip-common : (xs ys : List ℕ)
     → prefix_len (λ p. nat_eq p.0 p.1) (zip xs ys) ≡ common_prefix_len nat_eq xs ys
@@ -257,5 +251,4 @@ after_last-push p xs x =
 -- the last element of a list, as a list
 pub last_one-push : {X : Type 0} (xs : List X) (x : X)
     → drop (length (xs ++ x ∷ []) - 1) (xs ++ x ∷ []) ≡ x ∷ []
-last_one-push xs x =
-    drop_at xs (x ∷ []) (length (xs ++ x ∷ []) - 1) (omega (arith, length-append xs (x ∷ [])))
+last_one-push xs x = search (rules, arith, drop_at, length-append)

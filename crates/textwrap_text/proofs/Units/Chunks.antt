@@ -1,14 +1,13 @@
 -- The chunks of a line: there is one list of them, and it is computed.
-use Rattle.textwrap_text.proofs.Common.{length-append, append_assoc, AreCutApart, slice_index, Bool}
-use Rattle.textwrap_text.proofs.Common.{append-nil, cases_Bool, onto_first, AreChunks, and_parts, ℕ}
-use Rattle.textwrap_text.proofs.Common.{All-cons, All-head, All-tail, eqb-true, is_blank, All-nil}
-use Rattle.textwrap_text.proofs.Common.{IsUncut, add-one, IsUtf8, chunks, get_or, is_cut, length, ⊤}
-use Rattle.textwrap_text.proofs.Common.{arith, false, subst, List, cond, drop, last, refl, take, []}
-use Rattle.textwrap_text.proofs.Common.{true, zero, ◌++◌, All, not, suc, sym, ◌+◌, ◌-◌, ◌<◌, ◌∙◌}
-use Rattle.textwrap_text.proofs.Common.{◌∷◌, ◌≡◌, ◌≢◌, ◌≤◌, ap}
-use Rattle.textwrap_text.proofs.Lists.Parts.{onto_front-onto_first, flat-onto_first, onto_front}
-use Rattle.textwrap_text.proofs.Lists.Parts.{last-cons, flat}
-use Rattle.textwrap_text.proofs.Texts.{ascii_seam}
+use Rattle.textwrap_text.proofs.{Lists.Parts.flat, Lists.Parts.last-cons, Texts.ascii_seam}
+use Rattle.textwrap_text.proofs.Common.{append_assoc, AreCutApart, Bool, length-append, slice_index}
+use Rattle.textwrap_text.proofs.Common.{and_parts, append-nil, AreChunks, cases_Bool, onto_first, ℕ}
+use Rattle.textwrap_text.proofs.Common.{All-cons, All-head, All-nil, All-tail, eqb-true, is_blank}
+use Rattle.textwrap_text.proofs.Common.{add-one, chunks, get_or, is_cut, IsUncut, IsUtf8, length, ⊤}
+use Rattle.textwrap_text.proofs.Common.{arith, cond, drop, false, last, List, refl, rules, subst}
+use Rattle.textwrap_text.proofs.Common.{All, not, suc, sym, take, true, zero, ◌++◌, ◌+◌, ◌-◌, ◌<◌}
+use Rattle.textwrap_text.proofs.Common.{[], ap, ◌∙◌, ◌∷◌, ◌≡◌, ◌≢◌, ◌≤◌}
+use Rattle.textwrap_text.proofs.Lists.Parts.{flat-onto_first, onto_front, onto_front-onto_first}
 
 -- ---- chunks
 
@@ -186,8 +185,7 @@ chunks-utf8_step : (before : List ℕ) (c d : ℕ) (cs : List ℕ) → IsUtf8 (b
 chunks-utf8_step before c d cs utf8 true cut after joined =
     let blank : c ≡ 32 = eqb-true c 32 (and_parts (is_blank c) (not (is_blank d)) cut).0 in
     let seam = ascii_seam before (d ∷ cs) c utf8 (omega arith) in
-    All-cons IsUtf8 (before ++ c ∷ []) (chunks (d ∷ cs)) seam.through
-    (all_utf8-front (chunks (d ∷ cs)) (after seam.back))
+    search (rules, arith, All-cons, all_utf8-front)
 chunks-utf8_step before c d cs utf8 false whole after joined =
     subst (All IsUtf8) (sym (onto_front-onto_first before c (chunks (d ∷ cs))))
     (joined (subst IsUtf8 (sym (append_assoc before (c ∷ []) (d ∷ cs))) utf8))

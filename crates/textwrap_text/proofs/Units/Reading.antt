@@ -2,26 +2,25 @@
 -- come.
 use Rattle.unicode_width.specs.declared.kind.Kind.TheVariants as kinds
 use Rattle.textwrap_text.proofs.Common.{IsCharBoundary-from_drop, IsCharBoundary-start, IsPrintable}
-use Rattle.textwrap_text.proofs.Common.{chars_from_encodes, IsUtf8-past_char, All-from_get_or, Bool}
-use Rattle.textwrap_text.proofs.Common.{IsPrintableByte, chars_past_char, encode_utf8_all, All-head}
-use Rattle.textwrap_text.proofs.Common.{nil_from_length, IsCharBoundary, encodes-append, All-append}
+use Rattle.textwrap_text.proofs.Common.{All-from_get_or, Bool, chars_from_encodes, IsUtf8-past_char}
+use Rattle.textwrap_text.proofs.Common.{All-head, chars_past_char, encode_utf8_all, IsPrintableByte}
+use Rattle.textwrap_text.proofs.Common.{All-append, encodes-append, IsCharBoundary, nil_from_length}
 use Rattle.textwrap_text.proofs.Common.{chars-IsAscii, encodes-chars, length-append, length-encode}
-use Rattle.textwrap_text.proofs.Common.{sum_by-append, encode_ascii, get_or_past, length-drop, List}
-use Rattle.textwrap_text.proofs.Common.{sum_by-cons, append-nil, cases_Bool, escape_len, inside_one}
-use Rattle.textwrap_text.proofs.Common.{text_width, units_past, visible_in, visible_of, chars-nil}
-use Rattle.textwrap_text.proofs.Common.{drop_more, nat_tests, All-tail, IsNarrow, TextUnit, All-nil}
+use Rattle.textwrap_text.proofs.Common.{encode_ascii, get_or_past, length-drop, List, sum_by-append}
+use Rattle.textwrap_text.proofs.Common.{append-nil, cases_Bool, escape_len, inside_one, sum_by-cons}
+use Rattle.textwrap_text.proofs.Common.{chars-nil, text_width, units_past, visible_in, visible_of}
+use Rattle.textwrap_text.proofs.Common.{All-nil, All-tail, drop_more, IsNarrow, nat_tests, TextUnit}
 use Rattle.textwrap_text.proofs.Common.{cases_eq, cases_lt, flat_map, stripped, taken_at, taken_in}
-use Rattle.textwrap_text.proofs.Common.{zero-add, IsAscii, Visible, columns, encodes, next_of, Text}
-use Rattle.textwrap_text.proofs.Common.{unit_at, IsUtf8, encode, escape, get_or, length, ne_eqb, []}
-use Rattle.textwrap_text.proofs.Common.{sum_by, State, arith, false, shows, subst, units, cond, All}
-use Rattle.textwrap_text.proofs.Common.{drop, kind, refl, true, zero, ◌++◌, eqb, inl, inr, map, suc}
-use Rattle.textwrap_text.proofs.Common.{sym, ◌+◌, ◌<◌, ◌∙◌, ◌∷◌, ◌≡◌, ◌≢◌, ◌≤◌, ap, ℕ}
-use Rattle.std.specs.Prelude.{encode_utf8, chars}
-use Rattle.textwrap_text.specs.declared.escapes.State.TheVariants.{Command, Control, Escape}
-use Rattle.unicode_width.specs.Width.{char_width, of_kind, alone}
-use Rattle.unicode_width.proofs.Rules.{width_or_zero-le}
-use Rattle.unicode_width.specs.declared.kind.Kind.{Kind}
+use Rattle.textwrap_text.proofs.Common.{columns, encodes, IsAscii, next_of, Text, Visible, zero-add}
+use Rattle.textwrap_text.proofs.Common.{[], encode, escape, get_or, IsUtf8, length, ne_eqb, unit_at}
+use Rattle.textwrap_text.proofs.Common.{All, arith, cond, false, shows, State, subst, sum_by, units}
+use Rattle.textwrap_text.proofs.Common.{drop, eqb, inl, inr, kind, map, refl, suc, true, zero, ◌++◌}
+use Rattle.textwrap_text.proofs.Common.{ap, sym, ℕ, ◌+◌, ◌<◌, ◌∙◌, ◌∷◌, ◌≡◌, ◌≢◌, ◌≤◌}
 use Rattle.textwrap_text.proofs.Texts.{ends-within, left-after}
+use Rattle.textwrap_text.specs.declared.escapes.State.TheVariants.{Command, Control, Escape}
+use Rattle.std.specs.Prelude.{chars, encode_utf8}
+use Rattle.unicode_width.{proofs.Rules.width_or_zero-le, specs.declared.kind.Kind.Kind}
+use Rattle.unicode_width.specs.Width.{alone, char_width, of_kind}
 
 -- ---- what the states of the reader show and take of a text
 

@@ -1,24 +1,22 @@
 -- The units of a text and of its parts: there is one list of them, and it is computed.
-use Rattle.textwrap_text.proofs.Common.{take-append-drop, length-take-le, take-append-le, eqb-false}
-use Rattle.textwrap_text.proofs.Common.{length-append, append_assoc, kind_number, sum_by-cons, Bool}
-use Rattle.textwrap_text.proofs.Common.{units_width, append-nil, cases_Bool, characters, escape_len}
-use Rattle.textwrap_text.proofs.Common.{unit_width, units_past, visible_of, nat_tests, take-take, ℕ}
-use Rattle.textwrap_text.proofs.Common.{AreUnits, Sequence, TextUnit, cases_lt, drop_all, eqb-true}
-use Rattle.textwrap_text.proofs.Common.{flat_map, take_all, taken_at, zero-add, Visible, columns}
-use Rattle.textwrap_text.proofs.Common.{take_at, escape, le-leb, length, ne_eqb, sum_by, ⊎_elim, []}
-use Rattle.textwrap_text.proofs.Common.{arith, false, subst, units, List, cond, drop, last, refl}
-use Rattle.textwrap_text.proofs.Common.{take, true, zero, ◌++◌, ◌==◌, ◌||◌, inl, inr, not, suc, sym}
-use Rattle.textwrap_text.proofs.Common.{◌+◌, ◌<◌, ◌↔◌, ◌∙◌, ◌∷◌, ◌≡◌, ◌≢◌, ◌≤◌, ◌⊎◌, ap}
-use Rattle.textwrap_text.specs.Units.{is_command_start, is_control_start, is_command_end, IsInUnits}
-use Rattle.textwrap_text.specs.Units.{is_control_end, command_len, control_len, IsWhole, ends}
-use Rattle.textwrap_text.proofs.Lists.Parts.{last_but_one-push, last_but_one, last-push}
-use Rattle.unicode.specs.Rows.{in_ranges, Range}
-use Rattle.unicode.proofs.Facts.{Stepped-always, always}
-use Rattle.unicode.proofs.Stepped.{zip_stepped, of_ranges, Stepped}
-use Rattle.unicode.proofs.StepsLemmas.{range_rows, rises_from}
-use Rattle.unicode_width.specs.Width.{char_width, alone}
+use Rattle.textwrap_text.proofs.Common.{eqb-false, length-take-le, take-append-drop, take-append-le}
+use Rattle.textwrap_text.proofs.Common.{append_assoc, Bool, kind_number, length-append, sum_by-cons}
+use Rattle.textwrap_text.proofs.Common.{append-nil, cases_Bool, characters, escape_len, units_width}
+use Rattle.textwrap_text.proofs.Common.{AreUnits, inl, nat_tests, take-take, units_past, visible_of}
+use Rattle.textwrap_text.proofs.Common.{cases_lt, drop_all, eqb-true, flat_map, Sequence, TextUnit}
+use Rattle.textwrap_text.proofs.Common.{[], columns, take_all, take_at, taken_at, Visible, zero-add}
+use Rattle.textwrap_text.proofs.Common.{arith, escape, le-leb, length, List, ne_eqb, sum_by, ⊎_elim}
+use Rattle.textwrap_text.proofs.Common.{cond, drop, false, last, refl, rules, subst, take, units, ℕ}
+use Rattle.textwrap_text.proofs.Common.{inr, not, suc, sym, true, zero, ◌++◌, ◌+◌, ◌<◌, ◌==◌, ◌||◌}
+use Rattle.textwrap_text.proofs.Common.{ap, ◌↔◌, ◌∙◌, ◌∷◌, ◌≡◌, ◌≢◌, ◌≤◌, ◌⊎◌}
+use Rattle.textwrap_text.proofs.Lists.Parts.{last-push, last_but_one, last_but_one-push}
+use Rattle.textwrap_text.specs.Units.{is_command_end, is_command_start, is_control_start, IsInUnits}
+use Rattle.textwrap_text.specs.Units.{command_len, control_len, ends, is_control_end, IsWhole}
+use Rattle.unicode.{proofs.TableComputing.tables, specs.Rows.in_ranges, specs.Rows.Range}
+use Rattle.unicode.proofs.{Facts.always, Stepped.of_ranges, Stepped.Stepped, Stepped.zip_stepped}
+use Rattle.unicode.proofs.{Facts.Stepped-always, StepsLemmas.range_rows, StepsLemmas.rises_from}
 use Rattle.unicode_width.proofs.KindLemmas.{kind_from_number-kind_number, kind_number_stepped}
-use Rattle.unicode.proofs.TableComputing.{tables}
+use Rattle.unicode_width.specs.Width.{alone, char_width}
 
 -- ---- the units tile the characters
 
@@ -40,10 +38,8 @@ units_past-end (suc n) (c ∷ cs) short = units_past-end n cs (omega arith)
 
 pub units_width-is : (us : List TextUnit) → sum_by columns (flat_map visible_of us) ≡ units_width us
 units_width-is [] = refl
-units_width-is (Visible c ∷ us) = sum_by-cons columns c (flat_map visible_of us)
-    ∙ ap (λ n. columns c + n) (units_width-is us) ∙ sym (sum_by-cons unit_width (Visible c) us)
-units_width-is (Sequence cs ∷ us) = units_width-is us
-    ∙ sym (sum_by-cons unit_width (Sequence cs) us ∙ zero-add (units_width us))
+units_width-is (Visible c ∷ us) = search (rules, arith, sum_by-cons, units_width-is us)
+units_width-is (Sequence cs ∷ us) = search (rules, arith, sum_by-cons, zero-add, units_width-is us)
 
 -- ---- how far an escape sequence goes
 
@@ -203,8 +199,7 @@ AreUnits-front (u ∷ v ∷ xs) ys are = (are.0, AreUnits-front (v ∷ xs) ys ar
 -- the characters of a part of the units have that part as their units
 pub units-part : (cs : List ℕ) (xs ys : List TextUnit) → units cs ≡ xs ++ ys
     → units (flat_map characters xs) ≡ xs
-units-part cs xs ys e =
-    units-of xs (AreUnits-front xs ys (subst AreUnits e (AreUnits-units_past cs 0)))
+units-part cs xs ys e = search (rules, arith, units-of, AreUnits-front, AreUnits-units_past)
 
 -- ---- what the tables of Unicode give for each character of a range, by computation, and the
 -- characters whose columns the code does not look up

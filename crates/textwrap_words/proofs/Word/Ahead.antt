@@ -1,19 +1,19 @@
 -- The units of the first part of a text, and a character that begins at a place of it.
-use Rattle.textwrap_text.proofs.Common.{IsCharBoundary-after_ascii, chars_past_char, IsCharBoundary}
-use Rattle.textwrap_text.proofs.Common.{encode_utf8_all, IsUtf8-between, encodes-chars, IsUtf8-drop}
-use Rattle.textwrap_text.proofs.Common.{length-append, chars-append, get_or-drop, get_or-take, List}
-use Rattle.textwrap_text.proofs.Common.{slice_range, sum_by-cons, units_width, cases_Bool, TextUnit}
-use Rattle.textwrap_text.proofs.Common.{drop_split, unit_width, add-zero, cases_lt, eqb-true, arith}
-use Rattle.textwrap_text.proofs.Common.{is_blank, not-true, zero-add, Visible, next_of, unit_at, []}
-use Rattle.textwrap_text.proofs.Common.{IsUtf8, get_or, length, false, shows, units, drop, refl, ap}
-use Rattle.textwrap_text.proofs.Common.{true, ◌++◌, inl, inr, sym, ◌+◌, ◌-◌, ◌<◌, ◌∙◌, ◌∷◌, ◌≡◌, ℕ}
-use Rattle.textwrap_text.proofs.Common.{◌≢◌, ◌≤◌}
-use Rattle.textwrap_words.proofs.Common.{IsCharBoundary-before_ascii, length-slice, some-bytes}
-use Rattle.textwrap_words.proofs.Common.{Splitter, is_point, one-byte, is_due, State}
+use Rattle.textwrap_text.proofs.Common.{chars_past_char, IsCharBoundary, IsCharBoundary-after_ascii}
+use Rattle.textwrap_text.proofs.Common.{encode_utf8_all, encodes-chars, IsUtf8-between, IsUtf8-drop}
+use Rattle.textwrap_text.proofs.Common.{chars-append, get_or-drop, get_or-take, length-append, List}
+use Rattle.textwrap_text.proofs.Common.{cases_Bool, slice_range, sum_by-cons, TextUnit, units_width}
+use Rattle.textwrap_text.proofs.Common.{add-zero, arith, cases_lt, drop_split, eqb-true, unit_width}
+use Rattle.textwrap_text.proofs.Common.{[], is_blank, next_of, not-true, unit_at, Visible, zero-add}
+use Rattle.textwrap_text.proofs.Common.{drop, false, get_or, IsUtf8, length, rules, shows, units, ℕ}
+use Rattle.textwrap_text.proofs.Common.{inl, inr, refl, sym, true, ◌++◌, ◌+◌, ◌<◌, ◌∙◌, ◌∷◌, ◌≡◌}
+use Rattle.textwrap_text.proofs.Common.{ap, ◌≢◌, ◌≤◌}
+use Rattle.textwrap_text.proofs.Units.Reading.{added, units_in, units_in-inside, units_in-text}
 use Rattle.textwrap_text.specs.declared.escapes.State.TheVariants.{Command, Control, Escape, Text}
-use Rattle.textwrap_words.proofs.Word.Breaking.{taken_units, left_units}
-use Rattle.textwrap_text.proofs.Units.Reading.{units_in-inside, units_in-text, units_in, added}
-use Rattle.std.specs.Prelude.{encode_utf8, chars}
+use Rattle.std.specs.Prelude.{chars, encode_utf8}
+use Rattle.textwrap_words.proofs.Common.{IsCharBoundary-before_ascii, length-slice, some-bytes}
+use Rattle.textwrap_words.proofs.Common.{is_due, is_point, one-byte, Splitter, State}
+use Rattle.textwrap_words.proofs.Word.Breaking.{left_units, taken_units}
 use Rattle.textwrap_words.proofs.Word.Splitting.{point-hyphen}
 
 -- ---- the units of the first part, one after another
@@ -150,14 +150,8 @@ module _ (text : List ℕ) (utf8 : IsUtf8 text) (place c : ℕ) (after : List �
   pub point-after : (splitter : Splitter) (k : ℕ) → k ≡ place + length (encode_utf8 c)
       → k < length text → (c ≡ 45 → is_point splitter text k ≡ false)
       → is_point splitter text k ≡ false
-  point-after splitter k end inside point = elim (cases_Bool (is_point splitter text k)) [
-    | inr none ↦ none
-    | inl is ↦
-        let some = some-bytes c in
-        let byte = point-hyphen splitter text k (omega (arith, end, some)) inside is in
-        point (ascii-byte (k - 1) 45 (omega (arith, end, some)) (omega (arith, end, some))
-        (omega (arith, inside)) byte (omega arith)).1
-  ]
+  point-after splitter k end inside point =
+      search (rules, arith, cases_Bool, some-bytes, point-hyphen, ascii-byte)
 
   pub plain-bytes : c ≢ 32 → (k : ℕ) → place ≤ k → k < place + length (encode_utf8 c)
       → k < length text → is_blank (get_or text k 0) ≡ false

@@ -1,27 +1,25 @@
 -- The pieces of broken words: their texts, their widths, and that they tile their word.
-use Rattle.textwrap_text.proofs.Common.{chars_from_encodes, take-append-drop, encode_utf8_all, Bool}
-use Rattle.textwrap_text.proofs.Common.{flat_map-append, IsCharBoundary, encodes-append, append-nil}
-use Rattle.textwrap_text.proofs.Common.{encodes-chars, sum_by-append, append_assoc, chars-append, ℕ}
-use Rattle.textwrap_text.proofs.Common.{IsUtf8-take, sum_by-cons, units_width, characters, All-cons}
-use Rattle.textwrap_text.proofs.Common.{false≢true, text_width, unit_width, visible_of, chars-nil}
-use Rattle.textwrap_text.proofs.Common.{cond_both, ltb-false, nat_tests, All-head, All-tail, IsUtf8}
-use Rattle.textwrap_text.proofs.Common.{TextUnit, flat_map, All-nil, Visible, columns, length, List}
-use Rattle.textwrap_text.proofs.Common.{lt-ltb, sum_by, arith, false, subst, units, cond, drop, All}
-use Rattle.textwrap_text.proofs.Common.{refl, take, true, ◌++◌, map, sym, ◌<◌, ◌∙◌, ◌∷◌, ◌≡◌, ◌≢◌}
-use Rattle.textwrap_text.proofs.Common.{◌≤◌, [], ap, ⊤}
-use Rattle.textwrap_words.proofs.Common.{IsCharBoundary-from_drop, append_cancel_right, broken_word}
-use Rattle.textwrap_words.proofs.Common.{column_characters, broken_pieces, broken_texts, units_text}
-use Rattle.textwrap_words.proofs.Common.{broken_units, broken_words, pieces_with, utf8-front, piece}
-use Rattle.textwrap_words.proofs.Common.{utf8-back, WordText, tile_of, IsKept, tiled}
-use Rattle.textwrap_words.proofs.Word.Ahead.{EndsHere}
-use Rattle.std.specs.Prelude.{chars}
+use Rattle.textwrap_text.proofs.Common.{Bool, chars_from_encodes, encode_utf8_all, take-append-drop}
+use Rattle.textwrap_text.proofs.Common.{append-nil, encodes-append, flat_map-append, IsCharBoundary}
+use Rattle.textwrap_text.proofs.Common.{append_assoc, chars-append, encodes-chars, sum_by-append, ℕ}
+use Rattle.textwrap_text.proofs.Common.{All-cons, characters, IsUtf8-take, sum_by-cons, units_width}
+use Rattle.textwrap_text.proofs.Common.{chars-nil, false≢true, text_width, unit_width, visible_of}
+use Rattle.textwrap_text.proofs.Common.{All-head, All-tail, cond_both, IsUtf8, ltb-false, nat_tests}
+use Rattle.textwrap_text.proofs.Common.{All-nil, columns, flat_map, length, List, TextUnit, Visible}
+use Rattle.textwrap_text.proofs.Common.{[], arith, cond, false, lt-ltb, rules, subst, sum_by, units}
+use Rattle.textwrap_text.proofs.Common.{All, drop, map, refl, sym, take, true, ◌++◌, ◌<◌, ◌∙◌, ◌∷◌}
+use Rattle.textwrap_text.proofs.Common.{ap, ⊤, ◌≡◌, ◌≢◌, ◌≤◌}
+use Rattle.textwrap_text.proofs.Units.Texts.{units-part, units-tile, units_width-is}
+use Rattle.std.{proofs.Common.ltb, specs.Prelude.chars}
+use Rattle.textwrap_words.proofs.Common.{append_cancel_right, broken_word, IsCharBoundary-from_drop}
+use Rattle.textwrap_words.proofs.Common.{broken_pieces, broken_texts, column_characters, units_text}
+use Rattle.textwrap_words.proofs.Common.{broken_units, broken_words, piece, pieces_with, utf8-front}
+use Rattle.textwrap_words.proofs.Common.{IsKept, tile_of, tiled, utf8-back, WordText}
+use Rattle.textwrap_words.proofs.Word.{Ahead.EndsHere, Words.All-each}
 use Rattle.textwrap_words.proofs.Word.Breaking.{AreBroken-exists, AreBroken-unique, parts_after-is}
-use Rattle.textwrap_words.proofs.Word.Breaking.{column_units, taken_units, left_units, taken-left}
-use Rattle.textwrap_words.proofs.Word.Breaking.{parts-own, single, IsOwn}
-use Rattle.textwrap_text.proofs.Units.Texts.{units_width-is, units-part, units-tile}
+use Rattle.textwrap_words.proofs.Word.Breaking.{column_units, left_units, taken-left, taken_units}
+use Rattle.textwrap_words.proofs.Word.Breaking.{IsOwn, parts-own, single}
 use Rattle.textwrap_words.proofs.Word.Words.{EndsInBlanks, HasNoPenalty, IsMeasured, no_blanks}
-use Rattle.textwrap_words.proofs.Word.Words.{All-each}
-use Rattle.std.proofs.Common.{ltb}
 
 -- ---- the texts of the pieces of a word
 
@@ -189,8 +187,7 @@ broken_word-measured limit w measured false = All-cons IsMeasured w [] measured 
 
 pub broken_words-measured : (limit : ℕ) (words : List WordText) → All IsMeasured words
     → All IsMeasured (broken_words limit words)
-broken_words-measured limit = All-each IsMeasured IsMeasured (broken_word limit)
-    (λ w measured. broken_word-measured limit w measured _)
+broken_words-measured limit = search (rules, arith, All-each, broken_word-measured)
 
 broken_word-no_penalty : (limit : ℕ) (w : WordText) → HasNoPenalty w → (b : Bool)
     → All HasNoPenalty (cond b (broken_pieces limit w) (w ∷ []))
@@ -201,8 +198,7 @@ broken_word-no_penalty limit w none false = All-cons HasNoPenalty w [] none (All
 
 pub broken_words-no_penalty : (limit : ℕ) (words : List WordText) → All HasNoPenalty words
     → All HasNoPenalty (broken_words limit words)
-broken_words-no_penalty limit = All-each HasNoPenalty HasNoPenalty (broken_word limit)
-    (λ w none. broken_word-no_penalty limit w none _)
+broken_words-no_penalty limit = search (rules, arith, All-each, broken_word-no_penalty)
 
 -- ---- a text within the limit is one piece, and a word that is broken goes on as its rest does
 

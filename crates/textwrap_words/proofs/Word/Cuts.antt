@@ -1,11 +1,11 @@
 -- Offsets of which each may follow the one before it: by index, with one more, and in other words.
-use Rattle.textwrap_text.proofs.Common.{IsNonDecreasing, get_or_default, All-head, All-tail, get_or}
-use Rattle.textwrap_text.proofs.Common.{length, arith, List, zero, ◌++◌, All, suc, ◌+◌, ◌<◌, ◌↔◌, ℕ}
-use Rattle.textwrap_text.proofs.Common.{◌∷◌, ◌≡◌, ◌≤◌, [], ⊤}
-use Rattle.std.specs.List.Sorted.{IsStrictlyIncreasing}
+use Rattle.textwrap_text.proofs.Common.{All-head, All-tail, get_or, get_or_default, IsNonDecreasing}
+use Rattle.textwrap_text.proofs.Common.{All, arith, length, List, rules, suc, zero, ◌++◌, ◌+◌, ◌<◌}
+use Rattle.textwrap_text.proofs.Common.{[], ℕ, ⊤, ◌↔◌, ◌∷◌, ◌≡◌, ◌≤◌}
 use Rattle.std.proofs.lemmas.List.Sorted.{IsNonDecreasingBy-from_all_adjacent}
-use Rattle.textwrap_words.proofs.Common.{IsNextPoint, IsNextCut, AreNext}
-use Rattle.textwrap_words.specs.Cuts.{AreInnerCuts, AreCuts}
+use Rattle.std.specs.List.Sorted.{IsStrictlyIncreasing}
+use Rattle.textwrap_words.proofs.Common.{AreNext, IsNextCut, IsNextPoint}
+use Rattle.textwrap_words.specs.Cuts.{AreCuts, AreInnerCuts}
 
 module _ (IsNext : ℕ → ℕ → Type 0) where
   pub next-at : (offsets : List ℕ) (last k : ℕ) → AreNext IsNext offsets last → k < length offsets
@@ -24,8 +24,7 @@ module _ (IsNext : ℕ → ℕ → Type 0) where
 
   pub next-by_index : (offsets : List ℕ) (last : ℕ) → AreNext IsNext offsets last
       ↔ ((k : ℕ) → k < length offsets → IsNext (get_or (last ∷ offsets) k 0) (get_or offsets k 0))
-  next-by_index offsets last =
-      (λ are k within. next-at offsets last k are within, next-each offsets last)
+  next-by_index offsets last = search (rules, arith, next-at, next-each)
 
   pub next-push : (offsets : List ℕ) (offset last : ℕ) → AreNext IsNext offsets last
       → IsNext (get_or (last ∷ offsets) (length offsets) 0) offset

@@ -1,29 +1,24 @@
 -- Lemmas on what an algorithm may divide, also one of a caller: its lines are the first elements in
 -- order, and along a view they are those of what the view gives.
-use Rattle.textwrap_text.proofs.Common.{append_assoc, slice_range, append-nil, drop_split, take-map}
-use Rattle.textwrap_text.proofs.Common.{length-map, length, map-id, arith, subst, List, None, Some}
-use Rattle.textwrap_text.proofs.Common.{drop, refl, ◌++◌, map, sym, ◌<◌, ◌∙◌, ◌∷◌, ◌≡◌, ◌≢◌, Ok, []}
-use Rattle.textwrap_text.proofs.Common.{ap, ℕ}
-use Rattle.textwrap_words.proofs.Common.{algorithm_view, IsDividedBy, LeastCost, MayDivide, AreNext}
-use Rattle.textwrap_words.proofs.Common.{WordText, drop-map, sizes_of, Begins, Greedy, MayEnd, flat}
-use Rattle.textwrap_words.specs.LineEnds.{lines_from, IsNextEnd, AreEnds}
+use Rattle.textwrap_text.proofs.Common.{append-nil, append_assoc, drop_split, length-map, take-map}
+use Rattle.textwrap_text.proofs.Common.{arith, drop, length, List, map-id, None, rules, Some, subst}
+use Rattle.textwrap_text.proofs.Common.{[], ap, map, refl, sym, ℕ, ◌<◌, ◌∙◌, ◌∷◌, ◌≡◌, ◌≢◌}
+use Rattle.textwrap_base.proofs.Division.Map.{IsDividedBy-map, IsDividedBy-some, IsDividedBy-whole}
+use Rattle.textwrap_words.proofs.Common.{algorithm_view, AreNext, IsDividedBy, LeastCost, MayDivide}
+use Rattle.textwrap_words.proofs.Common.{Begins, drop-map, flat, Greedy, MayEnd, sizes_of, WordText}
+use Rattle.textwrap_words.specs.LineEnds.{AreEnds, IsNextEnd, lines_from}
 use Rattle.textwrap_words.specs.declared.wrap_algorithms.WrapAlgorithm.{WrapAlgorithm}
 use Rattle.textwrap_words.specs.declared.wrap_algorithms.WrapAlgorithm.TheVariants.{OptimalFit}
 use Rattle.textwrap_words.specs.declared.wrap_algorithms.WrapAlgorithm.TheVariants.{FirstFit}
 use Rattle.textwrap_words.specs.declared.wrap_algorithms.WrapAlgorithm.TheVariants.{Custom}
 use Rattle.textwrap_words.specs.declared.wrap_algorithms.line_ends.LineEnds.{LineEnds}
-use Rattle.textwrap_base.proofs.Division.Map.{IsDividedBy-whole, IsDividedBy-some, IsDividedBy-map}
 
 -- up to an end, the lines are the first elements from a place on
 pub lines_from-begin : {X : Type 0} (xs : List X) (start : ℕ) (ends : List ℕ)
     → AreNext (IsNextEnd (length xs)) ends start → Begins (drop start xs) (flat (lines_from xs start ends))
 lines_from-begin xs start [] are = (drop start xs, refl)
 lines_from-begin xs start (end ∷ ends) ((after, _), next) =
-    let (rest, is) = lines_from-begin xs end ends next in (
-      rest,
-      append_assoc (slice_range xs start end) (flat (lines_from xs end ends)) rest
-          ∙ ap (λ l. slice_range xs start end ++ l) is ∙ sym (drop_split xs start end after),
-    )
+    search (rules, arith, append_assoc, drop_split, lines_from-begin xs end ends next)
 
 pub lines_from-map : {X Y : Type 0} (f : X → Y) (xs : List X) (start : ℕ) (ends : List ℕ)
     → map (map f) (lines_from xs start ends) ≡ lines_from (map f xs) start ends
@@ -36,16 +31,14 @@ lines_from-map f xs start (end ∷ ends) =
 pub MayEnd-ends : {F X : Type 0} {f : _} (given : LineEnds F f) (view : X → WordText) (xs : List X)
     (widths ends : List ℕ) → MayEnd given (map view xs) widths ends → AreEnds xs ends
 MayEnd-ends given view xs widths ends (alloc, asked, lent, answer, words, same, is, met) =
-    let are = given.answers alloc asked lent (Ok answer) met answer refl in
-    grind (arith, length-map)
+    search (rules, arith, length-map)
 
 module _ {F : Type 0} {f : _} where
   pub MayDivide-map : {X : Type 0} (algorithm : WrapAlgorithm F f) (view : X → WordText)
       (widths : List ℕ) (xs : List X) (lines : List (List X))
       → MayDivide algorithm view widths xs lines
       → MayDivide algorithm (λ w. w) widths (map view xs) (map (map view) lines)
-  MayDivide-map FirstFit view widths xs lines divided =
-      IsDividedBy-map view sizes_of Greedy widths xs lines divided
+  MayDivide-map FirstFit view widths xs lines divided = search (rules, arith, IsDividedBy-map)
   MayDivide-map (OptimalFit penalties) view widths xs lines divided =
       IsDividedBy-map view sizes_of (LeastCost penalties) widths xs lines divided
   MayDivide-map (Custom given) view widths xs lines (ends, may, is) = (

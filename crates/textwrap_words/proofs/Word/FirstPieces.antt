@@ -1,22 +1,21 @@
 -- The pieces of a text from a place on, and the first of them, where the reader stopped.
-use Rattle.textwrap_text.proofs.Common.{without_final_blanks, IsCharBoundary, IsUtf8-between, arith}
-use Rattle.textwrap_text.proofs.Common.{get_or-drop, get_or-take, length-drop, slice_range, IsUtf8}
-use Rattle.textwrap_text.proofs.Common.{trimmed_len, text_width, true≢false, drop-drop, take-take}
-use Rattle.textwrap_text.proofs.Common.{cases_lt, is_blank, get_or, le-ltb, length, false, subst, ℕ}
-use Rattle.textwrap_text.proofs.Common.{Bool, List, drop, take, true, ◌++◌, inl, inr, map, sym, ◌+◌}
-use Rattle.textwrap_text.proofs.Common.{◌-◌, ◌<◌, ◌∙◌, ◌∷◌, ◌≡◌, ◌≢◌, ◌≤◌, [], ap}
-use Rattle.textwrap_words.proofs.Common.{IsCharBoundary-end, AreFinalBlanks, IsFirstWithin, is_stop}
+use Rattle.textwrap_text.proofs.Common.{arith, IsCharBoundary, IsUtf8-between, without_final_blanks}
+use Rattle.textwrap_text.proofs.Common.{get_or-drop, get_or-take, IsUtf8, length-drop, slice_range}
+use Rattle.textwrap_text.proofs.Common.{drop-drop, take-take, text_width, trimmed_len, true≢false}
+use Rattle.textwrap_text.proofs.Common.{cases_lt, false, get_or, is_blank, le-ltb, length, subst, ℕ}
+use Rattle.textwrap_text.proofs.Common.{Bool, drop, inl, inr, List, map, sym, take, true, ◌++◌, ◌+◌}
+use Rattle.textwrap_text.proofs.Common.{[], ap, ◌-◌, ◌<◌, ◌∙◌, ◌∷◌, ◌≡◌, ◌≢◌, ◌≤◌}
+use Rattle.textwrap_words.proofs.Common.{AreFinalBlanks, is_stop, IsCharBoundary-end, IsFirstWithin}
 use Rattle.textwrap_words.proofs.Common.{broken_texts, broken_words, is_piece_cut, length-slice}
-use Rattle.textwrap_words.proofs.Common.{IsFirstStop, IsFirstWord, broken_word, pieces_from, IsPart}
-use Rattle.textwrap_words.proofs.Common.{IsPartWord, drop-take, slice-nil, Splitter, WordText}
-use Rattle.textwrap_words.proofs.Common.{is_point, or_parts, parts_by, or-true, word_of, piece}
-use Rattle.textwrap_words.proofs.Word.Texts.{trimmed-blank, trimmed-other, trimmed-past, trimmed-le}
+use Rattle.textwrap_words.proofs.Common.{broken_word, IsFirstStop, IsFirstWord, IsPart, pieces_from}
+use Rattle.textwrap_words.proofs.Common.{drop-take, IsPartWord, slice-nil, Splitter, WordText}
+use Rattle.textwrap_words.proofs.Common.{is_point, or-true, or_parts, parts_by, piece, word_of}
+use Rattle.textwrap_words.proofs.Word.{Parts.parts_by-front, Splitting.point-hyphen}
 use Rattle.textwrap_words.proofs.Word.BrokenPieces.{broken_texts-narrow, broken_word-front}
-use Rattle.textwrap_words.proofs.Word.BrokenPieces.{broken_word-texts, broken_texts-nil}
-use Rattle.textwrap_words.proofs.Word.Parts.{parts_by-front}
+use Rattle.textwrap_words.proofs.Word.BrokenPieces.{broken_texts-nil, broken_word-texts}
+use Rattle.textwrap_words.proofs.Word.SplitParts.{blanks-part, part-of_word, point-none, word-part}
+use Rattle.textwrap_words.proofs.Word.Texts.{trimmed-blank, trimmed-le, trimmed-other, trimmed-past}
 use Rattle.textwrap_words.proofs.Word.Words.{text_width-nil}
-use Rattle.textwrap_words.proofs.Word.SplitParts.{part-of_word, blanks-part, point-none, word-part}
-use Rattle.textwrap_words.proofs.Word.Splitting.{point-hyphen}
 
 -- ---- the pieces of a text from a place on: those of the part that begins there, and those from
 -- its end on; and where the first of them stops inside the part

@@ -1,34 +1,30 @@
 -- Offsets of the visible text of a line, and the cuts of the line there.
-use Rattle.textwrap_text.proofs.Common.{encode_utf8_all, flat_map-append, IsCharBoundary, Contains}
-use Rattle.textwrap_text.proofs.Common.{encodes-append, encodes-chars, length-append, append_assoc}
-use Rattle.textwrap_text.proofs.Common.{All-weaker, cases_Bool, characters, escape_len, units_past}
-use Rattle.textwrap_text.proofs.Common.{Sequence, TextUnit, add-zero, flat_map, stripped, taken_in}
-use Rattle.textwrap_text.proofs.Common.{zero-add, Visible, next_of, IsUtf8, length, lt-ltb, arith}
-use Rattle.textwrap_text.proofs.Common.{false, rules, shows, subst, units, Bool, List, cond, refl}
-use Rattle.textwrap_text.proofs.Common.{take, true, ◌++◌, eqb, inl, inr, map, sym, ◌+◌, ◌<◌, ◌↔◌, ℕ}
-use Rattle.textwrap_text.proofs.Common.{◌∙◌, ◌∷◌, ◌≡◌, ◌≢◌, ◌≤◌, [], ap}
-use Rattle.textwrap_words.proofs.Common.{IsCharBoundary-at_seam, not_from_false, parts_between}
-use Rattle.textwrap_words.proofs.Common.{is_cut_after, VisibleEnd, cuts_among, some-bytes, WordText}
-use Rattle.textwrap_words.proofs.Common.{units_text, IsNextCut, ends_from, shown_len, utf8-back}
-use Rattle.textwrap_words.proofs.Common.{one-text, past-one, AreNext, cuts_at, word_of, State}
-use lib.Utf8.{encode}
-use Rattle.textwrap_text.specs.declared.escapes.State.TheVariants.{Command, Control, Escape, Text}
-use Rattle.textwrap_text.proofs.Units.Reading.{taken-step, units_in}
-use Rattle.textwrap_text.proofs.Lists.Elements.{increasing-rising, rising-in_order, contains-cases}
-use Rattle.textwrap_text.proofs.Lists.Elements.{contains-later, contains-here, any-contains}
-use Rattle.textwrap_text.proofs.Lists.Elements.{contains-any, contains-nil, same-members}
-use Rattle.std.specs.Str.{chars}
-use Rattle.std.specs.Prelude.{◌&&◌}
+use Rattle.textwrap_text.{proofs.Common.characters, specs.declared.characters.Character.Character}
+use Rattle.textwrap_text.proofs.{Common.zero-add, Units.Reading.taken-step, Units.Reading.units_in}
+use Rattle.textwrap_text.proofs.{Common.units, Units.Characters.shown-all, Units.Texts.units-tile}
+use Rattle.textwrap_text.proofs.Common.{All-weaker, cases_Bool, encode_utf8_all, eqb, taken_in, ◌∙◌}
+use Rattle.textwrap_text.proofs.Common.{false, inr, length, length-append, map, take, ◌+◌, ◌<◌, ◌∷◌}
+use Rattle.textwrap_text.proofs.Common.{encodes-chars, flat_map, refl, rules, stripped, subst, true}
+use Rattle.textwrap_text.proofs.Common.{flat_map-append, IsCharBoundary, Sequence, sym, Visible, ℕ}
+use Rattle.textwrap_text.proofs.Common.{Contains, escape_len, IsUtf8, next_of, TextUnit, units_past}
+use Rattle.textwrap_text.proofs.Common.{add-zero, arith, Bool, cond, inl, List, lt-ltb, shows, ◌++◌}
+use Rattle.textwrap_text.proofs.Common.{[], ap, append_assoc, encodes-append, ◌↔◌, ◌≡◌, ◌≢◌, ◌≤◌}
+use Rattle.textwrap_text.proofs.Lists.Elements.{contains-cases, contains-nil, increasing-rising}
+use Rattle.textwrap_text.proofs.Lists.Elements.{any-contains, contains-any, same-members}
+use Rattle.textwrap_text.proofs.Lists.Elements.{contains-here, contains-later, rising-in_order}
+use Rattle.textwrap_text.proofs.Units.Characters.{ahead-next, ahead-start, AreAhead, shown-next}
 use Rattle.textwrap_text.specs.Characters.{characters_from, characters_of, shown_text}
-use Rattle.textwrap_text.proofs.Units.Characters.{ahead-start, ahead-next, shown-next, shown-all}
-use Rattle.textwrap_text.proofs.Units.Characters.{AreAhead}
-use Rattle.textwrap_text.specs.declared.characters.Character.{Character}
-use Rattle.textwrap_words.specs.Cuts.{AreInnerCuts}
-use Rattle.textwrap_words.proofs.Word.Cuts.{next-increasing, next-with}
-use Rattle.std.specs.List.Sorted.{IsStrictlyIncreasing}
-use Rattle.textwrap_words.specs.WordOffsets.{AreWordsAt, AreCutsAt, words_at, IsCutAt}
+use Rattle.textwrap_text.specs.declared.escapes.State.TheVariants.{Command, Control, Escape, Text}
 use Rattle.std.proofs.lemmas.List.Elements.{All-contains_itself}
-use Rattle.textwrap_text.proofs.Units.Texts.{units-tile}
+use Rattle.std.specs.{List.Sorted.IsStrictlyIncreasing, Prelude.◌&&◌, Str.chars}
+use Rattle.textwrap_words.proofs.Common.{AreNext, cuts_at, parts_between, State, utf8-back, word_of}
+use Rattle.textwrap_words.proofs.Common.{ends_from, IsCharBoundary-at_seam, one-text, past-one}
+use Rattle.textwrap_words.proofs.Common.{cuts_among, is_cut_after, IsNextCut, not_from_false}
+use Rattle.textwrap_words.proofs.Common.{shown_len, some-bytes, units_text, VisibleEnd, WordText}
+use Rattle.textwrap_words.proofs.Word.Cuts.{next-increasing, next-with}
+use Rattle.textwrap_words.specs.Cuts.{AreInnerCuts}
+use Rattle.textwrap_words.specs.WordOffsets.{AreCutsAt, AreWordsAt, IsCutAt, words_at}
+use lib.Utf8.{encode}
 
 -- ---- where the visible characters of a line end
 
@@ -179,10 +175,7 @@ among-next offsets total (Visible c ∷ us) at shown last below =
     let end = at + length (encode c) in
     let above : last < end = omega (arith, below, some-bytes c) in
     let rest = among-next offsets total us end (shown + length (encode c)) in
-    elim (cases_Bool (is_cut_after offsets total c (shown + length (encode c)))) [
-      | inl t ↦ rw t (above, rest end (omega arith))
-      | inr f ↦ rw f (rest last (omega (arith, above)))
-    ]
+    search (rules, arith, cases_Bool)
 
 pub cut-found : (offsets line : List ℕ) (cut : ℕ) → Contains (cuts_at offsets line) cut
     → IsCutAt offsets line cut
@@ -203,14 +196,12 @@ cut-contained offsets line cut h =
     (found-contains offsets total h.before h.after h.character 0 0 passes))
 
 cuts_at-next : (offsets line : List ℕ) → AreNext (λ a b. a < b) (cuts_at offsets line) 0
-cuts_at-next offsets line =
-    among-next offsets (length (stripped line)) (units (chars line)) 0 0 0 (omega arith)
+cuts_at-next offsets line = search (rules, arith, among-next)
 
 cuts-increasing : (cuts : List ℕ) (last : ℕ) → AreNext (λ a b. a < b) cuts last
     → IsStrictlyIncreasing cuts
 cuts-increasing [] last are = λ k within. absurd (omega arith)
-cuts-increasing (cut ∷ cuts) last (_, rest) =
-    next-increasing (λ a b. a < b) cuts cut (λ a b above. above) rest
+cuts-increasing (cut ∷ cuts) last (_, rest) = search (rules, arith, next-increasing)
 
 pub cuts_at-cuts : (offsets line : List ℕ) → AreCutsAt offsets line (cuts_at offsets line)
 cuts_at-cuts offsets line = record {

@@ -1,24 +1,21 @@
 -- The parts of a text between cuts, and between places that a test tells.
-use Rattle.textwrap_text.proofs.Common.{IsCharBoundary-start, nil_from_length, IsCharBoundary, Bool}
-use Rattle.textwrap_text.proofs.Common.{IsUtf8-between, if◌then◌else◌, IsUtf8-drop, get_or-drop, Ok}
-use Rattle.textwrap_text.proofs.Common.{length-drop, slice_range, All-weaker, append-nil, drop-drop}
-use Rattle.textwrap_text.proofs.Common.{cases_Bool, drop_split, onto_first, nat_tests, All-cons, []}
-use Rattle.textwrap_text.proofs.Common.{add-zero, cases_lt, drop_all, take_all, All-nil, IsUtf8, ap}
-use Rattle.textwrap_text.proofs.Common.{chunks, get_or, is_cut, length, arith, false, subst, List}
-use Rattle.textwrap_text.proofs.Common.{None, cond, drop, refl, take, true, zero, ◌++◌, ◌==◌, ◌||◌}
-use Rattle.textwrap_text.proofs.Common.{All, inl, inr, map, suc, sym, ◌+◌, ◌-◌, ◌<◌, ◌∙◌, ◌∷◌, ◌≡◌}
-use Rattle.textwrap_text.proofs.Common.{◌≢◌, ◌≤◌, ℕ}
-use Rattle.textwrap_words.proofs.Common.{onto_first-append, onto_first-some, ends_in_hyphen, Whole}
-use Rattle.textwrap_words.proofs.Common.{parts_between, splitter_view, AreInnerCuts, parts_onward}
-use Rattle.textwrap_words.proofs.Common.{IsNextPoint, MaySeparate, AtHyphens, MaySplit, WordText}
-use Rattle.textwrap_words.proofs.Common.{parts_by, words_of, AreCuts, AreNext, word_of, tiled, flat}
+use Rattle.textwrap_text.proofs.Common.{Bool, IsCharBoundary, IsCharBoundary-start, nil_from_length}
+use Rattle.textwrap_text.proofs.Common.{[], get_or-drop, if◌then◌else◌, IsUtf8-between, IsUtf8-drop}
+use Rattle.textwrap_text.proofs.Common.{All-weaker, append-nil, cases_Bool, drop_split, length-drop}
+use Rattle.textwrap_text.proofs.Common.{add-zero, All-cons, arith, drop-drop, nat_tests, onto_first}
+use Rattle.textwrap_text.proofs.Common.{All-nil, cases_lt, chunks, drop_all, IsUtf8, List, take_all}
+use Rattle.textwrap_text.proofs.Common.{ap, cond, false, get_or, is_cut, length, None, rules, subst}
+use Rattle.textwrap_text.proofs.Common.{All, drop, inl, refl, take, true, zero, ℕ, ◌++◌, ◌==◌, ◌||◌}
+use Rattle.textwrap_text.proofs.Common.{inr, map, suc, sym, ◌+◌, ◌-◌, ◌<◌, ◌∙◌, ◌∷◌, ◌≡◌, ◌≢◌, ◌≤◌}
 use Rattle.textwrap_text.proofs.Units.Chunks.{chunks-from}
-use Rattle.textwrap_words.proofs.Word.Words.{tiled-map}
-use Rattle.textwrap_words.proofs.Word.Cuts.{inner-cuts}
-use Rattle.textwrap_words.proofs.Word.Pieces.{ArePoints-hyphens, ArePoints-cuts, AreTexts-parts}
-use Rattle.textwrap_words.proofs.Word.Pieces.{AreTexts-words, AreTexts}
-use Rattle.textwrap_words.specs.WordSeparators.{MayCut}
-use Rattle.textwrap_words.specs.WordSplitters.{MayPoint}
+use Rattle.textwrap_words.proofs.Common.{ends_in_hyphen, onto_first-append, onto_first-some, Whole}
+use Rattle.textwrap_words.proofs.Common.{AreInnerCuts, parts_between, parts_onward, splitter_view}
+use Rattle.textwrap_words.proofs.Common.{AtHyphens, IsNextPoint, MaySeparate, MaySplit, WordText}
+use Rattle.textwrap_words.proofs.Common.{AreCuts, AreNext, flat, parts_by, tiled, word_of, words_of}
+use Rattle.textwrap_words.proofs.Word.{Cuts.inner-cuts, Words.tiled-map}
+use Rattle.textwrap_words.proofs.Word.Pieces.{ArePoints-cuts, ArePoints-hyphens, AreTexts-parts}
+use Rattle.textwrap_words.proofs.Word.Pieces.{AreTexts, AreTexts-words}
+use Rattle.textwrap_words.specs.{WordSeparators.MayCut, WordSplitters.MayPoint}
 use Rattle.textwrap_words.specs.declared.word_separators.WordSeparator.{WordSeparator}
 use Rattle.textwrap_words.specs.declared.word_separators.WordSeparator.TheVariants.{AsciiSpace}
 use Rattle.textwrap_words.specs.declared.word_separators.WordSeparator.TheVariants.{Custom}
@@ -32,8 +29,7 @@ parts_from-tile : (start : ℕ) (cuts line : List ℕ) → AreNext (IsNextPoint 
     → flat (parts_onward start cuts line) ≡ drop start line
 parts_from-tile start [] line are = append-nil (drop start line)
 parts_from-tile start (cut ∷ cuts) line ((after, _, _), rest) =
-    ap (λ l. slice_range line start cut ++ l) (parts_from-tile cut cuts line rest)
-    ∙ sym (drop_split line start cut after)
+    search (rules, arith, drop_split, parts_from-tile cut cuts line rest)
 
 pub parts_between-tile : (cuts line : List ℕ) → AreCuts line cuts
     → tiled (map word_of (parts_between cuts line)) ≡ line
@@ -43,11 +39,9 @@ parts_between-tile cuts line are = grind (arith, tiled-map, nil_from_length, par
 
 parts_from-utf8 : (start : ℕ) (cuts line : List ℕ) → IsUtf8 line → IsCharBoundary line start
     → AreNext (IsNextPoint line) cuts start → All IsUtf8 (parts_onward start cuts line)
-parts_from-utf8 start [] line utf8 at are =
-    All-cons IsUtf8 (drop start line) [] (IsUtf8-drop line start utf8 at) (All-nil IsUtf8)
+parts_from-utf8 start [] line utf8 at are = search (rules, arith, All-cons, IsUtf8-drop, All-nil)
 parts_from-utf8 start (cut ∷ cuts) line utf8 at ((after, inside, next), rest) =
-    All-cons IsUtf8 (slice_range line start cut) (parts_onward cut cuts line)
-    (IsUtf8-between line start cut utf8 after at next) (parts_from-utf8 cut cuts line utf8 next rest)
+    search (rules, arith, All-cons, IsUtf8-between, parts_from-utf8 cut cuts line utf8 next rest)
 
 pub parts_between-utf8 : (cuts line : List ℕ) → IsUtf8 line → AreCuts line cuts
     → All IsUtf8 (parts_between cuts line)
@@ -62,22 +56,17 @@ parts_between-utf8 cuts line utf8 are = elim (cases_Bool (length line == 0)) [
 pub parts-texts : (line cuts : List ℕ) → IsUtf8 line → AreCuts line cuts
     → AreTexts line (map word_of (parts_between cuts line))
 parts-texts line cuts utf8 are =
-    AreTexts-parts line (parts_between cuts line) (parts_between-tile cuts line are)
-    (parts_between-utf8 cuts line utf8 are)
+    search (rules, arith, AreTexts-parts, parts_between-tile, parts_between-utf8)
 
 -- ---- what is given
 
 pub MayCut-cuts : {F : Type 0} {f : _} (given : LineCuts F f) (line cuts : List ℕ) → IsUtf8 line
     → MayCut given line cuts → AreInnerCuts line cuts
-MayCut-cuts given line cuts utf8 (alloc, asked, answer, same, is, met) =
-    subst (AreInnerCuts line) is (subst (λ l. AreInnerCuts l answer.items) same
-    (given.answers alloc asked (Ok answer) (subst IsUtf8 (sym same) utf8) met answer refl))
+MayCut-cuts given line cuts utf8 (alloc, asked, answer, same, is, met) = search (rules, arith)
 
 pub MayPoint-cuts : {F : Type 0} {f : _} (given : WordCuts F f) (text points : List ℕ)
     → IsUtf8 text → MayPoint given text points → AreCuts text points
-MayPoint-cuts given text points utf8 (alloc, asked, answer, same, is, met) =
-    subst (AreCuts text) is (subst (λ t. AreCuts t answer.items) same
-    (given.answers alloc asked (Ok answer) (subst IsUtf8 (sym same) utf8) met answer refl))
+MayPoint-cuts given text points utf8 (alloc, asked, answer, same, is, met) = search (rules, arith)
 
 module _ {F : Type 0} {f : _} where
   pub MaySeparate-texts : (separator : WordSeparator F f) (line : List ℕ) (words : List WordText)
@@ -128,15 +117,11 @@ module _ (test : ℕ → Bool) where
   parts_by-front (b ∷ []) at (suc (suc n)) some within none ends = absurd (omega arith)
   parts_by-front (b ∷ c ∷ cs) at (suc zero) some within none ends = grind arith
   parts_by-front (b ∷ c ∷ cs) at (suc (suc n)) some within none ends =
-      let place : (at + 1) + suc n ≡ at + suc (suc n) = omega arith in
-      rw (
-        none 1 (omega arith) (omega arith),
-        parts_by-front (c ∷ cs) (at + 1) (suc n) (omega arith) (omega arith)
-            (λ k first below.
-            let next : at + suc k ≡ (at + 1) + k = omega arith in
-            ap test (sym next) ∙ none (suc k) (omega arith) (omega (arith, below)))
-            (λ inside. ap test place ∙ ends (omega (arith, inside))),
-        place,
+      let place : (at + 1) + suc n ≡ at + suc (suc n) = omega arith in search (
+        rules,
+        arith,
+        ends,
+        parts_by-front (c ∷ cs) (at + 1) (suc n) (omega arith) (omega arith) (λ k first below. let next : at + suc k ≡ (at + 1) + k = omega arith in ap test (sym next) ∙ none (suc k) (omega arith) (omega (arith, below))) (λ inside. ap test place ∙ ends (omega (arith, inside))),
       )
 
   -- what is cut nowhere is one part
@@ -176,13 +161,7 @@ module _ (text : List ℕ) (at b : ℕ) (rest : List ℕ) (is : drop at text ≡
 -- whether the text is cut between two bytes that stand there
 cut-between : (text : List ℕ) (at b c : ℕ) (cs : List ℕ) → drop at text ≡ b ∷ c ∷ cs
     → is_cut (get_or text (at + 1 - 1) 0) (get_or text (at + 1) 0) ≡ is_cut b c
-cut-between text at b c cs is =
-    let back : at + 1 - 1 ≡ at = omega arith in
-    rw (
-      back,
-      byte-here text at b (c ∷ cs) is,
-      byte-here text (at + 1) c cs (bytes-after text at b (c ∷ cs) is),
-    )
+cut-between text at b c cs is = search (rules, arith, byte-here, bytes-after)
 
 -- a text that is cut between its words and at points
 module _ (text : List ℕ) (test point : ℕ → Bool) (tests : (k : ℕ) → 0 < k → k < length text
@@ -276,10 +255,7 @@ module _ (test : ℕ → Bool) where
   parts-chunks text (b ∷ []) at is same = refl
   parts-chunks text (b ∷ c ∷ cs) at is same =
       let next = bytes-after text at b (c ∷ cs) is in
-      ap (λ t. next_by test t at b (c ∷ cs))
-      (same (at + 1) (omega arith) (byte-inside text (at + 1) c cs next) ∙ cut-between text at b c cs is)
-      ∙ ap (λ ps. if is_cut b c then (b ∷ []) ∷ ps else onto_first b ps)
-      (parts-chunks text (c ∷ cs) (at + 1) next same)
+      search (rules, arith, byte-inside, cut-between, parts-chunks text (c ∷ cs) (at + 1) next same)
 
 -- the words of a text between blanks, by places
 pub blank-words : (text : List ℕ) → words_of text

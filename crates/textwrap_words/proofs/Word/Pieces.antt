@@ -1,22 +1,21 @@
 -- The pieces of split words: they tile their words, are texts, and stand one after another.
-use Rattle.textwrap_text.proofs.Common.{IsCharBoundary-start, flat_map-append, IsCharBoundary, List}
-use Rattle.textwrap_text.proofs.Common.{IsUtf8-between, BlanksBetween, append_assoc, IsUtf8-drop, ℕ}
-use Rattle.textwrap_text.proofs.Common.{slice_range, All-append, append-nil, drop_split, and_parts}
+use Rattle.textwrap_text.proofs.Common.{flat_map-append, IsCharBoundary, IsCharBoundary-start, List}
+use Rattle.textwrap_text.proofs.Common.{append_assoc, BlanksBetween, IsUtf8-between, IsUtf8-drop, ℕ}
+use Rattle.textwrap_text.proofs.Common.{All-append, and_parts, append-nil, drop_split, slice_range}
 use Rattle.textwrap_text.proofs.Common.{All-cons, All-head, All-tail, cases_lt, eqb-true, is_blank}
-use Rattle.textwrap_text.proofs.Common.{All-map, All-nil, IsUtf8, chunks, get_or, length, arith, []}
-use Rattle.textwrap_text.proofs.Common.{false, rules, subst, drop, refl, take, true, ◌++◌, All, inl}
-use Rattle.textwrap_text.proofs.Common.{inr, map, sym, ◌+◌, ◌<◌, ◌∙◌, ◌∷◌, ◌≡◌, ◌≤◌, ap}
-use Rattle.textwrap_words.proofs.Common.{IsCharBoundary-after_blank, pieces_from_place, IsFirstWord}
-use Rattle.textwrap_words.proofs.Common.{ends_in_hyphen, length-slice, split_pieces, IsNextPoint}
-use Rattle.textwrap_words.proofs.Common.{cut_penalty, split_words, AreWordsOf, split_from, AreSplit}
-use Rattle.textwrap_words.proofs.Common.{split_word, stand_from, ArePoints, AtHyphens, points_of}
-use Rattle.textwrap_words.proofs.Common.{Splitter, WordText, words_of, AreCuts, AreNext, tile_of}
-use Rattle.textwrap_words.proofs.Common.{word_of, Whole, piece, tiled}
-use Rattle.textwrap_words.proofs.Word.Splitting.{points_of-cuts}
-use Rattle.std.proofs.lemmas.List.Elements.{filter_passes}
-use Rattle.textwrap_words.proofs.Word.Words.{tiled-words_of, words-measured, HasNoPenalty}
-use Rattle.textwrap_words.proofs.Word.Words.{words_unique, IsMeasured}
+use Rattle.textwrap_text.proofs.Common.{[], All-map, All-nil, arith, chunks, get_or, IsUtf8, length}
+use Rattle.textwrap_text.proofs.Common.{All, drop, false, inl, refl, rules, subst, take, true, ◌++◌}
+use Rattle.textwrap_text.proofs.Common.{ap, inr, map, sym, ◌+◌, ◌<◌, ◌∙◌, ◌∷◌, ◌≡◌, ◌≤◌}
 use Rattle.textwrap_text.proofs.Units.Chunks.{chunks-utf8}
+use Rattle.std.proofs.lemmas.List.Elements.{filter_passes}
+use Rattle.textwrap_words.proofs.Common.{IsCharBoundary-after_blank, IsFirstWord, pieces_from_place}
+use Rattle.textwrap_words.proofs.Common.{ends_in_hyphen, IsNextPoint, length-slice, split_pieces}
+use Rattle.textwrap_words.proofs.Common.{AreSplit, AreWordsOf, cut_penalty, split_from, split_words}
+use Rattle.textwrap_words.proofs.Common.{ArePoints, AtHyphens, points_of, split_word, stand_from}
+use Rattle.textwrap_words.proofs.Common.{AreCuts, AreNext, Splitter, tile_of, words_of, WordText}
+use Rattle.textwrap_words.proofs.Common.{piece, tiled, Whole, word_of}
+use Rattle.textwrap_words.proofs.Word.{Splitting.points_of-cuts, Words.words-measured}
+use Rattle.textwrap_words.proofs.Word.Words.{HasNoPenalty, IsMeasured, tiled-words_of, words_unique}
 
 -- ---- split pieces tile their word
 
@@ -84,8 +83,7 @@ split_from-measured w start [] measured at are = search (All-cons, IsUtf8-drop, 
 split_from-measured w start (point ∷ points) measured at ((after, inside, next), rest) =
     let first : IsMeasured (piece (slice_range w.word start point) [] (cut_penalty w.word point)) =
     search (rules, IsUtf8-between, All-nil) in
-    All-cons IsMeasured (piece (slice_range w.word start point) [] (cut_penalty w.word point))
-    (split_from w point points) first (split_from-measured w point points measured next rest)
+    search (rules, arith, All-cons, measured, split_from-measured w point points measured next rest)
 
 -- the splitter cuts after hyphens alone
 points_of-hyphens : (splitter : Splitter) (text : List ℕ)
@@ -118,8 +116,7 @@ AreTexts-words line words utf8 are = subst (AreTexts line) (sym ((words_unique l
 
 pub ArePoints-cuts : (splitter : Splitter) (text points : List ℕ) → IsUtf8 text
     → ArePoints splitter text points → AreCuts text points
-ArePoints-cuts splitter text points utf8 are =
-    subst (AreCuts text) (sym are) (points_of-cuts splitter text utf8)
+ArePoints-cuts splitter text points utf8 are = search (rules, arith, points_of-cuts)
 
 pub ArePoints-hyphens : (splitter : Splitter) (text points : List ℕ)
     → ArePoints splitter text points → All (λ p. ends_in_hyphen (take p text) ≡ true) points
@@ -190,8 +187,7 @@ module _ (splitter : Splitter) (limit : ℕ) (text : List ℕ) (at word_end widt
       let n = length (slice_range text at word_end) in
       let one : at + n ≡ word_end = grind (arith, length-slice) in
       let both : at + n + (length (slice_range text word_end end)) ≡ end =
-      omega (arith, one, length-slice text word_end end within, from) in
-      grind arith
+      omega (arith, one, length-slice text word_end end within, from) in search (rules, arith)
 
   -- a character ends after the blanks
   pub blanks-end : IsUtf8 text → IsCharBoundary text end

@@ -1,28 +1,25 @@
 -- The reader of the first piece from a place on: what it has seen, and where it stops.
-use Rattle.textwrap_text.proofs.Common.{IsCharBoundary, IsUtf8-between, append_assoc, chars-append}
-use Rattle.textwrap_text.proofs.Common.{IsUtf8-drop, slice_range, cases_Bool, text_width, chars-nil}
-use Rattle.textwrap_text.proofs.Common.{drop_more, cases_lt, eqb-true, is_blank, Visible, columns}
-use Rattle.textwrap_text.proofs.Common.{next_of, take_at, IsUtf8, get_or, length, ne_eqb, arith, []}
-use Rattle.textwrap_text.proofs.Common.{false, shows, subst, units, Bool, List, drop, refl, true, ℕ}
-use Rattle.textwrap_text.proofs.Common.{zero, ◌++◌, inl, inr, suc, sym, ◌+◌, ◌-◌, ◌<◌, ◌∙◌, ◌∷◌, ap}
-use Rattle.textwrap_text.proofs.Common.{◌≡◌, ◌≢◌, ◌≤◌}
+use Rattle.textwrap_text.{proofs.Common.cases_Bool, specs.declared.escapes.State.TheVariants.Text}
+use Rattle.textwrap_text.proofs.{Common.text_width, Units.Reading.added, Units.Reading.added-le}
+use Rattle.textwrap_text.proofs.Common.{append_assoc, chars-append, IsCharBoundary, IsUtf8-between}
+use Rattle.textwrap_text.proofs.Common.{cases_lt, columns, drop_more, eqb-true, is_blank, Visible}
+use Rattle.textwrap_text.proofs.Common.{[], arith, get_or, IsUtf8, length, ne_eqb, next_of, take_at}
+use Rattle.textwrap_text.proofs.Common.{Bool, drop, false, List, refl, rules, shows, subst, units}
+use Rattle.textwrap_text.proofs.Common.{inl, inr, suc, sym, true, zero, ℕ, ◌++◌, ◌+◌, ◌-◌, ◌<◌, ◌∙◌}
+use Rattle.textwrap_text.proofs.Common.{ap, chars-nil, IsUtf8-drop, slice_range, ◌∷◌, ◌≡◌, ◌≢◌, ◌≤◌}
+use Rattle.textwrap_text.proofs.Units.Reading.{chars-push, columns-printable, printable-no_escape}
+use Rattle.textwrap_text.proofs.Units.Reading.{IsRead, read-ahead, read-next, read-none, read-start}
+use Rattle.std.specs.Prelude.{chars, encode_utf8}
+use Rattle.textwrap_words.proofs.{Common.State, Word.Parts.end-from, Word.Parts.HasEnd}
+use Rattle.textwrap_words.proofs.{Common.is_due, Word.Breaking.due-false, Word.Words.text_width-nil}
 use Rattle.textwrap_words.proofs.Common.{IsCharBoundary-before_ascii, IsCharBoundary-from_drop}
-use Rattle.textwrap_words.proofs.Common.{slices_joined, starts-within, broken_texts, encode_ascii}
-use Rattle.textwrap_words.proofs.Common.{length-slice, slice_before, IsFirstStop, slice_after}
-use Rattle.textwrap_words.proofs.Common.{slice-nil, IsLetter, Splitter, is_point, or_cases, is_stop}
-use Rattle.textwrap_words.proofs.Common.{is_due, State}
+use Rattle.textwrap_words.proofs.Common.{broken_texts, encode_ascii, slices_joined, starts-within}
+use Rattle.textwrap_words.proofs.Common.{IsFirstStop, length-slice, slice_after, slice_before}
+use Rattle.textwrap_words.proofs.Common.{is_point, is_stop, IsLetter, or_cases, slice-nil, Splitter}
 use Rattle.textwrap_words.proofs.Word.Ahead.{character-within, IsInFirst-start, IsInFirst-step}
-use Rattle.textwrap_words.proofs.Word.Ahead.{IsInFirst-cut, first-bytes, IsInFirst, EndsHere}
-use Rattle.textwrap_words.proofs.Word.BrokenPieces.{IsFirstPiece-found, IsFirstPiece}
-use Rattle.std.specs.Prelude.{encode_utf8, chars}
-use Rattle.textwrap_text.specs.declared.escapes.State.TheVariants.{Text}
-use Rattle.textwrap_text.proofs.Units.Reading.{printable-no_escape, columns-printable, chars-push}
-use Rattle.textwrap_text.proofs.Units.Reading.{read-ahead, read-start, read-next, read-none, IsRead}
-use Rattle.textwrap_text.proofs.Units.Reading.{added-le, added}
+use Rattle.textwrap_words.proofs.Word.Ahead.{EndsHere, first-bytes, IsInFirst, IsInFirst-cut}
+use Rattle.textwrap_words.proofs.Word.BrokenPieces.{IsFirstPiece, IsFirstPiece-found}
 use Rattle.textwrap_words.proofs.Word.Splitting.{after-hyphen_byte, HoldsBetween, point-hyphen}
-use Rattle.textwrap_words.proofs.Word.Parts.{end-from, HasEnd}
-use Rattle.textwrap_words.proofs.Word.Words.{text_width-nil}
-use Rattle.textwrap_words.proofs.Word.Breaking.{due-false}
 
 -- ---- the reader of the first piece
 
@@ -57,9 +54,7 @@ module _ {limit : ℕ} {text : List ℕ} {at : ℕ} {rest : List ℕ} {s : State
       → rest ≡ encode_utf8 c ++ after → shows s c ≡ true → is_due limit width (Visible c) ≡ true
       → IsFirstPiece limit text at width
   IsReading-cut c after utf8 some e shown due =
-      let here = read-ahead h.read c after e in
-      found utf8 some (rw here (IsInFirst-cut limit (chars text) s width c (chars after)
-      (rw here at h.inside) shown due))
+      let here = read-ahead h.read c after e in search (rules, arith, found, IsInFirst-cut)
 
   pub IsReading-end : IsUtf8 text → text ≢ [] → length rest ≡ 0 → IsFirstPiece limit text at width
   IsReading-end utf8 some none = grind (arith, found, read-none)

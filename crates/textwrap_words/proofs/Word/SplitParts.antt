@@ -1,31 +1,29 @@
 -- Words that are split are the parts of the text wherever a test of places cuts it.
-use Rattle.textwrap_text.proofs.Common.{without_final_blanks, get_or_append_left, take-append-drop}
-use Rattle.textwrap_text.proofs.Common.{flat_map-append, take-append-add, length-take-le, and_parts}
-use Rattle.textwrap_text.proofs.Common.{range_with_len, IsUtf8-append, length-append, append_assoc}
-use Rattle.textwrap_text.proofs.Common.{final_blanks, AreCutApart, get_or-take, get_or_push, IsUtf8}
-use Rattle.textwrap_text.proofs.Common.{length_push, slice_index, slice_range, trimmed_len, drop_at}
-use Rattle.textwrap_text.proofs.Common.{IsUtf8-nil, append-nil, map-append, and_right, take_more, ℕ}
-use Rattle.textwrap_text.proofs.Common.{All-head, All-tail, cases_lt, drop_all, eqb-true, is_blank}
-use Rattle.textwrap_text.proofs.Common.{take_all, take_at, chunks, filter, get_or, length, arith}
-use Rattle.textwrap_text.proofs.Common.{false, rules, subst, Bool, List, cond, drop, last, refl, []}
-use Rattle.textwrap_text.proofs.Common.{take, true, ◌++◌, All, inl, inr, map, not, sym, ◌+◌, ◌-◌}
-use Rattle.textwrap_text.proofs.Common.{◌<◌, ◌∙◌, ◌∷◌, ◌≡◌, ◌≢◌, ◌≤◌, ap}
-use Rattle.textwrap_words.proofs.Common.{onto_front-onto_first, some_from_nonempty, is_hyphen_point}
-use Rattle.textwrap_words.proofs.Common.{get_or-append-add, pieces_from_place, AreFinalBlanks, flat}
-use Rattle.textwrap_words.proofs.Common.{onto_front-nil, IsFirstWithin, pieces_within, broken_words}
-use Rattle.textwrap_words.proofs.Common.{is_piece_cut, length-slice, broken_word, split_words}
-use Rattle.textwrap_words.proofs.Common.{IsPartWord, onto_front, split_from, split_word, stand_from}
-use Rattle.textwrap_words.proofs.Common.{AtHyphens, last-push, not-false, Splitter, WordText, Whole}
-use Rattle.textwrap_words.proofs.Common.{is_point, not-true, parts_by, words_of, word_of, IsPart}
-use Rattle.textwrap_words.proofs.Word.Texts.{without_final_blanks-utf8, final_blanks-blank}
-use Rattle.textwrap_words.proofs.Word.Texts.{trimmed-other, word_of-seam, AreBlanks}
+use Rattle.textwrap_text.proofs.{Common.length-append, Common.trimmed_len, Units.Chunks.join-chunks}
+use Rattle.textwrap_text.proofs.Common.{[], is_blank, IsUtf8-append, not, without_final_blanks, ◌≢◌}
+use Rattle.textwrap_text.proofs.Common.{All-head, append_assoc, arith, last, range_with_len, ℕ, ◌∙◌}
+use Rattle.textwrap_text.proofs.Common.{drop_all, final_blanks, refl, take_all, take_more, ◌+◌, ◌<◌}
+use Rattle.textwrap_text.proofs.Common.{AreCutApart, Bool, drop, inl, inr, sym, true, ◌-◌, ◌∷◌, ◌≤◌}
+use Rattle.textwrap_text.proofs.Common.{flat_map-append, get_or_append_left, List, take-append-drop}
+use Rattle.textwrap_text.proofs.Common.{All-tail, get_or-take, get_or_push, length_push, map-append}
+use Rattle.textwrap_text.proofs.Common.{and_parts, append-nil, IsUtf8-nil, slice_index, slice_range}
+use Rattle.textwrap_text.proofs.Common.{and_right, ap, cases_lt, drop_at, eqb-true, IsUtf8, take_at}
+use Rattle.textwrap_text.proofs.Common.{chunks, cond, false, filter, get_or, length, rules, subst}
+use Rattle.textwrap_text.proofs.Common.{All, length-take-le, map, take, take-append-add, ◌++◌, ◌≡◌}
 use Rattle.textwrap_text.proofs.Units.Chunks.{AreChunks-chunks, AreCutApart-tail, chunks-utf8}
-use Rattle.textwrap_text.proofs.Units.Chunks.{join-chunks}
-use Rattle.textwrap_words.proofs.Word.Parts.{parts_by-chunks, parts_by-whole, parts_by-some}
-use Rattle.textwrap_words.proofs.Word.Parts.{parts_within, end-from, next_by}
-use Rattle.textwrap_words.proofs.Word.Splitting.{hyphen-before-point, points-apart, point-blank}
-use Rattle.textwrap_words.proofs.Word.Splitting.{ends-blank, EndsPlain, ends-none}
-use Rattle.textwrap_words.specs.declared.pieces.Piece.{Piece}
+use Rattle.textwrap_words.{proofs.Word.Texts.final_blanks-blank, specs.declared.pieces.Piece.Piece}
+use Rattle.textwrap_words.proofs.Common.{flat, get_or-append-add, IsPart, length-slice, not-true}
+use Rattle.textwrap_words.proofs.Common.{AtHyphens, last-push, not-false, some_from_nonempty, Whole}
+use Rattle.textwrap_words.proofs.Common.{is_hyphen_point, onto_front-nil, pieces_from_place}
+use Rattle.textwrap_words.proofs.Common.{IsFirstWithin, onto_front-onto_first, pieces_within}
+use Rattle.textwrap_words.proofs.Common.{AreFinalBlanks, broken_words, is_piece_cut, split_words}
+use Rattle.textwrap_words.proofs.Common.{IsPartWord, onto_front, split_from, split_word, stand_from}
+use Rattle.textwrap_words.proofs.Common.{is_point, parts_by, Splitter, word_of, words_of, WordText}
+use Rattle.textwrap_words.proofs.Word.{Parts.end-from, Parts.parts_by-whole, Texts.AreBlanks}
+use Rattle.textwrap_words.proofs.Word.Parts.{next_by, parts_by-chunks, parts_by-some, parts_within}
+use Rattle.textwrap_words.proofs.Word.Splitting.{hyphen-before-point, point-blank, points-apart}
+use Rattle.textwrap_words.proofs.Word.Splitting.{ends-blank, ends-none, EndsPlain}
+use Rattle.textwrap_words.proofs.Word.Texts.{trimmed-other, without_final_blanks-utf8, word_of-seam}
 
 -- ---- a word with its blanks, split at one point after another, is cut wherever a test of
 -- places says so
@@ -150,9 +148,7 @@ module _ (before q after : List ℕ) (utf8 : IsUtf8 before) (plain : EndsPlain b
       let within : p < length q = omega (arith, inside, whole_len) in
       let byte : get_or text (at + p) 0 ≡ get_or w.whitespace k 0 =
       grind (arith, get_or-append-add, get_or_append_left, whole) in
-      point-blank text (at + p)
-      (omega (arith, length-append before (q ++ after), length-append q after, within))
-      (ap is_blank byte ∙ final_blanks-blank q k 0 (omega (arith, from, inside)))
+      search (rules, arith, point-blank, length-append, final_blanks-blank)
 
   split-at_hyphens : split_word AtHyphens w ≡ map word_of (parts_by (is_hyphen_point text) at q)
   split-at_hyphens = by w.word refl
@@ -192,8 +188,7 @@ module _ (splitter : Splitter) (limit : ℕ) where
   words-first q qs utf8 some =
       let one = rw (append-nil q)
       at (split-word [] q [] IsUtf8-nil (ends-none [] refl) utf8 some splitter) in
-      rw one (flat_map-append (broken_word limit) (map word_of (parts_by (is_point splitter q) 0 q))
-      (split_words splitter (map word_of qs)))
+      search (rules, arith, flat_map-append)
 
   -- where the first piece stands, if the word begins at the start
   pub within-stands : (text : List ℕ) (start at : ℕ) (piece : Piece) (others : List WordText)

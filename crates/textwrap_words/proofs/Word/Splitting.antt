@@ -1,26 +1,24 @@
 -- The points at which words are split: characters end there, and those of a word are those of the
 -- text that it stands in.
-use Rattle.textwrap_text.proofs.Common.{IsCharBoundary-after_ascii, take-append-drop, encodes-chars}
-use Rattle.textwrap_text.proofs.Common.{chars_past_char, encode_utf8_all, nil_from_length, All-head}
-use Rattle.textwrap_text.proofs.Common.{take-append-add, IsCharBoundary, length-take-le, append-nil}
-use Rattle.textwrap_text.proofs.Common.{range_with_len, reverse-append, length-append, append_assoc}
-use Rattle.textwrap_text.proofs.Common.{chars-append, IsUtf8-drop, IsUtf8-take, get_or-take, IsUtf8}
-use Rattle.textwrap_text.proofs.Common.{length-take, length_push, cases_Bool, false≢true, and_parts}
-use Rattle.textwrap_text.proofs.Common.{and_right, chars-nil, drop_more, eqb-true, is_blank, filter}
-use Rattle.textwrap_text.proofs.Common.{list_any, drop_at, reverse, take_at, get_or, length, arith}
-use Rattle.textwrap_text.proofs.Common.{false, Bool, List, drop, refl, take, true, zero, ◌&&◌, ◌++◌}
-use Rattle.textwrap_text.proofs.Common.{◌==◌, ◌||◌, All, inl, inr, suc, sym, ◌+◌, ◌-◌, ◌<◌, ◌∙◌, []}
-use Rattle.textwrap_text.proofs.Common.{◌∷◌, ◌≡◌, ◌≤◌, ap, ℕ}
-use Rattle.textwrap_words.proofs.Common.{is_hyphen_point, ends_in_hyphen, hyphen_points, ascii_seam}
-use Rattle.textwrap_words.proofs.Common.{IsNextPoint, before-last, AtHyphens, last-push, points_of}
-use Rattle.textwrap_words.proofs.Common.{Splitter, is_point, AreCuts, AreNext, hyphen, Whole}
-use Rattle.std.specs.Str.{chars}
-use lib.Utf8.{encode}
-use Rattle.std.proofs.lemmas.List.Elements.{filter_passes}
+use Rattle.textwrap_text.proofs.Common.{encodes-chars, IsCharBoundary-after_ascii, take-append-drop}
+use Rattle.textwrap_text.proofs.Common.{All-head, chars_past_char, encode_utf8_all, nil_from_length}
+use Rattle.textwrap_text.proofs.Common.{append-nil, IsCharBoundary, length-take-le, take-append-add}
+use Rattle.textwrap_text.proofs.Common.{append_assoc, length-append, range_with_len, reverse-append}
+use Rattle.textwrap_text.proofs.Common.{chars-append, get_or-take, IsUtf8, IsUtf8-drop, IsUtf8-take}
+use Rattle.textwrap_text.proofs.Common.{and_parts, cases_Bool, false≢true, length-take, length_push}
+use Rattle.textwrap_text.proofs.Common.{and_right, chars-nil, drop_more, eqb-true, filter, is_blank}
+use Rattle.textwrap_text.proofs.Common.{arith, drop_at, get_or, length, list_any, reverse, take_at}
+use Rattle.textwrap_text.proofs.Common.{All, Bool, drop, false, List, refl, rules, take, true, zero}
+use Rattle.textwrap_text.proofs.Common.{inl, inr, suc, sym, ◌&&◌, ◌++◌, ◌+◌, ◌-◌, ◌<◌, ◌==◌, ◌||◌}
+use Rattle.textwrap_text.proofs.Common.{[], ap, ℕ, ◌∙◌, ◌∷◌, ◌≡◌, ◌≤◌}
+use Rattle.std.{proofs.lemmas.List.Elements.filter_passes, specs.Str.chars}
 use Rattle.std.proofs.lemmas.List.Folds.{list_any-append, list_any_at}
-use Rattle.textwrap_words.specs.WordSplitters.{begins_alphanumeric, is_alphanumeric, inner_offsets}
-use Rattle.unicode.proofs.CategoryComputing.{ucd_category}
-use Rattle.unicode.proofs.DerivedComputing.{ucd_derived}
+use Rattle.textwrap_words.proofs.Common.{ascii_seam, ends_in_hyphen, hyphen_points, is_hyphen_point}
+use Rattle.textwrap_words.proofs.Common.{AtHyphens, before-last, IsNextPoint, last-push, points_of}
+use Rattle.textwrap_words.proofs.Common.{AreCuts, AreNext, hyphen, is_point, Splitter, Whole}
+use Rattle.textwrap_words.specs.WordSplitters.{begins_alphanumeric, inner_offsets, is_alphanumeric}
+use Rattle.unicode.proofs.{CategoryComputing.ucd_category, DerivedComputing.ucd_derived}
+use lib.Utf8.{encode}
 
 -- ---- lemmas on the points at which words are split
 
@@ -91,8 +89,7 @@ hyphen_points-next text (suc n) at last utf8 after start within =
     ]
 
 pub hyphen_points-cuts : (text : List ℕ) → IsUtf8 text → AreCuts text (hyphen_points text)
-hyphen_points-cuts text utf8 =
-    hyphen_points-next text (length text - 1) 1 0 utf8 (omega arith) (omega arith) (omega arith)
+hyphen_points-cuts text utf8 = search (rules, arith, hyphen_points-next)
 
 -- ---- tiling
 

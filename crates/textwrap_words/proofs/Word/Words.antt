@@ -1,18 +1,18 @@
 -- The words of a line: they tile it, are measured, and there is one list of them.
-use Rattle.textwrap_text.proofs.Common.{take-append-drop, flat_map-append, length-append, chars-nil}
-use Rattle.textwrap_text.proofs.Common.{trimmed_len, All-append, All-weaker, append-nil, map-append}
-use Rattle.textwrap_text.proofs.Common.{text_width, take_more, All-head, All-tail, flat_map, IsUtf8}
-use Rattle.textwrap_text.proofs.Common.{is_blank, All-map, All-nil, columns, chunks, get_or, length}
-use Rattle.textwrap_text.proofs.Common.{sum_by, arith, false, List, refl, take, true, ◌++◌, ◌==◌, ℕ}
-use Rattle.textwrap_text.proofs.Common.{All, map, sym, ◌+◌, ◌<◌, ◌↔◌, ◌∙◌, ◌∷◌, ◌≡◌, ◌≤◌, [], ap}
-use Rattle.textwrap_base.proofs.Common.{closed_width, total_width}
-use Rattle.textwrap_words.proofs.Common.{AreWordsOf, word_view, WordText, sizes_of, words_of, tiled}
-use Rattle.textwrap_words.proofs.Common.{tile_of, visible, word_of, Word, flat}
-use Rattle.textwrap_words.proofs.Word.Texts.{without_final_blanks-utf8, final_blanks-blank}
-use Rattle.textwrap_words.proofs.Word.Texts.{AreBlanks}
-use Rattle.textwrap_base.proofs.Cost.LineCosts.{total_width-cons}
-use Rattle.textwrap_text.proofs.Units.Reading.{text_width-le}
+use Rattle.textwrap_text.proofs.{Common.ap, Common.ℕ, Units.Reading.text_width-le}
+use Rattle.textwrap_text.proofs.Common.{chars-nil, flat_map-append, length-append, take-append-drop}
+use Rattle.textwrap_text.proofs.Common.{All-append, All-weaker, append-nil, map-append, trimmed_len}
+use Rattle.textwrap_text.proofs.Common.{All-head, All-tail, flat_map, IsUtf8, take_more, text_width}
+use Rattle.textwrap_text.proofs.Common.{All-map, All-nil, chunks, columns, get_or, is_blank, length}
+use Rattle.textwrap_text.proofs.Common.{arith, false, List, refl, rules, sum_by, take, true, ◌++◌}
+use Rattle.textwrap_text.proofs.Common.{[], All, map, sym, ◌+◌, ◌<◌, ◌==◌, ◌↔◌, ◌∙◌, ◌∷◌, ◌≡◌, ◌≤◌}
 use Rattle.textwrap_text.proofs.Units.Chunks.{AreChunks-chunks, chunks-flat, join-chunks}
+use Rattle.textwrap_base.proofs.Common.{closed_width, total_width}
+use Rattle.textwrap_base.proofs.Cost.LineCosts.{total_width-cons}
+use Rattle.textwrap_words.proofs.Common.{AreWordsOf, sizes_of, tiled, word_view, words_of, WordText}
+use Rattle.textwrap_words.proofs.Common.{flat, tile_of, visible, Word, word_of}
+use Rattle.textwrap_words.proofs.Word.Texts.{final_blanks-blank, without_final_blanks-utf8}
+use Rattle.textwrap_words.proofs.Word.Texts.{AreBlanks}
 
 -- ---- tiling
 
@@ -44,8 +44,7 @@ pub tiled-take-le : (words : List Word) (i : ℕ)
     → length (tiled (map word_view (take i words))) ≤ length (tiled (map word_view words))
 tiled-take-le words i =
     let parts = simp (map-append, flat_map-append, length-append) at
-    (ap (λ l. length (tiled (map word_view l))) (take-append-drop i words)) in
-    omega (arith, parts)
+    (ap (λ l. length (tiled (map word_view l))) (take-append-drop i words)) in search (rules, arith)
 
 -- ---- there is one list of words
 
@@ -74,8 +73,7 @@ pub word_of-measured : (bytes : List ℕ) → IsUtf8 bytes → IsMeasured (word_
 word_of-measured bytes utf8 = grind (arith, without_final_blanks-utf8, final_blanks-blank)
 
 pub words-measured : (parts : List (List ℕ)) → All IsUtf8 parts → All IsMeasured (map word_of parts)
-words-measured parts utf8 = All-map IsMeasured word_of parts
-    (All-weaker IsUtf8 (λ part. IsMeasured (word_of part)) word_of-measured parts utf8)
+words-measured parts utf8 = search (rules, arith, All-map, All-weaker, word_of-measured, utf8)
 
 pub text_width-nil : text_width [] ≡ 0
 text_width-nil = ap (λ cs. sum_by columns (visible cs)) chars-nil

@@ -2,6 +2,7 @@
 //! alike are cases of one enum, and their rows stand in tables by what they are about.
 mod alone;
 mod bounds;
+mod display;
 mod fragments;
 mod known;
 mod large;

@@ -1,6 +1,8 @@
 //! What lines for display become. Each row has the rule that it shows.
+mod attributes;
 mod documented;
 mod filling;
+mod fitting;
 mod shortening;
 mod styles;
 mod tables;
@@ -8,21 +10,25 @@ mod tabs;
 mod widening;
 
 use super::plain::assert_line;
-use Change::{Aligned, Expanded, Justified, Shortened};
+use Change::{Aligned, Cut, Expanded, Justified, Shortened};
+pub use attributes::are_attributed;
 pub use filling::is_filled;
+pub use fitting::is_fitted;
 pub use shortening::are_shortened;
 use std::alloc::{AllocError, Allocator};
 use std::borrow::CowStr;
 use std::process::Abort;
 pub use styles::are_carried;
 pub use tables::is_table;
-use textwrap_display::{Alignment, align, expand_tabs, justify, shorten};
+use textwrap_display::{Alignment, Shortening, align, expand_tabs, justify, shorten, shorten_by};
 
 /// A call that makes one line of another.
 #[derive(Clone, Copy)]
 pub enum Change<'p> {
     /// `shorten`, with this placeholder.
     Shortened(&'p str),
+    /// `shorten_by`, with this placeholder, where words may be cut.
+    Cut(&'p str),
     /// `align`.
     Aligned(Alignment),
     /// `justify`.
@@ -49,6 +55,11 @@ pub fn changed<'l, A: Allocator>(
 ) -> Result<CowStr<'l, A>, AllocError> {
     match change {
         Shortened(placeholder) => shorten(alloc, line, width, placeholder),
+        Cut(placeholder) => shorten_by(
+            alloc,
+            line,
+            &Shortening::new(width, placeholder).break_words(true),
+        ),
         Aligned(alignment) => align(alloc, line, width, alignment),
         Justified => justify(alloc, line, width),
         Expanded => expand_tabs(alloc, line, width),

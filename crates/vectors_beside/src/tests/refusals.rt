@@ -1,7 +1,10 @@
 //! Each allocation of a call is refused in turn, until none is: a call that is refused is out of
 //! memory, and never gives another text or other lines.
-use super::display::Change::{self, Aligned, Expanded, Justified, Shortened};
-use super::display::{are_carried, are_shortened, changed, is_filled, is_table};
+use super::balance::{has_lines_balanced, has_width_balanced};
+use super::display::Change::{self, Aligned, Cut, Expanded, Justified, Shortened};
+use super::display::{
+    are_attributed, are_carried, are_shortened, changed, is_filled, is_fitted, is_table,
+};
 use super::plain::assert_holds;
 use fakes::heap::Heap;
 use std::process::Abort;
@@ -16,8 +19,14 @@ enum Call {
     ShortenLines,
     /// `carry_styles`, with the lines.
     CarryStyles(&'static [&'static str]),
+    /// `carry_attributes`, with the lines.
+    CarryAttributes(&'static [&'static str]),
     FillJustified,
     Table,
+    /// `needs_of`, and then `fitting_widths`.
+    FittingWidths,
+    BalancedWidth,
+    WrapBalanced,
 }
 
 /// A line that sets one style more than are compared with each other, and one after it.
@@ -33,6 +42,8 @@ const MANY_STYLES: &[&str] = &[
 #[rattlefmt::skip]
 const CALLS: &[(&str, Call, usize, usize)] = &[
     ("a line that is cut is allocated once", Call::Line(Shortened(".."), "one two", 5), 1, 1),
+    ("and once more where a style is open there", Call::Line(Shortened(".."), "\x1b[1mone two", 5), 2, 2),
+    ("but not for a link, nor for a word that is cut", Call::Line(Cut(".."), "\x1b]8;;u\x07abracadabra", 5), 1, 1),
     ("and a line that stays is not", Call::Line(Shortened(".."), "one", 5), 0, 0),
     ("lines with blanks are allocated", Call::Line(Aligned(Left), "a", 3), 1, 99),
     ("in gaps too", Call::Line(Justified, "a b", 5), 1, 99),
@@ -42,9 +53,14 @@ const CALLS: &[(&str, Call, usize, usize)] = &[
     ("the list, and the one line that is cut", Call::ShortenLines, 2, 2),
     ("styles and links that are open", Call::CarryStyles(&["\x1b[1ma", "b\x1b]8;;u\x07", "c\x1b[m\x1b]8;;\x07", "d"]), 7, 7),
     ("more styles than are compared", Call::CarryStyles(MANY_STYLES), 9, 99),
+    ("attributes that are open, known and unknown ones", Call::CarryAttributes(&["\x1b[1;31;99ma", "b\x1b]8;;u\x07", "c\x1b[m\x1b]8;;\x07", "d"]), 8, 99),
+    ("no line that stays is allocated, either", Call::CarryAttributes(&["a", "b"]), 1, 1),
     ("the list is allocated, and no line that stays", Call::CarryStyles(&["a", "b"]), 1, 1),
     ("a text that is filled", Call::FillJustified, 0, 99),
     ("a table", Call::Table, 0, 99),
+    ("what columns need, and their widths", Call::FittingWidths, 2, 2),
+    ("a balanced width is found without memory", Call::BalancedWidth, 0, 0),
+    ("and only the lines at it are listed", Call::WrapBalanced, 1, 3),
 ];
 
 /// Whether the call gives what it is to give where so many allocations are allowed.
@@ -57,8 +73,12 @@ fn is_right(heap: &Heap, call: Call, allowed: usize) -> Result<bool, WrapError> 
         }
         Call::ShortenLines => Ok(are_shortened(heap, allowed)?),
         Call::CarryStyles(texts) => Ok(are_carried(heap, texts, allowed)?),
+        Call::CarryAttributes(texts) => Ok(are_attributed(heap, texts, allowed)?),
         Call::FillJustified => is_filled(heap),
         Call::Table => is_table(heap),
+        Call::FittingWidths => is_fitted(heap),
+        Call::BalancedWidth => Ok(has_width_balanced(heap)),
+        Call::WrapBalanced => has_lines_balanced(heap),
     }
 }
 

@@ -6,10 +6,11 @@ use std::alloc::Global;
 use std::borrow::CowStr;
 use std::process::Abort;
 use textwrap::{Options, WrapError};
+use textwrap_display::Gaps;
 use textwrap_uses::checking::{is_filled, line_count};
 use textwrap_uses::comments::{common_mark, rewrapped};
 use textwrap_uses::gallery::{Picture, few_rows, hung_rows};
-use textwrap_uses::help::{help_entry, help_rows};
+use textwrap_uses::help::{fitted_help_rows, help_entry, help_rows};
 use textwrap_uses::languages::lines_in_any_language;
 use textwrap_uses::lists::listed_lines;
 use textwrap_uses::mail::{filled_anew, quote, quoted_as_it_is, sent_lines};
@@ -17,6 +18,7 @@ use textwrap_uses::notes::fill_note;
 use textwrap_uses::paths::path_lines;
 use textwrap_uses::scripts::script;
 use textwrap_uses::sentences::sentence_lines;
+use textwrap_uses::styled::rows_beside;
 use textwrap_uses::tables::barred_rows;
 use textwrap_vectors::functions::are_borrowed;
 
@@ -42,6 +44,55 @@ fn help_has_flags_and_texts(rt: HostRuntime) {
         help_rows(rt.alloc(), &entries, 6, 26),
         HELP_ROWS,
     );
+}
+
+/// The flags of a program and what they mean.
+const ENTRIES: &[&str] = &[
+    "-h, --help",
+    "Print this help and exit.",
+    "-w, --width N",
+    "Wrap at N columns, where the default is that of the terminal, or 80.",
+];
+
+/// The columns, and the help at so many: at 120 no row is wider than what stands in it.
+#[rattlefmt::skip]
+const FITTED_HELP: &[(usize, &[&str])] = &[
+    (60, &["  -h, --help     Print this help and exit.                  ",
+           "  -w, --width N  Wrap at N columns, where the default is    ",
+           "                 that of the terminal, or 80.               "]),
+    (80, &["  -h, --help     Print this help and exit.                                      ",
+           "  -w, --width N  Wrap at N columns, where the default is that of the terminal,  ",
+           "                 or 80.                                                         "]),
+    (120, &["  -h, --help     Print this help and exit.                                           ",
+            "  -w, --width N  Wrap at N columns, where the default is that of the terminal, or 80."]),
+];
+
+#[test]
+fn flags_are_as_wide_as_they_need(rt: HostRuntime) {
+    for &(width, wanted) in FITTED_HELP {
+        let rows = fitted_help_rows(rt.alloc(), ENTRIES, width);
+        assert_gives_texts(&rt, "fitted help", rows, wanted);
+    }
+}
+
+const STYLED_ROWS: &[&str] = &[
+    "\x1b[1mone\x1b[0m|\x1b[31ma b\x1b[0m|",
+    "\x1b[1mtwo\x1b[0m|\x1b[31mc\x1b[0m  |",
+    "\x1b[1msix\x1b[0m|   |",
+];
+
+const STYLED_GAPS: Gaps<'static> = Gaps {
+    left: "",
+    middle: "|",
+    right: "|",
+};
+
+/// A style that goes on over the end of a line does not go on into the text beside it.
+#[test]
+fn texts_beside_one_another_keep_their_styles(rt: HostRuntime) {
+    let (left, right) = ("\x1b[1mone two six\x1b[0m", "\x1b[31ma b c");
+    let rows = rows_beside(rt.alloc(), left, right, 3, 3, &STYLED_GAPS);
+    assert_gives_texts(&rt, "styled", rows, STYLED_ROWS);
 }
 
 const BARRED_ROWS: &[&str] = &[

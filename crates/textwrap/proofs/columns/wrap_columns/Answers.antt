@@ -1,17 +1,15 @@
+use Rattle.textwrap_text.proofs.Common.{rules, arith}
+use Rattle.textwrap.proofs.Common.{map, IfOk-weaker, ◌∙◌, settings_view, ap, line_bytes, table_rows}
+use Rattle.textwrap.proofs.Text.Tables.{MayOverflow-methods, SomeMayPass64Bits-methods}
+use Rattle.textwrap.proofs.{Text.Tables.AreTextLines-methods, Text.Unfilling.columns-as, Common.◌≡◌}
+use Rattle.textwrap.proofs.{columns.wrap_columns.Goals.After-wrap_in_table, Common.at_column_width}
 use Rattle.textwrap.proofs.columns.wrap_columns.Goals as goal
-use Rattle.textwrap.proofs.Common.{at_column_width, settings_view, IfOk-weaker, line_bytes, map, ap}
-use Rattle.textwrap.proofs.Common.{table_rows, ◌∙◌, ◌≡◌}
-use Rattle.textwrap.proofs.Text.Unfilling.{columns-as}
-use Rattle.textwrap.proofs.Text.Tables.{SomeMayPass64Bits-methods, AreTextLines-methods}
-use Rattle.textwrap.proofs.Text.Tables.{MayOverflow-methods}
-use Rattle.textwrap.proofs.columns.wrap_columns.Goals.{After-wrap_in_table}
 
 -- the options at the width of a column
 narrow : (g : _) (c : After-wrap_in_table g) → settings_view c.width.result
     ≡ at_column_width (settings_view c.args.options) c.args.columns c.args.left_gap.now
     c.args.middle_gap.now c.args.right_gap.now
-narrow g c = c.width.ensures.settings
-    ∙ ap (λ l. record (settings_view c.args.options) { width = l.column_width }) c.new-table.ensures
+narrow g c = search (rules, arith, c.width.ensures.settings, c.new-table.ensures)
 
 pub returns-clause-rows : goal.returns-clause-rows
 returns-clause-rows g c = IfOk-weaker c.wrap_in_table.result _ _ (λ rows (lines, are, is). (

@@ -1,11 +1,12 @@
-use Rattle.textwrap.proofs.indentation.narrowed.Goals as goal
+use Rattle.textwrap_text.proofs.Common.{YieldsList-from_chars, YieldsList-turn, YieldsList-end}
+use Rattle.textwrap_text.proofs.Common.{rules}
+use Rattle.textwrap_text.proofs.Texts.{encoded-within, encoded-more, cut_text, IsCut}
 use Rattle.textwrap.proofs.Common.{YieldsList-from_zip, chars_from_encodes, take-append-drop, arith}
 use Rattle.textwrap.proofs.Common.{IsCharBoundary, length_push, from_start, length, chars, subst}
 use Rattle.textwrap.proofs.Common.{drop, take, sym, ◌+◌, ◌∙◌, ap}
-use Rattle.textwrap_text.proofs.Common.{YieldsList-from_chars, YieldsList-turn, YieldsList-end}
 use Rattle.textwrap.proofs.Text.Margins.{narrowed-done, narrowed-step, narrowed-stop, zip_at, AreAt}
-use Rattle.textwrap_text.proofs.Texts.{encoded-within, encoded-more, cut_text, IsCut}
 use Rattle.textwrap.proofs.indentation.narrowed.Goals.{In-Some}
+use Rattle.textwrap.proofs.indentation.narrowed.Goals as goal
 
 -- the characters of this turn
 turn : (c : In-Some) → AreAt (chars c.args.margin.now) (chars c.args.line.now)
@@ -23,10 +24,7 @@ turn c =
 cut : (c : In-Some) → IsCut c.args.margin.now
     (take (length c.loop-ours.yielded) (chars c.args.margin.now))
     (drop (length c.loop-ours.yielded) (chars c.args.margin.now))
-cut c =
-    let ms = chars c.args.margin.now in
-    let n = length c.loop-ours.yielded in
-    cut_text c.args.margin.now (take n ms) (drop n ms) c.utf8.margin (sym (take-append-drop n ms))
+cut c = search (rules, arith, cut_text, take-append-drop, c.utf8.margin)
 
 pub range-requires-clause-end_boundary : goal.range-requires-clause-end_boundary
 range-requires-clause-end_boundary c =
@@ -49,24 +47,18 @@ pub overflow_add-len : goal.overflow_add-len
 overflow_add-len c =
     let n = length c.loop-ours.yielded in
     let here = turn (goal.at.overflow_add-len c).In-Some in
-    omega (
-      arith,
-      encoded-more (chars c.args.margin.now) n c.in-Some.ours here.in_margin here.ours,
-      encoded-within c.args.margin.now (n + 1) c.utf8.margin,
-      c.len_utf8-len.ensures.len,
-    )
+    let more = encoded-more (chars c.args.margin.now) n c.in-Some.ours here.in_margin here.ours in
+    let within = encoded-within c.args.margin.now (n + 1) c.utf8.margin in
+    omega (arith, more, within, c.len_utf8-len.ensures.len)
 
 pub loop-ours-preserved : goal.loop-ours-preserved
 loop-ours-preserved c =
     let ms = chars c.args.margin.now in
     let n = length c.loop-ours.yielded in
     let here = turn (goal.at.loop-ours-preserved c).In-Some in
+    let more = encoded-more ms n c.in-Some.ours here.in_margin here.ours in
     record {
-      len = rw length_push (omega (
-        arith,
-        encoded-more ms n c.in-Some.ours here.in_margin here.ours,
-        c.len_utf8-len.ensures.len,
-      ));
+      len = rw length_push (omega (arith, more, c.len_utf8-len.ensures.len));
       same = rw length_push (narrowed-step ms (chars c.args.line.now) n c.in-Some.ours
           c.in-Some.theirs here c.if-ours-theirs.false c.loop-ours.invariant.same);
     }

@@ -1,9 +1,9 @@
-use Rattle.textwrap.proofs.indentation.push_dedented.Goals as goal
+use Rattle.textwrap_text.proofs.{Common.rules, Common.arith, TextLines.lines-made}
 use Rattle.textwrap.proofs.Common.{ended_lines-texts, without_margin, is_blank_line, append_assoc}
 use Rattle.textwrap.proofs.Common.{StartsWith, append-nil, margin_of, All-head, All-tail, texts_of}
 use Rattle.textwrap.proofs.Common.{chars, false, subst, refl, ◌++◌, sym, ◌∙◌, ◌∷◌, ◌≡◌, []}
 use Rattle.textwrap.proofs.Text.Margins.{lines_begin_with_margin}
-use Rattle.textwrap_text.proofs.TextLines.{lines-made}
+use Rattle.textwrap.proofs.indentation.push_dedented.Goals as goal
 
 pub loop-line-init : goal.loop-line-init
 loop-line-init g c =
@@ -17,9 +17,8 @@ loop-line-init g c =
     }
 
 pub without_margin-requires : goal.without_margin-requires
-without_margin-requires g c = All-head (λ line. is_blank_line line ≡ false
-    → StartsWith (chars line) (chars c.margin_of-margin.result.now)) c.in-Some.line.text.now
-    (texts_of c.next.new.self) (rw c.in-Some.ensures.steps at c.loop-line.invariant.begins)
+without_margin-requires g c =
+    search (rules, arith, All-head, c.in-Some.ensures.steps, c.loop-line.invariant.begins)
 
 pub loop-line-preserved : goal.loop-line-preserved
 loop-line-preserved g c =
@@ -28,7 +27,7 @@ loop-line-preserved g c =
     record {
       text = (
         so_far ++ c.without_margin.result.now,
-        c.in_ok-push_part.ensures.took c.args.text.now so_far held,
+        c.in_ok-push_part.ensures.pushed c.args.text.now so_far held,
         rw (c.without_margin.ensures, append_assoc)
             (rw (steps, ← c.is_some.ensures, c.if-is_some.false, append-nil) at rest),
       );
@@ -45,8 +44,8 @@ loop-line-preserved-in-Continue-branch-2 g c =
     record {
       text = (
         (so_far ++ c.without_margin.result.now) ++ 10 ∷ [],
-        c.in_ok-push_part-2.ensures.took c.args.text.now _
-            (c.in_ok-push_part.ensures.took c.args.text.now so_far held),
+        c.in_ok-push_part-2.ensures.pushed c.args.text.now _
+            (c.in_ok-push_part.ensures.pushed c.args.text.now so_far held),
         rw (c.without_margin.ensures, append_assoc so_far, append_assoc)
             (rw (steps, ← c.is_some.ensures, c.if-is_some.true) at rest),
       );

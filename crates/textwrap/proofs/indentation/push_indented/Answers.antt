@@ -22,8 +22,8 @@ loop-line-preserved g c =
     record {
       text = (
         (so_far ++ c.if-is_blank_line.indent.now) ++ line.whole.now,
-        c.in_ok-push_part-2.ensures.took c.args.text.now _
-            (c.in_ok-push_part.ensures.took c.args.text.now so_far held),
+        c.in_ok-push_part-2.ensures.pushed c.args.text.now _
+            (c.in_ok-push_part.ensures.pushed c.args.text.now so_far held),
         rw (append_assoc, append_assoc, indent) (rw (c.in-Some.ensures.steps, ← line.ended, append_assoc) at rest),
       );
       name = c.push_part-in-loop-line.ensures.name ∙ c.push_part.ensures.name ∙ c.loop-line.invariant.name;

@@ -1,11 +1,11 @@
-use Rattle.textwrap.proofs.inplace.fill_inplace.Goals as goal
-use Rattle.textwrap.proofs.Common.{IsUtf8-string_bytes, IsFilledInPlace, paragraphs_of, FitsOneLine}
-use Rattle.textwrap.proofs.Common.{with_items_is, string_bytes, breaks_from, false≢true, IsUtf8, LF}
-use Rattle.textwrap.proofs.Common.{length, arith, subst, All, sym, ◌<◌, ◌∙◌, ◌≡◌, ap}
-use Rattle.std.specs.Vec.{with_items}
+use Rattle.textwrap_text.proofs.Common.{rules}
+use Rattle.textwrap.proofs.Common.{IsUtf8-string_bytes, IsFilledInPlace, with_items_is, breaks_from}
+use Rattle.textwrap.proofs.Common.{string_bytes, false≢true, IsUtf8, length, arith, subst, All, sym}
 use Rattle.textwrap.proofs.Text.InPlace.{filled-by_feeds, feeds-within, filled-keeps}
-use Rattle.textwrap.proofs.Text.InPlaceLines.{unchanged-fits}
-use Rattle.textwrap.proofs.inplace.fill_inplace.Goals.{After-put_line_feeds}
+use Rattle.textwrap.proofs.{Text.InPlaceLines.unchanged-fits, Common.◌<◌, Common.◌∙◌, Common.◌≡◌}
+use Rattle.textwrap.proofs.{inplace.fill_inplace.Goals.After-put_line_feeds, Common.ap}
+use Rattle.std.specs.Vec.{with_items}
+use Rattle.textwrap.proofs.inplace.fill_inplace.Goals as goal
 
 -- the bytes with their line feeds fill the text
 filled : (g : _) (c : After-put_line_feeds g)
@@ -60,8 +60,5 @@ returns-clause-only_blanks g c =
     (returns-clause-filled g c)).only_blanks
 
 pub returns-in_err-breaks-clause-succeeds : goal.returns-in_err-breaks-clause-succeeds
-returns-in_err-breaks-clause-succeeds g c = λ stays.
-    absurd (false≢true (c.in_err-breaks.ensures.succeeds
-    (subst (λ text. All (FitsOneLine c.args.width) (paragraphs_of LF text))
-    (sym c.as_str.ensures.value)
-    (unchanged-fits c.args.width (string_bytes c.args.text.now) stays))))
+returns-in_err-breaks-clause-succeeds g c =
+    search (rules, arith, unchanged-fits, c.in_err-breaks.ensures.succeeds, c.as_str.ensures.value)

@@ -1,8 +1,9 @@
-use Rattle.textwrap.proofs.inplace.push_breaks.Goals as goal
+use Rattle.textwrap_text.proofs.Common.{rules}
 use Rattle.textwrap.proofs.Common.{length-append, word_view, cases_lt, length, ⊎_elim, arith, ◌++◌}
 use Rattle.textwrap.proofs.Common.{◌+◌, ◌<◌, ◌∙◌, ◌∷◌, ◌≤◌, [], ap}
 use Rattle.textwrap.proofs.Text.InPlaceLines.{HasLine-within, HasLine-begin, HasLine-break, passed}
 use Rattle.textwrap.proofs.Text.InPlaceLines.{HasLine-fits, HasLine-join, HasLine-none, HasLine-end}
+use Rattle.textwrap.proofs.inplace.push_breaks.Goals as goal
 
 pub loop-word-init : goal.loop-word-init
 loop-word-init g c = (
@@ -72,9 +73,4 @@ returns-clause-breaks g c =
 
 pub overflow_add-end-in-loop-word : goal.overflow_add-end-in-loop-word
 overflow_add-end-in-loop-word g c =
-    let (line, has) = c.loop-word.invariant.0 in
-    let word = word_view c.in-Some.word in
-    let len_is = length-append word.word word.whitespace in
-    let here = rw c.in-Some.ensures.steps at has in
-    let len = length word.word + length word.whitespace in
-    omega (arith, passed here len (omega (arith, len_is)))
+    search (rules, arith, length-append, passed, c.loop-word.invariant.0, c.in-Some.ensures.steps)

@@ -1,27 +1,20 @@
-use Rattle.textwrap.proofs.refilling.find_layout.Goals as goal
+use Rattle.textwrap_text.proofs.Common.{rules, arith}
 use Rattle.textwrap.proofs.Common.{unfilled_subsequent, ended_lines-texts, unfilled_initial, get_or}
-use Rattle.textwrap.proofs.Common.{unfilled_width, common_prefix, ended_lines, line_prefix, IsAscii}
-use Rattle.textwrap.proofs.Common.{append-nil, text_width, texts_of, lines, subst, drop, fold, refl}
-use Rattle.textwrap.proofs.Common.{◌++◌, map, max, sym, ◌∙◌, ◌∷◌, ◌≡◌, [], ap}
-use Rattle.textwrap.proofs.Text.Unfilling.{narrowed-ascii, narrowed, width-first, common-end, texts_in}
+use Rattle.textwrap.proofs.Common.{unfilled_width, common_prefix, line_prefix, append-nil, texts_of}
+use Rattle.textwrap.proofs.Common.{text_width, IsAscii, lines, subst, refl, ◌++◌, max, sym, ◌∙◌, []}
+use Rattle.textwrap.proofs.Text.Unfilling.{narrowed-ascii, width-first, common-end, narrowed}
+use Rattle.textwrap.proofs.{Text.Unfilling.texts_in, Common.◌∷◌, Common.◌≡◌, Common.ap}
 use Rattle.std.proofs.lemmas.List.{drop-map}
+use Rattle.textwrap.proofs.refilling.find_layout.Goals as goal
 
 pub loop-line-init : goal.loop-line-init
 loop-line-init c =
-    let text = c.args.text.now in
-    let es = ended_lines text in
-    let left = c.into_iter-line-iterator.ensures.into_iter_gives ∙ c.next_text-first.ensures.left
-    ∙ ap (drop 1) c.of-lines.ensures in
-    let first : c.next_text-first.result.now ≡ get_or (texts_of es) 0 [] =
-    c.next_text-first.ensures.text ∙ ap (λ es. get_or (texts_of es) 0 []) c.of-lines.ensures in
-    record {
-      width = rw (left, c.display_width-width.ensures.width, first) (width-first es
-          ∙ ap (λ ls. fold max 0 (map text_width ls)) (ended_lines-texts text));
-      common = ap (λ ls. common_prefix (map line_prefix ls)) (ap texts_of left
-          ∙ sym (drop-map (λ e. e.line) 1 es)
-          ∙ ap (drop 1) (ended_lines-texts text));
-      ascii = tt;
-    }
+    let given = c.into_iter-line-iterator.ensures.into_iter_gives in
+    let lines = c.of-lines.ensures in
+    let left = c.next_text-first.ensures.left in
+    let text = c.next_text-first.ensures.text in
+    let width = c.display_width-width.ensures.width in
+    search (rules, arith, width-first, ended_lines-texts, drop-map, given, left, lines, text, width)
 
 pub loop-line-preserved : goal.loop-line-preserved
 loop-line-preserved c =

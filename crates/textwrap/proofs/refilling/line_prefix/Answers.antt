@@ -1,9 +1,8 @@
 use Rattle.textwrap.proofs.refilling.line_prefix.Goals as goal
 use Rattle.textwrap.proofs.Common.{YieldsList-from_take_while, count_from_yields_List, from_start}
-use Rattle.textwrap.proofs.Common.{YieldsList-from_bytes, is_prefix_character, length-prefix_len}
-use Rattle.textwrap.proofs.Common.{prefix_len, rules, tests, take, ◌∙◌, ◌≡◌, ap}
-use Rattle.textwrap.proofs.Text.Unfilling.{line_prefix-boundary}
-use Rattle.textwrap.proofs.refilling.line_prefix.Goals.{After-count-len}
+use Rattle.textwrap.proofs.Common.{prefix_len, rules, tests, take, ◌∙◌, ◌≡◌, ap, length-prefix_len}
+use Rattle.textwrap.proofs.{Text.Unfilling.line_prefix-boundary, Common.YieldsList-from_bytes}
+use Rattle.textwrap.proofs.{refilling.line_prefix.Goals.After-count-len, Common.is_prefix_character}
 
 -- the bytes that are counted are the prefix characters
 counted : (c : After-count-len)

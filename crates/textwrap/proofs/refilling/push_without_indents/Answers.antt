@@ -1,15 +1,13 @@
-use Rattle.textwrap.proofs.refilling.push_without_indents.Goals as goal
+use Rattle.textwrap_text.{specs.LineViews.ended_line_view, proofs.Common.rules, proofs.Common.arith}
 use Rattle.textwrap.proofs.Common.{detected_among, append_assoc, StartsWith, append-nil, All-head}
 use Rattle.textwrap.proofs.Common.{All-tail, has_text, filter, blank, subst, ◌++◌, map, sym, ◌∙◌}
-use Rattle.textwrap.proofs.Common.{◌∷◌, [], ap}
-use Rattle.textwrap_text.specs.LineViews.{ended_line_view}
 use Rattle.textwrap.proofs.Text.Unfilling.{detected_among-one, detected_among-two, joined_text-some}
-use Rattle.textwrap.proofs.Text.Unfilling.{lines-begin}
+use Rattle.textwrap.proofs.{Text.Unfilling.lines-begin, Common.◌∷◌, Common.[], Common.ap}
+use Rattle.textwrap.proofs.refilling.push_without_indents.Goals as goal
 
 pub without_indent-first-requires : goal.without_indent-first-requires
-without_indent-first-requires g c = subst (StartsWith c.in-Some.line.text.now) (sym c.requires.initial)
-    (lines-begin c.args.text.now (ended_line_view c.in-Some.line) c.next.new.self
-    (ap (filter has_text) (sym c.of.ensures) ∙ c.in-Some.ensures.steps)).0
+without_indent-first-requires g c =
+    search (rules, arith, lines-begin, c.requires.initial, c.of.ensures, c.in-Some.ensures.steps)
 
 pub loop-line-init : goal.loop-line-init
 loop-line-init g c =
@@ -21,7 +19,7 @@ loop-line-init g c =
     record {
       joined = (
         c.without_indent-first.result.now,
-        c.in_ok-push_part.ensures.took c.args.joined.now [] reserved,
+        c.in_ok-push_part.ensures.pushed c.args.joined.now [] reserved,
         rw (c.without_indent-first.ensures, left) (joined_text-some text c.args.initial_indent.now
             c.args.subsequent_indent.now first c.next.new.self c.requires.initial
             c.requires.subsequent steps),
@@ -44,11 +42,11 @@ loop-line-preserved g c =
     let left = c.next-in-loop-line.new.self in
     let steps = c.in-Some-line.ensures.steps in
     let (before, held, joined) = c.loop-line.invariant.joined in
-    let blank_pushed = c.in_ok-push_part-2.ensures.took c.args.joined.now before held in
+    let blank_pushed = c.in_ok-push_part-2.ensures.pushed c.args.joined.now before held in
     record {
       joined = (
         (before ++ blank ∷ []) ++ c.without_indent.result.now,
-        c.in_ok-push_part-3.ensures.took c.args.joined.now (before ++ blank ∷ []) blank_pushed,
+        c.in_ok-push_part-3.ensures.pushed c.args.joined.now (before ++ blank ∷ []) blank_pushed,
         rw (c.without_indent.ensures, append_assoc, append_assoc) (rw steps at joined),
       );
       name = c.push_part-in-loop-line-2.ensures.name ∙ c.push_part-in-loop-line.ensures.name

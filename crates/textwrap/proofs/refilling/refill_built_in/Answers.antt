@@ -1,7 +1,6 @@
 use Rattle.textwrap.proofs.refilling.refill_built_in.Goals as goal
 use Rattle.textwrap.proofs.Common.{as_algorithm, string_bytes, IfOk-weaker, as_splitter, DividesAt}
-use Rattle.textwrap.proofs.Common.{layout_view, ◌∙◌}
-use Rattle.textwrap.proofs.Text.Unfilling.{refilled-from}
+use Rattle.textwrap.proofs.{Common.layout_view, Common.◌∙◌, Text.Unfilling.refilled-from}
 
 pub returns-clause-refilled : goal.returns-clause-refilled
 returns-clause-refilled g c =

@@ -1,6 +1,5 @@
 use Rattle.textwrap.proofs.rows.line_at.Goals as goal
-use Rattle.textwrap.proofs.Common.{sym, ◌∙◌}
-use Rattle.textwrap.proofs.Text.Rows.{line-is}
+use Rattle.textwrap.proofs.{Text.Rows.line-is, Common.sym, Common.◌∙◌}
 
 pub returns-then-place-lines : goal.returns-then-place-lines
 returns-then-place-lines g c =

@@ -17,11 +17,7 @@ loop-at-preserved g c =
 
 pub returns : goal.returns
 returns g c =
-    rw (
-      c.in_ok-push_str-3.ensures.bytes,
-      c.in_ok-push_blanks.ensures,
-      c.loop-c.invariant.0,
-      take_all c.loop-c.c (g.C.RowCells.texts c.args.cells.now c.args.r)
-          (omega (arith, c.columns-columns.ensures.all c.args.r)),
-    )
+    let all = take_all c.loop-c.c (g.C.RowCells.texts c.args.cells.now c.args.r)
+    (omega (arith, c.columns-columns.ensures.all c.args.r)) in
+    rw (c.in_ok-push_str-3.ensures.bytes, c.in_ok-push_blanks.ensures, c.loop-c.invariant.0, all)
     (simp append_assoc)

@@ -1,13 +1,10 @@
+use Rattle.textwrap_text.proofs.Common.{ap, arith, rules, take, ◌+◌, ◌<◌, ◌≡◌, ◌≤◌}
+use Rattle.textwrap_base.proofs.Common.{closed_width, open_width}
+use Rattle.textwrap_base.proofs.Division.Greedy.{closed_width-take, Fits-take, open_width-take}
 use Rattle.textwrap_base.proofs.first_fit.fitting_len.Goals as goal
-use Rattle.textwrap_text.proofs.Common.{◌≡◌, ◌+◌, ◌<◌, ◌≤◌, take, ap, arith}
-use Rattle.textwrap_base.proofs.Common.{open_width, closed_width}
-use Rattle.textwrap_base.proofs.Division.Greedy.{open_width-take, closed_width-take, Fits-take}
 
 pub returns-then-closed-line_width-clause-full : goal.returns-then-closed-line_width-clause-full
-returns-then-closed-line_width-clause-full g c =
-    let closed = closed_width-take g.T.Fragment.sizes c.args.fragments.now c.loop-i.i
-    c.index-fragments-i.result c.loop-i-test.true c.index-fragments-i.is in
-    λ _. omega arith
+returns-then-closed-line_width-clause-full g c = search (rules, arith, closed_width-take)
 
 pub loop-i-preserved : goal.loop-i-preserved
 loop-i-preserved g c =

@@ -1,11 +1,9 @@
+use Rattle.textwrap_text.proofs.{Common.[], Common.ap, Common.◌≡◌, Lists.Elements.map-push-append}
+use Rattle.textwrap_text.proofs.Common.{All-nil, append-nil, length-map, nat_tests, nil_from_length}
+use Rattle.textwrap_text.proofs.Common.{arith, length, map, rules, subst, sym, take, ◌<◌, ◌∙◌, ◌∷◌}
+use Rattle.textwrap_base.proofs.{Common.line_width, Division.Greedy.IsGreedyFrom}
+use Rattle.textwrap_base.proofs.Division.Greedy.{greedy_fewest, IsGreedy-from, IsGreedyFrom-cons}
 use Rattle.textwrap_base.proofs.first_fit.wrap_first_fit.Goals as goal
-use Rattle.textwrap_text.proofs.Common.{nil_from_length, append-nil, length-map, nat_tests, All-nil}
-use Rattle.textwrap_text.proofs.Common.{length, arith, subst, take, map, sym, ◌<◌, ◌∙◌, ◌∷◌, ◌≡◌}
-use Rattle.textwrap_text.proofs.Common.{[], ap}
-use Rattle.textwrap_base.proofs.Common.{line_width}
-use Rattle.textwrap_base.proofs.Division.Greedy.{IsGreedyFrom-cons, IsGreedy-from, greedy_fewest}
-use Rattle.textwrap_base.proofs.Division.Greedy.{IsGreedyFrom}
-use Rattle.textwrap_text.proofs.Lists.Elements.{map-push-append}
 
 pub loop-rest-preserved : goal.loop-rest-preserved
 loop-rest-preserved g c = (
@@ -29,10 +27,4 @@ returns g c =
     let greedy = IsGreedy-from g.T.Fragment.sizes c.args.line_widths.now c.args.fragments.now
     (map (λ line. line.now) c.loop-rest.lines.items) c.loop-rest.invariant.0
     (rw append-nil at (c.loop-rest.invariant.1 []
-    (grind (arith, nil_from_length, All-nil)))) in
-    record {
-      greedy = greedy;
-      fewest = λ others admissible. rw (length-map c.loop-rest.lines.items (λ line. line.now)) at
-          (greedy_fewest g.T.Fragment.sizes c.args.line_widths.now c.args.fragments.now
-          (map (λ line. line.now) c.loop-rest.lines.items) others greedy admissible);
-    }
+    (grind (arith, nil_from_length, All-nil)))) in search (rules, arith, length-map, greedy_fewest)

@@ -1,9 +1,8 @@
-use Rattle.textwrap_base.proofs.minima.queue_minima.Goals as goal
-use Rattle.textwrap_text.proofs.Common.{subst, map, sym, ◌∙◌, ap}
-use Rattle.textwrap_base.proofs.Common.{minimum_of, SuitQueue, Costs, table}
+use Rattle.textwrap_text.proofs.Common.{arith, rules, subst, sym}
 use Rattle.std.proofs.lemmas.Result.{IfOk-weaker}
+use Rattle.textwrap_base.proofs.{Common.SuitQueue, Cost.QueueCase.SuitQueue-queue_case}
 use Rattle.textwrap_base.proofs.Cost.Results.{reported-least_cost}
-use Rattle.textwrap_base.proofs.Cost.QueueCase.{SuitQueue-queue_case}
+use Rattle.textwrap_base.proofs.minima.queue_minima.Goals as goal
 
 pub queue_search-minima-requires : goal.queue_search-minima-requires
 queue_search-minima-requires g c = record {
@@ -12,11 +11,7 @@ queue_search-minima-requires g c = record {
 }
 
 pub returns-clause-entries : goal.returns-clause-entries
-returns-clause-entries g c = IfOk-weaker c.queue_search-minima.result _ _
-    (λ minima is. is ∙ ap (λ (l : Costs). map minimum_of (table l.cost l.ends)) c.in-Ok.ensures.costs)
-    c.queue_search-minima.ensures.minima
+returns-clause-entries g c = search (rules, arith, IfOk-weaker)
 
 pub returns-clause-least : goal.returns-clause-least
-returns-clause-least g c = IfOk-weaker c.queue_search-minima.result _ _
-    (λ minima is. reported-least_cost _ c.requires.case.equal _ is)
-    (returns-clause-entries g c)
+returns-clause-least g c = grind (arith, IfOk-weaker, reported-least_cost, returns-clause-entries)

@@ -1,8 +1,8 @@
-use Rattle.textwrap_base.proofs.minima.table_minima.Goals as goal
-use Rattle.textwrap_text.proofs.Common.{arith, subst, Vec, map, ◌^◌, ◌∙◌, ◌≤◌, ap, ℕ}
-use Rattle.textwrap_base.proofs.Common.{minimum_of, problem_of, entry_at, Costs, Entry, table}
+use Rattle.textwrap_text.proofs.Common.{arith, rules, subst, Vec, ℕ, ◌^◌, ◌≤◌}
+use Rattle.textwrap_base.proofs.Common.{Costs, Entry, entry_at, problem_of, table}
 use Rattle.textwrap_base.proofs.Cost.Results.{reported-least_cost}
 use Rattle.textwrap_base.proofs.Cost.Table.{overflowed_on, table-fits}
+use Rattle.textwrap_base.proofs.minima.table_minima.Goals as goal
 
 pub returns-in_err-entries-clause-no_overflow : goal.returns-in_err-entries-clause-no_overflow
 returns-in_err-entries-clause-no_overflow g c =
@@ -20,12 +20,7 @@ returns-in_err-entries-clause-no_overflow g c =
     let f = fits j l in omega (arith, f, p)
 
 pub returns-clause-entries : goal.returns-clause-entries
-returns-clause-entries g c =
-    let lines = rw c.in_range-penalties.ensures.same at c.in_ok-costs.ensures.costs in
-    c.in_ok-minima_of.ensures
-    ∙ ap (map minimum_of) (c.deref.ensures.value ∙ c.in_ok-entries.ensures.entries
-    ∙ ap (λ (l : Costs). table l.cost l.ends) lines)
+returns-clause-entries g c = search (rules, arith)
 
 pub returns-clause-least : goal.returns-clause-least
-returns-clause-least g c =
-    λ equal. reported-least_cost _ equal _ (returns-clause-entries g c)
+returns-clause-least g c = search (rules, arith, reported-least_cost, returns-clause-entries)

@@ -1,11 +1,9 @@
+use Rattle.textwrap_text.proofs.{Common.ap, Common.◌<◌, Common.◌∙◌, Numbers.some_from_test}
+use Rattle.textwrap_text.proofs.Common.{arith, Bor, get_or, get_or-map, List, map, reverse, rules}
+use Rattle.textwrap_text.proofs.Lists.Elements.{reverse-map, reverse_map_push}
+use Rattle.textwrap_base.proofs.{Common.Minimum, optimal_fit.lines_by.Goals.In-loop-end}
+use Rattle.textwrap_base.proofs.Cost.Chosen.{joined_division, lines_more}
 use Rattle.textwrap_base.proofs.optimal_fit.lines_by.Goals as goal
-use Rattle.textwrap_text.proofs.Common.{reverse, length, arith, List, drop, Bor, map, sym, ◌∙◌, ◌≡◌}
-use Rattle.textwrap_text.proofs.Common.{ap, get_or, get_or-map, ◌<◌}
-use Rattle.textwrap_base.proofs.Common.{Minimum}
-use Rattle.textwrap_base.proofs.Cost.Chosen.{joined_division, lines_more, joined}
-use Rattle.textwrap_text.proofs.Lists.Elements.{reverse_map_push, reverse-map}
-use Rattle.textwrap_text.proofs.Numbers.{some_from_test}
-use Rattle.textwrap_base.proofs.optimal_fit.lines_by.Goals.{In-loop-end}
 
 -- the line that ends there starts before
 before : (g : _) (c : In-loop-end g)
@@ -36,27 +34,10 @@ loop-end-preserved g c =
     let more = lines_more _ _ _ _ _ earlier c.loop-end.invariant.within
     (get_or-map (λ (m : Minimum). m.start) c.args.minima.now c.loop-end.end _ 0 (omega arith))
     c.loop-end.invariant.tiles
-    c.loop-end.invariant.nonempty c.loop-end.invariant.follow in
-    record {
-      within = omega (arith, earlier);
-      tiles = ap joined shape ∙ more.0;
-      nonempty = rw shape more.1;
-      follow = rw shape more.2;
-    }
+    c.loop-end.invariant.nonempty c.loop-end.invariant.follow in search (rules, arith)
 
 pub returns-clause-division : goal.returns-clause-division
-returns-clause-division g c =
-    let shape = ap (map (λ (line : Bor (List g.row.T.Denot)). line.now)) c.reverse.ensures.items
-    ∙ reverse-map (λ (line : Bor (List g.row.T.Denot)). line.now) c.loop-end.lines.items in
-    let start : c.loop-end.end ≡ 0 = omega arith in
-    let some = some_from_test (length c.args.fragments.now) (sym c.is_empty.ensures
-    ∙ c.if-is_empty.false) in
-    let tiles = c.loop-end.invariant.tiles ∙ ap (λ n. drop n c.args.fragments.now) start in
-    rw shape (joined_division _ _ some tiles c.loop-end.invariant.nonempty)
+returns-clause-division g c = search (rules, arith, reverse-map, some_from_test, joined_division)
 
 pub returns-clause-follow : goal.returns-clause-follow
-returns-clause-follow g c =
-    let shape = ap (map (λ (line : Bor (List g.row.T.Denot)). line.now)) c.reverse.ensures.items
-    ∙ reverse-map (λ (line : Bor (List g.row.T.Denot)). line.now) c.loop-end.lines.items in
-    let start : c.loop-end.end ≡ 0 = omega arith in
-    rw shape (rw start at c.loop-end.invariant.follow)
+returns-clause-follow g c = search (rules, arith, reverse-map)

@@ -1,11 +1,10 @@
 use Rattle.textwrap_base.proofs.optimal_fit.wrap_optimal_fit_counted.Goals as goal
-use Rattle.textwrap_text.proofs.Common.{Vec, inl, ◌∙◌}
-use Rattle.textwrap_base.proofs.Cost.Results.{optimal-returned, optimal-refused, results-same}
-use Rattle.textwrap_base.proofs.Cost.Results.{steps-refused, search-refused}
-use Rattle.textwrap_base.proofs.Cost.Table.{length_reported, starts_reported, first_reported}
+use Rattle.textwrap_text.proofs.Common.{inl, Vec, ◌∙◌}
+use Rattle.textwrap_base.{proofs.Common.Minimum, specs.declared.errors.WrapError.TheVariants.Memory}
+use Rattle.textwrap_base.proofs.Cost.Results.{optimal-refused, optimal-returned, search-refused}
+use Rattle.textwrap_base.proofs.Cost.Results.{results-same, steps-refused}
+use Rattle.textwrap_base.proofs.Cost.Table.{first_reported, length_reported, starts_reported}
 use Rattle.textwrap_base.proofs.Cost.Table.{later_reported}
-use Rattle.textwrap_base.proofs.Common.{Minimum}
-use Rattle.textwrap_base.specs.declared.errors.WrapError.TheVariants.{Memory}
 
 pub lines_by-requires-clause-len : goal.lines_by-requires-clause-len
 lines_by-requires-clause-len g c =

@@ -1,6 +1,5 @@
-use Rattle.textwrap_calls.proofs.Common.{settings_of, arith, rules}
-use Rattle.textwrap_calls.proofs.Lengths.Bounds.{filled-bounded}
 use Rattle.textwrap_calls.proofs.Lengths.Sums.{within-limit}
+use Rattle.textwrap_calls.proofs.{Common.{arith, rules, settings_of}, Lengths.Bounds.filled-bounded}
 use Rattle.textwrap_calls.proofs.bounds.textwrap_fill_bound.Goals as goal
 
 pub returns-clause-enough : goal.returns-clause-enough

@@ -1,6 +1,5 @@
 use Rattle.textwrap_calls.proofs.bounds.textwrap_wrap_columns_room_bound.Goals as goal
-use Rattle.textwrap_calls.proofs.Lengths.Sums.{sum-as_len, within-limit}
-use Rattle.textwrap_calls.proofs.Lengths.Bounds.{room-within}
+use Rattle.textwrap_calls.proofs.Lengths.{Bounds.room-within, Sums.{sum-as_len, within-limit}}
 
 pub returns-clause-value : goal.returns-clause-value
 returns-clause-value c =

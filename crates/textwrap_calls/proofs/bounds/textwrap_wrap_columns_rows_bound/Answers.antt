@@ -1,6 +1,5 @@
 use Rattle.std.proofs.Common.{arith, rules}
-use Rattle.textwrap_calls.proofs.Lengths.Sums.{within-limit}
-use Rattle.textwrap_calls.proofs.Lengths.Bounds.{rows-within}
+use Rattle.textwrap_calls.proofs.Lengths.{Bounds.rows-within, Sums.within-limit}
 use Rattle.textwrap_calls.proofs.bounds.textwrap_wrap_columns_rows_bound.Goals as goal
 
 pub returns-clause-enough : goal.returns-clause-enough

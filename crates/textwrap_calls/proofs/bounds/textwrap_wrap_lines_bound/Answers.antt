@@ -1,6 +1,5 @@
 use Rattle.textwrap_calls.proofs.Common.{settings_of}
-use Rattle.textwrap_calls.proofs.Lengths.Bounds.{lines-bounded}
-use Rattle.textwrap_calls.proofs.Lengths.Sums.{within-limit}
+use Rattle.textwrap_calls.proofs.Lengths.{Bounds.lines-bounded, Sums.within-limit}
 use Rattle.textwrap_calls.proofs.bounds.textwrap_wrap_lines_bound.Goals as goal
 
 pub returns-clause-enough : goal.returns-clause-enough

@@ -1,6 +1,5 @@
-use Rattle.textwrap_calls.proofs.Common.{settings_of, arith, rules}
-use Rattle.textwrap_calls.proofs.Lengths.Bounds.{lines-bounded}
 use Rattle.textwrap_calls.proofs.Lengths.Sums.{within-limit}
+use Rattle.textwrap_calls.proofs.{Common.{arith, rules, settings_of}, Lengths.Bounds.lines-bounded}
 use Rattle.textwrap_calls.proofs.bounds.textwrap_wrap_room_bound.Goals as goal
 
 pub returns-then-is_empty-2-clause-enough : goal.returns-then-is_empty-2-clause-enough

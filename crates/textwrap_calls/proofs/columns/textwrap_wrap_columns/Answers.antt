@@ -1,12 +1,10 @@
 use Rattle.textwrap_calls.proofs.columns.textwrap_wrap_columns.Goals as goal
-use Rattle.textwrap_calls.proofs.Common.{map, string_bytes, IsInColumns, TextwrapOptions, List, ℕ}
-use Rattle.textwrap_calls.proofs.Common.{unknown_options, not_utf8, IsUtf8, arith, refl, inl, inr}
-use Rattle.textwrap_calls.proofs.Common.{◌≡◌, ◌≢◌, ◌<◌, ◌≤◌, ◌↔◌, ◌⊎◌}
-use Rattle.textwrap_calls.proofs.ReadOptions.{as-read}
-use Rattle.textwrap_calls.proofs.PlaceLemmas.{rows-written}
-use Rattle.textwrap_calls.specs.Columns.{AreKnownGaps, AreTextGaps}
-use Rattle.textwrap_calls.specs.Options.{AreKnown, AreTexts}
-use Rattle.textwrap_calls.specs.declared.columns.TextwrapGaps.{TextwrapGaps}
+use Rattle.textwrap_calls.proofs.Common.{arith, IsInColumns, IsUtf8, string_bytes, TextwrapOptions}
+use Rattle.textwrap_calls.proofs.Common.{inl, inr, List, map, refl, ℕ, ◌<◌, ◌↔◌, ◌≡◌, ◌≢◌, ◌≤◌, ◌⊎◌}
+use Rattle.textwrap_calls.specs.{Options.AreTexts, Status.{not_utf8, unknown_options}}
+use Rattle.textwrap_calls.specs.{declared.columns.TextwrapGaps.TextwrapGaps, Options.AreKnown}
+use Rattle.textwrap_calls.{proofs.PlaceLemmas.rows-written, specs.Columns.AreKnownGaps}
+use Rattle.textwrap_calls.{proofs.ReadOptions.as-read, specs.Columns.AreTextGaps}
 
 pub returns-clause-columns : goal.returns-clause-columns
 returns-clause-columns c =

@@ -1,8 +1,7 @@
 use Rattle.textwrap_calls.proofs.display.textwrap_fill_justified.Goals as goal
-use Rattle.textwrap_calls.proofs.Common.{string_bytes}
-use Rattle.textwrap_display.specs.JustifiedText.{IsJustifiedText}
-use Rattle.textwrap_calls.proofs.ReadOptions.{as-read}
 use Rattle.textwrap_calls.proofs.RoomLemmas.{WritesText-answer}
+use Rattle.textwrap_calls.proofs.{Common.string_bytes, ReadOptions.as-read}
+use Rattle.textwrap_display.specs.JustifiedText.{IsJustifiedText}
 
 pub returns-in-Ok-fill_justified-clause-filled : goal.returns-in-Ok-fill_justified-clause-filled
 returns-in-Ok-fill_justified-clause-filled c =

@@ -1,8 +1,6 @@
 use Rattle.textwrap_calls.proofs.filling.fill_text.Goals as goal
-use Rattle.textwrap_calls.proofs.Common.{◌≡◌, ◌<◌, ◌↔◌, ◌∙◌, arith, length, rules, IsFilled}
-use Rattle.textwrap_calls.proofs.Common.{too_small}
-use Rattle.textwrap_calls.proofs.ReadOptions.{as-read}
-use Rattle.textwrap_calls.proofs.RoomLemmas.{short-reported}
+use Rattle.textwrap_calls.proofs.Common.{arith, IsFilled, length, rules, too_small, ◌<◌, ◌↔◌, ◌∙◌}
+use Rattle.textwrap_calls.proofs.{Common.◌≡◌, ReadOptions.as-read, RoomLemmas.short-reported}
 
 pub returns-in-Ok-fill_into-clause-filled : goal.returns-in-Ok-fill_into-clause-filled
 returns-in-Ok-fill_into-clause-filled c =

@@ -1,7 +1,6 @@
 use Rattle.textwrap_calls.proofs.indentation.dedent_text.Goals as goal
-use Rattle.textwrap_calls.proofs.Common.{arith, rules, dedented}
-use Rattle.textwrap_calls.proofs.Lengths.Texts.{dedented-length}
 use Rattle.textwrap_calls.proofs.RoomLemmas.{written-exactly}
+use Rattle.textwrap_calls.proofs.{Common.{arith, dedented, rules}, Lengths.Texts.dedented-length}
 
 pub returns-clause-dedented : goal.returns-clause-dedented
 returns-clause-dedented c =

@@ -1,6 +1,5 @@
 use Rattle.textwrap_calls.proofs.indentation.textwrap_indent.Goals as goal
-use Rattle.textwrap_calls.proofs.Common.{arith, inl, inr}
-use Rattle.textwrap_calls.proofs.PrintableLines.{printable-utf8}
+use Rattle.textwrap_calls.proofs.{Common.{arith, inl, inr}, PrintableLines.printable-utf8}
 
 pub returns-then-is_printable_text-clause-not_utf8 :
     goal.returns-then-is_printable_text-clause-not_utf8

@@ -1,7 +1,7 @@
 use Rattle.textwrap_calls.proofs.line_lists.textwrap_carry_styles.Goals as goal
-use Rattle.textwrap_calls.proofs.Common.{[], map, refl, subst, ◌∙◌, ArePlacedRows, bytes_of}
-use Rattle.textwrap_calls.proofs.Common.{carried_lines, line_bytes, Settings}
-use Rattle.textwrap_calls.proofs.PlaceLemmas.{rows-written}
+use Rattle.textwrap_calls.proofs.Common.{ArePlacedRows, bytes_of, line_bytes, refl, Settings, subst}
+use Rattle.textwrap_calls.proofs.{Common.{[], map, ◌∙◌}, PlaceLemmas.rows-written}
+use Rattle.textwrap_display.specs.Styles.{carried_lines}
 
 pub returns-in-Ok-place_carried-clause-carried : goal.returns-in-Ok-place_carried-clause-carried
 returns-in-Ok-place_carried-clause-carried c =

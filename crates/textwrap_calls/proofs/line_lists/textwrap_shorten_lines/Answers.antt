@@ -1,8 +1,11 @@
 use Rattle.textwrap_calls.proofs.line_lists.textwrap_shorten_lines.Goals as goal
+use Rattle.textwrap_calls.proofs.Common.{◌∙◌}
 use Rattle.textwrap_calls.proofs.PlaceLemmas.{rows-written}
+use Rattle.textwrap_calls.proofs.TextLemmas.{short-by}
 
 pub returns-in-Ok-place_shortened-clause-short : goal.returns-in-Ok-place_shortened-clause-short
 returns-in-Ok-place_shortened-clause-short c =
     let (rows, short, placed) = c.in-Ok-place_shortened.ensures in
-    rows-written rows (rw c.in-Ok.ensures.0 at short) placed c.put_lines.ensures.statuses
-    c.put_lines.ensures.lines
+    let by = c.new.ensures in
+    rows-written rows (short-by by.break_words by.width (by.placeholder ∙ c.in-Ok.ensures.0) short)
+    placed c.put_lines.ensures.statuses c.put_lines.ensures.lines

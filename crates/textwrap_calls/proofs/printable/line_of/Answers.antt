@@ -1,6 +1,7 @@
 use Rattle.textwrap_calls.proofs.printable.line_of.Goals as goal
-use Rattle.textwrap_calls.proofs.Common.{ap, ne_eqb, refl, take}
-use Rattle.textwrap_calls.proofs.PrintableLines.{free-line, only-line-filled, line-refilled}
+use Rattle.textwrap_calls.proofs.PrintableLines.{free-line, line-refilled}
+use Rattle.textwrap_calls.proofs.{Common.{ap, refl, take}, PrintableLines.only-line-filled}
+use Rattle.textwrap_text.proofs.Common.{ne_eqb}
 
 pub returns-then-options-ne0-clause-line : goal.returns-then-options-ne0-clause-line
 returns-then-options-ne0-clause-line c =

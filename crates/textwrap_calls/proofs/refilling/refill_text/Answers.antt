@@ -1,7 +1,6 @@
 use Rattle.textwrap_calls.proofs.refilling.refill_text.Goals as goal
-use Rattle.textwrap_calls.proofs.Common.{string_bytes, IsRefilled}
-use Rattle.textwrap_calls.proofs.ReadOptions.{as-read}
-use Rattle.textwrap_calls.proofs.RoomLemmas.{WritesText-answer}
+use Rattle.textwrap_calls.proofs.Common.{IsRefilled, string_bytes}
+use Rattle.textwrap_calls.proofs.{ReadOptions.as-read, RoomLemmas.WritesText-answer}
 
 pub returns-in-Ok-refill-clause-refilled : goal.returns-in-Ok-refill-clause-refilled
 returns-in-Ok-refill-clause-refilled c =

@@ -1,8 +1,7 @@
 use Rattle.textwrap_calls.proofs.refilling.unfill_text.Goals as goal
-use Rattle.textwrap_calls.proofs.Common.{◌≡◌, arith, rules, unfilled_parts, WritesText}
-use Rattle.textwrap_calls.proofs.Lengths.Texts.{unfilled-length}
-use Rattle.textwrap_calls.proofs.RoomLemmas.{written-exactly}
 use Rattle.textwrap_calls.proofs.refilling.unfill_text.Goals.{After-report-status}
+use Rattle.textwrap_calls.proofs.{Lengths.Texts.unfilled-length, RoomLemmas.written-exactly}
+use Rattle.textwrap_calls.{proofs.Common.{arith, rules, unfilled_parts, ◌≡◌}, specs.Room.WritesText}
 
 -- whether the layout is written too or not
 written : (c : After-report-status) → WritesText (λ answer. answer ≡ unfilled_parts c.args.text.now)

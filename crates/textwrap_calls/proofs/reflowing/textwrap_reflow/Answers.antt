@@ -1,6 +1,5 @@
 use Rattle.textwrap_calls.proofs.reflowing.textwrap_reflow.Goals as goal
-use Rattle.textwrap_calls.proofs.Common.{rules}
-use Rattle.textwrap_calls.proofs.RoomLemmas.{WritesText-answer}
+use Rattle.textwrap_calls.proofs.{Common.rules, RoomLemmas.WritesText-answer}
 use Rattle.textwrap_calls.specs.Reflowing.{IsReflowedBy}
 
 pub returns-in-Ok-reflowed-clause-reflowed : goal.returns-in-Ok-reflowed-clause-reflowed

@@ -1,6 +1,5 @@
 use Rattle.textwrap_calls.proofs.reported.put_line.Goals as goal
-use Rattle.textwrap_calls.proofs.Common.{arith, refl, rules}
-use Rattle.textwrap_calls.proofs.RoomLemmas.{WritesReported-counts}
+use Rattle.textwrap_calls.proofs.{Common.{arith, refl, rules}, RoomLemmas.WritesReported-counts}
 
 pub returns-clause-lines : goal.returns-clause-lines
 returns-clause-lines c =

@@ -1,6 +1,5 @@
 use Rattle.textwrap_calls.proofs.reported.put_lines.Goals as goal
-use Rattle.textwrap_calls.proofs.Common.{arith, rules}
-use Rattle.textwrap_calls.proofs.RoomLemmas.{WritesReported-counts}
+use Rattle.textwrap_calls.proofs.{Common.{arith, rules}, RoomLemmas.WritesReported-counts}
 
 pub returns-clause-lines : goal.returns-clause-lines
 returns-clause-lines c =

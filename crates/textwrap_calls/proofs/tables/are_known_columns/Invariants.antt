@@ -1,5 +1,6 @@
 use Rattle.textwrap_calls.proofs.tables.are_known_columns.Given as goal
-use Rattle.textwrap_calls.proofs.Common.{TextwrapColumn, IsKnownColumn, get_or, ◌<◌, ℕ}
+use Rattle.textwrap_calls.specs.declared.tables.TextwrapColumn.{TextwrapColumn}
+use Rattle.textwrap_calls.{proofs.Common.{get_or, ℕ, ◌<◌}, specs.Tables.IsKnownColumn}
 
 -- the columns so far are known
 abbrev pub invariant-loop-column : goal.invariant-loop-column

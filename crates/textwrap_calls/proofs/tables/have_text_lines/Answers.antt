@@ -1,6 +1,5 @@
 use Rattle.textwrap_calls.proofs.tables.have_text_lines.Goals as goal
-use Rattle.textwrap_calls.proofs.Common.{refl, HasTextLines}
-use Rattle.textwrap_calls.proofs.TextLemmas.{next-holds}
+use Rattle.textwrap_calls.proofs.{Common.{HasTextLines, refl}, TextLemmas.next-holds}
 
 pub loop-cell-preserved : goal.loop-cell-preserved
 loop-cell-preserved c =

@@ -1,5 +1,6 @@
 use Rattle.textwrap_calls.proofs.tables.have_texts.Given as goal
-use Rattle.textwrap_calls.proofs.Common.{ℕ, ◌<◌, get_or, HasTexts, TextwrapColumn}
+use Rattle.textwrap_calls.specs.declared.tables.TextwrapColumn.{TextwrapColumn}
+use Rattle.textwrap_calls.{proofs.Common.{get_or, ℕ, ◌<◌}, specs.Tables.HasTexts}
 
 -- the columns so far have indents that are UTF-8
 abbrev pub invariant-loop-column : goal.invariant-loop-column

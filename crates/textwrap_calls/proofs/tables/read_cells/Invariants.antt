@@ -1,6 +1,8 @@
 use Rattle.textwrap_calls.proofs.tables.read_cells.Given as goal
-use Rattle.textwrap_calls.proofs.Common.{◌≡◌, take, lines_in, cell_texts}
+use Rattle.textwrap_calls.{proofs.Common.{drop, ◌++◌, ◌≡◌}, specs.Tables.lines_in}
+use Rattle.textwrap_display.specs.Tables.{cell_texts}
 
--- the cells so far have their lines
+-- the cells so far, and those that are left, have the lines of all
 abbrev pub invariant-loop-cell : goal.invariant-loop-cell
-invariant-loop-cell l = cell_texts l.cells.items ≡ lines_in (take l.cell-index l.given)
+invariant-loop-cell l =
+    cell_texts l.cells.items ++ lines_in (drop l.cell-index l.given) ≡ lines_in l.given

@@ -1,7 +1,9 @@
 use Rattle.textwrap_calls.proofs.tables.read_columns.Given as goal
-use Rattle.textwrap_calls.proofs.Common.{◌≡◌, map, take, parts_of_column, plain_parts}
+use Rattle.textwrap_calls.{proofs.Common.{drop, map, ◌++◌, ◌≡◌}, specs.Tables.parts_of_column}
+use Rattle.textwrap_plain.specs.Tables.{plain_parts}
 
--- the columns so far have their parts
+-- the columns so far, and those that are left, have the parts of all
 abbrev pub invariant-loop-column : goal.invariant-loop-column
 invariant-loop-column l =
-    map plain_parts l.columns.items ≡ map parts_of_column (take l.column-index l.given)
+    map plain_parts l.columns.items ++ map parts_of_column (drop l.column-index l.given)
+    ≡ map parts_of_column l.given

@@ -1,7 +1,6 @@
 use Rattle.textwrap_calls.proofs.tables.textwrap_table.Goals as goal
-use Rattle.textwrap_calls.proofs.Common.{arith, refl}
-use Rattle.textwrap_calls.proofs.PlaceLemmas.{rows-written}
-use Rattle.textwrap_calls.proofs.TextLemmas.{known-apart, right-apart, written-apart}
+use Rattle.textwrap_calls.proofs.{Common.{arith, refl}, TextLemmas.right-apart}
+use Rattle.textwrap_calls.proofs.{PlaceLemmas.rows-written, TextLemmas.{known-apart, written-apart}}
 
 pub place_table-requires-clause-texts : goal.place_table-requires-clause-texts
 place_table-requires-clause-texts c = c.if-not-have_texts.ensures.0 refl

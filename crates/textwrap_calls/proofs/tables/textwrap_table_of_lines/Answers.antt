@@ -1,7 +1,6 @@
 use Rattle.textwrap_calls.proofs.tables.textwrap_table_of_lines.Goals as goal
-use Rattle.textwrap_calls.proofs.Common.{arith, refl}
-use Rattle.textwrap_calls.proofs.PlaceLemmas.{rows-written}
-use Rattle.textwrap_calls.proofs.TextLemmas.{known-apart, right-apart, written-apart}
+use Rattle.textwrap_calls.proofs.{Common.{arith, refl}, TextLemmas.right-apart}
+use Rattle.textwrap_calls.proofs.{PlaceLemmas.rows-written, TextLemmas.{known-apart, written-apart}}
 
 pub place_cells-requires-clause-cells : goal.place_cells-requires-clause-cells
 place_cells-requires-clause-cells c = c.if-not-have_text_lines.ensures.0 refl

@@ -1,6 +1,5 @@
 use Rattle.textwrap_calls.proofs.texts.are_utf8.Goals as goal
-use Rattle.textwrap_calls.proofs.Common.{IsText}
-use Rattle.textwrap_calls.proofs.TextLemmas.{next-holds}
+use Rattle.textwrap_calls.{proofs.TextLemmas.next-holds, specs.Texts.IsText}
 
 pub loop-text-preserved : goal.loop-text-preserved
 loop-text-preserved c =

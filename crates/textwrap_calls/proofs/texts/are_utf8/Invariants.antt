@@ -1,5 +1,6 @@
 use Rattle.textwrap_calls.proofs.texts.are_utf8.Given as goal
-use Rattle.textwrap_calls.proofs.Common.{ℕ, ◌<◌, get_or, IsText, TextwrapText}
+use Rattle.textwrap_calls.specs.declared.texts.TextwrapText.{TextwrapText}
+use Rattle.textwrap_calls.{proofs.Common.{get_or, ℕ, ◌<◌}, specs.Texts.IsText}
 
 -- the texts so far are UTF-8
 abbrev pub invariant-loop-text : goal.invariant-loop-text

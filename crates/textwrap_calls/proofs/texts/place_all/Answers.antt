@@ -1,7 +1,6 @@
 use Rattle.textwrap_calls.proofs.texts.place_all.Goals as goal
-use Rattle.textwrap_calls.proofs.Common.{texts_of}
-use Rattle.textwrap_calls.proofs.PlaceLemmas.{ArePlacedRows-push}
 use Rattle.textwrap_calls.proofs.TextLemmas.{texts-push}
+use Rattle.textwrap_calls.proofs.{Common.texts_of, PlaceLemmas.ArePlacedRows-push}
 
 pub loop-line-preserved : goal.loop-line-preserved
 loop-line-preserved c =

@@ -1,6 +1,8 @@
 use Rattle.textwrap_calls.proofs.texts.strs_of.Given as goal
-use Rattle.textwrap_calls.proofs.Common.{◌≡◌, take, bytes_of, texts_in}
+use Rattle.textwrap_calls.proofs.Common.{bytes_of, drop, ◌++◌, ◌≡◌}
+use Rattle.textwrap_display.specs.Tables.{texts_in}
 
--- the texts so far are strings
+-- the strings so far, and the texts that are left, are all texts
 abbrev pub invariant-loop-text : goal.invariant-loop-text
-invariant-loop-text l = texts_in l.strs.items ≡ bytes_of (take l.text-index l.texts)
+invariant-loop-text l =
+    texts_in l.strs.items ++ bytes_of (drop l.text-index l.texts) ≡ bytes_of l.texts

@@ -1,7 +1,6 @@
 use Rattle.textwrap_calls.proofs.wrapping.textwrap_wrap.Goals as goal
-use Rattle.textwrap_calls.proofs.Common.{refl}
-use Rattle.textwrap_calls.proofs.PrintableLines.{only-line-shown}
 use Rattle.textwrap_calls.proofs.RoomLemmas.{WritesLines-reported}
+use Rattle.textwrap_calls.proofs.{Common.refl, PrintableLines.only-line-shown}
 
 pub returns-in-Some-clause-wrapped : goal.returns-in-Some-clause-wrapped
 returns-in-Some-clause-wrapped c =

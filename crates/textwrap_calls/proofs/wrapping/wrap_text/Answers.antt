@@ -1,11 +1,9 @@
 use Rattle.textwrap_calls.proofs.wrapping.wrap_text.Goals as goal
-use Rattle.textwrap_calls.proofs.Common.{◌<◌, ◌^◌, [], arith, length, refl, rules, ArePlacedLines}
-use Rattle.textwrap_calls.proofs.Common.{algorithm_of, separator_of, settings_of, splitter_of}
-use Rattle.textwrap_calls.proofs.PlaceLemmas.{placed-shown}
-use Rattle.textwrap_calls.proofs.Lengths.Bounds.{lines-bounded}
-use Rattle.textwrap_calls.proofs.RoomLemmas.{ShowLines-length, WritesLines-reported}
-use Rattle.textwrap_calls.proofs.RoomLemmas.{WritesReported-counts}
-use Rattle.textwrap_calls.proofs.ReadOptions.{as-read}
+use Rattle.textwrap_calls.proofs.Common.{[], arith, length, refl, rules, splitter_of, ◌<◌, ◌^◌}
+use Rattle.textwrap_calls.proofs.Common.{algorithm_of, ArePlacedLines, separator_of, settings_of}
+use Rattle.textwrap_calls.proofs.RoomLemmas.{WritesLines-reported, WritesReported-counts}
+use Rattle.textwrap_calls.proofs.{Lengths.Bounds.lines-bounded, ReadOptions.as-read}
+use Rattle.textwrap_calls.proofs.{PlaceLemmas.placed-shown, RoomLemmas.ShowLines-length}
 
 pub returns-in-Ok-place_into-clause-wrapped : goal.returns-in-Ok-place_into-clause-wrapped
 returns-in-Ok-place_into-clause-wrapped c =

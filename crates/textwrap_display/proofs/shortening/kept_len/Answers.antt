@@ -1,86 +1,125 @@
 use Rattle.textwrap_display.proofs.shortening.kept_len.Goals as goal
-use Rattle.textwrap_text.proofs.Common.{char_indices_offset, length, arith, refl, eqb, inl, inr}
-use Rattle.textwrap_text.proofs.Common.{sym, ◌+◌, ◌∙◌, ◌≡◌}
-use Rattle.textwrap_display.proofs.Common.{char_indices_rest, added}
-use Rattle.textwrap_display.proofs.KeptLines.{found-blank, found-whole, found-here, found-kept}
-use Rattle.textwrap_display.proofs.KeptLines.{found-none, found-past, found-on, IsFound}
-use Rattle.textwrap_display.proofs.KeptWords.{read_to-start, read_to-step, IsReadTo, read-le}
-use Rattle.textwrap_display.proofs.shortening.kept_len.Goals.{then-ch-eq32+then-not-after_blank}
-use Rattle.textwrap_display.proofs.shortening.kept_len.Goals.{Joined-is_visible, else-is_visible}
-use Rattle.textwrap_display.proofs.shortening.kept_len.Goals.{then-is_visible, Joined-ch-eq32}
-use Rattle.textwrap_display.proofs.shortening.kept_len.Goals.{else-ch-eq32}
+use Rattle.textwrap_text.proofs.Common.{length, text_width, rules, arith, drop, take, ◌+◌}
+use Rattle.textwrap_text.proofs.Common.{◌<◌, ◌≡◌, ap}
+use Rattle.textwrap_display.proofs.KeptParts.{start-boundary, kept-uncut, kept-none, kept-cut}
+use Rattle.textwrap_display.proofs.KeptParts.{kept-within, kept-words, start-is, cut-none, word-is}
+use Rattle.textwrap_display.proofs.Common.{indent_len}
+use Rattle.textwrap_display.specs.Shortening.{IsKeptBeginning}
+use Rattle.textwrap_display.proofs.shortening.kept_len.Goals.{In-Some-checked_sub, After-split_indent}
+use Rattle.textwrap_display.proofs.shortening.kept_len.Goals.{After-words_len-words, After-range}
 
-pub loop-at-init : goal.loop-at-init
-loop-at-init c =
-    let items = c.char_indices-at-items.ensures in
+pub returns-in_default : goal.returns-in_default
+returns-in_default c =
+    let shortening = c.args.shortening.now in
+    kept-none shortening.break_words shortening.width shortening.placeholder.now c.args.line.now
+    (omega (arith, c.in_default.ensures, c.display_width-placeholder.ensures.width))
+
+-- the room beside the placeholder, and the words that have room in it
+room : (c : After-words_len-words)
+    → c.in-Some.room + text_width c.args.shortening.now.placeholder.now ≡ c.args.shortening.now.width
+room c = omega (arith, c.in-Some.ensures, c.display_width-placeholder.ensures.width)
+
+kept : (c : After-words_len-words) → IsKeptBeginning c.args.shortening.now.width
+    c.args.shortening.now.placeholder.now c.args.line.now c.words_len-words.result
+kept c = c.words_len-words.ensures c.args.shortening.now.width
+    c.args.shortening.now.placeholder.now (room c)
+
+front : (c : After-range) → c.range.result.now
+    ≡ take (c.words_len-words.result + length c.split_indent.result.0.now) c.args.line.now
+front c = search (rules, arith, c.range.ensures.value)
+
+-- where the first word behind them begins
+start : (c : After-split_indent) → c.words_len-words.result + length c.split_indent.result.0.now
+    ≡ c.words_len-words.result + indent_len (drop c.words_len-words.result c.args.line.now)
+start c =
+    start-is c.args.line.now c.range_from.result.now c.split_indent.result.0.now
+    c.words_len-words.result c.range_from.ensures.value c.split_indent.ensures.indent
+
+pub range-requires-clause-end_boundary : goal.range-requires-clause-end_boundary
+range-requires-clause-end_boundary c =
+    let at = goal.at.range-requires-clause-end_boundary c in
+    start-boundary c.args.shortening.now.width c.args.shortening.now.placeholder.now c.args.line.now
+    c.utf8.line c.words_len-words.result _ (kept at.After-words_len-words)
+    (start at.After-split_indent)
+
+pub returns-in_default-checked_sub : goal.returns-in_default-checked_sub
+returns-in_default-checked_sub c =
+    let at = goal.at.returns-in_default-checked_sub c in
+    let shortening = c.args.shortening.now in
     let line = c.args.line.now in
-    rw (c.into_iter-at-iterator.ensures.into_iter_gives, items.offset, items.rest) (record {
-      read = read_to-start line c.utf8.line;
-      found = found-none c.in-Some.room line 0 refl;
-    })
+    let words = kept at.After-words_len-words in
+    let next = start at.After-split_indent in
+    let over : shortening.width < text_width (take
+    (c.words_len-words.result + length c.split_indent.result.0.now) line)
+    + text_width shortening.placeholder.now =
+    omega (
+      arith,
+      room at.After-words_len-words,
+      c.in_default-checked_sub.ensures,
+      c.display_width.ensures.width,
+      ap text_width (front at.After-range),
+    ) in
+    kept-words shortening.break_words shortening.width shortening.placeholder.now line
+    c.words_len-words.result _ words next (λ passes.
+    cut-none shortening.width shortening.placeholder.now line c.utf8.line c.words_len-words.result _
+    words next over)
 
-pub returns-then-taken-room : goal.returns-then-taken-room
-returns-then-taken-room c =
-    let h = c.loop-at.invariant in
-    found-kept c.in-Some.room c.args.width c.args.placeholder.now c.args.line.now c.loop-at.kept
-    (omega arith) (found-past c.utf8.line h.read h.found c.if-taken-room.true)
+-- the columns that are left beside the blanks before it
+left : (c : In-Some-checked_sub) → c.in-Some-checked_sub.left + text_width (take
+    (c.words_len-words.result + length c.split_indent.result.0.now) c.args.line.now)
+    ≡ c.in-Some.room
+left c =
+    let same : c.range.result.now
+    ≡ take (c.words_len-words.result + length c.split_indent.result.0.now) c.args.line.now =
+    search (rules, arith, c.range.ensures.value) in
+    omega (
+      arith,
+      c.in-Some-checked_sub.ensures,
+      c.display_width.ensures.width,
+      ap text_width same,
+    )
 
-read : (c : Joined-is_visible)
-    → IsReadTo c.args.line.now (char_indices_offset c.next.new.self)
-    (char_indices_rest c.next.new.self) c.step-next.result.0
-    (c.loop-at.taken + c.if-is_visible.taken) (eqb c.in-Some-2.ch 32)
-read c =
-    let s = c.in-Some-2.ensures.steps in
-    let more : added c.loop-at.state c.in-Some-2.ch ≡ c.if-is_visible.taken =
-    elim c.if-is_visible.branch [
-      | then-is_visible w ↦ rw (rw c.step-next.ensures at w.if-is_visible.true)
-          (sym (w.taken-is ∙ w.columns.ensures))
-      | else-is_visible w ↦ rw (rw c.step-next.ensures at w.if-is_visible.false) (sym w.taken-is)
-    ] in
-    rw (c.step-next.ensures, ← more)
-    (read_to-step c.utf8.line c.loop-at.invariant.read _ c.in-Some-2.ch _ s.1 s.2)
+word : (c : After-split_indent) → c.split_indent.result.1.now
+    ≡ drop (c.words_len-words.result + length c.split_indent.result.0.now) c.args.line.now
+word c =
+    word-is c.args.line.now c.range_from.result.now c.split_indent.result.1.now
+    c.words_len-words.result (c.words_len-words.result + length c.split_indent.result.0.now)
+    c.range_from.ensures.value c.split_indent.ensures.rest (start c)
 
-pub overflow_add-taken : goal.overflow_add-taken
-overflow_add-taken c =
-    let past = read (goal.at.overflow_add-taken c).Joined-is_visible in
-    omega (arith, read-le c.utf8.line past)
+pub overflow_add-result : goal.overflow_add-result
+overflow_add-result c =
+    let at = goal.at.overflow_add-result c in
+    let shortening = c.args.shortening.now in
+    omega (
+      arith,
+      kept-within shortening.break_words shortening.width shortening.placeholder.now
+          c.args.line.now c.utf8.line c.words_len-words.result _ (kept at.After-words_len-words)
+          (start at.After-split_indent) c.in-Some.room c.in-Some-checked_sub.left
+          c.broken_len-broken.result c.split_indent.result.1.now (word at.After-split_indent)
+          (room at.After-words_len-words) (left at.In-Some-checked_sub)
+          c.broken_len-broken.ensures.whole c.broken_len-broken.ensures.cut
+          c.if-broken-eq0.false,
+    )
 
-found : (c : Joined-ch-eq32)
-    → IsFound c.in-Some.room c.args.line.now (char_indices_offset c.next.new.self)
-    c.if-ch-eq32.kept
-found c =
-    let s = c.in-Some-2.ensures.steps in
-    let h = c.loop-at.invariant in
-    let end = char_indices_offset c.next.new.self in
-    elim c.if-ch-eq32.branch [
-      | then-ch-eq32+then-not-after_blank w ↦ rw (w.kept-is, s.0)
-          (found-here c.utf8.line h.read h.found c.in-Some-2.ch _ s.1 end (omega (arith, s.2))
-          c.if-taken-room.false w.if-ch-eq32.true w.if-not-after_blank.true)
-      | else-ch-eq32 w ↦ rw w.kept-is
-          (found-on c.utf8.line h.read h.found c.in-Some-2.ch _ s.1 end (omega (arith, s.2))
-          w.else-ch-eq32.either)
-    ]
+pub returns-then-broken-eq0 : goal.returns-then-broken-eq0
+returns-then-broken-eq0 c =
+    let at = goal.at.returns-then-broken-eq0 c in
+    let shortening = c.args.shortening.now in
+    kept-uncut shortening.break_words shortening.width shortening.placeholder.now c.args.line.now
+    c.utf8.line c.words_len-words.result _ (kept at.After-words_len-words)
+    (start at.After-split_indent) c.in-Some.room c.in-Some-checked_sub.left
+    c.broken_len-broken.result c.split_indent.result.1.now (word at.After-split_indent)
+    (room at.After-words_len-words) (left at.In-Some-checked_sub)
+    c.broken_len-broken.ensures.whole c.broken_len-broken.ensures.cut c.if-broken-eq0.true
 
-pub loop-at-preserved : goal.loop-at-preserved
-loop-at-preserved c = record {
-  read = read (goal.at.loop-at-preserved c).Joined-is_visible;
-  found = found (goal.at.loop-at-preserved c).Joined-ch-eq32;
-}
-
-pub returns-then-after_blank : goal.returns-then-after_blank
-returns-then-after_blank c =
-    let h = c.loop-at.invariant in
-    found-kept c.in-Some.room c.args.width c.args.placeholder.now c.args.line.now c.loop-at.kept
-    (omega (arith, c.in-Some.ensures, c.display_width.ensures.width))
-    (elim c.if-after_blank.either [
-      | inl past ↦ found-past c.utf8.line h.read h.found past
-      | inr blank ↦ found-blank c.utf8.line h.read h.found c.in-None.ensures.steps.0 blank.1
-    ])
-
-pub returns-else-after_blank : goal.returns-else-after_blank
-returns-else-after_blank c =
-    let h = c.loop-at.invariant in
-    found-kept c.in-Some.room c.args.width c.args.placeholder.now c.args.line.now
-    (length c.args.line.now) (omega (arith, c.in-Some.ensures, c.display_width.ensures.width))
-    (found-whole c.utf8.line h.read h.found c.in-None.ensures.steps.0 c.if-after_blank.false.0
-    c.if-after_blank.false.1)
+pub returns-else-broken-eq0 : goal.returns-else-broken-eq0
+returns-else-broken-eq0 c =
+    let at = goal.at.returns-else-broken-eq0 c in
+    let shortening = c.args.shortening.now in
+    kept-cut shortening.break_words shortening.width shortening.placeholder.now c.args.line.now
+    c.utf8.line c.words_len-words.result _ (kept at.After-words_len-words)
+    (start at.After-split_indent) c.in-Some.room c.in-Some-checked_sub.left
+    c.broken_len-broken.result c.split_indent.result.1.now (word at.After-split_indent)
+    (room at.After-words_len-words) (left at.In-Some-checked_sub)
+    c.broken_len-broken.ensures.whole c.broken_len-broken.ensures.cut
+    c.if-not-shortening.false c.if-broken-eq0.false

@@ -1,10 +1,12 @@
 use Rattle.textwrap_text.proofs.Common.{rules, arith}
 use Rattle.textwrap_display.proofs.shortening.shortened.Goals as goal
-use Rattle.textwrap_display.proofs.KeptWords.{may_end-boundary}
+use Rattle.textwrap_display.proofs.KeptParts.{kept-boundary}
 
 pub range-kept-requires-clause-end_boundary : goal.range-kept-requires-clause-end_boundary
 range-kept-requires-clause-end_boundary g c =
-    may_end-boundary c.args.line.now c.kept_len.result c.utf8.line c.kept_len.ensures.ends
+    let shortening = c.args.shortening.now in
+    kept-boundary shortening.break_words shortening.width shortening.placeholder.now c.args.line.now
+    c.utf8.line c.kept_len.result c.kept_len.ensures
 
 pub returns : goal.returns
 returns g c =
@@ -12,6 +14,8 @@ returns g c =
       rules,
       arith,
       c.kept_len.ensures,
+      c.in_ok-closing.ensures,
+      c.in_ok-push_str-3.ensures.bytes,
       c.in_ok-push_str-2.ensures.bytes,
       c.in_ok-push_str.ensures.bytes,
       c.in_ok-text.ensures.bytes,

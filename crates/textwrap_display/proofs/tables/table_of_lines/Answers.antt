@@ -2,7 +2,7 @@ use Rattle.textwrap_display.proofs.tables.table_of_lines.Goals as goal
 use Rattle.textwrap_text.proofs.Common.{append_assoc, append-nil, length-map, length, arith, rules}
 use Rattle.textwrap_text.proofs.Common.{◌∙◌, map}
 use Rattle.std.specs.Slice.Iter.{chunks_rest}
-use Rattle.textwrap_display.specs.Shortening.{texts_of}
+use Rattle.textwrap_styles.specs.Styles.{texts_of}
 use Rattle.textwrap_display.specs.Tables.{cell_texts, gaps_view, shape_of}
 use Rattle.textwrap_display.proofs.TableGroups.{cells-rows-more, cells-rows-none, group-map}
 

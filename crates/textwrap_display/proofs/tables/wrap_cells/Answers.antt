@@ -8,7 +8,7 @@ use Rattle.std.specs.Iterator.Adapters.{zip_first, zip_second}
 use Rattle.std.specs.Slice.Iter.{iter_rest}
 use Rattle.textwrap_layout.proofs.Common.{line_view}
 use Rattle.textwrap_lines.proofs.Paragraph.KeepsTo.{passed-on}
-use Rattle.textwrap_display.specs.Shortening.{texts_of}
+use Rattle.textwrap_styles.specs.Styles.{texts_of}
 use Rattle.textwrap_display.specs.Tables.{cell_texts, IsCell, texts_in}
 use Rattle.textwrap_display.proofs.TableGroups.{cell-at}
 

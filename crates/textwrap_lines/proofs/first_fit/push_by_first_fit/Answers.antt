@@ -1,13 +1,13 @@
 use Rattle.textwrap_lines.proofs.first_fit.push_by_first_fit.Goals as goal
 use Rattle.textwrap_lines.proofs.Common.{as_splitter, frame_settings, on_ok_weaker, pieces_of_words}
-use Rattle.textwrap_lines.proofs.Common.{indent_of, is_cut_by, parts_by, split_words, Took, word_of}
-use Rattle.textwrap_lines.proofs.Common.{ap, arith, map, subst, sym, ◌∙◌}
+use Rattle.textwrap_lines.proofs.Common.{indent_of, is_cut_by, parts_by, Pushed, split_words}
+use Rattle.textwrap_lines.proofs.Common.{ap, arith, map, subst, sym, word_of, ◌∙◌}
 use Rattle.textwrap_lines.proofs.PieceLines.{lines-greedy}
 use Rattle.textwrap_lines.proofs.PrintableTexts.Pieces.{split-cuts, words-texts}
 use Rattle.textwrap_lines.proofs.PrintableTexts.Lines.{lines-by_bytes, lines_of_pieces}
 
-pub returns-in-Some-clause-took : goal.returns-in-Some-clause-took
-returns-in-Some-clause-took g c =
+pub returns-in-Some-clause-pushed : goal.returns-in-Some-clause-pushed
+returns-in-Some-clause-pushed g c =
     let frame = c.args.frame.now in
     let settings = frame_settings frame in
     let splitter = as_splitter c.args.splitter in
@@ -31,5 +31,5 @@ returns-in-Some-clause-took g c =
       division,
       c.in-Some.ensures text printable,
       greedy,
-      subst (Took _ c.args.lines.now c.push_printable_lines.new.lines) is took,
-    )) c.push_printable_lines.ensures.took
+      subst (Pushed _ c.args.lines.now c.push_printable_lines.new.lines) is took,
+    )) c.push_printable_lines.ensures.pushed

@@ -1,6 +1,6 @@
 use Rattle.textwrap_lines.proofs.least_cost.push_by_least_cost.Goals as goal
 use Rattle.textwrap_lines.proofs.Common.{as_splitter, frame_settings, on_ok_weaker, words_cut-texts}
-use Rattle.textwrap_lines.proofs.Common.{Bor, cuts_of, List, refl, Span, subst, Took, words_cut}
+use Rattle.textwrap_lines.proofs.Common.{Bor, cuts_of, List, refl, Span, subst, Pushed, words_cut}
 use Rattle.textwrap_lines.proofs.Common.{map, ◌∙◌}
 use Rattle.textwrap_lines.proofs.PlacedPieces.{are_searched, found-lines, FoundLines}
 use Rattle.textwrap_lines.proofs.least_cost.push_by_least_cost.Goals.{After-deref-2}
@@ -38,11 +38,11 @@ pub push_lines-requires : goal.push_lines-requires
 push_lines-requires g c = λ k.
     ((refl, tt), (lines_found g (goal.at.push_lines-requires g c).After-deref-2).texts)
 
-pub returns-clause-took : goal.returns-clause-took
-returns-clause-took g c =
-    let found = lines_found g (goal.at.returns-clause-took g c).After-deref-2 in
+pub returns-clause-pushed : goal.returns-clause-pushed
+returns-clause-pushed g c =
+    let found = lines_found g (goal.at.returns-clause-pushed g c).After-deref-2 in
     on_ok_weaker c.push_lines.result (λ took. (
       found.division,
       found.optimal,
-      subst (Took _ c.args.lines.now c.push_lines.new.lines) found.are_lines took,
-    )) c.push_lines.ensures.took
+      subst (Pushed _ c.args.lines.now c.push_lines.new.lines) found.are_lines took,
+    )) c.push_lines.ensures.pushed

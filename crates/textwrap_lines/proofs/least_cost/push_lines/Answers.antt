@@ -12,12 +12,12 @@ loop-line-preserved g c =
     record {
       taken = HasTaken-next _ c.args.lines.now c.loop-line.lines c.push_between.new.lines _ _
           (rw more at c.loop-line.invariant.taken)
-          (rw c.next_indent-indent.ensures at c.in_ok-push_between.ensures.took);
+          (rw c.next_indent-indent.ensures at c.in_ok-push_between.ensures.pushed);
       texts = (rw more at c.loop-line.invariant.texts).2;
       name = c.push_between.ensures.name ∙ c.loop-line.invariant.name;
     }
 
-pub returns-clause-took : goal.returns-clause-took
-returns-clause-took g c = HasTaken-end _ c.args.lines.now c.loop-line.lines
+pub returns-clause-pushed : goal.returns-clause-pushed
+returns-clause-pushed g c = HasTaken-end _ c.args.lines.now c.loop-line.lines
     (rw (drop_all c.loop-line.line-index c.args.division.now (omega arith))
     at c.loop-line.invariant.taken)

@@ -2,7 +2,7 @@ use Rattle.textwrap_lines.proofs.Common.{IsCharBoundary-start, words_cut-texts, 
 use Rattle.textwrap_lines.proofs.Common.{frame_settings, HasTaken-next, left_standing, HasTaken-end}
 use Rattle.textwrap_lines.proofs.Common.{on_ok_weaker, as_splitter, frame_lines, line_so_far, rules}
 use Rattle.textwrap_lines.proofs.Common.{lines_past, stand_from, LineSoFar, words_cut, cuts_of, ◌∙◌}
-use Rattle.textwrap_lines.proofs.Common.{arith, subst, refl, Took, ◌≡◌, [], ap}
+use Rattle.textwrap_lines.proofs.Common.{arith, subst, refl, Pushed, ◌≡◌, [], ap}
 use Rattle.textwrap_lines.proofs.piece_lines.push_lines_by_pieces.Goals as goal
 use Rattle.textwrap_layout.specs.Direct.{pieces_cut}
 use Rattle.textwrap_lines.proofs.PieceLines.{AllCome, lines-greedy, pieces-come}
@@ -36,8 +36,8 @@ loop-piece-preserved g c =
     let taken = rw c.in-Some.ensures.steps at c.loop-piece.invariant.taken in
     search (rules, arith, HasTaken-next, c.if-is_past.branch)
 
-pub returns-clause-took : goal.returns-clause-took
-returns-clause-took g c =
+pub returns-clause-pushed : goal.returns-clause-pushed
+returns-clause-pushed g c =
     let settings = frame_settings c.args.frame.now in
     let is_later = c.args.frame.now.is_later in
     let cuts = c.args.cuts.now in
@@ -60,8 +60,8 @@ returns-clause-took g c =
     on_ok_weaker c.push_to-2.result (λ end. (
       division,
       greedy,
-      subst (Took _ c.args.lines.now c.push_to-2.new.lines) all_is
+      subst (Pushed _ c.args.lines.now c.push_to-2.new.lines) all_is
           (HasTaken-end _ c.args.lines.now c.push_to-2.new.lines
           (HasTaken-next _ c.args.lines.now c.loop-piece.lines c.push_to-2.new.lines _ []
           (rw c.in-None.ensures.steps.0 at c.loop-piece.invariant.taken) end)),
-    )) c.push_to-2.ensures.took
+    )) c.push_to-2.ensures.pushed

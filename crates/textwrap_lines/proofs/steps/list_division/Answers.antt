@@ -7,7 +7,7 @@ pub returns : goal.returns
 returns g c =
     let lines = map (λ line. map word_view line.now) c.args.division.now in
     let parts = parts_from (settings_view c.args.options.now) c.args.is_later lines in
-    let took = c.in_ok-push_lines.ensures.took in
+    let took = c.in_ok-push_lines.ensures.pushed in
     let are : map line_view c.push_lines.new.lines.lines.now.items ≡ map line_from parts =
     (rw (c.at-frame.ensures.layout, c.at-frame.ensures.later, c.of.ensures) at took).held
     c.push_lines.new.lines 0 []

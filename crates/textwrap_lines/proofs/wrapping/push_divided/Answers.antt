@@ -34,5 +34,5 @@ returns-clause-taken g c =
       map (λ line. map word_view line.now) c.in_ok-division.division.items,
       c.in_ok-division.ensures.divides c.args.frame.now.is_later c.args.paragraph.now widths
           (rw c.deref.ensures.value c.in_ok-pieces.ensures.pieces),
-      rw c.deref-2.ensures.value at c.in_ok-push_lines.ensures.took,
+      rw c.deref-2.ensures.value at c.in_ok-push_lines.ensures.pushed,
     )

@@ -1,6 +1,6 @@
 use Rattle.textwrap_lines.proofs.wrapping.push_line.Goals as goal
 use Rattle.textwrap_lines.proofs.Common.{[], layout_view, slice_range, StartsWith, take-append-drop}
-use Rattle.textwrap_lines.proofs.Common.{covered, cut_line, length, subst, tiled, Took, word_view}
+use Rattle.textwrap_lines.proofs.Common.{covered, cut_line, length, subst, tiled, Pushed, word_view}
 use Rattle.textwrap_lines.proofs.Common.{ap, cond, drop, map, sym, ◌&&◌, ◌++◌, ◌==◌, ◌∙◌, ◌∷◌, ◌≡◌}
 use Rattle.std.proofs.Math.Bool.{and_comm}
 use Rattle.textwrap_layout.proofs.Paragraph.LeftOff.{line_from-parts_of}
@@ -23,9 +23,9 @@ returns-clause-line g c =
     ≡ cond keeps (tiled words) (covered words) =
     rw (c.bounds_of-bounds.ensures.end, c.bounds_of-bounds.ensures.word_end)
     (slice-pieces c.args.paragraph.now start words _ keeps seam) in
-    subst (λ line. Took g.S.LineSink.holds c.args.lines.now c.push_between.new.lines
+    subst (λ line. Pushed g.S.LineSink.holds c.args.lines.now c.push_between.new.lines
     (cut_line start line ∷ []))
     (line_from-parts_of settings c.args.is_later c.args.pieces.now c.in-Some.front.now last
     c.next_indent-indent.result.now _ keeps c.in-Some.ensures.cases.0 c.next_indent-indent.ensures
     (and_comm (length last.penalty.now == 0) settings.preserve_trailing_space) slice)
-    (rw c.bounds_of-bounds.ensures.start at c.in_ok-push_between.ensures.took)
+    (rw c.bounds_of-bounds.ensures.start at c.in_ok-push_between.ensures.pushed)

@@ -43,7 +43,7 @@ loop-pieces-preserved g c =
       name = c.push_line.ensures.name ∙ c.loop-pieces.invariant.name;
     }
 
-pub returns-clause-took : goal.returns-clause-took
-returns-clause-took g c = HasTaken-end _ c.args.lines.now c.loop-pieces.lines
+pub returns-clause-pushed : goal.returns-clause-pushed
+returns-clause-pushed g c = HasTaken-end _ c.args.lines.now c.loop-pieces.lines
     (rw (drop_all c.loop-pieces.pieces-index c.args.division.now (omega arith))
     at c.loop-pieces.invariant.taken)

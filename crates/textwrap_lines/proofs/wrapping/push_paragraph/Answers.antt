@@ -15,7 +15,7 @@ returns-then-is_one_line-clause-taken g c =
       AreParagraphParts-whole settings (g.O.AnyOptions.divides c.args.options.now) is_later
           paragraph whole,
       rw (line_from-whole settings is_later paragraph whole)
-          (rw c.whole_line-slice.ensures at c.in_ok-push_line.ensures.took),
+          (rw c.whole_line-slice.ensures at c.in_ok-push_line.ensures.pushed),
     )
 
 pub returns-clause-taken : goal.returns-clause-taken

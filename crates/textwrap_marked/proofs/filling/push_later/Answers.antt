@@ -4,6 +4,7 @@ use Rattle.textwrap_text.proofs.Common.{append_assoc, arith, Bool, drop, drop_mo
 use Rattle.textwrap_text.proofs.Common.{get_or, length, length-drop, length-map, map, nat_lt}
 use Rattle.textwrap_text.proofs.Common.{nat_tests, sym, ◌∙◌}
 use Rattle.textwrap_words.proofs.Common.{word_view, WordText}
+use Rattle.textwrap_marked.proofs.PrintedLines.{texts_more}
 use Rattle.textwrap_marked.specs.Reflow.{line_text, line_texts}
 
 fewer : (n m : ℕ) → nat_lt 0 (n - m) ≡ nat_lt m n
@@ -22,6 +23,7 @@ module _ {X Y : Type 0} (h : X → Y) (g : Y → List WordText) (justify : Bool)
   left-is =
       let rest = drop (i + 1) lines in
       ap (λ l. line_texts justify room room (map g (map h l))) (drop_more lines i d within)
+      ∙ texts_more justify room room (g (h (get_or lines i d))) (map g (map h rest))
       ∙ ap (λ b. line_text (justify && b) room (g (h (get_or lines i d))) ∷ left (i + 1))
       (ap (nat_lt 0) (length-map (map h rest) g ∙ length-map rest h ∙ length-drop (i + 1) lines)
       ∙ fewer (length lines) (i + 1))

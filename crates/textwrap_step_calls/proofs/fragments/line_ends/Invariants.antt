@@ -1,6 +1,6 @@
 use Rattle.textwrap_step_calls.proofs.fragments.line_ends.Given as goal
-use Rattle.textwrap_calls.proofs.Common.{◌≡◌, ◌+◌, ◌++◌, drop, length, map, flat}
-use Rattle.textwrap_step_calls.proofs.Common.{ends_from, ends_of}
+use Rattle.textwrap_calls.proofs.Common.{drop, flat, length, map, ◌++◌, ◌+◌, ◌≡◌}
+use Rattle.textwrap_step_calls.{proofs.Common.ends_of, specs.Fragments.ends_from}
 
 -- the ends so far, and those of the lines that follow, are those of all lines; these have no more
 -- fragments than there are

@@ -1,6 +1,6 @@
 use Rattle.textwrap_step_calls.proofs.justified_steps.textwrap_fill_justified_at.Goals as goal
-use Rattle.textwrap_calls.proofs.Common.{settings_of, ◌∙◌, ap}
-use Rattle.textwrap_step_calls.proofs.Common.{WritesText-answer, justified_at}
+use Rattle.textwrap_calls.proofs.Common.{ap, settings_of, ◌∙◌}
+use Rattle.textwrap_step_calls.{proofs.Common.WritesText-answer, specs.JustifiedSteps.justified_at}
 
 pub returns-in-Ok-justify_text-clause-filled : goal.returns-in-Ok-justify_text-clause-filled
 returns-in-Ok-justify_text-clause-filled c =

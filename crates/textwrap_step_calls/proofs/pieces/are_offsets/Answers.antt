@@ -1,11 +1,10 @@
 use Rattle.textwrap_step_calls.proofs.pieces.are_offsets.Goals as goal
-use Rattle.textwrap_calls.proofs.Common.{characters_left, nil_from_length, shown_text, eqb-true, ap}
-use Rattle.textwrap_calls.proofs.Common.{eq-eqb, length, arith, chars, shown, sym, ◌∙◌}
-use Rattle.textwrap_step_calls.proofs.Common.{offsets_past}
-use Rattle.textwrap_text.proofs.Units.Characters.{shown-from, shown-next, shown-all}
-use Rattle.textwrap_text.proofs.Units.Reading.{stripped-short}
+use Rattle.textwrap_calls.proofs.Common.{ap, chars, shown, ◌∙◌}
+use Rattle.textwrap_calls.proofs.Common.{arith, characters_left, eqb-true, length, shown_text, sym}
+use Rattle.textwrap_step_calls.proofs.{Common.offsets_past, OffsetLemmas.{left_after, offsets-read}}
+use Rattle.textwrap_text.proofs.Units.Characters.{shown-all, shown-from, shown-next}
+use Rattle.textwrap_text.proofs.{Common.{eq-eqb, nil_from_length}, Units.Reading.stripped-short}
 use Rattle.textwrap_text.specs.declared.escapes.State.TheVariants.{Text}
-use Rattle.textwrap_step_calls.proofs.OffsetLemmas.{offsets-read, left_after}
 
 pub loop-character-init : goal.loop-character-init
 loop-character-init c =

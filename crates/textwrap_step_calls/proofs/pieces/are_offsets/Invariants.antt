@@ -1,8 +1,7 @@
 use Rattle.textwrap_step_calls.proofs.pieces.are_offsets.Given as goal
-use Rattle.textwrap_calls.proofs.Common.{◌≡◌, ◌+◌, length, chars, stripped, shown, shown_text}
-use Rattle.textwrap_calls.proofs.Common.{characters_left, visible}
-use Rattle.textwrap_step_calls.proofs.Common.{offsets_past}
-use Rattle.textwrap_step_calls.proofs.OffsetLemmas.{left_after}
+use Rattle.textwrap_calls.proofs.Common.{characters_left, length, shown_text, stripped, visible}
+use Rattle.textwrap_calls.proofs.Common.{chars, shown, ◌+◌, ◌≡◌}
+use Rattle.textwrap_step_calls.proofs.{Common.offsets_past, OffsetLemmas.left_after}
 
 -- the bytes that are shown so far and those ahead are all, and the offsets that are left are those
 -- that the characters ahead have still to pass

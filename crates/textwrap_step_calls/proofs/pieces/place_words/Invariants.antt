@@ -1,6 +1,6 @@
 use Rattle.textwrap_step_calls.proofs.pieces.place_words.Given as goal
-use Rattle.textwrap_calls.proofs.Common.{◌≡◌, ◌+◌, ◌++◌, drop, length, map, tiled, word_view}
-use Rattle.textwrap_step_calls.proofs.Common.{piece_places}
+use Rattle.textwrap_calls.proofs.Common.{drop, length, map, tiled, word_view, ◌++◌, ◌+◌, ◌≡◌}
+use Rattle.textwrap_step_calls.specs.Pieces.{piece_places}
 
 -- the places so far, and those of the words that follow, are those of all words; these have no more
 -- bytes than the text

@@ -1,7 +1,7 @@
 use Rattle.textwrap_step_calls.proofs.pieces.placed_pieces.Goals as goal
-use Rattle.textwrap_calls.proofs.Common.{pieces_of-no_penalty, settings_view, standing_left}
-use Rattle.textwrap_calls.proofs.Common.{as_splitter, pieces_of, ◌∙◌, ap}
-use Rattle.textwrap_step_calls.proofs.PieceLemmas.{Left-start, Left-next, Left-end, HasNext}
+use Rattle.textwrap_calls.proofs.Common.{ap, as_splitter, settings_view, standing_left, ◌∙◌}
+use Rattle.textwrap_layout.proofs.{Common.pieces_of, Paragraph.Pieces.pieces_of-no_penalty}
+use Rattle.textwrap_step_calls.proofs.PieceLemmas.{HasNext, Left-end, Left-next, Left-start}
 use Rattle.textwrap_step_calls.proofs.pieces.placed_pieces.Goals.{In-Some}
 
 pub loop-piece-init : goal.loop-piece-init

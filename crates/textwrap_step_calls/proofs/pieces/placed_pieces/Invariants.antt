@@ -1,5 +1,6 @@
 use Rattle.textwrap_step_calls.proofs.pieces.placed_pieces.Given as goal
-use Rattle.textwrap_calls.proofs.Common.{pieces_of, settings_view, as_splitter, standing_left}
+use Rattle.textwrap_calls.proofs.Common.{as_splitter, settings_view, standing_left}
+use Rattle.textwrap_layout.proofs.Common.{pieces_of}
 use Rattle.textwrap_step_calls.proofs.PieceLemmas.{HasLeft}
 
 -- the places so far and those of the pieces that are left are those of all pieces

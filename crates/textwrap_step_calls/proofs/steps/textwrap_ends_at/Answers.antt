@@ -1,14 +1,17 @@
 use Rattle.textwrap_step_calls.proofs.steps.textwrap_ends_at.Goals as goal
-use Rattle.textwrap_calls.proofs.Common.{total_width-same, MayDivide-map, settings_view, IsSomeAnd}
-use Rattle.textwrap_calls.proofs.Common.{algorithm_of, division-as, first_width, settings_of, subst}
-use Rattle.textwrap_calls.proofs.Common.{total_width, pieces_at, widths_of, word_view, WordText, []}
-use Rattle.textwrap_calls.proofs.Common.{says_yes, sizes_of, List, map, sym, ◌∙◌, ◌∷◌, ◌≡◌, ap, ℕ}
-use Rattle.textwrap_step_calls.proofs.Common.{WritesText-answer, ends_of}
-use Rattle.textwrap_text.proofs.Common.{Some}
+use Rattle.std.specs.Prelude.{IsSomeAnd}
+use Rattle.textwrap_base.proofs.{Common.total_width, Cost.Measures.total_width-same}
+use Rattle.textwrap_calls.proofs.Common.{List, says_yes, sizes_of, widths_of, word_view, WordText}
+use Rattle.textwrap_calls.proofs.Common.{[], ap, map, sym, ℕ, ◌∙◌, ◌∷◌, ◌≡◌}
+use Rattle.textwrap_calls.proofs.Common.{algorithm_of, pieces_at, settings_of, settings_view, subst}
 use Rattle.textwrap_layout.proofs.Paragraph.Widths.{sizes-word_view}
-use Rattle.textwrap_words.specs.WrapAlgorithms.{algorithm_view, IsDividedBy, OverflowsBy}
-use Rattle.textwrap_step_calls.proofs.EndLemmas.{OverflowsBy-map, ends_from-map}
+use Rattle.textwrap_layout.proofs.{Common.first_width, Paragraph.Pieces.division-as}
+use Rattle.textwrap_step_calls.proofs.Common.{ends_of, WritesText-answer}
+use Rattle.textwrap_step_calls.proofs.EndLemmas.{ends_from-map, OverflowsBy-map}
 use Rattle.textwrap_step_calls.proofs.steps.textwrap_ends_at.Goals.{After-wrap}
+use Rattle.textwrap_text.proofs.Common.{Some}
+use Rattle.textwrap_words.specs.WrapAlgorithms.{IsDividedBy, OverflowsBy}
+use Rattle.textwrap_words.{proofs.Word.Divisions.MayDivide-map, specs.WrapAlgorithms.algorithm_view}
 
 -- the pieces and the widths by the numbers of C, and the widths as they were found
 abbrev all : After-wrap → List WordText

@@ -1,10 +1,10 @@
 use Rattle.textwrap_step_calls.proofs.steps.textwrap_lines_at.Goals as goal
-use Rattle.textwrap_calls.proofs.Common.{further-cut_lines, lines_between, settings_view, HasPlaces}
-use Rattle.textwrap_calls.proofs.Common.{ArePlacesOf, settings_of, parts_from, pieces_at, Settings}
-use Rattle.textwrap_calls.proofs.Common.{lines_of, says_yes, AreEnds, Tiles, subst, List, refl, ◌∙◌}
+use Rattle.textwrap_calls.proofs.Common.{AreEnds, lines_of, List, refl, says_yes, subst, Tiles, ◌∙◌}
+use Rattle.textwrap_calls.proofs.Common.{ArePlacesOf, parts_from, pieces_at, Settings, settings_of}
 use Rattle.textwrap_calls.proofs.Common.{[], ℕ}
-use Rattle.textwrap_step_calls.proofs.Common.{WritesLines-reported, AreLineSteps, step_cuts}
-use Rattle.textwrap_step_calls.proofs.StepLemmas.{steps-shown}
+use Rattle.textwrap_calls.proofs.Common.{further-cut_lines, HasPlaces, lines_between, settings_view}
+use Rattle.textwrap_step_calls.{proofs.Common.WritesLines-reported, specs.Steps.AreLineSteps}
+use Rattle.textwrap_step_calls.{proofs.StepLemmas.steps-shown, specs.Steps.step_cuts}
 
 pub returns-in-Ok-push_step_lines-clause-lines : goal.returns-in-Ok-push_step_lines-clause-lines
 returns-in-Ok-push_step_lines-clause-lines c =

@@ -1,9 +1,9 @@
 use Rattle.textwrap_step_calls.proofs.text_steps.join_lines.Goals as goal
-use Rattle.textwrap_calls.proofs.Common.{length-take, length-map, line_bytes, join_with, map_more}
-use Rattle.textwrap_calls.proofs.Common.{take_all, length, arith, false, subst, take, ◌++◌, All, []}
-use Rattle.textwrap_calls.proofs.Common.{map, sym, ◌+◌, ◌∙◌, ◌∷◌, ap}
-use Rattle.std.specs.List.{slice_index_or}
-use Rattle.textwrap_calls.proofs.RoomLemmas.{shown-bytes, IsInside, bytes_at}
+use Rattle.std.{proofs.lemmas.List.map_more, specs.List.slice_index_or}
+use Rattle.textwrap_calls.proofs.Common.{[], All, arith, false, length, map, subst, sym, take, ◌++◌}
+use Rattle.textwrap_calls.proofs.Common.{join_with, length-map, length-take, line_bytes, take_all}
+use Rattle.textwrap_calls.proofs.RoomLemmas.{bytes_at}
+use Rattle.textwrap_calls.proofs.{Common.{ap, ◌+◌, ◌∙◌, ◌∷◌}, RoomLemmas.{IsInside, shown-bytes}}
 use Rattle.textwrap_step_calls.proofs.StepLemmas.{join-more}
 
 pub line_at-requires : goal.line_at-requires

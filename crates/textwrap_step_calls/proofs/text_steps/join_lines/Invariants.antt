@@ -1,6 +1,5 @@
 use Rattle.textwrap_step_calls.proofs.text_steps.join_lines.Given as goal
-use Rattle.textwrap_calls.proofs.Common.{◌≡◌, join_with, map, take}
-use Rattle.textwrap_calls.proofs.RoomLemmas.{bytes_at}
+use Rattle.textwrap_calls.proofs.{Common.{join_with, map, take, ◌≡◌}, RoomLemmas.bytes_at}
 
 -- the lines so far are joined
 abbrev pub invariant-loop-i : goal.invariant-loop-i

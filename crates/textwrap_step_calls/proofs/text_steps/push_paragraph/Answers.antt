@@ -1,6 +1,7 @@
 use Rattle.textwrap_step_calls.proofs.text_steps.push_paragraph.Goals as goal
-use Rattle.textwrap_calls.proofs.Common.{HasPlacesMore, settings_view, subst, OnOk, sym, ◌∙◌}
-use Rattle.textwrap_step_calls.proofs.TextStepLemmas.{further-divided, divided-begins, both-ok}
+use Rattle.textwrap_calls.proofs.Common.{HasPlacesMore, settings_view, subst, sym, ◌∙◌}
+use Rattle.textwrap_step_calls.proofs.TextStepLemmas.{both-ok, divided-begins, further-divided}
+use Rattle.textwrap_text.proofs.Common.{OnOk}
 
 pub returns-clause-placed : goal.returns-clause-placed
 returns-clause-placed g c =

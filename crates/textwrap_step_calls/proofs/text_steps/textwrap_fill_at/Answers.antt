@@ -1,8 +1,9 @@
 use Rattle.textwrap_step_calls.proofs.text_steps.textwrap_fill_at.Goals as goal
-use Rattle.textwrap_calls.proofs.Common.{settings_view, settings_of, append-nil, ShowLines, subst}
-use Rattle.textwrap_calls.proofs.Common.{lines_of, Line, List, ◌∙◌, [], ap}
-use Rattle.textwrap_step_calls.proofs.Common.{WritesText-answer, text_step_cuts, filled_at}
+use Rattle.textwrap_calls.proofs.Common.{[], ap, Line, lines_of, List, ◌∙◌}
+use Rattle.textwrap_calls.proofs.Common.{append-nil, settings_of, settings_view, ShowLines, subst}
+use Rattle.textwrap_step_calls.proofs.Common.{text_step_cuts, WritesText-answer}
 use Rattle.textwrap_step_calls.proofs.text_steps.textwrap_fill_at.Goals.{After-as_bytes}
+use Rattle.textwrap_step_calls.specs.TextSteps.{filled_at}
 
 abbrev lines : After-as_bytes → List Line
 lines c = lines_of (text_step_cuts (settings_view c.at_blanks-options.result) c.args.steps.now

@@ -1,11 +1,11 @@
-use Rattle.textwrap_text.proofs.line_feeds.feeds_in_block.Goals as goal
-use Rattle.textwrap_text.proofs.Common.{common_steps, prefix_len, eqb-false, eqb-true, length, List}
-use Rattle.textwrap_text.proofs.Common.{arith, eqb, map, not, sym, ◌<◌, ◌∙◌, ◌∷◌, [], ap, w8, ℕ}
-use Rattle.textwrap_text.proofs.TextLines.{is_feed}
+use Rattle.textwrap_text.proofs.{Common.ℕ, TextLines.is_feed}
+use Rattle.textwrap_text.proofs.Common.{common_steps, eqb-false, eqb-true, length, List, prefix_len}
+use Rattle.textwrap_text.proofs.Common.{[], ap, arith, eqb, map, not, rules, sym, w8, ◌<◌, ◌∙◌, ◌∷◌}
 use Rattle.std.proofs.lemmas.Simd.{none_from_empty_mask, run_in_chunk_fails, run_in_chunk_stops}
-use Rattle.std.proofs.lemmas.Simd.{trailing_mask_l, bitmask_splat, length-chunk}
+use Rattle.std.proofs.lemmas.Simd.{bitmask_splat, length-chunk, trailing_mask_l}
 use lib.Count.{count_trailing_zeros}
-use lib.Lanes.{mask_l, chunk}
+use lib.Lanes.{chunk, mask_l}
+use Rattle.textwrap_text.proofs.line_feeds.feeds_in_block.Goals as goal
 
 some-lane : (bytes : List ℕ) → 0 < mask_l (map is_feed bytes)
     → prefix_len (λ b. not (is_feed b)) bytes < length bytes
@@ -33,8 +33,4 @@ returns-clause-first c some =
     ∙ trailing_mask_l is_feed 64 block (omega arith) set in
     let fails = run_in_chunk_fails is_feed text at 16 _ 0 c.requires first in
     let stops = run_in_chunk_stops is_feed text at 16 _ 0 c.requires first in
-    let within = some-lane block set in (
-      omega (arith, first),
-      λ k low high. eqb-false _ 10 (fails k low high),
-      eqb-true _ 10 (stops (omega (arith, first))),
-    )
+    let within = some-lane block set in search (rules, arith, eqb-false, eqb-true)

@@ -1,8 +1,7 @@
 use Rattle.textwrap_text.proofs.printable.printable_blocks_len.Goals as goal
-use Rattle.textwrap_text.proofs.Common.{IsPrintableByte, get_or-drop, get_or-take, slice_range, inl}
-use Rattle.textwrap_text.proofs.Common.{cases_lt, get_or, length, arith, subst, inr, ◌+◌, ◌-◌, ◌≡◌}
-use Rattle.textwrap_text.proofs.Common.{◌≤◌}
-use Rattle.textwrap_text.proofs.Lists.Parts.{length-slice}
+use Rattle.textwrap_text.proofs.{Common.◌≤◌, Lists.Parts.length-slice}
+use Rattle.textwrap_text.proofs.Common.{get_or-drop, get_or-take, inl, IsPrintableByte, slice_range}
+use Rattle.textwrap_text.proofs.Common.{arith, cases_lt, get_or, inr, length, subst, ◌+◌, ◌-◌, ◌≡◌}
 
 pub loop-end-preserved : goal.loop-end-preserved
 loop-end-preserved c =

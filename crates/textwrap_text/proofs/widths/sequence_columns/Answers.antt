@@ -1,9 +1,9 @@
-use Rattle.textwrap_text.proofs.widths.sequence_columns.Goals as goal
-use Rattle.textwrap_text.proofs.Common.{char_indices_offset, char_indices_rest, length-drop, length}
-use Rattle.textwrap_text.proofs.Common.{arith, Text, drop, sym, ◌+◌, ◌∙◌, ◌≡◌}
+use Rattle.textwrap_text.proofs.Common.{char_indices_offset, char_indices_rest, length, length-drop}
+use Rattle.textwrap_text.proofs.Common.{arith, drop, rules, sym, Text, ◌+◌, ◌∙◌, ◌≡◌}
 use Rattle.textwrap_text.proofs.Units.Reading.{columns_in-empty, measured-start, measured-step}
-use Rattle.textwrap_text.proofs.Units.Reading.{measured-le, IsMeasured, added}
+use Rattle.textwrap_text.proofs.Units.Reading.{added, IsMeasured, measured-le}
 use Rattle.textwrap_text.proofs.widths.sequence_columns.Goals.{Joined-is_visible}
+use Rattle.textwrap_text.proofs.widths.sequence_columns.Goals as goal
 
 pub loop-at-init : goal.loop-at-init
 loop-at-init c = grind (arith, measured-start)
@@ -33,5 +33,4 @@ returns-clause-columns c =
     let none = c.in-None.ensures.steps.0 in
     let ended = columns_in-empty c.loop-at.state (char_indices_rest c.loop-at.at-iterator) none in
     let nothing = columns_in-empty Text (drop (length c.args.text.now) c.args.text.now)
-    (omega (arith, length-drop (length c.args.text.now) c.args.text.now)) in
-    omega (arith, c.loop-at.invariant.columns, ended, nothing)
+    (omega (arith, length-drop (length c.args.text.now) c.args.text.now)) in search (rules, arith)

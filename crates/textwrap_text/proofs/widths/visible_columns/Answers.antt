@@ -1,9 +1,7 @@
 use Rattle.textwrap_text.proofs.widths.visible_columns.Goals as goal
-use Rattle.textwrap_text.proofs.Common.{char_indices_offset, char_indices_rest, ne_eqb, arith, Text}
-use Rattle.textwrap_text.proofs.Common.{◌+◌, ◌≢◌}
-use Rattle.textwrap_text.proofs.Units.Reading.{measured-start, measured-step, measured-le}
-use Rattle.textwrap_text.proofs.Units.Reading.{IsMeasured}
-use Rattle.textwrap_text.proofs.Texts.{ascii-here}
+use Rattle.textwrap_text.proofs.{Common.◌+◌, Common.◌≢◌, Texts.ascii-here, Units.Reading.IsMeasured}
+use Rattle.textwrap_text.proofs.Common.{arith, char_indices_offset, char_indices_rest, ne_eqb, Text}
+use Rattle.textwrap_text.proofs.Units.Reading.{measured-le, measured-start, measured-step}
 use Rattle.textwrap_text.proofs.widths.visible_columns.Goals.{After-columns-width}
 
 pub loop-at-init : goal.loop-at-init

@@ -1,7 +1,6 @@
 use Rattle.textwrap_text.proofs.widths.visible_len.Goals as goal
-use Rattle.textwrap_text.proofs.Common.{length-append, arith}
-use Rattle.textwrap_text.proofs.Units.Characters.{shown-all}
-use Rattle.textwrap_text.proofs.Units.Reading.{stripped-short}
+use Rattle.textwrap_text.proofs.Common.{arith, length-append}
+use Rattle.textwrap_text.proofs.Units.{Characters.shown-all, Reading.stripped-short}
 
 pub loop-character-init : goal.loop-character-init
 loop-character-init c = grind (arith, shown-all)

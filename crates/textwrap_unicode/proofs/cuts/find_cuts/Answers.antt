@@ -1,22 +1,17 @@
-use Rattle.std.specs.{Prelude.encode_utf8, Str.Iter.chars_rest}
-use Rattle.textwrap_classes.proofs.Common.{append-nil, drop, length, read-next, subst, true≢false}
-use Rattle.textwrap_classes.proofs.Common.{ap, refl, sym, ◌++◌, ◌+◌, ◌∙◌, ◌≡◌}
-use Rattle.textwrap_text.specs.{Units.stripped, declared.escapes.State.TheVariants.Text}
-use Rattle.textwrap_unicode.proofs.Common.{and, breaks_by, may_end, offsets_of}
+use Rattle.textwrap_classes.proofs.Common.{ap, drop, length, read-next, refl, sym, ◌+◌, ◌∙◌}
+use Rattle.textwrap_text.proofs.Common.{arith, rules}
 use Rattle.textwrap_unicode.proofs.CutLemmas.{IsCutting-end, IsCutting-start, IsCutting-step}
-use Rattle.textwrap_unicode.proofs.CutLemmas.{IsCutting}
 use Rattle.textwrap_unicode.proofs.WordVerdicts.{ideographs-passed, words-passed}
 use Rattle.textwrap_unicode.proofs.cuts.find_cuts.Goals.{In-Some, Joined-is_visible}
-use Rattle.textwrap_words.{proofs.Word.Offsets.cuts_at-AreInnerCuts, specs.Cuts.AreInnerCuts}
+use Rattle.textwrap_unicode.proofs.{Common.and, Common.may_end, CutLemmas.IsCutting}
+use Rattle.textwrap_words.proofs.Word.Offsets.{cuts_at-AreInnerCuts}
 use Rattle.textwrap_unicode.proofs.cuts.find_cuts.Goals as goal
 
 pub loop-ch-init : goal.loop-ch-init
-loop-ch-init c = IsCutting-start _ _ _ _ _ _ c.utf8.line refl refl c.new-before.ensures
-    c.new-cuts.ensures.items
+loop-ch-init c = search (rules, arith, IsCutting-start)
 
 pub range_from-requires : goal.range_from-requires
-range_from-requires c = λ _.
-    c.loop-ch.invariant.read.boundary
+range_from-requires c = search (rules, arith, c.loop-ch.invariant.read.boundary)
 
 pub step_past-verdict-requires : goal.step_past-verdict-requires
 step_past-verdict-requires c =
@@ -100,7 +95,4 @@ returns-clause-cuts c =
     ∙ c.in_default.ensures.steps.0.0)
 
 pub returns-clause-inner : goal.returns-clause-inner
-returns-clause-inner c =
-    let line = c.args.line.now in
-    subst (AreInnerCuts line) (sym (returns-clause-cuts c))
-    (cuts_at-AreInnerCuts (offsets_of (breaks_by c.args.numbers (stripped line))) line c.utf8.line)
+returns-clause-inner c = search (rules, arith, returns-clause-cuts, cuts_at-AreInnerCuts)

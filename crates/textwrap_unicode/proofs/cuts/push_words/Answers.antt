@@ -1,13 +1,12 @@
-use Rattle.textwrap_classes.proofs.Common.{if◌then◌else◌, append_assoc, slice_index, append-nil, []}
-use Rattle.textwrap_classes.proofs.Common.{cases_Bool, cases_lt, class_of, is_space, add-one, arith}
-use Rattle.textwrap_classes.proofs.Common.{false, subst, Bool, true, ◌++◌, ◌||◌, inl, inr, sym, ◌+◌}
-use Rattle.textwrap_classes.proofs.Common.{◌-◌, ◌<◌, ◌∙◌, ◌∷◌, ◌≡◌, ap, ℕ}
 use Rattle.std.proofs.Common.{refl}
-use Rattle.textwrap_unicode.specs.WordStarts.{is_behind_blank, is_behind_sign, IsPlainLetter}
-use Rattle.textwrap_unicode.specs.WordStarts.{word_starts, IsWordByte}
+use Rattle.textwrap_classes.proofs.Common.{Bool, add-one, cases_lt, false, is_space, subst, true, ℕ}
+use Rattle.textwrap_classes.proofs.Common.{ap, inl, inr, sym, ◌++◌, ◌+◌, ◌-◌, ◌<◌, ◌||◌, ◌∙◌, ◌≡◌}
+use Rattle.textwrap_classes.proofs.Common.{append-nil, append_assoc, arith, cases_Bool, slice_index}
+use Rattle.textwrap_classes.specs.ClassSets.{is_letter}
 use Rattle.textwrap_text.proofs.Common.{cases_eq}
-use Rattle.textwrap_classes.specs.ClassSets.{is_letter, is_infix}
 use Rattle.textwrap_unicode.proofs.WordVerdicts.{letters-same}
+use Rattle.textwrap_unicode.specs.WordStarts.{IsPlainLetter, is_behind_blank, is_behind_sign}
+use Rattle.textwrap_unicode.specs.WordStarts.{IsWordByte, word_starts}
 use Rattle.textwrap_unicode.proofs.cuts.push_words.Goals as goal
 
 pub loop-len-init : goal.loop-len-init

@@ -1,8 +1,7 @@
 use Rattle.textwrap_words.proofs.cut_pieces.next_within.Goals as goal
 use Rattle.textwrap_text.proofs.Common.{arith, refl}
-use Rattle.textwrap_words.proofs.Common.{as_splitter}
+use Rattle.textwrap_words.proofs.{Common.as_splitter, Word.FirstPieces.first-within}
 use Rattle.textwrap_words.proofs.Word.Texts.{trimmed-boundary}
-use Rattle.textwrap_words.proofs.Word.FirstPieces.{first-within}
 
 pub read_on-word_end-requires-clause-end : goal.read_on-word_end-requires-clause-end
 read_on-word_end-requires-clause-end c = rw c.requires.trimmed (trimmed-boundary c.args.text.now)

@@ -1,19 +1,18 @@
 use Rattle.textwrap_words.proofs.pieces.read_on.Goals as goal
-use Rattle.textwrap_text.proofs.Common.{char_indices_offset, length-append, append_assoc, and_parts}
-use Rattle.textwrap_text.proofs.Common.{length-drop, drop_split, true≢false, cases_lt, is_blank, ap}
-use Rattle.textwrap_text.proofs.Common.{Visible, get_or, length, lt-ltb, nat_lt, arith, false, List}
-use Rattle.textwrap_text.proofs.Common.{shows, subst, drop, refl, true, ◌&&◌, ◌++◌, ◌||◌, inl, inr}
-use Rattle.textwrap_text.proofs.Common.{sym, ◌+◌, ◌∙◌, ◌≡◌, ◌≤◌, ℕ}
-use Rattle.std.specs.Prelude.{encode_utf8}
-use Rattle.std.specs.Str.Iter.{char_indices_rest}
-use Rattle.textwrap_words.proofs.Common.{encode_ascii, IsFirstStop, as_splitter, ascii-here, is_due}
-use Rattle.textwrap_words.proofs.Common.{left-after, some-bytes, is_point, is_stop, or-true}
-use Rattle.textwrap_text.proofs.Units.Reading.{columns-le, added}
-use Rattle.textwrap_words.proofs.Word.Breaking.{due-false, due-true}
+use Rattle.textwrap_text.proofs.Common.{and_parts, append_assoc, char_indices_offset, length-append}
+use Rattle.textwrap_text.proofs.Common.{ap, cases_lt, drop_split, is_blank, length-drop, true≢false}
+use Rattle.textwrap_text.proofs.Common.{arith, false, get_or, length, List, lt-ltb, nat_lt, Visible}
+use Rattle.textwrap_text.proofs.Common.{drop, inl, inr, refl, shows, subst, true, ◌&&◌, ◌++◌, ◌||◌}
+use Rattle.textwrap_text.proofs.Common.{sym, ℕ, ◌+◌, ◌∙◌, ◌≡◌, ◌≤◌}
+use Rattle.textwrap_text.proofs.Units.Reading.{added, columns-le}
+use Rattle.std.specs.{Prelude.encode_utf8, Str.Iter.char_indices_rest}
+use Rattle.textwrap_words.proofs.Common.{as_splitter, ascii-here, encode_ascii, is_due, IsFirstStop}
+use Rattle.textwrap_words.proofs.Common.{is_point, is_stop, left-after, or-true, some-bytes}
 use Rattle.textwrap_words.proofs.Word.Ahead.{plain-bytes, point-after}
-use Rattle.textwrap_words.proofs.Word.Scanned.{scanned-letters, stops-between, scanned-step, GoesOn}
-use Rattle.textwrap_words.proofs.Word.Scanned.{IsScanned, stop-full, stop-here, no-stop}
-use Rattle.textwrap_words.proofs.pieces.read_on.Goals.{Joined-is_visible, After-step-next, In-Some}
+use Rattle.textwrap_words.proofs.Word.Breaking.{due-false, due-true}
+use Rattle.textwrap_words.proofs.Word.Scanned.{GoesOn, scanned-letters, scanned-step, stops-between}
+use Rattle.textwrap_words.proofs.Word.Scanned.{IsScanned, no-stop, stop-full, stop-here}
+use Rattle.textwrap_words.proofs.pieces.read_on.Goals.{After-step-next, In-Some, Joined-is_visible}
 
 pub range-requires-clause-start_boundary : goal.range-requires-clause-start_boundary
 range-requires-clause-start_boundary c = λ _.

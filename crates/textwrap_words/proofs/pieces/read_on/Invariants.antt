@@ -1,9 +1,8 @@
 use Rattle.textwrap_words.proofs.pieces.read_on.Given as goal
 use Rattle.textwrap_text.proofs.Common.{char_indices_offset, drop, ◌++◌, ◌+◌, ◌≡◌}
 use Rattle.std.specs.Str.Iter.{char_indices_rest}
-use Rattle.textwrap_words.proofs.Common.{is_point, is_stop}
-use Rattle.textwrap_words.specs.Pieces.{as_splitter}
-use Rattle.textwrap_words.proofs.Word.Scanned.{IsScanned, GoesOn}
+use Rattle.textwrap_words.{proofs.Common.is_point, proofs.Common.is_stop, specs.Pieces.as_splitter}
+use Rattle.textwrap_words.proofs.Word.Scanned.{GoesOn, IsScanned}
 
 -- the reader stands before the characters that the iterator has left, where there is no point
 abbrev pub invariant-loop-after : goal.invariant-loop-after

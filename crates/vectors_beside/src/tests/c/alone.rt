@@ -3,12 +3,12 @@ use super::plain::{
     BARS, BEFORE, NO_LAYOUT, UNKNOWN_GAPS, assert_holds, assert_number, assert_room, assert_told,
 };
 use std::alloc::Global;
-use textwrap_calls::breaks::{TextwrapLineBreak, textwrap_line_breaks};
 use textwrap_calls::columns::{TextwrapGaps, textwrap_column_width};
 use textwrap_calls::filling::textwrap_fill_inplace;
 use textwrap_calls::refilling::textwrap_unfill;
 use textwrap_calls::status::{DONE, NOT_UTF8, TOO_SMALL, UNKNOWN_OPTIONS};
 use textwrap_calls::widths::textwrap_display_width;
+use textwrap_step_calls::breaks::{TextwrapLineBreak, textwrap_line_breaks};
 
 /// The status and the columns that are told of a text.
 pub(super) fn told_width(text: &[u8]) -> (u32, usize) {

@@ -202,6 +202,17 @@ const LINES_AND_ROWS: &[LinesRow] = &[
         LINES + 1,
         LEN + 1,
     ),
+    (
+        LinesCall::WrapBalanced(TextwrapOptions {
+            initial_indent: b" ",
+            subsequent_indent: b" ",
+            ..AT_80
+        }),
+        LINE,
+        LINES,
+        LINES + 1,
+        LEN + 1,
+    ),
     // Two rows of 200 columns of 4, with a bar beside each.
     (
         LinesCall::Columns {

@@ -51,17 +51,24 @@ const PLAIN_AGAIN: TextwrapText<'_> = TextwrapText {
     bytes: b"bar\x1b[m",
 };
 
-/// Lines in pairs, with a style that is on from the start of the first to the end of the second.
-fn carried(alloc: Global) -> Result<Told, AllocError> {
+/// Lines in pairs, with a style that is on from the start of the first to the end of the second, carried
+/// by the style or by its attributes.
+fn carried(alloc: Global, by_attributes: bool) -> Result<Told, AllocError> {
     let mut lines = vec![in alloc; STYLED; LINES]?;
     for i in 0..HALF {
         if let Some(line) = lines.get_mut(2 * i + 1) {
             *line = PLAIN_AGAIN;
         }
     }
-    let call = LinesCall::CarryStyles {
-        lines: &lines,
-        options: AT_11,
+    let call = match by_attributes {
+        true => LinesCall::CarryAttributes {
+            lines: &lines,
+            options: AT_11,
+        },
+        false => LinesCall::CarryStyles {
+            lines: &lines,
+            options: AT_11,
+        },
     };
     write_lines_twice(alloc, false, call, b"", LINES)
 }
@@ -142,12 +149,13 @@ fn wide_table(alloc: Global) -> Result<Told, AllocError> {
 #[test]
 fn a_large_list_is_shortened_carried_and_laid_out(rt: HostRuntime) {
     assert_told_twice(&rt, 0, shortened_lines(rt.alloc()), 11 * (LINES - 2) + 10);
-    assert_told_twice(&rt, 1, carried(rt.alloc()), 21 * HALF);
+    assert_told_twice(&rt, 1, carried(rt.alloc(), false), 21 * HALF);
     assert_told_twice(&rt, 2, table(rt.alloc()), 25 * HALF);
     assert_told_twice(&rt, 3, wide_table(rt.alloc()), 2 * (200 * 11 + 201));
     assert_told_twice(&rt, 4, rows_of_lines(rt.alloc()), 25 * HALF);
     let told = table_of_lines(rt.alloc()).expect(&rt, "cells");
     assert_holds(&rt, 5, told == (DONE, HALF, 25 * HALF));
+    assert_told_twice(&rt, 6, carried(rt.alloc(), true), 21 * HALF);
 }
 
 /// The first so many multiples of a number.
@@ -296,6 +304,21 @@ fn many_cuts(alloc: Global) -> Result<((u32, usize), usize), AllocError> {
     offset_at(alloc, OffsetsCall::UnicodeCuts(line.as_bytes()), 1_999, 9)
 }
 
+/// The last width of so many columns that share a total, in which the lines stand.
+fn many_widths(
+    alloc: Global,
+    columns: usize,
+    total: usize,
+) -> Result<((u32, usize), usize), AllocError> {
+    let cells = vec![in alloc; TEXT; LINES]?;
+    let call = OffsetsCall::FittingWidths {
+        cells: &cells,
+        columns,
+        total,
+    };
+    offset_at(alloc, call, columns, columns.saturating_sub(1))
+}
+
 /// Fragments of width 1, and lines of 10 of them.
 const ONE: TextwrapFragment = TextwrapFragment {
     width: 1,
@@ -327,4 +350,10 @@ fn many_points_cuts_and_ends_are_found(rt: HostRuntime) {
     assert_one_told(&rt, 1, many_cuts(rt.alloc()), (1_999, 25));
     assert_one_told(&rt, 2, many_ends(rt.alloc(), false), (10_000, 100_000));
     assert_one_told(&rt, 3, many_ends(rt.alloc(), true), (10_000, 100_000));
+}
+
+#[test]
+fn many_columns_and_many_rows_have_widths(rt: HostRuntime) {
+    assert_one_told(&rt, 0, many_widths(rt.alloc(), 2, 25), (2, 12));
+    assert_one_told(&rt, 1, many_widths(rt.alloc(), LINES, LEN), (LINES, 12));
 }

@@ -219,6 +219,19 @@ const LISTS: &[LinesRow] = &[
         b"\x1b[1monetwothree___________________",
     ),
     (
+        LinesCall::ShortenLinesBy {
+            lines: STYLED_AND_ONE,
+            most: 1,
+            width: 3,
+            placeholder: b".",
+            break_words: 1,
+        },
+        b"",
+        (DONE, 1, 11),
+        &[(0, 11, 1)],
+        b"\x1b[1mon\x1b[0m._____________________",
+    ),
+    (
         LinesCall::CarryStyles {
             lines: STYLED,
             options: AT_6,

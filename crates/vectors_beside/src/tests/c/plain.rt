@@ -3,15 +3,16 @@
 use super::known::{write_known_lines, write_known_text};
 use std::alloc::Global;
 use std::process::Abort;
-use textwrap_calls::breaks::textwrap_unicode_cuts;
 use textwrap_calls::columns::{TextwrapGaps, textwrap_rows_of_lines, textwrap_wrap_columns};
 use textwrap_calls::display::{
     textwrap_align, textwrap_expand_tabs, textwrap_fill_justified, textwrap_justify,
-    textwrap_shorten,
+    textwrap_shorten, textwrap_shorten_by,
 };
 use textwrap_calls::filling::textwrap_fill;
 use textwrap_calls::indentation::{textwrap_dedent, textwrap_indent};
-use textwrap_calls::line_lists::{textwrap_carry_styles, textwrap_shorten_lines};
+use textwrap_calls::line_lists::{
+    textwrap_carry_styles, textwrap_shorten_lines, textwrap_shorten_lines_by,
+};
 use textwrap_calls::options::{TextwrapOptions, VERSION};
 use textwrap_calls::refilling::{TextwrapLayout, textwrap_refill, textwrap_unfill};
 use textwrap_calls::reflowing::{TextwrapReflowOptions, textwrap_reflow};
@@ -21,6 +22,10 @@ use textwrap_calls::tables::{
 use textwrap_calls::texts::TextwrapText;
 use textwrap_calls::widths::textwrap_strip_ansi_escape_sequences;
 use textwrap_calls::wrapping::{TextwrapLine, textwrap_wrap};
+use textwrap_display_calls::attributes::textwrap_carry_attributes;
+use textwrap_display_calls::balancing::textwrap_wrap_balanced;
+use textwrap_display_calls::fitting::textwrap_fitting_widths;
+use textwrap_step_calls::breaks::textwrap_unicode_cuts;
 use textwrap_step_calls::fragments::{
     TextwrapFragment, TextwrapPenalties, textwrap_wrap_first_fit, textwrap_wrap_optimal_fit,
 };
@@ -185,6 +190,11 @@ pub(super) enum TextCall<'a> {
         width: usize,
         placeholder: &'a [u8],
     },
+    ShortenBy {
+        width: usize,
+        placeholder: &'a [u8],
+        break_words: u32,
+    },
     Strip,
     FillAt {
         steps: &'a [TextwrapSteps<'a>],
@@ -229,6 +239,11 @@ pub(super) fn write_text(
         TextCall::Shorten { width, placeholder } => {
             textwrap_shorten(alloc, text, width, placeholder, room, len)
         }
+        TextCall::ShortenBy {
+            width,
+            placeholder,
+            break_words,
+        } => textwrap_shorten_by(alloc, text, width, placeholder, break_words, room, len),
         TextCall::Strip => textwrap_strip_ansi_escape_sequences(alloc, text, room, len),
         TextCall::FillAt { steps, options } => {
             textwrap_fill_at(alloc, text, steps, &options, room, len)
@@ -250,6 +265,7 @@ fn write_unfilled(text: &[u8], room: &mut [u8], len: &mut usize) -> u32 {
 #[derive(Clone, Copy)]
 pub(super) enum LinesCall<'a> {
     Wrap(TextwrapOptions<'a>),
+    WrapBalanced(TextwrapOptions<'a>),
     Columns {
         columns: usize,
         options: TextwrapOptions<'a>,
@@ -261,7 +277,18 @@ pub(super) enum LinesCall<'a> {
         width: usize,
         placeholder: &'a [u8],
     },
+    ShortenLinesBy {
+        lines: &'a [TextwrapText<'a>],
+        most: usize,
+        width: usize,
+        placeholder: &'a [u8],
+        break_words: u32,
+    },
     CarryStyles {
+        lines: &'a [TextwrapText<'a>],
+        options: TextwrapOptions<'a>,
+    },
+    CarryAttributes {
         lines: &'a [TextwrapText<'a>],
         options: TextwrapOptions<'a>,
     },
@@ -314,6 +341,9 @@ pub(super) fn write_lines(
         LinesCall::Wrap(options) => {
             textwrap_wrap(alloc, text, &options, lines, count, room, len)
         }
+        LinesCall::WrapBalanced(options) => {
+            textwrap_wrap_balanced(alloc, text, &options, lines, count, room, len)
+        }
         LinesCall::Columns {
             columns,
             options,
@@ -337,10 +367,32 @@ pub(super) fn write_lines(
             room,
             len,
         ),
+        LinesCall::ShortenLinesBy {
+            lines: given,
+            most,
+            width,
+            placeholder,
+            break_words,
+        } => textwrap_shorten_lines_by(
+            alloc,
+            given,
+            most,
+            width,
+            placeholder,
+            break_words,
+            lines,
+            count,
+            room,
+            len,
+        ),
         LinesCall::CarryStyles {
             lines: given,
             options,
         } => textwrap_carry_styles(alloc, given, &options, lines, count, room, len),
+        LinesCall::CarryAttributes {
+            lines: given,
+            options,
+        } => textwrap_carry_attributes(alloc, given, &options, lines, count, room, len),
         LinesCall::Table {
             cells,
             columns,
@@ -407,11 +459,16 @@ pub(super) fn write_pieces(
     }
 }
 
-/// A call that writes offsets or ends, and all that it is given.
+/// A call that writes offsets, ends or widths, and all that it is given.
 #[derive(Clone, Copy)]
 pub(super) enum OffsetsCall<'a> {
     SplitPoints(&'a [u8]),
     UnicodeCuts(&'a [u8]),
+    FittingWidths {
+        cells: &'a [TextwrapText<'a>],
+        columns: usize,
+        total: usize,
+    },
     FirstFit {
         fragments: &'a [TextwrapFragment],
         line_widths: &'a [usize],
@@ -440,6 +497,11 @@ pub(super) fn write_offsets(
     match call {
         OffsetsCall::SplitPoints(word) => textwrap_split_points(alloc, word, offsets, count),
         OffsetsCall::UnicodeCuts(line) => textwrap_unicode_cuts(alloc, line, offsets, count),
+        OffsetsCall::FittingWidths {
+            cells,
+            columns,
+            total,
+        } => textwrap_fitting_widths(alloc, cells, columns, total, offsets, count),
         OffsetsCall::FirstFit {
             fragments,
             line_widths,

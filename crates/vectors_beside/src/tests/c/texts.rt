@@ -394,6 +394,17 @@ const UNFILLED: &[TextRow] = &[
 /// the line is read.
 const ALIGNED: &[TextRow] = &[
     (
+        TextCall::ShortenBy {
+            width: 8,
+            placeholder: b"..",
+            break_words: 2,
+        },
+        b"a verylong",
+        UNKNOWN_OPTIONS,
+        BEFORE,
+        b"________________",
+    ),
+    (
         TextCall::Align {
             width: 6,
             alignment: 0,
@@ -481,6 +492,28 @@ const WIDENED: &[TextRow] = &[
         DONE,
         8,
         b"a few...________",
+    ),
+    (
+        TextCall::ShortenBy {
+            width: 8,
+            placeholder: b"..",
+            break_words: 1,
+        },
+        b"a \x1b[1mverylong",
+        DONE,
+        16,
+        b"a \x1b[1mvery\x1b[0m..",
+    ),
+    (
+        TextCall::ShortenBy {
+            width: 8,
+            placeholder: b"..",
+            break_words: 0,
+        },
+        b"a verylong",
+        DONE,
+        3,
+        b"a.._____________",
     ),
     (
         TextCall::FillJustified(AT_6),

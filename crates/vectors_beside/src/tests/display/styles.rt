@@ -117,7 +117,7 @@ const CARRIED: &[(&str, [&str; 2], &[&str], &[&str])] = &[
 ];
 
 /// The texts as lines, borrowed.
-fn lines<A: Allocator + Copy>(
+pub fn lines<A: Allocator + Copy>(
     alloc: A,
     texts: &[&'static str],
 ) -> Result<Vec<CowStr<'static, A>, A>, AllocError> {

@@ -15,6 +15,7 @@ const EXPANDED: &[LineRow] = &[
     ("wide characters take two", Expanded, "안\tx", 4, "안  x"),
     ("accents take none", Expanded, "e\u{301}\tx", 4, "e\u{301}   x"),
     ("escape sequences take none", Expanded, "\x1b[1mab\x1b[m\tc", 4, "\x1b[1mab\x1b[m  c"),
+    ("nor do they where a style goes on", Expanded, "\x1b[1mab\tc", 4, "\x1b[1mab  c"),
     ("a tab cuts a sequence in two", Expanded, "\x1b[1\tm\tx", 4, "\x1b[1    m   x"),
     ("other whitespace is no tab", Expanded, "a\u{b}\t\u{a0}\tx", 4, "a\u{b}   \u{a0}   x"),
     ("a tab at the end", Expanded, "a\t", 4, "a   "),

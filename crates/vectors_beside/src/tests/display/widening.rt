@@ -1,6 +1,6 @@
 //! Lines that get blanks up to a width.
 use super::super::plain::{assert_count, assert_holds};
-use super::Change::{Aligned, Expanded, Justified, Shortened};
+use super::Change::{Aligned, Cut, Expanded, Justified, Shortened};
 use super::{Change, LineRow, assert_all_changed, changed};
 use Alignment::{Centre, Left, Right};
 use std::process::Abort;
@@ -92,6 +92,7 @@ type LongRow = (
 const LONG: &[LongRow] = &[
     ("a cut one column before the end", Shortened("..."), ("word ", 200_000), 999_999, 999_994 + 3, "word ", "word..."),
     ("a line that loses nearly all", Shortened(" ..."), ("word ", 200_000), 80, 74 + 4, "word ", "word ..."),
+    ("a word that is cut one column before the end", Cut("..."), ("word", 250_000), 999_999, 999_999, "word", "word..."),
     ("blanks in each gap", Justified, ("word ", 10_000), 70_000, 70_000, "word ", "word "),
     ("blanks before the line", Aligned(Right), ("word ", 10_000), 70_000, 70_000, "  ", "word word "),
     ("an empty line", Aligned(Left), ("", 1), 10_000, 10_000, "  ", "  "),

@@ -1,18 +1,12 @@
-use Rattle.textwrap_base.proofs.minima.queue.least_by_stretch.Goals as goal
-use Rattle.textwrap_text.proofs.Common.{length, arith, sym, ◌∙◌, ◌≡◌}
-use Rattle.textwrap_base.proofs.Common.{cost_from}
+use Rattle.textwrap_text.proofs.Common.{arith, length, rules, sym, ◌≡◌}
+use Rattle.textwrap_base.proofs.{Common.cost_from, Search.least-first, Search.least-later}
 use Rattle.textwrap_base.proofs.minima.queue.least_by_stretch.Goals.{Joined-stretch-end}
-use Rattle.textwrap_base.proofs.Search.{least-first, least-later}
+use Rattle.textwrap_base.proofs.minima.queue.least_by_stretch.Goals as goal
 
 later : (g : _) (c : Joined-stretch-end g) → c.if-stretch-end.later
     ≡ cost_from (g.C.CostSource.costs c.args.costs.now) c.args.stretch.start
     (length c.args.minima.now)
-later g c = elim c.if-stretch-end.branch [
-  | goal.then-stretch-end w ↦ w.later-is
-      ∙ (rw w.if-stretch-end.true at (c.requires.priced w.if-stretch-end.true))
-  | goal.else-stretch-end w ↦ w.later-is
-      ∙ (rw c.price-first.ensures.same at w.price-later.ensures.price)
-]
+later g c = search (rules, arith)
 
 pub returns-then-later-first-clause-least : goal.returns-then-later-first-clause-least
 returns-then-later-first-clause-least g c =

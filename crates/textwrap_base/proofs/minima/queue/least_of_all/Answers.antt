@@ -1,7 +1,6 @@
+use Rattle.textwrap_text.proofs.Common.{arith, length, rules, ◌≡◌}
+use Rattle.textwrap_base.proofs.Cost.Table.{least_one, table-is_table}
 use Rattle.textwrap_base.proofs.minima.queue.least_of_all.Goals as goal
-use Rattle.textwrap_text.proofs.Common.{length, arith, sym, ◌∙◌, ◌≡◌, ap}
-use Rattle.textwrap_base.proofs.Common.{minimum_of}
-use Rattle.textwrap_base.proofs.Cost.Table.{table-is_table, least_one}
 
 pub returns-clause-least : goal.returns-clause-least
 returns-clause-least g c =
@@ -11,5 +10,4 @@ returns-clause-least g c =
     let best = c.loop-start.best in
     let all : c.loop-start.start ≡ end = omega arith in
     let least = least_one _ _ _ _ _ _ ((table-is_table costs.cost costs.ends).later end c.requires.minima.some c.requires.within)
-    (rw all at i.least) in
-    sym (ap minimum_of least ∙ ap (λ k. record { start = best.start; cost = k }) (sym i.cost))
+    (rw all at i.least) in search (rules, arith)

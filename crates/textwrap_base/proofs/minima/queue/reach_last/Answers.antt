@@ -1,12 +1,11 @@
-use Rattle.textwrap_base.proofs.minima.queue.reach_last.Goals as goal
-use Rattle.textwrap_text.proofs.Common.{◌≡◌, ◌+◌, ◌*◌, ◌-◌, ◌≤◌, vec_len, ap, sym, ◌∙◌, arith}
-use Rattle.textwrap_text.proofs.Common.{List, [], length, subst, refl, ◌∷◌, ◌++◌}
-use Rattle.textwrap_base.proofs.Common.{AreMinima, AreStretches, Costs, HasEnd, IsPriced, Stretch}
-use Rattle.textwrap_base.proofs.Common.{binary_digits}
-use Rattle.textwrap_base.proofs.Search.{steps_more, steps_within, AreStretches-drop}
-use Rattle.textwrap_base.proofs.Search.{AreMinima-push, AreStretches-one, stretch_at-read}
+use Rattle.textwrap_text.proofs.Common.{arith, length, refl, rules, subst, sym, vec_len, ◌*◌, ◌+◌}
+use Rattle.textwrap_text.proofs.Common.{◌-◌, ◌∙◌, ◌≡◌, ◌≤◌}
+use Rattle.textwrap_base.proofs.Common.{AreMinima, AreStretches, binary_digits, HasEnd, IsPriced}
+use Rattle.textwrap_base.proofs.Search.{AreStretches-drop, AreStretches-one, stretch_at-read}
+use Rattle.textwrap_base.proofs.Search.{AreMinima-push, steps_more, steps_within}
 use Rattle.textwrap_base.proofs.minima.queue.reach_last.Goals.{After-next_stretch-current}
 use Rattle.textwrap_base.proofs.minima.queue.reach_last.Goals.{After-take_in, In_ok-push-3}
+use Rattle.textwrap_base.proofs.minima.queue.reach_last.Goals as goal
 
 pub next_stretch-current-requires-clause-rising : goal.next_stretch-current-requires-clause-rising
 next_stretch-current-requires-clause-rising g c = c.loop-stretches.invariant.stretches.rising
@@ -49,10 +48,7 @@ least_by_stretch-least-requires-clause-priced g c =
 -- the minima with that of the next end
 pushed : (g : _) (c : In_ok-push-3 g)
     → AreMinima (g.C.CostSource.costs c.args.costs.now) c.push-in-loop-stretches.new.self.items
-pushed g c =
-    let i = c.loop-stretches.invariant in
-    AreMinima-push _ _ _ _ i.minima (rw (c.deref-in-loop-stretches.ensures.value, i.same)
-    at c.least_by_stretch-least.ensures.least) c.in_ok-push-3.ensures.items
+pushed g c = search (rules, arith, AreMinima-push)
 
 pub take_in-requires-clause-minima : goal.take_in-requires-clause-minima
 take_in-requires-clause-minima g c = rw (
@@ -73,26 +69,14 @@ pub take_in-requires-clause-current : goal.take_in-requires-clause-current
 take_in-requires-clause-current g c =
     let at = goal.at.take_in-requires-clause-current g c in
     let len : length c.deref-in-loop-stretches-2.result.now - 1 ≡ vec_len c.loop-stretches.minima =
-    omega (arith, c.in_ok-push-3.ensures.len) in
-    rw len (gone_on g at.After-next_stretch-current).1
+    omega (arith, c.in_ok-push-3.ensures.len) in search (rules, arith, gone_on)
 
 -- the steps of a turn, also where memory runs out in it
 turn : (g : _) (c : After-take_in g)
     → g.C.CostSource.steps c.take_in.new.costs + vec_len c.take_in.new.stretches
     ≤ g.C.CostSource.steps c.loop-stretches.costs + vec_len c.loop-stretches.stretches + 10
     + 2 * binary_digits (c.ends-ends.result - (vec_len c.loop-stretches.minima + 1))
-turn g c =
-    let least = c.least_by_stretch-least.ensures in
-    let same = ap (λ (l : Costs). l.ends) (least.same ∙ c.loop-stretches.invariant.same)
-    ∙ sym c.ends-ends.ensures in
-    let len : length c.deref-in-loop-stretches-2.result.now ≡ vec_len c.loop-stretches.minima + 1 =
-    omega (arith, c.in_ok-push-3.ensures.len) in
-    omega (
-      arith,
-      rw (same, len) at c.take_in.ensures.steps,
-      least.steps,
-      c.next_stretch-current.ensures.fewer,
-    )
+turn g c = search (rules, arith)
 
 pub loop-stretches-preserved : goal.loop-stretches-preserved
 loop-stretches-preserved g c =
@@ -120,21 +104,4 @@ returns-in_err-take_in-clause-steps g c = rw (← c.ends-ends.ensures)
     (turn g (goal.at.returns-in_err-take_in-clause-steps g c).After-take_in))
 
 pub loop-stretches-init : goal.loop-stretches-init
-loop-stretches-init g c =
-    let first = c.least_of_all-first.ensures in
-    let two : vec_len c.push.new.self ≡ 2 = omega (arith, c.in_ok-push.ensures.len) in
-    let one : vec_len c.push.new.self - 1 ≡ 1 = omega (arith, two) in
-    let is = c.in_ok-push-2.ensures.items
-    ∙ ap (λ (q : List Stretch). q ++ record { start = 1; from = 1; cost = 0 } ∷ [])
-    c.in_ok-stretches.ensures.items in
-    record {
-      same = first.same;
-      minima = AreMinima-push _ _ _ _ c.requires.minima
-          (rw c.deref.ensures.value at first.least) c.in_ok-push.ensures.items;
-      two = omega arith;
-      within = omega arith;
-      stretches = rw one (AreStretches-one _ _ is (omega arith));
-      current = rw (one, is) (omega arith);
-      steps = rw two (omega (arith, first.steps, ap (length {A = Stretch}) is));
-      never_less = omega (arith, first.steps);
-    }
+loop-stretches-init g c = search (rules, arith, AreMinima-push, AreStretches-one)

@@ -1,8 +1,7 @@
 use Rattle.textwrap_base.proofs.minima.queue_case.is_queue_case.Goals as goal
 use Rattle.textwrap_text.proofs.Common.{rules}
 use Rattle.textwrap_base.proofs.Common.{IsQueueCase, problem_of}
-use Rattle.textwrap_base.proofs.Cost.LineCosts.{AreConvex-rising}
-use Rattle.textwrap_base.proofs.Cost.QueueCase.{SuitQueue-queue_case}
+use Rattle.textwrap_base.proofs.Cost.{LineCosts.AreConvex-rising, QueueCase.SuitQueue-queue_case}
 
 pub returns-then-break_penalties_suit-clause-convex : goal.returns-then-break_penalties_suit-clause-convex
 returns-then-break_penalties_suit-clause-convex g c = λ yes.

@@ -1,11 +1,10 @@
 use Rattle.textwrap_base.proofs.minima.stretches.take_in.Goals as goal
-use Rattle.textwrap_text.proofs.Common.{◌≡◌, ◌*◌, ◌+◌, ◌-◌, ◌<◌, ◌≤◌, length, vec_len, arith, ap}
-use Rattle.textwrap_text.proofs.Common.{max, ◌∙◌}
-use Rattle.textwrap_base.proofs.Common.{binary_digits, Costs, cost_from, HaveBest, IsBestFrom}
-use Rattle.textwrap_base.proofs.Common.{IsPriced, stretch_at, Stretch}
-use Rattle.textwrap_base.proofs.Search.{AreStretches-left, AreStretches-push, digits_mono}
-use Rattle.textwrap_base.proofs.Search.{HasEnd-left, HasEnd-push}
-use Rattle.textwrap_base.proofs.Search.{stretch_at-left, stretch_at-read, taken_over}
+use Rattle.textwrap_text.proofs.Common.{arith, length, max, vec_len, ◌*◌, ◌+◌, ◌-◌, ◌<◌, ◌∙◌, ◌≡◌}
+use Rattle.textwrap_text.proofs.Common.{ap, ◌≤◌}
+use Rattle.textwrap_base.proofs.{Common.Costs, Common.IsPriced, Common.Stretch, Search.taken_over}
+use Rattle.textwrap_base.proofs.Common.{binary_digits, cost_from, HaveBest, IsBestFrom, stretch_at}
+use Rattle.textwrap_base.proofs.Search.{AreStretches-left, AreStretches-push, stretch_at-left}
+use Rattle.textwrap_base.proofs.Search.{digits_mono, HasEnd-left, HasEnd-push, stretch_at-read}
 use Rattle.textwrap_base.proofs.minima.stretches.take_in.Goals.{After-take_over-stretch}
 
 -- the stretch has the best start for its ends, and those before it for theirs

@@ -1,12 +1,9 @@
 use Rattle.textwrap_base.proofs.minima.table.fill_table.Goals as goal
-use Rattle.textwrap_text.proofs.Common.{◌≡◌, [], ◌∷◌, ◌++◌, ap, ◌+◌, arith, rules, refl, ◌∙◌}
-use Rattle.textwrap_text.proofs.Common.{Vec}
-use Rattle.textwrap_base.proofs.Common.{Entry}
-use Rattle.textwrap_base.specs.Table.{table}
-use Rattle.textwrap_base.specs.declared.errors.WrapError.TheVariants.{Memory}
-use Rattle.textwrap_base.proofs.Cost.Table.{length-table, table_next, table_past, table_fits}
-use Rattle.textwrap_base.proofs.Cost.Table.{number-table, entry-table_longer, counted_next}
-use Rattle.textwrap_base.proofs.Cost.Table.{counted_within, overflowed_on}
+use Rattle.textwrap_text.proofs.Common.{[], ap, arith, refl, rules, Vec, ◌++◌, ◌+◌, ◌∙◌, ◌∷◌, ◌≡◌}
+use Rattle.textwrap_base.proofs.{Common.Entry, Cost.Table.table_next, Cost.Table.table_past}
+use Rattle.textwrap_base.proofs.Cost.Table.{counted_within, entry-table_longer, overflowed_on}
+use Rattle.textwrap_base.proofs.Cost.Table.{counted_next, length-table, number-table, table_fits}
+use Rattle.textwrap_base.specs.{declared.errors.WrapError.TheVariants.Memory, Table.table}
 
 pub loop-last-init : goal.loop-last-init
 unfolding table

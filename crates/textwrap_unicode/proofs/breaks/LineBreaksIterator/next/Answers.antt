@@ -1,10 +1,9 @@
-use Rattle.std.specs.Str.Iter.{char_indices_offset}
-use Rattle.textwrap_classes.proofs.Common.{arith, char_indices_rest, chars, length, read-next, refl}
-use Rattle.textwrap_classes.proofs.Common.{ap, sym, true, ◌+◌, ◌∙◌, ◌∷◌}
+use Rattle.textwrap_classes.proofs.Common.{ap, ◌∙◌, ◌∷◌}
+use Rattle.textwrap_classes.proofs.Common.{arith, chars, length, read-next, refl, sym, true, ◌+◌}
 use Rattle.textwrap_text.proofs.Common.{rules}
-use Rattle.textwrap_unicode.{proofs.Common.breaks_after, specs.declared.breaks.LineBreak.LineBreak}
-use Rattle.textwrap_unicode.proofs.{Common.and, CutLemmas.reading-end, WordVerdicts.letter-step}
 use Rattle.textwrap_unicode.proofs.CutLemmas.{none-left, reading-break, reading-start, reading-step}
+use Rattle.textwrap_unicode.proofs.{Common.and, CutLemmas.reading-end, WordVerdicts.letter-step}
+use Rattle.textwrap_unicode.{proofs.Common.breaks_after, specs.declared.breaks.LineBreak.LineBreak}
 use Rattle.textwrap_unicode.proofs.breaks.LineBreaksIterator.next.Goals as goal
 
 pub loop-offset-init : goal.loop-offset-init

@@ -1,9 +1,9 @@
-use Rattle.textwrap_words.proofs.word_separators.offsets.find_cuts.Goals as goal
-use Rattle.textwrap_text.proofs.Common.{length-append, append-nil, arith, false, refl, true, sym, ◌∙◌, ◌∷◌, ℕ}
-use Rattle.textwrap_text.proofs.Units.Characters.{ahead-next}
-use Rattle.textwrap_words.proofs.Word.Offsets.{IsFinding-start, IsFinding-step, IsFinding}
+use Rattle.textwrap_text.proofs.{Common.sym, Common.◌∙◌, Common.◌∷◌, Units.Characters.ahead-next}
+use Rattle.textwrap_text.proofs.Common.{append-nil, arith, false, length-append, refl, rules, true}
 use Rattle.textwrap_text.specs.CharactersLeft.{characters_left}
+use Rattle.textwrap_words.proofs.Word.Offsets.{IsFinding, IsFinding-start, IsFinding-step}
 use Rattle.textwrap_words.proofs.word_separators.offsets.find_cuts.Goals.{In-Some}
+use Rattle.textwrap_words.proofs.word_separators.offsets.find_cuts.Goals as goal
 
 pub loop-character-init : goal.loop-character-init
 loop-character-init g c =
@@ -17,10 +17,7 @@ before : (g : _) (c : In-Some g) → IsFinding c.args.offsets.now c.args.line.no
 before g c = grind arith
 
 pub overflow_add-shown : goal.overflow_add-shown
-overflow_add-shown g c =
-    let h = before g (goal.at.overflow_add-shown g c).In-Some in
-    let bytes = rw c.if-character.true at h.bytes in
-    omega (arith, bytes, c.len_utf8-len.ensures.len, c.visible_len-total.ensures, length-append {A = ℕ})
+overflow_add-shown g c = search (rules, arith, before, In-Some, length-append)
 
 pub overflow_add-character : goal.overflow_add-character
 overflow_add-character g c =
@@ -47,5 +44,4 @@ loop-character-preserved g c = IsFinding-step _ _ _ _ _ _ false _
     (before g (goal.at.loop-character-preserved g c).In-Some) c.if-character.false refl
 
 pub returns : goal.returns
-returns g c =
-    sym (append-nil _) ∙ rw c.in-None.ensures.steps.0 at c.loop-character.invariant.found
+returns g c = search (rules, arith, append-nil)

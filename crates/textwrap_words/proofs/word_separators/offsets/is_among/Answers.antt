@@ -1,5 +1,5 @@
+use Rattle.textwrap_text.proofs.Common.{rules, arith}
 use Rattle.textwrap_words.proofs.word_separators.offsets.is_among.Goals as goal
-use Rattle.textwrap_text.proofs.Common.{◌∙◌}
 use Rattle.std.proofs.lemmas.List.Sorted.{searched}
 use Rattle.textwrap_text.proofs.Lists.Elements.{increasing-le, among-is}
 
@@ -7,5 +7,4 @@ pub returns : goal.returns
 returns c =
     let offsets = c.args.offsets.now in
     let found = searched offsets c.args.shown c.binary_search.result c.binary_search.ensures.position
-    (increasing-le offsets c.requires) in
-    c.is_ok.ensures.value ∙ among-is offsets c.args.shown c.binary_search.result found
+    (increasing-le offsets c.requires) in search (rules, arith, among-is)

@@ -1,12 +1,10 @@
-use Rattle.textwrap_words.proofs.word_splitters.cut_lines.split_at_cuts.Goals as goal
-use Rattle.textwrap_text.proofs.Common.{subst, refl, map, sym}
-use Rattle.textwrap_words.proofs.Common.{parts_between, word_view, AreSplit, MaySplit, AreCuts}
-use Rattle.textwrap_words.proofs.Common.{word_of}
+use Rattle.textwrap_text.proofs.Common.{arith, map, refl, rules, subst}
+use Rattle.textwrap_words.proofs.Common.{AreSplit, MaySplit, parts_between, word_of, word_view}
 use Rattle.textwrap_words.proofs.Word.Cuts.{inner-cuts}
+use Rattle.textwrap_words.proofs.word_splitters.cut_lines.split_at_cuts.Goals as goal
 
 pub split_parts-requires : goal.split_parts-requires
-split_parts-requires g c = subst (AreCuts c.args.line.now) (sym c.deref.ensures.value)
-    (inner-cuts c.args.line.now c.in_ok-cuts.cuts.items c.in_ok-cuts.ensures.inner)
+split_parts-requires g c = search (rules, arith, inner-cuts)
 
 pub returns : goal.returns
 returns g c =

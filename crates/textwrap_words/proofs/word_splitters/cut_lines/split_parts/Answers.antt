@@ -1,6 +1,6 @@
-use Rattle.textwrap_text.proofs.Common.{append_assoc, slice_range, drop_more, drop_all, get_or, map}
-use Rattle.textwrap_text.proofs.Common.{arith, subst, refl, drop, ◌++◌, sym, ◌+◌, ◌∙◌, ◌∷◌, [], ap}
-use Rattle.textwrap_words.proofs.Common.{parts_onward, word_view, AreSplit, MaySplit, word_of}
+use Rattle.textwrap_text.proofs.Common.{append_assoc, drop_all, drop_more, get_or, map, slice_range}
+use Rattle.textwrap_text.proofs.Common.{[], ap, arith, drop, rules, subst, sym, ◌++◌, ◌+◌, ◌∙◌, ◌∷◌}
+use Rattle.textwrap_words.proofs.Common.{AreSplit, MaySplit, parts_onward, word_of, word_view}
 use Rattle.textwrap_words.proofs.Word.Pieces.{AreSplit-push}
 use Rattle.textwrap_words.proofs.word_splitters.cut_lines.split_parts.Goals as goal
 
@@ -33,20 +33,13 @@ pub returns : goal.returns
 returns g c = grind (arith, drop_all, AreSplit-push)
 
 pub returns-then-is_empty : goal.returns-then-is_empty
-returns-then-is_empty g c =
-    rw (c.in_ok-pieces.ensures.items, sym c.is_empty.ensures ∙ c.if-is_empty.true) refl
+returns-then-is_empty g c = search (rules, arith)
 
 pub loop-cut-init : goal.loop-cut-init
-loop-cut-init g c = record {
-  words = ([], refl, rw c.in_ok-pieces.ensures.items refl);
-  boundary = λ none. absurd (omega arith);
-  left = c.requires;
-}
+loop-cut-init g c = search (rules, arith)
 
 pub range-requires-clause-start_le_end : goal.range-requires-clause-start_le_end
-range-requires-clause-start_le_end g c =
-    (rw (drop_more c.args.cuts.now _ 0 c.loop-cut-test.true) at c.loop-cut.invariant.left).0.0
+range-requires-clause-start_le_end g c = search (rules, arith, drop_more)
 
 pub range-requires-clause-end_boundary : goal.range-requires-clause-end_boundary
-range-requires-clause-end_boundary g c =
-    (rw (drop_more c.args.cuts.now _ 0 c.loop-cut-test.true) at c.loop-cut.invariant.left).0.2
+range-requires-clause-end_boundary g c = search (rules, arith, drop_more)

@@ -1,10 +1,9 @@
-use Rattle.textwrap_words.proofs.words.breaking.first_piece.Goals as goal
-use Rattle.textwrap_text.proofs.Common.{true≢false, add-zero, arith, subst, sym, ◌∙◌}
+use Rattle.textwrap_text.proofs.Common.{add-zero, arith, rules, subst, sym, true≢false, ◌∙◌}
+use Rattle.textwrap_text.proofs.Units.Reading.{columns-le, read-all, read-room}
+use Rattle.textwrap_words.proofs.Word.{BrokenPieces.IsFirstPiece, Scanned.IsReading-end}
 use Rattle.textwrap_words.proofs.Word.Breaking.{due-false, due-true}
-use Rattle.textwrap_text.proofs.Units.Reading.{columns-le, read-room, read-all}
-use Rattle.textwrap_words.proofs.Word.Scanned.{IsReading-start, IsReading-step, IsReading-cut}
-use Rattle.textwrap_words.proofs.Word.Scanned.{IsReading-end}
-use Rattle.textwrap_words.proofs.Word.BrokenPieces.{IsFirstPiece}
+use Rattle.textwrap_words.proofs.Word.Scanned.{IsReading-cut, IsReading-start, IsReading-step}
+use Rattle.textwrap_words.proofs.words.breaking.first_piece.Goals as goal
 
 pub loop-at-init : goal.loop-at-init
 loop-at-init c =
@@ -22,8 +21,7 @@ returns-then-width-columns c =
     (omega (arith, c.columns-columns.ensures)) in
     let cut = subst (λ n. IsFirstPiece c.args.line_width c.args.text.now n c.loop-at.width)
     (sym s.0) (IsReading-cut c.loop-at.invariant _ _ c.utf8.text c.requires s.1
-    (rw c.step-next.ensures at c.if-is_visible.true) due) in
-    record { boundary = cut.boundary; first = cut.first; width = cut.wide; rest = cut.rest }
+    (rw c.step-next.ensures at c.if-is_visible.true) due) in search (rules, arith)
 
 pub loop-at-preserved-else-width-gt0 : goal.loop-at-preserved-else-width-gt0
 loop-at-preserved-else-width-gt0 c =
@@ -50,5 +48,4 @@ returns c =
     let h = c.loop-at.invariant in
     let none = c.in-None.ensures.steps.0 in
     let end = subst (λ n. IsFirstPiece c.args.line_width c.args.text.now n c.loop-at.width)
-    (read-all h.read none) (IsReading-end h c.utf8.text c.requires none) in
-    record { boundary = end.boundary; first = end.first; width = end.wide; rest = end.rest }
+    (read-all h.read none) (IsReading-end h c.utf8.text c.requires none) in search (rules, arith)

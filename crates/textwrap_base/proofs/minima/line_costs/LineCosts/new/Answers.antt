@@ -1,7 +1,6 @@
 use Rattle.textwrap_base.proofs.minima.line_costs.LineCosts.new.Goals as goal
+use Rattle.textwrap_base.proofs.{Common.problem_of, Cost.LineCosts.break_penalties-measured}
 use Rattle.textwrap_base.proofs.Cost.Measures.{fragment_costs-map}
-use Rattle.textwrap_base.proofs.Cost.LineCosts.{break_penalties-measured}
-use Rattle.textwrap_base.proofs.Common.{problem_of}
 
 pub returns-clause-costs : goal.returns-clause-costs
 returns-clause-costs g c =

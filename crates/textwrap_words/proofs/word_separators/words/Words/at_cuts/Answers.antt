@@ -1,15 +1,12 @@
-use Rattle.textwrap_words.proofs.word_separators.words.Words.at_cuts.Goals as goal
-use Rattle.textwrap_text.proofs.Common.{subst, refl, map, sym, ◌∙◌, ap}
-use Rattle.textwrap_words.proofs.Common.{parts_between, word_view, AreCuts, word_of, tiled}
-use Rattle.textwrap_words.proofs.Word.Cuts.{inner-cuts}
-use Rattle.textwrap_words.proofs.Word.Parts.{MayCut-cuts, parts-texts}
+use Rattle.textwrap_text.proofs.Common.{ap, arith, map, refl, rules, subst, sym, ◌∙◌}
+use Rattle.textwrap_words.proofs.Common.{AreCuts, parts_between, tiled, word_of, word_view}
+use Rattle.textwrap_words.proofs.Word.{Cuts.inner-cuts, Parts.MayCut-cuts, Parts.parts-texts}
 use Rattle.textwrap_words.proofs.word_separators.words.Words.at_cuts.Goals.{In_ok-cuts}
+use Rattle.textwrap_words.proofs.word_separators.words.Words.at_cuts.Goals as goal
 
 -- what was answered is cuts of the line
 ready : (g : _) (c : In_ok-cuts g) → AreCuts c.args.line.now c.in_ok-cuts.cuts.items
-ready g c = inner-cuts c.args.line.now c.in_ok-cuts.cuts.items
-    (MayCut-cuts c.args.line_cuts c.args.line.now c.in_ok-cuts.cuts.items c.utf8.line
-    (c.args.line_cuts.alloc, c.args.line, c.in_ok-cuts.cuts, refl, refl, c.in_ok-cuts.ensures.0))
+ready g c = search (rules, arith, inner-cuts, MayCut-cuts)
 
 pub words_between-requires : goal.words_between-requires
 words_between-requires g c = subst (AreCuts c.args.line.now) (sym c.deref.ensures.value)

@@ -1,0 +1,4 @@
+pub mod Counted
+pub mod Narrower
+pub mod Room
+pub mod Search

@@ -1,0 +1,26 @@
+use Rattle.textwrap_text.proofs.Common.{arith, ◌≡◌, sum_by, sym, ◌∙◌}
+use Rattle.textwrap_display.specs.Sharing.{sure}
+use Rattle.textwrap_display.specs.declared.fitting.Basis.TheVariants.{Nothing, Scarce}
+use Rattle.textwrap_display.proofs.FittingWidths.{sum_by-none, sum_by-one}
+use Rattle.textwrap_display.proofs.fitting.Sharing.of.Goals as goal
+
+pub returns-then-lines-eq0-clause-shares : goal.returns-then-lines-eq0-clause-shares
+returns-then-lines-eq0-clause-shares c =
+    let none : sum_by (sure Nothing) c.args.needs.now ≡ 0 =
+    sym c.sums_of-words.ensures.lines ∙ c.if-lines-eq0.true in
+    record {
+      left = omega arith;
+      weights = sym (sum_by-one c.args.needs.now);
+      some = λ some. some;
+      fits = omega arith;
+    }
+
+pub returns-else-words-total-clause-shares : goal.returns-else-words-total-clause-shares
+returns-else-words-total-clause-shares c =
+    let none : sum_by (sure Scarce) c.args.needs.now ≡ 0 = sum_by-none c.args.needs.now in
+    record {
+      left = omega arith;
+      weights = c.sums_of-words.ensures.words;
+      some = λ some. omega arith;
+      fits = omega arith;
+    }

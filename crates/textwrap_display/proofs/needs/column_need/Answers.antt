@@ -1,0 +1,27 @@
+use Rattle.textwrap_display.proofs.needs.column_need.Goals as goal
+use Rattle.textwrap_text.proofs.Common.{arith, ◌∙◌}
+use Rattle.std.specs.Slice.Iter.{chunks_rest}
+use Rattle.textwrap_display.proofs.ColumnNeeds.{widest-more}
+use Rattle.textwrap_display.proofs.TableGroups.{group-map}
+use Rattle.textwrap_display.specs.Needs.{lines_in, words_in}
+
+pub loop-row-preserved : goal.loop-row-preserved
+loop-row-preserved c =
+    let (size, (whole, front, some)) = c.in-Some.ensures.steps in
+    let row = group-map (λ text. text.now) c.args.columns (chunks_rest c.loop-row.row-iterator)
+    c.in-Some.row.now (chunks_rest c.next.new.self)
+    (record {
+      some = c.requires;
+      whole = whole;
+      more = omega (arith, some);
+      size = omega (arith, front, c.loop-row.invariant.size);
+    }) in
+    record {
+      size = size ∙ c.loop-row.invariant.size;
+      words = rw (c.max.ensures, c.widest_word.ensures, c.text_at-text.ensures)
+          (widest-more words_in c.args.columns c.args.column c.loop-row.need.least _ _ _ row
+          ∙ c.loop-row.invariant.words);
+      lines = rw (c.max-in-loop-row.ensures, c.widest_part.ensures, c.text_at-text.ensures)
+          (widest-more lines_in c.args.columns c.args.column c.loop-row.need.most _ _ _ row
+          ∙ c.loop-row.invariant.lines);
+    }

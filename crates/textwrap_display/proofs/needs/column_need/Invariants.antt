@@ -1,0 +1,17 @@
+use Rattle.textwrap_text.proofs.Common.{◌≡◌, max}
+use Rattle.std.specs.List.{flat_map}
+use Rattle.std.specs.Slice.Iter.{chunks_rest, chunks_size}
+use Rattle.textwrap_display.proofs.needs.column_need.Given as goal
+use Rattle.textwrap_display.specs.Needs.{column_texts, lines_in, widest, words_in}
+use Rattle.textwrap_display.specs.Tables.{texts_in}
+
+-- with what is left, the widest so far are the widest of all
+abbrev pub invariant-loop-row : goal.invariant-loop-row
+invariant-loop-row l =
+    let left = column_texts l.columns (texts_in (chunks_rest l.row-iterator)) l.column in
+    let all = column_texts l.columns (texts_in l.cells) l.column in
+    record {
+      size : chunks_size l.row-iterator ≡ l.columns;
+      words : max l.need.least (widest (flat_map words_in left)) ≡ widest (flat_map words_in all);
+      lines : max l.need.most (widest (flat_map lines_in left)) ≡ widest (flat_map lines_in all);
+    }

@@ -1,0 +1,10 @@
+use Rattle.textwrap_text.proofs.Common.{◌≡◌, map}
+use Rattle.std.specs.List.{range_with_len}
+use Rattle.textwrap_display.proofs.needs.needs_of.Given as goal
+use Rattle.textwrap_display.specs.Needs.{column_texts, need_of}
+use Rattle.textwrap_display.specs.Tables.{texts_in}
+
+abbrev pub invariant-loop-column : goal.invariant-loop-column
+invariant-loop-column g l =
+    l.needs.items ≡ map (λ at. need_of (column_texts l.columns (texts_in l.cells) at))
+    (range_with_len 0 l.column)

@@ -1,0 +1,18 @@
+use Rattle.textwrap_text.proofs.Common.{max, rules, ◌∙◌}
+use Rattle.std.proofs.Common.{lit<, tests}
+use Rattle.std.proofs.lemmas.Iterator.Consumers.{fold_from_yields_List}
+use Rattle.std.proofs.lemmas.Iterator.Splits.{YieldsList-from_str_split}
+use Rattle.std.specs.List.{slice_split}
+use Rattle.textwrap_display.proofs.ColumnNeeds.{widest-parts}
+use Rattle.textwrap_display.proofs.Common.{is_blank}
+use Rattle.textwrap_display.proofs.needs.widest_word.Goals as goal
+use Rattle.textwrap_display.specs.Needs.{lines_in, widest}
+
+pub returns : goal.returns
+returns c =
+    fold_from_yields_List _ (λ most line. max most (widest (slice_split is_blank line))) _ _
+    c.fold.ensures.ran
+    (YieldsList-from_str_split 10 c.args.text.now (lit< tt) c.split.ensures.text
+    c.split.ensures.has_more c.split.ensures.pattern)
+    (λ most line b q k. search (rules, tests))
+    ∙ widest-parts (slice_split is_blank) (lines_in c.args.text.now)

@@ -1,0 +1,333 @@
+-- Lines whose styles are carried: their bytes, what they show, and whole lines under indents.
+use Rattle.textwrap_text.proofs.Common.{take-append-drop, nil_from_length, length-append, chars-nil}
+use Rattle.textwrap_text.proofs.Common.{append_assoc, IsUtf8-drop, starts_with, All-append, All-nil}
+use Rattle.textwrap_text.proofs.Common.{All-weaker, append-nil, cases_Bool, map-append}
+use Rattle.textwrap_text.proofs.Common.{drop_more, nat_tests, All-cons, All-drop, All-head, drop_at}
+use Rattle.textwrap_text.proofs.Common.{All-tail, flat_map, take_at, IsUtf8, filter, get_or, length}
+use Rattle.textwrap_text.proofs.Common.{nat_eq, sum_by, arith, subst, List, cond, drop, refl, take}
+use Rattle.textwrap_text.proofs.Common.{◌++◌, ◌==◌, All, inl, inr, map, sym, ◌+◌, ◌-◌, ◌<◌, []}
+use Rattle.textwrap_text.proofs.Common.{◌∙◌, ◌∷◌, ◌≡◌, ◌≤◌, Bool, ap, false, true, ℕ}
+use Rattle.textwrap_styles.proofs.Common.{line_bytes-line_view, starts_with-rest}
+use Rattle.textwrap_styles.proofs.Common.{concat-append, cow_str_bytes, IsWholeText}
+use Rattle.textwrap_styles.proofs.Common.{open_styles, sequence_of, has_target, Built}
+use Rattle.textwrap_styles.proofs.Common.{line_bytes, text_width, line_view, open_link, sequences}
+use Rattle.textwrap_styles.proofs.Common.{texts_of, IsWhole, is_link}
+use Rattle.textwrap_styles.proofs.Common.{CowStr, concat, Slice, units, Line}
+use Rattle.textwrap_styles.specs.Indents.{after_indent, before_text, indent_end}
+use Rattle.textwrap_styles.specs.Styles.{carried_line, last_of_each, link_end, style_end}
+use Rattle.std.proofs.lemmas.List.Folds.{flat_map-map}
+use Rattle.textwrap_styles.proofs.SequenceTexts.{closing-sequences, closing_sequences, IsSequence}
+use Rattle.textwrap_styles.proofs.SequenceTexts.{text_units-append, parts-sequences, parts-visible}
+use Rattle.textwrap_styles.proofs.SequenceTexts.{text-sequences, styled-append, parts-styled}
+use Rattle.textwrap_styles.proofs.SequenceTexts.{closing-is, link-ended, nil-whole, IsStyleRule}
+use Rattle.std.proofs.lemmas.List.Elements.{All-filter}
+use Rattle.textwrap_text.specs.Units.{columns}
+use Rattle.textwrap_styles.specs.Styled.{EachWithIndent, EndsPlainBy, MayCarryBy}
+use Rattle.textwrap_styles.specs.Styled.{styled_by, styled_lines_by, styled_text_by}
+use Rattle.textwrap_styles.specs.Styles.{carried_line_by, carried_lines_by, closing_by}
+use Rattle.textwrap_styles.specs.Styles.{opening_by}
+use Rattle.textwrap_styles.proofs.OpenSequences.{link-follows, opening-bytes}
+use Rattle.std.specs.Str.{chars}
+use Rattle.textwrap_text.proofs.Texts.{StartsWith-boundary}
+
+-- ---- one line more that sets anew what is open, and ends plain
+
+-- a line with these texts after its indent and at its end
+abbrev enclosed : List ℕ → ℕ → List ℕ → List ℕ → Line
+enclosed line n start end =
+    cond (length (start ++ end) == 0) (Slice line)
+    (Built (take n line ++ start ++ drop n line ++ end))
+
+nothing-added : (start end front text : List ℕ) → length (start ++ end) ≡ 0
+    → front ++ text ≡ front ++ start ++ text ++ end
+nothing-added start end front text none =
+    grind (arith, append-nil, nil_from_length, length-append)
+
+parts-len : (front start text end line whole : List ℕ) → whole ≡ front ++ start ++ text ++ end
+    → front ++ text ≡ line → length whole ≡ length line + length start + length end
+parts-len front start text end line whole are own = grind (arith, length-append)
+
+-- where this says which styles are open
+module _ (styles : List (List ℕ) → List (List ℕ)) where
+  pub line-is : (indent line : List ℕ) (n : ℕ) (before : List (List ℕ)) (start end : List ℕ)
+      (view : Line) → n ≡ indent_end indent line → start ≡ opening_by styles before
+      → end ≡ closing_by styles (before ++ sequences (drop n line))
+      → view ≡ enclosed line n start end → view ≡ carried_line_by styles indent before line
+  line-is indent line n before start end view is starts ends whole = cc
+
+  -- one more of the lines
+  pub carries-more : {Z : Type 0} (lines : List (CowStr Z)) (n : ℕ) (line added : CowStr Z)
+      (indent later bytes text : List ℕ) (before : List (List ℕ)) (old new : List (CowStr Z))
+      (all : List Line) → n < length lines → line ≡ get_or lines n line
+      → bytes ≡ cow_str_bytes line → text ≡ after_indent indent bytes → new ≡ old ++ added ∷ []
+      → line_view added ≡ carried_line_by styles indent before bytes
+      → map line_view old
+      ++ carried_lines_by styles indent later before (texts_of (drop n lines)) ≡ all
+      → map line_view new ++ carried_lines_by styles later later (before ++ sequences text)
+      (texts_of (drop (n + 1) lines)) ≡ all
+  carries-more lines n line added indent later bytes text before old new all within is same after
+      push view whole =
+      let left = drop_more lines n line within in
+      grind (arith, append_assoc, line_bytes-line_view, map-append, left)
+
+  -- ---- the bytes of a line whose styles are carried
+
+  carried-parts : (indent : List ℕ) (before : List (List ℕ)) (line : List ℕ)
+      → line_bytes (carried_line_by styles indent before line)
+      ≡ before_text indent line ++ opening_by styles before ++ after_indent indent line
+      ++ closing_by styles (before ++ sequences (after_indent indent line))
+  carried-parts indent before line =
+      grind (arith, nat_tests, nothing-added, take-append-drop (indent_end indent line) line)
+
+  closing-short : (before : List (List ℕ))
+      → length (closing_by styles before) ≤ length style_end + length link_end
+  closing-short before =
+      by (length (styles before) == 0) (length (open_link before) == 0)
+    where
+      by : (plain unlinked : Bool) → length (cond plain [] style_end ++ cond unlinked [] link_end)
+          ≤ length style_end + length link_end
+      by true true = omega arith
+      by true false = omega arith
+      by false true = omega arith
+      by false false = omega arith
+
+  -- it is longer by what sets anew what is open, and what ends that, at most
+  pub carried-len : (indent : List ℕ) (before : List (List ℕ)) (line : List ℕ)
+      → length (line_bytes (carried_line_by styles indent before line))
+      ≤ length line + length (opening_by styles before) + length style_end + length link_end
+  carried-len indent before line =
+      let text = after_indent indent line in
+      let len = parts-len (before_text indent line) (opening_by styles before) text
+      (closing_by styles (before ++ sequences text)) line _ (carried-parts indent before line)
+      (take-append-drop (indent_end indent line) line) in
+      let ends = closing-short (before ++ sequences text) in
+      omega (arith, len, ends)
+
+  pub carried-bytes : (indent : List ℕ) (before : List (List ℕ)) (line : List ℕ)
+      → line_bytes (carried_line_by styles indent before line)
+      ≡ before_text indent line ++ concat (open_link before ++ styles before)
+      ++ after_indent indent line
+      ++ concat (closing_sequences styles (before ++ sequences (after_indent indent line)))
+  carried-bytes indent before line = grind (arith, carried-parts, concat-append, closing-is styles)
+
+pub carried-short : (indent : List ℕ) (before : List (List ℕ)) (line : List ℕ)
+    → length (line_bytes (carried_line indent before line))
+    ≤ length line + length (concat (last_of_each before)) + length style_end + length link_end
+carried-short indent before line =
+    let len = carried-len open_styles indent before line in
+    omega (arith, len, opening-bytes before)
+
+-- ---- one line whose styles are carried: what it shows, what it leaves open and how wide it is
+
+module _ (styles : List (List ℕ) → List (List ℕ)) (rule : IsStyleRule styles) where
+  open-sequences : (before : List (List ℕ)) → All IsSequence before
+      → All IsSequence (open_link before ++ styles before)
+  open-sequences before are =
+      let links = filter is_link before in
+      All-append IsSequence (open_link before) (styles before)
+      (All-filter has_target IsSequence (drop (length links - 1) links)
+      (All-drop IsSequence (length links - 1) links (All-filter is_link IsSequence before are)))
+      (rule.sequences before are)
+
+  module _ (indent : List ℕ) (before : List (List ℕ)) (line : List ℕ)
+      (are : All IsSequence before) (may : MayCarryBy styles indent line) where
+    abbrev front : List ℕ
+    front = before_text indent line
+
+    abbrev text : List ℕ
+    text = after_indent indent line
+
+    abbrev starts : List (List ℕ)
+    starts = open_link before ++ styles before
+
+    abbrev ends : List (List ℕ)
+    ends = closing_sequences styles (before ++ sequences text)
+
+    all-ends : All IsSequence ends
+    all-ends = closing-sequences styles (before ++ sequences text)
+
+    pub carried-styled : styled_text_by styles []
+        (line_bytes (carried_line_by styles indent before line))
+        ≡ styled_text_by styles [] front ++ styled_text_by styles before text
+    carried-styled =
+        ap (styled_text_by styles []) (carried-bytes styles indent before line)
+        ∙ parts-styled front text starts ends may.front may.text (open-sequences before are)
+        all-ends styles rule before (rule.link_again (sequences front) before may.plain.1)
+        (rule.again (sequences front) before may.plain.0)
+
+    pub carried-plain : EndsPlainBy styles (line_bytes (carried_line_by styles indent before line))
+    carried-plain =
+        let more = sequences text in
+        let all : sequences (line_bytes (carried_line_by styles indent before line))
+        ≡ sequences front ++ starts ++ more ++ ends =
+        ap sequences (carried-bytes styles indent before line)
+        ∙ parts-sequences front text starts ends may.front may.text (open-sequences before are)
+        all-ends in
+        let first = sequences front ++ starts in (
+          ap styles all
+              ∙ rule.follow (first ++ more) (before ++ more) ends (rule.follow first before more
+              (rule.again (sequences front) before may.plain.0))
+              ∙ rule.ended (before ++ more),
+          ap open_link all
+              ∙ link-follows (first ++ more) (before ++ more) ends (link-follows first before more
+              (rule.link_again (sequences front) before may.plain.1))
+              ∙ link-ended styles (before ++ more),
+        )
+
+    pub carried-wide : text_width (line_bytes (carried_line_by styles indent before line))
+        ≡ text_width line
+    carried-wide =
+        ap text_width (carried-bytes styles indent before line)
+        ∙ ap (sum_by columns) (parts-visible front text starts ends may.front may.text
+        (open-sequences before are) all-ends)
+        ∙ ap text_width (take-append-drop (indent_end indent line) line)
+
+-- ---- lines whose styles are carried, one after another
+
+-- where all have the later indent
+indented-later : (Is : List ℕ → List ℕ → Type 0) (later : List ℕ) (lines : List (List ℕ))
+    → All (Is later) lines → EachWithIndent Is later later lines
+indented-later Is later [] all = tt
+indented-later Is later (line ∷ lines) all =
+    (All-head (Is later) line lines all, All-tail (Is later) line lines all)
+
+-- what the lines show, that they end plain, and how wide they are
+pub record AreCarried (styles : List (List ℕ) → List (List ℕ)) (indent later : List ℕ)
+    (before lines : List (List ℕ)) : Type 0 where
+  pub shown : map (λ l. styled_text_by styles [] (line_bytes l))
+      (carried_lines_by styles indent later before lines)
+      ≡ styled_lines_by styles indent later before lines
+  pub plain : All (λ l. EndsPlainBy styles (line_bytes l))
+      (carried_lines_by styles indent later before lines)
+  pub wide : map (λ l. text_width (line_bytes l))
+      (carried_lines_by styles indent later before lines)
+      ≡ map text_width lines
+
+module _ (styles : List (List ℕ) → List (List ℕ)) (rule : IsStyleRule styles) where
+  are_carried : (lines : List (List ℕ)) (indent later : List ℕ) (before : List (List ℕ))
+      → All IsSequence before → EachWithIndent (MayCarryBy styles) indent later lines
+      → AreCarried styles indent later before lines
+  are_carried [] indent later before are all =
+      record {
+        shown = refl;
+        plain = All-nil (λ l. EndsPlainBy styles (line_bytes l));
+        wide = refl;
+      }
+  are_carried (line ∷ lines) indent later before are (may, rest) =
+      let text = after_indent indent line in
+      let now = before ++ sequences text in
+      let others = are_carried lines later later now
+      (All-append IsSequence before (sequences text) are (text-sequences text may.text))
+      (indented-later (MayCarryBy styles) later lines rest) in
+      record {
+        shown = grind (
+          arith,
+          carried-styled styles rule indent before line are may,
+          others.shown,
+        );
+        plain = All-cons (λ l. EndsPlainBy styles (line_bytes l))
+            (carried_line_by styles indent before line)
+            (carried_lines_by styles later later now lines)
+            (carried-plain styles rule indent before line are may) others.plain;
+        wide = grind (arith, carried-wide styles rule indent before line are may, others.wide);
+      }
+
+  pub carried : (indent later : List ℕ) (lines : List (List ℕ))
+      → EachWithIndent (MayCarryBy styles) indent later lines
+      → AreCarried styles indent later [] lines
+  carried indent later lines = are_carried lines indent later [] (All-nil IsSequence)
+
+-- the text has no sequence
+abbrev pub IsPlainLine : List ℕ → List ℕ → Type 0
+IsPlainLine indent line = sequences (after_indent indent line) ≡ []
+
+-- ---- where no sequence is, and whole lines under indents that leave nothing open
+
+module _ (styles : List (List ℕ) → List (List ℕ)) (rule : IsStyleRule styles) where
+  pub plain-stay : (indent later : List ℕ) (lines : List (List ℕ))
+      → EachWithIndent IsPlainLine indent later lines
+      → carried_lines_by styles indent later [] lines ≡ map Slice lines
+  plain-stay indent later [] all = refl
+  plain-stay indent later (line ∷ lines) (none, rest) =
+      let others = plain-stay later later lines (indented-later IsPlainLine later lines rest) in
+      grind (arith, none, rule.none, others)
+
+  nil-plain : EndsPlainBy styles []
+  nil-plain = (
+    ap (λ cs. styles (flat_map sequence_of (units cs))) chars-nil ∙ rule.none,
+    ap (λ cs. open_link (flat_map sequence_of (units cs))) chars-nil,
+  )
+
+-- what follows a whole text in one
+whole_text-rest : (xs ys : List ℕ) → IsWholeText xs → IsWholeText (xs ++ ys) → IsWholeText ys
+whole_text-rest xs ys front whole =
+    let n = length xs in
+    let same : drop n (xs ++ ys) ≡ ys = drop_at xs ys n refl in
+    let us = units (chars xs) in
+    let vs = units (chars ys) in (
+      subst IsUtf8 same (IsUtf8-drop (xs ++ ys) n whole.0
+          (StartsWith-boundary (xs ++ ys) xs whole.0 front.0 (take_at xs ys n refl))),
+      subst (All IsWhole) (drop_at us vs (length us) refl)
+          (All-drop IsWhole (length us) (us ++ vs)
+          (subst (All IsWhole) (text_units-append xs ys front) whole.1)),
+    )
+
+module _ (styles : List (List ℕ) → List (List ℕ)) (rule : IsStyleRule styles) where
+  may-carry : (indent line : List ℕ) → IsWholeText indent → EndsPlainBy styles indent
+      → IsWholeText line → MayCarryBy styles indent line
+  may-carry indent line own plain whole = elim (cases_Bool (starts_with nat_eq line indent)) [
+    | inl starts ↦
+        let rest = drop (length indent) line in
+        let shape : line ≡ indent ++ rest = starts_with-rest indent line starts in
+        let front : take (length indent) line ≡ indent =
+        ap (take (length indent)) shape ∙ take_at indent rest _ refl in
+        record {
+          front = rw (starts, front) own;
+          plain = rw (starts, front) plain;
+          text = rw starts (whole_text-rest indent rest own (subst IsWholeText shape whole));
+        }
+    | inr other ↦
+        record {
+          front = rw other nil-whole;
+          plain = rw other (nil-plain styles rule);
+          text = rw other whole;
+        }
+  ]
+
+  pub all-may_carry : (indent later : List ℕ) (lines : List (List ℕ)) → IsWholeText indent
+      → EndsPlainBy styles indent → IsWholeText later → EndsPlainBy styles later
+      → All IsWholeText lines → EachWithIndent (MayCarryBy styles) indent later lines
+  all-may_carry indent later [] own plain more closed whole = tt
+  all-may_carry indent later (line ∷ lines) own plain more closed whole = (
+    may-carry indent line own plain (All-head IsWholeText line lines whole),
+    All-weaker IsWholeText (MayCarryBy styles later) (λ l. may-carry later l more closed) lines
+        (All-tail IsWholeText line lines whole),
+  )
+
+  -- ---- lines without indents
+
+  bare-shown : (lines before : List (List ℕ)) → All IsWholeText lines
+      → flat_map (λ shown. shown) (styled_lines_by styles [] [] before lines)
+      ≡ styled_text_by styles before (concat lines)
+  bare-shown [] before whole = ap (λ cs. styled_by styles before (units cs)) (sym chars-nil)
+  bare-shown (line ∷ lines) before whole =
+      let own = All-head IsWholeText line lines whole in
+      let rest = All-tail IsWholeText line lines whole in
+      grind (
+        arith,
+        chars-nil,
+        text_units-append line (concat lines) own,
+        styled-append styles,
+        bare-shown lines (before ++ sequences line) rest,
+      )
+
+  -- the lines, each by itself, show what the text shows that they join to
+  pub bare-carried : (lines : List (List ℕ)) → All IsWholeText lines
+      → flat_map (λ l. styled_text_by styles [] (line_bytes l))
+      (carried_lines_by styles [] [] [] lines)
+      ≡ styled_text_by styles [] (concat lines)
+  bare-carried lines whole =
+      let plain = nil-plain styles rule in
+      let may = all-may_carry [] [] lines nil-whole plain nil-whole plain whole in
+      let all = carried styles rule [] [] lines may in
+      grind (arith, flat_map-map, all.shown, bare-shown lines [] whole)

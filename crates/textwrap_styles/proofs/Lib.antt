@@ -1,0 +1,14 @@
+pub mod Common
+pub mod ProvedLaws
+pub mod CarriedLaws
+pub mod CarriedLines
+pub mod FewAttributes
+pub mod LaterSettings
+pub mod LastOfEach
+pub mod OpenSequences
+pub mod OpenSettings
+pub mod SettingTexts
+pub mod StyleRules
+pub mod SequenceTexts
+pub mod Sequences
+pub mod StyleRows

@@ -1,0 +1,21 @@
+-- The lemmas that the laws are proved by.
+use Rattle.textwrap_styles.proofs.CarriedLaws.{attributes-bare, attributes-carried, attributes-may}
+use Rattle.textwrap_styles.proofs.CarriedLaws.{attributes-stay, styles-bare, styles-carried}
+use Rattle.textwrap_styles.proofs.CarriedLaws.{styles-may, styles-stay}
+use Rattle.textwrap_styles.proofs.CarriedLines.{carried-short}
+use Rattle.textwrap_styles.proofs.FewAttributes.{attributes-short, few-known}
+use Rattle.textwrap_styles.proofs.StyleRules.{attributes-anew}
+
+pub ruleset styles = (carried-short, styles-bare, styles-carried, styles-may, styles-stay)
+
+pub ruleset attributes = (
+  attributes-anew,
+  attributes-bare,
+  attributes-carried,
+  attributes-may,
+  attributes-short,
+  attributes-stay,
+  few-known,
+)
+
+pub ruleset laws = (attributes, styles)

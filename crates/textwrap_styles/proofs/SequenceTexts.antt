@@ -1,0 +1,284 @@
+-- Texts of whole sequences and texts between them: their units, and what they show.
+use Rattle.textwrap_text.proofs.Common.{chars_from_encodes, encode_utf8_all, flat_map-append, arith}
+use Rattle.textwrap_text.proofs.Common.{nil_from_length, IsUtf8-append, encodes-chars, append_assoc}
+use Rattle.textwrap_text.proofs.Common.{chars-append, All-append, IsUtf8-nil, append-nil, chars-nil}
+use Rattle.textwrap_text.proofs.Common.{cases_Bool, All-cons, All-head, All-tail, eqb-true, All-nil}
+use Rattle.textwrap_text.proofs.Common.{flat_map, IsUtf8, length, codes, false, subst, Bool, List}
+use Rattle.textwrap_text.proofs.Common.{cond, fold, refl, take, true, ◌++◌, ◌==◌, All, inl, map, []}
+use Rattle.textwrap_text.proofs.Common.{sym, ◌∙◌, ◌∷◌, ◌≡◌, ap, ℕ}
+use Rattle.std.specs.Str.{chars}
+use Rattle.textwrap_text.specs.Units.{characters, visible_of, Sequence, TextUnit, Visible, visible}
+use Rattle.textwrap_styles.proofs.Common.{agree_below_at, units-append, IsWholeText, open_styles}
+use Rattle.textwrap_styles.proofs.Common.{sequence_of, open_link, sequences, link_end}
+use Rattle.textwrap_styles.proofs.Common.{style_end, IsWhole, concat, units, ends}
+use Rattle.textwrap_styles.specs.Styled.{styled_by, styled_text_by}
+use Rattle.textwrap_styles.specs.Styles.{closing_by}
+use Rattle.textwrap_text.proofs.Texts.{utf8-front, utf8-back}
+use Rattle.textwrap_text.proofs.Units.Texts.{units_unique, units-tile}
+use lib.Utf8.{encode}
+use Rattle.textwrap_styles.proofs.OpenSequences.{open_styles-append, open_link-append, next_styles}
+use Rattle.textwrap_styles.proofs.OpenSequences.{link-follows, next_link}
+
+-- ---- the units of texts of whole sequences that are put together
+
+pub text_units-append : (xs ys : List ℕ) → IsWholeText xs
+    → units (chars (xs ++ ys)) ≡ units (chars xs) ++ units (chars ys)
+text_units-append xs ys whole =
+    ap units (chars-append xs ys whole.0) ∙ units-append (chars xs) (chars ys) whole.1
+
+pub whole_text-append : (xs ys : List ℕ) → IsWholeText xs → IsWholeText ys → IsWholeText (xs ++ ys)
+whole_text-append xs ys first second = (
+  IsUtf8-append xs ys first.0 second.0,
+  subst (All IsWhole) (sym (text_units-append xs ys first))
+      (All-append IsWhole (units (chars xs)) (units (chars ys)) first.1 second.1),
+)
+
+-- ---- a sequence of a text, as a text by itself, and such sequences in a row
+
+-- a text that is one whole sequence
+pub record IsSequence (s : List ℕ) : Type 0 where
+  pub utf8 : IsUtf8 s
+  pub unit : units (chars s) ≡ Sequence (chars s) ∷ []
+  pub whole : IsWhole (Sequence (chars s))
+
+unit-sequence : (cs : List ℕ) → IsUtf8 (encode_utf8_all cs) → IsWhole (Sequence cs)
+    → IsSequence (encode_utf8_all cs)
+unit-sequence cs utf8 whole =
+    let same : cs ≡ chars (encode_utf8_all cs) =
+    chars_from_encodes cs (encode_utf8_all cs) utf8 refl in
+    let own : Sequence cs ∷ [] ≡ units cs =
+    (units_unique cs (Sequence cs ∷ [])).0 (append-nil cs, inl whole) in
+    record {
+      utf8 = utf8;
+      unit = sym (ap units same) ∙ sym own ∙ ap (λ l. Sequence l ∷ []) same;
+      whole = subst (λ l. IsWhole (Sequence l)) same whole;
+    }
+
+units-sequences : (us : List TextUnit) → IsUtf8 (encode_utf8_all (flat_map characters us))
+    → All IsWhole us → All IsSequence (flat_map sequence_of us)
+units-sequences [] utf8 whole = All-nil IsSequence
+units-sequences (Visible c ∷ us) utf8 whole =
+    units-sequences us (utf8-back (c ∷ []) (flat_map characters us) utf8)
+    (All-tail IsWhole (Visible c) us whole)
+units-sequences (Sequence cs ∷ us) utf8 whole =
+    All-cons IsSequence (encode_utf8_all cs) (flat_map sequence_of us)
+    (unit-sequence cs (utf8-front cs (flat_map characters us) utf8)
+    (All-head IsWhole (Sequence cs) us whole))
+    (units-sequences us (utf8-back cs (flat_map characters us) utf8)
+    (All-tail IsWhole (Sequence cs) us whole))
+
+-- the sequences of a text
+pub text-sequences : (text : List ℕ) → IsWholeText text → All IsSequence (sequences text)
+text-sequences text whole =
+    units-sequences (units (chars text))
+    (subst IsUtf8 (sym (ap encode_utf8_all (units-tile (chars text)) ∙ encodes-chars text whole.0))
+    whole.0) whole.1
+
+-- ---- sequences in a row
+
+abbrev pub sequence_units : List (List ℕ) → List TextUnit
+sequence_units xs = map (λ s. Sequence (chars s)) xs
+
+sequence-whole : (s : List ℕ) → IsSequence s → IsWholeText s
+sequence-whole s is = (
+  is.utf8,
+  subst (All IsWhole) (sym is.unit)
+      (All-cons IsWhole (Sequence (chars s)) [] is.whole (All-nil IsWhole)),
+)
+
+pub concat-units : (xs : List (List ℕ)) → All IsSequence xs
+    → units (chars (concat xs)) ≡ sequence_units xs
+concat-units [] are = ap units chars-nil
+concat-units (s ∷ xs) are =
+    let is = All-head IsSequence s xs are in
+    let others = concat-units xs (All-tail IsSequence s xs are) in
+    grind (arith, text_units-append s (concat xs) (sequence-whole s is), is.unit, others)
+
+pub nil-whole : IsWholeText []
+nil-whole = (IsUtf8-nil, subst (λ cs. All IsWhole (units cs)) (sym chars-nil) (All-nil IsWhole))
+
+pub concat-whole : (xs : List (List ℕ)) → All IsSequence xs → IsWholeText (concat xs)
+concat-whole [] are = nil-whole
+concat-whole (s ∷ xs) are =
+    whole_text-append s (concat xs) (sequence-whole s (All-head IsSequence s xs are))
+    (concat-whole xs (All-tail IsSequence s xs are))
+
+pub units-again : (xs : List (List ℕ)) → All IsSequence xs
+    → flat_map sequence_of (sequence_units xs) ≡ xs
+units-again [] are = refl
+units-again (s ∷ xs) are =
+    let own = encodes-chars s (All-head IsSequence s xs are).utf8 in
+    grind (arith, own, units-again xs (All-tail IsSequence s xs are))
+
+pub none-visible : (xs : List (List ℕ)) → flat_map visible_of (sequence_units xs) ≡ []
+none-visible [] = refl
+none-visible (s ∷ xs) = none-visible xs
+
+-- ---- what ends the styles and the link that are open
+
+-- the sequences that end these
+abbrev ends_of : List (List ℕ) → List (List ℕ) → List (List ℕ)
+ends_of styles link =
+    cond (length styles == 0) [] (style_end ∷ []) ++ cond (length link == 0) [] (link_end ∷ [])
+
+-- these, where this says which styles are open
+module _ (styles : List (List ℕ) → List (List ℕ)) where
+  abbrev pub closing_sequences : List (List ℕ) → List (List ℕ)
+  closing_sequences before = ends_of (styles before) (open_link before)
+
+  pub closing-is : (before : List (List ℕ))
+      → closing_by styles before ≡ concat (closing_sequences before)
+  closing-is before = grind (arith, cases_Bool)
+
+style_end-is : IsSequence style_end
+unfolding chars encode
+style_end-is =
+    let body = codes "[0m" in
+    unit-sequence style_end (style_end, (refl, refl))
+    (body, refl, refl, λ k. agree_below_at (λ i. ends (take i body)) (λ i. false) 3 k refl)
+
+link_end-is : IsSequence link_end
+unfolding chars encode
+link_end-is =
+    let body = codes "]8;;\u{1b}\\" in
+    unit-sequence link_end (link_end, (refl, refl))
+    (body, refl, refl, λ k. agree_below_at (λ i. ends (take i body)) (λ i. false) 6 k refl)
+
+pub closing-sequences : (styles : List (List ℕ) → List (List ℕ)) (before : List (List ℕ))
+    → All IsSequence (closing_sequences styles before)
+closing-sequences styles before =
+    let plain = length (styles before) == 0 in
+    let unlinked = length (open_link before) == 0 in
+    All-append IsSequence (cond plain [] (style_end ∷ [])) (cond unlinked [] (link_end ∷ []))
+    (one style_end style_end-is plain) (one link_end link_end-is unlinked)
+  where
+    one : (s : List ℕ) → IsSequence s → (b : Bool) → All IsSequence (cond b [] (s ∷ []))
+    one s is true = All-nil IsSequence
+    one s is false = All-cons IsSequence s [] is (All-nil IsSequence)
+
+-- ---- nothing is open after them
+
+styles-end : (styles link : List (List ℕ)) → fold next_styles styles (ends_of styles link) ≡ []
+styles-end styles link = grind (arith, cases_Bool, nil_from_length, eqb-true, append-nil)
+
+link-end : (styles link : List (List ℕ)) → fold next_link link (ends_of styles link) ≡ []
+link-end styles link = grind (arith, cases_Bool, nil_from_length, eqb-true)
+
+pub styles-ended : (before : List (List ℕ))
+    → open_styles (before ++ closing_sequences open_styles before) ≡ []
+styles-ended before =
+    open_styles-append before (closing_sequences open_styles before)
+    ∙ styles-end (open_styles before) (open_link before)
+
+pub link-ended : (styles : List (List ℕ) → List (List ℕ)) (before : List (List ℕ))
+    → open_link (before ++ closing_sequences styles before) ≡ []
+link-ended styles before =
+    open_link-append before (closing_sequences styles before)
+    ∙ link-end (styles before) (open_link before)
+
+-- ---- what has to hold of a rule that says which styles are open
+
+pub record IsStyleRule (styles : List (List ℕ) → List (List ℕ)) : Type 0 where
+  -- none before any sequence, and after more what depends on those before alone
+  pub none : styles [] ≡ []
+  pub follow : (first second more : List (List ℕ)) → styles first ≡ styles second
+      → styles (first ++ more) ≡ styles (second ++ more)
+  -- the styles and the link are open again once they are set anew, and end as they are ended
+  pub again : (front before : List (List ℕ)) → styles front ≡ []
+      → styles (front ++ (open_link before ++ styles before)) ≡ styles before
+  pub link_again : (front before : List (List ℕ)) → open_link front ≡ []
+      → open_link (front ++ (open_link before ++ styles before)) ≡ open_link before
+  pub ended : (before : List (List ℕ)) → styles (before ++ closing_sequences styles before) ≡ []
+  pub sequences : (before : List (List ℕ)) → All IsSequence before
+      → All IsSequence (styles before)
+
+-- ---- what units show after some sequences
+
+module _ (styles : List (List ℕ) → List (List ℕ)) where
+  -- units show the same where the same is open
+  pub styled-same : (rule : IsStyleRule styles) (us : List TextUnit) (first second : List (List ℕ))
+      → open_link first ≡ open_link second → styles first ≡ styles second
+      → styled_by styles first us ≡ styled_by styles second us
+  styled-same rule [] first second links same = refl
+  styled-same rule (Visible c ∷ us) first second links same =
+      let others = styled-same rule us first second links same in
+      grind (arith, links, same, others)
+  styled-same rule (Sequence cs ∷ us) first second links same =
+      let one = encode_utf8_all cs ∷ [] in
+      styled-same rule us (first ++ one) (second ++ one) (link-follows first second one links)
+      (rule.follow first second one same)
+
+  pub styled-append : (us vs : List TextUnit) (before : List (List ℕ))
+      → styled_by styles before (us ++ vs)
+      ≡ styled_by styles before us
+      ++ styled_by styles (before ++ flat_map sequence_of us) vs
+  styled-append [] vs before = ap (λ b. styled_by styles b vs) (sym (append-nil before))
+  styled-append (Visible c ∷ us) vs before =
+      ap (λ shown. record { character = c; link = open_link before; styles = styles before }
+      ∷ shown) (styled-append us vs before)
+  styled-append (Sequence cs ∷ us) vs before =
+      grind (arith, append_assoc, styled-append us vs (before ++ encode_utf8_all cs ∷ []))
+
+  -- sequences show nothing
+  pub sequences-show : (xs before : List (List ℕ))
+      → styled_by styles before (sequence_units xs) ≡ []
+  sequences-show [] before = refl
+  sequences-show (s ∷ xs) before = sequences-show xs (before ++ encode_utf8_all (chars s) ∷ [])
+
+-- ---- what stands before a text, and the text, between sequences: its units, and what it shows
+
+flat_map-four : {X A : Type 0} (f : X → List A) (xs ys zs ws : List X)
+    → flat_map f (xs ++ ys ++ zs ++ ws)
+    ≡ flat_map f xs ++ flat_map f ys ++ flat_map f zs ++ flat_map f ws
+flat_map-four f xs ys zs ws = simp flat_map-append
+
+module _ (front text : List ℕ) (starts ends : List (List ℕ)) (front_whole : IsWholeText front)
+    (text_whole : IsWholeText text) (are_starts : All IsSequence starts)
+    (are_ends : All IsSequence ends) where
+  parts-units : units (chars (front ++ concat starts ++ text ++ concat ends))
+      ≡ units (chars front) ++ sequence_units starts ++ units (chars text) ++ sequence_units ends
+  parts-units =
+      let start = concat starts in
+      let started = concat-whole starts are_starts in
+      let first = whole_text-append front start front_whole started in
+      let second = whole_text-append (front ++ start) text first text_whole in
+      text_units-append (front ++ start ++ text) (concat ends) second
+      ∙ ap (λ us. us ++ units (chars (concat ends))) (text_units-append (front ++ start) text first
+      ∙ ap (λ us. us ++ units (chars text)) (text_units-append front start front_whole
+      ∙ ap (λ us. units (chars front) ++ us) (concat-units starts are_starts)))
+      ∙ ap (λ us. units (chars front) ++ sequence_units starts ++ units (chars text) ++ us)
+      (concat-units ends are_ends)
+
+  pub parts-sequences : sequences (front ++ concat starts ++ text ++ concat ends)
+      ≡ sequences front ++ starts ++ sequences text ++ ends
+  parts-sequences = grind (arith, parts-units, flat_map-four, units-again)
+
+  pub parts-visible : visible (chars (front ++ concat starts ++ text ++ concat ends))
+      ≡ visible (chars (front ++ text))
+  parts-visible =
+      grind (
+        arith,
+        parts-units,
+        flat_map-four,
+        none-visible,
+        append-nil,
+        flat_map-append,
+        text_units-append,
+      )
+
+  pub parts-styled : (styles : List (List ℕ) → List (List ℕ)) → IsStyleRule styles
+      → (before : List (List ℕ)) → open_link (sequences front ++ starts) ≡ open_link before
+      → styles (sequences front ++ starts) ≡ styles before
+      → styled_text_by styles [] (front ++ concat starts ++ text ++ concat ends)
+      ≡ styled_text_by styles [] front ++ styled_text_by styles before text
+  parts-styled styles rule before links same =
+      grind (
+        arith,
+        parts-units,
+        styled-append styles,
+        sequences-show styles,
+        append-nil,
+        flat_map-append,
+        units-again,
+        styled-same styles rule,
+      )

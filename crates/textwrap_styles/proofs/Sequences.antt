@@ -1,0 +1,281 @@
+-- Escape sequences, what they do, and the reader of them.
+use Rattle.textwrap_text.proofs.Common.{chars_from_encodes, take-append-drop, chars_past_char, Bool}
+use Rattle.textwrap_text.proofs.Common.{encode_utf8_all, IsCharBoundary, length-append, IsUtf8-drop}
+use Rattle.textwrap_text.proofs.Common.{append_assoc, chars-append, slice_range, starts_with, arith}
+use Rattle.textwrap_text.proofs.Common.{append-nil, cases_Bool, and_parts, drop-drop, ends_with, []}
+use Rattle.textwrap_text.proofs.Common.{flat_map, list_all, take_all, taken_in, drop_at, next_of, ℕ}
+use Rattle.textwrap_text.proofs.Common.{take_at, IsUtf8, Option, length, nat_eq, codes, false, List}
+use Rattle.textwrap_text.proofs.Common.{subst, None, Some, cond, drop, refl, take, true, ◌&&◌, ◌++◌}
+use Rattle.textwrap_text.proofs.Common.{◌==◌, ◌||◌, Bor, eqb, suc, sym, ◌+◌, ◌-◌, ◌∙◌, ◌∷◌, ◌≡◌, ap}
+use Rattle.textwrap_text.proofs.Common.{◌≢◌}
+use Rattle.textwrap_styles.proofs.Common.{starts_with-rest, style_parameters, stripped_suffix}
+use Rattle.textwrap_styles.proofs.Common.{NoCharPasses, encode_ascii, MatchOption, encode_utf8}
+use Rattle.textwrap_styles.proofs.Common.{is_in_range, link_fields, sequence_of, read-start, State}
+use Rattle.textwrap_styles.proofs.Common.{option_or, read-next, sequences, NonePass, is_reset}
+use Rattle.textwrap_styles.proofs.Common.{is_style, list_any, read-all, is_link, IsRead, units}
+use Rattle.textwrap_text.proofs.Lists.Parts.{ends_with-after, ends_with-other, ends_with-true}
+use Rattle.std.specs.Str.Pattern.{FindsTextSuffix, StripsSuffix}
+use Rattle.std.specs.Prelude.{chars}
+use Rattle.textwrap_text.proofs.Units.Reading.{read-ahead, taken-step, read-none}
+use Rattle.textwrap_text.specs.declared.escapes.State.TheVariants.{Escape, Text}
+use Rattle.textwrap_text.proofs.Texts.{ascii_seam, AsciiSeam, cut_text, IsCut}
+use Rattle.std.proofs.Math.Seq.{drop-append-add}
+use Rattle.std.proofs.lemmas.Str.{IsCharBoundary-from_rest}
+use Rattle.textwrap_text.specs.Units.{escape_len}
+use Rattle.textwrap_words.proofs.Word.Breaking.{units_past-skip}
+
+-- ---- a sequence that sets a style is no link, and what takes all styles back sets a style
+
+pub reset-is_style : (s : List ℕ) → is_reset s ≡ true → is_style s ≡ true
+reset-is_style s is =
+    (and_parts (is_style s) (list_all (λ c. (c == 0x30) || (c == 0x3B)) (style_parameters s)) is).0
+
+pub style-no_link : (s : List ℕ) → is_style s ≡ true → is_link s ≡ false
+style-no_link s is =
+    let starts = starts_with nat_eq s (codes "\u{1b}[") in
+    let ended = ends_with nat_eq s (codes "m") in
+    let set = list_all (is_in_range 0x30 0x3B) (style_parameters s) in
+    let front = (and_parts starts ended (and_parts (starts && ended) set is).0).0 in
+    ap is_link (starts_with-rest (codes "\u{1b}[") s front)
+
+pub link-no_style : (s : List ℕ) → is_link s ≡ true → is_style s ≡ false
+link-no_style s is = grind (arith, cases_Bool, style-no_link)
+
+-- ---- styles
+
+abbrev style_start : List ℕ
+style_start = codes "\u{1b}["
+
+pub not_style : (rest : List ℕ) → ((before : List ℕ) → rest ≢ before ++ codes "m")
+    → is_style (codes "\u{1b}[" ++ rest) ≡ false
+not_style [] lacks = refl
+not_style (c ∷ cs) lacks =
+    grind (arith, ends_with-after style_start (c ∷ cs) (codes "m") (omega arith) lacks)
+
+pub style_parameters-is : (parameters : List ℕ)
+    → style_parameters (codes "\u{1b}[" ++ (parameters ++ codes "m")) ≡ parameters
+style_parameters-is parameters = grind (arith, length-append, take_at)
+
+pub style-is : (parameters : List ℕ) → is_style (codes "\u{1b}[" ++ (parameters ++ codes "m"))
+    ≡ list_all (is_in_range 0x30 0x3B) parameters
+style-is parameters =
+    let whole = style_start ++ (parameters ++ codes "m") in
+    let ended = ends_with-true (codes "m") whole (style_start ++ parameters) refl in
+    grind (arith, style_parameters-is, ended)
+
+-- ---- links
+
+abbrev link_start : List ℕ
+link_start = codes "\u{1b}]8;"
+
+-- BEL, and the other end of a command
+abbrev bell : List ℕ
+bell = codes "\u{7}"
+
+abbrev terminator : List ℕ
+terminator = codes "\u{1b}\\"
+
+abbrev has_semicolon : List ℕ → Bool
+has_semicolon fields = list_any (λ c. c == 0x3B) fields
+
+not_link : (rest : List ℕ) → ((before : List ℕ) → rest ≢ before ++ bell)
+    → ((before : List ℕ) → rest ≢ before ++ terminator) → is_link (link_start ++ rest) ≡ false
+not_link [] no_bell none = refl
+not_link (c ∷ []) no_bell none =
+    grind (arith, ends_with-after link_start (c ∷ []) bell (omega arith) no_bell)
+not_link (c ∷ d ∷ rest) no_bell none =
+    let whole = c ∷ d ∷ rest in
+    grind (
+      arith,
+      ends_with-after link_start whole bell (omega arith) no_bell,
+      ends_with-after link_start whole terminator (omega arith) none,
+    )
+
+-- these are the fields of a link's command, and a semicolon makes it a link
+pub record IsAround (sequence fields : List ℕ) : Type 0 where
+  pub are : link_fields sequence ≡ fields
+  pub is : is_link sequence ≡ list_any (λ c. c == 0x3B) fields
+
+-- so it is before either end, where `rings` says that this is BEL
+around : (fields ending : List ℕ) (rings : Bool)
+    → ends_with nat_eq (link_start ++ (fields ++ ending)) bell ≡ rings
+    → (rings || ends_with nat_eq (link_start ++ (fields ++ ending)) terminator) ≡ true
+    → length ending ≡ cond rings 1 2 → IsAround (link_start ++ (fields ++ ending)) fields
+around fields ending rings rung ended size =
+    let whole = link_start ++ (fields ++ ending) in
+    let len : length whole - 4 - cond rings 1 2 ≡ length fields =
+    omega (arith, length-append fields ending, size) in
+    let are : link_fields whole ≡ fields =
+    ap (λ b. take (length whole - 4 - cond b 1 2) (fields ++ ending)) rung
+    ∙ ap (λ k. take k (fields ++ ending)) len ∙ take_at fields ending (length fields) refl in
+    record {
+      are = are;
+      is = grind (arith, rung, ended, are);
+    }
+
+around-bell : (fields : List ℕ) → IsAround (link_start ++ (fields ++ bell)) fields
+around-bell fields =
+    around fields bell true
+    (ends_with-true bell (link_start ++ (fields ++ bell)) (link_start ++ fields) refl) refl refl
+
+around-terminator : (fields : List ℕ) → IsAround (link_start ++ (fields ++ terminator)) fields
+around-terminator fields =
+    let whole = link_start ++ (fields ++ terminator) in
+    let silent : ends_with nat_eq whole bell ≡ false =
+    ends_with-other whole (link_start ++ (fields ++ codes "\u{1b}")) 92 7 (λ e. cc)
+    (ap (λ l. link_start ++ l) (sym (append_assoc fields (codes "\u{1b}") (codes "\\")))) in
+    around fields terminator false silent
+    (ends_with-true terminator whole (link_start ++ fields) refl) refl
+
+-- the fields stand before whichever end is found
+pub link-cases : (sequence rest : List ℕ) (first second : Option (Bor (List ℕ)))
+    → sequence ≡ codes "\u{1b}]8;" ++ rest
+    → MatchOption first ((before : List ℕ) → rest ≢ before ++ codes "\u{7}")
+    (λ fields. StripsSuffix (FindsTextSuffix (codes "\u{7}")) rest fields.now)
+    → MatchOption second ((before : List ℕ) → rest ≢ before ++ codes "\u{1b}\\")
+    (λ fields. StripsSuffix (FindsTextSuffix (codes "\u{1b}\\")) rest fields.now)
+    → MatchOption (option_or first second) (is_link sequence ≡ false)
+    (λ fields. IsAround sequence fields.now)
+link-cases sequence rest (Some fields) second whole strips _ =
+    let is = whole ∙ ap (λ l. link_start ++ l) (stripped_suffix bell rest fields.now strips) in
+    subst (λ l. IsAround l fields.now) (sym is) (around-bell fields.now)
+link-cases sequence rest None (Some fields) whole none strips =
+    let is = whole
+    ∙ ap (λ l. link_start ++ l) (stripped_suffix terminator rest fields.now strips) in
+    subst (λ l. IsAround l fields.now) (sym is) (around-terminator fields.now)
+link-cases sequence rest None None whole no_bell none =
+    ap is_link whole ∙ not_link rest no_bell none
+
+-- ---- the reader of an escape sequence, after its ESC: where it stands, and what it has still
+-- to take
+
+-- the bytes that a sequence takes of the characters to come
+abbrev pub tail_in : State → List ℕ → ℕ
+tail_in state cs = length (encode_utf8_all (take (taken_in state cs) cs))
+
+-- of what follows its ESC
+abbrev pub tail_len : List ℕ → ℕ
+tail_len text = tail_in Escape (chars text)
+
+pub record IsReadTo (text : List ℕ) (place : ℕ) (rest : List ℕ) (state : State) : Type 0 where
+  pub read : IsRead text place rest
+  pub tail : tail_len text ≡ place + tail_in state (chars rest)
+
+module _ (text : List ℕ) where
+  pub read_to-start : IsUtf8 text → IsReadTo text 0 text Escape
+  read_to-start utf8 = record { read = read-start text utf8; tail = omega arith }
+
+  tail-step : (state : State) (c : ℕ) (cs : List ℕ) → state ≢ Text
+      → tail_in state (c ∷ cs) ≡ length (encode_utf8 c) + tail_in (next_of state c) cs
+  tail-step state c cs inside =
+      rw (taken-step state c cs inside) (length-append (encode_utf8 c) (encode_utf8_all (take _ cs)))
+
+  module _ (place : ℕ) (rest : List ℕ) (state : State) (h : IsReadTo text place rest state) where
+    pub read_to-step : (end c : ℕ) (after : List ℕ) → state ≢ Text → rest ≡ encode_utf8 c ++ after
+        → end ≡ place + length (encode_utf8 c) → IsReadTo text end after (next_of state c)
+    read_to-step end c after inside is past = record {
+      read = read-next h.read c after is end past;
+      tail = omega (
+        arith,
+        h.tail,
+        past,
+        ap (tail_in state) (read-ahead h.read c after is),
+        tail-step state c (chars after) inside,
+      );
+    }
+
+    pub read_to-end : length rest ≡ 0 → length text ≡ tail_len text
+    read_to-end none =
+        let nothing = take_all (taken_in state []) [] (omega arith) in
+        omega (
+          arith,
+          h.tail,
+          read-all h.read none,
+          ap (tail_in state) (read-none h.read none),
+          ap (λ cs. length (encode_utf8_all cs)) nothing,
+        )
+
+-- ---- among characters
+
+abbrev sequences_in : List ℕ → List (List ℕ)
+sequences_in cs = flat_map sequence_of (units cs)
+
+-- no sequence begins before an ESC
+sequences_in-plain : (front rest : List ℕ) → NonePass (λ c. eqb c 27) front
+    → sequences_in (front ++ rest) ≡ sequences_in rest
+sequences_in-plain [] rest plain = refl
+sequences_in-plain (c ∷ front) rest plain =
+    rw plain.0 (sequences_in-plain front rest plain.1)
+
+-- at an ESC one begins, and the next ones are those of what it leaves
+sequences_in-escape : (cs : List ℕ) → sequences_in (27 ∷ cs)
+    ≡ encode_utf8_all (27 ∷ take (escape_len cs) cs) ∷ sequences_in (drop (escape_len cs) cs)
+sequences_in-escape cs =
+    ap (λ us. encode_utf8_all (27 ∷ take (escape_len cs) cs) ∷ flat_map sequence_of us)
+    (units_past-skip (escape_len cs) cs)
+
+-- ---- in a text
+
+pub no_sequences : (text : List ℕ) → IsUtf8 text → NoCharPasses (λ c. eqb c 27) text
+    → sequences text ≡ []
+no_sequences text utf8 plain =
+    let are : plain.0 ≡ chars text = chars_from_encodes plain.0 text utf8 plain.1 in
+    ap sequences_in (sym are ∙ sym (append-nil plain.0))
+    ∙ sequences_in-plain plain.0 [] plain.2
+
+-- where the sequence of an ESC ends, by what stands before that and after it
+module _ (text before after : List ℕ) (utf8 : IsUtf8 text)
+    (whole : text ≡ before ++ 27 ∷ after) where
+  abbrev pub end_of : ℕ
+  end_of = length before + 1 + tail_len after
+
+  seam : AsciiSeam before after 27
+  seam = ascii_seam before after 27 (subst IsUtf8 whole utf8) (omega arith)
+
+  abbrev taken : List ℕ
+  taken = take (escape_len (chars after)) (chars after)
+
+  abbrev rest : List ℕ
+  rest = drop (escape_len (chars after)) (chars after)
+
+  cut : IsCut after taken rest
+  cut = cut_text after taken rest seam.back
+      (sym (take-append-drop (escape_len (chars after)) (chars after)))
+
+  past : drop (length before + 1) text ≡ after
+  past = ap (drop (length before + 1)) whole
+      ∙ drop-append-add before (27 ∷ after) 1
+
+  pub end-boundary : IsCharBoundary text end_of
+  end-boundary = IsCharBoundary-from_rest text (length before + 1) (tail_len after)
+      (omega (arith, ap length whole, length-append before (27 ∷ after)))
+      (subst (λ l. IsCharBoundary l (tail_len after)) (sym past) cut.boundary)
+
+  left : drop end_of text ≡ encode_utf8_all rest
+  left = sym (drop-drop (tail_len after) (length before + 1) text) ∙ ap (drop (tail_len after)) past
+      ∙ cut.back
+
+  sequence : slice_range text (length before) end_of ≡ encode_utf8_all (27 ∷ taken)
+  sequence =
+      let from : drop (length before) text ≡ 27 ∷ after =
+      ap (drop (length before)) whole ∙ drop_at before (27 ∷ after) (length before) refl in
+      let len : end_of - length before ≡ suc (tail_len after) = omega arith in
+      ap (λ n. take n (drop (length before) text)) len ∙ ap (take (suc (tail_len after))) from
+      ∙ ap (λ l. 27 ∷ l) cut.front
+      ∙ ap (λ l. l ++ encode_utf8_all taken) (sym (encode_ascii 27 (omega arith)))
+
+  characters : chars text ≡ chars before ++ 27 ∷ chars after
+  characters = ap chars whole ∙ chars-append before (27 ∷ after) seam.front
+      ∙ ap (λ cs. chars before ++ cs) (chars_past_char (27 ∷ after) after 27 seam.from
+      (ap (λ l. l ++ after) (sym (encode_ascii 27 (omega arith)))))
+
+  -- the first sequence of the text, and those of what follows it
+  pub sequences-next : NoCharPasses (λ c. eqb c 27) before
+      → sequences text
+      ≡ slice_range text (length before) end_of ∷ sequences (drop end_of text)
+  sequences-next plain =
+      let are = chars_from_encodes plain.0 before seam.front plain.1 in
+      let later = chars_from_encodes rest (drop end_of text)
+      (IsUtf8-drop text end_of utf8 end-boundary) (sym left) in
+      let none = sequences_in-plain plain.0 (27 ∷ chars after) plain.2 in
+      grind (arith, characters, sequences_in-escape, sequence, are, later, none)

@@ -1,0 +1,24 @@
+use Rattle.textwrap_styles.proofs.attributes.OpenAttributes.push_opening.Goals as goal
+use Rattle.textwrap_text.proofs.Common.{append-nil, append_assoc, arith, codes, get_or, length, map}
+use Rattle.textwrap_text.proofs.Common.{map-append, take}
+use Rattle.textwrap_text.proofs.Common.{take_more, Bor, List, ◌+◌, ◌++◌, ◌<◌, ◌≡◌, ℕ}
+use Rattle.textwrap_styles.proofs.Common.{concat, concat-append}
+use Rattle.textwrap_styles.proofs.LastOfEach.{texts}
+use Rattle.textwrap_styles.specs.Attributes.{written}
+
+-- the settings so far, one after the other, and one more
+written-more : (ss : List (Bor (List ℕ))) (n : ℕ) (d : Bor (List ℕ))
+    (front old begun filled new : List ℕ) → n < length ss
+    → old ≡ front ++ concat (map written (texts (take n ss))) → begun ≡ old ++ codes "\u{1b}["
+    → filled ≡ begun ++ (get_or ss n d).now → new ≡ filled ++ codes "m"
+    → new ≡ front ++ concat (map written (texts (take (n + 1) ss)))
+written-more ss n d front old begun filled new within is starts sets ends =
+    let next = take_more ss n d within in
+    let more : new ≡ old ++ written (get_or ss n d).now = grind (arith, append_assoc) in
+    grind (arith, append-nil, append_assoc, map-append, concat-append, next, more)
+
+pub loop-setting-preserved : goal.loop-setting-preserved
+loop-setting-preserved g c =
+    written-more c.deref-setting-items.result.now c.loop-setting.setting-index _ _ _ _ _ _
+    c.loop-setting-test.true c.loop-setting.invariant c.in_ok-push_str-2.ensures.bytes
+    c.in_ok-push_str-3.ensures.bytes c.in_ok-push_str-4.ensures.bytes

@@ -1,0 +1,25 @@
+use Rattle.textwrap_styles.proofs.attributes.OpenAttributes.read_sequence.Goals as goal
+use Rattle.textwrap_text.proofs.Common.{append-nil, arith, cases_Bool, flat_map, flat_map-append}
+use Rattle.textwrap_text.proofs.Common.{sym, subst}
+use Rattle.textwrap_text.proofs.Common.{◌++◌, ◌∷◌, ◌≡◌, []}
+use Rattle.textwrap_styles.proofs.OpenSequences.{open_link-push}
+use Rattle.textwrap_styles.proofs.Sequences.{style-no_link}
+use Rattle.textwrap_styles.specs.Attributes.{settings_of}
+use Rattle.textwrap_styles.specs.OpenAttributes.{AreOpen}
+use Rattle.textwrap_styles.specs.Settings.{open_settings, settings}
+
+pub returns-in_ok-read_parameters : goal.returns-in_ok-read_parameters
+returns-in_ok-read_parameters g c = λ before state.
+    let s = c.args.sequence.now in
+    let style = sym c.in-Some.ensures.style in
+    let plain = style-no_link s style in
+    let own = c.in-Some.ensures.parameters in
+    let all : flat_map settings_of before ++ settings c.in-Some.parameters.now
+    ≡ flat_map settings_of (before ++ s ∷ []) =
+    grind (arith, cases_Bool, append-nil, flat_map-append, style, own) in
+    record {
+      settings = subst (λ ss. AreOpen (open_settings ss) c.read_parameters.new.self) all
+          (c.in_ok-read_parameters.ensures.settings (flat_map settings_of before) state.settings);
+      link = let push = open_link-push before s in
+          grind (arith, cases_Bool, push, plain, c.read_parameters.ensures.link, state.link);
+    }

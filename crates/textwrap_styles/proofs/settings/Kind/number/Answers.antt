@@ -1,0 +1,15 @@
+use Rattle.textwrap_styles.proofs.settings.Kind.number.Goals as goal
+use Rattle.textwrap_text.proofs.Common.{refl, ◌≡◌}
+use Rattle.textwrap_styles.specs.Settings.{number}
+use Rattle.textwrap_styles.specs.declared.settings.Kind.{Kind}
+use Rattle.textwrap_styles.specs.declared.settings.Kind.TheVariants.{Reset}
+use Rattle.textwrap_styles.specs.contracts.settings.Kind.{the_type}
+use denote.Enum.Declared.{tag_of}
+
+tag : (k : Kind) → tag_of the_type k ≡ number k
+unfolding number
+tag Reset = refl
+tag _ = refl
+
+pub returns-clause-place : goal.returns-clause-place
+returns-clause-place c = tag c.args.self

@@ -1,0 +1,53 @@
+use Rattle.textwrap_styles.proofs.settings.code.Goals as goal
+use Rattle.textwrap_text.proofs.Common.{arith, cases_Bool, get_or, length, nat_tests, take, true}
+use Rattle.textwrap_text.proofs.Common.{◌<◌, ◌≡◌, ℕ, ◌≤◌, ◌-◌, ◌∙◌, ap, List}
+use Rattle.std.proofs.lemmas.Int.Digits.{digits_value_more}
+use Rattle.std.proofs.lemmas.List.{get_or-take, length-take-le}
+use Rattle.std.proofs.lemmas.List.Sums.{prefix_len-le-length, prefix_len_passes}
+use Rattle.std.specs.Char.{digit_value, is_ascii_digit}
+use Rattle.std.specs.List.{prefix_len}
+
+-- an ASCII digit and its value
+record IsDigit (c : ℕ) : Type 0 where
+  least : 48 ≤ c
+  most : c ≤ 57
+  value : digit_value c ≡ c - 48
+
+digit : (c : ℕ) → is_ascii_digit c ≡ true → IsDigit c
+digit c is =
+    let low : 48 ≤ c = grind (arith, cases_Bool, nat_tests) in
+    let high : c ≤ 57 = grind (arith, cases_Bool, nat_tests) in
+    record { least = low; most = high; value = grind (arith, cases_Bool, nat_tests) }
+
+-- one of the digits that these begin with
+digit-at : (bs : List ℕ) (n k : ℕ) → n ≡ prefix_len is_ascii_digit bs → k < length (take n bs)
+    → IsDigit (get_or (take n bs) k 0)
+digit-at bs n k is within =
+    let most = prefix_len-le-length is_ascii_digit bs in
+    let len = length-take-le n bs (omega (arith, is, most)) in
+    let less : k < n = omega (arith, within, len) in
+    digit (get_or (take n bs) k 0)
+    (ap is_ascii_digit (get_or-take n bs k 0 less)
+    ∙ prefix_len_passes is_ascii_digit bs k 0 (omega (arith, less, is)))
+
+pub overflow_sub-byte : goal.overflow_sub-byte
+overflow_sub-byte c =
+    (digit-at c.args.parameters.now c.digits_len.result c.loop-byte.byte-index c.digits_len.ensures
+    c.loop-byte-test.true).least
+
+pub loop-byte-preserved : goal.loop-byte-preserved
+loop-byte-preserved c =
+    let bs = take c.digits_len.result c.args.parameters.now in
+    let is = digit-at c.args.parameters.now c.digits_len.result c.loop-byte.byte-index
+    c.digits_len.ensures c.loop-byte-test.true in
+    let more = digits_value_more 10 bs c.loop-byte.byte-index c.loop-byte-test.true in
+    omega (
+      arith,
+      more,
+      is.value,
+      is.least,
+      is.most,
+      c.loop-byte.invariant,
+      c.saturating_mul.ensures,
+      c.saturating_add-code.ensures,
+    )

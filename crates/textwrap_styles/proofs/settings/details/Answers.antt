@@ -1,0 +1,8 @@
+use Rattle.textwrap_styles.proofs.settings.details.Goals as goal
+use Rattle.textwrap_text.proofs.Common.{arith}
+use Rattle.std.proofs.lemmas.List.Sums.{prefix_len-le-length}
+use Rattle.std.specs.Char.{is_ascii_digit}
+
+pub split_at-requires : goal.split_at-requires
+split_at-requires c =
+    omega (arith, c.digits_len.ensures, prefix_len-le-length is_ascii_digit c.args.parameters.now)

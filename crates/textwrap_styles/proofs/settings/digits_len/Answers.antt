@@ -1,0 +1,37 @@
+use Rattle.textwrap_styles.proofs.settings.digits_len.Goals as goal
+use Rattle.textwrap_text.proofs.Common.{arith, cases_Bool}
+use Rattle.std.proofs.lemmas.List.{at_drop_all, at_drop_more}
+use Rattle.std.specs.Char.{is_ascii_digit}
+use Rattle.std.specs.List.{prefix_len}
+
+pub returns-then-not-is_ascii_digit : goal.returns-then-not-is_ascii_digit
+returns-then-not-is_ascii_digit c =
+    let next = at_drop_more (prefix_len is_ascii_digit) c.args.parameters.now c.loop-at.at 0
+    c.loop-at-test.true in
+    grind (
+      arith,
+      cases_Bool,
+      next,
+      c.loop-at.invariant,
+      c.is_ascii_digit.ensures.value,
+      c.if-not-is_ascii_digit.true,
+    )
+
+pub loop-at-preserved : goal.loop-at-preserved
+loop-at-preserved c =
+    let next = at_drop_more (prefix_len is_ascii_digit) c.args.parameters.now c.loop-at.at 0
+    c.loop-at-test.true in
+    grind (
+      arith,
+      cases_Bool,
+      next,
+      c.loop-at.invariant,
+      c.is_ascii_digit.ensures.value,
+      c.if-not-is_ascii_digit.false,
+    )
+
+pub returns : goal.returns
+returns c =
+    let all = at_drop_all (prefix_len is_ascii_digit) c.args.parameters.now c.loop-at.at
+    c.loop-at-test.false in
+    omega (arith, all, c.loop-at.invariant, c.loop-at.auto.at-end, c.loop-at-test.false)

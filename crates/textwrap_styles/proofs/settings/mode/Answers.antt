@@ -1,0 +1,8 @@
+use Rattle.textwrap_styles.proofs.settings.mode.Goals as goal
+use Rattle.textwrap_text.proofs.Common.{ap, drop, nil_from_length, sym}
+use Rattle.textwrap_styles.specs.Settings.{code}
+
+pub returns-in-None : goal.returns-in-None
+unfolding code
+returns-in-None c =
+    ap (λ l. code (drop 1 l)) (sym (nil_from_length c.args.details.now c.in-None.ensures.cases))

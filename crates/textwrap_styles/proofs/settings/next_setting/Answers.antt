@@ -1,0 +1,40 @@
+use Rattle.textwrap_styles.proofs.settings.next_setting.Goals as goal
+use Rattle.textwrap_text.proofs.Common.{ap, arith, drop, length, sym, take, take_all, ℕ, List}
+use Rattle.textwrap_text.proofs.Common.{◌+◌, ◌-◌, ◌∙◌, ◌≡◌, ◌∷◌, ◌<◌, ◌≤◌, []}
+use Rattle.textwrap_styles.proofs.Common.{is_in_range}
+use Rattle.textwrap_styles.proofs.SettingTexts.{drop-all, first-take, settings-next, settings-one}
+use Rattle.textwrap_styles.specs.Settings.{first_setting, settings}
+
+-- the first setting, where it ends at a place, and those behind the next one
+next : (s first rest : List ℕ) (n : ℕ) → n ≡ length (first_setting s) → n < length s
+    → first ≡ take (n - 0) s → rest ≡ drop (n + 1) s → settings s ≡ first ∷ settings rest
+next s first rest n is more front back =
+    let own : first ≡ first_setting s =
+    front ∙ ap (λ k. take k s) (omega (arith, is)) ∙ first-take s in
+    settings-next s (omega (arith, is, more))
+    ∙ ap (λ k. first_setting s ∷ settings (drop (k + 1) s)) (sym is)
+    ∙ ap (λ f. f ∷ settings (drop (n + 1) s)) (sym own) ∙ ap (λ r. first ∷ settings r) (sym back)
+
+-- where it takes all
+only : (s : List ℕ) (n : ℕ) → n ≡ length (first_setting s) → length s ≤ n → settings s ≡ s ∷ []
+only s n is all =
+    let own : first_setting s ≡ s =
+    sym (first-take s) ∙ take_all (length (first_setting s)) s (omega (arith, is, all)) in
+    settings-one s (omega (arith, is, all)) ∙ ap (λ f. f ∷ []) own
+
+pub returns-then-len-parameters-clause-settings : goal.returns-then-len-parameters-clause-settings
+returns-then-len-parameters-clause-settings c =
+    next c.args.parameters.now c.range.result.now c.range_from.result.now c.first_len-len.result
+    (c.first_len-len.ensures ∙ ap (λ s. length (first_setting s)) c.as_bytes.ensures.value)
+    c.if-len-parameters.true c.range.ensures.value c.range_from.ensures.value
+
+pub returns-then-len-parameters-clause-rest : goal.returns-then-len-parameters-clause-rest
+returns-then-len-parameters-clause-rest c =
+    rw c.range_from.ensures.value
+    (drop-all (is_in_range 48 59) (c.first_len-len.result + 1) c.args.parameters.now c.requires)
+
+pub returns-else-len-parameters-clause-settings : goal.returns-else-len-parameters-clause-settings
+returns-else-len-parameters-clause-settings c =
+    only c.args.parameters.now c.first_len-len.result
+    (c.first_len-len.ensures ∙ ap (λ s. length (first_setting s)) c.as_bytes.ensures.value)
+    c.if-len-parameters.false

@@ -1,0 +1,57 @@
+use Rattle.textwrap_styles.proofs.styles.link_target.Goals as goal
+use Rattle.textwrap_text.proofs.Common.{nat_tests, length, nat_lt, arith, codes, false, subst, true}
+use Rattle.textwrap_text.proofs.Common.{◌==◌, sym, ◌∙◌, ◌≡◌, ap}
+use Rattle.textwrap_styles.proofs.Common.{split_once_first, position_or_len, stripped_prefix}
+use Rattle.textwrap_styles.proofs.Common.{any-position, MatchOption, after_first, is_link}
+use Rattle.textwrap_styles.proofs.Sequences.{link-cases, IsAround}
+use Rattle.textwrap_styles.proofs.styles.link_target.Goals.{After-or}
+
+-- what is found of either end says whether it is a link
+cases : (c : After-or) → MatchOption c.or.result (is_link c.args.sequence.now ≡ false)
+    (λ fields. IsAround c.args.sequence.now fields.now)
+cases c =
+    let s = c.args.sequence.now in
+    let rest = c.in_ok-fields.fields.now in
+    subst (λ r. MatchOption r (is_link s ≡ false) (λ fields. IsAround s fields.now))
+    (sym c.or.ensures)
+    (link-cases s rest c.strip_suffix.result c.strip_suffix-2.result
+    (stripped_prefix (codes "\u{1b}]8;") s rest c.in_ok-fields.ensures.cases)
+    c.strip_suffix.ensures.cases c.strip_suffix-2.ensures.cases)
+
+pub returns-in_err-fields-2-clause-link : goal.returns-in_err-fields-2-clause-link
+returns-in_err-fields-2-clause-link c =
+    let none = rw c.in_err-fields-2.was at
+    (cases (goal.at.returns-in_err-fields-2-clause-link c).After-or) in
+    rw c.from_residual-in_err-fields-2.ensures (sym none)
+
+pub returns-in_err-target-clause-link : goal.returns-in_err-target-clause-link
+returns-in_err-target-clause-link c =
+    let fields = c.in_ok-fields-2.fields.now in
+    let whole = rw c.in_ok-fields-2.was at
+    (cases (goal.at.returns-in_err-target-clause-link c).After-or) in
+    let found = split_once_first 59 fields c.split_once.result c.split_once.ensures.cases
+    (omega arith) in
+    let none = rw c.in_err-target.was at found in
+    let at = position_or_len (λ b. b == 59) fields in
+    let past : nat_lt at (length fields) ≡ false = grind (arith, nat_tests) in
+    rw c.from_residual-in_err-target.ensures
+    (sym (whole.is ∙ any-position (λ b. b == 59) fields ∙ past))
+
+pub returns-clause-link : goal.returns-clause-link
+returns-clause-link c =
+    let fields = c.in_ok-fields-2.fields.now in
+    let whole = rw c.in_ok-fields-2.was at (cases (goal.at.returns-clause-link c).After-or) in
+    let found = split_once_first 59 fields c.split_once.result c.split_once.ensures.cases
+    (omega arith) in
+    let there = rw c.in_ok-target.was at found in
+    let at = position_or_len (λ b. b == 59) fields in
+    let before : nat_lt at (length fields) ≡ true = grind (arith, nat_tests, there.0) in
+    sym (whole.is ∙ any-position (λ b. b == 59) fields ∙ before)
+
+pub returns-clause-target : goal.returns-clause-target
+returns-clause-target c =
+    let whole = rw c.in_ok-fields-2.was at (cases (goal.at.returns-clause-target c).After-or) in
+    let found = split_once_first 59 c.in_ok-fields-2.fields.now c.split_once.result
+    c.split_once.ensures.cases (omega arith) in
+    let there = rw c.in_ok-target.was at found in
+    there.2 ∙ ap (after_first (λ b. b == 59)) (sym whole.are)

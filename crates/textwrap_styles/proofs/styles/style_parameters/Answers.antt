@@ -1,0 +1,37 @@
+use Rattle.textwrap_styles.proofs.styles.style_parameters.Goals as goal
+use Rattle.textwrap_text.proofs.Common.{codes, ◌++◌, sym, ◌∙◌, ◌≡◌, ap}
+use Rattle.textwrap_styles.proofs.Common.{stripped_prefix, stripped_suffix, is_in_range, is_style}
+use Rattle.textwrap_styles.proofs.Common.{list_all}
+use Rattle.textwrap_styles.proofs.Sequences.{not_style, style-is}
+use Rattle.textwrap_styles.proofs.styles.style_parameters.Goals.{In_ok-parameters}
+
+pub returns-in_err-parameters-clause-style : goal.returns-in_err-parameters-clause-style
+returns-in_err-parameters-clause-style c =
+    let rest = c.in_ok-strip_prefix.field-0.now in
+    let whole = stripped_prefix (codes "\u{1b}[") c.args.sequence.now rest
+    c.in_ok-strip_prefix.ensures.cases in
+    rw c.from_residual-in_err-parameters.ensures
+    (sym (ap is_style whole ∙ not_style rest c.in_err-parameters.ensures.cases))
+
+style : (c : In_ok-parameters)
+    → list_all (is_in_range 0x30 0x3B) c.in_ok-parameters.parameters.now
+    ≡ is_style c.args.sequence.now
+style c =
+    let rest = c.in_ok-strip_prefix.field-0.now in
+    let parameters = c.in_ok-parameters.parameters.now in
+    let end = stripped_suffix (codes "m") rest parameters c.in_ok-parameters.ensures.cases in
+    sym (ap is_style (stripped_prefix (codes "\u{1b}[") c.args.sequence.now rest
+    c.in_ok-strip_prefix.ensures.cases ∙ ap (λ l. codes "\u{1b}[" ++ l) end)
+    ∙ style-is parameters)
+
+pub returns-then-are_style_parameters-clause-style :
+    goal.returns-then-are_style_parameters-clause-style
+returns-then-are_style_parameters-clause-style c =
+    let at = goal.at.returns-then-are_style_parameters-clause-style c in
+    c.if-are_style_parameters.ensures ∙ style at.In_ok-parameters
+
+pub returns-else-are_style_parameters-clause-style :
+    goal.returns-else-are_style_parameters-clause-style
+returns-else-are_style_parameters-clause-style c =
+    let at = goal.at.returns-else-are_style_parameters-clause-style c in
+    c.if-are_style_parameters.ensures ∙ style at.In_ok-parameters

@@ -4,6 +4,8 @@ mod breaks;
 mod c;
 mod cut_pieces;
 mod display;
+mod hyphenated;
+mod hyphens;
 mod marked;
 mod plain;
 mod program;

@@ -1,0 +1,124 @@
+-- The widths of the pieces of a paragraph are together at most twice its bytes: each hyphen has a
+-- byte of its own before it.
+use Rattle.textwrap_text.proofs.Common.{All, All-head, All-tail, IsUtf8, List, [], ap, arith, cond}
+use Rattle.textwrap_text.proofs.Common.{Bool, false, flat_map, length, length-append}
+use Rattle.textwrap_text.proofs.Common.{sum_by-append, true, ℕ, ◌*◌, ◌+◌, ◌++◌}
+use Rattle.textwrap_text.proofs.Common.{◌∷◌, ◌≡◌, ◌≤◌, append-nil, eqb, ltb}
+use Rattle.textwrap_text.proofs.Units.Reading.{text_width-le}
+use Rattle.textwrap_base.proofs.Common.{total_width}
+use Rattle.textwrap_base.proofs.Cost.LineCosts.{total_width-cons}
+use Rattle.textwrap_words.proofs.Common.{WordText, broken_pieces, broken_texts, broken_word}
+use Rattle.textwrap_words.proofs.Common.{broken_words, pieces_with, sizes_of, tile_of, tiled, piece}
+use Rattle.textwrap_words.proofs.Word.BrokenPieces.{broken_texts-tile, broken_texts-utf8}
+use Rattle.textwrap_words.proofs.Word.Words.{IsMeasured}
+use Rattle.textwrap_layout.proofs.Common.{Settings, broken_pieces_of, empty_word, front_pieces}
+use Rattle.textwrap_layout.proofs.Common.{later_width}
+use Rattle.textwrap_hyphenated.proofs.Points.{CarriesHyphen}
+
+total_width-append : (ws vs : List WordText)
+    → total_width sizes_of (ws ++ vs) ≡ total_width sizes_of ws + total_width sizes_of vs
+total_width-append ws vs =
+    sum_by-append (λ w. (sizes_of w).width + (sizes_of w).whitespace + (sizes_of w).penalty) ws vs
+
+-- ---- the pieces of a broken word
+
+pieces_with-wide : (whitespace penalty : List ℕ) (texts : List (List ℕ)) → All IsUtf8 texts
+    → total_width sizes_of (pieces_with whitespace penalty texts)
+    ≤ length (flat_map (λ t. t) texts) + length whitespace + length penalty
+pieces_with-wide whitespace penalty [] utf8 = omega arith
+pieces_with-wide whitespace penalty (text ∷ []) utf8 =
+    omega (
+      arith,
+      text_width-le text (All-head IsUtf8 text [] utf8),
+      total_width-cons sizes_of (piece text whitespace penalty) [],
+      ap length (append-nil text),
+    )
+pieces_with-wide whitespace penalty (text ∷ next ∷ texts) utf8 =
+    omega (
+      arith,
+      text_width-le text (All-head IsUtf8 text (next ∷ texts) utf8),
+      total_width-cons sizes_of (piece text [] []) (pieces_with whitespace penalty (next ∷ texts)),
+      length-append text (flat_map (λ (t : List ℕ). t) (next ∷ texts)),
+      pieces_with-wide whitespace penalty (next ∷ texts) (All-tail IsUtf8 text (next ∷ texts) utf8),
+    )
+
+broken_word-wide : (limit : ℕ) (w : WordText) → IsMeasured w → CarriesHyphen w
+    → total_width sizes_of (broken_word limit w) ≤ 2 * length (tile_of w)
+broken_word-wide limit w measured carries =
+    elim (ltb limit w.width) as (λ b. total_width sizes_of (cond b (broken_pieces limit w) (w ∷ []))
+    ≤ 2 * length (tile_of w)) [
+      | true ↦
+          omega (
+            arith,
+            carries,
+            pieces_with-wide w.whitespace w.penalty (broken_texts limit w.word)
+                (broken_texts-utf8 limit w.word measured.utf8),
+            ap length (broken_texts-tile limit w.word measured.utf8),
+            length-append w.word w.whitespace,
+          )
+      | false ↦
+          omega (
+            arith,
+            carries,
+            measured.width,
+            text_width-le w.word measured.utf8,
+            total_width-cons sizes_of w [],
+            length-append w.word w.whitespace,
+          )
+    ]
+
+broken_words-wide : (limit : ℕ) (words : List WordText) → All IsMeasured words
+    → All CarriesHyphen words
+    → total_width sizes_of (broken_words limit words) ≤ 2 * length (tiled words)
+broken_words-wide limit [] measured carries = omega arith
+broken_words-wide limit (w ∷ words) measured carries =
+    omega (
+      arith,
+      broken_word-wide limit w (All-head IsMeasured w words measured)
+          (All-head CarriesHyphen w words carries),
+      broken_words-wide limit words (All-tail IsMeasured w words measured)
+          (All-tail CarriesHyphen w words carries),
+      total_width-append (broken_word limit w) (broken_words limit words),
+      length-append (tile_of w) (tiled words),
+    )
+
+words-wide : (words : List WordText) → All IsMeasured words → All CarriesHyphen words
+    → total_width sizes_of words ≤ 2 * length (tiled words)
+words-wide [] measured carries = omega arith
+words-wide (w ∷ words) measured carries =
+    let here = All-head IsMeasured w words measured in
+    omega (
+      arith,
+      All-head CarriesHyphen w words carries,
+      here.width,
+      text_width-le w.word here.utf8,
+      total_width-cons sizes_of w words,
+      length-append w.word w.whitespace,
+      length-append (tile_of w) (tiled words),
+      words-wide words (All-tail IsMeasured w words measured)
+          (All-tail CarriesHyphen w words carries),
+    )
+
+-- ---- the pieces of a paragraph
+
+front-wide : (b : Bool) → total_width sizes_of (cond b [] (empty_word ∷ [])) ≡ 0
+front-wide true = omega arith
+front-wide false = omega arith
+
+pub pieces-wide : (settings : Settings) (split : List WordText) → All IsMeasured split
+    → All CarriesHyphen split
+    → total_width sizes_of (broken_pieces_of settings split) ≤ 2 * length (tiled split)
+pieces-wide settings split measured carries =
+    let limit = later_width settings in
+    elim settings.break_words as (λ b. total_width sizes_of
+    (cond b (front_pieces settings ++ broken_words limit split) split)
+    ≤ 2 * length (tiled split)) [
+      | true ↦
+          omega (
+            arith,
+            broken_words-wide limit split measured carries,
+            total_width-append (front_pieces settings) (broken_words limit split),
+            front-wide (eqb (length settings.initial_indent) 0),
+          )
+      | false ↦ words-wide split measured carries
+    ]

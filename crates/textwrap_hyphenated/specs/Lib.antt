@@ -1,0 +1,2 @@
+pub mod Hyphenated
+pub mod Laws

@@ -1,0 +1,262 @@
+-- The points of a word are inside it, at the beginnings of characters, and increase.
+use Rattle.textwrap_hyphens.proofs.Common.{List, ℕ, ◌≡◌, ◌+◌, ◌-◌, ◌≤◌, ◌<◌, ◌++◌, ◌∷◌, [], ◌∙◌}
+use Rattle.textwrap_hyphens.proofs.Common.{arith, drop, length, take, zero, suc, true, false, refl}
+use Rattle.textwrap_hyphens.proofs.Common.{get_or, Bool}
+use Rattle.textwrap_hyphens.proofs.Common.{All, All-cons, All-head, All-nil, All-tail, cond, filter}
+use Rattle.textwrap_hyphens.proofs.Common.{length-map, map, range_with_len, subst, sym, ⊤}
+use Rattle.std.specs.Prelude.{IsCharBoundary, Some, chars, encode_utf8, unwrap_or, not, ◌&&◌}
+use Rattle.std.specs.List.{list_any}
+use Rattle.std.specs.Str.{bytes_eq}
+use Rattle.std.proofs.lemmas.Slice.Eq.{bytes_eq-Decides}
+use Rattle.std.proofs.lemmas.List.{drop-map}
+use Rattle.textwrap_text.proofs.Common.{All-map, All-weaker, IsUtf8, length-drop, length-take}
+use Rattle.textwrap_text.proofs.Common.{take-map}
+use Rattle.textwrap_text.specs.declared.escapes.State.{State}
+use Rattle.textwrap_text.specs.declared.escapes.State.TheVariants.{Text}
+use Rattle.textwrap_text.proofs.Texts.{some-bytes}
+use Rattle.textwrap_text.proofs.Units.Characters.{AreAhead, ahead-next, ahead-start}
+use Rattle.textwrap_text.specs.Characters.{characters_from, characters_of}
+use Rattle.textwrap_text.specs.Escapes.{next_of, shows}
+use Rattle.textwrap_text.specs.declared.characters.Character.{Character}
+use Rattle.textwrap_words.specs.Cuts.{AreInnerCuts, AreNext, IsNextCut}
+use Rattle.textwrap_hyphens.proofs.Runs.{past-letter, past-other}
+use Rattle.textwrap_hyphens.specs.Hyphenation.{ExceptionText, Hyphenation, exception_for, is_place}
+use Rattle.textwrap_hyphens.specs.Hyphenation.{places_of}
+use Rattle.textwrap_hyphens.specs.Letters.{is_hyphen, is_kept, is_letter, letter_at, letters_among}
+use Rattle.textwrap_hyphens.specs.Letters.{letters_of, run_len}
+use Rattle.textwrap_hyphens.specs.Places.{AreInnerPlaces, IsNextPlace}
+use Rattle.textwrap_hyphens.specs.Points.{points_in, points_of, points_past}
+use Rattle.textwrap_hyphens.specs.declared.letters.Letter.{Letter}
+
+-- ---- places
+
+-- numbers of a range that pass a test
+pub places-filter : (test : ℕ → Bool) (len a n last : ℕ) → last < a → (0 < n → a + n ≤ len)
+    → AreNext (IsNextPlace len) (filter test (range_with_len a n)) last
+places-filter test len a zero last after room = tt
+places-filter test len a (suc n) last after room =
+    elim (test a) as (λ b. AreNext (IsNextPlace len)
+    (cond b (a ∷ filter test (range_with_len (a + 1) n)) (filter test (range_with_len
+    (a + 1) n))) last) [
+      | true ↦ (
+        (after, omega (arith, room (omega arith))),
+        places-filter test len (a + 1) n a (omega arith) (λ some. omega (
+          arith,
+          room
+              (omega arith),
+        )),
+      )
+      | false ↦ places-filter test len (a + 1) n last (omega arith)
+          (λ some. omega (arith, room (omega arith)))
+    ]
+
+pub places-below : (len last : ℕ) (places : List ℕ) → AreNext (IsNextPlace len) places last
+    → All (λ place. place < len) places
+places-below len last [] are = All-nil (λ (place : ℕ). place < len)
+places-below len last (place ∷ places) (here, rest) =
+    All-cons (λ (p : ℕ). p < len) place places here.1 (places-below len place places rest)
+
+pub by_patterns-inner : (h : Hyphenation) (letters : List ℕ)
+    → AreInnerPlaces (length letters) (filter (is_place h letters) (range_with_len 1
+    (length letters - 1)))
+by_patterns-inner h letters =
+    places-filter (is_place h letters) (length letters) 1 (length letters - 1) 0 (omega arith)
+    (λ some. omega arith)
+
+-- exceptions have places inside their words
+abbrev pub AreInner : List ExceptionText → Type 0
+AreInner exceptions = All (λ e. AreInnerPlaces (length e.letters) e.places) exceptions
+
+exception-inner : (letters places : List ℕ) (es : List ExceptionText) → AreInner es
+    → AreInnerPlaces (length letters) places
+    → AreInnerPlaces (length letters) (unwrap_or (exception_for es letters) places)
+exception-inner letters places [] all none = none
+exception-inner letters places (e ∷ es) all none =
+    let inner = λ (e : ExceptionText). AreInnerPlaces (length e.letters) e.places in
+    let by = elim (bytes_eq e.letters letters) as (λ b. bytes_eq e.letters letters ≡ b
+    → AreInnerPlaces (length letters) (unwrap_or (cond b (Some e.places)
+    (exception_for es letters)) places)) [
+      | true ↦ λ is. subst (λ l. AreInnerPlaces (length l) e.places)
+          ((bytes_eq-Decides e.letters letters).0 is) (All-head inner e es all)
+      | false ↦ λ is. exception-inner letters places es (All-tail inner e es all) none
+    ] in
+    by refl
+
+pub places-inner : (h : Hyphenation) (letters : List ℕ) → AreInner h.exceptions
+    → AreInnerPlaces (length letters) (places_of h letters)
+places-inner h letters inner =
+    exception-inner letters _ h.exceptions inner (by_patterns-inner h letters)
+
+-- ---- where letters begin
+
+-- offsets inside a text, from a lower bound on, where characters begin, and each above the last
+abbrev pub Stand : List ℕ → ℕ → List ℕ → Type 0
+Stand text low [] = ⊤
+Stand text low (at ∷ ats) =
+    (low ≤ at) × (at < length text) × IsCharBoundary text at × Stand text (suc at) ats
+
+-- a character begins inside a text
+abbrev Begins : List ℕ → Character → Type 0
+Begins text c = (c.at < length text) × IsCharBoundary text c.at
+
+all-ahead : (text : List ℕ) (left : List Character) → AreAhead text left → All (Begins text) left
+all-ahead text [] h = All-nil (Begins text)
+all-ahead text (c ∷ left) h =
+    let next = ahead-next text c left h in
+    All-cons (Begins text) c left
+    (omega (arith, next.room, some-bytes c.ch), next.begins) (all-ahead text left next.after)
+
+stand-among : (text : List ℕ) (state : State) (at : ℕ) (cs : List ℕ) (low : ℕ) → low ≤ at
+    → All (Begins text) (characters_from state at cs)
+    → Stand text low (map (λ c. c.at) (letters_among (characters_from state at cs)))
+stand-among text state at [] low le all = tt
+stand-among text state at (c ∷ cs) low le all =
+    let ch : Character = record { at = at; ch = c; is_visible = shows state c } in
+    let after = at + length (encode_utf8 c) in
+    let rest = characters_from (next_of state c) after cs in
+    let here = All-head (Begins text) ch rest all in
+    let later = All-tail (Begins text) ch rest all in
+    let some = some-bytes c in
+    elim (is_kept ch) as (λ b. Stand text low (map (λ c. c.at) (map letter_at
+    (cond b (ch ∷ filter is_kept rest) (filter is_kept rest))))) [
+      | true ↦ (
+        le,
+        here.0,
+        here.1,
+        stand-among text (next_of state c) after cs (suc at) (omega
+            (arith, some)) later,
+      )
+      | false ↦ stand-among text (next_of state c) after cs low (omega (arith, le)) later
+    ]
+
+pub letters-stand : (word : List ℕ) → IsUtf8 word → Stand word 0 (map (λ c. c.at) (letters_of word))
+letters-stand word utf8 = stand-among word Text 0 (chars word) 0 (omega arith)
+    (all-ahead word (characters_of word) (ahead-start word utf8))
+
+stand-at : (text : List ℕ) (low : ℕ) (ats : List ℕ) (k : ℕ) → Stand text low ats → k < length ats
+    → (low ≤ get_or ats k 0) × (get_or ats k 0 < length text) × IsCharBoundary text (get_or ats k 0)
+stand-at text low [] k stand within = absurd (omega arith)
+stand-at text low (at ∷ ats) zero (le, inside, boundary, rest) within = (le, inside, boundary)
+stand-at text low (at ∷ ats) (suc k) (le, inside, boundary, rest) within =
+    let later = stand-at text (suc at) ats k rest (omega arith) in
+    (omega (arith, le, later.0), later.1, later.2)
+
+stand-rising : (text : List ℕ) (low : ℕ) (ats : List ℕ) (j k : ℕ) → Stand text low ats → j < k
+    → k < length ats → get_or ats j 0 < get_or ats k 0
+stand-rising text low [] j k stand lt within = absurd (omega arith)
+stand-rising text low (at ∷ ats) j zero stand lt within = absurd (omega arith)
+stand-rising text low (at ∷ ats) zero (suc k) (le, inside, boundary, rest) lt within =
+    let later = stand-at text (suc at) ats k rest (omega arith) in omega (arith, later.0)
+stand-rising text low (at ∷ ats) (suc j) (suc k) (le, inside, boundary, rest) lt within =
+    stand-rising text (suc at) ats j k rest (omega arith) (omega arith)
+
+-- the first n of them are below a bound from which the others stand
+stand-split : (text : List ℕ) (low n : ℕ) (ats : List ℕ) → Stand text low ats
+    → (mid : ℕ) × (low ≤ mid) × All (λ at. at < mid) (take n ats) × Stand text mid (drop n ats)
+stand-split text low zero ats stand = (low, omega arith, All-nil (λ (at : ℕ). at < low), stand)
+stand-split text low (suc n) [] stand = (low, omega arith, All-nil (λ (at : ℕ). at < low), tt)
+stand-split text low (suc n) (at ∷ ats) (le, inside, boundary, rest) =
+    let more = stand-split text (suc at) n ats rest in (
+      more.0,
+      omega (arith, le, more.1),
+      All-cons (λ (a : ℕ). a < more.0) at (take n ats) (omega (arith, more.1)) more.2,
+      more.3,
+    )
+
+stand-take : (text : List ℕ) (low n : ℕ) (ats : List ℕ) → Stand text low ats
+    → Stand text low (take n ats)
+stand-take text low zero ats stand = tt
+stand-take text low (suc n) [] stand = tt
+stand-take text low (suc n) (at ∷ ats) (le, inside, boundary, rest) =
+    (le, inside, boundary, stand-take text (suc at) n ats rest)
+
+-- ---- points
+
+run-cuts : (text : List ℕ) (low : ℕ) (ats places : List ℕ) (j last : ℕ) → Stand text low ats
+    → AreNext (IsNextPlace (length ats)) places j → last ≤ get_or ats j 0
+    → AreNext (IsNextCut text) (map (λ p. get_or ats p 0) places) last
+run-cuts text low ats [] j last stand inner le = tt
+run-cuts text low ats (p ∷ places) j last stand (here, rest) le =
+    let at = stand-at text low ats p stand here.1 in
+    let up = stand-rising text low ats j p stand here.0 here.1 in (
+      (omega (arith, le, up), at.1, at.2),
+      run-cuts text low ats places p (get_or ats p 0) stand rest (omega arith),
+    )
+
+cuts-append : (text ps qs : List ℕ) (last mid : ℕ) → AreNext (IsNextCut text) ps last
+    → All (λ p. p < mid) ps → last ≤ mid → ((l : ℕ) → l ≤ mid → AreNext (IsNextCut text) qs l)
+    → AreNext (IsNextCut text) (ps ++ qs) last
+cuts-append text [] qs last mid are below le next = next last le
+cuts-append text (p ∷ ps) qs last mid (here, rest) below le next =
+    let first = All-head (λ (q : ℕ). q < mid) p ps below in (
+      here,
+      cuts-append text ps qs p mid rest (All-tail (λ (q : ℕ). q < mid) p ps below) (omega
+          (arith, first)) next,
+    )
+
+-- the points of a run of letters that stand from a bound on
+run-points : (h : Hyphenation) (text : List ℕ) (low last mid : ℕ) (run : List Letter)
+    → AreInner h.exceptions → last ≤ low → 0 < length run → Stand text low (map (λ c. c.at) run)
+    → All (λ at. at < mid) (map (λ c. c.at) run)
+    → AreNext (IsNextCut text) (points_in h run) last × All (λ p. p < mid) (points_in h run)
+run-points h text low last mid run inner le some stand below =
+    let ats = map (λ (c : Letter). c.at) run in
+    let cs = map (λ (c : Letter). c.ch) run in
+    let same : length cs ≡ length ats = length-map run (λ (c : Letter). c.ch)
+    ∙ sym (length-map run (λ (c : Letter). c.at)) in
+    let placed = subst (λ n. AreNext (IsNextPlace n) (places_of h cs) 0) same
+    (places-inner h cs inner) in
+    let first = stand-at text low ats 0 stand (omega (
+      arith,
+      some,
+      length-map run (λ
+          (c : Letter). c.at),
+    )) in (
+      run-cuts text low ats (places_of h cs) 0 last stand placed (omega (arith, le, first.0)),
+      All-map (λ (p : ℕ). p < mid) (λ p. get_or ats p 0) (places_of h cs)
+          (All-weaker (λ (p : ℕ). p < length ats) (λ p. get_or ats p 0 < mid) (λ p lt. below p 0 lt)
+          (places_of h cs) (places-below (length ats) 0 (places_of h cs) placed)),
+    )
+
+pub past-cuts : (h : Hyphenation) (text : List ℕ) (most : ℕ) (cs : List Letter) (low last : ℕ)
+    → AreInner h.exceptions → length cs ≤ most → last ≤ low → Stand text low (map (λ c. c.at) cs)
+    → AreNext (IsNextCut text) (points_past h 0 cs) last
+past-cuts h text most [] low last inner fits le stand = tt
+past-cuts h text zero (c ∷ cs) low last inner fits le stand = absurd (omega arith)
+past-cuts h text (suc most) (c ∷ cs) low last inner fits le stand =
+    let at = λ (c : Letter). c.at in
+    let all = c ∷ cs in
+    let n = run_len all in
+    let by = elim (is_letter c.ch) as (λ b. is_letter c.ch ≡ b
+    → AreNext (IsNextCut text) (points_past h 0 all) last) [
+      | true ↦ λ is.
+          let next = past-letter h all c (omega arith) is in
+          let parts = stand-split text low n (map at all) stand in
+          let run = run-points h text low last parts.0 (take n all) inner le
+          (omega (arith, next.1, length-take n all))
+          (subst (Stand text low) (take-map at n all) (stand-take text low n (map at all) stand))
+          (subst (All (λ a. a < parts.0)) (take-map at n all) parts.2) in
+          subst (λ l. AreNext (IsNextCut text) l last) (sym next.0)
+          (cuts-append text (points_in h (take n all)) (points_past h 0 (drop n all)) last parts.0
+          run.0 run.1 (omega (arith, le, parts.1))
+          (λ l under. past-cuts h text most (drop n all) parts.0 l inner
+          (omega (arith, fits, next.1, length-drop n all)) under
+          (subst (Stand text parts.0) (drop-map at n all) parts.3)))
+      | false ↦ λ is.
+          let parts = stand-split text low 1 (map at all) stand in
+          subst (λ l. AreNext (IsNextCut text) l last) (sym (past-other h all c (omega arith) is))
+          (past-cuts h text most cs parts.0 last inner (omega arith) (omega
+          (arith, le, parts.1)) parts.3)
+    ] in
+    by refl
+
+pub points-cuts : (h : Hyphenation) (word : List ℕ) → IsUtf8 word → AreInner h.exceptions
+    → AreInnerCuts word (points_of h word)
+points-cuts h word utf8 inner =
+    elim (not h.in_parts && list_any (λ c. is_hyphen c.ch) (letters_of word))
+    as (λ b. AreInnerCuts word (cond b [] (points_past h 0 (letters_of word)))) [
+      | true ↦ tt
+      | false ↦ past-cuts h word (length (letters_of word)) (letters_of word) 0 0 inner
+          (omega arith)
+          (omega arith) (letters-stand word utf8)
+    ]

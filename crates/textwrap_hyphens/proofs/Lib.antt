@@ -1,0 +1,12 @@
+pub mod Common
+pub mod FirstException
+pub mod Greatest
+pub mod InnerPoints
+pub mod Longest
+pub mod MoreLevels
+pub mod Ordered
+pub mod Raised
+pub mod Runs
+pub mod Said
+pub mod Writing
+pub mod Found

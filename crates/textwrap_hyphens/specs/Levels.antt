@@ -1,0 +1,51 @@
+-- Hyphenation by patterns (Liang 1983): the levels that patterns give to the places of a word.
+use Rattle.std.specs.Prelude.{ℕ, suc, ◌+◌, ◌-◌, List, [], ◌∷◌, ◌++◌}
+use Rattle.std.specs.Prelude.{drop, if◌then◌else◌, length, map, max, nat_eq, slice_index}
+use Rattle.std.specs.List.{range_with_len, starts_with}
+use Rattle.textwrap_hyphens.specs.declared.patterns.Pattern.{Pattern}
+
+-- letters, and a level for the place before each of them and for the one behind the last
+pub record PatternText : Type 0 where
+  pub letters : List ℕ
+  pub levels : List ℕ
+
+abbrev pub pattern_view : Pattern → PatternText
+pattern_view pattern =
+    record { letters = pattern.letters.items; levels = pattern.levels.items }
+
+abbrev pub greatest : List ℕ → ℕ
+greatest [] = 0
+greatest (n ∷ ns) = max n (greatest ns)
+
+-- how many letters the longest pattern has
+abbrev pub longest : List PatternText → ℕ
+longest patterns = greatest (map (λ p. length p.letters) patterns)
+
+-- the level of a pattern at a place of a text that begins with its letters, else 0
+abbrev pub level_in : PatternText → List ℕ → ℕ → ℕ
+level_in pattern text place =
+    if starts_with nat_eq text pattern.letters then slice_index pattern.levels place else 0
+
+-- the greatest level that patterns at the beginning of a text have at a place of it
+abbrev pub level_from : List PatternText → List ℕ → ℕ → ℕ
+level_from patterns text place = greatest (map (λ p. level_in p text place) patterns)
+
+-- the greatest level at a place that a pattern has, over all patterns and all places where their
+-- letters stand
+abbrev pub level : List PatternText → List ℕ → ℕ → ℕ
+level patterns dotted place =
+    greatest (map (λ at. level_from patterns (drop at dotted) (place - at)) (range_with_len 0
+    (suc place)))
+
+-- `.`, which stands for the beginning and the end of a word
+abbrev pub dot : ℕ
+dot = 46
+
+-- the letters of a word between two dots
+abbrev pub dotted : List ℕ → List ℕ
+dotted letters = dot ∷ (letters ++ dot ∷ [])
+
+-- the levels of all places of a dotted word, also of the one before it and the one behind it
+abbrev pub levels_of : List PatternText → List ℕ → List ℕ
+levels_of patterns letters =
+    map (level patterns (dotted letters)) (range_with_len 0 (length letters + 3))

@@ -1,0 +1,10 @@
+pub mod Entries
+pub mod Hyphenation
+pub mod Laws
+pub mod Letters
+pub mod Levels
+pub mod Parsing
+pub mod Places
+pub mod Points
+pub mod Search
+pub mod Written

@@ -1,0 +1,40 @@
+-- The points of a text without blanks: offsets in bytes at which a dictionary has a hyphen.
+use Rattle.std.specs.Prelude.{ℕ, zero, suc, ◌-◌, ◌&&◌, ◌++◌, List, [], ◌∷◌, if◌then◌else◌, map, not}
+use Rattle.std.specs.Prelude.{slice_index, take}
+use Rattle.std.specs.List.{list_any}
+use Rattle.textwrap_hyphens.specs.Hyphenation.{Hyphenation, exception_view, places_of}
+use Rattle.textwrap_hyphens.specs.Letters.{is_hyphen, is_letter, letters_of, run_len}
+use Rattle.textwrap_hyphens.specs.Levels.{pattern_view}
+use Rattle.textwrap_hyphens.specs.declared.letters.Letter.{Letter}
+use Rattle.textwrap_hyphens.specs.declared.dictionary.Patterns.{Patterns}
+
+-- what a dictionary holds
+abbrev pub held : Patterns → Hyphenation
+held patterns = record {
+  patterns = map pattern_view patterns.patterns.items;
+  exceptions = map exception_view patterns.exceptions.items;
+  left = patterns.left;
+  right = patterns.right;
+  in_parts = patterns.in_parts;
+}
+
+-- where the letters of a run begin that stand behind its places
+abbrev pub points_in : Hyphenation → List Letter → List ℕ
+points_in h run =
+    map (λ place. slice_index (map (λ c. c.at) run) place) (places_of h (map (λ c. c.ch) run))
+
+-- the points of the runs that begin behind the first n characters
+abbrev pub points_past : Hyphenation → ℕ → List Letter → List ℕ
+points_past h n [] = []
+points_past h (suc n) (c ∷ cs) = points_past h n cs
+points_past h zero (c ∷ cs) =
+    if is_letter c.ch
+    then points_in h (take (run_len (c ∷ cs)) (c ∷ cs)) ++ points_past h (run_len (c ∷ cs) - 1) cs
+    else points_past h zero cs
+
+-- each longest run of letters is hyphenated for itself; a text with a hyphen only if asked
+abbrev pub points_of : Hyphenation → List ℕ → List ℕ
+points_of h word =
+    let letters = letters_of word in
+    if not h.in_parts && list_any (λ c. is_hyphen c.ch) letters then []
+    else points_past h 0 letters

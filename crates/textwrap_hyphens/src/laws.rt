@@ -1,0 +1,8 @@
+//! Laws of the definitions on hyphenation.
+ghost use Rattle.textwrap_hyphens.specs.Laws.{MorePatternsRaiseLevels};
+
+/// Patterns that are all among others give no place a higher level than those. So their order makes
+/// no difference, nor does a pattern that stands twice, and one more can only raise levels.
+pub fn more_patterns_raise_levels()
+    ensures { MorePatternsRaiseLevels }
+{}

@@ -1,0 +1,192 @@
+//! The points at which a dictionary has a hyphen.
+ghost use Rattle.std.specs.Prelude.{◌≡◌, ◌++◌, ◌-◌, ◌<◌, ◌&&◌, All, filter, length, map, not};
+ghost use Rattle.std.specs.Prelude.{slice_index, IfOk, OnOk};
+ghost use Rattle.std.specs.List.{list_any, range_with_len};
+ghost use Rattle.textwrap_words.specs.Cuts.{AreInnerCuts};
+ghost use Rattle.textwrap_hyphens.specs.Letters.{is_hyphen};
+ghost use Rattle.textwrap_hyphens.specs.Levels.{levels_of};
+ghost use Rattle.textwrap_hyphens.specs.Places.{AreInnerPlaces};
+ghost use Rattle.textwrap_hyphens.specs.Hyphenation.{exception_for, exception_view};
+ghost use Rattle.textwrap_hyphens.specs.Hyphenation.{is_place, places_of};
+ghost use Rattle.textwrap_hyphens.specs.Points.{held, points_in, points_of, points_past};
+
+use crate::dictionary::Patterns;
+use crate::letters::{Letter, counts, has_letters, is_hyphen, is_letter, letters_of, run_len};
+use crate::levels::levels;
+use crate::patterns::Exception;
+use crate::search::exceptions_with;
+use std::alloc::{AllocError, Allocator};
+
+/// The offsets in bytes at which a word has a hyphen by a dictionary. They increase, inside the
+/// word, and are character boundaries.
+///
+/// Each longest run of letters is a word for itself: of `"(hyphenation),"` the letters between the
+/// parentheses. An apostrophe (U+0027 or U+2019) between letters does not end it. Soft hyphens
+/// (U+00AD) and escape sequences (ECMA-48) are left out, so the letters beside them stand next to
+/// each other. A word with a hyphen (`-` or U+2010) has no points, unless the dictionary is asked
+/// for its parts. No point that patterns give stands before a combining mark or beside an
+/// apostrophe.
+///
+/// # Errors
+/// [`AllocError`] where memory runs out.
+pub fn points<A: Allocator + Copy>(
+    alloc: A,
+    word: &str,
+    patterns: &Patterns,
+) -> Result<Vec<usize, A>, AllocError>
+    ensures points { IfOk result (λ points. points.items ≡ points_of (held patterns.now) word.now) }
+    ensures cuts { IfOk result (λ points. AreInnerCuts word.now points.items) }
+{
+    let letters = letters_of(alloc, word)?;
+    if is_left_whole(&letters, patterns) {
+        return Ok(Vec::new(alloc));
+    }
+    points_of_runs(alloc, &letters, patterns)
+}
+
+/// Whether a word is left whole, as it has a hyphen and its parts are not asked for.
+fn is_left_whole(letters: &[Letter], patterns: &Patterns) -> bool
+    ensures { result ≡ (not (held patterns.now).in_parts && list_any
+        (λ c. is_hyphen c.ch) letters.now) }
+{
+    !patterns.in_parts && has_hyphen(letters)
+}
+
+fn has_hyphen(letters: &[Letter]) -> bool
+    ensures { result ≡ list_any (λ c. is_hyphen c.ch) letters.now }
+{
+    letters.iter().any(|letter| is_hyphen(letter.ch))
+}
+
+/// The points of the runs of letters.
+fn points_of_runs<A: Allocator + Copy>(
+    alloc: A,
+    letters: &[Letter],
+    patterns: &Patterns,
+) -> Result<Vec<usize, A>, AllocError>
+    ensures { IfOk result (λ points. points.items
+        ≡ points_past (held patterns.now) 0 letters.now) }
+{
+    let mut points = Vec::new(alloc);
+    let mut at = 0;
+    while at < letters.len() {
+        if is_letter(letters[at].ch) {
+            let end = at + run_len(&letters[at..]);
+            push_points(alloc, &mut points, &letters[at..end], patterns)?;
+            at = end;
+        } else {
+            at += 1;
+        }
+    }
+    Ok(points)
+}
+
+/// Adds the points of a run of letters.
+fn push_points<A: Allocator + Copy>(
+    alloc: A,
+    points: &mut Vec<usize, A>,
+    run: &[Letter],
+    patterns: &Patterns,
+) -> Result<(), AllocError>
+    ensures { OnOk result (points.new.items
+        ≡ points.old.items ++ points_in (held patterns.now) run.now) }
+{
+    let letters = letters_in(alloc, run)?;
+    let places = places(alloc, &letters, patterns)?;
+    push_begins(points, run, &places)
+}
+
+/// The letters of a run.
+fn letters_in<A: Allocator>(alloc: A, run: &[Letter]) -> Result<Vec<char, A>, AllocError>
+    ensures { IfOk result (λ letters. letters.items ≡ map (λ c. c.ch) run.now) }
+{
+    run.iter().map(|letter| letter.ch).collect(alloc)
+}
+
+/// Adds where the letters of a run begin that stand behind these places.
+fn push_begins<A: Allocator>(
+    points: &mut Vec<usize, A>,
+    run: &[Letter],
+    places: &[usize],
+) -> Result<(), AllocError>
+    requires { All (λ place. place < length run.now) places.now }
+    ensures { OnOk result (points.new.items ≡ points.old.items
+        ++ map (λ place. slice_index (map (λ c. c.at) run.now) place) places.now) }
+{
+    for place in places {
+        points.push(run[*place].at)?;
+    }
+    Ok(())
+}
+
+/// The places of a word of these letters at which a dictionary has a hyphen, each behind so many
+/// letters.
+///
+/// # Errors
+/// [`AllocError`] where memory runs out.
+pub fn places<A: Allocator + Copy>(
+    alloc: A,
+    letters: &[char],
+    patterns: &Patterns,
+) -> Result<Vec<usize, A>, AllocError>
+    ensures places { IfOk result (λ places. places.items
+        ≡ places_of (held patterns.now) letters.now) }
+    ensures inner { IfOk result (λ places. AreInnerPlaces (length letters.now) places.items) }
+{
+    for exception in exceptions_at(patterns, letters) {
+        if exception.letters.as_slice() == letters {
+            return Vec::from_slice(alloc, &exception.places);
+        }
+    }
+    places_by_patterns(alloc, letters, patterns)
+}
+
+/// The exceptions with these letters, and others only if they are not sorted.
+fn exceptions_at<'p>(patterns: &'p Patterns, letters: &[char]) -> &'p [Exception]
+    ensures { exception_for (map exception_view result.now) letters.now
+        ≡ exception_for (held patterns.now).exceptions letters.now }
+{
+    if patterns.is_sorted {
+        exceptions_with(&patterns.exceptions, letters)
+    } else {
+        &patterns.exceptions
+    }
+}
+
+/// The places that the patterns allow.
+fn places_by_patterns<A: Allocator + Copy>(
+    alloc: A,
+    letters: &[char],
+    patterns: &Patterns,
+) -> Result<Vec<usize, A>, AllocError>
+    ensures places { IfOk result (λ places. places.items
+        ≡ filter (is_place (held patterns.now) letters.now) (range_with_len 1
+        (length letters.now - 1))) }
+    ensures inner { IfOk result (λ places. AreInnerPlaces (length letters.now) places.items) }
+{
+    let levels = levels(alloc, letters, patterns)?;
+    let mut places = Vec::new(alloc);
+    for place in 1..letters.len() {
+        if is_place(place, letters, &levels, patterns) {
+            places.push(place)?;
+        }
+    }
+    Ok(places)
+}
+
+/// Whether a place has an odd level, enough letters on both sides, no mark behind it, and no
+/// apostrophe beside it.
+fn is_place(place: usize, letters: &[char], levels: &[u8], patterns: &Patterns) -> bool
+    requires inside { 0 < place }
+    requires end { place < length letters.now }
+    requires levels { levels.now ≡ levels_of (held patterns.now).patterns letters.now }
+    ensures { result ≡ is_place (held patterns.now) letters.now place }
+{
+    if levels[place + 1] % 2 != 1 {
+        return false;
+    }
+    (letters[place - 1] != '\'')
+        & counts(letters[place])
+        & has_letters(&letters[..place], patterns.left)
+        & has_letters(&letters[place..], patterns.right)
+}

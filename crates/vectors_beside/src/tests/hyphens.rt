@@ -1,0 +1,445 @@
+//! Hyphenation by patterns.
+use super::plain::{assert_count, assert_found, assert_holds, assert_text};
+use fakes::heap::Heap;
+use std::alloc::{AllocError, Allocator, Global};
+use textwrap::minima::Steps;
+use textwrap_hyphens::dictionary::Patterns;
+use textwrap_hyphens::errors::{Fault, ParseError};
+use textwrap_hyphens::levels::levels_counted;
+use textwrap_hyphens::patterns::{Exception, Pattern};
+use textwrap_hyphens::points::points;
+use textwrap_hyphens::written::{exception, pattern};
+
+/// The patterns of Liang's thesis that stand in `hyphenation`.
+const LIANG: [&str; 9] = [
+    "hy3ph", "he2n", "hena4", "hen5at", "1na", "n2at", "1tio", "2io", "o2n",
+];
+
+/// Patterns of other scripts and signs.
+const OTHERS: [&str; 6] = [
+    "\u{e4}1\u{df}",
+    "\u{df}1e",
+    "\u{130}1i",
+    "1d1'a",
+    ".a1b",
+    "e1\u{301}",
+];
+
+/// How many allocations `hyphenation` takes up to the last that it cannot do without.
+const ALLOCATIONS: usize = 10;
+
+/// A word, and its points by both lists of patterns, with the exceptions and at least 2 letters
+/// before a point and 3 behind it. Each row has the rule that it shows.
+const WORDS: [(&str, &str, &[usize]); 22] = [
+    ("Liang's example: hy-phen-ation", "hyphenation", &[2, 6]),
+    ("letters are lower-cased one by one", "HYPHENation", &[2, 6]),
+    (
+        "each run of letters is a word for itself",
+        "(hyphenation),",
+        &[3, 7],
+    ),
+    (
+        "each run of letters is a word for itself",
+        "hyphenation/hyphenation",
+        &[2, 6, 14, 18],
+    ),
+    (
+        "a word with a hyphen is left whole",
+        "hyphenation-hyphenation",
+        &[],
+    ),
+    ("that of Unicode too", "hyphenation\u{2010}", &[]),
+    ("soft hyphens are left out", "hy\u{ad}phenation", &[4, 8]),
+    (
+        "a point stands behind a soft hyphen",
+        "hyphen\u{ad}ation",
+        &[2, 8],
+    ),
+    (
+        "escape sequences are no letters",
+        "hy\u{1b}[1mphenation",
+        &[6, 10],
+    ),
+    (
+        "an exception has its points whatever the patterns say",
+        "table",
+        &[1, 4],
+    ),
+    ("also in capital letters", "Table", &[1, 4]),
+    ("and without a point", "phenation", &[]),
+    ("an exception is the whole run", "tables", &[]),
+    (
+        "at least so many letters stand before a point",
+        "ab\u{e4}\u{df}",
+        &[],
+    ),
+    ("\u{df} stays as it is", "ab\u{c4}\u{df}ebc", &[4, 6]),
+    (
+        "a letter whose lower case is not one character stays as it is",
+        "ab\u{130}ibc",
+        &[4],
+    ),
+    (
+        "patterns have apostrophes, in either form, but no point stands beside one",
+        "abd\u{2019}abc",
+        &[2],
+    ),
+    ("an apostrophe counts for no letter", "abd'a", &[]),
+    ("nor does a mark", "ab\u{e4}\u{df}e\u{301}", &[]),
+    (
+        "an apostrophe at the end of a run is none",
+        "'hyphenation'",
+        &[3, 7],
+    ),
+    (
+        "no point stands before a combining mark",
+        "abe\u{301}abc",
+        &[],
+    ),
+    ("an empty word has no points", "", &[]),
+];
+
+/// A text that is read as a dictionary, a word, and its points by that. Each row has the rule that it
+/// shows.
+#[rattlefmt::skip]
+const TEXTS: &[(&str, &str, &str, &[usize])] = &[
+    ("a list has one pattern a line", "hy3ph\nhe2n\nhena4\nhen5at\n1na\nn2at\n1tio\n2io\no2n\n", "hyphenation", &[2, 6]),
+    ("2 letters stay before a point and 3 behind it", "a1b1c1d1e1f", "abcdef", &[2, 3]),
+    ("a word with a hyphen and no digit is an exception", "1b\nta-b-le", "table", &[2, 3]),
+    ("of exceptions with the same letters the first counts", "ta-ble\nno-table\ntab-le\nt-able", "table", &[2]),
+    ("in capital letters too", "tab-le\nTa-Ble", "table", &[3]),
+    ("one with a digit is a pattern", "1b\nta-1ble", "table", &[2]),
+    ("blanks on the sides of a line are left out, and so is a carriage return", " 1b\t\r\n\r\n", "table", &[2]),
+    ("lines that begin with # or a percent sign are comments", "# a1b\n1b\n%a1ble\n #", "table", &[2]),
+    ("a dictionary of libhyphen begins with its charset", "UTF-8\n1\u{e4}", "ab\u{e4}bc", &[2]),
+    ("letters are folded as those of words are", "UTF-8\n1\u{c4}\n", "ab\u{e4}bcd", &[2]),
+    ("it says how many letters stay on both sides", "UTF-8\nLEFTHYPHENMIN 1\nRIGHTHYPHENMIN 10\na1b\nb1c", "abcdefghijkl", &[1, 2]),
+    ("the last number counts", "LEFTHYPHENMIN 1\nRIGHTHYPHENMIN1\nLEFTHYPHENMIN\t2\na1b\nb1c\n", "abc", &[2]),
+    ("groups of TeX hold patterns and exceptions", "% title\n\\patterns{ % none\n1b 1d\n}\n\\hyphenation{\nta-ble\n}", "abdef", &[2]),
+    ("both count", "\\patterns{1b\t1l}\n\\hyphenation{ ta-ble no-table}", "notable", &[2]),
+    ("an exception of TeX may have no hyphen", "\\patterns{1b}\n\\hyphenation{table}", "table", &[]),
+    ("a word of a group of patterns is a pattern", "\\patterns{1b\nta-ble}", "table", &[2]),
+    ("what stands outside of groups is skipped", "\\message{1l}\n\\lefthyphenmin=1\n\\patterns{1b}1l\n1l", "table", &[2]),
+    ("groups may stand behind others", "\\bgroup\\patterns{1b}\n\\patterns{1d}\n\\egroup", "abcdef", &[3]),
+    ("an empty text is an empty dictionary", "", "hyphenation", &[]),
+];
+
+/// A text that is no dictionary, its first line that is wrong, and what is wrong there.
+#[rattlefmt::skip]
+const FAULTS: &[(&str, usize, Fault)] = &[
+    ("ISO8859-1\na1b", 1, Fault::Charset),
+    ("KOI8-R", 1, Fault::Charset),
+    ("microsoft-cp1251", 1, Fault::Charset),
+    ("UTF-8\na1b\nCOMPOUNDLEFTHYPHENMIN 2", 3, Fault::Compound),
+    ("UTF-8\nCOMPOUNDRIGHTHYPHENMIN 2\na/b", 2, Fault::Compound),
+    ("UTF-8\nNEXTLEVEL\n", 2, Fault::NextLevel),
+    ("UTF-8\n\nNOHYPHEN ',-", 3, Fault::NoHyphen),
+    ("UTF-8\nLEFTHYPHENMIN", 2, Fault::Number),
+    ("LEFTHYPHENMIN 100", 1, Fault::Number),
+    ("RIGHTHYPHENMIN two", 1, Fault::Number),
+    ("UTF-8\nc1k/k=k", 2, Fault::Replacement),
+    ("a1b c1d", 1, Fault::Sign),
+    ("a1b\na1b % why", 2, Fault::Sign),
+    ("\\patterns{\\'e1b}", 1, Fault::Sign),
+    ("\\patterns{a1b}\\hyphenation{ta-ble}", 1, Fault::Sign),
+    ("-table", 1, Fault::Hyphens),
+    ("ta--ble", 1, Fault::Hyphens),
+    ("%\n\\patterns{}\n\\hyphenation{\ntable-\n}", 4, Fault::Hyphens),
+    ("% a\n\\patterns\n{a1b}", 2, Fault::Brace),
+    ("% hy3ph\n", 1, Fault::NoGroup),
+    ("% hy3ph\n\n", 2, Fault::NoGroup),
+    ("\\patterns{\na1b", 2, Fault::Unclosed),
+    ("\\patterns{a1b}\n\\hyphenation{", 2, Fault::Unclosed),
+];
+
+/// A dictionary of both lists of patterns.
+fn dictionary(alloc: Global) -> Result<Patterns, AllocError> {
+    let mut patterns = Vec::new(alloc);
+    push_patterns(alloc, &mut patterns, &LIANG)?;
+    push_patterns(alloc, &mut patterns, &OTHERS)?;
+    let mut exceptions = Vec::new(alloc);
+    push_exception(alloc, &mut exceptions, "table", &[1, 4])?;
+    push_exception(alloc, &mut exceptions, "phenation", &[])?;
+    Ok(Patterns::new(patterns, exceptions, 2, 3))
+}
+
+pub fn push_patterns(
+    alloc: Global,
+    patterns: &mut Vec<Pattern>,
+    texts: &[&str],
+) -> Result<(), AllocError> {
+    for text in texts {
+        patterns.push(pattern(alloc, text)?)?;
+    }
+    Ok(())
+}
+
+fn push_exception(
+    alloc: Global,
+    exceptions: &mut Vec<Exception>,
+    word: &str,
+    places: &[usize],
+) -> Result<(), AllocError> {
+    let letters = word.chars().collect(alloc)?;
+    let places = Vec::from_slice(alloc, places)?;
+    if let Some(made) = exception(letters, places) {
+        exceptions.push(made)?;
+    }
+    Ok(())
+}
+
+/// Whether a word has these points.
+fn has_points<A: Allocator + Copy>(
+    alloc: A,
+    word: &str,
+    patterns: &Patterns,
+    wanted: &[usize],
+) -> Result<bool, AllocError> {
+    Ok(points(alloc, word, patterns)?.as_slice() == wanted)
+}
+
+#[test]
+fn words_have_their_points(rt: HostRuntime) -> Result<(), AllocError> {
+    let patterns = dictionary(rt.alloc())?;
+    for (rule, word, wanted) in WORDS {
+        assert_found(&rt, rule, has_points(rt.alloc(), word, &patterns, wanted));
+    }
+    Ok(())
+}
+
+#[test]
+fn no_patterns_give_no_points(rt: HostRuntime) {
+    let alloc = rt.alloc();
+    let patterns = Patterns::new(Vec::new(alloc), Vec::new(alloc), 2, 3);
+    assert_found(
+        &rt,
+        "there are no patterns",
+        has_points(alloc, "hyphenation", &patterns, &[]),
+    );
+}
+
+#[test]
+fn parts_are_hyphenated_if_asked(rt: HostRuntime) -> Result<(), AllocError> {
+    let alloc = rt.alloc();
+    let patterns = dictionary(alloc)?.in_parts(true);
+    let found = has_points(alloc, "hyphenation-hyphenation", &patterns, &[2, 6, 14, 18]);
+    assert_found(
+        &rt,
+        "the parts of a word with a hyphen are asked for",
+        found,
+    );
+    Ok(())
+}
+
+/// Whether the letters of a word are looked up so often.
+fn has_lookups(
+    alloc: Global,
+    word: &str,
+    patterns: &Patterns,
+    wanted: u128,
+) -> Result<bool, AllocError> {
+    let letters: Vec<char> = word.chars().collect(alloc)?;
+    let mut lookups = Steps::new();
+    levels_counted(alloc, &letters, patterns, &mut lookups)?;
+    Ok(lookups.count() == wanted)
+}
+
+#[test]
+fn look_ups_are_counted(rt: HostRuntime) -> Result<(), AllocError> {
+    let alloc = rt.alloc();
+    let mut patterns = Vec::new(alloc);
+    push_patterns(alloc, &mut patterns, &LIANG)?;
+    let patterns = Patterns::new(patterns, Vec::new(alloc), 2, 3);
+    // From each place on, each letter before which some pattern goes on.
+    let found = has_lookups(alloc, "hyphenation", &patterns, 27);
+    assert_found(&rt, "each letter before which a pattern goes on", found);
+    Ok(())
+}
+
+/// Whether a word of this part, so many times, has a point in each behind so many letters of it.
+fn has_points_in_each(
+    alloc: Global,
+    part: &str,
+    times: usize,
+    patterns: &Patterns,
+) -> Result<bool, AllocError> {
+    let mut word = String::new(alloc);
+    for _ in 0..times {
+        word.push_str(part)?;
+    }
+    let found = points(alloc, &word, patterns)?;
+    Ok(found.len() == times)
+}
+
+#[test]
+fn a_long_word_has_its_points(rt: HostRuntime) -> Result<(), AllocError> {
+    let alloc = rt.alloc();
+    let mut patterns = Vec::new(alloc);
+    push_patterns(alloc, &mut patterns, &["ab1cd"])?;
+    let patterns = Patterns::new(patterns, Vec::new(alloc), 2, 2);
+    let found = has_points_in_each(alloc, "abcd", 2500, &patterns);
+    assert_found(&rt, "a word of 10,000 letters", found);
+    Ok(())
+}
+
+#[test]
+fn each_allocation_may_be_refused(rt: HostRuntime) -> Result<(), AllocError> {
+    let patterns = dictionary(rt.alloc())?;
+    let heap = Heap::new(rt.alloc(), 0);
+    let mut refused = 0;
+    for allowed in 0..20 {
+        heap.allow(allowed);
+        match has_points(&heap, "hyphenation", &patterns, &[2, 6]) {
+            Ok(is_right) => assert_holds(&rt, "what is found is right", is_right),
+            Err(_) => refused = allowed + 1,
+        }
+    }
+    assert_count(
+        &rt,
+        "allocations of a word with two points",
+        refused,
+        ALLOCATIONS,
+    );
+    Ok(())
+}
+
+/// Whether a word has these points by the dictionary that a text says.
+fn has_points_by(
+    alloc: Global,
+    text: &str,
+    word: &str,
+    wanted: &[usize],
+) -> Result<bool, ParseError> {
+    let patterns = Patterns::parse(alloc, text)?;
+    Ok(has_points(alloc, word, &patterns, wanted)?)
+}
+
+#[test]
+fn dictionaries_are_read(rt: HostRuntime) {
+    for (rule, text, word, wanted) in TEXTS {
+        assert_found(&rt, rule, has_points_by(rt.alloc(), text, word, wanted));
+    }
+}
+
+/// Whether a text is refused for this fault of this line.
+fn is_refused(alloc: Global, text: &str, line: usize, fault: Fault) -> bool {
+    match Patterns::parse(alloc, text) {
+        Err(
+            ParseError::Line {
+                line: found,
+                fault: why,
+            },
+        ) => found == line && why == fault,
+        _ => false,
+    }
+}
+
+#[test]
+fn the_first_line_that_is_wrong_is_named(rt: HostRuntime) {
+    for (text, line, fault) in FAULTS {
+        assert_holds(&rt, text, is_refused(rt.alloc(), text, *line, *fault));
+    }
+}
+
+/// A word of this part, so many times, with what follows it.
+fn repeated(alloc: Global, part: &str, times: usize, end: &str) -> Result<String, AllocError> {
+    let mut text = String::new(alloc);
+    for _ in 0..times {
+        text.push_str(part)?;
+    }
+    text.push_str(end)?;
+    Ok(text)
+}
+
+#[test]
+fn a_pattern_has_at_most_255_letters(rt: HostRuntime) -> Result<(), AllocError> {
+    let alloc = rt.alloc();
+    let longest = repeated(alloc, "a", 255, "1")?;
+    let refused = is_refused(alloc, &longest, 1, Fault::TooLong);
+    assert_holds(&rt, "255 letters are taken", !refused);
+    let longer = repeated(alloc, "a", 256, "1")?;
+    let refused = is_refused(alloc, &longer, 1, Fault::TooLong);
+    assert_holds(&rt, "256 letters are not", refused);
+    Ok(())
+}
+
+/// Whether a dictionary of 5,000 lines and one more that is not right is refused for that one.
+fn is_long_refused(alloc: Global) -> Result<bool, AllocError> {
+    let text = repeated(alloc, "hy3ph\n", 5000, "hy--phen")?;
+    Ok(is_refused(alloc, &text, 5001, Fault::Hyphens))
+}
+
+#[test]
+fn a_long_dictionary_is_read(rt: HostRuntime) -> Result<(), AllocError> {
+    let alloc = rt.alloc();
+    let text = repeated(
+        alloc,
+        "hy3ph\nhe2n\nta-ble\nhena4\nhen5at\n",
+        1000,
+        "1na\nn2at",
+    )?;
+    let found = has_points_by(alloc, &text, "hyphenation", &[2, 6]);
+    assert_found(&rt, "a dictionary of 5,002 lines", found);
+    assert_found(&rt, "its last line is wrong", is_long_refused(alloc));
+    Ok(())
+}
+
+/// An exception for each two letters, from the last to the first.
+fn many_exceptions(alloc: Global) -> Result<String, AllocError> {
+    let mut text = String::new(alloc);
+    for first in ('a'..='z').rev() {
+        for second in ('a'..='z').rev() {
+            text.push(first)?;
+            text.push(second)?;
+            text.push_str("-cd\n")?;
+        }
+    }
+    Ok(text)
+}
+
+/// Whether the exception that begins with these letters is found.
+fn is_found(
+    alloc: Global,
+    first: char,
+    second: char,
+    patterns: &Patterns,
+) -> Result<bool, AllocError> {
+    let mut word = String::new(alloc);
+    word.push(first)?;
+    word.push(second)?;
+    word.push_str("cd")?;
+    has_points(alloc, &word, patterns, &[2])
+}
+
+/// Whether each of these exceptions is found.
+fn are_found(alloc: Global) -> Result<bool, ParseError> {
+    let patterns = Patterns::parse(alloc, &many_exceptions(alloc)?)?;
+    for first in 'a'..='z' {
+        for second in 'a'..='z' {
+            if !is_found(alloc, first, second, &patterns)? {
+                return Ok(false);
+            }
+        }
+    }
+    Ok(true)
+}
+
+#[test]
+fn each_exception_is_found(rt: HostRuntime) {
+    assert_found(&rt, "676 exceptions", are_found(rt.alloc()));
+}
+
+#[test]
+fn what_is_wrong_is_printed(rt: HostRuntime) -> Result<(), AllocError> {
+    let alloc = rt.alloc();
+    if let Err(error) = Patterns::parse(alloc, "UTF-8\nNEXTLEVEL") {
+        let text = format!(in alloc; "{error}")?;
+        assert_text(
+            &rt,
+            "the line and why",
+            &text,
+            "line 2: NEXTLEVEL is not supported",
+        );
+    }
+    Ok(())
+}

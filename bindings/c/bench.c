@@ -175,6 +175,24 @@ static textwrap_status carry_styles(work *w) {
                                  w->room, w->room_len, &len);
 }
 
+static textwrap_status carry_attributes(work *w) {
+    size_t count, len;
+    return textwrap_carry_attributes(w->texts, w->texts_len, &w->options, w->lines, w->lines_len,
+                                     &count, w->room, w->room_len, &len);
+}
+
+static textwrap_status wrap_balanced(work *w) {
+    size_t count, len;
+    return textwrap_wrap_balanced(w->text, w->text_len, &w->options, w->lines, w->lines_len, &count,
+                                  w->room, w->room_len, &len);
+}
+
+/* Of the texts in two columns. */
+static textwrap_status fitting_widths(work *w) {
+    size_t widths[2], count;
+    return textwrap_fitting_widths(w->texts, w->texts_len, 2, 80, widths, 2, &count);
+}
+
 /* The texts in two columns. */
 static textwrap_status table(work *w) {
     textwrap_gaps gaps = textwrap_gaps_new(text_of(blanks), text_of(blanks), text_of(blanks));
@@ -227,6 +245,9 @@ static const named_call calls[] = {
     {"fill_justified", fill_justified},
     {"shorten", shorten},
     {"carry_styles", carry_styles},
+    {"carry_attributes", carry_attributes},
+    {"wrap_balanced", wrap_balanced},
+    {"fitting_widths", fitting_widths},
     {"table", table},
 };
 

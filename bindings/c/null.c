@@ -32,10 +32,16 @@ PROVED(justify);
 PROVED(fill_justified);
 PROVED(expand_tabs);
 PROVED(shorten);
+PROVED(shorten_by);
 PROVED(shorten_lines);
+PROVED(shorten_lines_by);
 PROVED(carry_styles);
+PROVED(carry_attributes);
+PROVED(wrap_balanced);
+PROVED(balanced_width);
 PROVED(table);
 PROVED(table_of_lines);
+PROVED(fitting_widths);
 PROVED(wrap_first_fit);
 PROVED(wrap_optimal_fit);
 PROVED(pieces);
@@ -270,6 +276,14 @@ textwrap_status textwrap_shorten(const uint8_t *line, size_t line_len, size_t wi
                           ARRAY(room, room_len), len);
 }
 
+textwrap_status textwrap_shorten_by(const uint8_t *line, size_t line_len, size_t width,
+                                    const uint8_t *placeholder, size_t placeholder_len,
+                                    uint32_t break_words, uint8_t *room, size_t room_len,
+                                    size_t *len) {
+    return proved_shorten_by(ARRAY(line, line_len), width, ARRAY(placeholder, placeholder_len),
+                             break_words, ARRAY(room, room_len), len);
+}
+
 textwrap_status textwrap_shorten_lines(const textwrap_text *lines, size_t lines_len, size_t most,
                                        size_t width, const uint8_t *placeholder,
                                        size_t placeholder_len, textwrap_line *places,
@@ -280,6 +294,16 @@ textwrap_status textwrap_shorten_lines(const textwrap_text *lines, size_t lines_
                                 count, ARRAY(room, room_len), len);
 }
 
+textwrap_status textwrap_shorten_lines_by(const textwrap_text *lines, size_t lines_len, size_t most,
+                                          size_t width, const uint8_t *placeholder,
+                                          size_t placeholder_len, uint32_t break_words,
+                                          textwrap_line *places, size_t places_len, size_t *count,
+                                          uint8_t *room, size_t room_len, size_t *len) {
+    return proved_shorten_lines_by(ARRAY(lines, lines_len), most, width,
+                                   ARRAY(placeholder, placeholder_len), break_words,
+                                   ARRAY(places, places_len), count, ARRAY(room, room_len), len);
+}
+
 textwrap_status textwrap_carry_styles(const textwrap_text *lines, size_t lines_len,
                                       const textwrap_options *options, textwrap_line *places,
                                       size_t places_len, size_t *count, uint8_t *room,
@@ -287,6 +311,30 @@ textwrap_status textwrap_carry_styles(const textwrap_text *lines, size_t lines_l
     textwrap_options some = some_options(options);
     return proved_carry_styles(ARRAY(lines, lines_len), &some, ARRAY(places, places_len), count,
                                ARRAY(room, room_len), len);
+}
+
+textwrap_status textwrap_carry_attributes(const textwrap_text *lines, size_t lines_len,
+                                          const textwrap_options *options, textwrap_line *places,
+                                          size_t places_len, size_t *count, uint8_t *room,
+                                          size_t room_len, size_t *len) {
+    textwrap_options some = some_options(options);
+    return proved_carry_attributes(ARRAY(lines, lines_len), &some, ARRAY(places, places_len), count,
+                                   ARRAY(room, room_len), len);
+}
+
+textwrap_status textwrap_wrap_balanced(const uint8_t *text, size_t text_len,
+                                       const textwrap_options *options, textwrap_line *lines,
+                                       size_t lines_len, size_t *count, uint8_t *room,
+                                       size_t room_len, size_t *len) {
+    textwrap_options some = some_options(options);
+    return proved_wrap_balanced(ARRAY(text, text_len), &some, ARRAY(lines, lines_len), count,
+                                ARRAY(room, room_len), len);
+}
+
+textwrap_status textwrap_balanced_width(const uint8_t *text, size_t text_len,
+                                        const textwrap_options *options, size_t *width) {
+    textwrap_options some = some_options(options);
+    return proved_balanced_width(ARRAY(text, text_len), &some, width);
 }
 
 textwrap_status textwrap_table(const textwrap_text *cells, size_t cells_len,
@@ -306,6 +354,13 @@ textwrap_status textwrap_table_of_lines(const textwrap_cell *cells, size_t cells
     textwrap_gaps around = some_gaps(gaps);
     return proved_table_of_lines(ARRAY(cells, cells_len), ARRAY(columns, columns_len), &around,
                                  ARRAY(rows, rows_len), count, ARRAY(room, room_len), len);
+}
+
+textwrap_status textwrap_fitting_widths(const textwrap_text *cells, size_t cells_len,
+                                        size_t columns, size_t total, size_t *widths,
+                                        size_t widths_len, size_t *count) {
+    return proved_fitting_widths(ARRAY(cells, cells_len), columns, total, ARRAY(widths, widths_len),
+                                 count);
 }
 
 textwrap_status textwrap_wrap_first_fit(const textwrap_fragment *fragments, size_t fragments_len,

@@ -204,6 +204,20 @@ static textwrap_status styles_carried(struct lent *lent) {
                                  &lent->len);
 }
 
+static textwrap_status attributes_carried(struct lent *lent) {
+    textwrap_options o = options_of(1, 0);
+    const textwrap_text lines[2] = {text_of("\x1b]8;;u\x1b\\a \x1b[1;31;99mb"), text_of("> c")};
+    o.subsequent_indent = text_of("> ");
+    return textwrap_carry_attributes(lines, 2, &o, lent->lines, 16, &lent->count, lent->room, 256,
+                                     &lent->len);
+}
+
+static textwrap_status widths_fitted(struct lent *lent) {
+    const textwrap_text cells[4] = {text_of("-h"), text_of("Print this help."), text_of("--width N"),
+                                    text_of("Wrap at N columns.")};
+    return textwrap_fitting_widths(cells, 4, 2, 20, lent->places, 16, &lent->count);
+}
+
 static textwrap_status in_a_table(struct lent *lent) {
     const textwrap_gaps gaps = textwrap_gaps_new(text_of("|"), text_of("|"), text_of("|"));
     const textwrap_text cells[3] = {text_of(TEXT), text_of("1.50"), text_of("foo")};
@@ -290,6 +304,24 @@ static textwrap_status wrapped_at_breaks(struct lent *lent) {
     return textwrap_wrap(bytes("foo bar baz"), 11, &o, lent->lines, 16, &lent->count, lent->room,
                          sizeof lent->room, &lent->len);
 }
+
+static textwrap_status width_of(struct lent *lent, textwrap_options o) {
+    return textwrap_balanced_width(bytes(TEXT), strlen(TEXT), &o, &lent->len);
+}
+
+static textwrap_status balanced(struct lent *lent, textwrap_options o) {
+    return textwrap_wrap_balanced(bytes(TEXT), strlen(TEXT), &o, lent->lines, 16, &lent->count,
+                                  lent->room, 256, &lent->len);
+}
+
+/* The options' own algorithm, which would allocate, is not used. */
+static textwrap_status balanced_width_at_blanks(struct lent *lent) {
+    return width_of(lent, options_of(1, 1));
+}
+
+static textwrap_status balanced_at_blanks(struct lent *lent) { return balanced(lent, options_of(1, 1)); }
+static textwrap_status balanced_width_at_breaks(struct lent *lent) { return width_of(lent, at_breaks(10)); }
+static textwrap_status balanced_at_breaks(struct lent *lent) { return balanced(lent, at_breaks(10)); }
 
 static textwrap_status in_pieces_at_breaks(struct lent *lent) {
     textwrap_options o = at_breaks(5);
@@ -422,6 +454,8 @@ static const struct call DIRECT[] = {
     {"indent", indented},
     {"dedent", dedented},
     {"fill_utf8 by first fit, with an indent", known_filled_by_first_fit},
+    {"balanced_width", balanced_width_at_blanks},
+    {"wrap_balanced", balanced_at_blanks},
 };
 
 static const struct call CALLS[] = {
@@ -444,6 +478,8 @@ static const struct call CALLS[] = {
     {"shorten", shortened},
     {"shorten_lines", lines_shortened},
     {"carry_styles", styles_carried},
+    {"carry_attributes", attributes_carried},
+    {"fitting_widths", widths_fitted},
     {"table", in_a_table},
     {"table_of_lines", lines_in_a_table},
     {"wrap_first_fit", greedily},
@@ -456,6 +492,8 @@ static const struct call CALLS[] = {
     {"strip_ansi_escape_sequences", stripped},
     {"fill at Unicode line breaks", filled_at_breaks},
     {"wrap at Unicode line breaks", wrapped_at_breaks},
+    {"balanced_width at Unicode line breaks", balanced_width_at_breaks},
+    {"wrap_balanced at Unicode line breaks", balanced_at_breaks},
     {"pieces at Unicode line breaks", in_pieces_at_breaks},
     {"break_apart", broken},
     {"pieces_at", in_pieces_at_cuts},

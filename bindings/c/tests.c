@@ -524,6 +524,30 @@ static void lines_are_shortened(void) {
     CHECK(is_text(room, len, ".."));
 }
 
+static void words_are_cut_where_that_is_asked(void) {
+    const char *line = "a \x1b[1mSupercalifragilistic";
+    const textwrap_text lines[2] = {text_of(line), text_of("")};
+    textwrap_line places[1];
+    uint8_t room[32] = "...";
+    size_t count = 7, len = 7;
+    CHECK(textwrap_shorten_by(bytes(line), strlen(line), 10, bytes(".."), 2, 2, room, sizeof room,
+                              &len) == TEXTWRAP_UNKNOWN_OPTIONS);
+    CHECK(textwrap_shorten_by(bytes(line), strlen(line), 10, bytes("\xff"), 1, 1, room, sizeof room,
+                              &len) == TEXTWRAP_NOT_UTF8);
+    CHECK(textwrap_shorten_lines_by(lines, 2, 1, 10, bytes(".."), 2, 2, places, 1, &count, room,
+                                    sizeof room, &len) == TEXTWRAP_UNKNOWN_OPTIONS);
+    CHECK(count == 7 && len == 7 && memcmp(room, "...", 4) == 0);
+    CHECK(textwrap_shorten_by(bytes(line), strlen(line), 10, bytes(".."), 2, 1, room, sizeof room,
+                              &len) == TEXTWRAP_DONE);
+    CHECK(is_text(room, len, "a \x1b[1mSuperc\x1b[0m.."));
+    CHECK(textwrap_shorten_by(bytes(line), strlen(line), 10, bytes(".."), 2, 0, room, sizeof room,
+                              &len) == TEXTWRAP_DONE);
+    CHECK(is_text(room, len, "a.."));
+    CHECK(textwrap_shorten_lines_by(lines, 2, 1, 10, bytes(".."), 2, 1, places, 1, &count, room,
+                                    sizeof room, &len) == TEXTWRAP_DONE);
+    CHECK(count == 1 && are_lines(places, count, room, len, "a \x1b[1mSuperc\x1b[0m..\n"));
+}
+
 static void lists_of_lines_are_shortened(void) {
     const textwrap_text lines[3] = {text_of("one"), text_of("two three"), text_of("four")};
     const textwrap_text wrong[1] = {text_of("a\xff")};
@@ -609,6 +633,105 @@ static void carrying_styles_is_refused(void) {
     CHECK(count == 2 && len == 18 && memcmp(room + 9, "\x1b[1mb\x1b[0_", 9) == 0);
     CHECK(textwrap_carry_styles(lines, 2, &o, places, 2, &count, room, 18, &len) == TEXTWRAP_DONE);
     CHECK(are_lines(places, count, room, len, "\x1b[1ma\x1b[0m\n\x1b[1mb\x1b[0m\n"));
+}
+
+static void attributes_are_carried(void) {
+    const textwrap_text lines[3] = {text_of("a \x1b[1;31mb"), text_of("c\x1b[39md"), text_of("e")};
+    const textwrap_text wrong[1] = {text_of("a\xff")};
+    textwrap_options o = textwrap_options_new(10);
+    textwrap_line places[3];
+    uint8_t room[48] = "...";
+    size_t count = 7, len = 7;
+    CHECK(textwrap_carry_attributes(wrong, 1, &o, places, 3, &count, room, sizeof room, &len)
+          == TEXTWRAP_NOT_UTF8);
+    o.version = 2;
+    CHECK(textwrap_carry_attributes(wrong, 1, &o, places, 3, &count, room, sizeof room, &len)
+          == TEXTWRAP_UNKNOWN_OPTIONS);
+    o.version = TEXTWRAP_VERSION;
+    CHECK(count == 7 && len == 7 && memcmp(room, "...", 4) == 0);
+    room[42] = '_';
+    CHECK(textwrap_carry_attributes(lines, 3, &o, places, 3, &count, room, 42, &len)
+          == TEXTWRAP_TOO_SMALL);
+    CHECK(count == 3 && len == 43 && room[41] == '0' && room[42] == '_');
+    CHECK(textwrap_carry_attributes(lines, 3, &o, places, 2, &count, room, 43, &len)
+          == TEXTWRAP_TOO_SMALL);
+    CHECK(count == 3 && len == 43);
+    CHECK(textwrap_carry_attributes(lines, 3, &o, places, 3, &count, room, 43, &len)
+          == TEXTWRAP_DONE);
+    CHECK(count == 3 && are_lines(places, count, room, len,
+                                  "a \x1b[1;31mb\x1b[0m\n"
+                                  "\x1b[1m\x1b[31mc\x1b[39md\x1b[0m\n"
+                                  "\x1b[1me\x1b[0m\n"));
+    o.subsequent_indent = text_of("> ");
+    const textwrap_text quoted[2] = {text_of("\x1b[1;31m\x1b[32ma"), text_of("> b")};
+    CHECK(textwrap_carry_attributes(quoted, 2, &o, places, 3, &count, room, sizeof room, &len)
+          == TEXTWRAP_DONE);
+    CHECK(count == 2 && are_lines(places, count, room, len,
+                                  "\x1b[1;31m\x1b[32ma\x1b[0m\n> \x1b[1m\x1b[32mb\x1b[0m\n"));
+}
+
+/* Whether a line is reported so. */
+static int is_place(const textwrap_line *line, size_t offset, size_t len, size_t is_built) {
+    return line->offset == offset && line->len == len && line->is_built == is_built;
+}
+
+static void lines_are_balanced(void) {
+    const uint8_t *title = bytes("It was the best of times, it was the worst");
+    const size_t title_len = 42;
+    textwrap_options o = textwrap_options_new(40);
+    textwrap_line lines[2];
+    uint8_t room[18] = "...";
+    size_t width = 7, count = 7, len = 7;
+    o.version = 2;
+    CHECK(textwrap_balanced_width(bytes("\xff"), 1, &o, &width) == TEXTWRAP_UNKNOWN_OPTIONS);
+    CHECK(textwrap_wrap_balanced(bytes("\xff"), 1, &o, lines, 2, &count, room, 18, &len)
+          == TEXTWRAP_UNKNOWN_OPTIONS);
+    o.version = TEXTWRAP_VERSION;
+    CHECK(textwrap_balanced_width(bytes("\xff"), 1, &o, &width) == TEXTWRAP_NOT_UTF8);
+    CHECK(textwrap_wrap_balanced(bytes("\xff"), 1, &o, lines, 2, &count, room, 18, &len)
+          == TEXTWRAP_NOT_UTF8);
+    CHECK(width == 7 && count == 7 && len == 7 && memcmp(room, "...", 4) == 0);
+    CHECK(textwrap_balanced_width(title, title_len, &o, &width) == TEXTWRAP_DONE && width == 23);
+    CHECK(textwrap_wrap_balanced(title, title_len, &o, lines, 1, &count, room, 18, &len)
+          == TEXTWRAP_TOO_SMALL);
+    CHECK(count == 2 && len == 0 && is_place(&lines[0], 0, 18, 0));
+    CHECK(textwrap_wrap_balanced(title, title_len, &o, lines, 2, &count, room, 18, &len)
+          == TEXTWRAP_DONE);
+    CHECK(count == 2 && len == 0 && memcmp(room, "...", 4) == 0);
+    CHECK(is_place(&lines[0], 0, 18, 0) && is_place(&lines[1], 19, 23, 0));
+    o.subsequent_indent = text_of("> ");
+    CHECK(textwrap_balanced_width(title, title_len, &o, &width) == TEXTWRAP_DONE && width == 25);
+    CHECK(textwrap_wrap_balanced(title, title_len, &o, lines, 2, &count, room, 17, &len)
+          == TEXTWRAP_TOO_SMALL);
+    CHECK(count == 2 && len == 18);
+    CHECK(textwrap_wrap_balanced(title, title_len, &o, lines, 2, &count, room, 18, &len)
+          == TEXTWRAP_DONE);
+    CHECK(is_place(&lines[0], 0, 25, 0) && is_place(&lines[1], 0, 18, 1));
+    CHECK(count == 2 && is_text(room, len, "> it was the worst"));
+    o = textwrap_options_new(12);
+    o.unicode_breaks = 1;
+    CHECK(textwrap_balanced_width(bytes("either/or not"), 13, &o, &width) == TEXTWRAP_DONE);
+    CHECK(width == 7);
+    CHECK(textwrap_wrap_balanced(bytes("either/or not"), 13, &o, lines, 2, &count, room, 18, &len)
+          == TEXTWRAP_DONE);
+    CHECK(count == 2 && is_place(&lines[0], 0, 7, 0) && is_place(&lines[1], 7, 6, 0));
+}
+
+static void columns_are_fitted(void) {
+    const textwrap_text cells[4] = {text_of("-h"), text_of("Print this help."), text_of("--width N"),
+                                    text_of("Wrap at N columns.")};
+    const textwrap_text wrong[2] = {text_of("a"), text_of("\xff")};
+    size_t widths[4] = {9, 9, 9, 9}, count = 7;
+    CHECK(textwrap_fitting_widths(wrong, 2, 2, 20, widths, 4, &count) == TEXTWRAP_NOT_UTF8);
+    CHECK(count == 7 && widths[0] == 9);
+    CHECK(textwrap_fitting_widths(cells, 4, 2, 20, widths, 1, &count) == TEXTWRAP_TOO_SMALL);
+    CHECK(count == 2 && widths[0] == 8 && widths[1] == 9);
+    CHECK(textwrap_fitting_widths(cells, 4, 2, 20, widths, 4, &count) == TEXTWRAP_DONE);
+    CHECK(count == 2 && widths[0] == 8 && widths[1] == 12 && widths[2] == 9);
+    CHECK(textwrap_fitting_widths(cells, 0, 3, 10, widths, 4, &count) == TEXTWRAP_DONE);
+    CHECK(count == 3 && widths[0] == 4 && widths[1] == 3 && widths[2] == 3 && widths[3] == 9);
+    CHECK(textwrap_fitting_widths(cells, 4, 0, 20, widths, 4, &count) == TEXTWRAP_DONE);
+    CHECK(count == 0 && widths[0] == 4);
 }
 
 /* A column with words by first fit. */
@@ -1274,6 +1397,16 @@ static void a_pointer_to_nothing_may_be_null(void) {
     CHECK(count == 0 && len == 0);
     CHECK(textwrap_carry_styles(NULL, 0, &o, NULL, 0, &count, NULL, 0, &len) == TEXTWRAP_DONE);
     CHECK(count == 0 && len == 0);
+    CHECK(textwrap_carry_attributes(NULL, 0, &o, NULL, 0, &count, NULL, 0, &len) == TEXTWRAP_DONE);
+    CHECK(count == 0 && len == 0);
+    CHECK(textwrap_balanced_width(NULL, 0, &o, &count) == TEXTWRAP_DONE && count == 0);
+    CHECK(textwrap_wrap_balanced(NULL, 0, &o, line, 1, &count, NULL, 0, &len) == TEXTWRAP_DONE);
+    CHECK(count == 1 && len == 0 && line[0].offset == 0 && line[0].len == 0);
+    CHECK(textwrap_wrap_balanced(NULL, 0, &o, NULL, 0, &count, NULL, 0, &len)
+          == TEXTWRAP_TOO_SMALL);
+    CHECK(textwrap_fitting_widths(NULL, 0, 0, 10, NULL, 0, &count) == TEXTWRAP_DONE && count == 0);
+    CHECK(textwrap_fitting_widths(NULL, 0, 1, 10, NULL, 0, &count) == TEXTWRAP_TOO_SMALL);
+    CHECK(count == 1);
     CHECK(textwrap_table(NULL, 0, NULL, 0, &gaps, NULL, 0, &count, NULL, 0, &len) == TEXTWRAP_DONE);
     CHECK(count == 0 && len == 0);
     CHECK(textwrap_table_of_lines(NULL, 0, NULL, 0, &gaps, NULL, 0, &count, NULL, 0, &len)
@@ -1323,9 +1456,13 @@ int main(void) {
     texts_with_marks_are_reflowed();
     reflowing_is_refused();
     lines_are_shortened();
+    words_are_cut_where_that_is_asked();
     lists_of_lines_are_shortened();
     styles_are_carried();
     carrying_styles_is_refused();
+    attributes_are_carried();
+    lines_are_balanced();
+    columns_are_fitted();
     tables_are_written();
     rows_of_lines_are_written();
     tables_of_lines_are_written();

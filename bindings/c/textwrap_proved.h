@@ -373,11 +373,22 @@ TEXTWRAP_CHECKED
 textwrap_status textwrap_expand_tabs(const uint8_t *text, size_t text_len, size_t stop,
                                      uint8_t *room, size_t room_len, size_t *len);
 
-/* Writes the line; one that is wider than the width is cut, so that it ends in the placeholder. */
+/* Writes the line; one that is wider than the width is cut, so that it ends in the placeholder. It is
+ * cut between words, and in no escape sequence; a style or a link that is open there is ended before
+ * the placeholder. */
 TEXTWRAP_CHECKED
 textwrap_status textwrap_shorten(const uint8_t *line, size_t line_len, size_t width,
                                  const uint8_t *placeholder, size_t placeholder_len, uint8_t *room,
                                  size_t room_len, size_t *len);
+
+/* Writes the same, but where break_words is 1, as much as fits is kept too of the first word that is
+ * left out, if that word is wider than what the placeholder leaves of the width. Any number but 0 and 1
+ * is UNKNOWN_OPTIONS. */
+TEXTWRAP_CHECKED
+textwrap_status textwrap_shorten_by(const uint8_t *line, size_t line_len, size_t width,
+                                    const uint8_t *placeholder, size_t placeholder_len,
+                                    uint32_t break_words, uint8_t *room, size_t room_len,
+                                    size_t *len);
 
 /* Writes so many of the lines at most. If some are left out, the last that is written ends in the
  * placeholder. */
@@ -388,6 +399,14 @@ textwrap_status textwrap_shorten_lines(const textwrap_text *lines, size_t lines_
                                        size_t places_len, size_t *count, uint8_t *room,
                                        size_t room_len, size_t *len);
 
+/* Writes the same, where words may be cut as textwrap_shorten_by cuts them. */
+TEXTWRAP_CHECKED
+textwrap_status textwrap_shorten_lines_by(const textwrap_text *lines, size_t lines_len, size_t most,
+                                          size_t width, const uint8_t *placeholder,
+                                          size_t placeholder_len, uint32_t break_words,
+                                          textwrap_line *places, size_t places_len, size_t *count,
+                                          uint8_t *room, size_t room_len, size_t *len);
+
 /* Writes the lines of one text so that each stands by itself: after its indent it sets anew the link
  * and the styles that the lines before it left open, and at its end it takes back what is open. The
  * indents are those of the options; nothing else of them is used. */
@@ -396,6 +415,33 @@ textwrap_status textwrap_carry_styles(const textwrap_text *lines, size_t lines_l
                                       const textwrap_options *options, textwrap_line *places,
                                       size_t places_len, size_t *count, uint8_t *room,
                                       size_t room_len, size_t *len);
+
+/* Writes the same, but that each line sets anew, of each attribute such as bold or the foreground, the
+ * last setting alone, and none that ended: a colour that follows another takes its place. What is not
+ * in the table of SGR (ECMA-48) is carried until all is taken back. */
+TEXTWRAP_CHECKED
+textwrap_status textwrap_carry_attributes(const textwrap_text *lines, size_t lines_len,
+                                          const textwrap_options *options, textwrap_line *places,
+                                          size_t places_len, size_t *count, uint8_t *room,
+                                          size_t room_len, size_t *len);
+
+/* Writes the lines of a text as textwrap_wrap does, balanced, as titles and centred texts should be: as
+ * many as first fit makes at the width of the options, and about equally wide. They are those of first
+ * fit at the width of textwrap_balanced_width. At blanks nothing is allocated. */
+TEXTWRAP_CHECKED
+textwrap_status textwrap_wrap_balanced(const uint8_t *text, size_t text_len,
+                                       const textwrap_options *options, textwrap_line *lines,
+                                       size_t lines_len, size_t *count, uint8_t *room,
+                                       size_t room_len, size_t *len);
+
+/* Writes the least width at which first fit takes no more lines of a text than at the width of the
+ * options, and at which there is room for the wider of the indents and, after it, for any one word,
+ * split but not broken. Where some word has no room at the width of the options, it is that width. The
+ * algorithm of the options is not used. DONE, NOT_UTF8, UNKNOWN_OPTIONS or OUT_OF_MEMORY; at blanks
+ * nothing is allocated. */
+TEXTWRAP_CHECKED
+textwrap_status textwrap_balanced_width(const uint8_t *text, size_t text_len,
+                                        const textwrap_options *options, size_t *width);
 
 /* A column of a table: how its texts are wrapped, and where their lines stand in its width. */
 typedef struct {
@@ -428,6 +474,21 @@ textwrap_status textwrap_table_of_lines(const textwrap_cell *cells, size_t cells
                                         const textwrap_gaps *gaps, textwrap_line *rows,
                                         size_t rows_len, size_t *count, uint8_t *room,
                                         size_t room_len, size_t *len);
+
+/* Writes widths for the columns of a table, by what stands in its cells, which are given row after row;
+ * the last row may be shorter. The total is what a row has beside its gaps, and the widths add up to
+ * it. Each column gets its widest word, and what is left is shared out in proportion to what each still
+ * lacks of its widest line. `count` is the number of columns. So options have widths for textwrap_table:
+ *
+ *     size_t widths[2], count;
+ *     if (textwrap_fitting_widths(cells, 4, 2, 20, widths, 2, &count)) return 1;
+ *     columns[0].options.width = widths[0];
+ *     columns[1].options.width = widths[1];
+ */
+TEXTWRAP_CHECKED
+textwrap_status textwrap_fitting_widths(const textwrap_text *cells, size_t cells_len,
+                                        size_t columns, size_t total, size_t *widths,
+                                        size_t widths_len, size_t *count);
 
 /* ---- Fragments of the caller's own, and the two algorithms */
 

@@ -1,4 +1,4 @@
-//! Lines for display: aligned, justified and shortened, with styles carried on, and in tables.
+//! Lines for display: aligned, justified, balanced and shortened, with styles carried on, and in tables.
 //!
 //! The calls take lines as [`wrap()`](crate::wrap()) returns them, or any others. Widths are in
 //! columns, as [`display_width`](crate::core::display_width()) measures them. The original has no
@@ -19,6 +19,7 @@
 use crate::out_of_memory::or_abort;
 use crate::sys;
 use crate::Options;
+use alloc::borrow::Cow;
 use alloc::string::String;
 use alloc::vec::Vec;
 
@@ -191,11 +192,47 @@ where
     or_abort(fallible::fill_justified(text, width_or_options))
 }
 
-/// The line, cut so that it ends in the placeholder where it is wider than the width.
+/// How lines are cut that are too wide.
 ///
-/// It is cut before a blank that follows no blank, as late as leaves room for the placeholder. If
-/// no place does, the placeholder stands alone, even where it is wider than the width. A line that
-/// is not wider stays as it is.
+/// # Examples
+///
+/// ```
+/// use textwrap_proved::display::{shorten_by, Shortening};
+///
+/// let shortening = Shortening::new(10, "..");
+/// assert_eq!(shorten_by("Supercalifragilistic", &shortening), "..");
+/// let shortening = shortening.break_words(true);
+/// assert_eq!(shorten_by("Supercalifragilistic", &shortening), "Supercal..");
+/// assert_eq!(shorten_by("a Supercalifragilistic", &shortening), "a Superc..");
+/// ```
+#[derive(Clone, Copy, Debug, PartialEq, Eq)]
+pub struct Shortening<'p> {
+    /// How many columns a line may take.
+    pub width: usize,
+    /// What a line that was cut ends in.
+    pub placeholder: &'p str,
+    /// Whether as much as fits is kept of the first word that is left out, if that word is by itself
+    /// wider than what the placeholder leaves of the width.
+    pub break_words: bool,
+}
+
+impl<'p> Shortening<'p> {
+    /// To so many columns, with this placeholder. No word is cut.
+    #[must_use]
+    pub const fn new(width: usize, placeholder: &'p str) -> Self {
+        Shortening { width, placeholder, break_words: false }
+    }
+
+    /// Sets [`break_words`](#structfield.break_words).
+    #[must_use]
+    pub const fn break_words(mut self, break_words: bool) -> Self {
+        self.break_words = break_words;
+        self
+    }
+}
+
+/// The line, cut so that it ends in the placeholder where it is wider than the width, as
+/// [`shorten_by`] cuts it where no word is cut.
 ///
 /// # Examples
 ///
@@ -210,11 +247,27 @@ pub fn shorten(line: &str, width: usize, placeholder: &str) -> String {
     or_abort(fallible::shorten(line, width, placeholder))
 }
 
-/// The lines, at most so many.
+/// The line, cut so that it ends in the placeholder where it is wider than the width.
 ///
-/// Where some are left out, the last one that is not ends in the placeholder: it is cut as
-/// [`shorten`] cuts a line that is too wide, or stands whole before the placeholder where both have
-/// room. The other lines stay as they are.
+/// It is cut before a blank that follows no blank, as late as leaves room for the placeholder, and
+/// never inside an escape sequence. If no place does, the placeholder stands alone, even where it is
+/// wider than the width. A word is cut only as [`Shortening::break_words`](Shortening) says. A style
+/// or a link that is open where the line is cut is ended before the placeholder. A line that is not
+/// wider stays as it is.
+///
+/// # Examples
+///
+/// ```
+/// use textwrap_proved::display::{shorten_by, Shortening};
+///
+/// let shortening = Shortening::new(9, " ...");
+/// assert_eq!(shorten_by("\x1b[1mHello world", &shortening), "\x1b[1mHello\x1b[0m ...");
+/// ```
+pub fn shorten_by(line: &str, shortening: &Shortening<'_>) -> String {
+    or_abort(fallible::shorten_by(line, shortening))
+}
+
+/// The lines, at most so many, as [`shorten_lines_by`] gives them where no word is cut.
 ///
 /// # Examples
 ///
@@ -233,6 +286,27 @@ where
     S: AsRef<str>,
 {
     or_abort(fallible::shorten_lines(lines, most, width, placeholder))
+}
+
+/// The lines, at most so many.
+///
+/// Where some are left out, the last one that is not ends in the placeholder: it is cut as
+/// [`shorten_by`] cuts a line that is too wide, or stands whole before the placeholder where both have
+/// room. The other lines stay as they are.
+///
+/// # Examples
+///
+/// ```
+/// use textwrap_proved::display::{shorten_lines_by, Shortening};
+///
+/// let shortening = Shortening::new(9, "..").break_words(true);
+/// assert_eq!(shorten_lines_by(&["an abracadabra", "b"], 1, &shortening), ["an abra.."]);
+/// ```
+pub fn shorten_lines_by<S>(lines: &[S], most: usize, shortening: &Shortening<'_>) -> Vec<String>
+where
+    S: AsRef<str>,
+{
+    or_abort(fallible::shorten_lines_by(lines, most, shortening))
 }
 
 /// The lines of one text, of which each can be shown by itself in its styles.
@@ -263,6 +337,119 @@ where
     Opt: Into<Options<'a>>,
 {
     or_abort(fallible::carry_styles(lines, width_or_options))
+}
+
+/// The lines of one text, as [`carry_styles`] gives them, but with less that is set anew.
+///
+/// Each line sets anew, of each attribute such as bold or the foreground, the last setting alone, and
+/// none that ended: a colour that follows another takes its place. What is not in the table of SGR
+/// (ECMA-48) is carried until all is taken back.
+///
+/// # Examples
+///
+/// ```
+/// use textwrap_proved::display::carry_attributes;
+///
+/// let lines = ["a \u{1b}[1;31mb", "c\u{1b}[39md", "e"];
+/// assert_eq!(carry_attributes(&lines, 80), [
+///     "a \u{1b}[1;31mb\u{1b}[0m",
+///     "\u{1b}[1m\u{1b}[31mc\u{1b}[39md\u{1b}[0m",
+///     "\u{1b}[1me\u{1b}[0m",
+/// ]);
+/// ```
+pub fn carry_attributes<'a, S, Opt>(lines: &[S], width_or_options: Opt) -> Vec<String>
+where
+    S: AsRef<str>,
+    Opt: Into<Options<'a>>,
+{
+    or_abort(fallible::carry_attributes(lines, width_or_options))
+}
+
+/// The lines of a text, balanced, as titles and centred texts should be: as many as first fit makes at
+/// the width of the options, and about equally wide.
+///
+/// They are those of [first fit](crate::WrapAlgorithm::FirstFit) at the [`balanced_width`]. The
+/// algorithm of the options is not used.
+///
+/// # Panics
+///
+/// If a function of the caller, or a dictionary, finds words or splits them.
+///
+/// # Examples
+///
+/// ```
+/// use textwrap_proved::display::wrap_balanced;
+/// use textwrap_proved::wrap;
+///
+/// let title = "It was the best of times, it was the worst";
+/// assert_eq!(wrap(title, 40), ["It was the best of times, it was the", "worst"]);
+/// assert_eq!(wrap_balanced(title, 40), ["It was the best of", "times, it was the worst"]);
+/// ```
+pub fn wrap_balanced<'a, Opt>(text: &str, width_or_options: Opt) -> Vec<Cow<'_, str>>
+where
+    Opt: Into<Options<'a>>,
+{
+    or_abort(fallible::wrap_balanced(text, width_or_options))
+}
+
+/// The least width at which first fit takes no more lines of a text than at the width of the options.
+///
+/// It is no less than leaves room for the wider of the indents and, after it, for any one word, split
+/// but not broken. Where some word has no room at the width of the options, it is that width. The
+/// algorithm of the options is not used.
+///
+/// # Panics
+///
+/// If a function of the caller, or a dictionary, finds words or splits them.
+///
+/// # Examples
+///
+/// ```
+/// use textwrap_proved::display::balanced_width;
+///
+/// assert_eq!(balanced_width("It was the best of times, it was the worst", 40), 23);
+/// assert_eq!(balanced_width("a title", 40), 7);
+/// ```
+pub fn balanced_width<'a, Opt>(text: &str, width_or_options: Opt) -> usize
+where
+    Opt: Into<Options<'a>>,
+{
+    or_abort(fallible::balanced_width(text, width_or_options))
+}
+
+/// Widths for so many columns of a table that fit what stands in its cells, which are given row after
+/// row; the last row may be shorter.
+///
+/// The total is what a row has beside its gaps, and the widths add up to it. Each column gets its widest
+/// word, and what is left is shared out in proportion to what each still lacks of its widest line; where
+/// all widest lines have room, in proportion to these, and where not even the widest words have, the
+/// total is shared out in proportion to the words. What rounding leaves over goes to the first columns.
+///
+/// # Examples
+///
+/// ```
+/// use textwrap_proved::display::{fitting_widths, table, Alignment, Column, Gaps};
+/// use textwrap_proved::Options;
+///
+/// let cells = ["-h", "Print this help.", "--width N", "Wrap at N columns."];
+/// let widths = fitting_widths(&cells, 2, 20);
+/// assert_eq!(widths, [8, 12]);
+/// let columns: Vec<_> = widths
+///     .iter()
+///     .map(|&width| Column { options: Options::new(width), alignment: Alignment::Left })
+///     .collect();
+/// assert_eq!(table(&cells, &columns, &Gaps { left: "", middle: "  ", right: "" }), [
+///     "-h        Print this  ",
+///     "          help.       ",
+///     "--width   Wrap at N   ",
+///     "N         columns.    ",
+/// ]);
+/// ```
+pub fn fitting_widths<S>(cells: &[S], columns: usize, total: usize) -> Vec<usize>
+where
+    S: AsRef<str>,
+{
+    or_abort(fallible::fitting_widths(cells, columns, total))
 }
 
 /// The rows of a table, whose cells are given row after row.

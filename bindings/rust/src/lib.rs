@@ -56,8 +56,8 @@
 //!
 //! # Lines for display
 //!
-//! The module [`display`] aligns, justifies and shortens lines, carries their styles on from line
-//! to line, and lays texts out in tables:
+//! The module [`display`] aligns, justifies, balances and shortens lines, carries their styles on from
+//! line to line, and lays texts out in tables:
 //!
 //! ```
 //! use textwrap_proved::display::{align, fill_justified, shorten, Alignment};

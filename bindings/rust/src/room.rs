@@ -141,6 +141,17 @@ pub(crate) unsafe fn written(
     unsafe { Ok(String::from_utf8_unchecked(listed(guess, call)?)) }
 }
 
+/// The number that a call writes.
+pub(crate) fn numbered(call: impl FnOnce(&mut usize) -> u32) -> Result<usize, OutOfMemory> {
+    let (mut number, before) = (0, BeforeCall::now());
+    let status = call(&mut number);
+    if status != sys::DONE {
+        // It takes no room, so memory ran out.
+        refused(status, before)?;
+    }
+    Ok(number)
+}
+
 /// What a call of the library writes to room at its end, by a guess of how much that is:
 /// `list_by!(guess, call(lists; what else it takes))`. Each list, or text, is handed over as its pointer
 /// and its length. So `list_by` gives items, `text_by` a text, and `lines_by` lines, for which a guess of
@@ -196,7 +207,17 @@ macro_rules! value_by {
     }};
 }
 
-pub(crate) use {lines_by, list_by, text_by, value_by};
+/// The number that a call writes which may run out of memory: `number_by!(call(lists; what else it takes))`.
+macro_rules! number_by {
+    ($call:ident($($list:expr),+ $(; $($other:expr),+)?)) => {
+        // SAFETY: as in `value_by`.
+        $crate::room::numbered(|number| unsafe {
+            $crate::sys::$call($($list.as_ptr(), $list.len(),)+ $($($other,)+)? number)
+        })
+    };
+}
+
+pub(crate) use {lines_by, list_by, number_by, text_by, value_by};
 
 /// Room for lines, as it is handed to a call.
 pub(crate) struct LineRoom {

@@ -339,6 +339,18 @@ extern "C" {
         len: *mut usize,
     ) -> u32;
 
+    pub fn textwrap_shorten_by(
+        line: *const u8,
+        line_len: usize,
+        width: usize,
+        placeholder: *const u8,
+        placeholder_len: usize,
+        break_words: u32,
+        room: *mut u8,
+        room_len: usize,
+        len: *mut usize,
+    ) -> u32;
+
     pub fn textwrap_shorten_lines(
         lines: *const Text,
         lines_len: usize,
@@ -346,6 +358,22 @@ extern "C" {
         width: usize,
         placeholder: *const u8,
         placeholder_len: usize,
+        places: *mut Line,
+        places_len: usize,
+        count: *mut usize,
+        room: *mut u8,
+        room_len: usize,
+        len: *mut usize,
+    ) -> u32;
+
+    pub fn textwrap_shorten_lines_by(
+        lines: *const Text,
+        lines_len: usize,
+        most: usize,
+        width: usize,
+        placeholder: *const u8,
+        placeholder_len: usize,
+        break_words: u32,
         places: *mut Line,
         places_len: usize,
         count: *mut usize,
@@ -364,6 +392,37 @@ extern "C" {
         room: *mut u8,
         room_len: usize,
         len: *mut usize,
+    ) -> u32;
+
+    pub fn textwrap_carry_attributes(
+        lines: *const Text,
+        lines_len: usize,
+        options: *const Options,
+        places: *mut Line,
+        places_len: usize,
+        count: *mut usize,
+        room: *mut u8,
+        room_len: usize,
+        len: *mut usize,
+    ) -> u32;
+
+    pub fn textwrap_wrap_balanced(
+        text: *const u8,
+        text_len: usize,
+        options: *const Options,
+        lines: *mut Line,
+        lines_len: usize,
+        count: *mut usize,
+        room: *mut u8,
+        room_len: usize,
+        len: *mut usize,
+    ) -> u32;
+
+    pub fn textwrap_balanced_width(
+        text: *const u8,
+        text_len: usize,
+        options: *const Options,
+        width: *mut usize,
     ) -> u32;
 
     pub fn textwrap_table(
@@ -392,6 +451,16 @@ extern "C" {
         room: *mut u8,
         room_len: usize,
         len: *mut usize,
+    ) -> u32;
+
+    pub fn textwrap_fitting_widths(
+        cells: *const Text,
+        cells_len: usize,
+        columns: usize,
+        total: usize,
+        widths: *mut usize,
+        widths_len: usize,
+        count: *mut usize,
     ) -> u32;
 
     pub fn textwrap_wrap_first_fit(

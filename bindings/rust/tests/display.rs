@@ -4,8 +4,9 @@ mod drawn;
 use drawn::Random;
 use textwrap_proved::core::Word;
 use textwrap_proved::display::{
-    align, carry_styles, expand_tabs, fallible, fill_justified, justify, shorten, shorten_lines,
-    table, Alignment, Column, Gaps,
+    align, balanced_width, carry_attributes, carry_styles, expand_tabs, fallible, fill_justified,
+    fitting_widths, justify, shorten, shorten_by, shorten_lines, shorten_lines_by, table,
+    wrap_balanced, Alignment, Column, Gaps, Shortening,
 };
 use textwrap_proved::{
     wrap, LineEnding, Options, OutOfMemory, WordSeparator, WordSplitter, WrapAlgorithm,
@@ -85,6 +86,35 @@ fn lines_are_shortened() {
 }
 
 #[test]
+fn words_are_cut_where_that_is_asked() {
+    for (line, width, short) in [
+        ("Supercalifragilistic", 10, "Supercal.."),
+        ("a Supercalifragilistic", 10, "a Superc.."),
+        ("Hello wonderful", 12, "Hello.."),
+        ("日本語日本語", 7, "日本.."),
+        ("\x1b[1mHello", 5, "\x1b[1mHello"),
+        ("\x1b[1mHello", 4, "\x1b[1mHe\x1b[0m.."),
+    ] {
+        let shortening = Shortening::new(width, "..").break_words(true);
+        assert_eq!(shorten_by(line, &shortening), short);
+        assert_eq!(fallible::shorten_by(line, &shortening).as_deref(), Ok(short));
+        assert_eq!(shorten_lines_by(&["", line, ""], 3, &shortening), ["", line, ""]);
+    }
+    let shortening = Shortening::new(9, "..").break_words(true);
+    assert_eq!(shorten_lines_by(&["an abracadabra", "b"], 1, &shortening), ["an abra.."]);
+    let whole = Shortening { break_words: false, ..Shortening::new(10, "..").break_words(true) };
+    assert_eq!(shorten_by("Supercalifragilistic", &whole), "..");
+    assert_eq!(whole, Shortening::new(10, ".."));
+}
+
+#[test]
+fn what_is_open_is_ended_before_the_placeholder() {
+    assert_eq!(shorten("\x1b[1mHello world", 9, " ..."), "\x1b[1mHello\x1b[0m ...");
+    let link = "\x1b]8;;http://x\x07one two\x1b]8;;\x07";
+    assert_eq!(shorten(link, 5, ".."), "\x1b]8;;http://x\x07one\x1b]8;;\x1b\\..");
+}
+
+#[test]
 fn lists_of_lines_are_shortened() {
     let lines = ["one", "two three", "four"];
     assert_eq!(shorten_lines(&lines, 2, 8, " .."), ["one", "two .."]);
@@ -143,6 +173,100 @@ fn styles_are_carried_after_indents() {
     let colours: String = (0..20).map(|number| format!("\u{1b}[38;5;{number}m")).collect();
     let lines = [colours.clone(), "a".repeat(9), String::new()];
     assert_eq!(carry_styles(&lines, 7)[2], colours + RESET);
+}
+
+#[test]
+fn attributes_are_carried() {
+    let carried = |lines: &[&str]| carry_attributes(lines, 10);
+    assert_eq!(carried(&["a", "b"]), ["a", "b"]);
+    assert_eq!(
+        carried(&["a \u{1b}[1;31mb", "c\u{1b}[39md", "e"]),
+        [
+            format!("a \u{1b}[1;31mb{RESET}"),
+            format!("{BOLD}{RED}c\u{1b}[39md{RESET}"),
+            format!("{BOLD}e{RESET}"),
+        ]
+    );
+    // A colour takes the place of the one before it, however many there were.
+    let colours: String = (0..20).map(|number| format!("\u{1b}[38;5;{number}m")).collect();
+    assert_eq!(carried(&[&colours, "a"])[1], format!("\u{1b}[38;5;19ma{RESET}"));
+    // After the indent, and with a link.
+    let options = Options::new(7).subsequent_indent("> ");
+    let lines = [format!("{LINK}{RED}{BOLD}foo"), String::from("> bar")];
+    assert_eq!(
+        carry_attributes(&lines, &options)[1],
+        format!("> {LINK}{RED}{BOLD}bar{RESET}{LINK_END}")
+    );
+    assert!(carry_attributes::<&str, _>(&[], 7).is_empty());
+    // More than the room that is made at first.
+    let attributes = "\u{1b}[1;3;4;5;7;8;9;31;41;51;53m";
+    let all = "\u{1b}[1m\u{1b}[3m\u{1b}[4m\u{1b}[5m\u{1b}[7m\u{1b}[8m\u{1b}[9m\u{1b}[31m\u{1b}[41m\
+               \u{1b}[51m\u{1b}[53m";
+    assert_eq!(carried(&[attributes, "", "a"])[2], format!("{all}a{RESET}"));
+}
+
+#[test]
+fn lines_are_balanced() {
+    let title = "It was the best of times, it was the worst";
+    for options in at_breaks_and_at_blanks(&Options::new(40)) {
+        assert_eq!(balanced_width(title, &options), 23);
+        assert_eq!(
+            wrap_balanced(title, &options),
+            ["It was the best of", "times, it was the worst"]
+        );
+        let quoted = options.clone().subsequent_indent("> ");
+        assert_eq!(balanced_width(title, &quoted), 25);
+        assert_eq!(
+            wrap_balanced(title, &quoted),
+            ["It was the best of times,", "> it was the worst"]
+        );
+        // The algorithm is not used.
+        for algorithm in [WrapAlgorithm::FirstFit, WrapAlgorithm::Custom(|words, _| vec![words])] {
+            assert_eq!(balanced_width(title, options.clone().wrap_algorithm(algorithm)), 23);
+        }
+        assert_eq!(
+            (balanced_width("", &options), wrap_balanced("", &options)),
+            (0, vec!["".into()])
+        );
+        // A word that has no room at the width.
+        let narrow = options.clone().width(5);
+        assert_eq!(balanced_width("a wonderful word", &narrow), 5);
+        assert_eq!(wrap_balanced("a wonderful word", narrow), ["a", "wonde", "rful", "word"]);
+    }
+    assert_eq!(balanced_width("either/or not", 12), 7);
+    assert_eq!(wrap_balanced("either/or not", 12), ["either/", "or not"]);
+}
+
+/// No wider than first fit has it, as many lines, and each narrower width takes more.
+#[test]
+fn the_balanced_width_is_the_least() {
+    for options in at_breaks_and_at_blanks(&first_fit(20).initial_indent("* ")) {
+        let count = |width| wrap(HAMLET, options.clone().width(width)).len();
+        let width = balanced_width(HAMLET, &options);
+        assert_eq!(wrap_balanced(HAMLET, &options), wrap(HAMLET, options.clone().width(width)));
+        assert!(width <= 20 && count(width) == count(20) && count(width - 1) > count(20));
+    }
+}
+
+#[test]
+#[should_panic(expected = "balanced by the library's own words")]
+fn no_function_finds_words_to_balance() {
+    let halves = WordSplitter::Custom(|word| vec![word.len() / 2]);
+    balanced_width(HAMLET, Options::new(20).word_splitter(halves));
+}
+
+#[test]
+fn columns_are_fitted() {
+    let cells = ["-h", "Print this help.", "--width N", "Wrap at N columns."];
+    // Where not even the widest words have room, in proportion to these.
+    for (total, widths) in [(20, [8, 12]), (27, [9, 18]), (40, [14, 26]), (15, [7, 8]), (5, [3, 2])]
+    {
+        assert_eq!(fitting_widths(&cells, 2, total), widths, "{total}");
+    }
+    assert_eq!(fitting_widths(&cells[..3], 2, 20).iter().sum::<usize>(), 20);
+    assert_eq!(fitting_widths::<&str>(&[], 3, 10), [4, 3, 3]);
+    assert!(fitting_widths(&cells, 0, 10).is_empty());
+    assert_eq!(fitting_widths(&[String::from("日本語"), String::new()], 2, 6), [6, 0]);
 }
 
 // ---- Texts
@@ -389,8 +513,15 @@ fn the_twins_return_the_same() {
     assert_eq!(fallible::shorten("a b", 2, ".").as_deref(), Ok("a."));
     assert_eq!(fallible::shorten_lines(&["a", "b"], 1, 2, "."), Ok(vec![String::from("a.")]));
     assert_eq!(fallible::carry_styles(&["a"], 1), Ok(vec![String::from("a")]));
+    assert_eq!(fallible::carry_attributes(&["a"], 1), Ok(vec![String::from("a")]));
+    assert_eq!(fallible::fitting_widths(&["a", "b"], 2, 5), Ok(vec![3, 2]));
     for options in at_breaks_and_at_blanks(&Options::new(5)) {
         assert_eq!(fallible::fill_justified("a b foo", &options).as_deref(), Ok("a   b\nfoo"));
+        assert_eq!(fallible::balanced_width("a b foo", &options), Ok(3));
+        assert_eq!(
+            fallible::wrap_balanced("a b foo", &options),
+            Ok(vec!["a b".into(), "foo".into()])
+        );
         let column = Column { options, alignment: Alignment::Left };
         let rows = fallible::table(&["a"], &[column], &AROUND);
         assert_eq!(rows, Ok(vec![String::from("[ a     ]")]));
@@ -402,6 +533,7 @@ fn the_twins_return_that_memory_ran_out() {
     assert_eq!(fallible::align("a", usize::MAX, Alignment::Centre), Err(OutOfMemory::default()));
     assert_eq!(fallible::justify("a b", usize::MAX), Err(OutOfMemory::default()));
     assert_eq!(fallible::expand_tabs("\t", usize::MAX), Err(OutOfMemory::default()));
+    assert_eq!(fallible::fitting_widths(&["a"], usize::MAX, 9), Err(OutOfMemory::default()));
     // The words are an empty one before the indent's text, and three.
     let two_lines = WrapAlgorithm::Custom(|words, _| vec![&words[..3], &words[3..]]);
     let wide = Options::new(usize::MAX).initial_indent("*");

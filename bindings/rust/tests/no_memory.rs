@@ -5,7 +5,7 @@ use std::alloc::{GlobalAlloc, Layout, System};
 use std::cell::Cell;
 use std::fmt::Debug;
 use std::ptr::null_mut;
-use textwrap_proved::display::{self, Alignment, Column, Gaps};
+use textwrap_proved::display::{self, Alignment, Column, Gaps, Shortening};
 use textwrap_proved::reflow::ReflowOptions;
 use textwrap_proved::{fallible, Options, OutOfMemory, WordSeparator, WordSplitter};
 
@@ -105,7 +105,22 @@ fn calls_for_display() {
     refuse_each("expand_tabs", || display::fallible::expand_tabs("a\tb", 8));
     refuse_each("shorten", || display::fallible::shorten("foo bar", 5, ".."));
     refuse_each("shorten_lines", || display::fallible::shorten_lines(&["foo", "bar"], 1, 5, ".."));
+    let shortening = Shortening::new(5, "..").break_words(true);
+    refuse_each("shorten_by", || display::fallible::shorten_by("\u{1b}[1mfoobar", &shortening));
+    refuse_each("shorten_lines_by", || {
+        display::fallible::shorten_lines_by(&["foobar", "bar"], 1, &shortening)
+    });
     refuse_each("carry_styles", || display::fallible::carry_styles(&["\u{1b}[1mfoo", "bar"], 5));
+    refuse_each("carry_attributes", || {
+        display::fallible::carry_attributes(&["\u{1b}[1;31;99mfoo", "bar"], 5)
+    });
+    refuse_each("fitting_widths", || {
+        display::fallible::fitting_widths(&[TEXT, "foo", "bar"], 2, 9)
+    });
+    for options in &each_options()[..4] {
+        refuse_each("wrap_balanced", || display::fallible::wrap_balanced(TEXT, options));
+        refuse_each("balanced_width", || display::fallible::balanced_width(TEXT, options));
+    }
     let gaps = Gaps { left: "[", middle: "│", right: "]" };
     for options in each_options() {
         refuse_each("fill_justified", || display::fallible::fill_justified(TEXT, &options));

@@ -39,6 +39,8 @@ pub enum Promise {
     ReflowedWords,
     /// Carried styles show each line by itself as the text shows it.
     Carried,
+    /// And so do lines that carry attributes.
+    Attributed,
     /// Justified lines are as wide as the width, and have the same words.
     Justified,
     /// The rows of a table have the lines of its cells, and are as wide as its columns.
@@ -47,10 +49,14 @@ pub enum Promise {
     Shortened,
     /// Blanks stand in the place of tabs, up to columns that the stop divides.
     Expanded,
+    /// Balanced lines are those of the least width that takes no more of them.
+    Balanced,
+    /// Widths that fit two columns add up, and hold what has room.
+    Fitted,
 }
 
 /// How many promises there are.
-pub const PROMISES_LEN: usize = 19;
+pub const PROMISES_LEN: usize = 22;
 
 /// All promises and what the program calls them, in the order in which a round checks them.
 pub const PROMISES: [(Promise, &str); PROMISES_LEN] = [
@@ -69,10 +75,13 @@ pub const PROMISES: [(Promise, &str); PROMISES_LEN] = [
     (Promise::ReflowedOnce, "reflowed_once"),
     (Promise::ReflowedWords, "reflowed_words"),
     (Promise::Carried, "carried"),
+    (Promise::Attributed, "attributed"),
     (Promise::Justified, "justified"),
     (Promise::Rows, "rows"),
     (Promise::Shortened, "shortened"),
     (Promise::Expanded, "expanded"),
+    (Promise::Balanced, "balanced"),
+    (Promise::Fitted, "fitted"),
 ];
 
 impl Promise {
@@ -112,10 +121,13 @@ impl Promise {
             Promise::ReflowedOnce => reflowing::check_once(reflows?),
             Promise::ReflowedWords => reflowing::check_words(case, reflows?),
             Promise::Carried => displaying::check_carried(case, displays?),
+            Promise::Attributed => displaying::check_attributed(case, displays?),
             Promise::Justified => displaying::check_justified(case, displays?),
             Promise::Rows => displaying::check_rows(case, displays?),
             Promise::Shortened => displaying::check_shortened(case, displays?),
             Promise::Expanded => displaying::check_expanded(case, displays?),
+            Promise::Balanced => displaying::check_balanced(case, displays?),
+            Promise::Fitted => displaying::check_fitted(case, displays?),
         })
     }
 }

@@ -10,9 +10,10 @@
 //! let too_wide = fallible::align("foo", usize::MAX, Alignment::Right);
 //! assert_eq!(too_wide, Err(OutOfMemory::default()));
 //! ```
-use super::{Alignment, Column, Gaps};
-use crate::room::{lines_by, mapped, text_by, texts_of};
-use crate::{custom, guess, Options};
+use super::{Alignment, Column, Gaps, Shortening};
+use crate::room::{lines_by, list_by, mapped, number_by, text_by, texts_of};
+use crate::{custom, guess, sys, Options, WrapAlgorithm};
+use alloc::borrow::Cow;
 use alloc::string::String;
 use alloc::vec::Vec;
 
@@ -75,6 +76,16 @@ pub fn shorten(line: &str, width: usize, placeholder: &str) -> Result<String, Ou
     text_by!(line.len() + end_len, textwrap_shorten(line; width, end, end_len))
 }
 
+/// [`crate::display::shorten_by`].
+///
+/// # Errors
+/// [`OutOfMemory`] if memory runs out.
+pub fn shorten_by(line: &str, shortening: &Shortening<'_>) -> Result<String, OutOfMemory> {
+    let &Shortening { width, placeholder, break_words } = shortening;
+    let (end, end_len, breaks) = (placeholder.as_ptr(), placeholder.len(), break_words.into());
+    text_by!(line.len() + end_len, textwrap_shorten_by(line; width, end, end_len, breaks))
+}
+
 /// [`crate::display::shorten_lines`].
 ///
 /// # Errors
@@ -95,6 +106,27 @@ where
     lines_by!(kept.len(), bytes, textwrap_shorten_lines(texts; most, width, end, end_len))?.texts()
 }
 
+/// [`crate::display::shorten_lines_by`].
+///
+/// # Errors
+/// [`OutOfMemory`] if memory runs out.
+pub fn shorten_lines_by<S>(
+    lines: &[S],
+    most: usize,
+    shortening: &Shortening<'_>,
+) -> Result<Vec<String>, OutOfMemory>
+where
+    S: AsRef<str>,
+{
+    let texts = texts_of(lines)?;
+    let &Shortening { width, placeholder, break_words } = shortening;
+    let (end, end_len, breaks) = (placeholder.as_ptr(), placeholder.len(), break_words.into());
+    let kept = &lines[..most.min(lines.len())];
+    let bytes = guess::bytes_of(kept, end_len);
+    lines_by!(kept.len(), bytes, textwrap_shorten_lines_by(texts; most, width, end, end_len, breaks))?
+        .texts()
+}
+
 /// [`crate::display::carry_styles`].
 ///
 /// # Errors
@@ -112,6 +144,86 @@ where
     // To set a colour and to take it back takes so many bytes at most.
     let bytes = guess::bytes_of(lines, 23);
     lines_by!(lines.len(), bytes, textwrap_carry_styles(texts; &options.to_sys()))?.texts()
+}
+
+/// [`crate::display::carry_attributes`].
+///
+/// # Errors
+/// [`OutOfMemory`] if memory runs out.
+pub fn carry_attributes<'a, S, Opt>(
+    lines: &[S],
+    width_or_options: Opt,
+) -> Result<Vec<String>, OutOfMemory>
+where
+    S: AsRef<str>,
+    Opt: Into<Options<'a>>,
+{
+    let texts = texts_of(lines)?;
+    let options = width_or_options.into();
+    // As for `carry_styles`.
+    let bytes = guess::bytes_of(lines, 23);
+    lines_by!(lines.len(), bytes, textwrap_carry_attributes(texts; &options.to_sys()))?.texts()
+}
+
+/// [`crate::display::wrap_balanced`].
+///
+/// # Errors
+/// [`OutOfMemory`] if memory runs out.
+///
+/// # Panics
+/// If a function of the caller, or a dictionary, finds words or splits them.
+pub fn wrap_balanced<'a, Opt>(
+    text: &str,
+    width_or_options: Opt,
+) -> Result<Vec<Cow<'_, str>>, OutOfMemory>
+where
+    Opt: Into<Options<'a>>,
+{
+    let with = by_first_fit(width_or_options.into());
+    let (lines, bytes) = guess::wrapped(text, &with);
+    lines_by!(lines, bytes, textwrap_wrap_balanced(text; &with))?.cows(text)
+}
+
+/// [`crate::display::balanced_width`].
+///
+/// # Errors
+/// [`OutOfMemory`] if memory runs out.
+///
+/// # Panics
+/// If a function of the caller, or a dictionary, finds words or splits them.
+pub fn balanced_width<'a, Opt>(text: &str, width_or_options: Opt) -> Result<usize, OutOfMemory>
+where
+    Opt: Into<Options<'a>>,
+{
+    let with = by_first_fit(width_or_options.into());
+    number_by!(textwrap_balanced_width(text; &with))
+}
+
+/// The options as C has them. The algorithm is not used.
+///
+/// # Panics
+/// If a function of the caller, or a dictionary, finds words or splits them.
+fn by_first_fit(options: Options<'_>) -> sys::Options {
+    let Ok(with) = options.wrap_algorithm(WrapAlgorithm::FirstFit).built_in() else {
+        panic!("a text is balanced by the library's own words and points");
+    };
+    with
+}
+
+/// [`crate::display::fitting_widths`].
+///
+/// # Errors
+/// [`OutOfMemory`] if memory runs out.
+pub fn fitting_widths<S>(
+    cells: &[S],
+    columns: usize,
+    total: usize,
+) -> Result<Vec<usize>, OutOfMemory>
+where
+    S: AsRef<str>,
+{
+    let texts = texts_of(cells)?;
+    Ok(list_by!(columns, textwrap_fitting_widths(texts; columns, total))?)
 }
 
 /// [`crate::display::table`].

@@ -1,14 +1,15 @@
-//! The promises of texts for display: carried styles, justified lines, rows, shortened lines and texts
-//! without tabs.
+//! The promises of texts for display: carried styles and attributes, justified lines, rows, shortened
+//! lines, texts without tabs, balanced lines and widths of columns.
 use super::styled::Reader;
 use super::Finding;
-use crate::cases::settings::Settings;
+use crate::cases::settings::{Algorithm, Settings};
 use crate::cases::texts::Alphabet;
 use crate::cases::Case;
 use std::borrow::Cow;
 use textwrap_proved::core::display_width;
 use textwrap_proved::display::{
-    carry_styles, expand_tabs, fill_justified, shorten, table, Alignment, Column, Gaps,
+    balanced_width, carry_attributes, carry_styles, expand_tabs, fill_justified, fitting_widths,
+    shorten, table, wrap_balanced, Alignment, Column, Gaps,
 };
 use textwrap_proved::{fill, wrap};
 
@@ -19,6 +20,8 @@ pub struct Displays<'c> {
     pub lines: Vec<Cow<'c, str>>,
     /// Those lines, with their styles carried over their ends.
     pub carried: Vec<String>,
+    /// The same by their attributes.
+    pub attributed: Vec<String>,
     /// The text, filled.
     pub filled: String,
     /// The text, filled with its lines justified.
@@ -31,6 +34,12 @@ pub struct Displays<'c> {
     pub shortened: String,
     /// The text with blanks in the place of its tabs.
     pub expanded: String,
+    /// The width at which the text is balanced.
+    pub balanced_width: usize,
+    /// Its lines at that width.
+    pub balanced: Vec<Cow<'c, str>>,
+    /// The widths of two columns that have the text and the plain text in them.
+    pub widths: Vec<usize>,
 }
 
 /// The greatest width: what is justified or stands in a column is written with all its blanks.
@@ -56,6 +65,7 @@ impl<'c> Displays<'c> {
         let lines = wrap(text, settings.options());
         Displays {
             carried: carry_styles(&lines, settings.options()),
+            attributed: carry_attributes(&lines, settings.options()),
             lines,
             filled: fill(text, settings.options()),
             justified: fill_justified(text, settings.options()),
@@ -63,6 +73,9 @@ impl<'c> Displays<'c> {
             rows: table(&[text, plain], &columns, &GAPS),
             shortened: shorten(first_line(case), settings.width, PLACEHOLDER),
             expanded: expand_tabs(&case.text, tab_stop(case)),
+            balanced_width: balanced_width(text, settings.options()),
+            balanced: wrap_balanced(text, settings.options()),
+            widths: fitting_widths(&[text, plain], 2, settings.width),
         }
     }
 }
@@ -102,12 +115,22 @@ fn has_whole_sequences(case: &Case) -> bool {
 /// shows where all lines are read in a row; that nothing is open at its end; and that it is as wide
 /// as its line. Of texts with escape sequences that are cut nothing is said.
 pub fn check_carried(case: &Case, found: &Displays<'_>) -> Finding {
+    check_alone(case, &found.lines, &found.carried)
+}
+
+/// The same of lines whose attributes are carried.
+pub fn check_attributed(case: &Case, found: &Displays<'_>) -> Finding {
+    check_alone(case, &found.lines, &found.attributed)
+}
+
+/// The same of any lines in the place of those of the text.
+fn check_alone(case: &Case, lines: &[Cow<'_, str>], carried_lines: &[String]) -> Finding {
     if !has_whole_sequences(case) {
         return Finding::PassedOver;
     }
     let settings = display_settings(case);
     let mut reader = Reader::new();
-    for (number, (line, carried)) in found.lines.iter().zip(&found.carried).enumerate() {
+    for (number, (line, carried)) in lines.iter().zip(carried_lines).enumerate() {
         let (indent, text) = split_indent(line, settings.indent(number > 0));
         reader.shown.clear();
         reader.read(text);
@@ -121,7 +144,7 @@ pub fn check_carried(case: &Case, found: &Displays<'_>) -> Finding {
             return Finding::Broken;
         }
     }
-    Finding::of(found.carried.len() == found.lines.len())
+    Finding::of(carried_lines.len() == lines.len())
 }
 
 /// The indent of a line, if it begins with that, and what follows it.
@@ -235,30 +258,50 @@ fn is_wide(row: &str, cells: [&str; 2], widths: [usize; 2]) -> bool {
     display_width(row) as u128 == sum + GAPS_WIDTH
 }
 
-/// Checks that the shortened line is the line where that fits, and else what the line begins with,
-/// up to a blank, and the placeholder: no wider than the width, or the placeholder alone. Where no
-/// escape sequence is cut, one word more would be too wide.
+/// What may end a style and a link.
+const CLOSINGS: [&str; 4] = ["", "\x1b[0m", "\x1b]8;;\x1b\\", "\x1b[0m\x1b]8;;\x1b\\"];
+
+/// Checks that the shortened line is the line where that fits, and else what is kept of it, what ends
+/// a style and a link, and the placeholder.
 pub fn check_shortened(case: &Case, found: &Displays<'_>) -> Finding {
     let line = first_line(case);
-    let width = display_settings(case).width;
     let short = found.shortened.as_str();
-    if display_width(line) <= width {
+    if display_width(line) <= display_settings(case).width {
         return Finding::of(short == line);
     }
-    let Some(kept) = short.strip_suffix(PLACEHOLDER) else {
+    let Some(closed) = short.strip_suffix(PLACEHOLDER) else {
         return Finding::Broken;
     };
-    let Some(rest) = line.strip_prefix(kept) else {
-        return Finding::Broken;
+    let is_right = |closing: &&str| {
+        closed.strip_suffix(*closing).is_some_and(|kept| is_kept(case, kept, closing))
     };
+    Finding::of(CLOSINGS.iter().any(is_right))
+}
+
+/// Whether this is kept of the case's line before what ends a style and a link: nothing, or what the
+/// line begins with, up to a blank and outside of escape sequences, with room for the placeholder.
+/// Where no escape sequence is cut, one word more would be too wide, and nothing is open then.
+fn is_kept(case: &Case, kept: &str, closing: &str) -> bool {
+    let width = display_settings(case).width as u128;
+    let Some(rest) = first_line(case).strip_prefix(kept) else {
+        return false;
+    };
+    let taken = display_width(kept) + display_width(PLACEHOLDER);
     let is_at_blank = rest.starts_with(' ') && !kept.ends_with(' ');
-    let is_short = kept.is_empty() || (is_at_blank && display_width(short) <= width);
+    let is_outside = display_width(&format!("{kept}x")) == display_width(kept) + 1;
+    let is_short = kept.is_empty() || (is_at_blank && is_outside && taken as u128 <= width);
+    let is_needed = closing.is_empty() || kept.contains('\x1b');
+    if !has_whole_sequences(case) {
+        return is_short && is_needed;
+    }
     let next = rest.trim_start_matches(' ');
     let word = next.split(' ').next().unwrap_or("");
-    let blanks = rest.len() - next.len();
-    let needed = display_width(short) as u128 + blanks as u128 + display_width(word) as u128;
-    let has_room = !word.is_empty() && needed <= width as u128;
-    Finding::of(is_short && !(has_whole_sequences(case) && has_room))
+    let needed = (taken + rest.len() - next.len() + display_width(word)) as u128;
+    let has_room = !word.is_empty() && needed <= width;
+    let mut reader = Reader::new();
+    reader.read(kept);
+    reader.read(closing);
+    is_short && is_needed && reader.is_plain() && !has_room
 }
 
 /// Checks that each tab became blanks up to the next column that the stop divides, or nothing where
@@ -285,4 +328,76 @@ pub fn check_expanded(case: &Case, found: &Displays<'_>) -> Finding {
         }
     }
     Finding::of(found.expanded == wanted)
+}
+
+/// Checks that the balanced lines are those of first fit at the balanced width; that they are as many as
+/// at the width of the settings; that each piece has room; and that a column less would leave some piece
+/// without, or take more lines. Where some piece has no room anyway, the width is that of the settings.
+/// Of texts with escape sequences that are cut nothing is said, since what these hide is measured
+/// otherwise in a piece than in a line.
+pub fn check_balanced(case: &Case, found: &Displays<'_>) -> Finding {
+    if !has_whole_sequences(case) {
+        return Finding::PassedOver;
+    }
+    let settings = display_settings(case);
+    let lines_at = |width| {
+        let first_fit = Settings { width, algorithm: Algorithm::FirstFit, ..settings };
+        wrap(&case.text, first_fit.options())
+    };
+    let (least, width) = (least_width(case), found.balanced_width);
+    if found.balanced != lines_at(width) {
+        return Finding::Broken;
+    }
+    if least > settings.width {
+        return Finding::of(width == settings.width);
+    }
+    let most = lines_at(settings.width).len();
+    let has_room = least <= width && width <= settings.width;
+    let is_least = width == least || lines_at(width.saturating_sub(1)).len() > most;
+    Finding::of(has_room && is_least && found.balanced.len() == most)
+}
+
+/// The least width at which each piece of the text has room after the wider of the indents.
+fn least_width(case: &Case) -> usize {
+    let settings = display_settings(case);
+    let apart = Settings {
+        width: 0,
+        break_words: false,
+        algorithm: Algorithm::FirstFit,
+        preserve_trailing_space: false,
+        ..settings.without_indents()
+    };
+    let widest = widest_of(wrap(&case.text, apart.options()).iter().map(|piece| &**piece));
+    widest_of([settings.initial_indent, settings.subsequent_indent]) + widest
+}
+
+/// How wide the widest of some texts is.
+fn widest_of<'t>(texts: impl IntoIterator<Item = &'t str>) -> usize {
+    texts.into_iter().map(display_width).max().unwrap_or(0)
+}
+
+/// Checks that the widths add up to the width of the settings; and that each column holds its lines,
+/// where there is room for those of both; else that it holds its words and is no wider than its lines,
+/// where there is room for the words of both; and else that it is no wider than its words.
+pub fn check_fitted(case: &Case, found: &Displays<'_>) -> Finding {
+    let total = display_settings(case).width;
+    let &[first, second] = &found.widths[..] else {
+        return Finding::Broken;
+    };
+    let texts = [&case.text, &case.plain];
+    let lines = texts.map(|text| widest_of(text.split('\n')));
+    let words = texts.map(|text| widest_of(text.split(['\n', ' '])));
+    let have_lines = lines[0] + lines[1] <= total;
+    let have_words = words[0] + words[1] <= total;
+    let is_right = |width, line, word| {
+        if have_lines {
+            line <= width
+        } else if have_words {
+            word <= width && width <= line
+        } else {
+            width <= word
+        }
+    };
+    let are_right = is_right(first, lines[0], words[0]) && is_right(second, lines[1], words[1]);
+    Finding::of(first + second == total && are_right)
 }

@@ -79,12 +79,16 @@ enum ReflowChange {
 #[derive(Clone, Copy, Debug)]
 enum DisplayChange {
     Carried(Texts),
+    Attributed(Texts),
     Filled(&'static str),
     Justified(&'static str),
     Beside(Texts),
     Rows(Texts),
     Shortened(&'static str),
     Expanded(&'static str),
+    BalancedWidth(usize),
+    Balanced(Texts),
+    Widths(&'static [usize]),
 }
 
 impl Change {
@@ -178,12 +182,16 @@ impl DisplayChange {
         let strings = |texts: Texts| texts.iter().map(|&text| text.into()).collect();
         match self {
             DisplayChange::Carried(texts) => displays.carried = strings(texts),
+            DisplayChange::Attributed(texts) => displays.attributed = strings(texts),
             DisplayChange::Filled(text) => displays.filled = text.into(),
             DisplayChange::Justified(text) => displays.justified = text.into(),
             DisplayChange::Beside(texts) => displays.beside = lines_of(texts, false),
             DisplayChange::Rows(texts) => displays.rows = strings(texts),
             DisplayChange::Shortened(text) => displays.shortened = text.into(),
             DisplayChange::Expanded(text) => displays.expanded = text.into(),
+            DisplayChange::BalancedWidth(width) => displays.balanced_width = width,
+            DisplayChange::Balanced(texts) => displays.balanced = lines_of(texts, false),
+            DisplayChange::Widths(widths) => displays.widths = widths.into(),
         }
     }
 }
@@ -259,6 +267,9 @@ const ROWS: &[(Change, &str)] = &[
     (Change::Display(DisplayChange::Carried(&["foo  bar", "baz", "qux"])), ""),
     (Change::Display(DisplayChange::Carried(&["foo  bar", "quz", "qux"])), "carried"),
     (Change::Display(DisplayChange::Carried(&["foo  bar", "baz"])), "carried"),
+    (Change::Display(DisplayChange::Attributed(&["foo  bar", "baz", "qux"])), ""),
+    (Change::Display(DisplayChange::Attributed(&["foo  bar", "quz", "qux"])), "attributed"),
+    (Change::Display(DisplayChange::Attributed(&["foo  bar", "baz"])), "attributed"),
     (Change::Display(DisplayChange::Justified("foo  bar\nbaz\nqux")), ""),
     (Change::Display(DisplayChange::Justified("foo   bar\nbaz\nqux")), "justified"),
     (Change::Display(DisplayChange::Filled("foo bar\nbaz\nqux")), ""),
@@ -269,13 +280,22 @@ const ROWS: &[(Change, &str)] = &[
     (Change::Display(DisplayChange::Shortened("foo ..")), ""),
     (Change::Display(DisplayChange::Shortened(" ..")), "shortened"),
     (Change::Display(DisplayChange::Expanded("foo\tbar")), "expanded"),
+    (Change::Display(DisplayChange::BalancedWidth(7)), ""),
+    (Change::Display(DisplayChange::BalancedWidth(8)), "balanced"),
+    (Change::Display(DisplayChange::BalancedWidth(6)), "balanced"),
+    (Change::Display(DisplayChange::Balanced(&["foo", "bar baz", "qux"])), ""),
+    (Change::Display(DisplayChange::Balanced(&["foo  bar", "baz", "qux"])), "balanced"),
+    (Change::Display(DisplayChange::Widths(&[5, 3])), ""),
+    (Change::Display(DisplayChange::Widths(&[5, 4])), "fitted"),
+    (Change::Display(DisplayChange::Widths(&[2, 6])), "fitted"),
+    (Change::Display(DisplayChange::Widths(&[8])), "fitted"),
     (Change::NoReflow, ""),
     (Change::FailedReflow, "reflowed_stays reflowed_once reflowed_words"),
     (
         Change::NoAnswer,
         "lossless fitting least_cost searching filled listed paragraphs shortcut in_place \
-         refilled twice reflowed_stays reflowed_once reflowed_words carried justified rows \
-         shortened expanded",
+         refilled twice reflowed_stays reflowed_once reflowed_words carried attributed justified \
+         rows shortened expanded balanced fitted",
     ),
 ];
 
@@ -333,12 +353,13 @@ fn kept_promises_are_counted() {
     assert_eq!(counts, [2; PROMISES_LEN]);
     let list = list_case();
     assert_eq!(broken_promise(&list, &right_answers(&list), &mut counts), Some("refilled"));
-    assert_eq!(counts, [3, 2, 3, 3, 3, 3, 3, 2, 3, 2, 2, 2, 2, 2, 2, 2, 2, 2, 2]);
+    assert_eq!(counts, [3, 2, 3, 3, 3, 3, 3, 2, 3, 2, 2, 2, 2, 2, 2, 2, 2, 2, 2, 2, 2, 2]);
     assert_eq!(
         describe_kept(3, &counts),
         "rounds=3 lossless=3 fitting=2 least_cost=3 searching=3 filled=3 listed=3 paragraphs=3 \
          shortcut=2 in_place=3 refilled=2 twice=2 reflowed_stays=2 reflowed_once=2 \
-         reflowed_words=2 carried=2 justified=2 rows=2 shortened=2 expanded=2"
+         reflowed_words=2 carried=2 attributed=2 justified=2 rows=2 shortened=2 expanded=2 \
+         balanced=2 fitted=2"
     );
 }
 

@@ -4,7 +4,8 @@ use textwrap_soak::cases::settings::Settings;
 use textwrap_soak::cases::texts::Alphabet;
 use textwrap_soak::cases::Case;
 use textwrap_soak::checks::displaying::{
-    check_carried, check_expanded, check_justified, check_rows, check_shortened, Displays,
+    check_attributed, check_balanced, check_carried, check_expanded, check_fitted, check_justified,
+    check_rows, check_shortened, Displays,
 };
 use textwrap_soak::checks::Finding;
 
@@ -62,6 +63,78 @@ fn lost_styles_are_noticed() {
     }
     let case = Case { alphabet: Alphabet::Cut, ..case_of(STYLED, 4, "") };
     assert_eq!(check_carried(&case, &Displays::of_case(&case)), Finding::PassedOver);
+}
+
+/// And so has each line that carries attributes.
+#[test]
+fn lost_attributes_are_noticed() {
+    for &(indent, number, carried, is_right) in CARRIED {
+        let case = case_of(STYLED, 4 + indent.len(), indent);
+        let mut found = Displays::of_case(&case);
+        assert_eq!(check_attributed(&case, &found), Finding::Kept);
+        assert_eq!(found.attributed.len(), 5);
+        found.attributed[number] = carried.into();
+        assert_eq!(check_attributed(&case, &found), Finding::of(is_right), "{carried:?}");
+    }
+}
+
+/// A text, a width and an indent of later lines, another balanced width, and whether it is the balanced
+/// one.
+const BALANCED: &[(&str, usize, &str, usize, bool)] = &[
+    ("aa bb c\nd e f g", 6, "", 4, true),
+    ("aa bb c\nd e f g", 6, "", 3, false),
+    ("aa bb c\nd e f g", 6, "", 5, false),
+    ("a wonderful word", 12, "", 11, true),
+    ("a wonderful word", 12, "", 12, false),
+    // The widest word bounds it, after the indent.
+    ("a wonderful word", 10, "", 9, true),
+    ("a wonderful word", 10, "", 10, false),
+    ("a wonderful word", 12, "> ", 11, true),
+    ("a wonderful word", 12, "> ", 12, false),
+    ("a wonderful word", 5, "", 5, true),
+    ("a wonderful word", 5, "", 4, false),
+];
+
+/// No other width is balanced, and at the balanced one the lines are those of first fit.
+#[test]
+fn unbalanced_lines_are_noticed() {
+    for &(text, width, indent, balanced, is_right) in BALANCED {
+        let case = case_of(text, width, indent);
+        let mut found = Displays::of_case(&case);
+        assert_eq!(check_balanced(&case, &found), Finding::Kept, "{text:?}");
+        found.balanced_width = balanced;
+        assert_eq!(check_balanced(&case, &found), Finding::of(is_right), "{text:?} {balanced}");
+        found.balanced.pop();
+        assert_eq!(check_balanced(&case, &found), Finding::Broken, "{text:?} {balanced}");
+    }
+    let case = Case { alphabet: Alphabet::Cut, ..case_of(STYLED, 4, "") };
+    assert_eq!(check_balanced(&case, &Displays::of_case(&case)), Finding::PassedOver);
+}
+
+/// A total, widths of columns in which `foo bar` and `ab` stand, and whether they may be right.
+const WIDTHS: &[(usize, &[usize], bool)] = &[
+    (12, &[9, 3], true),
+    (12, &[10, 2], true),
+    (12, &[11, 1], false),
+    (12, &[8, 3], false),
+    (8, &[6, 2], true),
+    (8, &[5, 3], false),
+    (8, &[8, 0], false),
+    (4, &[2, 2], true),
+    (4, &[4, 0], false),
+    (4, &[4], false),
+];
+
+/// Widths have to add up, and to hold what has room.
+#[test]
+fn other_widths_are_noticed() {
+    for &(total, widths, is_right) in WIDTHS {
+        let case = Case { plain: "ab".into(), ..case_of("foo bar", total, "") };
+        let mut found = Displays::of_case(&case);
+        assert_eq!(check_fitted(&case, &found), Finding::Kept, "{total}");
+        found.widths = widths.into();
+        assert_eq!(check_fitted(&case, &found), Finding::of(is_right), "{widths:?} of {total}");
+    }
 }
 
 /// What the library makes of `"aa bb c\nd e f g"` in 6 columns, justified otherwise, and whether
@@ -145,6 +218,12 @@ const SHORTENED: &[(&str, usize, &str, bool)] = &[
     ("a b c d e", 8, "a b ..", false),
     ("a  b  c", 6, "a ..", true),
     ("a  b  c", 6, "a  ..", false),
+    ("\x1b[1mfoo bar", 6, "\x1b[1mfoo\x1b[0m ..", true),
+    ("\x1b[1mfoo bar", 6, "\x1b[1mfoo ..", false),
+    ("\x1b[1mfoo bar", 6, "\x1b[1mfoo\x1b]8;;\x1b\\ ..", false),
+    ("foo bar", 6, "foo\x1b[0m ..", false),
+    ("\x1b]8;;u\x07foo bar", 6, "\x1b]8;;u\x07foo\x1b]8;;\x1b\\ ..", true),
+    ("\x1b]8;;u\x07foo bar", 6, "\x1b]8;;u\x07foo ..", false),
 ];
 
 /// A shortened line has to be as much of the line as fits.

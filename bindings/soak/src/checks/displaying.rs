@@ -385,8 +385,10 @@ pub fn check_fitted(case: &Case, found: &Displays<'_>) -> Finding {
         return Finding::Broken;
     };
     let texts = [&case.text, &case.plain];
-    let lines = texts.map(|text| widest_of(text.split('\n')));
     let words = texts.map(|text| widest_of(text.split(['\n', ' '])));
+    // Where a blank stands inside an escape sequence, a word may be wider than its line.
+    let lines = texts.map(|text| widest_of(text.split('\n')));
+    let lines = [lines[0].max(words[0]), lines[1].max(words[1])];
     let have_lines = lines[0] + lines[1] <= total;
     let have_words = words[0] + words[1] <= total;
     let is_right = |width, line, word| {

@@ -1,5 +1,5 @@
 //! The tests of the crates beside `textwrap`: of lines for display, of texts with marks and the
-//! program over them, of Unicode line breaking, of the calls for C, and of the callers that show how the
+//! program over them, of Unicode line breaking, of hyphenation, and of the callers that show how the
 //! library is used.
 #![tactic(auto)]
 

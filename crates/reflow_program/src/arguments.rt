@@ -1,6 +1,6 @@
 //! The program's arguments.
-ghost use Rattle.std.specs.Prelude.{◌≡◌, [], map, string_bytes, IfOk, IfErr, option_map, false};
-ghost use Rattle.clap.specs.Words.{FailsBy, all_of, app_of, fault_of, first_of, found_of, matches_of, rows_of, rule_of};
+ghost use Rattle.std.specs.Prelude.{◌≡◌, [], map, IfOk, IfErr, option_map, false};
+ghost use Rattle.clap.specs.Words.{FailsBy, app_of, fault_of, first_of, found_of, matches_of, rows_of, rule_of};
 ghost use Rattle.reflow_program.specs.Arguments.{ending_beside, lines_in, lines_rule, range_between, range_of};
 ghost use Rattle.reflow_program.specs.Arguments.{IsRequest, IsUnfit, algorithm_in, ending_in};
 ghost use Rattle.reflow_program.specs.Arguments.{file_rule, flag_in, flag_rule, mode_in};

@@ -1,5 +1,5 @@
 //! Why an input was not treated.
-ghost use Rattle.std.specs.Prelude.{◌≡◌, IfErr};
+ghost use Rattle.std.specs.Prelude.{◌≡◌};
 ghost use Rattle.reflow_program.specs.Faults.{draft_fault, file_reason, output_reason};
 
 use std::io::ErrorKind;

@@ -1,11 +1,10 @@
 //! What the program does with one input. To reflow it is to lay it out as the [`Layout`] says.
-ghost use Rattle.std.specs.Prelude.{◌≡◌, ◌++◌, ◌∷◌, [], IfOk, IfErr, OnOk, OnErr};
+ghost use Rattle.std.specs.Prelude.{◌++◌, ◌∷◌, [], IfOk, IfErr, OnOk, OnErr};
 ghost use Rattle.std.specs.Io.KnownBytes.{Appends};
 ghost use Rattle.textwrap_program.specs.Filling.{ReadsAll, WritesPrefix};
 ghost use Rattle.textwrap_program.specs.Program.{TriesLine, line_feed};
 ghost use Rattle.reflow_program.specs.Faults.{IsOfDraft, IsOfOutput, IsOfReading};
 ghost use Rattle.reflow_program.specs.Files.{SameFiles};
-ghost use Rattle.unified_diff.specs.Differences.{IsDiffText};
 ghost use Rattle.reflow_program.specs.Inputs.{Checks, ChecksFile, Differs, DiffersFile, IsReplaced};
 ghost use Rattle.reflow_program.specs.Inputs.{Prints, PrintsFile};
 ghost use Rattle.reflow_program.specs.Inputs.{Reads, Reflows, Replaces};

@@ -1,5 +1,5 @@
 //! Filling in place: blanks of the text become line feeds.
-ghost use Rattle.std.specs.Prelude.{◌≡◌, ◌+◌, ◌<◌, ◌^◌, ◌++◌, List, ◌∷◌, [], length, All};
+ghost use Rattle.std.specs.Prelude.{◌≡◌, ◌+◌, ◌<◌, ◌++◌, List, ◌∷◌, [], length, All};
 ghost use Rattle.std.specs.Prelude.{string_bytes, IfOk, IsOk, OnOk, OnErr};
 ghost use Rattle.textwrap_base.specs.Division.{IsGreedy};
 ghost use Rattle.textwrap_words.specs.Words.{WordText, sizes_of, words_of};

@@ -128,14 +128,24 @@ fn by_first_fit<'a>(options: &PlainOptions<'a>, width: usize) -> PlainOptions<'a
 fn layout_of<'a>(options: &PlainOptions<'a>) -> Layout<'a>
     ensures { layout_view result ≡ settings_of options.now }
 {
+    let PlainOptions {
+        width,
+        line_ending,
+        initial_indent,
+        subsequent_indent,
+        break_words,
+        preserve_trailing_space,
+        even_paragraphs,
+        ..
+    } = *options;
     Layout {
-        width: options.width,
-        line_ending: options.line_ending,
-        initial_indent: options.initial_indent,
-        subsequent_indent: options.subsequent_indent,
-        break_words: options.break_words,
-        preserve_trailing_space: options.preserve_trailing_space,
-        even_paragraphs: options.even_paragraphs,
+        width,
+        line_ending,
+        initial_indent,
+        subsequent_indent,
+        break_words,
+        preserve_trailing_space,
+        even_paragraphs,
     }
 }
 

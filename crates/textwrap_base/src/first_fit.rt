@@ -1,5 +1,5 @@
 //! First fit: the greedy division of fragments into lines.
-ghost use Rattle.std.specs.Prelude.{◌≡◌, ◌+◌, ◌≤◌, ◌<◌, length, map, take, IfOk};
+ghost use Rattle.std.specs.Prelude.{◌+◌, ◌≤◌, ◌<◌, length, map, take, IfOk};
 ghost use Rattle.textwrap_base.specs.Division.{closed_width, Fits, IsAdmissible, IsGreedy};
 
 use crate::fragments::Fragment;

@@ -1,7 +1,7 @@
 //! What a line costs of fragments with their prefix sums: the difference of two of these, in place
 //! of a sum over the line.
 ghost use Rattle.std.specs.Prelude.{◌≡◌, ◌+◌, ◌<◌, ◌≤◌, length, SomeIff};
-ghost use Rattle.std.specs.Prelude.{◌-◌, ◌*◌, ◌^◌};
+ghost use Rattle.std.specs.Prelude.{◌-◌, ◌*◌};
 ghost use Rattle.textwrap_base.specs.Cost.{fit_cost, problem_by};
 ghost use Rattle.textwrap_base.specs.Errors.{Fits128Bits};
 ghost use Rattle.textwrap_base.specs.PrefixSums.{HavePrefixSums};
@@ -77,7 +77,6 @@ struct CostedLine {
 
 impl CostedLine {
     /// The cost of missing the target, or `None` where it needs more than 128 bits.
-    #[inline(always)]
     fn fit_cost(self, penalties: &Penalties) -> Option<u128>
         ensures { let cost = fit_cost penalties.now self.target self.closed self.is_last
             self.is_single in SomeIff result (Fits128Bits cost) cost }

@@ -1,10 +1,9 @@
 //! Texts of many paragraphs, in which marks stand before the words.
-ghost use Rattle.std.specs.Prelude.{◌≡◌, ◌≤◌, ◌↔◌, true, All, IfOk, IsUtf8, string_bytes};
+ghost use Rattle.std.specs.Prelude.{◌≡◌, ◌≤◌, ◌↔◌, true, IfOk, IsUtf8, string_bytes};
 ghost use Rattle.textwrap_calls.specs.Reflowing.{algorithm_of, AreKnown, AreTexts, ending_of};
 ghost use Rattle.textwrap_calls.specs.Reflowing.{IsReflowedBy};
 ghost use Rattle.textwrap_calls.specs.Room.{WritesText};
 ghost use Rattle.textwrap_calls.specs.Status.{not_utf8, unknown_options};
-ghost use Rattle.textwrap_calls.specs.Texts.{IsText};
 
 use crate::options::VERSION;
 use crate::room::put;

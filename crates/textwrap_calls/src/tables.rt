@@ -7,7 +7,7 @@ ghost use Rattle.textwrap_calls.specs.Tables.{AreTableTexts, HasTextLines, HasTe
 ghost use Rattle.textwrap_calls.specs.Tables.{lines_in, parts_of_column, shape_of_column};
 ghost use Rattle.textwrap_calls.specs.Texts.{bytes_of, IsText};
 ghost use Rattle.textwrap_calls.specs.Wrapping.{WritesLines};
-ghost use Rattle.textwrap_display.specs.Tables.{cell_texts, gaps_view, rows_of_cells, shape_of};
+ghost use Rattle.textwrap_display.specs.Tables.{cell_texts, gaps_view, rows_of_cells};
 ghost use Rattle.textwrap_plain.specs.Tables.{IsPlainTable, plain_parts};
 
 use crate::columns::{TextwrapGaps, are_known_gaps, place_rows, read_gaps};

@@ -2,20 +2,18 @@
 ghost use Rattle.std.specs.Prelude.{◌≡◌};
 ghost use Rattle.textwrap_classes.specs.ClassSets.{is_mark, is_zwj, is_space};
 ghost use Rattle.textwrap_classes.specs.ClassSets.{is_regional_indicator, takes_no_mark};
-ghost use Rattle.textwrap_classes.specs.ClassSets.{is_line_end, is_carriage_return, is_line_feed};
-ghost use Rattle.textwrap_classes.specs.ClassSets.{is_zero_width_space, is_word_joiner, is_glue};
+ghost use Rattle.textwrap_classes.specs.ClassSets.{is_line_end};
+ghost use Rattle.textwrap_classes.specs.ClassSets.{is_zero_width_space};
 ghost use Rattle.textwrap_classes.specs.ClassSets.{breaks_before_glue, is_closing, is_after_text};
-ghost use Rattle.textwrap_classes.specs.ClassSets.{is_opening, is_quotation, is_nonstarter};
-ghost use Rattle.textwrap_classes.specs.ClassSets.{breaks_on_both_sides, is_contingent};
-ghost use Rattle.textwrap_classes.specs.ClassSets.{is_never_first, is_before_text, is_hebrew};
-ghost use Rattle.textwrap_classes.specs.ClassSets.{is_hyphen, is_symbol, is_inseparable, is_letter};
+ghost use Rattle.textwrap_classes.specs.ClassSets.{is_opening};
+ghost use Rattle.textwrap_classes.specs.ClassSets.{is_never_first, is_hebrew};
+ghost use Rattle.textwrap_classes.specs.ClassSets.{is_hyphen, is_letter};
 ghost use Rattle.textwrap_classes.specs.ClassSets.{is_number, is_prefix, is_postfix, is_affix};
 ghost use Rattle.textwrap_classes.specs.ClassSets.{is_ideograph, ends_number, leads_to_number};
 ghost use Rattle.textwrap_classes.specs.ClassSets.{is_jamo, is_leading_jamo, follows_leading};
 ghost use Rattle.textwrap_classes.specs.ClassSets.{ends_in_vowel, follows_vowel, ends_in_trailing};
-ghost use Rattle.textwrap_classes.specs.ClassSets.{is_trailing_jamo, is_infix, is_letter_or_number};
-ghost use Rattle.textwrap_classes.specs.ClassSets.{is_close_parenthesis, is_emoji_base};
-ghost use Rattle.textwrap_classes.specs.ClassSets.{is_emoji_modifier, opens_number};
+ghost use Rattle.textwrap_classes.specs.ClassSets.{is_trailing_jamo, is_letter_or_number};
+ghost use Rattle.textwrap_classes.specs.ClassSets.{opens_number};
 ghost use Rattle.textwrap_classes.specs.ClassSets.{is_inside_number, goes_on_number};
 
 use unicode::properties::LineBreak;

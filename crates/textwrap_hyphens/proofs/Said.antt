@@ -1,12 +1,11 @@
 -- What stands in a dictionary: starts of lines, exceptions that are written with hyphens, and marks.
-use Rattle.std.specs.Prelude.{Option, None, Some, MatchOption, IfSome, IsSome, ◌↔◌, ◌&&◌, nat_lt}
+use Rattle.std.specs.Prelude.{Option, None, Some, IfSome, IsSome, ◌↔◌, ◌&&◌, nat_lt}
 use Rattle.std.specs.Prelude.{option_map, if◌then◌else◌, ◌≢◌}
-use Rattle.std.specs.Str.Pattern.{FindsTextPrefix, StripsPrefix}
 use Rattle.textwrap_text.proofs.Lists.Parts.{starts_with-false, starts_with-true}
 use Rattle.textwrap_text.proofs.Common.{drop_at, false_from_ne_true, ltb-true, lt-ltb}
 use Rattle.textwrap_words.specs.Cuts.{AreNext}
 use Rattle.textwrap_hyphens.proofs.Common.{List, ℕ, ◌≡◌, ◌∷◌, [], ◌<◌, ◌∙◌, ap, drop, length, true}
-use Rattle.textwrap_hyphens.proofs.Common.{false, refl, starts_with, nat_eq, arith, Bool, suc}
+use Rattle.textwrap_hyphens.proofs.Common.{false, refl, arith, Bool, suc}
 use Rattle.textwrap_hyphens.proofs.Common.{false≢true, ◌++◌}
 use Rattle.textwrap_hyphens.specs.Entries.{are_places, hyphens_past, is_hyphen_sign}
 use Rattle.textwrap_hyphens.specs.Entries.{letters_between}
@@ -15,19 +14,6 @@ use Rattle.textwrap_hyphens.specs.Letters.{folded}
 use Rattle.textwrap_hyphens.specs.Parsing.{after_mark}
 use Rattle.textwrap_hyphens.specs.Places.{AreInnerPlaces, IsNextPlace}
 use Rattle.textwrap_hyphens.specs.declared.patterns.Exception.{Exception}
-use denote.Ref.{Bor}
-
--- what is left of a text without a start is what follows it, if it begins so
-pub without-start : (start text : List ℕ) (r : Option (Bor (List ℕ)))
-    → MatchOption r (FindsTextPrefix start text None)
-    (λ x. StripsPrefix (FindsTextPrefix start) text x.now)
-    → MatchOption r (starts_with nat_eq text start ≡ false)
-    (λ x. (starts_with nat_eq text start ≡ true) × (x.now ≡ drop (length start) text))
-without-start start text None lacks = starts_with-false start text lacks
-without-start start text (Some x) strips = (
-  starts_with-true start text (drop strips.0 text) strips.1.1,
-  strips.2 ∙ ap (λ n. drop n text) strips.1.0,
-)
 
 -- the test of places says whether they are inner ones
 pub places-are : (len last : ℕ) (places : List ℕ) → AreNext (IsNextPlace len) places last

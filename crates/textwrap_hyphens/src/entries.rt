@@ -1,7 +1,7 @@
 //! What the words and the lines of a dictionary say.
-ghost use Rattle.std.specs.Prelude.{◌≡◌, chars, false, true, drop, length, nat_eq, option_map};
-ghost use Rattle.std.specs.Prelude.{IfOk, MatchOption};
-ghost use Rattle.std.specs.List.{list_any, starts_with};
+ghost use Rattle.std.specs.Prelude.{◌≡◌, false, true, option_map};
+ghost use Rattle.std.specs.Prelude.{IfOk};
+ghost use Rattle.std.specs.List.{starts_with};
 ghost use Rattle.textwrap_hyphens.specs.Entries.{entry_view, exception_said, exception_written};
 ghost use Rattle.textwrap_hyphens.specs.Entries.{has_hyphen, has_digit, has_sign, has_slash};
 ghost use Rattle.textwrap_hyphens.specs.Entries.{is_charset, is_exception, is_sign, is_start};
@@ -14,6 +14,7 @@ use crate::letters::folded;
 use crate::patterns::{Exception, Pattern};
 use crate::written::{characters_of, exception, is_digit, pattern_of};
 use std::alloc::{AllocError, Global};
+use textwrap_text::starts::{starts_with, without_start};
 
 /// The most letters of a pattern.
 const MOST_LETTERS: usize = 255;
@@ -92,26 +93,17 @@ fn number_of(digits: &[u8]) -> Option<usize>
     }
 }
 
-/// What follows this start of a text, if it begins so.
-fn without_start<'t>(text: &'t str, start: &str) -> Option<&'t str>
-    ensures { MatchOption result (starts_with nat_eq text.now start.now ≡ false)
-        (λ rest. (starts_with nat_eq text.now start.now ≡ true)
-        × (rest.now ≡ drop (length start.now) text.now)) }
-{
-    text.strip_prefix(start)
-}
-
 /// Why a line of a list is refused by how it begins.
 fn refused_by(section: Section, line: &str) -> Option<Fault>
     ensures { result ≡ refused_by section line.now }
 {
     if is_start(section) && is_charset(line) {
         Some(Fault::Charset)
-    } else if begins(line, "COMPOUND") {
+    } else if starts_with(line, "COMPOUND") {
         Some(Fault::Compound)
-    } else if begins(line, "NEXTLEVEL") {
+    } else if starts_with(line, "NEXTLEVEL") {
         Some(Fault::NextLevel)
-    } else if begins(line, "NOHYPHEN") {
+    } else if starts_with(line, "NOHYPHEN") {
         Some(Fault::NoHyphen)
     } else {
         None
@@ -122,17 +114,11 @@ fn refused_by(section: Section, line: &str) -> Option<Fault>
 fn is_charset(line: &str) -> bool
     ensures { result ≡ is_charset line.now }
 {
-    begins(line, "ISO8859-")
-        || begins(line, "KOI8-")
-        || begins(line, "microsoft-cp")
-        || begins(line, "TIS620-")
-        || begins(line, "ISCII-")
-}
-
-fn begins(text: &str, start: &str) -> bool
-    ensures { result ≡ starts_with nat_eq text.now start.now }
-{
-    text.starts_with(start)
+    starts_with(line, "ISO8859-")
+        || starts_with(line, "KOI8-")
+        || starts_with(line, "microsoft-cp")
+        || starts_with(line, "TIS620-")
+        || starts_with(line, "ISCII-")
 }
 
 /// Whether a section is that of the first line.

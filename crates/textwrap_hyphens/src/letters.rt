@@ -1,5 +1,5 @@
 //! The letters of a word.
-ghost use Rattle.std.specs.Prelude.{◌≡◌, ◌≤◌, length, map, IfOk};
+ghost use Rattle.std.specs.Prelude.{◌≡◌, ◌≤◌, length, IfOk};
 ghost use Rattle.textwrap_hyphens.specs.Letters.{begins_letter, counts, folded, has_letters};
 ghost use Rattle.textwrap_hyphens.specs.Letters.{is_hyphen, is_letter, is_mark};
 ghost use Rattle.textwrap_hyphens.specs.Letters.{letters_of, lowered, run_len};

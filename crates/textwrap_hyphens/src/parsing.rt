@@ -1,6 +1,6 @@
 //! Dictionaries that are read from texts.
-ghost use Rattle.std.specs.Prelude.{◌≡◌, ◌≤◌, chars, length, map, take, IfOk};
-ghost use Rattle.std.specs.List.{prefix_len, slice_split};
+ghost use Rattle.std.specs.Prelude.{◌≡◌, ◌≤◌, length, map, IfOk};
+ghost use Rattle.std.specs.List.{slice_split};
 ghost use Rattle.std.specs.Char.{is_whitespace};
 ghost use Rattle.std.specs.Option.{option_copied};
 ghost use Rattle.std.specs.Str.Lines.{lines};

@@ -32,10 +32,10 @@ pub struct LentPlaces<'r> {
 }
 
 impl<'r> LentPlaces<'r> {
-    ghost use Rattle.std.specs.Prelude.{ℕ, List, [], ◌∷◌, length, ◌+◌, ◌++◌};
+    ghost use Rattle.std.specs.Prelude.{ℕ, List, [], ◌∷◌, ◌+◌, ◌++◌};
     ghost use Rattle.textwrap_layout.specs.LentPlaces.{AddsPlace, ArePlaced, HasWritten};
     ghost use Rattle.textwrap_layout.specs.LentPlaces.{KeepsPlaces};
-    ghost use Rattle.textwrap_layout.specs.Paragraph.{Built, Slice, assembled_line, text_limit};
+    ghost use Rattle.textwrap_layout.specs.Paragraph.{Built, assembled_line, text_limit};
 
     /// No lines.
     pub fn new(lines: &'r mut [TextwrapLine], room: &'r mut [u8]) -> LentPlaces<'r>

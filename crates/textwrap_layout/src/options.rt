@@ -1,5 +1,5 @@
 //! The settings of a wrap.
-ghost use Rattle.std.specs.Prelude.{◌≡◌, [], false, true, IsOk, MatchResult, ⊤};
+ghost use Rattle.std.specs.Prelude.{◌≡◌, false, true, IsOk, MatchResult, ⊤};
 
 use std::alloc::AllocError;
 use textwrap_base::inner::DEFAULT_PENALTIES;

@@ -1,6 +1,6 @@
 //! The first line of a paragraph by first fit, found piece by piece, and where it ends. The pieces
 //! after it do not depend on it, so the other lines can be found in another way.
-ghost use Rattle.std.specs.Prelude.{◌≡◌, List, [], ◌∷◌, IsCharBoundary, IfOk, IsOk};
+ghost use Rattle.std.specs.Prelude.{◌≡◌, [], ◌∷◌, IsCharBoundary, IfOk, IsOk};
 ghost use Rattle.textwrap_words.specs.Pieces.{as_splitter};
 ghost use Rattle.textwrap_layout.specs.Frame.{frame_settings};
 ghost use Rattle.textwrap_layout.specs.LineSinks.{Pushed};

@@ -1,6 +1,6 @@
 //! The lines of a text by where they stand, for the calls from C. The crate `textwrap` does not
 //! re-export this module.
-ghost use Rattle.std.specs.Prelude.{◌≡◌, ◌<◌, ℕ, [], ◌∷◌, List, map, IfOk, OnOk};
+ghost use Rattle.std.specs.Prelude.{◌≡◌, ◌<◌, [], ◌∷◌, List, map, IfOk, OnOk};
 ghost use Rattle.std.specs.Prelude.{IsOk};
 ghost use Rattle.std.specs.Io.{StartsWith};
 ghost use Rattle.std.specs.List.{flat_map};

@@ -7,7 +7,7 @@ ghost use Rattle.textwrap_marked.specs.Reading.{lines_ahead};
 use crate::reading::LinesAhead;
 use std::alloc::{AllocError, Global};
 use textwrap_marks::options::ReflowOptions;
-use textwrap_marks::words::without_start;
+use textwrap_text::starts::without_start;
 
 /// Whether the marks of some line begin with one of the prefixes of the options, so that it could be
 /// filled. Without a prefix each line is such.

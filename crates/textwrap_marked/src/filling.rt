@@ -1,5 +1,5 @@
 //! The lines of a block: as they are, or filled.
-ghost use Rattle.std.specs.Prelude.{◌≡◌, ℕ, ◌++◌, ◌∷◌, [], List, map, IfOk, OnOk, codes};
+ghost use Rattle.std.specs.Prelude.{◌≡◌, ℕ, ◌++◌, List, map, IfOk, OnOk};
 ghost use Rattle.std.specs.Prelude.{string_bytes};
 ghost use Rattle.std.specs.List.{flat_map};
 ghost use Rattle.textwrap_base.specs.Algorithms.{IsDividedBy, LeastCost};

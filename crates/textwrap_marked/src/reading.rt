@@ -1,5 +1,5 @@
 //! The lines of a text, read one after another.
-ghost use Rattle.std.specs.Prelude.{◌≡◌, ◌==◌, ◌<◌, ◌≤◌, ◌∷◌, length, map, IfOk, Some};
+ghost use Rattle.std.specs.Prelude.{◌≡◌, ◌==◌, ◌<◌, ◌≤◌, ◌∷◌, length, IfOk, Some};
 ghost use Rattle.std.specs.List.{slice_split};
 ghost use Rattle.textwrap_marked_lines.specs.Lines.{line_view, lines_of, read_lines, state_view};
 ghost use Rattle.textwrap_marked.specs.Reading.{bytes_ahead, lines_ahead};

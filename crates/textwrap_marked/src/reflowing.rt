@@ -1,7 +1,6 @@
 //! Filling the paragraphs of a text again.
-ghost use Rattle.std.specs.Prelude.{◌≡◌, ℕ, ◌++◌, ◌||◌, false, List, map, IfOk, OnOk, Some, string_bytes};
+ghost use Rattle.std.specs.Prelude.{◌≡◌, ℕ, ◌++◌, false, List, map, IfOk, OnOk, Some, string_bytes};
 ghost use Rattle.textwrap_base.specs.Errors.{Overflowed};
-ghost use Rattle.textwrap_text.specs.LineEnding.{ending_bytes};
 ghost use Rattle.textwrap_marked.specs.Blocks.{blocks, is_beside, stays};
 ghost use Rattle.textwrap_marked_lines.specs.Lines.{line_view};
 ghost use Rattle.textwrap_marked.specs.Reading.{lines_left};
@@ -14,7 +13,8 @@ use std::alloc::Global;
 use textwrap_lines::LineEnding;
 use textwrap_marked_lines::lines::Line;
 use textwrap_marks::options::ReflowOptions;
-use textwrap_marks::words::{ends_with, split_at, without_start};
+use textwrap_marks::words::{ends_with, split_at};
+use textwrap_text::starts::without_start;
 use textwrap_words::wrap_algorithms::WrapError;
 
 /// The text with its paragraphs filled again, at the width of the options.

@@ -1,5 +1,5 @@
 //! Filling only the paragraphs at some lines of a text.
-ghost use Rattle.std.specs.Prelude.{◌≡◌, ℕ, ◌++◌, false, List, map, IfOk, OnOk, Some, string_bytes};
+ghost use Rattle.std.specs.Prelude.{◌≡◌, ℕ, ◌++◌, false, List, IfOk, OnOk, Some, string_bytes};
 ghost use Rattle.textwrap_base.specs.Errors.{Overflowed};
 ghost use Rattle.textwrap_marked.specs.Blocks.{blocks};
 ghost use Rattle.textwrap_marked.specs.Reading.{lines_left};
@@ -10,7 +10,7 @@ use crate::blocks::BlocksAhead;
 use crate::reflowing::{filled_ending, is_beside, push_block};
 use std::alloc::Global;
 use textwrap_marks::options::ReflowOptions;
-use textwrap_marks::words::without_start;
+use textwrap_text::starts::without_start;
 use textwrap_words::wrap_algorithms::WrapError;
 
 /// Lines of a text, counted from 1. If the first is one behind the last, they are the place between the

@@ -18,9 +18,8 @@ use textwrap_marks::signs::{
     begins_text, closes_block, closes_early, first_word, has_column_byte, has_columns, is_key,
     is_rule, last_white, last_word,
 };
-use textwrap_marks::words::{
-    SpacedWord, ends_with, has_byte, spaced_words, split_white, starts_with,
-};
+use textwrap_marks::words::{SpacedWord, ends_with, has_byte, spaced_words, split_white};
+use textwrap_text::starts::starts_with;
 
 /// A line, and what is read of it.
 #[derive(Drop)]

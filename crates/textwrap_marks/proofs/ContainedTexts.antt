@@ -3,12 +3,12 @@ use Rattle.textwrap_text.proofs.Common.{◌≡◌, ℕ, ◌+◌, ◌-◌, Bool, 
 use Rattle.textwrap_text.proofs.Common.{◌++◌, length, take, drop, refl, ap, sym, ◌∙◌, arith, nat_eq}
 use Rattle.textwrap_text.proofs.Common.{starts_with, false_from_ne_true, ◌↔◌, ends_with, None}
 use Rattle.textwrap_text.proofs.Common.{nat_tests, Option, Some, take_at, Bor, length-append}
-use Rattle.textwrap_text.proofs.Lists.Parts.{starts_with-false, starts_with-rest, starts_with-true}
+use Rattle.textwrap_text.proofs.Lists.Parts.{starts_with-rest, starts_with-true}
 use Rattle.textwrap_text.proofs.Lists.Parts.{ends_with-front, ends_with-true, stripped_suffix}
 use Rattle.std.proofs.Common.{ap₂}
 use Rattle.std.specs.Option.{MatchOption}
 use Rattle.std.specs.Str.Iter.{HasSubslice}
-use Rattle.std.specs.Str.Pattern.{FindsTextPrefix, FindsTextSuffix, StripsPrefix, StripsSuffix}
+use Rattle.std.specs.Str.Pattern.{FindsTextSuffix, StripsSuffix}
 use Rattle.std.specs.Prelude.{◌<◌, ◌==◌, ◌&&◌, slice_index_or}
 use Rattle.textwrap_marks.specs.Words.{contains, has_byte}
 
@@ -44,18 +44,6 @@ module _ (part : List ℕ) where
       let (a, b, at) = is.0 refl in sym (contains-from text a b at)
   contains-is text false is = sym (false_from_ne_true (contains part text) (λ found.
       let bad : false ≡ true = is.1 (contains-to text found) in cc))
-
--- what is left of a text without a start is what follows it, if it begins so
-pub without-start : (start text : List ℕ) (r : Option (Bor (List ℕ)))
-    → MatchOption r (FindsTextPrefix start text None)
-    (λ x. StripsPrefix (FindsTextPrefix start) text x.now)
-    → MatchOption r (starts_with nat_eq text start ≡ false)
-    (λ x. (starts_with nat_eq text start ≡ true) × (x.now ≡ drop (length start) text))
-without-start start text None lacks = starts_with-false start text lacks
-without-start start text (Some x) strips = (
-  starts_with-true start text (drop strips.0 text) strips.1.1,
-  strips.2 ∙ ap (λ n. drop n text) strips.1.0,
-)
 
 -- what is left of a text without an end is its front, if it has that end
 pub without-end : (end text : List ℕ) (r : Option (Bor (List ℕ)))

@@ -1,5 +1,5 @@
 //! Columns with tabs, and how deep text stands.
-ghost use Rattle.std.specs.Prelude.{◌≡◌, ◌-◌, length, take, IfOk};
+ghost use Rattle.std.specs.Prelude.{◌≡◌, ◌-◌, IfOk};
 ghost use Rattle.textwrap_marks.specs.Columns.{columns, depth_of, depth_view, is_deeper, marks_of};
 ghost use Rattle.textwrap_marks.specs.Columns.{next_stop, plus_columns, without_final_white};
 ghost use Rattle.textwrap_marks.specs.Words.{is_white};

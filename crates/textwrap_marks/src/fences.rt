@@ -9,7 +9,8 @@ ghost use Rattle.textwrap_marks.specs.Words.{has_byte, spaced_view};
 
 use crate::columns::marks_of;
 use crate::signs::{any_contains, first_word};
-use crate::words::{SpacedWord, first_byte, has_byte, is_made_of, split_white, starts_with};
+use crate::words::{SpacedWord, first_byte, has_byte, is_made_of, split_white};
+use textwrap_text::starts::starts_with;
 
 /// So many of one character.
 #[derive(Clone, Copy, Debug)]

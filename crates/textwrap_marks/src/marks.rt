@@ -6,7 +6,8 @@ ghost use Rattle.textwrap_marks.specs.Marks.{is_bullet, is_bullet_sign, is_label
 ghost use Rattle.textwrap_marks.specs.Marks.{is_line_comment, is_number, is_opening, is_quote};
 ghost use Rattle.textwrap_marks.specs.Marks.{label_inside};
 
-use crate::words::{contains, has_letter, is_made_of, starts_with};
+use crate::words::{contains, has_letter, is_made_of};
+use textwrap_text::starts::starts_with;
 
 /// Whether a word opens a block comment: it begins with `/*`, has no letter, and does not close
 /// what it opens.

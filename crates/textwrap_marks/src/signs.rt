@@ -15,9 +15,8 @@ ghost use Rattle.textwrap_marks.specs.Words.{has_letter, is_alphanumeric, spaced
 
 use crate::marks::is_bullet;
 use crate::options::ReflowOptions;
-use crate::words::{
-    SpacedWord, contains, first_byte, has_byte, has_letter, starts_with, without_end,
-};
+use crate::words::{SpacedWord, contains, first_byte, has_byte, has_letter, without_end};
+use textwrap_text::starts::starts_with;
 
 /// The first word, and the empty text where there is none.
 pub fn first_word<'t>(words: &[SpacedWord<'t>]) -> &'t str

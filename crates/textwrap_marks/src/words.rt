@@ -2,7 +2,7 @@
 ghost use Rattle.std.specs.Prelude.{◌≡◌, ◌-◌, ◌<◌, ◌≤◌, ◌==◌, ◌∷◌, true, false, length, map};
 ghost use Rattle.std.specs.Prelude.{nat_eq, take, drop};
 ghost use Rattle.std.specs.Prelude.{IfOk, MatchOption, slice_index};
-ghost use Rattle.std.specs.List.{ends_with, prefix_len, slice_split, starts_with};
+ghost use Rattle.std.specs.List.{ends_with, prefix_len, slice_split};
 ghost use Rattle.textwrap_marks.specs.Words.{bytes_left, contains, has_byte, has_letter, is_ink};
 ghost use Rattle.textwrap_marks.specs.Words.{is_made_of, is_white, parts_left, spaced_view};
 ghost use Rattle.textwrap_marks.specs.Words.{spaced_words};
@@ -110,25 +110,10 @@ pub fn is_made_of(byte: u8, text: &[u8]) -> bool
     text.iter().all(|other| *other == byte)
 }
 
-pub fn starts_with(text: &str, part: &str) -> bool
-    ensures { result ≡ starts_with nat_eq text.now part.now }
-{
-    text.starts_with(part)
-}
-
 pub fn ends_with(text: &str, part: &str) -> bool
     ensures { result ≡ ends_with nat_eq text.now part.now }
 {
     text.ends_with(part)
-}
-
-/// What follows this start of a text, if it begins so.
-pub fn without_start<'t>(text: &'t str, start: &str) -> Option<&'t str>
-    ensures { MatchOption result (starts_with nat_eq text.now start.now ≡ false)
-        (λ rest. (starts_with nat_eq text.now start.now ≡ true)
-        × (rest.now ≡ drop (length start.now) text.now)) }
-{
-    text.strip_prefix(start)
 }
 
 /// The text without this end, if it has it.

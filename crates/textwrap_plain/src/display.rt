@@ -1,5 +1,5 @@
 //! Lines for display, by options without functions.
-ghost use Rattle.std.specs.Prelude.{◌≡◌, IfOk, map, string_bytes};
+ghost use Rattle.std.specs.Prelude.{IfOk, map, string_bytes};
 ghost use Rattle.textwrap_display.specs.JustifiedText.{IsJustifiedText};
 ghost use Rattle.textwrap_display.specs.Tables.{gaps_view, texts_in};
 ghost use Rattle.textwrap_plain.specs.Options.{DividesPlainly, settings_of};

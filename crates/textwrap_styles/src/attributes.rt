@@ -1,6 +1,6 @@
 //! Styles that go on over the ends of lines, by what their parameters set: of each attribute the
 //! last setting alone, if it did not end.
-ghost use Rattle.std.specs.Prelude.{◌≡◌, ◌++◌, ℕ, List, [], ◌∷◌, IfOk, OnOk, bytes_eq, length, map};
+ghost use Rattle.std.specs.Prelude.{◌≡◌, ◌++◌, ℕ, List, [], ◌∷◌, IfOk, OnOk, map};
 ghost use Rattle.std.specs.Prelude.{◌&&◌, false, not, reverse, string_bytes, true};
 ghost use Rattle.std.specs.Int.{is_in_range};
 ghost use Rattle.std.specs.List.{list_all, list_any};

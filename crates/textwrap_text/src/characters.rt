@@ -1,6 +1,6 @@
 //! The characters of a text, and the columns of a character by itself. `words` says how many a text
 //! takes.
-ghost use Rattle.std.specs.Prelude.{◌≡◌, ℕ, ◌+◌, ◌<◌, ◌^◌, length, chars, IsUtf8};
+ghost use Rattle.std.specs.Prelude.{◌≡◌, ◌+◌, ◌<◌, ◌^◌, length, chars, IsUtf8};
 ghost use Rattle.std.specs.Str.Iter.{char_indices_offset, char_indices_rest};
 ghost use Rattle.std.proofs.Props.{props};
 ghost use Rattle.textwrap_text.specs.Units.{columns};

@@ -12,5 +12,6 @@ pub mod lent_text;
 pub mod line_ending;
 mod line_feeds;
 pub mod printable;
+pub mod starts;
 pub mod text_lines;
 pub mod widths;

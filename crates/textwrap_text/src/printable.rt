@@ -1,5 +1,5 @@
 //! Texts of printable ASCII, in which each byte is a character of one column.
-ghost use Rattle.std.specs.Prelude.{◌↔◌, ◌≡◌, ℕ, ◌<◌, ◌≤◌, IsTrue, length, slice_index, true};
+ghost use Rattle.std.specs.Prelude.{◌↔◌, ℕ, ◌<◌, ◌≤◌, IsTrue, length, slice_index, true};
 ghost use Rattle.textwrap_text.specs.Units.{IsPrintable, IsPrintableByte};
 
 /// How many bytes are looked at together.

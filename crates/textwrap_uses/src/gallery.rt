@@ -3,7 +3,6 @@ ghost use Rattle.std.specs.Prelude.{◌≤◌, List, [], ◌∷◌, length, map,
 ghost use Rattle.textwrap.specs.Cost.{problem_at, IsChosen};
 ghost use Rattle.textwrap.specs.Division.{IsAdmissible};
 ghost use Rattle.textwrap.specs.Penalties.{default_penalties};
-ghost use Rattle.textwrap.specs.Sizes.{Sizes};
 
 use std::alloc::{AllocError, Global};
 use textwrap::WrapError;

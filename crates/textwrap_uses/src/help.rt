@@ -1,5 +1,5 @@
 //! The help texts of a program.
-ghost use Rattle.std.specs.Prelude.{◌≡◌, codes, map, string_bytes, IfOk};
+ghost use Rattle.std.specs.Prelude.{codes, map, string_bytes, IfOk};
 ghost use Rattle.textwrap.specs.Filling.{IsFilledBy};
 ghost use Rattle.textwrap.specs.Options.{settings_at, default_algorithm};
 ghost use Rattle.textwrap_display.specs.Tables.{IsTableOf, texts_in};

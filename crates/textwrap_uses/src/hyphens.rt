@@ -1,5 +1,5 @@
 //! Words hyphenated by a dictionary that is handed in.
-ghost use Rattle.std.specs.Prelude.{◌≡◌, ◌↔◌, ◌+◌, ◌^◌, ◌<◌, ◌++◌, List, [], ◌∷◌, All, length, map};
+ghost use Rattle.std.specs.Prelude.{◌≡◌, ◌↔◌, ◌+◌, ◌^◌, ◌<◌, ◌++◌, List, [], ◌∷◌, All, map};
 ghost use Rattle.std.specs.Prelude.{true, false, Err, IfOk, OnOk};
 ghost use Rattle.textwrap.specs.Division.{IsDivision, IsGreedy};
 ghost use Rattle.textwrap.specs.LineEnds.{AreEnds, lines_between};

@@ -1,5 +1,5 @@
 //! Words one below another, each split after its prefix.
-ghost use Rattle.std.specs.Prelude.{◌≡◌, IfOk};
+ghost use Rattle.std.specs.Prelude.{IfOk};
 ghost use Rattle.textwrap.specs.Cuts.{AreCuts};
 ghost use Rattle.textwrap.specs.LineEnds.{AreEnds};
 ghost use Rattle.textwrap.specs.Errors.{OnlyMemoryRunsOut};

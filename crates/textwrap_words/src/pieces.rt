@@ -1,7 +1,7 @@
 //! The pieces of a text by where they stand in it, without a list of words.
-ghost use Rattle.std.specs.Prelude.{◌≡◌, ◌≢◌, ℕ, ◌+◌, ◌<◌, ◌≤◌, true, false, ◌++◌, [], length};
+ghost use Rattle.std.specs.Prelude.{◌≡◌, ℕ, ◌+◌, ◌<◌, ◌≤◌, true, false, ◌++◌, [], length};
 ghost use Rattle.std.specs.Prelude.{slice_index, nat_lt, ◌&&◌, ◌∷◌, if◌then◌else◌, IsCharBoundary};
-ghost use Rattle.textwrap_text.specs.Blanks.{blank, is_blank};
+ghost use Rattle.textwrap_text.specs.Blanks.{is_blank};
 ghost use Rattle.textwrap_words.specs.Breaking.{broken_words};
 ghost use Rattle.textwrap_words.specs.PieceCuts.{is_point, pieces_from_place};
 ghost use Rattle.textwrap_words.specs.Pieces.{as_splitter, stand_from, empty_front};

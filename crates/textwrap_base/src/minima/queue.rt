@@ -5,12 +5,11 @@
 //! It goes from end to end, and the stretches know the best start from 1 on for each end to come.
 //! Start 0 is asked apart at each end, since the first line may have a width of its own, and at the
 //! last end each start is, since the last line has costs of its own.
-ghost use Rattle.std.specs.Prelude.{◌≡◌, ℕ, ◌+◌, ◌*◌, ◌-◌, ◌<◌, ◌≤◌, length, map, vec_len, IfOk};
+ghost use Rattle.std.specs.Prelude.{◌≡◌, ◌+◌, ◌*◌, ◌-◌, ◌<◌, ◌≤◌, length, map, vec_len, IfOk};
 ghost use Rattle.std.specs.Prelude.{OnOk};
 ghost use Rattle.textwrap_base.specs.Minima.{counted};
 ghost use Rattle.textwrap_base.specs.Queue.{SuitQueue, binary_digits};
 ghost use Rattle.textwrap_base.specs.Search.{least_entry, cost_from, AreMinima, IsBestStart};
-ghost use Rattle.textwrap_base.specs.Stretches.{HasEnd, AreStretches};
 ghost use Rattle.textwrap_base.specs.Table.{table, minimum_of};
 
 use super::stretches::{FIRST_CAPACITY, Stretch, next_stretch, price, take_in};

@@ -10,7 +10,8 @@ use Rattle.textwrap_text.proofs.Common.{All-drop, All-take, drop_all, take-take,
 use Rattle.textwrap_text.proofs.Common.{arith, flat_map, length, list_any, nat_eq, nat_lt, take-add}
 use Rattle.textwrap_text.proofs.Common.{[], cond, drop, false, last, List, refl, rules, subst, take}
 use Rattle.textwrap_text.proofs.Common.{sym, true, zip, ℕ, ◌++◌, ◌+◌, ◌-◌, ◌<◌, ◌==◌, ◌∙◌, ◌∷◌, ◌≡◌}
-use Rattle.textwrap_text.proofs.Common.{ap, ◌≢◌, ◌≤◌}
+use Rattle.textwrap_text.proofs.Common.{ap, ◌≢◌, ◌≤◌, Bor, Option, None, Some}
+use Rattle.std.specs.Option.{MatchOption}
 use Rattle.std.proofs.lemmas.List.{drop-append-le, drop-take, get_or-append_right, Prefix.end_rest}
 use Rattle.std.proofs.lemmas.Slice.Eq.{bytes_eq-Decides}
 use Rattle.std.specs.Str.Pattern.{FindsTextPrefix, FindsTextSuffix, StripsPrefix, StripsSuffix}
@@ -186,6 +187,18 @@ pub starts_with-false : (ending xs : List ℕ) → ((rest : List ℕ) → xs ≢
     → starts_with nat_eq xs ending ≡ false
 starts_with-false ending xs lacks = false_from_ne_true (starts_with nat_eq xs ending)
     (λ starts. lacks (drop (length ending) xs) (starts_with-rest ending xs starts))
+
+-- what is left of a text without a start is what follows it, if it begins so
+pub without-start : (start text : List ℕ) (r : Option (Bor (List ℕ)))
+    → MatchOption r (FindsTextPrefix start text None)
+    (λ x. StripsPrefix (FindsTextPrefix start) text x.now)
+    → MatchOption r (starts_with nat_eq text start ≡ false)
+    (λ x. (starts_with nat_eq text start ≡ true) × (x.now ≡ drop (length start) text))
+without-start start text None lacks = starts_with-false start text lacks
+without-start start text (Some x) strips = (
+  starts_with-true start text (drop strips.0 text) strips.1.1,
+  strips.2 ∙ ap (λ n. drop n text) strips.1.0,
+)
 
 -- what follows an ending at the front
 pub drop-ending : (ending : List ℕ) (c : ℕ) (cs : List ℕ) → 0 < length ending

@@ -1,5 +1,4 @@
 //! The division of fragments into lines.
-ghost use Rattle.textwrap.specs.Sizes.{Sizes};
 
 use super::given::{assert_found, assert_row, has_lens, have_lens};
 use super::plain::{plain_first_fit, plain_optimal_fit, plain_optimal_fit_counted};

@@ -1,9 +1,9 @@
 //! The words of a line that is cut at given offsets of its visible text.
-ghost use Rattle.std.specs.Prelude.{◌≡◌, ◌==◌, length, map, All, IfOk, IsCharBoundary};
+ghost use Rattle.std.specs.Prelude.{◌≡◌, ◌==◌, map, All, IfOk, IsCharBoundary};
 ghost use Rattle.std.specs.List.{list_any};
 ghost use Rattle.std.specs.List.Sorted.{IsStrictlyIncreasing};
 ghost use Rattle.textwrap_text.specs.Units.{stripped};
-ghost use Rattle.textwrap_words.specs.Words.{word_view, word_of, Tiles};
+ghost use Rattle.textwrap_words.specs.Words.{word_view, Tiles};
 ghost use Rattle.textwrap_words.specs.WordOffsets.{is_cut_after, cuts_at, words_at};
 
 use super::words::words_between;

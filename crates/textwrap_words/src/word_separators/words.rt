@@ -1,9 +1,7 @@
 //! The words of a line, one after the other.
-ghost use Rattle.std.specs.Prelude.{◌≡◌, ℕ, ◌-◌, ◌<◌, ◌≤◌, List, ◌∷◌, IfOk, length, map, take, drop};
-ghost use Rattle.std.specs.Prelude.{slice_index};
+ghost use Rattle.std.specs.Prelude.{◌≡◌, ℕ, ◌-◌, ◌<◌, List, IfOk, map};
 ghost use Rattle.std.specs.Iterator.{YieldsFirstBy, item_count};
-ghost use Rattle.textwrap_text.specs.Blanks.{blank};
-ghost use Rattle.textwrap_words.specs.Words.{Tiles, WordText, word_view, word_of, words_of, is_cut, chunks};
+ghost use Rattle.textwrap_words.specs.Words.{Tiles, WordText, word_view, word_of, words_of, chunks};
 ghost use Rattle.textwrap_words.specs.Cuts.{AreCuts, parts_between};
 ghost use Rattle.textwrap_words.specs.WordSeparators.{MayCut};
 ghost use Rattle.textwrap_words.specs.WordsLeft.{words_left};

@@ -1,5 +1,5 @@
 //! Breaking words that are too wide for a line.
-ghost use Rattle.std.specs.Prelude.{◌≡◌, ◌≢◌, ℕ, true, List, [], ◌∷◌, take, drop, map, IfOk, OnOk, ◌++◌};
+ghost use Rattle.std.specs.Prelude.{◌≡◌, ◌≢◌, true, List, [], ◌∷◌, take, drop, map, IfOk, OnOk, ◌++◌};
 ghost use Rattle.std.specs.Prelude.{IsCharBoundary, IsUtf8};
 ghost use Rattle.std.specs.Iterator.{IsFiniteIterable, Drains};
 ghost use Rattle.textwrap_words.specs.Breaking.{broken_texts, broken_word, broken_words};

@@ -1,5 +1,5 @@
-use Rattle.textwrap_marks.proofs.words.without_start.Goals as goal
-use Rattle.textwrap_marks.proofs.ContainedTexts.{without-start}
+use Rattle.textwrap_text.proofs.Lists.Parts.{without-start}
+use Rattle.textwrap_text.proofs.starts.without_start.Goals as goal
 
 pub returns : goal.returns
 returns c =

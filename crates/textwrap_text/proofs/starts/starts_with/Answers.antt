@@ -1,5 +1,5 @@
 use Rattle.std.proofs.lemmas.Str.Pattern.{starts_text}
-use Rattle.textwrap_hyphens.proofs.entries.begins.Goals as goal
+use Rattle.textwrap_text.proofs.starts.starts_with.Goals as goal
 
 pub returns : goal.returns
 returns c =

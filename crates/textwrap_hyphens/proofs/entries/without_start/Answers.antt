@@ -1,6 +1,0 @@
-use Rattle.textwrap_hyphens.proofs.Said.{without-start}
-use Rattle.textwrap_hyphens.proofs.entries.without_start.Goals as goal
-
-pub returns : goal.returns
-returns c =
-    without-start c.args.start.now c.args.text.now c.strip_prefix.result c.strip_prefix.ensures.cases

@@ -2,6 +2,7 @@ pub mod InColumns
 pub mod Passing
 pub mod Pieces
 pub mod Points
+pub mod Refilled
 pub mod SplitPoints
 pub mod Unique
 pub mod Widths

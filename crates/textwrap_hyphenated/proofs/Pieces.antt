@@ -12,8 +12,8 @@ use Rattle.textwrap_words.proofs.Word.Parts.{MaySeparate-texts}
 use Rattle.textwrap_words.proofs.Word.Pieces.{split-measured, split-tile}
 use Rattle.textwrap_layout.proofs.Common.{ArePieces, settings_view}
 use Rattle.textwrap_layout.specs.declared.options.Options.{Options}
-use Rattle.textwrap_hyphens.specs.Points.{held}
-use Rattle.textwrap_hyphens.specs.declared.dictionary.Patterns.{Patterns}
+use Rattle.textwrap_hyphens.specs.Table.{held}
+use Rattle.textwrap_hyphens.specs.declared.table.PatternTable.{PatternTable}
 use Rattle.textwrap_hyphenated.proofs.Points.{HasHyphenAtMost, held-cuts, split-carries}
 use Rattle.textwrap_hyphenated.proofs.Points.{split-hyphens}
 use Rattle.textwrap_hyphenated.proofs.Widths.{pieces-wide}
@@ -38,7 +38,7 @@ broken_word-hyphens limit w has false = All-cons HasHyphenAtMost w [] has (All-n
 
 -- ---- the pieces of a paragraph
 
-module _ {E C : Type 0} {e : _} {c : _} (options : Options E C e c) (patterns : Patterns) where
+module _ {E C : Type 0} {e : _} {c : _} (options : Options E C e c) (patterns : PatternTable) where
   -- the pieces of a paragraph are together at most twice as wide as it has bytes
   pub hyphenated-wide : (paragraph : List ℕ) (pieces : List WordText) → IsUtf8 paragraph
       → ArePieces (settings_view options) (MaySeparate options.word_separator)

@@ -12,24 +12,21 @@ use Rattle.textwrap_text.proofs.Common.{cond, false, inl, inr, refl, take, true,
 use Rattle.textwrap_words.proofs.Word.{Cuts.inner-cuts}
 use Rattle.textwrap_words.proofs.Word.Words.{HasNoPenalty, IsMeasured}
 use Rattle.textwrap_hyphens.proofs.InnerPoints.{points-cuts}
-use Rattle.textwrap_hyphens.specs.Hyphenation.{ExceptionText, exception_view}
-use Rattle.textwrap_hyphens.specs.Places.{AreInnerPlaces}
-use Rattle.textwrap_hyphens.specs.Points.{held}
-use Rattle.textwrap_hyphens.specs.declared.dictionary.Patterns.{Patterns}
+use Rattle.textwrap_hyphens.proofs.Held as table
+use Rattle.textwrap_hyphens.specs.Table.{held}
+use Rattle.textwrap_hyphens.specs.declared.table.PatternTable.{PatternTable}
 use Rattle.textwrap_hyphenated.proofs.SplitPoints.{split-inner}
 use Rattle.textwrap_hyphenated.specs.Hyphenated.{ArePointsBy}
 
 -- ---- the points of a word by a dictionary
 
-pub held-inner : (patterns : Patterns) (text points : List ℕ) → IsUtf8 text
+pub held-inner : (patterns : PatternTable) (text points : List ℕ) → IsUtf8 text
     → ArePointsBy (held patterns) text points → AreInnerCuts text points
 held-inner patterns text points utf8 are =
     subst (AreInnerCuts text) (sym are) (split-inner (held patterns) text
-    (points-cuts (held patterns) text utf8
-    (All-map (λ (e : ExceptionText). AreInnerPlaces (length e.letters) e.places) exception_view
-    patterns.exceptions.items (λ k d within. (get_or patterns.exceptions.items k d).inner))) utf8)
+    (points-cuts (held patterns) text utf8 (table.held-inner patterns)) utf8)
 
-pub held-cuts : (patterns : Patterns) (text points : List ℕ) → IsUtf8 text
+pub held-cuts : (patterns : PatternTable) (text points : List ℕ) → IsUtf8 text
     → ArePointsBy (held patterns) text points → AreCuts text points
 held-cuts patterns text points utf8 are =
     inner-cuts text points (held-inner patterns text points utf8 are)
@@ -81,7 +78,7 @@ cut_penalty-cases text point =
       | false ↦ inr refl
     ]
 
-module _ (patterns : Patterns) (words pieces : List WordText) (measured : All IsMeasured words)
+module _ (patterns : PatternTable) (words pieces : List WordText) (measured : All IsMeasured words)
     (plain : All HasNoPenalty words)
     (are : AreSplit (ArePointsBy (held patterns)) words pieces) where
   pub split-carries : All CarriesHyphen pieces

@@ -25,15 +25,17 @@ use Rattle.textwrap_words.proofs.Word.Parts.{MaySeparate-texts}
 use Rattle.textwrap_layout.proofs.Common.{AreTextLines, IsFilled, IsWrapped, Line, Settings}
 use Rattle.textwrap_layout.proofs.Common.{settings_view}
 use Rattle.textwrap_layout.proofs.Paragraph.Pieces.{division-as}
+use Rattle.textwrap_layout.specs.Places.{ArePlacedLines}
 use Rattle.textwrap_layout.specs.declared.options.Options.{Options}
+use Rattle.textwrap_layout.specs.declared.places.Place.{Place}
 use Rattle.textwrap_lines.proofs.Text.Promises.{IsWrapped-by}
-use Rattle.textwrap_hyphens.specs.Points.{held}
-use Rattle.textwrap_hyphens.specs.declared.dictionary.Patterns.{Patterns}
+use Rattle.textwrap_hyphens.specs.Table.{held}
+use Rattle.textwrap_hyphens.specs.declared.table.PatternTable.{PatternTable}
 use Rattle.textwrap_hyphenated.proofs.Points.{held-cuts}
 use Rattle.textwrap_hyphenated.specs.Hyphenated.{ArePointsBy, DividesAtPoints, DividesHyphenated}
 use Rattle.textwrap_hyphenated.specs.Hyphenated.{DividesHyphenatedUnder, HasPartsBeside}
 
-module _ {E C : Type 0} {e : _} {c : _} (options : Options E C e c) (patterns : Patterns) where
+module _ {E C : Type 0} {e : _} {c : _} (options : Options E C e c) (patterns : PatternTable) where
   pub IsWrapped-hyphenated : (text : List ℕ) (lines : List Line) → IsUtf8 text
       → AreTextLines (settings_view options) (DividesHyphenated options (held patterns)) text lines
       → IsWrapped (settings_view options) None (algorithm_view options.wrap_algorithm)
@@ -136,7 +138,7 @@ module _ {E C : Type 0} {e : _} {c : _} (options : Options E C e c) (patterns : 
 
 -- ---- where words stand between blanks and the algorithm is built in
 
-module _ {E C : Type 0} {e : _} {c : _} (options : Options E C e c) (patterns : Patterns)
+module _ {E C : Type 0} {e : _} {c : _} (options : Options E C e c) (patterns : PatternTable)
     (settings : Settings) (algorithm : Algorithm)
     (parts : HasPartsBeside options settings algorithm) where
   pub divides-under : (s : Settings) → DividesHyphenatedUnder options (held patterns) s
@@ -160,3 +162,9 @@ module _ {E C : Type 0} {e : _} {c : _} (options : Options E C e c) (patterns : 
       → IsFilled (settings_view options) (DividesHyphenated options (held patterns)) text filled
       → IsFilled settings (DividesAtPoints (held patterns) algorithm settings) text filled
   filled-as text filled is = grind (arith, divides)
+
+  pub placed-as : (text : List ℕ) (lines : List Line) (places : List Place)
+      → ArePlacedLines (settings_view options) (DividesHyphenated options (held patterns)) text lines
+      places
+      → ArePlacedLines settings (DividesAtPoints (held patterns) algorithm settings) text lines places
+  placed-as text lines places are = grind (arith, divides)

@@ -4,14 +4,14 @@ ghost use Rattle.textwrap_base.specs.Errors.{OnlyMemoryRunsOut};
 ghost use Rattle.textwrap_words.specs.WrapAlgorithms.{Algorithm};
 ghost use Rattle.textwrap_layout.specs.Options.{Settings, settings_view};
 ghost use Rattle.textwrap.specs.Columns.{IsInColumns};
-ghost use Rattle.textwrap_hyphens.specs.Points.{held};
+ghost use Rattle.textwrap_hyphens.specs.Table.{held};
 ghost use Rattle.textwrap_hyphenated.specs.Hyphenated.{DividesAtPoints, DividesHyphenatedUnder};
 ghost use Rattle.textwrap_hyphenated.specs.Hyphenated.{HasPartsBeside};
 
 use crate::options::HyphenatedOptions;
 use std::alloc::Allocator;
 use textwrap::inner::{Table, table_rows};
-use textwrap_hyphens::dictionary::Patterns;
+use textwrap_hyphens::table::PatternTable;
 use textwrap_layout::options::Options;
 use textwrap_lines::inner::wrap_by;
 use textwrap_words::wrap_algorithms::WrapError;
@@ -31,7 +31,7 @@ pub fn wrap_columns_hyphenated<A: Allocator + Copy>(
     text: &str,
     columns: usize,
     options: Options<'_>,
-    patterns: &Patterns,
+    patterns: &PatternTable<'_>,
     left_gap: &str,
     middle_gap: &str,
     right_gap: &str,

@@ -5,8 +5,11 @@
 pub mod columns;
 pub mod laws;
 mod options;
+pub mod placed;
+pub mod refilling;
 mod splitter;
 pub mod texts;
 
 pub use columns::wrap_columns_hyphenated;
+pub use refilling::refill_hyphenated;
 pub use texts::{fill_hyphenated, wrap_hyphenated};

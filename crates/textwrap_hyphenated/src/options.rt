@@ -4,12 +4,12 @@ ghost use Rattle.textwrap_words.specs.WordSeparators.{MaySeparate};
 ghost use Rattle.textwrap_words.specs.Words.{Tiles, word_view};
 ghost use Rattle.textwrap_layout.specs.Options.{settings_view};
 ghost use Rattle.textwrap_layout.specs.Paragraph.{ArePieces};
-ghost use Rattle.textwrap_hyphens.specs.Points.{held};
+ghost use Rattle.textwrap_hyphens.specs.Table.{held};
 ghost use Rattle.textwrap_hyphenated.specs.Hyphenated.{ArePointsBy};
 
 use crate::splitter::find_split_words;
 use std::alloc::{AllocError, Allocator};
-use textwrap_hyphens::dictionary::Patterns;
+use textwrap_hyphens::table::PatternTable;
 use textwrap_layout::any_options::{AnyOptions, BuiltInParts};
 use textwrap_layout::layout::Layout;
 use textwrap_layout::options::Options;
@@ -23,7 +23,7 @@ use textwrap_words::wrap_algorithms::WrapError;
 #[derive(Drop)]
 pub(crate) struct HyphenatedOptions<'o, 'p> {
     pub(crate) options: Options<'o>,
-    pub(crate) patterns: &'p Patterns,
+    pub(crate) patterns: &'p PatternTable<'p>,
 }
 
 impl<A: Allocator + Copy> AnyOptions<A> for HyphenatedOptions<'_, '_> {
@@ -33,7 +33,7 @@ impl<A: Allocator + Copy> AnyOptions<A> for HyphenatedOptions<'_, '_> {
     ghost use Rattle.textwrap_words.specs.WordSeparators.{MaySeparate};
     ghost use Rattle.textwrap_layout.specs.Options.{settings_view};
     ghost use Rattle.textwrap_layout.specs.Paragraph.{ArePieces};
-    ghost use Rattle.textwrap_hyphens.specs.Points.{held};
+    ghost use Rattle.textwrap_hyphens.specs.Table.{held};
     ghost use Rattle.textwrap_hyphenated.specs.Hyphenated.{ArePointsBy, DividesHyphenated};
 
     ghost settings = { λ o. settings_view o.options };
@@ -94,7 +94,7 @@ fn find_pieces<'t, A: Allocator + Copy>(
     alloc: A,
     paragraph: &'t str,
     options: &Options<'_>,
-    patterns: &Patterns,
+    patterns: &PatternTable<'_>,
 ) -> Result<Vec<Word<'t>, A>, AllocError>
     ensures pieces { IfOk result (λ pieces. ArePieces (settings_view options.now)
         (MaySeparate options.now.word_separator) (ArePointsBy (held patterns.now)) paragraph.now

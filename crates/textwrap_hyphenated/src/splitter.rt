@@ -6,12 +6,12 @@ ghost use Rattle.textwrap_words.specs.Cuts.{AreCuts};
 ghost use Rattle.textwrap_words.specs.WordSeparators.{MaySeparate};
 ghost use Rattle.textwrap_words.specs.WordSplitters.{AreSplit};
 ghost use Rattle.textwrap_words.specs.Words.{WordText, word_view};
-ghost use Rattle.textwrap_hyphens.specs.Points.{held};
+ghost use Rattle.textwrap_hyphens.specs.Table.{held};
 ghost use Rattle.textwrap_hyphenated.specs.Hyphenated.{ArePointsBy};
 
 use std::alloc::{AllocError, Allocator};
-use textwrap_hyphens::dictionary::Patterns;
 use textwrap_hyphens::points::points;
+use textwrap_hyphens::table::PatternTable;
 use textwrap_words::inner::push_split;
 use textwrap_words::word_separators::{WordSeparator, Words};
 use textwrap_words::word_splitters::WordSplitter;
@@ -25,7 +25,7 @@ pub(crate) fn find_split_words<'t, A: Allocator + Copy>(
     alloc: A,
     paragraph: &'t str,
     separator: &WordSeparator,
-    patterns: &Patterns,
+    patterns: &PatternTable<'_>,
 ) -> Result<Vec<Word<'t>, A>, AllocError>
     ensures { IfOk result (λ pieces. (words : List WordText)
         × MaySeparate separator.now paragraph.now words
@@ -39,7 +39,7 @@ pub(crate) fn find_split_words<'t, A: Allocator + Copy>(
 fn split_each<'t, A: Allocator + Copy>(
     alloc: A,
     words: Words<'t, A>,
-    patterns: &Patterns,
+    patterns: &PatternTable<'_>,
 ) -> Result<Vec<Word<'t>, A>, AllocError>
     ensures { IfOk result (λ pieces.
         AreSplit (ArePointsBy (held patterns.now)) words.entry (map word_view pieces.items)) }
@@ -62,7 +62,7 @@ fn split_each<'t, A: Allocator + Copy>(
 fn split_points<A: Allocator + Copy>(
     alloc: A,
     word: &str,
-    patterns: &Patterns,
+    patterns: &PatternTable<'_>,
 ) -> Result<Vec<usize, A>, AllocError>
     ensures points { IfOk result (λ points.
         ArePointsBy (held patterns.now) word.now points.items) }

@@ -7,7 +7,7 @@ ghost use Rattle.textwrap_layout.specs.Filling.{IsFilled};
 ghost use Rattle.textwrap_layout.specs.Options.{Settings, settings_view};
 ghost use Rattle.textwrap_layout.specs.Paragraph.{line_view};
 ghost use Rattle.textwrap_layout.specs.Text.{AreTextLines, IsWrapped};
-ghost use Rattle.textwrap_hyphens.specs.Points.{held};
+ghost use Rattle.textwrap_hyphens.specs.Table.{held};
 ghost use Rattle.textwrap_hyphenated.specs.Hyphenated.{AddOnlyHyphens, DividesAtPoints};
 ghost use Rattle.textwrap_hyphenated.specs.Hyphenated.{DividesHyphenated, HasPartsBeside};
 ghost use Rattle.textwrap_hyphenated.specs.Hyphenated.{LinesKeepButHyphens};
@@ -15,7 +15,7 @@ ghost use Rattle.textwrap_hyphenated.specs.Hyphenated.{LinesKeepButHyphens};
 use crate::options::HyphenatedOptions;
 use std::alloc::Allocator;
 use std::borrow::CowStr;
-use textwrap_hyphens::dictionary::Patterns;
+use textwrap_hyphens::table::PatternTable;
 use textwrap_layout::options::Options;
 use textwrap_lines::inner::{fill_by, wrap_by};
 use textwrap_words::wrap_algorithms::WrapError;
@@ -37,7 +37,7 @@ pub fn wrap_hyphenated<'t, A: Allocator + Copy>(
     alloc: A,
     text: &'t str,
     options: Options<'_>,
-    patterns: &Patterns,
+    patterns: &PatternTable<'_>,
 ) -> Result<Vec<CowStr<'t, A>, A>, WrapError>
     // The lines are those of the text. By a built-in algorithm they are at least one, and lose only
     // blanks.
@@ -75,7 +75,7 @@ pub fn fill_hyphenated<A: Allocator + Copy>(
     alloc: A,
     text: &str,
     options: Options<'_>,
-    patterns: &Patterns,
+    patterns: &PatternTable<'_>,
 ) -> Result<String<A>, WrapError>
     ensures filled { IfOk result (λ filled. IsFilled (settings_view options.entry)
         (DividesHyphenated options.entry (held patterns.now)) text.now (string_bytes filled)) }

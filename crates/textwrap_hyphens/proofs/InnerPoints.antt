@@ -4,10 +4,8 @@ use Rattle.textwrap_hyphens.proofs.Common.{arith, drop, length, take, zero, suc,
 use Rattle.textwrap_hyphens.proofs.Common.{get_or, Bool}
 use Rattle.textwrap_hyphens.proofs.Common.{All, All-cons, All-head, All-nil, All-tail, cond, filter}
 use Rattle.textwrap_hyphens.proofs.Common.{length-map, map, range_with_len, subst, sym, ⊤}
-use Rattle.std.specs.Prelude.{IsCharBoundary, Some, chars, encode_utf8, unwrap_or, not, ◌&&◌}
+use Rattle.std.specs.Prelude.{IfSome, IsCharBoundary, None, Option, Some, chars, encode_utf8, unwrap_or, not, ◌&&◌}
 use Rattle.std.specs.List.{list_any}
-use Rattle.std.specs.Str.{bytes_eq}
-use Rattle.std.proofs.lemmas.Slice.Eq.{bytes_eq-Decides}
 use Rattle.std.proofs.lemmas.List.{drop-map}
 use Rattle.textwrap_text.proofs.Common.{All-map, All-weaker, IsUtf8, length-drop, length-take}
 use Rattle.textwrap_text.proofs.Common.{take-map}
@@ -20,13 +18,13 @@ use Rattle.textwrap_text.specs.Escapes.{next_of, shows}
 use Rattle.textwrap_text.specs.declared.characters.Character.{Character}
 use Rattle.textwrap_words.specs.Cuts.{AreInnerCuts, AreNext, IsNextCut}
 use Rattle.textwrap_hyphens.proofs.Runs.{past-letter, past-other}
-use Rattle.textwrap_hyphens.specs.Hyphenation.{ExceptionText, Hyphenation, exception_for, is_place}
+use Rattle.textwrap_hyphens.specs.Hyphenation.{Hyphenation, is_place}
 use Rattle.textwrap_hyphens.specs.Hyphenation.{places_of}
-use Rattle.textwrap_hyphens.specs.Letters.{is_hyphen, is_kept, is_letter, letter_at, letters_among}
-use Rattle.textwrap_hyphens.specs.Letters.{letters_of, run_len}
-use Rattle.textwrap_hyphens.specs.Places.{AreInnerPlaces, IsNextPlace}
+use Rattle.textwrap_patterns.specs.Letters.{is_hyphen, is_kept, is_letter, letter_at, letters_among}
+use Rattle.textwrap_patterns.specs.Letters.{letters_of, run_len}
+use Rattle.textwrap_patterns.specs.Places.{AreInnerPlaces, IsNextPlace}
 use Rattle.textwrap_hyphens.specs.Points.{points_in, points_of, points_past}
-use Rattle.textwrap_hyphens.specs.declared.letters.Letter.{Letter}
+use Rattle.textwrap_patterns.specs.declared.letters.Letter.{Letter}
 
 -- ---- places
 
@@ -64,28 +62,21 @@ by_patterns-inner h letters =
     (λ some. omega arith)
 
 -- exceptions have places inside their words
-abbrev pub AreInner : List ExceptionText → Type 0
-AreInner exceptions = All (λ e. AreInnerPlaces (length e.letters) e.places) exceptions
+abbrev pub AreInner : (List ℕ → Option (List ℕ)) → Type 0
+AreInner exception =
+    (letters : List ℕ) → IfSome (exception letters) (AreInnerPlaces (length letters))
 
-exception-inner : (letters places : List ℕ) (es : List ExceptionText) → AreInner es
-    → AreInnerPlaces (length letters) places
-    → AreInnerPlaces (length letters) (unwrap_or (exception_for es letters) places)
-exception-inner letters places [] all none = none
-exception-inner letters places (e ∷ es) all none =
-    let inner = λ (e : ExceptionText). AreInnerPlaces (length e.letters) e.places in
-    let by = elim (bytes_eq e.letters letters) as (λ b. bytes_eq e.letters letters ≡ b
-    → AreInnerPlaces (length letters) (unwrap_or (cond b (Some e.places)
-    (exception_for es letters)) places)) [
-      | true ↦ λ is. subst (λ l. AreInnerPlaces (length l) e.places)
-          ((bytes_eq-Decides e.letters letters).0 is) (All-head inner e es all)
-      | false ↦ λ is. exception-inner letters places es (All-tail inner e es all) none
-    ] in
-    by refl
+exception-inner : (len : ℕ) (found : Option (List ℕ)) (places : List ℕ)
+    → IfSome found (AreInnerPlaces len) → AreInnerPlaces len places
+    → AreInnerPlaces len (unwrap_or found places)
+exception-inner len None places all none = none
+exception-inner len (Some found) places all none = all
 
-pub places-inner : (h : Hyphenation) (letters : List ℕ) → AreInner h.exceptions
+pub places-inner : (h : Hyphenation) (letters : List ℕ) → AreInner h.exception
     → AreInnerPlaces (length letters) (places_of h letters)
 places-inner h letters inner =
-    exception-inner letters _ h.exceptions inner (by_patterns-inner h letters)
+    exception-inner (length letters) (h.exception letters) _ (inner letters)
+    (by_patterns-inner h letters)
 
 -- ---- where letters begin
 
@@ -196,7 +187,7 @@ cuts-append text (p ∷ ps) qs last mid (here, rest) below le next =
 
 -- the points of a run of letters that stand from a bound on
 run-points : (h : Hyphenation) (text : List ℕ) (low last mid : ℕ) (run : List Letter)
-    → AreInner h.exceptions → last ≤ low → 0 < length run → Stand text low (map (λ c. c.at) run)
+    → AreInner h.exception → last ≤ low → 0 < length run → Stand text low (map (λ c. c.at) run)
     → All (λ at. at < mid) (map (λ c. c.at) run)
     → AreNext (IsNextCut text) (points_in h run) last × All (λ p. p < mid) (points_in h run)
 run-points h text low last mid run inner le some stand below =
@@ -219,7 +210,7 @@ run-points h text low last mid run inner le some stand below =
     )
 
 pub past-cuts : (h : Hyphenation) (text : List ℕ) (most : ℕ) (cs : List Letter) (low last : ℕ)
-    → AreInner h.exceptions → length cs ≤ most → last ≤ low → Stand text low (map (λ c. c.at) cs)
+    → AreInner h.exception → length cs ≤ most → last ≤ low → Stand text low (map (λ c. c.at) cs)
     → AreNext (IsNextCut text) (points_past h 0 cs) last
 past-cuts h text most [] low last inner fits le stand = tt
 past-cuts h text zero (c ∷ cs) low last inner fits le stand = absurd (omega arith)
@@ -250,7 +241,7 @@ past-cuts h text (suc most) (c ∷ cs) low last inner fits le stand =
     ] in
     by refl
 
-pub points-cuts : (h : Hyphenation) (word : List ℕ) → IsUtf8 word → AreInner h.exceptions
+pub points-cuts : (h : Hyphenation) (word : List ℕ) → IsUtf8 word → AreInner h.exception
     → AreInnerCuts word (points_of h word)
 points-cuts h word utf8 inner =
     elim (not h.in_parts && list_any (λ c. is_hyphen c.ch) (letters_of word))

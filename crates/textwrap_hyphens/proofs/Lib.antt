@@ -1,12 +1,10 @@
 pub mod Common
-pub mod FirstException
 pub mod Greatest
+pub mod Held
 pub mod InnerPoints
-pub mod Longest
+pub mod Lookups
 pub mod MoreLevels
-pub mod Ordered
 pub mod Raised
 pub mod Runs
-pub mod Said
-pub mod Writing
-pub mod Found
+pub mod SealLemmas
+pub mod TableOf

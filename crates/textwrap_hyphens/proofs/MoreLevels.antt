@@ -33,7 +33,7 @@ greatest-each f g each (n ∷ ns) = omega (arith, each n, greatest-each f g each
 
 pub level-more : (patterns others : List PatternText) (dotted : List ℕ) (place : ℕ)
     → All (λ p. Contains others p) patterns
-    → level patterns dotted place ≤ level others dotted place
+    → level (level_from patterns) dotted place ≤ level (level_from others) dotted place
 level-more patterns others dotted place all =
     greatest-each (λ at. level_from patterns (drop at dotted) (place - at))
     (λ at. level_from others (drop at dotted) (place - at))

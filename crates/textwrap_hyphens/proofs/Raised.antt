@@ -1,65 +1,68 @@
 -- The levels of a dotted word, once the patterns that stand at its first places are known.
 use Rattle.textwrap_hyphens.proofs.Common.{List, ℕ, ◌≡◌, ◌+◌, ◌-◌, ◌≤◌, ◌<◌, ◌∷◌, [], ◌∙◌, ap}
 use Rattle.textwrap_hyphens.proofs.Common.{arith, drop, length, map, max, min}
-use Rattle.textwrap_hyphens.proofs.Common.{PatternText, dotted, get_or, greatest, length-append}
-use Rattle.textwrap_hyphens.proofs.Common.{level, level_from, levels_of, range_with_len, suc}
+use Rattle.textwrap_hyphens.proofs.Common.{dotted, get_or, greatest, length-append}
+use Rattle.textwrap_hyphens.proofs.Common.{level, levels_of, range_with_len, suc}
 use Rattle.std.proofs.lemmas.Grind.{same_number_lists}
 use Rattle.std.proofs.lemmas.List.FromFn.{get_or-map-range_with_len, length-map-range_with_len}
 use Rattle.std.proofs.lemmas.List.FromFn.{map-range_with_len_more}
 use Rattle.textwrap_hyphens.proofs.Greatest.{greatest-append}
 
--- the greatest level at a place that a pattern has which stands at one of the first n places
-abbrev pub level_before : List PatternText → List ℕ → ℕ → ℕ → ℕ
-level_before ps dotted n k =
-    greatest (map (λ at. level_from ps (drop at dotted) (k - at)) (range_with_len 0 (min n
-    (suc k))))
+-- the levels of what stands at the beginning of a text, by place
+abbrev pub Levels : Type 0
+Levels = List ℕ → ℕ → ℕ
+
+-- the greatest level at a place that something has which begins at one of the first n places
+abbrev pub level_before : Levels → List ℕ → ℕ → ℕ → ℕ
+level_before from dotted n k =
+    greatest (map (λ at. from (drop at dotted) (k - at)) (range_with_len 0 (min n (suc k))))
 
 numbers-before : (f : ℕ → ℕ) (n m : ℕ) → n ≡ m
     → greatest (map f (range_with_len 0 n)) ≡ greatest (map f (range_with_len 0 m))
 numbers-before f n m same = ap (λ l. greatest (map f (range_with_len 0 l))) same
 
-pub before-none : (ps : List PatternText) (dotted : List ℕ) (k : ℕ) → level_before ps dotted 0 k ≡ 0
-before-none ps dotted k =
-    numbers-before (λ at. level_from ps (drop at dotted) (k - at)) (min 0 (suc k)) 0 (omega arith)
+pub before-none : (from : Levels) (dotted : List ℕ) (k : ℕ) → level_before from dotted 0 k ≡ 0
+before-none from dotted k =
+    numbers-before (λ at. from (drop at dotted) (k - at)) (min 0 (suc k)) 0 (omega arith)
 
-pub before-here : (ps : List PatternText) (dotted : List ℕ) (at k : ℕ) → at ≤ k
-    → level_before ps dotted (at + 1) k
-    ≡ max (level_before ps dotted at k) (level_from ps (drop at dotted) (k - at))
-before-here ps dotted at k le =
-    let f = λ (n : ℕ). level_from ps (drop n dotted) (k - n) in
+pub before-here : (from : Levels) (dotted : List ℕ) (at k : ℕ) → at ≤ k
+    → level_before from dotted (at + 1) k
+    ≡ max (level_before from dotted at k) (from (drop at dotted) (k - at))
+before-here from dotted at k le =
+    let f = λ (n : ℕ). from (drop n dotted) (k - n) in
     let more = numbers-before f (min (at + 1) (suc k)) (at + 1) (omega arith)
     ∙ ap greatest (map-range_with_len_more f 0 at at (omega arith))
     ∙ greatest-append (map f (range_with_len 0 at)) (f at ∷ []) in
     let same = numbers-before f (min at (suc k)) at (omega arith) in
     omega (arith, more, same)
 
-pub before-past : (ps : List PatternText) (dotted : List ℕ) (at k : ℕ) → k < at
-    → level_before ps dotted (at + 1) k ≡ level_before ps dotted at k
-before-past ps dotted at k past = numbers-before (λ n. level_from ps (drop n dotted) (k - n))
+pub before-past : (from : Levels) (dotted : List ℕ) (at k : ℕ) → k < at
+    → level_before from dotted (at + 1) k ≡ level_before from dotted at k
+before-past from dotted at k past = numbers-before (λ n. from (drop n dotted) (k - n))
     (min (at + 1) (suc k)) (min at (suc k)) (omega arith)
 
-pub before-all : (ps : List PatternText) (dotted : List ℕ) (n k : ℕ) → k < n
-    → level_before ps dotted n k ≡ level ps dotted k
-before-all ps dotted n k within = numbers-before (λ n. level_from ps (drop n dotted) (k - n))
+pub before-all : (from : Levels) (dotted : List ℕ) (n k : ℕ) → k < n
+    → level_before from dotted n k ≡ level from dotted k
+before-all from dotted n k within = numbers-before (λ n. from (drop n dotted) (k - n))
     (min n (suc k)) (suc k) (omega arith)
 
 -- levels that were 0, once all are raised
-pub levels-all : (ps : List PatternText) (letters ds zeros now : List ℕ) → ds ≡ dotted letters
+pub levels-all : (from : Levels) (letters ds zeros now : List ℕ) → ds ≡ dotted letters
     → length zeros ≡ length ds + 1 → ((k : ℕ) → k < length zeros → get_or zeros k 0 ≡ 0)
     → length now ≡ length zeros
-    → ((k : ℕ) → k < length zeros → get_or now k 0 ≡ max (get_or zeros k 0) (level ps ds k))
-    → now ≡ levels_of ps letters
-levels-all ps letters ds zeros now are len none same raised =
-    let f = level ps (dotted letters) in
+    → ((k : ℕ) → k < length zeros → get_or now k 0 ≡ max (get_or zeros k 0) (level from ds k))
+    → now ≡ levels_of from letters
+levels-all from letters ds zeros now are len none same raised =
+    let f = level from (dotted letters) in
     let all : length zeros ≡ length letters + 3 =
     omega (arith, len, ap length are, length-append letters (46 ∷ [])) in
-    same_number_lists now (levels_of ps letters)
+    same_number_lists now (levels_of from letters)
     (omega (arith, same, all, length-map-range_with_len f 0 (length letters + 3)))
     (λ k within.
     let inside : k < length zeros = omega (arith, within, same) in
     let here = get_or-map-range_with_len f 0 (length letters + 3) k k 0 (omega arith)
     (omega arith) in
-    let value : level ps ds k ≡ f k = ap (λ l. level ps l k) are in
+    let value : level from ds k ≡ f k = ap (λ l. level from l k) are in
     let zero = none k inside in
     let new = raised k inside in
     omega (arith, zero, new, value, here))

@@ -4,9 +4,9 @@ use Rattle.textwrap_hyphens.proofs.Common.{arith, drop, length, take, zero, suc,
 use Rattle.textwrap_hyphens.proofs.Common.{get_or}
 use Rattle.textwrap_hyphens.proofs.Common.{cases_Bool}
 use Rattle.textwrap_hyphens.specs.Hyphenation.{Hyphenation}
-use Rattle.textwrap_hyphens.specs.Letters.{is_letter, run_len}
+use Rattle.textwrap_patterns.specs.Letters.{is_letter, run_len}
 use Rattle.textwrap_hyphens.specs.Points.{points_in, points_past}
-use Rattle.textwrap_hyphens.specs.declared.letters.Letter.{Letter}
+use Rattle.textwrap_patterns.specs.declared.letters.Letter.{Letter}
 
 pub past-drop : (h : Hyphenation) (n : ℕ) (cs : List Letter)
     → points_past h n cs ≡ points_past h 0 (drop n cs)

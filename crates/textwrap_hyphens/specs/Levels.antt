@@ -2,16 +2,7 @@
 use Rattle.std.specs.Prelude.{ℕ, suc, ◌+◌, ◌-◌, List, [], ◌∷◌, ◌++◌}
 use Rattle.std.specs.Prelude.{drop, if◌then◌else◌, length, map, max, nat_eq, slice_index}
 use Rattle.std.specs.List.{range_with_len, starts_with}
-use Rattle.textwrap_hyphens.specs.declared.patterns.Pattern.{Pattern}
-
--- letters, and a level for the place before each of them and for the one behind the last
-pub record PatternText : Type 0 where
-  pub letters : List ℕ
-  pub levels : List ℕ
-
-abbrev pub pattern_view : Pattern → PatternText
-pattern_view pattern =
-    record { letters = pattern.letters.items; levels = pattern.levels.items }
+use Rattle.textwrap_patterns.specs.Listed.{PatternText}
 
 abbrev pub greatest : List ℕ → ℕ
 greatest [] = 0
@@ -30,12 +21,11 @@ level_in pattern text place =
 abbrev pub level_from : List PatternText → List ℕ → ℕ → ℕ
 level_from patterns text place = greatest (map (λ p. level_in p text place) patterns)
 
--- the greatest level at a place that a pattern has, over all patterns and all places where their
--- letters stand
-abbrev pub level : List PatternText → List ℕ → ℕ → ℕ
-level patterns dotted place =
-    greatest (map (λ at. level_from patterns (drop at dotted) (place - at)) (range_with_len 0
-    (suc place)))
+-- the greatest level at a place that something has which stands in a text, over all places where it
+-- may begin, each with the levels from there on
+abbrev pub level : (List ℕ → ℕ → ℕ) → List ℕ → ℕ → ℕ
+level from dotted place =
+    greatest (map (λ at. from (drop at dotted) (place - at)) (range_with_len 0 (suc place)))
 
 -- `.`, which stands for the beginning and the end of a word
 abbrev pub dot : ℕ
@@ -46,6 +36,5 @@ abbrev pub dotted : List ℕ → List ℕ
 dotted letters = dot ∷ (letters ++ dot ∷ [])
 
 -- the levels of all places of a dotted word, also of the one before it and the one behind it
-abbrev pub levels_of : List PatternText → List ℕ → List ℕ
-levels_of patterns letters =
-    map (level patterns (dotted letters)) (range_with_len 0 (length letters + 3))
+abbrev pub levels_of : (List ℕ → ℕ → ℕ) → List ℕ → List ℕ
+levels_of from letters = map (level from (dotted letters)) (range_with_len 0 (length letters + 3))

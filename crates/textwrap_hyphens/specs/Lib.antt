@@ -1,10 +1,9 @@
-pub mod Entries
+pub mod Building
 pub mod Hyphenation
+pub mod InnerPlaces
 pub mod Laws
-pub mod Letters
 pub mod Levels
-pub mod Parsing
-pub mod Places
+pub mod Parsed
 pub mod Points
-pub mod Search
-pub mod Written
+pub mod Seal
+pub mod Table

@@ -2,21 +2,9 @@
 use Rattle.std.specs.Prelude.{ℕ, zero, suc, ◌-◌, ◌&&◌, ◌++◌, List, [], ◌∷◌, if◌then◌else◌, map, not}
 use Rattle.std.specs.Prelude.{slice_index, take}
 use Rattle.std.specs.List.{list_any}
-use Rattle.textwrap_hyphens.specs.Hyphenation.{Hyphenation, exception_view, places_of}
-use Rattle.textwrap_hyphens.specs.Letters.{is_hyphen, is_letter, letters_of, run_len}
-use Rattle.textwrap_hyphens.specs.Levels.{pattern_view}
-use Rattle.textwrap_hyphens.specs.declared.letters.Letter.{Letter}
-use Rattle.textwrap_hyphens.specs.declared.dictionary.Patterns.{Patterns}
-
--- what a dictionary holds
-abbrev pub held : Patterns → Hyphenation
-held patterns = record {
-  patterns = map pattern_view patterns.patterns.items;
-  exceptions = map exception_view patterns.exceptions.items;
-  left = patterns.left;
-  right = patterns.right;
-  in_parts = patterns.in_parts;
-}
+use Rattle.textwrap_hyphens.specs.Hyphenation.{Hyphenation, places_of}
+use Rattle.textwrap_patterns.specs.Letters.{is_hyphen, is_letter, letters_of, run_len}
+use Rattle.textwrap_patterns.specs.declared.letters.Letter.{Letter}
 
 -- where the letters of a run begin that stand behind its places
 abbrev pub points_in : Hyphenation → List Letter → List ℕ

@@ -1,67 +1,55 @@
 //! A dictionary of hyphenation.
-ghost use Rattle.std.specs.Prelude.{IsTrue};
-ghost use Rattle.textwrap_hyphens.specs.Search.{AreInOrder, AreSorted};
+ghost use Rattle.std.specs.Prelude.{◌≡◌, true};
+ghost use Rattle.textwrap_hyphens.specs.Seal.{is_sealed};
 
-use crate::errors::ParseError;
-use crate::parsing::read;
-use crate::patterns::{Exception, Pattern};
-use std::alloc::Global;
+use crate::building::{exception_entries, pattern_entries, write_table};
+use crate::table::PatternTable;
+use std::alloc::{AllocError, Global};
+use textwrap_patterns::errors::ParseError;
+use textwrap_patterns::parsing::read;
+use textwrap_patterns::patterns::{Exception, Pattern};
 
 /// A dictionary of hyphenation: patterns, and words with their hyphens as exceptions from them.
 #[derive(Debug, Drop)]
 pub struct Patterns {
-    pub(crate) patterns: Vec<Pattern>,
-    pub(crate) exceptions: Vec<Exception>,
-    pub(crate) left: usize,
-    pub(crate) right: usize,
-    pub(crate) in_parts: bool,
-    /// Whether the exceptions are in the order of their letters.
-    pub(crate) is_sorted: bool,
-    ghost ordered: { AreInOrder patterns.items },
-    ghost sorted: { IsTrue is_sorted → AreSorted exceptions.items },
+    words: Vec<usize>,
+    in_parts: bool,
+    ghost sealed: { is_sealed words.items ≡ true },
 }
 
 impl Patterns {
-    ghost use Rattle.std.specs.Prelude.{◌≡◌, ℕ, List, map};
-    ghost use Rattle.std.specs.Prelude.{false};
-    ghost use Rattle.std.specs.List.Sorted.{IsPermutation};
-    ghost use Rattle.textwrap_hyphens.specs.Hyphenation.{exception_for, exception_view};
-    ghost use Rattle.textwrap_hyphens.specs.Levels.{pattern_view};
-    ghost use Rattle.textwrap_hyphens.specs.Parsing.{IsParsed, parsed};
-    ghost use Rattle.textwrap_hyphens.specs.Points.{held};
+    ghost use Rattle.std.specs.Prelude.{◌≡◌, IfOk, map};
+    ghost use Rattle.textwrap_hyphens.specs.Hyphenation.{hyphenation_by};
+    ghost use Rattle.textwrap_patterns.specs.Listed.{exception_view, listed};
+    ghost use Rattle.textwrap_patterns.specs.Listed.{pattern_view};
+    ghost use Rattle.textwrap_patterns.specs.Parsing.{parsed};
+    ghost use Rattle.textwrap_hyphens.specs.Parsed.{IsParsed};
+    ghost use Rattle.textwrap_hyphens.specs.Table.{held, patterns_view};
 
     /// A dictionary of these patterns and exceptions, in any order. A point has at least `left`
     /// letters before it and `right` behind it, 2 and 3 in American English, for which apostrophes
     /// and combining marks do not count; but those of an exception may have fewer. Of exceptions
     /// with the same letters the first counts. A word with a hyphen has no points.
+    ///
+    /// # Errors
+    /// [`AllocError`] where memory runs out.
     pub fn new(
-        mut patterns: Vec<Pattern>,
-        mut exceptions: Vec<Exception>,
+        alloc: Global,
+        patterns: Vec<Pattern>,
+        exceptions: Vec<Exception>,
         left: usize,
         right: usize,
-    ) -> Patterns
-        ensures patterns { IsPermutation (map pattern_view patterns.items) (held result).patterns }
-        ensures exceptions { IsPermutation (map exception_view exceptions.items)
-            (held result).exceptions }
-        ensures first { (letters : List ℕ) → exception_for (held result).exceptions letters
-            ≡ exception_for (map exception_view exceptions.items) letters }
-        ensures left { (held result).left ≡ left }
-        ensures right { (held result).right ≡ right }
-        ensures in_parts { (held result).in_parts ≡ false }
+    ) -> Result<Patterns, AllocError>
+        ensures { IfOk result (λ made. patterns_view made ≡ hyphenation_by (listed
+            (map pattern_view patterns.items) (map exception_view exceptions.items) left right)) }
     {
-        patterns.sort_unstable_by(|one, other| one.letters.cmp(&other.letters));
-        // Without memory for it they stay as they are, and are searched one after another.
-        let is_sorted = exceptions
-            .sort_by(|one, other| one.letters.cmp(&other.letters))
-            .is_ok();
-        Patterns {
-            patterns,
-            exceptions,
-            left,
-            right,
+        let patterns = pattern_entries(alloc, patterns)?;
+        let exceptions = exception_entries(alloc, exceptions)?;
+        let words = write_table(alloc, patterns, exceptions, left, right)?;
+        Ok(Patterns {
+            words,
             in_parts: false,
-            is_sorted,
-        }
+        })
     }
 
     /// The dictionary that a text says. It has one of three forms, told by its first line:
@@ -94,18 +82,26 @@ impl Patterns {
     {
         let reading = read(alloc, text)?;
         Ok(Patterns::new(
+            alloc,
             reading.patterns,
             reading.exceptions,
             reading.left,
             reading.right,
-        ))
+        )?)
     }
 
     /// The same dictionary, where the parts of a word with hyphens are hyphenated too, or not.
     pub fn in_parts(mut self, in_parts: bool) -> Patterns
-        ensures { held result ≡ record (held self) { in_parts = in_parts } }
+        ensures { patterns_view result ≡ record (patterns_view self) { in_parts = in_parts } }
     {
         self.in_parts = in_parts;
         self
+    }
+
+    /// The dictionary, as points are found by it. The call always succeeds.
+    pub fn table(&self) -> PatternTable<'_>
+        ensures { held result ≡ patterns_view self.now }
+    {
+        PatternTable::held_by(&self.words, self.in_parts)
     }
 }

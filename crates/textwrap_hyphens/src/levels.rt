@@ -1,11 +1,10 @@
 //! The levels of the places of a word.
 ghost use Rattle.std.specs.Prelude.{◌≡◌, ℕ, ◌+◌, ◌*◌, ◌<◌, ◌≤◌, length, max, slice_index, IfOk};
 ghost use Rattle.textwrap_base.specs.Minima.{counted};
-ghost use Rattle.textwrap_hyphens.specs.Levels.{dotted, level, levels_of, longest};
-ghost use Rattle.textwrap_hyphens.specs.Points.{held};
+ghost use Rattle.textwrap_hyphens.specs.Levels.{dotted, level, levels_of};
+ghost use Rattle.textwrap_hyphens.specs.Table.{held};
 
-use crate::dictionary::Patterns;
-use crate::search::raise_from;
+use crate::table::PatternTable;
 use std::alloc::{AllocError, Allocator};
 use textwrap_base::minima::Steps;
 
@@ -20,16 +19,15 @@ use textwrap_base::minima::Steps;
 pub fn levels<A: Allocator + Copy>(
     alloc: A,
     letters: &[char],
-    patterns: &Patterns,
-) -> Result<Vec<u8, A>, AllocError>
+    patterns: &PatternTable<'_>,
+) -> Result<Vec<usize, A>, AllocError>
     ensures { IfOk result (λ levels. levels.items
-        ≡ levels_of (held patterns.now).patterns letters.now) }
+        ≡ levels_of (held patterns.now).level_from letters.now) }
 {
     levels_counted(alloc, letters, patterns, &mut Steps::new())
 }
 
-/// The same levels, with a count of how often a letter is looked up among the patterns, which are in
-/// the order of their letters: two binary searches each time.
+/// The same levels, with a count of how often a letter is looked up in the trie of the patterns.
 ///
 /// `lookups` goes up by at most (n + 2) m for n letters, where the longest pattern has m, however many
 /// patterns there are.
@@ -39,13 +37,13 @@ pub fn levels<A: Allocator + Copy>(
 pub fn levels_counted<A: Allocator + Copy>(
     alloc: A,
     letters: &[char],
-    patterns: &Patterns,
+    patterns: &PatternTable<'_>,
     lookups: &mut Steps,
-) -> Result<Vec<u8, A>, AllocError>
+) -> Result<Vec<usize, A>, AllocError>
     ensures levels { IfOk result (λ levels. levels.items
-        ≡ levels_of (held patterns.now).patterns letters.now) }
+        ≡ levels_of (held patterns.now).level_from letters.now) }
     ensures lookups { lookups.new ≤ counted lookups.old
-        ((length letters.now + 2) * longest (held patterns.now).patterns) }
+        ((length letters.now + 2) * (held patterns.now).longest) }
     ensures never_less { lookups.old ≤ lookups.new }
 {
     let dotted = dotted(alloc, letters)?;
@@ -55,17 +53,22 @@ pub fn levels_counted<A: Allocator + Copy>(
 }
 
 /// Raises the levels of all places of a dotted word to those that its patterns give them.
-fn raise_all(levels: &mut [u8], dotted: &[char], patterns: &Patterns, lookups: &mut Steps)
+fn raise_all(
+    levels: &mut [usize],
+    dotted: &[char],
+    patterns: &PatternTable<'_>,
+    lookups: &mut Steps,
+)
     requires { length levels.old ≡ length dotted.now + 1 }
     ensures levels { (k : ℕ) → k < length levels.old → slice_index levels.new k
-        ≡ max (slice_index levels.old k) (level (held patterns.now).patterns dotted.now k) }
+        ≡ max (slice_index levels.old k) (level (held patterns.now).level_from dotted.now k) }
     ensures lookups { lookups.new ≤ counted lookups.old
-        (length dotted.now * longest (held patterns.now).patterns) }
+        (length dotted.now * (held patterns.now).longest) }
     ensures never_less { lookups.old ≤ lookups.new }
 {
     for at in 0..levels.len() {
         let text = &dotted[at..];
-        raise_from(&mut levels[at..], &patterns.patterns, text, lookups);
+        patterns.raise_from(&mut levels[at..], text, lookups);
     }
 }
 
@@ -73,7 +76,7 @@ fn raise_all(levels: &mut [u8], dotted: &[char], patterns: &Patterns, lookups: &
 fn dotted<A: Allocator>(alloc: A, letters: &[char]) -> Result<Vec<char, A>, AllocError>
     ensures { IfOk result (λ whole. whole.items ≡ dotted letters.now) }
 {
-    let mut whole = Vec::new(alloc);
+    let mut whole = Vec::with_capacity(alloc, letters.len().saturating_add(2))?;
     whole.push('.')?;
     whole.extend_from_slice(letters)?;
     whole.push('.')?;

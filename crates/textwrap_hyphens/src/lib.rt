@@ -2,14 +2,9 @@
 //! word at which a dictionary's patterns allow a hyphen.
 #![tactic(auto)]
 
+mod building;
 pub mod dictionary;
-mod entries;
-pub mod errors;
 pub mod laws;
-pub mod letters;
 pub mod levels;
-mod parsing;
-pub mod patterns;
 pub mod points;
-mod search;
-pub mod written;
+pub mod table;

@@ -3,19 +3,19 @@ ghost use Rattle.std.specs.Prelude.{◌≡◌, ◌++◌, ◌-◌, ◌<◌, ◌&&
 ghost use Rattle.std.specs.Prelude.{slice_index, IfOk, OnOk};
 ghost use Rattle.std.specs.List.{list_any, range_with_len};
 ghost use Rattle.textwrap_words.specs.Cuts.{AreInnerCuts};
-ghost use Rattle.textwrap_hyphens.specs.Letters.{is_hyphen};
+ghost use Rattle.textwrap_patterns.specs.Letters.{is_hyphen};
 ghost use Rattle.textwrap_hyphens.specs.Levels.{levels_of};
-ghost use Rattle.textwrap_hyphens.specs.Places.{AreInnerPlaces};
-ghost use Rattle.textwrap_hyphens.specs.Hyphenation.{exception_for, exception_view};
+ghost use Rattle.textwrap_patterns.specs.Places.{AreInnerPlaces};
 ghost use Rattle.textwrap_hyphens.specs.Hyphenation.{is_place, places_of};
-ghost use Rattle.textwrap_hyphens.specs.Points.{held, points_in, points_of, points_past};
+ghost use Rattle.textwrap_hyphens.specs.Points.{points_in, points_of, points_past};
+ghost use Rattle.textwrap_hyphens.specs.Table.{held};
 
-use crate::dictionary::Patterns;
-use crate::letters::{Letter, counts, has_letters, is_hyphen, is_letter, letters_of, run_len};
 use crate::levels::levels;
-use crate::patterns::Exception;
-use crate::search::exceptions_with;
+use crate::table::PatternTable;
 use std::alloc::{AllocError, Allocator};
+use textwrap_patterns::letters::{
+    Letter, counts, has_letters, is_hyphen, is_letter, letters_of, run_len,
+};
 
 /// The offsets in bytes at which a word has a hyphen by a dictionary. They increase, inside the
 /// word, and are character boundaries.
@@ -32,7 +32,7 @@ use std::alloc::{AllocError, Allocator};
 pub fn points<A: Allocator + Copy>(
     alloc: A,
     word: &str,
-    patterns: &Patterns,
+    patterns: &PatternTable<'_>,
 ) -> Result<Vec<usize, A>, AllocError>
     ensures points { IfOk result (λ points. points.items ≡ points_of (held patterns.now) word.now) }
     ensures cuts { IfOk result (λ points. AreInnerCuts word.now points.items) }
@@ -45,11 +45,11 @@ pub fn points<A: Allocator + Copy>(
 }
 
 /// Whether a word is left whole, as it has a hyphen and its parts are not asked for.
-fn is_left_whole(letters: &[Letter], patterns: &Patterns) -> bool
+fn is_left_whole(letters: &[Letter], patterns: &PatternTable<'_>) -> bool
     ensures { result ≡ (not (held patterns.now).in_parts && list_any
         (λ c. is_hyphen c.ch) letters.now) }
 {
-    !patterns.in_parts && has_hyphen(letters)
+    !patterns.in_parts() && has_hyphen(letters)
 }
 
 fn has_hyphen(letters: &[Letter]) -> bool
@@ -62,7 +62,7 @@ fn has_hyphen(letters: &[Letter]) -> bool
 fn points_of_runs<A: Allocator + Copy>(
     alloc: A,
     letters: &[Letter],
-    patterns: &Patterns,
+    patterns: &PatternTable<'_>,
 ) -> Result<Vec<usize, A>, AllocError>
     ensures { IfOk result (λ points. points.items
         ≡ points_past (held patterns.now) 0 letters.now) }
@@ -86,7 +86,7 @@ fn push_points<A: Allocator + Copy>(
     alloc: A,
     points: &mut Vec<usize, A>,
     run: &[Letter],
-    patterns: &Patterns,
+    patterns: &PatternTable<'_>,
 ) -> Result<(), AllocError>
     ensures { OnOk result (points.new.items
         ≡ points.old.items ++ points_in (held patterns.now) run.now) }
@@ -127,37 +127,23 @@ fn push_begins<A: Allocator>(
 pub fn places<A: Allocator + Copy>(
     alloc: A,
     letters: &[char],
-    patterns: &Patterns,
+    patterns: &PatternTable<'_>,
 ) -> Result<Vec<usize, A>, AllocError>
     ensures places { IfOk result (λ places. places.items
         ≡ places_of (held patterns.now) letters.now) }
     ensures inner { IfOk result (λ places. AreInnerPlaces (length letters.now) places.items) }
 {
-    for exception in exceptions_at(patterns, letters) {
-        if exception.letters.as_slice() == letters {
-            return Vec::from_slice(alloc, &exception.places);
-        }
+    if let Some(places) = patterns.exception(letters) {
+        return Vec::from_slice(alloc, places);
     }
     places_by_patterns(alloc, letters, patterns)
-}
-
-/// The exceptions with these letters, and others only if they are not sorted.
-fn exceptions_at<'p>(patterns: &'p Patterns, letters: &[char]) -> &'p [Exception]
-    ensures { exception_for (map exception_view result.now) letters.now
-        ≡ exception_for (held patterns.now).exceptions letters.now }
-{
-    if patterns.is_sorted {
-        exceptions_with(&patterns.exceptions, letters)
-    } else {
-        &patterns.exceptions
-    }
 }
 
 /// The places that the patterns allow.
 fn places_by_patterns<A: Allocator + Copy>(
     alloc: A,
     letters: &[char],
-    patterns: &Patterns,
+    patterns: &PatternTable<'_>,
 ) -> Result<Vec<usize, A>, AllocError>
     ensures places { IfOk result (λ places. places.items
         ≡ filter (is_place (held patterns.now) letters.now) (range_with_len 1
@@ -176,10 +162,10 @@ fn places_by_patterns<A: Allocator + Copy>(
 
 /// Whether a place has an odd level, enough letters on both sides, no mark behind it, and no
 /// apostrophe beside it.
-fn is_place(place: usize, letters: &[char], levels: &[u8], patterns: &Patterns) -> bool
+fn is_place(place: usize, letters: &[char], levels: &[usize], patterns: &PatternTable<'_>) -> bool
     requires inside { 0 < place }
     requires end { place < length letters.now }
-    requires levels { levels.now ≡ levels_of (held patterns.now).patterns letters.now }
+    requires levels { levels.now ≡ levels_of (held patterns.now).level_from letters.now }
     ensures { result ≡ is_place (held patterns.now) letters.now place }
 {
     if levels[place + 1] % 2 != 1 {
@@ -187,6 +173,6 @@ fn is_place(place: usize, letters: &[char], levels: &[u8], patterns: &Patterns) 
     }
     (letters[place - 1] != '\'')
         & counts(letters[place])
-        & has_letters(&letters[..place], patterns.left)
-        & has_letters(&letters[place..], patterns.right)
+        & has_letters(&letters[..place], patterns.left())
+        & has_letters(&letters[place..], patterns.right())
 }

@@ -3,6 +3,7 @@ mod balance;
 mod breaks;
 mod cut_pieces;
 mod display;
+mod hyphenate;
 mod hyphenated;
 mod hyphens;
 mod marked;

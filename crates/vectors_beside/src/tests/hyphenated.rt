@@ -7,9 +7,11 @@ use fakes::heap::Heap;
 use std::alloc::{AllocError, Allocator, Global};
 use std::borrow::CowStr;
 use std::process::Abort;
-use textwrap::{Options, WordSplitter, WrapAlgorithm, WrapError};
+use textwrap::{Options, WordSplitter, WrapAlgorithm, WrapError, fill};
 use textwrap_hyphenated::laws::hyphenated_lines_are_unique;
-use textwrap_hyphenated::{fill_hyphenated, wrap_columns_hyphenated, wrap_hyphenated};
+use textwrap_hyphenated::{
+    fill_hyphenated, refill_hyphenated, wrap_columns_hyphenated, wrap_hyphenated,
+};
 use textwrap_hyphens::dictionary::Patterns;
 use textwrap_hyphens::laws::more_patterns_raise_levels;
 
@@ -73,29 +75,97 @@ const IN_PARTS: &[Row] = &[
         "Silben-\ntren-\nnung\u{2010}Sil-\nbentren-\nnung"),
 ];
 
+/// A link whose text is `Zeilen`.
+const LINK: &str = "\u{1b}]8;;https://ab.de/\u{1b}\\Zeilen\u{1b}]8;;\u{1b}\\";
+
+/// The same with a hyphen in its address.
+const HYPHEN_LINK: &str = "\u{1b}]8;;https://a-b.de/\u{1b}\\Zeilen\u{1b}]8;;\u{1b}\\";
+
+/// With these patterns.
+#[rattlefmt::skip]
+const LINKS: &[Row] = &[
+    ("an address has no columns, and no line ends in it", LINK, 4, ("", ""),
+        "\u{1b}]8;;https://ab.de/\u{1b}\\Zei-\nlen\u{1b}]8;;\u{1b}\\",
+        "\u{1b}]8;;https://ab.de/\u{1b}\\Zei-\nlen\u{1b}]8;;\u{1b}\\"),
+    ("but a hyphen in it is a point, and what is behind that has columns", HYPHEN_LINK, 10, ("", ""),
+        "\u{1b}]8;;https://a-b.de/\u{1b}\\Zei-\nlen\u{1b}]8;;\u{1b}\\",
+        "\u{1b}]8;;https://a-b.de/\u{1b}\\Zei-\nlen\u{1b}]8;;\u{1b}\\"),
+    ("so a line may end in it", HYPHEN_LINK, 4, ("", ""),
+        "\u{1b}]8;;https://a-b.de\n/\u{1b}\\Zei-\nlen\u{1b}]8;;\u{1b}\\",
+        "\u{1b}]8;;https://a-b.de\n/\u{1b}\\Zei-\nlen\u{1b}]8;;\u{1b}\\"),
+    ("also right behind the hyphen", HYPHEN_LINK, 8, ("", ""),
+        "\u{1b}]8;;https://a-\nb.de/\u{1b}\\Zei-\nlen\u{1b}]8;;\u{1b}\\",
+        "\u{1b}]8;;https://a-b.de/\u{1b}\\Zei-\nlen\u{1b}]8;;\u{1b}\\"),
+];
+
+/// By `fill` of `textwrap`, which finds the same hyphens.
+#[rattlefmt::skip]
+const PLAIN_LINKS: &[Row] = &[
+    ("an address has no columns, and no line ends in it", LINK, 4, ("", ""),
+        "\u{1b}]8;;https://ab.de/\u{1b}\\Zeil\nen\u{1b}]8;;\u{1b}\\",
+        "\u{1b}]8;;https://ab.de/\u{1b}\\Zeil\nen\u{1b}]8;;\u{1b}\\"),
+    ("but a hyphen in it is a point, and what is behind that has columns", HYPHEN_LINK, 10, ("", ""),
+        "\u{1b}]8;;https://a-b.de/\u{1b}\\Zeile\nn\u{1b}]8;;\u{1b}\\",
+        "\u{1b}]8;;https://a-b.de/\u{1b}\\Zeile\nn\u{1b}]8;;\u{1b}\\"),
+];
+
+/// With these patterns, by `refill_hyphenated`, whatever the indents of the options are.
+#[rattlefmt::skip]
+const REFILLED: &[Row] = &[
+    ("a comment", "// Zeilenumbruch\n// und Silbentrennung\n// in schmalen\n// Spalten\n", 13, ("* ", "  "),
+        "// Zeilenum-\n// bruch und\n// Silben-\n// trennung\n// in schma-\n// len Spal-\n// ten\n",
+        "// Zeilen-\n// umbruch\n// und Sil-\n// bentren-\n// nung in\n// schmalen\n// Spalten\n"),
+    ("the first line has an indent of its own", "- Zeilen\n  Zeilen", 6, ("", ""),
+        "- Zei-\n  len\n  Zei-\n  len", "- Zei-\n  len\n  Zei-\n  len"),
+    ("the ending of the options stands in the place of that of the text", "Zeilen\r\nZeilen\r\n", 4, ("", ""),
+        "Zei-\nlen\nZei-\nlen\n", "Zei-\nlen\nZei-\nlen\n"),
+    ("a text that ends in another ending than that of its lines ends in none", "Zeilen\r\n\n", 4, ("", ""),
+        "Zei-\nlen", "Zei-\nlen"),
+    ("a hyphen at the end of a line stays, and a blank behind it", "Zei-\nlen\n", 10, ("", ""),
+        "Zei- len\n", "Zei- len\n"),
+    ("a text of empty lines is empty", "\n\n", 10, ("", ""), "", ""),
+];
+
 /// How many allocations the narrow column takes up to the last that it cannot do without.
-const ALLOCATIONS: usize = 54;
+const ALLOCATIONS: usize = 39;
+
+/// And the comment.
+const REFILL_ALLOCATIONS: usize = 40;
 
 /// A dictionary of the patterns.
 fn german(alloc: Global) -> Result<Patterns, AllocError> {
     let mut patterns = Vec::new(alloc);
     push_patterns(alloc, &mut patterns, &GERMAN)?;
-    Ok(Patterns::new(patterns, Vec::new(alloc), 2, 2))
+    Patterns::new(alloc, patterns, Vec::new(alloc), 2, 2)
 }
 
-/// `fill_hyphenated`.
-fn plain_fill_hyphenated<A: Allocator + Copy>(
+/// The calls that give a text.
+#[derive(Clone, Copy)]
+enum Call {
+    Plain,
+    Fill,
+    Refill,
+}
+
+/// What one of them gives.
+fn hyphenated<A: Allocator + Copy>(
     alloc: A,
+    call: Call,
     text: &str,
     options: Options<'_>,
     patterns: &Patterns,
 ) -> Result<String<A>, WrapError> {
-    fill_hyphenated(alloc, text, options, patterns)
+    match call {
+        Call::Plain => fill(alloc, text, options),
+        Call::Fill => fill_hyphenated(alloc, text, options, &patterns.table()),
+        Call::Refill => refill_hyphenated(alloc, text, options, &patterns.table()),
+    }
 }
 
 /// Asserts what a row says.
 fn assert_hyphenated(
     rt: &(impl Abort + AllocGlobal),
+    call: Call,
     (rule, text, width, (initial, later), first_fit, least_cost): Row,
     patterns: &Patterns,
 ) {
@@ -104,7 +174,7 @@ fn assert_hyphenated(
         (WrapAlgorithm::new(), least_cost),
     ] {
         let options = plain_options(width, initial, later, algorithm);
-        let given = plain_fill_hyphenated(rt.alloc(), text, options, patterns);
+        let given = hyphenated(rt.alloc(), call, text, options, patterns);
         assert_gives(rt, rule, given, wanted);
     }
 }
@@ -114,14 +184,35 @@ fn words_are_hyphenated(rt: HostRuntime) -> Result<(), AllocError> {
     let alloc = rt.alloc();
     let patterns = german(alloc)?;
     for &row in HYPHENATED {
-        assert_hyphenated(&rt, row, &patterns);
+        assert_hyphenated(&rt, Call::Fill, row, &patterns);
     }
     let patterns = patterns.in_parts(true);
     for &row in IN_PARTS {
-        assert_hyphenated(&rt, row, &patterns);
+        assert_hyphenated(&rt, Call::Fill, row, &patterns);
     }
-    let none = Patterns::new(Vec::new(alloc), Vec::new(alloc), 2, 2);
-    assert_hyphenated(&rt, WHOLE, &none);
+    let none = Patterns::new(alloc, Vec::new(alloc), Vec::new(alloc), 2, 2)?;
+    assert_hyphenated(&rt, Call::Fill, WHOLE, &none);
+    Ok(())
+}
+
+#[test]
+fn links_are_hyphenated(rt: HostRuntime) -> Result<(), AllocError> {
+    let patterns = german(rt.alloc())?;
+    for &row in LINKS {
+        assert_hyphenated(&rt, Call::Fill, row, &patterns);
+    }
+    for &row in PLAIN_LINKS {
+        assert_hyphenated(&rt, Call::Plain, row, &patterns);
+    }
+    Ok(())
+}
+
+#[test]
+fn comments_are_refilled(rt: HostRuntime) -> Result<(), AllocError> {
+    let patterns = german(rt.alloc())?;
+    for &row in REFILLED {
+        assert_hyphenated(&rt, Call::Refill, row, &patterns);
+    }
     Ok(())
 }
 
@@ -132,7 +223,13 @@ fn the_splitter_of_the_options_is_ignored(rt: HostRuntime) -> Result<(), AllocEr
         WordSplitter::NoHyphenation,
     );
     let text = "Zeilen-Silbentrennung";
-    let given = plain_fill_hyphenated(rt.alloc(), text, options, &patterns.in_parts(true));
+    let given = hyphenated(
+        rt.alloc(),
+        Call::Fill,
+        text,
+        options,
+        &patterns.in_parts(true),
+    );
     assert_gives(
         &rt,
         "it splits nowhere",
@@ -145,7 +242,7 @@ fn the_splitter_of_the_options_is_ignored(rt: HostRuntime) -> Result<(), AllocEr
 /// Whether `wrap_hyphenated` gives a line of its own where a hyphen was added, and else borrows it.
 fn borrows_where_it_can<'t>(alloc: Global, patterns: &Patterns) -> Result<bool, WrapError> {
     let options = plain_options(10, "", "", WrapAlgorithm::FirstFit);
-    let lines = wrap_hyphenated(alloc, "Silbentrennung", options, patterns)?;
+    let lines = wrap_hyphenated(alloc, "Silbentrennung", options, &patterns.table())?;
     Ok(matches!(lines.as_slice(), [CowStr::Owned(_), CowStr::Borrowed(_)]))
 }
 
@@ -169,7 +266,8 @@ const ROWS: &[&str] = &[
 fn columns_are_hyphenated(rt: HostRuntime) -> Result<(), AllocError> {
     let patterns = german(rt.alloc())?;
     let options = plain_options(21, "", "", WrapAlgorithm::FirstFit);
-    let given = wrap_columns_hyphenated(rt.alloc(), COLUMN, 2, options, &patterns, "", "|", "");
+    let table = patterns.table();
+    let given = wrap_columns_hyphenated(rt.alloc(), COLUMN, 2, options, &table, "", "|", "");
     assert_gives_texts(&rt, "two columns", given, ROWS);
     Ok(())
 }
@@ -181,39 +279,71 @@ fn a_long_text_is_hyphenated(rt: HostRuntime) -> Result<(), AllocError> {
     let wanted = "Silben-\ntrennung\n".repeat(rt.alloc(), 2_500)?;
     for algorithm in [WrapAlgorithm::FirstFit, WrapAlgorithm::new()] {
         let options = plain_options(10, "", "", algorithm);
-        let given = plain_fill_hyphenated(rt.alloc(), &text, options, &patterns);
+        let given = hyphenated(rt.alloc(), Call::Fill, &text, options, &patterns);
         assert_gives(&rt, "2,500 words", given, wanted.trim_end());
     }
     Ok(())
 }
 
-/// Whether the narrow column is filled, where so many allocations are allowed.
-fn is_filled(heap: &Heap, patterns: &Patterns) -> Result<bool, WrapError> {
-    let (_, text, width, _, wanted, _) = HYPHENATED[0];
+#[test]
+fn a_long_comment_is_refilled(rt: HostRuntime) -> Result<(), AllocError> {
+    let patterns = german(rt.alloc())?;
+    let text = "// Silbentrennung\n".repeat(rt.alloc(), 2_500)?;
+    let wanted = "// Silben-\n// trennung\n".repeat(rt.alloc(), 2_500)?;
+    for algorithm in [WrapAlgorithm::FirstFit, WrapAlgorithm::new()] {
+        let options = plain_options(13, "", "", algorithm);
+        let given = hyphenated(rt.alloc(), Call::Refill, &text, options, &patterns);
+        assert_gives(&rt, "2,500 lines", given, &wanted);
+    }
+    Ok(())
+}
+
+/// Whether a call gives what the row says by first fit, where so many allocations are allowed.
+fn is_right(
+    heap: &Heap,
+    call: Call,
+    (_, text, width, _, wanted, _): Row,
+    patterns: &Patterns,
+) -> Result<bool, WrapError> {
     let options = plain_options(width, "", "", WrapAlgorithm::FirstFit);
-    Ok(plain_fill_hyphenated(heap, text, options, patterns)?.as_str() == wanted)
+    Ok(hyphenated(heap, call, text, options, patterns)?.as_str() == wanted)
+}
+
+/// Asserts that a call takes so many allocations up to the last that it cannot do without, that it
+/// says so where one is refused, and that what it gives is right.
+fn assert_refused(
+    rt: &(impl Abort + AllocGlobal),
+    call: Call,
+    row: Row,
+    patterns: &Patterns,
+    wanted: usize,
+) {
+    let heap = Heap::new(rt.alloc(), 0);
+    let mut refused = 0;
+    for allowed in 0..200 {
+        heap.allow(allowed);
+        match is_right(&heap, call, row, patterns) {
+            Ok(is_right) => assert_holds(rt, "what is filled is right", is_right),
+            Err(error) => {
+                assert_holds(rt, "memory runs out", matches!(error, WrapError::Memory(_)));
+                refused = allowed + 1;
+            }
+        }
+    }
+    assert_count(rt, row.0, refused, wanted);
 }
 
 #[test]
 fn each_allocation_may_be_refused(rt: HostRuntime) -> Result<(), AllocError> {
     let patterns = german(rt.alloc())?;
-    let heap = Heap::new(rt.alloc(), 0);
-    let mut refused = 0;
-    for allowed in 0..200 {
-        heap.allow(allowed);
-        match is_filled(&heap, &patterns) {
-            Ok(is_right) => assert_holds(&rt, "what is filled is right", is_right),
-            Err(error) => {
-                assert_holds(
-                    &rt,
-                    "memory runs out",
-                    matches!(error, WrapError::Memory(_)),
-                );
-                refused = allowed + 1;
-            }
-        }
-    }
-    assert_count(&rt, "allocations of a narrow column", refused, ALLOCATIONS);
+    assert_refused(&rt, Call::Fill, HYPHENATED[0], &patterns, ALLOCATIONS);
+    assert_refused(
+        &rt,
+        Call::Refill,
+        REFILLED[0],
+        &patterns,
+        REFILL_ALLOCATIONS,
+    );
     Ok(())
 }
 

@@ -4,11 +4,11 @@ use fakes::heap::Heap;
 use std::alloc::{AllocError, Allocator, Global};
 use textwrap::minima::Steps;
 use textwrap_hyphens::dictionary::Patterns;
-use textwrap_hyphens::errors::{Fault, ParseError};
 use textwrap_hyphens::levels::levels_counted;
-use textwrap_hyphens::patterns::{Exception, Pattern};
 use textwrap_hyphens::points::points;
-use textwrap_hyphens::written::{exception, pattern};
+use textwrap_patterns::errors::{Fault, ParseError};
+use textwrap_patterns::patterns::{Exception, Pattern};
+use textwrap_patterns::written::{exception, pattern};
 
 /// The patterns of Liang's thesis that stand in `hyphenation`.
 const LIANG: [&str; 9] = [
@@ -26,7 +26,7 @@ const OTHERS: [&str; 6] = [
 ];
 
 /// How many allocations `hyphenation` takes up to the last that it cannot do without.
-const ALLOCATIONS: usize = 10;
+const ALLOCATIONS: usize = 6;
 
 /// A word, and its points by both lists of patterns, with the exceptions and at least 2 letters
 /// before a point and 3 behind it. Each row has the rule that it shows.
@@ -152,6 +152,31 @@ const FAULTS: &[(&str, usize, Fault)] = &[
     ("\\patterns{a1b}\n\\hyphenation{", 2, Fault::Unclosed),
 ];
 
+/// Patterns, a word, and its points by them, with at least 2 letters before a point and 3 behind it.
+/// Each row has the rule that it shows.
+#[rattlefmt::skip]
+const SAME_LETTERS: &[(&str, &[&str], &str, &[usize])] = &[
+    ("patterns stand in any order", &["o2n", "2io", "1tio", "n2at", "1na", "hen5at", "hena4", "he2n", "hy3ph"], "hyphenation", &[2, 6]),
+    ("and as often as one likes", &["1bl", "2le", "1bl", "1bl"], "tablets", &[2]),
+    ("of two with the same letters the greater level counts", &["1bl", "2bl"], "tablets", &[]),
+    ("wherever it stands", &["2bl", "1bl"], "tablets", &[]),
+    ("of three too", &["2bl", "3bl", "1bl"], "tablets", &[2]),
+    ("at each place by itself", &["1b2l", "2b1l"], "tablets", &[]),
+    ("so a place may have that of the one and a place that of the other", &["1b2l", "2b3l"], "tablets", &[3]),
+    ("a pattern that begins as another one is another one", &["1bl", "2ble", "1b1le"], "tablets", &[3]),
+];
+
+/// The letters of the patterns that are counted.
+const LETTERS: [char; 18] = [
+    'a', 'b', 'c', 'd', 'e', 'f', 'g', 'h', 'i', 'j', 'k', 'l', 'm', 'n', 'o', 'p', 'q', 'r',
+];
+
+/// How many words have three such letters.
+const NUMBERS: usize = 5832;
+
+/// How many of them are patterns.
+const PATTERNS: usize = 5000;
+
 /// A dictionary of both lists of patterns.
 fn dictionary(alloc: Global) -> Result<Patterns, AllocError> {
     let mut patterns = Vec::new(alloc);
@@ -160,7 +185,7 @@ fn dictionary(alloc: Global) -> Result<Patterns, AllocError> {
     let mut exceptions = Vec::new(alloc);
     push_exception(alloc, &mut exceptions, "table", &[1, 4])?;
     push_exception(alloc, &mut exceptions, "phenation", &[])?;
-    Ok(Patterns::new(patterns, exceptions, 2, 3))
+    Patterns::new(alloc, patterns, exceptions, 2, 3)
 }
 
 pub fn push_patterns(
@@ -195,7 +220,7 @@ fn has_points<A: Allocator + Copy>(
     patterns: &Patterns,
     wanted: &[usize],
 ) -> Result<bool, AllocError> {
-    Ok(points(alloc, word, patterns)?.as_slice() == wanted)
+    Ok(points(alloc, word, &patterns.table())?.as_slice() == wanted)
 }
 
 #[test]
@@ -208,14 +233,15 @@ fn words_have_their_points(rt: HostRuntime) -> Result<(), AllocError> {
 }
 
 #[test]
-fn no_patterns_give_no_points(rt: HostRuntime) {
+fn no_patterns_give_no_points(rt: HostRuntime) -> Result<(), AllocError> {
     let alloc = rt.alloc();
-    let patterns = Patterns::new(Vec::new(alloc), Vec::new(alloc), 2, 3);
+    let patterns = Patterns::new(alloc, Vec::new(alloc), Vec::new(alloc), 2, 3)?;
     assert_found(
         &rt,
         "there are no patterns",
         has_points(alloc, "hyphenation", &patterns, &[]),
     );
+    Ok(())
 }
 
 #[test]
@@ -240,7 +266,7 @@ fn has_lookups(
 ) -> Result<bool, AllocError> {
     let letters: Vec<char> = word.chars().collect(alloc)?;
     let mut lookups = Steps::new();
-    levels_counted(alloc, &letters, patterns, &mut lookups)?;
+    levels_counted(alloc, &letters, &patterns.table(), &mut lookups)?;
     Ok(lookups.count() == wanted)
 }
 
@@ -249,10 +275,14 @@ fn look_ups_are_counted(rt: HostRuntime) -> Result<(), AllocError> {
     let alloc = rt.alloc();
     let mut patterns = Vec::new(alloc);
     push_patterns(alloc, &mut patterns, &LIANG)?;
-    let patterns = Patterns::new(patterns, Vec::new(alloc), 2, 3);
-    // From each place on, each letter before which some pattern goes on.
-    let found = has_lookups(alloc, "hyphenation", &patterns, 27);
-    assert_found(&rt, "each letter before which a pattern goes on", found);
+    let patterns = Patterns::new(alloc, patterns, Vec::new(alloc), 2, 3)?;
+    // From each place on, each letter up to the first with which no pattern goes on.
+    let found = has_lookups(alloc, "hyphenation", &patterns, 32);
+    assert_found(
+        &rt,
+        "each letter up to the first with which no pattern goes on",
+        found,
+    );
     Ok(())
 }
 
@@ -267,7 +297,7 @@ fn has_points_in_each(
     for _ in 0..times {
         word.push_str(part)?;
     }
-    let found = points(alloc, &word, patterns)?;
+    let found = points(alloc, &word, &patterns.table())?;
     Ok(found.len() == times)
 }
 
@@ -276,7 +306,7 @@ fn a_long_word_has_its_points(rt: HostRuntime) -> Result<(), AllocError> {
     let alloc = rt.alloc();
     let mut patterns = Vec::new(alloc);
     push_patterns(alloc, &mut patterns, &["ab1cd"])?;
-    let patterns = Patterns::new(patterns, Vec::new(alloc), 2, 2);
+    let patterns = Patterns::new(alloc, patterns, Vec::new(alloc), 2, 2)?;
     let found = has_points_in_each(alloc, "abcd", 2500, &patterns);
     assert_found(&rt, "a word of 10,000 letters", found);
     Ok(())
@@ -382,6 +412,131 @@ fn a_long_dictionary_is_read(rt: HostRuntime) -> Result<(), AllocError> {
     assert_found(&rt, "a dictionary of 5,002 lines", found);
     assert_found(&rt, "its last line is wrong", is_long_refused(alloc));
     Ok(())
+}
+
+/// The dictionary of these patterns alone.
+fn listed(alloc: Global, texts: &[&str]) -> Result<Patterns, AllocError> {
+    let mut patterns = Vec::new(alloc);
+    push_patterns(alloc, &mut patterns, texts)?;
+    Patterns::new(alloc, patterns, Vec::new(alloc), 2, 3)
+}
+
+/// Whether a word has these points by some patterns.
+fn has_points_listed(
+    alloc: Global,
+    texts: &[&str],
+    word: &str,
+    wanted: &[usize],
+) -> Result<bool, AllocError> {
+    let patterns = listed(alloc, texts)?;
+    has_points(alloc, word, &patterns, wanted)
+}
+
+/// The patterns, one a line.
+fn lines_of(alloc: Global, texts: &[&str]) -> Result<String, AllocError> {
+    let mut lines = String::new(alloc);
+    for text in texts {
+        lines.push_str(text)?;
+        lines.push('\n')?;
+    }
+    Ok(lines)
+}
+
+/// Whether it has them where the patterns are read.
+fn has_points_read(
+    alloc: Global,
+    texts: &[&str],
+    word: &str,
+    wanted: &[usize],
+) -> Result<bool, ParseError> {
+    has_points_by(alloc, &lines_of(alloc, texts)?, word, wanted)
+}
+
+#[test]
+fn the_greatest_levels_count(rt: HostRuntime) {
+    let alloc = rt.alloc();
+    for (rule, texts, word, wanted) in SAME_LETTERS {
+        assert_found(&rt, rule, has_points_listed(alloc, texts, word, wanted));
+        assert_found(&rt, rule, has_points_read(alloc, texts, word, wanted));
+    }
+}
+
+/// The word of this number, with something before its last letter and behind it.
+fn numbered(alloc: Global, number: usize, level: &str, end: &str) -> Result<String, AllocError> {
+    let mut word = String::new(alloc);
+    word.push(LETTERS[number / 324 % 18])?;
+    word.push(LETTERS[number / 18 % 18])?;
+    word.push_str(level)?;
+    word.push(LETTERS[number % 18])?;
+    word.push_str(end)?;
+    Ok(word)
+}
+
+/// The level of a pattern whose number stands a second time. Each has level 1 the first time.
+fn second_level(number: usize) -> &'static str {
+    if number % 2 == 0 { "2" } else { "1" }
+}
+
+/// All patterns, one a line, and then from the last to the first with other levels.
+fn many_lines(alloc: Global) -> Result<String, AllocError> {
+    let mut lines = String::new(alloc);
+    for number in 0..PATTERNS {
+        lines.push_str(&numbered(alloc, number, "1", "\n")?)?;
+    }
+    for number in (0..PATTERNS).rev() {
+        lines.push_str(&numbered(alloc, number, second_level(number), "\n")?)?;
+    }
+    Ok(lines)
+}
+
+/// The same in a list.
+fn many_patterns(alloc: Global) -> Result<Vec<Pattern>, AllocError> {
+    let mut patterns = Vec::new(alloc);
+    for number in 0..PATTERNS {
+        patterns.push(pattern(alloc, &numbered(alloc, number, "1", "")?)?)?;
+    }
+    for number in (0..PATTERNS).rev() {
+        patterns.push(pattern(alloc, &numbered(alloc, number, second_level(number), "")?)?)?;
+    }
+    Ok(patterns)
+}
+
+/// Whether each word has a point exactly if its greatest level is odd.
+fn have_their_points(alloc: Global, patterns: &Patterns) -> Result<bool, AllocError> {
+    for number in 0..NUMBERS {
+        let word = numbered(alloc, number, "", "zz")?;
+        let wanted: &[usize] = if number < PATTERNS && number % 2 == 1 {
+            &[2]
+        } else {
+            &[]
+        };
+        if !has_points(alloc, &word, patterns, wanted)? {
+            return Ok(false);
+        }
+    }
+    Ok(true)
+}
+
+/// Whether they have them by the patterns in a list.
+fn are_listed(alloc: Global) -> Result<bool, AllocError> {
+    let patterns = Patterns::new(alloc, many_patterns(alloc)?, Vec::new(alloc), 2, 3)?;
+    have_their_points(alloc, &patterns)
+}
+
+/// And where these are read.
+fn are_read(alloc: Global) -> Result<bool, ParseError> {
+    let patterns = Patterns::parse(alloc, &many_lines(alloc)?)?;
+    Ok(have_their_points(alloc, &patterns)?)
+}
+
+#[test]
+fn many_patterns_are_found(rt: HostRuntime) {
+    assert_found(
+        &rt,
+        "5,000 patterns twice, in a list",
+        are_listed(rt.alloc()),
+    );
+    assert_found(&rt, "and in a text", are_read(rt.alloc()));
 }
 
 /// An exception for each two letters, from the last to the first.

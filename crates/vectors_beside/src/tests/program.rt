@@ -5,5 +5,5 @@ mod disk;
 mod faults;
 mod files;
 mod folder;
-mod plain;
+pub(super) mod plain;
 mod words;

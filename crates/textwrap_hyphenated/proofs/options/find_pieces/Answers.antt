@@ -3,7 +3,7 @@ use Rattle.textwrap_text.proofs.Common.{map}
 use Rattle.textwrap_layout.proofs.Common.{IfOk-weaker, MaySeparate, settings_view, word_view}
 use Rattle.textwrap_layout.proofs.Paragraph.Pieces.{pieces-tile}
 use Rattle.textwrap_words.proofs.Word.Parts.{MaySeparate-texts}
-use Rattle.textwrap_hyphens.specs.Points.{held}
+use Rattle.textwrap_hyphens.specs.Table.{held}
 use Rattle.textwrap_hyphenated.proofs.Points.{held-cuts}
 use Rattle.textwrap_hyphenated.specs.Hyphenated.{ArePointsBy}
 

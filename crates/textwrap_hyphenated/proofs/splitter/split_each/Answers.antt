@@ -3,7 +3,7 @@ use Rattle.textwrap_text.proofs.Common.{[], ap, append-nil, append_assoc, map, s
 use Rattle.textwrap_text.proofs.Common.{◌∙◌, ◌∷◌}
 use Rattle.textwrap_words.proofs.Common.{AreSplit, word_view}
 use Rattle.textwrap_words.proofs.Word.Pieces.{AreSplit-push}
-use Rattle.textwrap_hyphens.specs.Points.{held}
+use Rattle.textwrap_hyphens.specs.Table.{held}
 use Rattle.textwrap_hyphenated.specs.Hyphenated.{ArePointsBy}
 
 pub loop-word-init : goal.loop-word-init

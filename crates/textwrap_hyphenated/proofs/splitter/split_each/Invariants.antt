@@ -1,7 +1,7 @@
 use Rattle.textwrap_hyphenated.proofs.splitter.split_each.Given as goal
 use Rattle.textwrap_text.proofs.Common.{List, ◌++◌, ◌≡◌, map}
 use Rattle.textwrap_words.proofs.Common.{AreSplit, WordText, word_view}
-use Rattle.textwrap_hyphens.specs.Points.{held}
+use Rattle.textwrap_hyphens.specs.Table.{held}
 use Rattle.textwrap_hyphenated.specs.Hyphenated.{ArePointsBy}
 
 -- the pieces so far are those of the words before the ones that are left

@@ -8,7 +8,7 @@ use Rattle.textwrap_text.proofs.Common.{nil_from_length, range_with_len, sym, tr
 use Rattle.textwrap_text.proofs.Common.{◌-◌, ◌||◌, ◌∙◌, ◌∷◌, ◌≡◌}
 use Rattle.textwrap_words.proofs.Common.{hyphen_points}
 use Rattle.textwrap_words.proofs.Word.Cuts.{inner-cuts}
-use Rattle.textwrap_hyphens.specs.Points.{held}
+use Rattle.textwrap_hyphens.specs.Table.{held}
 use Rattle.textwrap_hyphenated.proofs.SplitPoints.{among, inner-increasing, own-inner, split-inner}
 use Rattle.textwrap_hyphenated.proofs.SplitPoints.{split-more, split-plain}
 use Rattle.textwrap_hyphenated.specs.Hyphenated.{is_split_point}

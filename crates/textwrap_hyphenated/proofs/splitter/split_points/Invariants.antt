@@ -1,6 +1,6 @@
 use Rattle.textwrap_hyphenated.proofs.splitter.split_points.Given as goal
 use Rattle.textwrap_text.proofs.Common.{filter, length, range_with_len, ◌-◌, ◌≡◌, ◌≤◌}
-use Rattle.textwrap_hyphens.specs.Points.{held}
+use Rattle.textwrap_hyphens.specs.Table.{held}
 use Rattle.textwrap_hyphenated.specs.Hyphenated.{is_split_point}
 
 -- the points before this offset

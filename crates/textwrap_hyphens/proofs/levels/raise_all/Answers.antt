@@ -2,15 +2,15 @@ use Rattle.textwrap_text.proofs.Common.{get_or_append_left}
 use Rattle.std.proofs.lemmas.List.{get_or-append_right, take_rest}
 use Rattle.textwrap_hyphens.proofs.Common.{arith, ap, cases_lt, drop, get_or, get_or-drop}
 use Rattle.textwrap_hyphens.proofs.Common.{get_or-take, length, length-append, length-drop}
-use Rattle.textwrap_hyphens.proofs.Common.{length-take, level_from, map, max, pattern_view, take}
+use Rattle.textwrap_hyphens.proofs.Common.{length-take, max, take}
 use Rattle.textwrap_hyphens.proofs.Common.{◌+◌, ◌-◌, ◌<◌, ◌≡◌, ◌≤◌, ◌∙◌, ⊎_elim, ◌++◌}
 use borrow.Rule.Slice.PartMut.{put_mid, post_of}
 use Rattle.textwrap_hyphens.proofs.Raised.{before-all, before-here, before-past, before-none}
 use Rattle.textwrap_hyphens.proofs.Raised.{level_before}
 use Rattle.textwrap_text.proofs.Common.{◌*◌}
 use Rattle.textwrap_hyphens.proofs.Common.{min}
-use Rattle.textwrap_hyphens.proofs.Longest.{counted-both, lookups-more}
-use Rattle.textwrap_hyphens.specs.Levels.{longest}
+use Rattle.textwrap_hyphens.proofs.Lookups.{counted-both, lookups-more}
+use Rattle.textwrap_hyphens.specs.Table.{held}
 use Rattle.textwrap_hyphens.proofs.levels.raise_all.Goals as goal
 
 pub loop-at-init : goal.loop-at-init
@@ -19,7 +19,7 @@ loop-at-init c = record {
       omega (
         arith,
         before-none
-            (map pattern_view c.args.patterns.now.patterns.items) c.args.dotted.now k,
+            (held c.args.patterns.now).level_from c.args.dotted.now k,
       );
   lookups = omega arith;
   never_less = omega arith;
@@ -28,10 +28,10 @@ loop-at-init c = record {
 pub loop-at-preserved : goal.loop-at-preserved
 loop-at-preserved c =
     let text = c.args.dotted.now in
-    let most = longest (map pattern_view c.args.patterns.now.patterns.items) in
+    let most = (held c.args.patterns.now).longest in
     record {
       levels = λ k within.
-          let ps = map pattern_view c.args.patterns.now.patterns.items in
+          let from = (held c.args.patterns.now).level_from in
           let ds = c.args.dotted.now in
           let at = c.loop-at.at in
           let old = c.loop-at.levels in
@@ -54,41 +54,37 @@ loop-at-preserved c =
           ) in
           let before = c.loop-at.invariant.levels k inside in
           let all = c.loop-at.auto.levels in
-          let from : length (take at old) ≡ at = omega (arith, front, all, c.loop-at-test.true) in
+          let ahead : length (take at old) ≡ at = omega (arith, front, all, c.loop-at-test.true) in
           ⊎_elim {C = get_or (put_mid at (length old - at) old part) k 0
-          ≡ max (get_or c.args.levels.now k 0) (level_before ps ds (at + 1) k)}
+          ≡ max (get_or c.args.levels.now k 0) (level_before from ds (at + 1) k)}
           (λ (lt : k < at).
-          let same = get_or_append_left (take at old) (part ++ rest) 0 k (omega (arith, from, lt))
+          let same = get_or_append_left (take at old) (part ++ rest) 0 k (omega (arith, ahead, lt))
           ∙ get_or-take at old k 0 lt in
-          omega (arith, same, before, before-past ps ds at k lt))
+          omega (arith, same, before, before-past from ds at k lt))
           (λ (le : at ≤ k).
-          let there = get_or-append_right (take at old) (part ++ rest) at k 0 from le
+          let there = get_or-append_right (take at old) (part ++ rest) at k 0 ahead le
           ∙ get_or_append_left part rest 0 (k - at) (omega (arith, size, inside, le)) in
           let was = get_or-drop at old (k - at) 0
           ∙ ap (λ n. get_or old n 0) (let e : at + (k - at) ≡ k = omega (arith, le) in e) in
           let raised = c.raise_from.ensures.levels (k - at)
           (omega (arith, ap length (take_rest ds at), length-drop at ds, inside, all, c.requires, le)) in
-          let here = before-here ps ds at k le in
-          let level = ap (λ l. level_from (map pattern_view l) (drop at ds)
-          (k - at)) c.deref.ensures.value in
-          let text = ap (λ t. level_from (map pattern_view c.deref.result.now) t (k - at))
-          (take_rest ds at) in
+          let here = before-here from ds at k le in
+          let text = ap (λ t. from t (k - at)) (take_rest ds at) in
           let slice = ap (λ l. get_or l (k - at) 0) (take_rest old at) in
-          omega (arith, there, was, raised, level, text, slice, here, before))
+          omega (arith, there, was, raised, text, slice, here, before))
           (cases_lt k at);
       lookups = counted-both c.args.lookups.now c.loop-at.lookups c.raise_from.new.lookups
           (min c.loop-at.at (length text) * most) (min (length text - c.loop-at.at) most)
           (min (c.loop-at.at + 1) (length text) * most) c.loop-at.invariant.lookups
           (let len = ap length (take_rest text c.loop-at.at) ∙ length-drop c.loop-at.at text in
-          let same = ap (λ l. longest (map pattern_view l)) c.deref.ensures.value in
-          omega (arith, c.raise_from.ensures.lookups, len, same))
+          omega (arith, c.raise_from.ensures.lookups, len))
           (lookups-more c.loop-at.at (length text) most);
       never_less = omega (arith, c.raise_from.ensures.never_less, c.loop-at.invariant.never_less);
     }
 
 pub returns-clause-levels : goal.returns-clause-levels
 returns-clause-levels c = λ k within.
-    let all = before-all (map pattern_view c.args.patterns.now.patterns.items)
+    let all = before-all (held c.args.patterns.now).level_from
     c.args.dotted.now c.loop-at.at k
     (omega (arith, within, c.loop-at-test.false)) in
     omega (arith, all, c.loop-at.invariant.levels k (omega (arith, within, c.loop-at.auto.levels)))
@@ -96,7 +92,7 @@ returns-clause-levels c = λ k within.
 pub returns-clause-lookups : goal.returns-clause-lookups
 returns-clause-lookups c =
     let text = c.args.dotted.now in
-    let most = longest (map pattern_view c.args.patterns.now.patterns.items) in
+    let most = (held c.args.patterns.now).longest in
     let all : min c.loop-at.at (length text) ≡ length text = omega
     (arith, c.requires, c.loop-at-test.false, c.loop-at.auto.at-end, c.loop-at.auto.levels) in
     rw all at c.loop-at.invariant.lookups

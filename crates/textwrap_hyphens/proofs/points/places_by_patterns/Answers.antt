@@ -3,8 +3,8 @@ use Rattle.textwrap_hyphens.proofs.Common.{ap, arith, filter, length, range_with
 use Rattle.textwrap_hyphens.proofs.Common.{◌-◌, ◌∙◌, ◌≡◌}
 use Rattle.textwrap_hyphens.proofs.InnerPoints.{by_patterns-inner}
 use Rattle.textwrap_hyphens.specs.Hyphenation.{is_place}
-use Rattle.textwrap_hyphens.specs.Places.{AreInnerPlaces}
-use Rattle.textwrap_hyphens.specs.Points.{held}
+use Rattle.textwrap_patterns.specs.Places.{AreInnerPlaces}
+use Rattle.textwrap_hyphens.specs.Table.{held}
 use Rattle.textwrap_hyphens.proofs.points.places_by_patterns.Goals as goal
 
 pub loop-place-preserved : goal.loop-place-preserved

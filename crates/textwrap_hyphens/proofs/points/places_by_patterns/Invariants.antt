@@ -1,6 +1,6 @@
 use Rattle.textwrap_hyphens.proofs.Common.{◌≡◌, ◌≤◌, ◌-◌, filter, length, range_with_len}
 use Rattle.textwrap_hyphens.specs.Hyphenation.{is_place}
-use Rattle.textwrap_hyphens.specs.Points.{held}
+use Rattle.textwrap_hyphens.specs.Table.{held}
 use Rattle.textwrap_hyphens.proofs.points.places_by_patterns.Given as goal
 
 -- the places so far

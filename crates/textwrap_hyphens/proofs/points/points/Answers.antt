@@ -1,22 +1,18 @@
-use Rattle.textwrap_text.proofs.Common.{All-map}
 use Rattle.textwrap_text.proofs.Numbers.{both}
-use Rattle.textwrap_hyphens.proofs.Common.{ap, arith, get_or, length, subst, sym, ◌∙◌}
+use Rattle.textwrap_hyphens.proofs.Common.{ap, arith, length, subst, sym, ◌∙◌}
 use Rattle.textwrap_hyphens.proofs.InnerPoints.{letters-stand, past-cuts}
+use Rattle.textwrap_hyphens.proofs.Held.{held-inner}
 use Rattle.textwrap_words.specs.Cuts.{AreInnerCuts}
-use Rattle.textwrap_hyphens.specs.Hyphenation.{ExceptionText, exception_view}
-use Rattle.textwrap_hyphens.specs.Letters.{letters_of}
-use Rattle.textwrap_hyphens.specs.Places.{AreInnerPlaces}
-use Rattle.textwrap_hyphens.specs.Points.{held, points_past}
+use Rattle.textwrap_patterns.specs.Letters.{letters_of}
+use Rattle.textwrap_hyphens.specs.Points.{points_past}
+use Rattle.textwrap_hyphens.specs.Table.{held}
 use Rattle.textwrap_hyphens.proofs.points.points.Goals as goal
 
 pub returns-clause-cuts : goal.returns-clause-cuts
 returns-clause-cuts g c =
     let word = c.args.word.now in
     let h = held c.args.patterns.now in
-    let inner = All-map (λ (e : ExceptionText). AreInnerPlaces
-    (length e.letters) e.places) exception_view
-    c.args.patterns.now.exceptions.items (λ k d within.
-    (get_or c.args.patterns.now.exceptions.items k d).inner) in
+    let inner = held-inner c.args.patterns.now in
     let cuts = past-cuts h word (length (letters_of word)) (letters_of word) 0 0 inner (omega arith)
     (omega arith) (letters-stand word c.utf8.word) in
     let letters = c.deref-2.ensures.value ∙ c.in_ok-letters.ensures in

@@ -4,9 +4,10 @@ use Rattle.textwrap_hyphens.proofs.Common.{add-zero, ap, append_assoc, arith, dr
 use Rattle.textwrap_hyphens.proofs.Common.{get_or-drop, length-drop, sym, take, true, ◌++◌, ◌+◌}
 use Rattle.textwrap_hyphens.proofs.Common.{◌-◌, ◌∙◌, ◌≡◌}
 use Rattle.textwrap_hyphens.proofs.Runs.{past-letter, run-within}
-use Rattle.textwrap_hyphens.specs.Letters.{is_letter, run_len}
-use Rattle.textwrap_hyphens.specs.Points.{held, points_in, points_past}
-use Rattle.textwrap_hyphens.specs.declared.letters.Letter.{Letter}
+use Rattle.textwrap_patterns.specs.Letters.{is_letter, run_len}
+use Rattle.textwrap_hyphens.specs.Points.{points_in, points_past}
+use Rattle.textwrap_hyphens.specs.Table.{held}
+use Rattle.textwrap_patterns.specs.declared.letters.Letter.{Letter}
 use Rattle.textwrap_hyphens.proofs.points.points_of_runs.Goals as goal
 
 pub loop-at-preserved-then-is_letter : goal.loop-at-preserved-then-is_letter

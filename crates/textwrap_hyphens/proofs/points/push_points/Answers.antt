@@ -1,6 +1,6 @@
 use Rattle.textwrap_hyphens.proofs.Common.{arith, ap, get_or, length, length-map, ◌∙◌}
 use Rattle.textwrap_hyphens.proofs.InnerPoints.{places-below}
-use Rattle.textwrap_hyphens.specs.declared.letters.Letter.{Letter}
+use Rattle.textwrap_patterns.specs.declared.letters.Letter.{Letter}
 use Rattle.textwrap_hyphens.proofs.points.push_points.Goals as goal
 
 pub push_begins-requires : goal.push_begins-requires

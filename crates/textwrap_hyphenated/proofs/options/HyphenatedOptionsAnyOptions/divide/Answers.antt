@@ -6,7 +6,7 @@ use Rattle.textwrap_layout.proofs.Common.{word_view}
 use Rattle.textwrap_layout.proofs.Paragraph.Widths.{division-begins, divides-from, only-without}
 use Rattle.textwrap_layout.proofs.Paragraph.Widths.{sizes-word_view}
 use Rattle.textwrap_text.proofs.Common.{map}
-use Rattle.textwrap_hyphens.specs.Points.{held}
+use Rattle.textwrap_hyphens.specs.Table.{held}
 use Rattle.textwrap_hyphenated.proofs.Pieces.{hyphenated-wide}
 use Rattle.textwrap_hyphenated.specs.Hyphenated.{ArePointsBy}
 

@@ -1,0 +1,11 @@
+use Rattle.textwrap_hyphenated.proofs.placed.place_hyphenated.Goals as goal
+use Rattle.std.proofs.lemmas.Result.{IfOk-weaker}
+use Rattle.textwrap_hyphenated.proofs.Wrapping.{placed-as}
+
+pub returns-clause-built_in : goal.returns-clause-built_in
+returns-clause-built_in g c = IfOk-weaker c.place_lines_by.result _ _
+    (λ placed (lines, are, built) settings algorithm parts. (
+      lines,
+      placed-as c.args.options c.args.patterns.now settings algorithm parts c.args.text.now lines _ are,
+      built,
+    )) c.place_lines_by.ensures.lines

@@ -1,0 +1,37 @@
+-- What the numbers of a dictionary say.
+use Rattle.std.specs.Prelude.{IfSome, None, Option, Some}
+use Rattle.textwrap_trie.specs.Trie.{numbers_for}
+use Rattle.std.specs.Prelude.{◌↔◌}
+use Rattle.textwrap_text.proofs.Common.{false_from_ne_true}
+use Rattle.textwrap_hyphens.proofs.Common.{Bool, List, cond, false, false≢true, length, refl, sym}
+use Rattle.textwrap_hyphens.proofs.Common.{true, ℕ, ◌≡◌}
+use Rattle.textwrap_hyphens.proofs.InnerPoints.{AreInner}
+use Rattle.textwrap_patterns.proofs.Said.{are-places, places-are}
+use Rattle.textwrap_patterns.specs.Places.{AreInnerPlaces, are_places}
+use Rattle.textwrap_hyphens.specs.InnerPlaces.{inner_places}
+use Rattle.textwrap_hyphens.specs.Seal.{from_end}
+use Rattle.textwrap_hyphens.specs.Table.{held}
+use Rattle.textwrap_hyphens.specs.declared.table.PatternTable.{PatternTable}
+
+inner-if : (len : ℕ) (places : List ℕ) (b : Bool) → are_places len 0 places ≡ b
+    → IfSome (cond b (Some places) None) (AreInnerPlaces len)
+inner-if len places true is = are-places len 0 places is
+inner-if len places false is = tt
+
+inner-some : (len : ℕ) (found : Option (List ℕ))
+    → IfSome (inner_places len found) (AreInnerPlaces len)
+inner-some len None = tt
+inner-some len (Some places) = inner-if len places (are_places len 0 places) refl
+
+-- exceptions of a table have places inside their words
+pub held-inner : (table : PatternTable) → AreInner (held table).exception
+held-inner table = λ letters.
+    inner-some (length letters)
+    (numbers_for letters table.words.now (from_end 6 table.words.now))
+
+-- a test says whether places are inner ones just as the definition does
+pub inner-is : (len : ℕ) (places : List ℕ) (r : Bool) → (r ≡ true) ↔ AreInnerPlaces len places
+    → r ≡ are_places len 0 places
+inner-is len places true is = sym (places-are len 0 places (is.0 refl))
+inner-is len places false is = sym (false_from_ne_true (are_places len 0 places) (λ are.
+    absurd (false≢true (is.1 (are-places len 0 places are)))))

@@ -1,7 +1,0 @@
-use Rattle.textwrap_hyphens.proofs.Common.{◌≡◌, ◌+◌, drop}
-use Rattle.textwrap_hyphens.specs.Parsing.{before}
-use Rattle.textwrap_hyphens.proofs.parsing.find.Given as goal
-
-abbrev pub invariant-loop-i : goal.invariant-loop-i
-invariant-loop-i l =
-    before l.wanted l.characters ≡ l.i + before l.wanted (drop l.i l.characters)

@@ -1,5 +1,0 @@
-use Rattle.textwrap_hyphens.proofs.Common.{◌≡◌}
-use Rattle.textwrap_hyphens.proofs.written.characters_of.Given as goal
-
-abbrev pub invariant-loop-ch : goal.invariant-loop-ch
-invariant-loop-ch l = l.characters.items ≡ l.yielded

@@ -1,0 +1,101 @@
+//! A dictionary, written as one list of numbers.
+ghost use Rattle.std.specs.Prelude.{◌≡◌, All, false, length, map, true, IfOk};
+ghost use Rattle.textwrap_hyphens.specs.Hyphenation.{hyphenation_by};
+ghost use Rattle.textwrap_patterns.specs.Listed.{exception_view, listed};
+ghost use Rattle.textwrap_hyphens.specs.Levels.{longest};
+ghost use Rattle.textwrap_patterns.specs.Listed.{pattern_view};
+ghost use Rattle.textwrap_patterns.specs.Places.{AreInnerPlaces};
+ghost use Rattle.textwrap_hyphens.specs.Seal.{is_sealed};
+ghost use Rattle.textwrap_hyphens.specs.Table.{held_in};
+ghost use Rattle.textwrap_hyphens.specs.Building.{exception_of, pattern_of};
+
+use crate::table::{VERSION, sum_of};
+use std::alloc::{AllocError, Global};
+use textwrap_patterns::patterns::{Exception, Pattern};
+use textwrap_trie::entries::Entry;
+use textwrap_trie::merging::{Rule, push_entries};
+
+/// Patterns, as entries of a trie.
+pub(crate) fn pattern_entries(
+    alloc: Global,
+    patterns: Vec<Pattern>,
+) -> Result<Vec<Entry>, AllocError>
+    ensures { IfOk result (λ entries.
+        map pattern_of entries.items ≡ map pattern_view patterns.items) }
+{
+    let mut entries = Vec::new(alloc);
+    for pattern in patterns {
+        let numbers = numbers_of(alloc, &pattern.levels)?;
+        entries.push(Entry {
+            key: pattern.letters,
+            numbers,
+        })?;
+    }
+    Ok(entries)
+}
+
+/// Levels as numbers.
+fn numbers_of(alloc: Global, levels: &[u8]) -> Result<Vec<usize>, AllocError>
+    ensures { IfOk result (λ numbers. numbers.items ≡ levels.now) }
+{
+    let mut numbers = Vec::new(alloc);
+    for level in levels {
+        numbers.push(usize::from(*level))?;
+    }
+    Ok(numbers)
+}
+
+/// Exceptions, as entries of a trie.
+pub(crate) fn exception_entries(
+    alloc: Global,
+    exceptions: Vec<Exception>,
+) -> Result<Vec<Entry>, AllocError>
+    ensures entries { IfOk result (λ entries.
+        map exception_of entries.items ≡ map exception_view exceptions.items) }
+    ensures inner { IfOk result (λ entries.
+        All (λ e. AreInnerPlaces (length e.key.items) e.numbers.items) entries.items) }
+{
+    let mut entries = Vec::new(alloc);
+    for exception in exceptions {
+        entries.push(Entry {
+            key: exception.letters,
+            numbers: exception.places,
+        })?;
+    }
+    Ok(entries)
+}
+
+/// How many letters the longest key has.
+fn longest_key(entries: &[Entry]) -> usize
+    ensures { result ≡ longest (map pattern_of entries.now) }
+{
+    let mut longest = 0;
+    for entry in entries {
+        longest = longest.max(entry.key.as_slice().len());
+    }
+    longest
+}
+
+/// The numbers of a dictionary.
+pub(crate) fn write_table(
+    alloc: Global,
+    patterns: Vec<Entry>,
+    exceptions: Vec<Entry>,
+    left: usize,
+    right: usize,
+) -> Result<Vec<usize>, AllocError>
+    requires { All (λ e. AreInnerPlaces (length e.key.items) e.numbers.items) exceptions.items }
+    ensures held { IfOk result (λ words. held_in words.items false ≡ hyphenation_by (listed
+        (map pattern_of patterns.items) (map exception_of exceptions.items) left right)) }
+    ensures sealed { IfOk result (λ words. is_sealed words.items ≡ true) }
+{
+    let longest = longest_key(&patterns);
+    let mut words = Vec::new(alloc);
+    words.push(VERSION)?;
+    let patterns = push_entries(alloc, &mut words, patterns, Rule::Greatest)?;
+    let exceptions = push_entries(alloc, &mut words, exceptions, Rule::First)?;
+    words.extend_from_slice(&[exceptions, patterns, longest, left, right])?;
+    let sum = sum_of(&words);
+    words.push(sum)?;
+    Ok(words)
+}

@@ -1,0 +1,145 @@
+//! A dictionary in one list of numbers, which holds no address of memory.
+ghost use Rattle.std.specs.Prelude.{◌≡◌, ℕ, ◌-◌, ◌<◌, ◌≤◌, true, false, None, Some, MatchOption, length};
+ghost use Rattle.std.specs.Prelude.{max, min, slice_index};
+ghost use Rattle.textwrap_base.specs.Minima.{counted};
+ghost use Rattle.textwrap_patterns.specs.Places.{AreInnerPlaces};
+ghost use Rattle.textwrap_hyphens.specs.InnerPlaces.{inner_places};
+ghost use Rattle.textwrap_hyphens.specs.Seal.{from_end, is_sealed, sum_of};
+
+use textwrap_base::minima::Steps;
+use textwrap_patterns::written::are_inner;
+use textwrap_trie::lookup::{numbers_for, raise_levels};
+
+/// What the first number of a table says: "Twh", and a number that is raised where the layout changes.
+pub(crate) const VERSION: usize = 0x5477_6801;
+
+/// A dictionary of hyphenation in numbers that somebody holds. They hold no address of memory, so
+/// they may be copied, and kept in a file.
+#[derive(Clone, Copy, Debug)]
+pub struct PatternTable<'t> {
+    words: &'t [usize],
+    in_parts: bool,
+    ghost sealed: { is_sealed words.now ≡ true },
+}
+
+impl<'t> PatternTable<'t> {
+    ghost use Rattle.textwrap_hyphens.specs.Table.{held, held_in};
+
+    /// The dictionary of these numbers, as [`PatternTable::words`] has them. `None` where they are
+    /// none of this version, or were damaged: where one of them is another, or two are exchanged.
+    /// `in_parts` says whether the parts of a word with hyphens are hyphenated. The call always
+    /// succeeds; it reads all numbers.
+    pub fn of(words: &'t [usize], in_parts: bool) -> Option<PatternTable<'t>>
+        ensures { MatchOption result (is_sealed words.now ≡ false)
+            (λ table. (is_sealed words.now ≡ true) × (held table ≡ held_in words.now in_parts)) }
+    {
+        if is_sealed(words) {
+            Some(PatternTable { words, in_parts })
+        } else {
+            None
+        }
+    }
+
+    pub(crate) fn held_by(words: &'t [usize], in_parts: bool) -> PatternTable<'t>
+        requires { is_sealed words.now ≡ true }
+        ensures { held result ≡ held_in words.now in_parts }
+    {
+        PatternTable { words, in_parts }
+    }
+
+    /// The numbers of the dictionary, from which [`PatternTable::of`] makes it again. The call always
+    /// succeeds.
+    pub fn words(&self) -> &'t [usize]
+        ensures held { held self.now ≡ held_in result.now (held self.now).in_parts }
+        ensures sealed { is_sealed result.now ≡ true }
+    {
+        self.words
+    }
+
+    /// How many letters stay before a point.
+    pub(crate) fn left(&self) -> usize
+        ensures { result ≡ (held self.now).left }
+    {
+        from_end(self.words, 3)
+    }
+
+    /// How many letters stay behind a point.
+    pub(crate) fn right(&self) -> usize
+        ensures { result ≡ (held self.now).right }
+    {
+        from_end(self.words, 2)
+    }
+
+    /// Whether the parts of a word with hyphens are hyphenated.
+    pub(crate) fn in_parts(&self) -> bool
+        ensures { result ≡ (held self.now).in_parts }
+    {
+        self.in_parts
+    }
+
+    /// The places of the exception with these letters.
+    pub(crate) fn exception(&self, letters: &[char]) -> Option<&'t [usize]>
+        ensures { MatchOption result ((held self.now).exception letters.now ≡ None)
+            (λ places. (held self.now).exception letters.now ≡ Some places.now) }
+    {
+        match numbers_for(self.words, from_end(self.words, 6), letters) {
+            Some(places) => inner_places(letters.len(), places),
+            None => None,
+        }
+    }
+
+    /// Raises levels to those of the patterns at the beginning of a text. For each letter with which
+    /// some pattern goes on, that is looked up once.
+    pub(crate) fn raise_from(&self, levels: &mut [usize], text: &[char], lookups: &mut Steps)
+        ensures levels { (k : ℕ) → k < length levels.old → slice_index levels.new k
+            ≡ max (slice_index levels.old k) ((held self.now).level_from text.now k) }
+        ensures lookups { lookups.new ≤ counted lookups.old
+            (min (length text.now) (held self.now).longest) }
+        ensures never_less { lookups.old ≤ lookups.new }
+    {
+        let longest = from_end(self.words, 4);
+        let text = &text[..longest.min(text.len())];
+        raise_levels(self.words, from_end(self.words, 5), text, levels, lookups);
+    }
+}
+
+/// Places, if they increase, inside a word of so many letters.
+fn inner_places(len: usize, places: &[usize]) -> Option<&[usize]>
+    ensures { MatchOption result (inner_places len (Some places.now) ≡ None)
+        (λ inner. inner_places len (Some places.now) ≡ Some inner.now) }
+{
+    if are_inner(len, places) {
+        Some(places)
+    } else {
+        None
+    }
+}
+
+/// The nth number from the end, or 0 where there is none.
+fn from_end(words: &[usize], n: usize) -> usize
+    requires { 0 < n }
+    ensures { result ≡ from_end n words.now }
+{
+    let at = words.len().saturating_sub(n);
+    if at < words.len() { words[at] } else { 0 }
+}
+
+/// Whether the version and the sum of numbers are right.
+fn is_sealed(words: &[usize]) -> bool
+    ensures { result ≡ is_sealed words.now }
+{
+    words.len() >= 7
+        && words[0] == VERSION
+        && from_end(words, 1) == sum_of(&words[..words.len() - 1])
+}
+
+/// The sum of numbers, each times its place, the first of which is 1, in 64 bits.
+pub(crate) fn sum_of(words: &[usize]) -> usize
+    ensures { result ≡ sum_of words.now }
+{
+    let mut sum: usize = 0;
+    for (i, word) in words.iter().enumerate() {
+        sum = sum.wrapping_add(word.wrapping_mul(i + 1));
+    }
+    sum
+}

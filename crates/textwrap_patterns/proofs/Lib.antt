@@ -1,0 +1,4 @@
+pub mod Ascii
+pub mod Common
+pub mod Said
+pub mod Writing

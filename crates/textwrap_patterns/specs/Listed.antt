@@ -1,0 +1,35 @@
+-- What is listed in a dictionary of hyphenation: patterns, and words with their hyphens as exceptions.
+use Rattle.std.specs.Prelude.{ℕ, List}
+use Rattle.textwrap_patterns.specs.declared.patterns.Exception.{Exception}
+use Rattle.textwrap_patterns.specs.declared.patterns.Pattern.{Pattern}
+
+-- letters, and a level for the place before each of them and for the one behind the last
+pub record PatternText : Type 0 where
+  pub letters : List ℕ
+  pub levels : List ℕ
+
+abbrev pub pattern_view : Pattern → PatternText
+pattern_view pattern =
+    record { letters = pattern.letters.items; levels = pattern.levels.items }
+
+-- the letters of a word, and the places of its hyphens, each behind so many letters
+pub record ExceptionText : Type 0 where
+  pub letters : List ℕ
+  pub places : List ℕ
+
+abbrev pub exception_text : List ℕ → List ℕ → ExceptionText
+exception_text letters places = record { letters = letters; places = places }
+
+abbrev pub exception_view : Exception → ExceptionText
+exception_view exception = exception_text exception.letters.items exception.places.items
+
+-- what is listed in a dictionary
+pub record Listed : Type 0 where
+  pub patterns : List PatternText
+  pub exceptions : List ExceptionText
+  pub left : ℕ
+  pub right : ℕ
+
+abbrev pub listed : List PatternText → List ExceptionText → ℕ → ℕ → Listed
+listed patterns exceptions left right =
+    record { patterns = patterns; exceptions = exceptions; left = left; right = right }

@@ -1,0 +1,80 @@
+//! Why a dictionary is not read.
+use std::alloc::{AllocError, AllocFailed};
+use thiserror::Error;
+
+/// What is wrong with a line of a dictionary.
+#[derive(Clone, Copy, Debug, PartialEq, Eq, Drop, Error)]
+pub enum Fault {
+    /// The first line names a charset that is not UTF-8.
+    #[error("the charset is not UTF-8")]
+    Charset,
+    /// `COMPOUNDLEFTHYPHENMIN` or `COMPOUNDRIGHTHYPHENMIN`.
+    #[error("COMPOUNDLEFTHYPHENMIN and COMPOUNDRIGHTHYPHENMIN are not supported")]
+    Compound,
+    /// `NEXTLEVEL`.
+    #[error("NEXTLEVEL is not supported")]
+    NextLevel,
+    /// `NOHYPHEN`.
+    #[error("NOHYPHEN is not supported")]
+    NoHyphen,
+    /// `LEFTHYPHENMIN` or `RIGHTHYPHENMIN` without a number of one digit or two.
+    #[error("a number of one digit or two is missing")]
+    Number,
+    /// A `/`, as in a pattern that replaces letters.
+    #[error("replacements are not supported")]
+    Replacement,
+    /// A blank, a brace, a backslash or a `%` in a word.
+    #[error("a word has a blank, a brace, a backslash or a percent sign in it")]
+    Sign,
+    /// A pattern of more than 255 letters.
+    #[error("a pattern has more than 255 letters")]
+    TooLong,
+    /// An exception with a hyphen that is not between two letters.
+    #[error("a hyphen is not between two letters")]
+    Hyphens,
+    /// `\patterns` or `\hyphenation` without a `{` behind it.
+    #[error("a brace is missing behind \\patterns or \\hyphenation")]
+    Brace,
+    /// A text of TeX that has neither patterns nor exceptions. The line is the last.
+    #[error("neither \\patterns{{ nor \\hyphenation{{ is there")]
+    NoGroup,
+    /// A group that does not end. The line is the last.
+    #[error("a group has no end")]
+    Unclosed,
+    /// More than 2^24 patterns. The line is the last.
+    #[error("there are more than 16777216 patterns")]
+    TooMany,
+}
+
+/// Why a dictionary is not read. Its first line that is wrong counts.
+#[derive(Debug, Drop, Error)]
+pub enum ParseError {
+    /// Memory ran out.
+    #[error("out of memory")]
+    Memory(AllocError),
+    /// What is wrong, and in which line, counted from 1.
+    #[error("line {line}: {fault}")]
+    Line { line: usize, fault: Fault },
+}
+
+impl From<AllocError> for ParseError {
+    ghost use Rattle.std.specs.Prelude.{◌≡◌};
+    ghost use Rattle.textwrap_patterns.specs.declared.errors.ParseError.TheVariants.{Memory};
+
+    ghost from_gives = { λ error result. result ≡ Memory error };
+
+    fn from(error: AllocError) -> ParseError {
+        ParseError::Memory(error)
+    }
+}
+
+impl<T: Drop> From<AllocFailed<T>> for ParseError {
+    ghost use Rattle.std.specs.Prelude.{◌≡◌, alloc_error};
+    ghost use Rattle.textwrap_patterns.specs.declared.errors.ParseError.TheVariants.{Memory};
+
+    ghost from_gives = { λ _ result. result ≡ Memory alloc_error };
+
+    fn from(_failed: AllocFailed<T>) -> ParseError {
+        ParseError::Memory(AllocError)
+    }
+}

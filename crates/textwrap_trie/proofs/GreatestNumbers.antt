@@ -1,0 +1,64 @@
+-- The greatest of numbers: among parts of a list, one more, and in any order.
+use Rattle.std.specs.List.Sorted.{IsPermutation}
+use Rattle.std.proofs.lemmas.List.Sorted.{All-permutation, IsPermutation-sym}
+use Rattle.textwrap_text.proofs.Common.{ap, arith, get_or, length, List, map, map-append, max}
+use Rattle.textwrap_text.proofs.Common.{take, take_more, ℕ, ◌+◌, ◌++◌, ◌<◌, ◌∙◌, ◌∷◌, ◌≡◌, []}
+use Rattle.textwrap_text.proofs.Common.{get_or_past, All, All-cons, All-head, All-tail, ◌≤◌}
+use Rattle.textwrap_trie.specs.Merging.{first_numbers, greatest}
+use Rattle.textwrap_trie.specs.declared.entries.Entry.{Entry}
+
+pub greatest-append : (ns ms : List ℕ) → greatest (ns ++ ms) ≡ max (greatest ns) (greatest ms)
+greatest-append [] ms = omega arith
+greatest-append (n ∷ ns) ms = omega (arith, greatest-append ns ms)
+
+pub greatest-parts : {X : Type 0} (f : X → ℕ) (xs ys : List X)
+    → greatest (map f (xs ++ ys)) ≡ max (greatest (map f xs)) (greatest (map f ys))
+greatest-parts f xs ys = ap greatest (map-append f xs ys) ∙ greatest-append (map f xs) (map f ys)
+
+pub greatest-more : {X : Type 0} (f : X → ℕ) (xs : List X) (i : ℕ) (x : X) → i < length xs
+    → x ≡ get_or xs i x
+    → greatest (map f (take (i + 1) xs)) ≡ max (greatest (map f (take i xs))) (f x)
+greatest-more f xs i x within is =
+    let here : f x ≡ f (get_or xs i x) = ap f is in
+    let one = greatest-parts f (take i xs) (get_or xs i x ∷ []) in
+    let all = ap (λ l. greatest (map f l)) (take_more xs i x within) in
+    omega (arith, here, one, all)
+
+-- the first of some counts among them
+pub greatest-first : (group : List Entry) (place : ℕ)
+    → max (get_or (first_numbers group) place 0)
+    (greatest (map (λ (e : Entry). get_or e.numbers.items place 0) group))
+    ≡ greatest (map (λ (e : Entry). get_or e.numbers.items place 0) group)
+greatest-first [] place = omega (arith, get_or_past {X = ℕ} [] place 0 (omega arith))
+greatest-first (e ∷ es) place = omega arith
+
+-- ---- in any order
+
+pub greatest-upto : {X : Type 0} (f : X → ℕ) (xs : List X) (most : ℕ)
+    → All (λ x. f x ≤ most) xs → greatest (map f xs) ≤ most
+greatest-upto f [] most below = omega arith
+greatest-upto f (x ∷ xs) most below =
+    let has = λ (y : _). f y ≤ most in
+    let here = All-head has x xs below in
+    let rest = greatest-upto f xs most (All-tail has x xs below) in
+    omega (arith, here, rest)
+
+pub upto-greatest : {X : Type 0} (f : X → ℕ) (xs : List X)
+    → All (λ x. f x ≤ greatest (map f xs)) xs
+upto-greatest f [] = λ k d within. absurd (omega (arith, within))
+upto-greatest f (x ∷ xs) =
+    All-cons (λ y. f y ≤ greatest (map f (x ∷ xs))) x xs (omega arith) (λ k d within.
+    let rest = upto-greatest f xs k d within in omega (arith, rest))
+
+greatest-moved : {X : Type 0} (f : X → ℕ) (xs ys : List X) → IsPermutation xs ys
+    → greatest (map f ys) ≤ greatest (map f xs)
+greatest-moved f xs ys moved =
+    greatest-upto f ys (greatest (map f xs))
+    (All-permutation (λ x. f x ≤ greatest (map f xs)) xs ys moved (upto-greatest f xs))
+
+pub greatest-permutation : {X : Type 0} (f : X → ℕ) (xs ys : List X) → IsPermutation xs ys
+    → greatest (map f ys) ≡ greatest (map f xs)
+greatest-permutation f xs ys moved =
+    let one = greatest-moved f xs ys moved in
+    let two = greatest-moved f ys xs (IsPermutation-sym xs ys moved) in
+    omega (arith, one, two)

@@ -1,0 +1,131 @@
+-- What a node gives a text is the greatest of what it has for the beginnings of the text; and where
+-- its keys are those of entries, this is what they give.
+use Rattle.std.specs.Prelude.{bytes_eq}
+use Rattle.textwrap_text.proofs.Common.{ap, arith, Bool, cond, eqb, eqb-true, false, get_or}
+use Rattle.textwrap_text.proofs.Common.{get_or_past, List, max, nat_eq, None, Option, refl, Some}
+use Rattle.textwrap_text.proofs.Common.{starts_with, suc, sym, true, unwrap_or, ℕ, ◌≡◌, ◌∙◌, ◌∷◌}
+use Rattle.textwrap_text.proofs.Common.{[]}
+use Rattle.textwrap_trie.proofs.FirstEntries.{entry_for-none, others-behind}
+use Rattle.textwrap_trie.specs.Entries.{AreSortedFrom, entry_for}
+use Rattle.textwrap_trie.specs.Merging.{greatest_number}
+use Rattle.textwrap_trie.specs.Trie.{child_of, level_from, numbers_for}
+use Rattle.textwrap_trie.specs.declared.entries.Entry.{Entry}
+
+-- a number of some numbers, or 0 of none
+abbrev pub number_of : Option (List ℕ) → ℕ → ℕ
+number_of numbers place = get_or (unwrap_or numbers []) place 0
+
+-- the greatest number at a place of what a function of keys gives the beginnings of a text
+abbrev pub greatest_of : List ℕ → (List ℕ → Option (List ℕ)) → ℕ → ℕ
+greatest_of [] given place = number_of (given []) place
+greatest_of (c ∷ cs) given place =
+    max (number_of (given []) place) (greatest_of cs (λ key. given (c ∷ key)) place)
+
+pub of-same : (text : List ℕ) (given other : List ℕ → Option (List ℕ)) (place : ℕ)
+    → ((key : List ℕ) → given key ≡ other key)
+    → greatest_of text given place ≡ greatest_of text other place
+of-same [] given other place same = ap (λ o. number_of o place) (same [])
+of-same (c ∷ cs) given other place same =
+    let here = ap (λ (o : Option (List ℕ)). number_of o place) (same []) in
+    let behind = of-same cs (λ key. given (c ∷ key)) (λ key. other (c ∷ key)) place
+    (λ key. same (c ∷ key)) in
+    omega (arith, here, behind)
+
+none-at : (place : ℕ) → number_of None place ≡ 0
+none-at place = get_or_past {X = ℕ} [] place 0 (omega arith)
+
+pub of-none : (text : List ℕ) (place : ℕ) → greatest_of text (λ key. None) place ≡ 0
+of-none [] place = none-at place
+of-none (c ∷ cs) place = omega (arith, none-at place, of-none cs place)
+
+-- ---- what a node gives a text
+
+levels-child : (c : ℕ) (cs words : List ℕ) (node place : ℕ) (given : List ℕ → Option (List ℕ))
+    → ((key : List ℕ) → numbers_for key words node ≡ given key)
+    → (((key : List ℕ) → numbers_for key words (child_of words node c) ≡ given (c ∷ key))
+    → level_from cs words (child_of words node c) place
+    ≡ greatest_of cs (λ key. given (c ∷ key)) place)
+    → (b : Bool) → eqb (child_of words node c) 0 ≡ b
+    → level_from (c ∷ cs) words node place ≡ greatest_of (c ∷ cs) given place
+levels-child c cs words node place given has behind true is =
+    let here = ap (λ (o : Option (List ℕ)). number_of o place) (has []) in
+    let none : greatest_of cs (λ key. given (c ∷ key)) place ≡ 0 =
+    of-same cs (λ key. given (c ∷ key)) (λ key. None) place
+    (λ key. sym (has (c ∷ key)) ∙ (rw is refl)) ∙ of-none cs place in
+    rw is (omega (arith, here, none))
+levels-child c cs words node place given has behind false is =
+    let here = ap (λ (o : Option (List ℕ)). number_of o place) (has []) in
+    let next = behind (λ key. (rw is refl) ∙ has (c ∷ key)) in
+    rw is (omega (arith, here, next))
+
+pub levels-of : (text words : List ℕ) (node place : ℕ) (given : List ℕ → Option (List ℕ))
+    → ((key : List ℕ) → numbers_for key words node ≡ given key)
+    → level_from text words node place ≡ greatest_of text given place
+levels-of [] words node place given has = ap (λ o. number_of o place) (has [])
+levels-of (c ∷ cs) words node place given has =
+    levels-child c cs words node place given has
+    (levels-of cs words (child_of words node c) place (λ key. given (c ∷ key)))
+    (eqb (child_of words node c) 0) refl
+
+-- ---- what entries give a text
+
+-- a function of keys, with these numbers for one key in place of none
+abbrev with : List ℕ → List ℕ → (List ℕ → Option (List ℕ)) → List ℕ → Option (List ℕ)
+with key numbers given other = cond (bytes_eq key other) (Some numbers) (given other)
+
+abbrev in_key : List ℕ → List ℕ → List ℕ → ℕ → ℕ
+in_key key numbers text place =
+    cond (starts_with nat_eq text key) (get_or numbers place 0) 0
+
+one-behind : (k : ℕ) (key : List ℕ) (c : ℕ) (cs numbers : List ℕ) (place : ℕ)
+    (given : List ℕ → Option (List ℕ)) → given (k ∷ key) ≡ None
+    → ((next : List ℕ → Option (List ℕ)) → next key ≡ None
+    → greatest_of cs (with key numbers next) place
+    ≡ max (in_key key numbers cs place) (greatest_of cs next place))
+    → (b : Bool) → eqb k c ≡ b
+    → greatest_of cs (λ other. with (k ∷ key) numbers given (c ∷ other)) place
+    ≡ max (in_key (k ∷ key) numbers (c ∷ cs) place)
+    (greatest_of cs (λ other. given (c ∷ other)) place)
+one-behind k key c cs numbers place given none behind true is =
+    let same : k ≡ c = eqb-true k c is in
+    let first : given (c ∷ key) ≡ None = ap (λ l. given (l ∷ key)) (sym same) ∙ none in
+    of-same cs (λ other. with (k ∷ key) numbers given (c ∷ other))
+    (with key numbers (λ other. given (c ∷ other))) place (λ other. rw is refl)
+    ∙ behind (λ other. given (c ∷ other)) first ∙ (rw is refl)
+one-behind k key c cs numbers place given none behind false is =
+    of-same cs (λ other. with (k ∷ key) numbers given (c ∷ other))
+    (λ other. given (c ∷ other)) place (λ other. rw is refl) ∙ (rw is (omega arith))
+
+pub of-one_more : (text key numbers : List ℕ) (place : ℕ) (given : List ℕ → Option (List ℕ))
+    → given key ≡ None
+    → greatest_of text (with key numbers given) place
+    ≡ max (in_key key numbers text place) (greatest_of text given place)
+of-one_more [] [] numbers place given none =
+    let here = ap (λ (o : Option (List ℕ)). number_of o place) none ∙ none-at place in
+    omega (arith, here)
+of-one_more [] (k ∷ key) numbers place given none = omega arith
+of-one_more (c ∷ cs) [] numbers place given none =
+    let here = ap (λ (o : Option (List ℕ)). number_of o place) none ∙ none-at place in
+    omega (arith, here)
+of-one_more (c ∷ cs) (k ∷ key) numbers place given none =
+    let next = one-behind k key c cs numbers place given none
+    (of-one_more cs key numbers place) (eqb k c) refl in
+    omega (arith, next)
+
+pub of-entries : (text : List ℕ) (place : ℕ) (es : List Entry) → AreSortedFrom 0 es
+    → greatest_of text (entry_for 0 es) place ≡ greatest_number es text place
+of-entries text place [] sorted = of-none text place
+of-entries text place (e ∷ es) sorted =
+    let none = entry_for-none e.key.items es (others-behind e es sorted) in
+    let more = of-one_more text e.key.items e.numbers.items place (entry_for 0 es) none in
+    let rest = of-entries text place es (λ i j d below within. sorted (suc i) (suc j) d
+    (omega (arith, below)) (omega (arith, within))) in
+    omega (arith, more, rest)
+
+pub levels-entries : (text words : List ℕ) (root place : ℕ) (es : List Entry)
+    → AreSortedFrom 0 es
+    → ((key : List ℕ) → numbers_for key words root ≡ entry_for 0 es key)
+    → level_from text words root place ≡ greatest_number es text place
+levels-entries text words root place es sorted has =
+    levels-of text words root place (entry_for 0 es) has
+    ∙ of-entries text place es sorted

@@ -1,0 +1,11 @@
+pub mod ChildLists
+pub mod FirstEntries
+pub mod GreatestNumbers
+pub mod KeyOrder
+pub mod Keys
+pub mod LevelsOfKeys
+pub mod LevelsRaised
+pub mod ListsWithin
+pub mod MergedEntries
+pub mod TrieSoFar
+pub mod Written

@@ -1,0 +1,180 @@
+-- Entries that are merged: those with one key become one entry, which stands before the others.
+use Rattle.std.specs.Prelude.{bytes_eq}
+use Rattle.textwrap_text.proofs.Common.{All, All-append, All-cons, All-drop, All-head, All-nil}
+use Rattle.textwrap_text.proofs.Common.{All-tail, ap, append_assoc, arith, Bool, cond, drop}
+use Rattle.textwrap_text.proofs.Common.{false, get_or, get_or-drop, length, length-drop, List}
+use Rattle.textwrap_text.proofs.Common.{map, max, nat_eq, refl, Some, starts_with, subst, suc}
+use Rattle.textwrap_text.proofs.Common.{sym, take, take-append-drop, true, zero, ℕ, cases_lt, ◌+◌}
+use Rattle.textwrap_text.proofs.Common.{◌++◌, ◌<◌, ◌≤◌, ◌≡◌, ◌≢◌, ◌∙◌, ◌∷◌, [], ◌⊎◌, inl, inr}
+use Rattle.textwrap_trie.proofs.FirstEntries.{entry_for-before, entry_for-behind}
+use Rattle.textwrap_trie.proofs.GreatestNumbers.{greatest-parts}
+use Rattle.textwrap_trie.proofs.KeyOrder.{before-later, before-other}
+use Rattle.textwrap_trie.specs.Entries.{AreSortedFrom, entry_for, is_before}
+use Rattle.textwrap_trie.specs.Merging.{AreInOrder, first_key, first_numbers, greatest}
+use Rattle.textwrap_trie.specs.Merging.{greatest_number, number_in}
+use Rattle.textwrap_trie.specs.declared.entries.Entry.{Entry}
+
+abbrev pub StandsBefore : Entry → List Entry → Type 0
+StandsBefore m es = All (λ e. is_before m.key.items e.key.items ≡ true) es
+
+-- ---- parts of a list
+
+pub ordered-drop : (n : ℕ) (es : List Entry) → AreInOrder es → AreInOrder (drop n es)
+ordered-drop n es ordered = λ i j d below within.
+    rw (get_or-drop n es i d, get_or-drop n es j d) (ordered (n + i) (n + j) d (omega arith)
+    (omega (arith, within, length-drop n es)))
+
+pub first_key-at : (es : List Entry) (d : Entry) → 0 < length es
+    → first_key es ≡ (get_or es 0 d).key.items
+first_key-at [] d some = absurd (omega arith)
+first_key-at (e ∷ es) d some = refl
+
+pub first_key-take : (n : ℕ) (es : List Entry) → 0 < n → first_key (take n es) ≡ first_key es
+first_key-take zero es some = absurd (omega arith)
+first_key-take (suc n) [] some = refl
+first_key-take (suc n) (e ∷ es) some = refl
+
+pub first_numbers-take : (n : ℕ) (es : List Entry) → 0 < n
+    → first_numbers (take n es) ≡ first_numbers es
+first_numbers-take zero es some = absurd (omega arith)
+first_numbers-take (suc n) [] some = refl
+first_numbers-take (suc n) (e ∷ es) some = refl
+
+-- the first key stands before those behind the ones that are the same
+pub first-before : (es : List Entry) (n : ℕ) (x : Entry) → AreInOrder es → 0 < n
+    → x.key.items ≡ first_key es
+    → ((d : Entry) → n < length es → (get_or es n d).key.items ≢ first_key es)
+    → StandsBefore x (drop n es)
+first-before es n x ordered some is next = λ k d within.
+    let inside : n + k < length es = omega (arith, within, length-drop n es) in
+    let first = first_key-at es d (omega arith) in
+    let one : is_before (first_key es) (get_or es n d).key.items ≡ true =
+    before-other (first_key es) (get_or es n d).key.items
+    (subst (λ (l : List ℕ). is_before (get_or es n d).key.items l ≡ false) (sym first)
+    (ordered 0 n d some (omega arith))) (next d (omega arith)) in
+    rw (get_or-drop, is) (by k d inside one (cases_lt 0 k))
+  where
+    by : (k : ℕ) (d : Entry) → n + k < length es
+        → is_before (first_key es) (get_or es n d).key.items ≡ true → (0 < k) ⊎ (k ≤ 0)
+        → is_before (first_key es) (get_or es (n + k) d).key.items ≡ true
+    by k d inside one (inl behind) =
+        before-later (first_key es) (get_or es n d).key.items (get_or es (n + k) d).key.items one
+        (ordered n (n + k) d (omega arith) inside)
+    by k d inside one (inr here) =
+        let at : n + k ≡ n = omega (arith, here) in
+        subst (λ (i : ℕ). is_before (first_key es) (get_or es i d).key.items ≡ true) (sym at) one
+
+-- ---- one entry more
+
+-- all that is merged stands before the first key of what is left
+pub before-first : (merged left : List Entry) (x : Entry) → 0 < length left
+    → x.key.items ≡ first_key left → All (λ m. StandsBefore m left) merged
+    → All (λ m. is_before m.key.items x.key.items ≡ true) merged
+before-first merged left x some is before = λ k d within.
+    rw (is, first_key-at left d some) (before k d within 0 d some)
+
+sorted-cons : (m : Entry) (es : List Entry) → StandsBefore m es → AreSortedFrom 0 es
+    → AreSortedFrom 0 (m ∷ es)
+sorted-cons m es before sorted zero zero d below within = absurd (omega arith)
+sorted-cons m es before sorted zero (suc j) d below within = before j d (omega (arith, within))
+sorted-cons m es before sorted (suc i) zero d below within = absurd (omega arith)
+sorted-cons m es before sorted (suc i) (suc j) d below within =
+    sorted i j d (omega (arith, below)) (omega (arith, within))
+
+pub sorted-more : (merged : List Entry) (x : Entry) → AreSortedFrom 0 merged
+    → All (λ m. is_before m.key.items x.key.items ≡ true) merged
+    → AreSortedFrom 0 (merged ++ x ∷ [])
+sorted-more [] x sorted before = λ i j d below within. absurd (omega (arith, within))
+sorted-more (m ∷ merged) x sorted before =
+    let here = λ (e : Entry). is_before e.key.items x.key.items ≡ true in
+    let after = λ (e : Entry). is_before m.key.items e.key.items ≡ true in
+    sorted-cons m (merged ++ x ∷ [])
+    (All-append after merged (x ∷ [])
+    (λ k d within. sorted 0 (suc k) d (omega arith) (omega (arith, within)))
+    (All-cons after x [] (All-head here m merged before) (All-nil after)))
+    (sorted-more merged x
+    (λ i j d below within. sorted (suc i) (suc j) d (omega (arith, below)) (omega (arith, within)))
+    (All-tail here m merged before))
+
+pub before-more : (merged left : List Entry) (x : Entry) (n : ℕ)
+    → All (λ m. StandsBefore m left) merged → StandsBefore x (drop n left)
+    → All (λ m. StandsBefore m (drop n left)) (merged ++ x ∷ [])
+before-more merged left x n before here =
+    let all = λ (m : Entry). StandsBefore m (drop n left) in
+    All-append all merged (x ∷ [])
+    (λ k d within. All-drop (λ e. is_before (get_or merged k d).key.items e.key.items ≡ true) n
+    left (before k d within))
+    (All-cons all x [] here (All-nil all))
+
+-- ---- what is the first with a key
+
+entry_for-one : (key : List ℕ) (x e : Entry) (es rest : List Entry) (b : Bool)
+    → bytes_eq e.key.items key ≡ b → x.key.items ≡ e.key.items
+    → x.numbers.items ≡ e.numbers.items → All (λ f. f.key.items ≡ e.key.items) es
+    → entry_for 0 (x ∷ rest) key ≡ entry_for 0 (e ∷ es ++ rest) key
+entry_for-one key x e es rest true is keys numbers same = rw (keys, is) (ap Some numbers)
+entry_for-one key x e es rest false is keys numbers same =
+    rw (keys, is) (sym (entry_for-behind key es rest (λ k d within.
+    rw (same k d within) is)))
+
+-- an entry for all that have the same key, with the numbers of the first
+pub first-more : (key : List ℕ) (merged left : List Entry) (x : Entry) (n : ℕ)
+    → 0 < n → n ≤ length left → x.key.items ≡ first_key left
+    → x.numbers.items ≡ first_numbers left
+    → All (λ e. e.key.items ≡ first_key left) (take n left)
+    → entry_for 0 ((merged ++ x ∷ []) ++ drop n left) key ≡ entry_for 0 (merged ++ left) key
+first-more key merged [] x n some within keys numbers same = absurd (omega (arith, within))
+first-more key merged (e ∷ es) x zero some within keys numbers same = absurd (omega arith)
+first-more key merged (e ∷ es) x (suc n) some within keys numbers same =
+    ap (λ l. entry_for 0 l key) (append_assoc merged (x ∷ []) (drop n es))
+    ∙ entry_for-before key merged (x ∷ drop n es) (e ∷ es)
+    (entry_for-one key x e (take n es) (drop n es) (bytes_eq e.key.items key) refl keys numbers
+    (All-tail (λ f. f.key.items ≡ e.key.items) e (take n es) same)
+    ∙ ap (λ l. entry_for 0 (e ∷ l) key) (take-append-drop n es))
+
+-- ---- the greatest numbers
+
+in_same : (key text : List ℕ) (place : ℕ) (es : List Entry)
+    → All (λ e. e.key.items ≡ key) es → (b : Bool) → starts_with nat_eq text key ≡ b
+    → greatest (map (λ e. number_in e text place) es)
+    ≡ cond b (greatest (map (λ e. get_or e.numbers.items place 0) es)) 0
+in_same key text place [] same true is = refl
+in_same key text place [] same false is = refl
+in_same key text place (e ∷ es) same true is =
+    let has = λ (f : Entry). f.key.items ≡ key in
+    let here = All-head has e es same in
+    rw (here, is) (ap (max (get_or e.numbers.items place 0))
+    (in_same key text place es (All-tail has e es same) true is))
+in_same key text place (e ∷ es) same false is =
+    let has = λ (f : Entry). f.key.items ≡ key in
+    let here = All-head has e es same in
+    rw (here, is) (ap (max 0)
+    (in_same key text place es (All-tail has e es same) false is))
+
+in_one : (x : Entry) (text : List ℕ) (place : ℕ) (es : List Entry)
+    → All (λ e. e.key.items ≡ x.key.items) es
+    → get_or x.numbers.items place 0 ≡ greatest (map (λ e. get_or e.numbers.items place 0) es)
+    → number_in x text place ≡ greatest_number es text place
+in_one x text place es same is =
+    ap (λ n. cond (starts_with nat_eq text x.key.items) n 0) is
+    ∙ sym (in_same x.key.items text place es same (starts_with nat_eq text x.key.items) refl)
+
+-- an entry for all that have the same key, with the greatest number at each place
+pub greatest_number-more : (text : List ℕ) (place : ℕ) (merged left : List Entry) (x : Entry)
+    (n : ℕ) → x.key.items ≡ first_key left
+    → ((place : ℕ) → get_or x.numbers.items place 0
+    ≡ greatest (map (λ e. get_or e.numbers.items place 0) (take n left)))
+    → All (λ e. e.key.items ≡ first_key left) (take n left)
+    → greatest_number ((merged ++ x ∷ []) ++ drop n left) text place
+    ≡ greatest_number (merged ++ left) text place
+greatest_number-more text place merged left x n key numbers same =
+    let f = λ (e : Entry). number_in e text place in
+    let shared : All (λ e. e.key.items ≡ x.key.items) (take n left) =
+    λ k d within. same k d within ∙ sym key in
+    let one = in_one x text place (take n left) shared (numbers place) in
+    let a = greatest-parts f (merged ++ x ∷ []) (drop n left) in
+    let b = greatest-parts f merged (x ∷ []) in
+    let c = greatest-parts f merged left in
+    let d = greatest-parts f (take n left) (drop n left) in
+    let e = ap (λ l. greatest (map f l)) (take-append-drop n left) in
+    omega (arith, one, a, b, c, d, e)

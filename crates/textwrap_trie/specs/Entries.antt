@@ -1,0 +1,36 @@
+-- What a trie is made of: keys, each with its numbers.
+use Rattle.std.specs.Prelude.{◌≡◌, ◌≢◌, ℕ, ◌<◌, ◌≤◌, All, Bool, true, List, [], ◌∷◌, Option, None, Some, bytes_eq, drop}
+use Rattle.std.specs.Prelude.{if◌then◌else◌, length, slice_index, slice_index_or, take}
+use Rattle.std.specs.Cmp.Lexicographic.{slice_cmp}
+use Rattle.std.specs.Ordering.{is_lt, nat_cmp}
+use Rattle.textwrap_trie.specs.declared.entries.Entry.{Entry}
+
+-- the numbers of the first entry with this key, from a letter on
+abbrev pub entry_for : ℕ → List Entry → List ℕ → Option (List ℕ)
+entry_for depth [] key = None
+entry_for depth (e ∷ es) key =
+    if bytes_eq (drop depth e.key.items) key then Some e.numbers.items else entry_for depth es key
+
+-- the one stands before the other in a dictionary
+abbrev pub is_before : List ℕ → List ℕ → Bool
+is_before xs ys = is_lt (slice_cmp nat_cmp xs ys)
+
+-- from a letter on, each key stands before all later ones
+abbrev pub AreSortedFrom : ℕ → List Entry → Type 0
+AreSortedFrom depth entries =
+    (i j : ℕ) (d : Entry) → i < j → j < length entries
+    → is_before (drop depth (slice_index_or entries i d).key.items)
+    (drop depth (slice_index_or entries j d).key.items)
+    ≡ true
+
+abbrev pub letter_at : ℕ → Entry → ℕ
+letter_at depth e = slice_index e.key.items depth
+
+-- so many first entries have one letter at a place, and the next has another
+pub record IsGroupOf (depth : ℕ) (entries : List Entry) (len : ℕ) : Type 0 where
+  pub some : 0 < len
+  pub within : len ≤ length entries
+  pub same : (d : Entry) → All (λ e. letter_at depth e ≡ letter_at depth (slice_index_or entries 0 d))
+      (take len entries)
+  pub next : (d : Entry) → len < length entries
+      → letter_at depth (slice_index_or entries len d) ≢ letter_at depth (slice_index_or entries 0 d)

@@ -1,0 +1,4 @@
+pub mod Entries
+pub mod Merging
+pub mod Trie
+pub mod Writing

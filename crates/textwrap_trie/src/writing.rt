@@ -1,0 +1,106 @@
+//! A trie, written.
+ghost use Rattle.std.specs.Prelude.{◌≡◌, ◌+◌, ◌<◌, ◌≤◌, [], ◌∷◌, ◌++◌, All, length, IfOk};
+ghost use Rattle.textwrap_trie.specs.Entries.{AreSortedFrom, entry_for};
+ghost use Rattle.textwrap_trie.specs.Writing.{HaveRisingLetters, IsList, IsNodeOf, IsTrie};
+ghost use Rattle.textwrap_trie.specs.Writing.{letters_and_nodes};
+
+use crate::entries::{Entry, ended_len, group_len};
+use std::alloc::{AllocError, Global};
+
+/// A letter, and the place of a node.
+#[derive(Clone, Copy, Debug)]
+pub(crate) struct Child {
+    letter: char,
+    node: usize,
+}
+
+/// Appends a trie of these entries, whose keys are taken from a letter on, and have at most so many
+/// letters from there. Returns the place of its root.
+///
+/// # Errors
+/// [`AllocError`] where memory runs out.
+pub fn push_trie(
+    alloc: Global,
+    words: &mut Vec<usize>,
+    entries: &[Entry],
+    depth: usize,
+    height: usize,
+) -> Result<usize, AllocError>
+    requires some { 0 < length words.old.items }
+    requires sorted { AreSortedFrom depth entries.now }
+    requires height { All (λ e. length e.key.items ≤ depth + height) entries.now }
+    ensures { IfOk result (λ root. IsTrie depth entries.now words.old.items words.new.items root) }
+{
+    let ended = ended_len(entries, depth);
+    let numbers = push_numbers_of(words, entries, depth)?;
+    let mut children = Vec::new(alloc);
+    let mut left = &entries[ended..];
+    while !left.is_empty() {
+        let letter = left[0].key.as_slice()[depth];
+        let (group, others) = left.split_at(group_len(left, depth));
+        let node = push_trie(alloc, words, group, depth + 1, height - 1)?;
+        children.push(Child { letter, node })?;
+        left = others;
+    }
+    push_node(alloc, words, numbers, &children)
+}
+
+/// Appends the numbers of the entry that has no letter at a place. Returns where they stand, or 0
+/// where there is none.
+fn push_numbers_of(
+    words: &mut Vec<usize>,
+    entries: &[Entry],
+    depth: usize,
+) -> Result<usize, AllocError>
+    requires some { 0 < length words.old.items }
+    requires sorted { AreSortedFrom depth entries.now }
+    ensures { IfOk result (λ place. IsList (entry_for depth entries.now []) words.old.items
+        words.new.items place) }
+{
+    match entries {
+        [first, ..] if first.key.as_slice().len() <= depth => push_list(words, &first.numbers),
+        _ => Ok(0),
+    }
+}
+
+/// Appends a list: its length, then its numbers. Returns its place.
+fn push_list(words: &mut Vec<usize>, numbers: &[usize]) -> Result<usize, AllocError>
+    ensures { IfOk result (λ place. place ≡ length words.old.items
+        × words.new.items ≡ words.old.items ++ (length numbers.now ∷ numbers.now)) }
+{
+    let place = words.as_slice().len();
+    words.push(numbers.len())?;
+    words.extend_from_slice(numbers)?;
+    Ok(place)
+}
+
+/// Appends a node. Returns its place.
+fn push_node(
+    alloc: Global,
+    words: &mut Vec<usize>,
+    numbers: usize,
+    children: &[Child],
+) -> Result<usize, AllocError>
+    requires { HaveRisingLetters children.now }
+    ensures { IfOk result (λ node. IsNodeOf numbers children.now words.old.items
+        words.new.items node) }
+{
+    let node = words.as_slice().len();
+    words.push(numbers)?;
+    let list = letters_and_nodes(alloc, children)?;
+    push_list(words, &list)?;
+    Ok(node)
+}
+
+/// The letters of the children, then their nodes.
+fn letters_and_nodes(alloc: Global, children: &[Child]) -> Result<Vec<usize>, AllocError>
+    ensures { IfOk result (λ list. list.items ≡ letters_and_nodes children.now) }
+{
+    let mut list: Vec<usize> = children
+        .iter()
+        .map(|child| child.letter as usize)
+        .collect(alloc)?;
+    let nodes: Vec<usize> = children.iter().map(|child| child.node).collect(alloc)?;
+    list.extend_from_slice(&nodes)?;
+    Ok(list)
+}

@@ -42,6 +42,10 @@ PROVED(balanced_width);
 PROVED(table);
 PROVED(table_of_lines);
 PROVED(fitting_widths);
+PROVED(patterns_read);
+PROVED(hyphen_points);
+PROVED(fill_hyphenated);
+PROVED(wrap_hyphenated);
 PROVED(wrap_first_fit);
 PROVED(wrap_optimal_fit);
 PROVED(pieces);
@@ -361,6 +365,37 @@ textwrap_status textwrap_fitting_widths(const textwrap_text *cells, size_t cells
                                         size_t widths_len, size_t *count) {
     return proved_fitting_widths(ARRAY(cells, cells_len), columns, total, ARRAY(widths, widths_len),
                                  count);
+}
+
+textwrap_status textwrap_patterns_read(const uint8_t *text, size_t text_len, size_t *room,
+                                       size_t room_len, size_t *len, size_t *line) {
+    return proved_patterns_read(ARRAY(text, text_len), ARRAY(room, room_len), len, line);
+}
+
+textwrap_status textwrap_hyphen_points(const size_t *table, size_t table_len, uint32_t in_parts,
+                                       const uint8_t *word, size_t word_len, size_t *points,
+                                       size_t points_len, size_t *count) {
+    return proved_hyphen_points(ARRAY(table, table_len), in_parts, ARRAY(word, word_len),
+                                ARRAY(points, points_len), count);
+}
+
+textwrap_status textwrap_fill_hyphenated(const uint8_t *text, size_t text_len,
+                                         const textwrap_options *options, const size_t *table,
+                                         size_t table_len, uint32_t in_parts, uint8_t *room,
+                                         size_t room_len, size_t *len) {
+    textwrap_options some = some_options(options);
+    return proved_fill_hyphenated(ARRAY(text, text_len), &some, ARRAY(table, table_len), in_parts,
+                                  ARRAY(room, room_len), len);
+}
+
+textwrap_status textwrap_wrap_hyphenated(const uint8_t *text, size_t text_len,
+                                         const textwrap_options *options, const size_t *table,
+                                         size_t table_len, uint32_t in_parts, textwrap_line *lines,
+                                         size_t lines_len, size_t *count, uint8_t *room,
+                                         size_t room_len, size_t *len) {
+    textwrap_options some = some_options(options);
+    return proved_wrap_hyphenated(ARRAY(text, text_len), &some, ARRAY(table, table_len), in_parts,
+                                  ARRAY(lines, lines_len), count, ARRAY(room, room_len), len);
 }
 
 textwrap_status textwrap_wrap_first_fit(const textwrap_fragment *fragments, size_t fragments_len,

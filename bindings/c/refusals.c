@@ -59,8 +59,13 @@ struct lent {
     uint8_t text[9];
     textwrap_piece pieces[16];
     size_t places[16];
+    size_t table[512];
     size_t len, count;
 };
+
+/* The patterns of hy-phen-ation, and their numbers. */
+static const char PATTERNS[] = "hy3ph\nhe2n\nhena4\nhen5at\n1na\nn2at\n1tio\n2io\no2n\nta-ble\n";
+static size_t patterns[512], patterns_len;
 
 static const uint8_t *bytes(const char *text) { return (const uint8_t *)text; }
 
@@ -216,6 +221,28 @@ static textwrap_status widths_fitted(struct lent *lent) {
     const textwrap_text cells[4] = {text_of("-h"), text_of("Print this help."), text_of("--width N"),
                                     text_of("Wrap at N columns.")};
     return textwrap_fitting_widths(cells, 4, 2, 20, lent->places, 16, &lent->count);
+}
+
+static textwrap_status dictionary_read(struct lent *lent) {
+    return textwrap_patterns_read(bytes(PATTERNS), strlen(PATTERNS), lent->table, 512, &lent->len,
+                                  &lent->count);
+}
+
+static textwrap_status points_of(struct lent *lent) {
+    return textwrap_hyphen_points(patterns, patterns_len, 1, bytes("re-hyphenation"), 14, lent->places,
+                                  16, &lent->count);
+}
+
+static textwrap_status filled_with_hyphens(struct lent *lent) {
+    textwrap_options o = options_of(1, 0);
+    return textwrap_fill_hyphenated(bytes("the hyphenation"), 15, &o, patterns, patterns_len, 0,
+                                    lent->room, 256, &lent->len);
+}
+
+static textwrap_status wrapped_with_hyphens(struct lent *lent) {
+    textwrap_options o = options_of(1, 0);
+    return textwrap_wrap_hyphenated(bytes("the hyphenation"), 15, &o, patterns, patterns_len, 0,
+                                    lent->lines, 64, &lent->count, lent->room, 256, &lent->len);
 }
 
 static textwrap_status in_a_table(struct lent *lent) {
@@ -480,6 +507,10 @@ static const struct call CALLS[] = {
     {"carry_styles", styles_carried},
     {"carry_attributes", attributes_carried},
     {"fitting_widths", widths_fitted},
+    {"patterns_read", dictionary_read},
+    {"hyphen_points", points_of},
+    {"fill_hyphenated", filled_with_hyphens},
+    {"wrap_hyphenated", wrapped_with_hyphens},
     {"table", in_a_table},
     {"table_of_lines", lines_in_a_table},
     {"wrap_first_fit", greedily},
@@ -532,6 +563,11 @@ static long refusals_of(const struct call *call) {
 
 int main(void) {
     int failures = 0;
+    size_t line;
+    left = 100000;
+    if (textwrap_patterns_read(bytes(PATTERNS), strlen(PATTERNS), patterns, 512, &patterns_len, &line)
+        != TEXTWRAP_DONE)
+        return 1;
     for (size_t i = 0; i < sizeof DIRECT / sizeof DIRECT[0]; i++) {
         if (refusals_of(&DIRECT[i]) == 0) {
             printf("%s: no allocations\n", DIRECT[i].name);

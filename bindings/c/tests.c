@@ -734,6 +734,105 @@ static void columns_are_fitted(void) {
     CHECK(count == 0 && widths[0] == 4);
 }
 
+/* The patterns of hy-phen-ation. */
+static const char PATTERNS[] = "hy3ph\nhe2n\nhena4\nhen5at\n1na\nn2at\n1tio\n2io\no2n\n";
+
+/* Reads them into room for 512 numbers, and says how many they are. */
+static size_t read_patterns(size_t *table) {
+    size_t len = 0, line = 7;
+    CHECK(textwrap_patterns_read(bytes(PATTERNS), strlen(PATTERNS), table, 512, &len, &line)
+          == TEXTWRAP_DONE);
+    CHECK(len > 7 && len <= 512 && line == 7);
+    return len <= 512 ? len : 512;
+}
+
+static void dictionaries_are_read(void) {
+    static const char wrong[] = "hy3ph\n\nhe/2n\n";
+    size_t whole[512], table[512] = {9}, len = 7, line = 7;
+    const size_t whole_len = read_patterns(whole);
+    CHECK(textwrap_patterns_read(bytes("hy\xff"), 3, table, 512, &len, &line) == TEXTWRAP_NOT_UTF8);
+    CHECK(len == 7 && line == 7 && table[0] == 9);
+    CHECK(textwrap_patterns_read(bytes(wrong), strlen(wrong), table, 512, &len, &line)
+          == TEXTWRAP_WRONG_PATTERNS);
+    CHECK(len == 7 && line == 3 && table[0] == 9);
+    line = 7;
+    table[whole_len - 1] = 9;
+    CHECK(textwrap_patterns_read(bytes(PATTERNS), strlen(PATTERNS), table, whole_len - 1, &len, &line)
+          == TEXTWRAP_TOO_SMALL);
+    CHECK(len == whole_len && line == 7 && table[whole_len - 1] == 9);
+    CHECK(memcmp(table, whole, (whole_len - 1) * sizeof *table) == 0);
+}
+
+static void words_have_points(void) {
+    size_t table[512], points[3] = {9, 9, 9}, count = 7;
+    const size_t len = read_patterns(table);
+    const uint8_t *word = bytes("hyphenation"), *parts = bytes("re-hyphenation");
+    CHECK(textwrap_hyphen_points(table, len, 2, bytes("\xff"), 1, points, 3, &count)
+          == TEXTWRAP_UNKNOWN_OPTIONS);
+    CHECK(textwrap_hyphen_points(table, 0, 0, bytes("\xff"), 1, points, 3, &count)
+          == TEXTWRAP_NOT_UTF8);
+    CHECK(textwrap_hyphen_points(table, len - 1, 0, word, 11, points, 3, &count)
+          == TEXTWRAP_DAMAGED_TABLE);
+    table[1]++;
+    CHECK(textwrap_hyphen_points(table, len, 0, word, 11, points, 3, &count)
+          == TEXTWRAP_DAMAGED_TABLE);
+    table[1]--;
+    /* The letters that stay behind a point and before it. */
+    table[len - 2] = 2;
+    table[len - 3] = 3;
+    CHECK(textwrap_hyphen_points(table, len, 0, word, 11, points, 3, &count)
+          == TEXTWRAP_DAMAGED_TABLE);
+    table[len - 2] = 3;
+    table[len - 3] = 2;
+    CHECK(count == 7 && points[0] == 9);
+    CHECK(textwrap_hyphen_points(table, len, 0, word, 11, points, 1, &count) == TEXTWRAP_TOO_SMALL);
+    CHECK(count == 2 && points[0] == 2 && points[1] == 9);
+    CHECK(textwrap_hyphen_points(table, len, 0, word, 11, points, 3, &count) == TEXTWRAP_DONE);
+    CHECK(count == 2 && points[0] == 2 && points[1] == 6 && points[2] == 9);
+    CHECK(textwrap_hyphen_points(table, len, 0, parts, 14, points, 3, &count) == TEXTWRAP_DONE);
+    CHECK(count == 0);
+    CHECK(textwrap_hyphen_points(table, len, 1, parts, 14, points, 3, &count) == TEXTWRAP_DONE);
+    CHECK(count == 2 && points[0] == 5 && points[1] == 9);
+}
+
+static void texts_are_hyphenated(void) {
+    const uint8_t *text = bytes("the hyphenation");
+    textwrap_options o = textwrap_options_new(11);
+    textwrap_line lines[2];
+    uint8_t room[17] = "...";
+    size_t table[512], count = 7, len = 7;
+    const size_t table_len = read_patterns(table);
+    o.optimal_fit = 0;
+    o.unicode_breaks = 1;
+    CHECK(textwrap_fill_hyphenated(text, 15, &o, table, table_len, 0, room, 17, &len)
+          == TEXTWRAP_UNKNOWN_OPTIONS);
+    CHECK(textwrap_wrap_hyphenated(text, 15, &o, table, table_len, 0, lines, 2, &count, room, 17, &len)
+          == TEXTWRAP_UNKNOWN_OPTIONS);
+    o.unicode_breaks = 0;
+    CHECK(textwrap_fill_hyphenated(bytes("\xff"), 1, &o, table, 0, 0, room, 17, &len)
+          == TEXTWRAP_NOT_UTF8);
+    CHECK(textwrap_wrap_hyphenated(bytes("\xff"), 1, &o, table, 0, 0, lines, 2, &count, room, 17, &len)
+          == TEXTWRAP_NOT_UTF8);
+    CHECK(textwrap_fill_hyphenated(text, 15, &o, table, table_len - 1, 0, room, 17, &len)
+          == TEXTWRAP_DAMAGED_TABLE);
+    CHECK(textwrap_wrap_hyphenated(text, 15, &o, table, table_len - 1, 0, lines, 2, &count, room, 17,
+                                   &len)
+          == TEXTWRAP_DAMAGED_TABLE);
+    CHECK(count == 7 && len == 7 && memcmp(room, "...", 4) == 0);
+    CHECK(textwrap_fill_hyphenated(text, 15, &o, table, table_len, 0, room, 16, &len)
+          == TEXTWRAP_TOO_SMALL);
+    CHECK(len == 17 && memcmp(room, "the hyphen-\nati", 15) == 0);
+    CHECK(textwrap_fill_hyphenated(text, 15, &o, table, table_len, 0, room, 17, &len) == TEXTWRAP_DONE);
+    CHECK(is_text(room, len, "the hyphen-\nation"));
+    CHECK(textwrap_wrap_hyphenated(text, 15, &o, table, table_len, 0, lines, 2, &count, room, 10, &len)
+          == TEXTWRAP_TOO_SMALL);
+    CHECK(count == 2 && len == 11);
+    CHECK(textwrap_wrap_hyphenated(text, 15, &o, table, table_len, 0, lines, 2, &count, room, 11, &len)
+          == TEXTWRAP_DONE);
+    CHECK(count == 2 && is_text(room, len, "the hyphen-"));
+    CHECK(is_place(&lines[0], 0, 11, 1) && is_place(&lines[1], 10, 5, 0));
+}
+
 /* A column with words by first fit. */
 static textwrap_column column_of(size_t width, textwrap_alignment alignment) {
     textwrap_column column;
@@ -1407,6 +1506,11 @@ static void a_pointer_to_nothing_may_be_null(void) {
     CHECK(textwrap_fitting_widths(NULL, 0, 0, 10, NULL, 0, &count) == TEXTWRAP_DONE && count == 0);
     CHECK(textwrap_fitting_widths(NULL, 0, 1, 10, NULL, 0, &count) == TEXTWRAP_TOO_SMALL);
     CHECK(count == 1);
+    CHECK(textwrap_patterns_read(NULL, 0, NULL, 0, &len, &count) == TEXTWRAP_TOO_SMALL && len > 7);
+    CHECK(textwrap_hyphen_points(NULL, 0, 0, NULL, 0, NULL, 0, &count) == TEXTWRAP_DAMAGED_TABLE);
+    CHECK(textwrap_fill_hyphenated(NULL, 0, &o, NULL, 0, 0, NULL, 0, &len) == TEXTWRAP_DAMAGED_TABLE);
+    CHECK(textwrap_wrap_hyphenated(NULL, 0, &o, NULL, 0, 0, line, 1, &count, NULL, 0, &len)
+          == TEXTWRAP_DAMAGED_TABLE);
     CHECK(textwrap_table(NULL, 0, NULL, 0, &gaps, NULL, 0, &count, NULL, 0, &len) == TEXTWRAP_DONE);
     CHECK(count == 0 && len == 0);
     CHECK(textwrap_table_of_lines(NULL, 0, NULL, 0, &gaps, NULL, 0, &count, NULL, 0, &len)
@@ -1428,8 +1532,8 @@ static void a_pointer_to_nothing_may_be_null(void) {
 }
 
 static void statuses_have_words(void) {
-    for (int status = TEXTWRAP_DONE; status <= TEXTWRAP_WRONG_PLACES; status++)
-        for (int other = TEXTWRAP_DONE; other <= TEXTWRAP_WRONG_PLACES + 1; other++)
+    for (int status = TEXTWRAP_DONE; status <= TEXTWRAP_DAMAGED_TABLE; status++)
+        for (int other = TEXTWRAP_DONE; other <= TEXTWRAP_DAMAGED_TABLE + 1; other++)
             CHECK((strcmp(textwrap_status_text((textwrap_status)status),
                           textwrap_status_text((textwrap_status)other)) == 0) == (status == other));
 }
@@ -1463,6 +1567,9 @@ int main(void) {
     attributes_are_carried();
     lines_are_balanced();
     columns_are_fitted();
+    dictionaries_are_read();
+    words_have_points();
+    texts_are_hyphenated();
     tables_are_written();
     rows_of_lines_are_written();
     tables_of_lines_are_written();

@@ -34,8 +34,8 @@
  *     }
  *
  * A call returns TEXTWRAP_DONE, NOT_UTF8 if a text is not UTF-8, OUT_OF_MEMORY, TOO_SMALL as above, or
- * UNKNOWN_OPTIONS; those by fragments or places have OVERFLOW or WRONG_PLACES too. If it returns fewer,
- * its comment says which.
+ * UNKNOWN_OPTIONS; those by fragments or places have OVERFLOW or WRONG_PLACES too, and those by a
+ * dictionary WRONG_PATTERNS or DAMAGED_TABLE. If it returns fewer, its comment says which.
  *
  * A text is a pointer and a length in bytes. A pointer is aligned as its type asks, and is not null, but
  * for that of an array of length 0. (null.c sees to these. A program that links the library without it
@@ -84,6 +84,8 @@ typedef enum {
                                    * is not 0, or a text in no columns */
     TEXTWRAP_OVERFLOW = 5,        /* a sum of widths or a cost needs more than 128 bits */
     TEXTWRAP_WRONG_PLACES = 6,    /* offsets that do not increase, or are no places to cut at */
+    TEXTWRAP_WRONG_PATTERNS = 7,  /* a line of a dictionary is wrong, which is reported */
+    TEXTWRAP_DAMAGED_TABLE = 8,   /* numbers of a dictionary of another version, or that were damaged */
 } textwrap_status;
 
 /* A status in words, as for a message: "out of memory". */
@@ -103,6 +105,10 @@ static inline const char *textwrap_status_text(textwrap_status status) {
         return "a number needs more than 128 bits";
     case TEXTWRAP_WRONG_PLACES:
         return "an offset is no place to cut at";
+    case TEXTWRAP_WRONG_PATTERNS:
+        return "a line of the dictionary is wrong";
+    case TEXTWRAP_DAMAGED_TABLE:
+        return "the numbers of the dictionary are damaged";
     }
     return "an unknown status";
 }
@@ -489,6 +495,46 @@ TEXTWRAP_CHECKED
 textwrap_status textwrap_fitting_widths(const textwrap_text *cells, size_t cells_len,
                                         size_t columns, size_t total, size_t *widths,
                                         size_t widths_len, size_t *count);
+
+/* ---- Hyphenation by patterns */
+
+/* Reads a dictionary of hyphenation, a text of TeX, of libhyphen in UTF-8, or a list with a pattern such
+ * as hy3ph or an exception such as ta-ble on each line, and writes it to the room as numbers. They hold
+ * no address, so they may be copied, and kept in a file for a machine of the same byte order. DONE,
+ * NOT_UTF8, OUT_OF_MEMORY, TOO_SMALL, or WRONG_PATTERNS: then the first line that is wrong is written to
+ * `line`, counted from 1. Otherwise `line` stays as it was. */
+TEXTWRAP_CHECKED
+textwrap_status textwrap_patterns_read(const uint8_t *text, size_t text_len, size_t *room,
+                                       size_t room_len, size_t *len, size_t *line);
+
+/* Writes the offsets in bytes at which a word has a hyphen by a dictionary, whose numbers
+ * textwrap_patterns_read wrote. They increase, and are character boundaries inside the word. A word with a
+ * hyphen has points only if `in_parts` is 1, and none if it is 0. DAMAGED_TABLE if a number is another,
+ * or two are exchanged; each call tests that. */
+TEXTWRAP_CHECKED
+textwrap_status textwrap_hyphen_points(const size_t *table, size_t table_len, uint32_t in_parts,
+                                       const uint8_t *word, size_t word_len, size_t *points,
+                                       size_t points_len, size_t *count);
+
+/* Writes the filled text as textwrap_fill does, but that words are split where a dictionary has hyphens,
+ * and behind a hyphen between letters or digits, whether or not the options say so. A hyphen is written
+ * where a line ends at a point of the dictionary; a part of a word that just fits the line passes it by
+ * that. UNKNOWN_OPTIONS also for options by which words do not end at blanks; DAMAGED_TABLE as in
+ * textwrap_hyphen_points. */
+TEXTWRAP_CHECKED
+textwrap_status textwrap_fill_hyphenated(const uint8_t *text, size_t text_len,
+                                         const textwrap_options *options, const size_t *table,
+                                         size_t table_len, uint32_t in_parts, uint8_t *room,
+                                         size_t room_len, size_t *len);
+
+/* Writes the lines of that text as textwrap_wrap does. A line with a hyphen that is written stands in the
+ * room. */
+TEXTWRAP_CHECKED
+textwrap_status textwrap_wrap_hyphenated(const uint8_t *text, size_t text_len,
+                                         const textwrap_options *options, const size_t *table,
+                                         size_t table_len, uint32_t in_parts, textwrap_line *lines,
+                                         size_t lines_len, size_t *count, uint8_t *room,
+                                         size_t room_len, size_t *len);
 
 /* ---- Fragments of the caller's own, and the two algorithms */
 

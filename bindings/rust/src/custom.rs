@@ -1,23 +1,30 @@
-//! Texts in which functions of the caller take part.
+//! Texts in which functions of the caller take part, or patterns.
 //!
 //! The functions give the words of a paragraph, their points or its lines. What they give is checked
-//! here, and the library makes the lines of it, and the rows of these.
+//! here, and the library makes the lines of it, and the rows of these. Patterns go the same way, but
+//! where the library has a call of its own for them.
 use crate::core::Word;
 use crate::display::{Column, Gaps};
 use crate::fallible::{self, unfill};
+use crate::hyphens::JoinedWords;
 use crate::room::{
     lines_by, list_by, mapped, push, reserve, room_for, text_by, texts_of, value_by,
 };
+use crate::word_splitters::with_hyphens;
 use crate::{guess, sys, Options, OutOfMemory, WordSplitter, WrapAlgorithm};
 use alloc::borrow::Cow;
 use alloc::string::String;
 use alloc::vec::Vec;
+use core::iter;
 
 type Result<T> = core::result::Result<T, OutOfMemory>;
 
 /// The filled text.
 #[cold]
 pub(crate) fn filled(text: &str, options: Options<'_>) -> Result<String> {
+    if let Some(patterns) = options.patterns_at_blanks() {
+        return patterns.filled(text, &options.to_sys());
+    }
     let (found, with) = (steps_of(text, &options)?, options.to_sys());
     let steps = mapped(&found, Steps::to_sys)?;
     text_by!(guess::filled(text, 8, &with), textwrap_fill_at(text, steps; &with))
@@ -32,6 +39,9 @@ pub(crate) fn justified(text: &str, options: &Options<'_>) -> Result<String> {
 
 /// The lines of the text.
 pub(crate) fn wrapped<'t>(text: &'t str, options: &Options<'_>) -> Result<Vec<Cow<'t, str>>> {
+    if let Some(patterns) = options.patterns_at_blanks() {
+        return patterns.wrapped(text, &options.to_sys());
+    }
     let (found, with) = (steps_of(text, options)?, options.to_sys());
     let steps = mapped(&found, Steps::to_sys)?;
     let (lines, bytes) = guess::wrapped(text, &with);
@@ -138,17 +148,37 @@ fn paragraph_steps(text: &str, options: &Options<'_>, is_later: bool) -> Result<
     Ok(Steps { cuts, points, ends })
 }
 
+/// The words between cuts of a paragraph, without the blanks at their ends, and where each begins. An
+/// empty paragraph has none.
+fn words_between<'t>(
+    cuts: &'t [usize],
+    text: &'t str,
+) -> impl Iterator<Item = (usize, &'t str)> + Clone {
+    let cuts = cuts.iter().copied();
+    let last = Some(text.len()).filter(|&len| len > 0);
+    iter::once(0)
+        .chain(cuts.clone())
+        .zip(cuts.chain(last))
+        .map(|(start, end)| (start, text[start..end].trim_end_matches(' ')))
+}
+
 /// The points of the words between cuts of a paragraph.
 fn points_between(cuts: &[usize], text: &str, splitter: &WordSplitter) -> Result<Vec<usize>> {
+    let words = words_between(cuts, text);
+    let mut joined = match splitter {
+        WordSplitter::Patterns(patterns) => {
+            Some(JoinedWords::of(patterns, words.clone().map(|(_, word)| word))?)
+        }
+        _ => None,
+    };
     let mut points = Vec::new();
-    let mut start = 0;
-    // An empty paragraph has no word.
-    let last = Some(text.len()).filter(|&len| len > 0);
-    for end in cuts.iter().copied().chain(last) {
-        let inside = splitter.points_inside(text[start..end].trim_end_matches(' '))?;
+    for (start, word) in words {
+        let inside = match &mut joined {
+            Some(joined) => with_hyphens(joined.points_of_next(word)?, word)?,
+            None => splitter.points_inside(word)?,
+        };
         reserve(&mut points, inside.len())?;
         points.extend(inside.iter().map(|point| start + point));
-        start = end;
     }
     Ok(points)
 }

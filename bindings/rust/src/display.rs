@@ -373,7 +373,7 @@ where
 ///
 /// # Panics
 ///
-/// If a function of the caller, or a dictionary, finds words or splits them.
+/// If a function of the caller, a dictionary or patterns find words or split them.
 ///
 /// # Examples
 ///
@@ -400,7 +400,7 @@ where
 ///
 /// # Panics
 ///
-/// If a function of the caller, or a dictionary, finds words or splits them.
+/// If a function of the caller, a dictionary or patterns find words or split them.
 ///
 /// # Examples
 ///

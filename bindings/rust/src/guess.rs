@@ -16,6 +16,11 @@ pub(crate) fn breaks(text: &str) -> usize {
     count(text, |byte| byte == b' ' || byte >= 0xC0) + 4
 }
 
+/// The numbers of patterns in a text.
+pub(crate) fn patterns(text: &str) -> usize {
+    2 * text.len() + 16
+}
+
 /// The line feeds of a text. Those of a short one are not counted, but taken for many.
 pub(crate) fn line_feeds(text: &str) -> usize {
     match text.len() {

@@ -67,6 +67,20 @@
 //! assert_eq!(shorten("foo bar baz", 10, " .."), "foo bar ..");
 //! ```
 //!
+//! # Hyphenation
+//!
+//! The module [`hyphens`] finds where words have hyphens, by patterns of their language that the program
+//! brings:
+//!
+//! ```
+//! use textwrap_proved::hyphens::Patterns;
+//! use textwrap_proved::{fill, Options, WordSplitter};
+//!
+//! let patterns = Patterns::parse("% patterns of TeX\n\\patterns{1na n2at 1phe 1tio}\n").unwrap();
+//! let options = Options::new(10).word_splitter(WordSplitter::Patterns(patterns));
+//! assert_eq!(fill("a hyphenation", options), "a hyphena-\ntion");
+//! ```
+//!
 //! # Texts with marks
 //!
 //! The module [`reflow`] fills texts of many paragraphs behind the marks of quotes, comments and lists:
@@ -86,9 +100,11 @@
 //! - What a `Custom` function gives is checked, and a wrong answer panics with a message that says
 //!   [what is wrong](Options#functions-of-the-caller).
 //! - Of divisions that cost the same, the one whose lines start earliest is taken.
-//! - [`Options::even_paragraphs`] and the modules [`display`], [`reflow`] and [`fallible`] are new.
+//! - [`Options::even_paragraphs`], [`WordSplitter::Patterns`] and the modules [`display`], [`hyphens`],
+//!   [`reflow`] and [`fallible`] are new.
 //! - Both algorithms and both separators are there without the features `smawk` and
-//!   `unicode-linebreak` too, so a `match` has an arm for each.
+//!   `unicode-linebreak` too, so a `match` has an arm for each; and one on a `WordSplitter` has an arm
+//!   for its patterns.
 //!
 //! `docs/DIFFERENCES.md` of the repository has all of them, with those of the library itself.
 //!
@@ -114,8 +130,8 @@
 //!
 //! If memory runs out, a call ends the program as the standard library does: it aborts with a message
 //! that names the size that was asked for, or panics if no allocation can have that size, which is
-//! above `isize::MAX`. Its twin in [`fallible`], or in [`display::fallible`], returns [`OutOfMemory`]
-//! in place of both. What the library allocates comes from Rust's allocator too, but where
+//! above `isize::MAX`. Its twin in [`fallible`] or in [`display::fallible`], or the one whose name has
+//! `try_` before it, returns [`OutOfMemory`] in place of both. What the library allocates comes from Rust's allocator too, but where
 //! `TEXTWRAP_LIBRARY` names an archive that is installed for C: this has a heap of its own, and the
 //! message names 0 bytes.
 #![no_std]
@@ -139,12 +155,14 @@ mod guess;
 // An archive that is installed for C has its heap in it.
 #[cfg(not(library_has_heap))]
 mod heap;
+pub mod hyphens;
 mod library;
 mod line_ending;
 mod options;
 mod out_of_memory;
 pub mod reflow;
 mod room;
+mod shared;
 mod sys;
 #[cfg(feature = "terminal_size")]
 mod termwidth;

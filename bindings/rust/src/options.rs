@@ -1,4 +1,5 @@
 //! How a text is wrapped.
+use crate::hyphens::Patterns;
 use crate::sys;
 use crate::wrap_algorithms::Penalties;
 use crate::{LineEnding, WordSeparator, WordSplitter, WrapAlgorithm};
@@ -214,7 +215,8 @@ impl<'a> Options<'a> {
         self
     }
 
-    /// Whether a function of the caller takes part: then a text is wrapped paragraph by paragraph.
+    /// Whether a function of the caller takes part, or patterns: then a text is wrapped paragraph by
+    /// paragraph.
     #[inline]
     pub(crate) fn has_function(&self) -> bool {
         matches!(self.wrap_algorithm, WrapAlgorithm::Custom(_))
@@ -222,7 +224,17 @@ impl<'a> Options<'a> {
             || !self.word_splitter.is_built_in()
     }
 
-    /// The same as C has them, or as they are if a function of the caller takes part.
+    /// The patterns, if the library has a call for a text by them: where words end at blanks, and the
+    /// algorithm is its own.
+    pub(crate) fn patterns_at_blanks(&self) -> Option<&Patterns> {
+        match (&self.word_splitter, &self.word_separator, &self.wrap_algorithm) {
+            (_, _, WrapAlgorithm::Custom(_)) => None,
+            (WordSplitter::Patterns(patterns), WordSeparator::AsciiSpace, _) => Some(patterns),
+            _ => None,
+        }
+    }
+
+    /// The same as C has them, or as they are if a function of the caller takes part, or patterns.
     #[inline]
     pub(crate) fn built_in(self) -> Result<sys::Options, Self> {
         if self.has_function() {
@@ -232,7 +244,7 @@ impl<'a> Options<'a> {
         }
     }
 
-    /// The same as C has them, without the functions of the caller. They lend the indents.
+    /// The same as C has them, without the functions of the caller and patterns. They lend the indents.
     #[inline]
     pub(crate) fn to_sys(&self) -> sys::Options {
         let (optimal_fit, penalties) = match self.wrap_algorithm {

@@ -20,6 +20,8 @@ pub(crate) enum Refusal {
     OutOfMemory(OutOfMemory),
     Overflow,
     WrongPlaces,
+    WrongPatterns,
+    DamagedTable,
 }
 
 impl From<OutOfMemory> for Refusal {
@@ -36,6 +38,9 @@ impl From<Refusal> for OutOfMemory {
             Refusal::OutOfMemory(refused) => refused,
             Refusal::Overflow => panic!("{OverflowError}"),
             Refusal::WrongPlaces => unreachable!("the places are the library's own"),
+            Refusal::WrongPatterns | Refusal::DamagedTable => {
+                unreachable!("the patterns are those that the library read")
+            }
         }
     }
 }
@@ -48,6 +53,8 @@ fn refused(status: u32, before: BeforeCall) -> Result<(), Refusal> {
         sys::OUT_OF_MEMORY => Err(Refusal::OutOfMemory(before.out_of_memory())),
         sys::OVERFLOW => Err(Refusal::Overflow),
         sys::WRONG_PLACES => Err(Refusal::WrongPlaces),
+        sys::WRONG_PATTERNS => Err(Refusal::WrongPatterns),
+        sys::DAMAGED_TABLE => Err(Refusal::DamagedTable),
         _ => unreachable!("texts are UTF-8, and the options are known"),
     }
 }

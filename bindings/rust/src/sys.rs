@@ -6,6 +6,8 @@ pub const OUT_OF_MEMORY: u32 = 2;
 pub const TOO_SMALL: u32 = 3;
 pub const OVERFLOW: u32 = 5;
 pub const WRONG_PLACES: u32 = 6;
+pub const WRONG_PATTERNS: u32 = 7;
+pub const DAMAGED_TABLE: u32 = 8;
 pub const VERSION: u32 = 1;
 pub const LEFT: u32 = 0;
 pub const RIGHT: u32 = 1;
@@ -461,6 +463,53 @@ extern "C" {
         widths: *mut usize,
         widths_len: usize,
         count: *mut usize,
+    ) -> u32;
+
+    pub fn textwrap_patterns_read(
+        text: *const u8,
+        text_len: usize,
+        room: *mut usize,
+        room_len: usize,
+        len: *mut usize,
+        line: *mut usize,
+    ) -> u32;
+
+    pub fn textwrap_hyphen_points(
+        table: *const usize,
+        table_len: usize,
+        in_parts: u32,
+        word: *const u8,
+        word_len: usize,
+        points: *mut usize,
+        points_len: usize,
+        count: *mut usize,
+    ) -> u32;
+
+    pub fn textwrap_fill_hyphenated(
+        text: *const u8,
+        text_len: usize,
+        options: *const Options,
+        table: *const usize,
+        table_len: usize,
+        in_parts: u32,
+        room: *mut u8,
+        room_len: usize,
+        len: *mut usize,
+    ) -> u32;
+
+    pub fn textwrap_wrap_hyphenated(
+        text: *const u8,
+        text_len: usize,
+        options: *const Options,
+        table: *const usize,
+        table_len: usize,
+        in_parts: u32,
+        lines: *mut Line,
+        lines_len: usize,
+        count: *mut usize,
+        room: *mut u8,
+        room_len: usize,
+        len: *mut usize,
     ) -> u32;
 
     pub fn textwrap_wrap_first_fit(

@@ -4,8 +4,9 @@
 //! added. [`WordSplitter`] says where words may be split, and [`split_words`] splits them.
 use crate::core::{display_width, Word};
 use crate::guess;
+use crate::hyphens::Patterns;
 use crate::out_of_memory::{or_abort, OutOfMemory};
-use crate::room::list_by;
+use crate::room::{list_by, reserve};
 use alloc::vec::Vec;
 use core::iter;
 #[cfg(feature = "hyphenation")]
@@ -74,10 +75,25 @@ pub enum WordSplitter {
     /// ```
     #[cfg(feature = "hyphenation")]
     Hyphenation(hyphenation::Standard),
+
+    /// Where [patterns](crate::hyphens) of the word's language say, and after each hyphen between two
+    /// letters or digits. A hyphen is added where a line ends at a point of the patterns. The original
+    /// has no such splitter.
+    ///
+    /// ```
+    /// use textwrap_proved::hyphens::Patterns;
+    /// use textwrap_proved::{wrap, Options, WordSplitter};
+    ///
+    /// let patterns = Patterns::parse("hy-phen-ation\n").unwrap();
+    /// let options = Options::new(11).word_splitter(WordSplitter::Patterns(patterns));
+    /// assert_eq!(wrap("The hyphenation!", &options), ["The hyphen-", "ation!"]);
+    /// assert_eq!(wrap("non-hyphenation", options), ["non-", "hyphenation"]);
+    /// ```
+    Patterns(Patterns),
 }
 
 /// A `Custom` equals no value, not even itself, since functions cannot be compared. Two dictionaries
-/// are equal if their languages are.
+/// are equal if their languages are, and patterns if all that was read is the same.
 impl PartialEq for WordSplitter {
     #[inline]
     fn eq(&self, other: &Self) -> bool {
@@ -88,6 +104,7 @@ impl PartialEq for WordSplitter {
             (WordSplitter::Hyphenation(one), WordSplitter::Hyphenation(other)) => {
                 one.language == other.language
             }
+            (WordSplitter::Patterns(one), WordSplitter::Patterns(other)) => one == other,
             _ => false,
         }
     }
@@ -123,13 +140,19 @@ impl WordSplitter {
             WordSplitter::Custom(function) => Ok(function(word)),
             #[cfg(feature = "hyphenation")]
             WordSplitter::Hyphenation(dictionary) => Ok(dictionary.hyphenate(word).breaks),
+            WordSplitter::Patterns(patterns) => with_hyphens(patterns.try_points(word)?, word),
         }
     }
 
-    /// Whether the points are found by the library, which finds right ones.
+    /// Whether the points are those of one of the two splitters that options have in C.
     #[inline]
     pub(crate) fn is_built_in(&self) -> bool {
         matches!(self, WordSplitter::NoHyphenation | WordSplitter::HyphenSplitter)
+    }
+
+    /// Whether the points are found by the library, which finds right ones.
+    fn is_right(&self) -> bool {
+        self.is_built_in() || matches!(self, WordSplitter::Patterns(_))
     }
 
     /// The offsets that cut something off, in order.
@@ -138,7 +161,7 @@ impl WordSplitter {
     /// If a function of the caller, or a dictionary, gives wrong ones.
     pub(crate) fn points_inside(&self, word: &str) -> Result<Vec<usize>, OutOfMemory> {
         let mut points = self.points_of(word)?;
-        if !self.is_built_in() {
+        if !self.is_right() {
             let name = if matches!(self, WordSplitter::Custom(_)) { "Custom" } else { "Hyphenation" };
             for (i, &point) in points.iter().enumerate() {
                 let before = if i > 0 { points[i - 1] } else { 0 };
@@ -162,6 +185,19 @@ fn points_at_hyphens(word: &str) -> Result<Vec<usize>, OutOfMemory> {
         return Ok(Vec::new());
     }
     Ok(list_by!(hyphens, textwrap_split_points(word))?)
+}
+
+/// The points of a word by patterns together with those after its hyphens, in order.
+pub(crate) fn with_hyphens(mut points: Vec<usize>, word: &str) -> Result<Vec<usize>, OutOfMemory> {
+    let at_hyphens = points_at_hyphens(word)?;
+    if points.is_empty() || at_hyphens.is_empty() {
+        return Ok(if points.is_empty() { at_hyphens } else { points });
+    }
+    reserve(&mut points, at_hyphens.len())?;
+    points.extend(at_hyphens);
+    points.sort_unstable();
+    points.dedup();
+    Ok(points)
 }
 
 /// The words, each of them split at all its points, whatever its width.

@@ -72,7 +72,7 @@ fn columns_are_the_same_without_unicode_width() {
 }
 
 #[test]
-fn matches_need_no_other_arm_than_the_original_has() {
+fn matches_need_no_other_arm_than_the_original_has_but_for_patterns() {
     let separator = match WordSeparator::AsciiSpace {
         WordSeparator::AsciiSpace => "blanks",
         WordSeparator::UnicodeBreakProperties => "breaks",
@@ -84,6 +84,7 @@ fn matches_need_no_other_arm_than_the_original_has() {
         WordSplitter::Custom(_) => "a function",
         #[cfg(feature = "hyphenation")]
         WordSplitter::Hyphenation(_) => "a dictionary",
+        WordSplitter::Patterns(_) => "patterns",
     };
     let algorithm = match WrapAlgorithm::FirstFit {
         WrapAlgorithm::FirstFit => "first fit",

@@ -6,6 +6,7 @@ use std::cell::Cell;
 use std::fmt::Debug;
 use std::ptr::null_mut;
 use textwrap_proved::display::{self, Alignment, Column, Gaps, Shortening};
+use textwrap_proved::hyphens::Patterns;
 use textwrap_proved::reflow::ReflowOptions;
 use textwrap_proved::{fallible, Options, OutOfMemory, WordSeparator, WordSplitter};
 
@@ -127,5 +128,29 @@ fn calls_for_display() {
         let columns = [Alignment::Left, Alignment::Right]
             .map(|alignment| Column { options: options.clone(), alignment });
         refuse_each("table", || display::fallible::table(&[TEXT, "foo", "bar"], &columns, &gaps));
+    }
+}
+
+#[test]
+fn calls_by_patterns() {
+    let text = "LEFTHYPHENMIN 1\nRIGHTHYPHENMIN 1\nto-be\n1st\nu1e\n";
+    refuse_each("try_parse", || Patterns::try_parse(text));
+    refuse_each("try_parse of wrong ones", || Patterns::try_parse("1st\nu/e\n"));
+    let patterns = Patterns::parse(text).unwrap();
+    let numbers = patterns.as_numbers();
+    refuse_each("try_from_numbers", || Patterns::try_from_numbers(numbers));
+    refuse_each("try_from_numbers of damaged ones", || Patterns::try_from_numbers(&numbers[1..]));
+    refuse_each("try_points", || patterns.try_points("question"));
+    let gaps = Gaps { left: "[", middle: "│", right: "]" };
+    for (options, in_parts) in each_options()[..4].iter().zip([false, true].into_iter().cycle()) {
+        let splitter = WordSplitter::Patterns(patterns.clone().in_parts(in_parts));
+        let options = options.clone().word_splitter(splitter);
+        refuse_each("fill", || fallible::fill(TEXT, &options));
+        refuse_each("wrap", || fallible::wrap(TEXT, &options));
+        refuse_each("refill", || fallible::refill("> foo bar\n> question\n", &options));
+        refuse_each("wrap_columns", || fallible::wrap_columns(TEXT, 2, &options, "[", "│", "]"));
+        refuse_each("fill_justified", || display::fallible::fill_justified(TEXT, &options));
+        let columns = [Column { options, alignment: Alignment::Right }];
+        refuse_each("table", || display::fallible::table(&[TEXT, "foo"], &columns, &gaps));
     }
 }

@@ -1,7 +1,8 @@
 //! `textwrap` for callers in C, and in all languages that call C.
 //!
 //! Each export passes its arguments on to the function of its name in `textwrap_calls`,
-//! `textwrap_step_calls` or `textwrap_display_calls`, where it is described, and makes the same promises.
+//! `textwrap_step_calls`, `textwrap_display_calls` or `textwrap_hyphen_calls`, where it is described, and
+//! makes the same promises.
 //! Only a static library has exports, and none stands on one; so the calls stand in libraries, on which
 //! tests may stand too.
 #![tactic(auto)]
@@ -15,6 +16,7 @@ pub mod display;
 pub mod filling;
 pub mod fitting;
 pub mod fragments;
+pub mod hyphens;
 pub mod indentation;
 pub mod line_lists;
 pub mod paragraphs;

@@ -4,6 +4,7 @@ mod alone;
 mod bounds;
 mod display;
 mod fragments;
+mod hyphens;
 mod known;
 mod large;
 mod large_lists;

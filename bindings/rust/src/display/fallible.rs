@@ -171,7 +171,7 @@ where
 /// [`OutOfMemory`] if memory runs out.
 ///
 /// # Panics
-/// If a function of the caller, or a dictionary, finds words or splits them.
+/// If a function of the caller, a dictionary or patterns find words or split them.
 pub fn wrap_balanced<'a, Opt>(
     text: &str,
     width_or_options: Opt,
@@ -190,7 +190,7 @@ where
 /// [`OutOfMemory`] if memory runs out.
 ///
 /// # Panics
-/// If a function of the caller, or a dictionary, finds words or splits them.
+/// If a function of the caller, a dictionary or patterns find words or split them.
 pub fn balanced_width<'a, Opt>(text: &str, width_or_options: Opt) -> Result<usize, OutOfMemory>
 where
     Opt: Into<Options<'a>>,
@@ -202,7 +202,7 @@ where
 /// The options as C has them. The algorithm is not used.
 ///
 /// # Panics
-/// If a function of the caller, or a dictionary, finds words or splits them.
+/// If a function of the caller, a dictionary or patterns find words or split them.
 fn by_first_fit(options: Options<'_>) -> sys::Options {
     let Ok(with) = options.wrap_algorithm(WrapAlgorithm::FirstFit).built_in() else {
         panic!("a text is balanced by the library's own words and points");

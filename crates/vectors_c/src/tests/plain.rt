@@ -1,5 +1,6 @@
 //! What the tests share: options, the calls that write alike, and the assertions. A call is made here
 //! alone, in a function without clauses, so that no test has to prove what the call promises.
+use super::hyphens::{Hyphens, write_filled, write_points, write_wrapped};
 use super::known::{write_known_lines, write_known_text};
 use std::alloc::Global;
 use std::process::Abort;
@@ -196,6 +197,10 @@ pub(super) enum TextCall<'a> {
         break_words: u32,
     },
     Strip,
+    FillHyphenated {
+        options: TextwrapOptions<'a>,
+        hyphens: Hyphens,
+    },
     FillAt {
         steps: &'a [TextwrapSteps<'a>],
         options: TextwrapOptions<'a>,
@@ -245,6 +250,9 @@ pub(super) fn write_text(
             break_words,
         } => textwrap_shorten_by(alloc, text, width, placeholder, break_words, room, len),
         TextCall::Strip => textwrap_strip_ansi_escape_sequences(alloc, text, room, len),
+        TextCall::FillHyphenated { options, hyphens } => {
+            write_filled(alloc, hyphens, text, &options, room, len)
+        }
         TextCall::FillAt { steps, options } => {
             textwrap_fill_at(alloc, text, steps, &options, room, len)
         }
@@ -266,6 +274,10 @@ fn write_unfilled(text: &[u8], room: &mut [u8], len: &mut usize) -> u32 {
 pub(super) enum LinesCall<'a> {
     Wrap(TextwrapOptions<'a>),
     WrapBalanced(TextwrapOptions<'a>),
+    WrapHyphenated {
+        options: TextwrapOptions<'a>,
+        hyphens: Hyphens,
+    },
     Columns {
         columns: usize,
         options: TextwrapOptions<'a>,
@@ -343,6 +355,9 @@ pub(super) fn write_lines(
         }
         LinesCall::WrapBalanced(options) => {
             textwrap_wrap_balanced(alloc, text, &options, lines, count, room, len)
+        }
+        LinesCall::WrapHyphenated { options, hyphens } => {
+            write_wrapped(alloc, hyphens, text, &options, lines, count, room, len)
         }
         LinesCall::Columns {
             columns,
@@ -464,6 +479,10 @@ pub(super) fn write_pieces(
 pub(super) enum OffsetsCall<'a> {
     SplitPoints(&'a [u8]),
     UnicodeCuts(&'a [u8]),
+    HyphenPoints {
+        word: &'a [u8],
+        hyphens: Hyphens,
+    },
     FittingWidths {
         cells: &'a [TextwrapText<'a>],
         columns: usize,
@@ -497,6 +516,9 @@ pub(super) fn write_offsets(
     match call {
         OffsetsCall::SplitPoints(word) => textwrap_split_points(alloc, word, offsets, count),
         OffsetsCall::UnicodeCuts(line) => textwrap_unicode_cuts(alloc, line, offsets, count),
+        OffsetsCall::HyphenPoints { word, hyphens } => {
+            write_points(alloc, hyphens, word, offsets, count)
+        }
         OffsetsCall::FittingWidths {
             cells,
             columns,

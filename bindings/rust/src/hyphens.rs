@@ -1,0 +1,336 @@
+//! Hyphenation by the patterns of a language, as Liang's thesis (1983) describes it and TeX does it. The
+//! original has it by the crate [`hyphenation`](https://docs.rs/hyphenation) alone.
+//!
+//! [`Patterns`] are read from a text, which the program brings: dictionaries of most languages come with
+//! TeX (`hyph-utf8`) and with LibreOffice (`libhyphen`).
+//!
+//! ```
+//! use textwrap_proved::hyphens::Patterns;
+//! use textwrap_proved::{fill, Options, WordSplitter};
+//!
+//! let text = "hy3ph\nhe2n\nhena4\nhen5at\n1na\nn2at\n1tio\n2io\no2n\n";
+//! let patterns = Patterns::parse(text)?;
+//! assert_eq!(patterns.points("Hyphenation"), [2, 6]);
+//!
+//! let options = Options::new(11).word_splitter(WordSplitter::Patterns(patterns));
+//! assert_eq!(fill("the hyphenation", &options), "the hyphen-\nation");
+//! # Ok::<(), textwrap_proved::hyphens::PatternsError>(())
+//! ```
+//!
+//! If memory runs out, a call [ends the program](crate#memory), and its twin, whose name begins with
+//! `try_`, returns [`OutOfMemory`].
+use crate::out_of_memory::{or_abort, OutOfMemory};
+use crate::room::{lines_by, list_by, listed, mapped, room_for, text_by, text_room, Refusal};
+use crate::shared::Shared;
+use crate::{guess, sys};
+use alloc::borrow::Cow;
+use alloc::string::String;
+use alloc::vec::Vec;
+use core::error::Error;
+use core::fmt;
+
+/// Patterns and exceptions of a language, which say where a word may have a hyphen.
+///
+/// Clones share what was read, so that options with patterns are cloned without a copy of it.
+#[derive(Clone, PartialEq, Eq)]
+pub struct Patterns {
+    numbers: Shared,
+    in_parts: bool,
+}
+
+/// Why a text gives no patterns.
+#[derive(Clone, Copy, Debug, PartialEq, Eq)]
+#[non_exhaustive]
+pub enum PatternsError {
+    /// This line is wrong, counted from 1. Those before it are right.
+    Line(usize),
+}
+
+impl fmt::Display for PatternsError {
+    fn fmt(&self, f: &mut fmt::Formatter<'_>) -> fmt::Result {
+        let PatternsError::Line(line) = self;
+        write!(f, "line {line} of the patterns is wrong")
+    }
+}
+
+impl Error for PatternsError {}
+
+/// How many numbers they are, and whether parts are hyphenated.
+impl fmt::Debug for Patterns {
+    fn fmt(&self, f: &mut fmt::Formatter<'_>) -> fmt::Result {
+        f.debug_struct("Patterns")
+            .field("numbers", &self.numbers.len())
+            .field("in_parts", &self.in_parts)
+            .finish()
+    }
+}
+
+impl Patterns {
+    /// Reads patterns from a text.
+    ///
+    /// It is one of TeX, which begins with `%` or a backslash; a dictionary of `libhyphen`, which
+    /// begins with `UTF-8`; or a list with a pattern, such as `hy3ph`, or an exception, such as
+    /// `ta-ble`, on each line. In the last two, `LEFTHYPHENMIN` and `RIGHTHYPHENMIN` say how many
+    /// letters stay before the first hyphen and behind the last; without them these are 2 and 3.
+    ///
+    /// # Errors
+    ///
+    /// [`PatternsError::Line`] with the first line that is wrong.
+    ///
+    /// # Examples
+    ///
+    /// ```
+    /// use textwrap_proved::hyphens::{Patterns, PatternsError};
+    ///
+    /// let patterns = Patterns::parse("% the words of a club\n\\hyphenation{ta-ble chairs}\n")?;
+    /// assert_eq!(patterns.points("table"), [2]);
+    /// assert_eq!(Patterns::parse("hy3ph\nhe/2n\n"), Err(PatternsError::Line(2)));
+    /// # Ok::<(), PatternsError>(())
+    /// ```
+    pub fn parse(text: &str) -> Result<Patterns, PatternsError> {
+        or_abort(Patterns::try_parse(text))
+    }
+
+    /// The same, with running out of memory as an error.
+    ///
+    /// # Errors
+    ///
+    /// [`OutOfMemory`] if memory runs out. The result within it is that of [`parse`](Patterns::parse).
+    pub fn try_parse(text: &str) -> Result<Result<Patterns, PatternsError>, OutOfMemory> {
+        let (at, at_len, mut line) = (text.as_ptr(), text.len(), 0);
+        // SAFETY: a `str` with its length, room with its length, and a line, of which nothing else
+        // borrows what is written to; by the header the call writes what it reports.
+        let read = unsafe {
+            listed(guess::patterns(text), |room, room_len, len| {
+                sys::textwrap_patterns_read(at, at_len, room, room_len, len, &mut line)
+            })
+        };
+        match read {
+            Ok(numbers) => Ok(Ok(Patterns::of(fitted(numbers))?)),
+            Err(Refusal::WrongPatterns) => Ok(Err(PatternsError::Line(line))),
+            Err(refusal) => Err(refusal.into()),
+        }
+    }
+
+    /// The patterns of these numbers, which are whole.
+    fn of(numbers: Vec<usize>) -> Result<Patterns, OutOfMemory> {
+        Ok(Patterns { numbers: Shared::of(numbers)?, in_parts: false })
+    }
+
+    /// The patterns as numbers, which [`from_numbers`](Patterns::from_numbers) takes in place of the
+    /// text, in a small part of the time.
+    ///
+    /// They hold no address, so they may be kept in a file, for a machine with the same order of bytes.
+    /// A later version of this crate may refuse them.
+    ///
+    /// # Examples
+    ///
+    /// ```
+    /// use textwrap_proved::hyphens::Patterns;
+    ///
+    /// let patterns = Patterns::parse("ta-ble\n")?;
+    /// let kept: Vec<u8> = patterns.as_numbers().iter().flat_map(|n| n.to_le_bytes()).collect();
+    ///
+    /// let number = |bytes: &[u8]| usize::from_le_bytes(bytes.try_into().unwrap());
+    /// let numbers: Vec<usize> = kept.chunks(size_of::<usize>()).map(number).collect();
+    /// assert_eq!(Patterns::from_numbers(&numbers), Some(patterns));
+    /// # Ok::<(), textwrap_proved::hyphens::PatternsError>(())
+    /// ```
+    pub fn as_numbers(&self) -> &[usize] {
+        &self.numbers
+    }
+
+    /// The patterns of these numbers, which [`as_numbers`](Patterns::as_numbers) gave. They do not tell
+    /// whether words are hyphenated [in parts](Patterns::in_parts); at first they are not.
+    ///
+    /// It is `None` if the numbers are those of another version, or if a sum of all of them tells that
+    /// they were damaged. Where it does not tell, words have other points, but none outside of a word.
+    ///
+    /// # Examples
+    ///
+    /// ```
+    /// use textwrap_proved::hyphens::Patterns;
+    ///
+    /// let patterns = Patterns::parse("ta-ble\n")?;
+    /// let mut numbers = patterns.as_numbers().to_vec();
+    /// assert_eq!(Patterns::from_numbers(&numbers), Some(patterns));
+    /// numbers[2] += 1;
+    /// assert_eq!(Patterns::from_numbers(&numbers), None);
+    /// # Ok::<(), textwrap_proved::hyphens::PatternsError>(())
+    /// ```
+    pub fn from_numbers(numbers: &[usize]) -> Option<Patterns> {
+        or_abort(Patterns::try_from_numbers(numbers))
+    }
+
+    /// The same, with running out of memory as an error.
+    ///
+    /// # Errors
+    ///
+    /// [`OutOfMemory`] if memory runs out.
+    pub fn try_from_numbers(numbers: &[usize]) -> Result<Option<Patterns>, OutOfMemory> {
+        // Each call tests the numbers, also for a word without letters.
+        match points_by(numbers, false, "", 0) {
+            Ok(_) => Ok(Some(Patterns::of(mapped(numbers, usize::clone)?)?)),
+            Err(Refusal::DamagedTable) => Ok(None),
+            Err(refusal) => Err(refusal.into()),
+        }
+    }
+
+    /// Sets whether the parts of a word with hyphens are hyphenated too. Else such a word is split
+    /// behind its hyphens alone.
+    ///
+    /// # Examples
+    ///
+    /// ```
+    /// use textwrap_proved::hyphens::Patterns;
+    /// use textwrap_proved::WordSplitter;
+    ///
+    /// let patterns = Patterns::parse("ta-ble\n")?;
+    /// let splitter = WordSplitter::Patterns(patterns.clone());
+    /// assert_eq!(splitter.split_points("a table-table"), [8]);
+    /// let splitter = WordSplitter::Patterns(patterns.in_parts(true));
+    /// assert_eq!(splitter.split_points("a table-table"), [4, 8, 10]);
+    /// # Ok::<(), textwrap_proved::hyphens::PatternsError>(())
+    /// ```
+    #[must_use]
+    pub fn in_parts(mut self, in_parts: bool) -> Patterns {
+        self.in_parts = in_parts;
+        self
+    }
+
+    /// The offsets in bytes at which a word has a hyphen. They increase, and are character boundaries
+    /// inside the word.
+    ///
+    /// Each longest run of letters is a word for itself, so the word may have quotation marks and
+    /// commas around it. Capital letters count as small ones; soft hyphens (U+00AD) and escape
+    /// sequences are not seen. A word with a hyphen (`-` or U+2010) has points only
+    /// [in parts](Patterns::in_parts).
+    ///
+    /// Each call tests all numbers of the patterns, which takes longer than to find the points of a word.
+    /// The calls on a text do so once where words end at blanks, and else at least once a paragraph.
+    ///
+    /// # Examples
+    ///
+    /// ```
+    /// use textwrap_proved::hyphens::Patterns;
+    ///
+    /// let patterns = Patterns::parse("ta-ble\n")?;
+    /// assert_eq!(patterns.points("(Table),"), [3]);
+    /// assert_eq!(patterns.points("chair"), []);
+    /// # Ok::<(), textwrap_proved::hyphens::PatternsError>(())
+    /// ```
+    pub fn points(&self, word: &str) -> Vec<usize> {
+        or_abort(self.try_points(word))
+    }
+
+    /// The same, with running out of memory as an error.
+    ///
+    /// # Errors
+    ///
+    /// [`OutOfMemory`] if memory runs out.
+    pub fn try_points(&self, word: &str) -> Result<Vec<usize>, OutOfMemory> {
+        // They are no more than the bytes of the word.
+        Ok(points_by(&self.numbers, self.in_parts, word, word.len())?)
+    }
+
+    /// Whether a word has the same points beside others, with its parts hyphenated, as it has by itself:
+    /// no escape sequence begins in it, which might take in what follows, and no hyphen keeps it whole.
+    fn is_joined(&self, word: &str) -> bool {
+        let is_hyphen = |c| matches!(c, '-' | '\u{2010}');
+        !word.contains(|c: char| c.is_control() || (!self.in_parts && is_hyphen(c)))
+    }
+
+    /// The numbers, and how many they are, and whether parts are hyphenated, as C has them.
+    fn to_sys(&self) -> (*const usize, usize, u32) {
+        (self.numbers.as_ptr(), self.numbers.len(), self.in_parts.into())
+    }
+
+    /// The filled text, by options without a function that have words between blanks.
+    pub(crate) fn filled(&self, text: &str, with: &sys::Options) -> Result<String, OutOfMemory> {
+        let (table, table_len, in_parts) = self.to_sys();
+        let guess = guess::filled(text, 4, with);
+        text_by!(guess, textwrap_fill_hyphenated(text; with, table, table_len, in_parts))
+    }
+
+    /// The lines of the text, by such options.
+    pub(crate) fn wrapped<'t>(
+        &self,
+        text: &'t str,
+        with: &sys::Options,
+    ) -> Result<Vec<Cow<'t, str>>, OutOfMemory> {
+        let (table, table_len, in_parts) = self.to_sys();
+        let (lines, bytes) = guess::wrapped(text, with);
+        // Lines with a hyphen are texts of their own too.
+        let bytes = bytes.max(text.len()).saturating_add(lines);
+        lines_by!(lines, bytes, textwrap_wrap_hyphenated(text; with, table, table_len, in_parts))?
+            .cows(text)
+    }
+}
+
+/// The points of a word by the patterns of these numbers, with a guess of how many they are.
+fn points_by(
+    numbers: &[usize],
+    in_parts: bool,
+    word: &str,
+    guess: usize,
+) -> Result<Vec<usize>, Refusal> {
+    let (letters, letters_len) = (word.as_ptr(), word.len());
+    list_by!(guess, textwrap_hyphen_points(numbers; in_parts.into(), letters, letters_len))
+}
+
+/// The points of one word after another, most of them found by one call, for which these words are
+/// joined: each call tests all numbers of the patterns.
+pub(crate) struct JoinedWords<'p> {
+    patterns: &'p Patterns,
+    /// The points of the joined words, in order.
+    points: Vec<usize>,
+    /// How many of the points stand before the next word.
+    used: usize,
+    /// Where the next joined word begins.
+    start: usize,
+}
+
+impl<'p> JoinedWords<'p> {
+    pub fn of<'t>(
+        patterns: &'p Patterns,
+        words: impl Iterator<Item = &'t str> + Clone,
+    ) -> Result<Self, OutOfMemory> {
+        let words = words.filter(|word| patterns.is_joined(word));
+        let mut joined = text_room(words.clone().map(|word| word.len() + 1).sum())?;
+        for word in words {
+            // A blank is no letter, so that no letters of two words come together.
+            joined.push_str(word);
+            joined.push(' ');
+        }
+        // In parts: by patterns that leave words with hyphens whole there is no hyphen in it.
+        let points = points_by(&patterns.numbers, true, &joined, joined.len() / 3)?;
+        Ok(JoinedWords { patterns, points, used: 0, start: 0 })
+    }
+
+    /// The points of the next word of those that were handed in.
+    pub fn points_of_next(&mut self, word: &str) -> Result<Vec<usize>, OutOfMemory> {
+        if !self.patterns.is_joined(word) {
+            return self.patterns.try_points(word);
+        }
+        let (start, end) = (self.start, self.start + word.len());
+        let rest = &self.points[self.used..];
+        let inside = &rest[..rest.iter().take_while(|&&point| point < end).count()];
+        self.used += inside.len();
+        self.start = end + 1;
+        mapped(inside, |point| point - start)
+    }
+}
+
+/// The numbers in room of their length, if they leave much of theirs and there is memory for that.
+fn fitted(numbers: Vec<usize>) -> Vec<usize> {
+    if numbers.len() > numbers.capacity() / 8 * 7 {
+        return numbers;
+    }
+    match room_for(numbers.len()) {
+        Ok(mut copy) => {
+            copy.extend_from_slice(&numbers);
+            copy
+        }
+        Err(_) => numbers,
+    }
+}

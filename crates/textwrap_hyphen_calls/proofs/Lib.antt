@@ -1,0 +1,2 @@
+pub mod PlacedHyphens
+pub mod ReadOptions

@@ -1,0 +1,17 @@
+-- Dictionaries, as C has them.
+use Rattle.std.specs.Prelude.{◌≡◌, ℕ, List, Err, false, true}
+use Rattle.textwrap_hyphens.specs.Parsed.{Holds}
+use Rattle.textwrap_hyphens.specs.Seal.{is_sealed}
+use Rattle.textwrap_hyphens.specs.Table.{held_in}
+use Rattle.textwrap_patterns.specs.Parsing.{parsed}
+use Rattle.textwrap_patterns.specs.declared.errors.Fault.{Fault}
+use Rattle.textwrap_patterns.specs.declared.errors.ParseError.TheVariants.{Line}
+
+-- these numbers say what the text says
+pub record AreNumbersOf (text words : List ℕ) : Type 0 where
+  pub sealed : is_sealed words ≡ true
+  pub says : Holds (parsed text) (held_in words false)
+
+-- this is the first line of the text that is wrong
+abbrev pub IsWrongAt : List ℕ → ℕ → Type 0
+IsWrongAt text line = (fault : Fault) × (parsed text ≡ Err (Line line fault))

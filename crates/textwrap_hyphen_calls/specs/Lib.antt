@@ -1,0 +1,3 @@
+pub mod Dictionaries
+pub mod Hyphenated
+pub mod Status

@@ -542,21 +542,32 @@ static const struct call CALLS[] = {
     {"cut_at_breaks", cut_by_the_function},
 };
 
+static void lend(struct lent *lent) {
+    memset(lent, 7, sizeof *lent);
+    memcpy(lent->text, "foo  bar", 9);
+}
+
 /* How many allocations a call makes, or -1 at a fault: one is refused, then the one after it, until
- * the call meets no refusal. */
+ * the call meets no refusal. A refused call writes nothing, or did without: room that is asked for
+ * before it is needed may be refused, and what is written is the same then. */
 static long refusals_of(const struct call *call) {
+    struct lent whole;
+    lend(&whole);
+    left = 100000;
+    if (call->call(&whole) != TEXTWRAP_DONE) return -1;
     for (long refusals = 0; refusals < 1000; refusals++) {
         struct lent lent, old;
-        memset(&lent, 7, sizeof lent);
-        memcpy(lent.text, "foo  bar", 9);
+        lend(&lent);
         memcpy(&old, &lent, sizeof lent);
         left = refusals;
         refused = false;
         live = 0;
         textwrap_status status = call->call(&lent);
         if (live != 0) return -1;
-        if (!refused) return status == TEXTWRAP_DONE ? refusals : -1;
-        if (status != TEXTWRAP_OUT_OF_MEMORY || memcmp(&lent, &old, sizeof lent) != 0) return -1;
+        bool done = status == TEXTWRAP_DONE && memcmp(&lent, &whole, sizeof lent) == 0;
+        if (!refused) return done ? refusals : -1;
+        bool kept = status == TEXTWRAP_OUT_OF_MEMORY && memcmp(&lent, &old, sizeof lent) == 0;
+        if (!done && !kept) return -1;
     }
     return -1;
 }

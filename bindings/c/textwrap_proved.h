@@ -509,8 +509,9 @@ textwrap_status textwrap_patterns_read(const uint8_t *text, size_t text_len, siz
 
 /* Writes the offsets in bytes at which a word has a hyphen by a dictionary, whose numbers
  * textwrap_patterns_read wrote. They increase, and are character boundaries inside the word. A word with a
- * hyphen has points only if `in_parts` is 1, and none if it is 0. DAMAGED_TABLE if a number is another,
- * or two are exchanged; each call tests that. */
+ * hyphen has points only if `in_parts` is 1, and none if it is 0. DAMAGED_TABLE if the
+ * version or the sum of the numbers is wrong, as where one is another by less than 2^32; each call tests
+ * that. */
 TEXTWRAP_CHECKED
 textwrap_status textwrap_hyphen_points(const size_t *table, size_t table_len, uint32_t in_parts,
                                        const uint8_t *word, size_t word_len, size_t *points,

@@ -8,3 +8,4 @@ pub mod Raised
 pub mod Runs
 pub mod SealLemmas
 pub mod TableOf
+pub mod Told

@@ -8,6 +8,7 @@ use Rattle.textwrap_hyphens.specs.InnerPlaces.{inner_places}
 use Rattle.textwrap_hyphens.specs.Seal.{from_end}
 use Rattle.textwrap_hyphens.specs.declared.dictionary.Patterns.{Patterns}
 use Rattle.textwrap_hyphens.specs.declared.table.PatternTable.{PatternTable}
+use Rattle.textwrap_hyphens.specs.declared.table.PatternTrie.{PatternTrie}
 
 -- what the numbers say of words
 abbrev pub held_in : List ℕ → Bool → Hyphenation
@@ -20,6 +21,10 @@ held_in words in_parts = record {
   right = from_end 2 words;
   in_parts = in_parts;
 }
+
+-- what some patterns say of the levels of a text
+abbrev pub levels_by : PatternTrie → List ℕ → ℕ → ℕ
+levels_by t text place = level_from (take t.longest text) t.words.now t.root place
 
 abbrev pub held : PatternTable → Hyphenation
 held table = held_in table.words.now table.in_parts

@@ -24,7 +24,7 @@ impl Patterns {
     ghost use Rattle.textwrap_patterns.specs.Listed.{pattern_view};
     ghost use Rattle.textwrap_patterns.specs.Parsing.{parsed};
     ghost use Rattle.textwrap_hyphens.specs.Parsed.{IsParsed};
-    ghost use Rattle.textwrap_hyphens.specs.Table.{held, patterns_view};
+    ghost use Rattle.textwrap_hyphens.specs.Table.{held, held_in, patterns_view};
 
     /// A dictionary of these patterns and exceptions, in any order. A point has at least `left`
     /// letters before it and `right` behind it, 2 and 3 in American English, for which apostrophes
@@ -102,6 +102,15 @@ impl Patterns {
     pub fn table(&self) -> PatternTable<'_>
         ensures { held result ≡ patterns_view self.now }
     {
-        PatternTable::held_by(&self.words, self.in_parts)
+        PatternTable::of_unchecked(&self.words, self.in_parts)
+    }
+
+    /// The numbers of the dictionary, from which [`PatternTable::of`] makes it again. The call always
+    /// succeeds.
+    pub fn words(&self) -> &[usize]
+        ensures held { patterns_view self.now ≡ held_in result.now (patterns_view self.now).in_parts }
+        ensures sealed { is_sealed result.now ≡ true }
+    {
+        &self.words
     }
 }

@@ -2,9 +2,9 @@
 ghost use Rattle.std.specs.Prelude.{◌≡◌, ℕ, ◌+◌, ◌*◌, ◌<◌, ◌≤◌, length, max, slice_index, IfOk};
 ghost use Rattle.textwrap_base.specs.Minima.{counted};
 ghost use Rattle.textwrap_hyphens.specs.Levels.{dotted, level, levels_of};
-ghost use Rattle.textwrap_hyphens.specs.Table.{held};
+ghost use Rattle.textwrap_hyphens.specs.Table.{held, levels_by};
 
-use crate::table::PatternTable;
+use crate::table::{PatternTable, PatternTrie};
 use std::alloc::{AllocError, Allocator};
 use textwrap_base::minima::Steps;
 
@@ -48,22 +48,16 @@ pub fn levels_counted<A: Allocator + Copy>(
 {
     let dotted = dotted(alloc, letters)?;
     let mut levels = vec![in alloc; 0; dotted.len() + 1]?;
-    raise_all(&mut levels, &dotted, patterns, lookups);
+    raise_all(&mut levels, &dotted, &patterns.patterns(), lookups);
     Ok(levels)
 }
 
 /// Raises the levels of all places of a dotted word to those that its patterns give them.
-fn raise_all(
-    levels: &mut [usize],
-    dotted: &[char],
-    patterns: &PatternTable<'_>,
-    lookups: &mut Steps,
-)
+fn raise_all(levels: &mut [usize], dotted: &[char], patterns: &PatternTrie<'_>, lookups: &mut Steps)
     requires { length levels.old ≡ length dotted.now + 1 }
     ensures levels { (k : ℕ) → k < length levels.old → slice_index levels.new k
-        ≡ max (slice_index levels.old k) (level (held patterns.now).level_from dotted.now k) }
-    ensures lookups { lookups.new ≤ counted lookups.old
-        (length dotted.now * (held patterns.now).longest) }
+        ≡ max (slice_index levels.old k) (level (levels_by patterns.now) dotted.now k) }
+    ensures lookups { lookups.new ≤ counted lookups.old (length dotted.now * patterns.now.longest) }
     ensures never_less { lookups.old ≤ lookups.new }
 {
     for at in 0..levels.len() {

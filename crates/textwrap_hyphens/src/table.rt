@@ -5,13 +5,14 @@ ghost use Rattle.textwrap_base.specs.Minima.{counted};
 ghost use Rattle.textwrap_patterns.specs.Places.{AreInnerPlaces};
 ghost use Rattle.textwrap_hyphens.specs.InnerPlaces.{inner_places};
 ghost use Rattle.textwrap_hyphens.specs.Seal.{from_end, is_sealed, sum_of};
+ghost use Rattle.textwrap_hyphens.specs.Table.{held, levels_by};
 
 use textwrap_base::minima::Steps;
 use textwrap_patterns::written::are_inner;
 use textwrap_trie::lookup::{numbers_for, raise_levels};
 
 /// What the first number of a table says: "Twh", and a number that is raised where the layout changes.
-pub(crate) const VERSION: usize = 0x5477_6801;
+pub(crate) const VERSION: usize = 0x5477_6802;
 
 /// A dictionary of hyphenation in numbers that somebody holds. They hold no address of memory, so
 /// they may be copied, and kept in a file.
@@ -19,16 +20,15 @@ pub(crate) const VERSION: usize = 0x5477_6801;
 pub struct PatternTable<'t> {
     words: &'t [usize],
     in_parts: bool,
-    ghost sealed: { is_sealed words.now ≡ true },
 }
 
 impl<'t> PatternTable<'t> {
     ghost use Rattle.textwrap_hyphens.specs.Table.{held, held_in};
 
     /// The dictionary of these numbers, as [`PatternTable::words`] has them. `None` where they are
-    /// none of this version, or were damaged: where one of them is another, or two are exchanged.
-    /// `in_parts` says whether the parts of a word with hyphens are hyphenated. The call always
-    /// succeeds; it reads all numbers.
+    /// none of this version, or where the sum at their end is wrong, as it is where one number became
+    /// another. `in_parts` says whether the parts of a word with hyphens are hyphenated. The call
+    /// always succeeds; it reads all numbers.
     pub fn of(words: &'t [usize], in_parts: bool) -> Option<PatternTable<'t>>
         ensures { MatchOption result (is_sealed words.now ≡ false)
             (λ table. (is_sealed words.now ≡ true) × (held table ≡ held_in words.now in_parts)) }
@@ -40,8 +40,10 @@ impl<'t> PatternTable<'t> {
         }
     }
 
-    pub(crate) fn held_by(words: &'t [usize], in_parts: bool) -> PatternTable<'t>
-        requires { is_sealed words.now ≡ true }
+    /// The dictionary of these numbers, where the caller knows that they are one of this version. It
+    /// reads none of them. Numbers that are no dictionary give points that mean nothing, but nothing
+    /// outside of them is read. The call always succeeds.
+    pub fn of_unchecked(words: &'t [usize], in_parts: bool) -> PatternTable<'t>
         ensures { held result ≡ held_in words.now in_parts }
     {
         PatternTable { words, in_parts }
@@ -50,8 +52,7 @@ impl<'t> PatternTable<'t> {
     /// The numbers of the dictionary, from which [`PatternTable::of`] makes it again. The call always
     /// succeeds.
     pub fn words(&self) -> &'t [usize]
-        ensures held { held self.now ≡ held_in result.now (held self.now).in_parts }
-        ensures sealed { is_sealed result.now ≡ true }
+        ensures { held self.now ≡ held_in result.now (held self.now).in_parts }
     {
         self.words
     }
@@ -88,18 +89,38 @@ impl<'t> PatternTable<'t> {
         }
     }
 
+    /// Where its patterns stand.
+    pub(crate) fn patterns(&self) -> PatternTrie<'t>
+        ensures levels { levels_by result ≡ (held self.now).level_from }
+        ensures longest { result.longest ≡ (held self.now).longest }
+    {
+        PatternTrie {
+            words: self.words,
+            root: from_end(self.words, 5),
+            longest: from_end(self.words, 4),
+        }
+    }
+}
+
+/// The patterns of a dictionary: a trie, and how many letters the longest of them has.
+#[derive(Clone, Copy, Debug)]
+pub(crate) struct PatternTrie<'t> {
+    words: &'t [usize],
+    root: usize,
+    longest: usize,
+}
+
+impl PatternTrie<'_> {
     /// Raises levels to those of the patterns at the beginning of a text. For each letter with which
     /// some pattern goes on, that is looked up once.
     pub(crate) fn raise_from(&self, levels: &mut [usize], text: &[char], lookups: &mut Steps)
         ensures levels { (k : ℕ) → k < length levels.old → slice_index levels.new k
-            ≡ max (slice_index levels.old k) ((held self.now).level_from text.now k) }
-        ensures lookups { lookups.new ≤ counted lookups.old
-            (min (length text.now) (held self.now).longest) }
+            ≡ max (slice_index levels.old k) (levels_by self.now text.now k) }
+        ensures lookups { lookups.new ≤ counted lookups.old (min (length text.now) self.now.longest) }
         ensures never_less { lookups.old ≤ lookups.new }
     {
-        let longest = from_end(self.words, 4);
-        let text = &text[..longest.min(text.len())];
-        raise_levels(self.words, from_end(self.words, 5), text, levels, lookups);
+        let text = &text[..self.longest.min(text.len())];
+        raise_levels(self.words, self.root, text, levels, lookups);
     }
 }
 
@@ -124,8 +145,8 @@ fn from_end(words: &[usize], n: usize) -> usize
     if at < words.len() { words[at] } else { 0 }
 }
 
-/// Whether the version and the sum of numbers are right.
-fn is_sealed(words: &[usize]) -> bool
+/// Whether the version and the sum of numbers are right. It reads all numbers.
+pub fn is_sealed(words: &[usize]) -> bool
     ensures { result ≡ is_sealed words.now }
 {
     words.len() >= 7
@@ -133,13 +154,13 @@ fn is_sealed(words: &[usize]) -> bool
         && from_end(words, 1) == sum_of(&words[..words.len() - 1])
 }
 
-/// The sum of numbers, each times its place, the first of which is 1, in 64 bits.
+/// The sum of numbers, in 64 bits, which is tripled before each is added.
 pub(crate) fn sum_of(words: &[usize]) -> usize
     ensures { result ≡ sum_of words.now }
 {
     let mut sum: usize = 0;
-    for (i, word) in words.iter().enumerate() {
-        sum = sum.wrapping_add(word.wrapping_mul(i + 1));
+    for word in words {
+        sum = sum.wrapping_mul(3).wrapping_add(*word);
     }
     sum
 }

@@ -1,6 +1,6 @@
 use Rattle.textwrap_text.proofs.Common.{take_at}
 use Rattle.std.proofs.lemmas.List.{get_or-replicate}
-use Rattle.textwrap_hyphens.proofs.Common.{arith, ap, drop, get_or, length, ◌+◌}
+use Rattle.textwrap_hyphens.proofs.Common.{arith, ap, drop, get_or, length, level, max, ◌+◌}
 use Rattle.textwrap_hyphens.proofs.Common.{◌∙◌}
 use Rattle.textwrap_hyphens.proofs.Raised.{levels-all}
 use Rattle.textwrap_hyphens.specs.Table.{held}
@@ -25,4 +25,6 @@ returns-clause-levels g c =
     (omega (arith, ok, ap length same, len, c.len.ensures, c.deref.ensures.len))
     (λ k within. ap (λ l. get_or l k 0) each ∙ get_or-replicate (c.len.result + 1) k 0 0
     (omega (arith, within, ok, ap length same, len)))
-    size c.raise_all.ensures.levels
+    size
+    (λ k within. c.raise_all.ensures.levels k within
+    ∙ ap (λ from. max (get_or zeros k 0) (level from ds k)) c.patterns.ensures.levels)

@@ -10,7 +10,7 @@ use Rattle.textwrap_hyphens.proofs.Raised.{level_before}
 use Rattle.textwrap_text.proofs.Common.{◌*◌}
 use Rattle.textwrap_hyphens.proofs.Common.{min}
 use Rattle.textwrap_hyphens.proofs.Lookups.{counted-both, lookups-more}
-use Rattle.textwrap_hyphens.specs.Table.{held}
+use Rattle.textwrap_hyphens.specs.Table.{levels_by}
 use Rattle.textwrap_hyphens.proofs.levels.raise_all.Goals as goal
 
 pub loop-at-init : goal.loop-at-init
@@ -19,7 +19,7 @@ loop-at-init c = record {
       omega (
         arith,
         before-none
-            (held c.args.patterns.now).level_from c.args.dotted.now k,
+            (levels_by c.args.patterns.now) c.args.dotted.now k,
       );
   lookups = omega arith;
   never_less = omega arith;
@@ -28,10 +28,10 @@ loop-at-init c = record {
 pub loop-at-preserved : goal.loop-at-preserved
 loop-at-preserved c =
     let text = c.args.dotted.now in
-    let most = (held c.args.patterns.now).longest in
+    let most = c.args.patterns.now.longest in
     record {
       levels = λ k within.
-          let from = (held c.args.patterns.now).level_from in
+          let from = (levels_by c.args.patterns.now) in
           let ds = c.args.dotted.now in
           let at = c.loop-at.at in
           let old = c.loop-at.levels in
@@ -84,7 +84,7 @@ loop-at-preserved c =
 
 pub returns-clause-levels : goal.returns-clause-levels
 returns-clause-levels c = λ k within.
-    let all = before-all (held c.args.patterns.now).level_from
+    let all = before-all (levels_by c.args.patterns.now)
     c.args.dotted.now c.loop-at.at k
     (omega (arith, within, c.loop-at-test.false)) in
     omega (arith, all, c.loop-at.invariant.levels k (omega (arith, within, c.loop-at.auto.levels)))
@@ -92,7 +92,7 @@ returns-clause-levels c = λ k within.
 pub returns-clause-lookups : goal.returns-clause-lookups
 returns-clause-lookups c =
     let text = c.args.dotted.now in
-    let most = (held c.args.patterns.now).longest in
+    let most = c.args.patterns.now.longest in
     let all : min c.loop-at.at (length text) ≡ length text = omega
     (arith, c.requires, c.loop-at-test.false, c.loop-at.auto.at-end, c.loop-at.auto.levels) in
     rw all at c.loop-at.invariant.lookups

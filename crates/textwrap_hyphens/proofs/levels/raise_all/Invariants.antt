@@ -3,7 +3,7 @@ use Rattle.textwrap_hyphens.proofs.Raised.{level_before}
 use Rattle.textwrap_base.specs.Minima.{counted}
 use Rattle.textwrap_hyphens.proofs.Common.{min, ◌≤◌}
 use Rattle.textwrap_text.proofs.Common.{◌*◌}
-use Rattle.textwrap_hyphens.specs.Table.{held}
+use Rattle.textwrap_hyphens.specs.Table.{levels_by}
 use Rattle.textwrap_hyphens.proofs.levels.raise_all.Given as goal
 
 -- levels are raised to those of the patterns that stand at the places before this one, and at each of
@@ -13,8 +13,8 @@ invariant-loop-at l =
     record {
       levels : (k : ℕ) → k < length l.levels
           → get_or l.levels k 0 ≡ max (get_or l.initial.levels k 0)
-          (level_before (held l.patterns).level_from l.dotted l.at k);
+          (level_before (levels_by l.patterns) l.dotted l.at k);
       lookups : l.lookups ≤ counted l.initial.lookups
-          (min l.at (length l.dotted) * (held l.patterns).longest);
+          (min l.at (length l.dotted) * l.patterns.longest);
       never_less : l.initial.lookups ≤ l.lookups;
     }

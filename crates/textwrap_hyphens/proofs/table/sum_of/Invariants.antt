@@ -1,9 +1,7 @@
-use Rattle.textwrap_hyphens.proofs.Common.{drop, ◌+◌, ◌≡◌}
-use Rattle.std.specs.Prelude.{◌%◌, ◌^◌}
-use Rattle.textwrap_hyphens.specs.Seal.{sum_of, weighted}
+use Rattle.textwrap_hyphens.proofs.Common.{drop, ◌≡◌}
+use Rattle.textwrap_hyphens.specs.Seal.{sum_of, summed}
 use Rattle.textwrap_hyphens.proofs.table.sum_of.Given as goal
 
 -- the sum so far, with what is to come
-abbrev pub invariant-loop-i : goal.invariant-loop-i
-invariant-loop-i l =
-    (l.sum + weighted (l.i + 1) (drop l.i l.words)) % 2 ^ 64 ≡ sum_of l.words
+abbrev pub invariant-loop-word : goal.invariant-loop-word
+invariant-loop-word l = summed l.sum (drop l.word-index l.words) ≡ sum_of l.words

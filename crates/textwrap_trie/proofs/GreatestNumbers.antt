@@ -4,6 +4,11 @@ use Rattle.std.proofs.lemmas.List.Sorted.{All-permutation, IsPermutation-sym}
 use Rattle.textwrap_text.proofs.Common.{ap, arith, get_or, length, List, map, map-append, max}
 use Rattle.textwrap_text.proofs.Common.{take, take_more, ℕ, ◌+◌, ◌++◌, ◌<◌, ◌∙◌, ◌∷◌, ◌≡◌, []}
 use Rattle.textwrap_text.proofs.Common.{get_or_past, All, All-cons, All-head, All-tail, ◌≤◌}
+use Rattle.textwrap_text.proofs.Common.{cases_lt, drop, get_or-drop, get_or_append_left, inl, inr}
+use Rattle.textwrap_text.proofs.Common.{ap₂, cond, IfOk, min, refl, Result, ◌-◌}
+use Rattle.std.proofs.Common.{Err, Ok}
+use Rattle.std.specs.Prelude.{is_ok}
+use Rattle.std.proofs.lemmas.List.{get_or-append_right}
 use Rattle.textwrap_trie.specs.Merging.{first_numbers, greatest}
 use Rattle.textwrap_trie.specs.declared.entries.Entry.{Entry}
 
@@ -62,3 +67,41 @@ greatest-permutation f xs ys moved =
     let one = greatest-moved f xs ys moved in
     let two = greatest-moved f ys xs (IsPermutation-sym xs ys moved) in
     omega (arith, one, two)
+
+-- ---- raised, and appended
+
+-- numbers that are raised to others, as far as both go, before the rest of the others
+pub raised-appended : (old raised others : List ℕ) (len place : ℕ)
+    → length raised ≡ length old → len ≡ min (length raised) (length others)
+    → ((k : ℕ) → k < length old → get_or raised k 0 ≡ max (get_or old k 0) (get_or others k 0))
+    → get_or (raised ++ drop len others) place 0 ≡ max (get_or old place 0) (get_or others place 0)
+raised-appended old raised others len place same is are = elim (cases_lt place (length raised)) [
+  | inl within ↦ get_or_append_left raised (drop len others) 0 place within
+      ∙ are place (omega (arith, within, same))
+  | inr past ↦
+      let none = get_or_past old place 0 (omega (arith, past, same)) in
+      let at = get_or-append_right raised (drop len others) (length raised) place 0 refl past
+      ∙ get_or-drop len others (place - length raised) 0 in
+      elim (cases_lt (length others) (length raised)) [
+        | inl short ↦
+            let one = get_or_past others (len + (place - length raised)) 0
+            (omega (arith, is, past, short)) in
+            let two = get_or_past others place 0 (omega (arith, past, short)) in
+            omega (arith, none, at, one, two)
+        | inr long ↦
+            let here : len + (place - length raised) ≡ place = omega (arith, is, past, long) in
+            omega (arith, none, at, ap (λ n. get_or others n 0) here)
+      ]
+]
+
+-- what a call leaves that appends the rest of the others
+pub if_ok-appended : {E : Type 0} (r : Result (Unit {0}) E) (old raised others rest : List ℕ)
+    (len : ℕ) (was now : List ℕ) → was ≡ raised → rest ≡ drop len others
+    → now ≡ cond (is_ok r) (was ++ rest) was → length raised ≡ length old
+    → len ≡ min (length raised) (length others)
+    → ((k : ℕ) → k < length old → get_or raised k 0 ≡ max (get_or old k 0) (get_or others k 0))
+    → IfOk r (λ done. (place : ℕ) → get_or now place 0 ≡ max (get_or old place 0) (get_or others place 0))
+if_ok-appended (Ok done) old raised others rest len was now is of after same min are = λ place.
+    ap (λ l. get_or l place 0) (after ∙ ap₂ (λ xs ys. xs ++ ys) is of)
+    ∙ raised-appended old raised others len place same min are
+if_ok-appended (Err e) old raised others rest len was now is of after same min are = tt

@@ -2,8 +2,9 @@
 ghost use Rattle.std.specs.Prelude.{◌≡◌, ℕ, ◌<◌, ◌≤◌, length, max, None, Some, MatchOption, slice_index};
 ghost use Rattle.textwrap_base.specs.Minima.{counted};
 ghost use Rattle.textwrap_trie.specs.Trie.{child_of, level_at, level_from, numbers_for, numbers_of};
+ghost use Rattle.textwrap_trie.specs.Trie.{window_child};
 
-use crate::numbers::{behind_letter, number_at, numbers_at};
+use crate::numbers::{behind_letter, number_at, number_from, numbers_at, raise};
 use textwrap_base::minima::Steps;
 
 /// The numbers of a key below a node, or `None` where the trie does not have that key. The call
@@ -70,26 +71,31 @@ fn raise_to(levels: &mut [usize], words: &[usize], node: usize)
     }
 }
 
-/// Raises each level to the number at its place.
-#[inline]
-fn raise(levels: &mut [usize], numbers: &[usize])
-    ensures { (k : ℕ) → k < length levels.old → slice_index levels.new k
-        ≡ max (slice_index levels.old k) (slice_index numbers.now k) }
-{
-    let len = levels.len().min(numbers.len());
-    for i in 0..len {
-        if levels[i] < numbers[i] {
-            levels[i] = numbers[i];
-        }
-    }
-}
-
 /// The child of a node for a letter, or 0.
 #[inline]
 fn child_of(words: &[usize], node: usize, letter: char) -> usize
     ensures { result ≡ child_of words.now node letter }
 {
-    behind_letter(numbers_at(words, node.saturating_add(1)), letter as usize)
+    // past the end there is no node, so its places are no further than the end
+    if node >= words.len() {
+        return 0;
+    }
+    match window_child(words, number_at(words, node + 1), letter as usize) {
+        Some(child) => child,
+        None => behind_letter(numbers_at(words, node + 2), letter as usize),
+    }
+}
+
+/// The child that a window has for a letter, or `None` where the letter does not lie in it. The
+/// place 0 stands for no window.
+#[inline]
+fn window_child(words: &[usize], window: usize, letter: usize) -> Option<usize>
+    ensures { result ≡ window_child words.now window letter }
+{
+    if window == 0 || window >= words.len() {
+        return None;
+    }
+    number_from(words[window], numbers_at(words, window + 1), letter)
 }
 
 /// The numbers that a node has, or `None`.

@@ -8,6 +8,7 @@ ghost use Rattle.textwrap_trie.specs.Trie.{level_from, numbers_for};
 ghost use Rattle.textwrap_trie.specs.declared.merging.Rule.TheVariants.{First, Greatest};
 
 use crate::entries::Entry;
+use crate::numbers::raise;
 use crate::writing::push_trie;
 use std::alloc::{AllocError, Global};
 
@@ -103,7 +104,7 @@ fn merged_group(alloc: Global, group: &[Entry], rule: Rule) -> Result<Entry, All
     numbers.extend_from_slice(&group[0].numbers)?;
     if rule == Rule::Greatest {
         for entry in group {
-            raise(&mut numbers, &entry.numbers)?;
+            raise_and_append(&mut numbers, &entry.numbers)?;
         }
     }
     Ok(Entry { key, numbers })
@@ -113,16 +114,12 @@ fn merged_group(alloc: Global, group: &[Entry], rule: Rule) -> Result<Entry, All
 ///
 /// # Errors
 /// [`AllocError`] where memory runs out.
-fn raise(numbers: &mut Vec<usize>, others: &[usize]) -> Result<(), AllocError>
+fn raise_and_append(numbers: &mut Vec<usize>, others: &[usize]) -> Result<(), AllocError>
     ensures { IfOk result (λ done. (place : ℕ) → slice_index numbers.new.items place
         ≡ max (slice_index numbers.old.items place) (slice_index others.now place)) }
 {
+    raise(numbers.as_mut_slice(), others);
     let len = numbers.as_slice().len().min(others.len());
-    for i in 0..len {
-        if numbers[i] < others[i] {
-            numbers[i] = others[i];
-        }
-    }
     numbers.extend_from_slice(&others[len..])
 }
 

@@ -1,6 +1,6 @@
 //! Lists of numbers within one, each behind its length.
-ghost use Rattle.std.specs.Prelude.{◌≡◌, slice_index};
-ghost use Rattle.textwrap_trie.specs.Trie.{behind_letter, numbers_at};
+ghost use Rattle.std.specs.Prelude.{◌≡◌, ℕ, ◌<◌, length, max, slice_index};
+ghost use Rattle.textwrap_trie.specs.Trie.{behind_letter, number_from, numbers_at};
 
 /// The number at a place, or 0 past the end.
 #[inline]
@@ -36,4 +36,30 @@ pub(crate) fn behind_letter(children: &[usize], letter: usize) -> usize
         }
     }
     0
+}
+
+/// The number of a letter, in those of letters that follow one another from a first one on, or `None`
+/// where it is none of these.
+#[inline]
+pub(crate) fn number_from(first: usize, numbers: &[usize], letter: usize) -> Option<usize>
+    ensures { result ≡ number_from first numbers.now letter }
+{
+    if letter < first {
+        return None;
+    }
+    numbers.get(letter - first).copied()
+}
+
+/// Raises each number to the other at its place, as far as both lists go.
+#[inline]
+pub(crate) fn raise(numbers: &mut [usize], others: &[usize])
+    ensures { (k : ℕ) → k < length numbers.old → slice_index numbers.new k
+        ≡ max (slice_index numbers.old k) (slice_index others.now k) }
+{
+    let len = numbers.len().min(others.len());
+    for i in 0..len {
+        if numbers[i] < others[i] {
+            numbers[i] = others[i];
+        }
+    }
 }

@@ -1,11 +1,18 @@
 //! A trie, written.
-ghost use Rattle.std.specs.Prelude.{◌≡◌, ◌+◌, ◌<◌, ◌≤◌, [], ◌∷◌, ◌++◌, All, length, IfOk};
+ghost use Rattle.std.specs.Prelude.{◌≡◌, ℕ, ◌+◌, ◌<◌, ◌≤◌, [], ◌∷◌, ◌++◌, All, length, IfOk};
+ghost use Rattle.std.specs.Prelude.{slice_index};
 ghost use Rattle.textwrap_trie.specs.Entries.{AreSortedFrom, entry_for};
-ghost use Rattle.textwrap_trie.specs.Writing.{HaveRisingLetters, IsList, IsNodeOf, IsTrie};
-ghost use Rattle.textwrap_trie.specs.Writing.{letters_and_nodes};
+ghost use Rattle.textwrap_trie.specs.Writing.{HaveRisingLetters, IsList, IsNodeOf, IsTrie, IsWindow};
+ghost use Rattle.textwrap_trie.specs.Writing.{child_for, letters_and_nodes, window_letters};
 
 use crate::entries::{Entry, ended_len, group_len};
 use std::alloc::{AllocError, Global};
+
+/// A node with at least as many children has a window.
+const WIDE: usize = 8;
+
+/// How many letters a window has.
+const WINDOW_LETTERS: usize = 64;
 
 /// A letter, and the place of a node.
 #[derive(Clone, Copy, Debug)]
@@ -74,7 +81,7 @@ fn push_list(words: &mut Vec<usize>, numbers: &[usize]) -> Result<usize, AllocEr
     Ok(place)
 }
 
-/// Appends a node. Returns its place.
+/// Appends a node, behind its window if it has one. Returns its place.
 fn push_node(
     alloc: Global,
     words: &mut Vec<usize>,
@@ -85,8 +92,10 @@ fn push_node(
     ensures { IfOk result (λ node. IsNodeOf numbers children.now words.old.items
         words.new.items node) }
 {
+    let window = push_window(alloc, words, children)?;
     let node = words.as_slice().len();
     words.push(numbers)?;
+    words.push(window)?;
     let list = letters_and_nodes(alloc, children)?;
     push_list(words, &list)?;
     Ok(node)
@@ -103,4 +112,52 @@ fn letters_and_nodes(alloc: Global, children: &[Child]) -> Result<Vec<usize>, Al
     let nodes: Vec<usize> = children.iter().map(|child| child.node).collect(alloc)?;
     list.extend_from_slice(&nodes)?;
     Ok(list)
+}
+
+/// Appends the window of a node that has many children. Returns its place, or 0 where there are few.
+/// A letter is asked of the children where it does not lie in the window, so it makes no difference
+/// to what is found which letters these are: half of them stand on each side of the middle child.
+fn push_window(
+    alloc: Global,
+    words: &mut Vec<usize>,
+    children: &[Child],
+) -> Result<usize, AllocError>
+    ensures { IfOk result (λ window. IsWindow children.now words.old.items words.new.items window) }
+{
+    if children.len() < WIDE {
+        return Ok(0);
+    }
+    let middle = children[children.len() / 2].letter as u32;
+    let first = middle.saturating_sub(WINDOW_LETTERS as u32 / 2);
+    let nodes = nodes_from(alloc, children, first)?;
+    let window = words.as_slice().len();
+    words.push(first as usize)?;
+    push_list(words, &nodes)?;
+    Ok(window)
+}
+
+/// The nodes of the children for the letters of a window, from the first of these on, with 0 for each
+/// that has none.
+fn nodes_from(alloc: Global, children: &[Child], first: u32) -> Result<Vec<usize>, AllocError>
+    ensures letters { IfOk result (λ nodes. length nodes.items ≡ window_letters) }
+    ensures nodes { IfOk result (λ nodes. (k : ℕ) → k < window_letters
+        → slice_index nodes.items k ≡ child_for children.now (first + k)) }
+{
+    let mut nodes = Vec::new(alloc);
+    for k in 0..WINDOW_LETTERS {
+        nodes.push(child_for(children, first as usize + k))?;
+    }
+    Ok(nodes)
+}
+
+/// The node of the first child with a letter, or 0.
+fn child_for(children: &[Child], letter: usize) -> usize
+    ensures { result ≡ child_for children.now letter }
+{
+    for child in children {
+        if child.letter as usize == letter {
+            return child.node;
+        }
+    }
+    0
 }

@@ -12,7 +12,7 @@ loop-entry-preserved c = λ place.
     let more = greatest-more f c.args.group.now c.loop-entry.entry-index c.entry-item.result
     (omega arith) c.entry-item.is in
     let other = ap (λ (l : _). get_or l place 0) c.deref-in-loop-entry.ensures.value in
-    omega (arith, more, other, c.loop-entry.invariant place, c.in_ok-raise.ensures place)
+    omega (arith, more, other, c.loop-entry.invariant place, c.in_ok-raise_and_append.ensures place)
 
 pub returns-clause-greatest : goal.returns-clause-greatest
 returns-clause-greatest c = λ rule place.

@@ -178,14 +178,14 @@ fn read_table<'a>(columns: usize, width: usize, given: &TextwrapGaps<'a>) -> Opt
 }
 
 /// Whether the numbers in reserve are 0.
-pub(crate) fn are_known_gaps(gaps: &TextwrapGaps<'_>) -> bool
+pub fn are_known_gaps(gaps: &TextwrapGaps<'_>) -> bool
     ensures { result ≡ true ↔ AreKnownGaps gaps.now }
 {
     gaps.reserved_sizes == [0; 4]
 }
 
 /// The gaps as the library has them, if they are UTF-8.
-pub(crate) fn read_gaps<'a>(given: &TextwrapGaps<'a>) -> Option<Gaps<'a>>
+pub fn read_gaps<'a>(given: &TextwrapGaps<'a>) -> Option<Gaps<'a>>
     ensures gaps { IfSome result (λ gaps. gaps_view gaps ≡ row_gaps given.now) }
     ensures some { IfSome result (λ _. AreTextGaps given.now) }
     ensures none { IfNone result (¬ AreTextGaps given.now) }
@@ -198,10 +198,10 @@ pub(crate) fn read_gaps<'a>(given: &TextwrapGaps<'a>) -> Option<Gaps<'a>>
 }
 
 /// The rows, placed as lines of their own.
-pub(crate) fn place_rows(
-    alloc: Global,
-    rows: Vec<String>,
-) -> Result<PlacedLines<Global>, AllocError>
+///
+/// # Errors
+/// Out of memory.
+pub fn place_rows(alloc: Global, rows: Vec<String>) -> Result<PlacedLines<Global>, AllocError>
     ensures { IfOk result (λ placed. ArePlacedRows (map string_bytes rows.items)
         placed.places.items placed.built.items) }
 {

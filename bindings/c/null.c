@@ -43,9 +43,12 @@ PROVED(table);
 PROVED(table_of_lines);
 PROVED(fitting_widths);
 PROVED(patterns_read);
+PROVED(patterns_check);
 PROVED(hyphen_points);
 PROVED(fill_hyphenated);
+PROVED(refill_hyphenated);
 PROVED(wrap_hyphenated);
+PROVED(wrap_columns_hyphenated);
 PROVED(wrap_first_fit);
 PROVED(wrap_optimal_fit);
 PROVED(pieces);
@@ -104,6 +107,13 @@ static textwrap_gaps some_gaps(const textwrap_gaps *gaps) {
     some.left = some_text(gaps->left);
     some.middle = some_text(gaps->middle);
     some.right = some_text(gaps->right);
+    return some;
+}
+
+/* The dictionary, with numbers that are not null. */
+static textwrap_dictionary some_dictionary(const textwrap_dictionary *dictionary) {
+    textwrap_dictionary some = *dictionary;
+    if (some.numbers_len == 0) some.numbers = (const size_t *)&nothing;
     return some;
 }
 
@@ -372,30 +382,58 @@ textwrap_status textwrap_patterns_read(const uint8_t *text, size_t text_len, siz
     return proved_patterns_read(ARRAY(text, text_len), ARRAY(room, room_len), len, line);
 }
 
-textwrap_status textwrap_hyphen_points(const size_t *table, size_t table_len, uint32_t in_parts,
-                                       const uint8_t *word, size_t word_len, size_t *points,
-                                       size_t points_len, size_t *count) {
-    return proved_hyphen_points(ARRAY(table, table_len), in_parts, ARRAY(word, word_len),
-                                ARRAY(points, points_len), count);
+textwrap_status textwrap_patterns_check(const size_t *numbers, size_t numbers_len) {
+    return proved_patterns_check(ARRAY(numbers, numbers_len));
+}
+
+textwrap_status textwrap_hyphen_points(const textwrap_dictionary *dictionary, const uint8_t *word,
+                                       size_t word_len, size_t *points, size_t points_len,
+                                       size_t *count) {
+    textwrap_dictionary known = some_dictionary(dictionary);
+    return proved_hyphen_points(&known, ARRAY(word, word_len), ARRAY(points, points_len), count);
 }
 
 textwrap_status textwrap_fill_hyphenated(const uint8_t *text, size_t text_len,
-                                         const textwrap_options *options, const size_t *table,
-                                         size_t table_len, uint32_t in_parts, uint8_t *room,
+                                         const textwrap_options *options,
+                                         const textwrap_dictionary *dictionary, uint8_t *room,
                                          size_t room_len, size_t *len) {
     textwrap_options some = some_options(options);
-    return proved_fill_hyphenated(ARRAY(text, text_len), &some, ARRAY(table, table_len), in_parts,
-                                  ARRAY(room, room_len), len);
+    textwrap_dictionary known = some_dictionary(dictionary);
+    return proved_fill_hyphenated(ARRAY(text, text_len), &some, &known, ARRAY(room, room_len), len);
+}
+
+textwrap_status textwrap_refill_hyphenated(const uint8_t *text, size_t text_len,
+                                           const textwrap_options *options,
+                                           const textwrap_dictionary *dictionary, uint8_t *room,
+                                           size_t room_len, size_t *len) {
+    textwrap_options some = some_options(options);
+    textwrap_dictionary known = some_dictionary(dictionary);
+    return proved_refill_hyphenated(ARRAY(text, text_len), &some, &known, ARRAY(room, room_len), len);
 }
 
 textwrap_status textwrap_wrap_hyphenated(const uint8_t *text, size_t text_len,
-                                         const textwrap_options *options, const size_t *table,
-                                         size_t table_len, uint32_t in_parts, textwrap_line *lines,
+                                         const textwrap_options *options,
+                                         const textwrap_dictionary *dictionary, textwrap_line *lines,
                                          size_t lines_len, size_t *count, uint8_t *room,
                                          size_t room_len, size_t *len) {
     textwrap_options some = some_options(options);
-    return proved_wrap_hyphenated(ARRAY(text, text_len), &some, ARRAY(table, table_len), in_parts,
-                                  ARRAY(lines, lines_len), count, ARRAY(room, room_len), len);
+    textwrap_dictionary known = some_dictionary(dictionary);
+    return proved_wrap_hyphenated(ARRAY(text, text_len), &some, &known, ARRAY(lines, lines_len), count,
+                                  ARRAY(room, room_len), len);
+}
+
+textwrap_status textwrap_wrap_columns_hyphenated(const uint8_t *text, size_t text_len,
+                                                 size_t columns, const textwrap_options *options,
+                                                 const textwrap_gaps *gaps,
+                                                 const textwrap_dictionary *dictionary,
+                                                 textwrap_line *rows, size_t rows_len,
+                                                 size_t *count, uint8_t *room, size_t room_len,
+                                                 size_t *len) {
+    textwrap_options some = some_options(options);
+    textwrap_gaps around = some_gaps(gaps);
+    textwrap_dictionary known = some_dictionary(dictionary);
+    return proved_wrap_columns_hyphenated(ARRAY(text, text_len), columns, &some, &around, &known,
+                                          ARRAY(rows, rows_len), count, ARRAY(room, room_len), len);
 }
 
 textwrap_status textwrap_wrap_first_fit(const textwrap_fragment *fragments, size_t fragments_len,

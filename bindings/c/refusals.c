@@ -229,20 +229,41 @@ static textwrap_status dictionary_read(struct lent *lent) {
 }
 
 static textwrap_status points_of(struct lent *lent) {
-    return textwrap_hyphen_points(patterns, patterns_len, 1, bytes("re-hyphenation"), 14, lent->places,
-                                  16, &lent->count);
+    textwrap_dictionary dictionary = textwrap_dictionary_new(patterns, patterns_len);
+    dictionary.in_parts = 1;
+    return textwrap_hyphen_points(&dictionary, bytes("re-hyphenation"), 14, lent->places, 16,
+                                  &lent->count);
 }
 
 static textwrap_status filled_with_hyphens(struct lent *lent) {
+    const textwrap_dictionary dictionary = textwrap_dictionary_new(patterns, patterns_len);
     textwrap_options o = options_of(1, 0);
-    return textwrap_fill_hyphenated(bytes("the hyphenation"), 15, &o, patterns, patterns_len, 0,
-                                    lent->room, 256, &lent->len);
+    return textwrap_fill_hyphenated(bytes("the hyphenation"), 15, &o, &dictionary, lent->room, 256,
+                                    &lent->len);
+}
+
+static textwrap_status refilled_with_hyphens(struct lent *lent) {
+    const textwrap_dictionary dictionary = textwrap_dictionary_new(patterns, patterns_len);
+    textwrap_options o = options_of(1, 0);
+    return textwrap_refill_hyphenated(bytes("* the\n  hyphenation\n"), 20, &o, &dictionary, lent->room,
+                                      256, &lent->len);
 }
 
 static textwrap_status wrapped_with_hyphens(struct lent *lent) {
+    const textwrap_dictionary dictionary = textwrap_dictionary_new(patterns, patterns_len);
     textwrap_options o = options_of(1, 0);
-    return textwrap_wrap_hyphenated(bytes("the hyphenation"), 15, &o, patterns, patterns_len, 0,
-                                    lent->lines, 64, &lent->count, lent->room, 256, &lent->len);
+    return textwrap_wrap_hyphenated(bytes("the hyphenation"), 15, &o, &dictionary, lent->lines, 64,
+                                    &lent->count, lent->room, 256, &lent->len);
+}
+
+static textwrap_status in_columns_with_hyphens(struct lent *lent) {
+    const textwrap_dictionary dictionary = textwrap_dictionary_new(patterns, patterns_len);
+    const textwrap_gaps gaps = textwrap_gaps_new(text_of("|"), text_of("|"), text_of("|"));
+    textwrap_options o = options_of(1, 0);
+    o.width = 15;
+    return textwrap_wrap_columns_hyphenated(bytes("the hyphenation"), 15, 2, &o, &gaps, &dictionary,
+                                            lent->lines, 64, &lent->count, lent->room, 256,
+                                            &lent->len);
 }
 
 static textwrap_status in_a_table(struct lent *lent) {
@@ -510,7 +531,9 @@ static const struct call CALLS[] = {
     {"patterns_read", dictionary_read},
     {"hyphen_points", points_of},
     {"fill_hyphenated", filled_with_hyphens},
+    {"refill_hyphenated", refilled_with_hyphens},
     {"wrap_hyphenated", wrapped_with_hyphens},
+    {"wrap_columns_hyphenated", in_columns_with_hyphens},
     {"table", in_a_table},
     {"table_of_lines", lines_in_a_table},
     {"wrap_first_fit", greedily},

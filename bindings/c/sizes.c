@@ -183,6 +183,38 @@ static void many_lines_are_shortened(void) {
     free(room);
 }
 
+/* Each line of the text becomes two rows of one column; filled again, each two become three lines. */
+static void long_texts_are_hyphenated(void) {
+    enum { LINES = LONG / 16, ROWS = 2 * LINES + 1, BUILT = 11 * ROWS, REFILLED = LINES / 2 * 34 };
+    static const char patterns[] = "hy3ph\nhe2n\nhena4\nhen5at\n1na\nn2at\n1tio\n2io\no2n\n";
+    const textwrap_gaps none = textwrap_gaps_new(text_of(""), text_of(""), text_of(""));
+    textwrap_options o = textwrap_options_new(11);
+    uint8_t *text = repeated("the hyphenation\n", LONG), *room = memory(BUILT);
+    uint8_t *built = repeated("the hyphen-ation      ", BUILT);
+    uint8_t *refilled = repeated("the hyphen-\nation the\nhyphenation\n", REFILLED);
+    textwrap_line *rows = (textwrap_line *)memory(ROWS * sizeof *rows);
+    size_t numbers[256], numbers_len = 0, line = 0, count = 0, len = 0;
+    CHECK(textwrap_patterns_read(bytes(patterns), strlen(patterns), numbers, 256, &numbers_len, &line)
+          == TEXTWRAP_DONE);
+    textwrap_dictionary dictionary = textwrap_dictionary_new(numbers, numbers_len);
+    dictionary.is_checked = 1;
+    o.optimal_fit = 0;
+    /* No line stands behind the last line feed. */
+    memset(built + BUILT - 11, ' ', 11);
+    CHECK(textwrap_wrap_columns_hyphenated(text, LONG, 1, &o, &none, &dictionary, rows, ROWS, &count,
+                                           room, BUILT, &len)
+          == TEXTWRAP_DONE);
+    CHECK(count == ROWS && is_equal(room, len, built, BUILT));
+    CHECK(rows[ROWS - 1].offset == BUILT - 11 && rows[ROWS - 1].len == 11);
+    CHECK(textwrap_refill_hyphenated(text, LONG, &o, &dictionary, room, BUILT, &len) == TEXTWRAP_DONE);
+    CHECK(is_equal(room, len, refilled, REFILLED));
+    free(text);
+    free(room);
+    free(built);
+    free(refilled);
+    free(rows);
+}
+
 int main(void) {
     a_long_text_is_filled();
     the_lines_of_a_long_text_are_places();
@@ -191,6 +223,7 @@ int main(void) {
     long_gaps_are_whole();
     long_prefixes_and_placeholders_are_whole();
     many_lines_are_shortened();
+    long_texts_are_hyphenated();
     if (failures == 0) printf("C, long texts: ok\n");
     return failures != 0;
 }

@@ -763,36 +763,82 @@ static void dictionaries_are_read(void) {
     CHECK(memcmp(table, whole, (whole_len - 1) * sizeof *table) == 0);
 }
 
+static void numbers_are_tested(void) {
+    size_t table[512];
+    const size_t len = read_patterns(table);
+    CHECK(textwrap_patterns_check(table, len) == TEXTWRAP_DONE);
+    CHECK(textwrap_patterns_check(table, len - 1) == TEXTWRAP_DAMAGED_TABLE);
+    table[1]++;
+    CHECK(textwrap_patterns_check(table, len) == TEXTWRAP_DAMAGED_TABLE);
+    table[1]--;
+    CHECK(textwrap_patterns_check(table, len) == TEXTWRAP_DONE);
+}
+
 static void words_have_points(void) {
     size_t table[512], points[3] = {9, 9, 9}, count = 7;
     const size_t len = read_patterns(table);
     const uint8_t *word = bytes("hyphenation"), *parts = bytes("re-hyphenation");
-    CHECK(textwrap_hyphen_points(table, len, 2, bytes("\xff"), 1, points, 3, &count)
-          == TEXTWRAP_UNKNOWN_OPTIONS);
-    CHECK(textwrap_hyphen_points(table, 0, 0, bytes("\xff"), 1, points, 3, &count)
-          == TEXTWRAP_NOT_UTF8);
-    CHECK(textwrap_hyphen_points(table, len - 1, 0, word, 11, points, 3, &count)
-          == TEXTWRAP_DAMAGED_TABLE);
+    const textwrap_dictionary whole = textwrap_dictionary_new(table, len);
+    textwrap_dictionary d = whole;
+    d.in_parts = 2;
+    CHECK(textwrap_hyphen_points(&d, bytes("\xff"), 1, points, 3, &count) == TEXTWRAP_UNKNOWN_OPTIONS);
+    d = whole;
+    d.is_checked = 2;
+    CHECK(textwrap_hyphen_points(&d, bytes("\xff"), 1, points, 3, &count) == TEXTWRAP_UNKNOWN_OPTIONS);
+    for (size_t i = 0; i < 2; i++) {
+        d = whole;
+        d.reserved_sizes[i] = 1;
+        CHECK(textwrap_hyphen_points(&d, word, 11, points, 3, &count) == TEXTWRAP_UNKNOWN_OPTIONS);
+    }
+    d = textwrap_dictionary_new(table, 0);
+    CHECK(textwrap_hyphen_points(&d, bytes("\xff"), 1, points, 3, &count) == TEXTWRAP_NOT_UTF8);
+    d = textwrap_dictionary_new(table, len - 1);
+    CHECK(textwrap_hyphen_points(&d, word, 11, points, 3, &count) == TEXTWRAP_DAMAGED_TABLE);
     table[1]++;
-    CHECK(textwrap_hyphen_points(table, len, 0, word, 11, points, 3, &count)
-          == TEXTWRAP_DAMAGED_TABLE);
+    CHECK(textwrap_hyphen_points(&whole, word, 11, points, 3, &count) == TEXTWRAP_DAMAGED_TABLE);
     table[1]--;
+    CHECK(count == 7 && points[0] == 9);
+    CHECK(textwrap_hyphen_points(&whole, word, 11, points, 1, &count) == TEXTWRAP_TOO_SMALL);
+    CHECK(count == 2 && points[0] == 2 && points[1] == 9);
+    CHECK(textwrap_hyphen_points(&whole, word, 11, points, 3, &count) == TEXTWRAP_DONE);
+    CHECK(count == 2 && points[0] == 2 && points[1] == 6 && points[2] == 9);
+    CHECK(textwrap_hyphen_points(&whole, parts, 14, points, 3, &count) == TEXTWRAP_DONE);
+    CHECK(count == 0);
+    d = whole;
+    d.in_parts = 1;
+    CHECK(textwrap_hyphen_points(&d, parts, 14, points, 3, &count) == TEXTWRAP_DONE);
+    CHECK(count == 2 && points[0] == 5 && points[1] == 9);
+}
+
+static void a_dictionary_may_be_checked(void) {
+    size_t table[512], points[3] = {9, 9, 9}, count = 7;
+    const size_t len = read_patterns(table);
+    const uint8_t *word = bytes("hyphenation"), *parts = bytes("re-hyphenation");
+    textwrap_dictionary d = textwrap_dictionary_new(table, len);
+    d.is_checked = 1;
+    CHECK(textwrap_hyphen_points(&d, word, 11, points, 3, &count) == TEXTWRAP_DONE);
+    CHECK(count == 2 && points[0] == 2 && points[1] == 6 && points[2] == 9);
+    CHECK(textwrap_hyphen_points(&d, parts, 14, points, 3, &count) == TEXTWRAP_DONE && count == 0);
+    d.in_parts = 1;
+    CHECK(textwrap_hyphen_points(&d, parts, 14, points, 3, &count) == TEXTWRAP_DONE);
+    CHECK(count == 2 && points[0] == 5 && points[1] == 9);
     /* The letters that stay behind a point and before it. */
     table[len - 2] = 2;
     table[len - 3] = 3;
-    CHECK(textwrap_hyphen_points(table, len, 0, word, 11, points, 3, &count)
-          == TEXTWRAP_DAMAGED_TABLE);
-    table[len - 2] = 3;
-    table[len - 3] = 2;
-    CHECK(count == 7 && points[0] == 9);
-    CHECK(textwrap_hyphen_points(table, len, 0, word, 11, points, 1, &count) == TEXTWRAP_TOO_SMALL);
-    CHECK(count == 2 && points[0] == 2 && points[1] == 9);
-    CHECK(textwrap_hyphen_points(table, len, 0, word, 11, points, 3, &count) == TEXTWRAP_DONE);
-    CHECK(count == 2 && points[0] == 2 && points[1] == 6 && points[2] == 9);
-    CHECK(textwrap_hyphen_points(table, len, 0, parts, 14, points, 3, &count) == TEXTWRAP_DONE);
-    CHECK(count == 0);
-    CHECK(textwrap_hyphen_points(table, len, 1, parts, 14, points, 3, &count) == TEXTWRAP_DONE);
-    CHECK(count == 2 && points[0] == 5 && points[1] == 9);
+    CHECK(textwrap_hyphen_points(&d, word, 11, points, 3, &count) == TEXTWRAP_DONE);
+    CHECK(count == 1 && points[0] == 6);
+    d.is_checked = 0;
+    CHECK(textwrap_hyphen_points(&d, word, 11, points, 3, &count) == TEXTWRAP_DAMAGED_TABLE);
+    /* Whatever the numbers are, the points are inside the word. */
+    d.is_checked = 1;
+    for (size_t i = 0; i < len; i++) {
+        for (size_t to = 0; to < 3; to++) {
+            CHECK(read_patterns(table) == len);
+            table[i] = to == 0 ? 0 : to == 1 ? table[i] + 1 : SIZE_MAX;
+            CHECK(textwrap_hyphen_points(&d, word, 11, points, 3, &count) <= TEXTWRAP_TOO_SMALL);
+            CHECK(count <= 10 && (count == 0 || (0 < points[0] && points[0] < 11)));
+        }
+    }
 }
 
 static void texts_are_hyphenated(void) {
@@ -802,35 +848,110 @@ static void texts_are_hyphenated(void) {
     uint8_t room[17] = "...";
     size_t table[512], count = 7, len = 7;
     const size_t table_len = read_patterns(table);
+    textwrap_dictionary d = textwrap_dictionary_new(table, table_len);
+    const textwrap_dictionary damaged = textwrap_dictionary_new(table, table_len - 1);
     o.optimal_fit = 0;
     o.unicode_breaks = 1;
-    CHECK(textwrap_fill_hyphenated(text, 15, &o, table, table_len, 0, room, 17, &len)
-          == TEXTWRAP_UNKNOWN_OPTIONS);
-    CHECK(textwrap_wrap_hyphenated(text, 15, &o, table, table_len, 0, lines, 2, &count, room, 17, &len)
+    CHECK(textwrap_fill_hyphenated(text, 15, &o, &d, room, 17, &len) == TEXTWRAP_UNKNOWN_OPTIONS);
+    CHECK(textwrap_wrap_hyphenated(text, 15, &o, &d, lines, 2, &count, room, 17, &len)
           == TEXTWRAP_UNKNOWN_OPTIONS);
     o.unicode_breaks = 0;
-    CHECK(textwrap_fill_hyphenated(bytes("\xff"), 1, &o, table, 0, 0, room, 17, &len)
+    d.reserved_sizes[1] = 1;
+    CHECK(textwrap_fill_hyphenated(text, 15, &o, &d, room, 17, &len) == TEXTWRAP_UNKNOWN_OPTIONS);
+    CHECK(textwrap_wrap_hyphenated(text, 15, &o, &d, lines, 2, &count, room, 17, &len)
+          == TEXTWRAP_UNKNOWN_OPTIONS);
+    d.reserved_sizes[1] = 0;
+    CHECK(textwrap_fill_hyphenated(bytes("\xff"), 1, &o, &damaged, room, 17, &len)
           == TEXTWRAP_NOT_UTF8);
-    CHECK(textwrap_wrap_hyphenated(bytes("\xff"), 1, &o, table, 0, 0, lines, 2, &count, room, 17, &len)
+    CHECK(textwrap_wrap_hyphenated(bytes("\xff"), 1, &o, &damaged, lines, 2, &count, room, 17, &len)
           == TEXTWRAP_NOT_UTF8);
-    CHECK(textwrap_fill_hyphenated(text, 15, &o, table, table_len - 1, 0, room, 17, &len)
-          == TEXTWRAP_DAMAGED_TABLE);
-    CHECK(textwrap_wrap_hyphenated(text, 15, &o, table, table_len - 1, 0, lines, 2, &count, room, 17,
-                                   &len)
+    CHECK(textwrap_fill_hyphenated(text, 15, &o, &damaged, room, 17, &len) == TEXTWRAP_DAMAGED_TABLE);
+    CHECK(textwrap_wrap_hyphenated(text, 15, &o, &damaged, lines, 2, &count, room, 17, &len)
           == TEXTWRAP_DAMAGED_TABLE);
     CHECK(count == 7 && len == 7 && memcmp(room, "...", 4) == 0);
-    CHECK(textwrap_fill_hyphenated(text, 15, &o, table, table_len, 0, room, 16, &len)
-          == TEXTWRAP_TOO_SMALL);
+    CHECK(textwrap_fill_hyphenated(text, 15, &o, &d, room, 16, &len) == TEXTWRAP_TOO_SMALL);
     CHECK(len == 17 && memcmp(room, "the hyphen-\nati", 15) == 0);
-    CHECK(textwrap_fill_hyphenated(text, 15, &o, table, table_len, 0, room, 17, &len) == TEXTWRAP_DONE);
-    CHECK(is_text(room, len, "the hyphen-\nation"));
-    CHECK(textwrap_wrap_hyphenated(text, 15, &o, table, table_len, 0, lines, 2, &count, room, 10, &len)
+    for (d.is_checked = 0; d.is_checked <= 1; d.is_checked++) {
+        CHECK(textwrap_fill_hyphenated(text, 15, &o, &d, room, 17, &len) == TEXTWRAP_DONE);
+        CHECK(is_text(room, len, "the hyphen-\nation"));
+    }
+    d.is_checked = 1;
+    CHECK(textwrap_wrap_hyphenated(text, 15, &o, &d, lines, 2, &count, room, 10, &len)
           == TEXTWRAP_TOO_SMALL);
     CHECK(count == 2 && len == 11);
-    CHECK(textwrap_wrap_hyphenated(text, 15, &o, table, table_len, 0, lines, 2, &count, room, 11, &len)
+    CHECK(textwrap_wrap_hyphenated(text, 15, &o, &d, lines, 2, &count, room, 11, &len)
           == TEXTWRAP_DONE);
     CHECK(count == 2 && is_text(room, len, "the hyphen-"));
     CHECK(is_place(&lines[0], 0, 11, 1) && is_place(&lines[1], 10, 5, 0));
+}
+
+static void filled_texts_are_hyphenated(void) {
+    const uint8_t *text = bytes("// the\n// hyphenation\n"), *filled = bytes("// the hyphen-\n// ation\n");
+    textwrap_options o = textwrap_options_new(14);
+    uint8_t room[24] = "...";
+    size_t table[512], len = 7;
+    const size_t table_len = read_patterns(table);
+    textwrap_dictionary d = textwrap_dictionary_new(table, table_len);
+    const textwrap_dictionary damaged = textwrap_dictionary_new(table, table_len - 1);
+    o.optimal_fit = 0;
+    o.initial_indent = text_of("not used");
+    d.in_parts = 2;
+    CHECK(textwrap_refill_hyphenated(text, 22, &o, &d, room, 24, &len) == TEXTWRAP_UNKNOWN_OPTIONS);
+    d.in_parts = 0;
+    o.unicode_breaks = 1;
+    CHECK(textwrap_refill_hyphenated(text, 22, &o, &d, room, 24, &len) == TEXTWRAP_UNKNOWN_OPTIONS);
+    o.unicode_breaks = 0;
+    CHECK(textwrap_refill_hyphenated(bytes("\xff"), 1, &o, &damaged, room, 24, &len)
+          == TEXTWRAP_NOT_UTF8);
+    CHECK(textwrap_refill_hyphenated(text, 22, &o, &damaged, room, 24, &len)
+          == TEXTWRAP_DAMAGED_TABLE);
+    CHECK(len == 7 && memcmp(room, "...", 4) == 0);
+    CHECK(textwrap_refill_hyphenated(text, 22, &o, &d, room, 4, &len) == TEXTWRAP_TOO_SMALL);
+    CHECK(len == 24 && memcmp(room, "// t", 5) == 0);
+    CHECK(textwrap_refill_hyphenated(text, 22, &o, &d, room, 24, &len) == TEXTWRAP_DONE);
+    CHECK(is_text(room, len, "// the hyphen-\n// ation\n"));
+    o.width = 20;
+    CHECK(textwrap_refill_hyphenated(filled, 24, &o, &d, room, 24, &len) == TEXTWRAP_DONE);
+    CHECK(is_text(room, len, "// the hyphen- ation\n"));
+}
+
+static void columns_are_hyphenated(void) {
+    const uint8_t *text = bytes("the hyphenation");
+    textwrap_options o = textwrap_options_new(15);
+    textwrap_gaps bar = textwrap_gaps_new(text_of(""), text_of("|"), text_of(""));
+    const textwrap_gaps wrong = textwrap_gaps_new(text_of(""), text_of("\xff"), text_of(""));
+    textwrap_line rows[2];
+    uint8_t room[30] = "...";
+    size_t table[512], count = 7, len = 7;
+    const size_t table_len = read_patterns(table);
+    textwrap_dictionary d = textwrap_dictionary_new(table, table_len);
+    const textwrap_dictionary damaged = textwrap_dictionary_new(table, table_len - 1);
+    o.optimal_fit = 0;
+    CHECK(textwrap_wrap_columns_hyphenated(bytes("\xff"), 1, 0, &o, &bar, &d, rows, 2, &count, room, 30,
+                                           &len)
+          == TEXTWRAP_UNKNOWN_OPTIONS);
+    bar.reserved_sizes[3] = 1;
+    CHECK(textwrap_wrap_columns_hyphenated(text, 15, 2, &o, &bar, &d, rows, 2, &count, room, 30, &len)
+          == TEXTWRAP_UNKNOWN_OPTIONS);
+    bar.reserved_sizes[3] = 0;
+    d.is_checked = 2;
+    CHECK(textwrap_wrap_columns_hyphenated(text, 15, 2, &o, &bar, &d, rows, 2, &count, room, 30, &len)
+          == TEXTWRAP_UNKNOWN_OPTIONS);
+    d.is_checked = 0;
+    CHECK(textwrap_wrap_columns_hyphenated(text, 15, 2, &o, &wrong, &damaged, rows, 2, &count, room, 30,
+                                           &len)
+          == TEXTWRAP_NOT_UTF8);
+    CHECK(textwrap_wrap_columns_hyphenated(text, 15, 2, &o, &bar, &damaged, rows, 2, &count, room, 30,
+                                           &len)
+          == TEXTWRAP_DAMAGED_TABLE);
+    CHECK(count == 7 && len == 7 && memcmp(room, "...", 4) == 0);
+    CHECK(textwrap_wrap_columns_hyphenated(text, 15, 2, &o, &bar, &d, rows, 1, &count, room, 3, &len)
+          == TEXTWRAP_TOO_SMALL);
+    CHECK(count == 2 && len == 30 && memcmp(room, "the", 4) == 0 && is_place(&rows[0], 0, 15, 1));
+    CHECK(textwrap_wrap_columns_hyphenated(text, 15, 2, &o, &bar, &d, rows, 2, &count, room, 30, &len)
+          == TEXTWRAP_DONE);
+    CHECK(count == 2 && is_text(room, len, "the hy-|ation  phen-  |       "));
+    CHECK(is_place(&rows[0], 0, 15, 1) && is_place(&rows[1], 15, 15, 1));
 }
 
 /* A column with words by first fit. */
@@ -1507,10 +1628,21 @@ static void a_pointer_to_nothing_may_be_null(void) {
     CHECK(textwrap_fitting_widths(NULL, 0, 1, 10, NULL, 0, &count) == TEXTWRAP_TOO_SMALL);
     CHECK(count == 1);
     CHECK(textwrap_patterns_read(NULL, 0, NULL, 0, &len, &count) == TEXTWRAP_TOO_SMALL && len > 7);
-    CHECK(textwrap_hyphen_points(NULL, 0, 0, NULL, 0, NULL, 0, &count) == TEXTWRAP_DAMAGED_TABLE);
-    CHECK(textwrap_fill_hyphenated(NULL, 0, &o, NULL, 0, 0, NULL, 0, &len) == TEXTWRAP_DAMAGED_TABLE);
-    CHECK(textwrap_wrap_hyphenated(NULL, 0, &o, NULL, 0, 0, line, 1, &count, NULL, 0, &len)
-          == TEXTWRAP_DAMAGED_TABLE);
+    CHECK(textwrap_patterns_check(NULL, 0) == TEXTWRAP_DAMAGED_TABLE);
+    textwrap_dictionary none = textwrap_dictionary_new(NULL, 0);
+    CHECK(textwrap_hyphen_points(&none, NULL, 0, NULL, 0, &count) == TEXTWRAP_DAMAGED_TABLE);
+    CHECK(textwrap_fill_hyphenated(NULL, 0, &o, &none, NULL, 0, &len) == TEXTWRAP_DAMAGED_TABLE);
+    none.is_checked = 1;
+    CHECK(textwrap_hyphen_points(&none, NULL, 0, NULL, 0, &count) == TEXTWRAP_DONE && count == 0);
+    CHECK(textwrap_fill_hyphenated(NULL, 0, &o, &none, NULL, 0, &len) == TEXTWRAP_DONE && len == 0);
+    CHECK(textwrap_refill_hyphenated(NULL, 0, &o, &none, NULL, 0, &len) == TEXTWRAP_DONE && len == 0);
+    CHECK(textwrap_wrap_hyphenated(NULL, 0, &o, &none, line, 1, &count, NULL, 0, &len)
+          == TEXTWRAP_DONE);
+    CHECK(count == 1 && len == 0);
+    CHECK(textwrap_wrap_columns_hyphenated(NULL, 0, 1, &o, &gaps, &none, line, 1, &count, room, 10,
+                                           &len)
+          == TEXTWRAP_DONE);
+    CHECK(count == 1 && len == 10);
     CHECK(textwrap_table(NULL, 0, NULL, 0, &gaps, NULL, 0, &count, NULL, 0, &len) == TEXTWRAP_DONE);
     CHECK(count == 0 && len == 0);
     CHECK(textwrap_table_of_lines(NULL, 0, NULL, 0, &gaps, NULL, 0, &count, NULL, 0, &len)
@@ -1568,8 +1700,12 @@ int main(void) {
     lines_are_balanced();
     columns_are_fitted();
     dictionaries_are_read();
+    numbers_are_tested();
     words_have_points();
+    a_dictionary_may_be_checked();
     texts_are_hyphenated();
+    filled_texts_are_hyphenated();
+    columns_are_hyphenated();
     tables_are_written();
     rows_of_lines_are_written();
     tables_of_lines_are_written();

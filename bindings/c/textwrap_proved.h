@@ -507,35 +507,92 @@ TEXTWRAP_CHECKED
 textwrap_status textwrap_patterns_read(const uint8_t *text, size_t text_len, size_t *room,
                                        size_t room_len, size_t *len, size_t *line);
 
-/* Writes the offsets in bytes at which a word has a hyphen by a dictionary, whose numbers
- * textwrap_patterns_read wrote. They increase, and are character boundaries inside the word. A word with a
- * hyphen has points only if `in_parts` is 1, and none if it is 0. DAMAGED_TABLE if the
- * version or the sum of the numbers is wrong, as where one is another by less than 2^32; each call tests
- * that. */
+/* Tests the numbers of a dictionary, as after they were read from a file. It reads all of them. DONE, or
+ * DAMAGED_TABLE if their version or their sum is wrong, as where one became another. */
 TEXTWRAP_CHECKED
-textwrap_status textwrap_hyphen_points(const size_t *table, size_t table_len, uint32_t in_parts,
-                                       const uint8_t *word, size_t word_len, size_t *points,
-                                       size_t points_len, size_t *count);
+textwrap_status textwrap_patterns_check(const size_t *numbers, size_t numbers_len);
+
+/* A dictionary, as the calls take it. Take it from textwrap_dictionary_new, so that later fields have
+ * their defaults. */
+typedef struct {
+    const size_t *numbers;    /* what textwrap_patterns_read wrote */
+    size_t numbers_len;       /* how many they are */
+    uint32_t in_parts;        /* 1: the parts of a word with a hyphen are hyphenated too; 0: such a word
+                               * has no points */
+    uint32_t is_checked;      /* 1: the numbers are not tested, as textwrap_patterns_read wrote them or
+                               * textwrap_patterns_check returned DONE for them; 0: each call tests them.
+                               * Of damaged numbers that are not tested a word has points that mean
+                               * nothing, and nothing worse: they increase inside the word all the same,
+                               * and no other memory is read */
+    size_t reserved_sizes[2]; /* 0; any other number is TEXTWRAP_UNKNOWN_OPTIONS */
+} textwrap_dictionary;
+
+/* A dictionary of these numbers, which each call tests, and which gives a word with a hyphen no points.
+ * A test takes longer than to find the points of a word, so a program with more than one word or text
+ * checks once:
+ *
+ *     textwrap_dictionary dictionary = textwrap_dictionary_new(numbers, numbers_len);
+ *     if (textwrap_patterns_check(numbers, numbers_len)) return 1;
+ *     dictionary.is_checked = 1;
+ */
+static inline textwrap_dictionary textwrap_dictionary_new(const size_t *numbers, size_t numbers_len) {
+    textwrap_dictionary dictionary;
+    memset(&dictionary, 0, sizeof dictionary);
+    dictionary.numbers = numbers;
+    dictionary.numbers_len = numbers_len;
+    return dictionary;
+}
+
+/* Writes the offsets in bytes at which a word has a hyphen by a dictionary: 2 and 6 for "hyphenation"
+ * with the patterns of hy-phen-ation. They increase, and are character boundaries inside the word.
+ * UNKNOWN_OPTIONS for a dictionary that is not known, and DAMAGED_TABLE as textwrap_patterns_check, where
+ * its numbers are tested. */
+TEXTWRAP_CHECKED
+textwrap_status textwrap_hyphen_points(const textwrap_dictionary *dictionary, const uint8_t *word,
+                                       size_t word_len, size_t *points, size_t points_len,
+                                       size_t *count);
 
 /* Writes the filled text as textwrap_fill does, but that words are split where a dictionary has hyphens,
  * and behind a hyphen between letters or digits, whether or not the options say so. A hyphen is written
  * where a line ends at a point of the dictionary; a part of a word that just fits the line passes it by
- * that. UNKNOWN_OPTIONS also for options by which words do not end at blanks; DAMAGED_TABLE as in
- * textwrap_hyphen_points. */
+ * that. With the patterns of hy-phen-ation "the hyphenation" is "the hyphen-\nation" at 11 columns by
+ * first fit. UNKNOWN_OPTIONS also for options by which words do not end at blanks; for the dictionary as
+ * in textwrap_hyphen_points. */
 TEXTWRAP_CHECKED
 textwrap_status textwrap_fill_hyphenated(const uint8_t *text, size_t text_len,
-                                         const textwrap_options *options, const size_t *table,
-                                         size_t table_len, uint32_t in_parts, uint8_t *room,
+                                         const textwrap_options *options,
+                                         const textwrap_dictionary *dictionary, uint8_t *room,
                                          size_t room_len, size_t *len);
 
-/* Writes the lines of that text as textwrap_wrap does. A line with a hyphen that is written stands in the
- * room. */
+/* Fills a filled text again as textwrap_refill does, but that words are split so: "// the\n// hyphenation"
+ * is "// the hyphen-\n// ation" at 14 columns by first fit. A hyphen that was added before stays, with a
+ * blank behind it. */
+TEXTWRAP_CHECKED
+textwrap_status textwrap_refill_hyphenated(const uint8_t *text, size_t text_len,
+                                           const textwrap_options *options,
+                                           const textwrap_dictionary *dictionary, uint8_t *room,
+                                           size_t room_len, size_t *len);
+
+/* Writes the lines of the filled text as textwrap_wrap does. A line with a hyphen that is written stands
+ * in the room. */
 TEXTWRAP_CHECKED
 textwrap_status textwrap_wrap_hyphenated(const uint8_t *text, size_t text_len,
-                                         const textwrap_options *options, const size_t *table,
-                                         size_t table_len, uint32_t in_parts, textwrap_line *lines,
+                                         const textwrap_options *options,
+                                         const textwrap_dictionary *dictionary, textwrap_line *lines,
                                          size_t lines_len, size_t *count, uint8_t *room,
                                          size_t room_len, size_t *len);
+
+/* Wraps the text into columns as textwrap_wrap_columns does, but that words are split so: "the
+ * hyphenation" has the rows "the hy-|ation  " and "phen-  |       " at 15 columns by first fit, in two
+ * columns with a bar between them. */
+TEXTWRAP_CHECKED
+textwrap_status textwrap_wrap_columns_hyphenated(const uint8_t *text, size_t text_len,
+                                                 size_t columns, const textwrap_options *options,
+                                                 const textwrap_gaps *gaps,
+                                                 const textwrap_dictionary *dictionary,
+                                                 textwrap_line *rows, size_t rows_len,
+                                                 size_t *count, uint8_t *room, size_t room_len,
+                                                 size_t *len);
 
 /* ---- Fragments of the caller's own, and the two algorithms */
 

@@ -6,11 +6,9 @@
 use crate::core::Word;
 use crate::display::{Column, Gaps};
 use crate::fallible::{self, unfill};
-use crate::hyphens::JoinedWords;
 use crate::room::{
     lines_by, list_by, mapped, push, reserve, room_for, text_by, texts_of, value_by,
 };
-use crate::word_splitters::with_hyphens;
 use crate::{guess, sys, Options, OutOfMemory, WordSplitter, WrapAlgorithm};
 use alloc::borrow::Cow;
 use alloc::string::String;
@@ -22,7 +20,7 @@ type Result<T> = core::result::Result<T, OutOfMemory>;
 /// The filled text.
 #[cold]
 pub(crate) fn filled(text: &str, options: Options<'_>) -> Result<String> {
-    if let Some(patterns) = options.patterns_at_blanks() {
+    if let Some(patterns) = options.patterns_alone() {
         return patterns.filled(text, &options.to_sys());
     }
     let (found, with) = (steps_of(text, &options)?, options.to_sys());
@@ -39,7 +37,7 @@ pub(crate) fn justified(text: &str, options: &Options<'_>) -> Result<String> {
 
 /// The lines of the text.
 pub(crate) fn wrapped<'t>(text: &'t str, options: &Options<'_>) -> Result<Vec<Cow<'t, str>>> {
-    if let Some(patterns) = options.patterns_at_blanks() {
+    if let Some(patterns) = options.patterns_alone() {
         return patterns.wrapped(text, &options.to_sys());
     }
     let (found, with) = (steps_of(text, options)?, options.to_sys());
@@ -51,6 +49,9 @@ pub(crate) fn wrapped<'t>(text: &'t str, options: &Options<'_>) -> Result<Vec<Co
 /// The filled text, filled again with the indents that it has.
 #[cold]
 pub(crate) fn refilled(filled_text: &str, options: Options<'_>) -> Result<String> {
+    if let Some(patterns) = options.patterns_alone() {
+        return patterns.refilled(filled_text, &options.to_sys());
+    }
     let (text, found) = unfill(filled_text)?;
     let joined = text.strip_suffix(found.line_ending.as_str());
     let ending = joined.map_or("", |_| options.line_ending.as_str());
@@ -68,6 +69,9 @@ pub(crate) fn columns(
     options: &Options<'_>,
     gaps: &Gaps<'_>,
 ) -> Result<Vec<String>> {
+    if let Some(patterns) = options.patterns_alone() {
+        return patterns.columns(text, columns, &options.to_sys(), &gaps.to_sys());
+    }
     let (width, around) = (options.width, gaps.to_sys());
     let column_width = value_by!(textwrap_column_width(; width, columns, &around));
     let wrapped = wrapped(text, &options.clone().width(column_width))?;
@@ -153,7 +157,7 @@ fn paragraph_steps(text: &str, options: &Options<'_>, is_later: bool) -> Result<
 fn words_between<'t>(
     cuts: &'t [usize],
     text: &'t str,
-) -> impl Iterator<Item = (usize, &'t str)> + Clone {
+) -> impl Iterator<Item = (usize, &'t str)> {
     let cuts = cuts.iter().copied();
     let last = Some(text.len()).filter(|&len| len > 0);
     iter::once(0)
@@ -164,19 +168,9 @@ fn words_between<'t>(
 
 /// The points of the words between cuts of a paragraph.
 fn points_between(cuts: &[usize], text: &str, splitter: &WordSplitter) -> Result<Vec<usize>> {
-    let words = words_between(cuts, text);
-    let mut joined = match splitter {
-        WordSplitter::Patterns(patterns) => {
-            Some(JoinedWords::of(patterns, words.clone().map(|(_, word)| word))?)
-        }
-        _ => None,
-    };
     let mut points = Vec::new();
-    for (start, word) in words {
-        let inside = match &mut joined {
-            Some(joined) => with_hyphens(joined.points_of_next(word)?, word)?,
-            None => splitter.points_inside(word)?,
-        };
+    for (start, word) in words_between(cuts, text) {
+        let inside = splitter.points_inside(word)?;
         reserve(&mut points, inside.len())?;
         points.extend(inside.iter().map(|point| start + point));
     }

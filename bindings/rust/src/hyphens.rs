@@ -20,7 +20,7 @@
 //! If memory runs out, a call [ends the program](crate#memory), and its twin, whose name begins with
 //! `try_`, returns [`OutOfMemory`].
 use crate::out_of_memory::{or_abort, OutOfMemory};
-use crate::room::{lines_by, list_by, listed, mapped, room_for, text_by, text_room, Refusal};
+use crate::room::{lines_by, listed, mapped, room_for, text_by, Refusal};
 use crate::shared::Shared;
 use crate::{guess, sys};
 use alloc::borrow::Cow;
@@ -168,12 +168,12 @@ impl Patterns {
     ///
     /// [`OutOfMemory`] if memory runs out.
     pub fn try_from_numbers(numbers: &[usize]) -> Result<Option<Patterns>, OutOfMemory> {
-        // Each call tests the numbers, also for a word without letters.
-        match points_by(numbers, false, "", 0) {
-            Ok(_) => Ok(Some(Patterns::of(mapped(numbers, usize::clone)?)?)),
-            Err(Refusal::DamagedTable) => Ok(None),
-            Err(refusal) => Err(refusal.into()),
+        // SAFETY: a list with its length, which the call reads alone.
+        let status = unsafe { sys::textwrap_patterns_check(numbers.as_ptr(), numbers.len()) };
+        if status != sys::DONE {
+            return Ok(None);
         }
+        Ok(Some(Patterns::of(mapped(numbers, usize::clone)?)?))
     }
 
     /// Sets whether the parts of a word with hyphens are hyphenated too. Else such a word is split
@@ -206,9 +206,6 @@ impl Patterns {
     /// sequences are not seen. A word with a hyphen (`-` or U+2010) has points only
     /// [in parts](Patterns::in_parts).
     ///
-    /// Each call tests all numbers of the patterns, which takes longer than to find the points of a word.
-    /// The calls on a text do so once where words end at blanks, and else at least once a paragraph.
-    ///
     /// # Examples
     ///
     /// ```
@@ -229,27 +226,36 @@ impl Patterns {
     ///
     /// [`OutOfMemory`] if memory runs out.
     pub fn try_points(&self, word: &str) -> Result<Vec<usize>, OutOfMemory> {
+        let dictionary = self.to_sys();
+        let (letters, letters_len) = (word.as_ptr(), word.len());
         // They are no more than the bytes of the word.
-        Ok(points_by(&self.numbers, self.in_parts, word, word.len())?)
+        // SAFETY: a dictionary that borrows its numbers from here, a `str` with its length, and room with
+        // its length, of which nothing else borrows what is written to; by the header the call writes what
+        // it reports.
+        let points = unsafe {
+            listed(word.len(), |room, room_len, count| {
+                sys::textwrap_hyphen_points(&dictionary, letters, letters_len, room, room_len, count)
+            })
+        };
+        Ok(points?)
     }
 
-    /// Whether a word has the same points beside others, with its parts hyphenated, as it has by itself:
-    /// no escape sequence begins in it, which might take in what follows, and no hyphen keeps it whole.
-    fn is_joined(&self, word: &str) -> bool {
-        let is_hyphen = |c| matches!(c, '-' | '\u{2010}');
-        !word.contains(|c: char| c.is_control() || (!self.in_parts && is_hyphen(c)))
+    /// The patterns as C has them. The library wrote their numbers, or has checked them, and nothing
+    /// writes to them. So no call has to test them, which would take longer than to find the points of a
+    /// word.
+    fn to_sys(&self) -> sys::Dictionary {
+        sys::Dictionary {
+            numbers: self.numbers.as_ptr(),
+            numbers_len: self.numbers.len(),
+            in_parts: self.in_parts.into(),
+            is_checked: 1,
+            reserved_sizes: [0; 2],
+        }
     }
 
-    /// The numbers, and how many they are, and whether parts are hyphenated, as C has them.
-    fn to_sys(&self) -> (*const usize, usize, u32) {
-        (self.numbers.as_ptr(), self.numbers.len(), self.in_parts.into())
-    }
-
-    /// The filled text, by options without a function that have words between blanks.
+    /// The filled text, by options without a function.
     pub(crate) fn filled(&self, text: &str, with: &sys::Options) -> Result<String, OutOfMemory> {
-        let (table, table_len, in_parts) = self.to_sys();
-        let guess = guess::filled(text, 4, with);
-        text_by!(guess, textwrap_fill_hyphenated(text; with, table, table_len, in_parts))
+        text_by!(guess::filled(text, 4, with), textwrap_fill_hyphenated(text; with, &self.to_sys()))
     }
 
     /// The lines of the text, by such options.
@@ -258,66 +264,38 @@ impl Patterns {
         text: &'t str,
         with: &sys::Options,
     ) -> Result<Vec<Cow<'t, str>>, OutOfMemory> {
-        let (table, table_len, in_parts) = self.to_sys();
+        let dictionary = self.to_sys();
         let (lines, bytes) = guess::wrapped(text, with);
         // Lines with a hyphen are texts of their own too.
         let bytes = bytes.max(text.len()).saturating_add(lines);
-        lines_by!(lines, bytes, textwrap_wrap_hyphenated(text; with, table, table_len, in_parts))?
-            .cows(text)
-    }
-}
-
-/// The points of a word by the patterns of these numbers, with a guess of how many they are.
-fn points_by(
-    numbers: &[usize],
-    in_parts: bool,
-    word: &str,
-    guess: usize,
-) -> Result<Vec<usize>, Refusal> {
-    let (letters, letters_len) = (word.as_ptr(), word.len());
-    list_by!(guess, textwrap_hyphen_points(numbers; in_parts.into(), letters, letters_len))
-}
-
-/// The points of one word after another, most of them found by one call, for which these words are
-/// joined: each call tests all numbers of the patterns.
-pub(crate) struct JoinedWords<'p> {
-    patterns: &'p Patterns,
-    /// The points of the joined words, in order.
-    points: Vec<usize>,
-    /// How many of the points stand before the next word.
-    used: usize,
-    /// Where the next joined word begins.
-    start: usize,
-}
-
-impl<'p> JoinedWords<'p> {
-    pub fn of<'t>(
-        patterns: &'p Patterns,
-        words: impl Iterator<Item = &'t str> + Clone,
-    ) -> Result<Self, OutOfMemory> {
-        let words = words.filter(|word| patterns.is_joined(word));
-        let mut joined = text_room(words.clone().map(|word| word.len() + 1).sum())?;
-        for word in words {
-            // A blank is no letter, so that no letters of two words come together.
-            joined.push_str(word);
-            joined.push(' ');
-        }
-        // In parts: by patterns that leave words with hyphens whole there is no hyphen in it.
-        let points = points_by(&patterns.numbers, true, &joined, joined.len() / 3)?;
-        Ok(JoinedWords { patterns, points, used: 0, start: 0 })
+        lines_by!(lines, bytes, textwrap_wrap_hyphenated(text; with, &dictionary))?.cows(text)
     }
 
-    /// The points of the next word of those that were handed in.
-    pub fn points_of_next(&mut self, word: &str) -> Result<Vec<usize>, OutOfMemory> {
-        if !self.patterns.is_joined(word) {
-            return self.patterns.try_points(word);
-        }
-        let (start, end) = (self.start, self.start + word.len());
-        let rest = &self.points[self.used..];
-        let inside = &rest[..rest.iter().take_while(|&&point| point < end).count()];
-        self.used += inside.len();
-        self.start = end + 1;
-        mapped(inside, |point| point - start)
+    /// The filled text, filled again by such options with the indents that it has.
+    pub(crate) fn refilled(
+        &self,
+        filled_text: &str,
+        with: &sys::Options,
+    ) -> Result<String, OutOfMemory> {
+        let guess = guess::filled(filled_text, 4, with);
+        text_by!(guess, textwrap_refill_hyphenated(filled_text; with, &self.to_sys()))
+    }
+
+    /// The rows of the text in columns, by such options. There is a column.
+    pub(crate) fn columns(
+        &self,
+        text: &str,
+        columns: usize,
+        with: &sys::Options,
+        around: &sys::Gaps,
+    ) -> Result<Vec<String>, OutOfMemory> {
+        let dictionary = self.to_sys();
+        lines_by!(
+            0,
+            0,
+            textwrap_wrap_columns_hyphenated(text; columns, with, around, &dictionary)
+        )?
+        .texts()
     }
 }
 

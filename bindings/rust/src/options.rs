@@ -224,12 +224,12 @@ impl<'a> Options<'a> {
             || !self.word_splitter.is_built_in()
     }
 
-    /// The patterns, if the library has a call for a text by them: where words end at blanks, and the
-    /// algorithm is its own.
-    pub(crate) fn patterns_at_blanks(&self) -> Option<&Patterns> {
+    /// The patterns, if no function of the caller takes part beside them: then the library has calls for
+    /// a text by them.
+    pub(crate) fn patterns_alone(&self) -> Option<&Patterns> {
         match (&self.word_splitter, &self.word_separator, &self.wrap_algorithm) {
-            (_, _, WrapAlgorithm::Custom(_)) => None,
-            (WordSplitter::Patterns(patterns), WordSeparator::AsciiSpace, _) => Some(patterns),
+            (_, _, WrapAlgorithm::Custom(_)) | (_, WordSeparator::Custom(_), _) => None,
+            (WordSplitter::Patterns(patterns), _, _) => Some(patterns),
             _ => None,
         }
     }

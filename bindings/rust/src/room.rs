@@ -21,7 +21,6 @@ pub(crate) enum Refusal {
     Overflow,
     WrongPlaces,
     WrongPatterns,
-    DamagedTable,
 }
 
 impl From<OutOfMemory> for Refusal {
@@ -38,9 +37,7 @@ impl From<Refusal> for OutOfMemory {
             Refusal::OutOfMemory(refused) => refused,
             Refusal::Overflow => panic!("{OverflowError}"),
             Refusal::WrongPlaces => unreachable!("the places are the library's own"),
-            Refusal::WrongPatterns | Refusal::DamagedTable => {
-                unreachable!("the patterns are those that the library read")
-            }
+            Refusal::WrongPatterns => unreachable!("the patterns are those that the library read"),
         }
     }
 }
@@ -54,7 +51,6 @@ fn refused(status: u32, before: BeforeCall) -> Result<(), Refusal> {
         sys::OVERFLOW => Err(Refusal::Overflow),
         sys::WRONG_PLACES => Err(Refusal::WrongPlaces),
         sys::WRONG_PATTERNS => Err(Refusal::WrongPatterns),
-        sys::DAMAGED_TABLE => Err(Refusal::DamagedTable),
         _ => unreachable!("texts are UTF-8, and the options are known"),
     }
 }

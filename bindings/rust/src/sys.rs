@@ -7,7 +7,6 @@ pub const TOO_SMALL: u32 = 3;
 pub const OVERFLOW: u32 = 5;
 pub const WRONG_PLACES: u32 = 6;
 pub const WRONG_PATTERNS: u32 = 7;
-pub const DAMAGED_TABLE: u32 = 8;
 pub const VERSION: u32 = 1;
 pub const LEFT: u32 = 0;
 pub const RIGHT: u32 = 1;
@@ -118,6 +117,15 @@ pub struct Gaps {
     pub middle: Text,
     pub right: Text,
     pub reserved_sizes: [usize; 4],
+}
+
+#[repr(C)]
+pub struct Dictionary {
+    pub numbers: *const usize,
+    pub numbers_len: usize,
+    pub in_parts: u32,
+    pub is_checked: u32,
+    pub reserved_sizes: [usize; 2],
 }
 
 #[repr(C)]
@@ -474,10 +482,10 @@ extern "C" {
         line: *mut usize,
     ) -> u32;
 
+    pub fn textwrap_patterns_check(numbers: *const usize, numbers_len: usize) -> u32;
+
     pub fn textwrap_hyphen_points(
-        table: *const usize,
-        table_len: usize,
-        in_parts: u32,
+        dictionary: *const Dictionary,
         word: *const u8,
         word_len: usize,
         points: *mut usize,
@@ -489,9 +497,7 @@ extern "C" {
         text: *const u8,
         text_len: usize,
         options: *const Options,
-        table: *const usize,
-        table_len: usize,
-        in_parts: u32,
+        dictionary: *const Dictionary,
         room: *mut u8,
         room_len: usize,
         len: *mut usize,
@@ -501,11 +507,34 @@ extern "C" {
         text: *const u8,
         text_len: usize,
         options: *const Options,
-        table: *const usize,
-        table_len: usize,
-        in_parts: u32,
+        dictionary: *const Dictionary,
         lines: *mut Line,
         lines_len: usize,
+        count: *mut usize,
+        room: *mut u8,
+        room_len: usize,
+        len: *mut usize,
+    ) -> u32;
+
+    pub fn textwrap_refill_hyphenated(
+        text: *const u8,
+        text_len: usize,
+        options: *const Options,
+        dictionary: *const Dictionary,
+        room: *mut u8,
+        room_len: usize,
+        len: *mut usize,
+    ) -> u32;
+
+    pub fn textwrap_wrap_columns_hyphenated(
+        text: *const u8,
+        text_len: usize,
+        columns: usize,
+        options: *const Options,
+        gaps: *const Gaps,
+        dictionary: *const Dictionary,
+        rows: *mut Line,
+        rows_len: usize,
         count: *mut usize,
         room: *mut u8,
         room_len: usize,

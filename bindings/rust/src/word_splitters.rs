@@ -188,7 +188,7 @@ fn points_at_hyphens(word: &str) -> Result<Vec<usize>, OutOfMemory> {
 }
 
 /// The points of a word by patterns together with those after its hyphens, in order.
-pub(crate) fn with_hyphens(mut points: Vec<usize>, word: &str) -> Result<Vec<usize>, OutOfMemory> {
+fn with_hyphens(mut points: Vec<usize>, word: &str) -> Result<Vec<usize>, OutOfMemory> {
     let at_hyphens = points_at_hyphens(word)?;
     if points.is_empty() || at_hyphens.is_empty() {
         return Ok(if points.is_empty() { at_hyphens } else { points });

@@ -1,21 +1,27 @@
 //! Hyphenation by patterns.
-ghost use Rattle.std.specs.Prelude.{◌≡◌, ◌≢◌, ◌<◌, ◌≤◌, ◌↔◌, ◌⊎◌, false, IsUtf8};
-ghost use Rattle.textwrap_calls.specs.Options.{says_yes, AreTexts};
+ghost use Rattle.std.specs.Prelude.{◌≡◌, ◌≢◌, ◌≤◌, ◌↔◌, ◌⊎◌, false, true, IsUtf8};
+ghost use Rattle.textwrap_calls.specs.Columns.{AreRows};
+ghost use Rattle.textwrap_calls.specs.Options.{AreTexts};
 ghost use Rattle.textwrap_calls.specs.Room.{WritesText};
-ghost use Rattle.textwrap_calls.specs.Status.{not_utf8, too_small, unknown_options};
+ghost use Rattle.textwrap_calls.specs.Status.{done, not_utf8, too_small, unknown_options};
 ghost use Rattle.textwrap_calls.specs.Wrapping.{WritesLines};
-ghost use Rattle.textwrap_hyphen_calls.specs.Dictionaries.{AreNumbersOf, IsWrongAt};
-ghost use Rattle.textwrap_hyphen_calls.specs.Hyphenated.{AreKnownHere, ArePlacedByTable};
-ghost use Rattle.textwrap_hyphen_calls.specs.Hyphenated.{IsFilledByTable};
+ghost use Rattle.textwrap_hyphen_calls.specs.Dictionaries.{AreNumbersOf, hyphenation_of, IsDamaged};
+ghost use Rattle.textwrap_hyphen_calls.specs.Dictionaries.{IsKnownDictionary, IsWrongAt};
+ghost use Rattle.textwrap_hyphen_calls.specs.Hyphenated.{AreKnownHere, AreKnownInColumns};
+ghost use Rattle.textwrap_hyphen_calls.specs.Hyphenated.{ArePlacedByDictionary, AreTextsInColumns};
+ghost use Rattle.textwrap_hyphen_calls.specs.Hyphenated.{IsFilledByDictionary};
+ghost use Rattle.textwrap_hyphen_calls.specs.Hyphenated.{IsInColumnsByDictionary};
+ghost use Rattle.textwrap_hyphen_calls.specs.Hyphenated.{IsRefilledByDictionary};
 ghost use Rattle.textwrap_hyphen_calls.specs.Status.{damaged_table, wrong_patterns};
 ghost use Rattle.textwrap_hyphens.specs.Points.{points_of};
 ghost use Rattle.textwrap_hyphens.specs.Seal.{is_sealed};
-ghost use Rattle.textwrap_hyphens.specs.Table.{held_in};
 
 use std::alloc::Global;
+use textwrap_calls::columns::TextwrapGaps;
 use textwrap_calls::options::TextwrapOptions;
 use textwrap_calls::wrapping::TextwrapLine;
-use textwrap_hyphen_calls::{filling, points, reading, wrapping};
+use textwrap_hyphen_calls::dictionary::TextwrapDictionary;
+use textwrap_hyphen_calls::{columns, filling, points, reading, refilling, wrapping};
 
 /// Exports [`textwrap_hyphen_calls::reading::textwrap_patterns_read`].
 #[unsafe(no_mangle)]
@@ -35,26 +41,34 @@ pub extern "C" fn textwrap_patterns_read(
     reading::textwrap_patterns_read(alloc, text, room, len, line)
 }
 
+/// Exports [`textwrap_hyphen_calls::reading::textwrap_patterns_check`].
+#[unsafe(no_mangle)]
+pub extern "C" fn textwrap_patterns_check(numbers: &[usize]) -> u32
+    ensures done { result ≡ done ↔ is_sealed numbers.now ≡ true }
+    ensures damaged { result ≡ damaged_table ↔ is_sealed numbers.now ≡ false }
+    ensures statuses { (result ≡ done) ⊎ (result ≡ damaged_table) }
+{
+    reading::textwrap_patterns_check(numbers)
+}
+
 /// Exports [`textwrap_hyphen_calls::points::textwrap_hyphen_points`].
 #[unsafe(no_mangle)]
 pub extern "C" fn textwrap_hyphen_points(
     alloc: Global,
-    table: &[usize],
-    in_parts: u32,
+    dictionary: &TextwrapDictionary<'_>,
     word: &[u8],
     points: &mut [usize],
     count: &mut usize,
 ) -> u32
-    ensures points { WritesText (λ answer. answer
-        ≡ points_of (held_in table.now (says_yes in_parts)) word.now)
+    ensures points { WritesText (λ answer. answer ≡ points_of (hyphenation_of dictionary.now) word.now)
         result points.old points.new count.old count.new }
-    ensures unknown { result ≡ unknown_options ↔ 1 < in_parts }
-    ensures not_utf8 { result ≡ not_utf8 ↔ (in_parts ≤ 1) × ¬ IsUtf8 word.now }
+    ensures unknown { result ≡ unknown_options ↔ ¬ IsKnownDictionary dictionary.now }
+    ensures not_utf8 { result ≡ not_utf8 ↔ IsKnownDictionary dictionary.now × ¬ IsUtf8 word.now }
     ensures damaged { result ≡ damaged_table
-        ↔ (in_parts ≤ 1) × IsUtf8 word.now × (is_sealed table.now ≡ false) }
+        ↔ IsKnownDictionary dictionary.now × IsUtf8 word.now × IsDamaged dictionary.now }
     ensures statuses { (result ≤ unknown_options) ⊎ (result ≡ damaged_table) }
 {
-    points::textwrap_hyphen_points(alloc, table, in_parts, word, points, count)
+    points::textwrap_hyphen_points(alloc, dictionary, word, points, count)
 }
 
 /// Exports [`textwrap_hyphen_calls::filling::textwrap_fill_hyphenated`].
@@ -63,21 +77,42 @@ pub extern "C" fn textwrap_fill_hyphenated(
     alloc: Global,
     text: &[u8],
     options: &TextwrapOptions<'_>,
-    table: &[usize],
-    in_parts: u32,
+    dictionary: &TextwrapDictionary<'_>,
     room: &mut [u8],
     len: &mut usize,
 ) -> u32
-    ensures filled { WritesText (IsFilledByTable options.now table.now in_parts text.now)
+    ensures filled { WritesText (IsFilledByDictionary options.now dictionary.now text.now)
         result room.old room.new len.old len.new }
-    ensures unknown { result ≡ unknown_options ↔ ¬ AreKnownHere options.now in_parts }
-    ensures not_utf8 { result ≡ not_utf8 ↔ AreKnownHere options.now in_parts
+    ensures unknown { result ≡ unknown_options ↔ ¬ AreKnownHere options.now dictionary.now }
+    ensures not_utf8 { result ≡ not_utf8 ↔ AreKnownHere options.now dictionary.now
         × ¬ (IsUtf8 text.now × AreTexts options.now) }
-    ensures damaged { result ≡ damaged_table ↔ AreKnownHere options.now in_parts
-        × (IsUtf8 text.now × AreTexts options.now) × (is_sealed table.now ≡ false) }
+    ensures damaged { result ≡ damaged_table ↔ AreKnownHere options.now dictionary.now
+        × (IsUtf8 text.now × AreTexts options.now) × IsDamaged dictionary.now }
     ensures statuses { (result ≤ unknown_options) ⊎ (result ≡ damaged_table) }
 {
-    filling::textwrap_fill_hyphenated(alloc, text, options, table, in_parts, room, len)
+    filling::textwrap_fill_hyphenated(alloc, text, options, dictionary, room, len)
+}
+
+/// Exports [`textwrap_hyphen_calls::refilling::textwrap_refill_hyphenated`].
+#[unsafe(no_mangle)]
+pub extern "C" fn textwrap_refill_hyphenated(
+    alloc: Global,
+    text: &[u8],
+    options: &TextwrapOptions<'_>,
+    dictionary: &TextwrapDictionary<'_>,
+    room: &mut [u8],
+    len: &mut usize,
+) -> u32
+    ensures refilled { WritesText (IsRefilledByDictionary options.now dictionary.now text.now)
+        result room.old room.new len.old len.new }
+    ensures unknown { result ≡ unknown_options ↔ ¬ AreKnownHere options.now dictionary.now }
+    ensures not_utf8 { result ≡ not_utf8 ↔ AreKnownHere options.now dictionary.now
+        × ¬ (IsUtf8 text.now × AreTexts options.now) }
+    ensures damaged { result ≡ damaged_table ↔ AreKnownHere options.now dictionary.now
+        × (IsUtf8 text.now × AreTexts options.now) × IsDamaged dictionary.now }
+    ensures statuses { (result ≤ unknown_options) ⊎ (result ≡ damaged_table) }
+{
+    refilling::textwrap_refill_hyphenated(alloc, text, options, dictionary, room, len)
 }
 
 /// Exports [`textwrap_hyphen_calls::wrapping::textwrap_wrap_hyphenated`].
@@ -86,23 +121,52 @@ pub extern "C" fn textwrap_wrap_hyphenated(
     alloc: Global,
     text: &[u8],
     options: &TextwrapOptions<'_>,
-    table: &[usize],
-    in_parts: u32,
+    dictionary: &TextwrapDictionary<'_>,
     lines: &mut [TextwrapLine],
     count: &mut usize,
     room: &mut [u8],
     len: &mut usize,
 ) -> u32
-    ensures wrapped { WritesLines (ArePlacedByTable options.now table.now in_parts text.now)
+    ensures wrapped { WritesLines (ArePlacedByDictionary options.now dictionary.now text.now)
         text.now result lines.old lines.new count.old count.new room.old room.new len.old len.new }
-    ensures unknown { result ≡ unknown_options ↔ ¬ AreKnownHere options.now in_parts }
-    ensures not_utf8 { result ≡ not_utf8 ↔ AreKnownHere options.now in_parts
+    ensures unknown { result ≡ unknown_options ↔ ¬ AreKnownHere options.now dictionary.now }
+    ensures not_utf8 { result ≡ not_utf8 ↔ AreKnownHere options.now dictionary.now
         × ¬ (IsUtf8 text.now × AreTexts options.now) }
-    ensures damaged { result ≡ damaged_table ↔ AreKnownHere options.now in_parts
-        × (IsUtf8 text.now × AreTexts options.now) × (is_sealed table.now ≡ false) }
+    ensures damaged { result ≡ damaged_table ↔ AreKnownHere options.now dictionary.now
+        × (IsUtf8 text.now × AreTexts options.now) × IsDamaged dictionary.now }
     ensures statuses { (result ≤ unknown_options) ⊎ (result ≡ damaged_table) }
 {
-    wrapping::textwrap_wrap_hyphenated(
-        alloc, text, options, table, in_parts, lines, count, room, len,
+    wrapping::textwrap_wrap_hyphenated(alloc, text, options, dictionary, lines, count, room, len)
+}
+
+/// Exports [`textwrap_hyphen_calls::columns::textwrap_wrap_columns_hyphenated`].
+#[unsafe(no_mangle)]
+pub extern "C" fn textwrap_wrap_columns_hyphenated(
+    alloc: Global,
+    text: &[u8],
+    columns: usize,
+    options: &TextwrapOptions<'_>,
+    gaps: &TextwrapGaps<'_>,
+    dictionary: &TextwrapDictionary<'_>,
+    rows: &mut [TextwrapLine],
+    count: &mut usize,
+    room: &mut [u8],
+    len: &mut usize,
+) -> u32
+    ensures columns { WritesLines (λ lines _. AreRows (IsInColumnsByDictionary options.now
+        dictionary.now gaps.now columns text.now) lines)
+        text.now result rows.old rows.new count.old count.new room.old room.new len.old len.new }
+    ensures unknown { result ≡ unknown_options
+        ↔ ¬ AreKnownInColumns columns options.now gaps.now dictionary.now }
+    ensures not_utf8 { result ≡ not_utf8
+        ↔ AreKnownInColumns columns options.now gaps.now dictionary.now
+        × ¬ AreTextsInColumns text.now options.now gaps.now }
+    ensures damaged { result ≡ damaged_table
+        ↔ AreKnownInColumns columns options.now gaps.now dictionary.now
+        × AreTextsInColumns text.now options.now gaps.now × IsDamaged dictionary.now }
+    ensures statuses { (result ≤ unknown_options) ⊎ (result ≡ damaged_table) }
+{
+    columns::textwrap_wrap_columns_hyphenated(
+        alloc, text, columns, options, gaps, dictionary, rows, count, room, len,
     )
 }

@@ -1,2 +1,3 @@
 pub mod PlacedHyphens
+pub mod ReadColumns
 pub mod ReadOptions

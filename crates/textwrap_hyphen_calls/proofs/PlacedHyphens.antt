@@ -8,9 +8,10 @@ use Rattle.textwrap_calls.proofs.Common.{sizes_of, subst, sym, tiled, widths_of,
 use Rattle.textwrap_calls.proofs.Common.{[], ◌∙◌, ◌∷◌, ◌≡◌}
 use Rattle.textwrap_calls.proofs.PlaceLemmas.{AreBegun, groups-cut, shown-places}
 use Rattle.std.proofs.Math.Seq.{take-length}
-use Rattle.textwrap.specs.WrapAlgorithms.{Algorithm}
 use Rattle.textwrap_hyphenated.proofs.Points.{held-cuts}
-use Rattle.textwrap_hyphenated.specs.Hyphenated.{ArePointsBy, DividesAtPoints}
+use Rattle.textwrap_hyphenated.proofs.PlainPieces.{are_words-texts}
+use Rattle.textwrap_hyphenated.specs.Hyphenated.{ArePointsBy}
+use Rattle.textwrap_hyphenated.specs.Plain.{AreWordsBy, DividesPlainlyAt}
 use Rattle.textwrap_hyphens.specs.Table.{held}
 use Rattle.textwrap_hyphens.specs.declared.table.PatternTable.{PatternTable}
 use Rattle.textwrap_layout.proofs.Paragraph.Pieces.{pieces-tile}
@@ -19,8 +20,8 @@ use Rattle.textwrap_layout.proofs.Text.Sinks.{lines_of-cut_lines}
 use Rattle.textwrap_layout.specs.Places.{text_cuts}
 use Rattle.textwrap_lines.proofs.Text.Groups.{groups-tile}
 use Rattle.textwrap_text.proofs.Common.{map-append}
-use Rattle.textwrap_words.proofs.Word.Pieces.{AreTexts-words}
-use Rattle.textwrap_words.specs.Words.{AreWordsOf}
+use Rattle.textwrap_plain.specs.Options.{algorithm_of, settings_of}
+use Rattle.textwrap_plain.specs.declared.options.PlainOptions.{PlainOptions}
 
 -- paragraphs begin with what their lines cover, if they are that
 begun : (is_later : Bool) (groups : List (List LineParts))
@@ -39,17 +40,20 @@ cut-lines ending start (parts ∷ groups) = simp (
   cut-lines ending (start + length (covered_by parts) + ending) groups,
 )
 
-module _ (patterns : PatternTable) (settings : Settings) (algorithm : Algorithm) where
+module _ (patterns : PatternTable) (o : PlainOptions) where
+  abbrev settings : Settings
+  settings = settings_of o
+
   abbrev Divides : Bool → List ℕ → List (List WordText) → Type 0
-  Divides = DividesAtPoints (held patterns) algorithm settings
+  Divides = DividesPlainlyAt (held patterns) o settings
 
   divided-tile : (is_later : Bool) (paragraph : List ℕ) (division : List (List WordText))
       → IsUtf8 paragraph → Divides is_later paragraph division → tiled (flat division) ≡ paragraph
   divided-tile is_later paragraph division utf8 (pieces, are, divided) =
-      ap tiled (IsDividedBy-whole sizes_of algorithm (widths_of settings is_later) pieces division
-      divided)
-      ∙ pieces-tile settings AreWordsOf (ArePointsBy (held patterns)) AreTexts-words
-      (held-cuts patterns) paragraph pieces utf8 are
+      ap tiled (IsDividedBy-whole sizes_of (algorithm_of o) (widths_of settings is_later) pieces
+      division divided)
+      ∙ pieces-tile settings (AreWordsBy o.word_separator) (ArePointsBy (held patterns))
+      (are_words-texts o.word_separator) (held-cuts patterns) paragraph pieces utf8 are
 
   pub placed-hyphens-shown : (text : List ℕ) (lines : List Line) (places : List Place) → IsUtf8 text
       → ArePlacedLines settings Divides text lines places

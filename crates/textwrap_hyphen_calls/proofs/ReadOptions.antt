@@ -1,20 +1,42 @@
--- Options that were read, with words between blanks, have the parts that a hyphenated text is made by.
-use Rattle.textwrap_calls.proofs.Common.{algorithm_of, ap, settings_of, ◌∙◌}
+-- What a hyphenated text is by options and a dictionary as the library has them, it is by what these were
+-- read from.
+use Rattle.textwrap_calls.proofs.Common.{ArePlacedLines, Line, List, Place, Settings, subst, ℕ, ◌≡◌}
 use Rattle.textwrap_calls.specs.Options.{AreRead}
 use Rattle.textwrap_calls.specs.declared.options.TextwrapOptions.{TextwrapOptions}
-use Rattle.std.specs.Prelude.{Some}
-use Rattle.textwrap_hyphenated.specs.Hyphenated.{HasPartsBeside}
-use Rattle.textwrap_layout.specs.Options.{HasParts}
-use Rattle.textwrap_layout.specs.declared.options.Options.{Options}
+use Rattle.textwrap.specs.Filling.{IsFilled}
+use Rattle.textwrap.specs.Refilling.{IsRefilled}
+use Rattle.textwrap_hyphenated.specs.Plain.{DividesPlainlyAt}
+use Rattle.textwrap_hyphens.specs.Hyphenation.{Hyphenation}
 use Rattle.textwrap_plain.specs.Options as plain
 use Rattle.textwrap_plain.specs.declared.options.PlainOptions.{PlainOptions}
+use Rattle.textwrap_hyphen_calls.specs.Dictionaries.{hyphenation_of}
+use Rattle.textwrap_hyphen_calls.specs.Hyphenated.{ArePlacedByDictionary, IsFilledByDictionary}
+use Rattle.textwrap_hyphen_calls.specs.Hyphenated.{IsRefilledByDictionary}
+use Rattle.textwrap_hyphen_calls.specs.declared.dictionary.TextwrapDictionary.{TextwrapDictionary}
 
-pub parts-read : {E C : Type 0} {e : _} {c : _} (o : TextwrapOptions) (read : PlainOptions)
-    (options : Options E C e c) → AreRead o read
-    → HasParts options (plain.settings_of read) (plain.splitter_of read) (plain.algorithm_of read)
-    → HasPartsBeside options (settings_of o) (algorithm_of o)
-parts-read o read options are parts = record {
-  settings_are = parts.settings_are ∙ are.settings;
-  separator = parts.separator;
-  algorithm_is = parts.algorithm_is ∙ ap Some are.algorithm;
-}
+module _ (o : TextwrapOptions) (read : PlainOptions) (d : TextwrapDictionary) (h : Hyphenation)
+    (are : AreRead o read) (is : h ≡ hyphenation_of d) where
+  pub filled-read : (text filled : List ℕ)
+      → IsFilled (plain.settings_of read) (DividesPlainlyAt h read (plain.settings_of read)) text filled
+      → IsFilledByDictionary o d text filled
+  filled-read text filled made =
+      let here = subst (λ (s : Settings). IsFilled s (DividesPlainlyAt h read s) text filled)
+      are.settings made in
+      rw (are.separator, are.algorithm, is) at here
+
+  pub refilled-read : (text refilled : List ℕ)
+      → IsRefilled (plain.settings_of read) (DividesPlainlyAt h read) text refilled
+      → IsRefilledByDictionary o d text refilled
+  refilled-read text refilled made =
+      let here = subst (λ (s : Settings). IsRefilled s (DividesPlainlyAt h read) text refilled)
+      are.settings made in
+      rw (are.separator, are.algorithm, is) at here
+
+  pub placed-read : (text : List ℕ) (lines : List Line) (places : List Place)
+      → ArePlacedLines (plain.settings_of read) (DividesPlainlyAt h read (plain.settings_of read)) text
+      lines places
+      → ArePlacedByDictionary o d text lines places
+  placed-read text lines places made =
+      let here = subst (λ (s : Settings). ArePlacedLines s (DividesPlainlyAt h read s) text lines places)
+      are.settings made in
+      rw (are.separator, are.algorithm, is) at here

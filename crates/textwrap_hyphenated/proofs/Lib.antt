@@ -1,6 +1,7 @@
 pub mod InColumns
 pub mod Passing
 pub mod Pieces
+pub mod PlainPieces
 pub mod Points
 pub mod Refilled
 pub mod SplitPoints

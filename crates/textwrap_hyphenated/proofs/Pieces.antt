@@ -9,8 +9,8 @@ use Rattle.textwrap_layout.proofs.Common.{empty_word, front_pieces, later_width}
 use Rattle.textwrap_base.proofs.Common.{total_width}
 use Rattle.textwrap_words.proofs.Common.{MaySeparate, WordText, sizes_of}
 use Rattle.textwrap_words.proofs.Word.Parts.{MaySeparate-texts}
-use Rattle.textwrap_words.proofs.Word.Pieces.{split-measured, split-tile}
-use Rattle.textwrap_layout.proofs.Common.{ArePieces, settings_view}
+use Rattle.textwrap_words.proofs.Word.Pieces.{AreTexts, split-measured, split-tile}
+use Rattle.textwrap_layout.proofs.Common.{ArePieces, Settings, settings_view}
 use Rattle.textwrap_layout.specs.declared.options.Options.{Options}
 use Rattle.textwrap_hyphens.specs.Table.{held}
 use Rattle.textwrap_hyphens.specs.declared.table.PatternTable.{PatternTable}
@@ -38,21 +38,20 @@ broken_word-hyphens limit w has false = All-cons HasHyphenAtMost w [] has (All-n
 
 -- ---- the pieces of a paragraph
 
-module _ {E C : Type 0} {e : _} {c : _} (options : Options E C e c) (patterns : PatternTable) where
+module _ (settings : Settings) (Words : List ℕ → List WordText → Type 0)
+    (texts : (line : List ℕ) (words : List WordText) → IsUtf8 line → Words line words
+    → AreTexts line words) (patterns : PatternTable) where
   -- the pieces of a paragraph are together at most twice as wide as it has bytes
   pub hyphenated-wide : (paragraph : List ℕ) (pieces : List WordText) → IsUtf8 paragraph
-      → ArePieces (settings_view options) (MaySeparate options.word_separator)
-      (ArePointsBy (held patterns)) paragraph pieces
+      → ArePieces settings Words (ArePointsBy (held patterns)) paragraph pieces
       → total_width sizes_of pieces ≤ 2 * length paragraph
   hyphenated-wide paragraph pieces utf8 (words, split, words_are, split_are, is) =
-      let texts = MaySeparate-texts options.word_separator in
       let are = texts paragraph words utf8 words_are in
-      let Words = MaySeparate options.word_separator in
       let Points = ArePointsBy (held patterns) in
       omega (
         arith,
         ap (total_width sizes_of) is,
-        pieces-wide (settings_view options) split
+        pieces-wide settings split
             (split-measured Words Points texts (held-cuts patterns) paragraph split utf8
             (words, words_are, split_are))
             (split-carries patterns words split are.measured are.plain split_are),
@@ -60,6 +59,7 @@ module _ {E C : Type 0} {e : _} {c : _} (options : Options E C e c) (patterns : 
             (words, words_are, split_are)),
       )
 
+module _ {E C : Type 0} {e : _} {c : _} (options : Options E C e c) (patterns : PatternTable) where
   -- behind each of them nothing is printed, or a hyphen
   pub hyphenated-hyphens : (paragraph : List ℕ) (pieces : List WordText) → IsUtf8 paragraph
       → ArePieces (settings_view options) (MaySeparate options.word_separator)

@@ -1,6 +1,6 @@
 -- The points of a word are cuts inside it, and no piece between them is empty.
-use Rattle.textwrap_text.proofs.Common.{All, All-append, All-cons, All-head, All-map, All-nil}
-use Rattle.textwrap_text.proofs.Common.{All-tail, IsUtf8, List, [], ap, arith, drop, get_or, length}
+use Rattle.textwrap_text.proofs.Common.{All, All-append, All-cons, All-head, All-nil}
+use Rattle.textwrap_text.proofs.Common.{All-tail, IsUtf8, List, [], ap, arith, drop, length}
 use Rattle.textwrap_text.proofs.Common.{slice_range, subst, sym, ℕ}
 use Rattle.textwrap_text.proofs.Common.{◌∷◌, ◌≤◌}
 use Rattle.textwrap_text.proofs.Lists.Parts.{length-slice}

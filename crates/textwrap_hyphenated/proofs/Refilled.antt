@@ -2,10 +2,10 @@
 -- unfilled text ends in an ending, that was added.
 use Rattle.textwrap_text.proofs.Common.{All, All-append, All-cons, All-drop, All-head, All-map}
 use Rattle.textwrap_text.proofs.Common.{All-nil, All-tail, All-take, All-weaker, Bool, List, [], ap₂, append-nil, drop}
-use Rattle.textwrap_text.proofs.Common.{arith, blank, cond, ends_with, eqb-true, ending_bytes, false}
-use Rattle.textwrap_text.proofs.Common.{false_from_ne_true, join_with, last, length, line_feed, map}
+use Rattle.textwrap_text.proofs.Common.{arith, blank, cond, ends_with, ending_bytes, false}
+use Rattle.textwrap_text.proofs.Common.{false_from_ne_true, join_with, length, line_feed, map}
 use Rattle.textwrap_text.proofs.Common.{nat_eq, refl, rules, slice_index, strip_carriage_return, sym}
-use Rattle.textwrap_text.proofs.Common.{take, true, ℕ, ◌++◌, ◌-◌, ◌==◌, ◌∙◌, ◌∷◌, ◌≡◌, ◌≢◌, subst}
+use Rattle.textwrap_text.proofs.Common.{take, true, ℕ, ◌++◌, ◌-◌, ◌==◌, ◌∙◌, ◌∷◌, ◌≡◌, ◌≢◌}
 use Rattle.textwrap_text.proofs.Lists.Parts.{ends_with-true}
 use Rattle.textwrap_text.proofs.TextLines.{by-lines, ended_lines-front, ended_lines-whole, last-free}
 use Rattle.textwrap_text.specs.declared.line_ending.LineEnding.{LineEnding}
@@ -23,7 +23,6 @@ use Rattle.textwrap_hyphens.specs.declared.table.PatternTable.{PatternTable}
 use Rattle.textwrap_hyphenated.proofs.Wrapping.{divides-under}
 use Rattle.textwrap_hyphenated.specs.Hyphenated.{DividesAtPoints, DividesHyphenatedUnder}
 use Rattle.textwrap_hyphenated.specs.Hyphenated.{HasPartsBeside}
-use Rattle.std.proofs.lemmas.Bool.{true≢false}
 use Rattle.std.proofs.lemmas.List.{append_cancel_right}
 use Rattle.std.proofs.lemmas.List.Elements.{All-filter, All-push}
 

@@ -1,2 +1,3 @@
 pub mod Hyphenated
 pub mod Laws
+pub mod Plain

@@ -8,14 +8,16 @@ ghost use Rattle.textwrap_layout.specs.Filling.{IsFilled};
 ghost use Rattle.textwrap_layout.specs.Options.{Settings, settings_view};
 ghost use Rattle.textwrap.specs.Refilling.{IsRefilled, added_ending};
 ghost use Rattle.textwrap_hyphens.specs.Table.{held};
-ghost use Rattle.textwrap_hyphenated.specs.Hyphenated.{DividesAtPoints, DividesHyphenated};
+ghost use Rattle.textwrap_hyphenated.specs.Hyphenated.{DividesAtPoints};
 ghost use Rattle.textwrap_hyphenated.specs.Hyphenated.{DividesHyphenatedUnder, HasPartsBeside};
 
-use crate::texts::fill_hyphenated;
+use crate::options::HyphenatedOptions;
 use std::alloc::Allocator;
 use textwrap::unfill;
 use textwrap_hyphens::table::PatternTable;
+use textwrap_layout::any_options::AnyOptions;
 use textwrap_layout::options::Options;
+use textwrap_lines::inner::fill_by;
 use textwrap_text::line_ending::LineEnding;
 use textwrap_words::wrap_algorithms::WrapError;
 
@@ -52,12 +54,13 @@ pub fn refill_hyphenated<A: Allocator + Copy>(
         subsequent_indent: layout.subsequent_indent,
         ..options
     };
-    fill_joined(alloc, joined, keeps_ending, options, patterns)
+    let options = HyphenatedOptions { options, patterns };
+    fill_joined(alloc, joined, keeps_ending, &options)
 }
 
 /// The joined lines of an unfilled text, without the line ending that it may end in, and whether it
 /// ends in that.
-fn split_ending(unfilled: &str, ending: LineEnding) -> (&str, bool)
+pub(crate) fn split_ending(unfilled: &str, ending: LineEnding) -> (&str, bool)
     ensures whole { unfilled.now ≡ result.0.now ++ added_ending result.1 ending }
     ensures ends { result.1 ≡ ends_with nat_eq unfilled.now (ending_bytes ending) }
 {
@@ -70,25 +73,21 @@ fn split_ending(unfilled: &str, ending: LineEnding) -> (&str, bool)
 /// Fills the joined lines of a text, and adds the line ending, if the text ends in its own.
 ///
 /// # Errors
-/// Those of [`fill_hyphenated`].
-fn fill_joined<A: Allocator + Copy>(
+/// Those of `wrap`.
+pub(crate) fn fill_joined<A: Allocator + Copy, O: AnyOptions<A>>(
     alloc: A,
     joined: &str,
     keeps_ending: bool,
-    options: Options<'_>,
-    patterns: &PatternTable<'_>,
+    options: &O,
 ) -> Result<String<A>, WrapError>
-    ensures filled { IfOk result (λ refilled. (filled : List ℕ)
-        × IsFilled (settings_view options.entry)
-        (DividesHyphenated options.entry (held patterns.now)) joined.now filled
-        × (string_bytes refilled
-        ≡ filled ++ added_ending keeps_ending (settings_view options.entry).line_ending)) }
-    ensures only_memory { OnlyMemoryRunsOut result }
+    ensures filled { IfOk result (λ refilled. (filled : List ℕ) × IsFilled (O.settings options.now)
+        (O.divides options.now) joined.now filled × (string_bytes refilled
+        ≡ filled ++ added_ending keeps_ending (O.settings options.now).line_ending)) }
+    ensures only_memory { ¬ O.may_overflow options.now → OnlyMemoryRunsOut result }
 {
-    let ending = options.line_ending;
-    let mut filled = fill_hyphenated(alloc, joined, options, patterns)?;
+    let mut filled = fill_by(alloc, joined, options)?;
     if keeps_ending {
-        filled.push_str(ending.as_str())?;
+        filled.push_str(options.layout().line_ending.as_str())?;
     }
     Ok(filled)
 }

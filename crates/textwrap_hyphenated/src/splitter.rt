@@ -1,10 +1,10 @@
 //! Words, split where a dictionary has hyphens, and behind hyphens of their own.
-ghost use Rattle.std.specs.Prelude.{◌≡◌, ◌==◌, IfOk, List, map};
+ghost use Rattle.std.specs.Prelude.{◌≡◌, ◌==◌, ◌++◌, IfOk, List, OnOk, map, ℕ};
 ghost use Rattle.std.specs.List.{list_any};
 ghost use Rattle.std.specs.List.Sorted.{IsStrictlyIncreasing};
 ghost use Rattle.textwrap_words.specs.Cuts.{AreCuts};
 ghost use Rattle.textwrap_words.specs.WordSeparators.{MaySeparate};
-ghost use Rattle.textwrap_words.specs.WordSplitters.{AreSplit};
+ghost use Rattle.textwrap_words.specs.WordSplitters.{AreSplit, split_pieces};
 ghost use Rattle.textwrap_words.specs.Words.{WordText, word_view};
 ghost use Rattle.textwrap_hyphens.specs.Table.{held};
 ghost use Rattle.textwrap_hyphenated.specs.Hyphenated.{ArePointsBy};
@@ -36,7 +36,7 @@ pub(crate) fn find_split_words<'t, A: Allocator + Copy>(
 }
 
 /// The words, split.
-fn split_each<'t, A: Allocator + Copy>(
+pub(crate) fn split_each<'t, A: Allocator + Copy>(
     alloc: A,
     words: Words<'t, A>,
     patterns: &PatternTable<'_>,
@@ -46,10 +46,41 @@ fn split_each<'t, A: Allocator + Copy>(
 {
     let mut pieces = Vec::new(alloc);
     for word in words {
-        let found = split_points(alloc, word.word, patterns)?;
-        push_split(&mut pieces, word, &found)?;
+        push_pieces(alloc, &mut pieces, word, patterns)?;
     }
     Ok(pieces)
+}
+
+/// The same of words that are listed.
+pub(crate) fn split_list<'t, A: Allocator + Copy>(
+    alloc: A,
+    words: &[Word<'t>],
+    patterns: &PatternTable<'_>,
+) -> Result<Vec<Word<'t>, A>, AllocError>
+    ensures { IfOk result (λ pieces. AreSplit (ArePointsBy (held patterns.now))
+        (map word_view words.now) (map word_view pieces.items)) }
+{
+    let mut pieces = Vec::new(alloc);
+    for word in words {
+        push_pieces(alloc, &mut pieces, *word, patterns)?;
+    }
+    Ok(pieces)
+}
+
+/// Adds the pieces of a word.
+fn push_pieces<'t, A: Allocator + Copy>(
+    alloc: A,
+    pieces: &mut Vec<Word<'t>, A>,
+    word: Word<'t>,
+    patterns: &PatternTable<'_>,
+) -> Result<(), AllocError>
+    ensures { OnOk result ((points : List ℕ)
+        × ArePointsBy (held patterns.now) word.entry.word.now points
+        × (map word_view pieces.new.items ≡ map word_view pieces.old.items
+        ++ split_pieces points (word_view word.entry))) }
+{
+    let points = split_points(alloc, word.word, patterns)?;
+    push_split(pieces, word, &points)
 }
 
 /// The offsets in bytes, in order, at which a word may be split: those of the dictionary, and those

@@ -5,12 +5,16 @@ use super::plain::{AT_6, BEFORE, DEFAULTS, LinesCall, OffsetsCall, TextCall, ass
 use super::texts::{TextRow, assert_beginnings, assert_texts};
 use std::alloc::{AllocError, Global};
 use std::process::Abort;
+use textwrap_calls::columns::TextwrapGaps;
 use textwrap_calls::options::TextwrapOptions;
 use textwrap_calls::status::{DONE, NOT_UTF8, TOO_SMALL, UNKNOWN_OPTIONS};
 use textwrap_calls::wrapping::TextwrapLine;
+use textwrap_hyphen_calls::columns::textwrap_wrap_columns_hyphenated;
+use textwrap_hyphen_calls::dictionary::TextwrapDictionary;
 use textwrap_hyphen_calls::filling::textwrap_fill_hyphenated;
 use textwrap_hyphen_calls::points::textwrap_hyphen_points;
-use textwrap_hyphen_calls::reading::textwrap_patterns_read;
+use textwrap_hyphen_calls::reading::{textwrap_patterns_check, textwrap_patterns_read};
+use textwrap_hyphen_calls::refilling::textwrap_refill_hyphenated;
 use textwrap_hyphen_calls::status::{DAMAGED_TABLE, WRONG_PATTERNS};
 use textwrap_hyphen_calls::wrapping::textwrap_wrap_hyphenated;
 
@@ -18,7 +22,7 @@ use textwrap_hyphen_calls::wrapping::textwrap_wrap_hyphenated;
 const PATTERNS: &[u8] = b"hy3ph\nhe2n\nhena4\nhen5at\n1na\nn2at\n1tio\n2io\no2n\n";
 
 /// How many numbers their dictionary has.
-const NUMBERS: usize = 129;
+const NUMBERS: usize = 149;
 
 /// How much room for numbers the longest row has.
 const MOST: usize = 160;
@@ -37,6 +41,8 @@ pub(super) enum Numbers {
     Exchanged,
     /// The last one is missing.
     Short,
+    /// There are none.
+    Empty,
 }
 
 /// What a call is given of a dictionary.
@@ -44,12 +50,16 @@ pub(super) enum Numbers {
 pub(super) struct Hyphens {
     numbers: Numbers,
     in_parts: u32,
+    is_checked: u32,
+    reserved_sizes: [usize; 2],
 }
 
 /// The whole dictionary.
 pub(super) const WHOLE: Hyphens = Hyphens {
     numbers: Numbers::Whole,
     in_parts: 0,
+    is_checked: 0,
+    reserved_sizes: [0; 2],
 };
 
 /// The same, which hyphenates the parts of words too.
@@ -58,10 +68,32 @@ const IN_PARTS: Hyphens = Hyphens {
     ..WHOLE
 };
 
-/// The same with a number that means nothing.
+/// The same without a test of the numbers.
+const CHECKED: Hyphens = Hyphens {
+    is_checked: 1,
+    ..IN_PARTS
+};
+
+/// Numbers that mean nothing.
 const UNKNOWN: Hyphens = Hyphens {
     in_parts: 2,
     ..WHOLE
+};
+
+const UNKNOWN_CHECK: Hyphens = Hyphens {
+    is_checked: 2,
+    ..WHOLE
+};
+
+/// A number in reserve that is not 0.
+const RESERVED: Hyphens = Hyphens {
+    reserved_sizes: [1, 0],
+    ..WHOLE
+};
+
+const LATER_RESERVED: Hyphens = Hyphens {
+    reserved_sizes: [0, 1],
+    ..CHECKED
 };
 
 /// Numbers that were damaged.
@@ -78,6 +110,17 @@ const EXCHANGED: Hyphens = Hyphens {
 const SHORT: Hyphens = Hyphens {
     numbers: Numbers::Short,
     ..WHOLE
+};
+
+/// Numbers that were damaged, and are not tested.
+const UNTESTED: Hyphens = Hyphens {
+    numbers: Numbers::Exchanged,
+    ..CHECKED
+};
+
+const NO_NUMBERS: Hyphens = Hyphens {
+    numbers: Numbers::Empty,
+    ..CHECKED
 };
 
 /// Reads a dictionary; the status, how many numbers are told, and which line.
@@ -102,7 +145,25 @@ fn hand_over(alloc: Global, numbers: Numbers, room: &mut [usize; MOST]) -> usize
             len
         }
         Numbers::Short => len.saturating_sub(1),
+        Numbers::Empty => 0,
     }
+}
+
+/// The dictionary of these numbers, as it is handed over.
+fn dictionary<'a>(hyphens: Hyphens, numbers: &'a [usize]) -> TextwrapDictionary<'a> {
+    TextwrapDictionary {
+        numbers,
+        in_parts: hyphens.in_parts,
+        is_checked: hyphens.is_checked,
+        reserved_sizes: hyphens.reserved_sizes,
+    }
+}
+
+/// Tests the numbers of the patterns. Answers the status.
+fn check(alloc: Global, numbers: Numbers) -> u32 {
+    let mut room = [NO_NUMBER; MOST];
+    let len = hand_over(alloc, numbers, &mut room).min(MOST);
+    textwrap_patterns_check(&room[..len])
 }
 
 /// Makes the call with the numbers of the patterns. Answers the status.
@@ -113,9 +174,10 @@ pub(super) fn write_points(
     points: &mut [usize],
     count: &mut usize,
 ) -> u32 {
-    let mut room = [NO_NUMBER; MOST];
-    let len = hand_over(alloc, hyphens.numbers, &mut room).min(MOST);
-    textwrap_hyphen_points(alloc, &room[..len], hyphens.in_parts, word, points, count)
+    let mut numbers = [NO_NUMBER; MOST];
+    let has = hand_over(alloc, hyphens.numbers, &mut numbers).min(MOST);
+    let dictionary = dictionary(hyphens, &numbers[..has]);
+    textwrap_hyphen_points(alloc, &dictionary, word, points, count)
 }
 
 /// The same of the call that fills.
@@ -129,8 +191,23 @@ pub(super) fn write_filled(
 ) -> u32 {
     let mut numbers = [NO_NUMBER; MOST];
     let has = hand_over(alloc, hyphens.numbers, &mut numbers).min(MOST);
-    let table = &numbers[..has];
-    textwrap_fill_hyphenated(alloc, text, options, table, hyphens.in_parts, room, len)
+    let dictionary = dictionary(hyphens, &numbers[..has]);
+    textwrap_fill_hyphenated(alloc, text, options, &dictionary, room, len)
+}
+
+/// The same of the call that fills a filled text again.
+pub(super) fn write_refilled(
+    alloc: Global,
+    hyphens: Hyphens,
+    text: &[u8],
+    options: &TextwrapOptions<'_>,
+    room: &mut [u8],
+    len: &mut usize,
+) -> u32 {
+    let mut numbers = [NO_NUMBER; MOST];
+    let has = hand_over(alloc, hyphens.numbers, &mut numbers).min(MOST);
+    let dictionary = dictionary(hyphens, &numbers[..has]);
+    textwrap_refill_hyphenated(alloc, text, options, &dictionary, room, len)
 }
 
 /// The same of the call that wraps.
@@ -146,14 +223,34 @@ pub(super) fn write_wrapped(
 ) -> u32 {
     let mut numbers = [NO_NUMBER; MOST];
     let has = hand_over(alloc, hyphens.numbers, &mut numbers).min(MOST);
-    let table = &numbers[..has];
-    textwrap_wrap_hyphenated(
+    let dictionary = dictionary(hyphens, &numbers[..has]);
+    textwrap_wrap_hyphenated(alloc, text, options, &dictionary, lines, count, room, len)
+}
+
+/// The same of the call that wraps into columns.
+pub(super) fn write_columns(
+    alloc: Global,
+    hyphens: Hyphens,
+    text: &[u8],
+    columns: usize,
+    options: &TextwrapOptions<'_>,
+    gaps: &TextwrapGaps<'_>,
+    rows: &mut [TextwrapLine],
+    count: &mut usize,
+    room: &mut [u8],
+    len: &mut usize,
+) -> u32 {
+    let mut numbers = [NO_NUMBER; MOST];
+    let has = hand_over(alloc, hyphens.numbers, &mut numbers).min(MOST);
+    let dictionary = dictionary(hyphens, &numbers[..has]);
+    textwrap_wrap_columns_hyphenated(
         alloc,
         text,
+        columns,
         options,
-        table,
-        hyphens.in_parts,
-        lines,
+        gaps,
+        &dictionary,
+        rows,
         count,
         room,
         len,
@@ -170,7 +267,7 @@ const READ: &[ReadRow] = &[
     (PATTERNS, NUMBERS - 1, (TOO_SMALL, NUMBERS, BEFORE)),
     (PATTERNS, 0, (TOO_SMALL, NUMBERS, BEFORE)),
     // A version, two roots without children, and six numbers behind them.
-    (b"", MOST, (DONE, 11, BEFORE)),
+    (b"", MOST, (DONE, 13, BEFORE)),
     (
         b"hy3ph\n\nhe/2n\nNOHYPHEN a\n",
         MOST,
@@ -234,6 +331,23 @@ fn a_large_dictionary_is_read(rt: HostRuntime) {
     assert_holds(&rt, 0, told == expected);
 }
 
+/// Numbers, and what testing them answers.
+const TESTED: &[(Numbers, u32)] = &[
+    (Numbers::Whole, DONE),
+    (Numbers::Changed, DAMAGED_TABLE),
+    (Numbers::Exchanged, DAMAGED_TABLE),
+    (Numbers::Short, DAMAGED_TABLE),
+    (Numbers::Empty, DAMAGED_TABLE),
+];
+
+#[test]
+fn numbers_are_tested(rt: HostRuntime) {
+    for (row, &(numbers, expected)) in TESTED.iter().enumerate() {
+        let status = check(rt.alloc(), numbers);
+        assert!(rt; status == expected, "row {row}: {status}");
+    }
+}
+
 /// A word with a hyphen has no points, unless its parts are hyphenated. What is not known is refused
 /// before a word that is none, and that before numbers that were damaged.
 const POINTS: &[OffsetsRow] = &[
@@ -279,6 +393,14 @@ const POINTS: &[OffsetsRow] = &[
     ),
     (
         OffsetsCall::HyphenPoints {
+            word: b"re-hyphenation",
+            hyphens: CHECKED,
+        },
+        (DONE, 2),
+        &[5, 9],
+    ),
+    (
+        OffsetsCall::HyphenPoints {
             word: b"",
             hyphens: WHOLE,
         },
@@ -289,6 +411,30 @@ const POINTS: &[OffsetsRow] = &[
         OffsetsCall::HyphenPoints {
             word: b"\xff",
             hyphens: UNKNOWN,
+        },
+        (UNKNOWN_OPTIONS, BEFORE),
+        &[NO_OFFSET],
+    ),
+    (
+        OffsetsCall::HyphenPoints {
+            word: b"\xff",
+            hyphens: UNKNOWN_CHECK,
+        },
+        (UNKNOWN_OPTIONS, BEFORE),
+        &[NO_OFFSET],
+    ),
+    (
+        OffsetsCall::HyphenPoints {
+            word: b"hyphenation",
+            hyphens: RESERVED,
+        },
+        (UNKNOWN_OPTIONS, BEFORE),
+        &[NO_OFFSET],
+    ),
+    (
+        OffsetsCall::HyphenPoints {
+            word: b"hyphenation",
+            hyphens: LATER_RESERVED,
         },
         (UNKNOWN_OPTIONS, BEFORE),
         &[NO_OFFSET],
@@ -323,6 +469,23 @@ const POINTS: &[OffsetsRow] = &[
             hyphens: SHORT,
         },
         (DAMAGED_TABLE, BEFORE),
+        &[NO_OFFSET],
+    ),
+    // Three letters have to stand before a point here, in place of two.
+    (
+        OffsetsCall::HyphenPoints {
+            word: b"hyphenation",
+            hyphens: UNTESTED,
+        },
+        (DONE, 1),
+        &[6, NO_OFFSET],
+    ),
+    (
+        OffsetsCall::HyphenPoints {
+            word: b"hyphenation",
+            hyphens: NO_NUMBERS,
+        },
+        (DONE, 0),
         &[NO_OFFSET],
     ),
 ];
@@ -381,6 +544,58 @@ const FILLED: &[TextRow] = &[
         18,
         b"re-hy-\nphen-\nation__",
     ),
+    // At blanks this is one word.
+    (
+        TextCall::FillHyphenated {
+            options: AT_6,
+            hyphens: WHOLE,
+        },
+        b"\xe4\xbd\xa0\xe5\xa5\xbdhyphenation",
+        DONE,
+        21,
+        b"\xe4\xbd\xa0\xe5\xa5\xbdhy-\nphen-\nation__",
+    ),
+    (
+        TextCall::FillHyphenated {
+            options: AT_BREAKS,
+            hyphens: WHOLE,
+        },
+        b"\xe4\xbd\xa0\xe5\xa5\xbdhyphenation",
+        DONE,
+        22,
+        b"\xe4\xbd\xa0\xe5\xa5\xbd\nhy-\nphen-\nation__",
+    ),
+    // By pairs no line ends between `%` and `(`, and by the expression between letters it may.
+    (
+        TextCall::FillHyphenated {
+            options: AT_BREAKS,
+            hyphens: WHOLE,
+        },
+        b"ab%(cdef)",
+        DONE,
+        10,
+        b"ab%(cd\nef)__",
+    ),
+    (
+        TextCall::FillHyphenated {
+            options: AT_BREAKS_BY_EXPRESSION,
+            hyphens: WHOLE,
+        },
+        b"ab%(cdef)",
+        DONE,
+        10,
+        b"ab%\n(cdef)__",
+    ),
+    (
+        TextCall::FillHyphenated {
+            options: AT_BREAKS_BY_EXPRESSION,
+            hyphens: WHOLE,
+        },
+        b"\xe4\xbd\xa0\xe5\xa5\xbdhyphenation",
+        DONE,
+        22,
+        b"\xe4\xbd\xa0\xe5\xa5\xbd\nhy-\nphen-\nation__",
+    ),
 ];
 
 /// What is not known is refused before a text that is none, and that before numbers that were damaged.
@@ -397,11 +612,61 @@ const REFUSED: &[TextRow] = &[
     ),
     (
         TextCall::FillHyphenated {
-            options: AT_BREAKS,
+            options: AT_UNKNOWN,
             hyphens: WHOLE,
         },
         b"a",
         UNKNOWN_OPTIONS,
+        BEFORE,
+        b"__",
+    ),
+    (
+        TextCall::FillHyphenated {
+            options: AT_11,
+            hyphens: LATER_RESERVED,
+        },
+        b"a",
+        UNKNOWN_OPTIONS,
+        BEFORE,
+        b"__",
+    ),
+    (
+        TextCall::RefillHyphenated {
+            options: AT_UNKNOWN,
+            hyphens: WHOLE,
+        },
+        b"\xff",
+        UNKNOWN_OPTIONS,
+        BEFORE,
+        b"__",
+    ),
+    (
+        TextCall::RefillHyphenated {
+            options: AT_11,
+            hyphens: UNKNOWN_CHECK,
+        },
+        b"a",
+        UNKNOWN_OPTIONS,
+        BEFORE,
+        b"__",
+    ),
+    (
+        TextCall::RefillHyphenated {
+            options: WRONG_INDENT,
+            hyphens: SHORT,
+        },
+        b"a",
+        NOT_UTF8,
+        BEFORE,
+        b"__",
+    ),
+    (
+        TextCall::RefillHyphenated {
+            options: AT_11,
+            hyphens: CHANGED,
+        },
+        b"a",
+        DAMAGED_TABLE,
         BEFORE,
         b"__",
     ),
@@ -457,10 +722,22 @@ const REFUSED: &[TextRow] = &[
     ),
 ];
 
+/// Words that end nobody knows where.
+const AT_UNKNOWN: TextwrapOptions<'_> = TextwrapOptions {
+    unicode_breaks: 3,
+    ..AT_11
+};
+
 /// Words that end where Unicode lets a line end.
 const AT_BREAKS: TextwrapOptions<'_> = TextwrapOptions {
     unicode_breaks: 1,
-    ..AT_11
+    ..AT_6
+};
+
+/// The same, with numbers kept together by the expression.
+const AT_BREAKS_BY_EXPRESSION: TextwrapOptions<'_> = TextwrapOptions {
+    unicode_breaks: 2,
+    ..AT_6
 };
 
 /// An indent that is no text.
@@ -474,6 +751,64 @@ fn texts_are_filled_with_hyphens(rt: HostRuntime) {
     assert_texts(&rt, FILLED);
     assert_texts(&rt, REFUSED);
     assert_beginnings(&rt, FILLED);
+}
+
+/// First fit at 14 columns, with an indent that no text has.
+const AT_14: TextwrapOptions<'_> = TextwrapOptions {
+    width: 14,
+    initial_indent: b"> ",
+    ..AT_11
+};
+
+/// A text is filled again with its own indents. A hyphen that was added before stays.
+const REFILLED: &[TextRow] = &[
+    (
+        TextCall::RefillHyphenated {
+            options: AT_14,
+            hyphens: WHOLE,
+        },
+        b"// the\n// hyphenation\n",
+        DONE,
+        24,
+        b"// the hyphen-\n// ation\n__",
+    ),
+    (
+        TextCall::RefillHyphenated {
+            options: TextwrapOptions { width: 20, ..AT_14 },
+            hyphens: WHOLE,
+        },
+        b"// the hyphen-\n// ation\n",
+        DONE,
+        21,
+        b"// the hyphen- ation\n__",
+    ),
+    (
+        TextCall::RefillHyphenated {
+            options: AT_6,
+            hyphens: CHECKED,
+        },
+        b"re-hyphenation",
+        DONE,
+        18,
+        b"re-hy-\nphen-\nation__",
+    ),
+    // At blanks this is one word.
+    (
+        TextCall::RefillHyphenated {
+            options: AT_BREAKS,
+            hyphens: WHOLE,
+        },
+        b"> \xe4\xbd\xa0\xe5\xa5\xbdhyphenation\n",
+        DONE,
+        25,
+        b"> \xe4\xbd\xa0\n\xe5\xa5\xbdhy-\nphen-\nation\n__",
+    ),
+];
+
+#[test]
+fn texts_are_filled_again_with_hyphens(rt: HostRuntime) {
+    assert_texts(&rt, REFILLED);
+    assert_beginnings(&rt, REFILLED);
 }
 
 /// A line with a hyphen is a text of its own.
@@ -520,7 +855,7 @@ const WRAPPED: &[LinesRow] = &[
     ),
     (
         LinesCall::WrapHyphenated {
-            options: AT_BREAKS,
+            options: AT_UNKNOWN,
             hyphens: WHOLE,
         },
         b"a",
@@ -553,4 +888,118 @@ const WRAPPED: &[LinesRow] = &[
 #[test]
 fn texts_are_wrapped_with_hyphens(rt: HostRuntime) {
     assert_lines(&rt, WRAPPED);
+}
+
+/// A bar between each two columns.
+const BAR: TextwrapGaps<'_> = TextwrapGaps {
+    left: b"",
+    middle: b"|",
+    right: b"",
+    reserved_sizes: [0; 4],
+};
+
+/// Rows of 15 columns, by first fit.
+const AT_15: TextwrapOptions<'_> = TextwrapOptions { width: 15, ..AT_11 };
+
+/// The width of a column is that of the lines. What is not known is refused before a text that is none,
+/// and that before numbers that were damaged.
+const IN_COLUMNS: &[LinesRow] = &[
+    (
+        LinesCall::ColumnsHyphenated {
+            columns: 2,
+            options: AT_15,
+            gaps: BAR,
+            hyphens: WHOLE,
+        },
+        b"the hyphenation",
+        (DONE, 2, 30),
+        &[(0, 15, 1), (15, 15, 1), NONE],
+        b"the hy-|ation  phen-  |       _",
+    ),
+    (
+        LinesCall::ColumnsHyphenated {
+            columns: 2,
+            options: AT_15,
+            gaps: BAR,
+            hyphens: CHECKED,
+        },
+        b"the hyphenation",
+        (TOO_SMALL, 2, 30),
+        &[(0, 15, 1)],
+        b"the hy-|ation  phen",
+    ),
+    (
+        LinesCall::ColumnsHyphenated {
+            columns: 0,
+            options: AT_15,
+            gaps: BAR,
+            hyphens: WHOLE,
+        },
+        b"\xff",
+        (UNKNOWN_OPTIONS, BEFORE, BEFORE),
+        &[NONE],
+        b"_",
+    ),
+    (
+        LinesCall::ColumnsHyphenated {
+            columns: 1,
+            options: AT_15,
+            gaps: TextwrapGaps {
+                reserved_sizes: [0, 0, 0, 1],
+                ..BAR
+            },
+            hyphens: WHOLE,
+        },
+        b"a",
+        (UNKNOWN_OPTIONS, BEFORE, BEFORE),
+        &[NONE],
+        b"_",
+    ),
+    (
+        LinesCall::ColumnsHyphenated {
+            columns: 1,
+            options: AT_15,
+            gaps: TextwrapGaps {
+                right: b"\xff",
+                ..BAR
+            },
+            hyphens: RESERVED,
+        },
+        b"a",
+        (UNKNOWN_OPTIONS, BEFORE, BEFORE),
+        &[NONE],
+        b"_",
+    ),
+    (
+        LinesCall::ColumnsHyphenated {
+            columns: 1,
+            options: AT_15,
+            gaps: TextwrapGaps {
+                right: b"\xff",
+                ..BAR
+            },
+            hyphens: SHORT,
+        },
+        b"a",
+        (NOT_UTF8, BEFORE, BEFORE),
+        &[NONE],
+        b"_",
+    ),
+    (
+        LinesCall::ColumnsHyphenated {
+            columns: 1,
+            options: AT_15,
+            gaps: BAR,
+            hyphens: EXCHANGED,
+        },
+        b"a",
+        (DAMAGED_TABLE, BEFORE, BEFORE),
+        &[NONE],
+        b"_",
+    ),
+];
+
+#[test]
+fn texts_stand_in_columns_with_hyphens(rt: HostRuntime) {
+    assert_lines(&rt, IN_COLUMNS);
 }

@@ -1,6 +1,8 @@
 //! What the tests share: options, the calls that write alike, and the assertions. A call is made here
 //! alone, in a function without clauses, so that no test has to prove what the call promises.
-use super::hyphens::{Hyphens, write_filled, write_points, write_wrapped};
+use super::hyphens::{
+    Hyphens, write_columns, write_filled, write_points, write_refilled, write_wrapped,
+};
 use super::known::{write_known_lines, write_known_text};
 use std::alloc::Global;
 use std::process::Abort;
@@ -201,6 +203,10 @@ pub(super) enum TextCall<'a> {
         options: TextwrapOptions<'a>,
         hyphens: Hyphens,
     },
+    RefillHyphenated {
+        options: TextwrapOptions<'a>,
+        hyphens: Hyphens,
+    },
     FillAt {
         steps: &'a [TextwrapSteps<'a>],
         options: TextwrapOptions<'a>,
@@ -253,6 +259,9 @@ pub(super) fn write_text(
         TextCall::FillHyphenated { options, hyphens } => {
             write_filled(alloc, hyphens, text, &options, room, len)
         }
+        TextCall::RefillHyphenated { options, hyphens } => {
+            write_refilled(alloc, hyphens, text, &options, room, len)
+        }
         TextCall::FillAt { steps, options } => {
             textwrap_fill_at(alloc, text, steps, &options, room, len)
         }
@@ -282,6 +291,12 @@ pub(super) enum LinesCall<'a> {
         columns: usize,
         options: TextwrapOptions<'a>,
         gaps: TextwrapGaps<'a>,
+    },
+    ColumnsHyphenated {
+        columns: usize,
+        options: TextwrapOptions<'a>,
+        gaps: TextwrapGaps<'a>,
+        hyphens: Hyphens,
     },
     ShortenLines {
         lines: &'a [TextwrapText<'a>],
@@ -365,6 +380,14 @@ pub(super) fn write_lines(
             gaps,
         } => textwrap_wrap_columns(
             alloc, text, columns, &options, &gaps, lines, count, room, len,
+        ),
+        LinesCall::ColumnsHyphenated {
+            columns,
+            options,
+            gaps,
+            hyphens,
+        } => write_columns(
+            alloc, hyphens, text, columns, &options, &gaps, lines, count, room, len,
         ),
         LinesCall::ShortenLines {
             lines: given,

@@ -13,22 +13,18 @@ loop-word-init g c = (
   ap (map word_view) c.new-pieces.ensures.items,
 )
 
-pub push_split-requires : goal.push_split-requires
-push_split-requires g c =
-    rw c.deref.ensures.value c.in_ok-found.ensures.cuts
-
 pub loop-word-preserved : goal.loop-word-preserved
 loop-word-preserved g c =
     let points = ArePointsBy (held c.args.patterns.now) in
     let word = word_view c.in-Some.word in
     let left = c.next.new.self in
     let step = c.in-Some.ensures.steps in
-    let (before, words, split) = c.loop-word.invariant in (
+    let (before, words, split) = c.loop-word.invariant in
+    let (found, are, pushed) = c.in_ok-push_pieces.ensures in (
       before ++ word ∷ [],
       words ∙ ap (λ ws. before ++ ws) step ∙ sym (append_assoc before (word ∷ []) left),
-      subst (AreSplit points (before ++ word ∷ [])) (sym c.in_ok-push_split.ensures)
-          (AreSplit-push points before (map word_view c.loop-word.pieces.items) word _ split
-          (c.deref.ensures.value ∙ c.in_ok-found.ensures.points)),
+      subst (AreSplit points (before ++ word ∷ [])) (sym pushed)
+          (AreSplit-push points before (map word_view c.loop-word.pieces.items) word found split are),
     )
 
 pub returns : goal.returns

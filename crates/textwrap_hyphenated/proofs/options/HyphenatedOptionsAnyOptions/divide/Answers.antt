@@ -6,6 +6,7 @@ use Rattle.textwrap_layout.proofs.Common.{word_view}
 use Rattle.textwrap_layout.proofs.Paragraph.Widths.{division-begins, divides-from, only-without}
 use Rattle.textwrap_layout.proofs.Paragraph.Widths.{sizes-word_view}
 use Rattle.textwrap_text.proofs.Common.{map}
+use Rattle.textwrap_words.proofs.Word.Parts.{MaySeparate-texts}
 use Rattle.textwrap_hyphens.specs.Table.{held}
 use Rattle.textwrap_hyphenated.proofs.Pieces.{hyphenated-wide}
 use Rattle.textwrap_hyphenated.specs.Hyphenated.{ArePointsBy}
@@ -27,11 +28,13 @@ returns-clause-divides g c =
 
 pub returns-clause-only_memory : goal.returns-clause-only_memory
 returns-clause-only_memory g c = λ paragraph utf8 short are tiles never.
+    let options = c.args.self.now.options in
     let pieces = c.args.pieces.now in
     only-without c.wrap.result (c.wrap.ensures.no_overflow (omega (
       arith,
       short,
-      hyphenated-wide c.args.self.now.options c.args.self.now.patterns.now paragraph
+      hyphenated-wide (settings_view options) (MaySeparate options.word_separator)
+          (MaySeparate-texts options.word_separator) c.args.self.now.patterns.now paragraph
           (map word_view pieces) utf8 are,
       total_width-same (λ word. sizes_of (word_view word)) sizes_of pieces (map word_view pieces)
           (sizes-word_view pieces),

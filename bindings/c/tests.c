@@ -851,7 +851,7 @@ static void texts_are_hyphenated(void) {
     textwrap_dictionary d = textwrap_dictionary_new(table, table_len);
     const textwrap_dictionary damaged = textwrap_dictionary_new(table, table_len - 1);
     o.optimal_fit = 0;
-    o.unicode_breaks = 1;
+    o.unicode_breaks = 3;
     CHECK(textwrap_fill_hyphenated(text, 15, &o, &d, room, 17, &len) == TEXTWRAP_UNKNOWN_OPTIONS);
     CHECK(textwrap_wrap_hyphenated(text, 15, &o, &d, lines, 2, &count, room, 17, &len)
           == TEXTWRAP_UNKNOWN_OPTIONS);
@@ -898,7 +898,7 @@ static void filled_texts_are_hyphenated(void) {
     d.in_parts = 2;
     CHECK(textwrap_refill_hyphenated(text, 22, &o, &d, room, 24, &len) == TEXTWRAP_UNKNOWN_OPTIONS);
     d.in_parts = 0;
-    o.unicode_breaks = 1;
+    o.unicode_breaks = 3;
     CHECK(textwrap_refill_hyphenated(text, 22, &o, &d, room, 24, &len) == TEXTWRAP_UNKNOWN_OPTIONS);
     o.unicode_breaks = 0;
     CHECK(textwrap_refill_hyphenated(bytes("\xff"), 1, &o, &damaged, room, 24, &len)

@@ -556,8 +556,7 @@ textwrap_status textwrap_hyphen_points(const textwrap_dictionary *dictionary, co
  * and behind a hyphen between letters or digits, whether or not the options say so. A hyphen is written
  * where a line ends at a point of the dictionary; a part of a word that just fits the line passes it by
  * that. With the patterns of hy-phen-ation "the hyphenation" is "the hyphen-\nation" at 11 columns by
- * first fit. UNKNOWN_OPTIONS also for options by which words do not end at blanks; for the dictionary as
- * in textwrap_hyphen_points. */
+ * first fit. UNKNOWN_OPTIONS and DAMAGED_TABLE for the dictionary as in textwrap_hyphen_points. */
 TEXTWRAP_CHECKED
 textwrap_status textwrap_fill_hyphenated(const uint8_t *text, size_t text_len,
                                          const textwrap_options *options,

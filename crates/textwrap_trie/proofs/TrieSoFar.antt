@@ -231,7 +231,7 @@ written-end depth numbers node entries children old new next some so_far is_node
   added = so_far.added ++ is_node.added;
   grown = is_node.grown ∙ ap (λ w. w ++ is_node.added) so_far.grown
       ∙ append_assoc old so_far.added is_node.added;
-  place = omega (arith, some, is_node.behind, ap length so_far.grown, length-append old so_far.added);
+  place = omega (arith, some, is_node.at, ap length so_far.grown, length-append old so_far.added);
   keys = λ more key. found more key;
 }
   where

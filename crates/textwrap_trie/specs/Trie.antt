@@ -1,9 +1,9 @@
 -- A trie in one list of numbers. A node stands at a place of the list: first the place of its numbers,
--- or 0 if it has none, then the place of its window, or 0 if it has none, then the list of its children:
--- their letters, each below the next, then the places of their nodes. A window has the children once more,
--- for letters that follow one another: the first of these letters, then the list of the places of their
--- nodes, with 0 for each letter that has none. A letter that lies in the window is not looked for among
--- the children.
+-- or 0 if it has none, then its window, then the list of its children: their letters, each below the next,
+-- then the places of their nodes. The window has the children once more, for letters that follow one
+-- another: first the first of these letters, then the list of the places of their nodes, with 0 for each
+-- letter that has none. A letter that lies in the window is looked for nowhere else. The window of a node
+-- with few children is empty.
 use Rattle.std.specs.List.{position_or_len}
 use Rattle.std.specs.Prelude.{ℕ, suc, ◌+◌, ◌-◌, ◌/◌, ◌==◌, List, [], ◌∷◌, Option, None, Some, drop}
 use Rattle.std.specs.Prelude.{if◌then◌else◌, length, max, nat_le, slice_get, slice_index, take, unwrap_or}
@@ -36,17 +36,15 @@ abbrev pub number_from : ℕ → List ℕ → ℕ → Option ℕ
 number_from first numbers letter =
     if nat_le first letter then slice_get numbers (letter - first) else None
 
--- the child that a window has for a letter, or None where the letter does not lie in it; 0 is no window
-abbrev pub window_child : List ℕ → ℕ → ℕ → Option ℕ
-window_child words window letter =
-    if window == 0 then None
-    else number_from (slice_index words window) (numbers_at words (window + 1)) letter
+-- the nodes of the window of a node
+abbrev pub window_of : List ℕ → ℕ → List ℕ
+window_of words node = numbers_at words (node + 2)
 
 -- the child of a node for a letter, or 0: from its window, or from the list of its children
 abbrev pub child_of : List ℕ → ℕ → ℕ → ℕ
 child_of words node letter =
-    unwrap_or (window_child words (slice_index words (node + 1)) letter)
-    (behind_letter (numbers_at words (node + 2)) letter)
+    unwrap_or (number_from (slice_index words (node + 1)) (window_of words node) letter)
+    (behind_letter (numbers_at words (node + 3 + length (window_of words node))) letter)
 
 -- the list at a place, where 0 stands for none
 abbrev pub list_at : List ℕ → ℕ → Option (List ℕ)

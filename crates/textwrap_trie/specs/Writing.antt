@@ -1,9 +1,9 @@
 -- What stands in a trie once a part of it is written, whatever is written behind that.
 use Rattle.std.specs.List.Sorted.{IsStrictlyIncreasing}
-use Rattle.std.specs.Prelude.{◌≡◌, ℕ, ◌<◌, ◌≤◌, ◌==◌, List, [], ◌∷◌, ◌++◌, Option, if◌then◌else◌}
-use Rattle.std.specs.Prelude.{IfSome, length, map, slice_index}
+use Rattle.std.specs.Prelude.{◌≡◌, ℕ, ◌+◌, ◌<◌, ◌==◌, List, [], ◌∷◌, ◌++◌, Option, if◌then◌else◌}
+use Rattle.std.specs.Prelude.{length, map, slice_index}
 use Rattle.textwrap_trie.specs.Entries.{entry_for}
-use Rattle.textwrap_trie.specs.Trie.{child_of, list_at, numbers_for, window_child}
+use Rattle.textwrap_trie.specs.Trie.{child_of, list_at, numbers_for}
 use Rattle.textwrap_trie.specs.declared.entries.Entry.{Entry}
 use Rattle.textwrap_trie.specs.declared.writing.Child.{Child}
 
@@ -27,22 +27,19 @@ pub record IsList (numbers : Option (List ℕ)) (old new : List ℕ) (place : �
   pub grown : new ≡ old ++ added
   pub list : (more : List ℕ) → list_at (new ++ more) place ≡ numbers
 
--- how many letters a window has
-abbrev pub window_letters : ℕ
-window_letters = 64
-
--- a window stands at a place, and none where it is 0: what it has for a letter is the child for that
-pub record IsWindow (children : List Child) (old new : List ℕ) (window : ℕ) : Type 0 where
-  pub added : List ℕ
-  pub grown : new ≡ old ++ added
-  pub child : (more : List ℕ) (letter : ℕ)
-      → IfSome (window_child (new ++ more) window letter) (λ node. node ≡ child_for children letter)
+-- a window of these children is written: its first letter, and the nodes of so many letters from that on
+pub record HasWindow (children : List Child) (old new : List ℕ) : Type 0 where
+  pub first : ℕ
+  pub nodes : List ℕ
+  pub grown : new ≡ old ++ first ∷ length nodes ∷ nodes
+  pub has : (k : ℕ) → k < length nodes
+      → slice_index nodes k ≡ child_for children (first + k)
 
 -- a node stands at a place that has this place of its numbers, and these children
 pub record IsNodeOf (numbers : ℕ) (children : List Child) (old new : List ℕ) (node : ℕ) : Type 0 where
   pub added : List ℕ
   pub grown : new ≡ old ++ added
-  pub behind : length old ≤ node
+  pub at : node ≡ length old
   pub has : (more : List ℕ) → slice_index (new ++ more) node ≡ numbers
   pub child : (more : List ℕ) (letter : ℕ)
       → child_of (new ++ more) node letter ≡ child_for children letter

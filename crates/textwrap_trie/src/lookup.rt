@@ -2,9 +2,8 @@
 ghost use Rattle.std.specs.Prelude.{◌≡◌, ℕ, ◌<◌, ◌≤◌, length, max, None, Some, MatchOption, slice_index};
 ghost use Rattle.textwrap_base.specs.Minima.{counted};
 ghost use Rattle.textwrap_trie.specs.Trie.{child_of, level_at, level_from, numbers_for, numbers_of};
-ghost use Rattle.textwrap_trie.specs.Trie.{window_child};
 
-use crate::numbers::{behind_letter, number_at, number_from, numbers_at, raise};
+use crate::numbers::{behind_letter, list_and_rest, number_at, number_from, numbers_at, raise};
 use textwrap_base::minima::Steps;
 
 /// The numbers of a key below a node, or `None` where the trie does not have that key. The call
@@ -76,26 +75,15 @@ fn raise_to(levels: &mut [usize], words: &[usize], node: usize)
 fn child_of(words: &[usize], node: usize, letter: char) -> usize
     ensures { result ≡ child_of words.now node letter }
 {
-    // past the end there is no node, so its places are no further than the end
-    if node >= words.len() {
+    // so near the end, it has no children
+    if node >= words.len() || node + 2 >= words.len() {
         return 0;
     }
-    match window_child(words, number_at(words, node + 1), letter as usize) {
+    let (window, rest) = list_and_rest(words, node + 2);
+    match number_from(words[node + 1], window, letter as usize) {
         Some(child) => child,
-        None => behind_letter(numbers_at(words, node + 2), letter as usize),
+        None => behind_letter(numbers_at(rest, 0), letter as usize),
     }
-}
-
-/// The child that a window has for a letter, or `None` where the letter does not lie in it. The
-/// place 0 stands for no window.
-#[inline]
-fn window_child(words: &[usize], window: usize, letter: usize) -> Option<usize>
-    ensures { result ≡ window_child words.now window letter }
-{
-    if window == 0 || window >= words.len() {
-        return None;
-    }
-    number_from(words[window], numbers_at(words, window + 1), letter)
 }
 
 /// The numbers that a node has, or `None`.

@@ -1,5 +1,5 @@
 //! Lists of numbers within one, each behind its length.
-ghost use Rattle.std.specs.Prelude.{◌≡◌, ℕ, ◌<◌, length, max, slice_index};
+ghost use Rattle.std.specs.Prelude.{◌≡◌, ℕ, ◌+◌, ◌<◌, drop, length, max, slice_index};
 ghost use Rattle.textwrap_trie.specs.Trie.{behind_letter, number_from, numbers_at};
 
 /// The number at a place, or 0 past the end.
@@ -16,11 +16,20 @@ pub(crate) fn number_at(words: &[usize], at: usize) -> usize
 pub(crate) fn numbers_at(words: &[usize], at: usize) -> &[usize]
     ensures { result.now ≡ numbers_at words.now at }
 {
+    list_and_rest(words, at).0
+}
+
+/// The list that stands at a place, and what stands behind it.
+#[inline]
+pub(crate) fn list_and_rest(words: &[usize], at: usize) -> (&[usize], &[usize])
+    ensures list { result.0.now ≡ numbers_at words.now at }
+    ensures rest { result.1.now ≡ drop (at + 1 + length (numbers_at words.now at)) words.now }
+{
     if at >= words.len() {
-        return &[];
+        return (&[], &[]);
     }
     let rest = &words[at + 1..];
-    &rest[..words[at].min(rest.len())]
+    rest.split_at(words[at].min(rest.len()))
 }
 
 /// The number of a letter, or 0, in a list of letters, each below the next, and then of as many

@@ -2,17 +2,17 @@
 ghost use Rattle.std.specs.Prelude.{◌≡◌, ℕ, ◌+◌, ◌<◌, ◌≤◌, [], ◌∷◌, ◌++◌, All, length, IfOk};
 ghost use Rattle.std.specs.Prelude.{slice_index};
 ghost use Rattle.textwrap_trie.specs.Entries.{AreSortedFrom, entry_for};
-ghost use Rattle.textwrap_trie.specs.Writing.{HaveRisingLetters, IsList, IsNodeOf, IsTrie, IsWindow};
-ghost use Rattle.textwrap_trie.specs.Writing.{child_for, letters_and_nodes, window_letters};
+ghost use Rattle.textwrap_trie.specs.Writing.{HaveRisingLetters, IsList, IsNodeOf, IsTrie};
+ghost use Rattle.textwrap_trie.specs.Writing.{HasWindow, child_for, letters_and_nodes};
 
 use crate::entries::{Entry, ended_len, group_len};
 use std::alloc::{AllocError, Global};
 
-/// A node with at least as many children has a window.
+/// From so many children on a node has a window.
 const WIDE: usize = 8;
 
-/// How many letters a window has.
-const WINDOW_LETTERS: usize = 64;
+/// How many letters such a window has.
+const WINDOW_LETTERS: u32 = 64;
 
 /// A letter, and the place of a node.
 #[derive(Clone, Copy, Debug)]
@@ -81,7 +81,7 @@ fn push_list(words: &mut Vec<usize>, numbers: &[usize]) -> Result<usize, AllocEr
     Ok(place)
 }
 
-/// Appends a node, behind its window if it has one. Returns its place.
+/// Appends a node. Returns its place.
 fn push_node(
     alloc: Global,
     words: &mut Vec<usize>,
@@ -92,10 +92,9 @@ fn push_node(
     ensures { IfOk result (λ node. IsNodeOf numbers children.now words.old.items
         words.new.items node) }
 {
-    let window = push_window(alloc, words, children)?;
     let node = words.as_slice().len();
     words.push(numbers)?;
-    words.push(window)?;
+    push_window(alloc, words, children)?;
     let list = letters_and_nodes(alloc, children)?;
     push_list(words, &list)?;
     Ok(node)
@@ -114,38 +113,38 @@ fn letters_and_nodes(alloc: Global, children: &[Child]) -> Result<Vec<usize>, Al
     Ok(list)
 }
 
-/// Appends the window of a node that has many children. Returns its place, or 0 where there are few.
-/// A letter is asked of the children where it does not lie in the window, so it makes no difference
-/// to what is found which letters these are: half of them stand on each side of the middle child.
-fn push_window(
-    alloc: Global,
-    words: &mut Vec<usize>,
-    children: &[Child],
-) -> Result<usize, AllocError>
-    ensures { IfOk result (λ window. IsWindow children.now words.old.items words.new.items window) }
+/// Appends the window of a node: its first letter, then the list of its nodes. It is empty where the
+/// children are few, as these are found as fast without it. Else half of its letters stand before the
+/// middle child. It makes no difference to what is found which letters these are.
+fn push_window(alloc: Global, words: &mut Vec<usize>, children: &[Child]) -> Result<(), AllocError>
+    ensures { IfOk result (λ done. HasWindow children.now words.old.items words.new.items) }
 {
-    if children.len() < WIDE {
-        return Ok(0);
-    }
-    let middle = children[children.len() / 2].letter as u32;
-    let first = middle.saturating_sub(WINDOW_LETTERS as u32 / 2);
-    let nodes = nodes_from(alloc, children, first)?;
-    let window = words.as_slice().len();
+    let (first, len) = if children.len() < WIDE {
+        (0, 0)
+    } else {
+        let middle = children[children.len() / 2].letter as u32;
+        (middle.saturating_sub(WINDOW_LETTERS / 2), WINDOW_LETTERS)
+    };
+    let nodes = nodes_from(alloc, children, first, len)?;
     words.push(first as usize)?;
     push_list(words, &nodes)?;
-    Ok(window)
+    Ok(())
 }
 
-/// The nodes of the children for the letters of a window, from the first of these on, with 0 for each
-/// that has none.
-fn nodes_from(alloc: Global, children: &[Child], first: u32) -> Result<Vec<usize>, AllocError>
-    ensures letters { IfOk result (λ nodes. length nodes.items ≡ window_letters) }
-    ensures nodes { IfOk result (λ nodes. (k : ℕ) → k < window_letters
+/// The nodes of the children for so many letters from one on, with 0 for each that has none.
+fn nodes_from(
+    alloc: Global,
+    children: &[Child],
+    first: u32,
+    len: u32,
+) -> Result<Vec<usize>, AllocError>
+    ensures letters { IfOk result (λ nodes. length nodes.items ≡ len) }
+    ensures nodes { IfOk result (λ nodes. (k : ℕ) → k < len
         → slice_index nodes.items k ≡ child_for children.now (first + k)) }
 {
     let mut nodes = Vec::new(alloc);
-    for k in 0..WINDOW_LETTERS {
-        nodes.push(child_for(children, first as usize + k))?;
+    for k in 0..len {
+        nodes.push(child_for(children, first as usize + k as usize))?;
     }
     Ok(nodes)
 }

@@ -4,9 +4,8 @@ use Rattle.textwrap_trie.proofs.writing.push_node.Goals as goal
 
 pub returns : goal.returns
 returns c =
-    node-at_end c.args.numbers c.in_ok-window.window (length c.as_slice-node.result.now)
-    c.args.children.now c.deref.result.now c.args.words.now.items c.push_window.new.words.items
-    c.push.new.self.items c.push-2.new.self.items c.push_list.new.words.items
-    c.in_ok-window.ensures (ap length c.as_slice-node.ensures.value) c.in_ok-push.ensures.items
-    c.in_ok-push-2.ensures.items c.in_ok-push_list.ensures.1
+    node-at_end c.args.numbers (length c.as_slice-node.result.now) c.args.children.now
+    c.deref.result.now c.args.words.now.items c.push.new.self.items c.push_window.new.words.items
+    c.push_list.new.words.items (ap length c.as_slice-node.ensures.value)
+    c.in_ok-push.ensures.items c.in_ok-push_window.ensures c.in_ok-push_list.ensures.1
     (c.deref.ensures.value ∙ c.in_ok-list.ensures) c.requires

@@ -1,16 +1,12 @@
 use Rattle.std.proofs.Common.{◌∙◌, ap, arith, get_or, length}
-use Rattle.textwrap_trie.proofs.Written.{window-at_end, window-none}
+use Rattle.textwrap_trie.proofs.Written.{window-at_end}
 use Rattle.textwrap_trie.proofs.writing.push_window.Goals as goal
-
-pub returns-then-children-lt-WIDE : goal.returns-then-children-lt-WIDE
-returns-then-children-lt-WIDE c = window-none c.args.children.now c.args.words.now.items
 
 pub returns : goal.returns
 returns c =
     let same = c.deref.ensures.value in
-    window-at_end c.args.children.now c.saturating_sub-first.result (length c.as_slice-window.result.now)
-    c.deref.result.now c.args.words.now.items c.push.new.self.items c.push_list.new.words.items
+    window-at_end c.args.children.now _ c.deref.result.now c.args.words.now.items
+    c.push.new.self.items c.push_list.new.words.items
     (λ k within. ap (λ l. get_or l k 0) same ∙ c.in_ok-nodes.ensures.nodes k
     (omega (arith, within, ap length same, c.in_ok-nodes.ensures.letters)))
-    (ap length c.as_slice-window.ensures.value) c.in_ok-push.ensures.items
-    c.in_ok-push_list.ensures.1
+    c.in_ok-push.ensures.items c.in_ok-push_list.ensures.1

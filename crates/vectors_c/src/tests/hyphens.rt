@@ -22,7 +22,7 @@ use textwrap_hyphen_calls::wrapping::textwrap_wrap_hyphenated;
 const PATTERNS: &[u8] = b"hy3ph\nhe2n\nhena4\nhen5at\n1na\nn2at\n1tio\n2io\no2n\n";
 
 /// How many numbers their dictionary has.
-const NUMBERS: usize = 149;
+const NUMBERS: usize = 169;
 
 /// How much room for numbers the longest row has.
 const MOST: usize = 160;
@@ -267,7 +267,7 @@ const READ: &[ReadRow] = &[
     (PATTERNS, NUMBERS - 1, (TOO_SMALL, NUMBERS, BEFORE)),
     (PATTERNS, 0, (TOO_SMALL, NUMBERS, BEFORE)),
     // A version, two roots without children, and six numbers behind them.
-    (b"", MOST, (DONE, 13, BEFORE)),
+    (b"", MOST, (DONE, 15, BEFORE)),
     (
         b"hy3ph\n\nhe/2n\nNOHYPHEN a\n",
         MOST,

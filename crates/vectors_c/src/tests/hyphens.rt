@@ -25,7 +25,7 @@ const PATTERNS: &[u8] = b"hy3ph\nhe2n\nhena4\nhen5at\n1na\nn2at\n1tio\n2io\no2n\
 const NUMBERS: usize = 169;
 
 /// How much room for numbers the longest row has.
-const MOST: usize = 160;
+const MOST: usize = 200;
 
 /// A number that was not written.
 const NO_NUMBER: usize = 99;

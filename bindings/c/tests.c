@@ -885,6 +885,29 @@ static void texts_are_hyphenated(void) {
     CHECK(is_place(&lines[0], 0, 11, 1) && is_place(&lines[1], 10, 5, 0));
 }
 
+/* Two ideographs before a word: at blanks all are one word. */
+static void hyphenated_words_end_at_unicode_breaks(void) {
+    static const char text[] = "\xe4\xbd\xa0\xe5\xa5\xbdhyphenation";
+    static const char *const filled[3] = {
+        "\xe4\xbd\xa0\xe5\xa5\xbdhy-\nphen-\nation",
+        "\xe4\xbd\xa0\xe5\xa5\xbd\nhy-\nphen-\nation",
+        "\xe4\xbd\xa0\xe5\xa5\xbd\nhy-\nphen-\nation",
+    };
+    textwrap_options o = textwrap_options_new(6);
+    size_t table[512];
+    textwrap_dictionary d = textwrap_dictionary_new(table, read_patterns(table));
+    uint32_t breaks;
+    o.optimal_fit = 0;
+    for (breaks = 0; breaks <= 2; breaks++) {
+        uint8_t room[32];
+        size_t len = 0;
+        o.unicode_breaks = breaks;
+        CHECK(textwrap_fill_hyphenated(bytes(text), strlen(text), &o, &d, room, sizeof room, &len)
+              == TEXTWRAP_DONE);
+        CHECK(len == strlen(filled[breaks]) && memcmp(room, filled[breaks], len) == 0);
+    }
+}
+
 static void filled_texts_are_hyphenated(void) {
     const uint8_t *text = bytes("// the\n// hyphenation\n"), *filled = bytes("// the hyphen-\n// ation\n");
     textwrap_options o = textwrap_options_new(14);
@@ -1704,6 +1727,7 @@ int main(void) {
     words_have_points();
     a_dictionary_may_be_checked();
     texts_are_hyphenated();
+    hyphenated_words_end_at_unicode_breaks();
     filled_texts_are_hyphenated();
     columns_are_hyphenated();
     tables_are_written();

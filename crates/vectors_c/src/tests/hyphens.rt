@@ -565,7 +565,7 @@ const FILLED: &[TextRow] = &[
         22,
         b"\xe4\xbd\xa0\xe5\xa5\xbd\nhy-\nphen-\nation__",
     ),
-    // By pairs no line ends between `%` and `(`, and by the expression between letters it may.
+    // By pairs no line ends between `%` and `(`; by the expression it may, as no digit stands there.
     (
         TextCall::FillHyphenated {
             options: AT_BREAKS,
@@ -855,6 +855,16 @@ const WRAPPED: &[LinesRow] = &[
     ),
     (
         LinesCall::WrapHyphenated {
+            options: AT_BREAKS,
+            hyphens: WHOLE,
+        },
+        b"\xe4\xbd\xa0\xe5\xa5\xbdhyphenation",
+        (DONE, 4, 8),
+        &[(0, 6, 0), (0, 3, 1), (3, 5, 1), (12, 5, 0), NONE],
+        b"hy-phen-_",
+    ),
+    (
+        LinesCall::WrapHyphenated {
             options: AT_UNKNOWN,
             hyphens: WHOLE,
         },
@@ -901,6 +911,13 @@ const BAR: TextwrapGaps<'_> = TextwrapGaps {
 /// Rows of 15 columns, by first fit.
 const AT_15: TextwrapOptions<'_> = TextwrapOptions { width: 15, ..AT_11 };
 
+/// Words that end where Unicode lets a line end, in columns of 6.
+const AT_BREAKS_IN_COLUMNS: TextwrapOptions<'_> = TextwrapOptions {
+    width: 13,
+    unicode_breaks: 1,
+    ..AT_11
+};
+
 /// The width of a column is that of the lines. What is not known is refused before a text that is none,
 /// and that before numbers that were damaged.
 const IN_COLUMNS: &[LinesRow] = &[
@@ -927,6 +944,18 @@ const IN_COLUMNS: &[LinesRow] = &[
         (TOO_SMALL, 2, 30),
         &[(0, 15, 1)],
         b"the hy-|ation  phen",
+    ),
+    (
+        LinesCall::ColumnsHyphenated {
+            columns: 2,
+            options: AT_BREAKS_IN_COLUMNS,
+            gaps: BAR,
+            hyphens: CHECKED,
+        },
+        b"\xe4\xbd\xa0\xe5\xa5\xbdhyphenation",
+        (DONE, 2, 28),
+        &[(0, 15, 1), (15, 13, 1), NONE],
+        b"\xe4\xbd\xa0\xe5\xa5\xbd  |phen- hy-   |ation _",
     ),
     (
         LinesCall::ColumnsHyphenated {

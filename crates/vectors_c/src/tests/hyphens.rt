@@ -151,11 +151,12 @@ fn hand_over(alloc: Global, numbers: Numbers, room: &mut [usize; MOST]) -> usize
 
 /// The dictionary of these numbers, as it is handed over.
 fn dictionary<'a>(hyphens: Hyphens, numbers: &'a [usize]) -> TextwrapDictionary<'a> {
+    let reserved_sizes = hyphens.reserved_sizes;
     TextwrapDictionary {
         numbers,
         in_parts: hyphens.in_parts,
         is_checked: hyphens.is_checked,
-        reserved_sizes: hyphens.reserved_sizes,
+        reserved_sizes,
     }
 }
 

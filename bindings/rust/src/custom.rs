@@ -1,8 +1,8 @@
 //! Texts in which functions of the caller take part, or patterns.
 //!
 //! The functions give the words of a paragraph, their points or its lines. What they give is checked
-//! here, and the library makes the lines of it, and the rows of these. Patterns go the same way, but
-//! where the library has a call of its own for them.
+//! here, and the library makes the lines of it, and the rows of these. Patterns go the same way where a
+//! function takes part beside them, or the library has no call of its own for them.
 use crate::core::Word;
 use crate::display::{Column, Gaps};
 use crate::fallible::{self, unfill};

@@ -12,7 +12,7 @@ use Rattle.textwrap_layout.specs.Paragraph.{pieces_by, pieces_of_words, widths_o
 use Rattle.textwrap_layout.specs.declared.any_options.BuiltInAlgorithm as algorithms
 use Rattle.textwrap_layout.specs.declared.any_options.BuiltInParts.{BuiltInParts}
 use Rattle.textwrap_layout.specs.declared.options.Options.{Options}
-use Rattle.textwrap_layout.specs.declared.layout.Cuts.{Cuts}
+use Rattle.textwrap_layout.specs.declared.paragraph_pieces.Cuts.{Cuts}
 use Rattle.textwrap_words.specs.declared.word_separators.WordSeparator.TheVariants.{AsciiSpace}
 use Rattle.textwrap_words.specs.declared.wrap_algorithms.WrapAlgorithm.TheVariants.{FirstFit}
 

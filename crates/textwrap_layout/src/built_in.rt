@@ -8,7 +8,8 @@ ghost use Rattle.textwrap_layout.specs.Frame.{frame_settings};
 
 use crate::any_options::{AnyOptions, BuiltInAlgorithm, BuiltInParts};
 use crate::frame::Frame;
-use crate::layout::{Cuts, Layout, cut_paragraph};
+use crate::layout::Layout;
+use crate::paragraph_pieces::{Cuts, cut_paragraph};
 use crate::printable_cuts::PrintableCuts;
 use std::alloc::{AllocError, Allocator};
 use textwrap_words::words::Word;

@@ -10,6 +10,7 @@ pub mod lent_places;
 pub mod line_bounds;
 pub mod line_sinks;
 pub mod options;
+pub mod paragraph_pieces;
 pub mod pieces;
 pub mod places;
 pub mod printable_cuts;

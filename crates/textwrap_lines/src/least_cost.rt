@@ -18,9 +18,10 @@ use std::alloc::{AllocError, Allocator};
 use textwrap_base::inner::{line_cost, lines_by};
 use textwrap_base::minima::{CostSource, queue_search};
 use textwrap_layout::frame::Frame;
-use textwrap_layout::layout::{Cuts, next_indent};
+use textwrap_layout::layout::next_indent;
 use textwrap_layout::line_bounds::{LineBounds, push_between};
 use textwrap_layout::line_sinks::LineSink;
+use textwrap_layout::paragraph_pieces::Cuts;
 use textwrap_words::wrap_algorithms::Penalties;
 
 /// The greatest length of a text whose lines are searched for. It has at most as many columns, and

@@ -12,9 +12,10 @@ ghost use Rattle.textwrap_layout.specs.Paragraph.{text_limit};
 
 use std::alloc::{AllocError, Allocator};
 use textwrap_layout::frame::Frame;
-use textwrap_layout::layout::{Cuts, Layout, cut_paragraph};
+use textwrap_layout::layout::Layout;
 use textwrap_layout::line_bounds::{LineBounds, push_between};
 use textwrap_layout::line_sinks::LineSink;
+use textwrap_layout::paragraph_pieces::{Cuts, cut_paragraph};
 use textwrap_words::inner::Piece;
 
 /// The line that takes the next piece.

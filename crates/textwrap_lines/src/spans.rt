@@ -7,7 +7,7 @@ ghost use Rattle.textwrap_lines.specs.Spans.{spans_from, span_priced};
 use std::alloc::{AllocError, Allocator};
 use textwrap_base::inner::PrefixSums;
 use textwrap_layout::frame::Frame;
-use textwrap_layout::layout::{Cuts, cut_paragraph};
+use textwrap_layout::paragraph_pieces::{Cuts, cut_paragraph};
 
 /// Where a piece of a text ends, and what it takes.
 #[derive(Clone, Copy)]

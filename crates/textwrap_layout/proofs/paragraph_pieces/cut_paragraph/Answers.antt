@@ -1,4 +1,4 @@
-use Rattle.textwrap_layout.proofs.layout.cut_paragraph.Goals as goal
+use Rattle.textwrap_layout.proofs.paragraph_pieces.cut_paragraph.Goals as goal
 use Rattle.textwrap_text.proofs.Common.{Option, arith, subst, List, ap, ℕ}
 use Rattle.std.specs.Option.{option_map}
 use Rattle.textwrap_layout.proofs.Common.{frame_settings, as_splitter, stand_from, words_cut}

@@ -17,6 +17,14 @@ const IN_COLUMNS: &[(&str, usize, usize, Layout<'_>, [&str; 3], &str)] = &[
         ["|", "|", "|"],
         "|Foo |Bar |Baz |Quux   |\n",
     ),
+    (
+        "Foo Bar Baz Quux",
+        4,
+        21,
+        OPTIMAL_FIT,
+        ["|", "|", "|"],
+        "|Foo |Bar |Baz |Quux|\n",
+    ),
     ("あ", 2, 2, OPTIMAL_FIT, ["", "", ""], "あ \n"),
     ("", 1, 10, OPTIMAL_FIT, ["| ", "", " |"], "|        |\n"),
     (

@@ -42,11 +42,11 @@ fn split_at<'a>(width: usize, layout: &Layout<'a>, word_cuts: WordCuts) -> Optio
     }
 }
 
-/// Options of this width by which words stay whole, ending lines here.
-fn ended_at<'a>(width: usize, line_ends: LineEnds) -> Options<'a> {
+/// Options of this width, ending lines here.
+fn ended_at<'a>(width: usize, layout: &Layout<'a>, line_ends: LineEnds) -> Options<'a> {
     Options {
         wrap_algorithm: WrapAlgorithm::Custom(line_ends),
-        ..options_of(width, &WHOLE_WORDS)
+        ..options_of(width, layout)
     }
 }
 
@@ -141,7 +141,8 @@ fn a_split_word_has_a_hyphen_at_the_end_of_its_line(rt: HostRuntime) {
 /// Asserts that a text of six words has these lines if they end here.
 fn assert_ended(rt: &(impl Abort + AllocGlobal), line_ends: LineEnds, expected: &str) {
     let text = "First, second, third, fourth, fifth, sixth";
-    let holds = wraps(rt.alloc(), text, ended_at(10, line_ends), expected);
+    let options = ended_at(10, &OPTIMAL_FIT, line_ends);
+    let holds = wraps(rt.alloc(), text, options, expected);
     assert_found(rt, expected, holds);
 }
 
@@ -195,7 +196,7 @@ fn a_function_may_refuse(rt: HostRuntime) {
     let points = WordCuts::new(alloc, refuse_word);
     assert_refuses_baz(&rt, split_at(2, &WHOLE_WORDS, points));
     let ends = LineEnds::new(alloc, refuse_words);
-    assert_refuses_baz(&rt, ended_at(2, ends));
+    assert_refuses_baz(&rt, ended_at(2, &WHOLE_WORDS, ends));
 }
 
 /// Refuses each line that has a character.

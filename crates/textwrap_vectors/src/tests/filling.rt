@@ -23,6 +23,7 @@ const FILLED: &[(&str, usize, Layout<'_>, &str)] = &[
     ("aa bb cc dd", 8, FIRST_FIT, "aa bb cc\ndd"),
     // The lines of least cost.
     ("foo bar baz", 10, OPTIMAL_FIT, "foo bar\nbaz"),
+    ("aa bb cc dd", 5, OPTIMAL_FIT, "aa bb\ncc dd"),
     (
         "To be, or not to be: that is the question\n",
         10,

@@ -75,6 +75,11 @@ const ROWS: &[(Call<'_>, &str, &str)] = &[
         "foo\r\nbar\r\n",
     ),
     (Refill(8, FIRST_FIT), "aa bb\ncc dd", "aa bb cc\ndd"),
+    (
+        Refill(20, OPTIMAL_FIT),
+        "- This is my\n  list item.\n",
+        "- This is my list\n  item.\n",
+    ),
 ];
 
 /// Texts are joined to one line for each paragraph, or filled again.

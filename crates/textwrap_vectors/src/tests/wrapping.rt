@@ -151,6 +151,15 @@ const WRAPPED: &[(&str, usize, Layout<'_>, &str)] = &[
         10,
         Layout {
             line_ending: LineEnding::CRLF,
+            ..OPTIMAL_FIT
+        },
+        "a|b\nc|",
+    ),
+    (
+        "a\r\nb\nc",
+        10,
+        Layout {
+            line_ending: LineEnding::CRLF,
             preserve_trailing_space: true,
             ..OPTIMAL_FIT
         },

@@ -12,7 +12,7 @@ use Rattle.textwrap_marked_lines.specs.Prefixes.{hanging_margin, hanging_prefix,
 use Rattle.textwrap_marks.specs.Signs.{begins_text, closes_block, closes_early, first_word}
 use Rattle.textwrap_marks.specs.Signs.{has_columns, is_key, is_rule, last_white, last_word}
 use Rattle.textwrap_marks.specs.Words.{has_byte, spaced_text, SpacedText, spaced_view, spaced_words}
-use Rattle.textwrap_marked_lines.specs.declared.lines.Line.{Line}
+use Rattle.textwrap_marked_lines.specs.declared.line.Line.{Line}
 use Rattle.textwrap_marks.specs.declared.options.ReflowOptions.{ReflowOptions}
 use Rattle.textwrap_marked_lines.specs.declared.prefixes.PrefixEnds.{PrefixEnds}
 use Rattle.textwrap_marked_lines.specs.declared.states.State.{State}

@@ -2,6 +2,7 @@
 //! what is open where it begins.
 #![tactic(auto)]
 
+pub mod line;
 pub mod lines;
 pub mod prefixes;
 pub mod states;

@@ -7,6 +7,7 @@ ghost use Rattle.textwrap_marked_lines.specs.Lines.{state_view, without_returns}
 ghost use Rattle.textwrap_marks.specs.Signs.{ArePlain, closes_block};
 ghost use Rattle.textwrap_marks.specs.Words.{spaced_view, spaced_words};
 
+pub use crate::line::Line;
 use crate::prefixes::{
     PrefixEnds, hanging_margin, has_opening, prefix_ends, push_hanging_bullets, spaced_text,
 };
@@ -20,38 +21,6 @@ use textwrap_marks::signs::{
 };
 use textwrap_marks::words::{SpacedWord, ends_with, has_byte, spaced_words, split_white};
 use textwrap_text::starts::starts_with;
-
-/// A line, and what is read of it.
-#[derive(Drop)]
-pub struct Line<'t> {
-    /// The line with the carriage returns at its end.
-    pub raw: &'t str,
-    /// Whether a line feed follows.
-    pub fed: bool,
-    /// What stands before its text: white, a comment mark, quote marks and bullets.
-    pub prefix: String,
-    /// What the later lines of a paragraph begin with.
-    pub hanging: String,
-    /// The words of its text.
-    pub words: Vec<SpacedWord<'t>>,
-    /// Whether its words have no byte of those of which each word that no paragraph contains has
-    /// one.
-    pub plain: bool,
-    /// Whether it is, or begins, in a block comment without a mark of its own here.
-    pub starred: bool,
-    /// Whether it leaves a block comment open.
-    pub opens_block: bool,
-    /// Whether it is deeper than the text before.
-    pub deeper: bool,
-    /// Whether it stays, and belongs to no paragraph.
-    pub apart: bool,
-    /// Whether it begins with a key, and has no bullet.
-    pub field: bool,
-    /// Whether the next line begins another paragraph.
-    pub ended: bool,
-    /// Whether its marks are among those that are filled.
-    pub chosen: bool,
-}
 
 /// The line without the carriage returns at its end.
 pub fn without_returns(raw: &str) -> &str

@@ -10,7 +10,7 @@ ghost use Rattle.textwrap_marked_lines.specs.Lines.{state_view};
 ghost use Rattle.textwrap_marks.specs.Signs.{ArePlain};
 ghost use Rattle.textwrap_marks.specs.Words.{spaced_view};
 
-use crate::lines::Line;
+use crate::line::Line;
 use std::alloc::{AllocError, Global};
 use textwrap_marks::columns::{Depth, depth_of, marks_of};
 use textwrap_marks::fences::{Fence, is_closed_by, is_left_by, opened};

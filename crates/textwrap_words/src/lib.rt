@@ -1,6 +1,6 @@
 //! The words of `textwrap`: the columns of a text, its words, where these may be split and broken, and
 //! how they are divided into lines. The crate `textwrap` passes its public modules on, but for
-//! `blanks`, `escapes` and `inner`. The modules and their items have the examples.
+//! `inner`. The modules and their items have the examples.
 #![tactic(auto)]
 
 mod cut_pieces;

@@ -3,21 +3,12 @@ ghost use Rattle.std.specs.Prelude.{◌≡◌, ◌↔◌, IsTrue, Some};
 ghost use Rattle.textwrap.specs.Options.{HasParts};
 ghost use Rattle.textwrap.specs.WordSplitters.{splitter_view};
 ghost use Rattle.textwrap.specs.WrapAlgorithms.{algorithm_view, Greedy};
-ghost use Rattle.textwrap_layout.specs.Direct.{as_algorithm};
-ghost use Rattle.textwrap_layout.specs.Options.{layout_view};
-ghost use Rattle.textwrap_words.specs.Pieces.{as_splitter};
 ghost use Rattle.textwrap_plain.specs.Options.{algorithm_of, AreDefaults, settings_of, splitter_of};
 
-use crate::printable::PlainWords;
-use std::alloc::Global;
 use textwrap::wrap_algorithms::Penalties;
 use textwrap::{LineEnding, Options, WordSplitter, WrapAlgorithm};
-use textwrap_layout::any_options::{BuiltInAlgorithm, BuiltInParts};
-use textwrap_layout::built_in::BuiltInOptions;
-use textwrap_layout::layout::Layout;
 use textwrap_layout::options::DEFAULTS;
 use textwrap_unicode::Numbers;
-use textwrap_words::inner::BuiltInSplitter;
 
 /// Where words end.
 #[derive(Clone, Copy, Debug, PartialEq, Eq)]
@@ -113,32 +104,6 @@ impl<'a> PlainOptions<'a> {
             preserve_trailing_space: self.preserve_trailing_space,
             even_paragraphs: self.even_paragraphs,
             ..DEFAULTS
-        }
-    }
-
-    /// The options of `textwrap_lines` that say the same, and hold no function either.
-    pub(crate) fn built_in(&self, alloc: Global) -> BuiltInOptions<'a, PlainWords>
-        ensures layout { layout_view result.layout ≡ settings_of self.now }
-        ensures words { result.words.separator ≡ self.now.word_separator }
-        ensures splitter { as_splitter result.parts.splitter ≡ splitter_of self.now }
-        ensures algorithm { as_algorithm result.parts.algorithm ≡ algorithm_of self.now }
-    {
-        BuiltInOptions {
-            layout: Layout::of(&self.at_blanks()),
-            parts: BuiltInParts {
-                splitter: match self.word_splitter {
-                    PlainSplitter::NoHyphenation => BuiltInSplitter::NoHyphenation,
-                    PlainSplitter::HyphenSplitter => BuiltInSplitter::HyphenSplitter,
-                },
-                algorithm: match self.wrap_algorithm {
-                    PlainAlgorithm::FirstFit => BuiltInAlgorithm::FirstFit,
-                    PlainAlgorithm::OptimalFit(penalties) => BuiltInAlgorithm::LeastCost(penalties),
-                },
-            },
-            words: PlainWords {
-                separator: self.word_separator,
-                alloc,
-            },
         }
     }
 

@@ -49,6 +49,26 @@ static size_t divide(void *context, const textwrap_piece *pieces, size_t pieces_
     return answer(asked, pieces_len + 1, ends);
 }
 
+/* Cuts "foo bar" before its second word, and writes more than it answers. */
+static size_t cut_and_scribble(void *context, const uint8_t *paragraph, size_t len, size_t *cuts) {
+    (void)context;
+    (void)paragraph;
+    for (size_t i = 0; i < len; i++) cuts[i] = 2;
+    cuts[0] = 4;
+    return 1;
+}
+
+/* A line for each of two pieces, and an empty one. */
+static size_t two_alone_and_none(void *context, const textwrap_piece *pieces, size_t pieces_len,
+                                 const size_t line_widths[2], size_t *ends) {
+    (void)pieces;
+    (void)pieces_len;
+    (void)line_widths;
+    ends[0] = 1;
+    ends[1] = ends[2] = 2;
+    return ((struct asked *)context)->places;
+}
+
 /* A line for each piece, and an empty one. */
 static size_t each_alone_and_none(void *context, const textwrap_piece *pieces, size_t pieces_len,
                                   const size_t line_widths[2], size_t *ends) {
@@ -198,6 +218,36 @@ static void a_hyphen_costs_what_the_options_say(void) {
     CHECK(strcmp(wrapped(o, functions, "ab foobar"), "ab|foobar|") == 0);
 }
 
+/* Without a function that splits them, they are split behind hyphens or not at all. */
+static void words_of_the_caller_are_split_as_the_options_say(void) {
+    struct asked asked = answering(1, 8);
+    textwrap_functions functions = textwrap_functions_new(&asked);
+    textwrap_options o = first_fit(6);
+    functions.cut = cut;
+    o.break_words = 0;
+    CHECK(strcmp(wrapped(o, functions, "foo-bar baz"), "foo-|bar|baz|") == 0);
+    o.split_at_hyphens = 0;
+    CHECK(strcmp(wrapped(o, functions, "foo-bar baz"), "foo-bar|baz|") == 0);
+}
+
+/* Digits and signs are words like any other. */
+static void a_splitter_is_asked_for_words_without_letters(void) {
+    struct asked asked = answering(1, 2);
+    textwrap_functions functions = textwrap_functions_new(&asked);
+    functions.split = split;
+    CHECK(strcmp(wrapped(first_fit(3), functions, "1234 ----"), "12-|34|--|--|") == 0);
+    CHECK(strcmp(asked.words, "1234|----|") == 0);
+}
+
+/* A word without columns stands before an indented line, and each letter of a broken one is a piece. */
+static void an_algorithm_may_get_more_pieces_than_there_are_bytes(void) {
+    textwrap_functions functions = textwrap_functions_new(NULL);
+    textwrap_options o = first_fit(3);
+    functions.divide = each_alone_and_none;
+    o.initial_indent = o.subsequent_indent = text_of("> ");
+    CHECK(strcmp(wrapped(o, functions, "abc"), "> |> a|> b|> c||") == 0);
+}
+
 static void a_last_line_may_be_empty(void) {
     textwrap_functions functions = textwrap_functions_new(NULL);
     textwrap_options o = first_fit(3);
@@ -268,6 +318,18 @@ static void wrong_places_are_refused(void) {
     CHECK(are_wrong(2, 3, "cuts") && are_wrong(2, 3, "points") && are_wrong(2, 1, "ends"));
 }
 
+/* Behind the three ends of "foo bar" stands a 2, which would do for a fourth. */
+static void one_end_too_many_is_refused(void) {
+    struct asked asked = answering(3, 0);
+    textwrap_functions functions = textwrap_functions_new(&asked);
+    functions.cut = cut_and_scribble;
+    functions.divide = two_alone_and_none;
+    CHECK(strcmp(wrapped(first_fit(3), functions, "foo bar"), "foo|bar||") == 0);
+    asked.places = 4;
+    const char *refused = textwrap_status_text(TEXTWRAP_WRONG_PLACES);
+    CHECK(strcmp(wrapped(first_fit(3), functions, "foo bar"), refused) == 0);
+}
+
 static void a_carriage_return_ends_no_paragraph(void) {
     textwrap_functions breaks = textwrap_functions_new(NULL);
     textwrap_options o = first_fit(80);
@@ -285,9 +347,13 @@ int main(void) {
     a_paragraph_may_have_no_words();
     a_hyphen_takes_its_column();
     a_hyphen_costs_what_the_options_say();
+    words_of_the_caller_are_split_as_the_options_say();
+    a_splitter_is_asked_for_words_without_letters();
+    an_algorithm_may_get_more_pieces_than_there_are_bytes();
     a_last_line_may_be_empty();
     an_algorithm_is_handed_what_the_indents_leave();
     wrong_places_are_refused();
+    one_end_too_many_is_refused();
     a_function_may_run_out_of_memory();
     a_carriage_return_ends_no_paragraph();
     if (failures == 0) printf("C, functions of the caller: ok\n");

@@ -3,7 +3,7 @@
 
 #include "check.h"
 
-enum { LONG = 2 << 20, MANY = 5000 };
+enum { LONG = 2 << 20, LONGER = 5 << 20, MANY = 5000 };
 
 /* Memory for a test, which ends if there is none. */
 static uint8_t *memory(size_t size) {
@@ -57,6 +57,21 @@ static void a_long_text_is_filled(void) {
     CHECK(is_equal(text, LONG - 1, filled, LONG - 1));
     free(text);
     free(filled);
+    free(room);
+}
+
+/* A function of the caller cuts it. */
+static void a_longer_text_is_filled_by_a_function(void) {
+    textwrap_functions functions = textwrap_functions_new(NULL);
+    uint8_t *text = repeated("foo bar\n", LONGER), *room = memory(LONGER);
+    textwrap_options o = textwrap_options_new(3);
+    size_t len = 0;
+    functions.cut = textwrap_cut_at_breaks;
+    CHECK(textwrap_fill_by(text, LONGER, &o, &functions, room, LONGER, &len) == TEXTWRAP_DONE);
+    for (size_t i = 0; i < LONGER; i++)
+        if (text[i] == ' ') text[i] = '\n';
+    CHECK(is_equal(room, len, text, LONGER));
+    free(text);
     free(room);
 }
 
@@ -183,6 +198,29 @@ static void many_lines_are_shortened(void) {
     free(room);
 }
 
+/* A list of words that nobody writes, whose last one is "dnl". */
+static textwrap_text *words_until_dnl(size_t len) {
+    textwrap_text *words = (textwrap_text *)memory(len * sizeof *words);
+    for (size_t i = 0; i < len; i++) words[i] = text_of("zzz");
+    words[len - 1] = text_of("dnl");
+    return words;
+}
+
+/* The last of many markers is one, and the last of many prefixes names the lines that are filled. */
+static void many_markers_and_prefixes_count(void) {
+    const char *text = "dnl one two three four\n> one two three four\n";
+    const char *filled = "dnl one two\ndnl three four\n> one two three four\n";
+    textwrap_text *words = words_until_dnl(MANY);
+    textwrap_reflow_options o = textwrap_reflow_options_new(16);
+    uint8_t room[64];
+    size_t len = 0;
+    o.markers = o.prefixes = words;
+    o.markers_len = o.prefixes_len = MANY;
+    CHECK(textwrap_reflow(bytes(text), strlen(text), &o, room, sizeof room, &len) == TEXTWRAP_DONE);
+    CHECK(is_text(room, len, filled));
+    free(words);
+}
+
 /* Each line of the text becomes two rows of one column; filled again, each two become three lines. */
 static void long_texts_are_hyphenated(void) {
     enum { LINES = LONG / 16, ROWS = 2 * LINES + 1, BUILT = 11 * ROWS, REFILLED = LINES / 2 * 34 };
@@ -217,12 +255,14 @@ static void long_texts_are_hyphenated(void) {
 
 int main(void) {
     a_long_text_is_filled();
+    a_longer_text_is_filled_by_a_function();
     the_lines_of_a_long_text_are_places();
     many_fragments_are_divided();
     long_indents_are_whole();
     long_gaps_are_whole();
     long_prefixes_and_placeholders_are_whole();
     many_lines_are_shortened();
+    many_markers_and_prefixes_count();
     long_texts_are_hyphenated();
     if (failures == 0) printf("C, long texts: ok\n");
     return failures != 0;

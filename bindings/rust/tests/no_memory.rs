@@ -1,21 +1,38 @@
 //! Each call of `fallible`, with each of its allocations refused in turn, those of the library too: it
-//! has to return that memory ran out. One that aborts ends the test. A library that has a heap of its
-//! own is tested so in C.
+//! has to return that memory ran out, and to leave nothing allocated. One that aborts ends the test. A
+//! library that has a heap of its own is tested so in C.
 use std::alloc::{GlobalAlloc, Layout, System};
 use std::cell::Cell;
 use std::fmt::Debug;
 use std::ptr::null_mut;
+use textwrap_proved::breaks::{try_line_breaks, Numbers};
+use textwrap_proved::core::{break_words, strip_ansi_escape_sequences, Word};
 use textwrap_proved::display::{self, Alignment, Column, Gaps, Shortening};
 use textwrap_proved::hyphens::Patterns;
 use textwrap_proved::reflow::ReflowOptions;
-use textwrap_proved::{fallible, Options, OutOfMemory, WordSeparator, WordSplitter};
+use textwrap_proved::word_separators::find_words_at;
+use textwrap_proved::word_splitters::split_words;
+use textwrap_proved::wrap_algorithms::{wrap_first_fit, wrap_optimal_fit, Penalties};
+use textwrap_proved::{fallible, Options, OutOfMemory, WordSeparator, WordSplitter, WrapAlgorithm};
 
-/// The heap of the system, but that it refuses an allocation where it is told to.
+/// The heap of the system, but that it refuses an allocation where it is told to, and counts.
 struct Refusing;
 
 thread_local! {
     /// How many allocations of this thread are left before the one that is refused, if any is.
     static LEFT: Cell<Option<usize>> = const { Cell::new(None) };
+
+    /// The bytes that this thread has allocated and not freed.
+    static LIVE: Cell<usize> = const { Cell::new(0) };
+}
+
+/// Notes that a block of so many bytes came in the place of one of so many, unless it is null.
+fn counted(block: *mut u8, freed: usize, allocated: usize) -> *mut u8 {
+    if !block.is_null() {
+        // What a thread frees another one may have allocated.
+        LIVE.set(LIVE.get().wrapping_sub(freed).wrapping_add(allocated));
+    }
+    block
 }
 
 /// Whether this allocation is refused. If it is, none after it is.
@@ -29,17 +46,20 @@ fn is_refused() -> bool {
 unsafe impl GlobalAlloc for Refusing {
     unsafe fn alloc(&self, layout: Layout) -> *mut u8 {
         // SAFETY: as for this function.
-        if is_refused() { null_mut() } else { unsafe { System.alloc(layout) } }
+        let block = if is_refused() { null_mut() } else { unsafe { System.alloc(layout) } };
+        counted(block, 0, layout.size())
     }
 
     unsafe fn dealloc(&self, block: *mut u8, layout: Layout) {
         // SAFETY: as for this function.
-        unsafe { System.dealloc(block, layout) }
+        unsafe { System.dealloc(counted(block, layout.size(), 0), layout) }
     }
 
     unsafe fn realloc(&self, block: *mut u8, layout: Layout, size: usize) -> *mut u8 {
         // SAFETY: as for this function.
-        if is_refused() { null_mut() } else { unsafe { System.realloc(block, layout, size) } }
+        let longer =
+            if is_refused() { null_mut() } else { unsafe { System.realloc(block, layout, size) } };
+        counted(longer, layout.size(), size)
     }
 }
 
@@ -55,12 +75,15 @@ where
 {
     let expected = call();
     assert!(expected.is_ok(), "{name}");
+    let live = LIVE.get();
     for refused in 0.. {
         LEFT.set(Some(refused));
         let answer = call();
         let is_done = LEFT.take().is_some();
         let is_refusal = !is_done && answer == Err(OutOfMemory::default());
         assert!(is_refusal || answer == expected, "{name}: {answer:?}");
+        drop(answer);
+        assert_eq!(LIVE.get(), live, "{name} leaves bytes allocated");
         if is_done {
             break;
         }
@@ -97,6 +120,15 @@ fn calls_on_texts() {
     refuse_each("reflow", || fallible::reflow(quote, options));
     refuse_each("indent", || fallible::indent("foo\nbar", "> "));
     refuse_each("dedent", || fallible::dedent("  foo\n  bar"));
+    refuse_each("fill_inplace", || {
+        let left = LEFT.take();
+        let mut text = String::from("foo bar");
+        LEFT.set(left);
+        let answer = fallible::fill_inplace(&mut text, 5);
+        assert!(answer.is_ok() || text == "foo bar", "{text:?}");
+        answer.map(|()| text)
+    });
+    refuse_each("try_line_breaks", || try_line_breaks(TEXT, Numbers::ByPairs));
 }
 
 #[test]
@@ -153,4 +185,33 @@ fn calls_by_patterns() {
         let columns = [Column { options, alignment: Alignment::Right }];
         refuse_each("table", || display::fallible::table(&[TEXT, "foo"], &columns, &gaps));
     }
+}
+
+/// The calls that return no error if memory runs out.
+fn calls_on_words_and_fragments() {
+    let words: Vec<Word<'_>> = WordSeparator::AsciiSpace.find_words(TEXT).collect();
+    let at_breaks = WordSeparator::UnicodeBreakProperties.find_words(TEXT);
+    let pieces = split_words(at_breaks, &WordSplitter::HyphenSplitter);
+    assert!(break_words(pieces, 2).len() > words.len());
+    assert_eq!(find_words_at("foo bar", &[4]).unwrap().len(), 2);
+    assert!(find_words_at("foo bar", &[9]).is_err());
+    assert_eq!(strip_ansi_escape_sequences("\u{1b}[1mfoo"), "foo");
+    for line_widths in [[9.0], [0.0]] {
+        assert!(wrap_first_fit(&words, &line_widths).len() > 1);
+        assert!(wrap_optimal_fit(&words, &line_widths, &Penalties::new()).unwrap().len() > 1);
+    }
+    assert!(wrap_optimal_fit(&words, &[0.5], &Penalties::new()).is_err());
+    for algorithm in [WrapAlgorithm::FirstFit, WrapAlgorithm::new_optimal_fit()] {
+        assert!(algorithm.wrap(&words, &[9]).len() > 1);
+    }
+}
+
+#[test]
+fn after_a_thousand_calls_no_more_is_allocated() {
+    calls_on_words_and_fragments();
+    let live = LIVE.get();
+    for _ in 0..1_000 {
+        calls_on_words_and_fragments();
+    }
+    assert_eq!(LIVE.get(), live);
 }

@@ -687,6 +687,18 @@ fn an_algorithm_is_asked_unless_the_text_is_shorter_than_the_width() {
     }
 }
 
+#[test]
+fn no_function_is_asked_for_a_text_that_is_shorter_than_the_width() {
+    for options in [
+        Options::new(4).word_separator(WordSeparator::Custom(|_| panic!("it is asked"))),
+        Options::new(4).word_splitter(WordSplitter::Custom(|_| panic!("it is asked"))),
+        Options::new(4).wrap_algorithm(WrapAlgorithm::Custom(|_, _| panic!("it is asked"))),
+    ] {
+        assert_eq!(wrap("foo", &options), ["foo"]);
+        assert_eq!(fill("foo\n\nab ", options), "foo\n\nab");
+    }
+}
+
 thread_local! {
     /// The words that a splitter was handed.
     static NOTED: RefCell<Vec<String>> = const { RefCell::new(Vec::new()) };
@@ -714,6 +726,10 @@ fn a_splitter_gets_words_without_the_blanks_after_them() {
         let splitter = WordSplitter::Custom(noting);
         fill(text, Options::new(3).word_separator(separator).word_splitter(splitter));
         assert_eq!(NOTED.take(), words, "{text:?} by {separator:?}");
+        // A paragraph without a byte has no words, even if its line is more than that.
+        let indented = Options::new(3).word_separator(separator).initial_indent("*");
+        assert_eq!(fill("", indented.word_splitter(WordSplitter::Custom(noting))), "*");
+        assert_eq!(NOTED.take(), [""; 0]);
     }
 }
 
@@ -742,6 +758,14 @@ fn paragraphs_with_functions_of_the_caller() {
     let none = Options::new(3).wrap_algorithm(WrapAlgorithm::Custom(|_, _| vec![]));
     // There is no line yet when the second paragraph begins.
     assert_eq!(wrap("foo bar\nx", none.initial_indent("")), ["x"]);
+    // So its first line has the initial indent, behind which an empty word stands before its text.
+    let few_alone = WrapAlgorithm::Custom(|words, _| match words.len() {
+        ..=2 => words.chunks(1).collect(),
+        _ => vec![],
+    });
+    let options = Options::new(8).initial_indent(">>>>").wrap_algorithm(few_alone);
+    assert_eq!(wrap("none of it here\nfoo", &options), [">>>>", "foo"]);
+    assert_eq!(fill("none of it here\nfoo", options), ">>>>\nfoo");
 }
 
 #[test]
@@ -957,6 +981,21 @@ fn a_long_line_behind_an_indent_is_whole() {
             assert_eq!(lines.len(), 1);
             assert_eq!(lines[0], format!("> {word}"));
             assert_eq!(fill(&word, &options), lines[0]);
+        }
+    }
+}
+
+#[test]
+fn a_filled_text_may_be_much_longer_than_the_text() {
+    let indent = "x".repeat(100_000);
+    for separator in SEPARATORS {
+        for separator in [separator, drawn::own(separator)] {
+            let options = Options::new(indent.len() + 1)
+                .word_separator(separator)
+                .initial_indent(&indent)
+                .subsequent_indent(&indent);
+            let filled = textwrap::fallible::fill(&"a ".repeat(50), options).unwrap();
+            assert!(filled == [format!("{indent}a").as_str(); 50].join("\n"));
         }
     }
 }

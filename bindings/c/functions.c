@@ -80,6 +80,16 @@ static size_t each_alone_and_none(void *context, const textwrap_piece *pieces, s
     return pieces_len + 1;
 }
 
+/* A line for each of two pieces, and no lines for more. */
+static size_t few_alone(void *context, const textwrap_piece *pieces, size_t pieces_len,
+                        const size_t line_widths[2], size_t *ends) {
+    (void)context;
+    (void)pieces;
+    (void)line_widths;
+    for (size_t i = 0; i < pieces_len; i++) ends[i] = i + 1;
+    return pieces_len > 2 ? 0 : pieces_len;
+}
+
 static textwrap_options first_fit(size_t width) {
     textwrap_options options = textwrap_options_new(width);
     options.optimal_fit = 0;
@@ -195,6 +205,16 @@ static void a_paragraph_may_have_no_words(void) {
     CHECK(strcmp(wrapped(o, functions, "a\n\nb"), "* a|  |  b|") == 0);
 }
 
+static void a_text_that_is_shorter_than_the_width_calls_no_function(void) {
+    struct asked asked = answering(9, 9);
+    textwrap_functions functions = textwrap_functions_new(&asked);
+    functions.cut = cut;
+    functions.split = split;
+    functions.divide = divide;
+    CHECK(strcmp(wrapped(first_fit(4), functions, "foo\n\nab "), "foo||ab|") == 0);
+    CHECK(asked.calls == 0 && asked.words[0] == '\0');
+}
+
 static void a_hyphen_takes_its_column(void) {
     struct asked asked = answering(1, 2);
     textwrap_functions functions = textwrap_functions_new(&asked);
@@ -258,6 +278,16 @@ static void a_last_line_may_be_empty(void) {
     CHECK(textwrap_fill_by(bytes("a b c"), 5, &o, &functions, room, sizeof room, &len)
           == TEXTWRAP_DONE);
     CHECK(is_text(room, len, "a\nb\nc\n"));
+}
+
+/* There is no line yet when the second begins, so its first line has the initial indent, behind which an
+ * empty word stands before its text. */
+static void the_first_paragraph_may_have_no_lines(void) {
+    textwrap_functions functions = textwrap_functions_new(NULL);
+    textwrap_options o = first_fit(8);
+    functions.divide = few_alone;
+    o.initial_indent = text_of(">>>>");
+    CHECK(strcmp(wrapped(o, functions, "none of it here\nfoo"), ">>>>|foo|") == 0);
 }
 
 /* The first paragraph's first line has what the initial indent leaves, also where this has more bytes
@@ -345,12 +375,14 @@ int main(void) {
     room_may_be_too_short();
     too_few_lines_are_the_first();
     a_paragraph_may_have_no_words();
+    a_text_that_is_shorter_than_the_width_calls_no_function();
     a_hyphen_takes_its_column();
     a_hyphen_costs_what_the_options_say();
     words_of_the_caller_are_split_as_the_options_say();
     a_splitter_is_asked_for_words_without_letters();
     an_algorithm_may_get_more_pieces_than_there_are_bytes();
     a_last_line_may_be_empty();
+    the_first_paragraph_may_have_no_lines();
     an_algorithm_is_handed_what_the_indents_leave();
     wrong_places_are_refused();
     one_end_too_many_is_refused();

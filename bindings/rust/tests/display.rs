@@ -126,6 +126,10 @@ fn lists_of_lines_are_shortened() {
     assert!(shorten_lines::<&str>(&[], 2, 8, " ..").is_empty());
     let texts = vec![String::from("foo bar"), String::from("baz")];
     assert_eq!(shorten_lines(&texts, 1, 7, ".."), ["foo.."]);
+    let many = ["foo bar"; 5_000];
+    let kept = [vec!["foo bar"; 2_999], vec!["foo .."]].concat();
+    assert_eq!(shorten_lines(&many, 3_000, 7, " .."), kept);
+    assert_eq!(shorten_lines_by(&many, 3_000, &Shortening::new(7, " ..")), kept);
     assert_eq!(shorten_lines(&wrap("foo bar baz", 7), 1, 9, ".."), ["foo bar.."]);
 }
 
@@ -372,6 +376,22 @@ fn tables_are_laid_out() {
 }
 
 #[test]
+fn wide_columns_are_aligned() {
+    let blanks = " ".repeat(1_999);
+    let half = " ".repeat(999);
+    for separator in [WordSeparator::UnicodeBreakProperties, WordSeparator::AsciiSpace] {
+        for (alignment, row) in [
+            (Alignment::Left, format!("[ a{blanks} ]")),
+            (Alignment::Right, format!("[ {blanks}a ]")),
+            (Alignment::Centre, format!("[ {half}a{half}  ]")),
+        ] {
+            let options = Options::new(2_000).word_separator(separator);
+            assert_eq!(table(&["a"], &[Column { options, alignment }], &AROUND), [row]);
+        }
+    }
+}
+
+#[test]
 fn columns_have_options_of_their_own() {
     for separator in [WordSeparator::UnicodeBreakProperties, WordSeparator::AsciiSpace] {
         let [mut left, mut right] = two_columns(separator);
@@ -411,6 +431,14 @@ fn functions_of_the_caller_take_part() {
         "[      a b, |  an foo- ]",
         "[   c d e,f |      bar ]",
     ]);
+}
+
+#[test]
+fn one_function_beside_many_columns_is_asked() {
+    let mut columns = vec![Column { options: first_fit(5), alignment: Alignment::Left }; 40];
+    columns[39].options.word_splitter = WordSplitter::Custom(|_| vec![3]);
+    let rows = table(&["foobar"; 40], &columns, &Gaps { middle: " ", ..Gaps::default() });
+    assert_eq!(rows, [["fooba"; 39].join(" ") + " foo- ", ["r    "; 39].join(" ") + " bar  "]);
 }
 
 #[test]

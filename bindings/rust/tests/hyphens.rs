@@ -88,6 +88,8 @@ fn the_first_wrong_line_is_told() {
         assert_eq!(error, PatternsError::Line(line), "{text:?}");
         assert_eq!(Patterns::try_parse(text), Ok(Err(error)));
     }
+    let late = "hy3ph\n".repeat(70_000) + "he/2n\n";
+    assert_eq!(Patterns::parse(&late), Err(PatternsError::Line(70_001)));
     let error: Box<dyn Error> = PatternsError::Line(3).into();
     assert_eq!(error.to_string(), "line 3 of the patterns is wrong");
 }
@@ -102,6 +104,20 @@ fn numbers_are_the_patterns_again() {
     // They do not tell how words with hyphens are taken.
     assert_ne!(again.clone().in_parts(true), again);
     assert_eq!(Patterns::from_numbers(again.clone().in_parts(true).as_numbers()), Some(again));
+}
+
+/// More than the dictionary of most languages has.
+#[test]
+fn many_numbers_are_the_patterns_again() {
+    let letters = || 'a'..='r';
+    let pairs = || letters().flat_map(|one| letters().map(move |other| [one, other]));
+    let patterns = pairs().flat_map(|[a, b]| pairs().map(move |[c, d]| format!("{a}{b}1{c}{d}\n")));
+    let many = Patterns::parse(&patterns.collect::<String>()).unwrap();
+    let numbers = many.as_numbers();
+    assert!(numbers.len() > 1_000_000, "{} numbers", numbers.len());
+    let again = Patterns::from_numbers(numbers).unwrap();
+    assert_eq!(again, many);
+    assert_eq!(again.points("rqpon"), [2]);
 }
 
 #[test]

@@ -93,8 +93,9 @@
 //!
 //! # Differences from `textwrap`
 //!
-//! - Unicode line breaks are those of UAX #14 at Unicode 15.0, from which the original departs in
-//!   three places. Whoever has another line segmenter gives its offsets to
+//! - Unicode line breaks are those of UAX #14 at Unicode 15.0. The original takes them from the crate
+//!   `icu_segmenter`, with the rules and classes of its version of Unicode. Whoever has another line
+//!   segmenter, such as that, gives its offsets to
 //!   [`find_words_at`](word_separators::find_words_at).
 //! - Widths of a [`Fragment`](core::Fragment) have to be whole numbers from 0 to `usize::MAX`.
 //! - What a `Custom` function gives is checked, and a wrong answer panics with a message that says
@@ -116,15 +117,15 @@
 //! |---|---|---|
 //! | `smawk` | [`WrapAlgorithm::new`], and so [`Options::new`], takes the least cost | it takes first fit |
 //! | `unicode-linebreak` | [`WordSeparator::new`], and so [`Options::new`], cuts at Unicode line breaks | it cuts at blanks |
-//! | `unicode-width` | nothing changes | nothing changes: widths are always those of Unicode, where the original counts 1 for each character that is no emoji |
+//! | `unicode-width` | nothing changes | nothing changes: widths are always those of Unicode, where the original counts 2 for each character from U+1100 on, and 1 for any other |
 //! | `std` | nothing changes | nothing changes: the crate always needs `alloc`, and no more |
 //! | `unicode-linebreak-complex` | is `unicode-linebreak` | |
 //! | `terminal_size` | `termwidth` and `Options::with_termwidth` are there, over the crate [terminal_size](https://docs.rs/terminal_size), 0.2.1 to 0.4 | |
 //! | `hyphenation` | `WordSplitter::Hyphenation` is there, over the crate [hyphenation](https://docs.rs/hyphenation), 0.7.1 to 0.8 | |
 //!
 //! By `unicode-linebreak-complex` the original finds words of Thai, Lao, Khmer and Burmese by
-//! dictionaries; here there are none, and text in these scripts is cut only where it has blanks or
-//! other breaks.
+//! dictionaries and models of these languages; here there are none, and text in these scripts is cut
+//! only where it has blanks or other breaks.
 //!
 //! # Memory
 //!

@@ -66,6 +66,11 @@ unsafe impl GlobalAlloc for Refusing {
 #[global_allocator]
 static HEAP: Refusing = Refusing;
 
+/// Whether this says that memory ran out, and what size was refused.
+fn is_refusal<T>(answer: &Result<T, OutOfMemory>) -> bool {
+    answer.as_ref().is_err_and(|refused| refused.size().is_some_and(|size| size > 0))
+}
+
 /// Refuses the first allocation of a call, then the second, until it makes none that is refused. A
 /// guess at the room may be refused without harm: then the call asks for what it needs.
 fn refuse_each<T, F>(name: &str, call: F)
@@ -80,8 +85,7 @@ where
         LEFT.set(Some(refused));
         let answer = call();
         let is_done = LEFT.take().is_some();
-        let is_refusal = !is_done && answer == Err(OutOfMemory::default());
-        assert!(is_refusal || answer == expected, "{name}: {answer:?}");
+        assert!(answer == expected || (!is_done && is_refusal(&answer)), "{name}: {answer:?}");
         drop(answer);
         assert_eq!(LIVE.get(), live, "{name} leaves bytes allocated");
         if is_done {

@@ -30,48 +30,54 @@ fn size_told(test: &str) -> usize {
     size.unwrap_or_else(|| panic!("no size in {message:?}"))
 }
 
-/// Options by which the room for rows is asked for in Rust.
+/// What is told of a size that was refused to the library: nothing, if that has a heap of its own.
+fn told(size: usize) -> Option<usize> {
+    Some(size).filter(|_| !cfg!(library_has_heap))
+}
+
+/// Options by which the library gets lines, and no text.
 fn by_a_function(width: usize) -> Options<'static> {
     Options::new(width).word_splitter(WordSplitter::Custom(|_| vec![]))
 }
 
 #[test]
-fn an_abort_names_the_size_that_was_asked_for() {
+fn an_abort_names_the_size_that_was_asked_for_rows() {
     if is_alone() {
         wrap_columns("foo", 1, by_a_function(TOO_MUCH), "", "", "");
         return;
     }
-    let size = size_told("an_abort_names_the_size_that_was_asked_for");
-    assert!((TOO_MUCH..TOO_MUCH + 10).contains(&size), "{size} bytes were asked for");
+    let size = size_told("an_abort_names_the_size_that_was_asked_for_rows");
+    assert_eq!(size, told(TOO_MUCH).unwrap_or(0));
 }
 
 #[test]
-fn an_abort_names_the_size_that_was_refused_to_the_library() {
+fn an_abort_names_the_size_that_was_asked_for_a_line() {
     if is_alone() {
         align("foo", TOO_MUCH, Alignment::Right);
         return;
     }
-    let size = size_told("an_abort_names_the_size_that_was_refused_to_the_library");
-    assert_eq!(size, if cfg!(library_has_heap) { 0 } else { TOO_MUCH });
+    let size = size_told("an_abort_names_the_size_that_was_asked_for_a_line");
+    assert_eq!(size, told(TOO_MUCH).unwrap_or(0));
 }
 
 #[test]
+#[cfg(not(library_has_heap))]
 #[should_panic(expected = "out of memory: more than 9223372036854775807 bytes were asked for")]
-fn a_size_that_no_allocation_can_have_panics() {
+fn rows_whose_size_no_allocation_can_have_panic() {
     wrap_columns("foo", 1, by_a_function(usize::MAX), "", "", "");
 }
 
 #[test]
 #[cfg(not(library_has_heap))]
 #[should_panic(expected = "out of memory: more than 9223372036854775807 bytes were asked for")]
-fn a_size_that_no_allocation_of_the_library_can_have_panics() {
+fn a_line_whose_size_no_allocation_can_have_panics() {
     align("foo", usize::MAX, Alignment::Right);
 }
 
 #[test]
 fn errors_name_their_size_and_are_equal() {
     let refused = fallible::align("foo", TOO_MUCH, Alignment::Right).unwrap_err();
-    assert_eq!(refused.size(), if cfg!(library_has_heap) { None } else { Some(TOO_MUCH) });
+    assert_eq!(refused.size(), told(TOO_MUCH));
     assert_eq!(refused, OutOfMemory::default());
     assert_eq!(refused, OutOfMemory::of_size(1));
     assert!(matches!(fallible::align("foo", TOO_MUCH, Alignment::Left), Err(OutOfMemory { .. })));

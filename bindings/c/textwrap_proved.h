@@ -30,7 +30,7 @@
  *         }
  *         free(lines);
  *         free(room);
- *         return 0;
+ *         return fflush(stdout) || ferror(stdout);
  *     }
  *
  * A call returns TEXTWRAP_DONE, NOT_UTF8 if a text is not UTF-8, OUT_OF_MEMORY, TOO_SMALL as above, or

@@ -1,6 +1,6 @@
 //! A trie, written.
 ghost use Rattle.std.specs.Prelude.{◌≡◌, ℕ, ◌+◌, ◌<◌, ◌≤◌, [], ◌∷◌, ◌++◌, All, length, IfOk};
-ghost use Rattle.std.specs.Prelude.{slice_index};
+ghost use Rattle.std.specs.Prelude.{map, slice_index, OnOk};
 ghost use Rattle.textwrap_trie.specs.Entries.{AreSortedFrom, entry_for};
 ghost use Rattle.textwrap_trie.specs.Writing.{HaveRisingLetters, IsList, IsNodeOf, IsTrie};
 ghost use Rattle.textwrap_trie.specs.Writing.{HasWindow, child_for, letters_and_nodes};
@@ -104,13 +104,28 @@ fn push_node(
 fn letters_and_nodes(alloc: Global, children: &[Child]) -> Result<Vec<usize>, AllocError>
     ensures { IfOk result (λ list. list.items ≡ letters_and_nodes children.now) }
 {
-    let mut list: Vec<usize> = children
-        .iter()
-        .map(|child| child.letter as usize)
-        .collect(alloc)?;
-    let nodes: Vec<usize> = children.iter().map(|child| child.node).collect(alloc)?;
-    list.extend_from_slice(&nodes)?;
+    let mut list = Vec::with_capacity(alloc, children.len().saturating_mul(2))?;
+    push_letters(&mut list, children)?;
+    push_nodes(&mut list, children)?;
     Ok(list)
+}
+
+fn push_letters(list: &mut Vec<usize>, children: &[Child]) -> Result<(), AllocError>
+    ensures { OnOk result (list.new.items ≡ list.old.items ++ map (λ c. c.letter) children.now) }
+{
+    for child in children {
+        list.push(child.letter as usize)?;
+    }
+    Ok(())
+}
+
+fn push_nodes(list: &mut Vec<usize>, children: &[Child]) -> Result<(), AllocError>
+    ensures { OnOk result (list.new.items ≡ list.old.items ++ map (λ c. c.node) children.now) }
+{
+    for child in children {
+        list.push(child.node)?;
+    }
+    Ok(())
 }
 
 /// Appends the window of a node: its first letter, then the list of its nodes. It is empty where the

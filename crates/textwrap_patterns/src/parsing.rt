@@ -1,6 +1,6 @@
 //! Dictionaries that are read from texts.
 ghost use Rattle.std.specs.Prelude.{◌≡◌, ◌≤◌, length, map, IfOk};
-ghost use Rattle.std.specs.List.{slice_split};
+ghost use Rattle.std.specs.List.{position_or_len, slice_split};
 ghost use Rattle.std.specs.Char.{is_whitespace};
 ghost use Rattle.std.specs.Option.{option_copied};
 ghost use Rattle.std.specs.Str.Lines.{lines};
@@ -64,7 +64,11 @@ pub fn read(alloc: Global, text: &str) -> Result<Reading, ParseError>
 fn lines_of(alloc: Global, text: &str) -> Result<Vec<&str>, AllocError>
     ensures { IfOk result (λ found. map (λ line. line.now) found.items ≡ lines text.now) }
 {
-    text.lines().collect(alloc)
+    let mut lines = Vec::new(alloc);
+    for line in text.lines() {
+        lines.push(line)?;
+    }
+    Ok(lines)
 }
 
 impl Reading {
@@ -331,5 +335,27 @@ fn words_of(alloc: Global, text: &[char]) -> Result<Vec<&[char]>, AllocError>
     ensures { IfOk result (λ words. map (λ word. word.now) words.items
         ≡ slice_split is_whitespace text.now) }
 {
-    text.split(|ch| ch.is_whitespace()).collect(alloc)
+    let mut words = Vec::new(alloc);
+    let mut left = text;
+    let mut len = word_len(left);
+    while len < left.len() {
+        let (word, rest) = left.split_at(len);
+        words.push(word)?;
+        left = &rest[1..];
+        len = word_len(left);
+    }
+    words.push(left)?;
+    Ok(words)
+}
+
+/// How many characters stand before the first blank.
+fn word_len(text: &[char]) -> usize
+    ensures { result ≡ position_or_len is_whitespace text.now }
+{
+    for (i, ch) in text.iter().enumerate() {
+        if ch.is_whitespace() {
+            return i;
+        }
+    }
+    text.len()
 }

@@ -1,8 +1,11 @@
-use Rattle.std.proofs.lemmas.Iterator.Consumers.{map_from_collect}
 use Rattle.std.proofs.lemmas.Iterator.Splits.{YieldsList-from_lines}
+use Rattle.textwrap_text.proofs.Common.{YieldsList-end, ap}
+use Rattle.textwrap_patterns.proofs.Common.{map, ◌∙◌}
 use Rattle.textwrap_patterns.proofs.parsing.lines_of.Goals as goal
 
 pub returns : goal.returns
 returns c =
-    map_from_collect _ c.collect.ensures.ran
-    (YieldsList-from_lines c.args.text.now c.lines.ensures.rest)
+    let all = YieldsList-end
+    (YieldsList-from_lines c.args.text.now cc) c.loop-line.yielded
+    _ c.loop-line.yielded_by _ _ c.in-None.is c.next.ensures.steps in
+    ap (map (λ line. line.now)) c.loop-line.invariant ∙ all.0

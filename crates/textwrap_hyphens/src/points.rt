@@ -100,7 +100,11 @@ fn push_points<A: Allocator + Copy>(
 fn letters_in<A: Allocator>(alloc: A, run: &[Letter]) -> Result<Vec<char, A>, AllocError>
     ensures { IfOk result (λ letters. letters.items ≡ map (λ c. c.ch) run.now) }
 {
-    run.iter().map(|letter| letter.ch).collect(alloc)
+    let mut letters = Vec::with_capacity(alloc, run.len())?;
+    for letter in run {
+        letters.push(letter.ch)?;
+    }
+    Ok(letters)
 }
 
 /// Adds where the letters of a run begin that stand behind these places.

@@ -6,7 +6,7 @@ ghost use Rattle.textwrap_trie.specs.Writing.{HaveRisingLetters, IsList, IsNodeO
 ghost use Rattle.textwrap_trie.specs.Writing.{HasWindow, child_for, letters_and_nodes};
 
 use crate::entries::{Entry, ended_len, group_len};
-use std::alloc::{AllocError, Global};
+use std::alloc::{AllocError, Allocator};
 
 /// From so many children on a node has a window.
 const WIDE: usize = 8;
@@ -26,9 +26,9 @@ pub(crate) struct Child {
 ///
 /// # Errors
 /// [`AllocError`] where memory runs out.
-pub fn push_trie(
-    alloc: Global,
-    words: &mut Vec<usize>,
+pub fn push_trie<A: Allocator + Copy>(
+    alloc: A,
+    words: &mut Vec<usize, A>,
     entries: &[Entry],
     depth: usize,
     height: usize,
@@ -54,8 +54,8 @@ pub fn push_trie(
 
 /// Appends the numbers of the entry that has no letter at a place. Returns where they stand, or 0
 /// where there is none.
-fn push_numbers_of(
-    words: &mut Vec<usize>,
+fn push_numbers_of<A: Allocator>(
+    words: &mut Vec<usize, A>,
     entries: &[Entry],
     depth: usize,
 ) -> Result<usize, AllocError>
@@ -71,7 +71,10 @@ fn push_numbers_of(
 }
 
 /// Appends a list: its length, then its numbers. Returns its place.
-fn push_list(words: &mut Vec<usize>, numbers: &[usize]) -> Result<usize, AllocError>
+fn push_list<A: Allocator>(
+    words: &mut Vec<usize, A>,
+    numbers: &[usize],
+) -> Result<usize, AllocError>
     ensures { IfOk result (λ place. place ≡ length words.old.items
         × words.new.items ≡ words.old.items ++ (length numbers.now ∷ numbers.now)) }
 {
@@ -82,9 +85,9 @@ fn push_list(words: &mut Vec<usize>, numbers: &[usize]) -> Result<usize, AllocEr
 }
 
 /// Appends a node. Returns its place.
-fn push_node(
-    alloc: Global,
-    words: &mut Vec<usize>,
+fn push_node<A: Allocator + Copy>(
+    alloc: A,
+    words: &mut Vec<usize, A>,
     numbers: usize,
     children: &[Child],
 ) -> Result<usize, AllocError>
@@ -101,7 +104,10 @@ fn push_node(
 }
 
 /// The letters of the children, then their nodes.
-fn letters_and_nodes(alloc: Global, children: &[Child]) -> Result<Vec<usize>, AllocError>
+fn letters_and_nodes<A: Allocator>(
+    alloc: A,
+    children: &[Child],
+) -> Result<Vec<usize, A>, AllocError>
     ensures { IfOk result (λ list. list.items ≡ letters_and_nodes children.now) }
 {
     let mut list = Vec::with_capacity(alloc, children.len().saturating_mul(2))?;
@@ -110,7 +116,10 @@ fn letters_and_nodes(alloc: Global, children: &[Child]) -> Result<Vec<usize>, Al
     Ok(list)
 }
 
-fn push_letters(list: &mut Vec<usize>, children: &[Child]) -> Result<(), AllocError>
+fn push_letters<A: Allocator>(
+    list: &mut Vec<usize, A>,
+    children: &[Child],
+) -> Result<(), AllocError>
     ensures { OnOk result (list.new.items ≡ list.old.items ++ map (λ c. c.letter) children.now) }
 {
     for child in children {
@@ -119,7 +128,7 @@ fn push_letters(list: &mut Vec<usize>, children: &[Child]) -> Result<(), AllocEr
     Ok(())
 }
 
-fn push_nodes(list: &mut Vec<usize>, children: &[Child]) -> Result<(), AllocError>
+fn push_nodes<A: Allocator>(list: &mut Vec<usize, A>, children: &[Child]) -> Result<(), AllocError>
     ensures { OnOk result (list.new.items ≡ list.old.items ++ map (λ c. c.node) children.now) }
 {
     for child in children {
@@ -131,7 +140,11 @@ fn push_nodes(list: &mut Vec<usize>, children: &[Child]) -> Result<(), AllocErro
 /// Appends the window of a node: its first letter, then the list of its nodes. It is empty where the
 /// children are few, as these are found as fast without it. Else half of its letters stand before the
 /// middle child. It makes no difference to what is found which letters these are.
-fn push_window(alloc: Global, words: &mut Vec<usize>, children: &[Child]) -> Result<(), AllocError>
+fn push_window<A: Allocator>(
+    alloc: A,
+    words: &mut Vec<usize, A>,
+    children: &[Child],
+) -> Result<(), AllocError>
     ensures { IfOk result (λ done. HasWindow children.now words.old.items words.new.items) }
 {
     let (first, len) = if children.len() < WIDE {
@@ -147,12 +160,12 @@ fn push_window(alloc: Global, words: &mut Vec<usize>, children: &[Child]) -> Res
 }
 
 /// The nodes of the children for so many letters from one on, with 0 for each that has none.
-fn nodes_from(
-    alloc: Global,
+fn nodes_from<A: Allocator>(
+    alloc: A,
     children: &[Child],
     first: u32,
     len: u32,
-) -> Result<Vec<usize>, AllocError>
+) -> Result<Vec<usize, A>, AllocError>
     ensures letters { IfOk result (λ nodes. length nodes.items ≡ len) }
     ensures nodes { IfOk result (λ nodes. (k : ℕ) → k < len
         → slice_index nodes.items k ≡ child_for children.now (first + k)) }

@@ -8,21 +8,21 @@ use Rattle.textwrap_trie.proofs.TrieSoFar.{written-end, written-next, written-st
 use Rattle.textwrap_trie.proofs.writing.+push_trie.Goals as goal
 
 pub loop-left-init : goal.loop-left-init
-loop-left-init t c =
+loop-left-init g t c =
     rw (take_rest c.args.entries.now c.ended_len-ended.result, c.new-children.ensures.items)
     (written-start c.args.depth c.in_ok-numbers.numbers c.ended_len-ended.result c.args.entries.now
     c.args.words.now.items c.push_numbers_of.new.words.items c.in_ok-numbers.ensures
     c.ended_len-ended.ensures.ended c.ended_len-ended.ensures.longer)
 
 pub overflow_sub-height : goal.overflow_sub-height
-overflow_sub-height t c =
+overflow_sub-height g t c =
     (left-height c.args.depth c.in_ok-numbers.numbers c.args.height c.args.entries.now
     c.loop-left.left.now c.loop-left.children.items c.args.words.now.items c.loop-left.words.items
     c.index-left-0.result (omega (arith, c.group_len.ensures.some, c.group_len.ensures.within))
     c.requires.height c.loop-left.invariant).0
 
 pub push_trie-requires : goal.push_trie-requires
-push_trie-requires t c =
+push_trie-requires g t c =
     let left = c.loop-left.left.now in
     let some : 0 < length left = omega
     (arith, c.group_len.ensures.some, c.group_len.ensures.within) in
@@ -31,28 +31,32 @@ push_trie-requires t c =
     c.as_slice.ensures.value c.index-as_slice-depth.is in
     let high = left-height c.args.depth c.in_ok-numbers.numbers c.args.height c.args.entries.now
     left c.loop-left.children.items c.args.words.now.items c.loop-left.words.items
-    c.index-left-0.result some c.requires.height c.loop-left.invariant in (
+    c.index-left-0.result some c.requires.height c.loop-left.invariant in
+    λ k outlives. (
       omega (arith, high.0, c.decreases),
       (
-        length-grown _ _ _ _ _ _ _ c.loop-left.invariant c.requires.some,
+        outlives,
         (
-          rw c.split_at.ensures.front (group-sorted c.args.depth c.in_ok-numbers.numbers
-              c.group_len.result c.index-as_slice-depth.result c.args.entries.now left
-              c.loop-left.children.items c.args.words.now.items c.loop-left.words.items
-              c.index-left-0.result c.requires.sorted c.group_len.ensures c.loop-left.invariant letter),
-          rw c.split_at.ensures.front (All-take (λ e. length e.key.items
-              ≤ (c.args.depth + 1) + (c.args.height - 1)) c.group_len.result left high.1),
+          length-grown _ _ _ _ _ _ _ c.loop-left.invariant c.requires.some,
+          (
+            rw c.split_at.ensures.front (group-sorted c.args.depth c.in_ok-numbers.numbers
+                c.group_len.result c.index-as_slice-depth.result c.args.entries.now left
+                c.loop-left.children.items c.args.words.now.items c.loop-left.words.items
+                c.index-left-0.result c.requires.sorted c.group_len.ensures c.loop-left.invariant letter),
+            rw c.split_at.ensures.front (All-take (λ e. length e.key.items
+                ≤ (c.args.depth + 1) + (c.args.height - 1)) c.group_len.result left high.1),
+          ),
         ),
       ),
     )
 
 pub loop-left-smaller : goal.loop-left-smaller
-loop-left-smaller t c =
+loop-left-smaller g t c =
     let smaller : length c.split_at.result.1.now < length c.loop-left.left.now =
     omega (arith, c.split_at.ensures.back_len, c.group_len.ensures.some) in smaller
 
 pub loop-left-preserved : goal.loop-left-preserved
-loop-left-preserved t c =
+loop-left-preserved g t c =
     let left = c.loop-left.left.now in
     let some : 0 < length left = omega
     (arith, c.group_len.ensures.some, c.group_len.ensures.within) in
@@ -68,7 +72,7 @@ loop-left-preserved t c =
     (rw c.split_at.ensures.front at c.in_ok-node.ensures))
 
 pub returns : goal.returns
-returns t c =
+returns g t c =
     let none = nil_from_length c.loop-left.left.now
     (eqb-true _ _ (sym c.is_empty.ensures ∙ c.loop-left-test.false)) in
     IfOk-weaker c.push_node.result _ _ (λ root node.

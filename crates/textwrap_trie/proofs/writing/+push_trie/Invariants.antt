@@ -3,13 +3,13 @@ use Rattle.textwrap_trie.proofs.TrieSoFar.{HasWritten}
 use Rattle.textwrap_trie.proofs.writing.+push_trie.Given as goal
 
 abbrev pub decreases-push_trie : goal.decreases-push_trie
-decreases-push_trie l = l.height
+decreases-push_trie g l = l.height
 
 -- the entries before those that are left are written
 abbrev pub invariant-loop-left : goal.invariant-loop-left
-invariant-loop-left l =
+invariant-loop-left g l =
     HasWritten l.fn.depth l.numbers l.fn.entries l.left l.children.items l.fn.words.items
     l.words.items
 
 abbrev pub decreases-loop-left : goal.decreases-loop-left
-decreases-loop-left l = length l.left
+decreases-loop-left g l = length l.left

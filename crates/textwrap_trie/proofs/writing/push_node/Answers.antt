@@ -3,7 +3,7 @@ use Rattle.textwrap_trie.proofs.Written.{node-at_end}
 use Rattle.textwrap_trie.proofs.writing.push_node.Goals as goal
 
 pub returns : goal.returns
-returns c =
+returns g c =
     node-at_end c.args.numbers (length c.as_slice-node.result.now) c.args.children.now
     c.deref.result.now c.args.words.now.items c.push.new.self.items c.push_window.new.words.items
     c.push_list.new.words.items (ap length c.as_slice-node.ensures.value)

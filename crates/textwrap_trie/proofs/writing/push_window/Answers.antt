@@ -3,7 +3,7 @@ use Rattle.textwrap_trie.proofs.Written.{window-at_end}
 use Rattle.textwrap_trie.proofs.writing.push_window.Goals as goal
 
 pub returns : goal.returns
-returns c =
+returns g c =
     let same = c.deref.ensures.value in
     window-at_end c.args.children.now _ c.deref.result.now c.args.words.now.items
     c.push.new.self.items c.push_list.new.words.items

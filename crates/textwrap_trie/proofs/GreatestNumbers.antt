@@ -30,10 +30,10 @@ greatest-more f xs i x within is =
     omega (arith, here, one, all)
 
 -- the first of some counts among them
-pub greatest-first : (group : List Entry) (place : ℕ)
+pub greatest-first : {A : Type 0} (group : List (Entry A)) (place : ℕ)
     → max (get_or (first_numbers group) place 0)
-    (greatest (map (λ (e : Entry). get_or e.numbers.items place 0) group))
-    ≡ greatest (map (λ (e : Entry). get_or e.numbers.items place 0) group)
+    (greatest (map (λ (e : Entry A). get_or e.numbers.items place 0) group))
+    ≡ greatest (map (λ (e : Entry A). get_or e.numbers.items place 0) group)
 greatest-first [] place = omega (arith, get_or_past {X = ℕ} [] place 0 (omega arith))
 greatest-first (e ∷ es) place = omega arith
 

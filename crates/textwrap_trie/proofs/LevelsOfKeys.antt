@@ -112,7 +112,7 @@ of-one_more (c ∷ cs) (k ∷ key) numbers place given none =
     (of-one_more cs key numbers place) (eqb k c) refl in
     omega (arith, next)
 
-pub of-entries : (text : List ℕ) (place : ℕ) (es : List Entry) → AreSortedFrom 0 es
+pub of-entries : {A : Type 0} (text : List ℕ) (place : ℕ) (es : List (Entry A)) → AreSortedFrom 0 es
     → greatest_of text (entry_for 0 es) place ≡ greatest_number es text place
 of-entries text place [] sorted = of-none text place
 of-entries text place (e ∷ es) sorted =
@@ -122,7 +122,7 @@ of-entries text place (e ∷ es) sorted =
     (omega (arith, below)) (omega (arith, within))) in
     omega (arith, more, rest)
 
-pub levels-entries : (text words : List ℕ) (root place : ℕ) (es : List Entry)
+pub levels-entries : {A : Type 0} (text words : List ℕ) (root place : ℕ) (es : List (Entry A))
     → AreSortedFrom 0 es
     → ((key : List ℕ) → numbers_for key words root ≡ entry_for 0 es key)
     → level_from text words root place ≡ greatest_number es text place

@@ -32,13 +32,13 @@ pub list-none : (old : List ℕ) → IsList None old old 0
 list-none old = record { added = []; grown = sym (append-nil old); list = λ more. refl }
 
 -- the key that ends at the letter is that of the first entry
-pub entry_for-ended : (depth : ℕ) (entries : List Entry) (first : Entry) → 0 < length entries
+pub entry_for-ended : {A : Type 0} (depth : ℕ) (entries : List (Entry A)) (first : Entry A) → 0 < length entries
     → first ≡ get_or entries 0 first → length first.key.items ≤ depth
     → entry_for depth entries [] ≡ Some first.numbers.items
-entry_for-ended depth [] first some is ended = absurd (omega (arith, some))
-entry_for-ended depth (e ∷ es) first some is ended =
-    let ends = subst (λ (f : Entry). length f.key.items ≤ depth) is ended in
-    rw (drop_all depth e.key.items ends) (ap (λ (f : Entry). Some f.numbers.items) (sym is))
+entry_for-ended {A} depth [] first some is ended = absurd (omega (arith, some))
+entry_for-ended {A} depth (e ∷ es) first some is ended =
+    let ends = subst (λ (f : Entry A). length f.key.items ≤ depth) is ended in
+    rw (drop_all depth e.key.items ends) (ap (λ (f : Entry A). Some f.numbers.items) (sym is))
 
 -- ---- a node
 

@@ -45,7 +45,7 @@ pub record IsNodeOf (numbers : ℕ) (children : List Child) (old new : List ℕ)
       → child_of (new ++ more) node letter ≡ child_for children letter
 
 -- a node stands at a place below which the keys are those of entries, from a letter on
-pub record IsTrie (depth : ℕ) (entries : List Entry) (old new : List ℕ) (root : ℕ) : Type 0 where
+pub record IsTrie {A : Type 0} (depth : ℕ) (entries : List (Entry A)) (old new : List ℕ) (root : ℕ) : Type 0 where
   pub added : List ℕ
   pub grown : new ≡ old ++ added
   pub place : 0 < root

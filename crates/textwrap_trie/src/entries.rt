@@ -2,15 +2,17 @@
 ghost use Rattle.std.specs.Prelude.{◌≡◌, ◌≢◌, ◌<◌, ◌≤◌, All, drop, length, slice_index, take};
 ghost use Rattle.textwrap_trie.specs.Entries.{AreSortedFrom, IsGroupOf, letter_at};
 
+use std::alloc::{Allocator, Global};
+
 /// A key, and its numbers.
 #[derive(Debug, Drop)]
-pub struct Entry {
-    pub key: Vec<char>,
-    pub numbers: Vec<usize>,
+pub struct Entry<A: Allocator = Global> {
+    pub key: Vec<char, A>,
+    pub numbers: Vec<usize, A>,
 }
 
 /// How many of the first entries, 0 or 1, have no letter at a place.
-pub(crate) fn ended_len(entries: &[Entry], depth: usize) -> usize
+pub(crate) fn ended_len<A: Allocator>(entries: &[Entry<A>], depth: usize) -> usize
     requires { AreSortedFrom depth entries.now }
     ensures within { result ≤ length entries.now }
     ensures ended { All (λ e. length e.key.items ≤ depth) (take result entries.now) }
@@ -23,7 +25,7 @@ pub(crate) fn ended_len(entries: &[Entry], depth: usize) -> usize
 }
 
 /// How many of the first entries have the same letter at a place.
-pub(crate) fn group_len(entries: &[Entry], depth: usize) -> usize
+pub(crate) fn group_len<A: Allocator>(entries: &[Entry<A>], depth: usize) -> usize
     requires some { 0 < length entries.now }
     requires longer { All (λ e. depth < length e.key.items) entries.now }
     ensures { IsGroupOf depth entries.now result }

@@ -10,7 +10,7 @@ ghost use Rattle.textwrap_trie.specs.declared.merging.Rule.TheVariants.{First, G
 use crate::entries::Entry;
 use crate::numbers::raise;
 use crate::writing::push_trie;
-use std::alloc::{AllocError, Global};
+use std::alloc::{AllocError, Allocator};
 
 /// What counts of entries with the same key.
 #[derive(Clone, Copy, Debug, PartialEq, Eq)]
@@ -26,10 +26,10 @@ pub enum Rule {
 ///
 /// # Errors
 /// [`AllocError`] where memory runs out.
-pub fn push_entries(
-    alloc: Global,
-    words: &mut Vec<usize>,
-    entries: Vec<Entry>,
+pub fn push_entries<A: Allocator + Copy>(
+    alloc: A,
+    words: &mut Vec<usize, A>,
+    entries: Vec<Entry<A>, A>,
     rule: Rule,
 ) -> Result<usize, AllocError>
     requires { 0 < length words.old.items }
@@ -50,7 +50,11 @@ pub fn push_entries(
 ///
 /// # Errors
 /// [`AllocError`] where memory runs out.
-fn merged(alloc: Global, entries: &[Entry], rule: Rule) -> Result<Vec<Entry>, AllocError>
+fn merged<A: Allocator + Copy>(
+    alloc: A,
+    entries: &[Entry<A>],
+    rule: Rule,
+) -> Result<Vec<Entry<A>, A>, AllocError>
     requires { AreInOrder entries.now }
     ensures sorted { IfOk result (λ merged. AreSortedFrom 0 merged.items) }
     ensures first { rule ≡ First → IfOk result (λ merged. (key : List ℕ)
@@ -69,12 +73,12 @@ fn merged(alloc: Global, entries: &[Entry], rule: Rule) -> Result<Vec<Entry>, Al
 }
 
 /// How many of the first entries have the key of the first one.
-fn same_len(entries: &[Entry]) -> usize
+fn same_len<A: Allocator>(entries: &[Entry<A>]) -> usize
     requires { 0 < length entries.now }
     ensures some { 0 < result }
     ensures within { result ≤ length entries.now }
     ensures same { All (λ e. e.key.items ≡ first_key entries.now) (take result entries.now) }
-    ensures next { (d : Entry) → result < length entries.now
+    ensures next { (d : Entry A) → result < length entries.now
         → (slice_index_or entries.now result d).key.items ≢ first_key entries.now }
 {
     let key = entries[0].key.as_slice();
@@ -90,7 +94,11 @@ fn same_len(entries: &[Entry]) -> usize
 ///
 /// # Errors
 /// [`AllocError`] where memory runs out.
-fn merged_group(alloc: Global, group: &[Entry], rule: Rule) -> Result<Entry, AllocError>
+fn merged_group<A: Allocator + Copy>(
+    alloc: A,
+    group: &[Entry<A>],
+    rule: Rule,
+) -> Result<Entry<A>, AllocError>
     requires { 0 < length group.now }
     ensures key { IfOk result (λ e. e.key.items ≡ first_key group.now) }
     ensures first { rule ≡ First → IfOk result (λ e. e.numbers.items ≡ first_numbers group.now) }
@@ -114,7 +122,10 @@ fn merged_group(alloc: Global, group: &[Entry], rule: Rule) -> Result<Entry, All
 ///
 /// # Errors
 /// [`AllocError`] where memory runs out.
-fn raise_and_append(numbers: &mut Vec<usize>, others: &[usize]) -> Result<(), AllocError>
+fn raise_and_append<A: Allocator>(
+    numbers: &mut Vec<usize, A>,
+    others: &[usize],
+) -> Result<(), AllocError>
     ensures { IfOk result (λ done. (place : ℕ) → slice_index numbers.new.items place
         ≡ max (slice_index numbers.old.items place) (slice_index others.now place)) }
 {
@@ -124,7 +135,7 @@ fn raise_and_append(numbers: &mut Vec<usize>, others: &[usize]) -> Result<(), Al
 }
 
 /// How many letters the longest key has.
-fn longest_key(entries: &[Entry]) -> usize
+fn longest_key<A: Allocator>(entries: &[Entry<A>]) -> usize
     ensures { All (λ e. length e.key.items ≤ result) entries.now }
 {
     entries

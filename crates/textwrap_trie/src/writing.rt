@@ -29,7 +29,7 @@ pub(crate) struct Child {
 pub fn push_trie<A: Allocator + Copy>(
     alloc: A,
     words: &mut Vec<usize, A>,
-    entries: &[Entry],
+    entries: &[Entry<A>],
     depth: usize,
     height: usize,
 ) -> Result<usize, AllocError>
@@ -56,7 +56,7 @@ pub fn push_trie<A: Allocator + Copy>(
 /// where there is none.
 fn push_numbers_of<A: Allocator>(
     words: &mut Vec<usize, A>,
-    entries: &[Entry],
+    entries: &[Entry<A>],
     depth: usize,
 ) -> Result<usize, AllocError>
     requires some { 0 < length words.old.items }

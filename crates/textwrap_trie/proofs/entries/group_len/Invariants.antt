@@ -5,5 +5,5 @@ use Rattle.textwrap_trie.proofs.entries.group_len.Given as goal
 
 -- each entry so far has the letter
 abbrev pub invariant-loop-i : goal.invariant-loop-i
-invariant-loop-i l =
-    (k : ℕ) (d : Entry) → k < l.i → letter_at l.depth (get_or l.entries k d) ≡ l.letter
+invariant-loop-i g l =
+    (k : ℕ) (d : Entry g.row.A.Denot) → k < l.i → letter_at l.depth (get_or l.entries k d) ≡ l.letter

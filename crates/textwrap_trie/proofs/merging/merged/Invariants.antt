@@ -8,7 +8,7 @@ use Rattle.textwrap_trie.proofs.merging.merged.Given as goal
 
 -- what is merged stands before what is left, and both together are the entries
 abbrev pub invariant-loop-left : goal.invariant-loop-left
-invariant-loop-left l = record {
+invariant-loop-left g l = record {
   ordered : AreInOrder l.left;
   sorted : AreSortedFrom 0 l.merged.items;
   before : All (λ m. StandsBefore m l.left) l.merged.items;
@@ -20,4 +20,4 @@ invariant-loop-left l = record {
 }
 
 abbrev pub decreases-loop-left : goal.decreases-loop-left
-decreases-loop-left l = length l.left
+decreases-loop-left g l = length l.left

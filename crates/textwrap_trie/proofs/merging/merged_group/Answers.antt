@@ -7,19 +7,19 @@ use Rattle.textwrap_trie.proofs.merging.merged_group.Goals as goal
 use Rattle.textwrap_trie.proofs.merging.merged_group.Goals.{then-eq+else-loop-entry-test, else-eq}
 
 pub loop-entry-preserved : goal.loop-entry-preserved
-loop-entry-preserved c = λ place.
-    let f = λ (e : Entry). get_or e.numbers.items place 0 in
+loop-entry-preserved g c = λ place.
+    let f = λ (e : Entry g.row.A.Denot). get_or e.numbers.items place 0 in
     let more = greatest-more f c.args.group.now c.loop-entry.entry-index c.entry-item.result
     (omega arith) c.entry-item.is in
     let other = ap (λ (l : _). get_or l place 0) c.deref-in-loop-entry.ensures.value in
     omega (arith, more, other, c.loop-entry.invariant place, c.in_ok-raise_and_append.ensures place)
 
 pub returns-clause-greatest : goal.returns-clause-greatest
-returns-clause-greatest c = λ rule place.
+returns-clause-greatest g c = λ rule place.
     elim c.if-eq.branch [
       | then-eq+else-loop-entry-test w ↦
-          let f = λ (e : Entry). get_or e.numbers.items place 0 in
-          let all = ap (λ (es : List Entry). greatest (map f es))
+          let f = λ (e : Entry g.row.A.Denot). get_or e.numbers.items place 0 in
+          let all = ap (λ (es : List (Entry g.row.A.Denot)). greatest (map f es))
           (take_all w.loop-entry.entry-index c.args.group.now (omega arith)) in
           let here = ap (λ (v : _). get_or v.items place 0) w.numbers-is in
           let first = greatest-first c.args.group.now place in

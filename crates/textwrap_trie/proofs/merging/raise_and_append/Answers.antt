@@ -4,7 +4,7 @@ use Rattle.textwrap_trie.proofs.GreatestNumbers.{if_ok-appended}
 use Rattle.textwrap_trie.proofs.merging.raise_and_append.Goals as goal
 
 pub returns : goal.returns
-returns c =
+returns g c =
     let raised = c.raise.new.numbers in
     let others = c.args.others.now in
     let len = c.min-len.result in

@@ -5,7 +5,7 @@ use Rattle.textwrap_trie.proofs.merging.same_len.Given as goal
 
 -- each entry so far has the key of the first one
 abbrev pub invariant-loop-i : goal.invariant-loop-i
-invariant-loop-i l = record {
+invariant-loop-i g l = record {
   first : l.key ≡ first_key l.entries;
-  same : (k : ℕ) (d : Entry) → k < l.i → (get_or l.entries k d).key.items ≡ l.key;
+  same : (k : ℕ) (d : Entry g.row.A.Denot) → k < l.i → (get_or l.entries k d).key.items ≡ l.key;
 }

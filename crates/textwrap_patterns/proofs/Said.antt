@@ -1,19 +1,22 @@
 -- What stands in a dictionary: starts of lines, exceptions that are written with hyphens, and marks.
 use Rattle.std.specs.Prelude.{Option, None, Some, IfSome, IsSome, ◌↔◌, ◌&&◌, nat_lt}
-use Rattle.std.specs.Prelude.{option_map, if◌then◌else◌, ◌≢◌}
+use Rattle.std.specs.Prelude.{option_map, if◌then◌else◌, ◌≢◌, Err, IsErrAnd, Ok, Result}
 use Rattle.textwrap_text.proofs.Lists.Parts.{starts_with-false, starts_with-true}
 use Rattle.textwrap_text.proofs.Common.{drop_at, false_from_ne_true, ltb-true, lt-ltb}
 use Rattle.textwrap_words.specs.Cuts.{AreNext}
 use Rattle.textwrap_patterns.proofs.Common.{List, ℕ, ◌≡◌, ◌∷◌, [], ◌<◌, ◌∙◌, ap, drop, length, true}
 use Rattle.textwrap_patterns.proofs.Common.{false, refl, arith, Bool, suc}
-use Rattle.textwrap_patterns.proofs.Common.{false≢true, ◌++◌}
+use Rattle.textwrap_patterns.proofs.Common.{false≢true, subst, sym, ◌++◌}
 use Rattle.textwrap_patterns.specs.Entries.{hyphens_past, is_hyphen_sign}
 use Rattle.textwrap_patterns.specs.Places.{are_places}
 use Rattle.textwrap_patterns.specs.Entries.{letters_between}
 use Rattle.textwrap_patterns.specs.Listed.{exception_text, exception_view}
 use Rattle.textwrap_patterns.specs.Letters.{folded}
-use Rattle.textwrap_patterns.specs.Parsing.{after_mark}
+use Rattle.textwrap_patterns.specs.Listed.{Listed}
+use Rattle.textwrap_patterns.specs.Parsing.{after_mark, and_then, Outcome, Reads}
 use Rattle.textwrap_patterns.specs.Places.{AreInnerPlaces, IsNextPlace}
+use Rattle.textwrap_patterns.specs.declared.errors.ParseError.{ParseError}
+use Rattle.textwrap_patterns.specs.declared.errors.ParseError.TheVariants.{Line, Memory}
 use Rattle.textwrap_patterns.specs.declared.patterns.Exception.{Exception}
 
 -- the test of places says whether they are inner ones
@@ -52,7 +55,7 @@ pub letter-here : (n c : ℕ) (cs : List ℕ) → is_hyphen_sign c ≡ false
 letter-here n c cs is = rw is (refl, refl)
 
 -- what an exception is made of letters and places says whether they are ones of an exception
-pub made-written : (letters places : List ℕ) (r : Option Exception)
+pub made-written : {A : Type 0} (letters places : List ℕ) (r : Option (Exception A))
     → IfSome r (λ made. exception_view made ≡ exception_text letters places)
     → (IsSome r ↔ AreInnerPlaces (length letters) places)
     → option_map exception_view r
@@ -78,3 +81,13 @@ pub mark-later : (mark line : List ℕ) → 0 < length line
     → ((text : List ℕ) → line ≢ mark ++ text) → after_mark mark line ≡ after_mark mark (drop 1 line)
 mark-later mark [] some not_here = absurd (omega arith)
 mark-later mark (c ∷ cs) some not_here = rw (starts_with-false mark (c ∷ cs) not_here) refl
+
+-- where a line is refused, the whole text is
+pub lines-refused : {T U : Type 0} (v : T → Listed) (w : U → Listed) (first whole : Outcome)
+    (next : Listed → Outcome) (e : ParseError) (r : Result U ParseError)
+    → and_then first next ≡ whole → Reads first v (Err e) → IsErrAnd r (λ f. f ≡ e)
+    → Reads whole w r
+lines-refused v w first whole next e (Ok x) all said is = absurd is
+lines-refused v w first whole next e (Err (Memory f)) all said is = tt
+lines-refused v w first whole next e (Err (Line n fault)) all said is =
+    sym all ∙ ap (λ o. and_then o next) (subst (λ f. Reads first v (Err f)) (sym is) said)

@@ -29,7 +29,7 @@ pub data Said : Type 0 where
   Right : ℕ → Said
   Wrong : Fault → Said
 
-abbrev pub entry_view : program.Entry → Said
+abbrev pub entry_view : {A : Type 0} → program.Entry A → Said
 entry_view (entry.Pattern pattern) = Pattern (pattern_view pattern)
 entry_view (entry.Exception exception) = Exception (exception_view exception)
 entry_view (entry.Left left) = Left left

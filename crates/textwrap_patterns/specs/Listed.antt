@@ -8,7 +8,7 @@ pub record PatternText : Type 0 where
   pub letters : List ℕ
   pub levels : List ℕ
 
-abbrev pub pattern_view : Pattern → PatternText
+abbrev pub pattern_view : {A : Type 0} → Pattern A → PatternText
 pattern_view pattern =
     record { letters = pattern.letters.items; levels = pattern.levels.items }
 
@@ -20,7 +20,7 @@ pub record ExceptionText : Type 0 where
 abbrev pub exception_text : List ℕ → List ℕ → ExceptionText
 exception_text letters places = record { letters = letters; places = places }
 
-abbrev pub exception_view : Exception → ExceptionText
+abbrev pub exception_view : {A : Type 0} → Exception A → ExceptionText
 exception_view exception = exception_text exception.letters.items exception.places.items
 
 -- what is listed in a dictionary

@@ -202,7 +202,7 @@ parsed text = with_lines 0 Start (lines text) no_patterns
 -- ---- results
 
 -- what was read so far
-abbrev pub reading_view : Reading → Listed
+abbrev pub reading_view : {A : Type 0} → Reading A → Listed
 reading_view reading =
     listed (map pattern_view reading.patterns.items) (map exception_view reading.exceptions.items)
     reading.left reading.right

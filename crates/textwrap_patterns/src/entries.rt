@@ -13,7 +13,7 @@ use crate::errors::Fault;
 use crate::letters::folded;
 use crate::patterns::{Exception, Pattern};
 use crate::written::{characters_of, exception, is_digit, pattern_of};
-use std::alloc::{AllocError, Global};
+use std::alloc::{AllocError, Allocator};
 use textwrap_text::starts::{starts_with, without_start};
 
 /// The most letters of a pattern.
@@ -38,16 +38,20 @@ pub enum Section {
 
 /// What a word or a line says.
 #[derive(Debug, Drop)]
-pub enum Entry {
-    Pattern(Pattern),
-    Exception(Exception),
+pub enum Entry<A: Allocator> {
+    Pattern(Pattern<A>),
+    Exception(Exception<A>),
     Left(usize),
     Right(usize),
     Wrong(Fault),
 }
 
 /// What a line of a list says that is neither empty nor a comment.
-pub fn list_entry(alloc: Global, section: Section, line: &str) -> Result<Entry, AllocError>
+pub fn list_entry<A: Allocator + Copy>(
+    alloc: A,
+    section: Section,
+    line: &str,
+) -> Result<Entry<A>, AllocError>
     ensures { IfOk result (λ entry. entry_view entry ≡ list_said section line.now) }
 {
     if let Some(number) = without_start(line, "LEFTHYPHENMIN") {
@@ -62,7 +66,7 @@ pub fn list_entry(alloc: Global, section: Section, line: &str) -> Result<Entry, 
     }
 }
 
-fn left_entry(number: &str) -> Entry
+fn left_entry<A: Allocator>(number: &str) -> Entry<A>
     ensures { entry_view result ≡ left_said number.now }
 {
     match number_of(number.trim().as_bytes()) {
@@ -71,7 +75,7 @@ fn left_entry(number: &str) -> Entry
     }
 }
 
-fn right_entry(number: &str) -> Entry
+fn right_entry<A: Allocator>(number: &str) -> Entry<A>
     ensures { entry_view result ≡ right_said number.now }
 {
     match number_of(number.trim().as_bytes()) {
@@ -129,7 +133,11 @@ pub fn is_start(section: Section) -> bool
 }
 
 /// What a word says in a section.
-pub fn word_entry(alloc: Global, section: Section, word: &[char]) -> Result<Entry, AllocError>
+pub fn word_entry<A: Allocator + Copy>(
+    alloc: A,
+    section: Section,
+    word: &[char],
+) -> Result<Entry<A>, AllocError>
     ensures { IfOk result (λ entry. entry_view entry ≡ word_said section word.now) }
 {
     if has_slash(word) {
@@ -185,7 +193,7 @@ fn has_digit(word: &[char]) -> bool
     word.iter().any(|ch| is_digit(*ch))
 }
 
-fn pattern_entry(alloc: Global, word: &[char]) -> Result<Entry, AllocError>
+fn pattern_entry<A: Allocator + Copy>(alloc: A, word: &[char]) -> Result<Entry<A>, AllocError>
     ensures { IfOk result (λ entry. entry_view entry ≡ pattern_said word.now) }
 {
     let pattern = pattern_of(alloc, word)?;
@@ -196,7 +204,7 @@ fn pattern_entry(alloc: Global, word: &[char]) -> Result<Entry, AllocError>
     }
 }
 
-fn exception_entry(alloc: Global, word: &[char]) -> Result<Entry, AllocError>
+fn exception_entry<A: Allocator + Copy>(alloc: A, word: &[char]) -> Result<Entry<A>, AllocError>
     ensures { IfOk result (λ entry. entry_view entry ≡ exception_said word.now) }
 {
     match exception_of(alloc, word)? {
@@ -206,7 +214,10 @@ fn exception_entry(alloc: Global, word: &[char]) -> Result<Entry, AllocError>
 }
 
 /// The exception that is written with hyphens, if each is between two letters.
-fn exception_of(alloc: Global, word: &[char]) -> Result<Option<Exception>, AllocError>
+fn exception_of<A: Allocator + Copy>(
+    alloc: A,
+    word: &[char],
+) -> Result<Option<Exception<A>>, AllocError>
     ensures { IfOk result (λ made. option_map exception_view made ≡ exception_written word.now) }
 {
     let mut letters = Vec::new(alloc);

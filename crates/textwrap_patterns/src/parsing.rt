@@ -17,7 +17,7 @@ use crate::entries::{Entry, Section, is_start, list_entry, word_entry};
 use crate::errors::{Fault, ParseError};
 use crate::patterns::{Exception, Pattern};
 use crate::written::characters_of;
-use std::alloc::{AllocError, Global};
+use std::alloc::{AllocError, Allocator};
 
 /// The most patterns of a dictionary.
 const MOST_PATTERNS: usize = 1 << 24;
@@ -38,9 +38,9 @@ const EXCEPTIONS_MARK: [char; 13] = [
 
 /// What was read of a dictionary so far.
 #[derive(Debug, Drop)]
-pub struct Reading {
-    pub patterns: Vec<Pattern>,
-    pub exceptions: Vec<Exception>,
+pub struct Reading<A: Allocator> {
+    pub patterns: Vec<Pattern<A>, A>,
+    pub exceptions: Vec<Exception<A>, A>,
     pub left: usize,
     pub right: usize,
 }
@@ -49,7 +49,7 @@ pub struct Reading {
 ///
 /// # Errors
 /// [`ParseError`], where the text is no dictionary or memory runs out.
-pub fn read(alloc: Global, text: &str) -> Result<Reading, ParseError>
+pub fn read<A: Allocator + Copy>(alloc: A, text: &str) -> Result<Reading<A>, ParseError>
     ensures { Reads (parsed text.now) reading_view result }
 {
     let lines = lines_of(alloc, text)?;
@@ -61,7 +61,7 @@ pub fn read(alloc: Global, text: &str) -> Result<Reading, ParseError>
     reading.end(lines.len(), section)
 }
 
-fn lines_of(alloc: Global, text: &str) -> Result<Vec<&str>, AllocError>
+fn lines_of<A: Allocator>(alloc: A, text: &str) -> Result<Vec<&str, A>, AllocError>
     ensures { IfOk result (λ found. map (λ line. line.now) found.items ≡ lines text.now) }
 {
     let mut lines = Vec::new(alloc);
@@ -71,8 +71,8 @@ fn lines_of(alloc: Global, text: &str) -> Result<Vec<&str>, AllocError>
     Ok(lines)
 }
 
-impl Reading {
-    fn new(alloc: Global) -> Reading
+impl<A: Allocator + Copy> Reading<A> {
+    fn new(alloc: A) -> Reading<A>
         ensures { reading_view result ≡ no_patterns }
     {
         Reading {
@@ -86,7 +86,7 @@ impl Reading {
     /// Reads a line of this number in a section, and returns the section behind it.
     fn read_line(
         &mut self,
-        alloc: Global,
+        alloc: A,
         number: usize,
         section: Section,
         line: &str,
@@ -107,7 +107,7 @@ impl Reading {
     /// Reads a line of a list.
     fn read_listed(
         &mut self,
-        alloc: Global,
+        alloc: A,
         number: usize,
         section: Section,
         line: &str,
@@ -125,7 +125,7 @@ impl Reading {
     /// Reads a line of TeX, and returns the section behind it.
     fn read_tex(
         &mut self,
-        alloc: Global,
+        alloc: A,
         number: usize,
         section: Section,
         line: &[char],
@@ -149,7 +149,7 @@ impl Reading {
     /// Reads the words of a group.
     fn read_words(
         &mut self,
-        alloc: Global,
+        alloc: A,
         number: usize,
         section: Section,
         text: &[char],
@@ -168,7 +168,7 @@ impl Reading {
     }
 
     /// Adds what a line of this number says.
-    fn add(&mut self, number: usize, entry: Entry) -> Result<(), ParseError>
+    fn add(&mut self, number: usize, entry: Entry<A>) -> Result<(), ParseError>
         ensures { Reads (with_said number (entry_view entry) (reading_view self.old))
             (λ _. reading_view self.new) result }
     {
@@ -186,7 +186,7 @@ impl Reading {
     }
 
     /// What was read, at the end of a text of so many lines.
-    fn end(self, count: usize, section: Section) -> Result<Reading, ParseError>
+    fn end(self, count: usize, section: Section) -> Result<Reading<A>, ParseError>
         ensures { Reads (ended count (end_fault section (length (reading_view self).patterns))
             (reading_view self)) reading_view result }
     {
@@ -331,7 +331,7 @@ fn has_opening(text: &[char]) -> bool
 }
 
 /// What stands between blanks, which may be empty.
-fn words_of(alloc: Global, text: &[char]) -> Result<Vec<&[char]>, AllocError>
+fn words_of<A: Allocator>(alloc: A, text: &[char]) -> Result<Vec<&[char], A>, AllocError>
     ensures { IfOk result (λ words. map (λ word. word.now) words.items
         ≡ slice_split is_whitespace text.now) }
 {

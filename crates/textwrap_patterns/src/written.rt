@@ -7,7 +7,7 @@ ghost use Rattle.textwrap_patterns.specs.Written.{is_digit, pattern_written};
 
 use crate::letters::folded;
 use crate::patterns::{Exception, Pattern};
-use std::alloc::{AllocError, Global};
+use std::alloc::{AllocError, Allocator};
 
 /// The pattern of a text of letters and digits, each digit the level of the place where it stands:
 /// `hy3ph` has the letters `hyph`, and level 3 behind `hy`. Letters are folded as those of words
@@ -15,7 +15,7 @@ use std::alloc::{AllocError, Global};
 ///
 /// # Errors
 /// [`AllocError`] where memory runs out.
-pub fn pattern(alloc: Global, text: &str) -> Result<Pattern, AllocError>
+pub fn pattern<A: Allocator + Copy>(alloc: A, text: &str) -> Result<Pattern<A>, AllocError>
     ensures { IfOk result (λ pattern. pattern_view pattern ≡ pattern_written (chars text.now)) }
 {
     let characters = characters_of(alloc, text)?;
@@ -23,7 +23,7 @@ pub fn pattern(alloc: Global, text: &str) -> Result<Pattern, AllocError>
 }
 
 /// The characters of a text.
-pub fn characters_of(alloc: Global, text: &str) -> Result<Vec<char>, AllocError>
+pub fn characters_of<A: Allocator>(alloc: A, text: &str) -> Result<Vec<char, A>, AllocError>
     ensures { IfOk result (λ characters. characters.items ≡ chars text.now) }
 {
     let mut characters = Vec::new(alloc);
@@ -34,7 +34,10 @@ pub fn characters_of(alloc: Global, text: &str) -> Result<Vec<char>, AllocError>
 }
 
 /// The pattern of these letters and digits.
-pub fn pattern_of(alloc: Global, characters: &[char]) -> Result<Pattern, AllocError>
+pub fn pattern_of<A: Allocator + Copy>(
+    alloc: A,
+    characters: &[char],
+) -> Result<Pattern<A>, AllocError>
     ensures { IfOk result (λ pattern. pattern_view pattern ≡ pattern_written characters.now) }
 {
     let mut letters = Vec::new(alloc);
@@ -63,7 +66,7 @@ pub fn is_digit(ch: char) -> bool
 /// The exception of a word of these letters, in lower case, with hyphens behind so many of them:
 /// for `ta-ble` the letters of `table` and 2. `None` where the places don't increase, inside the
 /// word.
-pub fn exception(letters: Vec<char>, places: Vec<usize>) -> Option<Exception>
+pub fn exception<A: Allocator>(letters: Vec<char, A>, places: Vec<usize, A>) -> Option<Exception<A>>
     ensures made { IfSome result
         (λ made. exception_view made ≡ exception_text letters.items places.items) }
     ensures inner { IsSome result ↔ AreInnerPlaces (length letters.items) places.items }

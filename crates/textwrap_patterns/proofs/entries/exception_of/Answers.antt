@@ -10,7 +10,7 @@ use Rattle.textwrap_patterns.specs.Listed.{exception_text}
 use Rattle.textwrap_patterns.proofs.entries.exception_of.Goals as goal
 
 pub returns : goal.returns
-returns c =
+returns g c =
     let word = c.args.word.now in
     let read = c.loop-ch.letters.items in
     let found = c.loop-ch.places.items in

@@ -4,7 +4,7 @@ use Rattle.textwrap_patterns.proofs.Common.{map, ◌∙◌}
 use Rattle.textwrap_patterns.proofs.parsing.lines_of.Goals as goal
 
 pub returns : goal.returns
-returns c =
+returns g c =
     let all = YieldsList-end
     (YieldsList-from_lines c.args.text.now cc) c.loop-line.yielded
     _ c.loop-line.yielded_by _ _ c.in-None.is c.next.ensures.steps in

@@ -2,4 +2,4 @@ use Rattle.textwrap_patterns.proofs.Common.{◌≡◌}
 use Rattle.textwrap_patterns.proofs.parsing.lines_of.Given as goal
 
 abbrev pub invariant-loop-line : goal.invariant-loop-line
-invariant-loop-line l = l.lines.items ≡ l.yielded
+invariant-loop-line g l = l.lines.items ≡ l.yielded

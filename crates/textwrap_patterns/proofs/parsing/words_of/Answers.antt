@@ -9,7 +9,7 @@ use Rattle.textwrap_patterns.proofs.Common.{sym, take, ◌+◌, ◌++◌, ◌∙
 use Rattle.textwrap_patterns.proofs.parsing.words_of.Goals as goal
 
 pub loop-len-preserved : goal.loop-len-preserved
-loop-len-preserved c =
+loop-len-preserved g c =
     let left = c.loop-len.left.now in
     let words = map (λ word. word.now) c.loop-len.words.items in
     let len = c.loop-len.len in
@@ -34,7 +34,7 @@ loop-len-preserved c =
     }
 
 pub returns : goal.returns
-returns c =
+returns g c =
     let left = c.loop-len.left.now in
     let words = map (λ word. word.now) c.loop-len.words.items in
     ap (map (λ word. word.now)) c.in_ok-push-2.ensures.items

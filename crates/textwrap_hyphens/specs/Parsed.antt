@@ -13,7 +13,7 @@ Holds (Ok d) h = h ≡ hyphenation_by d
 Holds (Err error) h = ⊥
 
 -- a dictionary is what its text says, an error its first line that is wrong; or memory ran out
-abbrev pub IsParsed : Outcome → Result Patterns ParseError → Type 0
+abbrev pub IsParsed : {A : Type 0} → Outcome → Result (Patterns A) ParseError → Type 0
 IsParsed outcome (Ok patterns) = Holds outcome (patterns_view patterns)
 IsParsed outcome (Err (Memory error)) = ⊤
 IsParsed outcome (Err (Line n fault)) = outcome ≡ Err (Line n fault)

@@ -29,5 +29,5 @@ levels_by t text place = level_from (take t.longest text) t.words.now t.root pla
 abbrev pub held : PatternTable → Hyphenation
 held table = held_in table.words.now table.in_parts
 
-abbrev pub patterns_view : Patterns → Hyphenation
+abbrev pub patterns_view : {A : Type 0} → Patterns A → Hyphenation
 patterns_view patterns = held_in patterns.words.items patterns.in_parts

@@ -10,16 +10,16 @@ ghost use Rattle.textwrap_hyphens.specs.Table.{held_in};
 ghost use Rattle.textwrap_hyphens.specs.Building.{exception_of, pattern_of};
 
 use crate::table::{VERSION, sum_of};
-use std::alloc::{AllocError, Global};
+use std::alloc::{AllocError, Allocator};
 use textwrap_patterns::patterns::{Exception, Pattern};
 use textwrap_trie::entries::Entry;
 use textwrap_trie::merging::{Rule, push_entries};
 
 /// Patterns, as entries of a trie.
-pub(crate) fn pattern_entries(
-    alloc: Global,
-    patterns: Vec<Pattern>,
-) -> Result<Vec<Entry>, AllocError>
+pub(crate) fn pattern_entries<A: Allocator + Copy>(
+    alloc: A,
+    patterns: Vec<Pattern<A>, A>,
+) -> Result<Vec<Entry<A>, A>, AllocError>
     ensures { IfOk result (λ entries.
         map pattern_of entries.items ≡ map pattern_view patterns.items) }
 {
@@ -35,7 +35,7 @@ pub(crate) fn pattern_entries(
 }
 
 /// Levels as numbers.
-fn numbers_of(alloc: Global, levels: &[u8]) -> Result<Vec<usize>, AllocError>
+fn numbers_of<A: Allocator>(alloc: A, levels: &[u8]) -> Result<Vec<usize, A>, AllocError>
     ensures { IfOk result (λ numbers. numbers.items ≡ levels.now) }
 {
     let mut numbers = Vec::new(alloc);
@@ -46,10 +46,10 @@ fn numbers_of(alloc: Global, levels: &[u8]) -> Result<Vec<usize>, AllocError>
 }
 
 /// Exceptions, as entries of a trie.
-pub(crate) fn exception_entries(
-    alloc: Global,
-    exceptions: Vec<Exception>,
-) -> Result<Vec<Entry>, AllocError>
+pub(crate) fn exception_entries<A: Allocator>(
+    alloc: A,
+    exceptions: Vec<Exception<A>, A>,
+) -> Result<Vec<Entry<A>, A>, AllocError>
     ensures entries { IfOk result (λ entries.
         map exception_of entries.items ≡ map exception_view exceptions.items) }
     ensures inner { IfOk result (λ entries.
@@ -66,7 +66,7 @@ pub(crate) fn exception_entries(
 }
 
 /// How many letters the longest key has.
-fn longest_key(entries: &[Entry]) -> usize
+fn longest_key<A: Allocator>(entries: &[Entry<A>]) -> usize
     ensures { result ≡ longest (map pattern_of entries.now) }
 {
     let mut longest = 0;
@@ -77,13 +77,13 @@ fn longest_key(entries: &[Entry]) -> usize
 }
 
 /// The numbers of a dictionary.
-pub(crate) fn write_table(
-    alloc: Global,
-    patterns: Vec<Entry>,
-    exceptions: Vec<Entry>,
+pub(crate) fn write_table<A: Allocator + Copy>(
+    alloc: A,
+    patterns: Vec<Entry<A>, A>,
+    exceptions: Vec<Entry<A>, A>,
     left: usize,
     right: usize,
-) -> Result<Vec<usize>, AllocError>
+) -> Result<Vec<usize, A>, AllocError>
     requires { All (λ e. AreInnerPlaces (length e.key.items) e.numbers.items) exceptions.items }
     ensures held { IfOk result (λ words. held_in words.items false ≡ hyphenation_by (listed
         (map pattern_of patterns.items) (map exception_of exceptions.items) left right)) }

@@ -4,20 +4,20 @@ ghost use Rattle.textwrap_hyphens.specs.Seal.{is_sealed};
 
 use crate::building::{exception_entries, pattern_entries, write_table};
 use crate::table::PatternTable;
-use std::alloc::{AllocError, Global};
+use std::alloc::{AllocError, Allocator, Global};
 use textwrap_patterns::errors::ParseError;
 use textwrap_patterns::parsing::read;
 use textwrap_patterns::patterns::{Exception, Pattern};
 
 /// A dictionary of hyphenation: patterns, and words with their hyphens as exceptions from them.
 #[derive(Debug, Drop)]
-pub struct Patterns {
-    words: Vec<usize>,
+pub struct Patterns<A: Allocator = Global> {
+    words: Vec<usize, A>,
     in_parts: bool,
     ghost sealed: { is_sealed words.items ≡ true },
 }
 
-impl Patterns {
+impl<A: Allocator + Copy> Patterns<A> {
     ghost use Rattle.std.specs.Prelude.{◌≡◌, IfOk, map};
     ghost use Rattle.textwrap_hyphens.specs.Hyphenation.{hyphenation_by};
     ghost use Rattle.textwrap_patterns.specs.Listed.{exception_view, listed};
@@ -34,12 +34,12 @@ impl Patterns {
     /// # Errors
     /// [`AllocError`] where memory runs out.
     pub fn new(
-        alloc: Global,
-        patterns: Vec<Pattern>,
-        exceptions: Vec<Exception>,
+        alloc: A,
+        patterns: Vec<Pattern<A>, A>,
+        exceptions: Vec<Exception<A>, A>,
         left: usize,
         right: usize,
-    ) -> Result<Patterns, AllocError>
+    ) -> Result<Patterns<A>, AllocError>
         ensures { IfOk result (λ made. patterns_view made ≡ hyphenation_by (listed
             (map pattern_view patterns.items) (map exception_view exceptions.items) left right)) }
     {
@@ -77,7 +77,7 @@ impl Patterns {
     /// # Errors
     /// [`ParseError`]: memory runs out, or what is wrong in the first line that is wrong. Nothing
     /// of such a text is kept.
-    pub fn parse(alloc: Global, text: &str) -> Result<Patterns, ParseError>
+    pub fn parse(alloc: A, text: &str) -> Result<Patterns<A>, ParseError>
         ensures { IsParsed (parsed text.now) result }
     {
         let reading = read(alloc, text)?;
@@ -91,7 +91,7 @@ impl Patterns {
     }
 
     /// The same dictionary, where the parts of a word with hyphens are hyphenated too, or not.
-    pub fn in_parts(mut self, in_parts: bool) -> Patterns
+    pub fn in_parts(mut self, in_parts: bool) -> Patterns<A>
         ensures { patterns_view result ≡ record (patterns_view self) { in_parts = in_parts } }
     {
         self.in_parts = in_parts;

@@ -3,4 +3,4 @@ use Rattle.textwrap_hyphens.specs.Building.{pattern_of}
 use Rattle.textwrap_hyphens.proofs.building.pattern_entries.Given as goal
 
 abbrev pub invariant-loop-pattern : goal.invariant-loop-pattern
-invariant-loop-pattern l = map pattern_of l.entries.items ≡ map pattern_view l.yielded
+invariant-loop-pattern g l = map pattern_of l.entries.items ≡ map pattern_view l.yielded

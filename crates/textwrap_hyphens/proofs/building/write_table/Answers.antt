@@ -10,7 +10,7 @@ use Rattle.textwrap_hyphens.specs.Table.{held_in}
 use Rattle.textwrap_hyphens.proofs.building.write_table.Goals as goal
 
 pub returns : goal.returns
-returns c =
+returns g c =
     let one = c.push_entries.new.words.items in
     let body = c.push_entries-2.new.words.items in
     let ps = c.args.patterns.items in

@@ -1,8 +1,6 @@
 //! Texts whose words are hyphenated.
 use super::hyphens::push_patterns;
-use super::plain::{
-    assert_count, assert_found, assert_gives, assert_gives_texts, assert_holds, plain_options,
-};
+use super::plain::{assert_found, assert_gives, assert_gives_texts, assert_holds, plain_options};
 use fakes::heap::Heap;
 use std::alloc::{AllocError, Allocator, Global};
 use std::borrow::CowStr;
@@ -298,39 +296,37 @@ fn a_long_comment_is_refilled(rt: HostRuntime) -> Result<(), AllocError> {
     Ok(())
 }
 
-/// Whether a call gives what the row says by first fit, where so many allocations are allowed.
+/// Whether a call gives what the row says by first fit, where so many allocations are allowed, none
+/// more and none fewer.
 fn is_right(
     heap: &Heap,
     call: Call,
     (_, text, width, _, wanted, _): Row,
     patterns: &Patterns,
+    allowed: usize,
 ) -> Result<bool, WrapError> {
+    heap.allow(allowed);
     let options = plain_options(width, "", "", WrapAlgorithm::FirstFit);
-    Ok(hyphenated(heap, call, text, options, patterns)?.as_str() == wanted)
+    let is_right = hyphenated(heap, call, text, options, patterns)?.as_str() == wanted;
+    Ok(is_right && heap.left() == 0)
 }
 
-/// Asserts that a call takes so many allocations up to the last that it cannot do without, that it
-/// says so where one is refused, and that what it gives is right.
+/// Asserts that a call takes so many allocations, that it is out of memory where one of them is
+/// refused, and that what it gives is right.
 fn assert_refused(
     rt: &(impl Abort + AllocGlobal),
     call: Call,
     row: Row,
     patterns: &Patterns,
-    wanted: usize,
+    needed: usize,
 ) {
     let heap = Heap::new(rt.alloc(), 0);
-    let mut refused = 0;
-    for allowed in 0..200 {
-        heap.allow(allowed);
-        match is_right(&heap, call, row, patterns) {
-            Ok(is_right) => assert_holds(rt, "what is filled is right", is_right),
-            Err(error) => {
-                assert_holds(rt, "memory runs out", matches!(error, WrapError::Memory(_)));
-                refused = allowed + 1;
-            }
-        }
+    for allowed in 0..needed {
+        let given = is_right(&heap, call, row, patterns, allowed);
+        assert_holds(rt, row.0, matches!(given, Err(WrapError::Memory(_))));
     }
-    assert_count(rt, row.0, refused, wanted);
+    let given = is_right(&heap, call, row, patterns, needed);
+    assert_holds(rt, row.0, given.is_ok_and(|is_right| is_right));
 }
 
 #[test]

@@ -2,6 +2,7 @@
 use super::plain::{assert_count, assert_found, assert_holds, assert_text};
 use fakes::heap::Heap;
 use std::alloc::{AllocError, Allocator, Global};
+use std::process::Abort;
 use textwrap::minima::Steps;
 use textwrap_hyphens::dictionary::Patterns;
 use textwrap_hyphens::levels::levels_counted;
@@ -25,8 +26,15 @@ const OTHERS: [&str; 6] = [
     "e1\u{301}",
 ];
 
-/// How many allocations `hyphenation` takes up to the last that it cannot do without.
-const ALLOCATIONS: usize = 6;
+/// A word, its points by both lists of patterns, and how many allocations these take. Each row has the
+/// rule that it shows.
+#[rattlefmt::skip]
+const REFUSED: &[(&str, &str, &[usize], usize)] = &[
+    ("letters, those of the run, between dots, levels, places, points", "hyphenation", &[2, 6], 6),
+    ("each run of letters", "hyphenation/hyphenation", &[2, 6, 14, 18], 10),
+    ("an exception has no levels", "table", &[1, 4], 4),
+    ("a word without letters", "-", &[], 1),
+];
 
 /// A word, and its points by both lists of patterns, with the exceptions and at least 2 letters
 /// before a point and 3 behind it. Each row has the rule that it shows.
@@ -124,6 +132,19 @@ const TEXTS: &[(&str, &str, &str, &[usize])] = &[
     ("an empty text is an empty dictionary", "", "hyphenation", &[]),
 ];
 
+/// Patterns in no order, so that memory is needed to sort them.
+const UNORDERED: &str = "\\patterns{ m1a z1a c1a y1a b1a x1a e1a w1a d1a v1a g1a u1a f1a t1a i1a\n\
+     s1a h1a r1a k1a q1a j1a p1a l1a o1a n1a a1a }\n\\hyphenation{ ta-ble\tno-table }";
+
+/// What stands in the table of texts, and how many allocations it takes.
+#[rattlefmt::skip]
+const READ: &[((&str, &str, &str, &[usize]), usize)] = &[
+    (("a list", "hy3ph\nhe2n\n1na\nta-ble\n# none\nLEFTHYPHENMIN 2", "hyphenation", &[2]), 69),
+    (("groups of TeX, with many letters at one place", UNORDERED, "lebamale", &[3, 5]), 278),
+    (("patterns of the same letters", "1bl\n2bl\n1bl2\n", "tablets", &[]), 30),
+    (("an empty dictionary", "", "hyphenation", &[]), 7),
+];
+
 /// A text that is no dictionary, its first line that is wrong, and what is wrong there.
 #[rattlefmt::skip]
 const FAULTS: &[(&str, usize, Fault)] = &[
@@ -214,10 +235,10 @@ fn push_exception(
 }
 
 /// Whether a word has these points.
-fn has_points<A: Allocator + Copy>(
+fn has_points<A: Allocator + Copy, B: Allocator + Copy>(
     alloc: A,
     word: &str,
-    patterns: &Patterns,
+    patterns: &Patterns<B>,
     wanted: &[usize],
 ) -> Result<bool, AllocError> {
     Ok(points(alloc, word, &patterns.table())?.as_slice() == wanted)
@@ -312,36 +333,79 @@ fn a_long_word_has_its_points(rt: HostRuntime) -> Result<(), AllocError> {
     Ok(())
 }
 
+/// Whether a word has these points where so many allocations are allowed, none more and none fewer.
+fn has_points_with(
+    heap: &Heap,
+    word: &str,
+    patterns: &Patterns,
+    wanted: &[usize],
+    allowed: usize,
+) -> Result<bool, AllocError> {
+    heap.allow(allowed);
+    let is_right = has_points(heap, word, patterns, wanted)?;
+    Ok(is_right && heap.left() == 0)
+}
+
 #[test]
 fn each_allocation_may_be_refused(rt: HostRuntime) -> Result<(), AllocError> {
     let patterns = dictionary(rt.alloc())?;
     let heap = Heap::new(rt.alloc(), 0);
-    let mut refused = 0;
-    for allowed in 0..20 {
-        heap.allow(allowed);
-        match has_points(&heap, "hyphenation", &patterns, &[2, 6]) {
-            Ok(is_right) => assert_holds(&rt, "what is found is right", is_right),
-            Err(_) => refused = allowed + 1,
+    for (rule, word, wanted, needed) in REFUSED {
+        for allowed in 0..*needed {
+            let found = has_points_with(&heap, word, &patterns, wanted, allowed);
+            assert_holds(&rt, rule, found.is_err() && heap.left() == usize::MAX);
         }
+        assert_found(
+            &rt,
+            rule,
+            has_points_with(&heap, word, &patterns, wanted, *needed),
+        );
     }
-    assert_count(
-        &rt,
-        "allocations of a word with two points",
-        refused,
-        ALLOCATIONS,
-    );
     Ok(())
 }
 
 /// Whether a word has these points by the dictionary that a text says.
-fn has_points_by(
-    alloc: Global,
+fn has_points_by<A: Allocator + Copy>(
+    alloc: A,
     text: &str,
     word: &str,
     wanted: &[usize],
 ) -> Result<bool, ParseError> {
     let patterns = Patterns::parse(alloc, text)?;
     Ok(has_points(alloc, word, &patterns, wanted)?)
+}
+
+/// How many allocations it takes to read a text and to find a word's points by it, each of which was
+/// refused before.
+fn allocations(
+    rt: &(impl Abort + AllocGlobal),
+    (rule, text, word, wanted): (&str, &str, &str, &[usize]),
+) -> usize {
+    let heap = Heap::new(rt.alloc(), 0);
+    for allowed in 0..1_000 {
+        heap.allow(allowed);
+        match has_points_by(&heap, text, word, wanted) {
+            Ok(is_right) => {
+                assert_holds(rt, rule, is_right && heap.left() == 0);
+                return allowed;
+            }
+            Err(error) => {
+                assert_holds(
+                    rt,
+                    rule,
+                    matches!(error, ParseError::Memory(_)) & (heap.left() == usize::MAX),
+                );
+            }
+        }
+    }
+    1_000
+}
+
+#[test]
+fn each_allocation_of_a_dictionary_may_be_refused(rt: HostRuntime) {
+    for &(row, needed) in READ {
+        assert_count(&rt, row.0, allocations(&rt, row), needed);
+    }
 }
 
 #[test]

@@ -22,7 +22,7 @@ sized width whitespace penalty =
     record { width = width; whitespace = whitespace; penalty = penalty }
 
 -- which are its own
-abbrev itself : Sizes → Sizes
+abbrev pub itself : Sizes → Sizes
 itself fragment = fragment
 
 -- a longer line can take less
@@ -81,7 +81,7 @@ unfolding table
 table-falling = refl
 
 -- the second and third cost 13525, the third and fourth 1025, all three 1000, and the third 1025
-not_convex-falling :
+pub not_convex-falling :
     ¬ AreConvex (fragment_costs (problem_at default_penalties itself (10 ∷ []) falling))
 not_convex-falling convex =
     omega (arith, convex 1 2 3 4 (omega arith) (omega arith) (omega arith) (omega arith) (omega arith))

@@ -1,2 +1,3 @@
 pub mod Common
+mod Refuted
 pub mod Word

@@ -1,4 +1,5 @@
 pub mod Paragraph
 pub mod PrintableTexts
+mod Refuted
 pub mod Text
 pub mod Common

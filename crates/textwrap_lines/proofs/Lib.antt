@@ -4,4 +4,5 @@ pub mod Paragraph
 pub mod PieceLines
 pub mod PlacedPieces
 pub mod PrintableTexts
+mod Refuted
 pub mod Text

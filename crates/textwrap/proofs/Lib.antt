@@ -1,4 +1,6 @@
 pub mod Common
 pub mod Cutting
 pub mod Dividing
+mod Refuted
 pub mod Text
+mod WorkedRows

@@ -1,3 +1,4 @@
 pub mod ArgumentLemmas
 pub mod FillingLemmas
+mod Refuted
 pub mod WriteLemmas

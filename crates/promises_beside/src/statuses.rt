@@ -1,0 +1,70 @@
+//! The statuses that the programs end with.
+ghost use Rattle.std.specs.Prelude.{◌≡◌, map, string_bytes};
+ghost use Rattle.hyphenate_program.specs.Program.{status_of};
+ghost use Rattle.reflow_program.specs.Program as reflowing;
+ghost use Rattle.textwrap_program.specs.Arguments.{request_of};
+ghost use Rattle.textwrap_program.specs.Program.{Executes};
+
+use hyphenate_program::program::{Failure, explain};
+use reflow_program::files::Files;
+use reflow_program::program::Ending;
+use std::alloc::Global;
+use std::io::{Read, Write};
+
+/// As `execute` of `textwrap_program`.
+pub fn status_of_textwrap<R: Read, W: Write, M: Write>(
+    alloc: Global,
+    words: &[String],
+    reader: &mut R,
+    output: &mut W,
+    messages: &mut M,
+) -> u8
+    ensures { Executes (request_of (map string_bytes words.now))
+        (record {
+          unread = R.remaining reader.old;
+          output = W.contents output.old;
+          messages = M.contents messages.old;
+        })
+        (record {
+          unread = R.remaining reader.new;
+          output = W.contents output.new;
+          messages = M.contents messages.new;
+        })
+        result }
+{
+    textwrap_program::program::execute(alloc, words, reader, output, messages)
+}
+
+/// As `execute` of `reflow_program`.
+pub fn ending_of_reflow<F: Files, R: Read, W: Write, M: Write>(
+    alloc: Global,
+    words: &[String],
+    files: &mut F,
+    reader: &mut R,
+    output: &mut W,
+    messages: &mut M,
+) -> Ending
+    ensures { reflowing.Executes (map string_bytes words.now)
+        (record {
+          unread = R.remaining reader.old;
+          files = F.bytes files.old;
+          output = W.contents output.old;
+          messages = M.contents messages.old;
+        })
+        (record {
+          unread = R.remaining reader.new;
+          files = F.bytes files.new;
+          output = W.contents output.new;
+          messages = M.contents messages.new;
+        })
+        result }
+{
+    reflow_program::program::execute(alloc, words, files, reader, output, messages)
+}
+
+/// As `explain` of `hyphenate_program`.
+pub fn status_of_hyphenate<M: Write>(alloc: Global, failure: &Failure, messages: &mut M) -> u8
+    ensures status { result ≡ status_of failure.now }
+{
+    explain(alloc, failure, messages)
+}

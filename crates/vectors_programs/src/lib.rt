@@ -1,0 +1,7 @@
+//! The tests of the programs beside `textwrap_cli`: of `reflow`, with what it writes as a diff, and of
+//! `hyphenate`. They are a crate of their own, so that the gate proves them beside those of
+//! `vectors_beside`.
+#![tactic(auto)]
+
+#[cfg(test)]
+mod tests;

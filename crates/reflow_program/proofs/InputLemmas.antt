@@ -7,12 +7,13 @@ use Rattle.std.proofs.lemmas.Slice.Eq.{bytes_eq-Decides}
 use Rattle.std.specs.Str.{bytes_eq}
 use Rattle.textwrap_program.specs.Filling.{ReadsAll, WritesPrefix}
 use Rattle.textwrap_program.specs.Program.{TriesLine}
-use Rattle.reflow_program.specs.Faults.{IsOfDraft, IsOfOutput}
-use Rattle.reflow_program.specs.Files.{Becomes, KnownFiles, SameFiles}
+use Rattle.reflow_program.specs.Faults.{IsOfDraft, IsOfOutput, IsOfReading}
+use Rattle.reflow_program.specs.Files.{Folder, KeepsFiles, bytes_at}
+use Rattle.reflow_program.proofs.FileLemmas.{KeepsFiles-refl}
 use Rattle.unified_diff.specs.Differences.{IsDiffText}
-use Rattle.reflow_program.specs.Inputs.{Checks, Differs, IsReplaced, Prints, Reads, ReadsText, Replaces}
+use Rattle.reflow_program.specs.Inputs.{Checks, Differs, Prints, Reads, ReadsText, Replaces}
 use Rattle.reflow_program.specs.declared.faults.Fault.{Fault}
-use Rattle.reflow_program.specs.declared.faults.Fault.TheVariants.{Read, NotUtf8, Memory, Write}
+use Rattle.reflow_program.specs.declared.faults.Fault.TheVariants.{Read, NotUtf8, Memory, Write, Output}
 use Rattle.reflow_program.specs.declared.layout.Layout.{Layout}
 
 -- ---- two texts that were compared
@@ -43,6 +44,7 @@ module _ (layout : Layout) (unread left : Option (List ℕ)) where
   prints-unread old (NotUtf8 valid) none = (none, Keeps-refl old)
   prints-unread old Memory none = Keeps-refl old
   prints-unread old (Write reason) none = absurd none
+  prints-unread old (Output reason) none = absurd none
 
   pub checks-unread : (name : List ℕ) (old : Option (List ℕ)) (fault : Fault)
       → Reads layout unread left (Err fault) → Checks layout name unread left old old (Err fault)
@@ -50,15 +52,17 @@ module _ (layout : Layout) (unread left : Option (List ℕ)) where
   checks-unread name old (NotUtf8 valid) none = (none, Keeps-refl old)
   checks-unread name old Memory none = Keeps-refl old
   checks-unread name old (Write reason) none = absurd none
+  checks-unread name old (Output reason) none = absurd none
 
   module _ (input output : List ℕ) (reads : ReadsText layout unread left input output) where
     -- an output of which a prefix is written
     pub prints-unwritten : (old new : Option (List ℕ)) (bytes : List ℕ) (fault : Fault)
         → bytes ≡ output → WritesPrefix old new bytes → IsOfOutput fault
         → Prints layout unread left old new (Err fault)
-    prints-unwritten old new bytes (Write reason) is prefix of =
+    prints-unwritten old new bytes (Output reason) is prefix of =
         (input, output, reads, subst (WritesPrefix old new) is prefix)
     prints-unwritten old new bytes (Read reason) is prefix of = absurd of
+    prints-unwritten old new bytes (Write reason) is prefix of = absurd of
     prints-unwritten old new bytes (NotUtf8 valid) is prefix of = absurd of
     prints-unwritten old new bytes Memory is prefix of = absurd of
 
@@ -66,9 +70,10 @@ module _ (layout : Layout) (unread left : Option (List ℕ)) where
     pub checks-unwritten : (name : List ℕ) (old new : Option (List ℕ)) (fault : Fault)
         → output ≢ input → TriesLine old new name → IsOfOutput fault
         → Checks layout name unread left old new (Err fault)
-    checks-unwritten name old new (Write reason) differs tries of =
+    checks-unwritten name old new (Output reason) differs tries of =
         (input, output, reads, differs, tries)
     checks-unwritten name old new (Read reason) differs tries of = absurd of
+    checks-unwritten name old new (Write reason) differs tries of = absurd of
     checks-unwritten name old new (NotUtf8 valid) differs tries of = absurd of
     checks-unwritten name old new Memory differs tries of = absurd of
 
@@ -77,43 +82,45 @@ module _ (layout : Layout) (unread left : Option (List ℕ)) where
         (fault : Fault) → output ≢ input → IsDiffText name input output text
         → WritesPrefix old new text → IsOfOutput fault
         → Differs layout counts name unread left old new (Err fault)
-    differs-unwritten counts name text old new (Write reason) differ is prefix of =
+    differs-unwritten counts name text old new (Output reason) differ is prefix of =
         (input, output, text, reads, differ, is, prefix)
     differs-unwritten counts name text old new (Read reason) differ is prefix of = absurd of
+    differs-unwritten counts name text old new (Write reason) differ is prefix of = absurd of
     differs-unwritten counts name text old new (NotUtf8 valid) differ is prefix of = absurd of
     differs-unwritten counts name text old new Memory differ is prefix of = absurd of
 
 -- a file that cannot be replaced
-pub replaces-unput : (layout : Layout) (name : List ℕ) (old new : KnownFiles) (fault : Fault)
-    → SameFiles old new → IsOfDraft fault → Replaces layout name old new (Err fault)
-replaces-unput layout name old new (Write reason) same of = same
-replaces-unput layout name old new Memory same of = same
-replaces-unput layout name old new (Read reason) same of = absurd of
-replaces-unput layout name old new (NotUtf8 valid) same of = absurd of
+pub replaces-unput : (layout : Layout) (name : List ℕ) (old new : List Folder) (fault : Fault)
+    → KeepsFiles old new → IsOfDraft fault → Replaces layout name old new (Err fault)
+replaces-unput layout name old new (Write reason) kept of = kept
+replaces-unput layout name old new Memory kept of = kept
+replaces-unput layout name old new (Read reason) kept of = absurd of
+replaces-unput layout name old new (NotUtf8 valid) kept of = absurd of
+replaces-unput layout name old new (Output reason) kept of = absurd of
+
+-- nor one that is not opened
+pub replaces-unopened : (layout : Layout) (name : List ℕ) (old new : List Folder) (fault : Fault)
+    → new ≡ old → IsOfReading fault → Replaces layout name old new (Err fault)
+replaces-unopened layout name old new (Read reason) same of = same
+replaces-unopened layout name old new (NotUtf8 valid) same of = absurd of
+replaces-unopened layout name old new Memory same of =
+    subst (KeepsFiles old) (sym same) (KeepsFiles-refl old)
+replaces-unopened layout name old new (Write reason) same of = absurd of
+replaces-unopened layout name old new (Output reason) same of = absurd of
 
 -- nor one that is not read
-pub replaces-unread : (layout : Layout) (name : List ℕ) (old new : KnownFiles)
-    (unread left : Option (List ℕ)) (fault : Fault) → unread ≡ old name → SameFiles old new
+pub replaces-unread : (layout : Layout) (name : List ℕ) (old new : List Folder)
+    (unread left : Option (List ℕ)) (fault : Fault) → unread ≡ bytes_at old name → new ≡ old
     → Reads layout unread left (Err fault) → Replaces layout name old new (Err fault)
 replaces-unread layout name old new unread left (Read reason) known same none = same
 replaces-unread layout name old new unread left (NotUtf8 valid) known same (input, all, none) =
     ((left, (input, subst (λ u. ReadsAll u left input) known all, none)), same)
-replaces-unread layout name old new unread left Memory known same none = same
+replaces-unread layout name old new unread left Memory known same none =
+    subst (KeepsFiles old) (sym same) (KeepsFiles-refl old)
 replaces-unread layout name old new unread left (Write reason) known same none = absurd none
+replaces-unread layout name old new unread left (Output reason) known same none = absurd none
 
 -- ---- files
-
-pub SameFiles-trans : (old mid new : KnownFiles) → SameFiles old mid → SameFiles mid new
-    → SameFiles old new
-SameFiles-trans old mid new first second = λ name. second name ∙ first name
-
--- a file that is put in its place after others were read
-pub IsReplaced-after : (name bytes : List ℕ) (old mid new : KnownFiles) → SameFiles old mid
-    → IsReplaced name bytes mid new → IsReplaced name bytes old new
-IsReplaced-after name bytes old mid new same (put, others) = (
-  subst (λ known. Becomes known (new name) bytes) (same name) put,
-  λ other differs. others other differs ∙ same other,
-)
 
 -- what was read of the reader of a file was read of the file
 pub ReadsText-of : (layout : Layout) (unread known left : Option (List ℕ))

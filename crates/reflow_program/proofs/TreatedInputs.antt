@@ -92,7 +92,7 @@ module _ (layout : Layout) (mode : Mode) where
   SameWorld-refl : (world : World) → SameWorld world world
   SameWorld-refl world = (
     Keeps-refl world.unread,
-    λ name. refl,
+    refl,
     Keeps-refl world.output,
     Keeps-refl world.messages,
   )

@@ -56,7 +56,7 @@ reflow_rules =
     ∷ flag_rule (codes "bare") ∷ text_rule (codes "prefix") ∷ flag_rule (codes "indented")
     ∷ lines_rule ∷ flag_rule (codes "lf") ∷ flag_rule (codes "crlf") ∷ flag_rule (codes "check")
     ∷ flag_rule (codes "diff")
-    ∷ flag_rule (codes "in-place") ∷ flag_rule (codes "keep-code") ∷ file_rule ∷ []
+    ∷ flag_rule (codes "in-place") ∷ file_rule ∷ []
 
 -- the words are those after the program's name, and of what may stand once the last use counts
 abbrev pub reflow_app : App
@@ -96,7 +96,7 @@ help_lines =
     ∷ codes "      --crlf           End all lines with CR LF"
     ∷ codes "      --check          Print the names of files that would change"
     ∷ codes "      --diff           Print what would change, as a unified diff"
-    ∷ codes "      --in-place       Replace each file, by way of a new file FILE.reflow"
+    ∷ codes "      --in-place       Replace each file, by way of a draft beside it"
     ∷ codes "  -h, --help           Print help"
     ∷ codes "  -V, --version        Print version"
     ∷ codes ""

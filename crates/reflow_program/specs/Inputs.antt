@@ -7,21 +7,14 @@ use Rattle.std.specs.Io.KnownBytes.{Appends, Keeps}
 use Rattle.textwrap_program.specs.Filling.{ReadsAll, WritesPrefix}
 use Rattle.textwrap_program.specs.Program.{TriesLine, line_feed}
 use Rattle.unified_diff.specs.Differences.{IsDiffText}
-use Rattle.reflow_program.specs.Files.{Becomes, KnownFiles, SameFiles}
+use Rattle.reflow_program.specs.Files.{Folder, KeepsFiles, ReplacesFile, bytes_at}
 use Rattle.reflow_program.specs.Layout.{LaysOut, has_marks}
 use Rattle.reflow_program.specs.declared.faults.Fault.{Fault}
-use Rattle.reflow_program.specs.declared.faults.Fault.TheVariants.{NotUtf8, Memory, Write}
+use Rattle.reflow_program.specs.declared.faults.Fault.TheVariants.{Read, NotUtf8, Memory, Output, Write}
 use Rattle.reflow_program.specs.declared.inputs.Reflowed.{Reflowed}
 use Rattle.reflow_program.specs.declared.inputs.Treated.{Treated}
 use Rattle.reflow_program.specs.declared.layout.LaidOut.{LaidOut}
 use Rattle.reflow_program.specs.declared.layout.Layout.{Layout}
-
--- the file of this name has these bytes, where those that it had were known; all other files are as
--- they were
-abbrev pub IsReplaced : List ℕ → List ℕ → KnownFiles → KnownFiles → Type 0
-IsReplaced name bytes old new =
-    Becomes (old name) (new name) bytes
-    × ((other : List ℕ) → other ≢ name → new other ≡ old other)
 
 -- this is no text, and so many bytes before the first that is none are one
 abbrev pub IsNoText : List ℕ → ℕ → Type 0
@@ -58,16 +51,17 @@ module _ (layout : Layout) where
   ReadsText unread left input output =
       ReadsAll unread left input × IsUtf8 input × LaysOut layout input output
 
-  -- what is read, or a fault: never `Write`, and `NotUtf8` exactly if the input is no text
+  -- what is read, or a fault: never `Write` or `Output`, and `NotUtf8` exactly if the input is no text
   abbrev pub Reads : Option (List ℕ) → Option (List ℕ) → Result Reflowed Fault → Type 0
   Reads unread left (Ok r) =
       ReadsText unread left r.input.items (string_bytes r.output.text)
       × (r.output.has_marks ≡ has_marks layout.options r.input.items)
   Reads unread left (Err (NotUtf8 valid)) = ReadsNoText unread left valid
   Reads unread left (Err (Write reason)) = ⊥
+  Reads unread left (Err (Output reason)) = ⊥
   Reads unread left (Err _) = ⊤
 
-  -- an input is printed: the whole output is written, at the fault `Write` a prefix of it, and at
+  -- an input is printed: the whole output is written, at the fault `Output` a prefix of it, and at
   -- another nothing; it never counts as one that would change
   abbrev pub Prints : Option (List ℕ) → Option (List ℕ) → Option (List ℕ) → Option (List ℕ)
       → Result Treated Fault → Type 0
@@ -76,7 +70,7 @@ module _ (layout : Layout) where
       × Appends old new output × (treated.changes ≡ false)
       × (treated.has_marks ≡ has_marks layout.options input)
   Prints unread left old new (Err (NotUtf8 valid)) = ReadsNoText unread left valid × Keeps old new
-  Prints unread left old new (Err (Write reason)) =
+  Prints unread left old new (Err (Output reason)) =
       (input : List ℕ) × (output : List ℕ) × ReadsText unread left input output
       × WritesPrefix old new output
   Prints unread left old new (Err _) = Keeps old new
@@ -95,7 +89,7 @@ module _ (layout : Layout) where
       × (treated.has_marks ≡ has_marks layout.options input)
   Checks name unread left old new (Err (NotUtf8 valid)) =
       ReadsNoText unread left valid × Keeps old new
-  Checks name unread left old new (Err (Write reason)) =
+  Checks name unread left old new (Err (Output reason)) =
       (input : List ℕ) × (output : List ℕ) × ReadsText unread left input output
       × (output ≢ input) × TriesLine old new name
   Checks name unread left old new (Err _) = Keeps old new
@@ -116,7 +110,7 @@ module _ (layout : Layout) where
       × (treated.has_marks ≡ has_marks layout.options input)
   Differs counts name unread left old new (Err (NotUtf8 valid)) =
       ReadsNoText unread left valid × Keeps old new
-  Differs counts name unread left old new (Err (Write reason)) =
+  Differs counts name unread left old new (Err (Output reason)) =
       (input : List ℕ) × (output : List ℕ) × (text : List ℕ)
       × ReadsText unread left input output × (output ≢ input)
       × IsDiffText name input output text × WritesPrefix old new text
@@ -129,13 +123,14 @@ module _ (layout : Layout) where
 
   -- a file in its place: it is replaced exactly if the output is another text, and at a fault all
   -- files are as they were
-  abbrev pub Replaces : List ℕ → KnownFiles → KnownFiles → Result Treated Fault → Type 0
+  abbrev pub Replaces : List ℕ → List Folder → List Folder → Result Treated Fault → Type 0
   Replaces name old new (Ok treated) =
       (left : Option (List ℕ)) × (input : List ℕ) × (output : List ℕ)
-      × ReadsText (old name) left input output
-      × (((output ≡ input) × SameFiles old new)
-      ⊎ ((output ≢ input) × IsReplaced name output old new))
+      × ReadsText (bytes_at old name) left input output
+      × (((output ≡ input) × (new ≡ old)) ⊎ ((output ≢ input) × ReplacesFile name output old new))
       × (treated.changes ≡ false) × (treated.has_marks ≡ has_marks layout.options input)
   Replaces name old new (Err (NotUtf8 valid)) =
-      ((left : Option (List ℕ)) × ReadsNoText (old name) left valid) × SameFiles old new
-  Replaces name old new (Err _) = SameFiles old new
+      ((left : Option (List ℕ)) × ReadsNoText (bytes_at old name) left valid) × (new ≡ old)
+  Replaces name old new (Err (Read reason)) = new ≡ old
+  Replaces name old new (Err (Output reason)) = ⊥
+  Replaces name old new (Err _) = KeepsFiles old new

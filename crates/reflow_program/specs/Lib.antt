@@ -1,6 +1,7 @@
 pub mod Words
 pub mod Arguments
 pub mod Faults
+pub mod Rights
 pub mod Files
 pub mod Layout
 pub mod Inputs

@@ -1,18 +1,20 @@
 -- What the program leaves behind, and how it ends.
 use Rattle.std.specs.Prelude.{◌≡◌, ◌⊎◌, ◌&&◌, ℕ, max, Bool, true, false, List, [], ◌∷◌, ◌++◌, map, codes}
-use Rattle.std.specs.Prelude.{Option, None, Some, Result, Ok, Err, bytes_eq, if◌then◌else◌}
+use Rattle.std.specs.Prelude.{Option, None, Some, Result, Ok, Err, bytes_eq, if◌then◌else◌, unwrap_or}
 use Rattle.std.specs.Io.KnownBytes.{Appends, Keeps}
-use Rattle.clap.specs.Words.{HasKind, Row, Text, fault_of, kind_of, matches_of}
+use Rattle.clap.specs.Words.{HasKind, Row, Text, fault_of, first_of, kind_of, matches_of}
 use Rattle.clap.specs.declared.error.Error.{Error}
 use Rattle.clap.specs.declared.error.kind.ErrorKind.{ErrorKind}
 use Rattle.clap.specs.declared.error.kind.ErrorKind.TheVariants.{DisplayHelp, DisplayVersion, OutOfMemory}
 use Rattle.textwrap_program.specs.Filling.{WritesPrefix}
 use Rattle.textwrap_program.specs.Program.{line_feed}
 use Rattle.reflow_program.specs.Arguments.{IsRequest, IsUnfit, help_text, reflow_app, version_text}
-use Rattle.reflow_program.specs.Files.{KnownFiles, SameFiles}
+use Rattle.reflow_program.specs.Files.{Folder, bytes_at}
 use Rattle.reflow_program.specs.Inputs.{Checks, ChecksFile, Differs, DiffersFile, Prints, PrintsFile}
 use Rattle.reflow_program.specs.Inputs.{Replaces}
-use Rattle.reflow_program.specs.Messages.{is_closed, is_quiet, message_line, says_nothing, texts_of}
+use Rattle.reflow_program.specs.Messages.{is_closed, is_quiet, joined_texts, message_line, says_nothing}
+use Rattle.reflow_program.specs.Messages.{subject}
+use Rattle.reflow_program.specs.Messages.{texts_of}
 use Rattle.reflow_program.specs.Words.{spelled_out}
 use Rattle.reflow_program.specs.declared.arguments.Mode.{Mode}
 use Rattle.reflow_program.specs.declared.arguments.Mode.TheVariants.{Print, Check, CheckDiff, Diff, InPlace}
@@ -20,27 +22,30 @@ use Rattle.reflow_program.specs.declared.arguments.Request.{Request}
 use Rattle.reflow_program.specs.declared.arguments.Unfit.{Unfit}
 use Rattle.reflow_program.specs.declared.arguments.Unfit.TheVariants as unfit
 use Rattle.reflow_program.specs.declared.faults.Fault.{Fault}
+use Rattle.reflow_program.specs.declared.faults.Fault.TheVariants.{Output}
+use Rattle.reflow_program.specs.declared.faults.Reason.{Reason}
 use Rattle.reflow_program.specs.declared.inputs.Treated.{Treated}
 use Rattle.reflow_program.specs.declared.layout.Layout.{Layout}
 use Rattle.reflow_program.specs.declared.program.Ending.{Ending}
 
--- what the reader has left, what is known of the files, and what two writers hold, where that is known
+-- what the reader has left, what stood at the names of files after each step so far, and what two
+-- writers hold, where that is known
 pub record World : Type 0 where
   pub unread : Option (List ℕ)
-  pub files : KnownFiles
+  pub files : List Folder
   pub output : Option (List ℕ)
   pub messages : Option (List ℕ)
 
 -- nothing was read, replaced, written or said
 abbrev pub SameWorld : World → World → Type 0
 SameWorld old new =
-    Keeps old.unread new.unread × SameFiles old.files new.files × Keeps old.output new.output
+    Keeps old.unread new.unread × (new.files ≡ old.files) × Keeps old.output new.output
     × Keeps old.messages new.messages
 
 -- nothing was read, replaced or printed
 abbrev pub OnlySays : World → World → Type 0
 OnlySays old new =
-    Keeps old.unread new.unread × SameFiles old.files new.files × Keeps old.output new.output
+    Keeps old.unread new.unread × (new.files ≡ old.files) × Keeps old.output new.output
 
 -- ---- what is said, and how a run ends
 
@@ -62,13 +67,12 @@ abbrev pub status_of : Result Treated Fault → ℕ
 status_of (Ok treated) = if treated.changes then 1 else 0
 status_of (Err fault) = if is_quiet fault then 0 else 2
 
--- how a run ends with an input of which this became; what its draft is called, where one is told of,
--- is what the files say
+-- how a run ends with an input of which this became
 abbrev pub Reports : List ℕ → Result Treated Fault → Option (List ℕ) → Option (List ℕ) → Ending
     → Type 0
 Reports name result old new ending =
-    ((draft : List ℕ)
-    × SaysUnless (says_nothing result) (message_line name (texts_of draft result)) old new ending.said)
+    SaysUnless (says_nothing result) (message_line (subject name result) (texts_of result)) old new
+    ending.said
     × (ending.status ≡ status_of result)
 
 abbrev pub all_well : Ending
@@ -104,24 +108,24 @@ module _ (layout : Layout) where
       Differs layout true (codes "-") unread left old new result
 
   -- a file is read from its known bytes; only `InPlace` changes it, and then nothing is printed
-  abbrev pub TreatsFile : Mode → List ℕ → KnownFiles → KnownFiles
+  abbrev pub TreatsFile : Mode → List ℕ → List Folder → List Folder
       → Option (List ℕ) → Option (List ℕ) → Result Treated Fault → Type 0
   TreatsFile Print name was is old new result =
-      SameFiles was is × PrintsFile layout (was name) old new result
+      (is ≡ was) × PrintsFile layout (bytes_at was name) old new result
   TreatsFile Check name was is old new result =
-      SameFiles was is × ChecksFile layout name (was name) old new result
+      (is ≡ was) × ChecksFile layout name (bytes_at was name) old new result
   TreatsFile Diff name was is old new result =
-      SameFiles was is × DiffersFile layout false name (was name) old new result
+      (is ≡ was) × DiffersFile layout false name (bytes_at was name) old new result
   TreatsFile CheckDiff name was is old new result =
-      SameFiles was is × DiffersFile layout true name (was name) old new result
+      (is ≡ was) × DiffersFile layout true name (bytes_at was name) old new result
   TreatsFile InPlace name was is old new result =
       Replaces layout name was is result × Keeps old new
 
   -- an input is the standard input, or a file
   abbrev pub Treats : Mode → Bool → List ℕ → Option (List ℕ) → Option (List ℕ)
-      → KnownFiles → KnownFiles → Option (List ℕ) → Option (List ℕ) → Result Treated Fault → Type 0
+      → List Folder → List Folder → Option (List ℕ) → Option (List ℕ) → Result Treated Fault → Type 0
   Treats mode true name unread left was is old new result =
-      SameFiles was is × TreatsInput mode unread left old new result
+      (is ≡ was) × TreatsInput mode unread left old new result
   Treats mode false name unread left was is old new result =
       Keeps unread left × TreatsFile mode name was is old new result
 
@@ -145,13 +149,16 @@ module _ (layout : Layout) where
 
 -- ---- where there is no request
 
--- a text goes to the output, or a prefix of it with a line that says so
+abbrev pub standard_output : List ℕ
+standard_output = codes "standard output"
+
+-- a text goes to the output, or a prefix of it, of which it is said why as of an input
 abbrev pub Shows : List ℕ → Option (List ℕ) → Option (List ℕ) → Option (List ℕ)
     → Option (List ℕ) → Ending → Type 0
 Shows text old new was is ending =
     (Appends old new text × Keeps was is × (ending ≡ all_well))
     ⊎ (WritesPrefix old new text
-    × SaysLine (codes "reflow: cannot write") was is ending.said × (ending.status ≡ 2))
+    × ((reason : Reason) × Reports standard_output (Err (Output reason)) was is ending))
 
 -- memory ran out before the first input
 abbrev pub SaysMemory : Option (List ℕ) → Option (List ℕ) → Bool → Type 0
@@ -179,18 +186,26 @@ ExplainsParse _ shown old new was is ending =
 
 -- ---- the whole run
 
-abbrev pub unfit_line : Unfit → List ℕ
-unfit_line unfit.Width = codes "reflow: the width is not a number of 64 bits"
-unfit_line unfit.Lines = codes "reflow: the lines are not two numbers of 64 bits, A:B"
+-- that the value of an option is not what is wanted
+abbrev pub value_texts : List Row → List ℕ → List ℕ → List (List ℕ)
+value_texts rows option wanted =
+    codes "reflow: --" ∷ option ∷ codes ": '" ∷ unwrap_or (first_of option rows) []
+    ∷ codes "' is not " ∷ wanted ∷ (line_feed ∷ []) ∷ []
 
--- these matches mean a request, of which each input is treated, or none, of which a line is said
+abbrev pub unfit_texts : List Row → Unfit → List (List ℕ)
+unfit_texts rows unfit.Width = value_texts rows (codes "width") (codes "a number of 64 bits")
+unfit_texts rows unfit.Lines =
+    value_texts rows (codes "lines") (codes "two numbers of 64 bits, A:B")
+
+-- these matches mean a request, of which each input is treated, or none, of which it is said why
 abbrev pub ServesRows : List Row → World → World → Ending → Type 0
 ServesRows rows old new ending =
     ((request : Request) × IsRequest rows request
     × TreatsAll request.layout request.mode (map (λ name. name.now) request.names.now) false old new
     ending)
     ⊎ ((unfit : Unfit) × IsUnfit rows unfit × OnlySays old new
-    × SaysLine (unfit_line unfit) old.messages new.messages ending.said × (ending.status ≡ 2))
+    × Says (joined_texts (unfit_texts rows unfit)) old.messages new.messages ending.said
+    × (ending.status ≡ 2))
 
 -- these words have matches on the command line, or there is an error, and nothing is read or
 -- replaced; what an error displays, `clap` does not promise
@@ -198,7 +213,7 @@ abbrev pub ServesWords : List Text → World → World → Ending → Type 0
 ServesWords words old new ending =
     ((fault_of reflow_app words ≡ []) × ServesRows (matches_of reflow_app words) old new ending)
     ⊎ ((error : Error) × HasKind (fault_of reflow_app words) error
-    × Keeps old.unread new.unread × SameFiles old.files new.files
+    × Keeps old.unread new.unread × (new.files ≡ old.files)
     × ExplainsParse (kind_of error) None old.output new.output old.messages new.messages ending)
 
 -- the words do so as they are written for the command line, or memory runs out for that

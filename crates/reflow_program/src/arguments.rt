@@ -1,5 +1,5 @@
 //! The program's arguments.
-ghost use Rattle.std.specs.Prelude.{◌≡◌, [], map, IfOk, IfErr, option_map, false};
+ghost use Rattle.std.specs.Prelude.{◌≡◌, [], map, IfOk, IfErr, option_map, unwrap_or, false};
 ghost use Rattle.clap.specs.Words.{FailsBy, app_of, fault_of, first_of, found_of, matches_of, rows_of, rule_of};
 ghost use Rattle.reflow_program.specs.Arguments.{ending_beside, lines_in, lines_rule, range_between, range_of};
 ghost use Rattle.reflow_program.specs.Arguments.{IsRequest, IsUnfit, algorithm_in, ending_in};
@@ -38,7 +38,7 @@ Options:
       --crlf           End all lines with CR LF
       --check          Print the names of files that would change
       --diff           Print what would change, as a unified diff
-      --in-place       Replace each file, by way of a new file FILE.reflow
+      --in-place       Replace each file, by way of a draft beside it
   -h, --help           Print help
   -V, --version        Print version
 
@@ -153,9 +153,8 @@ fn command<'a>(alloc: Global) -> Result<Command<'a>, AllocError>
         .arg(flag(
             alloc,
             "in-place",
-            "Replace each file, by way of a new file FILE.reflow",
+            "Replace each file, by way of a draft beside it",
         ))?
-        .arg(flag(alloc, "keep-code", "Code is always kept").hide(true))?
         .arg(file_argument(alloc))
 }
 
@@ -252,6 +251,16 @@ fn text_of<'a>(matches: &ArgMatches<'a>, id: &str) -> Option<&'a str>
         ≡ first_of id.now (rows_of (found_of matches.now)) }
 {
     matches.get_str(id)
+}
+
+/// The same, or nothing where it has none.
+pub(crate) fn value_of<'a>(matches: &ArgMatches<'a>, id: &str) -> &'a str
+    ensures { result.now ≡ unwrap_or (first_of id.now (rows_of (found_of matches.now))) [] }
+{
+    match text_of(matches, id) {
+        Some(text) => text,
+        None => "",
+    }
 }
 
 /// The values of an argument.

@@ -1,7 +1,8 @@
 //! Why an input was not treated.
 ghost use Rattle.std.specs.Prelude.{◌≡◌};
-ghost use Rattle.reflow_program.specs.Faults.{draft_fault, file_reason, output_reason};
+ghost use Rattle.reflow_program.specs.Faults.{draft_fault, file_reason, kind_reason, opening_fault, output_reason};
 
+use crate::files::FileKind;
 use std::io::ErrorKind;
 use textwrap_program::filling::RunError;
 
@@ -14,8 +15,10 @@ pub enum Fault {
     NotUtf8(usize),
     /// Memory ran out.
     Memory,
-    /// It cannot be replaced, or the output cannot be written.
+    /// It cannot be replaced.
     Write(Reason),
+    /// The output cannot be written.
+    Output(Reason),
 }
 
 /// Why a file or a stream cannot be read or written.
@@ -25,10 +28,22 @@ pub enum Reason {
     NotFound,
     /// The system does not permit it.
     NotPermitted,
+    /// It stands on a file system that may only be read.
+    ReadOnly,
     /// It is a folder.
     IsFolder,
-    /// The draft that would replace it is there already.
-    HasDraft,
+    /// It is a pipe or a socket.
+    IsPipe,
+    /// It is a device.
+    IsDevice,
+    /// Its name is longer than the system takes.
+    TooLong,
+    /// It is in use.
+    Busy,
+    /// It has changed since it was read.
+    Changed,
+    /// As many drafts as are made in one folder are there already.
+    TooManyDrafts,
     /// No space is left.
     NoSpace,
     /// Nobody reads the output any more.
@@ -43,11 +58,26 @@ pub fn file_reason(kind: ErrorKind) -> Reason
 {
     match kind {
         ErrorKind::NotFound => Reason::NotFound,
-        ErrorKind::PermissionDenied | ErrorKind::ReadOnlyFilesystem => Reason::NotPermitted,
+        ErrorKind::PermissionDenied => Reason::NotPermitted,
+        ErrorKind::ReadOnlyFilesystem => Reason::ReadOnly,
         ErrorKind::IsADirectory => Reason::IsFolder,
-        ErrorKind::AlreadyExists => Reason::HasDraft,
+        ErrorKind::InvalidFilename => Reason::TooLong,
+        ErrorKind::ResourceBusy | ErrorKind::ExecutableFileBusy => Reason::Busy,
+        ErrorKind::AlreadyExists => Reason::TooManyDrafts,
         ErrorKind::StorageFull | ErrorKind::QuotaExceeded => Reason::NoSpace,
         _ => Reason::Other,
+    }
+}
+
+/// Why what a name leads to is no regular file, by its kind.
+pub fn kind_reason(kind: FileKind) -> Reason
+    ensures { result ≡ kind_reason kind }
+{
+    match kind {
+        FileKind::Folder => Reason::IsFolder,
+        FileKind::Pipe => Reason::IsPipe,
+        FileKind::Device => Reason::IsDevice,
+        FileKind::Regular => Reason::Other,
     }
 }
 
@@ -59,6 +89,16 @@ pub fn output_reason(kind: ErrorKind) -> Reason
         ErrorKind::BrokenPipe => Reason::Closed,
         ErrorKind::StorageFull | ErrorKind::QuotaExceeded => Reason::NoSpace,
         _ => Reason::Other,
+    }
+}
+
+/// Why a file cannot be opened, by the kind of the error.
+pub fn opening_fault(kind: ErrorKind) -> Fault
+    ensures { result ≡ opening_fault kind }
+{
+    match kind {
+        ErrorKind::OutOfMemory => Fault::Memory,
+        _ => Fault::Read(file_reason(kind)),
     }
 }
 

@@ -1,15 +1,14 @@
 //! What the program does with one input. To reflow it is to lay it out as the [`Layout`] says.
-ghost use Rattle.std.specs.Prelude.{◌++◌, ◌∷◌, [], IfOk, IfErr, OnOk, OnErr};
+ghost use Rattle.std.specs.Prelude.{◌≡◌, ◌++◌, ◌∷◌, [], IfOk, IfErr, OnOk, OnErr};
 ghost use Rattle.std.specs.Io.KnownBytes.{Appends};
 ghost use Rattle.textwrap_program.specs.Filling.{ReadsAll, WritesPrefix};
 ghost use Rattle.textwrap_program.specs.Program.{TriesLine, line_feed};
-ghost use Rattle.reflow_program.specs.Faults.{IsOfDraft, IsOfOutput, IsOfReading};
-ghost use Rattle.reflow_program.specs.Files.{SameFiles};
-ghost use Rattle.reflow_program.specs.Inputs.{Checks, ChecksFile, Differs, DiffersFile, IsReplaced};
-ghost use Rattle.reflow_program.specs.Inputs.{Prints, PrintsFile};
-ghost use Rattle.reflow_program.specs.Inputs.{Reads, Reflows, Replaces};
+ghost use Rattle.reflow_program.specs.Faults.{IsOfOutput, IsOfReading};
+ghost use Rattle.reflow_program.specs.Files.{bytes_at};
+ghost use Rattle.reflow_program.specs.Inputs.{Checks, ChecksFile, Differs, DiffersFile};
+ghost use Rattle.reflow_program.specs.Inputs.{Prints, PrintsFile, Reads, Reflows};
 
-use crate::faults::{Fault, Reason, draft_fault, file_reason, output_reason};
+use crate::faults::{Fault, Reason, file_reason, output_reason};
 use crate::files::Files;
 use crate::layout::{LaidOut, Layout, lay_out};
 use simdutf8::compat::from_utf8;
@@ -82,7 +81,7 @@ fn reflow_input(alloc: Global, input: &[u8], layout: &Layout<'_>) -> Result<Laid
 /// Writes what the reader gives, reflowed. The text is written only after all of it is known.
 ///
 /// # Errors
-/// That of the first step that fails. Nothing is written but at `Write`, where the writer took a
+/// That of the first step that fails. Nothing is written but at `Output`, where the writer took a
 /// prefix of the text.
 pub fn print_input<R: Read, W: Write>(
     alloc: Global,
@@ -106,7 +105,7 @@ pub fn print_input<R: Read, W: Write>(
 /// Writes the bytes to the output.
 ///
 /// # Errors
-/// `Write`. Some of the bytes may then be written.
+/// `Output`. Some of the bytes may then be written.
 fn write_output<W: Write>(writer: &mut W, bytes: &[u8]) -> Result<(), Fault>
     ensures ok { OnOk result (Appends (W.contents writer.old) (W.contents writer.new) bytes.now) }
     ensures prefix { OnErr result
@@ -115,7 +114,7 @@ fn write_output<W: Write>(writer: &mut W, bytes: &[u8]) -> Result<(), Fault>
 {
     match write_whole(writer, bytes) {
         Ok(()) => Ok(()),
-        Err(kind) => Err(Fault::Write(output_reason(kind))),
+        Err(kind) => Err(Fault::Output(output_reason(kind))),
     }
 }
 
@@ -123,7 +122,7 @@ fn write_output<W: Write>(writer: &mut W, bytes: &[u8]) -> Result<(), Fault>
 /// with the name.
 ///
 /// # Errors
-/// That of the first step that fails. Nothing is written but at `Write`, where the writer took a
+/// That of the first step that fails. Nothing is written but at `Output`, where the writer took a
 /// prefix of the line.
 pub fn check_input<R: Read, W: Write>(
     alloc: Global,
@@ -156,7 +155,7 @@ pub fn check_input<R: Read, W: Write>(
 /// Writes a line with the name to the output.
 ///
 /// # Errors
-/// `Write`. A prefix of the line may then be written.
+/// `Output`. A prefix of the line may then be written.
 fn write_name<W: Write>(writer: &mut W, name: &str) -> Result<(), Fault>
     ensures ok { OnOk result
         (Appends (W.contents writer.old) (W.contents writer.new) (name.now ++ line_feed ∷ [])) }
@@ -172,7 +171,7 @@ fn write_name<W: Write>(writer: &mut W, name: &str) -> Result<(), Fault>
 /// name. If `counts` is set, a change is told as one that a check found.
 ///
 /// # Errors
-/// That of the first step that fails. Nothing is written but at `Write`, where the writer took a
+/// That of the first step that fails. Nothing is written but at `Output`, where the writer took a
 /// prefix of the diff.
 pub fn diff_input<R: Read, W: Write>(
     alloc: Global,
@@ -222,8 +221,8 @@ pub fn print_file<F: Files, W: Write>(
     writer: &mut W,
     layout: &Layout<'_>,
 ) -> Result<Treated, Fault>
-    ensures kept { SameFiles (F.bytes files.old) (F.bytes files.new) }
-    ensures printed { PrintsFile layout.now (F.bytes files.old name.now)
+    ensures kept { F.past files.new ≡ F.past files.old }
+    ensures printed { PrintsFile layout.now (bytes_at (F.past files.old) name.now)
         (W.contents writer.old) (W.contents writer.new) result }
 {
     match files.open(name) {
@@ -243,8 +242,8 @@ pub fn check_file<F: Files, W: Write>(
     writer: &mut W,
     layout: &Layout<'_>,
 ) -> Result<Treated, Fault>
-    ensures kept { SameFiles (F.bytes files.old) (F.bytes files.new) }
-    ensures checked { ChecksFile layout.now name.now (F.bytes files.old name.now)
+    ensures kept { F.past files.new ≡ F.past files.old }
+    ensures checked { ChecksFile layout.now name.now (bytes_at (F.past files.old) name.now)
         (W.contents writer.old) (W.contents writer.new) result }
 {
     match files.open(name) {
@@ -265,67 +264,12 @@ pub fn diff_file<F: Files, W: Write>(
     writer: &mut W,
     layout: &Layout<'_>,
 ) -> Result<Treated, Fault>
-    ensures kept { SameFiles (F.bytes files.old) (F.bytes files.new) }
-    ensures told { DiffersFile layout.now counts name.now (F.bytes files.old name.now)
+    ensures kept { F.past files.new ≡ F.past files.old }
+    ensures told { DiffersFile layout.now counts name.now (bytes_at (F.past files.old) name.now)
         (W.contents writer.old) (W.contents writer.new) result }
 {
     match files.open(name) {
         Ok(mut reader) => diff_input(alloc, name, counts, &mut reader, writer, layout),
         Err(error) => Err(Fault::Read(file_reason(error.kind()))),
-    }
-}
-
-/// Reflows the file of this name in its place. A file that would not change is left alone. It is
-/// replaced only after the whole text was written beside it.
-///
-/// # Errors
-/// That of the first step that fails; `Read` also where the file cannot be opened, `Write` where no
-/// draft can be made or put in its place. All files are then as they were.
-pub fn replace_file<F: Files>(
-    alloc: Global,
-    name: &str,
-    files: &mut F,
-    layout: &Layout<'_>,
-) -> Result<Treated, Fault>
-    ensures { Replaces layout.now name.now (F.bytes files.old) (F.bytes files.new) result }
-{
-    let mut reader = match files.open(name) {
-        Ok(reader) => reader,
-        Err(error) => return Err(Fault::Read(file_reason(error.kind()))),
-    };
-    let reflowed = read_reflowed(alloc, &mut reader, layout)?;
-    let treated = Treated {
-        changes: false,
-        has_marks: reflowed.output.has_marks,
-    };
-    if reflowed.input.as_slice() == reflowed.output.text.as_bytes() {
-        return Ok(treated);
-    }
-    match put_bytes(name, files, reflowed.output.text.as_bytes()) {
-        Ok(()) => Ok(treated),
-        Err(fault) => Err(fault),
-    }
-}
-
-/// Puts these bytes in the place of the file of this name, once all are written beside it.
-///
-/// # Errors
-/// `Write`, or `Memory` where that runs out for the draft. All files are then as they were.
-fn put_bytes<F: Files>(name: &str, files: &mut F, bytes: &[u8]) -> Result<(), Fault>
-    ensures ok { OnOk result (IsReplaced name.now bytes.now (F.bytes files.old) (F.bytes files.new)) }
-    ensures kept { OnErr result (SameFiles (F.bytes files.old) (F.bytes files.new)) }
-    ensures only_draft { IfErr result IsOfDraft }
-{
-    let mut draft = match files.draft(name) {
-        Ok(draft) => draft,
-        Err(error) => return Err(draft_fault(error.kind())),
-    };
-    if let Err(kind) = write_whole(&mut draft, bytes) {
-        files.discard(name, draft);
-        return Err(draft_fault(kind));
-    }
-    match files.replace(name, draft) {
-        Ok(()) => Ok(()),
-        Err(error) => Err(draft_fault(error.kind())),
     }
 }

@@ -9,4 +9,6 @@ pub mod files;
 pub mod inputs;
 pub mod layout;
 pub mod program;
+pub mod replacing;
+pub mod rights;
 pub mod words;

@@ -3,19 +3,21 @@ ghost use Rattle.std.specs.Prelude.{◌≡◌, map, string_bytes, bytes_eq, code
 ghost use Rattle.std.specs.Io.KnownBytes.{Appends};
 ghost use Rattle.clap.specs.Words.{found_of, rows_of};
 ghost use Rattle.textwrap_program.specs.Filling.{WritesPrefix};
-ghost use Rattle.reflow_program.specs.Messages.{draft_of, fault_texts, is_closed, is_quiet, joined_texts};
-ghost use Rattle.reflow_program.specs.Messages.{message_line, reading_text, says_nothing, texts_of};
+ghost use Rattle.reflow_program.specs.Messages.{fault_texts, is_closed, is_quiet, joined_texts};
+ghost use Rattle.reflow_program.specs.Messages.{message_line, reading_text, says_nothing, subject, texts_of};
 ghost use Rattle.reflow_program.specs.Messages.{writing_text};
 ghost use Rattle.reflow_program.specs.Program.{Executes, ExplainsParse, Reports, Says, SaysLine, ServesRows};
 ghost use Rattle.reflow_program.specs.Program.{ServesWords, Shows, Treats, TreatsAll, TreatsFile};
 ghost use Rattle.reflow_program.specs.Program.{TreatsInput, Warns, all_well, joined, shown_name, status_of};
+ghost use Rattle.reflow_program.specs.Program.{value_texts};
 
-use crate::arguments::{HELP, Mode, Request, Unfit, VERSION, matches_in, request_in};
-use crate::faults::{Fault, Reason};
+use crate::arguments::{HELP, Mode, Request, Unfit, VERSION, matches_in, request_in, value_of};
+use crate::faults::{Fault, Reason, output_reason};
 use crate::files::Files;
 use crate::inputs::{
-    Treated, check_file, check_input, diff_file, diff_input, print_file, print_input, replace_file,
+    Treated, check_file, check_input, diff_file, diff_input, print_file, print_input,
 };
+use crate::replacing::replace_file;
 use crate::words::spelled_out;
 use clap::ArgMatches;
 use clap::error::ErrorKind;
@@ -23,19 +25,10 @@ use itoa::Buffer;
 use std::alloc::Global;
 use std::fmt::Display;
 use std::io::{Read, Write};
-use textwrap_program::filling::{RunError, write_line, write_to_end};
-
-/// What the program says where the width is no number.
-const WIDTH_LINE: &str = "reflow: the width is not a number of 64 bits";
-
-/// What the program says where the lines are no numbers.
-const LINES_LINE: &str = "reflow: the lines are not two numbers of 64 bits, A:B";
+use textwrap_program::filling::{RunError, write_line, write_to_end, write_whole};
 
 /// What the program says where memory runs out before the first input.
 const MEMORY_LINE: &str = "reflow: out of memory";
-
-/// What the program says where its help or its version cannot be written.
-const WRITE_LINE: &str = "reflow: cannot write";
 
 /// The name of the standard input among the arguments.
 const STANDARD_INPUT_NAME: &str = "-";
@@ -46,8 +39,8 @@ const STANDARD_INPUT: &str = "standard input";
 /// What the program says of an input none of whose lines has the marks that are filled.
 const NO_MARKS: &str = "no line begins with what --prefix says";
 
-/// What a draft is called whose name is not known.
-const SOME_DRAFT: &str = "its draft";
+/// What the standard output is called in messages.
+const STANDARD_OUTPUT: &str = "standard output";
 
 /// How a run ended.
 #[derive(Clone, Copy, PartialEq, Eq)]
@@ -93,13 +86,13 @@ pub fn execute<F: Files, R: Read, W: Write, M: Write>(
     ensures { Executes (map string_bytes words.now)
         (record {
           unread = R.remaining reader.old;
-          files = F.bytes files.old;
+          files = F.past files.old;
           output = W.contents output.old;
           messages = M.contents messages.old;
         })
         (record {
           unread = R.remaining reader.new;
-          files = F.bytes files.new;
+          files = F.past files.new;
           output = W.contents output.new;
           messages = M.contents messages.new;
         })
@@ -123,13 +116,13 @@ fn execute_words<F: Files, R: Read, W: Write, M: Write>(
     ensures { ServesWords (map (λ word. word.now) words.now)
         (record {
           unread = R.remaining reader.old;
-          files = F.bytes files.old;
+          files = F.past files.old;
           output = W.contents output.old;
           messages = M.contents messages.old;
         })
         (record {
           unread = R.remaining reader.new;
-          files = F.bytes files.new;
+          files = F.past files.new;
           output = W.contents output.new;
           messages = M.contents messages.new;
         })
@@ -153,13 +146,13 @@ fn serve_matches<F: Files, R: Read, W: Write, M: Write>(
     ensures { ServesRows (rows_of (found_of matches.now))
         (record {
           unread = R.remaining reader.old;
-          files = F.bytes files.old;
+          files = F.past files.old;
           output = W.contents output.old;
           messages = M.contents messages.old;
         })
         (record {
           unread = R.remaining reader.new;
-          files = F.bytes files.new;
+          files = F.past files.new;
           output = W.contents output.new;
           messages = M.contents messages.new;
         })
@@ -167,8 +160,38 @@ fn serve_matches<F: Files, R: Read, W: Write, M: Write>(
 {
     match request_in(matches) {
         Ok(request) => serve(alloc, &request, files, reader, output, messages),
-        Err(Unfit::Width) => complain(messages, WIDTH_LINE),
-        Err(Unfit::Lines) => complain(messages, LINES_LINE),
+        Err(Unfit::Width) => complain_of(matches, "width", "a number of 64 bits", messages),
+        Err(Unfit::Lines) => {
+            complain_of(matches, "lines", "two numbers of 64 bits, A:B", messages)
+        }
+    }
+}
+
+/// Says that the value of an option is not what is wanted.
+fn complain_of<M: Write>(
+    matches: &ArgMatches<'_>,
+    option: &str,
+    wanted: &str,
+    messages: &mut M,
+) -> Ending
+    ensures said { Says (joined_texts
+        (value_texts (rows_of (found_of matches.now)) option.now wanted.now))
+        (M.contents messages.old) (M.contents messages.new) result.said }
+    ensures status { result.status ≡ 2 }
+{
+    let value = value_of(matches, option);
+    let texts = [
+        "reflow: --",
+        option,
+        ": '",
+        value,
+        "' is not ",
+        wanted,
+        "\n",
+    ];
+    Ending {
+        status: 2,
+        said: write_texts(messages, &texts).is_ok(),
     }
 }
 
@@ -186,13 +209,13 @@ fn serve<F: Files, R: Read, W: Write, M: Write>(
         (map (λ name. name.now) request.now.names.now) false
         (record {
           unread = R.remaining reader.old;
-          files = F.bytes files.old;
+          files = F.past files.old;
           output = W.contents output.old;
           messages = M.contents messages.old;
         })
         (record {
           unread = R.remaining reader.new;
-          files = F.bytes files.new;
+          files = F.past files.new;
           output = W.contents output.new;
           messages = M.contents messages.new;
         })
@@ -201,7 +224,7 @@ fn serve<F: Files, R: Read, W: Write, M: Write>(
     let mut ending = Ending::well();
     for name in request.names {
         let treated = treat(alloc, request, name, files, reader, output);
-        ending = ending.and(tell(files, name, treated, messages));
+        ending = ending.and(report(shown_name(name), treated, messages));
         if is_closed(treated) {
             return ending;
         }
@@ -242,7 +265,7 @@ fn treat<F: Files, R: Read, W: Write>(
 ) -> Result<Treated, Fault>
     ensures { Treats request.now.layout request.now.mode (bytes_eq name.now (codes "-")) name.now
         (R.remaining reader.old) (R.remaining reader.new)
-        (F.bytes files.old) (F.bytes files.new)
+        (F.past files.old) (F.past files.new)
         (W.contents output.old) (W.contents output.new) result }
 {
     if name == STANDARD_INPUT_NAME {
@@ -296,7 +319,7 @@ fn treat_file<F: Files, W: Write>(
     output: &mut W,
 ) -> Result<Treated, Fault>
     ensures { TreatsFile request.now.layout request.now.mode name.now
-        (F.bytes files.old) (F.bytes files.new)
+        (F.past files.old) (F.past files.new)
         (W.contents output.old) (W.contents output.new) result }
 {
     match request.mode {
@@ -308,39 +331,14 @@ fn treat_file<F: Files, W: Write>(
     }
 }
 
-/// Says what became of an input of this name, if there is something to say, with the draft's name
-/// where that is there already.
-fn tell<F: Files, M: Write>(
-    files: &F,
-    name: &str,
-    treated: Result<Treated, Fault>,
-    messages: &mut M,
-) -> Ending
-    ensures { Reports (shown_name name.now) treated
-        (M.contents messages.old) (M.contents messages.new) result }
-{
-    if treated != Err(Fault::Write(Reason::HasDraft)) {
-        return report(shown_name(name), SOME_DRAFT, treated, messages);
-    }
-    match files.draft_name(name) {
-        Ok(draft) => report(shown_name(name), &draft, treated, messages),
-        Err(_) => report(shown_name(name), SOME_DRAFT, treated, messages),
-    }
-}
-
 /// Says what became of an input of this name, if there is something to say: a fault, or that no line
 /// of it has the marks that are filled.
-fn report<M: Write>(
-    name: &str,
-    draft: &str,
-    treated: Result<Treated, Fault>,
-    messages: &mut M,
-) -> Ending
+fn report<M: Write>(name: &str, treated: Result<Treated, Fault>, messages: &mut M) -> Ending
     ensures { Reports name.now treated (M.contents messages.old) (M.contents messages.new) result }
 {
     Ending {
         status: status_of(treated),
-        said: says_nothing(treated) || says(name, draft, treated, messages),
+        said: says_nothing(treated) || says(name, treated, messages),
     }
 }
 
@@ -366,18 +364,23 @@ fn says_nothing(treated: Result<Treated, Fault>) -> bool
 }
 
 /// Says what is to be said of an input. The result says whether that was written whole.
-fn says<M: Write>(
-    name: &str,
-    draft: &str,
-    treated: Result<Treated, Fault>,
-    messages: &mut M,
-) -> bool
-    ensures { Says (message_line name.now (texts_of draft.now treated))
+fn says<M: Write>(name: &str, treated: Result<Treated, Fault>, messages: &mut M) -> bool
+    ensures { Says (message_line (subject name.now treated) (texts_of treated))
         (M.contents messages.old) (M.contents messages.new) result }
 {
     match treated {
         Ok(_) => write_message(messages, name, &[NO_MARKS]).is_ok(),
-        Err(fault) => write_fault(name, draft, fault, messages).is_ok(),
+        Err(fault) => write_fault(subject(name, fault), fault, messages).is_ok(),
+    }
+}
+
+/// What a fault is about: the input of this name, or the output.
+fn subject(name: &str, fault: Fault) -> &str
+    ensures { result.now ≡ subject name.now (Err fault) }
+{
+    match fault {
+        Fault::Output(_) => STANDARD_OUTPUT,
+        _ => name,
     }
 }
 
@@ -385,20 +388,15 @@ fn says<M: Write>(
 fn is_quiet(fault: Fault) -> bool
     ensures { result ≡ is_quiet fault }
 {
-    matches!(fault, Fault::Write(Reason::Closed))
+    matches!(fault, Fault::Output(Reason::Closed))
 }
 
 /// Writes the line of a fault.
-fn write_fault<M: Write>(
-    name: &str,
-    draft: &str,
-    fault: Fault,
-    messages: &mut M,
-) -> Result<(), RunError>
+fn write_fault<M: Write>(name: &str, fault: Fault, messages: &mut M) -> Result<(), RunError>
     ensures ok { OnOk result (Appends (M.contents messages.old) (M.contents messages.new)
-        (message_line name.now (fault_texts draft.now fault))) }
+        (message_line name.now (fault_texts fault))) }
     ensures prefix { OnErr result (WritesPrefix (M.contents messages.old) (M.contents messages.new)
-        (message_line name.now (fault_texts draft.now fault))) }
+        (message_line name.now (fault_texts fault))) }
 {
     match fault {
         Fault::Read(reason) => write_message(messages, name, &[reading_text(reason)]),
@@ -408,23 +406,8 @@ fn write_fault<M: Write>(
             write_message(messages, name, &["not UTF-8 after ", number, " bytes"])
         }
         Fault::Memory => write_message(messages, name, &["out of memory"]),
-        Fault::Write(reason) => {
-            write_message(
-                messages,
-                name,
-                &[draft_of(draft, reason), writing_text(reason)],
-            )
-        }
-    }
-}
-
-/// The draft, where that is told of it.
-fn draft_of(draft: &str, reason: Reason) -> &str
-    ensures { result.now ≡ draft_of draft.now reason }
-{
-    match reason {
-        Reason::HasDraft => draft,
-        _ => "",
+        Fault::Write(reason) => write_message(messages, name, &[writing_text(reason)]),
+        Fault::Output(reason) => write_message(messages, name, &[writing_text(reason)]),
     }
 }
 
@@ -436,19 +419,27 @@ fn reading_text(reason: Reason) -> &'static str
         Reason::NotFound => "not found",
         Reason::NotPermitted => "may not be read",
         Reason::IsFolder => "is a folder",
+        Reason::IsPipe => "is a pipe or a socket",
+        Reason::IsDevice => "is a device",
+        Reason::TooLong => "its name is too long",
+        Reason::Busy => "is in use",
         _ => "cannot read",
     }
 }
 
 /// What the program says of a file or an output that cannot be written.
-fn writing_text<'a>(reason: Reason) -> &'a str
+fn writing_text(reason: Reason) -> &'static str
     ensures { result.now ≡ writing_text reason }
 {
     match reason {
         Reason::NotFound => "not found",
         Reason::NotPermitted => "may not be written",
+        Reason::ReadOnly => "stands on a file system that may only be read",
         Reason::IsFolder => "is a folder",
-        Reason::HasDraft => " is there already",
+        Reason::TooLong => "its name is too long",
+        Reason::Busy => "is in use",
+        Reason::Changed => "has changed while it was read",
+        Reason::TooManyDrafts => "100 drafts are there already",
         Reason::NoSpace => "no space is left",
         _ => "cannot write",
     }
@@ -502,14 +493,17 @@ fn explain_parse<E: Display, W: Write, M: Write>(
     }
 }
 
-/// Shows a text.
+/// Shows a text. That nobody reads it any more is no fault.
 fn show<W: Write, M: Write>(text: &str, output: &mut W, messages: &mut M) -> Ending
     ensures { Shows text.now (W.contents output.old) (W.contents output.new)
         (M.contents messages.old) (M.contents messages.new) result }
 {
-    match write_to_end(output, text.as_bytes()) {
+    match write_whole(output, text.as_bytes()) {
         Ok(()) => Ending::well(),
-        Err(_) => complain(messages, WRITE_LINE),
+        Err(kind) => {
+            let fault = Fault::Output(output_reason(kind));
+            report(STANDARD_OUTPUT, Err(fault), messages)
+        }
     }
 }
 

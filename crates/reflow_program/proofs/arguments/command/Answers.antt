@@ -1,6 +1,6 @@
 use Rattle.std.proofs.Common.{◌∙◌, ap, ap₂}
 use Rattle.std.proofs.lemmas.Result.{IfOk-weaker}
-use Rattle.clap.specs.Words.{rule_of, with_rule}
+use Rattle.clap.specs.Words.{with_rule}
 use Rattle.clap.specs.declared.builder.command.Command.TheViews.{out-Command}
 use Rattle.reflow_program.proofs.CommandLemmas.{about-is, after_help-is, nameless, nameless-is}
 use Rattle.reflow_program.proofs.CommandLemmas.{overriding, overriding-is, versioned, versioned-is}
@@ -49,7 +49,5 @@ returns c =
     ∙ ap₂ with_rule app_13 c.flag-10.ensures.rule in
     let app_15 = c.in_ok-arg-15.ensures.shape c.flag-11.ensures.local
     ∙ ap₂ with_rule app_14 c.flag-11.ensures.rule in
-    let app_16 = c.in_ok-arg-16.ensures.shape (ap (λ arg. arg.global) c.hide.ensures ∙ c.flag-12.ensures.local)
-    ∙ ap₂ with_rule app_15 (ap rule_of c.hide.ensures ∙ c.flag-12.ensures.rule) in
-    IfOk-weaker c.arg-17.result _ _ (λ command adds. adds.shape c.file_argument.ensures.local
-    ∙ ap₂ with_rule app_16 c.file_argument.ensures.rule) c.arg-17.ensures
+    IfOk-weaker c.arg-16.result _ _ (λ command adds. adds.shape c.file_argument.ensures.local
+    ∙ ap₂ with_rule app_15 c.file_argument.ensures.rule) c.arg-16.ensures

@@ -6,13 +6,13 @@ pub returns-in-Ok : goal.returns-in-Ok
 returns-in-Ok g c =
     let old : World = record {
       unread = g.R.Read.remaining c.args.reader.now;
-      files = g.F.Files.bytes c.args.files.now;
+      files = g.F.Files.past c.args.files.now;
       output = g.W.Write.contents c.args.output.now;
       messages = g.M.Write.contents c.args.messages.now;
     } in
     let new : World = record {
       unread = g.R.Read.remaining c.serve_matches.new.reader;
-      files = g.F.Files.bytes c.serve_matches.new.files;
+      files = g.F.Files.past c.serve_matches.new.files;
       output = g.W.Write.contents c.serve_matches.new.output;
       messages = g.M.Write.contents c.serve_matches.new.messages;
     } in

@@ -6,4 +6,4 @@ pub returns-else-says_nothing : goal.returns-else-says_nothing
 returns-else-says_nothing g c =
     let some : says_nothing c.args.treated ≡ false =
     sym c.says_nothing.ensures ∙ c.if-says_nothing.false in
-    ((c.args.draft.now, rw some c.says.ensures), c.status_of.ensures)
+    (rw some c.says.ensures, c.status_of.ensures)

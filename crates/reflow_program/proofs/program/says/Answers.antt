@@ -1,3 +1,6 @@
+use Rattle.std.proofs.Common.{subst}
+use Rattle.reflow_program.specs.Messages.{fault_texts, message_line}
+use Rattle.reflow_program.specs.Program.{Says}
 use Rattle.reflow_program.proofs.MessageLemmas.{says-result}
 use Rattle.reflow_program.proofs.program.says.Goals as goal
 
@@ -8,5 +11,8 @@ returns-in-Ok g c =
 
 pub returns-in-Err : goal.returns-in-Err
 returns-in-Err g c =
-    rw c.in-Err.is (says-result _ _ _ c.write_fault.result c.is_ok-in-Err.result
-    c.is_ok-in-Err.ensures.value c.write_fault.ensures.ok c.write_fault.ensures.prefix)
+    rw c.in-Err.is (subst (λ name. Says (message_line name (fault_texts c.in-Err.fault))
+    (g.M.Write.contents c.args.messages.now) (g.M.Write.contents c.write_fault.new.messages)
+    c.is_ok-in-Err.result) c.subject.ensures
+    (says-result _ _ _ c.write_fault.result c.is_ok-in-Err.result
+    c.is_ok-in-Err.ensures.value c.write_fault.ensures.ok c.write_fault.ensures.prefix))

@@ -10,7 +10,7 @@ loop-name-init g c =
     (texts request.names.now)
     (record {
       unread = g.R.Read.remaining c.args.reader.now;
-      files = g.F.Files.bytes c.args.files.now;
+      files = g.F.Files.past c.args.files.now;
       output = g.W.Write.contents c.args.output.now;
       messages = g.M.Write.contents c.args.messages.now;
     })
@@ -21,8 +21,8 @@ loop-name-preserved g c =
     let request = c.args.request.now in
     HasTreated-next request.layout request.mode (texts request.names.now)
     request.names.now c.loop-name.name-index _ _ _ _ _ c.loop-name.ending
-    c.tell.result c.and-ending.result c.treat-treated.result false c.loop-name-test.true
-    c.loop-name.invariant c.treat-treated.ensures refl c.tell.ensures
+    c.report.result c.and-ending.result c.treat-treated.result false c.loop-name-test.true
+    c.loop-name.invariant c.treat-treated.ensures c.shown_name.ensures c.report.ensures
     c.and-ending.ensures (sym c.if-is_closed.false ∙ c.is_closed.ensures)
 
 pub returns-then-is_closed : goal.returns-then-is_closed
@@ -32,9 +32,9 @@ returns-then-is_closed g c =
     HasTreated-closed request.layout request.mode (texts names)
     (texts (drop (c.loop-name.name-index + 1) names)) _ _ c.and-ending.result
     (HasTreated-next request.layout request.mode (texts names) names c.loop-name.name-index _
-    _ _ _ _ c.loop-name.ending c.tell.result c.and-ending.result
+    _ _ _ _ c.loop-name.ending c.report.result c.and-ending.result
     c.treat-treated.result true c.loop-name-test.true c.loop-name.invariant
-    c.treat-treated.ensures refl c.tell.ensures c.and-ending.ensures
+    c.treat-treated.ensures c.shown_name.ensures c.report.ensures c.and-ending.ensures
     (sym c.if-is_closed.true ∙ c.is_closed.ensures))
 
 pub returns : goal.returns

@@ -8,13 +8,13 @@ invariant-loop-name g l =
     (texts (drop l.name-index l.name-items)) false
     (record {
       unread = g.R.Read.remaining l.fn.reader;
-      files = g.F.Files.bytes l.fn.files;
+      files = g.F.Files.past l.fn.files;
       output = g.W.Write.contents l.fn.output;
       messages = g.M.Write.contents l.fn.messages;
     })
     (record {
       unread = g.R.Read.remaining l.reader;
-      files = g.F.Files.bytes l.files;
+      files = g.F.Files.past l.files;
       output = g.W.Write.contents l.output;
       messages = g.M.Write.contents l.messages;
     })

@@ -1,7 +1,7 @@
 use Rattle.std.proofs.Common.{[], ◌∷◌, codes, subst, OnErr, OnOk}
 use Rattle.std.specs.Io.KnownBytes.{Appends}
 use Rattle.textwrap_program.specs.Filling.{WritesPrefix}
-use Rattle.reflow_program.specs.Messages.{draft_of, message_line}
+use Rattle.reflow_program.specs.Messages.{message_line}
 use Rattle.reflow_program.proofs.program.write_fault.Goals as goal
 
 pub returns-in-NotUtf8-clause-ok : goal.returns-in-NotUtf8-clause-ok
@@ -32,8 +32,14 @@ returns-in-Write-clause-prefix g c =
     let new = g.M.Write.contents c.write_message-in-Write.new.messages in
     rw c.in-Write.is
     (subst (λ text. OnErr c.write_message-in-Write.result (WritesPrefix old new
-    (message_line c.args.name.now (draft_of c.args.draft.now c.in-Write.reason ∷ text ∷ []))))
-    c.writing_text.ensures
-    (subst (λ draft. OnErr c.write_message-in-Write.result (WritesPrefix old new
-    (message_line c.args.name.now (draft ∷ c.writing_text.result.now ∷ [])))) c.draft_of.ensures
-    c.write_message-in-Write.ensures.prefix))
+    (message_line c.args.name.now (text ∷ []))))
+    c.writing_text.ensures c.write_message-in-Write.ensures.prefix)
+
+pub returns-in-Output-clause-prefix : goal.returns-in-Output-clause-prefix
+returns-in-Output-clause-prefix g c =
+    let old = g.M.Write.contents c.args.messages.now in
+    let new = g.M.Write.contents c.write_message-in-Output.new.messages in
+    rw c.in-Output.is
+    (subst (λ text. OnErr c.write_message-in-Output.result (WritesPrefix old new
+    (message_line c.args.name.now (text ∷ []))))
+    c.writing_text-in-Output.ensures c.write_message-in-Output.ensures.prefix)

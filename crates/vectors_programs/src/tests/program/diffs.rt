@@ -108,7 +108,7 @@ const RUNS: &[Run] = &[
     ("nothing is replaced", &["-10", "--in-place", "--diff", "my b"], SinkFault::Nothing, ("", DIFF_OF_B), "", 0),
     ("what the faults are", &["-10", "--diff", "x", "no text", "my b"], SinkFault::Nothing, ("", DIFF_OF_B), "reflow: x: not found\nreflow: no text: not UTF-8 after 4 bytes\n", 2),
     ("what --prefix does not name stays", &["-10", "--diff", "--prefix", "//", "a"], SinkFault::Nothing, ("", ""), "reflow: a: no line begins with what --prefix says\n", 0),
-    ("a write fails", &["-10", "--diff", "a"], SinkFault::Fails(7, ErrorKind::Other), ("--- a\n+", ""), "reflow: a: cannot write\n", 2),
+    ("a write fails", &["-10", "--diff", "a"], SinkFault::Fails(7, ErrorKind::Other), ("--- a\n+", ""), "reflow: standard output: cannot write\n", 2),
     ("nobody reads the output any more", &["-10", "--diff", "--check", "a", "my b"], SinkFault::Fails(7, ErrorKind::BrokenPipe), ("--- a\n+", ""), "", 0),
 ];
 

@@ -4,11 +4,11 @@ use super::folder::WRITTEN_AT_ONCE;
 use super::plain::{SOUND, strings};
 use fakes::streams::{Sink, SinkFault};
 use reflow_program::disk::Disk;
-use reflow_program::files::Files;
+use reflow_program::files::{FileKind, Files};
 use reflow_program::program::execute;
 use std::alloc::AllocError;
-use std::fs::OpenOptions;
-use std::io::{ErrorKind, Write};
+use std::fs::{File, OpenOptions};
+use std::io::Write;
 use std::os::unix::fs::{MetadataExt, PermissionsExt, lchown, symlink};
 use std::process::Abort;
 use std::{env, fs, io, process, rt};
@@ -29,7 +29,7 @@ fn path(rt: &(impl AllocGlobal + Abort), folder: &str, name: &str) -> String {
 
 /// Writes a text into a file of the folder, and gives it this mode.
 fn write(
-    rt: &(impl rt::Files + AllocGlobal + Abort),
+    rt: &(impl rt::Files<File = File> + AllocGlobal + Abort),
     folder: &str,
     (name, text, mode): (&str, &str, u32),
 ) -> io::Result<()> {
@@ -40,7 +40,7 @@ fn write(
 
 /// Whether this text stands in the file of the folder.
 fn holds(
-    rt: &(impl rt::Files + AllocGlobal + Abort),
+    rt: &(impl rt::Files<File = File> + AllocGlobal + Abort),
     folder: &str,
     (name, text): (&str, &str),
 ) -> io::Result<bool> {
@@ -50,7 +50,7 @@ fn holds(
 
 /// Whether there is no file of this name in the folder.
 fn is_gone(
-    rt: &(impl rt::Files + AllocGlobal + Abort),
+    rt: &(impl rt::Files<File = File> + AllocGlobal + Abort),
     folder: &str,
     name: &str,
 ) -> io::Result<bool> {
@@ -60,7 +60,7 @@ fn is_gone(
 
 /// The owner, the group and the mode of a file of the folder.
 fn rights(
-    rt: &(impl rt::Files + AllocGlobal + Abort),
+    rt: &(impl rt::Files<File = File> + AllocGlobal + Abort),
     folder: &str,
     name: &str,
 ) -> io::Result<(u32, u32, u32)> {
@@ -73,12 +73,12 @@ fn rights(
 const BEFORE: &[(&str, &str, u32)] = &[
     ("a", COUNT, 0o640),
     ("b", COUNT, 0o644),
-    ("b.reflow", "old", 0o644),
+    (".reflow-draft-0", "old", 0o600),
     ("closed", COUNT, 0o444),
 ];
 
 /// Makes the files.
-fn make_files(rt: &(impl rt::Files + AllocGlobal + Abort), folder: &str) {
+fn make_files(rt: &(impl rt::Files<File = File> + AllocGlobal + Abort), folder: &str) {
     for &file in BEFORE {
         assert_done(rt, file.0, write(rt, folder, file));
     }
@@ -86,7 +86,7 @@ fn make_files(rt: &(impl rt::Files + AllocGlobal + Abort), folder: &str) {
 
 /// Makes a link to a file of the folder.
 fn make_link(
-    rt: &(impl rt::Files + AllocGlobal + Abort),
+    rt: &(impl rt::Files<File = File> + AllocGlobal + Abort),
     folder: &str,
     (name, target): (&str, &str),
 ) -> io::Result<()> {
@@ -96,7 +96,7 @@ fn make_link(
 
 /// Gives the file `a` to another owner and another group, if the tests may do that: only the
 /// super-user may.
-fn give_away(rt: &(impl rt::Files + AllocGlobal + Abort), folder: &str) {
+fn give_away(rt: &(impl rt::Files<File = File> + AllocGlobal + Abort), folder: &str) {
     let a = path(rt, folder, "a");
     let _given = lchown(rt, a.as_str(), Some(1), Some(2));
 }
@@ -123,7 +123,7 @@ fn are_written(written: Sink, said: Sink, (output, message): (&str, &str)) -> bo
 
 /// Whether a run of the program on a file of the folder ends as the row says.
 fn is_run(
-    rt: &(impl rt::Files + AllocGlobal + Abort),
+    rt: &(impl rt::Files<File = File> + AllocGlobal + Abort),
     folder: &str,
     (way, name, output, message, status): Run<'_>,
 ) -> io::Result<bool> {
@@ -146,9 +146,6 @@ const RUNS: &[Run<'_>] = &[
     ("--first-fit", "a", COUNT_AT_10, "", 0),
     ("--in-place", "none", "", "/none: not found\n", 2),
     ("--in-place", "", "", "/: is a folder\n", 2),
-    // The draft of `b` is there already.
-    ("--in-place", "b", "", "/b.reflow is there already\n", 2),
-    ("--in-place", "to_b", "", "/b.reflow is there already\n", 2),
     ("--in-place", "link", "", "", 0),
     ("--in-place", "a", "", "", 0),
     ("--first-fit", "link", COUNT_AT_10, "", 0),
@@ -156,17 +153,20 @@ const RUNS: &[Run<'_>] = &[
 ];
 
 /// Asserts what comes of the runs.
-fn assert_runs(rt: &(impl rt::Files + AllocGlobal + Abort), folder: &str) {
+fn assert_runs(rt: &(impl rt::Files<File = File> + AllocGlobal + Abort), folder: &str) {
     for &row in RUNS {
         assert_found(rt, row.1, is_run(rt, folder, row));
     }
 }
 
 /// What stands in the files after the runs.
-const AFTER: &[(&str, &str)] = &[("a", COUNT_AT_10), ("b", COUNT), ("b.reflow", "old")];
+const AFTER: &[(&str, &str)] = &[("a", COUNT_AT_10), ("b", COUNT)];
 
 /// Whether the link is one.
-fn is_link(rt: &(impl rt::Files + AllocGlobal + Abort), folder: &str) -> io::Result<bool> {
+fn is_link(
+    rt: &(impl rt::Files<File = File> + AllocGlobal + Abort),
+    folder: &str,
+) -> io::Result<bool> {
     let link = path(rt, folder, "link");
     Ok(fs::symlink_metadata(rt, link.as_str())?.is_symlink())
 }
@@ -176,21 +176,21 @@ fn has_files(rt: &impl rt::Runtime, folder: &str, count: usize) -> io::Result<bo
     Ok(fs::read_dir(rt, folder)?.count() == count)
 }
 
-/// Asserts that one file was replaced, and no other written. The link is still one.
-fn assert_replaced(rt: &(impl rt::Runtime + AllocGlobal + Abort), folder: &str) {
+/// Asserts that one file was replaced, and no other written. The link is still one, and the draft that
+/// was left over is gone.
+fn assert_replaced(
+    rt: &(impl rt::Runtime + rt::Files<File = File> + AllocGlobal + Abort),
+    folder: &str,
+) {
     for &file in AFTER {
         assert_found(rt, file.0, holds(rt, folder, file));
     }
     assert_found(rt, "the link", is_link(rt, folder));
-    assert_found(
-        rt,
-        "files and links",
-        has_files(rt, folder, BEFORE.len() + 2),
-    );
+    assert_found(rt, "files and links", has_files(rt, folder, BEFORE.len()));
 }
 
 /// Whether the tests may write the file `closed`, as the super-user may write any.
-fn may_write(rt: &(impl rt::Files + AllocGlobal + Abort), folder: &str) -> bool {
+fn may_write(rt: &(impl rt::Files<File = File> + AllocGlobal + Abort), folder: &str) -> bool {
     let file = path(rt, folder, "closed");
     OpenOptions::new()
         .write(true)
@@ -208,7 +208,7 @@ const OF_CLOSED: Run<'_> = (
 );
 
 /// Asserts that such a file is left alone.
-fn assert_closed_kept(rt: &(impl rt::Files + AllocGlobal + Abort), folder: &str) {
+fn assert_closed_kept(rt: &(impl rt::Files<File = File> + AllocGlobal + Abort), folder: &str) {
     if !may_write(rt, folder) {
         assert_found(rt, "closed", is_run(rt, folder, OF_CLOSED));
         assert_found(rt, "closed", holds(rt, folder, ("closed", COUNT)));
@@ -226,10 +226,12 @@ fn are_kept(
 
 /// A file is replaced with its owner, its group and its mode, and through a link, and no other file is
 /// written.
-fn assert_files_are_replaced(rt: &(impl rt::Runtime + AllocGlobal + Abort), folder: &str) {
+fn assert_files_are_replaced(
+    rt: &(impl rt::Runtime + rt::Files<File = File> + AllocGlobal + Abort),
+    folder: &str,
+) {
     make_files(rt, folder);
     assert_done(rt, "link", make_link(rt, folder, ("link", "a")));
-    assert_done(rt, "to_b", make_link(rt, folder, ("to_b", "b")));
     give_away(rt, folder);
     let before = rights(rt, folder, "a");
     assert_runs(rt, folder);
@@ -245,69 +247,97 @@ fn is_draft(found: io::Result<fs::Metadata>, len: u64) -> io::Result<bool> {
     Ok(found.mode() & 0o7777 == 0o600 && found.len() == len)
 }
 
-/// Makes a draft for a file, writes the text into it and discards it. Returns whether the draft is its
+/// Makes a draft for a file, writes the text into it and removes it. Returns whether the draft is its
 /// owner's alone, and the write says how much it wrote.
 fn is_drafted(
-    rt: &(impl rt::Files + AllocGlobal + Abort),
+    rt: &(impl rt::Files<File = File> + AllocGlobal + Abort),
     (file, draft_path): (&str, &str),
     text: &str,
 ) -> io::Result<bool> {
     let mut disk = Disk::new(rt);
-    let mut draft = disk.draft(file)?;
-    let count = draft.write(text.as_bytes()).expect(rt, "a write");
+    let original = disk.open_original(file)?;
+    let mut draft = disk.create_draft(&original.node, 0)?;
+    let count = draft.stream.write(text.as_bytes()).expect(rt, "a write");
     let found = fs::metadata(rt, draft_path);
-    disk.discard(file, draft);
+    disk.remove(&draft)?;
     is_draft(found, count as u64)
 }
 
 /// The same for the file `a`, with a long text.
-fn is_drafted_long(rt: &(impl rt::Files + AllocGlobal + Abort), folder: &str) -> io::Result<bool> {
-    let (a, beside) = (path(rt, folder, "a"), path(rt, folder, "a.reflow"));
+fn is_drafted_long(
+    rt: &(impl rt::Files<File = File> + AllocGlobal + Abort),
+    folder: &str,
+) -> io::Result<bool> {
+    let (a, beside) = (path(rt, folder, "a"), path(rt, folder, DRAFT));
     let text = COUNT.repeat(rt.alloc(), 5_000).expect(rt, "a text");
     is_drafted(rt, (a.as_str(), beside.as_str()), text.as_str())
 }
 
-/// Puts a folder in the place of a file.
-fn replace_by_folder(rt: &impl rt::Files, file: &str) -> io::Result<()> {
-    fs::remove_file(rt, file)?;
-    fs::create_dir(rt, file)
-}
+/// The name of the first draft in a folder.
+const DRAFT: &str = ".reflow-draft-0";
 
-/// Whether a draft cannot be put in the place of its file, once this is a folder.
-fn is_refused(rt: &(impl rt::Files + AllocGlobal + Abort), folder: &str) -> io::Result<bool> {
+/// Whether a draft stands as long as it is open, so that another run makes one of another number. Only
+/// after that it is left over.
+fn is_held(
+    rt: &(impl rt::Files<File = File> + AllocGlobal + Abort),
+    folder: &str,
+) -> io::Result<bool> {
     let a = path(rt, folder, "a");
     let mut disk = Disk::new(rt);
-    let draft = disk.draft(a.as_str())?;
-    assert_done(rt, "a folder", replace_by_folder(rt, a.as_str()));
-    Ok(disk.replace(a.as_str(), draft).is_err())
+    let original = disk.open_original(a.as_str())?;
+    let draft = disk.create_draft(&original.node, 0)?;
+    let is_taken = disk.create_draft(&original.node, 0).is_err();
+    let is_held = disk.remove_left_over(&original.node, 0).is_err();
+    drop(draft);
+    disk.remove_left_over(&original.node, 0)?;
+    Ok(is_taken && is_held)
 }
 
-/// Why there is no draft for the folder itself.
-fn fault_of_folder(rt: &(impl rt::Files + AllocGlobal), folder: &str) -> Option<ErrorKind> {
+/// Whether it is seen that a file was written, or replaced, since it was opened.
+fn is_seen(
+    rt: &(impl rt::Files<File = File> + AllocGlobal + Abort),
+    folder: &str,
+    text: &str,
+) -> io::Result<bool> {
+    let a = path(rt, folder, "a");
     let mut disk = Disk::new(rt);
-    match disk.draft(folder) {
-        Ok(draft) => {
-            disk.discard(folder, draft);
-            None
-        }
-        Err(error) => Some(error.kind()),
-    }
+    let original = disk.open_original(a.as_str())?;
+    let before = disk.rights(&original.node)?;
+    write(rt, folder, ("a", text, 0o644))?;
+    let after = disk.rights(&original.node)?;
+    Ok(before.is_some() && after.is_none())
 }
 
-/// A draft is its owner's alone, and is gone once it is discarded, or once it cannot be put in the
-/// place of its file. What is no regular file has none.
-fn assert_drafts_are_made_and_removed(rt: &(impl rt::Files + AllocGlobal + Abort), folder: &str) {
+/// The kinds of what is there on each system.
+fn are_kinds(
+    rt: &(impl rt::Files<File = File> + AllocGlobal + Abort),
+    folder: &str,
+) -> io::Result<bool> {
+    let a = path(rt, folder, "a");
+    let disk = Disk::new(rt);
+    Ok(
+        disk.kind(folder)? == FileKind::Folder
+            && disk.kind(a.as_str())? == FileKind::Regular
+            && disk.kind("/dev/null")? == FileKind::Device,
+    )
+}
+
+/// A draft is its owner's alone. What another program writes into a file is seen.
+fn assert_drafts(rt: &(impl rt::Files<File = File> + AllocGlobal + Abort), folder: &str) {
     assert_done(rt, "a file", write(rt, folder, ("a", COUNT, 0o644)));
     assert_found(rt, "a draft", is_drafted_long(rt, folder));
-    assert_found(rt, "it is discarded", is_gone(rt, folder, "a.reflow"));
-    assert_found(rt, "a draft for a folder", is_refused(rt, folder));
-    assert_found(rt, "it is refused", is_gone(rt, folder, "a.reflow"));
-    let fault = fault_of_folder(rt, folder);
-    assert_holds(rt, "no draft", fault == Some(ErrorKind::InvalidInput));
+    assert_found(rt, "it is removed", is_gone(rt, folder, DRAFT));
+    assert_found(rt, "a draft that is held", is_held(rt, folder));
+    assert_found(rt, "it is removed", is_gone(rt, folder, DRAFT));
+    assert_found(rt, "a change", is_seen(rt, folder, "another text\n"));
+    assert_found(rt, "kinds", are_kinds(rt, folder));
 }
 
 /// The path of a new folder of the process of this number.
-fn made_folder(rt: &(impl rt::Runtime + AllocGlobal + Abort), process: u32) -> String {
+fn made_folder(
+    rt: &(impl rt::Runtime + rt::Files<File = File> + AllocGlobal + Abort),
+    process: u32,
+) -> String {
     let temporary = env::temp_dir(rt).expect(rt, "a folder").into_string();
     let folder = format!(in rt.alloc(); "{temporary}/reflow-test-{process}").expect(rt, "a path");
     assert_done(rt, "a folder", fs::create_dir(rt, folder.as_str()));
@@ -324,6 +354,6 @@ fn files_of_the_file_system_are_replaced(rt: HostRuntime) {
 #[test]
 fn drafts_are_made_and_removed(rt: HostRuntime) {
     let folder = made_folder(&rt, process::id(rt.process()));
-    assert_drafts_are_made_and_removed(&rt, folder.as_str());
+    assert_drafts(&rt, folder.as_str());
     let _removed = fs::remove_dir_all(&rt, folder.as_str());
 }

@@ -87,7 +87,7 @@ const FAULT_RUNS: &[FaultRun] = &[
             SinkFault::Nothing,
         ),
         "one two\nthre",
-        "reflow: standard input: cannot write\n",
+        "reflow: standard output: cannot write\n",
         2,
     ),
     (
@@ -100,7 +100,7 @@ const FAULT_RUNS: &[FaultRun] = &[
             SinkFault::Nothing,
         ),
         "one two\nthre",
-        "reflow: standard input: cannot write\n",
+        "reflow: standard output: cannot write\n",
         2,
     ),
     (
@@ -152,7 +152,7 @@ const FAULT_RUNS: &[FaultRun] = &[
             SinkFault::Nothing,
         ),
         "one five six\nseven\n",
-        "reflow: a: cannot write\n",
+        "reflow: standard output: cannot write\n",
         2,
     ),
     (
@@ -178,7 +178,7 @@ const FAULT_RUNS: &[FaultRun] = &[
             SinkFault::Nothing,
         ),
         "one ",
-        "reflow: a: no space is left\n",
+        "reflow: standard output: no space is left\n",
         2,
     ),
     (
@@ -210,7 +210,7 @@ reflow: empty: no line begins with what --prefix says\n",
             SinkFault::Nothing,
         ),
         "ab\n",
-        "reflow: a: cannot write\n",
+        "reflow: standard output: cannot write\n",
         2,
     ),
     (

@@ -4,6 +4,7 @@ use super::plain::{
     Left, SOUND, Start, assert_bytes, assert_left, assert_number, assert_unread, run,
 };
 use fakes::streams::{FeedFault, SinkFault};
+use reflow_program::files::FileKind;
 use std::io::ErrorKind;
 use std::process::Abort;
 
@@ -48,7 +49,7 @@ const NO_UTF8: &[Given] = &[
 
 /// The first of two files goes wrong when it is replaced.
 const NO_DRAFT: &[Given] = &[
-    ("a", COUNT, FileFault::Draft),
+    ("a", COUNT, FileFault::Draft(ErrorKind::StorageFull)),
     ("b", FIVE, FileFault::Nothing),
 ];
 
@@ -72,9 +73,32 @@ const DRAFT_NOT_FLUSHED: &[Given] = &[
 ];
 
 const NOT_RENAMED: &[Given] = &[
-    ("a", COUNT, FileFault::Replace),
+    ("a", COUNT, FileFault::Rename),
     ("b", FIVE, FileFault::Nothing),
 ];
+
+/// All goes wrong that may go wrong before a file is replaced, and after that nothing.
+const NOT_REPLACED: &[Given] = &[
+    ("pipe", COUNT, FileFault::Kind(FileKind::Pipe)),
+    ("device", COUNT, FileFault::Kind(FileKind::Device)),
+    ("folder", COUNT, FileFault::Kind(FileKind::Folder)),
+    ("closed", COUNT, FileFault::MayNotWrite),
+    ("drafts", COUNT, FileFault::OneDraft(100)),
+    ("changed", COUNT, FileFault::Changed),
+    ("mode", COUNT, FileFault::NoMode),
+    ("sync", COUNT, FileFault::Sync),
+    ("memory", COUNT, FileFault::Draft(ErrorKind::OutOfMemory)),
+    ("long", COUNT, FileFault::Draft(ErrorKind::InvalidFilename)),
+    (
+        "fixed",
+        COUNT,
+        FileFault::Draft(ErrorKind::ReadOnlyFilesystem),
+    ),
+    ("last", COUNT, FileFault::OneDraft(99)),
+];
+
+/// Files that belong to somebody else then.
+const OF_NOBODY: &[Given] = &[("a", COUNT, FileFault::NoOwner)];
 
 /// A file with a name like an option.
 const ODD_NAME: &[Given] = &[("--check", COUNT, FileFault::Nothing)];
@@ -280,7 +304,7 @@ const FILE_RUNS: &[FileRun] = &[
         words: &["-w", "10", "--in-place", "a", "b"],
         files: NO_DRAFT,
         output: "",
-        messages: "reflow: a: cannot write\n",
+        messages: "reflow: a: no space is left\n",
         status: 2,
         after: &[COUNT, b"five six\nseven\n"],
         replaced: 1,
@@ -323,6 +347,55 @@ const FILE_RUNS: &[FileRun] = &[
         messages: "reflow: a: cannot write\n",
         status: 2,
         after: &[COUNT, b"five six\nseven\n"],
+        replaced: 1,
+    },
+    FileRun {
+        rule: "each step that fails has its message, and leaves the file as it was",
+        words: &[
+            "-w",
+            "10",
+            "--in-place",
+            "pipe",
+            "device",
+            "folder",
+            "closed",
+            "drafts",
+            "changed",
+            "mode",
+            "sync",
+            "memory",
+            "long",
+            "fixed",
+            "last",
+        ],
+        files: NOT_REPLACED,
+        output: "",
+        messages: "reflow: pipe: is a pipe or a socket\n\
+reflow: device: is a device\n\
+reflow: folder: is a folder\n\
+reflow: closed: may not be written\n\
+reflow: drafts: 100 drafts are there already\n\
+reflow: changed: has changed while it was read\n\
+reflow: mode: cannot write\n\
+reflow: sync: cannot write\n\
+reflow: memory: out of memory\n\
+reflow: long: its name is too long\n\
+reflow: fixed: stands on a file system that may only be read\n",
+        status: 2,
+        after: &[
+            COUNT,
+            COUNT,
+            COUNT,
+            COUNT,
+            COUNT,
+            COUNT,
+            COUNT,
+            COUNT,
+            COUNT,
+            COUNT,
+            COUNT,
+            b"one two\nthree four\n",
+        ],
         replaced: 1,
     },
     FileRun {
@@ -372,4 +445,18 @@ fn files_are_treated_one_after_another(rt: HostRuntime) {
     for row in FILE_RUNS {
         assert_file_run(&rt, row);
     }
+}
+
+/// A file of another owner and another group lets these do no more than all others might, and they no
+/// more than these.
+#[test]
+fn rights_are_no_wider_for_another_owner(rt: HostRuntime) {
+    let start = Start {
+        words: &["-w", "10", "--in-place", "a"],
+        input: b"",
+        files: OF_NOBODY,
+        faults: SOUND,
+    };
+    let left = run(&rt, "a file of nobody", start);
+    assert!(&rt; left.folder.mode == 0o644);
 }

@@ -188,7 +188,7 @@ const READ_AND_WRITTEN: &[(&str, &[&str], &str, &str)] = &[
     ),
     (
         "code is always kept, and may be asked for",
-        &["-10", "--keep-code"],
+        &["-10", "--least-cost"],
         "```\none two three four\n```\n\n    one two three\n\none two three four\n",
         "```\none two three four\n```\n\n    one two three\n\none two\nthree four\n",
     ),
@@ -299,9 +299,8 @@ fn options_lay_out_the_standard_input(rt: HostRuntime) {
     }
 }
 
-const WIDTH: &str = "reflow: the width is not a number of 64 bits\n";
-
-const LINES: &str = "reflow: the lines are not two numbers of 64 bits, A:B\n";
+/// How the message ends on a value that is no number.
+const NO_NUMBER: &str = "' is not a number of 64 bits\n";
 
 /// What a row shows, its words, how the messages begin, and how they end.
 type Refused = (
@@ -312,14 +311,24 @@ type Refused = (
 );
 
 const REFUSED: &[Refused] = &[
-    ("a width with a letter", &["-w", "1O"], WIDTH, WIDTH),
-    ("no width", &["-w="], WIDTH, WIDTH),
-    ("a width with a sign", &["--width", "+5"], WIDTH, WIDTH),
+    (
+        "a width with a letter",
+        &["-w", "1O"],
+        "reflow: --width: '1O' is",
+        NO_NUMBER,
+    ),
+    ("no width", &["-w="], "reflow: --width: '' is", NO_NUMBER),
+    (
+        "a width with a sign",
+        &["--width", "+5"],
+        "reflow: --width: '+5' is",
+        NO_NUMBER,
+    ),
     (
         "a width of 65 bits",
         &["--width=18446744073709551616"],
-        WIDTH,
-        WIDTH,
+        "reflow: --width: '18446744073709551616' is",
+        NO_NUMBER,
     ),
     (
         "a width left out",
@@ -330,8 +339,14 @@ const REFUSED: &[Refused] = &[
     (
         "a width with a letter, behind a hyphen",
         &["-7x"],
-        WIDTH,
-        WIDTH,
+        "reflow: --width: '7x' is",
+        NO_NUMBER,
+    ),
+    (
+        "lines without a colon",
+        &["--lines", "7"],
+        "reflow: --lines: '7' is not two numbers of 64 bits, A:B\n",
+        "",
     ),
     (
         "an unknown option",
@@ -398,10 +413,10 @@ const SHOWING_FAULTS: &[(SinkFault, &[u8], u8)] = &[
     (SinkFault::Nothing, b"", 0),
     (
         SinkFault::Fails(4, ErrorKind::Other),
-        b"reflow: cannot write\n",
+        b"reflow: standard output: cannot write\n",
         2,
     ),
-    (SinkFault::FlushFails, b"reflow: cannot write\n", 2),
+    (SinkFault::FlushFails, b"", 0),
 ];
 
 /// Asserts that a run read nothing, what it said, and what it answered if it could be written.

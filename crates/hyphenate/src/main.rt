@@ -1,9 +1,9 @@
-//! `hyphenate DICTIONARY [--width N]` writes the words of its standard input, one a line, with hyphens
+//! `hyphenate DICTIONARY [-w N]` writes the words of its standard input, one a line, with hyphens
 //! at their points by a dictionary; with a width it fills the text with hyphens at so many columns.
 #![tactic(auto)]
 
-use hyphenate_program::arguments::request_in;
-use hyphenate_program::program::{Failure, explain, serve};
+use hyphenate_program::arguments::{Call, Request, call_in};
+use hyphenate_program::program::{Failure, HELP, VERSION, explain, serve, show};
 use std::env::Env;
 use std::fs::File;
 use std::process::ExitCode;
@@ -12,24 +12,28 @@ use textwrap_program::arguments::words_after_name;
 use textwrap_program::filling::RunError;
 
 fn main(rt: HostRuntime) -> ExitCode {
-    let status = match run(&rt) {
-        Ok(()) => 0,
-        Err(failure) => explain(rt.alloc(), &failure, &mut rt.stderr()),
+    let status = match words(&rt) {
+        Ok(words) => run(&rt, &words),
+        Err(_) => told(&rt, "", Err(Failure::Text(RunError::Memory))),
     };
     ExitCode::from(status)
 }
 
-/// Runs the program over the words that it was called with, its dictionary's file and the standard
-/// streams.
-fn run(rt: &HostRuntime) -> Result<(), Failure> {
-    let Ok(words) = words(rt) else {
-        return Err(Failure::Text(RunError::Memory));
-    };
-    let Some(request) = request_in(&words) else {
-        return Err(Failure::Usage);
-    };
-    let Ok(mut dictionary) = File::open(rt, request.dictionary) else {
-        return Err(Failure::Dictionary(RunError::Read));
+/// Runs the program over the words that it was called with, and returns its status.
+fn run(rt: &HostRuntime, words: &[String]) -> u8 {
+    match call_in(words) {
+        Some(Call::Help) => told(rt, "", show(HELP, &mut rt.stdout())),
+        Some(Call::Version) => told(rt, "", show(VERSION, &mut rt.stdout())),
+        Some(Call::Hyphenate(request)) => told(rt, request.dictionary, hyphenate(rt, &request)),
+        None => told(rt, "", Err(Failure::Usage)),
+    }
+}
+
+/// Does what is asked for with the dictionary's file and the standard streams.
+fn hyphenate(rt: &HostRuntime, request: &Request<'_>) -> Result<(), Failure> {
+    let mut dictionary = match File::open(rt, request.dictionary) {
+        Ok(file) => file,
+        Err(error) => return Err(Failure::Unopened(error.kind())),
     };
     serve(
         rt.alloc(),
@@ -38,6 +42,15 @@ fn run(rt: &HostRuntime) -> Result<(), Failure> {
         &mut rt.reader(),
         &mut rt.stdout(),
     )
+}
+
+/// Says what became of a run with the dictionary of this name, if there is something to say, and
+/// returns the status.
+fn told(rt: &HostRuntime, name: &str, ended: Result<(), Failure>) -> u8 {
+    match ended {
+        Ok(()) => 0,
+        Err(failure) => explain(rt.alloc(), name, &failure, &mut rt.stderr()),
+    }
 }
 
 /// The words that the program was called with.

@@ -47,13 +47,13 @@ pub fn ending_of_reflow<F: Files, R: Read, W: Write, M: Write>(
     ensures { reflowing.Executes (map string_bytes words.now)
         (record {
           unread = R.remaining reader.old;
-          files = F.bytes files.old;
+          files = F.past files.old;
           output = W.contents output.old;
           messages = M.contents messages.old;
         })
         (record {
           unread = R.remaining reader.new;
-          files = F.bytes files.new;
+          files = F.past files.new;
           output = W.contents output.new;
           messages = M.contents messages.new;
         })
@@ -63,8 +63,13 @@ pub fn ending_of_reflow<F: Files, R: Read, W: Write, M: Write>(
 }
 
 /// As `explain` of `hyphenate_program`.
-pub fn status_of_hyphenate<M: Write>(alloc: Global, failure: &Failure, messages: &mut M) -> u8
+pub fn status_of_hyphenate<M: Write>(
+    alloc: Global,
+    name: &str,
+    failure: &Failure,
+    messages: &mut M,
+) -> u8
     ensures status { result ≡ status_of failure.now }
 {
-    explain(alloc, failure, messages)
+    explain(alloc, name, failure, messages)
 }

@@ -2,8 +2,8 @@
 use super::plain::{assert_count, assert_gives, assert_holds};
 use super::program::plain::{assert_bytes, strings};
 use fakes::streams::{Feed, FeedFault, Sink, SinkFault};
-use hyphenate_program::arguments::{Request, request_in};
-use hyphenate_program::program::{Failure, explain, serve};
+use hyphenate_program::arguments::{Call, Request, call_in, request_in};
+use hyphenate_program::program::{Failure, HELP, explain, serve, show};
 use hyphenate_program::texts::hyphenated_text;
 use std::alloc::{AllocError, Global};
 use std::io::ErrorKind;
@@ -78,7 +78,12 @@ const CALLS: &[(&[&str], Option<(&str, Option<usize>)>)] = &[
         &["words.dic", "--width", "24"],
         Some(("words.dic", Some(24))),
     ),
-    (&["--width"], Some(("--width", None))),
+    (&["-w", "24", "words.dic"], Some(("words.dic", Some(24)))),
+    (&["words.dic", "--width=24"], Some(("words.dic", Some(24)))),
+    (&["--width=24", "words.dic"], Some(("words.dic", Some(24)))),
+    (&["--width"], None),
+    (&["--bogus"], None),
+    (&["words.dic", "--width="], None),
     (&[], None),
     (&["words.dic", "--width"], None),
     (&["words.dic", "24"], None),
@@ -104,49 +109,49 @@ const FAILURES: &[Run] = &[
         (b"UTF-8\nhy3ph\nNEXTLEVEL\n", FeedFault::Nothing),
         (b"hyphen\n", FeedFault::Nothing),
         SinkFault::Nothing,
-        "hyphenate: line 3 of the dictionary: NEXTLEVEL is not supported\n",
+        "hyphenate: words.dic: line 3: NEXTLEVEL is not supported\n",
     ),
     (
         "the dictionary is in another charset",
         (b"ISO8859-1\n", FeedFault::Nothing),
         (b"hyphen\n", FeedFault::Nothing),
         SinkFault::Nothing,
-        "hyphenate: line 1 of the dictionary: the charset is not UTF-8\n",
+        "hyphenate: words.dic: line 1: the charset is not UTF-8\n",
     ),
     (
         "the dictionary is not UTF-8",
         (b"\xe41\xdf\n", FeedFault::Nothing),
         (b"hyphen\n", FeedFault::Nothing),
         SinkFault::Nothing,
-        "hyphenate: the dictionary is not UTF-8\n",
+        "hyphenate: words.dic: not UTF-8\n",
     ),
     (
         "a read of the dictionary fails",
         (b"hy3ph\n", FeedFault::Fails(3, ErrorKind::Other)),
         (b"hyphen\n", FeedFault::Nothing),
         SinkFault::Nothing,
-        "hyphenate: cannot read the dictionary\n",
+        "hyphenate: words.dic: cannot read\n",
     ),
     (
         "the text is not UTF-8",
         (b"hy3ph\n", FeedFault::Nothing),
         (b"hyphen\n\xff", FeedFault::Nothing),
         SinkFault::Nothing,
-        "hyphenate: input is not UTF-8\n",
+        "hyphenate: standard input: not UTF-8\n",
     ),
     (
         "a read of the text fails",
         (b"hy3ph\n", FeedFault::Nothing),
         (b"hyphen\n", FeedFault::Fails(3, ErrorKind::Other)),
         SinkFault::Nothing,
-        "hyphenate: cannot read input\n",
+        "hyphenate: standard input: cannot read\n",
     ),
     (
         "a write fails",
         (b"hy3ph\n", FeedFault::Nothing),
         (b"hyphen\n", FeedFault::Nothing),
         SinkFault::Fails(0, ErrorKind::Other),
-        "hyphenate: cannot write output\n",
+        "hyphenate: standard output: cannot write\n",
     ),
 ];
 
@@ -224,15 +229,15 @@ fn assert_fails(rt: &(impl Abort + AllocGlobal), run: Run) {
     assert_bytes(rt, rule, &messages.taken, said.as_bytes());
 }
 
-/// Asserts that a failure is explained, and that the status is 1.
+/// Asserts that a failure is explained, and that the status is 2.
 fn assert_explained(
     rt: &(impl Abort + AllocGlobal),
     rule: &str,
     failure: &Failure,
     messages: &mut Sink,
 ) {
-    let status = explain(rt.alloc(), failure, messages);
-    assert_count(rt, rule, usize::from(status), 1);
+    let status = explain(rt.alloc(), "words.dic", failure, messages);
+    assert_count(rt, rule, usize::from(status), 2);
 }
 
 #[test]
@@ -245,8 +250,76 @@ fn failures_are_explained(rt: HostRuntime) {
 #[test]
 fn other_words_are_answered_by_the_usage(rt: HostRuntime) {
     let mut messages = Sink::new(rt.alloc(), 5, SinkFault::Nothing);
-    let status = explain(rt.alloc(), &Failure::Usage, &mut messages);
+    let status = explain(rt.alloc(), "words.dic", &Failure::Usage, &mut messages);
     assert_count(&rt, "the status", usize::from(status), 2);
-    let usage = b"usage: hyphenate DICTIONARY [--width N]\n";
+    let usage = b"usage: hyphenate DICTIONARY [-w N]\n";
     assert_bytes(&rt, "the usage", &messages.taken, usage);
+}
+
+/// Words that ask for help or for the version, wherever they stand.
+const SHOWN: &[(&[&str], Call<'_>)] = &[
+    (&["--help"], Call::Help),
+    (&["words.dic", "-w", "-h"], Call::Help),
+    (&["-V"], Call::Version),
+    (&["words.dic", "--version"], Call::Version),
+];
+
+#[test]
+fn help_and_version_are_asked_for(rt: HostRuntime) -> Result<(), AllocError> {
+    for (words, wanted) in SHOWN {
+        let words = strings(rt.alloc(), words)?;
+        assert_holds(&rt, "the call", call_in(&words) == Some(*wanted));
+    }
+    Ok(())
+}
+
+/// What goes wrong with the output, and the status then.
+const OUTPUTS: &[(SinkFault, u8)] = &[
+    (SinkFault::Fails(4, ErrorKind::Other), 2),
+    (SinkFault::Fails(4, ErrorKind::BrokenPipe), 0),
+];
+
+/// Asserts the status where the help cannot be written, and that nothing is said if that is no fault.
+fn assert_shown(rt: &(impl Abort + AllocGlobal), &(fault, status): &(SinkFault, u8)) {
+    let mut output = Sink::new(rt.alloc(), 5, fault);
+    let mut messages = Sink::new(rt.alloc(), 5, SinkFault::Nothing);
+    match show(HELP, &mut output) {
+        Ok(()) => assert_holds(rt, "the help", false),
+        Err(failure) => {
+            let found = explain(rt.alloc(), "words.dic", &failure, &mut messages);
+            assert_count(rt, "the status", usize::from(found), usize::from(status));
+        }
+    }
+    assert_holds(rt, "a message", messages.taken.is_empty() == (status == 0));
+}
+
+#[test]
+fn that_nobody_reads_the_output_is_no_fault(rt: HostRuntime) {
+    for row in OUTPUTS {
+        assert_shown(&rt, row);
+    }
+}
+
+/// Why the dictionary is not opened, and what is said.
+const UNOPENED: &[(ErrorKind, &str)] = &[
+    (ErrorKind::NotFound, "hyphenate: words.dic: not found\n"),
+    (
+        ErrorKind::PermissionDenied,
+        "hyphenate: words.dic: may not be read\n",
+    ),
+    (
+        ErrorKind::InvalidFilename,
+        "hyphenate: words.dic: its name is too long\n",
+    ),
+    (ErrorKind::Other, "hyphenate: words.dic: cannot read\n"),
+];
+
+#[test]
+fn a_dictionary_that_is_not_opened_is_named(rt: HostRuntime) {
+    for (kind, said) in UNOPENED {
+        let mut messages = Sink::new(rt.alloc(), 5, SinkFault::Nothing);
+        let failure = Failure::Unopened(*kind);
+        assert_explained(&rt, said, &failure, &mut messages);
+        assert_bytes(&rt, said, &messages.taken, said.as_bytes());
+    }
 }

@@ -1,8 +1,8 @@
 -- Worked rows: what it means that a file is replaced, and what that excludes.
-use Rattle.std.proofs.Common.{◌≡◌, ◌⊎◌, ◌++◌, [], ◌∷◌, inl, inr, refl, subst, sym, List, ℕ}
+use Rattle.std.proofs.Common.{◌≡◌, ◌⊎◌, ◌++◌, [], ◌∷◌, inl, inr, subst, sym, List, ℕ}
 use Rattle.std.specs.Prelude.{⊤, bytes_eq, codes, if◌then◌else◌}
 use Rattle.reflow_program.specs.Files.{Absent, Each, Entry, File, Folder, HasNew, IsAside, IsOldOrNew}
-use Rattle.reflow_program.specs.Files.{ReplacesFile, ReplacesPlace, SameBut}
+use Rattle.reflow_program.specs.Files.{ReplacesFile, SameBut}
 use Rattle.reflow_program.specs.Rights.{mode_of}
 use Rattle.reflow_program.specs.declared.rights.Rights.{Rights}
 

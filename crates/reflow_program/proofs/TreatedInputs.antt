@@ -1,5 +1,5 @@
 -- Lemmas on inputs that are treated one after another.
-use Rattle.std.proofs.Common.{◌≡◌, ◌∙◌, ap, ap₂, refl, sym, subst, ℕ, ◌+◌, ◌<◌, ◌≤◌, max, arith, Bool, false, true}
+use Rattle.std.proofs.Common.{◌≡◌, ◌∙◌, ap, ap₂, refl, sym, subst, ℕ, ◌+◌, ◌<◌, ◌≤◌, max, arith, Bool, false, true, ◌-◌, ◌^◌, min}
 use Rattle.std.proofs.Common.{List, [], ◌∷◌, length, map, drop, get_or, Bor, Result}
 use Rattle.std.proofs.KnownBytes.{Keeps-refl}
 use Rattle.std.proofs.Math.Bool.{and-true, and_assoc}
@@ -15,26 +15,36 @@ use Rattle.reflow_program.specs.declared.program.Ending.{Ending}
 
 -- ---- how a run ends that goes on
 
-abbrev ending_of : ℕ → Bool → Ending
-ending_of status said = record { status = status; said = said }
+abbrev ending_of : ℕ → Bool → ℕ → Ending
+ending_of status said replaced = record { status = status; said = said; replaced = replaced }
+
+same-ending : {s t m n : ℕ} {a b : Bool} → s ≡ t → a ≡ b → m ≡ n
+    → ending_of s a m ≡ ending_of t b n
+same-ending {s} {t} {m} {n} {a} {b} status said replaced =
+    ap₂ (λ s b. ending_of s b m) status said ∙ ap (ending_of t b) replaced
 
 joined-joined : (a b c : Ending) → joined a (joined b c) ≡ joined (joined a b) c
 joined-joined a b c =
     let statuses : max a.status (max b.status c.status) ≡ max (max a.status b.status) c.status
     = omega arith in
-    ap₂ ending_of statuses (sym (and_assoc a.said b.said c.said))
+    let most : ℕ = 2 ^ 64 - 1 in
+    let counts : min (a.replaced + min (b.replaced + c.replaced) most) most
+    ≡ min (min (a.replaced + b.replaced) most + c.replaced) most = omega arith in
+    same-ending statuses (sym (and_assoc a.said b.said c.said)) counts
 
 -- after it nothing happened
-joined-all_well : (a : Ending) → joined a all_well ≡ a
-joined-all_well a =
+joined-all_well : (a : Ending) → a.replaced ≤ 2 ^ 64 - 1 → joined a all_well ≡ a
+joined-all_well a within =
     let status : max a.status 0 ≡ a.status = omega arith in
-    ap₂ ending_of status (and-true a.said)
+    let count : min (a.replaced + 0) (2 ^ 64 - 1) ≡ a.replaced = omega (arith, within) in
+    same-ending status (and-true a.said) count
 
 -- before it nothing happened
-joined-first : (a : Ending) → joined all_well a ≡ a
-joined-first a =
+joined-first : (a : Ending) → a.replaced ≤ 2 ^ 64 - 1 → joined all_well a ≡ a
+joined-first a within =
     let status : max 0 a.status ≡ a.status = omega arith in
-    ap (λ s. ending_of s a.said) status
+    let count : min (0 + a.replaced) (2 ^ 64 - 1) ≡ a.replaced = omega (arith, within) in
+    same-ending status refl count
 
 -- ---- one input after another
 
@@ -49,13 +59,21 @@ module _ (layout : Layout) (mode : Mode) where
       (end : World) (rest : Ending) → TreatsAll layout mode left closed so_far end rest
       → TreatsAll layout mode all false start end (joined ending rest)
 
+  -- how many were replaced is a number of 64 bits
+  within : (names : List (List ℕ)) (start end : World) (rest : Ending)
+      → TreatsAll layout mode names false start end rest → rest.replaced ≤ 2 ^ 64 - 1
+  within [] start end rest (same, well) = subst (λ e. e.replaced ≤ 2 ^ 64 - 1) (sym well) (omega arith)
+  within (name ∷ names) start end rest (mid, result, first, more, treats, reports, others, is) =
+      subst (λ e. e.replaced ≤ 2 ^ 64 - 1) (sym is) (omega arith)
+
   -- at first nothing was done
   pub HasTreated-none : (all left : List (List ℕ)) (start : World) (ending : Ending) → left ≡ all
       → ending ≡ all_well → HasTreated all left false start start ending
   HasTreated-none all left start ending same well end rest treats =
       let of_all = subst (λ names. TreatsAll layout mode names false start end rest) same treats in
       subst (TreatsAll layout mode all false start end)
-      (sym (ap (λ first. joined first rest) well ∙ joined-first rest)) of_all
+      (sym (ap (λ first. joined first rest) well
+      ∙ joined-first rest (within left start end rest treats))) of_all
 
   -- one input more
   HasTreated-one : (all : List (List ℕ)) (name : List ℕ) (left : List (List ℕ))
@@ -104,19 +122,19 @@ module _ (layout : Layout) (mode : Mode) where
   treats-none (name ∷ left) end = (SameWorld-refl end, refl)
 
   pub HasTreated-closed : (all left : List (List ℕ)) (start end : World) (ending : Ending)
-      → HasTreated all left true start end ending
+      → ending.replaced ≤ 2 ^ 64 - 1 → HasTreated all left true start end ending
       → TreatsAll layout mode all false start end ending
-  HasTreated-closed all left start end ending so_far =
-      subst (TreatsAll layout mode all false start end) (joined-all_well ending)
+  HasTreated-closed all left start end ending least so_far =
+      subst (TreatsAll layout mode all false start end) (joined-all_well ending least)
       (so_far end all_well (treats-none left end))
 
   -- and no input is left
   pub HasTreated-all : (all : List (List ℕ)) (names : List (Bor (List ℕ))) (index : ℕ)
-      (start end : World) (ending : Ending) → length names ≤ index
+      (start end : World) (ending : Ending) → length names ≤ index → ending.replaced ≤ 2 ^ 64 - 1
       → HasTreated all (texts (drop index names)) false start end ending
       → TreatsAll layout mode all false start end ending
-  HasTreated-all all names index start end ending past so_far =
+  HasTreated-all all names index start end ending past least so_far =
       let none = subst (λ left. HasTreated all (texts left) false start end ending)
       (drop_all index names past) so_far in
-      subst (TreatsAll layout mode all false start end) (joined-all_well ending)
+      subst (TreatsAll layout mode all false start end) (joined-all_well ending least)
       (none end all_well (SameWorld-refl end, refl))

@@ -29,6 +29,9 @@ use Rattle.reflow_program.specs.declared.arguments.Unfit.TheVariants as unfit
 abbrev pub flag_rule : Text → Rule
 flag_rule name = record (new_rule name) { long = Some name; action = Some SetTrue }
 
+abbrev pub quiet_rule : Rule
+quiet_rule = record (flag_rule (codes "quiet")) { short = Some 113 }
+
 abbrev pub width_rule : Rule
 width_rule = record (new_rule (codes "width")) {
   long = Some (codes "width");
@@ -56,7 +59,7 @@ reflow_rules =
     ∷ flag_rule (codes "bare") ∷ text_rule (codes "prefix") ∷ flag_rule (codes "indented")
     ∷ lines_rule ∷ flag_rule (codes "lf") ∷ flag_rule (codes "crlf") ∷ flag_rule (codes "check")
     ∷ flag_rule (codes "diff")
-    ∷ flag_rule (codes "in-place") ∷ file_rule ∷ []
+    ∷ flag_rule (codes "in-place") ∷ quiet_rule ∷ file_rule ∷ []
 
 -- the words are those after the program's name, and of what may stand once the last use counts
 abbrev pub reflow_app : App
@@ -97,6 +100,7 @@ help_lines =
     ∷ codes "      --check          Print the names of files that would change"
     ∷ codes "      --diff           Print what would change, as a unified diff"
     ∷ codes "      --in-place       Replace each file, by way of a draft beside it"
+    ∷ codes "  -q, --quiet          Do not say how many files changed"
     ∷ codes "  -h, --help           Print help"
     ∷ codes "  -V, --version        Print version"
     ∷ codes ""
@@ -191,6 +195,7 @@ pub record IsRequest (rows : List Row) (request : Request) : Type 0 where
   pub options : AreOptions rows request.layout.lines request.layout.options
   pub mode : request.mode ≡ mode_in rows
   pub names : map (λ name. name.now) request.names.now ≡ texts_in (codes "FILE") rows
+  pub quiet : request.quiet ≡ flag_in (codes "quiet") rows
 
 -- these matches mean no request, since they have no width or no lines
 abbrev pub IsUnfit : List Row → Unfit → Type 0

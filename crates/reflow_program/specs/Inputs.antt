@@ -68,7 +68,7 @@ module _ (layout : Layout) where
   Prints unread left old new (Ok treated) =
       (input : List ℕ) × (output : List ℕ) × ReadsText unread left input output
       × Appends old new output × (treated.changes ≡ false)
-      × (treated.has_marks ≡ has_marks layout.options input)
+      × (treated.has_marks ≡ has_marks layout.options input) × (treated.replaced ≡ false)
   Prints unread left old new (Err (NotUtf8 valid)) = ReadsNoText unread left valid × Keeps old new
   Prints unread left old new (Err (Output reason)) =
       (input : List ℕ) × (output : List ℕ) × ReadsText unread left input output
@@ -86,7 +86,7 @@ module _ (layout : Layout) where
   Checks name unread left old new (Ok treated) =
       (input : List ℕ) × (output : List ℕ) × ReadsText unread left input output
       × Tells name old new input output treated.changes
-      × (treated.has_marks ≡ has_marks layout.options input)
+      × (treated.has_marks ≡ has_marks layout.options input) × (treated.replaced ≡ false)
   Checks name unread left old new (Err (NotUtf8 valid)) =
       ReadsNoText unread left valid × Keeps old new
   Checks name unread left old new (Err (Output reason)) =
@@ -107,7 +107,7 @@ module _ (layout : Layout) where
       (input : List ℕ) × (output : List ℕ) × (differs : Bool)
       × ReadsText unread left input output × TellsDiff name old new input output differs
       × (treated.changes ≡ (counts && differs))
-      × (treated.has_marks ≡ has_marks layout.options input)
+      × (treated.has_marks ≡ has_marks layout.options input) × (treated.replaced ≡ false)
   Differs counts name unread left old new (Err (NotUtf8 valid)) =
       ReadsNoText unread left valid × Keeps old new
   Differs counts name unread left old new (Err (Output reason)) =
@@ -127,7 +127,8 @@ module _ (layout : Layout) where
   Replaces name old new (Ok treated) =
       (left : Option (List ℕ)) × (input : List ℕ) × (output : List ℕ)
       × ReadsText (bytes_at old name) left input output
-      × (((output ≡ input) × (new ≡ old)) ⊎ ((output ≢ input) × ReplacesFile name output old new))
+      × (((output ≡ input) × (new ≡ old) × (treated.replaced ≡ false))
+      ⊎ ((output ≢ input) × ReplacesFile name output old new × (treated.replaced ≡ true)))
       × (treated.changes ≡ false) × (treated.has_marks ≡ has_marks layout.options input)
   Replaces name old new (Err (NotUtf8 valid)) =
       ((left : Option (List ℕ)) × ReadsNoText (bytes_at old name) left valid) × (new ≡ old)

@@ -1,6 +1,7 @@
 -- What the program leaves behind, and how it ends.
 use Rattle.std.specs.Prelude.{◌≡◌, ◌⊎◌, ◌&&◌, ℕ, max, Bool, true, false, List, [], ◌∷◌, ◌++◌, map, codes}
 use Rattle.std.specs.Prelude.{Option, None, Some, Result, Ok, Err, bytes_eq, if◌then◌else◌, unwrap_or}
+use Rattle.std.specs.Prelude.{◌+◌, ◌-◌, ◌^◌, decimal, length, min, nat_lt, not}
 use Rattle.std.specs.Io.KnownBytes.{Appends, Keeps}
 use Rattle.clap.specs.Words.{HasKind, Row, Text, fault_of, first_of, kind_of, matches_of}
 use Rattle.clap.specs.declared.error.Error.{Error}
@@ -67,22 +68,31 @@ abbrev pub status_of : Result Treated Fault → ℕ
 status_of (Ok treated) = if treated.changes then 1 else 0
 status_of (Err fault) = if is_quiet fault then 0 else 2
 
+abbrev pub replaced_of : Result Treated Fault → ℕ
+replaced_of (Ok treated) = if treated.replaced then 1 else 0
+replaced_of (Err fault) = 0
+
 -- how a run ends with an input of which this became
 abbrev pub Reports : List ℕ → Result Treated Fault → Option (List ℕ) → Option (List ℕ) → Ending
     → Type 0
 Reports name result old new ending =
     SaysUnless (says_nothing result) (message_line (subject name result) (texts_of result)) old new
     ending.said
-    × (ending.status ≡ status_of result)
+    × (ending.status ≡ status_of result) × (ending.replaced ≡ replaced_of result)
 
 abbrev pub all_well : Ending
-all_well = record { status = 0; said = true }
+all_well = record { status = 0; said = true; replaced = 0 }
+
+-- a run with a fault before its first input
+abbrev pub IsFault : Ending → Type 0
+IsFault ending = (ending.status ≡ 2) × (ending.replaced ≡ 0)
 
 -- how a run ends that goes on: the status is the greater one
 abbrev pub joined : Ending → Ending → Ending
 joined first rest = record {
   status = max first.status rest.status;
   said = first.said && rest.said;
+  replaced = min (first.replaced + rest.replaced) (2 ^ 64 - 1);
 }
 
 -- ---- inputs, where texts are laid out so
@@ -147,6 +157,43 @@ module _ (layout : Layout) where
       × TreatsAll mode names (is_closed result) mid new rest
       × (ending ≡ joined first rest)
 
+-- ---- how many files were replaced
+
+abbrev is_in_place : Mode → Bool
+is_in_place InPlace = true
+is_in_place _ = false
+
+-- it is said where there are several names, unless that is not wanted
+abbrev pub sums_up : Request → Bool
+sums_up request =
+    (is_in_place request.mode && nat_lt 1 (length request.names.now)) && not request.quiet
+
+abbrev pub sum_texts : ℕ → ℕ → List (List ℕ)
+sum_texts replaced names =
+    codes "reflow: " ∷ decimal replaced ∷ codes " of " ∷ decimal names ∷ codes " files changed"
+    ∷ (line_feed ∷ []) ∷ []
+
+-- of a run so far over so many names, which may end so
+abbrev pub SumsUp : Bool → ℕ → World → World → Ending → Ending → Type 0
+SumsUp false names mid new first ending = SameWorld mid new × (ending ≡ first)
+SumsUp true names mid new first ending =
+    OnlySays mid new
+    × ((said : Bool)
+    × Says (joined_texts (sum_texts first.replaced names)) mid.messages new.messages said
+    × (ending ≡ record {
+      status = first.status;
+      said = first.said && said;
+      replaced = first.replaced;
+    }))
+
+-- the inputs of a request are treated, and then it is said how many files were replaced
+abbrev pub TreatsRequest : Request → World → World → Ending → Type 0
+TreatsRequest request old new ending =
+    (mid : World) × (first : Ending)
+    × TreatsAll request.layout request.mode (map (λ name. name.now) request.names.now) false old mid
+    first
+    × SumsUp (sums_up request) (length request.names.now) mid new first ending
+
 -- ---- where there is no request
 
 abbrev pub standard_output : List ℕ
@@ -180,9 +227,9 @@ abbrev pub ExplainsParse : ErrorKind → Option (List ℕ) → Option (List ℕ)
 ExplainsParse DisplayHelp shown old new was is ending = Shows help_text old new was is ending
 ExplainsParse DisplayVersion shown old new was is ending = Shows version_text old new was is ending
 ExplainsParse OutOfMemory shown old new was is ending =
-    Keeps old new × SaysMemory was is ending.said × (ending.status ≡ 2)
+    Keeps old new × SaysMemory was is ending.said × IsFault ending
 ExplainsParse _ shown old new was is ending =
-    Keeps old new × Warns shown was is ending.said × (ending.status ≡ 2)
+    Keeps old new × Warns shown was is ending.said × IsFault ending
 
 -- ---- the whole run
 
@@ -200,12 +247,10 @@ unfit_texts rows unfit.Lines =
 -- these matches mean a request, of which each input is treated, or none, of which it is said why
 abbrev pub ServesRows : List Row → World → World → Ending → Type 0
 ServesRows rows old new ending =
-    ((request : Request) × IsRequest rows request
-    × TreatsAll request.layout request.mode (map (λ name. name.now) request.names.now) false old new
-    ending)
+    ((request : Request) × IsRequest rows request × TreatsRequest request old new ending)
     ⊎ ((unfit : Unfit) × IsUnfit rows unfit × OnlySays old new
     × Says (joined_texts (unfit_texts rows unfit)) old.messages new.messages ending.said
-    × (ending.status ≡ 2))
+    × IsFault ending)
 
 -- these words have matches on the command line, or there is an error, and nothing is read or
 -- replaced; what an error displays, `clap` does not promise
@@ -221,4 +266,4 @@ abbrev pub Executes : List (List ℕ) → World → World → Ending → Type 0
 Executes words old new ending =
     ServesWords (spelled_out false words) old new ending
     ⊎ (OnlySays old new × SaysMemory old.messages new.messages ending.said
-    × (ending.status ≡ 2))
+    × IsFault ending)

@@ -5,7 +5,7 @@ ghost use Rattle.reflow_program.specs.Arguments.{ending_beside, lines_in, lines_
 ghost use Rattle.reflow_program.specs.Arguments.{IsRequest, IsUnfit, algorithm_in, ending_in};
 ghost use Rattle.reflow_program.specs.Arguments.{file_rule, flag_in, flag_rule, mode_in};
 ghost use Rattle.reflow_program.specs.Arguments.{reflow_app, text_rule, texts_in, width_in};
-ghost use Rattle.reflow_program.specs.Arguments.{width_rule};
+ghost use Rattle.reflow_program.specs.Arguments.{quiet_rule, width_rule};
 
 use crate::layout::Layout;
 use clap::{Arg, ArgAction, ArgMatches, Command};
@@ -39,6 +39,7 @@ Options:
       --check          Print the names of files that would change
       --diff           Print what would change, as a unified diff
       --in-place       Replace each file, by way of a draft beside it
+  -q, --quiet          Do not say how many files changed
   -h, --help           Print help
   -V, --version        Print version
 
@@ -86,6 +87,8 @@ pub struct Request<'a> {
     pub mode: Mode,
     /// The names of the inputs. `-` is the standard input.
     pub names: &'a [&'a str],
+    /// Whether it is not said how many files were replaced.
+    pub quiet: bool,
 }
 
 /// Why the arguments mean no request, though they are those of the program.
@@ -155,6 +158,7 @@ fn command<'a>(alloc: Global) -> Result<Command<'a>, AllocError>
             "in-place",
             "Replace each file, by way of a draft beside it",
         ))?
+        .arg(quiet_argument(alloc))?
         .arg(file_argument(alloc))
 }
 
@@ -205,6 +209,18 @@ fn lines_argument<'a>(alloc: Global) -> Arg<'a>
         .help("Fill only the paragraphs at the lines A to B")
 }
 
+/// The flag by which it is not said how many files were replaced.
+fn quiet_argument<'a>(alloc: Global) -> Arg<'a>
+    ensures rule { rule_of result ≡ quiet_rule }
+    ensures local { result.global ≡ false }
+{
+    Arg::new(alloc, "quiet")
+        .short('q')
+        .long("quiet")
+        .action(ArgAction::SetTrue)
+        .help("Do not say how many files changed")
+}
+
 /// The argument that gives the names of the inputs.
 fn file_argument<'a>(alloc: Global) -> Arg<'a>
     ensures rule { rule_of result ≡ file_rule }
@@ -242,6 +258,7 @@ pub fn request_in<'m, 'a>(matches: &'m ArgMatches<'a>) -> Result<Request<'m>, Un
         layout: Layout { options, lines },
         mode: mode_of(matches),
         names: texts_of(matches, "FILE"),
+        quiet: is_set(matches, "quiet"),
     })
 }
 

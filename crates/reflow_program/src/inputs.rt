@@ -24,6 +24,8 @@ pub struct Treated {
     pub changes: bool,
     /// Whether some line of it has marks that are filled.
     pub has_marks: bool,
+    /// Whether it was replaced.
+    pub replaced: bool,
 }
 
 /// An input, and what it is reflowed to.
@@ -97,6 +99,7 @@ pub fn print_input<R: Read, W: Write>(
         Ok(()) => Ok(Treated {
             changes: false,
             has_marks: reflowed.output.has_marks,
+            replaced: false,
         }),
         Err(fault) => Err(fault),
     }
@@ -141,12 +144,14 @@ pub fn check_input<R: Read, W: Write>(
         return Ok(Treated {
             changes: false,
             has_marks,
+            replaced: false,
         });
     }
     match write_name(writer, name) {
         Ok(()) => Ok(Treated {
             changes: true,
             has_marks,
+            replaced: false,
         }),
         Err(fault) => Err(fault),
     }
@@ -191,6 +196,7 @@ pub fn diff_input<R: Read, W: Write>(
         return Ok(Treated {
             changes: false,
             has_marks,
+            replaced: false,
         });
     }
     let Ok(text) = diff_text(
@@ -205,6 +211,7 @@ pub fn diff_input<R: Read, W: Write>(
         Ok(()) => Ok(Treated {
             changes: counts,
             has_marks,
+            replaced: false,
         }),
         Err(fault) => Err(fault),
     }

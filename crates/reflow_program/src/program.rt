@@ -9,6 +9,7 @@ ghost use Rattle.reflow_program.specs.Messages.{writing_text};
 ghost use Rattle.reflow_program.specs.Program.{Executes, ExplainsParse, Reports, Says, SaysLine, ServesRows};
 ghost use Rattle.reflow_program.specs.Program.{ServesWords, Shows, Treats, TreatsAll, TreatsFile};
 ghost use Rattle.reflow_program.specs.Program.{TreatsInput, Warns, all_well, joined, shown_name, status_of};
+ghost use Rattle.reflow_program.specs.Program.{IsFault, TreatsRequest, replaced_of, sum_texts, sums_up};
 ghost use Rattle.reflow_program.specs.Program.{value_texts};
 
 use crate::arguments::{HELP, Mode, Request, Unfit, VERSION, matches_in, request_in, value_of};
@@ -50,6 +51,8 @@ pub struct Ending {
     pub status: u8,
     /// Whether each message was written whole.
     pub said: bool,
+    /// How many files were replaced.
+    pub replaced: usize,
 }
 
 impl Ending {
@@ -60,6 +63,7 @@ impl Ending {
         Ending {
             status: 0,
             said: true,
+            replaced: 0,
         }
     }
 
@@ -70,6 +74,7 @@ impl Ending {
         Ending {
             status: self.status.max(rest.status),
             said: self.said && rest.said,
+            replaced: self.replaced.saturating_add(rest.replaced),
         }
     }
 }
@@ -159,7 +164,7 @@ fn serve_matches<F: Files, R: Read, W: Write, M: Write>(
         result }
 {
     match request_in(matches) {
-        Ok(request) => serve(alloc, &request, files, reader, output, messages),
+        Ok(request) => serve_request(alloc, &request, files, reader, output, messages),
         Err(Unfit::Width) => complain_of(matches, "width", "a number of 64 bits", messages),
         Err(Unfit::Lines) => {
             complain_of(matches, "lines", "two numbers of 64 bits, A:B", messages)
@@ -177,7 +182,7 @@ fn complain_of<M: Write>(
     ensures said { Says (joined_texts
         (value_texts (rows_of (found_of matches.now)) option.now wanted.now))
         (M.contents messages.old) (M.contents messages.new) result.said }
-    ensures status { result.status ≡ 2 }
+    ensures fault { IsFault result }
 {
     let value = value_of(matches, option);
     let texts = [
@@ -192,7 +197,63 @@ fn complain_of<M: Write>(
     Ending {
         status: 2,
         said: write_texts(messages, &texts).is_ok(),
+        replaced: 0,
     }
+}
+
+/// Treats the inputs, and then says how many files were replaced, if several may be.
+fn serve_request<F: Files, R: Read, W: Write, M: Write>(
+    alloc: Global,
+    request: &Request<'_>,
+    files: &mut F,
+    reader: &mut R,
+    output: &mut W,
+    messages: &mut M,
+) -> Ending
+    ensures { TreatsRequest request.now
+        (record {
+          unread = R.remaining reader.old;
+          files = F.past files.old;
+          output = W.contents output.old;
+          messages = M.contents messages.old;
+        })
+        (record {
+          unread = R.remaining reader.new;
+          files = F.past files.new;
+          output = W.contents output.new;
+          messages = M.contents messages.new;
+        })
+        result }
+{
+    let ending = serve(alloc, request, files, reader, output, messages);
+    if !sums_up(request) {
+        return ending;
+    }
+    let said = say_sum(ending.replaced, request.names.len(), messages);
+    Ending {
+        status: ending.status,
+        said: ending.said && said,
+        replaced: ending.replaced,
+    }
+}
+
+/// Whether it is said how many files were replaced.
+fn sums_up(request: &Request<'_>) -> bool
+    ensures { result ≡ sums_up request.now }
+{
+    matches!(request.mode, Mode::InPlace) && request.names.len() > 1 && !request.quiet
+}
+
+/// Says how many files were replaced, of so many names. The result says whether that was written whole.
+fn say_sum<M: Write>(replaced: usize, names: usize, messages: &mut M) -> bool
+    ensures { Says (joined_texts (sum_texts replaced names))
+        (M.contents messages.old) (M.contents messages.new) result }
+{
+    let (mut of_replaced, mut of_names) = (Buffer::new(), Buffer::new());
+    let replaced = of_replaced.format(replaced);
+    let names = of_names.format(names);
+    let texts = ["reflow: ", replaced, " of ", names, " files changed", "\n"];
+    write_texts(messages, &texts).is_ok()
 }
 
 /// Treats one input after another, whatever becomes of those before it, unless nobody reads the output
@@ -339,6 +400,7 @@ fn report<M: Write>(name: &str, treated: Result<Treated, Fault>, messages: &mut 
     Ending {
         status: status_of(treated),
         said: says_nothing(treated) || says(name, treated, messages),
+        replaced: replaced_of(treated),
     }
 }
 
@@ -350,6 +412,16 @@ fn status_of(treated: Result<Treated, Fault>) -> u8
     match treated {
         Ok(treated) => u8::from(treated.changes),
         Err(fault) => if is_quiet(fault) { 0 } else { 2 },
+    }
+}
+
+/// How many files were replaced by a run with one input, of which this became.
+fn replaced_of(treated: Result<Treated, Fault>) -> usize
+    ensures { result ≡ replaced_of treated }
+{
+    match treated {
+        Ok(treated) => usize::from(treated.replaced),
+        Err(_) => 0,
     }
 }
 
@@ -511,7 +583,7 @@ fn show<W: Write, M: Write>(text: &str, output: &mut W, messages: &mut M) -> End
 fn warn<E: Display, M: Write>(alloc: Global, error: &E, messages: &mut M) -> Ending
     ensures said { Warns (E.output error.now)
         (M.contents messages.old) (M.contents messages.new) result.said }
-    ensures status { result.status ≡ 2 }
+    ensures fault { IsFault result }
 {
     let Ok(text) = format!(in alloc; "{error}") else {
         return complain(messages, MEMORY_LINE);
@@ -519,6 +591,7 @@ fn warn<E: Display, M: Write>(alloc: Global, error: &E, messages: &mut M) -> End
     Ending {
         status: 2,
         said: write_to_end(messages, text.as_bytes()).is_ok(),
+        replaced: 0,
     }
 }
 
@@ -526,10 +599,11 @@ fn warn<E: Display, M: Write>(alloc: Global, error: &E, messages: &mut M) -> End
 pub fn complain<M: Write>(messages: &mut M, line: &str) -> Ending
     ensures said { SaysLine line.now
         (M.contents messages.old) (M.contents messages.new) result.said }
-    ensures status { result.status ≡ 2 }
+    ensures fault { IsFault result }
 {
     Ending {
         status: 2,
         said: write_line(messages, line).is_ok(),
+        replaced: 0,
     }
 }

@@ -40,12 +40,16 @@ pub fn replace_file<F: Files>(
     let treated = Treated {
         changes: false,
         has_marks: reflowed.output.has_marks,
+        replaced: false,
     };
     if reflowed.input.as_slice() == reflowed.output.text.as_bytes() {
         return Ok(treated);
     }
     match put_bytes(files, &original.node, reflowed.output.text.as_bytes()) {
-        Ok(()) => Ok(treated),
+        Ok(()) => Ok(Treated {
+            replaced: true,
+            ..treated
+        }),
         Err(fault) => Err(fault),
     }
 }

@@ -49,5 +49,7 @@ returns c =
     ∙ ap₂ with_rule app_13 c.flag-10.ensures.rule in
     let app_15 = c.in_ok-arg-15.ensures.shape c.flag-11.ensures.local
     ∙ ap₂ with_rule app_14 c.flag-11.ensures.rule in
-    IfOk-weaker c.arg-16.result _ _ (λ command adds. adds.shape c.file_argument.ensures.local
-    ∙ ap₂ with_rule app_15 c.file_argument.ensures.rule) c.arg-16.ensures
+    let app_16 = c.in_ok-arg-16.ensures.shape c.quiet_argument.ensures.local
+    ∙ ap₂ with_rule app_15 c.quiet_argument.ensures.rule in
+    IfOk-weaker c.arg-17.result _ _ (λ command adds. adds.shape c.file_argument.ensures.local
+    ∙ ap₂ with_rule app_16 c.file_argument.ensures.rule) c.arg-17.ensures

@@ -1,3 +1,4 @@
+use Rattle.std.proofs.Common.{refl}
 use Rattle.std.proofs.KnownBytes.{Keeps-refl}
 use Rattle.std.specs.String.{string_bytes}
 use Rattle.reflow_program.proofs.InputLemmas.{checks-unwritten, compared-other, compared-same}
@@ -14,6 +15,7 @@ returns-then-eq g c =
         Keeps-refl (g.W.Write.contents c.args.writer.now),
       ),
       c.in_ok-reflowed.ensures.1,
+      refl,
     )
 
 pub returns-in-Ok : goal.returns-in-Ok
@@ -27,6 +29,7 @@ returns-in-Ok g c =
         c.in-Ok.ensures.ok,
       ),
       c.in_ok-reflowed.ensures.1,
+      refl,
     )
 
 pub returns : goal.returns

@@ -1,4 +1,4 @@
-use Rattle.std.proofs.Common.{false, subst, sym, true}
+use Rattle.std.proofs.Common.{false, subst, sym, true, refl}
 use Rattle.std.proofs.Math.Bool.{and-false, and-true}
 use Rattle.std.proofs.KnownBytes.{Keeps-refl}
 use Rattle.std.specs.Io.KnownBytes.{Appends}
@@ -21,6 +21,7 @@ returns-then-eq g c =
       ),
       sym (and-false c.args.counts),
       c.in_ok-reflowed.ensures.1,
+      refl,
     )
 
 pub returns-in-Ok-write_output : goal.returns-in-Ok-write_output
@@ -45,6 +46,7 @@ returns-in-Ok-write_output g c =
       ),
       sym (and-true c.args.counts),
       c.in_ok-reflowed.ensures.1,
+      refl,
     )
 
 pub returns : goal.returns

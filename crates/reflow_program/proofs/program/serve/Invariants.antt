@@ -1,10 +1,11 @@
-use Rattle.std.proofs.Common.{drop, false}
+use Rattle.std.proofs.Common.{◌-◌, ◌≤◌, ◌^◌, drop, false}
 use Rattle.reflow_program.proofs.TreatedInputs.{HasTreated, texts}
 use Rattle.reflow_program.proofs.program.serve.Given as goal
 
 abbrev pub invariant-loop-name : goal.invariant-loop-name
 invariant-loop-name g l =
-    HasTreated l.request.layout l.request.mode (texts l.request.names.now)
+    (l.ending.replaced ≤ 2 ^ 64 - 1)
+    × HasTreated l.request.layout l.request.mode (texts l.request.names.now)
     (texts (drop l.name-index l.name-items)) false
     (record {
       unread = g.R.Read.remaining l.fn.reader;

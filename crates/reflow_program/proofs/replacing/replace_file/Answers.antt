@@ -22,6 +22,7 @@ returns-then-eq g c =
       inl (
         compared-same _ _ _ _ c.as_slice.ensures.value c.as_bytes.ensures.value c.if-eq.ensures,
         c.open_regular.ensures.kept,
+        refl,
       ),
       refl,
       c.in-Ok.ensures.1,
@@ -50,6 +51,7 @@ returns-in-Ok-put_bytes g c =
               (g.F.Files.past c.open_regular.new.files) new) c.as_bytes-2.ensures.value
               c.in-Ok-put_bytes.ensures.ok),
         ),
+        refl,
       ),
       refl,
       c.in-Ok.ensures.1,

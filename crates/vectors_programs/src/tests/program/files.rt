@@ -264,6 +264,16 @@ const FILE_RUNS: &[FileRun] = &[
         words: &["-w", "10", "--in-place", "a", "b", "c"],
         files: SOUND_FILES,
         output: "",
+        messages: "reflow: 2 of 3 files changed\n",
+        status: 0,
+        after: &[b"one two\nthree four\n", b"five six\nseven\n", EIGHT],
+        replaced: 2,
+    },
+    FileRun {
+        rule: "how many is not said if that is not wanted",
+        words: &["-q", "-w", "10", "--in-place", "a", "b", "c"],
+        files: SOUND_FILES,
+        output: "",
         messages: "",
         status: 0,
         after: &[b"one two\nthree four\n", b"five six\nseven\n", EIGHT],
@@ -274,7 +284,7 @@ const FILE_RUNS: &[FileRun] = &[
         words: &["-w", "10", "--in-place", "a", "a"],
         files: SOUND_FILES,
         output: "",
-        messages: "",
+        messages: "reflow: 1 of 2 files changed\n",
         status: 0,
         after: &[b"one two\nthree four\n", FIVE, EIGHT],
         replaced: 1,
@@ -284,7 +294,8 @@ const FILE_RUNS: &[FileRun] = &[
         words: &["-w", "10", "--in-place", "a", "b"],
         files: NO_UTF8,
         output: "",
-        messages: "reflow: b: not UTF-8 after 4 bytes\n",
+        messages: "reflow: b: not UTF-8 after 4 bytes\n\
+reflow: 1 of 2 files changed\n",
         status: 2,
         after: &[b"one two\nthree four\n", NO_TEXT, EIGHT],
         replaced: 1,
@@ -294,7 +305,8 @@ const FILE_RUNS: &[FileRun] = &[
         words: &["-w", "10", "--in-place", "b", "a"],
         files: CUT_OFF,
         output: "",
-        messages: "reflow: b: cannot read\n",
+        messages: "reflow: b: cannot read\n\
+reflow: 1 of 2 files changed\n",
         status: 2,
         after: &[b"one two\nthree four\n", FIVE, EIGHT],
         replaced: 1,
@@ -304,7 +316,8 @@ const FILE_RUNS: &[FileRun] = &[
         words: &["-w", "10", "--in-place", "a", "b"],
         files: NO_DRAFT,
         output: "",
-        messages: "reflow: a: no space is left\n",
+        messages: "reflow: a: no space is left\n\
+reflow: 1 of 2 files changed\n",
         status: 2,
         after: &[COUNT, b"five six\nseven\n"],
         replaced: 1,
@@ -314,7 +327,8 @@ const FILE_RUNS: &[FileRun] = &[
         words: &["-w", "10", "--in-place", "a", "b"],
         files: DRAFT_CUT_OFF,
         output: "",
-        messages: "reflow: a: cannot write\n",
+        messages: "reflow: a: cannot write\n\
+reflow: 1 of 2 files changed\n",
         status: 2,
         after: &[COUNT, b"five six\nseven\n"],
         replaced: 1,
@@ -324,7 +338,8 @@ const FILE_RUNS: &[FileRun] = &[
         words: &["-w", "10", "--in-place", "a", "b"],
         files: DRAFT_FULL,
         output: "",
-        messages: "reflow: a: cannot write\n",
+        messages: "reflow: a: cannot write\n\
+reflow: 1 of 2 files changed\n",
         status: 2,
         after: &[COUNT, b"five six\nseven\n"],
         replaced: 1,
@@ -334,7 +349,8 @@ const FILE_RUNS: &[FileRun] = &[
         words: &["-w", "10", "--in-place", "a", "b"],
         files: DRAFT_NOT_FLUSHED,
         output: "",
-        messages: "reflow: a: cannot write\n",
+        messages: "reflow: a: cannot write\n\
+reflow: 1 of 2 files changed\n",
         status: 2,
         after: &[COUNT, b"five six\nseven\n"],
         replaced: 1,
@@ -344,7 +360,8 @@ const FILE_RUNS: &[FileRun] = &[
         words: &["-w", "10", "--in-place", "a", "b"],
         files: NOT_RENAMED,
         output: "",
-        messages: "reflow: a: cannot write\n",
+        messages: "reflow: a: cannot write\n\
+reflow: 1 of 2 files changed\n",
         status: 2,
         after: &[COUNT, b"five six\nseven\n"],
         replaced: 1,
@@ -380,7 +397,8 @@ reflow: mode: cannot write\n\
 reflow: sync: cannot write\n\
 reflow: memory: out of memory\n\
 reflow: long: its name is too long\n\
-reflow: fixed: stands on a file system that may only be read\n",
+reflow: fixed: stands on a file system that may only be read\n\
+reflow: 1 of 12 files changed\n",
         status: 2,
         after: &[
             COUNT,
@@ -404,7 +422,8 @@ reflow: fixed: stands on a file system that may only be read\n",
         files: SOUND_FILES,
         output: "",
         messages: "reflow: a: no line begins with what --prefix says\n\
-reflow: c: no line begins with what --prefix says\n",
+reflow: c: no line begins with what --prefix says\n\
+reflow: 0 of 2 files changed\n",
         status: 0,
         after: &[COUNT, FIVE, EIGHT],
         replaced: 0,

@@ -7,10 +7,10 @@ use Rattle.std.specs.Io.KnownBytes.{Appends}
 use Rattle.std.specs.Result.{is_ok}
 use Rattle.std.specs.Prelude.{⊤}
 use Rattle.std.specs.Str.{bytes_eq}
-use Rattle.reflow_program.proofs.RightsLemmas.{kept-no_wider}
+use Rattle.reflow_program.proofs.RightsLemmas.{HasKeptRights-given}
 use Rattle.reflow_program.specs.Files.{Absent, Changes, Draft, Drafts, Each, Ends, Entry, File, Folder}
 use Rattle.reflow_program.specs.Files.{HasNew, HasReplaced, HasRights, IsAside, IsDrafted, IsEmptyDraft}
-use Rattle.reflow_program.specs.Files.{IsGone, IsKept, IsKeptAside, IsNoWiderThan, IsOldOrNew, KeepsFiles}
+use Rattle.reflow_program.specs.Files.{IsGone, IsKept, IsKeptAside, IsGivenRights, IsOldOrNew, KeepsFiles}
 use Rattle.reflow_program.specs.Files.{LeftOver, Link, Makes, Other, Passes, Puts, PutsEmpty, PutsOver}
 use Rattle.reflow_program.specs.Files.{RemovesLeftOver, ReplacesPlace, SameBut, Steps, given_group}
 use Rattle.reflow_program.specs.Files.{given_mode, given_owner}
@@ -201,34 +201,34 @@ given-or-not (Ok value) has old new given is ok err =
 given-or-not (Err error) has old new given is ok err =
     err ∙ sym (ap (λ h. if h then given else old) is)
 
-pub IsNoWiderThan-given : (rights : Rights) (r0 r1 r2 r3 : Option Rights) (has_owner has_group : Bool)
+pub IsGivenRights-given : (rights : Rights) (r0 r1 r2 r3 : Option Rights) (has_owner has_group : Bool)
     → r1 ≡ (if has_group then given_group rights.group r0 else r0)
     → r2 ≡ (if has_owner then given_owner rights.owner r1 else r1)
-    → r3 ≡ given_mode (kept rights.mode has_owner has_group) r2 → IsNoWiderThan rights r0 r3
-IsNoWiderThan-given rights None r1 r2 r3 has_owner has_group group owner mode = tt
-IsNoWiderThan-given rights (Some own) r1 r2 r3 has_owner has_group group owner mode =
-    subst (IsNoWiderThan rights (Some own))
+    → r3 ≡ given_mode (kept rights.mode has_owner has_group) r2 → IsGivenRights rights r0 r3
+IsGivenRights-given rights None r1 r2 r3 has_owner has_group group owner mode = tt
+IsGivenRights-given rights (Some own) r1 r2 r3 has_owner has_group group owner mode =
+    subst (IsGivenRights rights (Some own))
     (sym (mode ∙ ap (given_mode (kept rights.mode has_owner has_group)) (owner
     ∙ ap (λ r. if has_owner then given_owner rights.owner r else r) group)))
     (all has_owner has_group)
   where
-    all : (has_owner has_group : Bool) → IsNoWiderThan rights (Some own)
+    all : (has_owner has_group : Bool) → IsGivenRights rights (Some own)
         (given_mode (kept rights.mode has_owner has_group)
         (if has_owner then given_owner rights.owner
         (if has_group then given_group rights.group (Some own) else Some own)
         else (if has_group then given_group rights.group (Some own) else Some own)))
-    all true true = kept-no_wider rights _ true true (λ has. refl) (λ has. refl) refl
+    all true true = HasKeptRights-given rights _ true true (λ has. refl) (λ has. refl) refl
     all true false =
-        kept-no_wider rights _ true false (λ has. refl) (λ has. absurd (false≢true has)) refl
+        HasKeptRights-given rights _ true false (λ has. refl) (λ has. absurd (false≢true has)) refl
     all false true =
-        kept-no_wider rights _ false true (λ has. absurd (false≢true has)) (λ has. refl) refl
+        HasKeptRights-given rights _ false true (λ has. absurd (false≢true has)) (λ has. refl) refl
     all false false =
-        kept-no_wider rights _ false false (λ has. absurd (false≢true has))
+        HasKeptRights-given rights _ false false (λ has. absurd (false≢true has))
         (λ has. absurd (false≢true has)) refl
 
 pub PutsEmpty-put : (old new : List Folder) (empty contents : Option (List ℕ)) (own given : Option Rights)
     (rights : Rights) (draft place bytes : List ℕ) → Appends empty contents bytes
-    → IsNoWiderThan rights own given → HasRights old place (Some rights)
+    → IsGivenRights rights own given → HasRights old place (Some rights)
     → Steps (Puts draft place contents given) old new
     → Steps (PutsEmpty empty own draft place bytes) old new
 PutsEmpty-put [] new empty contents own given rights draft place bytes appends no_wider has steps = steps
@@ -237,7 +237,7 @@ PutsEmpty-put (folder ∷ past) new empty contents own given rights draft place 
     (next, over empty contents own given appends no_wider puts, follows)
   where
     over : (empty contents : Option (List ℕ)) (own given : Option Rights) → Appends empty contents bytes
-        → IsNoWiderThan rights own given → Puts draft place contents given folder next
+        → IsGivenRights rights own given → Puts draft place contents given folder next
         → PutsEmpty empty own draft place bytes folder next
     over None contents own given appends no_wider puts = tt
     over (Some (c ∷ cs)) contents own given appends no_wider puts = tt

@@ -1,10 +1,11 @@
 -- What the planted bugs of this crate do, on a row where it matters, and that the clause does not allow
 -- it. Each theorem has the name of its edit in must-fail/.
-use Rattle.std.proofs.Common.{◌≡◌, [], ◌∷◌, inl, refl, subst, sym, List, ℕ, Some}
+use Rattle.std.proofs.Common.{◌≡◌, [], ◌∷◌, ap, Bool, false, true, inl, refl, subst, sym, List, ℕ, Some}
+use Rattle.std.proofs.lemmas.Bool.{false≢true}
 use Rattle.std.specs.Prelude.{⊤}
 use Rattle.reflow_program.specs.Files.{Absent, Entry, File, Folder, PutsOver, PutsSynced}
 use Rattle.reflow_program.specs.Files.{Steps}
-use Rattle.reflow_program.specs.Rights.{IsNoWider, mode_of}
+use Rattle.reflow_program.specs.Rights.{HasKeptRights, IsNoWider, kept, mode_of}
 use Rattle.reflow_program.specs.declared.rights.Rights.{Rights}
 
 -- a program that runs as the super-user
@@ -19,6 +20,22 @@ pub mode_kept_for_another_owner : ¬ IsNoWider of_root of_another
 mode_kept_for_another_owner (classes, special) =
     let (owner, group, user_bit, group_bit) = special (inl refl) in
     let no : 1234 ≡ 0 = owner in cc
+
+-- the same owner, and nobody may do anything any more
+abbrev of_nobody : Rights
+of_nobody = record { owner = 0; group = 0; mode = mode_of 0 }
+
+-- for whatever is kept of a mode, its owner may do what he might
+pub nothing_allowed_afterwards : ¬ HasKeptRights of_root of_nobody
+nothing_allowed_afterwards ((has_owner, has_group, owner, group, is), wider) =
+    unlike has_owner has_group is
+  where
+    unlike : (has_owner has_group : Bool)
+        → of_nobody.mode ≡ kept of_root.mode has_owner has_group → ⊥
+    unlike true true is = false≢true (ap (λ mode. mode.owner.read) is)
+    unlike true false is = false≢true (ap (λ mode. mode.owner.read) is)
+    unlike false true is = false≢true (ap (λ mode. mode.owner.read) is)
+    unlike false false is = false≢true (ap (λ mode. mode.owner.read) is)
 
 -- nothing at all
 abbrev empty : Folder

@@ -1,7 +1,7 @@
 -- A mode that is kept lets nobody do more.
 use Rattle.std.proofs.Common.{◌≡◌, ◌∙◌, ◌&&◌, ◌==◌, ◌⊎◌, ap, ap₂, inl, inr, refl, subst, sym, Bool, false, true}
 use Rattle.std.proofs.lemmas.Bool.{eq-eqb, eqb-true, false≢true}
-use Rattle.reflow_program.specs.Rights.{IsNoWider, IsWithin, allowed, both, class_of, for_other_group}
+use Rattle.reflow_program.specs.Rights.{HasKeptRights, IsNoWider, IsWithin, allowed, both, class_of, for_other_group}
 use Rattle.reflow_program.specs.Rights.{for_other_owner, kept}
 use Rattle.reflow_program.specs.declared.rights.Access.{Access}
 use Rattle.reflow_program.specs.declared.rights.FileMode.{FileMode}
@@ -117,4 +117,12 @@ kept-no_wider rights given has_owner has_group same_owner same_group is = (
       (subst (λ mode. (mode.set_user ≡ true) ⊎ (mode.set_group ≡ true)) is set) in
       let same : given.mode ≡ rights.mode = is ∙ ap₂ (kept rights.mode) owner group in
       (same_owner owner, same_group group, ap (λ mode. mode.set_user) same, ap (λ mode. mode.set_group) same),
+)
+
+pub HasKeptRights-given : (rights given : Rights) (has_owner has_group : Bool)
+    → (has_owner ≡ true → given.owner ≡ rights.owner) → (has_group ≡ true → given.group ≡ rights.group)
+    → given.mode ≡ kept rights.mode has_owner has_group → HasKeptRights rights given
+HasKeptRights-given rights given has_owner has_group same_owner same_group is = (
+  (has_owner, has_group, same_owner, same_group, is),
+  kept-no_wider rights given has_owner has_group same_owner same_group is,
 )

@@ -1,6 +1,6 @@
 -- What is known of the files, by their names.
 use Rattle.std.specs.Prelude.{◌≡◌, ◌≢◌, ◌⊎◌, ◌++◌, ◌∷◌, ℕ, List, [], Option, None, Some, ⊤, option_map}
-use Rattle.reflow_program.specs.Rights.{IsNoWider}
+use Rattle.reflow_program.specs.Rights.{HasKeptRights}
 use Rattle.reflow_program.specs.declared.rights.FileMode.{FileMode}
 use Rattle.reflow_program.specs.declared.rights.Rights.{Rights}
 
@@ -138,11 +138,11 @@ IsKept old new = (name : List ℕ) → SameBut IsGone (old name) (new name)
 abbrev pub IsKeptAside : Folder → Folder → Type 0
 IsKeptAside old new = (name : List ℕ) → SameBut IsAside (old name) (new name)
 
--- a file has these bytes now, and lets nobody do more than before
+-- a file has these bytes now, and the rights that it may keep
 abbrev pub HasNew : List ℕ → Entry → Entry → Type 0
 HasNew bytes old new =
     (before : List ℕ) × (rights : Rights) × (given : Rights)
-    × (old ≡ File before rights) × (new ≡ File bytes given) × IsNoWider rights given
+    × (old ≡ File before rights) × (new ≡ File bytes given) × HasKeptRights rights given
 
 -- this file has these bytes now, and all other names are as they were, but for drafts as above
 abbrev pub HasReplaced : List ℕ → List ℕ → Folder → Folder → Type 0
@@ -200,13 +200,13 @@ IsDrafted draft old new =
 abbrev pub Drafts : List ℕ → List Folder → List Folder → Type 0
 Drafts draft old new = Passes IsKeptAside old new × Ends (IsDrafted draft) old new
 
--- where a draft was known to be empty, and its rights were known, they let nobody do more now than these
-abbrev pub IsNoWiderThan : Rights → Option Rights → Option Rights → Type 0
-IsNoWiderThan rights None new = ⊤
-IsNoWiderThan rights (Some old) None = ⊥
-IsNoWiderThan rights (Some old) (Some given) = IsNoWider rights given
+-- where the rights of a draft were known, they are what may be kept of these
+abbrev pub IsGivenRights : Rights → Option Rights → Option Rights → Type 0
+IsGivenRights rights None new = ⊤
+IsGivenRights rights (Some old) None = ⊥
+IsGivenRights rights (Some old) (Some given) = HasKeptRights rights given
 
--- a draft is put in the place of this file, which has these bytes now and lets nobody do more
+-- a draft is put in the place of this file, which has these bytes now, and the rights that it may keep
 abbrev pub PutsOver : List ℕ → List ℕ → List ℕ → Folder → Folder → Type 0
 PutsOver draft place bytes old new =
     HasNew bytes (old place) (new place) × (new draft ≡ Absent)

@@ -68,6 +68,17 @@ kept mode true false = for_other_group mode
 kept mode false true = for_other_owner mode
 kept mode false false = for_other_owner (for_other_group mode)
 
+-- the mode is what may be kept of it, and the owner and the group are the same where it is so
+abbrev pub KeepsRights : Rights → Rights → Type 0
+KeepsRights old new =
+    (has_owner : Bool) × (has_group : Bool)
+    × (has_owner ≡ true → new.owner ≡ old.owner) × (has_group ≡ true → new.group ≡ old.group)
+    × (new.mode ≡ kept old.mode has_owner has_group)
+
+-- so a file keeps its rights as far as the system permits it, and nobody may do more with it
+abbrev pub HasKeptRights : Rights → Rights → Type 0
+HasKeptRights old new = KeepsRights old new × IsNoWider old new
+
 -- ---- modes as numbers
 
 abbrev pub has : ℕ → ℕ → Bool

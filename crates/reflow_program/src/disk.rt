@@ -10,8 +10,8 @@ use std::{fs, io, rt};
 /// What the name of a draft begins with, before its number.
 const DRAFT_PREFIX: &str = ".reflow-draft-";
 
-/// The files of the file system, by their paths. Each method of [`Files`] is a call of the system, or
-/// two, and decides nothing.
+/// The files of the file system, by their paths. Each method of [`Files`] makes a few calls of the
+/// system, and decides at most whether what they found is the file that is meant.
 ///
 /// A link to a file is followed: the file is replaced, and the link stays. Other hard links to a file
 /// keep the old text. A draft stands in the folder of its file, under the name `.reflow-draft-` and its

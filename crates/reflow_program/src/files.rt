@@ -32,8 +32,8 @@ pub struct Opened<N, S> {
     pub stream: S,
 }
 
-/// Files that are read by their names, and replaced by drafts that were written beside them. Each
-/// method is one step of the file system, and does nothing else.
+/// Files that are read by their names, and replaced by drafts that were written beside them. A method
+/// makes one step of the file system at most.
 pub trait Files {
     /// What stood at all names after each step so far, the last first; empty where that is not known.
     ghost past: { Self → List Folder } = { λ _. [] };

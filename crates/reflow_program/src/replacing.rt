@@ -1,7 +1,7 @@
 //! How a file is replaced.
 ghost use Rattle.std.specs.Prelude.{◌≡◌, Some, IfErr, IfOk, OnErr, OnOk};
 ghost use Rattle.reflow_program.specs.Faults.{IsOfDraft, IsOfReading};
-ghost use Rattle.reflow_program.specs.Files.{Drafts, HasRights, IsEmptyDraft, IsNoWiderThan, KeepsFiles};
+ghost use Rattle.reflow_program.specs.Files.{Drafts, HasRights, IsEmptyDraft, IsGivenRights, KeepsFiles};
 ghost use Rattle.reflow_program.specs.Files.{LeadsTo, PutsEmpty, ReplacesPlace, Steps, bytes_at};
 ghost use Rattle.reflow_program.specs.Inputs.{Replaces};
 
@@ -177,7 +177,7 @@ fn give_rights<F: Files>(
     draft: &mut Opened<F::Draft, F::Output>,
     rights: Rights,
 ) -> io::Result<()>
-    ensures given { OnOk result (IsNoWiderThan rights
+    ensures given { OnOk result (IsGivenRights rights
         (F.draft_rights draft.old.node) (F.draft_rights draft.new.node)) }
     ensures name { F.draft_name draft.new.node ≡ F.draft_name draft.old.node }
     ensures contents { F.Output.contents draft.new.stream ≡ F.Output.contents draft.old.stream }

@@ -1,6 +1,6 @@
 //! Lines for display.
 ghost use Rattle.std.specs.Prelude.{◌≡◌, ◌≢◌, ◌<◌, [], None, Some, false, map, string_bytes, IfOk};
-ghost use Rattle.textwrap_balance.specs.Balance.{AreBalanced, IsBalanced};
+ghost use Rattle.textwrap_plain.specs.Balance.{AreBalanced, IsBalanced};
 ghost use Rattle.textwrap_display.specs.Attributes.{attributed_lines};
 ghost use Rattle.textwrap_display.specs.Fitting.{fitting_widths};
 ghost use Rattle.textwrap_display.specs.JustifiedText.{IsJustifiedText};
@@ -20,11 +20,11 @@ ghost use Rattle.textwrap_words.specs.declared.word_separators.WordSeparator.The
 use std::alloc::{AllocError, Global};
 use std::borrow::CowStr;
 use textwrap::{Options, WrapError};
-use textwrap_balance::{balanced_width, wrap_balanced};
 use textwrap_display::{
     Column, Gaps, Need, carry_attributes, carry_styles, expand_tabs, fill_justified,
     fitting_widths, justify, needs_of, shorten, table,
 };
+use textwrap_plain::balancing::{balanced_width, wrap_balanced};
 
 /// As `justify`.
 pub fn justified_line<'t>(

@@ -4,14 +4,13 @@ ghost use Rattle.std.specs.Prelude.{string_bytes, IfOk, min};
 ghost use Rattle.textwrap.specs.Columns.{inner_width, layout_of, layout_view, table_rows};
 ghost use Rattle.textwrap.specs.Columns.{IsInColumns};
 ghost use Rattle.textwrap.specs.Columns.{at_column_width};
+ghost use Rattle.textwrap_layout.specs.Paragraph.{DividesWith, MayPass64BitsWith};
 ghost use Rattle.textwrap_layout.specs.Options as options_of;
 ghost use Rattle.textwrap_layout.specs.Options.{Settings, settings_view, HasParts, MayOverflow};
-ghost use Rattle.textwrap_layout.specs.Paragraph.{line_view, line_bytes, DividesAs, DividesAt};
-ghost use Rattle.textwrap_layout.specs.Paragraph.{DividesUnder, Line};
-ghost use Rattle.textwrap_layout.specs.Direct.{as_algorithm};
-ghost use Rattle.textwrap_layout.specs.Text.{AreTextLines, HasParagraphThat};
+ghost use Rattle.textwrap_layout.specs.Paragraph.{line_view, line_bytes, DividesAs};
+ghost use Rattle.textwrap_layout.specs.Paragraph.{DividesUnder};
+ghost use Rattle.textwrap_layout.specs.Text.{HasParagraphThat};
 ghost use Rattle.textwrap_layout.specs.Text.{SomeMayPass64BitsUnder};
-ghost use Rattle.textwrap_words.specs.Pieces.{as_splitter};
 ghost use Rattle.textwrap_words.specs.WordSplitters.{Splitter};
 ghost use Rattle.textwrap_words.specs.WrapAlgorithms.{Algorithm};
 ghost use Rattle.textwrap_base.specs.Errors.{OnlyMemoryRunsOut};
@@ -21,10 +20,8 @@ use crate::words::display_width;
 use crate::wrap_algorithms::WrapError;
 use std::alloc::{AllocError, Allocator};
 use std::borrow::CowStr;
-use textwrap_layout::any_options::AnyOptions;
-use textwrap_layout::built_in::BuiltInOptions;
 use textwrap_layout::layout::Layout;
-use textwrap_layout::printable_cuts::PrintableCuts;
+use textwrap_layout::parts::Parts;
 use textwrap_lines::Options;
 use textwrap_lines::inner::wrap_by;
 
@@ -114,64 +111,42 @@ pub fn wrap_columns<A: Allocator + Copy>(
         (settings_view options.entry) columns left_gap.now middle_gap.now right_gap.now) text.now
         → OnlyMemoryRunsOut result }
 {
-    let table = Table::new(columns, options.width, left_gap, middle_gap, right_gap);
-    wrap_in_table(alloc, text, &table, &options.width(table.column_width))
+    let layout = Layout::of(&options);
+    wrap_columns_by(
+        alloc, text, columns, layout, &options, left_gap, middle_gap, right_gap,
+    )
 }
 
-/// The same by options that hold no function.
+/// The same by this layout and any parts.
 ///
 /// # Errors
-/// [`WrapError::Memory`] where memory runs out.
-pub fn wrap_columns_built_in<A: Allocator + Copy, W: PrintableCuts + Copy>(
+/// Those of [`wrap_columns`].
+pub fn wrap_columns_by<A: Allocator + Copy, P: Parts<A>>(
     alloc: A,
     text: &str,
     columns: usize,
-    options: &BuiltInOptions<'_, W>,
+    layout: Layout<'_>,
+    parts: &P,
     left_gap: &str,
     middle_gap: &str,
     right_gap: &str,
 ) -> Result<Vec<String<A>, A>, WrapError>
     requires { 1 ≤ columns }
-    ensures rows { IfOk result (λ rows. IsInColumns (options_of.layout_view options.now.layout)
-        (DividesAt (W.words options.now.words) (as_splitter options.now.parts.splitter)
-        (as_algorithm options.now.parts.algorithm)) columns text.now left_gap.now middle_gap.now
-        right_gap.now (map string_bytes rows.items)) }
-    ensures only_memory { OnlyMemoryRunsOut result }
+    ensures rows { IfOk result (λ rows. IsInColumns (options_of.layout_view layout.entry)
+        (DividesWith (P.may parts.now)) columns text.now left_gap.now middle_gap.now right_gap.now
+        (map string_bytes rows.items)) }
+    ensures only_memory { ¬ P.may_overflow parts.now → OnlyMemoryRunsOut result }
+    ensures no_overflow { ¬ HasParagraphThat (MayPass64BitsWith (P.may parts.now) (at_column_width
+        (options_of.layout_view layout.entry) columns left_gap.now middle_gap.now right_gap.now))
+        (options_of.layout_view layout.entry).line_ending text.now → OnlyMemoryRunsOut result }
 {
-    let table = Table::new(
-        columns,
-        options.layout.width,
-        left_gap,
-        middle_gap,
-        right_gap,
-    );
-    let layout = Layout {
+    let table = Table::new(columns, layout.width, left_gap, middle_gap, right_gap);
+    let narrow = Layout {
         width: table.column_width,
-        ..options.layout
+        ..layout
     };
-    wrap_in_table(alloc, text, &table, &BuiltInOptions { layout, ..*options })
-}
-
-/// Wraps a text, and returns the rows of a table of its lines.
-///
-/// # Errors
-/// Those of `wrap`.
-fn wrap_in_table<A: Allocator + Copy, O: AnyOptions<A>>(
-    alloc: A,
-    text: &str,
-    table: &Table<'_>,
-    options: &O,
-) -> Result<Vec<String<A>, A>, WrapError>
-    requires { 1 ≤ table.now.columns }
-    ensures rows { IfOk result (λ rows. (lines : List Line) × AreTextLines (O.settings options.now)
-        (O.divides options.now) text.now lines × (map string_bytes rows.items
-        ≡ table_rows (layout_view table.now) (map line_bytes lines))) }
-    ensures only_memory { ¬ O.may_overflow options.now → OnlyMemoryRunsOut result }
-    ensures no_overflow { ¬ HasParagraphThat (O.may_pass options.now)
-        (O.settings options.now).line_ending text.now → OnlyMemoryRunsOut result }
-{
-    let lines = wrap_by(alloc, text, options)?;
-    Ok(table_rows(alloc, &lines, table)?)
+    let lines = wrap_by(alloc, text, narrow, parts)?;
+    Ok(table_rows(alloc, &lines, &table)?)
 }
 
 /// The columns that the gaps leave of a row.

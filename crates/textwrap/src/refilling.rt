@@ -6,13 +6,12 @@ ghost use Rattle.std.specs.Io.{StartsWith};
 ghost use Rattle.std.specs.Str.{IsAscii};
 ghost use Rattle.textwrap_base.specs.Penalties.{default_penalties};
 ghost use Rattle.textwrap_words.specs.declared.wrap_algorithms.WrapAlgorithm.TheVariants.{OptimalFit};
+ghost use Rattle.textwrap_layout.specs.Paragraph.{DividesWith, MayPass64BitsWith};
 ghost use Rattle.textwrap_layout.specs.Options.{Settings, settings_at, settings_view, HasParts};
 ghost use Rattle.textwrap_layout.specs.Options.{MayOverflow, layout_view};
-ghost use Rattle.textwrap_layout.specs.Direct.{as_algorithm};
 ghost use Rattle.textwrap_layout.specs.Filling.{IsFilled};
-ghost use Rattle.textwrap_layout.specs.Paragraph.{DividesAs, DividesAt, DividesUnder};
+ghost use Rattle.textwrap_layout.specs.Paragraph.{DividesAs, DividesUnder};
 ghost use Rattle.textwrap_layout.specs.Text.{HasParagraphThat, SomeMayPass64BitsUnder};
-ghost use Rattle.textwrap_words.specs.Pieces.{as_splitter};
 ghost use Rattle.textwrap_words.specs.WordSplitters.{Splitter};
 ghost use Rattle.textwrap_words.specs.WrapAlgorithms.{Algorithm};
 ghost use Rattle.textwrap.specs.Refilling.{is_prefix_character, line_prefix, common_start};
@@ -32,11 +31,9 @@ use crate::words::display_width;
 use crate::wrap_algorithms::WrapError;
 use lines::NonEmptyLines;
 use std::alloc::{AllocError, Allocator};
-use textwrap_layout::any_options::AnyOptions;
-use textwrap_layout::built_in::BuiltInOptions;
 use textwrap_layout::layout::Layout;
 use textwrap_layout::options::DEFAULTS;
-use textwrap_layout::printable_cuts::PrintableCuts;
+use textwrap_layout::parts::Parts;
 use textwrap_lines::inner::fill_by;
 use textwrap_lines::{LineEnding, Options};
 use textwrap_text::lent_text::LentText;
@@ -146,63 +143,59 @@ pub fn refill<A: Allocator + Copy>(
         (with_indents_of filled_text.now (settings_view options.entry)) (joined_text filled_text.now)
         → OnlyMemoryRunsOut result }
 {
-    let (unfilled, layout, keeps_ending) = join_lines(alloc, filled_text)?;
-    let options = Options {
-        initial_indent: layout.initial_indent,
-        subsequent_indent: layout.subsequent_indent,
-        ..options
-    };
-    fill_joined(alloc, &unfilled, keeps_ending, &options)
+    refill_by(alloc, filled_text, Layout::of(&options), &options)
 }
 
-/// The same by options that hold no function.
+/// The same by this layout and any parts.
 ///
 /// # Errors
-/// [`WrapError::Memory`] where memory runs out.
-pub fn refill_built_in<A: Allocator + Copy, W: PrintableCuts + Copy>(
+/// Those of `wrap`.
+pub fn refill_by<A: Allocator + Copy, P: Parts<A>>(
     alloc: A,
     filled_text: &str,
-    options: &BuiltInOptions<'_, W>,
+    layout: Layout<'_>,
+    parts: &P,
 ) -> Result<String<A>, WrapError>
-    ensures refilled { IfOk result (λ refilled. IsRefilled (layout_view options.now.layout)
-        (DividesAt (W.words options.now.words) (as_splitter options.now.parts.splitter)
-        (as_algorithm options.now.parts.algorithm)) filled_text.now (string_bytes refilled)) }
-    ensures only_memory { OnlyMemoryRunsOut result }
+    ensures refilled { IfOk result (λ refilled. IsRefilled (layout_view layout.entry)
+        (DividesWith (P.may parts.now)) filled_text.now (string_bytes refilled)) }
+    ensures only_memory { ¬ P.may_overflow parts.now → OnlyMemoryRunsOut result }
+    ensures no_overflow { ¬ HasParagraphThat (MayPass64BitsWith (P.may parts.now)
+        (with_indents_of filled_text.now (layout_view layout.entry)))
+        (layout_view layout.entry).line_ending (joined_text filled_text.now)
+        → OnlyMemoryRunsOut result }
 {
-    let (unfilled, layout, keeps_ending) = join_lines(alloc, filled_text)?;
+    let (unfilled, found, keeps_ending) = join_lines(alloc, filled_text)?;
     let layout = Layout {
-        initial_indent: layout.initial_indent,
-        subsequent_indent: layout.subsequent_indent,
-        ..options.layout
+        initial_indent: found.initial_indent,
+        subsequent_indent: found.subsequent_indent,
+        ..layout
     };
-    let options = BuiltInOptions {
-        layout,
-        parts: options.parts,
-        words: options.words,
-    };
-    fill_joined(alloc, &unfilled, keeps_ending, &options)
+    fill_joined(alloc, &unfilled, keeps_ending, layout, parts)
 }
 
 /// Fills the joined lines of a text, and adds the line ending, if the text ends in its own.
 ///
 /// # Errors
 /// Those of `wrap`.
-fn fill_joined<A: Allocator + Copy, O: AnyOptions<A>>(
+fn fill_joined<A: Allocator + Copy, P: Parts<A>>(
     alloc: A,
     joined: &str,
     keeps_ending: bool,
-    options: &O,
+    layout: Layout<'_>,
+    parts: &P,
 ) -> Result<String<A>, WrapError>
-    ensures filled { IfOk result (λ refilled. (filled : List ℕ) × IsFilled (O.settings options.now)
-        (O.divides options.now) joined.now filled × (string_bytes refilled
-        ≡ filled ++ added_ending keeps_ending (O.settings options.now).line_ending)) }
-    ensures only_memory { ¬ O.may_overflow options.now → OnlyMemoryRunsOut result }
-    ensures no_overflow { ¬ HasParagraphThat (O.may_pass options.now)
-        (O.settings options.now).line_ending joined.now → OnlyMemoryRunsOut result }
+    ensures filled { IfOk result (λ refilled. (filled : List ℕ) × IsFilled (layout_view layout.entry)
+        (DividesWith (P.may parts.now) (layout_view layout.entry)) joined.now filled
+        × (string_bytes refilled
+        ≡ filled ++ added_ending keeps_ending (layout_view layout.entry).line_ending)) }
+    ensures only_memory { ¬ P.may_overflow parts.now → OnlyMemoryRunsOut result }
+    ensures no_overflow { ¬ HasParagraphThat (MayPass64BitsWith (P.may parts.now)
+        (layout_view layout.entry)) (layout_view layout.entry).line_ending joined.now
+        → OnlyMemoryRunsOut result }
 {
-    let mut filled = fill_by(alloc, joined, options)?;
+    let mut filled = fill_by(alloc, joined, layout, parts)?;
     if keeps_ending {
-        filled.push_str(options.layout().line_ending.as_str())?;
+        filled.push_str(layout.line_ending.as_str())?;
     }
     Ok(filled)
 }

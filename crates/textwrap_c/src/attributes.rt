@@ -12,9 +12,9 @@ use std::alloc::Global;
 use textwrap_calls::options::TextwrapOptions;
 use textwrap_calls::texts::TextwrapText;
 use textwrap_calls::wrapping::TextwrapLine;
-use textwrap_display_calls::attributes;
+use textwrap_more_calls::attributes;
 
-/// Exports [`textwrap_display_calls::attributes::textwrap_carry_attributes`].
+/// Exports [`textwrap_more_calls::attributes::textwrap_carry_attributes`].
 #[unsafe(no_mangle)]
 pub extern "C" fn textwrap_carry_attributes(
     alloc: Global,

@@ -5,14 +5,14 @@ ghost use Rattle.textwrap_calls.specs.Options.{TellsUnknown, TellsNotUtf8};
 ghost use Rattle.textwrap_calls.specs.Status.{done, not_utf8, out_of_memory, too_small};
 ghost use Rattle.textwrap_calls.specs.Status.{unknown_options};
 ghost use Rattle.textwrap_calls.specs.Wrapping.{WritesLongLines};
-ghost use Rattle.textwrap_display_calls.specs.Balancing.{AreBalancedBy, AreByFirstFit, IsBalancedBy};
+ghost use Rattle.textwrap_more_calls.specs.Balancing.{AreBalancedBy, AreByFirstFit, IsBalancedBy};
 
 use std::alloc::Global;
 use textwrap_calls::options::TextwrapOptions;
 use textwrap_calls::wrapping::TextwrapLine;
-use textwrap_display_calls::balancing;
+use textwrap_more_calls::balancing;
 
-/// Exports [`textwrap_display_calls::balancing::textwrap_wrap_balanced`].
+/// Exports [`textwrap_more_calls::balancing::textwrap_wrap_balanced`].
 #[unsafe(no_mangle)]
 pub extern "C" fn textwrap_wrap_balanced(
     alloc: Global,
@@ -35,7 +35,7 @@ pub extern "C" fn textwrap_wrap_balanced(
     balancing::textwrap_wrap_balanced(alloc, text, options, lines, count, room, len)
 }
 
-/// Exports [`textwrap_display_calls::balancing::textwrap_balanced_width`].
+/// Exports [`textwrap_more_calls::balancing::textwrap_balanced_width`].
 #[unsafe(no_mangle)]
 pub extern "C" fn textwrap_balanced_width(
     alloc: Global,

@@ -1,16 +1,16 @@
 //! Unicode line breaks.
 ghost use Rattle.std.specs.Prelude.{◌≡◌, ◌<◌, ◌≤◌, ◌↔◌, ◌⊎◌, IsUtf8};
-ghost use Rattle.textwrap_step_calls.specs.Breaks.{break_places};
+ghost use Rattle.textwrap_more_calls.specs.Breaks.{break_places};
 ghost use Rattle.textwrap_calls.specs.Options.{numbers_of};
 ghost use Rattle.textwrap_calls.specs.Room.{WritesText};
 ghost use Rattle.textwrap_calls.specs.Status.{not_utf8, too_small, unknown_options};
 ghost use Rattle.textwrap_unicode.specs.Cuts.{unicode_cuts};
 
 use std::alloc::Global;
-use textwrap_step_calls::breaks;
-use textwrap_step_calls::breaks::TextwrapLineBreak;
+use textwrap_more_calls::breaks;
+use textwrap_more_calls::breaks::TextwrapLineBreak;
 
-/// Exports [`textwrap_step_calls::breaks::textwrap_line_breaks`].
+/// Exports [`textwrap_more_calls::breaks::textwrap_line_breaks`].
 #[unsafe(no_mangle)]
 pub extern "C" fn textwrap_line_breaks(
     alloc: Global,
@@ -30,7 +30,7 @@ pub extern "C" fn textwrap_line_breaks(
     breaks::textwrap_line_breaks(alloc, text, unicode_breaks, breaks, count)
 }
 
-/// Exports [`textwrap_step_calls::breaks::textwrap_unicode_cuts`].
+/// Exports [`textwrap_more_calls::breaks::textwrap_unicode_cuts`].
 #[unsafe(no_mangle)]
 pub extern "C" fn textwrap_unicode_cuts(
     alloc: Global,

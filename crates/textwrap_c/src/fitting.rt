@@ -8,9 +8,9 @@ ghost use Rattle.textwrap_display.specs.Needs.{needs_of};
 
 use std::alloc::Global;
 use textwrap_calls::texts::TextwrapText;
-use textwrap_display_calls::fitting;
+use textwrap_more_calls::fitting;
 
-/// Exports [`textwrap_display_calls::fitting::textwrap_fitting_widths`].
+/// Exports [`textwrap_more_calls::fitting::textwrap_fitting_widths`].
 #[unsafe(no_mangle)]
 pub extern "C" fn textwrap_fitting_widths(
     alloc: Global,

@@ -5,17 +5,17 @@ ghost use Rattle.textwrap_base.specs.Division.{IsGreedy};
 ghost use Rattle.textwrap_base.specs.Errors.{Fits64Bits, Passes128Bits};
 ghost use Rattle.textwrap_base.specs.OptimalFit.{IsByOptimalFit};
 ghost use Rattle.textwrap_base.specs.Table.{TableOverflows};
-ghost use Rattle.textwrap_step_calls.specs.Fragments.{sizes_of, problem_of, AreEndsOf};
-ghost use Rattle.textwrap_step_calls.specs.Fragments.{AreKnownPenalties};
+ghost use Rattle.textwrap_more_calls.specs.Fragments.{sizes_of, problem_of, AreEndsOf};
+ghost use Rattle.textwrap_more_calls.specs.Fragments.{AreKnownPenalties};
 ghost use Rattle.textwrap_calls.specs.Room.{WritesText};
 ghost use Rattle.textwrap_calls.specs.Status.{done, out_of_memory, too_small, unknown_options};
 ghost use Rattle.textwrap_calls.specs.Status.{overflow};
 
 use std::alloc::Global;
-use textwrap_step_calls::fragments;
-use textwrap_step_calls::fragments::{TextwrapFragment, TextwrapPenalties};
+use textwrap_more_calls::fragments;
+use textwrap_more_calls::fragments::{TextwrapFragment, TextwrapPenalties};
 
-/// Exports [`textwrap_step_calls::fragments::textwrap_wrap_first_fit`].
+/// Exports [`textwrap_more_calls::fragments::textwrap_wrap_first_fit`].
 #[unsafe(no_mangle)]
 pub extern "C" fn textwrap_wrap_first_fit(
     alloc: Global,
@@ -31,7 +31,7 @@ pub extern "C" fn textwrap_wrap_first_fit(
     fragments::textwrap_wrap_first_fit(alloc, fragments, line_widths, ends, count)
 }
 
-/// Exports [`textwrap_step_calls::fragments::textwrap_wrap_optimal_fit`].
+/// Exports [`textwrap_more_calls::fragments::textwrap_wrap_optimal_fit`].
 #[unsafe(no_mangle)]
 pub extern "C" fn textwrap_wrap_optimal_fit(
     alloc: Global,

@@ -5,14 +5,14 @@ ghost use Rattle.textwrap_calls.specs.Options.{AreTexts};
 ghost use Rattle.textwrap_calls.specs.Room.{WritesText};
 ghost use Rattle.textwrap_calls.specs.Status.{done, not_utf8, too_small, unknown_options};
 ghost use Rattle.textwrap_calls.specs.Wrapping.{WritesLines};
-ghost use Rattle.textwrap_hyphen_calls.specs.Dictionaries.{AreNumbersOf, hyphenation_of, IsDamaged};
-ghost use Rattle.textwrap_hyphen_calls.specs.Dictionaries.{IsKnownDictionary, IsWrongAt};
-ghost use Rattle.textwrap_hyphen_calls.specs.Hyphenated.{AreKnownHere, AreKnownInColumns};
-ghost use Rattle.textwrap_hyphen_calls.specs.Hyphenated.{ArePlacedByDictionary, AreTextsInColumns};
-ghost use Rattle.textwrap_hyphen_calls.specs.Hyphenated.{IsFilledByDictionary};
-ghost use Rattle.textwrap_hyphen_calls.specs.Hyphenated.{IsInColumnsByDictionary};
-ghost use Rattle.textwrap_hyphen_calls.specs.Hyphenated.{IsRefilledByDictionary};
-ghost use Rattle.textwrap_hyphen_calls.specs.Status.{damaged_table, wrong_patterns};
+ghost use Rattle.textwrap_more_calls.specs.Dictionaries.{AreNumbersOf, hyphenation_of, IsDamaged};
+ghost use Rattle.textwrap_more_calls.specs.Dictionaries.{IsKnownDictionary, IsWrongAt};
+ghost use Rattle.textwrap_more_calls.specs.Hyphenated.{AreKnownHere, AreKnownInColumns};
+ghost use Rattle.textwrap_more_calls.specs.Hyphenated.{ArePlacedByDictionary, AreTextsInColumns};
+ghost use Rattle.textwrap_more_calls.specs.Hyphenated.{IsFilledByDictionary};
+ghost use Rattle.textwrap_more_calls.specs.Hyphenated.{IsInColumnsByDictionary};
+ghost use Rattle.textwrap_more_calls.specs.Hyphenated.{IsRefilledByDictionary};
+ghost use Rattle.textwrap_more_calls.specs.Status.{damaged_table, wrong_patterns};
 ghost use Rattle.textwrap_hyphens.specs.Points.{points_of};
 ghost use Rattle.textwrap_hyphens.specs.Seal.{is_sealed};
 
@@ -20,10 +20,10 @@ use std::alloc::Global;
 use textwrap_calls::columns::TextwrapGaps;
 use textwrap_calls::options::TextwrapOptions;
 use textwrap_calls::wrapping::TextwrapLine;
-use textwrap_hyphen_calls::dictionary::TextwrapDictionary;
-use textwrap_hyphen_calls::{columns, filling, points, reading, refilling, wrapping};
+use textwrap_more_calls::hyphens::dictionary::TextwrapDictionary;
+use textwrap_more_calls::hyphens::{columns, filling, points, reading, refilling, wrapping};
 
-/// Exports [`textwrap_hyphen_calls::reading::textwrap_patterns_read`].
+/// Exports [`textwrap_more_calls::hyphens::reading::textwrap_patterns_read`].
 #[unsafe(no_mangle)]
 pub extern "C" fn textwrap_patterns_read(
     alloc: Global,
@@ -41,7 +41,7 @@ pub extern "C" fn textwrap_patterns_read(
     reading::textwrap_patterns_read(alloc, text, room, len, line)
 }
 
-/// Exports [`textwrap_hyphen_calls::reading::textwrap_patterns_check`].
+/// Exports [`textwrap_more_calls::hyphens::reading::textwrap_patterns_check`].
 #[unsafe(no_mangle)]
 pub extern "C" fn textwrap_patterns_check(numbers: &[usize]) -> u32
     ensures done { result ≡ done ↔ is_sealed numbers.now ≡ true }
@@ -51,7 +51,7 @@ pub extern "C" fn textwrap_patterns_check(numbers: &[usize]) -> u32
     reading::textwrap_patterns_check(numbers)
 }
 
-/// Exports [`textwrap_hyphen_calls::points::textwrap_hyphen_points`].
+/// Exports [`textwrap_more_calls::hyphens::points::textwrap_hyphen_points`].
 #[unsafe(no_mangle)]
 pub extern "C" fn textwrap_hyphen_points(
     alloc: Global,
@@ -71,7 +71,7 @@ pub extern "C" fn textwrap_hyphen_points(
     points::textwrap_hyphen_points(alloc, dictionary, word, points, count)
 }
 
-/// Exports [`textwrap_hyphen_calls::filling::textwrap_fill_hyphenated`].
+/// Exports [`textwrap_more_calls::hyphens::filling::textwrap_fill_hyphenated`].
 #[unsafe(no_mangle)]
 pub extern "C" fn textwrap_fill_hyphenated(
     alloc: Global,
@@ -93,7 +93,7 @@ pub extern "C" fn textwrap_fill_hyphenated(
     filling::textwrap_fill_hyphenated(alloc, text, options, dictionary, room, len)
 }
 
-/// Exports [`textwrap_hyphen_calls::refilling::textwrap_refill_hyphenated`].
+/// Exports [`textwrap_more_calls::hyphens::refilling::textwrap_refill_hyphenated`].
 #[unsafe(no_mangle)]
 pub extern "C" fn textwrap_refill_hyphenated(
     alloc: Global,
@@ -115,7 +115,7 @@ pub extern "C" fn textwrap_refill_hyphenated(
     refilling::textwrap_refill_hyphenated(alloc, text, options, dictionary, room, len)
 }
 
-/// Exports [`textwrap_hyphen_calls::wrapping::textwrap_wrap_hyphenated`].
+/// Exports [`textwrap_more_calls::hyphens::wrapping::textwrap_wrap_hyphenated`].
 #[unsafe(no_mangle)]
 pub extern "C" fn textwrap_wrap_hyphenated(
     alloc: Global,
@@ -139,7 +139,7 @@ pub extern "C" fn textwrap_wrap_hyphenated(
     wrapping::textwrap_wrap_hyphenated(alloc, text, options, dictionary, lines, count, room, len)
 }
 
-/// Exports [`textwrap_hyphen_calls::columns::textwrap_wrap_columns_hyphenated`].
+/// Exports [`textwrap_more_calls::hyphens::columns::textwrap_wrap_columns_hyphenated`].
 #[unsafe(no_mangle)]
 pub extern "C" fn textwrap_wrap_columns_hyphenated(
     alloc: Global,

@@ -1,8 +1,7 @@
 //! `textwrap` for callers in C, and in all languages that call C.
 //!
-//! Each export passes its arguments on to the function of its name in `textwrap_calls`,
-//! `textwrap_step_calls`, `textwrap_display_calls` or `textwrap_hyphen_calls`, where it is described, and
-//! makes the same promises.
+//! Each export passes its arguments on to the function of its name in `textwrap_calls` or
+//! `textwrap_more_calls`, where it is described, and makes the same promises.
 //! Only a static library has exports, and none stands on one; so the calls stand in libraries, on which
 //! tests may stand too.
 #![tactic(auto)]

@@ -2,17 +2,17 @@
 ghost use Rattle.std.specs.Prelude.{◌≡◌, ◌≢◌, ◌≤◌, ◌<◌, ◌↔◌, ◌⊎◌, IsUtf8, length};
 ghost use Rattle.textwrap_calls.specs.Options.{settings_of, AreKnown, AreTexts, says_yes};
 ghost use Rattle.textwrap_calls.specs.Options.{TellsUnknown, TellsNotUtf8};
-ghost use Rattle.textwrap_step_calls.specs.Paragraphs.{paragraph_places, widths_view};
+ghost use Rattle.textwrap_more_calls.specs.Paragraphs.{paragraph_places, widths_view};
 ghost use Rattle.textwrap_calls.specs.Room.{WritesText};
 ghost use Rattle.textwrap_calls.specs.Status.{done, not_utf8, unknown_options};
 ghost use Rattle.textwrap_text.specs.LineEnding.{ending_bytes, paragraphs_of};
 
 use std::alloc::Global;
 use textwrap_calls::options::TextwrapOptions;
-use textwrap_step_calls::paragraphs;
-use textwrap_step_calls::paragraphs::{TextwrapParagraph, TextwrapWidths};
+use textwrap_more_calls::paragraphs;
+use textwrap_more_calls::paragraphs::{TextwrapParagraph, TextwrapWidths};
 
-/// Exports [`textwrap_step_calls::paragraphs::textwrap_paragraphs`].
+/// Exports [`textwrap_more_calls::paragraphs::textwrap_paragraphs`].
 #[unsafe(no_mangle)]
 pub extern "C" fn textwrap_paragraphs(
     alloc: Global,
@@ -32,7 +32,7 @@ pub extern "C" fn textwrap_paragraphs(
     paragraphs::textwrap_paragraphs(alloc, text, options, paragraphs, count)
 }
 
-/// Exports [`textwrap_step_calls::paragraphs::textwrap_paragraph_widths`].
+/// Exports [`textwrap_more_calls::paragraphs::textwrap_paragraph_widths`].
 #[unsafe(no_mangle)]
 pub extern "C" fn textwrap_paragraph_widths(
     paragraph: &[u8],

@@ -3,7 +3,7 @@ ghost use Rattle.std.specs.Prelude.{◌≡◌, ◌⊎◌, ◌↔◌, ◌≤◌, 
 ghost use Rattle.std.specs.Prelude.{IsUtf8};
 ghost use Rattle.textwrap_calls.specs.Options.{separator_of, settings_of, splitter_of};
 ghost use Rattle.textwrap_calls.specs.Options.{TellsUnknown, TellsNotUtf8};
-ghost use Rattle.textwrap_step_calls.specs.Pieces.{AreOffsets, piece_places};
+ghost use Rattle.textwrap_more_calls.specs.Pieces.{AreOffsets, piece_places};
 ghost use Rattle.textwrap_calls.specs.Room.{WritesText};
 ghost use Rattle.textwrap_calls.specs.Status.{done, not_utf8, too_small, unknown_options};
 ghost use Rattle.textwrap_calls.specs.Status.{wrong_places};
@@ -17,10 +17,10 @@ ghost use Rattle.textwrap_words.specs.Words.{piece};
 
 use std::alloc::Global;
 use textwrap_calls::options::TextwrapOptions;
-use textwrap_step_calls::pieces;
-use textwrap_step_calls::pieces::TextwrapPiece;
+use textwrap_more_calls::pieces;
+use textwrap_more_calls::pieces::TextwrapPiece;
 
-/// Exports [`textwrap_step_calls::pieces::textwrap_pieces`].
+/// Exports [`textwrap_more_calls::pieces::textwrap_pieces`].
 #[unsafe(no_mangle)]
 pub extern "C" fn textwrap_pieces(
     alloc: Global,
@@ -39,7 +39,7 @@ pub extern "C" fn textwrap_pieces(
     pieces::textwrap_pieces(alloc, paragraph, options, pieces, count)
 }
 
-/// Exports [`textwrap_step_calls::pieces::textwrap_find_words_at`].
+/// Exports [`textwrap_more_calls::pieces::textwrap_find_words_at`].
 #[unsafe(no_mangle)]
 pub extern "C" fn textwrap_find_words_at(
     alloc: Global,
@@ -60,7 +60,7 @@ pub extern "C" fn textwrap_find_words_at(
     pieces::textwrap_find_words_at(alloc, line, offsets, words, count)
 }
 
-/// Exports [`textwrap_step_calls::pieces::textwrap_split_points`].
+/// Exports [`textwrap_more_calls::pieces::textwrap_split_points`].
 #[unsafe(no_mangle)]
 pub extern "C" fn textwrap_split_points(
     alloc: Global,
@@ -76,7 +76,7 @@ pub extern "C" fn textwrap_split_points(
     pieces::textwrap_split_points(alloc, word, points, count)
 }
 
-/// Exports [`textwrap_step_calls::pieces::textwrap_break_apart`].
+/// Exports [`textwrap_more_calls::pieces::textwrap_break_apart`].
 #[unsafe(no_mangle)]
 pub extern "C" fn textwrap_break_apart(
     alloc: Global,

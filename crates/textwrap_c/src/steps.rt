@@ -6,23 +6,23 @@ ghost use Rattle.textwrap_base.specs.Cost.{total_width};
 ghost use Rattle.textwrap_base.specs.Errors.{Fits64Bits};
 ghost use Rattle.textwrap_words.specs.Words.{sizes_of};
 ghost use Rattle.textwrap_words.specs.WrapAlgorithms.{IsDividedBy, OverflowsBy};
-ghost use Rattle.textwrap_step_calls.specs.Fragments.{AreEndsOf};
+ghost use Rattle.textwrap_more_calls.specs.Fragments.{AreEndsOf};
 ghost use Rattle.textwrap_calls.specs.Options.{algorithm_of, settings_of, says_yes};
 ghost use Rattle.textwrap_calls.specs.Options.{AreKnown, AreTexts, TellsUnknown, TellsNotUtf8};
-ghost use Rattle.textwrap_step_calls.specs.Pieces.{piece_places};
+ghost use Rattle.textwrap_more_calls.specs.Pieces.{piece_places};
 ghost use Rattle.textwrap_calls.specs.Room.{WritesText};
 ghost use Rattle.textwrap_calls.specs.Status.{done, not_utf8, out_of_memory, overflow, too_small};
 ghost use Rattle.textwrap_calls.specs.Status.{unknown_options, wrong_places};
-ghost use Rattle.textwrap_step_calls.specs.Steps.{AreSteps, AreLineSteps, ArePlacedCuts, step_cuts};
+ghost use Rattle.textwrap_more_calls.specs.Steps.{AreSteps, AreLineSteps, ArePlacedCuts, step_cuts};
 ghost use Rattle.textwrap_calls.specs.Wrapping.{WritesLines};
 
 use std::alloc::Global;
 use textwrap_calls::options::TextwrapOptions;
 use textwrap_calls::wrapping::TextwrapLine;
-use textwrap_step_calls::pieces::TextwrapPiece;
-use textwrap_step_calls::steps;
+use textwrap_more_calls::pieces::TextwrapPiece;
+use textwrap_more_calls::steps;
 
-/// Exports [`textwrap_step_calls::steps::textwrap_pieces_at`].
+/// Exports [`textwrap_more_calls::steps::textwrap_pieces_at`].
 #[unsafe(no_mangle)]
 pub extern "C" fn textwrap_pieces_at(
     alloc: Global,
@@ -46,7 +46,7 @@ pub extern "C" fn textwrap_pieces_at(
     steps::textwrap_pieces_at(alloc, paragraph, cuts, points, options, pieces, count)
 }
 
-/// Exports [`textwrap_step_calls::steps::textwrap_ends_at`].
+/// Exports [`textwrap_more_calls::steps::textwrap_ends_at`].
 #[unsafe(no_mangle)]
 pub extern "C" fn textwrap_ends_at(
     alloc: Global,
@@ -86,7 +86,7 @@ pub extern "C" fn textwrap_ends_at(
     )
 }
 
-/// Exports [`textwrap_step_calls::steps::textwrap_lines_at`].
+/// Exports [`textwrap_more_calls::steps::textwrap_lines_at`].
 #[unsafe(no_mangle)]
 pub extern "C" fn textwrap_lines_at(
     alloc: Global,

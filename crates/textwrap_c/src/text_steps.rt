@@ -1,22 +1,22 @@
 //! A whole text in steps: each of its paragraphs comes with what a caller found of it.
 ghost use Rattle.std.specs.Prelude.{◌≡◌, ◌≢◌, ◌≤◌, ◌⊎◌, IsUtf8};
-ghost use Rattle.textwrap_step_calls.specs.JustifiedSteps.{justified_at};
+ghost use Rattle.textwrap_more_calls.specs.JustifiedSteps.{justified_at};
 ghost use Rattle.textwrap_calls.specs.Options.{settings_of, AreKnown, AreTexts, TellsUnknown};
 ghost use Rattle.textwrap_calls.specs.Options.{TellsNotUtf8};
 ghost use Rattle.textwrap_calls.specs.Room.{WritesText};
 ghost use Rattle.textwrap_calls.specs.Status.{out_of_memory, unknown_options};
 ghost use Rattle.textwrap_calls.specs.Status.{wrong_places};
-ghost use Rattle.textwrap_step_calls.specs.Steps.{ArePlacedCuts};
-ghost use Rattle.textwrap_step_calls.specs.TextSteps.{filled_at, text_step_cuts, AreStepsOf};
+ghost use Rattle.textwrap_more_calls.specs.Steps.{ArePlacedCuts};
+ghost use Rattle.textwrap_more_calls.specs.TextSteps.{filled_at, text_step_cuts, AreStepsOf};
 ghost use Rattle.textwrap_calls.specs.Wrapping.{WritesLines};
 
 use std::alloc::Global;
 use textwrap_calls::options::TextwrapOptions;
 use textwrap_calls::wrapping::TextwrapLine;
-use textwrap_step_calls::steps::TextwrapSteps;
-use textwrap_step_calls::{justified_steps, text_steps};
+use textwrap_more_calls::steps::TextwrapSteps;
+use textwrap_more_calls::{justified_steps, text_steps};
 
-/// Exports [`textwrap_step_calls::text_steps::textwrap_wrap_at`].
+/// Exports [`textwrap_more_calls::text_steps::textwrap_wrap_at`].
 #[unsafe(no_mangle)]
 pub extern "C" fn textwrap_wrap_at(
     alloc: Global,
@@ -45,7 +45,7 @@ pub extern "C" fn textwrap_wrap_at(
     text_steps::textwrap_wrap_at(alloc, text, steps, options, lines, count, room, len)
 }
 
-/// Exports [`textwrap_step_calls::text_steps::textwrap_fill_at`].
+/// Exports [`textwrap_more_calls::text_steps::textwrap_fill_at`].
 #[unsafe(no_mangle)]
 pub extern "C" fn textwrap_fill_at(
     alloc: Global,
@@ -71,7 +71,7 @@ pub extern "C" fn textwrap_fill_at(
     text_steps::textwrap_fill_at(alloc, text, steps, options, room, len)
 }
 
-/// Exports [`textwrap_step_calls::justified_steps::textwrap_fill_justified_at`].
+/// Exports [`textwrap_more_calls::justified_steps::textwrap_fill_justified_at`].
 #[unsafe(no_mangle)]
 pub extern "C" fn textwrap_fill_justified_at(
     alloc: Global,

@@ -6,7 +6,8 @@ ghost use Rattle.textwrap_display.specs.JustifiedText.{justified_after, justifie
 ghost use Rattle.textwrap_text.specs.LineEnding.{ending_bytes};
 ghost use Rattle.textwrap_layout.specs.Options.{Settings, layout_view, settings_view, HasParts};
 ghost use Rattle.textwrap_layout.specs.Options.{MayOverflow};
-ghost use Rattle.textwrap_layout.specs.Paragraph.{line_view, DividesAs, DividesBy};
+ghost use Rattle.textwrap_layout.specs.Paragraph.{line_view, DividesAs, DividesBy, DividesWith};
+ghost use Rattle.textwrap_layout.specs.Paragraph.{MayPass64BitsWith};
 ghost use Rattle.textwrap_layout.specs.Text.{HasParagraphThat, SomeMayPass64Bits};
 ghost use Rattle.textwrap_words.specs.WordSplitters.{Splitter};
 ghost use Rattle.textwrap_words.specs.WrapAlgorithms.{Algorithm};
@@ -17,8 +18,8 @@ use std::alloc::{AllocError, Allocator};
 use std::borrow::CowStr;
 use textwrap::words::display_width;
 use textwrap::{LineEnding, Options, WrapError};
-use textwrap_layout::any_options::AnyOptions;
 use textwrap_layout::layout::{Layout, next_indent};
+use textwrap_layout::parts::Parts;
 use textwrap_lines::inner::wrap_paragraph;
 use textwrap_lines::parts::split_paragraph;
 use textwrap_styles::inner::indent_end;
@@ -47,25 +48,27 @@ pub fn fill_justified<A: Allocator + Copy>(
     // Overflow needs a paragraph whose pieces are together wider than 64 bits can say.
     ensures no_overflow { ¬ SomeMayPass64Bits options.entry text.now → OnlyMemoryRunsOut result }
 {
-    fill_justified_by(alloc, text, &options)
+    fill_justified_by(alloc, text, Layout::of(&options), &options)
 }
 
-/// The same by any options, which stay with the caller.
+/// The same by this layout and any parts.
 ///
 /// # Errors
 /// Those of [`wrap`](textwrap::wrap).
-pub fn fill_justified_by<A: Allocator + Copy, O: AnyOptions<A>>(
+pub fn fill_justified_by<A: Allocator + Copy, P: Parts<A>>(
     alloc: A,
     text: &str,
-    options: &O,
+    layout: Layout<'_>,
+    parts: &P,
 ) -> Result<String<A>, WrapError>
-    ensures filled { IfOk result (λ filled. IsJustifiedText (O.settings options.now)
-        (O.divides options.now) text.now (string_bytes filled)) }
-    ensures only_memory { ¬ O.may_overflow options.now → OnlyMemoryRunsOut result }
-    ensures no_overflow { ¬ HasParagraphThat (O.may_pass options.now)
-        (O.settings options.now).line_ending text.now → OnlyMemoryRunsOut result }
+    ensures filled { IfOk result (λ filled. IsJustifiedText (layout_view layout.entry)
+        (DividesWith (P.may parts.now) (layout_view layout.entry)) text.now
+        (string_bytes filled)) }
+    ensures only_memory { ¬ P.may_overflow parts.now → OnlyMemoryRunsOut result }
+    ensures no_overflow { ¬ HasParagraphThat (MayPass64BitsWith (P.may parts.now)
+        (layout_view layout.entry)) (layout_view layout.entry).line_ending text.now
+        → OnlyMemoryRunsOut result }
 {
-    let layout = options.layout();
     let mut filled = String::with_capacity(alloc, text.len())?;
     let mut lines = Vec::new(alloc);
     let mut rest = Some(text);
@@ -74,7 +77,7 @@ pub fn fill_justified_by<A: Allocator + Copy, O: AnyOptions<A>>(
         // The lines before are written. One of them is kept, since it tells the next one's indent.
         lines.truncate(1);
         let start = lines.len();
-        wrap_paragraph(alloc, paragraph, options, &mut lines)?;
+        wrap_paragraph(alloc, paragraph, layout, parts, &mut lines)?;
         push_justified_lines(&mut filled, &lines[start..], &layout, start > 0)?;
         rest = after;
     }

@@ -15,6 +15,7 @@ use std::alloc::{AllocError, Allocator};
 use std::borrow::CowStr;
 use textwrap::inner::{RowCell, RowCells, RowFrame, line_at, push_rows};
 use textwrap::{Options, WrapError};
+use textwrap_layout::layout::Layout;
 use textwrap_lines::inner::wrap_by;
 
 /// A column of a table.
@@ -83,7 +84,7 @@ impl<A: Allocator + Copy> AnyColumn<A> for Column<'_> {
     }
 
     fn wrap_cell<'t>(&self, alloc: A, text: &'t str) -> Result<Vec<CowStr<'t, A>, A>, WrapError> {
-        wrap_by(alloc, text, &self.options)
+        wrap_by(alloc, text, Layout::of(&self.options), &self.options)
     }
 }
 

@@ -1,10 +1,6 @@
-pub mod InColumns
 pub mod Passing
 pub mod Pieces
 pub mod PlainPieces
-pub mod Points
-pub mod Refilled
-pub mod SplitPoints
 pub mod Unique
 pub mod Widths
 pub mod Wrapping

@@ -13,7 +13,7 @@ use Rattle.textwrap_words.proofs.Word.Words.{text_width-nil}
 use Rattle.textwrap_layout.proofs.Common.{Settings, empty_word, front_pieces, later_width}
 use Rattle.textwrap_layout.proofs.Common.{last_piece, parts_from, parts_of, widths_of}
 use Rattle.textwrap_layout.proofs.Paragraph.Widths.{later_is}
-use Rattle.textwrap_hyphenated.proofs.Points.{HasHyphenAtMost}
+use Rattle.textwrap_hyphens.proofs.SplitPieces.{HasHyphenAtMost}
 use Rattle.textwrap_hyphenated.specs.Hyphenated.{AddsHyphenAtMost, KeepsButHyphen, OnlyHyphensPass}
 
 -- ---- hyphens

@@ -14,8 +14,8 @@ use Rattle.textwrap_layout.proofs.Common.{ArePieces, Settings, settings_view}
 use Rattle.textwrap_layout.specs.declared.options.Options.{Options}
 use Rattle.textwrap_hyphens.specs.Table.{held}
 use Rattle.textwrap_hyphens.specs.declared.table.PatternTable.{PatternTable}
-use Rattle.textwrap_hyphenated.proofs.Points.{HasHyphenAtMost, held-cuts, split-carries}
-use Rattle.textwrap_hyphenated.proofs.Points.{split-hyphens}
+use Rattle.textwrap_hyphens.proofs.SplitPieces.{HasHyphenAtMost, held-cuts, split-carries}
+use Rattle.textwrap_hyphens.proofs.SplitPieces.{split-hyphens}
 use Rattle.textwrap_hyphenated.proofs.Widths.{pieces-wide}
 use Rattle.textwrap_hyphenated.specs.Hyphenated.{ArePointsBy}
 

@@ -13,7 +13,7 @@ use Rattle.textwrap_words.proofs.Word.BrokenPieces.{broken_texts-tile, broken_te
 use Rattle.textwrap_words.proofs.Word.Words.{IsMeasured}
 use Rattle.textwrap_layout.proofs.Common.{Settings, broken_pieces_of, empty_word, front_pieces}
 use Rattle.textwrap_layout.proofs.Common.{later_width}
-use Rattle.textwrap_hyphenated.proofs.Points.{CarriesHyphen}
+use Rattle.textwrap_hyphens.proofs.SplitPieces.{CarriesHyphen}
 
 total_width-append : (ws vs : List WordText)
     → total_width sizes_of (ws ++ vs) ≡ total_width sizes_of ws + total_width sizes_of vs

@@ -14,7 +14,7 @@ use Rattle.textwrap_lines.proofs.Paragraph.KeepsTo.{parts_from-pieces, whole_lin
 use Rattle.textwrap_lines.proofs.Text.Groups.{groups-all, groups-map}
 use Rattle.textwrap_hyphenated.proofs.Passing.{greedy_passes, parts_from-hyphens}
 use Rattle.textwrap_hyphenated.proofs.Pieces.{hyphenated-hyphens, hyphenated-tight}
-use Rattle.textwrap_hyphenated.proofs.Points.{HasHyphenAtMost}
+use Rattle.textwrap_hyphens.proofs.SplitPieces.{HasHyphenAtMost}
 use Rattle.textwrap_hyphenated.specs.Hyphenated.{AddOnlyHyphens, AddsHyphenAtMost, KeepButHyphens}
 use Rattle.textwrap_hyphenated.specs.Hyphenated.{LinesKeepButHyphens, OnlyHyphensPass}
 use Rattle.textwrap_text.proofs.Common.{IsUtf8, List, None, ap, arith, refl, ℕ, ◌∙◌, ◌≡◌}
@@ -29,9 +29,11 @@ use Rattle.textwrap_layout.specs.Places.{ArePlacedLines}
 use Rattle.textwrap_layout.specs.declared.options.Options.{Options}
 use Rattle.textwrap_layout.specs.declared.places.Place.{Place}
 use Rattle.textwrap_lines.proofs.Text.Promises.{IsWrapped-by}
+use Rattle.textwrap.specs.Columns.{IsInColumns, at_column_width}
+use Rattle.textwrap.specs.Refilling.{IsRefilled, with_indents_of}
 use Rattle.textwrap_hyphens.specs.Table.{held}
 use Rattle.textwrap_hyphens.specs.declared.table.PatternTable.{PatternTable}
-use Rattle.textwrap_hyphenated.proofs.Points.{held-cuts}
+use Rattle.textwrap_hyphens.proofs.SplitPieces.{held-cuts}
 use Rattle.textwrap_hyphenated.specs.Hyphenated.{ArePointsBy, DividesAtPoints, DividesHyphenated}
 use Rattle.textwrap_hyphenated.specs.Hyphenated.{DividesHyphenatedUnder, HasPartsBeside}
 
@@ -168,3 +170,21 @@ module _ {E C : Type 0} {e : _} {c : _} (options : Options E C e c) (patterns : 
       places
       → ArePlacedLines settings (DividesAtPoints (held patterns) algorithm settings) text lines places
   placed-as text lines places are = grind (arith, divides)
+
+  pub refilled-as : (text refilled : List ℕ)
+      → IsRefilled (settings_view options) (DividesHyphenatedUnder options (held patterns)) text
+      refilled → IsRefilled settings (DividesAtPoints (held patterns) algorithm) text refilled
+  refilled-as text refilled (filled, is, ends) =
+      rw (← parts.settings_are, ← divides-under (with_indents_of text (settings_view options)))
+      (filled, is, ends)
+
+  pub columns-as : (columns : ℕ) (text left middle right : List ℕ) (rows : List (List ℕ))
+      → IsInColumns (settings_view options) (DividesHyphenatedUnder options (held patterns))
+      columns text left middle right rows
+      → IsInColumns settings (DividesAtPoints (held patterns) algorithm) columns text left middle
+      right rows
+  columns-as columns text left middle right rows (lines, are, is) =
+      rw (
+        ← parts.settings_are,
+        ← divides-under (at_column_width (settings_view options) columns left middle right),
+      ) (lines, are, is)

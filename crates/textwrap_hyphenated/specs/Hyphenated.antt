@@ -1,12 +1,12 @@
 -- The lines of a text whose words are split where a dictionary has hyphens, and behind hyphens of
 -- their own.
-use Rattle.std.specs.Prelude.{◌≡◌, ℕ, ◌+◌, ◌<◌, ◌≤◌, ◌==◌, ◌||◌, ◌⊎◌, ⊤, All, Bool, false, List, []}
-use Rattle.std.specs.Prelude.{◌∷◌, MatchBool, Some, filter, length, map}
-use Rattle.std.specs.List.{flat_map, list_any}
+use Rattle.std.specs.Prelude.{◌≡◌, ℕ, ◌+◌, ◌<◌, ◌≤◌, ◌⊎◌, ⊤, All, Bool, false, List, []}
+use Rattle.std.specs.Prelude.{◌∷◌, MatchBool, Some, length, map}
+use Rattle.std.specs.List.{flat_map}
 use Rattle.textwrap_base.specs.Division.{closed_width, line_width}
 use Rattle.textwrap_text.specs.LineEnding.{paragraphs_of}
 use Rattle.textwrap_text.specs.Units.{column_characters}
-use Rattle.textwrap_words.specs.WordSplitters.{hyphen, inner_offsets, is_hyphen_point}
+use Rattle.textwrap_words.specs.WordSplitters.{hyphen}
 use Rattle.textwrap_words.specs.WordSeparators.{MaySeparate}
 use Rattle.textwrap_words.specs.WrapAlgorithms.{Algorithm, IsDividedBy, MayDivide, algorithm_view}
 use Rattle.textwrap_words.specs.Words.{AreWordsOf, WordText, sizes_of}
@@ -16,19 +16,7 @@ use Rattle.textwrap_layout.specs.Paragraph.{IsDividedInto, Line, LineParts, is_w
 use Rattle.textwrap_layout.specs.Text.{AreGroups, AreTextLines}
 use Rattle.textwrap_layout.specs.declared.options.Options.{Options}
 use Rattle.textwrap_hyphens.specs.Hyphenation.{Hyphenation}
-use Rattle.textwrap_hyphens.specs.Points.{points_of}
-
--- the dictionary has a hyphen at the offset, or a hyphen between alphanumeric characters ends there
-abbrev pub is_split_point : Hyphenation → List ℕ → ℕ → Bool
-is_split_point h text at =
-    list_any (λ point. point == at) (points_of h text) || is_hyphen_point text at
-
-abbrev pub split_points : Hyphenation → List ℕ → List ℕ
-split_points h text = filter (is_split_point h text) (inner_offsets text)
-
--- with the dictionary, the text may be split at these points
-abbrev pub ArePointsBy : Hyphenation → List ℕ → List ℕ → Type 0
-ArePointsBy h text points = points ≡ split_points h text
+pub use Rattle.textwrap_hyphens.specs.Splitting.{ArePointsBy, is_split_point, split_points}
 
 -- a paragraph may be divided so by the separator and the algorithm of the options, under these
 -- settings, with its words split at points by the dictionary

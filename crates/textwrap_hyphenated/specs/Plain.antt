@@ -3,8 +3,8 @@ use Rattle.std.specs.Prelude.{◌≡◌, ℕ, Bool, List}
 use Rattle.textwrap_words.specs.WrapAlgorithms.{IsDividedBy}
 use Rattle.textwrap_words.specs.Words.{WordText, sizes_of}
 use Rattle.textwrap_layout.specs.Options.{Settings}
-use Rattle.textwrap_layout.specs.Paragraph.{ArePieces, IsDividedInto}
-use Rattle.textwrap_plain.specs.Options.{algorithm_of, settings_of, words_by}
+use Rattle.textwrap_layout.specs.Paragraph.{IsDividedInto}
+use Rattle.textwrap_plain.specs.Options.{algorithm_of, words_by}
 use Rattle.textwrap_plain.specs.declared.options.PlainOptions.{PlainOptions}
 use Rattle.textwrap_plain.specs.declared.options.PlainSeparator.{PlainSeparator}
 use Rattle.textwrap_hyphens.specs.Hyphenation.{Hyphenation}
@@ -13,10 +13,6 @@ use Rattle.textwrap_hyphenated.specs.Hyphenated.{ArePointsBy}
 -- the words of a line are those of the separator
 abbrev pub AreWordsBy : PlainSeparator → List ℕ → List WordText → Type 0
 AreWordsBy separator line words = words ≡ words_by separator line
-
--- these are the pieces of a paragraph, split at points by the dictionary
-abbrev pub HasPlainPieces : Hyphenation → PlainOptions → List ℕ → List WordText → Type 0
-HasPlainPieces h o = ArePieces (settings_of o) (AreWordsBy o.word_separator) (ArePointsBy h)
 
 -- a paragraph is divided so under these settings: into words by the options, split at points by the
 -- dictionary, and into lines by the algorithm of the options

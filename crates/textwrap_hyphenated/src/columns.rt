@@ -8,12 +8,12 @@ ghost use Rattle.textwrap_hyphens.specs.Table.{held};
 ghost use Rattle.textwrap_hyphenated.specs.Hyphenated.{DividesAtPoints, DividesHyphenatedUnder};
 ghost use Rattle.textwrap_hyphenated.specs.Hyphenated.{HasPartsBeside};
 
-use crate::options::HyphenatedOptions;
+use crate::parts::Hyphenated;
 use std::alloc::Allocator;
-use textwrap::inner::{Table, table_rows};
+use textwrap::inner::wrap_columns_by;
 use textwrap_hyphens::table::PatternTable;
+use textwrap_layout::layout::Layout;
 use textwrap_layout::options::Options;
-use textwrap_lines::inner::wrap_by;
 use textwrap_words::wrap_algorithms::WrapError;
 
 /// Wraps a text into columns beside one another, as `wrap_columns` of `textwrap` does it, but that its
@@ -47,8 +47,18 @@ pub fn wrap_columns_hyphenated<A: Allocator + Copy>(
         right_gap.now (map string_bytes rows.items)) }
     ensures only_memory { OnlyMemoryRunsOut result }
 {
-    let table = Table::new(columns, options.width, left_gap, middle_gap, right_gap);
-    let options = options.width(table.column_width);
-    let lines = wrap_by(alloc, text, &HyphenatedOptions { options, patterns })?;
-    Ok(table_rows(alloc, &lines, &table)?)
+    let parts = Hyphenated {
+        parts: &options,
+        patterns,
+    };
+    wrap_columns_by(
+        alloc,
+        text,
+        columns,
+        Layout::of(&options),
+        &parts,
+        left_gap,
+        middle_gap,
+        right_gap,
+    )
 }

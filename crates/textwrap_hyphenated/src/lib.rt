@@ -4,15 +4,14 @@
 
 pub mod columns;
 pub mod laws;
-mod options;
+pub mod parts;
 pub mod placed;
 pub mod plain;
-mod plain_options;
 pub mod refilling;
-mod splitter;
 pub mod texts;
 
 pub use columns::wrap_columns_hyphenated;
+pub use parts::Hyphenated;
 pub use plain::{fill_plain, refill_plain, wrap_columns_plain};
 pub use refilling::refill_hyphenated;
 pub use texts::{fill_hyphenated, wrap_hyphenated};

@@ -9,9 +9,10 @@ ghost use Rattle.textwrap_hyphens.specs.Table.{held};
 ghost use Rattle.textwrap_hyphenated.specs.Hyphenated.{DividesAtPoints, DividesHyphenated};
 ghost use Rattle.textwrap_hyphenated.specs.Hyphenated.{HasPartsBeside};
 
-use crate::options::HyphenatedOptions;
+use crate::parts::Hyphenated;
 use std::alloc::Allocator;
 use textwrap_hyphens::table::PatternTable;
+use textwrap_layout::layout::Layout;
 use textwrap_layout::options::Options;
 use textwrap_lines::inner::place_lines_by;
 use textwrap_lines::placed::PlacedLines;
@@ -38,5 +39,9 @@ pub fn place_hyphenated<A: Allocator + Copy>(
         lines placed.places.items × (placed.built.items ≡ built_text lines)) }
     ensures only_memory { OnlyMemoryRunsOut result }
 {
-    place_lines_by(alloc, text, &HyphenatedOptions { options, patterns })
+    let parts = Hyphenated {
+        parts: &options,
+        patterns,
+    };
+    place_lines_by(alloc, text, Layout::of(&options), &parts)
 }

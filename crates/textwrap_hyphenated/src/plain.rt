@@ -11,13 +11,11 @@ ghost use Rattle.textwrap_plain.specs.Options.{settings_of};
 ghost use Rattle.textwrap_hyphens.specs.Table.{held};
 ghost use Rattle.textwrap_hyphenated.specs.Plain.{DividesPlainlyAt};
 
-use crate::plain_options::PlainHyphenated;
-use crate::refilling::{fill_joined, split_ending};
+use crate::parts::Hyphenated;
 use std::alloc::Global;
-use textwrap::inner::{Table, table_rows};
-use textwrap::unfill;
+use textwrap::inner::{refill_by, wrap_columns_by};
 use textwrap_hyphens::table::PatternTable;
-use textwrap_lines::inner::{fill_by, place_lines_by, wrap_by};
+use textwrap_lines::inner::{fill_by, place_lines_by};
 use textwrap_lines::placed::PlacedLines;
 use textwrap_plain::PlainOptions;
 use textwrap_words::wrap_algorithms::WrapError;
@@ -40,12 +38,11 @@ pub fn fill_plain(
         (string_bytes filled)) }
     ensures only_memory { OnlyMemoryRunsOut result }
 {
-    let options = PlainHyphenated {
-        options: *options,
+    let parts = Hyphenated {
+        parts: &options.parts(alloc),
         patterns,
-        alloc,
     };
-    fill_by(alloc, text, &options)
+    fill_by(alloc, text, options.layout(), &parts)
 }
 
 /// The lines of [`fill_plain`], by where they stand.
@@ -64,12 +61,11 @@ pub fn place_plain(
         placed.places.items × (placed.built.items ≡ built_text lines)) }
     ensures only_memory { OnlyMemoryRunsOut result }
 {
-    let options = PlainHyphenated {
-        options: *options,
+    let parts = Hyphenated {
+        parts: &options.parts(alloc),
         patterns,
-        alloc,
     };
-    place_lines_by(alloc, text, &options)
+    place_lines_by(alloc, text, options.layout(), &parts)
 }
 
 /// Fills a filled paragraph again, with the indents that it has, as
@@ -87,19 +83,11 @@ pub fn refill_plain(
         (DividesPlainlyAt (held patterns.now) options.now) filled_text.now (string_bytes refilled)) }
     ensures only_memory { OnlyMemoryRunsOut result }
 {
-    let (unfilled, layout) = unfill(alloc, filled_text)?;
-    let (joined, keeps_ending) = split_ending(&unfilled, layout.line_ending);
-    let options = PlainOptions {
-        initial_indent: layout.initial_indent,
-        subsequent_indent: layout.subsequent_indent,
-        ..*options
-    };
-    let options = PlainHyphenated {
-        options,
+    let parts = Hyphenated {
+        parts: &options.parts(alloc),
         patterns,
-        alloc,
     };
-    fill_joined(alloc, joined, keeps_ending, &options)
+    refill_by(alloc, filled_text, options.layout(), &parts)
 }
 
 /// Wraps a text into columns beside one another, as
@@ -124,16 +112,18 @@ pub fn wrap_columns_plain(
         middle_gap.now right_gap.now (map string_bytes rows.items)) }
     ensures only_memory { OnlyMemoryRunsOut result }
 {
-    let table = Table::new(columns, options.width, left_gap, middle_gap, right_gap);
-    let options = PlainOptions {
-        width: table.column_width,
-        ..*options
-    };
-    let options = PlainHyphenated {
-        options,
+    let parts = Hyphenated {
+        parts: &options.parts(alloc),
         patterns,
-        alloc,
     };
-    let lines = wrap_by(alloc, text, &options)?;
-    Ok(table_rows(alloc, &lines, &table)?)
+    wrap_columns_by(
+        alloc,
+        text,
+        columns,
+        options.layout(),
+        &parts,
+        left_gap,
+        middle_gap,
+        right_gap,
+    )
 }

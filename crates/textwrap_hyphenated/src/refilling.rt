@@ -1,24 +1,19 @@
 //! A filled text, filled again with hyphens.
-ghost use Rattle.std.specs.Prelude.{◌≡◌, ◌++◌, IfOk, List, nat_eq, string_bytes, ℕ};
-ghost use Rattle.std.specs.List.{ends_with};
+ghost use Rattle.std.specs.Prelude.{IfOk, string_bytes};
 ghost use Rattle.textwrap_base.specs.Errors.{OnlyMemoryRunsOut};
-ghost use Rattle.textwrap_text.specs.LineEnding.{ending_bytes};
 ghost use Rattle.textwrap_words.specs.WrapAlgorithms.{Algorithm};
-ghost use Rattle.textwrap_layout.specs.Filling.{IsFilled};
 ghost use Rattle.textwrap_layout.specs.Options.{Settings, settings_view};
-ghost use Rattle.textwrap.specs.Refilling.{IsRefilled, added_ending};
+ghost use Rattle.textwrap.specs.Refilling.{IsRefilled};
 ghost use Rattle.textwrap_hyphens.specs.Table.{held};
 ghost use Rattle.textwrap_hyphenated.specs.Hyphenated.{DividesAtPoints};
 ghost use Rattle.textwrap_hyphenated.specs.Hyphenated.{DividesHyphenatedUnder, HasPartsBeside};
 
-use crate::options::HyphenatedOptions;
+use crate::parts::Hyphenated;
 use std::alloc::Allocator;
-use textwrap::unfill;
+use textwrap::inner::refill_by;
 use textwrap_hyphens::table::PatternTable;
-use textwrap_layout::any_options::AnyOptions;
+use textwrap_layout::layout::Layout;
 use textwrap_layout::options::Options;
-use textwrap_lines::inner::fill_by;
-use textwrap_text::line_ending::LineEnding;
 use textwrap_words::wrap_algorithms::WrapError;
 
 /// Fills a filled paragraph again, with the indents that it has, as `refill` of `textwrap` does it, but
@@ -47,47 +42,9 @@ pub fn refill_hyphenated<A: Allocator + Copy>(
         (DividesAtPoints (held patterns.now) algorithm) filled_text.now (string_bytes refilled)) }
     ensures only_memory { OnlyMemoryRunsOut result }
 {
-    let (unfilled, layout) = unfill(alloc, filled_text)?;
-    let (joined, keeps_ending) = split_ending(&unfilled, layout.line_ending);
-    let options = Options {
-        initial_indent: layout.initial_indent,
-        subsequent_indent: layout.subsequent_indent,
-        ..options
+    let parts = Hyphenated {
+        parts: &options,
+        patterns,
     };
-    let options = HyphenatedOptions { options, patterns };
-    fill_joined(alloc, joined, keeps_ending, &options)
-}
-
-/// The joined lines of an unfilled text, without the line ending that it may end in, and whether it
-/// ends in that.
-pub(crate) fn split_ending(unfilled: &str, ending: LineEnding) -> (&str, bool)
-    ensures whole { unfilled.now ≡ result.0.now ++ added_ending result.1 ending }
-    ensures ends { result.1 ≡ ends_with nat_eq unfilled.now (ending_bytes ending) }
-{
-    match unfilled.strip_suffix(ending.as_str()) {
-        Some(joined) => (joined, true),
-        None => (unfilled, false),
-    }
-}
-
-/// Fills the joined lines of a text, and adds the line ending, if the text ends in its own.
-///
-/// # Errors
-/// Those of `wrap`.
-pub(crate) fn fill_joined<A: Allocator + Copy, O: AnyOptions<A>>(
-    alloc: A,
-    joined: &str,
-    keeps_ending: bool,
-    options: &O,
-) -> Result<String<A>, WrapError>
-    ensures filled { IfOk result (λ refilled. (filled : List ℕ) × IsFilled (O.settings options.now)
-        (O.divides options.now) joined.now filled × (string_bytes refilled
-        ≡ filled ++ added_ending keeps_ending (O.settings options.now).line_ending)) }
-    ensures only_memory { ¬ O.may_overflow options.now → OnlyMemoryRunsOut result }
-{
-    let mut filled = fill_by(alloc, joined, options)?;
-    if keeps_ending {
-        filled.push_str(options.layout().line_ending.as_str())?;
-    }
-    Ok(filled)
+    refill_by(alloc, filled_text, Layout::of(&options), &parts)
 }

@@ -12,10 +12,11 @@ ghost use Rattle.textwrap_hyphenated.specs.Hyphenated.{AddOnlyHyphens, DividesAt
 ghost use Rattle.textwrap_hyphenated.specs.Hyphenated.{DividesHyphenated, HasPartsBeside};
 ghost use Rattle.textwrap_hyphenated.specs.Hyphenated.{LinesKeepButHyphens};
 
-use crate::options::HyphenatedOptions;
+use crate::parts::Hyphenated;
 use std::alloc::Allocator;
 use std::borrow::CowStr;
 use textwrap_hyphens::table::PatternTable;
+use textwrap_layout::layout::Layout;
 use textwrap_layout::options::Options;
 use textwrap_lines::inner::{fill_by, wrap_by};
 use textwrap_words::wrap_algorithms::WrapError;
@@ -62,7 +63,11 @@ pub fn wrap_hyphenated<'t, A: Allocator + Copy>(
         (map line_view lines.items)) }
     ensures only_memory { OnlyMemoryRunsOut result }
 {
-    wrap_by(alloc, text, &HyphenatedOptions { options, patterns })
+    let parts = Hyphenated {
+        parts: &options,
+        patterns,
+    };
+    wrap_by(alloc, text, Layout::of(&options), &parts)
 }
 
 /// The lines of [`wrap_hyphenated`], joined by the line ending. With the patterns of
@@ -85,5 +90,9 @@ pub fn fill_hyphenated<A: Allocator + Copy>(
         (DividesAtPoints (held patterns.now) algorithm settings) text.now (string_bytes filled)) }
     ensures only_memory { OnlyMemoryRunsOut result }
 {
-    fill_by(alloc, text, &HyphenatedOptions { options, patterns })
+    let parts = Hyphenated {
+        parts: &options,
+        patterns,
+    };
+    fill_by(alloc, text, Layout::of(&options), &parts)
 }

@@ -7,5 +7,7 @@ pub mod MoreLevels
 pub mod Raised
 pub mod Runs
 pub mod SealLemmas
+pub mod SplitPieces
+pub mod SplitPoints
 pub mod TableOf
 pub mod Told

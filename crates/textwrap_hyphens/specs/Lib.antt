@@ -6,4 +6,5 @@ pub mod Levels
 pub mod Parsed
 pub mod Points
 pub mod Seal
+pub mod Splitting
 pub mod Table

@@ -7,4 +7,5 @@ pub mod dictionary;
 pub mod laws;
 pub mod levels;
 pub mod points;
+pub mod splitting;
 pub mod table;

@@ -3,7 +3,7 @@ pub use Rattle.textwrap_layout.specs.Filling.{IsFilled}
 pub use Rattle.textwrap_layout.specs.Frame.{frame_settings, frame_widths, frame_lines}
 pub use Rattle.textwrap_layout.specs.Layout.{break_limit, front_of, limit_at}
 pub use Rattle.textwrap_layout.specs.LineSinks.{Pushed}
-pub use Rattle.textwrap_layout.specs.Options.{settings_view, MayOverflow, layout_view, HasPartsAt}
+pub use Rattle.textwrap_layout.specs.Options.{settings_view, MayOverflow, layout_view}
 pub use Rattle.textwrap_layout.specs.Options.{HasParts, Settings}
 pub use Rattle.textwrap_layout.specs.Paragraph.{OnlyCharactersPass, AreParagraphParts, KeepToWidths}
 pub use Rattle.textwrap_layout.specs.Paragraph.{broken_pieces_of, keeps_whitespace, AreDividedParts}
@@ -32,7 +32,7 @@ pub use Rattle.std.proofs.lemmas.Str.{IsCharBoundary-from_rest}
 pub use Rattle.textwrap_base.proofs.Common.{closed_width, total_width, IsDivision, Overflowed, Fits}
 pub use Rattle.textwrap_base.proofs.Common.{line_width, IsGreedy, AllFit, Sizes}
 pub use Rattle.textwrap_layout.specs.Direct.{as_algorithm, HasMethods, pieces_cut, words_cut}
-pub use Rattle.textwrap_layout.specs.Direct.{CanBeCut, cuts_of}
+pub use Rattle.textwrap_layout.specs.Direct.{AreWordsCut, CanBeCut, cuts_of}
 pub use Rattle.textwrap_layout.specs.LentPlaces.{reported_line, AddsPlace}
 pub use Rattle.textwrap_layout.specs.PiecesLeft.{left_standing}
 pub use Rattle.textwrap_text.specs.declared.line_ending.LineEnding.{LineEnding}

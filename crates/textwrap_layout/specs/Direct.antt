@@ -8,9 +8,9 @@ use Rattle.textwrap_words.specs.Words.{WordText, sizes_of, word_of, words_of}
 use Rattle.textwrap_words.specs.WrapAlgorithms.{Algorithm, Greedy, IsDividedBy, LeastCost}
 use Rattle.textwrap_words.specs.WrapAlgorithms.{algorithm_view}
 use Rattle.textwrap_layout.specs.Options.{Settings}
-use Rattle.textwrap_layout.specs.Paragraph.{pieces_by, pieces_of_words, widths_of}
-use Rattle.textwrap_layout.specs.declared.any_options.BuiltInAlgorithm as algorithms
-use Rattle.textwrap_layout.specs.declared.any_options.BuiltInParts.{BuiltInParts}
+use Rattle.textwrap_layout.specs.Paragraph.{pieces_of_words, widths_of}
+use Rattle.textwrap_layout.specs.declared.parts.BuiltInAlgorithm as algorithms
+use Rattle.textwrap_layout.specs.declared.parts.BuiltInParts.{BuiltInParts}
 use Rattle.textwrap_layout.specs.declared.options.Options.{Options}
 use Rattle.textwrap_layout.specs.declared.paragraph_pieces.Cuts.{Cuts}
 use Rattle.textwrap_words.specs.declared.word_separators.WordSeparator.TheVariants.{AsciiSpace}
@@ -46,13 +46,9 @@ abbrev pub pieces_cut : Settings → Cuts → List ℕ → List WordText
 pieces_cut settings cuts paragraph =
     pieces_of_words settings (as_splitter cuts.splitter) (words_cut (cuts_of cuts) paragraph)
 
--- these are the pieces of a paragraph that can be cut there into the words that a function names
-pub record ArePiecesCut (words : List ℕ → List WordText) (settings : Settings) (splitter : Splitter)
-    (paragraph : List ℕ) (pieces : List WordText) : Type 0 where
-  pub cuts : Option (List ℕ)
-  pub can : CanBeCut cuts paragraph
-  pub words_are : words_cut cuts paragraph ≡ words paragraph
-  pub pieces_are : pieces ≡ pieces_by settings words splitter paragraph
+-- these are the words of a line that is cut somewhere, or at its blanks
+abbrev pub AreWordsCut : List ℕ → List WordText → Type 0
+AreWordsCut line words = (cuts : Option (List ℕ)) × CanBeCut cuts line × (words ≡ words_cut cuts line)
 
 -- by these relations, words that may be found are divided so by a built-in splitter and algorithm
 abbrev pub AreParts : Settings → (List ℕ → List WordText → Type 0)

@@ -3,9 +3,7 @@ use Rattle.std.specs.Prelude.{◌≡◌, ◌≢◌, ℕ, Bool, true, false, List
 use Rattle.textwrap_base.specs.Penalties.{default_penalties}
 use Rattle.textwrap_words.specs.WrapAlgorithms.{Algorithm, LeastCost, algorithm_view}
 use Rattle.textwrap_base.specs.declared.penalties.Penalties.{Penalties}
-use Rattle.textwrap_words.specs.WordSeparators.{MaySeparate}
 use Rattle.textwrap_words.specs.WordSplitters.{Splitter, AtHyphens, splitter_view}
-use Rattle.textwrap_words.specs.Words.{WordText}
 use Rattle.textwrap_text.specs.declared.line_ending.LineEnding.{LineEnding}
 use Rattle.textwrap_text.specs.declared.line_ending.LineEnding.TheVariants.{LF}
 use Rattle.textwrap_layout.specs.declared.layout.Layout.{Layout}
@@ -45,6 +43,18 @@ layout_view l = record {
   even_paragraphs = l.even_paragraphs;
 }
 
+-- options without their methods
+abbrev pub layout_of : {E C : Type 0} {e : _} {c : _} → Options E C e c → Layout
+layout_of o = record {
+  width = o.width;
+  line_ending = o.line_ending;
+  initial_indent = o.initial_indent;
+  subsequent_indent = o.subsequent_indent;
+  break_words = o.break_words;
+  preserve_trailing_space = o.preserve_trailing_space;
+  even_paragraphs = o.even_paragraphs;
+}
+
 -- how words are found, split and divided stays as it was
 pub record KeepsMethods {E C : Type 0} {e : _} {c : _} (old new : Options E C e c)
     : Type 0 where
@@ -80,16 +90,6 @@ pub record HasParts {E C : Type 0} {e : _} {c : _} (o : Options E C e c) (settin
     (splitter : Splitter) (algorithm : Algorithm) : Type 0 where
   pub settings_are : settings_view o ≡ settings
   pub separator : o.word_separator ≡ AsciiSpace
-  pub splitter_is : splitter_view o.word_splitter ≡ Some splitter
-  pub algorithm_is : algorithm_view o.wrap_algorithm ≡ Some algorithm
-
--- the same, where the separator gives no words of a line but those that a function names
-pub record HasPartsAt {E C : Type 0} {e : _} {c : _} (o : Options E C e c)
-    (words : List ℕ → List WordText) (settings : Settings) (splitter : Splitter)
-    (algorithm : Algorithm) : Type 0 where
-  pub settings_are : settings_view o ≡ settings
-  pub separates : (line : List ℕ) (ws : List WordText)
-      → MaySeparate o.word_separator line ws → ws ≡ words line
   pub splitter_is : splitter_view o.word_splitter ≡ Some splitter
   pub algorithm_is : algorithm_view o.wrap_algorithm ≡ Some algorithm
 

@@ -118,6 +118,17 @@ module _ (settings : Settings) (Words : List ℕ → List WordText → Type 0)
       (pieces : List WordText) × ArePieces paragraph pieces
       × Lines (widths_of settings is_later) pieces division
 
+-- what parts may find: the words of a line, the points of a word, and the lines of such widths that
+-- pieces are divided into
+pub record Relations : Type 1 where
+  pub Words : List ℕ → List WordText → Type 0
+  pub Points : List ℕ → List ℕ → Type 0
+  pub Lines : List ℕ → List WordText → List (List WordText) → Type 0
+
+-- a paragraph may be divided so by parts that may find this, under these settings
+abbrev pub DividesWith : Relations → Settings → Bool → List ℕ → List (List WordText) → Type 0
+DividesWith may settings = IsDividedInto settings may.Words may.Points may.Lines
+
 -- a paragraph may be divided so by the separator, the splitter and the algorithm of the options,
 -- under these settings
 abbrev pub DividesUnder : {E C : Type 0} {e : _} {c : _} → Options E C e c → Settings
@@ -147,14 +158,23 @@ DividesAt words splitter algorithm settings =
 abbrev pub DividesByDefault : Settings → Algorithm → Bool → List ℕ → List (List WordText) → Type 0
 DividesByDefault settings algorithm = DividesAs AtHyphens algorithm settings
 
--- under these settings the paragraph may have pieces whose widths pass 64 bits together, by the
--- separator and the splitter of the options
+-- under these settings the paragraph may have pieces whose widths pass 64 bits together, where
+-- relations say what words a line may have, and what points a word
+abbrev pub MayPass64BitsBy : Settings → (List ℕ → List WordText → Type 0)
+    → (List ℕ → List ℕ → Type 0) → List ℕ → Type 0
+MayPass64BitsBy settings Words Points paragraph =
+    (pieces : List WordText) × ArePieces settings Words Points paragraph pieces
+    × ¬ Fits64Bits (total_width sizes_of pieces)
+
+-- the same by parts that may find this
+abbrev pub MayPass64BitsWith : Relations → Settings → List ℕ → Type 0
+MayPass64BitsWith may settings = MayPass64BitsBy settings may.Words may.Points
+
+-- the same by the separator and the splitter of the options
 abbrev pub MayPass64BitsUnder : {E C : Type 0} {e : _} {c : _} → Options E C e c → Settings
     → List ℕ → Type 0
-MayPass64BitsUnder o settings paragraph =
-    (pieces : List WordText)
-    × ArePieces settings (MaySeparate o.word_separator) (MaySplit o.word_splitter) paragraph pieces
-    × ¬ Fits64Bits (total_width sizes_of pieces)
+MayPass64BitsUnder o settings =
+    MayPass64BitsBy settings (MaySeparate o.word_separator) (MaySplit o.word_splitter)
 
 abbrev pub MayPass64Bits : {E C : Type 0} {e : _} {c : _} → Options E C e c → List ℕ → Type 0
 MayPass64Bits o = MayPass64BitsUnder o (settings_view o)

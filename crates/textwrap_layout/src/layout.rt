@@ -27,11 +27,11 @@ pub struct Layout<'a> {
 }
 
 impl<'a> Layout<'a> {
-    ghost use Rattle.textwrap_layout.specs.Options.{settings_view};
+    ghost use Rattle.textwrap_layout.specs.Options.{layout_of};
 
     /// That of some options.
     pub fn of(options: &Options<'a>) -> Layout<'a>
-        ensures { layout_view result ≡ settings_view options.now }
+        ensures { result ≡ layout_of options.now }
     {
         let Options {
             width,

@@ -2,7 +2,6 @@
 //! paragraph, and where its lines go as they are found.
 #![tactic(auto)]
 
-pub mod any_options;
 pub mod built_in;
 pub mod frame;
 pub mod layout;
@@ -11,6 +10,7 @@ pub mod line_bounds;
 pub mod line_sinks;
 pub mod options;
 pub mod paragraph_pieces;
+pub mod parts;
 pub mod pieces;
 pub mod places;
 pub mod printable_cuts;

@@ -1,24 +1,23 @@
-//! The pieces of a paragraph, as a list: its words, split and broken as options say.
-ghost use Rattle.std.specs.Prelude.{◌≡◌, All, List, map, IfOk, IfSome, IsSomeAnd};
-ghost use Rattle.textwrap_layout.specs.Direct.{HasMethods, IsDirect, as_algorithm};
+//! The pieces of a paragraph, as a list: its words, split as parts say, and broken where a layout asks
+//! for it.
+ghost use Rattle.textwrap_text.specs.Units.{text_width};
+ghost use Rattle.std.specs.Prelude.{◌≡◌, ◌++◌, All, List, Option, map, ℕ, IfOk, IfSome, IsSomeAnd, OnOk};
+ghost use Rattle.textwrap_layout.specs.Direct.{AreWordsCut, CanBeCut, HasMethods, IsDirect};
+ghost use Rattle.textwrap_layout.specs.Direct.{as_algorithm, words_cut};
+ghost use Rattle.textwrap_layout.specs.Frame.{frame_settings};
 ghost use Rattle.textwrap_words.specs.Breaking.{broken_words};
 ghost use Rattle.textwrap_words.specs.Pieces.{as_splitter};
-ghost use Rattle.textwrap_text.specs.Units.{text_width};
-ghost use Rattle.textwrap_words.specs.Words.{word_view, Tiles, WordText};
-ghost use Rattle.textwrap_layout.specs.Options.{settings_view, MayOverflow};
-ghost use Rattle.textwrap_layout.specs.Paragraph.{broken_pieces_of, ArePieces, DividesBy};
-ghost use Rattle.textwrap_layout.specs.Paragraph.{MayPass64Bits};
-ghost use Rattle.textwrap_words.specs.WordSeparators.{MaySeparate};
-ghost use Rattle.textwrap_words.specs.WordSplitters.{AreSplit, MaySplit};
+ghost use Rattle.textwrap_words.specs.Words.{word_view, Tiles};
+ghost use Rattle.textwrap_layout.specs.Paragraph.{broken_pieces_of, ArePieces};
+ghost use Rattle.textwrap_words.specs.WordSplitters.{AreSplit, split_pieces};
 
-use crate::any_options::{AnyOptions, BuiltInAlgorithm, BuiltInParts};
 use crate::frame::Frame;
-use crate::layout::Layout;
 use crate::options::Options;
+use crate::parts::{BuiltInAlgorithm, BuiltInParts, Parts};
 use crate::printable_cuts::BlankCuts;
 use std::alloc::{AllocError, Allocator};
 use textwrap_words::inner::{
-    BuiltInSplitter, given_cuts, push_measured, split_at_cuts, stay_whole,
+    BuiltInSplitter, given_cuts, push_split, stay_whole, words_at_blanks, words_between,
 };
 use textwrap_words::word_separators::{WordSeparator, Words};
 use textwrap_words::word_splitters::WordSplitter;
@@ -29,39 +28,41 @@ use textwrap_words::wrap_algorithms::{WrapAlgorithm, WrapError};
 ///
 /// # Errors
 /// [`AllocError`] where memory runs out, or a function of the caller says so.
-fn find_pieces<'t, A: Allocator + Copy>(
+pub fn find_pieces<'t, A: Allocator + Copy, P: Parts<A>>(
     alloc: A,
     paragraph: &'t str,
-    options: &Options<'_>,
+    frame: &Frame<'_>,
+    parts: &P,
 ) -> Result<Vec<Word<'t>, A>, AllocError>
-    ensures pieces { IfOk result (λ pieces. ArePieces (settings_view options.now)
-        (MaySeparate options.now.word_separator) (MaySplit options.now.word_splitter) paragraph.now
+    ensures pieces { IfOk result (λ pieces. ArePieces (frame_settings frame.now)
+        (P.may parts.now).Words (P.may parts.now).Points paragraph.now
         (map word_view pieces.items)) }
+    ensures cut { IfOk result (λ pieces. ArePieces (frame_settings frame.now) AreWordsCut
+        (P.may parts.now).Points paragraph.now (map word_view pieces.items)) }
     ensures tiles { IfOk result (λ pieces. Tiles (map word_view pieces.items) paragraph.now) }
 {
-    let split = find_split_words(alloc, paragraph, options)?;
-    break_pieces(alloc, split, options)
+    let split = find_split_words(alloc, paragraph, parts)?;
+    break_pieces(alloc, split, frame)
 }
 
-/// The pieces that split words are broken into, where the options ask for that. Where words are
-/// broken and there is an initial indent, an empty piece stands in front.
+/// The pieces that split words are broken into, where that is asked. Where words are broken and there
+/// is an initial indent, an empty piece stands in front.
 ///
 /// # Errors
 /// [`AllocError`] where memory runs out.
 pub fn break_pieces<'t, A: Allocator + Copy>(
     alloc: A,
     split: Vec<Word<'t>, A>,
-    options: &Options<'_>,
+    frame: &Frame<'_>,
 ) -> Result<Vec<Word<'t>, A>, AllocError>
     ensures { IfOk result (λ pieces. map word_view pieces.items
-        ≡ broken_pieces_of (settings_view options.now) (map word_view split.entry.items)) }
+        ≡ broken_pieces_of (frame_settings frame.now) (map word_view split.entry.items)) }
 {
-    if !options.break_words {
+    if !frame.layout.break_words {
         return Ok(split);
     }
-    let frame = Frame::of(Layout::of(options));
     let mut broken = break_wide(alloc, split, frame.later_columns)?;
-    if !options.initial_indent.is_empty() {
+    if !frame.layout.initial_indent.is_empty() {
         // Where the first word has no room beside the indent, the first line is the indent alone.
         broken.insert(0, Word::from(""))?;
     }
@@ -86,62 +87,100 @@ fn break_wide<'t, A: Allocator + Copy>(
 }
 
 /// The words of a paragraph, split.
-fn find_split_words<'t, A: Allocator + Copy>(
+fn find_split_words<'t, A: Allocator + Copy, P: Parts<A>>(
     alloc: A,
     paragraph: &'t str,
-    options: &Options<'_>,
+    parts: &P,
 ) -> Result<Vec<Word<'t>, A>, AllocError>
-    ensures { IfOk result (λ pieces. (words : List WordText)
-        × MaySeparate options.now.word_separator paragraph.now words
-        × AreSplit (MaySplit options.now.word_splitter) words (map word_view pieces.items)) }
+    ensures { IfOk result (λ pieces. (cuts : Option (List ℕ)) × CanBeCut cuts paragraph.now
+        × (P.may parts.now).Words paragraph.now (words_cut cuts paragraph.now)
+        × AreSplit (P.may parts.now).Points (words_cut cuts paragraph.now)
+        (map word_view pieces.items)) }
 {
-    if let WordSeparator::Custom(line_cuts) = options.word_separator {
-        return split_at_cuts(alloc, paragraph, line_cuts, &options.word_splitter);
-    }
-    let words = options.word_separator.find_words(alloc, paragraph)?;
-    split_each(alloc, words, &options.word_splitter)
+    let Some(cuts) = parts.word_cuts(paragraph)? else {
+        return split_each(alloc, words_at_blanks(paragraph), parts);
+    };
+    let words = words_between(alloc, paragraph, &cuts)?;
+    split_list(alloc, &words, parts)
 }
 
 /// The words, split.
-fn split_each<'t, A: Allocator + Copy>(
+fn split_each<'t, A: Allocator + Copy, P: Parts<A>>(
     alloc: A,
     words: Words<'t, A>,
-    word_splitter: &WordSplitter,
+    parts: &P,
 ) -> Result<Vec<Word<'t>, A>, AllocError>
     requires { All (λ word. word.width ≡ text_width word.word) words }
     ensures { IfOk result (λ pieces.
-        AreSplit (MaySplit word_splitter.now) words.entry (map word_view pieces.items)) }
+        AreSplit (P.may parts.now).Points words.entry (map word_view pieces.items)) }
 {
     let mut pieces = Vec::new(alloc);
     for word in words {
-        push_measured(alloc, &mut pieces, word, word_splitter)?;
+        push_pieces(alloc, &mut pieces, word, parts)?;
     }
     Ok(pieces)
 }
 
-impl<A: Allocator + Copy> AnyOptions<A> for Options<'_> {
+/// The same of words that are listed.
+fn split_list<'t, A: Allocator + Copy, P: Parts<A>>(
+    alloc: A,
+    words: &[Word<'t>],
+    parts: &P,
+) -> Result<Vec<Word<'t>, A>, AllocError>
+    requires { All (λ word. word.width ≡ text_width word.word) (map word_view words.now) }
+    ensures { IfOk result (λ pieces. AreSplit (P.may parts.now).Points
+        (map word_view words.now) (map word_view pieces.items)) }
+{
+    let mut pieces = Vec::new(alloc);
+    for word in words {
+        push_pieces(alloc, &mut pieces, *word, parts)?;
+    }
+    Ok(pieces)
+}
+
+/// Adds the pieces of a word whose width is that of its text. One that stays whole is not measured again.
+fn push_pieces<'t, A: Allocator + Copy, P: Parts<A>>(
+    alloc: A,
+    pieces: &mut Vec<Word<'t>, A>,
+    word: Word<'t>,
+    parts: &P,
+) -> Result<(), AllocError>
+    requires { word.width ≡ text_width word.word.now }
+    ensures { OnOk result ((points : List ℕ) × (P.may parts.now).Points word.entry.word.now points
+        × (map word_view pieces.new.items ≡ map word_view pieces.old.items
+        ++ split_pieces points (word_view word.entry))) }
+{
+    let points = parts.split_points(alloc, word.word)?;
+    if points.is_empty() {
+        pieces.push(word)?;
+        return Ok(());
+    }
+    push_split(pieces, word, &points)
+}
+
+impl<A: Allocator + Copy> Parts<A> for Options<'_> {
+    ghost use Rattle.textwrap_words.proofs.Word.Parts.{MaySplit-cuts};
+    ghost use Rattle.textwrap_words.specs.WordSeparators.{MaySeparate};
+    ghost use Rattle.textwrap_words.specs.WordSplitters.{MaySplit};
+    ghost use Rattle.textwrap_words.specs.WrapAlgorithms.{MayDivide};
+    ghost use Rattle.textwrap_layout.specs.Direct.{IsDirect};
+    ghost use Rattle.textwrap_layout.specs.Options.{MayOverflow};
+
     type Words = BlankCuts;
 
-    ghost settings = { λ options. settings_view options };
-
-    ghost may_separate = { λ options. MaySeparate options.word_separator };
-
-    ghost has_pieces = { λ options. ArePieces (settings_view options)
-        (MaySeparate options.word_separator) (MaySplit options.word_splitter) };
-
-    ghost divides = { λ options. DividesBy options };
+    ghost may = { λ options. record {
+      Words = MaySeparate options.word_separator;
+      Points = MaySplit options.word_splitter;
+      Lines = MayDivide options.wrap_algorithm (λ w. w);
+    } };
 
     ghost may_overflow = { λ options. MayOverflow options };
 
-    ghost may_pass = { λ options. MayPass64Bits options };
-
     ghost is_direct = { λ options. IsDirect options };
 
-    fn layout(&self) -> Layout<'_> {
-        Layout::of(self)
-    }
+    ghost can_split = { λ options. MaySplit-cuts options.word_splitter };
 
-    fn built_in_parts(&self) -> Option<BuiltInParts> {
+    fn built_in(&self) -> Option<BuiltInParts> {
         built_in_parts(self)
     }
 
@@ -159,12 +198,8 @@ impl<A: Allocator + Copy> AnyOptions<A> for Options<'_> {
         }
     }
 
-    fn find_pieces<'t>(
-        &self,
-        alloc: A,
-        paragraph: &'t str,
-    ) -> Result<Vec<Word<'t>, A>, AllocError> {
-        find_pieces(alloc, paragraph, self)
+    fn split_points(&self, alloc: A, word: &str) -> Result<Vec<usize, A>, AllocError> {
+        self.word_splitter.split_points(alloc, word)
     }
 
     fn divide<'a, 'w>(

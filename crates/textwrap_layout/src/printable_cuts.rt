@@ -1,10 +1,12 @@
 //! Where a text is cut into words, also told from the bytes of a printable one.
-ghost use Rattle.std.specs.Prelude.{◌≡◌, ◌<◌, ℕ, Bool, IfOk, IsTrue, List, length, map};
+ghost use Rattle.std.specs.Prelude.{◌≡◌, ◌<◌, ℕ, Bool, IfOk, IsOkAnd, IsTrue, List, None, length};
+ghost use Rattle.std.specs.Prelude.{map};
 ghost use Rattle.std.specs.Option.{option_map};
+ghost use Rattle.std.specs.Str.{IsUtf8};
 ghost use Rattle.textwrap_words.specs.PieceCuts.{parts_by};
 ghost use Rattle.textwrap_text.specs.Units.{IsPrintable};
 ghost use Rattle.textwrap_words.specs.Words.{WordText, word_of};
-ghost use Rattle.textwrap_layout.specs.Direct.{CanBeCut, words_cut};
+ghost use Rattle.textwrap_layout.specs.Direct.{AreWordsCut, CanBeCut, words_cut};
 ghost use Rattle.textwrap_layout.specs.Printable.{AfterOthers, BeforeOthers};
 
 use std::alloc::AllocError;
@@ -13,6 +15,9 @@ use std::alloc::AllocError;
 pub trait PrintableCuts {
     // The words of a text.
     ghost words: { Self → List ℕ → List WordText };
+
+    // Whether words stand between blanks, of whatever text.
+    ghost at_blanks: { Self → Type 0 };
 
     // Whether the words of a text are cut at a place.
     ghost cuts: { Self → List ℕ → ℕ → Bool };
@@ -37,7 +42,12 @@ pub trait PrintableCuts {
         ensures words { IfOk result (λ found. words_cut (option_map (λ cuts. cuts.items) found)
             text.now ≡ words self.now text.now) }
         ensures cuts { IfOk result (λ found. CanBeCut (option_map (λ cuts. cuts.items) found)
-            text.now) };
+            text.now) }
+        ensures direct { at_blanks self.now → IsOkAnd result (λ found. found ≡ None) };
+
+    // The words of each text are cut somewhere, or at its blanks.
+    ghost are_cut: { (cuts : Self) (text : List ℕ) → IsUtf8 text
+        → AreWordsCut text (words cuts text) };
 
     // Blanks stay with the word before them.
     ghost before_others: { (words : Self) (text : List ℕ) → IsPrintable text
@@ -53,7 +63,8 @@ pub trait PrintableCuts {
 pub struct BlankCuts {}
 
 impl PrintableCuts for BlankCuts {
-    ghost use Rattle.std.specs.Prelude.{◌-◌, slice_index};
+    ghost use Rattle.std.specs.Prelude.{◌-◌, None, slice_index, ⊤};
+    ghost use Rattle.std.proofs.Common.{refl};
     ghost use Rattle.std.specs.Char.{is_ascii_alphanumeric};
     ghost use Rattle.std.proofs.Common.{ap};
     ghost use Rattle.std.proofs.lemmas.Bool.{and_parts, eqb-true, not-true};
@@ -62,7 +73,11 @@ impl PrintableCuts for BlankCuts {
 
     ghost words = { λ words. words_of };
 
+    ghost at_blanks = { λ words. ⊤ };
+
     ghost cuts = { λ words text place. is_cut (slice_index text (place - 1)) (slice_index text place) };
+
+    ghost are_cut = { λ words text utf8. (None, tt, refl) };
 
     ghost before_others = { λ words text printable place after inside cut.
         not-true _ (and_parts _ _ cut).1 };

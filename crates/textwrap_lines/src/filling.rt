@@ -1,7 +1,7 @@
 //! Filling: a wrapped text as one text.
 ghost use Rattle.std.specs.Prelude.{◌≡◌, ℕ, List, length, map, string_bytes};
 ghost use Rattle.std.specs.Prelude.{IfOk, IsOk};
-ghost use Rattle.textwrap_layout.specs.Direct.{IsDirect};
+ghost use Rattle.textwrap_layout.specs.Paragraph.{DividesWith, MayPass64BitsWith};
 ghost use Rattle.textwrap_text.specs.LentText.{as_len, written_over};
 ghost use Rattle.textwrap_text.specs.LineEnding.{ending_bytes, join_with};
 ghost use Rattle.textwrap_layout.specs.Options.{Settings, settings_view, HasParts, MayOverflow};
@@ -9,15 +9,17 @@ ghost use Rattle.textwrap_words.specs.WordSplitters.{Splitter};
 ghost use Rattle.textwrap_words.specs.WrapAlgorithms.{Algorithm};
 ghost use Rattle.textwrap_layout.specs.Paragraph.{DividesAs, DividesBy, line_bytes, line_view};
 ghost use Rattle.textwrap_layout.specs.Filling.{IsFilled};
+ghost use Rattle.textwrap_layout.specs.Options.{layout_view};
 ghost use Rattle.textwrap_layout.specs.Text.{HasParagraphThat, SomeMayPass64Bits};
 ghost use Rattle.textwrap_base.specs.Errors.{OnlyMemoryRunsOut};
 
 use crate::wrapping::push_text;
 use std::alloc::{AllocError, Allocator};
 use std::borrow::CowStr;
-use textwrap_layout::any_options::AnyOptions;
+use textwrap_layout::layout::Layout;
 use textwrap_layout::line_sinks::{JoinedLines, LentLines, ListedLines};
 use textwrap_layout::options::Options;
+use textwrap_layout::parts::Parts;
 use textwrap_text::lent_text::LentText;
 use textwrap_text::line_ending::LineEnding;
 use textwrap_words::wrap_algorithms::WrapError;
@@ -43,32 +45,34 @@ pub fn fill<A: Allocator + Copy>(
     // Overflow needs a paragraph whose pieces are together wider than 64 bits can say.
     ensures no_overflow { ¬ SomeMayPass64Bits options.entry text.now → OnlyMemoryRunsOut result }
 {
-    fill_by(alloc, text, &options)
+    fill_by(alloc, text, Layout::of(&options), &options)
 }
 
-/// The same by any options, which stay with the caller.
+/// The same by this layout and any parts.
 ///
 /// # Errors
 /// Those of [`wrap`](crate::wrap).
-pub fn fill_by<A: Allocator + Copy, O: AnyOptions<A>>(
+pub fn fill_by<A: Allocator + Copy, P: Parts<A>>(
     alloc: A,
     text: &str,
-    options: &O,
+    layout: Layout<'_>,
+    parts: &P,
 ) -> Result<String<A>, WrapError>
-    ensures filled { IfOk result (λ filled. IsFilled (O.settings options.now)
-        (O.divides options.now) text.now (string_bytes filled)) }
-    ensures only_memory { ¬ O.may_overflow options.now → OnlyMemoryRunsOut result }
-    ensures no_overflow { ¬ HasParagraphThat (O.may_pass options.now)
-        (O.settings options.now).line_ending text.now → OnlyMemoryRunsOut result }
+    ensures filled { IfOk result (λ filled. IsFilled (layout_view layout.entry)
+        (DividesWith (P.may parts.now) (layout_view layout.entry)) text.now (string_bytes filled)) }
+    ensures only_memory { ¬ P.may_overflow parts.now → OnlyMemoryRunsOut result }
+    ensures no_overflow { ¬ HasParagraphThat (MayPass64BitsWith (P.may parts.now)
+        (layout_view layout.entry)) (layout_view layout.entry).line_ending text.now
+        → OnlyMemoryRunsOut result }
 {
     // This is enough but where lines end inside words or have indents, or the ending is CRLF.
     let filled = String::with_capacity(alloc, text.len())?;
     let mut lines = JoinedLines {
         text: filled,
-        line_ending: options.layout().line_ending,
+        line_ending: layout.line_ending,
         has_lines: false,
     };
-    push_text(alloc, text, options, options.built_in_parts(), &mut lines)?;
+    push_text(alloc, text, layout, parts, parts.built_in(), &mut lines)?;
     Ok(lines.text)
 }
 
@@ -79,28 +83,30 @@ pub fn fill_by<A: Allocator + Copy, O: AnyOptions<A>>(
 ///
 /// # Errors
 /// Those of [`wrap`](crate::wrap).
-pub fn fill_into<A: Allocator + Copy>(
+pub fn fill_into<A: Allocator + Copy, P: Parts<A>>(
     alloc: A,
     text: &str,
-    options: &Options<'_>,
+    layout: Layout<'_>,
+    parts: &P,
     room: &mut [u8],
 ) -> Result<usize, WrapError>
-    ensures filled { IfOk result (λ len. (filled : List ℕ) × IsFilled (settings_view options.now)
-        (DividesBy options.now) text.now filled × (len ≡ as_len (length filled))
-        × (room.new ≡ written_over room.old filled)) }
-    // By first fit and built-in parts no memory is needed.
-    ensures done { IsDirect options.now → IsOk result }
-    ensures only_memory { ¬ MayOverflow options.now → OnlyMemoryRunsOut result }
-    ensures no_overflow { ¬ SomeMayPass64Bits options.now text.now → OnlyMemoryRunsOut result }
+    ensures filled { IfOk result (λ len. (filled : List ℕ) × IsFilled (layout_view layout.entry)
+        (DividesWith (P.may parts.now) (layout_view layout.entry)) text.now filled
+        × (len ≡ as_len (length filled)) × (room.new ≡ written_over room.old filled)) }
+    // By first fit, words between blanks and a built-in splitter no memory is needed.
+    ensures done { P.is_direct parts.now → IsOk result }
+    ensures only_memory { ¬ P.may_overflow parts.now → OnlyMemoryRunsOut result }
+    ensures no_overflow { ¬ HasParagraphThat (MayPass64BitsWith (P.may parts.now)
+        (layout_view layout.entry)) (layout_view layout.entry).line_ending text.now
+        → OnlyMemoryRunsOut result }
 {
     let mut filled = LentText::new(room);
     let mut lines = LentLines {
         text: &mut filled,
-        line_ending: options.line_ending,
+        line_ending: layout.line_ending,
         has_lines: false,
     };
-    let parts = AnyOptions::<A>::built_in_parts(options);
-    push_text(alloc, text, options, parts, &mut lines)?;
+    push_text(alloc, text, layout, parts, parts.built_in(), &mut lines)?;
     Ok(filled.len())
 }
 
@@ -128,7 +134,14 @@ pub fn fill_slow_path<A: Allocator + Copy>(
 {
     let mut list = Vec::new(alloc);
     let mut lines = ListedLines { lines: &mut list };
-    push_text(alloc, text, &options, None, &mut lines)?;
+    push_text(
+        alloc,
+        text,
+        Layout::of(&options),
+        &options,
+        None,
+        &mut lines,
+    )?;
     Ok(join_lines(alloc, &list, options.line_ending)?)
 }
 

@@ -13,10 +13,10 @@ use crate::first_line::push_first_line;
 use crate::piece_lines::push_lines_by_pieces;
 use crate::printable::push_printable_lines;
 use std::alloc::{AllocError, Allocator};
-use textwrap_layout::any_options::AnyOptions;
 use textwrap_layout::frame::Frame;
 use textwrap_layout::line_sinks::LineSink;
 use textwrap_layout::paragraph_pieces::Cuts;
+use textwrap_layout::parts::Parts;
 use textwrap_layout::printable_cuts::BlankCuts;
 use textwrap_text::printable::is_printable;
 use textwrap_words::inner::BuiltInSplitter;
@@ -34,29 +34,29 @@ use textwrap_words::inner::BuiltInSplitter;
 ///
 /// # Errors
 /// [`AllocError`] where memory runs out, or a function of the caller says so.
-pub(crate) fn push_by_first_fit<'t, A: Allocator + Copy, S: LineSink<'t, A>, O: AnyOptions<A>>(
+pub(crate) fn push_by_first_fit<'t, A: Allocator + Copy, S: LineSink<'t, A>, P: Parts<A>>(
     alloc: A,
     paragraph: &'t str,
-    options: &O,
+    parts: &P,
     frame: &Frame<'_>,
     splitter: BuiltInSplitter,
     lines: &mut S,
 ) -> Result<(), AllocError>
     ensures name { S.name lines.new ≡ S.name lines.old }
-    ensures done { S.never_fails → O.is_direct options.now → IsOk result }
+    ensures done { S.never_fails → P.is_direct parts.now → IsOk result }
     ensures pushed { OnOk result ((words : List WordText) × (division : List (List WordText))
-        × O.may_separate options.now paragraph.now words
+        × (P.may parts.now).Words paragraph.now words
         × IsGreedy sizes_of (frame_widths frame.now)
         (pieces_of_words (frame_settings frame.now) (as_splitter splitter) words) division
         × Pushed S.holds lines.old lines.new (frame_lines frame.now division)) }
 {
     let jumps = can_jump(paragraph, frame);
     if jumps && frame.first_columns == frame.later_columns {
-        if let Some(cuts) = options.printable_cuts() {
+        if let Some(cuts) = parts.printable_cuts() {
             return push_printable_lines(alloc, paragraph, 0, frame, &cuts, splitter, lines);
         }
     }
-    let found = options.word_cuts(paragraph)?;
+    let found = parts.word_cuts(paragraph)?;
     let cuts = Cuts {
         words: found.as_deref(),
         splitter,

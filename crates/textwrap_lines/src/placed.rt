@@ -4,12 +4,14 @@ ghost use Rattle.std.specs.Prelude.{◌≡◌, ◌<◌, [], ◌∷◌, List, map
 ghost use Rattle.std.specs.Prelude.{IsOk};
 ghost use Rattle.std.specs.Io.{StartsWith};
 ghost use Rattle.std.specs.List.{flat_map};
+ghost use Rattle.textwrap_layout.specs.Paragraph.{DividesWith, MayPass64BitsWith};
 ghost use Rattle.textwrap_layout.specs.Direct.{IsDirect};
 ghost use Rattle.textwrap_layout.specs.LentPlaces.{WritesPlaces, reported_line};
 ghost use Rattle.textwrap_layout.specs.Options.{Settings, settings_view, HasParts, MayOverflow};
 ghost use Rattle.textwrap_layout.specs.Paragraph.{DividesAs, DividesBy, Line, Slice, text_limit};
 ghost use Rattle.textwrap_layout.specs.Places.{ArePlacedLines, HasPlacesMore, built_text, cut_line};
 ghost use Rattle.textwrap_layout.specs.Places.{division_cuts, further};
+ghost use Rattle.textwrap_layout.specs.Options.{layout_view};
 ghost use Rattle.textwrap_layout.specs.Text.{HasParagraphThat, SomeMayPass64Bits};
 ghost use Rattle.textwrap_words.specs.WordSplitters.{Splitter};
 ghost use Rattle.textwrap_words.specs.Words.{tiled, word_view};
@@ -18,13 +20,13 @@ ghost use Rattle.textwrap_base.specs.Errors.{OnlyMemoryRunsOut};
 
 use crate::wrapping::{push_lines, push_text};
 use std::alloc::{AllocError, Allocator};
-use textwrap_layout::any_options::AnyOptions;
 use textwrap_layout::frame::Frame;
 use textwrap_layout::layout::Layout;
 pub use textwrap_layout::lent_places::LineCounts;
 use textwrap_layout::lent_places::{LentLinePlaces, LentPlaces};
 use textwrap_layout::line_sinks::LineSink;
 use textwrap_layout::options::Options;
+use textwrap_layout::parts::Parts;
 pub use textwrap_layout::places::{Place, PlacedLines, TextwrapLine};
 use textwrap_words::words::Word;
 use textwrap_words::wrap_algorithms::WrapError;
@@ -51,27 +53,30 @@ pub fn place_lines<A: Allocator + Copy>(
     ensures only_memory { ¬ MayOverflow options.now → OnlyMemoryRunsOut result }
     ensures no_overflow { ¬ SomeMayPass64Bits options.now text.now → OnlyMemoryRunsOut result }
 {
-    place_lines_by(alloc, text, options)
+    place_lines_by(alloc, text, Layout::of(options), options)
 }
 
-/// The same by any options.
+/// The same by this layout and any parts.
 ///
 /// # Errors
 /// Those of [`wrap`](crate::wrap).
-pub fn place_lines_by<A: Allocator + Copy, O: AnyOptions<A>>(
+pub fn place_lines_by<A: Allocator + Copy, P: Parts<A>>(
     alloc: A,
     text: &str,
-    options: &O,
+    layout: Layout<'_>,
+    parts: &P,
 ) -> Result<PlacedLines<A>, WrapError>
     ensures lines { IfOk result (λ placed. (lines : List Line)
-        × ArePlacedLines (O.settings options.now) (O.divides options.now) text.now lines
+        × ArePlacedLines (layout_view layout.entry)
+        (DividesWith (P.may parts.now) (layout_view layout.entry)) text.now lines
         placed.places.items × (placed.built.items ≡ built_text lines)) }
-    ensures only_memory { ¬ O.may_overflow options.now → OnlyMemoryRunsOut result }
-    ensures no_overflow { ¬ HasParagraphThat (O.may_pass options.now)
-        (O.settings options.now).line_ending text.now → OnlyMemoryRunsOut result }
+    ensures only_memory { ¬ P.may_overflow parts.now → OnlyMemoryRunsOut result }
+    ensures no_overflow { ¬ HasParagraphThat (MayPass64BitsWith (P.may parts.now)
+        (layout_view layout.entry)) (layout_view layout.entry).line_ending text.now
+        → OnlyMemoryRunsOut result }
 {
     let mut lines = PlacedLines::new(alloc);
-    push_text(alloc, text, options, options.built_in_parts(), &mut lines)?;
+    push_text(alloc, text, layout, parts, parts.built_in(), &mut lines)?;
     Ok(lines)
 }
 
@@ -83,27 +88,30 @@ pub fn place_lines_by<A: Allocator + Copy, O: AnyOptions<A>>(
 ///
 /// # Errors
 /// Those of [`wrap`](crate::wrap).
-pub fn place_into<A: Allocator + Copy>(
+pub fn place_into<A: Allocator + Copy, P: Parts<A>>(
     alloc: A,
     text: &str,
-    options: &Options<'_>,
+    layout: Layout<'_>,
+    parts: &P,
     lines: &mut [TextwrapLine],
     room: &mut [u8],
 ) -> Result<LineCounts, WrapError>
     ensures lines { IfOk result (λ counts. (placed : List Line) × (places : List Place)
-        × ArePlacedLines (settings_view options.now) (DividesBy options.now) text.now placed places
+        × ArePlacedLines (layout_view layout.entry)
+        (DividesWith (P.may parts.now) (layout_view layout.entry)) text.now placed places
         × WritesPlaces places (built_text placed) counts lines.old lines.new room.old room.new) }
-    // By first fit and built-in parts no memory is needed.
-    ensures done { IsDirect options.now → IsOk result }
-    ensures only_memory { ¬ MayOverflow options.now → OnlyMemoryRunsOut result }
-    ensures no_overflow { ¬ SomeMayPass64Bits options.now text.now → OnlyMemoryRunsOut result }
+    // By first fit, words between blanks and a built-in splitter no memory is needed.
+    ensures done { P.is_direct parts.now → IsOk result }
+    ensures only_memory { ¬ P.may_overflow parts.now → OnlyMemoryRunsOut result }
+    ensures no_overflow { ¬ HasParagraphThat (MayPass64BitsWith (P.may parts.now)
+        (layout_view layout.entry)) (layout_view layout.entry).line_ending text.now
+        → OnlyMemoryRunsOut result }
 {
     let mut placed = LentPlaces::new(lines, room);
     let mut sink = LentLinePlaces {
         placed: &mut placed,
     };
-    let parts = AnyOptions::<A>::built_in_parts(options);
-    push_text(alloc, text, options, parts, &mut sink)?;
+    push_text(alloc, text, layout, parts, parts.built_in(), &mut sink)?;
     Ok(placed.counts())
 }
 

@@ -98,7 +98,7 @@ pub fn pieces_at<'t, A: Allocator + Copy>(
     ensures tiles { IfOk result (λ pieces. Tiles (map word_view pieces.items) paragraph.now) }
 {
     let split = split_at(alloc, paragraph, cuts, points)?;
-    break_pieces(alloc, split, options)
+    break_pieces(alloc, split, &Frame::of(Layout::of(options)))
 }
 
 /// The words of a paragraph between cuts, split at the points inside them.

@@ -2,6 +2,7 @@
 ghost use Rattle.std.specs.Prelude.{◌≡◌, ℕ, List, ◌∷◌, [], ◌++◌, ◌<◌, length, drop, map};
 ghost use Rattle.std.specs.Prelude.{◌+◌, IsCharBoundary, nat_lt, if◌then◌else◌, true, IfOk, IfSome};
 ghost use Rattle.std.specs.Prelude.{◌≢◌, ◌==◌, ◌&&◌, OnOk, IsOk, IsSomeAnd, MatchOption, None};
+ghost use Rattle.textwrap_layout.specs.Paragraph.{DividesWith, MayPass64BitsWith};
 ghost use Rattle.textwrap_layout.specs.Direct.{AreParts};
 ghost use Rattle.std.specs.List.{flat_map};
 ghost use Rattle.std.specs.Str.{IsUtf8};
@@ -32,13 +33,14 @@ use crate::first_fit::push_by_first_fit;
 use crate::least_cost::{push_by_least_cost, suits_search};
 use std::alloc::{AllocError, Allocator};
 use std::borrow::CowStr;
-use textwrap_layout::any_options::{AnyOptions, BuiltInAlgorithm, BuiltInParts};
 use textwrap_layout::frame::Frame;
 use textwrap_layout::layout::{Layout, next_indent};
 use textwrap_layout::line_bounds::{LineBounds, push_between};
 use textwrap_layout::line_sinks::{LineSink, ListedLines};
 use textwrap_layout::options::Options;
 use textwrap_layout::paragraph_pieces::Cuts;
+use textwrap_layout::parts::{BuiltInAlgorithm, BuiltInParts, Parts};
+use textwrap_layout::pieces::find_pieces;
 use textwrap_text::blanks::split_final_blanks;
 use textwrap_text::line_ending::LineEnding;
 use textwrap_words::words::Word;
@@ -102,28 +104,30 @@ pub fn wrap<'t, A: Allocator + Copy>(
     // Overflow needs a paragraph whose pieces are together wider than 64 bits can say.
     ensures no_overflow { ¬ SomeMayPass64Bits options.entry text.now → OnlyMemoryRunsOut result }
 {
-    wrap_by(alloc, text, &options)
+    wrap_by(alloc, text, Layout::of(&options), &options)
 }
 
-/// The lines that [`wrap`] returns, by any options that stay with the caller: many texts can be
-/// wrapped by them.
+/// The lines that [`wrap`] returns, by this layout and any parts.
 ///
 /// # Errors
 /// Those of [`wrap`].
-pub fn wrap_by<'t, A: Allocator + Copy, O: AnyOptions<A>>(
+pub fn wrap_by<'t, A: Allocator + Copy, P: Parts<A>>(
     alloc: A,
     text: &'t str,
-    options: &O,
+    layout: Layout<'_>,
+    parts: &P,
 ) -> Result<Vec<CowStr<'t, A>, A>, WrapError>
-    ensures lines { IfOk result (λ lines. AreTextLines (O.settings options.now)
-        (O.divides options.now) text.now (map line_view lines.items)) }
-    ensures only_memory { ¬ O.may_overflow options.now → OnlyMemoryRunsOut result }
-    ensures no_overflow { ¬ HasParagraphThat (O.may_pass options.now)
-        (O.settings options.now).line_ending text.now → OnlyMemoryRunsOut result }
+    ensures lines { IfOk result (λ lines. AreTextLines (layout_view layout.entry)
+        (DividesWith (P.may parts.now) (layout_view layout.entry)) text.now
+        (map line_view lines.items)) }
+    ensures only_memory { ¬ P.may_overflow parts.now → OnlyMemoryRunsOut result }
+    ensures no_overflow { ¬ HasParagraphThat (MayPass64BitsWith (P.may parts.now)
+        (layout_view layout.entry)) (layout_view layout.entry).line_ending text.now
+        → OnlyMemoryRunsOut result }
 {
     let mut list = Vec::new(alloc);
     let mut lines = ListedLines { lines: &mut list };
-    push_text(alloc, text, options, options.built_in_parts(), &mut lines)?;
+    push_text(alloc, text, layout, parts, parts.built_in(), &mut lines)?;
     Ok(list)
 }
 
@@ -132,27 +136,28 @@ pub fn wrap_by<'t, A: Allocator + Copy, O: AnyOptions<A>>(
 ///
 /// # Errors
 /// Those of [`wrap`].
-pub(crate) fn push_text<'t, A: Allocator + Copy, S: LineSink<'t, A>, O: AnyOptions<A>>(
+pub(crate) fn push_text<'t, A: Allocator + Copy, S: LineSink<'t, A>, P: Parts<A>>(
     alloc: A,
     text: &'t str,
-    options: &O,
-    parts: Option<BuiltInParts>,
+    layout: Layout<'_>,
+    parts: &P,
+    built_in: Option<BuiltInParts>,
     lines: &mut S,
 ) -> Result<(), WrapError>
-    requires parts { IfSome parts
-        (AreParts (O.settings options.now) (O.may_separate options.now) (O.divides options.now)) }
+    requires built_in { IfSome built_in (AreParts (layout_view layout) (P.may parts.now).Words
+        (DividesWith (P.may parts.now) (layout_view layout))) }
     requires none { S.holds lines.now lines.now 0 [] }
     ensures name { S.name lines.new ≡ S.name lines.old }
-    ensures done { S.never_fails → O.is_direct options.now
-        → IsSomeAnd parts (λ parts. parts.algorithm ≡ BuiltInAlgorithm.FirstFit) → IsOk result }
-    ensures lines { OnOk result ((taken : List CutLine) × AreCutLines (O.settings options.now)
-        (O.divides options.now) text.now taken
+    ensures done { S.never_fails → P.is_direct parts.now
+        → IsSomeAnd built_in (λ parts. parts.algorithm ≡ BuiltInAlgorithm.FirstFit) → IsOk result }
+    ensures lines { OnOk result ((taken : List CutLine) × AreCutLines (layout_view layout.entry)
+        (DividesWith (P.may parts.now) (layout_view layout.entry)) text.now taken
         × (end : ℕ) × S.holds lines.old lines.new end taken) }
-    ensures only_memory { ¬ O.may_overflow options.now → OnlyMemoryRunsOut result }
-    ensures no_overflow { ¬ HasParagraphThat (O.may_pass options.now)
-        (O.settings options.now).line_ending text.now → OnlyMemoryRunsOut result }
+    ensures only_memory { ¬ P.may_overflow parts.now → OnlyMemoryRunsOut result }
+    ensures no_overflow { ¬ HasParagraphThat (MayPass64BitsWith (P.may parts.now)
+        (layout_view layout.entry)) (layout_view layout.entry).line_ending text.now
+        → OnlyMemoryRunsOut result }
 {
-    let layout = options.layout();
     let line_ending = layout.line_ending;
     let first = Frame::of(layout);
     let later = first.later();
@@ -162,7 +167,7 @@ pub(crate) fn push_text<'t, A: Allocator + Copy, S: LineSink<'t, A>, O: AnyOptio
         let (paragraph, after) = split_paragraph(text, line_ending);
         lines.begin_paragraph(start);
         let frame = first.choose(&later, lines.has_line());
-        push_paragraph(alloc, paragraph, options, frame, &parts, lines)?;
+        push_paragraph(alloc, paragraph, parts, frame, &built_in, lines)?;
         start += paragraph.len() + line_ending.as_str().len();
         rest = after;
     }
@@ -173,32 +178,33 @@ pub(crate) fn push_text<'t, A: Allocator + Copy, S: LineSink<'t, A>, O: AnyOptio
 ///
 /// # Errors
 /// Those of [`wrap`].
-fn push_paragraph<'t, A: Allocator + Copy, S: LineSink<'t, A>, O: AnyOptions<A>>(
+fn push_paragraph<'t, A: Allocator + Copy, S: LineSink<'t, A>, P: Parts<A>>(
     alloc: A,
     paragraph: &'t str,
-    options: &O,
+    parts: &P,
     frame: &Frame<'_>,
-    parts: &Option<BuiltInParts>,
+    built_in: &Option<BuiltInParts>,
     lines: &mut S,
 ) -> Result<(), WrapError>
-    requires framed { frame_settings frame.now ≡ O.settings options.now }
-    requires parts { IfSome parts.now
-        (AreParts (O.settings options.now) (O.may_separate options.now) (O.divides options.now)) }
+    requires built_in { IfSome built_in.now (AreParts (frame_settings frame.now)
+        (P.may parts.now).Words (DividesWith (P.may parts.now) (frame_settings frame.now))) }
     ensures name { S.name lines.new ≡ S.name lines.old }
-    ensures done { S.never_fails → O.is_direct options.now
-        → IsSomeAnd parts.now (λ parts. parts.algorithm ≡ BuiltInAlgorithm.FirstFit) → IsOk result }
-    ensures taken { OnOk result ((parts : List LineParts)
-        × AreParagraphParts (frame_settings frame.now) (O.divides options.now) frame.now.is_later
-        paragraph.now parts
-        × Pushed S.holds lines.old lines.new (cut_lines 0 parts)) }
-    ensures only_memory { ¬ O.may_overflow options.now → OnlyMemoryRunsOut result }
-    ensures no_overflow { ¬ O.may_pass options.now paragraph.now → OnlyMemoryRunsOut result }
+    ensures done { S.never_fails → P.is_direct parts.now
+        → IsSomeAnd built_in.now (λ parts. parts.algorithm ≡ BuiltInAlgorithm.FirstFit)
+        → IsOk result }
+    ensures taken { OnOk result ((own : List LineParts)
+        × AreParagraphParts (frame_settings frame.now)
+        (DividesWith (P.may parts.now) (frame_settings frame.now)) frame.now.is_later paragraph.now own
+        × Pushed S.holds lines.old lines.new (cut_lines 0 own)) }
+    ensures only_memory { ¬ P.may_overflow parts.now → OnlyMemoryRunsOut result }
+    ensures no_overflow { ¬ MayPass64BitsWith (P.may parts.now) (frame_settings frame.now)
+        paragraph.now → OnlyMemoryRunsOut result }
 {
     if is_one_line(paragraph, frame.indent, frame.layout.width) {
         let slice = whole_line(paragraph, &frame.layout);
         return Ok(lines.push_line(alloc, "", 0, slice, "")?);
     }
-    push_pieces(alloc, paragraph, options, frame, parts, lines)
+    push_pieces(alloc, paragraph, parts, frame, built_in, lines)
 }
 
 /// Pushes the lines of the pieces of a paragraph: without a list of its words, where the parts are
@@ -214,40 +220,42 @@ fn push_paragraph<'t, A: Allocator + Copy, S: LineSink<'t, A>, O: AnyOptions<A>>
 ///
 /// # Errors
 /// Those of [`wrap`].
-fn push_pieces<'t, A: Allocator + Copy, S: LineSink<'t, A>, O: AnyOptions<A>>(
+fn push_pieces<'t, A: Allocator + Copy, S: LineSink<'t, A>, P: Parts<A>>(
     alloc: A,
     paragraph: &'t str,
-    options: &O,
+    parts: &P,
     frame: &Frame<'_>,
-    parts: &Option<BuiltInParts>,
+    built_in: &Option<BuiltInParts>,
     lines: &mut S,
 ) -> Result<(), WrapError>
-    requires framed { frame_settings frame.now ≡ O.settings options.now }
-    requires parts { IfSome parts.now
-        (AreParts (O.settings options.now) (O.may_separate options.now) (O.divides options.now)) }
+    requires built_in { IfSome built_in.now (AreParts (frame_settings frame.now)
+        (P.may parts.now).Words (DividesWith (P.may parts.now) (frame_settings frame.now))) }
     ensures name { S.name lines.new ≡ S.name lines.old }
-    ensures done { S.never_fails → O.is_direct options.now
-        → IsSomeAnd parts.now (λ parts. parts.algorithm ≡ BuiltInAlgorithm.FirstFit) → IsOk result }
+    ensures done { S.never_fails → P.is_direct parts.now
+        → IsSomeAnd built_in.now (λ parts. parts.algorithm ≡ BuiltInAlgorithm.FirstFit)
+        → IsOk result }
     ensures taken { OnOk result ((division : List (List WordText))
-        × O.divides options.now frame.now.is_later paragraph.now division
+        × DividesWith (P.may parts.now) (frame_settings frame.now)
+        frame.now.is_later paragraph.now division
         × Pushed S.holds lines.old lines.new (frame_lines frame.now division)) }
-    ensures only_memory { ¬ O.may_overflow options.now → OnlyMemoryRunsOut result }
-    ensures no_overflow { ¬ O.may_pass options.now paragraph.now → OnlyMemoryRunsOut result }
+    ensures only_memory { ¬ P.may_overflow parts.now → OnlyMemoryRunsOut result }
+    ensures no_overflow { ¬ MayPass64BitsWith (P.may parts.now) (frame_settings frame.now)
+        paragraph.now → OnlyMemoryRunsOut result }
 {
-    let Some(parts) = parts else {
-        return push_divided(alloc, paragraph, options, frame, lines);
+    let Some(methods) = built_in else {
+        return push_divided(alloc, paragraph, parts, frame, lines);
     };
-    let BuiltInAlgorithm::LeastCost(penalties) = parts.algorithm else {
-        let splitter = parts.splitter;
-        return Ok(push_by_first_fit(alloc, paragraph, options, frame, splitter, lines)?);
+    let BuiltInAlgorithm::LeastCost(penalties) = methods.algorithm else {
+        let splitter = methods.splitter;
+        return Ok(push_by_first_fit(alloc, paragraph, parts, frame, splitter, lines)?);
     };
     if !suits_search(paragraph, frame, &penalties) {
-        return push_divided(alloc, paragraph, options, frame, lines);
+        return push_divided(alloc, paragraph, parts, frame, lines);
     }
-    let found = options.word_cuts(paragraph)?;
+    let found = parts.word_cuts(paragraph)?;
     let cuts = Cuts {
         words: found.as_deref(),
-        splitter: parts.splitter,
+        splitter: methods.splitter,
     };
     Ok(push_by_least_cost(alloc, paragraph, frame, &cuts, &penalties, lines)?)
 }
@@ -256,24 +264,25 @@ fn push_pieces<'t, A: Allocator + Copy, S: LineSink<'t, A>, O: AnyOptions<A>>(
 ///
 /// # Errors
 /// Those of [`wrap`].
-fn push_divided<'t, A: Allocator + Copy, S: LineSink<'t, A>, O: AnyOptions<A>>(
+fn push_divided<'t, A: Allocator + Copy, S: LineSink<'t, A>, P: Parts<A>>(
     alloc: A,
     paragraph: &'t str,
-    options: &O,
+    parts: &P,
     frame: &Frame<'_>,
     lines: &mut S,
 ) -> Result<(), WrapError>
-    requires { frame_settings frame.now ≡ O.settings options.now }
     ensures name { S.name lines.new ≡ S.name lines.old }
     ensures taken { OnOk result ((division : List (List WordText))
-        × O.divides options.now frame.now.is_later paragraph.now division
+        × DividesWith (P.may parts.now) (frame_settings frame.now)
+        frame.now.is_later paragraph.now division
         × Pushed S.holds lines.old lines.new (frame_lines frame.now division)) }
-    ensures only_memory { ¬ O.may_overflow options.now → OnlyMemoryRunsOut result }
-    ensures no_overflow { ¬ O.may_pass options.now paragraph.now → OnlyMemoryRunsOut result }
+    ensures only_memory { ¬ P.may_overflow parts.now → OnlyMemoryRunsOut result }
+    ensures no_overflow { ¬ MayPass64BitsWith (P.may parts.now) (frame_settings frame.now)
+        paragraph.now → OnlyMemoryRunsOut result }
 {
-    let pieces = options.find_pieces(alloc, paragraph)?;
+    let pieces = find_pieces(alloc, paragraph, frame, parts)?;
     let line_widths = [frame.first_columns, frame.later_columns];
-    let division = options.divide(alloc, &pieces, &line_widths)?;
+    let division = parts.divide(alloc, &pieces, &line_widths)?;
     Ok(push_lines(alloc, paragraph, &division, frame, lines)?)
 }
 
@@ -327,30 +336,33 @@ pub fn wrap_single_line<'t, A: Allocator + Copy>(
         (nat_lt 0 (length lines.old.items)) line.now parts
         × Adds lines.old.items lines.new.items parts) }
 {
-    wrap_paragraph(alloc, line, options, lines)
+    wrap_paragraph(alloc, line, Layout::of(options), options, lines)
 }
 
-/// The same by any options.
+/// The same by this layout and any parts.
 ///
 /// # Errors
 /// Those of [`wrap_single_line`].
-pub fn wrap_paragraph<'t, A: Allocator + Copy, O: AnyOptions<A>>(
+pub fn wrap_paragraph<'t, A: Allocator + Copy, P: Parts<A>>(
     alloc: A,
     paragraph: &'t str,
-    options: &O,
+    layout: Layout<'_>,
+    parts: &P,
     lines: &mut Vec<CowStr<'t, A>, A>,
 ) -> Result<(), WrapError>
-    ensures appended { AppendsLines (O.may_overflow options.now)
-        (AreParagraphParts (O.settings options.now) (O.divides options.now)
+    ensures appended { AppendsLines (P.may_overflow parts.now)
+        (AreParagraphParts (layout_view layout.entry)
+        (DividesWith (P.may parts.now) (layout_view layout.entry))
         (nat_lt 0 (length lines.old.items)) paragraph.now) lines.old.items lines.new.items result }
-    ensures no_overflow { ¬ O.may_pass options.now paragraph.now → OnlyMemoryRunsOut result }
+    ensures no_overflow { ¬ MayPass64BitsWith (P.may parts.now) (layout_view layout.entry)
+        paragraph.now → OnlyMemoryRunsOut result }
 {
     // A list of its own, so that an error leaves the other as it was.
-    let frame = Frame::at(options.layout(), !lines.is_empty());
+    let frame = Frame::at(layout, !lines.is_empty());
     let mut own = Vec::new(alloc);
     let mut found = ListedLines { lines: &mut own };
-    let parts = options.built_in_parts();
-    push_paragraph(alloc, paragraph, options, &frame, &parts, &mut found)?;
+    let built_in = parts.built_in();
+    push_paragraph(alloc, paragraph, parts, &frame, &built_in, &mut found)?;
     Ok(lines.append(&mut own)?)
 }
 

@@ -1,3 +1,3 @@
-pub mod Counts
+pub mod Balance
 pub mod Named
 pub mod Words

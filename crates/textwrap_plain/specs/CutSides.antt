@@ -1,12 +1,17 @@
--- What stands on either side of a cut of a printable text: the laws of such cuts.
-use Rattle.std.specs.Prelude.{ℕ, ◌-◌, List, slice_index}
-use Rattle.textwrap_text.proofs.Common.{false≢true, ap, IsPrintable, is_blank}
+-- Where texts are cut into words by options without functions, and what stands on either side of a
+-- cut of a printable one: the laws of such cuts.
+use Rattle.std.specs.Prelude.{ℕ, ◌-◌, List, None, Some, slice_index}
+use Rattle.textwrap_text.proofs.Common.{false≢true, ap, IsPrintable, IsUtf8, is_blank, refl, stripped}
 use Rattle.std.proofs.lemmas.Bool.{and_parts, eqb-true, not-true}
 use Rattle.std.specs.Char.{is_ascii_alphanumeric}
+use Rattle.textwrap_layout.specs.Direct.{AreWordsCut}
 use Rattle.textwrap_layout.specs.Printable.{AfterOthers, BeforeOthers}
 use Rattle.textwrap_unicode.proofs.PrintableCuts.{cut-after_other, cut-before_other}
+use Rattle.textwrap_unicode.specs.Breaks.{breaks_by}
+use Rattle.textwrap_unicode.specs.Cuts.{cuts_by, offsets_of}
 use Rattle.textwrap_unicode.specs.declared.numbers.Numbers.TheVariants.{ByExpression, ByPairs}
-use Rattle.textwrap_plain.specs.Options.{is_cut_plainly}
+use Rattle.textwrap_words.proofs.Word.Offsets.{cuts_at-AreInnerCuts}
+use Rattle.textwrap_plain.specs.Options.{is_cut_plainly, words_by}
 use Rattle.textwrap_plain.specs.declared.options.PlainSeparator.{PlainSeparator}
 use Rattle.textwrap_plain.specs.declared.options.PlainSeparator.TheVariants.{AtBlanks, AtBreaks}
 
@@ -27,3 +32,12 @@ cuts-after_others (AtBreaks ByPairs) text printable place after inside cut =
     cut-after_other text printable place after inside cut
 cuts-after_others (AtBreaks ByExpression) text printable place after inside cut =
     absurd (false≢true cut)
+
+pub words_by-cut : (separator : PlainSeparator) (text : List ℕ) → IsUtf8 text
+    → AreWordsCut text (words_by separator text)
+words_by-cut AtBlanks text utf8 = (None, tt, refl)
+words_by-cut (AtBreaks numbers) text utf8 = (
+  Some (cuts_by numbers text),
+  cuts_at-AreInnerCuts (offsets_of (breaks_by numbers (stripped text))) text utf8,
+  refl,
+)

@@ -1,4 +1,6 @@
+pub mod Balance
 pub mod CutSides
 pub mod Laws
 pub mod Options
 pub mod Tables
+pub mod Widest

@@ -1,11 +1,15 @@
 //! Lines for display, by options without functions.
-ghost use Rattle.std.specs.Prelude.{IfOk, map, string_bytes};
+ghost use Rattle.std.specs.Prelude.{◌≡◌, IfOk, IsOk, List, length, map, string_bytes};
+ghost use Rattle.textwrap_plain.specs.Balance.{AreBalanced, AreFirstFitAt, IsBalanced};
 ghost use Rattle.textwrap_display.specs.JustifiedText.{IsJustifiedText};
 ghost use Rattle.textwrap_display.specs.Tables.{gaps_view, texts_in};
-ghost use Rattle.textwrap_plain.specs.Options.{DividesPlainly, settings_of};
+ghost use Rattle.textwrap_layout.specs.Paragraph.{Line, line_view};
+ghost use Rattle.textwrap_plain.specs.Options.{DividesPlainly, settings_of, splitter_of, words_by};
+ghost use Rattle.textwrap_plain.specs.declared.options.PlainSeparator.TheVariants.{AtBlanks};
 ghost use Rattle.textwrap_plain.specs.Tables.{IsPlainTable, plain_parts};
 ghost use Rattle.textwrap_base.specs.Errors.{OnlyMemoryRunsOut};
 
+use crate::balancing::{balanced_width_by, wrap_balanced_by};
 use crate::options::PlainOptions;
 use std::alloc::Global;
 use std::borrow::CowStr;
@@ -44,7 +48,12 @@ impl AnyColumn<Global> for PlainColumn<'_> {
     }
 
     fn wrap_cell<'t>(&self, alloc: Global, text: &'t str) -> Result<Vec<CowStr<'t>>, WrapError> {
-        wrap_by(alloc, text, &self.options.built_in(alloc))
+        wrap_by(
+            alloc,
+            text,
+            self.options.layout(),
+            &self.options.parts(alloc),
+        )
     }
 }
 
@@ -62,7 +71,7 @@ pub fn fill_justified(
         (DividesPlainly options.now (settings_of options.now)) text.now (string_bytes filled)) }
     ensures only_memory { OnlyMemoryRunsOut result }
 {
-    fill_justified_by(alloc, text, &options.built_in(alloc))
+    fill_justified_by(alloc, text, options.layout(), &options.parts(alloc))
 }
 
 /// Wraps texts in the columns of a table, and returns its rows, as `table` of `textwrap_display` does
@@ -81,4 +90,46 @@ pub fn table(
     ensures only_memory { OnlyMemoryRunsOut result }
 {
     table_by(alloc, cells, columns, gaps)
+}
+
+/// The width that [`balanced_width`](crate::balancing::balanced_width) returns: the least one at which first fit
+/// takes no more lines of a text than at the width of the options. Words end where the options say. At
+/// blanks nothing is allocated.
+///
+/// # Errors
+/// [`WrapError::Memory`] where memory runs out.
+pub fn balanced_width(
+    alloc: Global,
+    text: &str,
+    options: &PlainOptions<'_>,
+) -> Result<usize, WrapError>
+    ensures balanced { IfOk result (IsBalanced (settings_of options.now)
+        (words_by options.now.word_separator) (splitter_of options.now) text.now) }
+    ensures done { options.now.word_separator ≡ AtBlanks → IsOk result }
+    ensures only_memory { OnlyMemoryRunsOut result }
+{
+    let balance = balanced_width_by(alloc, text, options.layout(), &options.parts(alloc))?;
+    Ok(balance.width)
+}
+
+/// The lines that [`wrap_balanced`](crate::balancing::wrap_balanced) returns: those of first fit at the
+/// balanced width.
+///
+/// # Errors
+/// [`WrapError::Memory`] where memory runs out.
+pub fn wrap_balanced<'t>(
+    alloc: Global,
+    text: &'t str,
+    options: &PlainOptions<'_>,
+) -> Result<Vec<CowStr<'t>>, WrapError>
+    ensures lines { IfOk result (λ lines. AreBalanced (settings_of options.now)
+        (words_by options.now.word_separator) (splitter_of options.now) text.now
+        (map line_view lines.items)) }
+    ensures as_many { IfOk result (λ lines. (others : List Line)
+        → AreFirstFitAt (settings_of options.now) (words_by options.now.word_separator)
+        (splitter_of options.now) text.now options.now.width others
+        → length lines.items ≡ length others) }
+    ensures only_memory { OnlyMemoryRunsOut result }
+{
+    wrap_balanced_by(alloc, text, options.layout(), &options.parts(alloc))
 }

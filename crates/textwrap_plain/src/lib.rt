@@ -1,9 +1,10 @@
 //! The calls of `textwrap` and `textwrap_display` by options that hold no function, and so can be
 //! returned, stored and compared: beside the port, for callers that have words end where Unicode lets
 //! a line end, and for calls from C. Each part of these options is built in, so each answer is the one
-//! that its contract names.
+//! that its contract names. Balanced lines, which are made by built-in parts alone, stand here too.
 #![tactic(auto)]
 
+pub mod balancing;
 pub mod display;
 pub mod laws;
 mod options;
@@ -11,6 +12,6 @@ pub mod placed;
 mod printable;
 pub mod texts;
 
-pub use display::{PlainColumn, fill_justified, table};
+pub use display::{PlainColumn, balanced_width, fill_justified, table, wrap_balanced};
 pub use options::{PlainAlgorithm, PlainOptions, PlainSeparator, PlainSplitter};
 pub use texts::{fill, fill_into, refill, wrap, wrap_columns};

@@ -15,7 +15,8 @@ use crate::options::PlainOptions;
 use std::alloc::{AllocError, Global};
 use textwrap::WrapError;
 use textwrap::words::Word;
-use textwrap_layout::any_options::AnyOptions;
+use textwrap_layout::frame::Frame;
+use textwrap_layout::pieces::find_pieces;
 use textwrap_lines::inner::place_lines_by;
 use textwrap_lines::placed::{LineCounts, PlacedLines, TextwrapLine, write_places};
 
@@ -34,7 +35,7 @@ pub fn place_lines(
         × (placed.built.items ≡ built_text lines)) }
     ensures only_memory { OnlyMemoryRunsOut result }
 {
-    place_lines_by(alloc, text, &options.built_in(alloc))
+    place_lines_by(alloc, text, options.layout(), &options.parts(alloc))
 }
 
 /// Writes where the lines of [`wrap`](crate::wrap) stand to the front of `lines`, and those that are no
@@ -61,8 +62,15 @@ pub fn place_into(
     ensures only_memory { OnlyMemoryRunsOut result }
 {
     if options.are_direct() {
-        let options = options.at_blanks();
-        return textwrap_lines::inner::place_into(alloc, text, &options, lines, room);
+        let parts = options.direct_parts();
+        return textwrap_lines::inner::place_into(
+            alloc,
+            text,
+            options.layout(),
+            &parts,
+            lines,
+            room,
+        );
     }
     let placed = place_lines(alloc, text, options)?;
     Ok(write_places(
@@ -87,5 +95,6 @@ pub fn paragraph_pieces<'t>(
         (splitter_of options.now) paragraph.now) }
     ensures tiles { IfOk result (λ pieces. Tiles (map word_view pieces.items) paragraph.now) }
 {
-    options.built_in(alloc).find_pieces(alloc, paragraph)
+    let frame = Frame::of(options.layout());
+    find_pieces(alloc, paragraph, &frame, &options.parts(alloc))
 }

@@ -1,4 +1,5 @@
-//! Options without functions as `textwrap_lines` takes them, and where these cut texts into words.
+//! Options without functions as `textwrap_lines` takes them: a layout, and parts by which texts are cut
+//! into words, split and divided.
 ghost use Rattle.std.specs.Prelude.{◌≡◌};
 ghost use Rattle.textwrap_layout.specs.Direct.{as_algorithm};
 ghost use Rattle.textwrap_layout.specs.Options.{layout_view};
@@ -7,29 +8,36 @@ ghost use Rattle.textwrap_words.specs.Pieces.{as_splitter};
 
 use crate::options::{PlainAlgorithm, PlainOptions, PlainSeparator, PlainSplitter};
 use std::alloc::{AllocError, Global};
-use textwrap_layout::any_options::{BuiltInAlgorithm, BuiltInParts};
-use textwrap_layout::built_in::BuiltInOptions;
+use textwrap_layout::built_in::BuiltIn;
 use textwrap_layout::layout::Layout;
-use textwrap_layout::printable_cuts::PrintableCuts;
+use textwrap_layout::parts::{BuiltInAlgorithm, BuiltInParts};
+use textwrap_layout::printable_cuts::{BlankCuts, PrintableCuts};
 use textwrap_unicode::inner::{is_cut_at_blanks, is_cut_between};
 use textwrap_unicode::{Numbers, unicode_cuts, unicode_cuts_by_expression};
 use textwrap_words::inner::BuiltInSplitter;
 
 /// The words of a separator.
 #[derive(Clone, Copy)]
-pub(crate) struct PlainWords {
-    pub(crate) separator: PlainSeparator,
+pub struct PlainWords {
+    /// Where words end.
+    pub separator: PlainSeparator,
     /// What lists of cuts lie in.
-    pub(crate) alloc: Global,
+    pub alloc: Global,
 }
 
 impl PrintableCuts for PlainWords {
     ghost use Rattle.textwrap_plain.specs.Options.{is_cut_plainly, words_by};
     ghost use Rattle.textwrap_plain.specs.CutSides.{cuts-after_others, cuts-before_others};
+    ghost use Rattle.textwrap_plain.specs.CutSides.{words_by-cut};
+    ghost use Rattle.textwrap_plain.specs.declared.options.PlainSeparator.TheVariants.{AtBlanks};
 
     ghost words = { λ words. words_by words.separator };
 
+    ghost at_blanks = { λ words. words.separator ≡ AtBlanks };
+
     ghost cuts = { λ words. is_cut_plainly words.separator };
+
+    ghost are_cut = { λ words. words_by-cut words.separator };
 
     ghost before_others = { λ words. cuts-before_others words.separator };
 
@@ -69,20 +77,40 @@ impl PrintableCuts for PlainWords {
 }
 
 impl<'a> PlainOptions<'a> {
-    /// The options of `textwrap_lines` that say the same, and hold no function either.
-    pub(crate) fn built_in(&self, alloc: Global) -> BuiltInOptions<'a, PlainWords>
-        ensures layout { layout_view result.layout ≡ settings_of self.now }
+    /// What they say, but for the separator, the splitter and the algorithm.
+    pub fn layout(&self) -> Layout<'a>
+        ensures { layout_view result ≡ settings_of self.now }
+    {
+        let PlainOptions {
+            width,
+            line_ending,
+            initial_indent,
+            subsequent_indent,
+            break_words,
+            preserve_trailing_space,
+            even_paragraphs,
+            ..
+        } = *self;
+        Layout {
+            width,
+            line_ending,
+            initial_indent,
+            subsequent_indent,
+            break_words,
+            preserve_trailing_space,
+            even_paragraphs,
+        }
+    }
+
+    /// Their separator, splitter and algorithm, as `textwrap_lines` takes them.
+    pub fn parts(&self, alloc: Global) -> BuiltIn<PlainWords>
         ensures words { result.words.separator ≡ self.now.word_separator }
         ensures splitter { as_splitter result.parts.splitter ≡ splitter_of self.now }
         ensures algorithm { as_algorithm result.parts.algorithm ≡ algorithm_of self.now }
     {
-        BuiltInOptions {
-            layout: Layout::of(&self.at_blanks()),
+        BuiltIn {
             parts: BuiltInParts {
-                splitter: match self.word_splitter {
-                    PlainSplitter::NoHyphenation => BuiltInSplitter::NoHyphenation,
-                    PlainSplitter::HyphenSplitter => BuiltInSplitter::HyphenSplitter,
-                },
+                splitter: self.built_in_splitter(),
                 algorithm: match self.wrap_algorithm {
                     PlainAlgorithm::FirstFit => BuiltInAlgorithm::FirstFit,
                     PlainAlgorithm::OptimalFit(penalties) => BuiltInAlgorithm::LeastCost(penalties),
@@ -92,6 +120,29 @@ impl<'a> PlainOptions<'a> {
                 separator: self.word_separator,
                 alloc,
             },
+        }
+    }
+
+    /// First fit, of words between blanks. Loops over these ask of no byte which separator it is.
+    pub(crate) fn direct_parts(&self) -> BuiltIn<BlankCuts>
+        ensures splitter { as_splitter result.parts.splitter ≡ splitter_of self.now }
+        ensures first_fit { result.parts.algorithm ≡ BuiltInAlgorithm.FirstFit }
+    {
+        BuiltIn {
+            parts: BuiltInParts {
+                splitter: self.built_in_splitter(),
+                algorithm: BuiltInAlgorithm::FirstFit,
+            },
+            words: BlankCuts {},
+        }
+    }
+
+    fn built_in_splitter(&self) -> BuiltInSplitter
+        ensures { as_splitter result ≡ splitter_of self.now }
+    {
+        match self.word_splitter {
+            PlainSplitter::NoHyphenation => BuiltInSplitter::NoHyphenation,
+            PlainSplitter::HyphenSplitter => BuiltInSplitter::HyphenSplitter,
         }
     }
 }

@@ -17,7 +17,7 @@ ghost use Rattle.textwrap_base.specs.Errors.{OnlyMemoryRunsOut};
 use crate::options::PlainOptions;
 use std::alloc::Global;
 use std::borrow::CowStr;
-use textwrap::inner::{refill_built_in, wrap_columns_built_in};
+use textwrap::inner::{refill_by, wrap_columns_by};
 use textwrap::{LineEnding, WrapError};
 use textwrap_lines::inner::{fill_by, wrap_by};
 use textwrap_lines::parts::split_paragraph;
@@ -55,7 +55,7 @@ pub fn wrap<'t>(
         (map line_view lines.items)) }
     ensures only_memory { OnlyMemoryRunsOut result }
 {
-    wrap_by(alloc, text, &options.built_in(alloc))
+    wrap_by(alloc, text, options.layout(), &options.parts(alloc))
 }
 
 /// Wraps a text and joins its lines by the line ending, as `fill` of `textwrap` does it.
@@ -67,7 +67,7 @@ pub fn fill(alloc: Global, text: &str, options: &PlainOptions<'_>) -> Result<Str
         (DividesPlainly options.now (settings_of options.now)) text.now (string_bytes filled)) }
     ensures only_memory { OnlyMemoryRunsOut result }
 {
-    fill_by(alloc, text, &options.built_in(alloc))
+    fill_by(alloc, text, options.layout(), &options.parts(alloc))
 }
 
 /// Writes the text of [`fill`] into lent room, as much of it as there is room for, and returns how many
@@ -94,7 +94,8 @@ pub fn fill_into(
         return Ok(write_over(room, line));
     }
     if options.are_direct() {
-        return textwrap_lines::inner::fill_into(alloc, text, &options.at_blanks(), room);
+        let parts = options.direct_parts();
+        return textwrap_lines::inner::fill_into(alloc, text, options.layout(), &parts, room);
     }
     let filled = fill(alloc, text, options)?;
     Ok(write_over(room, &filled))
@@ -158,7 +159,7 @@ pub fn refill(
         (DividesPlainly options.now) filled_text.now (string_bytes refilled)) }
     ensures only_memory { OnlyMemoryRunsOut result }
 {
-    refill_built_in(alloc, filled_text, &options.built_in(alloc))
+    refill_by(alloc, filled_text, options.layout(), &options.parts(alloc))
 }
 
 /// Wraps a text into columns beside one another, as `wrap_columns` of `textwrap` does it.
@@ -180,8 +181,15 @@ pub fn wrap_columns(
         (map string_bytes rows.items)) }
     ensures only_memory { OnlyMemoryRunsOut result }
 {
-    let options = options.built_in(alloc);
-    wrap_columns_built_in(
-        alloc, text, columns, &options, left_gap, middle_gap, right_gap,
+    let parts = options.parts(alloc);
+    wrap_columns_by(
+        alloc,
+        text,
+        columns,
+        options.layout(),
+        &parts,
+        left_gap,
+        middle_gap,
+        right_gap,
     )
 }

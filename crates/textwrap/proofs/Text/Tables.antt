@@ -1,7 +1,7 @@
 -- The cells and rows of texts in columns: which lines they show, and that rows are even.
 use Rattle.textwrap.proofs.Common.{length-replicate, cells_by_column, div_ceil_times, All-replicate}
 use Rattle.textwrap.proofs.Common.{range_with_len, text_width-nil, settings_view, DividesUnder, All}
-use Rattle.textwrap.proofs.Common.{KeepsMethods, append_assoc, column_cells, MayOverflow, MayDivide}
+use Rattle.textwrap.proofs.Common.{KeepsMethods, append_assoc, column_cells, MayDivide}
 use Rattle.textwrap.proofs.Common.{MaySeparate, inner_width, sum_by-cons, append-nil, cell_parts, ℕ}
 use Rattle.textwrap.proofs.Common.{get_or-map, map-append, text_width, column_row, RowLayout, arith}
 use Rattle.textwrap.proofs.Common.{join_with, layout_of, replicate, row_count, row_parts, All-head}
@@ -12,7 +12,6 @@ use Rattle.textwrap.proofs.Common.{◌*◌, ◌+◌, ◌-◌, ◌<◌, ◌∙◌
 use Rattle.textwrap_text.proofs.Common.{flat_map-append, sum_by-append, get_or_past}
 use Rattle.textwrap_text.proofs.{Units.Reading.printable-width, Lists.Elements.range-split}
 use Rattle.textwrap_layout.proofs.Common.{IsDividedInto, AreTextLines, DividesBy}
-use Rattle.textwrap_layout.specs.Text.{SomeMayPass64BitsUnder, SomeMayPass64Bits}
 use Rattle.std.proofs.{Math.Nat.mul-le-mul_right, lemmas.List.FromFn.fill_by_all}
 use Rattle.std.proofs.lemmas.List.FromFn.{get_or-map-range_with_len, length-map-range_with_len}
 use Rattle.textwrap_words.specs.declared.wrap_algorithms.WrapAlgorithm.{WrapAlgorithm}
@@ -180,12 +179,3 @@ module _ {E C : Type 0} {e : _} {c : _} where
       → KeepsMethods old new → AreTextLines (settings_view new) (DividesBy new) text lines
       → AreTextLines settings (DividesUnder old settings) text lines
   AreTextLines-methods old new settings text lines same keeps are = search rules
-
-  pub SomeMayPass64Bits-methods : (old new : Options E C e c) (settings : Settings) (text : List ℕ)
-      → settings_view new ≡ settings → KeepsMethods old new → SomeMayPass64Bits new text
-      → SomeMayPass64BitsUnder old settings text
-  SomeMayPass64Bits-methods old new settings text same keeps some = search rules
-
-  pub MayOverflow-methods : (old new : Options E C e c) → KeepsMethods old new → MayOverflow new
-      → MayOverflow old
-  MayOverflow-methods old new keeps may = search rules

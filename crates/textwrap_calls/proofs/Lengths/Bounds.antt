@@ -28,7 +28,9 @@ use Rattle.textwrap.proofs.Text.Tables.{columns_kept}
 use Rattle.textwrap.specs.Columns.{at_column_width, column_width, inner_width, layout_of, row_count}
 use Rattle.textwrap_plain.proofs.Words.{IsWrapped-at}
 use Rattle.textwrap_calls.proofs.Lengths.Lines.{indent-length, later-length, line-length}
-use Rattle.textwrap_plain.proofs.Counts.{slices, text-size}
+use Rattle.textwrap_plain.proofs.Balance.Counts.{slices, text-size}
+use Rattle.textwrap_plain.specs.CutSides.{words_by-cut}
+use Rattle.textwrap_plain.specs.Options.{words_by}
 use Rattle.textwrap_calls.proofs.Lengths.Sums.{texts-joined, by-columns, flat-each}
 use Rattle.textwrap_calls.specs.Bounds.{columns_room_bound, wrap_room_bound, fill_bound, rows_bound}
 use Rattle.textwrap_calls.specs.declared.columns.TextwrapGaps.{TextwrapGaps}
@@ -112,8 +114,8 @@ lines-bounded o settings len text lines utf8 len_is are =
     let all = IsWrapped-at (separator_of o) {algorithm = algorithm_of o} {splitter = splitter_of o}
     utf8 are in
     let groups = all.are.groups in
-    let size = text-size (separator_of o) (splitter_of o) (algorithm_of o) settings text groups utf8
-    all.are.defined (all.tile (λ e. cc)) in
+    let size = text-size (words_by (separator_of o)) (words_by-cut (separator_of o)) (splitter_of o)
+    (algorithm_of o) settings text groups utf8 all.are.defined (all.tile (λ e. cc)) in
     subst (AreBounded settings len) (sym all.are.given)
     (parts-bounded settings len (flat groups) all.adds.indents (all.adds.no_hyphen (λ e. cc))
     (omega (arith, size.0, len_is)) (omega (arith, size.1, len_is)))

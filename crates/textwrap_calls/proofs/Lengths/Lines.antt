@@ -14,7 +14,7 @@ use Rattle.textwrap_calls.proofs.Common.{◌*◌, ◌+◌, ◌∙◌, ◌∷◌,
 use Rattle.textwrap_layout.proofs.Paragraph.LeftOff.{bytes-assembled}
 use Rattle.textwrap_layout.specs.Paragraph.{indent_before}
 use Rattle.textwrap.proofs.Text.PlainFilled.{bytes_of}
-use Rattle.textwrap_plain.proofs.Counts.{slices}
+use Rattle.textwrap_plain.proofs.Balance.Counts.{slices}
 
 -- ---- how long lines are
 

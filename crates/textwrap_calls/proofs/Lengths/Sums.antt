@@ -4,7 +4,7 @@ use Rattle.textwrap_calls.proofs.Common.{flat_map-append, length-append, join_wi
 use Rattle.textwrap_calls.proofs.Common.{flat_map, length, arith, List, flat}
 use Rattle.textwrap_calls.proofs.Common.{map, suc, ◌*◌, ◌+◌, ◌∙◌, ◌∷◌, ◌≡◌, ◌≤◌, [], ap}
 use Rattle.std.proofs.Math.Nat.{mul_comm}
-use Rattle.textwrap_plain.proofs.Counts.{flat-plus}
+use Rattle.textwrap_plain.proofs.Balance.Counts.{flat-plus}
 use Rattle.std.proofs.lemmas.List.Folds.{flat_map-map}
 use Rattle.textwrap_calls.specs.Bounds.{Suffices}
 

@@ -4,14 +4,15 @@ use Rattle.textwrap_text.proofs.Common.{length-append, slice_range, All-append, 
 use Rattle.textwrap_text.proofs.Common.{IsUtf8-nil, append-nil, All-cons, All-head, All-tail, arith}
 use Rattle.textwrap_text.proofs.Common.{flat_map, ltb-true, IsUtf8, Option, length, false, rules, ℕ}
 use Rattle.textwrap_text.proofs.Common.{subst, Bool, List, None, Some, cond, refl, take, true, ◌++◌}
-use Rattle.textwrap_text.proofs.Common.{All, sym, ◌<◌, ◌↔◌, ◌∙◌, ◌∷◌, ◌≡◌, ◌≢◌, ◌≤◌, [], ap}
+use Rattle.textwrap_text.proofs.Common.{All, sym, ◌<◌, ◌↔◌, ◌∙◌, ◌∷◌, ◌≡◌, ◌≢◌, [], ap}
+use Rattle.textwrap_layout.proofs.Common.{AreWordsCut}
 use Rattle.textwrap_layout.proofs.Common.{IsNarrowWord-measured, AreSplit-computed, pieces_of_words}
 use Rattle.textwrap_layout.proofs.Common.{ArePlacedLines, algorithm_view, ends_in_hyphen, Algorithm}
 use Rattle.textwrap_layout.proofs.Common.{IsDividedInto, settings_view, splitter_view, AreTextLines}
 use Rattle.textwrap_layout.proofs.Common.{HasNoPenalty, IsNarrowWord, broken_words, front_pieces}
 use Rattle.textwrap_layout.proofs.Common.{tiled-append, words_unique, IsDividedBy, MaySeparate}
 use Rattle.textwrap_layout.proofs.Common.{broken_word, later_width, pieces_with, split_words, Whole}
-use Rattle.textwrap_layout.proofs.Common.{total_width, AreWordsOf, HasMethods, IsMeasured, AreTexts}
+use Rattle.textwrap_layout.proofs.Common.{AreWordsOf, HasMethods, IsMeasured, AreTexts}
 use Rattle.textwrap_layout.proofs.Common.{empty_word, last_piece, last_space, split_from, ArePieces}
 use Rattle.textwrap_layout.proofs.Common.{split_word, ArePoints, DividesAs, DividesBy, MayDivide}
 use Rattle.textwrap_layout.proofs.Common.{pieces_by, pieces_of, widths_of, words_cut, CanBeCut}
@@ -21,7 +22,7 @@ use Rattle.textwrap_layout.proofs.Common.{tiled, Line}
 use Rattle.textwrap_text.proofs.Lists.Parts.{all-left, Begins, flat}
 use Rattle.textwrap_words.proofs.Word.BrokenPieces.{broken_words-no_penalty, broken_words-measured}
 use Rattle.textwrap_words.proofs.Word.BrokenPieces.{tiled-broken_words, broken_texts-some}
-use Rattle.textwrap_words.proofs.Word.Words.{total_width-narrow, text_width-nil, EndsInBlanks}
+use Rattle.textwrap_words.proofs.Word.Words.{text_width-nil, EndsInBlanks}
 use Rattle.textwrap_words.proofs.Word.Words.{no_blanks}
 use Rattle.textwrap_words.proofs.Word.Pieces.{AreSplit-no_penalty, ArePoints-hyphens, AreSplitWords}
 use Rattle.textwrap_words.proofs.Word.Pieces.{split_pieces_of, ArePoints-cuts, AreTexts-words}
@@ -191,13 +192,6 @@ module _ (settings : Settings) (splitter : Splitter) (paragraph : List ℕ) (wor
   pieces_of_words-no_penalty = pieces-no_penalty settings AreTexts (ArePoints splitter)
       (λ _ _ _ given. given) (ArePoints-cuts splitter) (ArePoints-hyphens splitter) paragraph _ utf8 are
 
-  -- all of them together are at most as wide as the bytes of the paragraph
-  pub pieces_of_words-wide : total_width sizes_of (pieces_of_words settings splitter words)
-      ≤ length paragraph
-  pieces_of_words-wide = rw pieces_of_words-tile at
-      (total_width-narrow (pieces_of_words settings splitter words) (λ k d within.
-      IsNarrowWord-measured _ (pieces_of_words-measured k d within) (pieces_of_words-no_penalty k d within)))
-
 -- ---- those of words between blanks
 
 module _ (paragraph : List ℕ) (utf8 : IsUtf8 paragraph) where
@@ -224,6 +218,11 @@ pub words_cut-texts : (cuts : Option (List ℕ)) (paragraph : List ℕ) → IsUt
     → CanBeCut cuts paragraph → AreTexts paragraph (words_cut cuts paragraph)
 words_cut-texts None paragraph utf8 can = words_of-texts paragraph utf8
 words_cut-texts (Some cuts) paragraph utf8 can = search (rules, arith, parts-texts, inner-cuts)
+
+pub AreWordsCut-texts : (line : List ℕ) (words : List WordText) → IsUtf8 line
+    → AreWordsCut line words → AreTexts line words
+AreWordsCut-texts line words utf8 (cuts, can, is) =
+    subst (AreTexts line) (sym is) (words_cut-texts cuts line utf8 can)
 
 -- ---- words that are replaced by pieces of them end as they did
 
@@ -352,19 +351,19 @@ module _ {E C : Type 0} {e : _} {c : _} (options : Options E C e c) (settings : 
 
 -- a paragraph whose pieces are divided so by the built-in parts of the options, whatever finds its words
 pub direct-divided : {E C : Type 0} {e : _} {c : _} (options : Options E C e c)
-    (Words : List ℕ → List WordText → Type 0) (splitter : Splitter) (algorithm : Algorithm)
+    (settings : Settings) (Words : List ℕ → List WordText → Type 0) (splitter : Splitter) (algorithm : Algorithm)
     (built_in : HasMethods options splitter algorithm) (is_later : Bool) (paragraph : List ℕ)
     (words : List WordText) (division : List (List WordText)) → Words paragraph words
-    → IsDividedBy algorithm sizes_of (widths_of (settings_view options) is_later)
-    (pieces_of_words (settings_view options) splitter words) division
-    → IsDividedInto (settings_view options) Words (MaySplit options.word_splitter)
+    → IsDividedBy algorithm sizes_of (widths_of settings is_later)
+    (pieces_of_words settings splitter words) division
+    → IsDividedInto settings Words (MaySplit options.word_splitter)
     (MayDivide options.wrap_algorithm (λ w. w)) is_later paragraph division
-direct-divided options Words splitter algorithm built_in is_later paragraph words division are by =
+direct-divided options settings Words splitter algorithm built_in is_later paragraph words division are by =
     rw (
       points-as options.word_splitter splitter built_in.splitter_is,
       division-as options.wrap_algorithm algorithm built_in.algorithm_is,
     ) (
-      pieces_of_words (settings_view options) splitter words,
+      pieces_of_words settings splitter words,
       (words, split_words splitter words, are, AreSplit-computed splitter words, refl),
       by,
     )

@@ -6,11 +6,12 @@ use Rattle.textwrap_text.proofs.Common.{IsUtf8, Result, length, arith, false, ru
 use Rattle.textwrap_text.proofs.Common.{List, None, Some, cond, refl, take, true, zero, ◌++◌, ◌==◌}
 use Rattle.textwrap_text.proofs.Common.{All, Err, map, suc, sym, ◌+◌, ◌<◌, ◌^◌, ◌∙◌, ◌∷◌, ◌≡◌, ◌≢◌}
 use Rattle.textwrap_text.proofs.Common.{◌≤◌, [], ap}
+use Rattle.textwrap_layout.proofs.Common.{AreWordsCut}
 use Rattle.textwrap_layout.proofs.Common.{OnlyCharactersPass, IsOneCharacter, algorithm_view, Sizes}
-use Rattle.textwrap_layout.proofs.Common.{ends_in_hyphen, IsDividedInto, settings_view, IsDividedBy}
+use Rattle.textwrap_layout.proofs.Common.{ends_in_hyphen, IsDividedInto, IsDividedBy}
 use Rattle.textwrap_layout.proofs.Common.{splitter_view, HasNoPenalty, IsNarrowWord, broken_words}
 use Rattle.textwrap_layout.proofs.Common.{closed_width, front_pieces, tiled-append, MayOverflow}
-use Rattle.textwrap_layout.proofs.Common.{MaySeparate, later_width, total_width, Overflowed, AllFit}
+use Rattle.textwrap_layout.proofs.Common.{later_width, total_width, Overflowed, AllFit}
 use Rattle.textwrap_layout.proofs.Common.{empty_word, line_width, ArePieces, LeastCost, LineParts}
 use Rattle.textwrap_layout.proofs.Common.{MayDivide, line_from, line_view, widths_of, word_view}
 use Rattle.textwrap_layout.proofs.Common.{AreTexts, MaySplit, Settings, WordText, sizes_of, AreCuts}
@@ -29,9 +30,9 @@ use Rattle.textwrap_words.specs.WrapAlgorithms.{OverflowsBy}
 use Rattle.textwrap_base.specs.declared.errors.WrapError.{WrapError}
 use Rattle.textwrap_base.specs.declared.errors.WrapError.TheVariants.{Overflow, Memory}
 use Rattle.textwrap_layout.specs.Fuzzing.{AppendsLines}
-use Rattle.textwrap_layout.specs.Paragraph.{MayPass64Bits}
-use Rattle.textwrap_layout.proofs.Paragraph.Pieces.{pieces-no_penalty, pieces-bounded}
-use Rattle.textwrap_words.proofs.Word.Parts.{MaySeparate-texts, MaySplit-hyphens, MaySplit-cuts}
+use Rattle.textwrap_layout.proofs.Paragraph.Pieces.{AreWordsCut-texts, pieces-no_penalty}
+use Rattle.textwrap_layout.proofs.Paragraph.Pieces.{pieces-bounded}
+use Rattle.textwrap_words.proofs.Word.Parts.{MaySplit-hyphens, MaySplit-cuts}
 use Rattle.textwrap_words.proofs.Word.BrokenPieces.{broken_words-tight, IsTight}
 use Rattle.textwrap_base.proofs.Division.Map.{IsDivision-whole}
 use Rattle.textwrap_words.proofs.Word.Pieces.{split-measured}
@@ -51,16 +52,14 @@ views-lines : {D : Type 0} (v : D → List Word) (division : List D)
 views-lines v [] = refl
 views-lines v (line ∷ lines) = ap (λ l. map word_view (v line) ∷ l) (views-lines v lines)
 
--- a division of a paragraph's pieces divides it
-pub divides-from : {D F : Type 0} {f : _} (v : D → List Word) (settings : Settings)
-    (Words : List ℕ → List WordText → Type 0) (Points : List ℕ → List ℕ → Type 0)
-    (algorithm : WrapAlgorithm F f) (is_later : Bool) (paragraph : List ℕ) (pieces : List Word)
-    (division : List D) → ArePieces settings Words Points paragraph (map word_view pieces)
-    → MayDivide algorithm word_view (widths_of settings is_later) pieces (map v division)
-    → IsDividedInto settings Words Points (MayDivide algorithm (λ w. w)) is_later paragraph
+-- what an algorithm divides pieces into is what it divides their texts into
+pub divides-views : {D F : Type 0} {f : _} (v : D → List Word) (algorithm : WrapAlgorithm F f)
+    (widths : List ℕ) (pieces : List Word) (division : List D)
+    → MayDivide algorithm word_view widths pieces (map v division)
+    → MayDivide algorithm (λ w. w) widths (map word_view pieces)
     (map (λ line. map word_view (v line)) division)
-divides-from v settings Words Points algorithm is_later paragraph pieces division are divided =
-    rw (views-lines v division) (map word_view pieces, are, search (rules, arith, MayDivide-map))
+divides-views v algorithm widths pieces division divided =
+    rw (views-lines v division) (search (rules, arith, MayDivide-map))
 
 -- lines that some pieces begin with
 pub lines-begin : {D : Type 0} (v : D → List Word) (pieces rest : List Word) (division : List D)
@@ -124,10 +123,10 @@ built_in-or splitters.TheVariants.HyphenSplitter given built_in = built_in (λ i
 built_in-or (splitters.TheVariants.Custom points) given built_in = given refl
 
 module _ {E C : Type 0} {e : _} {c : _} (options : Options E C e c) where
-  pub only-memory : (A : Type 0) (paragraph : List ℕ) (pieces : List Word)
+  pub only-memory : (A : Type 0) (settings : Settings) (paragraph : List ℕ) (pieces : List Word)
       (result : Result A WrapError)
       → IsUtf8 paragraph → length paragraph < 2 ^ 63
-      → ArePieces (settings_view options) (MaySeparate options.word_separator)
+      → ArePieces settings AreWordsCut
       (MaySplit options.word_splitter) paragraph (map word_view pieces)
       → Tiles (map word_view pieces) paragraph
       → (Overflowed result → (penalties : Penalties)
@@ -135,28 +134,24 @@ module _ {E C : Type 0} {e : _} {c : _} (options : Options E C e c) where
       → (Fits64Bits (total_width (λ word. sizes_of (word_view word)) pieces)
       → ¬ Overflowed result)
       → ¬ MayOverflow options → OnlyMemoryRunsOut result
-  only-memory A paragraph pieces result utf8 short are tile overflow_only fits never =
+  only-memory A settings paragraph pieces result utf8 short are tile overflow_only fits never =
       only-without result (λ over.
       built_in-or options.word_splitter (λ given. never (given, overflow_only over))
       (λ built_in.
-      let bounded = pieces-bounded (settings_view options) (MaySeparate options.word_separator)
-      (MaySplit options.word_splitter) (MaySeparate-texts options.word_separator)
+      let bounded = pieces-bounded settings AreWordsCut
+      (MaySplit options.word_splitter) AreWordsCut-texts
       (MaySplit-cuts options.word_splitter) (MaySplit-hyphens options.word_splitter built_in)
       paragraph (map word_view pieces) utf8 are in
       search (rules, arith, total_width-pieces)))
 
-  -- nor without such pieces
-  pub only-fitting : (A : Type 0) (paragraph : List ℕ) (pieces : List Word)
-      (result : Result A WrapError)
-      → ArePieces (settings_view options) (MaySeparate options.word_separator)
-      (MaySplit options.word_splitter) paragraph (map word_view pieces)
-      → (Fits64Bits (total_width (λ word. sizes_of (word_view word)) pieces)
-      → ¬ Overflowed result)
-      → ¬ MayPass64Bits options paragraph → OnlyMemoryRunsOut result
-  only-fitting A paragraph pieces result are fits never = only-without result (λ over.
-      let same = total_width-same (λ word. sizes_of (word_view word)) sizes_of pieces
-      (map word_view pieces) (sizes-word_view pieces) in
-      search (rules, arith))
+-- nor where the widths of the pieces fit
+pub only-fitting : (A : Type 0) (pieces : List Word) (result : Result A WrapError)
+    → (Fits64Bits (total_width (λ word. sizes_of (word_view word)) pieces) → ¬ Overflowed result)
+    → Fits64Bits (total_width sizes_of (map word_view pieces)) → OnlyMemoryRunsOut result
+only-fitting A pieces result fits few =
+    only-without result (fits (subst Fits64Bits (sym (total_width-same
+    (λ word. sizes_of (word_view word)) sizes_of pieces (map word_view pieces)
+    (sizes-word_view pieces))) few))
 
 -- a call that fails leaves the lines as they were
 pub appends-none : {Z A : Type 0} (Refuses : Type 0) (Are : List LineParts → Type 0)

@@ -5,20 +5,17 @@ use Rattle.textwrap_lines.proofs.Common.{All-append, AreDividedParts, IsDividedI
 use Rattle.textwrap_lines.proofs.Common.{AreTextLines, length-append, paragraphs_of, tiled-word_of}
 use Rattle.textwrap_lines.proofs.Common.{All-cons, All-weaker, AreIndented, AreWordsOf, IsDividedBy}
 use Rattle.textwrap_lines.proofs.Common.{[], Algorithm, AreGroups, ArePoints, DividesAs, StartsWith}
-use Rattle.textwrap_lines.proofs.Common.{All, DividesBy, LeastCost, LineParts, MatchBool}
+use Rattle.textwrap_lines.proofs.Common.{All, LeastCost, LineParts, MatchBool}
 use Rattle.textwrap_lines.proofs.Common.{All-head, All-tail, flat_map, Settings, Splitter, WordText}
 use Rattle.textwrap_lines.proofs.Common.{All-nil, ap, Greedy, is_whole, sizes_of, word_of, words_of}
 use Rattle.textwrap_lines.proofs.Common.{arith, false, IsUtf8, length, nat_lt, rules, subst, tiled}
 use Rattle.textwrap_lines.proofs.Common.{Bool, flat, Line, List, map, sym, true, ℕ, ◌++◌, ◌<◌, ◌||◌}
-use Rattle.textwrap_lines.proofs.Common.{⊤, ◌∙◌, ◌∷◌, ◌≡◌}
+use Rattle.textwrap_lines.proofs.Common.{◌∙◌, ◌∷◌, ◌≡◌}
 use Rattle.textwrap_text.proofs.Common.{starts_with_of_eq}
 use Rattle.textwrap_base.proofs.Common.{Sizes}
-use Rattle.textwrap_layout.proofs.Common.{covered_by, DividesAt, HasPartsAt, IsFilled}
-use Rattle.textwrap_layout.specs.declared.options.Options.{Options}
+use Rattle.textwrap_layout.proofs.Common.{covered_by, DividesAt, IsFilled}
 use Rattle.textwrap_text.proofs.Numbers.{or_false, some_later}
-use Rattle.textwrap_layout.proofs.Paragraph.Pieces.{ArePieces-by, division-as, points-as}
-use Rattle.textwrap_layout.specs.Places.{ArePlacedLines}
-use Rattle.textwrap_layout.specs.declared.places.Place.{Place}
+use Rattle.textwrap_layout.proofs.Paragraph.Pieces.{ArePieces-by}
 use Rattle.textwrap_words.proofs.Word.Words.{EndsInBlanks, words_unique}
 use Rattle.textwrap_layout.specs.Text.{LosesOnlyBlanks}
 use Rattle.textwrap_layout.proofs.Paragraph.LeftOff.{covered_by-parts_from, parts_from-blanks}
@@ -82,58 +79,6 @@ groups-some settings [] groups some are = absurd (omega arith)
 groups-some settings (paragraph ∷ paragraphs) [] some are = absurd are
 groups-some settings (paragraph ∷ paragraphs) (parts ∷ groups) some are =
     omega (arith, length-append parts (flat groups), are.0)
-
--- ---- what is divided by the options is divided by what they name: the words of a line that the
--- separator may give, a built-in splitter and a built-in algorithm
-
-module _ {E C : Type 0} {e : _} {c : _} (options : Options E C e c)
-    (words : List ℕ → List WordText) (settings : Settings) (splitter : Splitter)
-    (algorithm : Algorithm) (parts : HasPartsAt options words settings splitter algorithm) where
-  pub divides-at : (is_later : Bool) (paragraph : List ℕ) (division : List (List WordText))
-      → DividesBy options is_later paragraph division
-      → DividesAt words splitter algorithm settings is_later paragraph division
-  divides-at is_later paragraph division by =
-      subst (λ s. DividesAt words splitter algorithm s is_later paragraph division)
-      parts.settings_are (grind (arith, points-as, division-as))
-
--- ---- whatever holds of each division holds of what is made of them
-
-module _ (settings : Settings) (Divides Others : Bool → List ℕ → List (List WordText) → Type 0)
-    (each : (is_later : Bool) (paragraph : List ℕ) (division : List (List WordText))
-    → Divides is_later paragraph division → Others is_later paragraph division) where
-  laid_out-map : (is_later : Bool) (paragraph : List ℕ) (division : List (List WordText))
-      (whole : Bool) → MatchBool whole (division ≡ (word_of paragraph ∷ []) ∷ [])
-      (Divides is_later paragraph division)
-      → MatchBool whole (division ≡ (word_of paragraph ∷ []) ∷ [])
-      (Others is_later paragraph division)
-  laid_out-map is_later paragraph division true is = is
-  laid_out-map is_later paragraph division false by = each is_later paragraph division by
-
-  pub groups-others : (paragraphs : List (List ℕ)) (groups : List (List LineParts))
-      → AreGroups (AreParagraphParts settings Divides) false paragraphs groups
-      → AreGroups (AreParagraphParts settings Others) false paragraphs groups
-  groups-others paragraphs groups =
-      groups-map (λ _. ⊤) (AreParagraphParts settings Divides) (AreParagraphParts settings Others)
-      (λ is_later paragraph parts _. grind (arith, laid_out-map)) false paragraphs groups
-      (λ k d lt. tt)
-
-  abbrev pub text-map : (text : List ℕ) (lines : List Line) → AreTextLines settings Divides text lines
-      → AreTextLines settings Others text lines
-  text-map text lines are = record {
-    groups = are.groups;
-    defined = groups-others (paragraphs_of settings.line_ending text) are.groups are.defined;
-    given = are.given;
-  }
-
-  pub filled-map : (text filled : List ℕ) → IsFilled settings Divides text filled
-      → IsFilled settings Others text filled
-  filled-map text filled (lines, are, joined) = (lines, text-map text lines are, joined)
-
-  pub placed-map : (text : List ℕ) (lines : List Line) (places : List Place)
-      → ArePlacedLines settings Divides text lines places
-      → ArePlacedLines settings Others text lines places
-  placed-map text lines places placed =
-      record { are = text-map text lines placed.are; places_are = placed.places_are }
 
 -- ---- the lines of a paragraph that is divided so
 

@@ -8,8 +8,8 @@ use std::alloc::Allocator;
 use std::borrow::CowStr;
 use std::process::Abort;
 use textwrap::{Options, WrapAlgorithm, WrapError};
-use textwrap_balance::{balanced_width, plain, wrap_balanced};
 use textwrap_plain::PlainOptions;
+use textwrap_plain::balancing::{balanced_width, wrap_balanced};
 
 /// The rule, the text, the columns, the initial and the subsequent indent, the balanced width, and the
 /// lines at it.
@@ -162,12 +162,15 @@ fn assert_balanced_plainly(
     balanced: usize,
     wanted: &[&str],
 ) {
-    let found = plain::balanced_width(rt.alloc(), text, options);
+    let found = textwrap_plain::balanced_width(rt.alloc(), text, options);
     assert_found(rt, text, found.map(|width| width == balanced));
     assert_found(
         rt,
         text,
-        has_lines(plain::wrap_balanced(rt.alloc(), text, options), wanted),
+        has_lines(
+            textwrap_plain::wrap_balanced(rt.alloc(), text, options),
+            wanted,
+        ),
     );
 }
 

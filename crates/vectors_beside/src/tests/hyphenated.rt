@@ -6,12 +6,14 @@ use std::alloc::{AllocError, Allocator, Global};
 use std::borrow::CowStr;
 use std::process::Abort;
 use textwrap::{Options, WordSplitter, WrapAlgorithm, WrapError, fill};
+use textwrap_display::inner::fill_justified_by;
 use textwrap_hyphenated::laws::hyphenated_lines_are_unique;
 use textwrap_hyphenated::{
-    fill_hyphenated, refill_hyphenated, wrap_columns_hyphenated, wrap_hyphenated,
+    Hyphenated, fill_hyphenated, refill_hyphenated, wrap_columns_hyphenated, wrap_hyphenated,
 };
 use textwrap_hyphens::dictionary::Patterns;
 use textwrap_hyphens::laws::more_patterns_raise_levels;
+use textwrap_layout::layout::Layout;
 
 /// Patterns of Zei-len-um-bruch, Sil-ben-tren-nung, schma-len and Spal-ten.
 const GERMAN: [&str; 8] = ["i1l", "i2l1b", "n1u", "n1n2u", "m1b", "n1t", "a1l", "a2l1t"];
@@ -202,6 +204,25 @@ fn links_are_hyphenated(rt: HostRuntime) -> Result<(), AllocError> {
     for &row in PLAIN_LINKS {
         assert_hyphenated(&rt, Call::Plain, row, &patterns);
     }
+    Ok(())
+}
+
+#[test]
+fn lines_with_hyphens_are_justified(rt: HostRuntime) -> Result<(), AllocError> {
+    let patterns = german(rt.alloc())?;
+    let table = patterns.table();
+    let options = plain_options(10, "", "", WrapAlgorithm::FirstFit);
+    let parts = Hyphenated {
+        parts: &options,
+        patterns: &table,
+    };
+    let given = fill_justified_by(rt.alloc(), COLUMN, Layout::of(&options), &parts);
+    assert_gives(
+        &rt,
+        "a dictionary works by any parts",
+        given,
+        "Zeilenum-\nbruch  und\nSilben-\ntrennung\nin  schma-\nlen  Spal-\nten",
+    );
     Ok(())
 }
 

@@ -8,7 +8,7 @@ use textwrap_calls::filling::textwrap_fill_inplace;
 use textwrap_calls::refilling::textwrap_unfill;
 use textwrap_calls::status::{DONE, NOT_UTF8, TOO_SMALL, UNKNOWN_OPTIONS};
 use textwrap_calls::widths::textwrap_display_width;
-use textwrap_step_calls::breaks::{TextwrapLineBreak, textwrap_line_breaks};
+use textwrap_more_calls::breaks::{TextwrapLineBreak, textwrap_line_breaks};
 
 /// The status and the columns that are told of a text.
 pub(super) fn told_width(text: &[u8]) -> (u32, usize) {

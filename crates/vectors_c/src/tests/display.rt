@@ -5,7 +5,7 @@ use std::alloc::Global;
 use textwrap_calls::options::TextwrapOptions;
 use textwrap_calls::status::{DONE, NOT_UTF8, TOO_SMALL, UNKNOWN_OPTIONS};
 use textwrap_calls::texts::TextwrapText;
-use textwrap_display_calls::balancing::textwrap_balanced_width;
+use textwrap_more_calls::balancing::textwrap_balanced_width;
 
 /// A text that takes two lines at 40 columns.
 const TITLE: &[u8] = b"It was the best of times, it was the worst";

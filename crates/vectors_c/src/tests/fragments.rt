@@ -2,7 +2,7 @@
 use super::places::{NO_OFFSET, OffsetsRow, assert_offsets};
 use super::plain::{BEFORE, OffsetsCall};
 use textwrap_calls::status::{DONE, OVERFLOW, TOO_SMALL, UNKNOWN_OPTIONS};
-use textwrap_step_calls::fragments::{TextwrapFragment, TextwrapPenalties};
+use textwrap_more_calls::fragments::{TextwrapFragment, TextwrapPenalties};
 
 /// A fragment of 5.
 const FIVE: TextwrapFragment = TextwrapFragment {

@@ -9,14 +9,14 @@ use textwrap_calls::columns::TextwrapGaps;
 use textwrap_calls::options::TextwrapOptions;
 use textwrap_calls::status::{DONE, NOT_UTF8, TOO_SMALL, UNKNOWN_OPTIONS};
 use textwrap_calls::wrapping::TextwrapLine;
-use textwrap_hyphen_calls::columns::textwrap_wrap_columns_hyphenated;
-use textwrap_hyphen_calls::dictionary::TextwrapDictionary;
-use textwrap_hyphen_calls::filling::textwrap_fill_hyphenated;
-use textwrap_hyphen_calls::points::textwrap_hyphen_points;
-use textwrap_hyphen_calls::reading::{textwrap_patterns_check, textwrap_patterns_read};
-use textwrap_hyphen_calls::refilling::textwrap_refill_hyphenated;
-use textwrap_hyphen_calls::status::{DAMAGED_TABLE, WRONG_PATTERNS};
-use textwrap_hyphen_calls::wrapping::textwrap_wrap_hyphenated;
+use textwrap_more_calls::hyphens::columns::textwrap_wrap_columns_hyphenated;
+use textwrap_more_calls::hyphens::dictionary::TextwrapDictionary;
+use textwrap_more_calls::hyphens::filling::textwrap_fill_hyphenated;
+use textwrap_more_calls::hyphens::points::textwrap_hyphen_points;
+use textwrap_more_calls::hyphens::reading::{textwrap_patterns_check, textwrap_patterns_read};
+use textwrap_more_calls::hyphens::refilling::textwrap_refill_hyphenated;
+use textwrap_more_calls::hyphens::status::{DAMAGED_TABLE, WRONG_PATTERNS};
+use textwrap_more_calls::hyphens::wrapping::textwrap_wrap_hyphenated;
 
 /// The patterns of `hy-phen-ation`.
 const PATTERNS: &[u8] = b"hy3ph\nhe2n\nhena4\nhen5at\n1na\nn2at\n1tio\n2io\no2n\n";

@@ -15,7 +15,7 @@ use textwrap_calls::filling::textwrap_fill_inplace;
 use textwrap_calls::options::TextwrapOptions;
 use textwrap_calls::reflowing::TextwrapReflowOptions;
 use textwrap_calls::status::{DONE, TOO_SMALL};
-use textwrap_step_calls::pieces::TextwrapPiece;
+use textwrap_more_calls::pieces::TextwrapPiece;
 
 /// A line of the text.
 pub(super) const LINE: &str = "foo bar baz\n";

@@ -14,9 +14,9 @@ use textwrap_calls::status::{DONE, TOO_SMALL};
 use textwrap_calls::tables::{TextwrapCell, TextwrapColumn, textwrap_table_of_lines};
 use textwrap_calls::texts::TextwrapText;
 use textwrap_calls::wrapping::TextwrapLine;
-use textwrap_step_calls::fragments::TextwrapFragment;
-use textwrap_step_calls::pieces::TextwrapPiece;
-use textwrap_step_calls::steps::{textwrap_lines_at, textwrap_pieces_at};
+use textwrap_more_calls::fragments::TextwrapFragment;
+use textwrap_more_calls::pieces::TextwrapPiece;
+use textwrap_more_calls::steps::{textwrap_lines_at, textwrap_pieces_at};
 
 /// A line of the large text.
 const TEXT: TextwrapText<'_> = TextwrapText {

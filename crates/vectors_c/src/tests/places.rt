@@ -5,7 +5,7 @@ use super::plain::{
 };
 use std::process::Abort;
 use textwrap_calls::wrapping::TextwrapLine;
-use textwrap_step_calls::pieces::TextwrapPiece;
+use textwrap_more_calls::pieces::TextwrapPiece;
 
 /// How many lines, pieces or offsets the longest row has.
 const MOST: usize = 8;

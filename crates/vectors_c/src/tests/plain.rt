@@ -25,22 +25,22 @@ use textwrap_calls::tables::{
 use textwrap_calls::texts::TextwrapText;
 use textwrap_calls::widths::textwrap_strip_ansi_escape_sequences;
 use textwrap_calls::wrapping::{TextwrapLine, textwrap_wrap};
-use textwrap_display_calls::attributes::textwrap_carry_attributes;
-use textwrap_display_calls::balancing::textwrap_wrap_balanced;
-use textwrap_display_calls::fitting::textwrap_fitting_widths;
-use textwrap_step_calls::breaks::textwrap_unicode_cuts;
-use textwrap_step_calls::fragments::{
+use textwrap_more_calls::attributes::textwrap_carry_attributes;
+use textwrap_more_calls::balancing::textwrap_wrap_balanced;
+use textwrap_more_calls::breaks::textwrap_unicode_cuts;
+use textwrap_more_calls::fitting::textwrap_fitting_widths;
+use textwrap_more_calls::fragments::{
     TextwrapFragment, TextwrapPenalties, textwrap_wrap_first_fit, textwrap_wrap_optimal_fit,
 };
-use textwrap_step_calls::justified_steps::textwrap_fill_justified_at;
-use textwrap_step_calls::pieces::{
+use textwrap_more_calls::justified_steps::textwrap_fill_justified_at;
+use textwrap_more_calls::pieces::{
     TextwrapPiece, textwrap_break_apart, textwrap_find_words_at, textwrap_pieces,
     textwrap_split_points,
 };
-use textwrap_step_calls::steps::{
+use textwrap_more_calls::steps::{
     TextwrapSteps, textwrap_ends_at, textwrap_lines_at, textwrap_pieces_at,
 };
-use textwrap_step_calls::text_steps::{textwrap_fill_at, textwrap_wrap_at};
+use textwrap_more_calls::text_steps::{textwrap_fill_at, textwrap_wrap_at};
 
 /// The library's defaults at 10 columns.
 pub(super) const DEFAULTS: TextwrapOptions<'_> = TextwrapOptions {

@@ -8,10 +8,10 @@ use super::texts::{TextRow, assert_texts};
 use std::alloc::{AllocError, Global};
 use textwrap_calls::options::TextwrapOptions;
 use textwrap_calls::status::{DONE, NOT_UTF8, TOO_SMALL, UNKNOWN_OPTIONS, WRONG_PLACES};
-use textwrap_step_calls::paragraphs::{
+use textwrap_more_calls::paragraphs::{
     TextwrapParagraph, TextwrapWidths, textwrap_paragraph_widths, textwrap_paragraphs,
 };
-use textwrap_step_calls::steps::TextwrapSteps;
+use textwrap_more_calls::steps::TextwrapSteps;
 
 /// The steps of a paragraph that is one line as a whole, or of one without lines.
 const NO_STEPS: TextwrapSteps<'_> = TextwrapSteps {

@@ -2,48 +2,49 @@ use Rattle.textwrap_display.proofs.filling.fill_justified_by.Goals as goal
 use Rattle.textwrap_text.proofs.Common.{length-append, length-map, string_bytes, length, arith}
 use Rattle.textwrap_text.proofs.Common.{subst, drop, ◌++◌, ◌∙◌, ◌≤◌, ap}
 use Rattle.std.proofs.lemmas.Slice.{between_to_end}
-use Rattle.textwrap_display.proofs.Common.{IsJustifiedText, paragraphs_left, layout_view}
+use Rattle.textwrap_display.proofs.Common.{paragraphs_left, layout_view}
 use Rattle.textwrap_lines.proofs.Paragraph.KeepsTo.{passed-on}
 use Rattle.textwrap_layout.proofs.Text.Lines.{paragraphs_left-split}
+use Rattle.textwrap_layout.specs.Paragraph.{DividesWith}
 use Rattle.textwrap_display.proofs.JustifiedLines.{so_far-start, so_far-more, so_far-end}
 use Rattle.textwrap_display.proofs.filling.fill_justified_by.Goals.{After-deref}
 
 pub loop-rest-init : goal.loop-rest-init
 loop-rest-init g c =
-    let options = c.args.options.now in
-    rw c.new-lines.ensures.items (so_far-start (layout_view c.layout-layout.result) (g.O.AnyOptions.divides options)
-    c.args.text.now _ c.in_ok-filled.ensures.bytes)
+    let settings = layout_view c.args.layout in
+    rw c.new-lines.ensures.items (so_far-start settings
+    (DividesWith (g.P.Parts.may c.args.parts.now) settings) c.args.text.now _
+    c.in_ok-filled.ensures.bytes)
 
 pub loop-rest-preserved : goal.loop-rest-preserved
 loop-rest-preserved g c =
-    let options = c.args.options.now in
+    let settings = layout_view c.args.layout in
+    let ending = c.args.layout.line_ending in
     let paragraph = c.split_paragraph.result.0.now in
     let after = c.split_paragraph.result.1 in
-    so_far-more (layout_view c.layout-layout.result) (g.O.AnyOptions.divides options) c.args.text.now
+    so_far-more settings (DividesWith (g.P.Parts.may c.args.parts.now) settings) c.args.text.now
     (string_bytes c.loop-rest.filled) (string_bytes c.push_justified_lines.new.text)
     c.loop-rest.lines.items c.truncate.new.self.items c.wrap_paragraph.new.lines.items _
-    c.len-start.result paragraph (paragraphs_left c.layout-layout.result.line_ending after)
+    c.len-start.result paragraph (paragraphs_left ending after)
     (rw (
       c.in-Some.is,
-      paragraphs_left-split c.layout-layout.result.line_ending c.in-Some.text.now after paragraph
+      paragraphs_left-split ending c.in-Some.text.now after paragraph
           c.split_paragraph.ensures.paragraphs,
     ) at c.loop-rest.invariant)
-    c.truncate.ensures.items (omega arith) (rw (← c.layout-layout.ensures) at c.in_ok-wrap_paragraph.ensures.appended.lines)
+    c.truncate.ensures.items (omega arith) c.in_ok-wrap_paragraph.ensures.appended.lines
     (between_to_end c.deref.result.now c.len-start.result (length c.deref.result.now) (omega arith)
     ∙ ap (drop c.len-start.result) c.deref.ensures.value) c.in_ok-push_justified_lines.ensures
 
 pub returns-clause-filled : goal.returns-clause-filled
 returns-clause-filled g c =
-    let options = c.args.options.now in
-    subst (λ s. IsJustifiedText s (g.O.AnyOptions.divides options) c.args.text.now
-    (string_bytes c.loop-rest.filled)) c.layout-layout.ensures
-    (so_far-end (layout_view c.layout-layout.result) (g.O.AnyOptions.divides options)
-    c.args.text.now _ _ (rw c.in_default.is at c.loop-rest.invariant))
+    let settings = layout_view c.args.layout in
+    so_far-end settings (DividesWith (g.P.Parts.may c.args.parts.now) settings) c.args.text.now _ _
+    (rw c.in_default.is at c.loop-rest.invariant)
 
 pub returns-in_err-wrap_paragraph-clause-no_overflow :
     goal.returns-in_err-wrap_paragraph-clause-no_overflow
 returns-in_err-wrap_paragraph-clause-no_overflow g c = λ never.
-    let ending = c.layout-layout.result.line_ending in
+    let ending = c.args.layout.line_ending in
     let paragraph = c.split_paragraph.result.0.now in
     let after = c.split_paragraph.result.1 in
     let left = ap (paragraphs_left ending) c.in-Some.is
@@ -51,7 +52,7 @@ returns-in_err-wrap_paragraph-clause-no_overflow g c = λ never.
     c.split_paragraph.ensures.paragraphs in
     passed-on c.from_residual-in_err-wrap_paragraph.result c.in_err-wrap_paragraph.field-0.0
     c.from_residual-in_err-wrap_paragraph.ensures.1
-    (c.in_err-wrap_paragraph.ensures.no_overflow (λ passes. (rw (← c.layout-layout.ensures) at never) (
+    (c.in_err-wrap_paragraph.ensures.no_overflow (λ passes. never (
       c.loop-rest.invariant.done,
       paragraph,
       paragraphs_left ending after,

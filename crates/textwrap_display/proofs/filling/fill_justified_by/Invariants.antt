@@ -2,11 +2,12 @@ use Rattle.textwrap_display.proofs.filling.fill_justified_by.Given as goal
 use Rattle.textwrap_text.proofs.Common.{string_bytes, length, nat_lt}
 use Rattle.textwrap_display.proofs.Common.{paragraphs_left, layout_view, bytes_left}
 use Rattle.textwrap_display.proofs.JustifiedLines.{IsJustifiedSoFar}
+use Rattle.textwrap_layout.specs.Paragraph.{DividesWith}
 
 -- with right lines of the paragraphs that are left, it is the whole
 abbrev pub invariant-loop-rest : goal.invariant-loop-rest
-invariant-loop-rest g l = IsJustifiedSoFar (layout_view l.layout) (g.O.AnyOptions.divides l.options) l.text
-    (string_bytes l.filled) (nat_lt 0 (length l.lines.items))
+invariant-loop-rest g l = IsJustifiedSoFar (layout_view l.layout)
+    (DividesWith (g.P.Parts.may l.parts) (layout_view l.layout)) l.text (string_bytes l.filled) (nat_lt 0 (length l.lines.items))
     (paragraphs_left l.layout.line_ending l.rest)
 
 abbrev pub decreases-loop-rest : goal.decreases-loop-rest

@@ -6,19 +6,19 @@ use Rattle.textwrap_hyphenated.proofs.Wrapping.{LinesKeepButHyphens-hyphenated, 
 pub returns-clause-lines : goal.returns-clause-lines
 returns-clause-lines g c = IfOk-weaker c.wrap_by.result _ _ (λ lines.
     IsWrapped-hyphenated c.args.options c.args.patterns.now c.args.text.now _ c.utf8.text)
-    c.wrap_by.ensures.lines
+    (rw c.of.ensures at c.wrap_by.ensures.lines)
 
 pub returns-clause-built_in : goal.returns-clause-built_in
 returns-clause-built_in g c = IfOk-weaker c.wrap_by.result _ _
     (λ lines are settings algorithm parts. lines-as c.args.options c.args.patterns.now settings
-    algorithm parts c.args.text.now _ are) c.wrap_by.ensures.lines
+    algorithm parts c.args.text.now _ are) (rw c.of.ensures at c.wrap_by.ensures.lines)
 
 pub returns-clause-hyphens : goal.returns-clause-hyphens
 returns-clause-hyphens g c = IfOk-weaker c.wrap_by.result _ _ (λ lines.
     AddOnlyHyphens-hyphenated c.args.options c.args.patterns.now c.args.text.now _ c.utf8.text)
-    c.wrap_by.ensures.lines
+    (rw c.of.ensures at c.wrap_by.ensures.lines)
 
 pub returns-clause-keeps : goal.returns-clause-keeps
 returns-clause-keeps g c = λ first breaks. IfOk-weaker c.wrap_by.result _ _ (λ lines.
     LinesKeepButHyphens-hyphenated c.args.options c.args.patterns.now first breaks c.args.text.now _
-    c.utf8.text) c.wrap_by.ensures.lines
+    c.utf8.text) (rw c.of.ensures at c.wrap_by.ensures.lines)

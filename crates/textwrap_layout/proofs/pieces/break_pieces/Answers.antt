@@ -1,20 +1,19 @@
 use Rattle.textwrap_layout.proofs.pieces.break_pieces.Goals as goal
 use Rattle.textwrap_text.proofs.Common.{cond, ◌++◌, map, sym, ◌∙◌, ◌∷◌, ◌≡◌, [], ap}
-use Rattle.textwrap_layout.proofs.Common.{settings_view, broken_words, front_pieces, later_width}
-use Rattle.textwrap_layout.proofs.Common.{layout_view, empty_word, word_view}
+use Rattle.textwrap_layout.proofs.Common.{frame_settings, broken_words, front_pieces, later_width}
+use Rattle.textwrap_layout.proofs.Common.{empty_word, word_view}
 use Rattle.textwrap_layout.proofs.Paragraph.Pieces.{word_of-nil}
 
-pub returns-then-not-options : goal.returns-then-not-options
-returns-then-not-options g c = rw c.if-not-options.true
+pub returns-then-not-frame : goal.returns-then-not-frame
+returns-then-not-frame g c = rw c.if-not-frame.true
 
 pub returns : goal.returns
 returns g c =
-    let settings = settings_view c.args.options.now in
+    let settings = frame_settings c.args.frame.now in
     let split = map word_view c.args.split.items in
     let pieces = broken_words (later_width settings) split in
     let broken : map word_view c.in_ok-broken.broken.items ≡ pieces =
-    c.in_ok-broken.ensures ∙ ap (λ n. broken_words n split) (c.of-frame.result.later
-    ∙ ap (λ l. later_width (layout_view l)) c.of-frame.ensures.layout ∙ ap later_width c.of.ensures) in
+    c.in_ok-broken.ensures ∙ ap (λ n. broken_words n split) c.args.frame.now.later in
     let whole : map word_view c.if-not-is_empty.broken.items ≡ front_pieces settings ++ pieces =
     elim c.if-not-is_empty.branch [
       | goal.then-not-is_empty+in_ok-insert w ↦
@@ -28,4 +27,4 @@ returns g c =
           ∙ ap (λ b. cond b [] (empty_word ∷ []) ++ pieces) (sym w.if-not-is_empty.false
           ∙ c.is_empty.ensures)
     ] in
-    whole ∙ ap (λ b. cond b (front_pieces settings ++ pieces) split) (sym c.if-not-options.false)
+    whole ∙ ap (λ b. cond b (front_pieces settings ++ pieces) split) (sym c.if-not-frame.false)

@@ -13,7 +13,7 @@ returns-in-Some-clause-pushed g c =
     let splitter = as_splitter c.args.splitter in
     let text = c.args.paragraph.now in
     let printable = c.can_jump-jumps.ensures.printable c.if-jumps.true in
-    let cuts = g.O.Words.PrintableCuts.cuts c.in-Some.cuts text in
+    let cuts = g.P.Words.PrintableCuts.cuts c.in-Some.cuts text in
     let words = map word_of (parts_by cuts 0 text) in
     let pieces = pieces_of_words settings splitter words in
     let indent = indent_of settings frame.is_later in
@@ -21,7 +21,7 @@ returns-in-Some-clause-pushed g c =
     c.utf8.paragraph (words-texts cuts text printable) in
     let is = lines-by_bytes settings (is_cut_by cuts splitter text) (split_words splitter words)
     indent text (split-cuts cuts splitter text printable
-    (g.met.O.Words.PrintableCuts.after_others c.in-Some.cuts text printable))
+    (g.met.P.Words.PrintableCuts.after_others c.in-Some.cuts text printable))
     printable (c.can_jump-jumps.ensures.some c.if-jumps.true) (omega arith)
     (c.can_jump-jumps.ensures.room c.if-jumps.true)
     ∙ ap (λ width. lines_of_pieces settings text width indent pieces)

@@ -11,7 +11,7 @@ returns g c =
     let splitter = as_splitter c.args.splitter in
     let frame = c.of-frame.result in
     subst (λ s. standing_left c.of-2.result ≡ stand_from 0 (pieces_of s splitter text))
-    (ap layout_view c.of-frame.ensures.layout ∙ c.of.ensures)
+    (ap layout_view (c.of-frame.ensures.layout ∙ c.of.ensures))
     (rw (c.of-2.ensures, frame.front, frame.limited) (ap (stand_from 0)
     (limited-pieces (frame_settings frame) splitter text (words_of text) c.utf8.paragraph
     (words_of-texts text c.utf8.paragraph) (omega arith))))

@@ -1,4 +1,5 @@
-use Rattle.textwrap_lines.proofs.Common.{places_of, lines_of, rules, map, ◌∙◌, ap}
+use Rattle.textwrap_lines.proofs.Common.{arith, layout_view, refl, rules}
+use Rattle.textwrap_lines.proofs.Common.{places_of, lines_of, map, ◌∙◌, ap}
 use Rattle.textwrap_lines.proofs.placed.place_into.Goals as goal
 use Rattle.textwrap_text.specs.LentText.{written_over}
 use Rattle.textwrap_layout.proofs.Common.{built_text}
@@ -27,3 +28,9 @@ returns-clause-lines g c =
         };
       },
     )
+
+pub push_text-requires : goal.push_text-requires
+push_text-requires g c = λ k. (
+  (refl, tt),
+  (c.built_in.ensures.parts (layout_view c.args.layout), search (rules, arith, c.new-placed.ensures)),
+)

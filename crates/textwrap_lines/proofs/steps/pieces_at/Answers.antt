@@ -10,7 +10,8 @@ use Rattle.textwrap_lines.specs.Steps.{AreWordsBetween}
 use Rattle.textwrap_lines.proofs.InSteps.{split_at-are}
 
 pub returns-clause-pieces : goal.returns-clause-pieces
-returns-clause-pieces g c = search (rules, arith, c.in_ok-split.ensures, c.break_pieces.ensures)
+returns-clause-pieces g c =
+    search (rules, arith, c.in_ok-split.ensures, c.break_pieces.ensures, c.of.ensures, c.of-2.ensures)
 
 pub returns-clause-are : goal.returns-clause-are
 returns-clause-are g c =

@@ -7,18 +7,18 @@ use Rattle.textwrap_layout.proofs.Paragraph.Pieces.{lines-as}
 pub returns-clause-lines : goal.returns-clause-lines
 returns-clause-lines g c = IfOk-weaker c.wrap_by.result _ _
     (λ lines. IsWrapped-options c.args.options c.args.text.now _ c.utf8.text)
-    c.wrap_by.ensures.lines
+    (rw c.of.ensures at c.wrap_by.ensures.lines)
 
 pub returns-clause-even : goal.returns-clause-even
 returns-clause-even g c = λ even first built_in breaks. IfOk-weaker c.wrap_by.result _ _ (λ lines.
     LinesKeepToWidth-options c.args.options c.args.text.now _ c.utf8.text even first built_in
-    breaks) c.wrap_by.ensures.lines
+    breaks) (rw c.of.ensures at c.wrap_by.ensures.lines)
 
 pub returns-clause-built_in : goal.returns-clause-built_in
 returns-clause-built_in g c = IfOk-weaker c.wrap_by.result _ _
     (λ lines are settings splitter algorithm parts.
     lines-as c.args.options settings splitter algorithm parts c.args.text.now _ are)
-    c.wrap_by.ensures.lines
+    (rw c.of.ensures at c.wrap_by.ensures.lines)
 
 pub returns-clause-built_in_even : goal.returns-clause-built_in_even
 returns-clause-built_in_even g c = IfOk-weaker c.wrap_by.result _ _
@@ -29,4 +29,7 @@ returns-clause-built_in_even g c = IfOk-weaker c.wrap_by.result _ _
 pub returns-clause-printed : goal.returns-clause-printed
 returns-clause-printed g c = λ first built_in can. IfOk-weaker c.wrap_by.result _ _ (λ lines.
     ArePrintedWithin-options c.args.options c.args.text.now _ c.utf8.text first built_in can)
-    c.wrap_by.ensures.lines
+    (rw c.of.ensures at c.wrap_by.ensures.lines)
+
+pub returns-clause-no_overflow : goal.returns-clause-no_overflow
+returns-clause-no_overflow g c = rw c.of.ensures at c.wrap_by.ensures.no_overflow

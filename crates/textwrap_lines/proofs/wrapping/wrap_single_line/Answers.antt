@@ -13,4 +13,10 @@ returns-clause-as_slow_path g c =
     built_in.algorithm (nat_lt 0 (length start)) c.args.line.now parts c.utf8.line unindented
     defined in
     (divided.0, divided.1, added ∙ ap (λ ls. map line_view start ++ ls) (sym divided.2)))
-    c.wrap_paragraph.ensures.appended.lines
+    (rw c.of.ensures at c.wrap_paragraph.ensures.appended.lines)
+
+pub returns-clause-appended : goal.returns-clause-appended
+returns-clause-appended g c = rw c.of.ensures at c.wrap_paragraph.ensures.appended
+
+pub returns-clause-no_overflow : goal.returns-clause-no_overflow
+returns-clause-no_overflow g c = rw c.of.ensures at c.wrap_paragraph.ensures.no_overflow

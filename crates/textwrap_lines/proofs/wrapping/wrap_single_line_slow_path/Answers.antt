@@ -1,3 +1,4 @@
+use Rattle.textwrap_lines.proofs.Paragraph.KeepsTo.{passed-on}
 use Rattle.textwrap_lines.proofs.wrapping.wrap_single_line_slow_path.Goals as goal
 use Rattle.textwrap_lines.proofs.Common.{algorithm_view, AreDividedParts, arith, lines_of-cut_lines}
 use Rattle.textwrap_lines.proofs.Common.{lines_of-more, map, MaySeparate, parts_from, settings_view}
@@ -27,12 +28,13 @@ returns-clause-appended g c =
     λ b. AreDividedParts settings (DividesBy options) b c.args.line.now in
     let is_out = c.at-frame.ensures.later ∙ ap not c.is_empty.ensures ∙ not_empty c.args.lines.now.len (length start)
     (omega arith) in
-    let (division, divides, took) = c.in_ok-push_divided.ensures.taken in
+    let (division, divides, took) = rw (c.at-frame.ensures.layout, c.of.ensures)
+    at c.in_ok-push_divided.ensures.taken in
     let parts = parts_from settings c.at-frame.result.is_later division in
     appends-own (MayOverflow options) (Are (nat_lt 0 (length start))) start _
     c.append.new.self.items parts c.in_ok-append.field-0
     (subst (λ b. Are b parts) is_out (division, divides, refl))
-    (search rules ∙ (rw (c.at-frame.ensures.layout, c.of.ensures) at took).held c.push_divided.new.lines 0 []
+    (search rules ∙ took.held c.push_divided.new.lines 0 []
     (ap (map line_view) c.new-own.ensures.items) ∙ lines_of-more [] 0 (cut_lines 0 parts)
     ∙ lines_of-cut_lines 0 parts) c.in_ok-append.ensures.items
 
@@ -54,3 +56,9 @@ returns-clause-overlong g c =
           (MaySplit-hyphens options.word_splitter built_in) is_later c.args.line.now division
           c.utf8.line breaks (pieces, are, greedy),
     )
+
+pub returns-in_err-push_divided-clause-no_overflow : goal.returns-in_err-push_divided-clause-no_overflow
+returns-in_err-push_divided-clause-no_overflow g c = λ never.
+    passed-on c.from_residual.result c.in_err-push_divided.field-0.0 c.from_residual.ensures.1
+    ((rw (c.at-frame.ensures.layout, c.of.ensures) at c.in_err-push_divided.ensures.no_overflow)
+    never)

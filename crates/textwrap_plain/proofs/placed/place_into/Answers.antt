@@ -1,19 +1,26 @@
 use Rattle.textwrap_plain.proofs.placed.place_into.Goals as goal
-use Rattle.std.proofs.lemmas.Result.{IfOk-weaker}
-use Rattle.textwrap_plain.proofs.Named.{placed-at, parts-separated, separates-blanks}
-use Rattle.textwrap_plain.specs.Options.{algorithm_of, settings_of, splitter_of, words_by}
+use Rattle.std.specs.Prelude.{IfOk, List}
+use Rattle.textwrap.specs.Paragraph.{Line}
+use Rattle.textwrap_layout.specs.LentPlaces.{WritesPlaces}
+use Rattle.textwrap_layout.specs.Places.{ArePlacedLines, built_text}
+use Rattle.textwrap_layout.specs.declared.places.Place.{Place}
+use Rattle.textwrap_layout.specs.Direct.{as_algorithm}
+use Rattle.textwrap_plain.proofs.Named.{named}
+use Rattle.textwrap_text.proofs.Common.{ap, sym, ◌∙◌}
 
 pub returns-then-are_direct-clause-lines : goal.returns-then-are_direct-clause-lines
 returns-then-are_direct-clause-lines c =
-    let o = c.args.options.now in
-    let options = c.at_blanks-options.result in
-    let blanks = (c.are_direct.ensures.0 c.if-are_direct.true).0 in
-    let parts = parts-separated o options c.at_blanks-options.ensures
-    (separates-blanks _ _ c.at_blanks-options.ensures.separator blanks) in
-    let at = placed-at options (words_by o.word_separator) (settings_of o) (splitter_of o)
-    (algorithm_of o) parts c.args.text.now in
-    IfOk-weaker c.place_into.result _ _ (λ counts (lines, places, are, writes).
-    (lines, places, at lines places are, writes)) c.place_into.ensures.lines
+    let (blanks, first) = c.are_direct.ensures.0 c.if-are_direct.true in
+    named (λ settings Divides. IfOk c.place_into.result (λ counts. (placed : List Line)
+    × (places : List Place) × ArePlacedLines settings (Divides settings) c.args.text.now placed places
+    × WritesPlaces places (built_text placed) counts c.args.lines.now c.place_into.new.lines
+    c.args.room.now c.place_into.new.room))
+    c.layout.ensures (sym blanks) c.direct_parts-parts.ensures.splitter
+    (ap as_algorithm c.direct_parts-parts.ensures.first_fit ∙ sym first) c.place_into.ensures.lines
+
+pub returns-then-are_direct-clause-done : goal.returns-then-are_direct-clause-done
+returns-then-are_direct-clause-done c = λ blanks first.
+    c.place_into.ensures.done (c.direct_parts-parts.ensures.first_fit, tt)
 
 pub returns-clause-lines : goal.returns-clause-lines
 returns-clause-lines c =

@@ -6,7 +6,7 @@ use Rattle.textwrap_plain.proofs.Named.{named}
 
 pub returns-clause-filled : goal.returns-clause-filled
 returns-clause-filled c =
-    let said = c.built_in.ensures in
+    let said = c.parts.ensures in
     named (λ settings Divides. IfOk c.fill_by.result (λ filled.
     IsFilled settings (Divides settings) c.args.text.now (string_bytes filled)))
-    said.layout said.words said.splitter said.algorithm c.fill_by.ensures.filled
+    c.layout.ensures said.words said.splitter said.algorithm c.fill_by.ensures.filled

@@ -1,8 +1,11 @@
 use Rattle.textwrap_plain.proofs.texts.fill_into.Goals as goal
-use Rattle.textwrap_plain.proofs.Named.{only-filled, filled-at, parts-separated, separates-blanks}
-use Rattle.std.proofs.lemmas.Result.{IfOk-weaker}
-use Rattle.textwrap_plain.specs.Options.{algorithm_of, DividesPlainly, settings_of, splitter_of}
-use Rattle.textwrap_plain.specs.Options.{words_by}
+use Rattle.std.specs.Prelude.{◌≡◌, IfOk, List, length, ℕ}
+use Rattle.textwrap.specs.Filling.{IsFilled}
+use Rattle.textwrap_layout.specs.Direct.{as_algorithm}
+use Rattle.textwrap_plain.proofs.Named.{named, only-filled}
+use Rattle.textwrap_plain.specs.Options.{DividesPlainly, settings_of}
+use Rattle.textwrap_text.proofs.Common.{ap, sym, ◌∙◌}
+use Rattle.textwrap_text.specs.LentText.{as_len, written_over}
 
 pub returns-in-Some-clause-filled : goal.returns-in-Some-clause-filled
 returns-in-Some-clause-filled c =
@@ -14,12 +17,13 @@ returns-in-Some-clause-filled c =
 
 pub returns-then-are_direct-clause-filled : goal.returns-then-are_direct-clause-filled
 returns-then-are_direct-clause-filled c =
-    let o = c.args.options.now in
-    let options = c.at_blanks.result in
-    let blanks = (c.are_direct.ensures.0 c.if-are_direct.true).0 in
-    let parts = parts-separated o options c.at_blanks.ensures
-    (separates-blanks _ _ c.at_blanks.ensures.separator blanks) in
-    let at = filled-at options (words_by o.word_separator) (settings_of o) (splitter_of o)
-    (algorithm_of o) parts c.args.text.now in
-    IfOk-weaker c.fill_into.result _ _ (λ len (filled, is, len_is, room).
-    (filled, at filled is, len_is, room)) c.fill_into.ensures.filled
+    let (blanks, first) = c.are_direct.ensures.0 c.if-are_direct.true in
+    named (λ settings Divides. IfOk c.fill_into.result (λ len. (filled : List ℕ)
+    × IsFilled settings (Divides settings) c.args.text.now filled × (len ≡ as_len (length filled))
+    × (c.fill_into.new.room ≡ written_over c.args.room.now filled)))
+    c.layout.ensures (sym blanks) c.direct_parts-parts.ensures.splitter
+    (ap as_algorithm c.direct_parts-parts.ensures.first_fit ∙ sym first) c.fill_into.ensures.filled
+
+pub returns-then-are_direct-clause-done : goal.returns-then-are_direct-clause-done
+returns-then-are_direct-clause-done c = λ blanks first.
+    c.fill_into.ensures.done (c.direct_parts-parts.ensures.first_fit, tt)

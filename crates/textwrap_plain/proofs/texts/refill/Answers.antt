@@ -6,7 +6,7 @@ use Rattle.textwrap_plain.proofs.Named.{named}
 
 pub returns-clause-refilled : goal.returns-clause-refilled
 returns-clause-refilled c =
-    let said = c.built_in.ensures in
-    named (λ settings Divides. IfOk c.refill_built_in.result (λ refilled.
+    let said = c.parts.ensures in
+    named (λ settings Divides. IfOk c.refill_by.result (λ refilled.
     IsRefilled settings Divides c.args.filled_text.now (string_bytes refilled)))
-    said.layout said.words said.splitter said.algorithm c.refill_built_in.ensures.refilled
+    c.layout.ensures said.words said.splitter said.algorithm c.refill_by.ensures.refilled

@@ -11,8 +11,8 @@ lines : (c : After-wrap_by) → IfOk c.wrap_by.result (λ lines.
     (DividesPlainly c.args.options.now (settings_of c.args.options.now)) c.args.text.now
     (map line_view lines.items))
 lines c =
-    let o = c.built_in.ensures in
-    rw (← o.layout, ← o.words, ← o.splitter, ← o.algorithm) c.wrap_by.ensures.lines
+    let o = c.parts.ensures in
+    rw (← c.layout.ensures, ← o.words, ← o.splitter, ← o.algorithm) c.wrap_by.ensures.lines
 
 pub returns-clause-lines : goal.returns-clause-lines
 returns-clause-lines c =

@@ -6,8 +6,8 @@ use Rattle.textwrap_plain.proofs.Named.{named}
 
 pub returns-clause-rows : goal.returns-clause-rows
 returns-clause-rows c =
-    let said = c.built_in-options.ensures in
-    named (λ settings Divides. IfOk c.wrap_columns_built_in.result (λ rows.
+    let said = c.parts-parts.ensures in
+    named (λ settings Divides. IfOk c.wrap_columns_by.result (λ rows.
     IsInColumns settings Divides c.args.columns c.args.text.now c.args.left_gap.now
     c.args.middle_gap.now c.args.right_gap.now (map string_bytes rows.items)))
-    said.layout said.words said.splitter said.algorithm c.wrap_columns_built_in.ensures.rows
+    c.layout.ensures said.words said.splitter said.algorithm c.wrap_columns_by.ensures.rows

@@ -1,4 +1,0 @@
-pub mod Counted
-pub mod Narrower
-pub mod Room
-pub mod Search

@@ -1,2 +1,0 @@
-pub mod Balance
-pub mod Widest

@@ -1,3 +1,0 @@
-pub mod PlacedHyphens
-pub mod ReadColumns
-pub mod ReadOptions

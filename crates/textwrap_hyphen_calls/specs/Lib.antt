@@ -1,3 +1,0 @@
-pub mod Dictionaries
-pub mod Hyphenated
-pub mod Status

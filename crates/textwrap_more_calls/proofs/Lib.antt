@@ -1,0 +1,10 @@
+pub mod BalanceLemmas
+pub mod EndLemmas
+pub mod OffsetLemmas
+pub mod PieceLemmas
+pub mod PlacedHyphens
+pub mod ReadColumns
+pub mod ReadOptions
+pub mod StepLemmas
+pub mod TextStepLemmas
+pub mod Common

@@ -1,0 +1,101 @@
+use Rattle.textwrap_more_calls.proofs.steps.textwrap_ends_at.Goals as goal
+use Rattle.std.specs.Prelude.{IsSomeAnd}
+use Rattle.textwrap_base.proofs.{Common.total_width, Cost.Measures.total_width-same}
+use Rattle.textwrap_calls.proofs.Common.{List, says_yes, sizes_of, widths_of, word_view, WordText}
+use Rattle.textwrap_calls.proofs.Common.{[], ap, map, sym, ℕ, ◌∙◌, ◌∷◌, ◌≡◌}
+use Rattle.textwrap_calls.proofs.Common.{algorithm_of, pieces_at, settings_of, settings_view, subst}
+use Rattle.textwrap_layout.proofs.Paragraph.Widths.{sizes-word_view}
+use Rattle.textwrap_layout.proofs.{Common.first_width, Paragraph.Pieces.division-as}
+use Rattle.textwrap_more_calls.proofs.Common.{ends_of, WritesText-answer}
+use Rattle.textwrap_more_calls.proofs.EndLemmas.{ends_from-map, OverflowsBy-map}
+use Rattle.textwrap_more_calls.proofs.steps.textwrap_ends_at.Goals.{After-wrap}
+use Rattle.textwrap_text.proofs.Common.{Some}
+use Rattle.textwrap_words.specs.WrapAlgorithms.{IsDividedBy, OverflowsBy}
+use Rattle.textwrap_words.{proofs.Word.Divisions.MayDivide-map, specs.WrapAlgorithms.algorithm_view}
+
+-- the pieces and the widths by the numbers of C, and the widths as they were found
+abbrev all : After-wrap → List WordText
+all c = pieces_at (settings_of c.args.options.now) c.args.cuts.now c.args.points.now c.args.paragraph.now
+
+abbrev widths : After-wrap → List ℕ
+widths c = widths_of (settings_of c.args.options.now) (says_yes c.args.is_later)
+
+abbrev found : After-wrap → List ℕ
+found c = c.line_widths-first_width.result.0 ∷ c.line_widths-first_width.result.1 ∷ []
+
+pieces-are : (c : After-wrap) → map word_view c.deref.result.now ≡ all c
+pieces-are c =
+    ap (map word_view) c.deref.ensures.value ∙ c.in-Ok-find_pieces.ensures.pieces
+    ∙ ap (λ s. pieces_at s c.args.cuts.now c.args.points.now c.in-Ok-from_utf8.paragraph.now)
+    (c.at_blanks-options.ensures.settings_are ∙ c.in-Ok.ensures.read.settings)
+    ∙ ap (pieces_at (settings_of c.args.options.now) c.args.cuts.now c.args.points.now)
+    c.in-Ok-from_utf8.ensures.0
+
+widths-are : (c : After-wrap) → found c ≡ widths c
+widths-are c =
+    ap (λ n. n ∷ c.line_widths-first_width.result.1 ∷ []) c.line_widths-first_width.ensures.first
+    ∙ ap (λ n. first_width (settings_view c.at_blanks-options.result) (says_yes c.args.is_later)
+    ∷ n ∷ []) c.line_widths-first_width.ensures.later
+    ∙ ap (λ s. widths_of s (says_yes c.args.is_later))
+    (c.at_blanks-options.ensures.settings_are ∙ c.in-Ok.ensures.read.settings)
+
+algorithm-is : (c : After-wrap) → algorithm_view c.at_blanks-options.result.wrap_algorithm
+    ≡ Some (algorithm_of c.args.options.now)
+algorithm-is c =
+    c.at_blanks-options.ensures.algorithm_is ∙ ap Some c.in-Ok.ensures.read.algorithm
+
+-- the algorithm refuses the pieces as it refuses their words
+refuses : (c : After-wrap) → OverflowsBy (algorithm_of c.args.options.now)
+    (λ word. sizes_of (word_view word)) (found c) c.deref.result.now
+    ≡ OverflowsBy (algorithm_of c.args.options.now) sizes_of (widths c) (all c)
+refuses c =
+    let algorithm = algorithm_of c.args.options.now in
+    OverflowsBy-map word_view algorithm sizes_of (found c) c.deref.result.now
+    ∙ ap (OverflowsBy algorithm sizes_of (found c)) (pieces-are c)
+    ∙ ap (λ ws. OverflowsBy algorithm sizes_of ws (all c)) (widths-are c)
+
+pub returns-in-Err-Overflow-clause-overflow : goal.returns-in-Err-Overflow-clause-overflow
+returns-in-Err-Overflow-clause-overflow c = λ same.
+    let here = (goal.at.returns-in-Err-Overflow-clause-overflow c).After-wrap in
+    let overflows = c.in-Err-Overflow.ensures.overflow_only (rw c.in-Err-Overflow.field-0-is tt) in
+    subst (λ P. P) (refuses here) (subst (λ found_is. IsSomeAnd found_is (λ a. OverflowsBy a
+    (λ word. sizes_of (word_view word)) (found here) c.deref.result.now)) (algorithm-is here) overflows)
+
+-- their widths are those of the words
+widths-same : (c : After-wrap) → total_width (λ word. sizes_of (word_view word)) c.deref.result.now
+    ≡ total_width sizes_of (all c)
+widths-same c =
+    total_width-same (λ word. sizes_of (word_view word)) sizes_of c.deref.result.now
+    (map word_view c.deref.result.now) (sizes-word_view c.deref.result.now)
+    ∙ ap (total_width sizes_of) (pieces-are c)
+
+pub returns-in-Err-Overflow-clause-no_overflow : goal.returns-in-Err-Overflow-clause-no_overflow
+returns-in-Err-Overflow-clause-no_overflow c = λ fits same.
+    let here = (goal.at.returns-in-Err-Overflow-clause-no_overflow c).After-wrap in
+    c.in-Err-Overflow.ensures.no_overflow (rw (widths-same here) fits)
+    (rw c.in-Err-Overflow.field-0-is tt)
+
+pub returns-in-Ok-line_ends-clause-ends : goal.returns-in-Ok-line_ends-clause-ends
+returns-in-Ok-line_ends-clause-ends c =
+    let here = (goal.at.returns-in-Ok-line_ends-clause-ends c).After-wrap in
+    let algorithm = algorithm_of c.args.options.now in
+    let lines = map (λ line. line.now) c.in-Ok-wrap.division.items in
+    let words = map (map word_view) lines in
+    let divided : IsDividedBy algorithm sizes_of (widths here) (all here) words =
+    subst (λ ws. IsDividedBy algorithm sizes_of ws (all here) words) (widths-are here)
+    (subst (λ ps. IsDividedBy algorithm sizes_of (found here) ps words) (pieces-are here)
+    (subst (λ Divided. Divided (found here) (map word_view c.deref.result.now) words)
+    (division-as c.at_blanks-options.result.wrap_algorithm algorithm (algorithm-is here))
+    (MayDivide-map c.at_blanks-options.result.wrap_algorithm word_view (found here)
+    c.deref.result.now lines c.in-Ok-wrap.ensures.divided))) in
+    let is : c.deref-in-Ok-line_ends.result.now ≡ ends_of words =
+    c.deref-in-Ok-line_ends.ensures.value ∙ c.in-Ok-line_ends.ensures
+    ∙ ap (λ ls. ends_of (map (λ line. line.now) ls)) c.deref-3.ensures.value
+    ∙ sym (ends_from-map word_view 0 lines) in
+    WritesText-answer (words, divided, is) c.put.ensures.text
+
+pub returns-in-Ok-line_ends-clause-written_only : goal.returns-in-Ok-line_ends-clause-written_only
+returns-in-Ok-line_ends-clause-written_only c = λ statuses overflows.
+    let here = (goal.at.returns-in-Ok-line_ends-clause-written_only c).After-wrap in
+    c.in-Ok-wrap.ensures.ok_only (algorithm_of c.args.options.now) (algorithm-is here)
+    (subst (λ P. P) (sym (refuses here)) overflows)

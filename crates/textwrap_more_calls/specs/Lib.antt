@@ -1,0 +1,11 @@
+pub mod Balancing
+pub mod Breaks
+pub mod Dictionaries
+pub mod Fragments
+pub mod Hyphenated
+pub mod JustifiedSteps
+pub mod Paragraphs
+pub mod Pieces
+pub mod Status
+pub mod Steps
+pub mod TextSteps

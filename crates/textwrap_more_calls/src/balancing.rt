@@ -1,0 +1,109 @@
+//! Balanced lines of a text, and the width that they have.
+ghost use Rattle.std.specs.Prelude.{◌≡◌, ◌≢◌, ◌≤◌, ◌⊎◌, List, length, IfErr, IfOk, IsUtf8};
+ghost use Rattle.textwrap.specs.Paragraph.{Line};
+ghost use Rattle.textwrap_calls.specs.Options.{AreKnown, AreTexts, TellsUnknown, TellsNotUtf8};
+ghost use Rattle.textwrap_calls.specs.Status.{done, not_utf8, out_of_memory, too_small};
+ghost use Rattle.textwrap_calls.specs.Status.{unknown_options};
+ghost use Rattle.textwrap_calls.specs.Wrapping.{WritesLongLines};
+ghost use Rattle.textwrap_more_calls.specs.Balancing.{AreBalancedBy, AreByFirstFit, IsBalancedBy};
+ghost use Rattle.textwrap_more_calls.specs.Balancing.{first_fit_at};
+
+use simdutf8::basic::from_utf8;
+use std::alloc::Global;
+use textwrap_calls::options::{TextwrapOptions, read_options};
+use textwrap_calls::status::{DONE, NOT_UTF8, OUT_OF_MEMORY};
+use textwrap_calls::wrapping::{TextwrapLine, textwrap_wrap_utf8};
+use textwrap_plain::balanced_width;
+
+/// Writes the balanced lines of a text as `textwrap_wrap` writes its lines: those of first fit at the
+/// width of `textwrap_balanced_width`. They are as many as by first fit at the width of the options. At
+/// blanks nothing is allocated.
+pub fn textwrap_wrap_balanced(
+    alloc: Global,
+    text: &[u8],
+    options: &TextwrapOptions<'_>,
+    lines: &mut [TextwrapLine],
+    count: &mut usize,
+    room: &mut [u8],
+    len: &mut usize,
+) -> u32
+    ensures balanced { WritesLongLines (AreBalancedBy options.now text.now)
+        text.now result lines.old lines.new count.old count.new room.old room.new len.old len.new }
+    ensures as_many { (result ≡ done) ⊎ (result ≡ too_small) → (others : List Line)
+        → AreByFirstFit options.now text.now others → count.new ≡ length others }
+    ensures unknown { TellsUnknown result options.now }
+    ensures not_utf8 { TellsNotUtf8 result options.now text.now }
+    ensures no_memory { options.now.unicode_breaks ≡ 0 → result ≢ out_of_memory }
+    ensures statuses { result ≤ unknown_options }
+{
+    let width = match find_width(alloc, text, options) {
+        Ok(width) => width,
+        Err(status) => return status,
+    };
+    let options = by_first_fit(options, width);
+    textwrap_wrap_utf8(alloc, text, &options, lines, count, room, len)
+}
+
+/// Writes the least width at which first fit takes no more lines of a text than at the width of the
+/// options, and at which each piece of it has room: the wider of the indents, and after it any one
+/// word, split but not broken, with its hyphen. Where some piece has none at the width of the options,
+/// it is that width. The algorithm of the options is not used. At blanks nothing is allocated.
+///
+/// At 40 columns `It was the best of times, it was the worst` takes two lines, and so it does at 23.
+pub fn textwrap_balanced_width(
+    alloc: Global,
+    text: &[u8],
+    options: &TextwrapOptions<'_>,
+    width: &mut usize,
+) -> u32
+    ensures balanced { result ≡ done → IsBalancedBy options.now text.now width.new }
+    ensures kept { result ≢ done → width.new ≡ width.old }
+    ensures unknown { TellsUnknown result options.now }
+    ensures not_utf8 { TellsNotUtf8 result options.now text.now }
+    ensures no_memory { options.now.unicode_breaks ≡ 0 → result ≢ out_of_memory }
+    ensures statuses { (result ≡ done) ⊎ (result ≡ not_utf8) ⊎ (result ≡ out_of_memory)
+        ⊎ (result ≡ unknown_options) }
+{
+    match find_width(alloc, text, options) {
+        Ok(balanced) => {
+            *width = balanced;
+            DONE
+        }
+        Err(status) => status,
+    }
+}
+
+/// The balanced width of a text.
+///
+/// # Errors
+/// The status `UNKNOWN_OPTIONS`, `NOT_UTF8` or `OUT_OF_MEMORY`.
+fn find_width(alloc: Global, text: &[u8], options: &TextwrapOptions<'_>) -> Result<usize, u32>
+    ensures balanced { IfOk result (IsBalancedBy options.now text.now) }
+    ensures known { IfOk result (λ _. AreKnown options.now) }
+    ensures texts { IfOk result (λ _. IsUtf8 text.now × AreTexts options.now) }
+    ensures refused { IfErr result (λ status.
+        ((status ≡ unknown_options) × ¬ AreKnown options.now)
+        ⊎ ((status ≡ not_utf8) × AreKnown options.now × ¬ (IsUtf8 text.now × AreTexts options.now))
+        ⊎ ((status ≡ out_of_memory) × AreKnown options.now
+        × (IsUtf8 text.now × AreTexts options.now) × (options.now.unicode_breaks ≢ 0))) }
+{
+    let options = read_options(options)?;
+    let Ok(text) = from_utf8(text) else {
+        return Err(NOT_UTF8);
+    };
+    match balanced_width(alloc, text, &options) {
+        Ok(width) => Ok(width),
+        Err(_) => Err(OUT_OF_MEMORY),
+    }
+}
+
+/// The options at a width, by first fit.
+fn by_first_fit<'a>(options: &TextwrapOptions<'a>, width: usize) -> TextwrapOptions<'a>
+    ensures { result ≡ first_fit_at options.now width }
+{
+    TextwrapOptions {
+        optimal_fit: 0,
+        width,
+        ..*options
+    }
+}

@@ -1,0 +1,43 @@
+//! A dictionary, as C hands it over.
+ghost use Rattle.std.specs.Prelude.{◌≡◌, ◌↔◌, true, MatchOption};
+ghost use Rattle.textwrap_more_calls.specs.Dictionaries.{IsDamaged, IsKnownDictionary};
+ghost use Rattle.textwrap_more_calls.specs.Dictionaries.{hyphenation_of};
+ghost use Rattle.textwrap_hyphens.specs.Table.{held};
+
+use textwrap_hyphens::table::PatternTable;
+
+/// A dictionary of hyphenation in numbers, and how it is used. A number that says yes or no is 1 or 0.
+#[repr(C)]
+#[derive(Clone, Copy)]
+pub struct TextwrapDictionary<'a> {
+    /// What `textwrap_patterns_read` wrote.
+    pub numbers: &'a [usize],
+    /// Whether the parts of a word with a hyphen are hyphenated too. If not, such a word has no points.
+    pub in_parts: u32,
+    /// Whether the version and the sum of the numbers are right, as `textwrap_patterns_read` or
+    /// `textwrap_patterns_check` told. Then they are not tested, which would read all numbers. Numbers
+    /// of which this is not so have points too, inside the word, which mean nothing.
+    pub is_checked: u32,
+    /// 0 each, until a later number takes one, for which 0 will change nothing.
+    pub reserved_sizes: [usize; 2],
+}
+
+/// Whether each number beside those of the dictionary means something.
+pub(crate) fn is_known(given: &TextwrapDictionary<'_>) -> bool
+    ensures { result ≡ true ↔ IsKnownDictionary given.now }
+{
+    given.in_parts <= 1 && given.is_checked <= 1 && given.reserved_sizes == [0; 2]
+}
+
+/// The dictionary of these numbers. `None` if they are to be tested, and are damaged.
+pub(crate) fn read_dictionary<'a>(given: &TextwrapDictionary<'a>) -> Option<PatternTable<'a>>
+    ensures { MatchOption result (IsDamaged given.now)
+        (λ table. ¬ IsDamaged given.now × (held table ≡ hyphenation_of given.now)) }
+{
+    let in_parts = given.in_parts != 0;
+    if given.is_checked == 0 {
+        PatternTable::of(given.numbers, in_parts)
+    } else {
+        Some(PatternTable::of_unchecked(given.numbers, in_parts))
+    }
+}

@@ -1,0 +1,303 @@
+//! Balanced lines, for titles and centred texts: the lines of first fit at the least width that takes
+//! no more of them than the width of the options, as `text-wrap: balance` of browsers makes lines
+//! (CSS Text Module Level 4).
+ghost use Rattle.std.specs.Prelude.{◌≡◌, ◌≢◌, ◌≤◌, ℕ, List, None, Some, IfOk, IsOk, length, map, max};
+ghost use Rattle.textwrap_base.specs.Errors.{OnlyMemoryRunsOut};
+ghost use Rattle.textwrap_words.specs.Pieces.{as_splitter};
+ghost use Rattle.textwrap_words.specs.Words.{words_of};
+ghost use Rattle.textwrap_words.specs.WordSplitters.{Splitter, split_words, splitter_view};
+ghost use Rattle.textwrap_words.specs.declared.word_separators.WordSeparator.TheVariants.{AsciiSpace};
+ghost use Rattle.textwrap_layout.specs.Options.{layout_view, settings_view};
+ghost use Rattle.textwrap_layout.specs.Paragraph.{Line, line_view};
+ghost use Rattle.textwrap_plain.specs.Balance.{AreFirstFitAt, AreBalanced, HasRoom, IsBalanced};
+ghost use Rattle.textwrap_plain.specs.Balance.{TakesLines, whole_pieces};
+ghost use Rattle.textwrap_plain.specs.Widest.{widest};
+
+use std::alloc::{AllocError, Allocator};
+use std::borrow::CowStr;
+use textwrap::words::display_width;
+use textwrap::{Options, WordSplitter, WrapError};
+use textwrap_layout::built_in::BuiltIn;
+use textwrap_layout::frame::Frame;
+use textwrap_layout::layout::Layout;
+use textwrap_layout::paragraph_pieces::{Cuts, cut_paragraph};
+use textwrap_layout::parts::{BuiltInAlgorithm, BuiltInParts};
+use textwrap_layout::printable_cuts::{BlankCuts, PrintableCuts};
+use textwrap_lines::inner::{place_into, wrap_by};
+use textwrap_lines::parts::split_paragraph;
+use textwrap_lines::placed::TextwrapLine;
+use textwrap_words::inner::BuiltInSplitter;
+
+/// A balanced width, and what it took to find it.
+#[derive(Clone, Copy, Debug)]
+pub struct Balance {
+    /// The width, in columns.
+    pub width: usize,
+    /// How many times the text was divided into lines.
+    pub fillings: usize,
+}
+
+/// The least width at which first fit takes no more lines of a text than at the width of the options,
+/// and at which each piece of it has room: the wider of the indents, and after it any one word, split
+/// but not broken, with its hyphen. Where some piece has none at the width of the options, it is that
+/// width. Words stand between blanks, and the options' own algorithm is not used.
+///
+/// At 40 columns `It was the best of times, it was the worst` takes two lines, and so it does at 23,
+/// where they are about as wide.
+pub fn balanced_width<A: Allocator + Copy>(alloc: A, text: &str, options: &Options<'_>) -> usize
+    requires separator { options.now.word_separator ≡ AsciiSpace }
+    requires splitter { splitter_view options.now.word_splitter ≢ None }
+    ensures balanced { (splitter : Splitter) → splitter_view options.now.word_splitter ≡ Some splitter
+        → IsBalanced (settings_view options.now) words_of splitter text.now result }
+{
+    let found = balanced_width_by(alloc, text, Layout::of(options), &at_blanks(options));
+    match found {
+        Ok(balance) => balance.width,
+        Err(_) => unreachable!(),
+    }
+}
+
+/// The lines of a text by first fit at its [`balanced_width`]. They are as many as at the width of the
+/// options.
+///
+/// At 40 columns `It was the best of times, it was the worst` has the lines `It was the best of` and
+/// `times, it was the worst`.
+///
+/// # Errors
+/// [`WrapError::Memory`] where memory runs out.
+pub fn wrap_balanced<'t, A: Allocator + Copy>(
+    alloc: A,
+    text: &'t str,
+    options: &Options<'_>,
+) -> Result<Vec<CowStr<'t, A>, A>, WrapError>
+    requires separator { options.now.word_separator ≡ AsciiSpace }
+    requires splitter { splitter_view options.now.word_splitter ≢ None }
+    ensures lines { IfOk result (λ lines. (splitter : Splitter)
+        → splitter_view options.now.word_splitter ≡ Some splitter → AreBalanced
+        (settings_view options.now) words_of splitter text.now (map line_view lines.items)) }
+    // As many as first fit takes at the width of the options.
+    ensures as_many { IfOk result (λ lines. (splitter : Splitter)
+        → splitter_view options.now.word_splitter ≡ Some splitter → (others : List Line)
+        → AreFirstFitAt (settings_view options.now) words_of splitter text.now options.now.width others
+        → length lines.items ≡ length others) }
+    ensures only_memory { OnlyMemoryRunsOut result }
+{
+    wrap_balanced_by(alloc, text, Layout::of(options), &at_blanks(options))
+}
+
+/// Words between blanks, the splitter of the options, and first fit.
+fn at_blanks(options: &Options<'_>) -> BuiltIn<BlankCuts>
+    requires { splitter_view options.now.word_splitter ≢ None }
+    ensures { splitter_view options.now.word_splitter ≡ Some (as_splitter result.parts.splitter) }
+{
+    BuiltIn {
+        parts: BuiltInParts {
+            splitter: match options.word_splitter {
+                WordSplitter::NoHyphenation => BuiltInSplitter::NoHyphenation,
+                WordSplitter::HyphenSplitter => BuiltInSplitter::HyphenSplitter,
+                WordSplitter::Custom(_) => unreachable!(),
+            },
+            algorithm: BuiltInAlgorithm::FirstFit,
+        },
+        words: BlankCuts {},
+    }
+}
+
+/// The lines that [`wrap_balanced`] returns, by this layout and the words and the splitter of these
+/// parts.
+///
+/// # Errors
+/// [`WrapError::Memory`] where memory runs out.
+pub fn wrap_balanced_by<'t, A: Allocator + Copy, W: PrintableCuts + Copy>(
+    alloc: A,
+    text: &'t str,
+    layout: Layout<'_>,
+    parts: &BuiltIn<W>,
+) -> Result<Vec<CowStr<'t, A>, A>, WrapError>
+    ensures lines { IfOk result (λ lines. AreBalanced (layout_view layout.entry)
+        (W.words parts.now.words) (as_splitter parts.now.parts.splitter) text.now
+        (map line_view lines.items)) }
+    ensures as_many { IfOk result (λ lines. (others : List Line)
+        → AreFirstFitAt (layout_view layout.entry) (W.words parts.now.words)
+        (as_splitter parts.now.parts.splitter) text.now layout.entry.width others
+        → length lines.items ≡ length others) }
+    ensures only_memory { OnlyMemoryRunsOut result }
+{
+    let balance = balanced_width_by(alloc, text, layout, parts)?;
+    let narrow = Layout {
+        width: balance.width,
+        ..layout
+    };
+    let first_fit = BuiltIn {
+        parts: BuiltInParts {
+            splitter: parts.parts.splitter,
+            algorithm: BuiltInAlgorithm::FirstFit,
+        },
+        words: parts.words,
+    };
+    wrap_by(alloc, text, narrow, &first_fit)
+}
+
+/// The width that [`balanced_width`] returns, by this layout and the words and the splitter of these
+/// parts, and how many fillings it took: none where some piece has no room, else one at the width of
+/// the layout and at most 64 more, as each of these leaves at most half of the widths.
+///
+/// # Errors
+/// [`WrapError::Memory`] where memory runs out.
+pub fn balanced_width_by<A: Allocator + Copy, W: PrintableCuts + Copy>(
+    alloc: A,
+    text: &str,
+    layout: Layout<'_>,
+    parts: &BuiltIn<W>,
+) -> Result<Balance, WrapError>
+    ensures balanced { IfOk result (λ balance. IsBalanced (layout_view layout.entry)
+        (W.words parts.now.words) (as_splitter parts.now.parts.splitter) text.now balance.width) }
+    ensures fillings { IfOk result (λ balance. balance.fillings ≤ 65) }
+    ensures done { W.at_blanks parts.now.words → IsOk result }
+    ensures only_memory { OnlyMemoryRunsOut result }
+{
+    let width = layout.width;
+    let indent = wider(
+        display_width(layout.initial_indent),
+        display_width(layout.subsequent_indent),
+    );
+    let widest = widest_piece(text, layout, parts)?;
+    if indent > width || widest > width - indent {
+        return Ok(Balance { width, fillings: 0 });
+    }
+    search(alloc, text, layout, parts, indent + widest)
+}
+
+/// The columns of the widest piece of a text with its penalty, 0 where it has none.
+///
+/// # Errors
+/// [`AllocError`] where memory runs out.
+fn widest_piece<W: PrintableCuts + Copy>(
+    text: &str,
+    layout: Layout<'_>,
+    parts: &BuiltIn<W>,
+) -> Result<usize, AllocError>
+    ensures widest { IfOk result (λ columns. columns ≡ widest (whole_pieces
+        (layout_view layout.entry) (W.words parts.now.words)
+        (as_splitter parts.now.parts.splitter) text.now)) }
+    ensures done { W.at_blanks parts.now.words → IsOk result }
+{
+    let line_ending = layout.line_ending;
+    let mut widest = 0;
+    let mut rest = Some(text);
+    while let Some(text) = rest {
+        let (paragraph, after) = split_paragraph(text, line_ending);
+        widest = wider(widest, widest_in(paragraph, layout, parts)?);
+        rest = after;
+    }
+    Ok(widest)
+}
+
+/// The columns of the widest piece of a paragraph with its penalty: its words are split but not broken.
+///
+/// # Errors
+/// [`AllocError`] where memory runs out.
+fn widest_in<W: PrintableCuts + Copy>(
+    paragraph: &str,
+    layout: Layout<'_>,
+    parts: &BuiltIn<W>,
+) -> Result<usize, AllocError>
+    ensures widest { IfOk result (λ columns. columns ≡ widest (split_words
+        (as_splitter parts.now.parts.splitter) (W.words parts.now.words paragraph.now))) }
+    ensures done { W.at_blanks parts.now.words → IsOk result }
+{
+    let frame = Frame::of(Layout {
+        break_words: false,
+        ..layout
+    });
+    let found = parts.words.word_cuts(paragraph)?;
+    let cuts = Cuts {
+        words: found.as_deref(),
+        splitter: parts.parts.splitter,
+    };
+    let mut widest = 0;
+    for piece in cut_paragraph(paragraph, &frame, &cuts) {
+        widest = wider(widest, piece.width);
+    }
+    Ok(widest)
+}
+
+/// The balanced width, where all pieces have room at the width of the layout: it lies between that and
+/// the least at which they have.
+///
+/// # Errors
+/// [`WrapError::Memory`] where memory runs out.
+fn search<A: Allocator + Copy, W: PrintableCuts + Copy>(
+    alloc: A,
+    text: &str,
+    layout: Layout<'_>,
+    parts: &BuiltIn<W>,
+    least: usize,
+) -> Result<Balance, WrapError>
+    requires within { least ≤ layout.width }
+    requires room { HasRoom (layout_view layout) (W.words parts.now.words)
+        (as_splitter parts.now.parts.splitter) text.now least }
+    requires least { (other : ℕ) → HasRoom (layout_view layout) (W.words parts.now.words)
+        (as_splitter parts.now.parts.splitter) text.now other → least ≤ other }
+    ensures balanced { IfOk result (λ balance. IsBalanced (layout_view layout.entry)
+        (W.words parts.now.words) (as_splitter parts.now.parts.splitter) text.now balance.width) }
+    ensures fillings { IfOk result (λ balance. balance.fillings ≤ 65) }
+    ensures done { W.at_blanks parts.now.words → IsOk result }
+    ensures only_memory { OnlyMemoryRunsOut result }
+{
+    let most = count_lines(alloc, text, layout, parts, layout.width)?;
+    let mut low = least;
+    let mut high = layout.width;
+    let mut fillings = 1;
+    while low < high {
+        let middle = low + (high - low) / 2;
+        let count = count_lines(alloc, text, layout, parts, middle)?;
+        if count <= most {
+            high = middle;
+        } else {
+            low = middle + 1;
+        }
+        fillings += 1;
+    }
+    Ok(Balance {
+        width: high,
+        fillings,
+    })
+}
+
+/// How many lines a text takes at a width, by first fit.
+///
+/// # Errors
+/// [`WrapError::Memory`] where memory runs out.
+fn count_lines<A: Allocator + Copy, W: PrintableCuts + Copy>(
+    alloc: A,
+    text: &str,
+    layout: Layout<'_>,
+    parts: &BuiltIn<W>,
+    width: usize,
+) -> Result<usize, WrapError>
+    ensures counted { IfOk result (TakesLines (layout_view layout.entry) (W.words parts.now.words)
+        (as_splitter parts.now.parts.splitter) text.now width) }
+    ensures done { W.at_blanks parts.now.words → IsOk result }
+    ensures only_memory { OnlyMemoryRunsOut result }
+{
+    let narrow = Layout { width, ..layout };
+    let first_fit = BuiltIn {
+        parts: BuiltInParts {
+            splitter: parts.parts.splitter,
+            algorithm: BuiltInAlgorithm::FirstFit,
+        },
+        words: parts.words,
+    };
+    let mut lines: [TextwrapLine; 0] = [];
+    let mut room: [u8; 0] = [];
+    let counts = place_into(alloc, text, narrow, &first_fit, &mut lines, &mut room)?;
+    Ok(counts.lines)
+}
+
+/// The greater of two widths.
+fn wider(first: usize, second: usize) -> usize
+    ensures { result ≡ max first second }
+{
+    if first < second { second } else { first }
+}

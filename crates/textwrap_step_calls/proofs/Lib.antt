@@ -1,6 +1,0 @@
-pub mod EndLemmas
-pub mod OffsetLemmas
-pub mod PieceLemmas
-pub mod StepLemmas
-pub mod TextStepLemmas
-pub mod Common

@@ -3,13 +3,14 @@ ghost use Rattle.std.specs.Prelude.{◌≡◌, ◌⊎◌, ◌↔◌, true, IfOk,
 ghost use Rattle.textwrap_calls.specs.Options.{algorithm_of, AreKnown, AreRead, AreTexts};
 ghost use Rattle.textwrap_calls.specs.Options.{separator_of, splitter_of};
 ghost use Rattle.textwrap_calls.specs.Status.{not_utf8, unknown_options};
-ghost use Rattle.textwrap_plain.specs.Options.{algorithm_as, splitter_as};
+ghost use Rattle.textwrap_layout.specs.Direct.{as_algorithm};
+ghost use Rattle.textwrap_words.specs.Pieces.{as_splitter};
 
 use crate::status::{NOT_UTF8, UNKNOWN_OPTIONS};
 use simdutf8::basic::from_utf8;
 use textwrap::LineEnding;
 use textwrap::wrap_algorithms::Penalties;
-use textwrap_plain::{PlainAlgorithm, PlainOptions, PlainSeparator, PlainSplitter};
+use textwrap_plain::{BuiltInAlgorithm, BuiltInSplitter, PlainOptions, PlainSeparator};
 use textwrap_unicode::Numbers;
 
 /// The version of [`TextwrapOptions`].
@@ -151,13 +152,13 @@ fn read_separator(given: &TextwrapOptions<'_>) -> PlainSeparator
 }
 
 /// The algorithm that is asked for.
-fn read_algorithm(given: &TextwrapOptions<'_>) -> PlainAlgorithm
-    ensures { algorithm_as result ≡ algorithm_of given.now }
+fn read_algorithm(given: &TextwrapOptions<'_>) -> BuiltInAlgorithm
+    ensures { as_algorithm result ≡ algorithm_of given.now }
 {
     if given.optimal_fit == 0 {
-        return PlainAlgorithm::FirstFit;
+        return BuiltInAlgorithm::FirstFit;
     }
-    PlainAlgorithm::OptimalFit(Penalties {
+    BuiltInAlgorithm::LeastCost(Penalties {
         nline_penalty: given.nline_penalty,
         overflow_penalty: given.overflow_penalty,
         short_last_line_fraction: given.short_last_line_fraction,
@@ -167,12 +168,12 @@ fn read_algorithm(given: &TextwrapOptions<'_>) -> PlainAlgorithm
 }
 
 /// The splitter that is asked for.
-fn read_splitter(given: &TextwrapOptions<'_>) -> PlainSplitter
-    ensures { splitter_as result ≡ splitter_of given.now }
+fn read_splitter(given: &TextwrapOptions<'_>) -> BuiltInSplitter
+    ensures { as_splitter result ≡ splitter_of given.now }
 {
     if given.split_at_hyphens == 0 {
-        PlainSplitter::NoHyphenation
+        BuiltInSplitter::NoHyphenation
     } else {
-        PlainSplitter::HyphenSplitter
+        BuiltInSplitter::HyphenSplitter
     }
 }

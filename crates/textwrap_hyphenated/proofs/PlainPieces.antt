@@ -1,18 +1,17 @@
 -- Words and pieces by options without functions: they are texts, and where words stand between blanks,
 -- those of options with functions.
 use Rattle.textwrap_text.proofs.Common.{Bool, IsUtf8, List, ap, subst, sym, ℕ, ◌↔◌, ◌∙◌, ◌≡◌}
-use Rattle.textwrap_words.proofs.Common.{Algorithm, IsDividedBy, WordText, sizes_of}
+use Rattle.textwrap_words.proofs.Common.{WordText}
 use Rattle.textwrap_words.proofs.Word.Pieces.{AreTexts}
 use Rattle.textwrap_words.proofs.Word.Words.{words_unique}
 use Rattle.textwrap_layout.proofs.Common.{Settings}
 use Rattle.textwrap_plain.proofs.Words.{words_by-texts}
-use Rattle.textwrap_layout.specs.Paragraph.{IsDividedInto}
-use Rattle.textwrap_plain.specs.Options.{algorithm_of, settings_of, words_by}
+use Rattle.textwrap_plain.specs.Options.{algorithm_of, words_by}
 use Rattle.textwrap_plain.specs.declared.options.PlainOptions.{PlainOptions}
 use Rattle.textwrap_plain.specs.declared.options.PlainSeparator.{PlainSeparator}
 use Rattle.textwrap_plain.specs.declared.options.PlainSeparator.TheVariants.{AtBlanks}
 use Rattle.textwrap_hyphens.specs.Hyphenation.{Hyphenation}
-use Rattle.textwrap_hyphenated.specs.Hyphenated.{ArePointsBy, DividesAtPoints}
+use Rattle.textwrap_hyphenated.specs.Hyphenated.{DividesAtPoints}
 use Rattle.textwrap_hyphenated.specs.Plain.{AreWordsBy, DividesPlainlyAt}
 
 -- the words of a line are texts
@@ -20,19 +19,6 @@ pub are_words-texts : (separator : PlainSeparator) (line : List ℕ) (words : Li
     → IsUtf8 line → AreWordsBy separator line words → AreTexts line words
 are_words-texts separator line words utf8 are =
     subst (AreTexts line) (sym are) (words_by-texts separator line utf8)
-
--- what is divided by parts of the same words and algorithm is divided by the options
-pub named : (P : Settings → (Settings → Bool → List ℕ → List (List WordText) → Type 0) → Type 0)
-    (h : Hyphenation) (o : PlainOptions) {s : Settings} {w : PlainSeparator} {a : Algorithm}
-    → s ≡ settings_of o → w ≡ o.word_separator → a ≡ algorithm_of o
-    → P s (λ t. IsDividedInto t (AreWordsBy w) (ArePointsBy h) (IsDividedBy a sizes_of))
-    → P (settings_of o) (DividesPlainlyAt h o)
-named P h o {s} {w} {a} settings words algorithm is =
-    let Divides : PlainSeparator → Algorithm → Settings → Bool → List ℕ → List (List WordText)
-    → Type 0 = λ v b t. IsDividedInto t (AreWordsBy v) (ArePointsBy h) (IsDividedBy b sizes_of) in
-    subst (λ r. P r (DividesPlainlyAt h o)) settings
-    (subst (λ v. P s (Divides v (algorithm_of o))) words
-    (subst (λ b. P s (Divides w b)) algorithm is))
 
 -- where words stand between blanks
 module _ (h : Hyphenation) (o : PlainOptions) (blanks : o.word_separator ≡ AtBlanks)

@@ -6,7 +6,7 @@ use textwrap_words::words::Word;
 use textwrap_words::wrap_algorithms::{Penalties, WrapError};
 
 /// A built-in algorithm: one that is no function of a caller.
-#[derive(Clone, Copy)]
+#[derive(Clone, Copy, Debug, PartialEq, Eq)]
 pub enum BuiltInAlgorithm {
     /// Each line takes as many pieces as fit.
     FirstFit,

@@ -28,7 +28,7 @@ use textwrap_calls::room::put;
 use textwrap_calls::status::{NOT_UTF8, OUT_OF_MEMORY, WRONG_PLACES};
 use textwrap_lines::inner::paragraph_pieces;
 use textwrap_plain::placed::paragraph_pieces as paragraph_pieces_by;
-use textwrap_plain::{PlainOptions, PlainSeparator, PlainSplitter};
+use textwrap_plain::{PlainOptions, PlainSeparator};
 use textwrap_text::characters::Characters;
 use textwrap_words::inner::BuiltInSplitter;
 
@@ -90,10 +90,7 @@ fn listed_pieces(
 {
     match options.word_separator {
         PlainSeparator::AtBlanks => {
-            let splitter = match options.word_splitter {
-                PlainSplitter::NoHyphenation => BuiltInSplitter::NoHyphenation,
-                PlainSplitter::HyphenSplitter => BuiltInSplitter::HyphenSplitter,
-            };
+            let splitter = options.word_splitter;
             placed_pieces(alloc, paragraph, &options.at_blanks(), splitter)
         }
         PlainSeparator::AtBreaks(_) => {

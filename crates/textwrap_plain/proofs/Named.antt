@@ -25,13 +25,6 @@ named P {s} {t} {w} {v} {p} {q} {a} {b} settings words splitter algorithm is =
     (subst (λ o. P s (DividesAt (words_by w) o b)) splitter
     (subst (λ e. P s (DividesAt (words_by w) p e)) algorithm is)))
 
-pub split-named : (P : Settings → (List ℕ → List WordText) → Splitter → Type 0)
-    {s t : Settings} {w v : PlainSeparator} {p q : Splitter} → s ≡ t → w ≡ v → p ≡ q
-    → P s (words_by w) p → P t (words_by v) q
-split-named P {s} {t} {w} {v} {p} {q} settings words splitter is =
-    subst (λ r. P r (words_by v) q) settings
-    (subst (λ u. P s (words_by u) q) words (subst (P s (words_by w)) splitter is))
-
 -- ---- a text that is one line as a whole
 
 -- a text without an ending is one paragraph

@@ -2,20 +2,19 @@
 use Rattle.std.specs.Prelude.{◌≡◌, ℕ, ◌-◌, Bool, false, List, map, slice_index}
 use Rattle.textwrap.specs.Cuts.{parts_between}
 use Rattle.textwrap.specs.Options.{default_algorithm, Settings, settings_at}
-use Rattle.textwrap.specs.WordSplitters.{Splitter, Whole, AtHyphens}
+use Rattle.textwrap.specs.WordSplitters.{Splitter, AtHyphens}
 use Rattle.textwrap.specs.Words.{WordText, is_cut, word_of, words_of}
-use Rattle.textwrap.specs.WrapAlgorithms.{Algorithm, Greedy, LeastCost}
+use Rattle.textwrap.specs.WrapAlgorithms.{Algorithm}
+use Rattle.textwrap_layout.specs.Direct.{as_algorithm}
 use Rattle.textwrap_layout.specs.Paragraph.{DividesAt}
+use Rattle.textwrap_layout.specs.declared.layout.Layout.{Layout}
+use Rattle.textwrap_words.specs.Pieces.{as_splitter}
 use Rattle.textwrap_unicode.specs.Cuts.{cuts_by}
 use Rattle.textwrap_unicode.specs.Pairs.{at_breaks}
 use Rattle.textwrap_unicode.specs.declared.numbers.Numbers.TheVariants.{ByExpression, ByPairs}
-use Rattle.textwrap_plain.specs.declared.options.PlainAlgorithm.{PlainAlgorithm}
-use Rattle.textwrap_plain.specs.declared.options.PlainAlgorithm.TheVariants.{FirstFit, OptimalFit}
 use Rattle.textwrap_plain.specs.declared.options.PlainOptions.{PlainOptions}
 use Rattle.textwrap_plain.specs.declared.options.PlainSeparator.{PlainSeparator}
 use Rattle.textwrap_plain.specs.declared.options.PlainSeparator.TheVariants.{AtBlanks, AtBreaks}
-use Rattle.textwrap_plain.specs.declared.options.PlainSplitter.{PlainSplitter}
-use Rattle.textwrap_plain.specs.declared.options.PlainSplitter.TheVariants.{NoHyphenation, HyphenSplitter}
 
 -- the words of a line: between blanks, or between the places where Unicode lets it end
 abbrev pub words_by : PlainSeparator → List ℕ → List WordText
@@ -28,14 +27,6 @@ is_cut_plainly AtBlanks text place = is_cut (slice_index text (place - 1)) (slic
 is_cut_plainly (AtBreaks ByPairs) text place = at_breaks text place
 is_cut_plainly (AtBreaks ByExpression) text place = false
 
-abbrev pub splitter_as : PlainSplitter → Splitter
-splitter_as NoHyphenation = Whole
-splitter_as HyphenSplitter = AtHyphens
-
-abbrev pub algorithm_as : PlainAlgorithm → Algorithm
-algorithm_as FirstFit = Greedy
-algorithm_as (OptimalFit penalties) = LeastCost penalties
-
 abbrev pub settings_of : PlainOptions → Settings
 settings_of o = record {
   width = o.width;
@@ -47,11 +38,23 @@ settings_of o = record {
   even_paragraphs = o.even_paragraphs;
 }
 
+-- the layout that they say
+abbrev pub layout_of : PlainOptions → Layout
+layout_of o = record {
+  width = o.width;
+  line_ending = o.line_ending;
+  initial_indent = o.initial_indent;
+  subsequent_indent = o.subsequent_indent;
+  break_words = o.break_words;
+  preserve_trailing_space = o.preserve_trailing_space;
+  even_paragraphs = o.even_paragraphs;
+}
+
 abbrev pub splitter_of : PlainOptions → Splitter
-splitter_of o = splitter_as o.word_splitter
+splitter_of o = as_splitter o.word_splitter
 
 abbrev pub algorithm_of : PlainOptions → Algorithm
-algorithm_of o = algorithm_as o.wrap_algorithm
+algorithm_of o = as_algorithm o.wrap_algorithm
 
 -- a paragraph is divided so under these settings, by the options' words, splitter and algorithm
 abbrev pub DividesPlainly : PlainOptions → Settings → Bool → List ℕ → List (List WordText) → Type 0

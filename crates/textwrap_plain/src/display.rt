@@ -9,8 +9,8 @@ ghost use Rattle.textwrap_plain.specs.declared.options.PlainSeparator.TheVariant
 ghost use Rattle.textwrap_plain.specs.Tables.{IsPlainTable, plain_parts};
 ghost use Rattle.textwrap_base.specs.Errors.{OnlyMemoryRunsOut};
 
-use crate::balancing::{balanced_width_by, wrap_balanced_by};
-use crate::options::PlainOptions;
+use crate::balancing::{Balance, balanced_width_by, wrap_balanced_by};
+use crate::options::{PlainOptions, PlainSeparator};
 use std::alloc::Global;
 use std::borrow::CowStr;
 use textwrap::WrapError;
@@ -108,8 +108,30 @@ pub fn balanced_width(
     ensures done { options.now.word_separator ≡ AtBlanks → IsOk result }
     ensures only_memory { OnlyMemoryRunsOut result }
 {
-    let balance = balanced_width_by(alloc, text, options.layout(), &options.parts(alloc))?;
+    let balance = find_balance(alloc, text, options)?;
     Ok(balance.width)
+}
+
+/// The balanced width of a text, and what it took to find it.
+///
+/// # Errors
+/// [`WrapError::Memory`] where memory runs out.
+fn find_balance(alloc: Global, text: &str, options: &PlainOptions<'_>) -> Result<Balance, WrapError>
+    ensures balanced { IfOk result (λ balance. IsBalanced (settings_of options.now)
+        (words_by options.now.word_separator) (splitter_of options.now) text.now balance.width) }
+    ensures done { options.now.word_separator ≡ AtBlanks → IsOk result }
+    ensures only_memory { OnlyMemoryRunsOut result }
+{
+    let layout = options.layout();
+    match options.word_separator {
+        PlainSeparator::AtBlanks => balanced_width_by(alloc, text, layout, &options.direct_parts()),
+        PlainSeparator::AtBreaks(_) => balanced_width_by(
+            alloc,
+            text,
+            layout,
+            &options.parts(alloc),
+        ),
+    }
 }
 
 /// The lines that [`wrap_balanced`](crate::balancing::wrap_balanced) returns: those of first fit at the

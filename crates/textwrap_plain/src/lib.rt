@@ -13,5 +13,7 @@ mod printable;
 pub mod texts;
 
 pub use display::{PlainColumn, balanced_width, fill_justified, table, wrap_balanced};
-pub use options::{PlainAlgorithm, PlainOptions, PlainSeparator, PlainSplitter};
+pub use options::{PlainOptions, PlainSeparator};
 pub use texts::{fill, fill_into, refill, wrap, wrap_columns};
+pub use textwrap_layout::parts::BuiltInAlgorithm;
+pub use textwrap_words::inner::BuiltInSplitter;

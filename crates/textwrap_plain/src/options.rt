@@ -8,7 +8,9 @@ ghost use Rattle.textwrap_plain.specs.Options.{algorithm_of, AreDefaults, settin
 use textwrap::wrap_algorithms::Penalties;
 use textwrap::{LineEnding, Options, WordSplitter, WrapAlgorithm};
 use textwrap_layout::options::DEFAULTS;
+use textwrap_layout::parts::BuiltInAlgorithm;
 use textwrap_unicode::Numbers;
+use textwrap_words::inner::BuiltInSplitter;
 
 /// Where words end.
 #[derive(Clone, Copy, Debug, PartialEq, Eq)]
@@ -18,24 +20,6 @@ pub enum PlainSeparator {
     /// Where Unicode lets a line end
     /// ([UAX #14](https://www.unicode.org/reports/tr14/)), as `unicode_cuts` of `textwrap_unicode` says.
     AtBreaks(Numbers),
-}
-
-/// Where words are split.
-#[derive(Clone, Copy, Debug, PartialEq, Eq)]
-pub enum PlainSplitter {
-    /// Nowhere.
-    NoHyphenation,
-    /// After each hyphen between alphanumeric characters.
-    HyphenSplitter,
-}
-
-/// How words are divided into lines.
-#[derive(Clone, Copy, Debug, PartialEq, Eq)]
-pub enum PlainAlgorithm {
-    /// Each line takes as many words as fit.
-    FirstFit,
-    /// The lines cost the least together.
-    OptimalFit(Penalties),
 }
 
 /// How a text is wrapped: what `Options` of `textwrap` say, but for functions of the caller.
@@ -54,9 +38,9 @@ pub struct PlainOptions<'a> {
     /// Where words end.
     pub word_separator: PlainSeparator,
     /// Where words are split.
-    pub word_splitter: PlainSplitter,
+    pub word_splitter: BuiltInSplitter,
     /// How words are divided into lines.
-    pub wrap_algorithm: PlainAlgorithm,
+    pub wrap_algorithm: BuiltInAlgorithm,
     /// Whether blanks at line ends are kept.
     pub preserve_trailing_space: bool,
     /// Whether the first lines of later paragraphs are divided for the width that their own indent
@@ -77,8 +61,8 @@ impl PlainOptions<'static> {
             subsequent_indent: "",
             break_words: true,
             word_separator: PlainSeparator::AtBreaks(Numbers::ByPairs),
-            word_splitter: PlainSplitter::HyphenSplitter,
-            wrap_algorithm: PlainAlgorithm::OptimalFit(Penalties::new()),
+            word_splitter: BuiltInSplitter::HyphenSplitter,
+            wrap_algorithm: BuiltInAlgorithm::LeastCost(Penalties::new()),
             preserve_trailing_space: false,
             even_paragraphs: false,
         }
@@ -114,7 +98,7 @@ impl<'a> PlainOptions<'a> {
             × (algorithm_of self.now ≡ Greedy) }
     {
         match (self.word_separator, self.wrap_algorithm) {
-            (PlainSeparator::AtBlanks, PlainAlgorithm::FirstFit) => true,
+            (PlainSeparator::AtBlanks, BuiltInAlgorithm::FirstFit) => true,
             _ => false,
         }
     }
@@ -123,8 +107,8 @@ impl<'a> PlainOptions<'a> {
         ensures { algorithm_view result ≡ Some (algorithm_of self.now) }
     {
         match self.wrap_algorithm {
-            PlainAlgorithm::FirstFit => WrapAlgorithm::FirstFit,
-            PlainAlgorithm::OptimalFit(penalties) => WrapAlgorithm::OptimalFit(penalties),
+            BuiltInAlgorithm::FirstFit => WrapAlgorithm::FirstFit,
+            BuiltInAlgorithm::LeastCost(penalties) => WrapAlgorithm::OptimalFit(penalties),
         }
     }
 
@@ -132,8 +116,8 @@ impl<'a> PlainOptions<'a> {
         ensures { splitter_view result ≡ Some (splitter_of self.now) }
     {
         match self.word_splitter {
-            PlainSplitter::NoHyphenation => WordSplitter::NoHyphenation,
-            PlainSplitter::HyphenSplitter => WordSplitter::HyphenSplitter,
+            BuiltInSplitter::NoHyphenation => WordSplitter::NoHyphenation,
+            BuiltInSplitter::HyphenSplitter => WordSplitter::HyphenSplitter,
         }
     }
 }

@@ -1,12 +1,9 @@
 //! Options without functions as `textwrap_lines` takes them: a layout, and parts by which texts are cut
 //! into words, split and divided.
 ghost use Rattle.std.specs.Prelude.{◌≡◌};
-ghost use Rattle.textwrap_layout.specs.Direct.{as_algorithm};
-ghost use Rattle.textwrap_layout.specs.Options.{layout_view};
-ghost use Rattle.textwrap_plain.specs.Options.{algorithm_of, settings_of, splitter_of};
-ghost use Rattle.textwrap_words.specs.Pieces.{as_splitter};
+ghost use Rattle.textwrap_plain.specs.Options.{layout_of};
 
-use crate::options::{PlainAlgorithm, PlainOptions, PlainSeparator, PlainSplitter};
+use crate::options::{PlainOptions, PlainSeparator};
 use std::alloc::{AllocError, Global};
 use textwrap_layout::built_in::BuiltIn;
 use textwrap_layout::layout::Layout;
@@ -14,7 +11,6 @@ use textwrap_layout::parts::{BuiltInAlgorithm, BuiltInParts};
 use textwrap_layout::printable_cuts::{BlankCuts, PrintableCuts};
 use textwrap_unicode::inner::{is_cut_at_blanks, is_cut_between};
 use textwrap_unicode::{Numbers, unicode_cuts, unicode_cuts_by_expression};
-use textwrap_words::inner::BuiltInSplitter;
 
 /// The words of a separator.
 #[derive(Clone, Copy)]
@@ -79,7 +75,7 @@ impl PrintableCuts for PlainWords {
 impl<'a> PlainOptions<'a> {
     /// What they say, but for the separator, the splitter and the algorithm.
     pub fn layout(&self) -> Layout<'a>
-        ensures { layout_view result ≡ settings_of self.now }
+        ensures { result ≡ layout_of self.now }
     {
         let PlainOptions {
             width,
@@ -105,16 +101,13 @@ impl<'a> PlainOptions<'a> {
     /// Their separator, splitter and algorithm, as `textwrap_lines` takes them.
     pub fn parts(&self, alloc: Global) -> BuiltIn<PlainWords>
         ensures words { result.words.separator ≡ self.now.word_separator }
-        ensures splitter { as_splitter result.parts.splitter ≡ splitter_of self.now }
-        ensures algorithm { as_algorithm result.parts.algorithm ≡ algorithm_of self.now }
+        ensures splitter { result.parts.splitter ≡ self.now.word_splitter }
+        ensures algorithm { result.parts.algorithm ≡ self.now.wrap_algorithm }
     {
         BuiltIn {
             parts: BuiltInParts {
-                splitter: self.built_in_splitter(),
-                algorithm: match self.wrap_algorithm {
-                    PlainAlgorithm::FirstFit => BuiltInAlgorithm::FirstFit,
-                    PlainAlgorithm::OptimalFit(penalties) => BuiltInAlgorithm::LeastCost(penalties),
-                },
+                splitter: self.word_splitter,
+                algorithm: self.wrap_algorithm,
             },
             words: PlainWords {
                 separator: self.word_separator,
@@ -125,24 +118,15 @@ impl<'a> PlainOptions<'a> {
 
     /// First fit, of words between blanks. Loops over these ask of no byte which separator it is.
     pub(crate) fn direct_parts(&self) -> BuiltIn<BlankCuts>
-        ensures splitter { as_splitter result.parts.splitter ≡ splitter_of self.now }
+        ensures splitter { result.parts.splitter ≡ self.now.word_splitter }
         ensures first_fit { result.parts.algorithm ≡ BuiltInAlgorithm.FirstFit }
     {
         BuiltIn {
             parts: BuiltInParts {
-                splitter: self.built_in_splitter(),
+                splitter: self.word_splitter,
                 algorithm: BuiltInAlgorithm::FirstFit,
             },
             words: BlankCuts {},
-        }
-    }
-
-    fn built_in_splitter(&self) -> BuiltInSplitter
-        ensures { as_splitter result ≡ splitter_of self.now }
-    {
-        match self.word_splitter {
-            PlainSplitter::NoHyphenation => BuiltInSplitter::NoHyphenation,
-            PlainSplitter::HyphenSplitter => BuiltInSplitter::HyphenSplitter,
         }
     }
 }

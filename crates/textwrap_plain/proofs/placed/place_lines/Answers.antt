@@ -2,5 +2,5 @@ use Rattle.textwrap_plain.proofs.placed.place_lines.Goals as goal
 
 pub returns-clause-lines : goal.returns-clause-lines
 returns-clause-lines c =
-    let o = c.parts.ensures in
-    rw (← c.layout.ensures, ← o.words, ← o.splitter, ← o.algorithm) c.place_lines_by.ensures.lines
+    rw (c.layout.ensures, c.parts.ensures.words, c.parts.ensures.splitter, c.parts.ensures.algorithm)
+    at c.place_lines_by.ensures.lines

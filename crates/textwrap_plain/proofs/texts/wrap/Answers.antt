@@ -12,7 +12,7 @@ lines : (c : After-wrap_by) → IfOk c.wrap_by.result (λ lines.
     (map line_view lines.items))
 lines c =
     let o = c.parts.ensures in
-    rw (← c.layout.ensures, ← o.words, ← o.splitter, ← o.algorithm) c.wrap_by.ensures.lines
+    rw (c.layout.ensures, o.words, o.splitter, o.algorithm) at c.wrap_by.ensures.lines
 
 pub returns-clause-lines : goal.returns-clause-lines
 returns-clause-lines c =

@@ -3,13 +3,13 @@ use super::super::plain::{assert_count, assert_gives, assert_holds};
 use std::alloc::{AllocError, Global};
 use std::process::Abort;
 use textwrap::WrapError;
-use textwrap_plain::{PlainAlgorithm, PlainOptions, fill};
+use textwrap_plain::{BuiltInAlgorithm, PlainOptions, fill};
 use textwrap_unicode::unicode_cuts;
 
 /// A text filled at a width by first fit, with words cut at its breaks.
 fn filled(alloc: Global, text: &str, width: usize) -> Result<String, WrapError> {
     let options = PlainOptions {
-        wrap_algorithm: PlainAlgorithm::FirstFit,
+        wrap_algorithm: BuiltInAlgorithm::FirstFit,
         ..PlainOptions::new(width)
     };
     fill(alloc, text, &options)

@@ -1,76 +1,81 @@
 -- What the program's arguments mean.
-use Rattle.std.specs.Prelude.{ℕ, Bool, ◌||◌, List, [], ◌∷◌, Option, Some, None, codes, drop, if◌then◌else◌, nat_eq}
-use Rattle.std.specs.List.{list_any, starts_with}
-use Rattle.std.specs.Option.{option_map}
-use Rattle.std.specs.Str.{bytes_eq}
+use Rattle.std.specs.Prelude.{◌≡◌, ℕ, true, List, [], ◌∷◌, ◌++◌, map, codes, Option, Some, None}
+use Rattle.std.specs.Prelude.{option_map, unwrap_or}
+use Rattle.std.specs.List.{flat_map}
+use Rattle.clap.specs.Words.{App, Row, Rule, Text, first_of, new_app, new_rule}
+use Rattle.clap.specs.declared.builder.action.ArgAction.TheVariants.{Set}
+use Rattle.text_filters.specs.Arguments.{file_rule, texts_in}
+use Rattle.text_filters.specs.declared.arguments.Mode.TheVariants.{Print}
 use Rattle.textwrap_program.specs.Arguments.{width_of}
-use Rattle.hyphenate_program.specs.declared.arguments.Call.{Call}
-use Rattle.hyphenate_program.specs.declared.arguments.Call.TheVariants as call
+use Rattle.textwrap_program.specs.Program.{line_feed}
 use Rattle.hyphenate_program.specs.declared.arguments.Request.{Request}
 
--- the name of the dictionary, and the width, if one is given
-pub record RequestText : Type 0 where
-  pub dictionary : List ℕ
-  pub width : Option ℕ
+-- ---- the command line
 
-abbrev pub request_text : List ℕ → Option ℕ → RequestText
-request_text dictionary width = record { dictionary = dictionary; width = width }
+abbrev pub columns_rule : Rule
+columns_rule = record (new_rule (codes "width")) {
+  long = Some (codes "width");
+  short = Some 119;
+  value_names = 1;
+}
 
-abbrev pub request_view : Request → RequestText
-request_view request = request_text request.dictionary.now request.width
+-- what stands first by itself is the dictionary, and has to be there
+abbrev pub dictionary_rule : Rule
+dictionary_rule =
+    record (new_rule (codes "DICTIONARY")) { action = Some Set; required = true }
 
--- the request of a dictionary, whose name does not begin with a hyphen, without a width
-abbrev pub unfilled : List ℕ → Option RequestText
-unfilled dictionary =
-    if starts_with nat_eq dictionary (codes "-") then None else Some (request_text dictionary None)
+-- the words are those after the program's name, and of what may stand once the last use counts
+abbrev pub hyphenate_app : App
+hyphenate_app = record {
+  top = record (new_app (codes "hyphenate")).top {
+    rules = columns_rule ∷ dictionary_rule ∷ file_rule ∷ [];
+    no_binary_name = true;
+    args_override_self = true;
+    has_version = true;
+  };
+  subs = [];
+}
 
--- and with one
-abbrev pub filled : List ℕ → List ℕ → Option RequestText
-filled dictionary width =
-    if starts_with nat_eq dictionary (codes "-") then None
-    else option_map (λ columns. request_text dictionary (Some columns)) (width_of width)
+-- ---- what it shows of itself
 
--- a word that is followed by a width, and one that holds it
-abbrev pub is_width_word : List ℕ → Bool
-is_width_word word = bytes_eq word (codes "--width") || bytes_eq word (codes "-w")
+abbrev pub help_lines : List Text
+help_lines =
+    codes "Prints words with hyphens at their points, by the patterns of a dictionary."
+    ∷ codes ""
+    ∷ codes "Usage: hyphenate [OPTIONS] <DICTIONARY> [FILE]..."
+    ∷ codes ""
+    ∷ codes "Arguments:"
+    ∷ codes "  <DICTIONARY>  A dictionary of libhyphen, or a list of TeX's patterns"
+    ∷ codes "  [FILE]...     Files; - is the standard input [default: -]"
+    ∷ codes ""
+    ∷ codes "Options:"
+    ∷ codes "  -w, --width <N>  Fill the text at N columns, with hyphens; also -N"
+    ∷ codes "  -h, --help       Print help"
+    ∷ codes "  -V, --version    Print version"
+    ∷ codes ""
+    ∷ codes "Examples:"
+    ∷ codes "  hyphenate hyph_en_US.dic < words.txt  Each line is a word"
+    ∷ codes "  hyphenate -30 hyph_de.dic brief.txt   A text, filled at 30 columns" ∷ []
 
-abbrev pub has_width : List ℕ → Bool
-has_width word = starts_with nat_eq word (codes "--width=")
+abbrev pub help_text : Text
+help_text = flat_map (λ line. line ++ line_feed ∷ []) help_lines
 
-abbrev pub request_of_two : List ℕ → List ℕ → Option RequestText
-request_of_two first second =
-    if has_width first then filled second (drop 8 first)
-    else if has_width second then filled first (drop 8 second) else None
+abbrev pub version_text : Text
+version_text = codes "hyphenate 2.0.0" ++ line_feed ∷ []
 
-abbrev pub request_of_three : List ℕ → List ℕ → List ℕ → Option RequestText
-request_of_three first second third =
-    if is_width_word first then filled third second
-    else if is_width_word second then filled first third else None
+-- ---- what its matches mean
 
--- the request that the words after the program's name mean, if any
-abbrev pub request_of : List (List ℕ) → Option RequestText
-request_of [] = None
-request_of (dictionary ∷ []) = unfilled dictionary
-request_of (first ∷ second ∷ []) = request_of_two first second
-request_of (first ∷ second ∷ third ∷ []) = request_of_three first second third
-request_of (first ∷ second ∷ third ∷ more ∷ words) = None
+abbrev pub width_in_text : Option Text → Option (Option ℕ)
+width_in_text None = Some None
+width_in_text (Some text) = option_map (λ width. Some width) (width_of text)
 
--- what the words ask for
-pub data CallText : Type 0 where
-  Help : CallText
-  Version : CallText
-  Hyphenate : RequestText → CallText
+-- the width, if one is given; `None` if it is no number
+abbrev pub width_if_given : List Row → Option (Option ℕ)
+width_if_given rows = width_in_text (first_of (codes "width") rows)
 
-abbrev pub call_view : Call → CallText
-call_view call.Help = Help
-call_view call.Version = Version
-call_view (call.Hyphenate request) = Hyphenate (request_view request)
-
-abbrev pub has_word : List ℕ → List ℕ → List (List ℕ) → Bool
-has_word long short words = list_any (λ word. bytes_eq word long || bytes_eq word short) words
-
-abbrev pub call_of : List (List ℕ) → Option CallText
-call_of words =
-    if has_word (codes "--help") (codes "-h") words then Some Help
-    else if has_word (codes "--version") (codes "-V") words then Some Version
-    else option_map Hyphenate (request_of words)
+-- these matches mean this request
+pub record IsRequest (rows : List Row) (request : Request) : Type 0 where
+  pub dictionary : request.dictionary.now ≡ unwrap_or (first_of (codes "DICTIONARY") rows) []
+  pub width : width_if_given rows ≡ Some request.width
+  pub names : map (λ name. name.now) request.inputs.names.now ≡ texts_in (codes "FILE") rows
+  pub mode : request.inputs.mode ≡ Print

@@ -1,3 +1,4 @@
+pub mod Texts
+pub mod Dictionary
 pub mod Arguments
 pub mod Program
-pub mod Texts

@@ -1,6 +1,5 @@
 -- What texts become by a dictionary: words with hyphens, and filled paragraphs.
-use Rattle.std.specs.Prelude.{◌≡◌, ℕ, List, [], ◌∷◌, ◌++◌, ⊤, Option, None, Some, Result, Ok, Err}
-use Rattle.std.specs.Prelude.{String, string_bytes}
+use Rattle.std.specs.Prelude.{◌≡◌, ℕ, List, [], ◌∷◌, ◌++◌, Option, None, Some, true}
 use Rattle.std.specs.List.{flat_map, join_with_byte}
 use Rattle.std.specs.Str.Lines.{lines}
 use Rattle.textwrap_text.specs.LineEnding.{line_feed}
@@ -10,12 +9,11 @@ use Rattle.textwrap_words.specs.WrapAlgorithms.{Greedy}
 use Rattle.textwrap_layout.specs.Filling.{IsFilled}
 use Rattle.textwrap_layout.specs.Options.{settings_at}
 use Rattle.textwrap_hyphens.specs.Hyphenation.{Hyphenation}
-use Rattle.textwrap_hyphens.specs.Parsed.{Holds}
-use Rattle.textwrap_patterns.specs.Parsing.{parsed}
 use Rattle.textwrap_hyphens.specs.Points.{points_of}
-use Rattle.textwrap_patterns.specs.declared.errors.ParseError.{ParseError}
-use Rattle.textwrap_patterns.specs.declared.errors.ParseError.TheVariants.{Memory, Line}
+use Rattle.textwrap_hyphens.specs.Table.{held}
+use Rattle.text_filters.specs.Filter.{Work}
 use Rattle.textwrap_hyphenated.specs.Hyphenated.{DividesAtPoints}
+use Rattle.hyphenate_program.specs.declared.texts.Hyphenating.{Hyphenating}
 
 -- the parts of a word between these points, joined by hyphens
 abbrev pub hyphenated_at : List ℕ → List ℕ → List ℕ
@@ -38,14 +36,9 @@ abbrev pub IsMade : Option ℕ → Hyphenation → List ℕ → List ℕ → Typ
 IsMade None h text made = made ≡ hyphenated_words h text
 IsMade (Some width) h text made = IsFilledWith width h text made
 
--- it becomes that by what the text of a dictionary says
-abbrev pub IsMadeBy : Option ℕ → List ℕ → List ℕ → List ℕ → Type 0
-IsMadeBy width dictionary text made =
-    (h : Hyphenation) × Holds (parsed dictionary) h × IsMade width h text made
+-- the program as a filter
+abbrev pub hyphenating_by : Option ℕ → Hyphenation → Work
+hyphenating_by width h = record { Makes = IsMade width h; applies = λ text. true }
 
--- or the first line of the dictionary that is wrong is told, or memory runs out
-module _ {Z : Type 0} where
-  abbrev pub Hyphenates : Option ℕ → List ℕ → List ℕ → Result (String Z) ParseError → Type 0
-  Hyphenates width dictionary text (Ok made) = IsMadeBy width dictionary text (string_bytes made)
-  Hyphenates width dictionary text (Err (Memory error)) = ⊤
-  Hyphenates width dictionary text (Err (Line n fault)) = parsed dictionary ≡ Err (Line n fault)
+abbrev pub hyphenating : Hyphenating → Work
+hyphenating how = hyphenating_by how.width (held how.patterns)

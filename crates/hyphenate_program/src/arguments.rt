@@ -1,137 +1,121 @@
 //! The program's arguments.
-ghost use Rattle.std.specs.Prelude.{◌≡◌, map, option_map, string_bytes};
-ghost use Rattle.hyphenate_program.specs.Arguments.{call_of, call_view, filled, has_word, is_width_word};
-ghost use Rattle.hyphenate_program.specs.Arguments.{request_of, request_of_three, request_of_two, request_view, unfilled};
+ghost use Rattle.std.specs.Prelude.{◌≡◌, IfOk, MatchOption, None, false};
+ghost use Rattle.clap.specs.Words.{app_of, found_of, rows_of, rule_of};
+ghost use Rattle.hyphenate_program.specs.Arguments.{IsRequest, dictionary_rule, hyphenate_app};
+ghost use Rattle.hyphenate_program.specs.Arguments.{width_if_given, columns_rule};
 
+use clap::{Arg, ArgAction, ArgMatches, Command};
+use std::alloc::{AllocError, Global};
+use text_filters::arguments::{Inputs, Mode, file_argument, text_of, texts_of, value_of};
 use textwrap_program::arguments::parse_width;
-use textwrap_text::starts::{starts_with, without_start};
 
-/// What the program is called for.
-#[derive(Clone, Copy, Debug, PartialEq, Eq)]
-pub enum Call<'a> {
-    /// To show its help.
-    Help,
-    /// To show its version.
-    Version,
-    /// To hyphenate its input.
-    Hyphenate(Request<'a>),
-}
+/// What `--help` shows, which is what `clap` makes of the command line.
+pub const HELP: &str = "Prints words with hyphens at their points, by the patterns of a dictionary.
+
+Usage: hyphenate [OPTIONS] <DICTIONARY> [FILE]...
+
+Arguments:
+  <DICTIONARY>  A dictionary of libhyphen, or a list of TeX's patterns
+  [FILE]...     Files; - is the standard input [default: -]
+
+Options:
+  -w, --width <N>  Fill the text at N columns, with hyphens; also -N
+  -h, --help       Print help
+  -V, --version    Print version
+
+Examples:
+  hyphenate hyph_en_US.dic < words.txt  Each line is a word
+  hyphenate -30 hyph_de.dic brief.txt   A text, filled at 30 columns
+";
+
+/// What the program does, in a line of its help.
+const ABOUT: &str = "Prints words with hyphens at their points, by the patterns of a dictionary.";
+
+/// What stands at the end of its help.
+const EXAMPLES: &str = "Examples:
+  hyphenate hyph_en_US.dic < words.txt  Each line is a word
+  hyphenate -30 hyph_de.dic brief.txt   A text, filled at 30 columns";
+
+/// What `--version` shows, which is what `clap` makes of it.
+pub const VERSION: &str = "hyphenate 2.0.0\n";
 
 /// What is to be hyphenated, and how.
-#[derive(Clone, Copy, Debug, PartialEq, Eq)]
+#[derive(Clone, Copy)]
 pub struct Request<'a> {
     /// The name of the dictionary's file.
     pub dictionary: &'a str,
     /// The columns at which the paragraphs of a text are filled. Without them each line of the text is
     /// a word, and is hyphenated.
     pub width: Option<usize>,
+    /// The inputs.
+    pub inputs: Inputs<'a>,
 }
 
-/// What the words after the program's name ask for: help or the version, if one of them says so, or
-/// else a request. Any other words mean nothing.
-pub fn call_in(words: &[String]) -> Option<Call<'_>>
-    ensures { option_map call_view result ≡ call_of (map string_bytes words.now) }
+/// The program's command line.
+pub(crate) fn command<'a>(alloc: Global) -> Result<Command<'a>, AllocError>
+    ensures { IfOk result (λ command. app_of command ≡ hyphenate_app) }
 {
-    if has_word(words, "--help", "-h") {
-        return Some(Call::Help);
-    }
-    if has_word(words, "--version", "-V") {
-        return Some(Call::Version);
-    }
-    match request_in(words) {
-        Some(request) => Some(Call::Hyphenate(request)),
-        None => None,
-    }
+    Command::new(alloc, "hyphenate")
+        .version("2.0.0")
+        .about(ABOUT)
+        .after_help(EXAMPLES)
+        .no_binary_name(true)
+        .args_override_self(true)
+        .arg(columns_argument(alloc))?
+        .arg(dictionary_argument(alloc))?
+        .arg(file_argument(alloc))
 }
 
-/// Whether one of the words is this option, by its long name or its short one.
-fn has_word(words: &[String], long: &str, short: &str) -> bool
-    ensures { result ≡ has_word long.now short.now (map string_bytes words.now) }
+/// The argument that gives the width, if the text is filled.
+fn columns_argument<'a>(alloc: Global) -> Arg<'a>
+    ensures rule { rule_of result ≡ columns_rule }
+    ensures local { result.global ≡ false }
 {
-    let mut rest = words;
-    while let [word, after @ ..] = rest {
-        if word.as_str() == long || word.as_str() == short {
-            return true;
-        }
-        rest = after;
-    }
-    false
+    Arg::new(alloc, "width")
+        .short('w')
+        .long("width")
+        .value_name("N")
+        .help("Fill the text at N columns, with hyphens; also -N")
 }
 
-/// The request that the words mean: the name of a file, and before it or behind it `--width` or `-w` with
-/// a number in ASCII digits, in a word of its own or, after `--width=`, in the same word; the width may be
-/// left out. No name begins with a hyphen.
-pub fn request_in(words: &[String]) -> Option<Request<'_>>
-    ensures { option_map request_view result ≡ request_of (map string_bytes words.now) }
+/// The argument that names the dictionary.
+fn dictionary_argument<'a>(alloc: Global) -> Arg<'a>
+    ensures rule { rule_of result ≡ dictionary_rule }
+    ensures local { result.global ≡ false }
 {
-    match words {
-        [dictionary] => unfilled(dictionary.as_str()),
-        [first, second] => request_of_two(first.as_str(), second.as_str()),
-        [first, second, third] => {
-            request_of_three(first.as_str(), second.as_str(), third.as_str())
-        }
-        _ => None,
-    }
+    Arg::new(alloc, "DICTIONARY")
+        .required(true)
+        .action(ArgAction::Set)
+        .help("A dictionary of libhyphen, or a list of TeX's patterns")
 }
 
-/// The request of two words, of which one is the width.
-fn request_of_two<'a>(first: &'a str, second: &'a str) -> Option<Request<'a>>
-    ensures { option_map request_view result ≡ request_of_two first.now second.now }
+/// The request of what a parse found. Without it a width is given that is no number.
+pub fn request_in<'m, 'a>(matches: &'m ArgMatches<'a>) -> Option<Request<'m>>
+    ensures { MatchOption result (width_if_given (rows_of (found_of matches.now)) ≡ None)
+        (IsRequest (rows_of (found_of matches.now))) }
 {
-    match without_start(first, "--width=") {
-        Some(width) => filled(second, width),
-        None => match without_start(second, "--width=") {
-            Some(width) => filled(first, width),
-            None => None,
-        },
-    }
-}
-
-/// The request of three words, of which two are the width.
-fn request_of_three<'a>(first: &'a str, second: &'a str, third: &'a str) -> Option<Request<'a>>
-    ensures { option_map request_view result ≡ request_of_three first.now second.now third.now }
-{
-    if is_width_word(first) {
-        filled(third, second)
-    } else if is_width_word(second) {
-        filled(first, third)
-    } else {
-        None
-    }
-}
-
-/// Whether a number of columns stands behind this word.
-fn is_width_word(word: &str) -> bool
-    ensures { result ≡ is_width_word word.now }
-{
-    word == "--width" || word == "-w"
-}
-
-/// The request of this dictionary without a width.
-fn unfilled<'a>(dictionary: &'a str) -> Option<Request<'a>>
-    ensures { option_map request_view result ≡ unfilled dictionary.now }
-{
-    if starts_with(dictionary, "-") {
-        return None;
-    }
+    let width = width_if_given(matches)?;
+    let inputs = Inputs {
+        mode: Mode::Print,
+        names: texts_of(matches, "FILE"),
+        quiet: true,
+    };
     Some(Request {
-        dictionary,
-        width: None,
+        dictionary: value_of(matches, "DICTIONARY"),
+        width,
+        inputs,
     })
 }
 
-/// The request of this dictionary and this width, if that is a number.
-fn filled<'a>(dictionary: &'a str, width: &str) -> Option<Request<'a>>
-    ensures { option_map request_view result ≡ filled dictionary.now width.now }
+/// The width, if one is given; nothing if it is no number.
+fn width_if_given(matches: &ArgMatches<'_>) -> Option<Option<usize>>
+    ensures { result ≡ width_if_given (rows_of (found_of matches.now)) }
 {
-    if starts_with(dictionary, "-") {
-        return None;
-    }
-    match parse_width(width) {
-        Some(columns) => Some(Request {
-            dictionary,
-            width: Some(columns),
-        }),
-        None => None,
+    match text_of(matches, "width") {
+        Some(text) => match parse_width(text) {
+            Some(width) => Some(Some(width)),
+            None => None,
+        },
+        None => Some(None),
     }
 }

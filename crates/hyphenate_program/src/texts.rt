@@ -2,37 +2,41 @@
 ghost use Rattle.std.specs.Prelude.{◌≡◌, ◌++◌, IfOk, OnOk, string_bytes};
 ghost use Rattle.textwrap_words.specs.Cuts.{AreInnerCuts};
 ghost use Rattle.textwrap_hyphens.specs.Table.{held};
-ghost use Rattle.hyphenate_program.specs.Texts.{Hyphenates, IsFilledWith, IsMade, hyphenated_at};
-ghost use Rattle.hyphenate_program.specs.Texts.{hyphenated_word, hyphenated_words};
+ghost use Rattle.hyphenate_program.specs.Texts.{IsFilledWith, IsMade, hyphenated_at};
+ghost use Rattle.hyphenate_program.specs.Texts.{hyphenated_word, hyphenated_words, hyphenating};
 
 use std::alloc::{AllocError, Global};
+use text_filters::filter::{Filter, Made};
 use textwrap_hyphenated::texts::fill_hyphenated;
-use textwrap_hyphens::dictionary::Patterns;
 use textwrap_hyphens::points::points;
 use textwrap_hyphens::table::PatternTable;
 use textwrap_layout::options::Options;
-use textwrap_patterns::errors::ParseError;
 use textwrap_words::wrap_algorithms::WrapAlgorithm;
 
-/// A text by the dictionary that another text says, as [`Patterns::parse`] reads it.
+/// What a text is hyphenated by.
 ///
 /// With a width its paragraphs are filled at so many columns by first fit, with hyphens at the points
 /// of the dictionary. Without one each of its lines is a word, and gets a hyphen `-` at each of its
 /// points: `hyphenation` becomes `hy-phen-ation` by the patterns `hy3ph`, `he2n`, `hena4`, `hen5at`,
 /// `1na`, `n2at`, `1tio`, `2io` and `o2n`. A line feed stands behind each word, also behind the last.
-///
-/// # Errors
-/// [`ParseError`]: memory runs out, or what is wrong in the dictionary's first line that is wrong.
-pub fn hyphenated_text(
-    alloc: Global,
-    dictionary: &str,
-    text: &str,
-    width: Option<usize>,
-) -> Result<String, ParseError>
-    ensures { Hyphenates width dictionary.now text.now result }
-{
-    let patterns = Patterns::parse(alloc, dictionary)?;
-    Ok(made_by(alloc, text, width, &patterns.table())?)
+#[derive(Clone, Copy)]
+pub struct Hyphenating<'p> {
+    /// The columns of a line, if the text is filled.
+    pub width: Option<usize>,
+    /// The dictionary.
+    pub patterns: PatternTable<'p>,
+}
+
+impl Filter for Hyphenating<'_> {
+    ghost work = { λ how. hyphenating how };
+
+    fn filter(&self, alloc: Global, text: &str) -> Result<Made, AllocError> {
+        let text = made_by(alloc, text, self.width, &self.patterns)?;
+        Ok(Made {
+            text,
+            applies: true,
+        })
+    }
 }
 
 /// What a text becomes by a dictionary: filled, if there is a width, else its words with their

@@ -1,38 +1,38 @@
-//! What the program `reflow` does with a file.
-ghost use Rattle.reflow_program.specs.Files.{bytes_at};
-ghost use Rattle.reflow_program.specs.Inputs.{ChecksFile, Replaces};
+//! What a program does with a file.
+ghost use Rattle.text_filters.specs.Files.{bytes_at};
+ghost use Rattle.text_filters.specs.Inputs.{ChecksFile, Replaces};
 
-use reflow_program::faults::Fault;
-use reflow_program::files::Files;
-use reflow_program::inputs::{Treated, check_file};
-use reflow_program::layout::Layout;
-use reflow_program::replacing::replace_file;
 use std::alloc::Global;
 use std::io::Write;
+use text_filters::faults::Fault;
+use text_filters::files::Files;
+use text_filters::filter::Filter;
+use text_filters::inputs::{Treated, check_file};
+use text_filters::replacing::replace_file;
 
 /// As `check_file`.
-pub fn checked_file<F: Files, W: Write>(
+pub fn checked_file<T: Filter, F: Files, W: Write>(
     alloc: Global,
     name: &str,
     files: &mut F,
     writer: &mut W,
-    layout: &Layout<'_>,
+    filter: &T,
 ) -> Result<Treated, Fault>
-    ensures checked { ChecksFile layout.now name.now (bytes_at (F.past files.old) name.now)
+    ensures checked { ChecksFile (T.work filter.now) name.now (bytes_at (F.past files.old) name.now)
         (W.contents writer.old) (W.contents writer.new) result }
 {
-    check_file(alloc, name, files, writer, layout)
+    check_file(alloc, name, files, writer, filter)
 }
 
 /// As `replace_file`.
-pub fn replaced_file<F: Files>(
+pub fn replaced_file<T: Filter, F: Files>(
     alloc: Global,
     name: &str,
     files: &mut F,
-    layout: &Layout<'_>,
+    filter: &T,
 ) -> Result<Treated, Fault>
-    ensures { Replaces layout.now name.now
+    ensures { Replaces (T.work filter.now) name.now
         (F.past files.old) (F.past files.new) result }
 {
-    replace_file(alloc, name, files, layout)
+    replace_file(alloc, name, files, filter)
 }

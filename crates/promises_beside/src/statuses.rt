@@ -1,15 +1,17 @@
 //! The statuses that the programs end with.
-ghost use Rattle.std.specs.Prelude.{◌≡◌, map, string_bytes};
-ghost use Rattle.hyphenate_program.specs.Program.{status_of};
+ghost use Rattle.std.specs.Prelude.{map, string_bytes};
+ghost use Rattle.hyphenate_program.specs.Program as hyphenating;
 ghost use Rattle.reflow_program.specs.Program as reflowing;
 ghost use Rattle.textwrap_program.specs.Arguments.{request_of};
 ghost use Rattle.textwrap_program.specs.Program.{Executes};
 
-use hyphenate_program::program::{Failure, explain};
-use reflow_program::files::Files;
-use reflow_program::program::Ending;
+use hyphenate_program::program::Hyphenate;
+use reflow_program::program::Reflow;
 use std::alloc::Global;
 use std::io::{Read, Write};
+use text_filters::files::Files;
+use text_filters::program::Ending;
+use text_filters::tool::execute;
 
 /// As `execute` of `textwrap_program`.
 pub fn status_of_textwrap<R: Read, W: Write, M: Write>(
@@ -59,17 +61,32 @@ pub fn ending_of_reflow<F: Files, R: Read, W: Write, M: Write>(
         })
         result }
 {
-    reflow_program::program::execute(alloc, words, files, reader, output, messages)
+    execute(alloc, &Reflow, words, files, reader, output, messages)
 }
 
-/// As `explain` of `hyphenate_program`.
-pub fn status_of_hyphenate<M: Write>(
+/// As `execute` of `hyphenate_program`.
+pub fn ending_of_hyphenate<F: Files, R: Read, W: Write, M: Write>(
     alloc: Global,
-    name: &str,
-    failure: &Failure,
+    words: &[String],
+    files: &mut F,
+    reader: &mut R,
+    output: &mut W,
     messages: &mut M,
-) -> u8
-    ensures status { result ≡ status_of failure.now }
+) -> Ending
+    ensures { hyphenating.Executes (map string_bytes words.now)
+        (record {
+          unread = R.remaining reader.old;
+          files = F.past files.old;
+          output = W.contents output.old;
+          messages = M.contents messages.old;
+        })
+        (record {
+          unread = R.remaining reader.new;
+          files = F.past files.new;
+          output = W.contents output.new;
+          messages = M.contents messages.new;
+        })
+        result }
 {
-    explain(alloc, name, failure, messages)
+    execute(alloc, &Hyphenate, words, files, reader, output, messages)
 }

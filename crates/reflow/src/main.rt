@@ -2,12 +2,14 @@
 //! again.
 #![tactic(auto)]
 
-use reflow_program::disk::Disk;
-use reflow_program::program::{Ending, complain, execute};
+use reflow_program::program::Reflow;
 use std::env::Env;
 use std::io::ErrorKind;
 use std::process::ExitCode;
 use std::{env, io};
+use text_filters::disk::Disk;
+use text_filters::program::{Ending, complain};
+use text_filters::tool::{Tool, execute};
 use textwrap_program::arguments::words_after_name;
 
 fn main(rt: HostRuntime) -> ExitCode {
@@ -21,6 +23,7 @@ fn run(rt: &HostRuntime) -> Ending {
     match words(rt) {
         Ok(words) => execute(
             rt.alloc(),
+            &Reflow,
             &words,
             &mut Disk::new(rt),
             &mut rt.reader(),
@@ -28,9 +31,13 @@ fn run(rt: &HostRuntime) -> Ending {
             &mut messages,
         ),
         Err(error) if error.kind() == ErrorKind::OutOfMemory => {
-            complain(&mut messages, "reflow: out of memory")
+            complain(&Reflow.about(), "out of memory", &mut messages)
         }
-        Err(_) => complain(&mut messages, "reflow: the arguments are not UTF-8"),
+        Err(_) => complain(
+            &Reflow.about(),
+            "the arguments are not UTF-8",
+            &mut messages,
+        ),
     }
 }
 

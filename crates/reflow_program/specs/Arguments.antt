@@ -17,28 +17,17 @@ use Rattle.textwrap_marks.specs.declared.options.ReflowOptions.{ReflowOptions}
 use Rattle.textwrap_marked.specs.declared.within.LineRange.{LineRange}
 use Rattle.std.specs.List.{after_first, before_first, position_or_len}
 use Rattle.std.specs.Prelude.{◌==◌, length, nat_lt, option_map}
-use Rattle.reflow_program.specs.declared.arguments.Mode.{Mode}
-use Rattle.reflow_program.specs.declared.arguments.Mode.TheVariants.{Print, Check, CheckDiff, Diff, InPlace}
+use Rattle.text_filters.specs.declared.arguments.Mode.{Mode}
+use Rattle.text_filters.specs.declared.arguments.Mode.TheVariants.{Print, Check, CheckDiff, Diff, InPlace}
+use Rattle.text_filters.specs.Arguments.{file_rule, flag_in, flag_rule, texts_in, width_in, width_rule}
 use Rattle.reflow_program.specs.declared.arguments.Request.{Request}
 use Rattle.reflow_program.specs.declared.arguments.Unfit.{Unfit}
 use Rattle.reflow_program.specs.declared.arguments.Unfit.TheVariants as unfit
 
 -- ---- the command line
 
--- a flag, whose id is its long name
-abbrev pub flag_rule : Text → Rule
-flag_rule name = record (new_rule name) { long = Some name; action = Some SetTrue }
-
 abbrev pub quiet_rule : Rule
 quiet_rule = record (flag_rule (codes "quiet")) { short = Some 113 }
-
-abbrev pub width_rule : Rule
-width_rule = record (new_rule (codes "width")) {
-  long = Some (codes "width");
-  short = Some 119;
-  value_names = 1;
-  defaults = codes "80" ∷ [];
-}
 
 -- an argument with a text, which may come several times, and whose id is its long name
 abbrev pub text_rule : Text → Rule
@@ -47,10 +36,6 @@ text_rule name =
 
 abbrev pub lines_rule : Rule
 lines_rule = record (new_rule (codes "lines")) { long = Some (codes "lines"); value_names = 1 }
-
--- what stands by itself is an input; without any the standard input is the one
-abbrev pub file_rule : Rule
-file_rule = record (new_rule (codes "FILE")) { action = Some Append; defaults = codes "-" ∷ [] }
 
 abbrev pub reflow_rules : List Rule
 reflow_rules =
@@ -118,16 +103,6 @@ version_text = codes "reflow 2.0.0" ++ line_feed ∷ []
 
 -- ---- what its matches mean
 
-abbrev pub flag_in : Text → List Row → Bool
-flag_in name rows = option_map_or (λ text. bytes_eq text (codes "true")) (first_of name rows) false
-
-abbrev pub texts_in : Text → List Row → List Text
-texts_in name rows = unwrap_or (all_of name rows) []
-
--- digits that are a number of 64 bits
-abbrev pub width_in : List Row → Option ℕ
-width_in rows = option_and_then width_of (first_of (codes "width") rows)
-
 -- least cost counts for more than first fit
 abbrev pub algorithm_in : List Row → Algorithm
 algorithm_in rows =
@@ -193,9 +168,9 @@ pub record AreOptions (rows : List Row) (lines : Option LineRange) (options : Re
 pub record IsRequest (rows : List Row) (request : Request) : Type 0 where
   pub lines : lines_in rows ≡ Some request.layout.lines
   pub options : AreOptions rows request.layout.lines request.layout.options
-  pub mode : request.mode ≡ mode_in rows
-  pub names : map (λ name. name.now) request.names.now ≡ texts_in (codes "FILE") rows
-  pub quiet : request.quiet ≡ flag_in (codes "quiet") rows
+  pub mode : request.inputs.mode ≡ mode_in rows
+  pub names : map (λ name. name.now) request.inputs.names.now ≡ texts_in (codes "FILE") rows
+  pub quiet : request.inputs.quiet ≡ flag_in (codes "quiet") rows
 
 -- these matches mean no request, since they have no width or no lines
 abbrev pub IsUnfit : List Row → Unfit → Type 0

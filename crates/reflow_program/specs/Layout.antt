@@ -5,6 +5,7 @@ use Rattle.textwrap_marked.specs.Reflow.{IsReflowed}
 use Rattle.textwrap_marked.specs.Within.{IsReflowedWithin}
 use Rattle.textwrap_marks.specs.declared.options.ReflowOptions.{ReflowOptions}
 use Rattle.textwrap_marked.specs.declared.within.LineRange.{LineRange}
+use Rattle.text_filters.specs.Filter.{Work}
 use Rattle.reflow_program.specs.declared.layout.Layout.{Layout}
 
 -- the paragraphs of the text are filled again, those at some lines or all
@@ -18,3 +19,7 @@ LaysOut layout text output = IsLaidOutAt layout.lines layout.options text output
 -- some line of the text has marks that are filled; each line does, if there are no prefixes
 abbrev pub has_marks : ReflowOptions → List ℕ → Bool
 has_marks options text = length options.prefixes.now == 0 || has_chosen options text
+
+-- the program as a filter
+abbrev pub reflowing : Layout → Work
+reflowing layout = record { Makes = LaysOut layout; applies = has_marks layout.options }

@@ -1,269 +1,50 @@
 -- What the program leaves behind, and how it ends.
-use Rattle.std.specs.Prelude.{◌≡◌, ◌⊎◌, ◌&&◌, ℕ, max, Bool, true, false, List, [], ◌∷◌, ◌++◌, map, codes}
-use Rattle.std.specs.Prelude.{Option, None, Some, Result, Ok, Err, bytes_eq, if◌then◌else◌, unwrap_or}
-use Rattle.std.specs.Prelude.{◌+◌, ◌-◌, ◌^◌, decimal, length, min, nat_lt, not}
-use Rattle.std.specs.Io.KnownBytes.{Appends, Keeps}
-use Rattle.clap.specs.Words.{HasKind, Row, Text, fault_of, first_of, kind_of, matches_of}
-use Rattle.clap.specs.declared.error.Error.{Error}
-use Rattle.clap.specs.declared.error.kind.ErrorKind.{ErrorKind}
-use Rattle.clap.specs.declared.error.kind.ErrorKind.TheVariants.{DisplayHelp, DisplayVersion, OutOfMemory}
-use Rattle.textwrap_program.specs.Filling.{WritesPrefix}
-use Rattle.textwrap_program.specs.Program.{line_feed}
+use Rattle.std.specs.Prelude.{◌⊎◌, ℕ, List, codes, false}
+use Rattle.clap.specs.Words.{Row}
+use Rattle.text_filters.specs.Messages.{AboutText, joined_texts, value_texts}
+use Rattle.text_filters.specs.Program.{IsFault, OnlySays, Says, Serves, World}
+use Rattle.text_filters.specs.Tool as tool
+use Rattle.text_filters.specs.Tool.{ToolText}
+use Rattle.text_filters.specs.Words.{spelled_out}
+use Rattle.text_filters.specs.declared.program.Ending.{Ending}
 use Rattle.reflow_program.specs.Arguments.{IsRequest, IsUnfit, help_text, reflow_app, version_text}
-use Rattle.reflow_program.specs.Files.{Folder, bytes_at}
-use Rattle.reflow_program.specs.Inputs.{Checks, ChecksFile, Differs, DiffersFile, Prints, PrintsFile}
-use Rattle.reflow_program.specs.Inputs.{Replaces}
-use Rattle.reflow_program.specs.Messages.{is_closed, is_quiet, joined_texts, message_line, says_nothing}
-use Rattle.reflow_program.specs.Messages.{subject}
-use Rattle.reflow_program.specs.Messages.{texts_of}
-use Rattle.reflow_program.specs.Words.{spelled_out}
-use Rattle.reflow_program.specs.declared.arguments.Mode.{Mode}
-use Rattle.reflow_program.specs.declared.arguments.Mode.TheVariants.{Print, Check, CheckDiff, Diff, InPlace}
+use Rattle.reflow_program.specs.Layout.{reflowing}
 use Rattle.reflow_program.specs.declared.arguments.Request.{Request}
 use Rattle.reflow_program.specs.declared.arguments.Unfit.{Unfit}
 use Rattle.reflow_program.specs.declared.arguments.Unfit.TheVariants as unfit
-use Rattle.reflow_program.specs.declared.faults.Fault.{Fault}
-use Rattle.reflow_program.specs.declared.faults.Fault.TheVariants.{Output}
-use Rattle.reflow_program.specs.declared.faults.Reason.{Reason}
-use Rattle.reflow_program.specs.declared.inputs.Treated.{Treated}
-use Rattle.reflow_program.specs.declared.layout.Layout.{Layout}
-use Rattle.reflow_program.specs.declared.program.Ending.{Ending}
 
--- what the reader has left, what stood at the names of files after each step so far, and what two
--- writers hold, where that is known
-pub record World : Type 0 where
-  pub unread : Option (List ℕ)
-  pub files : List Folder
-  pub output : Option (List ℕ)
-  pub messages : Option (List ℕ)
-
--- nothing was read, replaced, written or said
-abbrev pub SameWorld : World → World → Type 0
-SameWorld old new =
-    Keeps old.unread new.unread × (new.files ≡ old.files) × Keeps old.output new.output
-    × Keeps old.messages new.messages
-
--- nothing was read, replaced or printed
-abbrev pub OnlySays : World → World → Type 0
-OnlySays old new =
-    Keeps old.unread new.unread × (new.files ≡ old.files) × Keeps old.output new.output
-
--- ---- what is said, and how a run ends
-
--- a text is said: it is written whole, or else a prefix of it is
-abbrev pub Says : List ℕ → Option (List ℕ) → Option (List ℕ) → Bool → Type 0
-Says text old new true = Appends old new text
-Says text old new false = WritesPrefix old new text
-
-abbrev pub SaysLine : List ℕ → Option (List ℕ) → Option (List ℕ) → Bool → Type 0
-SaysLine line = Says (line ++ line_feed ∷ [])
-
--- unless nothing is to be said
-abbrev pub SaysUnless : Bool → List ℕ → Option (List ℕ) → Option (List ℕ) → Bool → Type 0
-SaysUnless true text old new said = Keeps old new × (said ≡ true)
-SaysUnless false text old new said = Says text old new said
-
--- 0 if all went well, 1 if a check found that an input would change, 2 after a fault
-abbrev pub status_of : Result Treated Fault → ℕ
-status_of (Ok treated) = if treated.changes then 1 else 0
-status_of (Err fault) = if is_quiet fault then 0 else 2
-
-abbrev pub replaced_of : Result Treated Fault → ℕ
-replaced_of (Ok treated) = if treated.replaced then 1 else 0
-replaced_of (Err fault) = 0
-
--- how a run ends with an input of which this became
-abbrev pub Reports : List ℕ → Result Treated Fault → Option (List ℕ) → Option (List ℕ) → Ending
-    → Type 0
-Reports name result old new ending =
-    SaysUnless (says_nothing result) (message_line (subject name result) (texts_of result)) old new
-    ending.said
-    × (ending.status ≡ status_of result) × (ending.replaced ≡ replaced_of result)
-
-abbrev pub all_well : Ending
-all_well = record { status = 0; said = true; replaced = 0 }
-
--- a run with a fault before its first input
-abbrev pub IsFault : Ending → Type 0
-IsFault ending = (ending.status ≡ 2) × (ending.replaced ≡ 0)
-
--- how a run ends that goes on: the status is the greater one
-abbrev pub joined : Ending → Ending → Ending
-joined first rest = record {
-  status = max first.status rest.status;
-  said = first.said && rest.said;
-  replaced = min (first.replaced + rest.replaced) (2 ^ 64 - 1);
+abbrev pub reflow_about : AboutText
+reflow_about = record {
+  name = codes "reflow";
+  help = help_text;
+  version = version_text;
+  idle = codes "no line begins with what --prefix says";
 }
 
--- ---- inputs, where texts are laid out so
-
-abbrev pub standard_input : List ℕ
-standard_input = codes "standard input"
-
--- what an input of this name is called in messages
-abbrev pub shown_name : List ℕ → List ℕ
-shown_name name = if bytes_eq name (codes "-") then standard_input else name
-
-module _ (layout : Layout) where
-  -- the standard input is printed also where files would be replaced
-  abbrev pub TreatsInput : Mode → Option (List ℕ) → Option (List ℕ) → Option (List ℕ)
-      → Option (List ℕ) → Result Treated Fault → Type 0
-  TreatsInput Print unread left old new result = Prints layout unread left old new result
-  TreatsInput InPlace unread left old new result = Prints layout unread left old new result
-  TreatsInput Check unread left old new result =
-      Checks layout standard_input unread left old new result
-  TreatsInput Diff unread left old new result =
-      Differs layout false (codes "-") unread left old new result
-  TreatsInput CheckDiff unread left old new result =
-      Differs layout true (codes "-") unread left old new result
-
-  -- a file is read from its known bytes; only `InPlace` changes it, and then nothing is printed
-  abbrev pub TreatsFile : Mode → List ℕ → List Folder → List Folder
-      → Option (List ℕ) → Option (List ℕ) → Result Treated Fault → Type 0
-  TreatsFile Print name was is old new result =
-      (is ≡ was) × PrintsFile layout (bytes_at was name) old new result
-  TreatsFile Check name was is old new result =
-      (is ≡ was) × ChecksFile layout name (bytes_at was name) old new result
-  TreatsFile Diff name was is old new result =
-      (is ≡ was) × DiffersFile layout false name (bytes_at was name) old new result
-  TreatsFile CheckDiff name was is old new result =
-      (is ≡ was) × DiffersFile layout true name (bytes_at was name) old new result
-  TreatsFile InPlace name was is old new result =
-      Replaces layout name was is result × Keeps old new
-
-  -- an input is the standard input, or a file
-  abbrev pub Treats : Mode → Bool → List ℕ → Option (List ℕ) → Option (List ℕ)
-      → List Folder → List Folder → Option (List ℕ) → Option (List ℕ) → Result Treated Fault → Type 0
-  Treats mode true name unread left was is old new result =
-      (is ≡ was) × TreatsInput mode unread left old new result
-  Treats mode false name unread left was is old new result =
-      Keeps unread left × TreatsFile mode name was is old new result
-
-  -- the input of this name; `-` is the standard input
-  abbrev pub TreatsName : Mode → List ℕ → World → World → Result Treated Fault → Type 0
-  TreatsName mode name old new result =
-      Treats mode (bytes_eq name (codes "-")) name old.unread new.unread old.files new.files
-      old.output new.output result
-
-  -- the inputs are treated one after another, each with its message; where nobody reads the output any
-  -- more, no further one is
-  abbrev pub TreatsAll : Mode → List (List ℕ) → Bool → World → World → Ending → Type 0
-  TreatsAll mode [] closed old new ending = SameWorld old new × (ending ≡ all_well)
-  TreatsAll mode (name ∷ names) true old new ending = SameWorld old new × (ending ≡ all_well)
-  TreatsAll mode (name ∷ names) false old new ending =
-      (mid : World) × (result : Result Treated Fault) × (first : Ending) × (rest : Ending)
-      × TreatsName mode name old mid result
-      × Reports (shown_name name) result old.messages mid.messages first
-      × TreatsAll mode names (is_closed result) mid new rest
-      × (ending ≡ joined first rest)
-
--- ---- how many files were replaced
-
-abbrev is_in_place : Mode → Bool
-is_in_place InPlace = true
-is_in_place _ = false
-
--- it is said where there are several names, unless that is not wanted
-abbrev pub sums_up : Request → Bool
-sums_up request =
-    (is_in_place request.mode && nat_lt 1 (length request.names.now)) && not request.quiet
-
-abbrev pub sum_texts : ℕ → ℕ → List (List ℕ)
-sum_texts replaced names =
-    codes "reflow: " ∷ decimal replaced ∷ codes " of " ∷ decimal names ∷ codes " files changed"
-    ∷ (line_feed ∷ []) ∷ []
-
--- of a run so far over so many names, which may end so
-abbrev pub SumsUp : Bool → ℕ → World → World → Ending → Ending → Type 0
-SumsUp false names mid new first ending = SameWorld mid new × (ending ≡ first)
-SumsUp true names mid new first ending =
-    OnlySays mid new
-    × ((said : Bool)
-    × Says (joined_texts (sum_texts first.replaced names)) mid.messages new.messages said
-    × (ending ≡ record {
-      status = first.status;
-      said = first.said && said;
-      replaced = first.replaced;
-    }))
-
--- the inputs of a request are treated, and then it is said how many files were replaced
-abbrev pub TreatsRequest : Request → World → World → Ending → Type 0
-TreatsRequest request old new ending =
-    (mid : World) × (first : Ending)
-    × TreatsAll request.layout request.mode (map (λ name. name.now) request.names.now) false old mid
-    first
-    × SumsUp (sums_up request) (length request.names.now) mid new first ending
-
--- ---- where there is no request
-
-abbrev pub standard_output : List ℕ
-standard_output = codes "standard output"
-
--- a text goes to the output, or a prefix of it, of which it is said why as of an input
-abbrev pub Shows : List ℕ → Option (List ℕ) → Option (List ℕ) → Option (List ℕ)
-    → Option (List ℕ) → Ending → Type 0
-Shows text old new was is ending =
-    (Appends old new text × Keeps was is × (ending ≡ all_well))
-    ⊎ (WritesPrefix old new text
-    × ((reason : Reason) × Reports standard_output (Err (Output reason)) was is ending))
-
--- memory ran out before the first input
-abbrev pub SaysMemory : Option (List ℕ) → Option (List ℕ) → Bool → Type 0
-SaysMemory = SaysLine (codes "reflow: out of memory")
-
--- the text that an error displays is said, and where this is not known, some text
-abbrev pub SaysShown : Option (List ℕ) → Option (List ℕ) → Option (List ℕ) → Bool → Type 0
-SaysShown None was is said = (text : List ℕ) × Says text was is said
-SaysShown (Some text) was is said = Says text was is said
-
--- of a fault the text of its error is said, unless memory ran out for that text
-abbrev pub Warns : Option (List ℕ) → Option (List ℕ) → Option (List ℕ) → Bool → Type 0
-Warns shown was is said = SaysShown shown was is said ⊎ SaysMemory was is said
-
--- what is written of an error of the command line, by its kind and the text that it displays: the
--- help and the version go to the output, and a fault to the messages
-abbrev pub ExplainsParse : ErrorKind → Option (List ℕ) → Option (List ℕ) → Option (List ℕ)
-    → Option (List ℕ) → Option (List ℕ) → Ending → Type 0
-ExplainsParse DisplayHelp shown old new was is ending = Shows help_text old new was is ending
-ExplainsParse DisplayVersion shown old new was is ending = Shows version_text old new was is ending
-ExplainsParse OutOfMemory shown old new was is ending =
-    Keeps old new × SaysMemory was is ending.said × IsFault ending
-ExplainsParse _ shown old new was is ending =
-    Keeps old new × Warns shown was is ending.said × IsFault ending
-
--- ---- the whole run
-
--- that the value of an option is not what is wanted
-abbrev pub value_texts : List Row → List ℕ → List ℕ → List (List ℕ)
-value_texts rows option wanted =
-    codes "reflow: --" ∷ option ∷ codes ": '" ∷ unwrap_or (first_of option rows) []
-    ∷ codes "' is not " ∷ wanted ∷ (line_feed ∷ []) ∷ []
-
+-- which value is not what is wanted
 abbrev pub unfit_texts : List Row → Unfit → List (List ℕ)
-unfit_texts rows unfit.Width = value_texts rows (codes "width") (codes "a number of 64 bits")
+unfit_texts rows unfit.Width =
+    value_texts reflow_about rows (codes "width") (codes "a number of 64 bits")
 unfit_texts rows unfit.Lines =
-    value_texts rows (codes "lines") (codes "two numbers of 64 bits, A:B")
+    value_texts reflow_about rows (codes "lines") (codes "two numbers of 64 bits, A:B")
 
 -- these matches mean a request, of which each input is treated, or none, of which it is said why
 abbrev pub ServesRows : List Row → World → World → Ending → Type 0
 ServesRows rows old new ending =
-    ((request : Request) × IsRequest rows request × TreatsRequest request old new ending)
+    ((request : Request) × IsRequest rows request
+    × Serves reflow_about (reflowing request.layout) request.inputs old new ending)
     ⊎ ((unfit : Unfit) × IsUnfit rows unfit × OnlySays old new
     × Says (joined_texts (unfit_texts rows unfit)) old.messages new.messages ending.said
     × IsFault ending)
 
--- these words have matches on the command line, or there is an error, and nothing is read or
--- replaced; what an error displays, `clap` does not promise
-abbrev pub ServesWords : List Text → World → World → Ending → Type 0
-ServesWords words old new ending =
-    ((fault_of reflow_app words ≡ []) × ServesRows (matches_of reflow_app words) old new ending)
-    ⊎ ((error : Error) × HasKind (fault_of reflow_app words) error
-    × Keeps old.unread new.unread × (new.files ≡ old.files)
-    × ExplainsParse (kind_of error) None old.output new.output old.messages new.messages ending)
+abbrev pub reflow_tool : ToolText
+reflow_tool = record {
+  about = reflow_about;
+  app = reflow_app;
+  spelled = spelled_out false;
+  Serves = ServesRows;
+}
 
--- the words do so as they are written for the command line, or memory runs out for that
+-- the whole run over these words
 abbrev pub Executes : List (List ℕ) → World → World → Ending → Type 0
-Executes words old new ending =
-    ServesWords (spelled_out false words) old new ending
-    ⊎ (OnlySays old new × SaysMemory old.messages new.messages ending.said
-    × IsFault ending)
+Executes = tool.Executes reflow_tool

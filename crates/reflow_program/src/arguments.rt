@@ -1,15 +1,16 @@
 //! The program's arguments.
-ghost use Rattle.std.specs.Prelude.{◌≡◌, [], map, IfOk, IfErr, option_map, unwrap_or, false};
-ghost use Rattle.clap.specs.Words.{FailsBy, app_of, fault_of, first_of, found_of, matches_of, rows_of, rule_of};
+ghost use Rattle.std.specs.Prelude.{◌≡◌, IfOk, IfErr, false};
+ghost use Rattle.clap.specs.Words.{app_of, found_of, rows_of, rule_of};
 ghost use Rattle.reflow_program.specs.Arguments.{ending_beside, lines_in, lines_rule, range_between, range_of};
-ghost use Rattle.reflow_program.specs.Arguments.{IsRequest, IsUnfit, algorithm_in, ending_in};
-ghost use Rattle.reflow_program.specs.Arguments.{file_rule, flag_in, flag_rule, mode_in};
-ghost use Rattle.reflow_program.specs.Arguments.{reflow_app, text_rule, texts_in, width_in};
-ghost use Rattle.reflow_program.specs.Arguments.{quiet_rule, width_rule};
+ghost use Rattle.reflow_program.specs.Arguments.{IsRequest, IsUnfit, algorithm_in, ending_in, mode_in};
+ghost use Rattle.reflow_program.specs.Arguments.{quiet_rule, reflow_app, text_rule};
 
 use crate::layout::Layout;
 use clap::{Arg, ArgAction, ArgMatches, Command};
 use std::alloc::{AllocError, Global};
+use text_filters::arguments::{
+    Inputs, Mode, file_argument, flag, is_set, text_of, texts_of, width, width_argument,
+};
 use textwrap_lines::LineEnding;
 use textwrap_marked::{Algorithm, LineRange, ReflowOptions};
 use textwrap_program::arguments::parse_width;
@@ -63,32 +64,13 @@ const EXAMPLES: &str = "Examples:
 /// What `--version` shows, which is what `clap` makes of it.
 pub const VERSION: &str = "reflow 2.0.0\n";
 
-/// What is done with each input.
-#[derive(Clone, Copy, PartialEq, Eq)]
-pub enum Mode {
-    /// It is printed, reflowed.
-    Print,
-    /// Its name is printed, if it would change.
-    Check,
-    /// What would change in it is printed, as a unified diff.
-    Diff,
-    /// The same, and a change counts as one that a check found.
-    CheckDiff,
-    /// It is replaced, if it is a file.
-    InPlace,
-}
-
 /// What the arguments ask for.
 #[derive(Clone, Copy)]
 pub struct Request<'a> {
     /// How texts are laid out.
     pub layout: Layout<'a>,
-    /// What is done with each input.
-    pub mode: Mode,
-    /// The names of the inputs. `-` is the standard input.
-    pub names: &'a [&'a str],
-    /// Whether it is not said how many files were replaced.
-    pub quiet: bool,
+    /// The inputs.
+    pub inputs: Inputs<'a>,
 }
 
 /// Why the arguments mean no request, though they are those of the program.
@@ -100,21 +82,8 @@ pub enum Unfit {
     Lines,
 }
 
-/// What these words match on the command line of the program.
-///
-/// # Errors
-/// That of the first word that is wrong, or a request for help.
-pub fn matches_in<'a>(alloc: Global, words: &'a [&'a str]) -> Result<ArgMatches<'a>, clap::Error>
-    ensures matches { IfOk result (λ matches. rows_of (found_of matches)
-        ≡ matches_of reflow_app (map (λ word. word.now) words.entry.now)) }
-    ensures kinds { FailsBy (fault_of reflow_app (map (λ word. word.now) words.entry.now)) result }
-{
-    let command = command(alloc)?;
-    command.try_get_matches_from(words)
-}
-
 /// The program's command line.
-fn command<'a>(alloc: Global) -> Result<Command<'a>, AllocError>
+pub(crate) fn command<'a>(alloc: Global) -> Result<Command<'a>, AllocError>
     ensures { IfOk result (λ command. app_of command ≡ reflow_app) }
 {
     Command::new(alloc, "reflow")
@@ -162,17 +131,6 @@ fn command<'a>(alloc: Global) -> Result<Command<'a>, AllocError>
         .arg(file_argument(alloc))
 }
 
-/// An argument without a value, whose id is its long name.
-fn flag<'a>(alloc: Global, name: &'a str, help: &'a str) -> Arg<'a>
-    ensures rule { rule_of result ≡ flag_rule name.entry.now }
-    ensures local { result.global ≡ false }
-{
-    Arg::new(alloc, name)
-        .long(name)
-        .action(ArgAction::SetTrue)
-        .help(help)
-}
-
 /// An argument with a text, which may come several times.
 fn text<'a>(alloc: Global, name: &'a str, help: &'a str) -> Arg<'a>
     ensures rule { rule_of result ≡ text_rule name.entry.now }
@@ -183,19 +141,6 @@ fn text<'a>(alloc: Global, name: &'a str, help: &'a str) -> Arg<'a>
         .value_name("TEXT")
         .action(ArgAction::Append)
         .help(help)
-}
-
-/// The argument that gives the width.
-fn width_argument<'a>(alloc: Global) -> Arg<'a>
-    ensures rule { rule_of result ≡ width_rule }
-    ensures local { result.global ≡ false }
-{
-    Arg::new(alloc, "width")
-        .short('w')
-        .long("width")
-        .value_name("N")
-        .default_value("80")
-        .help("Columns of a line, also -N")
 }
 
 /// The argument that gives the lines at which paragraphs are filled.
@@ -219,17 +164,6 @@ fn quiet_argument<'a>(alloc: Global) -> Arg<'a>
         .long("quiet")
         .action(ArgAction::SetTrue)
         .help("Do not say how many files changed")
-}
-
-/// The argument that gives the names of the inputs.
-fn file_argument<'a>(alloc: Global) -> Arg<'a>
-    ensures rule { rule_of result ≡ file_rule }
-    ensures local { result.global ≡ false }
-{
-    Arg::new(alloc, "FILE")
-        .action(ArgAction::Append)
-        .default_value("-")
-        .help("Files; - is the standard input")
 }
 
 /// The request of what a parse found.
@@ -256,45 +190,12 @@ pub fn request_in<'m, 'a>(matches: &'m ArgMatches<'a>) -> Result<Request<'m>, Un
     };
     Ok(Request {
         layout: Layout { options, lines },
-        mode: mode_of(matches),
-        names: texts_of(matches, "FILE"),
-        quiet: is_set(matches, "quiet"),
+        inputs: Inputs {
+            mode: mode_of(matches),
+            names: texts_of(matches, "FILE"),
+            quiet: is_set(matches, "quiet"),
+        },
     })
-}
-
-/// The last value of an argument.
-fn text_of<'a>(matches: &ArgMatches<'a>, id: &str) -> Option<&'a str>
-    ensures { option_map (λ text. text.now) result
-        ≡ first_of id.now (rows_of (found_of matches.now)) }
-{
-    matches.get_str(id)
-}
-
-/// The same, or nothing where it has none.
-pub(crate) fn value_of<'a>(matches: &ArgMatches<'a>, id: &str) -> &'a str
-    ensures { result.now ≡ unwrap_or (first_of id.now (rows_of (found_of matches.now))) [] }
-{
-    match text_of(matches, id) {
-        Some(text) => text,
-        None => "",
-    }
-}
-
-/// The values of an argument.
-fn texts_of<'m, 'a>(matches: &'m ArgMatches<'a>, id: &str) -> &'m [&'m str]
-    ensures { map (λ text. text.now) result.now ≡ texts_in id.now (rows_of (found_of matches.now)) }
-{
-    matches.get_strs(id).unwrap_or(&[])
-}
-
-/// The width, where it is a number.
-fn width(matches: &ArgMatches<'_>) -> Option<usize>
-    ensures { result ≡ width_in (rows_of (found_of matches.now)) }
-{
-    match text_of(matches, "width") {
-        Some(text) => parse_width(text),
-        None => None,
-    }
 }
 
 /// The lines at which paragraphs are filled, if they are given and are such.
@@ -337,16 +238,6 @@ fn ending_beside(lines: Option<LineRange>, ending: Option<LineEnding>) -> Option
     match lines {
         Some(_) => None,
         None => ending,
-    }
-}
-
-/// Whether a flag is set.
-fn is_set(matches: &ArgMatches<'_>, name: &str) -> bool
-    ensures { result ≡ flag_in name.now (rows_of (found_of matches.now)) }
-{
-    match text_of(matches, name) {
-        Some(value) => value == "true",
-        None => false,
     }
 }
 

@@ -1,8 +1,9 @@
 //! How the program lays out a text.
 ghost use Rattle.std.specs.Prelude.{◌≡◌, IfOk, string_bytes};
-ghost use Rattle.reflow_program.specs.Layout.{LaysOut, has_marks};
+ghost use Rattle.reflow_program.specs.Layout.{LaysOut, has_marks, reflowing};
 
 use std::alloc::{AllocError, Global};
+use text_filters::filter::{Filter, Made};
 use textwrap_marked::{LineRange, ReflowOptions, has_chosen, reflow, reflow_within};
 use textwrap_words::wrap_algorithms::WrapError;
 
@@ -15,30 +16,23 @@ pub struct Layout<'a> {
     pub lines: Option<LineRange>,
 }
 
-/// A text that is laid out.
-#[derive(Drop)]
-pub struct LaidOut {
-    /// What it became.
-    pub text: String,
-    /// Whether some line of it has marks that are filled.
-    pub has_marks: bool,
+impl Filter for Layout<'_> {
+    ghost work = { λ layout. reflowing layout };
+
+    fn filter(&self, alloc: Global, text: &str) -> Result<Made, AllocError> {
+        let applies = has_marks(alloc, text, &self.options)?;
+        match lay_out(alloc, text, self) {
+            Ok(text) => Ok(Made { text, applies }),
+            Err(_) => Err(AllocError),
+        }
+    }
 }
 
 /// The text, with its paragraphs filled again.
 ///
 /// # Errors
 /// [`WrapError::Memory`] where memory runs out, and no other.
-pub fn lay_out(alloc: Global, text: &str, layout: &Layout<'_>) -> Result<LaidOut, WrapError>
-    ensures text { IfOk result (λ laid. LaysOut layout.now text.now (string_bytes laid.text)) }
-    ensures marks { IfOk result (λ laid. laid.has_marks ≡ has_marks layout.now.options text.now) }
-{
-    let has_marks = has_marks(alloc, text, &layout.options)?;
-    let text = lay_out_text(alloc, text, layout)?;
-    Ok(LaidOut { text, has_marks })
-}
-
-/// What the text becomes.
-fn lay_out_text(alloc: Global, text: &str, layout: &Layout<'_>) -> Result<String, WrapError>
+fn lay_out(alloc: Global, text: &str, layout: &Layout<'_>) -> Result<String, WrapError>
     ensures { IfOk result (λ output. LaysOut layout.now text.now (string_bytes output)) }
 {
     match &layout.lines {

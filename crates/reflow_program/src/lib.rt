@@ -3,12 +3,5 @@
 #![tactic(auto)]
 
 pub mod arguments;
-pub mod disk;
-pub mod faults;
-pub mod files;
-pub mod inputs;
 pub mod layout;
 pub mod program;
-pub mod replacing;
-pub mod rights;
-pub mod words;

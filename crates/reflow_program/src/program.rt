@@ -1,609 +1,81 @@
 //! The program, over its arguments, its files, a reader and two writers.
-ghost use Rattle.std.specs.Prelude.{◌≡◌, map, string_bytes, bytes_eq, codes, false, OnOk, OnErr};
-ghost use Rattle.std.specs.Io.KnownBytes.{Appends};
-ghost use Rattle.clap.specs.Words.{found_of, rows_of};
-ghost use Rattle.textwrap_program.specs.Filling.{WritesPrefix};
-ghost use Rattle.reflow_program.specs.Messages.{fault_texts, is_closed, is_quiet, joined_texts};
-ghost use Rattle.reflow_program.specs.Messages.{message_line, reading_text, says_nothing, subject, texts_of};
-ghost use Rattle.reflow_program.specs.Messages.{writing_text};
-ghost use Rattle.reflow_program.specs.Program.{Executes, ExplainsParse, Reports, Says, SaysLine, ServesRows};
-ghost use Rattle.reflow_program.specs.Program.{ServesWords, Shows, Treats, TreatsAll, TreatsFile};
-ghost use Rattle.reflow_program.specs.Program.{TreatsInput, Warns, all_well, joined, shown_name, status_of};
-ghost use Rattle.reflow_program.specs.Program.{IsFault, TreatsRequest, replaced_of, sum_texts, sums_up};
-ghost use Rattle.reflow_program.specs.Program.{value_texts};
+ghost use Rattle.std.specs.Prelude.{refl};
+ghost use Rattle.reflow_program.specs.Program.{reflow_tool};
 
-use crate::arguments::{HELP, Mode, Request, Unfit, VERSION, matches_in, request_in, value_of};
-use crate::faults::{Fault, Reason, output_reason};
-use crate::files::Files;
-use crate::inputs::{
-    Treated, check_file, check_input, diff_file, diff_input, print_file, print_input,
-};
-use crate::replacing::replace_file;
-use crate::words::spelled_out;
-use clap::ArgMatches;
-use clap::error::ErrorKind;
-use itoa::Buffer;
-use std::alloc::Global;
-use std::fmt::Display;
+use crate::arguments::{HELP, Unfit, VERSION, command, request_in};
+use clap::{ArgMatches, Command};
+use std::alloc::{AllocError, Global};
 use std::io::{Read, Write};
-use textwrap_program::filling::{RunError, write_line, write_to_end, write_whole};
+use text_filters::files::Files;
+use text_filters::program::{About, Ending, Run, complain_of, serve};
+use text_filters::tool::Tool;
+use text_filters::words::spelled_out;
 
-/// What the program says where memory runs out before the first input.
-const MEMORY_LINE: &str = "reflow: out of memory";
+/// What the program says of itself.
+const REFLOW: About<'static> = About {
+    name: "reflow",
+    help: HELP,
+    version: VERSION,
+    idle: "no line begins with what --prefix says",
+};
 
-/// The name of the standard input among the arguments.
-const STANDARD_INPUT_NAME: &str = "-";
+/// The program.
+#[derive(Clone, Copy)]
+pub struct Reflow;
 
-/// What the standard input is called in messages.
-const STANDARD_INPUT: &str = "standard input";
+impl Tool for Reflow {
+    ghost tool = { λ _. reflow_tool };
 
-/// What the program says of an input none of whose lines has the marks that are filled.
-const NO_MARKS: &str = "no line begins with what --prefix says";
+    ghost simple = { λ _. refl };
 
-/// What the standard output is called in messages.
-const STANDARD_OUTPUT: &str = "standard output";
+    ghost free = { λ _. refl };
 
-/// How a run ended.
-#[derive(Clone, Copy, PartialEq, Eq)]
-pub struct Ending {
-    /// The status of the program: 0 if all went well, 1 if `--check` found an input that would
-    /// change, and 2 after a fault or where the words after the program's name mean no request.
-    pub status: u8,
-    /// Whether each message was written whole.
-    pub said: bool,
-    /// How many files were replaced.
-    pub replaced: usize,
-}
+    fn about(&self) -> About<'static> {
+        REFLOW
+    }
 
-impl Ending {
-    /// A run without a fault, in which nothing would change.
-    fn well() -> Ending
-        ensures { result ≡ all_well }
-    {
-        Ending {
-            status: 0,
-            said: true,
-            replaced: 0,
+    fn command<'a>(&self, alloc: Global) -> Result<Command<'a>, AllocError> {
+        command(alloc)
+    }
+
+    fn spelled_out<'a>(
+        &self,
+        alloc: Global,
+        words: &'a [String],
+    ) -> Result<Vec<&'a str>, AllocError> {
+        spelled_out(alloc, words)
+    }
+
+    fn serve_matches<F: Files, R: Read, W: Write, M: Write>(
+        &self,
+        alloc: Global,
+        matches: &ArgMatches<'_>,
+        files: &mut F,
+        reader: &mut R,
+        output: &mut W,
+        messages: &mut M,
+    ) -> Ending {
+        match request_in(matches) {
+            Ok(request) => {
+                let run = Run {
+                    about: REFLOW,
+                    filter: &request.layout,
+                    inputs: request.inputs,
+                };
+                serve(alloc, &run, files, reader, output, messages)
+            }
+            Err(Unfit::Width) => {
+                complain_of(&REFLOW, matches, "width", "a number of 64 bits", messages)
+            }
+            Err(Unfit::Lines) => {
+                complain_of(
+                    &REFLOW,
+                    matches,
+                    "lines",
+                    "two numbers of 64 bits, A:B",
+                    messages,
+                )
+            }
         }
-    }
-
-    /// The ending of a run that goes on.
-    fn and(self, rest: Ending) -> Ending
-        ensures { result ≡ joined self rest }
-    {
-        Ending {
-            status: self.status.max(rest.status),
-            said: self.said && rest.said,
-            replaced: self.replaced.saturating_add(rest.replaced),
-        }
-    }
-}
-
-/// Runs the program. For each fault one line of `messages` says why, with the input's name.
-pub fn execute<F: Files, R: Read, W: Write, M: Write>(
-    alloc: Global,
-    words: &[String],
-    files: &mut F,
-    reader: &mut R,
-    output: &mut W,
-    messages: &mut M,
-) -> Ending
-    ensures { Executes (map string_bytes words.now)
-        (record {
-          unread = R.remaining reader.old;
-          files = F.past files.old;
-          output = W.contents output.old;
-          messages = M.contents messages.old;
-        })
-        (record {
-          unread = R.remaining reader.new;
-          files = F.past files.new;
-          output = W.contents output.new;
-          messages = M.contents messages.new;
-        })
-        result }
-{
-    match spelled_out(alloc, words) {
-        Ok(words) => execute_words(alloc, &words, files, reader, output, messages),
-        Err(_) => complain(messages, MEMORY_LINE),
-    }
-}
-
-/// Does what the words ask for, as they are written for the command line.
-fn execute_words<F: Files, R: Read, W: Write, M: Write>(
-    alloc: Global,
-    words: &[&str],
-    files: &mut F,
-    reader: &mut R,
-    output: &mut W,
-    messages: &mut M,
-) -> Ending
-    ensures { ServesWords (map (λ word. word.now) words.now)
-        (record {
-          unread = R.remaining reader.old;
-          files = F.past files.old;
-          output = W.contents output.old;
-          messages = M.contents messages.old;
-        })
-        (record {
-          unread = R.remaining reader.new;
-          files = F.past files.new;
-          output = W.contents output.new;
-          messages = M.contents messages.new;
-        })
-        result }
-{
-    match matches_in(alloc, words) {
-        Ok(matches) => serve_matches(alloc, &matches, files, reader, output, messages),
-        Err(error) => explain_parse(alloc, error.kind(), &error, output, messages),
-    }
-}
-
-/// Does what a parse found, if it is a request.
-fn serve_matches<F: Files, R: Read, W: Write, M: Write>(
-    alloc: Global,
-    matches: &ArgMatches<'_>,
-    files: &mut F,
-    reader: &mut R,
-    output: &mut W,
-    messages: &mut M,
-) -> Ending
-    ensures { ServesRows (rows_of (found_of matches.now))
-        (record {
-          unread = R.remaining reader.old;
-          files = F.past files.old;
-          output = W.contents output.old;
-          messages = M.contents messages.old;
-        })
-        (record {
-          unread = R.remaining reader.new;
-          files = F.past files.new;
-          output = W.contents output.new;
-          messages = M.contents messages.new;
-        })
-        result }
-{
-    match request_in(matches) {
-        Ok(request) => serve_request(alloc, &request, files, reader, output, messages),
-        Err(Unfit::Width) => complain_of(matches, "width", "a number of 64 bits", messages),
-        Err(Unfit::Lines) => {
-            complain_of(matches, "lines", "two numbers of 64 bits, A:B", messages)
-        }
-    }
-}
-
-/// Says that the value of an option is not what is wanted.
-fn complain_of<M: Write>(
-    matches: &ArgMatches<'_>,
-    option: &str,
-    wanted: &str,
-    messages: &mut M,
-) -> Ending
-    ensures said { Says (joined_texts
-        (value_texts (rows_of (found_of matches.now)) option.now wanted.now))
-        (M.contents messages.old) (M.contents messages.new) result.said }
-    ensures fault { IsFault result }
-{
-    let value = value_of(matches, option);
-    let texts = [
-        "reflow: --",
-        option,
-        ": '",
-        value,
-        "' is not ",
-        wanted,
-        "\n",
-    ];
-    Ending {
-        status: 2,
-        said: write_texts(messages, &texts).is_ok(),
-        replaced: 0,
-    }
-}
-
-/// Treats the inputs, and then says how many files were replaced, if several may be.
-fn serve_request<F: Files, R: Read, W: Write, M: Write>(
-    alloc: Global,
-    request: &Request<'_>,
-    files: &mut F,
-    reader: &mut R,
-    output: &mut W,
-    messages: &mut M,
-) -> Ending
-    ensures { TreatsRequest request.now
-        (record {
-          unread = R.remaining reader.old;
-          files = F.past files.old;
-          output = W.contents output.old;
-          messages = M.contents messages.old;
-        })
-        (record {
-          unread = R.remaining reader.new;
-          files = F.past files.new;
-          output = W.contents output.new;
-          messages = M.contents messages.new;
-        })
-        result }
-{
-    let ending = serve(alloc, request, files, reader, output, messages);
-    if !sums_up(request) {
-        return ending;
-    }
-    let said = say_sum(ending.replaced, request.names.len(), messages);
-    Ending {
-        status: ending.status,
-        said: ending.said && said,
-        replaced: ending.replaced,
-    }
-}
-
-/// Whether it is said how many files were replaced.
-fn sums_up(request: &Request<'_>) -> bool
-    ensures { result ≡ sums_up request.now }
-{
-    matches!(request.mode, Mode::InPlace) && request.names.len() > 1 && !request.quiet
-}
-
-/// Says how many files were replaced, of so many names. The result says whether that was written whole.
-fn say_sum<M: Write>(replaced: usize, names: usize, messages: &mut M) -> bool
-    ensures { Says (joined_texts (sum_texts replaced names))
-        (M.contents messages.old) (M.contents messages.new) result }
-{
-    let (mut of_replaced, mut of_names) = (Buffer::new(), Buffer::new());
-    let replaced = of_replaced.format(replaced);
-    let names = of_names.format(names);
-    let texts = ["reflow: ", replaced, " of ", names, " files changed", "\n"];
-    write_texts(messages, &texts).is_ok()
-}
-
-/// Treats one input after another, whatever becomes of those before it, unless nobody reads the output
-/// any more.
-fn serve<F: Files, R: Read, W: Write, M: Write>(
-    alloc: Global,
-    request: &Request<'_>,
-    files: &mut F,
-    reader: &mut R,
-    output: &mut W,
-    messages: &mut M,
-) -> Ending
-    ensures { TreatsAll request.now.layout request.now.mode
-        (map (λ name. name.now) request.now.names.now) false
-        (record {
-          unread = R.remaining reader.old;
-          files = F.past files.old;
-          output = W.contents output.old;
-          messages = M.contents messages.old;
-        })
-        (record {
-          unread = R.remaining reader.new;
-          files = F.past files.new;
-          output = W.contents output.new;
-          messages = M.contents messages.new;
-        })
-        result }
-{
-    let mut ending = Ending::well();
-    for name in request.names {
-        let treated = treat(alloc, request, name, files, reader, output);
-        ending = ending.and(report(shown_name(name), treated, messages));
-        if is_closed(treated) {
-            return ending;
-        }
-    }
-    ending
-}
-
-/// Whether nobody reads the output any more.
-fn is_closed(treated: Result<Treated, Fault>) -> bool
-    ensures { result ≡ is_closed treated }
-{
-    match treated {
-        Ok(_) => false,
-        Err(fault) => is_quiet(fault),
-    }
-}
-
-/// The name of an input in messages.
-fn shown_name(name: &str) -> &str
-    ensures { result.now ≡ shown_name name.now }
-{
-    if name == STANDARD_INPUT_NAME {
-        STANDARD_INPUT
-    } else {
-        name
-    }
-}
-
-/// Does with an input what the request asks for. The result says whether a check found that it would
-/// change.
-fn treat<F: Files, R: Read, W: Write>(
-    alloc: Global,
-    request: &Request<'_>,
-    name: &str,
-    files: &mut F,
-    reader: &mut R,
-    output: &mut W,
-) -> Result<Treated, Fault>
-    ensures { Treats request.now.layout request.now.mode (bytes_eq name.now (codes "-")) name.now
-        (R.remaining reader.old) (R.remaining reader.new)
-        (F.past files.old) (F.past files.new)
-        (W.contents output.old) (W.contents output.new) result }
-{
-    if name == STANDARD_INPUT_NAME {
-        treat_input(alloc, request, reader, output)
-    } else {
-        treat_file(alloc, request, name, files, output)
-    }
-}
-
-/// Does with the standard input what the request asks for; it cannot be replaced, so it is printed
-/// where the request is to replace. The result says whether a check found that it would change.
-fn treat_input<R: Read, W: Write>(
-    alloc: Global,
-    request: &Request<'_>,
-    reader: &mut R,
-    output: &mut W,
-) -> Result<Treated, Fault>
-    ensures { TreatsInput request.now.layout request.now.mode
-        (R.remaining reader.old) (R.remaining reader.new)
-        (W.contents output.old) (W.contents output.new) result }
-{
-    match request.mode {
-        Mode::Check => check_input(alloc, STANDARD_INPUT, reader, output, &request.layout),
-        Mode::Diff => diff_input(
-            alloc,
-            STANDARD_INPUT_NAME,
-            false,
-            reader,
-            output,
-            &request.layout,
-        ),
-        Mode::CheckDiff => diff_input(
-            alloc,
-            STANDARD_INPUT_NAME,
-            true,
-            reader,
-            output,
-            &request.layout,
-        ),
-        Mode::Print | Mode::InPlace => { print_input(alloc, reader, output, &request.layout) }
-    }
-}
-
-/// Does with a file what the request asks for. The result says whether a check found that it would
-/// change.
-fn treat_file<F: Files, W: Write>(
-    alloc: Global,
-    request: &Request<'_>,
-    name: &str,
-    files: &mut F,
-    output: &mut W,
-) -> Result<Treated, Fault>
-    ensures { TreatsFile request.now.layout request.now.mode name.now
-        (F.past files.old) (F.past files.new)
-        (W.contents output.old) (W.contents output.new) result }
-{
-    match request.mode {
-        Mode::Print => print_file(alloc, name, files, output, &request.layout),
-        Mode::Check => check_file(alloc, name, files, output, &request.layout),
-        Mode::Diff => diff_file(alloc, name, false, files, output, &request.layout),
-        Mode::CheckDiff => diff_file(alloc, name, true, files, output, &request.layout),
-        Mode::InPlace => replace_file(alloc, name, files, &request.layout),
-    }
-}
-
-/// Says what became of an input of this name, if there is something to say: a fault, or that no line
-/// of it has the marks that are filled.
-fn report<M: Write>(name: &str, treated: Result<Treated, Fault>, messages: &mut M) -> Ending
-    ensures { Reports name.now treated (M.contents messages.old) (M.contents messages.new) result }
-{
-    Ending {
-        status: status_of(treated),
-        said: says_nothing(treated) || says(name, treated, messages),
-        replaced: replaced_of(treated),
-    }
-}
-
-/// The status of a run with one input, of which this became. That nobody reads the output any more is
-/// no fault: the reader has what it wanted.
-fn status_of(treated: Result<Treated, Fault>) -> u8
-    ensures { result ≡ status_of treated }
-{
-    match treated {
-        Ok(treated) => u8::from(treated.changes),
-        Err(fault) => if is_quiet(fault) { 0 } else { 2 },
-    }
-}
-
-/// How many files were replaced by a run with one input, of which this became.
-fn replaced_of(treated: Result<Treated, Fault>) -> usize
-    ensures { result ≡ replaced_of treated }
-{
-    match treated {
-        Ok(treated) => usize::from(treated.replaced),
-        Err(_) => 0,
-    }
-}
-
-/// Whether nothing is said of an input, of which this became.
-fn says_nothing(treated: Result<Treated, Fault>) -> bool
-    ensures { result ≡ says_nothing treated }
-{
-    match treated {
-        Ok(treated) => treated.has_marks,
-        Err(fault) => is_quiet(fault),
-    }
-}
-
-/// Says what is to be said of an input. The result says whether that was written whole.
-fn says<M: Write>(name: &str, treated: Result<Treated, Fault>, messages: &mut M) -> bool
-    ensures { Says (message_line (subject name.now treated) (texts_of treated))
-        (M.contents messages.old) (M.contents messages.new) result }
-{
-    match treated {
-        Ok(_) => write_message(messages, name, &[NO_MARKS]).is_ok(),
-        Err(fault) => write_fault(subject(name, fault), fault, messages).is_ok(),
-    }
-}
-
-/// What a fault is about: the input of this name, or the output.
-fn subject(name: &str, fault: Fault) -> &str
-    ensures { result.now ≡ subject name.now (Err fault) }
-{
-    match fault {
-        Fault::Output(_) => STANDARD_OUTPUT,
-        _ => name,
-    }
-}
-
-/// Whether nothing is said of a fault: nobody reads the output any more.
-fn is_quiet(fault: Fault) -> bool
-    ensures { result ≡ is_quiet fault }
-{
-    matches!(fault, Fault::Output(Reason::Closed))
-}
-
-/// Writes the line of a fault.
-fn write_fault<M: Write>(name: &str, fault: Fault, messages: &mut M) -> Result<(), RunError>
-    ensures ok { OnOk result (Appends (M.contents messages.old) (M.contents messages.new)
-        (message_line name.now (fault_texts fault))) }
-    ensures prefix { OnErr result (WritesPrefix (M.contents messages.old) (M.contents messages.new)
-        (message_line name.now (fault_texts fault))) }
-{
-    match fault {
-        Fault::Read(reason) => write_message(messages, name, &[reading_text(reason)]),
-        Fault::NotUtf8(valid) => {
-            let mut buffer = Buffer::new();
-            let number = buffer.format(valid);
-            write_message(messages, name, &["not UTF-8 after ", number, " bytes"])
-        }
-        Fault::Memory => write_message(messages, name, &["out of memory"]),
-        Fault::Write(reason) => write_message(messages, name, &[writing_text(reason)]),
-        Fault::Output(reason) => write_message(messages, name, &[writing_text(reason)]),
-    }
-}
-
-/// What the program says of an input that cannot be read.
-fn reading_text(reason: Reason) -> &'static str
-    ensures { result.now ≡ reading_text reason }
-{
-    match reason {
-        Reason::NotFound => "not found",
-        Reason::NotPermitted => "may not be read",
-        Reason::IsFolder => "is a folder",
-        Reason::IsPipe => "is a pipe or a socket",
-        Reason::IsDevice => "is a device",
-        Reason::TooLong => "its name is too long",
-        Reason::Busy => "is in use",
-        _ => "cannot read",
-    }
-}
-
-/// What the program says of a file or an output that cannot be written.
-fn writing_text(reason: Reason) -> &'static str
-    ensures { result.now ≡ writing_text reason }
-{
-    match reason {
-        Reason::NotFound => "not found",
-        Reason::NotPermitted => "may not be written",
-        Reason::ReadOnly => "stands on a file system that may only be read",
-        Reason::IsFolder => "is a folder",
-        Reason::TooLong => "its name is too long",
-        Reason::Busy => "is in use",
-        Reason::Changed => "has changed while it was read",
-        Reason::TooManyDrafts => "100 drafts are there already",
-        Reason::NoSpace => "no space is left",
-        _ => "cannot write",
-    }
-}
-
-/// Writes a line of a message on an input.
-fn write_message<M: Write>(messages: &mut M, name: &str, texts: &[&str]) -> Result<(), RunError>
-    ensures ok { OnOk result (Appends (M.contents messages.old) (M.contents messages.new)
-        (message_line name.now (map (λ text. text.now) texts.now))) }
-    ensures prefix { OnErr result (WritesPrefix (M.contents messages.old) (M.contents messages.new)
-        (message_line name.now (map (λ text. text.now) texts.now))) }
-{
-    write_texts(messages, &["reflow: ", name, ": "])?;
-    write_texts(messages, texts)?;
-    write_to_end(messages, b"\n")
-}
-
-/// Writes texts one after another.
-fn write_texts<M: Write>(messages: &mut M, texts: &[&str]) -> Result<(), RunError>
-    ensures ok { OnOk result (Appends (M.contents messages.old) (M.contents messages.new)
-        (joined_texts (map (λ text. text.now) texts.now))) }
-    ensures prefix { OnErr result (WritesPrefix (M.contents messages.old) (M.contents messages.new)
-        (joined_texts (map (λ text. text.now) texts.now))) }
-{
-    for text in texts {
-        write_to_end(messages, text.as_bytes())?;
-    }
-    Ok(())
-}
-
-/// Shows the help or the version, or says why the arguments are not those of the program, by the
-/// kind of the error. The type of the error is left open: `clap` promises nothing of the text that
-/// its errors display, so only in this way can the clause ask that this text is the one that is
-/// said.
-fn explain_parse<E: Display, W: Write, M: Write>(
-    alloc: Global,
-    kind: ErrorKind,
-    error: &E,
-    output: &mut W,
-    messages: &mut M,
-) -> Ending
-    ensures { ExplainsParse kind (E.output error.now)
-        (W.contents output.old) (W.contents output.new)
-        (M.contents messages.old) (M.contents messages.new) result }
-{
-    match kind {
-        ErrorKind::DisplayHelp => show(HELP, output, messages),
-        ErrorKind::DisplayVersion => show(VERSION, output, messages),
-        ErrorKind::OutOfMemory => complain(messages, MEMORY_LINE),
-        _ => warn(alloc, error, messages),
-    }
-}
-
-/// Shows a text. That nobody reads it any more is no fault.
-fn show<W: Write, M: Write>(text: &str, output: &mut W, messages: &mut M) -> Ending
-    ensures { Shows text.now (W.contents output.old) (W.contents output.new)
-        (M.contents messages.old) (M.contents messages.new) result }
-{
-    match write_whole(output, text.as_bytes()) {
-        Ok(()) => Ending::well(),
-        Err(kind) => {
-            let fault = Fault::Output(output_reason(kind));
-            report(STANDARD_OUTPUT, Err(fault), messages)
-        }
-    }
-}
-
-/// Says what an error displays.
-fn warn<E: Display, M: Write>(alloc: Global, error: &E, messages: &mut M) -> Ending
-    ensures said { Warns (E.output error.now)
-        (M.contents messages.old) (M.contents messages.new) result.said }
-    ensures fault { IsFault result }
-{
-    let Ok(text) = format!(in alloc; "{error}") else {
-        return complain(messages, MEMORY_LINE);
-    };
-    Ending {
-        status: 2,
-        said: write_to_end(messages, text.as_bytes()).is_ok(),
-        replaced: 0,
-    }
-}
-
-/// Says a line of a fault that came before the first input.
-pub fn complain<M: Write>(messages: &mut M, line: &str) -> Ending
-    ensures said { SaysLine line.now
-        (M.contents messages.old) (M.contents messages.new) result.said }
-    ensures fault { IsFault result }
-{
-    Ending {
-        status: 2,
-        said: write_line(messages, line).is_ok(),
-        replaced: 0,
     }
 }

@@ -1,17 +1,19 @@
 //! The program `hyphenate`.
-use super::plain::{assert_count, assert_gives, assert_holds};
-use super::program::plain::{assert_bytes, strings};
-use fakes::streams::{Feed, FeedFault, Sink, SinkFault};
-use hyphenate_program::arguments::{Call, Request, call_in, request_in};
-use hyphenate_program::program::{Failure, HELP, explain, serve, show};
-use hyphenate_program::texts::hyphenated_text;
-use std::alloc::{AllocError, Global};
+use super::plain::assert_holds;
+use super::program::folder::{FileFault, Given};
+use super::program::plain::{
+    Program, SOUND, Start, assert_bytes, assert_ending, assert_rendered, assert_run, repeated,
+    run_of,
+};
+use fakes::streams::FeedFault;
+use hyphenate_program::arguments::{HELP, VERSION};
+use hyphenate_program::program::Hyphenate;
 use std::io::ErrorKind;
 use std::process::Abort;
-use textwrap_patterns::errors::ParseError;
+use text_filters::tool::matches_in;
 
 /// The patterns of Liang's thesis that stand in `hyphenation`, and an exception.
-const LIANG: &str = "hy3ph\nhe2n\nhena4\nhen5at\n1na\nn2at\n1tio\n2io\no2n\nta-ble\n";
+const LIANG: &[u8] = b"hy3ph\nhe2n\nhena4\nhen5at\n1na\nn2at\n1tio\n2io\no2n\nta-ble\n";
 
 /// What a row shows, a text, and its words with their hyphens.
 const WORDS: &[(&str, &str, &str)] = &[
@@ -48,278 +50,235 @@ const WORDS: &[(&str, &str, &str)] = &[
     ("no words", "", ""),
 ];
 
-/// What a row shows, a text, a number of columns, and the text filled there.
-const PARAGRAPHS: &[(&str, &str, usize, &str)] = &[
+/// What a row shows, a text, the columns of a line, and the text filled there.
+const PARAGRAPHS: &[(&str, &str, &str, &str)] = &[
     (
         "a line ends at a point of the dictionary",
         "the hyphenation\n",
-        11,
+        "-11",
         "the hyphen-\nation\n",
     ),
     (
         "each paragraph for itself",
         "a hyphenation\nthe table",
-        8,
+        "-8",
         "a hy-\nphen-\nation\nthe ta-\nble",
     ),
-    ("first fit", "a b c hyphenation", 8, "a b c\nhyphen-\nation"),
+    (
+        "first fit",
+        "a b c hyphenation",
+        "-8",
+        "a b c\nhyphen-\nation",
+    ),
     (
         "a wide line needs no hyphen",
         "the hyphenation\n",
-        80,
+        "-80",
         "the hyphenation\n",
     ),
 ];
 
-/// The words of a call, and the name of the dictionary and the width that they mean, if any.
-const CALLS: &[(&[&str], Option<(&str, Option<usize>)>)] = &[
-    (&["words.dic"], Some(("words.dic", None))),
-    (
-        &["words.dic", "--width", "24"],
-        Some(("words.dic", Some(24))),
-    ),
-    (&["-w", "24", "words.dic"], Some(("words.dic", Some(24)))),
-    (&["words.dic", "--width=24"], Some(("words.dic", Some(24)))),
-    (&["--width=24", "words.dic"], Some(("words.dic", Some(24)))),
-    (&["--width"], None),
-    (&["--bogus"], None),
-    (&["words.dic", "--width="], None),
-    (&[], None),
-    (&["words.dic", "--width"], None),
-    (&["words.dic", "24"], None),
-    (&["words.dic", "-width", "24"], None),
-    (&["words.dic", "--width", "+24"], None),
-    (&["words.dic", "--width", "24", "24"], None),
-];
+/// The file of the dictionary.
+const DICTIONARY: Given = ("words.dic", LIANG, FileFault::Nothing);
 
-/// What a row shows, a dictionary, a text, what goes wrong with their readers and with the output, and
-/// what is said.
-type Run = (
-    &'static str,
-    (&'static [u8], FeedFault),
-    (&'static [u8], FeedFault),
-    SinkFault,
-    &'static str,
-);
-
-/// Runs that fail.
-const FAILURES: &[Run] = &[
-    (
-        "a line of the dictionary is wrong",
-        (b"UTF-8\nhy3ph\nNEXTLEVEL\n", FeedFault::Nothing),
-        (b"hyphen\n", FeedFault::Nothing),
-        SinkFault::Nothing,
-        "hyphenate: words.dic: line 3: NEXTLEVEL is not supported\n",
-    ),
-    (
-        "the dictionary is in another charset",
-        (b"ISO8859-1\n", FeedFault::Nothing),
-        (b"hyphen\n", FeedFault::Nothing),
-        SinkFault::Nothing,
-        "hyphenate: words.dic: line 1: the charset is not UTF-8\n",
-    ),
-    (
-        "the dictionary is not UTF-8",
-        (b"\xe41\xdf\n", FeedFault::Nothing),
-        (b"hyphen\n", FeedFault::Nothing),
-        SinkFault::Nothing,
-        "hyphenate: words.dic: not UTF-8\n",
-    ),
-    (
-        "a read of the dictionary fails",
-        (b"hy3ph\n", FeedFault::Fails(3, ErrorKind::Other)),
-        (b"hyphen\n", FeedFault::Nothing),
-        SinkFault::Nothing,
-        "hyphenate: words.dic: cannot read\n",
-    ),
-    (
-        "the text is not UTF-8",
-        (b"hy3ph\n", FeedFault::Nothing),
-        (b"hyphen\n\xff", FeedFault::Nothing),
-        SinkFault::Nothing,
-        "hyphenate: standard input: not UTF-8\n",
-    ),
-    (
-        "a read of the text fails",
-        (b"hy3ph\n", FeedFault::Nothing),
-        (b"hyphen\n", FeedFault::Fails(3, ErrorKind::Other)),
-        SinkFault::Nothing,
-        "hyphenate: standard input: cannot read\n",
-    ),
-    (
-        "a write fails",
-        (b"hy3ph\n", FeedFault::Nothing),
-        (b"hyphen\n", FeedFault::Nothing),
-        SinkFault::Fails(0, ErrorKind::Other),
-        "hyphenate: standard output: cannot write\n",
-    ),
-];
-
-/// `hyphenated_text`.
-fn plain_hyphenated_text(
-    alloc: Global,
-    dictionary: &str,
-    text: &str,
-    width: Option<usize>,
-) -> Result<String, ParseError> {
-    hyphenated_text(alloc, dictionary, text, width)
+/// Runs the program over these words, with the dictionary and two texts as its files, and asserts what
+/// it writes and says, and the status.
+fn assert_writes(
+    rt: &(impl Abort + AllocGlobal),
+    rule: &str,
+    words: &[&str],
+    input: &[u8],
+    wanted: (&str, &str, u8),
+) {
+    let files = [
+        DICTIONARY,
+        ("one", b"table\n", FileFault::Nothing),
+        ("two", b"hyphenation", FileFault::Nothing),
+    ];
+    let start = Start {
+        words,
+        input,
+        files: &files,
+        faults: SOUND,
+    };
+    assert_run(rt, rule, Program::Hyphenate, start, wanted);
 }
 
 #[test]
 fn words_get_their_hyphens(rt: HostRuntime) {
     for (rule, text, wanted) in WORDS {
-        let given = plain_hyphenated_text(rt.alloc(), LIANG, text, None);
-        assert_gives(&rt, rule, given, wanted);
+        assert_writes(&rt, rule, &["words.dic"], text.as_bytes(), (wanted, "", 0));
     }
 }
 
 #[test]
 fn paragraphs_are_filled_with_hyphens(rt: HostRuntime) {
     for (rule, text, width, wanted) in PARAGRAPHS {
-        let given = plain_hyphenated_text(rt.alloc(), LIANG, text, Some(*width));
-        assert_gives(&rt, rule, given, wanted);
+        let words = ["words.dic", width];
+        assert_writes(&rt, rule, &words, text.as_bytes(), (wanted, "", 0));
     }
 }
 
-/// A text, so many times.
-fn repeated(alloc: Global, part: &str, times: usize) -> Result<String, AllocError> {
-    let mut text = String::new(alloc);
-    for _ in 0..times {
-        text.push_str(part)?;
+/// What a row shows, words, the standard input, and what is written.
+const CALLS: &[(&str, &[&str], &str, &str)] = &[
+    (
+        "a long width",
+        &["words.dic", "--width", "8"],
+        "a table",
+        "a table",
+    ),
+    (
+        "a width before the dictionary",
+        &["-w", "6", "words.dic"],
+        "a table",
+        "a ta-\nble",
+    ),
+    (
+        "a width after =",
+        &["--width=6", "words.dic"],
+        "a table",
+        "a ta-\nble",
+    ),
+    (
+        "the last width counts",
+        &["-w6", "words.dic", "-80"],
+        "a table",
+        "a table",
+    ),
+    ("a file", &["words.dic", "one"], "hyphenation", "ta-ble\n"),
+    (
+        "files one after another, and the standard input among them",
+        &["words.dic", "two", "-", "one"],
+        "unknown",
+        "hy-phen-ation\nunknown\nta-ble\n",
+    ),
+];
+
+#[test]
+fn the_words_of_a_call_mean_a_request(rt: HostRuntime) {
+    for (rule, words, input, wanted) in CALLS {
+        assert_writes(&rt, rule, words, input.as_bytes(), (wanted, "", 0));
     }
-    Ok(text)
+}
+
+/// Words that are no request, and what is said of them.
+const NO_REQUESTS: &[(&[&str], &str)] = &[
+    (
+        &["words.dic", "--width", "+24"],
+        "hyphenate: --width: '+24' is not a number of 64 bits\n",
+    ),
+    (
+        &["words.dic", "--width="],
+        "hyphenate: --width: '' is not a number of 64 bits\n",
+    ),
+    (&["no.dic"], "hyphenate: no.dic: not found\n"),
+];
+
+#[test]
+fn other_words_are_no_request(rt: HostRuntime) {
+    for (words, said) in NO_REQUESTS {
+        assert_writes(&rt, said, words, b"hyphen\n", ("", said, 2));
+    }
+    for words in [&[][..], &["--bogus"], &["words.dic", "--width"]] {
+        let start = Start {
+            words,
+            input: b"",
+            files: &[DICTIONARY],
+            faults: SOUND,
+        };
+        let left = run_of(&rt, "no request", Program::Hyphenate, start);
+        assert_ending(&rt, "no request", left.ending, 2, true);
+        assert_bytes(&rt, "no request", &left.output.taken, b"");
+        assert_holds(&rt, "it is said why", !left.messages.taken.is_empty());
+    }
 }
 
 #[test]
-fn many_words_get_their_hyphens(rt: HostRuntime) -> Result<(), AllocError> {
-    let alloc = rt.alloc();
-    let text = repeated(alloc, "hyphenation\ntable\n", 5000)?;
-    let wanted = repeated(alloc, "hy-phen-ation\nta-ble\n", 5000)?;
-    let given = plain_hyphenated_text(alloc, LIANG, &text, None);
-    match given {
-        Ok(given) => assert_holds(&rt, "10,000 words", given == wanted),
-        Err(_) => assert_holds(&rt, "10,000 words", false),
-    }
-    Ok(())
+fn many_words_get_their_hyphens(rt: HostRuntime) {
+    let text = repeated(&rt, "hyphenation\ntable\n", 5000);
+    let wanted = repeated(&rt, "hy-phen-ation\nta-ble\n", 5000);
+    let words = ["words.dic"];
+    assert_writes(
+        &rt,
+        "10,000 words",
+        &words,
+        text.as_bytes(),
+        (&wanted, "", 0),
+    );
 }
 
-#[test]
-fn the_words_of_a_call_mean_a_request(rt: HostRuntime) -> Result<(), AllocError> {
-    for (words, wanted) in CALLS {
-        let words = strings(rt.alloc(), words)?;
-        let wanted = wanted.map(|(dictionary, width)| Request { dictionary, width });
-        assert_holds(&rt, "the request", request_in(&words) == wanted);
-    }
-    Ok(())
-}
+/// What a row shows, a dictionary and what goes wrong with it, and what is said.
+type Failing = (&'static str, &'static [u8], FileFault, &'static str);
 
-/// Runs the program over these, and asserts that it fails, and what it says and writes then.
-fn assert_fails(rt: &(impl Abort + AllocGlobal), run: Run) {
-    let (rule, (dictionary, of_dictionary), (text, of_text), of_output, said) = run;
-    let alloc = rt.alloc();
-    let mut dictionary = Feed::new(alloc, dictionary, 5, of_dictionary).expect(rt, rule);
-    let mut reader = Feed::new(alloc, text, 5, of_text).expect(rt, rule);
-    let mut output = Sink::new(alloc, 5, of_output);
-    let mut messages = Sink::new(alloc, 5, SinkFault::Nothing);
-    match serve(alloc, None, &mut dictionary, &mut reader, &mut output) {
-        Ok(()) => assert_holds(rt, rule, false),
-        Err(failure) => assert_explained(rt, rule, &failure, &mut messages),
-    }
-    assert_bytes(rt, rule, &output.taken, b"");
-    assert_bytes(rt, rule, &messages.taken, said.as_bytes());
-}
-
-/// Asserts that a failure is explained, and that the status is 2.
-fn assert_explained(
-    rt: &(impl Abort + AllocGlobal),
-    rule: &str,
-    failure: &Failure,
-    messages: &mut Sink,
-) {
-    let status = explain(rt.alloc(), "words.dic", failure, messages);
-    assert_count(rt, rule, usize::from(status), 2);
-}
+/// Runs that fail.
+const FAILURES: &[Failing] = &[
+    (
+        "a line of the dictionary is wrong",
+        b"UTF-8\nhy3ph\nNEXTLEVEL\n",
+        FileFault::Nothing,
+        "hyphenate: words.dic: line 3: NEXTLEVEL is not supported\n",
+    ),
+    (
+        "the dictionary is in another charset",
+        b"ISO8859-1\n",
+        FileFault::Nothing,
+        "hyphenate: words.dic: line 1: the charset is not UTF-8\n",
+    ),
+    (
+        "the dictionary is not UTF-8",
+        b"\xe41\xdf\n",
+        FileFault::Nothing,
+        "hyphenate: words.dic: not UTF-8 after 0 bytes\n",
+    ),
+    (
+        "the dictionary has no patterns",
+        b"UTF-8\nLEFTHYPHENMIN 2\n% none\n",
+        FileFault::Nothing,
+        "hyphenate: words.dic: has no patterns\n",
+    ),
+    (
+        "the dictionary is empty",
+        b"",
+        FileFault::Nothing,
+        "hyphenate: words.dic: has no patterns\n",
+    ),
+    (
+        "a read of the dictionary fails",
+        b"hy3ph\n",
+        FileFault::Read(FeedFault::Fails(3, ErrorKind::Other)),
+        "hyphenate: words.dic: cannot read\n",
+    ),
+];
 
 #[test]
 fn failures_are_explained(rt: HostRuntime) {
-    for &run in FAILURES {
-        assert_fails(&rt, run);
+    for &(rule, bytes, fault, said) in FAILURES {
+        let start = Start {
+            words: &["words.dic"],
+            input: b"hyphen\n",
+            files: &[("words.dic", bytes, fault)],
+            faults: SOUND,
+        };
+        assert_run(&rt, rule, Program::Hyphenate, start, ("", said, 2));
     }
 }
 
 #[test]
-fn other_words_are_answered_by_the_usage(rt: HostRuntime) {
-    let mut messages = Sink::new(rt.alloc(), 5, SinkFault::Nothing);
-    let status = explain(rt.alloc(), "words.dic", &Failure::Usage, &mut messages);
-    assert_count(&rt, "the status", usize::from(status), 2);
-    let usage = b"usage: hyphenate DICTIONARY [-w N]\n";
-    assert_bytes(&rt, "the usage", &messages.taken, usage);
-}
-
-/// Words that ask for help or for the version, wherever they stand.
-const SHOWN: &[(&[&str], Call<'_>)] = &[
-    (&["--help"], Call::Help),
-    (&["words.dic", "-w", "-h"], Call::Help),
-    (&["-V"], Call::Version),
-    (&["words.dic", "--version"], Call::Version),
-];
-
-#[test]
-fn help_and_version_are_asked_for(rt: HostRuntime) -> Result<(), AllocError> {
-    for (words, wanted) in SHOWN {
-        let words = strings(rt.alloc(), words)?;
-        assert_holds(&rt, "the call", call_in(&words) == Some(*wanted));
+fn help_and_version_are_shown(rt: HostRuntime) {
+    for words in [&["--help"][..], &["-h"], &["words.dic", "--help"]] {
+        assert_writes(&rt, "the help", words, b"", (HELP, "", 0));
     }
-    Ok(())
-}
-
-/// What goes wrong with the output, and the status then.
-const OUTPUTS: &[(SinkFault, u8)] = &[
-    (SinkFault::Fails(4, ErrorKind::Other), 2),
-    (SinkFault::Fails(4, ErrorKind::BrokenPipe), 0),
-];
-
-/// Asserts the status where the help cannot be written, and that nothing is said if that is no fault.
-fn assert_shown(rt: &(impl Abort + AllocGlobal), &(fault, status): &(SinkFault, u8)) {
-    let mut output = Sink::new(rt.alloc(), 5, fault);
-    let mut messages = Sink::new(rt.alloc(), 5, SinkFault::Nothing);
-    match show(HELP, &mut output) {
-        Ok(()) => assert_holds(rt, "the help", false),
-        Err(failure) => {
-            let found = explain(rt.alloc(), "words.dic", &failure, &mut messages);
-            assert_count(rt, "the status", usize::from(found), usize::from(status));
-        }
+    for words in [&["--version"][..], &["-V"], &["words.dic", "-V"]] {
+        assert_writes(&rt, "the version", words, b"", (VERSION, "", 0));
     }
-    assert_holds(rt, "a message", messages.taken.is_empty() == (status == 0));
 }
 
 #[test]
-fn that_nobody_reads_the_output_is_no_fault(rt: HostRuntime) {
-    for row in OUTPUTS {
-        assert_shown(&rt, row);
-    }
-}
-
-/// Why the dictionary is not opened, and what is said.
-const UNOPENED: &[(ErrorKind, &str)] = &[
-    (ErrorKind::NotFound, "hyphenate: words.dic: not found\n"),
-    (
-        ErrorKind::PermissionDenied,
-        "hyphenate: words.dic: may not be read\n",
-    ),
-    (
-        ErrorKind::InvalidFilename,
-        "hyphenate: words.dic: its name is too long\n",
-    ),
-    (ErrorKind::Other, "hyphenate: words.dic: cannot read\n"),
-];
-
-#[test]
-fn a_dictionary_that_is_not_opened_is_named(rt: HostRuntime) {
-    for (kind, said) in UNOPENED {
-        let mut messages = Sink::new(rt.alloc(), 5, SinkFault::Nothing);
-        let failure = Failure::Unopened(*kind);
-        assert_explained(&rt, said, &failure, &mut messages);
-        assert_bytes(&rt, said, &messages.taken, said.as_bytes());
-    }
+fn what_is_shown_is_as_clap_makes_it(rt: HostRuntime) {
+    assert_rendered(&rt, matches_in(rt.alloc(), &Hyphenate, &["--help"]), HELP);
+    assert_rendered(
+        &rt,
+        matches_in(rt.alloc(), &Hyphenate, &["--version"]),
+        VERSION,
+    );
 }

@@ -4,6 +4,6 @@ mod diffs;
 mod disk;
 mod faults;
 mod files;
-mod folder;
+pub(super) mod folder;
 pub(super) mod plain;
 mod words;

@@ -2,8 +2,8 @@ use Rattle.std.proofs.Common.{◌∙◌, ap, ap₂}
 use Rattle.std.proofs.lemmas.Result.{IfOk-weaker}
 use Rattle.clap.specs.Words.{with_rule}
 use Rattle.clap.specs.declared.builder.command.Command.TheViews.{out-Command}
-use Rattle.reflow_program.proofs.CommandLemmas.{about-is, after_help-is, nameless, nameless-is}
-use Rattle.reflow_program.proofs.CommandLemmas.{overriding, overriding-is, versioned, versioned-is}
+use Rattle.text_filters.proofs.CommandLemmas.{about-is, after_help-is, nameless, nameless-is}
+use Rattle.text_filters.proofs.CommandLemmas.{overriding, overriding-is, versioned, versioned-is}
 use Rattle.reflow_program.proofs.arguments.command.Goals as goal
 
 pub returns : goal.returns

@@ -3,15 +3,16 @@ use super::super::plain::{assert_found, assert_holds};
 use super::folder::WRITTEN_AT_ONCE;
 use super::plain::{SOUND, strings};
 use fakes::streams::{Sink, SinkFault};
-use reflow_program::disk::Disk;
-use reflow_program::files::{FileKind, Files};
-use reflow_program::program::execute;
+use reflow_program::program::Reflow;
 use std::alloc::AllocError;
 use std::fs::{File, OpenOptions};
 use std::io::Write;
 use std::os::unix::fs::{MetadataExt, PermissionsExt, lchown, symlink};
 use std::process::Abort;
 use std::{env, fs, io, process, rt};
+use text_filters::disk::Disk;
+use text_filters::files::{FileKind, Files};
+use text_filters::tool::execute;
 
 const COUNT: &str = "one two three four\n";
 
@@ -132,6 +133,7 @@ fn is_run(
     let mut said = Sink::new(rt.alloc(), WRITTEN_AT_ONCE, SOUND.2);
     let ending = execute(
         rt.alloc(),
+        &Reflow,
         &words,
         &mut Disk::new(rt),
         &mut io::empty(),

@@ -236,7 +236,7 @@ reflow: empty: no line begins with what --prefix says\n",
             SinkFault::FlushFails,
         ),
         "",
-        "reflow: ",
+        "reflow",
         2,
     ),
     (

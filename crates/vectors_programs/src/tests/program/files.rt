@@ -4,9 +4,9 @@ use super::plain::{
     Left, SOUND, Start, assert_bytes, assert_left, assert_number, assert_unread, run,
 };
 use fakes::streams::{FeedFault, SinkFault};
-use reflow_program::files::FileKind;
 use std::io::ErrorKind;
 use std::process::Abort;
+use text_filters::files::FileKind;
 
 const COUNT: &[u8] = b"one two three four\n";
 

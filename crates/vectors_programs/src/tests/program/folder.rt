@@ -1,10 +1,10 @@
 //! Files in memory, which fail where they are told to.
 use fakes::streams::{Feed, FeedFault, Sink, SinkFault};
-use reflow_program::files::{FileKind, Files, Opened};
-use reflow_program::rights::{FileMode, Rights};
 use std::alloc::{AllocError, Global};
 use std::io;
 use std::io::ErrorKind;
+use text_filters::files::{FileKind, Files, Opened};
+use text_filters::rights::{FileMode, Rights};
 
 /// How many bytes the readers give at a time.
 pub const READ_AT_ONCE: usize = 3;

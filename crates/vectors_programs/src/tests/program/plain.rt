@@ -1,16 +1,30 @@
 //! What the tests share: a run without its clauses, since each clause costs at each call, and
 //! assertions on what it leaves.
 use super::folder::{Folder, Given, READ_AT_ONCE, WRITTEN_AT_ONCE};
+use clap::ArgMatches;
 use fakes::streams::{Feed, FeedFault, Sink, SinkFault};
-use reflow_program::program::{Ending, execute};
+use fill_program::program::Fill;
+use hyphenate_program::program::Hyphenate;
+use reflow_program::program::Reflow;
 use std::alloc::{AllocError, Global};
 use std::process::Abort;
+use text_filters::program::Ending;
+use text_filters::tool::execute;
 
 /// What goes wrong with the standard input, the output and the messages.
 pub type Faults = (FeedFault, SinkFault, SinkFault);
 
 /// Nothing goes wrong.
 pub const SOUND: Faults = (FeedFault::Nothing, SinkFault::Nothing, SinkFault::Nothing);
+
+/// Which program is run.
+#[derive(Clone, Copy)]
+pub enum Program {
+    Reflow,
+    /// The one that is installed as `textwrap`.
+    Fill,
+    Hyphenate,
+}
 
 /// What a run is given.
 #[derive(Clone, Copy)]
@@ -40,29 +54,84 @@ pub fn strings(alloc: Global, words: &[&str]) -> Result<Vec<String>, AllocError>
     Ok(strings)
 }
 
-/// Runs the program. What it is given has to have memory.
+/// Runs `reflow`. What it is given has to have memory.
 pub fn run(rt: &(impl Abort + AllocGlobal), rule: &str, start: Start<'_>) -> Left {
+    run_of(rt, rule, Program::Reflow, start)
+}
+
+/// Runs a program. What it is given has to have memory.
+pub fn run_of(
+    rt: &(impl Abort + AllocGlobal),
+    rule: &str,
+    program: Program,
+    start: Start<'_>,
+) -> Left {
     let alloc = rt.alloc();
     let (of_input, of_output, of_messages) = start.faults;
     let words = strings(alloc, start.words).expect(rt, rule);
-    let mut folder = Folder::new(alloc, start.files).expect(rt, rule);
-    let mut reader = Feed::new(alloc, start.input, READ_AT_ONCE, of_input).expect(rt, rule);
-    let mut output = Sink::new(alloc, WRITTEN_AT_ONCE, of_output);
-    let mut messages = Sink::new(alloc, WRITTEN_AT_ONCE, of_messages);
-    let ending = execute(
-        alloc,
-        &words,
-        &mut folder,
-        &mut reader,
-        &mut output,
-        &mut messages,
-    );
-    Left {
-        ending,
-        reader,
-        output,
-        messages,
-        folder,
+    let mut left = Left {
+        ending: Ending {
+            status: 3,
+            said: false,
+            replaced: 0,
+        },
+        reader: Feed::new(alloc, start.input, READ_AT_ONCE, of_input).expect(rt, rule),
+        output: Sink::new(alloc, WRITTEN_AT_ONCE, of_output),
+        messages: Sink::new(alloc, WRITTEN_AT_ONCE, of_messages),
+        folder: Folder::new(alloc, start.files).expect(rt, rule),
+    };
+    left.ending = execute_program(alloc, program, &words, &mut left);
+    left
+}
+
+/// Executes a program over these words, and over what is to be left behind.
+fn execute_program(alloc: Global, program: Program, words: &[String], left: &mut Left) -> Ending {
+    let files = &mut left.folder;
+    let reader = &mut left.reader;
+    let output = &mut left.output;
+    let messages = &mut left.messages;
+    match program {
+        Program::Reflow => execute(alloc, &Reflow, words, files, reader, output, messages),
+        Program::Fill => execute(alloc, &Fill, words, files, reader, output, messages),
+        Program::Hyphenate => execute(alloc, &Hyphenate, words, files, reader, output, messages),
+    }
+}
+
+/// Runs a program, and asserts what it writes and says, and its status.
+pub fn assert_run(
+    rt: &(impl Abort + AllocGlobal),
+    rule: &str,
+    program: Program,
+    start: Start<'_>,
+    (wrote, said, status): (&str, &str, u8),
+) {
+    let left = run_of(rt, rule, program, start);
+    assert_ending(rt, rule, left.ending, status, true);
+    assert_bytes(rt, rule, &left.output.taken, wrote.as_bytes());
+    assert_bytes(rt, rule, &left.messages.taken, said.as_bytes());
+}
+
+/// A text, so many times.
+pub fn repeated(rt: &(impl Abort + AllocGlobal), part: &str, times: usize) -> String {
+    let mut text = String::new(rt.alloc());
+    for _ in 0..times {
+        text.push_str(part).expect(rt, part);
+    }
+    text
+}
+
+/// Asserts that words mean no request, and that `clap` displays this text of them.
+pub fn assert_rendered(
+    rt: &(impl Abort + AllocGlobal),
+    parse: Result<ArgMatches<'_>, clap::Error>,
+    text: &str,
+) {
+    match parse {
+        Err(error) => {
+            let rendered = format!(in rt.alloc(); "{error}").expect(rt, text);
+            assert_bytes(rt, text, rendered.as_bytes(), text.as_bytes());
+        }
+        Ok(_) => assert!(rt; false, "{text}"),
     }
 }
 

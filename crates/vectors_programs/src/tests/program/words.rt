@@ -1,12 +1,15 @@
 //! What the words after the program's name mean, seen by what is done with the standard input.
 use super::plain::{
-    Left, SOUND, Start, assert_bytes, assert_reflowed, assert_spans, assert_unread, run,
+    Left, SOUND, Start, assert_bytes, assert_reflowed, assert_rendered, assert_spans,
+    assert_unread, run,
 };
 use fakes::streams::{FeedFault, SinkFault};
-use reflow_program::arguments::{HELP, VERSION, matches_in};
+use reflow_program::arguments::{HELP, VERSION};
+use reflow_program::program::Reflow;
 use std::alloc::{AllocError, Global};
 use std::io::ErrorKind;
 use std::process::Abort;
+use text_filters::tool::matches_in;
 
 const COUNT: &str = "one two three four\n";
 
@@ -461,19 +464,10 @@ const RENDERED: &[(&[&str], &str)] = &[
     (&["-V"], VERSION),
 ];
 
-/// What `clap` makes of words that mean no request.
-fn rendered(alloc: Global, words: &[&str]) -> Result<String, AllocError> {
-    match matches_in(alloc, words) {
-        Err(error) => format!(in alloc; "{error}"),
-        Ok(_) => Ok(String::new(alloc)),
-    }
-}
-
 /// The texts that are shown are those that `clap` makes of the command line.
 #[test]
 fn what_is_shown_is_as_clap_makes_it(rt: HostRuntime) {
     for &(words, text) in RENDERED {
-        let rendered = rendered(rt.alloc(), words).expect(&rt, text);
-        assert_bytes(&rt, text, rendered.as_bytes(), text.as_bytes());
+        assert_rendered(&rt, matches_in(rt.alloc(), &Reflow, words), text);
     }
 }

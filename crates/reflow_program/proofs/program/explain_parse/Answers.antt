@@ -1,4 +1,0 @@
-use Rattle.reflow_program.proofs.program.explain_parse.Goals as goal
-
-pub returns-in-DisplayHelp : goal.returns-in-DisplayHelp
-returns-in-DisplayHelp g c = rw c.in-DisplayHelp.is c.show.ensures

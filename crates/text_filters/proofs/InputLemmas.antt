@@ -1,0 +1,130 @@
+-- Lemmas on what becomes of one input: whether its output is another text, and what is written of it.
+use Rattle.std.proofs.Common.{◌≡◌, ◌≢◌, ◌∙◌, sym, subst, true, false, ℕ, List, Bool}
+use Rattle.std.proofs.Common.{Option, Err}
+use Rattle.std.proofs.KnownBytes.{Keeps-refl}
+use Rattle.std.proofs.lemmas.Bool.{false≢true}
+use Rattle.std.proofs.lemmas.Slice.Eq.{bytes_eq-Decides}
+use Rattle.std.specs.Str.{bytes_eq}
+use Rattle.textwrap_program.specs.Filling.{ReadsAll, WritesPrefix}
+use Rattle.textwrap_program.specs.Program.{TriesLine}
+use Rattle.text_filters.specs.Faults.{IsOfDraft, IsOfOutput, IsOfReading}
+use Rattle.text_filters.specs.Files.{Folder, KeepsFiles, bytes_at}
+use Rattle.text_filters.proofs.FileLemmas.{KeepsFiles-refl}
+use Rattle.unified_diff.specs.Differences.{IsDiffText}
+use Rattle.text_filters.specs.Inputs.{Checks, Differs, Prints, Reads, ReadsText, Replaces}
+use Rattle.text_filters.specs.declared.faults.Fault.{Fault}
+use Rattle.text_filters.specs.declared.faults.Fault.TheVariants.{Read, NotUtf8, Memory, Write, Output}
+use Rattle.text_filters.specs.Filter.{Work}
+
+-- ---- two texts that were compared
+
+pub compared-same : (xs ys input output : List ℕ) → xs ≡ input → ys ≡ output
+    → true ≡ bytes_eq xs ys → output ≡ input
+compared-same xs ys input output x y equal =
+    sym y ∙ sym ((bytes_eq-Decides xs ys).0 (sym equal)) ∙ x
+
+pub compared-other : (xs ys input output : List ℕ) → xs ≡ input → ys ≡ output
+    → false ≡ bytes_eq xs ys → output ≢ input
+compared-other xs ys input output x y differ same =
+    false≢true (differ ∙ (bytes_eq-Decides xs ys).1 (x ∙ sym same ∙ sym y))
+
+-- the diff of two texts is that of the same texts
+pub IsDiffText-of : (name input output old new text : List ℕ) → old ≡ input → new ≡ output
+    → IsDiffText name old new text → IsDiffText name input output text
+IsDiffText-of name input output old new text x y is =
+    subst (λ t. IsDiffText name input t text) y (subst (λ t. IsDiffText name t new text) x is)
+
+-- ---- faults
+
+module _ (work : Work) (unread left : Option (List ℕ)) where
+  -- nothing is written where the input is not read
+  pub prints-unread : (old : Option (List ℕ)) (fault : Fault) → Reads work unread left (Err fault)
+      → Prints work unread left old old (Err fault)
+  prints-unread old (Read reason) none = Keeps-refl old
+  prints-unread old (NotUtf8 valid) none = (none, Keeps-refl old)
+  prints-unread old Memory none = Keeps-refl old
+  prints-unread old (Write reason) none = absurd none
+  prints-unread old (Output reason) none = absurd none
+
+  pub checks-unread : (name : List ℕ) (old : Option (List ℕ)) (fault : Fault)
+      → Reads work unread left (Err fault) → Checks work name unread left old old (Err fault)
+  checks-unread name old (Read reason) none = Keeps-refl old
+  checks-unread name old (NotUtf8 valid) none = (none, Keeps-refl old)
+  checks-unread name old Memory none = Keeps-refl old
+  checks-unread name old (Write reason) none = absurd none
+  checks-unread name old (Output reason) none = absurd none
+
+  module _ (input output : List ℕ) (reads : ReadsText work unread left input output) where
+    -- an output of which a prefix is written
+    pub prints-unwritten : (old new : Option (List ℕ)) (bytes : List ℕ) (fault : Fault)
+        → bytes ≡ output → WritesPrefix old new bytes → IsOfOutput fault
+        → Prints work unread left old new (Err fault)
+    prints-unwritten old new bytes (Output reason) is prefix of =
+        (input, output, reads, subst (WritesPrefix old new) is prefix)
+    prints-unwritten old new bytes (Read reason) is prefix of = absurd of
+    prints-unwritten old new bytes (Write reason) is prefix of = absurd of
+    prints-unwritten old new bytes (NotUtf8 valid) is prefix of = absurd of
+    prints-unwritten old new bytes Memory is prefix of = absurd of
+
+    -- the name of a file that would change, of which a prefix is written
+    pub checks-unwritten : (name : List ℕ) (old new : Option (List ℕ)) (fault : Fault)
+        → output ≢ input → TriesLine old new name → IsOfOutput fault
+        → Checks work name unread left old new (Err fault)
+    checks-unwritten name old new (Output reason) differs tries of =
+        (input, output, reads, differs, tries)
+    checks-unwritten name old new (Read reason) differs tries of = absurd of
+    checks-unwritten name old new (Write reason) differs tries of = absurd of
+    checks-unwritten name old new (NotUtf8 valid) differs tries of = absurd of
+    checks-unwritten name old new Memory differs tries of = absurd of
+
+    -- a diff of which a prefix is written
+    pub differs-unwritten : (counts : Bool) (name text : List ℕ) (old new : Option (List ℕ))
+        (fault : Fault) → output ≢ input → IsDiffText name input output text
+        → WritesPrefix old new text → IsOfOutput fault
+        → Differs work counts name unread left old new (Err fault)
+    differs-unwritten counts name text old new (Output reason) differ is prefix of =
+        (input, output, text, reads, differ, is, prefix)
+    differs-unwritten counts name text old new (Read reason) differ is prefix of = absurd of
+    differs-unwritten counts name text old new (Write reason) differ is prefix of = absurd of
+    differs-unwritten counts name text old new (NotUtf8 valid) differ is prefix of = absurd of
+    differs-unwritten counts name text old new Memory differ is prefix of = absurd of
+
+-- a file that cannot be replaced
+pub replaces-unput : (work : Work) (name : List ℕ) (old new : List Folder) (fault : Fault)
+    → KeepsFiles old new → IsOfDraft fault → Replaces work name old new (Err fault)
+replaces-unput work name old new (Write reason) kept of = kept
+replaces-unput work name old new Memory kept of = kept
+replaces-unput work name old new (Read reason) kept of = absurd of
+replaces-unput work name old new (NotUtf8 valid) kept of = absurd of
+replaces-unput work name old new (Output reason) kept of = absurd of
+
+-- nor one that is not opened
+pub replaces-unopened : (work : Work) (name : List ℕ) (old new : List Folder) (fault : Fault)
+    → new ≡ old → IsOfReading fault → Replaces work name old new (Err fault)
+replaces-unopened work name old new (Read reason) same of = same
+replaces-unopened work name old new (NotUtf8 valid) same of = absurd of
+replaces-unopened work name old new Memory same of =
+    subst (KeepsFiles old) (sym same) (KeepsFiles-refl old)
+replaces-unopened work name old new (Write reason) same of = absurd of
+replaces-unopened work name old new (Output reason) same of = absurd of
+
+-- nor one that is not read
+pub replaces-unread : (work : Work) (name : List ℕ) (old new : List Folder)
+    (unread left : Option (List ℕ)) (fault : Fault) → unread ≡ bytes_at old name → new ≡ old
+    → Reads work unread left (Err fault) → Replaces work name old new (Err fault)
+replaces-unread work name old new unread left (Read reason) known same none = same
+replaces-unread work name old new unread left (NotUtf8 valid) known same (input, all, none) =
+    ((left, (input, subst (λ u. ReadsAll u left input) known all, none)), same)
+replaces-unread work name old new unread left Memory known same none =
+    subst (KeepsFiles old) (sym same) (KeepsFiles-refl old)
+replaces-unread work name old new unread left (Write reason) known same none = absurd none
+replaces-unread work name old new unread left (Output reason) known same none = absurd none
+
+-- ---- files
+
+-- what was read of the reader of a file was read of the file
+pub ReadsText-of : (work : Work) (unread known left : Option (List ℕ))
+    (input output : List ℕ) → unread ≡ known → ReadsText work unread left input output
+    → ReadsText work known left input output
+ReadsText-of work unread known left input output =
+    subst (λ bytes. ReadsText work bytes left input output)

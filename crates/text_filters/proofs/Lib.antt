@@ -1,0 +1,8 @@
+pub mod CommandLemmas
+pub mod FileLemmas
+pub mod InputLemmas
+pub mod MessageLemmas
+mod Refuted
+mod Rows
+pub mod RightsLemmas
+pub mod TreatedInputs

@@ -1,0 +1,18 @@
+use Rattle.std.proofs.Common.{subst}
+use Rattle.text_filters.specs.Messages.{about_view, fault_texts, message_line}
+use Rattle.text_filters.specs.Program.{Says}
+use Rattle.text_filters.proofs.MessageLemmas.{says-result}
+use Rattle.text_filters.proofs.program.says.Goals as goal
+
+pub returns-in-Ok : goal.returns-in-Ok
+returns-in-Ok g c =
+    rw c.in-Ok.is (says-result _ _ _ c.write_message.result c.is_ok.result c.is_ok.ensures.value
+    c.write_message.ensures.ok c.write_message.ensures.prefix)
+
+pub returns-in-Err : goal.returns-in-Err
+returns-in-Err g c =
+    rw c.in-Err.is (subst (λ name. Says (message_line (about_view c.args.about.now) name (fault_texts c.in-Err.fault))
+    (g.M.Write.contents c.args.messages.now) (g.M.Write.contents c.write_fault.new.messages)
+    c.is_ok-in-Err.result) c.subject.ensures
+    (says-result _ _ _ c.write_fault.result c.is_ok-in-Err.result
+    c.is_ok-in-Err.ensures.value c.write_fault.ensures.ok c.write_fault.ensures.prefix))

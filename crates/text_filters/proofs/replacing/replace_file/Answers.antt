@@ -1,0 +1,58 @@
+use Rattle.std.proofs.Common.{inl, inr, refl, subst}
+use Rattle.std.specs.String.{string_bytes}
+use Rattle.text_filters.proofs.InputLemmas.{ReadsText-of, compared-other, compared-same}
+use Rattle.text_filters.proofs.InputLemmas.{replaces-unread}
+use Rattle.text_filters.specs.Files.{ReplacesPlace}
+use Rattle.text_filters.proofs.replacing.replace_file.Goals as goal
+
+pub returns-in-Err : goal.returns-in-Err
+returns-in-Err g c =
+    replaces-unread (g.T.Filter.work c.args.filter.now) c.args.name.now (g.F.Files.past c.args.files.now)
+    (g.F.Files.past c.open_regular.new.files) _ _ _ c.in_ok-original.ensures.input
+    c.open_regular.ensures.kept c.in-Err.ensures
+
+pub returns-then-eq : goal.returns-then-eq
+returns-then-eq g c =
+    let filtered = c.in-Ok.filtered in (
+      g.F.Input.Read.remaining c.read_filtered.new.reader,
+      filtered.input.items,
+      string_bytes filtered.output.text,
+      ReadsText-of (g.T.Filter.work c.args.filter.now) _ _ _ _ _ c.in_ok-original.ensures.input
+          c.in-Ok.ensures.0,
+      inl (
+        compared-same _ _ _ _ c.as_slice.ensures.value c.as_bytes.ensures.value c.if-eq.ensures,
+        c.open_regular.ensures.kept,
+        refl,
+      ),
+      refl,
+      c.in-Ok.ensures.1,
+    )
+
+pub returns-in-Ok-put_bytes : goal.returns-in-Ok-put_bytes
+returns-in-Ok-put_bytes g c =
+    let filtered = c.in-Ok.filtered in
+    let original = c.in_ok-original.original in
+    let name = c.args.name.now in
+    let old = g.F.Files.past c.args.files.now in
+    let new = g.F.Files.past c.put_bytes.new.files in (
+      g.F.Input.Read.remaining c.read_filtered.new.reader,
+      filtered.input.items,
+      string_bytes filtered.output.text,
+      ReadsText-of (g.T.Filter.work c.args.filter.now) _ _ _ _ _ c.in_ok-original.ensures.input
+          c.in-Ok.ensures.0,
+      inr (
+        compared-other _ _ _ _ c.as_slice.ensures.value c.as_bytes.ensures.value c.if-eq.ensures,
+        (
+          g.F.Files.place original.node,
+          c.in_ok-original.ensures.original,
+          subst (λ past. ReplacesPlace (g.F.Files.place original.node) (string_bytes filtered.output.text)
+              past new) c.open_regular.ensures.kept
+              (subst (λ bytes. ReplacesPlace (g.F.Files.place original.node) bytes
+              (g.F.Files.past c.open_regular.new.files) new) c.as_bytes-2.ensures.value
+              c.in-Ok-put_bytes.ensures.ok),
+        ),
+        refl,
+      ),
+      refl,
+      c.in-Ok.ensures.1,
+    )

@@ -1,0 +1,10 @@
+pub mod Words
+pub mod Faults
+pub mod Rights
+pub mod Files
+pub mod Filter
+pub mod Inputs
+pub mod Arguments
+pub mod Messages
+pub mod Program
+pub mod Tool

@@ -1,3 +1,0 @@
-#compdef textwrap
-# Completions of textwrap for zsh.
-_arguments '1:columns:' '2:algorithm:(first optimal)'

@@ -9,13 +9,13 @@ static rattle_block block_at(void *at) {
     return (rattle_block){at != NULL, at != NULL ? at : nothing};
 }
 
-rattle_block rattle_alloc(size_t size, size_t align) {
+RATTLE_CALL rattle_block rattle_alloc(size_t size, size_t align) {
     return block_at(malloc(size > 0 ? size : align));
 }
 
-rattle_block rattle_realloc(void *block, size_t kept, size_t size, size_t align) {
+RATTLE_CALL rattle_block rattle_realloc(void *block, size_t kept, size_t size, size_t align) {
     (void)kept;
     return block_at(realloc(block, size > 0 ? size : align));
 }
 
-void rattle_dealloc(void *block) { free(block); }
+RATTLE_CALL void rattle_dealloc(void *block) { free(block); }

@@ -16,10 +16,10 @@ void *__real_realloc(void *block, size_t size);
 void __real_free(void *block);
 
 /* How many allocations are left before the one that is refused, whether that was refused, and how
- * many blocks there are. */
-static long left;
+ * many blocks there are. Below 0 none is: what runs before `main` may allocate too. */
+static int left = -1;
 static bool refused;
-static long live;
+static int live;
 
 /* Whether this allocation is the one that is refused. */
 static bool refuses(void) {
@@ -573,12 +573,12 @@ static void lend(struct lent *lent) {
 /* How many allocations a call makes, or -1 at a fault: one is refused, then the one after it, until
  * the call meets no refusal. A refused call writes nothing, or did without: room that is asked for
  * before it is needed may be refused, and what is written is the same then. */
-static long refusals_of(const struct call *call) {
+static int refusals_of(const struct call *call) {
     struct lent whole;
     lend(&whole);
     left = 100000;
     if (call->call(&whole) != TEXTWRAP_DONE) return -1;
-    for (long refusals = 0; refusals < 1000; refusals++) {
+    for (int refusals = 0; refusals < 1000; refusals++) {
         struct lent lent, old;
         lend(&lent);
         memcpy(&old, &lent, sizeof lent);
@@ -611,12 +611,12 @@ int main(void) {
         }
     }
     for (size_t i = 0; i < sizeof CALLS / sizeof CALLS[0]; i++) {
-        long refusals = refusals_of(&CALLS[i]);
+        int refusals = refusals_of(&CALLS[i]);
         if (refusals < 0) {
             printf("%s: FAULT\n", CALLS[i].name);
             failures++;
         } else {
-            printf("%s: %ld allocations, each refused in turn\n", CALLS[i].name, refusals);
+            printf("%s: %d allocations, each refused in turn\n", CALLS[i].name, refusals);
         }
     }
     return failures != 0;

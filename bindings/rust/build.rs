@@ -1,10 +1,10 @@
 //! Links an archive of the library, if the variable TEXTWRAP_LIBRARY names the folder of one: that of
-//! `rt lib`, or that of the C binding as it is installed. Else the library is the assembly within this
-//! crate, and nothing is done here.
+//! `rt lib`, or that of the C binding as it is installed. Else the library is the assembly, and it is said
+//! where that is.
 //!
 //! Where the variable DOCS_RS is set, there is no library: the documentation is built without it.
 use std::env;
-use std::path::Path;
+use std::path::{Path, PathBuf};
 
 /// An archive without a heap, and one that has it over malloc.
 const ARCHIVES: [(&str, bool); 2] = [("textwrap_c", false), ("textwrap_proved", true)];
@@ -20,7 +20,20 @@ fn main() {
         println!("cargo::rustc-cfg=library_is_linked");
     } else if let Some(folder) = folder {
         link(Path::new(&folder));
+    } else {
+        println!("cargo::rustc-env=TEXTWRAP_DIST={}", assembly().display());
     }
+}
+
+/// The folder `dist` of this crate. In the repository that is a link to the one beside `bindings`, which is
+/// named itself, since a checkout on Windows may have no links.
+fn assembly() -> PathBuf {
+    let crate_folder = PathBuf::from(env::var_os("CARGO_MANIFEST_DIR").unwrap_or_default());
+    let within = crate_folder.join("dist");
+    if within.is_dir() {
+        return within;
+    }
+    crate_folder.join("../../dist")
 }
 
 /// Links the archive that the folder has.

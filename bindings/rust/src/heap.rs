@@ -75,41 +75,52 @@ unsafe fn head_of(block: *mut c_void) -> (*mut Head, Layout) {
     }
 }
 
-#[no_mangle]
-extern "C" fn rattle_alloc(size: usize, align: usize) -> Block {
-    debug_assert!(align <= align_of::<Head>());
-    // SAFETY: a layout has at least the bytes of the head.
-    let head = with_head(size).map_or(ptr::null_mut(), |layout| unsafe { alloc(layout) });
-    // SAFETY: it was allocated by that layout.
-    unsafe { block_behind(head.cast(), size) }
+/// The functions that the library calls, by a convention of calls.
+macro_rules! heap {
+    ($convention:tt) => {
+        #[no_mangle]
+        extern $convention fn rattle_alloc(size: usize, align: usize) -> Block {
+            debug_assert!(align <= align_of::<Head>());
+            // SAFETY: a layout has at least the bytes of the head.
+            let head = with_head(size).map_or(ptr::null_mut(), |layout| unsafe { alloc(layout) });
+            // SAFETY: it was allocated by that layout.
+            unsafe { block_behind(head.cast(), size) }
+        }
+
+        #[no_mangle]
+        unsafe extern $convention fn rattle_realloc(
+            block: *mut c_void,
+            _kept: usize,
+            size: usize,
+            align: usize,
+        ) -> Block {
+            debug_assert!(align <= align_of::<Head>());
+            // SAFETY: the library hands in a block that it was given.
+            let (head, layout) = unsafe { head_of(block) };
+            let longer = with_head(size).map_or(ptr::null_mut(), |wanted| {
+                // SAFETY: the head was allocated by its layout, and both layouts have one alignment.
+                unsafe { realloc(head.cast(), layout, wanted.size()) }
+            });
+            // SAFETY: it has as many bytes as the wanted layout.
+            unsafe { block_behind(longer.cast(), size) }
+        }
+
+        #[no_mangle]
+        unsafe extern $convention fn rattle_dealloc(block: *mut c_void) {
+            // SAFETY: the library hands back a block that it was given, and does not use it again.
+            unsafe {
+                let (head, layout) = head_of(block);
+                dealloc(head.cast(), layout);
+            }
+        }
+    };
 }
 
-#[no_mangle]
-unsafe extern "C" fn rattle_realloc(
-    block: *mut c_void,
-    _kept: usize,
-    size: usize,
-    align: usize,
-) -> Block {
-    debug_assert!(align <= align_of::<Head>());
-    // SAFETY: the library hands in a block that it was given.
-    let (head, layout) = unsafe { head_of(block) };
-    let longer = with_head(size).map_or(ptr::null_mut(), |wanted| {
-        // SAFETY: the head was allocated by its layout, and both layouts have one alignment.
-        unsafe { realloc(head.cast(), layout, wanted.size()) }
-    });
-    // SAFETY: it has as many bytes as the wanted layout.
-    unsafe { block_behind(longer.cast(), size) }
-}
-
-#[no_mangle]
-unsafe extern "C" fn rattle_dealloc(block: *mut c_void) {
-    // SAFETY: the library hands back a block that it was given, and does not use it again.
-    unsafe {
-        let (head, layout) = head_of(block);
-        dealloc(head.cast(), layout);
-    }
-}
+#[cfg(not(windows))]
+heap!("C");
+// On Windows too they are called as on Linux.
+#[cfg(windows)]
+heap!("sysv64");
 
 #[cfg(test)]
 mod tests {

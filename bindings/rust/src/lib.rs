@@ -14,8 +14,8 @@
 //! textwrap = { path = "bindings/rust/patch" }
 //! ```
 //!
-//! Behind them stands a library written in Rattle, which this crate has within it as assembly for
-//! x86-64 Linux. Its contracts, which are proved, state the exact result of each call. What is
+//! Behind them stands a library written in Rattle, which this crate has within it as assembly for x86-64 and
+//! aarch64 Linux, x86-64 Windows and macOS. Its contracts, which are proved, state the exact result of each call. What is
 //! written in Rust here is the way there and back, and what functions of the caller take part in.
 //!
 //! # Lines of a width

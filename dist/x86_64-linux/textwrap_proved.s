@@ -2,6 +2,7 @@
 # SPDX-License-Identifier: MIT AND Unicode-3.0
 # Made by tools/dist; what the calls are, bindings/c/textwrap_proved.h says.
 # proved and compiled with: rattle-kit-13f logic dac8208d650f15bf
+# proved for: x86_64-unknown-linux-gnu
 # crates: textwrap_text textwrap_base textwrap_words textwrap_layout textwrap_lines textwrap textwrap_classes textwrap_unicode textwrap_display textwrap_trie textwrap_patterns textwrap_hyphens textwrap_hyphenated textwrap_marks textwrap_marked_lines textwrap_marked textwrap_plain textwrap_balance textwrap_calls textwrap_step_calls textwrap_display_calls textwrap_hyphen_calls textwrap_c
 # sum of their sources: 0c546476f110cab45f28422a814111c31859a3a9cccf4c98c2972183c5454f05
 # sum of the lines below: c60efb22eb0222b7b64993fa5e342873fdaa7e575c12693cda04924872f4523e

@@ -14,9 +14,21 @@ fn is_alone() -> bool {
     std::env::var_os(IS_ALONE).is_some()
 }
 
+/// This program, run by what the variable TEXTWRAP_RUNNER names, if the system runs no programs of its target
+/// by itself.
+fn this_program() -> Command {
+    let program = std::env::current_exe().unwrap();
+    let runner = std::env::var("TEXTWRAP_RUNNER").unwrap_or_default();
+    let mut words = runner.split_whitespace();
+    let Some(first) = words.next() else { return Command::new(program) };
+    let mut command = Command::new(first);
+    command.args(words).arg(program);
+    command
+}
+
 /// The size in the message of the abort that ends this test, which is run alone.
 fn size_told(test: &str) -> usize {
-    let output: Output = Command::new(std::env::current_exe().unwrap())
+    let output: Output = this_program()
         .args(["--exact", test, "--nocapture"])
         .env(IS_ALONE, "")
         .output()

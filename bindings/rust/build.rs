@@ -25,8 +25,7 @@ fn main() {
     }
 }
 
-/// The folder `dist` of this crate. In the repository that is a link to the one beside `bindings`, which is
-/// named itself, since a checkout on Windows may have no links.
+/// The folder `dist` of this crate, as it is packed. In the repository it is the one beside `bindings`.
 fn assembly() -> PathBuf {
     let crate_folder = PathBuf::from(env::var_os("CARGO_MANIFEST_DIR").unwrap_or_default());
     let within = crate_folder.join("dist");

@@ -1,5 +1,5 @@
 -- What the program's arguments mean.
-use Rattle.std.specs.Prelude.{◌≡◌, ℕ, ◌&&◌, not, true, List, [], ◌∷◌, ◌++◌, map, codes, Some}
+use Rattle.std.specs.Prelude.{◌≡◌, ◌&&◌, not, true, List, [], ◌∷◌, ◌++◌, map, codes, Some}
 use Rattle.std.specs.Prelude.{if◌then◌else◌}
 use Rattle.std.specs.List.{flat_map}
 use Rattle.clap.specs.Words.{App, Row, Rule, Text, new_app}

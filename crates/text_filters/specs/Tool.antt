@@ -1,5 +1,5 @@
 -- The whole run of a program.
-use Rattle.std.specs.Prelude.{◌≡◌, ◌⊎◌, ℕ, List, [], None}
+use Rattle.std.specs.Prelude.{◌≡◌, ◌⊎◌, List, [], None}
 use Rattle.std.specs.Io.KnownBytes.{Keeps}
 use Rattle.clap.specs.Words.{App, HasKind, Row, Text, fault_of, kind_of, matches_of}
 use Rattle.clap.specs.declared.error.Error.{Error}

@@ -118,18 +118,12 @@ impl WordSeparator {
     ///
     /// If the function of a [`Custom`](WordSeparator::Custom) panics.
     pub fn find_words<'a>(&self, line: &'a str) -> Box<dyn Iterator<Item = Word<'a>> + 'a> {
-        if let WordSeparator::Custom(function) = self {
-            return function(line);
-        }
-        let cuts = or_abort(self.cuts_of(line));
-        let mut start = 0;
-        let words = cuts.into_iter().chain(Some(line.len())).map(move |end| {
-            let part = &line[start..end];
-            start = end;
-            Word::from(part)
-        });
-        // An empty line has no word, and no cut is at its end.
-        Box::new(words.filter(|_| !line.is_empty()))
+        let words = match self {
+            WordSeparator::AsciiSpace => words_between_blanks(line),
+            WordSeparator::UnicodeBreakProperties => words_between_breaks(line),
+            WordSeparator::Custom(function) => return function(line),
+        };
+        Box::new(or_abort(words).into_iter().map(move |place| Word::at(line, &place)))
     }
 
     /// Where a line is cut into its words.
@@ -201,15 +195,29 @@ fn assert_stands_at(word: &Word<'_>, start: usize, line: &str) {
     );
 }
 
-/// Where the words between blanks stand: they are the pieces if words are neither split nor broken,
-/// and there is no indent.
+/// Where the words between blanks stand.
 fn words_between_blanks(line: &str) -> Result<Vec<sys::Piece>, OutOfMemory> {
+    let guess = guess::count(line, |byte| byte == b' ') + 1;
+    words_by(WordSeparator::AsciiSpace, line, guess)
+}
+
+/// Where the words between Unicode line breaks stand.
+fn words_between_breaks(line: &str) -> Result<Vec<sys::Piece>, OutOfMemory> {
+    words_by(WordSeparator::UnicodeBreakProperties, line, guess::breaks(line))
+}
+
+/// Where the words of a line stand, of which there may be so many: they are the pieces if words are
+/// neither split nor broken, and there is no indent.
+fn words_by(
+    separator: WordSeparator,
+    line: &str,
+    guess: usize,
+) -> Result<Vec<sys::Piece>, OutOfMemory> {
     let options = Options::new(0)
-        .word_separator(WordSeparator::AsciiSpace)
+        .word_separator(separator)
         .break_words(false)
         .word_splitter(WordSplitter::NoHyphenation)
         .to_sys();
-    let guess = guess::count(line, |byte| byte == b' ') + 1;
     Ok(list_by!(guess, textwrap_pieces(line; &options))?)
 }
 

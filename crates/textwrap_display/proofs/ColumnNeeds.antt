@@ -1,6 +1,6 @@
 -- What columns need: the widest of some texts, part by part, and the texts of a column, row by row.
-use Rattle.textwrap_text.proofs.Common.{◌≡◌, ◌∙◌, ℕ, List, [], ◌∷◌, ◌++◌, ap, arith, get_or, length}
-use Rattle.textwrap_text.proofs.Common.{map, max, rules}
+use Rattle.textwrap_text.proofs.Common.{◌≡◌, ◌∙◌, ℕ, List, [], ◌∷◌, ◌++◌, ap, arith, get_or}
+use Rattle.textwrap_text.proofs.Common.{map, max}
 use Rattle.std.specs.List.{flat_map, fold}
 use Rattle.std.proofs.lemmas.List.Sums.{fold-append}
 use Rattle.textwrap_display.proofs.TableGroups.{IsFirstGroup, groups-more}
@@ -56,8 +56,3 @@ module _ (parts : List ℕ → List (List ℕ)) (columns at most : ℕ) where
       let others = flat_map parts (column_texts columns rest at) in
       rw (column_texts-more columns at cells row rest first)
       (omega (arith, widest-append (parts (get_or row at [])) others))
-
-pub column_texts-none : (columns at : ℕ) (cells : List (List ℕ)) → length cells ≡ 0
-    → column_texts columns cells at ≡ []
-column_texts-none columns at [] none = search (rules, arith)
-column_texts-none columns at (cell ∷ cells) none = absurd (omega (arith, none))

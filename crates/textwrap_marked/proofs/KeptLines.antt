@@ -60,19 +60,6 @@ title-heads line other (one ∷ lines) (two ∷ others) heads hangs =
     ∙ ap (λ p. is_rule one.words && bytes_eq p other.hanging) heads.prefix
     ∙ ap (λ h. is_rule one.words && bytes_eq one.prefix h) hangs
 
-heads-behind : (lines rest others : List LineText) → AreHeads rest others
-    → AreHeads (lines ++ rest) (lines ++ others)
-heads-behind [] rest others heads = heads
-heads-behind (line ∷ lines) rest others heads = head-same line line.raw
-
-pub some-behind : {X : Type 0} (kept more left : List X)
-    → nat_lt 0 (length more) ≡ nat_lt 0 (length left)
-    → nat_lt 0 (length (kept ++ more)) ≡ nat_lt 0 (length (kept ++ left))
-some-behind [] more left same = same
-some-behind (k ∷ kept) more left same =
-    lt-ltb 0 (length (k ∷ (kept ++ more))) (omega arith)
-    ∙ sym (lt-ltb 0 (length (k ∷ (kept ++ left))) (omega arith))
-
 pub join-more : (raw : List ℕ) (raws : List (List ℕ))
     → join_with_byte 10 (raw ∷ raws)
     ≡ (raw ++ ending_if (nat_lt 0 (length raws)) (codes "\n")) ++ join_with_byte 10 raws

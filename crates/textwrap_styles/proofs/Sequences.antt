@@ -75,9 +75,6 @@ bell = codes "\u{7}"
 abbrev terminator : List ℕ
 terminator = codes "\u{1b}\\"
 
-abbrev has_semicolon : List ℕ → Bool
-has_semicolon fields = list_any (λ c. c == 0x3B) fields
-
 not_link : (rest : List ℕ) → ((before : List ℕ) → rest ≢ before ++ bell)
     → ((before : List ℕ) → rest ≢ before ++ terminator) → is_link (link_start ++ rest) ≡ false
 not_link [] no_bell none = refl

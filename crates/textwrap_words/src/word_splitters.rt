@@ -12,7 +12,6 @@ use pieces::push_split;
 use std::alloc::{AllocError, Allocator};
 pub use word_cuts::{PointFunction, WordCuts};
 
-pub(crate) mod cut_lines;
 pub(crate) mod hyphens;
 pub(crate) mod pieces;
 mod word_cuts;

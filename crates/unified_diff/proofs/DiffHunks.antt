@@ -243,9 +243,6 @@ module _ (lines : List SignedText) where
       → (all : List HunkText) × AreHunks 0 0 0 all
       × (old ++ flat_map hunk_text all ≡ text ++ flat_map hunk_text hunks)
 
-  pub HasPushed-none : (old : List ℕ) → HasPushed old old 0 0 0
-  HasPushed-none old = λ hunks are. (hunks, are, refl)
-
   HasPushed-hunk : (old text next : List ℕ) (at old_at new_at first last : ℕ) (hunk : HunkText)
       → HasPushed old text at old_at new_at → IsHunkOf at old_at new_at first last hunk
       → next ≡ text ++ hunk_text hunk

@@ -1,6 +1,6 @@
 -- The lines of a text, lines with signs, those that either text has, and where they change.
 use Rattle.std.proofs.Math.Bool.{beq}
-use Rattle.std.proofs.Common.{◌≡◌, ◌≢◌, ◌∙◌, ap, ap₂, refl, subst, sym, ℕ, zero, suc, ◌+◌, ◌-◌, ◌<◌}
+use Rattle.std.proofs.Common.{◌≡◌, ◌≢◌, ◌∙◌, ap, ap₂, refl, sym, ℕ, zero, suc, ◌+◌, ◌-◌, ◌<◌}
 use Rattle.std.proofs.Common.{◌≤◌, arith, Bool, true, false}
 use Rattle.std.proofs.Common.{List, [], ◌∷◌, ◌++◌, length, take, drop, map, get_or}
 use Rattle.std.proofs.Common.{Bor, IsTrue, cond, not}
@@ -55,11 +55,6 @@ pub sign_at-view : (lines : List SignedLine) (k : ℕ) (d : SignedLine) → k < 
 sign_at-view [] k d within = absurd (omega arith)
 sign_at-view (line ∷ lines) zero d within = refl
 sign_at-view (line ∷ lines) (suc k) d within = sign_at-view lines k d (omega arith)
-
-pub sign_at-past : (lines : List SignedText) (k : ℕ) → length lines ≤ k → sign_at lines k ≡ Kept
-sign_at-past [] k past = refl
-sign_at-past (line ∷ lines) zero past = absurd (omega arith)
-sign_at-past (line ∷ lines) (suc k) past = sign_at-past lines k (omega arith)
 
 pub change-within : (lines : List SignedText) (k : ℕ) → IsTrue (is_change (sign_at lines k))
     → k < length lines
@@ -188,13 +183,6 @@ IsNearIf-other lines at true false differ is = is
 IsNearIf-other lines at false true differ is = is
 IsNearIf-other lines at false false differ is = cc
 
-pub IsNearIf-same : (lines : List SignedText) (at : ℕ) (found near : Bool)
-    → beq found near ≡ true → IsNearIf found lines at → IsNearIf near lines at
-IsNearIf-same lines at true true same is = is
-IsNearIf-same lines at true false same is = cc
-IsNearIf-same lines at false true same is = cc
-IsNearIf-same lines at false false same is = is
-
 -- ---- lines that are the same
 
 pub same-more : (old new : List (Bor (List ℕ))) (n : ℕ) (none : Bor (List ℕ))
@@ -248,22 +236,6 @@ line-at lines at found line equal within is equal_is =
     get_or-map (λ l. l.now) lines at found [] within ∙ ap (λ l. l.now) (sym is) in (
       λ yes. (rw length-map within, here ∙ (bytes_eq-Decides found.now line).0 (sym equal_is ∙ yes)),
       λ same. equal_is ∙ (bytes_eq-Decides found.now line).1 (sym here ∙ same.1),
-    )
-
--- what stands at a place of the one list is what stands at a place of the other
-pub same-at : (old new : List (Bor (List ℕ))) (k m : ℕ) (found : Bor (List ℕ)) → k < length old
-    → found ≡ get_or old k found
-    → (IsLineAt (map (λ l. l.now) new) m found.now
-    → AreSameAt (map (λ l. l.now) old) k (map (λ l. l.now) new) m)
-    × (AreSameAt (map (λ l. l.now) old) k (map (λ l. l.now) new) m
-    → IsLineAt (map (λ l. l.now) new) m found.now)
-same-at old new k m found within is =
-    let olds : List (List ℕ) = map (λ l. l.now) old in
-    let news : List (List ℕ) = map (λ l. l.now) new in
-    let here : get_or olds k [] ≡ found.now =
-    get_or-map (λ l. l.now) old k found [] within ∙ ap (λ l. l.now) (sym is) in (
-      λ at. (rw length-map within, subst (IsLineAt news m) (sym here) at),
-      λ same. subst (IsLineAt news m) here same.1,
     )
 
 pub other-at : (old new : List (Bor (List ℕ))) (n : ℕ) (none : Bor (List ℕ))

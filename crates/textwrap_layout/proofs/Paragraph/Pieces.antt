@@ -1,6 +1,6 @@
 -- The pieces of a paragraph: those of given points and of built-in parts; they tile it, and end as
 -- its words do.
-use Rattle.textwrap_text.proofs.Common.{length-append, slice_range, All-append, All-weaker, All-nil}
+use Rattle.textwrap_text.proofs.Common.{slice_range, All-append, All-weaker, All-nil}
 use Rattle.textwrap_text.proofs.Common.{IsUtf8-nil, append-nil, All-cons, All-head, All-tail, arith}
 use Rattle.textwrap_text.proofs.Common.{flat_map, ltb-true, IsUtf8, Option, length, false, rules, ℕ}
 use Rattle.textwrap_text.proofs.Common.{subst, Bool, List, None, Some, cond, refl, take, true, ◌++◌}
@@ -241,10 +241,6 @@ last_space-append (w ∷ ws) (v ∷ vs) some = ap (λ u. u.whitespace) (last_pie
 pub record EndsAs (f : WordText → List WordText) (w : WordText) : Type 0 where
   pub some : 0 < length (f w)
   pub space : last_space (f w) ≡ w.whitespace
-
-flat_map-some : (f : WordText → List WordText) (w : WordText) (ws : List WordText) → EndsAs f w
-    → 0 < length (flat_map f (w ∷ ws))
-flat_map-some f w ws ends = search (rules, length-append)
 
 pub flat_map-space : (f : WordText → List WordText) (ws : List WordText) → All (EndsAs f) ws
     → last_space (flat_map f ws) ≡ last_space ws

@@ -2,7 +2,7 @@
 ghost use Rattle.std.specs.Prelude.{◌≡◌, ℕ, ◌-◌, ◌<◌, List, IfOk, map};
 ghost use Rattle.std.specs.Iterator.{YieldsFirstBy, item_count};
 ghost use Rattle.textwrap_words.specs.Words.{Tiles, WordText, word_view, word_of, words_of, chunks};
-ghost use Rattle.textwrap_words.specs.Cuts.{AreCuts, parts_between};
+ghost use Rattle.textwrap_words.specs.Cuts.{AreCuts, AreInnerCuts, parts_between};
 ghost use Rattle.textwrap_words.specs.WordSeparators.{MayCut};
 ghost use Rattle.textwrap_words.specs.WordsLeft.{words_left};
 
@@ -53,12 +53,24 @@ impl<'a, A: Allocator> Words<'a, A> {
             × (words ≡ map word_of (parts_between cuts line.now))) }
         ensures tiles { IfOk result (λ words. Tiles words line.now) }
     {
-        let cuts = (line_cuts.function)(line_cuts.alloc, line)?;
+        let cuts = given_cuts(line_cuts, line)?;
         let words = words_between(alloc, line, &cuts)?;
         Ok(Words {
             source: Source::Found(words.into_iter()),
         })
     }
+}
+
+/// Where the function of a caller cuts a line.
+///
+/// # Errors
+/// [`AllocError`] where memory runs out, or the function says so.
+pub fn given_cuts(line_cuts: LineCuts, line: &str) -> Result<Vec<usize>, AllocError>
+    ensures given { IfOk result (λ cuts. MayCut line_cuts line.now cuts.items) }
+    ensures inner { IfOk result (λ cuts. AreInnerCuts line.now cuts.items) }
+{
+    let cuts = (line_cuts.function)(line_cuts.alloc, line)?;
+    Ok(cuts)
 }
 
 /// The parts of a line between these cuts, each as a word.

@@ -1,37 +1,11 @@
 //! The pieces that a word is split into.
-ghost use Rattle.std.specs.Prelude.{◌≡◌, ℕ, ◌<◌, ◌≤◌, List, [], ◌++◌, map, slice_range, OnOk};
-ghost use Rattle.std.specs.Prelude.{IsCharBoundary};
+ghost use Rattle.std.specs.Prelude.{◌≡◌, ◌<◌, ◌≤◌, [], ◌++◌, map, slice_range, OnOk, IsCharBoundary};
 ghost use Rattle.textwrap_words.specs.Cuts.{AreCuts};
-ghost use Rattle.textwrap_text.specs.Units.{text_width};
 ghost use Rattle.textwrap_words.specs.WordSplitters.{cut_penalty, ends_in_hyphen, split_pieces};
-ghost use Rattle.textwrap_words.specs.WordSplitters.{MaySplit};
 ghost use Rattle.textwrap_words.specs.Words.{piece, word_view};
 
-use super::WordSplitter;
 use crate::words::{Word, display_width};
 use std::alloc::{AllocError, Allocator};
-
-/// Adds the pieces of a word whose width is known to be that of its text. A word that stays whole
-/// is not measured again.
-pub fn push_measured<'a, A: Allocator + Copy>(
-    alloc: A,
-    pieces: &mut Vec<Word<'a>, A>,
-    word: Word<'a>,
-    word_splitter: &WordSplitter,
-) -> Result<(), AllocError>
-    requires { word.width ≡ text_width word.word.now }
-    ensures { OnOk result ((points : List ℕ) × MaySplit word_splitter.now word.entry.word.now points
-        × (map word_view pieces.new.items ≡ map word_view pieces.old.items
-        ++ split_pieces points (word_view word.entry))) }
-{
-    let points = word_splitter.split_points(alloc, word.word)?;
-    if points.is_empty() {
-        pieces.push(word)?;
-        return Ok(());
-    }
-    push_split(pieces, word, &points)?;
-    Ok(())
-}
 
 /// Adds the pieces of a word that is split at these points.
 pub fn push_split<'a, A: Allocator>(

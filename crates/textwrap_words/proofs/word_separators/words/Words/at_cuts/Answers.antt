@@ -1,21 +1,15 @@
-use Rattle.textwrap_text.proofs.Common.{ap, arith, map, refl, rules, subst, sym, ◌∙◌}
+use Rattle.textwrap_text.proofs.Common.{ap, arith, map, rules, subst, sym, ◌∙◌}
 use Rattle.textwrap_words.proofs.Common.{AreCuts, parts_between, tiled, word_of, word_view}
-use Rattle.textwrap_words.proofs.Word.{Cuts.inner-cuts, Parts.MayCut-cuts, Parts.parts-texts}
-use Rattle.textwrap_words.proofs.word_separators.words.Words.at_cuts.Goals.{In_ok-cuts}
+use Rattle.textwrap_words.proofs.Word.{Cuts.inner-cuts, Parts.parts-texts}
 use Rattle.textwrap_words.proofs.word_separators.words.Words.at_cuts.Goals as goal
 
--- what was answered is cuts of the line
-ready : (g : _) (c : In_ok-cuts g) → AreCuts c.args.line.now c.in_ok-cuts.cuts.items
-ready g c = search (rules, arith, inner-cuts, MayCut-cuts)
-
 pub words_between-requires : goal.words_between-requires
-words_between-requires g c = subst (AreCuts c.args.line.now) (sym c.deref.ensures.value)
-    (ready g (goal.at.words_between-requires g c).In_ok-cuts)
+words_between-requires g c = search (rules, arith, inner-cuts)
 
 pub returns-clause-words : goal.returns-clause-words
 returns-clause-words g c = (
   c.in_ok-cuts.cuts.items,
-  (c.args.line_cuts.alloc, c.args.line, c.in_ok-cuts.cuts, refl, refl, c.in_ok-cuts.ensures.0),
+  c.in_ok-cuts.ensures.given,
   ap (map word_view) c.into_iter.ensures.rest ∙ c.in_ok-words.ensures
       ∙ ap (λ cuts. map word_of (parts_between cuts c.args.line.now)) c.deref.ensures.value,
 )
@@ -25,4 +19,4 @@ returns-clause-tiles g c =
     ap tiled (ap (map word_view) c.into_iter.ensures.rest ∙ c.in_ok-words.ensures)
     ∙ (parts-texts c.args.line.now c.deref.result.now c.utf8.line
     (subst (AreCuts c.args.line.now) (sym c.deref.ensures.value)
-    (ready g (goal.at.returns-clause-tiles g c).In_ok-cuts))).tile
+    (inner-cuts c.args.line.now c.in_ok-cuts.cuts.items c.in_ok-cuts.ensures.inner))).tile

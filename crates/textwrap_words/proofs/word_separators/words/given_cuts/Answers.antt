@@ -1,6 +1,6 @@
 use Rattle.textwrap_text.proofs.Common.{arith, refl, rules}
 use Rattle.textwrap_words.proofs.Word.Parts.{MayCut-cuts}
-use Rattle.textwrap_words.proofs.word_splitters.cut_lines.given_cuts.Goals as goal
+use Rattle.textwrap_words.proofs.word_separators.words.given_cuts.Goals as goal
 
 pub returns-clause-given : goal.returns-clause-given
 returns-clause-given g c =

@@ -1,6 +1,7 @@
-//! The tests of the crates beside `textwrap`: of lines for display, of texts with marks, of Unicode line
-//! breaking, of hyphenation, and of the callers that show how the library is used.
+//! Callers that show how the library is used, and the tests of the crates beside `textwrap`: of lines
+//! for display, of texts with marks, of Unicode line breaking, of hyphenation, and of these callers.
 #![tactic(auto)]
 
 #[cfg(test)]
 mod tests;
+pub mod uses;

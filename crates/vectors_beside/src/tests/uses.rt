@@ -1,25 +1,25 @@
-//! The callers of `textwrap_uses`: what each gives on its happy path.
+//! The callers of `uses`: what each gives on its happy path.
 mod hyphens;
 
 use super::plain::{assert_count, assert_gives, assert_gives_texts, assert_holds, assert_text};
+use crate::uses::checking::{is_filled, line_count};
+use crate::uses::comments::{common_mark, rewrapped};
+use crate::uses::gallery::{Picture, few_rows, hung_rows};
+use crate::uses::help::{fitted_help_rows, help_entry, help_rows};
+use crate::uses::languages::lines_in_any_language;
+use crate::uses::lists::listed_lines;
+use crate::uses::mail::{filled_anew, quote, quoted_as_it_is, sent_lines};
+use crate::uses::notes::fill_note;
+use crate::uses::paths::path_lines;
+use crate::uses::scripts::script;
+use crate::uses::sentences::sentence_lines;
+use crate::uses::styled::rows_beside;
+use crate::uses::tables::barred_rows;
 use std::alloc::Global;
 use std::borrow::CowStr;
 use std::process::Abort;
 use textwrap::{Options, WrapError};
 use textwrap_display::Gaps;
-use textwrap_uses::checking::{is_filled, line_count};
-use textwrap_uses::comments::{common_mark, rewrapped};
-use textwrap_uses::gallery::{Picture, few_rows, hung_rows};
-use textwrap_uses::help::{fitted_help_rows, help_entry, help_rows};
-use textwrap_uses::languages::lines_in_any_language;
-use textwrap_uses::lists::listed_lines;
-use textwrap_uses::mail::{filled_anew, quote, quoted_as_it_is, sent_lines};
-use textwrap_uses::notes::fill_note;
-use textwrap_uses::paths::path_lines;
-use textwrap_uses::scripts::script;
-use textwrap_uses::sentences::sentence_lines;
-use textwrap_uses::styled::rows_beside;
-use textwrap_uses::tables::barred_rows;
 use textwrap_vectors::functions::are_borrowed;
 
 const HELP_ROWS: &[&str] = &[

@@ -1,8 +1,8 @@
 //! Words that are hyphenated by a dictionary.
 use super::super::plain::assert_found;
+use crate::uses::hyphens::{Entry, HyphenError, hyphenated_lines};
 use std::alloc::{AllocError, Global};
 use textwrap_lines::placed::Place;
-use textwrap_uses::hyphens::{Entry, HyphenError, hyphenated_lines};
 
 const DICTIONARY: &[Entry<'static>] = &[
     Entry {

@@ -1,9 +1,0 @@
-use Rattle.textwrap_uses.proofs.Common.{IfOk-weaker, one-width}
-use Rattle.textwrap_uses.proofs.gallery.hung_rows.Goals as goal
-
-pub returns : goal.returns
-returns c = record {
-  chosen = IfOk-weaker c.wrap_optimal_fit.result _ _
-      (λ rows divided. divided.chosen (one-width c.args.wall_width))
-      (rw c.new.ensures at c.wrap_optimal_fit.ensures.fit.divided);
-}

@@ -1,9 +1,0 @@
-use Rattle.textwrap_uses.proofs.Common.{AreEnds, EndWith}
-use Rattle.textwrap_uses.proofs.lists.end_after_each.Given as goal
-
--- the ends so far, the last of them after the words so far
-abbrev pub invariant-loop-before : goal.invariant-loop-before
-invariant-loop-before l = record {
-  ends : AreEnds l.words l.ends.items;
-  end_with : EndWith l.ends.items l.before;
-}

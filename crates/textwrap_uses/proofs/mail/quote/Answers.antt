@@ -1,6 +1,0 @@
-use Rattle.textwrap_uses.proofs.Common.{default_algorithm, AtHyphens, rules}
-use Rattle.textwrap_uses.proofs.mail.quote.Goals as goal
-
-pub returns-clause-filled : goal.returns-clause-filled
-returns-clause-filled c =
-    c.in_ok-quoted.ensures.built_in _ AtHyphens default_algorithm (search rules)

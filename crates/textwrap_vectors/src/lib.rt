@@ -1,7 +1,8 @@
-//! Problems other than text, with known answers, that calls of `textwrap` solve; functions of a
-//! caller, with contracts, that tests need; and the tests of the public calls of `textwrap` and of its
-//! program: on words, on other fragments, on texts, and at the limits of what the calls may meet, which
-//! are single characters, the least and the greatest widths, and memory that runs out.
+//! Problems other than text, with known answers, that calls of `textwrap` solve; what tests hand to a
+//! call, which is functions of a caller, with contracts, an allocator that refuses an allocation, and
+//! readers and writers that fail where they are told to; and the tests of the public calls of `textwrap`
+//! and of its program: on words, on other fragments, on texts, and at the limits of what the calls may
+//! meet, which are single characters, the least and the greatest widths, and memory that runs out.
 #![tactic(auto)]
 
 pub use cards::Card;
@@ -9,6 +10,8 @@ pub use scheduling::{Day, Task, assign_days};
 
 mod cards;
 pub mod functions;
+pub mod heap;
 mod scheduling;
+pub mod streams;
 #[cfg(test)]
 mod tests;

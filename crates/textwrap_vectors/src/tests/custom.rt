@@ -9,7 +9,7 @@ use crate::functions::{
     cut_everywhere, cut_foobar, cut_nowhere, end_all, end_early, end_nowhere, end_twice,
     refuse_line, refuse_word, refuse_words, split_in_middle,
 };
-use fakes::heap::Heap;
+use crate::heap::Heap;
 use std::alloc::{AllocError, Global};
 use std::borrow::CowStr;
 use std::fmt::Debug;

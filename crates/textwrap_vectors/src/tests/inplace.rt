@@ -3,7 +3,7 @@ use super::given::assert_row;
 use super::refusals::{Refusable, refusals_of};
 use super::texts::Call::FillInplace;
 use super::texts::assert_gives;
-use fakes::heap::Heap;
+use crate::heap::Heap;
 use std::process::Abort;
 use textwrap::{WrapError, fill_inplace};
 

@@ -3,7 +3,7 @@
 use super::divisions::{Block, FALLING};
 use super::given::{assert_found, assert_out_of_memory, assert_row, has_minima};
 use super::plain::{plain_is_queue_case, plain_optimal_fit_counted, plain_queue, plain_table};
-use fakes::heap::Heap;
+use crate::heap::Heap;
 use std::alloc::{AllocError, Allocator, Global};
 use std::process::Abort;
 use textwrap::WrapError;

@@ -10,7 +10,7 @@ use super::texts::{
     Call, FIRST_FIT, Layout, OPTIMAL_FIT, PENALTIES, algorithm_of, gives, options_of,
 };
 use crate::functions::{cut_everywhere, end_all, split_in_middle};
-use fakes::heap::Heap;
+use crate::heap::Heap;
 use std::alloc::AllocError;
 use std::borrow::CowStr;
 use std::process::Abort;

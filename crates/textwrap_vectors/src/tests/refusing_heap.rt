@@ -1,5 +1,5 @@
 //! The allocator that refuses an allocation.
-use fakes::heap::Heap;
+use crate::heap::Heap;
 use std::alloc::AllocError;
 use std::process::Abort;
 

@@ -1,7 +1,7 @@
 //! The days that tasks are assigned to.
 use super::given::{assert_found, assert_row};
+use crate::heap::Heap;
 use crate::{Day, Task, assign_days};
-use fakes::heap::Heap;
 use std::alloc::{AllocError, Allocator, Global};
 use std::process::Abort;
 use textwrap::WrapError;

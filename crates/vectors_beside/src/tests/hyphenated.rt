@@ -1,7 +1,6 @@
 //! Texts whose words are hyphenated.
 use super::hyphens::push_patterns;
 use super::plain::{assert_found, assert_gives, assert_gives_texts, assert_holds, plain_options};
-use fakes::heap::Heap;
 use std::alloc::{AllocError, Allocator, Global};
 use std::borrow::CowStr;
 use std::process::Abort;
@@ -14,6 +13,7 @@ use textwrap_hyphenated::{
 use textwrap_hyphens::dictionary::Patterns;
 use textwrap_hyphens::laws::more_patterns_raise_levels;
 use textwrap_layout::layout::Layout;
+use textwrap_vectors::heap::Heap;
 
 /// Patterns of Zei-len-um-bruch, Sil-ben-tren-nung, schma-len and Spal-ten.
 const GERMAN: [&str; 8] = ["i1l", "i2l1b", "n1u", "n1n2u", "m1b", "n1t", "a1l", "a2l1t"];

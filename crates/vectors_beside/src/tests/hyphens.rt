@@ -1,6 +1,5 @@
 //! Hyphenation by patterns.
 use super::plain::{assert_count, assert_found, assert_holds, assert_text};
-use fakes::heap::Heap;
 use std::alloc::{AllocError, Allocator, Global};
 use std::process::Abort;
 use textwrap::minima::Steps;
@@ -10,6 +9,7 @@ use textwrap_hyphens::points::points;
 use textwrap_patterns::errors::{Fault, ParseError};
 use textwrap_patterns::patterns::{Exception, Pattern};
 use textwrap_patterns::written::{exception, pattern};
+use textwrap_vectors::heap::Heap;
 
 /// The patterns of Liang's thesis that stand in `hyphenation`.
 const LIANG: [&str; 9] = [

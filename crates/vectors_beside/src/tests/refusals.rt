@@ -6,10 +6,10 @@ use super::display::{
     are_attributed, are_carried, are_shortened, changed, is_filled, is_fitted, is_table,
 };
 use super::plain::assert_holds;
-use fakes::heap::Heap;
 use std::process::Abort;
 use textwrap::WrapError;
 use textwrap_display::Alignment::Left;
+use textwrap_vectors::heap::Heap;
 
 /// A call, on what it is made here.
 #[derive(Clone, Copy)]

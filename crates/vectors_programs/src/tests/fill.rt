@@ -5,12 +5,12 @@ use super::program::plain::{
     Program, SOUND, Start, assert_bytes, assert_ending, assert_rendered, assert_run, repeated,
     run_of,
 };
-use fakes::streams::{FeedFault, SinkFault};
 use fill_program::arguments::{HELP, VERSION};
 use fill_program::program::Fill;
 use std::io::ErrorKind;
 use std::process::Abort;
 use text_filters::tool::matches_in;
+use textwrap_vectors::streams::{FeedFault, SinkFault};
 
 const HAMLET: &str = "To be, or not to be; that is the question\n";
 

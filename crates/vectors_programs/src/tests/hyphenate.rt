@@ -5,12 +5,12 @@ use super::program::plain::{
     Program, SOUND, Start, assert_bytes, assert_ending, assert_rendered, assert_run, repeated,
     run_of,
 };
-use fakes::streams::FeedFault;
 use hyphenate_program::arguments::{HELP, VERSION};
 use hyphenate_program::program::Hyphenate;
 use std::io::ErrorKind;
 use std::process::Abort;
 use text_filters::tool::matches_in;
+use textwrap_vectors::streams::FeedFault;
 
 /// The patterns of Liang's thesis that stand in `hyphenation`, and an exception.
 const LIANG: &[u8] = b"hy3ph\nhe2n\nhena4\nhen5at\n1na\nn2at\n1tio\n2io\no2n\nta-ble\n";

@@ -1,6 +1,6 @@
 //! What the words after the program's name mean.
 use super::plain::strings;
-use fakes::heap::Heap;
+use crate::heap::Heap;
 use std::alloc::{AllocError, Global};
 use std::test::Fail;
 use textwrap_program::arguments::{Algorithm, arguments, words_after_name};

@@ -1,7 +1,7 @@
 //! What becomes of a reader and a writer.
 use super::plain::{assert_number, assert_taken, plain_run};
-use fakes::heap::Heap;
-use fakes::streams::{Feed, FeedFault, Sink, SinkFault};
+use crate::heap::Heap;
+use crate::streams::{Feed, FeedFault, Sink, SinkFault};
 use std::alloc::{AllocError, Global};
 use std::io::ErrorKind;
 use std::process::Abort;

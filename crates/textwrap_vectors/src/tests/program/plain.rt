@@ -1,6 +1,6 @@
 //! What the tests share: calls without their clauses, since each clause costs at each call, and
 //! assertions.
-use fakes::streams::{Feed, Sink};
+use crate::streams::{Feed, Sink};
 use std::alloc::{AllocError, Allocator, Global};
 use std::process::Abort;
 use textwrap_program::arguments::Algorithm;

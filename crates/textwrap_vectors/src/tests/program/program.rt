@@ -1,7 +1,7 @@
 //! The words, the input, the output and the messages together.
 use super::plain::{assert_number, assert_taken, plain_execute, strings};
-use fakes::heap::Heap;
-use fakes::streams::{Feed, FeedFault, Sink, SinkFault};
+use crate::heap::Heap;
+use crate::streams::{Feed, FeedFault, Sink, SinkFault};
 use std::alloc::{AllocError, Allocator};
 use std::io::ErrorKind;
 use std::process::Abort;

@@ -3,11 +3,11 @@ use super::super::plain::{
     assert_found, assert_lines, plain_carry_attributes, plain_options, plain_wrap,
 };
 use super::styles::lines;
-use fakes::heap::Heap;
 use std::alloc::{AllocError, Global};
 use std::borrow::CowStr;
 use std::process::Abort;
 use textwrap::{Options, WrapAlgorithm, WrapError};
+use textwrap_vectors::heap::Heap;
 
 /// The rule, the lines, and what they become. A line that stays is not copied.
 #[rattlefmt::skip]

@@ -3,11 +3,11 @@ use super::super::plain::{
     assert_count, assert_gives, assert_holds, plain_fill_justified, plain_options,
 };
 use LineEnding::{CRLF, LF};
-use fakes::heap::Heap;
 use std::process::Abort;
 use textwrap::wrap_algorithms::LineEnds;
 use textwrap::{LineEnding, Options, WrapAlgorithm, WrapError};
 use textwrap_vectors::functions::{end_all, end_early, end_twice};
+use textwrap_vectors::heap::Heap;
 
 /// The rule, the text, the columns, the initial and the subsequent indent, and the text filled.
 type Row = (

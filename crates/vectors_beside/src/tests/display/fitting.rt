@@ -1,10 +1,10 @@
 //! The widths of columns that fit what stands in them.
 use super::super::plain::{assert_found, assert_holds};
-use fakes::heap::Heap;
 use std::alloc::{AllocError, Allocator};
 use std::process::Abort;
 use textwrap::WrapError;
 use textwrap_display::{Need, fitting_widths, needs_of};
+use textwrap_vectors::heap::Heap;
 
 /// The greatest number of columns.
 const MOST: usize = usize::MAX;

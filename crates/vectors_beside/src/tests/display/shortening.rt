@@ -2,11 +2,11 @@
 use super::super::plain::{assert_lines, plain_shorten_lines};
 use super::Change::{Cut, Shortened};
 use super::{LineRow, assert_all_changed};
-use fakes::heap::Heap;
 use std::alloc::{AllocError, Allocator};
 use std::borrow::CowStr;
 use std::process::Abort;
 use textwrap_display::{Shortening, shorten_lines_by};
+use textwrap_vectors::heap::Heap;
 
 /// Lines that are cut.
 #[rattlefmt::skip]

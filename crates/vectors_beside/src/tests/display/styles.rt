@@ -3,11 +3,11 @@ use super::super::plain::{
     assert_count, assert_found, assert_holds, assert_lines, plain_carry_styles, plain_options,
     plain_wrap,
 };
-use fakes::heap::Heap;
 use std::alloc::{AllocError, Allocator, Global};
 use std::borrow::CowStr;
 use std::process::Abort;
 use textwrap::{Options, WrapAlgorithm};
+use textwrap_vectors::heap::Heap;
 
 /// The rule, the two indents, the lines, and what they become. A line that stays is not copied.
 #[rattlefmt::skip]

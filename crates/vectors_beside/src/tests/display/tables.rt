@@ -1,11 +1,11 @@
 //! Texts in the columns of a table.
 use super::super::plain::{assert_count, assert_gives_texts, assert_holds, assert_text};
 use Alignment::{Centre, Left, Right};
-use fakes::heap::Heap;
 use std::alloc::{Allocator, Global};
 use std::process::Abort;
 use textwrap::{Options, WrapAlgorithm, WrapError};
 use textwrap_display::{Alignment, Column, Gaps, table};
+use textwrap_vectors::heap::Heap;
 
 const BARS: Gaps<'static> = Gaps {
     left: "|",

@@ -5,11 +5,11 @@ use super::folder::{FileFault, Given};
 use super::plain::{
     Start, assert_bytes, assert_number, assert_reflowed, assert_spans, assert_whole_run, run,
 };
-use fakes::heap::Heap;
-use fakes::streams::{Feed, FeedFault, SinkFault};
 use std::io::ErrorKind;
 use std::process::Abort;
 use textwrap_program::filling::{RunError, read_to_end};
+use textwrap_vectors::heap::Heap;
+use textwrap_vectors::streams::{Feed, FeedFault, SinkFault};
 use unified_diff::differences::diff_text;
 
 /// A rule, the standard input, and the diff at ten columns.

@@ -2,7 +2,6 @@
 use super::super::plain::{assert_found, assert_holds};
 use super::folder::WRITTEN_AT_ONCE;
 use super::plain::{SOUND, strings};
-use fakes::streams::{Sink, SinkFault};
 use reflow_program::program::Reflow;
 use std::alloc::AllocError;
 use std::fs::{File, OpenOptions};
@@ -13,6 +12,7 @@ use std::{env, fs, io, process, rt};
 use text_filters::disk::Disk;
 use text_filters::files::{FileKind, Files};
 use text_filters::tool::execute;
+use textwrap_vectors::streams::{Sink, SinkFault};
 
 const COUNT: &str = "one two three four\n";
 

@@ -1,9 +1,9 @@
 //! Reads and writes of the standard streams that fail, and texts that come and go in pieces.
 use super::folder::{FileFault, Given};
 use super::plain::{Faults, SOUND, Start, assert_reflowed, assert_whole_run, run};
-use fakes::streams::{FeedFault, SinkFault};
 use std::io::ErrorKind;
 use std::process::Abort;
+use textwrap_vectors::streams::{FeedFault, SinkFault};
 
 const FILES: &[Given] = &[
     ("a", b"one two three four\n", FileFault::Nothing),

@@ -3,10 +3,10 @@ use super::folder::{FileFault, Folder, Given};
 use super::plain::{
     Left, SOUND, Start, assert_bytes, assert_left, assert_number, assert_unread, run,
 };
-use fakes::streams::{FeedFault, SinkFault};
 use std::io::ErrorKind;
 use std::process::Abort;
 use text_filters::files::FileKind;
+use textwrap_vectors::streams::{FeedFault, SinkFault};
 
 const COUNT: &[u8] = b"one two three four\n";
 

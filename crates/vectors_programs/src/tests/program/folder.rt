@@ -1,10 +1,10 @@
 //! Files in memory, which fail where they are told to.
-use fakes::streams::{Feed, FeedFault, Sink, SinkFault};
 use std::alloc::{AllocError, Global};
 use std::io;
 use std::io::ErrorKind;
 use text_filters::files::{FileKind, Files, Opened};
 use text_filters::rights::{FileMode, Rights};
+use textwrap_vectors::streams::{Feed, FeedFault, Sink, SinkFault};
 
 /// How many bytes the readers give at a time.
 pub const READ_AT_ONCE: usize = 3;

@@ -2,7 +2,6 @@
 //! assertions on what it leaves.
 use super::folder::{Folder, Given, READ_AT_ONCE, WRITTEN_AT_ONCE};
 use clap::ArgMatches;
-use fakes::streams::{Feed, FeedFault, Sink, SinkFault};
 use fill_program::program::Fill;
 use hyphenate_program::program::Hyphenate;
 use reflow_program::program::Reflow;
@@ -10,6 +9,7 @@ use std::alloc::{AllocError, Global};
 use std::process::Abort;
 use text_filters::program::Ending;
 use text_filters::tool::execute;
+use textwrap_vectors::streams::{Feed, FeedFault, Sink, SinkFault};
 
 /// What goes wrong with the standard input, the output and the messages.
 pub type Faults = (FeedFault, SinkFault, SinkFault);

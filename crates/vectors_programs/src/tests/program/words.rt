@@ -3,13 +3,13 @@ use super::plain::{
     Left, SOUND, Start, assert_bytes, assert_reflowed, assert_rendered, assert_spans,
     assert_unread, run,
 };
-use fakes::streams::{FeedFault, SinkFault};
 use reflow_program::arguments::{HELP, VERSION};
 use reflow_program::program::Reflow;
 use std::alloc::{AllocError, Global};
 use std::io::ErrorKind;
 use std::process::Abort;
 use text_filters::tool::matches_in;
+use textwrap_vectors::streams::{FeedFault, SinkFault};
 
 const COUNT: &str = "one two three four\n";
 

@@ -1,14 +1,14 @@
 -- Where `spend` finds an allocation left, it answers what `inner` answers, and else `Err`. Each `&` to a
 -- field comes from the one to the heap, and a block may be freed as `inner` says.
-use Rattle.fakes.proofs.Steps.{ℕ, ◌+◌, Bool, false, List, [], ◌∷◌, Err, refl, ap, w64, proved, Val, vptr, id⊢, ftrue, flft, size, align, up, tables, ‵, raw, ◌⊛◌, some, later, prop, at_ret, Sq, ◌$◌, ◌∵◌, !, qed, done, move, keep, drop, use0, use1, use2, split, join, fsplit, fjoin, feq_i, feq_l, pick, await, suffices, group, agg, enter, addr, lit, of_opd, stop, fld, no_more, and_then, first, branches, exec, returns, alloc_all, pass_all, free_all, look_at, get, through, sets, sets_last, lands_as, lands_last, env, ptr_laws, bool, usize, RefOf, RawPtr, loose_lawful, yes, shows, lone, unhide, uint_vals, uint_Tells, owns, shr_vals, plain, types_at, nothing, peeks, only, calls_at, calls_at_last, lasts, triple_of, framed, Stays, walk_of, stay_dropped, Goes-dropped, ends_at, block_if_ok, Answer, answer_val, Answer-typed, Answer-err, the_row_laws, the_loose, AllocError, Inner, ghosts, Results}
+use Rattle.textwrap_vectors.proofs.Steps.{ℕ, ◌+◌, Bool, false, List, [], ◌∷◌, Err, refl, ap, w64, proved, Val, vptr, id⊢, ftrue, flft, size, align, up, tables, ‵, raw, ◌⊛◌, some, later, prop, at_ret, Sq, ◌$◌, ◌∵◌, !, qed, done, move, keep, drop, use0, use1, use2, split, join, fsplit, fjoin, feq_i, feq_l, pick, await, suffices, group, agg, enter, addr, lit, of_opd, stop, fld, no_more, and_then, first, branches, exec, returns, alloc_all, pass_all, free_all, look_at, get, through, sets, sets_last, lands_as, lands_last, env, ptr_laws, bool, usize, RefOf, RawPtr, loose_lawful, yes, shows, lone, unhide, uint_vals, uint_Tells, owns, shr_vals, plain, types_at, nothing, peeks, only, calls_at, calls_at_last, lasts, triple_of, framed, Stays, walk_of, stay_dropped, Goes-dropped, ends_at, block_if_ok, Answer, answer_val, Answer-typed, Answer-err, the_row_laws, the_loose, AllocError, Inner, ghosts, Results}
 use Rattle.std.specs.contracts.impls.GlobalAllocator.allocate as inner
 use Rattle.std.proofs.impls.GlobalAllocator.allocate.Met as inner_met
-use Rattle.fakes.specs.contracts.heap.Heap.{the_row as Heap}
-use Rattle.fakes.specs.contracts.heap.spend as spend
-use Rattle.fakes.proofs.heap.spend.Met as spend_met
-use Rattle.fakes.specs.contracts.heap.HeapAllocator.allocate as here
-use Rattle.fakes.proofs.heap.HeapAllocator.allocate.Statement.{statement}
-use Rattle.fakes.proofs.heap.HeapAllocator.allocate.Code as code
+use Rattle.textwrap_vectors.specs.contracts.heap.Heap.{the_row as Heap}
+use Rattle.textwrap_vectors.specs.contracts.heap.spend as spend
+use Rattle.textwrap_vectors.proofs.heap.spend.Met as spend_met
+use Rattle.textwrap_vectors.specs.contracts.heap.HeapAllocator.allocate as here
+use Rattle.textwrap_vectors.proofs.heap.HeapAllocator.allocate.Statement.{statement}
+use Rattle.textwrap_vectors.proofs.heap.HeapAllocator.allocate.Code as code
 
 abbrev stayed : Stays here.ended.signature.params here.ended.kept
 stayed = (stay_dropped _ yes, (stay_dropped _ yes, (stay_dropped _ yes, tt)))
@@ -51,7 +51,7 @@ allocate_spec 𝓤 𝓛 𝓜 𝓡 wired =
     feq_i ! (List Val) (vptr b at_left ∷ []) _ refl $ fjoin ! $ nothing ! $ move ! (1 ∷ []) $ fjoin ! $
     move ! (1 ∷ 0 ∷ []) $ join ! $ nothing ! $ move ! (1 ∷ []) $ use2 𝓛 (raw (S.pre x)) (id⊢ 𝓤 _) $
     calls_at ! (framed 𝓤 𝓛.H 𝓜 𝓣) S
-    (spend_met.met 𝓤 𝓛 𝓜 𝓡 (code.calls-fakes::heap::spend 𝓡.env wired)) x
+    (spend_met.met 𝓤 𝓛 𝓜 𝓡 (code.calls-textwrap_vectors::heap::spend 𝓡.env wired)) x
     (and_then ! (get ! refl) (no_more !)) (λ v.
     use1 𝓛 (later (some (λ (t : Bool). (tokens ⊛ ‵ (bool.own_val t (v ∷ [])))
     ⊛ some (λ (ws : Unit {0} × Unit {0}). ‵ (lasts spend.ended x.0.0 x.0.3 ws) ⊛ ‵ ftrue)))) (id⊢ 𝓤 _) $

@@ -1,11 +1,11 @@
 -- It gives the block back to `inner`, by the `&` to that field and the same right to free.
-use Rattle.fakes.proofs.Steps.{ℕ, ◌+◌, List, [], ◌∷◌, refl, w64, proved, Val, vunit, vptr, id⊢, ftrue, flft, align, up, tables, ‵, raw, ◌⊛◌, some, later, at_ret, ◌$◌, ◌∵◌, !, qed, done, move, keep, drop, use1, use2, split, join, fsplit, fjoin, feq_i, feq_l, pick, await, suffices, group, enter, addr, of_opd, unit_lit, stop, fld, no_more, and_then, first, blocks, exec, returns, alloc_all, pass_all, free_all, look_at, get, through, sets, lands_last, env, unit, usize, RefOf, yes, lone, unhide, Nothing-Lawful, uint_vals, uint_Tells, owns, RawPtr, rawptr_vals, rawptr_Tells, rawptr_Lawful, shr_vals, plain, types_at, nothing, calls_at_last, lasts, triple_of, framed, Stays, walk_of, stay_dropped, Goes-dropped, ends_at, Inner}
+use Rattle.textwrap_vectors.proofs.Steps.{ℕ, ◌+◌, List, [], ◌∷◌, refl, w64, proved, Val, vunit, vptr, id⊢, ftrue, flft, align, up, tables, ‵, raw, ◌⊛◌, some, later, at_ret, ◌$◌, ◌∵◌, !, qed, done, move, keep, drop, use1, use2, split, join, fsplit, fjoin, feq_i, feq_l, pick, await, suffices, group, enter, addr, of_opd, unit_lit, stop, fld, no_more, and_then, first, blocks, exec, returns, alloc_all, pass_all, free_all, look_at, get, through, sets, lands_last, env, unit, usize, RefOf, yes, lone, unhide, Nothing-Lawful, uint_vals, uint_Tells, owns, RawPtr, rawptr_vals, rawptr_Tells, rawptr_Lawful, shr_vals, plain, types_at, nothing, calls_at_last, lasts, triple_of, framed, Stays, walk_of, stay_dropped, Goes-dropped, ends_at, Inner}
 use Rattle.std.specs.contracts.impls.GlobalAllocator.deallocate as inner
 use Rattle.std.proofs.impls.GlobalAllocator.deallocate.Met as inner_met
-use Rattle.fakes.specs.contracts.heap.Heap.{the_row as Heap}
-use Rattle.fakes.specs.contracts.heap.HeapAllocator.deallocate as here
-use Rattle.fakes.proofs.heap.HeapAllocator.deallocate.Statement.{statement}
-use Rattle.fakes.proofs.heap.HeapAllocator.deallocate.Code as code
+use Rattle.textwrap_vectors.specs.contracts.heap.Heap.{the_row as Heap}
+use Rattle.textwrap_vectors.specs.contracts.heap.HeapAllocator.deallocate as here
+use Rattle.textwrap_vectors.proofs.heap.HeapAllocator.deallocate.Statement.{statement}
+use Rattle.textwrap_vectors.proofs.heap.HeapAllocator.deallocate.Code as code
 
 abbrev stayed : Stays here.ended.signature.params here.ended.kept
 stayed = (stay_dropped _ yes, (stay_dropped _ yes, (stay_dropped _ yes, (stay_dropped _ yes, tt))))

@@ -1,12 +1,12 @@
 -- Lines that stay, with the ending that is asked for.
-use Rattle.textwrap_marked_lines.proofs.Common.{◌≡◌, ℕ, ◌+◌, ◌-◌, ◌⊎◌, ◌&&◌, Bool, true, false, List, []}
-use Rattle.textwrap_marked_lines.proofs.Common.{◌∷◌, ◌++◌, All-append, All-cons, All-nil, ap, append_assoc}
-use Rattle.textwrap_marked_lines.proofs.Common.{arith, codes, ends_with, flat_map, get_or, inl, inr}
-use Rattle.textwrap_marked_lines.proofs.Common.{length, map, nat_eq, None, Option, refl, reverse, Some}
-use Rattle.textwrap_marked_lines.proofs.Common.{suc, suffix_len, sym, take, take_more, zero, ⊤, ◌∙◌, ap₂}
-use Rattle.textwrap_marked_lines.proofs.Common.{suffix_len-le-length, ending_bytes, FenceText, is_return}
-use Rattle.textwrap_marked_lines.proofs.Common.{line_of, LineText, new_fence, passed, StateText}
-use Rattle.textwrap_marked_lines.proofs.Common.{without_returns, spaced_words}
+use Rattle.textwrap_marked.proofs.LineNames.{◌≡◌, ℕ, ◌+◌, ◌-◌, ◌⊎◌, ◌&&◌, Bool, true, false, List, []}
+use Rattle.textwrap_marked.proofs.LineNames.{◌∷◌, ◌++◌, All-append, All-cons, All-nil, ap, append_assoc}
+use Rattle.textwrap_marked.proofs.LineNames.{arith, codes, ends_with, flat_map, get_or, inl, inr}
+use Rattle.textwrap_marked.proofs.LineNames.{length, map, nat_eq, None, Option, refl, reverse, Some}
+use Rattle.textwrap_marked.proofs.LineNames.{suc, suffix_len, sym, take, take_more, zero, ⊤, ◌∙◌, ap₂}
+use Rattle.textwrap_marked.proofs.LineNames.{suffix_len-le-length, ending_bytes, FenceText, is_return}
+use Rattle.textwrap_marked.proofs.LineNames.{line_of, LineText, new_fence, passed, StateText}
+use Rattle.textwrap_marked.proofs.LineNames.{without_returns, spaced_words}
 use Rattle.textwrap_text.specs.declared.line_ending.LineEnding.{LineEnding}
 use Rattle.textwrap_text.specs.declared.line_ending.LineEnding.TheVariants.{CRLF, LF}
 use Rattle.textwrap_marked.proofs.Common.{ending_if, kept_line}
@@ -18,8 +18,8 @@ use Rattle.textwrap_marked.proofs.BegunAlike.{return-ends}
 use Rattle.textwrap_marked.proofs.Feedless.{IsFeedless, NoFeed}
 use Rattle.textwrap_marked.proofs.ReturnsOff.{EndsWell, return_if, returns-off}
 use Rattle.textwrap_marked.proofs.TextBlocks.{AreOneBlock, last_line}
-use Rattle.textwrap_marked_lines.specs.Lines.{line_from}
-use Rattle.textwrap_marked_lines.specs.Prefixes.{prefix_ends}
+use Rattle.textwrap_marked.specs.Lines.{line_from}
+use Rattle.textwrap_marks.specs.Prefixes.{prefix_ends}
 
 abbrev pub returns_by : LineEnding → Bool
 returns_by LF = false

@@ -1,9 +1,9 @@
 -- How a new text begins, and how its first line ends.
-use Rattle.textwrap_marked_lines.proofs.Common.{◌≡◌, ℕ, ◌<◌, ◌≤◌, ◌⊎◌, ◌&&◌, ◌||◌, Bool, true, false, List}
-use Rattle.textwrap_marked_lines.proofs.Common.{[], ◌∷◌, ◌++◌, ap, append-nil, append_assoc, arith, codes}
-use Rattle.textwrap_marked_lines.proofs.Common.{ends_with, inl, inr, join_with_byte, length, nat_eq}
-use Rattle.textwrap_marked_lines.proofs.Common.{nat_lt, nat_tests, cases_Bool, ne_eqb, refl, starts_with}
-use Rattle.textwrap_marked_lines.proofs.Common.{sym, true≢false, ⊤, ◌∙◌, is_return, is_white}
+use Rattle.textwrap_marked.proofs.LineNames.{◌≡◌, ℕ, ◌<◌, ◌≤◌, ◌⊎◌, ◌&&◌, ◌||◌, Bool, true, false, List}
+use Rattle.textwrap_marked.proofs.LineNames.{[], ◌∷◌, ◌++◌, ap, append-nil, append_assoc, arith, codes}
+use Rattle.textwrap_marked.proofs.LineNames.{ends_with, inl, inr, join_with_byte, length, nat_eq}
+use Rattle.textwrap_marked.proofs.LineNames.{nat_lt, nat_tests, cases_Bool, ne_eqb, refl, starts_with}
+use Rattle.textwrap_marked.proofs.LineNames.{sym, true≢false, ⊤, ◌∙◌, is_return, is_white}
 use Rattle.textwrap_marked.proofs.Common.{byte_order_mark}
 use Rattle.textwrap_text.proofs.Lists.Parts.{ends_with-other, ends_with-true}
 use Rattle.textwrap_marked.proofs.FenceLeft.{EndsWord}

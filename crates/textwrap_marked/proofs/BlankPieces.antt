@@ -1,9 +1,9 @@
 -- Each piece ends in a blank; what holds of all pieces holds of those of each line.
-use Rattle.textwrap_marked_lines.proofs.Common.{◌≡◌, ℕ, Bool, true, false, cond, List, [], ◌∷◌, ◌++◌, All}
-use Rattle.textwrap_marked_lines.proofs.Common.{All-cons, All-head, All-map, All-nil, All-tail, All-weaker}
-use Rattle.textwrap_marked_lines.proofs.Common.{ap, append_assoc, flat_map, refl, subst, sym, ◌∙◌}
-use Rattle.textwrap_marked_lines.proofs.Common.{IsDivision, all-left, all-right, blank, word_of, WordText}
-use Rattle.textwrap_marked_lines.proofs.Common.{LineText}
+use Rattle.textwrap_marked.proofs.LineNames.{◌≡◌, ℕ, Bool, true, false, cond, List, [], ◌∷◌, ◌++◌, All}
+use Rattle.textwrap_marked.proofs.LineNames.{All-cons, All-head, All-map, All-nil, All-tail, All-weaker}
+use Rattle.textwrap_marked.proofs.LineNames.{ap, append_assoc, flat_map, refl, subst, sym, ◌∙◌}
+use Rattle.textwrap_marked.proofs.LineNames.{IsDivision, all-left, all-right, blank, word_of, WordText}
+use Rattle.textwrap_marked.proofs.LineNames.{LineText}
 use Rattle.textwrap_marked.proofs.Common.{piece_words, is_cut, pieces, words_of}
 use Rattle.textwrap_marks.specs.declared.options.ReflowOptions.{ReflowOptions}
 use Rattle.textwrap_marked.specs.Pieces.{onto_front, with_blank}

@@ -3,7 +3,7 @@ use Rattle.textwrap_text.proofs.Common.{◌≡◌, suc, true, false, cond, List,
 use Rattle.textwrap_text.proofs.Common.{refl, sym, ap, ◌∙◌}
 use Rattle.textwrap_marked.specs.Blocks.{blocks, goes_on}
 use Rattle.textwrap_marked.specs.Blocks.{later_len, with_line}
-use Rattle.textwrap_marked_lines.specs.Lines.{LineText}
+use Rattle.textwrap_marked.specs.Lines.{LineText}
 
 pub blocks-first : (line : LineText) (lines : List LineText)
     → blocks (line ∷ lines) ≡ (line ∷ take (later_len line lines) lines)

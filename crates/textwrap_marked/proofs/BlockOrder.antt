@@ -1,6 +1,6 @@
 -- What a list of blocks keeps to, if it is that of some lines.
-use Rattle.textwrap_marked_lines.proofs.Common.{◌≡◌, Bool, true, false, cond, List, [], ◌∷◌, ◌++◌, ap}
-use Rattle.textwrap_marked_lines.proofs.Common.{refl, ⊤, ◌∙◌, flat, LineText}
+use Rattle.textwrap_marked.proofs.LineNames.{◌≡◌, Bool, true, false, cond, List, [], ◌∷◌, ◌++◌, ap}
+use Rattle.textwrap_marked.proofs.LineNames.{refl, ⊤, ◌∙◌, flat, LineText}
 use Rattle.textwrap_marked.proofs.Common.{blocks, goes_on}
 use Rattle.textwrap_marked.proofs.TextBlocks.{AreOneBlock, last_line}
 use Rattle.textwrap_marked.specs.Blocks.{with_line}

@@ -1,6 +1,6 @@
 -- Blocks in the place of others that begin alike.
-use Rattle.textwrap_marked_lines.proofs.Common.{Option, ◌≡◌, ◌||◌, not, Bool, List, [], ◌∷◌, ap, refl}
-use Rattle.textwrap_marked_lines.proofs.Common.{subst, sym, ◌∙◌, flat, LineText}
+use Rattle.textwrap_marked.proofs.LineNames.{Option, ◌≡◌, ◌||◌, not, Bool, List, [], ◌∷◌, ap, refl}
+use Rattle.textwrap_marked.proofs.LineNames.{subst, sym, ◌∙◌, flat, LineText}
 use Rattle.textwrap_text.specs.declared.line_ending.LineEnding.{LineEnding}
 use Rattle.textwrap_marked.proofs.Common.{goes_on, is_beside, stays, AreSameParts, IsSameBy, Part}
 use Rattle.textwrap_marked.proofs.Common.{parts_of_blocks}

@@ -1,11 +1,11 @@
 -- What stays of a text, with an ending that is asked for, whichever endings its lines had before.
-use Rattle.textwrap_marked_lines.proofs.Common.{◌≡◌, ℕ, ◌<◌, Bool, true, false, List, [], ◌∷◌, ◌++◌, All}
-use Rattle.textwrap_marked_lines.proofs.Common.{All-head, All-tail, ap, append_assoc, append-nil, arith}
-use Rattle.textwrap_marked_lines.proofs.Common.{flat_map, length, length-slice_split, lt-ltb, nat_lt, None}
-use Rattle.textwrap_marked_lines.proofs.Common.{Option, refl, slice_split, Some, subst, sym, ⊤, ◌==◌, ◌∙◌}
-use Rattle.textwrap_marked_lines.proofs.Common.{ending_bytes, entered, first_state, flat, line_of}
-use Rattle.textwrap_marked_lines.proofs.Common.{lines_of, LineText, passed, read_lines, StateText}
-use Rattle.textwrap_marked_lines.proofs.Common.{with_titles, without_returns}
+use Rattle.textwrap_marked.proofs.LineNames.{◌≡◌, ℕ, ◌<◌, Bool, true, false, List, [], ◌∷◌, ◌++◌, All}
+use Rattle.textwrap_marked.proofs.LineNames.{All-head, All-tail, ap, append_assoc, append-nil, arith}
+use Rattle.textwrap_marked.proofs.LineNames.{flat_map, length, length-slice_split, lt-ltb, nat_lt, None}
+use Rattle.textwrap_marked.proofs.LineNames.{Option, refl, slice_split, Some, subst, sym, ⊤, ◌==◌, ◌∙◌}
+use Rattle.textwrap_marked.proofs.LineNames.{ending_bytes, entered, first_state, flat, line_of}
+use Rattle.textwrap_marked.proofs.LineNames.{lines_of, LineText, passed, read_lines, StateText}
+use Rattle.textwrap_marked.proofs.LineNames.{with_titles, without_returns}
 use Rattle.textwrap_text.specs.declared.line_ending.LineEnding.{LineEnding}
 use Rattle.textwrap_marked.proofs.Common.{AreSameParts, blocks, ending_if, is_beside, IsSameBy}
 use Rattle.textwrap_marked.proofs.Common.{kept_line, Part, parts_of_blocks, text_parts}

@@ -1,10 +1,10 @@
 -- How filled lines of a new text end.
-use Rattle.textwrap_marked_lines.proofs.Common.{Option, Some, ◌≡◌, ℕ, ◌&&◌, Bool, true, false, cond, List}
-use Rattle.textwrap_marked_lines.proofs.Common.{[], ◌∷◌, ◌++◌, ◌==◌, All, All-head, ap, append_assoc}
-use Rattle.textwrap_marked_lines.proofs.Common.{arith, codes, ends_with, flat_map, inl, inr, length}
-use Rattle.textwrap_marked_lines.proofs.Common.{nat_eq, nat_lt, None, refl, slice_split, subst, sym}
-use Rattle.textwrap_marked_lines.proofs.Common.{true≢false, ◌∙◌, all-left, all-right, length-slice_split}
-use Rattle.textwrap_marked_lines.proofs.Common.{LineText}
+use Rattle.textwrap_marked.proofs.LineNames.{Option, Some, ◌≡◌, ℕ, ◌&&◌, Bool, true, false, cond, List}
+use Rattle.textwrap_marked.proofs.LineNames.{[], ◌∷◌, ◌++◌, ◌==◌, All, All-head, ap, append_assoc}
+use Rattle.textwrap_marked.proofs.LineNames.{arith, codes, ends_with, flat_map, inl, inr, length}
+use Rattle.textwrap_marked.proofs.LineNames.{nat_eq, nat_lt, None, refl, slice_split, subst, sym}
+use Rattle.textwrap_marked.proofs.LineNames.{true≢false, ◌∙◌, all-left, all-right, length-slice_split}
+use Rattle.textwrap_marked.proofs.LineNames.{LineText}
 use Rattle.textwrap_text.specs.declared.line_ending.LineEnding.{LineEnding}
 use Rattle.textwrap_text.specs.declared.line_ending.LineEnding.TheVariants.{CRLF, LF}
 use Rattle.textwrap_marked.proofs.Common.{stays, break_white, ending_if, filled_end, filled_ending}

@@ -1,19 +1,19 @@
 -- The words, the prefixes and the hanging forms of the lines of a text have no line feed.
-use Rattle.textwrap_marked_lines.proofs.Common.{◌≡◌, ℕ, ◌-◌, Bool, true, false, cond, List, [], ◌∷◌, ◌++◌}
-use Rattle.textwrap_marked_lines.proofs.Common.{◌==◌, All, All-append, All-cons, All-head, All-map}
-use Rattle.textwrap_marked_lines.proofs.Common.{All-nil, All-tail, ap, codes, length, map, nat_lt, refl}
-use Rattle.textwrap_marked_lines.proofs.Common.{slice_split, subst, join_with_byte, onto_first, suffix_len}
-use Rattle.textwrap_marked_lines.proofs.Common.{sym, ◌∙◌, all-left, all-right, All-replicate, text_width}
-use Rattle.textwrap_marked_lines.proofs.Common.{without_returns, as_title, entered, is_return, line_of}
-use Rattle.textwrap_marked_lines.proofs.Common.{LineText, passed, StateText, is_opening, blanks}
-use Rattle.textwrap_marked_lines.proofs.Common.{hanging_bullets, hanging_comments, spaced_text, SpacedText}
+use Rattle.textwrap_marked.proofs.LineNames.{◌≡◌, ℕ, ◌-◌, Bool, true, false, cond, List, [], ◌∷◌, ◌++◌}
+use Rattle.textwrap_marked.proofs.LineNames.{◌==◌, All, All-append, All-cons, All-head, All-map}
+use Rattle.textwrap_marked.proofs.LineNames.{All-nil, All-tail, ap, codes, length, map, nat_lt, refl}
+use Rattle.textwrap_marked.proofs.LineNames.{slice_split, subst, join_with_byte, onto_first, suffix_len}
+use Rattle.textwrap_marked.proofs.LineNames.{sym, ◌∙◌, all-left, all-right, All-replicate, text_width}
+use Rattle.textwrap_marked.proofs.LineNames.{without_returns, as_title, entered, is_return, line_of}
+use Rattle.textwrap_marked.proofs.LineNames.{LineText, passed, StateText, is_opening, blanks}
+use Rattle.textwrap_marked.proofs.LineNames.{hanging_bullets, hanging_comments, spaced_text, SpacedText}
 use Rattle.textwrap_marks.specs.declared.options.ReflowOptions.{ReflowOptions}
 use Rattle.textwrap_text.proofs.Common.{All-take}
 use Rattle.std.proofs.lemmas.List.Splits.{slice_split_at, slice_split_none}
 use Rattle.textwrap_marked.proofs.LaterLines.{line-read}
 use Rattle.textwrap_marked.proofs.LineKinds.{line-is}
 use Rattle.textwrap_marked.proofs.TextBlocks.{line_at, read, read-more, title_of}
-use Rattle.textwrap_marked_lines.specs.Prefixes.{hanging_mark}
+use Rattle.textwrap_marked.specs.Hanging.{hanging_mark}
 
 abbrev pub NoFeed : ℕ → Type 0
 NoFeed c = (c == 10) ≡ false

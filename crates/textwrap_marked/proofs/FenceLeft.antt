@@ -1,15 +1,15 @@
 -- A line that begins as another one leaves the fence that it leaves.
-use Rattle.textwrap_marked_lines.proofs.Common.{◌≡◌, ℕ, ◌-◌, ◌<◌, ◌⊎◌, ◌||◌, not, Bool, true, false, cond}
-use Rattle.textwrap_marked_lines.proofs.Common.{List, [], ◌∷◌, ◌++◌, All, All-head, All-nil, ap}
-use Rattle.textwrap_marked_lines.proofs.Common.{append-nil, append_assoc, arith, drop, false_from_ne_true}
-use Rattle.textwrap_marked_lines.proofs.Common.{inl, inr, length, get_or, reverse, suc, zero, nat_eq, None}
-use Rattle.textwrap_marked_lines.proofs.Common.{Option, refl, Some, starts_with, subst, suffix_len}
-use Rattle.textwrap_marked_lines.proofs.Common.{length-append, sym, take-append-drop, true≢false, ⊤, ◌∙◌}
-use Rattle.textwrap_marked_lines.proofs.Common.{all-right, starts_with-rest, suffix_len-le-length}
-use Rattle.textwrap_marked_lines.proofs.Common.{FenceText, entered, fence_at, is_return, StateText}
-use Rattle.textwrap_marked_lines.proofs.Common.{without_returns, is_comment_at, comment_len, begins_text}
-use Rattle.textwrap_marked_lines.proofs.Common.{first_word, is_white, spaced_text, SpacedText}
-use Rattle.textwrap_marked_lines.proofs.Common.{spaced_words}
+use Rattle.textwrap_marked.proofs.LineNames.{◌≡◌, ℕ, ◌-◌, ◌<◌, ◌⊎◌, ◌||◌, not, Bool, true, false, cond}
+use Rattle.textwrap_marked.proofs.LineNames.{List, [], ◌∷◌, ◌++◌, All, All-head, All-nil, ap}
+use Rattle.textwrap_marked.proofs.LineNames.{append-nil, append_assoc, arith, drop, false_from_ne_true}
+use Rattle.textwrap_marked.proofs.LineNames.{inl, inr, length, get_or, reverse, suc, zero, nat_eq, None}
+use Rattle.textwrap_marked.proofs.LineNames.{Option, refl, Some, starts_with, subst, suffix_len}
+use Rattle.textwrap_marked.proofs.LineNames.{length-append, sym, take-append-drop, true≢false, ⊤, ◌∙◌}
+use Rattle.textwrap_marked.proofs.LineNames.{all-right, starts_with-rest, suffix_len-le-length}
+use Rattle.textwrap_marked.proofs.LineNames.{FenceText, entered, fence_at, is_return, StateText}
+use Rattle.textwrap_marked.proofs.LineNames.{without_returns, is_comment_at, comment_len, begins_text}
+use Rattle.textwrap_marked.proofs.LineNames.{first_word, is_white, spaced_text, SpacedText}
+use Rattle.textwrap_marked.proofs.LineNames.{spaced_words}
 use Rattle.textwrap_marks.specs.declared.options.ReflowOptions.{ReflowOptions}
 use Rattle.textwrap_text.proofs.Common.{drop_all, drop_more}
 use Rattle.textwrap_text.proofs.Lists.Parts.{starts_with-true}

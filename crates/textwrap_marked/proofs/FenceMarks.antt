@@ -1,14 +1,14 @@
 -- The marks before an open fence are no words of a text.
-use Rattle.textwrap_marked_lines.proofs.Common.{◌≡◌, ℕ, ◌+◌, ◌-◌, ◌<◌, ◌&&◌, ◌||◌, not, Bool, true, false}
-use Rattle.textwrap_marked_lines.proofs.Common.{cond, List, [], ◌∷◌, ◌++◌, All, All-head, All-tail, ap}
-use Rattle.textwrap_marked_lines.proofs.Common.{arith, All-weaker, codes, drop, false_from_ne_true, length}
-use Rattle.textwrap_marked_lines.proofs.Common.{None, Option, prefix_len, refl, Some, subst, suc}
-use Rattle.textwrap_marked_lines.proofs.Common.{suffix_len, sym, take-append-drop, append-nil, true≢false}
-use Rattle.textwrap_marked_lines.proofs.Common.{⊤, ◌∙◌, bytes_eq-Decides, is_some, FenceText, entered}
-use Rattle.textwrap_marked_lines.proofs.Common.{fence_at, line_of, LineText, new_fence, passed, StateText}
-use Rattle.textwrap_marked_lines.proofs.Common.{without_returns, is_comment_at, is_quote, begins_text}
-use Rattle.textwrap_marked_lines.proofs.Common.{closes_block, has_letter, is_white, spaced_text}
-use Rattle.textwrap_marked_lines.proofs.Common.{SpacedText}
+use Rattle.textwrap_marked.proofs.LineNames.{◌≡◌, ℕ, ◌+◌, ◌-◌, ◌<◌, ◌&&◌, ◌||◌, not, Bool, true, false}
+use Rattle.textwrap_marked.proofs.LineNames.{cond, List, [], ◌∷◌, ◌++◌, All, All-head, All-tail, ap}
+use Rattle.textwrap_marked.proofs.LineNames.{arith, All-weaker, codes, drop, false_from_ne_true, length}
+use Rattle.textwrap_marked.proofs.LineNames.{None, Option, prefix_len, refl, Some, subst, suc}
+use Rattle.textwrap_marked.proofs.LineNames.{suffix_len, sym, take-append-drop, append-nil, true≢false}
+use Rattle.textwrap_marked.proofs.LineNames.{⊤, ◌∙◌, bytes_eq-Decides, is_some, FenceText, entered}
+use Rattle.textwrap_marked.proofs.LineNames.{fence_at, line_of, LineText, new_fence, passed, StateText}
+use Rattle.textwrap_marked.proofs.LineNames.{without_returns, is_comment_at, is_quote, begins_text}
+use Rattle.textwrap_marked.proofs.LineNames.{closes_block, has_letter, is_white, spaced_text}
+use Rattle.textwrap_marked.proofs.LineNames.{SpacedText}
 use Rattle.textwrap_marks.specs.declared.options.ReflowOptions.{ReflowOptions}
 use Rattle.textwrap_text.proofs.Common.{option_map}
 use Rattle.textwrap_marked.proofs.HangingForms.{IsHanging, hanging-is}
@@ -16,13 +16,13 @@ use Rattle.textwrap_marked.proofs.HangingKinds.{AreMarks, before-full}
 use Rattle.textwrap_marked.proofs.LaterLines.{line-read}
 use Rattle.textwrap_marks.proofs.Letterless.{quote-plain, star-plain}
 use Rattle.textwrap_marked.proofs.LineKinds.{has_opening_in, kinds, line-is, line_by}
-use Rattle.textwrap_marked_lines.proofs.OpenBehind.{text-letter}
+use Rattle.textwrap_marked.proofs.OpenBehind.{text-letter}
 use Rattle.textwrap_marked.proofs.ParagraphLines.{all-spaced, regroup}
 use Rattle.textwrap_marked.proofs.SpacedBack.{AreSpaced, IsInk, IsWhite, spaced-first}
 use Rattle.textwrap_marks.specs.Columns.{behind_white, marks_of}
 use Rattle.textwrap_marked.proofs.WordsIn.{IsPlain}
 use Rattle.textwrap_marks.specs.Fences.{is_closed_by, is_left_by, opened}
-use Rattle.textwrap_marked_lines.specs.Lines.{is_in_block}
+use Rattle.textwrap_marked.specs.Lines.{is_in_block}
 use Rattle.textwrap_marks.specs.declared.fences.FenceKind.{FenceKind}
 
 -- a word that no text begins with

@@ -1,12 +1,12 @@
 -- What is printed of a paragraph before other blocks, read again.
-use Rattle.textwrap_marked_lines.proofs.Common.{◌≡◌, ◌≢◌, ℕ, ◌&&◌, ◌||◌, Bool, true, false, List, [], ◌∷◌}
-use Rattle.textwrap_marked_lines.proofs.Common.{◌++◌, All, All-append, All-cons, All-head, All-nil}
-use Rattle.textwrap_marked_lines.proofs.Common.{All-tail, inr, ap, append-nil, append_assoc, arith}
-use Rattle.textwrap_marked_lines.proofs.Common.{flat_map, length, lt-ltb, map, nat_lt, None, refl, subst}
-use Rattle.textwrap_marked_lines.proofs.Common.{sym, ◌∙◌, all-right, flat, ap₂, flat_map-append, as_title}
-use Rattle.textwrap_marked_lines.proofs.Common.{entered, fence_at, is_return, line_of, LineText, passed}
-use Rattle.textwrap_marked_lines.proofs.Common.{StateText, without_returns, begins_text, first_word}
-use Rattle.textwrap_marked_lines.proofs.Common.{opens_paragraph, has_letter, spaced_text, SpacedText}
+use Rattle.textwrap_marked.proofs.LineNames.{◌≡◌, ◌≢◌, ℕ, ◌&&◌, ◌||◌, Bool, true, false, List, [], ◌∷◌}
+use Rattle.textwrap_marked.proofs.LineNames.{◌++◌, All, All-append, All-cons, All-head, All-nil}
+use Rattle.textwrap_marked.proofs.LineNames.{All-tail, inr, ap, append-nil, append_assoc, arith}
+use Rattle.textwrap_marked.proofs.LineNames.{flat_map, length, lt-ltb, map, nat_lt, None, refl, subst}
+use Rattle.textwrap_marked.proofs.LineNames.{sym, ◌∙◌, all-right, flat, ap₂, flat_map-append, as_title}
+use Rattle.textwrap_marked.proofs.LineNames.{entered, fence_at, is_return, line_of, LineText, passed}
+use Rattle.textwrap_marked.proofs.LineNames.{StateText, without_returns, begins_text, first_word}
+use Rattle.textwrap_marked.proofs.LineNames.{opens_paragraph, has_letter, spaced_text, SpacedText}
 use Rattle.textwrap_marked.proofs.Common.{is_beside, stays, from_letter, HasPlainMarkers, IsSameBy}
 use Rattle.textwrap_marked.proofs.Common.{line_sense, words_of, break_white, ending_if, filled_end}
 use Rattle.textwrap_marked.proofs.Common.{printed}
@@ -28,7 +28,7 @@ use Rattle.textwrap_marked.proofs.LineWords.{all_shown, AreCutInto, gap, MayPart
 use Rattle.textwrap_marked.proofs.NewBlock.{block_of, first-of-words, first_of, IsParagraph, renew}
 use Rattle.textwrap_marked.proofs.NewLines.{here-words, later_raws, line_raw, raw-text, returns_at}
 use Rattle.textwrap_marked.proofs.NewLines.{text-ends, text_end, end-white}
-use Rattle.textwrap_marked_lines.proofs.OpenBehind.{behind_text, text-letter}
+use Rattle.textwrap_marked.proofs.OpenBehind.{behind_text, text-letter}
 use Rattle.textwrap_marked.proofs.ParagraphLines.{first-begins, first-parts, first-text}
 use Rattle.textwrap_marked.proofs.ParagraphLines.{first-unfenced, regroup, text-parts}
 use Rattle.textwrap_marked.proofs.PrintedText.{break-again, break-same, break-spaced, ends_as}

@@ -1,7 +1,7 @@
 -- What the laws say of a part.
-use Rattle.textwrap_marked_lines.proofs.Common.{◌≡◌, ℕ, Bool, true, false, List, [], ◌∷◌, ◌++◌, ap, arith, ◌&&◌}
-use Rattle.textwrap_marked_lines.proofs.Common.{flat_map, length, nat_lt, None, subst, sym, ◌∙◌}
-use Rattle.textwrap_marked_lines.proofs.Common.{IsDivision, IsDividedBy, sizes_of, WordText, LineText}
+use Rattle.textwrap_marked.proofs.LineNames.{◌≡◌, ℕ, Bool, true, false, List, [], ◌∷◌, ◌++◌, ap, arith, ◌&&◌}
+use Rattle.textwrap_marked.proofs.LineNames.{flat_map, length, nat_lt, None, subst, sym, ◌∙◌}
+use Rattle.textwrap_marked.proofs.LineNames.{IsDivision, IsDividedBy, sizes_of, WordText, LineText}
 use Rattle.textwrap_marked.proofs.Common.{Part, piece_words, algorithm_of, first_room, IsOfBlock}
 use Rattle.textwrap_marked.proofs.Common.{filled_end, kept_line, later_room, line_text, line_texts}
 use Rattle.textwrap_marked.proofs.Common.{printed, words_in}

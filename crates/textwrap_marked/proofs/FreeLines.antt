@@ -1,18 +1,18 @@
 -- Lines that do not stand apart, by themselves, and what is open behind them.
-use Rattle.textwrap_marked_lines.proofs.Common.{◌≡◌, ℕ, ◌&&◌, ◌||◌, not, Bool, true, false, cond, List, []}
-use Rattle.textwrap_marked_lines.proofs.Common.{◌∷◌, ap, arith, cases_Bool, codes, length, ne_eqb, None}
-use Rattle.textwrap_marked_lines.proofs.Common.{Option, refl, Some, sym, true≢false, ◌∙◌, bytes_eq}
-use Rattle.textwrap_marked_lines.proofs.Common.{is_some, FenceText, has_words, passed, StateText}
-use Rattle.textwrap_marked_lines.proofs.Common.{begins_text, closes_block, closes_early, first_word}
-use Rattle.textwrap_marked_lines.proofs.Common.{has_columns, is_key, has_byte, SpacedText}
+use Rattle.textwrap_marked.proofs.LineNames.{◌≡◌, ℕ, ◌&&◌, ◌||◌, not, Bool, true, false, cond, List, []}
+use Rattle.textwrap_marked.proofs.LineNames.{◌∷◌, ap, arith, cases_Bool, codes, length, ne_eqb, None}
+use Rattle.textwrap_marked.proofs.LineNames.{Option, refl, Some, sym, true≢false, ◌∙◌, bytes_eq}
+use Rattle.textwrap_marked.proofs.LineNames.{is_some, FenceText, has_words, passed, StateText}
+use Rattle.textwrap_marked.proofs.LineNames.{begins_text, closes_block, closes_early, first_word}
+use Rattle.textwrap_marked.proofs.LineNames.{has_columns, is_key, has_byte, SpacedText}
 use Rattle.textwrap_marks.specs.declared.options.ReflowOptions.{ReflowOptions}
 use Rattle.std.specs.Str.{chars}
 use Rattle.std.proofs.Math.Bool.{and-false}
 use Rattle.textwrap_marked.proofs.LineKinds.{hanging_of, has_opening_in, Kinds, line_by}
 use Rattle.textwrap_marks.proofs.Letterless.{dollar-plain, prompt-plain}
-use Rattle.textwrap_marked_lines.proofs.OpenBehind.{behind_text, no-columns, opened-none, passed-is}
-use Rattle.textwrap_marked_lines.proofs.OpenBehind.{text-other}
-use Rattle.textwrap_marked_lines.specs.Lines.{is_deep, is_prompt, is_prompted, stands_apart}
+use Rattle.textwrap_marked.proofs.OpenBehind.{behind_text, no-columns, opened-none, passed-is}
+use Rattle.textwrap_marked.proofs.OpenBehind.{text-other}
+use Rattle.textwrap_marked.specs.Lines.{is_deep, is_prompt, is_prompted, stands_apart}
 
 abbrev pub block_at : StateText → Kinds → Bool
 block_at state k = state.in_block || has_opening_in k.comments

@@ -1,11 +1,11 @@
 -- A hanging form is white and marks that a line behind it is read with.
-use Rattle.textwrap_marked_lines.proofs.Common.{◌≡◌, ℕ, suc, ◌≤◌, ◌||◌, Bool, true, false, cond, List, []}
-use Rattle.textwrap_marked_lines.proofs.Common.{◌∷◌, ◌++◌, All, All-append, All-cons, All-head, All-nil}
-use Rattle.textwrap_marked_lines.proofs.Common.{All-tail, ap, arith, length, refl, subst, sym, take}
-use Rattle.textwrap_marked_lines.proofs.Common.{true≢false, ◌∙◌, all-left, all-right, or-false}
-use Rattle.textwrap_marked_lines.proofs.Common.{All-replicate, text_width, is_comment_at, is_opening}
-use Rattle.textwrap_marked_lines.proofs.Common.{is_quote, blanks, comment_len, hanging_bullets}
-use Rattle.textwrap_marked_lines.proofs.Common.{spaced_text, SpacedText}
+use Rattle.textwrap_marked.proofs.LineNames.{◌≡◌, ℕ, suc, ◌≤◌, ◌||◌, Bool, true, false, cond, List, []}
+use Rattle.textwrap_marked.proofs.LineNames.{◌∷◌, ◌++◌, All, All-append, All-cons, All-head, All-nil}
+use Rattle.textwrap_marked.proofs.LineNames.{All-tail, ap, arith, length, refl, subst, sym, take}
+use Rattle.textwrap_marked.proofs.LineNames.{true≢false, ◌∙◌, all-left, all-right, or-false}
+use Rattle.textwrap_marked.proofs.LineNames.{All-replicate, text_width, is_comment_at, is_opening}
+use Rattle.textwrap_marked.proofs.LineNames.{is_quote, blanks, comment_len, hanging_bullets}
+use Rattle.textwrap_marked.proofs.LineNames.{spaced_text, SpacedText}
 use Rattle.textwrap_marks.specs.declared.options.ReflowOptions.{ReflowOptions}
 use Rattle.textwrap_marked.proofs.HangingKinds.{AreMarks, end-text, end_comments, end_lead}
 use Rattle.textwrap_marked.proofs.HangingKinds.{hang-text, hang_lead, hang_marks, IsFull, last-all}

@@ -1,13 +1,13 @@
 -- The words of a hanging form by kind, and how a line behind one is read.
-use Rattle.textwrap_marked_lines.proofs.Common.{◌≡◌, ℕ, suc, ◌+◌, ◌<◌, ◌≤◌, ◌||◌, Bool, true, false, cond}
-use Rattle.textwrap_marked_lines.proofs.Common.{List, [], ◌∷◌, ◌++◌, All, All-append, All-cons, All-head}
-use Rattle.textwrap_marked_lines.proofs.Common.{All-nil, All-tail, ap, append_assoc, append-nil, arith}
-use Rattle.textwrap_marked_lines.proofs.Common.{codes, length, length-append, refl, subst, sym, take}
-use Rattle.textwrap_marked_lines.proofs.Common.{true≢false, ◌∙◌, false_from_ne_true, zero, bytes_eq}
-use Rattle.textwrap_marked_lines.proofs.Common.{flat_map-append, bytes_eq-Decides, text_width}
-use Rattle.textwrap_marked_lines.proofs.Common.{is_comment_at, is_opening, is_quote, blanks, bullets_len}
-use Rattle.textwrap_marked_lines.proofs.Common.{comment_len, hanging_comments, quotes_len, spaced_text}
-use Rattle.textwrap_marked_lines.proofs.Common.{SpacedText}
+use Rattle.textwrap_marked.proofs.LineNames.{◌≡◌, ℕ, suc, ◌+◌, ◌<◌, ◌≤◌, ◌||◌, Bool, true, false, cond}
+use Rattle.textwrap_marked.proofs.LineNames.{List, [], ◌∷◌, ◌++◌, All, All-append, All-cons, All-head}
+use Rattle.textwrap_marked.proofs.LineNames.{All-nil, All-tail, ap, append_assoc, append-nil, arith}
+use Rattle.textwrap_marked.proofs.LineNames.{codes, length, length-append, refl, subst, sym, take}
+use Rattle.textwrap_marked.proofs.LineNames.{true≢false, ◌∙◌, false_from_ne_true, zero, bytes_eq}
+use Rattle.textwrap_marked.proofs.LineNames.{flat_map-append, bytes_eq-Decides, text_width}
+use Rattle.textwrap_marked.proofs.LineNames.{is_comment_at, is_opening, is_quote, blanks, bullets_len}
+use Rattle.textwrap_marked.proofs.LineNames.{comment_len, hanging_comments, quotes_len, spaced_text}
+use Rattle.textwrap_marked.proofs.LineNames.{SpacedText}
 use Rattle.textwrap_marks.specs.declared.options.ReflowOptions.{ReflowOptions}
 use Rattle.textwrap_text.proofs.Common.{if◌then◌else◌, nil_from_length}
 use Rattle.textwrap_text.proofs.Lists.Parts.{same_parts}

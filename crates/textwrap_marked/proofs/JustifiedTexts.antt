@@ -1,10 +1,10 @@
 -- The printed lines of a division are lines of the paragraph's words, with blanks between them.
-use Rattle.textwrap_marked_lines.proofs.Common.{◌≡◌, ◌≢◌, ℕ, ◌+◌, ◌-◌, ◌<◌, ◌≤◌, Bool, true, false, cond}
-use Rattle.textwrap_marked_lines.proofs.Common.{List, [], ◌∷◌, ◌++◌, All, All-head, All-tail, ap}
-use Rattle.textwrap_marked_lines.proofs.Common.{append_assoc, append-nil, arith, drop, length, map, nat_lt}
-use Rattle.textwrap_marked_lines.proofs.Common.{ne_eqb, onto_first, refl, subst, sym, take, ◌==◌, ◌&&◌}
-use Rattle.textwrap_marked_lines.proofs.Common.{◌||◌, not, ◌∙◌, all-left, all-right, flat, blank, is_blank}
-use Rattle.textwrap_marked_lines.proofs.Common.{word_of, WordText, covered, LineText, blanks}
+use Rattle.textwrap_marked.proofs.LineNames.{◌≡◌, ◌≢◌, ℕ, ◌+◌, ◌-◌, ◌<◌, ◌≤◌, Bool, true, false, cond}
+use Rattle.textwrap_marked.proofs.LineNames.{List, [], ◌∷◌, ◌++◌, All, All-head, All-tail, ap}
+use Rattle.textwrap_marked.proofs.LineNames.{append_assoc, append-nil, arith, drop, length, map, nat_lt}
+use Rattle.textwrap_marked.proofs.LineNames.{ne_eqb, onto_first, refl, subst, sym, take, ◌==◌, ◌&&◌}
+use Rattle.textwrap_marked.proofs.LineNames.{◌||◌, not, ◌∙◌, all-left, all-right, flat, blank, is_blank}
+use Rattle.textwrap_marked.proofs.LineNames.{word_of, WordText, covered, LineText, blanks}
 use Rattle.textwrap_marked.proofs.Common.{pieces, first_room, later_room, line_text, line_texts}
 use Rattle.textwrap_marked.proofs.Common.{shown_lines}
 use Rattle.textwrap_marks.specs.declared.options.ReflowOptions.{ReflowOptions}

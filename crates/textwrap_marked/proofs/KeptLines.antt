@@ -1,12 +1,12 @@
 -- Lines that stay, read again before others that begin alike.
-use Rattle.textwrap_marked_lines.proofs.Common.{◌≡◌, ℕ, ◌-◌, ◌<◌, ◌&&◌, Bool, true, false, List, [], ◌∷◌}
-use Rattle.textwrap_marked_lines.proofs.Common.{◌++◌, All, All-cons, All-head, All-tail, ap, append-nil}
-use Rattle.textwrap_marked_lines.proofs.Common.{append_assoc, arith, codes, drop, flat_map, inl, inr}
-use Rattle.textwrap_marked_lines.proofs.Common.{join_with_byte, length, lt-ltb, map, nat_lt, None, Option}
-use Rattle.textwrap_marked_lines.proofs.Common.{refl, Some, suc, suffix_len, sym, take-append-drop, ⊤, ◌∙◌}
-use Rattle.textwrap_marked_lines.proofs.Common.{ap₂, bytes_eq, as_title, entered, is_return, line_of}
-use Rattle.textwrap_marked_lines.proofs.Common.{LineText, passed, StateText, without_returns, first_word}
-use Rattle.textwrap_marked_lines.proofs.Common.{opens_paragraph}
+use Rattle.textwrap_marked.proofs.LineNames.{◌≡◌, ℕ, ◌-◌, ◌<◌, ◌&&◌, Bool, true, false, List, [], ◌∷◌}
+use Rattle.textwrap_marked.proofs.LineNames.{◌++◌, All, All-cons, All-head, All-tail, ap, append-nil}
+use Rattle.textwrap_marked.proofs.LineNames.{append_assoc, arith, codes, drop, flat_map, inl, inr}
+use Rattle.textwrap_marked.proofs.LineNames.{join_with_byte, length, lt-ltb, map, nat_lt, None, Option}
+use Rattle.textwrap_marked.proofs.LineNames.{refl, Some, suc, suffix_len, sym, take-append-drop, ⊤, ◌∙◌}
+use Rattle.textwrap_marked.proofs.LineNames.{ap₂, bytes_eq, as_title, entered, is_return, line_of}
+use Rattle.textwrap_marked.proofs.LineNames.{LineText, passed, StateText, without_returns, first_word}
+use Rattle.textwrap_marked.proofs.LineNames.{opens_paragraph}
 use Rattle.textwrap_text.specs.declared.line_ending.LineEnding.{LineEnding}
 use Rattle.textwrap_marked.proofs.Common.{from_letter, line_sense, words_in, ending_if, kept_line}
 use Rattle.textwrap_marks.specs.declared.options.ReflowOptions.{ReflowOptions}

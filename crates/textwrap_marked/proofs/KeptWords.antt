@@ -1,8 +1,8 @@
 -- The lines of a paragraph, as they are printed, have its words in order.
-use Rattle.textwrap_marked_lines.proofs.Common.{◌≡◌, ℕ, Bool, List, [], ◌∷◌, ◌++◌, All}
-use Rattle.textwrap_marked_lines.proofs.Common.{All-append, All-head, All-map, All-nil, All-tail, ap}
-use Rattle.textwrap_marked_lines.proofs.Common.{flat_map, length, map, refl, subst, sym, ◌∙◌, all-left}
-use Rattle.textwrap_marked_lines.proofs.Common.{all-right, word_of, WordText, LineText}
+use Rattle.textwrap_marked.proofs.LineNames.{◌≡◌, ℕ, Bool, List, [], ◌∷◌, ◌++◌, All}
+use Rattle.textwrap_marked.proofs.LineNames.{All-append, All-head, All-map, All-nil, All-tail, ap}
+use Rattle.textwrap_marked.proofs.LineNames.{flat_map, length, map, refl, subst, sym, ◌∙◌, all-left}
+use Rattle.textwrap_marked.proofs.LineNames.{all-right, word_of, WordText, LineText}
 use Rattle.textwrap_marked.proofs.Common.{piece_words, words_in, pieces, words_of, first_room}
 use Rattle.textwrap_marked.proofs.Common.{later_room, line_texts, shown_lines}
 use Rattle.textwrap_marks.specs.declared.options.ReflowOptions.{ReflowOptions}

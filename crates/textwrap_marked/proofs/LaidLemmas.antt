@@ -4,9 +4,9 @@ use Rattle.textwrap_text.proofs.Common.{arith, get_or, length, refl, subst, sym}
 use Rattle.textwrap_marked.proofs.BlockLemmas.{blocks-first}
 use Rattle.textwrap_marked.specs.Blocks.{behind_block, blocks, first_block, is_beside}
 use Rattle.textwrap_marked.specs.Blocks.{stays}
-use Rattle.textwrap_marked_lines.specs.Lines.{LineText, line_view}
+use Rattle.textwrap_marked.specs.Lines.{LineText, line_view}
 use Rattle.textwrap_marked.specs.Reflow.{AreOfBlocks, IsOfBlock}
-use Rattle.textwrap_marked_lines.specs.declared.line.Line.{Line}
+use Rattle.textwrap_marked.specs.declared.line.Line.{Line}
 use Rattle.textwrap_marks.specs.declared.options.ReflowOptions.{ReflowOptions}
 
 -- the lines of the first block begin with the first line

@@ -1,20 +1,20 @@
 -- Lines of a paragraph, and lines of other words behind the same marks.
-use Rattle.textwrap_marked_lines.proofs.Common.{◌≡◌, ℕ, suc, ◌+◌, ◌<◌, ◌&&◌, Bool, true, false, cond, List}
-use Rattle.textwrap_marked_lines.proofs.Common.{[], ◌∷◌, ◌++◌, ap, arith, codes, length, length-append}
-use Rattle.textwrap_marked_lines.proofs.Common.{refl, subst, sym, true≢false, ◌∙◌, bytes_eq, has_words}
-use Rattle.textwrap_marked_lines.proofs.Common.{is_ended, LineText, passed, StateText, without_returns}
-use Rattle.textwrap_marked_lines.proofs.Common.{is_bullet, is_comment_at, is_quote, bullets_len}
-use Rattle.textwrap_marked_lines.proofs.Common.{comment_len, hanging_bullets, quotes_len, begins_text}
-use Rattle.textwrap_marked_lines.proofs.Common.{closes_block, closes_early, first_word, has_columns}
-use Rattle.textwrap_marked_lines.proofs.Common.{SpacedText}
+use Rattle.textwrap_marked.proofs.LineNames.{◌≡◌, ℕ, suc, ◌+◌, ◌<◌, ◌&&◌, Bool, true, false, cond, List}
+use Rattle.textwrap_marked.proofs.LineNames.{[], ◌∷◌, ◌++◌, ap, arith, codes, length, length-append}
+use Rattle.textwrap_marked.proofs.LineNames.{refl, subst, sym, true≢false, ◌∙◌, bytes_eq, has_words}
+use Rattle.textwrap_marked.proofs.LineNames.{is_ended, LineText, passed, StateText, without_returns}
+use Rattle.textwrap_marked.proofs.LineNames.{is_bullet, is_comment_at, is_quote, bullets_len}
+use Rattle.textwrap_marked.proofs.LineNames.{comment_len, hanging_bullets, quotes_len, begins_text}
+use Rattle.textwrap_marked.proofs.LineNames.{closes_block, closes_early, first_word, has_columns}
+use Rattle.textwrap_marked.proofs.LineNames.{SpacedText}
 use Rattle.textwrap_marks.specs.declared.options.ReflowOptions.{ReflowOptions}
 use Rattle.textwrap_marked.proofs.FreeLines.{apart-free, behind-free, block_at, begun, starred_at}
 use Rattle.textwrap_marked.proofs.HangingKinds.{quotes-all, quotes-are}
 use Rattle.textwrap_marked.proofs.LineKinds.{none-if, hanging_of, HaveKinds, Kinds, kinds-cut}
 use Rattle.textwrap_marked.proofs.LineKinds.{line_by, one_if}
-use Rattle.textwrap_marked_lines.proofs.OpenBehind.{behind_text}
+use Rattle.textwrap_marked.proofs.OpenBehind.{behind_text}
 use Rattle.textwrap_marked.proofs.SpacedBack.{AreSpaced, IsLineText, line-text}
-use Rattle.textwrap_marked_lines.specs.Prefixes.{is_box}
+use Rattle.textwrap_marks.specs.Prefixes.{is_box}
 
 -- ---- what is read of a line
 

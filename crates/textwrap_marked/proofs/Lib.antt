@@ -51,3 +51,5 @@ pub mod TextParts
 pub mod WithinLemmas
 pub mod WordEnds
 pub mod WordsIn
+pub mod LineNames
+pub mod OpenBehind

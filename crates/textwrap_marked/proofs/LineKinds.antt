@@ -1,21 +1,21 @@
 -- What is read of a line, from its words by kind: a comment mark, quote marks, bullets and text.
-use Rattle.textwrap_marked_lines.proofs.Common.{◌≡◌, ℕ, suc, ◌+◌, ◌-◌, ◌==◌, ◌&&◌, ◌||◌, not, Bool, true}
-use Rattle.textwrap_marked_lines.proofs.Common.{false, cond, List, [], ◌∷◌, ◌++◌, ap, append_assoc}
-use Rattle.textwrap_marked_lines.proofs.Common.{append-nil, arith, drop, length, length-append, list_any}
-use Rattle.textwrap_marked_lines.proofs.Common.{refl, cases_Bool, take-append-drop, ◌≤◌, sym, take, ◌∙◌}
-use Rattle.textwrap_marked_lines.proofs.Common.{nat_lt, lt-ltb, ne_eqb, ◌<◌, is_some, is_ended, line_of}
-use Rattle.textwrap_marked_lines.proofs.Common.{LineText, StateText, without_returns, is_bullet}
-use Rattle.textwrap_marked_lines.proofs.Common.{is_comment_at, is_opening, bullets_len, comment_len}
-use Rattle.textwrap_marked_lines.proofs.Common.{hanging_bullets, hanging_comments, quotes_len}
-use Rattle.textwrap_marked_lines.proofs.Common.{closes_block, first_word, is_key, has_byte, spaced_text}
-use Rattle.textwrap_marked_lines.proofs.Common.{SpacedText, spaced_words}
+use Rattle.textwrap_marked.proofs.LineNames.{◌≡◌, ℕ, suc, ◌+◌, ◌-◌, ◌==◌, ◌&&◌, ◌||◌, not, Bool, true}
+use Rattle.textwrap_marked.proofs.LineNames.{false, cond, List, [], ◌∷◌, ◌++◌, ap, append_assoc}
+use Rattle.textwrap_marked.proofs.LineNames.{append-nil, arith, drop, length, length-append, list_any}
+use Rattle.textwrap_marked.proofs.LineNames.{refl, cases_Bool, take-append-drop, ◌≤◌, sym, take, ◌∙◌}
+use Rattle.textwrap_marked.proofs.LineNames.{nat_lt, lt-ltb, ne_eqb, ◌<◌, is_some, is_ended, line_of}
+use Rattle.textwrap_marked.proofs.LineNames.{LineText, StateText, without_returns, is_bullet}
+use Rattle.textwrap_marked.proofs.LineNames.{is_comment_at, is_opening, bullets_len, comment_len}
+use Rattle.textwrap_marked.proofs.LineNames.{hanging_bullets, hanging_comments, quotes_len}
+use Rattle.textwrap_marked.proofs.LineNames.{closes_block, first_word, is_key, has_byte, spaced_text}
+use Rattle.textwrap_marked.proofs.LineNames.{SpacedText, spaced_words}
 use Rattle.textwrap_marks.specs.declared.options.ReflowOptions.{ReflowOptions}
 use Rattle.textwrap_text.proofs.Common.{drop_at, length-take-le, slice_range, take_at, eq-eqb}
 use Rattle.textwrap_marked.proofs.SpacedBack.{begins-plain, BeginsPlain, IsLineText, line-back}
 use Rattle.textwrap_marked.proofs.SpacedBack.{with_lead}
-use Rattle.textwrap_marked_lines.specs.Lines.{is_chosen, is_deep, line_from, stands_apart}
-use Rattle.textwrap_marked_lines.specs.Prefixes.{is_box, lead_len, prefix_ends}
-use Rattle.textwrap_marked_lines.specs.declared.prefixes.PrefixEnds.{PrefixEnds}
+use Rattle.textwrap_marked.specs.Lines.{is_chosen, is_deep, line_from, stands_apart}
+use Rattle.textwrap_marks.specs.Prefixes.{is_box, lead_len, prefix_ends}
+use Rattle.textwrap_marks.specs.declared.prefixes.PrefixEnds.{PrefixEnds}
 
 -- ---- what is read of words by kind
 

@@ -1,11 +1,11 @@
 -- The words of a line from the first on that has a letter: those of a text behind marks.
-use Rattle.textwrap_marked_lines.proofs.Common.{◌≡◌, ℕ, ◌||◌, Bool, true, false, cond, List, [], ◌∷◌, ◌++◌}
-use Rattle.textwrap_marked_lines.proofs.Common.{All, All-append, All-head, All-map, All-tail, All-weaker}
-use Rattle.textwrap_marked_lines.proofs.Common.{ap, append_assoc, false_from_ne_true, map, refl, sym}
-use Rattle.textwrap_marked_lines.proofs.Common.{true≢false, ◌∙◌, bytes_eq-Decides, bytes_eq, line_of}
-use Rattle.textwrap_marked_lines.proofs.Common.{LineText, StateText, without_returns, is_among}
-use Rattle.textwrap_marked_lines.proofs.Common.{is_comment_at, is_quote, begins_text, first_word}
-use Rattle.textwrap_marked_lines.proofs.Common.{has_letter, spaced_text, SpacedText}
+use Rattle.textwrap_marked.proofs.LineNames.{◌≡◌, ℕ, ◌||◌, Bool, true, false, cond, List, [], ◌∷◌, ◌++◌}
+use Rattle.textwrap_marked.proofs.LineNames.{All, All-append, All-head, All-map, All-tail, All-weaker}
+use Rattle.textwrap_marked.proofs.LineNames.{ap, append_assoc, false_from_ne_true, map, refl, sym}
+use Rattle.textwrap_marked.proofs.LineNames.{true≢false, ◌∙◌, bytes_eq-Decides, bytes_eq, line_of}
+use Rattle.textwrap_marked.proofs.LineNames.{LineText, StateText, without_returns, is_among}
+use Rattle.textwrap_marked.proofs.LineNames.{is_comment_at, is_quote, begins_text, first_word}
+use Rattle.textwrap_marked.proofs.LineNames.{has_letter, spaced_text, SpacedText}
 use Rattle.textwrap_marked.proofs.Common.{from_letter, HasPlainMarkers, line_sense}
 use Rattle.textwrap_marks.specs.declared.options.ReflowOptions.{ReflowOptions}
 use Rattle.textwrap_text.proofs.Common.{map-append}
@@ -14,7 +14,7 @@ use Rattle.textwrap_marked.proofs.HangingKinds.{AreMarks, full-before, IsFull}
 use Rattle.textwrap_marked.proofs.LaterLines.{IsOfText, line-read}
 use Rattle.textwrap_marks.proofs.Letterless.{IsPlainMark, no-comment, quote-plain}
 use Rattle.textwrap_marked.proofs.LineKinds.{line-is}
-use Rattle.textwrap_marked_lines.proofs.OpenBehind.{text-letter}
+use Rattle.textwrap_marked.proofs.OpenBehind.{text-letter}
 use Rattle.textwrap_marked.proofs.ParagraphLines.{regroup, text-parts}
 use Rattle.textwrap_marked.proofs.SpacedBack.{AreSpaced, IsLineText, IsWhite, text-words}
 use denote.Ref.{Bor}

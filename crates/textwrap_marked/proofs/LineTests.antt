@@ -1,11 +1,11 @@
 -- What the lines of a paragraph are not: rules, or deeper than those before them.
-use Rattle.textwrap_marked_lines.proofs.Common.{◌≡◌, ℕ, ◌-◌, ◌<◌, ◌&&◌, ◌||◌, not, Bool, true, false, cond}
-use Rattle.textwrap_marked_lines.proofs.Common.{List, [], ◌∷◌, ◌==◌, ap, arith, cases_Bool, codes}
-use Rattle.textwrap_marked_lines.proofs.Common.{ends_with, length, list_any, nat_eq, nat_lt, nat_tests}
-use Rattle.textwrap_marked_lines.proofs.Common.{None, refl, Some, sym, true≢false, eqb-true, ◌∙◌}
-use Rattle.textwrap_marked_lines.proofs.Common.{bytes_eq-Decides, bytes_eq, deeper_by, LineText}
-use Rattle.textwrap_marked_lines.proofs.Common.{closes_block, first_word, last_word, opens_paragraph}
-use Rattle.textwrap_marked_lines.proofs.Common.{has_bytes, has_letter, SpacedText}
+use Rattle.textwrap_marked.proofs.LineNames.{◌≡◌, ℕ, ◌-◌, ◌<◌, ◌&&◌, ◌||◌, not, Bool, true, false, cond}
+use Rattle.textwrap_marked.proofs.LineNames.{List, [], ◌∷◌, ◌==◌, ap, arith, cases_Bool, codes}
+use Rattle.textwrap_marked.proofs.LineNames.{ends_with, length, list_any, nat_eq, nat_lt, nat_tests}
+use Rattle.textwrap_marked.proofs.LineNames.{None, refl, Some, sym, true≢false, eqb-true, ◌∙◌}
+use Rattle.textwrap_marked.proofs.LineNames.{bytes_eq-Decides, bytes_eq, deeper_by, LineText}
+use Rattle.textwrap_marked.proofs.LineNames.{closes_block, first_word, last_word, opens_paragraph}
+use Rattle.textwrap_marked.proofs.LineNames.{has_bytes, has_letter, SpacedText}
 use Rattle.textwrap_marked.proofs.Common.{goes_on}
 use Rattle.textwrap_marks.specs.declared.options.ReflowOptions.{ReflowOptions}
 use Rattle.textwrap_text.proofs.Common.{list_all}
@@ -13,7 +13,7 @@ use Rattle.std.proofs.Math.Bool.{and-false}
 use Rattle.std.specs.Prelude.{nat_le}
 use Rattle.std.specs.Str.{chars}
 use Rattle.textwrap_marked.proofs.FreeLines.{IsOpen}
-use Rattle.textwrap_marked_lines.proofs.OpenBehind.{behind_text}
+use Rattle.textwrap_marked.proofs.OpenBehind.{behind_text}
 use Rattle.textwrap_marks.specs.Columns.{depth_of, DepthText, is_deeper}
 use Rattle.textwrap_marks.specs.Signs.{is_rule, is_rule_characters}
 use Rattle.textwrap_marks.specs.Words.{is_alphanumeric}

@@ -1,11 +1,11 @@
 -- The lines of a division of a paragraph's pieces are lines of its words, parted where they may be.
-use Rattle.textwrap_marked_lines.proofs.Common.{◌≡◌, ◌≢◌, ℕ, ◌+◌, ◌-◌, ◌<◌, Bool, true, false, cond, List}
-use Rattle.textwrap_marked_lines.proofs.Common.{[], ◌∷◌, ◌++◌, All, All-cons, All-head, All-nil, All-tail}
-use Rattle.textwrap_marked_lines.proofs.Common.{ap, append_assoc, append-nil, arith, get_or, length}
-use Rattle.textwrap_marked_lines.proofs.Common.{length-append, map, refl, subst, sym, take, take_all}
-use Rattle.textwrap_marked_lines.proofs.Common.{take_more, ⊤, ◌∙◌, ◌||◌, ◌==◌, all-right, flat, blank}
-use Rattle.textwrap_marked_lines.proofs.Common.{is_blank, word_of, WordText, covered, blanks, spaced_text}
-use Rattle.textwrap_marked_lines.proofs.Common.{SpacedText}
+use Rattle.textwrap_marked.proofs.LineNames.{◌≡◌, ◌≢◌, ℕ, ◌+◌, ◌-◌, ◌<◌, Bool, true, false, cond, List}
+use Rattle.textwrap_marked.proofs.LineNames.{[], ◌∷◌, ◌++◌, All, All-cons, All-head, All-nil, All-tail}
+use Rattle.textwrap_marked.proofs.LineNames.{ap, append_assoc, append-nil, arith, get_or, length}
+use Rattle.textwrap_marked.proofs.LineNames.{length-append, map, refl, subst, sym, take, take_all}
+use Rattle.textwrap_marked.proofs.LineNames.{take_more, ⊤, ◌∙◌, ◌||◌, ◌==◌, all-right, flat, blank}
+use Rattle.textwrap_marked.proofs.LineNames.{is_blank, word_of, WordText, covered, blanks, spaced_text}
+use Rattle.textwrap_marked.proofs.LineNames.{SpacedText}
 use Rattle.textwrap_marked.proofs.Common.{is_cut, pieces}
 use Rattle.textwrap_marks.specs.declared.options.ReflowOptions.{ReflowOptions}
 use Rattle.textwrap_base.proofs.Common.{IsDivision}

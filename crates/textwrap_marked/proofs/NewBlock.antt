@@ -1,9 +1,9 @@
 -- A paragraph of a text, and its lines as they are printed, read again.
-use Rattle.textwrap_marked_lines.proofs.Common.{◌≡◌, ℕ, ◌<◌, ◌&&◌, Bool, true, false, List, [], ◌∷◌, ◌++◌}
-use Rattle.textwrap_marked_lines.proofs.Common.{All, ap, arith, codes, ends_with, length, map, nat_eq}
-use Rattle.textwrap_marked_lines.proofs.Common.{nat_lt, refl, subst, sym, ◌∙◌, without_returns, entered}
-use Rattle.textwrap_marked_lines.proofs.Common.{line_of, LineText, passed, StateText, begins_text}
-use Rattle.textwrap_marked_lines.proofs.Common.{first_word, last_white, has_byte, SpacedText}
+use Rattle.textwrap_marked.proofs.LineNames.{◌≡◌, ℕ, ◌<◌, ◌&&◌, Bool, true, false, List, [], ◌∷◌, ◌++◌}
+use Rattle.textwrap_marked.proofs.LineNames.{All, ap, arith, codes, ends_with, length, map, nat_eq}
+use Rattle.textwrap_marked.proofs.LineNames.{nat_lt, refl, subst, sym, ◌∙◌, without_returns, entered}
+use Rattle.textwrap_marked.proofs.LineNames.{line_of, LineText, passed, StateText, begins_text}
+use Rattle.textwrap_marked.proofs.LineNames.{first_word, last_white, has_byte, SpacedText}
 use Rattle.textwrap_marked.proofs.Common.{words_of}
 use Rattle.textwrap_marks.specs.declared.options.ReflowOptions.{ReflowOptions}
 use Rattle.textwrap_marked.proofs.FreeLines.{AreFree, block_at}
@@ -13,7 +13,7 @@ use Rattle.textwrap_marked.proofs.LineKinds.{kinds, line-is, line_by}
 use Rattle.textwrap_marked.proofs.LineWords.{AreCutInto, MayPart, spread}
 use Rattle.textwrap_marked.proofs.NewLines.{AreNewBehind, end-white, here-words, later_raws}
 use Rattle.textwrap_marked.proofs.NewLines.{line_raw, new-behind, raw-text, returns_at, text_end}
-use Rattle.textwrap_marked_lines.proofs.OpenBehind.{behind_text}
+use Rattle.textwrap_marked.proofs.OpenBehind.{behind_text}
 use Rattle.textwrap_marked.proofs.ParagraphLines.{first-begins, first-hangs, first-keyed, first-new}
 use Rattle.textwrap_marked.proofs.ParagraphLines.{first-starred, first-text, IsFirstAlike, IsNew}
 use Rattle.textwrap_marked.proofs.SpacedBack.{IsWhite}

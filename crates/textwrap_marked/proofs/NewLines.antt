@@ -1,13 +1,13 @@
 -- The lines of a paragraph as they are printed, read again: behind the first of them.
-use Rattle.textwrap_marked_lines.proofs.Common.{◌≡◌, ℕ, ◌<◌, ◌&&◌, ◌||◌, not, Bool, true, false, List, []}
-use Rattle.textwrap_marked_lines.proofs.Common.{◌∷◌, ◌++◌, ◌==◌, All, All-nil, ap, append-nil}
-use Rattle.textwrap_marked_lines.proofs.Common.{append_assoc, arith, cases_Bool, codes, ends_with}
-use Rattle.textwrap_marked_lines.proofs.Common.{flat_map, length, map, nat_eq, nat_lt, refl, subst, sym}
-use Rattle.textwrap_marked_lines.proofs.Common.{◌∙◌, all-left, all-right, bytes_eq, as_title, entered}
-use Rattle.textwrap_marked_lines.proofs.Common.{is_ended, LineText, passed, StateText, without_returns}
-use Rattle.textwrap_marked_lines.proofs.Common.{begins_text, closes_block, first_word, is_key, last_white}
-use Rattle.textwrap_marked_lines.proofs.Common.{last_word, opens_paragraph, contains, has_byte, has_letter}
-use Rattle.textwrap_marked_lines.proofs.Common.{spaced_text, SpacedText}
+use Rattle.textwrap_marked.proofs.LineNames.{◌≡◌, ℕ, ◌<◌, ◌&&◌, ◌||◌, not, Bool, true, false, List, []}
+use Rattle.textwrap_marked.proofs.LineNames.{◌∷◌, ◌++◌, ◌==◌, All, All-nil, ap, append-nil}
+use Rattle.textwrap_marked.proofs.LineNames.{append_assoc, arith, cases_Bool, codes, ends_with}
+use Rattle.textwrap_marked.proofs.LineNames.{flat_map, length, map, nat_eq, nat_lt, refl, subst, sym}
+use Rattle.textwrap_marked.proofs.LineNames.{◌∙◌, all-left, all-right, bytes_eq, as_title, entered}
+use Rattle.textwrap_marked.proofs.LineNames.{is_ended, LineText, passed, StateText, without_returns}
+use Rattle.textwrap_marked.proofs.LineNames.{begins_text, closes_block, first_word, is_key, last_white}
+use Rattle.textwrap_marked.proofs.LineNames.{last_word, opens_paragraph, contains, has_byte, has_letter}
+use Rattle.textwrap_marked.proofs.LineNames.{spaced_text, SpacedText}
 use Rattle.textwrap_marked.proofs.Common.{HasPlainMarkers, line_sense, words_of}
 use Rattle.textwrap_marks.specs.declared.options.ReflowOptions.{ReflowOptions}
 use Rattle.textwrap_text.proofs.Common.{slice_index}
@@ -17,7 +17,7 @@ use Rattle.textwrap_marks.proofs.Letterless.{no-comment}
 use Rattle.textwrap_marked.proofs.LineSenses.{later-sense}
 use Rattle.textwrap_marked.proofs.LineTests.{behind-same, goes-true, letter-no-rule, open-behind}
 use Rattle.textwrap_marked.proofs.LineWords.{AreCutInto, MayPart, shown, spread}
-use Rattle.textwrap_marked_lines.proofs.OpenBehind.{behind_text, text-letter}
+use Rattle.textwrap_marked.proofs.OpenBehind.{behind_text, text-letter}
 use Rattle.textwrap_marked.proofs.ParagraphLines.{IsNew, later-new}
 use Rattle.textwrap_marked.proofs.ReturnsOff.{ends-behind, EndsWell, return_if, shown-end}
 use Rattle.textwrap_marked.proofs.ReturnsOff.{returns-off, white-end}

@@ -1,7 +1,7 @@
 -- What becomes of the parts of a text, if it is known of each.
-use Rattle.textwrap_marked_lines.proofs.Common.{◌≡◌, ℕ, Bool, true, false, List, [], ◌∷◌, All, All-head}
-use Rattle.textwrap_marked_lines.proofs.Common.{All-tail, drop, nat_eq, refl, starts_with}
-use Rattle.textwrap_marked_lines.proofs.Common.{starts_with-rest, ending_bytes, LineText, lines_of}
+use Rattle.textwrap_marked.proofs.LineNames.{◌≡◌, ℕ, Bool, true, false, List, [], ◌∷◌, All, All-head}
+use Rattle.textwrap_marked.proofs.LineNames.{All-tail, drop, nat_eq, refl, starts_with}
+use Rattle.textwrap_marked.proofs.LineNames.{starts_with-rest, ending_bytes, LineText, lines_of}
 use Rattle.textwrap_marked.proofs.Common.{blocks, is_beside, Part, parts_of_blocks, text_parts}
 use Rattle.textwrap_marked.proofs.Common.{byte_order_mark, filled_ending, AreOfBlocks, IsOfBlock}
 use Rattle.textwrap_marked.proofs.Common.{IsReflowedBehind, IsReflowedFrom}

@@ -1,10 +1,10 @@
 -- Texts that were reflowed, reflowed again.
-use Rattle.textwrap_marked_lines.proofs.Common.{◌≡◌, ℕ, Bool, true, false, cond, List, [], ◌∷◌, ◌++◌, ◌==◌}
-use Rattle.textwrap_marked_lines.proofs.Common.{All-head, ap, arith, drop, flat_map, join_with_byte}
-use Rattle.textwrap_marked_lines.proofs.Common.{length, nat_eq, nat_lt, refl, slice_split, starts_with}
-use Rattle.textwrap_marked_lines.proofs.Common.{subst, sym, ◌∙◌, lt-ltb, starts_with-rest, ap₂}
-use Rattle.textwrap_marked_lines.proofs.Common.{length-slice_split, ending_bytes, first_state, lines_of}
-use Rattle.textwrap_marked_lines.proofs.Common.{read_lines, with_titles, inl, inr, ◌⊎◌}
+use Rattle.textwrap_marked.proofs.LineNames.{◌≡◌, ℕ, Bool, true, false, cond, List, [], ◌∷◌, ◌++◌, ◌==◌}
+use Rattle.textwrap_marked.proofs.LineNames.{All-head, ap, arith, drop, flat_map, join_with_byte}
+use Rattle.textwrap_marked.proofs.LineNames.{length, nat_eq, nat_lt, refl, slice_split, starts_with}
+use Rattle.textwrap_marked.proofs.LineNames.{subst, sym, ◌∙◌, lt-ltb, starts_with-rest, ap₂}
+use Rattle.textwrap_marked.proofs.LineNames.{length-slice_split, ending_bytes, first_state, lines_of}
+use Rattle.textwrap_marked.proofs.LineNames.{read_lines, with_titles, inl, inr, ◌⊎◌}
 use Rattle.textwrap_text.specs.declared.line_ending.LineEnding.{LineEnding}
 use Rattle.textwrap_text.specs.declared.line_ending.LineEnding.TheVariants.{CRLF, LF}
 use Rattle.textwrap_marked.proofs.Common.{blocks, AreSameParts, HasPlainMarkers, line_sense}

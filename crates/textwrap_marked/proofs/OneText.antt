@@ -1,7 +1,7 @@
 -- What becomes of a text is one text.
-use Rattle.textwrap_marked_lines.proofs.Common.{◌≡◌, ℕ, Bool, true, false, List, [], ◌∷◌, ◌++◌, sym, ap}
-use Rattle.textwrap_marked_lines.proofs.Common.{◌∙◌, drop, IsDividedBy, sizes_of, WordText, ending_bytes}
-use Rattle.textwrap_marked_lines.proofs.Common.{LineText, lines_of}
+use Rattle.textwrap_marked.proofs.LineNames.{◌≡◌, ℕ, Bool, true, false, List, [], ◌∷◌, ◌++◌, sym, ap}
+use Rattle.textwrap_marked.proofs.LineNames.{◌∙◌, drop, IsDividedBy, sizes_of, WordText, ending_bytes}
+use Rattle.textwrap_marked.proofs.LineNames.{LineText, lines_of}
 use Rattle.textwrap_marked.proofs.Common.{blocks, is_beside, algorithm_of, byte_order_mark}
 use Rattle.textwrap_marked.proofs.Common.{filled_end, filled_ending, AreOfBlocks, IsOfBlock}
 use Rattle.textwrap_marked.proofs.Common.{IsReflowedBehind, IsReflowedFrom, printed, shown_lines}

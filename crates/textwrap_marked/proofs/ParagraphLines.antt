@@ -1,12 +1,12 @@
 -- The lines of a paragraph: the first one, those behind its hanging form, and others in their place.
-use Rattle.textwrap_marked_lines.proofs.Common.{◌≡◌, ℕ, ◌<◌, ◌&&◌, ◌||◌, not, Bool, true, false, List, []}
-use Rattle.textwrap_marked_lines.proofs.Common.{◌∷◌, ◌++◌, All, ap, append-nil, append_assoc, codes}
-use Rattle.textwrap_marked_lines.proofs.Common.{length, refl, subst, sym, ◌∙◌, ◌==◌, All-weaker, eqb-true}
-use Rattle.textwrap_marked_lines.proofs.Common.{false_from_ne_true, list_any, true≢false, all-right}
-use Rattle.textwrap_marked_lines.proofs.Common.{or-false, flat_map-append, line_of, LineText, StateText}
-use Rattle.textwrap_marked_lines.proofs.Common.{without_returns, hanging_bullets, begins_text, first_word}
-use Rattle.textwrap_marked_lines.proofs.Common.{is_key, has_byte, is_white, spaced_text, SpacedText}
-use Rattle.textwrap_marked_lines.proofs.Common.{spaced_words}
+use Rattle.textwrap_marked.proofs.LineNames.{◌≡◌, ℕ, ◌<◌, ◌&&◌, ◌||◌, not, Bool, true, false, List, []}
+use Rattle.textwrap_marked.proofs.LineNames.{◌∷◌, ◌++◌, All, ap, append-nil, append_assoc, codes}
+use Rattle.textwrap_marked.proofs.LineNames.{length, refl, subst, sym, ◌∙◌, ◌==◌, All-weaker, eqb-true}
+use Rattle.textwrap_marked.proofs.LineNames.{false_from_ne_true, list_any, true≢false, all-right}
+use Rattle.textwrap_marked.proofs.LineNames.{or-false, flat_map-append, line_of, LineText, StateText}
+use Rattle.textwrap_marked.proofs.LineNames.{without_returns, hanging_bullets, begins_text, first_word}
+use Rattle.textwrap_marked.proofs.LineNames.{is_key, has_byte, is_white, spaced_text, SpacedText}
+use Rattle.textwrap_marked.proofs.LineNames.{spaced_words}
 use Rattle.textwrap_marks.specs.declared.options.ReflowOptions.{ReflowOptions}
 use Rattle.std.specs.Prelude.{None}
 use Rattle.textwrap_marked.proofs.FreeLines.{apart-free, AreFree, block_at, begun, field_of}
@@ -20,7 +20,7 @@ use Rattle.textwrap_marks.proofs.Letterless.{box-plain}
 use Rattle.textwrap_marked.proofs.LineKinds.{hanging_of, has_opening_in, HaveKinds, kinds, line-is}
 use Rattle.textwrap_marked.proofs.LineKinds.{line_by}
 use Rattle.textwrap_marks.proofs.ListLemmas.{none-any}
-use Rattle.textwrap_marked_lines.proofs.OpenBehind.{text-other}
+use Rattle.textwrap_marked.proofs.OpenBehind.{text-other}
 use Rattle.textwrap_marked.proofs.SpacedBack.{AreSpaced, IsLineText, IsWhite, lead-one, line-back}
 use Rattle.textwrap_marked.proofs.SpacedBack.{with_lead}
 

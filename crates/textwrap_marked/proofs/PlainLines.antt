@@ -1,9 +1,9 @@
 -- The words of the lines of a text are plain: bytes between white.
-use Rattle.textwrap_marked_lines.proofs.Common.{ℕ, Bool, List, [], ◌∷◌, ◌++◌, All, All-cons, All-head}
-use Rattle.textwrap_marked_lines.proofs.Common.{All-nil, All-tail, sym, length, nat_lt, ◌==◌, slice_split}
-use Rattle.textwrap_marked_lines.proofs.Common.{subst, all-right, entered, first_state, line_of, lines_of}
-use Rattle.textwrap_marked_lines.proofs.Common.{LineText, passed, read_lines, StateText, with_titles}
-use Rattle.textwrap_marked_lines.proofs.Common.{without_returns, SpacedText}
+use Rattle.textwrap_marked.proofs.LineNames.{ℕ, Bool, List, [], ◌∷◌, ◌++◌, All, All-cons, All-head}
+use Rattle.textwrap_marked.proofs.LineNames.{All-nil, All-tail, sym, length, nat_lt, ◌==◌, slice_split}
+use Rattle.textwrap_marked.proofs.LineNames.{subst, all-right, entered, first_state, line_of, lines_of}
+use Rattle.textwrap_marked.proofs.LineNames.{LineText, passed, read_lines, StateText, with_titles}
+use Rattle.textwrap_marked.proofs.LineNames.{without_returns, SpacedText}
 use Rattle.textwrap_marked.proofs.Common.{blocks}
 use Rattle.textwrap_marks.specs.declared.options.ReflowOptions.{ReflowOptions}
 use Rattle.textwrap_marked.proofs.BlankPieces.{flat-all}

@@ -1,6 +1,6 @@
 -- The texts of the lines of a division, of which all but the last may be justified.
-use Rattle.textwrap_marked_lines.proofs.Common.{◌≡◌, ℕ, ◌&&◌, Bool, true, false, List, [], ◌∷◌, ap, arith}
-use Rattle.textwrap_marked_lines.proofs.Common.{length, lt-ltb, nat_lt, refl, sym, WordText}
+use Rattle.textwrap_marked.proofs.LineNames.{◌≡◌, ℕ, ◌&&◌, Bool, true, false, List, [], ◌∷◌, ap, arith}
+use Rattle.textwrap_marked.proofs.LineNames.{length, lt-ltb, nat_lt, refl, sym, WordText}
 use Rattle.textwrap_marked.proofs.Common.{line_text, line_texts}
 
 -- the first of them is, if lines follow; those are the texts of a division of their own

@@ -1,12 +1,12 @@
 -- The text of a paragraph as it is printed is its lines, with a line feed between each two.
-use Rattle.textwrap_marked_lines.proofs.Common.{◌≡◌, ◌≢◌, ℕ, ◌-◌, ◌&&◌, Bool, true, false, cond, List, []}
-use Rattle.textwrap_marked_lines.proofs.Common.{◌∷◌, ◌++◌, All, All-append, All-cons, All-head, All-nil}
-use Rattle.textwrap_marked_lines.proofs.Common.{All-tail, ap, append-nil, append_assoc, arith, codes, drop}
-use Rattle.textwrap_marked_lines.proofs.Common.{ends_with, flat_map, join_with_byte, length, nat_eq}
-use Rattle.textwrap_marked_lines.proofs.Common.{nat_lt, refl, subst, suc, sym, ◌∙◌, ◌==◌, eqb-true}
-use Rattle.textwrap_marked_lines.proofs.Common.{false_from_ne_true, true≢false, All-weaker, all-left}
-use Rattle.textwrap_marked_lines.proofs.Common.{all-right, LineText, last_white, is_white, spaced_text}
-use Rattle.textwrap_marked_lines.proofs.Common.{SpacedText}
+use Rattle.textwrap_marked.proofs.LineNames.{◌≡◌, ◌≢◌, ℕ, ◌-◌, ◌&&◌, Bool, true, false, cond, List, []}
+use Rattle.textwrap_marked.proofs.LineNames.{◌∷◌, ◌++◌, All, All-append, All-cons, All-head, All-nil}
+use Rattle.textwrap_marked.proofs.LineNames.{All-tail, ap, append-nil, append_assoc, arith, codes, drop}
+use Rattle.textwrap_marked.proofs.LineNames.{ends_with, flat_map, join_with_byte, length, nat_eq}
+use Rattle.textwrap_marked.proofs.LineNames.{nat_lt, refl, subst, suc, sym, ◌∙◌, ◌==◌, eqb-true}
+use Rattle.textwrap_marked.proofs.LineNames.{false_from_ne_true, true≢false, All-weaker, all-left}
+use Rattle.textwrap_marked.proofs.LineNames.{all-right, LineText, last_white, is_white, spaced_text}
+use Rattle.textwrap_marked.proofs.LineNames.{SpacedText}
 use Rattle.textwrap_marked.proofs.Common.{break_white, ending_if, filled_end}
 use Rattle.textwrap_marks.specs.declared.options.ReflowOptions.{ReflowOptions}
 use Rattle.textwrap_marked.proofs.AnewLines.{end-parts, return-feedless}

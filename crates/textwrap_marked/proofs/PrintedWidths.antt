@@ -1,9 +1,9 @@
 -- What the printed lines of a paragraph keep to.
-use Rattle.textwrap_marked_lines.proofs.Common.{◌≡◌, ℕ, ◌+◌, ◌-◌, ◌<◌, ◌≤◌, true, List, [], ◌∷◌, All}
-use Rattle.textwrap_marked_lines.proofs.Common.{All-cons, All-head, All-nil, All-tail, arith, inl, inr}
-use Rattle.textwrap_marked_lines.proofs.Common.{length, refl, reverse, subst, sym, ap, ◌∙◌}
-use Rattle.textwrap_marked_lines.proofs.Common.{take_all, suffix_len-le-length, IsDivision, blank}
-use Rattle.textwrap_marked_lines.proofs.Common.{is_blank, sizes_of, word_of, WordText, covered, LineText}
+use Rattle.textwrap_marked.proofs.LineNames.{◌≡◌, ℕ, ◌+◌, ◌-◌, ◌<◌, ◌≤◌, true, List, [], ◌∷◌, All}
+use Rattle.textwrap_marked.proofs.LineNames.{All-cons, All-head, All-nil, All-tail, arith, inl, inr}
+use Rattle.textwrap_marked.proofs.LineNames.{length, refl, reverse, subst, sym, ap, ◌∙◌}
+use Rattle.textwrap_marked.proofs.LineNames.{take_all, suffix_len-le-length, IsDivision, blank}
+use Rattle.textwrap_marked.proofs.LineNames.{is_blank, sizes_of, word_of, WordText, covered, LineText}
 use Rattle.textwrap_marked.proofs.Common.{piece_words, line_text, line_texts}
 use Rattle.textwrap_marks.specs.declared.options.ReflowOptions.{ReflowOptions}
 use Rattle.textwrap_base.proofs.Common.{AllFit, AreEqualFromSecond, closed_width, Fits}

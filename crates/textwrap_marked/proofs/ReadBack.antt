@@ -1,9 +1,9 @@
 -- What is printed of the blocks of a text, read again.
-use Rattle.textwrap_marked_lines.proofs.Common.{◌≡◌, ℕ, ◌||◌, Bool, true, false, List, [], ◌∷◌, ◌++◌, All}
-use Rattle.textwrap_marked_lines.proofs.Common.{All-append, ap, arith, flat_map, join_with_byte, length}
-use Rattle.textwrap_marked_lines.proofs.Common.{map, nat_lt, refl, subst, sym, ◌∙◌, all-left, all-right}
-use Rattle.textwrap_marked_lines.proofs.Common.{flat, ap₂, flat_map-append, LineText, StateText, ◌+◌}
-use Rattle.textwrap_marked_lines.proofs.Common.{cases_Bool, not}
+use Rattle.textwrap_marked.proofs.LineNames.{◌≡◌, ℕ, ◌||◌, Bool, true, false, List, [], ◌∷◌, ◌++◌, All}
+use Rattle.textwrap_marked.proofs.LineNames.{All-append, ap, arith, flat_map, join_with_byte, length}
+use Rattle.textwrap_marked.proofs.LineNames.{map, nat_lt, refl, subst, sym, ◌∙◌, all-left, all-right}
+use Rattle.textwrap_marked.proofs.LineNames.{flat, ap₂, flat_map-append, LineText, StateText, ◌+◌}
+use Rattle.textwrap_marked.proofs.LineNames.{cases_Bool, not}
 use Rattle.textwrap_marked.proofs.Common.{is_beside, stays, AreSameParts, HasPlainMarkers, IsSameBy}
 use Rattle.textwrap_marked.proofs.Common.{line_sense, parts_of_blocks, AreOfBlocks, words_of}
 use Rattle.textwrap_marked.proofs.Common.{kept_line, IsOfBlock}

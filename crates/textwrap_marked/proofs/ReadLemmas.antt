@@ -3,8 +3,8 @@ use Rattle.textwrap_text.proofs.Common.{◌≡◌, ℕ, ◌==◌, Bool, List, �
 use Rattle.textwrap_text.proofs.Common.{nat_lt, Option, Some, None, Bor, lt-ltb}
 use Rattle.std.proofs.lemmas.List.Splits.{length-slice_split}
 use Rattle.std.specs.Prelude.{is_some}
-use Rattle.textwrap_marked_lines.specs.Lines.{entered, line_of, LineText, passed, without_returns}
-use Rattle.textwrap_marked_lines.specs.Lines.{read_lines, StateText}
+use Rattle.textwrap_marked.specs.Lines.{entered, line_of, LineText, passed, without_returns}
+use Rattle.textwrap_marked.specs.Lines.{read_lines, StateText}
 use Rattle.textwrap_marks.specs.Words.{parts_left}
 use Rattle.textwrap_marks.specs.declared.options.ReflowOptions.{ReflowOptions}
 

@@ -1,15 +1,15 @@
 -- Carriage returns behind a line of words are no part of it.
-use Rattle.textwrap_marked_lines.proofs.Common.{◌≡◌, ℕ, ◌+◌, ◌-◌, ◌<◌, Bool, true, false, cond, List, []}
-use Rattle.textwrap_marked_lines.proofs.Common.{◌∷◌, ◌++◌, All, All-head, All-tail, ap, append-nil}
-use Rattle.textwrap_marked_lines.proofs.Common.{append_assoc, arith, get_or, length, length-append}
-use Rattle.textwrap_marked_lines.proofs.Common.{prefix_len, refl, reverse, suffix_len, sym, take, take_all}
-use Rattle.textwrap_marked_lines.proofs.Common.{take_more, true≢false, eqb-true, ◌∙◌, is_return}
-use Rattle.textwrap_marked_lines.proofs.Common.{without_returns, is_column_word, is_white}
+use Rattle.textwrap_marked.proofs.LineNames.{◌≡◌, ℕ, ◌+◌, ◌-◌, ◌<◌, Bool, true, false, cond, List, []}
+use Rattle.textwrap_marked.proofs.LineNames.{◌∷◌, ◌++◌, All, All-head, All-tail, ap, append-nil}
+use Rattle.textwrap_marked.proofs.LineNames.{append_assoc, arith, get_or, length, length-append}
+use Rattle.textwrap_marked.proofs.LineNames.{prefix_len, refl, reverse, suffix_len, sym, take, take_all}
+use Rattle.textwrap_marked.proofs.LineNames.{take_more, true≢false, eqb-true, ◌∙◌, is_return}
+use Rattle.textwrap_marked.proofs.LineNames.{without_returns, is_column_word, is_white}
 use Rattle.textwrap_text.proofs.Common.{reverse-append, take_at}
 use Rattle.std.proofs.lemmas.List.Elements.{All-get_or}
 use Rattle.textwrap_marked.proofs.LineWords.{gap, shown}
 use Rattle.textwrap_marks.proofs.ListLemmas.{any-none}
-use Rattle.textwrap_marked_lines.proofs.OpenBehind.{no-return}
+use Rattle.textwrap_marked.proofs.OpenBehind.{no-return}
 use Rattle.textwrap_marked.proofs.SpacedBack.{IsWhite}
 use Rattle.textwrap_marked.proofs.WordsIn.{IsPlain}
 

@@ -1,10 +1,10 @@
 -- What becomes of two texts of the same parts is the same.
-use Rattle.textwrap_marked_lines.proofs.Common.{◌∙◌, ◌≡◌, ℕ, ◌-◌, ◌||◌, Bool, true, false, List, [], ◌∷◌}
-use Rattle.textwrap_marked_lines.proofs.Common.{◌++◌, ap, length, map, nat_lt, refl, slice_split, subst}
-use Rattle.textwrap_marked_lines.proofs.Common.{sym, ◌==◌, IsDividedBy, sizes_of, word_of, WordText}
-use Rattle.textwrap_marked_lines.proofs.Common.{ending_bytes, without_returns, entered, first_state}
-use Rattle.textwrap_marked_lines.proofs.Common.{line_of, lines_of, LineText, passed, read_lines, StateText}
-use Rattle.textwrap_marked_lines.proofs.Common.{with_titles, Option}
+use Rattle.textwrap_marked.proofs.LineNames.{◌∙◌, ◌≡◌, ℕ, ◌-◌, ◌||◌, Bool, true, false, List, [], ◌∷◌}
+use Rattle.textwrap_marked.proofs.LineNames.{◌++◌, ap, length, map, nat_lt, refl, slice_split, subst}
+use Rattle.textwrap_marked.proofs.LineNames.{sym, ◌==◌, IsDividedBy, sizes_of, word_of, WordText}
+use Rattle.textwrap_marked.proofs.LineNames.{ending_bytes, without_returns, entered, first_state}
+use Rattle.textwrap_marked.proofs.LineNames.{line_of, lines_of, LineText, passed, read_lines, StateText}
+use Rattle.textwrap_marked.proofs.LineNames.{with_titles, Option}
 use Rattle.textwrap_marked.proofs.Common.{blocks, is_beside, stays, AreSameParts, IsSameBy, Part}
 use Rattle.textwrap_marked.proofs.Common.{parts_of_blocks, text_parts, pieces, algorithm_of}
 use Rattle.textwrap_marked.proofs.Common.{filled_ending, AreOfBlocks, IsOfBlock, IsReflowedFrom}

@@ -1,9 +1,9 @@
 -- Words with white between them are read back from their text.
-use Rattle.textwrap_marked_lines.proofs.Common.{◌≡◌, ℕ, ◌<◌, Bool, true, false, List, [], ◌∷◌, ◌++◌, All}
-use Rattle.textwrap_marked_lines.proofs.Common.{All-cons, All-head, All-nil, All-tail, ap, append_assoc}
-use Rattle.textwrap_marked_lines.proofs.Common.{append-nil, arith, cond, length, lt-ltb, map, refl, sym, ⊤}
-use Rattle.textwrap_marked_lines.proofs.Common.{◌∙◌, has_bytes, is_white, spaced_text, spaced_words}
-use Rattle.textwrap_marked_lines.proofs.Common.{SpacedText}
+use Rattle.textwrap_marked.proofs.LineNames.{◌≡◌, ℕ, ◌<◌, Bool, true, false, List, [], ◌∷◌, ◌++◌, All}
+use Rattle.textwrap_marked.proofs.LineNames.{All-cons, All-head, All-nil, All-tail, ap, append_assoc}
+use Rattle.textwrap_marked.proofs.LineNames.{append-nil, arith, cond, length, lt-ltb, map, refl, sym, ⊤}
+use Rattle.textwrap_marked.proofs.LineNames.{◌∙◌, has_bytes, is_white, spaced_text, spaced_words}
+use Rattle.textwrap_marked.proofs.LineNames.{SpacedText}
 use Rattle.textwrap_marked.proofs.Common.{words_in}
 use Rattle.textwrap_marked.proofs.WordsIn.{IsPlain, white-words, word-alone, words-white}
 use Rattle.textwrap_marks.specs.Words.{onto_word, with_byte}

@@ -1,14 +1,14 @@
 -- Words with blanks between them, as the words of a line's text.
-use Rattle.textwrap_marked_lines.proofs.Common.{◌≡◌, ℕ, ◌-◌, ◌&&◌, ◌||◌, not, Bool, true, false, cond}
-use Rattle.textwrap_marked_lines.proofs.Common.{List, [], ◌∷◌, ◌++◌, All, All-cons, All-head, All-nil}
-use Rattle.textwrap_marked_lines.proofs.Common.{All-tail, ap, append-nil, append_assoc, arith, cases_Bool}
-use Rattle.textwrap_marked_lines.proofs.Common.{codes, drop, length, list_any, map, refl, sym, take}
-use Rattle.textwrap_marked_lines.proofs.Common.{true≢false, false_from_ne_true, suc, ◌==◌, ◌∙◌}
-use Rattle.textwrap_marked_lines.proofs.Common.{All-replicate, bytes_eq, blank, is_among, is_bullet}
-use Rattle.textwrap_marked_lines.proofs.Common.{is_comment_at, is_quote, blanks, quotes_len, begins_text}
-use Rattle.textwrap_marked_lines.proofs.Common.{first_word, front_of, has_columns, is_column_word}
-use Rattle.textwrap_marked_lines.proofs.Common.{last_white, last_word, opens_paragraph, spaced_text}
-use Rattle.textwrap_marked_lines.proofs.Common.{SpacedText}
+use Rattle.textwrap_marked.proofs.LineNames.{◌≡◌, ℕ, ◌-◌, ◌&&◌, ◌||◌, not, Bool, true, false, cond}
+use Rattle.textwrap_marked.proofs.LineNames.{List, [], ◌∷◌, ◌++◌, All, All-cons, All-head, All-nil}
+use Rattle.textwrap_marked.proofs.LineNames.{All-tail, ap, append-nil, append_assoc, arith, cases_Bool}
+use Rattle.textwrap_marked.proofs.LineNames.{codes, drop, length, list_any, map, refl, sym, take}
+use Rattle.textwrap_marked.proofs.LineNames.{true≢false, false_from_ne_true, suc, ◌==◌, ◌∙◌}
+use Rattle.textwrap_marked.proofs.LineNames.{All-replicate, bytes_eq, blank, is_among, is_bullet}
+use Rattle.textwrap_marked.proofs.LineNames.{is_comment_at, is_quote, blanks, quotes_len, begins_text}
+use Rattle.textwrap_marked.proofs.LineNames.{first_word, front_of, has_columns, is_column_word}
+use Rattle.textwrap_marked.proofs.LineNames.{last_white, last_word, opens_paragraph, spaced_text}
+use Rattle.textwrap_marked.proofs.LineNames.{SpacedText}
 use Rattle.textwrap_marks.specs.declared.options.ReflowOptions.{ReflowOptions}
 use Rattle.textwrap_marked.proofs.HangingKinds.{HasNoMark}
 use Rattle.textwrap_marked.proofs.LaterLines.{bullets-none}
@@ -16,7 +16,7 @@ use Rattle.textwrap_marks.proofs.Letterless.{box-plain, quote-plain}
 use Rattle.textwrap_marked.proofs.LineKinds.{one_if}
 use Rattle.textwrap_marked.proofs.LineWords.{gap, shown, spread}
 use Rattle.textwrap_marks.proofs.ListLemmas.{none-any, not-yes}
-use Rattle.textwrap_marked_lines.proofs.OpenBehind.{text-letter, text-other}
+use Rattle.textwrap_marked.proofs.OpenBehind.{text-letter, text-other}
 use Rattle.textwrap_marked.proofs.SpacedBack.{AreSpaced, IsSpaced, IsWhite}
 use Rattle.textwrap_marked.proofs.WordsIn.{IsPlain}
 use Rattle.textwrap_marks.specs.Signs.{first_white, is_gap, last_of, may_go_on}

@@ -1,10 +1,10 @@
 -- A new text, read again, has the parts of the text.
-use Rattle.textwrap_marked_lines.proofs.Common.{None, Option, Some, ◌≡◌, ℕ, ◌<◌, ◌||◌, not, Bool, true}
-use Rattle.textwrap_marked_lines.proofs.Common.{false, List, [], ◌∷◌, ◌++◌, ◌==◌, All, All-nil, ap, arith}
-use Rattle.textwrap_marked_lines.proofs.Common.{flat_map, join_with_byte, length, nat_lt, lt-ltb}
-use Rattle.textwrap_marked_lines.proofs.Common.{cases_Bool, refl, slice_split, subst, sym, true≢false, ◌∙◌}
-use Rattle.textwrap_marked_lines.proofs.Common.{all-left, flat, length-slice_split, first_state, lines_of}
-use Rattle.textwrap_marked_lines.proofs.Common.{LineText, StateText, false_from_ne_true}
+use Rattle.textwrap_marked.proofs.LineNames.{None, Option, Some, ◌≡◌, ℕ, ◌<◌, ◌||◌, not, Bool, true}
+use Rattle.textwrap_marked.proofs.LineNames.{false, List, [], ◌∷◌, ◌++◌, ◌==◌, All, All-nil, ap, arith}
+use Rattle.textwrap_marked.proofs.LineNames.{flat_map, join_with_byte, length, nat_lt, lt-ltb}
+use Rattle.textwrap_marked.proofs.LineNames.{cases_Bool, refl, slice_split, subst, sym, true≢false, ◌∙◌}
+use Rattle.textwrap_marked.proofs.LineNames.{all-left, flat, length-slice_split, first_state, lines_of}
+use Rattle.textwrap_marked.proofs.LineNames.{LineText, StateText, false_from_ne_true}
 use Rattle.textwrap_text.specs.declared.line_ending.LineEnding.{LineEnding}
 use Rattle.textwrap_marked.proofs.Common.{blocks, is_beside, stays, AreSameParts, HasPlainMarkers}
 use Rattle.textwrap_marked.proofs.Common.{line_sense, parts_of_blocks, text_parts, filled_ending}

@@ -1,13 +1,13 @@
 -- The lines of a paragraph of a text, one after another.
-use Rattle.textwrap_marked_lines.proofs.Common.{◌≡◌, ℕ, ◌<◌, ◌&&◌, ◌||◌, not, Bool, true, false, List, []}
-use Rattle.textwrap_marked_lines.proofs.Common.{◌∷◌, ◌++◌, All, All-append, All-map, All-head, All-tail}
-use Rattle.textwrap_marked_lines.proofs.Common.{ap, append-nil, arith, codes, cases_Bool, flat_map, length}
-use Rattle.textwrap_marked_lines.proofs.Common.{length-append, map, nat_lt, refl, subst, sym, ⊤, ◌∙◌, ap₂}
-use Rattle.textwrap_marked_lines.proofs.Common.{or-false, bytes_eq-Decides, bytes_eq, without_returns}
-use Rattle.textwrap_marked_lines.proofs.Common.{as_title, entered, is_ended, line_of, LineText, passed}
-use Rattle.textwrap_marked_lines.proofs.Common.{read_lines, StateText, with_titles, closes_block}
-use Rattle.textwrap_marked_lines.proofs.Common.{closes_early, first_word, front_of, is_column_word}
-use Rattle.textwrap_marked_lines.proofs.Common.{last_word, opens_paragraph, contains, SpacedText}
+use Rattle.textwrap_marked.proofs.LineNames.{◌≡◌, ℕ, ◌<◌, ◌&&◌, ◌||◌, not, Bool, true, false, List, []}
+use Rattle.textwrap_marked.proofs.LineNames.{◌∷◌, ◌++◌, All, All-append, All-map, All-head, All-tail}
+use Rattle.textwrap_marked.proofs.LineNames.{ap, append-nil, arith, codes, cases_Bool, flat_map, length}
+use Rattle.textwrap_marked.proofs.LineNames.{length-append, map, nat_lt, refl, subst, sym, ⊤, ◌∙◌, ap₂}
+use Rattle.textwrap_marked.proofs.LineNames.{or-false, bytes_eq-Decides, bytes_eq, without_returns}
+use Rattle.textwrap_marked.proofs.LineNames.{as_title, entered, is_ended, line_of, LineText, passed}
+use Rattle.textwrap_marked.proofs.LineNames.{read_lines, StateText, with_titles, closes_block}
+use Rattle.textwrap_marked.proofs.LineNames.{closes_early, first_word, front_of, is_column_word}
+use Rattle.textwrap_marked.proofs.LineNames.{last_word, opens_paragraph, contains, SpacedText}
 use Rattle.textwrap_marked.proofs.Common.{goes_on, HasPlainMarkers, line_sense, words_of}
 use Rattle.textwrap_marks.specs.declared.options.ReflowOptions.{ReflowOptions}
 use Rattle.textwrap_text.proofs.Common.{length-map}
@@ -15,12 +15,12 @@ use Rattle.textwrap_marked.proofs.HangingForms.{IsHanging}
 use Rattle.textwrap_marked.proofs.LaterLines.{IsOfText}
 use Rattle.textwrap_marked.proofs.LineSenses.{later-sense}
 use Rattle.textwrap_marks.proofs.ListLemmas.{any-none, or-left, or-right}
-use Rattle.textwrap_marked_lines.proofs.OpenBehind.{behind_text, no-columns}
+use Rattle.textwrap_marked.proofs.OpenBehind.{behind_text, no-columns}
 use Rattle.textwrap_marked.proofs.ParagraphLines.{later-line}
 use Rattle.textwrap_marked.proofs.SpacedBack.{spaced-plain}
 use Rattle.textwrap_marked.proofs.SpreadWords.{front-more, last-more, last_text}
 use Rattle.textwrap_marked.proofs.WordsIn.{IsPlain}
-use Rattle.textwrap_marked_lines.specs.Lines.{is_title}
+use Rattle.textwrap_marked.specs.Lines.{is_title}
 use Rattle.textwrap_marks.specs.Signs.{ends_early}
 
 -- the last of some texts is that of those behind others

@@ -1,10 +1,10 @@
 -- A text is its parts, one after another.
-use Rattle.textwrap_marked_lines.proofs.Common.{◌≡◌, ℕ, Bool, true, false, cond, List, [], ◌∷◌, ◌++◌}
-use Rattle.textwrap_marked_lines.proofs.Common.{append_assoc, append-nil, ap, flat_map, None, refl, sym}
-use Rattle.textwrap_marked_lines.proofs.Common.{◌∙◌, arith, join_with_byte, length, lt-ltb, nat_lt}
-use Rattle.textwrap_marked_lines.proofs.Common.{slice_split, ◌==◌, flat_map-append, flat, without_returns}
-use Rattle.textwrap_marked_lines.proofs.Common.{entered, first_state, line_of, LineText, passed}
-use Rattle.textwrap_marked_lines.proofs.Common.{read_lines, StateText, with_titles}
+use Rattle.textwrap_marked.proofs.LineNames.{◌≡◌, ℕ, Bool, true, false, cond, List, [], ◌∷◌, ◌++◌}
+use Rattle.textwrap_marked.proofs.LineNames.{append_assoc, append-nil, ap, flat_map, None, refl, sym}
+use Rattle.textwrap_marked.proofs.LineNames.{◌∙◌, arith, join_with_byte, length, lt-ltb, nat_lt}
+use Rattle.textwrap_marked.proofs.LineNames.{slice_split, ◌==◌, flat_map-append, flat, without_returns}
+use Rattle.textwrap_marked.proofs.LineNames.{entered, first_state, line_of, LineText, passed}
+use Rattle.textwrap_marked.proofs.LineNames.{read_lines, StateText, with_titles}
 use Rattle.textwrap_marked.proofs.Common.{blocks, goes_on, is_beside, parts_of_blocks, text_parts}
 use Rattle.textwrap_marked.proofs.Common.{ending_if, kept_line}
 use Rattle.textwrap_marks.specs.declared.options.ReflowOptions.{ReflowOptions}

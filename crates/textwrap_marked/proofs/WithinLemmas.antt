@@ -5,7 +5,7 @@ use Rattle.std.proofs.Common.{ap₂}
 use Rattle.std.specs.Prelude.{nat_le, not}
 use Rattle.textwrap_marked.proofs.BlockLemmas.{blocks-first}
 use Rattle.textwrap_marked.specs.Blocks.{behind_block, blocks, first_block, is_beside, stays}
-use Rattle.textwrap_marked_lines.specs.Lines.{LineText}
+use Rattle.textwrap_marked.specs.Lines.{LineText}
 use Rattle.textwrap_marked.specs.Reflow.{IsOfBlock}
 use Rattle.textwrap_marked.specs.Within.{AreOfBlocksWithin, range_behind, touches}
 use Rattle.textwrap_marks.specs.declared.options.ReflowOptions.{ReflowOptions}

@@ -1,16 +1,16 @@
 -- The words of a paragraph's last line, and the last of them.
-use Rattle.textwrap_marked_lines.proofs.Common.{◌≡◌, ◌≢◌, ℕ, ◌<◌, ◌&&◌, ◌||◌, not, Bool, true, false, cond}
-use Rattle.textwrap_marked_lines.proofs.Common.{List, [], ◌∷◌, ◌++◌, All, All-cons, All-nil, ap}
-use Rattle.textwrap_marked_lines.proofs.Common.{append-nil, arith, cases_Bool, codes, ends_with, length}
-use Rattle.textwrap_marked_lines.proofs.Common.{map, nat_eq, refl, subst, sym, ◌∙◌, deeper_by, begins_text}
-use Rattle.textwrap_marked_lines.proofs.Common.{closes_block, closes_early, first_word, front_of}
-use Rattle.textwrap_marked_lines.proofs.Common.{last_word, contains, SpacedText}
+use Rattle.textwrap_marked.proofs.LineNames.{◌≡◌, ◌≢◌, ℕ, ◌<◌, ◌&&◌, ◌||◌, not, Bool, true, false, cond}
+use Rattle.textwrap_marked.proofs.LineNames.{List, [], ◌∷◌, ◌++◌, All, All-cons, All-nil, ap}
+use Rattle.textwrap_marked.proofs.LineNames.{append-nil, arith, cases_Bool, codes, ends_with, length}
+use Rattle.textwrap_marked.proofs.LineNames.{map, nat_eq, refl, subst, sym, ◌∙◌, deeper_by, begins_text}
+use Rattle.textwrap_marked.proofs.LineNames.{closes_block, closes_early, first_word, front_of}
+use Rattle.textwrap_marked.proofs.LineNames.{last_word, contains, SpacedText}
 use Rattle.textwrap_marked.proofs.Common.{is_cut}
 use Rattle.textwrap_marks.specs.declared.options.ReflowOptions.{ReflowOptions}
 use Rattle.textwrap_marks.proofs.Letterless.{dots-plain}
 use Rattle.textwrap_marked.proofs.LineWords.{MayPart, spread}
 use Rattle.textwrap_marks.proofs.ListLemmas.{none-any}
-use Rattle.textwrap_marked_lines.proofs.OpenBehind.{text-other}
+use Rattle.textwrap_marked.proofs.OpenBehind.{text-other}
 use Rattle.textwrap_marked.proofs.SpreadWords.{last_text, spread-any, spread-words}
 use Rattle.textwrap_marked.proofs.TextBlocks.{AreClosing, closing-before, early-more, NoClose}
 use Rattle.textwrap_marks.specs.Signs.{ends_early, may_go_on}

@@ -1,8 +1,8 @@
 -- The words between white of a text that is put together.
-use Rattle.textwrap_marked_lines.proofs.Common.{◌≡◌, ℕ, ◌<◌, true, false, cond, List, [], ◌∷◌, ◌++◌, All}
-use Rattle.textwrap_marked_lines.proofs.Common.{All-head, All-tail, ap, arith, flat_map, length, lt-ltb}
-use Rattle.textwrap_marked_lines.proofs.Common.{onto_first, refl, slice_split, ◌∙◌, flat_map-append}
-use Rattle.textwrap_marked_lines.proofs.Common.{length-slice_split, has_bytes, is_white}
+use Rattle.textwrap_marked.proofs.LineNames.{◌≡◌, ℕ, ◌<◌, true, false, cond, List, [], ◌∷◌, ◌++◌, All}
+use Rattle.textwrap_marked.proofs.LineNames.{All-head, All-tail, ap, arith, flat_map, length, lt-ltb}
+use Rattle.textwrap_marked.proofs.LineNames.{onto_first, refl, slice_split, ◌∙◌, flat_map-append}
+use Rattle.textwrap_marked.proofs.LineNames.{length-slice_split, has_bytes, is_white}
 use Rattle.textwrap_marked.proofs.Common.{words_in}
 use Rattle.std.proofs.lemmas.List.Splits.{slice_split_none}
 use Rattle.textwrap_text.proofs.Lists.Parts.{onto_first-append}

@@ -1,7 +1,7 @@
 -- The blocks of a text: lines that stand apart, and paragraphs.
 use Rattle.std.specs.Prelude.{ℕ, ◌&&◌, ◌||◌, Bool, false, not, bytes_eq, List, [], ◌∷◌, suc}
 use Rattle.std.specs.Prelude.{if◌then◌else◌, take, drop}
-use Rattle.textwrap_marked_lines.specs.Lines.{LineText}
+use Rattle.textwrap_marked.specs.Lines.{LineText}
 use Rattle.textwrap_marks.specs.Signs.{first_word, opens_paragraph}
 
 -- a line belongs to the paragraph of the one above: the hanging form there is its prefix

@@ -5,3 +5,5 @@ pub mod Reflow
 pub mod Choosing
 pub mod Within
 pub mod Laws
+pub mod Hanging
+pub mod Lines

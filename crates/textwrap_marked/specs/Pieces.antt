@@ -3,7 +3,7 @@ use Rattle.std.specs.Prelude.{ℕ, ◌+◌, ◌||◌, Bool, false, not, nat_eq, 
 use Rattle.std.specs.Prelude.{codes, map, string_bytes, if◌then◌else◌}
 use Rattle.std.specs.List.{ends_with, flat_map}
 use Rattle.textwrap_text.specs.Blanks.{blank}
-use Rattle.textwrap_marked_lines.specs.Lines.{LineText}
+use Rattle.textwrap_marked.specs.Lines.{LineText}
 use Rattle.textwrap_marks.specs.Signs.{may_go_on}
 use Rattle.textwrap_marks.specs.declared.options.ReflowOptions.{ReflowOptions}
 use Rattle.textwrap_marked.specs.declared.pieces.JoinedWords.{JoinedWords}

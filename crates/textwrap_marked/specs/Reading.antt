@@ -1,6 +1,6 @@
 -- The lines and the blocks of a text that are still to be read.
 use Rattle.std.specs.Prelude.{ℕ, ◌+◌, List, [], ◌∷◌, Option, Some, None}
-use Rattle.textwrap_marked_lines.specs.Lines.{LineText, line_view, read_lines, state_view, with_titles}
+use Rattle.textwrap_marked.specs.Lines.{LineText, line_view, read_lines, state_view, with_titles}
 use Rattle.textwrap_marks.specs.Words.{bytes_left, parts_left}
 use Rattle.textwrap_marked.specs.declared.blocks.BlocksAhead.{BlocksAhead}
 use Rattle.textwrap_marks.specs.declared.options.ReflowOptions.{ReflowOptions}

@@ -13,7 +13,7 @@ use Rattle.textwrap_text.specs.declared.line_ending.LineEnding.{LineEnding}
 use Rattle.textwrap_text.specs.declared.line_ending.LineEnding.TheVariants.{CRLF, LF}
 use Rattle.textwrap_marked.specs.Blocks.{blocks, is_beside, stays}
 use Rattle.textwrap_marks.specs.Columns.{columns}
-use Rattle.textwrap_marked_lines.specs.Lines.{LineText, lines_of, without_returns}
+use Rattle.textwrap_marked.specs.Lines.{LineText, lines_of, without_returns}
 use Rattle.textwrap_marked.specs.Pieces.{pieces, words_of}
 use Rattle.textwrap_marks.specs.Signs.{last_white}
 use Rattle.textwrap_marks.specs.declared.options.Algorithm.{Algorithm}

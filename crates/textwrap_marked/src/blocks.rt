@@ -1,12 +1,12 @@
 //! The blocks of a text: lines that stand apart, and paragraphs.
 ghost use Rattle.std.specs.Prelude.{◌≡◌, ◌<◌, map, IfOk, Some};
 ghost use Rattle.textwrap_marked.specs.Blocks.{are_fields, behind_block, first_block, goes_on};
-ghost use Rattle.textwrap_marked_lines.specs.Lines.{line_view, lines_of};
+ghost use Rattle.textwrap_marked.specs.Lines.{line_view, lines_of};
 ghost use Rattle.textwrap_marked.specs.Reading.{lines_left, measure_left};
 
+use crate::lines::Line;
 use crate::reading::LinesAhead;
 use std::alloc::{AllocError, Global};
-use textwrap_marked_lines::lines::Line;
 use textwrap_marks::options::ReflowOptions;
 use textwrap_marks::signs::{first_word, opens_paragraph};
 

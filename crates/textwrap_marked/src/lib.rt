@@ -1,4 +1,5 @@
-//! Fills the paragraphs of a text again, in which marks stand before the words.
+//! Fills the paragraphs of a text again, in which marks stand before the words: what is read of each of
+//! its lines, what is open where it begins, its blocks, and what they are filled as.
 #![tactic(auto)]
 
 pub use choosing::has_chosen;
@@ -9,8 +10,12 @@ pub use within::{LineRange, reflow_within};
 mod blocks;
 mod choosing;
 mod filling;
+mod hanging;
 pub mod laws;
+mod line;
+mod lines;
 mod pieces;
 mod reading;
 mod reflowing;
+mod states;
 mod within;

@@ -1,13 +1,13 @@
 //! The text of a paragraph's words, and where it may be cut into pieces.
 ghost use Rattle.std.specs.Prelude.{◌≡◌, ◌++◌, [], map, IfOk, OnOk};
-ghost use Rattle.textwrap_marked_lines.specs.Lines.{line_view};
+ghost use Rattle.textwrap_marked.specs.Lines.{line_view};
 ghost use Rattle.textwrap_marked.specs.Pieces.{is_cut, is_kept_together, joined_of, joined_view};
 ghost use Rattle.textwrap_marked.specs.Pieces.{with_cut, with_word};
 ghost use Rattle.textwrap_marked.specs.Pieces.{words_of};
 ghost use Rattle.textwrap_marks.specs.Words.{spaced_view};
 
+use crate::lines::Line;
 use std::alloc::{AllocError, Global};
-use textwrap_marked_lines::lines::Line;
 use textwrap_marks::options::ReflowOptions;
 use textwrap_marks::signs::may_go_on;
 use textwrap_marks::words::SpacedWord;

@@ -1,13 +1,13 @@
 //! The lines of a text, read one after another.
 ghost use Rattle.std.specs.Prelude.{◌≡◌, ◌==◌, ◌<◌, ◌≤◌, ◌∷◌, length, IfOk, Some};
 ghost use Rattle.std.specs.List.{slice_split};
-ghost use Rattle.textwrap_marked_lines.specs.Lines.{line_view, lines_of, read_lines, state_view};
+ghost use Rattle.textwrap_marked.specs.Lines.{line_view, lines_of, read_lines, state_view};
 ghost use Rattle.textwrap_marked.specs.Reading.{bytes_ahead, lines_ahead};
 ghost use Rattle.textwrap_marks.specs.Words.{bytes_left, parts_left};
 
+use crate::lines::{Line, is_title, read_line, without_returns};
+use crate::states::State;
 use std::alloc::{AllocError, Global};
-use textwrap_marked_lines::lines::{Line, is_title, read_line, without_returns};
-use textwrap_marked_lines::states::State;
 use textwrap_marks::options::ReflowOptions;
 use textwrap_marks::words::split_at;
 

@@ -2,16 +2,16 @@
 ghost use Rattle.std.specs.Prelude.{◌≡◌, ℕ, ◌++◌, false, List, map, IfOk, OnOk, Some, string_bytes};
 ghost use Rattle.textwrap_base.specs.Errors.{Overflowed};
 ghost use Rattle.textwrap_marked.specs.Blocks.{blocks, is_beside, stays};
-ghost use Rattle.textwrap_marked_lines.specs.Lines.{line_view};
+ghost use Rattle.textwrap_marked.specs.Lines.{line_view};
 ghost use Rattle.textwrap_marked.specs.Reading.{lines_left};
 ghost use Rattle.textwrap_marked.specs.Reflow.{ending_of, filled_ending, AreOfBlocks, IsOfBlock};
 ghost use Rattle.textwrap_marked.specs.Reflow.{IsReflowed, IsReflowedFrom};
 
 use crate::blocks::{BlocksAhead, are_fields};
 use crate::filling::{push_filled, push_kept};
+use crate::lines::Line;
 use std::alloc::Global;
 use textwrap_lines::LineEnding;
-use textwrap_marked_lines::lines::Line;
 use textwrap_marks::options::ReflowOptions;
 use textwrap_marks::words::{ends_with, split_at};
 use textwrap_text::starts::without_start;

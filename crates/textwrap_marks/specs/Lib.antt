@@ -3,3 +3,4 @@ pub mod Fences
 pub mod Marks
 pub mod Signs
 pub mod Words
+pub mod Prefixes

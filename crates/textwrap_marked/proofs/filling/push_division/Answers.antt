@@ -1,7 +1,7 @@
 use Rattle.textwrap_marked.proofs.filling.push_division.Goals as goal
-use Rattle.textwrap_marked_lines.proofs.Common.{◌≡◌, ℕ, ◌-◌, ◌<◌, ◌==◌, ◌&&◌, Bool, not, List, [], ◌∷◌}
-use Rattle.textwrap_marked_lines.proofs.Common.{◌++◌, ap, append_assoc, arith, drop, flat_map, length}
-use Rattle.textwrap_marked_lines.proofs.Common.{map, nat_lt, refl, sym, take, take_all, ◌∙◌, WordText}
+use Rattle.textwrap_marked.proofs.LineNames.{◌≡◌, ℕ, ◌-◌, ◌<◌, ◌==◌, ◌&&◌, Bool, not, List, [], ◌∷◌}
+use Rattle.textwrap_marked.proofs.LineNames.{◌++◌, ap, append_assoc, arith, drop, flat_map, length}
+use Rattle.textwrap_marked.proofs.LineNames.{map, nat_lt, refl, sym, take, take_all, ◌∙◌, WordText}
 use Rattle.std.proofs.lemmas.Result.{on_ok_weaker}
 use Rattle.textwrap_text.proofs.Common.{get_or, length-map, nat_tests}
 use Rattle.textwrap_words.proofs.Common.{word_view}

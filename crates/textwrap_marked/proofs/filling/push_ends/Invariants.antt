@@ -1,6 +1,6 @@
 use Rattle.textwrap_marked.proofs.filling.push_ends.Given as goal
 use Rattle.textwrap_text.proofs.Common.{◌≡◌, ◌++◌, drop, map, string_bytes}
-use Rattle.textwrap_marked_lines.specs.Lines.{line_view}
+use Rattle.textwrap_marked.specs.Lines.{line_view}
 use Rattle.textwrap_marked.specs.Reflow.{filled_ends}
 
 -- with the lines that are left, it is the whole

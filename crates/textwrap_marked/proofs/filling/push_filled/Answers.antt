@@ -7,7 +7,7 @@ use Rattle.textwrap_marked.proofs.FittingPieces.{pieces-fit}
 use Rattle.textwrap_marked.proofs.PieceCuts.{joined-cuts}
 use Rattle.textwrap_marked.proofs.PieceLemmas.{joined-pieces}
 use Rattle.textwrap_marked.proofs.filling.push_filled.Goals.{After-deref-2}
-use Rattle.textwrap_marked_lines.specs.Lines.{line_view}
+use Rattle.textwrap_marked.specs.Lines.{line_view}
 use Rattle.textwrap_marked.specs.Pieces.{Joined, joined_of, joined_view, pieces, words_of}
 use Rattle.textwrap_marked.specs.Reflow.{algorithm_of, filled_end, printed, shown_lines}
 

@@ -1,6 +1,6 @@
 use Rattle.textwrap_marked.proofs.pieces.words_of.Given as goal
 use Rattle.textwrap_text.proofs.Common.{◌≡◌, ◌++◌, drop, map}
-use Rattle.textwrap_marked_lines.specs.Lines.{line_view}
+use Rattle.textwrap_marked.specs.Lines.{line_view}
 use Rattle.textwrap_marked.specs.Pieces.{words_of}
 
 -- with those of the lines that are left, they are all words

@@ -1,7 +1,7 @@
 use Rattle.textwrap_marked.proofs.reading.next_line.Goals as goal
 use Rattle.textwrap_text.proofs.Common.{ap, ◌∙◌}
 use Rattle.textwrap_marked.proofs.ReadLemmas.{fed-is, reads-line}
-use Rattle.textwrap_marked_lines.specs.Lines.{entered, line_view, read_lines, state_view}
+use Rattle.textwrap_marked.specs.Lines.{entered, line_view, read_lines, state_view}
 use Rattle.textwrap_marks.specs.Words.{parts_left}
 
 pub returns-clause-lines : goal.returns-clause-lines

@@ -2,7 +2,7 @@ use Rattle.textwrap_marked.proofs.reflowing.is_beside.Goals as goal
 use Rattle.textwrap_text.proofs.Common.{ap, sym, ◌∙◌}
 use Rattle.textwrap_marked.proofs.BlockLemmas.{blocks-first}
 use Rattle.textwrap_marked.specs.Blocks.{blocks, is_beside}
-use Rattle.textwrap_marked_lines.specs.Lines.{line_view}
+use Rattle.textwrap_marked.specs.Lines.{line_view}
 use Rattle.textwrap_marked.specs.Reading.{lines_ahead, lines_left}
 
 pub returns-in-Some : goal.returns-in-Some

@@ -3,7 +3,7 @@ use Rattle.textwrap_text.proofs.Common.{◌≡◌, ◌++◌, [], ◌||◌, ap, a
 use Rattle.textwrap_text.proofs.Common.{refl, subst, sym, ◌∙◌}
 use Rattle.textwrap_marked.proofs.LaidLemmas.{block-begins, laid-first}
 use Rattle.textwrap_marked.specs.Blocks.{blocks, is_beside, stays}
-use Rattle.textwrap_marked_lines.specs.Lines.{line_view}
+use Rattle.textwrap_marked.specs.Lines.{line_view}
 use Rattle.textwrap_marked.specs.Reading.{lines_ahead, lines_left}
 use Rattle.textwrap_marked.specs.Reflow.{AreOfBlocks, IsOfBlock}
 

@@ -6,7 +6,7 @@ use Rattle.std.specs.Prelude.{not}
 use Rattle.textwrap_marked.proofs.LaidLemmas.{block-begins}
 use Rattle.textwrap_marked.proofs.WithinLemmas.{behind-more, behind-none, touches-behind, within-first}
 use Rattle.textwrap_marked.specs.Blocks.{blocks, is_beside, stays}
-use Rattle.textwrap_marked_lines.specs.Lines.{line_view}
+use Rattle.textwrap_marked.specs.Lines.{line_view}
 use Rattle.textwrap_marked.specs.Reading.{lines_ahead, lines_left}
 use Rattle.textwrap_marked.specs.Reflow.{IsOfBlock}
 use Rattle.textwrap_marked.specs.Within.{AreOfBlocksWithin, range_behind, touches}

@@ -1,7 +1,7 @@
 use Rattle.textwrap_marked.proofs.blocks.BlocksAhead.next.Given as goal
 use Rattle.textwrap_text.proofs.Common.{◌≡◌, ◌≤◌, ◌++◌, ◌∷◌, map, Some}
 use Rattle.textwrap_marked.specs.Blocks.{behind_block, first_block}
-use Rattle.textwrap_marked_lines.specs.Lines.{line_view}
+use Rattle.textwrap_marked.specs.Lines.{line_view}
 use Rattle.textwrap_marked.specs.Reading.{bytes_ahead, lines_ahead, lines_left}
 
 -- with those of the block that are left, they are the block, and what is behind it stays

@@ -1,0 +1,143 @@
+-- What is open behind a line that does not stand apart.
+use Rattle.textwrap_marked.proofs.LineNames.{◌≡◌, ℕ, ◌&&◌, ◌||◌, not, Bool, true, false, cond, List, []}
+use Rattle.textwrap_marked.proofs.LineNames.{◌∷◌, All}
+use Rattle.textwrap_marked.proofs.LineNames.{All-weaker, ap, arith, cases_Bool, codes, eqb-true}
+use Rattle.textwrap_marked.proofs.LineNames.{list_any, nat_eq, nat_lt, nat_tests, None, prefix_len}
+use Rattle.textwrap_marked.proofs.LineNames.{refl, Some, starts_with, sym, true≢false}
+use Rattle.textwrap_marked.proofs.LineNames.{false_from_ne_true, ◌∙◌, ◌==◌, bytes_eq, is_some}
+use Rattle.textwrap_marked.proofs.LineNames.{deeper_by, has_words, LineText, new_fence, passed}
+use Rattle.textwrap_marked.proofs.LineNames.{StateText, begins_text, closes_block, first_word, front_of}
+use Rattle.textwrap_marked.proofs.LineNames.{has_columns, is_column_word, contains, has_byte}
+use Rattle.textwrap_marked.proofs.LineNames.{has_letter, SpacedText}
+use Rattle.textwrap_text.proofs.Common.{option_map, slice_index}
+use Rattle.textwrap_marks.proofs.Letterless.{lettered-other}
+use Rattle.textwrap_marks.proofs.ListLemmas.{and-left, and-right, any-none, none-any, or-left}
+use Rattle.textwrap_marks.specs.Columns.{depth_of, marks_of}
+use Rattle.textwrap_marks.specs.Fences.{has_pre_end, opened, opened_by, run_of}
+use Rattle.textwrap_marked.specs.Lines.{is_before, is_in_block, is_prompted, new_before, new_by}
+use Rattle.textwrap_marks.specs.Signs.{is_gap, is_sign, is_sign_byte}
+use Rattle.textwrap_marks.specs.declared.fences.FenceKind.TheVariants.{Pre}
+
+-- ---- the first word of a text
+
+and-three : (a b c : Bool) → (a && not b && c) ≡ true → (a ≡ true) × (b ≡ false)
+and-three a b c is = grind (arith, cases_Bool)
+
+pub text-letter : (starred : Bool) (word : List ℕ) → begins_text starred word ≡ true
+    → has_letter word ≡ true
+text-letter starred word is =
+    (and-three (has_letter word) (is_sign word) (not (starred && slice_index word 0 == 42)) is).0
+
+pub text-no-sign : (starred : Bool) (word : List ℕ) → begins_text starred word ≡ true
+    → is_sign word ≡ false
+text-no-sign starred word is =
+    (and-three (has_letter word) (is_sign word) (not (starred && slice_index word 0 == 42)) is).1
+
+-- it is none of the texts that have no letter
+pub text-other : (starred : Bool) (word other : List ℕ) → begins_text starred word ≡ true
+    → has_letter other ≡ false → bytes_eq word other ≡ false
+text-other starred word other is none =
+    lettered-other word other (text-letter starred word is) none
+
+-- ---- it opens no fence
+
+three : (mark : ℕ) (word : List ℕ) → nat_lt 2 (prefix_len (λ c. c == mark) word) ≡ true
+    → starts_with nat_eq word (mark ∷ mark ∷ mark ∷ []) ≡ true
+three mark [] long = absurd (true≢false (sym long))
+three mark (a ∷ []) long = grind (arith, nat_tests, cases_Bool)
+three mark (a ∷ b ∷ []) long = grind (arith, nat_tests, cases_Bool)
+three mark (a ∷ b ∷ c ∷ word) long = grind (arith, nat_tests, cases_Bool)
+
+run-none : (word : List ℕ) → is_sign word ≡ false → run_of word ≡ None
+run-none word none =
+    let mark = slice_index word 0 in
+    let len = prefix_len (λ c. c == mark) word in
+    ap (λ b. cond b (Some (record { mark = mark; len = len })) None)
+    (false_from_ne_true ((mark == 96 || mark == 126) && nat_lt 2 len) (λ is.
+    marked mark (three mark word (and-right (mark == 96 || mark == 126) (nat_lt 2 len) is))
+    (and-left (mark == 96 || mark == 126) (nat_lt 2 len) is)))
+  where
+    parts : (a b c d e : Bool) → (a || b || c || d || e) ≡ false → (d ≡ false) × (e ≡ false)
+    parts a b c d e is = grind (arith, cases_Bool)
+
+    signs : (starts_with nat_eq word (codes "```") ≡ false)
+        × (starts_with nat_eq word (codes "~~~") ≡ false)
+    signs =
+        parts (is_sign_byte (slice_index word 0)) (starts_with nat_eq word (codes "//"))
+        (starts_with nat_eq word (codes "/*")) (starts_with nat_eq word (codes "```"))
+        (starts_with nat_eq word (codes "~~~")) none
+
+    marked : (mark : ℕ) → starts_with nat_eq word (mark ∷ mark ∷ mark ∷ []) ≡ true
+        → (mark == 96 || mark == 126) ≡ true → ⊥
+    marked mark starts is = cut (mark == 96) refl is
+      where
+        cut : (b : Bool) → (mark == 96) ≡ b → (b || mark == 126) ≡ true → ⊥
+        cut true same either =
+            true≢false (sym starts ∙ ap (λ m. starts_with nat_eq word (m ∷ m ∷ m ∷ []))
+            (eqb-true mark 96 same) ∙ signs.0)
+        cut false same either =
+            true≢false (sym starts ∙ ap (λ m. starts_with nat_eq word (m ∷ m ∷ m ∷ []))
+            (eqb-true mark 126 either) ∙ signs.1)
+
+pub no-columns : (justify : Bool) (words : List SpacedText) → has_columns justify words ≡ false
+    → All (λ w. is_column_word w.word ≡ false) words
+no-columns justify words none =
+    any-none (λ w. is_column_word w.word) words
+    (or-left (list_any (λ w. is_column_word w.word) words)
+    (list_any (is_gap justify) (front_of words)) none)
+
+column-parts : (a b c d e f g : Bool) → (a || b || c || d || e || f || g) ≡ false
+    → (e ≡ false) × (g ≡ false)
+column-parts a b c d e f g is = grind (arith, cases_Bool)
+
+column-none : (word : List ℕ) → is_column_word word ≡ false
+    → (has_byte 13 word ≡ false) × (contains (codes "<pre") word ≡ false)
+column-none word none =
+    column-parts (bytes_eq word (codes "|")) (bytes_eq word (codes "//")) (bytes_eq word (codes "/*"))
+    (bytes_eq word (codes "#")) (has_byte 13 word) (contains (codes "]:") word)
+    (contains (codes "<pre") word) none
+
+pub no-return : (word : List ℕ) → is_column_word word ≡ false → has_byte 13 word ≡ false
+no-return word none = (column-none word none).0
+
+pub opened-none : (starred : Bool) (words : List SpacedText)
+    → begins_text starred (first_word words) ≡ true
+    → All (λ w. is_column_word w.word ≡ false) words → opened words ≡ None
+opened-none starred words begins none =
+    ap (λ r. opened_by r words) (run-none (first_word words)
+    (text-no-sign starred (first_word words) begins))
+    ∙ ap (λ b. cond (b && not (has_pre_end words)) (Some Pre) None)
+    (none-any (λ w. contains (codes "<pre") w.word) words
+    (All-weaker (λ w. is_column_word w.word ≡ false) (λ w. contains (codes "<pre") w.word ≡ false)
+    (λ w no. (column-none w.word no).1) words none))
+
+-- ---- the state behind it
+
+abbrev pub behind_text : Bool → List ℕ → List SpacedText → StateText
+behind_text in_block hanging words = record {
+  in_block = in_block && not (closes_block words);
+  fence = None;
+  prompted = false;
+  before = Some (depth_of hanging);
+  by = deeper_by words;
+}
+
+pub passed-is : (state : StateText) (line : LineText) (in_block : Bool) → state.fence ≡ None
+    → line.deeper ≡ false → opened line.words ≡ None → has_words line.words ≡ true
+    → is_prompted state.prompted line.words ≡ false
+    → is_in_block state.in_block false line ≡ (in_block && not (closes_block line.words))
+    → passed state line ≡ behind_text in_block line.hanging line.words
+passed-is state line in_block none level opens some prompts block =
+    let unfenced : is_some state.fence ≡ false = ap is_some none in
+    let before : is_before (is_some state.fence) line ≡ true =
+    ap (λ b. is_before b line) unfenced ∙ ap (λ d. not d && has_words line.words) level ∙ some in
+    λ i. record {
+      in_block = (ap (λ b. is_in_block state.in_block b line) unfenced ∙ block) i;
+      fence = (ap (λ f. new_fence f line) none
+          ∙ ap (λ d. cond d None (option_map (λ kind. record { marks = marks_of line.hanging; kind = kind })
+          (opened line.words))) level
+          ∙ ap (option_map (λ kind. record { marks = marks_of line.hanging; kind = kind })) opens) i;
+      prompted = prompts i;
+      before = ap (λ b. new_before state.before b line) before i;
+      by = ap (λ b. new_by state.by b line.words) before i;
+    }

@@ -1,0 +1,212 @@
+//! What is open at a line.
+ghost use Rattle.std.specs.Prelude.{◌≡◌, map, true, IfOk};
+ghost use Rattle.std.specs.Option.{option_map};
+ghost use Rattle.textwrap_marks.specs.Fences.{fence_view};
+ghost use Rattle.textwrap_marks.specs.Columns.{depth_view};
+ghost use Rattle.textwrap_marked.specs.Lines.{deeper_by, entered, fence_at, first_state, is_before};
+ghost use Rattle.textwrap_marked.specs.Lines.{is_in_block, is_prompt, is_prompted, line_view};
+ghost use Rattle.textwrap_marked.specs.Lines.{new_before, new_by, new_fence, opened_fence, passed};
+ghost use Rattle.textwrap_marked.specs.Lines.{state_view};
+ghost use Rattle.textwrap_marks.specs.Signs.{ArePlain};
+ghost use Rattle.textwrap_marks.specs.Words.{spaced_view};
+
+use crate::line::Line;
+use std::alloc::{AllocError, Global};
+use textwrap_marks::columns::{Depth, depth_of, marks_of};
+use textwrap_marks::fences::{Fence, is_closed_by, is_left_by, opened};
+use textwrap_marks::signs::{closes_block, first_word, last_word};
+use textwrap_marks::words::{SpacedWord, ends_with};
+
+/// What is open: a block comment, a fence, a prompt; how deep the last text stood that was not
+/// fenced or deeper, and by how many columns text is deeper.
+#[derive(Drop)]
+pub struct State {
+    pub in_block: bool,
+    pub fence: Option<Fence>,
+    pub prompted: bool,
+    pub before: Option<Depth>,
+    pub by: usize,
+}
+
+impl State {
+    /// Nothing is open.
+    pub fn new() -> Self
+        ensures { state_view result ≡ first_state }
+    {
+        State {
+            in_block: false,
+            fence: None,
+            prompted: false,
+            before: None,
+            by: 4,
+        }
+    }
+
+    /// What is open at a line: a fence ends before one without its marks.
+    pub fn enter(self, line: &str) -> Self
+        ensures { state_view result ≡ entered (state_view self) line.now }
+    {
+        let State {
+            in_block,
+            fence,
+            prompted,
+            before,
+            by,
+        } = self;
+        State {
+            in_block,
+            fence: fence_at(fence, line),
+            prompted,
+            before,
+            by,
+        }
+    }
+
+    /// What is open behind a line.
+    pub fn pass(self, alloc: Global, line: &Line<'_>) -> Result<Self, AllocError>
+        requires { line.now.plain ≡ true → ArePlain (line_view line.now).words }
+        ensures { IfOk result (λ state. state_view state
+            ≡ passed (state_view self) (line_view line.now)) }
+    {
+        let State {
+            in_block,
+            fence,
+            prompted,
+            before,
+            by,
+        } = self;
+        let fenced = fence.is_some();
+        let is_before = is_before(fenced, line);
+        let fence = new_fence(alloc, fence, line)?;
+        let before = new_before(alloc, before, is_before, line)?;
+        Ok(State {
+            in_block: is_in_block(in_block, fenced, line),
+            fence,
+            prompted: is_prompted(prompted, &line.words),
+            before,
+            by: new_by(by, is_before, &line.words),
+        })
+    }
+}
+
+/// The fence that is still open at a line.
+fn fence_at(fence: Option<Fence>, line: &str) -> Option<Fence>
+    ensures { option_map fence_view result ≡ fence_at (option_map fence_view fence) line.now }
+{
+    match fence {
+        Some(fence) => {
+            if is_left_by(&fence, line) {
+                None
+            } else {
+                Some(fence)
+            }
+        }
+        None => None,
+    }
+}
+
+/// The fence that is open behind a line.
+fn new_fence(
+    alloc: Global,
+    fence: Option<Fence>,
+    line: &Line<'_>,
+) -> Result<Option<Fence>, AllocError>
+    requires { line.now.plain ≡ true → ArePlain (line_view line.now).words }
+    ensures { IfOk result (λ new. option_map fence_view new
+        ≡ new_fence (option_map fence_view fence) (line_view line.now)) }
+{
+    match fence {
+        Some(fence) => {
+            if is_closed_by(&fence, line.hanging.as_str(), &line.words) {
+                Ok(None)
+            } else {
+                Ok(Some(fence))
+            }
+        }
+        None => opened_fence(alloc, line),
+    }
+}
+
+/// The fence that a line opens, if it does.
+fn opened_fence(alloc: Global, line: &Line<'_>) -> Result<Option<Fence>, AllocError>
+    requires { line.now.plain ≡ true → ArePlain (line_view line.now).words }
+    ensures { IfOk result (λ new. option_map fence_view new ≡ opened_fence (line_view line.now)) }
+{
+    if line.deeper {
+        return Ok(None);
+    }
+    match opened(line.plain, &line.words) {
+        Some(kind) => {
+            let marks = String::from_str(alloc, marks_of(line.hanging.as_str()))?;
+            Ok(Some(Fence { marks, kind }))
+        }
+        None => Ok(None),
+    }
+}
+
+/// Whether a line is the text before later lines.
+fn is_before(fenced: bool, line: &Line<'_>) -> bool
+    ensures { result ≡ is_before fenced (line_view line.now) }
+{
+    !fenced & !line.deeper & !line.words.is_empty()
+}
+
+/// How deep the text before later lines stands.
+fn new_before(
+    alloc: Global,
+    before: Option<Depth>,
+    is_before: bool,
+    line: &Line<'_>,
+) -> Result<Option<Depth>, AllocError>
+    ensures { IfOk result (λ new. option_map depth_view new
+        ≡ new_before (option_map depth_view before) is_before (line_view line.now)) }
+{
+    if is_before {
+        Ok(Some(depth_of(alloc, line.hanging.as_str())?))
+    } else {
+        Ok(before)
+    }
+}
+
+/// By how many columns text is deeper behind a line.
+fn new_by(by: usize, is_before: bool, words: &[SpacedWord<'_>]) -> usize
+    ensures { result ≡ new_by by is_before (map spaced_view words.now) }
+{
+    if is_before { deeper_by(words) } else { by }
+}
+
+/// Whether a block comment is open behind a line.
+fn is_in_block(in_block: bool, fenced: bool, line: &Line<'_>) -> bool
+    ensures { result ≡ is_in_block in_block fenced (line_view line.now) }
+{
+    if in_block {
+        !closes_block(&line.words)
+    } else {
+        !fenced & line.opens_block
+    }
+}
+
+/// Whether a prompt is open behind these words.
+fn is_prompted(prompted: bool, words: &[SpacedWord<'_>]) -> bool
+    ensures { result ≡ is_prompted prompted (map spaced_view words.now) }
+{
+    !words.is_empty() & (prompted | is_prompt(first_word(words)))
+}
+
+/// Whether a word is a prompt of a shell, or of Python.
+fn is_prompt(word: &str) -> bool
+    ensures { result ≡ is_prompt word.now }
+{
+    matches!(word, "$" | ">>>")
+}
+
+/// By how many columns text is deeper behind these words.
+fn deeper_by(words: &[SpacedWord<'_>]) -> usize
+    ensures { result ≡ deeper_by (map spaced_view words.now) }
+{
+    if ends_with(last_word(words), "::") | (first_word(words) == "..") {
+        1
+    } else {
+        4
+    }
+}

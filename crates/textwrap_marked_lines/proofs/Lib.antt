@@ -1,3 +1,0 @@
-pub mod BulletLemmas
-pub mod OpenBehind
-pub mod Common

@@ -2,7 +2,10 @@ pub mod Blanks
 pub mod Characters
 pub mod CharactersLeft
 pub mod Chunks
+pub mod ClassSets
+pub mod Classes
 pub mod Escapes
+pub mod Ideographs
 pub mod LentText
 pub mod Units
 pub mod Laws

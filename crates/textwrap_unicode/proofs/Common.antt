@@ -1,5 +1,5 @@
 -- The names of the definitions and lemmas that most proofs cite. Declares nothing.
-pub use Rattle.textwrap_classes.proofs.Common.{not-true, ◌↔◌}
+pub use Rattle.textwrap_text.proofs.ClassNames.{not-true, ◌↔◌}
 pub use Rattle.textwrap_unicode.specs.{Before.before_of, Before.nothing, BreaksLeft.and_words}
 pub use Rattle.textwrap_unicode.specs.{BreaksLeft.and, declared.numbers.Numbers.TheVariants.ByPairs}
 pub use Rattle.textwrap_unicode.specs.{BreaksLeft.breaks_after, declared.rules.Verdict.Verdict}

@@ -1,11 +1,11 @@
 -- The breaks that are still to come: those the iterator gives, and where a line is cut at them.
 use Rattle.std.proofs.lemmas.List.{Elements.All-map, Folds.list_any-append, Folds.list_any_none}
-use Rattle.textwrap_classes.proofs.Common.{Bool, append_assoc, map, read-next, refl, sym, ◌∙◌, ◌≢◌}
-use Rattle.textwrap_classes.proofs.Common.{IsUtf8, [], drop, length-append, list_any, true, unit_of}
-use Rattle.textwrap_classes.proofs.Common.{List, encode, false, not, takes_no_mark, ◌++◌, ◌≡◌, ◌≤◌}
-use Rattle.textwrap_classes.proofs.Common.{ap, append-nil, arith, inl, inr, nat_tests, ℕ, ◌<◌, ◌==◌}
-use Rattle.textwrap_classes.proofs.Common.{cases_Bool, chars, length, ne_eqb, subst, ◌&&◌, ◌+◌, ◌∷◌}
-use Rattle.textwrap_classes.{proofs.Common.if◌then◌else◌, specs.declared.classes.Unit.Unit}
+use Rattle.textwrap_text.proofs.ClassNames.{Bool, append_assoc, map, read-next, refl, sym, ◌∙◌, ◌≢◌}
+use Rattle.textwrap_text.proofs.ClassNames.{IsUtf8, [], drop, length-append, list_any, true, unit_of}
+use Rattle.textwrap_text.proofs.ClassNames.{List, encode, false, not, takes_no_mark, ◌++◌, ◌≡◌, ◌≤◌}
+use Rattle.textwrap_text.proofs.ClassNames.{ap, append-nil, arith, inl, inr, nat_tests, ℕ, ◌<◌, ◌==◌}
+use Rattle.textwrap_text.proofs.ClassNames.{cases_Bool, chars, length, ne_eqb, subst, ◌&&◌, ◌+◌, ◌∷◌}
+use Rattle.textwrap_text.{proofs.Common.if◌then◌else◌, specs.declared.classes.Unit.Unit}
 use Rattle.textwrap_text.proofs.Common.{All, All-nil, Visible, cond, flat_map, next_of, rules}
 use Rattle.textwrap_text.proofs.Common.{All-append, IsUtf8-append, IsUtf8-nil, encodes-chars, shows}
 use Rattle.textwrap_text.proofs.Common.{All-cons, Sequence, TextUnit, cases_eq, chars-nil, stripped}

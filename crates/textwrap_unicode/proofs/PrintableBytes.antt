@@ -2,15 +2,15 @@
 -- also before blanks.
 use Rattle.std.{proofs.lemmas.Bool.agree_below, proofs.lemmas.Bool.or_right, specs.Prelude.bit_and}
 use Rattle.std.proofs.lemmas.Bool.{agree_below_at}
-use Rattle.textwrap_classes.{proofs.Common.list_any, specs.declared.ascii.TheConstants.CLASSES}
-use Rattle.textwrap_classes.proofs.ClassLemmas.{agree, agree-same, ascii_class, past-first}
-use Rattle.textwrap_classes.proofs.Common.{cases_Bool, if◌then◌else◌, is_after_text, slice_index_or}
-use Rattle.textwrap_classes.proofs.Common.{Ambiguous, and_parts, false, is_opening, nat_tests, ℕ}
-use Rattle.textwrap_classes.proofs.Common.{add-one, class_of, is_blank, is_mark, is_space, unit_of}
-use Rattle.textwrap_classes.proofs.Common.{Bool, List, arith, get_or, length, nat_lt, subst}
-use Rattle.textwrap_classes.proofs.Common.{inl, inr, not, refl, take, true, zero, ◌&&◌, ◌==◌, ◌||◌}
-use Rattle.textwrap_classes.proofs.Common.{[], ap, suc, sym, ◌+◌, ◌-◌, ◌<◌, ◌∙◌, ◌∷◌, ◌≡◌, ◌≤◌}
-use Rattle.textwrap_classes.specs.ClassSets.{is_hebrew, is_regional_indicator, is_zwj}
+use Rattle.textwrap_text.{proofs.Common.list_any, specs.declared.ascii.TheConstants.CLASSES}
+use Rattle.textwrap_text.proofs.ClassLemmas.{agree, agree-same, ascii_class, past-first}
+use Rattle.textwrap_text.proofs.ClassNames.{cases_Bool, if◌then◌else◌, is_after_text, slice_index_or}
+use Rattle.textwrap_text.proofs.ClassNames.{Ambiguous, and_parts, false, is_opening, nat_tests, ℕ}
+use Rattle.textwrap_text.proofs.ClassNames.{add-one, class_of, is_blank, is_mark, is_space, unit_of}
+use Rattle.textwrap_text.proofs.ClassNames.{Bool, List, arith, get_or, length, nat_lt, subst}
+use Rattle.textwrap_text.proofs.ClassNames.{inl, inr, not, refl, take, true, zero, ◌&&◌, ◌==◌, ◌||◌}
+use Rattle.textwrap_text.proofs.ClassNames.{[], ap, suc, sym, ◌+◌, ◌-◌, ◌<◌, ◌∙◌, ◌∷◌, ◌≡◌, ◌≤◌}
+use Rattle.textwrap_text.specs.ClassSets.{is_hebrew, is_regional_indicator, is_zwj}
 use Rattle.textwrap_text.proofs.Common.{IsPrintable, IsPrintableByte, get_or-drop, length-take-le}
 use Rattle.textwrap_text.proofs.Common.{eqb-true, get_or-take, length-drop, trimmed_len}
 use Rattle.textwrap_text.proofs.Common.{add-zero, list_all}
@@ -18,7 +18,7 @@ use Rattle.textwrap_unicode.proofs.Common.{class_past_blanks, is_any_hyphen, is_
 use Rattle.textwrap_unicode.proofs.Common.{Before, and, before_of, decide, may_end, not-true}
 use Rattle.textwrap_unicode.proofs.WordVerdicts.{ascii-is, unit_with}
 use Rattle.textwrap_unicode.specs.Pairs.{behind_classes, is_cut_behind, may_follow_blanks}
-use Rattle.textwrap_classes.specs.ClassSets.{is_affix, is_letter, is_number}
+use Rattle.textwrap_text.specs.ClassSets.{is_affix, is_letter, is_number}
 use Rattle.textwrap_unicode.specs.declared.pairs.TheConstants.{KINDS, UNUSUAL_AFTER}
 use Rattle.textwrap_words.proofs.Word.Texts.{final_blanks-blank, trimmed-other}
 use Rattle.unicode.proofs.LineBreakLemmas.{line_break_number_injective}

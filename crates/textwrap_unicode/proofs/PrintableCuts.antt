@@ -2,12 +2,12 @@
 -- blanks.
 use Rattle.std.proofs.lemmas.Bool.{agree_below, agree_below_at, not-false, or_parts}
 use Rattle.std.proofs.{Common.bit_and, Math.Bool.and-true, lemmas.Str.encode_ascii}
-use Rattle.textwrap_classes.proofs.Common.{Bool, List, arith, drop, false, get_or, refl, subst, ◌≤◌}
-use Rattle.textwrap_classes.proofs.Common.{[], ap, inl, map, not, suc, ◌<◌, ◌∙◌, ◌∷◌, ◌≡◌}
-use Rattle.textwrap_classes.proofs.Common.{and-false, and_parts, cases_Bool, cases_lt, true≢false}
-use Rattle.textwrap_classes.proofs.Common.{class_of, encode, is_blank, is_space, length, unit_of, ℕ}
-use Rattle.textwrap_classes.proofs.Common.{if◌then◌else◌, is_after_text, is_opening, slice_index_or}
-use Rattle.textwrap_classes.proofs.Common.{inr, sym, true, zero, ◌&&◌, ◌++◌, ◌+◌, ◌-◌, ◌==◌, ◌||◌}
+use Rattle.textwrap_text.proofs.ClassNames.{Bool, List, arith, drop, false, get_or, refl, subst, ◌≤◌}
+use Rattle.textwrap_text.proofs.ClassNames.{[], ap, inl, map, not, suc, ◌<◌, ◌∙◌, ◌∷◌, ◌≡◌}
+use Rattle.textwrap_text.proofs.ClassNames.{and-false, and_parts, cases_Bool, cases_lt, true≢false}
+use Rattle.textwrap_text.proofs.ClassNames.{class_of, encode, is_blank, is_space, length, unit_of, ℕ}
+use Rattle.textwrap_text.proofs.ClassNames.{if◌then◌else◌, is_after_text, is_opening, slice_index_or}
+use Rattle.textwrap_text.proofs.ClassNames.{inr, sym, true, zero, ◌&&◌, ◌++◌, ◌+◌, ◌-◌, ◌==◌, ◌||◌}
 use Rattle.textwrap_text.proofs.Common.{IsPrintable, IsUtf8-from_ascii, chars-IsAscii, trimmed_len}
 use Rattle.textwrap_text.proofs.Common.{IsPrintableByte, false_from_ne_true, is_ascii_alphanumeric}
 use Rattle.textwrap_text.proofs.Common.{Visible, is_cut, rules}

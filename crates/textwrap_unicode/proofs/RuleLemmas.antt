@@ -1,13 +1,13 @@
 -- The sets of classes, what the rules come to after each class and after given characters, and
 -- places for which few of them are needed.
 use Rattle.std.proofs.lemmas.Bool.{and_left, cond-false, or_left, or_parts, true_from_ne_false}
-use Rattle.textwrap_classes.proofs.Common.{Bool, List, arith, false, is_mark, refl, true, unit_of}
-use Rattle.textwrap_classes.proofs.Common.{[], ap, not, ℕ, ◌&&◌, ◌++◌, ◌||◌, ◌∙◌, ◌∷◌, ◌≡◌, ◌≢◌}
-use Rattle.textwrap_classes.proofs.Common.{and-false, and_from, cases_Bool, class_of, is_space, sym}
-use Rattle.textwrap_classes.proofs.Common.{if◌then◌else◌, is_after_text, is_opening, takes_no_mark}
-use Rattle.textwrap_classes.specs.ClassSets.{breaks_on_both_sides, is_line_end, is_zero_width_space}
-use Rattle.textwrap_classes.specs.ClassSets.{is_carriage_return, is_closing, is_quotation}
-use Rattle.textwrap_classes.specs.declared.classes.Unit.{Unit}
+use Rattle.textwrap_text.proofs.ClassNames.{Bool, List, arith, false, is_mark, refl, true, unit_of}
+use Rattle.textwrap_text.proofs.ClassNames.{[], ap, not, ℕ, ◌&&◌, ◌++◌, ◌||◌, ◌∙◌, ◌∷◌, ◌≡◌, ◌≢◌}
+use Rattle.textwrap_text.proofs.ClassNames.{and-false, and_from, cases_Bool, class_of, is_space, sym}
+use Rattle.textwrap_text.proofs.ClassNames.{if◌then◌else◌, is_after_text, is_opening, takes_no_mark}
+use Rattle.textwrap_text.specs.ClassSets.{breaks_on_both_sides, is_line_end, is_zero_width_space}
+use Rattle.textwrap_text.specs.ClassSets.{is_carriage_return, is_closing, is_quotation}
+use Rattle.textwrap_text.specs.declared.classes.Unit.{Unit}
 use Rattle.textwrap_text.proofs.Common.{◌⊎◌}
 use Rattle.textwrap_unicode.proofs.Common.{Allowed, Mandatory, Prohibited, numbers_rule, verdict_by}
 use Rattle.textwrap_unicode.proofs.Common.{Before, Numbers, Verdict, before_of, decide_by, not-true}

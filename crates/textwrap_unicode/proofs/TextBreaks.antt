@@ -5,11 +5,11 @@ use Rattle.std.proofs.lemmas.List.{Elements.Contains-append_cases, append-nil, a
 use Rattle.std.proofs.lemmas.{List.Sums.fold-append, Str.encodes_same, Str.length-le-encodes}
 use Rattle.std.specs.List.{All, Contains, fold}
 use Rattle.std.{proofs.Math.Seq.take-append_seam, specs.Str.IsCharBoundary}
-use Rattle.textwrap_classes.proofs.Common.{Bool, List, false, inl, refl, subst, take, true, ◌++◌}
-use Rattle.textwrap_classes.proofs.Common.{IsUtf8, arith, chars, encode, get_or, length, unit_of, ℕ}
-use Rattle.textwrap_classes.proofs.Common.{[], ap, inr, sym, ◌+◌, ◌<◌, ◌∙◌, ◌∷◌, ◌≡◌, ◌≢◌, ◌≤◌}
-use Rattle.textwrap_classes.proofs.Common.{append_assoc, cases_Bool, if◌then◌else◌, length-append}
-use Rattle.textwrap_classes.specs.declared.classes.Unit.{Unit}
+use Rattle.textwrap_text.proofs.ClassNames.{Bool, List, false, inl, refl, subst, take, true, ◌++◌}
+use Rattle.textwrap_text.proofs.ClassNames.{IsUtf8, arith, chars, encode, get_or, length, unit_of, ℕ}
+use Rattle.textwrap_text.proofs.ClassNames.{[], ap, inr, sym, ◌+◌, ◌<◌, ◌∙◌, ◌∷◌, ◌≡◌, ◌≢◌, ◌≤◌}
+use Rattle.textwrap_text.proofs.ClassNames.{append_assoc, cases_Bool, if◌then◌else◌, length-append}
+use Rattle.textwrap_text.specs.declared.classes.Unit.{Unit}
 use Rattle.textwrap_text.proofs.Common.{IsCharBoundary-from_take, encodes-append, encodes-chars}
 use Rattle.textwrap_text.proofs.Common.{chars-nil, map-append, rules}
 use Rattle.textwrap_text.proofs.Lists.Elements.{IsInOrder, order-cons, order-nil, same-members}

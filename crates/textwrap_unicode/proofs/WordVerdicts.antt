@@ -1,14 +1,14 @@
 -- What the rules say behind letters and ideographs, over which a line is read all at once.
 use Rattle.std.{proofs.lemmas.Str.encode_ascii, specs.Char.len_utf8}
-use Rattle.textwrap_classes.proofs.Common.{Bool, List, arith, chars, drop, refl, true, zero, ◌&&◌}
-use Rattle.textwrap_classes.proofs.Common.{IsIdeographAt, class_of, ideograph_places, if◌then◌else◌}
-use Rattle.textwrap_classes.proofs.Common.{add-one, append-nil, append_assoc, cases_Bool, nat_tests}
-use Rattle.textwrap_classes.proofs.Common.{encode, false, get_or, is_space, length, subst, unit_of}
-use Rattle.textwrap_classes.proofs.Common.{suc, sym, ◌*◌, ◌++◌, ◌+◌, ◌<◌, ◌==◌, ◌||◌, ◌∙◌, ◌∷◌, ◌≤◌}
-use Rattle.textwrap_classes.proofs.{ClassLemmas.ascii_class, ClassLemmas.ascii_unit, Common.[]}
-use Rattle.textwrap_classes.specs.Ideographs.{IsCommonIdeograph, wide_ideograph}
-use Rattle.textwrap_classes.{proofs.Common.ap, proofs.Common.◌≡◌, specs.declared.classes.Unit.Unit}
-use Rattle.textwrap_classes.{proofs.Common.ℕ, specs.ClassSets.is_infix, specs.ClassSets.is_letter}
+use Rattle.textwrap_text.proofs.ClassNames.{Bool, List, arith, chars, drop, refl, true, zero, ◌&&◌}
+use Rattle.textwrap_text.proofs.ClassNames.{IsIdeographAt, class_of, ideograph_places, if◌then◌else◌}
+use Rattle.textwrap_text.proofs.ClassNames.{add-one, append-nil, append_assoc, cases_Bool, nat_tests}
+use Rattle.textwrap_text.proofs.ClassNames.{encode, false, get_or, is_space, length, subst, unit_of}
+use Rattle.textwrap_text.proofs.ClassNames.{suc, sym, ◌*◌, ◌++◌, ◌+◌, ◌<◌, ◌==◌, ◌||◌, ◌∙◌, ◌∷◌, ◌≤◌}
+use Rattle.textwrap_text.proofs.{ClassLemmas.ascii_class, ClassLemmas.ascii_unit, Common.[]}
+use Rattle.textwrap_text.specs.Ideographs.{IsCommonIdeograph, wide_ideograph}
+use Rattle.textwrap_text.{proofs.Common.ap, proofs.Common.◌≡◌, specs.declared.classes.Unit.Unit}
+use Rattle.textwrap_text.{proofs.Common.ℕ, specs.ClassSets.is_infix, specs.ClassSets.is_letter}
 use Rattle.textwrap_text.proofs.Common.{add-zero, drop-drop, drop_more, length-encode, visible_in}
 use Rattle.textwrap_text.proofs.{Common.eqb, Common.rules, Units.Reading.plain-step}
 use Rattle.textwrap_text.specs.declared.escapes.State.{State, TheVariants.Text}

@@ -5,12 +5,12 @@ use Rattle.std.specs.Prelude.{if◌then◌else◌}
 use Rattle.std.specs.List.{fold}
 use Rattle.unicode.specs.declared.properties.LineBreak.{LineBreak}
 use Rattle.unicode.specs.declared.properties.LineBreak.TheVariants.{Alphabetic, Unknown}
-use Rattle.textwrap_classes.specs.declared.classes.Unit.{Unit}
+use Rattle.textwrap_text.specs.declared.classes.Unit.{Unit}
 use Rattle.textwrap_unicode.specs.declared.before.Before.{Before}
-use Rattle.textwrap_classes.specs.ClassSets.{is_closing, is_hebrew, is_inside_number, is_mark}
-use Rattle.textwrap_classes.specs.ClassSets.{is_number, is_regional_indicator, is_space, is_zwj}
-use Rattle.textwrap_classes.specs.ClassSets.{takes_no_mark}
-use Rattle.textwrap_classes.specs.Classes.{unit_of}
+use Rattle.textwrap_text.specs.ClassSets.{is_closing, is_hebrew, is_inside_number, is_mark}
+use Rattle.textwrap_text.specs.ClassSets.{is_number, is_regional_indicator, is_space, is_zwj}
+use Rattle.textwrap_text.specs.ClassSets.{takes_no_mark}
+use Rattle.textwrap_text.specs.Classes.{unit_of}
 
 -- the units before a place, the nearest first, without marks that belong to one; and whether a ZWJ
 -- stands directly before it

@@ -10,7 +10,7 @@ use Rattle.textwrap_unicode.specs.declared.rules.Verdict.{Verdict}
 use Rattle.textwrap_unicode.specs.declared.rules.Verdict.TheVariants.{Mandatory, Allowed}
 use Rattle.textwrap_unicode.specs.declared.rules.Verdict.TheVariants.{Prohibited}
 use Rattle.textwrap_unicode.specs.Before.{Text, before_of, is_empty, nothing, text_of, with_unit}
-use Rattle.textwrap_classes.specs.Classes.{unit_of}
+use Rattle.textwrap_text.specs.Classes.{unit_of}
 use Rattle.textwrap_unicode.specs.Rules.{decide_by, numbers_rule}
 
 -- what the rules say of the place between these characters and this one, which others follow

@@ -4,14 +4,14 @@ use Rattle.std.specs.Prelude.{length, encode_utf8, if◌then◌else◌}
 use Rattle.unicode.specs.declared.properties.LineBreak.TheVariants.{Alphabetic, InfixNumeric, Space}
 use Rattle.textwrap_unicode.specs.declared.before.Before.{Before}
 use Rattle.textwrap_unicode.specs.declared.breaks.LineBreak.{LineBreak}
-use Rattle.textwrap_classes.specs.declared.classes.Unit.{Unit}
+use Rattle.textwrap_text.specs.declared.classes.Unit.{Unit}
 use Rattle.textwrap_unicode.specs.declared.numbers.Numbers.{Numbers}
 use Rattle.textwrap_unicode.specs.Before.{as_letter}
 use Rattle.textwrap_unicode.specs.Breaks.{break_at}
-use Rattle.textwrap_classes.specs.ClassSets.{is_closing, is_hebrew, is_inside_number, is_mark}
-use Rattle.textwrap_classes.specs.ClassSets.{is_number, is_regional_indicator, is_space, is_zwj}
-use Rattle.textwrap_classes.specs.ClassSets.{takes_no_mark}
-use Rattle.textwrap_classes.specs.Classes.{unit_of}
+use Rattle.textwrap_text.specs.ClassSets.{is_closing, is_hebrew, is_inside_number, is_mark}
+use Rattle.textwrap_text.specs.ClassSets.{is_number, is_regional_indicator, is_space, is_zwj}
+use Rattle.textwrap_text.specs.ClassSets.{takes_no_mark}
+use Rattle.textwrap_text.specs.Classes.{unit_of}
 use Rattle.textwrap_unicode.specs.Rules.{decide_by, numbers_rule}
 
 -- what stands before the place after a unit that stands by itself

@@ -10,10 +10,10 @@ use Rattle.textwrap_unicode.specs.declared.rules.Verdict.TheVariants.{Mandatory,
 use Rattle.textwrap_unicode.specs.declared.rules.Verdict.TheVariants.{Prohibited}
 use Rattle.textwrap_unicode.specs.Before.{class_past_spaces, text_of}
 use Rattle.textwrap_unicode.specs.Breaks.{AreBreaksBy, IsBreakBy, breaks_by, verdict_by}
-use Rattle.textwrap_classes.specs.Classes.{class_of}
-use Rattle.textwrap_classes.specs.ClassSets.{is_after_text, is_carriage_return, is_line_end}
-use Rattle.textwrap_classes.specs.ClassSets.{is_line_feed, is_mark, is_zero_width_space}
-use Rattle.textwrap_classes.specs.ClassSets.{takes_no_mark}
+use Rattle.textwrap_text.specs.Classes.{class_of}
+use Rattle.textwrap_text.specs.ClassSets.{is_after_text, is_carriage_return, is_line_end}
+use Rattle.textwrap_text.specs.ClassSets.{is_line_feed, is_mark, is_zero_width_space}
+use Rattle.textwrap_text.specs.ClassSets.{takes_no_mark}
 
 -- the computed list has each break of the text, and nothing else
 abbrev pub ListHasBreaks : Type 0

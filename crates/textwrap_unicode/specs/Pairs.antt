@@ -8,8 +8,8 @@ use Rattle.textwrap_text.specs.Units.{IsPrintable}
 use Rattle.textwrap_words.specs.WordOffsets.{is_any_hyphen}
 use Rattle.textwrap_words.specs.Words.{is_cut}
 use Rattle.textwrap_unicode.specs.declared.before.Before.{Before}
-use Rattle.textwrap_classes.specs.ClassSets.{is_after_text, is_opening, is_quotation, is_space}
-use Rattle.textwrap_classes.specs.Classes.{class_of, unit_of}
+use Rattle.textwrap_text.specs.ClassSets.{is_after_text, is_opening, is_quotation, is_space}
+use Rattle.textwrap_text.specs.Classes.{class_of, unit_of}
 use Rattle.textwrap_unicode.specs.Cuts.{may_end, unicode_cuts}
 use Rattle.textwrap_unicode.specs.Rules.{decide}
 

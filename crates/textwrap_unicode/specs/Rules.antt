@@ -3,29 +3,29 @@
 -- next unit. In the comments × is "may not", ÷ "may", ! "must".
 use Rattle.std.specs.Prelude.{ℕ, ◌&&◌, ◌||◌, Bool, false, not, List, [], ◌∷◌, if◌then◌else◌}
 use Rattle.textwrap_unicode.specs.declared.before.Before.{Before}
-use Rattle.textwrap_classes.specs.declared.classes.Unit.{Unit}
+use Rattle.textwrap_text.specs.declared.classes.Unit.{Unit}
 use Rattle.textwrap_unicode.specs.declared.numbers.Numbers.{Numbers}
 use Rattle.textwrap_unicode.specs.declared.numbers.Numbers.TheVariants.{ByPairs, ByExpression}
 use Rattle.textwrap_unicode.specs.declared.rules.Verdict.{Verdict}
 use Rattle.textwrap_unicode.specs.declared.rules.Verdict.TheVariants.{Mandatory, Allowed}
 use Rattle.textwrap_unicode.specs.declared.rules.Verdict.TheVariants.{Prohibited}
 use Rattle.textwrap_unicode.specs.Before.{as_letter}
-use Rattle.textwrap_classes.specs.Classes.{class_of}
-use Rattle.textwrap_classes.specs.ClassSets.{is_mark, is_space, is_regional_indicator}
-use Rattle.textwrap_classes.specs.ClassSets.{takes_no_mark, is_line_end, is_carriage_return}
-use Rattle.textwrap_classes.specs.ClassSets.{is_line_feed, is_zero_width_space, is_word_joiner}
-use Rattle.textwrap_classes.specs.ClassSets.{is_glue, breaks_before_glue, is_closing, is_after_text}
-use Rattle.textwrap_classes.specs.ClassSets.{is_opening, is_quotation, is_nonstarter}
-use Rattle.textwrap_classes.specs.ClassSets.{breaks_on_both_sides, is_contingent, is_never_first}
-use Rattle.textwrap_classes.specs.ClassSets.{is_before_text, is_hebrew, is_hyphen, is_symbol}
-use Rattle.textwrap_classes.specs.ClassSets.{is_inseparable, is_letter, is_number, is_prefix}
-use Rattle.textwrap_classes.specs.ClassSets.{is_postfix, is_affix, is_ideograph, ends_number}
-use Rattle.textwrap_classes.specs.ClassSets.{leads_to_number, is_jamo, is_leading_jamo}
-use Rattle.textwrap_classes.specs.ClassSets.{follows_leading, ends_in_vowel, follows_vowel}
-use Rattle.textwrap_classes.specs.ClassSets.{ends_in_trailing, is_trailing_jamo, is_infix}
-use Rattle.textwrap_classes.specs.ClassSets.{is_letter_or_number, is_close_parenthesis}
-use Rattle.textwrap_classes.specs.ClassSets.{is_emoji_base, is_emoji_modifier, opens_number}
-use Rattle.textwrap_classes.specs.ClassSets.{goes_on_number}
+use Rattle.textwrap_text.specs.Classes.{class_of}
+use Rattle.textwrap_text.specs.ClassSets.{is_mark, is_space, is_regional_indicator}
+use Rattle.textwrap_text.specs.ClassSets.{takes_no_mark, is_line_end, is_carriage_return}
+use Rattle.textwrap_text.specs.ClassSets.{is_line_feed, is_zero_width_space, is_word_joiner}
+use Rattle.textwrap_text.specs.ClassSets.{is_glue, breaks_before_glue, is_closing, is_after_text}
+use Rattle.textwrap_text.specs.ClassSets.{is_opening, is_quotation, is_nonstarter}
+use Rattle.textwrap_text.specs.ClassSets.{breaks_on_both_sides, is_contingent, is_never_first}
+use Rattle.textwrap_text.specs.ClassSets.{is_before_text, is_hebrew, is_hyphen, is_symbol}
+use Rattle.textwrap_text.specs.ClassSets.{is_inseparable, is_letter, is_number, is_prefix}
+use Rattle.textwrap_text.specs.ClassSets.{is_postfix, is_affix, is_ideograph, ends_number}
+use Rattle.textwrap_text.specs.ClassSets.{leads_to_number, is_jamo, is_leading_jamo}
+use Rattle.textwrap_text.specs.ClassSets.{follows_leading, ends_in_vowel, follows_vowel}
+use Rattle.textwrap_text.specs.ClassSets.{ends_in_trailing, is_trailing_jamo, is_infix}
+use Rattle.textwrap_text.specs.ClassSets.{is_letter_or_number, is_close_parenthesis}
+use Rattle.textwrap_text.specs.ClassSets.{is_emoji_base, is_emoji_modifier, opens_number}
+use Rattle.textwrap_text.specs.ClassSets.{goes_on_number}
 
 -- whether it applies between what stands before a place and the next unit
 abbrev pub Rule : Type 0

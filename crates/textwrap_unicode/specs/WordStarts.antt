@@ -3,9 +3,9 @@ use Rattle.std.specs.Prelude.{◌≡◌, ℕ, zero, suc, ◌+◌, ◌<◌, Bool,
 use Rattle.std.specs.Prelude.{List, [], ◌∷◌, ◌++◌, if◌then◌else◌, slice_index}
 use Rattle.unicode.specs.declared.properties.LineBreak.{LineBreak}
 use Rattle.unicode.specs.declared.properties.LineBreak.TheVariants.{Alphabetic, InfixNumeric, Space}
-use Rattle.textwrap_classes.specs.declared.classes.Unit.{Unit}
-use Rattle.textwrap_classes.specs.ClassSets.{is_infix, is_letter, is_space}
-use Rattle.textwrap_classes.specs.Classes.{class_of}
+use Rattle.textwrap_text.specs.declared.classes.Unit.{Unit}
+use Rattle.textwrap_text.specs.ClassSets.{is_infix, is_letter, is_space}
+use Rattle.textwrap_text.specs.Classes.{class_of}
 
 abbrev pub plain_letter : Unit
 plain_letter = record { class = Alphabetic; is_wide = false; is_unassigned_pictograph = false }

@@ -4,11 +4,11 @@ ghost use Rattle.unicode.specs.declared.properties.LineBreak.TheVariants.{Alphab
 ghost use Rattle.textwrap_unicode.specs.Before.{as_letter, before_of, nothing};
 ghost use Rattle.textwrap_unicode.specs.BreaksLeft.{and, and_words};
 
-use textwrap_classes::class_sets::{
+use textwrap_text::class_sets::{
     is_closing, is_hebrew, is_inside_number, is_mark, is_number, is_regional_indicator, is_space,
     is_zwj, takes_no_mark,
 };
-use textwrap_classes::classes::Unit;
+use textwrap_text::classes::Unit;
 use unicode::properties::LineBreak;
 
 /// What the rules ask of the text before a place. Marks belong to the character before them.

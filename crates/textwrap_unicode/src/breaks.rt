@@ -9,7 +9,7 @@ use crate::before::Before;
 use crate::numbers::{Numbers, decide_in};
 use crate::rules::Verdict;
 use std::marker::Model;
-use textwrap_classes::classes::Unit;
+use textwrap_text::classes::Unit;
 
 /// A place of a text where a line may or must end.
 #[derive(Clone, Copy, Debug, PartialEq, Eq)]

@@ -7,9 +7,9 @@ ghost use Rattle.textwrap_text.specs.Escapes.{visible_in};
 ghost use Rattle.textwrap_unicode.specs.Cuts.{cuts_by, may_end, unicode_cuts};
 ghost use Rattle.textwrap_unicode.specs.WordStarts.{IsPlainLetter, IsWordByte, IsWordClass};
 ghost use Rattle.textwrap_unicode.specs.WordStarts.{is_behind_blank, is_behind_sign, word_starts};
-ghost use Rattle.textwrap_classes.specs.Ideographs.{IsIdeographAt, ideograph_places};
-ghost use Rattle.textwrap_classes.specs.ClassSets.{is_infix, is_letter, is_space};
-ghost use Rattle.textwrap_classes.specs.Classes.{class_of};
+ghost use Rattle.textwrap_text.specs.Ideographs.{IsIdeographAt, ideograph_places};
+ghost use Rattle.textwrap_text.specs.ClassSets.{is_infix, is_letter, is_space};
+ghost use Rattle.textwrap_text.specs.Classes.{class_of};
 ghost use Rattle.textwrap_unicode.specs.declared.numbers.Numbers.TheVariants.{ByExpression};
 ghost use Rattle.textwrap_text.specs.declared.escapes.State.TheVariants.{Text};
 ghost use Rattle.textwrap_words.specs.Cuts.{AreInnerCuts};
@@ -19,9 +19,9 @@ use crate::before::Before;
 use crate::numbers::{Numbers, decide_among_visible};
 use crate::rules::Verdict;
 use std::alloc::{AllocError, Global};
-use textwrap_classes::ascii::CLASSES;
-use textwrap_classes::class_sets::{is_letter, is_space};
-use textwrap_classes::classes::{Unit, is_common_ideograph};
+use textwrap_text::ascii::CLASSES;
+use textwrap_text::class_sets::{is_letter, is_space};
+use textwrap_text::classes::{Unit, is_common_ideograph};
 use textwrap_text::escapes::State;
 use unicode::properties::LineBreak;
 
@@ -172,7 +172,7 @@ fn letters_len(rest: &[u8], from: usize, is_behind_other: bool) -> usize
 }
 
 /// Whether a byte is a letter of ASCII: AL.
-#[tactic(auto, using(textwrap_classes::proofs::ClassLemmas::ascii_unit))]
+#[tactic(auto, using(textwrap_text::proofs::ClassLemmas::ascii_unit))]
 fn is_plain_letter(byte: u8) -> bool
     ensures { result ≡ true → IsPlainLetter byte }
 {

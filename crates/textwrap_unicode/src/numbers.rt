@@ -5,9 +5,9 @@ ghost use Rattle.textwrap_unicode.specs.Rules.{decide_by, number_first, numbers_
 
 use crate::before::Before;
 use crate::rules::{Verdict, asks_behind, decide, decide_by_expression};
-use textwrap_classes::class_sets::{is_mark, is_number};
-use textwrap_classes::classes::{Unit, class_of};
 use textwrap_text::characters::Characters;
+use textwrap_text::class_sets::{is_mark, is_number};
+use textwrap_text::classes::{Unit, class_of};
 use textwrap_text::escapes::State;
 
 /// How numbers are kept together: the two forms of LB25 in the annex at Unicode 15.0.

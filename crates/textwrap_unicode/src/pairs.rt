@@ -9,9 +9,9 @@ ghost use Rattle.textwrap_unicode.specs.Cuts.{unicode_cuts};
 ghost use Rattle.textwrap_unicode.specs.Pairs.{at_breaks, class_past_blanks, is_unusual};
 ghost use Rattle.textwrap_unicode.specs.Pairs.{may_follow_blanks, IsCutAtBlanks, IsUsual};
 
-use textwrap_classes::ascii::CLASSES;
-use textwrap_classes::class_sets::{is_after_text, is_opening};
+use textwrap_text::ascii::CLASSES;
 use textwrap_text::blanks::trimmed_len;
+use textwrap_text::class_sets::{is_after_text, is_opening};
 use textwrap_text::printable::is_printable;
 use unicode::properties::LineBreak;
 

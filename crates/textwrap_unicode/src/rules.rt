@@ -2,7 +2,7 @@
 //! Unicode 15.0, LB25 in two forms. Each function says whether a rule applies between what stands
 //! before a place and the next unit.
 ghost use Rattle.std.specs.Prelude.{◌≡◌, ◌&&◌, not};
-ghost use Rattle.textwrap_classes.specs.ClassSets.{is_opening};
+ghost use Rattle.textwrap_text.specs.ClassSets.{is_opening};
 ghost use Rattle.textwrap_unicode.specs.Rules.{lb2, lb4, lb6, lb7, lb8, lb8a, lb9, lb11, lb12};
 ghost use Rattle.textwrap_unicode.specs.Rules.{lb12a, lb13, lb14, lb15, lb16, lb17, lb18, lb19};
 ghost use Rattle.textwrap_unicode.specs.Rules.{lb20, lb21, lb21a, lb21b, lb22, lb23, lb23a, lb24};
@@ -11,14 +11,14 @@ ghost use Rattle.textwrap_unicode.specs.Rules.{is_kept, is_glued, is_held, decid
 ghost use Rattle.textwrap_unicode.specs.Rules.{lb25_by_expression, asks_behind};
 
 use crate::before::{Before, as_letter};
-use textwrap_classes::class_sets::{
+use textwrap_text::class_sets::{
     breaks_before_glue, ends_in_trailing, ends_in_vowel, ends_number, follows_leading,
     follows_vowel, goes_on_number, is_affix, is_after_text, is_closing, is_hebrew, is_hyphen,
     is_ideograph, is_jamo, is_leading_jamo, is_letter, is_letter_or_number, is_line_end, is_mark,
     is_never_first, is_opening, is_postfix, is_prefix, is_regional_indicator, is_space,
     is_trailing_jamo, is_zero_width_space, leads_to_number, opens_number, takes_no_mark,
 };
-use textwrap_classes::classes::Unit;
+use textwrap_text::classes::Unit;
 use unicode::properties::LineBreak;
 
 /// What the rules say of a place.

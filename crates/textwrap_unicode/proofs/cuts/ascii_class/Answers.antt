@@ -1,4 +1,4 @@
-use Rattle.textwrap_classes.proofs.ClassLemmas.{ascii_class}
+use Rattle.textwrap_text.proofs.ClassLemmas.{ascii_class}
 use Rattle.textwrap_unicode.proofs.cuts.ascii_class.Goals as goal
 
 pub returns : goal.returns

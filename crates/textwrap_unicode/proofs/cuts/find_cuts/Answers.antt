@@ -1,4 +1,4 @@
-use Rattle.textwrap_classes.proofs.Common.{ap, drop, length, read-next, refl, sym, ◌+◌, ◌∙◌}
+use Rattle.textwrap_text.proofs.ClassNames.{ap, drop, length, read-next, refl, sym, ◌+◌, ◌∙◌}
 use Rattle.textwrap_text.proofs.Common.{arith, rules}
 use Rattle.textwrap_unicode.proofs.CutLemmas.{IsCutting-end, IsCutting-start, IsCutting-step}
 use Rattle.textwrap_unicode.proofs.WordVerdicts.{ideographs-passed, words-passed}

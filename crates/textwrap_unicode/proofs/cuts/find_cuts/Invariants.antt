@@ -1,4 +1,4 @@
-use Rattle.textwrap_classes.proofs.Common.{◌-◌, drop, length}
+use Rattle.textwrap_text.proofs.ClassNames.{◌-◌, drop, length}
 use Rattle.textwrap_unicode.proofs.cuts.find_cuts.Given as goal
 use Rattle.textwrap_unicode.proofs.CutLemmas.{IsCutting}
 

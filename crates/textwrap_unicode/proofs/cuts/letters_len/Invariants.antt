@@ -1,4 +1,4 @@
-use Rattle.textwrap_classes.proofs.Common.{slice_index, length, true, ◌+◌, ◌-◌, ◌<◌, ◌≡◌, ◌≤◌, ℕ}
+use Rattle.textwrap_text.proofs.ClassNames.{slice_index, length, true, ◌+◌, ◌-◌, ◌<◌, ◌≡◌, ◌≤◌, ℕ}
 use Rattle.textwrap_unicode.specs.WordStarts.{IsPlainLetter}
 use Rattle.textwrap_unicode.proofs.cuts.letters_len.Given as goal
 

@@ -1,7 +1,7 @@
 use Rattle.std.proofs.{Common.refl, lemmas.Str.drop_past_char}
-use Rattle.textwrap_classes.proofs.Common.{IsIdeographAt, char_indices_rest, drop, ideograph_places}
-use Rattle.textwrap_classes.proofs.Common.{add-one, append_assoc, cases_lt, encode, length-append}
-use Rattle.textwrap_classes.proofs.Common.{ap, arith, length, sym, ◌*◌, ◌++◌, ◌+◌, ◌∙◌, ◌≡◌}
+use Rattle.textwrap_text.proofs.ClassNames.{IsIdeographAt, char_indices_rest, drop, ideograph_places}
+use Rattle.textwrap_text.proofs.ClassNames.{add-one, append_assoc, cases_lt, encode, length-append}
+use Rattle.textwrap_text.proofs.ClassNames.{ap, arith, length, sym, ◌*◌, ◌++◌, ◌+◌, ◌∙◌, ◌≡◌}
 use Rattle.textwrap_text.proofs.Common.{length-drop, length-encode}
 use Rattle.textwrap_unicode.proofs.WordVerdicts.{three-bytes}
 use Rattle.textwrap_unicode.proofs.cuts.push_ideographs.Goals as goal

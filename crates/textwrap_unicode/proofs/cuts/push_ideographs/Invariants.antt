@@ -1,5 +1,5 @@
-use Rattle.textwrap_classes.proofs.Common.{◌++◌, char_indices_rest, IsIdeographAt, ideograph_places}
-use Rattle.textwrap_classes.proofs.Common.{◌≡◌, ℕ, ◌*◌, ◌<◌, ◌≤◌, drop, length}
+use Rattle.textwrap_text.proofs.ClassNames.{◌++◌, char_indices_rest, IsIdeographAt, ideograph_places}
+use Rattle.textwrap_text.proofs.ClassNames.{◌≡◌, ℕ, ◌*◌, ◌<◌, ◌≤◌, drop, length}
 use Rattle.textwrap_text.proofs.Common.{char_indices_offset}
 use Rattle.textwrap_unicode.proofs.cuts.push_ideographs.Given as goal
 

@@ -1,8 +1,8 @@
 use Rattle.std.proofs.Common.{refl}
-use Rattle.textwrap_classes.proofs.Common.{Bool, add-one, cases_lt, false, is_space, subst, true, ℕ}
-use Rattle.textwrap_classes.proofs.Common.{ap, inl, inr, sym, ◌++◌, ◌+◌, ◌-◌, ◌<◌, ◌||◌, ◌∙◌, ◌≡◌}
-use Rattle.textwrap_classes.proofs.Common.{append-nil, append_assoc, arith, cases_Bool, slice_index}
-use Rattle.textwrap_classes.specs.ClassSets.{is_letter}
+use Rattle.textwrap_text.proofs.ClassNames.{Bool, add-one, cases_lt, false, is_space, subst, true, ℕ}
+use Rattle.textwrap_text.proofs.ClassNames.{ap, inl, inr, sym, ◌++◌, ◌+◌, ◌-◌, ◌<◌, ◌||◌, ◌∙◌, ◌≡◌}
+use Rattle.textwrap_text.proofs.ClassNames.{append-nil, append_assoc, arith, cases_Bool, slice_index}
+use Rattle.textwrap_text.specs.ClassSets.{is_letter}
 use Rattle.textwrap_text.proofs.Common.{cases_eq}
 use Rattle.textwrap_unicode.proofs.WordVerdicts.{letters-same}
 use Rattle.textwrap_unicode.specs.WordStarts.{IsPlainLetter, is_behind_blank, is_behind_sign}

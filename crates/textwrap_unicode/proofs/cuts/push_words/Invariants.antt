@@ -1,4 +1,4 @@
-use Rattle.textwrap_classes.proofs.Common.{slice_index, length, ◌++◌, ◌-◌, ◌<◌, ◌≡◌, ◌≤◌, ℕ}
+use Rattle.textwrap_text.proofs.ClassNames.{slice_index, length, ◌++◌, ◌-◌, ◌<◌, ◌≡◌, ◌≤◌, ℕ}
 use Rattle.textwrap_unicode.specs.WordStarts.{is_behind_blank, is_behind_sign, word_starts}
 use Rattle.textwrap_unicode.specs.WordStarts.{IsWordByte}
 use Rattle.textwrap_unicode.proofs.cuts.push_words.Given as goal

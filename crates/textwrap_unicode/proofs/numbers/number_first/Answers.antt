@@ -1,6 +1,6 @@
 use Rattle.std.proofs.lemmas.List.{at_drop_more}
-use Rattle.textwrap_classes.proofs.Common.{ap, arith, chars, drop, refl, ◌+◌, ◌∙◌, ◌≡◌}
-use Rattle.textwrap_classes.proofs.Common.{class_of, if◌then◌else◌, is_mark, is_number, length, sym}
+use Rattle.textwrap_text.proofs.ClassNames.{ap, arith, chars, drop, refl, ◌+◌, ◌∙◌, ◌≡◌}
+use Rattle.textwrap_text.proofs.ClassNames.{class_of, if◌then◌else◌, is_mark, is_number, length, sym}
 use Rattle.textwrap_text.proofs.Common.{YieldsList-end, YieldsList-from_chars, YieldsList-turn}
 use Rattle.textwrap_text.proofs.Common.{at_drop_all, length_push}
 use Rattle.textwrap_unicode.proofs.{Common.number_first, numbers.number_first.Goals.In-Some}

@@ -1,4 +1,4 @@
-use Rattle.textwrap_classes.proofs.Common.{◌≡◌, drop, length, chars}
+use Rattle.textwrap_text.proofs.ClassNames.{◌≡◌, drop, length, chars}
 use Rattle.textwrap_unicode.proofs.Common.{number_first}
 use Rattle.textwrap_unicode.proofs.numbers.number_first.Given as goal
 

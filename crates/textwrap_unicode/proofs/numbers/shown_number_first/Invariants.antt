@@ -1,4 +1,4 @@
-use Rattle.textwrap_classes.proofs.Common.{chars, visible_in, ◌≡◌}
+use Rattle.textwrap_text.proofs.ClassNames.{chars, visible_in, ◌≡◌}
 use Rattle.textwrap_text.specs.{Characters.shown, CharactersLeft.characters_left}
 use Rattle.textwrap_unicode.proofs.Common.{number_first}
 use Rattle.textwrap_unicode.proofs.numbers.shown_number_first.Given as goal

@@ -1,4 +1,4 @@
-use Rattle.textwrap_classes.proofs.{ClassLemmas.ascii_unit, Common.arith}
+use Rattle.textwrap_text.proofs.{ClassLemmas.ascii_unit, Common.arith}
 use Rattle.textwrap_text.proofs.Common.{length-take-le}
 use Rattle.textwrap_unicode.proofs.PrintableBytes.{past-none, past-some}
 use Rattle.textwrap_unicode.proofs.pairs.class_past_blanks.Goals as goal

@@ -1,5 +1,5 @@
-use Rattle.textwrap_classes.proofs.Common.{and_parts, and_from, cases_lt, get_or, arith, false, inl}
-use Rattle.textwrap_classes.proofs.Common.{subst, refl, inr, not, sym, ◌+◌, ◌-◌, ◌∙◌, ◌≡◌, ap, ℕ}
+use Rattle.textwrap_text.proofs.ClassNames.{and_parts, and_from, cases_lt, get_or, arith, false, inl}
+use Rattle.textwrap_text.proofs.ClassNames.{subst, refl, inr, not, sym, ◌+◌, ◌-◌, ◌∙◌, ◌≡◌, ap, ℕ}
 use Rattle.textwrap_unicode.proofs.Common.{is_unusual, not-true}
 use Rattle.textwrap_unicode.proofs.pairs.is_block_usual.Goals as goal
 

@@ -1,4 +1,4 @@
-use Rattle.textwrap_classes.proofs.Common.{slice_index, false, true, ◌+◌, ◌-◌, ◌<◌, ◌≡◌, ◌≤◌, ℕ}
+use Rattle.textwrap_text.proofs.ClassNames.{slice_index, false, true, ◌+◌, ◌-◌, ◌<◌, ◌≡◌, ◌≤◌, ℕ}
 use Rattle.textwrap_unicode.proofs.Common.{is_unusual, ◌↔◌}
 use Rattle.textwrap_unicode.proofs.pairs.is_block_usual.Given as goal
 

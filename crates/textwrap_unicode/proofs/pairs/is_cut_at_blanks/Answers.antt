@@ -1,4 +1,4 @@
-use Rattle.textwrap_classes.proofs.Common.{arith, subst, sym, true, ◌≡◌}
+use Rattle.textwrap_text.proofs.ClassNames.{arith, subst, sym, true, ◌≡◌}
 use Rattle.textwrap_unicode.specs.Pairs.{IsCutAtBlanks}
 use Rattle.textwrap_unicode.proofs.PrintableCuts.{all-usual, usual-blanks, words-same}
 use Rattle.textwrap_unicode.proofs.pairs.is_cut_at_blanks.Goals as goal

@@ -1,5 +1,5 @@
-use Rattle.textwrap_classes.proofs.Common.{is_blank, ne_eqb, arith, sym, ◌∙◌, ap}
-use Rattle.textwrap_classes.proofs.ClassLemmas.{ascii_unit}
+use Rattle.textwrap_text.proofs.ClassNames.{is_blank, ne_eqb, arith, sym, ◌∙◌, ap}
+use Rattle.textwrap_text.proofs.ClassLemmas.{ascii_unit}
 use Rattle.textwrap_unicode.proofs.PrintableCuts.{cut-told}
 use Rattle.textwrap_unicode.proofs.pairs.is_cut_between.Goals as goal
 

@@ -1,5 +1,5 @@
 use Rattle.std.specs.Cmp.{booleans_Decides}
-use Rattle.textwrap_classes.proofs.Common.{ne_eqb, sym, ◌∙◌}
+use Rattle.textwrap_text.proofs.ClassNames.{ne_eqb, sym, ◌∙◌}
 use Rattle.textwrap_unicode.proofs.PrintableCuts.{usual-cut}
 use Rattle.textwrap_unicode.proofs.pairs.is_usual.Goals as goal
 

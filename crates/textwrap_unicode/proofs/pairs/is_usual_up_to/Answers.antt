@@ -1,4 +1,4 @@
-use Rattle.textwrap_classes.proofs.Common.{arith}
+use Rattle.textwrap_text.proofs.ClassNames.{arith}
 use Rattle.textwrap_unicode.proofs.PrintableCuts.{usual-run}
 use Rattle.textwrap_unicode.proofs.pairs.is_usual_up_to.Goals as goal
 

@@ -1,4 +1,4 @@
-use Rattle.textwrap_classes.proofs.Common.{ℕ, ◌-◌, ◌<◌}
+use Rattle.textwrap_text.proofs.ClassNames.{ℕ, ◌-◌, ◌<◌}
 use Rattle.textwrap_unicode.proofs.Common.{IsUsual}
 use Rattle.textwrap_unicode.proofs.pairs.is_usual_up_to.Given as goal
 

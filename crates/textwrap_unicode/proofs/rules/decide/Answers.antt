@@ -1,4 +1,4 @@
-use Rattle.textwrap_classes.proofs.Common.{sym}
+use Rattle.textwrap_text.proofs.ClassNames.{sym}
 use Rattle.textwrap_unicode.proofs.RuleLemmas.{ideographs-part, letters-stay}
 use Rattle.textwrap_unicode.proofs.rules.decide.Goals as goal
 

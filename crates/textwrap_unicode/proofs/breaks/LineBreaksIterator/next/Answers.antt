@@ -1,5 +1,5 @@
-use Rattle.textwrap_classes.proofs.Common.{ap, ◌∙◌, ◌∷◌}
-use Rattle.textwrap_classes.proofs.Common.{arith, chars, length, read-next, refl, sym, true, ◌+◌}
+use Rattle.textwrap_text.proofs.ClassNames.{ap, ◌∙◌, ◌∷◌}
+use Rattle.textwrap_text.proofs.ClassNames.{arith, chars, length, read-next, refl, sym, true, ◌+◌}
 use Rattle.textwrap_text.proofs.Common.{rules}
 use Rattle.textwrap_unicode.proofs.CutLemmas.{none-left, reading-break, reading-start, reading-step}
 use Rattle.textwrap_unicode.proofs.{Common.and, CutLemmas.reading-end, WordVerdicts.letter-step}

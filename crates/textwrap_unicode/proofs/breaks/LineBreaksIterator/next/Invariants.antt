@@ -1,5 +1,5 @@
 use Rattle.std.specs.Str.Iter.{char_indices_offset}
-use Rattle.textwrap_classes.proofs.Common.{char_indices_rest, true, ◌≡◌}
+use Rattle.textwrap_text.proofs.ClassNames.{char_indices_rest, true, ◌≡◌}
 use Rattle.textwrap_unicode.proofs.{CutLemmas.IsReading, WordVerdicts.in_word}
 use Rattle.textwrap_unicode.proofs.breaks.LineBreaksIterator.next.Given as goal
 

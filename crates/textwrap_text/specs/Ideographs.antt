@@ -2,8 +2,8 @@
 use Rattle.std.specs.Prelude.{◌≡◌, ℕ, zero, suc, ◌+◌, ◌*◌, ◌≤◌, true, false, List, [], ◌∷◌, ◌++◌}
 use Rattle.std.specs.Prelude.{drop, encode_utf8}
 use Rattle.unicode.specs.declared.properties.LineBreak.TheVariants.{Ideographic}
-use Rattle.textwrap_classes.specs.declared.classes.Unit.{Unit}
-use Rattle.textwrap_classes.specs.Classes.{unit_of}
+use Rattle.textwrap_text.specs.declared.classes.Unit.{Unit}
+use Rattle.textwrap_text.specs.Classes.{unit_of}
 
 abbrev pub wide_ideograph : Unit
 wide_ideograph = record { class = Ideographic; is_wide = true; is_unassigned_pictograph = false }

@@ -1,20 +1,20 @@
 //! The sets of classes that the rules of line breaking speak of.
 ghost use Rattle.std.specs.Prelude.{◌≡◌};
-ghost use Rattle.textwrap_classes.specs.ClassSets.{is_mark, is_zwj, is_space};
-ghost use Rattle.textwrap_classes.specs.ClassSets.{is_regional_indicator, takes_no_mark};
-ghost use Rattle.textwrap_classes.specs.ClassSets.{is_line_end};
-ghost use Rattle.textwrap_classes.specs.ClassSets.{is_zero_width_space};
-ghost use Rattle.textwrap_classes.specs.ClassSets.{breaks_before_glue, is_closing, is_after_text};
-ghost use Rattle.textwrap_classes.specs.ClassSets.{is_opening};
-ghost use Rattle.textwrap_classes.specs.ClassSets.{is_never_first, is_hebrew};
-ghost use Rattle.textwrap_classes.specs.ClassSets.{is_hyphen, is_letter};
-ghost use Rattle.textwrap_classes.specs.ClassSets.{is_number, is_prefix, is_postfix, is_affix};
-ghost use Rattle.textwrap_classes.specs.ClassSets.{is_ideograph, ends_number, leads_to_number};
-ghost use Rattle.textwrap_classes.specs.ClassSets.{is_jamo, is_leading_jamo, follows_leading};
-ghost use Rattle.textwrap_classes.specs.ClassSets.{ends_in_vowel, follows_vowel, ends_in_trailing};
-ghost use Rattle.textwrap_classes.specs.ClassSets.{is_trailing_jamo, is_letter_or_number};
-ghost use Rattle.textwrap_classes.specs.ClassSets.{opens_number};
-ghost use Rattle.textwrap_classes.specs.ClassSets.{is_inside_number, goes_on_number};
+ghost use Rattle.textwrap_text.specs.ClassSets.{is_mark, is_zwj, is_space};
+ghost use Rattle.textwrap_text.specs.ClassSets.{is_regional_indicator, takes_no_mark};
+ghost use Rattle.textwrap_text.specs.ClassSets.{is_line_end};
+ghost use Rattle.textwrap_text.specs.ClassSets.{is_zero_width_space};
+ghost use Rattle.textwrap_text.specs.ClassSets.{breaks_before_glue, is_closing, is_after_text};
+ghost use Rattle.textwrap_text.specs.ClassSets.{is_opening};
+ghost use Rattle.textwrap_text.specs.ClassSets.{is_never_first, is_hebrew};
+ghost use Rattle.textwrap_text.specs.ClassSets.{is_hyphen, is_letter};
+ghost use Rattle.textwrap_text.specs.ClassSets.{is_number, is_prefix, is_postfix, is_affix};
+ghost use Rattle.textwrap_text.specs.ClassSets.{is_ideograph, ends_number, leads_to_number};
+ghost use Rattle.textwrap_text.specs.ClassSets.{is_jamo, is_leading_jamo, follows_leading};
+ghost use Rattle.textwrap_text.specs.ClassSets.{ends_in_vowel, follows_vowel, ends_in_trailing};
+ghost use Rattle.textwrap_text.specs.ClassSets.{is_trailing_jamo, is_letter_or_number};
+ghost use Rattle.textwrap_text.specs.ClassSets.{opens_number};
+ghost use Rattle.textwrap_text.specs.ClassSets.{is_inside_number, goes_on_number};
 
 use unicode::properties::LineBreak;
 

@@ -1,11 +1,11 @@
 -- The classes of characters, told without the tables.
 use Rattle.std.proofs.Common.{eqb-true}
-use Rattle.textwrap_classes.proofs.Common.{Ideographic, cases_Bool, if◌then◌else◌, slice_index_or}
-use Rattle.textwrap_classes.proofs.Common.{Ambiguous, CLASSES, arith, class_of, not-true, unit_of}
-use Rattle.textwrap_classes.proofs.Common.{Bool, List, Unit, false, refl, subst, true, ◌&&◌, ◌==◌}
-use Rattle.textwrap_classes.proofs.Common.{ap, not, sym, ℕ, ◌+◌, ◌-◌, ◌<◌, ◌||◌, ◌∙◌, ◌≡◌, ◌≤◌}
-use Rattle.textwrap_classes.specs.Classes.{is_unassigned, is_wide, resolve}
-use Rattle.textwrap_classes.specs.declared.japanese.TheConstants.{SYLLABLES, WIDE}
+use Rattle.textwrap_text.proofs.ClassNames.{Ideographic, cases_Bool, if◌then◌else◌, slice_index_or}
+use Rattle.textwrap_text.proofs.ClassNames.{Ambiguous, CLASSES, arith, class_of, not-true, unit_of}
+use Rattle.textwrap_text.proofs.ClassNames.{Bool, List, Unit, false, refl, subst, true, ◌&&◌, ◌==◌}
+use Rattle.textwrap_text.proofs.ClassNames.{ap, not, sym, ℕ, ◌+◌, ◌-◌, ◌<◌, ◌||◌, ◌∙◌, ◌≡◌, ◌≤◌}
+use Rattle.textwrap_text.specs.Classes.{is_unassigned, is_wide, resolve}
+use Rattle.textwrap_text.specs.declared.japanese.TheConstants.{SYLLABLES, WIDE}
 use Rattle.textwrap_text.proofs.Units.Texts.{passes-within}
 use Rattle.unicode.proofs.{BinaryLemmas.is_extended_pictographic_stepped, Stepped.map_stepped}
 use Rattle.unicode.proofs.{CategoryComputing.ucd_category, EastAsianComputing.ucd_east_asian}

@@ -1,11 +1,11 @@
 //! What the rules of line breaking ask of a character.
 ghost use Rattle.std.specs.Prelude.{◌≡◌, ◌≤◌, ◌&&◌, true, false};
-ghost use Rattle.textwrap_classes.specs.Ideographs.{IsCommonIdeograph};
+ghost use Rattle.textwrap_text.specs.Ideographs.{IsCommonIdeograph};
 ghost use Rattle.unicode.specs.Binary.{is_extended_pictographic};
 ghost use Rattle.unicode.specs.GeneralCategory.{general_category};
 ghost use Rattle.unicode.specs.declared.properties.LineBreak.TheVariants.{Alphabetic, Ideographic};
-ghost use Rattle.textwrap_classes.specs.Classes.{class_of, is_unassigned, is_wide, resolve};
-ghost use Rattle.textwrap_classes.specs.Classes.{resolve_complex, unit_of};
+ghost use Rattle.textwrap_text.specs.Classes.{class_of, is_unassigned, is_wide, resolve};
+ghost use Rattle.textwrap_text.specs.Classes.{resolve_complex, unit_of};
 
 use crate::ascii::CLASSES;
 use crate::japanese::{SYLLABLES, WIDE};

@@ -19,7 +19,7 @@ use Rattle.unicode.specs.declared.properties.LineBreak.TheVariants.{ConditionalJ
 use Rattle.unicode.specs.declared.properties.LineBreak.TheVariants.{Nonstarter, Surrogate}
 use Rattle.unicode.specs.declared.properties.LineBreak.TheVariants.{UnambiguousHyphen, Unknown}
 use Rattle.unicode.specs.declared.properties.LineBreak.TheVariants.{Virama, ViramaFinal}
-use Rattle.textwrap_classes.specs.declared.classes.Unit.{Unit}
+use Rattle.textwrap_text.specs.declared.classes.Unit.{Unit}
 
 -- LB1: SA is taken as CM if it is a mark, and else as AL
 abbrev pub resolve_complex : GeneralCategory → LineBreak

@@ -1,12 +1,12 @@
--- The names that most proofs cite: those of the standard library, of the crates below, and of the
--- definitions of this crate. Declares nothing.
+-- The names that most proofs on the classes of characters cite, those of this crate and of others.
+-- Declares nothing.
 pub use Rattle.std.proofs.{Common.slice_index_or, Math.Bool.and-false}
 pub use Rattle.std.specs.Str.{IsUtf8, Iter.char_indices_rest, chars}
-pub use Rattle.textwrap_classes.specs.ClassSets.{is_after_text, is_opening, is_space, takes_no_mark}
-pub use Rattle.textwrap_classes.specs.ClassSets.{is_mark, is_number}
-pub use Rattle.textwrap_classes.specs.Classes.{class_of, unit_of}
-pub use Rattle.textwrap_classes.specs.Ideographs.{IsIdeographAt, ideograph_places}
-pub use Rattle.textwrap_classes.specs.declared.{ascii.TheConstants.CLASSES, classes.Unit.Unit}
+pub use Rattle.textwrap_text.specs.ClassSets.{is_after_text, is_opening, is_space, takes_no_mark}
+pub use Rattle.textwrap_text.specs.ClassSets.{is_mark, is_number}
+pub use Rattle.textwrap_text.specs.Classes.{class_of, unit_of}
+pub use Rattle.textwrap_text.specs.Ideographs.{IsIdeographAt, ideograph_places}
+pub use Rattle.textwrap_text.specs.declared.{ascii.TheConstants.CLASSES, classes.Unit.Unit}
 pub use Rattle.textwrap_text.{proofs.Units.Reading.read-next, specs.Escapes.visible_in}
 pub use Rattle.textwrap_text.proofs.Common.{append_assoc, if◌then◌else◌, length-append, slice_index}
 pub use Rattle.textwrap_text.proofs.Common.{and_from, and_parts, append-nil, cases_Bool, true≢false}

@@ -1,2 +1,0 @@
-pub mod ClassLemmas
-pub mod Common

@@ -1,3 +1,0 @@
-pub mod ClassSets
-pub mod Classes
-pub mod Ideographs

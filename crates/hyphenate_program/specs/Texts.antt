@@ -12,7 +12,7 @@ use Rattle.textwrap_hyphens.specs.Hyphenation.{Hyphenation}
 use Rattle.textwrap_hyphens.specs.Points.{points_of}
 use Rattle.textwrap_hyphens.specs.Table.{held}
 use Rattle.text_filters.specs.Filter.{Work}
-use Rattle.textwrap_hyphenated.specs.Hyphenated.{DividesAtPoints}
+use Rattle.textwrap_plain.specs.Hyphenated.{DividesAtPoints}
 use Rattle.hyphenate_program.specs.declared.texts.Hyphenating.{Hyphenating}
 
 -- the parts of a word between these points, joined by hyphens

@@ -7,10 +7,10 @@ ghost use Rattle.hyphenate_program.specs.Texts.{hyphenated_word, hyphenated_word
 
 use std::alloc::{AllocError, Global};
 use text_filters::filter::{Filter, Made};
-use textwrap_hyphenated::texts::fill_hyphenated;
 use textwrap_hyphens::points::points;
 use textwrap_hyphens::table::PatternTable;
 use textwrap_layout::options::Options;
+use textwrap_plain::hyphenated::texts::fill_hyphenated;
 use textwrap_words::wrap_algorithms::WrapAlgorithm;
 
 /// What a text is hyphenated by.

@@ -1,6 +1,6 @@
 //! Hyphens by a dictionary.
 ghost use Rattle.std.specs.Prelude.{IfOk, None, map};
-ghost use Rattle.textwrap_hyphenated.specs.Hyphenated.{DividesHyphenated};
+ghost use Rattle.textwrap_plain.specs.Hyphenated.{DividesHyphenated};
 ghost use Rattle.textwrap_hyphens.specs.Parsed.{IsParsed};
 ghost use Rattle.textwrap_hyphens.specs.Table.{held};
 ghost use Rattle.textwrap_layout.specs.Options.{settings_view};
@@ -12,10 +12,10 @@ ghost use Rattle.textwrap_words.specs.WrapAlgorithms.{algorithm_view};
 use std::alloc::Global;
 use std::borrow::CowStr;
 use textwrap::{Options, WrapError};
-use textwrap_hyphenated::wrap_hyphenated;
 use textwrap_hyphens::dictionary::Patterns;
 use textwrap_hyphens::table::PatternTable;
 use textwrap_patterns::errors::ParseError;
+use textwrap_plain::hyphenated::wrap_hyphenated;
 
 /// As `Patterns::parse`.
 pub fn dictionary_of_text(alloc: Global, text: &str) -> Result<Patterns, ParseError>

@@ -9,9 +9,9 @@ use Rattle.textwrap_calls.proofs.Common.{[], ◌∙◌, ◌∷◌, ◌≡◌}
 use Rattle.textwrap_calls.proofs.PlaceLemmas.{AreBegun, groups-cut, shown-places}
 use Rattle.std.proofs.Math.Seq.{take-length}
 use Rattle.textwrap_hyphens.proofs.SplitPieces.{held-cuts}
-use Rattle.textwrap_hyphenated.proofs.PlainPieces.{are_words-texts}
-use Rattle.textwrap_hyphenated.specs.Hyphenated.{ArePointsBy}
-use Rattle.textwrap_hyphenated.specs.Plain.{AreWordsBy, DividesPlainlyAt}
+use Rattle.textwrap_plain.proofs.PlainPieces.{are_words-texts}
+use Rattle.textwrap_plain.specs.Hyphenated.{ArePointsBy}
+use Rattle.textwrap_plain.specs.HyphenatedPlain.{AreWordsBy, DividesPlainlyAt}
 use Rattle.textwrap_hyphens.specs.Table.{held}
 use Rattle.textwrap_hyphens.specs.declared.table.PatternTable.{PatternTable}
 use Rattle.textwrap_layout.proofs.Paragraph.Pieces.{pieces-tile}

@@ -7,7 +7,7 @@ use Rattle.textwrap_calls.specs.declared.columns.TextwrapGaps.{TextwrapGaps}
 use Rattle.textwrap_calls.specs.declared.options.TextwrapOptions.{TextwrapOptions}
 use Rattle.textwrap_display.specs.Tables.{gaps_view}
 use Rattle.textwrap_display.specs.declared.tables.Gaps.{Gaps}
-use Rattle.textwrap_hyphenated.specs.Plain.{DividesPlainlyAt}
+use Rattle.textwrap_plain.specs.HyphenatedPlain.{DividesPlainlyAt}
 use Rattle.textwrap_hyphens.specs.Hyphenation.{Hyphenation}
 use Rattle.textwrap_plain.specs.Options as plain
 use Rattle.textwrap_plain.specs.declared.options.PlainOptions.{PlainOptions}

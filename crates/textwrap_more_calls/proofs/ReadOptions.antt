@@ -5,7 +5,7 @@ use Rattle.textwrap_calls.specs.Options.{AreRead}
 use Rattle.textwrap_calls.specs.declared.options.TextwrapOptions.{TextwrapOptions}
 use Rattle.textwrap.specs.Filling.{IsFilled}
 use Rattle.textwrap.specs.Refilling.{IsRefilled}
-use Rattle.textwrap_hyphenated.specs.Plain.{DividesPlainlyAt}
+use Rattle.textwrap_plain.specs.HyphenatedPlain.{DividesPlainlyAt}
 use Rattle.textwrap_hyphens.specs.Hyphenation.{Hyphenation}
 use Rattle.textwrap_plain.specs.Options as plain
 use Rattle.textwrap_plain.specs.declared.options.PlainOptions.{PlainOptions}

@@ -12,8 +12,8 @@ use Rattle.textwrap_calls.specs.Columns.{AreKnownGaps, AreTextGaps}
 use Rattle.textwrap_calls.specs.Options.{AreKnown, AreTexts, algorithm_of, separator_of, settings_of}
 use Rattle.textwrap_calls.specs.declared.columns.TextwrapGaps.{TextwrapGaps}
 use Rattle.textwrap_calls.specs.declared.options.TextwrapOptions.{TextwrapOptions}
-use Rattle.textwrap_hyphenated.specs.Hyphenated.{ArePointsBy}
-use Rattle.textwrap_hyphenated.specs.Plain.{AreWordsBy}
+use Rattle.textwrap_plain.specs.Hyphenated.{ArePointsBy}
+use Rattle.textwrap_plain.specs.HyphenatedPlain.{AreWordsBy}
 use Rattle.textwrap_layout.specs.Paragraph.{IsDividedInto}
 use Rattle.textwrap_layout.specs.Places.{ArePlacedLines}
 use Rattle.textwrap_layout.specs.declared.places.Place.{Place}

@@ -4,3 +4,6 @@ pub mod Laws
 pub mod Options
 pub mod Tables
 pub mod Widest
+pub mod Hyphenated
+pub mod HyphenatedLaws
+pub mod HyphenatedPlain

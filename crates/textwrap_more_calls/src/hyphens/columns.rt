@@ -8,7 +8,7 @@ ghost use Rattle.textwrap_more_calls.specs.Dictionaries.{IsDamaged};
 ghost use Rattle.textwrap_more_calls.specs.Hyphenated.{AreKnownInColumns, AreTextsInColumns};
 ghost use Rattle.textwrap_more_calls.specs.Hyphenated.{IsInColumnsByDictionary};
 ghost use Rattle.textwrap_more_calls.specs.Status.{damaged_table};
-ghost use Rattle.textwrap_hyphenated.specs.Plain.{DividesPlainlyAt};
+ghost use Rattle.textwrap_plain.specs.HyphenatedPlain.{DividesPlainlyAt};
 ghost use Rattle.textwrap_hyphens.specs.Table.{held};
 ghost use Rattle.textwrap_plain.specs.Options.{settings_of};
 
@@ -22,10 +22,10 @@ use textwrap_calls::options::TextwrapOptions;
 use textwrap_calls::reported::{TextwrapLine, put_lines};
 use textwrap_calls::status::{NOT_UTF8, OUT_OF_MEMORY, UNKNOWN_OPTIONS};
 use textwrap_display::Gaps;
-use textwrap_hyphenated::wrap_columns_plain;
 use textwrap_hyphens::table::PatternTable;
 use textwrap_lines::placed::PlacedLines;
 use textwrap_plain::PlainOptions;
+use textwrap_plain::hyphenated::wrap_columns_plain;
 use textwrap_words::wrap_algorithms::WrapError;
 
 /// Wraps the text into so many columns beside one another, and writes the rows as

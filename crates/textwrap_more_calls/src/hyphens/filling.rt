@@ -15,7 +15,7 @@ use std::alloc::Global;
 use textwrap_calls::options::TextwrapOptions;
 use textwrap_calls::room::put;
 use textwrap_calls::status::{NOT_UTF8, OUT_OF_MEMORY};
-use textwrap_hyphenated::fill_plain;
+use textwrap_plain::hyphenated::fill_plain;
 
 /// Writes the filled text as `textwrap_fill` does, but that its words are split where a dictionary has
 /// hyphens, and behind hyphens of their own, whether or not the options split there. A hyphen is written

@@ -15,7 +15,7 @@ use std::alloc::Global;
 use textwrap_calls::options::TextwrapOptions;
 use textwrap_calls::room::put;
 use textwrap_calls::status::{NOT_UTF8, OUT_OF_MEMORY};
-use textwrap_hyphenated::refill_plain;
+use textwrap_plain::hyphenated::refill_plain;
 
 /// Fills a filled text again, with the indents that it has, as `textwrap_refill` does, and writes it as
 /// `textwrap_fill_hyphenated` does, by which its words are split. The indents of the options are not

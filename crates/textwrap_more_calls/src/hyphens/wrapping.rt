@@ -15,7 +15,7 @@ use std::alloc::Global;
 use textwrap_calls::options::TextwrapOptions;
 use textwrap_calls::reported::{TextwrapLine, put_lines};
 use textwrap_calls::status::{NOT_UTF8, OUT_OF_MEMORY};
-use textwrap_hyphenated::plain::place_plain;
+use textwrap_plain::hyphenated::plain::place_plain;
 
 /// Writes the lines of the text as `textwrap_wrap` does, but that its words are split as those of
 /// `textwrap_fill_hyphenated`. A line with a hyphen that is written is a text of its own, in the room.

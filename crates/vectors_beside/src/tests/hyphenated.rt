@@ -6,13 +6,13 @@ use std::borrow::CowStr;
 use std::process::Abort;
 use textwrap::{Options, WordSplitter, WrapAlgorithm, WrapError, fill};
 use textwrap_display::inner::fill_justified_by;
-use textwrap_hyphenated::laws::hyphenated_lines_are_unique;
-use textwrap_hyphenated::{
-    Hyphenated, fill_hyphenated, refill_hyphenated, wrap_columns_hyphenated, wrap_hyphenated,
-};
 use textwrap_hyphens::dictionary::Patterns;
 use textwrap_hyphens::laws::more_patterns_raise_levels;
 use textwrap_layout::layout::Layout;
+use textwrap_plain::hyphenated::laws::hyphenated_lines_are_unique;
+use textwrap_plain::hyphenated::{
+    Hyphenated, fill_hyphenated, refill_hyphenated, wrap_columns_hyphenated, wrap_hyphenated,
+};
 use textwrap_vectors::heap::Heap;
 
 /// Patterns of Zei-len-um-bruch, Sil-ben-tren-nung, schma-len and Spal-ten.

@@ -1,3 +1,0 @@
-pub mod Hyphenated
-pub mod Laws
-pub mod Plain

@@ -1,0 +1,97 @@
+-- The pieces of a hyphenated paragraph.
+use Rattle.textwrap_text.proofs.Common.{IsUtf8, List, ap, arith, length, ℕ, ◌*◌, ◌≤◌}
+use Rattle.textwrap_text.proofs.Common.{All, All-append, All-cons, All-nil, Bool, [], cond, eqb, false}
+use Rattle.textwrap_text.proofs.Common.{inl, ltb, refl, subst, sym, true, ◌++◌, ◌∷◌, ◌≡◌, ⊤}
+use Rattle.textwrap_words.proofs.Common.{broken_pieces, broken_texts, broken_word, broken_words}
+use Rattle.textwrap_words.proofs.Word.BrokenPieces.{IsTight, broken_words-tight, pieces_with-all}
+use Rattle.textwrap_words.proofs.Word.Words.{All-each}
+use Rattle.textwrap_layout.proofs.Common.{empty_word, front_pieces, later_width}
+use Rattle.textwrap_base.proofs.Common.{total_width}
+use Rattle.textwrap_words.proofs.Common.{MaySeparate, WordText, sizes_of}
+use Rattle.textwrap_words.proofs.Word.Parts.{MaySeparate-texts}
+use Rattle.textwrap_words.proofs.Word.Pieces.{AreTexts, split-measured, split-tile}
+use Rattle.textwrap_layout.proofs.Common.{ArePieces, Settings, settings_view}
+use Rattle.textwrap_layout.specs.declared.options.Options.{Options}
+use Rattle.textwrap_hyphens.specs.Table.{held}
+use Rattle.textwrap_hyphens.specs.declared.table.PatternTable.{PatternTable}
+use Rattle.textwrap_hyphens.proofs.SplitPieces.{HasHyphenAtMost, held-cuts, split-carries}
+use Rattle.textwrap_hyphens.proofs.SplitPieces.{split-hyphens}
+use Rattle.textwrap_plain.proofs.Widths.{pieces-wide}
+use Rattle.textwrap_plain.specs.Hyphenated.{ArePointsBy}
+
+-- ---- the empty piece in front, and the pieces of a broken word
+
+front-hyphens : (b : Bool) → All HasHyphenAtMost (cond b [] (empty_word ∷ []))
+front-hyphens true = All-nil HasHyphenAtMost
+front-hyphens false = All-cons HasHyphenAtMost empty_word [] (inl refl) (All-nil HasHyphenAtMost)
+
+front-tight : (limit : ℕ) (b : Bool) → All (IsTight limit) (cond b [] (empty_word ∷ []))
+front-tight limit true = All-nil (IsTight limit)
+front-tight limit false = grind (arith, All-cons, All-nil)
+
+broken_word-hyphens : (limit : ℕ) (w : WordText) → HasHyphenAtMost w → (b : Bool)
+    → All HasHyphenAtMost (cond b (broken_pieces limit w) (w ∷ []))
+broken_word-hyphens limit w has true =
+    pieces_with-all HasHyphenAtMost (λ _. ⊤) w.whitespace w.penalty (λ _ _. inl refl) (λ _ _. has)
+    (broken_texts limit w.word) (λ k d lt. tt)
+broken_word-hyphens limit w has false = All-cons HasHyphenAtMost w [] has (All-nil HasHyphenAtMost)
+
+-- ---- the pieces of a paragraph
+
+module _ (settings : Settings) (Words : List ℕ → List WordText → Type 0)
+    (texts : (line : List ℕ) (words : List WordText) → IsUtf8 line → Words line words
+    → AreTexts line words) (patterns : PatternTable) where
+  -- the pieces of a paragraph are together at most twice as wide as it has bytes
+  pub hyphenated-wide : (paragraph : List ℕ) (pieces : List WordText) → IsUtf8 paragraph
+      → ArePieces settings Words (ArePointsBy (held patterns)) paragraph pieces
+      → total_width sizes_of pieces ≤ 2 * length paragraph
+  hyphenated-wide paragraph pieces utf8 (words, split, words_are, split_are, is) =
+      let are = texts paragraph words utf8 words_are in
+      let Points = ArePointsBy (held patterns) in
+      omega (
+        arith,
+        ap (total_width sizes_of) is,
+        pieces-wide settings split
+            (split-measured Words Points texts (held-cuts patterns) paragraph split utf8
+            (words, words_are, split_are))
+            (split-carries patterns words split are.measured are.plain split_are),
+        ap length (split-tile Words Points texts (held-cuts patterns) paragraph split utf8
+            (words, words_are, split_are)),
+      )
+
+module _ {E C : Type 0} {e : _} {c : _} (options : Options E C e c) (patterns : PatternTable) where
+  -- behind each of them nothing is printed, or a hyphen
+  pub hyphenated-hyphens : (paragraph : List ℕ) (pieces : List WordText) → IsUtf8 paragraph
+      → ArePieces (settings_view options) (MaySeparate options.word_separator)
+      (ArePointsBy (held patterns)) paragraph pieces → All HasHyphenAtMost pieces
+  hyphenated-hyphens paragraph pieces utf8 (words, split, words_are, split_are, is) =
+      let are = MaySeparate-texts options.word_separator paragraph words utf8 words_are in
+      let limit = later_width (settings_view options) in
+      let hyphens = split-hyphens patterns words split are.measured are.plain split_are in
+      subst (All HasHyphenAtMost) (sym is) (elim options.break_words
+      as (λ b. All HasHyphenAtMost (cond b (front_pieces (settings_view options)
+      ++ broken_words limit split) split)) [
+        | true ↦
+            All-append HasHyphenAtMost (front_pieces (settings_view options))
+            (broken_words limit split)
+            (front-hyphens (eqb (length options.initial_indent.now) 0))
+            (All-each HasHyphenAtMost HasHyphenAtMost (broken_word limit)
+            (λ w has. broken_word-hyphens limit w has (ltb limit w.width)) split hyphens)
+        | false ↦ hyphens
+      ])
+
+  -- where words are broken, one that is wider than a line has one character that takes columns
+  pub hyphenated-tight : (paragraph : List ℕ) (pieces : List WordText) → IsUtf8 paragraph
+      → options.break_words ≡ true
+      → ArePieces (settings_view options) (MaySeparate options.word_separator)
+      (ArePointsBy (held patterns)) paragraph pieces
+      → All (IsTight (later_width (settings_view options))) pieces
+  hyphenated-tight paragraph pieces utf8 breaks (words, split, words_are, split_are, is) =
+      let limit = later_width (settings_view options) in
+      let measured = split-measured (MaySeparate options.word_separator)
+      (ArePointsBy (held patterns)) (MaySeparate-texts options.word_separator) (held-cuts patterns)
+      paragraph split utf8 (words, words_are, split_are) in
+      subst (All (IsTight limit)) (sym is) (rw breaks
+      (All-append (IsTight limit) (front_pieces (settings_view options)) (broken_words limit split)
+      (front-tight limit (eqb (length options.initial_indent.now) 0))
+      (broken_words-tight limit split measured)))

@@ -13,8 +13,8 @@ use Rattle.text_filters.specs.Files.{HasNew, HasReplaced, HasRights, IsAside, Is
 use Rattle.text_filters.specs.Files.{IsGone, IsKept, IsKeptAside, IsGivenRights, IsOldOrNew, KeepsFiles}
 use Rattle.text_filters.specs.Files.{LeftOver, Link, Makes, Other, Passes, Puts, PutsEmpty, PutsOver}
 use Rattle.text_filters.specs.Files.{RemovesLeftOver, ReplacesPlace, SameBut, Steps, given_group}
-use Rattle.text_filters.specs.Files.{given_mode, given_owner}
-use Rattle.text_filters.specs.Rights.{kept}
+use Rattle.text_filters.specs.Files.{given_mode, given_owner, refused_group, refused_owner}
+use Rattle.text_filters.specs.Rights.{Granted, HasKeptRights, kept}
 use Rattle.text_filters.specs.declared.rights.Rights.{Rights}
 
 -- ---- entries
@@ -41,7 +41,7 @@ onward old mid new (inl first) same = inl (same ∙ first)
 onward old mid new (inr (was, is)) same = inr (was, subst IsGone (sym same) is)
 
 -- a file was one before
-file-before : (old new : Entry) (bytes : List ℕ) (rights : Rights) → SameBut IsGone old new
+file-before : (old new : Entry) (bytes : List ℕ) (rights : Granted) → SameBut IsGone old new
     → new ≡ File bytes rights → new ≡ old
 file-before old new bytes rights (inl same) is = same
 file-before old new bytes rights (inr (was, gone)) is = absurd (subst IsGone is gone)
@@ -160,7 +160,7 @@ Drafts-tried name_of old mid new (Ok draft) kept makes =
     Drafts-made (name_of draft) old mid new kept makes
 Drafts-tried name_of old mid new (Err error) kept makes = makes
 
-pub IsEmptyDraft-before : (old mid : List Folder) (contents : Option (List ℕ)) (rights : Option Rights)
+pub IsEmptyDraft-before : (old mid : List Folder) (contents : Option (List ℕ)) (rights : Option Granted)
     → KeepsFiles old mid → IsEmptyDraft mid contents rights → IsEmptyDraft old contents rights
 IsEmptyDraft-before [] mid contents rights kept empty = tt
 IsEmptyDraft-before (folder ∷ past) [] contents rights (passes, ends) empty = absurd ends
@@ -192,51 +192,49 @@ KeepsFiles-dropped draft name old mid now new (Err error) drafts named same remo
 
 -- ---- a draft is put in the place of a file
 
--- its rights, after each call that gives some, or does not
-pub given-or-not : {A E : Type 0} (result : Result A E) (has : Bool) (old new given : Option Rights)
-    → has ≡ is_ok result → OnOk result (new ≡ given) → OnErr result (new ≡ old)
-    → new ≡ (if has then given else old)
-given-or-not (Ok value) has old new given is ok err =
-    ok ∙ sym (ap (λ h. if h then given else old) is)
-given-or-not (Err error) has old new given is ok err =
-    err ∙ sym (ap (λ h. if h then given else old) is)
+-- its rights, after each call that gives some, or is refused
+pub given-or-not : {A E : Type 0} (result : Result A E) (has : Bool) (refused new given : Option Granted)
+    → has ≡ is_ok result → OnOk result (new ≡ given) → OnErr result (new ≡ refused)
+    → new ≡ (if has then given else refused)
+given-or-not (Ok value) has refused new given is ok err =
+    ok ∙ sym (ap (λ h. if h then given else refused) is)
+given-or-not (Err error) has refused new given is ok err =
+    err ∙ sym (ap (λ h. if h then given else refused) is)
 
-pub IsGivenRights-given : (rights : Rights) (r0 r1 r2 r3 : Option Rights) (has_owner has_group : Bool)
-    → r1 ≡ (if has_group then given_group rights.group r0 else r0)
-    → r2 ≡ (if has_owner then given_owner rights.owner r1 else r1)
+pub IsGivenRights-given : (rights : Rights) (r0 r1 r2 r3 : Option Granted) (has_owner has_group : Bool)
+    → r1 ≡ (if has_group then given_group rights.group r0 else refused_group rights.group r0)
+    → r2 ≡ (if has_owner then given_owner rights.owner r1 else refused_owner rights.owner r1)
     → r3 ≡ given_mode (kept rights.mode has_owner has_group) r2 → IsGivenRights rights r0 r3
 IsGivenRights-given rights None r1 r2 r3 has_owner has_group group owner mode = tt
 IsGivenRights-given rights (Some own) r1 r2 r3 has_owner has_group group owner mode =
     subst (IsGivenRights rights (Some own))
     (sym (mode ∙ ap (given_mode (kept rights.mode has_owner has_group)) (owner
-    ∙ ap (λ r. if has_owner then given_owner rights.owner r else r) group)))
+    ∙ ap (λ r. if has_owner then given_owner rights.owner r else refused_owner rights.owner r) group)))
     (all has_owner has_group)
   where
+    grouped : Bool → Option Granted
+    grouped has = if has then given_group rights.group (Some own) else refused_group rights.group (Some own)
+
     all : (has_owner has_group : Bool) → IsGivenRights rights (Some own)
         (given_mode (kept rights.mode has_owner has_group)
-        (if has_owner then given_owner rights.owner
-        (if has_group then given_group rights.group (Some own) else Some own)
-        else (if has_group then given_group rights.group (Some own) else Some own)))
-    all true true = HasKeptRights-given rights _ true true (λ has. refl) (λ has. refl) refl
-    all true false =
-        HasKeptRights-given rights _ true false (λ has. refl) (λ has. absurd (false≢true has)) refl
-    all false true =
-        HasKeptRights-given rights _ false true (λ has. absurd (false≢true has)) (λ has. refl) refl
-    all false false =
-        HasKeptRights-given rights _ false false (λ has. absurd (false≢true has))
-        (λ has. absurd (false≢true has)) refl
+        (if has_owner then given_owner rights.owner (grouped has_group)
+        else refused_owner rights.owner (grouped has_group)))
+    all true true = HasKeptRights-given rights _ true true refl refl refl
+    all true false = HasKeptRights-given rights _ true false refl (0, tt, refl) refl
+    all false true = HasKeptRights-given rights _ false true (0, tt, refl) refl refl
+    all false false = HasKeptRights-given rights _ false false (0, tt, refl) (0, tt, refl) refl
 
-pub PutsEmpty-put : (old new : List Folder) (empty contents : Option (List ℕ)) (own given : Option Rights)
+pub PutsEmpty-put : (old new : List Folder) (empty contents : Option (List ℕ)) (own given : Option Granted)
     (rights : Rights) (draft place bytes : List ℕ) → Appends empty contents bytes
     → IsGivenRights rights own given → HasRights old place (Some rights)
     → Steps (Puts draft place contents given) old new
     → Steps (PutsEmpty empty own draft place bytes) old new
 PutsEmpty-put [] new empty contents own given rights draft place bytes appends no_wider has steps = steps
 PutsEmpty-put (folder ∷ past) new empty contents own given rights draft place bytes appends no_wider
-    (before, was) (next, puts, follows) =
+    (before, granted, was, same) (next, puts, follows) =
     (next, over empty contents own given appends no_wider puts, follows)
   where
-    over : (empty contents : Option (List ℕ)) (own given : Option Rights) → Appends empty contents bytes
+    over : (empty contents : Option (List ℕ)) (own given : Option Granted) → Appends empty contents bytes
         → IsGivenRights rights own given → Puts draft place contents given folder next
         → PutsEmpty empty own draft place bytes folder next
     over None contents own given appends no_wider puts = tt
@@ -245,13 +243,20 @@ PutsEmpty-put (folder ∷ past) new empty contents own given rights draft place 
     over (Some []) None (Some own) given appends no_wider puts = absurd appends
     over (Some []) (Some written) (Some own) None appends no_wider puts = absurd no_wider
     over (Some []) (Some written) (Some own) (Some given) appends no_wider (is, gone, others) = (
-      (before, rights, given, was, is ∙ ap (λ bytes. File bytes given) appends, no_wider),
+      (
+        before,
+        granted,
+        given,
+        was,
+        is ∙ ap (λ bytes. File bytes given) appends,
+        subst (λ rights. HasKeptRights rights given) (sym same) no_wider,
+      ),
       gone,
       others,
     )
 
 PutsOver-puts : (old mid new : List Folder) (stop : Folder → Folder → Type 0)
-    (contents : Option (List ℕ)) (own : Option Rights) (draft place bytes : List ℕ)
+    (contents : Option (List ℕ)) (own : Option Granted) (draft place bytes : List ℕ)
     → Passes stop old mid → IsEmptyDraft old contents own
     → Steps (PutsEmpty contents own draft place bytes) mid new
     → Steps (PutsOver draft place bytes) mid new
@@ -263,7 +268,7 @@ PutsOver-puts (folder ∷ past) mid new stop contents own draft place bytes pass
     subst (λ r. Steps (PutsEmpty (Some []) r draft place bytes) mid new) known
     (subst (λ c. Steps (PutsEmpty c own draft place bytes) mid new) no_bytes steps)
 
-pub ReplacesPlace-put : (old mid new : List Folder) (contents : Option (List ℕ)) (own : Option Rights)
+pub ReplacesPlace-put : (old mid new : List Folder) (contents : Option (List ℕ)) (own : Option Granted)
     (draft place bytes : List ℕ) → Drafts draft old mid → IsEmptyDraft old contents own
     → Steps (PutsEmpty contents own draft place bytes) mid new → ReplacesPlace place bytes old new
 ReplacesPlace-put old mid new contents own draft place bytes (passes, ends) empty steps =

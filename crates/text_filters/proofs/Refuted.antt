@@ -5,7 +5,7 @@ use Rattle.std.proofs.lemmas.Bool.{false≢true}
 use Rattle.std.specs.Prelude.{⊤}
 use Rattle.text_filters.specs.Files.{Absent, Entry, File, Folder, PutsOver, PutsSynced}
 use Rattle.text_filters.specs.Files.{Steps}
-use Rattle.text_filters.specs.Rights.{HasKeptRights, IsNoWider, kept, mode_of}
+use Rattle.text_filters.specs.Rights.{Granted, HasKeptRights, IsNoWider, kept, mode_of}
 use Rattle.text_filters.specs.declared.rights.Rights.{Rights}
 
 -- a program that runs as the super-user
@@ -26,8 +26,10 @@ abbrev of_nobody : Rights
 of_nobody = record { owner = 0; group = 0; mode = mode_of 0 }
 
 -- for whatever is kept of a mode, its owner may do what he might
-pub nothing_allowed_afterwards : ¬ HasKeptRights of_root of_nobody
-nothing_allowed_afterwards ((has_owner, has_group, owner, group, is), wider) =
+pub nothing_allowed_afterwards : (owners groups : List ℕ)
+    → ¬ HasKeptRights of_root
+    (record { rights = of_nobody; refused_owners = owners; refused_groups = groups })
+nothing_allowed_afterwards owners groups ((has_owner, has_group, owner, group, is), wider) =
     unlike has_owner has_group is
   where
     unlike : (has_owner has_group : Bool)
@@ -37,12 +39,25 @@ nothing_allowed_afterwards ((has_owner, has_group, owner, group, is), wider) =
     unlike false true is = false≢true (ap (λ mode. mode.owner.read) is)
     unlike false false is = false≢true (ap (λ mode. mode.owner.read) is)
 
+-- whose group and owner the system was not asked for
+abbrev not_asked : Granted
+not_asked = record {
+  rights = record { owner = 1234; group = 1234; mode = kept of_root.mode false false };
+  refused_owners = [];
+  refused_groups = [];
+}
+
+pub owner_is_not_asked_for : ¬ HasKeptRights of_root not_asked
+owner_is_not_asked_for ((true, has_group, owner, group, is), wider) =
+    let no : 1234 ≡ 0 = owner in cc
+owner_is_not_asked_for ((false, has_group, (k, below, owner), group, is), wider) = absurd below
+
 -- nothing at all
 abbrev empty : Folder
 empty name = Absent
 
 -- of a draft that is not on the disk nothing is promised, so also that nothing comes of it
-pub synced_before_it_is_written : (rights : Rights)
+pub synced_before_it_is_written : (rights : Granted)
     → PutsSynced (Some []) [] (47 ∷ []) (Some (10 ∷ [])) (Some rights) (empty ∷ []) (empty ∷ empty ∷ [])
     × (¬ Steps (PutsOver [] (47 ∷ []) (10 ∷ [])) (empty ∷ []) (empty ∷ empty ∷ []))
 synced_before_it_is_written rights = (λ same. absurd (unlike [] same), λ (next, over, follows). not_put next over)

@@ -1,8 +1,8 @@
 -- A mode that is kept lets nobody do more.
-use Rattle.std.proofs.Common.{◌≡◌, ◌∙◌, ◌&&◌, ◌==◌, ◌⊎◌, ap, ap₂, inl, inr, refl, subst, sym, Bool, false, true}
+use Rattle.std.proofs.Common.{◌≡◌, ◌∙◌, ◌&&◌, ◌==◌, ◌⊎◌, ap, ap₂, inl, inr, refl, subst, sym, Bool, false, true, ℕ, List}
 use Rattle.std.proofs.lemmas.Bool.{eq-eqb, eqb-true, false≢true}
-use Rattle.text_filters.specs.Rights.{HasKeptRights, IsNoWider, IsWithin, allowed, both, class_of, for_other_group}
-use Rattle.text_filters.specs.Rights.{for_other_owner, kept}
+use Rattle.text_filters.specs.Rights.{Granted, HasKeptRights, IsNoWider, IsSameOrRefused, IsWithin}
+use Rattle.text_filters.specs.Rights.{allowed, both, class_of, for_other_group, for_other_owner, kept}
 use Rattle.text_filters.specs.declared.rights.Access.{Access}
 use Rattle.text_filters.specs.declared.rights.FileMode.{FileMode}
 use Rattle.text_filters.specs.declared.rights.Rights.{Rights}
@@ -102,7 +102,7 @@ module _ (mode : FileMode) where
   special false false (inl set) = absurd (false≢true set)
   special false false (inr set) = absurd (false≢true set)
 
-pub kept-no_wider : (rights given : Rights) (has_owner has_group : Bool)
+kept-no_wider : (rights given : Rights) (has_owner has_group : Bool)
     → (has_owner ≡ true → given.owner ≡ rights.owner) → (has_group ≡ true → given.group ≡ rights.group)
     → given.mode ≡ kept rights.mode has_owner has_group → IsNoWider rights given
 kept-no_wider rights given has_owner has_group same_owner same_group is = (
@@ -119,10 +119,19 @@ kept-no_wider rights given has_owner has_group same_owner same_group is = (
       (same_owner owner, same_group group, ap (λ mode. mode.set_user) same, ap (λ mode. mode.set_group) same),
 )
 
-pub HasKeptRights-given : (rights given : Rights) (has_owner has_group : Bool)
-    → (has_owner ≡ true → given.owner ≡ rights.owner) → (has_group ≡ true → given.group ≡ rights.group)
-    → given.mode ≡ kept rights.mode has_owner has_group → HasKeptRights rights given
-HasKeptRights-given rights given has_owner has_group same_owner same_group is = (
-  (has_owner, has_group, same_owner, same_group, is),
-  kept-no_wider rights given has_owner has_group same_owner same_group is,
+-- what was not refused is the same
+same-unless-refused : (has : Bool) (old new : ℕ) (refused : List ℕ) → IsSameOrRefused has old new refused
+    → has ≡ true → new ≡ old
+same-unless-refused true old new refused same has = same
+same-unless-refused false old new refused same has = absurd (false≢true has)
+
+pub HasKeptRights-given : (rights : Rights) (given : Granted) (has_owner has_group : Bool)
+    → IsSameOrRefused has_owner rights.owner given.rights.owner given.refused_owners
+    → IsSameOrRefused has_group rights.group given.rights.group given.refused_groups
+    → given.rights.mode ≡ kept rights.mode has_owner has_group → HasKeptRights rights given
+HasKeptRights-given rights given has_owner has_group owner group is = (
+  (has_owner, has_group, owner, group, is),
+  kept-no_wider rights given.rights has_owner has_group
+      (same-unless-refused has_owner rights.owner given.rights.owner given.refused_owners owner)
+      (same-unless-refused has_group rights.group given.rights.group given.refused_groups group) is,
 )

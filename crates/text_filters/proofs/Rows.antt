@@ -3,15 +3,18 @@ use Rattle.std.proofs.Common.{◌≡◌, ◌⊎◌, ◌++◌, [], ◌∷◌, inl
 use Rattle.std.specs.Prelude.{⊤, bytes_eq, codes, if◌then◌else◌}
 use Rattle.text_filters.specs.Files.{Absent, Each, Entry, File, Folder, HasNew, IsAside, IsOldOrNew}
 use Rattle.text_filters.specs.Files.{ReplacesFile, SameBut}
-use Rattle.text_filters.specs.Rights.{mode_of}
-use Rattle.text_filters.specs.declared.rights.Rights.{Rights}
+use Rattle.text_filters.specs.Rights.{Granted, mode_of}
 
 -- "f", and whose it is
 abbrev name : List ℕ
 name = codes "f"
 
-abbrev rights : Rights
-rights = record { owner = 1000; group = 1000; mode = mode_of 420 }
+abbrev rights : Granted
+rights = record {
+  rights = record { owner = 1000; group = 1000; mode = mode_of 420 };
+  refused_owners = [];
+  refused_groups = [];
+}
 
 -- a folder with this file alone, and one with none
 abbrev with_file : List ℕ → Folder

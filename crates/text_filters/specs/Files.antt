@@ -1,15 +1,15 @@
 -- What is known of the files, by their names.
 use Rattle.std.specs.Prelude.{◌≡◌, ◌≢◌, ◌⊎◌, ◌++◌, ◌∷◌, ℕ, List, [], Option, None, Some, ⊤, option_map}
-use Rattle.text_filters.specs.Rights.{HasKeptRights}
+use Rattle.text_filters.specs.Rights.{Granted, HasKeptRights}
 use Rattle.text_filters.specs.declared.rights.FileMode.{FileMode}
 use Rattle.text_filters.specs.declared.rights.Rights.{Rights}
 
--- what stands at a name: nothing; a file with these bytes and rights; a link to this name; a draft of
+-- what stands at a name: nothing; a file with these bytes, which has these rights; a link to this name; a draft of
 -- this run, whatever it holds; one of a run that is over, or that could not be removed; or something
 -- else, such as a folder
 pub data Entry : Type 0 where
   Absent : Entry
-  File : List ℕ → Rights → Entry
+  File : List ℕ → Granted → Entry
   Link : List ℕ → Entry
   Draft : Entry
   LeftOver : Entry
@@ -42,14 +42,15 @@ abbrev pub LeadsTo : List Folder → List ℕ → List ℕ → Type 0
 LeadsTo [] name place = ⊤
 LeadsTo (folder ∷ past) name place =
     (place ≡ followed folder name)
-    × ((bytes : List ℕ) × (rights : Rights) × (folder place ≡ File bytes rights))
+    × ((bytes : List ℕ) × (granted : Granted) × (folder place ≡ File bytes granted))
 
 -- the file of this name has these rights, if it has any
 abbrev pub HasRights : List Folder → List ℕ → Option Rights → Type 0
 HasRights [] place rights = ⊤
 HasRights (folder ∷ past) place None = ⊤
 HasRights (folder ∷ past) place (Some rights) =
-    (bytes : List ℕ) × (folder place ≡ File bytes rights)
+    (bytes : List ℕ) × (granted : Granted) × (folder place ≡ File bytes granted)
+    × (granted.rights ≡ rights)
 
 -- ---- the steps
 
@@ -69,24 +70,24 @@ abbrev pub Makes : List ℕ → Folder → Folder → Type 0
 Makes name old new = (old name ≡ Absent) × Changes name Draft old new
 
 -- where the past is known, it is known that a new draft is empty, and what its rights are
-abbrev pub IsEmptyDraft : List Folder → Option (List ℕ) → Option Rights → Type 0
+abbrev pub IsEmptyDraft : List Folder → Option (List ℕ) → Option Granted → Type 0
 IsEmptyDraft [] contents rights = ⊤
 IsEmptyDraft (folder ∷ past) contents rights =
-    (contents ≡ Some []) × ((given : Rights) × (rights ≡ Some given))
+    (contents ≡ Some []) × ((given : Granted) × (rights ≡ Some given))
 
 -- a draft that was left over is removed
 abbrev pub RemovesLeftOver : Folder → Folder → Type 0
 RemovesLeftOver old new = (name : List ℕ) × (old name ≡ LeftOver) × Changes name Absent old new
 
 -- a draft with these contents and rights is put in the place of a file
-abbrev pub Puts : List ℕ → List ℕ → Option (List ℕ) → Option Rights → Folder → Folder → Type 0
+abbrev pub Puts : List ℕ → List ℕ → Option (List ℕ) → Option Granted → Folder → Folder → Type 0
 Puts name place (Some bytes) (Some rights) old new =
     (new place ≡ File bytes rights) × (new name ≡ Absent)
     × ((other : List ℕ) → other ≢ place → other ≢ name → new other ≡ old other)
 Puts name place _ _ old new = ⊤
 
 -- so it is if all of them are on the disk; else nothing is promised
-abbrev pub PutsSynced : Option (List ℕ) → List ℕ → List ℕ → Option (List ℕ) → Option Rights
+abbrev pub PutsSynced : Option (List ℕ) → List ℕ → List ℕ → Option (List ℕ) → Option Granted
     → List Folder → List Folder → Type 0
 PutsSynced synced name place contents rights old new =
     synced ≡ contents → Steps (Puts name place contents rights) old new
@@ -102,14 +103,36 @@ with_owner owner rights = record { owner = owner; group = rights.group; mode = r
 abbrev pub with_mode : FileMode → Rights → Rights
 with_mode mode rights = record { owner = rights.owner; group = rights.group; mode = mode }
 
-abbrev pub given_group : ℕ → Option Rights → Option Rights
-given_group group = option_map (with_group group)
+-- other rights, with the same refused
+abbrev pub granted_by : (Rights → Rights) → Granted → Granted
+granted_by change old = record {
+  rights = change old.rights;
+  refused_owners = old.refused_owners;
+  refused_groups = old.refused_groups;
+}
 
-abbrev pub given_owner : ℕ → Option Rights → Option Rights
-given_owner owner = option_map (with_owner owner)
+abbrev pub given_group : ℕ → Option Granted → Option Granted
+given_group group = option_map (granted_by (with_group group))
 
-abbrev pub given_mode : FileMode → Option Rights → Option Rights
-given_mode mode = option_map (with_mode mode)
+abbrev pub given_owner : ℕ → Option Granted → Option Granted
+given_owner owner = option_map (granted_by (with_owner owner))
+
+abbrev pub given_mode : FileMode → Option Granted → Option Granted
+given_mode mode = option_map (granted_by (with_mode mode))
+
+abbrev pub refused_group : ℕ → Option Granted → Option Granted
+refused_group group = option_map (λ old. record {
+  rights = old.rights;
+  refused_owners = old.refused_owners;
+  refused_groups = group ∷ old.refused_groups;
+})
+
+abbrev pub refused_owner : ℕ → Option Granted → Option Granted
+refused_owner owner = option_map (λ old. record {
+  rights = old.rights;
+  refused_owners = owner ∷ old.refused_owners;
+  refused_groups = old.refused_groups;
+})
 
 -- ---- what becomes of all files
 
@@ -141,8 +164,8 @@ IsKeptAside old new = (name : List ℕ) → SameBut IsAside (old name) (new name
 -- a file has these bytes now, and the rights that it may keep
 abbrev pub HasNew : List ℕ → Entry → Entry → Type 0
 HasNew bytes old new =
-    (before : List ℕ) × (rights : Rights) × (given : Rights)
-    × (old ≡ File before rights) × (new ≡ File bytes given) × HasKeptRights rights given
+    (before : List ℕ) × (was : Granted) × (given : Granted)
+    × (old ≡ File before was) × (new ≡ File bytes given) × HasKeptRights was.rights given
 
 -- this file has these bytes now, and all other names are as they were, but for drafts as above
 abbrev pub HasReplaced : List ℕ → List ℕ → Folder → Folder → Type 0
@@ -201,7 +224,7 @@ abbrev pub Drafts : List ℕ → List Folder → List Folder → Type 0
 Drafts draft old new = Passes IsKeptAside old new × Ends (IsDrafted draft) old new
 
 -- where the rights of a draft were known, they are what may be kept of these
-abbrev pub IsGivenRights : Rights → Option Rights → Option Rights → Type 0
+abbrev pub IsGivenRights : Rights → Option Granted → Option Granted → Type 0
 IsGivenRights rights None new = ⊤
 IsGivenRights rights (Some old) None = ⊥
 IsGivenRights rights (Some old) (Some given) = HasKeptRights rights given
@@ -213,7 +236,7 @@ PutsOver draft place bytes old new =
     × ((other : List ℕ) → other ≢ place → other ≢ draft → new other ≡ old other)
 
 -- so it is with one that was empty
-abbrev pub PutsEmpty : Option (List ℕ) → Option Rights → List ℕ → List ℕ → List ℕ → Folder → Folder
+abbrev pub PutsEmpty : Option (List ℕ) → Option Granted → List ℕ → List ℕ → List ℕ → Folder → Folder
     → Type 0
 PutsEmpty (Some []) (Some rights) draft place bytes old new = PutsOver draft place bytes old new
 PutsEmpty _ _ draft place bytes old new = ⊤

@@ -1,5 +1,6 @@
 -- Who may do what with a file.
 use Rattle.std.specs.Prelude.{◌≡◌, ◌*◌, ◌+◌, ◌&&◌, ◌⊎◌, ℕ, Bool, true, false, not, if◌then◌else◌, ◌==◌}
+use Rattle.std.specs.Prelude.{Contains, List}
 use Rattle.std.specs.Int.Bits.{bit_and}
 use Rattle.text_filters.specs.declared.rights.Access.{Access}
 use Rattle.text_filters.specs.declared.rights.FileMode.{FileMode}
@@ -68,16 +69,28 @@ kept mode true false = for_other_group mode
 kept mode false true = for_other_owner mode
 kept mode false false = for_other_owner (for_other_group mode)
 
--- the mode is what may be kept of it, and the owner and the group are the same where it is so
-abbrev pub KeepsRights : Rights → Rights → Type 0
+-- the rights of a file that was made, and the owners and groups that the system refused to give it to
+pub record Granted : Type 0 where
+  pub rights : Rights
+  pub refused_owners : List ℕ
+  pub refused_groups : List ℕ
+
+-- a number is the same, or that was refused
+abbrev pub IsSameOrRefused : Bool → ℕ → ℕ → List ℕ → Type 0
+IsSameOrRefused true old new refused = new ≡ old
+IsSameOrRefused false old new refused = Contains refused old
+
+-- the owner and the group are the same, or the system refused that; and the mode is what may be kept of it
+abbrev pub KeepsRights : Rights → Granted → Type 0
 KeepsRights old new =
     (has_owner : Bool) × (has_group : Bool)
-    × (has_owner ≡ true → new.owner ≡ old.owner) × (has_group ≡ true → new.group ≡ old.group)
-    × (new.mode ≡ kept old.mode has_owner has_group)
+    × IsSameOrRefused has_owner old.owner new.rights.owner new.refused_owners
+    × IsSameOrRefused has_group old.group new.rights.group new.refused_groups
+    × (new.rights.mode ≡ kept old.mode has_owner has_group)
 
 -- so a file keeps its rights as far as the system permits it, and nobody may do more with it
-abbrev pub HasKeptRights : Rights → Rights → Type 0
-HasKeptRights old new = KeepsRights old new × IsNoWider old new
+abbrev pub HasKeptRights : Rights → Granted → Type 0
+HasKeptRights old new = KeepsRights old new × IsNoWider old new.rights
 
 -- ---- modes as numbers
 

@@ -2,9 +2,9 @@
 ghost use Rattle.std.specs.Prelude.{◌≡◌, ℕ, List, Option, None, [], IfOk, OnErr, OnOk};
 ghost use Rattle.text_filters.specs.Files.{Changes, Folder, HasRights, IsEmptyDraft, LeadsTo, Makes, PutsSynced};
 ghost use Rattle.text_filters.specs.Files.{RemovesLeftOver, Steps, bytes_at, given_group, given_mode};
-ghost use Rattle.text_filters.specs.Files.{given_owner};
+ghost use Rattle.text_filters.specs.Files.{given_owner, refused_group, refused_owner};
 ghost use Rattle.text_filters.specs.Files.{Absent, LeftOver};
-ghost use Rattle.text_filters.specs.declared.rights.Rights.{Rights as AntRights};
+ghost use Rattle.text_filters.specs.Rights.{Granted};
 
 use crate::rights::{FileMode, Rights};
 use std::io;
@@ -58,8 +58,8 @@ pub trait Files {
     /// The name of a draft.
     ghost draft_name: { Self.Draft → List ℕ } = { λ _. [] };
 
-    /// What is known of the rights of a draft.
-    ghost draft_rights: { Self.Draft → Option AntRights } = { λ _. None };
+    /// What is known of the rights of a draft, and of those that the system refused it.
+    ghost draft_rights: { Self.Draft → Option Granted } = { λ _. None };
 
     /// What is known of the bytes of a draft that are on the disk.
     ghost synced: { Self.Output → Option (List ℕ) } = { λ _. None };
@@ -139,7 +139,7 @@ pub trait Files {
         group: u32,
     ) -> io::Result<()>
         ensures given { OnOk result (draft_rights draft.new.node ≡ given_group group (draft_rights draft.old.node)) }
-        ensures not_given { OnErr result (draft_rights draft.new.node ≡ draft_rights draft.old.node) }
+        ensures refused { OnErr result (draft_rights draft.new.node ≡ refused_group group (draft_rights draft.old.node)) }
         ensures name { draft_name draft.new.node ≡ draft_name draft.old.node }
         ensures contents { Self.Output.contents draft.new.stream ≡ Self.Output.contents draft.old.stream }
         ensures kept { past self.new ≡ past self.old };
@@ -154,7 +154,7 @@ pub trait Files {
         owner: u32,
     ) -> io::Result<()>
         ensures given { OnOk result (draft_rights draft.new.node ≡ given_owner owner (draft_rights draft.old.node)) }
-        ensures not_given { OnErr result (draft_rights draft.new.node ≡ draft_rights draft.old.node) }
+        ensures refused { OnErr result (draft_rights draft.new.node ≡ refused_owner owner (draft_rights draft.old.node)) }
         ensures name { draft_name draft.new.node ≡ draft_name draft.old.node }
         ensures contents { Self.Output.contents draft.new.stream ≡ Self.Output.contents draft.old.stream }
         ensures kept { past self.new ≡ past self.old };

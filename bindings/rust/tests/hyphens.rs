@@ -65,7 +65,8 @@ fn a_list_a_text_of_tex_and_a_dictionary_of_libhyphen_are_read() {
 
 #[test]
 fn without_patterns_words_are_split_at_their_hyphens_alone() {
-    let none = Patterns::parse("").unwrap();
+    // A pattern without levels: a text without patterns is no dictionary.
+    let none = Patterns::parse("zz").unwrap();
     assert_eq!(none.points("hyphenation"), []);
     assert_eq!(Patterns::from_numbers(none.as_numbers()), Some(none.clone()));
     for options in both(11) {

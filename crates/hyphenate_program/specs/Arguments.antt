@@ -8,6 +8,8 @@ use Rattle.text_filters.specs.Arguments.{file_rule, texts_in}
 use Rattle.text_filters.specs.declared.arguments.Mode.TheVariants.{Print}
 use Rattle.textwrap_program.specs.Arguments.{width_of}
 use Rattle.textwrap_program.specs.Program.{line_feed}
+use Rattle.hyphenate_program.specs.declared.arguments.Count.{Count}
+use Rattle.hyphenate_program.specs.declared.arguments.Count.TheVariants.{Width, Left, Right}
 use Rattle.hyphenate_program.specs.declared.arguments.Request.{Request}
 
 -- ---- the command line
@@ -19,6 +21,10 @@ columns_rule = record (new_rule (codes "width")) {
   value_names = 1;
 }
 
+-- a number of letters
+abbrev pub count_rule : Text → Rule
+count_rule name = record (new_rule name) { long = Some name; value_names = 1 }
+
 -- what stands first by itself is the dictionary, and has to be there
 abbrev pub dictionary_rule : Rule
 dictionary_rule =
@@ -28,7 +34,8 @@ dictionary_rule =
 abbrev pub hyphenate_app : App
 hyphenate_app = record {
   top = record (new_app (codes "hyphenate")).top {
-    rules = columns_rule ∷ dictionary_rule ∷ file_rule ∷ [];
+    rules = columns_rule ∷ count_rule (codes "left") ∷ count_rule (codes "right")
+        ∷ dictionary_rule ∷ file_rule ∷ [];
     no_binary_name = true;
     args_override_self = true;
     has_version = true;
@@ -50,6 +57,8 @@ help_lines =
     ∷ codes ""
     ∷ codes "Options:"
     ∷ codes "  -w, --width <N>  Fill the text at N columns, with hyphens; also -N"
+    ∷ codes "      --left <N>   Keep N letters before a hyphen, not as many as the dictionary says"
+    ∷ codes "      --right <N>  Keep N letters behind a hyphen"
     ∷ codes "  -h, --help       Print help"
     ∷ codes "  -V, --version    Print version"
     ∷ codes ""
@@ -65,17 +74,24 @@ version_text = codes "hyphenate 2.0.0" ++ line_feed ∷ []
 
 -- ---- what its matches mean
 
-abbrev pub width_in_text : Option Text → Option (Option ℕ)
-width_in_text None = Some None
-width_in_text (Some text) = option_map (λ width. Some width) (width_of text)
+abbrev pub name_of : Count → Text
+name_of Width = codes "width"
+name_of Left = codes "left"
+name_of Right = codes "right"
 
--- the width, if one is given; `None` if it is no number
-abbrev pub width_if_given : List Row → Option (Option ℕ)
-width_if_given rows = width_in_text (first_of (codes "width") rows)
+abbrev pub number_in_text : Option Text → Option (Option ℕ)
+number_in_text None = Some None
+number_in_text (Some text) = option_map (λ number. Some number) (width_of text)
+
+-- the number of an option, if it is given; `None` if its value is none
+abbrev pub number_if_given : Text → List Row → Option (Option ℕ)
+number_if_given name rows = number_in_text (first_of name rows)
 
 -- these matches mean this request
 pub record IsRequest (rows : List Row) (request : Request) : Type 0 where
   pub dictionary : request.dictionary.now ≡ unwrap_or (first_of (codes "DICTIONARY") rows) []
-  pub width : width_if_given rows ≡ Some request.width
+  pub width : number_if_given (codes "width") rows ≡ Some request.width
+  pub left : number_if_given (codes "left") rows ≡ Some request.left
+  pub right : number_if_given (codes "right") rows ≡ Some request.right
   pub names : map (λ name. name.now) request.inputs.names.now ≡ texts_in (codes "FILE") rows
   pub mode : request.inputs.mode ≡ Print

@@ -1,52 +1,40 @@
 -- What is read of a dictionary.
-use Rattle.std.specs.Prelude.{◌≡◌, ◌==◌, ◌&&◌, ℕ, Bool, true, false, List, ⊤, Option, Result, Ok, Err}
-use Rattle.std.specs.Prelude.{length}
+use Rattle.std.specs.Prelude.{◌≡◌, ℕ, List, ⊤, Option, Result, Ok, Err, unwrap_or}
 use Rattle.std.specs.Str.{IsUtf8}
 use Rattle.textwrap_program.specs.Filling.{ReadsAll}
-use Rattle.textwrap_patterns.specs.Listed.{Listed}
-use Rattle.textwrap_patterns.specs.Parsing.{parsed, reading_view}
-use Rattle.textwrap_patterns.specs.declared.parsing.Reading.{Reading}
-use Rattle.textwrap_patterns.specs.declared.errors.ParseError.TheVariants as parsing
-use Rattle.textwrap_hyphens.specs.Hyphenation.{Hyphenation, hyphenation_by}
+use Rattle.textwrap_patterns.specs.Charsets.{charset_of}
+use Rattle.textwrap_patterns.specs.Parsing.{parsed, parsed_in}
+use Rattle.textwrap_patterns.specs.declared.errors.ParseError.TheVariants.{Line}
+use Rattle.textwrap_hyphens.specs.Hyphenation.{Hyphenation}
+use Rattle.textwrap_hyphens.specs.Parsed.{Holds}
 use Rattle.textwrap_hyphens.specs.Table.{patterns_view}
 use Rattle.textwrap_hyphens.specs.declared.dictionary.Patterns.{Patterns}
-use Rattle.text_filters.specs.Inputs.{IsNoText}
-use Rattle.text_filters.specs.declared.faults.Fault.TheVariants.{Read, NotUtf8, Memory}
+use Rattle.text_filters.specs.declared.faults.Fault.TheVariants.{Read, Memory}
 use Rattle.hyphenate_program.specs.declared.dictionary.Failure.{Failure}
-use Rattle.hyphenate_program.specs.declared.dictionary.Failure.TheVariants.{Unread, Wrong, Empty}
+use Rattle.hyphenate_program.specs.declared.dictionary.Failure.TheVariants.{Unread, Wrong}
 
--- neither patterns nor exceptions are listed
-abbrev pub says_nothing : Listed → Bool
-says_nothing d = length d.patterns == 0 && length d.exceptions == 0
-
--- what a text lists, which is something, or why there is nothing
-abbrev pub Lists : {Z : Type 0} → List ℕ → Result (Reading Z) Failure → Type 0
-Lists text (Ok reading) =
-    (parsed text ≡ Ok (reading_view reading)) × (says_nothing (reading_view reading) ≡ false)
-Lists text (Err (Wrong line fault)) = parsed text ≡ Err (parsing.Line line fault)
-Lists text (Err Empty) = (d : Listed) × (parsed text ≡ Ok d) × (says_nothing d ≡ true)
-Lists text (Err (Unread Memory)) = ⊤
-Lists text (Err (Unread _)) = ⊥
-
--- these bytes say this
+-- these bytes say this, as a text or in the charset that they name
 abbrev pub IsSaid : List ℕ → Hyphenation → Type 0
 IsSaid bytes h =
-    IsUtf8 bytes × ((d : Listed) × (parsed bytes ≡ Ok d) × (says_nothing d ≡ false)
-    × (h ≡ hyphenation_by d))
+    (IsUtf8 bytes → Holds (parsed bytes) h)
+    × (¬ (IsUtf8 bytes) → Holds (parsed_in (charset_of bytes) bytes) h)
 
--- or they say nothing, and this is why
+-- or they are no dictionary, and this is why
 abbrev pub IsNoDictionary : List ℕ → Failure → Type 0
 IsNoDictionary bytes (Wrong line fault) =
-    IsUtf8 bytes × (parsed bytes ≡ Err (parsing.Line line fault))
-IsNoDictionary bytes Empty =
-    IsUtf8 bytes × ((d : Listed) × (parsed bytes ≡ Ok d) × (says_nothing d ≡ true))
-IsNoDictionary bytes (Unread (NotUtf8 valid)) = IsNoText bytes valid
+    (IsUtf8 bytes → parsed bytes ≡ Err (Line line fault))
+    × (¬ (IsUtf8 bytes) → parsed_in (charset_of bytes) bytes ≡ Err (Line line fault))
 IsNoDictionary bytes (Unread Memory) = ⊤
 IsNoDictionary bytes (Unread _) = ⊥
 
 abbrev pub IsDictionary : {Z : Type 0} → List ℕ → Result (Patterns Z) Failure → Type 0
 IsDictionary bytes (Ok patterns) = IsSaid bytes (patterns_view patterns)
 IsDictionary bytes (Err failure) = IsNoDictionary bytes failure
+
+-- the minima that are asked for, and the dictionary's own for those that are not
+abbrev pub with_minima : Option ℕ → Option ℕ → Hyphenation → Hyphenation
+with_minima left right h =
+    record h { left = unwrap_or left h.left; right = unwrap_or right h.right }
 
 -- ---- what is read
 

@@ -11,13 +11,14 @@ use Rattle.text_filters.specs.declared.faults.Fault.TheVariants.{Memory}
 use Rattle.text_filters.specs.Words.{spelled_out}
 use Rattle.text_filters.specs.declared.program.Ending.{Ending}
 use Rattle.textwrap_hyphens.specs.Hyphenation.{Hyphenation}
-use Rattle.hyphenate_program.specs.Arguments.{IsRequest, help_text, hyphenate_app, version_text}
-use Rattle.hyphenate_program.specs.Arguments.{width_if_given}
-use Rattle.hyphenate_program.specs.Dictionary.{ReadsNone, ReadsSaid}
+use Rattle.hyphenate_program.specs.Arguments.{IsRequest, help_text, hyphenate_app, name_of}
+use Rattle.hyphenate_program.specs.Arguments.{number_if_given, version_text}
+use Rattle.hyphenate_program.specs.Dictionary.{ReadsNone, ReadsSaid, with_minima}
 use Rattle.hyphenate_program.specs.Texts.{hyphenating_by}
+use Rattle.hyphenate_program.specs.declared.arguments.Count.{Count}
 use Rattle.hyphenate_program.specs.declared.arguments.Request.{Request}
 use Rattle.hyphenate_program.specs.declared.dictionary.Failure.{Failure}
-use Rattle.hyphenate_program.specs.declared.dictionary.Failure.TheVariants.{Unread, Wrong, Empty}
+use Rattle.hyphenate_program.specs.declared.dictionary.Failure.TheVariants.{Unread, Wrong}
 
 abbrev pub hyphenate_about : AboutText
 hyphenate_about = record {
@@ -43,9 +44,6 @@ abbrev pub Explains : List ℕ → Failure → Option (List ℕ) → Option (Lis
 Explains name (Unread fault) old new ending =
     Reports hyphenate_about name (Err fault) old new ending
 Explains name (Wrong line fault) old new ending = SaysWrong name line None old new ending
-Explains name Empty old new ending =
-    Says (message_line hyphenate_about name (codes "has no patterns" ∷ [])) old new ending.said
-    × IsFault ending
 
 -- ---- the whole run
 
@@ -54,17 +52,19 @@ Explains name Empty old new ending =
 abbrev pub Hyphenates : Request → World → World → Ending → Type 0
 Hyphenates request old new ending =
     ((h : Hyphenation) × ReadsSaid (bytes_at old.files request.dictionary.now) h
-    × Serves hyphenate_about (hyphenating_by request.width h) request.inputs old new ending)
+    × Serves hyphenate_about
+    (hyphenating_by request.width (with_minima request.left request.right h)) request.inputs old new
+    ending)
     ⊎ ((failure : Failure) × ReadsNone (bytes_at old.files request.dictionary.now) failure
     × OnlySays old new
     × Explains request.dictionary.now failure old.messages new.messages ending)
 
--- these matches mean a request, or the width is no number, which is said
+-- these matches mean a request, or a value is no number, which is said
 abbrev pub ServesRows : List Row → World → World → Ending → Type 0
 ServesRows rows old new ending =
     ((request : Request) × IsRequest rows request × Hyphenates request old new ending)
-    ⊎ ((width_if_given rows ≡ None) × OnlySays old new
-    × Says (joined_texts (value_texts hyphenate_about rows (codes "width")
+    ⊎ ((option : Count) × (number_if_given (name_of option) rows ≡ None) × OnlySays old new
+    × Says (joined_texts (value_texts hyphenate_about rows (name_of option)
     (codes "a number of 64 bits")))
     old.messages new.messages ending.said
     × IsFault ending)

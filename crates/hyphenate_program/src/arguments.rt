@@ -1,8 +1,9 @@
 //! The program's arguments.
-ghost use Rattle.std.specs.Prelude.{◌≡◌, IfOk, MatchOption, None, false};
+ghost use Rattle.std.specs.Prelude.{◌≡◌, IfOk, MatchResult, None, false};
 ghost use Rattle.clap.specs.Words.{app_of, found_of, rows_of, rule_of};
-ghost use Rattle.hyphenate_program.specs.Arguments.{IsRequest, dictionary_rule, hyphenate_app};
-ghost use Rattle.hyphenate_program.specs.Arguments.{width_if_given, columns_rule};
+ghost use Rattle.hyphenate_program.specs.Arguments.{IsRequest, columns_rule, count_rule};
+ghost use Rattle.hyphenate_program.specs.Arguments.{dictionary_rule, hyphenate_app, name_of};
+ghost use Rattle.hyphenate_program.specs.Arguments.{number_if_given};
 
 use clap::{Arg, ArgAction, ArgMatches, Command};
 use std::alloc::{AllocError, Global};
@@ -20,6 +21,8 @@ Arguments:
 
 Options:
   -w, --width <N>  Fill the text at N columns, with hyphens; also -N
+      --left <N>   Keep N letters before a hyphen, not as many as the dictionary says
+      --right <N>  Keep N letters behind a hyphen
   -h, --help       Print help
   -V, --version    Print version
 
@@ -47,8 +50,31 @@ pub struct Request<'a> {
     /// The columns at which the paragraphs of a text are filled. Without them each line of the text is
     /// a word, and is hyphenated.
     pub width: Option<usize>,
+    /// How many letters stay before a hyphen, if not as many as the dictionary says.
+    pub left: Option<usize>,
+    /// How many letters stay behind a hyphen.
+    pub right: Option<usize>,
     /// The inputs.
     pub inputs: Inputs<'a>,
+}
+
+/// An option whose value is a number.
+#[derive(Clone, Copy)]
+pub enum Count {
+    Width,
+    Left,
+    Right,
+}
+
+/// The name of the option.
+pub(crate) fn name_of(option: Count) -> &'static str
+    ensures { result.now ≡ name_of option }
+{
+    match option {
+        Count::Width => "width",
+        Count::Left => "left",
+        Count::Right => "right",
+    }
 }
 
 /// The program's command line.
@@ -62,6 +88,16 @@ pub(crate) fn command<'a>(alloc: Global) -> Result<Command<'a>, AllocError>
         .no_binary_name(true)
         .args_override_self(true)
         .arg(columns_argument(alloc))?
+        .arg(count_argument(
+            alloc,
+            "left",
+            "Keep N letters before a hyphen, not as many as the dictionary says",
+        ))?
+        .arg(count_argument(
+            alloc,
+            "right",
+            "Keep N letters behind a hyphen",
+        ))?
         .arg(dictionary_argument(alloc))?
         .arg(file_argument(alloc))
 }
@@ -78,6 +114,14 @@ fn columns_argument<'a>(alloc: Global) -> Arg<'a>
         .help("Fill the text at N columns, with hyphens; also -N")
 }
 
+/// The argument that gives how many letters stay at a side of a hyphen.
+fn count_argument<'a>(alloc: Global, name: &'a str, help: &'a str) -> Arg<'a>
+    ensures rule { rule_of result ≡ count_rule name.entry.now }
+    ensures local { result.global ≡ false }
+{
+    Arg::new(alloc, name).long(name).value_name("N").help(help)
+}
+
 /// The argument that names the dictionary.
 fn dictionary_argument<'a>(alloc: Global) -> Arg<'a>
     ensures rule { rule_of result ≡ dictionary_rule }
@@ -89,31 +133,41 @@ fn dictionary_argument<'a>(alloc: Global) -> Arg<'a>
         .help("A dictionary of libhyphen, or a list of TeX's patterns")
 }
 
-/// The request of what a parse found. Without it a width is given that is no number.
-pub fn request_in<'m, 'a>(matches: &'m ArgMatches<'a>) -> Option<Request<'m>>
-    ensures { MatchOption result (width_if_given (rows_of (found_of matches.now)) ≡ None)
-        (IsRequest (rows_of (found_of matches.now))) }
+/// The request of what a parse found, or an option whose value is no number.
+pub fn request_in<'m, 'a>(matches: &'m ArgMatches<'a>) -> Result<Request<'m>, Count>
+    ensures { MatchResult result (IsRequest (rows_of (found_of matches.now)))
+        (λ option. number_if_given (name_of option) (rows_of (found_of matches.now)) ≡ None) }
 {
-    let width = width_if_given(matches)?;
+    let Some(width) = number_if_given(matches, "width") else {
+        return Err(Count::Width);
+    };
+    let Some(left) = number_if_given(matches, "left") else {
+        return Err(Count::Left);
+    };
+    let Some(right) = number_if_given(matches, "right") else {
+        return Err(Count::Right);
+    };
     let inputs = Inputs {
         mode: Mode::Print,
         names: texts_of(matches, "FILE"),
         quiet: true,
     };
-    Some(Request {
+    Ok(Request {
         dictionary: value_of(matches, "DICTIONARY"),
         width,
+        left,
+        right,
         inputs,
     })
 }
 
-/// The width, if one is given; nothing if it is no number.
-fn width_if_given(matches: &ArgMatches<'_>) -> Option<Option<usize>>
-    ensures { result ≡ width_if_given (rows_of (found_of matches.now)) }
+/// The number of an option, if it is given; nothing if its value is none.
+fn number_if_given(matches: &ArgMatches<'_>, name: &str) -> Option<Option<usize>>
+    ensures { result ≡ number_if_given name.now (rows_of (found_of matches.now)) }
 {
-    match text_of(matches, "width") {
+    match text_of(matches, name) {
         Some(text) => match parse_width(text) {
-            Some(width) => Some(Some(width)),
+            Some(number) => Some(Some(number)),
             None => None,
         },
         None => Some(None),

@@ -2,8 +2,8 @@
 ghost use Rattle.std.specs.Prelude.{refl};
 ghost use Rattle.hyphenate_program.specs.Program.{Explains, Hyphenates, SaysWrong, hyphenate_tool};
 
-use crate::arguments::{HELP, Request, VERSION, command, request_in};
-use crate::dictionary::{Failure, read_dictionary};
+use crate::arguments::{HELP, Request, VERSION, command, name_of, request_in};
+use crate::dictionary::{Failure, read_dictionary, with_minima};
 use crate::texts::Hyphenating;
 use clap::{ArgMatches, Command};
 use itoa::Buffer;
@@ -61,11 +61,11 @@ impl Tool for Hyphenate {
         messages: &mut M,
     ) -> Ending {
         match request_in(matches) {
-            Some(request) => serve_request(alloc, &request, files, reader, output, messages),
-            None => complain_of(
+            Ok(request) => serve_request(alloc, &request, files, reader, output, messages),
+            Err(option) => complain_of(
                 &HYPHENATE,
                 matches,
-                "width",
+                name_of(option),
                 "a number of 64 bits",
                 messages,
             ),
@@ -101,6 +101,7 @@ fn serve_request<F: Files, R: Read, W: Write, M: Write>(
         Ok(patterns) => patterns,
         Err(failure) => return explain(alloc, request.dictionary, failure, messages),
     };
+    let patterns = with_minima(patterns, request.left, request.right);
     let filter = Hyphenating {
         width: request.width,
         patterns: patterns.table(),
@@ -120,14 +121,6 @@ fn explain<M: Write>(alloc: Global, name: &str, failure: Failure, messages: &mut
     match failure {
         Failure::Unread(fault) => report(&HYPHENATE, name, Err(fault), messages),
         Failure::Wrong { line, fault } => explain_line(alloc, name, line, &fault, messages),
-        Failure::Empty => {
-            let said = write_message(messages, &HYPHENATE, name, &["has no patterns"]);
-            Ending {
-                status: 2,
-                said: said.is_ok(),
-                replaced: 0,
-            }
-        }
     }
 }
 

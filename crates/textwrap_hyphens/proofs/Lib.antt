@@ -3,6 +3,7 @@ pub mod Greatest
 pub mod Held
 pub mod InnerPoints
 pub mod Lookups
+pub mod Minima
 pub mod MoreLevels
 pub mod Raised
 pub mod Runs

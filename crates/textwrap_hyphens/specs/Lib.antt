@@ -3,6 +3,7 @@ pub mod Hyphenation
 pub mod InnerPlaces
 pub mod Laws
 pub mod Levels
+pub mod Numbers
 pub mod Parsed
 pub mod Points
 pub mod Seal

@@ -1,6 +1,6 @@
 -- What tells that the numbers of a dictionary are whole: a version in front, and at the end a sum of all
 -- before it.
-use Rattle.std.specs.Prelude.{ℕ, ◌+◌, ◌-◌, ◌*◌, ◌%◌, ◌^◌, Bool, ◌==◌, ◌&&◌, List, [], ◌∷◌}
+use Rattle.std.specs.Prelude.{ℕ, ◌+◌, ◌-◌, ◌*◌, ◌%◌, ◌^◌, Bool, ◌==◌, ◌&&◌, List, [], ◌∷◌, ◌++◌}
 use Rattle.std.specs.Prelude.{length, nat_le, slice_index, take}
 
 -- "Twh" and a number, which is raised where the layout changes
@@ -24,3 +24,8 @@ abbrev pub is_sealed : List ℕ → Bool
 is_sealed words =
     nat_le 7 (length words) && (slice_index words 0 == version)
     && (from_end 1 words == sum_of (take (length words - 1) words))
+
+-- the numbers with other numbers of letters before and behind a hyphen, and the sum of these
+abbrev pub with_minima : ℕ → ℕ → List ℕ → List ℕ
+with_minima left right words =
+    let before = take (length words - 3) words ++ left ∷ right ∷ [] in before ++ sum_of before ∷ []

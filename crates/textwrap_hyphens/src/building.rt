@@ -5,8 +5,8 @@ ghost use Rattle.textwrap_patterns.specs.Listed.{exception_view, listed};
 ghost use Rattle.textwrap_hyphens.specs.Levels.{longest};
 ghost use Rattle.textwrap_patterns.specs.Listed.{pattern_view};
 ghost use Rattle.textwrap_patterns.specs.Places.{AreInnerPlaces};
-ghost use Rattle.textwrap_hyphens.specs.Seal.{is_sealed};
-ghost use Rattle.textwrap_hyphens.specs.Table.{held_in};
+ghost use Rattle.textwrap_hyphens.specs.Seal.{is_sealed, with_minima};
+ghost use Rattle.textwrap_hyphens.specs.Numbers.{KeepsLists, held_in};
 ghost use Rattle.textwrap_hyphens.specs.Building.{exception_of, pattern_of};
 
 use crate::table::{VERSION, sum_of};
@@ -76,6 +76,18 @@ fn longest_key<A: Allocator>(entries: &[Entry<A>]) -> usize
     longest
 }
 
+/// Sets how many letters stay before a point and behind it, in the numbers of a dictionary.
+pub(crate) fn set_minima(words: &mut [usize], left: usize, right: usize)
+    requires { is_sealed words.old ≡ true }
+    ensures minima { words.new ≡ with_minima left right words.old }
+    ensures sealed { is_sealed words.new ≡ true }
+{
+    let end = words.len();
+    words[end - 3] = left;
+    words[end - 2] = right;
+    words[end - 1] = sum_of(&words[..end - 1]);
+}
+
 /// The numbers of a dictionary.
 pub(crate) fn write_table<A: Allocator + Copy>(
     alloc: A,
@@ -88,6 +100,7 @@ pub(crate) fn write_table<A: Allocator + Copy>(
     ensures held { IfOk result (λ words. held_in words.items false ≡ hyphenation_by (listed
         (map pattern_of patterns.items) (map exception_of exceptions.items) left right)) }
     ensures sealed { IfOk result (λ words. is_sealed words.items ≡ true) }
+    ensures kept { IfOk result (λ words. KeepsLists words.items) }
 {
     let longest = longest_key(&patterns);
     let mut words = Vec::new(alloc);

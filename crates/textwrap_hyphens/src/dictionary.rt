@@ -1,12 +1,14 @@
 //! A dictionary of hyphenation.
 ghost use Rattle.std.specs.Prelude.{◌≡◌, true};
+ghost use Rattle.std.proofs.Props.{props};
 ghost use Rattle.textwrap_hyphens.specs.Seal.{is_sealed};
+ghost use Rattle.textwrap_hyphens.specs.Numbers.{KeepsLists};
 
-use crate::building::{exception_entries, pattern_entries, write_table};
+use crate::building::{exception_entries, pattern_entries, set_minima, write_table};
 use crate::table::PatternTable;
 use std::alloc::{AllocError, Allocator, Global};
 use textwrap_patterns::errors::ParseError;
-use textwrap_patterns::parsing::read;
+use textwrap_patterns::parsing::{read, read_bytes};
 use textwrap_patterns::patterns::{Exception, Pattern};
 
 /// A dictionary of hyphenation: patterns, and words with their hyphens as exceptions from them.
@@ -15,14 +17,16 @@ pub struct Patterns<A: Allocator = Global> {
     words: Vec<usize, A>,
     in_parts: bool,
     ghost sealed: { is_sealed words.items ≡ true },
+    ghost kept: { KeepsLists words.items } by { Prim.hlevel props },
 }
 
 impl<A: Allocator + Copy> Patterns<A> {
-    ghost use Rattle.std.specs.Prelude.{◌≡◌, IfOk, map};
+    ghost use Rattle.std.specs.Prelude.{◌≡◌, IfOk, IsUtf8, map};
     ghost use Rattle.textwrap_hyphens.specs.Hyphenation.{hyphenation_by};
     ghost use Rattle.textwrap_patterns.specs.Listed.{exception_view, listed};
     ghost use Rattle.textwrap_patterns.specs.Listed.{pattern_view};
-    ghost use Rattle.textwrap_patterns.specs.Parsing.{parsed};
+    ghost use Rattle.textwrap_patterns.specs.Charsets.{charset_of};
+    ghost use Rattle.textwrap_patterns.specs.Parsing.{parsed, parsed_in};
     ghost use Rattle.textwrap_hyphens.specs.Parsed.{IsParsed};
     ghost use Rattle.textwrap_hyphens.specs.Table.{held, held_in, patterns_view};
 
@@ -57,14 +61,20 @@ impl<A: Allocator + Copy> Patterns<A> {
     /// - A text of TeX begins with `%` or a backslash. Patterns stand in `\patterns{ .. }` and
     ///   exceptions in `\hyphenation{ .. }`, between blanks. Whatever else stands outside of these
     ///   groups is skipped. A comment goes from `%` to the end of its line.
-    /// - A dictionary of libhyphen has the name of its charset in the first line, which has to be
-    ///   `UTF-8`, and what follows is a list.
+    /// - A dictionary of libhyphen has the name of a charset in the first line, in any case and
+    ///   form, and what follows is a list. The text is UTF-8, whatever is named there.
     /// - Any other text is a list, with one pattern or one exception a line. A word with a hyphen
     ///   and no digit is an exception, any other a pattern. `LEFTHYPHENMIN` and `RIGHTHYPHENMIN`
     ///   with a number say how many letters stay before a point and behind it. Lines that begin
     ///   with `%` or `#` are comments.
     ///
-    /// Where a text does not say it, a point has at least 2 letters before it and 3 behind it.
+    /// In the header of TeX `left:` and `right:` say these numbers, in comments behind one of
+    /// `typesetting:`. Where a text does not say it, a point has at least 2 letters before it, and
+    /// behind it 2 if the first line names a charset, else 3. A mark U+FEFF in front is left out.
+    ///
+    /// `NEXTLEVEL` may stand behind patterns of hyphens and apostrophes alone, and `NOHYPHEN` may
+    /// name these; no point is beside them in any case. `COMPOUNDLEFTHYPHENMIN` and
+    /// `COMPOUNDRIGHTHYPHENMIN` are left aside.
     ///
     /// ```text
     /// UTF-8
@@ -88,6 +98,37 @@ impl<A: Allocator + Copy> Patterns<A> {
             reading.left,
             reading.right,
         )?)
+    }
+
+    /// The dictionary that bytes say: those of UTF-8 as [`Patterns::parse`] has it, whatever
+    /// charset their first line names. Others are read in that charset: ISO 8859-1, 2, 4, 5, 7, 13
+    /// or 15, KOI8-R, KOI8-U or CP1251.
+    ///
+    /// # Errors
+    /// [`ParseError`], as of [`Patterns::parse`]; a charset that is not known is wrong in line 1.
+    pub fn parse_bytes(alloc: A, bytes: &[u8]) -> Result<Patterns<A>, ParseError>
+        ensures text { IsUtf8 bytes.now → IsParsed (parsed bytes.now) result }
+        ensures charset { ¬ IsUtf8 bytes.now
+            → IsParsed (parsed_in (charset_of bytes.now) bytes.now) result }
+    {
+        let reading = read_bytes(alloc, bytes)?;
+        Ok(Patterns::new(
+            alloc,
+            reading.patterns,
+            reading.exceptions,
+            reading.left,
+            reading.right,
+        )?)
+    }
+
+    /// The same dictionary, where a point has at least `left` letters before it and `right` behind
+    /// it, whatever its text said. The call always succeeds.
+    pub fn minima(mut self, left: usize, right: usize) -> Patterns<A>
+        ensures { patterns_view result
+            ≡ record (patterns_view self) { left = left; right = right } }
+    {
+        set_minima(&mut self.words, left, right);
+        self
     }
 
     /// The same dictionary, where the parts of a word with hyphens are hyphenated too, or not.

@@ -57,15 +57,15 @@ impl<'t> PatternTable<'t> {
         self.words
     }
 
-    /// How many letters stay before a point.
-    pub(crate) fn left(&self) -> usize
+    /// How many letters stay before a point. The call always succeeds.
+    pub fn left(&self) -> usize
         ensures { result ≡ (held self.now).left }
     {
         from_end(self.words, 3)
     }
 
-    /// How many letters stay behind a point.
-    pub(crate) fn right(&self) -> usize
+    /// How many letters stay behind a point. The call always succeeds.
+    pub fn right(&self) -> usize
         ensures { result ≡ (held self.now).right }
     {
         from_end(self.words, 2)

@@ -2,31 +2,34 @@
 -- before or behind a hyphen, or what is wrong.
 use Rattle.std.specs.Prelude.{ℕ, suc, ◌+◌, ◌-◌, ◌*◌, Bool, true, false, ◌==◌, ◌&&◌, ◌||◌, not}
 use Rattle.std.specs.Prelude.{List, [], ◌∷◌, Option, None, Some, chars, codes, drop, filter, length}
-use Rattle.std.specs.Prelude.{if◌then◌else◌, map, nat_eq, nat_lt}
+use Rattle.std.specs.Prelude.{if◌then◌else◌, map, nat_eq, nat_lt, unwrap_or}
 use Rattle.std.specs.Char.{is_whitespace}
-use Rattle.std.specs.List.{list_any, starts_with}
+use Rattle.std.specs.Char.{is_ascii_uppercase}
+use Rattle.std.specs.List.{list_all, list_any, starts_with}
 use Rattle.std.specs.Str.{trim}
 use Rattle.textwrap_patterns.specs.Listed.{ExceptionText, exception_text, exception_view}
 use Rattle.textwrap_patterns.specs.Places.{are_places}
-use Rattle.textwrap_patterns.specs.Letters.{folded}
+use Rattle.textwrap_patterns.specs.Charsets.{names_charset, plain_name}
+use Rattle.textwrap_patterns.specs.Letters.{apostrophe, curly_apostrophe, folded, is_hyphen}
 use Rattle.textwrap_patterns.specs.Listed.{PatternText, pattern_view}
 use Rattle.textwrap_patterns.specs.Written.{is_digit, letters_written, pattern_written}
 use Rattle.textwrap_patterns.specs.declared.entries.Entry as program
 use Rattle.textwrap_patterns.specs.declared.entries.Entry.TheVariants as entry
 use Rattle.textwrap_patterns.specs.declared.entries.Section.{Section}
 use Rattle.textwrap_patterns.specs.declared.entries.Section.TheVariants.{Start, Listing}
-use Rattle.textwrap_patterns.specs.declared.entries.Section.TheVariants.{Preamble, Patterns}
+use Rattle.textwrap_patterns.specs.declared.entries.Section.TheVariants.{Preamble, Minima, Patterns}
 use Rattle.textwrap_patterns.specs.declared.entries.Section.TheVariants.{Exceptions, Behind}
 use Rattle.textwrap_patterns.specs.declared.errors.Fault.{Fault}
-use Rattle.textwrap_patterns.specs.declared.errors.Fault.TheVariants.{Charset, Compound, NextLevel, NoHyphen}
-use Rattle.textwrap_patterns.specs.declared.errors.Fault.TheVariants.{Number, Replacement, Sign}
-use Rattle.textwrap_patterns.specs.declared.errors.Fault.TheVariants.{TooLong, Hyphens}
+use Rattle.textwrap_patterns.specs.declared.errors.Fault.TheVariants.{NoHyphen, Number, Replacement}
+use Rattle.textwrap_patterns.specs.declared.errors.Fault.TheVariants.{Sign, TooLong, Hyphens, Word}
 
 pub data Said : Type 0 where
   Pattern : PatternText → Said
   Exception : ExceptionText → Said
   Left : ℕ → Said
   Right : ℕ → Said
+  NextGroup : Said
+  Nothing : Said
   Wrong : Fault → Said
 
 abbrev pub entry_view : {A : Type 0} → program.Entry A → Said
@@ -34,6 +37,8 @@ entry_view (entry.Pattern pattern) = Pattern (pattern_view pattern)
 entry_view (entry.Exception exception) = Exception (exception_view exception)
 entry_view (entry.Left left) = Left left
 entry_view (entry.Right right) = Right right
+entry_view entry.NextGroup = NextGroup
+entry_view entry.Nothing = Nothing
 entry_view (entry.Wrong fault) = Wrong fault
 
 -- ---- words
@@ -41,9 +46,12 @@ entry_view (entry.Wrong fault) = Wrong fault
 abbrev pub is_hyphen_sign : ℕ → Bool
 is_hyphen_sign c = c == 0x2D
 
--- a character that stands in no word: a blank, `{`, `}`, a backslash or `%`
+-- a character that stands in no word: a blank, `{`, `}`, a backslash, `%`, or U+FFFD, which stands for
+-- a byte that a charset does not have
 abbrev pub is_sign : ℕ → Bool
-is_sign c = (((is_whitespace c || (c == 0x7B)) || (c == 0x7D)) || (c == 0x5C)) || (c == 0x25)
+is_sign c =
+    ((((is_whitespace c || (c == 0x7B)) || (c == 0x7D)) || (c == 0x5C)) || (c == 0x25))
+    || (c == 0xFFFD)
 
 abbrev pub has_slash : List ℕ → Bool
 has_slash word = list_any (λ c. c == 0x2F) word
@@ -91,6 +99,7 @@ abbrev pub is_exception : Section → List ℕ → Bool
 is_exception Start cs = has_hyphen cs && not (has_digit cs)
 is_exception Listing cs = has_hyphen cs && not (has_digit cs)
 is_exception Preamble cs = has_hyphen cs && not (has_digit cs)
+is_exception Minima cs = has_hyphen cs && not (has_digit cs)
 is_exception Patterns cs = false
 is_exception Exceptions cs = true
 is_exception Behind cs = has_hyphen cs && not (has_digit cs)
@@ -117,16 +126,15 @@ abbrev pub number_or_fault : (ℕ → Said) → Option ℕ → Said
 number_or_fault said None = Wrong Number
 number_or_fault said (Some number) = said number
 
-abbrev pub left_said : List ℕ → Said
-left_said number = number_or_fault Left (number_of (trim number))
-
-abbrev pub right_said : List ℕ → Said
-right_said number = number_or_fault Right (number_of (trim number))
+-- what the rest of a line says that has to be a number
+abbrev pub number_said : (ℕ → Said) → List ℕ → Said
+number_said said number = number_or_fault said (number_of (trim number))
 
 abbrev pub is_start : Section → Bool
 is_start Start = true
 is_start Listing = false
 is_start Preamble = false
+is_start Minima = false
 is_start Patterns = false
 is_start Exceptions = false
 is_start Behind = false
@@ -134,29 +142,50 @@ is_start Behind = false
 abbrev pub begins : List ℕ → List ℕ → Bool
 begins start line = starts_with nat_eq line start
 
--- a line begins with the name of a charset of libhyphen that is not UTF-8
-abbrev pub is_charset : List ℕ → Bool
-is_charset line =
-    begins (codes "ISO8859-") line || (begins (codes "KOI8-") line
-    || (begins (codes "microsoft-cp") line || (begins (codes "TIS620-") line
-    || begins (codes "ISCII-") line)))
+-- what ends a run of letters, or has no point beside it, and what lists such signs
+abbrev pub is_joint : ℕ → Bool
+is_joint c = ((c == apostrophe) || (c == curly_apostrophe)) || (is_hyphen c || (c == 0x2013))
 
--- such a name in the first line, or a word of libhyphen that is not supported
-abbrev pub refused_by : Section → List ℕ → Option Fault
-refused_by section line =
-    if is_start section && is_charset line then Some Charset
-    else if begins (codes "COMPOUND") line then Some Compound
-    else if begins (codes "NEXTLEVEL") line then Some NextLevel
-    else if begins (codes "NOHYPHEN") line then Some NoHyphen
+abbrev pub are_joints : List ℕ → Bool
+are_joints cs = list_all (λ c. is_joint c || ((c == 0x2C) || is_whitespace c)) cs
+
+-- beside such signs there is no point in any case
+abbrev pub beside_said : List ℕ → Said
+beside_said cs = if are_joints cs then Nothing else Wrong NoHyphen
+
+-- what a line says that begins with a word of libhyphen; numbers for the parts of compounds are left
+-- aside, as there are no compounds
+abbrev pub command_said : List ℕ → Option Said
+command_said line =
+    if begins (codes "LEFTHYPHENMIN") line then Some (number_said Left (drop 13 line))
+    else if begins (codes "RIGHTHYPHENMIN") line then Some (number_said Right (drop 14 line))
+    else if begins (codes "COMPOUNDLEFTHYPHENMIN") line
+    then Some (number_said (λ n. Nothing) (drop 21 line))
+    else if begins (codes "COMPOUNDRIGHTHYPHENMIN") line
+    then Some (number_said (λ n. Nothing) (drop 22 line))
+    else if begins (codes "NOHYPHEN") line then Some (beside_said (chars (drop 8 line)))
+    else if begins (codes "NEXTLEVEL") line then Some NextGroup
     else None
 
-abbrev pub fault_or : Option Fault → Said → Said
-fault_or None said = said
-fault_or (Some fault) said = Wrong fault
+abbrev pub says_levels : List ℕ → Bool
+says_levels cs = list_any (λ c. is_digit c || is_hyphen_sign c) cs
+
+-- two capital letters in front, and neither a digit nor a hyphen: such a word says nothing of letters
+abbrev pub is_command : List ℕ → Bool
+is_command [] = false
+is_command (a ∷ []) = false
+is_command (a ∷ b ∷ cs) =
+    (is_ascii_uppercase a && is_ascii_uppercase b)
+    && not (says_levels cs)
+
+-- the name of a charset stands in the first line, as in a dictionary of libhyphen, of which 2 letters
+-- stay behind a hyphen if it says nothing else; a word that is not known is wrong
+abbrev pub other_said : Section → List ℕ → Said
+other_said section line =
+    if is_start section && names_charset (plain_name line) then Right 2
+    else if is_command line then Wrong Word
+    else word_said section (chars line)
 
 -- a line of a list, in bytes, that is neither empty nor a comment
 abbrev pub list_said : Section → List ℕ → Said
-list_said section line =
-    if begins (codes "LEFTHYPHENMIN") line then left_said (drop 13 line)
-    else if begins (codes "RIGHTHYPHENMIN") line then right_said (drop 14 line)
-    else fault_or (refused_by section line) (word_said section (chars line))
+list_said section line = unwrap_or (command_said line) (other_said section line)

@@ -1,3 +1,4 @@
+pub mod Charsets
 pub mod Entries
 pub mod Letters
 pub mod Listed

@@ -1,23 +1,27 @@
 -- A dictionary that is read from a text: line by line, up to the first that is wrong.
 use Rattle.std.specs.Prelude.{◌≡◌, ℕ, suc, Bool, true, false, ◌==◌, ◌&&◌, ◌||◌, not, List, [], ◌∷◌}
 use Rattle.std.specs.Prelude.{◌++◌, ⊤, Option, None, Some, Result, Ok, Err, chars, codes, drop}
-use Rattle.std.specs.Prelude.{if◌then◌else◌, length, map, nat_eq, nat_lt, slice_index, take}
+use Rattle.std.specs.Prelude.{if◌then◌else◌, length, map, max, nat_eq, nat_lt, slice_index, take}
 use Rattle.std.specs.Prelude.{bytes_eq, unwrap_or}
 use Rattle.std.specs.Char.{is_whitespace}
-use Rattle.std.specs.List.{list_any, prefix_len, slice_split, starts_with}
+use Rattle.std.specs.List.{list_all, list_any, prefix_len, slice_split, starts_with}
 use Rattle.std.specs.Option.{is_some}
 use Rattle.std.specs.Str.{trim}
 use Rattle.std.specs.Str.Lines.{lines}
-use Rattle.textwrap_patterns.specs.Entries.{Said, Pattern, Exception, Left, Right, Wrong}
-use Rattle.textwrap_patterns.specs.Entries.{is_start, list_said, word_said}
-use Rattle.textwrap_patterns.specs.Listed.{Listed, exception_view, listed}
+use Rattle.textwrap_patterns.specs.Charsets.{decoded}
+use Rattle.textwrap_patterns.specs.Entries.{Said, Pattern, Exception, Left, Right, NextGroup, Nothing}
+use Rattle.textwrap_patterns.specs.Entries.{Wrong, begins, is_joint, is_start, list_said, number_of}
+use Rattle.textwrap_patterns.specs.Entries.{number_or_fault, word_said}
+use Rattle.textwrap_patterns.specs.Listed.{Listed, PatternText, exception_view, listed}
 use Rattle.textwrap_patterns.specs.Listed.{pattern_view}
+use Rattle.textwrap_patterns.specs.Written.{is_digit}
 use Rattle.textwrap_patterns.specs.declared.entries.Section.{Section}
 use Rattle.textwrap_patterns.specs.declared.entries.Section.TheVariants.{Start, Listing, Preamble}
 use Rattle.textwrap_patterns.specs.declared.entries.Section.TheVariants.{Patterns, Exceptions}
-use Rattle.textwrap_patterns.specs.declared.entries.Section.TheVariants.{Behind}
+use Rattle.textwrap_patterns.specs.declared.entries.Section.TheVariants.{Behind, Minima}
 use Rattle.textwrap_patterns.specs.declared.errors.Fault.{Fault}
-use Rattle.textwrap_patterns.specs.declared.errors.Fault.TheVariants.{Brace, NoGroup, TooMany, Unclosed}
+use Rattle.textwrap_patterns.specs.declared.errors.Fault.TheVariants.{Brace, Charset, Empty, Input}
+use Rattle.textwrap_patterns.specs.declared.errors.Fault.TheVariants.{NextLevel, NoGroup, TooMany, Unclosed}
 use Rattle.textwrap_patterns.specs.declared.errors.ParseError.{ParseError}
 use Rattle.textwrap_patterns.specs.declared.errors.ParseError.TheVariants.{Memory, Line}
 use Rattle.textwrap_patterns.specs.declared.parsing.Reading.{Reading}
@@ -30,12 +34,22 @@ abbrev pub and_then : Outcome → (Listed → Outcome) → Outcome
 and_then (Ok h) next = next h
 and_then (Err error) next = Err error
 
--- a dictionary with what a line of this number says
+-- patterns of hyphens and apostrophes alone: their points are none in any case
+abbrev pub joins : PatternText → Bool
+joins p = list_all (λ c. is_joint c || (c == 0x2E)) p.letters
+
+abbrev pub has_joints : Listed → Bool
+has_joints h = list_all joins h.patterns && (length h.exceptions == 0)
+
+-- a dictionary with what a line of this number says; a second group of patterns may stand behind such
+-- patterns alone
 abbrev pub with_said : ℕ → Said → Listed → Outcome
 with_said n (Pattern p) h = Ok (record h { patterns = h.patterns ++ p ∷ [] })
 with_said n (Exception e) h = Ok (record h { exceptions = h.exceptions ++ e ∷ [] })
 with_said n (Left left) h = Ok (record h { left = left })
 with_said n (Right right) h = Ok (record h { right = right })
+with_said n NextGroup h = if has_joints h then Ok h else Err (Line n NextLevel)
+with_said n Nothing h = Ok h
 with_said n (Wrong fault) h = Err (Line n fault)
 
 abbrev pub with_all : ℕ → List Said → Listed → Outcome
@@ -44,15 +58,13 @@ with_all n (said ∷ more) h = and_then (with_said n said h) (with_all n more)
 
 -- ---- lists
 
--- an empty line, a comment, and the name of the charset in the first line
-abbrev pub is_skipped : Section → List ℕ → Bool
-is_skipped section line =
-    ((length line == 0) || (slice_index line 0 == 0x25) || (slice_index line 0 == 0x23))
-    || (is_start section && bytes_eq line (codes "UTF-8"))
+-- an empty line and a comment
+abbrev pub is_skipped : List ℕ → Bool
+is_skipped line =
+    (length line == 0) || ((slice_index line 0 == 0x25) || (slice_index line 0 == 0x23))
 
 abbrev pub listed_said : Section → List ℕ → List Said
-listed_said section line =
-    if is_skipped section line then [] else list_said section line ∷ []
+listed_said section line = if is_skipped line then [] else list_said section line ∷ []
 
 -- ---- texts of TeX
 
@@ -81,6 +93,7 @@ abbrev pub is_group : Section → Bool
 is_group Start = false
 is_group Listing = false
 is_group Preamble = false
+is_group Minima = false
 is_group Patterns = true
 is_group Exceptions = true
 is_group Behind = false
@@ -128,14 +141,57 @@ words_said section (word ∷ words) =
 abbrev pub text_said : Section → List ℕ → List Said
 text_said section text = words_said section (slice_split is_whitespace text)
 
--- outside of groups nothing counts, but a command before a group that opens none is wrong
+-- the command that reads another file
+abbrev pub has_input : List ℕ → Bool
+has_input line =
+    is_some (after_mark (codes "\\input ") line) || is_some (after_mark (codes "\\input{") line)
+
+-- outside of groups nothing counts, but a command before a group that opens none is wrong, and so is one
+-- that reads another file
+abbrev pub outside_fault : List ℕ → Option Fault
+outside_fault line =
+    if names_group line then Some Brace else if has_input line then Some Input else None
+
+abbrev pub fault_said : Option Fault → List Said
+fault_said None = []
+fault_said (Some fault) = Wrong fault ∷ []
+
 abbrev pub tex_said : Section → List ℕ → List Said
 tex_said section line =
-    if not (is_group (opened section line)) && names_group line then Wrong Brace ∷ []
-    else text_said (opened section line) (closed_text (opened_text section line))
+    if is_group (opened section line)
+    then text_said (opened section line) (closed_text (opened_text section line))
+    else fault_said (outside_fault line)
 
 abbrev pub tex_after : Section → List ℕ → Section
-tex_after section line = closed (opened section line) (opened_text section line)
+tex_after section line =
+    if is_group (opened section line) then closed (opened section line) (opened_text section line)
+    else section
+
+-- ---- the header of a text of TeX, as those of hyph-utf8 have it
+
+-- a comment without its sign and the blanks on its sides
+abbrev pub comment_in : List ℕ → List ℕ
+comment_in line = if begins (codes "%") (trim line) then trim (drop 1 (trim line)) else []
+
+-- behind this comment come the numbers of letters
+abbrev pub names_minima : List ℕ → Bool
+names_minima comment = bytes_eq comment (codes "typesetting:")
+
+-- the number at the beginning
+abbrev pub first_number : List ℕ → Option ℕ
+first_number text = number_of (take (prefix_len is_digit text) text)
+
+abbrev pub minimum_said : List ℕ → Option Said
+minimum_said comment =
+    if begins (codes "left:") comment
+    then Some (number_or_fault Left (first_number (trim (drop 5 comment))))
+    else if begins (codes "right:") comment
+    then Some (number_or_fault Right (first_number (trim (drop 6 comment))))
+    else None
+
+abbrev pub said_if : Option Said → List Said
+said_if None = []
+said_if (Some said) = said ∷ []
 
 -- ---- lines
 
@@ -143,27 +199,64 @@ tex_after section line = closed (opened section line) (opened_text section line)
 abbrev pub is_tex : List ℕ → Bool
 is_tex line = (slice_index line 0 == 0x25) || (slice_index line 0 == 0x5C)
 
+abbrev pub is_minima : Section → Bool
+is_minima Minima = true
+is_minima Start = false
+is_minima Listing = false
+is_minima Preamble = false
+is_minima Patterns = false
+is_minima Exceptions = false
+is_minima Behind = false
+
 -- the section in which a line is read
 abbrev pub entered : Section → List ℕ → Section
-entered section line = if is_start section && is_tex line then Preamble else section
+entered section line =
+    if is_start section && is_tex line then Preamble
+    else if is_minima section && not (is_some (minimum_said (comment_in line))) then Preamble
+    else section
+
+abbrev pub is_preamble : Section → Bool
+is_preamble Preamble = true
+is_preamble Start = false
+is_preamble Listing = false
+is_preamble Minima = false
+is_preamble Patterns = false
+is_preamble Exceptions = false
+is_preamble Behind = false
 
 abbrev pub is_list : Section → Bool
 is_list Start = true
 is_list Listing = true
 is_list Preamble = false
+is_list Minima = false
 is_list Patterns = false
 is_list Exceptions = false
 is_list Behind = false
 
+-- a line of a text of TeX, which in its header says how many letters stay, or begins this
+abbrev pub begins_minima : Section → List ℕ → Bool
+begins_minima section line = is_preamble section && names_minima (comment_in line)
+
+abbrev pub header_said : Section → List ℕ → List Said
+header_said section line =
+    if is_minima section then said_if (minimum_said (comment_in line))
+    else if begins_minima section line then []
+    else tex_said section (before_comment (chars line))
+
+abbrev pub header_after : Section → List ℕ → Section
+header_after section line =
+    if is_minima section then Minima
+    else if begins_minima section line then Minima
+    else tex_after section (before_comment (chars line))
+
 -- what a line in bytes says that is read in a section
 abbrev pub said_in : Section → List ℕ → List Said
 said_in section line =
-    if is_list section then listed_said section (trim line)
-    else tex_said section (before_comment (chars line))
+    if is_list section then listed_said section (trim line) else header_said section line
 
 abbrev pub section_behind : Section → List ℕ → Section
 section_behind section line =
-    if is_list section then Listing else tex_after section (before_comment (chars line))
+    if is_list section then Listing else header_after section line
 
 abbrev pub line_said : Section → List ℕ → List Said
 line_said section line = said_in (entered section line) line
@@ -171,22 +264,31 @@ line_said section line = said_in (entered section line) line
 abbrev pub section_after : Section → List ℕ → Section
 section_after section line = section_behind (entered section line) line
 
--- what is wrong at the end of a text that said so many patterns
-abbrev pub end_fault : Section → ℕ → Option Fault
-end_fault Start count = if nat_lt 16777216 count then Some TooMany else None
-end_fault Listing count = if nat_lt 16777216 count then Some TooMany else None
-end_fault Preamble count = Some NoGroup
-end_fault Patterns count = Some Unclosed
-end_fault Exceptions count = Some Unclosed
-end_fault Behind count = if nat_lt 16777216 count then Some TooMany else None
+-- what is wrong at the end of a text that said so many patterns and exceptions
+abbrev pub count_fault : ℕ → ℕ → Option Fault
+count_fault patterns exceptions =
+    if nat_lt 16777216 patterns then Some TooMany
+    else if (patterns == 0) && (exceptions == 0) then Some Empty
+    else None
 
+abbrev pub end_fault : Section → ℕ → ℕ → Option Fault
+end_fault Start patterns exceptions = count_fault patterns exceptions
+end_fault Listing patterns exceptions = count_fault patterns exceptions
+end_fault Preamble patterns exceptions = Some NoGroup
+end_fault Minima patterns exceptions = Some NoGroup
+end_fault Patterns patterns exceptions = Some Unclosed
+end_fault Exceptions patterns exceptions = Some Unclosed
+end_fault Behind patterns exceptions = count_fault patterns exceptions
+
+-- it is told of the last line, and of the first of a text without lines
 abbrev pub ended : ℕ → Option Fault → Listed → Outcome
 ended n None h = Ok h
-ended n (Some fault) h = Err (Line n fault)
+ended n (Some fault) h = Err (Line (max n 1) fault)
 
 -- a dictionary with what these lines say, behind so many others
 abbrev pub with_lines : ℕ → Section → List (List ℕ) → Listed → Outcome
-with_lines n section [] h = ended n (end_fault section (length h.patterns)) h
+with_lines n section [] h =
+    ended n (end_fault section (length h.patterns) (length h.exceptions)) h
 with_lines n section (line ∷ more) h =
     and_then (with_all (suc n) (line_said section line) h)
     (with_lines (suc n) (section_after section line) more)
@@ -195,9 +297,21 @@ with_lines n section (line ∷ more) h =
 abbrev pub no_patterns : Listed
 no_patterns = listed [] [] 2 3
 
+-- the mark that may stand before a text in UTF-8
+abbrev pub byte_order_mark : List ℕ
+byte_order_mark = 0xEF ∷ 0xBB ∷ 0xBF ∷ []
+
+abbrev pub unmarked : List ℕ → List ℕ
+unmarked text = if begins byte_order_mark text then drop 3 text else text
+
 -- what a text says
 abbrev pub parsed : List ℕ → Outcome
-parsed text = with_lines 0 Start (lines text) no_patterns
+parsed text = with_lines 0 Start (lines (unmarked text)) no_patterns
+
+-- what bytes say that are not UTF-8: the text that they stand for in the charset of their first line
+abbrev pub parsed_in : Option (List ℕ) → List ℕ → Outcome
+parsed_in None bytes = Err (Line 1 Charset)
+parsed_in (Some table) bytes = parsed (decoded table bytes)
 
 -- ---- results
 

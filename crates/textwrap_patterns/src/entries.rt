@@ -1,16 +1,19 @@
 //! What the words and the lines of a dictionary say.
 ghost use Rattle.std.specs.Prelude.{◌≡◌, false, true, option_map};
 ghost use Rattle.std.specs.Prelude.{IfOk};
-ghost use Rattle.std.specs.List.{starts_with};
+ghost use Rattle.std.specs.Str.{trim};
+ghost use Rattle.textwrap_patterns.specs.Entries.{Left, Nothing, Right, are_joints, beside_said};
+ghost use Rattle.textwrap_patterns.specs.Entries.{command_said, number_or_fault};
 ghost use Rattle.textwrap_patterns.specs.Entries.{entry_view, exception_said, exception_written};
 ghost use Rattle.textwrap_patterns.specs.Entries.{has_hyphen, has_digit, has_sign, has_slash};
-ghost use Rattle.textwrap_patterns.specs.Entries.{is_charset, is_exception, is_sign, is_start};
-ghost use Rattle.textwrap_patterns.specs.Entries.{left_said, list_said, number_of, pattern_said};
-ghost use Rattle.textwrap_patterns.specs.Entries.{refused_by, right_said, word_said};
+ghost use Rattle.textwrap_patterns.specs.Entries.{is_command, is_exception, is_joint, is_sign, is_start};
+ghost use Rattle.textwrap_patterns.specs.Entries.{list_said, number_of, other_said, pattern_said};
+ghost use Rattle.textwrap_patterns.specs.Entries.{says_levels, word_said};
 ghost use Rattle.textwrap_patterns.specs.Listed.{exception_view};
 
+use crate::charsets::{names_charset, plain_name};
 use crate::errors::Fault;
-use crate::letters::folded;
+use crate::letters::{folded, is_hyphen};
 use crate::patterns::{Exception, Pattern};
 use crate::written::{characters_of, exception, is_digit, pattern_of};
 use std::alloc::{AllocError, Allocator};
@@ -28,6 +31,8 @@ pub enum Section {
     Listing,
     /// In a text of TeX, before its first group.
     Preamble,
+    /// In the comments there, where they say how many letters stay before a hyphen and behind it.
+    Minima,
     /// In a group of patterns.
     Patterns,
     /// In a group of exceptions.
@@ -43,6 +48,9 @@ pub enum Entry<A: Allocator> {
     Exception(Exception<A>),
     Left(usize),
     Right(usize),
+    /// Another group of patterns begins.
+    NextGroup,
+    Nothing,
     Wrong(Fault),
 }
 
@@ -54,38 +62,103 @@ pub fn list_entry<A: Allocator + Copy>(
 ) -> Result<Entry<A>, AllocError>
     ensures { IfOk result (λ entry. entry_view entry ≡ list_said section line.now) }
 {
-    if let Some(number) = without_start(line, "LEFTHYPHENMIN") {
-        return Ok(left_entry(number));
-    }
-    if let Some(number) = without_start(line, "RIGHTHYPHENMIN") {
-        return Ok(right_entry(number));
-    }
-    match refused_by(section, line) {
-        Some(fault) => Ok(Entry::Wrong(fault)),
-        None => word_entry(alloc, section, &characters_of(alloc, line)?),
+    match command_entry(alloc, line)? {
+        Some(entry) => Ok(entry),
+        None => other_entry(alloc, section, line),
     }
 }
 
-fn left_entry<A: Allocator>(number: &str) -> Entry<A>
-    ensures { entry_view result ≡ left_said number.now }
+/// What a line says that begins with a word of libhyphen.
+fn command_entry<A: Allocator + Copy>(alloc: A, line: &str) -> Result<Option<Entry<A>>, AllocError>
+    ensures { IfOk result (λ entry. option_map entry_view entry ≡ command_said line.now) }
 {
-    match number_of(number.trim().as_bytes()) {
+    if let Some(number) = without_start(line, "LEFTHYPHENMIN") {
+        return Ok(Some(left_or_fault(number_in(number))));
+    }
+    if let Some(number) = without_start(line, "RIGHTHYPHENMIN") {
+        return Ok(Some(right_or_fault(number_in(number))));
+    }
+    if let Some(number) = without_start(line, "COMPOUNDLEFTHYPHENMIN") {
+        return Ok(Some(aside_or_fault(number_in(number))));
+    }
+    if let Some(number) = without_start(line, "COMPOUNDRIGHTHYPHENMIN") {
+        return Ok(Some(aside_or_fault(number_in(number))));
+    }
+    if let Some(signs) = without_start(line, "NOHYPHEN") {
+        return Ok(Some(beside_entry(&characters_of(alloc, signs)?)));
+    }
+    if starts_with(line, "NEXTLEVEL") {
+        return Ok(Some(Entry::NextGroup));
+    }
+    Ok(None)
+}
+
+/// How many letters stay before a hyphen.
+pub fn left_or_fault<A: Allocator>(number: Option<usize>) -> Entry<A>
+    ensures { entry_view result ≡ number_or_fault Left number }
+{
+    match number {
         Some(left) => Entry::Left(left),
         None => Entry::Wrong(Fault::Number),
     }
 }
 
-fn right_entry<A: Allocator>(number: &str) -> Entry<A>
-    ensures { entry_view result ≡ right_said number.now }
+/// How many letters stay behind a hyphen.
+pub fn right_or_fault<A: Allocator>(number: Option<usize>) -> Entry<A>
+    ensures { entry_view result ≡ number_or_fault Right number }
 {
-    match number_of(number.trim().as_bytes()) {
+    match number {
         Some(right) => Entry::Right(right),
         None => Entry::Wrong(Fault::Number),
     }
 }
 
+/// A number for the parts of compounds, which is left aside.
+fn aside_or_fault<A: Allocator>(number: Option<usize>) -> Entry<A>
+    ensures { entry_view result ≡ number_or_fault (λ n. Nothing) number }
+{
+    match number {
+        Some(_) => Entry::Nothing,
+        None => Entry::Wrong(Fault::Number),
+    }
+}
+
+/// The number that a text is.
+fn number_in(text: &str) -> Option<usize>
+    ensures { result ≡ number_of (trim text.now) }
+{
+    number_of(text.trim().as_bytes())
+}
+
+/// What is said by signs beside which no point may stand: nothing, where none does in any case.
+fn beside_entry<A: Allocator>(signs: &[char]) -> Entry<A>
+    ensures { entry_view result ≡ beside_said signs.now }
+{
+    if are_joints(signs) {
+        Entry::Nothing
+    } else {
+        Entry::Wrong(Fault::NoHyphen)
+    }
+}
+
+fn are_joints(signs: &[char]) -> bool
+    ensures { result ≡ are_joints signs.now }
+{
+    signs
+        .iter()
+        .all(|ch| is_joint(*ch) || *ch == ',' || ch.is_whitespace())
+}
+
+/// Whether a character ends a run of letters, as a hyphen does, or has no point beside it, as an
+/// apostrophe.
+pub fn is_joint(ch: char) -> bool
+    ensures { result ≡ is_joint ch }
+{
+    ch == '\'' || ch == '\u{2019}' || is_hyphen(ch) || ch == '\u{2013}'
+}
+
 /// The number of one digit or two.
-fn number_of(digits: &[u8]) -> Option<usize>
+pub fn number_of(digits: &[u8]) -> Option<usize>
     ensures { result ≡ number_of digits.now }
 {
     match digits {
@@ -97,32 +170,43 @@ fn number_of(digits: &[u8]) -> Option<usize>
     }
 }
 
-/// Why a line of a list is refused by how it begins.
-fn refused_by(section: Section, line: &str) -> Option<Fault>
-    ensures { result ≡ refused_by section line.now }
+/// What a line says that begins with no word of libhyphen.
+fn other_entry<A: Allocator + Copy>(
+    alloc: A,
+    section: Section,
+    line: &str,
+) -> Result<Entry<A>, AllocError>
+    ensures { IfOk result (λ entry. entry_view entry ≡ other_said section line.now) }
 {
-    if is_start(section) && is_charset(line) {
-        Some(Fault::Charset)
-    } else if starts_with(line, "COMPOUND") {
-        Some(Fault::Compound)
-    } else if starts_with(line, "NEXTLEVEL") {
-        Some(Fault::NextLevel)
-    } else if starts_with(line, "NOHYPHEN") {
-        Some(Fault::NoHyphen)
-    } else {
-        None
+    if is_start(section) && names_charset(&plain_name(alloc, line.as_bytes())?) {
+        // In a dictionary of libhyphen 2 letters stay behind a hyphen, if nothing else is said.
+        return Ok(Entry::Right(2));
+    }
+    if is_command(line.as_bytes()) {
+        return Ok(Entry::Wrong(Fault::Word));
+    }
+    word_entry(alloc, section, &characters_of(alloc, line)?)
+}
+
+/// Whether a line begins with two capital letters, and has neither a digit nor a hyphen behind them.
+fn is_command(line: &[u8]) -> bool
+    ensures { result ≡ is_command line.now }
+{
+    match line {
+        [first, second, rest @ ..] => {
+            first.is_ascii_uppercase() && second.is_ascii_uppercase() && !says_levels(rest)
+        }
+        _ => false,
     }
 }
 
-/// Whether a line begins with the name of a charset of libhyphen that is not UTF-8.
-fn is_charset(line: &str) -> bool
-    ensures { result ≡ is_charset line.now }
+/// Whether there is a digit or a hyphen among some bytes.
+fn says_levels(bytes: &[u8]) -> bool
+    ensures { result ≡ says_levels bytes.now }
 {
-    starts_with(line, "ISO8859-")
-        || starts_with(line, "KOI8-")
-        || starts_with(line, "microsoft-cp")
-        || starts_with(line, "TIS620-")
-        || starts_with(line, "ISCII-")
+    bytes
+        .iter()
+        .any(|byte| byte.is_ascii_digit() || *byte == b'-')
 }
 
 /// Whether a section is that of the first line.
@@ -178,7 +262,7 @@ fn has_sign(word: &[char]) -> bool
 fn is_sign(ch: char) -> bool
     ensures { result ≡ is_sign ch }
 {
-    ch.is_whitespace() || ch == '{' || ch == '}' || ch == '\\' || ch == '%'
+    ch.is_whitespace() || ch == '{' || ch == '}' || ch == '\\' || ch == '%' || ch == '\u{fffd}'
 }
 
 fn has_hyphen(word: &[char]) -> bool

@@ -5,26 +5,26 @@ use thiserror::Error;
 /// What is wrong with a line of a dictionary.
 #[derive(Clone, Copy, Debug, PartialEq, Eq, Drop, Error)]
 pub enum Fault {
-    /// The first line names a charset that is not UTF-8.
-    #[error("the charset is not UTF-8")]
+    /// The bytes are not UTF-8, and the first line names no charset that is known.
+    #[error("not UTF-8, and no charset that is known: convert it, as by iconv -t UTF-8")]
     Charset,
-    /// `COMPOUNDLEFTHYPHENMIN` or `COMPOUNDRIGHTHYPHENMIN`.
-    #[error("COMPOUNDLEFTHYPHENMIN and COMPOUNDRIGHTHYPHENMIN are not supported")]
-    Compound,
-    /// `NEXTLEVEL`.
-    #[error("NEXTLEVEL is not supported")]
+    /// `NEXTLEVEL` behind patterns of letters, which say where compounds are joined.
+    #[error("patterns of compounds before NEXTLEVEL are not supported")]
     NextLevel,
-    /// `NOHYPHEN`.
-    #[error("NOHYPHEN is not supported")]
+    /// `NOHYPHEN` with other signs than hyphens and apostrophes.
+    #[error("NOHYPHEN is supported for hyphens and apostrophes alone")]
     NoHyphen,
-    /// `LEFTHYPHENMIN` or `RIGHTHYPHENMIN` without a number of one digit or two.
+    /// A line of capital letters that is no word of libhyphen.
+    #[error("the word is not known")]
+    Word,
+    /// A word of libhyphen, or a header of TeX, without a number of one digit or two.
     #[error("a number of one digit or two is missing")]
     Number,
     /// A `/`, as in a pattern that replaces letters.
     #[error("replacements are not supported")]
     Replacement,
-    /// A blank, a brace, a backslash or a `%` in a word.
-    #[error("a word has a blank, a brace, a backslash or a percent sign in it")]
+    /// A blank, a brace, a backslash, a `%` or U+FFFD in a word.
+    #[error("a word has a blank, a brace, a backslash, a percent sign or no character in it")]
     Sign,
     /// A pattern of more than 255 letters.
     #[error("a pattern has more than 255 letters")]
@@ -35,12 +35,18 @@ pub enum Fault {
     /// `\patterns` or `\hyphenation` without a `{` behind it.
     #[error("a brace is missing behind \\patterns or \\hyphenation")]
     Brace,
+    /// `\input` in a text of TeX.
+    #[error("\\input is not supported: the patterns are in another file")]
+    Input,
     /// A text of TeX that has neither patterns nor exceptions. The line is the last.
     #[error("neither \\patterns{{ nor \\hyphenation{{ is there")]
     NoGroup,
     /// A group that does not end. The line is the last.
     #[error("a group has no end")]
     Unclosed,
+    /// Neither a pattern nor an exception. The line is the last.
+    #[error("has no patterns")]
+    Empty,
     /// More than 2^24 patterns. The line is the last.
     #[error("there are more than 16777216 patterns")]
     TooMany,

@@ -2,6 +2,7 @@
 //! dictionary says of them.
 #![tactic(auto)]
 
+mod charsets;
 pub mod entries;
 pub mod errors;
 pub mod letters;

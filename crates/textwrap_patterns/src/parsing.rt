@@ -1,23 +1,36 @@
 //! Dictionaries that are read from texts.
-ghost use Rattle.std.specs.Prelude.{◌≡◌, ◌≤◌, length, map, IfOk};
-ghost use Rattle.std.specs.List.{position_or_len, slice_split};
+ghost use Rattle.std.specs.Prelude.{◌≡◌, ◌≤◌, ◌==◌, ◌&&◌, ◌||◌, length, map, option_map, IfOk, IsUtf8};
+ghost use Rattle.std.specs.List.{list_all, position_or_len, prefix_len, slice_split};
 ghost use Rattle.std.specs.Char.{is_whitespace};
-ghost use Rattle.std.specs.Option.{option_copied};
+ghost use Rattle.std.specs.Option.{is_some, option_copied};
 ghost use Rattle.std.specs.Str.Lines.{lines};
-ghost use Rattle.textwrap_patterns.specs.Entries.{entry_view, is_start};
+ghost use Rattle.textwrap_patterns.specs.Charsets.{charset_of};
+ghost use Rattle.textwrap_patterns.specs.Entries.{entry_view, is_joint, is_start};
+ghost use Rattle.textwrap_patterns.specs.Listed.{pattern_view};
 ghost use Rattle.textwrap_patterns.specs.Parsing.{Reads, after_mark, before, before_comment, closed};
-ghost use Rattle.textwrap_patterns.specs.Parsing.{closed_text, end_fault, ended, entered};
-ghost use Rattle.textwrap_patterns.specs.Parsing.{has_opening, is_group, is_list, is_skipped, is_tex};
-ghost use Rattle.textwrap_patterns.specs.Parsing.{line_said};
-ghost use Rattle.textwrap_patterns.specs.Parsing.{listed_said, names_group, no_patterns, opened, opened_text};
-ghost use Rattle.textwrap_patterns.specs.Parsing.{parsed, reading_view, section_after, tex_after};
-ghost use Rattle.textwrap_patterns.specs.Parsing.{tex_said, text_said, with_all, with_said};
+ghost use Rattle.textwrap_patterns.specs.Parsing.{closed_text, comment_in, count_fault, end_fault, ended};
+ghost use Rattle.textwrap_patterns.specs.Parsing.{entered, first_number, has_input, has_joints, header_after};
+ghost use Rattle.textwrap_patterns.specs.Parsing.{has_opening, header_said, is_group, is_list, is_minima, is_preamble};
+ghost use Rattle.textwrap_patterns.specs.Parsing.{is_skipped, is_tex, joins, line_said};
+ghost use Rattle.textwrap_patterns.specs.Parsing.{listed_said, minimum_said, names_group, names_minima};
+ghost use Rattle.textwrap_patterns.specs.Parsing.{no_patterns, opened, opened_text, outside_fault};
+ghost use Rattle.textwrap_patterns.specs.Parsing.{parsed, parsed_in, reading_view, said_in, section_after};
+ghost use Rattle.textwrap_patterns.specs.Parsing.{section_behind, tex_after, tex_said, text_said, unmarked, with_all};
+ghost use Rattle.textwrap_patterns.specs.Parsing.{with_said};
+ghost use Rattle.textwrap_patterns.specs.Written.{is_digit};
+ghost use Rattle.textwrap_patterns.specs.declared.errors.ParseError.TheVariants.{Line};
 
-use crate::entries::{Entry, Section, is_start, list_entry, word_entry};
+use crate::charsets::{charset_of, decoded};
+use crate::entries::{
+    Entry, Section, is_joint, is_start, left_or_fault, list_entry, number_of, right_or_fault,
+    word_entry,
+};
 use crate::errors::{Fault, ParseError};
 use crate::patterns::{Exception, Pattern};
 use crate::written::characters_of;
 use std::alloc::{AllocError, Allocator};
+use std::str::from_utf8;
+use textwrap_text::starts::{starts_with, without_start};
 
 /// The most patterns of a dictionary.
 const MOST_PATTERNS: usize = 1 << 24;
@@ -36,6 +49,12 @@ const EXCEPTIONS_MARK: [char; 13] = [
     '\\', 'h', 'y', 'p', 'h', 'e', 'n', 'a', 't', 'i', 'o', 'n', '{',
 ];
 
+/// What reads another file.
+const INPUT: [char; 7] = ['\\', 'i', 'n', 'p', 'u', 't', ' '];
+
+/// The same with a brace.
+const INPUT_GROUP: [char; 7] = ['\\', 'i', 'n', 'p', 'u', 't', '{'];
+
 /// What was read of a dictionary so far.
 #[derive(Debug, Drop)]
 pub struct Reading<A: Allocator> {
@@ -45,6 +64,42 @@ pub struct Reading<A: Allocator> {
     pub right: usize,
 }
 
+/// All that bytes say: those of UTF-8 as [`read`] has it, whatever charset their first line names, and
+/// others as the text that they stand for in that charset.
+///
+/// # Errors
+/// [`ParseError`], where the charset is not known, the text is no dictionary or memory runs out.
+pub fn read_bytes<A: Allocator + Copy>(alloc: A, bytes: &[u8]) -> Result<Reading<A>, ParseError>
+    ensures text { IsUtf8 bytes.now → Reads (parsed bytes.now) reading_view result }
+    ensures charset { ¬ IsUtf8 bytes.now
+        → Reads (parsed_in (charset_of bytes.now) bytes.now) reading_view result }
+{
+    match from_utf8(bytes) {
+        Ok(text) => read(alloc, text),
+        Err(_) => {
+            let table = charset_of(alloc, bytes)?;
+            read_decoded(alloc, table, bytes)
+        }
+    }
+}
+
+/// All that bytes say in a charset.
+fn read_decoded<A: Allocator + Copy>(
+    alloc: A,
+    table: Option<&[char]>,
+    bytes: &[u8],
+) -> Result<Reading<A>, ParseError>
+    ensures { Reads (parsed_in (option_map (λ table. table.now) table.entry) bytes.now) reading_view result }
+{
+    match table {
+        Some(table) => read(alloc, &decoded(alloc, table, bytes)?),
+        None => Err(ParseError::Line {
+            line: 1,
+            fault: Fault::Charset,
+        }),
+    }
+}
+
 /// All that a text says.
 ///
 /// # Errors
@@ -52,13 +107,23 @@ pub struct Reading<A: Allocator> {
 pub fn read<A: Allocator + Copy>(alloc: A, text: &str) -> Result<Reading<A>, ParseError>
     ensures { Reads (parsed text.now) reading_view result }
 {
-    let lines = lines_of(alloc, text)?;
+    let lines = lines_of(alloc, unmarked(text))?;
     let mut reading = Reading::new(alloc);
     let mut section = Section::Start;
     for (i, line) in lines.iter().enumerate() {
         section = reading.read_line(alloc, i + 1, section, line)?;
     }
     reading.end(lines.len(), section)
+}
+
+/// The text without the mark that may stand before it.
+fn unmarked(text: &str) -> &str
+    ensures { result.now ≡ unmarked text.now }
+{
+    match without_start(text, "\u{feff}") {
+        Some(rest) => rest,
+        None => text,
+    }
 }
 
 fn lines_of<A: Allocator>(alloc: A, text: &str) -> Result<Vec<&str, A>, AllocError>
@@ -95,10 +160,49 @@ impl<A: Allocator + Copy> Reading<A> {
             (λ _. reading_view self.new) result }
         ensures section { IfOk result (λ after. after ≡ section_after section line.now) }
     {
-        let section = entered(section, line);
+        self.read_entered(alloc, number, entered(section, line), line)
+    }
+
+    /// Reads a line in the section that it is in, and returns the section behind it.
+    fn read_entered(
+        &mut self,
+        alloc: A,
+        number: usize,
+        section: Section,
+        line: &str,
+    ) -> Result<Section, ParseError>
+        ensures said { Reads (with_all number (said_in section line.now) (reading_view self.old))
+            (λ _. reading_view self.new) result }
+        ensures section { IfOk result (λ after. after ≡ section_behind section line.now) }
+    {
         if is_list(section) {
             self.read_listed(alloc, number, section, line.trim())?;
             return Ok(Section::Listing);
+        }
+        self.read_header(alloc, number, section, line)
+    }
+
+    /// Reads a line of a text of TeX, and returns the section behind it.
+    fn read_header(
+        &mut self,
+        alloc: A,
+        number: usize,
+        section: Section,
+        line: &str,
+    ) -> Result<Section, ParseError>
+        ensures said { Reads (with_all number (header_said section line.now) (reading_view self.old))
+            (λ _. reading_view self.new) result }
+        ensures section { IfOk result (λ after. after ≡ header_after section line.now) }
+    {
+        let comment = comment_in(line);
+        if is_minima(section) {
+            if let Some(entry) = minimum_entry(comment) {
+                self.add(number, entry)?;
+            }
+            return Ok(Section::Minima);
+        }
+        if begins_minima(section, comment) {
+            return Ok(Section::Minima);
         }
         let characters = characters_of(alloc, line)?;
         self.read_tex(alloc, number, section, before_comment(&characters))
@@ -115,14 +219,14 @@ impl<A: Allocator + Copy> Reading<A> {
         ensures { Reads (with_all number (listed_said section line.now) (reading_view self.old))
             (λ _. reading_view self.new) result }
     {
-        if is_skipped(section, line) {
+        if is_skipped(line) {
             return Ok(());
         }
         let entry = list_entry(alloc, section, line)?;
         self.add(number, entry)
     }
 
-    /// Reads a line of TeX, and returns the section behind it.
+    /// Reads a line of TeX without its comment, and returns the section behind it.
     fn read_tex(
         &mut self,
         alloc: A,
@@ -134,15 +238,15 @@ impl<A: Allocator + Copy> Reading<A> {
             (λ _. reading_view self.new) result }
         ensures section { IfOk result (λ after. after ≡ tex_after section line.now) }
     {
-        let (section, text) = open(section, line);
-        if !is_group(section) && names_group(line) {
-            return Err(ParseError::Line {
-                line: number,
-                fault: Fault::Brace,
-            });
+        let (opened, text) = open(section, line);
+        if !is_group(opened) {
+            return match outside_fault(line) {
+                Some(fault) => Err(wrong(number, fault)),
+                None => Ok(section),
+            };
         }
-        let (after, text) = close(section, text);
-        self.read_words(alloc, number, section, text)?;
+        let (after, text) = close(opened, text);
+        self.read_words(alloc, number, opened, text)?;
         Ok(after)
     }
 
@@ -177,47 +281,173 @@ impl<A: Allocator + Copy> Reading<A> {
             Entry::Exception(exception) => self.exceptions.push(exception)?,
             Entry::Left(left) => self.left = left,
             Entry::Right(right) => self.right = right,
-            Entry::Wrong(fault) => return Err(ParseError::Line {
-                line: number,
-                fault,
-            }),
+            Entry::NextGroup if self.has_joints() => {}
+            Entry::NextGroup => return Err(wrong(number, Fault::NextLevel)),
+            Entry::Nothing => {}
+            Entry::Wrong(fault) => return Err(wrong(number, fault)),
         }
         Ok(())
     }
 
+    /// Whether the patterns have hyphens and apostrophes alone, and there are no exceptions.
+    fn has_joints(&self) -> bool
+        ensures { result ≡ has_joints (reading_view self.now) }
+    {
+        are_joining(&self.patterns) && self.exceptions.is_empty()
+    }
+
     /// What was read, at the end of a text of so many lines.
     fn end(self, count: usize, section: Section) -> Result<Reading<A>, ParseError>
-        ensures { Reads (ended count (end_fault section (length (reading_view self).patterns))
-            (reading_view self)) reading_view result }
+        ensures { Reads (ended count (end_fault section (length (reading_view self).patterns)
+            (length (reading_view self).exceptions)) (reading_view self)) reading_view result }
     {
-        match end_fault(section, self.patterns.len()) {
-            Some(fault) => Err(ParseError::Line { line: count, fault }),
+        match end_fault(section, self.patterns.len(), self.exceptions.len()) {
+            Some(fault) => Err(wrong(count.max(1), fault)),
             None => Ok(self),
         }
     }
 }
 
-/// What is wrong at the end of a text that has so many patterns.
-fn end_fault(section: Section, count: usize) -> Option<Fault>
-    ensures { result ≡ end_fault section count }
+/// What is wrong in a line.
+fn wrong(line: usize, fault: Fault) -> ParseError
+    ensures { result ≡ Line line fault }
 {
-    match section {
-        Section::Preamble => Some(Fault::NoGroup),
-        Section::Patterns | Section::Exceptions => Some(Fault::Unclosed),
-        _ if count > MOST_PATTERNS => Some(Fault::TooMany),
-        _ => None,
+    ParseError::Line { line, fault }
+}
+
+/// Whether patterns have hyphens and apostrophes alone.
+fn are_joining<A: Allocator>(patterns: &[Pattern<A>]) -> bool
+    ensures { result ≡ list_all joins (map pattern_view patterns.now) }
+{
+    for pattern in patterns {
+        if !joins(&pattern.letters) {
+            return false;
+        }
+    }
+    true
+}
+
+fn joins(letters: &[char]) -> bool
+    ensures { result ≡ list_all (λ c. is_joint c || (c == 0x2E)) letters.now }
+{
+    letters.iter().all(|ch| is_joint(*ch) || *ch == '.')
+}
+
+/// What is wrong in a line of TeX outside of groups.
+fn outside_fault(line: &[char]) -> Option<Fault>
+    ensures { result ≡ outside_fault line.now }
+{
+    if names_group(line) {
+        Some(Fault::Brace)
+    } else if has_input(line) {
+        Some(Fault::Input)
+    } else {
+        None
     }
 }
 
-/// The section in which a line is read: a text of TeX begins with a comment or a command.
+/// What is wrong at the end of a text that has so many patterns and exceptions.
+fn end_fault(section: Section, patterns: usize, exceptions: usize) -> Option<Fault>
+    ensures { result ≡ end_fault section patterns exceptions }
+{
+    match section {
+        Section::Preamble | Section::Minima => Some(Fault::NoGroup),
+        Section::Patterns | Section::Exceptions => Some(Fault::Unclosed),
+        _ => count_fault(patterns, exceptions),
+    }
+}
+
+fn count_fault(patterns: usize, exceptions: usize) -> Option<Fault>
+    ensures { result ≡ count_fault patterns exceptions }
+{
+    if patterns > MOST_PATTERNS {
+        Some(Fault::TooMany)
+    } else if patterns == 0 && exceptions == 0 {
+        Some(Fault::Empty)
+    } else {
+        None
+    }
+}
+
+/// The section in which a line is read: a text of TeX begins with a comment or a command, and the
+/// numbers in its header end with the first line that has none.
 fn entered(section: Section, line: &str) -> Section
     ensures { result ≡ entered section line.now }
 {
     if is_start(section) && is_tex(line.as_bytes()) {
         Section::Preamble
+    } else if is_minima(section) && !is_minimum(comment_in(line)) {
+        Section::Preamble
     } else {
         section
     }
+}
+
+/// A comment without its sign and the blanks on its sides; nothing of another line.
+fn comment_in(line: &str) -> &str
+    ensures { result.now ≡ comment_in line.now }
+{
+    match without_start(line.trim(), "%") {
+        Some(comment) => comment.trim(),
+        None => "",
+    }
+}
+
+/// Whether the numbers of letters come behind a comment of this section.
+fn begins_minima(section: Section, comment: &str) -> bool
+    ensures { result ≡ (is_preamble section && names_minima comment.now) }
+{
+    is_preamble(section) && comment == "typesetting:"
+}
+
+fn is_minimum(comment: &str) -> bool
+    ensures { result ≡ is_some (minimum_said comment.now) }
+{
+    starts_with(comment, "left:") || starts_with(comment, "right:")
+}
+
+/// What a comment says of how many letters stay.
+fn minimum_entry<A: Allocator>(comment: &str) -> Option<Entry<A>>
+    ensures { option_map entry_view result ≡ minimum_said comment.now }
+{
+    if let Some(number) = without_start(comment, "left:") {
+        return Some(left_or_fault(first_number(number.trim().as_bytes())));
+    }
+    if let Some(number) = without_start(comment, "right:") {
+        return Some(right_or_fault(first_number(number.trim().as_bytes())));
+    }
+    None
+}
+
+/// The number at the beginning.
+fn first_number(text: &[u8]) -> Option<usize>
+    ensures { result ≡ first_number text.now }
+{
+    number_of(&text[..digits_len(text)])
+}
+
+fn digits_len(text: &[u8]) -> usize
+    ensures len { result ≡ prefix_len is_digit text.now }
+    ensures within { result ≤ length text.now }
+{
+    for (i, byte) in text.iter().enumerate() {
+        if !byte.is_ascii_digit() {
+            return i;
+        }
+    }
+    text.len()
+}
+
+fn is_minima(section: Section) -> bool
+    ensures { result ≡ is_minima section }
+{
+    matches!(section, Section::Minima)
+}
+
+fn is_preamble(section: Section) -> bool
+    ensures { result ≡ is_preamble section }
+{
+    matches!(section, Section::Preamble)
 }
 
 fn is_tex(line: &[u8]) -> bool
@@ -241,14 +471,10 @@ fn is_group(section: Section) -> bool
     matches!(section, Section::Patterns | Section::Exceptions)
 }
 
-/// Whether a line of a list says nothing: it is empty, a comment or, in the first line, the name of
-/// the charset.
-fn is_skipped(section: Section, line: &str) -> bool
-    ensures { result ≡ is_skipped section line.now }
+/// Whether a line of a list says nothing: it is empty or a comment.
+fn is_skipped(line: &str) -> bool
+    ensures { result ≡ is_skipped line.now }
 {
-    if is_start(section) && line == "UTF-8" {
-        return true;
-    }
     match line.as_bytes() {
         [first, ..] => *first == b'%' || *first == b'#',
         [] => true,
@@ -297,6 +523,13 @@ fn names_group(line: &[char]) -> bool
     ensures { result ≡ names_group line.now }
 {
     after_mark(&PATTERNS, line).is_some() || after_mark(&EXCEPTIONS, line).is_some()
+}
+
+/// Whether a line has the command that reads another file in it.
+fn has_input(line: &[char]) -> bool
+    ensures { result ≡ has_input line.now }
+{
+    after_mark(&INPUT, line).is_some() || after_mark(&INPUT_GROUP, line).is_some()
 }
 
 /// What follows the first place where a mark stands.

@@ -129,7 +129,50 @@ const TEXTS: &[(&str, &str, &str, &[usize])] = &[
     ("a word of a group of patterns is a pattern", "\\patterns{1b\nta-ble}", "table", &[2]),
     ("what stands outside of groups is skipped", "\\message{1l}\n\\lefthyphenmin=1\n\\patterns{1b}1l\n1l", "table", &[2]),
     ("groups may stand behind others", "\\bgroup\\patterns{1b}\n\\patterns{1d}\n\\egroup", "abcdef", &[3]),
-    ("an empty text is an empty dictionary", "", "hyphenation", &[]),
+    ("2 letters stay behind a point where the first line is a charset", "UTF-8\na1b1c1d1e1f", "abcdef", &[2, 3, 4]),
+    ("in any case and form", "utf_8\na1b1c1d1e1f", "abcdef", &[2, 3, 4]),
+    ("whatever a text of UTF-8 names", "ISO-8859-16\n\u{e4}1\u{df}", "ab\u{e4}\u{df}ab", &[4]),
+    ("a name in another line is a pattern", "%\u{e4}\n\\patterns{utf8a1b}", "utf8ab", &[]),
+    ("a byte order mark is left out", "\u{feff}a1b1c1d", "abcd", &[]),
+    ("and no part of the charset", "\u{feff}UTF-8\na1b1c1d", "abcd", &[2]),
+    ("nor of TeX", "\u{feff}\\patterns{b1c}", "abcde", &[2]),
+    ("a header says how many letters stay", "% hyphenmins:\n%   typesetting:\n%     left:  1 # or 2\n%     right: 1\n% texlive:\n%     right: 3\n\\patterns{1b1c1d}", "abcd", &[1, 2, 3]),
+    ("below typesetting alone", "% left: 1\n%  generation:\n%   right: 1\n\\patterns{1b1c1d}", "abcdef", &[2, 3]),
+    ("and no other line between", "% typesetting:\n%\n%   left: 1\n\\patterns{1b1c1d}", "abcdef", &[2, 3]),
+    ("numbers for the parts of compounds are left aside", "UTF-8\nCOMPOUNDLEFTHYPHENMIN 5\nCOMPOUNDRIGHTHYPHENMIN 5\na1b1c1d", "abcd", &[2]),
+    ("there is no point beside an apostrophe in any case", "NOHYPHEN ',\u{2019}, -\nb1c'1d", "abc'dab", &[2]),
+    ("a second group may stand behind hyphens and apostrophes", "1-1\n1\u{2019}.\nNEXTLEVEL\nb1c", "abcdef", &[2]),
+    ("and behind none", "NEXTLEVEL\nb1c", "abcdef", &[2]),
+];
+
+/// Bytes that are read as a dictionary, a word, and its points by that. Each row has the rule that it
+/// shows.
+#[rattlefmt::skip]
+const BYTES: &[(&str, &[u8], &str, &[usize])] = &[
+    ("UTF-8 is read as a text", b"ISO8859-1\n\xc3\xa41\xc3\x9f", "ab\u{e4}\u{df}ab", &[4]),
+    ("ISO 8859-1", b"ISO8859-1\n\xe41\xdf", "ab\u{e4}\u{df}ab", &[4]),
+    ("ISO 8859-2, with a carriage return", b"ISO8859-2\r\n\xb31\xbf\r\n", "ab\u{142}\u{17c}ab", &[4]),
+    ("ISO 8859-4", b"iso-8859-4\n\xb31\xf3", "ab\u{157}\u{137}ab", &[4]),
+    ("ISO 8859-5", b"ISO8859-5\n\xd01\xef", "ab\u{430}\u{44f}ab", &[4]),
+    ("ISO 8859-7", b"ISO8859-7\n\xe11\xfe", "ab\u{3b1}\u{3ce}ab", &[4]),
+    ("ISO 8859-13", b"ISO8859-13\n\xe01\xfe", "ab\u{105}\u{17e}ab", &[4]),
+    ("ISO 8859-15", b"ISO8859-15\n\xa81\xb8", "ab\u{161}\u{17e}ab", &[4]),
+    ("KOI8-R", b"KOI8-R\n\xc11\xd1", "ab\u{430}\u{44f}ab", &[4]),
+    ("KOI8-U", b"KOI8-U\n\xa61\xad", "ab\u{456}\u{491}ab", &[4]),
+    ("CP1251", b"microsoft-cp1251\n\xe01\xb4", "ab\u{430}\u{491}ab", &[4]),
+    ("and by its other names", b"Windows-1251\n\xe01\xff", "ab\u{430}\u{44f}ab", &[4]),
+];
+
+/// Bytes that are no dictionary, their first line that is wrong, and what is wrong there.
+#[rattlefmt::skip]
+const WRONG_BYTES: &[(&[u8], usize, Fault)] = &[
+    (b"a1\xe4", 1, Fault::Charset),
+    (b"UTF-8\n1\xe4", 1, Fault::Charset),
+    (b"ISCII-DEVANAGARI\n1\xe4", 1, Fault::Charset),
+    (b"ISO8859-1", 1, Fault::Empty),
+    (b"ISO8859-1\n\n\xe4 1b", 3, Fault::Sign),
+    (b"ISO8859-1\n\x9b1b", 2, Fault::Sign),
+    (b"ISO8859-7\na1b\n\xae1b", 3, Fault::Sign),
 ];
 
 /// Patterns in no order, so that memory is needed to sort them.
@@ -139,22 +182,29 @@ const UNORDERED: &str = "\\patterns{ m1a z1a c1a y1a b1a x1a e1a w1a d1a v1a g1a
 /// What stands in the table of texts, and how many allocations it takes.
 #[rattlefmt::skip]
 const READ: &[((&str, &str, &str, &[usize]), usize)] = &[
-    (("a list", "hy3ph\nhe2n\n1na\nta-ble\n# none\nLEFTHYPHENMIN 2", "hyphenation", &[2]), 69),
+    (("a list", "hy3ph\nhe2n\n1na\nta-ble\n# none\nLEFTHYPHENMIN 2", "hyphenation", &[2]), 70),
     (("groups of TeX, with many letters at one place", UNORDERED, "lebamale", &[3, 5]), 278),
-    (("patterns of the same letters", "1bl\n2bl\n1bl2\n", "tablets", &[]), 30),
-    (("an empty dictionary", "", "hyphenation", &[]), 7),
+    (("patterns of the same letters", "1bl\n2bl\n1bl2\n", "tablets", &[]), 31),
+    (("a charset", "iso 8859-1\nhe2n\nb1c", "abcd", &[2]), 36),
 ];
 
 /// A text that is no dictionary, its first line that is wrong, and what is wrong there.
 #[rattlefmt::skip]
 const FAULTS: &[(&str, usize, Fault)] = &[
-    ("ISO8859-1\na1b", 1, Fault::Charset),
-    ("KOI8-R", 1, Fault::Charset),
-    ("microsoft-cp1251", 1, Fault::Charset),
-    ("UTF-8\na1b\nCOMPOUNDLEFTHYPHENMIN 2", 3, Fault::Compound),
-    ("UTF-8\nCOMPOUNDRIGHTHYPHENMIN 2\na/b", 2, Fault::Compound),
-    ("UTF-8\nNEXTLEVEL\n", 2, Fault::NextLevel),
-    ("UTF-8\n\nNOHYPHEN ',-", 3, Fault::NoHyphen),
+    ("", 1, Fault::Empty),
+    ("UTF-8", 1, Fault::Empty),
+    ("KOI8-R\n\n# a1b\n", 3, Fault::Empty),
+    ("%\n\\patterns{\n}\n", 3, Fault::Empty),
+    ("% the patterns\n\\input hyph-no.tex\n\\hyphenation{ta-ble}", 2, Fault::Input),
+    ("\\hyphenation{ta-ble}\n\\input{hyph-no}", 2, Fault::Input),
+    ("UTF-8\nFIRSTLEVEL\na1b", 2, Fault::Word),
+    ("UTF-8\na1b\nCOMPOUNDLEFTHYPHENMIN", 3, Fault::Number),
+    ("UTF-8\nCOMPOUNDRIGHTHYPHENMIN two\na/b", 2, Fault::Number),
+    ("UTF-8\n1-1\na1b\nNEXTLEVEL\nb1c", 4, Fault::NextLevel),
+    ("UTF-8\nta-ble\nNEXTLEVEL\nb1c", 3, Fault::NextLevel),
+    ("UTF-8\n\nNOHYPHEN ',-,a", 3, Fault::NoHyphen),
+    ("% typesetting:\n%   left: none\n\\patterns{a1b}", 2, Fault::Number),
+    ("% typesetting:\n%   left: 1\n", 2, Fault::NoGroup),
     ("UTF-8\nLEFTHYPHENMIN", 2, Fault::Number),
     ("LEFTHYPHENMIN 100", 1, Fault::Number),
     ("RIGHTHYPHENMIN two", 1, Fault::Number),
@@ -415,16 +465,47 @@ fn dictionaries_are_read(rt: HostRuntime) {
     }
 }
 
+/// Whether a word has these points by the dictionary that bytes say.
+fn has_points_in(
+    alloc: Global,
+    bytes: &[u8],
+    word: &str,
+    wanted: &[usize],
+) -> Result<bool, ParseError> {
+    let patterns = Patterns::parse_bytes(alloc, bytes)?;
+    Ok(has_points(alloc, word, &patterns, wanted)?)
+}
+
+#[test]
+fn dictionaries_are_read_in_their_charset(rt: HostRuntime) {
+    for (rule, bytes, word, wanted) in BYTES {
+        assert_found(&rt, rule, has_points_in(rt.alloc(), bytes, word, wanted));
+    }
+    for (bytes, line, fault) in WRONG_BYTES {
+        let refused = match Patterns::parse_bytes(rt.alloc(), bytes) {
+            Err(error) => is_for(&error, *line, *fault),
+            Ok(_) => false,
+        };
+        assert_holds(&rt, "bytes that are no dictionary", refused);
+    }
+}
+
+/// Whether a dictionary is refused for this fault of this line.
+fn is_for(error: &ParseError, line: usize, fault: Fault) -> bool {
+    match error {
+        ParseError::Line {
+            line: found,
+            fault: why,
+        } => *found == line && *why == fault,
+        ParseError::Memory(_) => false,
+    }
+}
+
 /// Whether a text is refused for this fault of this line.
 fn is_refused(alloc: Global, text: &str, line: usize, fault: Fault) -> bool {
     match Patterns::parse(alloc, text) {
-        Err(
-            ParseError::Line {
-                line: found,
-                fault: why,
-            },
-        ) => found == line && why == fault,
-        _ => false,
+        Err(error) => is_for(&error, line, fault),
+        Ok(_) => false,
     }
 }
 
@@ -651,13 +732,13 @@ fn each_exception_is_found(rt: HostRuntime) {
 #[test]
 fn what_is_wrong_is_printed(rt: HostRuntime) -> Result<(), AllocError> {
     let alloc = rt.alloc();
-    if let Err(error) = Patterns::parse(alloc, "UTF-8\nNEXTLEVEL") {
+    if let Err(error) = Patterns::parse(alloc, "UTF-8\na1b\nNEXTLEVEL") {
         let text = format!(in alloc; "{error}")?;
         assert_text(
             &rt,
             "the line and why",
             &text,
-            "line 2: NEXTLEVEL is not supported",
+            "line 3: patterns of compounds before NEXTLEVEL are not supported",
         );
     }
     Ok(())

@@ -267,14 +267,13 @@ const READ: &[ReadRow] = &[
     (PATTERNS, NUMBERS, (DONE, NUMBERS, BEFORE)),
     (PATTERNS, NUMBERS - 1, (TOO_SMALL, NUMBERS, BEFORE)),
     (PATTERNS, 0, (TOO_SMALL, NUMBERS, BEFORE)),
-    // A version, two roots without children, and six numbers behind them.
-    (b"", MOST, (DONE, 15, BEFORE)),
+    (b"", MOST, (WRONG_PATTERNS, BEFORE, 1)),
     (
         b"hy3ph\n\nhe/2n\nNOHYPHEN a\n",
         MOST,
         (WRONG_PATTERNS, BEFORE, 3),
     ),
-    (b"ISO8859-1\nhy3ph\n", 0, (WRONG_PATTERNS, BEFORE, 1)),
+    (b"ISO8859-1\nhy3ph n\n", 0, (WRONG_PATTERNS, BEFORE, 2)),
     (b"% TeX\n\\patterns{hy3ph\n", 0, (WRONG_PATTERNS, BEFORE, 2)),
     (b"hy/3ph\n\xff", 0, (NOT_UTF8, BEFORE, BEFORE)),
 ];

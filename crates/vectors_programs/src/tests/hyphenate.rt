@@ -145,6 +145,24 @@ const CALLS: &[(&str, &[&str], &str, &str)] = &[
         "a table",
         "a table",
     ),
+    (
+        "fewer letters on both sides than the dictionary says",
+        &["words.dic", "--left", "1", "--right=1"],
+        "ana\n",
+        "a-na\n",
+    ),
+    (
+        "more before a hyphen",
+        &["--left=3", "words.dic"],
+        "hyphenation\n",
+        "hyphen-ation\n",
+    ),
+    (
+        "more behind it, of which the last counts",
+        &["--right", "1", "words.dic", "--right", "6"],
+        "hyphenation\n",
+        "hy-phenation\n",
+    ),
     ("a file", &["words.dic", "one"], "hyphenation", "ta-ble\n"),
     (
         "files one after another, and the standard input among them",
@@ -170,6 +188,14 @@ const NO_REQUESTS: &[(&[&str], &str)] = &[
     (
         &["words.dic", "--width="],
         "hyphenate: --width: '' is not a number of 64 bits\n",
+    ),
+    (
+        &["words.dic", "--left", "two"],
+        "hyphenate: --left: 'two' is not a number of 64 bits\n",
+    ),
+    (
+        &["words.dic", "--right=-1"],
+        "hyphenate: --right: '-1' is not a number of 64 bits\n",
     ),
     (&["no.dic"], "hyphenate: no.dic: not found\n"),
 ];
@@ -216,31 +242,25 @@ const FAILURES: &[Failing] = &[
         "a line of the dictionary is wrong",
         b"UTF-8\nhy3ph\nNEXTLEVEL\n",
         FileFault::Nothing,
-        "hyphenate: words.dic: line 3: NEXTLEVEL is not supported\n",
+        "hyphenate: words.dic: line 3: patterns of compounds before NEXTLEVEL are not supported\n",
     ),
     (
-        "the dictionary is in another charset",
-        b"ISO8859-1\n",
+        "the dictionary is in a charset that is not known",
+        b"ISCII-DEVANAGARI\n1\xe4\n",
         FileFault::Nothing,
-        "hyphenate: words.dic: line 1: the charset is not UTF-8\n",
-    ),
-    (
-        "the dictionary is not UTF-8",
-        b"\xe41\xdf\n",
-        FileFault::Nothing,
-        "hyphenate: words.dic: not UTF-8 after 0 bytes\n",
+        "hyphenate: words.dic: line 1: not UTF-8, and no charset that is known: convert it, as by iconv -t UTF-8\n",
     ),
     (
         "the dictionary has no patterns",
         b"UTF-8\nLEFTHYPHENMIN 2\n% none\n",
         FileFault::Nothing,
-        "hyphenate: words.dic: has no patterns\n",
+        "hyphenate: words.dic: line 3: has no patterns\n",
     ),
     (
         "the dictionary is empty",
         b"",
         FileFault::Nothing,
-        "hyphenate: words.dic: has no patterns\n",
+        "hyphenate: words.dic: line 1: has no patterns\n",
     ),
     (
         "a read of the dictionary fails",
@@ -249,6 +269,18 @@ const FAILURES: &[Failing] = &[
         "hyphenate: words.dic: cannot read\n",
     ),
 ];
+
+#[test]
+fn a_dictionary_is_read_in_its_charset(rt: HostRuntime) {
+    let start = Start {
+        words: &["words.dic"],
+        input: "gr\u{f6}\u{df}er\n".as_bytes(),
+        files: &[("words.dic", b"ISO8859-1\n\xf61\xdf\n", FileFault::Nothing)],
+        faults: SOUND,
+    };
+    let wanted = ("gr\u{f6}-\u{df}er\n", "", 0);
+    assert_run(&rt, "a charset", Program::Hyphenate, start, wanted);
+}
 
 #[test]
 fn failures_are_explained(rt: HostRuntime) {

@@ -21,7 +21,11 @@ returns c =
     ∙ versioned-is new version _ c.version.ensures ∙ ap versioned c.new.ensures.app)) in
     let app_1 = c.in_ok-arg.ensures.shape c.columns_argument.ensures.local
     ∙ ap₂ with_rule app_0 c.columns_argument.ensures.rule in
-    let app_2 = c.in_ok-arg-2.ensures.shape c.dictionary_argument.ensures.local
-    ∙ ap₂ with_rule app_1 c.dictionary_argument.ensures.rule in
-    IfOk-weaker c.arg-3.result _ _ (λ command adds. adds.shape c.file_argument.ensures.local
-    ∙ ap₂ with_rule app_2 c.file_argument.ensures.rule) c.arg-3.ensures
+    let app_2 = c.in_ok-arg-2.ensures.shape c.count_argument.ensures.local
+    ∙ ap₂ with_rule app_1 c.count_argument.ensures.rule in
+    let app_3 = c.in_ok-arg-3.ensures.shape c.count_argument-2.ensures.local
+    ∙ ap₂ with_rule app_2 c.count_argument-2.ensures.rule in
+    let app_4 = c.in_ok-arg-4.ensures.shape c.dictionary_argument.ensures.local
+    ∙ ap₂ with_rule app_3 c.dictionary_argument.ensures.rule in
+    IfOk-weaker c.arg-5.result _ _ (λ command adds. adds.shape c.file_argument.ensures.local
+    ∙ ap₂ with_rule app_4 c.file_argument.ensures.rule) c.arg-5.ensures

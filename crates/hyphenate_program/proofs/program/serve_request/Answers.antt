@@ -1,8 +1,9 @@
-use Rattle.std.proofs.Common.{List, inl, subst}
+use Rattle.std.proofs.Common.{List, inl, subst, ◌∙◌}
 use Rattle.text_filters.specs.Files.{Folder}
 use Rattle.text_filters.specs.Program.{Serves, World}
 use Rattle.textwrap_hyphens.specs.Hyphenation.{Hyphenation}
 use Rattle.textwrap_hyphens.specs.Table.{patterns_view}
+use Rattle.hyphenate_program.specs.Dictionary.{with_minima}
 use Rattle.hyphenate_program.specs.Program.{hyphenate_about}
 use Rattle.hyphenate_program.specs.Texts.{hyphenating_by}
 use Rattle.hyphenate_program.proofs.program.serve_request.Goals as goal
@@ -26,9 +27,10 @@ returns g c =
     inl (
       said,
       c.in-Ok.ensures.read,
-      subst (λ files. Serves hyphenate_about (hyphenating_by request.width said) request.inputs
+      subst (λ files. Serves hyphenate_about
+          (hyphenating_by request.width (with_minima request.left request.right said)) request.inputs
           (world files) new c.serve.result) c.in-Ok.ensures.kept
           (subst (λ (h : Hyphenation). Serves hyphenate_about (hyphenating_by request.width h)
           request.inputs (world (g.F.Files.past c.read_dictionary.new.files)) new c.serve.result)
-          c.table.ensures c.serve.ensures),
+          (c.table.ensures ∙ c.with_minima-patterns.ensures) c.serve.ensures),
     )

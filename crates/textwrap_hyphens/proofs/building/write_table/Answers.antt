@@ -1,12 +1,13 @@
 use Rattle.textwrap_hyphens.proofs.Common.{[], List, append_assoc, ap, arith, false, length, length-append, map, refl, ℕ}
-use Rattle.textwrap_hyphens.proofs.Common.{slice_index, ◌++◌, ◌∙◌, ◌∷◌, ◌≡◌}
+use Rattle.textwrap_hyphens.proofs.Common.{slice_index, subst, sym, ◌++◌, ◌∙◌, ◌∷◌, ◌≡◌}
+use Rattle.textwrap_hyphens.proofs.Minima.{lists-kept}
 use Rattle.textwrap_trie.specs.Trie.{level_from}
 use Rattle.textwrap_hyphens.proofs.SealLemmas.{is-sealed}
 use Rattle.textwrap_hyphens.proofs.TableOf.{table-says}
-use Rattle.textwrap_hyphens.specs.Building.{pattern_of}
+use Rattle.textwrap_hyphens.specs.Building.{exception_of, pattern_of}
 use Rattle.textwrap_hyphens.specs.Levels.{longest}
 use Rattle.textwrap_hyphens.specs.Seal.{is_sealed, sum_of, version}
-use Rattle.textwrap_hyphens.specs.Table.{held_in}
+use Rattle.textwrap_hyphens.specs.Numbers.{KeepsLists, held_in}
 use Rattle.textwrap_hyphens.proofs.building.write_table.Goals as goal
 
 pub returns : goal.returns
@@ -39,11 +40,15 @@ returns g c =
     ∙ ap (λ l. l ++ added_first) (c.in_ok-push.ensures.items
     ∙ ap (λ l. l ++ version ∷ []) c.new-words.ensures.items))) in
     let size = length-append (added_first ++ added) five in
+    let longest_is = c.longest_key-longest.ensures
+    ∙ ap (λ l. longest (map pattern_of l)) c.deref.ensures.value in
+    let says = λ (l r s : ℕ).
+    table-says body ex pa m l r s ps es longest_is c.requires levels
+    (c.in_ok-exceptions.ensures.first refl) in
     record {
-      held = ap (λ w. held_in w false) whole
-          ∙ table-says body ex pa m left right sum ps es
-          (c.longest_key-longest.ensures ∙ ap (λ l. longest (map pattern_of l)) c.deref.ensures.value)
-          c.requires levels (c.in_ok-exceptions.ensures.first refl);
+      held = ap (λ w. held_in w false) whole ∙ says left right sum;
+      kept = subst KeepsLists (sym whole)
+          (lists-kept body ex pa m left right sum (map pattern_of ps) (map exception_of es) says);
       sealed = ap is_sealed c.in_ok-push-2.ensures.items
           ∙ is-sealed first sum (omega (arith, ap length shape, size)) (ap (λ l. slice_index l 0) shape)
           (c.sum_of-sum.ensures ∙ ap sum_of c.deref-2.ensures.value);

@@ -66,17 +66,6 @@ pub enum Count {
     Right,
 }
 
-/// The name of the option.
-pub(crate) fn name_of(option: Count) -> &'static str
-    ensures { result.now ≡ name_of option }
-{
-    match option {
-        Count::Width => "width",
-        Count::Left => "left",
-        Count::Right => "right",
-    }
-}
-
 /// The program's command line.
 pub(crate) fn command<'a>(alloc: Global) -> Result<Command<'a>, AllocError>
     ensures { IfOk result (λ command. app_of command ≡ hyphenate_app) }
@@ -93,11 +82,7 @@ pub(crate) fn command<'a>(alloc: Global) -> Result<Command<'a>, AllocError>
             "left",
             "Keep N letters before a hyphen, not as many as the dictionary says",
         ))?
-        .arg(count_argument(
-            alloc,
-            "right",
-            "Keep N letters behind a hyphen",
-        ))?
+        .arg(count_argument(alloc, "right", "Keep N letters behind a hyphen"))?
         .arg(dictionary_argument(alloc))?
         .arg(file_argument(alloc))
 }

@@ -2,7 +2,7 @@
 ghost use Rattle.std.specs.Prelude.{refl};
 ghost use Rattle.hyphenate_program.specs.Program.{Explains, Hyphenates, SaysWrong, hyphenate_tool};
 
-use crate::arguments::{HELP, Request, VERSION, command, name_of, request_in};
+use crate::arguments::{Count, HELP, Request, VERSION, command, request_in};
 use crate::dictionary::{Failure, read_dictionary, with_minima};
 use crate::texts::Hyphenating;
 use clap::{ArgMatches, Command};
@@ -23,6 +23,9 @@ const HYPHENATE: About<'static> = About {
     version: VERSION,
     idle: "nothing to hyphenate",
 };
+
+/// What the value of an option has to be.
+const NUMBER: &str = "a number of 64 bits";
 
 /// The program.
 #[derive(Clone, Copy)]
@@ -62,13 +65,9 @@ impl Tool for Hyphenate {
     ) -> Ending {
         match request_in(matches) {
             Ok(request) => serve_request(alloc, &request, files, reader, output, messages),
-            Err(option) => complain_of(
-                &HYPHENATE,
-                matches,
-                name_of(option),
-                "a number of 64 bits",
-                messages,
-            ),
+            Err(Count::Width) => complain_of(&HYPHENATE, matches, "width", NUMBER, messages),
+            Err(Count::Left) => complain_of(&HYPHENATE, matches, "left", NUMBER, messages),
+            Err(Count::Right) => complain_of(&HYPHENATE, matches, "right", NUMBER, messages),
         }
     }
 }

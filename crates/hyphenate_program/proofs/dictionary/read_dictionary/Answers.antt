@@ -1,0 +1,15 @@
+use Rattle.std.proofs.Common.{List, subst, sym, ℕ}
+use Rattle.std.specs.Prelude.{Option}
+use Rattle.textwrap_program.specs.Filling.{ReadsAll}
+use Rattle.hyphenate_program.proofs.ReadDictionaries.{reads}
+use Rattle.hyphenate_program.specs.Dictionary.{IsDictionary}
+use Rattle.hyphenate_program.proofs.dictionary.read_dictionary.Goals as goal
+
+pub returns-clause-read : goal.returns-clause-read
+returns-clause-read g c =
+    reads _ _ _ c.in-Ok-read_input.bytes.items c.dictionary_of.result
+    (subst (λ (unread : Option (List ℕ)). ReadsAll unread
+    (g.F.Input.Read.remaining c.read_input.new.reader) c.in-Ok-read_input.bytes.items)
+    c.in-Ok.ensures.input c.in-Ok-read_input.ensures.ok)
+    (subst (λ (bytes : List ℕ). IsDictionary bytes c.dictionary_of.result) c.deref.ensures.value
+    c.dictionary_of.ensures)

@@ -1,8 +1,8 @@
 //! The calls of `textwrap` and `textwrap_display` by options that hold no function, and so can be
 //! returned, stored and compared: beside the port, for callers that have words end where Unicode lets
 //! a line end, and for calls from C. Each part of these options is built in, so each answer is the one
-//! that its contract names. Balanced lines, which are made by built-in parts alone, stand
-//! here too, and words that are hyphenated by a dictionary.
+//! that its contract names. Balanced lines, which are made by built-in parts alone, stand here too, and
+//! words that are hyphenated by a dictionary.
 #![tactic(auto)]
 
 pub mod balancing;

@@ -219,10 +219,38 @@ IsGivenRights-given rights (Some own) r1 r2 r3 has_owner has_group group owner m
         (given_mode (kept rights.mode has_owner has_group)
         (if has_owner then given_owner rights.owner (grouped has_group)
         else refused_owner rights.owner (grouped has_group)))
-    all true true = HasKeptRights-given rights _ true true refl refl refl
-    all true false = HasKeptRights-given rights _ true false refl (0, tt, refl) refl
-    all false true = HasKeptRights-given rights _ false true (0, tt, refl) refl refl
-    all false false = HasKeptRights-given rights _ false false (0, tt, refl) (0, tt, refl) refl
+    all true true = HasKeptRights-given rights (record {
+      rights = record { owner = rights.owner; group = rights.group; mode = rights.mode };
+      refused_owners = own.refused_owners;
+      refused_groups = own.refused_groups;
+    }) true true refl refl refl
+    all true false = HasKeptRights-given rights (record {
+      rights = record {
+        owner = rights.owner;
+        group = own.rights.group;
+        mode = kept rights.mode true false;
+      };
+      refused_owners = own.refused_owners;
+      refused_groups = rights.group ∷ own.refused_groups;
+    }) true false refl (inl refl) refl
+    all false true = HasKeptRights-given rights (record {
+      rights = record {
+        owner = own.rights.owner;
+        group = rights.group;
+        mode = kept rights.mode false true;
+      };
+      refused_owners = rights.owner ∷ own.refused_owners;
+      refused_groups = own.refused_groups;
+    }) false true (inl refl) refl refl
+    all false false = HasKeptRights-given rights (record {
+      rights = record {
+        owner = own.rights.owner;
+        group = own.rights.group;
+        mode = kept rights.mode false false;
+      };
+      refused_owners = rights.owner ∷ own.refused_owners;
+      refused_groups = rights.group ∷ own.refused_groups;
+    }) false false (inl refl) (inl refl) refl
 
 pub PutsEmpty-put : (old new : List Folder) (empty contents : Option (List ℕ)) (own given : Option Granted)
     (rights : Rights) (draft place bytes : List ℕ) → Appends empty contents bytes

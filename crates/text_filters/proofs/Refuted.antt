@@ -50,7 +50,7 @@ not_asked = record {
 pub owner_is_not_asked_for : ¬ HasKeptRights of_root not_asked
 owner_is_not_asked_for ((true, has_group, owner, group, is), wider) =
     let no : 1234 ≡ 0 = owner in cc
-owner_is_not_asked_for ((false, has_group, (k, below, owner), group, is), wider) = absurd below
+owner_is_not_asked_for ((false, has_group, owner, group, is), wider) = absurd owner
 
 -- nothing at all
 abbrev empty : Folder

@@ -1,6 +1,6 @@
 -- Who may do what with a file.
 use Rattle.std.specs.Prelude.{◌≡◌, ◌*◌, ◌+◌, ◌&&◌, ◌⊎◌, ℕ, Bool, true, false, not, if◌then◌else◌, ◌==◌}
-use Rattle.std.specs.Prelude.{Contains, List}
+use Rattle.std.specs.Prelude.{List, [], ◌∷◌}
 use Rattle.std.specs.Int.Bits.{bit_and}
 use Rattle.text_filters.specs.declared.rights.Access.{Access}
 use Rattle.text_filters.specs.declared.rights.FileMode.{FileMode}
@@ -75,10 +75,14 @@ pub record Granted : Type 0 where
   pub refused_owners : List ℕ
   pub refused_groups : List ℕ
 
+abbrev pub IsOneOf : List ℕ → ℕ → Type 0
+IsOneOf [] number = ⊥
+IsOneOf (one ∷ more) number = (number ≡ one) ⊎ IsOneOf more number
+
 -- a number is the same, or that was refused
 abbrev pub IsSameOrRefused : Bool → ℕ → ℕ → List ℕ → Type 0
 IsSameOrRefused true old new refused = new ≡ old
-IsSameOrRefused false old new refused = Contains refused old
+IsSameOrRefused false old new refused = IsOneOf refused old
 
 -- the owner and the group are the same, or the system refused that; and the mode is what may be kept of it
 abbrev pub KeepsRights : Rights → Granted → Type 0

@@ -17,8 +17,8 @@ pub returns-in-Ok-parse-clause-read : goal.returns-in-Ok-parse-clause-read
 returns-in-Ok-parse-clause-read c =
     let words = c.words.result.now in
     let says = subst (λ text. Holds (parsed text) (held_in words false)) c.in-Ok.ensures.0
-        (Holds-numbers (parsed c.in-Ok.text.now) (patterns_view c.in-Ok-parse.patterns) words
-        c.in-Ok-parse.ensures c.words.ensures.held) in
+    (Holds-numbers (parsed c.in-Ok.text.now) (patterns_view c.in-Ok-parse.patterns) words
+    c.in-Ok-parse.ensures c.words.ensures.held) in
     let put = c.put.ensures.text in
     record {
       written = λ status. let (answer, is, len, room, small) = put.written status in (

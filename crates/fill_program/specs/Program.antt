@@ -4,6 +4,7 @@ use Rattle.clap.specs.Words.{Row}
 use Rattle.text_filters.specs.Arguments.{width_in}
 use Rattle.text_filters.specs.Messages.{AboutText, joined_texts, value_texts}
 use Rattle.text_filters.specs.Program.{IsFault, OnlySays, Says, Serves, World}
+use Rattle.text_filters.specs.Streams.{StreamFaults}
 use Rattle.text_filters.specs.Tool as tool
 use Rattle.text_filters.specs.Tool.{ToolText}
 use Rattle.text_filters.specs.declared.program.Ending.{Ending}
@@ -22,12 +23,12 @@ fill_about = record {
 
 -- these matches mean a request, of which each input is treated, or the width is no number, which is
 -- said
-abbrev pub ServesRows : List Row → World → World → Ending → Type 0
-ServesRows rows old new ending =
+abbrev pub ServesRows : StreamFaults → List Row → World → World → Ending → Type 0
+ServesRows faults rows old new ending =
     ((request : Request) × IsRequest rows request
-    × Serves fill_about (filling request.filling) request.inputs old new ending)
+    × Serves faults fill_about (filling request.filling) request.inputs old new ending)
     ⊎ ((width_in rows ≡ None) × OnlySays old new
-    × Says (joined_texts (value_texts fill_about rows (codes "width") (codes "a number of 64 bits")))
+    × Says faults.messages (joined_texts (value_texts fill_about rows (codes "width") (codes "a number of 64 bits")))
     old.messages new.messages ending.said
     × IsFault ending)
 
@@ -40,5 +41,5 @@ fill_tool = record {
 }
 
 -- the whole run over these words
-abbrev pub Executes : List (List ℕ) → World → World → Ending → Type 0
-Executes = tool.Executes fill_tool
+abbrev pub Executes : StreamFaults → List (List ℕ) → World → World → Ending → Type 0
+Executes faults = tool.Executes faults fill_tool

@@ -6,9 +6,9 @@ use crate::arguments::{HELP, VERSION, command, request_in};
 use crate::words::spelled_out;
 use clap::{ArgMatches, Command};
 use std::alloc::{AllocError, Global};
-use std::io::{Read, Write};
 use text_filters::files::Files;
 use text_filters::program::{About, Ending, Run, complain_of, serve};
+use text_filters::streams::{ReadWhole, WriteWhole};
 use text_filters::tool::Tool;
 
 /// What the program says of itself.
@@ -46,7 +46,7 @@ impl Tool for Fill {
         spelled_out(alloc, words)
     }
 
-    fn serve_matches<F: Files, R: Read, W: Write, M: Write>(
+    fn serve_matches<F: Files, R: ReadWhole, W: WriteWhole, M: WriteWhole>(
         &self,
         alloc: Global,
         matches: &ArgMatches<'_>,

@@ -5,9 +5,11 @@ use Rattle.clap.specs.Words.{Row}
 use Rattle.text_filters.specs.Files.{bytes_at}
 use Rattle.text_filters.specs.Messages.{AboutText, joined_texts, message_line, value_texts}
 use Rattle.text_filters.specs.Program.{IsFault, OnlySays, Reports, Says, Serves, World}
+use Rattle.text_filters.specs.Streams.{StreamFaults}
 use Rattle.text_filters.specs.Tool as tool
 use Rattle.text_filters.specs.Tool.{ToolText}
 use Rattle.text_filters.specs.declared.faults.Fault.TheVariants.{Memory}
+use Rattle.text_filters.specs.declared.faults.Reason.{Reason}
 use Rattle.text_filters.specs.Words.{spelled_out}
 use Rattle.text_filters.specs.declared.program.Ending.{Ending}
 use Rattle.textwrap_hyphens.specs.Hyphenation.{Hyphenation}
@@ -31,40 +33,42 @@ hyphenate_about = record {
 -- ---- what is said of a dictionary
 
 -- which line is wrong, and what is wrong, as that is displayed
-abbrev pub SaysWrong : List ℕ → ℕ → Option (List ℕ) → Option (List ℕ) → Option (List ℕ) → Ending
-    → Type 0
-SaysWrong name line shown old new ending =
+abbrev pub SaysWrong : (Reason → Type 0) → List ℕ → ℕ → Option (List ℕ) → Option (List ℕ)
+    → Option (List ℕ) → Ending → Type 0
+SaysWrong messages name line shown old new ending =
     ((text : List ℕ) × IfSome shown (λ bytes. text ≡ bytes)
-    × Says (message_line hyphenate_about name
+    × Says messages (message_line hyphenate_about name
     (codes "line " ∷ decimal line ∷ codes ": " ∷ text ∷ [])) old new ending.said
     × IsFault ending)
-    ⊎ Reports hyphenate_about name (Err Memory) old new ending
+    ⊎ Reports messages hyphenate_about name (Err Memory) old new ending
 
-abbrev pub Explains : List ℕ → Failure → Option (List ℕ) → Option (List ℕ) → Ending → Type 0
-Explains name (Unread fault) old new ending =
-    Reports hyphenate_about name (Err fault) old new ending
-Explains name (Wrong line fault) old new ending = SaysWrong name line None old new ending
+abbrev pub Explains : (Reason → Type 0) → List ℕ → Failure → Option (List ℕ) → Option (List ℕ)
+    → Ending → Type 0
+Explains messages name (Unread fault) old new ending =
+    Reports messages hyphenate_about name (Err fault) old new ending
+Explains messages name (Wrong line fault) old new ending =
+    SaysWrong messages name line None old new ending
 
 -- ---- the whole run
 
 -- the inputs are hyphenated by the dictionary, or it is said why there is none, and nothing is read or
 -- printed
-abbrev pub Hyphenates : Request → World → World → Ending → Type 0
-Hyphenates request old new ending =
+abbrev pub Hyphenates : StreamFaults → Request → World → World → Ending → Type 0
+Hyphenates faults request old new ending =
     ((h : Hyphenation) × ReadsSaid (bytes_at old.files request.dictionary.now) h
-    × Serves hyphenate_about
+    × Serves faults hyphenate_about
     (hyphenating_by request.width (with_minima request.left request.right h)) request.inputs old new
     ending)
     ⊎ ((failure : Failure) × ReadsNone (bytes_at old.files request.dictionary.now) failure
     × OnlySays old new
-    × Explains request.dictionary.now failure old.messages new.messages ending)
+    × Explains faults.messages request.dictionary.now failure old.messages new.messages ending)
 
 -- these matches mean a request, or a value is no number, which is said
-abbrev pub ServesRows : List Row → World → World → Ending → Type 0
-ServesRows rows old new ending =
-    ((request : Request) × IsRequest rows request × Hyphenates request old new ending)
+abbrev pub ServesRows : StreamFaults → List Row → World → World → Ending → Type 0
+ServesRows faults rows old new ending =
+    ((request : Request) × IsRequest rows request × Hyphenates faults request old new ending)
     ⊎ ((option : Count) × (number_if_given (name_of option) rows ≡ None) × OnlySays old new
-    × Says (joined_texts (value_texts hyphenate_about rows (name_of option)
+    × Says faults.messages (joined_texts (value_texts hyphenate_about rows (name_of option)
     (codes "a number of 64 bits")))
     old.messages new.messages ending.said
     × IsFault ending)
@@ -78,5 +82,5 @@ hyphenate_tool = record {
 }
 
 -- the whole run over these words
-abbrev pub Executes : List (List ℕ) → World → World → Ending → Type 0
-Executes = tool.Executes hyphenate_tool
+abbrev pub Executes : StreamFaults → List (List ℕ) → World → World → Ending → Type 0
+Executes faults = tool.Executes faults hyphenate_tool

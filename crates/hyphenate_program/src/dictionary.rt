@@ -7,7 +7,7 @@ ghost use Rattle.hyphenate_program.specs.Dictionary.{IsDictionary, ReadsDictiona
 use std::alloc::Global;
 use text_filters::faults::{Fault, opening_fault};
 use text_filters::files::Files;
-use text_filters::inputs::read_input;
+use text_filters::streams::ReadWhole;
 use textwrap_hyphens::dictionary::Patterns;
 use textwrap_patterns::errors::{self, ParseError};
 
@@ -36,7 +36,7 @@ pub fn read_dictionary<F: Files>(
         Ok(reader) => reader,
         Err(error) => return Err(Failure::Unread(opening_fault(error.kind()))),
     };
-    let bytes = match read_input(alloc, &mut reader) {
+    let bytes = match reader.read_whole(alloc) {
         Ok(bytes) => bytes,
         Err(fault) => return Err(Failure::Unread(fault)),
     };

@@ -1,5 +1,6 @@
 //! The program, over its arguments, its files, a reader and two writers.
 ghost use Rattle.std.specs.Prelude.{refl};
+ghost use Rattle.text_filters.specs.Streams.{faults_of};
 ghost use Rattle.hyphenate_program.specs.Program.{Explains, Hyphenates, SaysWrong, hyphenate_tool};
 
 use crate::arguments::{Count, HELP, Request, VERSION, command, request_in};
@@ -9,10 +10,10 @@ use clap::{ArgMatches, Command};
 use itoa::Buffer;
 use std::alloc::{AllocError, Global};
 use std::fmt::Display;
-use std::io::{Read, Write};
 use text_filters::faults::Fault;
 use text_filters::files::Files;
 use text_filters::program::{About, Ending, Run, complain_of, report, serve, write_message};
+use text_filters::streams::{ReadWhole, WriteWhole};
 use text_filters::tool::Tool;
 use text_filters::words::spelled_out;
 
@@ -54,7 +55,7 @@ impl Tool for Hyphenate {
         spelled_out(alloc, words)
     }
 
-    fn serve_matches<F: Files, R: Read, W: Write, M: Write>(
+    fn serve_matches<F: Files, R: ReadWhole, W: WriteWhole, M: WriteWhole>(
         &self,
         alloc: Global,
         matches: &ArgMatches<'_>,
@@ -73,7 +74,7 @@ impl Tool for Hyphenate {
 }
 
 /// Reads the dictionary, and hyphenates the inputs by it.
-fn serve_request<F: Files, R: Read, W: Write, M: Write>(
+fn serve_request<F: Files, R: ReadWhole, W: WriteWhole, M: WriteWhole>(
     alloc: Global,
     request: &Request<'_>,
     files: &mut F,
@@ -81,7 +82,7 @@ fn serve_request<F: Files, R: Read, W: Write, M: Write>(
     output: &mut W,
     messages: &mut M,
 ) -> Ending
-    ensures { Hyphenates request.now
+    ensures { Hyphenates (faults_of R.faults W.faults M.faults) request.now
         (record {
           unread = R.remaining reader.old;
           files = F.past files.old;
@@ -114,8 +115,8 @@ fn serve_request<F: Files, R: Read, W: Write, M: Write>(
 }
 
 /// Says why there is no dictionary of this name.
-fn explain<M: Write>(alloc: Global, name: &str, failure: Failure, messages: &mut M) -> Ending
-    ensures { Explains name.now failure (M.contents messages.old) (M.contents messages.new) result }
+fn explain<M: WriteWhole>(alloc: Global, name: &str, failure: Failure, messages: &mut M) -> Ending
+    ensures { Explains M.faults name.now failure (M.contents messages.old) (M.contents messages.new) result }
 {
     match failure {
         Failure::Unread(fault) => report(&HYPHENATE, name, Err(fault), messages),
@@ -126,14 +127,14 @@ fn explain<M: Write>(alloc: Global, name: &str, failure: Failure, messages: &mut
 /// Says which line of the dictionary is wrong and why. The type of the fault is left open: `thiserror`
 /// promises nothing of the text that its errors display, so only in this way can the clause ask that
 /// this text is the one that is said.
-fn explain_line<E: Display, M: Write>(
+fn explain_line<E: Display, M: WriteWhole>(
     alloc: Global,
     name: &str,
     line: usize,
     fault: &E,
     messages: &mut M,
 ) -> Ending
-    ensures { SaysWrong name.now line (E.output fault.now)
+    ensures { SaysWrong M.faults name.now line (E.output fault.now)
         (M.contents messages.old) (M.contents messages.new) result }
 {
     let Ok(text) = format!(in alloc; "{fault}") else {

@@ -3,15 +3,15 @@ ghost use Rattle.text_filters.specs.Files.{bytes_at};
 ghost use Rattle.text_filters.specs.Inputs.{ChecksFile, Replaces};
 
 use std::alloc::Global;
-use std::io::Write;
 use text_filters::faults::Fault;
 use text_filters::files::Files;
 use text_filters::filter::Filter;
 use text_filters::inputs::{Treated, check_file};
 use text_filters::replacing::replace_file;
+use text_filters::streams::WriteWhole;
 
 /// As `check_file`.
-pub fn checked_file<T: Filter, F: Files, W: Write>(
+pub fn checked_file<T: Filter, F: Files, W: WriteWhole>(
     alloc: Global,
     name: &str,
     files: &mut F,

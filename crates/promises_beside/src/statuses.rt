@@ -2,6 +2,7 @@
 ghost use Rattle.std.specs.Prelude.{map, string_bytes};
 ghost use Rattle.hyphenate_program.specs.Program as hyphenating;
 ghost use Rattle.reflow_program.specs.Program as reflowing;
+ghost use Rattle.text_filters.specs.Streams.{faults_of};
 ghost use Rattle.textwrap_program.specs.Arguments.{request_of};
 ghost use Rattle.textwrap_program.specs.Program.{Executes};
 
@@ -11,6 +12,7 @@ use std::alloc::Global;
 use std::io::{Read, Write};
 use text_filters::files::Files;
 use text_filters::program::Ending;
+use text_filters::streams::{ReadWhole, WriteWhole};
 use text_filters::tool::execute;
 
 /// As `execute` of `textwrap_program`.
@@ -38,7 +40,7 @@ pub fn status_of_textwrap<R: Read, W: Write, M: Write>(
 }
 
 /// As `execute` of `reflow_program`.
-pub fn ending_of_reflow<F: Files, R: Read, W: Write, M: Write>(
+pub fn ending_of_reflow<F: Files, R: ReadWhole, W: WriteWhole, M: WriteWhole>(
     alloc: Global,
     words: &[String],
     files: &mut F,
@@ -46,7 +48,7 @@ pub fn ending_of_reflow<F: Files, R: Read, W: Write, M: Write>(
     output: &mut W,
     messages: &mut M,
 ) -> Ending
-    ensures { reflowing.Executes (map string_bytes words.now)
+    ensures { reflowing.Executes (faults_of R.faults W.faults M.faults) (map string_bytes words.now)
         (record {
           unread = R.remaining reader.old;
           files = F.past files.old;
@@ -65,7 +67,7 @@ pub fn ending_of_reflow<F: Files, R: Read, W: Write, M: Write>(
 }
 
 /// As `execute` of `hyphenate_program`.
-pub fn ending_of_hyphenate<F: Files, R: Read, W: Write, M: Write>(
+pub fn ending_of_hyphenate<F: Files, R: ReadWhole, W: WriteWhole, M: WriteWhole>(
     alloc: Global,
     words: &[String],
     files: &mut F,
@@ -73,7 +75,7 @@ pub fn ending_of_hyphenate<F: Files, R: Read, W: Write, M: Write>(
     output: &mut W,
     messages: &mut M,
 ) -> Ending
-    ensures { hyphenating.Executes (map string_bytes words.now)
+    ensures { hyphenating.Executes (faults_of R.faults W.faults M.faults) (map string_bytes words.now)
         (record {
           unread = R.remaining reader.old;
           files = F.past files.old;

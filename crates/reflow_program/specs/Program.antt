@@ -3,6 +3,7 @@ use Rattle.std.specs.Prelude.{◌⊎◌, ℕ, List, codes, false}
 use Rattle.clap.specs.Words.{Row}
 use Rattle.text_filters.specs.Messages.{AboutText, joined_texts, value_texts}
 use Rattle.text_filters.specs.Program.{IsFault, OnlySays, Says, Serves, World}
+use Rattle.text_filters.specs.Streams.{StreamFaults}
 use Rattle.text_filters.specs.Tool as tool
 use Rattle.text_filters.specs.Tool.{ToolText}
 use Rattle.text_filters.specs.Words.{spelled_out}
@@ -29,12 +30,12 @@ unfit_texts rows unfit.Lines =
     value_texts reflow_about rows (codes "lines") (codes "two numbers of 64 bits, A:B")
 
 -- these matches mean a request, of which each input is treated, or none, of which it is said why
-abbrev pub ServesRows : List Row → World → World → Ending → Type 0
-ServesRows rows old new ending =
+abbrev pub ServesRows : StreamFaults → List Row → World → World → Ending → Type 0
+ServesRows faults rows old new ending =
     ((request : Request) × IsRequest rows request
-    × Serves reflow_about (reflowing request.layout) request.inputs old new ending)
+    × Serves faults reflow_about (reflowing request.layout) request.inputs old new ending)
     ⊎ ((unfit : Unfit) × IsUnfit rows unfit × OnlySays old new
-    × Says (joined_texts (unfit_texts rows unfit)) old.messages new.messages ending.said
+    × Says faults.messages (joined_texts (unfit_texts rows unfit)) old.messages new.messages ending.said
     × IsFault ending)
 
 abbrev pub reflow_tool : ToolText
@@ -46,5 +47,5 @@ reflow_tool = record {
 }
 
 -- the whole run over these words
-abbrev pub Executes : List (List ℕ) → World → World → Ending → Type 0
-Executes = tool.Executes reflow_tool
+abbrev pub Executes : StreamFaults → List (List ℕ) → World → World → Ending → Type 0
+Executes faults = tool.Executes faults reflow_tool

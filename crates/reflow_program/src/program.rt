@@ -5,9 +5,9 @@ ghost use Rattle.reflow_program.specs.Program.{reflow_tool};
 use crate::arguments::{HELP, Unfit, VERSION, command, request_in};
 use clap::{ArgMatches, Command};
 use std::alloc::{AllocError, Global};
-use std::io::{Read, Write};
 use text_filters::files::Files;
 use text_filters::program::{About, Ending, Run, complain_of, serve};
+use text_filters::streams::{ReadWhole, WriteWhole};
 use text_filters::tool::Tool;
 use text_filters::words::spelled_out;
 
@@ -46,7 +46,7 @@ impl Tool for Reflow {
         spelled_out(alloc, words)
     }
 
-    fn serve_matches<F: Files, R: Read, W: Write, M: Write>(
+    fn serve_matches<F: Files, R: ReadWhole, W: WriteWhole, M: WriteWhole>(
         &self,
         alloc: Global,
         matches: &ArgMatches<'_>,

@@ -12,7 +12,9 @@ use Rattle.text_filters.specs.Files.{Folder, KeepsFiles, bytes_at}
 use Rattle.text_filters.proofs.FileLemmas.{KeepsFiles-refl}
 use Rattle.unified_diff.specs.Differences.{IsDiffText}
 use Rattle.text_filters.specs.Inputs.{Checks, Differs, Prints, Reads, ReadsText, Replaces}
+use Rattle.text_filters.specs.Streams.{AnyReason}
 use Rattle.text_filters.specs.declared.faults.Fault.{Fault}
+use Rattle.text_filters.specs.declared.faults.Reason.{Reason}
 use Rattle.text_filters.specs.declared.faults.Fault.TheVariants.{Read, NotUtf8, Memory, Write, Output}
 use Rattle.text_filters.specs.Filter.{Work}
 
@@ -54,10 +56,11 @@ module _ (work : Work) (unread left : Option (List ℕ)) where
   checks-unread name old (Write reason) none = absurd none
   checks-unread name old (Output reason) none = absurd none
 
-  module _ (input output : List ℕ) (reads : ReadsText work unread left input output) where
+  module _ (input output : List ℕ) (reads : ReadsText work unread left input output)
+      (faults : Reason → Type 0) where
     -- an output of which a prefix is written
     pub prints-unwritten : (old new : Option (List ℕ)) (bytes : List ℕ) (fault : Fault)
-        → bytes ≡ output → WritesPrefix old new bytes → IsOfOutput fault
+        → bytes ≡ output → WritesPrefix old new bytes → IsOfOutput faults fault
         → Prints work unread left old new (Err fault)
     prints-unwritten old new bytes (Output reason) is prefix of =
         (input, output, reads, subst (WritesPrefix old new) is prefix)
@@ -68,7 +71,7 @@ module _ (work : Work) (unread left : Option (List ℕ)) where
 
     -- the name of a file that would change, of which a prefix is written
     pub checks-unwritten : (name : List ℕ) (old new : Option (List ℕ)) (fault : Fault)
-        → output ≢ input → TriesLine old new name → IsOfOutput fault
+        → output ≢ input → TriesLine old new name → IsOfOutput faults fault
         → Checks work name unread left old new (Err fault)
     checks-unwritten name old new (Output reason) differs tries of =
         (input, output, reads, differs, tries)
@@ -80,7 +83,7 @@ module _ (work : Work) (unread left : Option (List ℕ)) where
     -- a diff of which a prefix is written
     pub differs-unwritten : (counts : Bool) (name text : List ℕ) (old new : Option (List ℕ))
         (fault : Fault) → output ≢ input → IsDiffText name input output text
-        → WritesPrefix old new text → IsOfOutput fault
+        → WritesPrefix old new text → IsOfOutput faults fault
         → Differs work counts name unread left old new (Err fault)
     differs-unwritten counts name text old new (Output reason) differ is prefix of =
         (input, output, text, reads, differ, is, prefix)
@@ -100,7 +103,7 @@ replaces-unput work name old new (Output reason) kept of = absurd of
 
 -- nor one that is not opened
 pub replaces-unopened : (work : Work) (name : List ℕ) (old new : List Folder) (fault : Fault)
-    → new ≡ old → IsOfReading fault → Replaces work name old new (Err fault)
+    → new ≡ old → IsOfReading AnyReason fault → Replaces work name old new (Err fault)
 replaces-unopened work name old new (Read reason) same of = same
 replaces-unopened work name old new (NotUtf8 valid) same of = absurd of
 replaces-unopened work name old new Memory same of =

@@ -5,4 +5,6 @@ pub mod MessageLemmas
 mod Refuted
 mod Rows
 pub mod RightsLemmas
+pub mod StreamLemmas
+mod SoundStreams
 pub mod TreatedInputs

@@ -1,7 +1,7 @@
 -- Lemmas on texts that are written one after another.
 use Rattle.std.proofs.Common.{◌≡◌, ◌∙◌, ℕ, ◌+◌, ◌<◌, ◌≤◌, List, [], ◌++◌, map, drop, get_or, Bor, Option}
 use Rattle.std.proofs.Common.{append_assoc, ap, length, refl, subst, sym, Bool, Result, Ok, Err}
-use Rattle.std.proofs.Common.{OnOk, OnErr}
+use Rattle.std.proofs.Common.{IfErr, OnOk, OnErr}
 use Rattle.std.specs.Result.{is_ok}
 use Rattle.std.proofs.KnownBytes.{Appends-nil, Appends-trans}
 use Rattle.std.proofs.lemmas.List.{at_drop_more, drop_all}
@@ -11,6 +11,7 @@ use Rattle.textwrap_program.proofs.WriteLemmas.{WrittenSoFar}
 use Rattle.textwrap_program.specs.Filling.{WritesPrefix}
 use Rattle.text_filters.specs.Messages.{joined_texts}
 use Rattle.text_filters.specs.Program.{Says}
+use Rattle.text_filters.specs.declared.faults.Reason.{Reason}
 
 abbrev pub joined : List (Bor (List ℕ)) → List ℕ
 joined texts = joined_texts (map (λ text. text.now) texts)
@@ -61,14 +62,17 @@ IsWritten-all old new texts index past so_far =
     (ap joined (drop_all index texts past))
 
 -- what a result of writing says
-says-of : {A E : Type 0} (text : List ℕ) (old new : Option (List ℕ)) (result : Result A E)
-    → OnOk result (Appends old new text) → OnErr result (WritesPrefix old new text)
-    → Says text old new (is_ok result)
-says-of text old new (Ok value) appends prefix = appends
-says-of text old new (Err error) appends prefix = prefix
+says-of : {A : Type 0} (messages : Reason → Type 0) (bytes : List ℕ) (old new : Option (List ℕ))
+    (result : Result A Reason) → OnOk result (Appends old new bytes)
+    → OnErr result (WritesPrefix old new bytes) → IfErr result messages
+    → Says messages bytes old new (is_ok result)
+says-of messages bytes old new (Ok value) appends prefix failed = appends
+says-of messages bytes old new (Err reason) appends prefix failed = (prefix, (reason, failed))
 
-pub says-result : {A E : Type 0} (text : List ℕ) (old new : Option (List ℕ)) (result : Result A E)
-    (said : Bool) → said ≡ is_ok result → OnOk result (Appends old new text)
-    → OnErr result (WritesPrefix old new text) → Says text old new said
-says-result text old new result said is appends prefix =
-    subst (Says text old new) (sym is) (says-of text old new result appends prefix)
+pub says-result : {A : Type 0} (messages : Reason → Type 0) (text : List ℕ) (old new : Option (List ℕ))
+    (result : Result A Reason) (said : Bool) → said ≡ is_ok result
+    → OnOk result (Appends old new text) → OnErr result (WritesPrefix old new text)
+    → IfErr result messages → Says messages text old new said
+says-result messages text old new result said is appends prefix failed =
+    subst (Says messages text old new) (sym is)
+    (says-of messages text old new result appends prefix failed)

@@ -6,6 +6,10 @@ use Rattle.std.specs.Prelude.{⊤}
 use Rattle.text_filters.specs.Files.{Absent, Entry, File, Folder, PutsOver, PutsSynced}
 use Rattle.text_filters.specs.Files.{Steps}
 use Rattle.text_filters.specs.Rights.{Granted, HasKeptRights, IsNoWider, kept, mode_of}
+use Rattle.text_filters.specs.Streams.{IsPossible, NoReason}
+use Rattle.text_filters.specs.declared.faults.Fault.TheVariants.{Output}
+use Rattle.text_filters.specs.declared.faults.Reason.{Reason}
+use Rattle.text_filters.specs.declared.faults.Reason.TheVariants.{NoSpace}
 use Rattle.text_filters.specs.declared.rights.Rights.{Rights}
 
 -- a program that runs as the super-user
@@ -51,6 +55,11 @@ pub owner_is_not_asked_for : ¬ HasKeptRights of_root not_asked
 owner_is_not_asked_for ((true, has_group, owner, group, is), wider) =
     let no : 1234 ≡ 0 = owner in cc
 owner_is_not_asked_for ((false, has_group, owner, group, is), wider) = absurd owner
+
+-- an output that takes all and cannot fail, and a fault is told
+pub written_output_told_as_a_fault : (reader : Reason → Type 0)
+    → ¬ IsPossible reader NoReason (Output NoSpace)
+written_output_told_as_a_fault reader possible = possible
 
 -- nothing at all
 abbrev empty : Folder

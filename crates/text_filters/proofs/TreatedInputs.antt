@@ -7,6 +7,7 @@ use Rattle.std.proofs.lemmas.List.{at_drop_more, drop_all}
 use Rattle.text_filters.specs.Messages.{AboutText, is_closed}
 use Rattle.text_filters.specs.Program.{Reports, SameWorld, TreatsAll, TreatsName, World, all_well}
 use Rattle.text_filters.specs.Program.{joined, shown_name}
+use Rattle.text_filters.specs.Streams.{StreamFaults}
 use Rattle.text_filters.specs.declared.faults.Fault.{Fault}
 use Rattle.text_filters.specs.declared.inputs.Treated.{Treated}
 use Rattle.text_filters.specs.declared.arguments.Mode.{Mode}
@@ -51,17 +52,17 @@ joined-first a within =
 abbrev pub texts : List (Bor (List ℕ)) → List (List ℕ)
 texts = map (λ text. text.now)
 
-module _ (about : AboutText) (work : Work) (mode : Mode) where
+module _ (faults : StreamFaults) (about : AboutText) (work : Work) (mode : Mode) where
   -- what was done so far, and then any right treatment of the inputs that are left, is a right
   -- treatment of all
   abbrev pub HasTreated : List (List ℕ) → List (List ℕ) → Bool → World → World → Ending → Type 0
   HasTreated all left closed start so_far ending =
-      (end : World) (rest : Ending) → TreatsAll about work mode left closed so_far end rest
-      → TreatsAll about work mode all false start end (joined ending rest)
+      (end : World) (rest : Ending) → TreatsAll faults about work mode left closed so_far end rest
+      → TreatsAll faults about work mode all false start end (joined ending rest)
 
   -- how many were replaced is a number of 64 bits
   within : (names : List (List ℕ)) (start end : World) (rest : Ending)
-      → TreatsAll about work mode names false start end rest → rest.replaced ≤ 2 ^ 64 - 1
+      → TreatsAll faults about work mode names false start end rest → rest.replaced ≤ 2 ^ 64 - 1
   within [] start end rest (same, well) = subst (λ e. e.replaced ≤ 2 ^ 64 - 1) (sym well) (omega arith)
   within (name ∷ names) start end rest (mid, result, first, more, treats, reports, others, is) =
       subst (λ e. e.replaced ≤ 2 ^ 64 - 1) (sym is) (omega arith)
@@ -70,8 +71,8 @@ module _ (about : AboutText) (work : Work) (mode : Mode) where
   pub HasTreated-none : (all left : List (List ℕ)) (start : World) (ending : Ending) → left ≡ all
       → ending ≡ all_well → HasTreated all left false start start ending
   HasTreated-none all left start ending same well end rest treats =
-      let of_all = subst (λ names. TreatsAll about work mode names false start end rest) same treats in
-      subst (TreatsAll about work mode all false start end)
+      let of_all = subst (λ names. TreatsAll faults about work mode names false start end rest) same treats in
+      subst (TreatsAll faults about work mode all false start end)
       (sym (ap (λ first. joined first rest) well
       ∙ joined-first rest (within left start end rest treats))) of_all
 
@@ -79,21 +80,21 @@ module _ (about : AboutText) (work : Work) (mode : Mode) where
   HasTreated-one : (all : List (List ℕ)) (name : List ℕ) (left : List (List ℕ))
       (start old mid : World) (ending first : Ending) (result : Result Treated Fault)
       → HasTreated all (name ∷ left) false start old ending
-      → TreatsName work mode name old mid result
-      → Reports about (shown_name name) result old.messages mid.messages first
+      → TreatsName faults work mode name old mid result
+      → Reports faults.messages about (shown_name name) result old.messages mid.messages first
       → HasTreated all left (is_closed result) start mid (joined ending first)
   HasTreated-one all name left start old mid ending first result so_far treats reports end rest
       others =
-      subst (TreatsAll about work mode all false start end) (joined-joined ending first rest)
+      subst (TreatsAll faults about work mode all false start end) (joined-joined ending first rest)
       (so_far end (joined first rest) (mid, result, first, rest, treats, reports, others, refl))
 
   pub HasTreated-next : (all : List (List ℕ)) (names : List (Bor (List ℕ))) (index : ℕ)
       (default : Bor (List ℕ)) (shown : List ℕ) (start old mid : World) (ending first next : Ending)
       (result : Result Treated Fault) (closed : Bool) → index < length names
       → HasTreated all (texts (drop index names)) false start old ending
-      → TreatsName work mode (get_or names index default).now old mid result
+      → TreatsName faults work mode (get_or names index default).now old mid result
       → shown ≡ shown_name (get_or names index default).now
-      → Reports about shown result old.messages mid.messages first
+      → Reports faults.messages about shown result old.messages mid.messages first
       → next ≡ joined ending first → closed ≡ is_closed result
       → HasTreated all (texts (drop (index + 1) names)) closed start mid next
   HasTreated-next all names index default shown start old mid ending first next result closed within
@@ -102,7 +103,7 @@ module _ (about : AboutText) (work : Work) (mode : Mode) where
       let left = texts (drop (index + 1) names) in
       let before = subst (λ names. HasTreated all names false start old ending)
       (at_drop_more texts names index default within) so_far in
-      let reported = subst (λ name. Reports about name result old.messages mid.messages first) is reports in
+      let reported = subst (λ name. Reports faults.messages about name result old.messages mid.messages first) is reports in
       subst (HasTreated all left closed start mid) (sym goes)
       (subst (λ c. HasTreated all left c start mid (joined ending first)) (sym ends)
       (HasTreated-one all name left start old mid ending first result before treats reported))
@@ -117,24 +118,24 @@ module _ (about : AboutText) (work : Work) (mode : Mode) where
 
   -- no further input is treated
   treats-none : (left : List (List ℕ)) (end : World)
-      → TreatsAll about work mode left true end end all_well
+      → TreatsAll faults about work mode left true end end all_well
   treats-none [] end = (SameWorld-refl end, refl)
   treats-none (name ∷ left) end = (SameWorld-refl end, refl)
 
   pub HasTreated-closed : (all left : List (List ℕ)) (start end : World) (ending : Ending)
       → ending.replaced ≤ 2 ^ 64 - 1 → HasTreated all left true start end ending
-      → TreatsAll about work mode all false start end ending
+      → TreatsAll faults about work mode all false start end ending
   HasTreated-closed all left start end ending least so_far =
-      subst (TreatsAll about work mode all false start end) (joined-all_well ending least)
+      subst (TreatsAll faults about work mode all false start end) (joined-all_well ending least)
       (so_far end all_well (treats-none left end))
 
   -- and no input is left
   pub HasTreated-all : (all : List (List ℕ)) (names : List (Bor (List ℕ))) (index : ℕ)
       (start end : World) (ending : Ending) → length names ≤ index → ending.replaced ≤ 2 ^ 64 - 1
       → HasTreated all (texts (drop index names)) false start end ending
-      → TreatsAll about work mode all false start end ending
+      → TreatsAll faults about work mode all false start end ending
   HasTreated-all all names index start end ending past least so_far =
       let none = subst (λ left. HasTreated all (texts left) false start end ending)
       (drop_all index names past) so_far in
-      subst (TreatsAll about work mode all false start end) (joined-all_well ending least)
+      subst (TreatsAll faults about work mode all false start end) (joined-all_well ending least)
       (none end all_well (SameWorld-refl end, refl))

@@ -46,15 +46,15 @@ abbrev pub draft_fault : ErrorKind → Fault
 draft_fault kind.OutOfMemory = Memory
 draft_fault kind = Write (file_reason kind)
 
--- the faults of one step: reading, writing the output, replacing a file
-abbrev pub IsOfReading : Fault → Type 0
-IsOfReading (Read reason) = ⊤
-IsOfReading Memory = ⊤
-IsOfReading _ = ⊥
+-- the faults of one step: reading and writing the output, for these reasons, and replacing a file
+abbrev pub IsOfReading : (Reason → Type 0) → Fault → Type 0
+IsOfReading reader (Read reason) = reader reason
+IsOfReading reader Memory = ⊤
+IsOfReading reader _ = ⊥
 
-abbrev pub IsOfOutput : Fault → Type 0
-IsOfOutput (Output reason) = ⊤
-IsOfOutput _ = ⊥
+abbrev pub IsOfOutput : (Reason → Type 0) → Fault → Type 0
+IsOfOutput output (Output reason) = output reason
+IsOfOutput output _ = ⊥
 
 abbrev pub IsOfDraft : Fault → Type 0
 IsOfDraft (Write reason) = ⊤

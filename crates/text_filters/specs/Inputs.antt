@@ -61,7 +61,7 @@ module _ (work : Work) where
   Reads unread left (Err _) = ⊤
 
   -- an input is printed: the whole output is written, at the fault `Output` a prefix of it, and at
-  -- another nothing; it never counts as one that would change
+  -- another nothing; there is no fault `Write`, and it never counts as one that would change
   abbrev pub Prints : Option (List ℕ) → Option (List ℕ) → Option (List ℕ) → Option (List ℕ)
       → Result Treated Fault → Type 0
   Prints unread left old new (Ok treated) =
@@ -72,6 +72,7 @@ module _ (work : Work) where
   Prints unread left old new (Err (Output reason)) =
       (input : List ℕ) × (output : List ℕ) × ReadsText unread left input output
       × WritesPrefix old new output
+  Prints unread left old new (Err (Write reason)) = ⊥
   Prints unread left old new (Err _) = Keeps old new
 
   -- so is a file, of which nothing is read if it cannot be opened
@@ -91,6 +92,7 @@ module _ (work : Work) where
   Checks name unread left old new (Err (Output reason)) =
       (input : List ℕ) × (output : List ℕ) × ReadsText unread left input output
       × (output ≢ input) × TriesLine old new name
+  Checks name unread left old new (Err (Write reason)) = ⊥
   Checks name unread left old new (Err _) = Keeps old new
 
   abbrev pub ChecksFile : List ℕ → Option (List ℕ) → Option (List ℕ) → Option (List ℕ)
@@ -113,6 +115,7 @@ module _ (work : Work) where
       (input : List ℕ) × (output : List ℕ) × (text : List ℕ)
       × ReadsText unread left input output × (output ≢ input)
       × IsDiffText name input output text × WritesPrefix old new text
+  Differs counts name unread left old new (Err (Write reason)) = ⊥
   Differs counts name unread left old new (Err _) = Keeps old new
 
   abbrev pub DiffersFile : Bool → List ℕ → Option (List ℕ) → Option (List ℕ) → Option (List ℕ)

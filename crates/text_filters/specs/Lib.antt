@@ -1,5 +1,6 @@
 pub mod Words
 pub mod Faults
+pub mod Streams
 pub mod Rights
 pub mod Files
 pub mod Filter
@@ -8,3 +9,4 @@ pub mod Arguments
 pub mod Messages
 pub mod Program
 pub mod Tool
+pub mod Laws

@@ -1,6 +1,6 @@
 -- What a program leaves behind, and how it ends.
 use Rattle.std.specs.Prelude.{◌≡◌, ◌⊎◌, ◌&&◌, ℕ, max, Bool, true, false, List, [], ◌∷◌, ◌++◌, map, codes}
-use Rattle.std.specs.Prelude.{Option, None, Some, Result, Ok, Err, bytes_eq, if◌then◌else◌}
+use Rattle.std.specs.Prelude.{Option, None, Some, Result, Ok, Err, bytes_eq, if◌then◌else◌, IfErr}
 use Rattle.std.specs.Prelude.{◌+◌, ◌-◌, ◌^◌, length, min, nat_lt, not}
 use Rattle.std.specs.Io.KnownBytes.{Appends, Keeps}
 use Rattle.clap.specs.declared.error.kind.ErrorKind.{ErrorKind}
@@ -13,6 +13,7 @@ use Rattle.text_filters.specs.Inputs.{Replaces}
 use Rattle.text_filters.specs.Messages.{is_closed, is_quiet, joined_texts, message_line, says_nothing}
 use Rattle.text_filters.specs.Messages.{AboutText, run_fault_texts, subject, sum_texts}
 use Rattle.text_filters.specs.Messages.{texts_of}
+use Rattle.text_filters.specs.Streams.{AnyReason, IsPossible, MayFail, StreamFaults}
 use Rattle.text_filters.specs.declared.arguments.Mode.{Mode}
 use Rattle.text_filters.specs.declared.arguments.Mode.TheVariants.{Print, Check, CheckDiff, Diff, InPlace}
 use Rattle.text_filters.specs.declared.arguments.Inputs.{Inputs}
@@ -43,15 +44,16 @@ OnlySays old new =
 
 -- ---- what is said, and how a run ends
 
--- a text is said: it is written whole, or else a prefix of it is
-abbrev pub Says : List ℕ → Option (List ℕ) → Option (List ℕ) → Bool → Type 0
-Says text old new true = Appends old new text
-Says text old new false = WritesPrefix old new text
+module _ (messages : Reason → Type 0) where
+  -- a text is said: it is written whole, or, where the messages may fail, a prefix of it is
+  abbrev pub Says : List ℕ → Option (List ℕ) → Option (List ℕ) → Bool → Type 0
+  Says text old new true = Appends old new text
+  Says text old new false = WritesPrefix old new text × MayFail messages
 
--- unless nothing is to be said
-abbrev pub SaysUnless : Bool → List ℕ → Option (List ℕ) → Option (List ℕ) → Bool → Type 0
-SaysUnless true text old new said = Keeps old new × (said ≡ true)
-SaysUnless false text old new said = Says text old new said
+  -- unless nothing is to be said
+  abbrev pub SaysUnless : Bool → List ℕ → Option (List ℕ) → Option (List ℕ) → Bool → Type 0
+  SaysUnless true text old new said = Keeps old new × (said ≡ true)
+  SaysUnless false text old new said = Says text old new said
 
 -- 0 if all went well, 1 if a check found that an input would change, 2 after a fault
 abbrev pub status_of : Result Treated Fault → ℕ
@@ -63,10 +65,10 @@ replaced_of (Ok treated) = if treated.replaced then 1 else 0
 replaced_of (Err fault) = 0
 
 -- how a run ends with an input of which this became
-abbrev pub Reports : AboutText → List ℕ → Result Treated Fault → Option (List ℕ) → Option (List ℕ) → Ending
-    → Type 0
-Reports about name result old new ending =
-    SaysUnless (says_nothing result)
+abbrev pub Reports : (Reason → Type 0) → AboutText → List ℕ → Result Treated Fault → Option (List ℕ)
+    → Option (List ℕ) → Ending → Type 0
+Reports messages about name result old new ending =
+    SaysUnless messages (says_nothing result)
     (message_line about (subject name result) (texts_of about result)) old new ending.said
     × (ending.status ≡ status_of result) × (ending.replaced ≡ replaced_of result)
 
@@ -129,13 +131,19 @@ module _ (work : Work) where
   Treats mode false name unread left was is old new result =
       Keeps unread left × TreatsFile mode name was is old new result
 
-  -- the input of this name; `-` is the standard input
-  abbrev pub TreatsName : Mode → List ℕ → World → World → Result Treated Fault → Type 0
-  TreatsName mode name old new result =
-      Treats mode (bytes_eq name (codes "-")) name old.unread new.unread old.files new.files
-      old.output new.output result
+-- a file may fail for any reason, the standard input only for its own
+abbrev pub input_faults : Bool → (Reason → Type 0) → Reason → Type 0
+input_faults true reader = reader
+input_faults false reader = AnyReason
 
-module _ (about : AboutText) (work : Work) where
+-- the input of this name; `-` is the standard input
+abbrev pub TreatsName : StreamFaults → Work → Mode → List ℕ → World → World → Result Treated Fault → Type 0
+TreatsName faults work mode name old new result =
+    Treats work mode (bytes_eq name (codes "-")) name old.unread new.unread old.files new.files
+    old.output new.output result
+    × IfErr result (IsPossible (input_faults (bytes_eq name (codes "-")) faults.reader) faults.output)
+
+module _ (faults : StreamFaults) (about : AboutText) (work : Work) where
   -- the inputs are treated one after another, each with its message; where nobody reads the output any
   -- more, no further one is
   abbrev pub TreatsAll : Mode → List (List ℕ) → Bool → World → World → Ending → Type 0
@@ -143,8 +151,8 @@ module _ (about : AboutText) (work : Work) where
   TreatsAll mode (name ∷ names) true old new ending = SameWorld old new × (ending ≡ all_well)
   TreatsAll mode (name ∷ names) false old new ending =
       (mid : World) × (result : Result Treated Fault) × (first : Ending) × (rest : Ending)
-      × TreatsName work mode name old mid result
-      × Reports about (shown_name name) result old.messages mid.messages first
+      × TreatsName faults work mode name old mid result
+      × Reports faults.messages about (shown_name name) result old.messages mid.messages first
       × TreatsAll mode names (is_closed result) mid new rest
       × (ending ≡ joined first rest)
 
@@ -159,12 +167,12 @@ abbrev pub sums_up : Inputs → Bool
 sums_up inputs = (is_in_place inputs.mode && nat_lt 1 (length inputs.names.now)) && not inputs.quiet
 
 -- of a run so far over so many names, which may end so
-abbrev pub SumsUp : AboutText → Bool → ℕ → World → World → Ending → Ending → Type 0
-SumsUp about false names mid new first ending = SameWorld mid new × (ending ≡ first)
-SumsUp about true names mid new first ending =
+abbrev pub SumsUp : (Reason → Type 0) → AboutText → Bool → ℕ → World → World → Ending → Ending → Type 0
+SumsUp messages about false names mid new first ending = SameWorld mid new × (ending ≡ first)
+SumsUp messages about true names mid new first ending =
     OnlySays mid new
     × ((said : Bool)
-    × Says (joined_texts (sum_texts about first.replaced names)) mid.messages new.messages said
+    × Says messages (joined_texts (sum_texts about first.replaced names)) mid.messages new.messages said
     × (ending ≡ record {
       status = first.status;
       said = first.said && said;
@@ -172,11 +180,11 @@ SumsUp about true names mid new first ending =
     }))
 
 -- the inputs are treated, and then it is said how many files were replaced
-abbrev pub Serves : AboutText → Work → Inputs → World → World → Ending → Type 0
-Serves about work inputs old new ending =
+abbrev pub Serves : StreamFaults → AboutText → Work → Inputs → World → World → Ending → Type 0
+Serves faults about work inputs old new ending =
     (mid : World) × (first : Ending)
-    × TreatsAll about work inputs.mode (map (λ name. name.now) inputs.names.now) false old mid first
-    × SumsUp about (sums_up inputs) (length inputs.names.now) mid new first ending
+    × TreatsAll faults about work inputs.mode (map (λ name. name.now) inputs.names.now) false old mid first
+    × SumsUp faults.messages about (sums_up inputs) (length inputs.names.now) mid new first ending
 
 -- ---- where there is no request
 
@@ -184,38 +192,41 @@ abbrev pub standard_output : List ℕ
 standard_output = codes "standard output"
 
 -- a text goes to the output, or a prefix of it, of which it is said why as of an input
-abbrev pub Shows : AboutText → List ℕ → Option (List ℕ) → Option (List ℕ) → Option (List ℕ)
-    → Option (List ℕ) → Ending → Type 0
-Shows about text old new was is ending =
+abbrev pub Shows : (Reason → Type 0) → (Reason → Type 0) → AboutText → List ℕ → Option (List ℕ)
+    → Option (List ℕ) → Option (List ℕ) → Option (List ℕ) → Ending → Type 0
+Shows output messages about text old new was is ending =
     (Appends old new text × Keeps was is × (ending ≡ all_well))
     ⊎ (WritesPrefix old new text
-    × ((reason : Reason) × Reports about standard_output (Err (Output reason)) was is ending))
+    × ((reason : Reason) × output reason
+    × Reports messages about standard_output (Err (Output reason)) was is ending))
 
--- of a fault that came before the first input
-abbrev pub SaysFault : AboutText → List ℕ → Option (List ℕ) → Option (List ℕ) → Bool → Type 0
-SaysFault about fault = Says (joined_texts (run_fault_texts about fault))
+module _ (messages : Reason → Type 0) where
+  -- of a fault that came before the first input
+  abbrev pub SaysFault : AboutText → List ℕ → Option (List ℕ) → Option (List ℕ) → Bool → Type 0
+  SaysFault about fault = Says messages (joined_texts (run_fault_texts about fault))
 
-abbrev pub SaysMemory : AboutText → Option (List ℕ) → Option (List ℕ) → Bool → Type 0
-SaysMemory about = SaysFault about (codes "out of memory")
+  abbrev pub SaysMemory : AboutText → Option (List ℕ) → Option (List ℕ) → Bool → Type 0
+  SaysMemory about = SaysFault about (codes "out of memory")
 
--- the text that an error displays is said, and where this is not known, some text
-abbrev pub SaysShown : Option (List ℕ) → Option (List ℕ) → Option (List ℕ) → Bool → Type 0
-SaysShown None was is said = (text : List ℕ) × Says text was is said
-SaysShown (Some text) was is said = Says text was is said
+  -- the text that an error displays is said, and where this is not known, some text
+  abbrev pub SaysShown : Option (List ℕ) → Option (List ℕ) → Option (List ℕ) → Bool → Type 0
+  SaysShown None was is said = (text : List ℕ) × Says messages text was is said
+  SaysShown (Some text) was is said = Says messages text was is said
 
--- of a fault the text of its error is said, unless memory ran out for that text
-abbrev pub Warns : AboutText → Option (List ℕ) → Option (List ℕ) → Option (List ℕ) → Bool → Type 0
-Warns about shown was is said = SaysShown shown was is said ⊎ SaysMemory about was is said
+  -- of a fault the text of its error is said, unless memory ran out for that text
+  abbrev pub Warns : AboutText → Option (List ℕ) → Option (List ℕ) → Option (List ℕ) → Bool → Type 0
+  Warns about shown was is said = SaysShown shown was is said ⊎ SaysMemory about was is said
 
 -- what is written of an error of the command line, by its kind and the text that it displays: the
 -- help and the version go to the output, and a fault to the messages
-abbrev pub ExplainsParse : AboutText → ErrorKind → Option (List ℕ) → Option (List ℕ)
-    → Option (List ℕ) → Option (List ℕ) → Option (List ℕ) → Ending → Type 0
-ExplainsParse about DisplayHelp shown old new was is ending =
-    Shows about about.help old new was is ending
-ExplainsParse about DisplayVersion shown old new was is ending =
-    Shows about about.version old new was is ending
-ExplainsParse about OutOfMemory shown old new was is ending =
-    Keeps old new × SaysMemory about was is ending.said × IsFault ending
-ExplainsParse about _ shown old new was is ending =
-    Keeps old new × Warns about shown was is ending.said × IsFault ending
+abbrev pub ExplainsParse : (Reason → Type 0) → (Reason → Type 0) → AboutText → ErrorKind
+    → Option (List ℕ) → Option (List ℕ) → Option (List ℕ) → Option (List ℕ) → Option (List ℕ)
+    → Ending → Type 0
+ExplainsParse output messages about DisplayHelp shown old new was is ending =
+    Shows output messages about about.help old new was is ending
+ExplainsParse output messages about DisplayVersion shown old new was is ending =
+    Shows output messages about about.version old new was is ending
+ExplainsParse output messages about OutOfMemory shown old new was is ending =
+    Keeps old new × SaysMemory messages about was is ending.said × IsFault ending
+ExplainsParse output messages about _ shown old new was is ending =
+    Keeps old new × Warns messages about shown was is ending.said × IsFault ending

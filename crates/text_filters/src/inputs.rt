@@ -1,20 +1,20 @@
 //! What a program does with one input.
-ghost use Rattle.std.specs.Prelude.{◌≡◌, ◌++◌, ◌∷◌, [], IfOk, IfErr, OnOk, OnErr};
+ghost use Rattle.std.specs.Prelude.{◌≡◌, ◌++◌, ◌∷◌, [], IfErr, OnOk, OnErr};
 ghost use Rattle.std.specs.Io.KnownBytes.{Appends};
-ghost use Rattle.textwrap_program.specs.Filling.{ReadsAll, WritesPrefix};
+ghost use Rattle.textwrap_program.specs.Filling.{WritesPrefix};
 ghost use Rattle.textwrap_program.specs.Program.{TriesLine, line_feed};
-ghost use Rattle.text_filters.specs.Faults.{IsOfOutput, IsOfReading};
+ghost use Rattle.text_filters.specs.Faults.{IsOfOutput};
+ghost use Rattle.text_filters.specs.Streams.{AnyReason, IsPossible, NoReason};
 ghost use Rattle.text_filters.specs.Files.{bytes_at};
 ghost use Rattle.text_filters.specs.Inputs.{Checks, ChecksFile, Differs, DiffersFile};
 ghost use Rattle.text_filters.specs.Inputs.{Prints, PrintsFile, Reads, Filters};
 
-use crate::faults::{Fault, Reason, file_reason, output_reason};
+use crate::faults::{Fault, file_reason};
 use crate::files::Files;
 use crate::filter::{Filter, Made};
+use crate::streams::{ReadWhole, WriteWhole};
 use simdutf8::compat::from_utf8;
 use std::alloc::Global;
-use std::io::{Read, Write};
-use textwrap_program::filling::{RunError, read_to_end, write_whole};
 use unified_diff::differences::diff_text;
 
 /// What became of an input.
@@ -42,29 +42,17 @@ pub struct Filtered {
 /// # Errors
 /// `Read` where a read fails, `NotUtf8` exactly where the input is not UTF-8, `Memory` where memory
 /// runs out.
-pub fn read_filtered<T: Filter, R: Read>(
+pub fn read_filtered<T: Filter, R: ReadWhole>(
     alloc: Global,
     reader: &mut R,
     filter: &T,
 ) -> Result<Filtered, Fault>
-    ensures { Reads (T.work filter.now) (R.remaining reader.old) (R.remaining reader.new) result }
+    ensures read { Reads (T.work filter.now) (R.remaining reader.old) (R.remaining reader.new) result }
+    ensures possible { IfErr result (IsPossible R.faults NoReason) }
 {
-    let input = read_input(alloc, reader)?;
+    let input = reader.read_whole(alloc)?;
     let output = filter_input(alloc, &input, filter)?;
     Ok(Filtered { input, output })
-}
-
-/// Reads the reader to its end.
-pub fn read_input<R: Read>(alloc: Global, reader: &mut R) -> Result<Vec<u8>, Fault>
-    ensures ok { IfOk result (λ input.
-        ReadsAll (R.remaining reader.old) (R.remaining reader.new) input.items) }
-    ensures only_reading { IfErr result IsOfReading }
-{
-    match read_to_end(alloc, reader) {
-        Ok(input) => Ok(input),
-        Err(RunError::Memory) => Err(Fault::Memory),
-        Err(_) => Err(Fault::Read(Reason::Other)),
-    }
 }
 
 /// What the filter makes of the input.
@@ -85,14 +73,15 @@ fn filter_input<T: Filter>(alloc: Global, input: &[u8], filter: &T) -> Result<Ma
 /// # Errors
 /// That of the first step that fails. Nothing is written but at `Output`, where the writer took a
 /// prefix of the text.
-pub fn print_input<T: Filter, R: Read, W: Write>(
+pub fn print_input<T: Filter, R: ReadWhole, W: WriteWhole>(
     alloc: Global,
     reader: &mut R,
     writer: &mut W,
     filter: &T,
 ) -> Result<Treated, Fault>
-    ensures { Prints (T.work filter.now) (R.remaining reader.old) (R.remaining reader.new)
+    ensures treated { Prints (T.work filter.now) (R.remaining reader.old) (R.remaining reader.new)
         (W.contents writer.old) (W.contents writer.new) result }
+    ensures possible { IfErr result (IsPossible R.faults W.faults) }
 {
     let filtered = read_filtered(alloc, reader, filter)?;
     match write_output(writer, filtered.output.text.as_bytes()) {
@@ -109,15 +98,15 @@ pub fn print_input<T: Filter, R: Read, W: Write>(
 ///
 /// # Errors
 /// `Output`. Some of the bytes may then be written.
-fn write_output<W: Write>(writer: &mut W, bytes: &[u8]) -> Result<(), Fault>
+fn write_output<W: WriteWhole>(writer: &mut W, bytes: &[u8]) -> Result<(), Fault>
     ensures ok { OnOk result (Appends (W.contents writer.old) (W.contents writer.new) bytes.now) }
     ensures prefix { OnErr result
         (WritesPrefix (W.contents writer.old) (W.contents writer.new) bytes.now) }
-    ensures only_output { IfErr result IsOfOutput }
+    ensures only_output { IfErr result (IsOfOutput W.faults) }
 {
-    match write_whole(writer, bytes) {
+    match writer.write_whole(bytes) {
         Ok(()) => Ok(()),
-        Err(kind) => Err(Fault::Output(output_reason(kind))),
+        Err(reason) => Err(Fault::Output(reason)),
     }
 }
 
@@ -127,16 +116,17 @@ fn write_output<W: Write>(writer: &mut W, bytes: &[u8]) -> Result<(), Fault>
 /// # Errors
 /// That of the first step that fails. Nothing is written but at `Output`, where the writer took a
 /// prefix of the line.
-pub fn check_input<T: Filter, R: Read, W: Write>(
+pub fn check_input<T: Filter, R: ReadWhole, W: WriteWhole>(
     alloc: Global,
     name: &str,
     reader: &mut R,
     writer: &mut W,
     filter: &T,
 ) -> Result<Treated, Fault>
-    ensures { Checks (T.work filter.now) name.now
+    ensures treated { Checks (T.work filter.now) name.now
         (R.remaining reader.old) (R.remaining reader.new)
         (W.contents writer.old) (W.contents writer.new) result }
+    ensures possible { IfErr result (IsPossible R.faults W.faults) }
 {
     let filtered = read_filtered(alloc, reader, filter)?;
     let applies = filtered.output.applies;
@@ -161,12 +151,12 @@ pub fn check_input<T: Filter, R: Read, W: Write>(
 ///
 /// # Errors
 /// `Output`. A prefix of the line may then be written.
-fn write_name<W: Write>(writer: &mut W, name: &str) -> Result<(), Fault>
+fn write_name<W: WriteWhole>(writer: &mut W, name: &str) -> Result<(), Fault>
     ensures ok { OnOk result
         (Appends (W.contents writer.old) (W.contents writer.new) (name.now ++ line_feed ∷ [])) }
     ensures prefix { OnErr result
         (TriesLine (W.contents writer.old) (W.contents writer.new) name.now) }
-    ensures only_output { IfErr result IsOfOutput }
+    ensures only_output { IfErr result (IsOfOutput W.faults) }
 {
     write_output(writer, name.as_bytes())?;
     write_output(writer, b"\n")
@@ -177,7 +167,7 @@ fn write_name<W: Write>(writer: &mut W, name: &str) -> Result<(), Fault>
 /// # Errors
 /// That of the first step that fails. Nothing is written but at `Output`, where the writer took a
 /// prefix of the diff.
-pub fn diff_input<T: Filter, R: Read, W: Write>(
+pub fn diff_input<T: Filter, R: ReadWhole, W: WriteWhole>(
     alloc: Global,
     name: &str,
     counts: bool,
@@ -185,9 +175,10 @@ pub fn diff_input<T: Filter, R: Read, W: Write>(
     writer: &mut W,
     filter: &T,
 ) -> Result<Treated, Fault>
-    ensures { Differs (T.work filter.now) counts name.now
+    ensures treated { Differs (T.work filter.now) counts name.now
         (R.remaining reader.old) (R.remaining reader.new)
         (W.contents writer.old) (W.contents writer.new) result }
+    ensures possible { IfErr result (IsPossible R.faults W.faults) }
 {
     let filtered = read_filtered(alloc, reader, filter)?;
     let applies = filtered.output.applies;
@@ -220,7 +211,7 @@ pub fn diff_input<T: Filter, R: Read, W: Write>(
 ///
 /// # Errors
 /// Those of [`print_input`], and `Read` also where the file cannot be opened.
-pub fn print_file<T: Filter, F: Files, W: Write>(
+pub fn print_file<T: Filter, F: Files, W: WriteWhole>(
     alloc: Global,
     name: &str,
     files: &mut F,
@@ -230,6 +221,7 @@ pub fn print_file<T: Filter, F: Files, W: Write>(
     ensures kept { F.past files.new ≡ F.past files.old }
     ensures printed { PrintsFile (T.work filter.now) (bytes_at (F.past files.old) name.now)
         (W.contents writer.old) (W.contents writer.new) result }
+    ensures possible { IfErr result (IsPossible AnyReason W.faults) }
 {
     match files.open(name) {
         Ok(mut reader) => print_input(alloc, &mut reader, writer, filter),
@@ -241,7 +233,7 @@ pub fn print_file<T: Filter, F: Files, W: Write>(
 ///
 /// # Errors
 /// Those of [`check_input`], and `Read` also where the file cannot be opened.
-pub fn check_file<T: Filter, F: Files, W: Write>(
+pub fn check_file<T: Filter, F: Files, W: WriteWhole>(
     alloc: Global,
     name: &str,
     files: &mut F,
@@ -251,6 +243,7 @@ pub fn check_file<T: Filter, F: Files, W: Write>(
     ensures kept { F.past files.new ≡ F.past files.old }
     ensures checked { ChecksFile (T.work filter.now) name.now (bytes_at (F.past files.old) name.now)
         (W.contents writer.old) (W.contents writer.new) result }
+    ensures possible { IfErr result (IsPossible AnyReason W.faults) }
 {
     match files.open(name) {
         Ok(mut reader) => check_input(alloc, name, &mut reader, writer, filter),
@@ -262,7 +255,7 @@ pub fn check_file<T: Filter, F: Files, W: Write>(
 ///
 /// # Errors
 /// Those of [`diff_input`], and `Read` also where the file cannot be opened.
-pub fn diff_file<T: Filter, F: Files, W: Write>(
+pub fn diff_file<T: Filter, F: Files, W: WriteWhole>(
     alloc: Global,
     name: &str,
     counts: bool,
@@ -273,6 +266,7 @@ pub fn diff_file<T: Filter, F: Files, W: Write>(
     ensures kept { F.past files.new ≡ F.past files.old }
     ensures told { DiffersFile (T.work filter.now) counts name.now (bytes_at (F.past files.old) name.now)
         (W.contents writer.old) (W.contents writer.new) result }
+    ensures possible { IfErr result (IsPossible AnyReason W.faults) }
 {
     match files.open(name) {
         Ok(mut reader) => diff_input(alloc, name, counts, &mut reader, writer, filter),

@@ -1,5 +1,5 @@
 //! What a program does over its inputs, its files, a reader and two writers, and what it says.
-ghost use Rattle.std.specs.Prelude.{◌≡◌, map, bytes_eq, codes, false, OnOk, OnErr};
+ghost use Rattle.std.specs.Prelude.{◌≡◌, map, bytes_eq, codes, false, IfErr, OnOk, OnErr};
 ghost use Rattle.std.specs.Io.KnownBytes.{Appends};
 ghost use Rattle.clap.specs.Words.{found_of, rows_of};
 ghost use Rattle.textwrap_program.specs.Filling.{WritesPrefix};
@@ -8,24 +8,24 @@ ghost use Rattle.text_filters.specs.Messages.{message_line, reading_text, says_n
 ghost use Rattle.text_filters.specs.Messages.{sum_texts, value_texts, writing_text};
 ghost use Rattle.text_filters.specs.Program.{ExplainsParse, IsFault, Reports, Says, SaysFault, Serves};
 ghost use Rattle.text_filters.specs.Program.{Shows, Treats, TreatsAll, TreatsFile, TreatsInput, Warns};
-ghost use Rattle.text_filters.specs.Program.{all_well, joined, replaced_of, shown_name, status_of};
+ghost use Rattle.text_filters.specs.Program.{all_well, input_faults, joined, replaced_of, shown_name, status_of};
 ghost use Rattle.text_filters.specs.Program.{sums_up};
+ghost use Rattle.text_filters.specs.Streams.{AnyReason, IsPossible, faults_of};
 
 use crate::arguments::{Inputs, Mode, value_of};
-use crate::faults::{Fault, Reason, output_reason};
+use crate::faults::{Fault, Reason};
 use crate::files::Files;
 use crate::filter::Filter;
 use crate::inputs::{
     Treated, check_file, check_input, diff_file, diff_input, print_file, print_input,
 };
 use crate::replacing::replace_file;
+use crate::streams::{ReadWhole, WriteWhole};
 use clap::ArgMatches;
 use clap::error::ErrorKind;
 use itoa::Buffer;
 use std::alloc::Global;
 use std::fmt::Display;
-use std::io::{Read, Write};
-use textwrap_program::filling::{RunError, write_to_end, write_whole};
 
 /// The name of the standard input among the arguments.
 const STANDARD_INPUT_NAME: &str = "-";
@@ -97,14 +97,14 @@ impl Ending {
 }
 
 /// Says that the value of an option is not what is wanted.
-pub fn complain_of<M: Write>(
+pub fn complain_of<M: WriteWhole>(
     about: &About<'_>,
     matches: &ArgMatches<'_>,
     option: &str,
     wanted: &str,
     messages: &mut M,
 ) -> Ending
-    ensures said { Says (joined_texts
+    ensures said { Says M.faults (joined_texts
         (value_texts (about_view about.now) (rows_of (found_of matches.now)) option.now wanted.now))
         (M.contents messages.old) (M.contents messages.new) result.said }
     ensures fault { IsFault result }
@@ -128,7 +128,7 @@ pub fn complain_of<M: Write>(
 }
 
 /// Treats the inputs, and then says how many files were replaced, if several may be.
-pub fn serve<T: Filter, F: Files, R: Read, W: Write, M: Write>(
+pub fn serve<T: Filter, F: Files, R: ReadWhole, W: WriteWhole, M: WriteWhole>(
     alloc: Global,
     run: &Run<'_, T>,
     files: &mut F,
@@ -136,7 +136,7 @@ pub fn serve<T: Filter, F: Files, R: Read, W: Write, M: Write>(
     output: &mut W,
     messages: &mut M,
 ) -> Ending
-    ensures { Serves (about_view run.now.about) (T.work run.now.filter.now) run.now.inputs
+    ensures { Serves (faults_of R.faults W.faults M.faults) (about_view run.now.about) (T.work run.now.filter.now) run.now.inputs
         (record {
           unread = R.remaining reader.old;
           files = F.past files.old;
@@ -172,8 +172,13 @@ fn sums_up(inputs: &Inputs<'_>) -> bool
 }
 
 /// Says how many files were replaced, of so many names. The result says whether that was written whole.
-fn say_sum<M: Write>(about: &About<'_>, replaced: usize, names: usize, messages: &mut M) -> bool
-    ensures { Says (joined_texts (sum_texts (about_view about.now) replaced names))
+fn say_sum<M: WriteWhole>(
+    about: &About<'_>,
+    replaced: usize,
+    names: usize,
+    messages: &mut M,
+) -> bool
+    ensures { Says M.faults (joined_texts (sum_texts (about_view about.now) replaced names))
         (M.contents messages.old) (M.contents messages.new) result }
 {
     let (mut of_replaced, mut of_names) = (Buffer::new(), Buffer::new());
@@ -193,7 +198,7 @@ fn say_sum<M: Write>(about: &About<'_>, replaced: usize, names: usize, messages:
 
 /// Treats one input after another, whatever becomes of those before it, unless nobody reads the output
 /// any more.
-fn treat_all<T: Filter, F: Files, R: Read, W: Write, M: Write>(
+fn treat_all<T: Filter, F: Files, R: ReadWhole, W: WriteWhole, M: WriteWhole>(
     alloc: Global,
     run: &Run<'_, T>,
     files: &mut F,
@@ -201,7 +206,7 @@ fn treat_all<T: Filter, F: Files, R: Read, W: Write, M: Write>(
     output: &mut W,
     messages: &mut M,
 ) -> Ending
-    ensures { TreatsAll (about_view run.now.about) (T.work run.now.filter.now) run.now.inputs.mode
+    ensures { TreatsAll (faults_of R.faults W.faults M.faults) (about_view run.now.about) (T.work run.now.filter.now) run.now.inputs.mode
         (map (λ name. name.now) run.now.inputs.names.now) false
         (record {
           unread = R.remaining reader.old;
@@ -259,7 +264,7 @@ fn shown_name(name: &str) -> &str
 
 /// Does with an input what the mode says. The result says whether a check found that it would
 /// change.
-fn treat<T: Filter, F: Files, R: Read, W: Write>(
+fn treat<T: Filter, F: Files, R: ReadWhole, W: WriteWhole>(
     alloc: Global,
     filter: &T,
     mode: Mode,
@@ -268,10 +273,12 @@ fn treat<T: Filter, F: Files, R: Read, W: Write>(
     reader: &mut R,
     output: &mut W,
 ) -> Result<Treated, Fault>
-    ensures { Treats (T.work filter.now) mode (bytes_eq name.now (codes "-")) name.now
+    ensures treated { Treats (T.work filter.now) mode (bytes_eq name.now (codes "-")) name.now
         (R.remaining reader.old) (R.remaining reader.new)
         (F.past files.old) (F.past files.new)
         (W.contents output.old) (W.contents output.new) result }
+    ensures possible { IfErr result
+        (IsPossible (input_faults (bytes_eq name.now (codes "-")) R.faults) W.faults) }
 {
     if name == STANDARD_INPUT_NAME {
         treat_input(alloc, filter, mode, reader, output)
@@ -282,16 +289,17 @@ fn treat<T: Filter, F: Files, R: Read, W: Write>(
 
 /// Does with the standard input what the mode says; it cannot be replaced, so it is printed where
 /// files are replaced. The result says whether a check found that it would change.
-fn treat_input<T: Filter, R: Read, W: Write>(
+fn treat_input<T: Filter, R: ReadWhole, W: WriteWhole>(
     alloc: Global,
     filter: &T,
     mode: Mode,
     reader: &mut R,
     output: &mut W,
 ) -> Result<Treated, Fault>
-    ensures { TreatsInput (T.work filter.now) mode
+    ensures treated { TreatsInput (T.work filter.now) mode
         (R.remaining reader.old) (R.remaining reader.new)
         (W.contents output.old) (W.contents output.new) result }
+    ensures possible { IfErr result (IsPossible R.faults W.faults) }
 {
     match mode {
         Mode::Check => check_input(alloc, STANDARD_INPUT, reader, output, filter),
@@ -303,7 +311,7 @@ fn treat_input<T: Filter, R: Read, W: Write>(
 
 /// Does with a file what the mode says. The result says whether a check found that it would
 /// change.
-fn treat_file<T: Filter, F: Files, W: Write>(
+fn treat_file<T: Filter, F: Files, W: WriteWhole>(
     alloc: Global,
     filter: &T,
     mode: Mode,
@@ -311,9 +319,10 @@ fn treat_file<T: Filter, F: Files, W: Write>(
     files: &mut F,
     output: &mut W,
 ) -> Result<Treated, Fault>
-    ensures { TreatsFile (T.work filter.now) mode name.now
+    ensures treated { TreatsFile (T.work filter.now) mode name.now
         (F.past files.old) (F.past files.new)
         (W.contents output.old) (W.contents output.new) result }
+    ensures possible { IfErr result (IsPossible AnyReason W.faults) }
 {
     match mode {
         Mode::Print => print_file(alloc, name, files, output, filter),
@@ -326,13 +335,13 @@ fn treat_file<T: Filter, F: Files, W: Write>(
 
 /// Says what became of an input of this name, if there is something to say: a fault, or that there was
 /// nothing in it for the filter.
-pub fn report<M: Write>(
+pub fn report<M: WriteWhole>(
     about: &About<'_>,
     name: &str,
     treated: Result<Treated, Fault>,
     messages: &mut M,
 ) -> Ending
-    ensures { Reports (about_view about.now) name.now treated
+    ensures { Reports M.faults (about_view about.now) name.now treated
         (M.contents messages.old) (M.contents messages.new) result }
 {
     Ending {
@@ -374,13 +383,13 @@ fn says_nothing(treated: Result<Treated, Fault>) -> bool
 }
 
 /// Says what is to be said of an input. The result says whether that was written whole.
-fn says<M: Write>(
+fn says<M: WriteWhole>(
     about: &About<'_>,
     name: &str,
     treated: Result<Treated, Fault>,
     messages: &mut M,
 ) -> bool
-    ensures { Says (message_line (about_view about.now) (subject name.now treated)
+    ensures { Says M.faults (message_line (about_view about.now) (subject name.now treated)
         (texts_of (about_view about.now) treated))
         (M.contents messages.old) (M.contents messages.new) result }
 {
@@ -408,16 +417,17 @@ fn is_quiet(fault: Fault) -> bool
 }
 
 /// Writes the line of a fault.
-fn write_fault<M: Write>(
+fn write_fault<M: WriteWhole>(
     about: &About<'_>,
     name: &str,
     fault: Fault,
     messages: &mut M,
-) -> Result<(), RunError>
+) -> Result<(), Reason>
     ensures ok { OnOk result (Appends (M.contents messages.old) (M.contents messages.new)
         (message_line (about_view about.now) name.now (fault_texts fault))) }
     ensures prefix { OnErr result (WritesPrefix (M.contents messages.old) (M.contents messages.new)
         (message_line (about_view about.now) name.now (fault_texts fault))) }
+    ensures failed { IfErr result M.faults }
 {
     match fault {
         Fault::Read(reason) => write_message(messages, about, name, &[reading_text(reason)]),
@@ -472,31 +482,33 @@ fn writing_text(reason: Reason) -> &'static str
 }
 
 /// Writes a line of a message on an input.
-pub fn write_message<M: Write>(
+pub fn write_message<M: WriteWhole>(
     messages: &mut M,
     about: &About<'_>,
     name: &str,
     texts: &[&str],
-) -> Result<(), RunError>
+) -> Result<(), Reason>
     ensures ok { OnOk result (Appends (M.contents messages.old) (M.contents messages.new)
         (message_line (about_view about.now) name.now (map (λ text. text.now) texts.now))) }
     ensures prefix { OnErr result (WritesPrefix (M.contents messages.old) (M.contents messages.new)
         (message_line (about_view about.now) name.now (map (λ text. text.now) texts.now))) }
+    ensures failed { IfErr result M.faults }
 {
     write_texts(messages, &[about.name, ": ", name, ": "])?;
     write_texts(messages, texts)?;
-    write_to_end(messages, b"\n")
+    messages.write_whole(b"\n")
 }
 
 /// Writes texts one after another.
-fn write_texts<M: Write>(messages: &mut M, texts: &[&str]) -> Result<(), RunError>
+fn write_texts<M: WriteWhole>(messages: &mut M, texts: &[&str]) -> Result<(), Reason>
     ensures ok { OnOk result (Appends (M.contents messages.old) (M.contents messages.new)
         (joined_texts (map (λ text. text.now) texts.now))) }
     ensures prefix { OnErr result (WritesPrefix (M.contents messages.old) (M.contents messages.new)
         (joined_texts (map (λ text. text.now) texts.now))) }
+    ensures failed { IfErr result M.faults }
 {
     for text in texts {
-        write_to_end(messages, text.as_bytes())?;
+        messages.write_whole(text.as_bytes())?;
     }
     Ok(())
 }
@@ -505,7 +517,7 @@ fn write_texts<M: Write>(messages: &mut M, texts: &[&str]) -> Result<(), RunErro
 /// kind of the error. The type of the error is left open: `clap` promises nothing of the text that
 /// its errors display, so only in this way can the clause ask that this text is the one that is
 /// said.
-pub fn explain_parse<E: Display, W: Write, M: Write>(
+pub fn explain_parse<E: Display, W: WriteWhole, M: WriteWhole>(
     alloc: Global,
     about: &About<'_>,
     kind: ErrorKind,
@@ -513,7 +525,7 @@ pub fn explain_parse<E: Display, W: Write, M: Write>(
     output: &mut W,
     messages: &mut M,
 ) -> Ending
-    ensures { ExplainsParse (about_view about.now) kind (E.output error.now)
+    ensures { ExplainsParse W.faults M.faults (about_view about.now) kind (E.output error.now)
         (W.contents output.old) (W.contents output.new)
         (M.contents messages.old) (M.contents messages.new) result }
 {
@@ -526,32 +538,29 @@ pub fn explain_parse<E: Display, W: Write, M: Write>(
 }
 
 /// Shows a text. That nobody reads it any more is no fault.
-fn show<W: Write, M: Write>(
+fn show<W: WriteWhole, M: WriteWhole>(
     about: &About<'_>,
     text: &str,
     output: &mut W,
     messages: &mut M,
 ) -> Ending
-    ensures { Shows (about_view about.now) text.now (W.contents output.old) (W.contents output.new)
+    ensures { Shows W.faults M.faults (about_view about.now) text.now (W.contents output.old) (W.contents output.new)
         (M.contents messages.old) (M.contents messages.new) result }
 {
-    match write_whole(output, text.as_bytes()) {
+    match output.write_whole(text.as_bytes()) {
         Ok(()) => Ending::well(),
-        Err(kind) => {
-            let fault = Fault::Output(output_reason(kind));
-            report(about, STANDARD_OUTPUT, Err(fault), messages)
-        }
+        Err(reason) => report(about, STANDARD_OUTPUT, Err(Fault::Output(reason)), messages),
     }
 }
 
 /// Says what an error displays.
-fn warn<E: Display, M: Write>(
+fn warn<E: Display, M: WriteWhole>(
     alloc: Global,
     about: &About<'_>,
     error: &E,
     messages: &mut M,
 ) -> Ending
-    ensures said { Warns (about_view about.now) (E.output error.now)
+    ensures said { Warns M.faults (about_view about.now) (E.output error.now)
         (M.contents messages.old) (M.contents messages.new) result.said }
     ensures fault { IsFault result }
 {
@@ -560,14 +569,14 @@ fn warn<E: Display, M: Write>(
     };
     Ending {
         status: 2,
-        said: write_to_end(messages, text.as_bytes()).is_ok(),
+        said: messages.write_whole(text.as_bytes()).is_ok(),
         replaced: 0,
     }
 }
 
 /// Says a fault that came before the first input.
-pub fn complain<M: Write>(about: &About<'_>, fault: &str, messages: &mut M) -> Ending
-    ensures said { SaysFault (about_view about.now) fault.now
+pub fn complain<M: WriteWhole>(about: &About<'_>, fault: &str, messages: &mut M) -> Ending
+    ensures said { SaysFault M.faults (about_view about.now) fault.now
         (M.contents messages.old) (M.contents messages.new) result.said }
     ensures fault { IsFault result }
 {

@@ -4,6 +4,7 @@ ghost use Rattle.text_filters.specs.Faults.{IsOfDraft, IsOfReading};
 ghost use Rattle.text_filters.specs.Files.{Drafts, HasRights, IsEmptyDraft, IsGivenRights, KeepsFiles};
 ghost use Rattle.text_filters.specs.Files.{LeadsTo, PutsEmpty, ReplacesPlace, Steps, bytes_at};
 ghost use Rattle.text_filters.specs.Inputs.{Replaces};
+ghost use Rattle.text_filters.specs.Streams.{AnyReason, IsPossible, NoReason};
 
 use crate::faults::{Fault, Reason, draft_fault, kind_reason, opening_fault};
 use crate::files::{FileKind, Files, Opened};
@@ -30,7 +31,8 @@ pub fn replace_file<T: Filter, F: Files>(
     files: &mut F,
     filter: &T,
 ) -> Result<Treated, Fault>
-    ensures { Replaces (T.work filter.now) name.now (F.past files.old) (F.past files.new) result }
+    ensures replaced { Replaces (T.work filter.now) name.now (F.past files.old) (F.past files.new) result }
+    ensures possible { IfErr result (IsPossible AnyReason NoReason) }
 {
     let mut original = open_regular(name, files)?;
     let filtered = match read_filtered(alloc, &mut original.stream, filter) {
@@ -62,7 +64,7 @@ fn open_regular<F: Files>(name: &str, files: &mut F) -> Result<Opened<F::Origina
     ensures input { IfOk result (λ original.
         F.Input.remaining original.stream ≡ bytes_at (F.past files.old) name.now) }
     ensures kept { F.past files.new ≡ F.past files.old }
-    ensures only_reading { IfErr result IsOfReading }
+    ensures only_reading { IfErr result (IsOfReading AnyReason) }
 {
     match files.kind(name) {
         Ok(FileKind::Regular) => match files.open_original(name) {

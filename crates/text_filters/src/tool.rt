@@ -3,13 +3,14 @@ ghost use Rattle.std.specs.Prelude.{◌≡◌, map, string_bytes, true, IfOk};
 ghost use Rattle.clap.specs.Words.{FailsBy, app_of, fault_of, found_of, is_simple, is_simple_and_free};
 ghost use Rattle.clap.specs.Words.{matches_of, rows_of};
 ghost use Rattle.text_filters.specs.Messages.{about_view};
+ghost use Rattle.text_filters.specs.Streams.{faults_of};
 ghost use Rattle.text_filters.specs.Tool.{Executes, ServesWords, ToolText};
 
 use crate::files::Files;
 use crate::program::{About, Ending, complain, explain_parse};
+use crate::streams::{ReadWhole, WriteWhole};
 use clap::{ArgMatches, Command};
 use std::alloc::{AllocError, Global};
-use std::io::{Read, Write};
 
 /// A program over files and texts.
 pub trait Tool {
@@ -41,7 +42,7 @@ pub trait Tool {
             ≡ (tool self.now).spelled (map string_bytes words.now)) };
 
     /// Does what the words ask for that matched so.
-    fn serve_matches<F: Files, R: Read, W: Write, M: Write>(
+    fn serve_matches<F: Files, R: ReadWhole, W: WriteWhole, M: WriteWhole>(
         &self,
         alloc: Global,
         matches: &ArgMatches<'_>,
@@ -50,7 +51,7 @@ pub trait Tool {
         output: &mut W,
         messages: &mut M,
     ) -> Ending
-        ensures { (tool self.now).Serves (rows_of (found_of matches.now))
+        ensures { (tool self.now).Serves (faults_of R.faults W.faults M.faults) (rows_of (found_of matches.now))
             (record {
               unread = R.remaining reader.old;
               files = F.past files.old;
@@ -73,7 +74,7 @@ pub trait Tool {
 
 /// Runs a program over the words after its name. For each fault one line of `messages` says why, with the
 /// input's name.
-pub fn execute<T: Tool, F: Files, R: Read, W: Write, M: Write>(
+pub fn execute<T: Tool, F: Files, R: ReadWhole, W: WriteWhole, M: WriteWhole>(
     alloc: Global,
     tool: &T,
     words: &[String],
@@ -82,7 +83,7 @@ pub fn execute<T: Tool, F: Files, R: Read, W: Write, M: Write>(
     output: &mut W,
     messages: &mut M,
 ) -> Ending
-    ensures { Executes (T.tool tool.now) (map string_bytes words.now)
+    ensures { Executes (faults_of R.faults W.faults M.faults) (T.tool tool.now) (map string_bytes words.now)
         (record {
           unread = R.remaining reader.old;
           files = F.past files.old;
@@ -104,7 +105,7 @@ pub fn execute<T: Tool, F: Files, R: Read, W: Write, M: Write>(
 }
 
 /// Does what the words ask for, as they are written for the command line.
-fn execute_words<T: Tool, F: Files, R: Read, W: Write, M: Write>(
+fn execute_words<T: Tool, F: Files, R: ReadWhole, W: WriteWhole, M: WriteWhole>(
     alloc: Global,
     tool: &T,
     words: &[&str],
@@ -113,7 +114,7 @@ fn execute_words<T: Tool, F: Files, R: Read, W: Write, M: Write>(
     output: &mut W,
     messages: &mut M,
 ) -> Ending
-    ensures { ServesWords (T.tool tool.now) (map (λ word. word.now) words.now)
+    ensures { ServesWords (faults_of R.faults W.faults M.faults) (T.tool tool.now) (map (λ word. word.now) words.now)
         (record {
           unread = R.remaining reader.old;
           files = F.past files.old;

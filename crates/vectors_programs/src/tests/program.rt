@@ -6,4 +6,5 @@ mod faults;
 mod files;
 pub(super) mod folder;
 pub(super) mod plain;
+mod sound;
 mod words;

@@ -1,6 +1,7 @@
 use Rattle.std.proofs.Common.{List, inl, subst, ◌∙◌}
 use Rattle.text_filters.specs.Files.{Folder}
 use Rattle.text_filters.specs.Program.{Serves, World}
+use Rattle.text_filters.specs.Streams.{faults_of}
 use Rattle.textwrap_hyphens.specs.Hyphenation.{Hyphenation}
 use Rattle.textwrap_hyphens.specs.Table.{patterns_view}
 use Rattle.hyphenate_program.specs.Dictionary.{with_minima}
@@ -12,25 +13,26 @@ pub returns : goal.returns
 returns g c =
     let request = c.args.request.now in
     let world : List Folder → World = λ files. record {
-      unread = g.R.Read.remaining c.args.reader.now;
+      unread = g.R.ReadWhole.remaining c.args.reader.now;
       files = files;
-      output = g.W.Write.contents c.args.output.now;
-      messages = g.M.Write.contents c.args.messages.now;
+      output = g.W.WriteWhole.contents c.args.output.now;
+      messages = g.M.WriteWhole.contents c.args.messages.now;
     } in
     let new : World = record {
-      unread = g.R.Read.remaining c.serve.new.reader;
+      unread = g.R.ReadWhole.remaining c.serve.new.reader;
       files = g.F.Files.past c.serve.new.files;
-      output = g.W.Write.contents c.serve.new.output;
-      messages = g.M.Write.contents c.serve.new.messages;
+      output = g.W.WriteWhole.contents c.serve.new.output;
+      messages = g.M.WriteWhole.contents c.serve.new.messages;
     } in
     let said = patterns_view c.in-Ok.patterns in
+    let faults = faults_of g.R.ReadWhole.faults g.W.WriteWhole.faults g.M.WriteWhole.faults in
     inl (
       said,
       c.in-Ok.ensures.read,
-      subst (λ files. Serves hyphenate_about
+      subst (λ files. Serves faults hyphenate_about
           (hyphenating_by request.width (with_minima request.left request.right said)) request.inputs
           (world files) new c.serve.result) c.in-Ok.ensures.kept
-          (subst (λ (h : Hyphenation). Serves hyphenate_about (hyphenating_by request.width h)
+          (subst (λ (h : Hyphenation). Serves faults hyphenate_about (hyphenating_by request.width h)
           request.inputs (world (g.F.Files.past c.read_dictionary.new.files)) new c.serve.result)
           (c.table.ensures ∙ c.with_minima-patterns.ensures) c.serve.ensures),
     )

@@ -8,33 +8,33 @@ use Rattle.text_filters.proofs.InputLemmas.{IsDiffText-of, compared-other, compa
 use Rattle.text_filters.proofs.InputLemmas.{differs-unwritten}
 use Rattle.text_filters.proofs.inputs.diff_input.Goals as goal
 
-pub returns-then-eq : goal.returns-then-eq
-returns-then-eq g c =
+pub returns-then-eq-clause-treated : goal.returns-then-eq-clause-treated
+returns-then-eq-clause-treated g c =
     let filtered = c.in_ok-filtered.filtered in (
       filtered.input.items,
       string_bytes filtered.output.text,
       false,
-      c.in_ok-filtered.ensures.0,
+      c.in_ok-filtered.ensures.read.0,
       (
         compared-same _ _ _ _ c.as_slice.ensures.value c.as_bytes.ensures.value c.if-eq.ensures,
-        Keeps-refl (g.W.Write.contents c.args.writer.now),
+        Keeps-refl (g.W.WriteWhole.contents c.args.writer.now),
       ),
       sym (and-false c.args.counts),
-      c.in_ok-filtered.ensures.1,
+      c.in_ok-filtered.ensures.read.1,
       refl,
     )
 
-pub returns-in-Ok-write_output : goal.returns-in-Ok-write_output
-returns-in-Ok-write_output g c =
+pub returns-in-Ok-write_output-clause-treated : goal.returns-in-Ok-write_output-clause-treated
+returns-in-Ok-write_output-clause-treated g c =
     let filtered = c.in_ok-filtered.filtered in
     let input = filtered.input.items in
     let output = string_bytes filtered.output.text in
-    let old = g.W.Write.contents c.args.writer.now in
-    let new = g.W.Write.contents c.write_output.new.writer in (
+    let old = g.W.WriteWhole.contents c.args.writer.now in
+    let new = g.W.WriteWhole.contents c.write_output.new.writer in (
       input,
       output,
       true,
-      c.in_ok-filtered.ensures.0,
+      c.in_ok-filtered.ensures.read.0,
       (
         compared-other _ _ _ _ c.as_slice.ensures.value c.as_bytes.ensures.value c.if-eq.ensures,
         (
@@ -45,18 +45,18 @@ returns-in-Ok-write_output g c =
         ),
       ),
       sym (and-true c.args.counts),
-      c.in_ok-filtered.ensures.1,
+      c.in_ok-filtered.ensures.read.1,
       refl,
     )
 
-pub returns : goal.returns
-returns g c =
+pub returns-clause-treated : goal.returns-clause-treated
+returns-clause-treated g c =
     let filtered = c.in_ok-filtered.filtered in
     let input = filtered.input.items in
     let output = string_bytes filtered.output.text in
-    let old = g.W.Write.contents c.args.writer.now in
-    let new = g.W.Write.contents c.write_output.new.writer in
-    differs-unwritten (g.T.Filter.work c.args.filter.now) _ _ input output c.in_ok-filtered.ensures.0 c.args.counts
+    let old = g.W.WriteWhole.contents c.args.writer.now in
+    let new = g.W.WriteWhole.contents c.write_output.new.writer in
+    differs-unwritten (g.T.Filter.work c.args.filter.now) _ _ input output c.in_ok-filtered.ensures.read.0 g.W.WriteWhole.faults c.args.counts
     c.args.name.now c.in-Ok.text.items old new c.in-Err.fault
     (compared-other _ _ _ _ c.as_slice.ensures.value c.as_bytes.ensures.value c.if-eq.ensures)
     (IsDiffText-of c.args.name.now input output _ _ c.in-Ok.text.items c.deref.ensures.value

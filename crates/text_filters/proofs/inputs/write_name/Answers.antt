@@ -8,17 +8,17 @@ use Rattle.text_filters.proofs.inputs.write_name.Goals as goal
 
 pub returns-in_err-write_output-clause-prefix : goal.returns-in_err-write_output-clause-prefix
 returns-in_err-write_output-clause-prefix g c =
-    let old = g.W.Write.contents c.args.writer.now in
-    let new = g.W.Write.contents c.write_output.new.writer in
+    let old = g.W.WriteWhole.contents c.args.writer.now in
+    let new = g.W.WriteWhole.contents c.write_output.new.writer in
     OnErr-from c.from_residual.result
     (WritesPrefix-longer old new c.args.name.now (line_feed ∷ [])
     (subst (WritesPrefix old new) c.as_bytes.ensures.value c.in_err-write_output.ensures.prefix))
 
 pub returns-clause-prefix : goal.returns-clause-prefix
 returns-clause-prefix g c =
-    let old = g.W.Write.contents c.args.writer.now in
-    let mid = g.W.Write.contents c.write_output.new.writer in
-    let new = g.W.Write.contents c.write_output-2.new.writer in
+    let old = g.W.WriteWhole.contents c.args.writer.now in
+    let mid = g.W.WriteWhole.contents c.write_output.new.writer in
+    let new = g.W.WriteWhole.contents c.write_output-2.new.writer in
     on_err_weaker c.write_output-2.result
     (WritesPrefix-after old mid new c.args.name.now (line_feed ∷ [])
     (subst (Appends old mid) c.as_bytes.ensures.value c.in_ok-write_output.ensures.ok))

@@ -7,9 +7,9 @@ use Rattle.text_filters.specs.Program.{Says}
 
 pub returns-clause-said : goal.returns-clause-said
 returns-clause-said g c =
-    subst (λ value. Says (joined_texts (c.args.about.now.name.now ∷ codes ": --" ∷ c.args.option.now ∷ codes ": '" ∷ value
+    subst (λ value. Says g.M.WriteWhole.faults (joined_texts (c.args.about.now.name.now ∷ codes ": --" ∷ c.args.option.now ∷ codes ": '" ∷ value
     ∷ codes "' is not " ∷ c.args.wanted.now ∷ (line_feed ∷ []) ∷ []))
-    (g.M.Write.contents c.args.messages.now) (g.M.Write.contents c.write_texts.new.messages)
+    (g.M.WriteWhole.contents c.args.messages.now) (g.M.WriteWhole.contents c.write_texts.new.messages)
     c.is_ok.result) c.value_of-value.ensures
-    (says-result _ _ _ c.write_texts.result c.is_ok.result c.is_ok.ensures.value
-    c.write_texts.ensures.ok c.write_texts.ensures.prefix)
+    (says-result g.M.WriteWhole.faults _ _ _ c.write_texts.result c.is_ok.result c.is_ok.ensures.value
+    c.write_texts.ensures.ok c.write_texts.ensures.prefix c.write_texts.ensures.failed)

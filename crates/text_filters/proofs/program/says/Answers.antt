@@ -6,13 +6,13 @@ use Rattle.text_filters.proofs.program.says.Goals as goal
 
 pub returns-in-Ok : goal.returns-in-Ok
 returns-in-Ok g c =
-    rw c.in-Ok.is (says-result _ _ _ c.write_message.result c.is_ok.result c.is_ok.ensures.value
-    c.write_message.ensures.ok c.write_message.ensures.prefix)
+    rw c.in-Ok.is (says-result g.M.WriteWhole.faults _ _ _ c.write_message.result c.is_ok.result c.is_ok.ensures.value
+    c.write_message.ensures.ok c.write_message.ensures.prefix c.write_message.ensures.failed)
 
 pub returns-in-Err : goal.returns-in-Err
 returns-in-Err g c =
-    rw c.in-Err.is (subst (λ name. Says (message_line (about_view c.args.about.now) name (fault_texts c.in-Err.fault))
-    (g.M.Write.contents c.args.messages.now) (g.M.Write.contents c.write_fault.new.messages)
+    rw c.in-Err.is (subst (λ name. Says g.M.WriteWhole.faults (message_line (about_view c.args.about.now) name (fault_texts c.in-Err.fault))
+    (g.M.WriteWhole.contents c.args.messages.now) (g.M.WriteWhole.contents c.write_fault.new.messages)
     c.is_ok-in-Err.result) c.subject.ensures
-    (says-result _ _ _ c.write_fault.result c.is_ok-in-Err.result
-    c.is_ok-in-Err.ensures.value c.write_fault.ensures.ok c.write_fault.ensures.prefix))
+    (says-result g.M.WriteWhole.faults _ _ _ c.write_fault.result c.is_ok-in-Err.result
+    c.is_ok-in-Err.ensures.value c.write_fault.ensures.ok c.write_fault.ensures.prefix c.write_fault.ensures.failed))

@@ -1,24 +1,25 @@
 use Rattle.std.proofs.Common.{◌-◌, ◌≤◌, ◌^◌, drop, false}
 use Rattle.text_filters.specs.Messages.{about_view}
+use Rattle.text_filters.specs.Streams.{faults_of}
 use Rattle.text_filters.proofs.TreatedInputs.{HasTreated, texts}
 use Rattle.text_filters.proofs.program.treat_all.Given as goal
 
 abbrev pub invariant-loop-name : goal.invariant-loop-name
 invariant-loop-name g l =
     (l.ending.replaced ≤ 2 ^ 64 - 1)
-    × HasTreated (about_view l.run.about) (g.T.Filter.work l.run.filter.now) l.run.inputs.mode
+    × HasTreated (faults_of g.R.ReadWhole.faults g.W.WriteWhole.faults g.M.WriteWhole.faults) (about_view l.run.about) (g.T.Filter.work l.run.filter.now) l.run.inputs.mode
     (texts l.run.inputs.names.now)
     (texts (drop l.name-index l.name-items)) false
     (record {
-      unread = g.R.Read.remaining l.fn.reader;
+      unread = g.R.ReadWhole.remaining l.fn.reader;
       files = g.F.Files.past l.fn.files;
-      output = g.W.Write.contents l.fn.output;
-      messages = g.M.Write.contents l.fn.messages;
+      output = g.W.WriteWhole.contents l.fn.output;
+      messages = g.M.WriteWhole.contents l.fn.messages;
     })
     (record {
-      unread = g.R.Read.remaining l.reader;
+      unread = g.R.ReadWhole.remaining l.reader;
       files = g.F.Files.past l.files;
-      output = g.W.Write.contents l.output;
-      messages = g.M.Write.contents l.messages;
+      output = g.W.WriteWhole.contents l.output;
+      messages = g.M.WriteWhole.contents l.messages;
     })
     l.ending

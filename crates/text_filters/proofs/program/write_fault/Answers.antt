@@ -6,8 +6,8 @@ use Rattle.text_filters.proofs.program.write_fault.Goals as goal
 
 pub returns-in-NotUtf8-clause-ok : goal.returns-in-NotUtf8-clause-ok
 returns-in-NotUtf8-clause-ok g c =
-    let old = g.M.Write.contents c.args.messages.now in
-    let new = g.M.Write.contents c.write_message-in-NotUtf8.new.messages in
+    let old = g.M.WriteWhole.contents c.args.messages.now in
+    let new = g.M.WriteWhole.contents c.write_message-in-NotUtf8.new.messages in
     rw c.in-NotUtf8.is
     (subst (λ number. OnOk c.write_message-in-NotUtf8.result (Appends old new
     (message_line (about_view c.args.about.now) c.args.name.now (codes "not UTF-8 after " ∷ number ∷ codes " bytes" ∷ []))))
@@ -15,8 +15,8 @@ returns-in-NotUtf8-clause-ok g c =
 
 pub returns-in-NotUtf8-clause-prefix : goal.returns-in-NotUtf8-clause-prefix
 returns-in-NotUtf8-clause-prefix g c =
-    let old = g.M.Write.contents c.args.messages.now in
-    let new = g.M.Write.contents c.write_message-in-NotUtf8.new.messages in
+    let old = g.M.WriteWhole.contents c.args.messages.now in
+    let new = g.M.WriteWhole.contents c.write_message-in-NotUtf8.new.messages in
     rw c.in-NotUtf8.is
     (subst (λ number. OnErr c.write_message-in-NotUtf8.result (WritesPrefix old new
     (message_line (about_view c.args.about.now) c.args.name.now (codes "not UTF-8 after " ∷ number ∷ codes " bytes" ∷ []))))
@@ -28,8 +28,8 @@ returns-in-Memory-clause-prefix g c =
 
 pub returns-in-Write-clause-prefix : goal.returns-in-Write-clause-prefix
 returns-in-Write-clause-prefix g c =
-    let old = g.M.Write.contents c.args.messages.now in
-    let new = g.M.Write.contents c.write_message-in-Write.new.messages in
+    let old = g.M.WriteWhole.contents c.args.messages.now in
+    let new = g.M.WriteWhole.contents c.write_message-in-Write.new.messages in
     rw c.in-Write.is
     (subst (λ text. OnErr c.write_message-in-Write.result (WritesPrefix old new
     (message_line (about_view c.args.about.now) c.args.name.now (text ∷ []))))
@@ -37,8 +37,8 @@ returns-in-Write-clause-prefix g c =
 
 pub returns-in-Output-clause-prefix : goal.returns-in-Output-clause-prefix
 returns-in-Output-clause-prefix g c =
-    let old = g.M.Write.contents c.args.messages.now in
-    let new = g.M.Write.contents c.write_message-in-Output.new.messages in
+    let old = g.M.WriteWhole.contents c.args.messages.now in
+    let new = g.M.WriteWhole.contents c.write_message-in-Output.new.messages in
     rw c.in-Output.is
     (subst (λ text. OnErr c.write_message-in-Output.result (WritesPrefix old new
     (message_line (about_view c.args.about.now) c.args.name.now (text ∷ []))))
@@ -46,8 +46,8 @@ returns-in-Output-clause-prefix g c =
 
 pub returns-in-Read-clause-prefix : goal.returns-in-Read-clause-prefix
 returns-in-Read-clause-prefix g c =
-    let old = g.M.Write.contents c.args.messages.now in
-    let new = g.M.Write.contents c.write_message.new.messages in
+    let old = g.M.WriteWhole.contents c.args.messages.now in
+    let new = g.M.WriteWhole.contents c.write_message.new.messages in
     rw c.in-Read.is
     (subst (λ text. OnErr c.write_message.result (WritesPrefix old new
     (message_line (about_view c.args.about.now) c.args.name.now (text ∷ []))))

@@ -16,14 +16,14 @@ returns-in_err-write_texts-2-clause-prefix g c =
 
 pub returns-clause-ok : goal.returns-clause-ok
 returns-clause-ok g c =
-    on_ok_weaker c.write_to_end.result
+    on_ok_weaker c.write_whole.result
     (λ said. Appends-trans _ _ _ _ _ c.in_ok-write_texts.ensures.ok
     (Appends-trans _ _ _ _ _ c.in_ok-write_texts-2.ensures.ok said))
-    c.write_to_end.ensures.ok
+    c.write_whole.ensures.ok
 
 pub returns-clause-prefix : goal.returns-clause-prefix
 returns-clause-prefix g c =
-    on_err_weaker c.write_to_end.result
+    on_err_weaker c.write_whole.result
     (λ said. WritesPrefix-after _ _ _ _ _ c.in_ok-write_texts.ensures.ok
     (WritesPrefix-after _ _ _ _ _ c.in_ok-write_texts-2.ensures.ok said))
-    c.write_to_end.ensures.prefix
+    c.write_whole.ensures.prefix

@@ -73,13 +73,13 @@ fn counted_run(
 }
 
 #[test]
-fn streams_that_cannot_fail_are_served(rt: &(impl Abort + AllocGlobal)) {
+fn streams_that_cannot_fail_are_served(rt: HostRuntime) {
     let rule = "all is printed, and nothing is said";
     for times in [0, 1, 2000] {
-        let text = repeated(rt, "one two three four\n\n", times);
-        let (ending, printed, said) = counted_run(rt, rule, "10", text);
-        assert_ending(rt, rule, ending, 0, true);
-        assert_number(rt, rule, printed, 20 * times);
-        assert_number(rt, rule, said, 0);
+        let text = repeated(&rt, "one two three four\n\n", times);
+        let (ending, printed, said) = counted_run(&rt, rule, "10", text);
+        assert_ending(&rt, rule, ending, 0, true);
+        assert_number(&rt, rule, printed, 20 * times);
+        assert_number(&rt, rule, said, 0);
     }
 }

@@ -15,7 +15,7 @@ use Rattle.textwrap_marks.proofs.ListLemmas.{and-left, and-right, any-none, none
 use Rattle.textwrap_marks.specs.Columns.{depth_of, marks_of}
 use Rattle.textwrap_marks.specs.Fences.{has_pre_end, opened, opened_by, run_of}
 use Rattle.textwrap_marked.specs.Lines.{is_before, is_in_block, is_prompted, new_before, new_by}
-use Rattle.textwrap_marks.specs.Signs.{is_gap, is_sign, is_sign_byte}
+use Rattle.textwrap_marks.specs.Signs.{is_comment_behind, is_directive, is_gap, is_sign, is_sign_byte}
 use Rattle.textwrap_marks.specs.declared.fences.FenceKind.TheVariants.{Pre}
 
 -- ---- the first word of a text
@@ -57,15 +57,16 @@ run-none word none =
     marked mark (three mark word (and-right (mark == 96 || mark == 126) (nat_lt 2 len) is))
     (and-left (mark == 96 || mark == 126) (nat_lt 2 len) is)))
   where
-    parts : (a b c d e : Bool) → (a || b || c || d || e) ≡ false → (d ≡ false) × (e ≡ false)
-    parts a b c d e is = grind (arith, cases_Bool)
+    parts : (a b c d e f : Bool) → (a || b || c || d || e || f) ≡ false
+        → (d ≡ false) × (e ≡ false)
+    parts a b c d e f is = grind (arith, cases_Bool)
 
     signs : (starts_with nat_eq word (codes "```") ≡ false)
         × (starts_with nat_eq word (codes "~~~") ≡ false)
     signs =
         parts (is_sign_byte (slice_index word 0)) (starts_with nat_eq word (codes "//"))
         (starts_with nat_eq word (codes "/*")) (starts_with nat_eq word (codes "```"))
-        (starts_with nat_eq word (codes "~~~")) none
+        (starts_with nat_eq word (codes "~~~")) (is_directive word) none
 
     marked : (mark : ℕ) → starts_with nat_eq word (mark ∷ mark ∷ mark ∷ []) ≡ true
         → (mark == 96 || mark == 126) ≡ true → ⊥
@@ -86,16 +87,14 @@ no-columns justify words none =
     (or-left (list_any (λ w. is_column_word w.word) words)
     (list_any (is_gap justify) (front_of words)) none)
 
-column-parts : (a b c d e f g : Bool) → (a || b || c || d || e || f || g) ≡ false
-    → (e ≡ false) × (g ≡ false)
-column-parts a b c d e f g is = grind (arith, cases_Bool)
+column-parts : (a b c d e : Bool) → (a || b || c || d || e) ≡ false → (c ≡ false) × (e ≡ false)
+column-parts a b c d e is = grind (arith, cases_Bool)
 
 column-none : (word : List ℕ) → is_column_word word ≡ false
     → (has_byte 13 word ≡ false) × (contains (codes "<pre") word ≡ false)
 column-none word none =
-    column-parts (bytes_eq word (codes "|")) (bytes_eq word (codes "//")) (bytes_eq word (codes "/*"))
-    (bytes_eq word (codes "#")) (has_byte 13 word) (contains (codes "]:") word)
-    (contains (codes "<pre") word) none
+    column-parts (bytes_eq word (codes "|")) (is_comment_behind word) (has_byte 13 word)
+    (contains (codes "]:") word) (contains (codes "<pre") word) none
 
 pub no-return : (word : List ℕ) → is_column_word word ≡ false → has_byte 13 word ≡ false
 no-return word none = (column-none word none).0

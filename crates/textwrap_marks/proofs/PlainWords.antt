@@ -44,10 +44,13 @@ plain-word word none =
     let not_lines = differs word 47 (47 ∷ []) (lacks 47 word refl none) in
     let not_opening = differs word 47 (42 ∷ []) (lacks 47 word refl none) in
     let not_hash = differs word 35 [] (lacks 35 word refl none) in
+    let not_percent = differs word 37 [] (lacks 37 word refl none) in
+    let not_dashes = differs word 45 (45 ∷ []) (lacks 45 word refl none) in
+    let not_semicolon = differs word 59 [] (lacks 59 word refl none) in
     let not_return = lacks 13 word refl none in
     let not_label = contains-lacks (codes "]:") word (omega arith) (lacks 93 word refl none) in
     let not_pre = contains-lacks (codes "<pre") word (omega arith) (lacks 60 word refl none) in
-    rw (not_bar, not_lines, not_opening, not_hash, not_return, not_label, not_pre) refl
+    rw (not_bar, not_lines, not_opening, not_hash, not_percent, not_dashes, not_semicolon, not_return, not_label, not_pre) refl
 
 pub plain-none : (words : List SpacedText) → ArePlain words
     → list_any (λ w. is_column_word w.word) words ≡ false

@@ -47,12 +47,20 @@ abbrev pub is_sign_byte : ℕ → Bool
 is_sign_byte c =
     c == 35 || c == 59 || c == 37 || c == 62 || c == 60 || c == 124 || c == 61 || c == 46
 
+-- what tells a program something of the lines around it: of Markdown an alert, a table of contents
+-- or a container, and a constraint of Go
+abbrev pub is_directive : List ℕ → Bool
+is_directive word =
+    starts_with nat_eq word (codes "[!") || starts_with nat_eq word (codes "[TOC]")
+    || starts_with nat_eq word (codes ":::") || starts_with nat_eq word (codes "+build")
+
 -- what may mean something at the beginning of a line, to a compiler or in Markdown
 abbrev pub is_sign : List ℕ → Bool
 is_sign word =
     is_sign_byte (slice_index word 0)
     || starts_with nat_eq word (codes "//") || starts_with nat_eq word (codes "/*")
     || starts_with nat_eq word (codes "```") || starts_with nat_eq word (codes "~~~")
+    || is_directive word
 
 -- a key, `Copyright`, `@word`, `\word`, or `:word` without a backtick
 abbrev pub opens_paragraph : List ℕ → Bool
@@ -96,16 +104,22 @@ is_wide w = nat_lt 2 (length w.white) || (length w.white == 2 && not (ends_sente
 abbrev pub is_gap : Bool → SpacedText → Bool
 is_gap justify w = has_byte 9 w.white || (not justify && is_wide w)
 
--- `|`, a comment that code stands before, a carriage return, what ends a label of a link, or `<pre`
+-- what begins a comment behind text in one of many languages
+abbrev pub is_comment_behind : List ℕ → Bool
+is_comment_behind word =
+    bytes_eq word (codes "//") || bytes_eq word (codes "/*") || bytes_eq word (codes "#")
+    || bytes_eq word (codes "%") || bytes_eq word (codes "--") || bytes_eq word (codes ";")
+
+-- `|`, a comment behind text, a carriage return, what ends a label of a link, or `<pre`
 abbrev pub is_column_word : List ℕ → Bool
 is_column_word word =
-    bytes_eq word (codes "|") || bytes_eq word (codes "//") || bytes_eq word (codes "/*")
-    || bytes_eq word (codes "#") || has_byte 13 word || contains (codes "]:") word
-    || contains (codes "<pre") word
+    bytes_eq word (codes "|") || is_comment_behind word || has_byte 13 word
+    || contains (codes "]:") word || contains (codes "<pre") word
 
--- | / # carriage return ] <
+-- | / # % - ; carriage return ] <
 abbrev pub is_column_byte : ℕ → Bool
-is_column_byte c = c == 124 || c == 47 || c == 35 || c == 13 || c == 93 || c == 60
+is_column_byte c =
+    c == 124 || c == 47 || c == 35 || c == 37 || c == 45 || c == 59 || c == 13 || c == 93 || c == 60
 
 -- none of these bytes is in the words
 abbrev pub ArePlain : List SpacedText → Type 0

@@ -5,7 +5,8 @@ ghost use Rattle.std.specs.List.{list_all, list_any};
 ghost use Rattle.textwrap_marks.specs.Signs.{any_contains, ArePlain, begins_text, closes_block};
 ghost use Rattle.textwrap_marks.specs.Signs.{closes_early, ends_early, ends_sentence, first_word};
 ghost use Rattle.textwrap_marks.specs.Signs.{front_of, has_columns, is_closing, is_column_byte};
-ghost use Rattle.textwrap_marks.specs.Signs.{is_column_word, is_end, is_gap, is_key};
+ghost use Rattle.textwrap_marks.specs.Signs.{is_column_word, is_comment_behind, is_directive};
+ghost use Rattle.textwrap_marks.specs.Signs.{is_end, is_gap, is_key};
 ghost use Rattle.textwrap_marks.specs.Signs.{is_key_character, is_rule, is_wide};
 ghost use Rattle.textwrap_marks.specs.Signs.{is_rule_characters, is_rule_of, is_sign, is_sign_byte};
 ghost use Rattle.textwrap_marks.specs.Signs.{last_of, last_white, last_word, may_go_on};
@@ -77,6 +78,17 @@ pub fn is_key(word: &str) -> bool
     }
 }
 
+/// Whether a word tells a program something of the lines around it: `[!NOTE]`, `[TOC]` and `:::note`
+/// of Markdown, `+build` of Go.
+fn is_directive(word: &str) -> bool
+    ensures { result ≡ is_directive word.now }
+{
+    starts_with(word, "[!")
+        | starts_with(word, "[TOC]")
+        | starts_with(word, ":::")
+        | starts_with(word, "+build")
+}
+
 /// Whether a word at the beginning of a line may mean something to a compiler, or in Markdown.
 fn is_sign(word: &str) -> bool
     ensures { result ≡ is_sign word.now }
@@ -86,6 +98,7 @@ fn is_sign(word: &str) -> bool
         | starts_with(word, "/*")
         | starts_with(word, "```")
         | starts_with(word, "~~~")
+        | is_directive(word)
 }
 
 fn is_sign_byte(byte: u8) -> bool
@@ -203,17 +216,29 @@ fn is_column_byte(byte: u8) -> bool
     (byte == b'|')
         | (byte == b'/')
         | (byte == b'#')
+        | (byte == b'%')
+        | (byte == b'-')
+        | (byte == b';')
         | (byte == b'\r')
         | (byte == b']')
         | (byte == b'<')
 }
 
-/// Whether no paragraph contains this word: `|`, a comment behind code, a carriage return, `]:` or
+/// Whether a word begins a comment behind text in one of many languages. What stands below such a
+/// comment must not be drawn into it.
+fn is_comment_behind(word: &str) -> bool
+    ensures { result ≡ is_comment_behind word.now }
+{
+    matches!(word, "//" | "/*" | "#" | "%" | "--" | ";")
+}
+
+/// Whether no paragraph contains this word: `|`, a comment behind text, a carriage return, `]:` or
 /// `<pre`.
 fn is_column_word(word: &str) -> bool
     ensures { result ≡ is_column_word word.now }
 {
-    matches!(word, "|" | "//" | "/*" | "#")
+    word == "|"
+        || is_comment_behind(word)
         || has_byte(b'\r', word.as_bytes())
         || contains(word, "]:")
         || contains(word, "<pre")

@@ -108,6 +108,24 @@ const ROWS: &[Row] = &[
         "",
     ),
     (
+        "what is below a comment is not drawn into it",
+        AT_16,
+        "A.  % see Ann\nB.\n\nFROM a -- x\nFROM b\n\nMOV A, B ; load\nMOV C, D\n",
+        "",
+    ),
+    (
+        "alerts, containers",
+        AT_16,
+        "> [!WARNING]\n> one\n> two\n\n[TOC]\n:::note\none\ntwo\n\n:::\n",
+        "> [!WARNING]\n> one two\n\n[TOC]\n:::note\none two\n\n:::\n",
+    ),
+    (
+        "constraints of Go",
+        AT_16,
+        "// +build linux\n// +build mips\n",
+        "",
+    ),
+    (
         "setext, rules",
         AT_16,
         "One two\nTitle\n=====\none\ntwo\n***\n",

@@ -7,9 +7,9 @@ use Rattle.hyphenate_program.proofs.dictionary.read_dictionary.Goals as goal
 
 pub returns-clause-read : goal.returns-clause-read
 returns-clause-read g c =
-    reads _ _ _ c.in-Ok-read_input.bytes.items c.dictionary_of.result
+    reads _ _ _ c.in-Ok-read_whole.bytes.items c.dictionary_of.result
     (subst (λ (unread : Option (List ℕ)). ReadsAll unread
-    (g.F.Input.Read.remaining c.read_input.new.reader) c.in-Ok-read_input.bytes.items)
-    c.in-Ok.ensures.input c.in-Ok-read_input.ensures.ok)
+    (g.F.Input.Read.remaining c.read_whole.new.self) c.in-Ok-read_whole.bytes.items)
+    c.in-Ok.ensures.input c.in-Ok-read_whole.ensures.ok)
     (subst (λ (bytes : List ℕ). IsDictionary bytes c.dictionary_of.result) c.deref.ensures.value
     c.dictionary_of.ensures)

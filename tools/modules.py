@@ -6,6 +6,7 @@ that its clang is a script, which keeps the module and the words that it was cal
 clang is then asked for something else, such as assembly.
 """
 import contextlib
+import hashlib
 import pathlib
 import re
 import shutil
@@ -58,6 +59,46 @@ def run(words, folder=ROOT):
     if ran.returncode:
         stop(f"`{' '.join(map(str, words))}` failed:\n{ran.stdout[-4000:]}")
     return ran.stdout
+
+
+# ---- What a crate is made of and proved by
+
+PARTS = {"src": ".rt", "specs": ".antt", "proofs": ".antt"}
+
+
+def crates_of(name):
+    """The crate and those of the repository that it stands on, lowest first."""
+    return run([ROOT / "tools/crates_below", name]).split()
+
+
+def sources(name):
+    """The files of a crate and of those that it stands on, by their paths."""
+    found = [
+        path
+        for crate in crates_of(name)
+        for part, ending in PARTS.items()
+        for path in (CRATES / crate / part).rglob(f"*{ending}")
+    ]
+    return sorted(str(path.relative_to(ROOT)) for path in found)
+
+
+def sum_of(data):
+    return hashlib.sha256(data).hexdigest()
+
+
+def sum_of_files(paths):
+    """The sum of what `sha256sum` prints of files, in this order."""
+    return sum_of("".join(f"{sum_of((ROOT / path).read_bytes())}  {path}\n" for path in paths).encode())
+
+
+def sum_of_sources(name):
+    """The sum of the sources of a crate, in the order of their paths."""
+    return sum_of_files(sources(name))
+
+
+def version():
+    """The version of what is proved."""
+    return re.match(r"textwrap ([^,]+),", (ROOT / "VERSION").read_text())[1]
 
 
 # ---- The kit

@@ -6,7 +6,7 @@ import subprocess
 import rattle_items as items
 
 ROOT = items.ROOT
-# The definitions that have two meanings so far. A name may go from here, and none may come.
+# The names that may have two meanings, a line each, with the reason.
 TWO_MEANINGS = ROOT / "tools/two_meanings"
 
 # What all pages may have together, and what of it may be written by hand.
@@ -116,11 +116,11 @@ def wrong_numbers():
 
 
 def new_meanings():
-    """Each name that has got a second meaning, in crates of which one uses the other."""
-    known = TWO_MEANINGS.read_text().split()
+    """Each name that has a second meaning, in crates of which one uses the other, without a reason."""
+    reasons = dict(line.partition(": ")[::2] for line in TWO_MEANINGS.read_text().splitlines())
     for name, crates in items.names_with_two_meanings().items():
-        if name not in known:
-            yield f"specs: {name} has a meaning in each of {', '.join(crates)}"
+        if not reasons.get(name):
+            yield f"tools/two_meanings: no reason why {name} has a meaning in each of {', '.join(crates)}"
 
 
 def faults():

@@ -117,6 +117,9 @@ def install(share):
 
 
 if __name__ == "__main__":
+    if sys.argv[1:] in (["--help"], ["-h"]):
+        print(__doc__.strip())
+        sys.exit()
     if len(sys.argv) != 2:
         sys.exit(__doc__)
     install(pathlib.Path(sys.argv[1]))

@@ -14,7 +14,10 @@ CLAUSE = re.compile(r"\s*(requires|ensures)(\*?)(?: (\w+))? \{")
 USE = re.compile(r"^pub use ([\w:]+)(?:::\{([^}]*)\})?;", re.MULTILINE)
 CITED = re.compile(r"^ghost use Rattle\.(\w+)\.specs\.[\w.]+\.\{([^}]*)\}", re.MULTILINE)
 MODULE = re.compile(r"^pub mod (\w+);", re.MULTILINE)
-DEFINITION = re.compile(r"^(?:abbrev |data |record )*pub (?:abbrev |data |record )*([\w-]+)", re.MULTILINE)
+DEFINITION = re.compile(
+    r"^(?:abbrev |data |record )*pub (?:abbrev |data |record )*(?!mod |use )([^\s(){}:;,.]+)(?= [:(])", re.MULTILINE
+)
+TYPE = re.compile(r"^(?:pub(?:\(\w+\))? )?(?:struct|enum|trait|type) (\w+)", re.MULTILINE)
 
 
 @dataclasses.dataclass
@@ -286,15 +289,20 @@ def crates_with_uses():
 
 
 def names_with_two_meanings():
-    """The names that two crates define of which one uses the other, each with these crates."""
+    """The names of definitions and types that two crates have of which one uses the other, each with
+    these crates. Tests do not count."""
     uses = {crate: line.split(":")[1].split() for crate, line in crates_with_uses()}
     crates_of = {}
     for crate in uses:
-        for file in (CRATES / crate / "specs").rglob("*.antt"):
-            for name in DEFINITION.findall(file.read_text()):
-                crates_of.setdefault(name, []).append(crate)
+        files = [(DEFINITION, file) for file in (CRATES / crate / "specs").rglob("*.antt")]
+        files += [
+            (TYPE, file) for file in (CRATES / crate / "src").rglob("*.rt") if "tests" not in file.parts
+        ]
+        for pattern, file in files:
+            for name in pattern.findall(file.read_text()):
+                crates_of.setdefault(name, set()).add(crate)
     return {
-        name: sorted(set(crates))
+        name: sorted(crates)
         for name, crates in sorted(crates_of.items())
         if any(lower in uses[upper] for upper in crates for lower in crates)
     }

@@ -502,7 +502,8 @@ textwrap_status textwrap_fitting_widths(const textwrap_text *cells, size_t cells
  * as hy3ph or an exception such as ta-ble on each line, and writes it to the room as numbers. They hold
  * no address, so they may be copied, and kept in a file for a machine of the same byte order. DONE,
  * NOT_UTF8, OUT_OF_MEMORY, TOO_SMALL, or WRONG_PATTERNS: then the first line that is wrong is written to
- * `line`, counted from 1, and of a text without patterns the last. Otherwise `line` stays as it was. */
+ * `line`, counted from 1. That is the last where neither a pattern nor an exception is listed. Otherwise
+ * `line` stays as it was. */
 TEXTWRAP_CHECKED
 textwrap_status textwrap_patterns_read(const uint8_t *text, size_t text_len, size_t *room,
                                        size_t room_len, size_t *len, size_t *line);

@@ -3,15 +3,18 @@
 //! (CSS Text Module Level 4).
 ghost use Rattle.std.specs.Prelude.{◌≡◌, ◌≢◌, ◌≤◌, ℕ, List, None, Some, IfOk, IsOk, length, map, max};
 ghost use Rattle.textwrap_base.specs.Errors.{OnlyMemoryRunsOut};
+ghost use Rattle.textwrap_words.specs.CutPiecesLeft.{cut_standing_left};
 ghost use Rattle.textwrap_words.specs.Pieces.{as_splitter};
+ghost use Rattle.textwrap_words.specs.PiecesLeft.{standing_left};
 ghost use Rattle.textwrap_words.specs.Words.{words_of};
 ghost use Rattle.textwrap_words.specs.WordSplitters.{Splitter, split_words, splitter_view};
 ghost use Rattle.textwrap_words.specs.declared.word_separators.WordSeparator.TheVariants.{AsciiSpace};
 ghost use Rattle.textwrap_layout.specs.Options.{layout_view, settings_view};
 ghost use Rattle.textwrap_layout.specs.Paragraph.{Line, line_view};
+ghost use Rattle.textwrap_layout.specs.PiecesLeft.{left_standing};
 ghost use Rattle.textwrap_plain.specs.Balance.{AreFirstFitAt, AreBalanced, HasRoom, IsBalanced};
 ghost use Rattle.textwrap_plain.specs.Balance.{TakesLines, whole_pieces};
-ghost use Rattle.textwrap_plain.specs.Widest.{widest};
+ghost use Rattle.textwrap_plain.specs.Widest.{widest, widest_place};
 
 use std::alloc::{AllocError, Allocator};
 use std::borrow::CowStr;
@@ -20,13 +23,13 @@ use textwrap::{Options, WordSplitter, WrapError};
 use textwrap_layout::built_in::BuiltIn;
 use textwrap_layout::frame::Frame;
 use textwrap_layout::layout::Layout;
-use textwrap_layout::paragraph_pieces::{Cuts, cut_paragraph};
+use textwrap_layout::paragraph_pieces::{Cuts, ParagraphPieces, cut_paragraph};
 use textwrap_layout::parts::{BuiltInAlgorithm, BuiltInParts};
 use textwrap_layout::printable_cuts::{BlankCuts, PrintableCuts};
 use textwrap_lines::inner::{place_into, wrap_by};
 use textwrap_lines::parts::split_paragraph;
 use textwrap_lines::placed::TextwrapLine;
-use textwrap_words::inner::BuiltInSplitter;
+use textwrap_words::inner::{BuiltInSplitter, CutPieces, Pieces};
 
 /// A balanced width, and what it took to find it.
 #[derive(Clone, Copy, Debug)]
@@ -215,11 +218,40 @@ fn widest_in<W: PrintableCuts + Copy>(
         words: found.as_deref(),
         splitter: parts.parts.splitter,
     };
+    Ok(widest_of(cut_paragraph(paragraph, &frame, &cuts)))
+}
+
+/// The columns of the widest of these pieces. Each kind of them has a loop of its own, which asks of no
+/// piece which kind it is.
+fn widest_of(pieces: ParagraphPieces<'_, '_>) -> usize
+    ensures { result ≡ widest_place (left_standing pieces.entry) }
+{
+    match pieces {
+        ParagraphPieces::AtBlanks(pieces) => widest_at_blanks(pieces),
+        ParagraphPieces::AtCuts(pieces) => widest_at_cuts(pieces),
+    }
+}
+
+/// Those of pieces of words between blanks.
+fn widest_at_blanks(pieces: Pieces<'_>) -> usize
+    ensures { result ≡ widest_place (standing_left pieces.entry) }
+{
     let mut widest = 0;
-    for piece in cut_paragraph(paragraph, &frame, &cuts) {
+    for piece in pieces {
         widest = wider(widest, piece.width);
     }
-    Ok(widest)
+    widest
+}
+
+/// Those of pieces of words that end at cuts.
+fn widest_at_cuts(pieces: CutPieces<'_, '_>) -> usize
+    ensures { result ≡ widest_place (cut_standing_left pieces.entry) }
+{
+    let mut widest = 0;
+    for piece in pieces {
+        widest = wider(widest, piece.width);
+    }
+    widest
 }
 
 /// The balanced width, where all pieces have room at the width of the layout: it lies between that and

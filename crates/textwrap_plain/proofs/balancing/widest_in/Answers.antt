@@ -6,22 +6,9 @@ use Rattle.textwrap_layout.proofs.Common.{Settings, layout_view, pieces_of_words
 use Rattle.textwrap_layout.proofs.Paragraph.Pieces.{split_words-no_penalty}
 use Rattle.textwrap_layout.proofs.Paragraph.Pieces.{AreWordsCut-texts}
 use Rattle.textwrap_layout.specs.Frame.{frame_settings}
-use Rattle.textwrap_layout.specs.PiecesLeft.{left_standing}
-use Rattle.textwrap_text.proofs.Common.{ap, arith, false, rules, ◌∙◌, ◌≡◌}
+use Rattle.textwrap_text.proofs.Common.{ap, false, rules, ◌∙◌, ◌≡◌}
 use Rattle.textwrap_words.proofs.Common.{as_splitter, split_words}
 use Rattle.textwrap_words.specs.Pieces.{stand_from}
-
-pub loop-piece-init : goal.loop-piece-init
-loop-piece-init g c = omega arith
-
-pub loop-piece-preserved : goal.loop-piece-preserved
-loop-piece-preserved g c =
-    omega (
-      arith,
-      ap widest_place c.in-Some.ensures.steps,
-      c.wider-widest.ensures,
-      c.loop-piece.invariant,
-    )
 
 pub returns-clause-widest : goal.returns-clause-widest
 returns-clause-widest g c =
@@ -34,13 +21,11 @@ returns-clause-widest g c =
     ≡ option_map (λ cuts. cuts.items) c.in_ok-found.found = search (rules, c.as_deref.ensures) in
     let cut : words_cut (option_map (λ places. places.now) c.as_deref.result) paragraph ≡ words =
     ap (λ cs. words_cut cs paragraph) cuts ∙ c.in_ok-found.ensures.words in
-    let pieces = ap widest_place (ap left_standing c.into_iter-piece-iterator.ensures.into_iter_gives
-    ∙ c.cut_paragraph-piece-items.ensures
+    c.widest_of.ensures ∙ ap widest_place (c.cut_paragraph.ensures
     ∙ ap (λ s. stand_from 0 (pieces_of_words s splitter
     (words_cut (option_map (λ places. places.now) c.as_deref.result) paragraph))) framed
     ∙ ap (λ ws. stand_from 0 (split_words splitter ws)) cut)
     ∙ places-widest 0 (split_words splitter words)
     (split_words-no_penalty (layout_view c.args.layout) splitter paragraph words c.utf8.paragraph
     (AreWordsCut-texts paragraph words c.utf8.paragraph
-    (g.met.W.PrintableCuts.are_cut c.args.parts.now.words paragraph c.utf8.paragraph))) in
-    omega (arith, ap widest_place c.in-None.ensures.steps.0, c.loop-piece.invariant, pieces)
+    (g.met.W.PrintableCuts.are_cut c.args.parts.now.words paragraph c.utf8.paragraph)))

@@ -16,7 +16,8 @@ use Rattle.textwrap_marks.specs.Columns.{depth_of, marks_of}
 use Rattle.textwrap_marks.specs.Fences.{has_pre_end, opened, opened_by, run_of}
 use Rattle.textwrap_marked.specs.Lines.{is_before, is_in_block, is_prompted, new_before, new_by}
 use Rattle.textwrap_marks.specs.Signs.{is_comment_behind, is_directive, is_gap, is_sign, is_sign_byte}
-use Rattle.textwrap_marks.specs.declared.fences.FenceKind.TheVariants.{Pre}
+use Rattle.textwrap_marks.specs.Signs.{opens_code}
+use Rattle.textwrap_marks.specs.declared.fences.FenceKind.TheVariants.{Code, Pre}
 
 -- ---- the first word of a text
 
@@ -48,6 +49,28 @@ three mark (a ∷ []) long = grind (arith, nat_tests, cases_Bool)
 three mark (a ∷ b ∷ []) long = grind (arith, nat_tests, cases_Bool)
 three mark (a ∷ b ∷ c ∷ word) long = grind (arith, nat_tests, cases_Bool)
 
+parts : (a b c d e f : Bool) → (a || b || c || d || e || f) ≡ false
+    → (d ≡ false) × (e ≡ false) × (f ≡ false)
+parts a b c d e f is = grind (arith, cases_Bool)
+
+sign-parts : (word : List ℕ) → is_sign word ≡ false
+    → (starts_with nat_eq word (codes "```") ≡ false)
+    × (starts_with nat_eq word (codes "~~~") ≡ false) × (is_directive word ≡ false)
+sign-parts word none =
+    parts (is_sign_byte (slice_index word 0)) (starts_with nat_eq word (codes "//"))
+    (starts_with nat_eq word (codes "/*")) (starts_with nat_eq word (codes "```"))
+    (starts_with nat_eq word (codes "~~~")) (is_directive word) none
+
+-- nor code of Doxygen
+last-part : (a b c d e : Bool) → (a || b || c || d || e) ≡ false → e ≡ false
+last-part a b c d e is = grind (arith, cases_Bool)
+
+no-code : (word : List ℕ) → is_sign word ≡ false → opens_code word ≡ false
+no-code word none =
+    last-part (starts_with nat_eq word (codes "[!")) (starts_with nat_eq word (codes "[TOC]"))
+    (starts_with nat_eq word (codes ":::")) (starts_with nat_eq word (codes "+build"))
+    (opens_code word) (sign-parts word none).2
+
 run-none : (word : List ℕ) → is_sign word ≡ false → run_of word ≡ None
 run-none word none =
     let mark = slice_index word 0 in
@@ -57,17 +80,6 @@ run-none word none =
     marked mark (three mark word (and-right (mark == 96 || mark == 126) (nat_lt 2 len) is))
     (and-left (mark == 96 || mark == 126) (nat_lt 2 len) is)))
   where
-    parts : (a b c d e f : Bool) → (a || b || c || d || e || f) ≡ false
-        → (d ≡ false) × (e ≡ false)
-    parts a b c d e f is = grind (arith, cases_Bool)
-
-    signs : (starts_with nat_eq word (codes "```") ≡ false)
-        × (starts_with nat_eq word (codes "~~~") ≡ false)
-    signs =
-        parts (is_sign_byte (slice_index word 0)) (starts_with nat_eq word (codes "//"))
-        (starts_with nat_eq word (codes "/*")) (starts_with nat_eq word (codes "```"))
-        (starts_with nat_eq word (codes "~~~")) (is_directive word) none
-
     marked : (mark : ℕ) → starts_with nat_eq word (mark ∷ mark ∷ mark ∷ []) ≡ true
         → (mark == 96 || mark == 126) ≡ true → ⊥
     marked mark starts is = cut (mark == 96) refl is
@@ -75,10 +87,10 @@ run-none word none =
         cut : (b : Bool) → (mark == 96) ≡ b → (b || mark == 126) ≡ true → ⊥
         cut true same either =
             true≢false (sym starts ∙ ap (λ m. starts_with nat_eq word (m ∷ m ∷ m ∷ []))
-            (eqb-true mark 96 same) ∙ signs.0)
+            (eqb-true mark 96 same) ∙ (sign-parts word none).0)
         cut false same either =
             true≢false (sym starts ∙ ap (λ m. starts_with nat_eq word (m ∷ m ∷ m ∷ []))
-            (eqb-true mark 126 either) ∙ signs.1)
+            (eqb-true mark 126 either) ∙ (sign-parts word none).1)
 
 pub no-columns : (justify : Bool) (words : List SpacedText) → has_columns justify words ≡ false
     → All (λ w. is_column_word w.word ≡ false) words
@@ -103,12 +115,14 @@ pub opened-none : (starred : Bool) (words : List SpacedText)
     → begins_text starred (first_word words) ≡ true
     → All (λ w. is_column_word w.word ≡ false) words → opened words ≡ None
 opened-none starred words begins none =
-    ap (λ r. opened_by r words) (run-none (first_word words)
-    (text-no-sign starred (first_word words) begins))
-    ∙ ap (λ b. cond (b && not (has_pre_end words)) (Some Pre) None)
+    let no_sign = text-no-sign starred (first_word words) begins in
+    ap (λ r. opened_by r words) (run-none (first_word words) no_sign)
+    ∙ ap (λ b. cond (b && not (has_pre_end words)) (Some Pre)
+    (cond (opens_code (first_word words)) (Some Code) None))
     (none-any (λ w. contains (codes "<pre") w.word) words
     (All-weaker (λ w. is_column_word w.word ≡ false) (λ w. contains (codes "<pre") w.word ≡ false)
     (λ w no. (column-none w.word no).1) words none))
+    ∙ ap (λ b. cond b (Some Code) None) (no-code (first_word words) no_sign)
 
 -- ---- the state behind it
 

@@ -5,11 +5,11 @@ use Rattle.std.specs.Prelude.{◌∷◌, length, drop, slice_index, codes, bytes
 use Rattle.std.specs.Prelude.{if◌then◌else◌, Option, Some, None}
 use Rattle.std.specs.List.{list_any, prefix_len, starts_with}
 use Rattle.textwrap_marks.specs.Columns.{behind_white, marks_of}
-use Rattle.textwrap_marks.specs.Signs.{any_contains, first_word}
+use Rattle.textwrap_marks.specs.Signs.{any_contains, ends_code, first_word, opens_code}
 use Rattle.textwrap_marks.specs.Words.{has_byte, is_made_of, SpacedText}
 use Rattle.textwrap_marks.specs.declared.fences.Fence.{Fence}
 use Rattle.textwrap_marks.specs.declared.fences.FenceKind.{FenceKind}
-use Rattle.textwrap_marks.specs.declared.fences.FenceKind.TheVariants.{Pre, Run}
+use Rattle.textwrap_marks.specs.declared.fences.FenceKind.TheVariants.{Code, Pre, Run}
 use Rattle.textwrap_marks.specs.declared.fences.FenceRun.{FenceRun}
 
 -- three or more backticks or tildes, which a word begins with
@@ -36,7 +36,9 @@ has_backtick_behind len words =
 abbrev pub opened_by : Option FenceRun → List SpacedText → Option FenceKind
 opened_by (Some run) words =
     if run.mark == 96 && has_backtick_behind run.len words then None else Some (Run run)
-opened_by None words = if has_pre words && not (has_pre_end words) then Some Pre else None
+opened_by None words =
+    if has_pre words && not (has_pre_end words) then Some Pre
+    else if opens_code (first_word words) then Some Code else None
 
 abbrev pub opened : List SpacedText → Option FenceKind
 opened words = opened_by (run_of (first_word words)) words
@@ -60,6 +62,7 @@ is_closed_by fence hanging words = closes fence.kind
   where
     closes : FenceKind → Bool
     closes Pre = has_pre_end words
+    closes Code = ends_code (first_word words)
     closes (Run run) = bytes_eq (marks_of hanging) fence.marks && is_long_run run words
 
 -- a line without the marks of a fence ends it

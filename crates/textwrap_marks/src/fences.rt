@@ -8,7 +8,7 @@ ghost use Rattle.textwrap_marks.specs.Signs.{ArePlain};
 ghost use Rattle.textwrap_marks.specs.Words.{has_byte, spaced_view};
 
 use crate::columns::marks_of;
-use crate::signs::{any_contains, first_word};
+use crate::signs::{any_contains, ends_code, first_word, opens_code};
 use crate::words::{SpacedWord, first_byte, has_byte, is_made_of, split_white};
 use textwrap_text::starts::starts_with;
 
@@ -26,6 +26,8 @@ pub enum FenceKind {
     Run(FenceRun),
     /// `<pre`.
     Pre,
+    /// `@code` or `@verbatim` of Doxygen.
+    Code,
 }
 
 /// A fence that is open, and the marks that it stands behind.
@@ -114,6 +116,8 @@ fn opened_by(run: Option<FenceRun>, plain: bool, words: &[SpacedWord<'_>]) -> Op
         None => {
             if has_pre(plain, words) && !has_pre_end(words) {
                 Some(FenceKind::Pre)
+            } else if opens_code(first_word(words)) {
+                Some(FenceKind::Code)
             } else {
                 None
             }
@@ -137,6 +141,7 @@ pub fn is_closed_by(fence: &Fence, hanging: &str, words: &[SpacedWord<'_>]) -> b
 {
     match fence.kind {
         FenceKind::Pre => has_pre_end(words),
+        FenceKind::Code => ends_code(first_word(words)),
         FenceKind::Run(run) => {
             (marks_of(hanging) == fence.marks.as_str()) & is_long_run(run, words)
         }

@@ -3,14 +3,14 @@ ghost use Rattle.std.specs.Char.{is_ascii_lowercase};
 ghost use Rattle.std.specs.Prelude.{◌≡◌, ◌==◌, ◌||◌, true, false, length, map, chars, slice_get, slice_index};
 ghost use Rattle.std.specs.List.{list_all, list_any};
 ghost use Rattle.textwrap_marks.specs.Signs.{any_contains, ArePlain, begins_text, closes_block};
-ghost use Rattle.textwrap_marks.specs.Signs.{closes_early, ends_early, ends_sentence, first_word};
+ghost use Rattle.textwrap_marks.specs.Signs.{closes_early, ends_code, ends_early, ends_sentence, first_word};
 ghost use Rattle.textwrap_marks.specs.Signs.{front_of, has_columns, is_closing, is_column_byte};
 ghost use Rattle.textwrap_marks.specs.Signs.{is_column_word, is_comment_behind, is_directive};
 ghost use Rattle.textwrap_marks.specs.Signs.{is_end, is_gap, is_key};
 ghost use Rattle.textwrap_marks.specs.Signs.{is_key_character, is_rule, is_wide};
 ghost use Rattle.textwrap_marks.specs.Signs.{is_rule_characters, is_rule_of, is_sign, is_sign_byte};
 ghost use Rattle.textwrap_marks.specs.Signs.{last_of, last_white, last_word, may_go_on};
-ghost use Rattle.textwrap_marks.specs.Signs.{opens_paragraph};
+ghost use Rattle.textwrap_marks.specs.Signs.{opens_code, opens_paragraph};
 ghost use Rattle.textwrap_marks.specs.Marks.{is_bullet};
 ghost use Rattle.textwrap_marks.specs.Words.{has_letter, is_alphanumeric, spaced_view};
 
@@ -78,8 +78,29 @@ pub fn is_key(word: &str) -> bool
     }
 }
 
+/// Whether a word begins code in a comment that Doxygen reads: `@code`, `@verbatim`, or the same
+/// behind a backslash.
+pub fn opens_code(word: &str) -> bool
+    ensures { result ≡ opens_code word.now }
+{
+    starts_with(word, "@code")
+        | starts_with(word, "\\code")
+        | starts_with(word, "@verbatim")
+        | starts_with(word, "\\verbatim")
+}
+
+/// Whether a word ends such code.
+pub fn ends_code(word: &str) -> bool
+    ensures { result ≡ ends_code word.now }
+{
+    starts_with(word, "@endcode")
+        | starts_with(word, "\\endcode")
+        | starts_with(word, "@endverbatim")
+        | starts_with(word, "\\endverbatim")
+}
+
 /// Whether a word tells a program something of the lines around it: `[!NOTE]`, `[TOC]` and `:::note`
-/// of Markdown, `+build` of Go.
+/// of Markdown, `+build` of Go, and what begins code.
 fn is_directive(word: &str) -> bool
     ensures { result ≡ is_directive word.now }
 {
@@ -87,6 +108,7 @@ fn is_directive(word: &str) -> bool
         | starts_with(word, "[TOC]")
         | starts_with(word, ":::")
         | starts_with(word, "+build")
+        | opens_code(word)
 }
 
 /// Whether a word at the beginning of a line may mean something to a compiler, or in Markdown.

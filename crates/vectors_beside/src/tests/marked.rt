@@ -120,6 +120,12 @@ const ROWS: &[Row] = &[
         "> [!WARNING]\n> one two\n\n[TOC]\n:::note\none two\n\n:::\n",
     ),
     (
+        "code that Doxygen shows",
+        AT_16,
+        "/**\n * One\n * two\n * @code{.c}\n * f(1);\n * g(2);\n * @endcode\n * three\n * four\n */\n",
+        "/**\n * One two\n * @code{.c}\n * f(1);\n * g(2);\n * @endcode\n * three four\n */\n",
+    ),
+    (
         "constraints of Go",
         AT_16,
         "// +build linux\n// +build mips\n",

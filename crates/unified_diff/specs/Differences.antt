@@ -1,5 +1,6 @@
 -- What changes from one text to another, line by line, and how a unified diff writes it.
-use Rattle.std.specs.Prelude.{◌≡◌, ℕ, ◌+◌, ◌<◌, ◌≤◌, ◌==◌, Bool, true, false, List, [], ◌∷◌, ◌++◌}
+use Rattle.std.specs.Prelude.{◌≡◌, ℕ, ◌+◌, ◌/◌, ◌%◌, ◌<◌, ◌≤◌, ◌==◌, ◌||◌, Bool, true, false}
+use Rattle.std.specs.Prelude.{List, [], ◌∷◌, ◌++◌, nat_lt}
 use Rattle.std.specs.Prelude.{All, IsTrue, codes, decimal, filter, length, map, slice_index_or}
 use Rattle.std.specs.Prelude.{if◌then◌else◌, nat_eq, ⊤}
 use Rattle.std.specs.List.{ends_with, flat_map, list_any}
@@ -125,10 +126,13 @@ missing_feed line =
 abbrev pub line_text : SignedText → List ℕ
 line_text signed = sign_byte signed.sign ∷ (signed.line ++ missing_feed signed.line)
 
+-- how many lines; of one that is not said
+abbrev pub count_text : ℕ → List ℕ
+count_text len = if len == 1 then [] else codes "," ++ decimal len
+
 -- the number of the first line, and how many they are; of none, the number of the line before
 abbrev pub range_text : ℕ → ℕ → List ℕ
-range_text start len =
-    decimal (if len == 0 then start else start + 1) ++ (codes "," ++ decimal len)
+range_text start len = decimal (if len == 0 then start else start + 1) ++ count_text len
 
 -- the line that a hunk begins with, by its ranges in both texts
 abbrev pub head_text : List ℕ → List ℕ → List ℕ
@@ -140,13 +144,23 @@ hunk_text hunk =
     (range_text hunk.new_start (length (news hunk.lines)))
     ++ flat_map line_text hunk.lines
 
--- behind a name with a blank a tab says where it ends
-abbrev pub name_end : List ℕ → List ℕ
-name_end name = if list_any (λ c. c == 32) name then codes "\t\n" else codes "\n"
+-- a quote, a backslash and what is not shown stand in a quoted name by a backslash and three octal
+-- digits, as in C
+abbrev pub is_escaped : ℕ → Bool
+is_escaped c = c == 34 || c == 92 || c == 127 || nat_lt c 32
+
+abbrev pub quoted_byte : ℕ → List ℕ
+quoted_byte c =
+    if is_escaped c then 92 ∷ (48 + c / 64) ∷ (48 + c / 8 % 8) ∷ (48 + c % 8) ∷ [] else c ∷ []
+
+-- a name with such a byte is quoted; behind another one with a blank a tab says where it ends
+abbrev pub name_text : List ℕ → List ℕ
+name_text name =
+    if list_any is_escaped name then codes "\"" ++ (flat_map quoted_byte name ++ codes "\"\n")
+    else name ++ (if list_any (λ c. c == 32) name then codes "\t\n" else codes "\n")
 
 abbrev pub names_text : List ℕ → List ℕ
-names_text name =
-    codes "--- " ++ (name ++ (name_end name ++ (codes "+++ " ++ (name ++ name_end name))))
+names_text name = codes "--- " ++ (name_text name ++ (codes "+++ " ++ name_text name))
 
 -- a text is that of a diff of two texts, under this name
 abbrev pub IsDiffText : List ℕ → List ℕ → List ℕ → List ℕ → Type 0

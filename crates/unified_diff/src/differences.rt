@@ -3,10 +3,11 @@
 ghost use Rattle.std.specs.Prelude.{◌≡◌, ◌↔◌, ◌+◌, ◌<◌, ◌≤◌, ◌++◌, ◌∷◌, ◌-◌, ◌^◌, ℕ, length, map};
 ghost use Rattle.std.specs.Prelude.{drop, take, not};
 ghost use Rattle.std.specs.Prelude.{IfNone, IfOk, IfSome, IsTrue, OnOk};
-ghost use Rattle.std.specs.List.{flat_map};
+ghost use Rattle.std.specs.List.{flat_map, list_any};
 ghost use Rattle.unified_diff.specs.Differences.{AreSameAt, IsDiffText, IsLineAt, IsNearIf};
 ghost use Rattle.unified_diff.specs.Differences.{ArePushed, head_text, is_change, is_new, is_old};
-ghost use Rattle.unified_diff.specs.Differences.{line_text, missing_feed, name_end, names_text};
+ghost use Rattle.unified_diff.specs.Differences.{is_escaped, line_text, missing_feed, name_text};
+ghost use Rattle.unified_diff.specs.Differences.{names_text, quoted_byte};
 ghost use Rattle.unified_diff.specs.Differences.{news, olds, range_text, sign_byte, signed_text};
 ghost use Rattle.unified_diff.specs.Differences.{signed_view, text_lines};
 
@@ -337,23 +338,71 @@ fn new_len(lines: &[SignedLine<'_>]) -> usize
 fn push_names<A: Allocator>(text: &mut Vec<u8, A>, name: &str) -> Result<(), AllocError>
     ensures { OnOk result (text.new.items ≡ text.old.items ++ names_text name.now) }
 {
-    let end = name_end(name);
+    let name = name.as_bytes();
     text.extend_from_slice(b"--- ")?;
-    text.extend_from_slice(name.as_bytes())?;
-    text.extend_from_slice(end)?;
+    push_name(text, name)?;
     text.extend_from_slice(b"+++ ")?;
-    text.extend_from_slice(name.as_bytes())?;
-    text.extend_from_slice(end)
+    push_name(text, name)
 }
 
-/// What stands behind a name: a line feed, and a tab before it where the name has a blank.
-fn name_end(name: &str) -> &'static [u8]
-    ensures { result.now ≡ name_end name.now }
+/// Adds a name and a line feed. A name is quoted as in C where it has a byte that both `patch` and
+/// `git apply` would read otherwise; behind any other with a blank stands a tab.
+fn push_name<A: Allocator>(text: &mut Vec<u8, A>, name: &[u8]) -> Result<(), AllocError>
+    ensures { OnOk result (text.new.items ≡ text.old.items ++ name_text name.now) }
 {
-    if name.as_bytes().contains(&b' ') {
-        b"\t\n"
+    if has_escaped(name) {
+        text.push(b'"')?;
+        push_quoted(text, name)?;
+        return text.extend_from_slice(b"\"\n");
+    }
+    text.extend_from_slice(name)?;
+    text.extend_from_slice(if name.contains(&b' ') { b"\t\n" } else { b"\n" })
+}
+
+/// Whether a name has a byte that stands in a quoted name by its number.
+fn has_escaped(name: &[u8]) -> bool
+    ensures { result ≡ list_any is_escaped name.now }
+{
+    for byte in name {
+        if is_escaped(*byte) {
+            return true;
+        }
+    }
+    false
+}
+
+/// Whether a byte stands in a quoted name by its number: a quote, a backslash, or one that is not
+/// shown.
+fn is_escaped(byte: u8) -> bool
+    ensures { result ≡ is_escaped byte }
+{
+    (byte == b'"') | (byte == b'\\') | (byte == 127) | (byte < b' ')
+}
+
+/// Adds the bytes of a quoted name.
+fn push_quoted<A: Allocator>(text: &mut Vec<u8, A>, name: &[u8]) -> Result<(), AllocError>
+    ensures { OnOk result (text.new.items ≡ text.old.items ++ flat_map quoted_byte name.now) }
+{
+    for byte in name {
+        push_quoted_byte(text, *byte)?;
+    }
+    Ok(())
+}
+
+/// Adds a byte of a quoted name.
+fn push_quoted_byte<A: Allocator>(text: &mut Vec<u8, A>, byte: u8) -> Result<(), AllocError>
+    ensures { OnOk result (text.new.items ≡ text.old.items ++ quoted_byte byte) }
+{
+    if is_escaped(byte) {
+        text.extend_from_slice(&[
+            b'\\',
+            b'0' + byte / 64,
+            b'0' + byte / 8 % 8,
+            b'0' + byte % 8,
+        ])
     } else {
-        b"\n"
+        text.push(byte)?;
+        Ok(())
     }
 }
 
@@ -377,7 +426,7 @@ fn push_head<A: Allocator>(
 }
 
 /// Adds the number of the first of so many lines that stand behind so many others, and how many
-/// they are. Of no lines, it is the number of the line before them.
+/// they are, if not one. Of no lines, it is the number of the line before them.
 fn push_range<A: Allocator>(
     text: &mut Vec<u8, A>,
     start: usize,
@@ -388,6 +437,9 @@ fn push_range<A: Allocator>(
 {
     let first = if len == 0 { start } else { start + 1 };
     text.extend_from_slice(Buffer::new().format(first).as_bytes())?;
+    if len == 1 {
+        return Ok(());
+    }
     text.push(b',')?;
     text.extend_from_slice(Buffer::new().format(len).as_bytes())
 }

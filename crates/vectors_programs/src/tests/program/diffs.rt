@@ -17,7 +17,7 @@ use unified_diff::differences::diff_text;
 const OF_INPUT: &[(&str, &str, &str)] = &[
     ("no change", "one two\nthree four\n", ""),
     ("no input", "", ""),
-    ("one line", "one two three four\n", "--- -\n+++ -\n@@ -1,1 +1,2 @@\n-one two three four\n+one two\n+three four\n"),
+    ("one line", "one two three four\n", "--- -\n+++ -\n@@ -1 +1,2 @@\n-one two three four\n+one two\n+three four\n"),
     ("lines before and behind", "- a\n\n- b\n\n- c\n\n- one two three\n\n- d\n\n- e\n\n- f\n", "\
 --- -\n+++ -\n@@ -4,7 +4,8 @@\n \n - c\n \n-- one two three\n+- one two\n+  three\n \n - d\n \n"),
     ("two hunks", "one two three four\n\n- a\n- b\n- c\n- d\n- e\n\nfive six seven\n", "\
@@ -25,7 +25,7 @@ const OF_INPUT: &[(&str, &str, &str)] = &[
     ("one hunk, where six lines lie between", "one two three four\n\n- a\n- b\n- c\n- d\n\nfive six seven\n", "\
 --- -\n+++ -\n@@ -1,8 +1,10 @@\n-one two three four\n+one two\n+three four\n \n - a\n - b\n - c\n - d\n \n-five six seven\n+five six\n+seven\n"),
     ("no line feed at the end", "one two three four", "\
---- -\n+++ -\n@@ -1,1 +1,2 @@\n-one two three four\n\\ No newline at end of file\n+one two\n+three four\n\\ No newline at end of file\n"),
+--- -\n+++ -\n@@ -1 +1,2 @@\n-one two three four\n\\ No newline at end of file\n+one two\n+three four\n\\ No newline at end of file\n"),
     ("none behind a line that stays", "one two three four\n\nfive", "\
 --- -\n+++ -\n@@ -1,3 +1,4 @@\n-one two three four\n+one two\n+three four\n \n five\n\\ No newline at end of file\n"),
     ("CR LF", "one two three four\r\n\r\nfive\r\n", "\
@@ -44,7 +44,7 @@ fn diffs_of_the_standard_input(rt: HostRuntime) {
 const OF_TEXTS: &[(&str, &str, &str, &str)] = &[
     ("the same", "a\nb", "a\nb", ""),
     ("a text comes", "", "a\nb\n", "@@ -0,0 +1,2 @@\n+a\n+b\n"),
-    ("a text goes", "a", "", "@@ -1,1 +0,0 @@\n-a\n\\ No newline at end of file\n"),
+    ("a text goes", "a", "", "@@ -1 +0,0 @@\n-a\n\\ No newline at end of file\n"),
     ("a line feed comes", "a\nb", "a\nb\n", "@@ -1,2 +1,2 @@\n a\n-b\n\\ No newline at end of file\n+b\n"),
     ("a line feed goes", "a\nb\n", "a\nb", "@@ -1,2 +1,2 @@\n a\n-b\n+b\n\\ No newline at end of file\n"),
     ("a line comes in front", "a\nb\nc\nd\n", "x\na\nb\nc\nd\n", "@@ -1,3 +1,4 @@\n+x\n a\n b\n c\n"),
@@ -59,6 +59,30 @@ fn diffs_of_two_texts(rt: HostRuntime) {
         let (names, hunks) = found.split_at(found.len().min(18));
         assert_bytes(&rt, rule, names, b"--- a b\t\n+++ a b\t\n");
         assert_bytes(&rt, rule, hunks, diff.as_bytes());
+    }
+}
+
+/// What a row shows, a name, and how it is written.
+const NAMES: &[(&str, &str, &str)] = &[
+    (
+        "what is not ASCII is written as it is",
+        "\u{e4}b",
+        "\u{e4}b",
+    ),
+    ("a tab and a line feed", "a\tb\nc", "\"a\\011b\\012c\""),
+    ("a quote in front", "\"a b", "\"\\042a b\""),
+    ("a backslash", "a\\b", "\"a\\134b\""),
+    ("a byte that is not shown", "a\u{7f}", "\"a\\177\""),
+];
+
+#[test]
+fn names_are_quoted_as_in_c(rt: HostRuntime) {
+    for &(rule, name, written) in NAMES {
+        let found = diff_text(rt.alloc(), name, b"a\n", b"b\n").expect(&rt, rule);
+        let diff = format!(in rt.alloc();
+            "--- {written}\n+++ {written}\n@@ -1 +1 @@\n-a\n+b\n"
+        ).expect(&rt, rule);
+        assert_bytes(&rt, rule, &found, diff.as_bytes());
     }
 }
 
@@ -82,11 +106,10 @@ const FILES: &[Given] = &[
     ("no text", b"one \xFF", FileFault::Nothing),
 ];
 
-const DIFF_OF_A: &str =
-    "--- a\n+++ a\n@@ -1,1 +1,2 @@\n-one two three four\n+one two\n+three four\n";
+const DIFF_OF_A: &str = "--- a\n+++ a\n@@ -1 +1,2 @@\n-one two three four\n+one two\n+three four\n";
 
 const DIFF_OF_B: &str =
-    "--- my b\t\n+++ my b\t\n@@ -1,1 +1,2 @@\n-five six seven\n+five six\n+seven\n";
+    "--- my b\t\n+++ my b\t\n@@ -1 +1,2 @@\n-five six seven\n+five six\n+seven\n";
 
 /// A rule, the words, what goes wrong with the output, the output in two parts, the messages, and the
 /// status.

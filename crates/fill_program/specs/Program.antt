@@ -5,12 +5,12 @@ use Rattle.text_filters.specs.Arguments.{width_in}
 use Rattle.text_filters.specs.Messages.{AboutText, joined_texts, value_texts}
 use Rattle.text_filters.specs.Program.{IsFault, OnlySays, Says, Serves, World}
 use Rattle.text_filters.specs.Streams.{StreamFaults}
-use Rattle.text_filters.specs.Tool as tool
+use Rattle.text_filters.specs.Tool.{ExecutesTool}
 use Rattle.text_filters.specs.Tool.{ToolText}
 use Rattle.text_filters.specs.declared.program.Ending.{Ending}
 use Rattle.fill_program.specs.Arguments.{IsRequest, fill_app, help_text, version_text}
 use Rattle.fill_program.specs.Filling.{filling}
-use Rattle.fill_program.specs.Words.{spelled_out}
+use Rattle.fill_program.specs.Words.{spelled_for_fill}
 use Rattle.fill_program.specs.declared.arguments.Request.{Request}
 
 abbrev pub fill_about : AboutText
@@ -36,10 +36,10 @@ abbrev pub fill_tool : ToolText
 fill_tool = record {
   about = fill_about;
   app = fill_app;
-  spelled = spelled_out;
+  spelled = spelled_for_fill;
   Serves = ServesRows;
 }
 
 -- the whole run over these words
-abbrev pub Executes : StreamFaults → List (List ℕ) → World → World → Ending → Type 0
-Executes faults = tool.Executes faults fill_tool
+abbrev pub ExecutesFill : StreamFaults → List (List ℕ) → World → World → Ending → Type 0
+ExecutesFill faults = ExecutesTool faults fill_tool

@@ -5,8 +5,8 @@ use Rattle.std.specs.Str.{all_ascii_digits}
 use Rattle.text_filters.specs.Words as filters
 
 -- one or more ASCII digits
-abbrev pub is_number : List ℕ → Bool
-is_number word = nat_lt 0 (length word) && all_ascii_digits word
+abbrev pub is_digit_word : List ℕ → Bool
+is_digit_word word = nat_lt 0 (length word) && all_ascii_digits word
 
 -- the flag of the algorithm of a name
 abbrev pub flag_of : List ℕ → Option (List ℕ)
@@ -25,8 +25,8 @@ spelled_algorithm [] = []
 spelled_algorithm (name ∷ rest) = flagged (flag_of name) rest (name ∷ rest)
 
 -- a number that comes first is the width
-abbrev pub spelled_out : List (List ℕ) → List (List ℕ)
-spelled_out [] = []
-spelled_out (word ∷ words) =
-    if is_number word then codes "-w" ∷ word ∷ spelled_algorithm words
+abbrev pub spelled_for_fill : List (List ℕ) → List (List ℕ)
+spelled_for_fill [] = []
+spelled_for_fill (word ∷ words) =
+    if is_digit_word word then codes "-w" ∷ word ∷ spelled_algorithm words
     else filters.spelled_out false (word ∷ words)

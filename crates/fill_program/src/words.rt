@@ -2,7 +2,7 @@
 ghost use Rattle.std.specs.Prelude.{◌≡◌, ◌++◌, map, string_bytes, IfOk, OnOk, Some};
 ghost use Rattle.std.specs.Prelude.{false, true, option_map};
 ghost use Rattle.std.specs.Str.{all_ascii_digits};
-ghost use Rattle.fill_program.specs.Words.{flag_of, is_number, spelled_algorithm, spelled_out};
+ghost use Rattle.fill_program.specs.Words.{flag_of, is_digit_word, spelled_algorithm, spelled_for_fill};
 
 use std::alloc::{AllocError, Global};
 use text_filters::words::push_spelled_out;
@@ -12,7 +12,7 @@ use text_filters::words::push_spelled_out;
 /// `-72` as `-w 72`.
 pub fn spelled_out<'a>(alloc: Global, words: &'a [String]) -> Result<Vec<&'a str>, AllocError>
     ensures { IfOk result (λ spelled. map (λ word. word.now) spelled.items
-        ≡ spelled_out (map string_bytes words.now)) }
+        ≡ spelled_for_fill (map string_bytes words.now)) }
 {
     let mut spelled = Vec::new(alloc);
     match words {
@@ -28,7 +28,7 @@ pub fn spelled_out<'a>(alloc: Global, words: &'a [String]) -> Result<Vec<&'a str
 
 /// Whether a word is one or more ASCII digits.
 fn is_number(word: &str) -> bool
-    ensures { result ≡ is_number word.now }
+    ensures { result ≡ is_digit_word word.now }
 {
     !word.is_empty() && is_all_digits(word.as_bytes())
 }

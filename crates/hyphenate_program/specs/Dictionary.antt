@@ -32,8 +32,8 @@ IsDictionary bytes (Ok patterns) = IsSaid bytes (patterns_view patterns)
 IsDictionary bytes (Err failure) = IsNoDictionary bytes failure
 
 -- the minima that are asked for, and the dictionary's own for those that are not
-abbrev pub with_minima : Option ℕ → Option ℕ → Hyphenation → Hyphenation
-with_minima left right h =
+abbrev pub with_asked_minima : Option ℕ → Option ℕ → Hyphenation → Hyphenation
+with_asked_minima left right h =
     record h { left = unwrap_or left h.left; right = unwrap_or right h.right }
 
 -- ---- what is read

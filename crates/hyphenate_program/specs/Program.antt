@@ -4,9 +4,9 @@ use Rattle.std.specs.Prelude.{IfSome}
 use Rattle.clap.specs.Words.{Row}
 use Rattle.text_filters.specs.Files.{bytes_at}
 use Rattle.text_filters.specs.Messages.{AboutText, joined_texts, message_line, value_texts}
-use Rattle.text_filters.specs.Program.{IsFault, OnlySays, Reports, Says, Serves, World}
+use Rattle.text_filters.specs.Program.{IsFault, OnlySays, ReportsInput, Says, Serves, World}
 use Rattle.text_filters.specs.Streams.{StreamFaults}
-use Rattle.text_filters.specs.Tool as tool
+use Rattle.text_filters.specs.Tool.{ExecutesTool}
 use Rattle.text_filters.specs.Tool.{ToolText}
 use Rattle.text_filters.specs.declared.faults.Fault.TheVariants.{Memory}
 use Rattle.text_filters.specs.declared.faults.Reason.{Reason}
@@ -15,7 +15,7 @@ use Rattle.text_filters.specs.declared.program.Ending.{Ending}
 use Rattle.textwrap_hyphens.specs.Hyphenation.{Hyphenation}
 use Rattle.hyphenate_program.specs.Arguments.{IsRequest, help_text, hyphenate_app, name_of}
 use Rattle.hyphenate_program.specs.Arguments.{number_if_given, version_text}
-use Rattle.hyphenate_program.specs.Dictionary.{ReadsNone, ReadsSaid, with_minima}
+use Rattle.hyphenate_program.specs.Dictionary.{ReadsNone, ReadsSaid, with_asked_minima}
 use Rattle.hyphenate_program.specs.Texts.{hyphenating_by}
 use Rattle.hyphenate_program.specs.declared.arguments.Count.{Count}
 use Rattle.hyphenate_program.specs.declared.arguments.Request.{Request}
@@ -40,12 +40,12 @@ SaysWrong messages name line shown old new ending =
     × Says messages (message_line hyphenate_about name
     (codes "line " ∷ decimal line ∷ codes ": " ∷ text ∷ [])) old new ending.said
     × IsFault ending)
-    ⊎ Reports messages hyphenate_about name (Err Memory) old new ending
+    ⊎ ReportsInput messages hyphenate_about name (Err Memory) old new ending
 
 abbrev pub Explains : (Reason → Type 0) → List ℕ → Failure → Option (List ℕ) → Option (List ℕ)
     → Ending → Type 0
 Explains messages name (Unread fault) old new ending =
-    Reports messages hyphenate_about name (Err fault) old new ending
+    ReportsInput messages hyphenate_about name (Err fault) old new ending
 Explains messages name (Wrong line fault) old new ending =
     SaysWrong messages name line None old new ending
 
@@ -57,7 +57,8 @@ abbrev pub Hyphenates : StreamFaults → Request → World → World → Ending 
 Hyphenates faults request old new ending =
     ((h : Hyphenation) × ReadsSaid (bytes_at old.files request.dictionary.now) h
     × Serves faults hyphenate_about
-    (hyphenating_by request.width (with_minima request.left request.right h)) request.inputs old new
+    (hyphenating_by request.width (with_asked_minima request.left request.right h)) request.inputs
+    old new
     ending)
     ⊎ ((failure : Failure) × ReadsNone (bytes_at old.files request.dictionary.now) failure
     × OnlySays old new
@@ -82,5 +83,5 @@ hyphenate_tool = record {
 }
 
 -- the whole run over these words
-abbrev pub Executes : StreamFaults → List (List ℕ) → World → World → Ending → Type 0
-Executes faults = tool.Executes faults hyphenate_tool
+abbrev pub ExecutesHyphenate : StreamFaults → List (List ℕ) → World → World → Ending → Type 0
+ExecutesHyphenate faults = ExecutesTool faults hyphenate_tool

@@ -9,7 +9,7 @@ use Rattle.textwrap_words.specs.WrapAlgorithms.{Greedy}
 use Rattle.textwrap_layout.specs.Filling.{IsFilled}
 use Rattle.textwrap_layout.specs.Options.{settings_at}
 use Rattle.textwrap_hyphens.specs.Hyphenation.{Hyphenation}
-use Rattle.textwrap_hyphens.specs.Points.{points_of}
+use Rattle.textwrap_hyphens.specs.Points.{hyphenation_points}
 use Rattle.textwrap_hyphens.specs.Table.{held}
 use Rattle.text_filters.specs.Filter.{Work}
 use Rattle.textwrap_plain.specs.Hyphenated.{DividesAtPoints}
@@ -21,7 +21,7 @@ hyphenated_at points word = join_with_byte hyphen (parts_onward 0 points word)
 
 -- a word with a hyphen at each of its points, and a line feed
 abbrev pub hyphenated_word : Hyphenation → List ℕ → List ℕ
-hyphenated_word h word = hyphenated_at (points_of h word) word ++ line_feed ∷ []
+hyphenated_word h word = hyphenated_at (hyphenation_points h word) word ++ line_feed ∷ []
 
 -- the lines of a text, each as a word
 abbrev pub hyphenated_words : Hyphenation → List ℕ → List ℕ

@@ -2,7 +2,7 @@
 ghost use Rattle.std.specs.Prelude.{◌≡◌};
 ghost use Rattle.text_filters.specs.Files.{bytes_at};
 ghost use Rattle.textwrap_hyphens.specs.Table.{patterns_view};
-ghost use Rattle.hyphenate_program.specs.Dictionary.{IsDictionary, ReadsDictionary, with_minima};
+ghost use Rattle.hyphenate_program.specs.Dictionary.{IsDictionary, ReadsDictionary, with_asked_minima};
 
 use std::alloc::Global;
 use text_filters::faults::{Fault, opening_fault};
@@ -56,7 +56,7 @@ fn dictionary_of(alloc: Global, bytes: &[u8]) -> Result<Patterns, Failure>
 
 /// The dictionary with as many letters before a point and behind it as are asked for.
 pub(crate) fn with_minima(patterns: Patterns, left: Option<usize>, right: Option<usize>) -> Patterns
-    ensures { patterns_view result ≡ with_minima left right (patterns_view patterns) }
+    ensures { patterns_view result ≡ with_asked_minima left right (patterns_view patterns) }
 {
     let table = patterns.table();
     let left = left.unwrap_or(table.left());

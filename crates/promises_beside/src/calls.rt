@@ -1,5 +1,5 @@
 //! What is written for a caller in C.
-ghost use Rattle.textwrap_calls.specs.Options.{IsFilledBy, ArePlacedBy};
+ghost use Rattle.textwrap_calls.specs.Options.{IsFilledByOptions, ArePlacedBy};
 ghost use Rattle.textwrap_calls.specs.Room.{WritesLong};
 ghost use Rattle.textwrap_calls.specs.Wrapping.{WritesLongLines};
 
@@ -16,7 +16,7 @@ pub fn written_text(
     room: &mut [u8],
     len: &mut usize,
 ) -> u32
-    ensures filled { WritesLong (IsFilledBy options.now text.now)
+    ensures filled { WritesLong (IsFilledByOptions options.now text.now)
         result room.old room.new len.old len.new }
 {
     textwrap_fill(alloc, text, options, room, len)

@@ -1,7 +1,7 @@
 //! The statuses that the programs end with.
 ghost use Rattle.std.specs.Prelude.{map, string_bytes};
-ghost use Rattle.hyphenate_program.specs.Program as hyphenating;
-ghost use Rattle.reflow_program.specs.Program as reflowing;
+ghost use Rattle.hyphenate_program.specs.Program.{ExecutesHyphenate};
+ghost use Rattle.reflow_program.specs.Program.{ExecutesReflow};
 ghost use Rattle.text_filters.specs.Streams.{faults_of};
 ghost use Rattle.textwrap_program.specs.Arguments.{request_of};
 ghost use Rattle.textwrap_program.specs.Program.{Executes};
@@ -48,7 +48,7 @@ pub fn ending_of_reflow<F: Files, R: ReadWhole, W: WriteWhole, M: WriteWhole>(
     output: &mut W,
     messages: &mut M,
 ) -> Ending
-    ensures { reflowing.Executes (faults_of R.faults W.faults M.faults) (map string_bytes words.now)
+    ensures { ExecutesReflow (faults_of R.faults W.faults M.faults) (map string_bytes words.now)
         (record {
           unread = R.remaining reader.old;
           files = F.past files.old;
@@ -75,7 +75,7 @@ pub fn ending_of_hyphenate<F: Files, R: ReadWhole, W: WriteWhole, M: WriteWhole>
     output: &mut W,
     messages: &mut M,
 ) -> Ending
-    ensures { hyphenating.Executes (faults_of R.faults W.faults M.faults) (map string_bytes words.now)
+    ensures { ExecutesHyphenate (faults_of R.faults W.faults M.faults) (map string_bytes words.now)
         (record {
           unread = R.remaining reader.old;
           files = F.past files.old;

@@ -132,8 +132,8 @@ abbrev pub lines_in_text : Option Text → Option (Option LineRange)
 lines_in_text None = Some None
 lines_in_text (Some text) = option_map (λ range. Some range) (range_of text)
 
-abbrev pub lines_in : List Row → Option (Option LineRange)
-lines_in rows = lines_in_text (first_of (codes "lines") rows)
+abbrev pub line_range_in : List Row → Option (Option LineRange)
+line_range_in rows = lines_in_text (first_of (codes "lines") rows)
 
 -- where only some lines are to change, no ending does
 abbrev pub ending_beside : Option LineRange → Option LineEnding → Option LineEnding
@@ -164,7 +164,7 @@ pub record AreOptions (rows : List Row) (lines : Option LineRange) (options : Re
 
 -- these matches mean this request
 pub record IsRequest (rows : List Row) (request : Request) : Type 0 where
-  pub lines : lines_in rows ≡ Some request.layout.lines
+  pub lines : line_range_in rows ≡ Some request.layout.lines
   pub options : AreOptions rows request.layout.lines request.layout.options
   pub mode : request.inputs.mode ≡ mode_in rows
   pub names : map (λ name. name.now) request.inputs.names.now ≡ texts_in (codes "FILE") rows
@@ -173,4 +173,4 @@ pub record IsRequest (rows : List Row) (request : Request) : Type 0 where
 -- these matches mean no request, since they have no width or no lines
 abbrev pub IsUnfit : List Row → Unfit → Type 0
 IsUnfit rows unfit.Width = width_in rows ≡ None
-IsUnfit rows unfit.Lines = lines_in rows ≡ None
+IsUnfit rows unfit.Lines = line_range_in rows ≡ None

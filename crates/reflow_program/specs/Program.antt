@@ -4,7 +4,7 @@ use Rattle.clap.specs.Words.{Row}
 use Rattle.text_filters.specs.Messages.{AboutText, joined_texts, value_texts}
 use Rattle.text_filters.specs.Program.{IsFault, OnlySays, Says, Serves, World}
 use Rattle.text_filters.specs.Streams.{StreamFaults}
-use Rattle.text_filters.specs.Tool as tool
+use Rattle.text_filters.specs.Tool.{ExecutesTool}
 use Rattle.text_filters.specs.Tool.{ToolText}
 use Rattle.text_filters.specs.Words.{spelled_out}
 use Rattle.text_filters.specs.declared.program.Ending.{Ending}
@@ -47,5 +47,5 @@ reflow_tool = record {
 }
 
 -- the whole run over these words
-abbrev pub Executes : StreamFaults → List (List ℕ) → World → World → Ending → Type 0
-Executes faults = tool.Executes faults reflow_tool
+abbrev pub ExecutesReflow : StreamFaults → List (List ℕ) → World → World → Ending → Type 0
+ExecutesReflow faults = ExecutesTool faults reflow_tool

@@ -1,11 +1,12 @@
 //! The program's arguments.
 ghost use Rattle.std.specs.Prelude.{◌≡◌, IfOk, IfErr, false};
 ghost use Rattle.clap.specs.Words.{app_of, found_of, rows_of, rule_of};
-ghost use Rattle.reflow_program.specs.Arguments.{ending_beside, lines_in, lines_rule, range_between, range_of};
+ghost use Rattle.reflow_program.specs.Arguments.{ending_beside, line_range_in, lines_rule};
+ghost use Rattle.reflow_program.specs.Arguments.{range_between, range_of};
 ghost use Rattle.reflow_program.specs.Arguments.{IsRequest, IsUnfit, algorithm_in, ending_in, mode_in};
 ghost use Rattle.reflow_program.specs.Arguments.{quiet_rule, reflow_app, text_rule};
 
-use crate::layout::Layout;
+use crate::layout::Reflowing;
 use clap::{Arg, ArgAction, ArgMatches, Command};
 use std::alloc::{AllocError, Global};
 use text_filters::arguments::{
@@ -68,7 +69,7 @@ pub const VERSION: &str = "reflow 2.0.0\n";
 #[derive(Clone, Copy)]
 pub struct Request<'a> {
     /// How texts are laid out.
-    pub layout: Layout<'a>,
+    pub layout: Reflowing<'a>,
     /// The inputs.
     pub inputs: Inputs<'a>,
 }
@@ -189,7 +190,7 @@ pub fn request_in<'m, 'a>(matches: &'m ArgMatches<'a>) -> Result<Request<'m>, Un
         justify: is_set(matches, "justify"),
     };
     Ok(Request {
-        layout: Layout { options, lines },
+        layout: Reflowing { options, lines },
         inputs: Inputs {
             mode: mode_of(matches),
             names: texts_of(matches, "FILE"),
@@ -200,7 +201,7 @@ pub fn request_in<'m, 'a>(matches: &'m ArgMatches<'a>) -> Result<Request<'m>, Un
 
 /// The lines at which paragraphs are filled, if they are given and are such.
 fn lines(matches: &ArgMatches<'_>) -> Option<Option<LineRange>>
-    ensures { result ≡ lines_in (rows_of (found_of matches.now)) }
+    ensures { result ≡ line_range_in (rows_of (found_of matches.now)) }
 {
     match text_of(matches, "lines") {
         Some(text) => match range_of(text) {

@@ -9,14 +9,14 @@ use textwrap_words::wrap_algorithms::WrapError;
 
 /// How a text is laid out.
 #[derive(Clone, Copy)]
-pub struct Layout<'a> {
+pub struct Reflowing<'a> {
     /// How its paragraphs are filled.
     pub options: ReflowOptions<'a>,
     /// The lines at which they are, if these are named.
     pub lines: Option<LineRange>,
 }
 
-impl Filter for Layout<'_> {
+impl Filter for Reflowing<'_> {
     ghost work = { λ layout. reflowing layout };
 
     fn filter(&self, alloc: Global, text: &str) -> Result<Made, AllocError> {
@@ -32,7 +32,7 @@ impl Filter for Layout<'_> {
 ///
 /// # Errors
 /// [`WrapError::Memory`] where memory runs out, and no other.
-fn lay_out(alloc: Global, text: &str, layout: &Layout<'_>) -> Result<String, WrapError>
+fn lay_out(alloc: Global, text: &str, layout: &Reflowing<'_>) -> Result<String, WrapError>
     ensures { IfOk result (λ output. LaysOut layout.now text.now (string_bytes output)) }
 {
     match &layout.lines {

@@ -8,18 +8,20 @@ use Rattle.std.specs.Result.{is_ok}
 use Rattle.std.specs.Prelude.{⊤}
 use Rattle.std.specs.Str.{bytes_eq}
 use Rattle.text_filters.proofs.RightsLemmas.{HasKeptRights-given}
-use Rattle.text_filters.specs.Files.{Absent, Changes, Draft, Drafts, Each, Ends, Entry, File, Folder}
+use Rattle.text_filters.specs.Files.{Absent, Changes, Draft, Drafts, Each, Ends, FolderEntry, File}
+use Rattle.text_filters.specs.Files.{Folder}
 use Rattle.text_filters.specs.Files.{HasNew, HasReplaced, HasRights, IsAside, IsDrafted, IsEmptyDraft}
-use Rattle.text_filters.specs.Files.{IsGone, IsKept, IsKeptAside, IsGivenRights, IsOldOrNew, KeepsFiles}
+use Rattle.text_filters.specs.Files.{IsGone, IsFolderKept, IsKeptAside, IsGivenRights, IsOldOrNew}
+use Rattle.text_filters.specs.Files.{KeepsFiles}
 use Rattle.text_filters.specs.Files.{LeftOver, Link, Makes, Other, Passes, Puts, PutsEmpty, PutsOver}
-use Rattle.text_filters.specs.Files.{RemovesLeftOver, ReplacesPlace, SameBut, Steps, given_group}
+use Rattle.text_filters.specs.Files.{RemovesLeftOver, ReplacesPlace, SameBut, FolderSteps, given_group}
 use Rattle.text_filters.specs.Files.{given_mode, given_owner, refused_group, refused_owner}
 use Rattle.text_filters.specs.Rights.{Granted, HasKeptRights, kept}
 use Rattle.text_filters.specs.declared.rights.Rights.{Rights}
 
 -- ---- entries
 
-gone-aside : (entry : Entry) → IsGone entry → IsAside entry
+gone-aside : (entry : FolderEntry) → IsGone entry → IsAside entry
 gone-aside Absent gone = tt
 gone-aside LeftOver gone = tt
 gone-aside (File bytes rights) gone = absurd gone
@@ -27,21 +29,21 @@ gone-aside (Link target) gone = absurd gone
 gone-aside Draft gone = absurd gone
 gone-aside Other gone = absurd gone
 
-same-aside : (old new : Entry) → SameBut IsGone old new → SameBut IsAside old new
+same-aside : (old new : FolderEntry) → SameBut IsGone old new → SameBut IsAside old new
 same-aside old new (inl same) = inl same
 same-aside old new (inr (was, is)) = inr (gone-aside old was, gone-aside new is)
 
-gone-before : (old new : Entry) → SameBut IsGone old new → IsGone new → IsGone old
+gone-before : (old new : FolderEntry) → SameBut IsGone old new → IsGone new → IsGone old
 gone-before old new (inl same) gone = subst IsGone same gone
 gone-before old new (inr (was, is)) gone = was
 
 -- a name that was left alone
-onward : (old mid new : Entry) → SameBut IsGone old mid → new ≡ mid → SameBut IsGone old new
+onward : (old mid new : FolderEntry) → SameBut IsGone old mid → new ≡ mid → SameBut IsGone old new
 onward old mid new (inl first) same = inl (same ∙ first)
 onward old mid new (inr (was, is)) same = inr (was, subst IsGone (sym same) is)
 
 -- a file was one before
-file-before : (old new : Entry) (bytes : List ℕ) (rights : Granted) → SameBut IsGone old new
+file-before : (old new : FolderEntry) (bytes : List ℕ) (rights : Granted) → SameBut IsGone old new
     → new ≡ File bytes rights → new ≡ old
 file-before old new bytes rights (inl same) is = same
 file-before old new bytes rights (inr (was, gone)) is = absurd (subst IsGone is gone)
@@ -57,7 +59,7 @@ same-name one other = split (bytes_eq one other) refl
 
 -- one step more, where what was so far and what is now leads to what is then
 goes_on : (stop stop' end end' step : Folder → Folder → Type 0) (old mid new : List Folder)
-    → Passes stop old mid → Ends end old mid → Steps step mid new
+    → Passes stop old mid → Ends end old mid → FolderSteps step mid new
     → ((folder s : Folder) → stop folder s → stop' folder s)
     → ((folder now next : Folder) → end folder now → step now next
     → stop' folder next × end' folder next)
@@ -84,9 +86,9 @@ KeepsFiles-refl (folder ∷ past) = (([], refl, tt), λ name. inl refl)
 -- ---- drafts
 
 -- a name of a draft changes, and all names are as they were before it, but for drafts
-kept-changed : (folder now next : Folder) (draft : List ℕ) (entry : Entry) → IsGone (folder draft)
+kept-changed : (folder now next : Folder) (draft : List ℕ) (entry : FolderEntry) → IsGone (folder draft)
     → ((other : List ℕ) → other ≢ draft → SameBut IsGone (folder other) (now other))
-    → Changes draft entry now next → IsGone entry → IsKept folder next
+    → Changes draft entry now next → IsGone entry → IsFolderKept folder next
 kept-changed folder now next draft entry gone kept (is, others) goes name =
     at (same-name name draft)
   where
@@ -100,15 +102,15 @@ kept-changed folder now next draft entry gone kept (is, others) goes name =
 
 -- a draft that was left over is removed
 pub KeepsFiles-removed : (old mid new : List Folder) → KeepsFiles old mid
-    → Steps RemovesLeftOver mid new → KeepsFiles old new
+    → FolderSteps RemovesLeftOver mid new → KeepsFiles old new
 KeepsFiles-removed old mid new (passes, ends) steps =
-    goes_on IsKeptAside IsKeptAside IsKept IsKept RemovesLeftOver old mid new passes ends steps
+    goes_on IsKeptAside IsKeptAside IsFolderKept IsFolderKept RemovesLeftOver old mid new passes ends steps
     (λ folder s kept. kept)
     (λ folder now next kept removes. let all = removed folder now next kept removes in
     (λ name. same-aside (folder name) (next name) (all name), all))
   where
-    removed : (folder now next : Folder) → IsKept folder now → RemovesLeftOver now next
-        → IsKept folder next
+    removed : (folder now next : Folder) → IsFolderKept folder now → RemovesLeftOver now next
+        → IsFolderKept folder next
     removed folder now next kept (left, was, changes) =
         kept-changed folder now next left Absent
         (gone-before (folder left) (now left) (kept left) (subst IsGone (sym was) tt))
@@ -116,23 +118,23 @@ KeepsFiles-removed old mid new (passes, ends) steps =
 
 -- unless it cannot be removed
 pub KeepsFiles-tried : {A E : Type 0} (old mid now new : List Folder) (result : Result A E)
-    → KeepsFiles old mid → now ≡ mid → OnOk result (Steps RemovesLeftOver now new)
+    → KeepsFiles old mid → now ≡ mid → OnOk result (FolderSteps RemovesLeftOver now new)
     → OnErr result (new ≡ now) → KeepsFiles old new
 KeepsFiles-tried old mid now new (Ok value) kept same removed not_removed =
-    KeepsFiles-removed old mid new kept (subst (λ past. Steps RemovesLeftOver past new) same removed)
+    KeepsFiles-removed old mid new kept (subst (λ past. FolderSteps RemovesLeftOver past new) same removed)
 KeepsFiles-tried old mid now new (Err error) kept same removed not_removed =
     subst (KeepsFiles old) (sym (not_removed ∙ same)) kept
 
 -- a draft is made
 pub Drafts-made : (draft : List ℕ) (old mid new : List Folder) → KeepsFiles old mid
-    → Steps (Makes draft) mid new → Drafts draft old new
+    → FolderSteps (Makes draft) mid new → Drafts draft old new
 Drafts-made draft old mid new (passes, ends) steps =
-    goes_on IsKeptAside IsKeptAside IsKept (IsDrafted draft) (Makes draft) old mid new passes ends steps
+    goes_on IsKeptAside IsKeptAside IsFolderKept (IsDrafted draft) (Makes draft) old mid new passes ends steps
     (λ folder s kept. kept)
     (λ folder now next kept makes. let made = drafted folder now next kept makes in
     (aside folder next made, made))
   where
-    drafted : (folder now next : Folder) → IsKept folder now → Makes draft now next
+    drafted : (folder now next : Folder) → IsFolderKept folder now → Makes draft now next
         → IsDrafted draft folder next
     drafted folder now next kept (was, (is, others)) = (
       gone-before (folder draft) (now draft) (kept draft) (subst IsGone (sym was) tt),
@@ -154,7 +156,7 @@ Drafts-made draft old mid new (passes, ends) steps =
 -- unless it cannot be made
 pub Drafts-tried : {A E : Type 0} (name_of : A → List ℕ) (old mid new : List Folder)
     (result : Result A E) → KeepsFiles old mid
-    → IfOk result (λ draft. Steps (Makes (name_of draft)) mid new)
+    → IfOk result (λ draft. FolderSteps (Makes (name_of draft)) mid new)
     → IfOk result (λ draft. Drafts (name_of draft) old new)
 Drafts-tried name_of old mid new (Ok draft) kept makes =
     Drafts-made (name_of draft) old mid new kept makes
@@ -167,10 +169,10 @@ IsEmptyDraft-before (folder ∷ past) [] contents rights (passes, ends) empty = 
 IsEmptyDraft-before (folder ∷ past) (now ∷ before) contents rights kept empty = empty
 
 -- it is gone, or left over
-pub KeepsFiles-after : (draft : List ℕ) (entry : Entry) (old mid new : List Folder) → IsGone entry
-    → Drafts draft old mid → Steps (Changes draft entry) mid new → KeepsFiles old new
+pub KeepsFiles-after : (draft : List ℕ) (entry : FolderEntry) (old mid new : List Folder) → IsGone entry
+    → Drafts draft old mid → FolderSteps (Changes draft entry) mid new → KeepsFiles old new
 KeepsFiles-after draft entry old mid new goes (passes, ends) steps =
-    goes_on IsKeptAside IsKeptAside (IsDrafted draft) IsKept (Changes draft entry) old mid new passes
+    goes_on IsKeptAside IsKeptAside (IsDrafted draft) IsFolderKept (Changes draft entry) old mid new passes
     ends steps
     (λ folder s kept. kept)
     (λ folder now next (gone, is, kept) changes.
@@ -179,16 +181,16 @@ KeepsFiles-after draft entry old mid new goes (passes, ends) steps =
 
 pub KeepsFiles-dropped : {A E : Type 0} (draft name : List ℕ) (old mid now new : List Folder)
     (result : Result A E) → Drafts draft old mid → name ≡ draft → now ≡ mid
-    → OnOk result (Steps (Changes name Absent) now new)
-    → OnErr result (Steps (Changes name LeftOver) now new) → KeepsFiles old new
+    → OnOk result (FolderSteps (Changes name Absent) now new)
+    → OnErr result (FolderSteps (Changes name LeftOver) now new) → KeepsFiles old new
 KeepsFiles-dropped draft name old mid now new (Ok value) drafts named same removed left =
     KeepsFiles-after draft Absent old mid new tt drafts
-    (subst (λ past. Steps (Changes draft Absent) past new) same
-    (subst (λ n. Steps (Changes n Absent) now new) named removed))
+    (subst (λ past. FolderSteps (Changes draft Absent) past new) same
+    (subst (λ n. FolderSteps (Changes n Absent) now new) named removed))
 KeepsFiles-dropped draft name old mid now new (Err error) drafts named same removed left =
     KeepsFiles-after draft LeftOver old mid new tt drafts
-    (subst (λ past. Steps (Changes draft LeftOver) past new) same
-    (subst (λ n. Steps (Changes n LeftOver) now new) named left))
+    (subst (λ past. FolderSteps (Changes draft LeftOver) past new) same
+    (subst (λ n. FolderSteps (Changes n LeftOver) now new) named left))
 
 -- ---- a draft is put in the place of a file
 
@@ -255,8 +257,8 @@ IsGivenRights-given rights (Some own) r1 r2 r3 has_owner has_group group owner m
 pub PutsEmpty-put : (old new : List Folder) (empty contents : Option (List ℕ)) (own given : Option Granted)
     (rights : Rights) (draft place bytes : List ℕ) → Appends empty contents bytes
     → IsGivenRights rights own given → HasRights old place (Some rights)
-    → Steps (Puts draft place contents given) old new
-    → Steps (PutsEmpty empty own draft place bytes) old new
+    → FolderSteps (Puts draft place contents given) old new
+    → FolderSteps (PutsEmpty empty own draft place bytes) old new
 PutsEmpty-put [] new empty contents own given rights draft place bytes appends no_wider has steps = steps
 PutsEmpty-put (folder ∷ past) new empty contents own given rights draft place bytes appends no_wider
     (before, granted, was, same) (next, puts, follows) =
@@ -286,19 +288,19 @@ PutsEmpty-put (folder ∷ past) new empty contents own given rights draft place 
 PutsOver-puts : (old mid new : List Folder) (stop : Folder → Folder → Type 0)
     (contents : Option (List ℕ)) (own : Option Granted) (draft place bytes : List ℕ)
     → Passes stop old mid → IsEmptyDraft old contents own
-    → Steps (PutsEmpty contents own draft place bytes) mid new
-    → Steps (PutsOver draft place bytes) mid new
+    → FolderSteps (PutsEmpty contents own draft place bytes) mid new
+    → FolderSteps (PutsOver draft place bytes) mid new
 PutsOver-puts [] [] new stop contents own draft place bytes passes empty steps = steps
 PutsOver-puts [] (now ∷ before) new stop contents own draft place bytes passes empty steps =
     let no : now ∷ before ≡ [] = passes in cc
 PutsOver-puts (folder ∷ past) mid new stop contents own draft place bytes passes
     (no_bytes, (given, known)) steps =
-    subst (λ r. Steps (PutsEmpty (Some []) r draft place bytes) mid new) known
-    (subst (λ c. Steps (PutsEmpty c own draft place bytes) mid new) no_bytes steps)
+    subst (λ r. FolderSteps (PutsEmpty (Some []) r draft place bytes) mid new) known
+    (subst (λ c. FolderSteps (PutsEmpty c own draft place bytes) mid new) no_bytes steps)
 
 pub ReplacesPlace-put : (old mid new : List Folder) (contents : Option (List ℕ)) (own : Option Granted)
     (draft place bytes : List ℕ) → Drafts draft old mid → IsEmptyDraft old contents own
-    → Steps (PutsEmpty contents own draft place bytes) mid new → ReplacesPlace place bytes old new
+    → FolderSteps (PutsEmpty contents own draft place bytes) mid new → ReplacesPlace place bytes old new
 ReplacesPlace-put old mid new contents own draft place bytes (passes, ends) empty steps =
     goes_on IsKeptAside (IsOldOrNew place bytes) (IsDrafted draft) (HasReplaced place bytes)
     (PutsOver draft place bytes) old mid new passes ends
@@ -316,7 +318,7 @@ ReplacesPlace-put old mid new contents own draft place bytes (passes, ends) empt
           λ other differs. at other differs (same-name other draft),
         )
       where
-        IsFile : Entry → Type 0
+        IsFile : FolderEntry → Type 0
         IsFile (File bytes rights) = ⊤
         IsFile _ = ⊥
 

@@ -3,8 +3,8 @@
 use Rattle.std.proofs.Common.{◌≡◌, [], ◌∷◌, ap, Bool, false, true, inl, refl, subst, sym, List, ℕ, Some}
 use Rattle.std.proofs.lemmas.Bool.{false≢true}
 use Rattle.std.specs.Prelude.{⊤}
-use Rattle.text_filters.specs.Files.{Absent, Entry, File, Folder, PutsOver, PutsSynced}
-use Rattle.text_filters.specs.Files.{Steps}
+use Rattle.text_filters.specs.Files.{Absent, FolderEntry, File, Folder, PutsOver, PutsSynced}
+use Rattle.text_filters.specs.Files.{FolderSteps}
 use Rattle.text_filters.specs.Rights.{Granted, HasKeptRights, IsNoWider, kept, mode_of}
 use Rattle.text_filters.specs.Streams.{IsPossible, NoReason}
 use Rattle.text_filters.specs.declared.faults.Fault.TheVariants.{Output}
@@ -68,13 +68,13 @@ empty name = Absent
 -- of a draft that is not on the disk nothing is promised, so also that nothing comes of it
 pub synced_before_it_is_written : (rights : Granted)
     → PutsSynced (Some []) [] (47 ∷ []) (Some (10 ∷ [])) (Some rights) (empty ∷ []) (empty ∷ empty ∷ [])
-    × (¬ Steps (PutsOver [] (47 ∷ []) (10 ∷ [])) (empty ∷ []) (empty ∷ empty ∷ []))
+    × (¬ FolderSteps (PutsOver [] (47 ∷ []) (10 ∷ [])) (empty ∷ []) (empty ∷ empty ∷ []))
 synced_before_it_is_written rights = (λ same. absurd (unlike [] same), λ (next, over, follows). not_put next over)
   where
     unlike : (bytes : List ℕ) → Some [] ≡ Some (10 ∷ bytes) → ⊥
     unlike bytes same = cc
 
-    IsFile : Entry → Type 0
+    IsFile : FolderEntry → Type 0
     IsFile (File bytes rights) = ⊤
     IsFile _ = ⊥
 

@@ -2,7 +2,7 @@
 use Rattle.std.proofs.Common.{◌≡◌, ◌∙◌, ◌&&◌, ◌==◌, ◌⊎◌, ap, ap₂, inl, inr, refl, subst, sym, Bool, false, true, ℕ, List}
 use Rattle.std.proofs.lemmas.Bool.{eq-eqb, eqb-true, false≢true}
 use Rattle.text_filters.specs.Rights.{Granted, HasKeptRights, IsNoWider, IsSameOrRefused, IsWithin}
-use Rattle.text_filters.specs.Rights.{allowed, both, class_of, for_other_group, for_other_owner, kept}
+use Rattle.text_filters.specs.Rights.{allowed, both, access_of, for_other_group, for_other_owner, kept}
 use Rattle.text_filters.specs.declared.rights.Access.{Access}
 use Rattle.text_filters.specs.declared.rights.FileMode.{FileMode}
 use Rattle.text_filters.specs.declared.rights.Rights.{Rights}
@@ -33,8 +33,8 @@ in-second a b = (second a.read b.read, second a.write b.write, second a.execute 
 
 -- the group and all others may do what both might, whichever of them somebody is in
 module _ (mode : FileMode) where
-  shared : (of in_group was_in : Bool) → IsWithin (class_of (for_other_group mode) of in_group)
-      (class_of mode of was_in)
+  shared : (of in_group was_in : Bool) → IsWithin (access_of (for_other_group mode) of in_group)
+      (access_of mode of was_in)
   shared true in_group was_in = within mode.owner
   shared false true true = in-first mode.group mode.others
   shared false true false = in-second mode.group mode.others
@@ -43,7 +43,7 @@ module _ (mode : FileMode) where
 
   -- and no more than the owner might, whoever that is
   owned : (of was_of in_group : Bool) → (of ≡ true → was_of ≡ true)
-      → IsWithin (class_of (for_other_owner mode) of in_group) (class_of mode was_of in_group)
+      → IsWithin (access_of (for_other_owner mode) of in_group) (access_of mode was_of in_group)
   owned true true in_group so = within mode.owner
   owned true false in_group so = absurd (false≢true (so refl))
   owned false true true so = in-second mode.group mode.owner
@@ -62,8 +62,8 @@ module _ (mode : FileMode) where
       (in-first (both mode.group mode.others) mode.owner) (in-second mode.group mode.others)
 
   keeps-neither : (of was_of in_group was_in : Bool) → (of ≡ true → was_of ≡ true)
-      → IsWithin (class_of (for_other_owner (for_other_group mode)) of in_group)
-      (class_of mode was_of was_in)
+      → IsWithin (access_of (for_other_owner (for_other_group mode)) of in_group)
+      (access_of mode was_of was_in)
   keeps-neither true true in_group was_in so = within mode.owner
   keeps-neither true false in_group was_in so = absurd (false≢true (so refl))
   keeps-neither false true true was_in so = in-second (both mode.group mode.others) mode.owner
@@ -76,16 +76,16 @@ module _ (mode : FileMode) where
   keeps : (has_owner has_group : Bool) (of was_of in_group was_in : Bool)
       → (of ≡ true → was_of ≡ true) → (has_owner ≡ true → of ≡ was_of)
       → (has_group ≡ true → in_group ≡ was_in)
-      → IsWithin (class_of (kept mode has_owner has_group) of in_group) (class_of mode was_of was_in)
+      → IsWithin (access_of (kept mode has_owner has_group) of in_group) (access_of mode was_of was_in)
   keeps true true of was_of in_group was_in so same_owner same_group =
-      subst (λ o. IsWithin (class_of mode of in_group) (class_of mode o was_in)) (same_owner refl)
-      (subst (λ i. IsWithin (class_of mode of in_group) (class_of mode of i)) (same_group refl)
-      (within (class_of mode of in_group)))
+      subst (λ o. IsWithin (access_of mode of in_group) (access_of mode o was_in)) (same_owner refl)
+      (subst (λ i. IsWithin (access_of mode of in_group) (access_of mode of i)) (same_group refl)
+      (within (access_of mode of in_group)))
   keeps true false of was_of in_group was_in so same_owner same_group =
-      subst (λ o. IsWithin (class_of (for_other_group mode) of in_group) (class_of mode o was_in))
+      subst (λ o. IsWithin (access_of (for_other_group mode) of in_group) (access_of mode o was_in))
       (same_owner refl) (shared of in_group was_in)
   keeps false true of was_of in_group was_in so same_owner same_group =
-      subst (λ i. IsWithin (class_of (for_other_owner mode) of in_group) (class_of mode was_of i))
+      subst (λ i. IsWithin (access_of (for_other_owner mode) of in_group) (access_of mode was_of i))
       (same_group refl) (owned of was_of in_group so)
   keeps false false of was_of in_group was_in so same_owner same_group =
       keeps-neither of was_of in_group was_in so
@@ -106,7 +106,7 @@ kept-no_wider : (rights given : Rights) (has_owner has_group : Bool)
     → (has_owner ≡ true → given.owner ≡ rights.owner) → (has_group ≡ true → given.group ≡ rights.group)
     → given.mode ≡ kept rights.mode has_owner has_group → IsNoWider rights given
 kept-no_wider rights given has_owner has_group same_owner same_group is = (
-  λ user groups so. subst (λ mode. IsWithin (class_of mode (user == given.owner) (groups given.group))
+  λ user groups so. subst (λ mode. IsWithin (access_of mode (user == given.owner) (groups given.group))
       (allowed rights user groups)) (sym is)
       (keeps rights.mode has_owner has_group (user == given.owner) (user == rights.owner)
       (groups given.group) (groups rights.group)

@@ -1,7 +1,8 @@
 -- Worked rows: what it means that a file is replaced, and what that excludes.
 use Rattle.std.proofs.Common.{◌≡◌, ◌⊎◌, ◌++◌, [], ◌∷◌, inl, inr, subst, sym, List, ℕ}
 use Rattle.std.specs.Prelude.{⊤, bytes_eq, codes, if◌then◌else◌}
-use Rattle.text_filters.specs.Files.{Absent, Each, Entry, File, Folder, HasNew, IsAside, IsOldOrNew}
+use Rattle.text_filters.specs.Files.{Absent, Each, FolderEntry, File, Folder, HasNew, IsAside}
+use Rattle.text_filters.specs.Files.{IsOldOrNew}
 use Rattle.text_filters.specs.Files.{ReplacesFile, SameBut}
 use Rattle.text_filters.specs.Rights.{Granted, mode_of}
 
@@ -23,7 +24,7 @@ with_file bytes at = if bytes_eq at name then File bytes rights else Absent
 abbrev empty : Folder
 empty at = Absent
 
-abbrev IsFile : Entry → Type 0
+abbrev IsFile : FolderEntry → Type 0
 IsFile (File _ _) = ⊤
 IsFile _ = ⊥
 

@@ -9,7 +9,7 @@ use Rattle.text_filters.specs.Filter.{Work}
 use Rattle.text_filters.specs.Inputs.{Prints}
 use Rattle.text_filters.specs.Laws.{PrintsNothing, PrintsText, SaysIfIdle, SoundStreamsAreServed}
 use Rattle.text_filters.specs.Messages.{AboutText, fault_texts, message_line}
-use Rattle.text_filters.specs.Program.{Reports, Says, SaysUnless, World, all_well, joined}
+use Rattle.text_filters.specs.Program.{ReportsInput, Says, SaysUnless, World, all_well, joined}
 use Rattle.text_filters.specs.Program.{standard_input}
 use Rattle.text_filters.specs.Streams.{IsPossible, NoReason}
 use Rattle.text_filters.specs.declared.faults.Fault.{Fault}
@@ -66,7 +66,7 @@ module _ (about : AboutText) (work : Work) (old mid new : World) (first ending :
   served : (result : Result Treated Fault)
       → Prints work old.unread mid.unread old.output mid.output result
       → IfErr result (IsPossible NoReason NoReason)
-      → Reports NoReason about standard_input result old.messages mid.messages first → Served
+      → ReportsInput NoReason about standard_input result old.messages mid.messages first → Served
   served (Ok treated) (input, output, reads, appends, changes, applies, replaced) possible (says, is_status, count) =
       let (says_idle, is_said) = idle treated.applies says in (
         inl (

@@ -5,7 +5,7 @@ use Rattle.std.proofs.KnownBytes.{Keeps-refl}
 use Rattle.std.proofs.Math.Bool.{and-true, and_assoc}
 use Rattle.std.proofs.lemmas.List.{at_drop_more, drop_all}
 use Rattle.text_filters.specs.Messages.{AboutText, is_closed}
-use Rattle.text_filters.specs.Program.{Reports, SameWorld, TreatsAll, TreatsName, World, all_well}
+use Rattle.text_filters.specs.Program.{ReportsInput, SameWorld, TreatsAll, TreatsName, World, all_well}
 use Rattle.text_filters.specs.Program.{joined, shown_name}
 use Rattle.text_filters.specs.Streams.{StreamFaults}
 use Rattle.text_filters.specs.declared.faults.Fault.{Fault}
@@ -81,7 +81,7 @@ module _ (faults : StreamFaults) (about : AboutText) (work : Work) (mode : Mode)
       (start old mid : World) (ending first : Ending) (result : Result Treated Fault)
       → HasTreated all (name ∷ left) false start old ending
       → TreatsName faults work mode name old mid result
-      → Reports faults.messages about (shown_name name) result old.messages mid.messages first
+      → ReportsInput faults.messages about (shown_name name) result old.messages mid.messages first
       → HasTreated all left (is_closed result) start mid (joined ending first)
   HasTreated-one all name left start old mid ending first result so_far treats reports end rest
       others =
@@ -94,7 +94,7 @@ module _ (faults : StreamFaults) (about : AboutText) (work : Work) (mode : Mode)
       → HasTreated all (texts (drop index names)) false start old ending
       → TreatsName faults work mode (get_or names index default).now old mid result
       → shown ≡ shown_name (get_or names index default).now
-      → Reports faults.messages about shown result old.messages mid.messages first
+      → ReportsInput faults.messages about shown result old.messages mid.messages first
       → next ≡ joined ending first → closed ≡ is_closed result
       → HasTreated all (texts (drop (index + 1) names)) closed start mid next
   HasTreated-next all names index default shown start old mid ending first next result closed within
@@ -103,7 +103,7 @@ module _ (faults : StreamFaults) (about : AboutText) (work : Work) (mode : Mode)
       let left = texts (drop (index + 1) names) in
       let before = subst (λ names. HasTreated all names false start old ending)
       (at_drop_more texts names index default within) so_far in
-      let reported = subst (λ name. Reports faults.messages about name result old.messages mid.messages first) is reports in
+      let reported = subst (λ name. ReportsInput faults.messages about name result old.messages mid.messages first) is reports in
       subst (HasTreated all left closed start mid) (sym goes)
       (subst (λ c. HasTreated all left c start mid (joined ending first)) (sym ends)
       (HasTreated-one all name left start old mid ending first result before treats reported))

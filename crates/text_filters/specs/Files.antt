@@ -7,27 +7,27 @@ use Rattle.text_filters.specs.declared.rights.Rights.{Rights}
 -- what stands at a name: nothing; a file with these bytes, which has these rights; a link to this name; a draft of
 -- this run, whatever it holds; one of a run that is over, or that could not be removed; or something
 -- else, such as a folder
-pub data Entry : Type 0 where
-  Absent : Entry
-  File : List ℕ → Granted → Entry
-  Link : List ℕ → Entry
-  Draft : Entry
-  LeftOver : Entry
-  Other : Entry
+pub data FolderEntry : Type 0 where
+  Absent : FolderEntry
+  File : List ℕ → Granted → FolderEntry
+  Link : List ℕ → FolderEntry
+  Draft : FolderEntry
+  LeftOver : FolderEntry
+  Other : FolderEntry
 
 abbrev pub Folder : Type 0
-Folder = List ℕ → Entry
+Folder = List ℕ → FolderEntry
 
 -- ---- what a name leads to
 
-abbrev pub target_of : List ℕ → Entry → List ℕ
+abbrev pub target_of : List ℕ → FolderEntry → List ℕ
 target_of name (Link target) = target
 target_of name _ = name
 
 abbrev pub followed : Folder → List ℕ → List ℕ
 followed folder name = target_of name (folder name)
 
-abbrev pub bytes_of : Entry → Option (List ℕ)
+abbrev pub bytes_of : FolderEntry → Option (List ℕ)
 bytes_of (File bytes rights) = Some bytes
 bytes_of _ = None
 
@@ -55,14 +55,14 @@ HasRights (folder ∷ past) place (Some rights) =
 -- ---- the steps
 
 -- something else stands at one name, and all other names are as they were
-abbrev pub Changes : List ℕ → Entry → Folder → Folder → Type 0
+abbrev pub Changes : List ℕ → FolderEntry → Folder → Folder → Type 0
 Changes name entry old new =
     (new name ≡ entry) × ((other : List ℕ) → other ≢ name → new other ≡ old other)
 
 -- a step is made from the folder as it was
-abbrev pub Steps : (Folder → Folder → Type 0) → List Folder → List Folder → Type 0
-Steps step [] new = new ≡ []
-Steps step (folder ∷ past) new =
+abbrev pub FolderSteps : (Folder → Folder → Type 0) → List Folder → List Folder → Type 0
+FolderSteps step [] new = new ≡ []
+FolderSteps step (folder ∷ past) new =
     (next : Folder) × step folder next × (new ≡ next ∷ folder ∷ past)
 
 -- a draft is made where nothing was
@@ -90,7 +90,7 @@ Puts name place _ _ old new = ⊤
 abbrev pub PutsSynced : Option (List ℕ) → List ℕ → List ℕ → Option (List ℕ) → Option Granted
     → List Folder → List Folder → Type 0
 PutsSynced synced name place contents rights old new =
-    synced ≡ contents → Steps (Puts name place contents rights) old new
+    synced ≡ contents → FolderSteps (Puts name place contents rights) old new
 
 -- ---- rights of a draft, where they are known
 
@@ -137,32 +137,32 @@ refused_owner owner = option_map (λ old. record {
 -- ---- what becomes of all files
 
 -- nothing is there, but a draft that may be left over
-abbrev pub IsGone : Entry → Type 0
+abbrev pub IsGone : FolderEntry → Type 0
 IsGone Absent = ⊤
 IsGone LeftOver = ⊤
 IsGone _ = ⊥
 
 -- nothing is there but a draft
-abbrev pub IsAside : Entry → Type 0
+abbrev pub IsAside : FolderEntry → Type 0
 IsAside Absent = ⊤
 IsAside LeftOver = ⊤
 IsAside Draft = ⊤
 IsAside _ = ⊥
 
 -- a name is as it was, or was and is such
-abbrev pub SameBut : (Entry → Type 0) → Entry → Entry → Type 0
+abbrev pub SameBut : (FolderEntry → Type 0) → FolderEntry → FolderEntry → Type 0
 SameBut Such old new = (new ≡ old) ⊎ (Such old × Such new)
 
 -- all names are as they were, but for drafts that were left over before, or that could not be removed
-abbrev pub IsKept : Folder → Folder → Type 0
-IsKept old new = (name : List ℕ) → SameBut IsGone (old name) (new name)
+abbrev pub IsFolderKept : Folder → Folder → Type 0
+IsFolderKept old new = (name : List ℕ) → SameBut IsGone (old name) (new name)
 
 -- all names are as they were, but for drafts
 abbrev pub IsKeptAside : Folder → Folder → Type 0
 IsKeptAside old new = (name : List ℕ) → SameBut IsAside (old name) (new name)
 
 -- a file has these bytes now, and the rights that it may keep
-abbrev pub HasNew : List ℕ → Entry → Entry → Type 0
+abbrev pub HasNew : List ℕ → FolderEntry → FolderEntry → Type 0
 HasNew bytes old new =
     (before : List ℕ) × (was : Granted) × (given : Granted)
     × (old ≡ File before was) × (new ≡ File bytes given) × HasKeptRights was.rights given
@@ -199,7 +199,7 @@ Ends end (folder ∷ past) (now ∷ before) = end folder now
 
 -- all files are as they were, after each step and at the end
 abbrev pub KeepsFiles : List Folder → List Folder → Type 0
-KeepsFiles old new = Passes IsKeptAside old new × Ends IsKept old new
+KeepsFiles old new = Passes IsKeptAside old new × Ends IsFolderKept old new
 
 -- this file is replaced by one with these bytes; after each step it was as it was or had these
 abbrev pub ReplacesPlace : List ℕ → List ℕ → List Folder → List Folder → Type 0

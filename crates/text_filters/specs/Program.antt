@@ -65,9 +65,9 @@ replaced_of (Ok treated) = if treated.replaced then 1 else 0
 replaced_of (Err fault) = 0
 
 -- how a run ends with an input of which this became
-abbrev pub Reports : (Reason → Type 0) → AboutText → List ℕ → Result Treated Fault → Option (List ℕ)
+abbrev pub ReportsInput : (Reason → Type 0) → AboutText → List ℕ → Result Treated Fault → Option (List ℕ)
     → Option (List ℕ) → Ending → Type 0
-Reports messages about name result old new ending =
+ReportsInput messages about name result old new ending =
     SaysUnless messages (says_nothing result)
     (message_line about (subject name result) (texts_of about result)) old new ending.said
     × (ending.status ≡ status_of result) × (ending.replaced ≡ replaced_of result)
@@ -152,7 +152,7 @@ module _ (faults : StreamFaults) (about : AboutText) (work : Work) where
   TreatsAll mode (name ∷ names) false old new ending =
       (mid : World) × (result : Result Treated Fault) × (first : Ending) × (rest : Ending)
       × TreatsName faults work mode name old mid result
-      × Reports faults.messages about (shown_name name) result old.messages mid.messages first
+      × ReportsInput faults.messages about (shown_name name) result old.messages mid.messages first
       × TreatsAll mode names (is_closed result) mid new rest
       × (ending ≡ joined first rest)
 
@@ -198,7 +198,7 @@ Shows output messages about text old new was is ending =
     (Appends old new text × Keeps was is × (ending ≡ all_well))
     ⊎ (WritesPrefix old new text
     × ((reason : Reason) × output reason
-    × Reports messages about standard_output (Err (Output reason)) was is ending))
+    × ReportsInput messages about standard_output (Err (Output reason)) was is ending))
 
 module _ (messages : Reason → Type 0) where
   -- of a fault that came before the first input

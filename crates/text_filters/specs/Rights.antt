@@ -7,15 +7,15 @@ use Rattle.text_filters.specs.declared.rights.FileMode.{FileMode}
 use Rattle.text_filters.specs.declared.rights.Rights.{Rights}
 
 -- what somebody may do who is the owner or not, and in the group or not
-abbrev pub class_of : FileMode → Bool → Bool → Access
-class_of mode true in_group = mode.owner
-class_of mode false true = mode.group
-class_of mode false false = mode.others
+abbrev pub access_of : FileMode → Bool → Bool → Access
+access_of mode true in_group = mode.owner
+access_of mode false true = mode.group
+access_of mode false false = mode.others
 
 -- what a user of this number may do, who is in these groups
 abbrev pub allowed : Rights → ℕ → (ℕ → Bool) → Access
 allowed rights user groups =
-    class_of rights.mode (user == rights.owner) (groups rights.group)
+    access_of rights.mode (user == rights.owner) (groups rights.group)
 
 -- all that the one may do the other may do
 abbrev pub IsWithin : Access → Access → Type 0

@@ -27,8 +27,8 @@ ServesWords faults tool words old new ending =
     new.output old.messages new.messages ending)
 
 -- the words do so as they are written for the command line, or memory runs out for that
-abbrev pub Executes : StreamFaults → ToolText → List Text → World → World → Ending → Type 0
-Executes faults tool words old new ending =
+abbrev pub ExecutesTool : StreamFaults → ToolText → List Text → World → World → Ending → Type 0
+ExecutesTool faults tool words old new ending =
     ServesWords faults tool (tool.spelled words) old new ending
     ⊎ (OnlySays old new × SaysMemory faults.messages tool.about old.messages new.messages ending.said
     × IsFault ending)

@@ -1,7 +1,8 @@
 //! The files of a run.
 ghost use Rattle.std.specs.Prelude.{◌≡◌, ℕ, List, Option, None, [], IfOk, OnErr, OnOk};
 ghost use Rattle.text_filters.specs.Files.{Changes, Folder, HasRights, IsEmptyDraft, LeadsTo, Makes, PutsSynced};
-ghost use Rattle.text_filters.specs.Files.{RemovesLeftOver, Steps, bytes_at, given_group, given_mode};
+ghost use Rattle.text_filters.specs.Files.{RemovesLeftOver, FolderSteps, bytes_at, given_group};
+ghost use Rattle.text_filters.specs.Files.{given_mode};
 ghost use Rattle.text_filters.specs.Files.{given_owner, refused_group, refused_owner};
 ghost use Rattle.text_filters.specs.Files.{Absent, LeftOver};
 ghost use Rattle.text_filters.specs.Rights.{Granted};
@@ -116,7 +117,7 @@ pub trait Files {
         number: u32,
     ) -> io::Result<Opened<Self::Draft, Self::Output>>
         ensures made { IfOk result (λ draft.
-            Steps (Makes (draft_name draft.node)) (past self.old) (past self.new)) }
+            FolderSteps (Makes (draft_name draft.node)) (past self.old) (past self.new)) }
         ensures empty { IfOk result (λ draft. IsEmptyDraft (past self.old)
             (Self.Output.contents draft.stream) (draft_rights draft.node)) }
         ensures kept { OnErr result (past self.new ≡ past self.old) };
@@ -126,7 +127,7 @@ pub trait Files {
     /// # Errors
     /// That of the file system, or that there is no such draft.
     fn remove_left_over(&mut self, original: &Self::Original, number: u32) -> io::Result<()>
-        ensures removed { OnOk result (Steps RemovesLeftOver (past self.old) (past self.new)) }
+        ensures removed { OnOk result (FolderSteps RemovesLeftOver (past self.old) (past self.new)) }
         ensures kept { OnErr result (past self.new ≡ past self.old) };
 
     /// Gives a draft to this group.
@@ -209,7 +210,8 @@ pub trait Files {
     /// That of the file system. The draft is left over then.
     fn remove(&mut self, draft: &Opened<Self::Draft, Self::Output>) -> io::Result<()>
         ensures removed { OnOk result
-            (Steps (Changes (draft_name draft.now.node) Absent) (past self.old) (past self.new)) }
+            (FolderSteps (Changes (draft_name draft.now.node) Absent) (past self.old) (past self.new)) }
         ensures left { OnErr result
-            (Steps (Changes (draft_name draft.now.node) LeftOver) (past self.old) (past self.new)) };
+            (FolderSteps (Changes (draft_name draft.now.node) LeftOver) (past self.old)
+            (past self.new)) };
 }

@@ -6,7 +6,8 @@ ghost use Rattle.textwrap_program.specs.Filling.{WritesPrefix};
 ghost use Rattle.text_filters.specs.Messages.{about_view, fault_texts, is_closed, is_quiet, joined_texts};
 ghost use Rattle.text_filters.specs.Messages.{message_line, reading_text, says_nothing, subject, texts_of};
 ghost use Rattle.text_filters.specs.Messages.{sum_texts, value_texts, writing_text};
-ghost use Rattle.text_filters.specs.Program.{ExplainsParse, IsFault, Reports, Says, SaysFault, Serves};
+ghost use Rattle.text_filters.specs.Program.{ExplainsParse, IsFault, ReportsInput, Says, SaysFault};
+ghost use Rattle.text_filters.specs.Program.{Serves};
 ghost use Rattle.text_filters.specs.Program.{Shows, Treats, TreatsAll, TreatsFile, TreatsInput, Warns};
 ghost use Rattle.text_filters.specs.Program.{all_well, input_faults, joined, replaced_of, shown_name, status_of};
 ghost use Rattle.text_filters.specs.Program.{sums_up};
@@ -341,7 +342,7 @@ pub fn report<M: WriteWhole>(
     treated: Result<Treated, Fault>,
     messages: &mut M,
 ) -> Ending
-    ensures { Reports M.faults (about_view about.now) name.now treated
+    ensures { ReportsInput M.faults (about_view about.now) name.now treated
         (M.contents messages.old) (M.contents messages.new) result }
 {
     Ending {

@@ -2,7 +2,7 @@
 ghost use Rattle.std.specs.Prelude.{◌≡◌, Some, IfErr, IfOk, OnErr, OnOk};
 ghost use Rattle.text_filters.specs.Faults.{IsOfDraft, IsOfReading};
 ghost use Rattle.text_filters.specs.Files.{Drafts, HasRights, IsEmptyDraft, IsGivenRights, KeepsFiles};
-ghost use Rattle.text_filters.specs.Files.{LeadsTo, PutsEmpty, ReplacesPlace, Steps, bytes_at};
+ghost use Rattle.text_filters.specs.Files.{LeadsTo, PutsEmpty, ReplacesPlace, FolderSteps, bytes_at};
 ghost use Rattle.text_filters.specs.Inputs.{Replaces};
 ghost use Rattle.text_filters.specs.Streams.{AnyReason, IsPossible, NoReason};
 
@@ -135,7 +135,7 @@ fn complete<F: Files>(
     draft: &mut Opened<F::Draft, F::Output>,
     bytes: &[u8],
 ) -> Result<(), Fault>
-    ensures put { OnOk result (Steps (PutsEmpty (F.Output.contents draft.old.stream)
+    ensures put { OnOk result (FolderSteps (PutsEmpty (F.Output.contents draft.old.stream)
         (F.draft_rights draft.old.node) (F.draft_name draft.old.node) (F.place original.now)
         bytes.now) (F.past files.old) (F.past files.new)) }
     ensures name { F.draft_name draft.new.node ≡ F.draft_name draft.old.node }

@@ -4,7 +4,7 @@ ghost use Rattle.clap.specs.Words.{FailsBy, app_of, fault_of, found_of, is_simpl
 ghost use Rattle.clap.specs.Words.{matches_of, rows_of};
 ghost use Rattle.text_filters.specs.Messages.{about_view};
 ghost use Rattle.text_filters.specs.Streams.{faults_of};
-ghost use Rattle.text_filters.specs.Tool.{Executes, ServesWords, ToolText};
+ghost use Rattle.text_filters.specs.Tool.{ExecutesTool, ServesWords, ToolText};
 
 use crate::files::Files;
 use crate::program::{About, Ending, complain, explain_parse};
@@ -83,7 +83,8 @@ pub fn execute<T: Tool, F: Files, R: ReadWhole, W: WriteWhole, M: WriteWhole>(
     output: &mut W,
     messages: &mut M,
 ) -> Ending
-    ensures { Executes (faults_of R.faults W.faults M.faults) (T.tool tool.now) (map string_bytes words.now)
+    ensures { ExecutesTool (faults_of R.faults W.faults M.faults) (T.tool tool.now)
+        (map string_bytes words.now)
         (record {
           unread = R.remaining reader.old;
           files = F.past files.old;

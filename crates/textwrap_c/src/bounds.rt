@@ -5,7 +5,7 @@ ghost use Rattle.textwrap.specs.Filling.{IsFilled};
 ghost use Rattle.textwrap_calls.specs.Bounds.{ForLinesOf, ForTextsOf, HoldsEach, Suffices, as_len};
 ghost use Rattle.textwrap_calls.specs.Bounds.{ForRowsOf, columns_room_bound, fill_bound};
 ghost use Rattle.textwrap_calls.specs.Bounds.{rows_bound, wrap_room_bound};
-ghost use Rattle.textwrap_calls.specs.Options.{settings_of, Divides};
+ghost use Rattle.textwrap_calls.specs.Options.{options_settings, Divides};
 ghost use Rattle.textwrap_calls.specs.declared.columns.TextwrapGaps.{TextwrapGaps};
 ghost use Rattle.textwrap_calls.specs.declared.options.TextwrapOptions.{TextwrapOptions};
 ghost use Rattle.textwrap_layout.specs.Places.{built_text};
@@ -17,9 +17,9 @@ use textwrap_calls::options::TextwrapOptions;
 /// Exports [`textwrap_calls::bounds::textwrap_fill_bound`].
 #[unsafe(no_mangle)]
 pub extern "C" fn textwrap_fill_bound(text_len: usize, options: &TextwrapOptions<'_>) -> usize
-    ensures value { result ≡ as_len (fill_bound (settings_of options.now) text_len) }
-    ensures enough { ForTextsOf text_len (λ text. HoldsEach (IsFilled (settings_of options.now)
-        (Divides options.now (settings_of options.now))
+    ensures value { result ≡ as_len (fill_bound (options_settings options.now) text_len) }
+    ensures enough { ForTextsOf text_len (λ text. HoldsEach (IsFilled (options_settings options.now)
+        (Divides options.now (options_settings options.now))
         text) result) }
 {
     bounds::textwrap_fill_bound(text_len, options)
@@ -38,7 +38,7 @@ pub extern "C" fn textwrap_wrap_lines_bound(text_len: usize) -> usize
 /// Exports [`textwrap_calls::bounds::textwrap_wrap_room_bound`].
 #[unsafe(no_mangle)]
 pub extern "C" fn textwrap_wrap_room_bound(text_len: usize, options: &TextwrapOptions<'_>) -> usize
-    ensures value { result ≡ as_len (wrap_room_bound (settings_of options.now) text_len) }
+    ensures value { result ≡ as_len (wrap_room_bound (options_settings options.now) text_len) }
     ensures enough { ForTextsOf text_len (λ text. ForLinesOf options.now text
         (λ lines. Suffices result (length (built_text lines)))) }
 {

@@ -2,7 +2,7 @@
 ghost use Rattle.std.specs.Prelude.{◌≡◌, false, ◌<◌, ◌≤◌, ◌↔◌, IsUtf8};
 ghost use Rattle.textwrap.specs.Paragraph.{line_bytes};
 ghost use Rattle.textwrap_calls.specs.Display.{alignment_of, IsShort};
-ghost use Rattle.textwrap_calls.specs.Options.{settings_of, says_yes, Divides};
+ghost use Rattle.textwrap_calls.specs.Options.{options_settings, says_yes, Divides};
 ghost use Rattle.textwrap_calls.specs.Options.{TellsUnknown, TellsNotUtf8};
 ghost use Rattle.textwrap_calls.specs.Room.{WritesText};
 ghost use Rattle.textwrap_calls.specs.Status.{not_utf8, too_small, unknown_options};
@@ -61,7 +61,8 @@ pub extern "C" fn textwrap_fill_justified(
     room: &mut [u8],
     len: &mut usize,
 ) -> u32
-    ensures filled { WritesText (IsJustifiedText (settings_of options.now) (Divides options.now (settings_of options.now)) text.now)
+    ensures filled { WritesText (IsJustifiedText (options_settings options.now)
+        (Divides options.now (options_settings options.now)) text.now)
         result room.old room.new len.old len.new }
     ensures unknown { TellsUnknown result options.now }
     ensures not_utf8 { TellsNotUtf8 result options.now text.now }

@@ -13,7 +13,7 @@ ghost use Rattle.textwrap_more_calls.specs.Hyphenated.{IsFilledByDictionary};
 ghost use Rattle.textwrap_more_calls.specs.Hyphenated.{IsInColumnsByDictionary};
 ghost use Rattle.textwrap_more_calls.specs.Hyphenated.{IsRefilledByDictionary};
 ghost use Rattle.textwrap_more_calls.specs.Status.{damaged_table, wrong_patterns};
-ghost use Rattle.textwrap_hyphens.specs.Points.{points_of};
+ghost use Rattle.textwrap_hyphens.specs.Points.{hyphenation_points};
 ghost use Rattle.textwrap_hyphens.specs.Seal.{is_sealed};
 
 use std::alloc::Global;
@@ -60,7 +60,8 @@ pub extern "C" fn textwrap_hyphen_points(
     points: &mut [usize],
     count: &mut usize,
 ) -> u32
-    ensures points { WritesText (λ answer. answer ≡ points_of (hyphenation_of dictionary.now) word.now)
+    ensures points { WritesText (λ answer. answer ≡ hyphenation_points
+        (hyphenation_of dictionary.now) word.now)
         result points.old points.new count.old count.new }
     ensures unknown { result ≡ unknown_options ↔ ¬ IsKnownDictionary dictionary.now }
     ensures not_utf8 { result ≡ not_utf8 ↔ IsKnownDictionary dictionary.now × ¬ IsUtf8 word.now }

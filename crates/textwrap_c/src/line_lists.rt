@@ -3,7 +3,7 @@ ghost use Rattle.std.specs.Prelude.{◌≡◌, false, ◌<◌, ◌≤◌, ◌↔
 ghost use Rattle.textwrap.specs.Paragraph.{line_bytes};
 ghost use Rattle.textwrap_calls.specs.Columns.{AreRows};
 ghost use Rattle.textwrap_calls.specs.Display.{AreShort};
-ghost use Rattle.textwrap_calls.specs.Options.{settings_of, says_yes, AreKnown, AreTexts};
+ghost use Rattle.textwrap_calls.specs.Options.{options_settings, says_yes, AreKnown, AreTexts};
 ghost use Rattle.textwrap_calls.specs.Options.{TellsUnknown};
 ghost use Rattle.textwrap_calls.specs.Status.{not_utf8, too_small, unknown_options};
 ghost use Rattle.textwrap_calls.specs.Texts.{bytes_of, IsText};
@@ -96,7 +96,7 @@ pub extern "C" fn textwrap_carry_styles(
     room: &mut [u8],
     len: &mut usize,
 ) -> u32
-    ensures carried { let settings = settings_of options.now in
+    ensures carried { let settings = options_settings options.now in
         WritesLines (λ answer _. AreRows (λ rows. rows ≡ map line_bytes (carried_lines
         settings.initial_indent settings.subsequent_indent [] (bytes_of lines.now))) answer)
         [] result places.old places.new count.old count.new room.old room.new len.old len.new }

@@ -1,6 +1,6 @@
 //! The paragraphs of a text, each of which is wrapped by itself.
 ghost use Rattle.std.specs.Prelude.{◌≡◌, ◌≢◌, ◌≤◌, ◌<◌, ◌↔◌, ◌⊎◌, IsUtf8, length};
-ghost use Rattle.textwrap_calls.specs.Options.{settings_of, AreKnown, AreTexts, says_yes};
+ghost use Rattle.textwrap_calls.specs.Options.{options_settings, AreKnown, AreTexts, says_yes};
 ghost use Rattle.textwrap_calls.specs.Options.{TellsUnknown, TellsNotUtf8};
 ghost use Rattle.textwrap_more_calls.specs.Paragraphs.{paragraph_places, widths_view};
 ghost use Rattle.textwrap_calls.specs.Room.{WritesText};
@@ -22,8 +22,8 @@ pub extern "C" fn textwrap_paragraphs(
     count: &mut usize,
 ) -> u32
     ensures paragraphs { WritesText (λ answer. answer
-        ≡ paragraph_places (length (ending_bytes (settings_of options.now).line_ending)) 0
-        (paragraphs_of (settings_of options.now).line_ending text.now))
+        ≡ paragraph_places (length (ending_bytes (options_settings options.now).line_ending)) 0
+        (paragraphs_of (options_settings options.now).line_ending text.now))
         result paragraphs.old paragraphs.new count.old count.new }
     ensures unknown { TellsUnknown result options.now }
     ensures not_utf8 { TellsNotUtf8 result options.now text.now }
@@ -41,7 +41,7 @@ pub extern "C" fn textwrap_paragraph_widths(
     widths: &mut TextwrapWidths,
 ) -> u32
     ensures written { result ≡ done
-        → widths.new ≡ widths_view (settings_of options.now) (says_yes is_later) paragraph.now }
+        → widths.new ≡ widths_view (options_settings options.now) (says_yes is_later) paragraph.now }
     ensures unknown { result ≡ unknown_options ↔ (1 < is_later) ⊎ (¬ AreKnown options.now) }
     ensures not_utf8 { result ≡ not_utf8 ↔ (is_later ≤ 1) × AreKnown options.now
         × ¬ (IsUtf8 paragraph.now × AreTexts options.now) }

@@ -1,7 +1,7 @@
 //! Words, and the pieces that they are split and broken into, by where they stand.
 ghost use Rattle.std.specs.Prelude.{◌≡◌, ◌⊎◌, ◌↔◌, ◌≤◌, []};
 ghost use Rattle.std.specs.Prelude.{IsUtf8};
-ghost use Rattle.textwrap_calls.specs.Options.{separator_of, settings_of, splitter_of};
+ghost use Rattle.textwrap_calls.specs.Options.{separator_of, options_settings, options_splitter};
 ghost use Rattle.textwrap_calls.specs.Options.{TellsUnknown, TellsNotUtf8};
 ghost use Rattle.textwrap_more_calls.specs.Pieces.{AreOffsets, piece_places};
 ghost use Rattle.textwrap_calls.specs.Room.{WritesText};
@@ -30,7 +30,8 @@ pub extern "C" fn textwrap_pieces(
     count: &mut usize,
 ) -> u32
     ensures pieces { WritesText (λ answer. answer ≡ piece_places 0 (pieces_by
-        (settings_of options.now) (words_by (separator_of options.now)) (splitter_of options.now)
+        (options_settings options.now) (words_by (separator_of options.now))
+        (options_splitter options.now)
         paragraph.now)) result pieces.old pieces.new count.old count.new }
     ensures unknown { TellsUnknown result options.now }
     ensures not_utf8 { TellsNotUtf8 result options.now paragraph.now }

@@ -3,7 +3,7 @@ ghost use Rattle.std.specs.Prelude.{◌≡◌, ◌≤◌, ◌↔◌, [], map, Al
 ghost use Rattle.textwrap_calls.specs.Columns.{AreKnownGaps, AreRows, AreTextGaps, row_gaps};
 ghost use Rattle.textwrap_calls.specs.Status.{not_utf8, unknown_options};
 ghost use Rattle.textwrap_calls.specs.Tables.{AreTableTexts, HasTextLines, IsKnownColumn};
-ghost use Rattle.textwrap_calls.specs.Tables.{lines_in, parts_of_column, shape_of_column};
+ghost use Rattle.textwrap_calls.specs.Tables.{lines_of_cells, parts_of_column, shape_of_column};
 ghost use Rattle.textwrap_calls.specs.Texts.{bytes_of};
 ghost use Rattle.textwrap_calls.specs.Wrapping.{WritesLines};
 ghost use Rattle.textwrap_display.specs.Tables.{rows_of_cells};
@@ -53,7 +53,7 @@ pub extern "C" fn textwrap_table_of_lines(
     len: &mut usize,
 ) -> u32
     ensures table { WritesLines (λ lines _. AreRows (λ rows. rows ≡ rows_of_cells
-        (row_gaps gaps.now) (map shape_of_column columns.now) (lines_in cells.now)) lines)
+        (row_gaps gaps.now) (map shape_of_column columns.now) (lines_of_cells cells.now)) lines)
         [] result rows.old rows.new count.old count.new room.old room.new len.old len.new }
     ensures unknown { result ≡ unknown_options
         ↔ ¬ (All IsKnownColumn columns.now × AreKnownGaps gaps.now) }

@@ -1,7 +1,7 @@
 //! A whole text in steps: each of its paragraphs comes with what a caller found of it.
 ghost use Rattle.std.specs.Prelude.{◌≡◌, ◌≢◌, ◌≤◌, ◌⊎◌, IsUtf8};
 ghost use Rattle.textwrap_more_calls.specs.JustifiedSteps.{justified_at};
-ghost use Rattle.textwrap_calls.specs.Options.{settings_of, AreKnown, AreTexts, TellsUnknown};
+ghost use Rattle.textwrap_calls.specs.Options.{options_settings, AreKnown, AreTexts, TellsUnknown};
 ghost use Rattle.textwrap_calls.specs.Options.{TellsNotUtf8};
 ghost use Rattle.textwrap_calls.specs.Room.{WritesText};
 ghost use Rattle.textwrap_calls.specs.Status.{out_of_memory, unknown_options};
@@ -28,7 +28,7 @@ pub extern "C" fn textwrap_wrap_at(
     room: &mut [u8],
     len: &mut usize,
 ) -> u32
-    ensures lines { WritesLines (ArePlacedCuts (text_step_cuts (settings_of options.now) steps.now
+    ensures lines { WritesLines (ArePlacedCuts (text_step_cuts (options_settings options.now) steps.now
         text.now)) text.now result lines.old lines.new count.old count.new room.old room.new len.old
         len.new }
     ensures unknown { TellsUnknown result options.now }
@@ -55,7 +55,7 @@ pub extern "C" fn textwrap_fill_at(
     room: &mut [u8],
     len: &mut usize,
 ) -> u32
-    ensures filled { WritesText (λ answer. answer ≡ filled_at (settings_of options.now) steps.now
+    ensures filled { WritesText (λ answer. answer ≡ filled_at (options_settings options.now) steps.now
         text.now) result room.old room.new len.old len.new }
     ensures unknown { TellsUnknown result options.now }
     ensures not_utf8 { TellsNotUtf8 result options.now text.now }
@@ -81,7 +81,7 @@ pub extern "C" fn textwrap_fill_justified_at(
     room: &mut [u8],
     len: &mut usize,
 ) -> u32
-    ensures filled { WritesText (λ answer. answer ≡ justified_at (settings_of options.now) steps.now
+    ensures filled { WritesText (λ answer. answer ≡ justified_at (options_settings options.now) steps.now
         text.now) result room.old room.new len.old len.new }
     ensures unknown { TellsUnknown result options.now }
     ensures not_utf8 { TellsNotUtf8 result options.now text.now }

@@ -4,10 +4,10 @@ pub use Rattle.std.{proofs.lemmas.Grind.flat_map-append, specs.Str.chars}
 pub use Rattle.textwrap.proofs.Common.{Built, is_blank_line, Line, Slice}
 pub use Rattle.textwrap.specs.Refilling.{IsRefilled, unfilled_parts}
 pub use Rattle.textwrap.specs.{Columns.{IsInColumns, table_rows}, Indentation.dedented}
-pub use Rattle.textwrap_calls.specs.Options.{Divides, says_yes, settings_of, splitter_of}
+pub use Rattle.textwrap_calls.specs.Options.{Divides, says_yes, options_settings, options_splitter}
 pub use Rattle.textwrap_calls.specs.Tables.{HasTextLines, shape_of_column}
 pub use Rattle.textwrap_calls.specs.declared.options.TextwrapOptions.{TextwrapOptions}
-pub use Rattle.textwrap_calls.specs.{Columns.ArePlacedRows, Options.{algorithm_of, separator_of}}
+pub use Rattle.textwrap_calls.specs.{Columns.ArePlacedRows, Options.{options_algorithm, separator_of}}
 pub use Rattle.textwrap_calls.specs.{Status.{done, too_small}, Texts.bytes_of, Wrapping.ShowLines}
 pub use Rattle.textwrap_display.specs.JustifiedText.{joined_on, justified_after_indents}
 pub use Rattle.textwrap_display.specs.{Shortening.texts_of, Tables.shape_of}

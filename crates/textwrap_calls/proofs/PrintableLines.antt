@@ -4,9 +4,10 @@ use Rattle.textwrap.specs.Indentation.{HasNoLineFeed, indented}
 use Rattle.textwrap.specs.Refilling.{joined_text, keeps_ending, line_prefix}
 use Rattle.textwrap.specs.Refilling.{unfilled_initial, unfilled_subsequent, with_indents_of}
 use Rattle.textwrap_calls.proofs.Common.{All-from_get_or, Divides, IsPrintableByte, TextwrapOptions}
-use Rattle.textwrap_calls.proofs.Common.{IsRefilled, settings_of, slice_range, splitter_of, word_of}
+use Rattle.textwrap_calls.proofs.Common.{IsRefilled, options_settings, slice_range}
+use Rattle.textwrap_calls.proofs.Common.{options_splitter, word_of}
 use Rattle.textwrap_calls.proofs.Common.{[], All-head, append-nil, nat_tests, ShowLines, true≢false}
-use Rattle.textwrap_calls.proofs.Common.{algorithm_of, is_blank_line, length-slice, separator_of, ℕ}
+use Rattle.textwrap_calls.proofs.Common.{options_algorithm, is_blank_line, length-slice, separator_of, ℕ}
 use Rattle.textwrap_calls.proofs.Common.{arith, cond, false, get_or, length, List, lt-ltb, subst}
 use Rattle.textwrap_calls.proofs.Common.{cases_lt, is_whole, IsFilled, IsUtf8, place_of, says_yes}
 use Rattle.textwrap_calls.proofs.Common.{drop, inl, inr, refl, sym, true, ◌++◌, ◌+◌, ◌-◌, ◌<◌, ◌==◌}
@@ -83,7 +84,7 @@ pub free-line : (o : TextwrapOptions) (text line : List ℕ) → o.initial_inden
     → line ≡ cond (says_yes o.preserve_trailing_space) text (without_final_blanks text)
     → IsOnlyLine o text line
 free-line o text line none short free is =
-    let settings = settings_of o in
+    let settings = options_settings o in
     let whole : is_whole settings false text ≡ true = rw none (lt-ltb (length text) o.width short) in
     let one = one-paragraph settings.line_ending text free in
     let parts = parts_of settings false (word_of text ∷ []) ∷ [] in
@@ -99,7 +100,7 @@ free-line o text line none short free is =
 
 -- and that is the filled text
 pub only-line-filled : (o : TextwrapOptions) (text line : List ℕ) → IsOnlyLine o text line
-    → IsFilled (settings_of o) (Divides o (settings_of o)) text line
+    → IsFilled (options_settings o) (Divides o (options_settings o)) text line
 only-line-filled o text line only = (Slice line ∷ [], only.are, refl)
 
 -- and its one line is reported where it begins
@@ -107,7 +108,7 @@ pub only-line-shown : (o : TextwrapOptions) (text line : List ℕ) → IsUtf8 te
     → IsOnlyLine o text line → (rest : List ℕ)
     → ShowLines text rest 0 0 (Slice line ∷ []) (place_of 0 0 (Slice line) ∷ [])
 only-line-shown o text line =
-    placed-shown (settings_of o) (separator_of o) (splitter_of o) (algorithm_of o) text
+    placed-shown (options_settings o) (separator_of o) (options_splitter o) (options_algorithm o) text
     (Slice line ∷ []) (place_of 0 0 (Slice line) ∷ [])
 
 -- ---- A text that is one line and begins with no indent is refilled as it is filled
@@ -136,10 +137,10 @@ unfilled-as-it-is (c ∷ cs) free none =
 
 pub line-refilled : (o : TextwrapOptions) (text line : List ℕ) → AreWithoutIndents o
     → HasNoLineFeed text → line_prefix text ≡ []
-    → IsFilled (settings_of o) (Divides o (settings_of o)) text line
-    → IsRefilled (settings_of o) (Divides o) text line
+    → IsFilled (options_settings o) (Divides o (options_settings o)) text line
+    → IsRefilled (options_settings o) (Divides o) text line
 line-refilled o text line bare free none filled =
-    let settings = settings_of o in
+    let settings = options_settings o in
     let got = unfilled-as-it-is text free none in
     let same : with_indents_of text settings ≡ settings =
     rw (got.initial ∙ sym bare.initial, got.subsequent ∙ sym bare.subsequent) refl in

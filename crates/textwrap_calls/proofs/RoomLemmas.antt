@@ -5,7 +5,7 @@ use Rattle.textwrap_calls.proofs.Common.{[], ap, ℕ, ◌<◌, ◌^◌, ◌↔�
 use Rattle.textwrap_calls.proofs.Common.{arith, Built, List, Place, rules, Slice, subst, take_all}
 use Rattle.textwrap_calls.proofs.Common.{built_text, length, length-map, slice_range, TextwrapLine}
 use Rattle.textwrap_calls.specs.Wrapping.{WritesLinesAs}
-use Rattle.textwrap_calls.specs.{Reported.{Reports, WritesReported}, Room.WritesText}
+use Rattle.textwrap_calls.specs.{Reported.{ReportsLines, WritesReported}, Room.WritesText}
 use Rattle.textwrap_layout.specs.LentPlaces.{WritesPlaces}
 use Rattle.textwrap_layout.specs.declared.lent_places.LineCounts.{LineCounts}
 use Rattle.textwrap_text.{proofs.Common.All-nil, specs.LentText.{as_len, written_over}}
@@ -81,7 +81,7 @@ module _ {reported : ℕ → ℕ} {places : List Place} {built : List ℕ} {stat
   pub WritesReported-counts : {counts : LineCounts} {lines_len room_len : ℕ}
       → length places < 2 ^ 64 → reported (length built) ≡ as_len (length built)
       → WritesPlaces places built counts lines_before lines_after room_before room_after
-      → Reports counts lines_len room_len status count_after len_after
+      → ReportsLines counts lines_len room_len status count_after len_after
       → lines_len ≡ length lines_before → room_len ≡ length room_before
       → length room_before < 2 ^ 63
       → WritesReported reported places built status lines_before lines_after count_after room_before

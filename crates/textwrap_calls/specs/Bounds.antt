@@ -5,7 +5,7 @@ use Rattle.textwrap.specs.Options.{Settings}
 use Rattle.textwrap.specs.Paragraph.{Line}
 use Rattle.textwrap.specs.Columns.{IsInColumns}
 use Rattle.textwrap_calls.specs.Columns.{AreRows}
-use Rattle.textwrap_calls.specs.Options.{Divides, settings_of}
+use Rattle.textwrap_calls.specs.Options.{Divides, options_settings}
 use Rattle.textwrap_calls.specs.declared.columns.TextwrapGaps.{TextwrapGaps}
 use Rattle.textwrap_calls.specs.declared.options.TextwrapOptions.{TextwrapOptions}
 use Rattle.textwrap_text.specs.LineEnding.{ending_bytes}
@@ -14,12 +14,12 @@ use Rattle.textwrap_layout.specs.declared.places.Place.{Place}
 pub use Rattle.textwrap_text.specs.LentText.{as_len}
 
 -- the greatest length that a number holds
-abbrev pub greatest : ℕ
-greatest = 2 ^ 64 - 1
+abbrev pub greatest_length : ℕ
+greatest_length = 2 ^ 64 - 1
 
 -- so many are enough for so many, if a number holds how many are needed
 abbrev pub Suffices : ℕ → ℕ → Type 0
-Suffices bound needed = (needed ≤ bound) ⊎ (greatest ≤ bound)
+Suffices bound needed = (needed ≤ bound) ⊎ (greatest_length ≤ bound)
 
 -- room of this length is enough for each such answer
 abbrev pub HoldsEach : (List ℕ → Type 0) → ℕ → Type 0
@@ -32,13 +32,13 @@ ForTextsOf len Holds = (text : List ℕ) → IsUtf8 text → length text ≡ len
 -- it is so for all lines that `textwrap_wrap` may report of the text
 abbrev pub ForLinesOf : TextwrapOptions → List ℕ → (List Line → Type 0) → Type 0
 ForLinesOf o text Holds = (lines : List Line) (places : List Place)
-    → ArePlacedLines (settings_of o)
-    (Divides o (settings_of o)) text lines places → Holds lines
+    → ArePlacedLines (options_settings o)
+    (Divides o (options_settings o)) text lines places → Holds lines
 
 -- it is so for all rows that `textwrap_wrap_columns` may write of the text
 abbrev pub ForRowsOf : TextwrapOptions → TextwrapGaps → ℕ → List ℕ → (List Line → Type 0) → Type 0
 ForRowsOf o gaps columns text Holds = (rows : List Line)
-    → AreRows (IsInColumns (settings_of o) (Divides o) columns text
+    → AreRows (IsInColumns (options_settings o) (Divides o) columns text
     gaps.left.now gaps.middle.now gaps.right.now) rows → Holds rows
 
 -- ---- the bounds, without the limit of a number

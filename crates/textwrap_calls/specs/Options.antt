@@ -1,7 +1,7 @@
 -- What the numbers of the options mean.
 use Rattle.std.specs.Prelude.{◌≡◌, ◌≢◌, ◌↔◌, ℕ, ◌≤◌, ◌==◌, List, [], ◌∷◌, Bool, not, IsUtf8}
 use Rattle.std.specs.Prelude.{if◌then◌else◌}
-use Rattle.textwrap_plain.specs.Options as plain
+use Rattle.textwrap_plain.specs.Options.{plain_algorithm, plain_settings, plain_splitter}
 use Rattle.textwrap_plain.specs.Options.{words_by}
 use Rattle.textwrap_plain.specs.declared.options.PlainOptions.{PlainOptions}
 use Rattle.textwrap_plain.specs.declared.options.PlainSeparator.{PlainSeparator}
@@ -26,8 +26,8 @@ use Rattle.textwrap_calls.specs.declared.options.TextwrapOptions.{TextwrapOption
 abbrev pub says_yes : ℕ → Bool
 says_yes n = not (n == 0)
 
-abbrev pub penalties_of : TextwrapOptions → Penalties
-penalties_of o = record {
+abbrev pub options_penalties : TextwrapOptions → Penalties
+options_penalties o = record {
   nline_penalty = o.nline_penalty;
   overflow_penalty = o.overflow_penalty;
   short_last_line_fraction = o.short_last_line_fraction;
@@ -35,11 +35,11 @@ penalties_of o = record {
   hyphen_penalty = o.hyphen_penalty;
 }
 
-abbrev pub algorithm_of : TextwrapOptions → Algorithm
-algorithm_of o = if o.optimal_fit == 0 then Greedy else LeastCost (penalties_of o)
+abbrev pub options_algorithm : TextwrapOptions → Algorithm
+options_algorithm o = if o.optimal_fit == 0 then Greedy else LeastCost (options_penalties o)
 
-abbrev pub splitter_of : TextwrapOptions → Splitter
-splitter_of o = if o.split_at_hyphens == 0 then Whole else AtHyphens
+abbrev pub options_splitter : TextwrapOptions → Splitter
+options_splitter o = if o.split_at_hyphens == 0 then Whole else AtHyphens
 
 -- how numbers are kept together, by the number that says so
 abbrev pub numbers_of : ℕ → Numbers
@@ -49,8 +49,8 @@ abbrev pub separator_of : TextwrapOptions → PlainSeparator
 separator_of o =
     if o.unicode_breaks == 0 then AtBlanks else AtBreaks (numbers_of o.unicode_breaks)
 
-abbrev pub settings_of : TextwrapOptions → Settings
-settings_of o = record (settings_at o.width) {
+abbrev pub options_settings : TextwrapOptions → Settings
+options_settings o = record (settings_at o.width) {
   line_ending = if o.crlf == 0 then LF else CRLF;
   initial_indent = o.initial_indent.now;
   subsequent_indent = o.subsequent_indent.now;
@@ -62,27 +62,28 @@ settings_of o = record (settings_at o.width) {
 -- a paragraph is divided so under these settings, by the words, the splitter and the algorithm of the
 -- options
 abbrev pub Divides : TextwrapOptions → Settings → Bool → List ℕ → List (List WordText) → Type 0
-Divides o = DividesAt (words_by (separator_of o)) (splitter_of o) (algorithm_of o)
+Divides o = DividesAt (words_by (separator_of o)) (options_splitter o) (options_algorithm o)
 
 -- the text, filled by the options
-abbrev pub IsFilledBy : TextwrapOptions → List ℕ → List ℕ → Type 0
-IsFilledBy o text filled = IsFilled (settings_of o) (Divides o (settings_of o)) text filled
+abbrev pub IsFilledByOptions : TextwrapOptions → List ℕ → List ℕ → Type 0
+IsFilledByOptions o text filled = IsFilled (options_settings o) (Divides o
+    (options_settings o)) text filled
 
 -- and filled again
 abbrev pub IsRefilledBy : TextwrapOptions → List ℕ → List ℕ → Type 0
-IsRefilledBy o text refilled = IsRefilled (settings_of o) (Divides o) text refilled
+IsRefilledBy o text refilled = IsRefilled (options_settings o) (Divides o) text refilled
 
 -- its lines by the options, and where they stand
 abbrev pub ArePlacedBy : TextwrapOptions → List ℕ → List Line → List Place → Type 0
 ArePlacedBy o text lines places =
-    ArePlacedLines (settings_of o) (Divides o (settings_of o)) text lines places
+    ArePlacedLines (options_settings o) (Divides o (options_settings o)) text lines places
 
 -- these are the options as the library has them
 pub record AreRead (o : TextwrapOptions) (read : PlainOptions) : Type 0 where
-  pub settings : plain.settings_of read ≡ settings_of o
+  pub settings : plain_settings read ≡ options_settings o
   pub separator : read.word_separator ≡ separator_of o
-  pub splitter : plain.splitter_of read ≡ splitter_of o
-  pub algorithm : plain.algorithm_of read ≡ algorithm_of o
+  pub splitter : plain_splitter read ≡ options_splitter o
+  pub algorithm : plain_algorithm read ≡ options_algorithm o
 
 -- the version is known, and each number means something
 pub record AreKnown (o : TextwrapOptions) : Type 0 where

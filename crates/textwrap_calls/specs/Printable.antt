@@ -4,7 +4,7 @@ use Rattle.textwrap_text.specs.Blanks.{blank}
 use Rattle.textwrap_text.specs.Units.{IsPrintable}
 use Rattle.textwrap_layout.specs.Paragraph.{Slice}
 use Rattle.textwrap_layout.specs.Places.{ArePlacedLines, place_of}
-use Rattle.textwrap_calls.specs.Options.{settings_of, AreKnown, Divides}
+use Rattle.textwrap_calls.specs.Options.{options_settings, AreKnown, Divides}
 use Rattle.textwrap_calls.specs.declared.options.TextwrapOptions.{TextwrapOptions}
 
 -- known options that add nothing to a line
@@ -15,7 +15,7 @@ pub record AreWithoutIndents (o : TextwrapOptions) : Type 0 where
 
 -- the text is this one line, a slice from its beginning
 abbrev pub IsOnlyLine : TextwrapOptions → List ℕ → List ℕ → Type 0
-IsOnlyLine o text line = ArePlacedLines (settings_of o) (Divides o (settings_of o)) text
+IsOnlyLine o text line = ArePlacedLines (options_settings o) (Divides o (options_settings o)) text
     (Slice line ∷ []) (place_of 0 0 (Slice line) ∷ [])
 
 -- printable characters, of which the first is no blank

@@ -13,8 +13,8 @@ use Rattle.textwrap_calls.specs.Options.{says_yes}
 use Rattle.textwrap_calls.specs.Texts.{bytes_of, IsText}
 use Rattle.textwrap_calls.specs.declared.reflowing.TextwrapReflowOptions.{TextwrapReflowOptions}
 
-abbrev pub penalties_of : TextwrapReflowOptions → Penalties
-penalties_of o = record {
+abbrev pub reflow_penalties : TextwrapReflowOptions → Penalties
+reflow_penalties o = record {
   nline_penalty = o.nline_penalty;
   overflow_penalty = o.overflow_penalty;
   short_last_line_fraction = o.short_last_line_fraction;
@@ -22,19 +22,19 @@ penalties_of o = record {
   hyphen_penalty = o.hyphen_penalty;
 }
 
-abbrev pub algorithm_of : TextwrapReflowOptions → Algorithm
-algorithm_of o = if o.optimal_fit == 0 then FirstFit else LeastCost (penalties_of o)
+abbrev pub reflow_algorithm : TextwrapReflowOptions → Algorithm
+reflow_algorithm o = if o.optimal_fit == 0 then FirstFit else LeastCost (reflow_penalties o)
 
 -- the ending that a number asks for, if it does
-abbrev pub ending_of : ℕ → Option LineEnding
-ending_of number =
+abbrev pub ending_of_number : ℕ → Option LineEnding
+ending_of_number number =
     if number == 0 then None else if number == 1 then Some LF else Some CRLF
 
 -- these are the options as the library has them
 pub record AreRead (o : TextwrapReflowOptions) (read : ReflowOptions) : Type 0 where
   pub width : read.width ≡ o.width
-  pub algorithm : read.algorithm ≡ algorithm_of o
-  pub ending : read.ending ≡ ending_of o.ending
+  pub algorithm : read.algorithm ≡ reflow_algorithm o
+  pub ending : read.ending ≡ ending_of_number o.ending
   pub markdown : read.markdown ≡ says_yes o.markdown
   pub markers : texts_in read.markers.now ≡ bytes_of o.markers.now
   pub bare : read.bare ≡ says_yes o.bare

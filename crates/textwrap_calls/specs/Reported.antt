@@ -8,7 +8,7 @@ use Rattle.textwrap_layout.specs.declared.places.TextwrapLine.{TextwrapLine}
 use Rattle.textwrap_calls.specs.Status.{done, too_small}
 
 -- so many lines are reported, and so long; and whether so many have room
-pub record Reports (counts : LineCounts) (lines room : ℕ) (status count len : ℕ) : Type 0 where
+pub record ReportsLines (counts : LineCounts) (lines room : ℕ) (status count len : ℕ) : Type 0 where
   pub count_is : count ≡ counts.lines
   pub len_is : len ≡ counts.built
   pub small : status ≡ too_small ↔ (lines < counts.lines) ⊎ (room < counts.built)

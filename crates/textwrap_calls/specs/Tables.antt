@@ -2,8 +2,8 @@
 use Rattle.std.specs.Prelude.{◌≡◌, ℕ, ◌≤◌, List, All, map}
 use Rattle.textwrap_calls.specs.Columns.{AreTextGaps}
 use Rattle.textwrap_calls.specs.Display.{alignment_of}
-use Rattle.textwrap_calls.specs.Options.{AreKnown, AreTexts, settings_of, splitter_of}
-use Rattle.textwrap_calls.specs.Options.{algorithm_of, separator_of}
+use Rattle.textwrap_calls.specs.Options.{AreKnown, AreTexts, options_settings, options_splitter}
+use Rattle.textwrap_calls.specs.Options.{options_algorithm, separator_of}
 use Rattle.textwrap_calls.specs.Texts.{bytes_of, IsText}
 use Rattle.textwrap_calls.specs.declared.columns.TextwrapGaps.{TextwrapGaps}
 use Rattle.textwrap_calls.specs.declared.tables.TextwrapCell.{TextwrapCell}
@@ -17,9 +17,9 @@ use Rattle.textwrap_plain.specs.Tables.{PlainParts}
 abbrev pub parts_of_column : TextwrapColumn → PlainParts
 parts_of_column column = record {
   words = words_by (separator_of column.options);
-  settings = settings_of column.options;
-  splitter = splitter_of column.options;
-  algorithm = algorithm_of column.options;
+  settings = options_settings column.options;
+  splitter = options_splitter column.options;
+  algorithm = options_algorithm column.options;
   alignment = alignment_of column.alignment;
 }
 
@@ -50,8 +50,8 @@ shape_of_column column = record {
 }
 
 -- the bytes of the lines of each cell
-abbrev pub lines_in : List TextwrapCell → List (List (List ℕ))
-lines_in cells = map (λ cell. bytes_of cell.lines.now) cells
+abbrev pub lines_of_cells : List TextwrapCell → List (List (List ℕ))
+lines_of_cells cells = map (λ cell. bytes_of cell.lines.now) cells
 
 -- its lines are texts
 pub record HasTextLines (cell : TextwrapCell) : Type 0 where

@@ -5,7 +5,7 @@ ghost use Rattle.textwrap.specs.Filling.{IsFilled};
 ghost use Rattle.textwrap_calls.specs.Bounds.{ForLinesOf, ForTextsOf, HoldsEach, Suffices, as_len};
 ghost use Rattle.textwrap_calls.specs.Bounds.{ForRowsOf, columns_room_bound, fill_bound};
 ghost use Rattle.textwrap_calls.specs.Bounds.{rows_bound, wrap_room_bound};
-ghost use Rattle.textwrap_calls.specs.Options.{settings_of, Divides};
+ghost use Rattle.textwrap_calls.specs.Options.{options_settings, Divides};
 ghost use Rattle.textwrap_calls.specs.declared.columns.TextwrapGaps.{TextwrapGaps};
 ghost use Rattle.textwrap_calls.specs.declared.options.TextwrapOptions.{TextwrapOptions};
 ghost use Rattle.textwrap_layout.specs.Places.{built_text};
@@ -16,9 +16,9 @@ use crate::options::TextwrapOptions;
 /// How many bytes `textwrap_fill` writes at most for a text of so many bytes: 13 for a text of 5 with
 /// indents of 3 and 0 bytes.
 pub fn textwrap_fill_bound(text_len: usize, options: &TextwrapOptions<'_>) -> usize
-    ensures value { result ≡ as_len (fill_bound (settings_of options.now) text_len) }
-    ensures enough { ForTextsOf text_len (λ text. HoldsEach (IsFilled (settings_of options.now)
-        (Divides options.now (settings_of options.now))
+    ensures value { result ≡ as_len (fill_bound (options_settings options.now) text_len) }
+    ensures enough { ForTextsOf text_len (λ text. HoldsEach (IsFilled (options_settings options.now)
+        (Divides options.now (options_settings options.now))
         text) result) }
 {
     // A byte, and the ending of the line before it.
@@ -42,7 +42,7 @@ pub fn textwrap_wrap_lines_bound(text_len: usize) -> usize
 /// How many bytes `textwrap_wrap` writes at most to the room for a text of so many bytes: none without
 /// indents, and 18 for a text of 5 with indents of 3 and 2 bytes.
 pub fn textwrap_wrap_room_bound(text_len: usize, options: &TextwrapOptions<'_>) -> usize
-    ensures value { result ≡ as_len (wrap_room_bound (settings_of options.now) text_len) }
+    ensures value { result ≡ as_len (wrap_room_bound (options_settings options.now) text_len) }
     ensures enough { ForTextsOf text_len (λ text. ForLinesOf options.now text
         (λ lines. Suffices result (length (built_text lines)))) }
 {

@@ -4,7 +4,7 @@ ghost use Rattle.std.specs.Prelude.{string_bytes, IfNone, IfOk, IfSome};
 ghost use Rattle.textwrap.specs.Columns.{IsInColumns, layout_of, layout_view, table_rows};
 ghost use Rattle.textwrap_calls.specs.Columns.{AreKnownGaps, AreTextGaps, AreRows, ArePlacedRows};
 ghost use Rattle.textwrap_calls.specs.Columns.{row_gaps};
-ghost use Rattle.textwrap_calls.specs.Options.{settings_of, AreKnown, Divides};
+ghost use Rattle.textwrap_calls.specs.Options.{options_settings, AreKnown, Divides};
 ghost use Rattle.textwrap_calls.specs.Options.{AreTexts};
 ghost use Rattle.textwrap_calls.specs.Status.{done, not_utf8, unknown_options};
 ghost use Rattle.textwrap_calls.specs.Texts.{bytes_of, IsText};
@@ -50,7 +50,7 @@ pub fn textwrap_wrap_columns(
     room: &mut [u8],
     len: &mut usize,
 ) -> u32
-    ensures columns { WritesLines (λ lines _. AreRows (IsInColumns (settings_of options.now)
+    ensures columns { WritesLines (λ lines _. AreRows (IsInColumns (options_settings options.now)
         (Divides options.now) columns text.now
         gaps.now.left.now gaps.now.middle.now gaps.now.right.now) lines)
         text.now result rows.old rows.new count.old count.new room.old room.new len.old len.new }

@@ -4,7 +4,7 @@ ghost use Rattle.std.specs.Prelude.{string_bytes};
 ghost use Rattle.textwrap.specs.InPlace.{IsFilledInPlace};
 ghost use Rattle.textwrap_calls.specs.Options.{AreKnown};
 ghost use Rattle.textwrap_calls.specs.Options.{AreTexts, TellsUnknown, TellsNotUtf8, NeedsNoMemory};
-ghost use Rattle.textwrap_calls.specs.Options.{IsFilledBy};
+ghost use Rattle.textwrap_calls.specs.Options.{IsFilledByOptions};
 ghost use Rattle.textwrap_calls.specs.Room.{WritesLong};
 ghost use Rattle.textwrap_calls.specs.Status.{done, not_utf8, out_of_memory, unknown_options};
 
@@ -28,7 +28,7 @@ pub fn textwrap_fill(
     room: &mut [u8],
     len: &mut usize,
 ) -> u32
-    ensures filled { WritesLong (IsFilledBy options.now text.now)
+    ensures filled { WritesLong (IsFilledByOptions options.now text.now)
         result room.old room.new len.old len.new }
     ensures unknown { TellsUnknown result options.now }
     ensures not_utf8 { TellsNotUtf8 result options.now text.now }
@@ -53,7 +53,7 @@ pub fn textwrap_fill_utf8(
     len: &mut usize,
 ) -> u32
     requires { IsUtf8 text.now }
-    ensures filled { WritesLong (IsFilledBy options.now text.now)
+    ensures filled { WritesLong (IsFilledByOptions options.now text.now)
         result room.old room.new len.old len.new }
     ensures unknown { TellsUnknown result options.now }
     ensures not_utf8 { result ≡ not_utf8 ↔ AreKnown options.now × ¬ AreTexts options.now }
@@ -74,7 +74,7 @@ fn fill_text(
     room: &mut [u8],
     len: &mut usize,
 ) -> u32
-    ensures filled { WritesLong (IsFilledBy options.now text.now)
+    ensures filled { WritesLong (IsFilledByOptions options.now text.now)
         result room.old room.new len.old len.new }
     ensures unknown { TellsUnknown result options.now }
     ensures not_utf8 { result ≡ not_utf8 ↔ AreKnown options.now × ¬ AreTexts options.now }

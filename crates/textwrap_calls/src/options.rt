@@ -1,7 +1,7 @@
 //! How a text is wrapped, as C has it.
 ghost use Rattle.std.specs.Prelude.{◌≡◌, ◌⊎◌, ◌↔◌, true, IfOk, IfErr, IsUtf8, MatchOption};
-ghost use Rattle.textwrap_calls.specs.Options.{algorithm_of, AreKnown, AreRead, AreTexts};
-ghost use Rattle.textwrap_calls.specs.Options.{separator_of, splitter_of};
+ghost use Rattle.textwrap_calls.specs.Options.{options_algorithm, AreKnown, AreRead, AreTexts};
+ghost use Rattle.textwrap_calls.specs.Options.{separator_of, options_splitter};
 ghost use Rattle.textwrap_calls.specs.Status.{not_utf8, unknown_options};
 ghost use Rattle.textwrap_layout.specs.Direct.{as_algorithm};
 ghost use Rattle.textwrap_words.specs.Pieces.{as_splitter};
@@ -153,7 +153,7 @@ fn read_separator(given: &TextwrapOptions<'_>) -> PlainSeparator
 
 /// The algorithm that is asked for.
 fn read_algorithm(given: &TextwrapOptions<'_>) -> BuiltInAlgorithm
-    ensures { as_algorithm result ≡ algorithm_of given.now }
+    ensures { as_algorithm result ≡ options_algorithm given.now }
 {
     if given.optimal_fit == 0 {
         return BuiltInAlgorithm::FirstFit;
@@ -169,7 +169,7 @@ fn read_algorithm(given: &TextwrapOptions<'_>) -> BuiltInAlgorithm
 
 /// The splitter that is asked for.
 fn read_splitter(given: &TextwrapOptions<'_>) -> BuiltInSplitter
-    ensures { as_splitter result ≡ splitter_of given.now }
+    ensures { as_splitter result ≡ options_splitter given.now }
 {
     if given.split_at_hyphens == 0 {
         BuiltInSplitter::NoHyphenation

@@ -2,8 +2,8 @@
 ghost use Rattle.std.specs.Prelude.{◌≡◌, ◌↔◌, ◌<◌, ◌≤◌, [], IfSome, IsTrue, IsUtf8, length};
 ghost use Rattle.textwrap.specs.Indentation.{HasNoLineFeed};
 ghost use Rattle.textwrap.specs.Refilling.{IsRefilled, line_prefix};
-ghost use Rattle.textwrap_calls.specs.Options.{settings_of, AreKnown, AreTexts, Divides};
-ghost use Rattle.textwrap_calls.specs.Options.{IsFilledBy, IsRefilledBy};
+ghost use Rattle.textwrap_calls.specs.Options.{options_settings, AreKnown, AreTexts, Divides};
+ghost use Rattle.textwrap_calls.specs.Options.{IsFilledByOptions, IsRefilledBy};
 ghost use Rattle.textwrap_calls.specs.Printable.{AreWithoutIndents, IsOnlyLine};
 ghost use Rattle.textwrap_text.specs.Units.{IsPrintable};
 
@@ -52,10 +52,10 @@ fn is_long_printable(text: &[u8]) -> bool
 pub(crate) fn only_line<'t>(text: &'t [u8], options: &TextwrapOptions<'_>) -> Option<&'t [u8]>
     ensures known { IfSome result (λ _. AreKnown options.now × AreTexts options.now) }
     ensures utf8 { IfSome result (λ _. IsUtf8 text.now) }
-    ensures filled { IfSome result (λ line. IsFilledBy options.now text.now line.now) }
+    ensures filled { IfSome result (λ line. IsFilledByOptions options.now text.now line.now) }
     ensures line { IfSome result (λ line. IsOnlyLine options.now text.now line.now) }
     ensures refilled { line_prefix text.now ≡ [] → IfSome result (λ line. IsRefilled
-        (settings_of options.now) (Divides options.now) text.now line.now) }
+        (options_settings options.now) (Divides options.now) text.now line.now) }
 {
     if !is_short(text, options) || !is_one_line(text) {
         return None;
@@ -66,10 +66,10 @@ pub(crate) fn only_line<'t>(text: &'t [u8], options: &TextwrapOptions<'_>) -> Op
 /// The same for a text that is known to be UTF-8.
 pub(crate) fn only_known_line<'t>(text: &'t [u8], options: &TextwrapOptions<'_>) -> Option<&'t [u8]>
     ensures known { IfSome result (λ _. AreKnown options.now × AreTexts options.now) }
-    ensures filled { IfSome result (λ line. IsFilledBy options.now text.now line.now) }
+    ensures filled { IfSome result (λ line. IsFilledByOptions options.now text.now line.now) }
     ensures line { IfSome result (λ line. IsOnlyLine options.now text.now line.now) }
     ensures refilled { line_prefix text.now ≡ [] → IfSome result (λ line. IsRefilled
-        (settings_of options.now) (Divides options.now) text.now line.now) }
+        (options_settings options.now) (Divides options.now) text.now line.now) }
 {
     if !is_short(text, options) || text.contains(&b'\n') {
         return None;
@@ -90,7 +90,7 @@ fn line_of<'t>(text: &'t [u8], options: &TextwrapOptions<'_>) -> &'t [u8]
     requires short { length text.now < options.now.width }
     requires bare { AreWithoutIndents options.now }
     requires free { HasNoLineFeed text.now }
-    ensures filled { IsFilledBy options.now text.now result.now }
+    ensures filled { IsFilledByOptions options.now text.now result.now }
     ensures line { IsOnlyLine options.now text.now result.now }
     ensures refilled { line_prefix text.now ≡ []
         → IsRefilledBy options.now text.now result.now }

@@ -1,6 +1,6 @@
 //! Texts of many paragraphs, in which marks stand before the words.
 ghost use Rattle.std.specs.Prelude.{◌≡◌, ◌≤◌, ◌↔◌, true, IfOk, IsUtf8, string_bytes};
-ghost use Rattle.textwrap_calls.specs.Reflowing.{algorithm_of, AreKnown, AreTexts, ending_of};
+ghost use Rattle.textwrap_calls.specs.Reflowing.{reflow_algorithm, AreKnown, AreTexts, ending_of_number};
 ghost use Rattle.textwrap_calls.specs.Reflowing.{IsReflowedBy};
 ghost use Rattle.textwrap_calls.specs.Room.{WritesText};
 ghost use Rattle.textwrap_calls.specs.Status.{not_utf8, unknown_options};
@@ -138,7 +138,7 @@ fn reflowed(
 
 /// The algorithm that is asked for.
 fn read_algorithm(given: &TextwrapReflowOptions<'_>) -> Algorithm
-    ensures { result ≡ algorithm_of given.now }
+    ensures { result ≡ reflow_algorithm given.now }
 {
     if given.optimal_fit == 0 {
         return Algorithm::FirstFit;
@@ -154,7 +154,7 @@ fn read_algorithm(given: &TextwrapReflowOptions<'_>) -> Algorithm
 
 /// The ending that a number asks for, if it does.
 fn read_ending(number: u32) -> Option<LineEnding>
-    ensures { result ≡ ending_of number }
+    ensures { result ≡ ending_of_number number }
 {
     match number {
         0 => None,

@@ -4,7 +4,7 @@ ghost use Rattle.textwrap.specs.Paragraph.{Slice};
 ghost use Rattle.textwrap_layout.specs.Places.{place_of};
 ghost use Rattle.textwrap_text.specs.LentText.{as_len};
 ghost use Rattle.textwrap_calls.specs.Status.{done, too_small};
-ghost use Rattle.textwrap_calls.specs.Reported.{Reports, WritesReported};
+ghost use Rattle.textwrap_calls.specs.Reported.{ReportsLines, WritesReported};
 
 use crate::status::{DONE, TOO_SMALL};
 use std::alloc::Global;
@@ -59,7 +59,7 @@ pub fn report_counts(
     count: &mut usize,
     len: &mut usize,
 ) -> u32
-    ensures { Reports counts lines room result count.new len.new }
+    ensures { ReportsLines counts lines room result count.new len.new }
 {
     *count = counts.lines;
     *len = counts.built;

@@ -4,7 +4,7 @@ ghost use Rattle.textwrap_calls.specs.Columns.{AreKnownGaps, ArePlacedRows, AreR
 ghost use Rattle.textwrap_calls.specs.Columns.{row_gaps};
 ghost use Rattle.textwrap_calls.specs.Status.{not_utf8, unknown_options};
 ghost use Rattle.textwrap_calls.specs.Tables.{AreTableTexts, HasTextLines, HasTexts, IsKnownColumn};
-ghost use Rattle.textwrap_calls.specs.Tables.{lines_in, parts_of_column, shape_of_column};
+ghost use Rattle.textwrap_calls.specs.Tables.{lines_of_cells, parts_of_column, shape_of_column};
 ghost use Rattle.textwrap_calls.specs.Texts.{bytes_of, IsText};
 ghost use Rattle.textwrap_calls.specs.Wrapping.{WritesLines};
 ghost use Rattle.textwrap_display.specs.Tables.{cell_texts, gaps_view, rows_of_cells};
@@ -95,7 +95,7 @@ pub fn textwrap_table_of_lines(
     len: &mut usize,
 ) -> u32
     ensures table { WritesLines (λ lines _. AreRows (λ rows. rows ≡ rows_of_cells
-        (row_gaps gaps.now) (map shape_of_column columns.now) (lines_in cells.now)) lines)
+        (row_gaps gaps.now) (map shape_of_column columns.now) (lines_of_cells cells.now)) lines)
         [] result rows.old rows.new count.old count.new room.old room.new len.old len.new }
     ensures unknown { result ≡ unknown_options
         ↔ ¬ (All IsKnownColumn columns.now × AreKnownGaps gaps.now) }
@@ -222,7 +222,7 @@ fn place_cells(
     requires known { All IsKnownColumn columns.now }
     requires cells { All HasTextLines cells.now }
     ensures { IfOk result (λ placed. ArePlacedRows (rows_of_cells (gaps_view gaps.now)
-        (map shape_of_column columns.now) (lines_in cells.now))
+        (map shape_of_column columns.now) (lines_of_cells cells.now))
         placed.places.items placed.built.items) }
 {
     let cells = read_cells(alloc, cells)?;
@@ -243,7 +243,7 @@ fn read_cells<'t>(
     given: &[TextwrapCell<'t>],
 ) -> Result<Vec<Vec<CowStr<'t>>>, AllocError>
     requires { All HasTextLines given.now }
-    ensures { IfOk result (λ cells. cell_texts cells.items ≡ lines_in given.now) }
+    ensures { IfOk result (λ cells. cell_texts cells.items ≡ lines_of_cells given.now) }
 {
     let mut cells = Vec::with_capacity(alloc, given.len())?;
     for cell in given {

@@ -17,7 +17,7 @@ pub use Rattle.textwrap.specs.Columns.{blanks}
 pub use Rattle.textwrap_display.specs.JustifiedText.{IsJustifiedText}
 pub use Rattle.textwrap_display.specs.Justifying.{indent_len, justified, line_words, widened_words}
 pub use Rattle.textwrap_display.specs.Justifying.{gaps}
-pub use Rattle.textwrap_display.specs.Laws.{KeepsWords, word_texts}
+pub use Rattle.textwrap_display.specs.Laws.{JustifiedLineKeepsWords, word_texts}
 pub use Rattle.textwrap_display.specs.Shortening.{AreShortened, IsShortened, can_end}
 pub use Rattle.textwrap_styles.specs.Styled.{IsWholeText, styled_lines, styled_text}
 pub use Rattle.textwrap_styles.specs.Styles.{carried_lines, closing, link_fields, style_parameters}

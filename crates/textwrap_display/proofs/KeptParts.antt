@@ -14,7 +14,7 @@ use Rattle.textwrap_text.proofs.Common.{and_parts, ltb-false, ltb-true, units_wi
 use Rattle.std.proofs.lemmas.Str.{IsCharBoundary-from_rest}
 use Rattle.textwrap_display.proofs.Common.{text_width-append, is_blank, IsWhole}
 use Rattle.textwrap_display.proofs.Common.{indent_len, IsWholeText, units}
-use Rattle.textwrap_display.specs.Shortening.{is_too_wide, CanCut, IsCut, IsKept}
+use Rattle.textwrap_display.specs.Shortening.{is_too_wide, CanCut, IsCut, IsKeptLength}
 use Rattle.textwrap_display.specs.Shortening.{IsKeptBeginning, LeavesRoom, word_width}
 use Rattle.textwrap_layout.specs.Text.{HasWholeSequences}
 use Rattle.textwrap_text.proofs.Lists.Parts.{all-right}
@@ -175,7 +175,7 @@ word-is line rest text words start after is next =
 pub kept-words : (breaks : Bool) (width : ℕ) (placeholder line : List ℕ) (n start : ℕ)
     → IsKeptBeginning width placeholder line n → start ≡ n + indent_len (drop n line)
     → (breaks && is_too_wide width placeholder line start ≡ true
-    → IsCut width placeholder line n start n) → IsKept breaks width placeholder line n
+    → IsCut width placeholder line n start n) → IsKeptLength breaks width placeholder line n
 kept-words breaks width placeholder line n start kept next cut = record {
   words = n;
   start = start;
@@ -209,11 +209,11 @@ module _ (breaks : Bool) (width : ℕ) (placeholder line : List ℕ) (utf8 : IsU
       → IsCut left [] (drop start line) 0 0 k
   found passes = subst (λ l. IsCut left [] l 0 0 k) text_is (cut (wide passes))
 
-  pub kept-uncut : k ≡ 0 → IsKept breaks width placeholder line words
+  pub kept-uncut : k ≡ 0 → IsKeptLength breaks width placeholder line words
   kept-uncut none = kept-words breaks width placeholder line words start kept next (λ passes.
       cut-no width placeholder line utf8 words start kept next left sum k (found passes) none)
 
-  pub kept-cut : breaks ≡ true → k ≢ 0 → IsKept breaks width placeholder line (start + k)
+  pub kept-cut : breaks ≡ true → k ≢ 0 → IsKeptLength breaks width placeholder line (start + k)
   kept-cut breaking some = record {
     words = words;
     start = start;
@@ -241,7 +241,7 @@ module _ (breaks : Bool) (width : ℕ) (placeholder line : List ℕ) (utf8 : IsU
 
 -- nothing, where the placeholder alone is too wide
 pub kept-none : (breaks : Bool) (width : ℕ) (placeholder line : List ℕ)
-    → width < text_width placeholder → IsKept breaks width placeholder line 0
+    → width < text_width placeholder → IsKeptLength breaks width placeholder line 0
 kept-none breaks width placeholder line over =
     kept-words breaks width placeholder line 0 (indent_len line) (record {
       within = omega arith;
@@ -254,7 +254,7 @@ kept-none breaks width placeholder line over =
     })
 
 module _ (breaks : Bool) (width : ℕ) (placeholder line : List ℕ) (utf8 : IsUtf8 line) where
-  pub kept-whole : (n : ℕ) → IsKept breaks width placeholder line n → IsWholeText (take n line)
+  pub kept-whole : (n : ℕ) → IsKeptLength breaks width placeholder line n → IsWholeText (take n line)
   kept-whole n h =
       let words : n ≡ h.words → IsWholeText (take n line) =
       λ is. subst (λ k. IsWholeText (take k line)) (sym is)
@@ -268,7 +268,7 @@ module _ (breaks : Bool) (width : ℕ) (placeholder line : List ℕ) (utf8 : IsU
         | inr stays ↦ words (h.whole stays)
       ]
 
-  pub kept-boundary : (n : ℕ) → IsKept breaks width placeholder line n → IsCharBoundary line n
+  pub kept-boundary : (n : ℕ) → IsKeptLength breaks width placeholder line n → IsCharBoundary line n
   kept-boundary n h =
       let words : n ≡ h.words → IsCharBoundary line n =
       λ is. subst (IsCharBoundary line) (sym is)
@@ -282,7 +282,7 @@ module _ (breaks : Bool) (width : ℕ) (placeholder line : List ℕ) (utf8 : IsU
       ]
 
 pub kept-room : (breaks : Bool) (width : ℕ) (placeholder line : List ℕ) (n : ℕ)
-    → IsKept breaks width placeholder line n → (n ≡ 0) ⊎ LeavesRoom width placeholder line n
+    → IsKeptLength breaks width placeholder line n → (n ≡ 0) ⊎ LeavesRoom width placeholder line n
 kept-room breaks width placeholder line n h =
     let words : n ≡ h.words → (n ≡ 0) ⊎ LeavesRoom width placeholder line n =
     λ is. subst (λ k. (k ≡ 0) ⊎ LeavesRoom width placeholder line k) (sym is) h.kept.room in

@@ -8,7 +8,7 @@ use Rattle.std.specs.Prelude.{chars}
 use Rattle.textwrap_display.proofs.Common.{IsShortened, IsWholeText, open_styles, styled_text}
 use Rattle.textwrap_display.proofs.Common.{text_width-append, line_bytes, open_link}
 use Rattle.textwrap_display.proofs.Common.{indent_len, sequences, closing, concat, units, Line}
-use Rattle.textwrap_display.specs.Shortening.{is_too_wide, IsCut, IsKept, IsKeptBeginning}
+use Rattle.textwrap_display.specs.Shortening.{is_too_wide, IsCut, IsKeptLength, IsKeptBeginning}
 use Rattle.textwrap_styles.proofs.StyleRules.{styles-rule}
 use Rattle.textwrap_styles.specs.Styled.{EndsPlain, styled_by}
 use Rattle.textwrap_display.proofs.CutWords.{no_columns}
@@ -150,7 +150,7 @@ cut-le width placeholder line words start m n before first second = elim first.c
 ]
 
 pub kept-unique : (breaks : Bool) (width : ℕ) (placeholder line : List ℕ) (m n : ℕ)
-    → IsKept breaks width placeholder line m → IsKept breaks width placeholder line n → m ≡ n
+    → IsKeptLength breaks width placeholder line m → IsKeptLength breaks width placeholder line n → m ≡ n
 kept-unique breaks width placeholder line m n first second =
     let test = λ (start : ℕ). breaks && is_too_wide width placeholder line start in
     let words : first.words ≡ second.words =

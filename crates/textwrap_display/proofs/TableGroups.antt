@@ -7,7 +7,7 @@ use Rattle.textwrap_text.proofs.Common.{ℕ}
 use Rattle.std.proofs.Common.{replicate}
 use Rattle.std.proofs.lemmas.List.{length-replicate, take_min, drop_min}
 use Rattle.std.proofs.lemmas.Slice.Zip.{get_or-zip, length-zip, AllZip-long}
-use Rattle.textwrap_display.specs.Tables.{Shape, shown, shown_lines, AreCells, group_rows}
+use Rattle.textwrap_display.specs.Tables.{Shape, shown_cell, shown_cells, AreCells, group_rows}
 use Rattle.textwrap_display.specs.Tables.{groups_of, IsTableBy, RowGaps, texts_in, ColumnMakes}
 use Rattle.textwrap_display.specs.Tables.{ColumnParts, HaveParts, AreTableRows, IsTableOf}
 use Rattle.textwrap_display.specs.Tables.{PartsMake, shape_of, shape_of_parts, rows_of_cells}
@@ -41,18 +41,18 @@ module _ (columns : List Shape) (cells : List (List (List ℕ))) where
   length-zipped : length (zip columns padded) ≡ length columns
   length-zipped = omega (arith, length-zip columns padded, length-padded)
 
-  pub length-shown : (r : ℕ) → length (shown_lines columns cells r) ≡ length columns
-  length-shown r = length-map (zip columns padded) (λ p. shown p.0 p.1 r) ∙ length-zipped
+  pub length-shown : (r : ℕ) → length (shown_cells columns cells r) ≡ length columns
+  length-shown r = length-map (zip columns padded) (λ p. shown_cell p.0 p.1 r) ∙ length-zipped
 
   pub shown-at : (r at : ℕ) (shape : Shape) → at < length columns → shape ≡ get_or columns at shape
-      → get_or (shown_lines columns cells r) at [] ≡ shown shape (get_or cells at []) r
+      → get_or (shown_cells columns cells r) at [] ≡ shown_cell shape (get_or cells at []) r
   shown-at r at shape within is =
-      get_or-map (λ p. shown p.0 p.1 r) (zip columns padded) at (shape, []) []
+      get_or-map (λ p. shown_cell p.0 p.1 r) (zip columns padded) at (shape, []) []
       (omega (arith, within, length-zipped))
-      ∙ ap (λ p. shown p.0 p.1 r) (get_or-zip columns padded at (shape, []) within
+      ∙ ap (λ p. shown_cell p.0 p.1 r) (get_or-zip columns padded at (shape, []) within
       (omega (arith, within, length-padded)))
-      ∙ ap (λ s. shown s (get_or padded at []) r) (sym is)
-      ∙ ap (λ l. shown shape l r) (padded-at cells (length columns) at)
+      ∙ ap (λ s. shown_cell s (get_or padded at []) r) (sym is)
+      ∙ ap (λ l. shown_cell shape l r) (padded-at cells (length columns) at)
 
 -- ---- how many groups there are
 

@@ -8,8 +8,8 @@ use Rattle.std.proofs.Common.{replicate}
 use Rattle.textwrap.proofs.Text.Tables.{lines-kept}
 use Rattle.textwrap_display.specs.Laws.{cell_shown, row_of, ShowsEachLineOnce, KeepToColumns}
 use Rattle.textwrap_display.specs.Laws.{row_width}
-use Rattle.textwrap_display.specs.Tables.{cell_line, group_rows, height, RowGaps, Shape, shown}
-use Rattle.textwrap_display.specs.Tables.{shown_lines, table_row}
+use Rattle.textwrap_display.specs.Tables.{cell_line, group_rows, height, RowGaps, Shape, shown_cell}
+use Rattle.textwrap_display.specs.Tables.{shown_cells, table_row}
 use Rattle.textwrap_display.proofs.TableGroups.{length-shown, shown-at, length-padded}
 use Rattle.std.proofs.Math.Nat.{suc-mul}
 use Rattle.std.proofs.lemmas.Simd.{map-map}
@@ -57,22 +57,22 @@ module _ (gaps : RowGaps) (columns : List Shape) (cells : List (List (List ℕ))
   places = range_with_len 0 (height cells)
 
   abbrev texts : List (List (List ℕ))
-  texts = map (shown_lines columns cells) places
+  texts = map (shown_cells columns cells) places
 
   column-shown : (at : ℕ) (column : Shape) → at < length columns → column ≡ get_or columns at column
       → map (λ row. get_or row at []) texts
       ≡ cell_shown column (height cells) (get_or cells at [])
   column-shown at column within is =
       let lines = get_or cells at [] in
-      let shows = map-alike (λ r. get_or (shown_lines columns cells r) at []) (shown column lines)
+      let shows = map-alike (λ r. get_or (shown_cells columns cells r) at []) (shown_cell column lines)
       places (λ r. shown-at columns cells r at column within is) in
       grind (arith, map-map, lines-shown lines (height cells) (cell-high cells at), shows)
 
   pub each-line-shown : ShowsEachLineOnce gaps columns cells (group_rows gaps columns cells)
   each-line-shown = record {
     texts = texts;
-    rows_are = sym (map-map (row_of gaps) (shown_lines columns cells) places);
-    each_column = All-map (λ row. length row ≡ length columns) (shown_lines columns cells) places
+    rows_are = sym (map-map (row_of gaps) (shown_cells columns cells) places);
+    each_column = All-map (λ row. length row ≡ length columns) (shown_cells columns cells) places
         (λ k d within. length-shown columns cells (get_or places k d));
     each_cell = column-shown;
   }
@@ -97,7 +97,7 @@ keeps-at column lines keep r = elim (cases_lt r (length lines)) [
 
 shown-before : (column : Shape) (lines : List (List ℕ)) → All (Keeps column) lines → (r : ℕ)
     (text : List ℕ)
-    → text_width (shown column lines r ++ text) ≡ column.width + text_width text
+    → text_width (shown_cell column lines r ++ text) ≡ column.width + text_width text
 shown-before column lines keep r text =
     let ((utf8, whole), fits) = keeps-at column lines keep r in
     aligned-before column.alignment column.width (cell_line lines r) text utf8 whole fits
@@ -131,7 +131,7 @@ widths-zip (column ∷ columns) (lines ∷ cells) few =
 
 module _ (middle : List ℕ) (whole : IsWholeText middle) (r : ℕ) where
   abbrev joined : List (Shape × List (List ℕ)) → List ℕ
-  joined ps = join_with middle (map (λ p. shown p.0 p.1 r) ps)
+  joined ps = join_with middle (map (λ p. shown_cell p.0 p.1 r) ps)
 
   joined-before : (ps : List (Shape × List (List ℕ))) → All KeepTo ps → (text : List ℕ)
       → text_width (joined ps ++ text)
@@ -139,7 +139,7 @@ module _ (middle : List ℕ) (whole : IsWholeText middle) (r : ℕ) where
   joined-before [] keep text = omega arith
   joined-before (p ∷ []) keep text = search (rules, arith, shown-before, All-head, sum_by-cons)
   joined-before (p ∷ q ∷ ps) keep text =
-      let x = shown p.0 p.1 r in
+      let x = shown_cell p.0 p.1 r in
       let others = joined (q ∷ ps) in
       let one : suc (suc (length ps)) - 1 ≡ suc (length ps) = omega arith in
       let less : suc (length ps) - 1 ≡ length ps = omega arith in
@@ -170,7 +170,7 @@ rows-even gaps columns cells left middle keep =
         let ps = zip columns padded in
         let row = joined gaps.middle middle r ps in
         let count : length ps ≡ length columns =
-        sym (length-map ps (λ p. shown p.0 p.1 r)) ∙ length-shown columns cells r in
+        sym (length-map ps (λ p. shown_cell p.0 p.1 r)) ∙ length-shown columns cells r in
         let split = text_width-append gaps.left (row ++ gaps.right) left.0 left.1 in
         let keeps = padded-keep columns cells (length columns) keep in
         let joins = joined-before gaps.middle middle r ps keeps gaps.right in

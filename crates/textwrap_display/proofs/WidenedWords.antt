@@ -8,7 +8,8 @@ use Rattle.textwrap_text.proofs.Common.{◌-◌, ◌/◌, ◌<◌, ◌∙◌, �
 use Rattle.std.proofs.lemmas.List.{replicate-append-replicate, drop-append-le, drop_at}
 use Rattle.textwrap_display.proofs.Common.{IsCharBoundary-start, length-prefix_len, BlanksBetween}
 use Rattle.textwrap_display.proofs.Common.{widened_words, final_blanks, chunks-from, slice_index}
-use Rattle.textwrap_display.proofs.Common.{KeepsWords, indent_len, line_bytes, line_words, WordText}
+use Rattle.textwrap_display.proofs.Common.{JustifiedLineKeepsWords, indent_len, line_bytes}
+use Rattle.textwrap_display.proofs.Common.{line_words, WordText}
 use Rattle.textwrap_display.proofs.Common.{text_width, justified, is_blank, or_cases, word_of, flat}
 use Rattle.textwrap_display.proofs.Common.{blanks, chunks, is_cut, Slice, blank, tiled, gaps, ◌%◌}
 use Rattle.textwrap_text.proofs.Lists.Parts.{onto_first-length, flat-onto_first}
@@ -217,13 +218,13 @@ widened-stays spare line stays =
     grind (arith, nat_tests, or_cases, zero-div, zero-mod, widened-none, widened-one)
 
 pub justified-words : (width : ℕ) (line : List ℕ)
-    → KeepsWords width line (line_bytes (justified width line))
+    → JustifiedLineKeepsWords width line (line_bytes (justified width line))
 justified-words width line =
     let spare = width - text_width line in
     let each = spare / gaps line in
     let extra = spare % gaps line in
     cond_both ((spare == 0) || (gaps line == 0)) (Slice line) _
-    (λ l. KeepsWords width line (line_bytes l))
+    (λ l. JustifiedLineKeepsWords width line (line_bytes l))
     (λ stays. record {
       indent = refl;
       words = refl;

@@ -7,7 +7,7 @@ use Rattle.textwrap_display.specs.Alignment.{aligned}
 use Rattle.textwrap_display.specs.Fitting.{fitting_widths, widest_line, widest_word}
 use Rattle.textwrap_display.specs.Justifying.{gaps, indent_len, justified, line_words}
 use Rattle.textwrap_display.specs.Justifying.{widened_words}
-use Rattle.textwrap_display.specs.Shortening.{IsKept, IsKeptBeginning, IsShortened}
+use Rattle.textwrap_display.specs.Shortening.{IsKeptLength, IsKeptBeginning, IsShortened}
 use Rattle.textwrap_display.specs.Tables.{group_rows, height, RowGaps, Shape}
 use Rattle.textwrap_display.specs.Tabs.{expanded_tabs, last_line, tab}
 use Rattle.textwrap_display.specs.declared.alignment.Alignment.{Alignment}
@@ -47,7 +47,7 @@ JustifiedLinesAreAsWide =
 
 -- a justified line begins with the same blanks and has the same words, in their order; each but the
 -- last has the same number of blanks more after it, and the first ones have one more than that
-pub record KeepsWords (width : ℕ) (line new : List ℕ) : Type 0 where
+pub record JustifiedLineKeepsWords (width : ℕ) (line new : List ℕ) : Type 0 where
   pub indent : take (indent_len new) new ≡ take (indent_len line) line
   pub words : map (λ w. w.word) (line_words new) ≡ map (λ w. w.word) (line_words line)
   pub spaces : let spare = width - text_width line in line_words new
@@ -55,7 +55,7 @@ pub record KeepsWords (width : ℕ) (line new : List ℕ) : Type 0 where
 
 abbrev pub JustifiedLinesKeepWords : Type 0
 JustifiedLinesKeepWords =
-    (width : ℕ) (line : List ℕ) → KeepsWords width line (line_bytes (justified width line))
+    (width : ℕ) (line : List ℕ) → JustifiedLineKeepsWords width line (line_bytes (justified width line))
 
 -- ---- shortened lines
 
@@ -63,7 +63,8 @@ JustifiedLinesKeepWords =
 abbrev pub KeptBeginningsAreUnique : Type 0
 KeptBeginningsAreUnique =
     (breaks : Bool) (width : ℕ) (placeholder line : List ℕ) (first second : ℕ)
-    → IsKept breaks width placeholder line first → IsKept breaks width placeholder line second
+    → IsKeptLength breaks width placeholder line first
+    → IsKeptLength breaks width placeholder line second
     → first ≡ second
 
 -- a shortened line takes no more than the width, if the placeholder alone does not

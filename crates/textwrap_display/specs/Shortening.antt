@@ -64,7 +64,7 @@ is_too_wide width placeholder line start =
 
 -- so many bytes of a line are kept: whole words, and of the first word that is left out as much as
 -- fits, if words may be cut and it is too wide
-pub record IsKept (breaks : Bool) (width : ℕ) (placeholder line : List ℕ) (n : ℕ) : Type 0 where
+pub record IsKeptLength (breaks : Bool) (width : ℕ) (placeholder line : List ℕ) (n : ℕ) : Type 0 where
   pub words : ℕ
   pub start : ℕ
   pub kept : IsKeptBeginning width placeholder line words
@@ -80,7 +80,7 @@ pub record IsKept (breaks : Bool) (width : ℕ) (placeholder line : List ℕ) (n
 pub record IsShortened (breaks : Bool) (width : ℕ) (placeholder line : List ℕ) (short : Line) :
     Type 0 where
   pub len : ℕ
-  pub kept : IsKept breaks width placeholder line len
+  pub kept : IsKeptLength breaks width placeholder line len
   pub is : let beginning = take len line in
       short ≡ Built (beginning ++ closing (sequences beginning) ++ placeholder)
 

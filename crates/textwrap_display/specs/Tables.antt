@@ -56,13 +56,13 @@ abbrev pub cell_line : List (List ℕ) → ℕ → List ℕ
 cell_line lines r = slice_index_or lines r []
 
 -- that line, aligned in its column
-abbrev pub shown : Shape → List (List ℕ) → ℕ → List ℕ
-shown column lines r = line_bytes (aligned column.alignment column.width (cell_line lines r))
+abbrev pub shown_cell : Shape → List (List ℕ) → ℕ → List ℕ
+shown_cell column lines r = line_bytes (aligned column.alignment column.width (cell_line lines r))
 
 -- what each column shows in a row; one that has no cell shows no line
-abbrev pub shown_lines : List Shape → List (List (List ℕ)) → ℕ → List (List ℕ)
-shown_lines columns cells r =
-    map (λ p. shown p.0 p.1 r) (zip columns (cells ++ replicate (length columns) []))
+abbrev pub shown_cells : List Shape → List (List (List ℕ)) → ℕ → List (List ℕ)
+shown_cells columns cells r =
+    map (λ p. shown_cell p.0 p.1 r) (zip columns (cells ++ replicate (length columns) []))
 
 -- as many rows as the highest cell has lines
 abbrev pub height : List (List (List ℕ)) → ℕ
@@ -71,7 +71,7 @@ height cells = fold (λ most lines. max most (length lines)) 0 cells
 module _ (gaps : RowGaps) (columns : List Shape) where
   abbrev pub table_row : List (List (List ℕ)) → ℕ → List ℕ
   table_row cells r =
-      row_text gaps.left gaps.middle 0 gaps.right (shown_lines columns cells r)
+      row_text gaps.left gaps.middle 0 gaps.right (shown_cells columns cells r)
 
   abbrev pub group_rows : List (List (List ℕ)) → List (List ℕ)
   group_rows cells = map (table_row cells) (range_with_len 0 (height cells))

@@ -1,7 +1,7 @@
 //! Lines that are cut, and end in a placeholder.
 ghost use Rattle.std.specs.Prelude.{◌≡◌, ◌↔◌, ℕ, false, true, ◌+◌, ◌++◌, ◌<◌, ◌≤◌, [], List};
 ghost use Rattle.std.specs.Prelude.{length, map, string_bytes, IfOk, OnOk};
-ghost use Rattle.textwrap_display.specs.Shortening.{AreShortened, IsCut, IsKept, IsKeptBeginning};
+ghost use Rattle.textwrap_display.specs.Shortening.{AreShortened, IsCut, IsKeptLength, IsKeptBeginning};
 ghost use Rattle.textwrap_display.specs.Shortening.{IsShortened, word_width};
 ghost use Rattle.textwrap_styles.specs.Styles.{texts_of};
 ghost use Rattle.textwrap_layout.specs.Paragraph.{Built, Slice, line_view};
@@ -208,7 +208,7 @@ fn shortened<A: Allocator>(
 
 /// How many bytes of a line are kept before the placeholder.
 fn kept_len(line: &str, shortening: &Shortening<'_>) -> usize
-    ensures { IsKept shortening.now.break_words shortening.now.width
+    ensures { IsKeptLength shortening.now.break_words shortening.now.width
         shortening.now.placeholder.now line.now result }
 {
     let placeholder = display_width(shortening.placeholder);

@@ -266,9 +266,9 @@ struct Group<'l, 't, A: Allocator, C> {
 
 impl<A: Allocator, C: AnyColumn<A>> RowCells for Group<'_, '_, A, C> {
     ghost use Rattle.std.specs.Prelude.{length, map};
-    ghost use Rattle.textwrap_display.specs.Tables.{cell_texts, shown_lines};
+    ghost use Rattle.textwrap_display.specs.Tables.{cell_texts, shown_cells};
 
-    ghost texts = { λ group. shown_lines (map C.shape group.columns.now)
+    ghost texts = { λ group. shown_cells (map C.shape group.columns.now)
         (cell_texts group.cells.now) };
 
     ghost columns = { λ group. length group.columns.now };

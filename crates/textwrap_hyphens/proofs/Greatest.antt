@@ -1,14 +1,12 @@
 -- The greatest of numbers, and the greatest level of patterns.
 use Rattle.textwrap_hyphens.proofs.Common.{List, [], ◌∷◌, ◌++◌, ℕ, ◌≡◌, arith, max, map}
-use Rattle.textwrap_hyphens.proofs.Common.{PatternText, greatest, level_from, level_in, map-append}
+use Rattle.textwrap_hyphens.proofs.Common.{PatternText, greatest, pattern_level_from, level_in}
+use Rattle.textwrap_hyphens.proofs.Common.{map-append}
 use Rattle.textwrap_hyphens.proofs.Common.{ap, ◌∙◌}
-
-pub greatest-append : (ns ms : List ℕ) → greatest (ns ++ ms) ≡ max (greatest ns) (greatest ms)
-greatest-append [] ms = omega arith
-greatest-append (n ∷ ns) ms = omega (arith, greatest-append ns ms)
+use Rattle.textwrap_trie.proofs.GreatestNumbers.{greatest-append}
 
 pub level_from-append : (ps qs : List PatternText) (text : List ℕ) (place : ℕ)
-    → level_from (ps ++ qs) text place ≡ max (level_from ps text place) (level_from qs text place)
+    → pattern_level_from (ps ++ qs) text place ≡ max (pattern_level_from ps text place) (pattern_level_from qs text place)
 level_from-append ps qs text place =
     ap greatest (map-append (λ (p : PatternText). level_in p text place) ps qs)
     ∙ greatest-append _ _

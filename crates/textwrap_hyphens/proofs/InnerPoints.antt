@@ -20,10 +20,11 @@ use Rattle.textwrap_words.specs.Cuts.{AreInnerCuts, AreNext, IsNextCut}
 use Rattle.textwrap_hyphens.proofs.Runs.{past-letter, past-other}
 use Rattle.textwrap_hyphens.specs.Hyphenation.{Hyphenation, is_place}
 use Rattle.textwrap_hyphens.specs.Hyphenation.{places_of}
-use Rattle.textwrap_patterns.specs.Letters.{is_hyphen, is_kept, is_letter, letter_at, letters_among}
+use Rattle.textwrap_patterns.specs.Letters.{is_hyphen_character, is_kept, is_letter_or_mark}
+use Rattle.textwrap_patterns.specs.Letters.{letter_at, letters_among}
 use Rattle.textwrap_patterns.specs.Letters.{letters_of, run_len}
 use Rattle.textwrap_patterns.specs.Places.{AreInnerPlaces, IsNextPlace}
-use Rattle.textwrap_hyphens.specs.Points.{points_in, points_of, points_past}
+use Rattle.textwrap_hyphens.specs.Points.{points_in, hyphenation_points, points_past}
 use Rattle.textwrap_patterns.specs.declared.letters.Letter.{Letter}
 
 -- ---- places
@@ -218,7 +219,7 @@ past-cuts h text (suc most) (c ∷ cs) low last inner fits le stand =
     let at = λ (c : Letter). c.at in
     let all = c ∷ cs in
     let n = run_len all in
-    let by = elim (is_letter c.ch) as (λ b. is_letter c.ch ≡ b
+    let by = elim (is_letter_or_mark c.ch) as (λ b. is_letter_or_mark c.ch ≡ b
     → AreNext (IsNextCut text) (points_past h 0 all) last) [
       | true ↦ λ is.
           let next = past-letter h all c (omega arith) is in
@@ -242,9 +243,9 @@ past-cuts h text (suc most) (c ∷ cs) low last inner fits le stand =
     by refl
 
 pub points-cuts : (h : Hyphenation) (word : List ℕ) → IsUtf8 word → AreInner h.exception
-    → AreInnerCuts word (points_of h word)
+    → AreInnerCuts word (hyphenation_points h word)
 points-cuts h word utf8 inner =
-    elim (not h.in_parts && list_any (λ c. is_hyphen c.ch) (letters_of word))
+    elim (not h.in_parts && list_any (λ c. is_hyphen_character c.ch) (letters_of word))
     as (λ b. AreInnerCuts word (cond b [] (points_past h 0 (letters_of word)))) [
       | true ↦ tt
       | false ↦ past-cuts h word (length (letters_of word)) (letters_of word) 0 0 inner

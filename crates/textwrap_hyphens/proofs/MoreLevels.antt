@@ -3,11 +3,11 @@ use Rattle.std.specs.Prelude.{Contains}
 use Rattle.textwrap_text.proofs.Lists.Elements.{contains-cases, contains-nil}
 use Rattle.textwrap_hyphens.proofs.Common.{List, ℕ, ◌≤◌, ◌∷◌, [], ◌-◌, All, All-head, All-tail, ap}
 use Rattle.textwrap_hyphens.proofs.Common.{arith, drop, inl, inr, map, suc}
-use Rattle.textwrap_hyphens.proofs.Common.{PatternText, greatest, level, level_from, level_in}
+use Rattle.textwrap_hyphens.proofs.Common.{PatternText, greatest, level, pattern_level_from, level_in}
 use Rattle.textwrap_hyphens.proofs.Common.{range_with_len}
 
 level-among : (others : List PatternText) (p : PatternText) (text : List ℕ) (place : ℕ)
-    → Contains others p → level_in p text place ≤ level_from others text place
+    → Contains others p → level_in p text place ≤ pattern_level_from others text place
 level-among [] p text place among = absurd (contains-nil p among)
 level-among (q ∷ others) p text place among = elim (contains-cases q p others among) [
   | inl same ↦ let here = ap (λ (r : PatternText). level_in r text place) same in
@@ -17,7 +17,7 @@ level-among (q ∷ others) p text place among = elim (contains-cases q p others 
 
 level_from-more : (patterns others : List PatternText) (text : List ℕ) (place : ℕ)
     → All (λ p. Contains others p) patterns
-    → level_from patterns text place ≤ level_from others text place
+    → pattern_level_from patterns text place ≤ pattern_level_from others text place
 level_from-more [] others text place all = omega arith
 level_from-more (p ∷ patterns) others text place all =
     let here = level-among others p text place
@@ -33,9 +33,9 @@ greatest-each f g each (n ∷ ns) = omega (arith, each n, greatest-each f g each
 
 pub level-more : (patterns others : List PatternText) (dotted : List ℕ) (place : ℕ)
     → All (λ p. Contains others p) patterns
-    → level (level_from patterns) dotted place ≤ level (level_from others) dotted place
+    → level (pattern_level_from patterns) dotted place ≤ level (pattern_level_from others) dotted place
 level-more patterns others dotted place all =
-    greatest-each (λ at. level_from patterns (drop at dotted) (place - at))
-    (λ at. level_from others (drop at dotted) (place - at))
+    greatest-each (λ at. pattern_level_from patterns (drop at dotted) (place - at))
+    (λ at. pattern_level_from others (drop at dotted) (place - at))
     (λ at. level_from-more patterns others (drop at dotted) (place - at) all)
     (range_with_len 0 (suc place))

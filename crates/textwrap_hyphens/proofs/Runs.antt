@@ -4,7 +4,7 @@ use Rattle.textwrap_hyphens.proofs.Common.{arith, drop, length, take, zero, suc,
 use Rattle.textwrap_hyphens.proofs.Common.{get_or}
 use Rattle.textwrap_hyphens.proofs.Common.{cases_Bool}
 use Rattle.textwrap_hyphens.specs.Hyphenation.{Hyphenation}
-use Rattle.textwrap_patterns.specs.Letters.{is_letter, run_len}
+use Rattle.textwrap_patterns.specs.Letters.{is_letter_or_mark, run_len}
 use Rattle.textwrap_hyphens.specs.Points.{points_in, points_past}
 use Rattle.textwrap_patterns.specs.declared.letters.Letter.{Letter}
 
@@ -19,7 +19,7 @@ run-within [] = omega arith
 run-within (c ∷ cs) = grind (arith, cases_Bool, run-within cs)
 
 pub past-letter : (h : Hyphenation) (cs : List Letter) (d : Letter) → 0 < length cs
-    → is_letter (get_or cs 0 d).ch ≡ true
+    → is_letter_or_mark (get_or cs 0 d).ch ≡ true
     → (points_past h 0 cs
     ≡ points_in h (take (run_len cs) cs) ++ points_past h 0 (drop (run_len cs) cs))
     × (0 < run_len cs)
@@ -33,6 +33,6 @@ past-letter h (c ∷ cs) d some is =
     )
 
 pub past-other : (h : Hyphenation) (cs : List Letter) (d : Letter) → 0 < length cs
-    → is_letter (get_or cs 0 d).ch ≡ false → points_past h 0 cs ≡ points_past h 0 (drop 1 cs)
+    → is_letter_or_mark (get_or cs 0 d).ch ≡ false → points_past h 0 cs ≡ points_past h 0 (drop 1 cs)
 past-other h [] d some is = absurd (omega arith)
 past-other h (c ∷ cs) d some is = rw is refl

@@ -16,7 +16,7 @@ use Rattle.textwrap_words.proofs.Word.Splitting.{HoldsBetween, after-hyphen}
 use Rattle.textwrap_words.specs.Cuts.{AreInnerCuts, AreLaterCuts, IsNextCut}
 use Rattle.textwrap_words.specs.WordSplitters.{inner_offsets}
 use Rattle.textwrap_hyphens.specs.Hyphenation.{Hyphenation}
-use Rattle.textwrap_hyphens.specs.Points.{points_of}
+use Rattle.textwrap_hyphens.specs.Points.{hyphenation_points}
 use Rattle.textwrap_hyphens.specs.Splitting.{is_split_point, split_points}
 
 -- ---- cuts
@@ -123,11 +123,11 @@ inner-increasing text [] are k within = absurd (omega (arith, within))
 inner-increasing text (cut ∷ cuts) (here, rest) k within =
     next-increasing (IsNextCut text) cuts cut (λ before after next. next.0) rest k within
 
-module _ (h : Hyphenation) (text : List ℕ) (inner : AreInnerCuts text (points_of h text)) where
+module _ (h : Hyphenation) (text : List ℕ) (inner : AreInnerCuts text (hyphenation_points h text)) where
   split-between : IsUtf8 text → HoldsBetween (is_split_point h text) text
   split-between utf8 at some inside is =
-      elim (or_cases (among (points_of h text) at) (is_hyphen_point text at) is) [
-        | inl found ↦ among-between text (points_of h text) 0 inner at some inside found
+      elim (or_cases (among (hyphenation_points h text) at) (is_hyphen_point text at) is) [
+        | inl found ↦ among-between text (hyphenation_points h text) 0 inner at some inside found
         | inr own ↦ after-hyphen text at utf8 some inside own
       ]
 
@@ -137,21 +137,21 @@ module _ (h : Hyphenation) (text : List ℕ) (inner : AreInnerCuts text (points_
       (omega arith)
 
   -- a word without hyphens of its own has the points of the dictionary
-  pub split-plain : hyphen_points text ≡ [] → split_points h text ≡ points_of h text
+  pub split-plain : hyphen_points text ≡ [] → split_points h text ≡ hyphenation_points h text
   split-plain none =
-      tests-all text (is_split_point h text) (length text - 1) 0 (points_of h text) inner
+      tests-all text (is_split_point h text) (length text - 1) 0 (hyphenation_points h text) inner
       (omega arith) (λ some. omega arith) (λ at some inside.
-      ap (λ b. among (points_of h text) at || b)
+      ap (λ b. among (hyphenation_points h text) at || b)
       (sym (own-among text at some inside) ∙ ap (λ points. among points at) none)
-      ∙ or-false (among (points_of h text) at))
+      ∙ or-false (among (hyphenation_points h text) at))
 
 -- one more offset of a word is looked at
 pub split-more : (h : Hyphenation) (text : List ℕ) (point : ℕ) (items more : List ℕ) (b : Bool)
     → 0 < point → point < length text
     → items ≡ filter (is_split_point h text) (range_with_len 1 (point - 1))
-    → b ≡ (among (points_of h text) point || among (hyphen_points text) point)
+    → b ≡ (among (hyphenation_points h text) point || among (hyphen_points text) point)
     → more ≡ cond b (items ++ point ∷ []) items
     → more ≡ filter (is_split_point h text) (range_with_len 1 (point + 1 - 1))
 split-more h text point items more b some inside so_far is grown =
     points-more (is_split_point h text) point items more b some so_far
-    (is ∙ ap (λ own. among (points_of h text) point || own) (own-among text point some inside)) grown
+    (is ∙ ap (λ own. among (hyphenation_points h text) point || own) (own-among text point some inside)) grown

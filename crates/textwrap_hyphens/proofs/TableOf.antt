@@ -6,9 +6,9 @@ use Rattle.std.proofs.lemmas.Slice.Eq.{bytes_eq-Decides}
 use Rattle.textwrap_trie.specs.Entries.{entry_for}
 use Rattle.textwrap_trie.specs.Merging.{greatest_number, number_in}
 use Rattle.textwrap_trie.specs.Trie as trie
-use Rattle.textwrap_trie.specs.declared.entries.Entry.{Entry}
+use Rattle.textwrap_trie.specs.declared.entries.TrieEntry.{TrieEntry}
 use Rattle.textwrap_hyphens.proofs.Common.{All, All-head, All-tail, Bool, List, [], ap, arith, cond}
-use Rattle.textwrap_hyphens.proofs.Common.{false, get_or, length, length-append, level_from, map}
+use Rattle.textwrap_hyphens.proofs.Common.{false, get_or, length, length-append, pattern_level_from, map}
 use Rattle.textwrap_hyphens.proofs.Common.{level_in, nat_eq, refl, rules, starts_with, subst, suc, take}
 use Rattle.textwrap_hyphens.proofs.Common.{true, zero, ℕ, ◌+◌, ◌++◌, ◌-◌, ◌∙◌, ◌∷◌, ◌≡◌, ◌≤◌}
 use Rattle.textwrap_patterns.proofs.Said.{places-are}
@@ -33,9 +33,9 @@ begins-first (suc m) [] (k ∷ ks) short = refl
 begins-first (suc m) (c ∷ cs) (k ∷ ks) short =
     ap (λ b. nat_eq k c && b) (begins-first m cs ks (omega arith))
 
-pub patterns-say : {A : Type 0} (m : ℕ) (es : List (Entry A)) (text : List ℕ) (place : ℕ)
+pub patterns-say : {A : Type 0} (m : ℕ) (es : List (TrieEntry A)) (text : List ℕ) (place : ℕ)
     → longest (map pattern_of es) ≤ m
-    → greatest_number es (take m text) place ≡ level_from (map pattern_of es) text place
+    → greatest_number es (take m text) place ≡ pattern_level_from (map pattern_of es) text place
 patterns-say m [] text place short = refl
 patterns-say m (e ∷ es) text place short =
     let here : number_in e (take m text) place ≡ level_in (pattern_of e) text place =
@@ -46,7 +46,7 @@ patterns-say m (e ∷ es) text place short =
 
 -- ---- exceptions
 
-exception-step : {A : Type 0} (e : Entry A) (es : List (Entry A)) (letters : List ℕ) (b : Bool)
+exception-step : {A : Type 0} (e : TrieEntry A) (es : List (TrieEntry A)) (letters : List ℕ) (b : Bool)
     → bytes_eq e.key.items letters ≡ b → AreInnerPlaces (length e.key.items) e.numbers.items
     → inner_places (length letters) (entry_for 0 es letters)
     ≡ exception_for (map exception_of es) letters
@@ -59,13 +59,13 @@ exception-step e es letters true is inner rest =
     rw are refl
 exception-step e es letters false is inner rest = rest
 
-pub exceptions-say : {A : Type 0} (es : List (Entry A)) (letters : List ℕ)
+pub exceptions-say : {A : Type 0} (es : List (TrieEntry A)) (letters : List ℕ)
     → All (λ e. AreInnerPlaces (length e.key.items) e.numbers.items) es
     → inner_places (length letters) (entry_for 0 es letters)
     ≡ exception_for (map exception_of es) letters
 exceptions-say {A} [] letters inner = refl
 exceptions-say {A} (e ∷ es) letters inner =
-    let Inner = λ (e : Entry A). AreInnerPlaces (length e.key.items) e.numbers.items in
+    let Inner = λ (e : TrieEntry A). AreInnerPlaces (length e.key.items) e.numbers.items in
     exception-step e es letters (bytes_eq e.key.items letters) refl (All-head Inner e es inner)
     (exceptions-say es letters (All-tail Inner e es inner))
 
@@ -98,7 +98,7 @@ same-said : (f g : List ℕ → ℕ → ℕ) (m n : ℕ) (p q : List ℕ → Opt
 same-said f g m n p q a b c d one two three four five = rw (one, two, three, four, five) refl
 
 -- numbers behind which these six stand
-pub table-says : {A : Type 0} (body : List ℕ) (ex pa m left right sum : ℕ) (ps es : List (Entry A))
+pub table-says : {A : Type 0} (body : List ℕ) (ex pa m left right sum : ℕ) (ps es : List (TrieEntry A))
     → m ≡ longest (map pattern_of ps)
     → All (λ e. AreInnerPlaces (length e.key.items) e.numbers.items) es
     → ((more text : List ℕ) (place : ℕ) → trie.level_from text (body ++ more) pa place

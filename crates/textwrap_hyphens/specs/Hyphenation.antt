@@ -5,7 +5,7 @@ use Rattle.std.specs.Prelude.{slice_index, take, unwrap_or}
 use Rattle.std.specs.List.{range_with_len}
 use Rattle.textwrap_patterns.specs.Letters.{apostrophe, counts, has_letters}
 use Rattle.textwrap_patterns.specs.Listed.{ExceptionText, Listed}
-use Rattle.textwrap_hyphens.specs.Levels.{dotted, level, level_from, longest}
+use Rattle.textwrap_hyphens.specs.Levels.{dotted, level, pattern_level_from, longest}
 
 -- what a dictionary says: the greatest level that patterns at the beginning of a text have at a place
 -- of it, how many letters they have at most, the places of an exception with some letters, how many
@@ -28,7 +28,7 @@ exception_for (e ∷ es) letters =
 -- what a dictionary says in which this is listed
 abbrev pub hyphenation_by : Listed → Hyphenation
 hyphenation_by d = record {
-  level_from = level_from d.patterns;
+  level_from = pattern_level_from d.patterns;
   longest = longest d.patterns;
   exception = exception_for d.exceptions;
   left = d.left;

@@ -1,6 +1,6 @@
 -- Laws of the definitions on hyphenation.
 use Rattle.std.specs.Prelude.{◌≡◌, ◌≢◌, ℕ, ◌<◌, ◌≤◌, ◌^◌, List, ◌∷◌, ◌++◌, All, Contains, false, true}
-use Rattle.textwrap_hyphens.specs.Levels.{level, level_from}
+use Rattle.textwrap_hyphens.specs.Levels.{level, pattern_level_from}
 use Rattle.textwrap_hyphens.specs.Seal.{is_sealed}
 use Rattle.textwrap_patterns.specs.Listed.{PatternText}
 
@@ -10,7 +10,7 @@ abbrev pub MorePatternsRaiseLevels : Type 0
 MorePatternsRaiseLevels =
     (patterns others : List PatternText) (dotted : List ℕ) (place : ℕ)
     → All (λ p. Contains others p) patterns
-    → level (level_from patterns) dotted place ≤ level (level_from others) dotted place
+    → level (pattern_level_from patterns) dotted place ≤ level (pattern_level_from others) dotted place
 
 -- where one number of a dictionary became another, that is told
 abbrev pub OneChangeIsTold : Type 0

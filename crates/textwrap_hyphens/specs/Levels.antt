@@ -3,10 +3,7 @@ use Rattle.std.specs.Prelude.{ℕ, suc, ◌+◌, ◌-◌, List, [], ◌∷◌, �
 use Rattle.std.specs.Prelude.{drop, if◌then◌else◌, length, map, max, nat_eq, slice_index}
 use Rattle.std.specs.List.{range_with_len, starts_with}
 use Rattle.textwrap_patterns.specs.Listed.{PatternText}
-
-abbrev pub greatest : List ℕ → ℕ
-greatest [] = 0
-greatest (n ∷ ns) = max n (greatest ns)
+use Rattle.textwrap_trie.specs.Merging.{greatest}
 
 -- how many letters the longest pattern has
 abbrev pub longest : List PatternText → ℕ
@@ -18,8 +15,8 @@ level_in pattern text place =
     if starts_with nat_eq text pattern.letters then slice_index pattern.levels place else 0
 
 -- the greatest level that patterns at the beginning of a text have at a place of it
-abbrev pub level_from : List PatternText → List ℕ → ℕ → ℕ
-level_from patterns text place = greatest (map (λ p. level_in p text place) patterns)
+abbrev pub pattern_level_from : List PatternText → List ℕ → ℕ → ℕ
+pattern_level_from patterns text place = greatest (map (λ p. level_in p text place) patterns)
 
 -- the greatest level at a place that something has which stands in a text, over all places where it
 -- may begin, each with the levels from there on

@@ -4,12 +4,12 @@ use Rattle.std.specs.Prelude.{filter}
 use Rattle.std.specs.List.{list_any}
 use Rattle.textwrap_words.specs.WordSplitters.{inner_offsets, is_hyphen_point}
 use Rattle.textwrap_hyphens.specs.Hyphenation.{Hyphenation}
-use Rattle.textwrap_hyphens.specs.Points.{points_of}
+use Rattle.textwrap_hyphens.specs.Points.{hyphenation_points}
 
 -- the dictionary has a hyphen at the offset, or a hyphen between alphanumeric characters ends there
 abbrev pub is_split_point : Hyphenation → List ℕ → ℕ → Bool
 is_split_point h text at =
-    list_any (λ point. point == at) (points_of h text) || is_hyphen_point text at
+    list_any (λ point. point == at) (hyphenation_points h text) || is_hyphen_point text at
 
 abbrev pub split_points : Hyphenation → List ℕ → List ℕ
 split_points h text = filter (is_split_point h text) (inner_offsets text)

@@ -12,21 +12,21 @@ ghost use Rattle.textwrap_hyphens.specs.Building.{exception_of, pattern_of};
 use crate::table::{VERSION, sum_of};
 use std::alloc::{AllocError, Allocator};
 use textwrap_patterns::patterns::{Exception, Pattern};
-use textwrap_trie::entries::Entry;
+use textwrap_trie::entries::TrieEntry;
 use textwrap_trie::merging::{Rule, push_entries};
 
 /// Patterns, as entries of a trie.
 pub(crate) fn pattern_entries<A: Allocator + Copy>(
     alloc: A,
     patterns: Vec<Pattern<A>, A>,
-) -> Result<Vec<Entry<A>, A>, AllocError>
+) -> Result<Vec<TrieEntry<A>, A>, AllocError>
     ensures { IfOk result (λ entries.
         map pattern_of entries.items ≡ map pattern_view patterns.items) }
 {
     let mut entries = Vec::new(alloc);
     for pattern in patterns {
         let numbers = numbers_of(alloc, &pattern.levels)?;
-        entries.push(Entry {
+        entries.push(TrieEntry {
             key: pattern.letters,
             numbers,
         })?;
@@ -49,7 +49,7 @@ fn numbers_of<A: Allocator>(alloc: A, levels: &[u8]) -> Result<Vec<usize, A>, Al
 pub(crate) fn exception_entries<A: Allocator>(
     alloc: A,
     exceptions: Vec<Exception<A>, A>,
-) -> Result<Vec<Entry<A>, A>, AllocError>
+) -> Result<Vec<TrieEntry<A>, A>, AllocError>
     ensures entries { IfOk result (λ entries.
         map exception_of entries.items ≡ map exception_view exceptions.items) }
     ensures inner { IfOk result (λ entries.
@@ -57,7 +57,7 @@ pub(crate) fn exception_entries<A: Allocator>(
 {
     let mut entries = Vec::new(alloc);
     for exception in exceptions {
-        entries.push(Entry {
+        entries.push(TrieEntry {
             key: exception.letters,
             numbers: exception.places,
         })?;
@@ -66,7 +66,7 @@ pub(crate) fn exception_entries<A: Allocator>(
 }
 
 /// How many letters the longest key has.
-fn longest_key<A: Allocator>(entries: &[Entry<A>]) -> usize
+fn longest_key<A: Allocator>(entries: &[TrieEntry<A>]) -> usize
     ensures { result ≡ longest (map pattern_of entries.now) }
 {
     let mut longest = 0;
@@ -91,8 +91,8 @@ pub(crate) fn set_minima(words: &mut [usize], left: usize, right: usize)
 /// The numbers of a dictionary.
 pub(crate) fn write_table<A: Allocator + Copy>(
     alloc: A,
-    patterns: Vec<Entry<A>, A>,
-    exceptions: Vec<Entry<A>, A>,
+    patterns: Vec<TrieEntry<A>, A>,
+    exceptions: Vec<TrieEntry<A>, A>,
     left: usize,
     right: usize,
 ) -> Result<Vec<usize, A>, AllocError>

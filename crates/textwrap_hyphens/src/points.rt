@@ -3,11 +3,11 @@ ghost use Rattle.std.specs.Prelude.{◌≡◌, ◌++◌, ◌-◌, ◌<◌, ◌&&
 ghost use Rattle.std.specs.Prelude.{slice_index, IfOk, OnOk};
 ghost use Rattle.std.specs.List.{list_any, range_with_len};
 ghost use Rattle.textwrap_words.specs.Cuts.{AreInnerCuts};
-ghost use Rattle.textwrap_patterns.specs.Letters.{is_hyphen};
+ghost use Rattle.textwrap_patterns.specs.Letters.{is_hyphen_character};
 ghost use Rattle.textwrap_hyphens.specs.Levels.{levels_of};
 ghost use Rattle.textwrap_patterns.specs.Places.{AreInnerPlaces};
 ghost use Rattle.textwrap_hyphens.specs.Hyphenation.{is_place, places_of};
-ghost use Rattle.textwrap_hyphens.specs.Points.{points_in, points_of, points_past};
+ghost use Rattle.textwrap_hyphens.specs.Points.{points_in, hyphenation_points, points_past};
 ghost use Rattle.textwrap_hyphens.specs.Table.{held};
 
 use crate::levels::levels;
@@ -34,7 +34,8 @@ pub fn points<A: Allocator + Copy>(
     word: &str,
     patterns: &PatternTable<'_>,
 ) -> Result<Vec<usize, A>, AllocError>
-    ensures points { IfOk result (λ points. points.items ≡ points_of (held patterns.now) word.now) }
+    ensures points { IfOk result (λ points. points.items
+        ≡ hyphenation_points (held patterns.now) word.now) }
     ensures cuts { IfOk result (λ points. AreInnerCuts word.now points.items) }
 {
     let letters = letters_of(alloc, word)?;
@@ -47,13 +48,13 @@ pub fn points<A: Allocator + Copy>(
 /// Whether a word is left whole, as it has a hyphen and its parts are not asked for.
 fn is_left_whole(letters: &[Letter], patterns: &PatternTable<'_>) -> bool
     ensures { result ≡ (not (held patterns.now).in_parts && list_any
-        (λ c. is_hyphen c.ch) letters.now) }
+        (λ c. is_hyphen_character c.ch) letters.now) }
 {
     !patterns.in_parts() && has_hyphen(letters)
 }
 
 fn has_hyphen(letters: &[Letter]) -> bool
-    ensures { result ≡ list_any (λ c. is_hyphen c.ch) letters.now }
+    ensures { result ≡ list_any (λ c. is_hyphen_character c.ch) letters.now }
 {
     letters.iter().any(|letter| is_hyphen(letter.ch))
 }

@@ -5,7 +5,7 @@ use Rattle.textwrap_marked.proofs.LineNames.{arith, codes, ends_with, flat_map, 
 use Rattle.textwrap_marked.proofs.LineNames.{length, map, nat_eq, None, Option, refl, reverse, Some}
 use Rattle.textwrap_marked.proofs.LineNames.{suc, suffix_len, sym, take, take_more, zero, ⊤, ◌∙◌, ap₂}
 use Rattle.textwrap_marked.proofs.LineNames.{suffix_len-le-length, ending_bytes, FenceText, is_return}
-use Rattle.textwrap_marked.proofs.LineNames.{line_of, LineText, new_fence, passed, StateText}
+use Rattle.textwrap_marked.proofs.LineNames.{line_as_read, LineText, new_fence, passed, StateText}
 use Rattle.textwrap_marked.proofs.LineNames.{without_returns, spaced_words}
 use Rattle.textwrap_text.specs.declared.line_ending.LineEnding.{LineEnding}
 use Rattle.textwrap_text.specs.declared.line_ending.LineEnding.TheVariants.{CRLF, LF}
@@ -18,7 +18,7 @@ use Rattle.textwrap_marked.proofs.BegunAlike.{return-ends}
 use Rattle.textwrap_marked.proofs.Feedless.{IsFeedless, NoFeed}
 use Rattle.textwrap_marked.proofs.ReturnsOff.{EndsWell, return_if, returns-off}
 use Rattle.textwrap_marked.proofs.TextBlocks.{AreOneBlock, last_line}
-use Rattle.textwrap_marked.specs.Lines.{line_from}
+use Rattle.textwrap_marked.specs.Lines.{line_from_words}
 use Rattle.textwrap_marks.specs.Prefixes.{prefix_ends}
 
 abbrev pub returns_by : LineEnding → Bool
@@ -91,9 +91,9 @@ anew-content (Some e) returns fed raw = content-same raw (returns && fed)
 -- all else that is read of it stays
 pub anew-line : (options : ReflowOptions) (state : StateText) (e : Option LineEnding) (returns : Bool)
     (raw : List ℕ) (fed : Bool)
-    → line_of options state (anew_raw e returns fed raw) fed ≡ anew e returns (line_of options state raw fed)
+    → line_as_read options state (anew_raw e returns fed raw) fed ≡ anew e returns (line_as_read options state raw fed)
 anew-line options state e returns raw fed =
-    ap (λ c. line_from options state (anew_raw e returns fed raw) fed (spaced_words c)
+    ap (λ c. line_from_words options state (anew_raw e returns fed raw) fed (spaced_words c)
     (prefix_ends options state.in_block (spaced_words c))) (anew-content e returns fed raw)
 
 -- nor does it change what is open behind it

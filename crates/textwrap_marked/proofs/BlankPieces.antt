@@ -4,7 +4,7 @@ use Rattle.textwrap_marked.proofs.LineNames.{All-cons, All-head, All-map, All-ni
 use Rattle.textwrap_marked.proofs.LineNames.{ap, append_assoc, flat_map, refl, subst, sym, ◌∙◌}
 use Rattle.textwrap_marked.proofs.LineNames.{IsDivision, all-left, all-right, blank, word_of, WordText}
 use Rattle.textwrap_marked.proofs.LineNames.{LineText}
-use Rattle.textwrap_marked.proofs.Common.{piece_words, is_cut, pieces, words_of}
+use Rattle.textwrap_marked.proofs.Common.{piece_words, is_cut, pieces, words_of_lines}
 use Rattle.textwrap_marks.specs.declared.options.ReflowOptions.{ReflowOptions}
 use Rattle.textwrap_marked.specs.Pieces.{onto_front, with_blank}
 
@@ -37,9 +37,9 @@ pub words-all : (P : WordText → Type 0) → ((text : List ℕ) → EndsInBlank
     → (options : ReflowOptions) (first : LineText) (lines : List LineText)
     → All P (piece_words options first lines)
 words-all P each options first lines =
-    let texts = pieces options first.starred (words_of lines) in
+    let texts = pieces options first.starred (words_of_lines lines) in
     All-map P word_of texts (All-weaker EndsInBlank (λ t. P (word_of t)) each texts
-    (pieces-blank options first.starred (words_of lines)))
+    (pieces-blank options first.starred (words_of_lines lines)))
 
 -- what holds of all pieces holds of those of each line
 pub flat-all : {X : Type 0} (P : X → Type 0) (lines : List (List X))

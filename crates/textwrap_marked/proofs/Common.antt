@@ -2,10 +2,10 @@
 pub use Rattle.textwrap_marked.specs.Blocks.{blocks, goes_on, is_beside, stays}
 pub use Rattle.textwrap_marked.specs.Laws.{AreSameParts, HasPlainMarkers, IsSameBy, Part}
 pub use Rattle.textwrap_marked.specs.Laws.{from_letter, line_sense, parts_of_blocks, piece_words}
-pub use Rattle.textwrap_marked.specs.Laws.{text_parts, words_in}
-pub use Rattle.textwrap_marked.specs.Pieces.{is_cut, pieces, words_of}
+pub use Rattle.textwrap_marked.specs.Laws.{text_parts, words_between_white}
+pub use Rattle.textwrap_marked.specs.Pieces.{is_cut, pieces, words_of_lines}
 pub use Rattle.textwrap_marked.specs.Reflow.{AreOfBlocks, IsOfBlock, IsReflowedBehind, IsReflowedFrom}
-pub use Rattle.textwrap_marked.specs.Reflow.{algorithm_of, break_white, byte_order_mark, ending_if}
+pub use Rattle.textwrap_marked.specs.Reflow.{dividing_algorithm, break_white, byte_order_mark, ending_if}
 pub use Rattle.textwrap_marked.specs.Reflow.{filled_end, filled_ending, first_room, kept_line}
 pub use Rattle.textwrap_marked.specs.Reflow.{later_room, line_text, line_texts, printed}
 pub use Rattle.textwrap_marked.specs.Reflow.{shown_lines}

@@ -3,8 +3,8 @@ use Rattle.textwrap_marked.proofs.LineNames.{◌≡◌, ℕ, ◌<◌, Bool, true
 use Rattle.textwrap_marked.proofs.LineNames.{All-head, All-tail, ap, append_assoc, append-nil, arith}
 use Rattle.textwrap_marked.proofs.LineNames.{flat_map, length, length-slice_split, lt-ltb, nat_lt, None}
 use Rattle.textwrap_marked.proofs.LineNames.{Option, refl, slice_split, Some, subst, sym, ⊤, ◌==◌, ◌∙◌}
-use Rattle.textwrap_marked.proofs.LineNames.{ending_bytes, entered, first_state, flat, line_of}
-use Rattle.textwrap_marked.proofs.LineNames.{lines_of, LineText, passed, read_lines, StateText}
+use Rattle.textwrap_marked.proofs.LineNames.{ending_bytes, entered, first_state, flat, line_as_read}
+use Rattle.textwrap_marked.proofs.LineNames.{lines_of_text, LineText, passed, read_lines, StateText}
 use Rattle.textwrap_marked.proofs.LineNames.{with_titles, without_returns}
 use Rattle.textwrap_text.specs.declared.line_ending.LineEnding.{LineEnding}
 use Rattle.textwrap_marked.proofs.Common.{AreSameParts, blocks, ending_if, is_beside, IsSameBy}
@@ -33,7 +33,7 @@ lines-fed options [] state all = tt
 lines-fed options (raw ∷ []) state all = All-head IsFeedless raw [] all
 lines-fed options (raw ∷ next ∷ raws) state all =
     let at = entered state (without_returns raw) in
-    let line = line_of options at raw (nat_lt 0 (length (next ∷ raws))) in (
+    let line = line_as_read options at raw (nat_lt 0 (length (next ∷ raws))) in (
       All-head IsFeedless raw (next ∷ raws) all,
       lt-ltb 0 (length (next ∷ raws)) (omega arith),
       lines-fed options (next ∷ raws) (passed at line) (All-tail IsFeedless raw (next ∷ raws) all),
@@ -64,7 +64,7 @@ parts-fed ((first ∷ lines) ∷ bs) beside fed =
 text-fed : (options : ReflowOptions) (text : List ℕ) → AllFed (text_parts options text)
 text-fed options text =
     let raws = slice_split (λ c. c == 10) text in
-    parts-fed (blocks (lines_of options text)) false (subst AreFed (sym (blocks-flat (lines_of options text)))
+    parts-fed (blocks (lines_of_text options text)) false (subst AreFed (sym (blocks-flat (lines_of_text options text)))
     (titles-fed (read_lines options first_state raws) (lines-fed options raws first_state (split-feedless text))))
 
 -- ---- with another ending

@@ -17,7 +17,7 @@ use Rattle.textwrap_marked.proofs.PrintedLines.{texts_more}
 use Rattle.textwrap_marked.proofs.PrintedText.{filled-last}
 use Rattle.textwrap_marked.proofs.AnewLines.{returns_by}
 use Rattle.textwrap_marked.proofs.TextBack.{IsTextBack}
-use Rattle.textwrap_marked.specs.Reflow.{ending_of, first_ending}
+use Rattle.textwrap_marked.specs.Reflow.{ending_of_line, first_ending}
 
 -- ---- the first line says it, if lines follow
 
@@ -26,14 +26,14 @@ ending-by LF = refl
 ending-by CRLF = refl
 
 first-same : (raw new : List ℕ) (raws news : List (List ℕ))
-    → AreBegun (returns_by (ending_of raw (nat_lt 0 (length raws)))) (raw ∷ raws) (new ∷ news)
+    → AreBegun (returns_by (ending_of_line raw (nat_lt 0 (length raws)))) (raw ∷ raws) (new ∷ news)
     → nat_lt 0 (length news) ≡ true
-    → ending_of new (nat_lt 0 (length news)) ≡ ending_of raw (nat_lt 0 (length raws))
-first-same raw new raws news (inl (same, fed)) some = λ i. ending_of (sym same i) (sym fed i)
+    → ending_of_line new (nat_lt 0 (length news)) ≡ ending_of_line raw (nat_lt 0 (length raws))
+first-same raw new raws news (inl (same, fed)) some = λ i. ending_of_line (sym same i) (sym fed i)
 first-same raw new raws news (inr place) some =
     ap (λ b. cond (b && ends_with nat_eq new (codes "\r")) CRLF LF) some
     ∙ ap (λ b. cond (true && b) CRLF LF) (place.ends some)
-    ∙ ending-by (ending_of raw (nat_lt 0 (length raws)))
+    ∙ ending-by (ending_of_line raw (nat_lt 0 (length raws)))
 
 first-ends : (text : List ℕ) (raw : List ℕ) (raws : List (List ℕ))
     → AreBegun (returns_by (first_ending (slice_split (λ c. c == 10) text)))

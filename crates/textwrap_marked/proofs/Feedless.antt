@@ -4,8 +4,8 @@ use Rattle.textwrap_marked.proofs.LineNames.{◌==◌, All, All-append, All-cons
 use Rattle.textwrap_marked.proofs.LineNames.{All-nil, All-tail, ap, codes, length, map, nat_lt, refl}
 use Rattle.textwrap_marked.proofs.LineNames.{slice_split, subst, join_with_byte, onto_first, suffix_len}
 use Rattle.textwrap_marked.proofs.LineNames.{sym, ◌∙◌, all-left, all-right, All-replicate, text_width}
-use Rattle.textwrap_marked.proofs.LineNames.{without_returns, as_title, entered, is_return, line_of}
-use Rattle.textwrap_marked.proofs.LineNames.{LineText, passed, StateText, is_opening, blanks}
+use Rattle.textwrap_marked.proofs.LineNames.{without_returns, as_title, entered, is_return, line_as_read}
+use Rattle.textwrap_marked.proofs.LineNames.{LineText, passed, StateText, is_comment_opening, blanks}
 use Rattle.textwrap_marked.proofs.LineNames.{hanging_bullets, hanging_comments, spaced_text, SpacedText}
 use Rattle.textwrap_marks.specs.declared.options.ReflowOptions.{ReflowOptions}
 use Rattle.textwrap_text.proofs.Common.{All-take}
@@ -56,7 +56,7 @@ bullets-feedless (b ∷ bs) all =
     (bullets-feedless bs (All-tail IsFeedlessWord b bs all))
 
 mark-feedless : (bare : Bool) (word : List ℕ) → IsFeedless word → IsFeedless (hanging_mark bare word)
-mark-feedless bare word all = cut (is_opening word) bare
+mark-feedless bare word all = cut (is_comment_opening word) bare
   where
     cut : (o b : Bool) → IsFeedless (cond o (cond b (blanks (text_width word)) (codes " *")) word)
     cut true true = blanks-feedless (text_width word)
@@ -73,7 +73,7 @@ comments-feedless bare (c ∷ cs) all =
     (comments-feedless bare cs (All-tail IsFeedlessWord c cs all))
 
 line-feedless : (options : ReflowOptions) (state : StateText) (raw : List ℕ) (fed : Bool) → IsFeedless raw
-    → IsFeedlessLine (line_of options state raw fed)
+    → IsFeedlessLine (line_as_read options state raw fed)
 line-feedless options state raw fed all =
     let (lead, cs, qs, bs, ws, read) = line-read options state raw in
     let marks = cs ++ (qs ++ bs) in

@@ -5,7 +5,8 @@ use Rattle.textwrap_marked.proofs.LineNames.{arith, All-weaker, codes, drop, fal
 use Rattle.textwrap_marked.proofs.LineNames.{None, Option, prefix_len, refl, Some, subst, suc}
 use Rattle.textwrap_marked.proofs.LineNames.{suffix_len, sym, take-append-drop, append-nil, true≢false}
 use Rattle.textwrap_marked.proofs.LineNames.{⊤, ◌∙◌, bytes_eq-Decides, is_some, FenceText, entered}
-use Rattle.textwrap_marked.proofs.LineNames.{fence_at, line_of, LineText, new_fence, passed, StateText}
+use Rattle.textwrap_marked.proofs.LineNames.{fence_at, line_as_read, LineText, new_fence, passed}
+use Rattle.textwrap_marked.proofs.LineNames.{StateText}
 use Rattle.textwrap_marked.proofs.LineNames.{without_returns, is_comment_at, is_quote, begins_text}
 use Rattle.textwrap_marked.proofs.LineNames.{closes_block, has_letter, is_white, spaced_text}
 use Rattle.textwrap_marked.proofs.LineNames.{SpacedText}
@@ -177,9 +178,9 @@ outside true o c is = absurd (true≢false is)
 outside false o c is = ap (λ b. true && (b && c)) is
 
 line-marks : (options : ReflowOptions) (state : StateText) (raw : List ℕ) (fed : Bool)
-    → 0 < length (line_of options state raw fed).words
-    → AreSafeMarks options (is_in_block state.in_block false (line_of options state raw fed))
-    (marks_of (line_of options state raw fed).hanging)
+    → 0 < length (line_as_read options state raw fed).words
+    → AreSafeMarks options (is_in_block state.in_block false (line_as_read options state raw fed))
+    (marks_of (line_as_read options state raw fed).hanging)
 line-marks options state raw fed some =
     let (lead, cs, qs, bs, ws, read) = line-read options state raw in
     let is = line-is lead cs qs bs ws options state raw fed read.text read.have in
@@ -198,7 +199,7 @@ line-marks options state raw fed some =
 
 pub safe-passed : (options : ReflowOptions) (state : StateText) (raw : List ℕ) (fed : Bool)
     → IsSafe options state
-    → IsSafe options (passed (entered state (without_returns raw)) (line_of options (entered state (without_returns raw)) raw fed))
+    → IsSafe options (passed (entered state (without_returns raw)) (line_as_read options (entered state (without_returns raw)) raw fed))
 safe-passed options state raw fed safe =
     behind (fence_at state.fence (without_returns raw)) (at state.fence safe)
   where
@@ -227,10 +228,10 @@ safe-passed options state raw fed safe =
 
     behind : (f : Option FenceText) → IsSafeFence options state.in_block f
         → IsSafeFence options
-        (is_in_block state.in_block (is_some f) (line_of options (entered state (without_returns raw)) raw fed))
-        (new_fence f (line_of options (entered state (without_returns raw)) raw fed))
+        (is_in_block state.in_block (is_some f) (line_as_read options (entered state (without_returns raw)) raw fed))
+        (new_fence f (line_as_read options (entered state (without_returns raw)) raw fed))
     behind (Some fence) safe =
-        let here = line_of options (entered state (without_returns raw)) raw fed in
+        let here = line_as_read options (entered state (without_returns raw)) raw fed in
         let block = is_in_block state.in_block true here in
         elim (is_closed_by fence here.hanging here.words)
         as (λ b. IsSafeFence options block (cond b None (Some fence))) [
@@ -239,7 +240,7 @@ safe-passed options state raw fed safe =
               (λ out. stays_out state.in_block (not (closes_block here.words)) here.opens_block out) safe
         ]
     behind None safe =
-        let here = line_of options (entered state (without_returns raw)) raw fed in
+        let here = line_as_read options (entered state (without_returns raw)) raw fed in
         let block = is_in_block state.in_block false here in
         elim here.deeper as (λ b. IsSafeFence options block (cond b None (option_map
         (λ k. record { marks = marks_of here.hanging; kind = k }) (opened here.words)))) [

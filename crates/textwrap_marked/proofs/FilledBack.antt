@@ -4,11 +4,12 @@ use Rattle.textwrap_marked.proofs.LineNames.{◌++◌, All, All-append, All-cons
 use Rattle.textwrap_marked.proofs.LineNames.{All-tail, inr, ap, append-nil, append_assoc, arith}
 use Rattle.textwrap_marked.proofs.LineNames.{flat_map, length, lt-ltb, map, nat_lt, None, refl, subst}
 use Rattle.textwrap_marked.proofs.LineNames.{sym, ◌∙◌, all-right, flat, ap₂, flat_map-append, as_title}
-use Rattle.textwrap_marked.proofs.LineNames.{entered, fence_at, is_return, line_of, LineText, passed}
+use Rattle.textwrap_marked.proofs.LineNames.{entered, fence_at, is_return, line_as_read, LineText}
+use Rattle.textwrap_marked.proofs.LineNames.{passed}
 use Rattle.textwrap_marked.proofs.LineNames.{StateText, without_returns, begins_text, first_word}
 use Rattle.textwrap_marked.proofs.LineNames.{opens_paragraph, has_letter, spaced_text, SpacedText}
 use Rattle.textwrap_marked.proofs.Common.{is_beside, stays, from_letter, HasPlainMarkers, IsSameBy}
-use Rattle.textwrap_marked.proofs.Common.{line_sense, words_of, break_white, ending_if, filled_end}
+use Rattle.textwrap_marked.proofs.Common.{line_sense, words_of_lines, break_white, ending_if, filled_end}
 use Rattle.textwrap_marked.proofs.Common.{printed}
 use Rattle.textwrap_marks.specs.declared.options.ReflowOptions.{ReflowOptions}
 use Rattle.std.proofs.Math.Bool.{and-true}
@@ -90,10 +91,10 @@ cut-some options starred [] later cut = All-nil (λ l. l ≢ [])
 cut-some options starred (line ∷ lines) later (behind, some, is, may, cut) =
     All-cons (λ l. l ≢ []) line lines some (cut-some options starred lines behind cut)
 
-words-feedless : (lines : List LineText) → All IsFeedlessLine lines → All IsFeedless (words_of lines)
+words-feedless : (lines : List LineText) → All IsFeedlessLine lines → All IsFeedless (words_of_lines lines)
 words-feedless [] all = All-nil IsFeedless
 words-feedless (line ∷ lines) all =
-    All-append IsFeedless (map (λ w. w.word) line.words) (words_of lines)
+    All-append IsFeedless (map (λ w. w.word) line.words) (words_of_lines lines)
     (All-head IsFeedlessLine line lines all).words
     (words-feedless lines (All-tail IsFeedlessLine line lines all))
 
@@ -127,15 +128,15 @@ module _ (options : ReflowOptions) (returns : Bool) (told : IsTold options.endin
 
   lines-sense : (left : List (List ℕ)) → left ≡ p.walked.done ++ p.walked.left → HasPlainMarkers options
       → flat_map line_sense (raw ∷ left)
-      ≡ marks_sense ++ (words_of (here ∷ lines) ++ flat_map line_sense p.walked.left)
+      ≡ marks_sense ++ (words_of_lines (here ∷ lines) ++ flat_map line_sense p.walked.left)
   lines-sense left whole plain =
       let at = entered state (without_returns raw) in
       let marks = p.cs ++ (p.qs ++ p.bs) in
       let of = first-text options at raw p.fed p.lead p.cs p.qs p.bs p.ws p.has p.apart in
       let own = map (λ (w : SpacedText). w.word) p.ws in
       let rest = flat_map line_sense p.walked.left in
-      let grouped : (marks_sense ++ own) ++ (words_of lines ++ rest)
-      ≡ marks_sense ++ ((own ++ words_of lines) ++ rest) = simp append_assoc in
+      let grouped : (marks_sense ++ own) ++ (words_of_lines lines ++ rest)
+      ≡ marks_sense ++ ((own ++ words_of_lines lines) ++ rest) = simp append_assoc in
       ap₂ (λ a b. a ++ b)
       (first-sense raw of.starred p.ws of.spaced of.begins
       (p.has.text.is ∙ ap (λ l. p.lead ++ spaced_text l) (regroup p.cs p.qs p.bs p.ws)
@@ -201,7 +202,7 @@ module _ (options : ReflowOptions) (returns : Bool) (told : IsTold options.endin
       ++ filled_end (ending options returns told) (here ∷ lines)
       → MayPart options here.starred (word ∷ words) later_words
       → AreCutInto options here.starred later_words ls
-      → words_of (here ∷ lines) ≡ (word ∷ words) ++ later_words
+      → words_of_lines (here ∷ lines) ≡ (word ∷ words) ++ later_words
       → IsSafe options state
       → All IsFeedlessLine (here ∷ lines)
       → IsReadBack options returns told (behind_text block_here here.hanging final.words)
@@ -225,10 +226,10 @@ module _ (options : ReflowOptions) (returns : Bool) (told : IsTold options.endin
       let new_raw = line_raw options.justify wide returns more end here.prefix (word ∷ words) ls in
       let raws_new = later_raws options.justify wide returns more end here.hanging ls ++ later.again in
       let fed_new = nat_lt 0 (length raws_new) in
-      let new = line_of options at new_raw fed_new in
+      let new = line_as_read options at new_raw fed_new in
       let last_new = last_line new n.lines in
       let first_is : first_word p.ws ≡ word =
-      first-of-words p.ws (words_of lines) word (words ++ later_words)
+      first-of-words p.ws (words_of_lines lines) word (words ++ later_words)
       (first-text options at raw p.fed p.lead p.cs p.qs p.bs p.ws p.has p.apart).some parts in
       let mine = here-words options block_here here.starred word words later_words ls cut
       (subst (AreTextWords block_here) parts p.walked.words) in
@@ -258,7 +259,7 @@ module _ (options : ReflowOptions) (returns : Bool) (told : IsTold options.endin
             ∙ sym (filled-last e here lines);
       } in
       let behind : StateText → List LineText = λ s.
-      let l = line_of options s new_raw fed_new in
+      let l = line_as_read options s new_raw fed_new in
       let ls = read options (passed s l) raws_new in
       as_title (title_of l ls) l ∷ ls in record {
         again = new_raw ∷ raws_new;
@@ -322,7 +323,7 @@ module _ (options : ReflowOptions) (returns : Bool) (told : IsTold options.endin
       → AreBlocks ((here ∷ lines) ∷ bs) → stays (beside || is_beside here bs) here ≡ false
       → front ≡ printed (ending options returns told) here.prefix here.hanging
       (all_shown options.justify wide ls) ++ filled_end (ending options returns told) (here ∷ lines)
-      → AreCutInto options here.starred (words_of (here ∷ lines)) ls → IsSafe options state
+      → AreCutInto options here.starred (words_of_lines (here ∷ lines)) ls → IsSafe options state
       → All IsFeedlessLine (here ∷ lines)
       → IsReadBack options returns told (behind_text block_here here.hanging final.words)
       (is_beside here bs) bs p.walked.left back
@@ -345,7 +346,7 @@ module _ (options : ReflowOptions) (returns : Bool) (told : IsTold options.endin
       → IsReadBack options returns told state beside ((here ∷ lines) ∷ bs) raws (front ++ back)
   filled-here front back raws left whole same blocks stay (division, divided, is) laid walks safe free
       lines_free =
-      let (ls, wide, cut, shown) = lines-shown options here (words_of (here ∷ lines))
+      let (ls, wide, cut, shown) = lines-shown options here (words_of_lines (here ∷ lines))
       (λ none. omega (arith, p.walked.words_some, ap length none))
       p.walked.words.plain division (divided-is _ _ _ division divided) in
       let behind = behind_text block_here here.hanging final.words in

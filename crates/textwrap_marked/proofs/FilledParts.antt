@@ -2,9 +2,9 @@
 use Rattle.textwrap_marked.proofs.LineNames.{◌≡◌, ℕ, Bool, true, false, List, [], ◌∷◌, ◌++◌, ap, arith, ◌&&◌}
 use Rattle.textwrap_marked.proofs.LineNames.{flat_map, length, nat_lt, None, subst, sym, ◌∙◌}
 use Rattle.textwrap_marked.proofs.LineNames.{IsDivision, IsDividedBy, sizes_of, WordText, LineText}
-use Rattle.textwrap_marked.proofs.Common.{Part, piece_words, algorithm_of, first_room, IsOfBlock}
+use Rattle.textwrap_marked.proofs.Common.{Part, piece_words, dividing_algorithm, first_room, IsOfBlock}
 use Rattle.textwrap_marked.proofs.Common.{filled_end, kept_line, later_room, line_text, line_texts}
-use Rattle.textwrap_marked.proofs.Common.{printed, words_in}
+use Rattle.textwrap_marked.proofs.Common.{printed, words_between_white}
 use Rattle.textwrap_marks.specs.declared.options.ReflowOptions.{ReflowOptions}
 use Rattle.textwrap_base.specs.declared.penalties.Penalties.{Penalties}
 use Rattle.textwrap_words.proofs.Common.{Algorithm, Greedy, LeastCost}
@@ -13,7 +13,7 @@ use Rattle.textwrap_marked.proofs.PlainLines.{IsPlainBlock}
 use Rattle.textwrap_marked.proofs.PrintedLines.{texts_more}
 use Rattle.textwrap_marked.proofs.PrintedWidths.{lines-as-wide, printed-within, two-widths}
 use Rattle.textwrap_marked.specs.Laws.{AreAsWide, CostsLeast, FillsWidth, IsKeptOrBehind}
-use Rattle.textwrap_marked.specs.Laws.{KeepsToWidth, KeepsWords, widths_left}
+use Rattle.textwrap_marked.specs.Laws.{PartKeepsToWidth, PartKeepsWords, widths_left}
 use Rattle.textwrap_marks.specs.declared.options.Algorithm.TheVariants as by
 
 -- either algorithm divides
@@ -34,7 +34,7 @@ part_of is_kept first lines = record { stays = is_kept; first = first; lines = l
 module _ (options : ReflowOptions) where
   pub kept-words : (ending : List ℕ) (is_kept : Bool) (first : LineText) (lines : List LineText)
       (text : List ℕ) → IsPlainBlock lines → IsOfBlock options ending is_kept first lines text
-      → KeepsWords options ending (part_of is_kept first lines) text
+      → PartKeepsWords options ending (part_of is_kept first lines) text
   kept-words ending true first lines text plain is = is
   kept-words ending false first lines text plain ([], divided, is) =
       absurd (no-division (piece_words options first lines) (divided-is _ _ _ [] divided))
@@ -44,7 +44,7 @@ module _ (options : ReflowOptions) where
         line_text (options.justify && nat_lt 0 (length others)) (first_room options first) line,
         line_texts options.justify (later_room options first) (later_room options first) others,
         is ∙ ap (λ ls. printed ending first.prefix first.hanging ls ++ filled_end ending lines) more,
-        sym (ap (flat_map words_in) more)
+        sym (ap (flat_map words_between_white) more)
             ∙ printed-words options first lines (line ∷ others) plain
             (divided-is _ _ (piece_words options first lines) (line ∷ others) divided),
       )
@@ -62,10 +62,10 @@ module _ (options : ReflowOptions) where
   pub within-width : options.algorithm ≡ by.FirstFit → (ending : List ℕ) (is_kept : Bool)
       (first : LineText) (lines : List LineText) (text : List ℕ) → IsPlainBlock lines
       → IsOfBlock options ending is_kept first lines text
-      → KeepsToWidth options ending (part_of is_kept first lines) text
+      → PartKeepsToWidth options ending (part_of is_kept first lines) text
   within-width fits ending true first lines text plain is = tt
   within-width fits ending false first lines text plain (division, divided, is) =
-      let greedy = subst (λ a. IsDividedBy (algorithm_of a) sizes_of (widths_left options first)
+      let greedy = subst (λ a. IsDividedBy (dividing_algorithm a) sizes_of (widths_left options first)
       (piece_words options first lines) division) fits divided in (
         division,
         (greedy.admissible.division, is),
@@ -78,7 +78,7 @@ module _ (options : ReflowOptions) where
       → CostsLeast options penalties ending (part_of is_kept first lines) text
   costs-least penalties least ending true first lines text plain is = tt
   costs-least penalties least ending false first lines text plain (division, divided, is) =
-      let cheapest = subst (λ a. IsDividedBy (algorithm_of a) sizes_of (widths_left options first)
+      let cheapest = subst (λ a. IsDividedBy (dividing_algorithm a) sizes_of (widths_left options first)
       (piece_words options first lines) division) least divided in
       let chosen = cheapest.chosen (two-widths _ _) in
       (division, (chosen.division, is), chosen.least)

@@ -3,7 +3,8 @@ use Rattle.textwrap_marked.proofs.LineNames.{◌≡◌, ℕ, suc, ◌≤◌, ◌
 use Rattle.textwrap_marked.proofs.LineNames.{◌∷◌, ◌++◌, All, All-append, All-cons, All-head, All-nil}
 use Rattle.textwrap_marked.proofs.LineNames.{All-tail, ap, arith, length, refl, subst, sym, take}
 use Rattle.textwrap_marked.proofs.LineNames.{true≢false, ◌∙◌, all-left, all-right, or-false}
-use Rattle.textwrap_marked.proofs.LineNames.{All-replicate, text_width, is_comment_at, is_opening}
+use Rattle.textwrap_marked.proofs.LineNames.{All-replicate, text_width, is_comment_at}
+use Rattle.textwrap_marked.proofs.LineNames.{is_comment_opening}
 use Rattle.textwrap_marked.proofs.LineNames.{is_quote, blanks, comment_len, hanging_bullets}
 use Rattle.textwrap_marked.proofs.LineNames.{spaced_text, SpacedText}
 use Rattle.textwrap_marks.specs.declared.options.ReflowOptions.{ReflowOptions}
@@ -55,7 +56,7 @@ no-star options (q ∷ qs) quote =
 
 -- no opening is the mark inside a block comment
 opening-outside : (options : ReflowOptions) (in_block : Bool) (word : List ℕ)
-    → is_comment_at options in_block word ≡ true → is_opening word ≡ true → in_block ≡ false
+    → is_comment_at options in_block word ≡ true → is_comment_opening word ≡ true → in_block ≡ false
 opening-outside options false word comment opening = refl
 opening-outside options true word comment opening =
     absurd (true≢false (sym opening ∙ star-no-opening word comment))
@@ -70,20 +71,20 @@ quotes-marks : (options : ReflowOptions) (in_block : Bool) (qs : List SpacedText
 quotes-marks options in_block qs quote none = record {
   one = omega arith;
   comment = All-nil (λ w. is_comment_at options in_block w.word ≡ true);
-  no_opening = All-nil (λ w. is_opening w.word ≡ false);
+  no_opening = All-nil (λ w. is_comment_opening w.word ≡ false);
   quote = quote;
   no_comment = λ empty. none;
 }
 
 one-mark : (options : ReflowOptions) (in_block : Bool) (c : SpacedText) (qs : List SpacedText)
-    → is_comment_at options in_block c.word ≡ true → is_opening c.word ≡ false
+    → is_comment_at options in_block c.word ≡ true → is_comment_opening c.word ≡ false
     → All (λ w. is_quote w.word ≡ true) qs → AreMarks options in_block (c ∷ []) qs
 one-mark options in_block c qs comment opening quote = record {
   one = omega arith;
   comment = All-cons (λ w. is_comment_at options in_block w.word ≡ true) c [] comment
       (All-nil (λ w. is_comment_at options in_block w.word ≡ true));
-  no_opening = All-cons (λ w. is_opening w.word ≡ false) c [] opening
-      (All-nil (λ w. is_opening w.word ≡ false));
+  no_opening = All-cons (λ w. is_comment_opening w.word ≡ false) c [] opening
+      (All-nil (λ w. is_comment_opening w.word ≡ false));
   quote = quote;
   no_comment = λ none. absurd (omega (arith, none));
 }
@@ -106,10 +107,10 @@ hang-marks options in_block bare [] qs rest count quote =
 hang-marks options in_block bare (c ∷ d ∷ cs) qs rest count quote =
     absurd (omega (arith, count, comment-most options in_block (c ∷ d ∷ (cs ++ (qs ++ rest)))))
 hang-marks options in_block bare (c ∷ []) qs rest count quote =
-    cut (is_opening c.word) bare refl (comment-one options in_block c (qs ++ rest) 0 count)
+    cut (is_comment_opening c.word) bare refl (comment-one options in_block c (qs ++ rest) 0 count)
   where
-    cut : (o b : Bool) → is_opening c.word ≡ o → is_comment_at options in_block c.word ≡ true
-        → AreMarks options (in_block || (is_opening c.word || false)) (marks_by c (is_opening c.word) b) qs
+    cut : (o b : Bool) → is_comment_opening c.word ≡ o → is_comment_at options in_block c.word ≡ true
+        → AreMarks options (in_block || (is_comment_opening c.word || false)) (marks_by c (is_comment_opening c.word) b) qs
     cut true b opening comment =
         let out = opening-outside options in_block c.word comment opening in
         subst (λ o. AreMarks options (in_block || (o || false)) (marks_by c o b) qs) (sym opening)
@@ -151,7 +152,7 @@ end-marks : (options : ReflowOptions) (in_block : Bool) (cs qs : List SpacedText
 end-marks options in_block cs qs more are = record {
   one = omega (arith, end-len cs qs more, are.one);
   comment = end-all (λ w. is_comment_at options in_block w ≡ true) cs qs more are.comment;
-  no_opening = end-all (λ w. is_opening w ≡ false) cs qs more are.no_opening;
+  no_opening = end-all (λ w. is_comment_opening w ≡ false) cs qs more are.no_opening;
   quote = last-all (λ w. is_quote w ≡ true) qs more are.quote;
   no_comment = λ none. first-all (λ w. is_comment_at options in_block w ≡ false) qs more
       (are.no_comment (omega (arith, none, end-len cs qs more)));
@@ -162,7 +163,7 @@ end-marks options in_block cs qs more are = record {
 hang-white : (bare : Bool) (lead : List ℕ) (cs : List SpacedText) → All IsWhite lead → All IsFull cs
     → All IsWhite (hang_lead bare lead cs)
 hang-white bare lead [] white full = white
-hang-white bare lead (c ∷ cs) white full = cut (is_opening c.word) bare
+hang-white bare lead (c ∷ cs) white full = cut (is_comment_opening c.word) bare
   where
     cut : (o b : Bool)
         → All IsWhite (cond o (cond b (lead ++ (blanks (text_width c.word) ++ c.white)) (lead ++ 32 ∷ []))
@@ -177,7 +178,7 @@ hang-white bare lead (c ∷ cs) white full = cut (is_opening c.word) bare
 
 hang-full : (bare : Bool) (cs : List SpacedText) → All IsFull cs → All IsFull (hang_marks bare cs)
 hang-full bare [] full = full
-hang-full bare (c ∷ cs) full = cut (is_opening c.word) bare (All-head IsFull c cs full)
+hang-full bare (c ∷ cs) full = cut (is_comment_opening c.word) bare (All-head IsFull c cs full)
   where
     cut : (o b : Bool) → IsFull c → All IsFull (cond o (cond b [] (star c ∷ [])) (c ∷ []))
     cut true true is = All-nil IsFull

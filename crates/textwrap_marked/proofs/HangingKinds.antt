@@ -5,7 +5,8 @@ use Rattle.textwrap_marked.proofs.LineNames.{All-nil, All-tail, ap, append_assoc
 use Rattle.textwrap_marked.proofs.LineNames.{codes, length, length-append, refl, subst, sym, take}
 use Rattle.textwrap_marked.proofs.LineNames.{true≢false, ◌∙◌, false_from_ne_true, zero, bytes_eq}
 use Rattle.textwrap_marked.proofs.LineNames.{flat_map-append, bytes_eq-Decides, text_width}
-use Rattle.textwrap_marked.proofs.LineNames.{is_comment_at, is_opening, is_quote, blanks, bullets_len}
+use Rattle.textwrap_marked.proofs.LineNames.{is_comment_at, is_comment_opening, is_quote, blanks}
+use Rattle.textwrap_marked.proofs.LineNames.{bullets_len}
 use Rattle.textwrap_marked.proofs.LineNames.{comment_len, hanging_comments, quotes_len, spaced_text}
 use Rattle.textwrap_marked.proofs.LineNames.{SpacedText}
 use Rattle.textwrap_marks.specs.declared.options.ReflowOptions.{ReflowOptions}
@@ -109,8 +110,8 @@ quote-no-star word quote =
     let same = (bytes_eq-Decides word (codes "*")).0 star in
     true≢false (sym quote ∙ ap is_quote same))
 
-pub star-no-opening : (word : List ℕ) → bytes_eq word (codes "*") ≡ true → is_opening word ≡ false
-star-no-opening word star = ap is_opening ((bytes_eq-Decides word (codes "*")).0 star)
+pub star-no-opening : (word : List ℕ) → bytes_eq word (codes "*") ≡ true → is_comment_opening word ≡ false
+star-no-opening word star = ap is_comment_opening ((bytes_eq-Decides word (codes "*")).0 star)
 
 -- ---- the words of a hanging form
 
@@ -120,14 +121,14 @@ star c = record { word = codes "*"; white = c.white }
 abbrev pub hang_lead : Bool → List ℕ → List SpacedText → List ℕ
 hang_lead bare lead [] = lead
 hang_lead bare lead (c ∷ cs) =
-    if is_opening c.word
+    if is_comment_opening c.word
     then (if bare then lead ++ (blanks (text_width c.word) ++ c.white) else lead ++ 32 ∷ [])
     else lead
 
 abbrev pub hang_marks : Bool → List SpacedText → List SpacedText
 hang_marks bare [] = []
 hang_marks bare (c ∷ cs) =
-    if is_opening c.word then (if bare then [] else star c ∷ []) else c ∷ []
+    if is_comment_opening c.word then (if bare then [] else star c ∷ []) else c ∷ []
 
 abbrev mark_by : List ℕ → Bool → Bool → List ℕ
 mark_by word opening bare = cond opening (cond bare (blanks (text_width word)) (codes " *")) word
@@ -137,7 +138,7 @@ pub hang-text : (bare : Bool) (lead : List ℕ) (cs qs : List SpacedText) → le
     ≡ hang_lead bare lead cs ++ spaced_text (hang_marks bare cs ++ qs)
 hang-text bare lead [] qs one = ap (λ l. l ++ spaced_text qs) (append-nil lead)
 hang-text bare lead (c ∷ d ∷ cs) qs one = absurd (omega (arith, one))
-hang-text bare lead (c ∷ []) qs one = cut (is_opening c.word) bare
+hang-text bare lead (c ∷ []) qs one = cut (is_comment_opening c.word) bare
   where
     cut : (o b : Bool)
         → (lead ++ ((mark_by c.word o b ++ c.white) ++ [])) ++ spaced_text qs
@@ -192,7 +193,7 @@ end-text lead (c ∷ cs) (q ∷ qs) more =
 pub record AreMarks (options : ReflowOptions) (in_block : Bool) (cs qs : List SpacedText) : Type 0 where
   pub one : length cs ≤ 1
   pub comment : All (λ w. is_comment_at options in_block w.word ≡ true) cs
-  pub no_opening : All (λ w. is_opening w.word ≡ false) cs
+  pub no_opening : All (λ w. is_comment_opening w.word ≡ false) cs
   pub quote : All (λ w. is_quote w.word ≡ true) qs
   pub no_comment : length cs ≡ 0 → All (λ w. is_comment_at options in_block w.word ≡ false) (take 1 qs)
 
@@ -255,14 +256,14 @@ module _ (options : ReflowOptions) (in_block : Bool) (cs qs : List SpacedText)
           sym have.comment ∙ ap (comment_len options in_block) whole
           ∙ comment-count words (λ none. absurd (omega (arith, is, none)))
 
-  comments-text : (cs : List SpacedText) (bare : Bool) → All (λ w. is_opening w.word ≡ false) cs
+  comments-text : (cs : List SpacedText) (bare : Bool) → All (λ w. is_comment_opening w.word ≡ false) cs
       → hanging_comments bare cs ≡ spaced_text cs
   comments-text [] bare none = refl
   comments-text (c ∷ cs) bare none =
       ap (λ b. (cond b (cond bare (blanks (text_width c.word)) (codes " *")) c.word ++ c.white)
-      ++ hanging_comments bare cs) (All-head (λ w. is_opening w.word ≡ false) c cs none)
+      ++ hanging_comments bare cs) (All-head (λ w. is_comment_opening w.word ≡ false) c cs none)
       ∙ ap (λ l. (c.word ++ c.white) ++ l)
-      (comments-text cs bare (All-tail (λ w. is_opening w.word ≡ false) c cs none))
+      (comments-text cs bare (All-tail (λ w. is_comment_opening w.word ≡ false) c cs none))
 
   -- such a line hangs from itself
   pub hangs-same : (bare : Bool) (lead : List ℕ) (words : List SpacedText)
@@ -276,9 +277,9 @@ module _ (options : ReflowOptions) (in_block : Bool) (cs qs : List SpacedText)
   pub opens-none : has_opening_in cs ≡ false
   opens-none = none cs are.no_opening
     where
-      none : (cs : List SpacedText) → All (λ w. is_opening w.word ≡ false) cs
+      none : (cs : List SpacedText) → All (λ w. is_comment_opening w.word ≡ false) cs
           → has_opening_in cs ≡ false
       none [] all = refl
       none (c ∷ cs) all =
-          ap (λ b. b || has_opening_in cs) (All-head (λ w. is_opening w.word ≡ false) c cs all)
-          ∙ none cs (All-tail (λ w. is_opening w.word ≡ false) c cs all)
+          ap (λ b. b || has_opening_in cs) (All-head (λ w. is_comment_opening w.word ≡ false) c cs all)
+          ∙ none cs (All-tail (λ w. is_comment_opening w.word ≡ false) c cs all)

@@ -4,11 +4,12 @@ use Rattle.textwrap_marked.proofs.LineNames.{◌++◌, All, All-cons, All-head, 
 use Rattle.textwrap_marked.proofs.LineNames.{append_assoc, arith, codes, drop, flat_map, inl, inr}
 use Rattle.textwrap_marked.proofs.LineNames.{join_with_byte, length, lt-ltb, map, nat_lt, None, Option}
 use Rattle.textwrap_marked.proofs.LineNames.{refl, Some, suc, suffix_len, sym, take-append-drop, ⊤, ◌∙◌}
-use Rattle.textwrap_marked.proofs.LineNames.{ap₂, bytes_eq, as_title, entered, is_return, line_of}
+use Rattle.textwrap_marked.proofs.LineNames.{ap₂, bytes_eq, as_title, entered, is_return, line_as_read}
 use Rattle.textwrap_marked.proofs.LineNames.{LineText, passed, StateText, without_returns, first_word}
 use Rattle.textwrap_marked.proofs.LineNames.{opens_paragraph}
 use Rattle.textwrap_text.specs.declared.line_ending.LineEnding.{LineEnding}
-use Rattle.textwrap_marked.proofs.Common.{from_letter, line_sense, words_in, ending_if, kept_line}
+use Rattle.textwrap_marked.proofs.Common.{from_letter, line_sense, words_between_white, ending_if}
+use Rattle.textwrap_marked.proofs.Common.{kept_line}
 use Rattle.textwrap_marks.specs.declared.options.ReflowOptions.{ReflowOptions}
 use Rattle.std.proofs.Math.Bool.{and-true}
 use Rattle.textwrap_marked.proofs.AnewLines.{anew, anew-content, anew-feedless, anew-line}
@@ -161,7 +162,7 @@ module _ (options : ReflowOptions) (returns : Bool) (told : IsTold options.endin
         feedless = λ free. All-cons IsFeedless new later.news
             (anew-feedless e returns fed raw (All-head IsFeedless raw later.kept free))
             (later.feedless (All-tail IsFeedless raw later.kept free));
-        sense = ap₂ (λ t l. from_letter (words_in t) ++ l) (anew-content e returns fed raw) later.sense;
+        sense = ap₂ (λ t l. from_letter (words_between_white t) ++ l) (anew-content e returns fed raw) later.sense;
         reads = later.reads;
         safe = later.safe;
         again = λ others more read_others heads same.
@@ -174,8 +175,8 @@ module _ (options : ReflowOptions) (returns : Bool) (told : IsTold options.endin
             (anew e returns here) ∷ read options s (later.news ++ more))
             (sym (passed-anew at e returns here))
             ∙ ap (behind (later.news ++ more)) (sym (anew-line options at e returns raw fed))
-            ∙ ap (λ b. behind (later.news ++ more) (line_of options at new b)) (sym (fed_new more same))
-            ∙ ap (λ s. let l = line_of options s new (nat_lt 0 (length (later.news ++ more))) in
+            ∙ ap (λ b. behind (later.news ++ more) (line_as_read options at new b)) (sym (fed_new more same))
+            ∙ ap (λ s. let l = line_as_read options s new (nat_lt 0 (length (later.news ++ more))) in
             as_title (title_of l (read options (passed s l) (later.news ++ more))) l
             ∷ read options (passed s l) (later.news ++ more)) (sym enters)
             ∙ sym (read-more options state new (later.news ++ more));

@@ -4,15 +4,15 @@ use Rattle.textwrap_text.proofs.Common.{arith, get_or, length, refl, subst, sym}
 use Rattle.textwrap_marked.proofs.BlockLemmas.{blocks-first}
 use Rattle.textwrap_marked.specs.Blocks.{behind_block, blocks, first_block, is_beside}
 use Rattle.textwrap_marked.specs.Blocks.{stays}
-use Rattle.textwrap_marked.specs.Lines.{LineText, line_view}
+use Rattle.textwrap_marked.specs.Lines.{LineText, marked_line_view}
 use Rattle.textwrap_marked.specs.Reflow.{AreOfBlocks, IsOfBlock}
-use Rattle.textwrap_marked.specs.declared.line.Line.{Line}
+use Rattle.textwrap_marked.specs.declared.line.MarkedLine.{MarkedLine}
 use Rattle.textwrap_marks.specs.declared.options.ReflowOptions.{ReflowOptions}
 
 -- the lines of the first block begin with the first line
-pub block-begins : (block : List Line) (line : LineText) (rest : List LineText) (d : Line)
-    → map line_view block ≡ first_block (line ∷ rest)
-    → (0 < length block) × (line_view (get_or block 0 d) ≡ line)
+pub block-begins : (block : List MarkedLine) (line : LineText) (rest : List LineText) (d : MarkedLine)
+    → map marked_line_view block ≡ first_block (line ∷ rest)
+    → (0 < length block) × (marked_line_view (get_or block 0 d) ≡ line)
 block-begins [] line rest d is = absurd (omega (arith, ap length is))
 block-begins (first ∷ block) line rest d is = (omega arith, ap (λ l. head_or l) is)
   where

@@ -3,9 +3,10 @@ use Rattle.textwrap_marked.proofs.LineNames.{◌≡◌, ℕ, suc, ◌+◌, ◌-�
 use Rattle.textwrap_marked.proofs.LineNames.{false, cond, List, [], ◌∷◌, ◌++◌, ap, append_assoc}
 use Rattle.textwrap_marked.proofs.LineNames.{append-nil, arith, drop, length, length-append, list_any}
 use Rattle.textwrap_marked.proofs.LineNames.{refl, cases_Bool, take-append-drop, ◌≤◌, sym, take, ◌∙◌}
-use Rattle.textwrap_marked.proofs.LineNames.{nat_lt, lt-ltb, ne_eqb, ◌<◌, is_some, is_ended, line_of}
+use Rattle.textwrap_marked.proofs.LineNames.{nat_lt, lt-ltb, ne_eqb, ◌<◌, is_some, is_ended}
+use Rattle.textwrap_marked.proofs.LineNames.{line_as_read}
 use Rattle.textwrap_marked.proofs.LineNames.{LineText, StateText, without_returns, is_bullet}
-use Rattle.textwrap_marked.proofs.LineNames.{is_comment_at, is_opening, bullets_len, comment_len}
+use Rattle.textwrap_marked.proofs.LineNames.{is_comment_at, is_comment_opening, bullets_len, comment_len}
 use Rattle.textwrap_marked.proofs.LineNames.{hanging_bullets, hanging_comments, quotes_len}
 use Rattle.textwrap_marked.proofs.LineNames.{closes_block, first_word, is_key, has_byte, spaced_text}
 use Rattle.textwrap_marked.proofs.LineNames.{SpacedText, spaced_words}
@@ -13,7 +14,7 @@ use Rattle.textwrap_marks.specs.declared.options.ReflowOptions.{ReflowOptions}
 use Rattle.textwrap_text.proofs.Common.{drop_at, length-take-le, slice_range, take_at, eq-eqb}
 use Rattle.textwrap_marked.proofs.SpacedBack.{begins-plain, BeginsPlain, IsLineText, line-back}
 use Rattle.textwrap_marked.proofs.SpacedBack.{with_lead}
-use Rattle.textwrap_marked.specs.Lines.{is_chosen, is_deep, line_from, stands_apart}
+use Rattle.textwrap_marked.specs.Lines.{is_chosen, is_deep, line_from_words, stands_apart}
 use Rattle.textwrap_marks.specs.Prefixes.{is_box, lead_len, prefix_ends}
 use Rattle.textwrap_marks.specs.declared.prefixes.PrefixEnds.{PrefixEnds}
 
@@ -35,7 +36,7 @@ abbrev pub hanging_of : Bool → Kinds → List ℕ
 hanging_of bare k = k.lead ++ hanging_comments bare k.comments ++ spaced_text k.quotes
 
 abbrev pub has_opening_in : List SpacedText → Bool
-has_opening_in words = list_any (λ w. is_opening w.word) words
+has_opening_in words = list_any (λ w. is_comment_opening w.word) words
 
 abbrev pub line_by : ReflowOptions → StateText → List ℕ → Bool → Kinds → LineText
 line_by options state raw fed k =
@@ -76,7 +77,7 @@ cut_kinds all ends = record {
 
 line-cut : (options : ReflowOptions) (state : StateText) (raw : List ℕ) (fed : Bool)
     (all : List SpacedText) (ends : PrefixEnds)
-    → line_from options state raw fed all ends ≡ line_by options state raw fed (cut_kinds all ends)
+    → line_from_words options state raw fed all ends ≡ line_by options state raw fed (cut_kinds all ends)
 line-cut options state raw fed all ends = refl
 
 abbrev pub kinds : List ℕ → List SpacedText → List SpacedText → List SpacedText → List SpacedText
@@ -282,12 +283,12 @@ module _ (lead : List ℕ) (cs qs bs ws : List SpacedText) where
   pub line-is : (options : ReflowOptions) (state : StateText) (raw : List ℕ) (fed : Bool)
       → IsLineText (without_returns raw) lead all_words
       → HaveKinds options state.in_block cs qs bs ws
-      → line_of options state raw fed ≡ line_by options state raw fed (kinds lead cs qs bs ws)
+      → line_as_read options state raw fed ≡ line_by options state raw fed (kinds lead cs qs bs ws)
   line-is options state raw fed is have =
       let all = with_lead lead all_words in
-      ap (λ a. line_from options state raw fed a (prefix_ends options state.in_block a))
+      ap (λ a. line_from_words options state raw fed a (prefix_ends options state.in_block a))
       (ap spaced_words is.is ∙ line-back lead all_words is.white is.spaced)
-      ∙ ap (line_from options state raw fed all)
+      ∙ ap (line_from_words options state raw fed all)
       (ends-are options state.in_block (begins-plain all_words is.spaced) have)
       ∙ ap (line_by options state raw fed) cut-is
 

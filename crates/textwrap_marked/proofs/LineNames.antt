@@ -7,10 +7,11 @@ pub use Rattle.textwrap_marks.proofs.Common.{begins_text, blank, Bool, bytes_eq,
 pub use Rattle.textwrap_marks.proofs.Common.{cases_Bool, closes_block, closes_early, codes, cond}
 pub use Rattle.textwrap_marks.proofs.Common.{contains, covered, CRLF, drop, ending_bytes, ends_with}
 pub use Rattle.textwrap_marks.proofs.Common.{eqb-true, false, false_from_ne_true, FenceText}
-pub use Rattle.textwrap_marks.proofs.Common.{first_word, flat, flat_map, flat_map-append, front_of}
+pub use Rattle.textwrap_marks.proofs.Common.{first_word, flat, flat_map, flat_map-append}
+pub use Rattle.textwrap_marks.proofs.Common.{words_before_last}
 pub use Rattle.textwrap_marks.proofs.Common.{get_or, has_byte, has_bytes, has_columns, has_letter}
 pub use Rattle.textwrap_marks.proofs.Common.{inl, inr, is_among, is_blank, is_bullet}
-pub use Rattle.textwrap_marks.proofs.Common.{is_column_word, is_comment_at, is_key, is_opening}
+pub use Rattle.textwrap_marks.proofs.Common.{is_column_word, is_comment_at, is_key, is_comment_opening}
 pub use Rattle.textwrap_marks.proofs.Common.{is_quote, is_some, is_white, IsDividedBy, IsDivision}
 pub use Rattle.textwrap_marks.proofs.Common.{join_with_byte, last_white, last_word, length}
 pub use Rattle.textwrap_marks.proofs.Common.{length-append, length-slice_split, LF, LineEnding}
@@ -26,7 +27,7 @@ pub use Rattle.textwrap_marks.proofs.Common.{◌++◌, ◌+◌, ◌-◌, ◌<◌
 pub use Rattle.textwrap_marks.proofs.Common.{◌≤◌, ◌⊎◌}
 pub use Rattle.textwrap_marked.specs.Lines.{LineText, StateText, as_title, deeper_by, entered}
 pub use Rattle.textwrap_marked.specs.Lines.{fence_at, first_state, has_words, is_ended, is_return}
-pub use Rattle.textwrap_marked.specs.Lines.{line_of, lines_of, new_fence, passed, read_lines}
+pub use Rattle.textwrap_marked.specs.Lines.{line_as_read, lines_of_text, new_fence, passed, read_lines}
 pub use Rattle.textwrap_marked.specs.Lines.{with_titles, without_returns}
 pub use Rattle.textwrap_marks.specs.Prefixes.{bullets_len, comment_len}
 pub use Rattle.textwrap_marked.specs.Hanging.{blanks, hanging_bullets}

@@ -2,7 +2,7 @@
 use Rattle.textwrap_marked.proofs.LineNames.{◌≡◌, ℕ, ◌||◌, Bool, true, false, cond, List, [], ◌∷◌, ◌++◌}
 use Rattle.textwrap_marked.proofs.LineNames.{All, All-append, All-head, All-map, All-tail, All-weaker}
 use Rattle.textwrap_marked.proofs.LineNames.{ap, append_assoc, false_from_ne_true, map, refl, sym}
-use Rattle.textwrap_marked.proofs.LineNames.{true≢false, ◌∙◌, bytes_eq-Decides, bytes_eq, line_of}
+use Rattle.textwrap_marked.proofs.LineNames.{true≢false, ◌∙◌, bytes_eq-Decides, bytes_eq, line_as_read}
 use Rattle.textwrap_marked.proofs.LineNames.{LineText, StateText, without_returns, is_among}
 use Rattle.textwrap_marked.proofs.LineNames.{is_comment_at, is_quote, begins_text, first_word}
 use Rattle.textwrap_marked.proofs.LineNames.{has_letter, spaced_text, SpacedText}
@@ -77,7 +77,7 @@ behind-letter (mark ∷ marks) words is =
 
 -- a line is its prefix and its text
 pub line-split : (options : ReflowOptions) (state : StateText) (raw : List ℕ) (fed : Bool)
-    → let line = line_of options state raw fed in
+    → let line = line_as_read options state raw fed in
     without_returns raw ≡ line.prefix ++ spaced_text line.words
 line-split options state raw fed =
     let (lead, cs, qs, bs, ws, read) = line-read options state raw in
@@ -107,11 +107,11 @@ line-sense raw lead marks starred ws white full spaced begins is =
 pub later-sense : (options : ReflowOptions) → HasPlainMarkers options → (in_block : Bool)
     (hanging lead : List ℕ) (ds rs : List SpacedText) → IsHanging options in_block hanging lead ds rs
     → (state : StateText) (raw : List ℕ) (fed : Bool)
-    → let line = line_of options state raw fed in
+    → let line = line_as_read options state raw fed in
     IsOfText options in_block hanging state line → line.prefix ≡ hanging
     → line_sense raw ≡ map (λ w. w.word) line.words
 later-sense options plain in_block hanging lead ds rs hang state raw fed of prefix =
-    let line = line_of options state raw fed in
+    let line = line_as_read options state raw fed in
     let words = map (λ (w : SpacedText). w.word) line.words in
     line-sense raw lead (ds ++ rs) of.starred line.words hang.white hang.full of.spaced of.begins
     (line-split options state raw fed ∙ ap (λ p. p ++ spaced_text line.words) (prefix ∙ hang.is))

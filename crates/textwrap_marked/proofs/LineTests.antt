@@ -16,7 +16,7 @@ use Rattle.textwrap_marked.proofs.FreeLines.{IsOpen}
 use Rattle.textwrap_marked.proofs.OpenBehind.{behind_text}
 use Rattle.textwrap_marks.specs.Columns.{depth_of, DepthText, is_deeper}
 use Rattle.textwrap_marks.specs.Signs.{is_rule, is_rule_characters}
-use Rattle.textwrap_marks.specs.Words.{is_alphanumeric}
+use Rattle.textwrap_marks.specs.Words.{is_letter_or_digit}
 
 -- ---- no rule begins with a letter
 
@@ -32,7 +32,7 @@ same-any test c (x ∷ cs) all some = cut (x == c) (test x) refl refl all some (
     cut true true p q all some later = ap test (sym (eqb-true x c p)) ∙ q
     cut true false p q all some later = later all some
 
-rule-none : (cs : List ℕ) → list_any is_alphanumeric cs ≡ true → is_rule_characters cs ≡ false
+rule-none : (cs : List ℕ) → list_any is_letter_or_digit cs ≡ true → is_rule_characters cs ≡ false
 rule-none [] some = absurd (true≢false (sym some))
 rule-none (c ∷ cs) some = cut (list_all (λ x. x == c) (c ∷ cs)) refl
   where
@@ -45,10 +45,10 @@ rule-none (c ∷ cs) some = cut (list_all (λ x. x == c) (c ∷ cs)) refl
     cut : (t : Bool) → list_all (λ x. x == c) (c ∷ cs) ≡ t → is_rule_characters (c ∷ cs) ≡ false
     cut false is =
         ended (nat_lt 2 (length (c ∷ cs))) (list_all (λ x. x == c) (c ∷ cs))
-        (not (is_alphanumeric c || c == 96 || c == 126)) is
+        (not (is_letter_or_digit c || c == 96 || c == 126)) is
     cut true is =
-        marked (nat_lt 2 (length (c ∷ cs))) (list_all (λ x. x == c) (c ∷ cs)) (is_alphanumeric c)
-        (c == 96) (c == 126) (same-any is_alphanumeric c (c ∷ cs) is some)
+        marked (nat_lt 2 (length (c ∷ cs))) (list_all (λ x. x == c) (c ∷ cs)) (is_letter_or_digit c)
+        (c == 96) (c == 126) (same-any is_letter_or_digit c (c ∷ cs) is some)
 
 pub letter-no-rule : (words : List SpacedText) → has_letter (first_word words) ≡ true
     → is_rule words ≡ false

@@ -2,9 +2,9 @@
 use Rattle.textwrap_marked.proofs.LineNames.{◌≡◌, ℕ, ◌<◌, ◌&&◌, Bool, true, false, List, [], ◌∷◌, ◌++◌}
 use Rattle.textwrap_marked.proofs.LineNames.{All, ap, arith, codes, ends_with, length, map, nat_eq}
 use Rattle.textwrap_marked.proofs.LineNames.{nat_lt, refl, subst, sym, ◌∙◌, without_returns, entered}
-use Rattle.textwrap_marked.proofs.LineNames.{line_of, LineText, passed, StateText, begins_text}
+use Rattle.textwrap_marked.proofs.LineNames.{line_as_read, LineText, passed, StateText, begins_text}
 use Rattle.textwrap_marked.proofs.LineNames.{first_word, last_white, has_byte, SpacedText}
-use Rattle.textwrap_marked.proofs.Common.{words_of}
+use Rattle.textwrap_marked.proofs.Common.{words_of_lines}
 use Rattle.textwrap_marks.specs.declared.options.ReflowOptions.{ReflowOptions}
 use Rattle.textwrap_marked.proofs.FreeLines.{AreFree, block_at}
 use Rattle.textwrap_marked.proofs.HangingForms.{IsHanging}
@@ -127,10 +127,10 @@ module _ (options : ReflowOptions) (state : StateText) (raw : List ℕ) (first :
     pub renew : (word : List ℕ) (words later : List (List ℕ)) (ls : List (List (List ℕ)))
         → MayPart options first_of.starred (word ∷ words) later
         → AreCutInto options first_of.starred later ls
-        → words_of (first_of ∷ lines) ≡ (word ∷ words) ++ later
+        → words_of_lines (first_of ∷ lines) ≡ (word ∷ words) ++ later
         → let new_raw = line_raw options.justify wide returns more_of end first_of.prefix (word ∷ words) ls in
         let raws = later_raws options.justify wide returns more_of end first_of.hanging ls ++ left in
-        let new = line_of options state new_raw (nat_lt 0 (length raws)) in
+        let new = line_as_read options state new_raw (nat_lt 0 (length raws)) in
         IsFirstAlike first_of new
         × IsNew options block_of first_of.hanging state new first_of.prefix
         (spread options.justify (wide (length ls)) (word ∷ words) (text_end end ls))
@@ -150,7 +150,7 @@ module _ (options : ReflowOptions) (state : StateText) (raw : List ℕ) (first :
         let some : 0 < length p.ws =
         (first-text options state raw p.fed p.lead p.cs p.qs p.bs p.ws p.has p.apart).some in
         let first_is : first_word p.ws ≡ word =
-        first-of-words p.ws (words_of lines) word (words ++ later) some is in
+        first-of-words p.ws (words_of_lines lines) word (words ++ later) some is in
         let same : first_word p.ws ≡ first_word own =
         first_is ∙ sym (spread-first options.justify gaps word words (text_end end ls)) in
         let begins : begins_text starred word ≡ true =
@@ -175,6 +175,6 @@ module _ (options : ReflowOptions) (state : StateText) (raw : List ℕ) (first :
               (first-starred options state raw p.fed p.lead p.cs p.qs p.bs p.ws p.has p.apart) returns
               more_of end white last_of.words left others reads title p.walked.closing p.walked.of.some
               p.walked.of.starred p.walked.of.begins breaks ls word words later state
-              (line_of options state new_raw (nat_lt 0 (length raws))) first_of.prefix may cut all
+              (line_as_read options state new_raw (nat_lt 0 (length raws))) first_of.prefix may cut all
               (sym (ap last_text is) ∙ p.walked.final) begins new refl,
         )

@@ -8,7 +8,7 @@ use Rattle.textwrap_marked.proofs.LineNames.{is_ended, LineText, passed, StateTe
 use Rattle.textwrap_marked.proofs.LineNames.{begins_text, closes_block, first_word, is_key, last_white}
 use Rattle.textwrap_marked.proofs.LineNames.{last_word, opens_paragraph, contains, has_byte, has_letter}
 use Rattle.textwrap_marked.proofs.LineNames.{spaced_text, SpacedText}
-use Rattle.textwrap_marked.proofs.Common.{HasPlainMarkers, line_sense, words_of}
+use Rattle.textwrap_marked.proofs.Common.{HasPlainMarkers, line_sense, words_of_lines}
 use Rattle.textwrap_marks.specs.declared.options.ReflowOptions.{ReflowOptions}
 use Rattle.textwrap_text.proofs.Common.{slice_index}
 use Rattle.textwrap_marked.proofs.FreeLines.{AreFree}
@@ -157,7 +157,7 @@ module _ (options : ReflowOptions) (in_block starred : Bool) (wide : ℕ → ℕ
       pub ends : (last_line line lines).ended ≡ is_ended in_block last
       pub space : last_white (last_line line lines).words ≡ end
       pub fed : (last_line line lines).fed ≡ nat_lt 0 (length left)
-      pub spells : words_of (line ∷ lines) ≡ words
+      pub spells : words_of_lines (line ∷ lines) ≡ words
       pub sense : HasPlainMarkers options
           → map (λ w. w.word) line.words ++ flat_map line_sense raws ≡ words ++ flat_map line_sense left
 
@@ -241,7 +241,7 @@ module _ (options : ReflowOptions) (in_block starred : Bool) (wide : ℕ → ℕ
           ends = are.ends;
           space = are.space;
           fed = are.fed;
-          spells = ap (λ l. l ++ words_of (next ∷ are.lines)) spelled ∙ ap (λ l. own ++ l) are.spells;
+          spells = ap (λ l. l ++ words_of_lines (next ∷ are.lines)) spelled ∙ ap (λ l. own ++ l) are.spells;
           sense = λ plain.
               let here = later-sense options plain in_block hanging lead ds rs hang
               (entered behind (without_returns raw)) raw (nat_lt 0 (length raws)) next_new.of next_new.prefixed in

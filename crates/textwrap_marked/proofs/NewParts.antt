@@ -1,7 +1,7 @@
 -- What becomes of the parts of a text, if it is known of each.
 use Rattle.textwrap_marked.proofs.LineNames.{◌≡◌, ℕ, Bool, true, false, List, [], ◌∷◌, All, All-head}
 use Rattle.textwrap_marked.proofs.LineNames.{All-tail, drop, nat_eq, refl, starts_with}
-use Rattle.textwrap_marked.proofs.LineNames.{starts_with-rest, ending_bytes, LineText, lines_of}
+use Rattle.textwrap_marked.proofs.LineNames.{starts_with-rest, ending_bytes, LineText, lines_of_text}
 use Rattle.textwrap_marked.proofs.Common.{blocks, is_beside, Part, parts_of_blocks, text_parts}
 use Rattle.textwrap_marked.proofs.Common.{byte_order_mark, filled_ending, AreOfBlocks, IsOfBlock}
 use Rattle.textwrap_marked.proofs.Common.{IsReflowedBehind, IsReflowedFrom}
@@ -33,7 +33,7 @@ module _ (options : ReflowOptions) (IsNew : List ℕ → Part → List ℕ → T
       → AreNewParts (IsNew (ending_bytes (filled_ending options.ending text))) (text_parts options text)
       reflowed
   from-new text reflowed laid =
-      laid-new (ending_bytes (filled_ending options.ending text)) false (blocks (lines_of options text))
+      laid-new (ending_bytes (filled_ending options.ending text)) false (blocks (lines_of_text options text))
       reflowed (text-plain options text) laid
 
   behind-new : (marked : Bool) (text reflowed : List ℕ)

@@ -3,7 +3,8 @@ use Rattle.textwrap_marked.proofs.LineNames.{◌≡◌, ℕ, Bool, true, false, 
 use Rattle.textwrap_marked.proofs.LineNames.{All-head, ap, arith, drop, flat_map, join_with_byte}
 use Rattle.textwrap_marked.proofs.LineNames.{length, nat_eq, nat_lt, refl, slice_split, starts_with}
 use Rattle.textwrap_marked.proofs.LineNames.{subst, sym, ◌∙◌, lt-ltb, starts_with-rest, ap₂}
-use Rattle.textwrap_marked.proofs.LineNames.{length-slice_split, ending_bytes, first_state, lines_of}
+use Rattle.textwrap_marked.proofs.LineNames.{length-slice_split, ending_bytes, first_state}
+use Rattle.textwrap_marked.proofs.LineNames.{lines_of_text}
 use Rattle.textwrap_marked.proofs.LineNames.{read_lines, with_titles, inl, inr, ◌⊎◌}
 use Rattle.textwrap_text.specs.declared.line_ending.LineEnding.{LineEnding}
 use Rattle.textwrap_text.specs.declared.line_ending.LineEnding.TheVariants.{CRLF, LF}
@@ -74,14 +75,14 @@ from-stays options text reflowed laid = cut (one-or-alike options text reflowed 
     r = text-back options text reflowed laid
 
     again : AreOfBlocks options (ending_bytes (filled_ending options.ending text)) false
-        (blocks (lines_of options reflowed)) reflowed
+        (blocks (lines_of_text options reflowed)) reflowed
     again = laid-other options text reflowed r.same reflowed laid
 
     cut : (slice_split (λ c. c == 10) reflowed ≡ r.raw ∷ [])
         ⊎ (filled_ending options.ending reflowed ≡ filled_ending options.ending text)
         → IsReflowedFrom options reflowed reflowed
     cut (inr same) =
-        subst (λ e. AreOfBlocks options (ending_bytes e) false (blocks (lines_of options reflowed)) reflowed)
+        subst (λ e. AreOfBlocks options (ending_bytes e) false (blocks (lines_of_text options reflowed)) reflowed)
         (sym same) again
     cut (inl split) =
         let whole : reflowed ≡ r.raw =
@@ -89,7 +90,7 @@ from-stays options text reflowed laid = cut (one-or-alike options text reflowed 
         let old = ending_bytes (filled_ending options.ending text) in
         let new = ending_bytes (filled_ending options.ending reflowed) in
         let (front, feed) = ends-feed (filled_ending options.ending text) in
-        let shown : lines_of options reflowed
+        let shown : lines_of_text options reflowed
         ≡ with_titles (read_lines options first_state (r.raw ∷ [])) =
         ap (λ l. with_titles (read_lines options first_state l)) split in
         subst (λ ls. AreOfBlocks options new false (blocks ls) reflowed) (sym shown)

@@ -1,8 +1,8 @@
 -- What becomes of a text is one text.
 use Rattle.textwrap_marked.proofs.LineNames.{◌≡◌, ℕ, Bool, true, false, List, [], ◌∷◌, ◌++◌, sym, ap}
 use Rattle.textwrap_marked.proofs.LineNames.{◌∙◌, drop, IsDividedBy, sizes_of, WordText, ending_bytes}
-use Rattle.textwrap_marked.proofs.LineNames.{LineText, lines_of}
-use Rattle.textwrap_marked.proofs.Common.{blocks, is_beside, algorithm_of, byte_order_mark}
+use Rattle.textwrap_marked.proofs.LineNames.{LineText, lines_of_text}
+use Rattle.textwrap_marked.proofs.Common.{blocks, is_beside, dividing_algorithm, byte_order_mark}
 use Rattle.textwrap_marked.proofs.Common.{filled_end, filled_ending, AreOfBlocks, IsOfBlock}
 use Rattle.textwrap_marked.proofs.Common.{IsReflowedBehind, IsReflowedFrom, printed, shown_lines}
 use Rattle.textwrap_marks.specs.declared.options.ReflowOptions.{ReflowOptions}
@@ -26,7 +26,7 @@ module _ (options : ReflowOptions) (ending : List ℕ) where
   block-one false first lines text other (division, divided, is) (second, by, same) =
       is ∙ ap (λ d. printed ending first.prefix first.hanging (shown_lines options first d)
       ++ filled_end ending lines)
-      (divided-one (algorithm_of options.algorithm) _ _ division second divided by) ∙ sym same
+      (divided-one (dividing_algorithm options.algorithm) _ _ division second divided by) ∙ sym same
 
   laid-one : (beside : Bool) (bs : List (List LineText)) (text other : List ℕ)
       → AreOfBlocks options ending beside bs text → AreOfBlocks options ending beside bs other
@@ -42,7 +42,7 @@ from-one : (options : ReflowOptions) (text first second : List ℕ)
     → IsReflowedFrom options text first → IsReflowedFrom options text second → first ≡ second
 from-one options text first second of by =
     laid-one options (ending_bytes (filled_ending options.ending text)) false
-    (blocks (lines_of options text)) first second of by
+    (blocks (lines_of_text options text)) first second of by
 
 pub behind-one : (marked : Bool) (options : ReflowOptions) (text first second : List ℕ)
     → IsReflowedBehind marked options text first → IsReflowedBehind marked options text second

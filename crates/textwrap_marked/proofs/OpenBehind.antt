@@ -6,7 +6,8 @@ use Rattle.textwrap_marked.proofs.LineNames.{list_any, nat_eq, nat_lt, nat_tests
 use Rattle.textwrap_marked.proofs.LineNames.{refl, Some, starts_with, sym, true≢false}
 use Rattle.textwrap_marked.proofs.LineNames.{false_from_ne_true, ◌∙◌, ◌==◌, bytes_eq, is_some}
 use Rattle.textwrap_marked.proofs.LineNames.{deeper_by, has_words, LineText, new_fence, passed}
-use Rattle.textwrap_marked.proofs.LineNames.{StateText, begins_text, closes_block, first_word, front_of}
+use Rattle.textwrap_marked.proofs.LineNames.{StateText, begins_text, closes_block, first_word}
+use Rattle.textwrap_marked.proofs.LineNames.{words_before_last}
 use Rattle.textwrap_marked.proofs.LineNames.{has_columns, is_column_word, contains, has_byte}
 use Rattle.textwrap_marked.proofs.LineNames.{has_letter, SpacedText}
 use Rattle.textwrap_text.proofs.Common.{option_map, slice_index}
@@ -97,7 +98,7 @@ pub no-columns : (justify : Bool) (words : List SpacedText) → has_columns just
 no-columns justify words none =
     any-none (λ w. is_column_word w.word) words
     (or-left (list_any (λ w. is_column_word w.word) words)
-    (list_any (is_gap justify) (front_of words)) none)
+    (list_any (is_gap justify) (words_before_last words)) none)
 
 column-parts : (a b c d e : Bool) → (a || b || c || d || e) ≡ false → (c ≡ false) × (e ≡ false)
 column-parts a b c d e is = grind (arith, cases_Bool)

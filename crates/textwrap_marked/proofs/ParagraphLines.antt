@@ -3,7 +3,8 @@ use Rattle.textwrap_marked.proofs.LineNames.{◌≡◌, ℕ, ◌<◌, ◌&&◌, 
 use Rattle.textwrap_marked.proofs.LineNames.{◌∷◌, ◌++◌, All, ap, append-nil, append_assoc, codes}
 use Rattle.textwrap_marked.proofs.LineNames.{length, refl, subst, sym, ◌∙◌, ◌==◌, All-weaker, eqb-true}
 use Rattle.textwrap_marked.proofs.LineNames.{false_from_ne_true, list_any, true≢false, all-right}
-use Rattle.textwrap_marked.proofs.LineNames.{or-false, flat_map-append, line_of, LineText, StateText}
+use Rattle.textwrap_marked.proofs.LineNames.{or-false, flat_map-append, line_as_read, LineText}
+use Rattle.textwrap_marked.proofs.LineNames.{StateText}
 use Rattle.textwrap_marked.proofs.LineNames.{without_returns, hanging_bullets, begins_text, first_word}
 use Rattle.textwrap_marked.proofs.LineNames.{is_key, has_byte, is_white, spaced_text, SpacedText}
 use Rattle.textwrap_marked.proofs.LineNames.{spaced_words}
@@ -66,9 +67,9 @@ module _ (options : ReflowOptions) (in_block : Bool) (hanging lead : List ℕ) (
 
   -- a line of the text that begins with it
   pub later-line : (state : StateText) (raw : List ℕ) (fed : Bool) → state.in_block ≡ in_block
-      → (line_of options state raw fed).apart ≡ false
-      → (line_of options state raw fed).prefix ≡ hanging
-      → IsOfText options in_block hanging state (line_of options state raw fed)
+      → (line_as_read options state raw fed).apart ≡ false
+      → (line_as_read options state raw fed).prefix ≡ hanging
+      → IsOfText options in_block hanging state (line_as_read options state raw fed)
   later-line state raw fed block apart prefix =
       let (front, cs, qs, bs, ws, read) = line-read options state raw in
       let marks = cs ++ (qs ++ bs) in
@@ -88,7 +89,7 @@ module _ (options : ReflowOptions) (in_block : Bool) (hanging lead : List ℕ) (
       in
       let have = subst (λ b. HaveKinds options b cs qs bs ws) block read.have in
       let (c, q, b) = kinds-same options in_block ds rs hang.marks cs qs bs ws have words in
-      let whole : line_of options state raw fed
+      let whole : line_as_read options state raw fed
       ≡ line_by options state raw fed (kinds lead ds rs [] ws) =
       is ∙ (λ i. line_by options state raw fed (kinds (fronts i) (c i) (q i) (b i) ws)) in
       subst (IsOfText options in_block hanging state) (sym whole)
@@ -99,7 +100,7 @@ module _ (options : ReflowOptions) (in_block : Bool) (hanging lead : List ℕ) (
       → state.in_block ≡ in_block → without_returns raw ≡ hanging ++ spaced_text ws → AreSpaced ws
       → HasNoMark options in_block ws → IsOpen options state hanging
       → AreFree options.justify in_block (in_block && not (has_byte 42 hanging)) (is_key (first_word ws) && true) ws
-      → IsNew options in_block hanging state (line_of options state raw fed) hanging ws
+      → IsNew options in_block hanging state (line_as_read options state raw fed) hanging ws
   later-new state raw fed ws block text spaced lacks at are =
       let k = kinds lead ds rs [] ws in
       let group : ds ++ (rs ++ ws) ≡ (ds ++ rs) ++ ws = sym (append_assoc ds rs ws) in
@@ -208,9 +209,9 @@ module _ (options : ReflowOptions) (state : StateText) (raw : List ℕ) (fed : B
       → without_returns new ≡ first_line.prefix ++ spaced_text others → AreSpaced others
       → 0 < length others → first_word ws ≡ first_word others
       → AreFree options.justify first_block first_line.starred first_line.field others
-      → IsNew options first_block first_line.hanging state (line_of options state new more)
+      → IsNew options first_block first_line.hanging state (line_as_read options state new more)
       first_line.prefix others
-      × IsFirstAlike first_line (line_of options state new more)
+      × IsFirstAlike first_line (line_as_read options state new more)
   first-new others new more text spaced some same are =
       let k = kinds lead cs qs bs others in
       let marks = cs ++ (qs ++ bs) in

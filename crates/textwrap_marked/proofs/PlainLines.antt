@@ -1,7 +1,8 @@
 -- The words of the lines of a text are plain: bytes between white.
 use Rattle.textwrap_marked.proofs.LineNames.{ℕ, Bool, List, [], ◌∷◌, ◌++◌, All, All-cons, All-head}
 use Rattle.textwrap_marked.proofs.LineNames.{All-nil, All-tail, sym, length, nat_lt, ◌==◌, slice_split}
-use Rattle.textwrap_marked.proofs.LineNames.{subst, all-right, entered, first_state, line_of, lines_of}
+use Rattle.textwrap_marked.proofs.LineNames.{subst, all-right, entered, first_state, line_as_read}
+use Rattle.textwrap_marked.proofs.LineNames.{lines_of_text}
 use Rattle.textwrap_marked.proofs.LineNames.{LineText, passed, read_lines, StateText, with_titles}
 use Rattle.textwrap_marked.proofs.LineNames.{without_returns, SpacedText}
 use Rattle.textwrap_marked.proofs.Common.{blocks}
@@ -21,7 +22,7 @@ abbrev pub IsPlainLine : LineText → Type 0
 IsPlainLine line = All IsPlainWord line.words
 
 line-plain : (options : ReflowOptions) (state : StateText) (raw : List ℕ) (fed : Bool)
-    → IsPlainLine (line_of options state raw fed)
+    → IsPlainLine (line_as_read options state raw fed)
 line-plain options state raw fed =
     let (lead, cs, qs, bs, ws, read) = line-read options state raw in
     let marks = cs ++ (qs ++ bs) in
@@ -34,7 +35,7 @@ read-plain : (options : ReflowOptions) (state : StateText) (raws : List (List �
 read-plain options state [] = All-nil IsPlainLine
 read-plain options state (raw ∷ raws) =
     let at = entered state (without_returns raw) in
-    let line = line_of options at raw (nat_lt 0 (length raws)) in
+    let line = line_as_read options at raw (nat_lt 0 (length raws)) in
     All-cons IsPlainLine line (read_lines options (passed at line) raws)
     (line-plain options at raw (nat_lt 0 (length raws))) (read-plain options (passed at line) raws)
 
@@ -49,7 +50,7 @@ abbrev pub IsPlainBlock : List LineText → Type 0
 IsPlainBlock = All IsPlainLine
 
 pub text-plain : (options : ReflowOptions) (text : List ℕ)
-    → All IsPlainBlock (blocks (lines_of options text))
+    → All IsPlainBlock (blocks (lines_of_text options text))
 text-plain options text =
     let lines = read_lines options first_state (slice_split (λ c. c == 10) text) in
     let blocks = blocks (with_titles lines) in

@@ -12,7 +12,7 @@ use Rattle.std.specs.List.{prefix_len, suffix_len}
 use Rattle.textwrap_base.proofs.Division.Greedy.{line_width-later}
 use Rattle.textwrap_display.proofs.Widths.{justified-width}
 use Rattle.textwrap_marked.proofs.BlankPieces.{division-all, EndsInBlank, words-all}
-use Rattle.textwrap_marks.specs.Columns.{columns}
+use Rattle.textwrap_marks.specs.Columns.{text_columns}
 use Rattle.textwrap_marked.specs.Laws.{AreAsWide, AreWithin, IsAsWide, IsWithin}
 
 abbrev HasBlank : WordText → Type 0
@@ -27,41 +27,41 @@ word-blank text (front, is) =
 -- ---- first fit
 
 line-within : (width : ℕ) (prefix : List ℕ) (line : List WordText) → All HasBlank line
-    → Fits sizes_of (width - columns prefix) line → IsWithin width prefix line
+    → Fits sizes_of (width - text_columns prefix) line → IsWithin width prefix line
 line-within width prefix [] all fits = inl (omega arith)
 line-within width prefix (w ∷ []) all fits = inl (omega arith)
 line-within width prefix (w ∷ v ∷ ws) all fits =
     let line = w ∷ v ∷ ws in
-    let closed = subst (λ l. closed_width sizes_of l ≤ width - columns prefix)
+    let closed = subst (λ l. closed_width sizes_of l ≤ width - text_columns prefix)
     (take_all (length line) line (omega arith)) (fits (length line) (omega arith) (omega arith)) in
     inr (omega (arith, closed, All-head HasBlank w (v ∷ ws) all))
 
 later-within : (width first number : ℕ) (prefix : List ℕ) (lines : List (List WordText))
     → All (All HasBlank) lines
-    → AllFit sizes_of (first ∷ (width - columns prefix) ∷ []) (number + 1) lines
+    → AllFit sizes_of (first ∷ (width - text_columns prefix) ∷ []) (number + 1) lines
     → All (IsWithin width prefix) lines
 later-within width first number prefix [] all fit = All-nil (IsWithin width prefix)
 later-within width first number prefix (line ∷ lines) all fit =
     All-cons (IsWithin width prefix) line lines
     (line-within width prefix line (All-head (All HasBlank) line lines all)
-    (subst (λ w. Fits sizes_of w line) (line_width-later first (width - columns prefix) number) fit.0))
+    (subst (λ w. Fits sizes_of w line) (line_width-later first (width - text_columns prefix) number) fit.0))
     (later-within width first (number + 1) prefix lines (All-tail (All HasBlank) line lines all) fit.1)
 
 lines-within : (width : ℕ) (first later : List ℕ) (lines : List (List WordText))
     → All (All HasBlank) lines
-    → AllFit sizes_of ((width - columns first) ∷ (width - columns later) ∷ []) 0 lines
+    → AllFit sizes_of ((width - text_columns first) ∷ (width - text_columns later) ∷ []) 0 lines
     → AreWithin width first later lines
 lines-within width first later [] all fit = tt
 lines-within width first later (line ∷ lines) all fit = (
   line-within width first line (All-head (All HasBlank) line lines all) fit.0,
-  later-within width (width - columns first) 0 later lines
+  later-within width (width - text_columns first) 0 later lines
       (All-tail (All HasBlank) line lines all) fit.1,
 )
 
 pub printed-within : (options : ReflowOptions) (first : LineText) (lines : List LineText)
     (division : List (List WordText)) → IsDivision (piece_words options first lines) division
     → AllFit sizes_of
-    ((options.width - columns first.prefix) ∷ (options.width - columns first.hanging) ∷ []) 0 division
+    ((options.width - text_columns first.prefix) ∷ (options.width - text_columns first.hanging) ∷ []) 0 division
     → AreWithin options.width first.prefix first.hanging division
 printed-within options first lines division is fit =
     lines-within options.width first.prefix first.hanging division
@@ -71,17 +71,17 @@ printed-within options first lines division is fit =
 -- ---- justified lines
 
 line-as-wide : (width : ℕ) (prefix : List ℕ) (line : List WordText)
-    → IsAsWide width prefix line (line_text true (width - columns prefix) line)
+    → IsAsWide width prefix line (line_text true (width - text_columns prefix) line)
 line-as-wide width prefix line utf8 whole some fits =
     omega (
       arith,
       fits,
-      justified-width (covered line) utf8 whole some (width - columns prefix) (omega (arith, fits)),
+      justified-width (covered line) utf8 whole some (width - text_columns prefix) (omega (arith, fits)),
     )
 
 pub lines-as-wide : (width : ℕ) (first later : List ℕ) (lines : List (List WordText))
     → AreAsWide width first later lines
-    (line_texts true (width - columns first) (width - columns later) lines)
+    (line_texts true (width - text_columns first) (width - text_columns later) lines)
 lines-as-wide width first later [] = tt
 lines-as-wide width first later (line ∷ []) = tt
 lines-as-wide width first later (line ∷ next ∷ lines) = (

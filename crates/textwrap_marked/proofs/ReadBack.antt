@@ -5,7 +5,7 @@ use Rattle.textwrap_marked.proofs.LineNames.{map, nat_lt, refl, subst, sym, ◌�
 use Rattle.textwrap_marked.proofs.LineNames.{flat, ap₂, flat_map-append, LineText, StateText, ◌+◌}
 use Rattle.textwrap_marked.proofs.LineNames.{cases_Bool, not}
 use Rattle.textwrap_marked.proofs.Common.{is_beside, stays, AreSameParts, HasPlainMarkers, IsSameBy}
-use Rattle.textwrap_marked.proofs.Common.{line_sense, parts_of_blocks, AreOfBlocks, words_of}
+use Rattle.textwrap_marked.proofs.Common.{line_sense, parts_of_blocks, AreOfBlocks, words_of_lines}
 use Rattle.textwrap_marked.proofs.Common.{kept_line, IsOfBlock}
 use Rattle.textwrap_marks.specs.declared.options.ReflowOptions.{ReflowOptions}
 use Rattle.textwrap_marked.proofs.PrintedText.{ends_as, filled-last}
@@ -139,7 +139,7 @@ module _ (options : ReflowOptions) (returns : Bool) (told : IsTold options.endin
       new : LineText → LineText
       new line = anew options.ending returns line
 
-      same-words : (lines : List LineText) → words_of (map new lines) ≡ words_of lines
+      same-words : (lines : List LineText) → words_of_lines (map new lines) ≡ words_of_lines lines
       same-words [] = refl
       same-words (line ∷ lines) = ap (λ l. map (λ w. w.word) line.words ++ l) (same-words lines)
 

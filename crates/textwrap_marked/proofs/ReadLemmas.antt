@@ -3,21 +3,21 @@ use Rattle.textwrap_text.proofs.Common.{◌≡◌, ℕ, ◌==◌, Bool, List, �
 use Rattle.textwrap_text.proofs.Common.{nat_lt, Option, Some, None, Bor, lt-ltb}
 use Rattle.std.proofs.lemmas.List.Splits.{length-slice_split}
 use Rattle.std.specs.Prelude.{is_some}
-use Rattle.textwrap_marked.specs.Lines.{entered, line_of, LineText, passed, without_returns}
+use Rattle.textwrap_marked.specs.Lines.{entered, line_as_read, LineText, passed, without_returns}
 use Rattle.textwrap_marked.specs.Lines.{read_lines, StateText}
-use Rattle.textwrap_marks.specs.Words.{parts_left}
+use Rattle.textwrap_marks.specs.Words.{parts_behind_mark}
 use Rattle.textwrap_marks.specs.declared.options.ReflowOptions.{ReflowOptions}
 
 -- a line feed follows just where more parts do
-pub fed-is : (rest : Option (Bor (List ℕ))) → is_some rest ≡ nat_lt 0 (length (parts_left 10 rest))
+pub fed-is : (rest : Option (Bor (List ℕ))) → is_some rest ≡ nat_lt 0 (length (parts_behind_mark 10 rest))
 fed-is None = refl
 fed-is (Some rest) =
-    sym (lt-ltb 0 (length (parts_left 10 (Some rest)))
+    sym (lt-ltb 0 (length (parts_behind_mark 10 (Some rest)))
     (omega (arith, length-slice_split (λ c. c == 10) rest.now)))
 
 module _ (options : ReflowOptions) where
   pub reads-line : (state at behind : StateText) (raw : List ℕ) (parts : List (List ℕ)) (fed : Bool)
       (line : LineText) → at ≡ entered state (without_returns raw) → fed ≡ nat_lt 0 (length parts)
-      → line ≡ line_of options at raw fed → behind ≡ passed at line
+      → line ≡ line_as_read options at raw fed → behind ≡ passed at line
       → read_lines options state (raw ∷ parts) ≡ line ∷ read_lines options behind parts
   reads-line state at behind raw parts fed line a f l b = rw (b, l, f, a) refl

@@ -3,16 +3,17 @@ use Rattle.textwrap_marked.proofs.LineNames.{◌∙◌, ◌≡◌, ℕ, ◌-◌,
 use Rattle.textwrap_marked.proofs.LineNames.{◌++◌, ap, length, map, nat_lt, refl, slice_split, subst}
 use Rattle.textwrap_marked.proofs.LineNames.{sym, ◌==◌, IsDividedBy, sizes_of, word_of, WordText}
 use Rattle.textwrap_marked.proofs.LineNames.{ending_bytes, without_returns, entered, first_state}
-use Rattle.textwrap_marked.proofs.LineNames.{line_of, lines_of, LineText, passed, read_lines, StateText}
+use Rattle.textwrap_marked.proofs.LineNames.{line_as_read, lines_of_text, LineText, passed}
+use Rattle.textwrap_marked.proofs.LineNames.{read_lines, StateText}
 use Rattle.textwrap_marked.proofs.LineNames.{with_titles, Option}
 use Rattle.textwrap_marked.proofs.Common.{blocks, is_beside, stays, AreSameParts, IsSameBy, Part}
-use Rattle.textwrap_marked.proofs.Common.{parts_of_blocks, text_parts, pieces, algorithm_of}
+use Rattle.textwrap_marked.proofs.Common.{parts_of_blocks, text_parts, pieces, dividing_algorithm}
 use Rattle.textwrap_marked.proofs.Common.{filled_ending, AreOfBlocks, IsOfBlock, IsReflowedFrom}
 use Rattle.textwrap_marked.proofs.Common.{line_texts, printed}
 use Rattle.textwrap_text.specs.declared.line_ending.LineEnding.{LineEnding}
 use Rattle.textwrap_marks.specs.declared.options.ReflowOptions.{ReflowOptions}
 use Rattle.textwrap_marked.proofs.TextBack.{text-back}
-use Rattle.textwrap_marks.specs.Columns.{columns}
+use Rattle.textwrap_marks.specs.Columns.{text_columns}
 use Rattle.textwrap_marked.specs.Laws.{AreNewParts}
 use Rattle.textwrap_marks.specs.declared.options.Algorithm.{Algorithm}
 
@@ -22,11 +23,11 @@ module _ (options : ReflowOptions) (ending : List ℕ) where
   abbrev IsFilledBy : List ℕ → List ℕ → Bool → List (List ℕ) → List ℕ → List ℕ → Type 0
   IsFilledBy prefix hanging starred words end text =
       (division : List (List WordText))
-      × IsDividedBy (algorithm_of options.algorithm) sizes_of
-      ((options.width - columns prefix) ∷ (options.width - columns hanging) ∷ [])
+      × IsDividedBy (dividing_algorithm options.algorithm) sizes_of
+      ((options.width - text_columns prefix) ∷ (options.width - text_columns hanging) ∷ [])
       (map word_of (pieces options starred words)) division
       × (text ≡ printed ending prefix hanging (line_texts options.justify
-      (options.width - columns prefix) (options.width - columns hanging) division) ++ end)
+      (options.width - text_columns prefix) (options.width - text_columns hanging) division) ++ end)
 
   abbrev OfPart : Bool → Part → List ℕ → Type 0
   OfPart is_kept part text = IsOfBlock options ending is_kept part.first part.lines text
@@ -72,22 +73,22 @@ module _ (options : ReflowOptions) (text other : List ℕ)
   abbrev end_of : List ℕ → List ℕ
   end_of t = ending_bytes (filled_ending options.ending t)
 
-  laid-same : (e : List ℕ) → AreOfBlocks options e false (blocks (lines_of options text))
-      ≡ AreOfBlocks options e false (blocks (lines_of options other))
+  laid-same : (e : List ℕ) → AreOfBlocks options e false (blocks (lines_of_text options text))
+      ≡ AreOfBlocks options e false (blocks (lines_of_text options other))
   laid-same e =
-      laid-news options e (blocks (lines_of options text)) false ∙ news-same options e _ _ same
-      ∙ sym (laid-news options e (blocks (lines_of options other)) false)
+      laid-news options e (blocks (lines_of_text options text)) false ∙ news-same options e _ _ same
+      ∙ sym (laid-news options e (blocks (lines_of_text options other)) false)
 
   pub from-other : filled_ending options.ending other ≡ filled_ending options.ending text
       → (reflowed : List ℕ) → IsReflowedFrom options other reflowed
       → IsReflowedFrom options text reflowed
   from-other ends reflowed laid =
       subst (λ New. New reflowed) (sym (laid-same (end_of text)))
-      (subst (λ x. AreOfBlocks options (ending_bytes x) false (blocks (lines_of options other)) reflowed)
+      (subst (λ x. AreOfBlocks options (ending_bytes x) false (blocks (lines_of_text options other)) reflowed)
       ends laid)
 
   pub laid-other : (reflowed : List ℕ) → IsReflowedFrom options text reflowed
-      → AreOfBlocks options (end_of text) false (blocks (lines_of options other)) reflowed
+      → AreOfBlocks options (end_of text) false (blocks (lines_of_text options other)) reflowed
   laid-other reflowed laid = subst (λ New. New reflowed) (laid-same (end_of text)) laid
 
 -- ---- another width and another ending
@@ -101,7 +102,7 @@ module _ (options : ReflowOptions) (width : ℕ) (algorithm : Algorithm) (ending
   lines-same [] state = refl
   lines-same (raw ∷ raws) state =
       let at = entered state (without_returns raw) in
-      let line = line_of options at raw (nat_lt 0 (length raws)) in
+      let line = line_as_read options at raw (nat_lt 0 (length raws)) in
       ap (λ ls. line ∷ ls) (lines-same raws (passed at line))
 
   parts-same : (text : List ℕ) → text_parts others text ≡ text_parts options text

@@ -4,7 +4,7 @@ use Rattle.textwrap_marked.proofs.LineNames.{All-cons, All-head, All-nil, All-ta
 use Rattle.textwrap_marked.proofs.LineNames.{append-nil, arith, cond, length, lt-ltb, map, refl, sym, ⊤}
 use Rattle.textwrap_marked.proofs.LineNames.{◌∙◌, has_bytes, is_white, spaced_text, spaced_words}
 use Rattle.textwrap_marked.proofs.LineNames.{SpacedText}
-use Rattle.textwrap_marked.proofs.Common.{words_in}
+use Rattle.textwrap_marked.proofs.Common.{words_between_white}
 use Rattle.textwrap_marked.proofs.WordsIn.{IsPlain, white-words, word-alone, words-white}
 use Rattle.textwrap_marks.specs.Words.{onto_word, with_byte}
 
@@ -184,30 +184,30 @@ line-text (c ∷ cs) =
 -- ---- its words between white
 
 word-in : (word white rest : List ℕ) → IsPlain word → All IsWhite white → 0 < length white
-    → words_in ((word ++ white) ++ rest) ≡ word ∷ words_in rest
+    → words_between_white ((word ++ white) ++ rest) ≡ word ∷ words_between_white rest
 word-in word [] rest plain all some = absurd (omega (arith, some))
 word-in word (c ∷ white) rest plain all some =
-    ap words_in (append_assoc word (c ∷ white) rest)
+    ap words_between_white (append_assoc word (c ∷ white) rest)
     ∙ words-white word c (white ++ rest) (All-head IsWhite c white all)
-    ∙ ap (λ l. l ++ words_in (white ++ rest)) (word-alone word plain)
+    ∙ ap (λ l. l ++ words_between_white (white ++ rest)) (word-alone word plain)
     ∙ ap (λ l. word ∷ l) (white-words white rest (All-tail IsWhite c white all))
 
-pub spaced-in : (ws : List SpacedText) → AreSpaced ws → words_in (spaced_text ws) ≡ map (λ w. w.word) ws
+pub spaced-in : (ws : List SpacedText) → AreSpaced ws → words_between_white (spaced_text ws) ≡ map (λ w. w.word) ws
 spaced-in [] are = refl
 spaced-in (w ∷ []) are = cut w.white are.white
   where
-    cut : (white : List ℕ) → All IsWhite white → words_in ((w.word ++ white) ++ []) ≡ w.word ∷ []
+    cut : (white : List ℕ) → All IsWhite white → words_between_white ((w.word ++ white) ++ []) ≡ w.word ∷ []
     cut [] all =
-        ap words_in (append-nil (w.word ++ []) ∙ append-nil w.word) ∙ word-alone w.word are.word
+        ap words_between_white (append-nil (w.word ++ []) ∙ append-nil w.word) ∙ word-alone w.word are.word
     cut (c ∷ white) all = word-in w.word (c ∷ white) [] are.word all (omega arith)
 spaced-in (w ∷ v ∷ ws) (here, some, later) =
     word-in w.word w.white (spaced_text (v ∷ ws)) here.word here.white some
     ∙ ap (λ l. w.word ∷ l) (spaced-in (v ∷ ws) later)
 
 pub text-words : (text lead : List ℕ) (ws : List SpacedText) → IsLineText text lead ws
-    → words_in text ≡ map (λ w. w.word) ws
+    → words_between_white text ≡ map (λ w. w.word) ws
 text-words text lead ws is =
-    ap words_in is.is ∙ white-words lead (spaced_text ws) is.white ∙ spaced-in ws is.spaced
+    ap words_between_white is.is ∙ white-words lead (spaced_text ws) is.white ∙ spaced-in ws is.spaced
 
 -- ---- one line has one lead and one list of words
 

@@ -6,7 +6,7 @@ use Rattle.textwrap_marked.proofs.LineNames.{codes, drop, length, list_any, map,
 use Rattle.textwrap_marked.proofs.LineNames.{true≢false, false_from_ne_true, suc, ◌==◌, ◌∙◌}
 use Rattle.textwrap_marked.proofs.LineNames.{All-replicate, bytes_eq, blank, is_among, is_bullet}
 use Rattle.textwrap_marked.proofs.LineNames.{is_comment_at, is_quote, blanks, quotes_len, begins_text}
-use Rattle.textwrap_marked.proofs.LineNames.{first_word, front_of, has_columns, is_column_word}
+use Rattle.textwrap_marked.proofs.LineNames.{first_word, words_before_last, has_columns, is_column_word}
 use Rattle.textwrap_marked.proofs.LineNames.{last_white, last_word, opens_paragraph, spaced_text}
 use Rattle.textwrap_marked.proofs.LineNames.{SpacedText}
 use Rattle.textwrap_marks.specs.declared.options.ReflowOptions.{ReflowOptions}
@@ -94,7 +94,7 @@ pub last-more : (w v : SpacedText) (ws : List SpacedText) → last_of (w ∷ v �
 last-more w v ws = ap (λ n. drop n (w ∷ v ∷ ws)) (less-one w v ws)
 
 pub front-more : (w v : SpacedText) (ws : List SpacedText)
-    → front_of (w ∷ v ∷ ws) ≡ w ∷ front_of (v ∷ ws)
+    → words_before_last (w ∷ v ∷ ws) ≡ w ∷ words_before_last (v ∷ ws)
 front-more w v ws = ap (λ n. take n (w ∷ v ∷ ws)) (less-one w v ws)
 
 -- the last of some texts
@@ -137,7 +137,7 @@ gap-none true gaps n word =
 gap-none false gaps n word = refl
 
 gaps-none : (justify : Bool) (gaps : ℕ → ℕ) (words : List (List ℕ)) (end : List ℕ)
-    → list_any (is_gap justify) (front_of (spread justify gaps words end)) ≡ false
+    → list_any (is_gap justify) (words_before_last (spread justify gaps words end)) ≡ false
 gaps-none justify gaps [] end = refl
 gaps-none justify gaps (word ∷ []) end = refl
 gaps-none justify gaps (word ∷ next ∷ words) end =
@@ -146,18 +146,18 @@ gaps-none justify gaps (word ∷ next ∷ words) end =
     first : SpacedText
     first = record { word = word; white = gap justify gaps (length words) }
 
-    more : (l : List SpacedText) → list_any (is_gap justify) (front_of l) ≡ false
-        → list_any (is_gap justify) (front_of (first ∷ l)) ≡ false
+    more : (l : List SpacedText) → list_any (is_gap justify) (words_before_last l) ≡ false
+        → list_any (is_gap justify) (words_before_last (first ∷ l)) ≡ false
     more [] is = refl
     more (v ∷ l) is =
         ap (list_any (is_gap justify)) (front-more first v l)
-        ∙ ap (λ b. b || list_any (is_gap justify) (front_of (v ∷ l)))
+        ∙ ap (λ b. b || list_any (is_gap justify) (words_before_last (v ∷ l)))
         (gap-none justify gaps (length words) word) ∙ is
 
 pub spread-columns : (justify : Bool) (gaps : ℕ → ℕ) (words : List (List ℕ)) (end : List ℕ)
     → All (λ w. is_column_word w ≡ false) words → has_columns justify (spread justify gaps words end) ≡ false
 spread-columns justify gaps words end none =
-    ap (λ b. b || list_any (is_gap justify) (front_of (spread justify gaps words end)))
+    ap (λ b. b || list_any (is_gap justify) (words_before_last (spread justify gaps words end)))
     (spread-any justify gaps is_column_word words end ∙ none-any is_column_word words none)
     ∙ gaps-none justify gaps words end
 

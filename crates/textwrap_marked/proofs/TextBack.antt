@@ -3,7 +3,8 @@ use Rattle.textwrap_marked.proofs.LineNames.{None, Option, Some, ◌≡◌, ℕ,
 use Rattle.textwrap_marked.proofs.LineNames.{false, List, [], ◌∷◌, ◌++◌, ◌==◌, All, All-nil, ap, arith}
 use Rattle.textwrap_marked.proofs.LineNames.{flat_map, join_with_byte, length, nat_lt, lt-ltb}
 use Rattle.textwrap_marked.proofs.LineNames.{cases_Bool, refl, slice_split, subst, sym, true≢false, ◌∙◌}
-use Rattle.textwrap_marked.proofs.LineNames.{all-left, flat, length-slice_split, first_state, lines_of}
+use Rattle.textwrap_marked.proofs.LineNames.{all-left, flat, length-slice_split, first_state}
+use Rattle.textwrap_marked.proofs.LineNames.{lines_of_text}
 use Rattle.textwrap_marked.proofs.LineNames.{LineText, StateText, false_from_ne_true}
 use Rattle.textwrap_text.specs.declared.line_ending.LineEnding.{LineEnding}
 use Rattle.textwrap_marked.proofs.Common.{blocks, is_beside, stays, AreSameParts, HasPlainMarkers}
@@ -95,14 +96,14 @@ module _ (options : ReflowOptions) (returns : Bool) (told : IsTold options.endin
           are stay of later walks safe free lines_free
 
   parts-again : (text reflowed : List ℕ) (raw : List ℕ) (raws : List (List ℕ))
-      → (r : IsReadBack options returns told first_state false (blocks (lines_of options text))
+      → (r : IsReadBack options returns told first_state false (blocks (lines_of_text options text))
       (slice_split (λ c. c == 10) text) reflowed) → r.again ≡ raw ∷ raws
       → AreReadBack text reflowed
   parts-again text reflowed raw raws r some =
       let split : slice_split (λ c. c == 10) reflowed ≡ r.again =
       ap (slice_split (λ c. c == 10)) (r.text_is ∙ ap (join_with_byte 10) some)
       ∙ split-joined raw raws (subst (All IsFeedless) some r.feedless) ∙ sym some in
-      let again : blocks (lines_of options reflowed) ≡ r.blocks =
+      let again : blocks (lines_of_text options reflowed) ≡ r.blocks =
       ap (λ l. blocks (read options first_state l)) split ∙ ap blocks (sym r.reads)
       ∙ blocks-back r.blocks r.are in
       record {
@@ -116,16 +117,16 @@ module _ (options : ReflowOptions) (returns : Bool) (told : IsTold options.endin
       }
 
   pub parts-back : (text reflowed : List ℕ)
-      → AreOfBlocksAny options returns told false (blocks (lines_of options text)) reflowed
+      → AreOfBlocksAny options returns told false (blocks (lines_of_text options text)) reflowed
       → AreReadBack text reflowed
   parts-back text reflowed laid =
       let raws = slice_split (λ c. c == 10) text in
-      let r = walk-blocks (blocks (lines_of options text)) false (blocks-are (lines_of options text))
-      first_state raws reflowed (blocks-flat (lines_of options text)) laid
+      let r = walk-blocks (blocks (lines_of_text options text)) false (blocks-are (lines_of_text options text))
+      first_state raws reflowed (blocks-flat (lines_of_text options text)) laid
       (safe-none options first_state refl) (split-feedless text) in
       some r r.again refl
     where
-      some : (r : IsReadBack options returns told first_state false (blocks (lines_of options text))
+      some : (r : IsReadBack options returns told first_state false (blocks (lines_of_text options text))
           (slice_split (λ c. c == 10) text) reflowed) (again : List (List ℕ)) → r.again ≡ again
           → AreReadBack text reflowed
       some r [] is =
@@ -151,7 +152,7 @@ pub text-back : (options : ReflowOptions) → (text reflowed : List ℕ)
     → IsReflowedFrom options text reflowed → IsTextBack options text reflowed
 text-back options text reflowed laid =
     let e = filled_ending options.ending text in
-    let bs = blocks (lines_of options text) in
+    let bs = blocks (lines_of_text options text) in
     let told = told-by options.ending text in
     parts-back options (returns_by e) told text reflowed (laid-any options (returns_by e) told bs false reflowed
     (subst (λ b. AreOfBlocks options b false bs reflowed) (bytes-by e) laid))
@@ -161,7 +162,7 @@ pub within-back : (options : ReflowOptions) (range : LineRange) (text reflowed :
     → IsReflowedWithinFrom options range text reflowed → IsTextBack options text reflowed
 within-back options range text reflowed laid =
     let e = filled_ending options.ending text in
-    let bs = blocks (lines_of options text) in
+    let bs = blocks (lines_of_text options text) in
     let told = told-by options.ending text in
     parts-back options (returns_by e) told text reflowed
     (within-any options (returns_by e) told range 0 bs false reflowed

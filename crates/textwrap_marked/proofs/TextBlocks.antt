@@ -4,11 +4,11 @@ use Rattle.textwrap_marked.proofs.LineNames.{◌∷◌, ◌++◌, All, All-appen
 use Rattle.textwrap_marked.proofs.LineNames.{ap, append-nil, arith, codes, cases_Bool, flat_map, length}
 use Rattle.textwrap_marked.proofs.LineNames.{length-append, map, nat_lt, refl, subst, sym, ⊤, ◌∙◌, ap₂}
 use Rattle.textwrap_marked.proofs.LineNames.{or-false, bytes_eq-Decides, bytes_eq, without_returns}
-use Rattle.textwrap_marked.proofs.LineNames.{as_title, entered, is_ended, line_of, LineText, passed}
+use Rattle.textwrap_marked.proofs.LineNames.{as_title, entered, is_ended, line_as_read, LineText, passed}
 use Rattle.textwrap_marked.proofs.LineNames.{read_lines, StateText, with_titles, closes_block}
-use Rattle.textwrap_marked.proofs.LineNames.{closes_early, first_word, front_of, is_column_word}
+use Rattle.textwrap_marked.proofs.LineNames.{closes_early, first_word, words_before_last, is_column_word}
 use Rattle.textwrap_marked.proofs.LineNames.{last_word, opens_paragraph, contains, SpacedText}
-use Rattle.textwrap_marked.proofs.Common.{goes_on, HasPlainMarkers, line_sense, words_of}
+use Rattle.textwrap_marked.proofs.Common.{goes_on, HasPlainMarkers, line_sense, words_of_lines}
 use Rattle.textwrap_marks.specs.declared.options.ReflowOptions.{ReflowOptions}
 use Rattle.textwrap_text.proofs.Common.{length-map}
 use Rattle.textwrap_marked.proofs.HangingForms.{IsHanging}
@@ -63,7 +63,7 @@ module _ (options : ReflowOptions) where
   read state raws = with_titles (read_lines options state raws)
 
   abbrev pub line_at : StateText → List ℕ → List (List ℕ) → LineText
-  line_at state raw raws = line_of options (entered state (without_returns raw)) raw (nat_lt 0 (length raws))
+  line_at state raw raws = line_as_read options (entered state (without_returns raw)) raw (nat_lt 0 (length raws))
 
   pub read-more : (state : StateText) (raw : List ℕ) (raws : List (List ℕ))
       → let line = line_at state raw raws in
@@ -150,7 +150,7 @@ masked-all true words is =
     All-map (NoClose true) (λ w. w.word) words (any-none (λ w. contains (codes "*/") w.word) words is)
 
 pub early-more : (w v : SpacedText) (ws : List SpacedText) → closes_early (w ∷ v ∷ ws)
-    ≡ ((contains (codes "*/") w.word || closes_block (front_of (v ∷ ws))) || ends_early (last_word (v ∷ ws)))
+    ≡ ((contains (codes "*/") w.word || closes_block (words_before_last (v ∷ ws))) || ends_early (last_word (v ∷ ws)))
 early-more w v ws =
     ap₂ (λ l k. closes_block l || ends_early (first_word k)) (front-more w v ws) (last-more w v ws)
 
@@ -165,9 +165,9 @@ last-closing in_block (w ∷ []) is =
     cut a b c is = grind (arith, cases_Bool)
 last-closing in_block (w ∷ v ∷ ws) is = (
   without in_block (contains (codes "*/") w.word) (closes_block (v ∷ ws))
-      (closes_block (front_of (v ∷ ws))) (ends_early (last_word (v ∷ ws))) shown,
+      (closes_block (words_before_last (v ∷ ws))) (ends_early (last_word (v ∷ ws))) shown,
   last-closing in_block (v ∷ ws) (behind in_block (contains (codes "*/") w.word) (closes_block (v ∷ ws))
-      (closes_block (front_of (v ∷ ws))) (ends_early (last_word (v ∷ ws))) shown),
+      (closes_block (words_before_last (v ∷ ws))) (ends_early (last_word (v ∷ ws))) shown),
 )
   where
     without : (a c b f e : Bool) → (a && (c || b) && ((c || f) || e)) ≡ false → (a && c) ≡ false
@@ -178,7 +178,7 @@ last-closing in_block (w ∷ v ∷ ws) is = (
     behind a c b f e is = grind (arith, cases_Bool)
 
     shown : (in_block && (contains (codes "*/") w.word || closes_block (v ∷ ws))
-        && ((contains (codes "*/") w.word || closes_block (front_of (v ∷ ws)))
+        && ((contains (codes "*/") w.word || closes_block (words_before_last (v ∷ ws)))
         || ends_early (last_word (v ∷ ws)))) ≡ false
     shown = ap (λ e. in_block && (contains (codes "*/") w.word || closes_block (v ∷ ws)) && e) (sym (early-more w v ws)) ∙ is
 
@@ -233,11 +233,11 @@ module _ (options : ReflowOptions) (in_block : Bool) (hanging lead : List ℕ) (
     pub title : title_of (last_line line lines) rest ≡ false
     pub fed : (last_line line lines).fed ≡ nat_lt 0 (length left)
     pub closing : AreClosing in_block (map (λ w. w.word) (last_line line lines).words)
-    pub words_some : 0 < length (words_of (line ∷ lines))
-    pub final : last_text (words_of (line ∷ lines))
+    pub words_some : 0 < length (words_of_lines (line ∷ lines))
+    pub final : last_text (words_of_lines (line ∷ lines))
         ≡ last_text (map (λ w. w.word) (last_line line lines).words)
-    pub words : AreTextWords in_block (words_of (line ∷ lines))
-    pub sense : HasPlainMarkers options → flat_map line_sense done ≡ words_of lines
+    pub words : AreTextWords in_block (words_of_lines (line ∷ lines))
+    pub sense : HasPlainMarkers options → flat_map line_sense done ≡ words_of_lines lines
 
   walked-last : (mine others : List (List ℕ)) → 0 < length others
       → last_text (mine ++ others) ≡ last_text others
@@ -263,7 +263,7 @@ module _ (options : ReflowOptions) (in_block : Bool) (hanging lead : List ℕ) (
       let none = masked-all in_block line.words
       (ended-none in_block line.words (sym of.ends ∙ ended)) in
       let mine = map (λ (w : SpacedText). w.word) line.words in
-      let others = words_of (next ∷ lines) in record {
+      let others = words_of_lines (next ∷ lines) in record {
         done = raw ∷ walked.done;
         left = walked.left;
         whole = whole ∙ ap (λ l. raw ∷ l) walked.whole;

@@ -3,7 +3,7 @@ use Rattle.textwrap_marked.proofs.LineNames.{◌≡◌, ℕ, Bool, true, false, 
 use Rattle.textwrap_marked.proofs.LineNames.{append_assoc, append-nil, ap, flat_map, None, refl, sym}
 use Rattle.textwrap_marked.proofs.LineNames.{◌∙◌, arith, join_with_byte, length, lt-ltb, nat_lt}
 use Rattle.textwrap_marked.proofs.LineNames.{slice_split, ◌==◌, flat_map-append, flat, without_returns}
-use Rattle.textwrap_marked.proofs.LineNames.{entered, first_state, line_of, LineText, passed}
+use Rattle.textwrap_marked.proofs.LineNames.{entered, first_state, line_as_read, LineText, passed}
 use Rattle.textwrap_marked.proofs.LineNames.{read_lines, StateText, with_titles}
 use Rattle.textwrap_marked.proofs.Common.{blocks, goes_on, is_beside, parts_of_blocks, text_parts}
 use Rattle.textwrap_marked.proofs.Common.{ending_if, kept_line}
@@ -22,7 +22,7 @@ read-text options state (raw ∷ []) = append-nil (raw ++ []) ∙ append-nil raw
 read-text options state (raw ∷ next ∷ raws) =
     let at = entered state (without_returns raw) in
     let fed = nat_lt 0 (length (next ∷ raws)) in
-    let behind = passed at (line_of options at raw fed) in
+    let behind = passed at (line_as_read options at raw fed) in
     let later = lines-text (read_lines options behind (next ∷ raws)) in
     ap (λ b. (raw ++ ending_if b (10 ∷ [])) ++ later) (lt-ltb 0 (length (next ∷ raws)) (omega arith))
     ∙ append_assoc raw (10 ∷ []) later

@@ -3,7 +3,7 @@ use Rattle.textwrap_marked.proofs.LineNames.{◌≡◌, ◌≢◌, ℕ, ◌<◌,
 use Rattle.textwrap_marked.proofs.LineNames.{List, [], ◌∷◌, ◌++◌, All, All-cons, All-nil, ap}
 use Rattle.textwrap_marked.proofs.LineNames.{append-nil, arith, cases_Bool, codes, ends_with, length}
 use Rattle.textwrap_marked.proofs.LineNames.{map, nat_eq, refl, subst, sym, ◌∙◌, deeper_by, begins_text}
-use Rattle.textwrap_marked.proofs.LineNames.{closes_block, closes_early, first_word, front_of}
+use Rattle.textwrap_marked.proofs.LineNames.{closes_block, closes_early, first_word, words_before_last}
 use Rattle.textwrap_marked.proofs.LineNames.{last_word, contains, SpacedText}
 use Rattle.textwrap_marked.proofs.Common.{is_cut}
 use Rattle.textwrap_marks.specs.declared.options.ReflowOptions.{ReflowOptions}
@@ -74,7 +74,7 @@ closing-free in_block (w ∷ []) are =
 closing-free in_block (w ∷ v ∷ ws) (none, are) =
     ap (λ e. in_block && (contains (codes "*/") w.word || closes_block (v ∷ ws)) && e) (early-more w v ws)
     ∙ more in_block (contains (codes "*/") w.word) (closes_block (v ∷ ws))
-    (closes_block (front_of (v ∷ ws))) (ends_early (last_word (v ∷ ws))) none
+    (closes_block (words_before_last (v ∷ ws))) (ends_early (last_word (v ∷ ws))) none
     (closing-free in_block (v ∷ ws) are)
   where
     more : (a c b f e : Bool) → (a && c) ≡ false → (a && b && (f || e)) ≡ false

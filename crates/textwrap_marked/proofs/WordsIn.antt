@@ -3,7 +3,7 @@ use Rattle.textwrap_marked.proofs.LineNames.{◌≡◌, ℕ, ◌<◌, true, fals
 use Rattle.textwrap_marked.proofs.LineNames.{All-head, All-tail, ap, arith, flat_map, length, lt-ltb}
 use Rattle.textwrap_marked.proofs.LineNames.{onto_first, refl, slice_split, ◌∙◌, flat_map-append}
 use Rattle.textwrap_marked.proofs.LineNames.{length-slice_split, has_bytes, is_white}
-use Rattle.textwrap_marked.proofs.Common.{words_in}
+use Rattle.textwrap_marked.proofs.Common.{words_between_white}
 use Rattle.std.proofs.lemmas.List.Splits.{slice_split_none}
 use Rattle.textwrap_text.proofs.Lists.Parts.{onto_first-append}
 
@@ -25,7 +25,7 @@ split-white (x ∷ front) c rest white =
 
 -- the words before and behind white
 pub words-white : (front : List ℕ) (c : ℕ) (rest : List ℕ) → is_white c ≡ true
-    → words_in (front ++ c ∷ rest) ≡ words_in front ++ words_in rest
+    → words_between_white (front ++ c ∷ rest) ≡ words_between_white front ++ words_between_white rest
 words-white front c rest white =
     ap (flat_map (λ w. cond (has_bytes w) (w ∷ []) [])) (split-white front c rest white)
     ∙ flat_map-append (λ w. cond (has_bytes w) (w ∷ []) []) (slice_split is_white front)
@@ -33,7 +33,7 @@ words-white front c rest white =
 
 -- white in front adds none
 pub white-words : (white rest : List ℕ) → All (λ c. is_white c ≡ true) white
-    → words_in (white ++ rest) ≡ words_in rest
+    → words_between_white (white ++ rest) ≡ words_between_white rest
 white-words [] rest all = refl
 white-words (c ∷ white) rest all =
     words-white [] c (white ++ rest) (All-head (λ c. is_white c ≡ true) c white all)
@@ -46,7 +46,7 @@ pub record IsPlain (word : List ℕ) : Type 0 where
   pub some : 0 < length word
   pub ink : All (λ c. is_white c ≡ false) word
 
-pub word-alone : (word : List ℕ) → IsPlain word → words_in word ≡ word ∷ []
+pub word-alone : (word : List ℕ) → IsPlain word → words_between_white word ≡ word ∷ []
 word-alone word plain =
     ap (flat_map (λ w. cond (has_bytes w) (w ∷ []) [])) (slice_split_none is_white word plain.ink)
     ∙ ap (λ b. cond b (word ∷ []) [] ++ []) (lt-ltb 0 (length word) plain.some)

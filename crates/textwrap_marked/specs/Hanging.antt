@@ -2,7 +2,7 @@
 use Rattle.std.specs.Prelude.{ℕ, Bool, List, ◌++◌, take, slice_range, replicate, if◌then◌else◌, codes}
 use Rattle.std.specs.List.{flat_map, list_any}
 use Rattle.textwrap_text.specs.Units.{text_width}
-use Rattle.textwrap_marks.specs.Marks.{is_opening}
+use Rattle.textwrap_marks.specs.Marks.{is_comment_opening}
 use Rattle.textwrap_marks.specs.Words.{spaced_text, SpacedText}
 use Rattle.textwrap_marks.specs.declared.prefixes.PrefixEnds.{PrefixEnds}
 
@@ -12,7 +12,7 @@ blanks n = replicate n 32
 -- ` *` for an opening, or blanks where block comments are bare
 abbrev pub hanging_mark : Bool → List ℕ → List ℕ
 hanging_mark bare word =
-    if is_opening word then (if bare then blanks (text_width word) else codes " *") else word
+    if is_comment_opening word then (if bare then blanks (text_width word) else codes " *") else word
 
 abbrev pub hanging_comments : Bool → List SpacedText → List ℕ
 hanging_comments bare words = flat_map (λ w. hanging_mark bare w.word ++ w.white) words
@@ -35,4 +35,4 @@ hanging_prefix bare ends words =
 -- the comment mark is an opening
 abbrev pub has_opening : PrefixEnds → List SpacedText → Bool
 has_opening ends words =
-    list_any (λ w. is_opening w.word) (slice_range words ends.lead ends.comment)
+    list_any (λ w. is_comment_opening w.word) (slice_range words ends.lead ends.comment)

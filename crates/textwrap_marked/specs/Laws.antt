@@ -14,9 +14,9 @@ use Rattle.textwrap_layout.specs.Text.{HasWholeSequences}
 use Rattle.textwrap_display.specs.Justifying.{gaps, line_words}
 use Rattle.textwrap_text.specs.declared.line_ending.LineEnding.{LineEnding}
 use Rattle.textwrap_marked.specs.Blocks.{blocks, is_beside, stays}
-use Rattle.textwrap_marks.specs.Columns.{columns}
-use Rattle.textwrap_marked.specs.Lines.{LineText, lines_of, without_returns}
-use Rattle.textwrap_marked.specs.Pieces.{pieces, words_of}
+use Rattle.textwrap_marks.specs.Columns.{text_columns}
+use Rattle.textwrap_marked.specs.Lines.{LineText, lines_of_text, without_returns}
+use Rattle.textwrap_marked.specs.Pieces.{pieces, words_of_lines}
 use Rattle.textwrap_marked.specs.Reflow.{byte_order_mark, filled_end, filled_ending, first_room}
 use Rattle.textwrap_marked.specs.Reflow.{IsReflowed, kept_line, kept_text, later_room, printed}
 use Rattle.textwrap_marked.specs.Reflow.{shown_lines}
@@ -53,7 +53,7 @@ parts_of_blocks beside ((first ∷ lines) ∷ blocks) =
     } ∷ parts_of_blocks (is_beside first blocks) blocks
 
 abbrev pub text_parts : ReflowOptions → List ℕ → List Part
-text_parts options text = parts_of_blocks false (blocks (lines_of options text))
+text_parts options text = parts_of_blocks false (blocks (lines_of_text options text))
 
 -- a part as it stands in the text
 abbrev pub source : Part → List ℕ
@@ -105,13 +105,13 @@ WhatStandsApartStays =
     → AreOfParts IsKeptOrBehind options text reflowed
 
 -- words between white
-abbrev pub words_in : List ℕ → List (List ℕ)
-words_in text = flat_map (λ w. if has_bytes w then w ∷ [] else []) (slice_split is_white text)
+abbrev pub words_between_white : List ℕ → List (List ℕ)
+words_between_white text = flat_map (λ w. if has_bytes w then w ∷ [] else []) (slice_split is_white text)
 
 -- a part that stays has at most other endings; each other has its words, in order, in lines behind its
 -- prefixes
-abbrev pub KeepsWords : ReflowOptions → List ℕ → Part → List ℕ → Type 0
-KeepsWords options ending part text = of part.stays
+abbrev pub PartKeepsWords : ReflowOptions → List ℕ → Part → List ℕ → Type 0
+PartKeepsWords options ending part text = of part.stays
   where
     of : Bool → Type 0
     of true = text ≡ kept_text options part.lines
@@ -119,13 +119,13 @@ KeepsWords options ending part text = of part.stays
         (line : List ℕ) × (lines : List (List ℕ))
         × (text ≡ lines_behind ending part.first.prefix part.first.hanging line lines
         (filled_end ending part.lines))
-        × (flat_map words_in (line ∷ lines) ≡ words_of part.lines)
+        × (flat_map words_between_white (line ∷ lines) ≡ words_of_lines part.lines)
 
 -- part by part the words of each paragraph are those of its lines, and all else stays
 abbrev pub WordsAreKept : Type 0
 WordsAreKept =
     (options : ReflowOptions) (text reflowed : List ℕ)
-    → IsReflowed options text reflowed → AreOfParts (KeepsWords options) options text reflowed
+    → IsReflowed options text reflowed → AreOfParts (PartKeepsWords options) options text reflowed
 
 -- ---- nothing is lost
 
@@ -136,7 +136,7 @@ from_letter (word ∷ words) = if has_letter word then word ∷ words else from_
 
 -- the words of a line, up to its ending, but for those in front without a letter or digit
 abbrev pub line_sense : List ℕ → List (List ℕ)
-line_sense line = from_letter (words_in (without_returns line))
+line_sense line = from_letter (words_between_white (without_returns line))
 
 -- what follows a byte order mark, if there is one
 abbrev pub behind_mark : List ℕ → List ℕ
@@ -174,7 +174,7 @@ NothingIsLostWithin =
 
 -- the pieces of a paragraph, as words
 abbrev pub piece_words : ReflowOptions → LineText → List LineText → List WordText
-piece_words options first lines = map word_of (pieces options first.starred (words_of lines))
+piece_words options first lines = map word_of (pieces options first.starred (words_of_lines lines))
 
 -- the text of a paragraph is that of this division of its pieces
 abbrev pub IsPrinted : ReflowOptions → List ℕ → Part → List ℕ → List (List WordText) → Type 0
@@ -186,7 +186,7 @@ IsPrinted options ending part text division =
 -- one piece, or what takes no more than the width behind this prefix
 abbrev pub IsWithin : ℕ → List ℕ → List WordText → Type 0
 IsWithin width prefix line =
-    (length line ≤ 1) ⊎ (columns prefix + closed_width sizes_of line ≤ width)
+    (length line ≤ 1) ⊎ (text_columns prefix + closed_width sizes_of line ≤ width)
 
 -- the first line behind one prefix, and each later one behind the other
 abbrev pub AreWithin : ℕ → List ℕ → List ℕ → List (List WordText) → Type 0
@@ -195,8 +195,8 @@ AreWithin width first later (line ∷ lines) =
     IsWithin width first line × All (IsWithin width later) lines
 
 -- a part that does not stay keeps to the width
-abbrev pub KeepsToWidth : ReflowOptions → List ℕ → Part → List ℕ → Type 0
-KeepsToWidth options ending part text = of part.stays
+abbrev pub PartKeepsToWidth : ReflowOptions → List ℕ → Part → List ℕ → Type 0
+PartKeepsToWidth options ending part text = of part.stays
   where
     of : Bool → Type 0
     of true = ⊤
@@ -209,7 +209,7 @@ abbrev pub FirstFitKeepsToWidth : Type 0
 FirstFitKeepsToWidth =
     (options : ReflowOptions) (text reflowed : List ℕ)
     → options.algorithm ≡ FirstFit → IsReflowed options text reflowed
-    → AreOfParts (KeepsToWidth options) options text reflowed
+    → AreOfParts (PartKeepsToWidth options) options text reflowed
 
 -- what its prefixes leave of the width, for the first line and for the later ones
 abbrev pub widths_left : ReflowOptions → LineText → List ℕ
@@ -241,8 +241,8 @@ LeastCostIsLeast =
 abbrev pub IsAsWide : ℕ → List ℕ → List WordText → List ℕ → Type 0
 IsAsWide width prefix line text =
     IsUtf8 (covered line) → All (λ w. HasWholeSequences w.word) (line_words (covered line))
-    → gaps (covered line) ≢ 0 → columns prefix + text_width (covered line) ≤ width
-    → columns prefix + text_width text ≡ width
+    → gaps (covered line) ≢ 0 → text_columns prefix + text_width (covered line) ≤ width
+    → text_columns prefix + text_width text ≡ width
 
 -- all lines but the last are: the first behind one prefix, and each later one behind the other
 abbrev pub AreAsWide : ℕ → List ℕ → List ℕ → List (List WordText) → List (List ℕ) → Type 0
@@ -260,14 +260,15 @@ FillsWidth options ending part text = of part.stays
     of true = ⊤
     of false =
         (division : List (List WordText)) × IsPrinted options ending part text division
-        × (flat_map words_in (shown_lines options part.first division) ≡ words_of part.lines)
+        × (flat_map words_between_white (shown_lines options part.first division)
+        ≡ words_of_lines part.lines)
         × AreAsWide options.width part.first.prefix part.first.hanging division
         (shown_lines options part.first division)
 
 -- where lines are justified, the words stay, and each printed line of a paragraph but its last, with its
 -- prefix, is as wide as the width, if it has a gap and its words fit
-abbrev pub JustifiedLinesAreAsWide : Type 0
-JustifiedLinesAreAsWide =
+abbrev pub JustifiedPartsAreAsWide : Type 0
+JustifiedPartsAreAsWide =
     (options : ReflowOptions) (text reflowed : List ℕ)
     → options.justify ≡ true → IsReflowed options text reflowed
     → AreOfParts (FillsWidth options) options text reflowed
@@ -279,7 +280,7 @@ pub record IsSameParagraph (part other : Part) : Type 0 where
   pub prefix : other.first.prefix ≡ part.first.prefix
   pub hanging : other.first.hanging ≡ part.first.hanging
   pub starred : other.first.starred ≡ part.first.starred
-  pub words : words_of other.lines ≡ words_of part.lines
+  pub words : words_of_lines other.lines ≡ words_of_lines part.lines
   -- what stands behind its last line, whatever the ending
   pub end : (ending : List ℕ) → filled_end ending other.lines ≡ filled_end ending part.lines
 

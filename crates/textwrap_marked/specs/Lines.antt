@@ -13,10 +13,10 @@ use Rattle.textwrap_marked.specs.Hanging.{hanging_margin, hanging_prefix, has_op
 use Rattle.textwrap_marks.specs.Signs.{begins_text, closes_block, closes_early, first_word}
 use Rattle.textwrap_marks.specs.Signs.{has_columns, is_key, is_rule, last_white, last_word}
 use Rattle.textwrap_marks.specs.Words.{has_byte, spaced_text, SpacedText, spaced_view, spaced_words}
-use Rattle.textwrap_marked.specs.declared.line.Line.{Line}
+use Rattle.textwrap_marked.specs.declared.line.MarkedLine.{MarkedLine}
 use Rattle.textwrap_marks.specs.declared.options.ReflowOptions.{ReflowOptions}
 use Rattle.textwrap_marks.specs.declared.prefixes.PrefixEnds.{PrefixEnds}
-use Rattle.textwrap_marked.specs.declared.states.State.{State}
+use Rattle.textwrap_marked.specs.declared.states.ReadState.{ReadState}
 
 -- ---- a line
 
@@ -43,8 +43,8 @@ pub record LineText : Type 0 where
   -- its marks are among those that are filled
   pub chosen : Bool
 
-abbrev pub line_view : Line → LineText
-line_view l = record {
+abbrev pub marked_line_view : MarkedLine → LineText
+marked_line_view l = record {
   raw = l.raw.now;
   fed = l.fed;
   prefix = string_bytes l.prefix;
@@ -70,7 +70,7 @@ pub record StateText : Type 0 where
   pub before : Option DepthText
   pub by : ℕ
 
-abbrev pub state_view : State → StateText
+abbrev pub state_view : ReadState → StateText
 state_view s = record {
   in_block = s.in_block;
   fence = option_map fence_view s.fence;
@@ -181,9 +181,9 @@ abbrev pub without_returns : List ℕ → List ℕ
 without_returns raw = take (length raw - suffix_len is_return raw) raw
 
 -- a line of these words, where this is open
-abbrev pub line_from : ReflowOptions → StateText → List ℕ → Bool → List SpacedText → PrefixEnds
+abbrev pub line_from_words : ReflowOptions → StateText → List ℕ → Bool → List SpacedText → PrefixEnds
     → LineText
-line_from options state raw fed all ends =
+line_from_words options state raw fed all ends =
     let words = drop ends.text all in
     let margin = hanging_margin options.bare ends all in
     let opening = has_opening ends all in
@@ -209,10 +209,10 @@ line_from options state raw fed all ends =
     }
 
 -- a line, where this is open
-abbrev pub line_of : ReflowOptions → StateText → List ℕ → Bool → LineText
-line_of options state raw fed =
+abbrev pub line_as_read : ReflowOptions → StateText → List ℕ → Bool → LineText
+line_as_read options state raw fed =
     let all = spaced_words (without_returns raw) in
-    line_from options state raw fed all (prefix_ends options state.in_block all)
+    line_from_words options state raw fed all (prefix_ends options state.in_block all)
 
 -- ---- the lines of a text
 
@@ -221,7 +221,7 @@ abbrev pub read_lines : ReflowOptions → StateText → List (List ℕ) → List
 read_lines options state [] = []
 read_lines options state (raw ∷ parts) =
     let at = entered state (without_returns raw) in
-    let line = line_of options at raw (nat_lt 0 (length parts)) in
+    let line = line_as_read options at raw (nat_lt 0 (length parts)) in
     line ∷ read_lines options (passed at line) parts
 
 -- the next line is a rule behind the hanging form of this one
@@ -238,6 +238,6 @@ with_titles (line ∷ []) = line ∷ []
 with_titles (line ∷ next ∷ lines) =
     as_title (is_title line next) line ∷ with_titles (next ∷ lines)
 
-abbrev pub lines_of : ReflowOptions → List ℕ → List LineText
-lines_of options text =
+abbrev pub lines_of_text : ReflowOptions → List ℕ → List LineText
+lines_of_text options text =
     with_titles (read_lines options first_state (slice_split (λ c. c == 10) text))

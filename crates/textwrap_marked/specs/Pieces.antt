@@ -9,8 +9,8 @@ use Rattle.textwrap_marks.specs.declared.options.ReflowOptions.{ReflowOptions}
 use Rattle.textwrap_marked.specs.declared.pieces.JoinedWords.{JoinedWords}
 
 -- the words of lines
-abbrev pub words_of : List LineText → List (List ℕ)
-words_of lines = flat_map (λ l. map (λ w. w.word) l.words) lines
+abbrev pub words_of_lines : List LineText → List (List ℕ)
+words_of_lines lines = flat_map (λ l. map (λ w. w.word) l.words) lines
 
 -- a word with the blank behind it
 abbrev pub with_blank : List ℕ → List ℕ

@@ -1,7 +1,7 @@
 -- The lines and the blocks of a text that are still to be read.
 use Rattle.std.specs.Prelude.{ℕ, ◌+◌, List, [], ◌∷◌, Option, Some, None}
-use Rattle.textwrap_marked.specs.Lines.{LineText, line_view, read_lines, state_view, with_titles}
-use Rattle.textwrap_marks.specs.Words.{bytes_left, parts_left}
+use Rattle.textwrap_marked.specs.Lines.{LineText, marked_line_view, read_lines, state_view, with_titles}
+use Rattle.textwrap_marks.specs.Words.{bytes_left, parts_behind_mark}
 use Rattle.textwrap_marked.specs.declared.blocks.BlocksAhead.{BlocksAhead}
 use Rattle.textwrap_marks.specs.declared.options.ReflowOptions.{ReflowOptions}
 use Rattle.textwrap_marked.specs.declared.reading.LinesAhead.{LinesAhead}
@@ -10,8 +10,8 @@ use Rattle.textwrap_marked.specs.declared.reading.LinesAhead.{LinesAhead}
 abbrev pub lines_ahead : ReflowOptions → Option LinesAhead → List LineText
 lines_ahead options None = []
 lines_ahead options (Some ahead) =
-    with_titles (line_view ahead.line
-    ∷ read_lines options (state_view ahead.state) (parts_left 10 ahead.rest))
+    with_titles (marked_line_view ahead.line
+    ∷ read_lines options (state_view ahead.state) (parts_behind_mark 10 ahead.rest))
 
 -- how many bytes are left to be read, where one more stands for the line that was
 abbrev pub bytes_ahead : Option LinesAhead → ℕ
@@ -21,7 +21,7 @@ bytes_ahead (Some ahead) = bytes_left ahead.rest + 1
 -- the line that the next block begins with, and those behind it
 abbrev pub lines_left : ReflowOptions → Option BlocksAhead → List LineText
 lines_left options None = []
-lines_left options (Some ahead) = line_view ahead.first ∷ lines_ahead options ahead.later
+lines_left options (Some ahead) = marked_line_view ahead.first ∷ lines_ahead options ahead.later
 
 -- how many bytes are left, where one more stands for the line that was read
 abbrev pub measure_left : Option BlocksAhead → ℕ

@@ -12,17 +12,17 @@ use Rattle.textwrap_layout.specs.Paragraph.{covered, line_bytes}
 use Rattle.textwrap_text.specs.declared.line_ending.LineEnding.{LineEnding}
 use Rattle.textwrap_text.specs.declared.line_ending.LineEnding.TheVariants.{CRLF, LF}
 use Rattle.textwrap_marked.specs.Blocks.{blocks, is_beside, stays}
-use Rattle.textwrap_marks.specs.Columns.{columns}
-use Rattle.textwrap_marked.specs.Lines.{LineText, lines_of, without_returns}
-use Rattle.textwrap_marked.specs.Pieces.{pieces, words_of}
+use Rattle.textwrap_marks.specs.Columns.{text_columns}
+use Rattle.textwrap_marked.specs.Lines.{LineText, lines_of_text, without_returns}
+use Rattle.textwrap_marked.specs.Pieces.{pieces, words_of_lines}
 use Rattle.textwrap_marks.specs.Signs.{last_white}
 use Rattle.textwrap_marks.specs.declared.options.Algorithm.{Algorithm}
 use Rattle.textwrap_marks.specs.declared.options.Algorithm.TheVariants.{FirstFit, LeastCost}
 use Rattle.textwrap_marks.specs.declared.options.ReflowOptions.{ReflowOptions}
 
-abbrev pub algorithm_of : Algorithm → base.Algorithm
-algorithm_of FirstFit = base.Greedy
-algorithm_of (LeastCost penalties) = base.LeastCost penalties
+abbrev pub dividing_algorithm : Algorithm → base.Algorithm
+dividing_algorithm FirstFit = base.Greedy
+dividing_algorithm (LeastCost penalties) = base.LeastCost penalties
 
 -- ---- lines that stay
 
@@ -72,10 +72,10 @@ filled_end ending lines = filled_ends ending (drop (length lines - 1) lines)
 
 -- what the prefixes of a paragraph leave of the width, the first line's and the later ones'
 abbrev pub first_room : ReflowOptions → LineText → ℕ
-first_room options first = options.width - columns first.prefix
+first_room options first = options.width - text_columns first.prefix
 
 abbrev pub later_room : ReflowOptions → LineText → ℕ
-later_room options first = options.width - columns first.hanging
+later_room options first = options.width - text_columns first.hanging
 
 -- the lines of a paragraph, as they are printed
 abbrev pub shown_lines : ReflowOptions → LineText → List (List WordText) → List (List ℕ)
@@ -87,9 +87,9 @@ module _ (options : ReflowOptions) (ending : List ℕ) where
   abbrev pub IsFilled : LineText → List LineText → List ℕ → Type 0
   IsFilled first lines text =
       (division : List (List WordText))
-      × base.IsDividedBy (algorithm_of options.algorithm) sizes_of
+      × base.IsDividedBy (dividing_algorithm options.algorithm) sizes_of
       (first_room options first ∷ later_room options first ∷ [])
-      (map word_of (pieces options first.starred (words_of lines))) division
+      (map word_of (pieces options first.starred (words_of_lines lines))) division
       × (text ≡ printed ending first.prefix first.hanging (shown_lines options first division)
       ++ filled_end ending lines)
 
@@ -110,12 +110,12 @@ module _ (options : ReflowOptions) (ending : List ℕ) where
 -- ---- the whole text
 
 -- how a line ends, if a line feed follows it
-abbrev pub ending_of : List ℕ → Bool → LineEnding
-ending_of line fed = if fed && ends_with nat_eq line (codes "\r") then CRLF else LF
+abbrev pub ending_of_line : List ℕ → Bool → LineEnding
+ending_of_line line fed = if fed && ends_with nat_eq line (codes "\r") then CRLF else LF
 
 abbrev pub first_ending : List (List ℕ) → LineEnding
 first_ending [] = LF
-first_ending (line ∷ lines) = ending_of line (nat_lt 0 (length lines))
+first_ending (line ∷ lines) = ending_of_line line (nat_lt 0 (length lines))
 
 -- the ending of filled lines: the one that is asked for, else that of the first line
 abbrev pub filled_ending : Option LineEnding → List ℕ → LineEnding
@@ -129,7 +129,7 @@ byte_order_mark = 0xEF ∷ 0xBB ∷ 0xBF ∷ []
 abbrev pub IsReflowedFrom : ReflowOptions → List ℕ → List ℕ → Type 0
 IsReflowedFrom options text reflowed =
     AreOfBlocks options (ending_bytes (filled_ending options.ending text)) false
-    (blocks (lines_of options text)) reflowed
+    (blocks (lines_of_text options text)) reflowed
 
 -- a byte order mark stays, if there is one, and what follows it is reflowed
 abbrev pub IsReflowedBehind : Bool → ReflowOptions → List ℕ → List ℕ → Type 0

@@ -4,7 +4,7 @@ use Rattle.std.specs.Prelude.{List, [], ◌∷◌, ◌++◌, drop, length}
 use Rattle.std.specs.List.{starts_with}
 use Rattle.textwrap_text.specs.LineEnding.{ending_bytes}
 use Rattle.textwrap_marked.specs.Blocks.{blocks, is_beside, stays}
-use Rattle.textwrap_marked.specs.Lines.{LineText, lines_of}
+use Rattle.textwrap_marked.specs.Lines.{LineText, lines_of_text}
 use Rattle.textwrap_marked.specs.Reflow.{IsOfBlock, byte_order_mark, filled_ending}
 use Rattle.textwrap_marks.specs.declared.options.ReflowOptions.{ReflowOptions}
 use Rattle.textwrap_marked.specs.declared.within.LineRange.{LineRange}
@@ -34,7 +34,7 @@ module _ (options : ReflowOptions) (range : LineRange) (ending : List ℕ) where
 abbrev pub IsReflowedWithinFrom : ReflowOptions → LineRange → List ℕ → List ℕ → Type 0
 IsReflowedWithinFrom options range text reflowed =
     AreOfBlocksWithin options range (ending_bytes (filled_ending options.ending text)) 0 false
-    (blocks (lines_of options text)) reflowed
+    (blocks (lines_of_text options text)) reflowed
 
 abbrev pub IsReflowedWithinBehind : Bool → ReflowOptions → LineRange → List ℕ → List ℕ → Type 0
 IsReflowedWithinBehind true options range text reflowed =

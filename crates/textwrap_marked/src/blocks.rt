@@ -1,18 +1,18 @@
 //! The blocks of a text: lines that stand apart, and paragraphs.
 ghost use Rattle.std.specs.Prelude.{◌≡◌, ◌<◌, map, IfOk, Some};
 ghost use Rattle.textwrap_marked.specs.Blocks.{are_fields, behind_block, first_block, goes_on};
-ghost use Rattle.textwrap_marked.specs.Lines.{line_view, lines_of};
+ghost use Rattle.textwrap_marked.specs.Lines.{marked_line_view, lines_of_text};
 ghost use Rattle.textwrap_marked.specs.Reading.{lines_left, measure_left};
 
-use crate::lines::Line;
+use crate::lines::MarkedLine;
 use crate::reading::LinesAhead;
 use std::alloc::{AllocError, Global};
 use textwrap_marks::options::ReflowOptions;
 use textwrap_marks::signs::{first_word, opens_paragraph};
 
 /// Whether a line goes on with the one before it.
-fn goes_on(line: &Line<'_>, next: &Line<'_>) -> bool
-    ensures { result ≡ goes_on (line_view line.now) (line_view next.now) }
+fn goes_on(line: &MarkedLine<'_>, next: &MarkedLine<'_>) -> bool
+    ensures { result ≡ goes_on (marked_line_view line.now) (marked_line_view next.now) }
 {
     !line.apart
         & !next.apart
@@ -22,8 +22,8 @@ fn goes_on(line: &Line<'_>, next: &Line<'_>) -> bool
 }
 
 /// Whether both begin with a key, behind the same hanging form.
-pub(crate) fn are_fields(one: &Line<'_>, two: &Line<'_>) -> bool
-    ensures { result ≡ are_fields (line_view one.now) (line_view two.now) }
+pub(crate) fn are_fields(one: &MarkedLine<'_>, two: &MarkedLine<'_>) -> bool
+    ensures { result ≡ are_fields (marked_line_view one.now) (marked_line_view two.now) }
 {
     one.field & two.field & (one.hanging.as_str() == two.hanging.as_str())
 }
@@ -31,7 +31,7 @@ pub(crate) fn are_fields(one: &Line<'_>, two: &Line<'_>) -> bool
 /// The line that the next block begins with, and the lines behind it, which are still to be read.
 #[derive(Drop)]
 pub(crate) struct BlocksAhead<'t> {
-    pub first: Line<'t>,
+    pub first: MarkedLine<'t>,
     later: Option<LinesAhead<'t>>,
 }
 
@@ -43,7 +43,7 @@ impl<'t> BlocksAhead<'t> {
         options: &ReflowOptions<'_>,
     ) -> Result<BlocksAhead<'t>, AllocError>
         ensures { IfOk result (λ ahead. lines_left options.now (Some ahead)
-            ≡ lines_of options.now text.now) }
+            ≡ lines_of_text options.now text.now) }
     {
         let (first, later) = LinesAhead::new(alloc, text, options)?.next(alloc, options)?;
         Ok(BlocksAhead { first, later })
@@ -54,8 +54,8 @@ impl<'t> BlocksAhead<'t> {
         self,
         alloc: Global,
         options: &ReflowOptions<'_>,
-    ) -> Result<(Vec<Line<'t>>, Option<BlocksAhead<'t>>), AllocError>
-        ensures block { IfOk result (λ read. map line_view read.0.items
+    ) -> Result<(Vec<MarkedLine<'t>>, Option<BlocksAhead<'t>>), AllocError>
+        ensures block { IfOk result (λ read. map marked_line_view read.0.items
             ≡ first_block (lines_left options.now (Some self.entry))) }
         ensures rest { IfOk result (λ read. lines_left options.now read.1
             ≡ behind_block (lines_left options.now (Some self.entry))) }

@@ -8,13 +8,13 @@ ghost use Rattle.textwrap_base.specs.Errors.{Fits64Bits, Overflowed};
 ghost use Rattle.textwrap_display.specs.Justifying.{justified};
 ghost use Rattle.textwrap_layout.specs.Paragraph.{covered, line_bytes};
 ghost use Rattle.textwrap_words.specs.Words.{sizes_of, word_view};
-ghost use Rattle.textwrap_marked.specs.Lines.{line_view};
-ghost use Rattle.textwrap_marked.specs.Reflow.{algorithm_of, break_white, ending_if, filled_end};
+ghost use Rattle.textwrap_marked.specs.Lines.{marked_line_view};
+ghost use Rattle.textwrap_marked.specs.Reflow.{dividing_algorithm, break_white, ending_if, filled_end};
 ghost use Rattle.textwrap_marked.specs.Reflow.{filled_ends, first_room, IsFilled, kept_line};
 ghost use Rattle.textwrap_marked.specs.Reflow.{kept_text, later_room, line_text, line_texts};
 ghost use Rattle.textwrap_marked.specs.Reflow.{printed, shown_lines};
 
-use crate::lines::{Line, without_returns};
+use crate::lines::{MarkedLine, without_returns};
 use crate::pieces::{joined_of, words_of};
 use std::alloc::{AllocError, Global};
 use textwrap_display::justify;
@@ -38,11 +38,11 @@ fn push_ending(output: &mut String, ending: &str, fed: bool) -> Result<(), Alloc
 /// Adds a line as it is, but for its ending, if another one is asked for.
 fn push_line(
     output: &mut String,
-    line: &Line<'_>,
+    line: &MarkedLine<'_>,
     ending: Option<LineEnding>,
 ) -> Result<(), AllocError>
     ensures { OnOk result (string_bytes output.new
-        ≡ string_bytes output.old ++ kept_line ending (line_view line.now)) }
+        ≡ string_bytes output.old ++ kept_line ending (marked_line_view line.now)) }
 {
     match ending {
         None => {
@@ -59,11 +59,11 @@ fn push_line(
 /// Adds lines as they are.
 pub(crate) fn push_kept(
     output: &mut String,
-    lines: &[Line<'_>],
+    lines: &[MarkedLine<'_>],
     options: &ReflowOptions<'_>,
 ) -> Result<(), AllocError>
     ensures { OnOk result (string_bytes output.new
-        ≡ string_bytes output.old ++ kept_text options.now (map line_view lines.now)) }
+        ≡ string_bytes output.old ++ kept_text options.now (map marked_line_view lines.now)) }
 {
     for line in lines {
         push_line(output, line, options.ending)?;
@@ -79,7 +79,8 @@ fn divide<'p, 't>(
     widths: &[usize],
 ) -> Result<Vec<&'p [Word<'t>]>, WrapError>
     requires { Fits64Bits (total_width (λ word. sizes_of (word_view word)) pieces.now) }
-    ensures divided { IfOk result (λ lines. IsDividedBy (algorithm_of algorithm) sizes_of widths.now
+    ensures divided { IfOk result (λ lines. IsDividedBy
+        (dividing_algorithm algorithm) sizes_of widths.now
         (map word_view pieces.now) (map (map word_view) (map (λ line. line.now) lines.items))) }
     ensures only_memory { ¬ Overflowed result }
 {
@@ -167,15 +168,15 @@ fn push_text(
 }
 
 /// What its prefix leaves of the width for the first line of a paragraph.
-fn first_room(first: &Line<'_>, options: &ReflowOptions<'_>) -> usize
-    ensures { result ≡ first_room options.now (line_view first.now) }
+fn first_room(first: &MarkedLine<'_>, options: &ReflowOptions<'_>) -> usize
+    ensures { result ≡ first_room options.now (marked_line_view first.now) }
 {
     options.width.saturating_sub(columns(first.prefix.as_str()))
 }
 
 /// What the hanging form leaves of it for the later lines.
-fn later_room(first: &Line<'_>, options: &ReflowOptions<'_>) -> usize
-    ensures { result ≡ later_room options.now (line_view first.now) }
+fn later_room(first: &MarkedLine<'_>, options: &ReflowOptions<'_>) -> usize
+    ensures { result ≡ later_room options.now (marked_line_view first.now) }
 {
     options
         .width
@@ -211,12 +212,12 @@ fn push_division(
     output: &mut String,
     lines: &[&[Word<'_>]],
     ending: &str,
-    first: &Line<'_>,
+    first: &MarkedLine<'_>,
     options: &ReflowOptions<'_>,
 ) -> Result<(), AllocError>
     ensures { OnOk result (string_bytes output.new ≡ string_bytes output.old
-        ++ printed ending.now (line_view first.now).prefix (line_view first.now).hanging
-        (shown_lines options.now (line_view first.now)
+        ++ printed ending.now (marked_line_view first.now).prefix (marked_line_view first.now).hanging
+        (shown_lines options.now (marked_line_view first.now)
         (map (map word_view) (map (λ line. line.now) lines.now)))) }
 {
     let [line, later @ ..] = lines else {
@@ -239,9 +240,9 @@ fn push_division(
 }
 
 /// Adds the white of a hard break.
-fn push_break(output: &mut String, line: &Line<'_>) -> Result<(), AllocError>
+fn push_break(output: &mut String, line: &MarkedLine<'_>) -> Result<(), AllocError>
     ensures { OnOk result (string_bytes output.new
-        ≡ string_bytes output.old ++ break_white (line_view line.now)) }
+        ≡ string_bytes output.old ++ break_white (marked_line_view line.now)) }
 {
     let white = last_white(&line.words);
     if ends_with(white, "  ") {
@@ -252,9 +253,9 @@ fn push_break(output: &mut String, line: &Line<'_>) -> Result<(), AllocError>
 }
 
 /// Adds what stands behind each of these lines: the white of a hard break, and the ending.
-fn push_ends(output: &mut String, lines: &[Line<'_>], ending: &str) -> Result<(), AllocError>
+fn push_ends(output: &mut String, lines: &[MarkedLine<'_>], ending: &str) -> Result<(), AllocError>
     ensures { OnOk result (string_bytes output.new
-        ≡ string_bytes output.old ++ filled_ends ending.now (map line_view lines.now)) }
+        ≡ string_bytes output.old ++ filled_ends ending.now (map marked_line_view lines.now)) }
 {
     for line in lines {
         push_break(output, line)?;
@@ -264,9 +265,9 @@ fn push_ends(output: &mut String, lines: &[Line<'_>], ending: &str) -> Result<()
 }
 
 /// Adds what stands behind the last of these lines.
-fn push_end(output: &mut String, lines: &[Line<'_>], ending: &str) -> Result<(), AllocError>
+fn push_end(output: &mut String, lines: &[MarkedLine<'_>], ending: &str) -> Result<(), AllocError>
     ensures { OnOk result (string_bytes output.new
-        ≡ string_bytes output.old ++ filled_end ending.now (map line_view lines.now)) }
+        ≡ string_bytes output.old ++ filled_end ending.now (map marked_line_view lines.now)) }
 {
     let (_, last) = lines.split_at(lines.len().saturating_sub(1));
     push_ends(output, last, ending)
@@ -276,13 +277,14 @@ fn push_end(output: &mut String, lines: &[Line<'_>], ending: &str) -> Result<(),
 pub(crate) fn push_filled(
     alloc: Global,
     output: &mut String,
-    first: &Line<'_>,
-    lines: &[Line<'_>],
+    first: &MarkedLine<'_>,
+    lines: &[MarkedLine<'_>],
     ending: &str,
     options: &ReflowOptions<'_>,
 ) -> Result<(), WrapError>
     ensures filled { OnOk result ((text : List ℕ)
-        × IsFilled options.now ending.now (line_view first.now) (map line_view lines.now) text
+        × IsFilled options.now ending.now (marked_line_view first.now)
+        (map marked_line_view lines.now) text
         × (string_bytes output.new ≡ string_bytes output.old ++ text)) }
     ensures only_memory { ¬ Overflowed result }
 {

@@ -1,7 +1,7 @@
 //! The hanging form of a prefix, which stands before the later lines.
 ghost use Rattle.std.specs.Prelude.{◌≡◌, ◌≤◌, ◌++◌, length, map, IfOk, OnOk, string_bytes};
 ghost use Rattle.std.specs.List.{list_any};
-ghost use Rattle.textwrap_marks.specs.Marks.{is_opening};
+ghost use Rattle.textwrap_marks.specs.Marks.{is_comment_opening};
 ghost use Rattle.textwrap_marks.specs.Words.{spaced_text, spaced_view};
 ghost use Rattle.textwrap_marked.specs.Hanging.{blanks, hanging_bullets, hanging_comments};
 ghost use Rattle.textwrap_marked.specs.Hanging.{hanging_margin, hanging_mark, has_opening};
@@ -107,7 +107,7 @@ pub fn hanging_margin(
 }
 
 fn any_opening(words: &[SpacedWord<'_>]) -> bool
-    ensures { result ≡ list_any (λ w. is_opening w.word) (map spaced_view words.now) }
+    ensures { result ≡ list_any (λ w. is_comment_opening w.word) (map spaced_view words.now) }
 {
     for word in words {
         if is_opening(word.word) {

@@ -5,7 +5,7 @@
 //! `reflowed_texts_are_unique();`.
 ghost use Rattle.textwrap_marked.specs.Laws.{EarlierEndingsMakeNoDifference};
 ghost use Rattle.textwrap_marked.specs.Laws.{EarlierWidthsMakeNoDifference, FirstFitKeepsToWidth};
-ghost use Rattle.textwrap_marked.specs.Laws.{JustifiedLinesAreAsWide, LeastCostIsLeast};
+ghost use Rattle.textwrap_marked.specs.Laws.{JustifiedPartsAreAsWide, LeastCostIsLeast};
 ghost use Rattle.textwrap_marked.specs.Laws.{NothingIsLost, NothingIsLostWithin, PartsAreKept};
 ghost use Rattle.textwrap_marked.specs.Laws.{PartsAreKeptWithin, ReflowedTextsAreUnique};
 ghost use Rattle.textwrap_marked.specs.Laws.{ReflowedTextsStay, WhatStandsApartStays, WordsAreKept};
@@ -24,7 +24,7 @@ pub fn first_fit_keeps_to_width()
 /// Where lines are justified, the words stay, and each printed line of a paragraph but its last is
 /// as wide as the width, with the columns of its prefix, if it has a gap and its words fit.
 pub fn justified_lines_are_as_wide()
-    ensures { JustifiedLinesAreAsWide }
+    ensures { JustifiedPartsAreAsWide }
 {}
 
 /// By least cost, the lines of a paragraph are the cheapest of all divisions of its pieces, at the

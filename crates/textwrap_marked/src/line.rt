@@ -3,7 +3,7 @@ use textwrap_marks::words::SpacedWord;
 
 /// A line, and what is read of it.
 #[derive(Drop)]
-pub struct Line<'t> {
+pub struct MarkedLine<'t> {
     /// The line with the carriage returns at its end.
     pub raw: &'t str,
     /// Whether a line feed follows.

@@ -1,15 +1,15 @@
 //! What is read of a line.
 ghost use Rattle.std.specs.Prelude.{◌≡◌, ◌≤◌, ◌&&◌, drop, length, map, nat_eq, not, true, IfOk};
 ghost use Rattle.std.specs.List.{list_any, starts_with};
-ghost use Rattle.textwrap_marked.specs.Lines.{is_chosen, is_deep, is_ended, is_title, line_from};
-ghost use Rattle.textwrap_marked.specs.Lines.{line_of, is_return, line_view, stands_apart};
+ghost use Rattle.textwrap_marked.specs.Lines.{is_chosen, is_deep, is_ended, is_title, line_from_words};
+ghost use Rattle.textwrap_marked.specs.Lines.{line_as_read, is_return, marked_line_view, stands_apart};
 ghost use Rattle.textwrap_marked.specs.Lines.{state_view, without_returns};
 ghost use Rattle.textwrap_marks.specs.Signs.{ArePlain, closes_block};
 ghost use Rattle.textwrap_marks.specs.Words.{spaced_view, spaced_words};
 
 use crate::hanging::{hanging_margin, has_opening, push_hanging_bullets, spaced_text};
-pub use crate::line::Line;
-use crate::states::State;
+pub use crate::line::MarkedLine;
+use crate::states::ReadState;
 use std::alloc::{AllocError, Global};
 use textwrap_marks::columns::{depth_of, is_deeper};
 use textwrap_marks::options::ReflowOptions;
@@ -44,12 +44,12 @@ pub fn read_line<'t>(
     alloc: Global,
     raw: &'t str,
     fed: bool,
-    state: &State,
+    state: &ReadState,
     options: &ReflowOptions<'_>,
-) -> Result<Line<'t>, AllocError>
-    ensures line { IfOk result (λ line. line_view line
-        ≡ line_of options.now (state_view state.now) raw.now fed) }
-    ensures plain { IfOk result (λ line. line.plain ≡ true → ArePlain (line_view line).words) }
+) -> Result<MarkedLine<'t>, AllocError>
+    ensures line { IfOk result (λ line. marked_line_view line
+        ≡ line_as_read options.now (state_view state.now) raw.now fed) }
+    ensures plain { IfOk result (λ line. line.plain ≡ true → ArePlain (marked_line_view line).words) }
 {
     let all = spaced_words(alloc, without_returns(raw))?;
     let ends = prefix_ends(&all, state.in_block, options);
@@ -79,17 +79,17 @@ fn line_from<'t>(
     fed: bool,
     words: Vec<SpacedWord<'t>>,
     ends: &PrefixEnds,
-    state: &State,
+    state: &ReadState,
     options: &ReflowOptions<'_>,
-) -> Result<Line<'t>, AllocError>
+) -> Result<MarkedLine<'t>, AllocError>
     requires words { map spaced_view words.items ≡ spaced_words (without_returns raw.now) }
     requires lead { ends.now.lead ≤ ends.now.comment }
     requires comment { ends.now.comment ≤ ends.now.margin }
     requires margin { ends.now.margin ≤ ends.now.text }
     requires within { ends.now.text ≤ length words.items }
-    ensures line { IfOk result (λ line. line_view line ≡ line_from options.now
+    ensures line { IfOk result (λ line. marked_line_view line ≡ line_from_words options.now
         (state_view state.now) raw.now fed (map spaced_view words.entry.items) ends.now) }
-    ensures plain { IfOk result (λ line. line.plain ≡ true → ArePlain (line_view line).words) }
+    ensures plain { IfOk result (λ line. line.plain ≡ true → ArePlain (marked_line_view line).words) }
 {
     let all = words.as_slice();
     let text = &all[ends.text..];
@@ -111,7 +111,7 @@ fn line_from<'t>(
     let ended = is_ended(in_block, text);
     let chosen = is_chosen(margin.as_str(), options);
     let words = words_from(alloc, words, ends.text)?;
-    Ok(Line {
+    Ok(MarkedLine {
         raw,
         fed,
         prefix,
@@ -132,7 +132,7 @@ fn line_from<'t>(
 fn is_deep(
     alloc: Global,
     margin: &str,
-    state: &State,
+    state: &ReadState,
     options: &ReflowOptions<'_>,
 ) -> Result<bool, AllocError>
     ensures { IfOk result (λ deep. deep ≡ is_deep options.now (state_view state.now) margin.now) }
@@ -200,8 +200,8 @@ fn begins_with_any(text: &str, prefixes: &[&str]) -> bool
 }
 
 /// Whether a line is a title: the next one is a rule behind its hanging form.
-pub fn is_title(line: &Line<'_>, next: &Line<'_>) -> bool
-    ensures { result ≡ is_title (line_view line.now) (line_view next.now) }
+pub fn is_title(line: &MarkedLine<'_>, next: &MarkedLine<'_>) -> bool
+    ensures { result ≡ is_title (marked_line_view line.now) (marked_line_view next.now) }
 {
     is_rule(&next.words) & (next.prefix.as_str() == line.hanging.as_str())
 }

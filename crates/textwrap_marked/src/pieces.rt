@@ -1,12 +1,12 @@
 //! The text of a paragraph's words, and where it may be cut into pieces.
 ghost use Rattle.std.specs.Prelude.{◌≡◌, ◌++◌, [], map, IfOk, OnOk};
-ghost use Rattle.textwrap_marked.specs.Lines.{line_view};
+ghost use Rattle.textwrap_marked.specs.Lines.{marked_line_view};
 ghost use Rattle.textwrap_marked.specs.Pieces.{is_cut, is_kept_together, joined_of, joined_view};
 ghost use Rattle.textwrap_marked.specs.Pieces.{with_cut, with_word};
-ghost use Rattle.textwrap_marked.specs.Pieces.{words_of};
+ghost use Rattle.textwrap_marked.specs.Pieces.{words_of_lines};
 ghost use Rattle.textwrap_marks.specs.Words.{spaced_view};
 
-use crate::lines::Line;
+use crate::lines::MarkedLine;
 use std::alloc::{AllocError, Global};
 use textwrap_marks::options::ReflowOptions;
 use textwrap_marks::signs::may_go_on;
@@ -96,9 +96,12 @@ fn push_words<'t>(words: &mut Vec<&'t str>, line: &[SpacedWord<'t>]) -> Result<(
 }
 
 /// The words of lines.
-pub(crate) fn words_of<'t>(alloc: Global, lines: &[Line<'t>]) -> Result<Vec<&'t str>, AllocError>
+pub(crate) fn words_of<'t>(
+    alloc: Global,
+    lines: &[MarkedLine<'t>],
+) -> Result<Vec<&'t str>, AllocError>
     ensures { IfOk result (λ words.
-        map (λ word. word.now) words.items ≡ words_of (map line_view lines.now)) }
+        map (λ word. word.now) words.items ≡ words_of_lines (map marked_line_view lines.now)) }
 {
     let mut words = Vec::with_capacity(alloc, lines.len().saturating_mul(USUAL_WORDS))?;
     for line in lines {

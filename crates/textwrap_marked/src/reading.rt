@@ -1,12 +1,12 @@
 //! The lines of a text, read one after another.
 ghost use Rattle.std.specs.Prelude.{◌≡◌, ◌==◌, ◌<◌, ◌≤◌, ◌∷◌, length, IfOk, Some};
 ghost use Rattle.std.specs.List.{slice_split};
-ghost use Rattle.textwrap_marked.specs.Lines.{line_view, lines_of, read_lines, state_view};
+ghost use Rattle.textwrap_marked.specs.Lines.{marked_line_view, lines_of_text, read_lines, state_view};
 ghost use Rattle.textwrap_marked.specs.Reading.{bytes_ahead, lines_ahead};
-ghost use Rattle.textwrap_marks.specs.Words.{bytes_left, parts_left};
+ghost use Rattle.textwrap_marks.specs.Words.{bytes_left, parts_behind_mark};
 
-use crate::lines::{Line, is_title, read_line, without_returns};
-use crate::states::State;
+use crate::lines::{MarkedLine, is_title, read_line, without_returns};
+use crate::states::ReadState;
 use std::alloc::{AllocError, Global};
 use textwrap_marks::options::ReflowOptions;
 use textwrap_marks::words::split_at;
@@ -15,12 +15,13 @@ use textwrap_marks::words::split_at;
 fn next_line<'t>(
     alloc: Global,
     text: &'t str,
-    state: State,
+    state: ReadState,
     options: &ReflowOptions<'_>,
-) -> Result<(Line<'t>, Option<&'t str>, State), AllocError>
+) -> Result<(MarkedLine<'t>, Option<&'t str>, ReadState), AllocError>
     ensures lines { IfOk result (λ read. read_lines options.now (state_view state)
         (slice_split (λ c. c == 10) text.now)
-        ≡ line_view read.0 ∷ read_lines options.now (state_view read.2) (parts_left 10 read.1)) }
+        ≡ marked_line_view read.0 ∷ read_lines options.now (state_view read.2)
+        (parts_behind_mark 10 read.1)) }
     ensures shorter { IfOk result (λ read. bytes_left read.1 ≤ length text.now) }
 {
     let (raw, rest) = split_at(text, '\n');
@@ -34,9 +35,9 @@ fn next_line<'t>(
 /// is a title.
 #[derive(Drop)]
 pub(crate) struct LinesAhead<'t> {
-    line: Line<'t>,
+    line: MarkedLine<'t>,
     rest: Option<&'t str>,
-    state: State,
+    state: ReadState,
 }
 
 impl<'t> LinesAhead<'t> {
@@ -46,9 +47,10 @@ impl<'t> LinesAhead<'t> {
         text: &'t str,
         options: &ReflowOptions<'_>,
     ) -> Result<LinesAhead<'t>, AllocError>
-        ensures { IfOk result (λ ahead. lines_ahead options.now (Some ahead) ≡ lines_of options.now text.now) }
+        ensures { IfOk result (λ ahead. lines_ahead options.now (Some ahead)
+            ≡ lines_of_text options.now text.now) }
     {
-        let (line, rest, state) = next_line(alloc, text, State::new(), options)?;
+        let (line, rest, state) = next_line(alloc, text, ReadState::new(), options)?;
         Ok(LinesAhead { line, rest, state })
     }
 
@@ -57,9 +59,9 @@ impl<'t> LinesAhead<'t> {
         self,
         alloc: Global,
         options: &ReflowOptions<'_>,
-    ) -> Result<(Line<'t>, Option<LinesAhead<'t>>), AllocError>
+    ) -> Result<(MarkedLine<'t>, Option<LinesAhead<'t>>), AllocError>
         ensures lines { IfOk result (λ read. lines_ahead options.now (Some self.entry)
-            ≡ line_view read.0 ∷ lines_ahead options.now read.1) }
+            ≡ marked_line_view read.0 ∷ lines_ahead options.now read.1) }
         ensures fewer { IfOk result (λ read. bytes_ahead read.1 < bytes_ahead (Some self.entry)) }
     {
         let LinesAhead {

@@ -2,14 +2,14 @@
 ghost use Rattle.std.specs.Prelude.{◌≡◌, ℕ, ◌++◌, false, List, map, IfOk, OnOk, Some, string_bytes};
 ghost use Rattle.textwrap_base.specs.Errors.{Overflowed};
 ghost use Rattle.textwrap_marked.specs.Blocks.{blocks, is_beside, stays};
-ghost use Rattle.textwrap_marked.specs.Lines.{line_view};
+ghost use Rattle.textwrap_marked.specs.Lines.{marked_line_view};
 ghost use Rattle.textwrap_marked.specs.Reading.{lines_left};
-ghost use Rattle.textwrap_marked.specs.Reflow.{ending_of, filled_ending, AreOfBlocks, IsOfBlock};
+ghost use Rattle.textwrap_marked.specs.Reflow.{ending_of_line, filled_ending, AreOfBlocks, IsOfBlock};
 ghost use Rattle.textwrap_marked.specs.Reflow.{IsReflowed, IsReflowedFrom};
 
 use crate::blocks::{BlocksAhead, are_fields};
 use crate::filling::{push_filled, push_kept};
-use crate::lines::Line;
+use crate::lines::MarkedLine;
 use std::alloc::Global;
 use textwrap_lines::LineEnding;
 use textwrap_marks::options::ReflowOptions;
@@ -79,7 +79,7 @@ pub(crate) fn filled_ending(ending: Option<LineEnding>, text: &str) -> LineEndin
 
 /// How a line ends, if a line feed follows it.
 fn ending_of(line: &str, fed: bool) -> LineEnding
-    ensures { result ≡ ending_of line.now fed }
+    ensures { result ≡ ending_of_line line.now fed }
 {
     if fed & ends_with(line, "\r") {
         LineEnding::CRLF
@@ -118,15 +118,16 @@ fn push_blocks(
 pub(crate) fn push_block(
     alloc: Global,
     output: &mut String,
-    first: &Line<'_>,
-    block: &[Line<'_>],
+    first: &MarkedLine<'_>,
+    block: &[MarkedLine<'_>],
     beside: bool,
     ending: &str,
     options: &ReflowOptions<'_>,
 ) -> Result<(), WrapError>
     ensures laid_out { OnOk result ((text : List ℕ)
-        × IsOfBlock options.now ending.now (stays beside (line_view first.now)) (line_view first.now)
-        (map line_view block.now) text
+        × IsOfBlock options.now ending.now (stays beside (marked_line_view first.now))
+        (marked_line_view first.now)
+        (map marked_line_view block.now) text
         × (string_bytes output.new ≡ string_bytes output.old ++ text)) }
     ensures only_memory { ¬ Overflowed result }
 {
@@ -139,16 +140,16 @@ pub(crate) fn push_block(
 }
 
 /// Whether the block of this first line stays, which may stand beside another field.
-fn stays(beside: bool, first: &Line<'_>) -> bool
-    ensures { result ≡ stays beside (line_view first.now) }
+fn stays(beside: bool, first: &MarkedLine<'_>) -> bool
+    ensures { result ≡ stays beside (marked_line_view first.now) }
 {
     first.apart | !first.chosen | beside
 }
 
 /// Whether a line is a field, and the blocks behind it begin with another one.
-pub(crate) fn is_beside(first: &Line<'_>, later: &Option<BlocksAhead<'_>>) -> bool
+pub(crate) fn is_beside(first: &MarkedLine<'_>, later: &Option<BlocksAhead<'_>>) -> bool
     ensures { (options : ReflowOptions)
-        → result ≡ is_beside (line_view first.now) (blocks (lines_left options later.now)) }
+        → result ≡ is_beside (marked_line_view first.now) (blocks (lines_left options later.now)) }
 {
     match later {
         Some(ahead) => are_fields(first, &ahead.first),

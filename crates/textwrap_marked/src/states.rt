@@ -4,13 +4,13 @@ ghost use Rattle.std.specs.Option.{option_map};
 ghost use Rattle.textwrap_marks.specs.Fences.{fence_view};
 ghost use Rattle.textwrap_marks.specs.Columns.{depth_view};
 ghost use Rattle.textwrap_marked.specs.Lines.{deeper_by, entered, fence_at, first_state, is_before};
-ghost use Rattle.textwrap_marked.specs.Lines.{is_in_block, is_prompt, is_prompted, line_view};
+ghost use Rattle.textwrap_marked.specs.Lines.{is_in_block, is_prompt, is_prompted, marked_line_view};
 ghost use Rattle.textwrap_marked.specs.Lines.{new_before, new_by, new_fence, opened_fence, passed};
 ghost use Rattle.textwrap_marked.specs.Lines.{state_view};
 ghost use Rattle.textwrap_marks.specs.Signs.{ArePlain};
 ghost use Rattle.textwrap_marks.specs.Words.{spaced_view};
 
-use crate::line::Line;
+use crate::line::MarkedLine;
 use std::alloc::{AllocError, Global};
 use textwrap_marks::columns::{Depth, depth_of, marks_of};
 use textwrap_marks::fences::{Fence, is_closed_by, is_left_by, opened};
@@ -20,7 +20,7 @@ use textwrap_marks::words::{SpacedWord, ends_with};
 /// What is open: a block comment, a fence, a prompt; how deep the last text stood that was not
 /// fenced or deeper, and by how many columns text is deeper.
 #[derive(Drop)]
-pub struct State {
+pub struct ReadState {
     pub in_block: bool,
     pub fence: Option<Fence>,
     pub prompted: bool,
@@ -28,12 +28,12 @@ pub struct State {
     pub by: usize,
 }
 
-impl State {
+impl ReadState {
     /// Nothing is open.
     pub fn new() -> Self
         ensures { state_view result ≡ first_state }
     {
-        State {
+        ReadState {
             in_block: false,
             fence: None,
             prompted: false,
@@ -46,14 +46,14 @@ impl State {
     pub fn enter(self, line: &str) -> Self
         ensures { state_view result ≡ entered (state_view self) line.now }
     {
-        let State {
+        let ReadState {
             in_block,
             fence,
             prompted,
             before,
             by,
         } = self;
-        State {
+        ReadState {
             in_block,
             fence: fence_at(fence, line),
             prompted,
@@ -63,12 +63,12 @@ impl State {
     }
 
     /// What is open behind a line.
-    pub fn pass(self, alloc: Global, line: &Line<'_>) -> Result<Self, AllocError>
-        requires { line.now.plain ≡ true → ArePlain (line_view line.now).words }
+    pub fn pass(self, alloc: Global, line: &MarkedLine<'_>) -> Result<Self, AllocError>
+        requires { line.now.plain ≡ true → ArePlain (marked_line_view line.now).words }
         ensures { IfOk result (λ state. state_view state
-            ≡ passed (state_view self) (line_view line.now)) }
+            ≡ passed (state_view self) (marked_line_view line.now)) }
     {
-        let State {
+        let ReadState {
             in_block,
             fence,
             prompted,
@@ -79,7 +79,7 @@ impl State {
         let is_before = is_before(fenced, line);
         let fence = new_fence(alloc, fence, line)?;
         let before = new_before(alloc, before, is_before, line)?;
-        Ok(State {
+        Ok(ReadState {
             in_block: is_in_block(in_block, fenced, line),
             fence,
             prompted: is_prompted(prompted, &line.words),
@@ -109,11 +109,11 @@ fn fence_at(fence: Option<Fence>, line: &str) -> Option<Fence>
 fn new_fence(
     alloc: Global,
     fence: Option<Fence>,
-    line: &Line<'_>,
+    line: &MarkedLine<'_>,
 ) -> Result<Option<Fence>, AllocError>
-    requires { line.now.plain ≡ true → ArePlain (line_view line.now).words }
+    requires { line.now.plain ≡ true → ArePlain (marked_line_view line.now).words }
     ensures { IfOk result (λ new. option_map fence_view new
-        ≡ new_fence (option_map fence_view fence) (line_view line.now)) }
+        ≡ new_fence (option_map fence_view fence) (marked_line_view line.now)) }
 {
     match fence {
         Some(fence) => {
@@ -128,9 +128,9 @@ fn new_fence(
 }
 
 /// The fence that a line opens, if it does.
-fn opened_fence(alloc: Global, line: &Line<'_>) -> Result<Option<Fence>, AllocError>
-    requires { line.now.plain ≡ true → ArePlain (line_view line.now).words }
-    ensures { IfOk result (λ new. option_map fence_view new ≡ opened_fence (line_view line.now)) }
+fn opened_fence(alloc: Global, line: &MarkedLine<'_>) -> Result<Option<Fence>, AllocError>
+    requires { line.now.plain ≡ true → ArePlain (marked_line_view line.now).words }
+    ensures { IfOk result (λ new. option_map fence_view new ≡ opened_fence (marked_line_view line.now)) }
 {
     if line.deeper {
         return Ok(None);
@@ -145,8 +145,8 @@ fn opened_fence(alloc: Global, line: &Line<'_>) -> Result<Option<Fence>, AllocEr
 }
 
 /// Whether a line is the text before later lines.
-fn is_before(fenced: bool, line: &Line<'_>) -> bool
-    ensures { result ≡ is_before fenced (line_view line.now) }
+fn is_before(fenced: bool, line: &MarkedLine<'_>) -> bool
+    ensures { result ≡ is_before fenced (marked_line_view line.now) }
 {
     !fenced & !line.deeper & !line.words.is_empty()
 }
@@ -156,10 +156,10 @@ fn new_before(
     alloc: Global,
     before: Option<Depth>,
     is_before: bool,
-    line: &Line<'_>,
+    line: &MarkedLine<'_>,
 ) -> Result<Option<Depth>, AllocError>
     ensures { IfOk result (λ new. option_map depth_view new
-        ≡ new_before (option_map depth_view before) is_before (line_view line.now)) }
+        ≡ new_before (option_map depth_view before) is_before (marked_line_view line.now)) }
 {
     if is_before {
         Ok(Some(depth_of(alloc, line.hanging.as_str())?))
@@ -176,8 +176,8 @@ fn new_by(by: usize, is_before: bool, words: &[SpacedWord<'_>]) -> usize
 }
 
 /// Whether a block comment is open behind a line.
-fn is_in_block(in_block: bool, fenced: bool, line: &Line<'_>) -> bool
-    ensures { result ≡ is_in_block in_block fenced (line_view line.now) }
+fn is_in_block(in_block: bool, fenced: bool, line: &MarkedLine<'_>) -> bool
+    ensures { result ≡ is_in_block in_block fenced (marked_line_view line.now) }
 {
     if in_block {
         !closes_block(&line.words)

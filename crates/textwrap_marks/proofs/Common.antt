@@ -27,9 +27,10 @@ pub use Rattle.textwrap_layout.specs.Paragraph.{covered}
 pub use Rattle.textwrap_text.specs.declared.line_ending.LineEnding.{LineEnding}
 pub use Rattle.textwrap_text.specs.declared.line_ending.LineEnding.TheVariants.{CRLF, LF}
 pub use Rattle.textwrap_marks.specs.Fences.{FenceText}
-pub use Rattle.textwrap_marks.specs.Marks.{is_among, is_bullet, is_comment_at, is_opening, is_quote}
+pub use Rattle.textwrap_marks.specs.Marks.{is_among, is_bullet, is_comment_at, is_comment_opening}
+pub use Rattle.textwrap_marks.specs.Marks.{is_quote}
 pub use Rattle.textwrap_marks.specs.Signs.{begins_text, closes_block, closes_early, first_word}
-pub use Rattle.textwrap_marks.specs.Signs.{front_of, has_columns, is_column_word, is_key}
+pub use Rattle.textwrap_marks.specs.Signs.{words_before_last, has_columns, is_column_word, is_key}
 pub use Rattle.textwrap_marks.specs.Signs.{last_white, last_word, opens_paragraph}
 pub use Rattle.textwrap_marks.specs.Words.{SpacedText, contains, has_byte, has_bytes, has_letter}
 pub use Rattle.textwrap_marks.specs.Words.{is_white, spaced_text, spaced_words}

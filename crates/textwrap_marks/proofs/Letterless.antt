@@ -3,7 +3,7 @@ use Rattle.textwrap_marks.proofs.Common.{◌≡◌, ℕ, ◌&&◌, ◌==◌, not
 use Rattle.textwrap_marks.proofs.Common.{cases_Bool, codes, List, eqb-true, length, nat_eq, refl}
 use Rattle.textwrap_marks.proofs.Common.{starts_with, sym, ap, ◌∙◌, false_from_ne_true, true≢false}
 use Rattle.textwrap_marks.proofs.Common.{bytes_eq-Decides, bytes_eq, is_among, is_comment_at}
-use Rattle.textwrap_marks.proofs.Common.{is_opening, is_quote, contains, has_bytes, has_letter}
+use Rattle.textwrap_marks.proofs.Common.{is_comment_opening, is_quote, contains, has_bytes, has_letter}
 use Rattle.textwrap_marks.proofs.Common.{ReflowOptions}
 use Rattle.textwrap_text.proofs.Common.{and_parts}
 use Rattle.std.specs.Char.Unicode.Alphabetic.{is_alphabetic, alphabetic_ranges}
@@ -93,7 +93,7 @@ pub no-comment : (options : ReflowOptions) (in_block : Bool) (word : List ℕ) �
     → is_among word options.markers.now ≡ false → is_comment_at options in_block word ≡ false
 no-comment options true word letter marker = lettered-other word (codes "*") letter star-plain
 no-comment options false word letter marker =
-    let opening : is_opening word ≡ false =
+    let opening : is_comment_opening word ≡ false =
     third (starts_with nat_eq word (codes "/*")) (has_letter word) (contains (codes "*/") word) letter in
     rw (marker, no-line-comment word letter, opening) (none (not options.markdown))
   where

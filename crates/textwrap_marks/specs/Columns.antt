@@ -27,8 +27,8 @@ columns_of [] = 0
 columns_of (part ∷ parts) = columns_behind (text_width part) parts
 
 -- the columns of a text that begins a line
-abbrev pub columns : List ℕ → ℕ
-columns text = columns_of (slice_split (λ c. c == 9) text)
+abbrev pub text_columns : List ℕ → ℕ
+text_columns text = columns_of (slice_split (λ c. c == 9) text)
 
 -- ---- depth
 
@@ -57,8 +57,8 @@ depth_view d = record { marks = string_bytes d.marks; lead = d.lead; behind = d.
 abbrev pub depth_of : List ℕ → DepthText
 depth_of prefix = record {
   marks = marks_of prefix;
-  lead = columns (leading_white prefix);
-  behind = columns prefix - columns (without_final_white prefix);
+  lead = text_columns (leading_white prefix);
+  behind = text_columns prefix - text_columns (without_final_white prefix);
 }
 
 -- so many columns of white more than before: after its marks, which are the same, or where there are no

@@ -9,8 +9,8 @@ use Rattle.textwrap_marks.specs.declared.options.ReflowOptions.{ReflowOptions}
 use denote.Ref.{Bor}
 
 -- begins with `/*`, has no letter, and does not close what it opens
-abbrev pub is_opening : List ℕ → Bool
-is_opening word =
+abbrev pub is_comment_opening : List ℕ → Bool
+is_comment_opening word =
     starts_with nat_eq word (codes "/*") && not (has_letter word) && not (contains (codes "*/") word)
 
 -- the comment marks of lines
@@ -26,12 +26,12 @@ abbrev pub is_quote : List ℕ → Bool
 is_quote word = has_bytes word && is_made_of 62 word && not (length word == 3)
 
 -- one to three digits
-abbrev pub is_number : List ℕ → Bool
-is_number text = list_all is_ascii_digit text && nat_lt 0 (length text) && nat_lt (length text) 4
+abbrev pub is_short_number : List ℕ → Bool
+is_short_number text = list_all is_ascii_digit text && nat_lt 0 (length text) && nat_lt (length text) 4
 
 -- one letter
-abbrev pub is_letter : List ℕ → Bool
-is_letter text = length text == 1 && list_all is_ascii_alphabetic text
+abbrev pub is_one_letter : List ℕ → Bool
+is_one_letter text = length text == 1 && list_all is_ascii_alphabetic text
 
 -- what is a label in brackets, or before a closing one
 abbrev pub label_inside : List ℕ → List ℕ
@@ -46,8 +46,8 @@ label_inside word =
 abbrev pub is_label : List ℕ → Bool
 is_label word =
     let inside = label_inside word in
-    if slice_index word (length word - 1) == 46 then is_number (take (length word - 1) word)
-    else is_number inside || is_letter inside
+    if slice_index word (length word - 1) == 46 then is_short_number (take (length word - 1) word)
+    else is_short_number inside || is_one_letter inside
 
 abbrev pub is_bullet_sign : List ℕ → Bool
 is_bullet_sign word =
@@ -67,7 +67,7 @@ module _ (options : ReflowOptions) where
   abbrev pub is_comment : List ℕ → Bool
   is_comment word =
       is_among word options.markers.now
-      || (not options.markdown && (is_line_comment word || is_opening word))
+      || (not options.markdown && (is_line_comment word || is_comment_opening word))
 
   -- in a block comment the mark is `*`
   abbrev pub is_comment_at : Bool → List ℕ → Bool

@@ -6,7 +6,7 @@ use Rattle.std.specs.Prelude.{bytes_eq}
 use Rattle.std.specs.Prelude.{if◌then◌else◌, Option, Some, None}
 use Rattle.std.specs.List.{All, ends_with, fold, list_all, list_any, starts_with}
 use Rattle.textwrap_marks.specs.Marks.{is_among, is_bullet}
-use Rattle.textwrap_marks.specs.Words.{contains, has_byte, has_bytes, has_letter, is_alphanumeric}
+use Rattle.textwrap_marks.specs.Words.{contains, has_byte, has_bytes, has_letter, is_letter_or_digit}
 use Rattle.textwrap_marks.specs.Words.{SpacedText}
 use Rattle.textwrap_marks.specs.declared.options.ReflowOptions.{ReflowOptions}
 
@@ -33,7 +33,7 @@ last_white words = first_white (last_of words)
 
 -- what may stand in a key: a letter or digit, a hyphen or a low line
 abbrev pub is_key_character : ℕ → Bool
-is_key_character c = is_alphanumeric c || c == 45 || c == 95
+is_key_character c = is_letter_or_digit c || c == 45 || c == 95
 
 -- one or more such characters, and then a colon
 abbrev pub is_key : List ℕ → Bool
@@ -97,8 +97,8 @@ may_go_on options starred word =
 -- ---- what no paragraph contains
 
 -- a closing quote or bracket: ) ] " ' * _ ” ’ »
-abbrev pub is_closing : ℕ → Bool
-is_closing c =
+abbrev pub is_closing_sign : ℕ → Bool
+is_closing_sign c =
     c == 41 || c == 93 || c == 34 || c == 39 || c == 42 || c == 95 || c == 0x201D || c == 0x2019
     || c == 0xBB
 
@@ -108,15 +108,15 @@ is_end c = c == 46 || c == 63 || c == 33 || c == 58
 
 -- the last character that closes nothing ends a sentence
 abbrev pub ends_sentence : List ℕ → Bool
-ends_sentence word = fold (λ ends c. if is_closing c then ends else is_end c) false (chars word)
+ends_sentence word = fold (λ ends c. if is_closing_sign c then ends else is_end c) false (chars word)
 
 -- three blanks or more, or two that do not follow the end of a sentence
-abbrev pub is_wide : SpacedText → Bool
-is_wide w = nat_lt 2 (length w.white) || (length w.white == 2 && not (ends_sentence w.word))
+abbrev pub has_wide_gap : SpacedText → Bool
+has_wide_gap w = nat_lt 2 (length w.white) || (length w.white == 2 && not (ends_sentence w.word))
 
 -- a tab, or so much white; where lines are justified, a tab alone
 abbrev pub is_gap : Bool → SpacedText → Bool
-is_gap justify w = has_byte 9 w.white || (not justify && is_wide w)
+is_gap justify w = has_byte 9 w.white || (not justify && has_wide_gap w)
 
 -- what begins a comment behind text in one of many languages
 abbrev pub is_comment_behind : List ℕ → Bool
@@ -140,13 +140,13 @@ abbrev pub ArePlain : List SpacedText → Type 0
 ArePlain words = All (λ w. list_any is_column_byte w.word ≡ false) words
 
 -- all words but the last
-abbrev pub front_of : List SpacedText → List SpacedText
-front_of words = take (length words - 1) words
+abbrev pub words_before_last : List SpacedText → List SpacedText
+words_before_last words = take (length words - 1) words
 
 -- such a word, or a gap between two words
 abbrev pub has_columns : Bool → List SpacedText → Bool
 has_columns justify words =
-    list_any (λ w. is_column_word w.word) words || list_any (is_gap justify) (front_of words)
+    list_any (λ w. is_column_word w.word) words || list_any (is_gap justify) (words_before_last words)
 
 -- this text stands in one of the words
 abbrev pub any_contains : List ℕ → List SpacedText → Bool
@@ -164,14 +164,14 @@ ends_early word =
 
 -- it stands there, and not only at their end
 abbrev pub closes_early : List SpacedText → Bool
-closes_early words = closes_block (front_of words) || ends_early (last_word words)
+closes_early words = closes_block (words_before_last words) || ends_early (last_word words)
 
 -- one character, three times at least, which is no letter, digit, tilde or backtick
 abbrev pub is_rule_of : Option ℕ → List ℕ → Bool
 is_rule_of None cs = false
 is_rule_of (Some first) cs =
     nat_lt 2 (length cs) && list_all (λ c. c == first) cs
-    && not (is_alphanumeric first || first == 96 || first == 126)
+    && not (is_letter_or_digit first || first == 96 || first == 126)
 
 abbrev pub is_rule_characters : List ℕ → Bool
 is_rule_characters cs = is_rule_of (slice_get cs 0) cs

@@ -57,12 +57,12 @@ spaced_words (c ∷ cs) = with_byte c (spaced_words cs)
 abbrev pub spaced_text : List SpacedText → List ℕ
 spaced_text words = flat_map (λ w. w.word ++ w.white) words
 
-abbrev pub is_alphanumeric : ℕ → Bool
-is_alphanumeric c = is_alphabetic c || is_numeric c
+abbrev pub is_letter_or_digit : ℕ → Bool
+is_letter_or_digit c = is_alphabetic c || is_numeric c
 
 -- some character of it is a letter or a digit
 abbrev pub has_letter : List ℕ → Bool
-has_letter word = list_any is_alphanumeric (chars word)
+has_letter word = list_any is_letter_or_digit (chars word)
 
 -- this byte is in the text
 abbrev pub has_byte : ℕ → List ℕ → Bool
@@ -81,9 +81,9 @@ contains part (c ∷ cs) = starts_with nat_eq (c ∷ cs) part || contains part c
 
 -- the parts of what follows a mark, if there is one, and how many bytes are left, where one more
 -- stands for that mark
-abbrev pub parts_left : ℕ → Option (Bor (List ℕ)) → List (List ℕ)
-parts_left mark None = []
-parts_left mark (Some rest) = slice_split (λ c. c == mark) rest.now
+abbrev pub parts_behind_mark : ℕ → Option (Bor (List ℕ)) → List (List ℕ)
+parts_behind_mark mark None = []
+parts_behind_mark mark (Some rest) = slice_split (λ c. c == mark) rest.now
 
 abbrev pub bytes_left : Option (Bor (List ℕ)) → ℕ
 bytes_left None = 0

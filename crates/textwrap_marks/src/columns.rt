@@ -1,6 +1,6 @@
 //! Columns with tabs, and how deep text stands.
 ghost use Rattle.std.specs.Prelude.{◌≡◌, ◌-◌, IfOk};
-ghost use Rattle.textwrap_marks.specs.Columns.{columns, depth_of, depth_view, is_deeper, marks_of};
+ghost use Rattle.textwrap_marks.specs.Columns.{text_columns, depth_of, depth_view, is_deeper, marks_of};
 ghost use Rattle.textwrap_marks.specs.Columns.{next_stop, plus_columns, without_final_white};
 ghost use Rattle.textwrap_marks.specs.Words.{is_white};
 
@@ -10,7 +10,7 @@ use textwrap_words::words::display_width;
 
 /// The columns of a text that begins a line, in which a tab reaches the next column that eight divides.
 pub fn columns(text: &str) -> usize
-    ensures { result ≡ columns text.now }
+    ensures { result ≡ text_columns text.now }
 {
     let (part, mut rest) = split_at(text, '\t');
     let mut at = display_width(part);

@@ -2,8 +2,9 @@
 ghost use Rattle.std.specs.Prelude.{◌≡◌};
 ghost use Rattle.std.specs.Char.{is_ascii_digit};
 ghost use Rattle.std.specs.List.{list_all};
-ghost use Rattle.textwrap_marks.specs.Marks.{is_bullet, is_bullet_sign, is_label, is_letter};
-ghost use Rattle.textwrap_marks.specs.Marks.{is_line_comment, is_number, is_opening, is_quote};
+ghost use Rattle.textwrap_marks.specs.Marks.{is_bullet, is_bullet_sign, is_label, is_one_letter};
+ghost use Rattle.textwrap_marks.specs.Marks.{is_line_comment, is_short_number, is_comment_opening};
+ghost use Rattle.textwrap_marks.specs.Marks.{is_quote};
 ghost use Rattle.textwrap_marks.specs.Marks.{label_inside};
 
 use crate::words::{contains, has_letter, is_made_of};
@@ -12,7 +13,7 @@ use textwrap_text::starts::starts_with;
 /// Whether a word opens a block comment: it begins with `/*`, has no letter, and does not close
 /// what it opens.
 pub fn is_opening(word: &str) -> bool
-    ensures { result ≡ is_opening word.now }
+    ensures { result ≡ is_comment_opening word.now }
 {
     starts_with(word, "/*") & !has_letter(word) & !contains(word, "*/")
 }
@@ -42,14 +43,14 @@ fn are_digits(text: &[u8]) -> bool
 
 /// Whether a text is one to three digits.
 fn is_number(text: &[u8]) -> bool
-    ensures { result ≡ is_number text.now }
+    ensures { result ≡ is_short_number text.now }
 {
     are_digits(text) & (0 < text.len()) & (text.len() < 4)
 }
 
 /// Whether a text is one letter.
 fn is_letter(text: &[u8]) -> bool
-    ensures { result ≡ is_letter text.now }
+    ensures { result ≡ is_one_letter text.now }
 {
     (text.len() == 1) & text.iter().all(|byte| byte.is_ascii_alphabetic())
 }

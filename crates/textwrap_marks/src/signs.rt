@@ -4,15 +4,16 @@ ghost use Rattle.std.specs.Prelude.{◌≡◌, ◌==◌, ◌||◌, true, false, 
 ghost use Rattle.std.specs.List.{list_all, list_any};
 ghost use Rattle.textwrap_marks.specs.Signs.{any_contains, ArePlain, begins_text, closes_block};
 ghost use Rattle.textwrap_marks.specs.Signs.{closes_early, ends_code, ends_early, ends_sentence, first_word};
-ghost use Rattle.textwrap_marks.specs.Signs.{front_of, has_columns, is_closing, is_column_byte};
+ghost use Rattle.textwrap_marks.specs.Signs.{words_before_last, has_columns, is_closing_sign};
+ghost use Rattle.textwrap_marks.specs.Signs.{is_column_byte};
 ghost use Rattle.textwrap_marks.specs.Signs.{is_column_word, is_comment_behind, is_directive};
 ghost use Rattle.textwrap_marks.specs.Signs.{is_end, is_gap, is_key};
-ghost use Rattle.textwrap_marks.specs.Signs.{is_key_character, is_rule, is_wide};
+ghost use Rattle.textwrap_marks.specs.Signs.{is_key_character, is_rule, has_wide_gap};
 ghost use Rattle.textwrap_marks.specs.Signs.{is_rule_characters, is_rule_of, is_sign, is_sign_byte};
 ghost use Rattle.textwrap_marks.specs.Signs.{last_of, last_white, last_word, may_go_on};
 ghost use Rattle.textwrap_marks.specs.Signs.{opens_code, opens_paragraph};
 ghost use Rattle.textwrap_marks.specs.Marks.{is_bullet};
-ghost use Rattle.textwrap_marks.specs.Words.{has_letter, is_alphanumeric, spaced_view};
+ghost use Rattle.textwrap_marks.specs.Words.{has_letter, is_letter_or_digit, spaced_view};
 
 use crate::marks::is_bullet;
 use crate::options::ReflowOptions;
@@ -31,7 +32,7 @@ pub fn first_word<'t>(words: &[SpacedWord<'t>]) -> &'t str
 
 /// All words but the last, and the last alone.
 fn split_last<'s, 't>(words: &'s [SpacedWord<'t>]) -> (&'s [SpacedWord<'t>], &'s [SpacedWord<'t>])
-    ensures front { map spaced_view result.0.now ≡ front_of (map spaced_view words.now) }
+    ensures front { map spaced_view result.0.now ≡ words_before_last (map spaced_view words.now) }
     ensures last { map spaced_view result.1.now ≡ last_of (map spaced_view words.now) }
 {
     words.split_at(words.len().saturating_sub(1))
@@ -182,7 +183,7 @@ pub fn may_go_on(options: &ReflowOptions<'_>, starred: bool, word: &str) -> bool
 
 /// Whether a character closes a quote or a bracket.
 fn is_closing(ch: char) -> bool
-    ensures { result ≡ is_closing ch }
+    ensures { result ≡ is_closing_sign ch }
 {
     matches!(ch, ')' | ']' | '"' | '\'' | '*' | '_' | '”' | '’' | '»')
 }
@@ -207,7 +208,7 @@ fn ends_sentence(word: &str) -> bool
 /// Whether the white behind a word is wide: three blanks or more, or two that do not follow the end of
 /// a sentence.
 fn is_wide(word: &SpacedWord<'_>) -> bool
-    ensures { result ≡ is_wide (spaced_view word.now) }
+    ensures { result ≡ has_wide_gap (spaced_view word.now) }
 {
     let len = word.white.len();
     len > 2 || len == 2 && !ends_sentence(word.word)

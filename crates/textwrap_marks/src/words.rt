@@ -4,7 +4,7 @@ ghost use Rattle.std.specs.Prelude.{nat_eq, take, drop};
 ghost use Rattle.std.specs.Prelude.{IfOk, MatchOption, slice_index};
 ghost use Rattle.std.specs.List.{ends_with, prefix_len, slice_split};
 ghost use Rattle.textwrap_marks.specs.Words.{bytes_left, contains, has_byte, has_letter, is_ink};
-ghost use Rattle.textwrap_marks.specs.Words.{is_made_of, is_white, parts_left, spaced_view};
+ghost use Rattle.textwrap_marks.specs.Words.{is_made_of, is_white, parts_behind_mark, spaced_view};
 ghost use Rattle.textwrap_marks.specs.Words.{spaced_words};
 
 use std::alloc::{AllocError, Global};
@@ -20,7 +20,7 @@ pub struct SpacedWord<'t> {
 pub fn split_at(text: &str, mark: char) -> (&str, Option<&str>)
     requires { mark < 128 }
     ensures parts { slice_split (λ c. c == mark) text.now
-        ≡ result.0.now ∷ parts_left mark result.1 }
+        ≡ result.0.now ∷ parts_behind_mark mark result.1 }
     ensures shorter { bytes_left result.1 ≤ length text.now }
 {
     match text.split_once(mark) {

@@ -2,7 +2,8 @@
 -- the options; and what a refusal says of texts.
 use Rattle.textwrap_plain.proofs.Balance.Search.{balanced-many}
 use Rattle.textwrap_calls.proofs.Common.{arith, done, inl, inr, length, Line, List, ℕ, ◌∙◌}
-use Rattle.textwrap_calls.proofs.Common.{separator_of, settings_of, splitter_of, subst, TextwrapLine}
+use Rattle.textwrap_calls.proofs.Common.{separator_of, options_settings, options_splitter, subst}
+use Rattle.textwrap_calls.proofs.Common.{TextwrapLine}
 use Rattle.textwrap_calls.proofs.Common.{too_small, ◌↔◌, ◌≡◌, ◌⊎◌}
 use Rattle.textwrap_calls.specs.Options.{ArePlacedBy}
 use Rattle.textwrap_calls.specs.Status.{not_utf8, out_of_memory, unknown_options}
@@ -37,7 +38,7 @@ module _ (o options : TextwrapOptions) (text : List ℕ) (width : ℕ) {status :
       let (lines, places, are, count, len, reported, room, small, shown) =
       writes.written answered in
       let placed = subst (λ p. ArePlacedBy p text lines places) at are in
-      count ∙ balanced-many (settings_of o) (words_by (separator_of o)) (splitter_of o) text width
+      count ∙ balanced-many (options_settings o) (words_by (separator_of o)) (options_splitter o) text width
       lines others balanced placed.are other_are
 
 -- what is not known, or has no memory, tells nothing of texts

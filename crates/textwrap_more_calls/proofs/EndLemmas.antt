@@ -5,11 +5,11 @@ use Rattle.textwrap_base.proofs.Cost.{Chosen.fragments_table-map, Measures.total
 use Rattle.textwrap_base.specs.Algorithms.{Algorithm, Greedy, LeastCost, OverflowsBy}
 use Rattle.textwrap_calls.proofs.Common.{[], ap}
 use Rattle.textwrap_calls.proofs.Common.{length, length-map, List, map, refl, sym, ℕ, ◌+◌, ◌∷◌, ◌≡◌}
-use Rattle.textwrap_more_calls.specs.Fragments.{ends_from}
+use Rattle.textwrap_more_calls.specs.Fragments.{line_ends_from}
 
 module _ {X Y : Type 0} (f : X → Y) where
   pub ends_from-map : (at : ℕ) (lines : List (List X))
-      → ends_from at (map (map f) lines) ≡ ends_from at lines
+      → line_ends_from at (map (map f) lines) ≡ line_ends_from at lines
   ends_from-map at [] = refl
   ends_from-map at (line ∷ lines) =
       rw (length-map line f)

@@ -20,7 +20,7 @@ use Rattle.textwrap_layout.proofs.Text.Sinks.{lines_of-cut_lines}
 use Rattle.textwrap_layout.specs.Places.{text_cuts}
 use Rattle.textwrap_lines.proofs.Text.Groups.{groups-tile}
 use Rattle.textwrap_text.proofs.Common.{map-append}
-use Rattle.textwrap_plain.specs.Options.{algorithm_of, settings_of}
+use Rattle.textwrap_plain.specs.Options.{plain_algorithm, plain_settings}
 use Rattle.textwrap_plain.specs.declared.options.PlainOptions.{PlainOptions}
 
 -- paragraphs begin with what their lines cover, if they are that
@@ -42,7 +42,7 @@ cut-lines ending start (parts ∷ groups) = simp (
 
 module _ (patterns : PatternTable) (o : PlainOptions) where
   abbrev settings : Settings
-  settings = settings_of o
+  settings = plain_settings o
 
   abbrev Divides : Bool → List ℕ → List (List WordText) → Type 0
   Divides = DividesPlainlyAt (held patterns) o settings
@@ -50,7 +50,7 @@ module _ (patterns : PatternTable) (o : PlainOptions) where
   divided-tile : (is_later : Bool) (paragraph : List ℕ) (division : List (List WordText))
       → IsUtf8 paragraph → Divides is_later paragraph division → tiled (flat division) ≡ paragraph
   divided-tile is_later paragraph division utf8 (pieces, are, divided) =
-      ap tiled (IsDividedBy-whole sizes_of (algorithm_of o) (widths_of settings is_later) pieces
+      ap tiled (IsDividedBy-whole sizes_of (plain_algorithm o) (widths_of settings is_later) pieces
       division divided)
       ∙ pieces-tile settings (AreWordsBy o.word_separator) (ArePointsBy (held patterns))
       (are_words-texts o.word_separator) (held-cuts patterns) paragraph pieces utf8 are

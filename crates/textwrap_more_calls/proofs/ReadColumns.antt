@@ -9,7 +9,7 @@ use Rattle.textwrap_display.specs.Tables.{gaps_view}
 use Rattle.textwrap_display.specs.declared.tables.Gaps.{Gaps}
 use Rattle.textwrap_plain.specs.HyphenatedPlain.{DividesPlainlyAt}
 use Rattle.textwrap_hyphens.specs.Hyphenation.{Hyphenation}
-use Rattle.textwrap_plain.specs.Options as plain
+use Rattle.textwrap_plain.specs.Options.{plain_settings}
 use Rattle.textwrap_plain.specs.declared.options.PlainOptions.{PlainOptions}
 use Rattle.textwrap.specs.Columns.{IsInColumns}
 use Rattle.textwrap_more_calls.specs.Dictionaries.{hyphenation_of}
@@ -19,7 +19,7 @@ use Rattle.textwrap_more_calls.specs.declared.hyphens.dictionary.TextwrapDiction
 pub columns-read : (o : TextwrapOptions) (read : PlainOptions) (given : TextwrapGaps) (gaps : Gaps)
     (d : TextwrapDictionary) (h : Hyphenation) → AreRead o read → gaps_view gaps ≡ row_gaps given
     → h ≡ hyphenation_of d → (columns : ℕ) (text : List ℕ) (rows : List (List ℕ))
-    → IsInColumns (plain.settings_of read) (DividesPlainlyAt h read) columns text
+    → IsInColumns (plain_settings read) (DividesPlainlyAt h read) columns text
     gaps.left.now gaps.middle.now gaps.right.now rows
     → IsInColumnsByDictionary o d given columns text rows
 columns-read o read given gaps d h are around is columns text rows made =

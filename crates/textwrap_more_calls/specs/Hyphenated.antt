@@ -9,7 +9,8 @@ use Rattle.textwrap.specs.Words.{WordText}
 use Rattle.textwrap_words.specs.Words.{sizes_of}
 use Rattle.textwrap_words.specs.WrapAlgorithms.{IsDividedBy}
 use Rattle.textwrap_calls.specs.Columns.{AreKnownGaps, AreTextGaps}
-use Rattle.textwrap_calls.specs.Options.{AreKnown, AreTexts, algorithm_of, separator_of, settings_of}
+use Rattle.textwrap_calls.specs.Options.{AreKnown, AreTexts, options_algorithm, separator_of}
+use Rattle.textwrap_calls.specs.Options.{options_settings}
 use Rattle.textwrap_calls.specs.declared.columns.TextwrapGaps.{TextwrapGaps}
 use Rattle.textwrap_calls.specs.declared.options.TextwrapOptions.{TextwrapOptions}
 use Rattle.textwrap_plain.specs.Hyphenated.{ArePointsBy}
@@ -26,29 +27,29 @@ abbrev pub DividesByDictionary : TextwrapOptions → TextwrapDictionary → Sett
     → List (List WordText) → Type 0
 DividesByDictionary o d settings =
     IsDividedInto settings (AreWordsBy (separator_of o)) (ArePointsBy (hyphenation_of d))
-    (IsDividedBy (algorithm_of o) sizes_of)
+    (IsDividedBy (options_algorithm o) sizes_of)
 
 -- the text, filled so
 abbrev pub IsFilledByDictionary : TextwrapOptions → TextwrapDictionary → List ℕ → List ℕ → Type 0
 IsFilledByDictionary o d text filled =
-    IsFilled (settings_of o) (DividesByDictionary o d (settings_of o)) text filled
+    IsFilled (options_settings o) (DividesByDictionary o d (options_settings o)) text filled
 
 -- and filled again
 abbrev pub IsRefilledByDictionary : TextwrapOptions → TextwrapDictionary → List ℕ → List ℕ → Type 0
 IsRefilledByDictionary o d text refilled =
-    IsRefilled (settings_of o) (DividesByDictionary o d) text refilled
+    IsRefilled (options_settings o) (DividesByDictionary o d) text refilled
 
 -- its lines, and where they stand
 abbrev pub ArePlacedByDictionary : TextwrapOptions → TextwrapDictionary → List ℕ → List Line
     → List Place → Type 0
 ArePlacedByDictionary o d text lines places =
-    ArePlacedLines (settings_of o) (DividesByDictionary o d (settings_of o)) text lines places
+    ArePlacedLines (options_settings o) (DividesByDictionary o d (options_settings o)) text lines places
 
 -- its rows in so many columns
 abbrev pub IsInColumnsByDictionary : TextwrapOptions → TextwrapDictionary → TextwrapGaps → ℕ → List ℕ
     → List (List ℕ) → Type 0
 IsInColumnsByDictionary o d gaps columns text rows =
-    IsInColumns (settings_of o) (DividesByDictionary o d) columns text gaps.left.now gaps.middle.now
+    IsInColumns (options_settings o) (DividesByDictionary o d) columns text gaps.left.now gaps.middle.now
     gaps.right.now rows
 
 -- the options and the dictionary are known

@@ -2,7 +2,7 @@
 ghost use Rattle.std.specs.Prelude.{◌≡◌, ◌≤◌, ◌↔◌, [], map, All, IfOk};
 ghost use Rattle.textwrap.specs.Paragraph.{line_bytes};
 ghost use Rattle.textwrap_calls.specs.Columns.{ArePlacedRows, AreRows};
-ghost use Rattle.textwrap_calls.specs.Options.{settings_of, AreKnown, AreTexts, TellsUnknown};
+ghost use Rattle.textwrap_calls.specs.Options.{options_settings, AreKnown, AreTexts, TellsUnknown};
 ghost use Rattle.textwrap_calls.specs.Status.{not_utf8, unknown_options};
 ghost use Rattle.textwrap_calls.specs.Texts.{bytes_of, IsText};
 ghost use Rattle.textwrap_calls.specs.Wrapping.{WritesLines};
@@ -28,7 +28,7 @@ pub fn textwrap_carry_attributes(
     room: &mut [u8],
     len: &mut usize,
 ) -> u32
-    ensures carried { let settings = settings_of options.now in
+    ensures carried { let settings = options_settings options.now in
         WritesLines (λ answer _. AreRows (λ rows. rows ≡ map line_bytes (attributed_lines
         settings.initial_indent settings.subsequent_indent [] (bytes_of lines.now))) answer)
         [] result places.old places.new count.old count.new room.old room.new len.old len.new }

@@ -5,7 +5,8 @@ ghost use Rattle.textwrap_base.specs.Division.{IsGreedy, IsDivision};
 ghost use Rattle.textwrap_base.specs.Errors.{Fits64Bits, Passes128Bits};
 ghost use Rattle.textwrap_base.specs.OptimalFit.{IsByOptimalFit};
 ghost use Rattle.textwrap_base.specs.Table.{TableOverflows};
-ghost use Rattle.textwrap_more_calls.specs.Fragments.{sizes_of, problem_of, ends_of, AreEndsOf};
+ghost use Rattle.textwrap_more_calls.specs.Fragments.{fragment_sizes, fragments_problem, ends_of};
+ghost use Rattle.textwrap_more_calls.specs.Fragments.{AreEndsOf};
 ghost use Rattle.textwrap_more_calls.specs.Fragments.{AreKnownPenalties};
 ghost use Rattle.textwrap_calls.specs.Room.{WritesText};
 ghost use Rattle.textwrap_calls.specs.Status.{done, out_of_memory, too_small, unknown_options};
@@ -34,7 +35,7 @@ pub struct TextwrapFragment {
 impl Fragment for TextwrapFragment {
     ghost use Rattle.std.specs.Prelude.{Some};
 
-    ghost sizes = { sizes_of };
+    ghost sizes = { fragment_sizes };
 
     ghost own_break_penalty = { λ fragment _. Some fragment.break_penalty };
 
@@ -82,7 +83,7 @@ pub fn textwrap_wrap_first_fit(
     ends: &mut [usize],
     count: &mut usize,
 ) -> u32
-    ensures greedy { WritesText (AreEndsOf (IsGreedy sizes_of line_widths.now fragments.now))
+    ensures greedy { WritesText (AreEndsOf (IsGreedy fragment_sizes line_widths.now fragments.now))
         result ends.old ends.new count.old count.new }
     ensures statuses { (result ≡ done) ⊎ (result ≡ out_of_memory) ⊎ (result ≡ too_small) }
 {
@@ -99,7 +100,7 @@ fn first_fit_ends(
     line_widths: &[usize],
 ) -> Result<Vec<usize>, AllocError>
     ensures { IfOk result (λ ends.
-        AreEndsOf (IsGreedy sizes_of line_widths.now fragments.now) ends.items) }
+        AreEndsOf (IsGreedy fragment_sizes line_widths.now fragments.now) ends.items) }
 {
     let lines = wrap_first_fit(alloc, fragments, line_widths)?;
     line_ends(alloc, fragments, &lines)
@@ -117,19 +118,20 @@ pub fn textwrap_wrap_optimal_fit(
     count: &mut usize,
 ) -> u32
     ensures fit { WritesText (AreEndsOf (IsByOptimalFit
-        (problem_of penalties.now line_widths.now fragments.now))) result ends.old ends.new count.old count.new }
+        (fragments_problem penalties.now line_widths.now fragments.now))) result ends.old ends.new
+        count.old count.new }
     ensures overflow_only { result ≡ overflow → AreEqualFromSecond line_widths.now
-        → Overflows (problem_of penalties.now line_widths.now fragments.now) }
+        → Overflows (fragments_problem penalties.now line_widths.now fragments.now) }
     ensures written_only { (result ≡ done) ⊎ (result ≡ too_small)
         → AreEqualFromSecond line_widths.now
-        → ¬ Overflows (problem_of penalties.now line_widths.now fragments.now) }
+        → ¬ Overflows (fragments_problem penalties.now line_widths.now fragments.now) }
     ensures table_overflow_only { result ≡ overflow
-        → TableOverflows (problem_of penalties.now line_widths.now fragments.now) }
+        → TableOverflows (fragments_problem penalties.now line_widths.now fragments.now) }
     ensures table_written_only { (result ≡ done) ⊎ (result ≡ too_small)
-        → ¬ TableOverflows (problem_of penalties.now line_widths.now fragments.now) }
+        → ¬ TableOverflows (fragments_problem penalties.now line_widths.now fragments.now) }
     ensures too_wide { AreKnownPenalties penalties.now
-        → Passes128Bits (total_width sizes_of fragments.now) → result ≡ overflow }
-    ensures no_overflow { Fits64Bits (total_width sizes_of fragments.now) → result ≢ overflow }
+        → Passes128Bits (total_width fragment_sizes fragments.now) → result ≡ overflow }
+    ensures no_overflow { Fits64Bits (total_width fragment_sizes fragments.now) → result ≢ overflow }
     ensures unknown { result ≡ unknown_options ↔ ¬ AreKnownPenalties penalties.now }
     ensures statuses { (result ≡ done) ⊎ (result ≡ out_of_memory) ⊎ (result ≡ too_small)
         ⊎ (result ≡ unknown_options) ⊎ (result ≡ overflow) }

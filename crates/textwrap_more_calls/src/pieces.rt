@@ -1,6 +1,6 @@
 //! Words, and the pieces that they are split and broken into, by where they stand.
 ghost use Rattle.std.specs.Prelude.{◌≡◌, ◌⊎◌, ◌↔◌, ◌≤◌, [], IfOk, IsUtf8, true, map};
-ghost use Rattle.textwrap_calls.specs.Options.{separator_of, settings_of, splitter_of};
+ghost use Rattle.textwrap_calls.specs.Options.{separator_of, options_settings, options_splitter};
 ghost use Rattle.textwrap_calls.specs.Options.{TellsUnknown, TellsNotUtf8};
 ghost use Rattle.textwrap_more_calls.specs.Pieces.{AreOffsets, offsets_past, piece_places};
 ghost use Rattle.textwrap_calls.specs.Room.{WritesText};
@@ -15,7 +15,7 @@ ghost use Rattle.textwrap_text.specs.Units.{stripped};
 ghost use Rattle.textwrap_words.specs.WordOffsets.{words_at};
 ghost use Rattle.textwrap_words.specs.WordSplitters.{hyphen_points};
 ghost use Rattle.textwrap_words.specs.Words.{piece, word_view, Tiles};
-ghost use Rattle.textwrap_plain.specs.Options as plain;
+ghost use Rattle.textwrap_plain.specs.Options.{plain_settings, plain_splitter};
 
 use simdutf8::basic::from_utf8;
 use std::alloc::{AllocError, Global};
@@ -59,7 +59,8 @@ pub fn textwrap_pieces(
     count: &mut usize,
 ) -> u32
     ensures pieces { WritesText (λ answer. answer ≡ piece_places 0 (pieces_by
-        (settings_of options.now) (words_by (separator_of options.now)) (splitter_of options.now)
+        (options_settings options.now) (words_by (separator_of options.now))
+        (options_splitter options.now)
         paragraph.now)) result pieces.old pieces.new count.old count.new }
     ensures unknown { TellsUnknown result options.now }
     ensures not_utf8 { TellsNotUtf8 result options.now paragraph.now }
@@ -85,8 +86,8 @@ fn listed_pieces(
     options: &PlainOptions<'_>,
 ) -> Result<Vec<TextwrapPiece>, AllocError>
     ensures { IfOk result (λ pieces. pieces.items ≡ piece_places 0 (pieces_by
-        (plain.settings_of options.now) (words_by options.now.word_separator)
-        (plain.splitter_of options.now) paragraph.now)) }
+        (plain_settings options.now) (words_by options.now.word_separator)
+        (plain_splitter options.now) paragraph.now)) }
 {
     match options.word_separator {
         PlainSeparator::AtBlanks => {

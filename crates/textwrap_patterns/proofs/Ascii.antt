@@ -5,7 +5,7 @@ use Rattle.std.proofs.lemmas.List.Folds.{list_all_at}
 use Rattle.std.proofs.lemmas.List.FromFn.{get_or-range_with_len, length-range_with_len}
 use Rattle.textwrap_patterns.proofs.Common.{Bool, ap, arith, false, get_or, range_with_len, refl}
 use Rattle.textwrap_patterns.proofs.Common.{sym, true, true≢false, ℕ, ◌+◌, ◌-◌, ◌<◌, ◌∙◌, ◌≡◌, ◌≤◌}
-use Rattle.textwrap_patterns.specs.Letters.{is_mark}
+use Rattle.textwrap_patterns.specs.Letters.{is_combining_mark}
 use Rattle.ucd_derived.specs.AlphabeticRanges.{alphabetic_ranges}
 use Rattle.ucd_derived.specs.Binary.{is_alphabetic, is_grapheme_extend}
 use Rattle.ucd_derived.specs.GraphemeExtendRanges.{grapheme_extend_ranges}
@@ -25,9 +25,9 @@ each-of p a n c all le lt = by (p c) refl
         ∙ list_all_at p (range_with_len a n) (c - a) 0 (omega (arith, length-range_with_len a n))
         (ap p here ∙ is)))
 
-pub mark-none : (c : ℕ) → c < 128 → is_mark c ≡ false
+pub mark-none : (c : ℕ) → c < 128 → is_combining_mark c ≡ false
 unfolding is_grapheme_extend in_ranges grapheme_extend_ranges
-mark-none c lt = by (is_mark c) (each-of (λ n. not (is_mark n)) 0 128 c refl (omega arith) lt)
+mark-none c lt = by (is_combining_mark c) (each-of (λ n. not (is_combining_mark n)) 0 128 c refl (omega arith) lt)
   where
     by : (b : Bool) → not b ≡ true → b ≡ false
     by false is = refl

@@ -54,12 +54,12 @@ first_table (Some table) other = Some table
 abbrev pub table_named : List ℕ → Option (List ℕ)
 table_named name = first_table (latin_table name) (other_table name)
 
-abbrev pub is_line_feed : ℕ → Bool
-is_line_feed b = b == 10
+abbrev pub is_line_feed_byte : ℕ → Bool
+is_line_feed_byte b = b == 10
 
 -- those of the charset that the first line names
 abbrev pub charset_of : List ℕ → Option (List ℕ)
-charset_of bytes = table_named (plain_name (take (position_or_len is_line_feed bytes) bytes))
+charset_of bytes = table_named (plain_name (take (position_or_len is_line_feed_byte bytes) bytes))
 
 -- ---- texts
 

@@ -10,7 +10,7 @@ use Rattle.std.specs.Str.{trim}
 use Rattle.textwrap_patterns.specs.Listed.{ExceptionText, exception_text, exception_view}
 use Rattle.textwrap_patterns.specs.Places.{are_places}
 use Rattle.textwrap_patterns.specs.Charsets.{names_charset, plain_name}
-use Rattle.textwrap_patterns.specs.Letters.{apostrophe, curly_apostrophe, folded, is_hyphen}
+use Rattle.textwrap_patterns.specs.Letters.{apostrophe, curly_apostrophe, folded, is_hyphen_character}
 use Rattle.textwrap_patterns.specs.Listed.{PatternText, pattern_view}
 use Rattle.textwrap_patterns.specs.Written.{is_digit, letters_written, pattern_written}
 use Rattle.textwrap_patterns.specs.declared.entries.Entry as program
@@ -144,7 +144,7 @@ begins start line = starts_with nat_eq line start
 
 -- what ends a run of letters, or has no point beside it, and what lists such signs
 abbrev pub is_joint : ℕ → Bool
-is_joint c = ((c == apostrophe) || (c == curly_apostrophe)) || (is_hyphen c || (c == 0x2013))
+is_joint c = ((c == apostrophe) || (c == curly_apostrophe)) || (is_hyphen_character c || (c == 0x2013))
 
 abbrev pub are_joints : List ℕ → Bool
 are_joints cs = list_all (λ c. is_joint c || ((c == 0x2C) || is_whitespace c)) cs

@@ -7,9 +7,7 @@ use Rattle.textwrap_text.specs.Characters.{characters_of}
 use Rattle.textwrap_text.specs.declared.characters.Character.{Character}
 use Rattle.textwrap_patterns.specs.declared.letters.Letter.{Letter}
 use Rattle.unicode.specs.Binary.{is_alphabetic, is_grapheme_extend}
-
-abbrev pub soft_hyphen : ℕ
-soft_hyphen = 0xAD
+use Rattle.textwrap_words.specs.WordOffsets.{soft_hyphen}
 
 abbrev pub apostrophe : ℕ
 apostrophe = 0x27
@@ -33,23 +31,23 @@ abbrev pub folded : ℕ → ℕ
 folded c = if c == curly_apostrophe then apostrophe else lowered c
 
 -- a combining mark
-abbrev pub is_mark : ℕ → Bool
-is_mark c = is_grapheme_extend c
+abbrev pub is_combining_mark : ℕ → Bool
+is_combining_mark c = is_grapheme_extend c
 
-abbrev pub is_letter : ℕ → Bool
-is_letter c = is_alphabetic c || is_mark c
+abbrev pub is_letter_or_mark : ℕ → Bool
+is_letter_or_mark c = is_alphabetic c || is_combining_mark c
 
 -- an apostrophe and a mark stand in a word, but count for no letter
 abbrev pub counts : ℕ → Bool
-counts c = not (c == apostrophe) && not (is_mark c)
+counts c = not (c == apostrophe) && not (is_combining_mark c)
 
 -- at least so many of these count
 abbrev pub has_letters : ℕ → List ℕ → Bool
 has_letters least cs = nat_le least (length (filter counts cs))
 
 -- the hyphens of ASCII and of Unicode
-abbrev pub is_hyphen : ℕ → Bool
-is_hyphen c = (c == 0x2D) || (c == 0x2010)
+abbrev pub is_hyphen_character : ℕ → Bool
+is_hyphen_character c = (c == 0x2D) || (c == 0x2010)
 
 -- a visible character counts, but for a soft hyphen
 abbrev pub is_kept : Character → Bool
@@ -67,10 +65,10 @@ letters_of word = letters_among (characters_of word)
 
 abbrev pub begins_letter : List Letter → Bool
 begins_letter [] = false
-begins_letter (c ∷ cs) = is_letter c.ch
+begins_letter (c ∷ cs) = is_letter_or_mark c.ch
 
 -- how many letters stand at the beginning, where an apostrophe before a letter counts as one
 abbrev pub run_len : List Letter → ℕ
 run_len [] = 0
 run_len (c ∷ cs) =
-    if is_letter c.ch || ((c.ch == apostrophe) && begins_letter cs) then suc (run_len cs) else 0
+    if is_letter_or_mark c.ch || ((c.ch == apostrophe) && begins_letter cs) then suc (run_len cs) else 0

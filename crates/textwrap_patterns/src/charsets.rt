@@ -1,7 +1,7 @@
 //! Charsets of a byte a character, in which dictionaries of libhyphen are written.
 ghost use Rattle.std.specs.Prelude.{◌≡◌, ◌≤◌, bytes_eq, length, option_map, IfOk, string_bytes};
 ghost use Rattle.std.specs.List.{position_or_len};
-ghost use Rattle.textwrap_patterns.specs.Charsets.{character_in, charset_of, decoded, is_line_feed};
+ghost use Rattle.textwrap_patterns.specs.Charsets.{character_in, charset_of, decoded, is_line_feed_byte};
 ghost use Rattle.textwrap_patterns.specs.Charsets.{latin_table, names_charset, other_table, plain_name};
 ghost use Rattle.textwrap_patterns.specs.Charsets.{table_named};
 
@@ -221,7 +221,7 @@ pub(crate) fn charset_of<A: Allocator>(
 
 /// How many bytes the first line has.
 fn line_len(bytes: &[u8]) -> usize
-    ensures { result ≡ position_or_len is_line_feed bytes.now }
+    ensures { result ≡ position_or_len is_line_feed_byte bytes.now }
 {
     for (i, byte) in bytes.iter().enumerate() {
         if *byte == b'\n' {

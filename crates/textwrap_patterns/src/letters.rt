@@ -1,7 +1,8 @@
 //! The letters of a word.
 ghost use Rattle.std.specs.Prelude.{◌≡◌, ◌≤◌, length, IfOk};
 ghost use Rattle.textwrap_patterns.specs.Letters.{begins_letter, counts, folded, has_letters};
-ghost use Rattle.textwrap_patterns.specs.Letters.{is_hyphen, is_letter, is_mark};
+ghost use Rattle.textwrap_patterns.specs.Letters.{is_hyphen_character, is_letter_or_mark};
+ghost use Rattle.textwrap_patterns.specs.Letters.{is_combining_mark};
 ghost use Rattle.textwrap_patterns.specs.Letters.{letters_of, lowered, run_len};
 
 use std::alloc::{AllocError, Allocator};
@@ -78,7 +79,7 @@ fn lowered(ch: char) -> char
 
 /// Whether a character counts as a letter: it is Alphabetic, or a combining mark.
 pub fn is_letter(ch: char) -> bool
-    ensures { result ≡ is_letter ch }
+    ensures { result ≡ is_letter_or_mark ch }
 {
     // For most letters no table has to be searched.
     if ch.is_ascii_lowercase() {
@@ -89,7 +90,7 @@ pub fn is_letter(ch: char) -> bool
 
 /// Whether a character is a combining mark, one with the property Grapheme_Extend.
 fn is_mark(ch: char) -> bool
-    ensures { result ≡ is_mark ch }
+    ensures { result ≡ is_combining_mark ch }
 {
     if ch < '\u{80}' {
         return false;
@@ -122,7 +123,7 @@ pub fn counts(letter: char) -> bool
 
 /// Whether a character is a hyphen, that of ASCII or U+2010.
 pub fn is_hyphen(ch: char) -> bool
-    ensures { result ≡ is_hyphen ch }
+    ensures { result ≡ is_hyphen_character ch }
 {
     ch == '-' || ch == '\u{2010}'
 }

@@ -6,7 +6,7 @@ use Rattle.textwrap_words.proofs.Word.Pieces.{AreTexts}
 use Rattle.textwrap_words.proofs.Word.Words.{words_unique}
 use Rattle.textwrap_layout.proofs.Common.{Settings}
 use Rattle.textwrap_plain.proofs.Words.{words_by-texts}
-use Rattle.textwrap_plain.specs.Options.{algorithm_of, words_by}
+use Rattle.textwrap_plain.specs.Options.{plain_algorithm, words_by}
 use Rattle.textwrap_plain.specs.declared.options.PlainOptions.{PlainOptions}
 use Rattle.textwrap_plain.specs.declared.options.PlainSeparator.{PlainSeparator}
 use Rattle.textwrap_plain.specs.declared.options.PlainSeparator.TheVariants.{AtBlanks}
@@ -25,7 +25,7 @@ module _ (h : Hyphenation) (o : PlainOptions) (blanks : o.word_separator ≡ AtB
     (settings : Settings) (is_later : Bool) (paragraph : List ℕ)
     (division : List (List WordText)) where
   at-points : DividesPlainlyAt h o settings is_later paragraph division
-      → DividesAtPoints h (algorithm_of o) settings is_later paragraph division
+      → DividesAtPoints h (plain_algorithm o) settings is_later paragraph division
   at-points (pieces, (words, split, words_are, split_are, is), divided) = (
     pieces,
     (
@@ -38,7 +38,7 @@ module _ (h : Hyphenation) (o : PlainOptions) (blanks : o.word_separator ≡ AtB
     divided,
   )
 
-  from-points : DividesAtPoints h (algorithm_of o) settings is_later paragraph division
+  from-points : DividesAtPoints h (plain_algorithm o) settings is_later paragraph division
       → DividesPlainlyAt h o settings is_later paragraph division
   from-points (pieces, (words, split, words_are, split_are, is), divided) = (
     pieces,
@@ -53,5 +53,5 @@ module _ (h : Hyphenation) (o : PlainOptions) (blanks : o.word_separator ≡ AtB
   )
 
   pub plain-points : DividesPlainlyAt h o settings is_later paragraph division
-      ↔ DividesAtPoints h (algorithm_of o) settings is_later paragraph division
+      ↔ DividesAtPoints h (plain_algorithm o) settings is_later paragraph division
   plain-points = (at-points, from-points)

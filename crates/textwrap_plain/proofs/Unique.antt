@@ -9,7 +9,7 @@ use Rattle.textwrap_layout.proofs.Common.{ArePieces, Settings}
 use Rattle.textwrap_layout.proofs.Common.{first_width, later_width}
 use Rattle.textwrap_layout.specs.Paragraph.{IsDividedInto, widths_of}
 use Rattle.textwrap_lines.proofs.PlacedPieces.{two-equal}
-use Rattle.textwrap_plain.specs.Options.{algorithm_of, settings_of}
+use Rattle.textwrap_plain.specs.Options.{plain_algorithm, plain_settings}
 use Rattle.textwrap_plain.specs.declared.options.PlainOptions.{PlainOptions}
 use Rattle.textwrap_hyphens.specs.Hyphenation.{Hyphenation}
 use Rattle.textwrap_plain.specs.Hyphenated.{ArePointsBy, DividesAtPoints}
@@ -67,8 +67,8 @@ division_one h =
 -- and by options without functions
 pub division_one-plain : (h : Hyphenation) (o : PlainOptions)
     (is_later : Bool) (paragraph : List ℕ) (division other : List (List WordText))
-    → DividesPlainlyAt h o (settings_of o) is_later paragraph division
-    → DividesPlainlyAt h o (settings_of o) is_later paragraph other → division ≡ other
+    → DividesPlainlyAt h o (plain_settings o) is_later paragraph division
+    → DividesPlainlyAt h o (plain_settings o) is_later paragraph other → division ≡ other
 division_one-plain h o =
     division_one-by h (AreWordsBy o.word_separator)
-    (λ line words others are other_are. are ∙ sym other_are) (settings_of o) (algorithm_of o)
+    (λ line words others are other_are. are ∙ sym other_are) (plain_settings o) (plain_algorithm o)

@@ -6,7 +6,7 @@ use Rattle.textwrap_layout.specs.Filling.{IsFilled}
 use Rattle.textwrap_layout.specs.Options.{Settings}
 use Rattle.textwrap_layout.specs.Text.{AreTextLines}
 use Rattle.textwrap_lines.specs.Laws.{IsUnique}
-use Rattle.textwrap_plain.specs.Options.{algorithm_of, settings_of}
+use Rattle.textwrap_plain.specs.Options.{plain_algorithm, plain_settings}
 use Rattle.textwrap_plain.specs.declared.options.PlainOptions.{PlainOptions}
 use Rattle.textwrap_plain.specs.declared.options.PlainSeparator.TheVariants.{AtBlanks}
 use Rattle.textwrap_hyphens.specs.Hyphenation.{Hyphenation}
@@ -29,12 +29,12 @@ HyphenatedTextIsUnique =
 abbrev pub PlainLinesAreUnique : Type 0
 PlainLinesAreUnique =
     (h : Hyphenation) (o : PlainOptions)
-    → IsUnique (AreTextLines (settings_of o) (DividesPlainlyAt h o (settings_of o)))
+    → IsUnique (AreTextLines (plain_settings o) (DividesPlainlyAt h o (plain_settings o)))
 
 abbrev pub PlainTextIsUnique : Type 0
 PlainTextIsUnique =
     (h : Hyphenation) (o : PlainOptions)
-    → IsUnique (IsFilled (settings_of o) (DividesPlainlyAt h o (settings_of o)))
+    → IsUnique (IsFilled (plain_settings o) (DividesPlainlyAt h o (plain_settings o)))
 
 -- where these have words between blanks, a paragraph is divided as it is by options with functions
 -- that name the same parts
@@ -43,4 +43,4 @@ PlainIsAtPoints =
     (h : Hyphenation) (o : PlainOptions) → o.word_separator ≡ AtBlanks → (settings : Settings)
     (is_later : Bool) (paragraph : List ℕ) (division : List (List WordText))
     → DividesPlainlyAt h o settings is_later paragraph division
-    ↔ DividesAtPoints h (algorithm_of o) settings is_later paragraph division
+    ↔ DividesAtPoints h (plain_algorithm o) settings is_later paragraph division

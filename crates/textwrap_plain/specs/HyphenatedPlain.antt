@@ -4,7 +4,7 @@ use Rattle.textwrap_words.specs.WrapAlgorithms.{IsDividedBy}
 use Rattle.textwrap_words.specs.Words.{WordText, sizes_of}
 use Rattle.textwrap_layout.specs.Options.{Settings}
 use Rattle.textwrap_layout.specs.Paragraph.{IsDividedInto}
-use Rattle.textwrap_plain.specs.Options.{algorithm_of, words_by}
+use Rattle.textwrap_plain.specs.Options.{plain_algorithm, words_by}
 use Rattle.textwrap_plain.specs.declared.options.PlainOptions.{PlainOptions}
 use Rattle.textwrap_plain.specs.declared.options.PlainSeparator.{PlainSeparator}
 use Rattle.textwrap_hyphens.specs.Hyphenation.{Hyphenation}
@@ -20,4 +20,4 @@ abbrev pub DividesPlainlyAt : Hyphenation → PlainOptions → Settings → Bool
     → List (List WordText) → Type 0
 DividesPlainlyAt h o settings =
     IsDividedInto settings (AreWordsBy o.word_separator) (ArePointsBy h)
-    (IsDividedBy (algorithm_of o) sizes_of)
+    (IsDividedBy (plain_algorithm o) sizes_of)

@@ -27,8 +27,8 @@ is_cut_plainly AtBlanks text place = is_cut (slice_index text (place - 1)) (slic
 is_cut_plainly (AtBreaks ByPairs) text place = at_breaks text place
 is_cut_plainly (AtBreaks ByExpression) text place = false
 
-abbrev pub settings_of : PlainOptions → Settings
-settings_of o = record {
+abbrev pub plain_settings : PlainOptions → Settings
+plain_settings o = record {
   width = o.width;
   line_ending = o.line_ending;
   initial_indent = o.initial_indent.now;
@@ -39,8 +39,8 @@ settings_of o = record {
 }
 
 -- the layout that they say
-abbrev pub layout_of : PlainOptions → Layout
-layout_of o = record {
+abbrev pub plain_layout : PlainOptions → Layout
+plain_layout o = record {
   width = o.width;
   line_ending = o.line_ending;
   initial_indent = o.initial_indent;
@@ -50,19 +50,19 @@ layout_of o = record {
   even_paragraphs = o.even_paragraphs;
 }
 
-abbrev pub splitter_of : PlainOptions → Splitter
-splitter_of o = as_splitter o.word_splitter
+abbrev pub plain_splitter : PlainOptions → Splitter
+plain_splitter o = as_splitter o.word_splitter
 
-abbrev pub algorithm_of : PlainOptions → Algorithm
-algorithm_of o = as_algorithm o.wrap_algorithm
+abbrev pub plain_algorithm : PlainOptions → Algorithm
+plain_algorithm o = as_algorithm o.wrap_algorithm
 
 -- a paragraph is divided so under these settings, by the options' words, splitter and algorithm
 abbrev pub DividesPlainly : PlainOptions → Settings → Bool → List ℕ → List (List WordText) → Type 0
-DividesPlainly o = DividesAt (words_by o.word_separator) (splitter_of o) (algorithm_of o)
+DividesPlainly o = DividesAt (words_by o.word_separator) (plain_splitter o) (plain_algorithm o)
 
 -- these are the defaults at a width
 pub record AreDefaults (width : ℕ) (o : PlainOptions) : Type 0 where
-  pub settings : settings_of o ≡ settings_at width
+  pub settings : plain_settings o ≡ settings_at width
   pub separator : o.word_separator ≡ AtBreaks ByPairs
-  pub splitter : splitter_of o ≡ AtHyphens
-  pub algorithm : algorithm_of o ≡ default_algorithm
+  pub splitter : plain_splitter o ≡ AtHyphens
+  pub algorithm : plain_algorithm o ≡ default_algorithm

@@ -9,7 +9,7 @@ use Rattle.textwrap.specs.WrapAlgorithms.{Algorithm}
 use Rattle.textwrap_display.specs.Tables.{IsTableBy, RowGaps, Shape}
 use Rattle.textwrap_display.specs.declared.alignment.Alignment.{Alignment}
 use Rattle.textwrap_layout.specs.Paragraph.{DividesAt}
-use Rattle.textwrap_plain.specs.Options.{algorithm_of, settings_of, splitter_of, words_by}
+use Rattle.textwrap_plain.specs.Options.{plain_algorithm, plain_settings, plain_splitter, words_by}
 use Rattle.textwrap_plain.specs.declared.display.PlainColumn.{PlainColumn}
 
 -- how a column wraps its texts, and where their lines stand in it
@@ -23,9 +23,9 @@ pub record PlainParts : Type 0 where
 abbrev pub plain_parts : PlainColumn → PlainParts
 plain_parts c = record {
   words = words_by c.options.word_separator;
-  settings = settings_of c.options;
-  splitter = splitter_of c.options;
-  algorithm = algorithm_of c.options;
+  settings = plain_settings c.options;
+  splitter = plain_splitter c.options;
+  algorithm = plain_algorithm c.options;
   alignment = c.alignment;
 }
 

@@ -14,7 +14,7 @@ ghost use Rattle.textwrap_layout.specs.Paragraph.{Line, line_view};
 ghost use Rattle.textwrap_layout.specs.PiecesLeft.{left_standing};
 ghost use Rattle.textwrap_plain.specs.Balance.{AreFirstFitAt, AreBalanced, HasRoom, IsBalanced};
 ghost use Rattle.textwrap_plain.specs.Balance.{TakesLines, whole_pieces};
-ghost use Rattle.textwrap_plain.specs.Widest.{widest, widest_place};
+ghost use Rattle.textwrap_plain.specs.Widest.{widest_of_words, widest_place};
 
 use std::alloc::{AllocError, Allocator};
 use std::borrow::CowStr;
@@ -180,7 +180,7 @@ fn widest_piece<W: PrintableCuts + Copy>(
     layout: Layout<'_>,
     parts: &BuiltIn<W>,
 ) -> Result<usize, AllocError>
-    ensures widest { IfOk result (λ columns. columns ≡ widest (whole_pieces
+    ensures widest { IfOk result (λ columns. columns ≡ widest_of_words (whole_pieces
         (layout_view layout.entry) (W.words parts.now.words)
         (as_splitter parts.now.parts.splitter) text.now)) }
     ensures done { W.at_blanks parts.now.words → IsOk result }
@@ -205,7 +205,7 @@ fn widest_in<W: PrintableCuts + Copy>(
     layout: Layout<'_>,
     parts: &BuiltIn<W>,
 ) -> Result<usize, AllocError>
-    ensures widest { IfOk result (λ columns. columns ≡ widest (split_words
+    ensures widest { IfOk result (λ columns. columns ≡ widest_of_words (split_words
         (as_splitter parts.now.parts.splitter) (W.words parts.now.words paragraph.now))) }
     ensures done { W.at_blanks parts.now.words → IsOk result }
 {

@@ -4,7 +4,7 @@ ghost use Rattle.textwrap_plain.specs.Balance.{AreBalanced, AreFirstFitAt, IsBal
 ghost use Rattle.textwrap_display.specs.JustifiedText.{IsJustifiedText};
 ghost use Rattle.textwrap_display.specs.Tables.{gaps_view, texts_in};
 ghost use Rattle.textwrap_layout.specs.Paragraph.{Line, line_view};
-ghost use Rattle.textwrap_plain.specs.Options.{DividesPlainly, settings_of, splitter_of, words_by};
+ghost use Rattle.textwrap_plain.specs.Options.{DividesPlainly, plain_settings, plain_splitter, words_by};
 ghost use Rattle.textwrap_plain.specs.declared.options.PlainSeparator.TheVariants.{AtBlanks};
 ghost use Rattle.textwrap_plain.specs.Tables.{IsPlainTable, plain_parts};
 ghost use Rattle.textwrap_base.specs.Errors.{OnlyMemoryRunsOut};
@@ -67,8 +67,8 @@ pub fn fill_justified(
     text: &str,
     options: &PlainOptions<'_>,
 ) -> Result<String, WrapError>
-    ensures filled { IfOk result (λ filled. IsJustifiedText (settings_of options.now)
-        (DividesPlainly options.now (settings_of options.now)) text.now (string_bytes filled)) }
+    ensures filled { IfOk result (λ filled. IsJustifiedText (plain_settings options.now)
+        (DividesPlainly options.now (plain_settings options.now)) text.now (string_bytes filled)) }
     ensures only_memory { OnlyMemoryRunsOut result }
 {
     fill_justified_by(alloc, text, options.layout(), &options.parts(alloc))
@@ -103,8 +103,8 @@ pub fn balanced_width(
     text: &str,
     options: &PlainOptions<'_>,
 ) -> Result<usize, WrapError>
-    ensures balanced { IfOk result (IsBalanced (settings_of options.now)
-        (words_by options.now.word_separator) (splitter_of options.now) text.now) }
+    ensures balanced { IfOk result (IsBalanced (plain_settings options.now)
+        (words_by options.now.word_separator) (plain_splitter options.now) text.now) }
     ensures done { options.now.word_separator ≡ AtBlanks → IsOk result }
     ensures only_memory { OnlyMemoryRunsOut result }
 {
@@ -117,8 +117,8 @@ pub fn balanced_width(
 /// # Errors
 /// [`WrapError::Memory`] where memory runs out.
 fn find_balance(alloc: Global, text: &str, options: &PlainOptions<'_>) -> Result<Balance, WrapError>
-    ensures balanced { IfOk result (λ balance. IsBalanced (settings_of options.now)
-        (words_by options.now.word_separator) (splitter_of options.now) text.now balance.width) }
+    ensures balanced { IfOk result (λ balance. IsBalanced (plain_settings options.now)
+        (words_by options.now.word_separator) (plain_splitter options.now) text.now balance.width) }
     ensures done { options.now.word_separator ≡ AtBlanks → IsOk result }
     ensures only_memory { OnlyMemoryRunsOut result }
 {
@@ -144,12 +144,12 @@ pub fn wrap_balanced<'t>(
     text: &'t str,
     options: &PlainOptions<'_>,
 ) -> Result<Vec<CowStr<'t>>, WrapError>
-    ensures lines { IfOk result (λ lines. AreBalanced (settings_of options.now)
-        (words_by options.now.word_separator) (splitter_of options.now) text.now
+    ensures lines { IfOk result (λ lines. AreBalanced (plain_settings options.now)
+        (words_by options.now.word_separator) (plain_splitter options.now) text.now
         (map line_view lines.items)) }
     ensures as_many { IfOk result (λ lines. (others : List Line)
-        → AreFirstFitAt (settings_of options.now) (words_by options.now.word_separator)
-        (splitter_of options.now) text.now options.now.width others
+        → AreFirstFitAt (plain_settings options.now) (words_by options.now.word_separator)
+        (plain_splitter options.now) text.now options.now.width others
         → length lines.items ≡ length others) }
     ensures only_memory { OnlyMemoryRunsOut result }
 {

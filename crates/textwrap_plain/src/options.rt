@@ -3,7 +3,8 @@ ghost use Rattle.std.specs.Prelude.{◌≡◌, ◌↔◌, IsTrue, Some};
 ghost use Rattle.textwrap.specs.Options.{HasParts};
 ghost use Rattle.textwrap.specs.WordSplitters.{splitter_view};
 ghost use Rattle.textwrap.specs.WrapAlgorithms.{algorithm_view, Greedy};
-ghost use Rattle.textwrap_plain.specs.Options.{algorithm_of, AreDefaults, settings_of, splitter_of};
+ghost use Rattle.textwrap_plain.specs.Options.{plain_algorithm, AreDefaults, plain_settings};
+ghost use Rattle.textwrap_plain.specs.Options.{plain_splitter};
 
 use textwrap::wrap_algorithms::Penalties;
 use textwrap::{LineEnding, Options, WordSplitter, WrapAlgorithm};
@@ -74,8 +75,8 @@ impl<'a> PlainOptions<'a> {
 
     /// The options of `textwrap` that say the same, but that words stand between blanks.
     pub fn at_blanks(&self) -> Options<'a>
-        ensures { HasParts result (settings_of self.now) (splitter_of self.now)
-            (algorithm_of self.now) }
+        ensures { HasParts result (plain_settings self.now) (plain_splitter self.now)
+            (plain_algorithm self.now) }
     {
         Options {
             width: self.width,
@@ -95,7 +96,7 @@ impl<'a> PlainOptions<'a> {
     /// filled without a list.
     pub(crate) fn are_direct(&self) -> bool
         ensures { IsTrue result ↔ (self.now.word_separator ≡ AtBlanks)
-            × (algorithm_of self.now ≡ Greedy) }
+            × (plain_algorithm self.now ≡ Greedy) }
     {
         match (self.word_separator, self.wrap_algorithm) {
             (PlainSeparator::AtBlanks, BuiltInAlgorithm::FirstFit) => true,
@@ -104,7 +105,7 @@ impl<'a> PlainOptions<'a> {
     }
 
     fn algorithm(&self) -> WrapAlgorithm
-        ensures { algorithm_view result ≡ Some (algorithm_of self.now) }
+        ensures { algorithm_view result ≡ Some (plain_algorithm self.now) }
     {
         match self.wrap_algorithm {
             BuiltInAlgorithm::FirstFit => WrapAlgorithm::FirstFit,
@@ -113,7 +114,7 @@ impl<'a> PlainOptions<'a> {
     }
 
     fn splitter(&self) -> WordSplitter
-        ensures { splitter_view result ≡ Some (splitter_of self.now) }
+        ensures { splitter_view result ≡ Some (plain_splitter self.now) }
     {
         match self.word_splitter {
             BuiltInSplitter::NoHyphenation => WordSplitter::NoHyphenation,

@@ -6,7 +6,8 @@ ghost use Rattle.textwrap.specs.WrapAlgorithms.{Greedy};
 ghost use Rattle.textwrap_layout.specs.LentPlaces.{WritesPlaces};
 ghost use Rattle.textwrap_layout.specs.Places.{ArePlacedLines, built_text};
 ghost use Rattle.textwrap_layout.specs.declared.places.Place.{Place};
-ghost use Rattle.textwrap_plain.specs.Options.{algorithm_of, DividesPlainly, settings_of, splitter_of};
+ghost use Rattle.textwrap_plain.specs.Options.{plain_algorithm, DividesPlainly, plain_settings};
+ghost use Rattle.textwrap_plain.specs.Options.{plain_splitter};
 ghost use Rattle.textwrap_plain.specs.Options.{words_by};
 ghost use Rattle.textwrap_plain.specs.declared.options.PlainSeparator.TheVariants.{AtBlanks};
 ghost use Rattle.textwrap_base.specs.Errors.{OnlyMemoryRunsOut};
@@ -30,8 +31,8 @@ pub fn place_lines(
     options: &PlainOptions<'_>,
 ) -> Result<PlacedLines<Global>, WrapError>
     ensures lines { IfOk result (λ placed. (lines : List Line)
-        × ArePlacedLines (settings_of options.now)
-        (DividesPlainly options.now (settings_of options.now)) text.now lines placed.places.items
+        × ArePlacedLines (plain_settings options.now)
+        (DividesPlainly options.now (plain_settings options.now)) text.now lines placed.places.items
         × (placed.built.items ≡ built_text lines)) }
     ensures only_memory { OnlyMemoryRunsOut result }
 {
@@ -52,10 +53,10 @@ pub fn place_into(
     room: &mut [u8],
 ) -> Result<LineCounts, WrapError>
     ensures lines { IfOk result (λ counts. (placed : List Line) × (places : List Place)
-        × ArePlacedLines (settings_of options.now)
-        (DividesPlainly options.now (settings_of options.now)) text.now placed places
+        × ArePlacedLines (plain_settings options.now)
+        (DividesPlainly options.now (plain_settings options.now)) text.now placed places
         × WritesPlaces places (built_text placed) counts lines.old lines.new room.old room.new) }
-    ensures done { options.now.word_separator ≡ AtBlanks → algorithm_of options.now ≡ Greedy
+    ensures done { options.now.word_separator ≡ AtBlanks → plain_algorithm options.now ≡ Greedy
         → IsOk result }
     ensures kept_lines { IfErr result (λ _. lines.new ≡ lines.old) }
     ensures kept_room { IfErr result (λ _. room.new ≡ room.old) }
@@ -91,8 +92,8 @@ pub fn paragraph_pieces<'t>(
     options: &PlainOptions<'_>,
 ) -> Result<Vec<Word<'t>>, AllocError>
     ensures pieces { IfOk result (λ pieces. map word_view pieces.items
-        ≡ pieces_by (settings_of options.now) (words_by options.now.word_separator)
-        (splitter_of options.now) paragraph.now) }
+        ≡ pieces_by (plain_settings options.now) (words_by options.now.word_separator)
+        (plain_splitter options.now) paragraph.now) }
     ensures tiles { IfOk result (λ pieces. Tiles (map word_view pieces.items) paragraph.now) }
 {
     let frame = Frame::of(options.layout());

@@ -1,7 +1,7 @@
 //! Options without functions as `textwrap_lines` takes them: a layout, and parts by which texts are cut
 //! into words, split and divided.
 ghost use Rattle.std.specs.Prelude.{◌≡◌};
-ghost use Rattle.textwrap_plain.specs.Options.{layout_of};
+ghost use Rattle.textwrap_plain.specs.Options.{plain_layout};
 
 use crate::options::{PlainOptions, PlainSeparator};
 use std::alloc::{AllocError, Global};
@@ -75,7 +75,7 @@ impl PrintableCuts for PlainWords {
 impl<'a> PlainOptions<'a> {
     /// What they say, but for the separator, the splitter and the algorithm.
     pub fn layout(&self) -> Layout<'a>
-        ensures { result ≡ layout_of self.now }
+        ensures { result ≡ plain_layout self.now }
     {
         let PlainOptions {
             width,

@@ -7,7 +7,8 @@ ghost use Rattle.textwrap.specs.Paragraph.{is_whole, line_view};
 ghost use Rattle.textwrap.specs.Refilling.{IsRefilled};
 ghost use Rattle.textwrap.specs.Text.{ArePrintedWithin, CanKeepToWidth, IsWrapped, LinesKeepToWidth};
 ghost use Rattle.textwrap.specs.WrapAlgorithms.{Greedy};
-ghost use Rattle.textwrap_plain.specs.Options.{algorithm_of, DividesPlainly, settings_of, splitter_of};
+ghost use Rattle.textwrap_plain.specs.Options.{plain_algorithm, DividesPlainly, plain_settings};
+ghost use Rattle.textwrap_plain.specs.Options.{plain_splitter};
 ghost use Rattle.textwrap_plain.specs.declared.options.PlainSeparator.TheVariants.{AtBlanks};
 ghost use Rattle.textwrap_text.specs.LineEnding.{paragraphs_of};
 ghost use Rattle.textwrap_text.specs.Blanks.{without_final_blanks};
@@ -38,20 +39,20 @@ pub fn wrap<'t>(
     text: &'t str,
     options: &PlainOptions<'_>,
 ) -> Result<Vec<CowStr<'t>>, WrapError>
-    ensures lines { IfOk result (λ lines. IsWrapped (settings_of options.now)
-        (Some (splitter_of options.now)) (Some (algorithm_of options.now))
-        (DividesPlainly options.now (settings_of options.now)) text.now
+    ensures lines { IfOk result (λ lines. IsWrapped (plain_settings options.now)
+        (Some (plain_splitter options.now)) (Some (plain_algorithm options.now))
+        (DividesPlainly options.now (plain_settings options.now)) text.now
         (map line_view lines.items)) }
     // Where paragraphs are even, lines keep to the width with their indents, if they can.
-    ensures even { options.now.even_paragraphs ≡ true → algorithm_of options.now ≡ Greedy
+    ensures even { options.now.even_paragraphs ≡ true → plain_algorithm options.now ≡ Greedy
         → options.now.break_words ≡ true → IfOk result (λ lines. LinesKeepToWidth
-        (settings_of options.now) (DividesPlainly options.now (settings_of options.now)) text.now
+        (plain_settings options.now) (DividesPlainly options.now (plain_settings options.now)) text.now
         (map line_view lines.items)) }
     // And so they do in the columns that they are printed in, if no blanks are preserved and neither
     // an indent nor a piece cuts an escape sequence; a text of one paragraph need not be even.
-    ensures printed { algorithm_of options.now ≡ Greedy
-        → CanKeepToWidth (settings_of options.now) text.now → IfOk result (λ lines. ArePrintedWithin
-        (settings_of options.now) (DividesPlainly options.now (settings_of options.now)) text.now
+    ensures printed { plain_algorithm options.now ≡ Greedy
+        → CanKeepToWidth (plain_settings options.now) text.now → IfOk result (λ lines. ArePrintedWithin
+        (plain_settings options.now) (DividesPlainly options.now (plain_settings options.now)) text.now
         (map line_view lines.items)) }
     ensures only_memory { OnlyMemoryRunsOut result }
 {
@@ -63,8 +64,8 @@ pub fn wrap<'t>(
 /// # Errors
 /// [`WrapError::Memory`] where memory runs out.
 pub fn fill(alloc: Global, text: &str, options: &PlainOptions<'_>) -> Result<String, WrapError>
-    ensures filled { IfOk result (λ filled. IsFilled (settings_of options.now)
-        (DividesPlainly options.now (settings_of options.now)) text.now (string_bytes filled)) }
+    ensures filled { IfOk result (λ filled. IsFilled (plain_settings options.now)
+        (DividesPlainly options.now (plain_settings options.now)) text.now (string_bytes filled)) }
     ensures only_memory { OnlyMemoryRunsOut result }
 {
     fill_by(alloc, text, options.layout(), &options.parts(alloc))
@@ -82,10 +83,10 @@ pub fn fill_into(
     options: &PlainOptions<'_>,
     room: &mut [u8],
 ) -> Result<usize, WrapError>
-    ensures filled { IfOk result (λ len. (filled : List ℕ) × IsFilled (settings_of options.now)
-        (DividesPlainly options.now (settings_of options.now)) text.now filled
+    ensures filled { IfOk result (λ len. (filled : List ℕ) × IsFilled (plain_settings options.now)
+        (DividesPlainly options.now (plain_settings options.now)) text.now filled
         × (len ≡ as_len (length filled)) × (room.new ≡ written_over room.old filled)) }
-    ensures done { options.now.word_separator ≡ AtBlanks → algorithm_of options.now ≡ Greedy
+    ensures done { options.now.word_separator ≡ AtBlanks → plain_algorithm options.now ≡ Greedy
         → IsOk result }
     ensures kept { IfErr result (λ _. room.new ≡ room.old) }
     ensures only_memory { OnlyMemoryRunsOut result }
@@ -105,7 +106,7 @@ pub fn fill_into(
 fn only_line<'t>(text: &'t str, options: &PlainOptions<'_>) -> Option<&'t str>
     ensures one { IfSome result (λ _.
         paragraphs_of options.now.line_ending text.now ≡ text.now ∷ []) }
-    ensures whole { IfSome result (λ _. is_whole (settings_of options.now) false text.now ≡ true) }
+    ensures whole { IfSome result (λ _. is_whole (plain_settings options.now) false text.now ≡ true) }
     ensures line { IfSome result (λ line. line.now ≡ (if options.now.preserve_trailing_space
         then text.now else without_final_blanks text.now)) }
 {
@@ -155,7 +156,7 @@ pub fn refill(
     filled_text: &str,
     options: &PlainOptions<'_>,
 ) -> Result<String, WrapError>
-    ensures refilled { IfOk result (λ refilled. IsRefilled (settings_of options.now)
+    ensures refilled { IfOk result (λ refilled. IsRefilled (plain_settings options.now)
         (DividesPlainly options.now) filled_text.now (string_bytes refilled)) }
     ensures only_memory { OnlyMemoryRunsOut result }
 {
@@ -176,7 +177,7 @@ pub fn wrap_columns(
     right_gap: &str,
 ) -> Result<Vec<String>, WrapError>
     requires some { 1 ≤ columns }
-    ensures rows { IfOk result (λ rows. IsInColumns (settings_of options.now)
+    ensures rows { IfOk result (λ rows. IsInColumns (plain_settings options.now)
         (DividesPlainly options.now) columns text.now left_gap.now middle_gap.now right_gap.now
         (map string_bytes rows.items)) }
     ensures only_memory { OnlyMemoryRunsOut result }

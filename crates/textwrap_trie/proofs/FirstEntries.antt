@@ -9,21 +9,21 @@ use Rattle.textwrap_text.proofs.Common.{inr, List, None, Option, refl, rules, So
 use Rattle.textwrap_text.proofs.Common.{true, ℕ, ⊎_elim, ◌++◌, ◌≡◌, ◌∙◌, ◌∷◌, ◌⊎◌, []}
 use Rattle.textwrap_trie.proofs.KeyOrder.{behind-other, ties-same}
 use Rattle.textwrap_trie.specs.Entries.{AreSortedFrom, entry_for, is_before}
-use Rattle.textwrap_trie.specs.declared.entries.Entry.{Entry}
+use Rattle.textwrap_trie.specs.declared.entries.TrieEntry.{TrieEntry}
 
-abbrev pub HasOther : {A : Type 0} → List ℕ → Entry A → Type 0
+abbrev pub HasOther : {A : Type 0} → List ℕ → TrieEntry A → Type 0
 HasOther key e = bytes_eq e.key.items key ≡ false
 
 -- ---- parts of a list
 
-pub entry_for-behind : {A : Type 0} (key : List ℕ) (es rest : List (Entry A)) → All (HasOther key) es
+pub entry_for-behind : {A : Type 0} (key : List ℕ) (es rest : List (TrieEntry A)) → All (HasOther key) es
     → entry_for 0 (es ++ rest) key ≡ entry_for 0 rest key
 entry_for-behind key [] rest others = refl
 entry_for-behind key (e ∷ es) rest others =
     let here = All-head (HasOther key) e es others in
     rw here (entry_for-behind key es rest (All-tail (HasOther key) e es others))
 
-pub entry_for-before : {A : Type 0} (key : List ℕ) (es xs ys : List (Entry A))
+pub entry_for-before : {A : Type 0} (key : List ℕ) (es xs ys : List (TrieEntry A))
     → entry_for 0 xs key ≡ entry_for 0 ys key
     → entry_for 0 (es ++ xs) key ≡ entry_for 0 (es ++ ys) key
 entry_for-before key [] xs ys same = same
@@ -31,7 +31,7 @@ entry_for-before key (e ∷ es) xs ys same =
     ap (λ (o : Option (List ℕ)). cond (bytes_eq e.key.items key) (Some e.numbers.items) o)
     (entry_for-before key es xs ys same)
 
-pub entry_for-none : {A : Type 0} (key : List ℕ) (es : List (Entry A)) → All (HasOther key) es
+pub entry_for-none : {A : Type 0} (key : List ℕ) (es : List (TrieEntry A)) → All (HasOther key) es
     → entry_for 0 es key ≡ None
 entry_for-none key es others =
     ap (λ l. entry_for 0 l key) (sym (append-nil es)) ∙ entry_for-behind key es [] others
@@ -39,7 +39,7 @@ entry_for-none key es others =
 -- ---- keys that differ
 
 -- where keys stand in order and differ, none behind the first is its key
-pub others-behind : {A : Type 0} (e : Entry A) (es : List (Entry A)) → AreSortedFrom 0 (e ∷ es)
+pub others-behind : {A : Type 0} (e : TrieEntry A) (es : List (TrieEntry A)) → AreSortedFrom 0 (e ∷ es)
     → All (HasOther e.key.items) es
 others-behind e es sorted = λ k d within.
     behind-other e.key.items (get_or es k d).key.items
@@ -47,14 +47,14 @@ others-behind e es sorted = λ k d within.
 
 -- ---- a stable sort
 
-abbrev pub stands_before : {A : Type 0} → Entry A → Entry A → Bool
+abbrev pub stands_before : {A : Type 0} → TrieEntry A → TrieEntry A → Bool
 stands_before e f = is_before e.key.items f.key.items
 
-ties-here : {A : Type 0} (key : List ℕ) (x e : Entry A) → x.key.items ≡ key
+ties-here : {A : Type 0} (key : List ℕ) (x e : TrieEntry A) → x.key.items ≡ key
     → ties stands_before x e ≡ bytes_eq e.key.items key
 ties-here key x e is = ties-same x.key.items e.key.items ∙ ap (bytes_eq e.key.items) is
 
-ties-step : {A : Type 0} (key : List ℕ) (x e : Entry A) (es : List (Entry A)) (b : Bool)
+ties-step : {A : Type 0} (key : List ℕ) (x e : TrieEntry A) (es : List (TrieEntry A)) (b : Bool)
     → ties stands_before x e ≡ b → bytes_eq e.key.items key ≡ b
     → entry_for 0 (filter (ties stands_before x) es) key ≡ entry_for 0 es key
     → entry_for 0 (filter (ties stands_before x) (e ∷ es)) key ≡ entry_for 0 (e ∷ es) key
@@ -62,34 +62,34 @@ ties-step key x e es true tie same rest = rw (tie, same) refl
 ties-step key x e es false tie other rest = rw (tie, other) rest
 
 -- only those that tie with one that has the key count
-first-ties : {A : Type 0} (key : List ℕ) (x : Entry A) → x.key.items ≡ key → (es : List (Entry A))
+first-ties : {A : Type 0} (key : List ℕ) (x : TrieEntry A) → x.key.items ≡ key → (es : List (TrieEntry A))
     → entry_for 0 (filter (ties stands_before x) es) key ≡ entry_for 0 es key
 first-ties key x is [] = refl
 first-ties key x is (e ∷ es) =
     ties-step key x e es (bytes_eq e.key.items key) (ties-here key x e is) refl
     (first-ties key x is es)
 
-one-more : {A : Type 0} (key : List ℕ) (e : Entry A) (es : List (Entry A)) (b : Bool) → bytes_eq e.key.items key ≡ b
-    → All (HasOther key) es ⊎ ((x : Entry A) × (bytes_eq x.key.items key ≡ true))
-    → All (HasOther key) (e ∷ es) ⊎ ((x : Entry A) × (bytes_eq x.key.items key ≡ true))
+one-more : {A : Type 0} (key : List ℕ) (e : TrieEntry A) (es : List (TrieEntry A)) (b : Bool) → bytes_eq e.key.items key ≡ b
+    → All (HasOther key) es ⊎ ((x : TrieEntry A) × (bytes_eq x.key.items key ≡ true))
+    → All (HasOther key) (e ∷ es) ⊎ ((x : TrieEntry A) × (bytes_eq x.key.items key ≡ true))
 one-more key e es true is rest = inr (e, is)
 one-more key e es false is (inl none) = inl (All-cons (HasOther key) e es is none)
 one-more key e es false is (inr found) = inr found
 
-one-or-none : {A : Type 0} (key : List ℕ) (es : List (Entry A))
-    → All (HasOther key) es ⊎ ((x : Entry A) × (bytes_eq x.key.items key ≡ true))
+one-or-none : {A : Type 0} (key : List ℕ) (es : List (TrieEntry A))
+    → All (HasOther key) es ⊎ ((x : TrieEntry A) × (bytes_eq x.key.items key ≡ true))
 one-or-none key [] = inl (All-nil (HasOther key))
 one-or-none key (e ∷ es) =
     one-more key e es (bytes_eq e.key.items key) refl (one-or-none key es)
 
-pub first-stable : {A : Type 0} (key : List ℕ) (es fs : List (Entry A)) → IsPermutation es fs
+pub first-stable : {A : Type 0} (key : List ℕ) (es fs : List (TrieEntry A)) → IsPermutation es fs
     → IsStableBy stands_before es fs → entry_for 0 fs key ≡ entry_for 0 es key
 first-stable {A} key es fs moved stable =
     ⊎_elim {C = entry_for 0 fs key ≡ entry_for 0 es key}
     (λ (none : All (HasOther key) es).
     entry_for-none key fs (All-permutation (HasOther key) es fs moved none)
     ∙ sym (entry_for-none key es none))
-    (λ (found : (x : Entry A) × (bytes_eq x.key.items key ≡ true)).
+    (λ (found : (x : TrieEntry A) × (bytes_eq x.key.items key ≡ true)).
     let same : found.0.key.items ≡ key = search (rules, bytes_eq-Decides) in
     sym (first-ties key found.0 same fs) ∙ ap (λ l. entry_for 0 l key) (stable found.0)
     ∙ first-ties key found.0 same es)

@@ -10,7 +10,7 @@ use Rattle.std.proofs.Common.{Err, Ok}
 use Rattle.std.specs.Prelude.{is_ok}
 use Rattle.std.proofs.lemmas.List.{get_or-append_right}
 use Rattle.textwrap_trie.specs.Merging.{first_numbers, greatest}
-use Rattle.textwrap_trie.specs.declared.entries.Entry.{Entry}
+use Rattle.textwrap_trie.specs.declared.entries.TrieEntry.{TrieEntry}
 
 pub greatest-append : (ns ms : List ℕ) → greatest (ns ++ ms) ≡ max (greatest ns) (greatest ms)
 greatest-append [] ms = omega arith
@@ -30,10 +30,10 @@ greatest-more f xs i x within is =
     omega (arith, here, one, all)
 
 -- the first of some counts among them
-pub greatest-first : {A : Type 0} (group : List (Entry A)) (place : ℕ)
+pub greatest-first : {A : Type 0} (group : List (TrieEntry A)) (place : ℕ)
     → max (get_or (first_numbers group) place 0)
-    (greatest (map (λ (e : Entry A). get_or e.numbers.items place 0) group))
-    ≡ greatest (map (λ (e : Entry A). get_or e.numbers.items place 0) group)
+    (greatest (map (λ (e : TrieEntry A). get_or e.numbers.items place 0) group))
+    ≡ greatest (map (λ (e : TrieEntry A). get_or e.numbers.items place 0) group)
 greatest-first [] place = omega (arith, get_or_past {X = ℕ} [] place 0 (omega arith))
 greatest-first (e ∷ es) place = omega arith
 

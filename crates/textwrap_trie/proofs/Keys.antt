@@ -12,7 +12,7 @@ use Rattle.std.specs.Cmp.Lexicographic.{slice_cmp}
 use Rattle.std.specs.declared.cmp.Ordering.TheVariants.{Equal, Greater, Less}
 use Rattle.std.specs.Prelude.{bytes_eq}
 use Rattle.textwrap_trie.specs.Entries.{AreSortedFrom, entry_for, is_before, letter_at}
-use Rattle.textwrap_trie.specs.declared.entries.Entry.{Entry}
+use Rattle.textwrap_trie.specs.declared.entries.TrieEntry.{TrieEntry}
 
 -- nothing stands before a key that has ended
 before-some : (xs ys : List ℕ) → is_before xs ys ≡ true → 0 < length ys
@@ -21,8 +21,8 @@ before-some (x ∷ xs) [] before = absurd (false≢true before)
 before-some xs (y ∷ ys) before = omega arith
 
 -- so only the first key can end at the letter
-longer-behind : {A : Type 0} (depth : ℕ) (entries : List (Entry A)) → AreSortedFrom depth entries
-    → (k : ℕ) (d : Entry A) → 0 < k → k < length entries
+longer-behind : {A : Type 0} (depth : ℕ) (entries : List (TrieEntry A)) → AreSortedFrom depth entries
+    → (k : ℕ) (d : TrieEntry A) → 0 < k → k < length entries
     → depth < length (get_or entries k d).key.items
 longer-behind depth entries sorted k d behind within =
     let first = (get_or entries 0 d).key.items in
@@ -30,31 +30,31 @@ longer-behind depth entries sorted k d behind within =
     let some = before-some (drop depth first) (drop depth key) (sorted 0 k d behind within) in
     omega (arith, some, length-drop depth key)
 
-pub longer-after : {A : Type 0} (depth : ℕ) (entries : List (Entry A)) → AreSortedFrom depth entries
+pub longer-after : {A : Type 0} (depth : ℕ) (entries : List (TrieEntry A)) → AreSortedFrom depth entries
     → All (λ e. depth < length e.key.items) (drop 1 entries)
 longer-after depth entries sorted = λ k d within.
     rw get_or-drop (longer-behind depth entries sorted (1 + k) d (omega arith)
     (omega (arith, within, length-drop 1 entries)))
 
-pub longer-all : {A : Type 0} (depth : ℕ) (entries : List (Entry A)) (first : Entry A) → AreSortedFrom depth entries
+pub longer-all : {A : Type 0} (depth : ℕ) (entries : List (TrieEntry A)) (first : TrieEntry A) → AreSortedFrom depth entries
     → first ≡ get_or entries 0 first → depth < length first.key.items
     → All (λ e. depth < length e.key.items) entries
 longer-all {A} depth [] first sorted is long = λ k d within. absurd (omega (arith, within))
 longer-all {A} depth (e ∷ es) first sorted is long = λ k d within.
     by k d within (cases_lt 0 k)
   where
-    by : (k : ℕ) (d : Entry A) → k < length (e ∷ es) → (0 < k) ⊎ (k ≤ 0)
+    by : (k : ℕ) (d : TrieEntry A) → k < length (e ∷ es) → (0 < k) ⊎ (k ≤ 0)
         → depth < length (get_or (e ∷ es) k d).key.items
     by k d within (inl behind) = longer-behind depth (e ∷ es) sorted k d behind within
-    by zero d within (inr at) = subst (λ (f : Entry A). depth < length f.key.items) is long
+    by zero d within (inr at) = subst (λ (f : TrieEntry A). depth < length f.key.items) is long
     by (suc k) d within (inr at) = absurd (omega (arith, at))
 
 -- longer keys are not the one that ends at the letter
-pub entry_for-longer : {A : Type 0} (depth : ℕ) (entries : List (Entry A))
+pub entry_for-longer : {A : Type 0} (depth : ℕ) (entries : List (TrieEntry A))
     → All (λ e. depth < length e.key.items) entries → entry_for depth entries [] ≡ None
 entry_for-longer {A} depth [] longer = refl
 entry_for-longer {A} depth (e ∷ es) longer =
-    let long = λ (f : Entry A). depth < length f.key.items in
+    let long = λ (f : TrieEntry A). depth < length f.key.items in
     let here = All-head long e es longer in
     not_ended (drop depth e.key.items) (entry_for depth es []) (omega
     (arith, here, length-drop depth e.key.items))
@@ -67,11 +67,11 @@ entry_for-longer {A} depth (e ∷ es) longer =
 
 -- ---- keys that have ended, keys with one letter, and keys in two parts
 
-pub entry_for-all_ended : {A : Type 0} (depth : ℕ) (entries : List (Entry A)) (letter : ℕ) (key : List ℕ)
+pub entry_for-all_ended : {A : Type 0} (depth : ℕ) (entries : List (TrieEntry A)) (letter : ℕ) (key : List ℕ)
     → All (λ e. length e.key.items ≤ depth) entries → entry_for depth entries (letter ∷ key) ≡ None
 entry_for-all_ended {A} depth [] letter key ended = refl
 entry_for-all_ended {A} depth (e ∷ es) letter key ended =
-    let end = λ (f : Entry A). length f.key.items ≤ depth in
+    let end = λ (f : TrieEntry A). length f.key.items ≤ depth in
     rw (drop_all depth e.key.items (All-head end e es ended))
     (entry_for-all_ended depth es letter key (All-tail end e es ended))
 
@@ -80,7 +80,7 @@ abbrev pub first_of_two : Option (List ℕ) → Option (List ℕ) → Option (Li
 first_of_two None other = other
 first_of_two (Some numbers) other = Some numbers
 
-pub entry_for-append : {A : Type 0} (depth : ℕ) (xs ys : List (Entry A)) (key : List ℕ)
+pub entry_for-append : {A : Type 0} (depth : ℕ) (xs ys : List (TrieEntry A)) (key : List ℕ)
     → entry_for depth (xs ++ ys) key
     ≡ first_of_two (entry_for depth xs key) (entry_for depth ys key)
 entry_for-append depth [] ys key = refl
@@ -97,7 +97,7 @@ entry_for-append depth (e ∷ xs) ys key =
     by false next = next
 
 -- a key that goes on with a letter, compared with one that does
-compared : {A : Type 0} (depth letter other : ℕ) (e : Entry A) (key : List ℕ) (b : Bool)
+compared : {A : Type 0} (depth letter other : ℕ) (e : TrieEntry A) (key : List ℕ) (b : Bool)
     → depth < length e.key.items → letter_at depth e ≡ letter → eqb letter other ≡ b
     → bytes_eq (drop depth e.key.items) (other ∷ key)
     ≡ b && bytes_eq (drop (depth + 1) e.key.items) key
@@ -107,13 +107,13 @@ compared depth letter other e key b long here is =
     ∙ ap (λ (t : Bool). t && bytes_eq (drop (depth + 1) e.key.items) key) is
 
 -- keys with one letter at a place, looked up with that letter and with another one
-pub entry_for-group : {A : Type 0} (depth letter : ℕ) (group : List (Entry A)) (key : List ℕ)
+pub entry_for-group : {A : Type 0} (depth letter : ℕ) (group : List (TrieEntry A)) (key : List ℕ)
     → All (λ e. depth < length e.key.items) group → All (λ e. letter_at depth e ≡ letter) group
     → entry_for depth group (letter ∷ key) ≡ entry_for (depth + 1) group key
 entry_for-group {A} depth letter [] key longer same = refl
 entry_for-group {A} depth letter (e ∷ es) key longer same =
-    let long = λ (f : Entry A). depth < length f.key.items in
-    let one = λ (f : Entry A). letter_at depth f ≡ letter in
+    let long = λ (f : TrieEntry A). depth < length f.key.items in
+    let one = λ (f : TrieEntry A). letter_at depth f ≡ letter in
     let here = compared depth letter letter e key true (All-head long e es longer)
     (All-head one e es same) (eq-eqb letter letter refl) in
     let next = entry_for-group depth letter es key (All-tail long e es longer)
@@ -121,13 +121,13 @@ entry_for-group {A} depth letter (e ∷ es) key longer same =
     ap (λ b. cond b (Some e.numbers.items) (entry_for depth es (letter ∷ key))) here
     ∙ ap (λ o. cond (bytes_eq (drop (depth + 1) e.key.items) key) (Some e.numbers.items) o) next
 
-pub entry_for-other : {A : Type 0} (depth letter other : ℕ) (group : List (Entry A)) (key : List ℕ)
+pub entry_for-other : {A : Type 0} (depth letter other : ℕ) (group : List (TrieEntry A)) (key : List ℕ)
     → All (λ e. depth < length e.key.items) group → All (λ e. letter_at depth e ≡ letter) group
     → letter ≢ other → entry_for depth group (other ∷ key) ≡ None
 entry_for-other {A} depth letter other [] key longer same differs = refl
 entry_for-other {A} depth letter other (e ∷ es) key longer same differs =
-    let long = λ (f : Entry A). depth < length f.key.items in
-    let one = λ (f : Entry A). letter_at depth f ≡ letter in
+    let long = λ (f : TrieEntry A). depth < length f.key.items in
+    let one = λ (f : TrieEntry A). letter_at depth f ≡ letter in
     let here = compared depth letter other e key false (All-head long e es longer)
     (All-head one e es same) (ne_eqb letter other differs) in
     ap (λ b. cond b (Some e.numbers.items) (entry_for depth es (other ∷ key))) here
@@ -136,14 +136,14 @@ entry_for-other {A} depth letter other (e ∷ es) key longer same differs =
 
 -- ---- the order of a part
 
-pub sorted-right : {A : Type 0} (depth : ℕ) (done left : List (Entry A)) → AreSortedFrom depth (done ++ left)
+pub sorted-right : {A : Type 0} (depth : ℕ) (done left : List (TrieEntry A)) → AreSortedFrom depth (done ++ left)
     → AreSortedFrom depth left
 sorted-right depth done left sorted = λ i j d lt within.
     rw (sym (get_or-append-add done left i d), sym (get_or-append-add done left j d))
     (sorted (length done + i) (length done + j) d (omega arith)
     (omega (arith, within, length-append done left)))
 
-pub sorted-take : {A : Type 0} (depth n : ℕ) (entries : List (Entry A)) → AreSortedFrom depth entries
+pub sorted-take : {A : Type 0} (depth n : ℕ) (entries : List (TrieEntry A)) → AreSortedFrom depth entries
     → AreSortedFrom depth (take n entries)
 sorted-take depth n entries sorted = λ i j d lt within.
     let here : j < n = omega (arith, length-take n entries) in
@@ -155,7 +155,7 @@ cmp-same : (x : ℕ) → nat_cmp x x ≡ Equal
 cmp-same x = grind (arith, nat_tests)
 
 -- keys with one letter at a place are in the order of what follows it
-pub sorted-group : {A : Type 0} (depth letter : ℕ) (group : List (Entry A)) → AreSortedFrom depth group
+pub sorted-group : {A : Type 0} (depth letter : ℕ) (group : List (TrieEntry A)) → AreSortedFrom depth group
     → All (λ e. depth < length e.key.items) group → All (λ e. letter_at depth e ≡ letter) group
     → AreSortedFrom (depth + 1) group
 sorted-group {A} depth letter group sorted longer same = λ i j d lt within.
@@ -167,7 +167,7 @@ sorted-group {A} depth letter group sorted longer same = λ i j d lt within.
     (drop (depth + 1) (get_or group j d).key.items)))) (sym (cmp-same letter))
     ∙ ap₂ is_before (sym at) (sym behind) ∙ sorted i j d lt within
   where
-    split : (k : ℕ) (d : Entry A) → k < length group → drop depth (get_or group k d).key.items
+    split : (k : ℕ) (d : TrieEntry A) → k < length group → drop depth (get_or group k d).key.items
         ≡ letter ∷ drop (depth + 1) (get_or group k d).key.items
     split k d within =
         drop_more (get_or group k d).key.items depth 0 (longer k d within)
@@ -184,7 +184,7 @@ letter-up x y xs ys before = by (ltb x y) (eqb x y) refl refl before
     by false true lt same order = let h = eqb-true x y same in omega (arith, h)
     by false false lt same order = absurd (false≢true order)
 
-pub letters-rise : {A : Type 0} (depth : ℕ) (left : List (Entry A)) (j : ℕ) (d : Entry A) → AreSortedFrom depth left
+pub letters-rise : {A : Type 0} (depth : ℕ) (left : List (TrieEntry A)) (j : ℕ) (d : TrieEntry A) → AreSortedFrom depth left
     → All (λ e. depth < length e.key.items) left → 0 < j → j < length left
     → letter_at depth (get_or left 0 d) ≤ letter_at depth (get_or left j d)
 letters-rise depth left j d sorted longer behind within =

@@ -9,7 +9,7 @@ use Rattle.textwrap_trie.proofs.FirstEntries.{entry_for-none, others-behind}
 use Rattle.textwrap_trie.specs.Entries.{AreSortedFrom, entry_for}
 use Rattle.textwrap_trie.specs.Merging.{greatest_number}
 use Rattle.textwrap_trie.specs.Trie.{child_of, level_from, numbers_for}
-use Rattle.textwrap_trie.specs.declared.entries.Entry.{Entry}
+use Rattle.textwrap_trie.specs.declared.entries.TrieEntry.{TrieEntry}
 
 -- a number of some numbers, or 0 of none
 abbrev pub number_of : Option (List ℕ) → ℕ → ℕ
@@ -112,7 +112,7 @@ of-one_more (c ∷ cs) (k ∷ key) numbers place given none =
     (of-one_more cs key numbers place) (eqb k c) refl in
     omega (arith, next)
 
-pub of-entries : {A : Type 0} (text : List ℕ) (place : ℕ) (es : List (Entry A)) → AreSortedFrom 0 es
+pub of-entries : {A : Type 0} (text : List ℕ) (place : ℕ) (es : List (TrieEntry A)) → AreSortedFrom 0 es
     → greatest_of text (entry_for 0 es) place ≡ greatest_number es text place
 of-entries text place [] sorted = of-none text place
 of-entries text place (e ∷ es) sorted =
@@ -122,7 +122,7 @@ of-entries text place (e ∷ es) sorted =
     (omega (arith, below)) (omega (arith, within))) in
     omega (arith, more, rest)
 
-pub levels-entries : {A : Type 0} (text words : List ℕ) (root place : ℕ) (es : List (Entry A))
+pub levels-entries : {A : Type 0} (text words : List ℕ) (root place : ℕ) (es : List (TrieEntry A))
     → AreSortedFrom 0 es
     → ((key : List ℕ) → numbers_for key words root ≡ entry_for 0 es key)
     → level_from text words root place ≡ greatest_number es text place

@@ -14,7 +14,7 @@ use Rattle.textwrap_trie.proofs.Keys.{sorted-right, sorted-take}
 use Rattle.textwrap_trie.specs.Entries.{AreSortedFrom, entry_for, IsGroupOf, letter_at}
 use Rattle.textwrap_trie.specs.Trie.{list_at, numbers_for}
 use Rattle.textwrap_trie.specs.Writing.{child_for, HaveRisingLetters, IsList, IsNodeOf, IsTrie}
-use Rattle.textwrap_trie.specs.declared.entries.Entry.{Entry}
+use Rattle.textwrap_trie.specs.declared.entries.TrieEntry.{TrieEntry}
 use Rattle.textwrap_trie.specs.declared.writing.Child.{Child}
 
 -- the numbers of a key below a node, where 0 stands for none
@@ -23,9 +23,9 @@ numbers_below key words node = cond (eqb node 0) None (numbers_for key words nod
 
 -- the entries but those that are left are written, and the letters of the children are below those
 -- that are left
-pub record HasWritten {A : Type 0} (depth numbers : ℕ) (entries left : List (Entry A)) (children : List Child)
+pub record HasWritten {A : Type 0} (depth numbers : ℕ) (entries left : List (TrieEntry A)) (children : List Child)
     (old new : List ℕ) : Type 0 where
-  pub done : List (Entry A)
+  pub done : List (TrieEntry A)
   pub split : entries ≡ done ++ left
   pub longer : All (λ e. depth < length e.key.items) left
   pub added : List ℕ
@@ -34,7 +34,7 @@ pub record HasWritten {A : Type 0} (depth numbers : ℕ) (entries left : List (E
   pub below : (more : List ℕ) (letter : ℕ) (key : List ℕ)
       → numbers_below key (new ++ more) (child_for children letter)
       ≡ entry_for depth done (letter ∷ key)
-  pub fresh : (d : Entry A) → 0 < length left
+  pub fresh : (d : TrieEntry A) → 0 < length left
       → All (λ child. child.letter < letter_at depth (get_or left 0 d)) children
   pub rising : HaveRisingLetters children
 
@@ -61,7 +61,7 @@ child_for-other (child ∷ children) last letter differs =
 
 -- ---- the beginning
 
-pub written-start : {A : Type 0} (depth numbers ended : ℕ) (entries : List (Entry A)) (old new : List ℕ)
+pub written-start : {A : Type 0} (depth numbers ended : ℕ) (entries : List (TrieEntry A)) (old new : List ℕ)
     → IsList (entry_for depth entries []) old new numbers
     → All (λ e. length e.key.items ≤ depth) (take ended entries)
     → All (λ e. depth < length e.key.items) (drop ended entries)
@@ -84,8 +84,8 @@ first-alone : (first other : Option (List ℕ)) → other ≡ None → first_of_
 first-alone None other none = none
 first-alone (Some numbers) other none = refl
 
-module _ {A : Type 0} (depth numbers len letter : ℕ) (entries left : List (Entry A)) (children : List Child)
-    (old new : List ℕ) (entry : Entry A) (sorted : AreSortedFrom depth entries)
+module _ {A : Type 0} (depth numbers len letter : ℕ) (entries left : List (TrieEntry A)) (children : List Child)
+    (old new : List ℕ) (entry : TrieEntry A) (sorted : AreSortedFrom depth entries)
     (group : IsGroupOf depth left len)
     (so_far : HasWritten depth numbers entries left children old new)
     (first : letter ≡ letter_at depth (get_or left 0 entry)) where
@@ -117,7 +117,7 @@ module _ {A : Type 0} (depth numbers len letter : ℕ) (entries left : List (Ent
       ap (numbers_below key (new ++ [])) (sym (child_for-none children letter other-letters))
       ∙ so_far.below [] letter key
 
-  letter-above : (d : Entry A) → 0 < length (drop len left)
+  letter-above : (d : TrieEntry A) → 0 < length (drop len left)
       → letter < letter_at depth (get_or (drop len left) 0 d)
   letter-above d some =
       let within : len < length left = omega (arith, some, length-drop len left) in
@@ -192,7 +192,7 @@ module _ {A : Type 0} (depth numbers len letter : ℕ) (entries left : List (Ent
 -- ---- what is left
 
 -- the letter that is read is that of the first entry
-pub letter-first : {A : Type 0} (depth letter : ℕ) (left : List (Entry A)) (entry : Entry A) (key : List ℕ)
+pub letter-first : {A : Type 0} (depth letter : ℕ) (left : List (TrieEntry A)) (entry : TrieEntry A) (key : List ℕ)
     → 0 < length left → All (λ e. depth < length e.key.items) left
     → key ≡ (get_or left 0 entry).key.items → letter ≡ get_or key depth letter
     → letter ≡ letter_at depth (get_or left 0 entry)
@@ -202,8 +202,8 @@ letter-first depth letter left entry key some longer of read =
     ∙ get_or_default first depth letter 0 (longer 0 entry some)
 
 -- the entries that are left are no longer than all are, and have letters there
-pub left-height : {A : Type 0} (depth numbers height : ℕ) (entries left : List (Entry A)) (children : List Child)
-    (old new : List ℕ) (entry : Entry A) → 0 < length left
+pub left-height : {A : Type 0} (depth numbers height : ℕ) (entries left : List (TrieEntry A)) (children : List Child)
+    (old new : List ℕ) (entry : TrieEntry A) → 0 < length left
     → All (λ e. length e.key.items ≤ depth + height) entries
     → HasWritten depth numbers entries left children old new
     → (0 < height) × All (λ e. length e.key.items ≤ (depth + 1) + (height - 1)) left
@@ -215,7 +215,7 @@ left-height depth numbers height entries left children old new entry some within
     let first = short 0 entry some in omega (arith, long, first) in
     (high, λ k d inside. let here = short k d inside in omega (arith, here, high))
 
-pub length-grown : {A : Type 0} (depth numbers : ℕ) (entries left : List (Entry A)) (children : List Child)
+pub length-grown : {A : Type 0} (depth numbers : ℕ) (entries left : List (TrieEntry A)) (children : List Child)
     (old new : List ℕ) → HasWritten depth numbers entries left children old new → 0 < length old
     → 0 < length new
 length-grown depth numbers entries left children old new so_far some =
@@ -223,7 +223,7 @@ length-grown depth numbers entries left children old new so_far some =
 
 -- ---- the end
 
-pub written-end : {A : Type 0} (depth numbers node : ℕ) (entries : List (Entry A)) (children : List Child)
+pub written-end : {A : Type 0} (depth numbers node : ℕ) (entries : List (TrieEntry A)) (children : List Child)
     (old new next : List ℕ) → 0 < length old
     → HasWritten depth numbers entries [] children old new
     → IsNodeOf numbers children new next node → IsTrie depth entries old next node

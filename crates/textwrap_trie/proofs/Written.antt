@@ -14,7 +14,7 @@ use Rattle.textwrap_trie.specs.Entries.{entry_for}
 use Rattle.textwrap_trie.specs.Trie.{behind_letter, number_from, numbers_at}
 use Rattle.textwrap_trie.specs.Writing.{child_for, HasWindow, HaveRisingLetters, IsList, IsNodeOf}
 use Rattle.textwrap_trie.specs.Writing.{letters_and_nodes}
-use Rattle.textwrap_trie.specs.declared.entries.Entry.{Entry}
+use Rattle.textwrap_trie.specs.declared.entries.TrieEntry.{TrieEntry}
 use Rattle.textwrap_trie.specs.declared.writing.Child.{Child}
 
 -- a list that is written where it does not stand first is found there
@@ -32,13 +32,13 @@ pub list-none : (old : List ℕ) → IsList None old old 0
 list-none old = record { added = []; grown = sym (append-nil old); list = λ more. refl }
 
 -- the key that ends at the letter is that of the first entry
-pub entry_for-ended : {A : Type 0} (depth : ℕ) (entries : List (Entry A)) (first : Entry A) → 0 < length entries
+pub entry_for-ended : {A : Type 0} (depth : ℕ) (entries : List (TrieEntry A)) (first : TrieEntry A) → 0 < length entries
     → first ≡ get_or entries 0 first → length first.key.items ≤ depth
     → entry_for depth entries [] ≡ Some first.numbers.items
 entry_for-ended {A} depth [] first some is ended = absurd (omega (arith, some))
 entry_for-ended {A} depth (e ∷ es) first some is ended =
-    let ends = subst (λ (f : Entry A). length f.key.items ≤ depth) is ended in
-    rw (drop_all depth e.key.items ends) (ap (λ (f : Entry A). Some f.numbers.items) (sym is))
+    let ends = subst (λ (f : TrieEntry A). length f.key.items ≤ depth) is ended in
+    rw (drop_all depth e.key.items ends) (ap (λ (f : TrieEntry A). Some f.numbers.items) (sym is))
 
 -- ---- a node
 

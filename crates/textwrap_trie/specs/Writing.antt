@@ -4,7 +4,7 @@ use Rattle.std.specs.Prelude.{◌≡◌, ℕ, ◌+◌, ◌<◌, ◌==◌, List, 
 use Rattle.std.specs.Prelude.{length, map, slice_index}
 use Rattle.textwrap_trie.specs.Entries.{entry_for}
 use Rattle.textwrap_trie.specs.Trie.{child_of, list_at, numbers_for}
-use Rattle.textwrap_trie.specs.declared.entries.Entry.{Entry}
+use Rattle.textwrap_trie.specs.declared.entries.TrieEntry.{TrieEntry}
 use Rattle.textwrap_trie.specs.declared.writing.Child.{Child}
 
 -- the node of the first child with a letter, or 0
@@ -45,7 +45,8 @@ pub record IsNodeOf (numbers : ℕ) (children : List Child) (old new : List ℕ)
       → child_of (new ++ more) node letter ≡ child_for children letter
 
 -- a node stands at a place below which the keys are those of entries, from a letter on
-pub record IsTrie {A : Type 0} (depth : ℕ) (entries : List (Entry A)) (old new : List ℕ) (root : ℕ) : Type 0 where
+pub record IsTrie {A : Type 0} (depth : ℕ) (entries : List (TrieEntry A)) (old new : List ℕ)
+    (root : ℕ) : Type 0 where
   pub added : List ℕ
   pub grown : new ≡ old ++ added
   pub place : 0 < root

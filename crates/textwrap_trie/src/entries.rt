@@ -6,13 +6,13 @@ use std::alloc::{Allocator, Global};
 
 /// A key, and its numbers.
 #[derive(Debug, Drop)]
-pub struct Entry<A: Allocator = Global> {
+pub struct TrieEntry<A: Allocator = Global> {
     pub key: Vec<char, A>,
     pub numbers: Vec<usize, A>,
 }
 
 /// How many of the first entries, 0 or 1, have no letter at a place.
-pub(crate) fn ended_len<A: Allocator>(entries: &[Entry<A>], depth: usize) -> usize
+pub(crate) fn ended_len<A: Allocator>(entries: &[TrieEntry<A>], depth: usize) -> usize
     requires { AreSortedFrom depth entries.now }
     ensures within { result ≤ length entries.now }
     ensures ended { All (λ e. length e.key.items ≤ depth) (take result entries.now) }
@@ -25,7 +25,7 @@ pub(crate) fn ended_len<A: Allocator>(entries: &[Entry<A>], depth: usize) -> usi
 }
 
 /// How many of the first entries have the same letter at a place.
-pub(crate) fn group_len<A: Allocator>(entries: &[Entry<A>], depth: usize) -> usize
+pub(crate) fn group_len<A: Allocator>(entries: &[TrieEntry<A>], depth: usize) -> usize
     requires some { 0 < length entries.now }
     requires longer { All (λ e. depth < length e.key.items) entries.now }
     ensures { IsGroupOf depth entries.now result }

@@ -7,7 +7,7 @@ ghost use Rattle.textwrap_trie.specs.Merging.{greatest, greatest_number};
 ghost use Rattle.textwrap_trie.specs.Trie.{level_from, numbers_for};
 ghost use Rattle.textwrap_trie.specs.declared.merging.Rule.TheVariants.{First, Greatest};
 
-use crate::entries::Entry;
+use crate::entries::TrieEntry;
 use crate::numbers::raise;
 use crate::writing::push_trie;
 use std::alloc::{AllocError, Allocator};
@@ -29,7 +29,7 @@ pub enum Rule {
 pub fn push_entries<A: Allocator + Copy>(
     alloc: A,
     words: &mut Vec<usize, A>,
-    entries: Vec<Entry<A>, A>,
+    entries: Vec<TrieEntry<A>, A>,
     rule: Rule,
 ) -> Result<usize, AllocError>
     requires { 0 < length words.old.items }
@@ -52,9 +52,9 @@ pub fn push_entries<A: Allocator + Copy>(
 /// [`AllocError`] where memory runs out.
 fn merged<A: Allocator + Copy>(
     alloc: A,
-    entries: &[Entry<A>],
+    entries: &[TrieEntry<A>],
     rule: Rule,
-) -> Result<Vec<Entry<A>, A>, AllocError>
+) -> Result<Vec<TrieEntry<A>, A>, AllocError>
     requires { AreInOrder entries.now }
     ensures sorted { IfOk result (λ merged. AreSortedFrom 0 merged.items) }
     ensures first { rule ≡ First → IfOk result (λ merged. (key : List ℕ)
@@ -73,12 +73,12 @@ fn merged<A: Allocator + Copy>(
 }
 
 /// How many of the first entries have the key of the first one.
-fn same_len<A: Allocator>(entries: &[Entry<A>]) -> usize
+fn same_len<A: Allocator>(entries: &[TrieEntry<A>]) -> usize
     requires { 0 < length entries.now }
     ensures some { 0 < result }
     ensures within { result ≤ length entries.now }
     ensures same { All (λ e. e.key.items ≡ first_key entries.now) (take result entries.now) }
-    ensures next { (d : Entry A) → result < length entries.now
+    ensures next { (d : TrieEntry A) → result < length entries.now
         → (slice_index_or entries.now result d).key.items ≢ first_key entries.now }
 {
     let key = entries[0].key.as_slice();
@@ -96,9 +96,9 @@ fn same_len<A: Allocator>(entries: &[Entry<A>]) -> usize
 /// [`AllocError`] where memory runs out.
 fn merged_group<A: Allocator + Copy>(
     alloc: A,
-    group: &[Entry<A>],
+    group: &[TrieEntry<A>],
     rule: Rule,
-) -> Result<Entry<A>, AllocError>
+) -> Result<TrieEntry<A>, AllocError>
     requires { 0 < length group.now }
     ensures key { IfOk result (λ e. e.key.items ≡ first_key group.now) }
     ensures first { rule ≡ First → IfOk result (λ e. e.numbers.items ≡ first_numbers group.now) }
@@ -115,7 +115,7 @@ fn merged_group<A: Allocator + Copy>(
             raise_and_append(&mut numbers, &entry.numbers)?;
         }
     }
-    Ok(Entry { key, numbers })
+    Ok(TrieEntry { key, numbers })
 }
 
 /// Raises each number to the other at its place, and appends those behind.
@@ -135,7 +135,7 @@ fn raise_and_append<A: Allocator>(
 }
 
 /// How many letters the longest key has.
-fn longest_key<A: Allocator>(entries: &[Entry<A>]) -> usize
+fn longest_key<A: Allocator>(entries: &[TrieEntry<A>]) -> usize
     ensures { All (λ e. length e.key.items ≤ result) entries.now }
 {
     entries

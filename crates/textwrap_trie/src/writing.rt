@@ -5,7 +5,7 @@ ghost use Rattle.textwrap_trie.specs.Entries.{AreSortedFrom, entry_for};
 ghost use Rattle.textwrap_trie.specs.Writing.{HaveRisingLetters, IsList, IsNodeOf, IsTrie};
 ghost use Rattle.textwrap_trie.specs.Writing.{HasWindow, child_for, letters_and_nodes};
 
-use crate::entries::{Entry, ended_len, group_len};
+use crate::entries::{TrieEntry, ended_len, group_len};
 use std::alloc::{AllocError, Allocator};
 
 /// From so many children on a node has a window.
@@ -29,7 +29,7 @@ pub(crate) struct Child {
 pub fn push_trie<A: Allocator + Copy>(
     alloc: A,
     words: &mut Vec<usize, A>,
-    entries: &[Entry<A>],
+    entries: &[TrieEntry<A>],
     depth: usize,
     height: usize,
 ) -> Result<usize, AllocError>
@@ -56,7 +56,7 @@ pub fn push_trie<A: Allocator + Copy>(
 /// where there is none.
 fn push_numbers_of<A: Allocator>(
     words: &mut Vec<usize, A>,
-    entries: &[Entry<A>],
+    entries: &[TrieEntry<A>],
     depth: usize,
 ) -> Result<usize, AllocError>
     requires some { 0 < length words.old.items }

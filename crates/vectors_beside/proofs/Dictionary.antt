@@ -3,11 +3,13 @@ use Rattle.std.proofs.{Common.IsCharBoundary, Math.Seq.drop-append_seam, Math.Se
 use Rattle.std.proofs.lemmas.List.Elements.{All-head, All-map, All-tail}
 use Rattle.textwrap_text.proofs.Units.Chunks.{AreChunks-chunks, chunks-utf8}
 use Rattle.vectors_beside.proofs.Common.{IsCharBoundary-start, IsDivision-whole, get_or_append_left}
-use Rattle.vectors_beside.proofs.Common.{Entry, HaveRightPoints, some_from_nonempty, tile_of-word_of}
+use Rattle.vectors_beside.proofs.Common.{DictionaryEntry, HaveRightPoints, some_from_nonempty}
+use Rattle.vectors_beside.proofs.Common.{tile_of-word_of}
 use Rattle.vectors_beside.proofs.Common.{AreInnerCuts, length-append, lines_between, tiled-words_of}
 use Rattle.vectors_beside.proofs.Common.{AreLaterCuts, List, append_assoc, begins_from, later_begins}
 use Rattle.vectors_beside.proofs.Common.{IsDivision, WordText, get_or-drop, length-drop, slice_range}
-use Rattle.vectors_beside.proofs.Common.{IsNextEnd, [], drop-drop, lines_from, points_for, points_in}
+use Rattle.vectors_beside.proofs.Common.{IsNextEnd, [], drop-drop, lines_from, points_for}
+use Rattle.vectors_beside.proofs.Common.{points_of_words}
 use Rattle.vectors_beside.proofs.Common.{AreEnds, AreNext, IsUtf8, arith, tile_of, word_of, words_of}
 use Rattle.vectors_beside.proofs.Common.{chunks, drop, flat, get_or, length, refl, tiled, ◌++◌}
 use Rattle.vectors_beside.proofs.Common.{All, ap, map, sym, ℕ, ◌+◌, ◌-◌, ◌<◌, ◌∙◌, ◌∷◌, ◌≡◌, ◌≤◌}
@@ -119,18 +121,18 @@ cuts-shifted text part rest at stands within (cut ∷ cuts) more last low below 
           (omega (arith, before)) others after,
     )
 
-module _ (dictionary : List Entry) where
+module _ (dictionary : List DictionaryEntry) where
   abbrev pub HasRightPoints : WordText → Type 0
   HasRightPoints w = AreInnerCuts w.word (points_for dictionary w.word)
 
   -- the points of words that a text goes on with are cuts of it, one after another
   points-next : (text : List ℕ) (words : List WordText) (at : ℕ) → at ≤ length text
       → drop at text ≡ tiled words → HaveRightPoints dictionary words
-      → AreLaterCuts at text (points_in dictionary at words)
+      → AreLaterCuts at text (points_of_words dictionary at words)
   points-next text [] at within stands right = tt
   points-next text (w ∷ words) at within stands right =
       let tile = tile_of w in
-      let more = points_in dictionary (at + length tile) words in
+      let more = points_of_words dictionary (at + length tile) words in
       let fits = part-fits text tile (tiled words) at stands within in
       cuts-shifted text w.word (w.whitespace ++ tiled words) at
       (stands ∙ append_assoc w.word w.whitespace (tiled words)) within
@@ -143,21 +145,21 @@ module _ (dictionary : List Entry) where
 
   -- the points of the words of a paragraph are places where it may be cut
   pub points-are : (paragraph : List ℕ) → HaveRightPoints dictionary (words_of paragraph)
-      → AreInnerCuts paragraph (points_in dictionary 0 (words_of paragraph))
+      → AreInnerCuts paragraph (points_of_words dictionary 0 (words_of paragraph))
   points-are paragraph right =
       points-next paragraph (words_of paragraph) 0 (omega arith) (sym (tiled-words_of paragraph)) right
 
   -- the points so far, with those of the word that comes next
   pub points-step : (w : WordText) (words left : List WordText) (start : ℕ)
       (points more inner all : List ℕ) → words ≡ w ∷ left
-      → points ++ points_in dictionary start words ≡ all
+      → points ++ points_of_words dictionary start words ≡ all
       → inner ≡ points_for dictionary w.word
       → more ≡ points ++ map (λ point. start + point) inner
-      → more ++ points_in dictionary (start + (length w.word + length w.whitespace)) left ≡ all
+      → more ++ points_of_words dictionary (start + (length w.word + length w.whitespace)) left ≡ all
   points-step w words left start points more inner all is so_far inner_is more_is =
       let next = start + (length w.word + length w.whitespace) in
       let size = length-append w.word w.whitespace in
-      let parts = append_assoc points (map (λ p. start + p) inner) (points_in dictionary next left) in
+      let parts = append_assoc points (map (λ p. start + p) inner) (points_of_words dictionary next left) in
       cc (rw is at so_far)
 
 -- ---- where lines end that a list was divided into

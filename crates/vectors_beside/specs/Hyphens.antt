@@ -5,25 +5,25 @@ use Rattle.textwrap.specs.Cuts.{AreInnerCuts}
 use Rattle.textwrap.specs.Options.{settings_at}
 use Rattle.textwrap.specs.Words.{WordText, tile_of, words_of}
 use Rattle.textwrap_lines.specs.Steps.{pieces_at}
-use Rattle.vectors_beside.specs.declared.uses.hyphens.Entry.{Entry}
+use Rattle.vectors_beside.specs.declared.uses.hyphens.DictionaryEntry.{DictionaryEntry}
 
 -- the points of the first entry with this text, or none
-abbrev pub points_for : List Entry → List ℕ → List ℕ
+abbrev pub points_for : List DictionaryEntry → List ℕ → List ℕ
 points_for [] word = []
 points_for (entry ∷ entries) word =
     if bytes_eq entry.word.now word then entry.points.now else points_for entries word
 
 -- each word can be split at its points, into parts that are not empty
-abbrev pub HaveRightPoints : List Entry → List WordText → Type 0
+abbrev pub HaveRightPoints : List DictionaryEntry → List WordText → Type 0
 HaveRightPoints dictionary words =
     All (λ w. AreInnerCuts w.word (points_for dictionary w.word)) words
 
 -- the points of words that stand one after another from `start` on
-abbrev pub points_in : List Entry → ℕ → List WordText → List ℕ
-points_in dictionary start [] = []
-points_in dictionary start (w ∷ words) =
+abbrev pub points_of_words : List DictionaryEntry → ℕ → List WordText → List ℕ
+points_of_words dictionary start [] = []
+points_of_words dictionary start (w ∷ words) =
     map (λ point. start + point) (points_for dictionary w.word)
-    ++ points_in dictionary (start + length (tile_of w)) words
+    ++ points_of_words dictionary (start + length (tile_of w)) words
 
 -- where words begin that stand one after another from `start` on
 abbrev pub begins_from : ℕ → List WordText → List ℕ
@@ -37,7 +37,7 @@ later_begins (w ∷ words) = begins_from (length (tile_of w)) words
 
 -- the pieces of a paragraph: its words between blanks, split at their points, and broken where they
 -- are wider than a line
-abbrev pub hyphenated_pieces : List Entry → ℕ → List ℕ → List WordText
+abbrev pub hyphenated_pieces : List DictionaryEntry → ℕ → List ℕ → List WordText
 hyphenated_pieces dictionary width paragraph =
     let words = words_of paragraph in
-    pieces_at (settings_at width) (later_begins words) (points_in dictionary 0 words) paragraph
+    pieces_at (settings_at width) (later_begins words) (points_of_words dictionary 0 words) paragraph

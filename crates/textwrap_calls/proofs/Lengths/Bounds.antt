@@ -6,9 +6,9 @@ use Rattle.textwrap_lines.proofs.Paragraph.KeepsTo.{HasNoHyphen}
 use Rattle.textwrap_calls.specs.Columns.{AreRows}
 use Rattle.textwrap_calls.proofs.Common.{TextwrapOptions, Bool}
 use Rattle.textwrap_calls.proofs.Common.{flat_map-append}
-use Rattle.textwrap_calls.proofs.Common.{length-append, algorithm_of, ending_bytes}
+use Rattle.textwrap_calls.proofs.Common.{length-append, options_algorithm, ending_bytes}
 use Rattle.textwrap_calls.proofs.Common.{separator_of, IsInColumns, arith}
-use Rattle.textwrap_calls.proofs.Common.{settings_of, splitter_of, built_text, All-head}
+use Rattle.textwrap_calls.proofs.Common.{options_settings, options_splitter, built_text, All-head}
 use Rattle.textwrap_calls.proofs.Common.{length-map, line_bytes, table_rows, LineParts}
 use Rattle.textwrap_calls.proofs.Common.{join_with, line_from, nat_tests, All}
 use Rattle.textwrap_calls.proofs.Common.{All-tail, IsFilled, Settings, cases_lt, flat_map}
@@ -111,11 +111,11 @@ pub lines-bounded : (o : TextwrapOptions) (settings : Settings) (len : ℕ) (tex
     (lines : List Line) → IsUtf8 text → length text ≡ len
     → AreTextLines settings (Divides o settings) text lines → AreBounded settings len lines
 lines-bounded o settings len text lines utf8 len_is are =
-    let all = IsWrapped-at (separator_of o) {algorithm = algorithm_of o} {splitter = splitter_of o}
+    let all = IsWrapped-at (separator_of o) {algorithm = options_algorithm o} {splitter = options_splitter o}
     utf8 are in
     let groups = all.are.groups in
-    let size = text-size (words_by (separator_of o)) (words_by-cut (separator_of o)) (splitter_of o)
-    (algorithm_of o) settings text groups utf8 all.are.defined (all.tile (λ e. cc)) in
+    let size = text-size (words_by (separator_of o)) (words_by-cut (separator_of o)) (options_splitter o)
+    (options_algorithm o) settings text groups utf8 all.are.defined (all.tile (λ e. cc)) in
     subst (AreBounded settings len) (sym all.are.given)
     (parts-bounded settings len (flat groups) all.adds.indents (all.adds.no_hyphen (λ e. cc))
     (omega (arith, size.0, len_is)) (omega (arith, size.1, len_is)))
@@ -267,11 +267,11 @@ built-rows rows = flat_map-map built_bytes Built rows
 
 module _ (o : TextwrapOptions) (gaps : TextwrapGaps) (columns : ℕ) (some : 1 ≤ columns)
     (len : ℕ) (text : List ℕ) (utf8 : IsUtf8 text) (len_is : length text ≡ len)
-    (lines : List Line) (are : AreRows (IsInColumns (settings_of o)
+    (lines : List Line) (are : AreRows (IsInColumns (options_settings o)
     (Divides o) columns text gaps.left.now gaps.middle.now
     gaps.right.now) lines) where
   abbrev narrow : Settings
-  narrow = at_column_width (settings_of o) columns gaps.left.now gaps.middle.now gaps.right.now
+  narrow = at_column_width (options_settings o) columns gaps.left.now gaps.middle.now gaps.right.now
 
   pub rows-within : length lines ≤ rows_bound len columns
   rows-within =

@@ -10,7 +10,7 @@ ghost use Rattle.textwrap_more_calls.specs.Hyphenated.{IsInColumnsByDictionary};
 ghost use Rattle.textwrap_more_calls.specs.Status.{damaged_table};
 ghost use Rattle.textwrap_plain.specs.HyphenatedPlain.{DividesPlainlyAt};
 ghost use Rattle.textwrap_hyphens.specs.Table.{held};
-ghost use Rattle.textwrap_plain.specs.Options.{settings_of};
+ghost use Rattle.textwrap_plain.specs.Options.{plain_settings};
 
 use crate::hyphens::dictionary::{TextwrapDictionary, read_dictionary};
 use crate::hyphens::options::read_known;
@@ -89,7 +89,7 @@ fn place_columns(
 ) -> Result<PlacedLines<Global>, WrapError>
     requires { 1 ≤ columns }
     ensures { IfOk result (λ placed. (rows : List (List ℕ))
-        × IsInColumns (settings_of options.now)
+        × IsInColumns (plain_settings options.now)
         (DividesPlainlyAt (held table.now) options.now) columns text.now
         gaps.now.left.now gaps.now.middle.now gaps.now.right.now rows
         × ArePlacedRows rows placed.places.items placed.built.items) }

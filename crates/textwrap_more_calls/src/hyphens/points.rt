@@ -5,7 +5,7 @@ ghost use Rattle.textwrap_calls.specs.Status.{not_utf8, unknown_options};
 ghost use Rattle.textwrap_more_calls.specs.Dictionaries.{IsDamaged, IsKnownDictionary};
 ghost use Rattle.textwrap_more_calls.specs.Dictionaries.{hyphenation_of};
 ghost use Rattle.textwrap_more_calls.specs.Status.{damaged_table};
-ghost use Rattle.textwrap_hyphens.specs.Points.{points_of};
+ghost use Rattle.textwrap_hyphens.specs.Points.{hyphenation_points};
 
 use crate::hyphens::dictionary::{TextwrapDictionary, is_known, read_dictionary};
 use crate::hyphens::status::DAMAGED_TABLE;
@@ -26,7 +26,8 @@ pub fn textwrap_hyphen_points(
     points: &mut [usize],
     count: &mut usize,
 ) -> u32
-    ensures points { WritesText (λ answer. answer ≡ points_of (hyphenation_of dictionary.now) word.now)
+    ensures points { WritesText (λ answer. answer ≡ hyphenation_points
+        (hyphenation_of dictionary.now) word.now)
         result points.old points.new count.old count.new }
     ensures unknown { result ≡ unknown_options ↔ ¬ IsKnownDictionary dictionary.now }
     ensures not_utf8 { result ≡ not_utf8 ↔ IsKnownDictionary dictionary.now × ¬ IsUtf8 word.now }

@@ -1,6 +1,6 @@
 -- The widest of words one after another, and at which widths all have room.
 use Rattle.textwrap_plain.specs.Balance.{HasRoom, whole_pieces, wider_indent}
-use Rattle.textwrap_plain.specs.Widest.{widest, widest_place}
+use Rattle.textwrap_plain.specs.Widest.{widest_of_words, widest_place}
 use Rattle.textwrap_text.proofs.Common.{All, All-cons, All-head, All-nil, All-tail, List, ap, arith}
 use Rattle.textwrap_text.proofs.Common.{length, max, refl, [], ◌++◌, ◌+◌, ◌∷◌, ◌≡◌, ◌≤◌, ℕ}
 use Rattle.textwrap_base.proofs.Common.{closed_width}
@@ -9,18 +9,18 @@ use Rattle.textwrap_words.proofs.Common.{Splitter, WordText, sizes_of}
 use Rattle.textwrap_words.proofs.Word.Words.{HasNoPenalty}
 use Rattle.textwrap_words.specs.Pieces.{stand_from}
 
-widest-append : (ws vs : List WordText) → widest (ws ++ vs) ≡ max (widest ws) (widest vs)
+widest-append : (ws vs : List WordText) → widest_of_words (ws ++ vs) ≡ max (widest_of_words ws) (widest_of_words vs)
 widest-append [] vs = omega arith
 widest-append (w ∷ ws) vs = omega (arith, widest-append ws vs)
 
 -- with those of some more words
 pub widest-more : (before : ℕ) (ws vs : List WordText)
-    → max (max before (widest ws)) (widest vs) ≡ max before (widest (ws ++ vs))
+    → max (max before (widest_of_words ws)) (widest_of_words vs) ≡ max before (widest_of_words (ws ++ vs))
 widest-more before ws vs = omega (arith, widest-append ws vs)
 
 -- the widest of words without penalties, by where they stand
 pub places-widest : (at : ℕ) (ws : List WordText) → All HasNoPenalty ws
-    → widest_place (stand_from at ws) ≡ widest ws
+    → widest_place (stand_from at ws) ≡ widest_of_words ws
 places-widest at [] none = refl
 places-widest at (w ∷ ws) none =
     omega (
@@ -30,7 +30,7 @@ places-widest at (w ∷ ws) none =
           (All-tail HasNoPenalty w ws none),
     )
 
-all-within : (indent width : ℕ) (ws : List WordText) → indent + widest ws ≤ width
+all-within : (indent width : ℕ) (ws : List WordText) → indent + widest_of_words ws ≤ width
     → All (λ w. indent + closed_width sizes_of (w ∷ []) ≤ width) ws
 all-within indent width [] within = All-nil (λ w. indent + closed_width sizes_of (w ∷ []) ≤ width)
 all-within indent width (w ∷ ws) within =
@@ -38,7 +38,7 @@ all-within indent width (w ∷ ws) within =
     (all-within indent width ws (omega (arith, within)))
 
 widest-within : (indent width : ℕ) (ws : List WordText) → indent ≤ width
-    → All (λ w. indent + closed_width sizes_of (w ∷ []) ≤ width) ws → indent + widest ws ≤ width
+    → All (λ w. indent + closed_width sizes_of (w ∷ []) ≤ width) ws → indent + widest_of_words ws ≤ width
 widest-within indent width [] alone all = omega (arith, alone)
 widest-within indent width (w ∷ ws) alone all =
     omega (
@@ -52,7 +52,7 @@ module _ (settings : Settings) (words : List ℕ → List WordText) (splitter : 
     (text : List ℕ) where
   -- the least width at which all pieces have room
   abbrev pub least_room : ℕ
-  least_room = wider_indent settings + widest (whole_pieces settings words splitter text)
+  least_room = wider_indent settings + widest_of_words (whole_pieces settings words splitter text)
 
   pub room-from : (width : ℕ) → least_room ≤ width → HasRoom settings words splitter text width
   room-from width within = record {

@@ -7,7 +7,7 @@ ghost use Rattle.textwrap_layout.specs.Paragraph.{Line};
 ghost use Rattle.textwrap_layout.specs.Places.{ArePlacedLines, built_text};
 ghost use Rattle.textwrap.specs.Columns.{IsInColumns};
 ghost use Rattle.textwrap.specs.Refilling.{IsRefilled};
-ghost use Rattle.textwrap_plain.specs.Options.{settings_of};
+ghost use Rattle.textwrap_plain.specs.Options.{plain_settings};
 ghost use Rattle.textwrap_hyphens.specs.Table.{held};
 ghost use Rattle.textwrap_plain.specs.HyphenatedPlain.{DividesPlainlyAt};
 
@@ -33,8 +33,8 @@ pub fn fill_plain(
     options: &PlainOptions<'_>,
     patterns: &PatternTable<'_>,
 ) -> Result<String, WrapError>
-    ensures filled { IfOk result (λ filled. IsFilled (settings_of options.now)
-        (DividesPlainlyAt (held patterns.now) options.now (settings_of options.now)) text.now
+    ensures filled { IfOk result (λ filled. IsFilled (plain_settings options.now)
+        (DividesPlainlyAt (held patterns.now) options.now (plain_settings options.now)) text.now
         (string_bytes filled)) }
     ensures only_memory { OnlyMemoryRunsOut result }
 {
@@ -56,8 +56,8 @@ pub fn place_plain(
     patterns: &PatternTable<'_>,
 ) -> Result<PlacedLines<Global>, WrapError>
     ensures lines { IfOk result (λ placed. (lines : List Line)
-        × ArePlacedLines (settings_of options.now)
-        (DividesPlainlyAt (held patterns.now) options.now (settings_of options.now)) text.now lines
+        × ArePlacedLines (plain_settings options.now)
+        (DividesPlainlyAt (held patterns.now) options.now (plain_settings options.now)) text.now lines
         placed.places.items × (placed.built.items ≡ built_text lines)) }
     ensures only_memory { OnlyMemoryRunsOut result }
 {
@@ -79,7 +79,7 @@ pub fn refill_plain(
     options: &PlainOptions<'_>,
     patterns: &PatternTable<'_>,
 ) -> Result<String, WrapError>
-    ensures refilled { IfOk result (λ refilled. IsRefilled (settings_of options.now)
+    ensures refilled { IfOk result (λ refilled. IsRefilled (plain_settings options.now)
         (DividesPlainlyAt (held patterns.now) options.now) filled_text.now (string_bytes refilled)) }
     ensures only_memory { OnlyMemoryRunsOut result }
 {
@@ -107,7 +107,7 @@ pub fn wrap_columns_plain(
     right_gap: &str,
 ) -> Result<Vec<String>, WrapError>
     requires { 1 ≤ columns }
-    ensures rows { IfOk result (λ rows. IsInColumns (settings_of options.now)
+    ensures rows { IfOk result (λ rows. IsInColumns (plain_settings options.now)
         (DividesPlainlyAt (held patterns.now) options.now) columns text.now left_gap.now
         middle_gap.now right_gap.now (map string_bytes rows.items)) }
     ensures only_memory { OnlyMemoryRunsOut result }

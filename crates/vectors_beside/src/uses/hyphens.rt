@@ -7,7 +7,7 @@ ghost use Rattle.textwrap.specs.Options.{settings_at};
 ghost use Rattle.textwrap.specs.Words.{WordText, sizes_of, words_of};
 ghost use Rattle.textwrap_layout.specs.Places.{ArePlacesOf, division_cuts};
 ghost use Rattle.vectors_beside.specs.Hyphens.{HaveRightPoints, hyphenated_pieces, later_begins};
-ghost use Rattle.vectors_beside.specs.Hyphens.{points_for, points_in};
+ghost use Rattle.vectors_beside.specs.Hyphens.{points_for, points_of_words};
 
 use std::alloc::{AllocError, Global};
 use textwrap::word_separators::Words;
@@ -18,7 +18,7 @@ use textwrap_lines::steps::{are_inner_cuts, lines_at, pieces_at};
 
 /// A word, and where it may be split: offsets in bytes.
 #[derive(Clone, Copy, Debug)]
-pub struct Entry<'d> {
+pub struct DictionaryEntry<'d> {
     /// The text of the word.
     pub word: &'d str,
     /// The offsets at which it may be split. They increase, above 0 and below the length of the
@@ -46,7 +46,7 @@ pub enum HyphenError {
 pub fn hyphenated_lines(
     alloc: Global,
     paragraph: &str,
-    dictionary: &[Entry<'_>],
+    dictionary: &[DictionaryEntry<'_>],
     width: usize,
 ) -> Result<PlacedLines<Global>, HyphenError>
     ensures lines { IfOk result (λ placed. (division : List (List WordText))
@@ -68,7 +68,7 @@ pub fn hyphenated_lines(
 }
 
 /// Whether each word of a paragraph can be split at the points of its entry.
-fn have_right_points(alloc: Global, paragraph: &str, dictionary: &[Entry<'_>]) -> bool
+fn have_right_points(alloc: Global, paragraph: &str, dictionary: &[DictionaryEntry<'_>]) -> bool
     ensures { result ≡ true ↔ HaveRightPoints dictionary.now (words_of paragraph.now) }
 {
     for word in words_of(alloc, paragraph) {
@@ -90,7 +90,7 @@ fn words_of(alloc: Global, paragraph: &str) -> Words<'_, Global>
 }
 
 /// The points of the first entry with this text, or none.
-fn points_for<'d>(dictionary: &[Entry<'d>], word: &str) -> &'d [usize]
+fn points_for<'d>(dictionary: &[DictionaryEntry<'d>], word: &str) -> &'d [usize]
     ensures { result.now ≡ points_for dictionary.now word.now }
 {
     for entry in dictionary {
@@ -105,7 +105,7 @@ fn points_for<'d>(dictionary: &[Entry<'d>], word: &str) -> &'d [usize]
 fn find_lines(
     alloc: Global,
     paragraph: &str,
-    dictionary: &[Entry<'_>],
+    dictionary: &[DictionaryEntry<'_>],
     width: usize,
 ) -> Result<PlacedLines<Global>, AllocError>
     requires { HaveRightPoints dictionary.now (words_of paragraph.now) }
@@ -146,11 +146,11 @@ fn later_begins(alloc: Global, paragraph: &str) -> Result<Vec<usize>, AllocError
 fn points_in(
     alloc: Global,
     paragraph: &str,
-    dictionary: &[Entry<'_>],
+    dictionary: &[DictionaryEntry<'_>],
 ) -> Result<Vec<usize>, AllocError>
     requires { HaveRightPoints dictionary.now (words_of paragraph.now) }
     ensures { IfOk result (λ points. points.items
-        ≡ points_in dictionary.now 0 (words_of paragraph.now)) }
+        ≡ points_of_words dictionary.now 0 (words_of paragraph.now)) }
 {
     let mut points = Vec::new(alloc);
     let mut start = 0;

@@ -4,7 +4,7 @@ use Rattle.text_filters.specs.Program.{Serves, World}
 use Rattle.text_filters.specs.Streams.{faults_of}
 use Rattle.textwrap_hyphens.specs.Hyphenation.{Hyphenation}
 use Rattle.textwrap_hyphens.specs.Table.{patterns_view}
-use Rattle.hyphenate_program.specs.Dictionary.{with_minima}
+use Rattle.hyphenate_program.specs.Dictionary.{with_asked_minima}
 use Rattle.hyphenate_program.specs.Program.{hyphenate_about}
 use Rattle.hyphenate_program.specs.Texts.{hyphenating_by}
 use Rattle.hyphenate_program.proofs.program.serve_request.Goals as goal
@@ -30,7 +30,7 @@ returns g c =
       said,
       c.in-Ok.ensures.read,
       subst (λ files. Serves faults hyphenate_about
-          (hyphenating_by request.width (with_minima request.left request.right said)) request.inputs
+          (hyphenating_by request.width (with_asked_minima request.left request.right said)) request.inputs
           (world files) new c.serve.result) c.in-Ok.ensures.kept
           (subst (λ (h : Hyphenation). Serves faults hyphenate_about (hyphenating_by request.width h)
           request.inputs (world (g.F.Files.past c.read_dictionary.new.files)) new c.serve.result)

@@ -1,7 +1,7 @@
 use Rattle.std.proofs.Common.{◌∙◌, subst, sym, Some}
 use Rattle.std.specs.Io.KnownBytes.{Appends}
 use Rattle.text_filters.proofs.FileLemmas.{PutsEmpty-put}
-use Rattle.text_filters.specs.Files.{HasRights, IsGivenRights, PutsEmpty, Steps}
+use Rattle.text_filters.specs.Files.{HasRights, IsGivenRights, PutsEmpty, FolderSteps}
 use Rattle.text_filters.proofs.replacing.complete.Goals as goal
 
 pub returns-in-Ok-clause-put : goal.returns-in-Ok-clause-put
@@ -16,8 +16,8 @@ returns-in-Ok-clause-put g c =
     let empty = contents draft.stream in
     let own = files.draft_rights draft.node in
     let new = files.past c.rename.new.self in
-    subst (λ past. Steps (PutsEmpty empty own (files.draft_name draft.node) place c.args.bytes.now) past new) kept
-    (subst (λ name. Steps (PutsEmpty empty own name place c.args.bytes.now) (files.past c.sync.new.self) new)
+    subst (λ past. FolderSteps (PutsEmpty empty own (files.draft_name draft.node) place c.args.bytes.now) past new) kept
+    (subst (λ name. FolderSteps (PutsEmpty empty own name place c.args.bytes.now) (files.past c.sync.new.self) new)
     (c.sync.ensures.name ∙ c.give_rights.ensures.name)
     (PutsEmpty-put (files.past c.sync.new.self) new empty (contents whole.stream) own
     (files.draft_rights whole.node) rights (files.draft_name whole.node) place c.args.bytes.now

@@ -1,8 +1,8 @@
 use Rattle.textwrap_calls.proofs.tables.read_cells.Given as goal
-use Rattle.textwrap_calls.{proofs.Common.{drop, ◌++◌, ◌≡◌}, specs.Tables.lines_in}
+use Rattle.textwrap_calls.{proofs.Common.{drop, ◌++◌, ◌≡◌}, specs.Tables.lines_of_cells}
 use Rattle.textwrap_display.specs.Tables.{cell_texts}
 
 -- the cells so far, and those that are left, have the lines of all
 abbrev pub invariant-loop-cell : goal.invariant-loop-cell
 invariant-loop-cell l =
-    cell_texts l.cells.items ++ lines_in (drop l.cell-index l.given) ≡ lines_in l.given
+    cell_texts l.cells.items ++ lines_of_cells (drop l.cell-index l.given) ≡ lines_of_cells l.given

@@ -3,7 +3,7 @@ use Rattle.textwrap_hyphens.proofs.Common.{[], All, ap, length, map, map-append,
 use Rattle.textwrap_hyphens.specs.Building.{exception_of}
 use Rattle.textwrap_patterns.specs.Listed.{exception_view}
 use Rattle.textwrap_patterns.specs.Places.{AreInnerPlaces}
-use Rattle.textwrap_trie.specs.declared.entries.Entry.{Entry}
+use Rattle.textwrap_trie.specs.declared.entries.TrieEntry.{TrieEntry}
 use Rattle.textwrap_hyphens.proofs.building.exception_entries.Goals as goal
 
 pub loop-exception-preserved : goal.loop-exception-preserved
@@ -12,8 +12,8 @@ loop-exception-preserved g c =
     let taken = c.loop-exception.yielded in
     let exception = c.in-Some.exception in
     let more = c.in_ok-push.ensures.items in
-    let one : Entry g.row.A.Denot = record { key = exception.letters; numbers = exception.places } in
-    let Inner = λ (e : Entry g.row.A.Denot). AreInnerPlaces (length e.key.items) e.numbers.items in
+    let one : TrieEntry g.row.A.Denot = record { key = exception.letters; numbers = exception.places } in
+    let Inner = λ (e : TrieEntry g.row.A.Denot). AreInnerPlaces (length e.key.items) e.numbers.items in
     record {
       entries = ap (map exception_of) more ∙ map-append exception_of entries (one ∷ [])
           ∙ ap (λ l. l ++ exception_view exception ∷ []) c.loop-exception.invariant.entries

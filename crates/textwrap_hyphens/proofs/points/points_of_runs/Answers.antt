@@ -4,7 +4,7 @@ use Rattle.textwrap_hyphens.proofs.Common.{add-zero, ap, append_assoc, arith, dr
 use Rattle.textwrap_hyphens.proofs.Common.{get_or-drop, length-drop, sym, take, true, ◌++◌, ◌+◌}
 use Rattle.textwrap_hyphens.proofs.Common.{◌-◌, ◌∙◌, ◌≡◌}
 use Rattle.textwrap_hyphens.proofs.Runs.{past-letter, run-within}
-use Rattle.textwrap_patterns.specs.Letters.{is_letter, run_len}
+use Rattle.textwrap_patterns.specs.Letters.{is_letter_or_mark, run_len}
 use Rattle.textwrap_hyphens.specs.Points.{points_in, points_past}
 use Rattle.textwrap_hyphens.specs.Table.{held}
 use Rattle.textwrap_patterns.specs.declared.letters.Letter.{Letter}
@@ -19,8 +19,8 @@ loop-at-preserved-then-is_letter g c =
     let so_far = c.loop-at.points.items in
     let none : Letter = record { at = 0; ch = 0 } in
     let first = get_or-drop at letters 0 none ∙ ap (λ k. get_or letters k none) (add-zero at) in
-    let here : is_letter (get_or rest 0 none).ch ≡ true =
-    ap (λ (l : Letter). is_letter l.ch) first ∙ sym c.is_letter.ensures ∙ c.if-is_letter.true in
+    let here : is_letter_or_mark (get_or rest 0 none).ch ≡ true =
+    ap (λ (l : Letter). is_letter_or_mark l.ch) first ∙ sym c.is_letter.ensures ∙ c.if-is_letter.true in
     let next = past-letter h rest none (omega
     (arith, c.loop-at-test.true, length-drop at letters)) here in
     let size = c.run_len.ensures.len ∙ ap run_len (take_rest letters at) in

@@ -7,13 +7,13 @@ use Rattle.textwrap_marked.proofs.FittingPieces.{pieces-fit}
 use Rattle.textwrap_marked.proofs.PieceCuts.{joined-cuts}
 use Rattle.textwrap_marked.proofs.PieceLemmas.{joined-pieces}
 use Rattle.textwrap_marked.proofs.filling.push_filled.Goals.{After-deref-2}
-use Rattle.textwrap_marked.specs.Lines.{line_view}
-use Rattle.textwrap_marked.specs.Pieces.{Joined, joined_of, joined_view, pieces, words_of}
-use Rattle.textwrap_marked.specs.Reflow.{algorithm_of, filled_end, printed, shown_lines}
+use Rattle.textwrap_marked.specs.Lines.{marked_line_view}
+use Rattle.textwrap_marked.specs.Pieces.{Joined, joined_of, joined_view, pieces, words_of_lines}
+use Rattle.textwrap_marked.specs.Reflow.{dividing_algorithm, filled_end, printed, shown_lines}
 
 -- the text and its cuts are those of the words
 joined : (c : After-deref-2) → joined_view c.in_ok-joined.joined ≡ joined_of c.args.options.now
-    c.args.first.now.starred (words_of (map line_view c.args.lines.now))
+    c.args.first.now.starred (words_of_lines (map marked_line_view c.args.lines.now))
 joined c = c.in_ok-joined.ensures ∙ ap (joined_of c.args.options.now c.args.first.now.starred)
     (ap (map (λ w. w.now)) c.deref.ensures.value ∙ c.in_ok-words.ensures)
 
@@ -21,15 +21,15 @@ cuts-are : (c : After-deref-2) → AreCuts c.as_str.result.now c.deref-2.result.
 cuts-are c =
     rw (c.as_str.ensures.value, c.deref-2.ensures.value)
     (subst (λ (j : Joined). IsUtf8 j.text → AreCuts j.text j.cuts) (sym (joined c))
-    (joined-cuts c.args.options.now c.args.first.now.starred (words_of (map line_view c.args.lines.now)))
+    (joined-cuts c.args.options.now c.args.first.now.starred (words_of_lines (map marked_line_view c.args.lines.now)))
     (rw c.as_str.ensures.value at c.as_str.utf8))
 
 pieces-are : (c : After-deref-2) → parts_between c.deref-2.result.now c.as_str.result.now
-    ≡ pieces c.args.options.now c.args.first.now.starred (words_of (map line_view c.args.lines.now))
+    ≡ pieces c.args.options.now c.args.first.now.starred (words_of_lines (map marked_line_view c.args.lines.now))
 pieces-are c =
     let options = c.args.options.now in
     let starred = c.args.first.now.starred in
-    let ws : List (List ℕ) = words_of (map line_view c.args.lines.now) in
+    let ws : List (List ℕ) = words_of_lines (map marked_line_view c.args.lines.now) in
     rw (c.as_str.ensures.value, c.deref-2.ensures.value)
     (subst (λ (j : Joined). parts_between j.cuts j.text ≡ pieces options starred ws) (sym (joined c))
     (joined-pieces options starred ws))
@@ -47,11 +47,11 @@ divide-requires c =
 pub returns-clause-filled : goal.returns-clause-filled
 returns-clause-filled c =
     let options = c.args.options.now in
-    let first = line_view c.args.first.now in
-    let lines = map line_view c.args.lines.now in
+    let first = marked_line_view c.args.first.now in
+    let lines = map marked_line_view c.args.lines.now in
     let ending = c.args.ending.now in
-    let algorithm = algorithm_of options.algorithm in
-    let parts = map word_of (pieces options first.starred (words_of lines)) in
+    let algorithm = dividing_algorithm options.algorithm in
+    let parts = map word_of (pieces options first.starred (words_of_lines lines)) in
     let division = map (map word_view) (map (λ line. line.now) c.in_ok-division.division.items) in
     let cut : map word_view c.deref-3.result.now ≡ parts =
     ap (map word_view) c.deref-3.ensures.value ∙ c.in_ok-pieces.ensures

@@ -1,8 +1,8 @@
 use Rattle.textwrap_marked.proofs.laws.first_fit_keeps_to_width.Goals as goal
 use Rattle.textwrap_marked.proofs.FilledParts.{within-width}
 use Rattle.textwrap_marked.proofs.NewParts.{new-parts}
-use Rattle.textwrap_marked.specs.Laws.{KeepsToWidth}
+use Rattle.textwrap_marked.specs.Laws.{PartKeepsToWidth}
 
 pub returns : goal.returns
 returns c = λ options text reflowed fits.
-    new-parts options (KeepsToWidth options) (within-width options fits) text reflowed
+    new-parts options (PartKeepsToWidth options) (within-width options fits) text reflowed

@@ -1,7 +1,7 @@
 use Rattle.textwrap_marked.proofs.laws.words_are_kept.Goals as goal
 use Rattle.textwrap_marked.proofs.FilledParts.{kept-words}
 use Rattle.textwrap_marked.proofs.NewParts.{new-parts}
-use Rattle.textwrap_marked.specs.Laws.{KeepsWords}
+use Rattle.textwrap_marked.specs.Laws.{PartKeepsWords}
 
 pub returns : goal.returns
-returns c = λ options. new-parts options (KeepsWords options) (kept-words options)
+returns c = λ options. new-parts options (PartKeepsWords options) (kept-words options)

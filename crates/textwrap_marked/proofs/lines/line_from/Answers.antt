@@ -8,7 +8,7 @@ use Rattle.std.proofs.lemmas.List.Elements.{All-drop}
 use Rattle.std.specs.Prelude.{is_some}
 use Rattle.textwrap_marks.proofs.PlainWords.{words-plain}
 use Rattle.textwrap_marks.specs.Fences.{fence_view}
-use Rattle.textwrap_marked.specs.Lines.{is_chosen, is_deep, is_ended, line_from, stands_apart}
+use Rattle.textwrap_marked.specs.Lines.{is_chosen, is_deep, is_ended, line_from_words, stands_apart}
 use Rattle.textwrap_marked.specs.Lines.{state_view, StateText, without_returns}
 use Rattle.textwrap_marked.specs.Hanging.{hanging_bullets, hanging_margin, has_opening}
 use Rattle.textwrap_marks.specs.Signs.{ArePlain, closes_block, first_word, is_column_byte, is_key}
@@ -49,7 +49,7 @@ module _ (options : ReflowOptions) (state : StateText) (raw : List ℕ) (fed : B
         field = key && ends.margin == ends.text;
         ended = ended;
         chosen = chosen;
-      } ≡ line_from options state raw fed all ends
+      } ≡ line_from_words options state raw fed all ends
   line-is margin prefix form hanging words opening star deeper key opens fenced apart ended chosen
       m p f h w o s d k c n a e x = rw (x, e, a, n, c, k, d, s, o, w, h, f, p, m) refl
 
@@ -116,4 +116,4 @@ returns-clause-line c =
     (c.stands_apart-by_words.ensures ∙ ap (stands_apart _ _ _ _) same)
     (c.is_ended-ended.ensures ∙ ap (is_ended _) same)
     (c.is_chosen-chosen.ensures ∙ ap (is_chosen options) c.as_str.ensures.value)
-    ∙ ap (λ l. line_from options state c.args.raw.now c.args.fed (map spaced_view l) ends) whole
+    ∙ ap (λ l. line_from_words options state c.args.raw.now c.args.fed (map spaced_view l) ends) whole

@@ -6,7 +6,7 @@ use Rattle.std.specs.Prelude.{not}
 use Rattle.textwrap_marked.proofs.LaidLemmas.{block-begins}
 use Rattle.textwrap_marked.proofs.WithinLemmas.{behind-more, behind-none, touches-behind, within-first}
 use Rattle.textwrap_marked.specs.Blocks.{blocks, is_beside, stays}
-use Rattle.textwrap_marked.specs.Lines.{line_view}
+use Rattle.textwrap_marked.specs.Lines.{marked_line_view}
 use Rattle.textwrap_marked.specs.Reading.{lines_ahead, lines_left}
 use Rattle.textwrap_marked.specs.Reflow.{IsOfBlock}
 use Rattle.textwrap_marked.specs.Within.{AreOfBlocksWithin, range_behind, touches}
@@ -19,28 +19,28 @@ loop-ahead-preserved c =
     let options = c.args.options.now in
     let ending = c.args.ending.now in
     let range = c.args.range in
-    let line = line_view c.in-Some.left.first in
+    let line = marked_line_view c.in-Some.left.first in
     let rest = lines_ahead options c.in-Some.left.later in
-    let block = map line_view c.deref.result.now in
+    let block = map marked_line_view c.deref.result.now in
     let beside = c.loop-ahead.beside in
     let next = c.is_beside-next.result in
     let outside = not c.touches-is_outside.result in
     let (start, counted, becomes) = c.loop-ahead.invariant in
     let len : c.len-len.result ≡ length block = c.len-len.ensures ∙ sym c.deref.ensures.len
-    ∙ sym (length-map c.deref.result.now line_view) in (
+    ∙ sym (length-map c.deref.result.now marked_line_view) in (
       start + length block,
       c.behind-range.ensures ∙ ap₂ range_behind counted len ∙ behind-more range start (length block),
       λ back laid.
           let (front, of, bytes) = c.in_ok-push_block.ensures.laid_out in
-          let begins : line_view c.index-first.result.now ≡ line =
-          ap line_view c.index-first.ensures
+          let begins : marked_line_view c.index-first.result.now ≡ line =
+          ap marked_line_view c.index-first.ensures
           ∙ (block-begins c.in_ok-block.block.items line rest _ c.in_ok-block.ensures.block).1 in
           let told = c.is_beside-next.ensures options
           ∙ ap (λ l. is_beside l (blocks (lines_left options c.in_ok-block.after))) begins
           ∙ ap (λ ls. is_beside line (blocks ls)) c.in_ok-block.ensures.rest in
           let first = within-first options range ending start (start + length block) beside next outside line
           rest block front back
-          (ap (map line_view) c.deref.ensures.value ∙ c.in_ok-block.ensures.block) told refl (ap not (c.touches-is_outside.ensures ∙ ap₂ (λ r n. touches r 0 n) counted len
+          (ap (map marked_line_view) c.deref.ensures.value ∙ c.in_ok-block.ensures.block) told refl (ap not (c.touches-is_outside.ensures ∙ ap₂ (λ r n. touches r 0 n) counted len
           ∙ touches-behind range start (length block)))
           (subst (λ l. IsOfBlock options ending (stays (beside || next || outside) l) l block front) begins of)
           (subst (λ ls. AreOfBlocksWithin options range ending (start + length block) next (blocks ls) back)

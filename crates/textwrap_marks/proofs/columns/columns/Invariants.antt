@@ -1,11 +1,11 @@
 use Rattle.textwrap_marks.proofs.columns.columns.Given as goal
 use Rattle.textwrap_text.proofs.Common.{◌≡◌}
-use Rattle.textwrap_marks.specs.Columns.{columns, columns_behind}
-use Rattle.textwrap_marks.specs.Words.{bytes_left, parts_left}
+use Rattle.textwrap_marks.specs.Columns.{text_columns, columns_behind}
+use Rattle.textwrap_marks.specs.Words.{bytes_left, parts_behind_mark}
 
 -- the columns behind what is left are those of the text
 abbrev pub invariant-loop-rest : goal.invariant-loop-rest
-invariant-loop-rest l = columns_behind l.at (parts_left 9 l.rest) ≡ columns l.text
+invariant-loop-rest l = columns_behind l.at (parts_behind_mark 9 l.rest) ≡ text_columns l.text
 
 abbrev pub decreases-loop-rest : goal.decreases-loop-rest
 decreases-loop-rest l = bytes_left l.rest

@@ -7,9 +7,9 @@ use Rattle.std.specs.Char.{is_ascii_lowercase}
 use Rattle.std.specs.Char.Unicode.Alphabetic.{alphabetic_ranges, is_alphabetic}
 use Rattle.std.specs.Char.Unicode.Rows.{in_ranges}
 use Rattle.std.specs.Prelude.{slice_index_or}
-use Rattle.textwrap_marks.specs.Words.{has_letter, is_alphanumeric}
+use Rattle.textwrap_marks.specs.Words.{has_letter, is_letter_or_digit}
 
-small-letter : (c : ℕ) → is_ascii_lowercase c ≡ true → is_alphanumeric c ≡ true
+small-letter : (c : ℕ) → is_ascii_lowercase c ≡ true → is_letter_or_digit c ≡ true
 unfolding is_alphabetic in_ranges alphabetic_ranges
 small-letter c small = second _ _ _ _ small
   where
@@ -21,7 +21,7 @@ letter-first : (word : List ℕ) → IsUtf8 word → 2 ≤ length word
 letter-first [] utf8 some small = absurd (omega (arith, some))
 letter-first (c ∷ cs) utf8 some small =
     let ascii : c < 128 = grind (arith, nat_tests) in
-    ap (list_any is_alphanumeric) (chars_past_char (c ∷ cs) cs c utf8
+    ap (list_any is_letter_or_digit) (chars_past_char (c ∷ cs) cs c utf8
     (sym (ap (λ l. l ++ cs) (encode_ascii c ascii))))
     ∙ ap (λ b. b || has_letter cs) (small-letter c small)
 

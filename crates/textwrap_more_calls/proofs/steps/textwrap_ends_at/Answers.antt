@@ -3,7 +3,8 @@ use Rattle.std.specs.Prelude.{IsSomeAnd}
 use Rattle.textwrap_base.proofs.{Common.total_width, Cost.Measures.total_width-same}
 use Rattle.textwrap_calls.proofs.Common.{List, says_yes, sizes_of, widths_of, word_view, WordText}
 use Rattle.textwrap_calls.proofs.Common.{[], ap, map, sym, ℕ, ◌∙◌, ◌∷◌, ◌≡◌}
-use Rattle.textwrap_calls.proofs.Common.{algorithm_of, pieces_at, settings_of, settings_view, subst}
+use Rattle.textwrap_calls.proofs.Common.{options_algorithm, pieces_at, options_settings}
+use Rattle.textwrap_calls.proofs.Common.{settings_view, subst}
 use Rattle.textwrap_layout.proofs.Paragraph.Widths.{sizes-word_view}
 use Rattle.textwrap_layout.proofs.{Common.first_width, Paragraph.Pieces.division-as}
 use Rattle.textwrap_more_calls.proofs.Common.{ends_of, WritesText-answer}
@@ -15,10 +16,10 @@ use Rattle.textwrap_words.{proofs.Word.Divisions.MayDivide-map, specs.WrapAlgori
 
 -- the pieces and the widths by the numbers of C, and the widths as they were found
 abbrev all : After-wrap → List WordText
-all c = pieces_at (settings_of c.args.options.now) c.args.cuts.now c.args.points.now c.args.paragraph.now
+all c = pieces_at (options_settings c.args.options.now) c.args.cuts.now c.args.points.now c.args.paragraph.now
 
 abbrev widths : After-wrap → List ℕ
-widths c = widths_of (settings_of c.args.options.now) (says_yes c.args.is_later)
+widths c = widths_of (options_settings c.args.options.now) (says_yes c.args.is_later)
 
 abbrev found : After-wrap → List ℕ
 found c = c.line_widths-first_width.result.0 ∷ c.line_widths-first_width.result.1 ∷ []
@@ -28,7 +29,7 @@ pieces-are c =
     ap (map word_view) c.deref.ensures.value ∙ c.in-Ok-find_pieces.ensures.pieces
     ∙ ap (λ s. pieces_at s c.args.cuts.now c.args.points.now c.in-Ok-from_utf8.paragraph.now)
     (c.at_blanks-options.ensures.settings_are ∙ c.in-Ok.ensures.read.settings)
-    ∙ ap (pieces_at (settings_of c.args.options.now) c.args.cuts.now c.args.points.now)
+    ∙ ap (pieces_at (options_settings c.args.options.now) c.args.cuts.now c.args.points.now)
     c.in-Ok-from_utf8.ensures.0
 
 widths-are : (c : After-wrap) → found c ≡ widths c
@@ -40,16 +41,16 @@ widths-are c =
     (c.at_blanks-options.ensures.settings_are ∙ c.in-Ok.ensures.read.settings)
 
 algorithm-is : (c : After-wrap) → algorithm_view c.at_blanks-options.result.wrap_algorithm
-    ≡ Some (algorithm_of c.args.options.now)
+    ≡ Some (options_algorithm c.args.options.now)
 algorithm-is c =
     c.at_blanks-options.ensures.algorithm_is ∙ ap Some c.in-Ok.ensures.read.algorithm
 
 -- the algorithm refuses the pieces as it refuses their words
-refuses : (c : After-wrap) → OverflowsBy (algorithm_of c.args.options.now)
+refuses : (c : After-wrap) → OverflowsBy (options_algorithm c.args.options.now)
     (λ word. sizes_of (word_view word)) (found c) c.deref.result.now
-    ≡ OverflowsBy (algorithm_of c.args.options.now) sizes_of (widths c) (all c)
+    ≡ OverflowsBy (options_algorithm c.args.options.now) sizes_of (widths c) (all c)
 refuses c =
-    let algorithm = algorithm_of c.args.options.now in
+    let algorithm = options_algorithm c.args.options.now in
     OverflowsBy-map word_view algorithm sizes_of (found c) c.deref.result.now
     ∙ ap (OverflowsBy algorithm sizes_of (found c)) (pieces-are c)
     ∙ ap (λ ws. OverflowsBy algorithm sizes_of ws (all c)) (widths-are c)
@@ -78,7 +79,7 @@ returns-in-Err-Overflow-clause-no_overflow c = λ fits same.
 pub returns-in-Ok-line_ends-clause-ends : goal.returns-in-Ok-line_ends-clause-ends
 returns-in-Ok-line_ends-clause-ends c =
     let here = (goal.at.returns-in-Ok-line_ends-clause-ends c).After-wrap in
-    let algorithm = algorithm_of c.args.options.now in
+    let algorithm = options_algorithm c.args.options.now in
     let lines = map (λ line. line.now) c.in-Ok-wrap.division.items in
     let words = map (map word_view) lines in
     let divided : IsDividedBy algorithm sizes_of (widths here) (all here) words =
@@ -97,5 +98,5 @@ returns-in-Ok-line_ends-clause-ends c =
 pub returns-in-Ok-line_ends-clause-written_only : goal.returns-in-Ok-line_ends-clause-written_only
 returns-in-Ok-line_ends-clause-written_only c = λ statuses overflows.
     let here = (goal.at.returns-in-Ok-line_ends-clause-written_only c).After-wrap in
-    c.in-Ok-wrap.ensures.ok_only (algorithm_of c.args.options.now) (algorithm-is here)
+    c.in-Ok-wrap.ensures.ok_only (options_algorithm c.args.options.now) (algorithm-is here)
     (subst (λ P. P) (sym (refuses here)) overflows)

@@ -1,7 +1,7 @@
 use Rattle.textwrap_plain.proofs.balancing.widest_piece.Goals as goal
 use Rattle.textwrap_words.proofs.Common.{as_splitter}
 use Rattle.textwrap_plain.proofs.Balance.Room.{widest-more}
-use Rattle.textwrap_plain.specs.Widest.{widest}
+use Rattle.textwrap_plain.specs.Widest.{widest_of_words}
 use Rattle.textwrap_layout.proofs.Text.Lines.{paragraphs_left, paragraphs_left-split}
 use Rattle.textwrap_text.proofs.Common.{ap, arith, flat_map, max, ◌∙◌}
 use Rattle.textwrap_words.proofs.Common.{split_words}
@@ -18,7 +18,7 @@ loop-rest-preserved g c =
     in
     let others = flat_map (λ paragraph. split_words (as_splitter c.args.parts.now.parts.splitter)
     (g.W.PrintableCuts.words c.args.parts.now.words paragraph)) (paragraphs_left ending after) in
-    ap (λ n. max n (widest others)) (c.wider-widest.ensures
+    ap (λ n. max n (widest_of_words others)) (c.wider-widest.ensures
     ∙ ap (max c.loop-rest.widest) c.in_ok-widest_in.ensures.widest)
     ∙ widest-more c.loop-rest.widest split others
     ∙ (rw (

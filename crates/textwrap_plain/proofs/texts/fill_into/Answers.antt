@@ -1,12 +1,12 @@
 use Rattle.textwrap_plain.proofs.texts.fill_into.Goals as goal
 use Rattle.textwrap_plain.proofs.Named.{only-filled}
-use Rattle.textwrap_plain.specs.Options.{DividesPlainly, settings_of}
+use Rattle.textwrap_plain.specs.Options.{DividesPlainly, plain_settings}
 
 pub returns-in-Some-clause-filled : goal.returns-in-Some-clause-filled
 returns-in-Some-clause-filled c =
     let o = c.args.options.now in
     let line = c.in-Some.line.now in
-    let filled = only-filled (settings_of o) (DividesPlainly o (settings_of o)) c.args.text.now line
+    let filled = only-filled (plain_settings o) (DividesPlainly o (plain_settings o)) c.args.text.now line
     c.in-Some.ensures.one c.in-Some.ensures.whole c.in-Some.ensures.line in
     (line, filled, c.write_over.ensures.len, c.write_over.ensures.room)
 

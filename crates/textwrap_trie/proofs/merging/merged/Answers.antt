@@ -7,7 +7,7 @@ use Rattle.textwrap_trie.proofs.MergedEntries.{StandsBefore}
 use Rattle.textwrap_trie.specs.Entries.{AreSortedFrom, entry_for}
 use Rattle.textwrap_trie.specs.Merging.{AreInOrder, first_key, first_numbers, greatest}
 use Rattle.textwrap_trie.specs.Merging.{greatest_number}
-use Rattle.textwrap_trie.specs.declared.entries.Entry.{Entry}
+use Rattle.textwrap_trie.specs.declared.entries.TrieEntry.{TrieEntry}
 use Rattle.textwrap_trie.proofs.merging.merged.Goals as goal
 
 pub loop-left-preserved : goal.loop-left-preserved
@@ -26,27 +26,27 @@ loop-left-preserved g c =
     let key : x.key.items ≡ first_key left =
     c.in_ok-merged_group.ensures.key ∙ ap first_key front ∙ first_key-take n left some in
     record {
-      ordered = subst AreInOrder (sym {A = List (Entry g.row.A.Denot)} back) (ordered-drop n left was.ordered);
-      sorted = subst (λ (es : List (Entry g.row.A.Denot)). AreSortedFrom 0 es) (sym {A = List (Entry g.row.A.Denot)} more)
+      ordered = subst AreInOrder (sym {A = List (TrieEntry g.row.A.Denot)} back) (ordered-drop n left was.ordered);
+      sorted = subst (λ (es : List (TrieEntry g.row.A.Denot)). AreSortedFrom 0 es) (sym {A = List (TrieEntry g.row.A.Denot)} more)
           (sorted-more merged x was.sorted
           (before-first merged left x (omega arith) key was.before));
-      before = subst (λ (es : List (Entry g.row.A.Denot)). All (λ m. StandsBefore m c.split_at.result.1.now) es)
-          (sym {A = List (Entry g.row.A.Denot)} more) (
-          subst (λ (es : List (Entry g.row.A.Denot)). All (λ m. StandsBefore m es) (merged ++ x ∷ []))
-          (sym {A = List (Entry g.row.A.Denot)} back)
+      before = subst (λ (es : List (TrieEntry g.row.A.Denot)). All (λ m. StandsBefore m c.split_at.result.1.now) es)
+          (sym {A = List (TrieEntry g.row.A.Denot)} more) (
+          subst (λ (es : List (TrieEntry g.row.A.Denot)). All (λ m. StandsBefore m es) (merged ++ x ∷ []))
+          (sym {A = List (TrieEntry g.row.A.Denot)} back)
           (before-more merged left x n was.before
           (first-before left n x was.ordered some key c.same_len.ensures.next)));
       first = λ rule key_of.
-          ap₂ (λ (ms es : List (Entry g.row.A.Denot)). entry_for 0 (ms ++ es) key_of) more back
+          ap₂ (λ (ms es : List (TrieEntry g.row.A.Denot)). entry_for 0 (ms ++ es) key_of) more back
           ∙ first-more key_of merged left x n some within key
           (c.in_ok-merged_group.ensures.first rule ∙ ap first_numbers front
           ∙ first_numbers-take n left some) same
           ∙ was.first rule key_of;
       greatest = λ rule text place.
-          ap₂ (λ (ms es : List (Entry g.row.A.Denot)). greatest_number (ms ++ es) text place) more back
+          ap₂ (λ (ms es : List (TrieEntry g.row.A.Denot)). greatest_number (ms ++ es) text place) more back
           ∙ greatest_number-more text place merged left x n key
           (λ at. c.in_ok-merged_group.ensures.greatest rule at
-          ∙ ap (λ (es : List (Entry g.row.A.Denot)). greatest (map (λ (e : Entry g.row.A.Denot). get_or e.numbers.items at 0) es))
+          ∙ ap (λ (es : List (TrieEntry g.row.A.Denot)). greatest (map (λ (e : TrieEntry g.row.A.Denot). get_or e.numbers.items at 0) es))
           front) same
           ∙ was.greatest rule text place;
     }

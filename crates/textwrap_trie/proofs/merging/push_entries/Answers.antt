@@ -10,12 +10,12 @@ use Rattle.textwrap_trie.specs.Entries.{entry_for}
 use Rattle.textwrap_trie.specs.Merging.{AreInOrder, greatest_number, number_in}
 use Rattle.textwrap_trie.specs.Trie.{level_from, numbers_for}
 use Rattle.textwrap_trie.specs.Writing.{IsTrie}
-use Rattle.textwrap_trie.specs.declared.entries.Entry.{Entry}
+use Rattle.textwrap_trie.specs.declared.entries.TrieEntry.{TrieEntry}
 use Rattle.textwrap_trie.proofs.merging.push_entries.Goals as goal
 
 pub merged-requires : goal.merged-requires
 merged-requires g c =
-    let order = ranks_by nat_list_cmp_total (λ (e : Entry g.row.A.Denot). e.key.items) in
+    let order = ranks_by nat_list_cmp_total (λ (e : TrieEntry g.row.A.Denot). e.key.items) in
     let up = c.in_ok-sort_by.ensures.sorted stands_before order
     (answers_always _ _ _ (λ f a r q k. search rules)) in
     let far : AreInOrder c.sort_by.new.self.items = λ i j d below within.
@@ -29,17 +29,17 @@ returns-clause-first g c = λ rule.
     let entries = c.args.entries.items in
     let same : (key : List ℕ) → entry_for 0 merged key ≡ entry_for 0 entries key = λ key.
     c.in_ok-merged.ensures.first rule key
-    ∙ ap (λ (es : List (Entry g.row.A.Denot)). entry_for 0 es key) c.deref.ensures.value
+    ∙ ap (λ (es : List (TrieEntry g.row.A.Denot)). entry_for 0 es key) c.deref.ensures.value
     ∙ first-stable key _ _ c.in_ok-sort_by.ensures.permutation
     (c.in_ok-sort_by.ensures.stable stands_before
-    (ranks_by nat_list_cmp_total (λ (e : Entry g.row.A.Denot). e.key.items))
+    (ranks_by nat_list_cmp_total (λ (e : TrieEntry g.row.A.Denot). e.key.items))
     (answers_always _ _ _ (λ f a r q k. search rules))) in
     IfOk-weaker c.push_trie.result
     (λ root. IsTrie 0 c.deref-2.result.now c.args.words.now.items words root)
     (λ root. (more key : List ℕ)
     → numbers_for key (words ++ more) root ≡ entry_for 0 entries key)
     (λ root trie more key. trie.keys more key
-    ∙ ap (λ (es : List (Entry g.row.A.Denot)). entry_for 0 es key) c.deref-2.ensures.value ∙ same key)
+    ∙ ap (λ (es : List (TrieEntry g.row.A.Denot)). entry_for 0 es key) c.deref-2.ensures.value ∙ same key)
     c.push_trie.ensures
 
 pub returns-clause-greatest : goal.returns-clause-greatest
@@ -50,8 +50,8 @@ returns-clause-greatest g c = λ rule.
     let same : (text : List ℕ) (place : ℕ)
     → greatest_number merged text place ≡ greatest_number entries text place = λ text place.
     c.in_ok-merged.ensures.greatest rule text place
-    ∙ ap (λ (es : List (Entry g.row.A.Denot)). greatest_number es text place) c.deref.ensures.value
-    ∙ greatest-permutation (λ (e : Entry g.row.A.Denot). number_in e text place) _ _
+    ∙ ap (λ (es : List (TrieEntry g.row.A.Denot)). greatest_number es text place) c.deref.ensures.value
+    ∙ greatest-permutation (λ (e : TrieEntry g.row.A.Denot). number_in e text place) _ _
     c.in_ok-sort_by.ensures.permutation in
     IfOk-weaker c.push_trie.result
     (λ root. IsTrie 0 c.deref-2.result.now c.args.words.now.items words root)
@@ -60,6 +60,6 @@ returns-clause-greatest g c = λ rule.
     (λ root trie more text place.
     levels-entries text (words ++ more) root place merged c.in_ok-merged.ensures.sorted
     (λ key. trie.keys more key
-    ∙ ap (λ (es : List (Entry g.row.A.Denot)). entry_for 0 es key) c.deref-2.ensures.value)
+    ∙ ap (λ (es : List (TrieEntry g.row.A.Denot)). entry_for 0 es key) c.deref-2.ensures.value)
     ∙ same text place)
     c.push_trie.ensures

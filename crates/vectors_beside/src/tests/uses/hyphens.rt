@@ -1,24 +1,24 @@
 //! Words that are hyphenated by a dictionary.
 use super::super::plain::assert_found;
-use crate::uses::hyphens::{Entry, HyphenError, hyphenated_lines};
+use crate::uses::hyphens::{DictionaryEntry, HyphenError, hyphenated_lines};
 use std::alloc::{AllocError, Global};
 use textwrap_lines::placed::Place;
 
-const DICTIONARY: &[Entry<'static>] = &[
-    Entry {
+const DICTIONARY: &[DictionaryEntry<'static>] = &[
+    DictionaryEntry {
         word: "typesetting",
         points: &[4, 7],
     },
-    Entry {
+    DictionaryEntry {
         word: "machines",
         points: &[2],
     },
-    Entry {
+    DictionaryEntry {
         word: "größte",
         points: &[4, 6],
     },
     // This entry is not the first with its text, and is not used.
-    Entry {
+    DictionaryEntry {
         word: "machines",
         points: &[0],
     },
@@ -59,7 +59,7 @@ fn are_lines(paragraph: &[u8], built: &[u8], places: &[Place], expected: &[&str]
 fn is_hyphenated(
     alloc: Global,
     paragraph: &str,
-    dictionary: &[Entry<'_>],
+    dictionary: &[DictionaryEntry<'_>],
     width: usize,
     expected: &[&str],
 ) -> Result<bool, HyphenError> {
@@ -90,7 +90,7 @@ const WRONG: &[(&str, &[usize])] = &[
 ];
 
 /// Whether a dictionary is refused for a paragraph that has its word, and serves for another.
-fn is_refused(alloc: Global, dictionary: &[Entry<'_>]) -> Result<bool, HyphenError> {
+fn is_refused(alloc: Global, dictionary: &[DictionaryEntry<'_>]) -> Result<bool, HyphenError> {
     let refused = is_hyphenated(alloc, "  größte words", dictionary, 6, &[]);
     let serves = is_hyphenated(alloc, "words", dictionary, 6, &["words"])?;
     Ok(serves && matches!(refused, Err(HyphenError::WrongPoints)))
@@ -99,7 +99,11 @@ fn is_refused(alloc: Global, dictionary: &[Entry<'_>]) -> Result<bool, HyphenErr
 #[test]
 fn wrong_points_of_a_word_are_refused(rt: HostRuntime) {
     for &(word, points) in WRONG {
-        assert_found(&rt, word, is_refused(rt.alloc(), &[Entry { word, points }]));
+        assert_found(
+            &rt,
+            word,
+            is_refused(rt.alloc(), &[DictionaryEntry { word, points }]),
+        );
     }
 }
 

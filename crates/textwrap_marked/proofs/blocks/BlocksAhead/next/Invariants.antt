@@ -1,14 +1,14 @@
 use Rattle.textwrap_marked.proofs.blocks.BlocksAhead.next.Given as goal
 use Rattle.textwrap_text.proofs.Common.{◌≡◌, ◌≤◌, ◌++◌, ◌∷◌, map, Some}
 use Rattle.textwrap_marked.specs.Blocks.{behind_block, first_block}
-use Rattle.textwrap_marked.specs.Lines.{line_view}
+use Rattle.textwrap_marked.specs.Lines.{marked_line_view}
 use Rattle.textwrap_marked.specs.Reading.{bytes_ahead, lines_ahead, lines_left}
 
 -- with those of the block that are left, they are the block, and what is behind it stays
 abbrev pub invariant-loop-later : goal.invariant-loop-later
 invariant-loop-later l =
-    let left = line_view l.line ∷ lines_ahead l.options l.later in
-    (map line_view l.block.items ++ first_block left
+    let left = marked_line_view l.line ∷ lines_ahead l.options l.later in
+    (map marked_line_view l.block.items ++ first_block left
     ≡ first_block (lines_left l.options (Some l.fn.self)))
     × (behind_block left ≡ behind_block (lines_left l.options (Some l.fn.self)))
     × (bytes_ahead l.later ≤ bytes_ahead l.fn.self.later)

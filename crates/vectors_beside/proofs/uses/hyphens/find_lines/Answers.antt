@@ -1,7 +1,8 @@
 use Rattle.vectors_beside.proofs.uses.hyphens.find_lines.Goals as goal
 use Rattle.vectors_beside.proofs.Common.{hyphenated_pieces, IsDividedBy-map, lines_from-map, Greedy}
 use Rattle.vectors_beside.proofs.Common.{division_cuts, lines_between, AreInnerCuts, later_begins}
-use Rattle.vectors_beside.proofs.Common.{ArePlacesOf, pieces_at, points_in, word_view, sizes_of, map}
+use Rattle.vectors_beside.proofs.Common.{ArePlacesOf, pieces_at, points_of_words, word_view}
+use Rattle.vectors_beside.proofs.Common.{sizes_of, map}
 use Rattle.vectors_beside.proofs.Common.{words_of, false, subst, sym, ◌∙◌, ◌≡◌, ap}
 use Rattle.vectors_beside.proofs.Dictionary.{points-are, cuts-are}
 
@@ -26,7 +27,7 @@ returns c =
     let pieces_are : map word_view c.deref-3.result.now
     ≡ hyphenated_pieces c.args.dictionary.now c.args.width c.args.paragraph.now =
     rw (c.deref-3.ensures.value, c.in_ok-pieces.ensures.pieces, cuts, points)
-    (ap (λ s. pieces_at s (later_begins words) (points_in c.args.dictionary.now 0 words)
+    (ap (λ s. pieces_at s (later_begins words) (points_of_words c.args.dictionary.now 0 words)
     c.args.paragraph.now) c.new-options.ensures.settings_are) in
     let between : lines_between c.deref-7.result.now c.deref-6.result.now ≡ lines =
     rw (c.deref-7.ensures.value, c.deref-6.ensures.value, ← c.deref-4.ensures.value)

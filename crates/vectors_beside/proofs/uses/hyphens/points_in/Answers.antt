@@ -1,5 +1,6 @@
 use Rattle.vectors_beside.proofs.uses.hyphens.points_in.Goals as goal
-use Rattle.vectors_beside.proofs.Common.{IsNextCut, points_in, word_view, words_of, next-at, length}
+use Rattle.vectors_beside.proofs.Common.{IsNextCut, points_of_words, word_view, words_of, next-at}
+use Rattle.vectors_beside.proofs.Common.{length}
 use Rattle.vectors_beside.proofs.Common.{arith, ◌+◌, ◌<◌, ◌^◌, ◌∙◌}
 use Rattle.std.proofs.lemmas.List.Elements.{All-from_get_or, All-head, All-tail}
 use Rattle.vectors_beside.proofs.Dictionary.{HasRightPoints, points-step, room-next, room-all}
@@ -25,7 +26,7 @@ loop-word-preserved c =
     record {
       points = points-step dictionary word words left start c.loop-word.points.items
           c.push_points.new.points.items c.points_for.result.now
-          (points_in dictionary 0 (words_of c.args.paragraph.now)) step
+          (points_of_words dictionary 0 (words_of c.args.paragraph.now)) step
           c.loop-word.invariant.points c.points_for.ensures c.in_ok-push_points.ensures;
       right = All-tail (HasRightPoints dictionary) word left (rw step at c.loop-word.invariant.right);
       room = room-next word words left start (length c.args.paragraph.now) step

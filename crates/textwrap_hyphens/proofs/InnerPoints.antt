@@ -18,8 +18,8 @@ use Rattle.textwrap_text.specs.Escapes.{next_of, shows}
 use Rattle.textwrap_text.specs.declared.characters.Character.{Character}
 use Rattle.textwrap_words.specs.Cuts.{AreInnerCuts, AreNext, IsNextCut}
 use Rattle.textwrap_hyphens.proofs.Runs.{past-letter, past-other}
-use Rattle.textwrap_hyphens.specs.Hyphenation.{Hyphenation, is_place}
-use Rattle.textwrap_hyphens.specs.Hyphenation.{places_of}
+use Rattle.textwrap_hyphens.specs.Hyphenation.{Hyphenation, is_allowed, is_odd, is_place}
+use Rattle.textwrap_hyphens.specs.Hyphenation.{joints_of, places_from, places_of}
 use Rattle.textwrap_patterns.specs.Letters.{is_hyphen_character, is_kept, is_letter_or_mark}
 use Rattle.textwrap_patterns.specs.Letters.{letter_at, letters_among}
 use Rattle.textwrap_patterns.specs.Letters.{letters_of, run_len}
@@ -55,12 +55,60 @@ places-below len last [] are = All-nil (λ (place : ℕ). place < len)
 places-below len last (place ∷ places) (here, rest) =
     All-cons (λ (p : ℕ). p < len) place places here.1 (places-below len place places rest)
 
+next-lower : (len high low : ℕ) (places : List ℕ) → low ≤ high
+    → AreNext (IsNextPlace len) places high → AreNext (IsNextPlace len) places low
+next-lower len high low [] le are = tt
+next-lower len high low (place ∷ places) le ((after, inside), rest) =
+    ((omega (arith, after, le), inside), rest)
+
+-- numbers of a range that pass a test, before others
+places-before : (test : ℕ → Bool) (len a n last : ℕ) (others : List ℕ) → last < a
+    → (0 < n → a + n ≤ len) → ((l : ℕ) → l < a + n → AreNext (IsNextPlace len) others l)
+    → AreNext (IsNextPlace len) (filter test (range_with_len a n) ++ others) last
+places-before test len a zero last others after room more = more last (omega (arith, after))
+places-before test len a (suc n) last others after room more =
+    elim (test a) as (λ b. AreNext (IsNextPlace len)
+    (cond b (a ∷ filter test (range_with_len (a + 1) n)) (filter test (range_with_len
+    (a + 1) n)) ++ others) last) [
+      | true ↦ (
+        (after, omega (arith, room (omega arith))),
+        places-before test len (a + 1) n a others (omega arith)
+            (λ some. omega (arith, room (omega arith)))
+            (λ l below. more l (omega (arith, below))),
+      )
+      | false ↦ places-before test len (a + 1) n last others (omega (arith, after))
+          (λ some. omega (arith, room (omega arith)))
+          (λ l below. more l (omega (arith, below)))
+    ]
+
+pub joints-inner : (h : Hyphenation) (letters : List ℕ)
+    → AreInnerPlaces (length letters) (joints_of h letters)
+joints-inner h letters =
+    places-filter (is_odd h.joint_from letters) (length letters) 1 (length letters - 1) 0
+    (omega arith) (λ some. omega arith)
+
+pub from-inner : (h : Hyphenation) (letters : List ℕ) (from : ℕ) (joints : List ℕ)
+    → AreNext (IsNextPlace (length letters)) joints from
+    → AreNext (IsNextPlace (length letters)) (places_from h letters from joints) from
+from-inner h letters from [] are =
+    places-filter (is_place h letters from (length letters)) (length letters) (from + 1)
+    (length letters - from - 1) from (omega arith) (λ some. omega (arith, some))
+from-inner h letters from (joint ∷ joints) ((after, inside), rest) =
+    let len = length letters in
+    let later = from-inner h letters joint joints rest in
+    places-before (is_place h letters from joint) len (from + 1) (joint - from - 1) from
+    (filter (is_allowed h letters) (joint ∷ []) ++ places_from h letters joint joints)
+    (omega arith) (λ some. omega (arith, some, inside))
+    (λ l below. elim (is_allowed h letters joint) as (λ b. AreNext (IsNextPlace len)
+    (cond b (joint ∷ []) [] ++ places_from h letters joint joints) l) [
+      | true ↦ ((omega (arith, below, after), inside), later)
+      | false ↦ next-lower len joint l (places_from h letters joint joints)
+          (omega (arith, below, after)) later
+    ])
+
 pub by_patterns-inner : (h : Hyphenation) (letters : List ℕ)
-    → AreInnerPlaces (length letters) (filter (is_place h letters) (range_with_len 1
-    (length letters - 1)))
-by_patterns-inner h letters =
-    places-filter (is_place h letters) (length letters) 1 (length letters - 1) 0 (omega arith)
-    (λ some. omega arith)
+    → AreInnerPlaces (length letters) (places_from h letters 0 (joints_of h letters))
+by_patterns-inner h letters = from-inner h letters 0 (joints_of h letters) (joints-inner h letters)
 
 -- exceptions have places inside their words
 abbrev pub AreInner : (List ℕ → Option (List ℕ)) → Type 0

@@ -10,7 +10,7 @@ use Rattle.textwrap_hyphens.proofs.SealLemmas.{is-sealed}
 use Rattle.textwrap_hyphens.proofs.TableOf.{from_end-tail}
 use Rattle.textwrap_hyphens.specs.Hyphenation.{Hyphenation, hyphenation_by}
 use Rattle.textwrap_hyphens.specs.Numbers.{KeepsLists, ListTheSame, held_in}
-use Rattle.textwrap_patterns.specs.Listed.{ExceptionText, PatternText, listed}
+use Rattle.textwrap_patterns.specs.Listed.{Listed}
 use Rattle.textwrap_hyphens.proofs.Common.{get_or-take}
 use Rattle.textwrap_hyphens.proofs.Common.{Bool, List, [], append_assoc, ap, arith, false, false≢true, length}
 use Rattle.textwrap_hyphens.proofs.Common.{drop, length-append, length-drop, length-take, refl, slice_index}
@@ -23,10 +23,10 @@ first-of true b c is = refl
 first-of false true c is = absurd (false≢true is)
 first-of false false c is = absurd (false≢true is)
 
--- sealed numbers are at least seven
-pub sealed-long : (words : List ℕ) → is_sealed words ≡ true → 7 ≤ length words
+-- sealed numbers are at least twelve
+pub sealed-long : (words : List ℕ) → is_sealed words ≡ true → 12 ≤ length words
 sealed-long words is =
-    leb-true 7 (length words) (first-of (nat_le 7 (length words)) (slice_index words 0 == version)
+    leb-true 12 (length words) (first-of (nat_le 12 (length words)) (slice_index words 0 == version)
     (from_end 1 words == sum_of (take (length words - 1) words)) is)
 
 -- the number behind some becomes another
@@ -110,64 +110,69 @@ minima-sealed words l r is =
     let before = front ++ l ∷ r ∷ [] in
     let size = length-take (n - 3) words in
     let begins : slice_index words 0 ≡ version =
-    eqb-true (slice_index words 0) version (second-of (nat_le 7 n) (slice_index words 0 == version)
+    eqb-true (slice_index words 0) version (second-of (nat_le 12 n) (slice_index words 0 == version)
     (from_end 1 words == sum_of (take (n - 1) words)) is) in
     is-sealed before (sum_of before) (omega (arith, length-append front (l ∷ r ∷ []), size, long))
     (get_or_append_left front (l ∷ r ∷ []) 0 0 (omega (arith, size, long))
     ∙ get_or-take (n - 3) words 0 0 (omega (arith, long)) ∙ begins) refl
 
--- two that list the same as one dictionary list the same
-same-lists : (h other : Hyphenation) (f : List ℕ → ℕ → ℕ) (m : ℕ) (p : List ℕ → Option (List ℕ))
-    → (h.level_from ≡ f) → (h.longest ≡ m) → (h.exception ≡ p)
-    → (other.level_from ≡ f) → (other.longest ≡ m) → (other.exception ≡ p) → ListTheSame h other
-same-lists h other f m p a b c d e g = (
-  (λ text place. ap (λ f. f text place) (a ∙ sym d)),
-  b ∙ sym e,
-  (λ letters. ap (λ p. p letters) (c ∙ sym g)),
+-- two that say what is listed but for the minima list the same
+same-lists : (h other : Hyphenation) (d : Listed) (l r a b : ℕ)
+    → h ≡ hyphenation_by (record d { left = l; right = r })
+    → other ≡ hyphenation_by (record d { left = a; right = b }) → ListTheSame h other
+same-lists h other d l r a b one two = (
+  (λ text place. ap (λ (h : Hyphenation). h.joint_from text place) one
+      ∙ sym (ap (λ (h : Hyphenation). h.joint_from text place) two)),
+  (λ text place. ap (λ (h : Hyphenation). h.level_from text place) one
+      ∙ sym (ap (λ (h : Hyphenation). h.level_from text place) two)),
+  ap (λ (h : Hyphenation). h.longest) one ∙ sym (ap (λ (h : Hyphenation). h.longest) two),
+  (λ letters. ap (λ (h : Hyphenation). h.exception letters) one
+      ∙ sym (ap (λ (h : Hyphenation). h.exception letters) two)),
+  ap (λ (h : Hyphenation). h.compound_left) one
+      ∙ sym (ap (λ (h : Hyphenation). h.compound_left) two),
+  ap (λ (h : Hyphenation). h.compound_right) one
+      ∙ sym (ap (λ (h : Hyphenation). h.compound_right) two),
 )
 
 -- numbers that say what is listed, whatever the last three are
-pub lists-kept : (body : List ℕ) (ex pa m left right sum : ℕ) (ps : List PatternText)
-    (es : List ExceptionText)
-    → ((l r s : ℕ) → held_in (body ++ ex ∷ pa ∷ m ∷ l ∷ r ∷ s ∷ []) false
-    ≡ hyphenation_by (listed ps es l r))
-    → KeepsLists (body ++ ex ∷ pa ∷ m ∷ left ∷ right ∷ sum ∷ [])
-lists-kept body ex pa m left right sum ps es says = λ l r.
-    let front = body ++ ex ∷ pa ∷ m ∷ [] in
-    let before = front ++ l ∷ r ∷ [] in
-    let words = body ++ ex ∷ pa ∷ m ∷ left ∷ right ∷ sum ∷ [] in
-    let is : with_minima l r words ≡ body ++ ex ∷ pa ∷ m ∷ l ∷ r ∷ sum_of before ∷ [] =
-    ap (with_minima l r) (sym (append_assoc body (ex ∷ pa ∷ m ∷ []) (left ∷ right ∷ sum ∷ [])))
-    ∙ minima-of front left right sum l r
-    ∙ append_assoc front (l ∷ r ∷ []) (sum_of before ∷ [])
-    ∙ append_assoc body (ex ∷ pa ∷ m ∷ []) (l ∷ r ∷ sum_of before ∷ []) in
-    let new = ap (λ w. held_in w false) is ∙ says l r (sum_of before) in
-    let old = says left right sum in
-    let h = hyphenation_by (listed ps es l r) in
-    same-lists (held_in (with_minima l r words) false) (held_in words false) h.level_from h.longest
-    h.exception (ap (λ (h : Hyphenation). h.level_from) new) (ap (λ (h : Hyphenation). h.longest) new)
-    (ap (λ (h : Hyphenation). h.exception) new) (ap (λ (h : Hyphenation). h.level_from) old)
-    (ap (λ (h : Hyphenation). h.longest) old) (ap (λ (h : Hyphenation). h.exception) old)
+pub lists-kept : (front : List ℕ) (left right sum : ℕ) (d : Listed)
+    → ((l r s : ℕ) → held_in (front ++ l ∷ r ∷ s ∷ []) false
+    ≡ hyphenation_by (record d { left = l; right = r }))
+    → KeepsLists (front ++ left ∷ right ∷ sum ∷ [])
+lists-kept front left right sum d says = λ l r.
+    let total = sum_of (front ++ l ∷ r ∷ []) in
+    let words = front ++ left ∷ right ∷ sum ∷ [] in
+    let is : with_minima l r words ≡ front ++ l ∷ r ∷ total ∷ [] =
+    minima-of front left right sum l r ∙ append_assoc front (l ∷ r ∷ []) (total ∷ []) in
+    same-lists (held_in (with_minima l r words) false) (held_in words false) d l r left right
+    (ap (λ w. held_in w false) is ∙ says l r total) (says left right sum)
 
-same-fields : (f g : List ℕ → ℕ → ℕ) (m n : ℕ) (p q : List ℕ → Option (List ℕ)) (a b c d : ℕ)
-    (parts : Bool) → f ≡ g → m ≡ n → p ≡ q → a ≡ b → c ≡ d
+same-fields : (j k f g : List ℕ → ℕ → ℕ) (m n : ℕ) (p q : List ℕ → Option (List ℕ))
+    (a b c d s t u v : ℕ) (parts : Bool) → j ≡ k → f ≡ g → m ≡ n → p ≡ q → a ≡ b → c ≡ d → s ≡ t
+    → u ≡ v
     → (let h : Hyphenation = record {
+      joint_from = j;
       level_from = f;
       longest = m;
       exception = p;
       left = a;
       right = c;
+      compound_left = s;
+      compound_right = u;
       in_parts = parts;
     } in h) ≡ record {
+      joint_from = k;
       level_from = g;
       longest = n;
       exception = q;
       left = b;
       right = d;
+      compound_left = t;
+      compound_right = v;
       in_parts = parts;
     }
-same-fields f g m n p q a b c d parts one two three four five =
-    rw (one, two, three, four, five) refl
+same-fields j k f g m n p q a b c d s t u v parts nought one two three four five six seven =
+    rw (nought, one, two, three, four, five, six, seven) refl
 
 -- so a dictionary has other minima, and is as it was otherwise
 pub minima-held : (words : List ℕ) (l r : ℕ) (parts : Bool) → KeepsLists words
@@ -177,11 +182,13 @@ minima-held words l r parts kept =
     let before = front ++ l ∷ r ∷ [] in
     let tail = l ∷ r ∷ sum_of before ∷ [] in
     let ends = append_assoc front (l ∷ r ∷ []) (sum_of before ∷ []) in
-    same-fields _ _ _ _ _ _ _ _ _ _ parts
-    (fun_ext λ text. fun_ext λ place. (kept l r).0 text place) (kept l r).1
-    (fun_ext λ letters. (kept l r).2 letters)
+    let same = kept l r in
+    same-fields _ _ _ _ _ _ _ _ _ _ _ _ _ _ _ _ parts
+    (fun_ext λ text. fun_ext λ place. same.0 text place)
+    (fun_ext λ text. fun_ext λ place. same.1 text place) same.2
+    (fun_ext λ letters. same.3 letters)
     (ap (from_end 3) ends ∙ from_end-tail front tail 3 (omega arith))
-    (ap (from_end 2) ends ∙ from_end-tail front tail 2 (omega arith))
+    (ap (from_end 2) ends ∙ from_end-tail front tail 2 (omega arith)) same.4 same.5
 
 -- and they may become others again
 pub still-kept : (words : List ℕ) (l r : ℕ) → KeepsLists words → KeepsLists (with_minima l r words)
@@ -195,8 +202,11 @@ still-kept words l r kept = λ left right.
     let other = subst (λ w. ListTheSame (held_in w false) (held_in words false)) (sym again)
     (kept left right) in (
       (λ text place. other.0 text place ∙ sym (one.0 text place)),
-      other.1 ∙ sym one.1,
-      (λ letters. other.2 letters ∙ sym (one.2 letters)),
+      (λ text place. other.1 text place ∙ sym (one.1 text place)),
+      other.2 ∙ sym one.2,
+      (λ letters. other.3 letters ∙ sym (one.3 letters)),
+      other.4 ∙ sym one.4,
+      other.5 ∙ sym one.5,
     )
 
 pub minima-length : (words : List ℕ) (l r : ℕ) → is_sealed words ≡ true

@@ -9,12 +9,16 @@ use Rattle.textwrap_trie.specs.Trie as trie
 use Rattle.textwrap_trie.specs.declared.entries.TrieEntry.{TrieEntry}
 use Rattle.textwrap_hyphens.proofs.Common.{All, All-head, All-tail, Bool, List, [], ap, arith, cond}
 use Rattle.textwrap_hyphens.proofs.Common.{false, get_or, length, length-append, pattern_level_from, map}
-use Rattle.textwrap_hyphens.proofs.Common.{level_in, nat_eq, refl, rules, starts_with, subst, suc, take}
+use Rattle.textwrap_hyphens.proofs.Common.{length-map, level_in, nat_eq, refl, rules, starts_with, subst, suc, sym, take}
 use Rattle.textwrap_hyphens.proofs.Common.{true, zero, ℕ, ◌+◌, ◌++◌, ◌-◌, ◌∙◌, ◌∷◌, ◌≡◌, ◌≤◌}
 use Rattle.textwrap_patterns.proofs.Said.{places-are}
-use Rattle.textwrap_hyphens.specs.Building.{exception_of, pattern_of}
+use Rattle.textwrap_hyphens.specs.Building.{entries_view, exception_of, pattern_of}
 use Rattle.textwrap_hyphens.specs.Hyphenation.{Hyphenation, exception_for, hyphenation_by}
-use Rattle.textwrap_patterns.specs.Listed.{listed}
+use Rattle.textwrap_patterns.specs.Listed.{PatternText}
+use Rattle.textwrap_hyphens.specs.declared.building.Entries.{Entries}
+use Rattle.textwrap_hyphens.specs.declared.building.Minima.{Minima}
+use Rattle.textwrap_hyphens.specs.Numbers.{levels_at, levels_if}
+use Rattle.std.proofs.Common.{ap₂}
 use Rattle.textwrap_hyphens.specs.Levels.{longest}
 use Rattle.textwrap_patterns.specs.Places.{AreInnerPlaces}
 use Rattle.textwrap_hyphens.specs.InnerPlaces.{inner_places}
@@ -83,44 +87,82 @@ from_end-tail body tail n within =
 
 -- ---- together
 
-abbrev said : (List ℕ → ℕ → ℕ) → ℕ → (List ℕ → Option (List ℕ)) → ℕ → ℕ → Hyphenation
-said f m p left right = record {
+-- where there are no patterns of joints, their levels are 0
+joints-say : (js : List PatternText) (levels : List ℕ → ℕ → ℕ) (text : List ℕ) (place : ℕ)
+    → levels text place ≡ pattern_level_from js text place
+    → levels_if (length js) levels text place ≡ pattern_level_from js text place
+joints-say [] levels text place is = refl
+joints-say (j ∷ js) levels text place is = is
+
+abbrev said : (List ℕ → ℕ → ℕ) → (List ℕ → ℕ → ℕ) → ℕ → (List ℕ → Option (List ℕ)) → ℕ → ℕ → ℕ → ℕ
+    → Hyphenation
+said j f m p left right compound_left compound_right = record {
+  joint_from = j;
   level_from = f;
   longest = m;
   exception = p;
   left = left;
   right = right;
+  compound_left = compound_left;
+  compound_right = compound_right;
   in_parts = false;
 }
 
-same-said : (f g : List ℕ → ℕ → ℕ) (m n : ℕ) (p q : List ℕ → Option (List ℕ)) (a b c d : ℕ)
-    → f ≡ g → m ≡ n → p ≡ q → a ≡ b → c ≡ d → said f m p a c ≡ said g n q b d
-same-said f g m n p q a b c d one two three four five = rw (one, two, three, four, five) refl
+same-said : (j k f g : List ℕ → ℕ → ℕ) (m n : ℕ) (p q : List ℕ → Option (List ℕ))
+    (a b c d s t u v : ℕ) → j ≡ k → f ≡ g → m ≡ n → p ≡ q → a ≡ b → c ≡ d → s ≡ t → u ≡ v
+    → said j f m p a c s u ≡ said k g n q b d t v
+same-said j k f g m n p q a b c d s t u v nought one two three four five six seven =
+    rw (nought, one, two, three, four, five, six, seven) refl
 
--- numbers behind which these six stand
-pub table-says : {A : Type 0} (body : List ℕ) (ex pa m left right sum : ℕ) (ps es : List (TrieEntry A))
-    → m ≡ longest (map pattern_of ps)
-    → All (λ e. AreInnerPlaces (length e.key.items) e.numbers.items) es
+-- the levels by the trie at a root, behind which other numbers stand
+levels-say : {A : Type 0} (words : List ℕ) (root at longest_at longest_key : ℕ) (es : List (TrieEntry A))
+    → at ≡ root → longest_at ≡ longest_key → longest_key ≡ longest (map pattern_of es)
+    → ((text : List ℕ) (place : ℕ) → trie.level_from text words root place
+    ≡ greatest_number es text place)
+    → (text : List ℕ) (place : ℕ)
+    → levels_at words at longest_at text place ≡ pattern_level_from (map pattern_of es) text place
+levels-say words root at longest_at longest_key es here size all levels text place =
+    ap₂ (λ k n. trie.level_from (take n text) words k place) here size
+    ∙ levels (take longest_key text) place
+    ∙ patterns-say longest_key es text place (omega (arith, all))
+
+-- numbers behind which these eleven stand
+pub table-says : {A : Type 0} (body : List ℕ) (n jo jm ex pa m sum : ℕ) (es : Entries A) (mins : Minima)
+    → n ≡ length es.joints.items → jm ≡ longest (map pattern_of es.joints.items)
+    → m ≡ longest (map pattern_of es.patterns.items)
+    → All (λ e. AreInnerPlaces (length e.key.items) e.numbers.items) es.exceptions.items
+    → ((more text : List ℕ) (place : ℕ) → trie.level_from text (body ++ more) jo place
+    ≡ greatest_number es.joints.items text place)
     → ((more text : List ℕ) (place : ℕ) → trie.level_from text (body ++ more) pa place
-    ≡ greatest_number ps text place)
-    → ((more key : List ℕ) → trie.numbers_for key (body ++ more) ex ≡ entry_for 0 es key)
-    → held_in (body ++ ex ∷ pa ∷ m ∷ left ∷ right ∷ sum ∷ []) false
-    ≡ hyphenation_by (listed (map pattern_of ps) (map exception_of es) left right)
-table-says body ex pa m left right sum ps es size inner levels keys =
-    let tail = ex ∷ pa ∷ m ∷ left ∷ right ∷ sum ∷ [] in
+    ≡ greatest_number es.patterns.items text place)
+    → ((more key : List ℕ) → trie.numbers_for key (body ++ more) ex
+    ≡ entry_for 0 es.exceptions.items key)
+    → held_in (body ++ n ∷ jo ∷ jm ∷ mins.compound_left ∷ mins.compound_right ∷ ex ∷ pa ∷ m ∷ mins.left ∷ mins.right ∷ sum ∷ []) false
+    ≡ hyphenation_by (entries_view es mins)
+table-says body n jo jm ex pa m sum es mins count joint_size size inner joints levels keys =
+    let tail = n ∷ jo ∷ jm ∷ mins.compound_left ∷ mins.compound_right ∷ ex ∷ pa ∷ m ∷ mins.left ∷ mins.right ∷ sum ∷ [] in
     let words = body ++ tail in
-    let six = from_end-tail body tail 6 (omega arith) in
-    let five = from_end-tail body tail 5 (omega arith) in
-    let four = from_end-tail body tail 4 (omega arith) in
-    same-said _ _ _ _ _ _ _ _ _ _
+    let js = es.joints.items in
+    let all : n ≡ length (map pattern_of js) = count ∙ sym (length-map js pattern_of) in
+    let joint_levels = levels_at words (from_end 10 words) (from_end 9 words) in
+    same-said _ _ _ _ _ _ _ _ _ _ _ _ _ _ _ _
     (fun_ext λ text. fun_ext λ place.
-    ap (λ k. trie.level_from (take k text) words (from_end 5 words) place) four
-    ∙ ap (λ k. trie.level_from (take m text) words k place) five
-    ∙ levels tail (take m text) place ∙ patterns-say m ps text place (omega (arith, size)))
-    (four ∙ size)
+    ap (λ k. levels_if k joint_levels text place) (from_end-tail body tail 11 (omega arith) ∙ all)
+    ∙ joints-say (map pattern_of js) joint_levels text place
+    (levels-say words jo (from_end 10 words) (from_end 9 words) jm js
+    (from_end-tail body tail 10 (omega arith)) (from_end-tail body tail 9 (omega arith)) joint_size
+    (joints tail) text place))
+    (fun_ext λ text. fun_ext λ place.
+    levels-say words pa (from_end 5 words) (from_end 4 words) m es.patterns.items
+    (from_end-tail body tail 5 (omega arith)) (from_end-tail body tail 4 (omega arith)) size
+    (levels tail) text place)
+    (from_end-tail body tail 4 (omega arith) ∙ size)
     (fun_ext λ letters.
-    ap (λ k. inner_places (length letters) (trie.numbers_for letters words k)) six
+    ap (λ k. inner_places (length letters) (trie.numbers_for letters words k))
+    (from_end-tail body tail 6 (omega arith))
     ∙ ap (inner_places (length letters)) (keys tail letters)
-    ∙ exceptions-say es letters inner)
+    ∙ exceptions-say es.exceptions.items letters inner)
     (from_end-tail body tail 3 (omega arith))
     (from_end-tail body tail 2 (omega arith))
+    (from_end-tail body tail 8 (omega arith))
+    (from_end-tail body tail 7 (omega arith))

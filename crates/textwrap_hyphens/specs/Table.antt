@@ -1,15 +1,14 @@
 -- A dictionary, and what stands in it, as what its numbers say.
-use Rattle.std.specs.Prelude.{ℕ, List, take}
-use Rattle.textwrap_trie.specs.Trie.{level_from}
+use Rattle.std.specs.Prelude.{ℕ, List}
 use Rattle.textwrap_hyphens.specs.Hyphenation.{Hyphenation}
-pub use Rattle.textwrap_hyphens.specs.Numbers.{held_in}
+pub use Rattle.textwrap_hyphens.specs.Numbers.{held_in, levels_at}
 use Rattle.textwrap_hyphens.specs.declared.dictionary.Patterns.{Patterns}
 use Rattle.textwrap_hyphens.specs.declared.table.PatternTable.{PatternTable}
 use Rattle.textwrap_hyphens.specs.declared.table.PatternTrie.{PatternTrie}
 
 -- what some patterns say of the levels of a text
 abbrev pub levels_by : PatternTrie → List ℕ → ℕ → ℕ
-levels_by t text place = level_from (take t.longest text) t.words.now t.root place
+levels_by t = levels_at t.words.now t.root t.longest
 
 abbrev pub held : PatternTable → Hyphenation
 held table = held_in table.words.now table.in_parts

@@ -1,19 +1,36 @@
 //! A dictionary, written as one list of numbers.
 ghost use Rattle.std.specs.Prelude.{◌≡◌, All, false, length, map, true, IfOk};
 ghost use Rattle.textwrap_hyphens.specs.Hyphenation.{hyphenation_by};
-ghost use Rattle.textwrap_patterns.specs.Listed.{exception_view, listed};
+ghost use Rattle.textwrap_patterns.specs.Listed.{exception_view};
 ghost use Rattle.textwrap_hyphens.specs.Levels.{longest};
 ghost use Rattle.textwrap_patterns.specs.Listed.{pattern_view};
 ghost use Rattle.textwrap_patterns.specs.Places.{AreInnerPlaces};
 ghost use Rattle.textwrap_hyphens.specs.Seal.{is_sealed, with_minima};
 ghost use Rattle.textwrap_hyphens.specs.Numbers.{KeepsLists, held_in};
-ghost use Rattle.textwrap_hyphens.specs.Building.{exception_of, pattern_of};
+ghost use Rattle.textwrap_hyphens.specs.Building.{entries_view, exception_of, pattern_of};
 
 use crate::table::{VERSION, sum_of};
 use std::alloc::{AllocError, Allocator};
 use textwrap_patterns::patterns::{Exception, Pattern};
 use textwrap_trie::entries::TrieEntry;
 use textwrap_trie::merging::{Rule, push_entries};
+
+/// What is listed in a dictionary, as entries of tries.
+#[derive(Drop)]
+pub(crate) struct Entries<A: Allocator> {
+    pub(crate) joints: Vec<TrieEntry<A>, A>,
+    pub(crate) patterns: Vec<TrieEntry<A>, A>,
+    pub(crate) exceptions: Vec<TrieEntry<A>, A>,
+}
+
+/// How many letters stay before a hyphen and behind it, in a word and between it and a joint.
+#[derive(Clone, Copy)]
+pub(crate) struct Minima {
+    pub(crate) left: usize,
+    pub(crate) right: usize,
+    pub(crate) compound_left: usize,
+    pub(crate) compound_right: usize,
+}
 
 /// Patterns, as entries of a trie.
 pub(crate) fn pattern_entries<A: Allocator + Copy>(
@@ -91,23 +108,35 @@ pub(crate) fn set_minima(words: &mut [usize], left: usize, right: usize)
 /// The numbers of a dictionary.
 pub(crate) fn write_table<A: Allocator + Copy>(
     alloc: A,
-    patterns: Vec<TrieEntry<A>, A>,
-    exceptions: Vec<TrieEntry<A>, A>,
-    left: usize,
-    right: usize,
+    listed: Entries<A>,
+    minima: Minima,
 ) -> Result<Vec<usize, A>, AllocError>
-    requires { All (λ e. AreInnerPlaces (length e.key.items) e.numbers.items) exceptions.items }
-    ensures held { IfOk result (λ words. held_in words.items false ≡ hyphenation_by (listed
-        (map pattern_of patterns.items) (map exception_of exceptions.items) left right)) }
+    requires { All (λ e. AreInnerPlaces (length e.key.items) e.numbers.items) listed.exceptions.items }
+    ensures held { IfOk result (λ words. held_in words.items false
+        ≡ hyphenation_by (entries_view listed minima)) }
     ensures sealed { IfOk result (λ words. is_sealed words.items ≡ true) }
     ensures kept { IfOk result (λ words. KeepsLists words.items) }
 {
-    let longest = longest_key(&patterns);
+    let count = listed.joints.len();
+    let longest_joint = longest_key(&listed.joints);
+    let longest = longest_key(&listed.patterns);
     let mut words = Vec::new(alloc);
     words.push(VERSION)?;
-    let patterns = push_entries(alloc, &mut words, patterns, Rule::Greatest)?;
-    let exceptions = push_entries(alloc, &mut words, exceptions, Rule::First)?;
-    words.extend_from_slice(&[exceptions, patterns, longest, left, right])?;
+    let patterns = push_entries(alloc, &mut words, listed.patterns, Rule::Greatest)?;
+    let exceptions = push_entries(alloc, &mut words, listed.exceptions, Rule::First)?;
+    let joints = push_entries(alloc, &mut words, listed.joints, Rule::Greatest)?;
+    words.extend_from_slice(&[
+        count,
+        joints,
+        longest_joint,
+        minima.compound_left,
+        minima.compound_right,
+        exceptions,
+        patterns,
+        longest,
+        minima.left,
+        minima.right,
+    ])?;
     let sum = sum_of(&words);
     words.push(sum)?;
     Ok(words)

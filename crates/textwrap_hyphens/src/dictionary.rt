@@ -4,11 +4,13 @@ ghost use Rattle.std.proofs.Props.{props};
 ghost use Rattle.textwrap_hyphens.specs.Seal.{is_sealed};
 ghost use Rattle.textwrap_hyphens.specs.Numbers.{KeepsLists};
 
-use crate::building::{exception_entries, pattern_entries, set_minima, write_table};
+use crate::building::{
+    Entries, Minima, exception_entries, pattern_entries, set_minima, write_table,
+};
 use crate::table::PatternTable;
 use std::alloc::{AllocError, Allocator, Global};
 use textwrap_patterns::errors::ParseError;
-use textwrap_patterns::parsing::{read, read_bytes};
+use textwrap_patterns::parsing::{Reading, read, read_bytes};
 use textwrap_patterns::patterns::{Exception, Pattern};
 
 /// A dictionary of hyphenation: patterns, and words with their hyphens as exceptions from them.
@@ -26,7 +28,7 @@ impl<A: Allocator + Copy> Patterns<A> {
     ghost use Rattle.textwrap_patterns.specs.Listed.{exception_view, listed};
     ghost use Rattle.textwrap_patterns.specs.Listed.{pattern_view};
     ghost use Rattle.textwrap_patterns.specs.Charsets.{charset_of};
-    ghost use Rattle.textwrap_patterns.specs.Parsing.{parsed, parsed_in};
+    ghost use Rattle.textwrap_patterns.specs.Parsing.{parsed, parsed_in, reading_view};
     ghost use Rattle.textwrap_hyphens.specs.Parsed.{IsParsed};
     ghost use Rattle.textwrap_hyphens.specs.Table.{held, held_in, patterns_view};
 
@@ -47,9 +49,41 @@ impl<A: Allocator + Copy> Patterns<A> {
         ensures { IfOk result (λ made. patterns_view made ≡ hyphenation_by (listed
             (map pattern_view patterns.items) (map exception_view exceptions.items) left right)) }
     {
-        let patterns = pattern_entries(alloc, patterns)?;
-        let exceptions = exception_entries(alloc, exceptions)?;
-        let words = write_table(alloc, patterns, exceptions, left, right)?;
+        let reading = Reading {
+            joints: Vec::new(alloc),
+            patterns,
+            exceptions,
+            left,
+            right,
+            compound_left: 0,
+            compound_right: 0,
+        };
+        Patterns::listed(alloc, reading)
+    }
+
+    /// A dictionary of all that is listed. Where it has patterns of joints, a word has a point where
+    /// these give an odd level, and each part between such places is hyphenated for itself by the
+    /// other patterns: between dots, with at least `compound_left` letters between the joint before it
+    /// and a point, and `compound_right` between a point and the joint behind it. An exception is one
+    /// of a whole word.
+    ///
+    /// # Errors
+    /// [`AllocError`] where memory runs out.
+    pub fn listed(alloc: A, reading: Reading<A>) -> Result<Patterns<A>, AllocError>
+        ensures { IfOk result (λ made. patterns_view made ≡ hyphenation_by (reading_view reading)) }
+    {
+        let listed = Entries {
+            joints: pattern_entries(alloc, reading.joints)?,
+            patterns: pattern_entries(alloc, reading.patterns)?,
+            exceptions: exception_entries(alloc, reading.exceptions)?,
+        };
+        let minima = Minima {
+            left: reading.left,
+            right: reading.right,
+            compound_left: reading.compound_left,
+            compound_right: reading.compound_right,
+        };
+        let words = write_table(alloc, listed, minima)?;
         Ok(Patterns {
             words,
             in_parts: false,
@@ -72,9 +106,10 @@ impl<A: Allocator + Copy> Patterns<A> {
     /// `typesetting:`. Where a text does not say it, a point has at least 2 letters before it, and
     /// behind it 2 if the first line names a charset, else 3. A mark U+FEFF in front is left out.
     ///
-    /// `NEXTLEVEL` may stand behind patterns of hyphens and apostrophes alone, and `NOHYPHEN` may
-    /// name these; no point is beside them in any case. `COMPOUNDLEFTHYPHENMIN` and
-    /// `COMPOUNDRIGHTHYPHENMIN` are left aside.
+    /// Patterns before `NEXTLEVEL` are those of the joints of compounds. `COMPOUNDLEFTHYPHENMIN` and
+    /// `COMPOUNDRIGHTHYPHENMIN` say how many letters stay between a joint and a point behind it or
+    /// before it, 0 without them. `NOHYPHEN` may name hyphens and apostrophes, as no point is beside
+    /// these in any case.
     ///
     /// ```text
     /// UTF-8
@@ -91,13 +126,7 @@ impl<A: Allocator + Copy> Patterns<A> {
         ensures { IsParsed (parsed text.now) result }
     {
         let reading = read(alloc, text)?;
-        Ok(Patterns::new(
-            alloc,
-            reading.patterns,
-            reading.exceptions,
-            reading.left,
-            reading.right,
-        )?)
+        Ok(Patterns::listed(alloc, reading)?)
     }
 
     /// The dictionary that bytes say: those of UTF-8 as [`Patterns::parse`] has it, whatever
@@ -112,13 +141,7 @@ impl<A: Allocator + Copy> Patterns<A> {
             → IsParsed (parsed_in (charset_of bytes.now) bytes.now) result }
     {
         let reading = read_bytes(alloc, bytes)?;
-        Ok(Patterns::new(
-            alloc,
-            reading.patterns,
-            reading.exceptions,
-            reading.left,
-            reading.right,
-        )?)
+        Ok(Patterns::listed(alloc, reading)?)
     }
 
     /// The same dictionary, where a point has at least `left` letters before it and `right` behind

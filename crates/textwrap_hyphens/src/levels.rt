@@ -1,6 +1,9 @@
 //! The levels of the places of a word.
-ghost use Rattle.std.specs.Prelude.{◌≡◌, ℕ, ◌+◌, ◌*◌, ◌<◌, ◌≤◌, length, max, slice_index, IfOk};
+ghost use Rattle.std.specs.Prelude.{◌≡◌, ℕ, ◌+◌, ◌-◌, ◌*◌, ◌%◌, ◌==◌, ◌<◌, ◌≤◌, filter, length, max};
+ghost use Rattle.std.specs.Prelude.{slice_index, IfOk};
+ghost use Rattle.std.specs.List.{range_with_len};
 ghost use Rattle.textwrap_base.specs.Minima.{counted};
+ghost use Rattle.textwrap_hyphens.specs.Hyphenation.{is_odd, joints_of};
 ghost use Rattle.textwrap_hyphens.specs.Levels.{dotted, level, levels_of};
 ghost use Rattle.textwrap_hyphens.specs.Table.{held, levels_by};
 
@@ -46,10 +49,66 @@ pub fn levels_counted<A: Allocator + Copy>(
         ((length letters.now + 2) * (held patterns.now).longest) }
     ensures never_less { lookups.old ≤ lookups.new }
 {
+    levels_in(alloc, letters, &patterns.patterns(), lookups)
+}
+
+/// The levels that the patterns of a trie give to the places of a word between two dots.
+fn levels_in<A: Allocator + Copy>(
+    alloc: A,
+    letters: &[char],
+    patterns: &PatternTrie<'_>,
+    lookups: &mut Steps,
+) -> Result<Vec<usize, A>, AllocError>
+    ensures levels { IfOk result (λ levels. levels.items ≡ levels_of (levels_by patterns.now) letters.now) }
+    ensures lookups { lookups.new ≤ counted lookups.old
+        ((length letters.now + 2) * patterns.now.longest) }
+    ensures never_less { lookups.old ≤ lookups.new }
+{
     let dotted = dotted(alloc, letters)?;
     let mut levels = vec![in alloc; 0; dotted.len() + 1]?;
-    raise_all(&mut levels, &dotted, &patterns.patterns(), lookups);
+    raise_all(&mut levels, &dotted, patterns, lookups);
     Ok(levels)
+}
+
+/// The places inside a word at which a dictionary joins compounds.
+pub(crate) fn joints<A: Allocator + Copy>(
+    alloc: A,
+    letters: &[char],
+    patterns: &PatternTable<'_>,
+) -> Result<Vec<usize, A>, AllocError>
+    ensures { IfOk result (λ joints. joints.items ≡ joints_of (held patterns.now) letters.now) }
+{
+    match patterns.joints() {
+        Some(trie) => odd_places(alloc, letters, &trie),
+        None => Ok(Vec::new(alloc)),
+    }
+}
+
+/// The places inside a word to which the patterns of a trie give an odd level.
+fn odd_places<A: Allocator + Copy>(
+    alloc: A,
+    letters: &[char],
+    patterns: &PatternTrie<'_>,
+) -> Result<Vec<usize, A>, AllocError>
+    ensures { IfOk result (λ places. places.items ≡ filter (is_odd (levels_by patterns.now) letters.now)
+        (range_with_len 1 (length letters.now - 1))) }
+{
+    let levels = levels_in(alloc, letters, patterns, &mut Steps::new())?;
+    let mut places = Vec::new(alloc);
+    for place in 1..letters.len() {
+        if is_odd(&levels, place) {
+            places.push(place)?;
+        }
+    }
+    Ok(places)
+}
+
+/// Whether a place inside a word has an odd level, by the levels of the word between two dots.
+pub(crate) fn is_odd(levels: &[usize], place: usize) -> bool
+    requires { place + 1 < length levels.now }
+    ensures { result ≡ (slice_index levels.now (place + 1) % 2 == 1) }
+{
+    levels[place + 1] % 2 == 1
 }
 
 /// Raises the levels of all places of a dotted word to those that its patterns give them.

@@ -1,16 +1,17 @@
 //! The points at which a dictionary has a hyphen.
-ghost use Rattle.std.specs.Prelude.{◌≡◌, ◌++◌, ◌-◌, ◌<◌, ◌&&◌, All, filter, length, map, not};
+ghost use Rattle.std.specs.Prelude.{◌≡◌, ◌++◌, ◌<◌, ◌≤◌, ◌&&◌, All, length, map, not};
 ghost use Rattle.std.specs.Prelude.{slice_index, IfOk, OnOk};
-ghost use Rattle.std.specs.List.{list_any, range_with_len};
+ghost use Rattle.std.specs.List.{list_any};
 ghost use Rattle.textwrap_words.specs.Cuts.{AreInnerCuts};
 ghost use Rattle.textwrap_patterns.specs.Letters.{is_hyphen_character};
-ghost use Rattle.textwrap_hyphens.specs.Levels.{levels_of};
 ghost use Rattle.textwrap_patterns.specs.Places.{AreInnerPlaces};
-ghost use Rattle.textwrap_hyphens.specs.Hyphenation.{is_place, places_of};
+ghost use Rattle.textwrap_hyphens.specs.Hyphenation.{is_allowed, is_far, is_place, joints_of, part};
+ghost use Rattle.textwrap_hyphens.specs.Hyphenation.{part_places, places_from, places_of};
+ghost use Rattle.textwrap_hyphens.specs.Levels.{levels_of};
 ghost use Rattle.textwrap_hyphens.specs.Points.{points_in, hyphenation_points, points_past};
 ghost use Rattle.textwrap_hyphens.specs.Table.{held};
 
-use crate::levels::levels;
+use crate::levels::{is_odd, joints, levels};
 use crate::table::PatternTable;
 use std::alloc::{AllocError, Allocator};
 use textwrap_patterns::letters::{
@@ -144,38 +145,110 @@ pub fn places<A: Allocator + Copy>(
     places_by_patterns(alloc, letters, patterns)
 }
 
-/// The places that the patterns allow.
+/// The places that the patterns allow: where compounds are joined, and those of the parts between.
 fn places_by_patterns<A: Allocator + Copy>(
     alloc: A,
     letters: &[char],
     patterns: &PatternTable<'_>,
 ) -> Result<Vec<usize, A>, AllocError>
     ensures places { IfOk result (λ places. places.items
-        ≡ filter (is_place (held patterns.now) letters.now) (range_with_len 1
-        (length letters.now - 1))) }
+        ≡ places_from (held patterns.now) letters.now 0 (joints_of (held patterns.now) letters.now)) }
     ensures inner { IfOk result (λ places. AreInnerPlaces (length letters.now) places.items) }
 {
-    let levels = levels(alloc, letters, patterns)?;
+    let joints = joints(alloc, letters, patterns)?;
+    places_between(alloc, letters, &joints, patterns)
+}
+
+/// These joints, and the places of the parts between them.
+fn places_between<A: Allocator + Copy>(
+    alloc: A,
+    letters: &[char],
+    joints: &[usize],
+    patterns: &PatternTable<'_>,
+) -> Result<Vec<usize, A>, AllocError>
+    requires { AreInnerPlaces (length letters.now) joints.now }
+    ensures { IfOk result (λ places. places.items
+        ≡ places_from (held patterns.now) letters.now 0 joints.now) }
+{
     let mut places = Vec::new(alloc);
-    for place in 1..letters.len() {
-        if is_place(place, letters, &levels, patterns) {
-            places.push(place)?;
+    let mut from = 0;
+    for joint in joints {
+        push_part(alloc, &mut places, letters, from, *joint, patterns)?;
+        if is_allowed(*joint, letters, patterns) {
+            places.push(*joint)?;
         }
+        from = *joint;
     }
+    push_part(alloc, &mut places, letters, from, letters.len(), patterns)?;
     Ok(places)
 }
 
-/// Whether a place has an odd level, enough letters on both sides, no mark behind it, and no
+/// Adds the places of the part of a word between two places.
+fn push_part<A: Allocator + Copy>(
+    alloc: A,
+    places: &mut Vec<usize, A>,
+    letters: &[char],
+    from: usize,
+    to: usize,
+    patterns: &PatternTable<'_>,
+) -> Result<(), AllocError>
+    requires order { from ≤ to }
+    requires inside { to ≤ length letters.now }
+    ensures { OnOk result (places.new.items
+        ≡ places.old.items ++ part_places (held patterns.now) letters.now from to) }
+{
+    let levels = levels(alloc, &letters[from..to], patterns)?;
+    for place in from + 1..to {
+        if is_place(place, from, to, letters, &levels, patterns) {
+            places.push(place)?;
+        }
+    }
+    Ok(())
+}
+
+/// Whether a place of a part of a word has an odd level there, and is far enough from its ends.
+fn is_place(
+    place: usize,
+    from: usize,
+    to: usize,
+    letters: &[char],
+    levels: &[usize],
+    patterns: &PatternTable<'_>,
+) -> bool
+    requires before { from < place }
+    requires behind { place < to }
+    requires inside { to ≤ length letters.now }
+    requires levels { levels.now ≡ levels_of (held patterns.now).level_from (part from to letters.now) }
+    ensures { result ≡ is_place (held patterns.now) letters.now from to place }
+{
+    is_odd(levels, place - from) && is_far(place, from, to, letters, patterns)
+}
+
+/// Whether a place of a part of a word has enough letters between it and a joint, and is allowed.
+fn is_far(
+    place: usize,
+    from: usize,
+    to: usize,
+    letters: &[char],
+    patterns: &PatternTable<'_>,
+) -> bool
+    requires before { from < place }
+    requires behind { place < to }
+    requires inside { to ≤ length letters.now }
+    ensures { result ≡ is_far (held patterns.now) letters.now from to place }
+{
+    (from == 0 || has_letters(&letters[from..place], patterns.compound_left()))
+        && (to == letters.len() || has_letters(&letters[place..to], patterns.compound_right()))
+        && is_allowed(place, letters, patterns)
+}
+
+/// Whether a place inside a word has enough letters on both sides, no mark behind it, and no
 /// apostrophe beside it.
-fn is_place(place: usize, letters: &[char], levels: &[usize], patterns: &PatternTable<'_>) -> bool
+fn is_allowed(place: usize, letters: &[char], patterns: &PatternTable<'_>) -> bool
     requires inside { 0 < place }
     requires end { place < length letters.now }
-    requires levels { levels.now ≡ levels_of (held patterns.now).level_from letters.now }
-    ensures { result ≡ is_place (held patterns.now) letters.now place }
+    ensures { result ≡ is_allowed (held patterns.now) letters.now place }
 {
-    if levels[place + 1] % 2 != 1 {
-        return false;
-    }
     (letters[place - 1] != '\'')
         & counts(letters[place])
         & has_letters(&letters[..place], patterns.left())

@@ -1,5 +1,5 @@
 //! A dictionary in one list of numbers, which holds no address of memory.
-ghost use Rattle.std.specs.Prelude.{◌≡◌, ℕ, ◌-◌, ◌<◌, ◌≤◌, true, false, None, Some, MatchOption, length};
+ghost use Rattle.std.specs.Prelude.{◌≡◌, ℕ, ◌-◌, ◌<◌, ◌≤◌, List, true, false, None, Some, MatchOption, length};
 ghost use Rattle.std.specs.Prelude.{max, min, slice_index};
 ghost use Rattle.textwrap_base.specs.Minima.{counted};
 ghost use Rattle.textwrap_patterns.specs.Places.{AreInnerPlaces};
@@ -12,7 +12,7 @@ use textwrap_patterns::written::are_inner;
 use textwrap_trie::lookup::{numbers_for, raise_levels};
 
 /// What the first number of a table says: "Twh", and a number that is raised where the layout changes.
-pub(crate) const VERSION: usize = 0x5477_6802;
+pub(crate) const VERSION: usize = 0x5477_6803;
 
 /// A dictionary of hyphenation in numbers that somebody holds. They hold no address of memory, so
 /// they may be copied, and kept in a file.
@@ -89,6 +89,37 @@ impl<'t> PatternTable<'t> {
         }
     }
 
+    /// How many letters stay between a joint of a compound and a hyphen behind it.
+    pub(crate) fn compound_left(&self) -> usize
+        ensures { result ≡ (held self.now).compound_left }
+    {
+        from_end(self.words, 8)
+    }
+
+    /// How many letters stay between a hyphen and a joint behind it.
+    pub(crate) fn compound_right(&self) -> usize
+        ensures { result ≡ (held self.now).compound_right }
+    {
+        from_end(self.words, 7)
+    }
+
+    /// Where its patterns of joints stand, if there are any.
+    pub(crate) fn joints(&self) -> Option<PatternTrie<'t>>
+        ensures { MatchOption result
+            ((text : List ℕ) (place : ℕ) → (held self.now).joint_from text place ≡ 0)
+            (λ trie. (text : List ℕ) (place : ℕ)
+            → (held self.now).joint_from text place ≡ levels_by trie text place) }
+    {
+        if from_end(self.words, 11) == 0 {
+            return None;
+        }
+        Some(PatternTrie {
+            words: self.words,
+            root: from_end(self.words, 10),
+            longest: from_end(self.words, 9),
+        })
+    }
+
     /// Where its patterns stand.
     pub(crate) fn patterns(&self) -> PatternTrie<'t>
         ensures levels { levels_by result ≡ (held self.now).level_from }
@@ -149,7 +180,7 @@ fn from_end(words: &[usize], n: usize) -> usize
 pub fn is_sealed(words: &[usize]) -> bool
     ensures { result ≡ is_sealed words.now }
 {
-    words.len() >= 7
+    words.len() >= 12
         && words[0] == VERSION
         && from_end(words, 1) == sum_of(&words[..words.len() - 1])
 }

@@ -28,6 +28,8 @@ pub data Said : Type 0 where
   Exception : ExceptionText → Said
   Left : ℕ → Said
   Right : ℕ → Said
+  CompoundLeft : ℕ → Said
+  CompoundRight : ℕ → Said
   NextGroup : Said
   Nothing : Said
   Wrong : Fault → Said
@@ -37,6 +39,8 @@ entry_view (entry.Pattern pattern) = Pattern (pattern_view pattern)
 entry_view (entry.Exception exception) = Exception (exception_view exception)
 entry_view (entry.Left left) = Left left
 entry_view (entry.Right right) = Right right
+entry_view (entry.CompoundLeft left) = CompoundLeft left
+entry_view (entry.CompoundRight right) = CompoundRight right
 entry_view entry.NextGroup = NextGroup
 entry_view entry.Nothing = Nothing
 entry_view (entry.Wrong fault) = Wrong fault
@@ -153,16 +157,15 @@ are_joints cs = list_all (λ c. is_joint c || ((c == 0x2C) || is_whitespace c)) 
 abbrev pub beside_said : List ℕ → Said
 beside_said cs = if are_joints cs then Nothing else Wrong NoHyphen
 
--- what a line says that begins with a word of libhyphen; numbers for the parts of compounds are left
--- aside, as there are no compounds
+-- what a line says that begins with a word of libhyphen
 abbrev pub command_said : List ℕ → Option Said
 command_said line =
     if begins (codes "LEFTHYPHENMIN") line then Some (number_said Left (drop 13 line))
     else if begins (codes "RIGHTHYPHENMIN") line then Some (number_said Right (drop 14 line))
     else if begins (codes "COMPOUNDLEFTHYPHENMIN") line
-    then Some (number_said (λ n. Nothing) (drop 21 line))
+    then Some (number_said CompoundLeft (drop 21 line))
     else if begins (codes "COMPOUNDRIGHTHYPHENMIN") line
-    then Some (number_said (λ n. Nothing) (drop 22 line))
+    then Some (number_said CompoundRight (drop 22 line))
     else if begins (codes "NOHYPHEN") line then Some (beside_said (chars (drop 8 line)))
     else if begins (codes "NEXTLEVEL") line then Some NextGroup
     else None

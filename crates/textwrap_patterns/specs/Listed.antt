@@ -1,5 +1,5 @@
 -- What is listed in a dictionary of hyphenation: patterns, and words with their hyphens as exceptions.
-use Rattle.std.specs.Prelude.{ℕ, List}
+use Rattle.std.specs.Prelude.{ℕ, List, []}
 use Rattle.textwrap_patterns.specs.declared.patterns.Exception.{Exception}
 use Rattle.textwrap_patterns.specs.declared.patterns.Pattern.{Pattern}
 
@@ -23,13 +23,26 @@ exception_text letters places = record { letters = letters; places = places }
 abbrev pub exception_view : {A : Type 0} → Exception A → ExceptionText
 exception_view exception = exception_text exception.letters.items exception.places.items
 
--- what is listed in a dictionary
+-- what is listed in a dictionary: patterns of joints, which say where compounds are joined, patterns of
+-- their parts, exceptions, and how many letters stay on the sides of a hyphen, in a word and between it
+-- and a joint
 pub record Listed : Type 0 where
+  pub joints : List PatternText
   pub patterns : List PatternText
   pub exceptions : List ExceptionText
   pub left : ℕ
   pub right : ℕ
+  pub compound_left : ℕ
+  pub compound_right : ℕ
 
+-- what is listed where nothing is said of compounds
 abbrev pub listed : List PatternText → List ExceptionText → ℕ → ℕ → Listed
-listed patterns exceptions left right =
-    record { patterns = patterns; exceptions = exceptions; left = left; right = right }
+listed patterns exceptions left right = record {
+  joints = [];
+  patterns = patterns;
+  exceptions = exceptions;
+  left = left;
+  right = right;
+  compound_left = 0;
+  compound_right = 0;
+}

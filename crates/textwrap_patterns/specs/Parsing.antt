@@ -4,13 +4,14 @@ use Rattle.std.specs.Prelude.{◌++◌, ⊤, Option, None, Some, Result, Ok, Err
 use Rattle.std.specs.Prelude.{if◌then◌else◌, length, map, max, nat_eq, nat_lt, slice_index, take}
 use Rattle.std.specs.Prelude.{bytes_eq, unwrap_or}
 use Rattle.std.specs.Char.{is_whitespace}
-use Rattle.std.specs.List.{list_all, list_any, prefix_len, slice_split, starts_with}
+use Rattle.std.specs.List.{list_any, prefix_len, slice_split, starts_with}
 use Rattle.std.specs.Option.{is_some}
 use Rattle.std.specs.Str.{trim}
 use Rattle.std.specs.Str.Lines.{lines}
 use Rattle.textwrap_patterns.specs.Charsets.{decoded}
-use Rattle.textwrap_patterns.specs.Entries.{Said, Pattern, Exception, Left, Right, NextGroup, Nothing}
-use Rattle.textwrap_patterns.specs.Entries.{Wrong, begins, is_joint, is_start, list_said, number_of}
+use Rattle.textwrap_patterns.specs.Entries.{Said, Pattern, Exception, Left, Right, CompoundLeft}
+use Rattle.textwrap_patterns.specs.Entries.{CompoundRight, NextGroup, Nothing}
+use Rattle.textwrap_patterns.specs.Entries.{Wrong, begins, is_start, list_said, number_of}
 use Rattle.textwrap_patterns.specs.Entries.{number_or_fault, word_said}
 use Rattle.textwrap_patterns.specs.Listed.{Listed, PatternText, exception_view, listed}
 use Rattle.textwrap_patterns.specs.Listed.{pattern_view}
@@ -34,21 +35,21 @@ abbrev pub and_then : Outcome → (Listed → Outcome) → Outcome
 and_then (Ok h) next = next h
 and_then (Err error) next = Err error
 
--- patterns of hyphens and apostrophes alone: their points are none in any case
-abbrev pub joins : PatternText → Bool
-joins p = list_all (λ c. is_joint c || (c == 0x2E)) p.letters
+-- a dictionary whose patterns so far are those of joints, as a second group begins: there is no third
+abbrev pub with_group : ℕ → Listed → Outcome
+with_group n h =
+    if length h.joints == 0 then Ok (record h { joints = h.patterns; patterns = [] })
+    else Err (Line n NextLevel)
 
-abbrev pub has_joints : Listed → Bool
-has_joints h = list_all joins h.patterns && (length h.exceptions == 0)
-
--- a dictionary with what a line of this number says; a second group of patterns may stand behind such
--- patterns alone
+-- a dictionary with what a line of this number says
 abbrev pub with_said : ℕ → Said → Listed → Outcome
 with_said n (Pattern p) h = Ok (record h { patterns = h.patterns ++ p ∷ [] })
 with_said n (Exception e) h = Ok (record h { exceptions = h.exceptions ++ e ∷ [] })
 with_said n (Left left) h = Ok (record h { left = left })
 with_said n (Right right) h = Ok (record h { right = right })
-with_said n NextGroup h = if has_joints h then Ok h else Err (Line n NextLevel)
+with_said n (CompoundLeft left) h = Ok (record h { compound_left = left })
+with_said n (CompoundRight right) h = Ok (record h { compound_right = right })
+with_said n NextGroup h = with_group n h
 with_said n Nothing h = Ok h
 with_said n (Wrong fault) h = Err (Line n fault)
 
@@ -317,9 +318,15 @@ parsed_in (Some table) bytes = parsed (decoded table bytes)
 
 -- what was read so far
 abbrev pub reading_view : {A : Type 0} → Reading A → Listed
-reading_view reading =
-    listed (map pattern_view reading.patterns.items) (map exception_view reading.exceptions.items)
-    reading.left reading.right
+reading_view reading = record {
+  joints = map pattern_view reading.joints.items;
+  patterns = map pattern_view reading.patterns.items;
+  exceptions = map exception_view reading.exceptions.items;
+  left = reading.left;
+  right = reading.right;
+  compound_left = reading.compound_left;
+  compound_right = reading.compound_right;
+}
 
 -- a result has the outcome, or memory ran out
 abbrev pub Reads : {T : Type 0} → Outcome → (T → Listed) → Result T ParseError → Type 0

@@ -2,7 +2,8 @@
 ghost use Rattle.std.specs.Prelude.{◌≡◌, false, true, option_map};
 ghost use Rattle.std.specs.Prelude.{IfOk};
 ghost use Rattle.std.specs.Str.{trim};
-ghost use Rattle.textwrap_patterns.specs.Entries.{Left, Nothing, Right, are_joints, beside_said};
+ghost use Rattle.textwrap_patterns.specs.Entries.{CompoundLeft, CompoundRight, Left, Right};
+ghost use Rattle.textwrap_patterns.specs.Entries.{are_joints, beside_said};
 ghost use Rattle.textwrap_patterns.specs.Entries.{command_said, number_or_fault};
 ghost use Rattle.textwrap_patterns.specs.Entries.{entry_view, exception_said, exception_written};
 ghost use Rattle.textwrap_patterns.specs.Entries.{has_hyphen, has_digit, has_sign, has_slash};
@@ -48,6 +49,10 @@ pub enum Entry<A: Allocator> {
     Exception(Exception<A>),
     Left(usize),
     Right(usize),
+    /// How many letters stay between a joint of a compound and a hyphen behind it.
+    CompoundLeft(usize),
+    /// How many letters stay between a hyphen and a joint behind it.
+    CompoundRight(usize),
     /// Another group of patterns begins.
     NextGroup,
     Nothing,
@@ -79,10 +84,10 @@ fn command_entry<A: Allocator + Copy>(alloc: A, line: &str) -> Result<Option<Ent
         return Ok(Some(right_or_fault(number_in(number))));
     }
     if let Some(number) = without_start(line, "COMPOUNDLEFTHYPHENMIN") {
-        return Ok(Some(aside_or_fault(number_in(number))));
+        return Ok(Some(compound_left_or_fault(number_in(number))));
     }
     if let Some(number) = without_start(line, "COMPOUNDRIGHTHYPHENMIN") {
-        return Ok(Some(aside_or_fault(number_in(number))));
+        return Ok(Some(compound_right_or_fault(number_in(number))));
     }
     if let Some(signs) = without_start(line, "NOHYPHEN") {
         return Ok(Some(beside_entry(&characters_of(alloc, signs)?)));
@@ -113,12 +118,22 @@ pub fn right_or_fault<A: Allocator>(number: Option<usize>) -> Entry<A>
     }
 }
 
-/// A number for the parts of compounds, which is left aside.
-fn aside_or_fault<A: Allocator>(number: Option<usize>) -> Entry<A>
-    ensures { entry_view result ≡ number_or_fault (λ n. Nothing) number }
+/// How many letters stay between a joint of a compound and a hyphen behind it.
+fn compound_left_or_fault<A: Allocator>(number: Option<usize>) -> Entry<A>
+    ensures { entry_view result ≡ number_or_fault CompoundLeft number }
 {
     match number {
-        Some(_) => Entry::Nothing,
+        Some(left) => Entry::CompoundLeft(left),
+        None => Entry::Wrong(Fault::Number),
+    }
+}
+
+/// How many letters stay between a hyphen and a joint behind it.
+fn compound_right_or_fault<A: Allocator>(number: Option<usize>) -> Entry<A>
+    ensures { entry_view result ≡ number_or_fault CompoundRight number }
+{
+    match number {
+        Some(right) => Entry::CompoundRight(right),
         None => Entry::Wrong(Fault::Number),
     }
 }
@@ -151,7 +166,7 @@ fn are_joints(signs: &[char]) -> bool
 
 /// Whether a character ends a run of letters, as a hyphen does, or has no point beside it, as an
 /// apostrophe.
-pub fn is_joint(ch: char) -> bool
+fn is_joint(ch: char) -> bool
     ensures { result ≡ is_joint ch }
 {
     ch == '\'' || ch == '\u{2019}' || is_hyphen(ch) || ch == '\u{2013}'

@@ -8,8 +8,8 @@ pub enum Fault {
     /// The bytes are not UTF-8, and the first line names no charset that is known.
     #[error("not UTF-8, and no charset that is known: convert it, as by iconv -t UTF-8")]
     Charset,
-    /// `NEXTLEVEL` behind patterns of letters, which say where compounds are joined.
-    #[error("patterns of compounds before NEXTLEVEL are not supported")]
+    /// A second `NEXTLEVEL`.
+    #[error("there are more than two groups of patterns")]
     NextLevel,
     /// `NOHYPHEN` with other signs than hyphens and apostrophes.
     #[error("NOHYPHEN is supported for hyphens and apostrophes alone")]

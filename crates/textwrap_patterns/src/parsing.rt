@@ -1,34 +1,33 @@
 //! Dictionaries that are read from texts.
 ghost use Rattle.std.specs.Prelude.{◌≡◌, ◌≤◌, ◌==◌, ◌&&◌, ◌||◌, length, map, option_map, IfOk, IsUtf8};
-ghost use Rattle.std.specs.List.{list_all, position_or_len, prefix_len, slice_split};
+ghost use Rattle.std.specs.List.{position_or_len, prefix_len, slice_split};
 ghost use Rattle.std.specs.Char.{is_whitespace};
 ghost use Rattle.std.specs.Option.{is_some, option_copied};
 ghost use Rattle.std.specs.Str.Lines.{lines};
 ghost use Rattle.textwrap_patterns.specs.Charsets.{charset_of};
-ghost use Rattle.textwrap_patterns.specs.Entries.{entry_view, is_joint, is_start};
-ghost use Rattle.textwrap_patterns.specs.Listed.{pattern_view};
+ghost use Rattle.textwrap_patterns.specs.Entries.{entry_view, is_start};
 ghost use Rattle.textwrap_patterns.specs.Parsing.{Reads, after_mark, before, before_comment, closed};
 ghost use Rattle.textwrap_patterns.specs.Parsing.{closed_text, comment_in, count_fault, end_fault, ended};
-ghost use Rattle.textwrap_patterns.specs.Parsing.{entered, first_number, has_input, has_joints, header_after};
+ghost use Rattle.textwrap_patterns.specs.Parsing.{entered, first_number, has_input, header_after};
 ghost use Rattle.textwrap_patterns.specs.Parsing.{has_opening, header_said, is_group, is_list, is_minima, is_preamble};
-ghost use Rattle.textwrap_patterns.specs.Parsing.{is_skipped, is_tex, joins, line_said};
+ghost use Rattle.textwrap_patterns.specs.Parsing.{is_skipped, is_tex, line_said};
 ghost use Rattle.textwrap_patterns.specs.Parsing.{listed_said, minimum_said, names_group, names_minima};
 ghost use Rattle.textwrap_patterns.specs.Parsing.{no_patterns, opened, opened_text, outside_fault};
 ghost use Rattle.textwrap_patterns.specs.Parsing.{parsed, parsed_in, reading_view, said_in, section_after};
 ghost use Rattle.textwrap_patterns.specs.Parsing.{section_behind, tex_after, tex_said, text_said, unmarked, with_all};
-ghost use Rattle.textwrap_patterns.specs.Parsing.{with_said};
+ghost use Rattle.textwrap_patterns.specs.Parsing.{with_group, with_said};
 ghost use Rattle.textwrap_patterns.specs.Written.{is_digit};
 ghost use Rattle.textwrap_patterns.specs.declared.errors.ParseError.TheVariants.{Line};
 
 use crate::charsets::{charset_of, decoded};
 use crate::entries::{
-    Entry, Section, is_joint, is_start, left_or_fault, list_entry, number_of, right_or_fault,
-    word_entry,
+    Entry, Section, is_start, left_or_fault, list_entry, number_of, right_or_fault, word_entry,
 };
 use crate::errors::{Fault, ParseError};
 use crate::patterns::{Exception, Pattern};
 use crate::written::characters_of;
 use std::alloc::{AllocError, Allocator};
+use std::mem::swap;
 use std::str::from_utf8;
 use textwrap_text::starts::{starts_with, without_start};
 
@@ -58,10 +57,19 @@ const INPUT_GROUP: [char; 7] = ['\\', 'i', 'n', 'p', 'u', 't', '{'];
 /// What was read of a dictionary so far.
 #[derive(Debug, Drop)]
 pub struct Reading<A: Allocator> {
+    /// Patterns that say where compounds are joined.
+    pub joints: Vec<Pattern<A>, A>,
+    /// Patterns of words, and of the parts of compounds.
     pub patterns: Vec<Pattern<A>, A>,
     pub exceptions: Vec<Exception<A>, A>,
+    /// How many letters stay before a hyphen.
     pub left: usize,
+    /// How many letters stay behind a hyphen.
     pub right: usize,
+    /// How many letters stay between a joint and a hyphen behind it.
+    pub compound_left: usize,
+    /// How many letters stay between a hyphen and a joint behind it.
+    pub compound_right: usize,
 }
 
 /// All that bytes say: those of UTF-8 as [`read`] has it, whatever charset their first line names, and
@@ -141,10 +149,13 @@ impl<A: Allocator + Copy> Reading<A> {
         ensures { reading_view result ≡ no_patterns }
     {
         Reading {
+            joints: Vec::new(alloc),
             patterns: Vec::new(alloc),
             exceptions: Vec::new(alloc),
             left: 2,
             right: 3,
+            compound_left: 0,
+            compound_right: 0,
         }
     }
 
@@ -281,19 +292,24 @@ impl<A: Allocator + Copy> Reading<A> {
             Entry::Exception(exception) => self.exceptions.push(exception)?,
             Entry::Left(left) => self.left = left,
             Entry::Right(right) => self.right = right,
-            Entry::NextGroup if self.has_joints() => {}
-            Entry::NextGroup => return Err(wrong(number, Fault::NextLevel)),
+            Entry::CompoundLeft(left) => self.compound_left = left,
+            Entry::CompoundRight(right) => self.compound_right = right,
+            Entry::NextGroup => return self.begin_group(number),
             Entry::Nothing => {}
             Entry::Wrong(fault) => return Err(wrong(number, fault)),
         }
         Ok(())
     }
 
-    /// Whether the patterns have hyphens and apostrophes alone, and there are no exceptions.
-    fn has_joints(&self) -> bool
-        ensures { result ≡ has_joints (reading_view self.now) }
+    /// Takes the patterns so far for those of joints, as a second group begins.
+    fn begin_group(&mut self, number: usize) -> Result<(), ParseError>
+        ensures { Reads (with_group number (reading_view self.old)) (λ _. reading_view self.new) result }
     {
-        are_joining(&self.patterns) && self.exceptions.is_empty()
+        if !self.joints.is_empty() {
+            return Err(wrong(number, Fault::NextLevel));
+        }
+        swap(&mut self.joints, &mut self.patterns);
+        Ok(())
     }
 
     /// What was read, at the end of a text of so many lines.
@@ -313,24 +329,6 @@ fn wrong(line: usize, fault: Fault) -> ParseError
     ensures { result ≡ Line line fault }
 {
     ParseError::Line { line, fault }
-}
-
-/// Whether patterns have hyphens and apostrophes alone.
-fn are_joining<A: Allocator>(patterns: &[Pattern<A>]) -> bool
-    ensures { result ≡ list_all joins (map pattern_view patterns.now) }
-{
-    for pattern in patterns {
-        if !joins(&pattern.letters) {
-            return false;
-        }
-    }
-    true
-}
-
-fn joins(letters: &[char]) -> bool
-    ensures { result ≡ list_all (λ c. is_joint c || (c == 0x2E)) letters.now }
-{
-    letters.iter().all(|ch| is_joint(*ch) || *ch == '.')
 }
 
 /// What is wrong in a line of TeX outside of groups.

@@ -139,10 +139,18 @@ const TEXTS: &[(&str, &str, &str, &[usize])] = &[
     ("a header says how many letters stay", "% hyphenmins:\n%   typesetting:\n%     left:  1 # or 2\n%     right: 1\n% texlive:\n%     right: 3\n\\patterns{1b1c1d}", "abcd", &[1, 2, 3]),
     ("below typesetting alone", "% left: 1\n%  generation:\n%   right: 1\n\\patterns{1b1c1d}", "abcdef", &[2, 3]),
     ("and no other line between", "% typesetting:\n%\n%   left: 1\n\\patterns{1b1c1d}", "abcdef", &[2, 3]),
-    ("numbers for the parts of compounds are left aside", "UTF-8\nCOMPOUNDLEFTHYPHENMIN 5\nCOMPOUNDRIGHTHYPHENMIN 5\na1b1c1d", "abcd", &[2]),
+    ("numbers for compounds say nothing of words", "UTF-8\nCOMPOUNDLEFTHYPHENMIN 5\nCOMPOUNDRIGHTHYPHENMIN 5\na1b1c1d", "abcd", &[2]),
     ("there is no point beside an apostrophe in any case", "NOHYPHEN ',\u{2019}, -\nb1c'1d", "abc'dab", &[2]),
-    ("a second group may stand behind hyphens and apostrophes", "1-1\n1\u{2019}.\nNEXTLEVEL\nb1c", "abcdef", &[2]),
-    ("and behind none", "NEXTLEVEL\nb1c", "abcdef", &[2]),
+    ("patterns before a second group join compounds", "UTF-8\ns1a\nNEXTLEVEL\nu1s", "haususabend", &[3, 5, 6]),
+    ("those of the second are of the parts, each between dots", "UTF-8\ns1a\nNEXTLEVEL\nu1s\nsu1s.\n.a1b\n.h1a", "haususabend", &[3, 5, 6, 7]),
+    ("no pattern is of two parts", "UTF-8\ns1a\nNEXTLEVEL\nusa1b\nusab2e\nb1e", "hausabend", &[4, 6]),
+    ("enough letters stand between a joint and a point", "UTF-8\nCOMPOUNDLEFTHYPHENMIN 3\nCOMPOUNDRIGHTHYPHENMIN 2\ns1a\nNEXTLEVEL\na1u1s\na1b1e", "hausabend", &[2, 4]),
+    ("but in the word as many as ever", "UTF-8\nCOMPOUNDLEFTHYPHENMIN 3\nCOMPOUNDRIGHTHYPHENMIN 2\ns1a\nNEXTLEVEL\nh1a1u\ne1n1d", "hausabend", &[2, 4, 7]),
+    ("also before the first joint and behind the last", "UTF-8\nh1a1u1s1a\nNEXTLEVEL\nb1c", "hausa", &[2, 3]),
+    ("a part may have one letter", "UTF-8\na1a1a1a\nNEXTLEVEL\na1b", "aaabaaaab", &[3, 5, 6, 7]),
+    ("an apostrophe may join", "UTF-8\n1'1\n1\u{2019}1\nNEXTLEVEL\n.a1b\nb1c", "ll'abcd", &[4, 5]),
+    ("an exception is one of the whole", "UTF-8\ns1a\nhau-sabend\nNEXTLEVEL\nb1e", "hausabend", &[3]),
+    ("a second group may stand behind none", "NEXTLEVEL\nb1c", "abcdef", &[2]),
 ];
 
 /// Bytes that are read as a dictionary, a word, and its points by that. Each row has the rule that it
@@ -184,8 +192,9 @@ const UNORDERED: &str = "\\patterns{ m1a z1a c1a y1a b1a x1a e1a w1a d1a v1a g1a
 const READ: &[((&str, &str, &str, &[usize]), usize)] = &[
     (("a list", "hy3ph\nhe2n\n1na\nta-ble\n# none\nLEFTHYPHENMIN 2", "hyphenation", &[2]), 70),
     (("groups of TeX, with many letters at one place", UNORDERED, "lebamale", &[3, 5]), 278),
-    (("patterns of the same letters", "1bl\n2bl\n1bl2\n", "tablets", &[]), 31),
+    (("patterns of the same letters", "1bl\n2bl\n1bl2\n", "tablets", &[]), 32),
     (("a charset", "iso 8859-1\nhe2n\nb1c", "abcd", &[2]), 36),
+    (("two groups", "UTF-8\nb1c\nNEXTLEVEL\nc1d\nb2c", "abcdef", &[2, 3]), 54),
 ];
 
 /// A text that is no dictionary, its first line that is wrong, and what is wrong there.
@@ -200,8 +209,8 @@ const FAULTS: &[(&str, usize, Fault)] = &[
     ("UTF-8\nFIRSTLEVEL\na1b", 2, Fault::Word),
     ("UTF-8\na1b\nCOMPOUNDLEFTHYPHENMIN", 3, Fault::Number),
     ("UTF-8\nCOMPOUNDRIGHTHYPHENMIN two\na/b", 2, Fault::Number),
-    ("UTF-8\n1-1\na1b\nNEXTLEVEL\nb1c", 4, Fault::NextLevel),
-    ("UTF-8\nta-ble\nNEXTLEVEL\nb1c", 3, Fault::NextLevel),
+    ("UTF-8\na1b\nNEXTLEVEL\nb1c\nNEXTLEVEL\nb1d", 5, Fault::NextLevel),
+    ("UTF-8\na1b\nNEXTLEVEL\n", 3, Fault::Empty),
     ("UTF-8\n\nNOHYPHEN ',-,a", 3, Fault::NoHyphen),
     ("% typesetting:\n%   left: none\n\\patterns{a1b}", 2, Fault::Number),
     ("% typesetting:\n%   left: 1\n", 2, Fault::NoGroup),
@@ -732,13 +741,13 @@ fn each_exception_is_found(rt: HostRuntime) {
 #[test]
 fn what_is_wrong_is_printed(rt: HostRuntime) -> Result<(), AllocError> {
     let alloc = rt.alloc();
-    if let Err(error) = Patterns::parse(alloc, "UTF-8\na1b\nNEXTLEVEL") {
+    if let Err(error) = Patterns::parse(alloc, "a1b\nNEXTLEVEL\nNEXTLEVEL") {
         let text = format!(in alloc; "{error}")?;
         assert_text(
             &rt,
             "the line and why",
             &text,
-            "line 3: patterns of compounds before NEXTLEVEL are not supported",
+            "line 3: there are more than two groups of patterns",
         );
     }
     Ok(())

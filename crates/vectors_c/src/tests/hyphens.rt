@@ -22,7 +22,7 @@ use textwrap_more_calls::hyphens::wrapping::textwrap_wrap_hyphenated;
 const PATTERNS: &[u8] = b"hy3ph\nhe2n\nhena4\nhen5at\n1na\nn2at\n1tio\n2io\no2n\n";
 
 /// How many numbers their dictionary has.
-const NUMBERS: usize = 169;
+const NUMBERS: usize = 178;
 
 /// How much room for numbers the longest row has.
 const MOST: usize = 200;

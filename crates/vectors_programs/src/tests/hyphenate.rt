@@ -240,9 +240,9 @@ type Failing = (&'static str, &'static [u8], FileFault, &'static str);
 const FAILURES: &[Failing] = &[
     (
         "a line of the dictionary is wrong",
-        b"UTF-8\nhy3ph\nNEXTLEVEL\n",
+        b"hy3ph\nNEXTLEVEL\nNEXTLEVEL\n",
         FileFault::Nothing,
-        "hyphenate: words.dic: line 3: patterns of compounds before NEXTLEVEL are not supported\n",
+        "hyphenate: words.dic: line 3: there are more than two groups of patterns\n",
     ),
     (
         "the dictionary is in a charset that is not known",

@@ -6,5 +6,5 @@ use Rattle.textwrap_hyphens.proofs.dictionary.Patterns.parse_bytes.Goals as goal
 
 pub returns-clause-text : goal.returns-clause-text
 returns-clause-text g c = λ utf8.
-    subst (λ (outcome : Outcome). Holds outcome (patterns_view c.in_ok-new.field-0))
-    (sym (c.in_ok-reading.ensures.text utf8)) c.in_ok-new.ensures
+    subst (λ (outcome : Outcome). Holds outcome (patterns_view c.in_ok-listed.field-0))
+    (sym (c.in_ok-reading.ensures.text utf8)) c.in_ok-listed.ensures

@@ -3,12 +3,12 @@ use Rattle.std.proofs.lemmas.List.{get_or-replicate}
 use Rattle.textwrap_hyphens.proofs.Common.{arith, ap, drop, get_or, length, level, max, ◌+◌}
 use Rattle.textwrap_hyphens.proofs.Common.{◌∙◌}
 use Rattle.textwrap_hyphens.proofs.Raised.{levels-all}
-use Rattle.textwrap_hyphens.specs.Table.{held}
-use Rattle.textwrap_hyphens.proofs.levels.levels_counted.Goals as goal
+use Rattle.textwrap_hyphens.specs.Table.{levels_by}
+use Rattle.textwrap_hyphens.proofs.levels.levels_in.Goals as goal
 
 pub returns-clause-levels : goal.returns-clause-levels
 returns-clause-levels g c =
-    let from = (held c.args.patterns.now).level_from in
+    let from = levels_by c.args.patterns.now in
     let items = c.in_ok-levels.levels.items in
     let zeros = c.deref_mut.result.now in
     let new = c.raise_all.new.levels in
@@ -26,5 +26,4 @@ returns-clause-levels g c =
     (λ k within. ap (λ l. get_or l k 0) each ∙ get_or-replicate (c.len.result + 1) k 0 0
     (omega (arith, within, ok, ap length same, len)))
     size
-    (λ k within. c.raise_all.ensures.levels k within
-    ∙ ap (λ from. max (get_or zeros k 0) (level from ds k)) c.patterns.ensures.levels)
+    (λ k within. c.raise_all.ensures.levels k within)

@@ -4,67 +4,67 @@
 #include "textwrap_proved.h"
 
 #define PROVED(name) extern __typeof__(textwrap_##name) proved_##name
-PROVED(display_width);
-PROVED(display_width_utf8);
-PROVED(strip_ansi_escape_sequences);
-PROVED(fill);
-PROVED(fill_utf8);
 PROVED(fill_bound);
-PROVED(fill_inplace);
-PROVED(wrap);
-PROVED(wrap_utf8);
 PROVED(wrap_room_bound);
-PROVED(wrap_columns);
 PROVED(wrap_columns_room_bound);
+PROVED(wrap_columns);
 PROVED(column_width);
 PROVED(rows_of_lines);
+PROVED(align);
+PROVED(justify);
+PROVED(fill_justified);
+PROVED(shorten);
+PROVED(shorten_by);
+PROVED(expand_tabs);
+PROVED(fill);
+PROVED(fill_utf8);
+PROVED(fill_inplace);
+PROVED(indent);
+PROVED(indent_utf8);
+PROVED(dedent);
+PROVED(dedent_utf8);
+PROVED(shorten_lines);
+PROVED(shorten_lines_by);
+PROVED(carry_styles);
 PROVED(refill);
 PROVED(refill_utf8);
 PROVED(unfill);
 PROVED(unfill_utf8);
 PROVED(reflow);
-PROVED(indent);
-PROVED(indent_utf8);
-PROVED(dedent);
-PROVED(dedent_utf8);
-PROVED(align);
-PROVED(justify);
-PROVED(fill_justified);
-PROVED(expand_tabs);
-PROVED(shorten);
-PROVED(shorten_by);
-PROVED(shorten_lines);
-PROVED(shorten_lines_by);
-PROVED(carry_styles);
+PROVED(table);
+PROVED(table_of_lines);
+PROVED(display_width);
+PROVED(display_width_utf8);
+PROVED(strip_ansi_escape_sequences);
+PROVED(wrap);
+PROVED(wrap_utf8);
 PROVED(carry_attributes);
 PROVED(wrap_balanced);
 PROVED(balanced_width);
-PROVED(table);
-PROVED(table_of_lines);
+PROVED(line_breaks);
+PROVED(unicode_cuts);
 PROVED(fitting_widths);
+PROVED(wrap_first_fit);
+PROVED(wrap_optimal_fit);
+PROVED(hyphen_points);
 PROVED(patterns_read);
 PROVED(patterns_check);
-PROVED(hyphen_points);
 PROVED(fill_hyphenated);
 PROVED(refill_hyphenated);
 PROVED(wrap_hyphenated);
 PROVED(wrap_columns_hyphenated);
-PROVED(wrap_first_fit);
-PROVED(wrap_optimal_fit);
+PROVED(fill_justified_at);
+PROVED(paragraphs);
+PROVED(paragraph_widths);
 PROVED(pieces);
 PROVED(find_words_at);
 PROVED(split_points);
-PROVED(line_breaks);
-PROVED(unicode_cuts);
 PROVED(break_apart);
 PROVED(pieces_at);
-PROVED(lines_at);
 PROVED(ends_at);
-PROVED(paragraphs);
-PROVED(paragraph_widths);
+PROVED(lines_at);
 PROVED(wrap_at);
 PROVED(fill_at);
-PROVED(fill_justified_at);
 
 /* Where an array of length 0 may lie, whatever it is of. Nothing is read here or written. */
 static union {
@@ -117,61 +117,21 @@ static textwrap_dictionary some_dictionary(const textwrap_dictionary *dictionary
     return some;
 }
 
-textwrap_status textwrap_display_width(const uint8_t *text, size_t text_len, size_t *columns) {
-    return proved_display_width(ARRAY(text, text_len), columns);
-}
-
-textwrap_status textwrap_display_width_utf8(const uint8_t *text, size_t text_len, size_t *columns) {
-    return proved_display_width_utf8(ARRAY(text, text_len), columns);
-}
-
-textwrap_status textwrap_strip_ansi_escape_sequences(const uint8_t *text, size_t text_len,
-                                                     uint8_t *room, size_t room_len, size_t *len) {
-    return proved_strip_ansi_escape_sequences(ARRAY(text, text_len), ARRAY(room, room_len), len);
-}
-
-textwrap_status textwrap_fill(const uint8_t *text, size_t text_len, const textwrap_options *options,
-                              uint8_t *room, size_t room_len, size_t *len) {
-    textwrap_options some = some_options(options);
-    return proved_fill(ARRAY(text, text_len), &some, ARRAY(room, room_len), len);
-}
-
-textwrap_status textwrap_fill_utf8(const uint8_t *text, size_t text_len,
-                                   const textwrap_options *options, uint8_t *room, size_t room_len,
-                                   size_t *len) {
-    textwrap_options some = some_options(options);
-    return proved_fill_utf8(ARRAY(text, text_len), &some, ARRAY(room, room_len), len);
-}
-
 size_t textwrap_fill_bound(size_t text_len, const textwrap_options *options) {
     textwrap_options some = some_options(options);
     return proved_fill_bound(text_len, &some);
 }
 
-textwrap_status textwrap_fill_inplace(uint8_t *text, size_t text_len, size_t width) {
-    return proved_fill_inplace(ARRAY(text, text_len), width);
-}
-
-textwrap_status textwrap_wrap(const uint8_t *text, size_t text_len, const textwrap_options *options,
-                              textwrap_line *lines, size_t lines_len, size_t *count, uint8_t *room,
-                              size_t room_len, size_t *len) {
-    textwrap_options some = some_options(options);
-    return proved_wrap(ARRAY(text, text_len), &some, ARRAY(lines, lines_len), count,
-                       ARRAY(room, room_len), len);
-}
-
-textwrap_status textwrap_wrap_utf8(const uint8_t *text, size_t text_len,
-                                   const textwrap_options *options, textwrap_line *lines,
-                                   size_t lines_len, size_t *count, uint8_t *room, size_t room_len,
-                                   size_t *len) {
-    textwrap_options some = some_options(options);
-    return proved_wrap_utf8(ARRAY(text, text_len), &some, ARRAY(lines, lines_len), count,
-                            ARRAY(room, room_len), len);
-}
-
 size_t textwrap_wrap_room_bound(size_t text_len, const textwrap_options *options) {
     textwrap_options some = some_options(options);
     return proved_wrap_room_bound(text_len, &some);
+}
+
+size_t textwrap_wrap_columns_room_bound(size_t text_len, size_t columns,
+                                        const textwrap_options *options, const textwrap_gaps *gaps) {
+    textwrap_options some = some_options(options);
+    textwrap_gaps around = some_gaps(gaps);
+    return proved_wrap_columns_room_bound(text_len, columns, &some, &around);
 }
 
 textwrap_status textwrap_wrap_columns(const uint8_t *text, size_t text_len, size_t columns,
@@ -180,16 +140,8 @@ textwrap_status textwrap_wrap_columns(const uint8_t *text, size_t text_len, size
                                       uint8_t *room, size_t room_len, size_t *len) {
     textwrap_options some = some_options(options);
     textwrap_gaps around = some_gaps(gaps);
-    return proved_wrap_columns(ARRAY(text, text_len), columns, &some, &around, ARRAY(rows, rows_len),
-                               count, ARRAY(room, room_len), len);
-}
-
-size_t textwrap_wrap_columns_room_bound(size_t text_len, size_t columns,
-                                        const textwrap_options *options,
-                                        const textwrap_gaps *gaps) {
-    textwrap_options some = some_options(options);
-    textwrap_gaps around = some_gaps(gaps);
-    return proved_wrap_columns_room_bound(text_len, columns, &some, &around);
+    return proved_wrap_columns(ARRAY(text, text_len), columns, &some, &around,
+                               ARRAY(rows, rows_len), count, ARRAY(room, room_len), len);
 }
 
 textwrap_status textwrap_column_width(size_t width, size_t columns, const textwrap_gaps *gaps,
@@ -205,6 +157,111 @@ textwrap_status textwrap_rows_of_lines(const textwrap_text *lines, size_t lines_
     textwrap_gaps around = some_gaps(gaps);
     return proved_rows_of_lines(ARRAY(lines, lines_len), columns, width, &around,
                                 ARRAY(rows, rows_len), count, ARRAY(room, room_len), len);
+}
+
+textwrap_status textwrap_align(const uint8_t *line, size_t line_len, size_t width,
+                               uint32_t alignment, uint8_t *room, size_t room_len, size_t *len) {
+    return proved_align(ARRAY(line, line_len), width, alignment, ARRAY(room, room_len), len);
+}
+
+textwrap_status textwrap_justify(const uint8_t *line, size_t line_len, size_t width, uint8_t *room,
+                                 size_t room_len, size_t *len) {
+    return proved_justify(ARRAY(line, line_len), width, ARRAY(room, room_len), len);
+}
+
+textwrap_status textwrap_fill_justified(const uint8_t *text, size_t text_len,
+                                        const textwrap_options *options, uint8_t *room,
+                                        size_t room_len, size_t *len) {
+    textwrap_options some = some_options(options);
+    return proved_fill_justified(ARRAY(text, text_len), &some, ARRAY(room, room_len), len);
+}
+
+textwrap_status textwrap_shorten(const uint8_t *line, size_t line_len, size_t width,
+                                 const uint8_t *placeholder, size_t placeholder_len, uint8_t *room,
+                                 size_t room_len, size_t *len) {
+    return proved_shorten(ARRAY(line, line_len), width, ARRAY(placeholder, placeholder_len),
+                          ARRAY(room, room_len), len);
+}
+
+textwrap_status textwrap_shorten_by(const uint8_t *line, size_t line_len, size_t width,
+                                    const uint8_t *placeholder, size_t placeholder_len,
+                                    uint32_t break_words, uint8_t *room, size_t room_len,
+                                    size_t *len) {
+    return proved_shorten_by(ARRAY(line, line_len), width, ARRAY(placeholder, placeholder_len),
+                             break_words, ARRAY(room, room_len), len);
+}
+
+textwrap_status textwrap_expand_tabs(const uint8_t *text, size_t text_len, size_t stop,
+                                     uint8_t *room, size_t room_len, size_t *len) {
+    return proved_expand_tabs(ARRAY(text, text_len), stop, ARRAY(room, room_len), len);
+}
+
+textwrap_status textwrap_fill(const uint8_t *text, size_t text_len, const textwrap_options *options,
+                              uint8_t *room, size_t room_len, size_t *len) {
+    textwrap_options some = some_options(options);
+    return proved_fill(ARRAY(text, text_len), &some, ARRAY(room, room_len), len);
+}
+
+textwrap_status textwrap_fill_utf8(const uint8_t *text, size_t text_len,
+                                   const textwrap_options *options, uint8_t *room, size_t room_len,
+                                   size_t *len) {
+    textwrap_options some = some_options(options);
+    return proved_fill_utf8(ARRAY(text, text_len), &some, ARRAY(room, room_len), len);
+}
+
+textwrap_status textwrap_fill_inplace(uint8_t *text, size_t text_len, size_t width) {
+    return proved_fill_inplace(ARRAY(text, text_len), width);
+}
+
+textwrap_status textwrap_indent(const uint8_t *text, size_t text_len, const uint8_t *prefix,
+                                size_t prefix_len, uint8_t *room, size_t room_len, size_t *len) {
+    return proved_indent(ARRAY(text, text_len), ARRAY(prefix, prefix_len), ARRAY(room, room_len),
+                         len);
+}
+
+textwrap_status textwrap_indent_utf8(const uint8_t *text, size_t text_len, const uint8_t *prefix,
+                                     size_t prefix_len, uint8_t *room, size_t room_len, size_t *len) {
+    return proved_indent_utf8(ARRAY(text, text_len), ARRAY(prefix, prefix_len),
+                              ARRAY(room, room_len), len);
+}
+
+textwrap_status textwrap_dedent(const uint8_t *text, size_t text_len, uint8_t *room,
+                                size_t room_len, size_t *len) {
+    return proved_dedent(ARRAY(text, text_len), ARRAY(room, room_len), len);
+}
+
+textwrap_status textwrap_dedent_utf8(const uint8_t *text, size_t text_len, uint8_t *room,
+                                     size_t room_len, size_t *len) {
+    return proved_dedent_utf8(ARRAY(text, text_len), ARRAY(room, room_len), len);
+}
+
+textwrap_status textwrap_shorten_lines(const textwrap_text *lines, size_t lines_len, size_t most,
+                                       size_t width, const uint8_t *placeholder,
+                                       size_t placeholder_len, textwrap_line *places,
+                                       size_t places_len, size_t *count, uint8_t *room,
+                                       size_t room_len, size_t *len) {
+    return proved_shorten_lines(ARRAY(lines, lines_len), most, width,
+                                ARRAY(placeholder, placeholder_len), ARRAY(places, places_len),
+                                count, ARRAY(room, room_len), len);
+}
+
+textwrap_status textwrap_shorten_lines_by(const textwrap_text *lines, size_t lines_len, size_t most,
+                                          size_t width, const uint8_t *placeholder,
+                                          size_t placeholder_len, uint32_t break_words,
+                                          textwrap_line *places, size_t places_len, size_t *count,
+                                          uint8_t *room, size_t room_len, size_t *len) {
+    return proved_shorten_lines_by(ARRAY(lines, lines_len), most, width,
+                                   ARRAY(placeholder, placeholder_len), break_words,
+                                   ARRAY(places, places_len), count, ARRAY(room, room_len), len);
+}
+
+textwrap_status textwrap_carry_styles(const textwrap_text *lines, size_t lines_len,
+                                      const textwrap_options *options, textwrap_line *places,
+                                      size_t places_len, size_t *count, uint8_t *room,
+                                      size_t room_len, size_t *len) {
+    textwrap_options some = some_options(options);
+    return proved_carry_styles(ARRAY(lines, lines_len), &some, ARRAY(places, places_len), count,
+                               ARRAY(room, room_len), len);
 }
 
 textwrap_status textwrap_refill(const uint8_t *text, size_t text_len,
@@ -238,93 +295,53 @@ textwrap_status textwrap_reflow(const uint8_t *text, size_t text_len,
     return proved_reflow(ARRAY(text, text_len), &some, ARRAY(room, room_len), len);
 }
 
-textwrap_status textwrap_indent(const uint8_t *text, size_t text_len, const uint8_t *prefix,
-                                size_t prefix_len, uint8_t *room, size_t room_len, size_t *len) {
-    return proved_indent(ARRAY(text, text_len), ARRAY(prefix, prefix_len), ARRAY(room, room_len),
-                         len);
+textwrap_status textwrap_table(const textwrap_text *cells, size_t cells_len,
+                               const textwrap_column *columns, size_t columns_len,
+                               const textwrap_gaps *gaps, textwrap_line *rows, size_t rows_len,
+                               size_t *count, uint8_t *room, size_t room_len, size_t *len) {
+    textwrap_gaps around = some_gaps(gaps);
+    return proved_table(ARRAY(cells, cells_len), ARRAY(columns, columns_len), &around,
+                        ARRAY(rows, rows_len), count, ARRAY(room, room_len), len);
 }
 
-textwrap_status textwrap_indent_utf8(const uint8_t *text, size_t text_len, const uint8_t *prefix,
-                                     size_t prefix_len, uint8_t *room, size_t room_len,
-                                     size_t *len) {
-    return proved_indent_utf8(ARRAY(text, text_len), ARRAY(prefix, prefix_len),
-                              ARRAY(room, room_len), len);
-}
-
-textwrap_status textwrap_dedent(const uint8_t *text, size_t text_len, uint8_t *room,
-                                size_t room_len, size_t *len) {
-    return proved_dedent(ARRAY(text, text_len), ARRAY(room, room_len), len);
-}
-
-textwrap_status textwrap_dedent_utf8(const uint8_t *text, size_t text_len, uint8_t *room,
-                                     size_t room_len, size_t *len) {
-    return proved_dedent_utf8(ARRAY(text, text_len), ARRAY(room, room_len), len);
-}
-
-textwrap_status textwrap_align(const uint8_t *line, size_t line_len, size_t width,
-                               uint32_t alignment, uint8_t *room, size_t room_len, size_t *len) {
-    return proved_align(ARRAY(line, line_len), width, alignment, ARRAY(room, room_len), len);
-}
-
-textwrap_status textwrap_justify(const uint8_t *line, size_t line_len, size_t width, uint8_t *room,
-                                 size_t room_len, size_t *len) {
-    return proved_justify(ARRAY(line, line_len), width, ARRAY(room, room_len), len);
-}
-
-textwrap_status textwrap_expand_tabs(const uint8_t *text, size_t text_len, size_t stop,
-                                     uint8_t *room, size_t room_len, size_t *len) {
-    return proved_expand_tabs(ARRAY(text, text_len), stop, ARRAY(room, room_len), len);
-}
-
-textwrap_status textwrap_fill_justified(const uint8_t *text, size_t text_len,
-                                        const textwrap_options *options, uint8_t *room,
+textwrap_status textwrap_table_of_lines(const textwrap_cell *cells, size_t cells_len,
+                                        const textwrap_column *columns, size_t columns_len,
+                                        const textwrap_gaps *gaps, textwrap_line *rows,
+                                        size_t rows_len, size_t *count, uint8_t *room,
                                         size_t room_len, size_t *len) {
+    textwrap_gaps around = some_gaps(gaps);
+    return proved_table_of_lines(ARRAY(cells, cells_len), ARRAY(columns, columns_len), &around,
+                                 ARRAY(rows, rows_len), count, ARRAY(room, room_len), len);
+}
+
+textwrap_status textwrap_display_width(const uint8_t *text, size_t text_len, size_t *columns) {
+    return proved_display_width(ARRAY(text, text_len), columns);
+}
+
+textwrap_status textwrap_display_width_utf8(const uint8_t *text, size_t text_len, size_t *columns) {
+    return proved_display_width_utf8(ARRAY(text, text_len), columns);
+}
+
+textwrap_status textwrap_strip_ansi_escape_sequences(const uint8_t *text, size_t text_len,
+                                                     uint8_t *room, size_t room_len, size_t *len) {
+    return proved_strip_ansi_escape_sequences(ARRAY(text, text_len), ARRAY(room, room_len), len);
+}
+
+textwrap_status textwrap_wrap(const uint8_t *text, size_t text_len, const textwrap_options *options,
+                              textwrap_line *lines, size_t lines_len, size_t *count, uint8_t *room,
+                              size_t room_len, size_t *len) {
     textwrap_options some = some_options(options);
-    return proved_fill_justified(ARRAY(text, text_len), &some, ARRAY(room, room_len), len);
+    return proved_wrap(ARRAY(text, text_len), &some, ARRAY(lines, lines_len), count,
+                       ARRAY(room, room_len), len);
 }
 
-textwrap_status textwrap_shorten(const uint8_t *line, size_t line_len, size_t width,
-                                 const uint8_t *placeholder, size_t placeholder_len, uint8_t *room,
-                                 size_t room_len, size_t *len) {
-    return proved_shorten(ARRAY(line, line_len), width, ARRAY(placeholder, placeholder_len),
-                          ARRAY(room, room_len), len);
-}
-
-textwrap_status textwrap_shorten_by(const uint8_t *line, size_t line_len, size_t width,
-                                    const uint8_t *placeholder, size_t placeholder_len,
-                                    uint32_t break_words, uint8_t *room, size_t room_len,
-                                    size_t *len) {
-    return proved_shorten_by(ARRAY(line, line_len), width, ARRAY(placeholder, placeholder_len),
-                             break_words, ARRAY(room, room_len), len);
-}
-
-textwrap_status textwrap_shorten_lines(const textwrap_text *lines, size_t lines_len, size_t most,
-                                       size_t width, const uint8_t *placeholder,
-                                       size_t placeholder_len, textwrap_line *places,
-                                       size_t places_len, size_t *count, uint8_t *room,
-                                       size_t room_len, size_t *len) {
-    return proved_shorten_lines(ARRAY(lines, lines_len), most, width,
-                                ARRAY(placeholder, placeholder_len), ARRAY(places, places_len),
-                                count, ARRAY(room, room_len), len);
-}
-
-textwrap_status textwrap_shorten_lines_by(const textwrap_text *lines, size_t lines_len, size_t most,
-                                          size_t width, const uint8_t *placeholder,
-                                          size_t placeholder_len, uint32_t break_words,
-                                          textwrap_line *places, size_t places_len, size_t *count,
-                                          uint8_t *room, size_t room_len, size_t *len) {
-    return proved_shorten_lines_by(ARRAY(lines, lines_len), most, width,
-                                   ARRAY(placeholder, placeholder_len), break_words,
-                                   ARRAY(places, places_len), count, ARRAY(room, room_len), len);
-}
-
-textwrap_status textwrap_carry_styles(const textwrap_text *lines, size_t lines_len,
-                                      const textwrap_options *options, textwrap_line *places,
-                                      size_t places_len, size_t *count, uint8_t *room,
-                                      size_t room_len, size_t *len) {
+textwrap_status textwrap_wrap_utf8(const uint8_t *text, size_t text_len,
+                                   const textwrap_options *options, textwrap_line *lines,
+                                   size_t lines_len, size_t *count, uint8_t *room, size_t room_len,
+                                   size_t *len) {
     textwrap_options some = some_options(options);
-    return proved_carry_styles(ARRAY(lines, lines_len), &some, ARRAY(places, places_len), count,
-                               ARRAY(room, room_len), len);
+    return proved_wrap_utf8(ARRAY(text, text_len), &some, ARRAY(lines, lines_len), count,
+                            ARRAY(room, room_len), len);
 }
 
 textwrap_status textwrap_carry_attributes(const textwrap_text *lines, size_t lines_len,
@@ -351,23 +368,15 @@ textwrap_status textwrap_balanced_width(const uint8_t *text, size_t text_len,
     return proved_balanced_width(ARRAY(text, text_len), &some, width);
 }
 
-textwrap_status textwrap_table(const textwrap_text *cells, size_t cells_len,
-                               const textwrap_column *columns, size_t columns_len,
-                               const textwrap_gaps *gaps, textwrap_line *rows, size_t rows_len,
-                               size_t *count, uint8_t *room, size_t room_len, size_t *len) {
-    textwrap_gaps around = some_gaps(gaps);
-    return proved_table(ARRAY(cells, cells_len), ARRAY(columns, columns_len), &around,
-                        ARRAY(rows, rows_len), count, ARRAY(room, room_len), len);
+textwrap_status textwrap_line_breaks(const uint8_t *text, size_t text_len, uint32_t unicode_breaks,
+                                     textwrap_line_break *breaks, size_t breaks_len, size_t *count) {
+    return proved_line_breaks(ARRAY(text, text_len), unicode_breaks, ARRAY(breaks, breaks_len),
+                              count);
 }
 
-textwrap_status textwrap_table_of_lines(const textwrap_cell *cells, size_t cells_len,
-                                        const textwrap_column *columns, size_t columns_len,
-                                        const textwrap_gaps *gaps, textwrap_line *rows,
-                                        size_t rows_len, size_t *count, uint8_t *room,
-                                        size_t room_len, size_t *len) {
-    textwrap_gaps around = some_gaps(gaps);
-    return proved_table_of_lines(ARRAY(cells, cells_len), ARRAY(columns, columns_len), &around,
-                                 ARRAY(rows, rows_len), count, ARRAY(room, room_len), len);
+textwrap_status textwrap_unicode_cuts(const uint8_t *line, size_t line_len, size_t *cuts,
+                                      size_t cuts_len, size_t *count) {
+    return proved_unicode_cuts(ARRAY(line, line_len), ARRAY(cuts, cuts_len), count);
 }
 
 textwrap_status textwrap_fitting_widths(const textwrap_text *cells, size_t cells_len,
@@ -377,13 +386,20 @@ textwrap_status textwrap_fitting_widths(const textwrap_text *cells, size_t cells
                                  count);
 }
 
-textwrap_status textwrap_patterns_read(const uint8_t *text, size_t text_len, size_t *room,
-                                       size_t room_len, size_t *len, size_t *line) {
-    return proved_patterns_read(ARRAY(text, text_len), ARRAY(room, room_len), len, line);
+textwrap_status textwrap_wrap_first_fit(const textwrap_fragment *fragments, size_t fragments_len,
+                                        const size_t *line_widths, size_t line_widths_len,
+                                        size_t *ends, size_t ends_len, size_t *count) {
+    return proved_wrap_first_fit(ARRAY(fragments, fragments_len),
+                                 ARRAY(line_widths, line_widths_len), ARRAY(ends, ends_len), count);
 }
 
-textwrap_status textwrap_patterns_check(const size_t *numbers, size_t numbers_len) {
-    return proved_patterns_check(ARRAY(numbers, numbers_len));
+textwrap_status textwrap_wrap_optimal_fit(const textwrap_fragment *fragments, size_t fragments_len,
+                                          const size_t *line_widths, size_t line_widths_len,
+                                          const textwrap_penalties *penalties, size_t *ends,
+                                          size_t ends_len, size_t *count) {
+    return proved_wrap_optimal_fit(ARRAY(fragments, fragments_len),
+                                   ARRAY(line_widths, line_widths_len), penalties,
+                                   ARRAY(ends, ends_len), count);
 }
 
 textwrap_status textwrap_hyphen_points(const textwrap_dictionary *dictionary, const uint8_t *word,
@@ -391,6 +407,15 @@ textwrap_status textwrap_hyphen_points(const textwrap_dictionary *dictionary, co
                                        size_t *count) {
     textwrap_dictionary known = some_dictionary(dictionary);
     return proved_hyphen_points(&known, ARRAY(word, word_len), ARRAY(points, points_len), count);
+}
+
+textwrap_status textwrap_patterns_read(const uint8_t *text, size_t text_len, size_t *room,
+                                       size_t room_len, size_t *len, size_t *line) {
+    return proved_patterns_read(ARRAY(text, text_len), ARRAY(room, room_len), len, line);
+}
+
+textwrap_status textwrap_patterns_check(const size_t *numbers, size_t numbers_len) {
+    return proved_patterns_check(ARRAY(numbers, numbers_len));
 }
 
 textwrap_status textwrap_fill_hyphenated(const uint8_t *text, size_t text_len,
@@ -408,18 +433,19 @@ textwrap_status textwrap_refill_hyphenated(const uint8_t *text, size_t text_len,
                                            size_t room_len, size_t *len) {
     textwrap_options some = some_options(options);
     textwrap_dictionary known = some_dictionary(dictionary);
-    return proved_refill_hyphenated(ARRAY(text, text_len), &some, &known, ARRAY(room, room_len), len);
+    return proved_refill_hyphenated(ARRAY(text, text_len), &some, &known, ARRAY(room, room_len),
+                                    len);
 }
 
 textwrap_status textwrap_wrap_hyphenated(const uint8_t *text, size_t text_len,
                                          const textwrap_options *options,
-                                         const textwrap_dictionary *dictionary, textwrap_line *lines,
-                                         size_t lines_len, size_t *count, uint8_t *room,
-                                         size_t room_len, size_t *len) {
+                                         const textwrap_dictionary *dictionary,
+                                         textwrap_line *lines, size_t lines_len, size_t *count,
+                                         uint8_t *room, size_t room_len, size_t *len) {
     textwrap_options some = some_options(options);
     textwrap_dictionary known = some_dictionary(dictionary);
-    return proved_wrap_hyphenated(ARRAY(text, text_len), &some, &known, ARRAY(lines, lines_len), count,
-                                  ARRAY(room, room_len), len);
+    return proved_wrap_hyphenated(ARRAY(text, text_len), &some, &known, ARRAY(lines, lines_len),
+                                  count, ARRAY(room, room_len), len);
 }
 
 textwrap_status textwrap_wrap_columns_hyphenated(const uint8_t *text, size_t text_len,
@@ -436,20 +462,28 @@ textwrap_status textwrap_wrap_columns_hyphenated(const uint8_t *text, size_t tex
                                           ARRAY(rows, rows_len), count, ARRAY(room, room_len), len);
 }
 
-textwrap_status textwrap_wrap_first_fit(const textwrap_fragment *fragments, size_t fragments_len,
-                                        const size_t *line_widths, size_t line_widths_len,
-                                        size_t *ends, size_t ends_len, size_t *count) {
-    return proved_wrap_first_fit(ARRAY(fragments, fragments_len), ARRAY(line_widths, line_widths_len),
-                                 ARRAY(ends, ends_len), count);
+textwrap_status textwrap_fill_justified_at(const uint8_t *text, size_t text_len,
+                                           const textwrap_steps *steps, size_t steps_len,
+                                           const textwrap_options *options, uint8_t *room,
+                                           size_t room_len, size_t *len) {
+    textwrap_options some = some_options(options);
+    return proved_fill_justified_at(ARRAY(text, text_len), ARRAY(steps, steps_len), &some,
+                                    ARRAY(room, room_len), len);
 }
 
-textwrap_status textwrap_wrap_optimal_fit(const textwrap_fragment *fragments, size_t fragments_len,
-                                          const size_t *line_widths, size_t line_widths_len,
-                                          const textwrap_penalties *penalties, size_t *ends,
-                                          size_t ends_len, size_t *count) {
-    return proved_wrap_optimal_fit(ARRAY(fragments, fragments_len),
-                                   ARRAY(line_widths, line_widths_len), penalties,
-                                   ARRAY(ends, ends_len), count);
+textwrap_status textwrap_paragraphs(const uint8_t *text, size_t text_len,
+                                    const textwrap_options *options, textwrap_paragraph *paragraphs,
+                                    size_t paragraphs_len, size_t *count) {
+    textwrap_options some = some_options(options);
+    return proved_paragraphs(ARRAY(text, text_len), &some, ARRAY(paragraphs, paragraphs_len),
+                             count);
+}
+
+textwrap_status textwrap_paragraph_widths(const uint8_t *paragraph, size_t paragraph_len,
+                                          const textwrap_options *options, size_t is_later,
+                                          textwrap_widths *widths) {
+    textwrap_options some = some_options(options);
+    return proved_paragraph_widths(ARRAY(paragraph, paragraph_len), &some, is_later, widths);
 }
 
 textwrap_status textwrap_pieces(const uint8_t *paragraph, size_t paragraph_len,
@@ -464,17 +498,6 @@ textwrap_status textwrap_find_words_at(const uint8_t *line, size_t line_len, con
                                        size_t *count) {
     return proved_find_words_at(ARRAY(line, line_len), ARRAY(offsets, offsets_len),
                                 ARRAY(words, words_len), count);
-}
-
-textwrap_status textwrap_line_breaks(const uint8_t *text, size_t text_len, uint32_t unicode_breaks,
-                                     textwrap_line_break *breaks, size_t breaks_len, size_t *count) {
-    return proved_line_breaks(ARRAY(text, text_len), unicode_breaks, ARRAY(breaks, breaks_len),
-                              count);
-}
-
-textwrap_status textwrap_unicode_cuts(const uint8_t *line, size_t line_len, size_t *cuts,
-                                      size_t cuts_len, size_t *count) {
-    return proved_unicode_cuts(ARRAY(line, line_len), ARRAY(cuts, cuts_len), count);
 }
 
 textwrap_status textwrap_split_points(const uint8_t *word, size_t word_len, size_t *points,
@@ -496,18 +519,6 @@ textwrap_status textwrap_pieces_at(const uint8_t *paragraph, size_t paragraph_le
                             ARRAY(points, points_len), &some, ARRAY(pieces, pieces_len), count);
 }
 
-textwrap_status textwrap_lines_at(const uint8_t *paragraph, size_t paragraph_len, const size_t *cuts,
-                                  size_t cuts_len, const size_t *points, size_t points_len,
-                                  const size_t *ends, size_t ends_len,
-                                  const textwrap_options *options, size_t is_later,
-                                  textwrap_line *lines, size_t lines_len, size_t *count,
-                                  uint8_t *room, size_t room_len, size_t *len) {
-    textwrap_options some = some_options(options);
-    return proved_lines_at(ARRAY(paragraph, paragraph_len), ARRAY(cuts, cuts_len),
-                           ARRAY(points, points_len), ARRAY(ends, ends_len), &some, is_later,
-                           ARRAY(lines, lines_len), count, ARRAY(room, room_len), len);
-}
-
 textwrap_status textwrap_ends_at(const uint8_t *paragraph, size_t paragraph_len, const size_t *cuts,
                                  size_t cuts_len, const size_t *points, size_t points_len,
                                  const textwrap_options *options, size_t is_later, size_t *ends,
@@ -517,19 +528,16 @@ textwrap_status textwrap_ends_at(const uint8_t *paragraph, size_t paragraph_len,
                           ARRAY(points, points_len), &some, is_later, ARRAY(ends, ends_len), count);
 }
 
-textwrap_status textwrap_paragraphs(const uint8_t *text, size_t text_len,
-                                    const textwrap_options *options,
-                                    textwrap_paragraph *paragraphs, size_t paragraphs_len,
-                                    size_t *count) {
+textwrap_status textwrap_lines_at(const uint8_t *paragraph, size_t paragraph_len,
+                                  const size_t *cuts, size_t cuts_len, const size_t *points,
+                                  size_t points_len, const size_t *ends, size_t ends_len,
+                                  const textwrap_options *options, size_t is_later,
+                                  textwrap_line *lines, size_t lines_len, size_t *count,
+                                  uint8_t *room, size_t room_len, size_t *len) {
     textwrap_options some = some_options(options);
-    return proved_paragraphs(ARRAY(text, text_len), &some, ARRAY(paragraphs, paragraphs_len), count);
-}
-
-textwrap_status textwrap_paragraph_widths(const uint8_t *paragraph, size_t paragraph_len,
-                                          const textwrap_options *options, size_t is_later,
-                                          textwrap_widths *widths) {
-    textwrap_options some = some_options(options);
-    return proved_paragraph_widths(ARRAY(paragraph, paragraph_len), &some, is_later, widths);
+    return proved_lines_at(ARRAY(paragraph, paragraph_len), ARRAY(cuts, cuts_len),
+                           ARRAY(points, points_len), ARRAY(ends, ends_len), &some, is_later,
+                           ARRAY(lines, lines_len), count, ARRAY(room, room_len), len);
 }
 
 textwrap_status textwrap_wrap_at(const uint8_t *text, size_t text_len, const textwrap_steps *steps,
@@ -547,13 +555,4 @@ textwrap_status textwrap_fill_at(const uint8_t *text, size_t text_len, const tex
     textwrap_options some = some_options(options);
     return proved_fill_at(ARRAY(text, text_len), ARRAY(steps, steps_len), &some,
                           ARRAY(room, room_len), len);
-}
-
-textwrap_status textwrap_fill_justified_at(const uint8_t *text, size_t text_len,
-                                           const textwrap_steps *steps, size_t steps_len,
-                                           const textwrap_options *options, uint8_t *room,
-                                           size_t room_len, size_t *len) {
-    textwrap_options some = some_options(options);
-    return proved_fill_justified_at(ARRAY(text, text_len), ARRAY(steps, steps_len), &some,
-                                    ARRAY(room, room_len), len);
 }

@@ -54,8 +54,8 @@
  * The library has no state, so calls may run on several threads at once, if the heap's functions may.
  * It allocates by three of them, which textwrap_heap.h declares and heap.c has over malloc.
  *
- * This header is written by hand. tools/headers compares it with the library, and the tests beside it
- * use each declaration.
+ * tools/border writes the arguments of each call from the library's sources and compares all else with
+ * them; the tests beside it use each declaration.
  */
 #ifndef TEXTWRAP_PROVED_H
 #define TEXTWRAP_PROVED_H

@@ -1,5 +1,5 @@
-//! The exports of the library, as `bindings/c/textwrap_proved.h` has them. `tools/headers` compares the
-//! two.
+//! The exports of the library, as `bindings/c/textwrap_proved.h` has them. `tools/border` writes the
+//! arguments of those that are named here, and compares the rest with the header.
 
 pub const DONE: u32 = 0;
 pub const OUT_OF_MEMORY: u32 = 2;

@@ -1,17 +1,17 @@
 //! Lists of lines with attributes carried over their ends.
-ghost use Rattle.std.specs.Prelude.{◌≡◌, ◌≤◌, ◌↔◌, [], map, All};
+ghost use Rattle.std.specs.Prelude.{All, [], map, ◌↔◌, ◌≡◌, ◌≤◌};
 ghost use Rattle.textwrap.specs.Paragraph.{line_bytes};
 ghost use Rattle.textwrap_calls.specs.Columns.{AreRows};
-ghost use Rattle.textwrap_calls.specs.Options.{options_settings, AreKnown, AreTexts, TellsUnknown};
+ghost use Rattle.textwrap_calls.specs.Options.{AreKnown, AreTexts, TellsUnknown, options_settings};
 ghost use Rattle.textwrap_calls.specs.Status.{not_utf8, unknown_options};
-ghost use Rattle.textwrap_calls.specs.Texts.{bytes_of, IsText};
+ghost use Rattle.textwrap_calls.specs.Texts.{IsText, bytes_of};
 ghost use Rattle.textwrap_calls.specs.Wrapping.{WritesLines};
 ghost use Rattle.textwrap_display.specs.Attributes.{attributed_lines};
 
 use std::alloc::Global;
 use textwrap_calls::options::TextwrapOptions;
+use textwrap_calls::reported::TextwrapLine;
 use textwrap_calls::texts::TextwrapText;
-use textwrap_calls::wrapping::TextwrapLine;
 use textwrap_more_calls::attributes;
 
 /// Exports [`textwrap_more_calls::attributes::textwrap_carry_attributes`].

@@ -1,7 +1,7 @@
 //! Balanced lines of a text, and the width that they have.
-ghost use Rattle.std.specs.Prelude.{◌≡◌, ◌≢◌, ◌≤◌, ◌⊎◌, List, length};
+ghost use Rattle.std.specs.Prelude.{List, length, ◌≡◌, ◌≢◌, ◌≤◌, ◌⊎◌};
 ghost use Rattle.textwrap.specs.Paragraph.{Line};
-ghost use Rattle.textwrap_calls.specs.Options.{TellsUnknown, TellsNotUtf8};
+ghost use Rattle.textwrap_calls.specs.Options.{TellsNotUtf8, TellsUnknown};
 ghost use Rattle.textwrap_calls.specs.Status.{done, not_utf8, out_of_memory, too_small};
 ghost use Rattle.textwrap_calls.specs.Status.{unknown_options};
 ghost use Rattle.textwrap_calls.specs.Wrapping.{WritesLongLines};

@@ -1,11 +1,11 @@
 //! How much room an answer takes at most, by the length of its text, so that a caller can bring the
 //! room at the first call. A bound that no number holds is `usize::MAX`.
-ghost use Rattle.std.specs.Prelude.{◌≡◌, ◌≤◌, ◌+◌, ◌-◌, length};
+ghost use Rattle.std.specs.Prelude.{length, ◌+◌, ◌≡◌, ◌≤◌};
 ghost use Rattle.textwrap.specs.Filling.{IsFilled};
-ghost use Rattle.textwrap_calls.specs.Bounds.{ForLinesOf, ForTextsOf, HoldsEach, Suffices, as_len};
-ghost use Rattle.textwrap_calls.specs.Bounds.{ForRowsOf, columns_room_bound, fill_bound};
+ghost use Rattle.textwrap_calls.specs.Bounds.{ForLinesOf, ForRowsOf, ForTextsOf, HoldsEach};
+ghost use Rattle.textwrap_calls.specs.Bounds.{Suffices, as_len, columns_room_bound, fill_bound};
 ghost use Rattle.textwrap_calls.specs.Bounds.{rows_bound, wrap_room_bound};
-ghost use Rattle.textwrap_calls.specs.Options.{options_settings, Divides};
+ghost use Rattle.textwrap_calls.specs.Options.{Divides, options_settings};
 ghost use Rattle.textwrap_calls.specs.declared.columns.TextwrapGaps.{TextwrapGaps};
 ghost use Rattle.textwrap_calls.specs.declared.options.TextwrapOptions.{TextwrapOptions};
 ghost use Rattle.textwrap_layout.specs.Places.{built_text};

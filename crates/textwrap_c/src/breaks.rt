@@ -1,9 +1,9 @@
 //! Unicode line breaks.
-ghost use Rattle.std.specs.Prelude.{◌≡◌, ◌<◌, ◌≤◌, ◌↔◌, ◌⊎◌, IsUtf8};
-ghost use Rattle.textwrap_more_calls.specs.Breaks.{break_places};
+ghost use Rattle.std.specs.Prelude.{IsUtf8, ◌<◌, ◌↔◌, ◌≡◌, ◌≤◌, ◌⊎◌};
 ghost use Rattle.textwrap_calls.specs.Options.{numbers_of};
 ghost use Rattle.textwrap_calls.specs.Room.{WritesText};
 ghost use Rattle.textwrap_calls.specs.Status.{not_utf8, too_small, unknown_options};
+ghost use Rattle.textwrap_more_calls.specs.Breaks.{break_places};
 ghost use Rattle.textwrap_unicode.specs.Cuts.{unicode_cuts};
 
 use std::alloc::Global;

@@ -1,19 +1,18 @@
 //! A text in columns beside one another.
-ghost use Rattle.std.specs.Prelude.{◌≡◌, ◌≢◌, ◌≤◌, ◌<◌, ◌↔◌, ◌⊎◌, [], IsUtf8, All};
+ghost use Rattle.std.specs.Prelude.{All, IsUtf8, [], ◌<◌, ◌↔◌, ◌≡◌, ◌≢◌, ◌≤◌, ◌⊎◌};
 ghost use Rattle.textwrap.specs.Columns.{IsInColumns, layout_of, table_rows};
-ghost use Rattle.textwrap_calls.specs.Columns.{AreKnownGaps, AreTextGaps, AreRows};
-ghost use Rattle.textwrap_calls.specs.Options.{options_settings, AreKnown, Divides};
-ghost use Rattle.textwrap_calls.specs.Options.{AreTexts};
+ghost use Rattle.textwrap_calls.specs.Columns.{AreKnownGaps, AreRows, AreTextGaps};
+ghost use Rattle.textwrap_calls.specs.Options.{AreKnown, AreTexts, Divides, options_settings};
 ghost use Rattle.textwrap_calls.specs.Status.{done, not_utf8, unknown_options};
-ghost use Rattle.textwrap_calls.specs.Texts.{bytes_of, IsText};
+ghost use Rattle.textwrap_calls.specs.Texts.{IsText, bytes_of};
 ghost use Rattle.textwrap_calls.specs.Wrapping.{WritesLines};
 
 use std::alloc::Global;
 use textwrap_calls::columns;
 use textwrap_calls::columns::TextwrapGaps;
 use textwrap_calls::options::TextwrapOptions;
+use textwrap_calls::reported::TextwrapLine;
 use textwrap_calls::texts::TextwrapText;
-use textwrap_calls::wrapping::TextwrapLine;
 
 /// Exports [`textwrap_calls::columns::textwrap_wrap_columns`].
 #[unsafe(no_mangle)]

@@ -1,8 +1,8 @@
 //! The widths of columns that fit the cells of a table.
-ghost use Rattle.std.specs.Prelude.{◌≡◌, ◌≤◌, ◌↔◌, All};
+ghost use Rattle.std.specs.Prelude.{All, ◌↔◌, ◌≡◌, ◌≤◌};
 ghost use Rattle.textwrap_calls.specs.Room.{WritesText};
 ghost use Rattle.textwrap_calls.specs.Status.{not_utf8, too_small};
-ghost use Rattle.textwrap_calls.specs.Texts.{bytes_of, IsText};
+ghost use Rattle.textwrap_calls.specs.Texts.{IsText, bytes_of};
 ghost use Rattle.textwrap_display.specs.Fitting.{fitting_widths};
 ghost use Rattle.textwrap_display.specs.Needs.{needs_of};
 

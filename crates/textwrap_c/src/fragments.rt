@@ -1,15 +1,15 @@
 //! Fragments of the caller's own, and the two algorithms that divide them into lines.
-ghost use Rattle.std.specs.Prelude.{◌≡◌, ◌≢◌, ◌⊎◌, ◌↔◌};
-ghost use Rattle.textwrap_base.specs.Cost.{total_width, Overflows, AreEqualFromSecond};
+ghost use Rattle.std.specs.Prelude.{◌↔◌, ◌≡◌, ◌≢◌, ◌⊎◌};
+ghost use Rattle.textwrap_base.specs.Cost.{AreEqualFromSecond, Overflows, total_width};
 ghost use Rattle.textwrap_base.specs.Division.{IsGreedy};
 ghost use Rattle.textwrap_base.specs.Errors.{Fits64Bits, Passes128Bits};
 ghost use Rattle.textwrap_base.specs.OptimalFit.{IsByOptimalFit};
 ghost use Rattle.textwrap_base.specs.Table.{TableOverflows};
-ghost use Rattle.textwrap_more_calls.specs.Fragments.{fragment_sizes, fragments_problem, AreEndsOf};
-ghost use Rattle.textwrap_more_calls.specs.Fragments.{AreKnownPenalties};
 ghost use Rattle.textwrap_calls.specs.Room.{WritesText};
-ghost use Rattle.textwrap_calls.specs.Status.{done, out_of_memory, too_small, unknown_options};
-ghost use Rattle.textwrap_calls.specs.Status.{overflow};
+ghost use Rattle.textwrap_calls.specs.Status.{done, out_of_memory, overflow, too_small};
+ghost use Rattle.textwrap_calls.specs.Status.{unknown_options};
+ghost use Rattle.textwrap_more_calls.specs.Fragments.{AreEndsOf, AreKnownPenalties, fragments_problem};
+ghost use Rattle.textwrap_more_calls.specs.Fragments.{fragment_sizes};
 
 use std::alloc::Global;
 use textwrap_more_calls::fragments;

@@ -1,27 +1,49 @@
 //! Hyphenation by patterns.
-ghost use Rattle.std.specs.Prelude.{◌≡◌, ◌≢◌, ◌≤◌, ◌↔◌, ◌⊎◌, false, true, IsUtf8};
+ghost use Rattle.std.specs.Prelude.{IsUtf8, false, true, ◌↔◌, ◌≡◌, ◌≢◌, ◌≤◌, ◌⊎◌};
 ghost use Rattle.textwrap_calls.specs.Columns.{AreRows};
 ghost use Rattle.textwrap_calls.specs.Options.{AreTexts};
 ghost use Rattle.textwrap_calls.specs.Room.{WritesText};
 ghost use Rattle.textwrap_calls.specs.Status.{done, not_utf8, too_small, unknown_options};
 ghost use Rattle.textwrap_calls.specs.Wrapping.{WritesLines};
-ghost use Rattle.textwrap_more_calls.specs.Dictionaries.{AreNumbersOf, hyphenation_of, IsDamaged};
+ghost use Rattle.textwrap_hyphens.specs.Points.{hyphenation_points};
+ghost use Rattle.textwrap_hyphens.specs.Seal.{is_sealed};
+ghost use Rattle.textwrap_more_calls.specs.Dictionaries.{AreNumbersOf, IsDamaged};
 ghost use Rattle.textwrap_more_calls.specs.Dictionaries.{IsKnownDictionary, IsWrongAt};
+ghost use Rattle.textwrap_more_calls.specs.Dictionaries.{hyphenation_of};
 ghost use Rattle.textwrap_more_calls.specs.Hyphenated.{AreKnownHere, AreKnownInColumns};
 ghost use Rattle.textwrap_more_calls.specs.Hyphenated.{ArePlacedByDictionary, AreTextsInColumns};
 ghost use Rattle.textwrap_more_calls.specs.Hyphenated.{IsFilledByDictionary};
 ghost use Rattle.textwrap_more_calls.specs.Hyphenated.{IsInColumnsByDictionary};
 ghost use Rattle.textwrap_more_calls.specs.Hyphenated.{IsRefilledByDictionary};
 ghost use Rattle.textwrap_more_calls.specs.Status.{damaged_table, wrong_patterns};
-ghost use Rattle.textwrap_hyphens.specs.Points.{hyphenation_points};
-ghost use Rattle.textwrap_hyphens.specs.Seal.{is_sealed};
 
 use std::alloc::Global;
 use textwrap_calls::columns::TextwrapGaps;
 use textwrap_calls::options::TextwrapOptions;
-use textwrap_calls::wrapping::TextwrapLine;
+use textwrap_calls::reported::TextwrapLine;
 use textwrap_more_calls::hyphens::dictionary::TextwrapDictionary;
-use textwrap_more_calls::hyphens::{columns, filling, points, reading, refilling, wrapping};
+use textwrap_more_calls::hyphens::{points, reading, texts};
+
+/// Exports [`textwrap_more_calls::hyphens::points::textwrap_hyphen_points`].
+#[unsafe(no_mangle)]
+pub extern "C" fn textwrap_hyphen_points(
+    alloc: Global,
+    dictionary: &TextwrapDictionary<'_>,
+    word: &[u8],
+    points: &mut [usize],
+    count: &mut usize,
+) -> u32
+    ensures points { WritesText (λ answer. answer ≡ hyphenation_points
+        (hyphenation_of dictionary.now) word.now)
+        result points.old points.new count.old count.new }
+    ensures unknown { result ≡ unknown_options ↔ ¬ IsKnownDictionary dictionary.now }
+    ensures not_utf8 { result ≡ not_utf8 ↔ IsKnownDictionary dictionary.now × ¬ IsUtf8 word.now }
+    ensures damaged { result ≡ damaged_table
+        ↔ IsKnownDictionary dictionary.now × IsUtf8 word.now × IsDamaged dictionary.now }
+    ensures statuses { (result ≤ unknown_options) ⊎ (result ≡ damaged_table) }
+{
+    points::textwrap_hyphen_points(alloc, dictionary, word, points, count)
+}
 
 /// Exports [`textwrap_more_calls::hyphens::reading::textwrap_patterns_read`].
 #[unsafe(no_mangle)]
@@ -51,28 +73,7 @@ pub extern "C" fn textwrap_patterns_check(numbers: &[usize]) -> u32
     reading::textwrap_patterns_check(numbers)
 }
 
-/// Exports [`textwrap_more_calls::hyphens::points::textwrap_hyphen_points`].
-#[unsafe(no_mangle)]
-pub extern "C" fn textwrap_hyphen_points(
-    alloc: Global,
-    dictionary: &TextwrapDictionary<'_>,
-    word: &[u8],
-    points: &mut [usize],
-    count: &mut usize,
-) -> u32
-    ensures points { WritesText (λ answer. answer ≡ hyphenation_points
-        (hyphenation_of dictionary.now) word.now)
-        result points.old points.new count.old count.new }
-    ensures unknown { result ≡ unknown_options ↔ ¬ IsKnownDictionary dictionary.now }
-    ensures not_utf8 { result ≡ not_utf8 ↔ IsKnownDictionary dictionary.now × ¬ IsUtf8 word.now }
-    ensures damaged { result ≡ damaged_table
-        ↔ IsKnownDictionary dictionary.now × IsUtf8 word.now × IsDamaged dictionary.now }
-    ensures statuses { (result ≤ unknown_options) ⊎ (result ≡ damaged_table) }
-{
-    points::textwrap_hyphen_points(alloc, dictionary, word, points, count)
-}
-
-/// Exports [`textwrap_more_calls::hyphens::filling::textwrap_fill_hyphenated`].
+/// Exports [`textwrap_more_calls::hyphens::texts::textwrap_fill_hyphenated`].
 #[unsafe(no_mangle)]
 pub extern "C" fn textwrap_fill_hyphenated(
     alloc: Global,
@@ -91,10 +92,10 @@ pub extern "C" fn textwrap_fill_hyphenated(
         × (IsUtf8 text.now × AreTexts options.now) × IsDamaged dictionary.now }
     ensures statuses { (result ≤ unknown_options) ⊎ (result ≡ damaged_table) }
 {
-    filling::textwrap_fill_hyphenated(alloc, text, options, dictionary, room, len)
+    texts::textwrap_fill_hyphenated(alloc, text, options, dictionary, room, len)
 }
 
-/// Exports [`textwrap_more_calls::hyphens::refilling::textwrap_refill_hyphenated`].
+/// Exports [`textwrap_more_calls::hyphens::texts::textwrap_refill_hyphenated`].
 #[unsafe(no_mangle)]
 pub extern "C" fn textwrap_refill_hyphenated(
     alloc: Global,
@@ -113,10 +114,10 @@ pub extern "C" fn textwrap_refill_hyphenated(
         × (IsUtf8 text.now × AreTexts options.now) × IsDamaged dictionary.now }
     ensures statuses { (result ≤ unknown_options) ⊎ (result ≡ damaged_table) }
 {
-    refilling::textwrap_refill_hyphenated(alloc, text, options, dictionary, room, len)
+    texts::textwrap_refill_hyphenated(alloc, text, options, dictionary, room, len)
 }
 
-/// Exports [`textwrap_more_calls::hyphens::wrapping::textwrap_wrap_hyphenated`].
+/// Exports [`textwrap_more_calls::hyphens::texts::textwrap_wrap_hyphenated`].
 #[unsafe(no_mangle)]
 pub extern "C" fn textwrap_wrap_hyphenated(
     alloc: Global,
@@ -137,10 +138,10 @@ pub extern "C" fn textwrap_wrap_hyphenated(
         × (IsUtf8 text.now × AreTexts options.now) × IsDamaged dictionary.now }
     ensures statuses { (result ≤ unknown_options) ⊎ (result ≡ damaged_table) }
 {
-    wrapping::textwrap_wrap_hyphenated(alloc, text, options, dictionary, lines, count, room, len)
+    texts::textwrap_wrap_hyphenated(alloc, text, options, dictionary, lines, count, room, len)
 }
 
-/// Exports [`textwrap_more_calls::hyphens::columns::textwrap_wrap_columns_hyphenated`].
+/// Exports [`textwrap_more_calls::hyphens::texts::textwrap_wrap_columns_hyphenated`].
 #[unsafe(no_mangle)]
 pub extern "C" fn textwrap_wrap_columns_hyphenated(
     alloc: Global,
@@ -167,7 +168,7 @@ pub extern "C" fn textwrap_wrap_columns_hyphenated(
         × AreTextsInColumns text.now options.now gaps.now × IsDamaged dictionary.now }
     ensures statuses { (result ≤ unknown_options) ⊎ (result ≡ damaged_table) }
 {
-    columns::textwrap_wrap_columns_hyphenated(
+    texts::textwrap_wrap_columns_hyphenated(
         alloc, text, columns, options, gaps, dictionary, rows, count, room, len,
     )
 }

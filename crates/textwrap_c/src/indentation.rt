@@ -1,6 +1,6 @@
 //! Indenting and dedenting a text.
-ghost use Rattle.std.specs.Prelude.{◌≡◌, ◌≢◌, ◌≤◌, ◌⊎◌, ◌↔◌, IsUtf8};
-ghost use Rattle.textwrap.specs.Indentation.{indented, dedented};
+ghost use Rattle.std.specs.Prelude.{IsUtf8, ◌↔◌, ◌≡◌, ◌≢◌, ◌≤◌, ◌⊎◌};
+ghost use Rattle.textwrap.specs.Indentation.{dedented, indented};
 ghost use Rattle.textwrap_calls.specs.Room.{WritesLong, WritesText};
 ghost use Rattle.textwrap_calls.specs.Status.{done, not_utf8, out_of_memory, too_small};
 

@@ -1,20 +1,20 @@
 //! Lists of lines for display: shortened, and with styles carried over their ends.
-ghost use Rattle.std.specs.Prelude.{◌≡◌, false, ◌<◌, ◌≤◌, ◌↔◌, [], map, All, IsUtf8};
+ghost use Rattle.std.specs.Prelude.{All, IsUtf8, [], false, map, ◌<◌, ◌↔◌, ◌≡◌, ◌≤◌};
 ghost use Rattle.textwrap.specs.Paragraph.{line_bytes};
 ghost use Rattle.textwrap_calls.specs.Columns.{AreRows};
 ghost use Rattle.textwrap_calls.specs.Display.{AreShort};
-ghost use Rattle.textwrap_calls.specs.Options.{options_settings, says_yes, AreKnown, AreTexts};
-ghost use Rattle.textwrap_calls.specs.Options.{TellsUnknown};
+ghost use Rattle.textwrap_calls.specs.Options.{AreKnown, AreTexts, TellsUnknown, says_yes};
+ghost use Rattle.textwrap_calls.specs.Options.{options_settings};
 ghost use Rattle.textwrap_calls.specs.Status.{not_utf8, too_small, unknown_options};
-ghost use Rattle.textwrap_calls.specs.Texts.{bytes_of, IsText};
+ghost use Rattle.textwrap_calls.specs.Texts.{IsText, bytes_of};
 ghost use Rattle.textwrap_calls.specs.Wrapping.{WritesLines};
 ghost use Rattle.textwrap_display.specs.Styles.{carried_lines};
 
 use std::alloc::Global;
 use textwrap_calls::line_lists;
 use textwrap_calls::options::TextwrapOptions;
+use textwrap_calls::reported::TextwrapLine;
 use textwrap_calls::texts::TextwrapText;
-use textwrap_calls::wrapping::TextwrapLine;
 
 /// Exports [`textwrap_calls::line_lists::textwrap_shorten_lines`].
 #[unsafe(no_mangle)]

@@ -1,16 +1,15 @@
 //! Words, and the pieces that they are split and broken into, by where they stand.
-ghost use Rattle.std.specs.Prelude.{◌≡◌, ◌⊎◌, ◌↔◌, ◌≤◌, []};
-ghost use Rattle.std.specs.Prelude.{IsUtf8};
-ghost use Rattle.textwrap_calls.specs.Options.{separator_of, options_settings, options_splitter};
-ghost use Rattle.textwrap_calls.specs.Options.{TellsUnknown, TellsNotUtf8};
-ghost use Rattle.textwrap_more_calls.specs.Pieces.{AreOffsets, piece_places};
+ghost use Rattle.std.specs.Prelude.{IsUtf8, [], ◌↔◌, ◌≡◌, ◌≤◌, ◌⊎◌};
+ghost use Rattle.textwrap_calls.specs.Options.{TellsNotUtf8, TellsUnknown, separator_of};
+ghost use Rattle.textwrap_calls.specs.Options.{options_settings, options_splitter};
 ghost use Rattle.textwrap_calls.specs.Room.{WritesText};
 ghost use Rattle.textwrap_calls.specs.Status.{done, not_utf8, too_small, unknown_options};
 ghost use Rattle.textwrap_calls.specs.Status.{wrong_places};
 ghost use Rattle.textwrap_layout.specs.Paragraph.{pieces_by};
+ghost use Rattle.textwrap_more_calls.specs.Pieces.{AreOffsets, piece_places};
 ghost use Rattle.textwrap_plain.specs.Options.{words_by};
-ghost use Rattle.textwrap_words.specs.Breaking.{broken_pieces};
 ghost use Rattle.textwrap_text.specs.Units.{stripped};
+ghost use Rattle.textwrap_words.specs.Breaking.{broken_pieces};
 ghost use Rattle.textwrap_words.specs.WordOffsets.{words_at};
 ghost use Rattle.textwrap_words.specs.WordSplitters.{hyphen_points};
 ghost use Rattle.textwrap_words.specs.Words.{piece};

@@ -1,8 +1,8 @@
 //! Unfilling and refilling a filled text.
-ghost use Rattle.std.specs.Prelude.{◌≡◌, ◌≢◌, ◌≤◌, ◌⊎◌, ◌↔◌, IsUtf8};
+ghost use Rattle.std.specs.Prelude.{IsUtf8, ◌↔◌, ◌≡◌, ◌≢◌, ◌≤◌, ◌⊎◌};
 ghost use Rattle.textwrap.specs.Refilling.{unfilled_parts, unfilled_settings};
-ghost use Rattle.textwrap_calls.specs.Options.{AreKnown};
-ghost use Rattle.textwrap_calls.specs.Options.{AreTexts, TellsUnknown, TellsNotUtf8, IsRefilledBy};
+ghost use Rattle.textwrap_calls.specs.Options.{AreKnown, AreTexts, IsRefilledBy, TellsNotUtf8};
+ghost use Rattle.textwrap_calls.specs.Options.{TellsUnknown};
 ghost use Rattle.textwrap_calls.specs.Refilling.{IsLayout};
 ghost use Rattle.textwrap_calls.specs.Room.{WritesText};
 ghost use Rattle.textwrap_calls.specs.Status.{done, not_utf8, out_of_memory, too_small};

@@ -1,5 +1,5 @@
 //! Texts of many paragraphs, in which marks stand before the words.
-ghost use Rattle.std.specs.Prelude.{◌≡◌, ◌≤◌, ◌↔◌, IsUtf8};
+ghost use Rattle.std.specs.Prelude.{IsUtf8, ◌↔◌, ◌≡◌, ◌≤◌};
 ghost use Rattle.textwrap_calls.specs.Reflowing.{AreKnown, AreTexts, IsReflowedBy};
 ghost use Rattle.textwrap_calls.specs.Room.{WritesText};
 ghost use Rattle.textwrap_calls.specs.Status.{not_utf8, unknown_options};

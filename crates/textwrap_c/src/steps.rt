@@ -1,24 +1,24 @@
 //! A paragraph in steps, for a caller who finds words, points or lines in another way.
-ghost use Rattle.std.specs.Prelude.{◌≡◌, ◌≢◌, ◌≤◌, ◌<◌, ◌↔◌, ◌⊎◌, IsUtf8};
-ghost use Rattle.textwrap_layout.specs.Paragraph.{widths_of};
-ghost use Rattle.textwrap_lines.specs.Steps.{pieces_at};
+ghost use Rattle.std.specs.Prelude.{IsUtf8, ◌<◌, ◌↔◌, ◌≡◌, ◌≢◌, ◌≤◌, ◌⊎◌};
+ghost use Rattle.textwrap.specs.WrapAlgorithms.{IsDividedBy, OverflowsBy};
 ghost use Rattle.textwrap_base.specs.Cost.{total_width};
 ghost use Rattle.textwrap_base.specs.Errors.{Fits64Bits};
-ghost use Rattle.textwrap_words.specs.Words.{sizes_of};
-ghost use Rattle.textwrap_words.specs.WrapAlgorithms.{IsDividedBy, OverflowsBy};
-ghost use Rattle.textwrap_more_calls.specs.Fragments.{AreEndsOf};
-ghost use Rattle.textwrap_calls.specs.Options.{options_algorithm, options_settings, says_yes};
-ghost use Rattle.textwrap_calls.specs.Options.{AreKnown, AreTexts, TellsUnknown, TellsNotUtf8};
-ghost use Rattle.textwrap_more_calls.specs.Pieces.{piece_places};
+ghost use Rattle.textwrap_calls.specs.Options.{AreKnown, AreTexts, TellsNotUtf8, TellsUnknown};
+ghost use Rattle.textwrap_calls.specs.Options.{options_algorithm, says_yes, options_settings};
 ghost use Rattle.textwrap_calls.specs.Room.{WritesText};
 ghost use Rattle.textwrap_calls.specs.Status.{done, not_utf8, out_of_memory, overflow, too_small};
 ghost use Rattle.textwrap_calls.specs.Status.{unknown_options, wrong_places};
-ghost use Rattle.textwrap_more_calls.specs.Steps.{AreSteps, AreLineSteps, ArePlacedCuts, step_cuts};
 ghost use Rattle.textwrap_calls.specs.Wrapping.{WritesLines};
+ghost use Rattle.textwrap_layout.specs.Paragraph.{widths_of};
+ghost use Rattle.textwrap_lines.specs.Steps.{pieces_at};
+ghost use Rattle.textwrap_more_calls.specs.Fragments.{AreEndsOf};
+ghost use Rattle.textwrap_more_calls.specs.Pieces.{piece_places};
+ghost use Rattle.textwrap_more_calls.specs.Steps.{AreLineSteps, ArePlacedCuts, AreSteps, step_cuts};
+ghost use Rattle.textwrap_words.specs.Words.{sizes_of};
 
 use std::alloc::Global;
 use textwrap_calls::options::TextwrapOptions;
-use textwrap_calls::wrapping::TextwrapLine;
+use textwrap_calls::reported::TextwrapLine;
 use textwrap_more_calls::pieces::TextwrapPiece;
 use textwrap_more_calls::steps;
 
@@ -108,6 +108,7 @@ pub extern "C" fn textwrap_lines_at(
     ensures unknown { result ≡ unknown_options ↔ (1 < is_later) ⊎ (¬ AreKnown options.now) }
     ensures not_utf8 { result ≡ not_utf8 ↔ (is_later ≤ 1) × AreKnown options.now
         × ¬ (IsUtf8 paragraph.now × AreTexts options.now) }
+    // That the ends are more than the pieces is found out only if there is memory for these.
     ensures wrong_places { result ≡ wrong_places → (is_later ≤ 1) × AreKnown options.now
         × (IsUtf8 paragraph.now × AreTexts options.now)
         × ¬ AreLineSteps (options_settings options.now) cuts.now points.now ends.now paragraph.now }

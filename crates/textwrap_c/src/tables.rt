@@ -1,9 +1,10 @@
 //! Texts in the columns of a table.
-ghost use Rattle.std.specs.Prelude.{◌≡◌, ◌≤◌, ◌↔◌, [], map, All};
+ghost use Rattle.std.specs.Prelude.{All, [], map, ◌↔◌, ◌≡◌, ◌≤◌};
 ghost use Rattle.textwrap_calls.specs.Columns.{AreKnownGaps, AreRows, AreTextGaps, row_gaps};
 ghost use Rattle.textwrap_calls.specs.Status.{not_utf8, unknown_options};
 ghost use Rattle.textwrap_calls.specs.Tables.{AreTableTexts, HasTextLines, IsKnownColumn};
-ghost use Rattle.textwrap_calls.specs.Tables.{lines_of_cells, parts_of_column, shape_of_column};
+ghost use Rattle.textwrap_calls.specs.Tables.{lines_of_cells};
+ghost use Rattle.textwrap_calls.specs.Tables.{parts_of_column, shape_of_column};
 ghost use Rattle.textwrap_calls.specs.Texts.{bytes_of};
 ghost use Rattle.textwrap_calls.specs.Wrapping.{WritesLines};
 ghost use Rattle.textwrap_display.specs.Tables.{rows_of_cells};
@@ -11,10 +12,10 @@ ghost use Rattle.textwrap_plain.specs.Tables.{IsPlainTable};
 
 use std::alloc::Global;
 use textwrap_calls::columns::TextwrapGaps;
+use textwrap_calls::reported::TextwrapLine;
 use textwrap_calls::tables;
 use textwrap_calls::tables::{TextwrapCell, TextwrapColumn};
 use textwrap_calls::texts::TextwrapText;
-use textwrap_calls::wrapping::TextwrapLine;
 
 /// Exports [`textwrap_calls::tables::textwrap_table`].
 #[unsafe(no_mangle)]

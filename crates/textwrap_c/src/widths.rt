@@ -1,5 +1,5 @@
 //! The columns of a text, and the text without its escape sequences.
-ghost use Rattle.std.specs.Prelude.{◌≡◌, ◌≢◌, ◌≤◌, ◌↔◌, IsUtf8};
+ghost use Rattle.std.specs.Prelude.{IsUtf8, ◌↔◌, ◌≡◌, ◌≢◌, ◌≤◌};
 ghost use Rattle.textwrap.specs.Units.{stripped, text_width};
 ghost use Rattle.textwrap_calls.specs.Room.{WritesText};
 ghost use Rattle.textwrap_calls.specs.Status.{done, not_utf8, too_small};

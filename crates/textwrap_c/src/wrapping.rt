@@ -1,15 +1,14 @@
 //! The lines of a text.
-ghost use Rattle.std.specs.Prelude.{◌≡◌, ◌≤◌, ◌↔◌, IsUtf8};
-ghost use Rattle.textwrap_calls.specs.Options.{AreKnown};
-ghost use Rattle.textwrap_calls.specs.Options.{AreTexts, TellsUnknown, TellsNotUtf8, NeedsNoMemory};
-ghost use Rattle.textwrap_calls.specs.Options.{ArePlacedBy};
+ghost use Rattle.std.specs.Prelude.{IsUtf8, ◌↔◌, ◌≡◌, ◌≤◌};
+ghost use Rattle.textwrap_calls.specs.Options.{AreKnown, ArePlacedBy, AreTexts, NeedsNoMemory};
+ghost use Rattle.textwrap_calls.specs.Options.{TellsNotUtf8, TellsUnknown};
 ghost use Rattle.textwrap_calls.specs.Status.{not_utf8, unknown_options};
 ghost use Rattle.textwrap_calls.specs.Wrapping.{WritesLongLines};
 
 use std::alloc::Global;
 use textwrap_calls::options::TextwrapOptions;
+use textwrap_calls::reported::TextwrapLine;
 use textwrap_calls::wrapping;
-use textwrap_calls::wrapping::TextwrapLine;
 
 /// Exports [`textwrap_calls::wrapping::textwrap_wrap`].
 #[unsafe(no_mangle)]

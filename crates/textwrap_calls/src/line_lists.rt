@@ -10,7 +10,7 @@ ghost use Rattle.textwrap_calls.specs.Texts.{bytes_of, IsText};
 ghost use Rattle.textwrap_calls.specs.Wrapping.{WritesLines};
 ghost use Rattle.textwrap_display.specs.Styles.{carried_lines};
 
-use crate::options::{TextwrapOptions, read_options};
+use crate::options::{TextwrapOptions, read_layout};
 use crate::reported::{TextwrapLine, put_lines};
 use crate::status::{NOT_UTF8, OUT_OF_MEMORY, UNKNOWN_OPTIONS};
 use crate::texts::{TextwrapText, are_utf8, lines_of, place_all};
@@ -130,8 +130,8 @@ pub fn textwrap_carry_styles(
         × ¬ (All IsText lines.now × AreTexts options.now) }
     ensures statuses { result ≤ unknown_options }
 {
-    let options = match read_options(options) {
-        Ok(options) => options.at_blanks(),
+    let options = match read_layout(options) {
+        Ok(options) => options,
         Err(status) => return status,
     };
     if !are_utf8(lines) {

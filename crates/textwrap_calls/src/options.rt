@@ -1,15 +1,18 @@
 //! How a text is wrapped, as C has it.
 ghost use Rattle.std.specs.Prelude.{◌≡◌, ◌⊎◌, ◌↔◌, true, IfOk, IfErr, IsUtf8, MatchOption};
 ghost use Rattle.textwrap_calls.specs.Options.{options_algorithm, AreKnown, AreRead, AreTexts};
-ghost use Rattle.textwrap_calls.specs.Options.{separator_of, options_splitter};
+ghost use Rattle.textwrap_calls.specs.Options.{separator_of, options_settings, options_splitter};
 ghost use Rattle.textwrap_calls.specs.Status.{not_utf8, unknown_options};
 ghost use Rattle.textwrap_layout.specs.Direct.{as_algorithm};
+ghost use Rattle.textwrap_layout.specs.Options.{layout_view, settings_view};
 ghost use Rattle.textwrap_words.specs.Pieces.{as_splitter};
 
 use crate::status::{NOT_UTF8, UNKNOWN_OPTIONS};
 use simdutf8::basic::from_utf8;
-use textwrap::LineEnding;
 use textwrap::wrap_algorithms::Penalties;
+use textwrap::{LineEnding, Options};
+use textwrap_layout::layout::Layout;
+use textwrap_layout::options::DEFAULTS;
 use textwrap_plain::{BuiltInAlgorithm, BuiltInSplitter, PlainOptions, PlainSeparator};
 use textwrap_unicode::Numbers;
 
@@ -96,6 +99,50 @@ pub fn read_options<'a>(given: &TextwrapOptions<'a>) -> Result<PlainOptions<'a>,
         preserve_trailing_space: given.preserve_trailing_space != 0,
         even_paragraphs: given.even_paragraphs != 0,
     })
+}
+
+/// The library's options with the layout that these mean, for a call that cuts no text into words. The
+/// separator, the splitter and the algorithm are the defaults.
+///
+/// # Errors
+/// The status `UNKNOWN_OPTIONS` or `NOT_UTF8`.
+pub fn read_layout<'a>(given: &TextwrapOptions<'a>) -> Result<Options<'a>, u32>
+    ensures read { IfOk result (λ options. settings_view options ≡ options_settings given.now) }
+    ensures known { IfOk result (λ _. AreKnown given.now) }
+    ensures texts { IfOk result (λ _. AreTexts given.now) }
+    ensures refused { IfErr result (λ status.
+        ((status ≡ unknown_options) × ¬ AreKnown given.now)
+        ⊎ ((status ≡ not_utf8) × AreKnown given.now × ¬ AreTexts given.now)) }
+{
+    match read_options(given) {
+        Ok(options) => Ok(with_layout(options.layout())),
+        Err(status) => Err(status),
+    }
+}
+
+/// The default options with this layout.
+pub fn with_layout<'a>(layout: Layout<'a>) -> Options<'a>
+    ensures { settings_view result ≡ layout_view layout.entry }
+{
+    let Layout {
+        width,
+        line_ending,
+        initial_indent,
+        subsequent_indent,
+        break_words,
+        preserve_trailing_space,
+        even_paragraphs,
+    } = layout;
+    Options {
+        width,
+        line_ending,
+        initial_indent,
+        subsequent_indent,
+        break_words,
+        preserve_trailing_space,
+        even_paragraphs,
+        ..DEFAULTS
+    }
 }
 
 /// The text of an indent, if it is one. Most indents are empty.

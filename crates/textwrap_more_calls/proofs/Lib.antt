@@ -3,7 +3,6 @@ pub mod EndLemmas
 pub mod OffsetLemmas
 pub mod PieceLemmas
 pub mod PlacedHyphens
-pub mod ReadColumns
 pub mod ReadOptions
 pub mod StepLemmas
 pub mod TextStepLemmas

@@ -10,7 +10,7 @@ ghost use Rattle.textwrap_display.specs.Attributes.{attributed_lines};
 
 use std::alloc::{AllocError, Global};
 use textwrap::Options;
-use textwrap_calls::options::{TextwrapOptions, read_options};
+use textwrap_calls::options::{TextwrapOptions, read_layout};
 use textwrap_calls::reported::{TextwrapLine, put_lines};
 use textwrap_calls::status::{NOT_UTF8, OUT_OF_MEMORY};
 use textwrap_calls::texts::{TextwrapText, are_utf8, lines_of, place_all};
@@ -37,8 +37,8 @@ pub fn textwrap_carry_attributes(
         × ¬ (All IsText lines.now × AreTexts options.now) }
     ensures statuses { result ≤ unknown_options }
 {
-    let options = match read_options(options) {
-        Ok(options) => options.at_blanks(),
+    let options = match read_layout(options) {
+        Ok(options) => options,
         Err(status) => return status,
     };
     if !are_utf8(lines) {

@@ -2,12 +2,8 @@
 //! and texts that are wrapped, filled, filled again, and laid out in columns, with hyphens. They have
 //! statuses of their own beside those of `textwrap_calls`.
 
-pub mod columns;
 pub mod dictionary;
-pub mod filling;
-mod options;
 pub mod points;
 pub mod reading;
-pub mod refilling;
 pub mod status;
-pub mod wrapping;
+pub mod texts;

@@ -18,7 +18,7 @@ use simdutf8::basic::from_utf8;
 use std::alloc::{AllocError, Global};
 use std::borrow::CowStr;
 use textwrap::Options;
-use textwrap_calls::options::{TextwrapOptions, read_options};
+use textwrap_calls::options::{TextwrapOptions, read_layout};
 use textwrap_calls::room::put;
 use textwrap_calls::status::{NOT_UTF8, OUT_OF_MEMORY, WRONG_PLACES};
 use textwrap_display::inner::push_justified_lines;
@@ -50,8 +50,8 @@ pub fn textwrap_fill_justified_at(
         → AreStepsOf options.now text.now steps.now }
     ensures statuses { (result ≤ unknown_options) ⊎ (result ≡ wrong_places) }
 {
-    let options = match read_options(options) {
-        Ok(options) => options.at_blanks(),
+    let options = match read_layout(options) {
+        Ok(options) => options,
         Err(status) => return status,
     };
     let Ok(text) = from_utf8(text) else {

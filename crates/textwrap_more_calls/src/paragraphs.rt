@@ -10,7 +10,7 @@ ghost use Rattle.textwrap_text.specs.LineEnding.{ending_bytes, paragraphs_of};
 use simdutf8::basic::from_utf8;
 use std::alloc::{AllocError, Global};
 use textwrap::LineEnding;
-use textwrap_calls::options::{TextwrapOptions, read_options};
+use textwrap_calls::options::{TextwrapOptions, read_layout, read_options};
 use textwrap_calls::room::put;
 use textwrap_calls::status::{DONE, NOT_UTF8, OUT_OF_MEMORY, UNKNOWN_OPTIONS};
 use textwrap_lines::inner::{is_one_line, line_widths};
@@ -110,8 +110,8 @@ pub fn textwrap_paragraph_widths(
     if is_later > 1 {
         return UNKNOWN_OPTIONS;
     }
-    let options = match read_options(options) {
-        Ok(options) => options.at_blanks(),
+    let options = match read_layout(options) {
+        Ok(options) => options,
         Err(status) => return status,
     };
     let Ok(paragraph) = from_utf8(paragraph) else {

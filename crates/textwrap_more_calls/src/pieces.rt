@@ -23,7 +23,7 @@ use textwrap::Options;
 use textwrap::word_separators::find_words_at;
 use textwrap::word_splitters::WordSplitter;
 use textwrap::words::{BreakApart, Word, display_width};
-use textwrap_calls::options::{TextwrapOptions, read_options};
+use textwrap_calls::options::{TextwrapOptions, read_options, with_layout};
 use textwrap_calls::room::put;
 use textwrap_calls::status::{NOT_UTF8, OUT_OF_MEMORY, WRONG_PLACES};
 use textwrap_lines::inner::paragraph_pieces;
@@ -91,8 +91,8 @@ fn listed_pieces(
 {
     match options.word_separator {
         PlainSeparator::AtBlanks => {
-            let splitter = options.word_splitter;
-            placed_pieces(alloc, paragraph, &options.at_blanks(), splitter)
+            let layout = with_layout(options.layout());
+            placed_pieces(alloc, paragraph, &layout, options.word_splitter)
         }
         PlainSeparator::AtBreaks(_) => {
             let found = paragraph_pieces_by(alloc, paragraph, options)?;

@@ -28,7 +28,7 @@ use std::alloc::Global;
 use std::borrow::CowStr;
 use textwrap::words::Word;
 use textwrap::{Options, WrapError};
-use textwrap_calls::options::{TextwrapOptions, read_options};
+use textwrap_calls::options::{TextwrapOptions, read_layout, read_options, with_layout};
 use textwrap_calls::reported::{TextwrapLine, put_lines};
 use textwrap_calls::room::put;
 use textwrap_calls::status::{NOT_UTF8, OUT_OF_MEMORY, OVERFLOW, UNKNOWN_OPTIONS, WRONG_PLACES};
@@ -72,8 +72,8 @@ pub fn textwrap_pieces_at(
         × ¬ AreSteps cuts.now points.now paragraph.now }
     ensures statuses { (result ≤ unknown_options) ⊎ (result ≡ wrong_places) }
 {
-    let options = match read_options(options) {
-        Ok(options) => options.at_blanks(),
+    let options = match read_layout(options) {
+        Ok(options) => options,
         Err(status) => return status,
     };
     let Ok(paragraph) = from_utf8(paragraph) else {
@@ -157,19 +157,20 @@ pub fn textwrap_ends_at(
         return UNKNOWN_OPTIONS;
     }
     let options = match read_options(options) {
-        Ok(options) => options.at_blanks(),
+        Ok(options) => options,
         Err(status) => return status,
     };
+    let layout = with_layout(options.layout());
     let Ok(paragraph) = from_utf8(paragraph) else {
         return NOT_UTF8;
     };
-    let pieces = match find_pieces(alloc, paragraph, cuts, points, &options) {
+    let pieces = match find_pieces(alloc, paragraph, cuts, points, &layout) {
         Ok(pieces) => pieces,
         Err(status) => return status,
     };
-    let (first_width, later_width) = line_widths(&options, is_later != 0);
+    let (first_width, later_width) = line_widths(&layout, is_later != 0);
     let line_widths = [first_width, later_width];
-    let division = match options.wrap_algorithm.wrap(alloc, &pieces, &line_widths) {
+    let division = match options.algorithm().wrap(alloc, &pieces, &line_widths) {
         Ok(division) => division,
         Err(WrapError::Memory(_)) => return OUT_OF_MEMORY,
         Err(WrapError::Overflow(_)) => return OVERFLOW,
@@ -216,8 +217,8 @@ pub fn textwrap_lines_at(
     if is_later > 1 {
         return UNKNOWN_OPTIONS;
     }
-    let options = match read_options(options) {
-        Ok(options) => options.at_blanks(),
+    let options = match read_layout(options) {
+        Ok(options) => options,
         Err(status) => return status,
     };
     let Ok(paragraph) = from_utf8(paragraph) else {

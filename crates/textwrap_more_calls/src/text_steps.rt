@@ -22,7 +22,7 @@ use crate::steps::{TextwrapSteps, push_step_lines};
 use simdutf8::basic::from_utf8;
 use std::alloc::{AllocError, Global};
 use textwrap::{LineEnding, Options};
-use textwrap_calls::options::{TextwrapOptions, read_options};
+use textwrap_calls::options::{TextwrapOptions, read_layout};
 use textwrap_calls::reported::{TextwrapLine, put_lines};
 use textwrap_calls::room::put;
 use textwrap_calls::status::{NOT_UTF8, OUT_OF_MEMORY, WRONG_PLACES};
@@ -58,8 +58,8 @@ pub fn textwrap_wrap_at(
         → AreStepsOf options.now text.now steps.now }
     ensures statuses { (result ≤ unknown_options) ⊎ (result ≡ wrong_places) }
 {
-    let options = match read_options(options) {
-        Ok(options) => options.at_blanks(),
+    let options = match read_layout(options) {
+        Ok(options) => options,
         Err(status) => return status,
     };
     let Ok(text) = from_utf8(text) else {
@@ -93,8 +93,8 @@ pub fn textwrap_fill_at(
         → AreStepsOf options.now text.now steps.now }
     ensures statuses { (result ≤ unknown_options) ⊎ (result ≡ wrong_places) }
 {
-    let options = match read_options(options) {
-        Ok(options) => options.at_blanks(),
+    let options = match read_layout(options) {
+        Ok(options) => options,
         Err(status) => return status,
     };
     let Ok(text) = from_utf8(text) else {

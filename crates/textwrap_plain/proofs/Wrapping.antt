@@ -25,9 +25,7 @@ use Rattle.textwrap_words.proofs.Word.Parts.{MaySeparate-texts}
 use Rattle.textwrap_layout.proofs.Common.{AreTextLines, IsFilled, IsWrapped, Line, Settings}
 use Rattle.textwrap_layout.proofs.Common.{settings_view}
 use Rattle.textwrap_layout.proofs.Paragraph.Pieces.{division-as}
-use Rattle.textwrap_layout.specs.Places.{ArePlacedLines}
 use Rattle.textwrap_layout.specs.declared.options.Options.{Options}
-use Rattle.textwrap_layout.specs.declared.places.Place.{Place}
 use Rattle.textwrap_lines.proofs.Text.Promises.{IsWrapped-by}
 use Rattle.textwrap.specs.Columns.{IsInColumns, at_column_width}
 use Rattle.textwrap.specs.Refilling.{IsRefilled, with_indents_of}
@@ -164,12 +162,6 @@ module _ {E C : Type 0} {e : _} {c : _} (options : Options E C e c) (patterns : 
       → IsFilled (settings_view options) (DividesHyphenated options (held patterns)) text filled
       → IsFilled settings (DividesAtPoints (held patterns) algorithm settings) text filled
   filled-as text filled is = grind (arith, divides)
-
-  pub placed-as : (text : List ℕ) (lines : List Line) (places : List Place)
-      → ArePlacedLines (settings_view options) (DividesHyphenated options (held patterns)) text lines
-      places
-      → ArePlacedLines settings (DividesAtPoints (held patterns) algorithm settings) text lines places
-  placed-as text lines places are = grind (arith, divides)
 
   pub refilled-as : (text refilled : List ℕ)
       → IsRefilled (settings_view options) (DividesHyphenatedUnder options (held patterns)) text

@@ -1,14 +1,10 @@
 //! How a text is wrapped, by built-in parts alone.
 ghost use Rattle.std.specs.Prelude.{◌≡◌, ◌↔◌, IsTrue, Some};
-ghost use Rattle.textwrap.specs.Options.{HasParts};
-ghost use Rattle.textwrap.specs.WordSplitters.{splitter_view};
 ghost use Rattle.textwrap.specs.WrapAlgorithms.{algorithm_view, Greedy};
-ghost use Rattle.textwrap_plain.specs.Options.{plain_algorithm, AreDefaults, plain_settings};
-ghost use Rattle.textwrap_plain.specs.Options.{plain_splitter};
+ghost use Rattle.textwrap_plain.specs.Options.{plain_algorithm, AreDefaults};
 
 use textwrap::wrap_algorithms::Penalties;
-use textwrap::{LineEnding, Options, WordSplitter, WrapAlgorithm};
-use textwrap_layout::options::DEFAULTS;
+use textwrap::{LineEnding, WrapAlgorithm};
 use textwrap_layout::parts::BuiltInAlgorithm;
 use textwrap_unicode::Numbers;
 use textwrap_words::inner::BuiltInSplitter;
@@ -73,25 +69,6 @@ impl PlainOptions<'static> {
 impl<'a> PlainOptions<'a> {
     ghost use Rattle.textwrap_plain.specs.declared.options.PlainSeparator.TheVariants.{AtBlanks};
 
-    /// The options of `textwrap` that say the same, but that words stand between blanks.
-    pub fn at_blanks(&self) -> Options<'a>
-        ensures { HasParts result (plain_settings self.now) (plain_splitter self.now)
-            (plain_algorithm self.now) }
-    {
-        Options {
-            width: self.width,
-            line_ending: self.line_ending,
-            initial_indent: self.initial_indent,
-            subsequent_indent: self.subsequent_indent,
-            break_words: self.break_words,
-            wrap_algorithm: self.algorithm(),
-            word_splitter: self.splitter(),
-            preserve_trailing_space: self.preserve_trailing_space,
-            even_paragraphs: self.even_paragraphs,
-            ..DEFAULTS
-        }
-    }
-
     /// Whether words stand between blanks, and each line takes as many of them as fit. Then a text is
     /// filled without a list.
     pub(crate) fn are_direct(&self) -> bool
@@ -104,21 +81,13 @@ impl<'a> PlainOptions<'a> {
         }
     }
 
-    fn algorithm(&self) -> WrapAlgorithm
+    /// The algorithm as one of the public ones.
+    pub fn algorithm(&self) -> WrapAlgorithm
         ensures { algorithm_view result ≡ Some (plain_algorithm self.now) }
     {
         match self.wrap_algorithm {
             BuiltInAlgorithm::FirstFit => WrapAlgorithm::FirstFit,
             BuiltInAlgorithm::LeastCost(penalties) => WrapAlgorithm::OptimalFit(penalties),
-        }
-    }
-
-    fn splitter(&self) -> WordSplitter
-        ensures { splitter_view result ≡ Some (plain_splitter self.now) }
-    {
-        match self.word_splitter {
-            BuiltInSplitter::NoHyphenation => WordSplitter::NoHyphenation,
-            BuiltInSplitter::HyphenSplitter => WordSplitter::HyphenSplitter,
         }
     }
 }

@@ -17,8 +17,9 @@ pub fn plain_lines_are_unique()
     ensures text { PlainTextIsUnique }
 {}
 
-/// Where words stand between blanks, [`fill_plain`](crate::hyphenated::fill_plain) and the calls beside it give what
-/// [`fill_hyphenated`](crate::hyphenated::fill_hyphenated) and those beside that give by the same parts.
+/// Where words stand between blanks, the parts of options without functions, with the points of a
+/// dictionary, give what [`fill_hyphenated`](crate::hyphenated::fill_hyphenated) and the calls beside it
+/// give by the same parts.
 pub fn plain_words_at_blanks()
     ensures { PlainIsAtPoints }
 {}

@@ -24,11 +24,7 @@ fn lines_bounds(call: LinesCall<'_>, text_len: usize) -> (usize, usize) {
             textwrap_wrap_lines_bound(text_len),
             textwrap_wrap_room_bound(text_len, &options),
         ),
-        LinesCall::Columns {
-            columns,
-            options,
-            gaps,
-        } => (
+        LinesCall::Columns(columns, options, gaps) => (
             textwrap_wrap_columns_rows_bound(text_len, columns),
             textwrap_wrap_columns_room_bound(text_len, columns, &options, &gaps),
         ),
@@ -77,14 +73,14 @@ const LINES: &[(LinesCall<'_>, &[u8], (usize, usize), (usize, usize))] = &[
     (LinesCall::Wrap(DEFAULTS), b"\n\n", (3, 3), (0, 0)),
     (LinesCall::Wrap(NARROW), b"ab", (3, 3), (6, 6)),
     (
-        LinesCall::Columns {
-            columns: 2,
-            options: TextwrapOptions {
+        LinesCall::Columns(
+            2,
+            TextwrapOptions {
                 width: 2,
                 ..DEFAULTS
             },
-            gaps: NO_GAPS,
-        },
+            NO_GAPS,
+        ),
         b"\n\n\n",
         (2, 2),
         (4, 7),

@@ -45,68 +45,50 @@ const UNKNOWN: TextwrapOptions<'_> = TextwrapOptions {
 /// text.
 const BALANCED: &[LinesRow] = &[
     (
-        LinesCall::WrapBalanced(AT_40),
-        TITLE,
+        (LinesCall::WrapBalanced(AT_40), TITLE),
         (DONE, 2, 0),
-        &[(0, 18, 0), (19, 23, 0), NONE],
-        b"",
+        (&[(0, 18, 0), (19, 23, 0), NONE], b""),
     ),
     (
-        LinesCall::WrapBalanced(AT_40),
-        TITLE,
+        (LinesCall::WrapBalanced(AT_40), TITLE),
         (TOO_SMALL, 2, 0),
-        &[(0, 18, 0)],
-        b"",
+        (&[(0, 18, 0)], b""),
     ),
     (
-        LinesCall::WrapBalanced(QUOTED),
-        TITLE,
+        (LinesCall::WrapBalanced(QUOTED), TITLE),
         (DONE, 2, 18),
-        &[(0, 25, 0), (0, 18, 1), NONE],
-        b"> it was the worst____",
+        (&[(0, 25, 0), (0, 18, 1), NONE], b"> it was the worst____"),
     ),
     (
-        LinesCall::WrapBalanced(QUOTED),
-        TITLE,
+        (LinesCall::WrapBalanced(QUOTED), TITLE),
         (TOO_SMALL, 2, 18),
-        &[(0, 25, 0), (0, 18, 1)],
-        b"> it was t",
+        (&[(0, 25, 0), (0, 18, 1)], b"> it was t"),
     ),
     (
-        LinesCall::WrapBalanced(AT_BREAKS),
-        b"either/or not",
+        (LinesCall::WrapBalanced(AT_BREAKS), b"either/or not"),
         (DONE, 2, 0),
-        &[(0, 7, 0), (7, 6, 0), NONE],
-        b"",
+        (&[(0, 7, 0), (7, 6, 0), NONE], b""),
     ),
     // A word that is wider than a line is broken at the width of the options.
     (
-        LinesCall::WrapBalanced(AT_6),
-        b"a wonderful word",
+        (LinesCall::WrapBalanced(AT_6), b"a wonderful word"),
         (DONE, 4, 0),
-        &[(0, 1, 0), (2, 6, 0), (8, 3, 0), (12, 4, 0), NONE],
-        b"",
+        (&[(0, 1, 0), (2, 6, 0), (8, 3, 0), (12, 4, 0), NONE], b""),
     ),
     (
-        LinesCall::WrapBalanced(UNKNOWN),
-        b"\xff",
+        (LinesCall::WrapBalanced(UNKNOWN), b"\xff"),
         (UNKNOWN_OPTIONS, BEFORE, BEFORE),
-        &[NONE],
-        b"____",
+        (&[NONE], b"____"),
     ),
     (
-        LinesCall::WrapBalanced(AT_40),
-        b"a \xff",
+        (LinesCall::WrapBalanced(AT_40), b"a \xff"),
         (NOT_UTF8, BEFORE, BEFORE),
-        &[NONE],
-        b"____",
+        (&[NONE], b"____"),
     ),
     (
-        LinesCall::WrapBalanced(NO_TEXT_INDENT),
-        b"a",
+        (LinesCall::WrapBalanced(NO_TEXT_INDENT), b"a"),
         (NOT_UTF8, BEFORE, BEFORE),
-        &[NONE],
-        b"____",
+        (&[NONE], b"____"),
     ),
 ];
 
@@ -127,54 +109,32 @@ const NO_TEXT: &[TextwrapText<'_>] = &[TextwrapText { bytes: b"\xff" }];
 /// Each line sets anew what is open, of each attribute the last setting alone.
 const ATTRIBUTES: &[LinesRow] = &[
     (
-        LinesCall::CarryAttributes {
-            lines: COLOURED,
-            options: AT_6,
-        },
-        b"",
+        (LinesCall::CarryAttributes(COLOURED, AT_6), b""),
         (DONE, 3, 43),
-        &[(0, 14, 1), (14, 20, 1), (34, 9, 1), NONE],
-        b"a \x1b[1;31mb\x1b[0m\x1b[1m\x1b[31mc\x1b[39md\x1b[0m\x1b[1me\x1b[0m__",
+        (
+            &[(0, 14, 1), (14, 20, 1), (34, 9, 1), NONE],
+            b"a \x1b[1;31mb\x1b[0m\x1b[1m\x1b[31mc\x1b[39md\x1b[0m\x1b[1me\x1b[0m__",
+        ),
     ),
     (
-        LinesCall::CarryAttributes {
-            lines: COLOURED,
-            options: AT_6,
-        },
-        b"",
+        (LinesCall::CarryAttributes(COLOURED, AT_6), b""),
         (TOO_SMALL, 3, 43),
-        &[(0, 14, 1)],
-        b"a \x1b[1;31mb\x1b[0m\x1b[1m\x1b[31mc",
+        (&[(0, 14, 1)], b"a \x1b[1;31mb\x1b[0m\x1b[1m\x1b[31mc"),
     ),
     (
-        LinesCall::CarryAttributes {
-            lines: NO_TEXT,
-            options: UNKNOWN,
-        },
-        b"",
+        (LinesCall::CarryAttributes(NO_TEXT, UNKNOWN), b""),
         (UNKNOWN_OPTIONS, BEFORE, BEFORE),
-        &[NONE],
-        b"____",
+        (&[NONE], b"____"),
     ),
     (
-        LinesCall::CarryAttributes {
-            lines: NO_TEXT,
-            options: AT_6,
-        },
-        b"",
+        (LinesCall::CarryAttributes(NO_TEXT, AT_6), b""),
         (NOT_UTF8, BEFORE, BEFORE),
-        &[NONE],
-        b"____",
+        (&[NONE], b"____"),
     ),
     (
-        LinesCall::CarryAttributes {
-            lines: &[],
-            options: NO_TEXT_INDENT,
-        },
-        b"",
+        (LinesCall::CarryAttributes(&[], NO_TEXT_INDENT), b""),
         (NOT_UTF8, BEFORE, BEFORE),
-        &[NONE],
-        b"____",
+        (&[NONE], b"____"),
     ),
 ];
 
@@ -195,48 +155,28 @@ const CELLS: &[TextwrapText<'_>] = &[
 /// Columns share a total by what stands in them.
 const WIDTHS: &[OffsetsRow] = &[
     (
-        OffsetsCall::FittingWidths {
-            cells: CELLS,
-            columns: 2,
-            total: 20,
-        },
+        OffsetsCall::FittingWidths(CELLS, 2, 20),
         (DONE, 2),
         &[8, 12, NO_OFFSET],
     ),
     (
-        OffsetsCall::FittingWidths {
-            cells: CELLS,
-            columns: 2,
-            total: 20,
-        },
+        OffsetsCall::FittingWidths(CELLS, 2, 20),
         (TOO_SMALL, 2),
         &[8],
     ),
     // Columns without texts share evenly, and the first gets what is left over.
     (
-        OffsetsCall::FittingWidths {
-            cells: &[],
-            columns: 3,
-            total: 10,
-        },
+        OffsetsCall::FittingWidths(&[], 3, 10),
         (DONE, 3),
         &[4, 3, 3, NO_OFFSET],
     ),
     (
-        OffsetsCall::FittingWidths {
-            cells: CELLS,
-            columns: 0,
-            total: 20,
-        },
+        OffsetsCall::FittingWidths(CELLS, 0, 20),
         (DONE, 0),
         &[NO_OFFSET],
     ),
     (
-        OffsetsCall::FittingWidths {
-            cells: NO_TEXT,
-            columns: 2,
-            total: 20,
-        },
+        OffsetsCall::FittingWidths(NO_TEXT, 2, 20),
         (NOT_UTF8, BEFORE),
         &[NO_OFFSET],
     ),

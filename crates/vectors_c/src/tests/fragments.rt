@@ -38,26 +38,17 @@ pub(super) const PENALTIES: TextwrapPenalties = TextwrapPenalties {
 /// Lines take fragments while they fit, and no fragments are one empty line.
 const FIRST_FIT: &[OffsetsRow] = &[
     (
-        OffsetsCall::FirstFit {
-            fragments: &[FIVE, FIVE, FIVE, FIVE],
-            line_widths: &[10, 5],
-        },
+        OffsetsCall::FirstFit(&[FIVE, FIVE, FIVE, FIVE], &[10, 5]),
         (DONE, 3),
         &[2, 3, 4, NO_OFFSET],
     ),
     (
-        OffsetsCall::FirstFit {
-            fragments: &[FIVE, FIVE, FIVE, FIVE],
-            line_widths: &[5],
-        },
+        OffsetsCall::FirstFit(&[FIVE, FIVE, FIVE, FIVE], &[5]),
         (TOO_SMALL, 4),
         &[1, 2],
     ),
     (
-        OffsetsCall::FirstFit {
-            fragments: &[],
-            line_widths: &[10],
-        },
+        OffsetsCall::FirstFit(&[], &[10]),
         (DONE, 1),
         &[0, NO_OFFSET, NO_OFFSET, NO_OFFSET],
     ),
@@ -67,17 +58,13 @@ const FIRST_FIT: &[OffsetsRow] = &[
 /// known are refused before that.
 const OPTIMAL_FIT: &[OffsetsRow] = &[
     (
-        OffsetsCall::OptimalFit {
-            fragments: &[CARD, CARD, CARD],
-            line_widths: &[9],
-            penalties: PENALTIES,
-        },
+        OffsetsCall::OptimalFit(&[CARD, CARD, CARD], &[9], PENALTIES),
         (DONE, 2),
         &[2, 3, NO_OFFSET],
     ),
     (
-        OffsetsCall::OptimalFit {
-            fragments: &[
+        OffsetsCall::OptimalFit(
+            &[
                 CARD,
                 TextwrapFragment {
                     break_penalty: 30,
@@ -85,34 +72,34 @@ const OPTIMAL_FIT: &[OffsetsRow] = &[
                 },
                 CARD,
             ],
-            line_widths: &[9],
-            penalties: PENALTIES,
-        },
+            &[9],
+            PENALTIES,
+        ),
         (DONE, 2),
         &[1, 3, NO_OFFSET],
     ),
     (
-        OffsetsCall::OptimalFit {
-            fragments: &[WIDE, WIDE],
-            line_widths: &[0],
-            penalties: TextwrapPenalties {
+        OffsetsCall::OptimalFit(
+            &[WIDE, WIDE],
+            &[0],
+            TextwrapPenalties {
                 overflow_penalty: usize::MAX,
                 ..PENALTIES
             },
-        },
+        ),
         (OVERFLOW, BEFORE),
         &[NO_OFFSET, NO_OFFSET],
     ),
     (
-        OffsetsCall::OptimalFit {
-            fragments: &[WIDE, WIDE],
-            line_widths: &[0],
-            penalties: TextwrapPenalties {
+        OffsetsCall::OptimalFit(
+            &[WIDE, WIDE],
+            &[0],
+            TextwrapPenalties {
                 overflow_penalty: usize::MAX,
                 reserved_sizes: [1, 0, 0, 0],
                 ..PENALTIES
             },
-        },
+        ),
         (UNKNOWN_OPTIONS, BEFORE),
         &[NO_OFFSET, NO_OFFSET],
     ),

@@ -1,6 +1,6 @@
 //! Hyphenation by patterns: dictionaries that are read into numbers, the points of words, and texts with
 //! hyphens.
-use super::places::{LinesRow, NO_OFFSET, NONE, OffsetsRow, assert_lines, assert_offsets};
+use super::places::{LinesRow, NO_OFFSET, NONE, assert_lines, assert_offsets_of};
 use super::plain::{AT_6, BEFORE, DEFAULTS, LinesCall, OffsetsCall, TextCall, assert_holds};
 use super::texts::{TextRow, assert_beginnings, assert_texts};
 use std::alloc::{AllocError, Global};
@@ -9,14 +9,14 @@ use textwrap_calls::columns::TextwrapGaps;
 use textwrap_calls::options::TextwrapOptions;
 use textwrap_calls::status::{DONE, NOT_UTF8, TOO_SMALL, UNKNOWN_OPTIONS};
 use textwrap_calls::wrapping::TextwrapLine;
-use textwrap_more_calls::hyphens::columns::textwrap_wrap_columns_hyphenated;
 use textwrap_more_calls::hyphens::dictionary::TextwrapDictionary;
-use textwrap_more_calls::hyphens::filling::textwrap_fill_hyphenated;
 use textwrap_more_calls::hyphens::points::textwrap_hyphen_points;
 use textwrap_more_calls::hyphens::reading::{textwrap_patterns_check, textwrap_patterns_read};
-use textwrap_more_calls::hyphens::refilling::textwrap_refill_hyphenated;
 use textwrap_more_calls::hyphens::status::{DAMAGED_TABLE, WRONG_PATTERNS};
-use textwrap_more_calls::hyphens::wrapping::textwrap_wrap_hyphenated;
+use textwrap_more_calls::hyphens::texts::{
+    textwrap_fill_hyphenated, textwrap_refill_hyphenated, textwrap_wrap_columns_hyphenated,
+    textwrap_wrap_hyphenated,
+};
 
 /// The patterns of `hy-phen-ation`.
 const PATTERNS: &[u8] = b"hy3ph\nhe2n\nhena4\nhen5at\n1na\nn2at\n1tio\n2io\no2n\n";
@@ -348,151 +348,69 @@ fn numbers_are_tested(rt: HostRuntime) {
     }
 }
 
+/// A word and what is given of a dictionary; the status, and how many points are told; all points
+/// afterwards.
+type PointsRow = (&'static [u8], Hyphens, (u32, usize), &'static [usize]);
+
 /// A word with a hyphen has no points, unless its parts are hyphenated. What is not known is refused
 /// before a word that is none, and that before numbers that were damaged.
-const POINTS: &[OffsetsRow] = &[
+const POINTS: &[PointsRow] = &[
+    (b"hyphenation", WHOLE, (DONE, 2), &[2, 6, NO_OFFSET]),
+    (b"hyphenation", WHOLE, (TOO_SMALL, 2), &[2]),
+    (b"(Hyphenation),", WHOLE, (DONE, 2), &[3, 7, NO_OFFSET]),
+    (b"re-hyphenation", WHOLE, (DONE, 0), &[NO_OFFSET]),
+    (b"re-hyphenation", IN_PARTS, (DONE, 2), &[5, 9]),
+    (b"re-hyphenation", CHECKED, (DONE, 2), &[5, 9]),
+    (b"", WHOLE, (DONE, 0), &[]),
+    (b"\xff", UNKNOWN, (UNKNOWN_OPTIONS, BEFORE), &[NO_OFFSET]),
     (
-        OffsetsCall::HyphenPoints {
-            word: b"hyphenation",
-            hyphens: WHOLE,
-        },
-        (DONE, 2),
-        &[2, 6, NO_OFFSET],
-    ),
-    (
-        OffsetsCall::HyphenPoints {
-            word: b"hyphenation",
-            hyphens: WHOLE,
-        },
-        (TOO_SMALL, 2),
-        &[2],
-    ),
-    (
-        OffsetsCall::HyphenPoints {
-            word: b"(Hyphenation),",
-            hyphens: WHOLE,
-        },
-        (DONE, 2),
-        &[3, 7, NO_OFFSET],
-    ),
-    (
-        OffsetsCall::HyphenPoints {
-            word: b"re-hyphenation",
-            hyphens: WHOLE,
-        },
-        (DONE, 0),
-        &[NO_OFFSET],
-    ),
-    (
-        OffsetsCall::HyphenPoints {
-            word: b"re-hyphenation",
-            hyphens: IN_PARTS,
-        },
-        (DONE, 2),
-        &[5, 9],
-    ),
-    (
-        OffsetsCall::HyphenPoints {
-            word: b"re-hyphenation",
-            hyphens: CHECKED,
-        },
-        (DONE, 2),
-        &[5, 9],
-    ),
-    (
-        OffsetsCall::HyphenPoints {
-            word: b"",
-            hyphens: WHOLE,
-        },
-        (DONE, 0),
-        &[],
-    ),
-    (
-        OffsetsCall::HyphenPoints {
-            word: b"\xff",
-            hyphens: UNKNOWN,
-        },
+        b"\xff",
+        UNKNOWN_CHECK,
         (UNKNOWN_OPTIONS, BEFORE),
         &[NO_OFFSET],
     ),
     (
-        OffsetsCall::HyphenPoints {
-            word: b"\xff",
-            hyphens: UNKNOWN_CHECK,
-        },
+        b"hyphenation",
+        RESERVED,
         (UNKNOWN_OPTIONS, BEFORE),
         &[NO_OFFSET],
     ),
     (
-        OffsetsCall::HyphenPoints {
-            word: b"hyphenation",
-            hyphens: RESERVED,
-        },
+        b"hyphenation",
+        LATER_RESERVED,
         (UNKNOWN_OPTIONS, BEFORE),
         &[NO_OFFSET],
     ),
+    (b"\xff", SHORT, (NOT_UTF8, BEFORE), &[NO_OFFSET]),
     (
-        OffsetsCall::HyphenPoints {
-            word: b"hyphenation",
-            hyphens: LATER_RESERVED,
-        },
-        (UNKNOWN_OPTIONS, BEFORE),
-        &[NO_OFFSET],
-    ),
-    (
-        OffsetsCall::HyphenPoints {
-            word: b"\xff",
-            hyphens: SHORT,
-        },
-        (NOT_UTF8, BEFORE),
-        &[NO_OFFSET],
-    ),
-    (
-        OffsetsCall::HyphenPoints {
-            word: b"hyphenation",
-            hyphens: CHANGED,
-        },
+        b"hyphenation",
+        CHANGED,
         (DAMAGED_TABLE, BEFORE),
         &[NO_OFFSET],
     ),
     (
-        OffsetsCall::HyphenPoints {
-            word: b"hyphenation",
-            hyphens: EXCHANGED,
-        },
+        b"hyphenation",
+        EXCHANGED,
         (DAMAGED_TABLE, BEFORE),
         &[NO_OFFSET],
     ),
-    (
-        OffsetsCall::HyphenPoints {
-            word: b"hyphenation",
-            hyphens: SHORT,
-        },
-        (DAMAGED_TABLE, BEFORE),
-        &[NO_OFFSET],
-    ),
+    (b"hyphenation", SHORT, (DAMAGED_TABLE, BEFORE), &[NO_OFFSET]),
     // Three letters have to stand before a point here, in place of two.
-    (
-        OffsetsCall::HyphenPoints {
-            word: b"hyphenation",
-            hyphens: UNTESTED,
-        },
-        (DONE, 1),
-        &[6, NO_OFFSET],
-    ),
-    (
-        OffsetsCall::HyphenPoints {
-            word: b"hyphenation",
-            hyphens: NO_NUMBERS,
-        },
-        (DONE, 0),
-        &[NO_OFFSET],
-    ),
+    (b"hyphenation", UNTESTED, (DONE, 1), &[6, NO_OFFSET]),
+    (b"hyphenation", NO_NUMBERS, (DONE, 0), &[NO_OFFSET]),
 ];
 
 #[test]
 fn words_have_points(rt: HostRuntime) {
-    assert_offsets(&rt, POINTS);
+    for (row, &(word, hyphens, told, points)) in POINTS.iter().enumerate() {
+        assert_offsets_of(
+            &rt,
+            row,
+            OffsetsCall::HyphenPoints(word, hyphens),
+            told,
+            points,
+        );
+    }
 }
 
 /// First fit at 11 columns.
@@ -505,220 +423,109 @@ pub(super) const AT_11: TextwrapOptions<'_> = TextwrapOptions {
 /// A hyphen is written at a point of the patterns, and none behind a hyphen of the word.
 const FILLED: &[TextRow] = &[
     (
-        TextCall::FillHyphenated {
-            options: AT_11,
-            hyphens: WHOLE,
-        },
-        b"the hyphenation",
-        DONE,
-        17,
-        b"the hyphen-\nation__",
+        (TextCall::FillHyphenated(AT_11, WHOLE), b"the hyphenation"),
+        (DONE, 17, b"the hyphen-\nation__"),
     ),
     (
-        TextCall::FillHyphenated {
-            options: AT_6,
-            hyphens: WHOLE,
-        },
-        b"hyphenation",
-        DONE,
-        15,
-        b"hy-\nphen-\nation__",
+        (TextCall::FillHyphenated(AT_6, WHOLE), b"hyphenation"),
+        (DONE, 15, b"hy-\nphen-\nation__"),
     ),
     (
-        TextCall::FillHyphenated {
-            options: AT_11,
-            hyphens: WHOLE,
-        },
-        b"the re-hyphenation",
-        DONE,
-        19,
-        b"the re-\nhyphenation__",
+        (
+            TextCall::FillHyphenated(AT_11, WHOLE),
+            b"the re-hyphenation",
+        ),
+        (DONE, 19, b"the re-\nhyphenation__"),
     ),
     (
-        TextCall::FillHyphenated {
-            options: AT_6,
-            hyphens: IN_PARTS,
-        },
-        b"re-hyphenation",
-        DONE,
-        18,
-        b"re-hy-\nphen-\nation__",
+        (TextCall::FillHyphenated(AT_6, IN_PARTS), b"re-hyphenation"),
+        (DONE, 18, b"re-hy-\nphen-\nation__"),
     ),
     // At blanks this is one word.
     (
-        TextCall::FillHyphenated {
-            options: AT_6,
-            hyphens: WHOLE,
-        },
-        b"\xe4\xbd\xa0\xe5\xa5\xbdhyphenation",
-        DONE,
-        21,
-        b"\xe4\xbd\xa0\xe5\xa5\xbdhy-\nphen-\nation__",
+        (
+            TextCall::FillHyphenated(AT_6, WHOLE),
+            b"\xe4\xbd\xa0\xe5\xa5\xbdhyphenation",
+        ),
+        (DONE, 21, b"\xe4\xbd\xa0\xe5\xa5\xbdhy-\nphen-\nation__"),
     ),
     (
-        TextCall::FillHyphenated {
-            options: AT_BREAKS,
-            hyphens: WHOLE,
-        },
-        b"\xe4\xbd\xa0\xe5\xa5\xbdhyphenation",
-        DONE,
-        22,
-        b"\xe4\xbd\xa0\xe5\xa5\xbd\nhy-\nphen-\nation__",
+        (
+            TextCall::FillHyphenated(AT_BREAKS, WHOLE),
+            b"\xe4\xbd\xa0\xe5\xa5\xbdhyphenation",
+        ),
+        (DONE, 22, b"\xe4\xbd\xa0\xe5\xa5\xbd\nhy-\nphen-\nation__"),
     ),
     // By pairs no line ends between `%` and `(`; by the expression it may, as no digit stands there.
     (
-        TextCall::FillHyphenated {
-            options: AT_BREAKS,
-            hyphens: WHOLE,
-        },
-        b"ab%(cdef)",
-        DONE,
-        10,
-        b"ab%(cd\nef)__",
+        (TextCall::FillHyphenated(AT_BREAKS, WHOLE), b"ab%(cdef)"),
+        (DONE, 10, b"ab%(cd\nef)__"),
     ),
     (
-        TextCall::FillHyphenated {
-            options: AT_BREAKS_BY_EXPRESSION,
-            hyphens: WHOLE,
-        },
-        b"ab%(cdef)",
-        DONE,
-        10,
-        b"ab%\n(cdef)__",
+        (
+            TextCall::FillHyphenated(AT_BREAKS_BY_EXPRESSION, WHOLE),
+            b"ab%(cdef)",
+        ),
+        (DONE, 10, b"ab%\n(cdef)__"),
     ),
     (
-        TextCall::FillHyphenated {
-            options: AT_BREAKS_BY_EXPRESSION,
-            hyphens: WHOLE,
-        },
-        b"\xe4\xbd\xa0\xe5\xa5\xbdhyphenation",
-        DONE,
-        22,
-        b"\xe4\xbd\xa0\xe5\xa5\xbd\nhy-\nphen-\nation__",
+        (
+            TextCall::FillHyphenated(AT_BREAKS_BY_EXPRESSION, WHOLE),
+            b"\xe4\xbd\xa0\xe5\xa5\xbdhyphenation",
+        ),
+        (DONE, 22, b"\xe4\xbd\xa0\xe5\xa5\xbd\nhy-\nphen-\nation__"),
     ),
 ];
 
 /// What is not known is refused before a text that is none, and that before numbers that were damaged.
 const REFUSED: &[TextRow] = &[
     (
-        TextCall::FillHyphenated {
-            options: AT_11,
-            hyphens: UNKNOWN,
-        },
-        b"\xff",
-        UNKNOWN_OPTIONS,
-        BEFORE,
-        b"__",
+        (TextCall::FillHyphenated(AT_11, UNKNOWN), b"\xff"),
+        (UNKNOWN_OPTIONS, BEFORE, b"__"),
     ),
     (
-        TextCall::FillHyphenated {
-            options: AT_UNKNOWN,
-            hyphens: WHOLE,
-        },
-        b"a",
-        UNKNOWN_OPTIONS,
-        BEFORE,
-        b"__",
+        (TextCall::FillHyphenated(AT_UNKNOWN, WHOLE), b"a"),
+        (UNKNOWN_OPTIONS, BEFORE, b"__"),
     ),
     (
-        TextCall::FillHyphenated {
-            options: AT_11,
-            hyphens: LATER_RESERVED,
-        },
-        b"a",
-        UNKNOWN_OPTIONS,
-        BEFORE,
-        b"__",
+        (TextCall::FillHyphenated(AT_11, LATER_RESERVED), b"a"),
+        (UNKNOWN_OPTIONS, BEFORE, b"__"),
     ),
     (
-        TextCall::RefillHyphenated {
-            options: AT_UNKNOWN,
-            hyphens: WHOLE,
-        },
-        b"\xff",
-        UNKNOWN_OPTIONS,
-        BEFORE,
-        b"__",
+        (TextCall::RefillHyphenated(AT_UNKNOWN, WHOLE), b"\xff"),
+        (UNKNOWN_OPTIONS, BEFORE, b"__"),
     ),
     (
-        TextCall::RefillHyphenated {
-            options: AT_11,
-            hyphens: UNKNOWN_CHECK,
-        },
-        b"a",
-        UNKNOWN_OPTIONS,
-        BEFORE,
-        b"__",
+        (TextCall::RefillHyphenated(AT_11, UNKNOWN_CHECK), b"a"),
+        (UNKNOWN_OPTIONS, BEFORE, b"__"),
     ),
     (
-        TextCall::RefillHyphenated {
-            options: WRONG_INDENT,
-            hyphens: SHORT,
-        },
-        b"a",
-        NOT_UTF8,
-        BEFORE,
-        b"__",
+        (TextCall::RefillHyphenated(WRONG_INDENT, SHORT), b"a"),
+        (NOT_UTF8, BEFORE, b"__"),
     ),
     (
-        TextCall::RefillHyphenated {
-            options: AT_11,
-            hyphens: CHANGED,
-        },
-        b"a",
-        DAMAGED_TABLE,
-        BEFORE,
-        b"__",
+        (TextCall::RefillHyphenated(AT_11, CHANGED), b"a"),
+        (DAMAGED_TABLE, BEFORE, b"__"),
     ),
     (
-        TextCall::FillHyphenated {
-            options: AT_11,
-            hyphens: SHORT,
-        },
-        b"\xff",
-        NOT_UTF8,
-        BEFORE,
-        b"__",
+        (TextCall::FillHyphenated(AT_11, SHORT), b"\xff"),
+        (NOT_UTF8, BEFORE, b"__"),
     ),
     (
-        TextCall::FillHyphenated {
-            options: WRONG_INDENT,
-            hyphens: SHORT,
-        },
-        b"a",
-        NOT_UTF8,
-        BEFORE,
-        b"__",
+        (TextCall::FillHyphenated(WRONG_INDENT, SHORT), b"a"),
+        (NOT_UTF8, BEFORE, b"__"),
     ),
     (
-        TextCall::FillHyphenated {
-            options: AT_11,
-            hyphens: CHANGED,
-        },
-        b"a",
-        DAMAGED_TABLE,
-        BEFORE,
-        b"__",
+        (TextCall::FillHyphenated(AT_11, CHANGED), b"a"),
+        (DAMAGED_TABLE, BEFORE, b"__"),
     ),
     (
-        TextCall::FillHyphenated {
-            options: AT_11,
-            hyphens: EXCHANGED,
-        },
-        b"a",
-        DAMAGED_TABLE,
-        BEFORE,
-        b"__",
+        (TextCall::FillHyphenated(AT_11, EXCHANGED), b"a"),
+        (DAMAGED_TABLE, BEFORE, b"__"),
     ),
     (
-        TextCall::FillHyphenated {
-            options: AT_11,
-            hyphens: SHORT,
-        },
-        b"a",
-        DAMAGED_TABLE,
-        BEFORE,
-        b"__",
+        (TextCall::FillHyphenated(AT_11, SHORT), b"a"),
+        (DAMAGED_TABLE, BEFORE, b"__"),
     ),
 ];
 
@@ -763,45 +570,34 @@ const AT_14: TextwrapOptions<'_> = TextwrapOptions {
 /// A text is filled again with its own indents. A hyphen that was added before stays.
 const REFILLED: &[TextRow] = &[
     (
-        TextCall::RefillHyphenated {
-            options: AT_14,
-            hyphens: WHOLE,
-        },
-        b"// the\n// hyphenation\n",
-        DONE,
-        24,
-        b"// the hyphen-\n// ation\n__",
+        (
+            TextCall::RefillHyphenated(AT_14, WHOLE),
+            b"// the\n// hyphenation\n",
+        ),
+        (DONE, 24, b"// the hyphen-\n// ation\n__"),
     ),
     (
-        TextCall::RefillHyphenated {
-            options: TextwrapOptions { width: 20, ..AT_14 },
-            hyphens: WHOLE,
-        },
-        b"// the hyphen-\n// ation\n",
-        DONE,
-        21,
-        b"// the hyphen- ation\n__",
+        (
+            TextCall::RefillHyphenated(TextwrapOptions { width: 20, ..AT_14 }, WHOLE),
+            b"// the hyphen-\n// ation\n",
+        ),
+        (DONE, 21, b"// the hyphen- ation\n__"),
     ),
     (
-        TextCall::RefillHyphenated {
-            options: AT_6,
-            hyphens: CHECKED,
-        },
-        b"re-hyphenation",
-        DONE,
-        18,
-        b"re-hy-\nphen-\nation__",
+        (TextCall::RefillHyphenated(AT_6, CHECKED), b"re-hyphenation"),
+        (DONE, 18, b"re-hy-\nphen-\nation__"),
     ),
     // At blanks this is one word.
     (
-        TextCall::RefillHyphenated {
-            options: AT_BREAKS,
-            hyphens: WHOLE,
-        },
-        b"> \xe4\xbd\xa0\xe5\xa5\xbdhyphenation\n",
-        DONE,
-        25,
-        b"> \xe4\xbd\xa0\n\xe5\xa5\xbdhy-\nphen-\nation\n__",
+        (
+            TextCall::RefillHyphenated(AT_BREAKS, WHOLE),
+            b"> \xe4\xbd\xa0\xe5\xa5\xbdhyphenation\n",
+        ),
+        (
+            DONE,
+            25,
+            b"> \xe4\xbd\xa0\n\xe5\xa5\xbdhy-\nphen-\nation\n__",
+        ),
     ),
 ];
 
@@ -814,84 +610,50 @@ fn texts_are_filled_again_with_hyphens(rt: HostRuntime) {
 /// A line with a hyphen is a text of its own.
 const WRAPPED: &[LinesRow] = &[
     (
-        LinesCall::WrapHyphenated {
-            options: AT_11,
-            hyphens: WHOLE,
-        },
-        b"the hyphenation",
+        (LinesCall::WrapHyphenated(AT_11, WHOLE), b"the hyphenation"),
         (DONE, 2, 11),
-        &[(0, 11, 1), (10, 5, 0), NONE],
-        b"the hyphen-_",
+        (&[(0, 11, 1), (10, 5, 0), NONE], b"the hyphen-_"),
     ),
     (
-        LinesCall::WrapHyphenated {
-            options: AT_11,
-            hyphens: WHOLE,
-        },
-        b"the hyphenation",
+        (LinesCall::WrapHyphenated(AT_11, WHOLE), b"the hyphenation"),
         (TOO_SMALL, 2, 11),
-        &[(0, 11, 1)],
-        b"the hyphen-",
+        (&[(0, 11, 1)], b"the hyphen-"),
     ),
     (
-        LinesCall::WrapHyphenated {
-            options: AT_11,
-            hyphens: WHOLE,
-        },
-        b"the hyphenation",
+        (LinesCall::WrapHyphenated(AT_11, WHOLE), b"the hyphenation"),
         (TOO_SMALL, 2, 11),
-        &[(0, 11, 1), (10, 5, 0)],
-        b"the hyphen",
+        (&[(0, 11, 1), (10, 5, 0)], b"the hyphen"),
     ),
     (
-        LinesCall::WrapHyphenated {
-            options: AT_11,
-            hyphens: WHOLE,
-        },
-        b"",
+        (LinesCall::WrapHyphenated(AT_11, WHOLE), b""),
         (DONE, 1, 0),
-        &[(0, 0, 0)],
-        b"_",
+        (&[(0, 0, 0)], b"_"),
     ),
     (
-        LinesCall::WrapHyphenated {
-            options: AT_BREAKS,
-            hyphens: WHOLE,
-        },
-        b"\xe4\xbd\xa0\xe5\xa5\xbdhyphenation",
+        (
+            LinesCall::WrapHyphenated(AT_BREAKS, WHOLE),
+            b"\xe4\xbd\xa0\xe5\xa5\xbdhyphenation",
+        ),
         (DONE, 4, 8),
-        &[(0, 6, 0), (0, 3, 1), (3, 5, 1), (12, 5, 0), NONE],
-        b"hy-phen-_",
+        (
+            &[(0, 6, 0), (0, 3, 1), (3, 5, 1), (12, 5, 0), NONE],
+            b"hy-phen-_",
+        ),
     ),
     (
-        LinesCall::WrapHyphenated {
-            options: AT_UNKNOWN,
-            hyphens: WHOLE,
-        },
-        b"a",
+        (LinesCall::WrapHyphenated(AT_UNKNOWN, WHOLE), b"a"),
         (UNKNOWN_OPTIONS, BEFORE, BEFORE),
-        &[NONE],
-        b"_",
+        (&[NONE], b"_"),
     ),
     (
-        LinesCall::WrapHyphenated {
-            options: AT_11,
-            hyphens: SHORT,
-        },
-        b"\xff",
+        (LinesCall::WrapHyphenated(AT_11, SHORT), b"\xff"),
         (NOT_UTF8, BEFORE, BEFORE),
-        &[NONE],
-        b"_",
+        (&[NONE], b"_"),
     ),
     (
-        LinesCall::WrapHyphenated {
-            options: AT_11,
-            hyphens: SHORT,
-        },
-        b"a",
+        (LinesCall::WrapHyphenated(AT_11, SHORT), b"a"),
         (DAMAGED_TABLE, BEFORE, BEFORE),
-        &[NONE],
-        b"_",
+        (&[NONE], b"_"),
     ),
 ];
 
@@ -922,109 +684,92 @@ const AT_BREAKS_IN_COLUMNS: TextwrapOptions<'_> = TextwrapOptions {
 /// and that before numbers that were damaged.
 const IN_COLUMNS: &[LinesRow] = &[
     (
-        LinesCall::ColumnsHyphenated {
-            columns: 2,
-            options: AT_15,
-            gaps: BAR,
-            hyphens: WHOLE,
-        },
-        b"the hyphenation",
+        (
+            LinesCall::ColumnsHyphenated(2, AT_15, BAR, WHOLE),
+            b"the hyphenation",
+        ),
         (DONE, 2, 30),
-        &[(0, 15, 1), (15, 15, 1), NONE],
-        b"the hy-|ation  phen-  |       _",
+        (
+            &[(0, 15, 1), (15, 15, 1), NONE],
+            b"the hy-|ation  phen-  |       _",
+        ),
     ),
     (
-        LinesCall::ColumnsHyphenated {
-            columns: 2,
-            options: AT_15,
-            gaps: BAR,
-            hyphens: CHECKED,
-        },
-        b"the hyphenation",
+        (
+            LinesCall::ColumnsHyphenated(2, AT_15, BAR, CHECKED),
+            b"the hyphenation",
+        ),
         (TOO_SMALL, 2, 30),
-        &[(0, 15, 1)],
-        b"the hy-|ation  phen",
+        (&[(0, 15, 1)], b"the hy-|ation  phen"),
     ),
     (
-        LinesCall::ColumnsHyphenated {
-            columns: 2,
-            options: AT_BREAKS_IN_COLUMNS,
-            gaps: BAR,
-            hyphens: CHECKED,
-        },
-        b"\xe4\xbd\xa0\xe5\xa5\xbdhyphenation",
+        (
+            LinesCall::ColumnsHyphenated(2, AT_BREAKS_IN_COLUMNS, BAR, CHECKED),
+            b"\xe4\xbd\xa0\xe5\xa5\xbdhyphenation",
+        ),
         (DONE, 2, 28),
-        &[(0, 15, 1), (15, 13, 1), NONE],
-        b"\xe4\xbd\xa0\xe5\xa5\xbd  |phen- hy-   |ation _",
+        (
+            &[(0, 15, 1), (15, 13, 1), NONE],
+            b"\xe4\xbd\xa0\xe5\xa5\xbd  |phen- hy-   |ation _",
+        ),
     ),
     (
-        LinesCall::ColumnsHyphenated {
-            columns: 0,
-            options: AT_15,
-            gaps: BAR,
-            hyphens: WHOLE,
-        },
-        b"\xff",
+        (LinesCall::ColumnsHyphenated(0, AT_15, BAR, WHOLE), b"\xff"),
         (UNKNOWN_OPTIONS, BEFORE, BEFORE),
-        &[NONE],
-        b"_",
+        (&[NONE], b"_"),
     ),
     (
-        LinesCall::ColumnsHyphenated {
-            columns: 1,
-            options: AT_15,
-            gaps: TextwrapGaps {
-                reserved_sizes: [0, 0, 0, 1],
-                ..BAR
-            },
-            hyphens: WHOLE,
-        },
-        b"a",
+        (
+            LinesCall::ColumnsHyphenated(
+                1,
+                AT_15,
+                TextwrapGaps {
+                    reserved_sizes: [0, 0, 0, 1],
+                    ..BAR
+                },
+                WHOLE,
+            ),
+            b"a",
+        ),
         (UNKNOWN_OPTIONS, BEFORE, BEFORE),
-        &[NONE],
-        b"_",
+        (&[NONE], b"_"),
     ),
     (
-        LinesCall::ColumnsHyphenated {
-            columns: 1,
-            options: AT_15,
-            gaps: TextwrapGaps {
-                right: b"\xff",
-                ..BAR
-            },
-            hyphens: RESERVED,
-        },
-        b"a",
+        (
+            LinesCall::ColumnsHyphenated(
+                1,
+                AT_15,
+                TextwrapGaps {
+                    right: b"\xff",
+                    ..BAR
+                },
+                RESERVED,
+            ),
+            b"a",
+        ),
         (UNKNOWN_OPTIONS, BEFORE, BEFORE),
-        &[NONE],
-        b"_",
+        (&[NONE], b"_"),
     ),
     (
-        LinesCall::ColumnsHyphenated {
-            columns: 1,
-            options: AT_15,
-            gaps: TextwrapGaps {
-                right: b"\xff",
-                ..BAR
-            },
-            hyphens: SHORT,
-        },
-        b"a",
+        (
+            LinesCall::ColumnsHyphenated(
+                1,
+                AT_15,
+                TextwrapGaps {
+                    right: b"\xff",
+                    ..BAR
+                },
+                SHORT,
+            ),
+            b"a",
+        ),
         (NOT_UTF8, BEFORE, BEFORE),
-        &[NONE],
-        b"_",
+        (&[NONE], b"_"),
     ),
     (
-        LinesCall::ColumnsHyphenated {
-            columns: 1,
-            options: AT_15,
-            gaps: BAR,
-            hyphens: EXCHANGED,
-        },
-        b"a",
+        (LinesCall::ColumnsHyphenated(1, AT_15, BAR, EXCHANGED), b"a"),
         (DAMAGED_TABLE, BEFORE, BEFORE),
-        &[NONE],
-        b"_",
+        (&[NONE], b"_"),
     ),
 ];
 

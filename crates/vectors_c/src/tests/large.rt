@@ -135,43 +135,21 @@ const TEXTS: &[TextRow] = &[
         LEN,
     ),
     // The text as one line, in which a line feed takes no columns.
-    (
-        TextCall::Align {
-            width: LEN,
-            alignment: 1,
-        },
-        LINE,
-        LINES,
-        LEN + LINES,
-    ),
+    (TextCall::Align(LEN, 1), LINE, LINES, LEN + LINES),
     (TextCall::Justify(LEN), LINE, LINES, LEN + LINES),
     (
-        TextCall::Shorten {
-            width: 11 * HALF + 7,
-            placeholder: b"",
-        },
+        TextCall::Shorten(11 * HALF + 7, b""),
         LINE,
         LINES,
         HALF * 12 + 7,
     ),
     // Blanks beside no text, and nine gaps of 5,000.
-    (
-        TextCall::Align {
-            width: 10_000,
-            alignment: 2,
-        },
-        "",
-        1,
-        10_000,
-    ),
+    (TextCall::Align(10_000, 2), "", 1, 10_000),
     (TextCall::Justify(45_011), "a ", 10, 45_011),
     (TextCall::ExpandTabs(8), "abc\td\n", LINES, 10 * LINES),
     // Each line becomes two.
     (
-        TextCall::FillHyphenated {
-            options: AT_11,
-            hyphens: WHOLE,
-        },
+        TextCall::FillHyphenated(AT_11, WHOLE),
         "the hyphenation\n",
         20_000,
         18 * 20_000,
@@ -186,17 +164,17 @@ const LINES_AND_ROWS: &[LinesRow] = &[
     // Rows of one column of 11 with a bar at their right, and lines with an indent of one blank, so
     // that each of them is built.
     (
-        LinesCall::Columns {
-            columns: 1,
-            options: TextwrapOptions {
+        LinesCall::Columns(
+            1,
+            TextwrapOptions {
                 width: 12,
                 ..DEFAULTS
             },
-            gaps: TextwrapGaps {
+            TextwrapGaps {
                 right: b"|",
                 ..NO_GAPS
             },
-        },
+        ),
         LINE,
         LINES,
         LINES + 1,
@@ -226,10 +204,7 @@ const LINES_AND_ROWS: &[LinesRow] = &[
     ),
     // The first of each two lines has a hyphen and is built.
     (
-        LinesCall::WrapHyphenated {
-            options: AT_11,
-            hyphens: WHOLE,
-        },
+        LinesCall::WrapHyphenated(AT_11, WHOLE),
         "the hyphenation\n",
         20_000,
         2 * 20_000 + 1,
@@ -237,14 +212,14 @@ const LINES_AND_ROWS: &[LinesRow] = &[
     ),
     // Two rows of 200 columns of 4, with a bar beside each.
     (
-        LinesCall::Columns {
-            columns: 200,
-            options: TextwrapOptions {
+        LinesCall::Columns(
+            200,
+            TextwrapOptions {
                 width: 1_001,
                 ..DEFAULTS
             },
-            gaps: BARS,
-        },
+            BARS,
+        ),
         "ab ",
         400,
         2,
@@ -268,10 +243,7 @@ fn told_of_long(alloc: Global, is_placeholder: bool) -> Result<Told, AllocError>
     let long = "+".repeat(alloc, 1_000)?;
     let text = LINE.repeat(alloc, 1_000)?;
     let call = match is_placeholder {
-        true => TextCall::Shorten {
-            width: 1_010,
-            placeholder: long.as_bytes(),
-        },
+        true => TextCall::Shorten(1_010, long.as_bytes()),
         false => TextCall::Indent(long.as_bytes()),
     };
     write_text_twice(alloc, false, call, text.as_bytes())

@@ -32,12 +32,7 @@ const AT_11: TextwrapOptions<'_> = TextwrapOptions {
 /// All lines but the last one, which leaves the one before it cut.
 fn shortened_lines(alloc: Global) -> Result<Told, AllocError> {
     let lines = vec![in alloc; TEXT; LINES]?;
-    let call = LinesCall::ShortenLines {
-        lines: &lines,
-        most: LINES - 1,
-        width: 10,
-        placeholder: b"+++",
-    };
+    let call = LinesCall::ShortenLines(&lines, LINES - 1, 10, b"+++");
     write_lines_twice(alloc, false, call, b"", LINES)
 }
 
@@ -61,14 +56,8 @@ fn carried(alloc: Global, by_attributes: bool) -> Result<Told, AllocError> {
         }
     }
     let call = match by_attributes {
-        true => LinesCall::CarryAttributes {
-            lines: &lines,
-            options: AT_11,
-        },
-        false => LinesCall::CarryStyles {
-            lines: &lines,
-            options: AT_11,
-        },
+        true => LinesCall::CarryAttributes(&lines, AT_11),
+        false => LinesCall::CarryStyles(&lines, AT_11),
     };
     write_lines_twice(alloc, false, call, b"", LINES)
 }
@@ -93,23 +82,14 @@ const COLUMNS: &[TextwrapColumn<'_>] = &[
 /// The lines in two columns, with a bar beside each.
 fn table(alloc: Global) -> Result<Told, AllocError> {
     let cells = vec![in alloc; TEXT; LINES]?;
-    let call = LinesCall::Table {
-        cells: &cells,
-        columns: COLUMNS,
-        gaps: BARS,
-    };
+    let call = LinesCall::Table(&cells, COLUMNS, BARS);
     write_lines_twice(alloc, false, call, b"", HALF)
 }
 
 /// The lines in two columns of a row of 25, with a bar beside each.
 fn rows_of_lines(alloc: Global) -> Result<Told, AllocError> {
     let lines = vec![in alloc; TEXT; LINES]?;
-    let call = LinesCall::RowsOfLines {
-        lines: &lines,
-        columns: 2,
-        width: 25,
-        gaps: BARS,
-    };
+    let call = LinesCall::RowsOfLines(&lines, 2, 25, BARS);
     write_lines_twice(alloc, false, call, b"", HALF)
 }
 
@@ -138,11 +118,7 @@ fn table_of_lines(alloc: Global) -> Result<(u32, usize, usize), AllocError> {
 fn wide_table(alloc: Global) -> Result<Told, AllocError> {
     let cells = vec![in alloc; TEXT; 400]?;
     let columns = vec![in alloc; LEFT; 200]?;
-    let call = LinesCall::Table {
-        cells: &cells,
-        columns: &columns,
-        gaps: BARS,
-    };
+    let call = LinesCall::Table(&cells, &columns, BARS);
     write_lines_twice(alloc, false, call, b"", 2)
 }
 
@@ -311,11 +287,7 @@ fn many_widths(
     total: usize,
 ) -> Result<((u32, usize), usize), AllocError> {
     let cells = vec![in alloc; TEXT; LINES]?;
-    let call = OffsetsCall::FittingWidths {
-        cells: &cells,
-        columns,
-        total,
-    };
+    let call = OffsetsCall::FittingWidths(&cells, columns, total);
     offset_at(alloc, call, columns, columns.saturating_sub(1))
 }
 
@@ -331,15 +303,8 @@ const ONE: TextwrapFragment = TextwrapFragment {
 fn many_ends(alloc: Global, is_optimal: bool) -> Result<((u32, usize), usize), AllocError> {
     let fragments = vec![in alloc; ONE; 100_000]?;
     let call = match is_optimal {
-        true => OffsetsCall::OptimalFit {
-            fragments: &fragments,
-            line_widths: &[10],
-            penalties: PENALTIES,
-        },
-        false => OffsetsCall::FirstFit {
-            fragments: &fragments,
-            line_widths: &[10],
-        },
+        true => OffsetsCall::OptimalFit(&fragments, &[10], PENALTIES),
+        false => OffsetsCall::FirstFit(&fragments, &[10]),
     };
     offset_at(alloc, call, 10_000, 9_999)
 }

@@ -11,93 +11,88 @@ use textwrap_calls::texts::TextwrapText;
 /// room for all, the first of them are told, and how many they are.
 const PLACES: &[LinesRow] = &[
     (
-        LinesCall::Wrap(TextwrapOptions {
-            subsequent_indent: b"> ",
-            ..AT_5
-        }),
-        b"foo  bar",
+        (
+            LinesCall::Wrap(TextwrapOptions {
+                subsequent_indent: b"> ",
+                ..AT_5
+            }),
+            b"foo  bar",
+        ),
         (DONE, 2, 5),
-        &[(0, 3, 0), (0, 5, 1), NONE],
-        b"> bar___",
+        (&[(0, 3, 0), (0, 5, 1), NONE], b"> bar___"),
     ),
     (
-        LinesCall::Wrap(AT_5),
-        b"foo  bar",
+        (LinesCall::Wrap(AT_5), b"foo  bar"),
         (TOO_SMALL, 2, 0),
-        &[(0, 3, 0)],
-        b"",
+        (&[(0, 3, 0)], b""),
     ),
     (
-        LinesCall::Wrap(TextwrapOptions {
-            subsequent_indent: b"> ",
-            ..AT_5
-        }),
-        b"foo  bar",
+        (
+            LinesCall::Wrap(TextwrapOptions {
+                subsequent_indent: b"> ",
+                ..AT_5
+            }),
+            b"foo  bar",
+        ),
         (TOO_SMALL, 2, 5),
-        &[(0, 3, 0), (0, 5, 1), NONE],
-        b"> b",
+        (&[(0, 3, 0), (0, 5, 1), NONE], b"> b"),
     ),
     (
-        LinesCall::Wrap(TextwrapOptions {
-            subsequent_indent: b"> ",
-            ..AT_5
-        }),
-        b"foo  bar baz",
+        (
+            LinesCall::Wrap(TextwrapOptions {
+                subsequent_indent: b"> ",
+                ..AT_5
+            }),
+            b"foo  bar baz",
+        ),
         (TOO_SMALL, 3, 10),
-        &[(0, 3, 0), (0, 5, 1)],
-        b"> bar> ba",
+        (&[(0, 3, 0), (0, 5, 1)], b"> bar> ba"),
     ),
     (
-        LinesCall::Wrap(AT_5),
-        b"foo  bar",
+        (LinesCall::Wrap(AT_5), b"foo  bar"),
         (DONE, 2, 0),
-        &[(0, 3, 0), (5, 3, 0), NONE],
-        b"",
+        (&[(0, 3, 0), (5, 3, 0), NONE], b""),
     ),
     // The second line is no part of the first one, which is a text of its own.
     (
-        LinesCall::Wrap(TextwrapOptions {
-            initial_indent: b"* ",
-            ..AT_6
-        }),
-        b"foo foo",
+        (
+            LinesCall::Wrap(TextwrapOptions {
+                initial_indent: b"* ",
+                ..AT_6
+            }),
+            b"foo foo",
+        ),
         (DONE, 2, 5),
-        &[(0, 5, 1), (4, 3, 0), NONE],
-        b"* foo___",
+        (&[(0, 5, 1), (4, 3, 0), NONE], b"* foo___"),
     ),
     // The empty line stands at its own paragraph, and not behind the line before it.
     (
-        LinesCall::Wrap(DEFAULTS),
-        b"foo  \n\n  \nbar",
+        (LinesCall::Wrap(DEFAULTS), b"foo  \n\n  \nbar"),
         (DONE, 4, 0),
-        &[(0, 3, 0), (6, 0, 0), (7, 0, 0), (10, 3, 0)],
-        b"",
+        (&[(0, 3, 0), (6, 0, 0), (7, 0, 0), (10, 3, 0)], b""),
     ),
     // A short text is one line without its last blanks, whether it is printable ASCII or not.
     (
-        LinesCall::Wrap(DEFAULTS),
-        b"foo  ",
+        (LinesCall::Wrap(DEFAULTS), b"foo  "),
         (DONE, 1, 0),
-        &[(0, 3, 0), NONE],
-        b"",
+        (&[(0, 3, 0), NONE], b""),
     ),
     (
-        LinesCall::Wrap(DEFAULTS),
-        b"\xc3\xa9\t ",
+        (LinesCall::Wrap(DEFAULTS), b"\xc3\xa9\t "),
         (DONE, 1, 0),
-        &[(0, 3, 0), NONE],
-        b"",
+        (&[(0, 3, 0), NONE], b""),
     ),
     // A line that is a line feed or a carriage return alone is not the one in the ending before it.
     (
-        LinesCall::Wrap(TextwrapOptions {
-            crlf: 1,
-            ..DEFAULTS
-        }),
-        b"a\r\n\n\r\n\r\r\nb",
+        (
+            LinesCall::Wrap(TextwrapOptions {
+                crlf: 1,
+                ..DEFAULTS
+            }),
+            b"a\r\n\n\r\n\r\r\nb",
+        ),
         (DONE, 4, 0),
-        &[(0, 1, 0), (3, 1, 0), (6, 1, 0), (9, 1, 0)],
-        b"",
+        (&[(0, 1, 0), (3, 1, 0), (6, 1, 0), (9, 1, 0)], b""),
     ),
 ];
 
@@ -113,21 +108,26 @@ const PRESERVED: TextwrapOptions<'_> = TextwrapOptions {
 /// Blanks that are preserved are part of the line before, also of a built one.
 const BLANKS: &[LinesRow] = &[
     (
-        LinesCall::Wrap(PRESERVED),
-        b"foo bar  baz\nqux qux",
+        (LinesCall::Wrap(PRESERVED), b"foo bar  baz\nqux qux"),
         (DONE, 5, 6),
-        &[(0, 6, 1), (4, 5, 0), (9, 3, 0), (13, 4, 0), (17, 3, 0)],
-        b"* foo __",
+        (
+            &[(0, 6, 1), (4, 5, 0), (9, 3, 0), (13, 4, 0), (17, 3, 0)],
+            b"* foo __",
+        ),
     ),
     (
-        LinesCall::Wrap(TextwrapOptions {
-            even_paragraphs: 1,
-            ..PRESERVED
-        }),
-        b"foo bar  baz\nqux qux",
+        (
+            LinesCall::Wrap(TextwrapOptions {
+                even_paragraphs: 1,
+                ..PRESERVED
+            }),
+            b"foo bar  baz\nqux qux",
+        ),
         (DONE, 4, 6),
-        &[(0, 6, 1), (4, 5, 0), (9, 3, 0), (13, 7, 0), NONE],
-        b"* foo __",
+        (
+            &[(0, 6, 1), (4, 5, 0), (9, 3, 0), (13, 7, 0), NONE],
+            b"* foo __",
+        ),
     ),
 ];
 
@@ -140,37 +140,22 @@ const AT_24: TextwrapOptions<'_> = TextwrapOptions {
 /// A text in columns. No columns at all are refused, and gaps that are not known.
 const IN_COLUMNS: &[LinesRow] = &[
     (
-        LinesCall::Columns {
-            columns: 0,
-            options: AT_24,
-            gaps: BARS,
-        },
-        b"Foo Bar Baz Quux",
+        (LinesCall::Columns(0, AT_24, BARS), b"Foo Bar Baz Quux"),
         (UNKNOWN_OPTIONS, BEFORE, BEFORE),
-        &[NONE, NONE],
-        b"________________________________",
+        (&[NONE, NONE], b"________________________________"),
     ),
     (
-        LinesCall::Columns {
-            columns: 4,
-            options: AT_24,
-            gaps: UNKNOWN_GAPS,
-        },
-        b"Foo Bar Baz Quux",
+        (
+            LinesCall::Columns(4, AT_24, UNKNOWN_GAPS),
+            b"Foo Bar Baz Quux",
+        ),
         (UNKNOWN_OPTIONS, BEFORE, BEFORE),
-        &[NONE, NONE],
-        b"________________________________",
+        (&[NONE, NONE], b"________________________________"),
     ),
     (
-        LinesCall::Columns {
-            columns: 4,
-            options: AT_24,
-            gaps: BARS,
-        },
-        b"Foo Bar Baz Quux",
+        (LinesCall::Columns(4, AT_24, BARS), b"Foo Bar Baz Quux"),
         (DONE, 1, 24),
-        &[(0, 24, 1), NONE],
-        b"|Foo |Bar |Baz |Quux   |________",
+        (&[(0, 24, 1), NONE], b"|Foo |Bar |Baz |Quux   |________"),
     ),
 ];
 
@@ -194,52 +179,40 @@ const STYLED_AND_ONE: &[TextwrapText<'_>] = &[
 /// Lines are left out, and styles carried.
 const LISTS: &[LinesRow] = &[
     (
-        LinesCall::ShortenLines {
-            lines: STYLED_AND_ONE,
-            most: 2,
-            width: 6,
-            placeholder: b"...",
-        },
-        b"",
+        (LinesCall::ShortenLines(STYLED_AND_ONE, 2, 6, b"..."), b""),
         (DONE, 2, 13),
-        &[(0, 7, 1), (7, 6, 1)],
-        b"\x1b[1monetwo...___________________",
+        (
+            &[(0, 7, 1), (7, 6, 1)],
+            b"\x1b[1monetwo...___________________",
+        ),
     ),
     // There are fewer than may be kept.
     (
-        LinesCall::ShortenLines {
-            lines: STYLED_AND_ONE,
-            most: usize::MAX,
-            width: 6,
-            placeholder: b"...",
-        },
-        b"",
+        (
+            LinesCall::ShortenLines(STYLED_AND_ONE, usize::MAX, 6, b"..."),
+            b"",
+        ),
         (DONE, 3, 15),
-        &[(0, 7, 1), (7, 3, 1), (10, 5, 1)],
-        b"\x1b[1monetwothree___________________",
+        (
+            &[(0, 7, 1), (7, 3, 1), (10, 5, 1)],
+            b"\x1b[1monetwothree___________________",
+        ),
     ),
     (
-        LinesCall::ShortenLinesBy {
-            lines: STYLED_AND_ONE,
-            most: 1,
-            width: 3,
-            placeholder: b".",
-            break_words: 1,
-        },
-        b"",
+        (
+            LinesCall::ShortenLinesBy(STYLED_AND_ONE, 1, 3, b".", 1),
+            b"",
+        ),
         (DONE, 1, 11),
-        &[(0, 11, 1)],
-        b"\x1b[1mon\x1b[0m._____________________",
+        (&[(0, 11, 1)], b"\x1b[1mon\x1b[0m._____________________"),
     ),
     (
-        LinesCall::CarryStyles {
-            lines: STYLED,
-            options: AT_6,
-        },
-        b"",
+        (LinesCall::CarryStyles(STYLED, AT_6), b""),
         (DONE, 2, 22),
-        &[(0, 11, 1), (11, 11, 1)],
-        b"\x1b[1mone\x1b[0m\x1b[1mtwo\x1b[0m__________",
+        (
+            &[(0, 11, 1), (11, 11, 1)],
+            b"\x1b[1mone\x1b[0m\x1b[1mtwo\x1b[0m__________",
+        ),
     ),
 ];
 
@@ -274,88 +247,79 @@ const NO_TEXT: &[TextwrapText<'_>] = &[TextwrapText { bytes: b"\xff" }];
 /// cell that is no text, and so are such gaps.
 const TABLES: &[LinesRow] = &[
     (
-        LinesCall::Table {
-            cells: CELLS,
-            columns: COLUMNS,
-            gaps: BARS,
-        },
-        b"",
+        (LinesCall::Table(CELLS, COLUMNS, BARS), b""),
         (TOO_SMALL, 3, 36),
-        &[(0, 12, 1), (12, 12, 1), (24, 12, 1)],
-        b"|foo |  1.5||bar |     ||baz |     ",
+        (
+            &[(0, 12, 1), (12, 12, 1), (24, 12, 1)],
+            b"|foo |  1.5||bar |     ||baz |     ",
+        ),
     ),
     (
-        LinesCall::Table {
-            cells: CELLS,
-            columns: COLUMNS,
-            gaps: BARS,
-        },
-        b"",
+        (LinesCall::Table(CELLS, COLUMNS, BARS), b""),
         (DONE, 3, 36),
-        &[(0, 12, 1), (12, 12, 1), (24, 12, 1)],
-        b"|foo |  1.5||bar |     ||baz |     |",
+        (
+            &[(0, 12, 1), (12, 12, 1), (24, 12, 1)],
+            b"|foo |  1.5||bar |     ||baz |     |",
+        ),
     ),
     (
-        LinesCall::Table {
-            cells: NO_TEXT,
-            columns: &[
-                LEFT,
-                TextwrapColumn {
-                    alignment: 3,
-                    ..LEFT
-                },
-            ],
-            gaps: BARS,
-        },
-        b"",
+        (
+            LinesCall::Table(
+                NO_TEXT,
+                &[
+                    LEFT,
+                    TextwrapColumn {
+                        alignment: 3,
+                        ..LEFT
+                    },
+                ],
+                BARS,
+            ),
+            b"",
+        ),
         (UNKNOWN_OPTIONS, BEFORE, BEFORE),
-        &[NONE],
-        b"________________",
+        (&[NONE], b"________________"),
     ),
     (
-        LinesCall::Table {
-            cells: NO_TEXT,
-            columns: &[
-                LEFT,
-                TextwrapColumn {
-                    reserved: 1,
-                    ..LEFT
-                },
-            ],
-            gaps: BARS,
-        },
-        b"",
+        (
+            LinesCall::Table(
+                NO_TEXT,
+                &[
+                    LEFT,
+                    TextwrapColumn {
+                        reserved: 1,
+                        ..LEFT
+                    },
+                ],
+                BARS,
+            ),
+            b"",
+        ),
         (UNKNOWN_OPTIONS, BEFORE, BEFORE),
-        &[NONE],
-        b"________________",
+        (&[NONE], b"________________"),
     ),
     (
-        LinesCall::Table {
-            cells: NO_TEXT,
-            columns: &[LEFT],
-            gaps: UNKNOWN_GAPS,
-        },
-        b"",
+        (LinesCall::Table(NO_TEXT, &[LEFT], UNKNOWN_GAPS), b""),
         (UNKNOWN_OPTIONS, BEFORE, BEFORE),
-        &[NONE],
-        b"________________",
+        (&[NONE], b"________________"),
     ),
     (
-        LinesCall::Table {
-            cells: NO_TEXT,
-            columns: &[
-                LEFT,
-                TextwrapColumn {
-                    alignment: 2,
-                    ..LEFT
-                },
-            ],
-            gaps: BARS,
-        },
-        b"",
+        (
+            LinesCall::Table(
+                NO_TEXT,
+                &[
+                    LEFT,
+                    TextwrapColumn {
+                        alignment: 2,
+                        ..LEFT
+                    },
+                ],
+                BARS,
+            ),
+            b"",
+        ),
         (NOT_UTF8, BEFORE, BEFORE),
-        &[NONE],
-        b"________________",
+        (&[NONE], b"________________"),
     ),
 ];
 
@@ -376,119 +340,64 @@ const NO_TEXT_GAPS: TextwrapGaps<'_> = TextwrapGaps {
 /// a line that is no text.
 const ROWS_OF_LINES: &[LinesRow] = &[
     (
-        LinesCall::RowsOfLines {
-            lines: &[
-                TextwrapText { bytes: b"Foo" },
-                TextwrapText { bytes: b"Bar" },
-                TextwrapText { bytes: b"Baz" },
-                TextwrapText { bytes: b"Quux" },
-            ],
-            columns: 4,
-            width: 24,
-            gaps: BARS,
-        },
-        b"",
+        (
+            LinesCall::RowsOfLines(
+                &[
+                    TextwrapText { bytes: b"Foo" },
+                    TextwrapText { bytes: b"Bar" },
+                    TextwrapText { bytes: b"Baz" },
+                    TextwrapText { bytes: b"Quux" },
+                ],
+                4,
+                24,
+                BARS,
+            ),
+            b"",
+        ),
         (DONE, 1, 24),
-        &[(0, 24, 1), NONE],
-        b"|Foo |Bar |Baz |Quux   |________",
+        (&[(0, 24, 1), NONE], b"|Foo |Bar |Baz |Quux   |________"),
     ),
     // The first column is filled first, and the width that is left over stands at the end.
     (
-        LinesCall::RowsOfLines {
-            lines: FEW_LINES,
-            columns: 2,
-            width: 12,
-            gaps: BARS,
-        },
-        b"",
+        (LinesCall::RowsOfLines(FEW_LINES, 2, 12, BARS), b""),
         (DONE, 2, 24),
-        &[(0, 12, 1), (12, 12, 1)],
-        b"|Foo |Baz  ||Bar |     |",
+        (&[(0, 12, 1), (12, 12, 1)], b"|Foo |Baz  ||Bar |     |"),
     ),
     (
-        LinesCall::RowsOfLines {
-            lines: FEW_LINES,
-            columns: 2,
-            width: 12,
-            gaps: BARS,
-        },
-        b"",
+        (LinesCall::RowsOfLines(FEW_LINES, 2, 12, BARS), b""),
         (TOO_SMALL, 2, 24),
-        &[(0, 12, 1), (12, 12, 1)],
-        b"|Foo |Baz  ||Bar |     ",
+        (&[(0, 12, 1), (12, 12, 1)], b"|Foo |Baz  ||Bar |     "),
     ),
     // Gaps that leave no room leave a width of 1, and lines are not cut.
     (
-        LinesCall::RowsOfLines {
-            lines: FEW_LINES,
-            columns: 2,
-            width: 0,
-            gaps: BARS,
-        },
-        b"",
+        (LinesCall::RowsOfLines(FEW_LINES, 2, 0, BARS), b""),
         (DONE, 2, 16),
-        &[(0, 9, 1), (9, 7, 1)],
-        b"|Foo|Baz||Bar| |",
+        (&[(0, 9, 1), (9, 7, 1)], b"|Foo|Baz||Bar| |"),
     ),
     (
-        LinesCall::RowsOfLines {
-            lines: &[],
-            columns: usize::MAX,
-            width: 24,
-            gaps: BARS,
-        },
-        b"",
+        (LinesCall::RowsOfLines(&[], usize::MAX, 24, BARS), b""),
         (DONE, 0, 0),
-        &[NONE],
-        b"____",
+        (&[NONE], b"____"),
     ),
     (
-        LinesCall::RowsOfLines {
-            lines: NO_TEXT,
-            columns: 0,
-            width: 24,
-            gaps: BARS,
-        },
-        b"",
+        (LinesCall::RowsOfLines(NO_TEXT, 0, 24, BARS), b""),
         (UNKNOWN_OPTIONS, BEFORE, BEFORE),
-        &[NONE],
-        b"____",
+        (&[NONE], b"____"),
     ),
     (
-        LinesCall::RowsOfLines {
-            lines: NO_TEXT,
-            columns: 1,
-            width: 24,
-            gaps: UNKNOWN_GAPS,
-        },
-        b"",
+        (LinesCall::RowsOfLines(NO_TEXT, 1, 24, UNKNOWN_GAPS), b""),
         (UNKNOWN_OPTIONS, BEFORE, BEFORE),
-        &[NONE],
-        b"____",
+        (&[NONE], b"____"),
     ),
     (
-        LinesCall::RowsOfLines {
-            lines: NO_TEXT,
-            columns: 1,
-            width: 24,
-            gaps: BARS,
-        },
-        b"",
+        (LinesCall::RowsOfLines(NO_TEXT, 1, 24, BARS), b""),
         (NOT_UTF8, BEFORE, BEFORE),
-        &[NONE],
-        b"____",
+        (&[NONE], b"____"),
     ),
     (
-        LinesCall::RowsOfLines {
-            lines: FEW_LINES,
-            columns: 1,
-            width: 24,
-            gaps: NO_TEXT_GAPS,
-        },
-        b"",
+        (LinesCall::RowsOfLines(FEW_LINES, 1, 24, NO_TEXT_GAPS), b""),
         (NOT_UTF8, BEFORE, BEFORE),
-        &[NONE],
-        b"____",
+        (&[NONE], b"____"),
     ),
 ];
 
@@ -522,96 +431,70 @@ const NO_TEXT_CELLS: &[TextwrapCell<'_>] = &[
 /// A table of lines is that of the texts that have these lines.
 const TABLES_OF_LINES: &[LinesRow] = &[
     (
-        LinesCall::TableOfLines {
-            cells: WRAPPED_CELLS,
-            columns: COLUMNS,
-            gaps: BARS,
-        },
-        b"",
+        (LinesCall::TableOfLines(WRAPPED_CELLS, COLUMNS, BARS), b""),
         (DONE, 3, 36),
-        &[(0, 12, 1), (12, 12, 1), (24, 12, 1)],
-        b"|foo |  1.5||bar |     ||baz |     |",
+        (
+            &[(0, 12, 1), (12, 12, 1), (24, 12, 1)],
+            b"|foo |  1.5||bar |     ||baz |     |",
+        ),
     ),
     (
-        LinesCall::TableOfLines {
-            cells: WRAPPED_CELLS,
-            columns: COLUMNS,
-            gaps: BARS,
-        },
-        b"",
+        (LinesCall::TableOfLines(WRAPPED_CELLS, COLUMNS, BARS), b""),
         (TOO_SMALL, 3, 36),
-        &[(0, 12, 1), (12, 12, 1)],
-        b"|foo |  1.5||bar |     ||baz |     |",
+        (
+            &[(0, 12, 1), (12, 12, 1)],
+            b"|foo |  1.5||bar |     ||baz |     |",
+        ),
     ),
     // A cell without lines takes no row, and there are none without columns.
     (
-        LinesCall::TableOfLines {
-            cells: &[TextwrapCell { lines: &[] }],
-            columns: COLUMNS,
-            gaps: BARS,
-        },
-        b"",
+        (
+            LinesCall::TableOfLines(&[TextwrapCell { lines: &[] }], COLUMNS, BARS),
+            b"",
+        ),
         (DONE, 0, 0),
-        &[NONE],
-        b"____",
+        (&[NONE], b"____"),
     ),
     (
-        LinesCall::TableOfLines {
-            cells: WRAPPED_CELLS,
-            columns: &[],
-            gaps: BARS,
-        },
-        b"",
+        (LinesCall::TableOfLines(WRAPPED_CELLS, &[], BARS), b""),
         (DONE, 0, 0),
-        &[NONE],
-        b"____",
+        (&[NONE], b"____"),
     ),
     (
-        LinesCall::TableOfLines {
-            cells: NO_TEXT_CELLS,
-            columns: &[TextwrapColumn {
-                alignment: 3,
-                ..LEFT
-            }],
-            gaps: BARS,
-        },
-        b"",
+        (
+            LinesCall::TableOfLines(
+                NO_TEXT_CELLS,
+                &[TextwrapColumn {
+                    alignment: 3,
+                    ..LEFT
+                }],
+                BARS,
+            ),
+            b"",
+        ),
         (UNKNOWN_OPTIONS, BEFORE, BEFORE),
-        &[NONE],
-        b"____",
+        (&[NONE], b"____"),
     ),
     (
-        LinesCall::TableOfLines {
-            cells: NO_TEXT_CELLS,
-            columns: COLUMNS,
-            gaps: UNKNOWN_GAPS,
-        },
-        b"",
+        (
+            LinesCall::TableOfLines(NO_TEXT_CELLS, COLUMNS, UNKNOWN_GAPS),
+            b"",
+        ),
         (UNKNOWN_OPTIONS, BEFORE, BEFORE),
-        &[NONE],
-        b"____",
+        (&[NONE], b"____"),
     ),
     (
-        LinesCall::TableOfLines {
-            cells: NO_TEXT_CELLS,
-            columns: COLUMNS,
-            gaps: BARS,
-        },
-        b"",
+        (LinesCall::TableOfLines(NO_TEXT_CELLS, COLUMNS, BARS), b""),
         (NOT_UTF8, BEFORE, BEFORE),
-        &[NONE],
-        b"____",
+        (&[NONE], b"____"),
     ),
     (
-        LinesCall::TableOfLines {
-            cells: WRAPPED_CELLS,
-            columns: COLUMNS,
-            gaps: NO_TEXT_GAPS,
-        },
-        b"",
+        (
+            LinesCall::TableOfLines(WRAPPED_CELLS, COLUMNS, NO_TEXT_GAPS),
+            b"",
+        ),
         (NOT_UTF8, BEFORE, BEFORE),
-        &[NONE],
-        b"____",
+        (&[NONE], b"____"),
     ),
 ];
 

@@ -7,46 +7,49 @@ use textwrap_calls::status::{DONE, NOT_UTF8, TOO_SMALL, UNKNOWN_OPTIONS, WRONG_P
 /// The pieces of a paragraph stand one after another, split and broken as the options say.
 const PIECES: &[PiecesRow] = &[
     (
-        PiecesCall::Pieces(AT_4),
-        b"foo  ba-r",
+        (PiecesCall::Pieces(AT_4), b"foo  ba-r"),
         (DONE, 3),
         &[(0, 3, 2, 0, 3), (5, 3, 0, 0, 3), (8, 1, 0, 0, 1), NO_PLACE],
     ),
     (
-        PiecesCall::Pieces(TextwrapOptions {
-            split_at_hyphens: 0,
-            break_words: 0,
-            ..AT_4
-        }),
-        b"foo  ba-rr",
+        (
+            PiecesCall::Pieces(TextwrapOptions {
+                split_at_hyphens: 0,
+                break_words: 0,
+                ..AT_4
+            }),
+            b"foo  ba-rr",
+        ),
         (DONE, 2),
         &[(0, 3, 2, 0, 3), (5, 5, 0, 0, 5), NO_PLACE, NO_PLACE],
     ),
     // With an initial indent an empty piece stands before them. The text is `你好.`.
     (
-        PiecesCall::Pieces(TextwrapOptions {
-            initial_indent: b"> ",
-            ..AT_4
-        }),
-        b"\xe4\xbd\xa0\xe5\xa5\xbd.",
+        (
+            PiecesCall::Pieces(TextwrapOptions {
+                initial_indent: b"> ",
+                ..AT_4
+            }),
+            b"\xe4\xbd\xa0\xe5\xa5\xbd.",
+        ),
         (DONE, 3),
         &[(0, 0, 0, 0, 0), (0, 6, 0, 0, 4), (6, 1, 0, 0, 1), NO_PLACE],
     ),
     (
-        PiecesCall::Pieces(AT_4),
-        b"",
+        (PiecesCall::Pieces(AT_4), b""),
         (DONE, 0),
         &[NO_PLACE, NO_PLACE, NO_PLACE, NO_PLACE],
     ),
     (
-        PiecesCall::Pieces(TextwrapOptions { version: 0, ..AT_4 }),
-        b"a",
+        (
+            PiecesCall::Pieces(TextwrapOptions { version: 0, ..AT_4 }),
+            b"a",
+        ),
         (UNKNOWN_OPTIONS, BEFORE),
         &[NO_PLACE, NO_PLACE, NO_PLACE, NO_PLACE],
     ),
     (
-        PiecesCall::Pieces(AT_4),
-        b"a b",
+        (PiecesCall::Pieces(AT_4), b"a b"),
         (TOO_SMALL, 2),
         &[(0, 1, 1, 0, 1)],
     ),
@@ -55,46 +58,39 @@ const PIECES: &[PiecesRow] = &[
 /// Words are cut at offsets of the visible text, which increase and are character boundaries.
 const WORDS_AT: &[PiecesRow] = &[
     (
-        PiecesCall::WordsAt(&[4, 8, 11]),
-        b"foo-bar baz",
+        (PiecesCall::WordsAt(&[4, 8, 11]), b"foo-bar baz"),
         (DONE, 2),
         &[(0, 7, 1, 0, 7), (8, 3, 0, 0, 3), NO_PLACE, NO_PLACE],
     ),
     (
-        PiecesCall::WordsAt(&[8]),
-        b"foo-bar",
+        (PiecesCall::WordsAt(&[8]), b"foo-bar"),
         (WRONG_PLACES, BEFORE),
         &[NO_PLACE, NO_PLACE, NO_PLACE, NO_PLACE],
     ),
     (
-        PiecesCall::WordsAt(&[4, 3]),
-        b"foo bar",
+        (PiecesCall::WordsAt(&[4, 3]), b"foo bar"),
         (WRONG_PLACES, BEFORE),
         &[NO_PLACE, NO_PLACE, NO_PLACE, NO_PLACE],
     ),
     (
-        PiecesCall::WordsAt(&[4, 4]),
-        b"foo bar",
+        (PiecesCall::WordsAt(&[4, 4]), b"foo bar"),
         (WRONG_PLACES, BEFORE),
         &[NO_PLACE, NO_PLACE, NO_PLACE, NO_PLACE],
     ),
     // Escape sequences do not count: `foo bar` is visible.
     (
-        PiecesCall::WordsAt(&[0, 4, 7]),
-        b"\x1b[1mfoo\x1b[0m bar",
+        (PiecesCall::WordsAt(&[0, 4, 7]), b"\x1b[1mfoo\x1b[0m bar"),
         (DONE, 2),
         &[(0, 11, 1, 0, 3), (12, 3, 0, 0, 3), NO_PLACE, NO_PLACE],
     ),
     (
-        PiecesCall::WordsAt(&[4, 12]),
-        b"\x1b[1mfoo\x1b[0m bar",
+        (PiecesCall::WordsAt(&[4, 12]), b"\x1b[1mfoo\x1b[0m bar"),
         (WRONG_PLACES, BEFORE),
         &[NO_PLACE, NO_PLACE, NO_PLACE, NO_PLACE],
     ),
     // Inside an `é`.
     (
-        PiecesCall::WordsAt(&[1]),
-        b"\xc3\xa9",
+        (PiecesCall::WordsAt(&[1]), b"\xc3\xa9"),
         (WRONG_PLACES, BEFORE),
         &[NO_PLACE, NO_PLACE, NO_PLACE, NO_PLACE],
     ),
@@ -103,20 +99,17 @@ const WORDS_AT: &[PiecesRow] = &[
 /// A word is broken where it is too wide.
 const BROKEN: &[PiecesRow] = &[
     (
-        PiecesCall::BreakApart(3),
-        b"Hello!",
+        (PiecesCall::BreakApart(3), b"Hello!"),
         (DONE, 2),
         &[(0, 3, 0, 0, 3), (3, 3, 0, 0, 3), NO_PLACE, NO_PLACE],
     ),
     (
-        PiecesCall::BreakApart(3),
-        b"",
+        (PiecesCall::BreakApart(3), b""),
         (DONE, 0),
         &[NO_PLACE, NO_PLACE, NO_PLACE, NO_PLACE],
     ),
     (
-        PiecesCall::BreakApart(3),
-        b"a\xff",
+        (PiecesCall::BreakApart(3), b"a\xff"),
         (NOT_UTF8, BEFORE),
         &[NO_PLACE, NO_PLACE, NO_PLACE, NO_PLACE],
     ),

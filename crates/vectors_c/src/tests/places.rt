@@ -22,11 +22,9 @@ pub(super) const NONE: LinePlace = (99, 99, 99);
 /// A call and a text; the status, how many lines and how much room are told; all lines and the room
 /// afterwards.
 pub(super) type LinesRow = (
-    LinesCall<'static>,
-    &'static [u8],
+    (LinesCall<'static>, &'static [u8]),
     (u32, usize, usize),
-    &'static [LinePlace],
-    &'static [u8],
+    (&'static [LinePlace], &'static [u8]),
 );
 
 /// Asserts what each row says, also of its text where that is known.
@@ -38,7 +36,10 @@ pub(super) fn assert_lines(rt: &(impl Abort + AllocGlobal), rows: &[LinesRow]) {
 
 /// The same of texts that are all known or not.
 fn assert_lines_where(rt: &(impl Abort + AllocGlobal), is_known: bool, rows: &[LinesRow]) {
-    for (row, &(call, text, (status, count, len), places, expected)) in rows.iter().enumerate() {
+    for (row, &((call, text), (status, count, len), (places, expected))) in rows
+        .iter()
+        .enumerate()
+    {
         let mut lines = [NOWHERE; MOST];
         let lines = &mut lines[..places.len().min(MOST)];
         let mut room = [BLANK; MOST_ROOM];
@@ -79,15 +80,14 @@ pub(super) const NO_PLACE: PiecePlace = (99, 99, 99, 99, 99);
 
 /// A call and a text; the status, and how many pieces are told; all pieces afterwards.
 pub(super) type PiecesRow = (
-    PiecesCall<'static>,
-    &'static [u8],
+    (PiecesCall<'static>, &'static [u8]),
     (u32, usize),
     &'static [PiecePlace],
 );
 
 /// Asserts what each row says.
 pub(super) fn assert_pieces(rt: &(impl Abort + AllocGlobal), rows: &[PiecesRow]) {
-    for (row, &(call, text, expected, places)) in rows.iter().enumerate() {
+    for (row, &((call, text), expected, places)) in rows.iter().enumerate() {
         let mut pieces = [NO_PIECE; MOST];
         let pieces = &mut pieces[..places.len().min(MOST)];
         let mut count = BEFORE;
@@ -126,11 +126,22 @@ pub(super) type OffsetsRow = (OffsetsCall<'static>, (u32, usize), &'static [usiz
 /// Asserts what each row says.
 pub(super) fn assert_offsets(rt: &(impl Abort + AllocGlobal), rows: &[OffsetsRow]) {
     for (row, &(call, expected, places)) in rows.iter().enumerate() {
-        let mut offsets = [NO_OFFSET; MOST];
-        let offsets = &mut offsets[..places.len().min(MOST)];
-        let mut count = BEFORE;
-        let status = write_offsets(rt.alloc(), call, offsets, &mut count);
-        assert_told(rt, row, (status, count), expected);
-        assert_holds(rt, row, &*offsets == places);
+        assert_offsets_of(rt, row, call, expected, places);
     }
+}
+
+/// Asserts what the row of this number says.
+pub(super) fn assert_offsets_of(
+    rt: &(impl Abort + AllocGlobal),
+    row: usize,
+    call: OffsetsCall<'static>,
+    expected: (u32, usize),
+    places: &'static [usize],
+) {
+    let mut offsets = [NO_OFFSET; MOST];
+    let offsets = &mut offsets[..places.len().min(MOST)];
+    let mut count = BEFORE;
+    let status = write_offsets(rt.alloc(), call, offsets, &mut count);
+    assert_told(rt, row, (status, count), expected);
+    assert_holds(rt, row, &*offsets == places);
 }

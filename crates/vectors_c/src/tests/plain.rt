@@ -181,40 +181,21 @@ pub(super) enum TextCall<'a> {
     Unfill,
     Indent(&'a [u8]),
     Dedent,
-    Align {
-        width: usize,
-        alignment: u32,
-    },
+    /// The width, and the number of the alignment.
+    Align(usize, u32),
     Justify(usize),
     ExpandTabs(usize),
     FillJustified(TextwrapOptions<'a>),
     Reflow(TextwrapReflowOptions<'a>),
-    Shorten {
-        width: usize,
-        placeholder: &'a [u8],
-    },
-    ShortenBy {
-        width: usize,
-        placeholder: &'a [u8],
-        break_words: u32,
-    },
+    /// The width, and what a cut line ends in.
+    Shorten(usize, &'a [u8]),
+    /// The same, and whether words are broken.
+    ShortenBy(usize, &'a [u8], u32),
     Strip,
-    FillHyphenated {
-        options: TextwrapOptions<'a>,
-        hyphens: Hyphens,
-    },
-    RefillHyphenated {
-        options: TextwrapOptions<'a>,
-        hyphens: Hyphens,
-    },
-    FillAt {
-        steps: &'a [TextwrapSteps<'a>],
-        options: TextwrapOptions<'a>,
-    },
-    JustifyAt {
-        steps: &'a [TextwrapSteps<'a>],
-        options: TextwrapOptions<'a>,
-    },
+    FillHyphenated(TextwrapOptions<'a>, Hyphens),
+    RefillHyphenated(TextwrapOptions<'a>, Hyphens),
+    FillAt(&'a [TextwrapSteps<'a>], TextwrapOptions<'a>),
+    JustifyAt(&'a [TextwrapSteps<'a>], TextwrapOptions<'a>),
 }
 
 /// Makes the call. Answers the status. Where the text is known to be UTF-8, and there is a call for such
@@ -238,7 +219,7 @@ pub(super) fn write_text(
         TextCall::Unfill => write_unfilled(text, room, len),
         TextCall::Indent(prefix) => textwrap_indent(text, prefix, room, len),
         TextCall::Dedent => textwrap_dedent(text, room, len),
-        TextCall::Align { width, alignment } => {
+        TextCall::Align(width, alignment) => {
             textwrap_align(alloc, text, width, alignment, room, len)
         }
         TextCall::Justify(width) => textwrap_justify(alloc, text, width, room, len),
@@ -247,25 +228,29 @@ pub(super) fn write_text(
             textwrap_fill_justified(alloc, text, &options, room, len)
         }
         TextCall::Reflow(options) => textwrap_reflow(alloc, text, &options, room, len),
-        TextCall::Shorten { width, placeholder } => {
+        TextCall::Shorten(width, placeholder) => {
             textwrap_shorten(alloc, text, width, placeholder, room, len)
         }
-        TextCall::ShortenBy {
+        TextCall::ShortenBy(width, placeholder, break_words) => textwrap_shorten_by(
+            alloc,
+            text,
             width,
             placeholder,
             break_words,
-        } => textwrap_shorten_by(alloc, text, width, placeholder, break_words, room, len),
+            room,
+            len,
+        ),
         TextCall::Strip => textwrap_strip_ansi_escape_sequences(alloc, text, room, len),
-        TextCall::FillHyphenated { options, hyphens } => {
+        TextCall::FillHyphenated(options, hyphens) => {
             write_filled(alloc, hyphens, text, &options, room, len)
         }
-        TextCall::RefillHyphenated { options, hyphens } => {
+        TextCall::RefillHyphenated(options, hyphens) => {
             write_refilled(alloc, hyphens, text, &options, room, len)
         }
-        TextCall::FillAt { steps, options } => {
+        TextCall::FillAt(steps, options) => {
             textwrap_fill_at(alloc, text, steps, &options, room, len)
         }
-        TextCall::JustifyAt { steps, options } => {
+        TextCall::JustifyAt(steps, options) => {
             textwrap_fill_justified_at(alloc, text, steps, &options, room, len)
         }
     }
@@ -283,69 +268,24 @@ fn write_unfilled(text: &[u8], room: &mut [u8], len: &mut usize) -> u32 {
 pub(super) enum LinesCall<'a> {
     Wrap(TextwrapOptions<'a>),
     WrapBalanced(TextwrapOptions<'a>),
-    WrapHyphenated {
-        options: TextwrapOptions<'a>,
-        hyphens: Hyphens,
-    },
-    Columns {
-        columns: usize,
-        options: TextwrapOptions<'a>,
-        gaps: TextwrapGaps<'a>,
-    },
-    ColumnsHyphenated {
-        columns: usize,
-        options: TextwrapOptions<'a>,
-        gaps: TextwrapGaps<'a>,
-        hyphens: Hyphens,
-    },
-    ShortenLines {
-        lines: &'a [TextwrapText<'a>],
-        most: usize,
-        width: usize,
-        placeholder: &'a [u8],
-    },
-    ShortenLinesBy {
-        lines: &'a [TextwrapText<'a>],
-        most: usize,
-        width: usize,
-        placeholder: &'a [u8],
-        break_words: u32,
-    },
-    CarryStyles {
-        lines: &'a [TextwrapText<'a>],
-        options: TextwrapOptions<'a>,
-    },
-    CarryAttributes {
-        lines: &'a [TextwrapText<'a>],
-        options: TextwrapOptions<'a>,
-    },
-    Table {
-        cells: &'a [TextwrapText<'a>],
-        columns: &'a [TextwrapColumn<'a>],
-        gaps: TextwrapGaps<'a>,
-    },
-    RowsOfLines {
-        lines: &'a [TextwrapText<'a>],
-        columns: usize,
-        width: usize,
-        gaps: TextwrapGaps<'a>,
-    },
-    TableOfLines {
-        cells: &'a [TextwrapCell<'a>],
-        columns: &'a [TextwrapColumn<'a>],
-        gaps: TextwrapGaps<'a>,
-    },
-    LinesAt {
-        cuts: &'a [usize],
-        points: &'a [usize],
-        ends: &'a [usize],
-        options: TextwrapOptions<'a>,
-        is_later: usize,
-    },
-    WrapAt {
-        steps: &'a [TextwrapSteps<'a>],
-        options: TextwrapOptions<'a>,
-    },
+    WrapHyphenated(TextwrapOptions<'a>, Hyphens),
+    /// How many columns, and what stands around them.
+    Columns(usize, TextwrapOptions<'a>, TextwrapGaps<'a>),
+    /// The same with a dictionary.
+    ColumnsHyphenated(usize, TextwrapOptions<'a>, TextwrapGaps<'a>, Hyphens),
+    /// How many lines at most, their width, and what a cut one ends in.
+    ShortenLines(&'a [TextwrapText<'a>], usize, usize, &'a [u8]),
+    /// The same, and whether words are broken.
+    ShortenLinesBy(&'a [TextwrapText<'a>], usize, usize, &'a [u8], u32),
+    CarryStyles(&'a [TextwrapText<'a>], TextwrapOptions<'a>),
+    CarryAttributes(&'a [TextwrapText<'a>], TextwrapOptions<'a>),
+    Table(&'a [TextwrapText<'a>], &'a [TextwrapColumn<'a>], TextwrapGaps<'a>),
+    /// How many columns, and the width of a row.
+    RowsOfLines(&'a [TextwrapText<'a>], usize, usize, TextwrapGaps<'a>),
+    TableOfLines(&'a [TextwrapCell<'a>], &'a [TextwrapColumn<'a>], TextwrapGaps<'a>),
+    /// Cuts, points, ends, and whether a line stands before them.
+    LinesAt(&'a [usize], &'a [usize], &'a [usize], TextwrapOptions<'a>, usize),
+    WrapAt(&'a [TextwrapSteps<'a>], TextwrapOptions<'a>),
 }
 
 /// Makes the call, as `write_text` does.
@@ -371,30 +311,16 @@ pub(super) fn write_lines(
         LinesCall::WrapBalanced(options) => {
             textwrap_wrap_balanced(alloc, text, &options, lines, count, room, len)
         }
-        LinesCall::WrapHyphenated { options, hyphens } => {
+        LinesCall::WrapHyphenated(options, hyphens) => {
             write_wrapped(alloc, hyphens, text, &options, lines, count, room, len)
         }
-        LinesCall::Columns {
-            columns,
-            options,
-            gaps,
-        } => textwrap_wrap_columns(
+        LinesCall::Columns(columns, options, gaps) => textwrap_wrap_columns(
             alloc, text, columns, &options, &gaps, lines, count, room, len,
         ),
-        LinesCall::ColumnsHyphenated {
-            columns,
-            options,
-            gaps,
-            hyphens,
-        } => write_columns(
+        LinesCall::ColumnsHyphenated(columns, options, gaps, hyphens) => write_columns(
             alloc, hyphens, text, columns, &options, &gaps, lines, count, room, len,
         ),
-        LinesCall::ShortenLines {
-            lines: given,
-            most,
-            width,
-            placeholder,
-        } => textwrap_shorten_lines(
+        LinesCall::ShortenLines(given, most, width, placeholder) => textwrap_shorten_lines(
             alloc,
             given,
             most,
@@ -405,58 +331,38 @@ pub(super) fn write_lines(
             room,
             len,
         ),
-        LinesCall::ShortenLinesBy {
-            lines: given,
-            most,
-            width,
-            placeholder,
-            break_words,
-        } => textwrap_shorten_lines_by(
-            alloc,
-            given,
-            most,
-            width,
-            placeholder,
-            break_words,
-            lines,
-            count,
-            room,
-            len,
+        LinesCall::ShortenLinesBy(given, most, width, placeholder, break_words) =>
+            textwrap_shorten_lines_by(
+                alloc,
+                given,
+                most,
+                width,
+                placeholder,
+                break_words,
+                lines,
+                count,
+                room,
+                len,
+            ),
+        LinesCall::CarryStyles(given, options) => textwrap_carry_styles(
+            alloc, given, &options, lines, count, room, len,
         ),
-        LinesCall::CarryStyles {
-            lines: given,
-            options,
-        } => textwrap_carry_styles(alloc, given, &options, lines, count, room, len),
-        LinesCall::CarryAttributes {
-            lines: given,
-            options,
-        } => textwrap_carry_attributes(alloc, given, &options, lines, count, room, len),
-        LinesCall::Table {
-            cells,
-            columns,
-            gaps,
-        } => textwrap_table(alloc, cells, columns, &gaps, lines, count, room, len),
-        LinesCall::RowsOfLines {
-            lines: given,
-            columns,
-            width,
-            gaps,
-        } => textwrap_rows_of_lines(alloc, given, columns, width, &gaps, lines, count, room, len),
-        LinesCall::TableOfLines {
-            cells,
-            columns,
-            gaps,
-        } => textwrap_table_of_lines(alloc, cells, columns, &gaps, lines, count, room, len),
-        LinesCall::LinesAt {
-            cuts,
-            points,
-            ends,
-            options,
-            is_later,
-        } => textwrap_lines_at(
+        LinesCall::CarryAttributes(given, options) => textwrap_carry_attributes(
+            alloc, given, &options, lines, count, room, len,
+        ),
+        LinesCall::Table(cells, columns, gaps) => textwrap_table(
+            alloc, cells, columns, &gaps, lines, count, room, len,
+        ),
+        LinesCall::RowsOfLines(given, columns, width, gaps) => textwrap_rows_of_lines(
+            alloc, given, columns, width, &gaps, lines, count, room, len,
+        ),
+        LinesCall::TableOfLines(cells, columns, gaps) => textwrap_table_of_lines(
+            alloc, cells, columns, &gaps, lines, count, room, len,
+        ),
+        LinesCall::LinesAt(cuts, points, ends, options, is_later) => textwrap_lines_at(
             alloc, text, cuts, points, ends, &options, is_later, lines, count, room, len,
         ),
-        LinesCall::WrapAt { steps, options } => {
+        LinesCall::WrapAt(steps, options) => {
             textwrap_wrap_at(alloc, text, steps, &options, lines, count, room, len)
         }
     }
@@ -468,11 +374,8 @@ pub(super) enum PiecesCall<'a> {
     Pieces(TextwrapOptions<'a>),
     WordsAt(&'a [usize]),
     BreakApart(usize),
-    PiecesAt {
-        cuts: &'a [usize],
-        points: &'a [usize],
-        options: TextwrapOptions<'a>,
-    },
+    /// Cuts and points.
+    PiecesAt(&'a [usize], &'a [usize], TextwrapOptions<'a>),
 }
 
 /// Makes the call. Answers the status.
@@ -489,11 +392,9 @@ pub(super) fn write_pieces(
             textwrap_find_words_at(alloc, text, offsets, pieces, count)
         }
         PiecesCall::BreakApart(width) => textwrap_break_apart(alloc, text, width, pieces, count),
-        PiecesCall::PiecesAt {
-            cuts,
-            points,
-            options,
-        } => textwrap_pieces_at(alloc, text, cuts, points, &options, pieces, count),
+        PiecesCall::PiecesAt(cuts, points, options) => textwrap_pieces_at(
+            alloc, text, cuts, points, &options, pieces, count,
+        ),
     }
 }
 
@@ -502,31 +403,14 @@ pub(super) fn write_pieces(
 pub(super) enum OffsetsCall<'a> {
     SplitPoints(&'a [u8]),
     UnicodeCuts(&'a [u8]),
-    HyphenPoints {
-        word: &'a [u8],
-        hyphens: Hyphens,
-    },
-    FittingWidths {
-        cells: &'a [TextwrapText<'a>],
-        columns: usize,
-        total: usize,
-    },
-    FirstFit {
-        fragments: &'a [TextwrapFragment],
-        line_widths: &'a [usize],
-    },
-    OptimalFit {
-        fragments: &'a [TextwrapFragment],
-        line_widths: &'a [usize],
-        penalties: TextwrapPenalties,
-    },
-    EndsAt {
-        paragraph: &'a [u8],
-        cuts: &'a [usize],
-        points: &'a [usize],
-        options: TextwrapOptions<'a>,
-        is_later: usize,
-    },
+    HyphenPoints(&'a [u8], Hyphens),
+    /// How many columns, and their width together.
+    FittingWidths(&'a [TextwrapText<'a>], usize, usize),
+    /// The fragments, and the widths of lines.
+    FirstFit(&'a [TextwrapFragment], &'a [usize]),
+    OptimalFit(&'a [TextwrapFragment], &'a [usize], TextwrapPenalties),
+    /// A paragraph, cuts, points, and whether a line stands before it.
+    EndsAt(&'a [u8], &'a [usize], &'a [usize], TextwrapOptions<'a>, usize),
 }
 
 /// Makes the call. Answers the status.
@@ -539,30 +423,28 @@ pub(super) fn write_offsets(
     match call {
         OffsetsCall::SplitPoints(word) => textwrap_split_points(alloc, word, offsets, count),
         OffsetsCall::UnicodeCuts(line) => textwrap_unicode_cuts(alloc, line, offsets, count),
-        OffsetsCall::HyphenPoints { word, hyphens } => {
+        OffsetsCall::HyphenPoints(word, hyphens) => {
             write_points(alloc, hyphens, word, offsets, count)
         }
-        OffsetsCall::FittingWidths {
-            cells,
-            columns,
-            total,
-        } => textwrap_fitting_widths(alloc, cells, columns, total, offsets, count),
-        OffsetsCall::FirstFit {
+        OffsetsCall::FittingWidths(cells, columns, total) => textwrap_fitting_widths(
+            alloc, cells, columns, total, offsets, count,
+        ),
+        OffsetsCall::FirstFit(fragments, line_widths) => textwrap_wrap_first_fit(
+            alloc,
             fragments,
             line_widths,
-        } => textwrap_wrap_first_fit(alloc, fragments, line_widths, offsets, count),
-        OffsetsCall::OptimalFit {
+            offsets,
+            count,
+        ),
+        OffsetsCall::OptimalFit(fragments, line_widths, penalties) => textwrap_wrap_optimal_fit(
+            alloc,
             fragments,
             line_widths,
-            penalties,
-        } => textwrap_wrap_optimal_fit(alloc, fragments, line_widths, &penalties, offsets, count),
-        OffsetsCall::EndsAt {
-            paragraph,
-            cuts,
-            points,
-            options,
-            is_later,
-        } => textwrap_ends_at(
+            &penalties,
+            offsets,
+            count,
+        ),
+        OffsetsCall::EndsAt(paragraph, cuts, points, options, is_later) => textwrap_ends_at(
             alloc, paragraph, cuts, points, &options, is_later, offsets, count,
         ),
     }

@@ -93,11 +93,8 @@ const ROWS: &[Reflowed] = &[
 fn each_option_of_texts_with_marks_reaches_the_library(rt: HostRuntime) {
     for &(options, text, reflowed) in ROWS {
         let row = (
-            TextCall::Reflow(options),
-            text,
-            DONE,
-            reflowed.len(),
-            reflowed,
+            (TextCall::Reflow(options), text),
+            (DONE, reflowed.len(), reflowed),
         );
         assert_texts(&rt, &[row]);
         assert_beginnings(&rt, &[row]);
@@ -107,34 +104,31 @@ fn each_option_of_texts_with_marks_reaches_the_library(rt: HostRuntime) {
 /// A text, a mark or a prefix that is no UTF-8 changes nothing.
 const NO_TEXTS: &[TextRow] = &[
     (
-        TextCall::Reflow(REFLOWED),
-        b"foo\xff",
-        NOT_UTF8,
-        BEFORE,
-        b"________",
+        (TextCall::Reflow(REFLOWED), b"foo\xff"),
+        (NOT_UTF8, BEFORE, b"________"),
     ),
     (
-        TextCall::Reflow(TextwrapReflowOptions {
-            markers: &[
-                TextwrapText { bytes: b"a" },
-                TextwrapText { bytes: b"\xff" },
-            ],
-            ..REFLOWED
-        }),
-        b"foo",
-        NOT_UTF8,
-        BEFORE,
-        b"________",
+        (
+            TextCall::Reflow(TextwrapReflowOptions {
+                markers: &[
+                    TextwrapText { bytes: b"a" },
+                    TextwrapText { bytes: b"\xff" },
+                ],
+                ..REFLOWED
+            }),
+            b"foo",
+        ),
+        (NOT_UTF8, BEFORE, b"________"),
     ),
     (
-        TextCall::Reflow(TextwrapReflowOptions {
-            prefixes: &[TextwrapText { bytes: b"\xff" }],
-            ..REFLOWED
-        }),
-        b"foo",
-        NOT_UTF8,
-        BEFORE,
-        b"________",
+        (
+            TextCall::Reflow(TextwrapReflowOptions {
+                prefixes: &[TextwrapText { bytes: b"\xff" }],
+                ..REFLOWED
+            }),
+            b"foo",
+        ),
+        (NOT_UTF8, BEFORE, b"________"),
     ),
 ];
 
@@ -183,14 +177,17 @@ fn texts_with_marks_are_told_apart_from_what_is_none(rt: HostRuntime) {
     assert_texts(&rt, NO_TEXTS);
     for &options in UNKNOWN {
         let call = TextCall::Reflow(options);
-        assert_texts(&rt, &[(call, b"\xff", UNKNOWN_OPTIONS, BEFORE, b"____")]);
+        assert_texts(
+            &rt,
+            &[((call, b"\xff"), (UNKNOWN_OPTIONS, BEFORE, b"____"))],
+        );
     }
     let short = (
-        TextCall::Reflow(REFLOWED),
-        b"> one two three four\n" as &[u8],
-        TOO_SMALL,
-        23,
-        b"> one" as &[u8],
+        (
+            TextCall::Reflow(REFLOWED),
+            b"> one two three four\n" as &[u8],
+        ),
+        (TOO_SMALL, 23, b"> one" as &[u8]),
     );
     assert_texts(&rt, &[short]);
 }

@@ -22,33 +22,18 @@ const PARAGRAPH: &[u8] = b"foo b\xc3\xa4r-baz";
 /// The pieces of a paragraph at cuts and points.
 const PIECES: &[PiecesRow] = &[
     (
-        PiecesCall::PiecesAt {
-            cuts: &[],
-            points: &[],
-            options: AT_20,
-        },
-        PARAGRAPH,
+        (PiecesCall::PiecesAt(&[], &[], AT_20), PARAGRAPH),
         (DONE, 1),
         &[(0, 12, 0, 0, 11), NO_PLACE, NO_PLACE, NO_PLACE],
     ),
     (
-        PiecesCall::PiecesAt {
-            cuts: &[4],
-            points: &[],
-            options: AT_20,
-        },
-        PARAGRAPH,
+        (PiecesCall::PiecesAt(&[4], &[], AT_20), PARAGRAPH),
         (DONE, 2),
         &[(0, 3, 1, 0, 3), (4, 8, 0, 0, 7), NO_PLACE, NO_PLACE],
     ),
     // A point at a word's end, or in its blanks, is not used; after a hyphen none is added.
     (
-        PiecesCall::PiecesAt {
-            cuts: &[4],
-            points: &[2, 3, 4, 9],
-            options: AT_20,
-        },
-        PARAGRAPH,
+        (PiecesCall::PiecesAt(&[4], &[2, 3, 4, 9], AT_20), PARAGRAPH),
         (DONE, 4),
         &[
             (0, 2, 0, 1, 2),
@@ -59,15 +44,17 @@ const PIECES: &[PiecesRow] = &[
     ),
     // What is wider than a line is broken.
     (
-        PiecesCall::PiecesAt {
-            cuts: &[4],
-            points: &[9],
-            options: TextwrapOptions {
-                width: 3,
-                ..DEFAULTS
-            },
-        },
-        PARAGRAPH,
+        (
+            PiecesCall::PiecesAt(
+                &[4],
+                &[9],
+                TextwrapOptions {
+                    width: 3,
+                    ..DEFAULTS
+                },
+            ),
+            PARAGRAPH,
+        ),
         (DONE, 4),
         &[
             (0, 3, 1, 0, 3),
@@ -84,62 +71,32 @@ const OTHER: &[u8] = b"foo b\xc3\xa4r";
 /// Cuts and points that are none: not increasing, at an end, inside a character.
 const WRONG: &[PiecesRow] = &[
     (
-        PiecesCall::PiecesAt {
-            cuts: &[4, 4],
-            points: &[],
-            options: AT_9,
-        },
-        OTHER,
+        (PiecesCall::PiecesAt(&[4, 4], &[], AT_9), OTHER),
         (WRONG_PLACES, BEFORE),
         &[NO_PLACE],
     ),
     (
-        PiecesCall::PiecesAt {
-            cuts: &[],
-            points: &[5, 4],
-            options: AT_9,
-        },
-        OTHER,
+        (PiecesCall::PiecesAt(&[], &[5, 4], AT_9), OTHER),
         (WRONG_PLACES, BEFORE),
         &[NO_PLACE],
     ),
     (
-        PiecesCall::PiecesAt {
-            cuts: &[0],
-            points: &[],
-            options: AT_9,
-        },
-        OTHER,
+        (PiecesCall::PiecesAt(&[0], &[], AT_9), OTHER),
         (WRONG_PLACES, BEFORE),
         &[NO_PLACE],
     ),
     (
-        PiecesCall::PiecesAt {
-            cuts: &[8],
-            points: &[],
-            options: AT_9,
-        },
-        OTHER,
+        (PiecesCall::PiecesAt(&[8], &[], AT_9), OTHER),
         (WRONG_PLACES, BEFORE),
         &[NO_PLACE],
     ),
     (
-        PiecesCall::PiecesAt {
-            cuts: &[],
-            points: &[9],
-            options: AT_9,
-        },
-        OTHER,
+        (PiecesCall::PiecesAt(&[], &[9], AT_9), OTHER),
         (WRONG_PLACES, BEFORE),
         &[NO_PLACE],
     ),
     (
-        PiecesCall::PiecesAt {
-            cuts: &[],
-            points: &[6],
-            options: AT_9,
-        },
-        OTHER,
+        (PiecesCall::PiecesAt(&[], &[6], AT_9), OTHER),
         (WRONG_PLACES, BEFORE),
         &[NO_PLACE],
     ),
@@ -148,32 +105,20 @@ const WRONG: &[PiecesRow] = &[
 /// Which of several refusals is told, and that too little room is told after them.
 const REFUSED: &[PiecesRow] = &[
     (
-        PiecesCall::PiecesAt {
-            cuts: &[9],
-            points: &[],
-            options: AT_9,
-        },
-        b"\xff",
+        (PiecesCall::PiecesAt(&[9], &[], AT_9), b"\xff"),
         (NOT_UTF8, BEFORE),
         &[NO_PLACE],
     ),
     (
-        PiecesCall::PiecesAt {
-            cuts: &[9],
-            points: &[],
-            options: TextwrapOptions { version: 0, ..AT_9 },
-        },
-        OTHER,
+        (
+            PiecesCall::PiecesAt(&[9], &[], TextwrapOptions { version: 0, ..AT_9 }),
+            OTHER,
+        ),
         (UNKNOWN_OPTIONS, BEFORE),
         &[NO_PLACE],
     ),
     (
-        PiecesCall::PiecesAt {
-            cuts: &[4],
-            points: &[],
-            options: AT_9,
-        },
-        OTHER,
+        (PiecesCall::PiecesAt(&[4], &[], AT_9), OTHER),
         (TOO_SMALL, 2),
         &[(0, 3, 1, 0, 3)],
     ),
@@ -190,73 +135,54 @@ fn a_paragraph_has_pieces_at_cuts_and_points(rt: HostRuntime) {
 const LINES: &[LinesRow] = &[
     // The pieces are `fo` with a hyphen, `o `, `bar ` and `baz`.
     (
-        LinesCall::LinesAt {
-            cuts: &[4, 8],
-            points: &[2],
-            ends: &[1, 3, 4],
-            options: AT_9,
-            is_later: 0,
-        },
-        b"foo bar baz",
+        (
+            LinesCall::LinesAt(&[4, 8], &[2], &[1, 3, 4], AT_9, 0),
+            b"foo bar baz",
+        ),
         (DONE, 3, 3),
-        &[(0, 3, 1), (2, 5, 0), (8, 3, 0)],
-        b"fo-_____",
+        (&[(0, 3, 1), (2, 5, 0), (8, 3, 0)], b"fo-_____"),
     ),
     // After other lines the first has the subsequent indent; pieces after the last end are in none.
     (
-        LinesCall::LinesAt {
-            cuts: &[4, 8],
-            points: &[],
-            ends: &[1],
-            options: TextwrapOptions {
-                subsequent_indent: b"> ",
-                ..AT_9
-            },
-            is_later: 1,
-        },
-        b"foo bar baz",
+        (
+            LinesCall::LinesAt(
+                &[4, 8],
+                &[],
+                &[1],
+                TextwrapOptions {
+                    subsequent_indent: b"> ",
+                    ..AT_9
+                },
+                1,
+            ),
+            b"foo bar baz",
+        ),
         (DONE, 1, 5),
-        &[(0, 5, 1), NONE, NONE],
-        b"> foo___",
+        (&[(0, 5, 1), NONE, NONE], b"> foo___"),
     ),
     (
-        LinesCall::LinesAt {
-            cuts: &[4, 8],
-            points: &[],
-            ends: &[2, 1],
-            options: AT_9,
-            is_later: 0,
-        },
-        b"foo bar baz",
+        (
+            LinesCall::LinesAt(&[4, 8], &[], &[2, 1], AT_9, 0),
+            b"foo bar baz",
+        ),
         (WRONG_PLACES, BEFORE, BEFORE),
-        &[NONE, NONE, NONE],
-        b"________",
+        (&[NONE, NONE, NONE], b"________"),
     ),
     (
-        LinesCall::LinesAt {
-            cuts: &[4, 8],
-            points: &[],
-            ends: &[4],
-            options: AT_9,
-            is_later: 0,
-        },
-        b"foo bar baz",
+        (
+            LinesCall::LinesAt(&[4, 8], &[], &[4], AT_9, 0),
+            b"foo bar baz",
+        ),
         (WRONG_PLACES, BEFORE, BEFORE),
-        &[NONE, NONE, NONE],
-        b"________",
+        (&[NONE, NONE, NONE], b"________"),
     ),
     (
-        LinesCall::LinesAt {
-            cuts: &[4, 8],
-            points: &[],
-            ends: &[3],
-            options: AT_9,
-            is_later: 2,
-        },
-        b"foo bar baz",
+        (
+            LinesCall::LinesAt(&[4, 8], &[], &[3], AT_9, 2),
+            b"foo bar baz",
+        ),
         (UNKNOWN_OPTIONS, BEFORE, BEFORE),
-        &[NONE, NONE, NONE],
-        b"________",
+        (&[NONE, NONE, NONE], b"________"),
     ),
 ];
 

@@ -91,99 +91,60 @@ const INDENTED: TextwrapOptions<'_> = TextwrapOptions {
 /// The lines of each paragraph are those at its steps, and stand where they do in the text.
 const WRAPPED: &[LinesRow] = &[
     (
-        LinesCall::WrapAt {
-            steps: STEPS,
-            options: AT_5,
-        },
-        TEXT,
+        (LinesCall::WrapAt(STEPS, AT_5), TEXT),
         (DONE, 5, 3),
-        &[(0, 3, 0), (4, 3, 0), (8, 0, 0), (0, 3, 1), (11, 5, 0)],
-        b"ba-_____",
+        (
+            &[(0, 3, 0), (4, 3, 0), (8, 0, 0), (0, 3, 1), (11, 5, 0)],
+            b"ba-_____",
+        ),
     ),
     (
-        LinesCall::WrapAt {
-            steps: STEPS,
-            options: AT_5,
-        },
-        TEXT,
+        (LinesCall::WrapAt(STEPS, AT_5), TEXT),
         (TOO_SMALL, 5, 3),
-        &[(0, 3, 0), (4, 3, 0), (8, 0, 0), (0, 3, 1)],
-        b"ba-_____",
+        (&[(0, 3, 0), (4, 3, 0), (8, 0, 0), (0, 3, 1)], b"ba-_____"),
     ),
     // Whether a line stands before a paragraph depends on the lines, not on the paragraphs.
     (
-        LinesCall::WrapAt {
-            steps: LATE,
-            options: INDENTED,
-        },
-        b"foo\nbar",
+        (LinesCall::WrapAt(LATE, INDENTED), b"foo\nbar"),
         (DONE, 1, 5),
-        &[(0, 5, 1), NONE],
-        b"> bar___",
+        (&[(0, 5, 1), NONE], b"> bar___"),
     ),
     (
-        LinesCall::WrapAt {
-            steps: EACH_ONE,
-            options: AT_3,
-        },
-        b"foo\r\nbar",
+        (LinesCall::WrapAt(EACH_ONE, AT_3), b"foo\r\nbar"),
         (DONE, 2, 0),
-        &[(0, 3, 0), (5, 3, 0)],
-        b"",
+        (&[(0, 3, 0), (5, 3, 0)], b""),
     ),
 ];
 
 /// Steps that are too few, too many, or wrong in one; and what is refused before them.
 const REFUSED: &[LinesRow] = &[
     (
-        LinesCall::WrapAt {
-            steps: EACH_ONE,
-            options: AT_5,
-        },
-        TEXT,
+        (LinesCall::WrapAt(EACH_ONE, AT_5), TEXT),
         (WRONG_PLACES, BEFORE, BEFORE),
-        &[NONE],
-        b"____",
+        (&[NONE], b"____"),
     ),
     (
-        LinesCall::WrapAt {
-            steps: STEPS,
-            options: AT_5,
-        },
-        b"foo bar",
+        (LinesCall::WrapAt(STEPS, AT_5), b"foo bar"),
         (WRONG_PLACES, BEFORE, BEFORE),
-        &[NONE],
-        b"____",
+        (&[NONE], b"____"),
     ),
     (
-        LinesCall::WrapAt {
-            steps: LONG,
-            options: AT_5,
-        },
-        b"foo bar",
+        (LinesCall::WrapAt(LONG, AT_5), b"foo bar"),
         (WRONG_PLACES, BEFORE, BEFORE),
-        &[NONE],
-        b"____",
+        (&[NONE], b"____"),
     ),
     (
-        LinesCall::WrapAt {
-            steps: STEPS,
-            options: AT_5,
-        },
-        b"foo\xff",
+        (LinesCall::WrapAt(STEPS, AT_5), b"foo\xff"),
         (NOT_UTF8, BEFORE, BEFORE),
-        &[NONE],
-        b"____",
+        (&[NONE], b"____"),
     ),
     (
-        LinesCall::WrapAt {
-            steps: STEPS,
-            options: TextwrapOptions { version: 0, ..AT_5 },
-        },
-        b"foo\xff",
+        (
+            LinesCall::WrapAt(STEPS, TextwrapOptions { version: 0, ..AT_5 }),
+            b"foo\xff",
+        ),
         (UNKNOWN_OPTIONS, BEFORE, BEFORE),
-        &[NONE],
-        b"____",
+        (&[NONE], b"____"),
     ),
 ];
 
@@ -196,64 +157,31 @@ fn the_lines_of_a_text_end_where_the_caller_says(rt: HostRuntime) {
 /// The same lines, joined by the line ending.
 const FILLED: &[TextRow] = &[
     (
-        TextCall::FillAt {
-            steps: STEPS,
-            options: AT_5,
-        },
-        TEXT,
-        DONE,
-        18,
-        b"foo\nbar\n\nba-\nz qux__",
+        (TextCall::FillAt(STEPS, AT_5), TEXT),
+        (DONE, 18, b"foo\nbar\n\nba-\nz qux__"),
     ),
     (
-        TextCall::FillAt {
-            steps: STEPS,
-            options: AT_5,
-        },
-        TEXT,
-        TOO_SMALL,
-        18,
-        b"foo\nbar\n\nba-\nz qu",
+        (TextCall::FillAt(STEPS, AT_5), TEXT),
+        (TOO_SMALL, 18, b"foo\nbar\n\nba-\nz qu"),
     ),
     (
-        TextCall::FillAt {
-            steps: EACH_ONE,
-            options: AT_3,
-        },
-        b"foo\r\nbar",
-        DONE,
-        8,
-        b"foo\r\nbar",
+        (TextCall::FillAt(EACH_ONE, AT_3), b"foo\r\nbar"),
+        (DONE, 8, b"foo\r\nbar"),
     ),
     (
-        TextCall::FillAt {
-            steps: LONG,
-            options: AT_5,
-        },
-        b"foo bar",
-        WRONG_PLACES,
-        BEFORE,
-        b"____",
+        (TextCall::FillAt(LONG, AT_5), b"foo bar"),
+        (WRONG_PLACES, BEFORE, b"____"),
     ),
     (
-        TextCall::FillAt {
-            steps: LONG,
-            options: AT_5,
-        },
-        b"foo\xff",
-        NOT_UTF8,
-        BEFORE,
-        b"____",
+        (TextCall::FillAt(LONG, AT_5), b"foo\xff"),
+        (NOT_UTF8, BEFORE, b"____"),
     ),
     (
-        TextCall::FillAt {
-            steps: LONG,
-            options: TextwrapOptions { version: 0, ..AT_5 },
-        },
-        b"foo\xff",
-        UNKNOWN_OPTIONS,
-        BEFORE,
-        b"____",
+        (
+            TextCall::FillAt(LONG, TextwrapOptions { version: 0, ..AT_5 }),
+            b"foo\xff",
+        ),
+        (UNKNOWN_OPTIONS, BEFORE, b"____"),
     ),
 ];
 
@@ -283,54 +211,27 @@ const WORDS: &[TextwrapSteps<'_>] = &[
 /// All lines but the last of each paragraph are justified, the first of them after its indent.
 const JUSTIFIED: &[TextRow] = &[
     (
-        TextCall::JustifyAt {
-            steps: WORDS,
-            options: AT_8,
-        },
-        b"a b cd e f\ngh i jk",
-        DONE,
-        27,
-        b"> a    b\ncd     e\nf\ngh i jk__",
+        (TextCall::JustifyAt(WORDS, AT_8), b"a b cd e f\ngh i jk"),
+        (DONE, 27, b"> a    b\ncd     e\nf\ngh i jk__"),
     ),
     (
-        TextCall::JustifyAt {
-            steps: WORDS,
-            options: AT_8,
-        },
-        b"a b cd e f\ngh i jk",
-        TOO_SMALL,
-        27,
-        b"> a    b\ncd     e\nf\ngh i j",
+        (TextCall::JustifyAt(WORDS, AT_8), b"a b cd e f\ngh i jk"),
+        (TOO_SMALL, 27, b"> a    b\ncd     e\nf\ngh i j"),
     ),
     (
-        TextCall::JustifyAt {
-            steps: LONG,
-            options: AT_5,
-        },
-        b"foo bar",
-        WRONG_PLACES,
-        BEFORE,
-        b"____",
+        (TextCall::JustifyAt(LONG, AT_5), b"foo bar"),
+        (WRONG_PLACES, BEFORE, b"____"),
     ),
     (
-        TextCall::JustifyAt {
-            steps: LONG,
-            options: AT_5,
-        },
-        b"foo\xff",
-        NOT_UTF8,
-        BEFORE,
-        b"____",
+        (TextCall::JustifyAt(LONG, AT_5), b"foo\xff"),
+        (NOT_UTF8, BEFORE, b"____"),
     ),
     (
-        TextCall::JustifyAt {
-            steps: LONG,
-            options: TextwrapOptions { version: 0, ..AT_5 },
-        },
-        b"foo\xff",
-        UNKNOWN_OPTIONS,
-        BEFORE,
-        b"____",
+        (
+            TextCall::JustifyAt(LONG, TextwrapOptions { version: 0, ..AT_5 }),
+            b"foo\xff",
+        ),
+        (UNKNOWN_OPTIONS, BEFORE, b"____"),
     ),
 ];
 
@@ -355,57 +256,27 @@ const LEAST_COST: TextwrapOptions<'_> = TextwrapOptions {
 /// Lines end by the algorithm of the options.
 const ENDS: &[OffsetsRow] = &[
     (
-        OffsetsCall::EndsAt {
-            paragraph: b"foo bar baz",
-            cuts: &[4, 8],
-            points: &[],
-            options: FIRST_FIT,
-            is_later: 0,
-        },
+        OffsetsCall::EndsAt(b"foo bar baz", &[4, 8], &[], FIRST_FIT, 0),
         (DONE, 2),
         &[2, 3, NO_OFFSET],
     ),
     (
-        OffsetsCall::EndsAt {
-            paragraph: b"foo bar baz",
-            cuts: &[4, 8],
-            points: &[],
-            options: LEAST_COST,
-            is_later: 1,
-        },
+        OffsetsCall::EndsAt(b"foo bar baz", &[4, 8], &[], LEAST_COST, 1),
         (DONE, 2),
         &[2, 3, NO_OFFSET],
     ),
     (
-        OffsetsCall::EndsAt {
-            paragraph: b"foo bar baz",
-            cuts: &[4, 8],
-            points: &[],
-            options: LEAST_COST,
-            is_later: 0,
-        },
+        OffsetsCall::EndsAt(b"foo bar baz", &[4, 8], &[], LEAST_COST, 0),
         (TOO_SMALL, 2),
         &[2],
     ),
     (
-        OffsetsCall::EndsAt {
-            paragraph: b"foo bar baz",
-            cuts: &[4, 8],
-            points: &[],
-            options: FIRST_FIT,
-            is_later: 2,
-        },
+        OffsetsCall::EndsAt(b"foo bar baz", &[4, 8], &[], FIRST_FIT, 2),
         (UNKNOWN_OPTIONS, BEFORE),
         &[NO_OFFSET],
     ),
     (
-        OffsetsCall::EndsAt {
-            paragraph: b"foo bar baz",
-            cuts: &[8, 4],
-            points: &[],
-            options: FIRST_FIT,
-            is_later: 0,
-        },
+        OffsetsCall::EndsAt(b"foo bar baz", &[8, 4], &[], FIRST_FIT, 0),
         (WRONG_PLACES, BEFORE),
         &[NO_OFFSET],
     ),
@@ -541,10 +412,7 @@ fn many_lines(alloc: Global) -> Result<Told, AllocError> {
     let steps = vec![in alloc; NO_STEPS; MANY]?;
     let mut lines = vec![in alloc; NOWHERE; MANY]?;
     let (mut count, mut len) = (BEFORE, BEFORE);
-    let wrap = LinesCall::WrapAt {
-        steps: &steps,
-        options: DEFAULTS,
-    };
+    let wrap = LinesCall::WrapAt(&steps, DEFAULTS);
     let status = write_lines(
         alloc,
         false,
@@ -564,14 +432,8 @@ fn many_paragraphs(alloc: Global, is_justified: bool) -> Result<(u32, usize), Al
     let steps = vec![in alloc; NO_STEPS; MANY]?;
     let mut room = vec![in alloc; 0; 3 * MANY]?;
     let call = match is_justified {
-        true => TextCall::JustifyAt {
-            steps: &steps,
-            options: DEFAULTS,
-        },
-        false => TextCall::FillAt {
-            steps: &steps,
-            options: DEFAULTS,
-        },
+        true => TextCall::JustifyAt(&steps, DEFAULTS),
+        false => TextCall::FillAt(&steps, DEFAULTS),
     };
     let mut len = BEFORE;
     let status = write_text(alloc, false, call, text.as_bytes(), &mut room, &mut len);

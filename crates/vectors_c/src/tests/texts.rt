@@ -8,7 +8,10 @@ use textwrap_calls::options::TextwrapOptions;
 use textwrap_calls::status::{DONE, NOT_UTF8, TOO_SMALL, UNKNOWN_OPTIONS};
 
 /// A call and a text; the status, the length that is told, and the room afterwards.
-pub(super) type TextRow = (TextCall<'static>, &'static [u8], u32, usize, &'static [u8]);
+pub(super) type TextRow = (
+    (TextCall<'static>, &'static [u8]),
+    (u32, usize, &'static [u8]),
+);
 
 /// How much room the longest row has.
 const MOST: usize = 64;
@@ -16,7 +19,7 @@ const MOST: usize = 64;
 /// Asserts what each row says, also of its text where that is known.
 pub(super) fn assert_texts(rt: &(impl Abort + AllocGlobal), rows: &[TextRow]) {
     for is_known in [false, true] {
-        for (row, &(call, text, status, len, expected)) in rows.iter().enumerate() {
+        for (row, &((call, text), (status, len, expected))) in rows.iter().enumerate() {
             let mut room = [BLANK; MOST];
             let room = &mut room[..expected.len().min(MOST)];
             let mut told = BEFORE;
@@ -36,7 +39,7 @@ pub(super) fn assert_beginnings(rt: &(impl Abort + AllocGlobal), rows: &[TextRow
 
 /// The same of texts that are all known or not.
 fn assert_beginnings_where(rt: &(impl Abort + AllocGlobal), is_known: bool, rows: &[TextRow]) {
-    for (row, &(call, text, _status, len, expected)) in rows.iter().enumerate() {
+    for (row, &((call, text), (_status, len, expected))) in rows.iter().enumerate() {
         for has in 0..len.min(expected.len()).min(MOST) {
             let mut room = [BLANK; MOST];
             let room = &mut room[..has];
@@ -58,102 +61,54 @@ const BY_FIRST_FIT: TextwrapOptions<'_> = TextwrapOptions {
 /// none changes nothing.
 const ROOM: &[TextRow] = &[
     (
-        TextCall::Fill(DEFAULTS),
-        b"foo bar baz",
-        DONE,
-        11,
-        b"foo bar\nbaz_____",
+        (TextCall::Fill(DEFAULTS), b"foo bar baz"),
+        (DONE, 11, b"foo bar\nbaz_____"),
     ),
     (
-        TextCall::Fill(DEFAULTS),
-        b"foo bar baz",
-        TOO_SMALL,
-        11,
-        b"foo bar\nba",
+        (TextCall::Fill(DEFAULTS), b"foo bar baz"),
+        (TOO_SMALL, 11, b"foo bar\nba"),
     ),
     (
-        TextCall::Fill(BY_FIRST_FIT),
-        b"foo bar \xc3\xa9",
-        TOO_SMALL,
-        10,
-        b"foo bar \xc3",
+        (TextCall::Fill(BY_FIRST_FIT), b"foo bar \xc3\xa9"),
+        (TOO_SMALL, 10, b"foo bar \xc3"),
     ),
     (
-        TextCall::Fill(DEFAULTS),
-        b"foo\xff",
-        NOT_UTF8,
-        BEFORE,
-        b"________________",
+        (TextCall::Fill(DEFAULTS), b"foo\xff"),
+        (NOT_UTF8, BEFORE, b"________________"),
     ),
     // A short text is one line without its last blanks, also of characters outside ASCII.
     (
-        TextCall::Fill(DEFAULTS),
-        b"\xe6\x97\xa5\xe6\x9c\xac  ",
-        DONE,
-        6,
-        b"\xe6\x97\xa5\xe6\x9c\xac__",
+        (TextCall::Fill(DEFAULTS), b"\xe6\x97\xa5\xe6\x9c\xac  "),
+        (DONE, 6, b"\xe6\x97\xa5\xe6\x9c\xac__"),
     ),
     (
-        TextCall::Fill(DEFAULTS),
-        b"a\xc3\xa9\n",
-        DONE,
-        4,
-        b"a\xc3\xa9\n____",
+        (TextCall::Fill(DEFAULTS), b"a\xc3\xa9\n"),
+        (DONE, 4, b"a\xc3\xa9\n____"),
     ),
 ];
 
 /// Options whose numbers mean nothing.
-const UNKNOWN: &[TextRow] = &[
-    (
-        TextCall::Fill(TextwrapOptions {
-            version: 2,
-            ..DEFAULTS
-        }),
-        b"foo",
-        UNKNOWN_OPTIONS,
-        BEFORE,
-        b"________",
-    ),
-    (
-        TextCall::Fill(TextwrapOptions {
-            optimal_fit: 2,
-            ..DEFAULTS
-        }),
-        b"foo",
-        UNKNOWN_OPTIONS,
-        BEFORE,
-        b"________",
-    ),
-    (
-        TextCall::Fill(TextwrapOptions {
-            even_paragraphs: 2,
-            ..DEFAULTS
-        }),
-        b"foo",
-        UNKNOWN_OPTIONS,
-        BEFORE,
-        b"________",
-    ),
-    (
-        TextCall::Fill(TextwrapOptions {
-            unicode_breaks: 3,
-            ..DEFAULTS
-        }),
-        b"foo",
-        UNKNOWN_OPTIONS,
-        BEFORE,
-        b"________",
-    ),
-    (
-        TextCall::Fill(TextwrapOptions {
-            reserved_sizes: [0, 0, 0, 1],
-            ..DEFAULTS
-        }),
-        b"foo",
-        UNKNOWN_OPTIONS,
-        BEFORE,
-        b"________",
-    ),
+const UNKNOWN: &[TextwrapOptions<'_>] = &[
+    TextwrapOptions {
+        version: 2,
+        ..DEFAULTS
+    },
+    TextwrapOptions {
+        optimal_fit: 2,
+        ..DEFAULTS
+    },
+    TextwrapOptions {
+        even_paragraphs: 2,
+        ..DEFAULTS
+    },
+    TextwrapOptions {
+        unicode_breaks: 3,
+        ..DEFAULTS
+    },
+    TextwrapOptions {
+        reserved_sizes: [0, 0, 0, 1],
+        ..DEFAULTS
+    },
 ];
 
 /// Options and a text; the filled text. Each of these options alone changes what is written.
@@ -331,7 +286,10 @@ const FILLED: &[(TextwrapOptions<'_>, &[u8], &[u8])] = &[
 #[test]
 fn each_option_reaches_the_library(rt: HostRuntime) {
     for &(options, text, filled) in FILLED {
-        let row = (TextCall::Fill(options), text, DONE, filled.len(), filled);
+        let row = (
+            (TextCall::Fill(options), text),
+            (DONE, filled.len(), filled),
+        );
         assert_texts(&rt, &[row]);
         assert_beginnings(&rt, &[row]);
     }
@@ -340,201 +298,114 @@ fn each_option_reaches_the_library(rt: HostRuntime) {
 /// A filled text, joined with its indents after it, and filled again; and a text with other indents.
 const INDENTED: &[TextRow] = &[
     (
-        TextCall::Unfill,
-        b"* foo\n  bar\n",
-        DONE,
-        12,
-        b"foo bar\n*   ____",
+        (TextCall::Unfill, b"* foo\n  bar\n"),
+        (DONE, 12, b"foo bar\n*   ____"),
     ),
     (
-        TextCall::Refill(TextwrapOptions {
-            width: 20,
-            ..DEFAULTS
-        }),
-        b"* foo\n  bar\n",
-        DONE,
-        10,
-        b"* foo bar\n______",
+        (
+            TextCall::Refill(TextwrapOptions {
+                width: 20,
+                ..DEFAULTS
+            }),
+            b"* foo\n  bar\n",
+        ),
+        (DONE, 10, b"* foo bar\n______"),
     ),
     // Each later line has the indent of the second one, and each ends in CRLF.
     (
-        TextCall::Refill(TextwrapOptions { crlf: 1, ..NARROW }),
-        b"a\n>>>>bcd\n",
-        DONE,
-        24,
-        b"a\r\n>>>>b\r\n>>>>c\r\n>>>>d\r\n",
+        (
+            TextCall::Refill(TextwrapOptions { crlf: 1, ..NARROW }),
+            b"a\n>>>>bcd\n",
+        ),
+        (DONE, 24, b"a\r\n>>>>b\r\n>>>>c\r\n>>>>d\r\n"),
     ),
     (
-        TextCall::Indent(b"> "),
-        b"a\n\nb\n",
-        DONE,
-        10,
-        b"> a\n>\n> b\n______",
+        (TextCall::Indent(b"> "), b"a\n\nb\n"),
+        (DONE, 10, b"> a\n>\n> b\n______"),
     ),
-    (TextCall::Indent(b"#"), b"\n\n", DONE, 4, b"#\n#\n"),
+    ((TextCall::Indent(b"#"), b"\n\n"), (DONE, 4, b"#\n#\n")),
     (
-        TextCall::Dedent,
-        b"  a\n    b\n",
-        DONE,
-        6,
-        b"a\n  b\n__________",
+        (TextCall::Dedent, b"  a\n    b\n"),
+        (DONE, 6, b"a\n  b\n__________"),
     ),
 ];
 
 /// The unfilled text with its indents, in twice the room of the text. In the third the second line is
 /// joined whole, as it is the first that is not empty, and is the later indent too.
 const UNFILLED: &[TextRow] = &[
-    (TextCall::Unfill, b"", DONE, 0, b""),
-    (TextCall::Unfill, b"foo\n", DONE, 4, b"foo\n____"),
-    (TextCall::Unfill, b"\n > ", DONE, 6, b" >  > __"),
-    (TextCall::Unfill, b"\r\n >\r\n", DONE, 6, b" >\r\n >______"),
+    ((TextCall::Unfill, b""), (DONE, 0, b"")),
+    ((TextCall::Unfill, b"foo\n"), (DONE, 4, b"foo\n____")),
+    ((TextCall::Unfill, b"\n > "), (DONE, 6, b" >  > __")),
+    (
+        (TextCall::Unfill, b"\r\n >\r\n"),
+        (DONE, 6, b" >\r\n >______"),
+    ),
 ];
 
 /// A line stands where the number of the alignment says. That the number is known is found out before
 /// the line is read.
 const ALIGNED: &[TextRow] = &[
     (
-        TextCall::ShortenBy {
-            width: 8,
-            placeholder: b"..",
-            break_words: 2,
-        },
-        b"a verylong",
-        UNKNOWN_OPTIONS,
-        BEFORE,
-        b"________________",
+        (TextCall::ShortenBy(8, b"..", 2), b"a verylong"),
+        (UNKNOWN_OPTIONS, BEFORE, b"________________"),
+    ),
+    ((TextCall::Align(6, 0), b"ab"), (DONE, 6, b"ab    ")),
+    ((TextCall::Align(6, 1), b"ab"), (DONE, 6, b"    ab")),
+    ((TextCall::Align(6, 2), b"ab"), (DONE, 6, b"  ab  ")),
+    (
+        (TextCall::Align(6, 3), b"\xe9"),
+        (UNKNOWN_OPTIONS, BEFORE, b"______"),
     ),
     (
-        TextCall::Align {
-            width: 6,
-            alignment: 0,
-        },
-        b"ab",
-        DONE,
-        6,
-        b"ab    ",
+        (TextCall::Align(6, 2), b"\xe9"),
+        (NOT_UTF8, BEFORE, b"______"),
     ),
     (
-        TextCall::Align {
-            width: 6,
-            alignment: 1,
-        },
-        b"ab",
-        DONE,
-        6,
-        b"    ab",
+        (TextCall::ExpandTabs(4), b"a\tb\xff"),
+        (NOT_UTF8, BEFORE, b"______"),
     ),
-    (
-        TextCall::Align {
-            width: 6,
-            alignment: 2,
-        },
-        b"ab",
-        DONE,
-        6,
-        b"  ab  ",
-    ),
-    (
-        TextCall::Align {
-            width: 6,
-            alignment: 3,
-        },
-        b"\xe9",
-        UNKNOWN_OPTIONS,
-        BEFORE,
-        b"______",
-    ),
-    (
-        TextCall::Align {
-            width: 6,
-            alignment: 2,
-        },
-        b"\xe9",
-        NOT_UTF8,
-        BEFORE,
-        b"______",
-    ),
-    (
-        TextCall::ExpandTabs(4),
-        b"a\tb\xff",
-        NOT_UTF8,
-        BEFORE,
-        b"______",
-    ),
-    (
-        TextCall::Align {
-            width: 7,
-            alignment: 0,
-        },
-        b"ab",
-        TOO_SMALL,
-        7,
-        b"ab    ",
-    ),
+    ((TextCall::Align(7, 0), b"ab"), (TOO_SMALL, 7, b"ab    ")),
 ];
 
 /// Gaps are widened up to the width, but for the last line of a paragraph; a line is cut before its
 /// placeholder; tabs become blanks.
 const WIDENED: &[TextRow] = &[
     (
-        TextCall::Justify(14),
-        b"a few words",
-        DONE,
-        14,
-        b"a   few  words__",
+        (TextCall::Justify(14), b"a few words"),
+        (DONE, 14, b"a   few  words__"),
     ),
     (
-        TextCall::Shorten {
-            width: 8,
-            placeholder: b"...",
-        },
-        b"a few words",
-        DONE,
-        8,
-        b"a few...________",
+        (TextCall::Shorten(8, b"..."), b"a few words"),
+        (DONE, 8, b"a few...________"),
     ),
     (
-        TextCall::ShortenBy {
-            width: 8,
-            placeholder: b"..",
-            break_words: 1,
-        },
-        b"a \x1b[1mverylong",
-        DONE,
-        16,
-        b"a \x1b[1mvery\x1b[0m..",
+        (TextCall::ShortenBy(8, b"..", 1), b"a \x1b[1mverylong"),
+        (DONE, 16, b"a \x1b[1mvery\x1b[0m.."),
     ),
     (
-        TextCall::ShortenBy {
-            width: 8,
-            placeholder: b"..",
-            break_words: 0,
-        },
-        b"a verylong",
-        DONE,
-        3,
-        b"a.._____________",
+        (TextCall::ShortenBy(8, b"..", 0), b"a verylong"),
+        (DONE, 3, b"a.._____________"),
     ),
     (
-        TextCall::FillJustified(AT_6),
-        b"a bb cc dd",
-        DONE,
-        12,
-        b"a   bb\ncc dd____",
+        (TextCall::FillJustified(AT_6), b"a bb cc dd"),
+        (DONE, 12, b"a   bb\ncc dd____"),
     ),
     (
-        TextCall::ExpandTabs(4),
-        b"a\tb\n\tc",
-        DONE,
-        11,
-        b"a   b\n    c_____",
+        (TextCall::ExpandTabs(4), b"a\tb\n\tc"),
+        (DONE, 11, b"a   b\n    c_____"),
     ),
 ];
 
 #[test]
 fn texts_are_written_where_there_is_room_and_options_are_known(rt: HostRuntime) {
     assert_texts(&rt, ROOM);
-    assert_texts(&rt, UNKNOWN);
+    for &options in UNKNOWN {
+        let call = TextCall::Fill(options);
+        assert_texts(
+            &rt,
+            &[((call, b"foo"), (UNKNOWN_OPTIONS, BEFORE, b"________"))],
+        );
+    }
     assert_texts(&rt, INDENTED);
     assert_texts(&rt, UNFILLED);
     assert_texts(&rt, ALIGNED);

@@ -1,6 +1,6 @@
 use Rattle.textwrap_calls.proofs.line_lists.textwrap_carry_styles.Goals as goal
 use Rattle.textwrap_calls.proofs.Common.{ArePlacedRows, bytes_of, line_bytes, refl, Settings, subst}
-use Rattle.textwrap_calls.proofs.{Common.{[], map, ◌∙◌}, PlaceLemmas.rows-written}
+use Rattle.textwrap_calls.proofs.{Common.{[], map}, PlaceLemmas.rows-written}
 use Rattle.textwrap_display.specs.Styles.{carried_lines}
 
 pub returns-in-Ok-place_carried-clause-carried : goal.returns-in-Ok-place_carried-clause-carried
@@ -8,5 +8,5 @@ returns-in-Ok-place_carried-clause-carried c =
     let placed = c.in-Ok-place_carried.placed in
     rows-written _ refl (subst (λ (s : Settings). ArePlacedRows (map line_bytes (carried_lines
     s.initial_indent s.subsequent_indent [] (bytes_of c.args.lines.now))) placed.places.items
-    placed.built.items) (c.at_blanks-options.ensures.settings_are ∙ c.in-Ok.ensures.read.settings)
+    placed.built.items) c.in-Ok.ensures.read
     c.in-Ok-place_carried.ensures) c.put_lines.ensures.statuses c.put_lines.ensures.lines

@@ -6,6 +6,6 @@ pub returns-in-Ok-justify_text-clause-filled : goal.returns-in-Ok-justify_text-c
 returns-in-Ok-justify_text-clause-filled c =
     WritesText-answer (c.as_bytes.ensures.value ∙ c.in-Ok-justify_text.ensures.filled
     ∙ ap (λ s. justified_at s c.args.steps.now c.in-Ok-from_utf8.text.now)
-    (c.at_blanks-options.ensures.settings_are ∙ c.in-Ok.ensures.read.settings)
+    c.in-Ok.ensures.read
     ∙ ap (justified_at (options_settings c.args.options.now) c.args.steps.now)
     c.in-Ok-from_utf8.ensures.0) c.put.ensures.text

@@ -6,7 +6,7 @@ use Rattle.textwrap_calls.proofs.Common.{[], ap, map, sym, ℕ, ◌∙◌, ◌�
 use Rattle.textwrap_calls.proofs.Common.{options_algorithm, pieces_at, options_settings}
 use Rattle.textwrap_calls.proofs.Common.{settings_view, subst}
 use Rattle.textwrap_layout.proofs.Paragraph.Widths.{sizes-word_view}
-use Rattle.textwrap_layout.proofs.{Common.first_width, Paragraph.Pieces.division-as}
+use Rattle.textwrap_layout.proofs.{Common.{first_width, layout_view}, Paragraph.Pieces.division-as}
 use Rattle.textwrap_more_calls.proofs.Common.{ends_of, WritesText-answer}
 use Rattle.textwrap_more_calls.proofs.EndLemmas.{ends_from-map, OverflowsBy-map}
 use Rattle.textwrap_more_calls.proofs.steps.textwrap_ends_at.Goals.{After-wrap}
@@ -24,26 +24,31 @@ widths c = widths_of (options_settings c.args.options.now) (says_yes c.args.is_l
 abbrev found : After-wrap → List ℕ
 found c = c.line_widths-first_width.result.0 ∷ c.line_widths-first_width.result.1 ∷ []
 
+settings-are : (c : After-wrap) → settings_view c.with_layout-layout.result
+    ≡ options_settings c.args.options.now
+settings-are c =
+    c.with_layout-layout.ensures ∙ ap layout_view c.layout.ensures ∙ c.in-Ok.ensures.read.settings
+
 pieces-are : (c : After-wrap) → map word_view c.deref.result.now ≡ all c
 pieces-are c =
     ap (map word_view) c.deref.ensures.value ∙ c.in-Ok-find_pieces.ensures.pieces
     ∙ ap (λ s. pieces_at s c.args.cuts.now c.args.points.now c.in-Ok-from_utf8.paragraph.now)
-    (c.at_blanks-options.ensures.settings_are ∙ c.in-Ok.ensures.read.settings)
+    (settings-are c)
     ∙ ap (pieces_at (options_settings c.args.options.now) c.args.cuts.now c.args.points.now)
     c.in-Ok-from_utf8.ensures.0
 
 widths-are : (c : After-wrap) → found c ≡ widths c
 widths-are c =
     ap (λ n. n ∷ c.line_widths-first_width.result.1 ∷ []) c.line_widths-first_width.ensures.first
-    ∙ ap (λ n. first_width (settings_view c.at_blanks-options.result) (says_yes c.args.is_later)
+    ∙ ap (λ n. first_width (settings_view c.with_layout-layout.result) (says_yes c.args.is_later)
     ∷ n ∷ []) c.line_widths-first_width.ensures.later
     ∙ ap (λ s. widths_of s (says_yes c.args.is_later))
-    (c.at_blanks-options.ensures.settings_are ∙ c.in-Ok.ensures.read.settings)
+    (settings-are c)
 
-algorithm-is : (c : After-wrap) → algorithm_view c.at_blanks-options.result.wrap_algorithm
+algorithm-is : (c : After-wrap) → algorithm_view c.algorithm.result
     ≡ Some (options_algorithm c.args.options.now)
 algorithm-is c =
-    c.at_blanks-options.ensures.algorithm_is ∙ ap Some c.in-Ok.ensures.read.algorithm
+    c.algorithm.ensures ∙ ap Some c.in-Ok.ensures.read.algorithm
 
 -- the algorithm refuses the pieces as it refuses their words
 refuses : (c : After-wrap) → OverflowsBy (options_algorithm c.args.options.now)
@@ -86,8 +91,8 @@ returns-in-Ok-line_ends-clause-ends c =
     subst (λ ws. IsDividedBy algorithm sizes_of ws (all here) words) (widths-are here)
     (subst (λ ps. IsDividedBy algorithm sizes_of (found here) ps words) (pieces-are here)
     (subst (λ Divided. Divided (found here) (map word_view c.deref.result.now) words)
-    (division-as c.at_blanks-options.result.wrap_algorithm algorithm (algorithm-is here))
-    (MayDivide-map c.at_blanks-options.result.wrap_algorithm word_view (found here)
+    (division-as c.algorithm.result algorithm (algorithm-is here))
+    (MayDivide-map c.algorithm.result word_view (found here)
     c.deref.result.now lines c.in-Ok-wrap.ensures.divided))) in
     let is : c.deref-in-Ok-line_ends.result.now ≡ ends_of words =
     c.deref-in-Ok-line_ends.ensures.value ∙ c.in-Ok-line_ends.ensures

@@ -1,5 +1,5 @@
 use Rattle.textwrap_more_calls.proofs.steps.textwrap_lines_at.Goals as goal
-use Rattle.textwrap_calls.proofs.Common.{AreEnds, lines_of, List, refl, says_yes, subst, Tiles, ◌∙◌}
+use Rattle.textwrap_calls.proofs.Common.{AreEnds, lines_of, List, refl, says_yes, subst, Tiles}
 use Rattle.textwrap_calls.proofs.Common.{ArePlacesOf, parts_from, pieces_at, Settings, options_settings}
 use Rattle.textwrap_calls.proofs.Common.{[], ℕ}
 use Rattle.textwrap_calls.proofs.Common.{further-cut_lines, HasPlaces, lines_between, settings_view}
@@ -9,7 +9,7 @@ use Rattle.textwrap_more_calls.{proofs.StepLemmas.steps-shown, specs.Steps.step_
 pub returns-in-Ok-push_step_lines-clause-lines : goal.returns-in-Ok-push_step_lines-clause-lines
 returns-in-Ok-push_step_lines-clause-lines c =
     let settings = options_settings c.args.options.now in
-    let read = settings_view c.at_blanks-options.result in
+    let read = settings_view c.in-Ok.options in
     let text = c.in-Ok-from_utf8.paragraph.now in
     let cuts = c.args.cuts.now in
     let points = c.args.points.now in
@@ -23,7 +23,7 @@ returns-in-Ok-push_step_lines-clause-lines c =
     × Tiles (pieces_at s cuts points t) t × AreEnds (pieces_at s cuts points t) ends in
     let (placed, tile, are) = subst (Found settings) c.in-Ok-from_utf8.ensures.0
     (subst (λ s. Found s text)
-    (c.at_blanks-options.ensures.settings_are ∙ c.in-Ok.ensures.read.settings) (
+    c.in-Ok.ensures.read (
       subst (HasPlaces new) (further-cut_lines 0 0 parts)
           (found.placed [] (c.new-found.ensures.places, c.new-found.ensures.built)),
       found.tiles,
@@ -40,7 +40,7 @@ returns-in-Ok-push_step_lines-clause-right_places c placed enough few known text
     let cuts = c.args.cuts.now in
     let points = c.args.points.now in
     let ends = c.args.ends.now in
-    let here = subst (λ text. AreLineSteps (settings_view c.at_blanks-options.result) cuts points ends text)
+    let here = subst (λ text. AreLineSteps (settings_view c.in-Ok.options) cuts points ends text)
     c.in-Ok-from_utf8.ensures.0 c.in-Ok-push_step_lines.ensures.steps in
     subst (λ s. AreLineSteps s cuts points ends c.args.paragraph.now)
-    (c.at_blanks-options.ensures.settings_are ∙ c.in-Ok.ensures.read.settings) here
+    c.in-Ok.ensures.read here

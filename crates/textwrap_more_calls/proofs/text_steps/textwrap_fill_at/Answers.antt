@@ -6,7 +6,7 @@ use Rattle.textwrap_more_calls.proofs.text_steps.textwrap_fill_at.Goals.{After-a
 use Rattle.textwrap_more_calls.specs.TextSteps.{filled_at}
 
 abbrev lines : After-as_bytes → List Line
-lines c = lines_of (text_step_cuts (settings_view c.at_blanks-options.result) c.args.steps.now
+lines c = lines_of (text_step_cuts (settings_view c.in-Ok.options) c.args.steps.now
     c.in-Ok-from_utf8.text.now)
 
 shown : (c : After-as_bytes) → ShowLines c.as_bytes.result.now
@@ -24,6 +24,6 @@ returns-in-Ok-join_lines-clause-filled c =
     let here = (goal.at.returns-in-Ok-join_lines-clause-filled c).After-as_bytes in
     WritesText-answer (c.deref.ensures.value ∙ c.in-Ok-join_lines.ensures (lines here) (shown here)
     ∙ ap (λ s. filled_at s c.args.steps.now c.in-Ok-from_utf8.text.now)
-    (c.at_blanks-options.ensures.settings_are ∙ c.in-Ok.ensures.read.settings)
+    c.in-Ok.ensures.read
     ∙ ap (filled_at (options_settings c.args.options.now) c.args.steps.now) c.in-Ok-from_utf8.ensures.0)
     c.put.ensures.text

@@ -1,6 +1,6 @@
 use Rattle.textwrap_more_calls.proofs.text_steps.textwrap_wrap_at.Goals as goal
 use Rattle.textwrap_calls.proofs.Common.{ArePlacesOf, options_settings, ShowLines, Settings, lines_of, ℕ}
-use Rattle.textwrap_calls.proofs.Common.{subst, List, refl, ◌++◌, ◌∙◌}
+use Rattle.textwrap_calls.proofs.Common.{subst, List, refl, ◌++◌}
 use Rattle.textwrap_more_calls.proofs.Common.{WritesLines-reported, text_step_cuts}
 
 pub returns-in-Ok-place_text-clause-lines : goal.returns-in-Ok-place_text-clause-lines
@@ -13,7 +13,7 @@ returns-in-Ok-place_text-clause-lines c =
     (lines_of (text_step_cuts s steps text)) placed.places.items) in
     let (at, shown) = subst (Found (options_settings c.args.options.now)) c.in-Ok-from_utf8.ensures.0
     (subst (λ s. Found s c.in-Ok-from_utf8.text.now)
-    (c.at_blanks-options.ensures.settings_are ∙ c.in-Ok.ensures.read.settings)
+    c.in-Ok.ensures.read
     (c.in-Ok-place_text.ensures.placed, c.in-Ok-place_text.ensures.shown)) in
     let lines = lines_of (text_step_cuts (options_settings c.args.options.now) steps c.args.text.now) in
     WritesLines-reported lines (refl, at.0) at.1

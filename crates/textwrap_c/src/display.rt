@@ -2,8 +2,8 @@
 ghost use Rattle.std.specs.Prelude.{IsUtf8, false, ◌<◌, ◌↔◌, ◌≡◌, ◌≤◌};
 ghost use Rattle.textwrap.specs.Paragraph.{line_bytes};
 ghost use Rattle.textwrap_calls.specs.Display.{IsShort, alignment_of};
-ghost use Rattle.textwrap_calls.specs.Options.{Divides, TellsNotUtf8, TellsUnknown, says_yes};
-ghost use Rattle.textwrap_calls.specs.Options.{options_settings};
+ghost use Rattle.textwrap_calls.specs.Options.{Divides, TellsNotUtf8, TellsUnknown};
+ghost use Rattle.textwrap_calls.specs.Options.{options_settings, says_yes};
 ghost use Rattle.textwrap_calls.specs.Room.{WritesText};
 ghost use Rattle.textwrap_calls.specs.Status.{not_utf8, too_small, unknown_options};
 ghost use Rattle.textwrap_display.specs.Alignment.{aligned};

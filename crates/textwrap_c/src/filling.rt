@@ -1,8 +1,8 @@
 //! Filling a text.
 ghost use Rattle.std.specs.Prelude.{IsUtf8, ◌↔◌, ◌≡◌, ◌≢◌, ◌≤◌};
 ghost use Rattle.textwrap.specs.InPlace.{IsFilledInPlace};
-ghost use Rattle.textwrap_calls.specs.Options.{AreKnown, AreTexts, IsFilledByOptions, NeedsNoMemory};
-ghost use Rattle.textwrap_calls.specs.Options.{TellsNotUtf8, TellsUnknown};
+ghost use Rattle.textwrap_calls.specs.Options.{AreKnown, AreTexts, IsFilledByOptions};
+ghost use Rattle.textwrap_calls.specs.Options.{NeedsNoMemory, TellsNotUtf8, TellsUnknown};
 ghost use Rattle.textwrap_calls.specs.Room.{WritesLong};
 ghost use Rattle.textwrap_calls.specs.Status.{done, not_utf8, out_of_memory, unknown_options};
 

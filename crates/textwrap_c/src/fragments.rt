@@ -8,8 +8,8 @@ ghost use Rattle.textwrap_base.specs.Table.{TableOverflows};
 ghost use Rattle.textwrap_calls.specs.Room.{WritesText};
 ghost use Rattle.textwrap_calls.specs.Status.{done, out_of_memory, overflow, too_small};
 ghost use Rattle.textwrap_calls.specs.Status.{unknown_options};
-ghost use Rattle.textwrap_more_calls.specs.Fragments.{AreEndsOf, AreKnownPenalties, fragments_problem};
-ghost use Rattle.textwrap_more_calls.specs.Fragments.{fragment_sizes};
+ghost use Rattle.textwrap_more_calls.specs.Fragments.{AreEndsOf, AreKnownPenalties, fragment_sizes};
+ghost use Rattle.textwrap_more_calls.specs.Fragments.{fragments_problem};
 
 use std::alloc::Global;
 use textwrap_more_calls::fragments;

@@ -3,8 +3,8 @@ ghost use Rattle.std.specs.Prelude.{All, IsUtf8, [], false, map, ◌<◌, ◌↔
 ghost use Rattle.textwrap.specs.Paragraph.{line_bytes};
 ghost use Rattle.textwrap_calls.specs.Columns.{AreRows};
 ghost use Rattle.textwrap_calls.specs.Display.{AreShort};
-ghost use Rattle.textwrap_calls.specs.Options.{AreKnown, AreTexts, TellsUnknown, says_yes};
-ghost use Rattle.textwrap_calls.specs.Options.{options_settings};
+ghost use Rattle.textwrap_calls.specs.Options.{AreKnown, AreTexts, TellsUnknown, options_settings};
+ghost use Rattle.textwrap_calls.specs.Options.{says_yes};
 ghost use Rattle.textwrap_calls.specs.Status.{not_utf8, too_small, unknown_options};
 ghost use Rattle.textwrap_calls.specs.Texts.{IsText, bytes_of};
 ghost use Rattle.textwrap_calls.specs.Wrapping.{WritesLines};

@@ -1,7 +1,7 @@
 //! The paragraphs of a text, each of which is wrapped by itself.
 ghost use Rattle.std.specs.Prelude.{IsUtf8, length, ◌<◌, ◌↔◌, ◌≡◌, ◌≢◌, ◌≤◌, ◌⊎◌};
 ghost use Rattle.textwrap_calls.specs.Options.{AreKnown, AreTexts, TellsNotUtf8, TellsUnknown};
-ghost use Rattle.textwrap_calls.specs.Options.{says_yes, options_settings};
+ghost use Rattle.textwrap_calls.specs.Options.{options_settings, says_yes};
 ghost use Rattle.textwrap_calls.specs.Room.{WritesText};
 ghost use Rattle.textwrap_calls.specs.Status.{done, not_utf8, unknown_options};
 ghost use Rattle.textwrap_more_calls.specs.Paragraphs.{paragraph_places, widths_view};

@@ -1,7 +1,7 @@
 //! Words, and the pieces that they are split and broken into, by where they stand.
 ghost use Rattle.std.specs.Prelude.{IsUtf8, [], ◌↔◌, ◌≡◌, ◌≤◌, ◌⊎◌};
-ghost use Rattle.textwrap_calls.specs.Options.{TellsNotUtf8, TellsUnknown, separator_of};
-ghost use Rattle.textwrap_calls.specs.Options.{options_settings, options_splitter};
+ghost use Rattle.textwrap_calls.specs.Options.{TellsNotUtf8, TellsUnknown, options_settings};
+ghost use Rattle.textwrap_calls.specs.Options.{options_splitter, separator_of};
 ghost use Rattle.textwrap_calls.specs.Room.{WritesText};
 ghost use Rattle.textwrap_calls.specs.Status.{done, not_utf8, too_small, unknown_options};
 ghost use Rattle.textwrap_calls.specs.Status.{wrong_places};

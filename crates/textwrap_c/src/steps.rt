@@ -4,7 +4,7 @@ ghost use Rattle.textwrap.specs.WrapAlgorithms.{IsDividedBy, OverflowsBy};
 ghost use Rattle.textwrap_base.specs.Cost.{total_width};
 ghost use Rattle.textwrap_base.specs.Errors.{Fits64Bits};
 ghost use Rattle.textwrap_calls.specs.Options.{AreKnown, AreTexts, TellsNotUtf8, TellsUnknown};
-ghost use Rattle.textwrap_calls.specs.Options.{options_algorithm, says_yes, options_settings};
+ghost use Rattle.textwrap_calls.specs.Options.{options_algorithm, options_settings, says_yes};
 ghost use Rattle.textwrap_calls.specs.Room.{WritesText};
 ghost use Rattle.textwrap_calls.specs.Status.{done, not_utf8, out_of_memory, overflow, too_small};
 ghost use Rattle.textwrap_calls.specs.Status.{unknown_options, wrong_places};

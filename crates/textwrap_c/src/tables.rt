@@ -3,8 +3,7 @@ ghost use Rattle.std.specs.Prelude.{All, [], map, ◌↔◌, ◌≡◌, ◌≤�
 ghost use Rattle.textwrap_calls.specs.Columns.{AreKnownGaps, AreRows, AreTextGaps, row_gaps};
 ghost use Rattle.textwrap_calls.specs.Status.{not_utf8, unknown_options};
 ghost use Rattle.textwrap_calls.specs.Tables.{AreTableTexts, HasTextLines, IsKnownColumn};
-ghost use Rattle.textwrap_calls.specs.Tables.{lines_of_cells};
-ghost use Rattle.textwrap_calls.specs.Tables.{parts_of_column, shape_of_column};
+ghost use Rattle.textwrap_calls.specs.Tables.{lines_of_cells, parts_of_column, shape_of_column};
 ghost use Rattle.textwrap_calls.specs.Texts.{bytes_of};
 ghost use Rattle.textwrap_calls.specs.Wrapping.{WritesLines};
 ghost use Rattle.textwrap_display.specs.Tables.{rows_of_cells};

@@ -91,7 +91,7 @@ def unknown_names():
     listed = subprocess.run(["git", "ls-files"], cwd=ROOT, capture_output=True, text=True, check=True).stdout
     known = set()
     for name in listed.splitlines():
-        if not name.endswith((".md", ".s", ".svg")) and (ROOT / name).is_file():
+        if not name.endswith((".md", ".s", ".svg", ".png", "try.html")) and (ROOT / name).is_file():
             known.update(re.findall(r"\w+", (ROOT / name).read_text(errors="replace")), re.findall(r"\w+", name))
     for page, text in pages():
         if page.name == "CHANGELOG.md":
@@ -115,6 +115,12 @@ def wrong_numbers():
                 yield f"README.md: {said} {what}; there are {number}"
 
 
+def stale_page():
+    """What is wrong with docs/try.html, which another tool makes."""
+    command = [ROOT / "tools/try_page", "--check"]
+    yield from subprocess.run(command, capture_output=True, text=True).stdout.splitlines()
+
+
 def new_meanings():
     """Each name that has a second meaning, in crates of which one uses the other, without a reason."""
     reasons = dict(line.partition(": ")[::2] for line in TWO_MEANINGS.read_text().splitlines())
@@ -126,6 +132,7 @@ def new_meanings():
 def faults():
     """What is wrong with the pages, a line each."""
     yield from wrong_numbers()
+    yield from stale_page()
     yield from unknown_names()
     yield from new_meanings()
     for page, target in broken_links():

@@ -11,7 +11,8 @@ let library, dictionary = "";
 // ---- The library. Its addresses are BigInt.
 
 async function unpacked() {
-  const bytes = Uint8Array.from(atob(MODULE), character => character.charCodeAt(0));
+  const coded = MODULE.replaceAll("é", "+").replaceAll("è", "/");
+  const bytes = Uint8Array.from(atob(coded), character => character.charCodeAt(0));
   const stream = new Blob([bytes]).stream().pipeThrough(new DecompressionStream("gzip"));
   return new Response(stream).arrayBuffer();
 }

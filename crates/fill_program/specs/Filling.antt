@@ -2,12 +2,12 @@
 use Rattle.std.specs.Prelude.{true}
 use Rattle.text_filters.specs.Filter.{Work}
 use Rattle.textwrap_layout.specs.Filling.{IsFilledAt}
-use Rattle.textwrap_program.specs.Arguments.{algorithm_view}
+use Rattle.textwrap_program.specs.Arguments.{asked_algorithm}
 use Rattle.fill_program.specs.declared.filling.Filling.{Filling}
 
 -- the program as a filter: the paragraphs of each text are filled
 abbrev pub filling : Filling → Work
 filling how = record {
-  Makes = IsFilledAt how.width (algorithm_view how.algorithm);
+  Makes = IsFilledAt how.width (asked_algorithm how.algorithm);
   applies = λ text. true;
 }

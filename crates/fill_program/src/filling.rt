@@ -1,7 +1,7 @@
 //! How the program fills a text.
 ghost use Rattle.std.specs.Prelude.{IfOk, string_bytes};
 ghost use Rattle.textwrap_layout.specs.Filling.{IsFilledAt};
-ghost use Rattle.textwrap_program.specs.Arguments.{algorithm_view};
+ghost use Rattle.textwrap_program.specs.Arguments.{asked_algorithm};
 ghost use Rattle.fill_program.specs.Filling.{filling};
 
 use std::alloc::{AllocError, Global};
@@ -33,7 +33,7 @@ impl Filter for Filling {
 
 /// The text, with its paragraphs filled.
 fn fill_text(alloc: Global, text: &str, how: &Filling) -> Result<String, AllocError>
-    ensures { IfOk result (λ filled. IsFilledAt how.now.width (algorithm_view how.now.algorithm)
+    ensures { IfOk result (λ filled. IsFilledAt how.now.width (asked_algorithm how.now.algorithm)
         text.now (string_bytes filled)) }
 {
     let algorithm = match how.algorithm {

@@ -5,7 +5,7 @@ use Rattle.std.specs.Str.Lines.{lines}
 use Rattle.textwrap_text.specs.LineEnding.{line_feed}
 use Rattle.textwrap_words.specs.Cuts.{parts_onward}
 use Rattle.textwrap_words.specs.WordSplitters.{hyphen}
-use Rattle.textwrap_words.specs.WrapAlgorithms.{Greedy}
+use Rattle.textwrap_words.specs.WrapAlgorithms.{ByFirstFit}
 use Rattle.textwrap_layout.specs.Filling.{IsFilled}
 use Rattle.textwrap_layout.specs.Options.{settings_at}
 use Rattle.textwrap_hyphens.specs.Hyphenation.{Hyphenation}
@@ -29,7 +29,7 @@ hyphenated_words h text = flat_map (hyphenated_word h) (lines text)
 
 -- a text, filled by first fit at a width with hyphens at its points
 abbrev pub IsFilledWith : ℕ → Hyphenation → List ℕ → List ℕ → Type 0
-IsFilledWith width h = IsFilled (settings_at width) (DividesAtPoints h Greedy (settings_at width))
+IsFilledWith width h = IsFilled (settings_at width) (DividesAtPoints h ByFirstFit (settings_at width))
 
 -- what a text becomes: filled, if there is a width, else its words with their hyphens
 abbrev pub IsMade : Option ℕ → Hyphenation → List ℕ → List ℕ → Type 0

@@ -1,5 +1,5 @@
 -- Lemmas on faults that a run may have: those of one step are possible for all.
-use Rattle.std.proofs.Common.{List, ℕ, Err, Result, IfErr, Ok}
+use Rattle.std.proofs.Common.{List, ℕ, Err}
 use Rattle.text_filters.specs.Faults.{IsOfDraft, IsOfOutput, IsOfReading}
 use Rattle.text_filters.specs.Filter.{Work}
 use Rattle.text_filters.specs.Inputs.{Filters}

@@ -1,5 +1,5 @@
 -- What a program leaves behind, and how it ends.
-use Rattle.std.specs.Prelude.{◌≡◌, ◌⊎◌, ◌&&◌, ℕ, max, Bool, true, false, List, [], ◌∷◌, ◌++◌, map, codes}
+use Rattle.std.specs.Prelude.{◌≡◌, ◌⊎◌, ◌&&◌, ℕ, max, Bool, true, false, List, [], ◌∷◌, map, codes}
 use Rattle.std.specs.Prelude.{Option, None, Some, Result, Ok, Err, bytes_eq, if◌then◌else◌, IfErr}
 use Rattle.std.specs.Prelude.{◌+◌, ◌-◌, ◌^◌, length, min, nat_lt, not}
 use Rattle.std.specs.Io.KnownBytes.{Appends, Keeps}

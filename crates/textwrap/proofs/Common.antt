@@ -13,7 +13,7 @@ pub use Rattle.std.proofs.lemmas.Str.{len_utf8_bounds, IsCharBoundary-from_ascii
 pub use Rattle.std.{specs.Char.is_whitespace, specs.Char.len_utf8, proofs.lemmas.Str.scalars-chars}
 pub use Rattle.textwrap.specs.Columns.{at_column_width, cells_by_column, column_cells, IsInColumns}
 pub use Rattle.textwrap.specs.Columns.{inner_width, cell_parts, table_rows, column_row, RowLayout}
-pub use Rattle.textwrap.specs.Columns.{layout_of, row_count, row_parts, blanks, padded, cells, cell}
+pub use Rattle.textwrap.specs.Columns.{row_layout, row_count, row_parts, blanks, padded, cells, cell}
 pub use Rattle.textwrap.specs.InPlace.{IsFilledInPlace, with_line_feeds, broken_lines, FitsOneLine}
 pub use Rattle.textwrap.specs.{InPlace.breaks_from, InPlace.breaks_of, Rows.framed}
 pub use Rattle.textwrap.specs.Indentation.{leading_whitespace, indent_of_part, without_margin}
@@ -61,9 +61,9 @@ pub use Rattle.textwrap_text.proofs.TextLines.{ended_lines-texts, by-lines, text
 pub use Rattle.textwrap_text.specs.declared.line_ending.LineEnding.{LineEnding}
 pub use Rattle.textwrap_text.specs.declared.line_ending.LineEnding.TheVariants.{CRLF, LF}
 pub use Rattle.textwrap_words.proofs.Common.{AreInnerCuts, IsDividedBy, MaySeparate, as_splitter}
-pub use Rattle.textwrap_words.proofs.Common.{AreWordsOf, Algorithm, LeastCost, MayDivide, word_view}
+pub use Rattle.textwrap_words.proofs.Common.{AreWordsOf, Algorithm, ByOptimalFit, MayDivide, word_view}
 pub use Rattle.textwrap_words.proofs.Common.{MaySplit, Splitter, WordText, sizes_of, words_of}
-pub use Rattle.textwrap_words.proofs.Common.{tile_of, word_of, Greedy, Whole, tiled}
+pub use Rattle.textwrap_words.proofs.Common.{tile_of, word_of, ByFirstFit, Whole, tiled}
 pub use Rattle.textwrap_words.proofs.Word.Words.{text_width-nil, tiled-words_of, tiled-append}
 pub use Rattle.textwrap_words.proofs.Word.Words.{words_unique}
 pub use borrow.Author.Tests.{tests}

@@ -7,7 +7,7 @@ use Rattle.std.proofs.Math.Seq.{drop-append_seam}
 use Rattle.unicode_width.specs.Width.{char_width}
 use Rattle.textwrap.proofs.Common.{IsGreedy, length-append}
 use Rattle.textwrap.proofs.Text.InPlace.{divided_one}
-use Rattle.textwrap.specs.Columns.{cells, column_row, IsInColumns, layout_of, padded}
+use Rattle.textwrap.specs.Columns.{cells, column_row, IsInColumns, row_layout, padded}
 use Rattle.textwrap.specs.Columns.{row_count}
 use Rattle.textwrap.specs.Indentation.{dedented}
 use Rattle.textwrap.specs.InPlace.{broken_lines, IsFilledInPlace}
@@ -108,7 +108,7 @@ refilled_text_as_it_was Divides (filled, is_filled, is) =
 
 -- a row of any cells in 4 columns of 7, without gaps
 abbrev row_of : List (List ℕ) → List ℕ
-row_of row = column_row (layout_of 7 4 [] [] []) row
+row_of row = column_row (row_layout 7 4 [] [] []) row
 
 abbrev first_text : List (List ℕ) → List ℕ
 first_text [] = []

@@ -36,8 +36,8 @@ pub record RowLayout : Type 0 where
   pub middle : List ℕ
   pub right : List ℕ
 
-abbrev pub layout_view : Table → RowLayout
-layout_view table = record {
+abbrev pub table_view : Table → RowLayout
+table_view table = record {
   columns = table.columns;
   column_width = table.column_width;
   spare_width = table.spare_width;
@@ -47,8 +47,8 @@ layout_view table = record {
 }
 
 -- the inner width is divided evenly, and what is left over is spare
-abbrev pub layout_of : ℕ → ℕ → List ℕ → List ℕ → List ℕ → RowLayout
-layout_of width columns left middle right =
+abbrev pub row_layout : ℕ → ℕ → List ℕ → List ℕ → List ℕ → RowLayout
+row_layout width columns left middle right =
     let inner = inner_width width columns left middle right in
     record {
       columns = columns;
@@ -121,13 +121,13 @@ cells_by_column lines columns = flat_map (column_cells lines columns) (range_wit
 -- column
 abbrev pub at_column_width : Settings → ℕ → List ℕ → List ℕ → List ℕ → Settings
 at_column_width settings columns left middle right =
-    record settings { width = (layout_of settings.width columns left middle right).column_width }
+    record settings { width = (row_layout settings.width columns left middle right).column_width }
 
 -- the rows of a table of the text's lines, which are wrapped by these
 abbrev pub IsInColumns : Settings → (Settings → Bool → List ℕ → List (List WordText) → Type 0)
     → ℕ → List ℕ → List ℕ → List ℕ → List ℕ → List (List ℕ) → Type 0
 IsInColumns settings Divides columns text left middle right rows =
-    let layout = layout_of settings.width columns left middle right in
+    let layout = row_layout settings.width columns left middle right in
     let narrow = at_column_width settings columns left middle right in
     (lines : List Line) × AreTextLines narrow (Divides narrow) text lines
     × (rows ≡ table_rows layout (map line_bytes lines))

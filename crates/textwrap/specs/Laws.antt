@@ -7,7 +7,7 @@ use Rattle.std.specs.Str.{chars, trim_end}
 use Rattle.std.specs.Str.Lines.{lines}
 use Rattle.textwrap_text.specs.Blanks.{without_final_blanks}
 use Rattle.textwrap_text.specs.Units.{text_width}
-use Rattle.textwrap_words.specs.WrapAlgorithms.{Algorithm, Greedy}
+use Rattle.textwrap_words.specs.WrapAlgorithms.{Algorithm, ByFirstFit}
 use Rattle.textwrap_layout.specs.Filling.{IsFilled}
 use Rattle.textwrap_text.specs.LineEnding.{line_feed, paragraphs_of}
 use Rattle.textwrap_layout.specs.Options.{Settings, settings_at}
@@ -15,7 +15,7 @@ use Rattle.textwrap_layout.specs.Paragraph.{DividesAs, Slice}
 use Rattle.textwrap_layout.specs.Text.{AreTextLines}
 use Rattle.textwrap_words.specs.WordSplitters.{Splitter, Whole}
 use Rattle.textwrap_text.specs.declared.line_ending.LineEnding.TheVariants.{LF}
-use Rattle.textwrap.specs.Columns.{RowLayout, layout_of, inner_width, row_count, cells, column_row}
+use Rattle.textwrap.specs.Columns.{RowLayout, row_layout, inner_width, row_count, cells, column_row}
 use Rattle.textwrap.specs.Columns.{row_parts, cells_by_column}
 use Rattle.textwrap.specs.InPlace.{IsFilledInPlace}
 use Rattle.textwrap.specs.Indentation.{is_blank_line, ended_parts, indented, indented_part}
@@ -49,7 +49,7 @@ unbroken_at width = record (settings_at width) { break_words = false }
 abbrev pub FilledInPlaceIsWrapped : Type 0
 FilledInPlaceIsWrapped =
     (width : ℕ) (text filled : List ℕ) → IsUtf8 text → IsFilledInPlace width text filled
-    → AreTextLines (unbroken_at width) (DividesAs Whole Greedy (unbroken_at width)) text
+    → AreTextLines (unbroken_at width) (DividesAs Whole ByFirstFit (unbroken_at width)) text
     (map (λ line. Slice (without_final_blanks line)) (paragraphs_of LF filled))
 
 -- a text has its ended parts in one way, the computed one
@@ -203,7 +203,7 @@ abbrev pub RowsAreEven : Type 0
 RowsAreEven =
     (width columns : ℕ) (left middle right : List ℕ) (lines : List (List ℕ)) (r : ℕ)
     → let inner : ℕ = inner_width width columns left middle right in
-    let layout : RowLayout = layout_of width columns left middle right in
+    let layout : RowLayout = row_layout width columns left middle right in
     let row : List (List ℕ) = cells lines (row_count lines columns) columns r in
     let gaps : ℕ = text_width left + text_width right + (columns - 1) * text_width middle in
     1 ≤ columns → columns * layout.column_width ≤ inner

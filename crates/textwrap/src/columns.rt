@@ -1,7 +1,7 @@
 //! A text in columns beside one another.
 ghost use Rattle.std.specs.Prelude.{◌≡◌, ◌+◌, ◌-◌, ◌*◌, ◌≤◌, List, length, map};
 ghost use Rattle.std.specs.Prelude.{string_bytes, IfOk, min};
-ghost use Rattle.textwrap.specs.Columns.{inner_width, layout_of, layout_view, table_rows};
+ghost use Rattle.textwrap.specs.Columns.{inner_width, row_layout, table_view, table_rows};
 ghost use Rattle.textwrap.specs.Columns.{IsInColumns};
 ghost use Rattle.textwrap.specs.Columns.{at_column_width};
 ghost use Rattle.textwrap_layout.specs.Paragraph.{DividesWith, MayPass64BitsWith};
@@ -53,8 +53,8 @@ impl<'a> Table<'a> {
         right_gap: &'a str,
     ) -> Table<'a>
         requires { 1 ≤ columns }
-        ensures { layout_view result
-            ≡ layout_of width columns left_gap.now middle_gap.now right_gap.now }
+        ensures { table_view result
+            ≡ row_layout width columns left_gap.now middle_gap.now right_gap.now }
     {
         let inner = inner_width(width, columns, left_gap, middle_gap, right_gap);
         let column_width = (inner / columns).max(1);
@@ -176,7 +176,7 @@ pub fn table_rows<A: Allocator + Copy>(
 ) -> Result<Vec<String<A>, A>, AllocError>
     requires { 1 ≤ table.now.columns }
     ensures { IfOk result (λ rows. map string_bytes rows.items
-        ≡ table_rows (layout_view table.now) (map line_bytes (map line_view lines.now))) }
+        ≡ table_rows (table_view table.now) (map line_bytes (map line_view lines.now))) }
 {
     let cells = LineCells {
         lines,

@@ -9,19 +9,19 @@ use Rattle.textwrap_base.specs.declared.penalties.Penalties.{Penalties}
 
 -- a built-in way to divide fragments
 pub data Algorithm : Type 0 where
-  Greedy : Algorithm
-  LeastCost : Penalties → Algorithm
+  ByFirstFit : Algorithm
+  ByOptimalFit : Penalties → Algorithm
 
 module _ {X : Type 0} where
   -- the algorithm's division of the fragments
   abbrev pub IsDividedBy : Algorithm → (X → Sizes) → List ℕ → List X → List (List X) → Type 0
-  IsDividedBy Greedy sizes widths fragments lines = IsGreedy sizes widths fragments lines
-  IsDividedBy (LeastCost penalties) sizes widths fragments lines =
+  IsDividedBy ByFirstFit sizes widths fragments lines = IsGreedy sizes widths fragments lines
+  IsDividedBy (ByOptimalFit penalties) sizes widths fragments lines =
       IsByOptimalFit (problem_at penalties sizes widths fragments) lines
 
   -- the algorithm refuses these with Overflow: the greedy one refuses none, the one of least cost
   -- where its table overflows
   abbrev pub OverflowsBy : Algorithm → (X → Sizes) → List ℕ → List X → Type 0
-  OverflowsBy Greedy sizes widths fragments = ⊥
-  OverflowsBy (LeastCost penalties) sizes widths fragments =
+  OverflowsBy ByFirstFit sizes widths fragments = ⊥
+  OverflowsBy (ByOptimalFit penalties) sizes widths fragments =
       TableOverflows (problem_at penalties sizes widths fragments)

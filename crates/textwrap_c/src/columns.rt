@@ -1,6 +1,6 @@
 //! A text in columns beside one another.
 ghost use Rattle.std.specs.Prelude.{All, IsUtf8, [], ◌<◌, ◌↔◌, ◌≡◌, ◌≢◌, ◌≤◌, ◌⊎◌};
-ghost use Rattle.textwrap.specs.Columns.{IsInColumns, layout_of, table_rows};
+ghost use Rattle.textwrap.specs.Columns.{IsInColumns, row_layout, table_rows};
 ghost use Rattle.textwrap_calls.specs.Columns.{AreKnownGaps, AreRows, AreTextGaps};
 ghost use Rattle.textwrap_calls.specs.Options.{AreKnown, AreTexts, Divides, options_settings};
 ghost use Rattle.textwrap_calls.specs.Status.{done, not_utf8, unknown_options};
@@ -49,7 +49,7 @@ pub extern "C" fn textwrap_column_width(
     gaps: &TextwrapGaps<'_>,
     column_width: &mut usize,
 ) -> u32
-    ensures written { result ≡ done → column_width.new ≡ (layout_of width columns
+    ensures written { result ≡ done → column_width.new ≡ (row_layout width columns
         gaps.now.left.now gaps.now.middle.now gaps.now.right.now).column_width }
     ensures done { result ≡ done ↔ (1 ≤ columns) × AreKnownGaps gaps.now × AreTextGaps gaps.now }
     ensures unknown { result ≡ unknown_options ↔ (columns < 1) ⊎ (¬ AreKnownGaps gaps.now) }
@@ -73,7 +73,7 @@ pub extern "C" fn textwrap_rows_of_lines(
     room: &mut [u8],
     len: &mut usize,
 ) -> u32
-    ensures rows { WritesLines (λ answer _. AreRows (λ rows. rows ≡ table_rows (layout_of width
+    ensures rows { WritesLines (λ answer _. AreRows (λ rows. rows ≡ table_rows (row_layout width
         columns gaps.now.left.now gaps.now.middle.now gaps.now.right.now) (bytes_of lines.now)) answer)
         [] result rows.old rows.new count.old count.new room.old room.new len.old len.new }
     ensures unknown { result ≡ unknown_options ↔ (columns < 1) ⊎ (¬ AreKnownGaps gaps.now) }

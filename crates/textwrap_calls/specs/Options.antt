@@ -14,7 +14,7 @@ use Rattle.textwrap.specs.Refilling.{IsRefilled}
 use Rattle.textwrap.specs.Words.{WordText}
 use Rattle.textwrap.specs.Options.{Settings, settings_at}
 use Rattle.textwrap.specs.WordSplitters.{Splitter, Whole, AtHyphens}
-use Rattle.textwrap.specs.WrapAlgorithms.{Algorithm, Greedy, LeastCost}
+use Rattle.textwrap.specs.WrapAlgorithms.{Algorithm, ByFirstFit, ByOptimalFit}
 use Rattle.textwrap_base.specs.declared.penalties.Penalties.{Penalties}
 use Rattle.textwrap_layout.specs.Places.{ArePlacedLines}
 use Rattle.textwrap_layout.specs.declared.places.Place.{Place}
@@ -36,7 +36,7 @@ options_penalties o = record {
 }
 
 abbrev pub options_algorithm : TextwrapOptions → Algorithm
-options_algorithm o = if o.optimal_fit == 0 then Greedy else LeastCost (options_penalties o)
+options_algorithm o = if o.optimal_fit == 0 then ByFirstFit else ByOptimalFit (options_penalties o)
 
 abbrev pub options_splitter : TextwrapOptions → Splitter
 options_splitter o = if o.split_at_hyphens == 0 then Whole else AtHyphens

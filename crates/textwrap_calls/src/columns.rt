@@ -1,7 +1,7 @@
 //! A text in columns beside one another.
 ghost use Rattle.std.specs.Prelude.{◌≡◌, ◌≢◌, ◌≤◌, ◌<◌, ◌↔◌, ◌⊎◌, [], IsUtf8, true, All, map};
 ghost use Rattle.std.specs.Prelude.{string_bytes, IfNone, IfOk, IfSome};
-ghost use Rattle.textwrap.specs.Columns.{IsInColumns, layout_of, layout_view, table_rows};
+ghost use Rattle.textwrap.specs.Columns.{IsInColumns, row_layout, table_view, table_rows};
 ghost use Rattle.textwrap_calls.specs.Columns.{AreKnownGaps, AreTextGaps, AreRows, ArePlacedRows};
 ghost use Rattle.textwrap_calls.specs.Columns.{row_gaps};
 ghost use Rattle.textwrap_calls.specs.Options.{options_settings, AreKnown, Divides};
@@ -94,7 +94,7 @@ pub fn textwrap_column_width(
     gaps: &TextwrapGaps<'_>,
     column_width: &mut usize,
 ) -> u32
-    ensures written { result ≡ done → column_width.new ≡ (layout_of width columns
+    ensures written { result ≡ done → column_width.new ≡ (row_layout width columns
         gaps.now.left.now gaps.now.middle.now gaps.now.right.now).column_width }
     ensures done { result ≡ done ↔ (1 ≤ columns) × AreKnownGaps gaps.now × AreTextGaps gaps.now }
     ensures unknown { result ≡ unknown_options ↔ (columns < 1) ⊎ (¬ AreKnownGaps gaps.now) }
@@ -126,7 +126,7 @@ pub fn textwrap_rows_of_lines(
     room: &mut [u8],
     len: &mut usize,
 ) -> u32
-    ensures rows { WritesLines (λ answer _. AreRows (λ rows. rows ≡ table_rows (layout_of width
+    ensures rows { WritesLines (λ answer _. AreRows (λ rows. rows ≡ table_rows (row_layout width
         columns gaps.now.left.now gaps.now.middle.now gaps.now.right.now) (bytes_of lines.now)) answer)
         [] result rows.old rows.new count.old count.new room.old room.new len.old len.new }
     ensures unknown { result ≡ unknown_options ↔ (columns < 1) ⊎ (¬ AreKnownGaps gaps.now) }
@@ -158,7 +158,7 @@ fn place_lines(
     requires columns { 1 ≤ table.now.columns }
     requires lines { All IsText lines.now }
     ensures { IfOk result (λ placed.
-        ArePlacedRows (table_rows (layout_view table.now) (bytes_of lines.now))
+        ArePlacedRows (table_rows (table_view table.now) (bytes_of lines.now))
         placed.places.items placed.built.items) }
 {
     let lines = lines_of(alloc, lines)?;
@@ -168,7 +168,7 @@ fn place_lines(
 /// What rows of this width have in common, if the gaps are UTF-8.
 fn read_table<'a>(columns: usize, width: usize, given: &TextwrapGaps<'a>) -> Option<Table<'a>>
     requires { 1 ≤ columns }
-    ensures layout { IfSome result (λ table. layout_view table ≡ layout_of width columns
+    ensures layout { IfSome result (λ table. table_view table ≡ row_layout width columns
         given.now.left.now given.now.middle.now given.now.right.now) }
     ensures some { IfSome result (λ _. AreTextGaps given.now) }
     ensures none { IfNone result (¬ AreTextGaps given.now) }

@@ -205,7 +205,7 @@ fn read_algorithm(given: &TextwrapOptions<'_>) -> BuiltInAlgorithm
     if given.optimal_fit == 0 {
         return BuiltInAlgorithm::FirstFit;
     }
-    BuiltInAlgorithm::LeastCost(Penalties {
+    BuiltInAlgorithm::OptimalFit(Penalties {
         nline_penalty: given.nline_penalty,
         overflow_penalty: given.overflow_penalty,
         short_last_line_fraction: given.short_last_line_fraction,

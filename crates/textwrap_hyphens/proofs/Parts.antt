@@ -1,13 +1,13 @@
 -- The parts of a compound, one after another.
 use mathlib.Core.Path.{fun_ext}
-use Rattle.std.specs.Prelude.{◌%◌, ◌==◌, ◌&&◌}
+use Rattle.std.specs.Prelude.{◌%◌, ◌==◌}
 use Rattle.std.proofs.lemmas.List.Elements.{filter-append}
 use Rattle.std.proofs.lemmas.List.FromFn.{get_or-map-range_with_len, length-map-range_with_len}
 use Rattle.textwrap_text.proofs.Lists.Elements.{range-split}
 use Rattle.textwrap_hyphens.proofs.Common.{Bool, List, [], ap, append-nil, append_assoc, arith, cond, dotted, false}
 use Rattle.textwrap_hyphens.proofs.Common.{drop, filter, get_or, greatest, length, level, levels_of, map}
 use Rattle.textwrap_hyphens.proofs.Common.{range_with_len, suc}
-use Rattle.textwrap_hyphens.proofs.Common.{refl, slice_index, subst, sym, true, ℕ, ◌+◌, ◌++◌, ◌-◌, ◌<◌, ◌∙◌, ◌∷◌}
+use Rattle.textwrap_hyphens.proofs.Common.{refl, slice_index, subst, sym, true, ℕ, ◌+◌, ◌++◌, ◌-◌, ◌∙◌, ◌∷◌}
 use Rattle.textwrap_hyphens.proofs.Common.{◌≡◌, ◌≤◌}
 use Rattle.textwrap_hyphens.specs.Hyphenation.{Hyphenation, is_allowed, is_odd, joints_of}
 use Rattle.textwrap_hyphens.specs.Hyphenation.{part_places, places_from}

@@ -1,6 +1,6 @@
 -- Hyphenation by patterns (Liang 1983): the levels that patterns give to the places of a word.
 use Rattle.std.specs.Prelude.{ℕ, suc, ◌+◌, ◌-◌, List, [], ◌∷◌, ◌++◌}
-use Rattle.std.specs.Prelude.{drop, if◌then◌else◌, length, map, max, nat_eq, slice_index}
+use Rattle.std.specs.Prelude.{drop, if◌then◌else◌, length, map, nat_eq, slice_index}
 use Rattle.std.specs.List.{range_with_len, starts_with}
 use Rattle.textwrap_patterns.specs.Listed.{PatternText}
 use Rattle.textwrap_trie.specs.Merging.{greatest}

@@ -40,9 +40,9 @@ pub use Rattle.textwrap_words.proofs.Common.{algorithm_view, ends_in_hyphen, bro
 pub use Rattle.textwrap_words.proofs.Common.{parts_between, splitter_view, broken_words, AreWordsOf}
 pub use Rattle.textwrap_words.proofs.Common.{IsDividedBy, MaySeparate, as_splitter, broken_word}
 pub use Rattle.textwrap_words.proofs.Common.{pieces_with, split_words, split_from, split_word}
-pub use Rattle.textwrap_words.proofs.Common.{Algorithm, ArePoints, AtHyphens, LeastCost, MayDivide}
+pub use Rattle.textwrap_words.proofs.Common.{Algorithm, ArePoints, AtHyphens, ByOptimalFit, MayDivide}
 pub use Rattle.textwrap_words.proofs.Common.{word_view, AreSplit, MaySplit, Splitter, WordText}
-pub use Rattle.textwrap_words.proofs.Common.{sizes_of, words_of, tile_of, word_of, Greedy, Tiles}
+pub use Rattle.textwrap_words.proofs.Common.{sizes_of, words_of, tile_of, word_of, ByFirstFit, Tiles}
 pub use Rattle.textwrap_words.proofs.Common.{Whole, piece, tiled}
 pub use Rattle.textwrap_words.proofs.Word.Pieces.{AreSplit-computed, AreTexts}
 pub use Rattle.textwrap_words.proofs.Word.Words.{IsNarrowWord-measured, HasNoPenalty, IsNarrowWord}

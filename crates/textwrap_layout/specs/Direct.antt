@@ -5,7 +5,7 @@ use Rattle.textwrap_words.specs.Cuts.{AreInnerCuts, parts_between}
 use Rattle.textwrap_words.specs.Pieces.{as_splitter}
 use Rattle.textwrap_words.specs.WordSplitters.{Splitter, splitter_view}
 use Rattle.textwrap_words.specs.Words.{WordText, sizes_of, word_of, words_of}
-use Rattle.textwrap_words.specs.WrapAlgorithms.{Algorithm, Greedy, IsDividedBy, LeastCost}
+use Rattle.textwrap_words.specs.WrapAlgorithms.{Algorithm, ByFirstFit, IsDividedBy, ByOptimalFit}
 use Rattle.textwrap_words.specs.WrapAlgorithms.{algorithm_view}
 use Rattle.textwrap_layout.specs.Options.{Settings}
 use Rattle.textwrap_layout.specs.Paragraph.{pieces_of_words, widths_of}
@@ -18,8 +18,8 @@ use Rattle.textwrap_words.specs.declared.wrap_algorithms.WrapAlgorithm.TheVarian
 
 -- a built-in algorithm as a value of the logic
 abbrev pub as_algorithm : algorithms.BuiltInAlgorithm → Algorithm
-as_algorithm algorithms.TheVariants.FirstFit = Greedy
-as_algorithm (algorithms.TheVariants.LeastCost penalties) = LeastCost penalties
+as_algorithm algorithms.TheVariants.FirstFit = ByFirstFit
+as_algorithm (algorithms.TheVariants.OptimalFit penalties) = ByOptimalFit penalties
 
 -- words between blanks, a built-in splitter and first fit: this needs no memory of its own
 pub record IsDirect {E C : Type 0} {e : _} {c : _} (o : Options E C e c) : Type 0 where

@@ -1,7 +1,7 @@
 -- The settings of a wrap, as values of the logic.
 use Rattle.std.specs.Prelude.{◌≡◌, ◌≢◌, ℕ, Bool, true, false, List, [], Some, None}
 use Rattle.textwrap_base.specs.Penalties.{default_penalties}
-use Rattle.textwrap_words.specs.WrapAlgorithms.{Algorithm, LeastCost, algorithm_view}
+use Rattle.textwrap_words.specs.WrapAlgorithms.{Algorithm, ByOptimalFit, algorithm_view}
 use Rattle.textwrap_base.specs.declared.penalties.Penalties.{Penalties}
 use Rattle.textwrap_words.specs.WordSplitters.{Splitter, AtHyphens, splitter_view}
 use Rattle.textwrap_text.specs.declared.line_ending.LineEnding.{LineEnding}
@@ -75,7 +75,7 @@ settings_at width = record {
 }
 
 abbrev pub default_algorithm : Algorithm
-default_algorithm = LeastCost default_penalties
+default_algorithm = ByOptimalFit default_penalties
 
 -- words stand between blanks, and neither the splitter nor the algorithm is a function of the
 -- caller
@@ -99,7 +99,7 @@ abbrev pub MayOverflow : {E C : Type 0} {e : _} {c : _} → Options E C e c → 
 MayOverflow o =
     (splitter_view o.word_splitter ≡ None)
     × ((penalties : Penalties)
-    × (algorithm_view o.wrap_algorithm ≡ Some (LeastCost penalties)))
+    × (algorithm_view o.wrap_algorithm ≡ Some (ByOptimalFit penalties)))
 
 -- all fields have their defaults at this width
 abbrev pub HasDefaults : {E C : Type 0} {e : _} {c : _} → ℕ → Options E C e c → Type 0

@@ -9,7 +9,7 @@ use Rattle.textwrap_words.specs.Words.{WordText}
 use Rattle.textwrap_text.specs.LineEnding.{paragraphs_of}
 use Rattle.textwrap_layout.specs.Options.{Settings, settings_view}
 use Rattle.textwrap_words.specs.WordSplitters.{Splitter}
-use Rattle.textwrap_words.specs.WrapAlgorithms.{Algorithm, Greedy}
+use Rattle.textwrap_words.specs.WrapAlgorithms.{Algorithm, ByFirstFit}
 use Rattle.textwrap_layout.specs.Paragraph.{Line, LineParts, line_bytes, line_from}
 use Rattle.textwrap_layout.specs.Paragraph.{AreParagraphParts, IsOneCharacter, MayPass64BitsUnder}
 use Rattle.textwrap_layout.specs.Paragraph.{AreIndented, KeepToWidths, KeepsToWidth}
@@ -90,7 +90,7 @@ pub record IsWrapped (settings : Settings) (splitter : Option Splitter)
   pub tile : algorithm ≢ None
       → map covered_by are.groups ≡ paragraphs_of settings.line_ending text
   pub adds : AddsOnlyIndents settings splitter are.groups
-  pub keeps : algorithm ≡ Some Greedy → splitter ≢ None → settings.break_words ≡ true
+  pub keeps : algorithm ≡ Some ByFirstFit → splitter ≢ None → settings.break_words ≡ true
       → AreGroups (KeepToWidths settings) false (paragraphs_of settings.line_ending text) are.groups
 
 -- the lines of a text, each of which keeps to the width with its indent, or has to pass it

@@ -85,6 +85,6 @@ fn wrap_algorithm(algorithm: BuiltInAlgorithm) -> WrapAlgorithm
 {
     match algorithm {
         BuiltInAlgorithm::FirstFit => WrapAlgorithm::FirstFit,
-        BuiltInAlgorithm::LeastCost(penalties) => WrapAlgorithm::OptimalFit(penalties),
+        BuiltInAlgorithm::OptimalFit(penalties) => WrapAlgorithm::OptimalFit(penalties),
     }
 }

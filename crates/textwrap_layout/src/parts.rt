@@ -11,7 +11,7 @@ pub enum BuiltInAlgorithm {
     /// Each line takes as many pieces as fit.
     FirstFit,
     /// The lines cost the least together.
-    LeastCost(Penalties),
+    OptimalFit(Penalties),
 }
 
 /// How a paragraph is divided, where no function of a caller says where its words are split or its

@@ -226,7 +226,7 @@ fn built_in_parts(options: &Options<'_>) -> Option<BuiltInParts>
     };
     let algorithm = match options.wrap_algorithm {
         WrapAlgorithm::FirstFit => BuiltInAlgorithm::FirstFit,
-        WrapAlgorithm::OptimalFit(penalties) => BuiltInAlgorithm::LeastCost(penalties),
+        WrapAlgorithm::OptimalFit(penalties) => BuiltInAlgorithm::OptimalFit(penalties),
         WrapAlgorithm::Custom(_) => return None,
     };
     Some(BuiltInParts {

@@ -50,9 +50,9 @@ pub use Rattle.textwrap_text.proofs.Units.Reading.{printable-width}
 pub use Rattle.textwrap_words.proofs.Common.{algorithm_view, AreCuts, ends_in_hyphen, splitter_view}
 pub use Rattle.textwrap_words.proofs.Common.{as_splitter, broken_words, IsDividedBy, MaySeparate}
 pub use Rattle.textwrap_words.proofs.Common.{Algorithm, AreWordsOf, broken_word, piece, split_words}
-pub use Rattle.textwrap_words.proofs.Common.{ArePoints, LeastCost, MayDivide, MaySplit, word_view}
+pub use Rattle.textwrap_words.proofs.Common.{ArePoints, ByOptimalFit, MayDivide, MaySplit, word_view}
 pub use Rattle.textwrap_words.proofs.Common.{sizes_of, Splitter, tile_of, tiled, words_of, WordText}
-pub use Rattle.textwrap_words.proofs.Common.{Greedy, word_of}
+pub use Rattle.textwrap_words.proofs.Common.{ByFirstFit, word_of}
 pub use Rattle.textwrap_words.proofs.Word.Pieces.{AreTexts, AreTexts-words}
 pub use Rattle.textwrap_words.proofs.Word.Words.{HasNoPenalty, IsMeasured, tiled-append}
 pub use Rattle.textwrap_words.specs.PieceCuts.{parts_by, pieces_from}

@@ -10,8 +10,8 @@ use Rattle.textwrap_layout.specs.Options.{settings_at}
 use Rattle.textwrap_layout.specs.Paragraph.{Built, empty_word, Slice}
 use Rattle.textwrap_layout.specs.Text.{IsWrapped}
 use Rattle.textwrap_lines.proofs.Common.{[], ◌∷◌, ◌≡◌, ◌≢◌, ◌<◌, ◌∙◌, ℕ, Algorithm, ap, AreDividedParts, arith}
-use Rattle.textwrap_lines.proofs.Common.{AreTextLines, DividesAs, false, flat_map, Greedy}
-use Rattle.textwrap_lines.proofs.Common.{is_whole, IsDividedBy, LeastCost, length, Line, line_from}
+use Rattle.textwrap_lines.proofs.Common.{AreTextLines, DividesAs, false, flat_map, ByFirstFit}
+use Rattle.textwrap_lines.proofs.Common.{is_whole, IsDividedBy, ByOptimalFit, length, Line, line_from}
 use Rattle.textwrap_lines.proofs.Common.{List, map, paragraphs_of, parts_from, pieces_of}
 use Rattle.textwrap_lines.proofs.Common.{refl, rules, Settings, sizes_of, Some, widths_of}
 use Rattle.textwrap_lines.proofs.Common.{word_of, WordText}
@@ -71,9 +71,9 @@ each_alone = (foo ∷ []) ∷ (bar ∷ []) ∷ []
 
 -- At 5 columns it has two lines.
 pub each_paragraph_as_one_line :
-    MayBeLines (settings_at 5) Greedy (codes "foo bar") (Slice (codes "foo bar") ∷ []) → ⊥
+    MayBeLines (settings_at 5) ByFirstFit (codes "foo bar") (Slice (codes "foo bar") ∷ []) → ⊥
 unfolding chars char_width lib.Utf8.encode
-each_paragraph_as_one_line = refute (settings_at 5) Greedy (codes "foo bar") each_alone refl refl
+each_paragraph_as_one_line = refute (settings_at 5) ByFirstFit (codes "foo bar") each_alone refl refl
     (search (rules, arith)) (Slice (codes "foo bar") ∷ []) (λ is. cc)
 
 -- At 10 columns "bar" has one line, with its indent.
@@ -81,21 +81,21 @@ abbrev quoted : Settings
 quoted = record (settings_at 10) { initial_indent = codes "> " }
 
 pub each_paragraph_as_one_line-indented :
-    MayBeLines quoted Greedy (codes "bar") (Slice (codes "bar") ∷ []) → ⊥
+    MayBeLines quoted ByFirstFit (codes "bar") (Slice (codes "bar") ∷ []) → ⊥
 unfolding chars char_width lib.Utf8.encode
-each_paragraph_as_one_line-indented = refute quoted Greedy (codes "bar")
+each_paragraph_as_one_line-indented = refute quoted ByFirstFit (codes "bar")
     ((empty_word ∷ bar ∷ []) ∷ []) refl refl (search (rules, arith)) (Slice (codes "bar") ∷ [])
     (λ is. cc)
 
 -- By a built-in algorithm there is a line.
-pub no_lines : MayBeLines (settings_at 5) Greedy (codes "foo bar") [] → ⊥
+pub no_lines : MayBeLines (settings_at 5) ByFirstFit (codes "foo bar") [] → ⊥
 no_lines wrapped = let some : 0 < 0 = wrapped.some (λ is. cc) in absurd (omega (arith, some))
 
 -- The second line begins behind the blank after the first word.
-pub lines_cut_where_a_word_ends : MayBeLines (settings_at 3) Greedy (codes "foo bar")
+pub lines_cut_where_a_word_ends : MayBeLines (settings_at 3) ByFirstFit (codes "foo bar")
     (Slice (codes "foo") ∷ Slice (codes " ba") ∷ []) → ⊥
 unfolding chars char_width lib.Utf8.encode
-lines_cut_where_a_word_ends = refute (settings_at 3) Greedy (codes "foo bar") each_alone refl refl
+lines_cut_where_a_word_ends = refute (settings_at 3) ByFirstFit (codes "foo bar") each_alone refl refl
     (search (rules, arith)) (Slice (codes "foo") ∷ Slice (codes " ba") ∷ []) (λ is. cc)
 
 -- So it does at the least cost.
@@ -105,10 +105,10 @@ unfolding chars char_width lib.Utf8.encode table
 by_least_cost = record { division = search rules; starts = search rules }
 
 pub lines_of_least_cost_cut_where_a_word_ends : MayBeLines (settings_at 3)
-    (LeastCost default_penalties) (codes "foo bar")
+    (ByOptimalFit default_penalties) (codes "foo bar")
     (Slice (codes "foo") ∷ Slice (codes " bar") ∷ []) → ⊥
 unfolding chars char_width lib.Utf8.encode
-lines_of_least_cost_cut_where_a_word_ends = refute (settings_at 3) (LeastCost default_penalties)
+lines_of_least_cost_cut_where_a_word_ends = refute (settings_at 3) (ByOptimalFit default_penalties)
     (codes "foo bar") each_alone refl refl (record {
       by_table = by_least_cost;
       chosen = λ equal. by_table-chosen _ _ _ _ _ equal by_least_cost;
@@ -118,10 +118,10 @@ lines_of_least_cost_cut_where_a_word_ends = refute (settings_at 3) (LeastCost de
 abbrev listed : Settings
 listed = record (settings_at 5) { initial_indent = codes "- " }
 
-pub initial_indent_at_each_line : MayBeLines listed Greedy (codes "foo bar")
+pub initial_indent_at_each_line : MayBeLines listed ByFirstFit (codes "foo bar")
     (Built (codes "- foo") ∷ Built (codes "- bar") ∷ []) → ⊥
 unfolding chars char_width lib.Utf8.encode
-initial_indent_at_each_line = refute listed Greedy (codes "foo bar")
+initial_indent_at_each_line = refute listed ByFirstFit (codes "foo bar")
     ((empty_word ∷ foo ∷ []) ∷ (bar ∷ []) ∷ []) refl refl (search (rules, arith))
     (Built (codes "- foo") ∷ Built (codes "- bar") ∷ []) (λ is. cc)
 
@@ -142,9 +142,9 @@ abbrev unbroken : Settings
 unbroken = record (settings_at 3) { break_words = false }
 
 pub too_wide_pieces_dropped_piece_by_piece :
-    MayBeLines unbroken Greedy (codes "foo barbaz") (Slice (codes "foo") ∷ Slice [] ∷ []) → ⊥
+    MayBeLines unbroken ByFirstFit (codes "foo barbaz") (Slice (codes "foo") ∷ Slice [] ∷ []) → ⊥
 unfolding chars char_width lib.Utf8.encode
-too_wide_pieces_dropped_piece_by_piece = refute unbroken Greedy (codes "foo barbaz")
+too_wide_pieces_dropped_piece_by_piece = refute unbroken ByFirstFit (codes "foo barbaz")
     ((foo ∷ []) ∷ (word_of (codes "barbaz") ∷ []) ∷ []) refl refl (search (rules, arith))
     (Slice (codes "foo") ∷ Slice [] ∷ []) (λ is. cc)
 

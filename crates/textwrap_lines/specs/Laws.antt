@@ -1,7 +1,7 @@
 -- What the laws say.
 use Rattle.std.specs.Prelude.{◌≡◌, ◌↔◌, ℕ, Bool, true, List, IsUtf8, Some}
 use Rattle.textwrap_words.specs.Words.{WordText, AreWordsOf}
-use Rattle.textwrap_words.specs.WrapAlgorithms.{Algorithm, Greedy}
+use Rattle.textwrap_words.specs.WrapAlgorithms.{Algorithm, ByFirstFit}
 use Rattle.textwrap_layout.specs.Filling.{IsFilled}
 use Rattle.textwrap_text.specs.LineEnding.{AreParagraphs, paragraphs_of}
 use Rattle.textwrap_layout.specs.Options.{Settings}
@@ -76,7 +76,7 @@ EvenLinesKeepToWidth =
     (settings : Settings) (splitter : Splitter) (text : List ℕ) (lines : List Line) → IsUtf8 text
     → settings.even_paragraphs ≡ true → settings.break_words ≡ true
     → let Divides : Bool → List ℕ → List (List WordText) → Type 0 =
-    DividesAs splitter Greedy settings in
+    DividesAs splitter ByFirstFit settings in
     AreTextLines settings Divides text lines → LinesKeepToWidth settings Divides text lines
 
 -- by first fit the lines keep to the width as they are printed, where they can
@@ -85,5 +85,5 @@ PrintedLinesKeepToWidth =
     (settings : Settings) (splitter : Splitter) (text : List ℕ) (lines : List Line) → IsUtf8 text
     → CanKeepToWidth settings text
     → let Divides : Bool → List ℕ → List (List WordText) → Type 0 =
-    DividesAs splitter Greedy settings in
+    DividesAs splitter ByFirstFit settings in
     AreTextLines settings Divides text lines → ArePrintedWithin settings Divides text lines

@@ -8,7 +8,7 @@ ghost use Rattle.std.specs.List.{flat_map};
 ghost use Rattle.std.specs.Str.{IsUtf8};
 ghost use Rattle.std.specs.Io.{StartsWith};
 ghost use Rattle.textwrap_text.specs.Blanks.{without_final_blanks};
-ghost use Rattle.textwrap_words.specs.WrapAlgorithms.{Algorithm, algorithm_view, Greedy};
+ghost use Rattle.textwrap_words.specs.WrapAlgorithms.{Algorithm, algorithm_view, ByFirstFit};
 ghost use Rattle.textwrap_words.specs.Words.{WordText, word_view, tiled};
 ghost use Rattle.textwrap_words.specs.declared.wrap_algorithms.WrapAlgorithm.TheVariants.{FirstFit};
 ghost use Rattle.textwrap_layout.specs.Frame.{frame_lines, frame_settings};
@@ -90,9 +90,9 @@ pub fn wrap<'t, A: Allocator + Copy>(
         → HasParts options.entry settings splitter algorithm → AreTextLines settings
         (DividesAs splitter algorithm settings) text.now (map line_view lines.items)) }
     ensures built_in_even { IfOk result (λ lines. (settings : Settings) (splitter : Splitter)
-        → HasParts options.entry settings splitter Greedy → settings.even_paragraphs ≡ true
+        → HasParts options.entry settings splitter ByFirstFit → settings.even_paragraphs ≡ true
         → settings.break_words ≡ true → LinesKeepToWidth settings
-        (DividesAs splitter Greedy settings) text.now (map line_view lines.items)) }
+        (DividesAs splitter ByFirstFit settings) text.now (map line_view lines.items)) }
     // And so they do in the columns that they are printed in, if no blanks are preserved and neither
     // an indent nor a piece cuts an escape sequence; a text of one paragraph need not be even.
     ensures printed { options.entry.wrap_algorithm ≡ FirstFit
@@ -245,7 +245,7 @@ fn push_pieces<'t, A: Allocator + Copy, S: LineSink<'t, A>, P: Parts<A>>(
     let Some(methods) = built_in else {
         return push_divided(alloc, paragraph, parts, frame, lines);
     };
-    let BuiltInAlgorithm::LeastCost(penalties) = methods.algorithm else {
+    let BuiltInAlgorithm::OptimalFit(penalties) = methods.algorithm else {
         let splitter = methods.splitter;
         return Ok(push_by_first_fit(alloc, paragraph, parts, frame, splitter, lines)?);
     };

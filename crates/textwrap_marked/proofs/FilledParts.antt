@@ -7,7 +7,7 @@ use Rattle.textwrap_marked.proofs.Common.{filled_end, kept_line, later_room, lin
 use Rattle.textwrap_marked.proofs.Common.{printed, words_between_white}
 use Rattle.textwrap_marks.specs.declared.options.ReflowOptions.{ReflowOptions}
 use Rattle.textwrap_base.specs.declared.penalties.Penalties.{Penalties}
-use Rattle.textwrap_words.proofs.Common.{Algorithm, Greedy, LeastCost}
+use Rattle.textwrap_words.proofs.Common.{Algorithm, ByFirstFit, ByOptimalFit}
 use Rattle.textwrap_marked.proofs.KeptWords.{printed-words}
 use Rattle.textwrap_marked.proofs.PlainLines.{IsPlainBlock}
 use Rattle.textwrap_marked.proofs.PrintedLines.{texts_more}
@@ -20,8 +20,8 @@ use Rattle.textwrap_marks.specs.declared.options.Algorithm.TheVariants as by
 pub divided-is : (algorithm : Algorithm) (widths : List ℕ) (xs : List WordText)
     (lines : List (List WordText)) → IsDividedBy algorithm sizes_of widths xs lines
     → IsDivision xs lines
-divided-is Greedy widths xs lines by = by.admissible.division
-divided-is (LeastCost penalties) widths xs lines by = by.by_table.division
+divided-is ByFirstFit widths xs lines by = by.admissible.division
+divided-is (ByOptimalFit penalties) widths xs lines by = by.by_table.division
 
 -- a division has a first line
 no-division : (xs : List WordText) → IsDivision xs [] → ⊥

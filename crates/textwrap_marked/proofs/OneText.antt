@@ -8,14 +8,14 @@ use Rattle.textwrap_marked.proofs.Common.{IsReflowedBehind, IsReflowedFrom, prin
 use Rattle.textwrap_marks.specs.declared.options.ReflowOptions.{ReflowOptions}
 use Rattle.textwrap_base.proofs.Cost.Results.{by_table_one}
 use Rattle.textwrap_base.proofs.Division.Greedy.{greedy_unique}
-use Rattle.textwrap_words.proofs.Common.{Algorithm, Greedy, LeastCost}
+use Rattle.textwrap_words.proofs.Common.{Algorithm, ByFirstFit, ByOptimalFit}
 
 divided-one : (algorithm : Algorithm) (widths : List ℕ) (xs : List WordText)
     (lines others : List (List WordText)) → IsDividedBy algorithm sizes_of widths xs lines
     → IsDividedBy algorithm sizes_of widths xs others → lines ≡ others
-divided-one Greedy widths xs lines others one other =
+divided-one ByFirstFit widths xs lines others one other =
     greedy_unique sizes_of widths xs lines others one other
-divided-one (LeastCost penalties) widths xs lines others one other =
+divided-one (ByOptimalFit penalties) widths xs lines others one other =
     by_table_one _ lines others one.by_table other.by_table
 
 module _ (options : ReflowOptions) (ending : List ℕ) where

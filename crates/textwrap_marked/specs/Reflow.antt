@@ -21,8 +21,8 @@ use Rattle.textwrap_marks.specs.declared.options.Algorithm.TheVariants.{FirstFit
 use Rattle.textwrap_marks.specs.declared.options.ReflowOptions.{ReflowOptions}
 
 abbrev pub dividing_algorithm : Algorithm → base.Algorithm
-dividing_algorithm FirstFit = base.Greedy
-dividing_algorithm (LeastCost penalties) = base.LeastCost penalties
+dividing_algorithm FirstFit = base.ByFirstFit
+dividing_algorithm (LeastCost penalties) = base.ByOptimalFit penalties
 
 -- ---- lines that stay
 

@@ -2,7 +2,7 @@
 ghost use Rattle.std.specs.Prelude.{◌≡◌, ℕ, ◌++◌, List, map, IfOk, OnOk};
 ghost use Rattle.std.specs.Prelude.{string_bytes};
 ghost use Rattle.std.specs.List.{flat_map};
-ghost use Rattle.textwrap_base.specs.Algorithms.{IsDividedBy, LeastCost};
+ghost use Rattle.textwrap_base.specs.Algorithms.{IsDividedBy, ByOptimalFit};
 ghost use Rattle.textwrap_base.specs.Cost.{total_width};
 ghost use Rattle.textwrap_base.specs.Errors.{Fits64Bits, Overflowed};
 ghost use Rattle.textwrap_display.specs.Justifying.{justified};
@@ -101,7 +101,7 @@ fn divide_at_least_cost<'p, 't>(
     widths: &[usize],
 ) -> Result<Vec<&'p [Word<'t>]>, WrapError>
     requires { Fits64Bits (total_width (λ word. sizes_of (word_view word)) pieces.now) }
-    ensures divided { IfOk result (λ lines. IsDividedBy (LeastCost penalties) sizes_of widths.now
+    ensures divided { IfOk result (λ lines. IsDividedBy (ByOptimalFit penalties) sizes_of widths.now
         (map word_view pieces.now) (map (map word_view) (map (λ line. line.now) lines.items))) }
     ensures only_memory { ¬ Overflowed result }
 {

@@ -2,7 +2,7 @@
 use Rattle.std.proofs.lemmas.Simd.{map-map}
 use Rattle.textwrap_base.proofs.Common.{priced_at, Sizes}
 use Rattle.textwrap_base.proofs.Cost.{Chosen.fragments_table-map, Measures.total_width-same}
-use Rattle.textwrap_base.specs.Algorithms.{Algorithm, Greedy, LeastCost, OverflowsBy}
+use Rattle.textwrap_base.specs.Algorithms.{Algorithm, ByFirstFit, ByOptimalFit, OverflowsBy}
 use Rattle.textwrap_calls.proofs.Common.{[], ap}
 use Rattle.textwrap_calls.proofs.Common.{length, length-map, List, map, refl, sym, ℕ, ◌+◌, ◌∷◌, ◌≡◌}
 use Rattle.textwrap_more_calls.specs.Fragments.{line_ends_from}
@@ -19,8 +19,8 @@ module _ {X Y : Type 0} (f : X → Y) where
   pub OverflowsBy-map : (algorithm : Algorithm) (sizes : Y → Sizes) (widths : List ℕ) (xs : List X)
       → OverflowsBy algorithm (λ x. sizes (f x)) widths xs
       ≡ OverflowsBy algorithm sizes widths (map f xs)
-  OverflowsBy-map Greedy sizes widths xs = refl
-  OverflowsBy-map (LeastCost penalties) sizes widths xs =
+  OverflowsBy-map ByFirstFit sizes widths xs = refl
+  OverflowsBy-map (ByOptimalFit penalties) sizes widths xs =
       simp (
         total_width-same (λ (x : X). sizes (f x)) sizes xs (map f xs) (sym (map-map sizes f xs)),
         length-map,

@@ -13,7 +13,7 @@ use Rattle.textwrap_patterns.specs.Entries.{Said, Pattern, Exception, Left, Righ
 use Rattle.textwrap_patterns.specs.Entries.{CompoundRight, NextGroup, Nothing}
 use Rattle.textwrap_patterns.specs.Entries.{Wrong, begins, is_start, list_said, number_of}
 use Rattle.textwrap_patterns.specs.Entries.{number_or_fault, word_said}
-use Rattle.textwrap_patterns.specs.Listed.{Listed, PatternText, exception_view, listed}
+use Rattle.textwrap_patterns.specs.Listed.{Listed, exception_view, listed}
 use Rattle.textwrap_patterns.specs.Listed.{pattern_view}
 use Rattle.textwrap_patterns.specs.Written.{is_digit}
 use Rattle.textwrap_patterns.specs.declared.entries.Section.{Section}

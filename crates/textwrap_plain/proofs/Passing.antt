@@ -7,7 +7,7 @@ use Rattle.textwrap_text.proofs.Common.{◌+◌, ◌++◌, ◌<◌, ◌==◌, �
 use Rattle.textwrap_text.proofs.Lists.Parts.{all-left, all-right, flat}
 use Rattle.textwrap_base.proofs.Common.{AllFit, Fits, closed_width, line_width}
 use Rattle.textwrap_base.proofs.Division.Map.{IsDivision-whole}
-use Rattle.textwrap_words.proofs.Common.{Greedy, IsDividedBy, WordText, column_characters, sizes_of}
+use Rattle.textwrap_words.proofs.Common.{ByFirstFit, IsDividedBy, WordText, column_characters, sizes_of}
 use Rattle.textwrap_words.proofs.Word.BrokenPieces.{IsTight}
 use Rattle.textwrap_words.proofs.Word.Words.{text_width-nil}
 use Rattle.textwrap_layout.proofs.Common.{Settings, empty_word, front_pieces, later_width}
@@ -90,7 +90,7 @@ front_passes first later (line ∷ lines) others is fit tight = (
 -- the lines of first fit
 pub greedy_passes : (settings : Settings) (is_later : Bool) (broken : List WordText)
     (division : List (List WordText))
-    → IsDividedBy Greedy sizes_of (widths_of settings is_later) (front_pieces settings ++ broken)
+    → IsDividedBy ByFirstFit sizes_of (widths_of settings is_later) (front_pieces settings ++ broken)
     division
     → All (IsTight (later_width settings)) (front_pieces settings ++ broken)
     → OnlyHyphensPass (widths_of settings is_later) 0 division

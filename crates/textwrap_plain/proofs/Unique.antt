@@ -2,8 +2,8 @@
 use Rattle.textwrap_text.proofs.Common.{List, [], arith, sym, ℕ, ◌∙◌, ◌∷◌, ◌≡◌, Bool}
 use Rattle.textwrap_base.proofs.Cost.Results.{chosen_one}
 use Rattle.textwrap_base.proofs.Division.Greedy.{greedy_unique}
-use Rattle.textwrap_words.proofs.Common.{Algorithm, AreSplit, AreWordsOf, Greedy, IsDividedBy}
-use Rattle.textwrap_words.proofs.Common.{LeastCost, WordText, sizes_of}
+use Rattle.textwrap_words.proofs.Common.{Algorithm, AreSplit, AreWordsOf, ByFirstFit, IsDividedBy}
+use Rattle.textwrap_words.proofs.Common.{ByOptimalFit, WordText, sizes_of}
 use Rattle.textwrap_words.proofs.Word.Words.{words_unique}
 use Rattle.textwrap_layout.proofs.Common.{ArePieces, Settings}
 use Rattle.textwrap_layout.proofs.Common.{first_width, later_width}
@@ -51,8 +51,8 @@ module _ (h : Hyphenation) (Words : List ℕ → List WordText → Type 0)
           → IsDividedBy algorithm sizes_of (widths_of settings is_later) pieces division
           → IsDividedBy algorithm sizes_of (widths_of settings is_later) pieces other
           → division ≡ other
-      by Greedy greedy other_greedy = grind (arith, greedy_unique)
-      by (LeastCost penalties) least other_least =
+      by ByFirstFit greedy other_greedy = grind (arith, greedy_unique)
+      by (ByOptimalFit penalties) least other_least =
           let equal = two-equal (first_width settings is_later) (later_width settings) in
           chosen_one _ division other (least.chosen equal) (other_least.chosen equal)
 

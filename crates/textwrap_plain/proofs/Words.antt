@@ -11,7 +11,7 @@ use Rattle.textwrap_text.proofs.Common.{append-nil, arith}
 use Rattle.textwrap_text.proofs.Common.{IsUtf8, List, Some, rules, subst, ℕ}
 use Rattle.textwrap_text.proofs.Common.{[], sym, true, ◌≡◌}
 use Rattle.textwrap_words.proofs.Common.{Algorithm, ArePoints, IsDividedBy, Splitter, WordText}
-use Rattle.textwrap_words.proofs.Common.{Greedy, sizes_of}
+use Rattle.textwrap_words.proofs.Common.{ByFirstFit, sizes_of}
 use Rattle.textwrap_words.proofs.Word.{Pieces.AreTexts}
 use Rattle.textwrap_words.proofs.Word.Pieces.{ArePoints-cuts, ArePoints-hyphens}
 
@@ -40,7 +40,7 @@ IsWrapped-at separator {settings} {algorithm} {splitter} {text} {lines} =
 -- and by first fit
 module _ (separator : PlainSeparator) {settings : Settings} {algorithm : Algorithm}
     (splitter : Splitter) {text : List ℕ} {lines : List Line} (utf8 : IsUtf8 text)
-    (first : algorithm ≡ Greedy) where
+    (first : algorithm ≡ ByFirstFit) where
   pub LinesKeepToWidth-at : settings.even_paragraphs ≡ true → settings.break_words ≡ true
       → AreTextLines settings (DividesAt (words_by separator) splitter algorithm settings) text
       lines

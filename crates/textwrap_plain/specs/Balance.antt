@@ -6,7 +6,7 @@ use Rattle.textwrap_text.specs.LineEnding.{paragraphs_of}
 use Rattle.textwrap_text.specs.Units.{text_width}
 use Rattle.textwrap_words.specs.WordSplitters.{Splitter, split_words}
 use Rattle.textwrap_words.specs.Words.{WordText, sizes_of}
-use Rattle.textwrap_words.specs.WrapAlgorithms.{Greedy}
+use Rattle.textwrap_words.specs.WrapAlgorithms.{ByFirstFit}
 use Rattle.textwrap_layout.specs.Options.{Settings}
 use Rattle.textwrap_layout.specs.Paragraph.{DividesAt, Line}
 use Rattle.textwrap_layout.specs.Text.{AreTextLines}
@@ -26,7 +26,7 @@ module _ (settings : Settings) (words : List ℕ → List WordText) (splitter : 
   abbrev pub AreFirstFitAt : ℕ → List Line → Type 0
   AreFirstFitAt width lines =
       let settings = at_width settings width in
-      AreTextLines settings (DividesAt words splitter Greedy settings) text lines
+      AreTextLines settings (DividesAt words splitter ByFirstFit settings) text lines
 
   -- the pieces of its words, which are split but not broken
   abbrev pub whole_pieces : List WordText

@@ -1,6 +1,6 @@
 //! How a text is wrapped, by built-in parts alone.
 ghost use Rattle.std.specs.Prelude.{◌≡◌, ◌↔◌, IsTrue, Some};
-ghost use Rattle.textwrap.specs.WrapAlgorithms.{algorithm_view, Greedy};
+ghost use Rattle.textwrap.specs.WrapAlgorithms.{algorithm_view, ByFirstFit};
 ghost use Rattle.textwrap_plain.specs.Options.{plain_algorithm, AreDefaults};
 
 use textwrap::wrap_algorithms::Penalties;
@@ -59,7 +59,7 @@ impl PlainOptions<'static> {
             break_words: true,
             word_separator: PlainSeparator::AtBreaks(Numbers::ByPairs),
             word_splitter: BuiltInSplitter::HyphenSplitter,
-            wrap_algorithm: BuiltInAlgorithm::LeastCost(Penalties::new()),
+            wrap_algorithm: BuiltInAlgorithm::OptimalFit(Penalties::new()),
             preserve_trailing_space: false,
             even_paragraphs: false,
         }
@@ -73,7 +73,7 @@ impl<'a> PlainOptions<'a> {
     /// filled without a list.
     pub(crate) fn are_direct(&self) -> bool
         ensures { IsTrue result ↔ (self.now.word_separator ≡ AtBlanks)
-            × (plain_algorithm self.now ≡ Greedy) }
+            × (plain_algorithm self.now ≡ ByFirstFit) }
     {
         match (self.word_separator, self.wrap_algorithm) {
             (PlainSeparator::AtBlanks, BuiltInAlgorithm::FirstFit) => true,
@@ -87,7 +87,7 @@ impl<'a> PlainOptions<'a> {
     {
         match self.wrap_algorithm {
             BuiltInAlgorithm::FirstFit => WrapAlgorithm::FirstFit,
-            BuiltInAlgorithm::LeastCost(penalties) => WrapAlgorithm::OptimalFit(penalties),
+            BuiltInAlgorithm::OptimalFit(penalties) => WrapAlgorithm::OptimalFit(penalties),
         }
     }
 }

@@ -2,7 +2,7 @@
 ghost use Rattle.std.specs.Prelude.{◌≡◌, IfErr, IfOk, IsOk, List, map};
 ghost use Rattle.textwrap.specs.Paragraph.{Line, pieces_by};
 ghost use Rattle.textwrap.specs.Words.{word_view, Tiles};
-ghost use Rattle.textwrap.specs.WrapAlgorithms.{Greedy};
+ghost use Rattle.textwrap.specs.WrapAlgorithms.{ByFirstFit};
 ghost use Rattle.textwrap_layout.specs.LentPlaces.{WritesPlaces};
 ghost use Rattle.textwrap_layout.specs.Places.{ArePlacedLines, built_text};
 ghost use Rattle.textwrap_layout.specs.declared.places.Place.{Place};
@@ -56,7 +56,7 @@ pub fn place_into(
         × ArePlacedLines (plain_settings options.now)
         (DividesPlainly options.now (plain_settings options.now)) text.now placed places
         × WritesPlaces places (built_text placed) counts lines.old lines.new room.old room.new) }
-    ensures done { options.now.word_separator ≡ AtBlanks → plain_algorithm options.now ≡ Greedy
+    ensures done { options.now.word_separator ≡ AtBlanks → plain_algorithm options.now ≡ ByFirstFit
         → IsOk result }
     ensures kept_lines { IfErr result (λ _. lines.new ≡ lines.old) }
     ensures kept_room { IfErr result (λ _. room.new ≡ room.old) }

@@ -6,7 +6,7 @@ ghost use Rattle.textwrap.specs.Filling.{IsFilled};
 ghost use Rattle.textwrap.specs.Paragraph.{is_whole, line_view};
 ghost use Rattle.textwrap.specs.Refilling.{IsRefilled};
 ghost use Rattle.textwrap.specs.Text.{ArePrintedWithin, CanKeepToWidth, IsWrapped, LinesKeepToWidth};
-ghost use Rattle.textwrap.specs.WrapAlgorithms.{Greedy};
+ghost use Rattle.textwrap.specs.WrapAlgorithms.{ByFirstFit};
 ghost use Rattle.textwrap_plain.specs.Options.{plain_algorithm, DividesPlainly, plain_settings};
 ghost use Rattle.textwrap_plain.specs.Options.{plain_splitter};
 ghost use Rattle.textwrap_plain.specs.declared.options.PlainSeparator.TheVariants.{AtBlanks};
@@ -44,13 +44,13 @@ pub fn wrap<'t>(
         (DividesPlainly options.now (plain_settings options.now)) text.now
         (map line_view lines.items)) }
     // Where paragraphs are even, lines keep to the width with their indents, if they can.
-    ensures even { options.now.even_paragraphs ≡ true → plain_algorithm options.now ≡ Greedy
+    ensures even { options.now.even_paragraphs ≡ true → plain_algorithm options.now ≡ ByFirstFit
         → options.now.break_words ≡ true → IfOk result (λ lines. LinesKeepToWidth
         (plain_settings options.now) (DividesPlainly options.now (plain_settings options.now)) text.now
         (map line_view lines.items)) }
     // And so they do in the columns that they are printed in, if no blanks are preserved and neither
     // an indent nor a piece cuts an escape sequence; a text of one paragraph need not be even.
-    ensures printed { plain_algorithm options.now ≡ Greedy
+    ensures printed { plain_algorithm options.now ≡ ByFirstFit
         → CanKeepToWidth (plain_settings options.now) text.now → IfOk result (λ lines. ArePrintedWithin
         (plain_settings options.now) (DividesPlainly options.now (plain_settings options.now)) text.now
         (map line_view lines.items)) }
@@ -86,7 +86,7 @@ pub fn fill_into(
     ensures filled { IfOk result (λ len. (filled : List ℕ) × IsFilled (plain_settings options.now)
         (DividesPlainly options.now (plain_settings options.now)) text.now filled
         × (len ≡ as_len (length filled)) × (room.new ≡ written_over room.old filled)) }
-    ensures done { options.now.word_separator ≡ AtBlanks → plain_algorithm options.now ≡ Greedy
+    ensures done { options.now.word_separator ≡ AtBlanks → plain_algorithm options.now ≡ ByFirstFit
         → IsOk result }
     ensures kept { IfErr result (λ _. room.new ≡ room.old) }
     ensures only_memory { OnlyMemoryRunsOut result }

@@ -11,9 +11,9 @@ use Rattle.textwrap_program.specs.declared.arguments.Algorithm.TheVariants.{Firs
 use Rattle.textwrap_program.specs.declared.arguments.FillRequest.{FillRequest}
 
 -- the algorithm of the library that is meant
-abbrev pub algorithm_view : Algorithm → library.Algorithm
-algorithm_view FirstFit = library.Greedy
-algorithm_view OptimalFit = library.LeastCost default_penalties
+abbrev pub asked_algorithm : Algorithm → library.Algorithm
+asked_algorithm FirstFit = library.ByFirstFit
+asked_algorithm OptimalFit = library.ByOptimalFit default_penalties
 
 -- one or more ASCII digits that are a number of 64 bits
 abbrev pub is_width : List ℕ → Bool

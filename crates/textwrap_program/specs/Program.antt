@@ -1,7 +1,7 @@
 -- What the program leaves behind, and the status that it ends with.
 use Rattle.std.specs.Prelude.{◌≡◌, ℕ, List, [], ◌∷◌, ◌++◌, Option, None, Some, codes}
 use Rattle.std.specs.Io.KnownBytes.{Keeps}
-use Rattle.textwrap_program.specs.Arguments.{algorithm_view}
+use Rattle.textwrap_program.specs.Arguments.{asked_algorithm}
 use Rattle.textwrap_program.specs.Filling.{WritesPrefix, Runs, fault_line}
 use Rattle.textwrap_program.specs.declared.arguments.FillRequest.{FillRequest}
 use Rattle.textwrap_program.specs.declared.filling.RunError.{RunError}
@@ -33,6 +33,6 @@ Executes None old new status =
     × TriesLine old.messages new.messages usage_line × (status ≡ 2)
 Executes (Some request) old new status =
     (fault : Option RunError)
-    × Runs request.width (algorithm_view request.algorithm) old.unread new.unread
+    × Runs request.width (asked_algorithm request.algorithm) old.unread new.unread
     old.output new.output fault
     × Reports fault old.messages new.messages status

@@ -4,7 +4,7 @@ ghost use Rattle.std.specs.Prelude.{Err, IfOk, OnOk, OnErr, IfErr, IsUtf8};
 ghost use Rattle.std.specs.Io.KnownBytes.{Appends};
 ghost use Rattle.std.specs.Result.{result_err};
 ghost use Rattle.textwrap_layout.specs.Filling.{IsFilledAt};
-ghost use Rattle.textwrap_program.specs.Arguments.{algorithm_view};
+ghost use Rattle.textwrap_program.specs.Arguments.{asked_algorithm};
 ghost use Rattle.textwrap_program.specs.Filling.{fault_line, ReadsAll, FillsTo, Runs, WritesPrefix};
 ghost use Rattle.textwrap_program.specs.Program.{line_feed, TriesLine};
 
@@ -57,7 +57,7 @@ pub fn run<A: Allocator + Copy, R: Read, W: Write>(
     width: usize,
     algorithm: Algorithm,
 ) -> Result<(), RunError>
-    ensures { Runs width (algorithm_view algorithm)
+    ensures { Runs width (asked_algorithm algorithm)
         (R.remaining reader.old) (R.remaining reader.new)
         (W.contents writer.old) (W.contents writer.new) (result_err result) }
 {
@@ -97,7 +97,7 @@ fn write_filled<A: Allocator + Copy, W: Write>(
     width: usize,
     algorithm: Algorithm,
 ) -> Result<(), RunError>
-    ensures { FillsTo width (algorithm_view algorithm) input.now
+    ensures { FillsTo width (asked_algorithm algorithm) input.now
         (W.contents writer.old) (W.contents writer.new) (result_err result) }
 {
     let filled = fill_input(alloc, input, width, algorithm)?;
@@ -116,7 +116,7 @@ fn fill_input<A: Allocator + Copy>(
 ) -> Result<String<A>, RunError>
     ensures text { result ≢ Err RunError.NotUtf8 → IsUtf8 input.now }
     ensures filled { IfOk result (λ filled.
-        IsFilledAt width (algorithm_view algorithm) input.now (string_bytes filled)) }
+        IsFilledAt width (asked_algorithm algorithm) input.now (string_bytes filled)) }
     ensures not_utf8 { result ≡ Err RunError.NotUtf8 → ¬ IsUtf8 input.now }
     ensures not_read { IfErr result (λ error. error ≢ RunError.Read) }
     ensures not_write { IfErr result (λ error. error ≢ RunError.Write) }

@@ -1,7 +1,7 @@
 -- The statements of the laws, each under a name that a caller can cite.
-use Rattle.std.specs.Prelude.{◌≡◌, ◌≢◌, ℕ, ◌+◌, ◌*◌, ◌≤◌, List, [], ◌∷◌, ◌++◌, All, length, map}
+use Rattle.std.specs.Prelude.{◌≡◌, ◌≢◌, ℕ, ◌+◌, ◌*◌, ◌≤◌, List, [], All, length, map}
 use Rattle.std.specs.List.{AllPairs, Contains, concat, flat_map}
-use Rattle.textwrap_layout.specs.Paragraph.{Line, Slice, line_bytes}
+use Rattle.textwrap_layout.specs.Paragraph.{Slice, line_bytes}
 use Rattle.textwrap_styles.specs.Attributes.{attributed_line, known_settings, open_attributes}
 use Rattle.textwrap_styles.specs.Attributes.{unknown_settings}
 use Rattle.textwrap_styles.specs.Indents.{after_indent}

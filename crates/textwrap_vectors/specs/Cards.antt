@@ -2,5 +2,5 @@
 use Rattle.textwrap.specs.Sizes.{Sizes}
 use Rattle.textwrap_vectors.specs.declared.cards.Card.{Card}
 
-abbrev pub sizes_of : Card → Sizes
-sizes_of card = record { width = card.width; whitespace = card.whitespace; penalty = card.penalty }
+abbrev pub card_sizes : Card → Sizes
+card_sizes card = record { width = card.width; whitespace = card.whitespace; penalty = card.penalty }

@@ -6,8 +6,8 @@ use Rattle.textwrap_vectors.specs.declared.scheduling.Day.{Day}
 use Rattle.textwrap_vectors.specs.declared.scheduling.Task.{Task}
 
 -- a task as a fragment, in hours
-abbrev pub sizes_of : Task → Sizes
-sizes_of task = record { width = task.hours; whitespace = task.sweep; penalty = task.cleanup }
+abbrev pub task_sizes : Task → Sizes
+task_sizes task = record { width = task.hours; whitespace = task.sweep; penalty = task.cleanup }
 
 -- the names of tasks, in order
 abbrev pub names_of : List Task → List (List ℕ)
@@ -23,10 +23,10 @@ day_view day = record { hours = day.hours; names = map (λ name. name.now) day.n
 
 -- the day of a line of tasks
 abbrev pub day_of : List Task → PlannedDay
-day_of line = record { hours = closed_width sizes_of line; names = names_of line }
+day_of line = record { hours = closed_width task_sizes line; names = names_of line }
 
 -- the days are those of the lines of first fit
 abbrev pub AreDays : ℕ → List Task → List PlannedDay → Type 0
 AreDays day_length tasks days =
-    (lines : List (List Task)) × IsGreedy sizes_of (day_length ∷ []) tasks lines
+    (lines : List (List Task)) × IsGreedy task_sizes (day_length ∷ []) tasks lines
     × (days ≡ map day_of lines)

@@ -1,5 +1,5 @@
 //! Cards that are laid out in rows, each with a break penalty of its own.
-ghost use Rattle.textwrap_vectors.specs.Cards.{sizes_of};
+ghost use Rattle.textwrap_vectors.specs.Cards.{card_sizes};
 
 use textwrap::words::Fragment;
 use textwrap::wrap_algorithms::Penalties;
@@ -25,7 +25,7 @@ pub struct Card {
 impl Fragment for Card {
     ghost use Rattle.std.specs.Prelude.{Some};
 
-    ghost sizes = { sizes_of };
+    ghost sizes = { card_sizes };
 
     ghost own_break_penalty = { λ card _. Some card.keep };
 

@@ -2,7 +2,7 @@
 ghost use Rattle.std.specs.Prelude.{◌≡◌, ◌≤◌, List, [], ◌∷◌, length, map, IfOk};
 ghost use Rattle.std.specs.List.{flat_map};
 ghost use Rattle.textwrap.specs.Division.{closed_width, IsAdmissible};
-ghost use Rattle.textwrap_vectors.specs.Days.{sizes_of, names_of, day_view, day_of, AreDays};
+ghost use Rattle.textwrap_vectors.specs.Days.{task_sizes, names_of, day_view, day_of, AreDays};
 
 use std::alloc::{AllocError, Allocator};
 use textwrap::words::Fragment;
@@ -22,7 +22,7 @@ pub struct Task<'a> {
 }
 
 impl Fragment for Task<'_> {
-    ghost sizes = { sizes_of };
+    ghost sizes = { task_sizes };
 
     fn width(&self) -> usize {
         self.hours
@@ -75,7 +75,7 @@ pub fn assign_days<'a, A: Allocator + Copy>(
         flat_map (λ day. (day_view day).names) days.items ≡ names_of tasks.now) }
 
     ensures fewest { IfOk result (λ days. (plan : List (List Task))
-        → IsAdmissible sizes_of (day_length ∷ []) tasks.now plan
+        → IsAdmissible task_sizes (day_length ∷ []) tasks.now plan
         → length days.items ≤ length plan) }
 {
     let lines = wrap_first_fit(alloc, tasks, &[day_length])?;
@@ -101,7 +101,7 @@ fn day_of<'a, A: Allocator>(alloc: A, line: &[Task<'a>]) -> Result<Day<'a, A>, A
 /// The hours of the tasks of a line, of the sweeping between them, and of the cleanup after the
 /// last.
 fn closed_hours(line: &[Task<'_>]) -> u128
-    ensures { result ≡ closed_width sizes_of line.now }
+    ensures { result ≡ closed_width task_sizes line.now }
 {
     let Some((last, others)) = line.split_last() else {
         return 0;

@@ -33,5 +33,5 @@ pub use Rattle.textwrap_words.specs.WordSplitters.{ends_in_hyphen, hyphen_points
 pub use Rattle.textwrap_words.specs.WordSplitters.{ArePoints, split_from, split_pieces, Splitter}
 pub use Rattle.textwrap_words.specs.Words.{piece, tile_of, tiled, Tiles, word_of, word_view}
 pub use Rattle.textwrap_words.specs.Words.{AreWordsOf, sizes_of, words_of, WordText}
-pub use Rattle.textwrap_words.specs.WrapAlgorithms.{Algorithm, algorithm_view, Greedy, LeastCost}
+pub use Rattle.textwrap_words.specs.WrapAlgorithms.{Algorithm, algorithm_view, ByFirstFit, ByOptimalFit}
 pub use Rattle.textwrap_words.specs.WrapAlgorithms.{IsDividedBy, MayDivide, MayEnd}

@@ -1,6 +1,6 @@
 -- The algorithms of the library, the built-in ones and those of a caller: how each divides words.
 use Rattle.std.specs.Prelude.{◌≡◌, ℕ, Bool, true, false, List, Option, Some, None, Ok, map}
-pub use Rattle.textwrap_base.specs.Algorithms.{Algorithm, Greedy, LeastCost, IsDividedBy}
+pub use Rattle.textwrap_base.specs.Algorithms.{Algorithm, ByFirstFit, ByOptimalFit, IsDividedBy}
 pub use Rattle.textwrap_base.specs.Algorithms.{OverflowsBy}
 use Rattle.textwrap_words.specs.LineEnds.{lines_between}
 use Rattle.textwrap_words.specs.Words.{WordText, word_view, sizes_of}
@@ -13,8 +13,8 @@ use Rattle.textwrap_words.specs.declared.wrap_algorithms.line_ends.LineEnds.{Lin
 
 -- which built-in algorithm it is, if it is one
 abbrev pub algorithm_view : {F : Type 0} {f : _} → WrapAlgorithm F f → Option Algorithm
-algorithm_view FirstFit = Some Greedy
-algorithm_view (OptimalFit penalties) = Some (LeastCost penalties)
+algorithm_view FirstFit = Some ByFirstFit
+algorithm_view (OptimalFit penalties) = Some (ByOptimalFit penalties)
 algorithm_view (Custom ends) = None
 
 -- the caller's function may give these ends for these words, where lines may be so wide
@@ -28,9 +28,9 @@ MayEnd {f = f} given words widths ends =
 -- the lines between ends that it may give
 abbrev pub MayDivide : {F X : Type 0} {f : _} → WrapAlgorithm F f → (X → WordText) → List ℕ
     → List X → List (List X) → Type 0
-MayDivide FirstFit view widths xs lines = IsDividedBy Greedy (λ x. sizes_of (view x)) widths xs lines
+MayDivide FirstFit view widths xs lines = IsDividedBy ByFirstFit (λ x. sizes_of (view x)) widths xs lines
 MayDivide (OptimalFit penalties) view widths xs lines =
-    IsDividedBy (LeastCost penalties) (λ x. sizes_of (view x)) widths xs lines
+    IsDividedBy (ByOptimalFit penalties) (λ x. sizes_of (view x)) widths xs lines
 MayDivide (Custom given) view widths xs lines =
     (ends : List ℕ) × MayEnd given (map view xs) widths ends × (lines ≡ lines_between ends xs)
 

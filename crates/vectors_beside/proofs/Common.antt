@@ -21,7 +21,7 @@ pub use Rattle.textwrap.specs.Options.{HasParts, default_algorithm, settings_at,
 pub use Rattle.textwrap.specs.Paragraph.{DividesUnder, line_bytes}
 pub use Rattle.textwrap.specs.Words.{WordText, sizes_of, tile_of, word_of, word_view, words_of}
 pub use Rattle.textwrap_base.proofs.Division.{Greedy.one-width, Map.IsDividedBy-map}
-pub use Rattle.textwrap_base.specs.Algorithms.{Greedy}
+pub use Rattle.textwrap_base.specs.Algorithms.{ByFirstFit}
 pub use Rattle.textwrap_layout.specs.Places.{ArePlacesOf, division_cuts}
 pub use Rattle.textwrap_lines.specs.Steps.{pieces_at}
 pub use Rattle.textwrap_text.proofs.Lists.Parts.{flat, some_from_nonempty}

@@ -1,6 +1,6 @@
 -- What a table in columns shows of the lines of a text.
 use Rattle.std.specs.Prelude.{◌≡◌, ℕ, ◌*◌, ◌≤◌, List, [], ◌++◌, All, codes, replicate, sum_by}
-use Rattle.textwrap.specs.Columns.{RowLayout, layout_of, inner_width, row_count, cells}
+use Rattle.textwrap.specs.Columns.{RowLayout, row_layout, inner_width, row_count, cells}
 use Rattle.textwrap.specs.Columns.{row_parts, cells_by_column}
 use Rattle.textwrap.specs.Units.{text_width}
 
@@ -10,7 +10,7 @@ barred_width width columns = inner_width width columns (codes "| ") (codes " | "
 
 -- how wide each column is, and what bars stand around and between
 abbrev pub barred : ℕ → ℕ → RowLayout
-barred width columns = layout_of width columns (codes "| ") (codes " | ") (codes " |")
+barred width columns = row_layout width columns (codes "| ") (codes " | ") (codes " |")
 
 -- the cells of the table, one column after another, are the lines, and then empty ones
 abbrev pub IsEachShownOnce : List (List ℕ) → ℕ → Type 0

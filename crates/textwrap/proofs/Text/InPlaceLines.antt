@@ -9,7 +9,7 @@ use Rattle.textwrap.proofs.Common.{FitsOneLine, length_push, split-whole, AreWor
 use Rattle.textwrap.proofs.Common.{map-append, parts_from, AreGroups, DividesAs, LineParts, covered}
 use Rattle.textwrap.proofs.Common.{and_parts, breaks_of, indent_of, join_with, line_from, shortened}
 use Rattle.textwrap.proofs.Common.{widths_of, All-tail, IsGreedy, WordText, flat_map, is_whole, map}
-use Rattle.textwrap.proofs.Common.{parts_of, sizes_of, words_of, tile_of, word_of, Greedy, IsUtf8}
+use Rattle.textwrap.proofs.Common.{parts_of, sizes_of, words_of, tile_of, word_of, ByFirstFit, IsUtf8}
 use Rattle.textwrap.proofs.Common.{chunks, length, Slice, Whole, arith, blank, false, grown, rules}
 use Rattle.textwrap.proofs.Common.{subst, tiled, Bool, Line, List, flat, refl, true, ◌++◌, suc, sym}
 use Rattle.textwrap.proofs.Common.{◌+◌, ◌-◌, ◌<◌, ◌∙◌, ◌∷◌, ◌≡◌, ◌≢◌, ◌≤◌, LF, [], ap}
@@ -139,7 +139,7 @@ pieces_of-unbroken width part = split-whole (chunks part)
 
 abbrev pub Divides : ℕ → Bool → List ℕ → List (List WordText) → Type 0
 Divides width =
-    DividesAs Whole Greedy (unbroken_at width)
+    DividesAs Whole ByFirstFit (unbroken_at width)
 
 module _ (width : ℕ) (is_later : Bool) (part : List ℕ) (utf8 : IsUtf8 part) where
   abbrev own : List (List WordText)
@@ -157,7 +157,7 @@ module _ (width : ℕ) (is_later : Bool) (part : List ℕ) (utf8 : IsUtf8 part) 
       omega (arith, shorter, closed) in
       greedy_unique sizes_of (width ∷ []) (words_of part) own (words_of part ∷ [])
       (lines-greedy width part)
-      (IsDividedBy-one_line Greedy sizes_of (width ∷ []) (words_of part) none room)
+      (IsDividedBy-one_line ByFirstFit sizes_of (width ∷ []) (words_of part) none room)
 
   divides : Divides width is_later part own
   divides = let greedy = lines-greedy width part in (

@@ -7,11 +7,11 @@ use Rattle.textwrap.proofs.Common.{append_assoc, broken_lines, common_start, kee
 use Rattle.textwrap.proofs.Common.{words_unique, IsDividedBy, IsPlainLine, joined_text, line_prefix}
 use Rattle.textwrap.proofs.Common.{split-whole, AreWordsOf, IsRefilled, apart_from, append-nil, map}
 use Rattle.textwrap.proofs.Common.{line_bytes, parts_from, Algorithm, AreGroups, DividesAs, All-nil}
-use Rattle.textwrap.proofs.Common.{LeastCost, LineParts, all-right, indent_of, line_feed, line_from}
+use Rattle.textwrap.proofs.Common.{ByOptimalFit, LineParts, all-right, indent_of, line_feed, line_from}
 use Rattle.textwrap.proofs.Common.{map_fixed, shortened, widths_of, All-head, All-tail, IsFilled, ℕ}
 use Rattle.textwrap.proofs.Common.{Settings, Splitter, WordText, is_whole, parts_of, sizes_of, List}
 use Rattle.textwrap.proofs.Common.{take_all, words_of, IsPlain, blanked, covered, drop_at, word_of}
-use Rattle.textwrap.proofs.Common.{Greedy, chunks, length, Whole, arith, false, lines, rules, subst}
+use Rattle.textwrap.proofs.Common.{ByFirstFit, chunks, length, Whole, arith, false, lines, rules, subst}
 use Rattle.textwrap.proofs.Common.{tiled, cond, drop, flat, fold, refl, true, ◌++◌, suc, sym, ◌↔◌}
 use Rattle.textwrap.proofs.Common.{◌∙◌, ◌∷◌, ◌≡◌, ◌≢◌, ◌≤◌, [], ap}
 use Rattle.textwrap.specs.Laws.{with_indents_as, IsIndentedFill, IsFilledWhole, IsUnindented}
@@ -143,8 +143,8 @@ pub record IsPlainCut (initial subsequent text filled : List ℕ) : Type 0 where
 division-by : {X : Type 0} (algorithm : Algorithm) (sizes : X → Sizes) (widths : List ℕ)
     (xs : List X) (lines : List (List X)) → IsDividedBy algorithm sizes widths xs lines
     → IsDivision xs lines
-division-by Greedy sizes widths xs lines divided = divided.admissible.division
-division-by (LeastCost penalties) sizes widths xs lines divided = divided.by_table.division
+division-by ByFirstFit sizes widths xs lines divided = divided.admissible.division
+division-by (ByOptimalFit penalties) sizes widths xs lines divided = divided.by_table.division
 
 -- the bytes of lines with these parts
 abbrev pub bytes_of : List LineParts → List (List ℕ)

@@ -4,7 +4,7 @@ use Rattle.textwrap.proofs.Common.{range_with_len, text_width-nil, settings_view
 use Rattle.textwrap.proofs.Common.{KeepsMethods, append_assoc, column_cells, MayDivide}
 use Rattle.textwrap.proofs.Common.{MaySeparate, inner_width, sum_by-cons, append-nil, cell_parts, ℕ}
 use Rattle.textwrap.proofs.Common.{get_or-map, map-append, text_width, column_row, RowLayout, arith}
-use Rattle.textwrap.proofs.Common.{join_with, layout_of, replicate, row_count, row_parts, All-head}
+use Rattle.textwrap.proofs.Common.{join_with, row_layout, replicate, row_count, row_parts, All-head}
 use Rattle.textwrap.proofs.Common.{All-tail, MaySplit, Settings, WordText, cases_lt, flat_map, Bool}
 use Rattle.textwrap.proofs.Common.{Options, blanks, get_or, length, padded, sum_by, cells, rules}
 use Rattle.textwrap.proofs.Common.{Line, List, cell, refl, zero, ◌++◌, inl, inr, map, min, suc, sym}
@@ -141,7 +141,7 @@ module _ (layout : RowLayout) (lines : List (List ℕ)) (rows r : ℕ)
 
 pub rows_even : (width columns : ℕ) (left middle right : List ℕ) (lines : List (List ℕ)) (r : ℕ)
     → let inner : ℕ = inner_width width columns left middle right in
-    let layout : RowLayout = layout_of width columns left middle right in
+    let layout : RowLayout = row_layout width columns left middle right in
     let row : List (List ℕ) = cells lines (row_count lines columns) columns r in
     let gaps : ℕ = text_width left + text_width right + (columns - 1) * text_width middle in
     1 ≤ columns → columns * layout.column_width ≤ inner
@@ -149,7 +149,7 @@ pub rows_even : (width columns : ℕ) (left middle right : List ℕ) (lines : Li
     → (sum_by text_width (row_parts layout row) ≡ gaps + inner) × (gaps + inner ≡ width)
 rows_even width zero left middle right lines r some room fits = absurd (omega arith)
 rows_even width (suc others) left middle right lines r some room fits =
-    let layout = layout_of width (suc others) left middle right in
+    let layout = row_layout width (suc others) left middle right in
     let rows = row_count lines (suc others) in
     let row = cells lines rows (suc others) r in
     let spare = blanks layout.spare_width in

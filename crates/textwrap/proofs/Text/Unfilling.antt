@@ -10,7 +10,7 @@ use Rattle.textwrap.proofs.Common.{added_ending, append_assoc, common_start, com
 use Rattle.textwrap.proofs.Common.{ending_bytes, keeps_ending, IsInColumns, joined_text, All-filter}
 use Rattle.textwrap.proofs.Common.{line_prefix, IsRefilled, LineEnding, StartsWith, append-nil, All}
 use Rattle.textwrap.proofs.Common.{prefix_len, text_width, Algorithm, DividesAs, EndedLine, IsAscii}
-use Rattle.textwrap.proofs.Common.{ends_with, join_with, layout_of, nat_tests, unwrap_or, All-tail}
+use Rattle.textwrap.proofs.Common.{ends_with, join_with, row_layout, nat_tests, unwrap_or, All-tail}
 use Rattle.textwrap.proofs.Common.{IsFilled, Settings, Splitter, WordText, flat_map, has_text, Bool}
 use Rattle.textwrap.proofs.Common.{texts_of, Options, IsUtf8, Option, eq-eqb, filter, get_or, arith}
 use Rattle.textwrap.proofs.Common.{length, nat_eq, blank, false, lines, rules, subst, CRLF, List, ℕ}
@@ -276,7 +276,7 @@ module _ {E C : Type 0} {e : _} {c : _} (options : Options E C e c) (settings : 
       rows
       → IsInColumns settings (DividesAs splitter algorithm) columns text left middle right rows
   columns-as columns text left middle right rows (lines, are, is) =
-      let layout = layout_of options.width columns left middle right in
+      let layout = row_layout options.width columns left middle right in
       let narrow = record (settings_view options) { width = layout.column_width } in
       rw (← parts.settings_are) (
         lines,

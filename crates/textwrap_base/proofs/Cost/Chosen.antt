@@ -17,7 +17,7 @@ use Rattle.textwrap_base.proofs.Cost.Table.{AreStarts, IsSteady, start-at, table
 use Rattle.textwrap_base.proofs.Cost.Table.{table_earliest, table_followed, table_starts}
 use Rattle.textwrap_base.proofs.Cost.Table.{FollowBack, starts_cost, table_least}
 use Rattle.textwrap_base.proofs.Division.Greedy.{closed-take, division_one}
-use Rattle.textwrap_base.specs.Algorithms.{Algorithm, Greedy, IsDividedBy, LeastCost}
+use Rattle.textwrap_base.specs.Algorithms.{Algorithm, ByFirstFit, IsDividedBy, ByOptimalFit}
 use Rattle.textwrap_base.specs.Cost.{IsChosen, lines_cost, starts_from}
 use mathlib.Core.List.{reverse_aux}
 
@@ -259,8 +259,8 @@ last-none penalties sizes (x ∷ y ∷ xs) none =
 pub IsDividedBy-one_line : {X : Type 0} (algorithm : Algorithm) (sizes : X → Sizes)
     (widths : List ℕ) (xs : List X) → All (λ x. (sizes x).penalty ≡ 0) xs
     → closed_width sizes xs ≤ line_width widths 0 → IsDividedBy algorithm sizes widths xs (xs ∷ [])
-IsDividedBy-one_line Greedy sizes widths xs none room = grind (arith, division_one, closed-take)
-IsDividedBy-one_line {X = X} (LeastCost penalties) sizes widths xs none room =
+IsDividedBy-one_line ByFirstFit sizes widths xs none room = grind (arith, division_one, closed-take)
+IsDividedBy-one_line {X = X} (ByOptimalFit penalties) sizes widths xs none room =
     search (by_table_one, last-none, by_table-chosen)
 
 -- ---- the optimal division of fragments is one of what a function makes of them

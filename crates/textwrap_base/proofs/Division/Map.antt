@@ -4,7 +4,7 @@ use Rattle.textwrap_text.proofs.Common.{All, arith, length, List, map, refl, rul
 use Rattle.textwrap_text.proofs.Common.{[], ap, ℕ, ◌<◌, ◌∷◌, ◌≡◌, ◌≢◌}
 use Rattle.textwrap_base.proofs.{Cost.Chosen.IsByOptimalFit-map, Division.Greedy.closed_width-map}
 use Rattle.textwrap_base.proofs.Common.{AllFit, AllFull, closed_width, IsDivision, Sizes}
-use Rattle.textwrap_base.specs.Algorithms.{Algorithm, Greedy, IsDividedBy, LeastCost}
+use Rattle.textwrap_base.specs.Algorithms.{Algorithm, ByFirstFit, IsDividedBy, ByOptimalFit}
 
 module _ {X Y : Type 0} (f : X → Y) (sizes : Y → Sizes) where
   AllFit-map : (widths : List ℕ) (number : ℕ) (lines : List (List X))
@@ -54,8 +54,8 @@ module _ {X Y : Type 0} (f : X → Y) (sizes : Y → Sizes) where
   pub IsDividedBy-map : (algorithm : Algorithm) (widths : List ℕ) (xs : List X)
       (lines : List (List X)) → IsDividedBy algorithm (λ x. sizes (f x)) widths xs lines
       → IsDividedBy algorithm sizes widths (map f xs) (map (map f) lines)
-  IsDividedBy-map Greedy widths xs lines divided = search (IsDivision-map, AllFit-map, AllFull-map)
-  IsDividedBy-map (LeastCost penalties) widths xs lines divided =
+  IsDividedBy-map ByFirstFit widths xs lines divided = search (IsDivision-map, AllFit-map, AllFull-map)
+  IsDividedBy-map (ByOptimalFit penalties) widths xs lines divided =
       search (rules, arith, IsByOptimalFit-map, IsDivision-map)
 
 -- the lines of a division are the fragments in order
@@ -67,8 +67,8 @@ IsDivision-whole (x ∷ xs) lines division = division.0
 pub IsDividedBy-whole : {X : Type 0} (sizes : X → Sizes) (algorithm : Algorithm) (widths : List ℕ)
     (xs : List X) (lines : List (List X)) → IsDividedBy algorithm sizes widths xs lines
     → flat_map (λ line. line) lines ≡ xs
-IsDividedBy-whole sizes Greedy widths xs lines divided = search (rules, arith, IsDivision-whole)
-IsDividedBy-whole sizes (LeastCost penalties) widths xs lines divided =
+IsDividedBy-whole sizes ByFirstFit widths xs lines divided = search (rules, arith, IsDivision-whole)
+IsDividedBy-whole sizes (ByOptimalFit penalties) widths xs lines divided =
     IsDivision-whole xs lines divided.by_table.division
 
 -- there is a line at least
@@ -81,6 +81,6 @@ IsDivision-some (x ∷ xs) (line ∷ lines) division = omega arith
 pub IsDividedBy-some : {X : Type 0} (sizes : X → Sizes) (algorithm : Algorithm) (widths : List ℕ)
     (xs : List X) (lines : List (List X)) → IsDividedBy algorithm sizes widths xs lines
     → 0 < length lines
-IsDividedBy-some sizes Greedy widths xs lines divided = search (rules, arith, IsDivision-some)
-IsDividedBy-some sizes (LeastCost penalties) widths xs lines divided =
+IsDividedBy-some sizes ByFirstFit widths xs lines divided = search (rules, arith, IsDivision-some)
+IsDividedBy-some sizes (ByOptimalFit penalties) widths xs lines divided =
     IsDivision-some xs lines divided.by_table.division

@@ -25,7 +25,7 @@ use Rattle.std.proofs.lemmas.List.FromFn.{length-range_with_len, fill_by_all}
 use Rattle.std.specs.Int.{div_ceil}
 use Rattle.textwrap_layout.specs.Paragraph.{Built}
 use Rattle.textwrap.proofs.Text.Tables.{columns_kept}
-use Rattle.textwrap.specs.Columns.{at_column_width, column_width, inner_width, layout_of, row_count}
+use Rattle.textwrap.specs.Columns.{at_column_width, column_width, inner_width, row_layout, row_count}
 use Rattle.textwrap_plain.proofs.Words.{IsWrapped-at}
 use Rattle.textwrap_calls.proofs.Lengths.Lines.{indent-length, later-length, line-length}
 use Rattle.textwrap_plain.proofs.Balance.Counts.{slices, text-size}
@@ -289,7 +289,7 @@ module _ (o : TextwrapOptions) (gaps : TextwrapGaps) (columns : ℕ) (some : 1 �
   pub room-within : length (built_text lines) ≤ columns_room_bound o gaps len columns
   room-within =
       let (rows, (shown, shown_are, rows_are), lines_are) = are in
-      let layout = layout_of o.width columns gaps.left.now gaps.middle.now gaps.right.now in
+      let layout = row_layout o.width columns gaps.left.now gaps.middle.now gaps.right.now in
       let inner = inner_width o.width columns gaps.left.now gaps.middle.now gaps.right.now in
       let bounded = lines-bounded o narrow len text shown utf8 len_is shown_are in
       let texts = map line_bytes shown in

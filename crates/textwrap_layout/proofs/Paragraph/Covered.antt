@@ -8,7 +8,7 @@ use Rattle.textwrap_text.proofs.Common.{rules, subst, List, drop, last, refl, ta
 use Rattle.textwrap_text.proofs.Common.{sym, ◌+◌, ◌-◌, ◌<◌, ◌∙◌, ◌∷◌, ◌≡◌, ◌≢◌, ◌≤◌, ℕ, ⊤}
 use Rattle.textwrap_layout.proofs.Common.{IsCharBoundary-from_rest, words_unique, AreWordsOf, tiled}
 use Rattle.textwrap_layout.proofs.Common.{IsDivision, word_view, IsGreedy, WordText, drop-map, Word}
-use Rattle.textwrap_layout.proofs.Common.{sizes_of, words_of, covered, tile_of, word_of, Greedy}
+use Rattle.textwrap_layout.proofs.Common.{sizes_of, words_of, covered, tile_of, word_of, ByFirstFit}
 use Rattle.textwrap_words.proofs.Word.Words.{tiled-words_of, tiled-push, tiled-map}
 use Rattle.textwrap_text.proofs.Lists.Parts.{last-append, all-right, all-left, flat}
 use Rattle.textwrap_base.proofs.Division.Map.{IsDividedBy-some, IsDivision-whole}
@@ -196,7 +196,7 @@ IsBroken-greedy widths part lines greedy =
     let division = greedy.admissible.division in
     record {
       tiles = ap tiled (IsDivision-whole (words_of part) lines division) ∙ tiled-words_of part;
-      some = IsDividedBy-some sizes_of Greedy widths (words_of part) lines greedy;
+      some = IsDividedBy-some sizes_of ByFirstFit widths (words_of part) lines greedy;
       apart = apart_from (words_of part) lines division
           (rw (tiled-words_of part) ((words_unique part (words_of part)).1 refl));
     }

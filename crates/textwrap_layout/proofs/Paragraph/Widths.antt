@@ -12,10 +12,10 @@ use Rattle.textwrap_layout.proofs.Common.{ends_in_hyphen, IsDividedInto, IsDivid
 use Rattle.textwrap_layout.proofs.Common.{splitter_view, HasNoPenalty, IsNarrowWord, broken_words}
 use Rattle.textwrap_layout.proofs.Common.{closed_width, front_pieces, tiled-append, MayOverflow}
 use Rattle.textwrap_layout.proofs.Common.{later_width, total_width, Overflowed, AllFit}
-use Rattle.textwrap_layout.proofs.Common.{empty_word, line_width, ArePieces, LeastCost, LineParts}
+use Rattle.textwrap_layout.proofs.Common.{empty_word, line_width, ArePieces, ByOptimalFit, LineParts}
 use Rattle.textwrap_layout.proofs.Common.{MayDivide, line_from, line_view, widths_of, word_view}
 use Rattle.textwrap_layout.proofs.Common.{AreTexts, MaySplit, Settings, WordText, sizes_of, AreCuts}
-use Rattle.textwrap_layout.proofs.Common.{Options, Greedy, Tiles, tiled, Fits, Word}
+use Rattle.textwrap_layout.proofs.Common.{Options, ByFirstFit, Tiles, tiled, Fits, Word}
 use Rattle.std.specs.declared.borrow.CowStr.{CowStr}
 use Rattle.textwrap_text.proofs.Lists.Parts.{all-right, all-left, flat}
 use Rattle.textwrap_base.specs.declared.penalties.Penalties.{Penalties}
@@ -102,7 +102,7 @@ total_width-pieces paragraph words bounded tiles =
 pub overflow-optimal : {E X : Type 0} {e : _} (algorithm : algorithms.WrapAlgorithm E e)
     (sizes : X → Sizes) (widths : List ℕ) (xs : List X)
     → IsSomeAnd (algorithm_view algorithm) (λ a. OverflowsBy a sizes widths xs)
-    → (penalties : Penalties) × (algorithm_view algorithm ≡ Some (LeastCost penalties))
+    → (penalties : Penalties) × (algorithm_view algorithm ≡ Some (ByOptimalFit penalties))
 overflow-optimal algorithms.TheVariants.FirstFit sizes widths xs overflows = absurd overflows
 overflow-optimal (algorithms.TheVariants.OptimalFit penalties) sizes widths xs overflows =
     (penalties, refl)
@@ -130,7 +130,7 @@ module _ {E C : Type 0} {e : _} {c : _} (options : Options E C e c) where
       (MaySplit options.word_splitter) paragraph (map word_view pieces)
       → Tiles (map word_view pieces) paragraph
       → (Overflowed result → (penalties : Penalties)
-      × (algorithm_view options.wrap_algorithm ≡ Some (LeastCost penalties)))
+      × (algorithm_view options.wrap_algorithm ≡ Some (ByOptimalFit penalties)))
       → (Fits64Bits (total_width (λ word. sizes_of (word_view word)) pieces)
       → ¬ Overflowed result)
       → ¬ MayOverflow options → OnlyMemoryRunsOut result
@@ -235,7 +235,7 @@ module _ (settings : Settings) (Words : List ℕ → List WordText → Type 0)
     → All (λ p. ends_in_hyphen (take p text) ≡ true) points) where
   pub long_lines : (is_later : Bool) (paragraph : List ℕ) (division : List (List WordText))
       → IsUtf8 paragraph → settings.break_words ≡ true
-      → IsDividedInto settings Words Points (IsDividedBy Greedy sizes_of) is_later paragraph
+      → IsDividedInto settings Words Points (IsDividedBy ByFirstFit sizes_of) is_later paragraph
       division
       → OnlyCharactersPass (widths_of settings is_later) 0 division
   long_lines is_later paragraph division utf8 breaks (pieces, are, greedy) =

@@ -1,5 +1,5 @@
 -- What the lines of a paragraph keep to, and the shortcut for a paragraph that is one line.
-use Rattle.textwrap_lines.proofs.Common.{AreParagraphParts, AreDividedParts, algorithm_view, Greedy}
+use Rattle.textwrap_lines.proofs.Common.{AreParagraphParts, AreDividedParts, algorithm_view, ByFirstFit}
 use Rattle.textwrap_lines.proofs.Common.{ends_in_hyphen, laid_out-cases, IsDividedInto, AreIndented}
 use Rattle.textwrap_lines.proofs.Common.{splitter_view, tiled-word_of, HasNoPenalty, KeepToWidths}
 use Rattle.textwrap_lines.proofs.Common.{closed_width, KeepsToWidth, IsDividedBy, MaySeparate, Bool}
@@ -189,7 +189,7 @@ module _ (settings : Settings) (Words : List ℕ → List WordText → Type 0)
       (hyphens : (text points : List ℕ) → Points text points
       → All (λ p. ends_in_hyphen (take p text) ≡ true) points)
       (greedy : (widths : List ℕ) (pieces : List WordText) (division : List (List WordText))
-      → Lines widths pieces division → IsDividedBy Greedy sizes_of widths pieces division)
+      → Lines widths pieces division → IsDividedBy ByFirstFit sizes_of widths pieces division)
       (breaks : settings.break_words ≡ true) where
     characters-pass : (is_later : Bool) (paragraph : List ℕ) (division : List (List WordText))
         → IsUtf8 paragraph → Divides is_later paragraph division

@@ -5,9 +5,9 @@ use Rattle.textwrap_lines.proofs.Common.{All-append, AreDividedParts, IsDividedI
 use Rattle.textwrap_lines.proofs.Common.{AreTextLines, length-append, paragraphs_of, tiled-word_of}
 use Rattle.textwrap_lines.proofs.Common.{All-cons, All-weaker, AreIndented, AreWordsOf, IsDividedBy}
 use Rattle.textwrap_lines.proofs.Common.{[], Algorithm, AreGroups, ArePoints, DividesAs, StartsWith}
-use Rattle.textwrap_lines.proofs.Common.{All, LeastCost, LineParts, MatchBool}
+use Rattle.textwrap_lines.proofs.Common.{All, ByOptimalFit, LineParts, MatchBool}
 use Rattle.textwrap_lines.proofs.Common.{All-head, All-tail, flat_map, Settings, Splitter, WordText}
-use Rattle.textwrap_lines.proofs.Common.{All-nil, ap, Greedy, is_whole, sizes_of, word_of, words_of}
+use Rattle.textwrap_lines.proofs.Common.{All-nil, ap, ByFirstFit, is_whole, sizes_of, word_of, words_of}
 use Rattle.textwrap_lines.proofs.Common.{arith, false, IsUtf8, length, nat_lt, rules, subst, tiled}
 use Rattle.textwrap_lines.proofs.Common.{Bool, flat, Line, List, map, sym, true, ℕ, ◌++◌, ◌<◌, ◌||◌}
 use Rattle.textwrap_lines.proofs.Common.{◌∙◌, ◌∷◌, ◌≡◌}
@@ -157,8 +157,8 @@ divided_one : {X : Type 0} (algorithm : Algorithm) (sizes : X → Sizes) (widths
     (xs : List X) (lines others : List (List X)) → AreEqualFromSecond widths
     → IsDividedBy algorithm sizes widths xs lines → IsDividedBy algorithm sizes widths xs others
     → lines ≡ others
-divided_one Greedy sizes widths xs lines others equal one other = grind (arith, greedy_unique)
-divided_one (LeastCost penalties) sizes widths xs lines others equal one other =
+divided_one ByFirstFit sizes widths xs lines others equal one other = grind (arith, greedy_unique)
+divided_one (ByOptimalFit penalties) sizes widths xs lines others equal one other =
     chosen_one _ lines others (one.chosen equal) (other.chosen equal)
 
 -- where the words of a line are those that a function names

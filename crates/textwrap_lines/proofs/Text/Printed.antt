@@ -7,7 +7,7 @@ use Rattle.textwrap_lines.proofs.Common.{append_assoc, AreTextLines, HasNoPenalt
 use Rattle.textwrap_lines.proofs.Common.{closed_width, first_width, IsDividedBy, IsPrintable, arith}
 use Rattle.textwrap_lines.proofs.Common.{pieces-tile, append-nil, IsMeasured, line_bytes, DividesAs}
 use Rattle.textwrap_lines.proofs.Common.{parts_from, LineParts, MatchBool, all-right, indent_of, ap}
-use Rattle.textwrap_lines.proofs.Common.{line_from, widths_of, All-cons, All-head, All-tail, Greedy}
+use Rattle.textwrap_lines.proofs.Common.{line_from, widths_of, All-cons, All-head, All-tail, ByFirstFit}
 use Rattle.textwrap_lines.proofs.Common.{AreTexts, Settings, Splitter, WordText, all-left, is_whole}
 use Rattle.textwrap_lines.proofs.Common.{parts_of, sizes_of, All-nil, AreCuts, covered, word_of}
 use Rattle.textwrap_lines.proofs.Common.{IsUtf8, false, rules, subst, tiled, Bool, cond, flat, Line}
@@ -144,7 +144,7 @@ module _ (settings : Settings) (Words : List ℕ → List WordText → Type 0)
     (hyphens : (text points : List ℕ) → Points text points
     → All (λ p. ends_in_hyphen (take p text) ≡ true) points)
     (greedy : (widths : List ℕ) (pieces : List WordText) (division : List (List WordText))
-    → Lines widths pieces division → IsDividedBy Greedy sizes_of widths pieces division) where
+    → Lines widths pieces division → IsDividedBy ByFirstFit sizes_of widths pieces division) where
   abbrev Divides : Bool → List ℕ → List (List WordText) → Type 0
   Divides = IsDividedInto settings Words Points Lines
 
@@ -240,7 +240,7 @@ module _ (settings : Settings) (Words : List ℕ → List WordText → Type 0)
 
 pub ArePrintedWithin-from : (settings : Settings) (splitter : Splitter) (text : List ℕ)
     (lines : List Line) → IsUtf8 text → CanKeepToWidth settings text
-    → AreTextLines settings (DividesAs splitter Greedy settings) text lines
-    → ArePrintedWithin settings (DividesAs splitter Greedy settings) text lines
+    → AreTextLines settings (DividesAs splitter ByFirstFit settings) text lines
+    → ArePrintedWithin settings (DividesAs splitter ByFirstFit settings) text lines
 ArePrintedWithin-from settings splitter =
     search (rules, arith, ArePrintedWithin-by, AreTexts-words, ArePoints-cuts, ArePoints-hyphens)

@@ -5,8 +5,8 @@ use Rattle.textwrap_lines.proofs.Common.{IsDividedInto, paragraphs_of, settings_
 use Rattle.textwrap_lines.proofs.Common.{AreTextLines, ending_bytes, KeepsToWidth, KeepToWidths, []}
 use Rattle.textwrap_lines.proofs.Common.{IsDividedBy, MaySeparate, pieces-tile, StartsWith, AreCuts}
 use Rattle.textwrap_lines.proofs.Common.{append-nil, length-map, Algorithm, ArePoints, DividesAs, ℕ}
-use Rattle.textwrap_lines.proofs.Common.{DividesBy, LeastCost, line_from, MayDivide, AreTexts, flat}
-use Rattle.textwrap_lines.proofs.Common.{MaySplit, Settings, sizes_of, Splitter, WordText, Greedy}
+use Rattle.textwrap_lines.proofs.Common.{DividesBy, ByOptimalFit, line_from, MayDivide, AreTexts, flat}
+use Rattle.textwrap_lines.proofs.Common.{MaySplit, Settings, sizes_of, Splitter, WordText, ByFirstFit}
 use Rattle.textwrap_lines.proofs.Common.{IsUtf8, length, Option, arith, false, rules, subst, tiled}
 use Rattle.textwrap_lines.proofs.Common.{Line, List, None, refl, Some, take, true, All, ◌<◌, ◌≡◌}
 use Rattle.textwrap_lines.proofs.Common.{◌≢◌, ap}
@@ -64,9 +64,9 @@ module _ (settings : Settings) (Words : List ℕ → List WordText → Type 0)
         (division : List (List WordText)) → Lines widths pieces division → flat division ≡ pieces)
         → (algorithm ≢ None → (widths : List ℕ) (pieces : List WordText)
         (division : List (List WordText)) → Lines widths pieces division → 0 < length division)
-        → (algorithm ≡ Some Greedy → (widths : List ℕ) (pieces : List WordText)
+        → (algorithm ≡ Some ByFirstFit → (widths : List ℕ) (pieces : List WordText)
         (division : List (List WordText)) → Lines widths pieces division
-        → IsDividedBy Greedy sizes_of widths pieces division)
+        → IsDividedBy ByFirstFit sizes_of widths pieces division)
         → (text : List ℕ) (lines : List Line) → IsUtf8 text
         → AreTextLines settings (Divides settings Words Points Lines) text lines
         → IsWrapped settings splitter algorithm (Divides settings Words Points Lines) text lines
@@ -98,7 +98,7 @@ module _ (settings : Settings) (Words : List ℕ → List WordText → Type 0)
     pub LinesKeepToWidth-by : ((text points : List ℕ) → Points text points
         → All (λ p. ends_in_hyphen (take p text) ≡ true) points)
         → ((widths : List ℕ) (pieces : List WordText) (division : List (List WordText))
-        → Lines widths pieces division → IsDividedBy Greedy sizes_of widths pieces division)
+        → Lines widths pieces division → IsDividedBy ByFirstFit sizes_of widths pieces division)
         → (text : List ℕ) (lines : List Line) → IsUtf8 text
         → settings.even_paragraphs ≡ true → settings.break_words ≡ true
         → AreTextLines settings (Divides settings Words Points Lines) text lines → LinesKeepToWidth settings (Divides settings Words Points Lines) text lines
@@ -117,9 +117,9 @@ module _ (settings : Settings) (Words : List ℕ → List WordText → Type 0)
 -- ---- what `wrap` promises, by the options
 
 -- by built-in parts
-greedy-is : (algorithm : Algorithm) → Some algorithm ≡ Some Greedy → algorithm ≡ Greedy
-greedy-is Greedy is = refl
-greedy-is (LeastCost penalties) is = cc
+greedy-is : (algorithm : Algorithm) → Some algorithm ≡ Some ByFirstFit → algorithm ≡ ByFirstFit
+greedy-is ByFirstFit is = refl
+greedy-is (ByOptimalFit penalties) is = cc
 
 -- by words that are texts of their lines
 pub IsWrapped-parts : (Words : List ℕ → List WordText → Type 0)
@@ -144,10 +144,10 @@ IsWrapped-parts Words texts settings algorithm splitter text lines utf8 are =
 pub LinesKeepToWidth-from : (settings : Settings) (splitter : Splitter) (text : List ℕ)
     (lines : List Line) → IsUtf8 text → settings.even_paragraphs ≡ true
     → settings.break_words ≡ true
-    → AreTextLines settings (DividesAs splitter Greedy settings) text lines
-    → LinesKeepToWidth settings (DividesAs splitter Greedy settings) text lines
+    → AreTextLines settings (DividesAs splitter ByFirstFit settings) text lines
+    → LinesKeepToWidth settings (DividesAs splitter ByFirstFit settings) text lines
 LinesKeepToWidth-from settings splitter text lines utf8 even breaks are =
-    LinesKeepToWidth-by settings AreWordsOf (ArePoints splitter) (IsDividedBy Greedy sizes_of)
+    LinesKeepToWidth-by settings AreWordsOf (ArePoints splitter) (IsDividedBy ByFirstFit sizes_of)
     AreTexts-words (ArePoints-cuts splitter)
     (λ widths pieces division divided. ([], search (rules, arith, append-nil, IsDividedBy-whole)))
     (ArePoints-hyphens splitter) (λ widths pieces division divided. divided)

@@ -14,7 +14,7 @@ use Rattle.textwrap_text.proofs.Common.{length, length-append, length-map, map, 
 use Rattle.textwrap_text.proofs.Common.{sym, ◌+◌, ◌++◌, ◌<◌, ◌^◌, ◌∷◌, ◌≡◌, ◌||◌, ℕ, false}
 use Rattle.textwrap_text.proofs.Lists.Parts.{flat}
 use Rattle.textwrap_text.specs.LentText.{as_len}
-use Rattle.textwrap_words.proofs.Common.{Greedy, Splitter, WordText}
+use Rattle.textwrap_words.proofs.Common.{ByFirstFit, Splitter, WordText}
 
 -- ---- lines are as many as the places where they stand
 
@@ -62,7 +62,7 @@ pub counted : (words : List ℕ → List WordText)
     (settings : Settings) (text : List ℕ) (width count : ℕ) (lines : List Line)
     (places : List Place) → IsUtf8 text → length text < 2 ^ 63
     → ArePlacedLines (at_width settings width)
-    (DividesAt words splitter Greedy (at_width settings width)) text lines places
+    (DividesAt words splitter ByFirstFit (at_width settings width)) text lines places
     → count ≡ as_len (length (map reported_line places))
     → TakesLines settings words splitter text width count
 counted words cut splitter settings text width count lines places utf8 short placed is = (
@@ -74,6 +74,6 @@ counted words cut splitter settings text width count lines places utf8 short pla
     short,
     length-map places reported_line,
     placed-many (at_width settings width) _ text lines places placed,
-    text-lines words cut splitter Greedy (at_width settings width) text lines utf8 placed.are,
+    text-lines words cut splitter ByFirstFit (at_width settings width) text lines utf8 placed.are,
   ),
 )

@@ -24,7 +24,7 @@ use Rattle.textwrap_words.proofs.Common.{WordText, broken_texts, broken_word, si
 use Rattle.textwrap_words.proofs.Common.{word_of}
 use Rattle.textwrap_words.specs.Cuts.{AreNext}
 use Rattle.textwrap_words.proofs.Common.{broken_words, IsDividedBy, pieces_with, split_words, Whole}
-use Rattle.textwrap_words.proofs.Common.{Algorithm, AtHyphens, LeastCost, Splitter, tile_of, Greedy}
+use Rattle.textwrap_words.proofs.Common.{Algorithm, AtHyphens, ByOptimalFit, Splitter, tile_of, ByFirstFit}
 use Rattle.textwrap_layout.proofs.Common.{front_pieces, later_width, empty_word, pieces_by}
 use Rattle.std.proofs.lemmas.Str.{length-le-encodes}
 use Rattle.std.specs.List.{slice_range}
@@ -201,9 +201,9 @@ count-division (x ∷ xs) lines most one within (is, some) =
 count-divided : (algorithm : Algorithm) (widths : List ℕ) (pieces : List WordText)
     (division : List (List WordText)) (most : ℕ) → 1 ≤ most → length pieces ≤ most
     → IsDividedBy algorithm sizes_of widths pieces division → length division ≤ most
-count-divided Greedy widths pieces division most one within divided =
+count-divided ByFirstFit widths pieces division most one within divided =
     count-division pieces division most one within divided.admissible.division
-count-divided (LeastCost penalties) widths pieces division most one within divided =
+count-divided (ByOptimalFit penalties) widths pieces division most one within divided =
     count-division pieces division most one within divided.by_table.division
 
 -- ---- how long texts are together and joined

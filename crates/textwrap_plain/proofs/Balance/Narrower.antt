@@ -8,7 +8,7 @@ use Rattle.textwrap_layout.proofs.Common.{DividesAt, IsDivision, front_pieces, p
 use Rattle.textwrap_layout.proofs.Paragraph.Pieces.{ArePieces-by}
 use Rattle.textwrap_layout.specs.Paragraph.{IsLaidOut}
 use Rattle.textwrap_lines.proofs.Common.{All, All-cons, All-head, All-nil, All-tail, All-weaker}
-use Rattle.textwrap_lines.proofs.Common.{AreGroups, AreParagraphParts, Bool, Greedy, Line}
+use Rattle.textwrap_lines.proofs.Common.{AreGroups, AreParagraphParts, Bool, ByFirstFit, Line}
 use Rattle.textwrap_lines.proofs.Common.{LineParts, List, Settings, Splitter, WordText, []}
 use Rattle.textwrap_lines.proofs.Common.{all-left, all-right, and_parts, ap, arith, broken_words}
 use Rattle.textwrap_lines.proofs.Common.{cases_Bool, cond, false, first_width, flat, flat_map}
@@ -65,7 +65,7 @@ division-some (x ∷ xs) (line ∷ lines) is = omega arith
 
 module _ (settings : Settings) (words : List ℕ → List WordText) (splitter : Splitter) where
   abbrev Divides : ℕ → Bool → List ℕ → List (List WordText) → Type 0
-  Divides width = DividesAt words splitter Greedy (at_width settings width)
+  Divides width = DividesAt words splitter ByFirstFit (at_width settings width)
 
   abbrev AreParts : ℕ → Bool → List ℕ → List LineParts → Type 0
   AreParts width = AreParagraphParts (at_width settings width) (Divides width)
@@ -284,5 +284,5 @@ module _ (settings : Settings) (words : List ℕ → List WordText) (splitter : 
       → AreFirstFitAt settings words splitter text width others → lines ≡ others
   lines-same width =
       let here = at_width settings width in
-      text_one here (DividesAt words splitter Greedy here)
-      (division_one-at words here Greedy splitter) text
+      text_one here (DividesAt words splitter ByFirstFit here)
+      (division_one-at words here ByFirstFit splitter) text

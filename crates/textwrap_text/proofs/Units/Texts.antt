@@ -7,7 +7,7 @@ use Rattle.textwrap_text.proofs.Common.{cases_lt, drop_all, eqb-true, flat_map, 
 use Rattle.textwrap_text.proofs.Common.{[], columns, take_all, take_at, taken_at, Visible, zero-add}
 use Rattle.textwrap_text.proofs.Common.{arith, escape, le-leb, length, List, ne_eqb, sum_by, ⊎_elim}
 use Rattle.textwrap_text.proofs.Common.{cond, drop, false, last, refl, rules, subst, take, units, ℕ}
-use Rattle.textwrap_text.proofs.Common.{inr, not, suc, sym, true, zero, ◌++◌, ◌+◌, ◌<◌, ◌==◌, ◌||◌}
+use Rattle.textwrap_text.proofs.Common.{inr, not, suc, sym, true, zero, ◌++◌, ◌<◌, ◌==◌, ◌||◌}
 use Rattle.textwrap_text.proofs.Common.{ap, ◌↔◌, ◌∙◌, ◌∷◌, ◌≡◌, ◌≢◌, ◌≤◌, ◌⊎◌}
 use Rattle.textwrap_text.proofs.Lists.Parts.{last-push, last_but_one, last_but_one-push}
 use Rattle.textwrap_text.specs.Units.{is_command_end, is_command_start, is_control_start, IsInUnits}

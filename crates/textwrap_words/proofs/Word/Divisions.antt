@@ -4,8 +4,8 @@ use Rattle.textwrap_text.proofs.Common.{append-nil, append_assoc, drop_split, le
 use Rattle.textwrap_text.proofs.Common.{arith, drop, length, List, map-id, None, rules, Some, subst}
 use Rattle.textwrap_text.proofs.Common.{[], ap, map, refl, sym, ℕ, ◌<◌, ◌∙◌, ◌∷◌, ◌≡◌, ◌≢◌}
 use Rattle.textwrap_base.proofs.Division.Map.{IsDividedBy-map, IsDividedBy-some, IsDividedBy-whole}
-use Rattle.textwrap_words.proofs.Common.{algorithm_view, AreNext, IsDividedBy, LeastCost, MayDivide}
-use Rattle.textwrap_words.proofs.Common.{Begins, drop-map, flat, Greedy, MayEnd, sizes_of, WordText}
+use Rattle.textwrap_words.proofs.Common.{algorithm_view, AreNext, IsDividedBy, ByOptimalFit, MayDivide}
+use Rattle.textwrap_words.proofs.Common.{Begins, drop-map, flat, ByFirstFit, MayEnd, sizes_of, WordText}
 use Rattle.textwrap_words.specs.LineEnds.{AreEnds, IsNextEnd, lines_from}
 use Rattle.textwrap_words.specs.declared.wrap_algorithms.WrapAlgorithm.{WrapAlgorithm}
 use Rattle.textwrap_words.specs.declared.wrap_algorithms.WrapAlgorithm.TheVariants.{OptimalFit}
@@ -40,7 +40,7 @@ module _ {F : Type 0} {f : _} where
       → MayDivide algorithm (λ w. w) widths (map view xs) (map (map view) lines)
   MayDivide-map FirstFit view widths xs lines divided = search (rules, arith, IsDividedBy-map)
   MayDivide-map (OptimalFit penalties) view widths xs lines divided =
-      IsDividedBy-map view sizes_of (LeastCost penalties) widths xs lines divided
+      IsDividedBy-map view sizes_of (ByOptimalFit penalties) widths xs lines divided
   MayDivide-map (Custom given) view widths xs lines (ends, may, is) = (
     ends,
     subst (λ ws. MayEnd given ws widths ends) (sym (map-id (map view xs))) may,
@@ -53,7 +53,7 @@ module _ {F : Type 0} {f : _} where
       → MayDivide algorithm view widths xs lines → flat lines ≡ xs
   MayDivide-whole FirstFit view widths xs lines built_in divided = grind (arith, IsDividedBy-whole)
   MayDivide-whole (OptimalFit penalties) view widths xs lines built_in divided =
-      IsDividedBy-whole (λ x. sizes_of (view x)) (LeastCost penalties) widths xs lines divided
+      IsDividedBy-whole (λ x. sizes_of (view x)) (ByOptimalFit penalties) widths xs lines divided
   MayDivide-whole (Custom given) view widths xs lines built_in divided = absurd (built_in refl)
 
   -- the lines of any algorithm are the first elements in order
@@ -64,7 +64,7 @@ module _ {F : Type 0} {f : _} where
   MayDivide-begins (OptimalFit penalties) view widths xs lines divided = (
     [],
     append-nil (flat lines)
-        ∙ IsDividedBy-whole (λ x. sizes_of (view x)) (LeastCost penalties) widths xs lines divided,
+        ∙ IsDividedBy-whole (λ x. sizes_of (view x)) (ByOptimalFit penalties) widths xs lines divided,
   )
   MayDivide-begins (Custom given) view widths xs lines (ends, may, is) =
       subst (λ ls. Begins xs (flat ls)) (sym is)
@@ -75,15 +75,15 @@ module _ {F : Type 0} {f : _} where
       (widths : List ℕ) (xs : List X) (lines : List (List X)) → algorithm_view algorithm ≢ None
       → MayDivide algorithm view widths xs lines → 0 < length lines
   MayDivide-some FirstFit view widths xs lines built_in divided =
-      IsDividedBy-some (λ x. sizes_of (view x)) Greedy widths xs lines divided
+      IsDividedBy-some (λ x. sizes_of (view x)) ByFirstFit widths xs lines divided
   MayDivide-some (OptimalFit penalties) view widths xs lines built_in divided =
-      IsDividedBy-some (λ x. sizes_of (view x)) (LeastCost penalties) widths xs lines divided
+      IsDividedBy-some (λ x. sizes_of (view x)) (ByOptimalFit penalties) widths xs lines divided
   MayDivide-some (Custom given) view widths xs lines built_in divided = absurd (built_in refl)
 
   pub MayDivide-greedy : {X : Type 0} (algorithm : WrapAlgorithm F f) (view : X → WordText)
       (widths : List ℕ) (xs : List X) (lines : List (List X))
-      → algorithm_view algorithm ≡ Some Greedy → MayDivide algorithm view widths xs lines
-      → IsDividedBy Greedy (λ x. sizes_of (view x)) widths xs lines
+      → algorithm_view algorithm ≡ Some ByFirstFit → MayDivide algorithm view widths xs lines
+      → IsDividedBy ByFirstFit (λ x. sizes_of (view x)) widths xs lines
   MayDivide-greedy FirstFit view widths xs lines is divided = divided
   MayDivide-greedy (OptimalFit penalties) view widths xs lines is divided = cc
   MayDivide-greedy (Custom given) view widths xs lines is divided = cc

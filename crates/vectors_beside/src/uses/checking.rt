@@ -5,7 +5,7 @@ ghost use Rattle.textwrap.specs.Filling.{IsFilledAt};
 ghost use Rattle.textwrap.specs.Options.{settings_at, default_algorithm};
 ghost use Rattle.textwrap.specs.Paragraph.{Line};
 ghost use Rattle.textwrap.specs.Text.{AreLinesBy};
-ghost use Rattle.textwrap.specs.WrapAlgorithms.{Greedy};
+ghost use Rattle.textwrap.specs.WrapAlgorithms.{ByFirstFit};
 ghost use Rattle.textwrap.specs.Errors.{OnlyMemoryRunsOut};
 
 use std::alloc::Global;
@@ -27,7 +27,7 @@ pub fn is_filled(alloc: Global, text: &str, width: usize) -> Result<bool, WrapEr
 /// How many lines a text takes at this width, by first fit: at least one.
 pub fn line_count(alloc: Global, text: &str, width: usize) -> Result<usize, WrapError>
     ensures counted { IfOk result (λ count. (lines : List Line)
-        × AreLinesBy (settings_at width) Greedy text.now lines × (length lines ≡ count)) }
+        × AreLinesBy (settings_at width) ByFirstFit text.now lines × (length lines ≡ count)) }
     ensures some { IfOk result (λ count. 0 < count) }
     ensures only_memory { OnlyMemoryRunsOut result }
 {

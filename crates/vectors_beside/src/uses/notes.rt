@@ -7,7 +7,7 @@ ghost use Rattle.textwrap.specs.LineEnding.{paragraphs_of};
 ghost use Rattle.textwrap.specs.Paragraph.{DividesAs, Slice};
 ghost use Rattle.textwrap.specs.Text.{AreTextLines};
 ghost use Rattle.textwrap.specs.WordSplitters.{Whole};
-ghost use Rattle.textwrap.specs.WrapAlgorithms.{Greedy};
+ghost use Rattle.textwrap.specs.WrapAlgorithms.{ByFirstFit};
 ghost use Rattle.textwrap.specs.declared.LineEnding.TheVariants.{LF};
 
 use std::alloc::{AllocError, Global};
@@ -20,7 +20,7 @@ pub fn fill_note(alloc: Global, note: &mut String, width: usize) -> Result<(), A
     // Without the blanks at their ends, the new lines are those that `wrap` gives of the old note by
     // first fit, with words kept whole.
     ensures wrapped { OnOk result (AreTextLines (unbroken_at width)
-        (DividesAs Whole Greedy (unbroken_at width)) (string_bytes note.old)
+        (DividesAs Whole ByFirstFit (unbroken_at width)) (string_bytes note.old)
         (map (λ line. Slice (without_final_blanks line))
         (paragraphs_of LF (string_bytes note.new)))) }
     ensures only_blanks { OnlyBlanksChange (string_bytes note.old) (string_bytes note.new) }

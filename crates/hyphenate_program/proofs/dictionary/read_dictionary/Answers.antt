@@ -1,4 +1,4 @@
-use Rattle.std.proofs.Common.{List, subst, sym, ℕ}
+use Rattle.std.proofs.Common.{List, subst, ℕ}
 use Rattle.std.specs.Prelude.{Option}
 use Rattle.textwrap_program.specs.Filling.{ReadsAll}
 use Rattle.hyphenate_program.proofs.ReadDictionaries.{reads}

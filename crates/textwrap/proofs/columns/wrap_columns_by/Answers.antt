@@ -14,7 +14,7 @@ returns-clause-rows g c =
           AreTextLines narrow (DividesWith (g.P.Parts.may parts) narrow) c.args.text.now
           (map line_view c.in_ok-lines.lines.items)) c.new-table.ensures c.in_ok-lines.ensures.lines,
       c.in_ok-table_rows.ensures
-          ∙ ap (λ ls. table_rows (columns.layout_view c.new-table.result)
+          ∙ ap (λ ls. table_rows (columns.table_view c.new-table.result)
           (map line_bytes (map line_view ls))) c.deref.ensures.value
           ∙ ap (λ table. table_rows table (map line_bytes (map line_view c.in_ok-lines.lines.items)))
           c.new-table.ensures,

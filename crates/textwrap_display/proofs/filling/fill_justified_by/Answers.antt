@@ -1,6 +1,6 @@
 use Rattle.textwrap_display.proofs.filling.fill_justified_by.Goals as goal
 use Rattle.textwrap_text.proofs.Common.{length-append, length-map, string_bytes, length, arith}
-use Rattle.textwrap_text.proofs.Common.{subst, drop, ◌++◌, ◌∙◌, ◌≤◌, ap}
+use Rattle.textwrap_text.proofs.Common.{drop, ◌++◌, ◌∙◌, ◌≤◌, ap}
 use Rattle.std.proofs.lemmas.Slice.{between_to_end}
 use Rattle.textwrap_display.proofs.Common.{paragraphs_left, layout_view}
 use Rattle.textwrap_lines.proofs.Paragraph.KeepsTo.{passed-on}

@@ -1,6 +1,6 @@
 use Rattle.textwrap_text.proofs.Common.{take_at}
 use Rattle.std.proofs.lemmas.List.{get_or-replicate}
-use Rattle.textwrap_hyphens.proofs.Common.{arith, ap, drop, get_or, length, level, max, ◌+◌}
+use Rattle.textwrap_hyphens.proofs.Common.{arith, ap, drop, get_or, length, ◌+◌}
 use Rattle.textwrap_hyphens.proofs.Common.{◌∙◌}
 use Rattle.textwrap_hyphens.proofs.Raised.{levels-all}
 use Rattle.textwrap_hyphens.specs.Table.{levels_by}

@@ -1,6 +1,5 @@
 use Rattle.textwrap_layout.proofs.pieces.push_pieces.Goals as goal
 use Rattle.textwrap_text.proofs.Common.{arith, eqb-true, map_push, nil_from_length}
-use Rattle.textwrap_layout.proofs.Common.{word_view}
 
 pub push_split-requires : goal.push_split-requires
 push_split-requires g c = rw c.deref.ensures.value c.in_ok-points.ensures.cuts

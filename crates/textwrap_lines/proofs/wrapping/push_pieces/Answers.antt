@@ -20,6 +20,6 @@ returns-clause-taken g c =
       division,
       (rw c.in-Some.is at c.requires.built_in) c.args.frame.now.is_later c.args.paragraph.now _
           division (subst (λ cuts. (g.P.Parts.may c.args.parts.now).Words c.args.paragraph.now
-          (words_cut cuts c.args.paragraph.now)) (sym words) c.in_ok-found.ensures.words) (rw c.in-LeastCost.is optimal),
+          (words_cut cuts c.args.paragraph.now)) (sym words) c.in_ok-found.ensures.words) (rw c.in-OptimalFit.is optimal),
       took,
     )

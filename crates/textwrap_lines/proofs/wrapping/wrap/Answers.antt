@@ -1,5 +1,5 @@
 use Rattle.textwrap_lines.proofs.wrapping.wrap.Goals as goal
-use Rattle.textwrap_lines.proofs.Common.{Greedy, IfOk-weaker}
+use Rattle.textwrap_lines.proofs.Common.{ByFirstFit, IfOk-weaker}
 use Rattle.textwrap_lines.proofs.Text.Promises.{ArePrintedWithin-options, LinesKeepToWidth-options}
 use Rattle.textwrap_lines.proofs.Text.Promises.{IsWrapped-options, LinesKeepToWidth-from}
 use Rattle.textwrap_layout.proofs.Paragraph.Pieces.{lines-as}
@@ -24,7 +24,7 @@ pub returns-clause-built_in_even : goal.returns-clause-built_in_even
 returns-clause-built_in_even g c = IfOk-weaker c.wrap_by.result _ _
     (λ lines are settings splitter parts even breaks.
     LinesKeepToWidth-from settings splitter c.args.text.now _ c.utf8.text even breaks
-    (are settings splitter Greedy parts)) (returns-clause-built_in g c)
+    (are settings splitter ByFirstFit parts)) (returns-clause-built_in g c)
 
 pub returns-clause-printed : goal.returns-clause-printed
 returns-clause-printed g c = λ first built_in can. IfOk-weaker c.wrap_by.result _ _ (λ lines.

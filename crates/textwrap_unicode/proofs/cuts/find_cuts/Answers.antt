@@ -2,7 +2,7 @@ use Rattle.textwrap_text.proofs.ClassNames.{ap, drop, length, read-next, refl, s
 use Rattle.textwrap_text.proofs.Common.{arith, rules}
 use Rattle.textwrap_unicode.proofs.CutLemmas.{IsCutting-end, IsCutting-start, IsCutting-step}
 use Rattle.textwrap_unicode.proofs.WordVerdicts.{ideographs-passed, words-passed}
-use Rattle.textwrap_unicode.proofs.cuts.find_cuts.Goals.{In-Some, Joined-is_visible}
+use Rattle.textwrap_unicode.proofs.cuts.find_cuts.Goals.{Joined-is_visible}
 use Rattle.textwrap_unicode.proofs.{Common.and, Common.may_end, CutLemmas.IsCutting}
 use Rattle.textwrap_words.proofs.Word.Offsets.{cuts_at-AreInnerCuts}
 use Rattle.textwrap_unicode.proofs.cuts.find_cuts.Goals as goal

@@ -1,5 +1,5 @@
 use Rattle.vectors_beside.proofs.uses.hyphens.find_lines.Goals as goal
-use Rattle.vectors_beside.proofs.Common.{hyphenated_pieces, IsDividedBy-map, lines_from-map, Greedy}
+use Rattle.vectors_beside.proofs.Common.{hyphenated_pieces, IsDividedBy-map, lines_from-map, ByFirstFit}
 use Rattle.vectors_beside.proofs.Common.{division_cuts, lines_between, AreInnerCuts, later_begins}
 use Rattle.vectors_beside.proofs.Common.{ArePlacesOf, pieces_at, points_of_words, word_view}
 use Rattle.vectors_beside.proofs.Common.{sizes_of, map}
@@ -37,7 +37,7 @@ returns c =
     sym (lines_from-map word_view c.deref-6.result.now 0 c.deref-7.result.now)
     ∙ ap (map (map word_view)) between in (
       map (map word_view) lines,
-      rw (← pieces_are) (IsDividedBy-map word_view sizes_of Greedy _ c.deref-3.result.now lines
+      rw (← pieces_are) (IsDividedBy-map word_view sizes_of ByFirstFit _ c.deref-3.result.now lines
           c.in_ok-lines.ensures.greedy),
       subst (λ s. ArePlacesOf (division_cuts s false (map (map word_view) lines))
           c.in_ok-placed.placed.places.items c.in_ok-placed.placed.built.items)

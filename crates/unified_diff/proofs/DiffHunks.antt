@@ -1,15 +1,17 @@
 -- The hunks of lines with signs: stretches that are near a change, which patch the text.
 use Rattle.std.proofs.Common.{◌≡◌, ◌∙◌, ap, refl, sym, subst, ℕ, ◌+◌, ◌-◌, ◌<◌, ◌≤◌, arith, false}
-use Rattle.std.proofs.Common.{true}
+use Rattle.std.proofs.Common.{true, zero, ◌⊎◌, inl, inr}
 use Rattle.std.proofs.Common.{List, [], ◌∷◌, ◌++◌, length, take, drop, map, get_or, IsTrue, All}
 use Rattle.std.proofs.Common.{ap₂, suc, Bool}
+use Rattle.std.proofs.Math.Logic.{⊎_map}
 use Rattle.std.proofs.lemmas.List.Elements.{All-cons, All-nil}
 use Rattle.std.specs.List.{flat_map, slice_range}
 use Rattle.std.proofs.lemmas.List.{append_assoc, append-nil, get_or-drop, get_or-take, length-drop}
 use Rattle.std.proofs.lemmas.List.{take_rest}
-use Rattle.std.proofs.lemmas.List.{length-take, drop-map, take-map}
+use Rattle.std.proofs.lemmas.List.{length-append, length-take, drop-map, take-map}
 use Rattle.std.proofs.lemmas.List.Folds.{drop_split}
-use Rattle.unified_diff.specs.Differences.{ArePushed, AreApart, HunkText, IsDiff, IsNear, IsTight}
+use Rattle.unified_diff.specs.Differences.{ArePushed, AreApart, HasContext, HunkText, IsDiff, IsNear}
+use Rattle.unified_diff.specs.Differences.{IsTight}
 use Rattle.unified_diff.specs.Differences.{Patches, SignedText, hunk_text, head_text, line_text}
 use Rattle.unified_diff.specs.Differences.{range_text, signed_view, is_change, new_end, news}
 use Rattle.unified_diff.specs.Differences.{old_end, olds, sign_at}
@@ -123,6 +125,44 @@ module _ (lines : List SignedText) where
             (omega arith) (omega arith)),
       )
 
+  -- ---- what stands around a change
+
+  before-change : (first change : ℕ) → (0 < first → ¬ IsNear lines (first - 1))
+      → IsTrue (is_change (sign_at lines (first + change))) → (first ≡ 0) ⊎ (3 ≤ change)
+  before-change zero change before is = inl refl
+  before-change (suc first) change before is =
+      inr (not_below change 3 (λ less. before (omega arith)
+      (suc first + change, is, omega arith, omega arith)))
+
+  behind-change : (left first last change : ℕ) → left ≡ length lines - last → last ≤ length lines
+      → first + change < last → (last < length lines → ¬ IsNear lines last)
+      → IsTrue (is_change (sign_at lines (first + change)))
+      → (last ≡ length lines) ⊎ (change + 3 < last - first)
+  behind-change zero first last change left_is within below behind is = inl (omega arith)
+  behind-change (suc left) first last change left_is within below behind is =
+      inr (not_above (change + 3) (last - first) (λ more. behind (omega arith)
+      (first + change, is, omega arith, omega arith)))
+
+  -- three lines of the stretch from `first` to `last`, or what the texts begin or end with
+  abbrev pub HasAround : ℕ → ℕ → List SignedText → Type 0
+  HasAround first last part =
+      (change : ℕ) → IsTrue (is_change (sign_at part change))
+      → ((first ≡ 0) ⊎ (3 ≤ change)) × ((last ≡ length lines) ⊎ (change + 3 < last - first))
+
+  around-part : (first last : ℕ) → first < last → last ≤ length lines
+      → (0 < first → ¬ IsNear lines (first - 1)) → (last < length lines → ¬ IsNear lines last)
+      → HasAround first last (slice_range lines first last)
+  around-part first last some within before behind = λ change is.
+      let len : length (slice_range lines first last) ≡ last - first =
+      length-part lines first last (omega arith) within in
+      let below : change < length (slice_range lines first last) =
+      change-within (slice_range lines first last) change is in
+      let here : IsTrue (is_change (sign_at lines (first + change))) =
+      ap is_change (sym (sign_at-part lines first last change (omega arith))) ∙ is in (
+        before-change first change before here,
+        behind-change (length lines - last) first last change refl within (omega arith) behind here,
+      )
+
   -- ---- a hunk
 
   -- from a place on, so far into both texts, the next hunk has the lines from `first` to `last`
@@ -136,6 +176,7 @@ module _ (lines : List SignedText) where
     pub old_start : hunk.old_start ≡ old_at + (first - at)
     pub new_start : hunk.new_start ≡ new_at + (first - at)
     pub tight : IsTight hunk.lines
+    pub around : HasAround first last hunk.lines
 
   -- found by where a line near a change comes next, and then one that is not
   pub hunk-found : (at old_at new_at first last : ℕ) (part : List SignedText)
@@ -164,6 +205,7 @@ module _ (lines : List SignedText) where
         old_start = refl;
         new_start = refl;
         tight = subst IsTight (sym is) (tight-part first last some within near before behind);
+        around = subst (HasAround first last) (sym is) (around-part first last some within before behind);
       }
 
   -- these are all hunks from a place on
@@ -214,6 +256,41 @@ module _ (lines : List SignedText) where
       All-cons (λ (hunk : HunkText). IsTight hunk.lines) hunk hunks is.tight
       (hunks-tight hunks last (old_end hunk) (new_end hunk) rest)
 
+  -- of so many old lines in all
+  hunks-context : (hunks : List HunkText) (at old_at new_at total : ℕ) → at ≤ length lines
+      → (at ≡ 0 → old_at ≡ 0) → old_at + length (olds (drop at lines)) ≡ total
+      → AreHunks at old_at new_at hunks → All (HasContext total) hunks
+  hunks-context [] at old_at new_at total within begins all far = All-nil (HasContext total)
+  hunks-context (hunk ∷ hunks) at old_at new_at total within begins all (first, last, is, rest) =
+      let mid : List SignedText = slice_range lines first last in
+      let left : List SignedText = drop last lines in
+      let from : at ≤ first = is.from in
+      let some : first < last = is.some in
+      let short : last ≤ length lines = is.within in
+      let kept : (news (slice_range lines at first) ≡ olds (slice_range lines at first))
+      × (length (olds (slice_range lines at first)) ≡ first - at) =
+      far-same at first from (omega arith) is.far in
+      let split : drop at lines ≡ slice_range lines at first ++ (mid ++ left) =
+      drop_split lines at first from
+      ∙ ap (λ ls. slice_range lines at first ++ ls) (drop_split lines first last (omega arith)) in
+      let lens : length (olds (drop at lines)) ≡ (first - at) + (length (olds mid) + length (olds left)) =
+      ap length (ap olds split ∙ olds-append (slice_range lines at first) (mid ++ left)
+      ∙ ap (λ ls. olds (slice_range lines at first) ++ ls) (olds-append mid left))
+      ∙ length-append (olds (slice_range lines at first)) (olds mid ++ olds left)
+      ∙ ap₂ (λ n m. n + m) kept.1 (length-append (olds mid) (olds left)) in
+      let has : length (olds hunk.lines) ≡ length (olds mid) = ap (λ ls. length (olds ls)) is.has in
+      let start : hunk.old_start ≡ old_at + (first - at) = is.old_start in
+      let whole : old_end hunk + length (olds left) ≡ total = omega arith in
+      let len : length hunk.lines ≡ last - first =
+      ap length is.has ∙ length-part lines first last (omega arith) short in
+      All-cons (HasContext total) hunk hunks
+      (λ change is_one. let around = is.around change is_one in (
+        ⊎_map (λ none. let at_start = begins (omega arith) in omega arith) (λ more. more) around.0,
+        ⊎_map (λ end. let none : length left ≡ 0 = length-drop last lines ∙ omega arith in
+            let few = olds-le left in omega arith) (λ more. omega arith) around.1,
+      ))
+      (hunks-context hunks last (old_end hunk) (new_end hunk) total short (λ none. omega arith) whole rest)
+
   hunks-apart : (hunks : List HunkText) (at old_at new_at : ℕ) → AreHunks at old_at new_at hunks
       → AreApart hunks
   hunks-apart [] at old_at new_at far = tt
@@ -231,6 +308,8 @@ module _ (lines : List SignedText) where
   hunks-diff hunks are = record {
     patches = hunks-patch hunks 0 0 0 (omega arith) are;
     tight = hunks-tight hunks 0 0 0 are;
+    context = hunks-context hunks 0 0 0 (length (olds lines)) (omega arith) (λ none. refl) (omega arith)
+        are;
     apart = hunks-apart hunks 0 0 0 are;
   }
 

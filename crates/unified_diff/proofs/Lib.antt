@@ -1,3 +1,4 @@
 pub mod DiffHunks
 pub mod DiffLaws
 pub mod DiffLines
+pub mod DiffReading

@@ -1,5 +1,5 @@
 -- What changes from one text to another, line by line, and how a unified diff writes it.
-use Rattle.std.specs.Prelude.{◌≡◌, ℕ, ◌+◌, ◌/◌, ◌%◌, ◌<◌, ◌≤◌, ◌==◌, ◌||◌, Bool, true, false}
+use Rattle.std.specs.Prelude.{◌≡◌, ◌⊎◌, ℕ, ◌+◌, ◌/◌, ◌%◌, ◌<◌, ◌≤◌, ◌==◌, ◌||◌, Bool, true, false}
 use Rattle.std.specs.Prelude.{List, [], ◌∷◌, ◌++◌, nat_lt}
 use Rattle.std.specs.Prelude.{All, IsTrue, codes, decimal, filter, length, map, slice_index_or}
 use Rattle.std.specs.Prelude.{if◌then◌else◌, nat_eq, ⊤}
@@ -98,6 +98,13 @@ IsNearIf false lines at = ¬ IsNear lines at
 abbrev pub IsTight : List SignedText → Type 0
 IsTight lines = (0 < length lines) × ((at : ℕ) → at < length lines → IsNear lines at)
 
+-- a changed line has three lines before it in its hunk, or the hunk begins with the old text; and three
+-- behind it, or the hunk ends with the old text, which has so many lines
+abbrev pub HasContext : ℕ → HunkText → Type 0
+HasContext len hunk =
+    (change : ℕ) → IsTrue (is_change (sign_at hunk.lines change))
+    → (hunk.old_start ≡ 0 ⊎ 3 ≤ change) × (old_end hunk ≡ len ⊎ change + 3 < length hunk.lines)
+
 -- between two hunks a line stands that belongs to none
 abbrev pub AreApart : List HunkText → Type 0
 AreApart [] = ⊤
@@ -108,6 +115,7 @@ AreApart (hunk ∷ next ∷ hunks) = (old_end hunk < next.old_start) × AreApart
 pub record IsDiff (old new : List (List ℕ)) (hunks : List HunkText) : Type 0 where
   pub patches : Patches 0 0 old new hunks
   pub tight : All (λ hunk. IsTight hunk.lines) hunks
+  pub context : All (HasContext (length old)) hunks
   pub apart : AreApart hunks
 
 -- ---- how they are written

@@ -1,7 +1,9 @@
 -- Laws of the definitions on diffs.
-use Rattle.std.specs.Prelude.{◌≡◌, ℕ, ◌-◌, List, [], ◌∷◌, ◌++◌, drop, map, take}
+use Rattle.std.specs.Prelude.{◌≡◌, ℕ, ◌-◌, ◌<◌, ◌^◌, List, [], ◌∷◌, ◌++◌, drop, length, map, take}
 use Rattle.std.specs.List.{flat_map}
-use Rattle.unified_diff.specs.Differences.{HunkText, IsDiff, SignedText, news, old_end, text_lines}
+use Rattle.unified_diff.specs.Differences.{HunkText, IsDiff, SignedText, hunk_text, news, old_end}
+use Rattle.unified_diff.specs.Differences.{text_lines}
+use Rattle.unified_diff.specs.Reading.{hunks_of}
 use Rattle.unified_diff.specs.declared.differences.Sign.{Sign}
 use Rattle.unified_diff.specs.declared.differences.Sign.TheVariants.{Kept, Removed, Added}
 
@@ -41,3 +43,10 @@ DiffsLeadBack =
 
 abbrev pub TextsAreTheirLines : Type 0
 TextsAreTheirLines = (text : List ℕ) → flat_map (λ line. line) (text_lines text) ≡ text
+
+-- of texts whose lines 64 bits count
+abbrev pub HunksAreRead : Type 0
+HunksAreRead =
+    (old new : List ℕ) (hunks : List HunkText) → length (text_lines old) < 2 ^ 64 - 1
+    → length (text_lines new) < 2 ^ 64 - 1 → IsDiff (text_lines old) (text_lines new) hunks
+    → hunks_of (flat_map hunk_text hunks) ≡ hunks

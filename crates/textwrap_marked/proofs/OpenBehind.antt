@@ -1,6 +1,6 @@
 -- What is open behind a line that does not stand apart.
 use Rattle.textwrap_marked.proofs.LineNames.{◌≡◌, ℕ, ◌&&◌, ◌||◌, not, Bool, true, false, cond, List, []}
-use Rattle.textwrap_marked.proofs.LineNames.{◌∷◌, All}
+use Rattle.textwrap_marked.proofs.LineNames.{◌∷◌, All, drop}
 use Rattle.textwrap_marked.proofs.LineNames.{All-weaker, ap, arith, cases_Bool, codes, eqb-true}
 use Rattle.textwrap_marked.proofs.LineNames.{list_any, nat_eq, nat_lt, nat_tests, None, prefix_len}
 use Rattle.textwrap_marked.proofs.LineNames.{refl, Some, starts_with, sym, true≢false}
@@ -14,11 +14,11 @@ use Rattle.textwrap_text.proofs.Common.{option_map, slice_index}
 use Rattle.textwrap_marks.proofs.Letterless.{lettered-other}
 use Rattle.textwrap_marks.proofs.ListLemmas.{and-left, and-right, any-none, none-any, or-left}
 use Rattle.textwrap_marks.specs.Columns.{depth_of, marks_of}
-use Rattle.textwrap_marks.specs.Fences.{has_pre_end, opened, opened_by, run_of}
+use Rattle.textwrap_marks.specs.Fences.{has_pre_end, opened, opened_by, opens_formula, run_of}
 use Rattle.textwrap_marked.specs.Lines.{is_before, is_in_block, is_prompted, new_before, new_by}
 use Rattle.textwrap_marks.specs.Signs.{is_comment_behind, is_directive, is_gap, is_sign, is_sign_byte}
-use Rattle.textwrap_marks.specs.Signs.{opens_code}
-use Rattle.textwrap_marks.specs.declared.fences.FenceKind.TheVariants.{Code, Pre}
+use Rattle.textwrap_marks.specs.Signs.{any_contains, opens_code}
+use Rattle.textwrap_marks.specs.declared.fences.FenceKind.TheVariants.{Code, Formula, Pre}
 
 -- ---- the first word of a text
 
@@ -62,15 +62,24 @@ sign-parts word none =
     (starts_with nat_eq word (codes "/*")) (starts_with nat_eq word (codes "```"))
     (starts_with nat_eq word (codes "~~~")) (is_directive word) none
 
--- nor code of Doxygen
-last-part : (a b c d e : Bool) → (a || b || c || d || e) ≡ false → e ≡ false
-last-part a b c d e is = grind (arith, cases_Bool)
+-- nor a formula or code
+last-parts : (a b c d e f : Bool) → (a || b || c || d || e || f) ≡ false
+    → (e ≡ false) × (f ≡ false)
+last-parts a b c d e f is = grind (arith, cases_Bool)
 
-no-code : (word : List ℕ) → is_sign word ≡ false → opens_code word ≡ false
+no-code : (word : List ℕ) → is_sign word ≡ false
+    → (starts_with nat_eq word (codes "$$") ≡ false) × (opens_code word ≡ false)
 no-code word none =
-    last-part (starts_with nat_eq word (codes "[!")) (starts_with nat_eq word (codes "[TOC]"))
+    last-parts (starts_with nat_eq word (codes "[!")) (starts_with nat_eq word (codes "[TOC]"))
     (starts_with nat_eq word (codes ":::")) (starts_with nat_eq word (codes "+build"))
-    (opens_code word) (sign-parts word none).2
+    (starts_with nat_eq word (codes "$$")) (opens_code word) (sign-parts word none).2
+
+no-formula : (words : List SpacedText) → is_sign (first_word words) ≡ false
+    → opens_formula words ≡ false
+no-formula [] none = refl
+no-formula (w ∷ ws) none =
+    ap (λ b. cond b (not (contains (codes "$$") (drop 2 w.word)) && not (any_contains (codes "$$") ws))
+    false) (no-code w.word none).0
 
 run-none : (word : List ℕ) → is_sign word ≡ false → run_of word ≡ None
 run-none word none =
@@ -119,11 +128,13 @@ opened-none starred words begins none =
     let no_sign = text-no-sign starred (first_word words) begins in
     ap (λ r. opened_by r words) (run-none (first_word words) no_sign)
     ∙ ap (λ b. cond (b && not (has_pre_end words)) (Some Pre)
-    (cond (opens_code (first_word words)) (Some Code) None))
+    (cond (opens_code (first_word words)) (Some Code) (cond (opens_formula words) (Some Formula) None)))
     (none-any (λ w. contains (codes "<pre") w.word) words
     (All-weaker (λ w. is_column_word w.word ≡ false) (λ w. contains (codes "<pre") w.word ≡ false)
     (λ w no. (column-none w.word no).1) words none))
-    ∙ ap (λ b. cond b (Some Code) None) (no-code (first_word words) no_sign)
+    ∙ ap (λ b. cond b (Some Code) (cond (opens_formula words) (Some Formula) None))
+    (no-code (first_word words) no_sign).1
+    ∙ ap (λ b. cond b (Some Formula) None) (no-formula words no_sign)
 
 -- ---- the state behind it
 

@@ -6,10 +6,10 @@ use Rattle.std.specs.Prelude.{if◌then◌else◌, Option, Some, None}
 use Rattle.std.specs.List.{list_any, prefix_len, starts_with}
 use Rattle.textwrap_marks.specs.Columns.{behind_white, marks_of}
 use Rattle.textwrap_marks.specs.Signs.{any_contains, ends_code, first_word, opens_code}
-use Rattle.textwrap_marks.specs.Words.{has_byte, is_made_of, SpacedText}
+use Rattle.textwrap_marks.specs.Words.{contains, has_byte, is_made_of, SpacedText}
 use Rattle.textwrap_marks.specs.declared.fences.Fence.{Fence}
 use Rattle.textwrap_marks.specs.declared.fences.FenceKind.{FenceKind}
-use Rattle.textwrap_marks.specs.declared.fences.FenceKind.TheVariants.{Code, Pre, Run}
+use Rattle.textwrap_marks.specs.declared.fences.FenceKind.TheVariants.{Code, Formula, Pre, Run}
 use Rattle.textwrap_marks.specs.declared.fences.FenceRun.{FenceRun}
 
 -- three or more backticks or tildes, which a word begins with
@@ -32,13 +32,21 @@ has_backtick_behind len words =
     has_byte 96 (drop len (first_word words))
     || list_any (λ w. has_byte 96 w.word) (drop 1 words)
 
+-- dollar signs that begin a formula, which ends in another line
+abbrev pub opens_formula : List SpacedText → Bool
+opens_formula [] = false
+opens_formula (w ∷ ws) =
+    if starts_with nat_eq w.word (codes "$$")
+    then not (contains (codes "$$") (drop 2 w.word)) && not (any_contains (codes "$$") ws) else false
+
 -- the fence that these words open: behind backticks stands no other one
 abbrev pub opened_by : Option FenceRun → List SpacedText → Option FenceKind
 opened_by (Some run) words =
     if run.mark == 96 && has_backtick_behind run.len words then None else Some (Run run)
 opened_by None words =
     if has_pre words && not (has_pre_end words) then Some Pre
-    else if opens_code (first_word words) then Some Code else None
+    else if opens_code (first_word words) then Some Code
+    else if opens_formula words then Some Formula else None
 
 abbrev pub opened : List SpacedText → Option FenceKind
 opened words = opened_by (run_of (first_word words)) words
@@ -63,6 +71,7 @@ is_closed_by fence hanging words = closes fence.kind
     closes : FenceKind → Bool
     closes Pre = has_pre_end words
     closes Code = ends_code (first_word words)
+    closes Formula = any_contains (codes "$$") words
     closes (Run run) = bytes_eq (marks_of hanging) fence.marks && is_long_run run words
 
 -- a line without the marks of a fence ends it

@@ -47,11 +47,12 @@ abbrev pub is_sign_byte : ℕ → Bool
 is_sign_byte c =
     c == 35 || c == 59 || c == 37 || c == 62 || c == 60 || c == 124 || c == 61 || c == 46
 
--- what begins code in a comment that Doxygen reads
+-- what begins code in a comment that Doxygen or JSDoc reads
 abbrev pub opens_code : List ℕ → Bool
 opens_code word =
     starts_with nat_eq word (codes "@code") || starts_with nat_eq word (codes "\\code")
     || starts_with nat_eq word (codes "@verbatim") || starts_with nat_eq word (codes "\\verbatim")
+    || starts_with nat_eq word (codes "@example")
 
 -- and what ends it
 abbrev pub ends_code : List ℕ → Bool
@@ -61,12 +62,12 @@ ends_code word =
     || starts_with nat_eq word (codes "\\endverbatim")
 
 -- what tells a program something of the lines around it: of Markdown an alert, a table of contents
--- or a container, a constraint of Go, and what begins code
+-- or a container, a constraint of Go, what begins a formula, and what begins code
 abbrev pub is_directive : List ℕ → Bool
 is_directive word =
     starts_with nat_eq word (codes "[!") || starts_with nat_eq word (codes "[TOC]")
     || starts_with nat_eq word (codes ":::") || starts_with nat_eq word (codes "+build")
-    || opens_code word
+    || starts_with nat_eq word (codes "$$") || opens_code word
 
 -- what may mean something at the beginning of a line, to a compiler or in Markdown
 abbrev pub is_sign : List ℕ → Bool

@@ -3,14 +3,14 @@ ghost use Rattle.std.specs.Prelude.{◌≡◌, ◌==◌, map, true};
 ghost use Rattle.std.specs.List.{list_any, prefix_len};
 ghost use Rattle.textwrap_marks.specs.Fences.{fence_view, has_backtick_behind, has_pre};
 ghost use Rattle.textwrap_marks.specs.Fences.{has_pre_end, is_closed_by, is_left_by, is_long_run};
-ghost use Rattle.textwrap_marks.specs.Fences.{opened, opened_by, run_of};
+ghost use Rattle.textwrap_marks.specs.Fences.{opened, opened_by, opens_formula, run_of};
 ghost use Rattle.textwrap_marks.specs.Signs.{ArePlain};
 ghost use Rattle.textwrap_marks.specs.Words.{has_byte, spaced_view};
 
 use crate::columns::marks_of;
 use crate::signs::{any_contains, ends_code, first_word, opens_code};
-use crate::words::{SpacedWord, first_byte, has_byte, is_made_of, split_white};
-use textwrap_text::starts::starts_with;
+use crate::words::{SpacedWord, contains, first_byte, has_byte, is_made_of, split_white};
+use textwrap_text::starts::{starts_with, without_start};
 
 /// So many of one character.
 #[derive(Clone, Copy, Debug)]
@@ -26,8 +26,10 @@ pub enum FenceKind {
     Run(FenceRun),
     /// `<pre`.
     Pre,
-    /// `@code` or `@verbatim` of Doxygen.
+    /// `@code` or `@verbatim` of Doxygen, or `@example` of JSDoc.
     Code,
+    /// `$$` of Markdown and TeX.
+    Formula,
 }
 
 /// A fence that is open, and the marks that it stands behind.
@@ -93,6 +95,19 @@ fn has_backtick_behind(len: usize, words: &[SpacedWord<'_>]) -> bool
     has_byte(b'`', &bytes[len.min(bytes.len())..]) | any_backtick(&words[words.len().min(1)..])
 }
 
+/// Whether the words begin a formula by dollar signs, which ends in another line.
+fn opens_formula(words: &[SpacedWord<'_>]) -> bool
+    ensures { result ≡ opens_formula (map spaced_view words.now) }
+{
+    match words {
+        [first, later @ ..] => match without_start(first.word, "$$") {
+            Some(behind) => !contains(behind, "$$") && !any_contains(later, "$$"),
+            None => false,
+        },
+        [] => false,
+    }
+}
+
 /// The fence that these words, which may be known to be plain, open, if they do.
 pub fn opened(plain: bool, words: &[SpacedWord<'_>]) -> Option<FenceKind>
     requires { plain ≡ true → ArePlain (map spaced_view words.now) }
@@ -118,6 +133,8 @@ fn opened_by(run: Option<FenceRun>, plain: bool, words: &[SpacedWord<'_>]) -> Op
                 Some(FenceKind::Pre)
             } else if opens_code(first_word(words)) {
                 Some(FenceKind::Code)
+            } else if opens_formula(words) {
+                Some(FenceKind::Formula)
             } else {
                 None
             }
@@ -142,6 +159,7 @@ pub fn is_closed_by(fence: &Fence, hanging: &str, words: &[SpacedWord<'_>]) -> b
     match fence.kind {
         FenceKind::Pre => has_pre_end(words),
         FenceKind::Code => ends_code(first_word(words)),
+        FenceKind::Formula => any_contains(words, "$$"),
         FenceKind::Run(run) => {
             (marks_of(hanging) == fence.marks.as_str()) & is_long_run(run, words)
         }

@@ -79,8 +79,8 @@ pub fn is_key(word: &str) -> bool
     }
 }
 
-/// Whether a word begins code in a comment that Doxygen reads: `@code`, `@verbatim`, or the same
-/// behind a backslash.
+/// Whether a word begins code in a comment that Doxygen or JSDoc reads: `@code`, `@verbatim`, the same
+/// behind a backslash, or `@example`.
 pub fn opens_code(word: &str) -> bool
     ensures { result ≡ opens_code word.now }
 {
@@ -88,6 +88,7 @@ pub fn opens_code(word: &str) -> bool
         | starts_with(word, "\\code")
         | starts_with(word, "@verbatim")
         | starts_with(word, "\\verbatim")
+        | starts_with(word, "@example")
 }
 
 /// Whether a word ends such code.
@@ -101,7 +102,7 @@ pub fn ends_code(word: &str) -> bool
 }
 
 /// Whether a word tells a program something of the lines around it: `[!NOTE]`, `[TOC]` and `:::note`
-/// of Markdown, `+build` of Go, and what begins code.
+/// of Markdown, `+build` of Go, `$$` before a formula, and what begins code.
 fn is_directive(word: &str) -> bool
     ensures { result ≡ is_directive word.now }
 {
@@ -109,6 +110,7 @@ fn is_directive(word: &str) -> bool
         | starts_with(word, "[TOC]")
         | starts_with(word, ":::")
         | starts_with(word, "+build")
+        | starts_with(word, "$$")
         | opens_code(word)
 }
 

@@ -126,6 +126,18 @@ const ROWS: &[Row] = &[
         "/**\n * One two\n * @code{.c}\n * f(1);\n * g(2);\n * @endcode\n * three four\n */\n",
     ),
     (
+        "code that JSDoc shows, and none of the lines behind it",
+        AT_16,
+        "/**\n * One\n * two\n * @example\n * f(1);\n * g(2);\n */\nOne\ntwo\n",
+        "/**\n * One two\n * @example\n * f(1);\n * g(2);\n */\nOne two\n",
+    ),
+    (
+        "formulas",
+        AT_16,
+        "one\ntwo\n$$\na = b\nc = d\n$$\none\ntwo\n$$a$$\none\ntwo\n$$e\nf = g\nh$$\none\ntwo\n",
+        "one two\n$$\na = b\nc = d\n$$\none two\n$$a$$\none two\n$$e\nf = g\nh$$\none two\n",
+    ),
+    (
         "constraints of Go",
         AT_16,
         "// +build linux\n// +build mips\n",

@@ -12,7 +12,7 @@ use Rattle.ucd_derived.specs.GraphemeExtendRanges.{grapheme_extend_ranges}
 use Rattle.ucd_table.specs.Rows.{in_ranges}
 
 -- what passes for all of a range passes for each number in it
-each-of : (p : ℕ → Bool) (a n c : ℕ) → list_all p (range_with_len a n) ≡ true → a ≤ c → c < a + n
+pub each-of : (p : ℕ → Bool) (a n c : ℕ) → list_all p (range_with_len a n) ≡ true → a ≤ c → c < a + n
     → p c ≡ true
 each-of p a n c all le lt = by (p c) refl
   where

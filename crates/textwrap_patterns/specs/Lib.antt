@@ -1,5 +1,7 @@
 pub mod Charsets
+pub mod Dictionaries
 pub mod Entries
+pub mod Laws
 pub mod Letters
 pub mod Listed
 pub mod Parsing

@@ -5,6 +5,7 @@
 mod charsets;
 pub mod entries;
 pub mod errors;
+pub mod laws;
 pub mod letters;
 pub mod parsing;
 pub mod patterns;

@@ -1,0 +1,188 @@
+-- Lines that say nothing.
+use Rattle.std.specs.Prelude.{Option, None, Some, Ok, Err, ◌==◌, if◌then◌else◌, is_some}
+use Rattle.std.specs.Str.{trim}
+use Rattle.std.specs.Str.Lines.{lines}
+use Rattle.textwrap_patterns.proofs.Common.{All, All-head, All-tail, Bool, List, ℕ, [], ap, arith, cases_Bool, false}
+use Rattle.textwrap_patterns.proofs.Common.{inl, inr, length, map, refl, subst, suc, sym, true, false≢true}
+use Rattle.textwrap_patterns.proofs.Common.{◌++◌, ◌∙◌, ◌∷◌, ◌≡◌}
+use Rattle.textwrap_patterns.specs.Entries.{Said, Pattern, Exception, Left, Right, CompoundLeft}
+use Rattle.textwrap_patterns.specs.Entries.{CompoundRight, NextGroup, Nothing, Wrong}
+use Rattle.textwrap_patterns.specs.Laws.{AreTex, is_comment, uncommented, without_line}
+use Rattle.textwrap_patterns.specs.Listed.{Listed}
+use Rattle.textwrap_patterns.specs.Parsing.{Outcome, after_mark, and_then, closed, comment_in, exceptions_mark, end_fault, ended, is_list}
+use Rattle.textwrap_patterns.specs.Parsing.{is_closed, is_group, is_minima, is_skipped, is_tex, line_said}
+use Rattle.textwrap_patterns.specs.Parsing.{names_minima, opened, patterns_mark, opened_text, parsed, section_after}
+use Rattle.textwrap_patterns.specs.Parsing.{tex_after, tex_said, unmarked, with_all, with_lines, no_patterns}
+use Rattle.textwrap_patterns.specs.declared.entries.Section.{Section}
+use Rattle.textwrap_patterns.specs.declared.entries.Section.TheVariants.{Start, Listing, Preamble}
+use Rattle.textwrap_patterns.specs.declared.entries.Section.TheVariants.{Patterns, Exceptions}
+use Rattle.textwrap_patterns.specs.declared.entries.Section.TheVariants.{Behind, Minima}
+use Rattle.textwrap_patterns.specs.declared.errors.Fault.{Fault}
+
+-- ---- the numbers of lines
+
+all-shifted : (n m : ℕ) (saids : List Said) (h : Listed) (next other : Listed → Outcome)
+    → ((k : Listed) → without_line (next k) ≡ without_line (other k))
+    → without_line (and_then (with_all n saids h) next) ≡ without_line (and_then (with_all m saids h) other)
+all-shifted n m [] h next other same = same h
+all-shifted n m (Pattern p ∷ more) h next other same =
+    all-shifted n m more (record h { patterns = h.patterns ++ p ∷ [] }) next other same
+all-shifted n m (Exception e ∷ more) h next other same =
+    all-shifted n m more (record h { exceptions = h.exceptions ++ e ∷ [] }) next other same
+all-shifted n m (Left left ∷ more) h next other same =
+    all-shifted n m more (record h { left = left }) next other same
+all-shifted n m (Right right ∷ more) h next other same =
+    all-shifted n m more (record h { right = right }) next other same
+all-shifted n m (CompoundLeft left ∷ more) h next other same =
+    all-shifted n m more (record h { compound_left = left }) next other same
+all-shifted n m (CompoundRight right ∷ more) h next other same =
+    all-shifted n m more (record h { compound_right = right }) next other same
+all-shifted n m (NextGroup ∷ more) h next other same = elim (cases_Bool (length h.joints == 0)) [
+  | inl none ↦ rw none (all-shifted n m more (record h { joints = h.patterns; patterns = [] }) next other same)
+  | inr some ↦ rw some refl
+]
+all-shifted n m (Nothing ∷ more) h next other same = all-shifted n m more h next other same
+all-shifted n m (Wrong fault ∷ more) h next other same = refl
+
+end-shifted : (n m : ℕ) (fault : Option Fault) (h : Listed)
+    → without_line (ended n fault h) ≡ without_line (ended m fault h)
+end-shifted n m None h = refl
+end-shifted n m (Some fault) h = refl
+
+lines-shifted : (n m : ℕ) (section : Section) (ls : List (List ℕ)) (h : Listed)
+    → without_line (with_lines n section ls h) ≡ without_line (with_lines m section ls h)
+lines-shifted n m section [] h =
+    end-shifted n m (end_fault section (length h.patterns) (length h.exceptions)) h
+lines-shifted n m section (line ∷ more) h =
+    all-shifted (suc n) (suc m) (line_said section line) h (with_lines (suc n) section_next more)
+    (with_lines (suc m) section_next more) (lines-shifted (suc n) (suc m) section_next more)
+  where
+    section_next : Section
+    section_next = section_after section line
+
+-- ---- lists
+
+pub comment-skipped : (line : List ℕ) → is_comment line ≡ is_skipped line
+comment-skipped [] = refl
+comment-skipped (b ∷ bs) = grind arith
+
+line-skipped : (n : ℕ) (before after : List (List ℕ)) (line : List ℕ) (h : Listed)
+    → is_comment (trim line) ≡ true
+    → without_line (with_lines n Listing (before ++ line ∷ after) h)
+    ≡ without_line (with_lines n Listing (before ++ after) h)
+line-skipped n [] after line h is =
+    rw (sym (comment-skipped (trim line)) ∙ is) (lines-shifted (suc n) n Listing after h)
+line-skipped n (first ∷ before) after line h is =
+    all-shifted (suc n) (suc n) (line_said Listing first) h
+    (with_lines (suc n) Listing (before ++ line ∷ after)) (with_lines (suc n) Listing (before ++ after))
+    (λ k. line-skipped (suc n) before after line k is)
+
+list-behind : (first : List ℕ) → is_tex first ≡ false → section_after Start first ≡ Listing
+list-behind first is = rw is refl
+
+first-skipped : (first line : List ℕ) (before after : List (List ℕ)) → is_tex first ≡ false
+    → is_comment (trim line) ≡ true
+    → without_line (with_lines 0 Start (first ∷ before ++ line ∷ after) no_patterns)
+    ≡ without_line (with_lines 0 Start (first ∷ before ++ after) no_patterns)
+first-skipped first line before after list is = subst (λ section.
+    without_line (and_then first_said (with_lines 1 section (before ++ line ∷ after)))
+    ≡ without_line (and_then first_said (with_lines 1 section (before ++ after))))
+    (sym (list-behind first list)) (all-shifted 1 1 (line_said Start first) no_patterns
+    (with_lines 1 Listing (before ++ line ∷ after)) (with_lines 1 Listing (before ++ after))
+    (λ k. line-skipped 1 before after line k is))
+  where
+    first_said : Outcome
+    first_said = with_all 1 (line_said Start first) no_patterns
+
+pub lists-skipped : (text other first line : List ℕ) (before after : List (List ℕ))
+    → is_tex first ≡ false → is_comment (trim line) ≡ true
+    → lines (unmarked text) ≡ first ∷ before ++ line ∷ after
+    → lines (unmarked other) ≡ first ∷ before ++ after
+    → without_line (parsed text) ≡ without_line (parsed other)
+lists-skipped text other first line before after list is whole less =
+    ap (λ ls. without_line (with_lines 0 Start ls no_patterns)) whole
+    ∙ first-skipped first line before after list is
+    ∙ ap (λ ls. without_line (with_lines 0 Start ls no_patterns)) (sym less)
+
+-- ---- texts of TeX
+
+-- a section of a text of TeX but for the numbers of letters
+abbrev IsOfTex : Section → Type 0
+IsOfTex section = (is_list section ≡ false) × (is_minima section ≡ false)
+
+one-of : (b : Bool) (x y : Section) → IsOfTex x → IsOfTex y → IsOfTex (if b then x else y)
+one-of true x y is other = is
+one-of false x y is other = other
+
+tex_after-of : (section : Section) (cs : List ℕ) → IsOfTex section → IsOfTex (tex_after section cs)
+tex_after-of section cs is = one-of (is_group now) (closed now (opened_text section cs)) section
+    (one-of (is_closed (opened_text section cs)) Behind now (refl, refl) is_now) is
+  where
+    now : Section
+    now = opened section cs
+
+    opens_patterns : Bool
+    opens_patterns = is_some (after_mark patterns_mark cs)
+
+    opens_exceptions : Bool
+    opens_exceptions = is_some (after_mark exceptions_mark cs)
+
+    is_now : IsOfTex now
+    is_now = one-of (is_group section) section (if opens_patterns then Patterns else
+        if opens_exceptions then Exceptions else section) is (one-of opens_patterns Patterns
+        (if opens_exceptions then Exceptions else section) (refl, refl)
+        (one-of opens_exceptions Exceptions section (refl, refl) is))
+
+tex-line : (section : Section) (line : List ℕ) → IsOfTex section → names_minima (comment_in line) ≡ false
+    → (line_said section line ≡ tex_said section (uncommented line))
+    × (section_after section line ≡ tex_after section (uncommented line))
+tex-line Start line is none = absurd (false≢true (sym is.0))
+tex-line Listing line is none = absurd (false≢true (sym is.0))
+tex-line Preamble line is none = rw none (refl, refl)
+tex-line Minima line is none = absurd (false≢true (sym is.1))
+tex-line Patterns line is none = (refl, refl)
+tex-line Exceptions line is none = (refl, refl)
+tex-line Behind line is none = (refl, refl)
+
+-- what lines of TeX say, by what stands before their comments
+abbrev with_bare : ℕ → Section → List (List ℕ) → Listed → Outcome
+with_bare n section [] h = ended n (end_fault section (length h.patterns) (length h.exceptions)) h
+with_bare n section (line ∷ more) h =
+    and_then (with_all (suc n) (tex_said section line) h) (with_bare (suc n) (tex_after section line) more)
+
+then-same : (o : Outcome) (next other : Listed → Outcome) → ((k : Listed) → next k ≡ other k)
+    → and_then o next ≡ and_then o other
+then-same (Ok k) next other same = same k
+then-same (Err e) next other same = refl
+
+abbrev IsBare : List ℕ → Type 0
+IsBare line = names_minima (comment_in line) ≡ false
+
+bare-lines : (n : ℕ) (section : Section) (ls : List (List ℕ)) (h : Listed) → IsOfTex section
+    → All IsBare ls
+    → with_lines n section ls h ≡ with_bare n section (map uncommented ls) h
+bare-lines n section [] h is none = refl
+bare-lines n section (line ∷ more) h is none =
+    rw (here.0, here.1) (then-same (with_all (suc n) (tex_said section (uncommented line)) h)
+    (with_lines (suc n) behind more) (with_bare (suc n) behind (map uncommented more))
+    (λ k. bare-lines (suc n) behind more k (tex_after-of section (uncommented line) is)
+    (All-tail IsBare line more none)))
+  where
+    here : (line_said section line ≡ tex_said section (uncommented line))
+        × (section_after section line ≡ tex_after section (uncommented line))
+    here = tex-line section line is (All-head IsBare line more none)
+
+    behind : Section
+    behind = tex_after section (uncommented line)
+
+-- the first line of a text of TeX is read as one of its header
+bare-text : (ls : List (List ℕ)) → AreTex ls
+    → with_lines 0 Start ls no_patterns ≡ with_bare 0 Preamble (map uncommented ls) no_patterns
+bare-text [] are = absurd are
+bare-text (first ∷ more) are = rw are.0 (bare-lines 0 Preamble (first ∷ more) no_patterns (refl, refl) are.1)
+
+pub tex-skipped : (text other : List ℕ) → AreTex (lines (unmarked text)) → AreTex (lines (unmarked other))
+    → map uncommented (lines (unmarked text)) ≡ map uncommented (lines (unmarked other))
+    → parsed text ≡ parsed other
+tex-skipped text other tex same_tex same = bare-text (lines (unmarked text)) tex
+    ∙ ap (λ ls. with_bare 0 Preamble ls no_patterns) same ∙ sym (bare-text (lines (unmarked other)) same_tex)

@@ -1,0 +1,84 @@
+-- Laws of reading: what the definition of `parsed` has to give, said without it.
+use Rattle.std.specs.Prelude.{◌≡◌, ℕ, ◌==◌, ◌||◌, Bool, true, false, List, [], ◌∷◌, ◌++◌, All}
+use Rattle.std.specs.Prelude.{◌+◌, ◌<◌, ◌≤◌, ◌^◌, codes, length}
+use Rattle.std.specs.Prelude.{Option, None, Some, Result, Ok, Err, chars, map}
+use Rattle.std.specs.Str.{trim}
+use Rattle.std.specs.Str.Lines.{lines}
+use Rattle.textwrap_patterns.specs.Dictionaries.{IsException, IsPattern, list_lines, tex_lines}
+use Rattle.textwrap_patterns.specs.Dictionaries.{text_of_lines}
+use Rattle.textwrap_patterns.specs.Listed.{ExceptionText, Listed, PatternText, listed}
+use Rattle.textwrap_patterns.specs.Parsing.{Outcome, before_comment, comment_in, is_tex, names_minima}
+use Rattle.textwrap_patterns.specs.Parsing.{parsed, unmarked}
+use Rattle.textwrap_patterns.specs.declared.errors.Fault.{Fault}
+use Rattle.textwrap_patterns.specs.declared.errors.ParseError.TheVariants.{Memory, Line}
+
+-- ---- comments
+
+-- what is read, or what is wrong, in whatever line
+abbrev pub without_line : Outcome → Result Listed (Option Fault)
+without_line (Ok h) = Ok h
+without_line (Err (Memory error)) = Err None
+without_line (Err (Line n fault)) = Err (Some fault)
+
+abbrev pub is_comment : List ℕ → Bool
+is_comment [] = true
+is_comment (b ∷ bs) = (b == 0x25) || (b == 0x23)
+
+-- behind the first line of a list, one that is empty or a comment makes no difference but to the numbers of
+-- lines in errors
+abbrev pub CommentsOfListsAreSkipped : Type 0
+CommentsOfListsAreSkipped =
+    (text other first line : List ℕ) (before after : List (List ℕ)) → is_tex first ≡ false
+    → is_comment (trim line) ≡ true → lines (unmarked text) ≡ first ∷ before ++ line ∷ after
+    → lines (unmarked other) ≡ first ∷ before ++ after
+    → without_line (parsed text) ≡ without_line (parsed other)
+
+-- the characters of a line before its comment
+abbrev pub uncommented : List ℕ → List ℕ
+uncommented line = before_comment (chars line)
+
+-- a text of TeX, in which no comment begins the numbers of letters
+abbrev pub AreTex : List (List ℕ) → Type 0
+AreTex [] = ⊥
+AreTex (first ∷ more) =
+    (is_tex first ≡ true) × All (λ line. names_minima (comment_in line) ≡ false) (first ∷ more)
+
+-- in such a text no comment makes a difference
+abbrev pub CommentsOfTexAreSkipped : Type 0
+CommentsOfTexAreSkipped =
+    (text other : List ℕ) → AreTex (lines (unmarked text)) → AreTex (lines (unmarked other))
+    → map uncommented (lines (unmarked text)) ≡ map uncommented (lines (unmarked other))
+    → parsed text ≡ parsed other
+
+-- ---- written texts
+
+-- so many patterns and exceptions can be read
+pub record AreWritable (joints patterns : List PatternText) (exceptions : List ExceptionText) : Type 0 where
+  pub are_joints : All IsPattern joints
+  pub are_patterns : All IsPattern patterns
+  pub are_exceptions : All IsException exceptions
+  pub few : length patterns ≤ 2 ^ 24
+  pub some : 0 < length patterns + length exceptions
+
+-- behind a line that is empty, a list is read as the patterns and exceptions of which it was written
+abbrev pub ListsAreRead : Type 0
+ListsAreRead =
+    (joints patterns : List PatternText) (exceptions : List ExceptionText)
+    → AreWritable joints patterns exceptions
+    → parsed (text_of_lines ([] ∷ list_lines joints patterns exceptions))
+    ≡ Ok (record (listed patterns exceptions 2 3) { joints = joints })
+
+-- and behind a line that names the charset, where 2 letters stay behind a hyphen
+abbrev pub NamedListsAreRead : Type 0
+NamedListsAreRead =
+    (joints patterns : List PatternText) (exceptions : List ExceptionText)
+    → AreWritable joints patterns exceptions
+    → parsed (text_of_lines (codes "UTF-8" ∷ list_lines joints patterns exceptions))
+    ≡ Ok (record (listed patterns exceptions 2 2) { joints = joints })
+
+-- as TeX they are read as the same
+abbrev pub TexIsRead : Type 0
+TexIsRead =
+    (patterns : List PatternText) (exceptions : List ExceptionText) → AreWritable [] patterns exceptions
+    → parsed (text_of_lines (tex_lines patterns exceptions))
+    ≡ parsed (text_of_lines ([] ∷ list_lines [] patterns exceptions))

@@ -7,7 +7,8 @@ use Rattle.textwrap_patterns.proofs.Common.{inl, inr, length, map, refl, subst, 
 use Rattle.textwrap_patterns.proofs.Common.{◌++◌, ◌∙◌, ◌∷◌, ◌≡◌}
 use Rattle.textwrap_patterns.specs.Entries.{Said, Pattern, Exception, Left, Right, CompoundLeft}
 use Rattle.textwrap_patterns.specs.Entries.{CompoundRight, NextGroup, Nothing, Wrong}
-use Rattle.textwrap_patterns.specs.Laws.{AreTex, is_comment, uncommented, without_line}
+use Rattle.textwrap_patterns.specs.Faults.{is_comment}
+use Rattle.textwrap_patterns.specs.Laws.{AreTex, uncommented, without_line}
 use Rattle.textwrap_patterns.specs.Listed.{Listed}
 use Rattle.textwrap_patterns.specs.Parsing.{Outcome, after_mark, and_then, closed, comment_in, exceptions_mark, end_fault, ended, is_list}
 use Rattle.textwrap_patterns.specs.Parsing.{is_closed, is_group, is_minima, is_skipped, is_tex, line_said}
@@ -77,7 +78,7 @@ line-skipped n (first ∷ before) after line h is =
     (with_lines (suc n) Listing (before ++ line ∷ after)) (with_lines (suc n) Listing (before ++ after))
     (λ k. line-skipped (suc n) before after line k is)
 
-list-behind : (first : List ℕ) → is_tex first ≡ false → section_after Start first ≡ Listing
+pub list-behind : (first : List ℕ) → is_tex first ≡ false → section_after Start first ≡ Listing
 list-behind first is = rw is refl
 
 first-skipped : (first line : List ℕ) (before after : List (List ℕ)) → is_tex first ≡ false

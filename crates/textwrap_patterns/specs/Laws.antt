@@ -1,11 +1,12 @@
 -- Laws of reading: what the definition of `parsed` has to give, said without it.
-use Rattle.std.specs.Prelude.{◌≡◌, ℕ, ◌==◌, ◌||◌, Bool, true, false, List, [], ◌∷◌, ◌++◌, All}
-use Rattle.std.specs.Prelude.{◌+◌, ◌<◌, ◌≤◌, ◌^◌, codes, length}
+use Rattle.std.specs.Prelude.{◌≡◌, ℕ, true, false, List, [], ◌∷◌, ◌++◌, All}
+use Rattle.std.specs.Prelude.{◌+◌, ◌<◌, ◌≤◌, ◌^◌, ◌↔◌, codes, length}
 use Rattle.std.specs.Prelude.{Option, None, Some, Result, Ok, Err, chars, map}
 use Rattle.std.specs.Str.{trim}
 use Rattle.std.specs.Str.Lines.{lines}
 use Rattle.textwrap_patterns.specs.Dictionaries.{IsException, IsPattern, list_lines, tex_lines}
 use Rattle.textwrap_patterns.specs.Dictionaries.{text_of_lines}
+use Rattle.textwrap_patterns.specs.Faults.{IsFirstWrong, groups_in, is_comment, is_of_line}
 use Rattle.textwrap_patterns.specs.Listed.{ExceptionText, Listed, PatternText, listed}
 use Rattle.textwrap_patterns.specs.Parsing.{Outcome, before_comment, comment_in, is_tex, names_minima}
 use Rattle.textwrap_patterns.specs.Parsing.{parsed, unmarked}
@@ -19,10 +20,6 @@ abbrev pub without_line : Outcome → Result Listed (Option Fault)
 without_line (Ok h) = Ok h
 without_line (Err (Memory error)) = Err None
 without_line (Err (Line n fault)) = Err (Some fault)
-
-abbrev pub is_comment : List ℕ → Bool
-is_comment [] = true
-is_comment (b ∷ bs) = (b == 0x25) || (b == 0x23)
 
 -- behind the first line of a list, one that is empty or a comment makes no difference but to the numbers of
 -- lines in errors
@@ -49,6 +46,15 @@ CommentsOfTexAreSkipped =
     (text other : List ℕ) → AreTex (lines (unmarked text)) → AreTex (lines (unmarked other))
     → map uncommented (lines (unmarked text)) ≡ map uncommented (lines (unmarked other))
     → parsed text ≡ parsed other
+
+-- ---- errors
+
+-- in a list of two groups at most, the line that an error names is the first that is wrong in this way
+abbrev pub ErrorsAreOfLines : Type 0
+ErrorsAreOfLines =
+    (text first : List ℕ) (more : List (List ℕ)) (n : ℕ) (fault : Fault) → is_tex first ≡ false
+    → lines (unmarked text) ≡ first ∷ more → groups_in (first ∷ more) ≤ 1 → is_of_line fault ≡ true
+    → (parsed text ≡ Err (Line n fault)) ↔ IsFirstWrong 0 (first ∷ more) n fault
 
 -- ---- written texts
 

@@ -1,6 +1,7 @@
 pub mod Charsets
 pub mod Dictionaries
 pub mod Entries
+pub mod Faults
 pub mod Laws
 pub mod Letters
 pub mod Listed

@@ -1,6 +1,6 @@
 //! Laws of the definitions on dictionaries.
 ghost use Rattle.textwrap_patterns.specs.Laws.{CommentsOfListsAreSkipped, CommentsOfTexAreSkipped};
-ghost use Rattle.textwrap_patterns.specs.Laws.{ListsAreRead, NamedListsAreRead, TexIsRead};
+ghost use Rattle.textwrap_patterns.specs.Laws.{ErrorsAreOfLines, ListsAreRead, NamedListsAreRead, TexIsRead};
 
 /// A line that is empty or a comment makes no difference behind the first of a list, but to the
 /// numbers of lines in errors. Nor do comments in a text of TeX in which none begins the numbers of
@@ -8,6 +8,12 @@ ghost use Rattle.textwrap_patterns.specs.Laws.{ListsAreRead, NamedListsAreRead, 
 pub fn comments_are_skipped()
     ensures lists { CommentsOfListsAreSkipped }
     ensures tex { CommentsOfTexAreSkipped }
+{}
+
+/// In a list of at most two groups an error is told of a line exactly where this line is the first that
+/// is wrong by itself, in the way that is told.
+pub fn errors_are_of_lines()
+    ensures { ErrorsAreOfLines }
 {}
 
 /// A text that is written from any patterns and exceptions is read as these: a list, with the minima

@@ -1,0 +1,297 @@
+-- The first line of a list that is wrong.
+use Rattle.std.specs.Prelude.{Option, None, Some, Ok, Err, ◌||◌, if◌then◌else◌, codes, ◌↔◌}
+use Rattle.std.specs.Str.{trim}
+use Rattle.std.specs.Str.Lines.{lines}
+use Rattle.textwrap_text.proofs.Lists.Parts.{starts_with-rest}
+use Rattle.textwrap_patterns.proofs.Common.{Bool, List, ℕ, [], ap, arith, cases_Bool, drop, false, false≢true, filter}
+use Rattle.textwrap_patterns.proofs.Common.{inl, inr, length, refl, subst, suc, sym, true, ⊤, ◌++◌, ◌∙◌, ◌∷◌}
+use Rattle.textwrap_patterns.proofs.Common.{◌≡◌, ◌⊎◌, ◌≤◌}
+use Rattle.textwrap_patterns.proofs.FirstWrong.{IsJudged, command-none, judged, of-word, wrong-says}
+use Rattle.textwrap_patterns.proofs.Skipped.{comment-skipped, list-behind}
+use Rattle.textwrap_patterns.specs.Charsets.{names_charset, plain_name}
+use Rattle.textwrap_patterns.specs.Entries.{Said, Pattern, Exception, Left, Right, CompoundLeft, CompoundRight}
+use Rattle.textwrap_patterns.specs.Entries.{NextGroup, Nothing, Wrong, begins, list_said, other_said}
+use Rattle.textwrap_patterns.specs.Faults.{IsFirstWrong, IsWrong, IsWrongAt, begins_word, groups_in}
+use Rattle.textwrap_patterns.specs.Faults.{is_of_line}
+use Rattle.textwrap_patterns.specs.Listed.{Listed}
+use Rattle.textwrap_patterns.specs.Parsing.{Outcome, and_then, count_fault, ended, is_skipped, is_tex, line_said}
+use Rattle.textwrap_patterns.specs.Parsing.{listed_said, no_patterns, parsed, unmarked, with_all, with_lines}
+use Rattle.textwrap_patterns.specs.declared.entries.Section.TheVariants.{Start, Listing}
+use Rattle.textwrap_patterns.specs.declared.errors.Fault.{Fault}
+use Rattle.textwrap_patterns.specs.declared.errors.Fault.TheVariants as fault
+use Rattle.textwrap_patterns.specs.declared.errors.ParseError.TheVariants.{Memory, Line}
+
+-- ---- errors
+
+abbrev line_told : Outcome → ℕ
+line_told (Ok h) = 0
+line_told (Err (Memory error)) = 0
+line_told (Err (Line n f)) = n
+
+abbrev fault_told : Outcome → Fault
+fault_told (Ok h) = fault.Empty
+fault_told (Err (Memory error)) = fault.Empty
+fault_told (Err (Line n f)) = f
+
+abbrev is_told : Outcome → Bool
+is_told (Ok h) = false
+is_told (Err error) = true
+
+-- ---- one line
+
+-- no third group begins in these lines
+abbrev Room : Listed → List (List ℕ) → Type 0
+Room h ls = (groups_in ls ≡ 0) ⊎ ((length h.joints ≡ 0) × (groups_in ls ≤ 1))
+
+-- a line is wrong in one way, or it is not and reading goes on
+abbrev IsLine : ℕ → List Said → Listed → List (List ℕ) → (Fault → Type 0) → Type 0
+IsLine m saids h ls W =
+    ((f : Fault) × (with_all m saids h ≡ Err (Line m f)) × W f × ((g : Fault) → W g → g ≡ f))
+    ⊎ ((k : Listed) × (with_all m saids h ≡ Ok k) × Room k ls × ((g : Fault) → ¬ W g))
+
+module _ (m n : ℕ) (f : Fault) (saids : List Said) (h : Listed) (ls : List (List ℕ)) (W : Fault → Type 0)
+    (Later : Type 0) (next : Listed → Outcome)
+    (rest : (k : Listed) → Room k ls → (next k ≡ Err (Line n f)) ↔ Later) where
+  line-to : IsLine m saids h ls W → and_then (with_all m saids h) next ≡ Err (Line n f)
+      → ((n ≡ m) × W f) ⊎ (((g : Fault) → ¬ W g) × Later)
+  line-to (inl (g, is, wrong, one)) told =
+      let same = sym (ap (λ o. and_then o next) is) ∙ told in
+      inl (sym (ap line_told same), subst W (ap fault_told same) wrong)
+  line-to (inr (k, is, room, none)) told =
+      inr (none, (rest k room).0 (sym (ap (λ o. and_then o next) is) ∙ told))
+
+  line-from : IsLine m saids h ls W → ((n ≡ m) × W f) ⊎ (((g : Fault) → ¬ W g) × Later)
+      → and_then (with_all m saids h) next ≡ Err (Line n f)
+  line-from (inl (g, is, wrong, one)) (inl (here, own)) = ap (λ o. and_then o next) is
+      ∙ ap (λ e. Err (Line m e)) (sym (one f own)) ∙ ap (λ l. Err (Line l f)) (sym here)
+  line-from (inl (g, is, wrong, one)) (inr (none, later)) = absurd (none g wrong)
+  line-from (inr (k, is, room, none)) (inl (here, own)) = absurd (none f own)
+  line-from (inr (k, is, room, none)) (inr (nothing, later)) =
+      ap (λ o. and_then o next) is ∙ (rest k room).1 later
+
+counted : (t : List ℕ → Bool) (line : List ℕ) (ls : List (List ℕ)) (b : Bool) → t line ≡ b
+    → length (filter t (line ∷ ls)) ≡ (if b then suc (length (filter t ls)) else length (filter t ls))
+counted t line ls true is = rw is refl
+counted t line ls false is = rw is refl
+
+abbrev is_group_line : List ℕ → Bool
+is_group_line line = begins (codes "NEXTLEVEL") (trim line)
+
+groups-more : (line : List ℕ) (ls : List (List ℕ)) → groups_in ls ≤ groups_in (line ∷ ls)
+groups-more line ls = elim (cases_Bool (is_group_line line)) [
+  | inl is ↦ omega (arith, counted is_group_line line ls true is)
+  | inr is ↦ omega (arith, counted is_group_line line ls false is)
+]
+
+room-kept : (h k : Listed) (line : List ℕ) (ls : List (List ℕ)) → length k.joints ≡ length h.joints
+    → Room h (line ∷ ls) → Room k ls
+room-kept h k line ls same (inl none) = inl (omega (arith, none, groups-more line ls))
+room-kept h k line ls same (inr (joints, few)) = inr (same ∙ joints, omega (arith, few, groups-more line ls))
+
+-- it says nothing that is wrong
+abbrev IsRight : Said → Type 0
+IsRight (Pattern p) = ⊤
+IsRight (Exception e) = ⊤
+IsRight (Left n) = ⊤
+IsRight (Right n) = ⊤
+IsRight (CompoundLeft n) = ⊤
+IsRight (CompoundRight n) = ⊤
+IsRight NextGroup = ⊤
+IsRight Nothing = ⊤
+IsRight (Wrong f) = ⊥
+
+unright : (line : List ℕ) (said : Said) → list_said Listing line ≡ said → IsRight said → (g : Fault)
+    → IsWrong g line → ⊥
+unright line said is right g wrong = subst IsRight (sym is ∙ (wrong-says g line wrong).1) right
+
+abbrev fault_said : Said → Fault
+fault_said (Pattern p) = fault.Empty
+fault_said (Exception e) = fault.Empty
+fault_said (Left n) = fault.Empty
+fault_said (Right n) = fault.Empty
+fault_said (CompoundLeft n) = fault.Empty
+fault_said (CompoundRight n) = fault.Empty
+fault_said NextGroup = fault.Empty
+fault_said Nothing = fault.Empty
+fault_said (Wrong f) = f
+
+group-is : (m : ℕ) (line : List ℕ) (h : Listed) (ls : List (List ℕ)) → is_group_line line ≡ true
+    → list_said Listing (trim line) ≡ NextGroup → Room h (line ∷ ls)
+    → IsLine m (NextGroup ∷ []) h ls (λ f. IsWrong f (trim line))
+group-is m line h ls group is (inl none) =
+    absurd (omega (arith, none, counted is_group_line line ls true group))
+group-is m line h ls group is (inr (joints, few)) = inr (
+  record h { joints = h.patterns; patterns = [] },
+  rw joints refl,
+  inl (omega (arith, few, counted is_group_line line ls true group)),
+  unright (trim line) NextGroup is tt,
+)
+
+goes-on : (m : ℕ) (line : List ℕ) (h k : Listed) (ls : List (List ℕ)) (said : Said)
+    → with_all m (said ∷ []) h ≡ Ok k → length k.joints ≡ length h.joints → IsRight said
+    → list_said Listing (trim line) ≡ said → Room h (line ∷ ls)
+    → IsLine m (said ∷ []) h ls (λ f. IsWrong f (trim line))
+goes-on m line h k ls said told same right is room =
+    inr (k, told, room-kept h k line ls same room, unright (trim line) said is right)
+
+said-is : (m : ℕ) (line : List ℕ) (h : Listed) (ls : List (List ℕ)) (said : Said) → IsJudged (trim line) said
+    → list_said Listing (trim line) ≡ said → Room h (line ∷ ls)
+    → IsLine m (said ∷ []) h ls (λ f. IsWrong f (trim line))
+said-is m line h ls (Pattern p) judge is room =
+    goes-on m line h (record h { patterns = h.patterns ++ p ∷ [] }) ls (Pattern p) refl refl tt is room
+said-is m line h ls (Exception e) judge is room =
+    goes-on m line h (record h { exceptions = h.exceptions ++ e ∷ [] }) ls (Exception e) refl refl tt is room
+said-is m line h ls (Left n) judge is room =
+    goes-on m line h (record h { left = n }) ls (Left n) refl refl tt is room
+said-is m line h ls (Right n) judge is room =
+    goes-on m line h (record h { right = n }) ls (Right n) refl refl tt is room
+said-is m line h ls (CompoundLeft n) judge is room =
+    goes-on m line h (record h { compound_left = n }) ls (CompoundLeft n) refl refl tt is room
+said-is m line h ls (CompoundRight n) judge is room =
+    goes-on m line h (record h { compound_right = n }) ls (CompoundRight n) refl refl tt is room
+said-is m line h ls NextGroup judge is room = group-is m line h ls judge is room
+said-is m line h ls Nothing judge is room = goes-on m line h h ls Nothing refl refl tt is room
+said-is m line h ls (Wrong f) judge is room =
+    inl (f, refl, judge, λ g wrong. ap fault_said (sym ((wrong-says g (trim line) wrong).1) ∙ is))
+
+unshown : (line : List ℕ) → is_skipped line ≡ true → (g : Fault) → IsWrong g line → ⊥
+unshown line skipped g wrong =
+    false≢true (sym ((wrong-says g line wrong).0) ∙ comment-skipped line ∙ skipped)
+
+line-by : (m : ℕ) (line : List ℕ) (h : Listed) (ls : List (List ℕ)) (b : Bool) → is_skipped (trim line) ≡ b
+    → Room h (line ∷ ls)
+    → IsLine m (if b then [] else list_said Listing (trim line) ∷ []) h ls (λ f. IsWrong f (trim line))
+line-by m line h ls true is room =
+    inr (h, refl, room-kept h h line ls refl room, unshown (trim line) is)
+line-by m line h ls false is room = said-is m line h ls (list_said Listing (trim line))
+    (judged (trim line) (comment-skipped (trim line) ∙ is)) refl room
+
+-- ---- the first line
+
+named : (word line : List ℕ) → names_charset (plain_name (word ++ drop (length word) line)) ≡ false
+    → begins word line ≡ true → names_charset (plain_name line) ≡ false
+named word line none is = of-word (λ l. names_charset (plain_name l) ≡ false) word line (drop (length word) line)
+    (starts_with-rest word line is) none
+
+either : (a b : Bool) (P : Type 0) → (a || b) ≡ true → (a ≡ true → P) → (b ≡ true → P) → P
+either true b P is one other = one refl
+either false b P is one other = other is
+
+-- no word of libhyphen names a charset
+unnamed : (line : List ℕ) → begins_word line ≡ true → names_charset (plain_name line) ≡ false
+unnamed line is =
+    let none = names_charset (plain_name line) ≡ false in
+    either (begins (codes "LEFTHYPHENMIN") line) _ none is (named (codes "LEFTHYPHENMIN") line refl)
+    (λ second. either (begins (codes "RIGHTHYPHENMIN") line) _ none second (named (codes "RIGHTHYPHENMIN") line refl)
+    (λ third. either (begins (codes "COMPOUNDLEFTHYPHENMIN") line) _ none third
+    (named (codes "COMPOUNDLEFTHYPHENMIN") line refl)
+    (λ fourth. either (begins (codes "COMPOUNDRIGHTHYPHENMIN") line) _ none fourth
+    (named (codes "COMPOUNDRIGHTHYPHENMIN") line refl)
+    (λ fifth. either (begins (codes "NOHYPHEN") line) (begins (codes "NEXTLEVEL") line) none fifth
+    (named (codes "NOHYPHEN") line refl) (named (codes "NEXTLEVEL") line refl)))))
+
+wordless : (line : List ℕ) → names_charset (plain_name line) ≡ true → begins_word line ≡ false
+wordless line is = elim (cases_Bool (begins_word line)) [
+  | inl word ↦ absurd (false≢true (sym (unnamed line word) ∙ is))
+  | inr other ↦ other
+]
+
+charset-said : (line : List ℕ) → names_charset (plain_name line) ≡ true → list_said Start line ≡ Right 2
+charset-said line is =
+    ap (λ said. Rattle.std.specs.Option.unwrap_or said (other_said Start line)) (command-none line (wordless line is))
+    ∙ rw is refl
+
+first-said : (line : List ℕ) → names_charset (plain_name line) ≡ false
+    → list_said Start line ≡ list_said Listing line
+first-said line is = rw is refl
+
+first-by : (line : List ℕ) (ls : List (List ℕ)) (b c : Bool) → is_skipped (trim line) ≡ b
+    → names_charset (plain_name (trim line)) ≡ c → Room no_patterns (line ∷ ls)
+    → IsLine 1 (if b then [] else list_said Start (trim line) ∷ []) no_patterns ls (λ f. IsWrongAt 0 f line)
+first-by line ls true c is name room = inr (
+  no_patterns,
+  refl,
+  room-kept no_patterns no_patterns line ls refl room,
+  λ g wrong. unshown (trim line) is g wrong.0,
+)
+first-by line ls false true is name room =
+    subst (λ said. IsLine 1 (said ∷ []) no_patterns ls (λ f. IsWrongAt 0 f line)) (sym (charset-said (trim line) name))
+    (inr (
+      record no_patterns { right = 2 },
+      refl,
+      room-kept no_patterns (record no_patterns { right = 2 }) line ls refl room,
+      λ g wrong. false≢true (sym wrong.1 ∙ name),
+    ))
+first-by line ls false false is name room =
+    subst (λ said. IsLine 1 (said ∷ []) no_patterns ls (λ f. IsWrongAt 0 f line)) (sym (first-said (trim line) name))
+    (with_name (line-by 1 line no_patterns ls false is room))
+  where
+    with_name : IsLine 1 (list_said Listing (trim line) ∷ []) no_patterns ls (λ f. IsWrong f (trim line))
+        → IsLine 1 (list_said Listing (trim line) ∷ []) no_patterns ls (λ f. IsWrongAt 0 f line)
+    with_name (inl (f, told, wrong, one)) = inl (f, told, (wrong, name), λ g other. one g other.0)
+    with_name (inr (k, told, left, none)) = inr (k, told, left, λ g other. none g other.0)
+
+-- ---- lines
+
+own_of : Option Fault → Bool
+own_of None = false
+own_of (Some f) = is_of_line f
+
+counts-own : (x y : Bool)
+    → own_of (if x then Some fault.TooMany else if y then Some fault.Empty else None) ≡ false
+unfolding own_of
+counts-own true y = refl
+counts-own false true = refl
+counts-own false false = refl
+
+ended-own : (k n : ℕ) (o : Option Fault) (h : Listed) (f : Fault) → own_of o ≡ false → is_of_line f ≡ true
+    → ended k o h ≡ Err (Line n f) → ⊥
+unfolding own_of
+ended-own k n None h f none own told = false≢true (ap is_told told)
+ended-own k n (Some g) h f none own told =
+    false≢true (sym none ∙ ap is_of_line (ap fault_told told) ∙ own)
+
+lines-iff : (k : ℕ) (ls : List (List ℕ)) (h : Listed) (n : ℕ) (f : Fault) → Room h ls → is_of_line f ≡ true
+    → (with_lines (suc k) Listing ls h ≡ Err (Line n f)) ↔ IsFirstWrong (suc k) ls n f
+lines-iff k [] h n f room own = (
+  ended-own (suc k) n (count_fault (length h.patterns) (length h.exceptions)) h f (counts-own _ _) own,
+  λ never. absurd never,
+)
+lines-iff k (line ∷ ls) h n f room own =
+    let m = suc (suc k) in
+    let W : Fault → Type 0 = λ g. IsWrong g (trim line) in
+    let is : IsLine m (line_said Listing line) h ls W = line-by m line h ls (is_skipped (trim line)) refl room in
+    let rest : (j : Listed) → Room j ls
+    → (with_lines m Listing ls j ≡ Err (Line n f)) ↔ IsFirstWrong m ls n f =
+    λ j more. lines-iff (suc k) ls j n f more own in (
+      line-to m n f (line_said Listing line) h ls W (IsFirstWrong m ls n f) (with_lines m Listing ls) rest is,
+      line-from m n f (line_said Listing line) h ls W (IsFirstWrong m ls n f) (with_lines m Listing ls) rest is,
+    )
+
+start-said : (first : List ℕ) → is_tex first ≡ false → line_said Start first ≡ listed_said Start (trim first)
+start-said first is = rw is refl
+
+first-iff : (first : List ℕ) (ls : List (List ℕ)) (n : ℕ) (f : Fault) → is_tex first ≡ false
+    → groups_in (first ∷ ls) ≤ 1 → is_of_line f ≡ true
+    → (with_lines 0 Start (first ∷ ls) no_patterns ≡ Err (Line n f)) ↔ IsFirstWrong 0 (first ∷ ls) n f
+first-iff first ls n f list few own =
+    let W : Fault → Type 0 = λ g. IsWrongAt 0 g first in
+    let is : IsLine 1 (line_said Start first) no_patterns ls W =
+    subst (λ saids. IsLine 1 saids no_patterns ls W) (sym (start-said first list))
+    (first-by first ls (is_skipped (trim first)) (names_charset (plain_name (trim first))) refl refl
+    (inr (refl, few))) in
+    let rest : (j : Listed) → Room j ls
+    → (with_lines 1 Listing ls j ≡ Err (Line n f)) ↔ IsFirstWrong 1 ls n f =
+    λ j room. lines-iff 0 ls j n f room own in
+    subst (λ s. (and_then (with_all 1 (line_said Start first) no_patterns) (with_lines 1 s ls) ≡ Err (Line n f))
+    ↔ IsFirstWrong 0 (first ∷ ls) n f) (sym (list-behind first list)) (
+      line-to 1 n f (line_said Start first) no_patterns ls W (IsFirstWrong 1 ls n f) (with_lines 1 Listing ls) rest is,
+      line-from 1 n f (line_said Start first) no_patterns ls W (IsFirstWrong 1 ls n f) (with_lines 1 Listing ls) rest is,
+    )
+
+pub errors-of-lines : (text first : List ℕ) (more : List (List ℕ)) (n : ℕ) (f : Fault) → is_tex first ≡ false
+    → lines (unmarked text) ≡ first ∷ more → groups_in (first ∷ more) ≤ 1 → is_of_line f ≡ true
+    → (parsed text ≡ Err (Line n f)) ↔ IsFirstWrong 0 (first ∷ more) n f
+errors-of-lines text first more n f list are few own =
+    subst (λ ls. (with_lines 0 Start ls no_patterns ≡ Err (Line n f)) ↔ IsFirstWrong 0 (first ∷ more) n f) (sym are)
+    (first-iff first more n f list few own)

@@ -7,7 +7,7 @@ use Rattle.textwrap_patterns.proofs.Common.{Bool, List, ℕ, [], ap, arith, case
 use Rattle.textwrap_patterns.proofs.Common.{inl, inr, length, refl, subst, suc, sym, true, ⊤, ◌++◌, ◌∙◌, ◌∷◌}
 use Rattle.textwrap_patterns.proofs.Common.{◌≡◌, ◌⊎◌, ◌≤◌}
 use Rattle.textwrap_patterns.proofs.FirstWrong.{IsJudged, command-none, judged, of-word, wrong-says}
-use Rattle.textwrap_patterns.proofs.Skipped.{comment-skipped, list-behind}
+use Rattle.textwrap_patterns.proofs.Skipped.{comment-skipped, list-behind, start-said}
 use Rattle.textwrap_patterns.specs.Charsets.{names_charset, plain_name}
 use Rattle.textwrap_patterns.specs.Entries.{Said, Pattern, Exception, Left, Right, CompoundLeft, CompoundRight}
 use Rattle.textwrap_patterns.specs.Entries.{NextGroup, Nothing, Wrong, begins, list_said, other_said}
@@ -15,7 +15,7 @@ use Rattle.textwrap_patterns.specs.Faults.{IsFirstWrong, IsWrong, IsWrongAt, beg
 use Rattle.textwrap_patterns.specs.Faults.{is_of_line}
 use Rattle.textwrap_patterns.specs.Listed.{Listed}
 use Rattle.textwrap_patterns.specs.Parsing.{Outcome, and_then, count_fault, ended, is_skipped, is_tex, line_said}
-use Rattle.textwrap_patterns.specs.Parsing.{listed_said, no_patterns, parsed, unmarked, with_all, with_lines}
+use Rattle.textwrap_patterns.specs.Parsing.{no_patterns, parsed, unmarked, with_all, with_lines}
 use Rattle.textwrap_patterns.specs.declared.entries.Section.TheVariants.{Start, Listing}
 use Rattle.textwrap_patterns.specs.declared.errors.Fault.{Fault}
 use Rattle.textwrap_patterns.specs.declared.errors.Fault.TheVariants as fault
@@ -267,9 +267,6 @@ lines-iff k (line ∷ ls) h n f room own =
       line-to m n f (line_said Listing line) h ls W (IsFirstWrong m ls n f) (with_lines m Listing ls) rest is,
       line-from m n f (line_said Listing line) h ls W (IsFirstWrong m ls n f) (with_lines m Listing ls) rest is,
     )
-
-start-said : (first : List ℕ) → is_tex first ≡ false → line_said Start first ≡ listed_said Start (trim first)
-start-said first is = rw is refl
 
 first-iff : (first : List ℕ) (ls : List (List ℕ)) (n : ℕ) (f : Fault) → is_tex first ≡ false
     → groups_in (first ∷ ls) ≤ 1 → is_of_line f ≡ true

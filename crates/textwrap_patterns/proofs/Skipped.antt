@@ -8,10 +8,10 @@ use Rattle.textwrap_patterns.proofs.Common.{◌++◌, ◌∙◌, ◌∷◌, ◌�
 use Rattle.textwrap_patterns.specs.Entries.{Said, Pattern, Exception, Left, Right, CompoundLeft}
 use Rattle.textwrap_patterns.specs.Entries.{CompoundRight, NextGroup, Nothing, Wrong}
 use Rattle.textwrap_patterns.specs.Faults.{is_comment}
-use Rattle.textwrap_patterns.specs.Laws.{AreTex, uncommented, without_line}
+use Rattle.textwrap_patterns.specs.Laws.{AreListed, AreTex, uncommented, without_line}
 use Rattle.textwrap_patterns.specs.Listed.{Listed}
 use Rattle.textwrap_patterns.specs.Parsing.{Outcome, after_mark, and_then, closed, comment_in, exceptions_mark, end_fault, ended, is_list}
-use Rattle.textwrap_patterns.specs.Parsing.{is_closed, is_group, is_minima, is_skipped, is_tex, line_said}
+use Rattle.textwrap_patterns.specs.Parsing.{is_closed, is_group, is_minima, is_skipped, is_tex, line_said, listed_said}
 use Rattle.textwrap_patterns.specs.Parsing.{names_minima, opened, patterns_mark, opened_text, parsed, section_after}
 use Rattle.textwrap_patterns.specs.Parsing.{tex_after, tex_said, unmarked, with_all, with_lines, no_patterns}
 use Rattle.textwrap_patterns.specs.declared.entries.Section.{Section}
@@ -105,6 +105,44 @@ lists-skipped text other first line before after list is whole less =
     ∙ first-skipped first line before after list is
     ∙ ap (λ ls. without_line (with_lines 0 Start ls no_patterns)) (sym less)
 
+-- ---- blanks
+
+then-same : (o : Outcome) (next other : Listed → Outcome) → ((k : Listed) → next k ≡ other k)
+    → and_then o next ≡ and_then o other
+then-same (Ok k) next other same = same k
+then-same (Err e) next other same = refl
+
+pub start-said : (first : List ℕ) → is_tex first ≡ false → line_said Start first ≡ listed_said Start (trim first)
+start-said first is = rw is refl
+
+-- what lines of a list say without the blanks on their sides
+abbrev with_trimmed : ℕ → Section → List (List ℕ) → Listed → Outcome
+with_trimmed n section [] h = ended n (end_fault section (length h.patterns) (length h.exceptions)) h
+with_trimmed n section (line ∷ more) h =
+    and_then (with_all (suc n) (listed_said section line) h) (with_trimmed (suc n) Listing more)
+
+trimmed-lines : (n : ℕ) (ls : List (List ℕ)) (h : Listed)
+    → with_lines n Listing ls h ≡ with_trimmed n Listing (map trim ls) h
+trimmed-lines n [] h = refl
+trimmed-lines n (line ∷ more) h = then-same (with_all (suc n) (listed_said Listing (trim line)) h)
+    (with_lines (suc n) Listing more) (with_trimmed (suc n) Listing (map trim more)) (trimmed-lines (suc n) more)
+
+trimmed-text : (ls : List (List ℕ)) → AreListed ls
+    → with_lines 0 Start ls no_patterns ≡ with_trimmed 0 Start (map trim ls) no_patterns
+trimmed-text [] are = refl
+trimmed-text (first ∷ more) are =
+    ap (λ saids. and_then (with_all 1 saids no_patterns) (with_lines 1 (section_after Start first) more))
+    (start-said first are)
+    ∙ ap (λ s. and_then (with_all 1 (listed_said Start (trim first)) no_patterns) (with_lines 1 s more))
+    (list-behind first are)
+    ∙ then-same (with_all 1 (listed_said Start (trim first)) no_patterns) (with_lines 1 Listing more)
+    (with_trimmed 1 Listing (map trim more)) (trimmed-lines 1 more)
+
+pub blanks-skipped : (text other : List ℕ) → AreListed (lines (unmarked text)) → AreListed (lines (unmarked other))
+    → map trim (lines (unmarked text)) ≡ map trim (lines (unmarked other)) → parsed text ≡ parsed other
+blanks-skipped text other list same_list same = trimmed-text (lines (unmarked text)) list
+    ∙ ap (λ ls. with_trimmed 0 Start ls no_patterns) same ∙ sym (trimmed-text (lines (unmarked other)) same_list)
+
 -- ---- texts of TeX
 
 -- a section of a text of TeX but for the numbers of letters
@@ -150,11 +188,6 @@ abbrev with_bare : ℕ → Section → List (List ℕ) → Listed → Outcome
 with_bare n section [] h = ended n (end_fault section (length h.patterns) (length h.exceptions)) h
 with_bare n section (line ∷ more) h =
     and_then (with_all (suc n) (tex_said section line) h) (with_bare (suc n) (tex_after section line) more)
-
-then-same : (o : Outcome) (next other : Listed → Outcome) → ((k : Listed) → next k ≡ other k)
-    → and_then o next ≡ and_then o other
-then-same (Ok k) next other same = same k
-then-same (Err e) next other same = refl
 
 abbrev IsBare : List ℕ → Type 0
 IsBare line = names_minima (comment_in line) ≡ false

@@ -1,7 +1,7 @@
 -- Laws of reading: what the definition of `parsed` has to give, said without it.
 use Rattle.std.specs.Prelude.{◌≡◌, ℕ, true, false, List, [], ◌∷◌, ◌++◌, All}
 use Rattle.std.specs.Prelude.{◌+◌, ◌<◌, ◌≤◌, ◌^◌, ◌↔◌, codes, length}
-use Rattle.std.specs.Prelude.{Option, None, Some, Result, Ok, Err, chars, map}
+use Rattle.std.specs.Prelude.{Option, None, Some, Result, Ok, Err, ⊤, chars, map}
 use Rattle.std.specs.Str.{trim}
 use Rattle.std.specs.Str.Lines.{lines}
 use Rattle.textwrap_patterns.specs.Dictionaries.{IsException, IsPattern, list_lines, tex_lines}
@@ -29,6 +29,17 @@ CommentsOfListsAreSkipped =
     → is_comment (trim line) ≡ true → lines (unmarked text) ≡ first ∷ before ++ line ∷ after
     → lines (unmarked other) ≡ first ∷ before ++ after
     → without_line (parsed text) ≡ without_line (parsed other)
+
+-- not a text of TeX
+abbrev pub AreListed : List (List ℕ) → Type 0
+AreListed [] = ⊤
+AreListed (first ∷ more) = is_tex first ≡ false
+
+-- nor do blanks on the sides of the lines of a list
+abbrev pub BlanksOfListsAreSkipped : Type 0
+BlanksOfListsAreSkipped =
+    (text other : List ℕ) → AreListed (lines (unmarked text)) → AreListed (lines (unmarked other))
+    → map trim (lines (unmarked text)) ≡ map trim (lines (unmarked other)) → parsed text ≡ parsed other
 
 -- the characters of a line before its comment
 abbrev pub uncommented : List ℕ → List ℕ

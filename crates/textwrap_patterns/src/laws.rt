@@ -1,12 +1,14 @@
 //! Laws of the definitions on dictionaries.
-ghost use Rattle.textwrap_patterns.specs.Laws.{CommentsOfListsAreSkipped, CommentsOfTexAreSkipped};
+ghost use Rattle.textwrap_patterns.specs.Laws.{BlanksOfListsAreSkipped, CommentsOfListsAreSkipped};
+ghost use Rattle.textwrap_patterns.specs.Laws.{CommentsOfTexAreSkipped};
 ghost use Rattle.textwrap_patterns.specs.Laws.{ErrorsAreOfLines, ListsAreRead, NamedListsAreRead, TexIsRead};
 
 /// A line that is empty or a comment makes no difference behind the first of a list, but to the
-/// numbers of lines in errors. Nor do comments in a text of TeX in which none begins the numbers of
-/// letters.
+/// numbers of lines in errors. Nor do blanks on the sides of its lines, or comments in a text of TeX in
+/// which none begins the numbers of letters.
 pub fn comments_are_skipped()
     ensures lists { CommentsOfListsAreSkipped }
+    ensures blanks { BlanksOfListsAreSkipped }
     ensures tex { CommentsOfTexAreSkipped }
 {}
 

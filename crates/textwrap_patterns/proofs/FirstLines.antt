@@ -11,7 +11,7 @@ use Rattle.textwrap_patterns.proofs.Skipped.{comment-skipped, list-behind, start
 use Rattle.textwrap_patterns.specs.Charsets.{names_charset, plain_name}
 use Rattle.textwrap_patterns.specs.Entries.{Said, Pattern, Exception, Left, Right, CompoundLeft, CompoundRight}
 use Rattle.textwrap_patterns.specs.Entries.{NextGroup, Nothing, Wrong, begins, list_said, other_said}
-use Rattle.textwrap_patterns.specs.Faults.{IsFirstWrong, IsWrong, IsWrongAt, begins_word, groups_in}
+use Rattle.textwrap_patterns.specs.Faults.{IsFirstWrong, IsWrong, IsWrongLine, begins_word, groups_in}
 use Rattle.textwrap_patterns.specs.Faults.{is_of_line}
 use Rattle.textwrap_patterns.specs.Listed.{Listed}
 use Rattle.textwrap_patterns.specs.Parsing.{Outcome, and_then, count_fault, ended, is_skipped, is_tex, line_said}
@@ -207,7 +207,7 @@ first-said line is = rw is refl
 
 first-by : (line : List ℕ) (ls : List (List ℕ)) (b c : Bool) → is_skipped (trim line) ≡ b
     → names_charset (plain_name (trim line)) ≡ c → Room no_patterns (line ∷ ls)
-    → IsLine 1 (if b then [] else list_said Start (trim line) ∷ []) no_patterns ls (λ f. IsWrongAt 0 f line)
+    → IsLine 1 (if b then [] else list_said Start (trim line) ∷ []) no_patterns ls (λ f. IsWrongLine 0 f line)
 first-by line ls true c is name room = inr (
   no_patterns,
   refl,
@@ -215,7 +215,7 @@ first-by line ls true c is name room = inr (
   λ g wrong. unshown (trim line) is g wrong.0,
 )
 first-by line ls false true is name room =
-    subst (λ said. IsLine 1 (said ∷ []) no_patterns ls (λ f. IsWrongAt 0 f line)) (sym (charset-said (trim line) name))
+    subst (λ said. IsLine 1 (said ∷ []) no_patterns ls (λ f. IsWrongLine 0 f line)) (sym (charset-said (trim line) name))
     (inr (
       record no_patterns { right = 2 },
       refl,
@@ -223,11 +223,11 @@ first-by line ls false true is name room =
       λ g wrong. false≢true (sym wrong.1 ∙ name),
     ))
 first-by line ls false false is name room =
-    subst (λ said. IsLine 1 (said ∷ []) no_patterns ls (λ f. IsWrongAt 0 f line)) (sym (first-said (trim line) name))
+    subst (λ said. IsLine 1 (said ∷ []) no_patterns ls (λ f. IsWrongLine 0 f line)) (sym (first-said (trim line) name))
     (with_name (line-by 1 line no_patterns ls false is room))
   where
     with_name : IsLine 1 (list_said Listing (trim line) ∷ []) no_patterns ls (λ f. IsWrong f (trim line))
-        → IsLine 1 (list_said Listing (trim line) ∷ []) no_patterns ls (λ f. IsWrongAt 0 f line)
+        → IsLine 1 (list_said Listing (trim line) ∷ []) no_patterns ls (λ f. IsWrongLine 0 f line)
     with_name (inl (f, told, wrong, one)) = inl (f, told, (wrong, name), λ g other. one g other.0)
     with_name (inr (k, told, left, none)) = inr (k, told, left, λ g other. none g other.0)
 
@@ -272,7 +272,7 @@ first-iff : (first : List ℕ) (ls : List (List ℕ)) (n : ℕ) (f : Fault) → 
     → groups_in (first ∷ ls) ≤ 1 → is_of_line f ≡ true
     → (with_lines 0 Start (first ∷ ls) no_patterns ≡ Err (Line n f)) ↔ IsFirstWrong 0 (first ∷ ls) n f
 first-iff first ls n f list few own =
-    let W : Fault → Type 0 = λ g. IsWrongAt 0 g first in
+    let W : Fault → Type 0 = λ g. IsWrongLine 0 g first in
     let is : IsLine 1 (line_said Start first) no_patterns ls W =
     subst (λ saids. IsLine 1 saids no_patterns ls W) (sym (start-said first list))
     (first-by first ls (is_skipped (trim first)) (names_charset (plain_name (trim first))) refl refl

@@ -67,16 +67,16 @@ IsWrong fault.Empty line = ⊥
 IsWrong fault.TooMany line = ⊥
 
 -- the first line may name a charset, whatever else it is
-abbrev pub IsWrongAt : ℕ → Fault → List ℕ → Type 0
-IsWrongAt zero fault line = IsWrong fault (trim line) × (names_charset (plain_name (trim line)) ≡ false)
-IsWrongAt (suc n) fault line = IsWrong fault (trim line)
+abbrev pub IsWrongLine : ℕ → Fault → List ℕ → Type 0
+IsWrongLine zero fault line = IsWrong fault (trim line) × (names_charset (plain_name (trim line)) ≡ false)
+IsWrongLine (suc n) fault line = IsWrong fault (trim line)
 
 -- of lines behind so many others, the one of this number is the first that is wrong
 abbrev pub IsFirstWrong : ℕ → List (List ℕ) → ℕ → Fault → Type 0
 IsFirstWrong before [] n fault = ⊥
 IsFirstWrong before (line ∷ more) n fault =
-    ((n ≡ suc before) × IsWrongAt before fault line)
-    ⊎ (((other : Fault) → ¬ IsWrongAt before other line) × IsFirstWrong (suc before) more n fault)
+    ((n ≡ suc before) × IsWrongLine before fault line)
+    ⊎ (((other : Fault) → ¬ IsWrongLine before other line) × IsFirstWrong (suc before) more n fault)
 
 -- how many lines begin a second group
 abbrev pub groups_in : List (List ℕ) → ℕ

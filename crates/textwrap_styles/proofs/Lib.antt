@@ -12,3 +12,4 @@ pub mod StyleRules
 pub mod SequenceTexts
 pub mod Sequences
 pub mod StyleRows
+pub mod PenRows

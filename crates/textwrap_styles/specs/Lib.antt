@@ -6,3 +6,4 @@ pub mod OpenStyles
 pub mod OpenAttributes
 pub mod Styled
 pub mod Laws
+pub mod Pen

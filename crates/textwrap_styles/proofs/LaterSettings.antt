@@ -9,7 +9,7 @@ use Rattle.textwrap_styles.specs.Settings.{is_unknown, kind_of, number, replaces
 use Rattle.textwrap_styles.specs.declared.settings.Kind.{Kind}
 use Rattle.textwrap_styles.specs.declared.settings.Kind.TheVariants.{Unknown}
 
-unknown-number : (k : Kind) → is_unknown k ≡ (number k == 16)
+pub unknown-number : (k : Kind) → is_unknown k ≡ (number k == 16)
 unfolding is_unknown number
 unknown-number Unknown = refl
 unknown-number _ = refl

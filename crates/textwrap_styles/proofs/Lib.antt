@@ -13,3 +13,13 @@ pub mod SequenceTexts
 pub mod Sequences
 pub mod StyleRows
 pub mod PenRows
+pub mod PenMixes
+pub mod PenCodes
+pub mod PenFields
+pub mod PenSettings
+pub mod PenKnown
+pub mod PenRuns
+pub mod PenOpen
+pub mod PenSequences
+pub mod PenLines
+pub mod PenStyles

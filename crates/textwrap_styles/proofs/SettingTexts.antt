@@ -63,7 +63,7 @@ unfolding code
 fields-code n t = ap (λ ds. min 255 (digits_value 10 ds)) (fields-digits n t)
 
 -- what follows these
-details-cons : (c : ℕ) (cs : List ℕ)
+pub details-cons : (c : ℕ) (cs : List ℕ)
     → details (c ∷ cs) ≡ cond (is_ascii_digit c) (details cs) (c ∷ cs)
 unfolding details
 details-cons c cs = by (is_ascii_digit c)
@@ -76,7 +76,7 @@ details-cons c cs = by (is_ascii_digit c)
         ap (λ k. drop k (c ∷ cs)) next
     by false = refl
 
-details-nil : details [] ≡ []
+pub details-nil : details [] ≡ []
 unfolding details
 details-nil = refl
 
@@ -170,7 +170,7 @@ color-least : (t : List ℕ) (mode : ℕ) → color_fields t mode ≢ 0 → 2 �
 unfolding color_fields
 color-least t mode some = grind (arith, cases_Bool, nat_tests)
 
-taken-again : (t : List ℕ) (n : ℕ) → n ≡ taken_fields t → n ≢ 0 → taken_fields (fields n t) ≡ n
+pub taken-again : (t : List ℕ) (n : ℕ) → n ≡ taken_fields t → n ≢ 0 → taken_fields (fields n t) ≡ n
 unfolding taken_fields
 taken-again t n is some =
     let mode = code (drop 1 (details t)) in

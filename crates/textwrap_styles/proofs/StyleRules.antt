@@ -75,7 +75,7 @@ all-settings (s ∷ before) =
 abbrev settings_at : List (List ℕ) → List (List ℕ)
 settings_at before = open_settings (flat_map settings_of before)
 
-open-back : (before : List (List ℕ))
+pub open-back : (before : List (List ℕ))
     → flat_map settings_of (open_attributes before) ≡ settings_at before
 open-back before =
     all-back (settings_at before)

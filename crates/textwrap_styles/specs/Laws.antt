@@ -5,6 +5,8 @@ use Rattle.textwrap_layout.specs.Paragraph.{Slice, line_bytes}
 use Rattle.textwrap_styles.specs.Attributes.{attributed_line, known_settings, open_attributes}
 use Rattle.textwrap_styles.specs.Attributes.{unknown_settings}
 use Rattle.textwrap_styles.specs.Indents.{after_indent}
+use Rattle.textwrap_styles.specs.Pen.{plain_pen}
+use Rattle.textwrap_styles.specs.Penned.{pen_after, pen_of, penned_lines, penned_text}
 use Rattle.textwrap_styles.specs.Styled.{EachWithIndent, EndsPlainBy, IsWholeText, MayCarryBy}
 use Rattle.textwrap_styles.specs.Styled.{styled_lines_by, styled_text_by}
 use Rattle.textwrap_styles.specs.Styles.{carried_line, carried_lines_by, last_of_each, link_end}
@@ -63,6 +65,28 @@ module _ (styles : List (List ℕ) → List (List ℕ)) where
       → EachWithIndent (λ i line. sequences (after_indent i line) ≡ []) indent later lines
       → carried_lines_by styles indent later [] lines ≡ map Slice lines
 
+  -- what is open sets the pen that all sequences before have set
+  abbrev pub GiveThePen : Type 0
+  GiveThePen = (before : List (List ℕ)) → pen_of (styles before) ≡ pen_of before
+
+  -- each visible character has the pen that it has in the text, where each line begins with a plain
+  -- one
+  abbrev pub LinesKeepPens : Type 0
+  LinesKeepPens =
+      (indent later : List ℕ) (lines : List (List ℕ))
+      → EachWithIndent (MayCarryBy styles) indent later lines
+      → map (λ l. penned_text plain_pen (line_bytes l))
+      (carried_lines_by styles indent later [] lines)
+      ≡ penned_lines indent later plain_pen lines
+
+  -- and each line ends with a plain one
+  abbrev pub LinesEndWithAPlainPen : Type 0
+  LinesEndWithAPlainPen =
+      (indent later : List ℕ) (lines : List (List ℕ))
+      → EachWithIndent (MayCarryBy styles) indent later lines
+      → All (λ l. pen_after (line_bytes l) ≡ plain_pen)
+      (carried_lines_by styles indent later [] lines)
+
 -- ---- all styles that were set since all were taken back
 
 abbrev pub CarriedLinesKeepStyles : Type 0
@@ -82,6 +106,15 @@ WholeLinesMayCarry = WholeLinesMay open_styles
 
 abbrev pub PlainLinesStay : Type 0
 PlainLinesStay = LinesStay open_styles
+
+abbrev pub StylesGiveThePen : Type 0
+StylesGiveThePen = GiveThePen open_styles
+
+abbrev pub CarriedLinesKeepPens : Type 0
+CarriedLinesKeepPens = LinesKeepPens open_styles
+
+abbrev pub CarriedLinesEndWithAPlainPen : Type 0
+CarriedLinesEndWithAPlainPen = LinesEndWithAPlainPen open_styles
 
 -- no two of the styles that are open are equal, and each is one of the sequences before
 abbrev pub OpenStylesAreDifferent : Type 0
@@ -115,6 +148,15 @@ WholeLinesMayCarryAttributes = WholeLinesMay open_attributes
 
 abbrev pub PlainLinesStayAttributed : Type 0
 PlainLinesStayAttributed = LinesStay open_attributes
+
+abbrev pub AttributesGiveThePen : Type 0
+AttributesGiveThePen = GiveThePen open_attributes
+
+abbrev pub AttributedLinesKeepPens : Type 0
+AttributedLinesKeepPens = LinesKeepPens open_attributes
+
+abbrev pub AttributedLinesEndWithAPlainPen : Type 0
+AttributedLinesEndWithAPlainPen = LinesEndWithAPlainPen open_attributes
 
 -- what is open is open again once it is set anew
 abbrev pub AttributesAreSetAnew : Type 0

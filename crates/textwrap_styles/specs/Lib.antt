@@ -7,3 +7,4 @@ pub mod OpenAttributes
 pub mod Styled
 pub mod Laws
 pub mod Pen
+pub mod Penned

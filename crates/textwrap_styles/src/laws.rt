@@ -7,10 +7,14 @@
 
 ghost use Rattle.textwrap_styles.specs.Laws.{AttributedLinesAreAsWide, AttributedLinesAreShort};
 ghost use Rattle.textwrap_styles.specs.Laws.{AttributedLinesEndPlain};
+ghost use Rattle.textwrap_styles.specs.Laws.{AttributedLinesEndWithAPlainPen};
 ghost use Rattle.textwrap_styles.specs.Laws.{AttributedLinesKeepAttributes};
+ghost use Rattle.textwrap_styles.specs.Laws.{AttributedLinesKeepPens, AttributesGiveThePen};
 ghost use Rattle.textwrap_styles.specs.Laws.{AttributedLinesShowTheirText, AttributesAreFew};
 ghost use Rattle.textwrap_styles.specs.Laws.{AttributesAreSetAnew, CarriedLinesAreAsWide};
 ghost use Rattle.textwrap_styles.specs.Laws.{CarriedLinesAreShort, CarriedLinesEndPlain};
+ghost use Rattle.textwrap_styles.specs.Laws.{CarriedLinesEndWithAPlainPen, CarriedLinesKeepPens};
+ghost use Rattle.textwrap_styles.specs.Laws.{StylesGiveThePen};
 ghost use Rattle.textwrap_styles.specs.Laws.{CarriedLinesKeepStyles, CarriedLinesShowTheirText};
 ghost use Rattle.textwrap_styles.specs.Laws.{OpenStylesAreDifferent, PlainLinesStay};
 ghost use Rattle.textwrap_styles.specs.Laws.{PlainLinesStayAttributed, WholeLinesMayCarry};
@@ -35,6 +39,24 @@ pub fn carried_lines_end_plain()
 /// Each of these lines takes as many columns as it did.
 pub fn carried_lines_are_as_wide()
     ensures { CarriedLinesAreAsWide }
+{}
+
+/// The styles that are open, set in a plain pen, give the pen that all sequences before have set:
+/// what a terminal writes with, told from the number of each parameter, and not from what this crate
+/// takes for a style.
+pub fn styles_give_the_pen()
+    ensures { StylesGiveThePen }
+{}
+
+/// Each visible character of these lines, each read by itself from a plain pen, has the pen that it
+/// has in the text that goes on from line to line.
+pub fn carried_lines_keep_pens()
+    ensures { CarriedLinesKeepPens }
+{}
+
+/// And each of these lines leaves the pen plain.
+pub fn carried_lines_end_with_a_plain_pen()
+    ensures { CarriedLinesEndWithAPlainPen }
 {}
 
 /// No two of the styles that are open are equal, and each is one of the sequences before. So there
@@ -79,6 +101,23 @@ pub fn attributed_lines_end_plain()
 /// Each of these lines takes as many columns as it did.
 pub fn attributed_lines_are_as_wide()
     ensures { AttributedLinesAreAsWide }
+{}
+
+/// The attributes that are open, set in a plain pen, give the pen that all sequences before have set:
+/// what a terminal writes with, told as `styles_give_the_pen` tells it.
+pub fn attributes_give_the_pen()
+    ensures { AttributesGiveThePen }
+{}
+
+/// Each visible character of these lines, each read by itself from a plain pen, has the pen that it
+/// has in the text that goes on from line to line.
+pub fn attributed_lines_keep_pens()
+    ensures { AttributedLinesKeepPens }
+{}
+
+/// And each of these lines leaves the pen plain.
+pub fn attributed_lines_end_with_a_plain_pen()
+    ensures { AttributedLinesEndWithAPlainPen }
 {}
 
 /// The attributes that are open are open again once they are set anew, and no others.

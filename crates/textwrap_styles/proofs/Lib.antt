@@ -23,3 +23,5 @@ pub mod PenOpen
 pub mod PenSequences
 pub mod PenLines
 pub mod PenStyles
+pub mod PenNumbers
+pub mod Refuted

@@ -1,5 +1,9 @@
 -- Worked rows on pens: what parameters do to the plain pen, one after another.
-use Rattle.textwrap_text.proofs.Common.{codes, List, refl, true, ◌∷◌, ◌≡◌, [], ℕ}
+use Rattle.textwrap_text.proofs.Common.{codes, List, refl, true, ◌++◌, ◌∷◌, ◌≡◌, [], ℕ}
+use Rattle.textwrap_styles.specs.Settings.{code, color_fields, details, first_setting, is_color_code}
+use Rattle.textwrap_styles.specs.Settings.{is_end, is_ending_code, is_unknown, kind_of}
+use Rattle.textwrap_styles.specs.Settings.{kind_of_code, number, open_settings, replaces}
+use Rattle.textwrap_styles.specs.Settings.{settings, taken_fields, takes_back}
 use Rattle.textwrap_styles.specs.Pen.{apply, color_of, Direct, Indexed, Other, Pen, plain_pen}
 use Rattle.textwrap_styles.specs.Pen.{is_whole_color, with_code, with_color, with_field, with_parts}
 
@@ -108,3 +112,11 @@ others-ended = refl
 unknown : after (codes "1:2;56;200;31") ≡ record plain_pen { foreground = Indexed 1 }
 unfolding with_field with_code with_parts
 unknown = refl
+
+-- ---- worked rows on what the table leaves open
+
+colors-ended : open_settings (settings (codes "4:3;4:0;38:5:1;39;48:5:1;49;58:2:1:2:3;59;38;5;1;39"
+    ++ codes ";48;2;1;2;3;49;58;5;1;59"))
+    ≡ []
+unfolding first_setting taken_fields code details kind_of kind_of_code is_color_code is_unknown color_fields takes_back replaces is_end is_ending_code number
+colors-ended = refl

@@ -5,6 +5,7 @@ use Rattle.textwrap_styles.proofs.CarriedLaws.{styles-may, styles-stay}
 use Rattle.textwrap_styles.proofs.CarriedLines.{carried-short}
 use Rattle.textwrap_styles.proofs.FewAttributes.{attributes-short, few-known}
 use Rattle.textwrap_styles.proofs.PenLines.{attributes-end, attributes-keep, attributes-pen}
+use Rattle.textwrap_styles.proofs.PenNumbers.{other-something, unknown-nothing}
 use Rattle.textwrap_styles.proofs.PenStyles.{styles-end, styles-keep, styles-pen}
 use Rattle.textwrap_styles.proofs.StyleRules.{attributes-anew}
 
@@ -32,4 +33,6 @@ pub ruleset attributes = (
   few-known,
 )
 
-pub ruleset laws = (attributes, styles)
+pub ruleset table = (other-something, unknown-nothing)
+
+pub ruleset laws = (attributes, styles, table)

@@ -1,12 +1,14 @@
 -- The statements of the laws, each under a name that a caller can cite.
-use Rattle.std.specs.Prelude.{◌≡◌, ◌≢◌, ℕ, ◌+◌, ◌*◌, ◌≤◌, List, [], All, length, map}
+use Rattle.std.specs.Prelude.{◌≡◌, ◌≢◌, ℕ, false, true, ◌+◌, ◌*◌, ◌≤◌, List, [], All, length, map}
 use Rattle.std.specs.List.{AllPairs, Contains, concat, flat_map}
 use Rattle.textwrap_layout.specs.Paragraph.{Slice, line_bytes}
 use Rattle.textwrap_styles.specs.Attributes.{attributed_line, known_settings, open_attributes}
 use Rattle.textwrap_styles.specs.Attributes.{unknown_settings}
 use Rattle.textwrap_styles.specs.Indents.{after_indent}
-use Rattle.textwrap_styles.specs.Pen.{plain_pen}
+use Rattle.textwrap_styles.specs.Pen.{Pen, plain_pen, with_code}
 use Rattle.textwrap_styles.specs.Penned.{pen_after, pen_of, penned_lines, penned_text}
+use Rattle.textwrap_styles.specs.Settings.{is_color_code, is_ending_code, is_unknown}
+use Rattle.textwrap_styles.specs.Settings.{kind_of_code}
 use Rattle.textwrap_styles.specs.Styled.{EachWithIndent, EndsPlainBy, IsWholeText, MayCarryBy}
 use Rattle.textwrap_styles.specs.Styled.{styled_lines_by, styled_text_by}
 use Rattle.textwrap_styles.specs.Styles.{carried_line, carried_lines_by, last_of_each, link_end}
@@ -86,6 +88,19 @@ module _ (styles : List (List ℕ) → List (List ℕ)) where
       → EachWithIndent (MayCarryBy styles) indent later lines
       → All (λ l. pen_after (line_bytes l) ≡ plain_pen)
       (carried_lines_by styles indent later [] lines)
+
+-- ---- the table of the settings, by the pen
+
+-- of the numbers, the table knows all that change a pen by themselves
+abbrev pub NumbersAreKnown : Type 0
+NumbersAreKnown =
+    (code : ℕ) → is_unknown (kind_of_code code) ≡ true → (pen : Pen) → with_code code pen ≡ pen
+
+-- and of those that stand by themselves, it takes all for ends that leave a plain pen plain
+abbrev pub EndsAreKnown : Type 0
+EndsAreKnown =
+    (code : ℕ) → is_unknown (kind_of_code code) ≡ false → is_color_code code ≡ false
+    → is_ending_code code ≡ false → with_code code plain_pen ≢ plain_pen
 
 -- ---- all styles that were set since all were taken back
 

@@ -14,7 +14,7 @@ ghost use Rattle.textwrap_styles.specs.Laws.{AttributedLinesShowTheirText, Attri
 ghost use Rattle.textwrap_styles.specs.Laws.{AttributesAreSetAnew, CarriedLinesAreAsWide};
 ghost use Rattle.textwrap_styles.specs.Laws.{CarriedLinesAreShort, CarriedLinesEndPlain};
 ghost use Rattle.textwrap_styles.specs.Laws.{CarriedLinesEndWithAPlainPen, CarriedLinesKeepPens};
-ghost use Rattle.textwrap_styles.specs.Laws.{StylesGiveThePen};
+ghost use Rattle.textwrap_styles.specs.Laws.{EndsAreKnown, NumbersAreKnown, StylesGiveThePen};
 ghost use Rattle.textwrap_styles.specs.Laws.{CarriedLinesKeepStyles, CarriedLinesShowTheirText};
 ghost use Rattle.textwrap_styles.specs.Laws.{OpenStylesAreDifferent, PlainLinesStay};
 ghost use Rattle.textwrap_styles.specs.Laws.{PlainLinesStayAttributed, WholeLinesMayCarry};
@@ -39,6 +39,16 @@ pub fn carried_lines_end_plain()
 /// Each of these lines takes as many columns as it did.
 pub fn carried_lines_are_as_wide()
     ensures { CarriedLinesAreAsWide }
+{}
+
+/// The table of the settings knows each number that changes a pen by itself.
+pub fn numbers_are_known()
+    ensures { NumbersAreKnown }
+{}
+
+/// It takes each number for an end that leaves a plain pen plain, but for those that a colour follows.
+pub fn ends_are_known()
+    ensures { EndsAreKnown }
 {}
 
 /// The styles that are open, set in a plain pen, give the pen that all sequences before have set:

@@ -1,21 +1,17 @@
 -- How the files stand after steps.
 use Rattle.std.proofs.Common.{◌≡◌, ◌≢◌, ◌∙◌, ◌⊎◌, ap, inl, inr, refl, subst, sym, ℕ, List, [], ◌∷◌, Bool, true, false}
-use Rattle.std.proofs.Common.{Option, None, Some, Result, Ok, Err, IfOk, OnOk, OnErr, if◌then◌else◌}
+use Rattle.std.proofs.Common.{Option, None, Some, Result, Ok, Err, IfOk, OnOk, OnErr}
 use Rattle.std.proofs.lemmas.Bool.{false≢true}
 use Rattle.std.proofs.lemmas.Slice.Eq.{bytes_eq-Decides}
 use Rattle.std.specs.Io.KnownBytes.{Appends}
-use Rattle.std.specs.Result.{is_ok}
 use Rattle.std.specs.Prelude.{⊤}
 use Rattle.std.specs.Str.{bytes_eq}
-use Rattle.text_filters.proofs.RightsLemmas.{HasKeptRights-given}
 use Rattle.text_filters.specs.Files.{Absent, Changes, Draft, Drafts, Each, Ends, FolderEntry, File}
-use Rattle.text_filters.specs.Files.{Folder}
-use Rattle.text_filters.specs.Files.{HasNew, HasReplaced, HasRights, IsAside, IsDrafted, IsEmptyDraft}
-use Rattle.text_filters.specs.Files.{IsGone, IsFolderKept, IsKeptAside, IsGivenRights, IsOldOrNew}
-use Rattle.text_filters.specs.Files.{KeepsFiles}
-use Rattle.text_filters.specs.Files.{LeftOver, Link, Makes, Other, Passes, Puts, PutsEmpty, PutsOver}
-use Rattle.text_filters.specs.Files.{RemovesLeftOver, ReplacesPlace, SameBut, FolderSteps, given_group}
-use Rattle.text_filters.specs.Files.{given_mode, given_owner, refused_group, refused_owner}
+use Rattle.text_filters.specs.Files.{Folder, HasNew, HasReplaced, HasRights, IsAside, IsDrafted}
+use Rattle.text_filters.specs.Files.{IsEmptyDraft, IsGone, IsFolderKept, IsKeptAside, IsGivenRights}
+use Rattle.text_filters.specs.Files.{IsOldOrNew, KeepsFiles, LeftOver, Link, Makes, Other, Passes}
+use Rattle.text_filters.specs.Files.{Puts, PutsEmpty, PutsOver, RemovesLeftOver, ReplacesPlace}
+use Rattle.text_filters.specs.Files.{SameBut, FolderSteps}
 use Rattle.text_filters.specs.Rights.{Granted, HasKeptRights, kept}
 use Rattle.text_filters.specs.declared.rights.Rights.{Rights}
 
@@ -162,12 +158,6 @@ Drafts-tried name_of old mid new (Ok draft) kept makes =
     Drafts-made (name_of draft) old mid new kept makes
 Drafts-tried name_of old mid new (Err error) kept makes = makes
 
-pub IsEmptyDraft-before : (old mid : List Folder) (contents : Option (List ℕ)) (rights : Option Granted)
-    → KeepsFiles old mid → IsEmptyDraft mid contents rights → IsEmptyDraft old contents rights
-IsEmptyDraft-before [] mid contents rights kept empty = tt
-IsEmptyDraft-before (folder ∷ past) [] contents rights (passes, ends) empty = absurd ends
-IsEmptyDraft-before (folder ∷ past) (now ∷ before) contents rights kept empty = empty
-
 -- it is gone, or left over
 pub KeepsFiles-after : (draft : List ℕ) (entry : FolderEntry) (old mid new : List Folder) → IsGone entry
     → Drafts draft old mid → FolderSteps (Changes draft entry) mid new → KeepsFiles old new
@@ -193,66 +183,6 @@ KeepsFiles-dropped draft name old mid now new (Err error) drafts named same remo
     (subst (λ n. FolderSteps (Changes n LeftOver) now new) named left))
 
 -- ---- a draft is put in the place of a file
-
--- its rights, after each call that gives some, or is refused
-pub given-or-not : {A E : Type 0} (result : Result A E) (has : Bool) (refused new given : Option Granted)
-    → has ≡ is_ok result → OnOk result (new ≡ given) → OnErr result (new ≡ refused)
-    → new ≡ (if has then given else refused)
-given-or-not (Ok value) has refused new given is ok err =
-    ok ∙ sym (ap (λ h. if h then given else refused) is)
-given-or-not (Err error) has refused new given is ok err =
-    err ∙ sym (ap (λ h. if h then given else refused) is)
-
-pub IsGivenRights-given : (rights : Rights) (r0 r1 r2 r3 : Option Granted) (has_owner has_group : Bool)
-    → r1 ≡ (if has_group then given_group rights.group r0 else refused_group rights.group r0)
-    → r2 ≡ (if has_owner then given_owner rights.owner r1 else refused_owner rights.owner r1)
-    → r3 ≡ given_mode (kept rights.mode has_owner has_group) r2 → IsGivenRights rights r0 r3
-IsGivenRights-given rights None r1 r2 r3 has_owner has_group group owner mode = tt
-IsGivenRights-given rights (Some own) r1 r2 r3 has_owner has_group group owner mode =
-    subst (IsGivenRights rights (Some own))
-    (sym (mode ∙ ap (given_mode (kept rights.mode has_owner has_group)) (owner
-    ∙ ap (λ r. if has_owner then given_owner rights.owner r else refused_owner rights.owner r) group)))
-    (all has_owner has_group)
-  where
-    grouped : Bool → Option Granted
-    grouped has = if has then given_group rights.group (Some own) else refused_group rights.group (Some own)
-
-    all : (has_owner has_group : Bool) → IsGivenRights rights (Some own)
-        (given_mode (kept rights.mode has_owner has_group)
-        (if has_owner then given_owner rights.owner (grouped has_group)
-        else refused_owner rights.owner (grouped has_group)))
-    all true true = HasKeptRights-given rights (record {
-      rights = record { owner = rights.owner; group = rights.group; mode = rights.mode };
-      refused_owners = own.refused_owners;
-      refused_groups = own.refused_groups;
-    }) true true refl refl refl
-    all true false = HasKeptRights-given rights (record {
-      rights = record {
-        owner = rights.owner;
-        group = own.rights.group;
-        mode = kept rights.mode true false;
-      };
-      refused_owners = own.refused_owners;
-      refused_groups = rights.group ∷ own.refused_groups;
-    }) true false refl (inl refl) refl
-    all false true = HasKeptRights-given rights (record {
-      rights = record {
-        owner = own.rights.owner;
-        group = rights.group;
-        mode = kept rights.mode false true;
-      };
-      refused_owners = rights.owner ∷ own.refused_owners;
-      refused_groups = own.refused_groups;
-    }) false true (inl refl) refl refl
-    all false false = HasKeptRights-given rights (record {
-      rights = record {
-        owner = own.rights.owner;
-        group = own.rights.group;
-        mode = kept rights.mode false false;
-      };
-      refused_owners = rights.owner ∷ own.refused_owners;
-      refused_groups = rights.group ∷ own.refused_groups;
-    }) false false (inl refl) (inl refl) refl
 
 pub PutsEmpty-put : (old new : List Folder) (empty contents : Option (List ℕ)) (own given : Option Granted)
     (rights : Rights) (draft place bytes : List ℕ) → Appends empty contents bytes

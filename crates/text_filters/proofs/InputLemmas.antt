@@ -1,18 +1,15 @@
 -- Lemmas on what becomes of one input: whether its output is another text, and what is written of it.
-use Rattle.std.proofs.Common.{◌≡◌, ◌≢◌, ◌∙◌, sym, subst, true, false, ℕ, List, Bool}
-use Rattle.std.proofs.Common.{Option, Err}
-use Rattle.std.proofs.KnownBytes.{Keeps-refl}
+use Rattle.std.proofs.Common.{◌≡◌, ◌≢◌, ◌∙◌, sym, subst, true, false, ℕ, List, Bool, Option, Err}
 use Rattle.std.proofs.lemmas.Bool.{false≢true}
 use Rattle.std.proofs.lemmas.Slice.Eq.{bytes_eq-Decides}
 use Rattle.std.specs.Str.{bytes_eq}
 use Rattle.textwrap_program.specs.Filling.{ReadsAll, WritesPrefix}
 use Rattle.textwrap_program.specs.Program.{TriesLine}
-use Rattle.text_filters.specs.Faults.{IsOfDraft, IsOfOutput, IsOfReading}
+use Rattle.text_filters.specs.Faults.{IsOfOutput}
 use Rattle.text_filters.specs.Files.{Folder, KeepsFiles, bytes_at}
 use Rattle.text_filters.proofs.FileLemmas.{KeepsFiles-refl}
 use Rattle.unified_diff.specs.Differences.{IsDiffText}
 use Rattle.text_filters.specs.Inputs.{Checks, Differs, Prints, Reads, ReadsText, Replaces}
-use Rattle.text_filters.specs.Streams.{AnyReason}
 use Rattle.text_filters.specs.declared.faults.Fault.{Fault}
 use Rattle.text_filters.specs.declared.faults.Reason.{Reason}
 use Rattle.text_filters.specs.declared.faults.Fault.TheVariants.{Read, NotUtf8, Memory, Write, Output}
@@ -39,23 +36,6 @@ IsDiffText-of name input output old new text x y is =
 -- ---- faults
 
 module _ (work : Work) (unread left : Option (List ℕ)) where
-  -- nothing is written where the input is not read
-  pub prints-unread : (old : Option (List ℕ)) (fault : Fault) → Reads work unread left (Err fault)
-      → Prints work unread left old old (Err fault)
-  prints-unread old (Read reason) none = Keeps-refl old
-  prints-unread old (NotUtf8 valid) none = (none, Keeps-refl old)
-  prints-unread old Memory none = Keeps-refl old
-  prints-unread old (Write reason) none = absurd none
-  prints-unread old (Output reason) none = absurd none
-
-  pub checks-unread : (name : List ℕ) (old : Option (List ℕ)) (fault : Fault)
-      → Reads work unread left (Err fault) → Checks work name unread left old old (Err fault)
-  checks-unread name old (Read reason) none = Keeps-refl old
-  checks-unread name old (NotUtf8 valid) none = (none, Keeps-refl old)
-  checks-unread name old Memory none = Keeps-refl old
-  checks-unread name old (Write reason) none = absurd none
-  checks-unread name old (Output reason) none = absurd none
-
   module _ (input output : List ℕ) (reads : ReadsText work unread left input output)
       (faults : Reason → Type 0) where
     -- an output of which a prefix is written
@@ -91,25 +71,6 @@ module _ (work : Work) (unread left : Option (List ℕ)) where
     differs-unwritten counts name text old new (Write reason) differ is prefix of = absurd of
     differs-unwritten counts name text old new (NotUtf8 valid) differ is prefix of = absurd of
     differs-unwritten counts name text old new Memory differ is prefix of = absurd of
-
--- a file that cannot be replaced
-pub replaces-unput : (work : Work) (name : List ℕ) (old new : List Folder) (fault : Fault)
-    → KeepsFiles old new → IsOfDraft fault → Replaces work name old new (Err fault)
-replaces-unput work name old new (Write reason) kept of = kept
-replaces-unput work name old new Memory kept of = kept
-replaces-unput work name old new (Read reason) kept of = absurd of
-replaces-unput work name old new (NotUtf8 valid) kept of = absurd of
-replaces-unput work name old new (Output reason) kept of = absurd of
-
--- nor one that is not opened
-pub replaces-unopened : (work : Work) (name : List ℕ) (old new : List Folder) (fault : Fault)
-    → new ≡ old → IsOfReading AnyReason fault → Replaces work name old new (Err fault)
-replaces-unopened work name old new (Read reason) same of = same
-replaces-unopened work name old new (NotUtf8 valid) same of = absurd of
-replaces-unopened work name old new Memory same of =
-    subst (KeepsFiles old) (sym same) (KeepsFiles-refl old)
-replaces-unopened work name old new (Write reason) same of = absurd of
-replaces-unopened work name old new (Output reason) same of = absurd of
 
 -- nor one that is not read
 pub replaces-unread : (work : Work) (name : List ℕ) (old new : List Folder)

@@ -4,7 +4,5 @@ pub mod InputLemmas
 pub mod MessageLemmas
 mod Refuted
 mod Rows
-pub mod RightsLemmas
-pub mod StreamLemmas
 mod SoundStreams
 pub mod TreatedInputs

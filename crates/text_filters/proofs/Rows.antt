@@ -2,8 +2,7 @@
 use Rattle.std.proofs.Common.{◌≡◌, ◌⊎◌, ◌++◌, [], ◌∷◌, inl, inr, subst, sym, List, ℕ}
 use Rattle.std.specs.Prelude.{⊤, bytes_eq, codes, if◌then◌else◌}
 use Rattle.text_filters.specs.Files.{Absent, Each, FolderEntry, File, Folder, HasNew, IsAside}
-use Rattle.text_filters.specs.Files.{IsOldOrNew}
-use Rattle.text_filters.specs.Files.{ReplacesFile, SameBut}
+use Rattle.text_filters.specs.Files.{IsOldOrNew, ReplacesFile, SameBut}
 use Rattle.text_filters.specs.Rights.{Granted, mode_of}
 
 -- "f", and whose it is

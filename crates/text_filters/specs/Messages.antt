@@ -1,7 +1,7 @@
 -- What a program says of an input.
 use Rattle.std.specs.Prelude.{ℕ, Bool, true, false, List, [], ◌∷◌, ◌++◌, codes, decimal}
-use Rattle.std.specs.Prelude.{Result, Ok, Err}
-use Rattle.clap.specs.Words.{Row}
+use Rattle.std.specs.Prelude.{Result, Ok, Err, unwrap_or}
+use Rattle.clap.specs.Words.{Row, first_of}
 use Rattle.std.specs.List.{flat_map}
 use Rattle.textwrap_program.specs.Program.{line_feed}
 use Rattle.text_filters.specs.declared.faults.Fault.{Fault}

@@ -1,5 +1,5 @@
 -- How the words after the program's name are written for the command line.
-use Rattle.std.specs.Prelude.{ℕ, ◌==◌, ◌&&◌, ◌||◌, Bool, not, nat_le, List, [], ◌∷◌}
+use Rattle.std.specs.Prelude.{ℕ, ◌==◌, ◌&&◌, ◌||◌, Bool, not, nat_le, List, [], ◌∷◌, ◌++◌}
 use Rattle.std.specs.Prelude.{bytes_eq, codes, drop, if◌then◌else◌, slice_index}
 
 abbrev pub is_digit : ℕ → Bool

@@ -1,10 +1,9 @@
 //! The files of a run.
 ghost use Rattle.std.specs.Prelude.{◌≡◌, ℕ, List, Option, None, [], IfOk, OnErr, OnOk};
-ghost use Rattle.text_filters.specs.Files.{Changes, Folder, HasRights, IsEmptyDraft, LeadsTo, Makes, PutsSynced};
-ghost use Rattle.text_filters.specs.Files.{RemovesLeftOver, FolderSteps, bytes_at, given_group};
-ghost use Rattle.text_filters.specs.Files.{given_mode};
-ghost use Rattle.text_filters.specs.Files.{given_owner, refused_group, refused_owner};
-ghost use Rattle.text_filters.specs.Files.{Absent, LeftOver};
+ghost use Rattle.text_filters.specs.Files.{Changes, Folder, HasRights, IsEmptyDraft, LeadsTo};
+ghost use Rattle.text_filters.specs.Files.{Makes, PutsSynced, RemovesLeftOver, FolderSteps};
+ghost use Rattle.text_filters.specs.Files.{bytes_at, given_group, given_mode, given_owner};
+ghost use Rattle.text_filters.specs.Files.{refused_group, refused_owner, Absent, LeftOver};
 ghost use Rattle.text_filters.specs.Rights.{Granted};
 
 use crate::rights::{FileMode, Rights};

@@ -7,10 +7,9 @@ ghost use Rattle.text_filters.specs.Messages.{about_view, fault_texts, is_closed
 ghost use Rattle.text_filters.specs.Messages.{message_line, reading_text, says_nothing, subject, texts_of};
 ghost use Rattle.text_filters.specs.Messages.{sum_texts, value_texts, writing_text};
 ghost use Rattle.text_filters.specs.Program.{ExplainsParse, IsFault, ReportsInput, Says, SaysFault};
-ghost use Rattle.text_filters.specs.Program.{Serves};
-ghost use Rattle.text_filters.specs.Program.{Shows, Treats, TreatsAll, TreatsFile, TreatsInput, Warns};
-ghost use Rattle.text_filters.specs.Program.{all_well, input_faults, joined, replaced_of, shown_name, status_of};
-ghost use Rattle.text_filters.specs.Program.{sums_up};
+ghost use Rattle.text_filters.specs.Program.{Serves, Shows, Treats, TreatsAll, TreatsFile};
+ghost use Rattle.text_filters.specs.Program.{TreatsInput, Warns, all_well, input_faults, joined};
+ghost use Rattle.text_filters.specs.Program.{replaced_of, shown_name, status_of, sums_up};
 ghost use Rattle.text_filters.specs.Streams.{AnyReason, IsPossible, faults_of};
 
 use crate::arguments::{Inputs, Mode, value_of};

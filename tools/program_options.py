@@ -6,7 +6,8 @@ import pathlib
 import re
 
 CRATES = pathlib.Path(__file__).resolve().parent.parent / "crates"
-# The crates of the programs, by the names that these are installed under.
+# The crates of the programs, which bear the names of modules of filter_programs, by the names that these are
+# installed under.
 PROGRAMS = {"reflow": "reflow", "textwrap": "fill", "hyphenate": "hyphenate"}
 LINE = re.compile(r"  (?:-(\w), |    )--([a-z-]+)(?: <([^>]+)>)? +(.*)")
 
@@ -23,7 +24,7 @@ class Option:
 
 def help_text(program):
     """What a program writes at `--help`."""
-    source = CRATES / f"{PROGRAMS[program]}_program/src/arguments.rt"
+    source = CRATES / f"filter_programs/src/{PROGRAMS[program]}/arguments.rt"
     return re.search(r'pub const HELP: &str = "(.*?)";', source.read_text(), re.DOTALL)[1]
 
 

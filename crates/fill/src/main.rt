@@ -2,7 +2,7 @@
 //! line filled as a paragraph.
 #![tactic(auto)]
 
-use fill_program::program::Fill;
+use filter_programs::fill::program::Fill;
 use std::env::Env;
 use std::io::ErrorKind;
 use std::process::ExitCode;

@@ -3,7 +3,7 @@
 //! so many columns.
 #![tactic(auto)]
 
-use hyphenate_program::program::Hyphenate;
+use filter_programs::hyphenate::program::Hyphenate;
 use std::env::Env;
 use std::io::ErrorKind;
 use std::process::ExitCode;

@@ -1,13 +1,13 @@
 //! The statuses that the programs end with.
 ghost use Rattle.std.specs.Prelude.{map, string_bytes};
-ghost use Rattle.hyphenate_program.specs.Program.{ExecutesHyphenate};
-ghost use Rattle.reflow_program.specs.Program.{ExecutesReflow};
+ghost use Rattle.filter_programs.specs.HyphenateProgram.{ExecutesHyphenate};
+ghost use Rattle.filter_programs.specs.ReflowProgram.{ExecutesReflow};
 ghost use Rattle.text_filters.specs.Streams.{faults_of};
 ghost use Rattle.textwrap_program.specs.Arguments.{request_of};
 ghost use Rattle.textwrap_program.specs.Program.{Executes};
 
-use hyphenate_program::program::Hyphenate;
-use reflow_program::program::Reflow;
+use filter_programs::hyphenate::program::Hyphenate;
+use filter_programs::reflow::program::Reflow;
 use std::alloc::Global;
 use std::io::{Read, Write};
 use text_filters::files::Files;
@@ -39,7 +39,7 @@ pub fn status_of_textwrap<R: Read, W: Write, M: Write>(
     textwrap_program::program::execute(alloc, words, reader, output, messages)
 }
 
-/// As `execute` of `reflow_program`.
+/// As `execute` of `reflow`.
 pub fn ending_of_reflow<F: Files, R: ReadWhole, W: WriteWhole, M: WriteWhole>(
     alloc: Global,
     words: &[String],
@@ -66,7 +66,7 @@ pub fn ending_of_reflow<F: Files, R: ReadWhole, W: WriteWhole, M: WriteWhole>(
     execute(alloc, &Reflow, words, files, reader, output, messages)
 }
 
-/// As `execute` of `hyphenate_program`.
+/// As `execute` of `hyphenate`.
 pub fn ending_of_hyphenate<F: Files, R: ReadWhole, W: WriteWhole, M: WriteWhole>(
     alloc: Global,
     words: &[String],

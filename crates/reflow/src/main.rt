@@ -2,7 +2,7 @@
 //! again.
 #![tactic(auto)]
 
-use reflow_program::program::Reflow;
+use filter_programs::reflow::program::Reflow;
 use std::env::Env;
 use std::io::ErrorKind;
 use std::process::ExitCode;

@@ -1,13 +1,25 @@
 -- What the command lines of the programs share.
-use Rattle.std.specs.Prelude.{ℕ, Bool, false, List, [], ◌∷◌, codes, Option, Some, unwrap_or}
+use Rattle.std.specs.Prelude.{ℕ, Bool, false, true, List, [], ◌∷◌, codes, Option, Some, unwrap_or}
 use Rattle.std.specs.Prelude.{option_and_then}
 use Rattle.std.specs.Option.{option_map_or}
 use Rattle.std.specs.Str.{bytes_eq}
-use Rattle.clap.specs.Words.{Row, Rule, Text, all_of, first_of, new_rule}
+use Rattle.clap.specs.Words.{App, Row, Rule, Text, all_of, first_of, new_app, new_rule}
 use Rattle.clap.specs.declared.builder.action.ArgAction.TheVariants.{Append, SetTrue}
 use Rattle.textwrap_program.specs.Arguments.{width_of}
 
 -- ---- what may stand on a command line
+
+-- the words are those after the program's name, and of what may stand once the last use counts
+abbrev pub tool_app : Text → List Rule → App
+tool_app name rules = record {
+  top = record (new_app name).top {
+    rules = rules;
+    no_binary_name = true;
+    args_override_self = true;
+    has_version = true;
+  };
+  subs = [];
+}
 
 -- a flag, whose id is its long name
 abbrev pub flag_rule : Text → Rule

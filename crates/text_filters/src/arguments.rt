@@ -1,9 +1,10 @@
 //! What the command lines of the programs share.
 ghost use Rattle.std.specs.Prelude.{◌≡◌, [], map, option_map, unwrap_or, false};
-ghost use Rattle.clap.specs.Words.{first_of, found_of, rows_of, rule_of};
-ghost use Rattle.text_filters.specs.Arguments.{file_rule, flag_in, flag_rule, texts_in, width_in, width_rule};
+ghost use Rattle.clap.specs.Words.{app_of, first_of, found_of, rows_of, rule_of};
+ghost use Rattle.text_filters.specs.Arguments.{file_rule, flag_in, flag_rule, texts_in, tool_app};
+ghost use Rattle.text_filters.specs.Arguments.{width_in, width_rule};
 
-use clap::{Arg, ArgAction, ArgMatches};
+use clap::{Arg, ArgAction, ArgMatches, Command};
 use std::alloc::Global;
 use textwrap_program::arguments::parse_width;
 
@@ -55,6 +56,24 @@ pub fn width_argument<'a>(alloc: Global) -> Arg<'a>
         .value_name("N")
         .default_value("80")
         .help("Columns of a line, also -N")
+}
+
+/// The command line of a program without its arguments: its words are those after the program's name,
+/// and of what may stand once the last use counts.
+pub fn new_command<'a>(
+    alloc: Global,
+    name: &'a str,
+    about: &'a str,
+    examples: &'a str,
+) -> Command<'a>
+    ensures { app_of result ≡ tool_app name.now [] }
+{
+    Command::new(alloc, name)
+        .version("2.0.0")
+        .about(about)
+        .after_help(examples)
+        .no_binary_name(true)
+        .args_override_self(true)
 }
 
 /// The argument that gives the names of the inputs.

@@ -5,8 +5,8 @@ use super::program::plain::{
     Program, SOUND, Start, assert_bytes, assert_ending, assert_rendered, assert_run, repeated,
     run_of,
 };
-use fill_program::arguments::{HELP, VERSION};
-use fill_program::program::Fill;
+use filter_programs::fill::arguments::{HELP, VERSION};
+use filter_programs::fill::program::Fill;
 use std::io::ErrorKind;
 use std::process::Abort;
 use text_filters::tool::matches_in;

@@ -5,8 +5,8 @@ use super::program::plain::{
     Program, SOUND, Start, assert_bytes, assert_ending, assert_rendered, assert_run, repeated,
     run_of,
 };
-use hyphenate_program::arguments::{HELP, VERSION};
-use hyphenate_program::program::Hyphenate;
+use filter_programs::hyphenate::arguments::{HELP, VERSION};
+use filter_programs::hyphenate::program::Hyphenate;
 use std::io::ErrorKind;
 use std::process::Abort;
 use text_filters::tool::matches_in;

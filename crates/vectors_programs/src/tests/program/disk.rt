@@ -2,7 +2,7 @@
 use super::super::plain::{assert_found, assert_holds};
 use super::folder::WRITTEN_AT_ONCE;
 use super::plain::{SOUND, strings};
-use reflow_program::program::Reflow;
+use filter_programs::reflow::program::Reflow;
 use std::alloc::AllocError;
 use std::fs::{File, OpenOptions};
 use std::io::Write;

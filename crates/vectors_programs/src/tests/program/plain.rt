@@ -2,9 +2,9 @@
 //! assertions on what it leaves.
 use super::folder::{Folder, Given, READ_AT_ONCE, WRITTEN_AT_ONCE};
 use clap::ArgMatches;
-use fill_program::program::Fill;
-use hyphenate_program::program::Hyphenate;
-use reflow_program::program::Reflow;
+use filter_programs::fill::program::Fill;
+use filter_programs::hyphenate::program::Hyphenate;
+use filter_programs::reflow::program::Reflow;
 use std::alloc::{AllocError, Global};
 use std::process::Abort;
 use text_filters::program::Ending;

@@ -4,7 +4,7 @@ ghost use Rattle.text_filters.specs.Streams.{NoReason};
 
 use super::folder::Folder;
 use super::plain::{assert_ending, assert_number, repeated, strings};
-use reflow_program::program::Reflow;
+use filter_programs::reflow::program::Reflow;
 use std::alloc::Global;
 use std::process::Abort;
 use text_filters::faults::{Fault, Reason};

@@ -3,8 +3,8 @@ use super::plain::{
     Left, SOUND, Start, assert_bytes, assert_reflowed, assert_rendered, assert_spans,
     assert_unread, run,
 };
-use reflow_program::arguments::{HELP, VERSION};
-use reflow_program::program::Reflow;
+use filter_programs::reflow::arguments::{HELP, VERSION};
+use filter_programs::reflow::program::Reflow;
 use std::alloc::{AllocError, Global};
 use std::io::ErrorKind;
 use std::process::Abort;

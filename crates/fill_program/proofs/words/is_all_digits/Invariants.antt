@@ -1,6 +1,0 @@
-use Rattle.std.{proofs.Common.drop, proofs.Common.◌≡◌, specs.Str.all_ascii_digits}
-use Rattle.fill_program.proofs.words.is_all_digits.Given as goal
-
--- the bytes to come decide
-abbrev pub invariant-loop-byte : goal.invariant-loop-byte
-invariant-loop-byte l = all_ascii_digits (drop l.byte-index l.bytes) ≡ all_ascii_digits l.bytes

@@ -1,4 +1,0 @@
-pub mod Words
-pub mod Filling
-pub mod Arguments
-pub mod Program

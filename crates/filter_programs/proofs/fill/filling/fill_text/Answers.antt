@@ -1,0 +1,11 @@
+use Rattle.std.proofs.Common.{rules}
+use Rattle.textwrap_layout.specs.Options.{settings_at}
+use Rattle.textwrap_words.specs.WordSplitters.{AtHyphens}
+use Rattle.textwrap_program.specs.Arguments.{asked_algorithm}
+use Rattle.filter_programs.proofs.fill.filling.fill_text.Goals as goal
+
+pub returns-in-Ok : goal.returns-in-Ok
+returns-in-Ok c =
+    let filled = c.in-Ok.ensures.built_in (settings_at c.args.how.now.width) AtHyphens
+    (asked_algorithm c.args.how.now.algorithm) (search rules) in
+    search (rules, filled)

@@ -1,0 +1,17 @@
+use Rattle.std.proofs.Common.{◌∙◌, ap₂}
+use Rattle.std.proofs.lemmas.Result.{IfOk-weaker}
+use Rattle.clap.specs.Words.{with_rule}
+use Rattle.filter_programs.proofs.hyphenate.arguments.command.Goals as goal
+
+pub returns : goal.returns
+returns c =
+    let app_1 = c.in_ok-arg.ensures.shape c.columns_argument.ensures.local
+    ∙ ap₂ with_rule c.new_command.ensures c.columns_argument.ensures.rule in
+    let app_2 = c.in_ok-arg-2.ensures.shape c.count_argument.ensures.local
+    ∙ ap₂ with_rule app_1 c.count_argument.ensures.rule in
+    let app_3 = c.in_ok-arg-3.ensures.shape c.count_argument-2.ensures.local
+    ∙ ap₂ with_rule app_2 c.count_argument-2.ensures.rule in
+    let app_4 = c.in_ok-arg-4.ensures.shape c.dictionary_argument.ensures.local
+    ∙ ap₂ with_rule app_3 c.dictionary_argument.ensures.rule in
+    IfOk-weaker c.arg-5.result _ _ (λ command adds. adds.shape c.file_argument.ensures.local
+    ∙ ap₂ with_rule app_4 c.file_argument.ensures.rule) c.arg-5.ensures

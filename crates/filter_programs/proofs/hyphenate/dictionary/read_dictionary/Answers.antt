@@ -1,0 +1,15 @@
+use Rattle.std.proofs.Common.{List, subst, ℕ}
+use Rattle.std.specs.Prelude.{Option}
+use Rattle.textwrap_program.specs.Filling.{ReadsAll}
+use Rattle.filter_programs.proofs.ReadDictionaries.{reads}
+use Rattle.filter_programs.specs.HyphenateDictionary.{IsDictionary}
+use Rattle.filter_programs.proofs.hyphenate.dictionary.read_dictionary.Goals as goal
+
+pub returns-clause-read : goal.returns-clause-read
+returns-clause-read g c =
+    reads _ _ _ c.in-Ok-read_whole.bytes.items c.dictionary_of.result
+    (subst (λ (unread : Option (List ℕ)). ReadsAll unread
+    (g.F.Input.Read.remaining c.read_whole.new.self) c.in-Ok-read_whole.bytes.items)
+    c.in-Ok.ensures.input c.in-Ok-read_whole.ensures.ok)
+    (subst (λ (bytes : List ℕ). IsDictionary bytes c.dictionary_of.result) c.deref.ensures.value
+    c.dictionary_of.ensures)

@@ -1,0 +1,11 @@
+pub mod FillArguments
+pub mod FillFilling
+pub mod FillProgram
+pub mod FillWords
+pub mod HyphenateArguments
+pub mod HyphenateDictionary
+pub mod HyphenateProgram
+pub mod HyphenateTexts
+pub mod ReflowArguments
+pub mod ReflowLayout
+pub mod ReflowProgram

@@ -1,0 +1,5 @@
+//! The program `reflow`.
+
+pub mod arguments;
+pub mod layout;
+pub mod program;

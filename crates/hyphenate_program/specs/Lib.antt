@@ -1,4 +1,0 @@
-pub mod Texts
-pub mod Dictionary
-pub mod Arguments
-pub mod Program

@@ -7,25 +7,7 @@
 //! tests may stand too.
 #![tactic(auto)]
 
-pub mod attributes;
-pub mod balancing;
-pub mod bounds;
-pub mod breaks;
-pub mod columns;
-pub mod display;
-pub mod filling;
-pub mod fitting;
-pub mod fragments;
-pub mod hyphens;
-pub mod indentation;
-pub mod line_lists;
-pub mod paragraphs;
-pub mod pieces;
-pub mod refilling;
+pub mod calls;
+pub mod more_calls;
 pub mod reflowing;
-pub mod steps;
-pub mod tables;
-pub mod text_steps;
 pub mod version;
-pub mod widths;
-pub mod wrapping;

@@ -11,8 +11,9 @@ ghost use Rattle.textwrap_more_calls.specs.Balancing.{first_fit_at};
 use simdutf8::basic::from_utf8;
 use std::alloc::Global;
 use textwrap_calls::options::{TextwrapOptions, read_options};
+use textwrap_calls::reported::TextwrapLine;
 use textwrap_calls::status::{DONE, NOT_UTF8, OUT_OF_MEMORY};
-use textwrap_calls::wrapping::{TextwrapLine, textwrap_wrap_utf8};
+use textwrap_calls::wrapping::textwrap_wrap_utf8;
 use textwrap_plain::balanced_width;
 
 /// Writes the balanced lines of a text as `textwrap_wrap` writes its lines: those of first fit at the

@@ -28,6 +28,7 @@ type ColumnWidthRow<'a> = (usize, usize, TextwrapGaps<'a>, (u32, usize));
 
 /// The width that texts in columns are wrapped at. What is not known is refused before a gap that is no
 /// text.
+#[rattlefmt::skip]
 const COLUMN_WIDTHS: &[ColumnWidthRow<'_>] = &[
     (24, 4, BARS, (DONE, 4)),
     (24, 1, BARS, (DONE, 22)),
@@ -36,24 +37,8 @@ const COLUMN_WIDTHS: &[ColumnWidthRow<'_>] = &[
     (0, usize::MAX, BARS, (DONE, 1)),
     (24, 0, BARS, (UNKNOWN_OPTIONS, BEFORE)),
     (24, 4, UNKNOWN_GAPS, (UNKNOWN_OPTIONS, BEFORE)),
-    (
-        24,
-        4,
-        TextwrapGaps {
-            right: b"\xff",
-            ..BARS
-        },
-        (NOT_UTF8, BEFORE),
-    ),
-    (
-        24,
-        0,
-        TextwrapGaps {
-            right: b"\xff",
-            ..BARS
-        },
-        (UNKNOWN_OPTIONS, BEFORE),
-    ),
+    (24, 4, TextwrapGaps { right: b"\xff", ..BARS }, (NOT_UTF8, BEFORE)),
+    (24, 0, TextwrapGaps { right: b"\xff", ..BARS }, (UNKNOWN_OPTIONS, BEFORE)),
 ];
 
 #[test]

@@ -67,24 +67,13 @@ fn a_text_is_no_longer_than_its_bound(rt: HostRuntime) {
 }
 
 /// A call and a text; how many lines it has, and their bound; how much room they take, and its bound.
+#[rattlefmt::skip]
 const LINES: &[(LinesCall<'_>, &[u8], (usize, usize), (usize, usize))] = &[
     (LinesCall::Wrap(DEFAULTS), b"", (1, 1), (0, 0)),
     (LinesCall::Wrap(DEFAULTS), b"foo\n\nbar", (3, 9), (0, 0)),
     (LinesCall::Wrap(DEFAULTS), b"\n\n", (3, 3), (0, 0)),
     (LinesCall::Wrap(NARROW), b"ab", (3, 3), (6, 6)),
-    (
-        LinesCall::Columns(
-            2,
-            TextwrapOptions {
-                width: 2,
-                ..DEFAULTS
-            },
-            NO_GAPS,
-        ),
-        b"\n\n\n",
-        (2, 2),
-        (4, 7),
-    ),
+    (LinesCall::Columns(2, TextwrapOptions { width: 2, ..DEFAULTS }, NO_GAPS), b"\n\n\n", (2, 2), (4, 7)),
 ];
 
 #[test]

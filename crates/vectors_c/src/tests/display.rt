@@ -1,5 +1,8 @@
 //! Balanced lines and their width, attributes over line ends, and widths that fit the cells of a table.
-use super::places::{LinesRow, NO_OFFSET, NONE, OffsetsRow, assert_lines, assert_offsets};
+use super::places::{
+    LinesRow, NO_OFFSET, NONE, OffsetsRow, RefusedLines, assert_lines, assert_no_lines,
+    assert_offsets,
+};
 use super::plain::{AT_6, BEFORE, DEFAULTS, LinesCall, OffsetsCall, assert_told};
 use std::alloc::Global;
 use textwrap_calls::options::TextwrapOptions;
@@ -41,65 +44,25 @@ const UNKNOWN: TextwrapOptions<'_> = TextwrapOptions {
     ..AT_40
 };
 
-/// Balanced lines are reported as those of a text are. What is not known is refused before what is no
-/// text.
+/// Balanced lines are reported as those of a text are.
+#[rattlefmt::skip]
 const BALANCED: &[LinesRow] = &[
-    (
-        (LinesCall::WrapBalanced(AT_40), TITLE),
-        (DONE, 2, 0),
-        (&[(0, 18, 0), (19, 23, 0), NONE], b""),
-    ),
-    (
-        (LinesCall::WrapBalanced(AT_40), TITLE),
-        (TOO_SMALL, 2, 0),
-        (&[(0, 18, 0)], b""),
-    ),
-    (
-        (LinesCall::WrapBalanced(QUOTED), TITLE),
-        (DONE, 2, 18),
-        (&[(0, 25, 0), (0, 18, 1), NONE], b"> it was the worst____"),
-    ),
-    (
-        (LinesCall::WrapBalanced(QUOTED), TITLE),
-        (TOO_SMALL, 2, 18),
-        (&[(0, 25, 0), (0, 18, 1)], b"> it was t"),
-    ),
-    (
-        (LinesCall::WrapBalanced(AT_BREAKS), b"either/or not"),
-        (DONE, 2, 0),
-        (&[(0, 7, 0), (7, 6, 0), NONE], b""),
-    ),
+    ((LinesCall::WrapBalanced(AT_40), TITLE), (DONE, 2, 0), (&[(0, 18, 0), (19, 23, 0), NONE], b"")),
+    ((LinesCall::WrapBalanced(AT_40), TITLE), (TOO_SMALL, 2, 0), (&[(0, 18, 0)], b"")),
+    ((LinesCall::WrapBalanced(QUOTED), TITLE), (DONE, 2, 18),
+        (&[(0, 25, 0), (0, 18, 1), NONE], b"> it was the worst____")),
+    ((LinesCall::WrapBalanced(QUOTED), TITLE), (TOO_SMALL, 2, 18), (&[(0, 25, 0), (0, 18, 1)], b"> it was t")),
+    ((LinesCall::WrapBalanced(AT_BREAKS), b"either/or not"), (DONE, 2, 0), (&[(0, 7, 0), (7, 6, 0), NONE], b"")),
     // A word that is wider than a line is broken at the width of the options.
-    (
-        (LinesCall::WrapBalanced(AT_6), b"a wonderful word"),
-        (DONE, 4, 0),
-        (&[(0, 1, 0), (2, 6, 0), (8, 3, 0), (12, 4, 0), NONE], b""),
-    ),
-    (
-        (LinesCall::WrapBalanced(UNKNOWN), b"\xff"),
-        (UNKNOWN_OPTIONS, BEFORE, BEFORE),
-        (&[NONE], b"____"),
-    ),
-    (
-        (LinesCall::WrapBalanced(AT_40), b"a \xff"),
-        (NOT_UTF8, BEFORE, BEFORE),
-        (&[NONE], b"____"),
-    ),
-    (
-        (LinesCall::WrapBalanced(NO_TEXT_INDENT), b"a"),
-        (NOT_UTF8, BEFORE, BEFORE),
-        (&[NONE], b"____"),
-    ),
+    ((LinesCall::WrapBalanced(AT_6), b"a wonderful word"), (DONE, 4, 0),
+        (&[(0, 1, 0), (2, 6, 0), (8, 3, 0), (12, 4, 0), NONE], b"")),
 ];
 
 /// Lines of which the first leaves two attributes open, and the second ends one of them.
+#[rattlefmt::skip]
 const COLOURED: &[TextwrapText<'_>] = &[
-    TextwrapText {
-        bytes: b"a \x1b[1;31mb",
-    },
-    TextwrapText {
-        bytes: b"c\x1b[39md",
-    },
+    TextwrapText { bytes: b"a \x1b[1;31mb" },
+    TextwrapText { bytes: b"c\x1b[39md" },
     TextwrapText { bytes: b"e" },
 ];
 
@@ -107,84 +70,54 @@ const COLOURED: &[TextwrapText<'_>] = &[
 const NO_TEXT: &[TextwrapText<'_>] = &[TextwrapText { bytes: b"\xff" }];
 
 /// Each line sets anew what is open, of each attribute the last setting alone.
+#[rattlefmt::skip]
 const ATTRIBUTES: &[LinesRow] = &[
-    (
-        (LinesCall::CarryAttributes(COLOURED, AT_6), b""),
-        (DONE, 3, 43),
-        (
-            &[(0, 14, 1), (14, 20, 1), (34, 9, 1), NONE],
-            b"a \x1b[1;31mb\x1b[0m\x1b[1m\x1b[31mc\x1b[39md\x1b[0m\x1b[1me\x1b[0m__",
-        ),
-    ),
-    (
-        (LinesCall::CarryAttributes(COLOURED, AT_6), b""),
-        (TOO_SMALL, 3, 43),
-        (&[(0, 14, 1)], b"a \x1b[1;31mb\x1b[0m\x1b[1m\x1b[31mc"),
-    ),
-    (
-        (LinesCall::CarryAttributes(NO_TEXT, UNKNOWN), b""),
-        (UNKNOWN_OPTIONS, BEFORE, BEFORE),
-        (&[NONE], b"____"),
-    ),
-    (
-        (LinesCall::CarryAttributes(NO_TEXT, AT_6), b""),
-        (NOT_UTF8, BEFORE, BEFORE),
-        (&[NONE], b"____"),
-    ),
-    (
-        (LinesCall::CarryAttributes(&[], NO_TEXT_INDENT), b""),
-        (NOT_UTF8, BEFORE, BEFORE),
-        (&[NONE], b"____"),
-    ),
+    ((LinesCall::CarryAttributes(COLOURED, AT_6), b""), (DONE, 3, 43),
+        (&[(0, 14, 1), (14, 20, 1), (34, 9, 1), NONE],
+            b"a \x1b[1;31mb\x1b[0m\x1b[1m\x1b[31mc\x1b[39md\x1b[0m\x1b[1me\x1b[0m__")),
+    ((LinesCall::CarryAttributes(COLOURED, AT_6), b""), (TOO_SMALL, 3, 43),
+        (&[(0, 14, 1)], b"a \x1b[1;31mb\x1b[0m\x1b[1m\x1b[31mc")),
 ];
 
 /// The texts of two columns, row by row.
+#[rattlefmt::skip]
 const CELLS: &[TextwrapText<'_>] = &[
     TextwrapText { bytes: b"-h" },
-    TextwrapText {
-        bytes: b"Print this help.",
-    },
-    TextwrapText {
-        bytes: b"--width N",
-    },
-    TextwrapText {
-        bytes: b"Wrap at N columns.",
-    },
+    TextwrapText { bytes: b"Print this help." },
+    TextwrapText { bytes: b"--width N" },
+    TextwrapText { bytes: b"Wrap at N columns." },
 ];
 
 /// Columns share a total by what stands in them.
+#[rattlefmt::skip]
 const WIDTHS: &[OffsetsRow] = &[
-    (
-        OffsetsCall::FittingWidths(CELLS, 2, 20),
-        (DONE, 2),
-        &[8, 12, NO_OFFSET],
-    ),
-    (
-        OffsetsCall::FittingWidths(CELLS, 2, 20),
-        (TOO_SMALL, 2),
-        &[8],
-    ),
+    (OffsetsCall::FittingWidths(CELLS, 2, 20), (DONE, 2), &[8, 12, NO_OFFSET]),
+    (OffsetsCall::FittingWidths(CELLS, 2, 20), (TOO_SMALL, 2), &[8]),
     // Columns without texts share evenly, and the first gets what is left over.
-    (
-        OffsetsCall::FittingWidths(&[], 3, 10),
-        (DONE, 3),
-        &[4, 3, 3, NO_OFFSET],
-    ),
-    (
-        OffsetsCall::FittingWidths(CELLS, 0, 20),
-        (DONE, 0),
-        &[NO_OFFSET],
-    ),
-    (
-        OffsetsCall::FittingWidths(NO_TEXT, 2, 20),
-        (NOT_UTF8, BEFORE),
-        &[NO_OFFSET],
-    ),
+    (OffsetsCall::FittingWidths(&[], 3, 10), (DONE, 3), &[4, 3, 3, NO_OFFSET]),
+    (OffsetsCall::FittingWidths(CELLS, 0, 20), (DONE, 0), &[NO_OFFSET]),
+    (OffsetsCall::FittingWidths(NO_TEXT, 2, 20), (NOT_UTF8, BEFORE), &[NO_OFFSET]),
+];
+
+/// What is not known is refused before what is no text.
+#[rattlefmt::skip]
+const REFUSED_LINES: &[RefusedLines] = &[
+    (UNKNOWN_OPTIONS, &[
+        (LinesCall::WrapBalanced(UNKNOWN), b"\xff"),
+        (LinesCall::CarryAttributes(NO_TEXT, UNKNOWN), b""),
+    ]),
+    (NOT_UTF8, &[
+        (LinesCall::WrapBalanced(AT_40), b"a \xff"),
+        (LinesCall::WrapBalanced(NO_TEXT_INDENT), b"a"),
+        (LinesCall::CarryAttributes(NO_TEXT, AT_6), b""),
+        (LinesCall::CarryAttributes(&[], NO_TEXT_INDENT), b""),
+    ]),
 ];
 
 #[test]
 fn lines_are_balanced_and_columns_fitted(rt: HostRuntime) {
     assert_lines(&rt, BALANCED);
+    assert_no_lines(&rt, REFUSED_LINES);
     assert_lines(&rt, ATTRIBUTES);
     assert_offsets(&rt, WIDTHS);
 }

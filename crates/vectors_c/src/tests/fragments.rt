@@ -36,73 +36,25 @@ pub(super) const PENALTIES: TextwrapPenalties = TextwrapPenalties {
 };
 
 /// Lines take fragments while they fit, and no fragments are one empty line.
+#[rattlefmt::skip]
 const FIRST_FIT: &[OffsetsRow] = &[
-    (
-        OffsetsCall::FirstFit(&[FIVE, FIVE, FIVE, FIVE], &[10, 5]),
-        (DONE, 3),
-        &[2, 3, 4, NO_OFFSET],
-    ),
-    (
-        OffsetsCall::FirstFit(&[FIVE, FIVE, FIVE, FIVE], &[5]),
-        (TOO_SMALL, 4),
-        &[1, 2],
-    ),
-    (
-        OffsetsCall::FirstFit(&[], &[10]),
-        (DONE, 1),
-        &[0, NO_OFFSET, NO_OFFSET, NO_OFFSET],
-    ),
+    (OffsetsCall::FirstFit(&[FIVE, FIVE, FIVE, FIVE], &[10, 5]), (DONE, 3), &[2, 3, 4, NO_OFFSET]),
+    (OffsetsCall::FirstFit(&[FIVE, FIVE, FIVE, FIVE], &[5]), (TOO_SMALL, 4), &[1, 2]),
+    (OffsetsCall::FirstFit(&[], &[10]), (DONE, 1), &[0, NO_OFFSET, NO_OFFSET, NO_OFFSET]),
 ];
 
 /// A break penalty moves a line end, widths that are too large overflow, and penalties that are not
 /// known are refused before that.
+#[rattlefmt::skip]
 const OPTIMAL_FIT: &[OffsetsRow] = &[
-    (
-        OffsetsCall::OptimalFit(&[CARD, CARD, CARD], &[9], PENALTIES),
-        (DONE, 2),
-        &[2, 3, NO_OFFSET],
-    ),
-    (
-        OffsetsCall::OptimalFit(
-            &[
-                CARD,
-                TextwrapFragment {
-                    break_penalty: 30,
-                    ..CARD
-                },
-                CARD,
-            ],
-            &[9],
-            PENALTIES,
-        ),
-        (DONE, 2),
-        &[1, 3, NO_OFFSET],
-    ),
-    (
-        OffsetsCall::OptimalFit(
-            &[WIDE, WIDE],
-            &[0],
-            TextwrapPenalties {
-                overflow_penalty: usize::MAX,
-                ..PENALTIES
-            },
-        ),
-        (OVERFLOW, BEFORE),
-        &[NO_OFFSET, NO_OFFSET],
-    ),
-    (
-        OffsetsCall::OptimalFit(
-            &[WIDE, WIDE],
-            &[0],
-            TextwrapPenalties {
-                overflow_penalty: usize::MAX,
-                reserved_sizes: [1, 0, 0, 0],
-                ..PENALTIES
-            },
-        ),
-        (UNKNOWN_OPTIONS, BEFORE),
-        &[NO_OFFSET, NO_OFFSET],
-    ),
+    (OffsetsCall::OptimalFit(&[CARD, CARD, CARD], &[9], PENALTIES), (DONE, 2), &[2, 3, NO_OFFSET]),
+    (OffsetsCall::OptimalFit(&[CARD, TextwrapFragment { break_penalty: 30, ..CARD }, CARD], &[9], PENALTIES), (DONE, 2),
+        &[1, 3, NO_OFFSET]),
+    (OffsetsCall::OptimalFit(&[WIDE, WIDE], &[0], TextwrapPenalties { overflow_penalty: usize::MAX, ..PENALTIES }),
+        (OVERFLOW, BEFORE), &[NO_OFFSET, NO_OFFSET]),
+    (OffsetsCall::OptimalFit(&[WIDE, WIDE], &[0],
+            TextwrapPenalties { overflow_penalty: usize::MAX, reserved_sizes: [1, 0, 0, 0], ..PENALTIES }),
+        (UNKNOWN_OPTIONS, BEFORE), &[NO_OFFSET, NO_OFFSET]),
 ];
 
 #[test]

@@ -1,8 +1,13 @@
 //! Hyphenation by patterns: dictionaries that are read into numbers, the points of words, and texts with
 //! hyphens.
-use super::places::{LinesRow, NO_OFFSET, NONE, assert_lines, assert_offsets_of};
-use super::plain::{AT_6, BEFORE, DEFAULTS, LinesCall, OffsetsCall, TextCall, assert_holds};
-use super::texts::{TextRow, assert_beginnings, assert_texts};
+use super::lines::NO_TEXT_GAPS;
+use super::places::{
+    LinesRow, NO_OFFSET, NONE, RefusedLines, assert_lines, assert_no_lines, assert_offsets_of,
+};
+use super::plain::{
+    AT_6, BEFORE, DEFAULTS, LinesCall, OffsetsCall, TextCall, UNKNOWN_GAPS, assert_holds,
+};
+use super::texts::{RefusedTexts, TextRow, assert_beginnings, assert_no_texts, assert_texts};
 use std::alloc::{AllocError, Global};
 use std::process::Abort;
 use textwrap_calls::columns::TextwrapGaps;
@@ -262,17 +267,14 @@ pub(super) fn write_columns(
 type ReadRow = (&'static [u8], usize, (u32, usize, usize));
 
 /// The first line that is wrong is told, and nothing else then.
+#[rattlefmt::skip]
 const READ: &[ReadRow] = &[
     (PATTERNS, MOST, (DONE, NUMBERS, BEFORE)),
     (PATTERNS, NUMBERS, (DONE, NUMBERS, BEFORE)),
     (PATTERNS, NUMBERS - 1, (TOO_SMALL, NUMBERS, BEFORE)),
     (PATTERNS, 0, (TOO_SMALL, NUMBERS, BEFORE)),
     (b"", MOST, (WRONG_PATTERNS, BEFORE, 1)),
-    (
-        b"hy3ph\n\nhe/2n\nNOHYPHEN a\n",
-        MOST,
-        (WRONG_PATTERNS, BEFORE, 3),
-    ),
+    (b"hy3ph\n\nhe/2n\nNOHYPHEN a\n", MOST, (WRONG_PATTERNS, BEFORE, 3)),
     (b"ISO8859-1\nhy3ph n\n", 0, (WRONG_PATTERNS, BEFORE, 2)),
     (b"% TeX\n\\patterns{hy3ph\n", 0, (WRONG_PATTERNS, BEFORE, 2)),
     (b"hy/3ph\n\xff", 0, (NOT_UTF8, BEFORE, BEFORE)),
@@ -354,6 +356,7 @@ type PointsRow = (&'static [u8], Hyphens, (u32, usize), &'static [usize]);
 
 /// A word with a hyphen has no points, unless its parts are hyphenated. What is not known is refused
 /// before a word that is none, and that before numbers that were damaged.
+#[rattlefmt::skip]
 const POINTS: &[PointsRow] = &[
     (b"hyphenation", WHOLE, (DONE, 2), &[2, 6, NO_OFFSET]),
     (b"hyphenation", WHOLE, (TOO_SMALL, 2), &[2]),
@@ -363,37 +366,12 @@ const POINTS: &[PointsRow] = &[
     (b"re-hyphenation", CHECKED, (DONE, 2), &[5, 9]),
     (b"", WHOLE, (DONE, 0), &[]),
     (b"\xff", UNKNOWN, (UNKNOWN_OPTIONS, BEFORE), &[NO_OFFSET]),
-    (
-        b"\xff",
-        UNKNOWN_CHECK,
-        (UNKNOWN_OPTIONS, BEFORE),
-        &[NO_OFFSET],
-    ),
-    (
-        b"hyphenation",
-        RESERVED,
-        (UNKNOWN_OPTIONS, BEFORE),
-        &[NO_OFFSET],
-    ),
-    (
-        b"hyphenation",
-        LATER_RESERVED,
-        (UNKNOWN_OPTIONS, BEFORE),
-        &[NO_OFFSET],
-    ),
+    (b"\xff", UNKNOWN_CHECK, (UNKNOWN_OPTIONS, BEFORE), &[NO_OFFSET]),
+    (b"hyphenation", RESERVED, (UNKNOWN_OPTIONS, BEFORE), &[NO_OFFSET]),
+    (b"hyphenation", LATER_RESERVED, (UNKNOWN_OPTIONS, BEFORE), &[NO_OFFSET]),
     (b"\xff", SHORT, (NOT_UTF8, BEFORE), &[NO_OFFSET]),
-    (
-        b"hyphenation",
-        CHANGED,
-        (DAMAGED_TABLE, BEFORE),
-        &[NO_OFFSET],
-    ),
-    (
-        b"hyphenation",
-        EXCHANGED,
-        (DAMAGED_TABLE, BEFORE),
-        &[NO_OFFSET],
-    ),
+    (b"hyphenation", CHANGED, (DAMAGED_TABLE, BEFORE), &[NO_OFFSET]),
+    (b"hyphenation", EXCHANGED, (DAMAGED_TABLE, BEFORE), &[NO_OFFSET]),
     (b"hyphenation", SHORT, (DAMAGED_TABLE, BEFORE), &[NO_OFFSET]),
     // Three letters have to stand before a point here, in place of two.
     (b"hyphenation", UNTESTED, (DONE, 1), &[6, NO_OFFSET]),
@@ -421,112 +399,22 @@ pub(super) const AT_11: TextwrapOptions<'_> = TextwrapOptions {
 };
 
 /// A hyphen is written at a point of the patterns, and none behind a hyphen of the word.
+#[rattlefmt::skip]
 const FILLED: &[TextRow] = &[
-    (
-        (TextCall::FillHyphenated(AT_11, WHOLE), b"the hyphenation"),
-        (DONE, 17, b"the hyphen-\nation__"),
-    ),
-    (
-        (TextCall::FillHyphenated(AT_6, WHOLE), b"hyphenation"),
-        (DONE, 15, b"hy-\nphen-\nation__"),
-    ),
-    (
-        (
-            TextCall::FillHyphenated(AT_11, WHOLE),
-            b"the re-hyphenation",
-        ),
-        (DONE, 19, b"the re-\nhyphenation__"),
-    ),
-    (
-        (TextCall::FillHyphenated(AT_6, IN_PARTS), b"re-hyphenation"),
-        (DONE, 18, b"re-hy-\nphen-\nation__"),
-    ),
+    ((TextCall::FillHyphenated(AT_11, WHOLE), b"the hyphenation"), (DONE, 17, b"the hyphen-\nation__")),
+    ((TextCall::FillHyphenated(AT_6, WHOLE), b"hyphenation"), (DONE, 15, b"hy-\nphen-\nation__")),
+    ((TextCall::FillHyphenated(AT_11, WHOLE), b"the re-hyphenation"), (DONE, 19, b"the re-\nhyphenation__")),
+    ((TextCall::FillHyphenated(AT_6, IN_PARTS), b"re-hyphenation"), (DONE, 18, b"re-hy-\nphen-\nation__")),
     // At blanks this is one word.
-    (
-        (
-            TextCall::FillHyphenated(AT_6, WHOLE),
-            b"\xe4\xbd\xa0\xe5\xa5\xbdhyphenation",
-        ),
-        (DONE, 21, b"\xe4\xbd\xa0\xe5\xa5\xbdhy-\nphen-\nation__"),
-    ),
-    (
-        (
-            TextCall::FillHyphenated(AT_BREAKS, WHOLE),
-            b"\xe4\xbd\xa0\xe5\xa5\xbdhyphenation",
-        ),
-        (DONE, 22, b"\xe4\xbd\xa0\xe5\xa5\xbd\nhy-\nphen-\nation__"),
-    ),
+    ((TextCall::FillHyphenated(AT_6, WHOLE), b"\xe4\xbd\xa0\xe5\xa5\xbdhyphenation"),
+        (DONE, 21, b"\xe4\xbd\xa0\xe5\xa5\xbdhy-\nphen-\nation__")),
+    ((TextCall::FillHyphenated(AT_BREAKS, WHOLE), b"\xe4\xbd\xa0\xe5\xa5\xbdhyphenation"),
+        (DONE, 22, b"\xe4\xbd\xa0\xe5\xa5\xbd\nhy-\nphen-\nation__")),
     // By pairs no line ends between `%` and `(`; by the expression it may, as no digit stands there.
-    (
-        (TextCall::FillHyphenated(AT_BREAKS, WHOLE), b"ab%(cdef)"),
-        (DONE, 10, b"ab%(cd\nef)__"),
-    ),
-    (
-        (
-            TextCall::FillHyphenated(AT_BREAKS_BY_EXPRESSION, WHOLE),
-            b"ab%(cdef)",
-        ),
-        (DONE, 10, b"ab%\n(cdef)__"),
-    ),
-    (
-        (
-            TextCall::FillHyphenated(AT_BREAKS_BY_EXPRESSION, WHOLE),
-            b"\xe4\xbd\xa0\xe5\xa5\xbdhyphenation",
-        ),
-        (DONE, 22, b"\xe4\xbd\xa0\xe5\xa5\xbd\nhy-\nphen-\nation__"),
-    ),
-];
-
-/// What is not known is refused before a text that is none, and that before numbers that were damaged.
-const REFUSED: &[TextRow] = &[
-    (
-        (TextCall::FillHyphenated(AT_11, UNKNOWN), b"\xff"),
-        (UNKNOWN_OPTIONS, BEFORE, b"__"),
-    ),
-    (
-        (TextCall::FillHyphenated(AT_UNKNOWN, WHOLE), b"a"),
-        (UNKNOWN_OPTIONS, BEFORE, b"__"),
-    ),
-    (
-        (TextCall::FillHyphenated(AT_11, LATER_RESERVED), b"a"),
-        (UNKNOWN_OPTIONS, BEFORE, b"__"),
-    ),
-    (
-        (TextCall::RefillHyphenated(AT_UNKNOWN, WHOLE), b"\xff"),
-        (UNKNOWN_OPTIONS, BEFORE, b"__"),
-    ),
-    (
-        (TextCall::RefillHyphenated(AT_11, UNKNOWN_CHECK), b"a"),
-        (UNKNOWN_OPTIONS, BEFORE, b"__"),
-    ),
-    (
-        (TextCall::RefillHyphenated(WRONG_INDENT, SHORT), b"a"),
-        (NOT_UTF8, BEFORE, b"__"),
-    ),
-    (
-        (TextCall::RefillHyphenated(AT_11, CHANGED), b"a"),
-        (DAMAGED_TABLE, BEFORE, b"__"),
-    ),
-    (
-        (TextCall::FillHyphenated(AT_11, SHORT), b"\xff"),
-        (NOT_UTF8, BEFORE, b"__"),
-    ),
-    (
-        (TextCall::FillHyphenated(WRONG_INDENT, SHORT), b"a"),
-        (NOT_UTF8, BEFORE, b"__"),
-    ),
-    (
-        (TextCall::FillHyphenated(AT_11, CHANGED), b"a"),
-        (DAMAGED_TABLE, BEFORE, b"__"),
-    ),
-    (
-        (TextCall::FillHyphenated(AT_11, EXCHANGED), b"a"),
-        (DAMAGED_TABLE, BEFORE, b"__"),
-    ),
-    (
-        (TextCall::FillHyphenated(AT_11, SHORT), b"a"),
-        (DAMAGED_TABLE, BEFORE, b"__"),
-    ),
+    ((TextCall::FillHyphenated(AT_BREAKS, WHOLE), b"ab%(cdef)"), (DONE, 10, b"ab%(cd\nef)__")),
+    ((TextCall::FillHyphenated(AT_BREAKS_BY_EXPRESSION, WHOLE), b"ab%(cdef)"), (DONE, 10, b"ab%\n(cdef)__")),
+    ((TextCall::FillHyphenated(AT_BREAKS_BY_EXPRESSION, WHOLE), b"\xe4\xbd\xa0\xe5\xa5\xbdhyphenation"),
+        (DONE, 22, b"\xe4\xbd\xa0\xe5\xa5\xbd\nhy-\nphen-\nation__")),
 ];
 
 /// Words that end nobody knows where.
@@ -553,10 +441,52 @@ const WRONG_INDENT: TextwrapOptions<'_> = TextwrapOptions {
     ..AT_11
 };
 
+/// What is not known is refused before a text that is none, and that before numbers that were damaged.
+#[rattlefmt::skip]
+const REFUSED_TEXTS: &[RefusedTexts] = &[
+    (UNKNOWN_OPTIONS, &[
+        (TextCall::FillHyphenated(AT_11, UNKNOWN), b"\xff"),
+        (TextCall::FillHyphenated(AT_UNKNOWN, WHOLE), b"a"),
+        (TextCall::FillHyphenated(AT_11, LATER_RESERVED), b"a"),
+        (TextCall::RefillHyphenated(AT_UNKNOWN, WHOLE), b"\xff"),
+        (TextCall::RefillHyphenated(AT_11, UNKNOWN_CHECK), b"a"),
+    ]),
+    (NOT_UTF8, &[
+        (TextCall::RefillHyphenated(WRONG_INDENT, SHORT), b"a"),
+        (TextCall::FillHyphenated(AT_11, SHORT), b"\xff"),
+        (TextCall::FillHyphenated(WRONG_INDENT, SHORT), b"a"),
+    ]),
+    (DAMAGED_TABLE, &[
+        (TextCall::RefillHyphenated(AT_11, CHANGED), b"a"),
+        (TextCall::FillHyphenated(AT_11, CHANGED), b"a"),
+        (TextCall::FillHyphenated(AT_11, EXCHANGED), b"a"),
+        (TextCall::FillHyphenated(AT_11, SHORT), b"a"),
+    ]),
+];
+
+/// The same of the calls that write lines.
+#[rattlefmt::skip]
+const REFUSED_LINES: &[RefusedLines] = &[
+    (UNKNOWN_OPTIONS, &[
+        (LinesCall::WrapHyphenated(AT_UNKNOWN, WHOLE), b"a"),
+        (LinesCall::ColumnsHyphenated(0, AT_15, BAR, WHOLE), b"\xff"),
+        (LinesCall::ColumnsHyphenated(1, AT_15, UNKNOWN_GAPS, WHOLE), b"a"),
+        (LinesCall::ColumnsHyphenated(1, AT_15, NO_TEXT_GAPS, RESERVED), b"a"),
+    ]),
+    (NOT_UTF8, &[
+        (LinesCall::WrapHyphenated(AT_11, SHORT), b"\xff"),
+        (LinesCall::ColumnsHyphenated(1, AT_15, NO_TEXT_GAPS, SHORT), b"a"),
+    ]),
+    (DAMAGED_TABLE, &[
+        (LinesCall::WrapHyphenated(AT_11, SHORT), b"a"),
+        (LinesCall::ColumnsHyphenated(1, AT_15, BAR, EXCHANGED), b"a"),
+    ]),
+];
+
 #[test]
 fn texts_are_filled_with_hyphens(rt: HostRuntime) {
     assert_texts(&rt, FILLED);
-    assert_texts(&rt, REFUSED);
+    assert_no_texts(&rt, REFUSED_TEXTS);
     assert_beginnings(&rt, FILLED);
 }
 
@@ -568,37 +498,16 @@ const AT_14: TextwrapOptions<'_> = TextwrapOptions {
 };
 
 /// A text is filled again with its own indents. A hyphen that was added before stays.
+#[rattlefmt::skip]
 const REFILLED: &[TextRow] = &[
-    (
-        (
-            TextCall::RefillHyphenated(AT_14, WHOLE),
-            b"// the\n// hyphenation\n",
-        ),
-        (DONE, 24, b"// the hyphen-\n// ation\n__"),
-    ),
-    (
-        (
-            TextCall::RefillHyphenated(TextwrapOptions { width: 20, ..AT_14 }, WHOLE),
-            b"// the hyphen-\n// ation\n",
-        ),
-        (DONE, 21, b"// the hyphen- ation\n__"),
-    ),
-    (
-        (TextCall::RefillHyphenated(AT_6, CHECKED), b"re-hyphenation"),
-        (DONE, 18, b"re-hy-\nphen-\nation__"),
-    ),
+    ((TextCall::RefillHyphenated(AT_14, WHOLE), b"// the\n// hyphenation\n"),
+        (DONE, 24, b"// the hyphen-\n// ation\n__")),
+    ((TextCall::RefillHyphenated(TextwrapOptions { width: 20, ..AT_14 }, WHOLE), b"// the hyphen-\n// ation\n"),
+        (DONE, 21, b"// the hyphen- ation\n__")),
+    ((TextCall::RefillHyphenated(AT_6, CHECKED), b"re-hyphenation"), (DONE, 18, b"re-hy-\nphen-\nation__")),
     // At blanks this is one word.
-    (
-        (
-            TextCall::RefillHyphenated(AT_BREAKS, WHOLE),
-            b"> \xe4\xbd\xa0\xe5\xa5\xbdhyphenation\n",
-        ),
-        (
-            DONE,
-            25,
-            b"> \xe4\xbd\xa0\n\xe5\xa5\xbdhy-\nphen-\nation\n__",
-        ),
-    ),
+    ((TextCall::RefillHyphenated(AT_BREAKS, WHOLE), b"> \xe4\xbd\xa0\xe5\xa5\xbdhyphenation\n"),
+        (DONE, 25, b"> \xe4\xbd\xa0\n\xe5\xa5\xbdhy-\nphen-\nation\n__")),
 ];
 
 #[test]
@@ -608,58 +517,23 @@ fn texts_are_filled_again_with_hyphens(rt: HostRuntime) {
 }
 
 /// A line with a hyphen is a text of its own.
+#[rattlefmt::skip]
 const WRAPPED: &[LinesRow] = &[
-    (
-        (LinesCall::WrapHyphenated(AT_11, WHOLE), b"the hyphenation"),
-        (DONE, 2, 11),
-        (&[(0, 11, 1), (10, 5, 0), NONE], b"the hyphen-_"),
-    ),
-    (
-        (LinesCall::WrapHyphenated(AT_11, WHOLE), b"the hyphenation"),
-        (TOO_SMALL, 2, 11),
-        (&[(0, 11, 1)], b"the hyphen-"),
-    ),
-    (
-        (LinesCall::WrapHyphenated(AT_11, WHOLE), b"the hyphenation"),
-        (TOO_SMALL, 2, 11),
-        (&[(0, 11, 1), (10, 5, 0)], b"the hyphen"),
-    ),
-    (
-        (LinesCall::WrapHyphenated(AT_11, WHOLE), b""),
-        (DONE, 1, 0),
-        (&[(0, 0, 0)], b"_"),
-    ),
-    (
-        (
-            LinesCall::WrapHyphenated(AT_BREAKS, WHOLE),
-            b"\xe4\xbd\xa0\xe5\xa5\xbdhyphenation",
-        ),
-        (DONE, 4, 8),
-        (
-            &[(0, 6, 0), (0, 3, 1), (3, 5, 1), (12, 5, 0), NONE],
-            b"hy-phen-_",
-        ),
-    ),
-    (
-        (LinesCall::WrapHyphenated(AT_UNKNOWN, WHOLE), b"a"),
-        (UNKNOWN_OPTIONS, BEFORE, BEFORE),
-        (&[NONE], b"_"),
-    ),
-    (
-        (LinesCall::WrapHyphenated(AT_11, SHORT), b"\xff"),
-        (NOT_UTF8, BEFORE, BEFORE),
-        (&[NONE], b"_"),
-    ),
-    (
-        (LinesCall::WrapHyphenated(AT_11, SHORT), b"a"),
-        (DAMAGED_TABLE, BEFORE, BEFORE),
-        (&[NONE], b"_"),
-    ),
+    ((LinesCall::WrapHyphenated(AT_11, WHOLE), b"the hyphenation"), (DONE, 2, 11),
+        (&[(0, 11, 1), (10, 5, 0), NONE], b"the hyphen-_")),
+    ((LinesCall::WrapHyphenated(AT_11, WHOLE), b"the hyphenation"), (TOO_SMALL, 2, 11),
+        (&[(0, 11, 1)], b"the hyphen-")),
+    ((LinesCall::WrapHyphenated(AT_11, WHOLE), b"the hyphenation"), (TOO_SMALL, 2, 11),
+        (&[(0, 11, 1), (10, 5, 0)], b"the hyphen")),
+    ((LinesCall::WrapHyphenated(AT_11, WHOLE), b""), (DONE, 1, 0), (&[(0, 0, 0)], b"_")),
+    ((LinesCall::WrapHyphenated(AT_BREAKS, WHOLE), b"\xe4\xbd\xa0\xe5\xa5\xbdhyphenation"), (DONE, 4, 8),
+        (&[(0, 6, 0), (0, 3, 1), (3, 5, 1), (12, 5, 0), NONE], b"hy-phen-_")),
 ];
 
 #[test]
 fn texts_are_wrapped_with_hyphens(rt: HostRuntime) {
     assert_lines(&rt, WRAPPED);
+    assert_no_lines(&rt, REFUSED_LINES);
 }
 
 /// A bar between each two columns.
@@ -680,97 +554,15 @@ const AT_BREAKS_IN_COLUMNS: TextwrapOptions<'_> = TextwrapOptions {
     ..AT_11
 };
 
-/// The width of a column is that of the lines. What is not known is refused before a text that is none,
-/// and that before numbers that were damaged.
+/// The width of a column is that of the lines.
+#[rattlefmt::skip]
 const IN_COLUMNS: &[LinesRow] = &[
-    (
-        (
-            LinesCall::ColumnsHyphenated(2, AT_15, BAR, WHOLE),
-            b"the hyphenation",
-        ),
-        (DONE, 2, 30),
-        (
-            &[(0, 15, 1), (15, 15, 1), NONE],
-            b"the hy-|ation  phen-  |       _",
-        ),
-    ),
-    (
-        (
-            LinesCall::ColumnsHyphenated(2, AT_15, BAR, CHECKED),
-            b"the hyphenation",
-        ),
-        (TOO_SMALL, 2, 30),
-        (&[(0, 15, 1)], b"the hy-|ation  phen"),
-    ),
-    (
-        (
-            LinesCall::ColumnsHyphenated(2, AT_BREAKS_IN_COLUMNS, BAR, CHECKED),
-            b"\xe4\xbd\xa0\xe5\xa5\xbdhyphenation",
-        ),
-        (DONE, 2, 28),
-        (
-            &[(0, 15, 1), (15, 13, 1), NONE],
-            b"\xe4\xbd\xa0\xe5\xa5\xbd  |phen- hy-   |ation _",
-        ),
-    ),
-    (
-        (LinesCall::ColumnsHyphenated(0, AT_15, BAR, WHOLE), b"\xff"),
-        (UNKNOWN_OPTIONS, BEFORE, BEFORE),
-        (&[NONE], b"_"),
-    ),
-    (
-        (
-            LinesCall::ColumnsHyphenated(
-                1,
-                AT_15,
-                TextwrapGaps {
-                    reserved_sizes: [0, 0, 0, 1],
-                    ..BAR
-                },
-                WHOLE,
-            ),
-            b"a",
-        ),
-        (UNKNOWN_OPTIONS, BEFORE, BEFORE),
-        (&[NONE], b"_"),
-    ),
-    (
-        (
-            LinesCall::ColumnsHyphenated(
-                1,
-                AT_15,
-                TextwrapGaps {
-                    right: b"\xff",
-                    ..BAR
-                },
-                RESERVED,
-            ),
-            b"a",
-        ),
-        (UNKNOWN_OPTIONS, BEFORE, BEFORE),
-        (&[NONE], b"_"),
-    ),
-    (
-        (
-            LinesCall::ColumnsHyphenated(
-                1,
-                AT_15,
-                TextwrapGaps {
-                    right: b"\xff",
-                    ..BAR
-                },
-                SHORT,
-            ),
-            b"a",
-        ),
-        (NOT_UTF8, BEFORE, BEFORE),
-        (&[NONE], b"_"),
-    ),
-    (
-        (LinesCall::ColumnsHyphenated(1, AT_15, BAR, EXCHANGED), b"a"),
-        (DAMAGED_TABLE, BEFORE, BEFORE),
-        (&[NONE], b"_"),
-    ),
+    ((LinesCall::ColumnsHyphenated(2, AT_15, BAR, WHOLE), b"the hyphenation"), (DONE, 2, 30),
+        (&[(0, 15, 1), (15, 15, 1), NONE], b"the hy-|ation  phen-  |       _")),
+    ((LinesCall::ColumnsHyphenated(2, AT_15, BAR, CHECKED), b"the hyphenation"), (TOO_SMALL, 2, 30),
+        (&[(0, 15, 1)], b"the hy-|ation  phen")),
+    ((LinesCall::ColumnsHyphenated(2, AT_BREAKS_IN_COLUMNS, BAR, CHECKED), b"\xe4\xbd\xa0\xe5\xa5\xbdhyphenation"),
+        (DONE, 2, 28), (&[(0, 15, 1), (15, 13, 1), NONE], b"\xe4\xbd\xa0\xe5\xa5\xbd  |phen- hy-   |ation _")),
 ];
 
 #[test]

@@ -91,140 +91,48 @@ pub(super) fn write_lines_twice(
 /// A call, what its text is made of and how often, and how long the answer is.
 type TextRow = (TextCall<'static>, &'static str, usize, usize);
 
+#[rattlefmt::skip]
 const TEXTS: &[TextRow] = &[
     (TextCall::Fill(AT_80), LINE, LINES, LEN),
-    (
-        TextCall::Refill(TextwrapOptions {
-            width: 11,
-            ..DEFAULTS
-        }),
-        LINE,
-        LINES,
-        LEN,
-    ),
-    (
-        TextCall::Fill(TextwrapOptions {
-            unicode_breaks: 1,
-            ..AT_80
-        }),
-        LINE,
-        LINES,
-        LEN,
-    ),
+    (TextCall::Refill(TextwrapOptions { width: 11, ..DEFAULTS }), LINE, LINES, LEN),
+    (TextCall::Fill(TextwrapOptions { unicode_breaks: 1, ..AT_80 }), LINE, LINES, LEN),
     (TextCall::Strip, LINE, LINES, LEN),
     (TextCall::Unfill, LINE, LINES, LEN),
     (TextCall::Indent(b"> "), LINE, LINES, LEN + 2 * LINES),
     (TextCall::Dedent, LINE, LINES, LEN),
-    (
-        TextCall::FillJustified(TextwrapOptions {
-            width: 8,
-            ..DEFAULTS
-        }),
-        LINE,
-        LINES,
-        LEN + LINES,
-    ),
+    (TextCall::FillJustified(TextwrapOptions { width: 8, ..DEFAULTS }), LINE, LINES, LEN + LINES),
     // One paragraph.
-    (
-        TextCall::Reflow(TextwrapReflowOptions {
-            width: 80,
-            ..REFLOWED
-        }),
-        LINE,
-        LINES,
-        LEN,
-    ),
+    (TextCall::Reflow(TextwrapReflowOptions { width: 80, ..REFLOWED }), LINE, LINES, LEN),
     // The text as one line, in which a line feed takes no columns.
     (TextCall::Align(LEN, 1), LINE, LINES, LEN + LINES),
     (TextCall::Justify(LEN), LINE, LINES, LEN + LINES),
-    (
-        TextCall::Shorten(11 * HALF + 7, b""),
-        LINE,
-        LINES,
-        HALF * 12 + 7,
-    ),
+    (TextCall::Shorten(11 * HALF + 7, b""), LINE, LINES, HALF * 12 + 7),
     // Blanks beside no text, and nine gaps of 5,000.
     (TextCall::Align(10_000, 2), "", 1, 10_000),
     (TextCall::Justify(45_011), "a ", 10, 45_011),
     (TextCall::ExpandTabs(8), "abc\td\n", LINES, 10 * LINES),
     // Each line becomes two.
-    (
-        TextCall::FillHyphenated(AT_11, WHOLE),
-        "the hyphenation\n",
-        20_000,
-        18 * 20_000,
-    ),
+    (TextCall::FillHyphenated(AT_11, WHOLE), "the hyphenation\n", 20_000, 18 * 20_000),
 ];
 
 /// A call, what its text is made of and how often, how many lines there are at most, and how much room
 /// they take.
 type LinesRow = (LinesCall<'static>, &'static str, usize, usize, usize);
 
+#[rattlefmt::skip]
 const LINES_AND_ROWS: &[LinesRow] = &[
     // Rows of one column of 11 with a bar at their right, and lines with an indent of one blank, so
     // that each of them is built.
-    (
-        LinesCall::Columns(
-            1,
-            TextwrapOptions {
-                width: 12,
-                ..DEFAULTS
-            },
-            TextwrapGaps {
-                right: b"|",
-                ..NO_GAPS
-            },
-        ),
-        LINE,
-        LINES,
-        LINES + 1,
-        LEN + 12,
-    ),
-    (
-        LinesCall::Wrap(TextwrapOptions {
-            initial_indent: b" ",
-            subsequent_indent: b" ",
-            ..AT_80
-        }),
-        LINE,
-        LINES,
-        LINES + 1,
-        LEN + 1,
-    ),
-    (
-        LinesCall::WrapBalanced(TextwrapOptions {
-            initial_indent: b" ",
-            subsequent_indent: b" ",
-            ..AT_80
-        }),
-        LINE,
-        LINES,
-        LINES + 1,
-        LEN + 1,
-    ),
+    (LinesCall::Columns(1, TextwrapOptions { width: 12, ..DEFAULTS }, TextwrapGaps { right: b"|", ..NO_GAPS }), LINE,
+        LINES, LINES + 1, LEN + 12),
+    (LinesCall::Wrap(TextwrapOptions { initial_indent: b" ", subsequent_indent: b" ", ..AT_80 }), LINE, LINES,
+        LINES + 1, LEN + 1),
+    (LinesCall::WrapBalanced(TextwrapOptions { initial_indent: b" ", subsequent_indent: b" ", ..AT_80 }), LINE, LINES,
+        LINES + 1, LEN + 1),
     // The first of each two lines has a hyphen and is built.
-    (
-        LinesCall::WrapHyphenated(AT_11, WHOLE),
-        "the hyphenation\n",
-        20_000,
-        2 * 20_000 + 1,
-        11 * 20_000,
-    ),
+    (LinesCall::WrapHyphenated(AT_11, WHOLE), "the hyphenation\n", 20_000, 2 * 20_000 + 1, 11 * 20_000),
     // Two rows of 200 columns of 4, with a bar beside each.
-    (
-        LinesCall::Columns(
-            200,
-            TextwrapOptions {
-                width: 1_001,
-                ..DEFAULTS
-            },
-            BARS,
-        ),
-        "ab ",
-        400,
-        2,
-        2 * 1_001,
-    ),
+    (LinesCall::Columns(200, TextwrapOptions { width: 1_001, ..DEFAULTS }, BARS), "ab ", 400, 2, 2 * 1_001),
 ];
 
 /// What the call of a row tells.
@@ -308,27 +216,14 @@ pub(super) fn last_piece(
 
 /// Calls with room for one piece more than two a line; the status, and how many pieces they tell; the
 /// last of the room.
+#[rattlefmt::skip]
 const PIECES: &[(PiecesCall<'_>, (u32, usize), PiecePlace)] = &[
-    (
-        PiecesCall::Pieces(AT_80),
-        (DONE, 2 * LINES + 1),
-        (LEN - 4, 4, 0, 0, 3),
-    ),
+    (PiecesCall::Pieces(AT_80), (DONE, 2 * LINES + 1), (LEN - 4, 4, 0, 0, 3)),
     // A line may end after each line feed, so these are more than there is room for.
-    (
-        PiecesCall::Pieces(TextwrapOptions {
-            unicode_breaks: 1,
-            ..AT_80
-        }),
-        (TOO_SMALL, 3 * LINES),
-        (2 * LINES / 3 * 12 + 8, 4, 0, 0, 3),
-    ),
+    (PiecesCall::Pieces(TextwrapOptions { unicode_breaks: 1, ..AT_80 }), (TOO_SMALL, 3 * LINES),
+        (2 * LINES / 3 * 12 + 8, 4, 0, 0, 3)),
     // Its lines have 11 columns each.
-    (
-        PiecesCall::BreakApart(10),
-        (DONE, (11 * LINES + 9) / 10),
-        NO_PLACE,
-    ),
+    (PiecesCall::BreakApart(10), (DONE, (11 * LINES + 9) / 10), NO_PLACE),
     (PiecesCall::WordsAt(&[12]), (DONE, 2), NO_PLACE),
 ];
 

@@ -34,7 +34,19 @@ pub(super) fn assert_lines(rt: &(impl Abort + AllocGlobal), rows: &[LinesRow]) {
     }
 }
 
-/// The same of texts that are all known or not.
+/// A status, and calls with their texts that are refused with it.
+pub(super) type RefusedLines = (u32, &'static [(LinesCall<'static>, &'static [u8])]);
+
+/// Asserts that these calls are refused, and change nothing.
+pub(super) fn assert_no_lines(rt: &(impl Abort + AllocGlobal), refused: &[RefusedLines]) {
+    for &(status, calls) in refused {
+        for &call in calls {
+            assert_lines(rt, &[(call, (status, BEFORE, BEFORE), (&[NONE], b"____"))]);
+        }
+    }
+}
+
+/// What each row says of texts that are all known or not.
 fn assert_lines_where(rt: &(impl Abort + AllocGlobal), is_known: bool, rows: &[LinesRow]) {
     for (row, &((call, text), (status, count, len), (places, expected))) in rows
         .iter()
@@ -94,6 +106,18 @@ pub(super) fn assert_pieces(rt: &(impl Abort + AllocGlobal), rows: &[PiecesRow])
         let status = write_pieces(rt.alloc(), call, text, pieces, &mut count);
         assert_told(rt, row, (status, count), expected);
         assert_holds(rt, row, are_pieces(pieces, places));
+    }
+}
+
+/// A status, and calls with their texts that are refused with it.
+pub(super) type RefusedPieces = (u32, &'static [(PiecesCall<'static>, &'static [u8])]);
+
+/// Asserts that these calls are refused, and change nothing.
+pub(super) fn assert_no_pieces(rt: &(impl Abort + AllocGlobal), refused: &[RefusedPieces]) {
+    for &(status, calls) in refused {
+        for &call in calls {
+            assert_pieces(rt, &[(call, (status, BEFORE), &[NO_PLACE])]);
+        }
     }
 }
 

@@ -1,10 +1,13 @@
 //! A whole text in steps, its paragraphs, and where lines end by the options.
-use super::places::{LinesRow, NO_OFFSET, NONE, OffsetsRow, assert_lines, assert_offsets};
+use super::places::{
+    LinesRow, NO_OFFSET, NONE, OffsetsRow, RefusedLines, assert_lines, assert_no_lines,
+    assert_offsets,
+};
 use super::plain::{
     AT_5, BEFORE, DEFAULTS, LinesCall, NOWHERE, OffsetsCall, TextCall, assert_holds, assert_told,
     write_lines, write_text,
 };
-use super::texts::{TextRow, assert_texts};
+use super::texts::{RefusedTexts, TextRow, assert_no_texts, assert_texts};
 use std::alloc::{AllocError, Global};
 use textwrap_calls::options::TextwrapOptions;
 use textwrap_calls::status::{DONE, NOT_UTF8, TOO_SMALL, UNKNOWN_OPTIONS, WRONG_PLACES};
@@ -24,47 +27,26 @@ const NO_STEPS: TextwrapSteps<'_> = TextwrapSteps {
 const TEXT: &[u8] = b"foo bar\n\nbaz qux";
 
 /// Their steps. The pieces of the last are `ba` with a hyphen, `z ` and `qux`.
+#[rattlefmt::skip]
 const STEPS: &[TextwrapSteps<'_>] = &[
-    TextwrapSteps {
-        cuts: &[4],
-        points: &[],
-        ends: &[1, 2],
-    },
+    TextwrapSteps { cuts: &[4], points: &[], ends: &[1, 2] },
     // Not used.
-    TextwrapSteps {
-        cuts: &[9],
-        points: &[7],
-        ends: &[5],
-    },
-    TextwrapSteps {
-        cuts: &[4],
-        points: &[2],
-        ends: &[1, 3],
-    },
+    TextwrapSteps { cuts: &[9], points: &[7], ends: &[5] },
+    TextwrapSteps { cuts: &[4], points: &[2], ends: &[1, 3] },
 ];
 
 /// One piece in one line, for each of two paragraphs.
+#[rattlefmt::skip]
 const EACH_ONE: &[TextwrapSteps<'_>] = &[
-    TextwrapSteps {
-        cuts: &[],
-        points: &[],
-        ends: &[1],
-    },
-    TextwrapSteps {
-        cuts: &[],
-        points: &[],
-        ends: &[1],
-    },
+    TextwrapSteps { cuts: &[], points: &[], ends: &[1] },
+    TextwrapSteps { cuts: &[], points: &[], ends: &[1] },
 ];
 
 /// No line in the first paragraph. In the second the empty piece of the indent, and its word.
+#[rattlefmt::skip]
 const LATE: &[TextwrapSteps<'_>] = &[
     NO_STEPS,
-    TextwrapSteps {
-        cuts: &[],
-        points: &[],
-        ends: &[2],
-    },
+    TextwrapSteps { cuts: &[], points: &[], ends: &[2] },
 ];
 
 /// An end past the pieces.
@@ -89,105 +71,58 @@ const INDENTED: TextwrapOptions<'_> = TextwrapOptions {
 };
 
 /// The lines of each paragraph are those at its steps, and stand where they do in the text.
+#[rattlefmt::skip]
 const WRAPPED: &[LinesRow] = &[
-    (
-        (LinesCall::WrapAt(STEPS, AT_5), TEXT),
-        (DONE, 5, 3),
-        (
-            &[(0, 3, 0), (4, 3, 0), (8, 0, 0), (0, 3, 1), (11, 5, 0)],
-            b"ba-_____",
-        ),
-    ),
-    (
-        (LinesCall::WrapAt(STEPS, AT_5), TEXT),
-        (TOO_SMALL, 5, 3),
-        (&[(0, 3, 0), (4, 3, 0), (8, 0, 0), (0, 3, 1)], b"ba-_____"),
-    ),
+    ((LinesCall::WrapAt(STEPS, AT_5), TEXT), (DONE, 5, 3),
+        (&[(0, 3, 0), (4, 3, 0), (8, 0, 0), (0, 3, 1), (11, 5, 0)], b"ba-_____")),
+    ((LinesCall::WrapAt(STEPS, AT_5), TEXT), (TOO_SMALL, 5, 3),
+        (&[(0, 3, 0), (4, 3, 0), (8, 0, 0), (0, 3, 1)], b"ba-_____")),
     // Whether a line stands before a paragraph depends on the lines, not on the paragraphs.
-    (
-        (LinesCall::WrapAt(LATE, INDENTED), b"foo\nbar"),
-        (DONE, 1, 5),
-        (&[(0, 5, 1), NONE], b"> bar___"),
-    ),
-    (
-        (LinesCall::WrapAt(EACH_ONE, AT_3), b"foo\r\nbar"),
-        (DONE, 2, 0),
-        (&[(0, 3, 0), (5, 3, 0)], b""),
-    ),
+    ((LinesCall::WrapAt(LATE, INDENTED), b"foo\nbar"), (DONE, 1, 5), (&[(0, 5, 1), NONE], b"> bar___")),
+    ((LinesCall::WrapAt(EACH_ONE, AT_3), b"foo\r\nbar"), (DONE, 2, 0), (&[(0, 3, 0), (5, 3, 0)], b"")),
 ];
 
 /// Steps that are too few, too many, or wrong in one; and what is refused before them.
-const REFUSED: &[LinesRow] = &[
-    (
+#[rattlefmt::skip]
+const REFUSED_LINES: &[RefusedLines] = &[
+    (UNKNOWN_OPTIONS, &[(LinesCall::WrapAt(STEPS, TextwrapOptions { version: 0, ..AT_5 }), b"foo\xff")]),
+    (NOT_UTF8, &[(LinesCall::WrapAt(STEPS, AT_5), b"foo\xff")]),
+    (WRONG_PLACES, &[
         (LinesCall::WrapAt(EACH_ONE, AT_5), TEXT),
-        (WRONG_PLACES, BEFORE, BEFORE),
-        (&[NONE], b"____"),
-    ),
-    (
         (LinesCall::WrapAt(STEPS, AT_5), b"foo bar"),
-        (WRONG_PLACES, BEFORE, BEFORE),
-        (&[NONE], b"____"),
-    ),
-    (
         (LinesCall::WrapAt(LONG, AT_5), b"foo bar"),
-        (WRONG_PLACES, BEFORE, BEFORE),
-        (&[NONE], b"____"),
-    ),
-    (
-        (LinesCall::WrapAt(STEPS, AT_5), b"foo\xff"),
-        (NOT_UTF8, BEFORE, BEFORE),
-        (&[NONE], b"____"),
-    ),
-    (
-        (
-            LinesCall::WrapAt(STEPS, TextwrapOptions { version: 0, ..AT_5 }),
-            b"foo\xff",
-        ),
-        (UNKNOWN_OPTIONS, BEFORE, BEFORE),
-        (&[NONE], b"____"),
-    ),
+    ]),
+];
+
+/// The same of the calls that write a text.
+#[rattlefmt::skip]
+const REFUSED_TEXTS: &[RefusedTexts] = &[
+    (UNKNOWN_OPTIONS, &[
+        (TextCall::FillAt(LONG, TextwrapOptions { version: 0, ..AT_5 }), b"foo\xff"),
+        (TextCall::JustifyAt(LONG, TextwrapOptions { version: 0, ..AT_5 }), b"foo\xff"),
+    ]),
+    (NOT_UTF8, &[(TextCall::FillAt(LONG, AT_5), b"foo\xff"), (TextCall::JustifyAt(LONG, AT_5), b"foo\xff")]),
+    (WRONG_PLACES, &[(TextCall::FillAt(LONG, AT_5), b"foo bar"), (TextCall::JustifyAt(LONG, AT_5), b"foo bar")]),
 ];
 
 #[test]
 fn the_lines_of_a_text_end_where_the_caller_says(rt: HostRuntime) {
     assert_lines(&rt, WRAPPED);
-    assert_lines(&rt, REFUSED);
+    assert_no_lines(&rt, REFUSED_LINES);
 }
 
 /// The same lines, joined by the line ending.
+#[rattlefmt::skip]
 const FILLED: &[TextRow] = &[
-    (
-        (TextCall::FillAt(STEPS, AT_5), TEXT),
-        (DONE, 18, b"foo\nbar\n\nba-\nz qux__"),
-    ),
-    (
-        (TextCall::FillAt(STEPS, AT_5), TEXT),
-        (TOO_SMALL, 18, b"foo\nbar\n\nba-\nz qu"),
-    ),
-    (
-        (TextCall::FillAt(EACH_ONE, AT_3), b"foo\r\nbar"),
-        (DONE, 8, b"foo\r\nbar"),
-    ),
-    (
-        (TextCall::FillAt(LONG, AT_5), b"foo bar"),
-        (WRONG_PLACES, BEFORE, b"____"),
-    ),
-    (
-        (TextCall::FillAt(LONG, AT_5), b"foo\xff"),
-        (NOT_UTF8, BEFORE, b"____"),
-    ),
-    (
-        (
-            TextCall::FillAt(LONG, TextwrapOptions { version: 0, ..AT_5 }),
-            b"foo\xff",
-        ),
-        (UNKNOWN_OPTIONS, BEFORE, b"____"),
-    ),
+    ((TextCall::FillAt(STEPS, AT_5), TEXT), (DONE, 18, b"foo\nbar\n\nba-\nz qux__")),
+    ((TextCall::FillAt(STEPS, AT_5), TEXT), (TOO_SMALL, 18, b"foo\nbar\n\nba-\nz qu")),
+    ((TextCall::FillAt(EACH_ONE, AT_3), b"foo\r\nbar"), (DONE, 8, b"foo\r\nbar")),
 ];
 
 #[test]
 fn a_text_is_filled_where_the_caller_says(rt: HostRuntime) {
     assert_texts(&rt, FILLED);
+    assert_no_texts(&rt, REFUSED_TEXTS);
 }
 
 /// 8 columns, with an indent before the first line.
@@ -199,40 +134,17 @@ const AT_8: TextwrapOptions<'_> = TextwrapOptions {
 
 /// Three lines of a paragraph, before one that is a line as a whole. The empty piece of the indent stands
 /// in the first line.
+#[rattlefmt::skip]
 const WORDS: &[TextwrapSteps<'_>] = &[
-    TextwrapSteps {
-        cuts: &[2, 4, 7, 9],
-        points: &[],
-        ends: &[3, 5, 6],
-    },
+    TextwrapSteps { cuts: &[2, 4, 7, 9], points: &[], ends: &[3, 5, 6] },
     NO_STEPS,
 ];
 
 /// All lines but the last of each paragraph are justified, the first of them after its indent.
+#[rattlefmt::skip]
 const JUSTIFIED: &[TextRow] = &[
-    (
-        (TextCall::JustifyAt(WORDS, AT_8), b"a b cd e f\ngh i jk"),
-        (DONE, 27, b"> a    b\ncd     e\nf\ngh i jk__"),
-    ),
-    (
-        (TextCall::JustifyAt(WORDS, AT_8), b"a b cd e f\ngh i jk"),
-        (TOO_SMALL, 27, b"> a    b\ncd     e\nf\ngh i j"),
-    ),
-    (
-        (TextCall::JustifyAt(LONG, AT_5), b"foo bar"),
-        (WRONG_PLACES, BEFORE, b"____"),
-    ),
-    (
-        (TextCall::JustifyAt(LONG, AT_5), b"foo\xff"),
-        (NOT_UTF8, BEFORE, b"____"),
-    ),
-    (
-        (
-            TextCall::JustifyAt(LONG, TextwrapOptions { version: 0, ..AT_5 }),
-            b"foo\xff",
-        ),
-        (UNKNOWN_OPTIONS, BEFORE, b"____"),
-    ),
+    ((TextCall::JustifyAt(WORDS, AT_8), b"a b cd e f\ngh i jk"), (DONE, 27, b"> a    b\ncd     e\nf\ngh i jk__")),
+    ((TextCall::JustifyAt(WORDS, AT_8), b"a b cd e f\ngh i jk"), (TOO_SMALL, 27, b"> a    b\ncd     e\nf\ngh i j")),
 ];
 
 #[test]
@@ -254,32 +166,13 @@ const LEAST_COST: TextwrapOptions<'_> = TextwrapOptions {
 };
 
 /// Lines end by the algorithm of the options.
+#[rattlefmt::skip]
 const ENDS: &[OffsetsRow] = &[
-    (
-        OffsetsCall::EndsAt(b"foo bar baz", &[4, 8], &[], FIRST_FIT, 0),
-        (DONE, 2),
-        &[2, 3, NO_OFFSET],
-    ),
-    (
-        OffsetsCall::EndsAt(b"foo bar baz", &[4, 8], &[], LEAST_COST, 1),
-        (DONE, 2),
-        &[2, 3, NO_OFFSET],
-    ),
-    (
-        OffsetsCall::EndsAt(b"foo bar baz", &[4, 8], &[], LEAST_COST, 0),
-        (TOO_SMALL, 2),
-        &[2],
-    ),
-    (
-        OffsetsCall::EndsAt(b"foo bar baz", &[4, 8], &[], FIRST_FIT, 2),
-        (UNKNOWN_OPTIONS, BEFORE),
-        &[NO_OFFSET],
-    ),
-    (
-        OffsetsCall::EndsAt(b"foo bar baz", &[8, 4], &[], FIRST_FIT, 0),
-        (WRONG_PLACES, BEFORE),
-        &[NO_OFFSET],
-    ),
+    (OffsetsCall::EndsAt(b"foo bar baz", &[4, 8], &[], FIRST_FIT, 0), (DONE, 2), &[2, 3, NO_OFFSET]),
+    (OffsetsCall::EndsAt(b"foo bar baz", &[4, 8], &[], LEAST_COST, 1), (DONE, 2), &[2, 3, NO_OFFSET]),
+    (OffsetsCall::EndsAt(b"foo bar baz", &[4, 8], &[], LEAST_COST, 0), (TOO_SMALL, 2), &[2]),
+    (OffsetsCall::EndsAt(b"foo bar baz", &[4, 8], &[], FIRST_FIT, 2), (UNKNOWN_OPTIONS, BEFORE), &[NO_OFFSET]),
+    (OffsetsCall::EndsAt(b"foo bar baz", &[8, 4], &[], FIRST_FIT, 0), (WRONG_PLACES, BEFORE), &[NO_OFFSET]),
 ];
 
 #[test]
@@ -303,21 +196,14 @@ type ParagraphsRow = (
 
 /// What is between the line endings. There is always a paragraph, and the first ones are written where
 /// there is no room for all.
+#[rattlefmt::skip]
 const PARAGRAPHS: &[ParagraphsRow] = &[
     (DEFAULTS, b"a\n\nbc", (DONE, 3), &[(0, 1), (2, 0), (3, 2)]),
     (DEFAULTS, b"", (DONE, 1), &[(0, 0), (99, 99)]),
     (AT_3, b"a\nb\r\n", (DONE, 2), &[(0, 3), (5, 0)]),
     (DEFAULTS, b"a\nb", (TOO_SMALL, 2), &[(0, 1)]),
     (DEFAULTS, b"\xff", (NOT_UTF8, BEFORE), &[(99, 99)]),
-    (
-        TextwrapOptions {
-            version: 0,
-            ..DEFAULTS
-        },
-        b"\xff",
-        (UNKNOWN_OPTIONS, BEFORE),
-        &[(99, 99)],
-    ),
+    (TextwrapOptions { version: 0, ..DEFAULTS }, b"\xff", (UNKNOWN_OPTIONS, BEFORE), &[(99, 99)]),
 ];
 
 /// Whether the paragraphs stand there.
@@ -347,39 +233,16 @@ fn paragraphs_stand_between_line_endings(rt: HostRuntime) {
 type WidthsRow = (TextwrapOptions<'static>, usize, u32, (usize, usize, usize));
 
 /// A paragraph is whole if it has no indent and fewer bytes than columns. Indents take their columns.
+#[rattlefmt::skip]
 const WIDTHS: &[WidthsRow] = &[
     (DEFAULTS, 0, DONE, (1, 10, 10)),
     (AT_3, 1, DONE, (0, 3, 3)),
     (INDENTED, 0, DONE, (0, 8, 6)),
     (INDENTED, 1, DONE, (0, 8, 6)),
-    (
-        TextwrapOptions {
-            even_paragraphs: 1,
-            ..INDENTED
-        },
-        1,
-        DONE,
-        (0, 6, 6),
-    ),
-    (
-        TextwrapOptions {
-            initial_indent: b"",
-            ..INDENTED
-        },
-        0,
-        DONE,
-        (1, 10, 6),
-    ),
+    (TextwrapOptions { even_paragraphs: 1, ..INDENTED }, 1, DONE, (0, 6, 6)),
+    (TextwrapOptions { initial_indent: b"", ..INDENTED }, 0, DONE, (1, 10, 6)),
     (DEFAULTS, 2, UNKNOWN_OPTIONS, (99, 99, 99)),
-    (
-        TextwrapOptions {
-            initial_indent: b"\xff",
-            ..DEFAULTS
-        },
-        0,
-        NOT_UTF8,
-        (99, 99, 99),
-    ),
+    (TextwrapOptions { initial_indent: b"\xff", ..DEFAULTS }, 0, NOT_UTF8, (99, 99, 99)),
 ];
 
 #[test]

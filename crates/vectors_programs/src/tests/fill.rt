@@ -44,6 +44,7 @@ fn assert_writes(
 }
 
 /// What a row shows, words, and what is written of a line of Hamlet on the standard input.
+#[rattlefmt::skip]
 const READ_AND_WRITTEN: &[(&str, &[&str], &str)] = &[
     ("without words the width is 80", &[], HAMLET),
     ("the width first, and least cost", &["10"], BY_LEAST_COST),
@@ -53,39 +54,16 @@ const READ_AND_WRITTEN: &[(&str, &[&str], &str)] = &[
     ("a width as an option", &["-w", "10"], BY_LEAST_COST),
     ("in one word", &["-w10", "--first-fit"], BY_FIRST_FIT),
     ("a long width", &["--width", "10"], BY_LEAST_COST),
-    (
-        "a long width after =",
-        &["--first-fit", "--width=10"],
-        BY_FIRST_FIT,
-    ),
+    ("a long width after =", &["--first-fit", "--width=10"], BY_FIRST_FIT),
     ("a hyphen and digits", &["-10"], BY_LEAST_COST),
-    (
-        "least cost counts for more",
-        &["-10", "--least-cost", "--first-fit"],
-        BY_LEAST_COST,
-    ),
+    ("least cost counts for more", &["-10", "--least-cost", "--first-fit"], BY_LEAST_COST),
     ("the last width counts", &["80", "-10"], BY_LEAST_COST),
-    (
-        "the standard input by its name",
-        &["10", "-"],
-        BY_LEAST_COST,
-    ),
-    (
-        "files one after another, and the standard input among them",
-        &["10", "one", "-", "40"],
-        "one two\nthree\nfour\nTo be,\nor not to\nbe; that\nis the\nquestion\nfive six",
-    ),
+    ("the standard input by its name", &["10", "-"], BY_LEAST_COST),
+    ("files one after another, and the standard input among them", &["10", "one", "-", "40"],
+        "one two\nthree\nfour\nTo be,\nor not to\nbe; that\nis the\nquestion\nfive six"),
     ("a file whose name is a number", &["-w10", "40"], "five six"),
-    (
-        "behind a file the name of an algorithm is a file",
-        &["10", "one", "first"],
-        "one two\nthree\nfour\nseven\n",
-    ),
-    (
-        "behind -- everything is a file",
-        &["-w", "10", "--", "40"],
-        "five six",
-    ),
+    ("behind a file the name of an algorithm is a file", &["10", "one", "first"], "one two\nthree\nfour\nseven\n"),
+    ("behind -- everything is a file", &["-w", "10", "--", "40"], "five six"),
 ];
 
 #[test]
@@ -96,31 +74,13 @@ fn texts_are_filled(rt: HostRuntime) {
 }
 
 /// What a row shows, words, what is written, and what is said.
+#[rattlefmt::skip]
 const FAULTS: &[(&str, &[&str], &str, &str)] = &[
-    (
-        "a file that is not there, and one that is",
-        &["10", "none", "40"],
-        "five six",
-        "textwrap: none: not found\n",
-    ),
-    (
-        "a file that is no text",
-        &["10", "no text"],
-        "",
-        "textwrap: no text: not UTF-8 after 1 bytes\n",
-    ),
-    (
-        "a width that is no number",
-        &["-w", "ten"],
-        "",
-        "textwrap: --width: 'ten' is not a number of 64 bits\n",
-    ),
-    (
-        "a width that is too large",
-        &["18446744073709551616"],
-        "",
-        "textwrap: --width: '18446744073709551616' is not a number of 64 bits\n",
-    ),
+    ("a file that is not there, and one that is", &["10", "none", "40"], "five six", "textwrap: none: not found\n"),
+    ("a file that is no text", &["10", "no text"], "", "textwrap: no text: not UTF-8 after 1 bytes\n"),
+    ("a width that is no number", &["-w", "ten"], "", "textwrap: --width: 'ten' is not a number of 64 bits\n"),
+    ("a width that is too large", &["18446744073709551616"], "",
+        "textwrap: --width: '18446744073709551616' is not a number of 64 bits\n"),
 ];
 
 #[test]
@@ -171,18 +131,11 @@ fn what_is_shown_is_as_clap_makes_it(rt: HostRuntime) {
 }
 
 /// What goes wrong with the output, what is said of it, and the status.
+#[rattlefmt::skip]
 const OUTPUTS: &[(ErrorKind, &str, u8)] = &[
     (ErrorKind::BrokenPipe, "", 0),
-    (
-        ErrorKind::StorageFull,
-        "textwrap: standard output: no space is left\n",
-        2,
-    ),
-    (
-        ErrorKind::Other,
-        "textwrap: standard output: cannot write\n",
-        2,
-    ),
+    (ErrorKind::StorageFull, "textwrap: standard output: no space is left\n", 2),
+    (ErrorKind::Other, "textwrap: standard output: cannot write\n", 2),
 ];
 
 #[test]

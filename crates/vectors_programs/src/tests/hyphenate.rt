@@ -16,66 +16,28 @@ use textwrap_vectors::streams::FeedFault;
 const LIANG: &[u8] = b"hy3ph\nhe2n\nhena4\nhen5at\n1na\nn2at\n1tio\n2io\no2n\nta-ble\n";
 
 /// What a row shows, a text, and its words with their hyphens.
+#[rattlefmt::skip]
 const WORDS: &[(&str, &str, &str)] = &[
     ("Liang's example", "hyphenation\n", "hy-phen-ation\n"),
     ("capital letters stay", "HYPHENation\n", "HY-PHEN-ation\n"),
-    (
-        "signs around a word stay",
-        "(hyphenation),\n",
-        "(hy-phen-ation),\n",
-    ),
-    (
-        "a line is a word, whatever stands in it",
-        "hyphenation table\n",
-        "hy-phen-ation ta-ble\n",
-    ),
+    ("signs around a word stay", "(hyphenation),\n", "(hy-phen-ation),\n"),
+    ("a line is a word, whatever stands in it", "hyphenation table\n", "hy-phen-ation ta-ble\n"),
     ("an exception", "Table\n", "Ta-ble\n"),
-    (
-        "each line ends in a line feed, the last one too",
-        "table\r\n\r\nhyphenation",
-        "ta-ble\n\nhy-phen-ation\n",
-    ),
-    (
-        "a word with a hyphen gets none",
-        "hyphenation-table\n",
-        "hyphenation-table\n",
-    ),
+    ("each line ends in a line feed, the last one too", "table\r\n\r\nhyphenation", "ta-ble\n\nhy-phen-ation\n"),
+    ("a word with a hyphen gets none", "hyphenation-table\n", "hyphenation-table\n"),
     ("nor does one without points", "unknown\n", "unknown\n"),
-    (
-        "a point stands behind a soft hyphen",
-        "hy\u{ad}phenation\n",
-        "hy\u{ad}-phen-ation\n",
-    ),
+    ("a point stands behind a soft hyphen", "hy\u{ad}phenation\n", "hy\u{ad}-phen-ation\n"),
     ("points count bytes", "\u{e4}/table\n", "\u{e4}/ta-ble\n"),
     ("no words", "", ""),
 ];
 
 /// What a row shows, a text, the columns of a line, and the text filled there.
+#[rattlefmt::skip]
 const PARAGRAPHS: &[(&str, &str, &str, &str)] = &[
-    (
-        "a line ends at a point of the dictionary",
-        "the hyphenation\n",
-        "-11",
-        "the hyphen-\nation\n",
-    ),
-    (
-        "each paragraph for itself",
-        "a hyphenation\nthe table",
-        "-8",
-        "a hy-\nphen-\nation\nthe ta-\nble",
-    ),
-    (
-        "first fit",
-        "a b c hyphenation",
-        "-8",
-        "a b c\nhyphen-\nation",
-    ),
-    (
-        "a wide line needs no hyphen",
-        "the hyphenation\n",
-        "-80",
-        "the hyphenation\n",
-    ),
+    ("a line ends at a point of the dictionary", "the hyphenation\n", "-11", "the hyphen-\nation\n"),
+    ("each paragraph for itself", "a hyphenation\nthe table", "-8", "a hy-\nphen-\nation\nthe ta-\nble"),
+    ("first fit", "a b c hyphenation", "-8", "a b c\nhyphen-\nation"),
+    ("a wide line needs no hyphen", "the hyphenation\n", "-80", "the hyphenation\n"),
 ];
 
 /// The file of the dictionary.
@@ -120,56 +82,20 @@ fn paragraphs_are_filled_with_hyphens(rt: HostRuntime) {
 }
 
 /// What a row shows, words, the standard input, and what is written.
+#[rattlefmt::skip]
 const CALLS: &[(&str, &[&str], &str, &str)] = &[
-    (
-        "a long width",
-        &["words.dic", "--width", "8"],
-        "a table",
-        "a table",
-    ),
-    (
-        "a width before the dictionary",
-        &["-w", "6", "words.dic"],
-        "a table",
-        "a ta-\nble",
-    ),
-    (
-        "a width after =",
-        &["--width=6", "words.dic"],
-        "a table",
-        "a ta-\nble",
-    ),
-    (
-        "the last width counts",
-        &["-w6", "words.dic", "-80"],
-        "a table",
-        "a table",
-    ),
-    (
-        "fewer letters on both sides than the dictionary says",
-        &["words.dic", "--left", "1", "--right=1"],
-        "ana\n",
-        "a-na\n",
-    ),
-    (
-        "more before a hyphen",
-        &["--left=3", "words.dic"],
-        "hyphenation\n",
-        "hyphen-ation\n",
-    ),
-    (
-        "more behind it, of which the last counts",
-        &["--right", "1", "words.dic", "--right", "6"],
-        "hyphenation\n",
-        "hy-phenation\n",
-    ),
+    ("a long width", &["words.dic", "--width", "8"], "a table", "a table"),
+    ("a width before the dictionary", &["-w", "6", "words.dic"], "a table", "a ta-\nble"),
+    ("a width after =", &["--width=6", "words.dic"], "a table", "a ta-\nble"),
+    ("the last width counts", &["-w6", "words.dic", "-80"], "a table", "a table"),
+    ("fewer letters on both sides than the dictionary says", &["words.dic", "--left", "1", "--right=1"], "ana\n",
+        "a-na\n"),
+    ("more before a hyphen", &["--left=3", "words.dic"], "hyphenation\n", "hyphen-ation\n"),
+    ("more behind it, of which the last counts", &["--right", "1", "words.dic", "--right", "6"], "hyphenation\n",
+        "hy-phenation\n"),
     ("a file", &["words.dic", "one"], "hyphenation", "ta-ble\n"),
-    (
-        "files one after another, and the standard input among them",
-        &["words.dic", "two", "-", "one"],
-        "unknown",
-        "hy-phen-ation\nunknown\nta-ble\n",
-    ),
+    ("files one after another, and the standard input among them", &["words.dic", "two", "-", "one"], "unknown",
+        "hy-phen-ation\nunknown\nta-ble\n"),
 ];
 
 #[test]
@@ -180,23 +106,12 @@ fn the_words_of_a_call_mean_a_request(rt: HostRuntime) {
 }
 
 /// Words that are no request, and what is said of them.
+#[rattlefmt::skip]
 const NO_REQUESTS: &[(&[&str], &str)] = &[
-    (
-        &["words.dic", "--width", "+24"],
-        "hyphenate: --width: '+24' is not a number of 64 bits\n",
-    ),
-    (
-        &["words.dic", "--width="],
-        "hyphenate: --width: '' is not a number of 64 bits\n",
-    ),
-    (
-        &["words.dic", "--left", "two"],
-        "hyphenate: --left: 'two' is not a number of 64 bits\n",
-    ),
-    (
-        &["words.dic", "--right=-1"],
-        "hyphenate: --right: '-1' is not a number of 64 bits\n",
-    ),
+    (&["words.dic", "--width", "+24"], "hyphenate: --width: '+24' is not a number of 64 bits\n"),
+    (&["words.dic", "--width="], "hyphenate: --width: '' is not a number of 64 bits\n"),
+    (&["words.dic", "--left", "two"], "hyphenate: --left: 'two' is not a number of 64 bits\n"),
+    (&["words.dic", "--right=-1"], "hyphenate: --right: '-1' is not a number of 64 bits\n"),
     (&["no.dic"], "hyphenate: no.dic: not found\n"),
 ];
 
@@ -237,37 +152,17 @@ fn many_words_get_their_hyphens(rt: HostRuntime) {
 type Failing = (&'static str, &'static [u8], FileFault, &'static str);
 
 /// Runs that fail.
+#[rattlefmt::skip]
 const FAILURES: &[Failing] = &[
-    (
-        "a line of the dictionary is wrong",
-        b"hy3ph\nNEXTLEVEL\nNEXTLEVEL\n",
-        FileFault::Nothing,
-        "hyphenate: words.dic: line 3: there are more than two groups of patterns\n",
-    ),
-    (
-        "the dictionary is in a charset that is not known",
-        b"ISCII-DEVANAGARI\n1\xe4\n",
-        FileFault::Nothing,
-        "hyphenate: words.dic: line 1: not UTF-8, and no charset that is known: convert it, as by iconv -t UTF-8\n",
-    ),
-    (
-        "the dictionary has no patterns",
-        b"UTF-8\nLEFTHYPHENMIN 2\n% none\n",
-        FileFault::Nothing,
-        "hyphenate: words.dic: line 3: has no patterns\n",
-    ),
-    (
-        "the dictionary is empty",
-        b"",
-        FileFault::Nothing,
-        "hyphenate: words.dic: line 1: has no patterns\n",
-    ),
-    (
-        "a read of the dictionary fails",
-        b"hy3ph\n",
-        FileFault::Read(FeedFault::Fails(3, ErrorKind::Other)),
-        "hyphenate: words.dic: cannot read\n",
-    ),
+    ("a line of the dictionary is wrong", b"hy3ph\nNEXTLEVEL\nNEXTLEVEL\n", FileFault::Nothing,
+        "hyphenate: words.dic: line 3: there are more than two groups of patterns\n"),
+    ("the dictionary is in a charset that is not known", b"ISCII-DEVANAGARI\n1\xe4\n", FileFault::Nothing,
+        "hyphenate: words.dic: line 1: not UTF-8, and no charset that is known: convert it, as by iconv -t UTF-8\n"),
+    ("the dictionary has no patterns", b"UTF-8\nLEFTHYPHENMIN 2\n% none\n", FileFault::Nothing,
+        "hyphenate: words.dic: line 3: has no patterns\n"),
+    ("the dictionary is empty", b"", FileFault::Nothing, "hyphenate: words.dic: line 1: has no patterns\n"),
+    ("a read of the dictionary fails", b"hy3ph\n", FileFault::Read(FeedFault::Fails(3, ErrorKind::Other)),
+        "hyphenate: words.dic: cannot read\n"),
 ];
 
 #[test]

@@ -63,12 +63,9 @@ fn diffs_of_two_texts(rt: HostRuntime) {
 }
 
 /// What a row shows, a name, and how it is written.
+#[rattlefmt::skip]
 const NAMES: &[(&str, &str, &str)] = &[
-    (
-        "what is not ASCII is written as it is",
-        "\u{e4}b",
-        "\u{e4}b",
-    ),
+    ("what is not ASCII is written as it is", "\u{e4}b", "\u{e4}b"),
     ("a tab and a line feed", "a\tb\nc", "\"a\\011b\\012c\""),
     ("a quote in front", "\"a b", "\"\\042a b\""),
     ("a backslash", "a\\b", "\"a\\134b\""),

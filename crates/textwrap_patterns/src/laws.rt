@@ -13,7 +13,7 @@ pub fn comments_are_skipped()
 {}
 
 /// In a list of at most two groups an error is told of a line exactly where this line is the first that
-/// is wrong by itself, in the way that is told.
+/// is wrong by itself, in the way that is told. `Empty` and `TooMany` are errors of the whole text.
 pub fn errors_are_of_lines()
     ensures { ErrorsAreOfLines }
 {}

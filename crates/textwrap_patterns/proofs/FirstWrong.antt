@@ -1,19 +1,23 @@
 -- What is wrong with a line of a list, and the first line that is wrong.
 use Rattle.std.specs.Prelude.{Option, None, Some, ◌||◌, if◌then◌else◌, chars, codes}
 use Rattle.std.specs.Prelude.{nat_lt, unwrap_or}
+use Rattle.std.specs.Prelude.{not}
 use Rattle.std.specs.Str.{trim}
+use Rattle.textwrap_text.proofs.Common.{and_parts}
 use Rattle.textwrap_text.proofs.Lists.Parts.{starts_with-rest}
+use Rattle.textwrap_patterns.proofs.Gaps.{exception-gap}
 use Rattle.textwrap_patterns.proofs.Common.{Bool, List, ℕ, ap, drop, false, false≢true}
 use Rattle.textwrap_patterns.proofs.Common.{inl, inr, length, refl, subst, sym, true, ⊤, ◌++◌, ◌∙◌}
 use Rattle.textwrap_patterns.proofs.Common.{◌≡◌}
 use Rattle.textwrap_patterns.specs.Entries.{Said, Pattern, Exception, Left, Right, CompoundLeft, CompoundRight}
 use Rattle.textwrap_patterns.specs.Entries.{NextGroup, Nothing, Wrong, are_joints, begins, beside_said}
-use Rattle.textwrap_patterns.specs.Entries.{command_said, exception_or_fault, exception_said, exception_written}
+use Rattle.textwrap_patterns.specs.Entries.{command_said, exception_or_fault, exception_said, has_digit, has_hyphen}
+use Rattle.textwrap_patterns.specs.Entries.{hyphens_past, letters_between}
 use Rattle.textwrap_patterns.specs.Entries.{has_sign, has_slash, is_command, list_said, number_of, number_or_fault}
 use Rattle.textwrap_patterns.specs.Entries.{other_said, pattern_said, word_said}
 use Rattle.textwrap_patterns.specs.Faults.{IsClean, IsItem, IsWrong, LacksNumber, begins_word, is_comment}
-use Rattle.textwrap_patterns.specs.Faults.{is_hyphened}
-use Rattle.textwrap_patterns.specs.Listed.{ExceptionText}
+use Rattle.textwrap_patterns.specs.Faults.{has_gap, is_hyphened}
+use Rattle.textwrap_patterns.specs.Listed.{exception_text}
 use Rattle.textwrap_patterns.specs.Written.{letters_written, pattern_written}
 use Rattle.textwrap_patterns.specs.declared.entries.Section.TheVariants.{Listing}
 use Rattle.textwrap_patterns.specs.declared.errors.Fault.{Fault}
@@ -39,15 +43,23 @@ by-length : (line : List ℕ) (b : Bool) → IsItem line → IsClean (chars line
 by-length line true item clean plain is = (item, clean, plain, is)
 by-length line false item clean plain is = tt
 
-by-places : (line : List ℕ) (made : Option ExceptionText) → IsItem line → IsClean (chars line)
-    → is_hyphened (chars line) ≡ true → exception_written (chars line) ≡ made
-    → IsJudged line (exception_or_fault made)
-by-places line None item clean hyphened is = (item, clean, hyphened, is)
-by-places line (Some e) item clean hyphened is = tt
+-- what an exception is, or that its hyphens are wrong
+abbrev exception_if : List ℕ → Bool → Said
+exception_if cs b =
+    exception_or_fault (if b then Some (exception_text (letters_between cs) (hyphens_past 0 cs)) else None)
+
+by-gap : (line : List ℕ) (b : Bool) → IsItem line → IsClean (chars line) → is_hyphened (chars line) ≡ true
+    → has_gap (chars line) ≡ b → IsJudged line (exception_if (chars line) (not b))
+by-gap line true item clean hyphened is = (item, clean, hyphened, is)
+by-gap line false item clean hyphened is = tt
+
+said-by-gap : (cs : List ℕ) → is_hyphened cs ≡ true → exception_said cs ≡ exception_if cs (not (has_gap cs))
+said-by-gap cs is = ap (exception_if cs) (exception-gap cs (and_parts (has_hyphen cs) (not (has_digit cs)) is).0)
 
 by-hyphens : (line : List ℕ) (b : Bool) → IsItem line → IsClean (chars line) → is_hyphened (chars line) ≡ b
     → IsJudged line (if b then exception_said (chars line) else pattern_said (chars line))
-by-hyphens line true item clean is = by-places line (exception_written (chars line)) item clean is refl
+by-hyphens line true item clean is = subst (IsJudged line) (sym (said-by-gap (chars line) is))
+    (by-gap line (has_gap (chars line)) item clean is refl)
 by-hyphens line false item clean is =
     by-length line (nat_lt 255 (length (letters_written (chars line)))) item clean is refl
 
@@ -209,7 +221,11 @@ wrong-says fault.Number line (inr (inr (inr (rest, is, none)))) =
 wrong-says fault.Replacement line is = (is.0.0, item-said line is.0 ∙ rw is.1 refl)
 wrong-says fault.Sign line is = (is.0.0, item-said line is.0 ∙ rw (is.1, is.2) refl)
 wrong-says fault.TooLong line is = (is.0.0, item-said line is.0 ∙ rw (is.1.0, is.1.1, is.2, is.3) refl)
-wrong-says fault.Hyphens line is = (is.0.0, item-said line is.0 ∙ rw (is.1.0, is.1.1, is.2, is.3) refl)
+wrong-says fault.Hyphens line is = (
+  is.0.0,
+  item-said line is.0 ∙ rw (is.1.0, is.1.1, is.2)
+      (said-by-gap (chars line) is.2 ∙ ap (λ b. exception_if (chars line) (not b)) is.3),
+)
 wrong-says fault.Brace line is = absurd is
 wrong-says fault.Input line is = absurd is
 wrong-says fault.NoGroup line is = absurd is

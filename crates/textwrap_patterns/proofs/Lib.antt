@@ -2,6 +2,7 @@ pub mod Ascii
 pub mod Common
 pub mod FirstLines
 pub mod FirstWrong
+pub mod Gaps
 pub mod Said
 pub mod Skipped
 pub mod Words

@@ -1,10 +1,11 @@
 -- What is wrong with a line of a list, said of this line alone.
 use Rattle.std.specs.Prelude.{◌≡◌, ℕ, zero, suc, ◌==◌, ◌&&◌, ◌||◌, not, Bool, true, false, List, [], ◌∷◌, ◌++◌, ◌⊎◌, None}
 use Rattle.std.specs.Prelude.{chars, codes, filter, length, nat_lt}
+use Rattle.std.specs.List.{list_any, slice_split}
 use Rattle.std.specs.Str.{trim}
 use Rattle.textwrap_patterns.specs.Charsets.{names_charset, plain_name}
-use Rattle.textwrap_patterns.specs.Entries.{are_joints, begins, exception_written, has_digit, has_hyphen}
-use Rattle.textwrap_patterns.specs.Entries.{has_sign, has_slash, is_command, number_of}
+use Rattle.textwrap_patterns.specs.Entries.{are_joints, begins, has_digit, has_hyphen}
+use Rattle.textwrap_patterns.specs.Entries.{has_sign, has_slash, is_command, is_hyphen_sign, number_of}
 use Rattle.textwrap_patterns.specs.Written.{letters_written}
 use Rattle.textwrap_patterns.specs.declared.errors.Fault.{Fault}
 use Rattle.textwrap_patterns.specs.declared.errors.Fault.TheVariants as fault
@@ -41,6 +42,14 @@ IsClean cs = (has_slash cs ≡ false) × (has_sign cs ≡ false)
 abbrev pub is_hyphened : List ℕ → Bool
 is_hyphened cs = has_hyphen cs && not (has_digit cs)
 
+abbrev pub is_empty : List ℕ → Bool
+is_empty [] = true
+is_empty (c ∷ cs) = false
+
+-- nothing stands between two hyphens, or beside one at an end
+abbrev pub has_gap : List ℕ → Bool
+has_gap cs = list_any is_empty (slice_split is_hyphen_sign cs)
+
 -- a line without the blanks on its sides is wrong in this way
 abbrev pub IsWrong : Fault → List ℕ → Type 0
 IsWrong fault.Charset line = ⊥
@@ -58,7 +67,7 @@ IsWrong fault.TooLong line =
     × (nat_lt 255 (length (letters_written (chars line))) ≡ true)
 IsWrong fault.Hyphens line =
     IsItem line × IsClean (chars line) × (is_hyphened (chars line) ≡ true)
-    × (exception_written (chars line) ≡ None)
+    × (has_gap (chars line) ≡ true)
 IsWrong fault.Brace line = ⊥
 IsWrong fault.Input line = ⊥
 IsWrong fault.NoGroup line = ⊥

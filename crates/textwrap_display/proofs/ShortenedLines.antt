@@ -9,7 +9,13 @@ use Rattle.textwrap_display.proofs.Common.{IsShortened, IsWholeText, open_styles
 use Rattle.textwrap_display.proofs.Common.{text_width-append, line_bytes, open_link}
 use Rattle.textwrap_display.proofs.Common.{indent_len, sequences, closing, concat, units, Line}
 use Rattle.textwrap_display.specs.Shortening.{is_too_wide, IsCut, IsKeptLength, IsKeptBeginning}
+use Rattle.std.specs.List.{take-map}
+use Rattle.textwrap_text.proofs.Common.{length-map, map, map-append}
+use Rattle.textwrap_styles.proofs.PenLines.{painted, text-painted}
+use Rattle.textwrap_styles.proofs.PenStyles.{styles-pen}
 use Rattle.textwrap_styles.proofs.StyleRules.{styles-rule}
+use Rattle.textwrap_styles.specs.Pen.{plain_pen}
+use Rattle.textwrap_styles.specs.Penned.{penned_text}
 use Rattle.textwrap_styles.specs.Styled.{EndsPlain, styled_by}
 use Rattle.textwrap_display.proofs.CutWords.{no_columns}
 use Rattle.textwrap_display.proofs.KeptParts.{kept-whole, kept-room}
@@ -113,6 +119,30 @@ module _ (breaks : Bool) (width : ℕ) (placeholder line : List ℕ) (short : Li
             ∙ take_at (styled_text [] kept) (styled_by open_styles (sequences kept) (units (chars rest)))
             (length (styled_text [] kept)) refl,
         ap (styled_text []) bytes ∙ followed-styled kept whole placeholder,
+      )
+
+  -- by the pen
+  pub shortened-pens : (take (length (penned_text plain_pen kept)) (penned_text plain_pen line)
+      ≡ penned_text plain_pen kept)
+      × (penned_text plain_pen (line_bytes short)
+      ≡ penned_text plain_pen kept ++ penned_text plain_pen placeholder)
+  shortened-pens =
+      let paint = painted open_styles styles-pen in
+      let pens : (text : List ℕ) → map paint (styled_text [] text) ≡ penned_text plain_pen text =
+      λ text. text-painted open_styles styles-pen [] plain_pen text refl in
+      let front = styled_text [] kept in
+      let len : length (penned_text plain_pen kept) ≡ length front =
+      ap length (sym (pens kept)) ∙ length-map front paint in (
+        ap (λ n. take n (penned_text plain_pen line)) len
+            ∙ ap (take (length front)) (sym (pens line))
+            ∙ take-map paint (length front) (styled_text [] line)
+            ∙ ap (map paint) shortened-shows.0
+            ∙ pens kept,
+        sym (pens (line_bytes short))
+            ∙ ap (map paint) shortened-shows.1
+            ∙ map-append paint front (styled_text [] placeholder)
+            ∙ ap (λ cs. cs ++ map paint (styled_text [] placeholder)) (pens kept)
+            ∙ ap (λ cs. penned_text plain_pen kept ++ cs) (pens placeholder),
       )
 
   pub shortened-width : text_width placeholder ≤ width → text_width (line_bytes short) ≤ width

@@ -17,14 +17,20 @@ use Rattle.textwrap_layout.specs.Text.{HasWholeSequences}
 use Rattle.textwrap_text.specs.Units.{text_width}
 use Rattle.textwrap_words.specs.Words.{words_of}
 use Rattle.textwrap_layout.specs.Paragraph.{Line, line_bytes}
+use Rattle.textwrap_styles.specs.Pen.{plain_pen}
+use Rattle.textwrap_styles.specs.Penned.{penned_text}
 use Rattle.textwrap_styles.specs.Styled.{EndsPlain, IsWholeText, styled_text}
 use Rattle.textwrap_styles.specs.Styles.{closing, sequences}
 pub use Rattle.textwrap_styles.specs.Laws.{AttributedLinesAreAsWide, AttributedLinesAreShort}
 pub use Rattle.textwrap_styles.specs.Laws.{AttributedLinesEndPlain, AttributedLinesKeepAttributes}
+pub use Rattle.textwrap_styles.specs.Laws.{AttributedLinesEndWithAPlainPen}
+pub use Rattle.textwrap_styles.specs.Laws.{AttributedLinesKeepPens, AttributesGiveThePen}
 pub use Rattle.textwrap_styles.specs.Laws.{AttributedLinesShowTheirText, AttributesAreFew}
 pub use Rattle.textwrap_styles.specs.Laws.{AttributesAreSetAnew, CarriedLinesAreAsWide}
 pub use Rattle.textwrap_styles.specs.Laws.{CarriedLinesAreShort, CarriedLinesEndPlain}
+pub use Rattle.textwrap_styles.specs.Laws.{CarriedLinesEndWithAPlainPen, CarriedLinesKeepPens}
 pub use Rattle.textwrap_styles.specs.Laws.{CarriedLinesKeepStyles, CarriedLinesShowTheirText}
+pub use Rattle.textwrap_styles.specs.Laws.{EndsAreKnown, NumbersAreKnown, StylesGiveThePen}
 pub use Rattle.textwrap_styles.specs.Laws.{OpenStylesAreDifferent, PlainLinesStay}
 pub use Rattle.textwrap_styles.specs.Laws.{PlainLinesStayAttributed, WholeLinesMayCarry}
 pub use Rattle.textwrap_styles.specs.Laws.{WholeLinesMayCarryAttributes}
@@ -90,6 +96,15 @@ ShortenedLinesShowTheBeginning =
     → let kept = styled_text [] (take is.len line) in
     (take (length kept) (styled_text [] line) ≡ kept)
     × (styled_text [] (line_bytes short) ≡ kept ++ styled_text [] placeholder)
+
+-- so too with the pen of each character
+abbrev pub ShortenedLinesKeepPens : Type 0
+ShortenedLinesKeepPens =
+    (breaks : Bool) (width : ℕ) (placeholder line : List ℕ) (short : Line) → IsUtf8 line
+    → (is : IsShortened breaks width placeholder line short)
+    → let kept = penned_text plain_pen (take is.len line) in
+    (take (length kept) (penned_text plain_pen line) ≡ kept)
+    × (penned_text plain_pen (line_bytes short) ≡ kept ++ penned_text plain_pen placeholder)
 
 -- the texts of a line's words
 abbrev pub word_texts : List ℕ → List (List ℕ)

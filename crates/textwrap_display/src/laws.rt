@@ -12,18 +12,21 @@ ghost use Rattle.textwrap_display.specs.Laws.{FittingWidthsKeepToWords, Justifie
 ghost use Rattle.textwrap_display.specs.Laws.{JustifiedLinesKeepWords, KeptBeginningsAreUnique};
 ghost use Rattle.textwrap_display.specs.Laws.{KeptWordsAreTheFirst, LinesAreExpandedApart};
 ghost use Rattle.textwrap_display.specs.Laws.{NoTabIsLeft, ShortenedLinesAreClosed};
-ghost use Rattle.textwrap_display.specs.Laws.{ShortenedLinesKeepToWidth};
+ghost use Rattle.textwrap_display.specs.Laws.{ShortenedLinesKeepPens, ShortenedLinesKeepToWidth};
 ghost use Rattle.textwrap_display.specs.Laws.{ShortenedLinesShowTheBeginning, TableRowsAreEven};
 ghost use Rattle.textwrap_display.specs.Laws.{TablesShowEachLineOnce, TabsCutTexts, TabsReachStops};
 ghost use Rattle.textwrap_display.specs.Laws.{TextsWithoutTabsStay};
 
 pub use textwrap_styles::laws::{
     attributed_lines_are_as_wide, attributed_lines_are_short, attributed_lines_end_plain,
-    attributed_lines_keep_attributes, attributed_lines_show_their_text, attributes_are_few,
-    attributes_are_set_anew, carried_lines_are_as_wide, carried_lines_are_short,
-    carried_lines_end_plain, carried_lines_keep_styles, carried_lines_show_their_text,
-    open_styles_are_different, plain_lines_stay, plain_lines_stay_attributed,
-    whole_lines_may_carry, whole_lines_may_carry_attributes,
+    attributed_lines_end_with_a_plain_pen, attributed_lines_keep_attributes,
+    attributed_lines_keep_pens, attributed_lines_show_their_text, attributes_are_few,
+    attributes_are_set_anew, attributes_give_the_pen, carried_lines_are_as_wide,
+    carried_lines_are_short, carried_lines_end_plain, carried_lines_end_with_a_plain_pen,
+    carried_lines_keep_pens, carried_lines_keep_styles, carried_lines_show_their_text,
+    ends_are_known, numbers_are_known, open_styles_are_different, plain_lines_stay,
+    plain_lines_stay_attributed, styles_give_the_pen, whole_lines_may_carry,
+    whole_lines_may_carry_attributes,
 };
 
 /// A line that is not wider than the width is exactly as wide once it is aligned, if its escape
@@ -65,6 +68,11 @@ pub fn shortened_lines_are_closed()
 /// itself.
 pub fn shortened_lines_show_the_beginning()
     ensures { ShortenedLinesShowTheBeginning }
+{}
+
+/// So too with the pen of each character: what a terminal writes it with.
+pub fn shortened_lines_keep_pens()
+    ensures { ShortenedLinesKeepPens }
 {}
 
 /// Where no word is to be cut, none is: the words of what is kept are the first words of the line.

@@ -55,7 +55,7 @@ attributes-pen before =
 module _ (styles : List (List ℕ) → List (List ℕ))
     (same : (before : List (List ℕ)) → pen_of (styles before) ≡ pen_of before) where
   -- what a character is written with, by the styles that are open
-  abbrev painted : StyledCharacter → PennedCharacter
+  abbrev pub painted : StyledCharacter → PennedCharacter
   painted c = record { character = c.character; pen = pen_of c.styles }
 
   units-painted : (us : List TextUnit) (before : List (List ℕ)) (p : Pen) → pen_of before ≡ p
@@ -71,7 +71,7 @@ module _ (styles : List (List ℕ) → List (List ℕ))
       units-painted us (before ++ s ∷ []) (with_sequence p s)
       (fold-append with_sequence plain_pen before (s ∷ []) ∙ ap (λ q. with_sequence q s) is)
 
-  text-painted : (before : List (List ℕ)) (p : Pen) (text : List ℕ) → pen_of before ≡ p
+  pub text-painted : (before : List (List ℕ)) (p : Pen) (text : List ℕ) → pen_of before ≡ p
       → map painted (styled_text_by styles before text) ≡ penned_text p text
   text-painted before p text = units-painted (units (chars text)) before p
 

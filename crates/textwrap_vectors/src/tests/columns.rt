@@ -7,54 +7,18 @@ use crate::functions::end_nowhere;
 use textwrap::wrap_algorithms::LineEnds;
 use textwrap::{Options, WrapAlgorithm};
 
+#[rattlefmt::skip]
 const IN_COLUMNS: &[(&str, usize, usize, Layout<'_>, [&str; 3], &str)] = &[
     ("a b c d", 4, 7, OPTIMAL_FIT, ["", "", ""], "abcd   \n"),
-    (
-        "Foo Bar Baz Quux",
-        4,
-        24,
-        OPTIMAL_FIT,
-        ["|", "|", "|"],
-        "|Foo |Bar |Baz |Quux   |\n",
-    ),
-    (
-        "Foo Bar Baz Quux",
-        4,
-        21,
-        OPTIMAL_FIT,
-        ["|", "|", "|"],
-        "|Foo |Bar |Baz |Quux|\n",
-    ),
+    ("Foo Bar Baz Quux", 4, 24, OPTIMAL_FIT, ["|", "|", "|"], "|Foo |Bar |Baz |Quux   |\n"),
+    ("Foo Bar Baz Quux", 4, 21, OPTIMAL_FIT, ["|", "|", "|"], "|Foo |Bar |Baz |Quux|\n"),
     ("あ", 2, 2, OPTIMAL_FIT, ["", "", ""], "あ \n"),
     ("", 1, 10, OPTIMAL_FIT, ["| ", "", " |"], "|        |\n"),
-    (
-        "xyz",
-        2,
-        10,
-        OPTIMAL_FIT,
-        ["----> ", " !!! ", " <----"],
-        "----> x !!! z <----\n----> y !!!   <----\n",
-    ),
-    (
-        "Words and a few emojis 😍 wrapped in ⓶ columns",
-        2,
-        30,
-        OPTIMAL_FIT,
-        ["✨ ", " ⚽ ", " 👀"],
-        "✨ Words      ⚽ wrapped in 👀\n✨ and a few  ⚽ ⓶ columns  👀\n✨ emojis 😍  ⚽            👀\n",
-    ),
+    ("xyz", 2, 10, OPTIMAL_FIT, ["----> ", " !!! ", " <----"], "----> x !!! z <----\n----> y !!!   <----\n"),
+    ("Words and a few emojis 😍 wrapped in ⓶ columns", 2, 30, OPTIMAL_FIT, ["✨ ", " ⚽ ", " 👀"],
+        "✨ Words      ⚽ wrapped in 👀\n✨ and a few  ⚽ ⓶ columns  👀\n✨ emojis 😍  ⚽            👀\n"),
     // A word that may not be broken passes its column.
-    (
-        "foobar",
-        1,
-        3,
-        Layout {
-            break_words: false,
-            ..OPTIMAL_FIT
-        },
-        ["", "|", ""],
-        "foobar\n",
-    ),
+    ("foobar", 1, 3, Layout { break_words: false, ..OPTIMAL_FIT }, ["", "|", ""], "foobar\n"),
 ];
 
 /// The lines go down one column after another; each is padded to the width of a column, and what

@@ -82,20 +82,13 @@ const STRICTEST: Penalties = Penalties {
     hyphen_penalty: MAX,
 };
 
+#[rattlefmt::skip]
 const FIRST_FITS: &[(&[Block], &[usize], &[usize])] = &[
     (&[], &[10], &[0]),
     (&[], &[], &[0]),
     // All three close within the width, but the first two do not.
-    (
-        &[Block(5, 0, 0), Block(5, 0, 5), Block(0, 0, 0)],
-        &[10],
-        &[1, 2],
-    ),
-    (
-        &[Block(MAX, MAX, MAX), Block(MAX, MAX, MAX)],
-        &[MAX],
-        &[1, 1],
-    ),
+    (&[Block(5, 0, 0), Block(5, 0, 5), Block(0, 0, 0)], &[10], &[1, 2]),
+    (&[Block(MAX, MAX, MAX), Block(MAX, MAX, MAX)], &[MAX], &[1, 1]),
     (FIVES, &[10], &[2, 2]),
     (FIVES, &[5, 10, 5], &[1, 2, 1]),
     (FIVES, &[10, 5], &[2, 1, 1]),
@@ -119,11 +112,7 @@ const FIRST_FITS: &[(&[Block], &[usize], &[usize])] = &[
     (&[Block(MAX, 0, 0), Block(0, 0, 1)], &[MAX], &[1, 1]),
     (&[Block(0, 0, MAX), Block(0, 0, MAX)], &[MAX], &[2]),
     (&[Block(0, 0, MAX), Block(0, 0, MAX)], &[MAX - 1], &[1, 1]),
-    (
-        &[Block(0, MAX, 0), Block(0, MAX, 0), Block(0, MAX, 0)],
-        &[MAX],
-        &[2, 1],
-    ),
+    (&[Block(0, MAX, 0), Block(0, MAX, 0), Block(0, MAX, 0)], &[MAX], &[2, 1]),
     (&[Block(MAX, MAX, MAX), Block(MAX, MAX, MAX)], &[], &[1, 1]),
     (FIVES, &[0, MAX], &[1, 3]),
     (FIVES, &[MAX, 0], &[4]),
@@ -163,6 +152,7 @@ fn words_are_divided(rt: HostRuntime) {
     assert!(rt; lines.as_slice() == expected.as_slice());
 }
 
+#[rattlefmt::skip]
 const OPTIMAL_FITS: &[(&[Block], &[usize], &[usize])] = &[
     (&[], &[], &[0]),
     (&[Block(10, 0, 0)], &[10], &[1]),
@@ -172,11 +162,7 @@ const OPTIMAL_FITS: &[(&[Block], &[usize], &[usize])] = &[
     (&[Block(3, 1, 0), Block(50, 0, 0)], &[52], &[1, 1]),
     (FALLING, &[10], &[1, 3, 1]),
     // Line widths that differ after the second.
-    (
-        &[Block(5, 0, 0), Block(5, 0, 0), Block(20, 0, 0)],
-        &[10, 5, 100],
-        &[2, 1],
-    ),
+    (&[Block(5, 0, 0), Block(5, 0, 0), Block(20, 0, 0)], &[10, 5, 100], &[2, 1]),
     // A width of 0 is taken for one of 1.
     (&[Block(0, 0, 0), Block(0, 0, 0)], &[0], &[2]),
     (&[Block(0, 1, 0), Block(0, 0, 0)], &[0], &[2]),
@@ -189,11 +175,7 @@ const OPTIMAL_FITS: &[(&[Block], &[usize], &[usize])] = &[
     (&[Block(MAX, 0, 0), Block(0, 0, 0)], &[MAX - 1], &[2]),
     (&[Block(MAX, 0, 0), Block(0, 0, 1)], &[MAX], &[1, 1]),
     (&[Block(0, 0, MAX), Block(0, 0, MAX)], &[MAX - 1], &[2]),
-    (
-        &[Block(0, MAX, 0), Block(0, MAX, 0), Block(0, MAX, 0)],
-        &[MAX - 1],
-        &[2, 1],
-    ),
+    (&[Block(0, MAX, 0), Block(0, MAX, 0), Block(0, MAX, 0)], &[MAX - 1], &[2, 1]),
     (&[Block(MAX, MAX, MAX), Block(MAX, MAX, MAX)], &[], &[1, 1]),
     (FIVES, &[0, MAX], &[1, 3]),
     (FIVES, &[MAX, 0], &[4]),

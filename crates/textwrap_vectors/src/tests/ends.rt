@@ -32,106 +32,29 @@ pub(super) fn assert_laid_out(
     assert_gives(rt, FillSlowly(width, layout), text, expected);
 }
 
+#[rattlefmt::skip]
 const FILLED_AT_ENDS: &[FilledAtEnds<'_>] = &[
     ("", "", "", [""; 4], [""; 4]),
     ("", "!", "", ["!"; 4], ["!"; 4]),
-    (
-        "foo-bar",
-        "",
-        "",
-        [
-            "f\no\no\n-\nb\na\nr",
-            "f\no\no\n-\nb\na\nr",
-            "foo-bar",
-            "foo-bar",
-        ],
-        [
-            "f\no\no\n-\nb\na\nr",
-            "f\no\no\n-\nb\na\nr",
-            "foo-bar",
-            "foo-bar",
-        ],
-    ),
-    (
-        " a ",
-        "",
-        "",
-        ["\na", "\na", " a", " a"],
-        ["\na", "\na", " a", " a"],
-    ),
+    ("foo-bar", "", "", ["f\no\no\n-\nb\na\nr", "f\no\no\n-\nb\na\nr", "foo-bar", "foo-bar"],
+        ["f\no\no\n-\nb\na\nr", "f\no\no\n-\nb\na\nr", "foo-bar", "foo-bar"]),
+    (" a ", "", "", ["\na", "\na", " a", " a"], ["\na", "\na", " a", " a"]),
     // The indent takes more than the width, or two columns of the greatest ones. First fit
     // leaves it alone on its line.
-    (
-        "a b",
-        "  ",
-        "",
-        ["  a\nb", "  a\nb", "  a b", "  a b"],
-        ["  \na\nb", "  \na\nb", "  a b", "  a b"],
-    ),
-    (
-        "foo bar",
-        "* ",
-        "- ",
-        [
-            "* f\n- o\n- o\n- b\n- a\n- r",
-            "* f\n- o\n- o\n- b\n- a\n- r",
-            "* foo bar",
-            "* foo bar",
-        ],
-        [
-            "* \n- f\n- o\n- o\n- b\n- a\n- r",
-            "* \n- f\n- o\n- o\n- b\n- a\n- r",
-            "* foo bar",
-            "* foo bar",
-        ],
-    ),
-    (
-        "a\n\nb c",
-        "",
-        "> ",
-        ["a\n\n> b\n> c", "a\n\n> b\n> c", "a\n\n> b c", "a\n\n> b c"],
-        ["a\n\n> b\n> c", "a\n\n> b\n> c", "a\n\n> b c", "a\n\n> b c"],
-    ),
+    ("a b", "  ", "", ["  a\nb", "  a\nb", "  a b", "  a b"], ["  \na\nb", "  \na\nb", "  a b", "  a b"]),
+    ("foo bar", "* ", "- ", ["* f\n- o\n- o\n- b\n- a\n- r", "* f\n- o\n- o\n- b\n- a\n- r", "* foo bar", "* foo bar"],
+        ["* \n- f\n- o\n- o\n- b\n- a\n- r", "* \n- f\n- o\n- o\n- b\n- a\n- r", "* foo bar", "* foo bar"]),
+    ("a\n\nb c", "", "> ", ["a\n\n> b\n> c", "a\n\n> b\n> c", "a\n\n> b c", "a\n\n> b c"],
+        ["a\n\n> b\n> c", "a\n\n> b\n> c", "a\n\n> b c", "a\n\n> b c"]),
     // Characters without columns begin a piece where the character before them fills the line.
-    (
-        "a\u{301}b",
-        "",
-        "",
-        ["a\n\u{301}b", "a\u{301}\nb", "a\u{301}b", "a\u{301}b"],
-        ["a\n\u{301}b", "a\u{301}\nb", "a\u{301}b", "a\u{301}b"],
-    ),
-    (
-        "あ\u{301}",
-        "",
-        "",
-        ["あ\u{301}"; 4],
-        ["あ\n\u{301}", "あ\n\u{301}", "あ\u{301}", "あ\u{301}"],
-    ),
-    (
-        "\u{301}\u{301}\u{301}",
-        "",
-        "",
-        ["\u{301}\u{301}\u{301}"; 4],
-        ["\u{301}\u{301}\u{301}"; 4],
-    ),
+    ("a\u{301}b", "", "", ["a\n\u{301}b", "a\u{301}\nb", "a\u{301}b", "a\u{301}b"],
+        ["a\n\u{301}b", "a\u{301}\nb", "a\u{301}b", "a\u{301}b"]),
+    ("あ\u{301}", "", "", ["あ\u{301}"; 4], ["あ\n\u{301}", "あ\n\u{301}", "あ\u{301}", "あ\u{301}"]),
+    ("\u{301}\u{301}\u{301}", "", "", ["\u{301}\u{301}\u{301}"; 4], ["\u{301}\u{301}\u{301}"; 4]),
     // Indents of escape sequences have no columns.
-    (
-        "ab c",
-        "\x1b[1m",
-        "\x1b[0m",
-        [
-            "\x1b[1ma\n\x1b[0mb\n\x1b[0mc",
-            "\x1b[1ma\n\x1b[0mb\n\x1b[0mc",
-            "\x1b[1mab c",
-            "\x1b[1mab c",
-        ],
-        [
-            "\x1b[1m\n\x1b[0ma\n\x1b[0mb\n\x1b[0mc",
-            "\x1b[1ma\n\x1b[0mb\n\x1b[0mc",
-            "\x1b[1mab c",
-            "\x1b[1mab c",
-        ],
-    ),
+    ("ab c", "\x1b[1m", "\x1b[0m",
+        ["\x1b[1ma\n\x1b[0mb\n\x1b[0mc", "\x1b[1ma\n\x1b[0mb\n\x1b[0mc", "\x1b[1mab c", "\x1b[1mab c"],
+        ["\x1b[1m\n\x1b[0ma\n\x1b[0mb\n\x1b[0mc", "\x1b[1ma\n\x1b[0mb\n\x1b[0mc", "\x1b[1mab c", "\x1b[1mab c"]),
 ];
 
 /// Asserts that a text is filled to these at the widths at the ends.
@@ -165,16 +88,13 @@ fn texts_are_filled_at_the_ends_of_widths(rt: HostRuntime) {
     }
 }
 
+#[rattlefmt::skip]
 const FILLED_IN_PLACE: &[(&str, &str, &str)] = &[
     ("foo bar", "foo\nbar", "foo bar"),
     (" foo-bar baz ", "\nfoo-bar\nbaz ", " foo-bar baz "),
     ("a\n b  c", "a\n\nb \nc", "a\n b  c"),
     ("あ い", "あ\nい", "あ い"),
-    (
-        "\x1b[1ma\x1b[0m b",
-        "\x1b[1ma\x1b[0m\nb",
-        "\x1b[1ma\x1b[0m b",
-    ),
+    ("\x1b[1ma\x1b[0m b", "\x1b[1ma\x1b[0m\nb", "\x1b[1ma\x1b[0m b"),
 ];
 
 /// At a width of 0 or 1 each word has a line of its own in place, and at the greatest widths nothing
@@ -189,13 +109,9 @@ fn texts_are_filled_in_place_at_the_ends_of_widths(rt: HostRuntime) {
     }
 }
 
+#[rattlefmt::skip]
 const REFILLED_AT_ENDS: &[(&str, &str, &str, &str)] = &[
-    (
-        "foo\nbar\n",
-        "f\no\no\nb\na\nr\n",
-        "f\no\no\nb\na\nr\n",
-        "foo bar\n",
-    ),
+    ("foo\nbar\n", "f\no\no\nb\na\nr\n", "f\no\no\nb\na\nr\n", "foo bar\n"),
     ("a\r\nb", "a\nb", "a\nb", "a b"),
     ("-", "-", "-", "-"),
     ("- a\n- b", "- a\n- b", "- \n- a\n- b", "- a b"),

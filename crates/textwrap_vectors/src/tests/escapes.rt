@@ -8,6 +8,7 @@ use std::alloc::Global;
 use textwrap::WrapError;
 use textwrap::words::Word;
 
+#[rattlefmt::skip]
 const CUT_SEQUENCES: &[(&str, &str, usize, &[&str])] = &[
     // ESC, which takes one character more, and a control sequence, which a letter ends.
     ("\x1babc", "bc", 2, &["\x1bab", "c"]),
@@ -42,18 +43,8 @@ const CUT_SEQUENCES: &[(&str, &str, usize, &[&str])] = &[
     ("abc\x1b]8;;u", "abc", 3, &["a", "b", "c\x1b]8;;u"]),
     ("\x1b]8;;u\x1babc", "", 0, &["\x1b]8;;u\x1babc"]),
     ("abc\x1b]8;;u\x1b", "abc", 3, &["a", "b", "c\x1b]8;;u\x1b"]),
-    (
-        "\x1b]8;;u\x1b\\abc",
-        "abc",
-        3,
-        &["\x1b]8;;u\x1b\\a", "b", "c"],
-    ),
-    (
-        "abc\x1b]8;;u\x1b\\",
-        "abc",
-        3,
-        &["a", "b", "c\x1b]8;;u\x1b\\"],
-    ),
+    ("\x1b]8;;u\x1b\\abc", "abc", 3, &["\x1b]8;;u\x1b\\a", "b", "c"]),
+    ("abc\x1b]8;;u\x1b\\", "abc", 3, &["a", "b", "c\x1b]8;;u\x1b\\"]),
     // ESC and one character are a whole sequence.
     ("\x1b!abc", "abc", 3, &["\x1b!a", "b", "c"]),
     ("abc\x1b!", "abc", 3, &["a", "b", "c\x1b!"]),

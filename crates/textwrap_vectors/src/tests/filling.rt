@@ -10,91 +10,33 @@ use std::process::Abort;
 use textwrap::wrap_algorithms::Penalties;
 use textwrap::{LineEnding, Options, WrapError};
 
+#[rattlefmt::skip]
 const FILLED: &[(&str, usize, Layout<'_>, &str)] = &[
     // The lines of first fit.
-    (
-        "To be, or not to be: that is the question\n",
-        10,
-        FIRST_FIT,
-        "To be, or\nnot to be:\nthat is\nthe\nquestion\n",
-    ),
+    ("To be, or not to be: that is the question\n", 10, FIRST_FIT, "To be, or\nnot to be:\nthat is\nthe\nquestion\n"),
     ("1 3 5 7\n1 3 5 7", 5, FIRST_FIT, "1 3 5\n7\n1 3 5\n7"),
     ("aa bb cc dd", 5, FIRST_FIT, "aa bb\ncc dd"),
     ("aa bb cc dd", 8, FIRST_FIT, "aa bb cc\ndd"),
     // The lines of least cost.
     ("foo bar baz", 10, OPTIMAL_FIT, "foo bar\nbaz"),
     ("aa bb cc dd", 5, OPTIMAL_FIT, "aa bb\ncc dd"),
-    (
-        "To be, or not to be: that is the question\n",
-        10,
-        OPTIMAL_FIT,
-        "To be,\nor not to\nbe: that\nis the\nquestion\n",
-    ),
+    ("To be, or not to be: that is the question\n", 10, OPTIMAL_FIT, "To be,\nor not to\nbe: that\nis the\nquestion\n"),
     ("test\n\na\n\n", 80, OPTIMAL_FIT, "test\n\na\n\n"),
     ("  \n \n  \n ", 80, OPTIMAL_FIT, "\n\n\n"),
     ("ab\ncdefghijkl", 5, OPTIMAL_FIT, "ab\ncdefg\nhijkl"),
     // An escape sequence of two characters before a third, all in one word.
     ("\x1b!Ͽ", 10, OPTIMAL_FIT, "\x1b!Ͽ"),
     // Blanks are kept if that is on.
-    (
-        "foo  ",
-        10,
-        Layout {
-            preserve_trailing_space: true,
-            ..OPTIMAL_FIT
-        },
-        "foo  ",
-    ),
+    ("foo  ", 10, Layout { preserve_trailing_space: true, ..OPTIMAL_FIT }, "foo  "),
     // A word stays whole where words are not broken.
-    (
-        "foo\u{a0}bar\u{2011}baz",
-        5,
-        Layout {
-            break_words: false,
-            ..OPTIMAL_FIT
-        },
-        "foo\u{a0}bar\u{2011}baz",
-    ),
+    ("foo\u{a0}bar\u{2011}baz", 5, Layout { break_words: false, ..OPTIMAL_FIT }, "foo\u{a0}bar\u{2011}baz"),
     // Once a line is out, the first line of a paragraph is divided for the width that the initial
     // indent leaves, and where paragraphs are to be even, for the one that its own indent leaves.
-    (
-        "aaa\nbbb ccc",
-        7,
-        Layout {
-            subsequent_indent: "    ",
-            ..OPTIMAL_FIT
-        },
-        "aaa\n    bbb ccc",
-    ),
-    (
-        "aaa\nbbb ccc",
-        7,
-        Layout {
-            subsequent_indent: "    ",
-            even_paragraphs: true,
-            ..OPTIMAL_FIT
-        },
-        "aaa\n    bbb\n    ccc",
-    ),
-    (
-        "a\n\nb",
-        10,
-        Layout {
-            subsequent_indent: "> ",
-            ..OPTIMAL_FIT
-        },
-        "a\n\n> b",
-    ),
-    (
-        "a\n\nb",
-        10,
-        Layout {
-            subsequent_indent: "> ",
-            even_paragraphs: true,
-            ..OPTIMAL_FIT
-        },
-        "a\n\n> b",
-    ),
+    ("aaa\nbbb ccc", 7, Layout { subsequent_indent: "    ", ..OPTIMAL_FIT }, "aaa\n    bbb ccc"),
+    ("aaa\nbbb ccc", 7, Layout { subsequent_indent: "    ", even_paragraphs: true, ..OPTIMAL_FIT },
+        "aaa\n    bbb\n    ccc"),
+    ("a\n\nb", 10, Layout { subsequent_indent: "> ", ..OPTIMAL_FIT }, "a\n\n> b"),
+    ("a\n\nb", 10, Layout { subsequent_indent: "> ", even_paragraphs: true, ..OPTIMAL_FIT }, "a\n\n> b"),
 ];
 
 /// The lines of a text are joined by its line ending. The slow path gives the same.

@@ -7,15 +7,12 @@ use crate::heap::Heap;
 use std::process::Abort;
 use textwrap::{WrapError, fill_inplace};
 
+#[rattlefmt::skip]
 const FILLED: &[(&str, usize, &str)] = &[
     ("foo  bar    baz", 10, "foo  bar   \nbaz"),
     ("Hello   World!", 10, "Hello  \nWorld!"),
     ("", 0, ""),
-    (
-        "1 3 5\n1 3 5 7 9\n1 3 5 7 9 1 3",
-        10,
-        "1 3 5\n1 3 5 7 9\n1 3 5 7 9\n1 3",
-    ),
+    ("1 3 5\n1 3 5 7 9\n1 3 5 7 9 1 3", 10, "1 3 5\n1 3 5 7 9\n1 3 5 7 9\n1 3"),
     ("  foo bar baz", 10, "  foo bar\nbaz"),
     ("foo bar baz  ", 10, "foo bar\nbaz  "),
 ];
@@ -50,6 +47,7 @@ impl Refusable for InPlace<'_> {
     }
 }
 
+#[rattlefmt::skip]
 const REFUSED: &[(&str, usize, &str, usize)] = &[
     // A text that stays as it is needs no memory.
     ("", 0, "", 0),
@@ -64,12 +62,7 @@ const REFUSED: &[(&str, usize, &str, usize)] = &[
     ("foo bar baz", usize::MAX, "foo bar baz", 0),
     ("\n\n", 0, "\n\n", 0),
     ("foo\nbar", 0, "foo\nbar", 0),
-    (
-        "foo bar\nfoobarbaz\n\nbaz \n",
-        7,
-        "foo bar\nfoobarbaz\n\nbaz \n",
-        0,
-    ),
+    ("foo bar\nfoobarbaz\n\nbaz \n", 7, "foo bar\nfoobarbaz\n\nbaz \n", 0),
     ("foo\r\nbar", 4, "foo\r\nbar", 0),
     ("あい うえ", 9, "あい うえ", 0),
     ("\x1b[31mfoo\x1b[0m bar", 7, "\x1b[31mfoo\x1b[0m bar", 0),
@@ -82,18 +75,8 @@ const REFUSED: &[(&str, usize, &str, usize)] = &[
     ("foo\nbar baz\n", 4, "foo\nbar\nbaz\n", 1),
     ("foo bar\nbaz foo bar", 7, "foo bar\nbaz foo\nbar", 1),
     ("あい うえ", 8, "あい\nうえ", 1),
-    (
-        "1 2 3 4 5 6 7 8 9 a b c d e f g h i j k",
-        0,
-        "1\n2\n3\n4\n5\n6\n7\n8\n9\na\nb\nc\nd\ne\nf\ng\nh\ni\nj\nk",
-        2,
-    ),
-    (
-        "1 2 3 4 5 6\n7 8 9\na b c d e f g h\ni j k",
-        3,
-        "1 2\n3 4\n5 6\n7 8\n9\na b\nc d\ne f\ng h\ni j\nk",
-        2,
-    ),
+    ("1 2 3 4 5 6 7 8 9 a b c d e f g h i j k", 0, "1\n2\n3\n4\n5\n6\n7\n8\n9\na\nb\nc\nd\ne\nf\ng\nh\ni\nj\nk", 2),
+    ("1 2 3 4 5 6\n7 8 9\na b c d e f g h\ni j k", 3, "1 2\n3 4\n5 6\n7 8\n9\na b\nc d\ne f\ng h\ni j\nk", 2),
 ];
 
 /// Whether a call that is refused at least so often was refused so many times. One that is never

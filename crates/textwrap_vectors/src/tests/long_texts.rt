@@ -70,213 +70,57 @@ const QUOTED: Long<'_> = ("", "> ", 5000, "ab\n", 50, "");
 /// What is tried; the call but for its indents, what these are, and its text; what it gives.
 type Row<'a> = (&'a str, Call<'a>, Long<'a>, Long<'a>, Long<'a>);
 
+#[rattlefmt::skip]
 const ROWS: &[Row<'_>] = &[
     // Each line ending stays one: the paragraphs before, between and after them are empty lines.
-    (
-        "line feeds wrapped",
-        Wrap(80, OPTIMAL_FIT),
-        NONE,
-        LINE_FEEDS,
-        ("", "|", LINE_ENDINGS + 1, "", 1, ""),
-    ),
-    (
-        "line feeds filled",
-        Fill(80, OPTIMAL_FIT),
-        NONE,
-        LINE_FEEDS,
-        LINE_FEEDS,
-    ),
-    (
-        "line feeds in place",
-        FillInplace(80),
-        NONE,
-        LINE_FEEDS,
-        LINE_FEEDS,
-    ),
-    (
-        "line feeds in a column",
-        Columns(1, 1, OPTIMAL_FIT, "", "", ""),
-        NONE,
-        LINE_FEEDS,
-        ("", " \n", LINE_ENDINGS + 1, "", 1, ""),
-    ),
+    ("line feeds wrapped", Wrap(80, OPTIMAL_FIT), NONE, LINE_FEEDS, ("", "|", LINE_ENDINGS + 1, "", 1, "")),
+    ("line feeds filled", Fill(80, OPTIMAL_FIT), NONE, LINE_FEEDS, LINE_FEEDS),
+    ("line feeds in place", FillInplace(80), NONE, LINE_FEEDS, LINE_FEEDS),
+    ("line feeds in a column", Columns(1, 1, OPTIMAL_FIT, "", "", ""), NONE, LINE_FEEDS,
+        ("", " \n", LINE_ENDINGS + 1, "", 1, "")),
     // Empty lines are nothing to fill again. They get the indent without its blank, and lose
     // nothing.
-    (
-        "line feeds refilled",
-        Refill(80, OPTIMAL_FIT),
-        NONE,
-        LINE_FEEDS,
-        EMPTY,
-    ),
-    (
-        "line feeds indented",
-        Indent(""),
-        QUOTE,
-        LINE_FEEDS,
-        ("", ">\n", LINE_ENDINGS, "", 1, ""),
-    ),
+    ("line feeds refilled", Refill(80, OPTIMAL_FIT), NONE, LINE_FEEDS, EMPTY),
+    ("line feeds indented", Indent(""), QUOTE, LINE_FEEDS, ("", ">\n", LINE_ENDINGS, "", 1, "")),
     ("line feeds dedented", Dedent, NONE, LINE_FEEDS, LINE_FEEDS),
     // Blanks are the end of one line, which is left off, and no place to break it in place.
-    (
-        "blanks wrapped",
-        Wrap(80, OPTIMAL_FIT),
-        NONE,
-        BLANKS,
-        ("|", "", 0, "", 1, ""),
-    ),
+    ("blanks wrapped", Wrap(80, OPTIMAL_FIT), NONE, BLANKS, ("|", "", 0, "", 1, "")),
     ("blanks filled", Fill(80, OPTIMAL_FIT), NONE, BLANKS, EMPTY),
-    (
-        "blanks kept",
-        Fill(80, KEEPING_BLANKS),
-        NONE,
-        BLANKS,
-        BLANKS,
-    ),
+    ("blanks kept", Fill(80, KEEPING_BLANKS), NONE, BLANKS, BLANKS),
     ("blanks in place", FillInplace(80), NONE, BLANKS, BLANKS),
-    (
-        "blanks in a column",
-        Columns(1, 1, OPTIMAL_FIT, "", "", ""),
-        NONE,
-        BLANKS,
-        (" \n", "", 0, "", 1, ""),
-    ),
+    ("blanks in a column", Columns(1, 1, OPTIMAL_FIT, "", "", ""), NONE, BLANKS, (" \n", "", 0, "", 1, "")),
     // Blanks are the indent of a line that has nothing else.
-    (
-        "blanks refilled",
-        Refill(80, OPTIMAL_FIT),
-        NONE,
-        BLANKS,
-        BLANKS,
-    ),
-    (
-        "blanks indented",
-        Indent(""),
-        QUOTE,
-        BLANKS,
-        (">", " ", MILLION, "", 1, ""),
-    ),
+    ("blanks refilled", Refill(80, OPTIMAL_FIT), NONE, BLANKS, BLANKS),
+    ("blanks indented", Indent(""), QUOTE, BLANKS, (">", " ", MILLION, "", 1, "")),
     ("blanks dedented", Dedent, NONE, BLANKS, EMPTY),
     // Line endings have no text, and blanks are the indent of a line that has nothing else.
-    (
-        "line feeds unfilled",
-        Unfill(0, "", "", LF),
-        NONE,
-        LINE_FEEDS,
-        EMPTY,
-    ),
-    (
-        "blanks unfilled",
-        Unfill(MILLION, "", "", LF),
-        BLANKS,
-        BLANKS,
-        EMPTY,
-    ),
+    ("line feeds unfilled", Unfill(0, "", "", LF), NONE, LINE_FEEDS, EMPTY),
+    ("blanks unfilled", Unfill(MILLION, "", "", LF), BLANKS, BLANKS, EMPTY),
     // Lines of three words are full, so no others cost less.
-    (
-        "words filled",
-        Fill(8, OPTIMAL_FIT),
-        NONE,
-        MANY_WORDS,
-        LINES_OF_WORDS,
-    ),
-    (
-        "words wrapped",
-        Wrap(8, OPTIMAL_FIT),
-        NONE,
-        MANY_WORDS,
-        ("", "ab ab ab|", WORDS / 3, "", 1, ""),
-    ),
-    (
-        "words refilled",
-        Refill(8, OPTIMAL_FIT),
-        NONE,
-        LINES_OF_WORDS,
-        LINES_OF_WORDS,
-    ),
-    (
-        "words alone",
-        Append(8, OPTIMAL_FIT),
-        NONE,
-        ("", "ab\n", WORDS - 1, "", 1, "ab"),
-        ("", "ab|", WORDS, "", 1, ""),
-    ),
+    ("words filled", Fill(8, OPTIMAL_FIT), NONE, MANY_WORDS, LINES_OF_WORDS),
+    ("words wrapped", Wrap(8, OPTIMAL_FIT), NONE, MANY_WORDS, ("", "ab ab ab|", WORDS / 3, "", 1, "")),
+    ("words refilled", Refill(8, OPTIMAL_FIT), NONE, LINES_OF_WORDS, LINES_OF_WORDS),
+    ("words alone", Append(8, OPTIMAL_FIT), NONE, ("", "ab\n", WORDS - 1, "", 1, "ab"), ("", "ab|", WORDS, "", 1, "")),
     // No line follows the last two words.
-    (
-        "words in place",
-        FillInplace(7),
-        NONE,
-        ("", "abc ", 100_000, "", 1, ""),
-        ("", "abc abc\n", 49_999, "", 1, "abc abc "),
-    ),
+    ("words in place", FillInplace(7), NONE, ("", "abc ", 100_000, "", 1, ""),
+        ("", "abc abc\n", 49_999, "", 1, "abc abc ")),
     // Each paragraph has its lines.
-    (
-        "paragraphs wrapped",
-        Wrap(10, FIRST_FIT),
-        NONE,
-        PARAGRAPHS,
-        ("", "To be,\tor|not\r|to be||", 300, "", 1, "|"),
-    ),
-    (
-        "paragraphs filled",
-        Fill(10, FIRST_FIT),
-        NONE,
-        PARAGRAPHS,
-        ("", "To be,\tor\nnot\r\nto be\n\n", 300, "", 1, ""),
-    ),
+    ("paragraphs wrapped", Wrap(10, FIRST_FIT), NONE, PARAGRAPHS, ("", "To be,\tor|not\r|to be||", 300, "", 1, "|")),
+    ("paragraphs filled", Fill(10, FIRST_FIT), NONE, PARAGRAPHS, ("", "To be,\tor\nnot\r\nto be\n\n", 300, "", 1, "")),
     // A long indent stands before each line, and a long margin is lost.
-    (
-        "a long prefix",
-        Indent(""),
-        LONG_QUOTE,
-        ("", "ab\n", 50, "", 1, ""),
-        QUOTED,
-    ),
-    (
-        "long indents",
-        Fill(10_002, OPTIMAL_FIT),
-        LONG_QUOTE,
-        ("", "ab ", 49, "", 1, "ab"),
-        QUOTED,
-    ),
-    (
-        "a long margin",
-        Dedent,
-        NONE,
-        ("", " ", 5000, "ab\n", 50, ""),
-        ("", "ab\n", 50, "", 1, ""),
-    ),
+    ("a long prefix", Indent(""), LONG_QUOTE, ("", "ab\n", 50, "", 1, ""), QUOTED),
+    ("long indents", Fill(10_002, OPTIMAL_FIT), LONG_QUOTE, ("", "ab ", 49, "", 1, "ab"), QUOTED),
+    ("a long margin", Dedent, NONE, ("", " ", 5000, "ab\n", 50, ""), ("", "ab\n", 50, "", 1, "")),
     // A word with many points is split at those where a line is full.
-    (
-        "points filled",
-        Fill(8, OPTIMAL_FIT),
-        NONE,
-        ("", "a-", 20_000, "", 1, ""),
-        ("", "a-a-a-a-\n", 4_999, "", 1, "a-a-a-a-"),
-    ),
+    ("points filled", Fill(8, OPTIMAL_FIT), NONE, ("", "a-", 20_000, "", 1, ""),
+        ("", "a-a-a-a-\n", 4_999, "", 1, "a-a-a-a-")),
     // Many escape sequences.
-    (
-        "sequences stripped",
-        Strip,
-        NONE,
-        ("", "a\x1b[1m", 20_000, "", 1, ""),
-        ("", "a", 20_000, "", 1, ""),
-    ),
+    ("sequences stripped", Strip, NONE, ("", "a\x1b[1m", 20_000, "", 1, ""), ("", "a", 20_000, "", 1, "")),
     // Many columns of many lines, and a wide one.
-    (
-        "a large table",
-        Columns(200, 401, OPTIMAL_FIT, "|", "|", "|"),
-        NONE,
-        ("", "a\n", 200 * 200 - 1, "", 1, "a"),
-        ("", "|a", 200, "|\n", 200, ""),
-    ),
-    (
-        "a letter in a wide column",
-        Columns(1, 100_000, OPTIMAL_FIT, "", "", ""),
-        NONE,
-        ("a", "", 0, "", 1, ""),
-        ("a", " ", 99_999, "", 1, "\n"),
-    ),
+    ("a large table", Columns(200, 401, OPTIMAL_FIT, "|", "|", "|"), NONE, ("", "a\n", 200 * 200 - 1, "", 1, "a"),
+        ("", "|a", 200, "|\n", 200, "")),
+    ("a letter in a wide column", Columns(1, 100_000, OPTIMAL_FIT, "", "", ""), NONE, ("a", "", 0, "", 1, ""),
+        ("a", " ", 99_999, "", 1, "\n")),
 ];
 
 /// The call with this indent, before the first line and each later one, or as what is found before

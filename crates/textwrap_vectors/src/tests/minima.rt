@@ -13,30 +13,13 @@ use textwrap::minima::{
 use textwrap::words::Fragment;
 use textwrap::wrap_algorithms::Penalties;
 
+#[rattlefmt::skip]
 const TABLES: &[(&[Block], &[usize], usize, &[(usize, u128)], u128)] = &[
     (&[Block(10, 0, 0)], &[10], 4, &[(0, 0), (0, 1000)], 1),
     (&[Block(10, 0, 0)], &[10], 0, &[(0, 0), (0, 1025)], 1),
-    (
-        FALLING,
-        &[10],
-        4,
-        &[
-            (0, 0),
-            (0, 1000),
-            (1, 2025),
-            (2, 3050),
-            (1, 2000),
-            (4, 3000),
-        ],
-        15,
-    ),
-    (
-        &[Block(5, 0, 0), Block(5, 0, 0), Block(20, 0, 0)],
-        &[10, 5, 100],
-        4,
-        &[(0, 0), (0, 1025), (0, 1000), (2, 39500)],
-        6,
-    ),
+    (FALLING, &[10], 4, &[(0, 0), (0, 1000), (1, 2025), (2, 3050), (1, 2000), (4, 3000)], 15),
+    (&[Block(5, 0, 0), Block(5, 0, 0), Block(20, 0, 0)], &[10, 5, 100], 4, &[(0, 0), (0, 1025), (0, 1000), (2, 39500)],
+        6),
 ];
 
 /// Entry j of the table is the least cost of the first j fragments, and the earliest start of a

@@ -48,14 +48,11 @@ enum Cut {
 use Cut::{At, AtHyphens, Nowhere};
 
 /// Words, where they are cut, and the pieces.
+#[rattlefmt::skip]
 const CUT_WORDS: &[(&[&str], Cut, &[&str])] = &[
     // A piece before a split point ends in its hyphen; the last one keeps the blanks of the word.
     (&["foo-bar  "], AtHyphens, &["foo-", "bar  "]),
-    (
-        &["can-be-split", "foo(-)bar "],
-        AtHyphens,
-        &["can-", "be-", "split", "foo(-)bar "],
-    ),
+    (&["can-be-split", "foo(-)bar "], AtHyphens, &["can-", "be-", "split", "foo(-)bar "]),
     (&["   "], AtHyphens, &["   "]),
     (&["\x1b[3-1m"], AtHyphens, &["\x1b[3-", "1m"]),
     (&[], AtHyphens, &[]),

@@ -89,84 +89,30 @@ const INDENTED_FIRST_FIT: Layout<'_> = Layout {
 };
 
 /// What the calls give, and how often they are refused.
+#[rattlefmt::skip]
 const ON_TEXTS: &[(Given<'_>, usize)] = &[
     // What gives lines.
-    (
-        Given(
-            Wrap(10, INDENTED_FIRST_FIT),
-            TEXT,
-            "+* To be,|+  or not|+  to be:|+  that is|+  the|+  question|+  Hamlet|",
-        ),
-        11,
-    ),
+    (Given(Wrap(10, INDENTED_FIRST_FIT), TEXT,
+            "+* To be,|+  or not|+  to be:|+  that is|+  the|+  question|+  Hamlet|"), 11),
     // Without indents nothing is allocated but the list of lines.
-    (
-        Given(Wrap(5, FIRST_FIT), PARAGRAPHS, "foo|bar|é foo|fooba|rbaz|"),
-        2,
-    ),
-    (
-        Given(
-            Wrap(10, INDENTED),
-            TEXT,
-            "+* To be,|+  or not|+  to be:|+  that|+  is the|+  question|+  Hamlet|",
-        ),
-        21,
-    ),
+    (Given(Wrap(5, FIRST_FIT), PARAGRAPHS, "foo|bar|é foo|fooba|rbaz|"), 2),
+    (Given(Wrap(10, INDENTED), TEXT, "+* To be,|+  or not|+  to be:|+  that|+  is the|+  question|+  Hamlet|"), 21),
     (Given(Wrap(10, OPTIMAL_FIT), "foo", "foo|"), 1),
     // What fills.
     (Given(Fill(10, INDENTED), TEXT, FILLED), 13),
     (Given(Fill(10, OPTIMAL_FIT), "foo", "foo"), 1),
     // Without indents no list of all lines is needed.
-    (
-        Given(
-            Fill(5, FIRST_FIT),
-            PARAGRAPHS,
-            "foo\nbar\né foo\nfooba\nrbaz",
-        ),
-        2,
-    ),
-    (
-        Given(
-            Fill(5, OPTIMAL_FIT),
-            PARAGRAPHS,
-            "foo\nbar\né foo\nfooba\nrbaz",
-        ),
-        14,
-    ),
+    (Given(Fill(5, FIRST_FIT), PARAGRAPHS, "foo\nbar\né foo\nfooba\nrbaz"), 2),
+    (Given(Fill(5, OPTIMAL_FIT), PARAGRAPHS, "foo\nbar\né foo\nfooba\nrbaz"), 14),
     (Given(FillSlowly(10, INDENTED), TEXT, FILLED), 31),
     // What indents, refills, makes columns or strips.
-    (
-        Given(Indent("    "), "foo\n\nbar\n", "    foo\n\n    bar\n"),
-        2,
-    ),
-    (
-        Given(Dedent, "  foo\n    bar\n\n   baz\n", "foo\n  bar\n\n baz\n"),
-        1,
-    ),
-    (
-        Given(
-            Unfill(5, "* ", "  ", LineEnding::LF),
-            "* foo\n  bar\n  baz\n",
-            "foo bar baz\n",
-        ),
-        1,
-    ),
-    (
-        Given(Refill(10, INDENTED), "* foo\n  bar\n", "* foo bar\n"),
-        7,
-    ),
-    (
-        Given(
-            Columns(2, 24, OPTIMAL_FIT, "|", "|", "|"),
-            TEXT,
-            "|To be,    |is the     |\n|or not to |question   |\n|be: that  |Hamlet     |\n",
-        ),
-        13,
-    ),
-    (
-        Given(Strip, "To be, \x1b[1mor not to be", "To be, or not to be"),
-        3,
-    ),
+    (Given(Indent("    "), "foo\n\nbar\n", "    foo\n\n    bar\n"), 2),
+    (Given(Dedent, "  foo\n    bar\n\n   baz\n", "foo\n  bar\n\n baz\n"), 1),
+    (Given(Unfill(5, "* ", "  ", LineEnding::LF), "* foo\n  bar\n  baz\n", "foo bar baz\n"), 1),
+    (Given(Refill(10, INDENTED), "* foo\n  bar\n", "* foo bar\n"), 7),
+    (Given(Columns(2, 24, OPTIMAL_FIT, "|", "|", "|"), TEXT,
+            "|To be,    |is the     |\n|or not to |question   |\n|be: that  |Hamlet     |\n"), 13),
+    (Given(Strip, "To be, \x1b[1mor not to be", "To be, or not to be"), 3),
 ];
 
 /// What gives a text, lines or rows is out of memory wherever one of its lists or texts cannot grow.
@@ -209,26 +155,19 @@ const THREE: Word<'_> = Word {
 };
 
 /// The pieces at the hyphens.
+#[rattlefmt::skip]
 const AT_HYPHENS: &[Word<'_>] = &[
     TWO,
     Word { word: "b-", ..TWO },
-    Word {
-        word: "c",
-        whitespace: " ",
-        width: 1,
-        ..FOOBAR
-    },
+    Word { word: "c", whitespace: " ", width: 1, ..FOOBAR },
     FOOBAR,
 ];
 
 /// The pieces at the points of a caller: there `foo` gets a hyphen if it ends its line.
+#[rattlefmt::skip]
 const IN_MIDDLE: &[Word<'_>] = &[
     LETTERS,
-    Word {
-        word: "foo",
-        penalty: "-",
-        ..THREE
-    },
+    Word { word: "foo", penalty: "-", ..THREE },
     THREE,
 ];
 

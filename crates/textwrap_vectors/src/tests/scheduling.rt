@@ -79,92 +79,45 @@ const MAX: usize = usize::MAX;
 /// The greatest number of hours.
 const LONGEST: u128 = 18_446_744_073_709_551_615;
 
+#[rattlefmt::skip]
 const PLANS: &[(usize, &[Row<'_>], Plan<'_>)] = &[
     // A day takes tasks while they, the sweeping between them and the cleanup after the last fit:
     // one that is full to the hour is right, and one hour more is too much.
-    (
-        8,
-        HOUSE,
-        &[
-            (7, &["Foundation"]),
-            (8, &["Framing", "Plumbing"]),
-            (7, &["Electrical", "Insulation"]),
-            (5, &["Drywall"]),
-            (7, &["Floors", "Countertops"]),
-            (4, &["Bathrooms"]),
-        ],
-    ),
-    (
-        16,
-        HOUSE,
-        &[
-            (14, &["Foundation", "Framing", "Plumbing"]),
-            (15, &["Electrical", "Insulation", "Drywall", "Floors"]),
-            (6, &["Countertops", "Bathrooms"]),
-        ],
-    ),
+    (8, HOUSE, &[
+        (7, &["Foundation"]),
+        (8, &["Framing", "Plumbing"]),
+        (7, &["Electrical", "Insulation"]),
+        (5, &["Drywall"]),
+        (7, &["Floors", "Countertops"]),
+        (4, &["Bathrooms"]),
+    ]),
+    (16, HOUSE, &[
+        (14, &["Foundation", "Framing", "Plumbing"]),
+        (15, &["Electrical", "Insulation", "Drywall", "Floors"]),
+        (6, &["Countertops", "Bathrooms"]),
+    ]),
     // No tasks give one day of 0 hours, and not no day.
     (8, &[], &[(0, &[])]),
     // A day takes its first task in any case: one that is longer than the day is there alone, with
     // all its hours, also where they pass 64 bits.
-    (
-        8,
-        &[("a", 2, 1, 1), ("b", 10, 1, 2), ("c", 2, 1, 1)],
-        &[(3, &["a"]), (12, &["b"]), (3, &["c"])],
-    ),
-    (
-        0,
-        &[("a", 1, 0, 0), ("b", 0, 0, 1), ("c", 1, 1, 1)],
-        &[(1, &["a"]), (1, &["b"]), (2, &["c"])],
-    ),
-    (
-        MAX,
-        &[("a", MAX, MAX, MAX), ("b", MAX, MAX, MAX)],
-        &[
-            (36_893_488_147_419_103_230, &["a"]),
-            (36_893_488_147_419_103_230, &["b"]),
-        ],
-    ),
+    (8, &[("a", 2, 1, 1), ("b", 10, 1, 2), ("c", 2, 1, 1)], &[(3, &["a"]), (12, &["b"]), (3, &["c"])]),
+    (0, &[("a", 1, 0, 0), ("b", 0, 0, 1), ("c", 1, 1, 1)], &[(1, &["a"]), (1, &["b"]), (2, &["c"])]),
+    (MAX, &[("a", MAX, MAX, MAX), ("b", MAX, MAX, MAX)], &[
+        (36_893_488_147_419_103_230, &["a"]),
+        (36_893_488_147_419_103_230, &["b"]),
+    ]),
     // A day may have any number of hours, and so may a task: a day is full to its last hour, and
     // sums do not come back to 0.
     (0, &[("a", 0, 0, 0), ("b", 0, 0, 0)], &[(0, &["a", "b"])]),
-    (
-        0,
-        &[("a", 0, 1, 0), ("b", 0, 0, 0)],
-        &[(0, &["a"]), (0, &["b"])],
-    ),
-    (
-        0,
-        &[("a", 0, 0, 1), ("b", 0, 0, 1)],
-        &[(1, &["a"]), (1, &["b"])],
-    ),
+    (0, &[("a", 0, 1, 0), ("b", 0, 0, 0)], &[(0, &["a"]), (0, &["b"])]),
+    (0, &[("a", 0, 0, 1), ("b", 0, 0, 1)], &[(1, &["a"]), (1, &["b"])]),
     (1, &[("a", 0, 1, 0), ("b", 0, 0, 0)], &[(1, &["a", "b"])]),
     (1, &[("a", 0, 0, 1), ("b", 0, 0, 1)], &[(1, &["a", "b"])]),
-    (
-        1,
-        &[("a", 1, 0, 0), ("b", 1, 0, 0)],
-        &[(1, &["a"]), (1, &["b"])],
-    ),
-    (
-        MAX - 1,
-        &[("a", MAX - 1, 0, 0), ("b", 1, 0, 0)],
-        &[(LONGEST - 1, &["a"]), (1, &["b"])],
-    ),
-    (
-        MAX,
-        &[("a", MAX - 1, 0, 0), ("b", 1, 0, 0)],
-        &[(LONGEST, &["a", "b"])],
-    ),
-    (
-        MAX,
-        &[("a", MAX - 1, 1, MAX), ("b", 0, 0, 0)],
-        &[(LONGEST, &["a", "b"])],
-    ),
-    (
-        MAX,
-        &[("a", 0, MAX, 0), ("b", 0, 0, 1)],
-        &[(0, &["a"]), (1, &["b"])],
-    ),
+    (1, &[("a", 1, 0, 0), ("b", 1, 0, 0)], &[(1, &["a"]), (1, &["b"])]),
+    (MAX - 1, &[("a", MAX - 1, 0, 0), ("b", 1, 0, 0)], &[(LONGEST - 1, &["a"]), (1, &["b"])]),
+    (MAX, &[("a", MAX - 1, 0, 0), ("b", 1, 0, 0)], &[(LONGEST, &["a", "b"])]),
+    (MAX, &[("a", MAX - 1, 1, MAX), ("b", 0, 0, 0)], &[(LONGEST, &["a", "b"])]),
+    (MAX, &[("a", 0, MAX, 0), ("b", 0, 0, 1)], &[(0, &["a"]), (1, &["b"])]),
 ];
 
 /// A day takes its tasks in order while they fit, and its first in any case.

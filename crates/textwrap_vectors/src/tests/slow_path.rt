@@ -47,29 +47,14 @@ fn a_list_with_a_line_makes_a_paragraph_a_later_one(rt: HostRuntime) {
     }
 }
 
+#[rattlefmt::skip]
 const SHORT_PARAGRAPHS: &[(&str, usize, Layout<'_>, &str)] = &[
     ("", 1, OPTIMAL_FIT, "|"),
     ("  ", 3, OPTIMAL_FIT, "|"),
     ("  foo-bar  ", 12, OPTIMAL_FIT, "  foo-bar|"),
-    (
-        "foo  ",
-        6,
-        Layout {
-            preserve_trailing_space: true,
-            ..OPTIMAL_FIT
-        },
-        "foo  |",
-    ),
+    ("foo  ", 6, Layout { preserve_trailing_space: true, ..OPTIMAL_FIT }, "foo  |"),
     ("안녕 하세요", 20, OPTIMAL_FIT, "안녕 하세요|"),
-    (
-        "foobar",
-        7,
-        Layout {
-            subsequent_indent: "12345",
-            ..OPTIMAL_FIT
-        },
-        "foobar|",
-    ),
+    ("foobar", 7, Layout { subsequent_indent: "12345", ..OPTIMAL_FIT }, "foobar|"),
 ];
 
 /// Without an initial indent, a paragraph that is short has the same line either way.

@@ -140,31 +140,12 @@ const WORD: Word<'_> = Word {
 };
 
 /// Words that differ from it in one field each.
+#[rattlefmt::skip]
 const OTHERS: &[Word<'_>] = &[
-    Word {
-        word: "bar",
-        whitespace: "  ",
-        penalty: "-",
-        width: 3,
-    },
-    Word {
-        word: "foo",
-        whitespace: " ",
-        penalty: "-",
-        width: 3,
-    },
-    Word {
-        word: "foo",
-        whitespace: "  ",
-        penalty: "",
-        width: 3,
-    },
-    Word {
-        word: "foo",
-        whitespace: "  ",
-        penalty: "-",
-        width: 4,
-    },
+    Word { word: "bar", whitespace: "  ", penalty: "-", width: 3 },
+    Word { word: "foo", whitespace: " ", penalty: "-", width: 3 },
+    Word { word: "foo", whitespace: "  ", penalty: "", width: 3 },
+    Word { word: "foo", whitespace: "  ", penalty: "-", width: 4 },
 ];
 
 /// A copy equals its word; words that differ in one field are not equal.

@@ -28,6 +28,7 @@ fn lines_have_their_words(rt: HostRuntime) {
     assert!(rt; WordSeparator::new() == WordSeparator::AsciiSpace);
 }
 
+#[rattlefmt::skip]
 const LINES_AT_OFFSETS: &[(&str, &[usize], &[&str])] = &[
     ("", &[], &[]),
     ("", &[0], &[]),
@@ -46,21 +47,13 @@ const LINES_AT_OFFSETS: &[(&str, &[usize], &[&str])] = &[
     ("\x1b[1mab", &[0, 2], &["\x1b[1mab"]),
     ("ab\x1b[0m", &[1, 2], &["a", "b\x1b[0m"]),
     ("\x1b[1m\x1b[0m", &[0], &["\x1b[1m\x1b[0m"]),
-    (
-        "foo \x1b]8;;u-v w\x1b\\bar",
-        &[4],
-        &["foo ", "\x1b]8;;u-v w\x1b\\bar"],
-    ),
+    ("foo \x1b]8;;u-v w\x1b\\bar", &[4], &["foo ", "\x1b]8;;u-v w\x1b\\bar"]),
     ("a-\x1b[1mb", &[2], &["a-\x1b[1mb"]),
     ("a \x1b[12", &[1], &["a", " \x1b[12"]),
     // All offsets that a text has.
     ("ab", &[0, 1, 2], &["a", "b"]),
     ("a b", &[0, 1, 2, 3], &["a", " ", "b"]),
-    (
-        "\u{301}あ\u{301}",
-        &[0, 2, 5, 7],
-        &["\u{301}", "あ", "\u{301}"],
-    ),
+    ("\u{301}あ\u{301}", &[0, 2, 5, 7], &["\u{301}", "あ", "\u{301}"]),
     // A sequence that is cut short is not counted either.
     ("ab\x1b[3", &[0, 1, 2], &["a", "b\x1b[3"]),
     ("a\x1bbc", &[1, 2], &["a", "\x1bbc"]),

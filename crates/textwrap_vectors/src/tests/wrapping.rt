@@ -10,59 +10,25 @@ const LONG_LAST_LINE: Penalties = Penalties {
     ..PENALTIES
 };
 
+#[rattlefmt::skip]
 const WRAPPED: &[(&str, usize, Layout<'_>, &str)] = &[
     // By first fit a line takes words while they fit. Blanks at the ends of lines are left off.
-    (
-        "To be, or not to be: that is the question",
-        10,
-        FIRST_FIT,
-        "To be, or|not to be:|that is|the|question|",
-    ),
-    (
-        "To be, or not to be, that is the question.",
-        10,
-        FIRST_FIT,
-        "To be, or|not to be,|that is|the|question.|",
-    ),
+    ("To be, or not to be: that is the question", 10, FIRST_FIT, "To be, or|not to be:|that is|the|question|"),
+    ("To be, or not to be, that is the question.", 10, FIRST_FIT, "To be, or|not to be,|that is|the|question.|"),
     ("foo     bar     baz  ", 5, FIRST_FIT, "foo|bar|baz|"),
     ("", 10, FIRST_FIT, "|"),
     ("", 0, FIRST_FIT, "|"),
     // By optimal fit the lines are those whose costs have the least sum, and among equal sums those
     // whose last lines start earliest. A paragraph with fewer bytes than the width has columns is
     // one line.
-    (
-        "textwrap: a small library for wrapping text.",
-        18,
-        OPTIMAL_FIT,
-        "textwrap: a|small library for|wrapping text.|",
-    ),
-    (
-        "textwrap: an efficient and powerful library for wrapping text.",
-        28,
-        OPTIMAL_FIT,
-        "textwrap: an efficient|and powerful library for|wrapping text.|",
-    ),
-    (
-        "To be, or not to be: that is the question",
-        10,
-        OPTIMAL_FIT,
-        "To be,|or not to|be: that|is the|question|",
-    ),
-    (
-        "This is a demo of the short last line penalty.",
-        37,
-        OPTIMAL_FIT,
-        "This is a demo of the short last|line penalty.|",
-    ),
-    (
-        "This is a demo of the short last line penalty.",
-        37,
-        Layout {
-            penalties: Some(LONG_LAST_LINE),
-            ..OPTIMAL_FIT
-        },
-        "This is a demo of the short last line|penalty.|",
-    ),
+    ("textwrap: a small library for wrapping text.", 18, OPTIMAL_FIT, "textwrap: a|small library for|wrapping text.|"),
+    ("textwrap: an efficient and powerful library for wrapping text.", 28, OPTIMAL_FIT,
+        "textwrap: an efficient|and powerful library for|wrapping text.|"),
+    ("To be, or not to be: that is the question", 10, OPTIMAL_FIT, "To be,|or not to|be: that|is the|question|"),
+    ("This is a demo of the short last line penalty.", 37, OPTIMAL_FIT,
+        "This is a demo of the short last|line penalty.|"),
+    ("This is a demo of the short last line penalty.", 37, Layout { penalties: Some(LONG_LAST_LINE), ..OPTIMAL_FIT },
+        "This is a demo of the short last line|penalty.|"),
     ("", 0, OPTIMAL_FIT, "|"),
     ("", 10, OPTIMAL_FIT, "|"),
     ("foo     bar     baz  ", 5, OPTIMAL_FIT, "foo|bar|baz|"),
@@ -80,173 +46,34 @@ const WRAPPED: &[(&str, usize, Layout<'_>, &str)] = &[
     ("Ｈｅｌｌｏ", 5, OPTIMAL_FIT, "Ｈｅ|ｌｌ|ｏ|"),
     ("안녕하세요", 8, OPTIMAL_FIT, "안녕하세|요|"),
     ("foobar", 0, OPTIMAL_FIT, "f|o|o|b|a|r|"),
-    (
-        "This is a little example.",
-        4,
-        OPTIMAL_FIT,
-        "This|is a|litt|le|exam|ple.|",
-    ),
-    (
-        "small  large   tiny",
-        3,
-        Layout {
-            break_words: false,
-            ..OPTIMAL_FIT
-        },
-        "small|large|tiny|",
-    ),
-    (
-        "The --foo-bar flag.",
-        5,
-        Layout {
-            break_words: false,
-            ..OPTIMAL_FIT
-        },
-        "The|--foo-|bar|flag.|",
-    ),
+    ("This is a little example.", 4, OPTIMAL_FIT, "This|is a|litt|le|exam|ple.|"),
+    ("small  large   tiny", 3, Layout { break_words: false, ..OPTIMAL_FIT }, "small|large|tiny|"),
+    ("The --foo-bar flag.", 5, Layout { break_words: false, ..OPTIMAL_FIT }, "The|--foo-|bar|flag.|"),
     // A blank cuts an escape sequence in two: what follows it is measured by itself.
     ("\x1b[1 2ma", 2, OPTIMAL_FIT, "\x1b[1|2m|a|"),
     // An initial indent stands before an empty line only where words are broken.
-    (
-        "",
-        10,
-        Layout {
-            initial_indent: ">>>",
-            break_words: false,
-            ..OPTIMAL_FIT
-        },
-        "|",
-    ),
+    ("", 10, Layout { initial_indent: ">>>", break_words: false, ..OPTIMAL_FIT }, "|"),
     // Blanks are kept if that is on.
-    (
-        "foo bar baz",
-        10,
-        Layout {
-            preserve_trailing_space: true,
-            ..OPTIMAL_FIT
-        },
-        "foo bar |baz|",
-    ),
-    (
-        "foo     bar     baz  ",
-        5,
-        Layout {
-            preserve_trailing_space: true,
-            ..OPTIMAL_FIT
-        },
-        "foo     |bar     |baz  |",
-    ),
-    (
-        "foo  ",
-        10,
-        Layout {
-            preserve_trailing_space: true,
-            ..OPTIMAL_FIT
-        },
-        "foo  |",
-    ),
+    ("foo bar baz", 10, Layout { preserve_trailing_space: true, ..OPTIMAL_FIT }, "foo bar |baz|"),
+    ("foo     bar     baz  ", 5, Layout { preserve_trailing_space: true, ..OPTIMAL_FIT }, "foo     |bar     |baz  |"),
+    ("foo  ", 10, Layout { preserve_trailing_space: true, ..OPTIMAL_FIT }, "foo  |"),
     // Paragraphs end at the chosen ending alone.
-    (
-        "a\r\nb\nc",
-        10,
-        Layout {
-            line_ending: LineEnding::CRLF,
-            ..OPTIMAL_FIT
-        },
-        "a|b\nc|",
-    ),
-    (
-        "a\r\nb\nc",
-        10,
-        Layout {
-            line_ending: LineEnding::CRLF,
-            preserve_trailing_space: true,
-            ..OPTIMAL_FIT
-        },
-        "a|b\nc|",
-    ),
+    ("a\r\nb\nc", 10, Layout { line_ending: LineEnding::CRLF, ..OPTIMAL_FIT }, "a|b\nc|"),
+    ("a\r\nb\nc", 10, Layout { line_ending: LineEnding::CRLF, preserve_trailing_space: true, ..OPTIMAL_FIT },
+        "a|b\nc|"),
     // The first line has the initial indent, and each later one with pieces the subsequent one; a
     // line to which nothing was added is borrowed.
-    (
-        "",
-        10,
-        Layout {
-            initial_indent: "!!!",
-            subsequent_indent: "",
-            ..OPTIMAL_FIT
-        },
-        "+!!!|",
-    ),
-    (
-        "foobarbaz",
-        5,
-        Layout {
-            initial_indent: "-->",
-            subsequent_indent: "",
-            ..OPTIMAL_FIT
-        },
-        "+-->|fooba|rbaz|",
-    ),
-    (
-        "foobarbaz",
-        5,
-        Layout {
-            initial_indent: "* ",
-            subsequent_indent: "  ",
-            ..OPTIMAL_FIT
-        },
-        "+* foo|+  bar|+  baz|",
-    ),
-    (
-        "This is a little example.",
-        12,
-        Layout {
-            initial_indent: "* ",
-            subsequent_indent: "  ",
-            ..OPTIMAL_FIT
-        },
-        "+* This is|+  a little|+  example.|",
-    ),
-    (
-        "x x x x x x x x x x x x x",
-        10,
-        Layout {
-            initial_indent: "👉👉",
-            subsequent_indent: "",
-            ..OPTIMAL_FIT
-        },
-        "+👉👉x x x|x x x x x|x x x x x|",
-    ),
-    (
-        "Wrapping text all day long.",
-        15,
-        Layout {
-            initial_indent: "",
-            subsequent_indent: "....",
-            ..OPTIMAL_FIT
-        },
-        "Wrapping text|+....all day|+....long.|",
-    ),
-    (
-        "a\n\nb",
-        10,
-        Layout {
-            initial_indent: "",
-            subsequent_indent: "> ",
-            ..OPTIMAL_FIT
-        },
-        "a||+> b|",
-    ),
-    (
-        "aaa\nbbb ccc",
-        7,
-        Layout {
-            initial_indent: "",
-            subsequent_indent: "    ",
-            ..OPTIMAL_FIT
-        },
-        "aaa|+    bbb ccc|",
-    ),
+    ("", 10, Layout { initial_indent: "!!!", subsequent_indent: "", ..OPTIMAL_FIT }, "+!!!|"),
+    ("foobarbaz", 5, Layout { initial_indent: "-->", subsequent_indent: "", ..OPTIMAL_FIT }, "+-->|fooba|rbaz|"),
+    ("foobarbaz", 5, Layout { initial_indent: "* ", subsequent_indent: "  ", ..OPTIMAL_FIT }, "+* foo|+  bar|+  baz|"),
+    ("This is a little example.", 12, Layout { initial_indent: "* ", subsequent_indent: "  ", ..OPTIMAL_FIT },
+        "+* This is|+  a little|+  example.|"),
+    ("x x x x x x x x x x x x x", 10, Layout { initial_indent: "👉👉", subsequent_indent: "", ..OPTIMAL_FIT },
+        "+👉👉x x x|x x x x x|x x x x x|"),
+    ("Wrapping text all day long.", 15, Layout { initial_indent: "", subsequent_indent: "....", ..OPTIMAL_FIT },
+        "Wrapping text|+....all day|+....long.|"),
+    ("a\n\nb", 10, Layout { initial_indent: "", subsequent_indent: "> ", ..OPTIMAL_FIT }, "a||+> b|"),
+    ("aaa\nbbb ccc", 7, Layout { initial_indent: "", subsequent_indent: "    ", ..OPTIMAL_FIT }, "aaa|+    bbb ccc|"),
 ];
 
 /// A text has the lines of its options, each a slice of the text if nothing was added to it.

@@ -52,215 +52,72 @@ type Row = (
     &'static str,
 );
 
+#[rattlefmt::skip]
 const ROWS: &[Row] = &[
-    (
-        "prose",
-        AT_16,
-        "One two three four\nfive six.\n",
-        "One two three\nfour five six.\n",
-    ),
-    (
-        "words with signs",
-        AT_12,
-        "Use --all --force or -1 and *note* now\n",
-        "Use --all\n--force or\n-1 and\n*note* now\n",
-    ),
-    (
-        "mail",
-        AT_16,
-        "> one two three four\n> > five six seven eight\n>> nine ten\n",
-        "> one two three\n> four\n> > five six\n> > seven eight\n>> nine ten\n",
-    ),
-    (
-        "references",
-        AT_16,
-        "[1] http://x.y/z\n[2] http://x.y/w\n",
-        "",
-    ),
-    (
-        "lists",
-        AT_16,
-        "- one two three four\n  five\n10. six seven eight\n    - nine ten eleven twelve\n",
-        "- one two three\n  four five\n10. six seven\n    eight\n    - nine ten\n      eleven\n      twelve\n",
-    ),
-    (
-        "tasks",
-        AT_16,
-        "- [ ] one two three four\n- [x] five\n",
-        "- [ ] one two\n      three four\n- [x] five\n",
-    ),
-    (
-        "fences",
-        AT_16,
-        "````sh\n```\nls -l\n````\none\ntwo\n",
-        "````sh\n```\nls -l\n````\none two\n",
-    ),
-    (
-        "indented code",
-        AT_16,
-        "One\ntwo\n\n    make all\n    make install\n",
-        "One two\n\n    make all\n    make install\n",
-    ),
-    (
-        "tables",
-        AT_16,
-        "a | b\n--|--\n1 | 2\nName    Size\nfoo     12\n",
-        "",
-    ),
-    (
-        "what is below a comment is not drawn into it",
-        AT_16,
-        "A.  % see Ann\nB.\n\nFROM a -- x\nFROM b\n\nMOV A, B ; load\nMOV C, D\n",
-        "",
-    ),
-    (
-        "alerts, containers",
-        AT_16,
-        "> [!WARNING]\n> one\n> two\n\n[TOC]\n:::note\none\ntwo\n\n:::\n",
-        "> [!WARNING]\n> one two\n\n[TOC]\n:::note\none two\n\n:::\n",
-    ),
-    (
-        "code that Doxygen shows",
-        AT_16,
+    ("prose", AT_16, "One two three four\nfive six.\n", "One two three\nfour five six.\n"),
+    ("words with signs", AT_12, "Use --all --force or -1 and *note* now\n",
+        "Use --all\n--force or\n-1 and\n*note* now\n"),
+    ("mail", AT_16, "> one two three four\n> > five six seven eight\n>> nine ten\n",
+        "> one two three\n> four\n> > five six\n> > seven eight\n>> nine ten\n"),
+    ("references", AT_16, "[1] http://x.y/z\n[2] http://x.y/w\n", ""),
+    ("lists", AT_16, "- one two three four\n  five\n10. six seven eight\n    - nine ten eleven twelve\n",
+        "- one two three\n  four five\n10. six seven\n    eight\n    - nine ten\n      eleven\n      twelve\n"),
+    ("tasks", AT_16, "- [ ] one two three four\n- [x] five\n", "- [ ] one two\n      three four\n- [x] five\n"),
+    ("fences", AT_16, "````sh\n```\nls -l\n````\none\ntwo\n", "````sh\n```\nls -l\n````\none two\n"),
+    ("indented code", AT_16, "One\ntwo\n\n    make all\n    make install\n",
+        "One two\n\n    make all\n    make install\n"),
+    ("tables", AT_16, "a | b\n--|--\n1 | 2\nName    Size\nfoo     12\n", ""),
+    ("what is below a comment is not drawn into it", AT_16,
+        "A.  % see Ann\nB.\n\nFROM a -- x\nFROM b\n\nMOV A, B ; load\nMOV C, D\n", ""),
+    ("alerts, containers", AT_16, "> [!WARNING]\n> one\n> two\n\n[TOC]\n:::note\none\ntwo\n\n:::\n",
+        "> [!WARNING]\n> one two\n\n[TOC]\n:::note\none two\n\n:::\n"),
+    ("code that Doxygen shows", AT_16,
         "/**\n * One\n * two\n * @code{.c}\n * f(1);\n * g(2);\n * @endcode\n * three\n * four\n */\n",
-        "/**\n * One two\n * @code{.c}\n * f(1);\n * g(2);\n * @endcode\n * three four\n */\n",
-    ),
-    (
-        "code that JSDoc shows, and none of the lines behind it",
-        AT_16,
+        "/**\n * One two\n * @code{.c}\n * f(1);\n * g(2);\n * @endcode\n * three four\n */\n"),
+    ("code that JSDoc shows, and none of the lines behind it", AT_16,
         "/**\n * One\n * two\n * @example\n * f(1);\n * g(2);\n */\nOne\ntwo\n",
-        "/**\n * One two\n * @example\n * f(1);\n * g(2);\n */\nOne two\n",
-    ),
-    (
-        "formulas",
-        AT_16,
-        "one\ntwo\n$$\na = b\nc = d\n$$\none\ntwo\n$$a$$\none\ntwo\n$$e\nf = g\nh$$\none\ntwo\n",
-        "one two\n$$\na = b\nc = d\n$$\none two\n$$a$$\none two\n$$e\nf = g\nh$$\none two\n",
-    ),
-    (
-        "constraints of Go",
-        AT_16,
-        "// +build linux\n// +build mips\n",
-        "",
-    ),
-    (
-        "setext, rules",
-        AT_16,
-        "One two\nTitle\n=====\none\ntwo\n***\n",
-        "",
-    ),
-    (
-        "headings",
-        AT_16,
-        "## One two three four five\none\ntwo\n",
-        "## One two three four five\none two\n",
-    ),
-    (
-        "#: a comment",
-        AT_16,
-        "# One two three four five\n",
-        "# One two three\n# four five\n",
-    ),
+        "/**\n * One two\n * @example\n * f(1);\n * g(2);\n */\nOne two\n"),
+    ("formulas", AT_16, "one\ntwo\n$$\na = b\nc = d\n$$\none\ntwo\n$$a$$\none\ntwo\n$$e\nf = g\nh$$\none\ntwo\n",
+        "one two\n$$\na = b\nc = d\n$$\none two\n$$a$$\none two\n$$e\nf = g\nh$$\none two\n"),
+    ("constraints of Go", AT_16, "// +build linux\n// +build mips\n", ""),
+    ("setext, rules", AT_16, "One two\nTitle\n=====\none\ntwo\n***\n", ""),
+    ("headings", AT_16, "## One two three four five\none\ntwo\n", "## One two three four five\none two\n"),
+    ("#: a comment", AT_16, "# One two three four five\n", "# One two three\n# four five\n"),
     ("#: a heading", MARKDOWN, "# One two three four five\n", ""),
-    (
-        "hard breaks",
-        AT_16,
-        "one  \ntwo\\\nthree\nfour\n",
-        "one  \ntwo\\\nthree four\n",
-    ),
+    ("hard breaks", AT_16, "one  \ntwo\\\nthree\nfour\n", "one  \ntwo\\\nthree four\n"),
     ("link definitions", AT_16, "[a]: x\n[b]: y\n", ""),
-    (
-        "front matter",
-        AT_16,
-        "---\ntitle: a\ndate: b\n---\none\ntwo\n",
-        "---\ntitle: a\ndate: b\n---\none two\n",
-    ),
-    (
-        "C++, a tab",
-        AT_24,
-        "\t// one two three four\n\t// five\n",
-        "\t// one two three\n\t// four five\n",
-    ),
-    (
-        "Rust",
-        AT_20,
+    ("front matter", AT_16, "---\ntitle: a\ndate: b\n---\none\ntwo\n", "---\ntitle: a\ndate: b\n---\none two\n"),
+    ("C++, a tab", AT_24, "\t// one two three four\n\t// five\n", "\t// one two three\n\t// four five\n"),
+    ("Rust", AT_20,
         "//! One two three four.\n//!\n//! # Panics\n//!\n//! ```\n//! let x = 1;\n//! let y = 2;\n//! ```\n",
-        "//! One two three\n//! four.\n//!\n//! # Panics\n//!\n//! ```\n//! let x = 1;\n//! let y = 2;\n//! ```\n",
-    ),
+        "//! One two three\n//! four.\n//!\n//! # Panics\n//!\n//! ```\n//! let x = 1;\n//! let y = 2;\n//! ```\n"),
     (
         "C",
         AT_24,
         "\t/* one two three four\n\t * five\n\t * - six seven eight nine\n\t * @param a b\n\t * @return c\n\t */\n\tint x;\n",
         "\t/* one two three\n\t * four five\n\t * - six seven\n\t *   eight nine\n\t * @param a b\n\t * @return c\n\t */\n\tint x;\n",
     ),
-    (
-        "GNU C",
-        BARE,
-        "/* one two\n   three four\n   five.  */\nint x;\n",
-        "/* one two three\n   four five. */\nint x;\n",
-    ),
-    (
-        "shell, Python",
-        AT_16,
-        "#!/bin/sh\n# one two three four\n# five\n#six=1\n",
-        "#!/bin/sh\n# one two three\n# four five\n#six=1\n",
-    ),
-    (
-        "SQL, Lua, Haskell",
-        AT_16,
-        "-- one two three four\n-- five\nSELECT 1;\n",
-        "-- one two three\n-- four five\nSELECT 1;\n",
-    ),
-    (
-        "Lisp, TeX, Erlang",
-        AT_16,
-        ";; one two three four\n;; five\n% six\n% seven\n",
-        ";; one two three\n;; four five\n% six seven\n",
-    ),
+    ("GNU C", BARE, "/* one two\n   three four\n   five.  */\nint x;\n",
+        "/* one two three\n   four five. */\nint x;\n"),
+    ("shell, Python", AT_16, "#!/bin/sh\n# one two three four\n# five\n#six=1\n",
+        "#!/bin/sh\n# one two three\n# four five\n#six=1\n"),
+    ("SQL, Lua, Haskell", AT_16, "-- one two three four\n-- five\nSELECT 1;\n",
+        "-- one two three\n-- four five\nSELECT 1;\n"),
+    ("Lisp, TeX, Erlang", AT_16, ";; one two three four\n;; five\n% six\n% seven\n",
+        ";; one two three\n;; four five\n% six seven\n"),
     ("Go", AT_16, "// One two:\n//\n//\tx := 1\n//\ty := 2\n", ""),
-    (
-        "Make",
-        AT_20,
-        "all:\n\t# one two three\n\tcc -o x x.c\n\tld y\n",
-        "all:\n\t# one two\n\t# three\n\tcc -o x x.c\n\tld y\n",
-    ),
-    (
-        "git trailers",
-        AT_16,
-        "One two three four\n\nFixes: 12ab (\"One two three\")\nSigned-off-by: A B <a@b.c>\n",
-        "One two three\nfour\n\nFixes: 12ab (\"One two three\")\nSigned-off-by: A B <a@b.c>\n",
-    ),
-    (
-        "Debian changelog",
-        AT_24,
+    ("Make", AT_20, "all:\n\t# one two three\n\tcc -o x x.c\n\tld y\n",
+        "all:\n\t# one two\n\t# three\n\tcc -o x x.c\n\tld y\n"),
+    ("git trailers", AT_16, "One two three four\n\nFixes: 12ab (\"One two three\")\nSigned-off-by: A B <a@b.c>\n",
+        "One two three\nfour\n\nFixes: 12ab (\"One two three\")\nSigned-off-by: A B <a@b.c>\n"),
+    ("Debian changelog", AT_24,
         "  * One two three four five\n    six.\n\n -- A B <a@b.c>  Mon, 01 Jan 2024 00:00:00 +0000\n",
-        "  * One two three four\n    five six.\n\n -- A B <a@b.c>  Mon, 01 Jan 2024 00:00:00 +0000\n",
-    ),
-    (
-        "license header",
-        AT_20,
-        "# Copyright 2019 A\n# Copyright 2020 B\n#\n# One two three four\n",
-        "",
-    ),
-    (
-        "doctest, shell",
-        AT_16,
-        ">>> f(1)\n1\n2\n\n$ ls\na\nb\n",
-        "",
-    ),
-    (
-        "CR LF",
-        AT_16,
-        "one two three four\r\nfive\r\n",
-        "one two three\r\nfour five\r\n",
-    ),
+        "  * One two three four\n    five six.\n\n -- A B <a@b.c>  Mon, 01 Jan 2024 00:00:00 +0000\n"),
+    ("license header", AT_20, "# Copyright 2019 A\n# Copyright 2020 B\n#\n# One two three four\n", ""),
+    ("doctest, shell", AT_16, ">>> f(1)\n1\n2\n\n$ ls\na\nb\n", ""),
+    ("CR LF", AT_16, "one two three four\r\nfive\r\n", "one two three\r\nfour five\r\n"),
     ("BOM", AT_16, "\u{feff}// one two three\n// four\n", ""),
-    (
-        "wide",
-        AT_16,
-        "// 本日は 晴天 なり 明日も\n// 晴れ\n",
-        "// 本日は 晴天\n// なり 明日も\n// 晴れ\n",
-    ),
+    ("wide", AT_16, "// 本日は 晴天 なり 明日も\n// 晴れ\n", "// 本日は 晴天\n// なり 明日も\n// 晴れ\n"),
 ];
 
 /// Asserts what becomes of a text.
@@ -293,98 +150,34 @@ const PENALTIES: Penalties = Penalties {
 };
 
 /// Options that are declared, and an ending that is asked for.
+#[rattlefmt::skip]
 const DECLARED: &[Row] = &[
-    (
-        "a mark of the caller",
-        ReflowOptions {
-            markers: &["dnl"],
-            ..AT_16
-        },
-        "dnl one two three four\ndnl five\n",
-        "dnl one two\ndnl three four\ndnl five\n",
-    ),
-    (
-        "only behind this prefix",
-        ReflowOptions {
-            prefixes: &["//"],
-            ..AT_16
-        },
-        "one two three four five\n// one two three four\n",
-        "one two three four five\n// one two three\n// four\n",
-    ),
-    (
-        "deeper text too",
-        ReflowOptions {
-            indented: true,
-            ..AT_16
-        },
-        "one\n\n    two three four five\n",
-        "one\n\n    two three\n    four five\n",
-    ),
-    (
-        "all lines end so",
-        ReflowOptions {
-            ending: Some(LineEnding::CRLF),
-            ..AT_16
-        },
-        "one two three four\n==\n",
-        "one two three\r\nfour\r\n==\r\n",
-    ),
-    (
-        "least cost; a word like a key begins no line",
-        ReflowOptions {
-            algorithm: Algorithm::LeastCost(PENALTIES),
-            ..AT_12
-        },
-        "> To be, or not to be: that is the question\n",
-        "> To be, or\n> not to be:\n> that\n> is the\n> question\n",
-    ),
+    ("a mark of the caller", ReflowOptions { markers: &["dnl"], ..AT_16 }, "dnl one two three four\ndnl five\n",
+        "dnl one two\ndnl three four\ndnl five\n"),
+    ("only behind this prefix", ReflowOptions { prefixes: &["//"], ..AT_16 },
+        "one two three four five\n// one two three four\n", "one two three four five\n// one two three\n// four\n"),
+    ("deeper text too", ReflowOptions { indented: true, ..AT_16 }, "one\n\n    two three four five\n",
+        "one\n\n    two three\n    four five\n"),
+    ("all lines end so", ReflowOptions { ending: Some(LineEnding::CRLF), ..AT_16 }, "one two three four\n==\n",
+        "one two three\r\nfour\r\n==\r\n"),
+    ("least cost; a word like a key begins no line",
+        ReflowOptions { algorithm: Algorithm::LeastCost(PENALTIES), ..AT_12 },
+        "> To be, or not to be: that is the question\n", "> To be, or\n> not to be:\n> that\n> is the\n> question\n"),
 ];
 
 /// Justified paragraphs: all lines but the last are as wide as 16 columns.
+#[rattlefmt::skip]
 const JUSTIFIED_ROWS: &[Row] = &[
-    (
-        "the first gaps get one blank more",
-        JUSTIFIED,
-        "> one two six ten red blue\n> four\n",
-        "> one   two  six\n> ten  red  blue\n> four\n",
-    ),
-    (
-        "a list; a single line stays",
-        JUSTIFIED,
-        "- one two three four five six\n- seven eight\n",
-        "- one  two three\n  four five six\n- seven eight\n",
-    ),
-    (
-        "wide gaps are no columns",
-        JUSTIFIED,
-        "One    two\nthree four five\n",
-        "One   two  three\nfour five\n",
-    ),
-    (
-        "a tab is one",
-        JUSTIFIED,
-        "one\ttwo three four five\n",
-        "one\ttwo three four five\n",
-    ),
-    (
-        "a tab in the prefix has its columns",
-        ReflowOptions {
-            width: 28,
-            ..JUSTIFIED
-        },
-        "\t// one two three four\n\t// five\n",
-        "\t// one   two   three\n\t// four five\n",
-    ),
-    (
-        "lines of one word stay",
-        ReflowOptions {
-            width: 8,
-            ..JUSTIFIED
-        },
-        "abcdefghijkl mnopqrstuvwxyz abc\n",
-        "abcdefghijkl\nmnopqrstuvwxyz\nabc\n",
-    ),
+    ("the first gaps get one blank more", JUSTIFIED, "> one two six ten red blue\n> four\n",
+        "> one   two  six\n> ten  red  blue\n> four\n"),
+    ("a list; a single line stays", JUSTIFIED, "- one two three four five six\n- seven eight\n",
+        "- one  two three\n  four five six\n- seven eight\n"),
+    ("wide gaps are no columns", JUSTIFIED, "One    two\nthree four five\n", "One   two  three\nfour five\n"),
+    ("a tab is one", JUSTIFIED, "one\ttwo three four five\n", "one\ttwo three four five\n"),
+    ("a tab in the prefix has its columns", ReflowOptions { width: 28, ..JUSTIFIED },
+        "\t// one two three four\n\t// five\n", "\t// one   two   three\n\t// four five\n"),
+    ("lines of one word stay", ReflowOptions { width: 8, ..JUSTIFIED }, "abcdefghijkl mnopqrstuvwxyz abc\n",
+        "abcdefghijkl\nmnopqrstuvwxyz\nabc\n"),
 ];
 
 /// What a caller declares and asks for counts.

@@ -177,23 +177,12 @@ fn lines_are_counted(rt: HostRuntime) {
     }
 }
 
+#[rattlefmt::skip]
 const PICTURES: &[Picture] = &[
-    Picture {
-        width: 60,
-        margin: 10,
-    },
-    Picture {
-        width: 80,
-        margin: 10,
-    },
-    Picture {
-        width: 70,
-        margin: 10,
-    },
-    Picture {
-        width: 70,
-        margin: 10,
-    },
+    Picture { width: 60, margin: 10 },
+    Picture { width: 80, margin: 10 },
+    Picture { width: 70, margin: 10 },
+    Picture { width: 70, margin: 10 },
 ];
 
 /// Asserts that rows have so many pictures each.

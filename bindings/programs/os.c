@@ -1,5 +1,6 @@
 /* What the proved programs ask of the machine beside the C library and the heap (../c/heap.c): their arguments
- * and `errno`, and under musl, or an old glibc, what only a later glibc has by these names.
+ * and `errno`, and under musl, or an old glibc, what only a later glibc has by these names. What Windows has
+ * otherwise is in os_windows.c.
  *
  * The assembly in dist/ calls these; the contracts that it relies on stand in the crate `os` of the Rattle kit.
  * That this file meets them is tested, not proved. */
@@ -9,6 +10,12 @@
 #include <stdint.h>
 #include <string.h>
 
+#include "../c/textwrap_heap.h"
+
+#ifdef _WIN32
+char **windows_arguments(int *number);
+#endif
+
 /* The `main` of a program in Rattle, which takes no arguments. */
 int32_t proved_main(void);
 
@@ -16,6 +23,9 @@ static size_t count;
 static char **arguments;
 
 int main(int argc, char **argv) {
+#ifdef _WIN32
+    argv = windows_arguments(&argc);
+#endif
     count = (size_t)argc;
     arguments = argv;
     return proved_main();
@@ -25,7 +35,7 @@ enum { NO_ARGUMENT = -1, TOO_LONG = -2 };
 
 /* Puts an argument, of which the name of the program is the first, at the start of the room, and returns its
  * length. One that is too long fills the room. */
-ptrdiff_t rattle_arg(size_t number, uint8_t *room, size_t size) {
+RATTLE_CALL ptrdiff_t rattle_arg(size_t number, uint8_t *room, size_t size) {
     if (number >= count) return NO_ARGUMENT;
     size_t length = strlen(arguments[number]);
     if (length > size) {
@@ -36,11 +46,11 @@ ptrdiff_t rattle_arg(size_t number, uint8_t *room, size_t size) {
     return (ptrdiff_t)length;
 }
 
-int32_t rattle_errno(void) { return errno; }
+RATTLE_CALL int32_t rattle_errno(void) { return errno; }
 
-void rattle_set_errno(int32_t error) { errno = error; }
+RATTLE_CALL void rattle_set_errno(int32_t error) { errno = error; }
 
-#ifndef __GLIBC__
+#if !defined __GLIBC__ && !defined _WIN32
 #include <signal.h>
 #include <sys/syscall.h>
 #include <unistd.h>
@@ -73,7 +83,7 @@ struct features {
 };
 
 /* What the level x86-64-v2 asks for is in the leaves 0 and 2, and may be used wherever it is present. */
-const struct features *__x86_get_cpuid_feature_leaf(uint32_t leaf) {
+RATTLE_CALL const struct features *__x86_get_cpuid_feature_leaf(uint32_t leaf) {
     static struct features found;
     uint32_t *is = found.present;
     memset(is, 0, sizeof found.present);

@@ -6,7 +6,6 @@
 #include <errno.h>
 #include <fcntl.h>
 #include <io.h>
-#include <limits.h>
 #include <stddef.h>
 #include <stdint.h>
 #include <stdlib.h>
@@ -78,8 +77,10 @@ static int refused(int error) {
 
 /* ---- Reading and writing */
 
-/* One call of Windows moves no more than this. */
-static unsigned portion(size_t size) { return size < INT_MAX ? (unsigned)size : INT_MAX; }
+/* What one call moves at most; a console refuses more than twice that. */
+enum { PORTION = 1 << 15 };
+
+static unsigned portion(size_t size) { return size < PORTION ? (unsigned)size : PORTION; }
 
 RATTLE_CALL int64_t linux_read(int32_t file, void *room, size_t size) {
     return answered(_read(file, room, portion(size)));

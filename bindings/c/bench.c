@@ -175,12 +175,6 @@ static textwrap_status carry_styles(work *w) {
                                  w->room, w->room_len, &len);
 }
 
-static textwrap_status carry_attributes(work *w) {
-    size_t count, len;
-    return textwrap_carry_attributes(w->texts, w->texts_len, &w->options, w->lines, w->lines_len,
-                                     &count, w->room, w->room_len, &len);
-}
-
 static textwrap_status wrap_balanced(work *w) {
     size_t count, len;
     return textwrap_wrap_balanced(w->text, w->text_len, &w->options, w->lines, w->lines_len, &count,
@@ -245,7 +239,6 @@ static const named_call calls[] = {
     {"fill_justified", fill_justified},
     {"shorten", shorten},
     {"carry_styles", carry_styles},
-    {"carry_attributes", carry_attributes},
     {"wrap_balanced", wrap_balanced},
     {"fitting_widths", fitting_widths},
     {"table", table},

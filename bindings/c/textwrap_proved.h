@@ -414,17 +414,17 @@ textwrap_status textwrap_shorten_lines_by(const textwrap_text *lines, size_t lin
                                           uint8_t *room, size_t room_len, size_t *len);
 
 /* Writes the lines of one text so that each stands by itself: after its indent it sets anew the link
- * and the styles that the lines before it left open, and at its end it takes back what is open. The
- * indents are those of the options; nothing else of them is used. */
+ * that the lines before it left open and, of each attribute such as bold or the foreground, the last
+ * setting that did not end, and at its end it takes back what is open. What is not in the table of SGR
+ * (ECMA-48) is carried until all is taken back. The indents are those of the options; nothing else of
+ * them is used. */
 TEXTWRAP_CHECKED
 textwrap_status textwrap_carry_styles(const textwrap_text *lines, size_t lines_len,
                                       const textwrap_options *options, textwrap_line *places,
                                       size_t places_len, size_t *count, uint8_t *room,
                                       size_t room_len, size_t *len);
 
-/* Writes the same, but that each line sets anew, of each attribute such as bold or the foreground, the
- * last setting alone, and none that ended: a colour that follows another takes its place. What is not
- * in the table of SGR (ECMA-48) is carried until all is taken back. */
+/* The same as textwrap_carry_styles, of which it is the older name. */
 TEXTWRAP_CHECKED
 textwrap_status textwrap_carry_attributes(const textwrap_text *lines, size_t lines_len,
                                           const textwrap_options *options, textwrap_line *places,

@@ -312,8 +312,9 @@ where
 /// The lines of one text, of which each can be shown by itself in its styles.
 ///
 /// What lines before it left open is set anew in each line: first the link, by the sequence OSC 8
-/// that opened it, and then the styles, by the sequences `ESC [ .. m` since the last reset, which
-/// has no number but 0; of equal ones only by the last. They stand after the indent that the options name for the line, if it
+/// that opened it, and then, of each attribute such as bold or the foreground, the last setting, if
+/// it did not end: a colour that follows another takes its place. What is not in the table of SGR
+/// (ECMA-48) is carried until all is taken back. They stand after the indent of the line, if it
 /// begins with that; no more of the options is used. What is open at the end of a line is taken
 /// back there. A line that needs neither stays as it is.
 ///
@@ -339,30 +340,13 @@ where
     or_abort(fallible::carry_styles(lines, width_or_options))
 }
 
-/// The lines of one text, as [`carry_styles`] gives them, but with less that is set anew.
-///
-/// Each line sets anew, of each attribute such as bold or the foreground, the last setting alone, and
-/// none that ended: a colour that follows another takes its place. What is not in the table of SGR
-/// (ECMA-48) is carried until all is taken back.
-///
-/// # Examples
-///
-/// ```
-/// use textwrap_proved::display::carry_attributes;
-///
-/// let lines = ["a \u{1b}[1;31mb", "c\u{1b}[39md", "e"];
-/// assert_eq!(carry_attributes(&lines, 80), [
-///     "a \u{1b}[1;31mb\u{1b}[0m",
-///     "\u{1b}[1m\u{1b}[31mc\u{1b}[39md\u{1b}[0m",
-///     "\u{1b}[1me\u{1b}[0m",
-/// ]);
-/// ```
+/// The same as [`carry_styles`], of which it is the older name.
 pub fn carry_attributes<'a, S, Opt>(lines: &[S], width_or_options: Opt) -> Vec<String>
 where
     S: AsRef<str>,
     Opt: Into<Options<'a>>,
 {
-    or_abort(fallible::carry_attributes(lines, width_or_options))
+    carry_styles(lines, width_or_options)
 }
 
 /// The lines of a text, balanced, as titles and centred texts should be: as many as first fit makes at

@@ -404,17 +404,6 @@ extern "C" {
         len: *mut usize,
     ) -> u32;
 
-    pub fn textwrap_carry_attributes(
-        lines: *const Text,
-        lines_len: usize,
-        options: *const Options,
-        places: *mut Line,
-        places_len: usize,
-        count: *mut usize,
-        room: *mut u8,
-        room_len: usize,
-        len: *mut usize,
-    ) -> u32;
 
     pub fn textwrap_wrap_balanced(
         text: *const u8,

@@ -173,16 +173,11 @@ fn styles_are_carried_after_indents() {
     // Of equal styles the last.
     let lines = [RED.repeat(20) + BOLD + RED, String::new()];
     assert_eq!(carry_styles(&lines, 7)[1], format!("{BOLD}{RED}{RESET}"));
-    // More than the room that is made at first.
-    let colours: String = (0..20).map(|number| format!("\u{1b}[38;5;{number}m")).collect();
-    let lines = [colours.clone(), "a".repeat(9), String::new()];
-    assert_eq!(carry_styles(&lines, 7)[2], colours + RESET);
 }
 
 #[test]
-fn attributes_are_carried() {
-    let carried = |lines: &[&str]| carry_attributes(lines, 10);
-    assert_eq!(carried(&["a", "b"]), ["a", "b"]);
+fn settings_are_carried() {
+    let carried = |lines: &[&str]| carry_styles(lines, 10);
     assert_eq!(
         carried(&["a \u{1b}[1;31mb", "c\u{1b}[39md", "e"]),
         [
@@ -201,7 +196,6 @@ fn attributes_are_carried() {
         carry_attributes(&lines, &options)[1],
         format!("> {LINK}{RED}{BOLD}bar{RESET}{LINK_END}")
     );
-    assert!(carry_attributes::<&str, _>(&[], 7).is_empty());
     // More than the room that is made at first.
     let attributes = "\u{1b}[1;3;4;5;7;8;9;31;41;51;53m";
     let all = "\u{1b}[1m\u{1b}[3m\u{1b}[4m\u{1b}[5m\u{1b}[7m\u{1b}[8m\u{1b}[9m\u{1b}[31m\u{1b}[41m\

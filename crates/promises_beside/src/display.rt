@@ -1,7 +1,6 @@
 //! Lines for display.
 ghost use Rattle.std.specs.Prelude.{◌≡◌, ◌≢◌, ◌<◌, [], None, Some, false, map, string_bytes, IfOk};
 ghost use Rattle.textwrap_plain.specs.Balance.{AreBalanced, IsBalanced};
-ghost use Rattle.textwrap_display.specs.Attributes.{attributed_lines};
 ghost use Rattle.textwrap_display.specs.Fitting.{fitting_widths};
 ghost use Rattle.textwrap_display.specs.JustifiedText.{IsJustifiedText};
 ghost use Rattle.textwrap_display.specs.Justifying.{justified};
@@ -21,8 +20,8 @@ use std::alloc::{AllocError, Global};
 use std::borrow::CowStr;
 use textwrap::{Options, WrapError};
 use textwrap_display::{
-    Column, Gaps, Need, carry_attributes, carry_styles, expand_tabs, fill_justified,
-    fitting_widths, justify, needs_of, shorten, table,
+    Column, Gaps, Need, carry_styles, expand_tabs, fill_justified, fitting_widths, justify,
+    needs_of, shorten, table,
 };
 use textwrap_plain::balancing::{balanced_width, wrap_balanced};
 
@@ -85,20 +84,6 @@ pub fn carried_styles<'l>(
         (texts_of lines.now)) }
 {
     let carried = carry_styles(alloc, lines, options)?;
-    Ok(carried)
-}
-
-/// As `carry_attributes`.
-pub fn carried_attributes<'l>(
-    alloc: Global,
-    lines: &'l [CowStr<'_>],
-    options: &Options<'_>,
-) -> Result<Vec<CowStr<'l>>, AllocError>
-    ensures { IfOk result (λ carried. map line_view carried.items
-        ≡ attributed_lines options.now.initial_indent.now options.now.subsequent_indent.now []
-        (texts_of lines.now)) }
-{
-    let carried = carry_attributes(alloc, lines, options)?;
     Ok(carried)
 }
 

@@ -17,9 +17,9 @@ ghost use Rattle.textwrap_calls.specs.Status.{done, not_utf8, out_of_memory, ove
 ghost use Rattle.textwrap_calls.specs.Status.{unknown_options, wrong_places};
 ghost use Rattle.textwrap_calls.specs.Texts.{IsText, bytes_of};
 ghost use Rattle.textwrap_calls.specs.Wrapping.{WritesLines, WritesLongLines};
-ghost use Rattle.textwrap_display.specs.Attributes.{attributed_lines};
 ghost use Rattle.textwrap_display.specs.Fitting.{fitting_widths};
 ghost use Rattle.textwrap_display.specs.Needs.{needs_of};
+ghost use Rattle.textwrap_display.specs.Styles.{carried_lines};
 ghost use Rattle.textwrap_hyphens.specs.Points.{hyphenation_points};
 ghost use Rattle.textwrap_hyphens.specs.Seal.{is_sealed};
 ghost use Rattle.textwrap_layout.specs.Paragraph.{pieces_by, widths_of};
@@ -80,7 +80,7 @@ pub extern "C" fn textwrap_carry_attributes(
     len: &mut usize,
 ) -> u32
     ensures carried { let settings = options_settings options.now in
-        WritesLines (λ answer _. AreRows (λ rows. rows ≡ map line_bytes (attributed_lines
+        WritesLines (λ answer _. AreRows (λ rows. rows ≡ map line_bytes (carried_lines
         settings.initial_indent settings.subsequent_indent [] (bytes_of lines.now))) answer)
         [] result places.old places.new count.old count.new room.old room.new len.old len.new }
     ensures unknown { TellsUnknown result options.now }

@@ -109,9 +109,9 @@ fn place_shortened(
 }
 
 /// Writes the lines of one text so that each stands by itself: after its indent it sets anew the link
-/// and the styles that the lines before it left open, and at its end it takes back what is open. They
-/// are written as `textwrap_wrap` writes lines that are texts of their own. The indents are those of
-/// the options, and nothing else of them is used.
+/// that the lines before it left open and, of each attribute, the last setting that did not end, and
+/// at its end it takes back what is open. They are written as `textwrap_wrap` writes lines that are
+/// texts of their own. The indents are those of the options, and nothing else of them is used.
 pub fn textwrap_carry_styles(
     alloc: Global,
     lines: &[TextwrapText<'_>],

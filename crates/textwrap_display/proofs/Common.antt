@@ -19,10 +19,10 @@ pub use Rattle.textwrap_display.specs.Justifying.{indent_len, justified, line_wo
 pub use Rattle.textwrap_display.specs.Justifying.{gaps}
 pub use Rattle.textwrap_display.specs.Laws.{JustifiedLineKeepsWords, word_texts}
 pub use Rattle.textwrap_display.specs.Shortening.{AreShortened, IsShortened, can_end}
-pub use Rattle.textwrap_styles.specs.Styled.{IsWholeText, styled_lines, styled_text}
+pub use Rattle.textwrap_styles.specs.Styled.{IsWholeText}
 pub use Rattle.textwrap_styles.specs.Styles.{carried_lines, closing, link_fields, style_parameters}
 pub use Rattle.textwrap_styles.specs.Styles.{has_target, open_link, open_styles, sequence_of}
-pub use Rattle.textwrap_styles.specs.Styles.{is_reset, is_style, link_end, sequences, style_end}
+pub use Rattle.textwrap_styles.specs.Styles.{is_style, link_end, sequences, style_end}
 pub use Rattle.textwrap_styles.specs.Styles.{is_link, opening, texts_of}
 pub use Rattle.textwrap_layout.proofs.Common.{layout_view}
 pub use Rattle.textwrap_layout.proofs.Text.Lines.{bytes_left, line_bytes-line_view, paragraphs_left}

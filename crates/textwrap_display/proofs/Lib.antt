@@ -14,3 +14,4 @@ pub mod TableRows
 pub mod WidenedWords
 pub mod Widths
 pub mod TabTexts
+pub mod PennedLines

@@ -2,15 +2,16 @@
 use Rattle.textwrap_display.proofs.FittingWidths.{fitting-least, fitting-most, fitting-scarce}
 use Rattle.textwrap_display.proofs.FittingWidths.{fitting-sum, fitting-within}
 use Rattle.textwrap_display.proofs.KeptWords.{word_texts-take}
+use Rattle.textwrap_display.proofs.PennedLines.{aligned-pens, justified-pens, rows-apart}
 use Rattle.textwrap_display.proofs.TabTexts.{expanded-lines, expanded-twice, expanded-free}
 use Rattle.textwrap_display.proofs.TabTexts.{expanded-cut, no_tab-left, tab-reaches}
 use Rattle.textwrap_display.proofs.TableRows.{each-line-shown, rows-even}
 use Rattle.textwrap_display.proofs.Widths.{aligned-width, justified-width}
 
-pub ruleset lines = (aligned-width, justified-width, word_texts-take)
+pub ruleset lines = (aligned-pens, aligned-width, justified-pens, justified-width, word_texts-take)
 
 pub ruleset tabs = (expanded-cut, expanded-free, expanded-lines, expanded-twice, no_tab-left)
 
 pub ruleset widths = (fitting-least, fitting-most, fitting-scarce, fitting-sum, fitting-within)
 
-pub ruleset laws = (lines, tabs, widths, tab-reaches, each-line-shown, rows-even)
+pub ruleset laws = (lines, tabs, widths, tab-reaches, each-line-shown, rows-apart, rows-even)

@@ -5,72 +5,54 @@ use Rattle.textwrap_text.proofs.Common.{text_width, cases_Bool, length}
 use Rattle.textwrap_text.proofs.Common.{take_at, IsUtf8, subst, arith, Bool, List, drop, take}
 use Rattle.textwrap_text.proofs.Common.{false, true, refl, ◌++◌, ◌&&◌, inl, inr, sym, ◌+◌, ◌∙◌, ◌≡◌, ◌≤◌, [], ap, ℕ}
 use Rattle.std.specs.Prelude.{chars}
-use Rattle.textwrap_display.proofs.Common.{IsShortened, IsWholeText, open_styles, styled_text}
-use Rattle.textwrap_display.proofs.Common.{text_width-append, line_bytes, open_link}
+use Rattle.textwrap_text.proofs.Common.{All}
+use Rattle.textwrap_display.proofs.Common.{IsShortened, IsWholeText}
+use Rattle.textwrap_display.proofs.Common.{text_width-append, line_bytes}
 use Rattle.textwrap_display.proofs.Common.{indent_len, sequences, closing, concat, units, Line}
 use Rattle.textwrap_display.specs.Shortening.{is_too_wide, IsCut, IsKeptLength, IsKeptBeginning}
-use Rattle.std.specs.List.{take-map}
-use Rattle.textwrap_text.proofs.Common.{length-map, map, map-append}
-use Rattle.textwrap_styles.proofs.PenLines.{painted, text-painted}
-use Rattle.textwrap_styles.proofs.PenStyles.{styles-pen}
-use Rattle.textwrap_styles.proofs.StyleRules.{styles-rule}
-use Rattle.textwrap_styles.specs.Pen.{plain_pen}
-use Rattle.textwrap_styles.specs.Penned.{penned_text}
-use Rattle.textwrap_styles.specs.Styled.{EndsPlain, styled_by}
+use Rattle.textwrap_styles.proofs.PenStyles.{ended}
+use Rattle.textwrap_styles.specs.Penned.{penned_text, penned_units, plain_rendition, rendition_of}
+use Rattle.textwrap_styles.specs.Styled.{EndsPlain}
 use Rattle.textwrap_display.proofs.CutWords.{no_columns}
 use Rattle.textwrap_display.proofs.KeptParts.{kept-whole, kept-room}
 use Rattle.textwrap_styles.proofs.SequenceTexts.{closing-sequences, closing_sequences, closing-is}
 use Rattle.textwrap_styles.proofs.SequenceTexts.{text_units-append, whole_text-append, units-again}
-use Rattle.textwrap_styles.proofs.SequenceTexts.{styles-ended, none-visible, link-ended, styled-same}
-use Rattle.textwrap_styles.proofs.SequenceTexts.{sequence_units, sequences-show, styled-append}
+use Rattle.textwrap_styles.proofs.SequenceTexts.{IsSequence, none-visible, penned-append}
+use Rattle.textwrap_styles.proofs.SequenceTexts.{sequence_units, sequences-show}
 use Rattle.textwrap_styles.proofs.SequenceTexts.{concat-units, concat-whole}
 
 -- ---- a text of whole sequences, and what closes it
 
 module _ (kept : List ℕ) (whole : IsWholeText kept) where
   abbrev ends : List (List ℕ)
-  ends = closing_sequences open_styles (sequences kept)
+  ends = closing_sequences (sequences kept)
 
   abbrev closed : List ℕ
   closed = kept ++ closing (sequences kept)
 
+  are-ends : All IsSequence ends
+  are-ends = closing-sequences (sequences kept)
+
   closed-is : closed ≡ kept ++ concat ends
-  closed-is = ap (λ l. kept ++ l) (closing-is open_styles (sequences kept))
+  closed-is = ap (λ l. kept ++ l) (closing-is (sequences kept))
 
   closed-units : units (chars closed) ≡ units (chars kept) ++ sequence_units ends
   closed-units = ap (λ l. units (chars l)) closed-is ∙ text_units-append kept (concat ends) whole
-      ∙ ap (λ us. units (chars kept) ++ us)
-      (concat-units ends (closing-sequences open_styles (sequences kept)))
+      ∙ ap (λ us. units (chars kept) ++ us) (concat-units ends are-ends)
 
   closed-whole : IsWholeText closed
-  closed-whole = subst IsWholeText (sym closed-is) (whole_text-append kept (concat ends) whole
-      (concat-whole ends (closing-sequences open_styles (sequences kept))))
-
-  closed-sequences : sequences closed ≡ sequences kept ++ ends
-  closed-sequences =
-      grind (
-        arith,
-        closed-units,
-        flat_map-append,
-        units-again ends (closing-sequences open_styles (sequences kept)),
-      )
+  closed-whole =
+      subst IsWholeText (sym closed-is) (whole_text-append kept (concat ends) whole
+      (concat-whole ends are-ends))
 
   pub closed-plain : EndsPlain closed
-  closed-plain = (
-    ap open_styles closed-sequences ∙ styles-ended (sequences kept),
-    ap open_link closed-sequences ∙ link-ended open_styles (sequences kept),
-  )
+  closed-plain =
+      let all : sequences closed ≡ sequences kept ++ ends =
+      grind (arith, closed-units, flat_map-append, units-again ends are-ends) in
+      ap rendition_of all ∙ ended (sequences kept)
 
   closed-width : text_width closed ≡ text_width kept
-  closed-width =
-      grind (arith, closed-units, flat_map-append, none-visible, append-nil)
-
-  closed-styled : styled_text [] closed ≡ styled_text [] kept
-  closed-styled =
-      ap (styled_by open_styles []) closed-units
-      ∙ styled-append open_styles (units (chars kept)) (sequence_units ends) []
-      ∙ ap (λ l. styled_text [] kept ++ l) (sequences-show open_styles ends (sequences kept))
-      ∙ append-nil (styled_text [] kept)
+  closed-width = grind (arith, closed-units, flat_map-append, none-visible, append-nil)
 
   -- with a placeholder behind it
   module _ (placeholder : List ℕ) where
@@ -79,15 +61,20 @@ module _ (kept : List ℕ) (whole : IsWholeText kept) where
         text_width-append closed placeholder closed-whole.0 closed-whole.1
         ∙ ap (λ n. n + text_width placeholder) closed-width
 
-    pub followed-styled : styled_text [] (closed ++ placeholder)
-        ≡ styled_text [] kept ++ styled_text [] placeholder
-    followed-styled =
+    pub followed-pens : penned_text plain_rendition (closed ++ placeholder)
+        ≡ penned_text plain_rendition kept ++ penned_text plain_rendition placeholder
+    followed-pens =
         let us = units (chars placeholder) in
-        ap (styled_by open_styles []) (text_units-append closed placeholder closed-whole)
-        ∙ styled-append open_styles (units (chars closed)) us []
-        ∙ ap (λ l. styled_text [] closed ++ l)
-        (styled-same open_styles styles-rule us (sequences closed) [] closed-plain.1 closed-plain.0)
-        ∙ ap (λ l. l ++ styled_text [] placeholder) closed-styled
+        let own : penned_text plain_rendition closed ≡ penned_text plain_rendition kept =
+        ap (penned_units plain_rendition) closed-units
+        ∙ penned-append (units (chars kept)) (sequence_units ends) plain_rendition
+        ∙ ap (λ cs. penned_text plain_rendition kept ++ cs)
+        (sequences-show ends (rendition_of (sequences kept)))
+        ∙ append-nil (penned_text plain_rendition kept) in
+        ap (penned_units plain_rendition) (text_units-append closed placeholder closed-whole)
+        ∙ penned-append (units (chars closed)) us plain_rendition
+        ∙ ap (λ now. penned_text plain_rendition closed ++ penned_units now us) closed-plain
+        ∙ ap (λ cs. cs ++ penned_text plain_rendition placeholder) own
 
 -- ---- the laws of lines that were cut
 
@@ -105,44 +92,20 @@ module _ (breaks : Bool) (width : ℕ) (placeholder line : List ℕ) (short : Li
   pub shortened-closed : EndsPlain (kept ++ closing (sequences kept))
   shortened-closed = closed-plain kept whole
 
-  pub shortened-shows : (take (length (styled_text [] kept)) (styled_text [] line)
-      ≡ styled_text [] kept)
-      × (styled_text [] (line_bytes short) ≡ styled_text [] kept ++ styled_text [] placeholder)
-  shortened-shows =
-      let rest = drop is.len line in
-      let parts : styled_text [] line
-      ≡ styled_text [] kept ++ styled_by open_styles (sequences kept) (units (chars rest)) =
-      ap (styled_text []) (sym (take-append-drop is.len line))
-      ∙ ap (styled_by open_styles []) (text_units-append kept rest whole)
-      ∙ styled-append open_styles (units (chars kept)) (units (chars rest)) [] in (
-        ap (take (length (styled_text [] kept))) parts
-            ∙ take_at (styled_text [] kept) (styled_by open_styles (sequences kept) (units (chars rest)))
-            (length (styled_text [] kept)) refl,
-        ap (styled_text []) bytes ∙ followed-styled kept whole placeholder,
-      )
-
-  -- by the pen
-  pub shortened-pens : (take (length (penned_text plain_pen kept)) (penned_text plain_pen line)
-      ≡ penned_text plain_pen kept)
-      × (penned_text plain_pen (line_bytes short)
-      ≡ penned_text plain_pen kept ++ penned_text plain_pen placeholder)
+  pub shortened-pens : (take (length (penned_text plain_rendition kept))
+      (penned_text plain_rendition line) ≡ penned_text plain_rendition kept)
+      × (penned_text plain_rendition (line_bytes short)
+      ≡ penned_text plain_rendition kept ++ penned_text plain_rendition placeholder)
   shortened-pens =
-      let paint = painted open_styles styles-pen in
-      let pens : (text : List ℕ) → map paint (styled_text [] text) ≡ penned_text plain_pen text =
-      λ text. text-painted open_styles styles-pen [] plain_pen text refl in
-      let front = styled_text [] kept in
-      let len : length (penned_text plain_pen kept) ≡ length front =
-      ap length (sym (pens kept)) ∙ length-map front paint in (
-        ap (λ n. take n (penned_text plain_pen line)) len
-            ∙ ap (take (length front)) (sym (pens line))
-            ∙ take-map paint (length front) (styled_text [] line)
-            ∙ ap (map paint) shortened-shows.0
-            ∙ pens kept,
-        sym (pens (line_bytes short))
-            ∙ ap (map paint) shortened-shows.1
-            ∙ map-append paint front (styled_text [] placeholder)
-            ∙ ap (λ cs. cs ++ map paint (styled_text [] placeholder)) (pens kept)
-            ∙ ap (λ cs. penned_text plain_pen kept ++ cs) (pens placeholder),
+      let front = penned_text plain_rendition kept in
+      let rest = units (chars (drop is.len line)) in
+      let later = penned_units (rendition_of (sequences kept)) rest in
+      let parts : penned_text plain_rendition line ≡ front ++ later =
+      ap (penned_text plain_rendition) (sym (take-append-drop is.len line))
+      ∙ ap (penned_units plain_rendition) (text_units-append kept (drop is.len line) whole)
+      ∙ penned-append (units (chars kept)) rest plain_rendition in (
+        ap (take (length front)) parts ∙ take_at front later (length front) refl,
+        ap (penned_text plain_rendition) bytes ∙ followed-pens kept whole placeholder,
       )
 
   pub shortened-width : text_width placeholder ≤ width → text_width (line_bytes short) ≤ width

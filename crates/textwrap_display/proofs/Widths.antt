@@ -122,15 +122,15 @@ pub indent-blanks : (line : List ℕ) → AreBlanks (take (indent_len line) line
 indent-blanks line =
     search (rules, arith, All-from_get_or, length-take, get_or-take, prefix_len_passes)
 
+pub rest-utf8 : (line : List ℕ) → IsUtf8 line → IsUtf8 (drop (indent_len line) line)
+rest-utf8 line utf8 =
+    after_ascii (take (indent_len line) line) (drop (indent_len line) line)
+    (All-weaker (λ c. is_blank c ≡ true) (λ c. c < 128) (λ c is. omega (arith, eqb-true c 32 is))
+    (take (indent_len line) line) (indent-blanks line))
+    (subst IsUtf8 (sym (take-append-drop (indent_len line) line)) utf8)
+
 module _ (line : List ℕ) (utf8 : IsUtf8 line)
     (whole : All (λ w. HasWholeSequences w.word) (line_words line)) (some : gaps line ≢ 0) where
-  rest-utf8 : IsUtf8 (drop (indent_len line) line)
-  rest-utf8 =
-      after_ascii (take (indent_len line) line) (drop (indent_len line) line)
-      (All-weaker (λ c. is_blank c ≡ true) (λ c. c < 128) (λ c is. omega (arith, eqb-true c 32 is))
-      (take (indent_len line) line) (indent-blanks line))
-      (subst IsUtf8 (sym (take-append-drop (indent_len line) line)) utf8)
-
   line-width : text_width line
       ≡ length (take (indent_len line) line) + text_width (tiled (line_words line))
   line-width =
@@ -152,7 +152,7 @@ module _ (line : List ℕ) (utf8 : IsUtf8 line)
         arith,
         blanks-before (take n line) (tiled (widened_words each extra ws)) (indent-blanks line),
         widened-width each extra ws
-            (words-measured (chunks (drop n line)) (chunks-utf8 (drop n line) rest-utf8)) whole,
+            (words-measured (chunks (drop n line)) (chunks-utf8 (drop n line) (rest-utf8 line utf8))) whole,
         few,
         line-width,
         div-add-mod spare (gaps line),

@@ -1,8 +1,9 @@
 -- The statements of the laws, each under a name that a caller can cite.
 use Rattle.std.specs.Prelude.{◌≡◌, ◌≢◌, ℕ, ◌+◌, ◌-◌, ◌*◌, ◌/◌, ◌%◌, ◌<◌, ◌≤◌, ◌==◌, List, [], ◌∷◌}
-use Rattle.std.specs.Prelude.{◌++◌, All, Bool}
+use Rattle.std.specs.Prelude.{◌++◌, All, Bool, filter, not}
 use Rattle.std.specs.Prelude.{IsUtf8, length, map, replicate, slice_index_or, sum, sum_by, take}
 use Rattle.std.specs.List.{AllZip, slice_split, zip}
+use Rattle.textwrap.specs.Columns.{blanks}
 use Rattle.textwrap_display.specs.Alignment.{aligned}
 use Rattle.textwrap_display.specs.Fitting.{fitting_widths, widest_line, widest_word}
 use Rattle.textwrap_display.specs.Justifying.{gaps, indent_len, justified, line_words}
@@ -14,26 +15,19 @@ use Rattle.textwrap_display.specs.declared.alignment.Alignment.{Alignment}
 use Rattle.textwrap_display.specs.declared.needs.Need.{Need}
 use Rattle.textwrap_text.specs.LineEnding.{join_with, line_feed}
 use Rattle.textwrap_layout.specs.Text.{HasWholeSequences}
+use Rattle.textwrap_text.specs.Blanks.{is_blank}
 use Rattle.textwrap_text.specs.Units.{text_width}
 use Rattle.textwrap_words.specs.Words.{words_of}
 use Rattle.textwrap_layout.specs.Paragraph.{Line, line_bytes}
-use Rattle.textwrap_styles.specs.Pen.{plain_pen}
-use Rattle.textwrap_styles.specs.Penned.{penned_text}
-use Rattle.textwrap_styles.specs.Styled.{EndsPlain, IsWholeText, styled_text}
+use Rattle.textwrap_styles.specs.Penned.{PennedCharacter, penned_text, plain_rendition}
+use Rattle.textwrap_styles.specs.Styled.{EndsPlain, IsWholeText}
 use Rattle.textwrap_styles.specs.Styles.{closing, sequences}
-pub use Rattle.textwrap_styles.specs.Laws.{AttributedLinesAreAsWide, AttributedLinesAreShort}
-pub use Rattle.textwrap_styles.specs.Laws.{AttributedLinesEndPlain, AttributedLinesKeepAttributes}
-pub use Rattle.textwrap_styles.specs.Laws.{AttributedLinesEndWithAPlainPen}
-pub use Rattle.textwrap_styles.specs.Laws.{AttributedLinesKeepPens, AttributesGiveThePen}
-pub use Rattle.textwrap_styles.specs.Laws.{AttributedLinesShowTheirText, AttributesAreFew}
-pub use Rattle.textwrap_styles.specs.Laws.{AttributesAreSetAnew, CarriedLinesAreAsWide}
-pub use Rattle.textwrap_styles.specs.Laws.{CarriedLinesAreShort, CarriedLinesEndPlain}
-pub use Rattle.textwrap_styles.specs.Laws.{CarriedLinesEndWithAPlainPen, CarriedLinesKeepPens}
-pub use Rattle.textwrap_styles.specs.Laws.{CarriedLinesKeepStyles, CarriedLinesShowTheirText}
-pub use Rattle.textwrap_styles.specs.Laws.{EndsAreKnown, NumbersAreKnown, StylesGiveThePen}
-pub use Rattle.textwrap_styles.specs.Laws.{OpenStylesAreDifferent, PlainLinesStay}
-pub use Rattle.textwrap_styles.specs.Laws.{PlainLinesStayAttributed, WholeLinesMayCarry}
-pub use Rattle.textwrap_styles.specs.Laws.{WholeLinesMayCarryAttributes}
+pub use Rattle.textwrap_styles.specs.Laws.{CarriedLinesAreAsWide, CarriedLinesAreShort}
+pub use Rattle.textwrap_styles.specs.Laws.{CarriedLinesEndPlain, CarriedLinesKeepPens}
+pub use Rattle.textwrap_styles.specs.Laws.{CarriedLinesShowTheirText, EndsAreKnown}
+pub use Rattle.textwrap_styles.specs.Laws.{NumbersAreKnown, PlainLinesStay, StylesAreFew}
+pub use Rattle.textwrap_styles.specs.Laws.{StylesAreSetAnew, StylesGiveThePen}
+pub use Rattle.textwrap_styles.specs.Laws.{WholeLinesMayCarry}
 
 -- a line that is not wider than the width is as wide once it is aligned
 abbrev pub AlignedLinesAreAsWide : Type 0
@@ -63,6 +57,19 @@ abbrev pub JustifiedLinesKeepWords : Type 0
 JustifiedLinesKeepWords =
     (width : ℕ) (line : List ℕ) → JustifiedLineKeepsWords width line (line_bytes (justified width line))
 
+-- what is shown, but for blanks
+abbrev pub without_blanks : List PennedCharacter → List PennedCharacter
+without_blanks shown = filter (λ c. not (is_blank c.character)) shown
+
+-- a justified line shows the same but for blanks, with the same pens and links, if each escape sequence
+-- of a word ends in that word
+abbrev pub JustifiedLinesKeepPens : Type 0
+JustifiedLinesKeepPens =
+    (width : ℕ) (line : List ℕ) → IsUtf8 line
+    → All (λ w. HasWholeSequences w.word) (line_words line)
+    → without_blanks (penned_text plain_rendition (line_bytes (justified width line)))
+    ≡ without_blanks (penned_text plain_rendition line)
+
 -- ---- shortened lines
 
 -- only one number of bytes may be kept of a line
@@ -80,31 +87,23 @@ ShortenedLinesKeepToWidth =
     → IsUtf8 line → text_width placeholder ≤ width
     → IsShortened breaks width placeholder line short → text_width (line_bytes short) ≤ width
 
--- before the placeholder no style and no link is open
+-- before the placeholder the pen is plain and no link is open
 abbrev pub ShortenedLinesAreClosed : Type 0
 ShortenedLinesAreClosed =
     (breaks : Bool) (width : ℕ) (placeholder line : List ℕ) (short : Line) → IsUtf8 line
     → (is : IsShortened breaks width placeholder line short)
     → let kept = take is.len line in EndsPlain (kept ++ closing (sequences kept))
 
--- what is kept shows what the line shows first, with the same link and styles, and behind it the
+-- what is kept shows what the line shows first, with the same pens and links, and behind it the
 -- placeholder shows what it shows by itself
-abbrev pub ShortenedLinesShowTheBeginning : Type 0
-ShortenedLinesShowTheBeginning =
-    (breaks : Bool) (width : ℕ) (placeholder line : List ℕ) (short : Line) → IsUtf8 line
-    → (is : IsShortened breaks width placeholder line short)
-    → let kept = styled_text [] (take is.len line) in
-    (take (length kept) (styled_text [] line) ≡ kept)
-    × (styled_text [] (line_bytes short) ≡ kept ++ styled_text [] placeholder)
-
--- so too with the pen of each character
 abbrev pub ShortenedLinesKeepPens : Type 0
 ShortenedLinesKeepPens =
     (breaks : Bool) (width : ℕ) (placeholder line : List ℕ) (short : Line) → IsUtf8 line
     → (is : IsShortened breaks width placeholder line short)
-    → let kept = penned_text plain_pen (take is.len line) in
-    (take (length kept) (penned_text plain_pen line) ≡ kept)
-    × (penned_text plain_pen (line_bytes short) ≡ kept ++ penned_text plain_pen placeholder)
+    → let kept = penned_text plain_rendition (take is.len line) in
+    (take (length kept) (penned_text plain_rendition line) ≡ kept)
+    × (penned_text plain_rendition (line_bytes short)
+    ≡ kept ++ penned_text plain_rendition placeholder)
 
 -- the texts of a line's words
 abbrev pub word_texts : List ℕ → List (List ℕ)
@@ -140,6 +139,40 @@ TableRowsAreEven =
 -- a row that shows these texts, one in each column
 abbrev pub row_of : RowGaps → List (List ℕ) → List ℕ
 row_of gaps texts = gaps.left ++ join_with gaps.middle texts ++ gaps.right
+
+-- a text that is whole and ends plain, so that it changes nothing behind it
+abbrev pub StandsAlone : List ℕ → Type 0
+StandsAlone text = IsWholeText text × EndsPlain text
+
+-- what texts show by themselves, with this one between each two
+abbrev pub shown_apart : List ℕ → List (List ℕ) → List PennedCharacter
+shown_apart middle [] = []
+shown_apart middle (text ∷ []) = penned_text plain_rendition text
+shown_apart middle (text ∷ next ∷ texts) =
+    penned_text plain_rendition text ++ penned_text plain_rendition middle
+    ++ shown_apart middle (next ∷ texts)
+
+-- a row of such texts and gaps shows what each of them shows by itself, with its pens and links
+abbrev pub TableRowsKeepPens : Type 0
+TableRowsKeepPens =
+    (gaps : RowGaps) (texts : List (List ℕ))
+    → StandsAlone gaps.left → StandsAlone gaps.middle → All StandsAlone texts
+    → penned_text plain_rendition (row_of gaps texts) ≡ penned_text plain_rendition gaps.left
+    ++ shown_apart gaps.middle texts ++ penned_text plain_rendition gaps.right
+
+-- this is such a text, and shows what the line shows between plain blanks
+pub record IsBeside (line new : List ℕ) : Type 0 where
+  pub alone : StandsAlone new
+  pub before : ℕ
+  pub after : ℕ
+  pub shown : penned_text plain_rendition new ≡ penned_text plain_rendition (blanks before)
+      ++ penned_text plain_rendition line ++ penned_text plain_rendition (blanks after)
+
+-- so does such a line once it is aligned
+abbrev pub AlignedLinesKeepPens : Type 0
+AlignedLinesKeepPens =
+    (alignment : Alignment) (width : ℕ) (line : List ℕ) → StandsAlone line
+    → IsBeside line (line_bytes (aligned alignment width line))
 
 -- what a cell shows in so many rows: each of its lines once, in order, and blanks below them
 abbrev pub cell_shown : Shape → ℕ → List (List ℕ) → List (List ℕ)

@@ -8,8 +8,8 @@ pub mod Fitting
 pub mod Sharing
 pub mod Tabs
 pub mod Laws
-pub use Rattle.textwrap_styles.specs.Attributes
 pub use Rattle.textwrap_styles.specs.Indents
+pub use Rattle.textwrap_styles.specs.Penned
 pub use Rattle.textwrap_styles.specs.Settings
 pub use Rattle.textwrap_styles.specs.Styled
 pub use Rattle.textwrap_styles.specs.Styles

@@ -5,34 +5,36 @@
 //! `aligned_lines_are_as_wide();`.
 #![tactic(auto, using(crate::proofs::ProvedLaws::laws))]
 
-ghost use Rattle.textwrap_display.specs.Laws.{AlignedLinesAreAsWide, ExpandedTextsStay};
+ghost use Rattle.textwrap_display.specs.Laws.{AlignedLinesAreAsWide, AlignedLinesKeepPens};
+ghost use Rattle.textwrap_display.specs.Laws.{ExpandedTextsStay, TableRowsKeepPens};
 ghost use Rattle.textwrap_display.specs.Laws.{FittingWidthsAddUp, FittingWidthsHoldLines};
 ghost use Rattle.textwrap_display.specs.Laws.{FittingWidthsHoldWords, FittingWidthsKeepToLines};
 ghost use Rattle.textwrap_display.specs.Laws.{FittingWidthsKeepToWords, JustifiedLinesAreAsWide};
-ghost use Rattle.textwrap_display.specs.Laws.{JustifiedLinesKeepWords, KeptBeginningsAreUnique};
+ghost use Rattle.textwrap_display.specs.Laws.{JustifiedLinesKeepPens, JustifiedLinesKeepWords};
+ghost use Rattle.textwrap_display.specs.Laws.{KeptBeginningsAreUnique};
 ghost use Rattle.textwrap_display.specs.Laws.{KeptWordsAreTheFirst, LinesAreExpandedApart};
 ghost use Rattle.textwrap_display.specs.Laws.{NoTabIsLeft, ShortenedLinesAreClosed};
 ghost use Rattle.textwrap_display.specs.Laws.{ShortenedLinesKeepPens, ShortenedLinesKeepToWidth};
-ghost use Rattle.textwrap_display.specs.Laws.{ShortenedLinesShowTheBeginning, TableRowsAreEven};
-ghost use Rattle.textwrap_display.specs.Laws.{TablesShowEachLineOnce, TabsCutTexts, TabsReachStops};
-ghost use Rattle.textwrap_display.specs.Laws.{TextsWithoutTabsStay};
+ghost use Rattle.textwrap_display.specs.Laws.{TableRowsAreEven, TablesShowEachLineOnce};
+ghost use Rattle.textwrap_display.specs.Laws.{TabsCutTexts, TabsReachStops, TextsWithoutTabsStay};
 
 pub use textwrap_styles::laws::{
-    attributed_lines_are_as_wide, attributed_lines_are_short, attributed_lines_end_plain,
-    attributed_lines_end_with_a_plain_pen, attributed_lines_keep_attributes,
-    attributed_lines_keep_pens, attributed_lines_show_their_text, attributes_are_few,
-    attributes_are_set_anew, attributes_give_the_pen, carried_lines_are_as_wide,
-    carried_lines_are_short, carried_lines_end_plain, carried_lines_end_with_a_plain_pen,
-    carried_lines_keep_pens, carried_lines_keep_styles, carried_lines_show_their_text,
-    ends_are_known, numbers_are_known, open_styles_are_different, plain_lines_stay,
-    plain_lines_stay_attributed, styles_give_the_pen, whole_lines_may_carry,
-    whole_lines_may_carry_attributes,
+    carried_lines_are_as_wide, carried_lines_are_short, carried_lines_end_plain,
+    carried_lines_keep_pens, carried_lines_show_their_text, ends_are_known, numbers_are_known,
+    plain_lines_stay, styles_are_few, styles_are_set_anew, styles_give_the_pen,
+    whole_lines_may_carry,
 };
 
 /// A line that is not wider than the width is exactly as wide once it is aligned, if its escape
 /// sequences end in it.
 pub fn aligned_lines_are_as_wide()
     ensures { AlignedLinesAreAsWide }
+{}
+
+/// A line that is whole and leaves the pen plain and no link open is such a text once it is aligned, and
+/// shows what it shows between plain blanks.
+pub fn aligned_lines_keep_pens()
+    ensures { AlignedLinesKeepPens }
 {}
 
 /// A line that is not wider than the width, and has a gap between words, is exactly as wide once it
@@ -46,6 +48,12 @@ pub fn justified_lines_are_as_wide()
 /// more than that.
 pub fn justified_lines_keep_words()
     ensures { JustifiedLinesKeepWords }
+{}
+
+/// A justified line shows the same but for blanks, each character with the pen and the link that it has
+/// in the line, if the escape sequences of each word end in it.
+pub fn justified_lines_keep_pens()
+    ensures { JustifiedLinesKeepPens }
 {}
 
 /// Only one number of bytes may be kept of a line that is cut, so it becomes only one line.
@@ -64,13 +72,8 @@ pub fn shortened_lines_are_closed()
 {}
 
 /// What is kept of a line that was cut shows the first of what the line shows, each character with
-/// the link and the styles that it has in the line. Behind it the placeholder shows what it shows by
+/// the pen and the link that it has in the line. Behind it the placeholder shows what it shows by
 /// itself.
-pub fn shortened_lines_show_the_beginning()
-    ensures { ShortenedLinesShowTheBeginning }
-{}
-
-/// So too with the pen of each character: what a terminal writes it with.
 pub fn shortened_lines_keep_pens()
     ensures { ShortenedLinesKeepPens }
 {}
@@ -85,6 +88,12 @@ pub fn kept_words_are_the_first()
 /// end in them.
 pub fn table_rows_are_even()
     ensures { TableRowsAreEven }
+{}
+
+/// Where the lines of the cells, the left gap and the middle one are whole and leave the pen plain and
+/// no link open, a row shows what each of its gaps and texts shows by itself, with its pens and links.
+pub fn table_rows_keep_pens()
+    ensures { TableRowsKeepPens }
 {}
 
 /// Each row of a group of cells shows one text in each column, between the gaps. In a column these

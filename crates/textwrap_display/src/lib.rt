@@ -16,7 +16,7 @@ pub use needs::{Need, needs_of};
 pub use shortening::{Shortening, shorten, shorten_by, shorten_lines, shorten_lines_by};
 pub use tables::{Column, Gaps, table, table_of_lines};
 pub use tabs::expand_tabs;
-pub use textwrap_styles::{carry_attributes, carry_styles};
+pub use textwrap_styles::carry_styles;
 
 mod alignment;
 mod filling;

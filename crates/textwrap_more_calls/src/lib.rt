@@ -1,8 +1,8 @@
 //! The calls for callers in C beside those of `textwrap_calls`: for who takes a text apart, its
 //! paragraphs, words and pieces, where Unicode lets its lines end, the lines of fragments, and a text
 //! of which a caller finds the words, the points or the lines in another way; for display, balanced
-//! lines, attributes that go on over the ends of lines, and the widths of columns that fit their cells;
-//! and on hyphenation by patterns. They answer as those do.
+//! lines, and the widths of columns that fit their cells; and on hyphenation by patterns. They answer as
+//! those do.
 #![tactic(auto)]
 
 pub mod attributes;

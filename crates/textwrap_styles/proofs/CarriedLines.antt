@@ -3,7 +3,7 @@ use Rattle.textwrap_text.proofs.Common.{take-append-drop, nil_from_length, lengt
 use Rattle.textwrap_text.proofs.Common.{append_assoc, IsUtf8-drop, starts_with, All-append, All-nil}
 use Rattle.textwrap_text.proofs.Common.{All-weaker, append-nil, cases_Bool, map-append}
 use Rattle.textwrap_text.proofs.Common.{drop_more, nat_tests, All-cons, All-drop, All-head, drop_at}
-use Rattle.textwrap_text.proofs.Common.{All-tail, flat_map, take_at, IsUtf8, filter, get_or, length}
+use Rattle.textwrap_text.proofs.Common.{All-tail, flat_map, fold, take_at, IsUtf8, filter, get_or, length}
 use Rattle.textwrap_text.proofs.Common.{nat_eq, sum_by, arith, subst, List, cond, drop, refl, take}
 use Rattle.textwrap_text.proofs.Common.{◌++◌, ◌==◌, All, inl, inr, map, sym, ◌+◌, ◌-◌, ◌<◌, []}
 use Rattle.textwrap_text.proofs.Common.{◌∙◌, ◌∷◌, ◌≡◌, ◌≤◌, Bool, ap, false, true, ℕ}
@@ -14,19 +14,22 @@ use Rattle.textwrap_styles.proofs.Common.{line_bytes, text_width, line_view, ope
 use Rattle.textwrap_styles.proofs.Common.{texts_of, IsWhole, is_link}
 use Rattle.textwrap_styles.proofs.Common.{CowStr, concat, Slice, units, Line}
 use Rattle.textwrap_styles.specs.Indents.{after_indent, before_text, indent_end}
-use Rattle.textwrap_styles.specs.Styles.{carried_line, last_of_each, link_end, style_end}
+use Rattle.textwrap_styles.specs.Styles.{carried_line, link_end, style_end}
 use Rattle.std.proofs.lemmas.List.Folds.{flat_map-map}
 use Rattle.textwrap_styles.proofs.SequenceTexts.{closing-sequences, closing_sequences, IsSequence}
 use Rattle.textwrap_styles.proofs.SequenceTexts.{text_units-append, parts-sequences, parts-visible}
-use Rattle.textwrap_styles.proofs.SequenceTexts.{text-sequences, styled-append, parts-styled}
-use Rattle.textwrap_styles.proofs.SequenceTexts.{closing-is, link-ended, nil-whole, IsStyleRule}
+use Rattle.textwrap_styles.proofs.SequenceTexts.{text-sequences, parts-penned, penned-append}
+use Rattle.textwrap_styles.proofs.SequenceTexts.{closing-is, nil-whole}
+use Rattle.textwrap_styles.proofs.PenStyles.{ended, styles-pen}
+use Rattle.textwrap_styles.proofs.WrittenSettings.{styles-sequences}
+use Rattle.textwrap_styles.proofs.OpenLinks.{link-among}
+use Rattle.std.proofs.lemmas.List.Sums.{fold-append}
 use Rattle.std.proofs.lemmas.List.Elements.{All-filter}
 use Rattle.textwrap_text.specs.Units.{columns}
-use Rattle.textwrap_styles.specs.Styled.{EachWithIndent, EndsPlainBy, MayCarryBy}
-use Rattle.textwrap_styles.specs.Styled.{styled_by, styled_lines_by, styled_text_by}
-use Rattle.textwrap_styles.specs.Styles.{carried_line_by, carried_lines_by, closing_by}
-use Rattle.textwrap_styles.specs.Styles.{opening_by}
-use Rattle.textwrap_styles.proofs.OpenSequences.{link-follows, opening-bytes}
+use Rattle.textwrap_styles.specs.Styled.{EachWithIndent, EndsPlain, MayCarry}
+use Rattle.textwrap_styles.specs.Penned.{Rendition, penned_lines, penned_text, penned_units}
+use Rattle.textwrap_styles.specs.Penned.{plain_rendition, rendition_of, with_sequence}
+use Rattle.textwrap_styles.specs.Styles.{carried_lines, closing, opening}
 use Rattle.std.specs.Str.{chars}
 use Rattle.textwrap_text.proofs.Texts.{StartsWith-boundary}
 
@@ -47,140 +50,126 @@ parts-len : (front start text end line whole : List ℕ) → whole ≡ front ++ 
     → front ++ text ≡ line → length whole ≡ length line + length start + length end
 parts-len front start text end line whole are own = grind (arith, length-append)
 
--- where this says which styles are open
-module _ (styles : List (List ℕ) → List (List ℕ)) where
-  pub line-is : (indent line : List ℕ) (n : ℕ) (before : List (List ℕ)) (start end : List ℕ)
-      (view : Line) → n ≡ indent_end indent line → start ≡ opening_by styles before
-      → end ≡ closing_by styles (before ++ sequences (drop n line))
-      → view ≡ enclosed line n start end → view ≡ carried_line_by styles indent before line
-  line-is indent line n before start end view is starts ends whole = cc
+pub line-is : (indent line : List ℕ) (n : ℕ) (before : List (List ℕ)) (start end : List ℕ)
+    (view : Line) → n ≡ indent_end indent line → start ≡ opening before
+    → end ≡ closing (before ++ sequences (drop n line))
+    → view ≡ enclosed line n start end → view ≡ carried_line indent before line
+line-is indent line n before start end view is starts ends whole = cc
 
-  -- one more of the lines
-  pub carries-more : {Z : Type 0} (lines : List (CowStr Z)) (n : ℕ) (line added : CowStr Z)
-      (indent later bytes text : List ℕ) (before : List (List ℕ)) (old new : List (CowStr Z))
-      (all : List Line) → n < length lines → line ≡ get_or lines n line
-      → bytes ≡ cow_str_bytes line → text ≡ after_indent indent bytes → new ≡ old ++ added ∷ []
-      → line_view added ≡ carried_line_by styles indent before bytes
-      → map line_view old
-      ++ carried_lines_by styles indent later before (texts_of (drop n lines)) ≡ all
-      → map line_view new ++ carried_lines_by styles later later (before ++ sequences text)
-      (texts_of (drop (n + 1) lines)) ≡ all
-  carries-more lines n line added indent later bytes text before old new all within is same after
-      push view whole =
-      let left = drop_more lines n line within in
-      grind (arith, append_assoc, line_bytes-line_view, map-append, left)
+-- one more of the lines
+pub carries-more : {Z : Type 0} (lines : List (CowStr Z)) (n : ℕ) (line added : CowStr Z)
+    (indent later bytes text : List ℕ) (before : List (List ℕ)) (old new : List (CowStr Z))
+    (all : List Line) → n < length lines → line ≡ get_or lines n line
+    → bytes ≡ cow_str_bytes line → text ≡ after_indent indent bytes → new ≡ old ++ added ∷ []
+    → line_view added ≡ carried_line indent before bytes
+    → map line_view old
+    ++ carried_lines indent later before (texts_of (drop n lines)) ≡ all
+    → map line_view new ++ carried_lines later later (before ++ sequences text)
+    (texts_of (drop (n + 1) lines)) ≡ all
+carries-more lines n line added indent later bytes text before old new all within is same after
+    push view whole =
+    let left = drop_more lines n line within in
+    grind (arith, append_assoc, line_bytes-line_view, map-append, left)
 
-  -- ---- the bytes of a line whose styles are carried
+-- ---- the bytes of a line whose styles are carried
 
-  carried-parts : (indent : List ℕ) (before : List (List ℕ)) (line : List ℕ)
-      → line_bytes (carried_line_by styles indent before line)
-      ≡ before_text indent line ++ opening_by styles before ++ after_indent indent line
-      ++ closing_by styles (before ++ sequences (after_indent indent line))
-  carried-parts indent before line =
-      grind (arith, nat_tests, nothing-added, take-append-drop (indent_end indent line) line)
+carried-parts : (indent : List ℕ) (before : List (List ℕ)) (line : List ℕ)
+    → line_bytes (carried_line indent before line)
+    ≡ before_text indent line ++ opening before ++ after_indent indent line
+    ++ closing (before ++ sequences (after_indent indent line))
+carried-parts indent before line =
+    grind (arith, nat_tests, nothing-added, take-append-drop (indent_end indent line) line)
 
-  closing-short : (before : List (List ℕ))
-      → length (closing_by styles before) ≤ length style_end + length link_end
-  closing-short before =
-      by (length (styles before) == 0) (length (open_link before) == 0)
-    where
-      by : (plain unlinked : Bool) → length (cond plain [] style_end ++ cond unlinked [] link_end)
-          ≤ length style_end + length link_end
-      by true true = omega arith
-      by true false = omega arith
-      by false true = omega arith
-      by false false = omega arith
+closing-short : (before : List (List ℕ))
+    → length (closing before) ≤ length style_end + length link_end
+closing-short before =
+    by (length (open_styles before) == 0) (length (open_link before) == 0)
+  where
+    by : (plain unlinked : Bool) → length (cond plain [] style_end ++ cond unlinked [] link_end)
+        ≤ length style_end + length link_end
+    by true true = omega arith
+    by true false = omega arith
+    by false true = omega arith
+    by false false = omega arith
 
-  -- it is longer by what sets anew what is open, and what ends that, at most
-  pub carried-len : (indent : List ℕ) (before : List (List ℕ)) (line : List ℕ)
-      → length (line_bytes (carried_line_by styles indent before line))
-      ≤ length line + length (opening_by styles before) + length style_end + length link_end
-  carried-len indent before line =
-      let text = after_indent indent line in
-      let len = parts-len (before_text indent line) (opening_by styles before) text
-      (closing_by styles (before ++ sequences text)) line _ (carried-parts indent before line)
-      (take-append-drop (indent_end indent line) line) in
-      let ends = closing-short (before ++ sequences text) in
-      omega (arith, len, ends)
-
-  pub carried-bytes : (indent : List ℕ) (before : List (List ℕ)) (line : List ℕ)
-      → line_bytes (carried_line_by styles indent before line)
-      ≡ before_text indent line ++ concat (open_link before ++ styles before)
-      ++ after_indent indent line
-      ++ concat (closing_sequences styles (before ++ sequences (after_indent indent line)))
-  carried-bytes indent before line = grind (arith, carried-parts, concat-append, closing-is styles)
-
-pub carried-short : (indent : List ℕ) (before : List (List ℕ)) (line : List ℕ)
+-- it is longer by what sets anew what is open, and what ends that, at most
+pub carried-len : (indent : List ℕ) (before : List (List ℕ)) (line : List ℕ)
     → length (line_bytes (carried_line indent before line))
-    ≤ length line + length (concat (last_of_each before)) + length style_end + length link_end
-carried-short indent before line =
-    let len = carried-len open_styles indent before line in
-    omega (arith, len, opening-bytes before)
+    ≤ length line + length (opening before) + length style_end + length link_end
+carried-len indent before line =
+    let text = after_indent indent line in
+    let len = parts-len (before_text indent line) (opening before) text
+    (closing (before ++ sequences text)) line _ (carried-parts indent before line)
+    (take-append-drop (indent_end indent line) line) in
+    let ends = closing-short (before ++ sequences text) in
+    omega (arith, len, ends)
+
+pub carried-bytes : (indent : List ℕ) (before : List (List ℕ)) (line : List ℕ)
+    → line_bytes (carried_line indent before line)
+    ≡ before_text indent line ++ concat (open_link before ++ open_styles before)
+    ++ after_indent indent line
+    ++ concat (closing_sequences (before ++ sequences (after_indent indent line)))
+carried-bytes indent before line = grind (arith, carried-parts, concat-append, closing-is)
 
 -- ---- one line whose styles are carried: what it shows, what it leaves open and how wide it is
 
-module _ (styles : List (List ℕ) → List (List ℕ)) (rule : IsStyleRule styles) where
-  open-sequences : (before : List (List ℕ)) → All IsSequence before
-      → All IsSequence (open_link before ++ styles before)
-  open-sequences before are =
-      let links = filter is_link before in
-      All-append IsSequence (open_link before) (styles before)
-      (All-filter has_target IsSequence (drop (length links - 1) links)
-      (All-drop IsSequence (length links - 1) links (All-filter is_link IsSequence before are)))
-      (rule.sequences before are)
+module _ (indent : List ℕ) (before : List (List ℕ)) (line : List ℕ) (are : All IsSequence before)
+    (may : MayCarry indent line) where
+  abbrev front : List ℕ
+  front = before_text indent line
 
-  module _ (indent : List ℕ) (before : List (List ℕ)) (line : List ℕ)
-      (are : All IsSequence before) (may : MayCarryBy styles indent line) where
-    abbrev front : List ℕ
-    front = before_text indent line
+  abbrev text : List ℕ
+  text = after_indent indent line
 
-    abbrev text : List ℕ
-    text = after_indent indent line
+  abbrev starts : List (List ℕ)
+  starts = open_link before ++ open_styles before
 
-    abbrev starts : List (List ℕ)
-    starts = open_link before ++ styles before
+  abbrev ends : List (List ℕ)
+  ends = closing_sequences (before ++ sequences text)
 
-    abbrev ends : List (List ℕ)
-    ends = closing_sequences styles (before ++ sequences text)
+  all-starts : All IsSequence starts
+  all-starts =
+      All-append IsSequence (open_link before) (open_styles before)
+      (link-among IsSequence before (All-filter is_link IsSequence before are))
+      (styles-sequences before)
 
-    all-ends : All IsSequence ends
-    all-ends = closing-sequences styles (before ++ sequences text)
+  all-ends : All IsSequence ends
+  all-ends = closing-sequences (before ++ sequences text)
 
-    pub carried-styled : styled_text_by styles []
-        (line_bytes (carried_line_by styles indent before line))
-        ≡ styled_text_by styles [] front ++ styled_text_by styles before text
-    carried-styled =
-        ap (styled_text_by styles []) (carried-bytes styles indent before line)
-        ∙ parts-styled front text starts ends may.front may.text (open-sequences before are)
-        all-ends styles rule before (rule.link_again (sequences front) before may.plain.1)
-        (rule.again (sequences front) before may.plain.0)
+  begun : rendition_of (sequences front ++ starts) ≡ rendition_of before
+  begun =
+      fold-append with_sequence plain_rendition (sequences front) starts
+      ∙ ap (λ now. fold with_sequence now starts) may.plain
+      ∙ styles-pen before
 
-    pub carried-plain : EndsPlainBy styles (line_bytes (carried_line_by styles indent before line))
-    carried-plain =
-        let more = sequences text in
-        let all : sequences (line_bytes (carried_line_by styles indent before line))
-        ≡ sequences front ++ starts ++ more ++ ends =
-        ap sequences (carried-bytes styles indent before line)
-        ∙ parts-sequences front text starts ends may.front may.text (open-sequences before are)
-        all-ends in
-        let first = sequences front ++ starts in (
-          ap styles all
-              ∙ rule.follow (first ++ more) (before ++ more) ends (rule.follow first before more
-              (rule.again (sequences front) before may.plain.0))
-              ∙ rule.ended (before ++ more),
-          ap open_link all
-              ∙ link-follows (first ++ more) (before ++ more) ends (link-follows first before more
-              (rule.link_again (sequences front) before may.plain.1))
-              ∙ link-ended styles (before ++ more),
-        )
+  pub carried-penned : penned_text plain_rendition (line_bytes (carried_line indent before line))
+      ≡ penned_text plain_rendition front ++ penned_text (rendition_of before) text
+  carried-penned =
+      ap (penned_text plain_rendition) (carried-bytes indent before line)
+      ∙ parts-penned front text starts ends may.front may.text all-starts all-ends
+      (rendition_of before) begun
 
-    pub carried-wide : text_width (line_bytes (carried_line_by styles indent before line))
-        ≡ text_width line
-    carried-wide =
-        ap text_width (carried-bytes styles indent before line)
-        ∙ ap (sum_by columns) (parts-visible front text starts ends may.front may.text
-        (open-sequences before are) all-ends)
-        ∙ ap text_width (take-append-drop (indent_end indent line) line)
+  pub carried-plain : EndsPlain (line_bytes (carried_line indent before line))
+  carried-plain =
+      let more = sequences text in
+      let first = sequences front ++ starts in
+      ap (λ t. rendition_of (sequences t)) (carried-bytes indent before line)
+      ∙ ap rendition_of (parts-sequences front text starts ends may.front may.text all-starts
+      all-ends)
+      ∙ fold-append with_sequence plain_rendition (first ++ more) ends
+      ∙ ap (λ now. fold with_sequence now ends)
+      (fold-append with_sequence plain_rendition first more
+      ∙ ap (λ now. fold with_sequence now more) begun
+      ∙ sym (fold-append with_sequence plain_rendition before more))
+      ∙ sym (fold-append with_sequence plain_rendition (before ++ more) ends)
+      ∙ ended (before ++ more)
+
+  pub carried-wide : text_width (line_bytes (carried_line indent before line)) ≡ text_width line
+  carried-wide =
+      ap text_width (carried-bytes indent before line)
+      ∙ ap (sum_by columns) (parts-visible front text starts ends may.front may.text all-starts
+      all-ends)
+      ∙ ap text_width (take-append-drop (indent_end indent line) line)
 
 -- ---- lines whose styles are carried, one after another
 
@@ -192,71 +181,59 @@ indented-later Is later (line ∷ lines) all =
     (All-head (Is later) line lines all, All-tail (Is later) line lines all)
 
 -- what the lines show, that they end plain, and how wide they are
-pub record AreCarried (styles : List (List ℕ) → List (List ℕ)) (indent later : List ℕ)
-    (before lines : List (List ℕ)) : Type 0 where
-  pub shown : map (λ l. styled_text_by styles [] (line_bytes l))
-      (carried_lines_by styles indent later before lines)
-      ≡ styled_lines_by styles indent later before lines
-  pub plain : All (λ l. EndsPlainBy styles (line_bytes l))
-      (carried_lines_by styles indent later before lines)
-  pub wide : map (λ l. text_width (line_bytes l))
-      (carried_lines_by styles indent later before lines)
+pub record AreCarried (indent later : List ℕ) (before lines : List (List ℕ)) : Type 0 where
+  pub shown : map (λ l. penned_text plain_rendition (line_bytes l))
+      (carried_lines indent later before lines)
+      ≡ penned_lines indent later (rendition_of before) lines
+  pub plain : All (λ l. EndsPlain (line_bytes l)) (carried_lines indent later before lines)
+  pub wide : map (λ l. text_width (line_bytes l)) (carried_lines indent later before lines)
       ≡ map text_width lines
 
-module _ (styles : List (List ℕ) → List (List ℕ)) (rule : IsStyleRule styles) where
-  are_carried : (lines : List (List ℕ)) (indent later : List ℕ) (before : List (List ℕ))
-      → All IsSequence before → EachWithIndent (MayCarryBy styles) indent later lines
-      → AreCarried styles indent later before lines
-  are_carried [] indent later before are all =
-      record {
-        shown = refl;
-        plain = All-nil (λ l. EndsPlainBy styles (line_bytes l));
-        wide = refl;
-      }
-  are_carried (line ∷ lines) indent later before are (may, rest) =
-      let text = after_indent indent line in
-      let now = before ++ sequences text in
-      let others = are_carried lines later later now
-      (All-append IsSequence before (sequences text) are (text-sequences text may.text))
-      (indented-later (MayCarryBy styles) later lines rest) in
-      record {
-        shown = grind (
-          arith,
-          carried-styled styles rule indent before line are may,
-          others.shown,
-        );
-        plain = All-cons (λ l. EndsPlainBy styles (line_bytes l))
-            (carried_line_by styles indent before line)
-            (carried_lines_by styles later later now lines)
-            (carried-plain styles rule indent before line are may) others.plain;
-        wide = grind (arith, carried-wide styles rule indent before line are may, others.wide);
-      }
+are_carried : (lines : List (List ℕ)) (indent later : List ℕ) (before : List (List ℕ))
+    → All IsSequence before → EachWithIndent MayCarry indent later lines
+    → AreCarried indent later before lines
+are_carried [] indent later before are all =
+    record { shown = refl; plain = All-nil (λ l. EndsPlain (line_bytes l)); wide = refl }
+are_carried (line ∷ lines) indent later before are (may, rest) =
+    let text = after_indent indent line in
+    let now = before ++ sequences text in
+    let others = are_carried lines later later now
+    (All-append IsSequence before (sequences text) are (text-sequences text may.text))
+    (indented-later MayCarry later lines rest) in
+    let one = carried-penned indent before line are may in
+    let next = fold-append with_sequence plain_rendition before (sequences text) in
+    record {
+      shown = ap (λ first. first ∷ map (λ l. penned_text plain_rendition (line_bytes l))
+          (carried_lines later later now lines)) one
+          ∙ ap (λ ls. (penned_text plain_rendition (before_text indent line)
+          ++ penned_text (rendition_of before) text) ∷ ls)
+          (others.shown ∙ ap (λ r. penned_lines later later r lines) next);
+      plain = All-cons (λ l. EndsPlain (line_bytes l)) (carried_line indent before line)
+          (carried_lines later later now lines) (carried-plain indent before line are may)
+          others.plain;
+      wide = grind (arith, carried-wide indent before line are may, others.wide);
+    }
 
-  pub carried : (indent later : List ℕ) (lines : List (List ℕ))
-      → EachWithIndent (MayCarryBy styles) indent later lines
-      → AreCarried styles indent later [] lines
-  carried indent later lines = are_carried lines indent later [] (All-nil IsSequence)
+pub carried : (indent later : List ℕ) (lines : List (List ℕ))
+    → EachWithIndent MayCarry indent later lines → AreCarried indent later [] lines
+carried indent later lines = are_carried lines indent later [] (All-nil IsSequence)
 
 -- the text has no sequence
-abbrev pub IsPlainLine : List ℕ → List ℕ → Type 0
+abbrev IsPlainLine : List ℕ → List ℕ → Type 0
 IsPlainLine indent line = sequences (after_indent indent line) ≡ []
 
 -- ---- where no sequence is, and whole lines under indents that leave nothing open
 
-module _ (styles : List (List ℕ) → List (List ℕ)) (rule : IsStyleRule styles) where
-  pub plain-stay : (indent later : List ℕ) (lines : List (List ℕ))
-      → EachWithIndent IsPlainLine indent later lines
-      → carried_lines_by styles indent later [] lines ≡ map Slice lines
-  plain-stay indent later [] all = refl
-  plain-stay indent later (line ∷ lines) (none, rest) =
-      let others = plain-stay later later lines (indented-later IsPlainLine later lines rest) in
-      grind (arith, none, rule.none, others)
+pub plain-stay : (indent later : List ℕ) (lines : List (List ℕ))
+    → EachWithIndent IsPlainLine indent later lines
+    → carried_lines indent later [] lines ≡ map Slice lines
+plain-stay indent later [] all = refl
+plain-stay indent later (line ∷ lines) (none, rest) =
+    let others = plain-stay later later lines (indented-later IsPlainLine later lines rest) in
+    grind (arith, none, others)
 
-  nil-plain : EndsPlainBy styles []
-  nil-plain = (
-    ap (λ cs. styles (flat_map sequence_of (units cs))) chars-nil ∙ rule.none,
-    ap (λ cs. open_link (flat_map sequence_of (units cs))) chars-nil,
-  )
+nil-plain : EndsPlain []
+nil-plain = ap (λ cs. rendition_of (flat_map sequence_of (units cs))) chars-nil
 
 -- what follows a whole text in one
 whole_text-rest : (xs ys : List ℕ) → IsWholeText xs → IsWholeText (xs ++ ys) → IsWholeText ys
@@ -272,62 +249,58 @@ whole_text-rest xs ys front whole =
           (subst (All IsWhole) (text_units-append xs ys front) whole.1)),
     )
 
-module _ (styles : List (List ℕ) → List (List ℕ)) (rule : IsStyleRule styles) where
-  may-carry : (indent line : List ℕ) → IsWholeText indent → EndsPlainBy styles indent
-      → IsWholeText line → MayCarryBy styles indent line
-  may-carry indent line own plain whole = elim (cases_Bool (starts_with nat_eq line indent)) [
-    | inl starts ↦
-        let rest = drop (length indent) line in
-        let shape : line ≡ indent ++ rest = starts_with-rest indent line starts in
-        let front : take (length indent) line ≡ indent =
-        ap (take (length indent)) shape ∙ take_at indent rest _ refl in
-        record {
-          front = rw (starts, front) own;
-          plain = rw (starts, front) plain;
-          text = rw starts (whole_text-rest indent rest own (subst IsWholeText shape whole));
-        }
-    | inr other ↦
-        record {
-          front = rw other nil-whole;
-          plain = rw other (nil-plain styles rule);
-          text = rw other whole;
-        }
-  ]
+may-carry : (indent line : List ℕ) → IsWholeText indent → EndsPlain indent
+    → IsWholeText line → MayCarry indent line
+may-carry indent line own plain whole = elim (cases_Bool (starts_with nat_eq line indent)) [
+  | inl starts ↦
+      let rest = drop (length indent) line in
+      let shape : line ≡ indent ++ rest = starts_with-rest indent line starts in
+      let front : take (length indent) line ≡ indent =
+      ap (take (length indent)) shape ∙ take_at indent rest _ refl in
+      record {
+        front = rw (starts, front) own;
+        plain = rw (starts, front) plain;
+        text = rw starts (whole_text-rest indent rest own (subst IsWholeText shape whole));
+      }
+  | inr other ↦
+      record {
+        front = rw other nil-whole;
+        plain = rw other nil-plain;
+        text = rw other whole;
+      }
+]
 
-  pub all-may_carry : (indent later : List ℕ) (lines : List (List ℕ)) → IsWholeText indent
-      → EndsPlainBy styles indent → IsWholeText later → EndsPlainBy styles later
-      → All IsWholeText lines → EachWithIndent (MayCarryBy styles) indent later lines
-  all-may_carry indent later [] own plain more closed whole = tt
-  all-may_carry indent later (line ∷ lines) own plain more closed whole = (
-    may-carry indent line own plain (All-head IsWholeText line lines whole),
-    All-weaker IsWholeText (MayCarryBy styles later) (λ l. may-carry later l more closed) lines
-        (All-tail IsWholeText line lines whole),
-  )
+pub all-may_carry : (indent later : List ℕ) (lines : List (List ℕ)) → IsWholeText indent
+    → EndsPlain indent → IsWholeText later → EndsPlain later
+    → All IsWholeText lines → EachWithIndent MayCarry indent later lines
+all-may_carry indent later [] own plain more closed whole = tt
+all-may_carry indent later (line ∷ lines) own plain more closed whole = (
+  may-carry indent line own plain (All-head IsWholeText line lines whole),
+  All-weaker IsWholeText (MayCarry later) (λ l. may-carry later l more closed) lines
+      (All-tail IsWholeText line lines whole),
+)
 
-  -- ---- lines without indents
+-- ---- lines without indents
 
-  bare-shown : (lines before : List (List ℕ)) → All IsWholeText lines
-      → flat_map (λ shown. shown) (styled_lines_by styles [] [] before lines)
-      ≡ styled_text_by styles before (concat lines)
-  bare-shown [] before whole = ap (λ cs. styled_by styles before (units cs)) (sym chars-nil)
-  bare-shown (line ∷ lines) before whole =
-      let own = All-head IsWholeText line lines whole in
-      let rest = All-tail IsWholeText line lines whole in
-      grind (
-        arith,
-        chars-nil,
-        text_units-append line (concat lines) own,
-        styled-append styles,
-        bare-shown lines (before ++ sequences line) rest,
-      )
+bare-shown : (lines : List (List ℕ)) (now : Rendition) → All IsWholeText lines
+    → flat_map (λ shown. shown) (penned_lines [] [] now lines) ≡ penned_text now (concat lines)
+bare-shown [] now whole = ap (λ cs. penned_units now (units cs)) (sym chars-nil)
+bare-shown (line ∷ lines) now whole =
+    let own = All-head IsWholeText line lines whole in
+    let rest = All-tail IsWholeText line lines whole in
+    grind (
+      arith,
+      chars-nil,
+      text_units-append line (concat lines) own,
+      penned-append,
+      bare-shown lines (fold with_sequence now (sequences line)) rest,
+    )
 
-  -- the lines, each by itself, show what the text shows that they join to
-  pub bare-carried : (lines : List (List ℕ)) → All IsWholeText lines
-      → flat_map (λ l. styled_text_by styles [] (line_bytes l))
-      (carried_lines_by styles [] [] [] lines)
-      ≡ styled_text_by styles [] (concat lines)
-  bare-carried lines whole =
-      let plain = nil-plain styles rule in
-      let may = all-may_carry [] [] lines nil-whole plain nil-whole plain whole in
-      let all = carried styles rule [] [] lines may in
-      grind (arith, flat_map-map, all.shown, bare-shown lines [] whole)
+-- the lines, each by itself, show what the text shows that they join to
+pub bare-carried : (lines : List (List ℕ)) → All IsWholeText lines
+    → flat_map (λ l. penned_text plain_rendition (line_bytes l)) (carried_lines [] [] [] lines)
+    ≡ penned_text plain_rendition (concat lines)
+bare-carried lines whole =
+    let may = all-may_carry [] [] lines nil-whole nil-plain nil-whole nil-plain whole in
+    let all = carried [] [] lines may in
+    grind (arith, flat_map-map, all.shown, bare-shown lines plain_rendition whole)

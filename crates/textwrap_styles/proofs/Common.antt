@@ -13,11 +13,10 @@ pub use Rattle.std.specs.Prelude.{String, encode_utf8, ◌%◌}
 pub use Rattle.std.specs.Str.{NoCharPasses, NonePass}
 pub use Rattle.std.specs.Str.Iter.{char_indices_rest}
 pub use Rattle.std.specs.declared.borrow.CowStr.{CowStr}
-pub use Rattle.textwrap_styles.specs.OpenStyles.{AreStyles, IsOpenAfter}
-pub use Rattle.textwrap_styles.specs.Styled.{IsWholeText, styled_lines, styled_text}
+pub use Rattle.textwrap_styles.specs.Styled.{IsWholeText}
 pub use Rattle.textwrap_styles.specs.Styles.{carried_lines, closing, link_fields, style_parameters}
 pub use Rattle.textwrap_styles.specs.Styles.{has_target, open_link, open_styles, sequence_of}
-pub use Rattle.textwrap_styles.specs.Styles.{is_reset, is_style, link_end, sequences, style_end}
+pub use Rattle.textwrap_styles.specs.Styles.{is_style, link_end, sequences, style_end}
 pub use Rattle.textwrap_styles.specs.Styles.{is_link, opening, texts_of}
 pub use Rattle.textwrap_layout.proofs.Common.{layout_view}
 pub use Rattle.textwrap_layout.proofs.Text.Lines.{bytes_left, line_bytes-line_view, paragraphs_left}

@@ -1,14 +1,12 @@
 pub mod Common
 pub mod ProvedLaws
-pub mod CarriedLaws
 pub mod CarriedLines
-pub mod FewAttributes
+pub mod FewStyles
 pub mod LaterSettings
-pub mod LastOfEach
-pub mod OpenSequences
+pub mod OpenLinks
 pub mod OpenSettings
 pub mod SettingTexts
-pub mod StyleRules
+pub mod WrittenSettings
 pub mod SequenceTexts
 pub mod Sequences
 pub mod StyleRows
@@ -21,7 +19,6 @@ pub mod PenKnown
 pub mod PenRuns
 pub mod PenOpen
 pub mod PenSequences
-pub mod PenLines
 pub mod PenStyles
 pub mod PenNumbers
 pub mod Refuted

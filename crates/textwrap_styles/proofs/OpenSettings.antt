@@ -3,15 +3,41 @@ use Rattle.textwrap_text.proofs.Common.{All-append, All-cons, All-drop, All-head
 use Rattle.textwrap_text.proofs.Common.{append-nil, append_assoc, arith, cases_Bool, cond, drop}
 use Rattle.textwrap_text.proofs.Common.{false, filter, fold, list_any, not, refl, subst, sym, true}
 use Rattle.textwrap_text.proofs.Common.{◌++◌, ◌-◌, ◌==◌, ◌∙◌, ◌∷◌, ◌≡◌, [], All, Bool, List, ap, ℕ}
-use Rattle.textwrap_text.proofs.Common.{length, suffix_len}
+use Rattle.textwrap_text.proofs.Common.{Bor, length, map, suffix_len}
 use Rattle.std.proofs.lemmas.List.Elements.{All-filter}
 use Rattle.std.proofs.lemmas.List.Folds.{list_any-append}
 use Rattle.std.specs.List.{after_last}
 use Rattle.textwrap_text.proofs.Lists.Parts.{after_last-push}
-use Rattle.textwrap_styles.proofs.OpenSequences.{after-more, after-same, fold-keeps}
 use Rattle.textwrap_styles.specs.Settings.{in_effect, is_end, is_unknown, kind_of, latest, number}
 use Rattle.textwrap_styles.specs.Settings.{open_settings, replaces}
 use Rattle.textwrap_styles.specs.declared.settings.Kind.TheVariants.{Reset}
+
+-- the texts of a list
+abbrev pub texts : List (Bor (List ℕ)) → List (List ℕ)
+texts ss = map (λ s. s.now) ss
+
+-- ---- what is so after some sequences, where a step says what is so after one more
+
+pub after-more : (now : List (List ℕ) → List (List ℕ))
+    (next : List (List ℕ) → List ℕ → List (List ℕ))
+    → ((before : List (List ℕ)) (s : List ℕ) → now (before ++ s ∷ []) ≡ next (now before) s)
+    → (before more : List (List ℕ)) → now (before ++ more) ≡ fold next (now before) more
+after-more now next push before [] = ap now (append-nil before)
+after-more now next push before (s ∷ more) =
+    grind (
+      arith,
+      append_assoc,
+      push before s,
+      after-more now next push (before ++ s ∷ []) more,
+    )
+
+-- what each step keeps, all keep
+fold-keeps : (P : List (List ℕ) → Type 0) (next : List (List ℕ) → List ℕ → List (List ℕ))
+    → ((now : List (List ℕ)) (s : List ℕ) → P now → P (next now s))
+    → (before now : List (List ℕ)) → P now → P (fold next now before)
+fold-keeps P next step [] now kept = kept
+fold-keeps P next step (s ∷ before) now kept =
+    fold-keeps P next step before (next now s) (step now s kept)
 
 -- those that this setting does not take back
 abbrev pub not_replaced : List ℕ → List (List ℕ) → List (List ℕ)
@@ -97,11 +123,6 @@ open_settings-push before t =
     let one = effect-push ss t in
     let all = after_last-push resets before t in
     grind (arith, cases_Bool, one, all)
-
-pub settings-follow : (first second more : List (List ℕ))
-    → open_settings first ≡ open_settings second
-    → open_settings (first ++ more) ≡ open_settings (second ++ more)
-settings-follow = after-same open_settings next_settings open_settings-push
 
 -- ---- what is open is open again
 

@@ -1,177 +1,154 @@
--- The styles that were set since all were taken back, of equal ones the last, give the pen that all
--- sequences gave.
-use Rattle.textwrap_text.proofs.Common.{All, All-cons, All-head, All-nil, All-tail, and_parts, arith}
-use Rattle.textwrap_text.proofs.Common.{cases_Bool, cond, eqb-true, false, filter, fold, length, list_all}
-use Rattle.textwrap_text.proofs.Common.{list_any, map, refl, subst, sym, true, ◌++◌, ◌==◌, ◌||◌}
-use Rattle.textwrap_text.proofs.Common.{◌∙◌, ◌∷◌, ◌≡◌, ◌≤◌, [], Bool, List, ap, ℕ}
+-- What is open gives, set anew, the pen and the link of all sequences, and what ends it gives a plain
+-- pen and no link.
+use Rattle.textwrap_text.proofs.Common.{All, All-head, All-tail, append_assoc, arith, cases_Bool, cond}
+use Rattle.textwrap_text.proofs.Common.{eqb-true, false, filter, flat_map, fold, length, ltb-false}
+use Rattle.textwrap_text.proofs.Common.{nil_from_length, refl, sym, true, ◌++◌, ◌==◌, ◌∙◌, ◌∷◌, ◌≡◌}
+use Rattle.textwrap_text.proofs.Common.{[], Bool, List, ap, ℕ}
 use Rattle.std.proofs.lemmas.List.Sums.{fold-append}
-use Rattle.std.proofs.lemmas.Slice.Eq.{bytes_eq-Decides}
-use Rattle.std.specs.List.{after_last}
-use Rattle.std.specs.Prelude.{⊤}
-use Rattle.std.specs.Str.{bytes_eq}
-use Rattle.std.specs.Str.Parse.{digits_value}
-use Rattle.textwrap_text.proofs.Lists.Parts.{after_last-push}
-use Rattle.textwrap_styles.proofs.CarriedLaws.{styles-carried}
-use Rattle.textwrap_styles.proofs.Common.{is_reset, is_style, line_bytes, open_styles, style_parameters}
-use Rattle.textwrap_styles.proofs.OpenSequences.{after-more}
-use Rattle.textwrap_styles.proofs.PenFields.{between-some}
-use Rattle.textwrap_styles.proofs.PenLines.{carried-ends, carried-pens}
-use Rattle.textwrap_styles.proofs.PenOpen.{left-out, replaces-itself}
-use Rattle.textwrap_styles.proofs.PenRuns.{Changes, apply-changes, changes-if, nothing}
-use Rattle.textwrap_styles.proofs.PenSettings.{alone}
-use Rattle.textwrap_styles.specs.Pen.{Pen, Reading, apply, between, numbers_of, plain_pen, with_code}
-use Rattle.textwrap_styles.specs.Pen.{with_field, with_first}
-use Rattle.textwrap_styles.specs.Penned.{pen_after, pen_of, penned_lines, penned_text, with_sequence}
-use Rattle.textwrap_styles.specs.Styled.{EachWithIndent, MayCarryBy}
-use Rattle.textwrap_styles.specs.Styles.{carried_lines_by, last_of_each}
+use Rattle.textwrap_styles.proofs.Common.{has_target, is_link, is_style, link_end, open_link}
+use Rattle.textwrap_styles.proofs.Common.{open_styles, style_end, style_parameters}
+use Rattle.textwrap_styles.proofs.OpenLinks.{link-plain, next_link, open_link-push}
+use Rattle.textwrap_styles.proofs.OpenSettings.{after-more}
+use Rattle.textwrap_styles.proofs.PenOpen.{open-pen, pen_by, run-append}
+use Rattle.textwrap_styles.proofs.PenRuns.{apply-changes}
+use Rattle.textwrap_styles.proofs.PenSequences.{parameters-pen}
+use Rattle.textwrap_styles.proofs.SequenceTexts.{closing_sequences}
+use Rattle.textwrap_styles.proofs.WrittenSettings.{all-settings, open-back, styles-no_link}
+use Rattle.textwrap_styles.specs.Pen.{Pen, apply, plain_pen, with_code, with_field}
+use Rattle.textwrap_styles.specs.Penned.{Rendition, plain_rendition, rendition_of, with_link}
+use Rattle.textwrap_styles.specs.Penned.{with_sequence, with_style}
+use Rattle.textwrap_styles.specs.Settings.{settings}
+use Rattle.textwrap_styles.specs.Styles.{link_target, settings_of}
 
--- ---- sequences that take all back
+-- ---- the pen and the link, each by itself
 
-zero-field : (p : Pen) → with_field (alone p) (0 ∷ []) ≡ alone plain_pen
-unfolding with_field with_code
-zero-field p = refl
+pens-apart : (ss : List (List ℕ)) (now : Rendition)
+    → (fold with_sequence now ss).pen ≡ fold with_style now.pen ss
+pens-apart [] now = refl
+pens-apart (s ∷ ss) now = pens-apart ss (with_sequence now s)
 
-abbrev AreZeros : List (List ℕ) → Type 0
-AreZeros texts = All (λ f. numbers_of f ≡ 0 ∷ []) texts
+links-apart : (ss : List (List ℕ)) (now : Rendition)
+    → (fold with_sequence now ss).link ≡ fold with_link now.link ss
+links-apart [] now = refl
+links-apart (s ∷ ss) now = links-apart ss (with_sequence now s)
 
--- a zero more in front
-zero-first : (texts : List (List ℕ)) → map (digits_value 10) texts ≡ 0 ∷ []
-    → map (digits_value 10) (with_first 0x30 texts) ≡ 0 ∷ []
-zero-first [] are = cc
-zero-first (t ∷ texts) are = are
+both : (a b : Rendition) → a.pen ≡ b.pen → a.link ≡ b.link → a ≡ b
+both a b pens links =
+    ap (λ p. record { pen = p; link = a.link }) pens
+    ∙ ap (λ l. record { pen = b.pen; link = l }) links
 
-zeros-first : (texts : List (List ℕ)) → AreZeros texts → AreZeros (with_first 0x30 texts)
-zeros-first [] are =
-    All-cons (λ f. numbers_of f ≡ 0 ∷ []) (0x30 ∷ []) [] refl (All-nil (λ f. numbers_of f ≡ 0 ∷ []))
-zeros-first (t ∷ texts) are =
-    All-cons (λ f. numbers_of f ≡ 0 ∷ []) (0x30 ∷ t) texts
-    (zero-first (between 0x3A t) (All-head (λ f. numbers_of f ≡ 0 ∷ []) t texts are))
-    (All-tail (λ f. numbers_of f ≡ 0 ∷ []) t texts are)
+-- sequences of the other kind change nothing
+pens-stay : (ss : List (List ℕ)) (p : Pen) → All (λ s. is_style s ≡ false) ss
+    → fold with_style p ss ≡ p
+pens-stay [] p none = refl
+pens-stay (s ∷ ss) p none =
+    ap (λ b. fold with_style (cond b (apply (style_parameters s) p) p) ss)
+    (All-head (λ t. is_style t ≡ false) s ss none)
+    ∙ pens-stay ss p (All-tail (λ t. is_style t ≡ false) s ss none)
 
-abbrev is_zero : ℕ → Bool
-is_zero c = (c == 0x30) || (c == 0x3B)
+links-stay : (ss : List (List ℕ)) (link : List ℕ) → All (λ s. is_link s ≡ false) ss
+    → fold with_link link ss ≡ link
+links-stay [] link none = refl
+links-stay (s ∷ ss) link none =
+    ap (λ b. fold with_link (cond b (link_target s) link) ss)
+    (All-head (λ t. is_link t ≡ false) s ss none)
+    ∙ links-stay ss link (All-tail (λ t. is_link t ≡ false) s ss none)
 
-zero-fields : (t : List ℕ) → list_all is_zero t ≡ true → AreZeros (between 0x3B t)
-zero-fields [] all =
-    All-cons (λ f. numbers_of f ≡ 0 ∷ []) [] [] refl (All-nil (λ f. numbers_of f ≡ 0 ∷ []))
-zero-fields (c ∷ cs) all =
-    let parts = and_parts (is_zero c) (list_all is_zero cs) all in
-    by (c == 0x3B) refl parts.0 (zero-fields cs parts.1)
+-- ---- the styles that are open
+
+sequence-pen : (s : List ℕ) (p : Pen) → with_style p s ≡ pen_by p (settings_of s)
+sequence-pen s p = by (is_style s) refl
   where
-    by : (semicolon : Bool) → (c == 0x3B) ≡ semicolon → is_zero c ≡ true
-        → AreZeros (between 0x3B cs)
-        → AreZeros (cond semicolon ([] ∷ between 0x3B cs) (with_first c (between 0x3B cs)))
-    by true is one others = All-cons (λ f. numbers_of f ≡ 0 ∷ []) [] (between 0x3B cs) refl others
-    by false other one others =
-        let zero : (c == 0x30) ≡ true = grind (arith, cases_Bool) in
-        subst (λ n. AreZeros (with_first n (between 0x3B cs))) (sym (eqb-true c 0x30 zero))
-        (zeros-first (between 0x3B cs) others)
+    by : (style : Bool) → is_style s ≡ style → cond style (apply (style_parameters s) p) p
+        ≡ pen_by p (cond style (settings (style_parameters s)) [])
+    by false is = refl
+    by true is = parameters-pen (style_parameters s) (grind (arith, cases_Bool, is)) p
 
-read-zeros : (fs : List (List ℕ)) (p : Pen) → 1 ≤ length fs → AreZeros fs
-    → fold with_field (alone p) (map numbers_of fs) ≡ alone plain_pen
-read-zeros [] p some are = absurd (omega arith)
-read-zeros (f ∷ []) p some are =
-    ap (with_field (alone p)) (All-head (λ f. numbers_of f ≡ 0 ∷ []) f [] are) ∙ zero-field p
-read-zeros (f ∷ g ∷ fs) p some are =
-    ap (λ r. fold with_field r (map numbers_of (g ∷ fs)))
-    (ap (with_field (alone p)) (All-head (λ f. numbers_of f ≡ 0 ∷ []) f (g ∷ fs) are)
-    ∙ zero-field p)
-    ∙ read-zeros (g ∷ fs) plain_pen (omega arith)
-    (All-tail (λ f. numbers_of f ≡ 0 ∷ []) f (g ∷ fs) are)
+sequences-pen : (before : List (List ℕ)) (p : Pen)
+    → fold with_style p before ≡ pen_by p (flat_map settings_of before)
+sequences-pen [] p = refl
+sequences-pen (s ∷ before) p =
+    ap (λ q. fold with_style q before) (sequence-pen s p)
+    ∙ sequences-pen before (pen_by p (settings_of s))
+    ∙ sym (run-append apply apply-changes p (settings_of s) (flat_map settings_of before))
 
-reset-plain : (s : List ℕ) (p : Pen) → is_reset s ≡ true → with_sequence p s ≡ plain_pen
-reset-plain s p reset =
-    let t = style_parameters s in
-    let parts = and_parts (is_style s) (list_all is_zero t) reset in
-    ap (λ b. cond b (apply t p) p) parts.0
-    ∙ ap (λ (r : Reading). r.pen)
-    (read-zeros (between 0x3B t) p (between-some 0x3B t) (zero-fields t parts.1))
+-- what they set gives the pen that all sequences gave
+open-styles-pen : (before : List (List ℕ))
+    → fold with_style plain_pen (open_styles before) ≡ fold with_style plain_pen before
+open-styles-pen before =
+    sequences-pen (open_styles before) plain_pen
+    ∙ ap (pen_by plain_pen) (open-back before)
+    ∙ open-pen (flat_map settings_of before) (all-settings before)
+    ∙ sym (sequences-pen before plain_pen)
 
--- ---- sequences, of which the last of equal ones is left
+-- ---- the link that is open
 
-abbrev act : List ℕ → Pen → Pen
-act s p = with_sequence p s
-
-sequence-changes : (s : List ℕ) → Changes (act s)
-sequence-changes s =
-    changes-if (is_style s) (apply (style_parameters s)) (λ p. p)
-    (apply-changes (style_parameters s)) nothing
-
-all-any : (ss : List (List ℕ)) → All (λ (s : List ℕ). ⊤) ss
-all-any [] = All-nil (λ (s : List ℕ). ⊤)
-all-any (s ∷ ss) = All-cons (λ (s : List ℕ). ⊤) s ss tt (all-any ss)
-
-last-pen : (ss : List (List ℕ)) (p : Pen)
-    → fold with_sequence p (last_of_each ss) ≡ fold with_sequence p ss
-last-pen [] p = refl
-last-pen (s ∷ ss) p = by (list_any (bytes_eq s) ss) refl (last-pen ss)
+next-link : (s : List ℕ) (link : List (List ℕ)) (address : List ℕ)
+    → fold with_link [] link ≡ address
+    → fold with_link [] (next_link link s) ≡ with_link address s
+next-link s link address same = by (is_link s) (has_target s) refl refl
   where
-    by : (later : Bool) → list_any (bytes_eq s) ss ≡ later
-        → ((q : Pen) → fold with_sequence q (last_of_each ss) ≡ fold with_sequence q ss)
-        → fold with_sequence p (cond later (last_of_each ss) (s ∷ last_of_each ss))
-        ≡ fold with_sequence p (s ∷ ss)
-    by false is others = others (act s p)
-    by true is others =
-        others p
-        ∙ sym (left-out act sequence-changes (λ t. ⊤) (bytes_eq s) s
-        (λ t any same. subst (λ u. (q : Pen) → act u (act s q) ≡ act u q)
-        ((bytes_eq-Decides s t).0 same) (replaces-itself act sequence-changes s))
-        ss p (all-any ss) is)
+    by : (sets target : Bool) → is_link s ≡ sets → has_target s ≡ target
+        → fold with_link [] (cond sets (cond target (s ∷ []) []) link)
+        ≡ cond sets (link_target s) address
+    by false target is has = same
+    by true true is has = ap (λ b. cond b (link_target s) []) is
+    by true false is none =
+        sym (nil_from_length (link_target s)
+        (omega (arith, ltb-false 0 (length (link_target s)) none)))
 
-styles-alone : (ss : List (List ℕ)) (p : Pen)
-    → fold with_sequence p (filter is_style ss) ≡ fold with_sequence p ss
-styles-alone [] p = refl
-styles-alone (s ∷ ss) p = by (is_style s) refl (styles-alone ss)
-  where
-    by : (style : Bool) → is_style s ≡ style
-        → ((q : Pen) → fold with_sequence q (filter is_style ss) ≡ fold with_sequence q ss)
-        → fold with_sequence p (cond style (s ∷ filter is_style ss) (filter is_style ss))
-        ≡ fold with_sequence p (s ∷ ss)
-    by true is others = others (act s p)
-    by false is others =
-        others p
-        ∙ ap (λ b. fold with_sequence (cond b (apply (style_parameters s) p) p) ss) (sym is)
+links-left : (before link : List (List ℕ)) (address : List ℕ) → fold with_link [] link ≡ address
+    → fold with_link [] (fold next_link link before) ≡ fold with_link address before
+links-left [] link address same = same
+links-left (s ∷ before) link address same =
+    links-left before (next_link link s) (with_link address s) (next-link s link address same)
 
--- ---- since all were taken back
+open-link : (before : List (List ℕ))
+    → fold with_link [] (open_link before) ≡ fold with_link [] before
+open-link before =
+    ap (fold with_link []) (after-more open_link next_link open_link-push [] before)
+    ∙ links-left before [] [] refl
 
-abbrev next_left : List (List ℕ) → List ℕ → List (List ℕ)
-next_left ss s = cond (is_reset s) [] (ss ++ s ∷ [])
+-- ---- both
 
-since-reset : (more before : List (List ℕ)) (p : Pen) → pen_of before ≡ p
-    → pen_of (fold next_left before more) ≡ fold with_sequence p more
-since-reset [] before p same = same
-since-reset (s ∷ more) before p same =
-    since-reset more (next_left before s) (with_sequence p s) (by (is_reset s) refl)
-  where
-    by : (reset : Bool) → is_reset s ≡ reset
-        → pen_of (cond reset [] (before ++ s ∷ [])) ≡ with_sequence p s
-    by true is = sym (reset-plain s p is)
-    by false other =
-        fold-append with_sequence plain_pen before (s ∷ []) ∙ ap (λ q. with_sequence q s) same
-
-pub styles-pen : (before : List (List ℕ)) → pen_of (open_styles before) ≡ pen_of before
+pub styles-pen : (before : List (List ℕ))
+    → rendition_of (open_link before ++ open_styles before) ≡ rendition_of before
 styles-pen before =
-    let left = after_last is_reset before in
-    last-pen (filter is_style left) plain_pen
-    ∙ styles-alone left plain_pen
-    ∙ ap pen_of (after-more (after_last is_reset) next_left (after_last-push is_reset) [] before)
-    ∙ since-reset before [] plain_pen refl
+    let link = open_link before in
+    let styles = open_styles before in
+    both (rendition_of (link ++ styles)) (rendition_of before)
+    (pens-apart (link ++ styles) plain_rendition
+    ∙ fold-append with_style plain_pen link styles
+    ∙ ap (λ p. fold with_style p styles) (pens-stay link plain_pen (link-plain before))
+    ∙ open-styles-pen before ∙ sym (pens-apart before plain_rendition))
+    (links-apart (link ++ styles) plain_rendition
+    ∙ fold-append with_link [] link styles
+    ∙ links-stay styles (fold with_link [] link) (styles-no_link before)
+    ∙ open-link before ∙ sym (links-apart before plain_rendition))
 
--- ---- lines
+-- ---- what ends them
 
-pub styles-keep : (indent later : List ℕ) (lines : List (List ℕ))
-    → EachWithIndent (MayCarryBy open_styles) indent later lines
-    → map (λ l. penned_text plain_pen (line_bytes l))
-    (carried_lines_by open_styles indent later [] lines)
-    ≡ penned_lines indent later plain_pen lines
-styles-keep indent later lines may =
-    carried-pens open_styles styles-pen indent later lines
-    (styles-carried indent later lines may)
+ends-plain : (now : Rendition) (plain unlinked : Bool) → (plain ≡ true → now.pen ≡ plain_pen)
+    → (unlinked ≡ true → now.link ≡ [])
+    → fold with_sequence now (cond plain [] (style_end ∷ []) ++ cond unlinked [] (link_end ∷ []))
+    ≡ plain_rendition
+unfolding with_field with_code
+ends-plain now true true pen link = both now plain_rendition (pen refl) (link refl)
+ends-plain now true false pen link =
+    ap (λ p. record { pen = p; link = [] }) (pen refl)
+ends-plain now false true pen link =
+    ap (λ l. record { pen = plain_pen; link = l }) (link refl)
+ends-plain now false false pen link = refl
 
-pub styles-end : (indent later : List ℕ) (lines : List (List ℕ))
-    → EachWithIndent (MayCarryBy open_styles) indent later lines
-    → All (λ l. pen_after (line_bytes l) ≡ plain_pen)
-    (carried_lines_by open_styles indent later [] lines)
-styles-end indent later lines may =
-    carried-ends open_styles styles-pen indent later lines
-    (styles-carried indent later lines may)
+pub ended : (before : List (List ℕ))
+    → rendition_of (before ++ closing_sequences before) ≡ plain_rendition
+ended before =
+    fold-append with_sequence plain_rendition before (closing_sequences before)
+    ∙ ends-plain (rendition_of before) (length (open_styles before) == 0)
+    (length (open_link before) == 0)
+    (λ none. pens-apart before plain_rendition ∙ sym (open-styles-pen before)
+    ∙ ap (fold with_style plain_pen)
+    (nil_from_length (open_styles before) (eqb-true (length (open_styles before)) 0 none)))
+    (λ none. links-apart before plain_rendition ∙ sym (open-link before)
+    ∙ ap (fold with_link [])
+    (nil_from_length (open_link before) (eqb-true (length (open_link before)) 0 none)))

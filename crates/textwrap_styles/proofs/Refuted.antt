@@ -5,12 +5,13 @@ use Rattle.textwrap_text.proofs.Common.{ℕ, ◌∷◌, ◌≡◌, []}
 use Rattle.textwrap_styles.specs.Pen.{Color, Direct, Indexed, Other, Own, Pen, plain_pen, with_code}
 use Rattle.textwrap_styles.specs.Pen.{with_field}
 use Rattle.textwrap_styles.specs.Penned.{PennedCharacter, penned_lines, penned_text}
+use Rattle.textwrap_styles.specs.Penned.{plain_rendition}
 use Rattle.std.specs.Str.{chars}
 use lib.Utf8.{encode}
 
 abbrev first_pen : List PennedCharacter → Pen
 first_pen [] = plain_pen
-first_pen (c ∷ cs) = c.pen
+first_pen (c ∷ cs) = c.rendition.pen
 
 abbrev last_pen : List (List PennedCharacter) → Pen
 last_pen [] = plain_pen
@@ -18,13 +19,13 @@ last_pen (line ∷ []) = first_pen line
 last_pen (line ∷ other ∷ lines) = last_pen (other ∷ lines)
 
 abbrev shown : List (List ℕ) → List (List PennedCharacter)
-shown lines = map (penned_text plain_pen) lines
+shown lines = map (penned_text plain_rendition) lines
 
 -- Of "a" in faint, 22 and "b", and "c" the last line is plain.
 pub faint_left_by_22 :
     shown (codes "\u{1b}[2ma\u{1b}[0m" ∷ codes "\u{1b}[2m\u{1b}[22mb\u{1b}[0m"
     ∷ codes "\u{1b}[2mc\u{1b}[0m" ∷ [])
-    ≡ penned_lines [] [] plain_pen (codes "\u{1b}[2ma" ∷ codes "\u{1b}[22mb" ∷ codes "c" ∷ [])
+    ≡ penned_lines [] [] plain_rendition (codes "\u{1b}[2ma" ∷ codes "\u{1b}[22mb" ∷ codes "c" ∷ [])
     → ⊥
 unfolding chars encode with_field with_code
 faint_left_by_22 same = true≢false (ap (λ lines. (last_pen lines).faint) same)
@@ -38,7 +39,7 @@ is_own (Other ns) = false
 -- Of "a" in red on green, 39 and "b", and "c" the last line is on green.
 pub background_ended_by_39 :
     shown (codes "\u{1b}[31;42ma\u{1b}[39mb\u{1b}[0m" ∷ codes "\u{1b}[31mc\u{1b}[0m" ∷ [])
-    ≡ penned_lines [] [] plain_pen (codes "\u{1b}[31;42ma\u{1b}[39mb" ∷ codes "c" ∷ []) → ⊥
+    ≡ penned_lines [] [] plain_rendition (codes "\u{1b}[31;42ma\u{1b}[39mb" ∷ codes "c" ∷ []) → ⊥
 unfolding chars encode with_field with_code
 background_ended_by_39 same =
     true≢false (ap (λ lines. is_own (last_pen lines).background) same)

@@ -11,13 +11,13 @@ use Rattle.textwrap_text.specs.Units.{characters, visible_of, Sequence, TextUnit
 use Rattle.textwrap_styles.proofs.Common.{agree_below_at, units-append, IsWholeText, open_styles}
 use Rattle.textwrap_styles.proofs.Common.{sequence_of, open_link, sequences, link_end}
 use Rattle.textwrap_styles.proofs.Common.{style_end, IsWhole, concat, units, ends}
-use Rattle.textwrap_styles.specs.Styled.{styled_by, styled_text_by}
-use Rattle.textwrap_styles.specs.Styles.{closing_by}
+use Rattle.textwrap_styles.specs.Styles.{closing}
 use Rattle.textwrap_text.proofs.Texts.{utf8-front, utf8-back}
 use Rattle.textwrap_text.proofs.Units.Texts.{units_unique, units-tile}
 use lib.Utf8.{encode}
-use Rattle.textwrap_styles.proofs.OpenSequences.{open_styles-append, open_link-append, next_styles}
-use Rattle.textwrap_styles.proofs.OpenSequences.{link-follows, next_link}
+use Rattle.std.proofs.lemmas.List.Sums.{fold-append}
+use Rattle.textwrap_styles.specs.Penned.{Rendition, penned_text, penned_units, plain_rendition}
+use Rattle.textwrap_styles.specs.Penned.{rendition_of, with_sequence}
 
 -- ---- the units of texts of whole sequences that are put together
 
@@ -116,19 +116,13 @@ none-visible (s ∷ xs) = none-visible xs
 
 -- ---- what ends the styles and the link that are open
 
--- the sequences that end these
-abbrev ends_of : List (List ℕ) → List (List ℕ) → List (List ℕ)
-ends_of styles link =
-    cond (length styles == 0) [] (style_end ∷ []) ++ cond (length link == 0) [] (link_end ∷ [])
+abbrev pub closing_sequences : List (List ℕ) → List (List ℕ)
+closing_sequences before =
+    cond (length (open_styles before) == 0) [] (style_end ∷ [])
+    ++ cond (length (open_link before) == 0) [] (link_end ∷ [])
 
--- these, where this says which styles are open
-module _ (styles : List (List ℕ) → List (List ℕ)) where
-  abbrev pub closing_sequences : List (List ℕ) → List (List ℕ)
-  closing_sequences before = ends_of (styles before) (open_link before)
-
-  pub closing-is : (before : List (List ℕ))
-      → closing_by styles before ≡ concat (closing_sequences before)
-  closing-is before = grind (arith, cases_Bool)
+pub closing-is : (before : List (List ℕ)) → closing before ≡ concat (closing_sequences before)
+closing-is before = grind (arith, cases_Bool)
 
 style_end-is : IsSequence style_end
 unfolding chars encode
@@ -144,10 +138,9 @@ link_end-is =
     unit-sequence link_end (link_end, (refl, refl))
     (body, refl, refl, λ k. agree_below_at (λ i. ends (take i body)) (λ i. false) 6 k refl)
 
-pub closing-sequences : (styles : List (List ℕ) → List (List ℕ)) (before : List (List ℕ))
-    → All IsSequence (closing_sequences styles before)
-closing-sequences styles before =
-    let plain = length (styles before) == 0 in
+pub closing-sequences : (before : List (List ℕ)) → All IsSequence (closing_sequences before)
+closing-sequences before =
+    let plain = length (open_styles before) == 0 in
     let unlinked = length (open_link before) == 0 in
     All-append IsSequence (cond plain [] (style_end ∷ [])) (cond unlinked [] (link_end ∷ []))
     (one style_end style_end-is plain) (one link_end link_end-is unlinked)
@@ -156,74 +149,22 @@ closing-sequences styles before =
     one s is true = All-nil IsSequence
     one s is false = All-cons IsSequence s [] is (All-nil IsSequence)
 
--- ---- nothing is open after them
+-- ---- what units show
 
-styles-end : (styles link : List (List ℕ)) → fold next_styles styles (ends_of styles link) ≡ []
-styles-end styles link = grind (arith, cases_Bool, nil_from_length, eqb-true, append-nil)
+pub penned-append : (us vs : List TextUnit) (now : Rendition)
+    → penned_units now (us ++ vs) ≡ penned_units now us
+    ++ penned_units (fold with_sequence now (flat_map sequence_of us)) vs
+penned-append [] vs now = refl
+penned-append (Visible c ∷ us) vs now =
+    ap (λ shown. record { character = c; rendition = now } ∷ shown) (penned-append us vs now)
+penned-append (Sequence cs ∷ us) vs now =
+    penned-append us vs (with_sequence now (encode_utf8_all cs))
 
-link-end : (styles link : List (List ℕ)) → fold next_link link (ends_of styles link) ≡ []
-link-end styles link = grind (arith, cases_Bool, nil_from_length, eqb-true)
-
-pub styles-ended : (before : List (List ℕ))
-    → open_styles (before ++ closing_sequences open_styles before) ≡ []
-styles-ended before =
-    open_styles-append before (closing_sequences open_styles before)
-    ∙ styles-end (open_styles before) (open_link before)
-
-pub link-ended : (styles : List (List ℕ) → List (List ℕ)) (before : List (List ℕ))
-    → open_link (before ++ closing_sequences styles before) ≡ []
-link-ended styles before =
-    open_link-append before (closing_sequences styles before)
-    ∙ link-end (styles before) (open_link before)
-
--- ---- what has to hold of a rule that says which styles are open
-
-pub record IsStyleRule (styles : List (List ℕ) → List (List ℕ)) : Type 0 where
-  -- none before any sequence, and after more what depends on those before alone
-  pub none : styles [] ≡ []
-  pub follow : (first second more : List (List ℕ)) → styles first ≡ styles second
-      → styles (first ++ more) ≡ styles (second ++ more)
-  -- the styles and the link are open again once they are set anew, and end as they are ended
-  pub again : (front before : List (List ℕ)) → styles front ≡ []
-      → styles (front ++ (open_link before ++ styles before)) ≡ styles before
-  pub link_again : (front before : List (List ℕ)) → open_link front ≡ []
-      → open_link (front ++ (open_link before ++ styles before)) ≡ open_link before
-  pub ended : (before : List (List ℕ)) → styles (before ++ closing_sequences styles before) ≡ []
-  pub sequences : (before : List (List ℕ)) → All IsSequence before
-      → All IsSequence (styles before)
-
--- ---- what units show after some sequences
-
-module _ (styles : List (List ℕ) → List (List ℕ)) where
-  -- units show the same where the same is open
-  pub styled-same : (rule : IsStyleRule styles) (us : List TextUnit) (first second : List (List ℕ))
-      → open_link first ≡ open_link second → styles first ≡ styles second
-      → styled_by styles first us ≡ styled_by styles second us
-  styled-same rule [] first second links same = refl
-  styled-same rule (Visible c ∷ us) first second links same =
-      let others = styled-same rule us first second links same in
-      grind (arith, links, same, others)
-  styled-same rule (Sequence cs ∷ us) first second links same =
-      let one = encode_utf8_all cs ∷ [] in
-      styled-same rule us (first ++ one) (second ++ one) (link-follows first second one links)
-      (rule.follow first second one same)
-
-  pub styled-append : (us vs : List TextUnit) (before : List (List ℕ))
-      → styled_by styles before (us ++ vs)
-      ≡ styled_by styles before us
-      ++ styled_by styles (before ++ flat_map sequence_of us) vs
-  styled-append [] vs before = ap (λ b. styled_by styles b vs) (sym (append-nil before))
-  styled-append (Visible c ∷ us) vs before =
-      ap (λ shown. record { character = c; link = open_link before; styles = styles before }
-      ∷ shown) (styled-append us vs before)
-  styled-append (Sequence cs ∷ us) vs before =
-      grind (arith, append_assoc, styled-append us vs (before ++ encode_utf8_all cs ∷ []))
-
-  -- sequences show nothing
-  pub sequences-show : (xs before : List (List ℕ))
-      → styled_by styles before (sequence_units xs) ≡ []
-  sequences-show [] before = refl
-  sequences-show (s ∷ xs) before = sequences-show xs (before ++ encode_utf8_all (chars s) ∷ [])
+-- sequences show nothing
+pub sequences-show : (xs : List (List ℕ)) (now : Rendition)
+    → penned_units now (sequence_units xs) ≡ []
+sequences-show [] now = refl
+sequences-show (s ∷ xs) now = sequences-show xs (with_sequence now (encode_utf8_all (chars s)))
 
 -- ---- what stands before a text, and the text, between sequences: its units, and what it shows
 
@@ -266,19 +207,28 @@ module _ (front text : List ℕ) (starts ends : List (List ℕ)) (front_whole : 
         text_units-append,
       )
 
-  pub parts-styled : (styles : List (List ℕ) → List (List ℕ)) → IsStyleRule styles
-      → (before : List (List ℕ)) → open_link (sequences front ++ starts) ≡ open_link before
-      → styles (sequences front ++ starts) ≡ styles before
-      → styled_text_by styles [] (front ++ concat starts ++ text ++ concat ends)
-      ≡ styled_text_by styles [] front ++ styled_text_by styles before text
-  parts-styled styles rule before links same =
-      grind (
-        arith,
-        parts-units,
-        styled-append styles,
-        sequences-show styles,
-        append-nil,
-        flat_map-append,
-        units-again,
-        styled-same styles rule,
-      )
+  -- where what sets anew what is open gives this
+  pub parts-penned : (now : Rendition) → rendition_of (sequences front ++ starts) ≡ now
+      → penned_text plain_rendition (front ++ concat starts ++ text ++ concat ends)
+      ≡ penned_text plain_rendition front ++ penned_text now text
+  parts-penned now is =
+      let us = units (chars front) in
+      let ss = sequence_units starts in
+      let vs = units (chars text) in
+      let all = us ++ ss ++ vs in
+      let begun : rendition_of (flat_map sequence_of (us ++ ss)) ≡ now =
+      ap rendition_of (flat_map-append sequence_of us ss
+      ∙ ap (λ xs. sequences front ++ xs) (units-again starts are_starts)) ∙ is in
+      let first : penned_units plain_rendition (us ++ ss) ≡ penned_text plain_rendition front =
+      penned-append us ss plain_rendition
+      ∙ ap (λ cs. penned_text plain_rendition front ++ cs)
+      (sequences-show starts (rendition_of (sequences front)))
+      ∙ append-nil (penned_text plain_rendition front) in
+      ap (penned_units plain_rendition) parts-units
+      ∙ penned-append all (sequence_units ends) plain_rendition
+      ∙ ap (λ cs. penned_units plain_rendition all ++ cs)
+      (sequences-show ends (rendition_of (flat_map sequence_of all)))
+      ∙ append-nil (penned_units plain_rendition all)
+      ∙ penned-append (us ++ ss) vs plain_rendition
+      ∙ ap (λ r. penned_units plain_rendition (us ++ ss) ++ penned_units r vs) begun
+      ∙ ap (λ cs. cs ++ penned_text now text) first

@@ -11,7 +11,7 @@ use Rattle.textwrap_text.proofs.Common.{◌≢◌}
 use Rattle.textwrap_styles.proofs.Common.{starts_with-rest, style_parameters, stripped_suffix}
 use Rattle.textwrap_styles.proofs.Common.{NoCharPasses, encode_ascii, MatchOption, encode_utf8}
 use Rattle.textwrap_styles.proofs.Common.{is_in_range, link_fields, sequence_of, read-start, State}
-use Rattle.textwrap_styles.proofs.Common.{option_or, read-next, sequences, NonePass, is_reset}
+use Rattle.textwrap_styles.proofs.Common.{option_or, read-next, sequences, NonePass}
 use Rattle.textwrap_styles.proofs.Common.{is_style, list_any, read-all, is_link, IsRead, units}
 use Rattle.textwrap_text.proofs.Lists.Parts.{ends_with-after, ends_with-other, ends_with-true}
 use Rattle.std.specs.Str.Pattern.{FindsTextSuffix, StripsSuffix}
@@ -24,11 +24,7 @@ use Rattle.std.proofs.lemmas.Str.{IsCharBoundary-from_rest}
 use Rattle.textwrap_text.specs.Units.{escape_len}
 use Rattle.textwrap_words.proofs.Word.Breaking.{units_past-skip}
 
--- ---- a sequence that sets a style is no link, and what takes all styles back sets a style
-
-pub reset-is_style : (s : List ℕ) → is_reset s ≡ true → is_style s ≡ true
-reset-is_style s is =
-    (and_parts (is_style s) (list_all (λ c. (c == 0x30) || (c == 0x3B)) (style_parameters s)) is).0
+-- ---- a style is no link
 
 pub style-no_link : (s : List ℕ) → is_style s ≡ true → is_link s ≡ false
 style-no_link s is =

@@ -1,17 +1,39 @@
 -- What is open at a place of a text, as the code keeps it.
-use Rattle.std.specs.Prelude.{◌≡◌, ◌≤◌, ℕ, List, map}
+use Rattle.std.specs.Prelude.{◌≡◌, ◌<◌, ◌&&◌, ◌==◌, ℕ, List, bytes_eq, map, false}
+use Rattle.std.specs.Borrow.{Bor}
+use Rattle.std.specs.BTreeSet.{contains}
+use Rattle.std.specs.Cmp.Lexicographic.{slice_cmp}
+use Rattle.std.specs.List.{flat_map, list_any, slice_index_or}
 use Rattle.std.specs.Option.{option_copied, option_to_list}
-use Rattle.textwrap_styles.specs.Styles.{last_of_each, open_link, open_styles}
+use Rattle.std.specs.Ordering.{nat_cmp}
+use Rattle.textwrap_styles.specs.Styles.{open_link, settings_of}
+use Rattle.textwrap_styles.specs.Settings.{in_effect, is_unknown, kind_of, latest, number}
+use Rattle.textwrap_styles.specs.Settings.{open_settings}
+use Rattle.textwrap_styles.specs.declared.latest.Later.{Later}
 use Rattle.textwrap_styles.specs.declared.styles.OpenStyles.{OpenStyles}
-use Rattle.textwrap_styles.specs.declared.styles.TheConstants.{COMPARED}
 
--- these styles are open: of equal ones that were kept the last, and where few were added, there are
--- no equal ones
-pub record AreStyles {Z : Type 0} (styles : List (List ℕ)) (state : OpenStyles Z) : Type 0 where
-  pub last : last_of_each (map (λ s. s.now) state.styles.items) ≡ styles
-  pub few : state.added ≤ COMPARED → map (λ s. s.now) state.styles.items ≡ styles
+-- of the settings that are kept in the middle of a line, these are open
+abbrev pub AreOpen : {Z : Type 0} → List (List ℕ) → OpenStyles Z → Type 0
+AreOpen settings state = in_effect (latest (map (λ s. s.now) state.settings.items)) ≡ settings
 
--- this is open after these sequences
-pub record IsOpenAfter {Z : Type 0} (before : List (List ℕ)) (state : OpenStyles Z) : Type 0 where
-  pub styles : AreStyles (open_styles before) state
+-- and these settings alone are kept where a line begins
+abbrev pub AreKept : {Z : Type 0} → List (List ℕ) → OpenStyles Z → Type 0
+AreKept settings state = map (λ s. s.now) state.settings.items ≡ settings
+
+-- this is open after these sequences, in the middle of a line
+pub record IsReadTo {Z : Type 0} (before : List (List ℕ)) (state : OpenStyles Z) : Type 0 where
+  pub settings : AreOpen (open_settings (flat_map settings_of before)) state
   pub link : option_to_list (option_copied state.link) ≡ open_link before
+
+-- and where a line begins
+pub record IsKeptAfter {Z : Type 0} (before : List (List ℕ)) (state : OpenStyles Z) : Type 0
+  where
+    pub settings : AreKept (open_settings (flat_map settings_of before)) state
+    pub link : option_to_list (option_copied state.link) ≡ open_link before
+
+-- these settings were added, the last ones first
+pub record AreLater {Z : Type 0} (later : List (List ℕ)) (state : Later Z) : Type 0 where
+  pub kinds : (n : ℕ) → n < 16
+      → slice_index_or state.kinds n false ≡ list_any (λ t. number (kind_of t) == n) later
+  pub unknown : (s : Bor (List ℕ)) → contains (λ x y. slice_cmp nat_cmp x.now y.now) state.unknown s
+      ≡ list_any (λ t. is_unknown (kind_of t) && bytes_eq t s.now) later

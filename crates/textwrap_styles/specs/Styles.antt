@@ -1,15 +1,16 @@
 -- Styles and links that go on over the ends of lines: each line sets anew what is open where it
 -- begins, and ends plain.
 use Rattle.std.specs.Prelude.{ℕ, ◌-◌, Bool, ◌&&◌, ◌||◌, ◌==◌, nat_eq, nat_lt, List, [], ◌∷◌, ◌++◌}
-use Rattle.std.specs.Prelude.{length, take, drop, filter, chars, encode_utf8_all, codes, bytes_eq}
+use Rattle.std.specs.Prelude.{length, take, drop, filter, chars, encode_utf8_all, codes}
 use Rattle.std.specs.Prelude.{if◌then◌else◌, map}
 use Rattle.std.specs.Int.{is_in_range}
-use Rattle.std.specs.List.{after_first, after_last, concat, ends_with, flat_map, list_all, list_any}
+use Rattle.std.specs.List.{after_first, concat, ends_with, flat_map, list_all, list_any}
 use Rattle.std.specs.List.{starts_with}
 use Rattle.std.specs.declared.borrow.CowStr.{CowStr}
 use Rattle.textwrap_text.specs.Units.{TextUnit, Visible, Sequence, units}
 use Rattle.textwrap_layout.specs.Paragraph.{Line, Built, Slice, line_bytes, line_view}
 use Rattle.textwrap_styles.specs.Indents.{after_indent, before_text}
+use Rattle.textwrap_styles.specs.Settings.{open_settings, settings}
 
 -- the texts of lines
 abbrev pub texts_of : {Z : Type 0} → List (CowStr Z) → List (List ℕ)
@@ -25,7 +26,7 @@ sequences text = flat_map sequence_of (units (chars text))
 
 -- ---- what a sequence does
 
--- ESC and `[`, digits, colons or semicolons, and `m` set a style
+-- ESC and `[`, digits, colons or semicolons, and `m` are a style
 abbrev pub style_parameters : List ℕ → List ℕ
 style_parameters sequence = take (length sequence - 3) (drop 2 sequence)
 
@@ -33,11 +34,6 @@ abbrev pub is_style : List ℕ → Bool
 is_style sequence =
     starts_with nat_eq sequence (codes "\u{1b}[") && ends_with nat_eq sequence (codes "m")
     && list_all (is_in_range 0x30 0x3B) (style_parameters sequence)
-
--- no parameters, or zeros and semicolons alone, take all styles back
-abbrev pub is_reset : List ℕ → Bool
-is_reset sequence =
-    is_style sequence && list_all (λ c. (c == 0x30) || (c == 0x3B)) (style_parameters sequence)
 
 -- ESC and `]8;`, parameters, a semicolon, a target, and the end of a command set a link, or end one
 -- where the target is empty
@@ -52,21 +48,25 @@ is_link sequence =
     && (ends_with nat_eq sequence (codes "\u{7}") || ends_with nat_eq sequence (codes "\u{1b}\\"))
     && list_any (λ c. c == 0x3B) (link_fields sequence)
 
+abbrev pub link_target : List ℕ → List ℕ
+link_target sequence = after_first (λ c. c == 0x3B) (link_fields sequence)
+
 abbrev pub has_target : List ℕ → Bool
-has_target sequence = nat_lt 0 (length (after_first (λ c. c == 0x3B) (link_fields sequence)))
+has_target sequence = nat_lt 0 (length (link_target sequence))
+
+-- the settings of a style
+abbrev pub settings_of : List ℕ → List (List ℕ)
+settings_of sequence = if is_style sequence then settings (style_parameters sequence) else []
+
+-- the sequence that is this one setting
+abbrev pub written : List ℕ → List ℕ
+written setting = codes "\u{1b}[" ++ setting ++ codes "m"
 
 -- ---- what is open after such sequences
 
--- of equal ones only the last
-abbrev pub last_of_each : List (List ℕ) → List (List ℕ)
-last_of_each [] = []
-last_of_each (s ∷ ss) =
-    if list_any (bytes_eq s) ss then last_of_each ss else s ∷ last_of_each ss
-
--- the styles that were set since all were taken back, and of equal ones the last: it sets the same
--- again
+-- the settings that are open, each as the sequence that sets it
 abbrev pub open_styles : List (List ℕ) → List (List ℕ)
-open_styles before = last_of_each (filter is_style (after_last is_reset before))
+open_styles before = map written (open_settings (flat_map settings_of before))
 
 -- the last link, if it has a target
 abbrev pub open_link : List (List ℕ) → List (List ℕ)
@@ -79,44 +79,29 @@ style_end = codes "\u{1b}[0m"
 abbrev pub link_end : List ℕ
 link_end = codes "\u{1b}]8;;\u{1b}\\"
 
--- ---- the lines, where this says which styles are open after some sequences, each as what sets it
+-- ---- the lines
 
-module _ (styles : List (List ℕ) → List (List ℕ)) where
-  -- what sets anew what is open, and what ends it
-  abbrev pub opening_by : List (List ℕ) → List ℕ
-  opening_by before = concat (open_link before) ++ concat (styles before)
-
-  abbrev pub closing_by : List (List ℕ) → List ℕ
-  closing_by before =
-      (if length (styles before) == 0 then [] else style_end)
-      ++ (if length (open_link before) == 0 then [] else link_end)
-
-  -- the line, which sets anew after its indent what is open after these sequences, and ends plain
-  abbrev pub carried_line_by : List ℕ → List (List ℕ) → List ℕ → Line
-  carried_line_by indent before line =
-      let text = after_indent indent line in
-      let start = opening_by before in
-      let end = closing_by (before ++ sequences text) in
-      if length (start ++ end) == 0 then Slice line
-      else Built (before_text indent line ++ start ++ text ++ end)
-
-  -- the lines, of which the first has this indent and the others the later one
-  abbrev pub carried_lines_by : List ℕ → List ℕ → List (List ℕ) → List (List ℕ) → List Line
-  carried_lines_by indent later before [] = []
-  carried_lines_by indent later before (line ∷ lines) =
-      carried_line_by indent before line
-      ∷ carried_lines_by later later (before ++ sequences (after_indent indent line)) lines
-
--- ---- the lines, where all styles are open that were set since all were taken back
-
+-- what sets anew what is open, and what ends it
 abbrev pub opening : List (List ℕ) → List ℕ
-opening = opening_by open_styles
+opening before = concat (open_link before) ++ concat (open_styles before)
 
 abbrev pub closing : List (List ℕ) → List ℕ
-closing = closing_by open_styles
+closing before =
+    (if length (open_styles before) == 0 then [] else style_end)
+    ++ (if length (open_link before) == 0 then [] else link_end)
 
+-- the line, which sets anew after its indent what is open after these sequences, and ends plain
 abbrev pub carried_line : List ℕ → List (List ℕ) → List ℕ → Line
-carried_line = carried_line_by open_styles
+carried_line indent before line =
+    let text = after_indent indent line in
+    let start = opening before in
+    let end = closing (before ++ sequences text) in
+    if length (start ++ end) == 0 then Slice line
+    else Built (before_text indent line ++ start ++ text ++ end)
 
+-- the lines, of which the first has this indent and the others the later one
 abbrev pub carried_lines : List ℕ → List ℕ → List (List ℕ) → List (List ℕ) → List Line
-carried_lines = carried_lines_by open_styles
+carried_lines indent later before [] = []
+carried_lines indent later before (line ∷ lines) =
+    carried_line indent before line
+    ∷ carried_lines later later (before ++ sequences (after_indent indent line)) lines

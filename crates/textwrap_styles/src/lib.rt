@@ -8,12 +8,11 @@
 //! Of `"a \x1b[1mb"` and `"c"` the lines are `"a \x1b[1mb\x1b[0m"` and `"\x1b[1mc\x1b[0m"`.
 #![tactic(auto)]
 
-pub use attributes::carry_attributes;
 pub use styles::carry_styles;
 
-mod attributes;
 mod indents;
 pub mod inner;
+mod latest;
 pub mod laws;
 mod settings;
 mod styles;

@@ -1,26 +1,25 @@
 //! Styles and links that go on over the ends of lines: each line sets anew what is open where it
 //! begins, and ends plain.
-ghost use Rattle.std.specs.Prelude.{◌≡◌, ℕ, ◌<◌, ◌==◌, ◌||◌, List, [], ◌∷◌, ◌++◌, chars, length};
-ghost use Rattle.std.specs.Prelude.{bytes_eq, drop, encode_utf8_all, filter, if◌then◌else◌};
-ghost use Rattle.std.specs.Prelude.{is_some};
-ghost use Rattle.std.specs.Prelude.{map, not};
+ghost use Rattle.std.specs.Prelude.{◌≡◌, ℕ, ◌<◌, ◌==◌, List, [], ◌∷◌, ◌++◌, chars, length, true};
+ghost use Rattle.std.specs.Prelude.{drop, encode_utf8_all, if◌then◌else◌, is_some, map};
 ghost use Rattle.std.specs.Prelude.{string_bytes, take, IfOk, IfSome, IsCharBoundary, IsUtf8};
 ghost use Rattle.std.specs.Prelude.{MatchOption, OnOk};
 ghost use Rattle.std.specs.Int.{is_in_range};
-ghost use Rattle.std.specs.List.{after_first, list_all};
+ghost use Rattle.std.specs.List.{list_all};
 ghost use Rattle.std.specs.Option.{option_copied, option_to_list};
-ghost use Rattle.textwrap_styles.specs.OpenStyles.{AreStyles, IsOpenAfter};
-ghost use Rattle.textwrap_styles.specs.Styles.{texts_of};
-ghost use Rattle.textwrap_styles.specs.Styles.{carried_lines, closing, is_link, is_style};
-ghost use Rattle.textwrap_styles.specs.Styles.{last_of_each, link_fields, opening, sequences};
-ghost use Rattle.textwrap_styles.specs.Styles.{link_end, style_end, style_parameters};
+ghost use Rattle.textwrap_styles.specs.OpenStyles.{AreOpen, IsKeptAfter, IsReadTo};
+ghost use Rattle.textwrap_styles.specs.Settings.{open_settings, settings};
+ghost use Rattle.textwrap_styles.specs.Styles.{carried_lines, closing, is_link, is_style, link_end};
+ghost use Rattle.textwrap_styles.specs.Styles.{link_target, opening, sequences, style_end};
+ghost use Rattle.textwrap_styles.specs.Styles.{style_parameters, texts_of};
 ghost use Rattle.textwrap_layout.specs.Paragraph.{Built, Slice, line_view};
 ghost use Rattle.textwrap_text.specs.Units.{escape_len};
 
 use crate::indents::indent_end;
+use crate::latest::keep_open;
+use crate::settings::{kind_of, next_setting};
 use std::alloc::{AllocError, Allocator};
 use std::borrow::CowStr;
-use std::collections::BTreeSet;
 use textwrap::Options;
 use textwrap_text::escapes::State;
 
@@ -31,23 +30,28 @@ const LINK_END: &str = "\x1b]8;;\x1b\\";
 /// Does both.
 const STYLE_AND_LINK_END: &str = "\x1b[0m\x1b]8;;\x1b\\";
 
-/// So many styles of a line are compared with each that is open, all of which were written where
-/// the line began. If it sets more, equal ones are taken out where the next line begins, by a set.
-/// So the time grows with what is read and written, times a logarithm at most.
-const COMPARED: usize = 32;
-
 /// The lines of one text, each so that it stands by itself: what is open where a line ends is ended
 /// there, and set anew in the next line, after its indent. So lines may stand beside other text, as
 /// in a frame or a table, and each looks as it did in its text.
 ///
-/// `"a \x1b[1mb"` and `"c"` become `"a \x1b[1mb\x1b[0m"` and `"\x1b[1mc\x1b[0m"`. A line that
-/// begins and ends plain stays as it is, and is not copied.
+/// `"a \x1b[1;31mb"`, `"c\x1b[39md"` and `"e"` become `"a \x1b[1;31mb\x1b[0m"`,
+/// `"\x1b[1m\x1b[31mc\x1b[39md\x1b[0m"` and `"\x1b[1me\x1b[0m"`. A line that begins and ends plain
+/// stays as it is, and is not copied.
 ///
-/// - A style is set by ESC `[`, digits, colons and semicolons, and `m` (SGR, ECMA-48). Where there
-///   are none of these, or zeros and semicolons alone, all styles are taken back. All that were set
-///   since are open, also where a later one takes an earlier one back, as `"\x1b[22m"` does bold.
-///   Of equal ones only the last is: it sets the same again. So no more are open than there are
-///   different ones.
+/// - A style is ESC `[`, digits, colons and semicolons, and `m` (SGR). Its parameters are settings,
+///   which semicolons part (ECMA-48 8.3.117, and what terminals add). A setting sets an attribute or
+///   ends it: 1 is bold and 2 faint, both of which 22 ends; 3 is italic until 23; 4 and 21 underline
+///   until 24; 5 and 6 blink until 25; 7 is inverse until 27; 8 is hidden until 28; 9 is crossed out
+///   until 29; 11 to 19 are fonts until 10; 30 to 37, 38 and 90 to 97 are the foreground until 39;
+///   40 to 47, 48 and 100 to 107 the background until 49; 51 and 52 are framed until 54; 53 is
+///   overlined until 55; 58 is the colour of the underline until 59. 0 or nothing ends all.
+/// - 38, 48 and 58 take the colour that follows them: `5;n`, `2;r;g;b`, or whatever colons join to
+///   them. `4:3` and its like are underlines, and `4:0` ends them.
+/// - A later setting of an attribute takes the place of an earlier one. Each that is open is
+///   written as a sequence of its own, in the order in which they were set.
+/// - A setting that is not among these is open until all is ended, and takes the rest of its
+///   sequence, which may be its own. Of equal ones the last is open. Behind it, what ends an
+///   attribute is set anew too, since it may end what the unknown setting set.
 /// - A link is set by ESC `]8;`, parameters, a semicolon, its target, and BEL or ESC `\` (OSC 8,
 ///   the hyperlinks of terminals). A later one takes its place, and one without a target ends it.
 /// - All other sequences are left as they are.
@@ -82,8 +86,8 @@ pub fn carry_styles<'l, A: Allocator + Copy>(
         let indent_end = indent_end(line, indent);
         // Written before the line is read, which changes what is open.
         opening.clear();
-        open.push_opening(alloc, &mut opening)?;
-        open.read(&line[indent_end..])?;
+        open.push_opening(&mut opening)?;
+        open.read(alloc, &line[indent_end..])?;
         carried.push(enclosed(alloc, line, indent_end, &opening, open.closing())?)?;
         indent = options.subsequent_indent;
     }
@@ -92,7 +96,7 @@ pub fn carry_styles<'l, A: Allocator + Copy>(
 
 /// The line with `opening` after its indent and `closing` at its end. Where both are empty it is
 /// not copied.
-pub(crate) fn enclosed<'l, A: Allocator>(
+fn enclosed<'l, A: Allocator>(
     alloc: A,
     line: &'l str,
     indent_end: usize,
@@ -125,18 +129,15 @@ pub fn closing_of<A: Allocator + Copy>(alloc: A, text: &str) -> Result<&'static 
     ensures { IfOk result (λ end. end.now ≡ closing (sequences text.now)) }
 {
     let mut open = OpenStyles::new(alloc);
-    open.read(text)?;
+    open.read(alloc, text)?;
     Ok(open.closing())
 }
 
 /// What is open at a place of a text.
 #[derive(Drop)]
 struct OpenStyles<'t, A: Allocator> {
-    /// The sequences of the styles in their order. Of equal ones the last alone is open.
-    styles: Vec<&'t str, A>,
-    /// How many were added since the line began, or since all were taken back. Up to `COMPARED`, no
-    /// two are equal.
-    added: usize,
+    /// The settings that are open, and in the middle of a line all since all ended.
+    settings: Vec<&'t str, A>,
     /// The sequence of the link, if there is one.
     link: Option<&'t str>,
 }
@@ -144,40 +145,34 @@ struct OpenStyles<'t, A: Allocator> {
 impl<'t, A: Allocator + Copy> OpenStyles<'t, A> {
     /// Nothing is open.
     fn new(alloc: A) -> Self
-        ensures { IsOpenAfter [] result }
+        ensures { IsKeptAfter [] result }
     {
         OpenStyles {
-            styles: Vec::new(alloc),
-            added: 0,
+            settings: Vec::new(alloc),
             link: None,
         }
     }
 
     /// Goes on over a text.
-    fn read(&mut self, text: &'t str) -> Result<(), AllocError>
-        ensures { (before : List (List ℕ)) → IsOpenAfter before self.old
-            → OnOk result (IsOpenAfter (before ++ sequences text.now) self.new) }
+    fn read(&mut self, alloc: A, text: &'t str) -> Result<(), AllocError>
+        ensures { (before : List (List ℕ)) → IsKeptAfter before self.old
+            → OnOk result (IsKeptAfter (before ++ sequences text.now) self.new) }
     {
         let mut left = text;
         while let Some((sequence, rest)) = next_sequence(left) {
             self.read_sequence(sequence)?;
             left = rest;
         }
-        Ok(())
+        keep_open(alloc, &mut self.settings)
     }
 
     /// Goes on over an escape sequence.
     fn read_sequence(&mut self, sequence: &'t str) -> Result<(), AllocError>
-        ensures { (before : List (List ℕ)) → IsOpenAfter before self.old
-            → OnOk result (IsOpenAfter (before ++ sequence.now ∷ []) self.new) }
+        ensures { (before : List (List ℕ)) → IsReadTo before self.old
+            → OnOk result (IsReadTo (before ++ sequence.now ∷ []) self.new) }
     {
         if let Some(parameters) = style_parameters(sequence) {
-            if are_zeros(parameters) {
-                self.styles.clear();
-                self.added = 0;
-            } else {
-                self.push_style(sequence)?;
-            }
+            self.read_parameters(parameters)?;
         } else if let Some(target) = link_target(sequence) {
             self.link = if target.is_empty() {
                 None
@@ -188,63 +183,65 @@ impl<'t, A: Allocator + Copy> OpenStyles<'t, A> {
         Ok(())
     }
 
-    /// Adds a style as the last one, in place of an equal one.
-    fn push_style(&mut self, style: &'t str) -> Result<(), AllocError>
-        ensures styles { (styles : List (List ℕ)) → AreStyles styles self.old
-            → OnOk result (AreStyles (filter (λ s. not (bytes_eq s style.now)) styles
-            ++ style.now ∷ []) self.new) }
+    /// Goes on over the parameters of a style.
+    fn read_parameters(&mut self, parameters: &'t str) -> Result<(), AllocError>
+        requires { list_all (is_in_range 0x30 0x3B) parameters.now ≡ true }
+        ensures settings { (before : List (List ℕ)) → AreOpen (open_settings before) self.old
+            → OnOk result (AreOpen (open_settings (before ++ settings parameters.now)) self.new) }
         ensures link { self.new.link ≡ self.old.link }
     {
-        if self.added < COMPARED {
-            self.styles.retain(|other| *other != style);
+        let mut left = parameters;
+        loop {
+            let (setting, rest) = next_setting(left);
+            self.read_setting(setting)?;
+            let Some(rest) = rest else {
+                return Ok(());
+            };
+            left = rest;
         }
-        self.styles.push(style)?;
-        self.added = self.added.saturating_add(1);
-        Ok(())
     }
 
-    /// Takes equal styles out, so that all can be set anew.
-    fn take_out_equal(&mut self, alloc: A) -> Result<(), AllocError>
-        ensures styles { (styles : List (List ℕ)) → AreStyles styles self.old
-            → OnOk result (AreStyles styles self.new) }
+    /// Goes on over a setting.
+    fn read_setting(&mut self, setting: &'t str) -> Result<(), AllocError>
+        ensures settings { (before : List (List ℕ)) → AreOpen (open_settings before) self.old
+            → OnOk result (AreOpen (open_settings (before ++ setting.now ∷ [])) self.new) }
         ensures link { self.new.link ≡ self.old.link }
-        ensures none_added { OnOk result (self.new.added ≡ 0) }
     {
-        if self.added > COMPARED {
-            keep_last_of_each(alloc, &mut self.styles)?;
+        if kind_of(setting).is_reset() {
+            self.settings.clear();
+        } else {
+            self.settings.push(setting)?;
         }
-        self.added = 0;
         Ok(())
     }
 
     /// Adds what sets anew all that is open.
-    fn push_opening(&mut self, alloc: A, text: &mut String<A>) -> Result<(), AllocError>
-        ensures opening { (before : List (List ℕ)) → IsOpenAfter before self.old
-            → OnOk result (string_bytes text.new ≡ string_bytes text.old ++ opening before) }
-        ensures state { (before : List (List ℕ)) → IsOpenAfter before self.old
-            → OnOk result (IsOpenAfter before self.new) }
+    fn push_opening(&self, text: &mut String<A>) -> Result<(), AllocError>
+        ensures { (before : List (List ℕ)) → IsKeptAfter before self.now → OnOk result
+            (string_bytes text.new ≡ string_bytes text.old ++ opening before) }
     {
-        self.take_out_equal(alloc)?;
         if let Some(link) = self.link {
             text.push_str(link)?;
         }
-        for style in &self.styles {
-            text.push_str(style)?;
+        for setting in &self.settings {
+            text.push_str("\x1b[")?;
+            text.push_str(setting)?;
+            text.push_str("m")?;
         }
         Ok(())
     }
 
     /// What ends all that is open.
     fn closing(&self) -> &'static str
-        ensures { (before : List (List ℕ)) → IsOpenAfter before self.now
+        ensures { (before : List (List ℕ)) → IsKeptAfter before self.now
             → result.now ≡ closing before }
     {
-        ending(self.styles.is_empty(), self.link)
+        ending(self.settings.is_empty(), self.link)
     }
 }
 
 /// What ends all styles, unless the text is plain without it, and the link, if there is one.
-pub(crate) fn ending(plain: bool, link: Option<&str>) -> &'static str
+fn ending(plain: bool, link: Option<&str>) -> &'static str
     ensures { result.now ≡ (if plain then [] else style_end)
         ++ (if length (option_to_list (option_copied link.entry)) == 0 then [] else link_end) }
 {
@@ -256,30 +253,10 @@ pub(crate) fn ending(plain: bool, link: Option<&str>) -> &'static str
     }
 }
 
-/// Keeps of equal styles the last alone.
-fn keep_last_of_each<A: Allocator + Copy>(
-    alloc: A,
-    styles: &mut Vec<&str, A>,
-) -> Result<(), AllocError>
-    ensures { OnOk result (map (λ s. s.now) styles.new.items
-        ≡ last_of_each (map (λ s. s.now) styles.old.items)) }
-{
-    let mut seen = BTreeSet::new(alloc);
-    let mut kept = Vec::new(alloc);
-    while let Some(style) = styles.pop() {
-        if seen.insert(style)? {
-            kept.push(style)?;
-        }
-    }
-    kept.reverse();
-    *styles = kept;
-    Ok(())
-}
-
 /// The first escape sequence of a text, and what follows it.
 // Each text with colours goes through it many times: a call would be a quarter of its cost.
 #[inline(always)]
-pub(crate) fn next_sequence(text: &str) -> Option<(&str, &str)>
+fn next_sequence(text: &str) -> Option<(&str, &str)>
     ensures sequences { MatchOption result (sequences text.now ≡ [])
         (λ found. sequences text.now ≡ found.0.now ∷ sequences found.1.now) }
     ensures shorter { IfSome result (λ found. length found.1.now < length text.now) }
@@ -308,7 +285,7 @@ fn sequence_tail_len(after: &str) -> usize
 }
 
 /// The parameters of a sequence that sets a style or takes all back: `"1;31"` of `"\x1b[1;31m"`.
-pub(crate) fn style_parameters(sequence: &str) -> Option<&str>
+fn style_parameters(sequence: &str) -> Option<&str>
     ensures style { is_some result ≡ is_style sequence.now }
     ensures parameters { IfSome result (λ parameters.
         parameters.now ≡ style_parameters sequence.now) }
@@ -328,19 +305,12 @@ fn are_style_parameters(parameters: &str) -> bool
     parameters.bytes().all(|byte| matches!(byte, b'0'..=b';'))
 }
 
-/// Whether these are zeros and semicolons alone.
-fn are_zeros(parameters: &str) -> bool
-    ensures { result ≡ list_all (λ c. (c == 0x30) || (c == 0x3B)) parameters.now }
-{
-    parameters.bytes().all(|byte| matches!(byte, b'0' | b';'))
-}
-
 /// The target of a sequence that sets a link, which is empty where it ends one: `"http://x"` of
 /// `"\x1b]8;id=1;http://x\x07"`.
-pub(crate) fn link_target(sequence: &str) -> Option<&str>
+fn link_target(sequence: &str) -> Option<&str>
     ensures link { is_some result ≡ is_link sequence.now }
     ensures target { IfSome result (λ target.
-        target.now ≡ after_first (λ c. c == 0x3B) (link_fields sequence.now)) }
+        target.now ≡ link_target sequence.now) }
 {
     let fields = sequence.strip_prefix("\x1b]8;")?;
     let fields = fields

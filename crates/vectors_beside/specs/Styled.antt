@@ -1,7 +1,8 @@
 -- Texts with styles beside one another, each of which shows what it shows by itself.
 use Rattle.std.specs.Prelude.{◌≡◌, ℕ, List, [], ◌∷◌, map}
 use Rattle.textwrap.specs.Paragraph.{Line, line_bytes}
-use Rattle.textwrap_display.specs.Styled.{EachWithIndent, MayCarry, styled_lines, styled_text}
+use Rattle.textwrap_display.specs.Penned.{penned_lines, penned_text, plain_rendition}
+use Rattle.textwrap_display.specs.Styled.{EachWithIndent, MayCarry}
 use Rattle.textwrap_display.specs.Styles.{carried_lines}
 use Rattle.textwrap_display.specs.Tables.{PartsMake, RowGaps, rows_of_cells, shape_of_parts}
 use Rattle.vectors_beside.specs.Help.{left_column}
@@ -17,7 +18,8 @@ pub record IsStyledCell (width : ℕ) (text : List ℕ) (cell : List (List ℕ))
   pub wrapped : PartsMake (left_column width) text lines
   pub carried : cell ≡ carried_cell (map line_bytes lines)
   pub shown : EachWithIndent MayCarry [] [] (map line_bytes lines)
-      → map (styled_text []) cell ≡ styled_lines [] [] [] (map line_bytes lines)
+      → map (penned_text plain_rendition) cell
+      ≡ penned_lines [] [] plain_rendition (map line_bytes lines)
 
 -- two such cells, laid out
 pub record AreStyledRows (gaps : RowGaps) (left_width right_width : ℕ) (left right : List ℕ)

@@ -158,11 +158,7 @@ where
     S: AsRef<str>,
     Opt: Into<Options<'a>>,
 {
-    let texts = texts_of(lines)?;
-    let options = width_or_options.into();
-    // As for `carry_styles`.
-    let bytes = guess::bytes_of(lines, 23);
-    lines_by!(lines.len(), bytes, textwrap_carry_attributes(texts; &options.to_sys()))?.texts()
+    carry_styles(lines, width_or_options)
 }
 
 /// [`crate::display::wrap_balanced`].

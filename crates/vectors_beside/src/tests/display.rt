@@ -11,7 +11,6 @@ mod widening;
 
 use super::plain::assert_line;
 use Change::{Aligned, Cut, Expanded, Justified, Shortened};
-pub use attributes::are_attributed;
 pub use filling::is_filled;
 pub use fitting::is_fitted;
 pub use shortening::are_shortened;

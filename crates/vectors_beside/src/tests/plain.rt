@@ -5,7 +5,7 @@ use std::alloc::{AllocError, Allocator, Global};
 use std::borrow::CowStr;
 use std::process::Abort;
 use textwrap::{Options, WrapAlgorithm, WrapError, wrap};
-use textwrap_display::{carry_attributes, carry_styles, fill_justified, shorten_lines};
+use textwrap_display::{carry_styles, fill_justified, shorten_lines};
 
 /// Options with this width, these indents and this algorithm, and else as by default.
 pub fn plain_options<'a>(
@@ -36,15 +36,6 @@ pub fn plain_carry_styles<'l, A: Allocator + Copy>(
     options: &Options<'_>,
 ) -> Result<Vec<CowStr<'l, A>, A>, AllocError> {
     carry_styles(alloc, lines, options)
-}
-
-/// `carry_attributes`.
-pub fn plain_carry_attributes<'l, A: Allocator + Copy>(
-    alloc: A,
-    lines: &'l [CowStr<'_, A>],
-    options: &Options<'_>,
-) -> Result<Vec<CowStr<'l, A>, A>, AllocError> {
-    carry_attributes(alloc, lines, options)
 }
 
 /// `fill_justified`.

@@ -3,7 +3,7 @@
 use super::balance::{has_lines_balanced, has_width_balanced};
 use super::display::Change::{self, Aligned, Cut, Expanded, Justified, Shortened};
 use super::display::{
-    are_attributed, are_carried, are_shortened, changed, is_filled, is_fitted, is_table,
+    are_carried, are_shortened, changed, is_filled, is_fitted, is_table,
 };
 use super::plain::assert_holds;
 use std::process::Abort;
@@ -19,8 +19,6 @@ enum Call {
     ShortenLines,
     /// `carry_styles`, with the lines.
     CarryStyles(&'static [&'static str]),
-    /// `carry_attributes`, with the lines.
-    CarryAttributes(&'static [&'static str]),
     FillJustified,
     Table,
     /// `needs_of`, and then `fitting_widths`.
@@ -29,20 +27,11 @@ enum Call {
     WrapBalanced,
 }
 
-/// A line that sets one style more than are compared with each other, and one after it.
-#[rattlefmt::skip]
-const MANY_STYLES: &[&str] = &[
-    "\x1b[1m\x1b[2m\x1b[3m\x1b[4m\x1b[5m\x1b[6m\x1b[7m\x1b[8m\x1b[9m\x1b[10m\x1b[11m\
-     \x1b[12m\x1b[13m\x1b[14m\x1b[15m\x1b[16m\x1b[17m\x1b[18m\x1b[19m\x1b[20m\x1b[21m\x1b[22m\
-     \x1b[23m\x1b[24m\x1b[25m\x1b[26m\x1b[27m\x1b[28m\x1b[29m\x1b[30m\x1b[31m\x1b[32m\x1b[33m",
-    "b",
-];
-
 /// The rule, the call, and how many allocations it makes at least and at most.
 #[rattlefmt::skip]
 const CALLS: &[(&str, Call, usize, usize)] = &[
     ("a line that is cut is allocated once", Call::Line(Shortened(".."), "one two", 5), 1, 1),
-    ("and once more where a style is open there", Call::Line(Shortened(".."), "\x1b[1mone two", 5), 2, 2),
+    ("and twice more where a style is open there", Call::Line(Shortened(".."), "\x1b[1mone two", 5), 3, 3),
     ("but not for a link, nor for a word that is cut", Call::Line(Cut(".."), "\x1b]8;;u\x07abracadabra", 5), 1, 1),
     ("and a line that stays is not", Call::Line(Shortened(".."), "one", 5), 0, 0),
     ("lines with blanks are allocated", Call::Line(Aligned(Left), "a", 3), 1, 99),
@@ -51,10 +40,7 @@ const CALLS: &[(&str, Call, usize, usize)] = &[
     ("a text with tabs is allocated", Call::Line(Expanded, "a\tb\tc", 8), 1, 99),
     ("and one without is not", Call::Line(Expanded, "a b", 8), 0, 0),
     ("the list, and the one line that is cut", Call::ShortenLines, 2, 2),
-    ("styles and links that are open", Call::CarryStyles(&["\x1b[1ma", "b\x1b]8;;u\x07", "c\x1b[m\x1b]8;;\x07", "d"]), 7, 7),
-    ("more styles than are compared", Call::CarryStyles(MANY_STYLES), 9, 99),
-    ("attributes that are open, known and unknown ones", Call::CarryAttributes(&["\x1b[1;31;99ma", "b\x1b]8;;u\x07", "c\x1b[m\x1b]8;;\x07", "d"]), 8, 99),
-    ("no line that stays is allocated, either", Call::CarryAttributes(&["a", "b"]), 1, 1),
+    ("styles and links that are open, known and unknown ones", Call::CarryStyles(&["\x1b[1;31;99ma", "b\x1b]8;;u\x07", "c\x1b[m\x1b]8;;\x07", "d"]), 8, 99),
     ("the list is allocated, and no line that stays", Call::CarryStyles(&["a", "b"]), 1, 1),
     ("a text that is filled", Call::FillJustified, 0, 99),
     ("a table", Call::Table, 0, 99),
@@ -73,7 +59,6 @@ fn is_right(heap: &Heap, call: Call, allowed: usize) -> Result<bool, WrapError> 
         }
         Call::ShortenLines => Ok(are_shortened(heap, allowed)?),
         Call::CarryStyles(texts) => Ok(are_carried(heap, texts, allowed)?),
-        Call::CarryAttributes(texts) => Ok(are_attributed(heap, texts, allowed)?),
         Call::FillJustified => is_filled(heap),
         Call::Table => is_table(heap),
         Call::FittingWidths => is_fitted(heap),

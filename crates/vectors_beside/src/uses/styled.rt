@@ -7,7 +7,7 @@ ghost use Rattle.vectors_beside.specs.Styled.{AreStyledRows, carried_cell};
 use std::alloc::{AllocError, Global};
 use std::borrow::CowStr;
 use textwrap::{Options, WrapError, wrap};
-use textwrap_display::laws::carried_lines_keep_styles;
+use textwrap_display::laws::carried_lines_keep_pens;
 use textwrap_display::{Alignment, Column, Gaps, carry_styles, table_of_lines};
 
 /// The rows of two texts beside one another, each in so many columns. A style or a link that goes on
@@ -29,7 +29,7 @@ pub fn rows_beside<'t>(
         left.now right.now (map string_bytes rows.items)) }
     ensures only_memory { OnlyMemoryRunsOut result }
 {
-    carried_lines_keep_styles();
+    carried_lines_keep_pens();
     let mut wrapped = Vec::new(alloc);
     wrapped.push(wrap(alloc, left, Options::new(left_width))?)?;
     wrapped.push(wrap(alloc, right, Options::new(right_width))?)?;

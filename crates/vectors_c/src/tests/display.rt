@@ -1,4 +1,4 @@
-//! Balanced lines and their width, attributes over line ends, and widths that fit the cells of a table.
+//! Balanced lines and their width, styles over line ends, and widths that fit the cells of a table.
 use super::places::{
     LinesRow, NO_OFFSET, NONE, OffsetsRow, RefusedLines, assert_lines, assert_no_lines,
     assert_offsets,

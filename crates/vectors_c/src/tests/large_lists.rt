@@ -46,20 +46,15 @@ const PLAIN_AGAIN: TextwrapText<'_> = TextwrapText {
     bytes: b"bar\x1b[m",
 };
 
-/// Lines in pairs, with a style that is on from the start of the first to the end of the second, carried
-/// by the style or by its attributes.
-fn carried(alloc: Global, by_attributes: bool) -> Result<Told, AllocError> {
+/// Lines in pairs, with a style that is on from the start of the first to the end of the second, carried.
+fn carried(alloc: Global) -> Result<Told, AllocError> {
     let mut lines = vec![in alloc; STYLED; LINES]?;
     for i in 0..HALF {
         if let Some(line) = lines.get_mut(2 * i + 1) {
             *line = PLAIN_AGAIN;
         }
     }
-    let call = match by_attributes {
-        true => LinesCall::CarryAttributes(&lines, AT_11),
-        false => LinesCall::CarryStyles(&lines, AT_11),
-    };
-    write_lines_twice(alloc, false, call, b"", LINES)
+    write_lines_twice(alloc, false, LinesCall::CarryStyles(&lines, AT_11), b"", LINES)
 }
 
 /// A column of a line's width, whose lines stand at the left.
@@ -122,13 +117,12 @@ fn wide_table(alloc: Global) -> Result<Told, AllocError> {
 #[test]
 fn a_large_list_is_shortened_carried_and_laid_out(rt: HostRuntime) {
     assert_told_twice(&rt, 0, shortened_lines(rt.alloc()), 11 * (LINES - 2) + 10);
-    assert_told_twice(&rt, 1, carried(rt.alloc(), false), 21 * HALF);
+    assert_told_twice(&rt, 1, carried(rt.alloc()), 21 * HALF);
     assert_told_twice(&rt, 2, table(rt.alloc()), 25 * HALF);
     assert_told_twice(&rt, 3, wide_table(rt.alloc()), 2 * (200 * 11 + 201));
     assert_told_twice(&rt, 4, rows_of_lines(rt.alloc()), 25 * HALF);
     let told = table_of_lines(rt.alloc()).expect(&rt, "cells");
     assert_holds(&rt, 5, told == (DONE, HALF, 25 * HALF));
-    assert_told_twice(&rt, 6, carried(rt.alloc(), true), 21 * HALF);
 }
 
 /// The first so many multiples of a number.

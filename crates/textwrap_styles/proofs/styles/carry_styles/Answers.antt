@@ -1,7 +1,8 @@
 use Rattle.textwrap_styles.proofs.styles.carry_styles.Goals as goal
 use Rattle.textwrap_text.proofs.Common.{rules, drop, ◌++◌, ◌∙◌, ◌≡◌, ap}
-use Rattle.textwrap_styles.proofs.Common.{sequences, closing, opening, open_styles}
+use Rattle.textwrap_styles.proofs.Common.{sequences}
 use Rattle.textwrap_styles.proofs.CarriedLines.{carries-more, line-is}
+use Rattle.textwrap_styles.specs.Styles.{closing, opening}
 
 pub loop-line-preserved : goal.loop-line-preserved
 loop-line-preserved g c =
@@ -11,19 +12,20 @@ loop-line-preserved g c =
     let indent = c.loop-line.indent.now in
     let end = c.indent_end-indent_end in
     let text = c.range_from.result.now in
-    let state = c.in_ok-read.ensures before (c.in_ok-push_opening.ensures.state before so_far.1) in
+    let state = c.in_ok-read.ensures before so_far.1 in
     let starts : c.deref.result.now ≡ opening before =
-    c.deref.ensures ∙ c.in_ok-push_opening.ensures.opening before so_far.1
+    c.deref.ensures ∙ c.in_ok-push_opening.ensures before so_far.1
     ∙ ap (λ l. l ++ opening before) c.clear.ensures.bytes in
-    let ends : c.closing.result.now ≡ closing (before ++ sequences (drop end.result line)) =
+    let ends : c.closing.result.now
+    ≡ closing (before ++ sequences (drop end.result line)) =
     c.closing.ensures (before ++ sequences text) state
     ∙ ap (λ t. closing (before ++ sequences t)) c.range_from.ensures.value in
-    let view = line-is open_styles indent line end.result before c.deref.result.now
+    let view = line-is indent line end.result before c.deref.result.now
     c.closing.result.now _ end.ensures.len starts ends c.in_ok-enclosed.ensures in
-    let carries = carries-more open_styles c.args.lines.now c.loop-line.line-index c.line-item.result
-    c.in_ok-enclosed.field-0 indent c.args.options.now.subsequent_indent.now line text before
-    c.loop-line.carried.items c.push.new.self.items _ c.loop-line-test.true c.line-item.is
-    c.as_str-line.ensures.value
+    let carries = carries-more c.args.lines.now c.loop-line.line-index
+    c.line-item.result c.in_ok-enclosed.field-0 indent c.args.options.now.subsequent_indent.now
+    line text before c.loop-line.carried.items c.push.new.self.items _ c.loop-line-test.true
+    c.line-item.is c.as_str-line.ensures.value
     (rw end.ensures.len at c.range_from.ensures.value)
     c.in_ok-push.ensures.items view so_far.2 in
     record { carries = (before ++ sequences text, state, carries); utf8 = search rules }

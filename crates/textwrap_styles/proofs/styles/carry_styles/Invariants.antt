@@ -1,11 +1,13 @@
 use Rattle.textwrap_styles.proofs.styles.carry_styles.Given as goal
 use Rattle.textwrap_text.proofs.Common.{shadow, List, Utf8, drop, ◌++◌, map, ◌≡◌, [], ℕ}
-use Rattle.textwrap_styles.proofs.Common.{carried_lines, IsOpenAfter, line_view, texts_of}
+use Rattle.textwrap_styles.proofs.Common.{line_view, texts_of}
+use Rattle.textwrap_styles.specs.Styles.{carried_lines}
+use Rattle.textwrap_styles.specs.OpenStyles.{IsKeptAfter}
 
 -- the lines so far, and those of what is left after some sequences, are all lines
 abbrev pub invariant-loop-line : goal.invariant-loop-line
 invariant-loop-line g l = record {
-  carries : (before : List (List ℕ)) × IsOpenAfter before l.open
+  carries : (before : List (List ℕ)) × IsKeptAfter before l.open
       × (map line_view l.carried.items
       ++ carried_lines l.indent l.options.subsequent_indent.now before
       (texts_of (drop l.line-index l.lines))

@@ -1,13 +1,12 @@
-//! Styles that go on over the ends of lines, by what their parameters set.
+//! What the parameters of a style set, and what is carried of it over the ends of lines.
 use super::super::plain::{
-    assert_found, assert_lines, plain_carry_attributes, plain_options, plain_wrap,
+    assert_found, assert_lines, plain_carry_styles, plain_options, plain_wrap,
 };
 use super::styles::lines;
 use std::alloc::{AllocError, Global};
 use std::borrow::CowStr;
 use std::process::Abort;
 use textwrap::{Options, WrapAlgorithm, WrapError};
-use textwrap_vectors::heap::Heap;
 
 /// The rule, the lines, and what they become. A line that stays is not copied.
 #[rattlefmt::skip]
@@ -93,23 +92,23 @@ fn assert_carried(
     wanted: &[&str],
 ) {
     let lines = lines(rt.alloc(), texts).expect(rt, rule);
-    let carried = plain_carry_attributes(rt.alloc(), &lines, &Options::new(0)).expect(rt, rule);
+    let carried = plain_carry_styles(rt.alloc(), &lines, &Options::new(0)).expect(rt, rule);
     assert_lines(rt, rule, &lines, &carried, wanted);
 }
 
 #[test]
-fn attributes_are_carried(rt: HostRuntime) {
+fn settings_are_carried(rt: HostRuntime) {
     for &(rule, texts, wanted) in CARRIED {
         assert_carried(&rt, rule, texts, wanted);
     }
 }
 
-/// The lines of a text, filled under indents, with the attributes carried behind them.
+/// The lines of a text, filled under indents, with the styles carried behind them.
 fn wrapped_and_carried(alloc: Global, text: &str, last: &str) -> Result<bool, WrapError> {
     let options = plain_options(40, "* ", "  ", WrapAlgorithm::FirstFit);
     let lines = plain_wrap(alloc, text, options)?;
     let options = plain_options(40, "* ", "  ", WrapAlgorithm::FirstFit);
-    let carried = plain_carry_attributes(alloc, &lines, &options)?;
+    let carried = plain_carry_styles(alloc, &lines, &options)?;
     let mut len = 0usize;
     for line in &carried {
         len = len.saturating_add(line.len());
@@ -157,24 +156,11 @@ fn are_settings_carried(alloc: Global) -> Result<bool, AllocError> {
     let mut lines = Vec::new(alloc);
     lines.push(CowStr::Borrowed(text.as_str()))?;
     lines.push(CowStr::Borrowed("a"))?;
-    let carried = plain_carry_attributes(alloc, &lines, &Options::new(0))?;
+    let carried = plain_carry_styles(alloc, &lines, &Options::new(0))?;
     Ok(carried.last().is_some_and(|line| line.as_str().ends_with("\x1b[39m\x1b[19999:1ma\x1b[0m")))
 }
 
 #[test]
 fn many_settings_are_carried(rt: HostRuntime) {
     assert_found(&rt, "the last", are_settings_carried(rt.alloc()));
-}
-
-/// Whether as many lines come of these where so many allocations are allowed once the lines are made.
-pub fn are_attributed(
-    heap: &Heap,
-    texts: &[&'static str],
-    allowed: usize,
-) -> Result<bool, AllocError> {
-    heap.allow(100);
-    let lines = lines(heap, texts)?;
-    heap.allow(allowed);
-    let carried = plain_carry_attributes(heap, &lines, &Options::new(0))?;
-    Ok(carried.len() == texts.len())
 }

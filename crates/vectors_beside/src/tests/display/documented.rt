@@ -26,8 +26,7 @@ fn texts_are_shortened_as_in_python(rt: HostRuntime) {
 /// Of `wrap-ansi`: the text, the width, the lines that its version 8.1.0 returns, and those here.
 #[rattlefmt::skip]
 const WRAP_ANSI: &[(&str, usize, &[&str], &[&str])] = &[
-    // There the code 39 takes back 31 and 32. Here only a reset takes styles back, so that all codes
-    // are set anew, with the same effect.
+    // There the code 39 ends the color of a line; here 0 ends all.
     ("The quick brown \x1b[31mfox jumped over \x1b[39mthe lazy \x1b[32mdog and then ran away with the unicorn.\x1b[39m", 20,
         &["The quick brown \x1b[31mfox\x1b[39m",
             "\x1b[31mjumped over \x1b[39mthe lazy",
@@ -35,10 +34,10 @@ const WRAP_ANSI: &[(&str, usize, &[&str], &[&str])] = &[
             "\x1b[32maway with the\x1b[39m",
             "\x1b[32municorn.\x1b[39m"],
         &["The quick brown \x1b[31mfox\x1b[0m",
-            "\x1b[31mjumped over \x1b[39mthe lazy\x1b[0m",
-            "\x1b[31m\x1b[39m\x1b[32mdog and then ran\x1b[0m",
-            "\x1b[31m\x1b[39m\x1b[32maway with the\x1b[0m",
-            "\x1b[31m\x1b[39m\x1b[32municorn.\x1b[39m\x1b[0m"]),
+            "\x1b[31mjumped over \x1b[39mthe lazy",
+            "\x1b[32mdog and then ran\x1b[0m",
+            "\x1b[32maway with the\x1b[0m",
+            "\x1b[32municorn.\x1b[39m"]),
     // There a link ends in BEL, as it began; here in ESC and a backslash.
     ("Check out \x1b]8;;https://www.example.com\x07my website\x1b]8;;\x07, it is \x1b]8;;https://www.example.com\x07supercalifragilisticexpialidocious\x1b]8;;\x07.", 16,
         &["Check out \x1b]8;;https://www.example.com\x07my\x1b]8;;\x07",

@@ -1,7 +1,6 @@
 //! Styles and links that go on over the ends of lines.
 use super::super::plain::{
-    assert_count, assert_found, assert_holds, assert_lines, plain_carry_styles, plain_options,
-    plain_wrap,
+    assert_count, assert_holds, assert_lines, plain_carry_styles, plain_options, plain_wrap,
 };
 use std::alloc::{AllocError, Allocator, Global};
 use std::borrow::CowStr;
@@ -43,21 +42,15 @@ const CARRIED: &[(&str, [&str; 2], &[&str], &[&str])] = &[
     ("however many", ["", ""],
         &["\x1b[1ma", "b\x1b[;000mc", "d"],
         &["\x1b[1ma\x1b[0m", "\x1b[1mb\x1b[;000mc", "d"]),
-    ("a zero among others sets a style", ["", ""],
+    ("by a zero before another number", ["", ""],
         &["\x1b[1ma\x1b[0;31mb", "c"],
-        &["\x1b[1ma\x1b[0;31mb\x1b[0m", "\x1b[1m\x1b[0;31mc\x1b[0m"]),
-    ("and so do colons", ["", ""],
+        &["\x1b[1ma\x1b[0;31mb\x1b[0m", "\x1b[31mc\x1b[0m"]),
+    ("a color behind colons", ["", ""],
         &["\x1b[38:2::255:0:0ma", "b"],
         &["\x1b[38:2::255:0:0ma\x1b[0m", "\x1b[38:2::255:0:0mb\x1b[0m"]),
     ("a colon between zeros", ["", ""],
         &["\x1b[0:0ma", "b"],
         &["\x1b[0:0ma\x1b[0m", "\x1b[0:0mb\x1b[0m"]),
-    ("of equal styles the last", ["", ""],
-        &["\x1b[1ma\x1b[22mb", "\x1b[1mc", "d"],
-        &["\x1b[1ma\x1b[22mb\x1b[0m", "\x1b[1m\x1b[22m\x1b[1mc\x1b[0m", "\x1b[22m\x1b[1md\x1b[0m"]),
-    ("of equal ones since all were taken back", ["", ""],
-        &["\x1b[1ma\x1b[0m\x1b[4mb\x1b[1mc\x1b[4md", "e"],
-        &["\x1b[1ma\x1b[0m\x1b[4mb\x1b[1mc\x1b[4md\x1b[0m", "\x1b[1m\x1b[4me\x1b[0m"]),
     ("a link that BEL ends", ["", ""],
         &["\x1b]8;;http://x\x07a", "b\x1b]8;;\x07c", "d"],
         &["\x1b]8;;http://x\x07a\x1b]8;;\x1b\\", "\x1b]8;;http://x\x07b\x1b]8;;\x07c", "d"]),
@@ -208,63 +201,6 @@ fn many_lines_are_carried(rt: HostRuntime) {
     let carried = plain_carry_styles(rt.alloc(), &lines, &Options::new(0)).expect(&rt, "carried");
     let last = "\x1b]8;;u\x07\x1b[1mmore \x1b[0m\x1b[1mwords\x1b[0m\x1b]8;;\x1b\\";
     assert_last(&rt, &carried, 10_000, last);
-}
-
-#[test]
-fn equal_styles_are_carried_once(rt: HostRuntime) {
-    let text = "\x1b[31mred\x1b[39m words";
-    let lines = many_lines(rt.alloc(), text, 999, text).expect(&rt, "lines");
-    let carried = plain_carry_styles(rt.alloc(), &lines, &Options::new(0)).expect(&rt, "carried");
-    let last = "\x1b[31m\x1b[39m\x1b[31mred\x1b[39m words\x1b[0m";
-    assert_last(&rt, &carried, 1_000, last);
-}
-
-/// How many different styles a line sets: so few that each is compared with all others, one more,
-/// and so many that this would take seconds.
-const NUMBERS: &[usize] = &[1, 31, 32, 33, 20_000];
-
-/// So many different styles, each so many after the one before it, and round again.
-fn styles(alloc: Global, count: usize, step: usize) -> Result<String, AllocError> {
-    let mut styles = String::new(alloc);
-    let mut number = 0usize;
-    for _ in 0..count {
-        styles.push_str(&format!(in alloc; "\x1b[1;{number}m")?)?;
-        number = number.wrapping_add(step) % count;
-    }
-    Ok(styles)
-}
-
-/// Whether the line is this text twice, and takes the styles back.
-fn is_twice(line: &str, text: &str) -> bool {
-    let Some(rest) = line.strip_prefix(text) else {
-        return false;
-    };
-    rest.strip_prefix(text) == Some("\x1b[0m")
-}
-
-/// Whether of styles that come again in another order the last are carried into the line after it.
-fn are_last_carried(alloc: Global, first: &str, again: &str) -> Result<bool, AllocError> {
-    let lines = many_lines(alloc, first, 2, again)?;
-    let carried = plain_carry_styles(alloc, &lines, &Options::new(0))?;
-    Ok(
-        carried
-            .last()
-            .is_some_and(|last| is_twice(last.as_str(), again)),
-    )
-}
-
-/// The same of so many different styles.
-fn are_so_many_carried(alloc: Global, count: usize) -> Result<bool, AllocError> {
-    let first = styles(alloc, count, 1)?;
-    let again = styles(alloc, count, 7)?;
-    are_last_carried(alloc, &first, &again)
-}
-
-#[test]
-fn many_different_styles_are_carried(rt: HostRuntime) {
-    for &count in NUMBERS {
-        assert_found(&rt, "the last", are_so_many_carried(rt.alloc(), count));
-    }
 }
 
 /// Whether as many lines come of these where so many allocations are allowed once the lines are made.

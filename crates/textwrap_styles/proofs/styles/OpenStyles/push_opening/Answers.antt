@@ -1,38 +1,24 @@
 use Rattle.textwrap_styles.proofs.styles.OpenStyles.push_opening.Goals as goal
-use Rattle.textwrap_text.proofs.Common.{ap, append-nil, append_assoc, arith, string_bytes, take_all}
-use Rattle.textwrap_text.proofs.Common.{◌++◌, ◌∙◌, ◌≡◌}
-use Rattle.textwrap_styles.proofs.Common.{concat, open_link, open_styles, option_copied}
-use Rattle.textwrap_styles.proofs.Common.{option_to_list}
-use Rattle.textwrap_styles.proofs.LastOfEach.{concat-more, texts}
-use Rattle.textwrap_styles.proofs.styles.OpenStyles.push_opening.Goals.{in-Some+in_ok-push_str}
-use Rattle.textwrap_styles.proofs.styles.OpenStyles.push_opening.Goals.{in_default}
+use Rattle.textwrap_text.proofs.Common.{append-nil, append_assoc, arith, codes, get_or, length, map}
+use Rattle.textwrap_text.proofs.Common.{map-append, take}
+use Rattle.textwrap_text.proofs.Common.{take_more, Bor, List, ◌+◌, ◌++◌, ◌<◌, ◌≡◌, ℕ}
+use Rattle.textwrap_styles.proofs.Common.{concat, concat-append}
+use Rattle.textwrap_styles.proofs.OpenSettings.{texts}
+use Rattle.textwrap_styles.specs.Styles.{written}
 
-pub loop-style-preserved : goal.loop-style-preserved
-loop-style-preserved g c =
-    concat-more c.deref-style-items.result.now c.loop-style.style-index _ _ _ _
-    c.loop-style-test.true c.loop-style.invariant c.in_ok-push_str-2.ensures.bytes
+-- the settings so far, one after the other, and one more
+written-more : (ss : List (Bor (List ℕ))) (n : ℕ) (d : Bor (List ℕ))
+    (front old begun filled new : List ℕ) → n < length ss
+    → old ≡ front ++ concat (map written (texts (take n ss))) → begun ≡ old ++ codes "\u{1b}["
+    → filled ≡ begun ++ (get_or ss n d).now → new ≡ filled ++ codes "m"
+    → new ≡ front ++ concat (map written (texts (take (n + 1) ss)))
+written-more ss n d front old begun filled new within is starts sets ends =
+    let next = take_more ss n d within in
+    let more : new ≡ old ++ written (get_or ss n d).now = grind (arith, append_assoc) in
+    grind (arith, append-nil, append_assoc, map-append, concat-append, next, more)
 
-pub returns-clause-opening : goal.returns-clause-opening
-returns-clause-opening g c = λ before state.
-    let old = string_bytes c.args.text.now in
-    let links = concat (open_link before) in
-    let now = c.take_out_equal.new.self in
-    let are = c.in_ok-take_out_equal.ensures.styles (open_styles before) state.styles in
-    let styles : texts now.styles.items ≡ open_styles before =
-    are.few (omega (arith, c.in_ok-take_out_equal.ensures.none_added)) in
-    let same : option_to_list (option_copied now.link) ≡ open_link before =
-    ap (λ link. option_to_list (option_copied link)) c.take_out_equal.ensures.link ∙ state.link in
-    let link : string_bytes c.match-self.text ≡ old ++ links =
-    elim c.match-self.branch [
-      | in-Some+in_ok-push_str w ↦
-          grind (arith, append-nil, w.text-is, w.in_ok-push_str.ensures.bytes, w.in-Some.is, same)
-      | in_default w ↦ grind (arith, append-nil, w.text-is, w.in_default, same)
-    ] in
-    let items = c.deref-style-items.result.now in
-    let all = take_all c.loop-style.style-index items (omega (arith, c.loop-style-test.false)) in
-    c.loop-style.invariant
-    ∙ ap (λ ss. string_bytes c.match-self.text ++ concat (texts ss))
-    (all ∙ c.deref-style-items.ensures.value)
-    ∙ ap (λ ss. string_bytes c.match-self.text ++ concat ss) styles
-    ∙ ap (λ bytes. bytes ++ concat (open_styles before)) link
-    ∙ append_assoc old links (concat (open_styles before))
+pub loop-setting-preserved : goal.loop-setting-preserved
+loop-setting-preserved g c =
+    written-more c.deref-setting-items.result.now c.loop-setting.setting-index _ _ _ _ _ _
+    c.loop-setting-test.true c.loop-setting.invariant c.in_ok-push_str-2.ensures.bytes
+    c.in_ok-push_str-3.ensures.bytes c.in_ok-push_str-4.ensures.bytes

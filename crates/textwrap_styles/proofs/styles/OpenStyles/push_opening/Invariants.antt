@@ -1,10 +1,12 @@
 use Rattle.textwrap_styles.proofs.styles.OpenStyles.push_opening.Given as goal
-use Rattle.textwrap_text.proofs.Common.{string_bytes, take, ◌++◌, ◌≡◌}
+use Rattle.textwrap_text.proofs.Common.{map, string_bytes, take, ◌++◌, ◌≡◌}
 use Rattle.textwrap_styles.proofs.Common.{concat}
-use Rattle.textwrap_styles.proofs.LastOfEach.{texts}
+use Rattle.textwrap_styles.proofs.OpenSettings.{texts}
+use Rattle.textwrap_styles.specs.Styles.{written}
 
--- the styles so far were added
-abbrev pub invariant-loop-style : goal.invariant-loop-style
-invariant-loop-style g l =
+-- the settings so far were added
+abbrev pub invariant-loop-setting : goal.invariant-loop-setting
+invariant-loop-setting g l =
     string_bytes l.text
-    ≡ string_bytes l.initial.text ++ concat (texts (take l.style-index l.style-items))
+    ≡ string_bytes l.initial.text
+    ++ concat (map written (texts (take l.setting-index l.setting-items)))

@@ -1,6 +1,25 @@
 use Rattle.textwrap_styles.proofs.styles.OpenStyles.read.Goals as goal
-use Rattle.textwrap_text.proofs.Common.{append_assoc, subst, ◌++◌, sym, ◌∙◌, ◌∷◌, [], ap}
-use Rattle.textwrap_styles.proofs.Common.{IsOpenAfter, sequences}
+use Rattle.textwrap_text.proofs.Common.{append-nil, append_assoc, flat_map, refl, rules, subst}
+use Rattle.textwrap_text.proofs.Common.{◌++◌, sym, ◌∙◌, ◌∷◌, ◌≡◌, [], ap, List, ℕ}
+use Rattle.std.specs.List.{after_last}
+use Rattle.textwrap_styles.proofs.OpenSettings.{effect-again, resets}
+use Rattle.textwrap_styles.specs.Styles.{settings_of}
+use Rattle.textwrap_styles.specs.OpenStyles.{IsKeptAfter}
+use Rattle.textwrap_styles.proofs.Common.{open_link}
+use Rattle.textwrap_styles.specs.Settings.{in_effect, latest, open_settings}
+use Rattle.textwrap_layout.proofs.Text.Sinks.{on_ok_both}
+use Rattle.textwrap_styles.specs.declared.styles.OpenStyles.{OpenStyles}
+use Rattle.textwrap_styles.proofs.Common.{sequences}
+use Rattle.textwrap_styles.specs.OpenStyles.{IsReadTo}
+
+-- what is kept where a line begins is read up to there
+kept-read : {Z : Type 0} (before : List (List ℕ)) (state : OpenStyles Z)
+    → IsKeptAfter before state → IsReadTo before state
+kept-read before state kept = record {
+  settings = ap (λ ss. in_effect (latest ss)) kept.settings
+      ∙ effect-again (after_last resets (flat_map settings_of before));
+  link = kept.link;
+}
 
 pub loop-sequence-preserved : goal.loop-sequence-preserved
 loop-sequence-preserved g c = record {
@@ -8,10 +27,34 @@ loop-sequence-preserved g c = record {
       let old = c.loop-sequence.invariant.takes before state in
       let one = c.in-Some.sequence.now ∷ [] in (
         old.0 ++ one,
-        subst (λ ss. IsOpenAfter ss c.read_sequence.new.self) (append_assoc before old.0 one)
+        subst (λ ss. IsReadTo ss c.read_sequence.new.self) (append_assoc before old.0 one)
             (c.in_ok-read_sequence.ensures (before ++ old.0) old.1),
         old.2 ∙ ap (λ ss. old.0 ++ ss) c.in-Some.ensures.sequences
             ∙ sym (append_assoc old.0 one (sequences c.in-Some.rest.now)),
       );
   utf8 = c.in-Some.ensures.utf8;
 }
+
+pub loop-sequence-init : goal.loop-sequence-init
+loop-sequence-init g c = record {
+  takes = λ before state. (
+    [],
+    subst (λ ss. IsReadTo ss c.args.self.now) (sym (append-nil before))
+        (kept-read before c.args.self.now state),
+    refl,
+  );
+  utf8 = search rules;
+}
+
+pub returns : goal.returns
+returns g c = λ before state.
+    let all = c.loop-sequence.invariant.takes before state in
+    let taken = all.0 in
+    let text : taken ≡ sequences c.args.text.now =
+    sym (all.2 ∙ ap (λ ss. taken ++ ss) c.in_default.ensures.sequences ∙ append-nil taken) in
+    on_ok_both c.keep_open.result
+    (λ kept same. record {
+      settings = kept ∙ all.1.settings
+          ∙ ap (λ ss. open_settings (flat_map settings_of (before ++ ss))) text;
+      link = all.1.link ∙ ap (λ ss. open_link (before ++ ss)) text;
+    }) c.keep_open.ensures c.keep_open.ensures

@@ -1,12 +1,13 @@
 use Rattle.textwrap_styles.proofs.styles.OpenStyles.read.Given as goal
 use Rattle.textwrap_text.proofs.Common.{length, shadow, List, Utf8, ◌++◌, ◌≡◌, ℕ}
-use Rattle.textwrap_styles.proofs.Common.{IsOpenAfter, sequences}
+use Rattle.textwrap_styles.proofs.Common.{sequences}
+use Rattle.textwrap_styles.specs.OpenStyles.{IsKeptAfter, IsReadTo}
 
 -- some sequences were taken, and those of what is left follow them
 abbrev pub invariant-loop-sequence : goal.invariant-loop-sequence
 invariant-loop-sequence g l = record {
-  takes : (before : List (List ℕ)) → IsOpenAfter before l.fn.self
-      → (taken : List (List ℕ)) × IsOpenAfter (before ++ taken) l.self
+  takes : (before : List (List ℕ)) → IsKeptAfter before l.fn.self
+      → (taken : List (List ℕ)) × IsReadTo (before ++ taken) l.self
       × (sequences l.fn.text ≡ taken ++ sequences l.left);
   utf8 : shadow (Utf8 l.left);
 }

@@ -1,45 +1,25 @@
 use Rattle.textwrap_styles.proofs.styles.OpenStyles.read_sequence.Goals as goal
-use Rattle.textwrap_text.proofs.Common.{false, cond, refl, true, ◌==◌, ◌||◌, sym, ◌∙◌, ◌∷◌, ◌≡◌, []}
-use Rattle.textwrap_text.proofs.Common.{ap}
-use Rattle.textwrap_styles.proofs.Common.{option_to_list, option_copied, has_target, list_all}
-use Rattle.textwrap_styles.proofs.Common.{open_styles}
-use Rattle.textwrap_styles.proofs.LastOfEach.{texts}
-use Rattle.textwrap_styles.specs.Styles.{last_of_each}
-use Rattle.textwrap_styles.proofs.OpenSequences.{after-other, after-reset, after-style, after-link}
-use Rattle.textwrap_styles.proofs.OpenSequences.{target-set}
-use Rattle.textwrap_styles.proofs.styles.OpenStyles.read_sequence.Goals.{else-is_empty}
-use Rattle.textwrap_styles.proofs.styles.OpenStyles.read_sequence.Goals.{then-is_empty}
+use Rattle.textwrap_text.proofs.Common.{append-nil, arith, cases_Bool, flat_map, flat_map-append}
+use Rattle.textwrap_text.proofs.Common.{sym, subst}
+use Rattle.textwrap_text.proofs.Common.{◌++◌, ◌∷◌, ◌≡◌, []}
+use Rattle.textwrap_styles.proofs.OpenLinks.{open_link-push}
+use Rattle.textwrap_styles.proofs.Sequences.{style-no_link}
+use Rattle.textwrap_styles.specs.Styles.{settings_of}
+use Rattle.textwrap_styles.specs.OpenStyles.{AreOpen}
+use Rattle.textwrap_styles.specs.Settings.{open_settings, settings}
 
-pub returns-in_ok-push_style : goal.returns-in_ok-push_style
-returns-in_ok-push_style g c = λ before state.
-    after-style before c.args.sequence.now c.args.self.now _ state (sym c.in-Some.ensures.style)
-    (ap (list_all (λ b. (b == 0x30) || (b == 0x3B))) (sym c.in-Some.ensures.parameters)
-    ∙ sym c.if-are_zeros.ensures)
-    (c.in_ok-push_style.ensures.styles (open_styles before) state.styles) c.push_style.ensures.link
-
-pub returns-after-is_empty : goal.returns-after-is_empty
-returns-after-is_empty g c = λ before state.
+pub returns-in_ok-read_parameters : goal.returns-in_ok-read_parameters
+returns-in_ok-read_parameters g c = λ before state.
     let s = c.args.sequence.now in
-    let link = c.in-Some-link_target in
-    let set : option_to_list (option_copied c.if-is_empty.self) ≡ cond (has_target s) (s ∷ []) [] =
-    elim c.if-is_empty.branch [
-      | then-is_empty w ↦ ap (λ l. option_to_list (option_copied l)) w.self-is
-          ∙ target-set s link.target.now true link.ensures.target w.if-is_empty.ensures
-      | else-is_empty w ↦ ap (λ l. option_to_list (option_copied l)) w.self-is
-          ∙ target-set s link.target.now false link.ensures.target w.if-is_empty.ensures
-    ] in
-    after-link before s c.args.self.now _ state (sym c.in_default.ensures.style)
-    (sym link.ensures.link) (record { last = state.styles.last; few = state.styles.few }) set
-
-pub returns-then-are_zeros : goal.returns-then-are_zeros
-returns-then-are_zeros g c = λ before state.
-    let none = ap texts c.clear.ensures.items in
-    after-reset before c.args.sequence.now c.args.self.now _ state (sym c.in-Some.ensures.style)
-    (ap (list_all (λ b. (b == 0x30) || (b == 0x3B))) (sym c.in-Some.ensures.parameters)
-    ∙ sym c.if-are_zeros.ensures) (record { last = ap last_of_each none; few = λ small. none })
-    refl
-
-pub returns-in_default-link_target : goal.returns-in_default-link_target
-returns-in_default-link_target g c = λ before state.
-    after-other before c.args.sequence.now c.args.self.now _ state (sym c.in_default.ensures.style)
-    (sym c.in_default-link_target.ensures.link) state.styles refl
+    let style = sym c.in-Some.ensures.style in
+    let plain = style-no_link s style in
+    let own = c.in-Some.ensures.parameters in
+    let all : flat_map settings_of before ++ settings c.in-Some.parameters.now
+    ≡ flat_map settings_of (before ++ s ∷ []) =
+    grind (arith, cases_Bool, append-nil, flat_map-append, style, own) in
+    record {
+      settings = subst (λ ss. AreOpen (open_settings ss) c.read_parameters.new.self) all
+          (c.in_ok-read_parameters.ensures.settings (flat_map settings_of before) state.settings);
+      link = let push = open_link-push before s in
+          grind (arith, cases_Bool, push, plain, c.read_parameters.ensures.link, state.link);
+    }

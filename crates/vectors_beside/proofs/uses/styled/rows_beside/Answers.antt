@@ -2,7 +2,8 @@ use Rattle.vectors_beside.proofs.Common.{[], ap, default_algorithm, line_bytes, 
 use Rattle.vectors_beside.proofs.Common.{settings_at, AtHyphens, List, ℕ, ◌∙◌, ◌∷◌, ◌≡◌}
 use Rattle.std.proofs.Common.{ap₂}
 use Rattle.std.proofs.lemmas.Simd.{map-map}
-use Rattle.textwrap_display.specs.Styled.{EachWithIndent, MayCarry, styled_lines, styled_text}
+use Rattle.textwrap_display.specs.Penned.{penned_lines, penned_text, plain_rendition}
+use Rattle.textwrap_display.specs.Styled.{EachWithIndent, MayCarry}
 use Rattle.textwrap_display.specs.Styles.{carried_lines}
 use Rattle.textwrap_display.specs.Tables.{Shape, cell_texts, gaps_view, rows_of_cells}
 use Rattle.textwrap_display.specs.declared.alignment.Alignment.TheVariants.{Left}
@@ -11,11 +12,13 @@ use Rattle.vectors_beside.specs.Styled.{carried_cell}
 
 -- what each line shows, as the law says it
 shown : ((indent later : List ℕ) (lines : List (List ℕ)) → EachWithIndent MayCarry indent later lines
-    → map (λ l. styled_text [] (line_bytes l)) (carried_lines indent later [] lines)
-    ≡ styled_lines indent later [] lines)
+    → map (λ l. penned_text plain_rendition (line_bytes l)) (carried_lines indent later [] lines)
+    ≡ penned_lines indent later plain_rendition lines)
     → (lines : List (List ℕ)) → EachWithIndent MayCarry [] [] lines
-    → map (styled_text []) (carried_cell lines) ≡ styled_lines [] [] [] lines
-shown law lines may = map-map (styled_text []) line_bytes (carried_lines [] [] [] lines) ∙ law [] [] lines may
+    → map (penned_text plain_rendition) (carried_cell lines) ≡ penned_lines [] [] plain_rendition lines
+shown law lines may =
+    map-map (penned_text plain_rendition) line_bytes (carried_lines [] [] [] lines)
+    ∙ law [] [] lines may
 
 pub returns-clause-styled : goal.returns-clause-styled
 returns-clause-styled c =
@@ -42,14 +45,14 @@ returns-clause-styled c =
         wrapped = c.in_ok-wrap.ensures.built_in (settings_at c.args.left_width) AtHyphens
             default_algorithm c.new.ensures;
         carried = refl;
-        shown = shown c.carried_lines_keep_styles.ensures (map line_bytes left);
+        shown = shown c.carried_lines_keep_pens.ensures (map line_bytes left);
       };
       right_styled = record {
         lines = right;
         wrapped = c.in_ok-wrap-2.ensures.built_in (settings_at c.args.right_width) AtHyphens
             default_algorithm c.new-2.ensures;
         carried = refl;
-        shown = shown c.carried_lines_keep_styles.ensures (map line_bytes right);
+        shown = shown c.carried_lines_keep_pens.ensures (map line_bytes right);
       };
       rows_are = c.in_ok-rows.ensures
           ∙ ap (rows_of_cells gaps (shape c.new-3.result.width ∷ shape c.new-4.result.width ∷ [])) cells

@@ -1,0 +1,45 @@
+use Rattle.textwrap_styles.proofs.latest.Later.insert.Goals as goal
+use Rattle.textwrap_text.proofs.Common.{ap, arith, cases_Bool, false, list_any, not, sym, true}
+use Rattle.textwrap_text.proofs.Common.{◌&&◌, ◌==◌, ◌||◌, ◌∙◌, ◌≡◌}
+use Rattle.std.proofs.lemmas.Map.Text.{is_eq-slice_cmp}
+use Rattle.textwrap_styles.proofs.LaterSettings.{any-replaces, any-unknown, unknown-other}
+use Rattle.textwrap_styles.specs.Settings.{is_unknown, kind_of, number, takes_back}
+
+pub returns-then-is_unknown-clause-fresh : goal.returns-then-is_unknown-clause-fresh
+returns-then-is_unknown-clause-fresh g c = λ later are.
+    let s = c.args.setting.now in
+    let unknown : is_unknown (kind_of s) ≡ true =
+    sym (c.if-is_unknown.ensures ∙ ap is_unknown c.kind_of-kind.ensures) in
+    c.in_ok-insert.ensures.added
+    ∙ ap not (are.unknown c.args.setting ∙ sym (any-unknown s later unknown))
+
+pub returns-then-is_unknown-clause-added : goal.returns-then-is_unknown-clause-added
+returns-then-is_unknown-clause-added g c = λ later are.
+    let s = c.args.setting.now in
+    let unknown : is_unknown (kind_of s) ≡ true =
+    sym (c.if-is_unknown.ensures ∙ ap is_unknown c.kind_of-kind.ensures) in
+    record {
+      kinds = λ n below.
+          are.kinds n below
+          ∙ ap (λ b. b || list_any (λ t. number (kind_of t) == n) later)
+          (sym (unknown-other (kind_of s) n unknown below));
+      unknown = λ t.
+          let same = is_eq-slice_cmp s t.now in
+          grind (
+            arith,
+            cases_Bool,
+            c.in_ok-insert.ensures.updates.0 t,
+            same,
+            are.unknown t,
+            unknown,
+          );
+    }
+
+pub returns-clause-fresh : goal.returns-clause-fresh
+returns-clause-fresh g c = λ later are.
+    let s = c.args.setting.now in
+    let known : is_unknown (kind_of s) ≡ false =
+    sym (c.if-is_unknown.ensures ∙ ap is_unknown c.kind_of-kind.ensures) in
+    ap not (c.take_back-fresh.ensures later are
+    ∙ ap (λ k. list_any (λ t. not (is_unknown (kind_of t)) && takes_back (kind_of t) k) later)
+    c.kind_of-kind.ensures ∙ sym (any-replaces s later known))

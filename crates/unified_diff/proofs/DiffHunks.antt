@@ -10,7 +10,7 @@ use Rattle.std.proofs.lemmas.List.{append_assoc, append-nil, get_or-drop, get_or
 use Rattle.std.proofs.lemmas.List.{take_rest}
 use Rattle.std.proofs.lemmas.List.{length-append, length-take, drop-map, take-map}
 use Rattle.std.proofs.lemmas.List.Folds.{drop_split}
-use Rattle.unified_diff.specs.Differences.{ArePushed, AreApart, HasContext, HunkText, IsDiff, IsNear}
+use Rattle.unified_diff.specs.Differences.{AreLean, ArePushed, AreApart, HasContext, HunkText, IsDiff, IsNear}
 use Rattle.unified_diff.specs.Differences.{IsTight}
 use Rattle.unified_diff.specs.Differences.{Patches, SignedText, hunk_text, head_text, line_text}
 use Rattle.unified_diff.specs.Differences.{range_text, signed_view, is_change, new_end, news}
@@ -50,7 +50,7 @@ not_above n m more = omega (arith, more)
 
 -- ---- a part of the lines
 
-sign_at-part : (lines : List SignedText) (first last k : ℕ) → k < last - first
+pub sign_at-part : (lines : List SignedText) (first last k : ℕ) → k < last - first
     → sign_at (slice_range lines first last) k ≡ sign_at lines (first + k)
 sign_at-part lines first last k within =
     let signs : List Sign = map (λ s. s.sign) lines in
@@ -303,11 +303,24 @@ module _ (lines : List SignedText) where
         hunks-apart (next ∷ hunks) last (old_end hunk) (new_end hunk) (next_first, next_last, then, rest),
       )
 
-  pub hunks-diff : (hunks : List HunkText) → AreHunks 0 0 0 hunks
+  -- a part of the lines is lean
+  abbrev pub AreLeanParts : Type 0
+  AreLeanParts = (first last : ℕ) → AreLean (slice_range lines first last)
+
+  hunks-lean : (hunks : List HunkText) (at old_at new_at : ℕ) → AreLeanParts
+      → AreHunks at old_at new_at hunks → All (λ hunk. AreLean hunk.lines) hunks
+  hunks-lean [] at old_at new_at lean far = All-nil (λ (hunk : HunkText). AreLean hunk.lines)
+  hunks-lean (hunk ∷ hunks) at old_at new_at lean (first, last, is, rest) =
+      All-cons (λ (hunk : HunkText). AreLean hunk.lines) hunk hunks
+      (subst AreLean (sym is.has) (lean first last))
+      (hunks-lean hunks last (old_end hunk) (new_end hunk) lean rest)
+
+  pub hunks-diff : (hunks : List HunkText) → AreLeanParts → AreHunks 0 0 0 hunks
       → IsDiff (olds lines) (news lines) hunks
-  hunks-diff hunks are = record {
+  hunks-diff hunks lean are = record {
     patches = hunks-patch hunks 0 0 0 (omega arith) are;
     tight = hunks-tight hunks 0 0 0 are;
+    lean = hunks-lean hunks 0 0 0 lean are;
     context = hunks-context hunks 0 0 0 (length (olds lines)) (omega arith) (λ none. refl) (omega arith)
         are;
     apart = hunks-apart hunks 0 0 0 are;
@@ -361,11 +374,11 @@ module _ (lines : List SignedText) where
       (sym news_are) pushed)
 
   pub HasPushed-all : (old text : List ℕ) (at old_at new_at : ℕ)
-      → HasPushed old text at old_at new_at → AreFar at (length lines)
+      → HasPushed old text at old_at new_at → AreFar at (length lines) → AreLeanParts
       → ArePushed lines old text
-  HasPushed-all old text at old_at new_at before far =
+  HasPushed-all old text at old_at new_at before far lean =
       let all = before [] far in
-      (all.0, hunks-diff all.0 all.1, sym (append-nil text) ∙ sym all.2)
+      (all.0, hunks-diff all.0 lean all.1, sym (append-nil text) ∙ sym all.2)
 
 pub view-part : (lines : List SignedLine) (first last : ℕ)
     → map signed_view (take (last - first) (drop first lines))

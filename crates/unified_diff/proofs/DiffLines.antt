@@ -17,7 +17,7 @@ use Rattle.std.proofs.Common.{All, length-take, take-append-drop}
 use Rattle.std.proofs.lemmas.List.{get_or-take, take_more}
 use Rattle.std.proofs.lemmas.List.Elements.{All-from_get_or}
 use Rattle.textwrap_text.proofs.TextLines.{ended_parts-front, ended_parts-whole}
-use Rattle.unified_diff.specs.Differences.{AreSameAt, IsLineAt, IsNearIf, SignedText, is_change}
+use Rattle.unified_diff.specs.Differences.{AreSameAt, IsNearIf, SignedText, is_change}
 use Rattle.unified_diff.specs.Differences.{is_new, is_old, news, olds, sign_at, signed_text}
 use Rattle.unified_diff.specs.Differences.{signed_view, text_lines}
 use Rattle.unified_diff.specs.declared.differences.Sign.{Sign}
@@ -224,19 +224,6 @@ taken-further lines at more before after was is =
     ∙ sym (take-add at more (map (λ line. line.now) lines))
 
 -- ---- lines at places
-
-pub line-at : (lines : List (Bor (List ℕ))) (at : ℕ) (found : Bor (List ℕ)) (line : List ℕ)
-    (equal : Bool) → at < length lines → found ≡ get_or lines at found
-    → equal ≡ bytes_eq found.now line
-    → (IsTrue equal → IsLineAt (map (λ l. l.now) lines) at line)
-    × (IsLineAt (map (λ l. l.now) lines) at line → IsTrue equal)
-line-at lines at found line equal within is equal_is =
-    let all : List (List ℕ) = map (λ l. l.now) lines in
-    let here : get_or all at [] ≡ found.now =
-    get_or-map (λ l. l.now) lines at found [] within ∙ ap (λ l. l.now) (sym is) in (
-      λ yes. (rw length-map within, here ∙ (bytes_eq-Decides found.now line).0 (sym equal_is ∙ yes)),
-      λ same. equal_is ∙ (bytes_eq-Decides found.now line).1 (sym here ∙ same.1),
-    )
 
 pub other-at : (old new : List (Bor (List ℕ))) (n : ℕ) (none : Bor (List ℕ))
     → n < length old → n < length new

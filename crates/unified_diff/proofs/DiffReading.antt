@@ -1,5 +1,5 @@
 -- What is read of the text of hunks is the hunks.
-use Rattle.std.proofs.Common.{◌≡◌, ◌≢◌, ◌⊎◌, ◌∙◌, ap, ap₂, refl, sym, subst, ℕ, ◌+◌, ◌-◌, ◌<◌, ◌≤◌, ◌^◌}
+use Rattle.std.proofs.Common.{◌≡◌, ◌≢◌, ◌⊎◌, ◌∙◌, ap, ap₂, refl, sym, subst, ℕ, ◌+◌, ◌-◌, ◌<◌, ◌^◌}
 use Rattle.std.proofs.Common.{arith, Bool, true, false, not, zero, suc, inl, inr, cond, rules, ◌==◌}
 use Rattle.std.proofs.Common.{List, [], ◌∷◌, ◌++◌, length, take, drop, map, get_or, All}
 use Rattle.std.proofs.lemmas.List.{append_assoc, append-nil, length-append, take_all, take_more, take_at}
@@ -12,15 +12,15 @@ use Rattle.std.specs.Fmt.{decimal}
 use Rattle.std.specs.List.{ends_with, flat_map, list_all, slice_split}
 use Rattle.std.proofs.lemmas.List.Sums.{AllPass-from_list_all}
 use Rattle.std.specs.Prelude.{codes, nat_eq}
-use Rattle.std.specs.Str.Parse.{AllDigits, digits_value}
+use Rattle.std.specs.Str.Parse.{digits_value}
 use Rattle.textwrap_text.proofs.Common.{eqb-false, ne_eqb}
 use Rattle.textwrap_text.proofs.Lists.Parts.{all-left, all-right, ends_with-other, ends_with-true}
 use Rattle.textwrap_text.proofs.TextLines.{by-lines, ended_parts-front, ended_parts-whole}
-use Rattle.unified_diff.specs.Differences.{HunkText, IsDiff, Patches, SignedText, count_text, head_text}
+use Rattle.unified_diff.specs.Differences.{HunkText, Patches, SignedText, count_text, head_text}
 use Rattle.unified_diff.specs.Differences.{hunk_text, line_text, missing_feed, new_end, news, old_end}
 use Rattle.unified_diff.specs.Differences.{olds, range_text, sign_byte, signed_text, text_lines}
 use Rattle.unified_diff.specs.Laws.{HunksAreRead}
-use Rattle.unified_diff.specs.Reading.{ReadText, head_start, range_start, read_lines, read_text}
+use Rattle.unified_diff.specs.Reading.{ReadText, range_start, read_lines, read_text}
 use Rattle.unified_diff.specs.Reading.{with_line}
 use Rattle.unified_diff.specs.declared.differences.Sign.{Sign}
 use Rattle.unified_diff.specs.declared.differences.Sign.TheVariants.{Kept, Removed, Added}

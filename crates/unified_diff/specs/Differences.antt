@@ -2,7 +2,9 @@
 use Rattle.std.specs.Prelude.{◌≡◌, ◌⊎◌, ℕ, ◌+◌, ◌/◌, ◌%◌, ◌<◌, ◌≤◌, ◌==◌, ◌||◌, Bool, true, false}
 use Rattle.std.specs.Prelude.{List, [], ◌∷◌, ◌++◌, nat_lt}
 use Rattle.std.specs.Prelude.{All, IsTrue, codes, decimal, filter, length, map, slice_index_or}
-use Rattle.std.specs.Prelude.{if◌then◌else◌, nat_eq, ⊤}
+use Rattle.std.specs.Prelude.{if◌then◌else◌, nat_eq, ⊤, Option, None, IfSome, IsSomeAnd, bytes_eq}
+use Rattle.std.specs.HashMap.{HashMap, get_by}
+use denote.Ref.{Bor}
 use Rattle.std.specs.List.{ends_with, flat_map, list_any}
 use Rattle.textwrap_text.specs.LineEnding.{line_feed}
 use Rattle.textwrap_text.specs.TextLines.{ended_parts}
@@ -24,6 +26,38 @@ IsLineAt lines at line = (at < length lines) × (slice_index_or lines at [] ≡ 
 abbrev pub AreSameAt : List (List ℕ) → ℕ → List (List ℕ) → ℕ → Type 0
 AreSameAt old old_at new new_at =
     (old_at < length old) × IsLineAt new new_at (slice_index_or old old_at [])
+
+-- the line at the one place is that at the other, or all lines stand before both
+abbrev pub AreSameOrAll : List (List ℕ) → ℕ → List (List ℕ) → ℕ → Type 0
+AreSameOrAll old old_at new new_at =
+    AreSameAt old old_at new new_at ⊎ ((old_at ≡ length old) × (new_at ≡ length new))
+
+-- so many lines stand before a line that both have, or all, and none of both before this place is nearer
+pub record IsNearestBefore (at : ℕ) (old new : List (List ℕ)) (removed added : ℕ) : Type 0 where
+  pub same : AreSameOrAll old removed new added
+  pub first : (old_at new_at : ℕ) → old_at < at → new_at < at → AreSameAt old old_at new new_at
+      → removed + added ≤ old_at + new_at
+
+-- none is nearer
+pub record IsNearest (old new : List (List ℕ)) (removed added : ℕ) : Type 0 where
+  pub same : AreSameOrAll old removed new added
+  pub first : (old_at new_at : ℕ) → AreSameAt old old_at new new_at
+      → removed + added ≤ old_at + new_at
+
+-- of the lines before a place, where each stands first
+pub record HasFirstPlaces (lines : List (List ℕ)) (at : ℕ) (place : List ℕ → Option ℕ) : Type 0 where
+  pub found : (line : List ℕ) → IfSome (place line) (λ k. (k < at) × IsLineAt lines k line)
+  pub first : (line : List ℕ) (k : ℕ) → k < at → IsLineAt lines k line
+      → IsSomeAnd (place line) (λ found. found ≤ k)
+
+-- what a map has at a line
+abbrev pub place_in : {S : Type 0} → HashMap (Bor (List ℕ)) ℕ S → List ℕ → Option ℕ
+place_in places line = get_by (λ k. bytes_eq line k.now) places
+
+-- what a map has at the line at a place, if there is one
+abbrev pub place_of : (List ℕ → Option ℕ) → List (List ℕ) → ℕ → Option ℕ
+place_of place lines at =
+    if nat_lt at (length lines) then place (slice_index_or lines at []) else None
 
 -- a line, and what becomes of it
 pub record SignedText : Type 0 where
@@ -84,6 +118,17 @@ Patches old_at new_at old new (hunk ∷ hunks) =
 abbrev pub sign_at : List SignedText → ℕ → Sign
 sign_at lines at = slice_index_or (map (λ s. s.sign) lines) at Kept
 
+abbrev pub line_at : List SignedText → ℕ → List ℕ
+line_at lines at = slice_index_or (map (λ s. s.line) lines) at []
+
+-- no run of changed lines has a line that is both removed and added: between two such, one is kept
+abbrev pub AreLean : List SignedText → Type 0
+AreLean lines =
+    (removed added : ℕ) → sign_at lines removed ≡ Removed → sign_at lines added ≡ Added
+    → line_at lines removed ≡ line_at lines added
+    → (kept : ℕ) × (sign_at lines kept ≡ Kept)
+    × (((removed ≤ kept) × (kept ≤ added)) ⊎ ((added ≤ kept) × (kept ≤ removed)))
+
 -- the line at a place is changed, or at most three lines away from one that is
 abbrev pub IsNear : List SignedText → ℕ → Type 0
 IsNear lines at =
@@ -115,6 +160,7 @@ AreApart (hunk ∷ next ∷ hunks) = (old_end hunk < next.old_start) × AreApart
 pub record IsDiff (old new : List (List ℕ)) (hunks : List HunkText) : Type 0 where
   pub patches : Patches 0 0 old new hunks
   pub tight : All (λ hunk. IsTight hunk.lines) hunks
+  pub lean : All (λ hunk. AreLean hunk.lines) hunks
   pub context : All (HasContext (length old)) hunks
   pub apart : AreApart hunks
 

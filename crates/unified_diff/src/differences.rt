@@ -1,10 +1,12 @@
 //! What changes from one text to another, written as a unified diff: the form that POSIX gives for
 //! `diff -u`, which `patch` and `git apply` read.
-ghost use Rattle.std.specs.Prelude.{◌≡◌, ◌↔◌, ◌+◌, ◌<◌, ◌≤◌, ◌++◌, ◌∷◌, ◌-◌, ◌^◌, ℕ, length, map};
+ghost use Rattle.std.specs.Prelude.{◌≡◌, ◌⊎◌, ◌+◌, ◌<◌, ◌≤◌, ◌++◌, ◌∷◌, ◌^◌, ℕ, [], length, map};
 ghost use Rattle.std.specs.Prelude.{drop, take, not};
-ghost use Rattle.std.specs.Prelude.{IfNone, IfOk, IfSome, IsTrue, OnOk};
+ghost use Rattle.std.specs.Prelude.{IfOk, IfSome, OnOk, Some};
 ghost use Rattle.std.specs.List.{flat_map, list_any};
-ghost use Rattle.unified_diff.specs.Differences.{AreSameAt, IsDiffText, IsLineAt, IsNearIf};
+ghost use Rattle.unified_diff.specs.Differences.{AreLean, AreSameAt, AreSameOrAll, HasFirstPlaces};
+ghost use Rattle.unified_diff.specs.Differences.{IsDiffText, IsNearIf, IsNearest, IsNearestBefore};
+ghost use Rattle.unified_diff.specs.Differences.{place_in, place_of};
 ghost use Rattle.unified_diff.specs.Differences.{ArePushed, head_text, is_change, is_new, is_old};
 ghost use Rattle.unified_diff.specs.Differences.{is_escaped, line_text, missing_feed, name_text};
 ghost use Rattle.unified_diff.specs.Differences.{names_text, quoted_byte};
@@ -13,12 +15,11 @@ ghost use Rattle.unified_diff.specs.Differences.{signed_view, text_lines};
 
 use itoa::Buffer;
 use std::alloc::{AllocError, Allocator};
+use std::collections::HashMap;
+use std::hash::{BuildHasherDefault, FoldHasher};
 
 /// How many lines before and behind a change are shown with it.
 const CONTEXT: usize = 3;
-
-/// How many changed lines of both texts may lie before the next line that both have.
-const REACH: usize = 1000;
 
 /// What becomes of a line.
 #[derive(Clone, Copy, Debug, PartialEq, Eq)]
@@ -94,7 +95,7 @@ fn line_len(text: &[u8]) -> usize
 }
 
 /// All lines of both texts, in an order that is the one of each.
-fn signed_lines<'t, A: Allocator>(
+fn signed_lines<'t, A: Allocator + Copy>(
     alloc: A,
     old: &[&'t [u8]],
     new: &[&'t [u8]],
@@ -103,11 +104,12 @@ fn signed_lines<'t, A: Allocator>(
         olds (map signed_view signed.items) ≡ map (λ line. line.now) old.now) }
     ensures news { IfOk result (λ signed.
         news (map signed_view signed.items) ≡ map (λ line. line.now) new.now) }
+    ensures lean { IfOk result (λ signed. AreLean (map signed_view signed.items)) }
 {
     let mut signed = Vec::new(alloc);
     let (mut old_at, mut new_at) = (0, 0);
     while old_at < old.len() || new_at < new.len() {
-        let (old_len, new_len) = push_next(&mut signed, &old[old_at..], &new[new_at..])?;
+        let (old_len, new_len) = push_next(alloc, &mut signed, &old[old_at..], &new[new_at..])?;
         old_at += old_len;
         new_at += new_len;
     }
@@ -116,7 +118,8 @@ fn signed_lines<'t, A: Allocator>(
 
 /// Adds the lines that both texts begin with, and the change behind them. Returns how many lines of
 /// either these are.
-fn push_next<'t, A: Allocator>(
+fn push_next<'t, A: Allocator + Copy>(
+    alloc: A,
     signed: &mut Vec<SignedLine<'t>, A>,
     old: &[&'t [u8]],
     new: &[&'t [u8]],
@@ -128,11 +131,17 @@ fn push_next<'t, A: Allocator>(
         ≡ olds (map signed_view signed.old.items) ++ take lens.0 (map (λ line. line.now) old.now)) }
     ensures news { IfOk result (λ lens. news (map signed_view signed.new.items)
         ≡ news (map signed_view signed.old.items) ++ take lens.1 (map (λ line. line.now) new.now)) }
+    ensures lean { OnOk result (AreLean (map signed_view signed.old.items)
+        → (signed.old.items ≡ []) ⊎ AreSameAt (map (λ line. line.now) old.now) 0
+        (map (λ line. line.now) new.now) 0
+        → AreLean (map signed_view signed.new.items)) }
+    ensures next { IfOk result (λ lens. AreSameOrAll (map (λ line. line.now) old.now) lens.0
+        (map (λ line. line.now) new.now) lens.1) }
 {
     let kept_len = common_len(old, new);
     let (kept, old_behind) = old.split_at(kept_len);
     let (_, new_behind) = new.split_at(kept_len);
-    let (removed_len, added_len) = change_lens(old_behind, new_behind);
+    let (removed_len, added_len) = change_lens(alloc, old_behind, new_behind)?;
     push_signed(signed, Sign::Kept, kept)?;
     push_signed(signed, Sign::Removed, &old_behind[..removed_len])?;
     push_signed(signed, Sign::Added, &new_behind[..added_len])?;
@@ -171,56 +180,96 @@ fn common_len(old: &[&[u8]], new: &[&[u8]]) -> usize
     len
 }
 
-/// How many lines are removed, and how many added, before the next line that both have: the nearest
-/// within reach, or else as many as are half of it.
-fn change_lens(old: &[&[u8]], new: &[&[u8]]) -> (usize, usize)
-    ensures old { result.0 ≤ length old.now }
-    ensures new { result.1 ≤ length new.now }
-    ensures some { 0 < length old.now + length new.now → 0 < result.0 + result.1 }
-    ensures nearest { (removed added : ℕ) → 0 < removed + added
-        → removed + added < result.0 + result.1
-        → ¬ AreSameAt (map (λ line. line.now) old.now) removed
-        (map (λ line. line.now) new.now) added }
+/// How many lines are removed, and how many added, before the nearest line that both have: all where
+/// none is.
+fn change_lens<A: Allocator + Copy>(
+    alloc: A,
+    old: &[&[u8]],
+    new: &[&[u8]],
+) -> Result<(usize, usize), AllocError>
+    ensures old { IfOk result (λ lens. lens.0 ≤ length old.now) }
+    ensures new { IfOk result (λ lens. lens.1 ≤ length new.now) }
+    ensures nearest { IfOk result (λ lens. IsNearest (map (λ line. line.now) old.now)
+        (map (λ line. line.now) new.now) lens.0 lens.1) }
 {
-    for changed in 1..REACH {
-        if let Some(removed) = removed_len(old, new, changed) {
-            return (removed, changed - removed);
-        }
+    let mut olds = HashMap::new(alloc);
+    let mut news = HashMap::new(alloc);
+    let (mut removed, mut added) = (old.len(), new.len());
+    let mut at = 0;
+    // So the time that it takes grows with the change, and not with its square.
+    while at < removed + added {
+        note_line(&mut olds, old, at)?;
+        note_line(&mut news, new, at)?;
+        let (old_len, new_len) = nearest_with(&news, old, at, (removed, added));
+        let (new_len, old_len) = nearest_with(&olds, new, at, (new_len, old_len));
+        removed = old_len;
+        added = new_len;
+        at += 1;
     }
-    // So the time that is lost grows with the text, and not with its square.
-    (old.len().min(REACH / 2), new.len().min(REACH / 2))
+    Ok((removed, added))
 }
 
-/// How many of so many changed lines are removed, the others being added, if a line that both have
-/// comes then.
-fn removed_len(old: &[&[u8]], new: &[&[u8]], changed: usize) -> Option<usize>
-    ensures changed { IfSome result (λ removed. removed ≤ changed) }
-    ensures old { IfSome result (λ removed. removed ≤ length old.now) }
-    ensures new { IfSome result (λ removed. changed - removed ≤ length new.now) }
-    ensures same { IfSome result (λ removed. AreSameAt (map (λ line. line.now) old.now) removed
-        (map (λ line. line.now) new.now) (changed - removed)) }
-    ensures none { IfNone result ((removed : ℕ) → removed ≤ changed
-        → ¬ AreSameAt (map (λ line. line.now) old.now) removed
-        (map (λ line. line.now) new.now) (changed - removed)) }
-{
-    for (removed, line) in old.iter().enumerate() {
-        if removed > changed {
-            return None;
-        }
-        if is_at(new, changed - removed, line) {
-            return Some(removed);
-        }
-    }
-    None
-}
-
-/// Whether this line stands at a place.
-fn is_at(lines: &[&[u8]], at: usize, line: &[u8]) -> bool
-    ensures { IsTrue result ↔ IsLineAt (map (λ line. line.now) lines.now) at line.now }
+/// Notes the place of the line there, unless it stands at an earlier one.
+fn note_line<'t, A: Allocator + Copy>(
+    places: &mut HashMap<&'t [u8], usize, BuildHasherDefault<FoldHasher>, A>,
+    lines: &[&'t [u8]],
+    at: usize,
+) -> Result<(), AllocError>
+    ensures { OnOk result (HasFirstPlaces (map (λ line. line.now) lines.now) at (place_in places.old)
+        → HasFirstPlaces (map (λ line. line.now) lines.now) (at + 1) (place_in places.new)) }
 {
     match lines.get(at) {
-        Some(found) => *found == line,
-        None => false,
+        Some(line) => {
+            if !places.contains_key(*line) {
+                places.insert(*line, at)?;
+            }
+            Ok(())
+        }
+        None => Ok(()),
+    }
+}
+
+/// Where the line at a place stands first in the other text, as far as its places were noted.
+fn place_of<A: Allocator>(
+    places: &HashMap<&[u8], usize, BuildHasherDefault<FoldHasher>, A>,
+    lines: &[&[u8]],
+    at: usize,
+) -> Option<usize>
+    ensures { result ≡ place_of (place_in places.now) (map (λ line. line.now) lines.now) at }
+{
+    match lines.get(at) {
+        Some(line) => places.get(*line).copied(),
+        None => None,
+    }
+}
+
+/// Where a line stands in two texts: the nearest so far, or the line at a place of this text, if it
+/// stands nearer in the other one.
+fn nearest_with<A: Allocator>(
+    places: &HashMap<&[u8], usize, BuildHasherDefault<FoldHasher>, A>,
+    lines: &[&[u8]],
+    at: usize,
+    nearest: (usize, usize),
+) -> (usize, usize)
+    requires at { at < 2 ^ 62 }
+    requires place { IfSome (place_of (place_in places.now) (map (λ line. line.now) lines.now) at)
+        (λ place. place ≤ at) }
+    requires nearest { nearest.0 + nearest.1 < 2 ^ 62 }
+    ensures one_of { ((result.0 ≡ nearest.0) × (result.1 ≡ nearest.1)) ⊎ ((result.0 ≡ at)
+        × (place_of (place_in places.now) (map (λ line. line.now) lines.now) at ≡ Some result.1)) }
+    ensures nearer { result.0 + result.1 ≤ nearest.0 + nearest.1 }
+    ensures here { IfSome (place_of (place_in places.now) (map (λ line. line.now) lines.now) at)
+        (λ place. result.0 + result.1 ≤ at + place) }
+{
+    match place_of(places, lines, at) {
+        Some(place) => {
+            if at + place < nearest.0 + nearest.1 {
+                (at, place)
+            } else {
+                nearest
+            }
+        }
+        None => nearest,
     }
 }
 
@@ -295,7 +344,8 @@ fn push_hunks<A: Allocator>(
     text: &mut Vec<u8, A>,
     lines: &[SignedLine<'_>],
 ) -> Result<(), AllocError>
-    ensures { OnOk result (ArePushed (map signed_view lines.now) text.old.items text.new.items) }
+    ensures { OnOk result (AreLean (map signed_view lines.now)
+        → ArePushed (map signed_view lines.now) text.old.items text.new.items) }
 {
     let (mut old_start, mut new_start) = (0, 0);
     let mut at = 0;

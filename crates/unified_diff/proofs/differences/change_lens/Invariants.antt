@@ -1,9 +1,17 @@
-use Rattle.std.proofs.Common.{ℕ, ◌+◌, ◌<◌, map}
-use Rattle.unified_diff.specs.Differences.{AreSameAt}
+use Rattle.std.proofs.Common.{◌+◌, ◌-◌, ◌≤◌, length, map}
+use Rattle.unified_diff.specs.Differences.{HasFirstPlaces, IsNearestBefore, place_in}
 use Rattle.unified_diff.proofs.differences.change_lens.Given as goal
 
--- no line that both have is so near
-abbrev pub invariant-loop-changed : goal.invariant-loop-changed
-invariant-loop-changed l =
-    (k m : ℕ) → 0 < k + m → k + m < l.changed
-    → ¬ AreSameAt (map (λ line. line.now) l.old) k (map (λ line. line.now) l.new) m
+-- the lines before this place are noted, and the nearest that both have of them is known
+abbrev pub invariant-loop-at : goal.invariant-loop-at
+invariant-loop-at g l = record {
+  old : l.removed ≤ length l.old;
+  new : l.added ≤ length l.new;
+  olds : HasFirstPlaces (map (λ line. line.now) l.old) l.at (place_in l.olds);
+  news : HasFirstPlaces (map (λ line. line.now) l.new) l.at (place_in l.news);
+  nearest : IsNearestBefore l.at (map (λ line. line.now) l.old) (map (λ line. line.now) l.new) l.removed
+      l.added;
+}
+
+abbrev pub decreases-loop-at : goal.decreases-loop-at
+decreases-loop-at g l = l.removed + l.added - l.at

@@ -2,6 +2,7 @@ use Rattle.std.proofs.Common.{◌≡◌, ◌∙◌, ◌-◌, ◌<◌, ◌≤◌,
 use Rattle.std.proofs.Common.{take, ℕ, List}
 use Rattle.std.proofs.lemmas.List.{length-map}
 use Rattle.unified_diff.specs.Differences.{IsNear, SignedText, news, olds, signed_view}
+use Rattle.unified_diff.proofs.DiffRuns.{lean-part}
 use Rattle.unified_diff.proofs.DiffHunks.{HasPushed-all, HasPushed-next, hunk-found, lens-part}
 use Rattle.unified_diff.proofs.DiffHunks.{not_below, view-part}
 use Rattle.unified_diff.proofs.differences.push_hunks.Goals as goal
@@ -26,7 +27,7 @@ lens-view lines first last old_len new_len order within old_is new_is =
 
 -- a line near a change is followed by one that is not, or by none
 pub returns-then-first-last : goal.returns-then-first-last
-returns-then-first-last g c =
+returns-then-first-last g c lean =
     let lines : List SignedText = map signed_view c.args.lines.now in
     let first = c.next_place-first.result in
     let same : first ≡ c.next_place-last.result = omega arith in
@@ -37,6 +38,7 @@ returns-then-first-last g c =
     c.loop-at.invariant.pushed
     (λ k below from. c.next_place-first.ensures.passed k
     (let len = length-lines c.args.lines.now in omega arith) from)
+    (λ first last. lean-part lines first last lean)
 
 pub overflow_add-old_start-in-loop-at : goal.overflow_add-old_start-in-loop-at
 overflow_add-old_start-in-loop-at g c =
@@ -82,7 +84,8 @@ loop-at-preserved g c =
     }
 
 pub returns : goal.returns
-returns g c =
+returns g c lean =
     HasPushed-all (map signed_view c.args.lines.now) _ _ c.loop-at.at c.loop-at.old_start c.loop-at.new_start
     c.loop-at.invariant.pushed
     (λ k below from. absurd (let len = length-lines c.args.lines.now in omega arith))
+    (λ first last. lean-part (map signed_view c.args.lines.now) first last lean)

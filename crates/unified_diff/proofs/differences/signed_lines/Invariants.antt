@@ -1,5 +1,5 @@
-use Rattle.std.proofs.Common.{◌≡◌, ◌+◌, ◌-◌, ◌≤◌, length, map, take}
-use Rattle.unified_diff.specs.Differences.{news, olds, signed_view}
+use Rattle.std.proofs.Common.{◌≡◌, ◌⊎◌, [], ◌+◌, ◌-◌, ◌≤◌, length, map, take}
+use Rattle.unified_diff.specs.Differences.{AreLean, AreSameOrAll, news, olds, signed_view}
 use Rattle.unified_diff.proofs.differences.signed_lines.Given as goal
 
 -- so many lines of either text were taken
@@ -8,6 +8,9 @@ invariant-loop-old_at g l = record {
   old : l.old_at ≤ length l.old;
   new : l.new_at ≤ length l.new;
   olds : olds (map signed_view l.signed.items) ≡ take l.old_at (map (λ line. line.now) l.old);
+  lean : AreLean (map signed_view l.signed.items);
+  next : (l.signed.items ≡ []) ⊎ AreSameOrAll (map (λ line. line.now) l.old) l.old_at
+      (map (λ line. line.now) l.new) l.new_at;
   news : news (map signed_view l.signed.items) ≡ take l.new_at (map (λ line. line.now) l.new);
 }
 

@@ -96,6 +96,25 @@ fn a_large_text_without_a_common_line(rt: HostRuntime) {
     assert_number(&rt, "its length", found.len(), 32 + 600 * 20 + 700 * 9);
 }
 
+/// However far away a line stands that both texts have, it is kept: here 700 lines come before 700
+/// others, which then go.
+#[test]
+fn a_far_line_that_both_have_is_kept(rt: HostRuntime) {
+    let rule = "a line that both have";
+    let ones = "a\n".repeat(rt.alloc(), 700).expect(&rt, rule);
+    let twos = "b\n".repeat(rt.alloc(), 700).expect(&rt, rule);
+    let old = format!(in rt.alloc(); "{ones}{twos}").expect(&rt, rule);
+    let new = format!(in rt.alloc(); "{twos}{ones}").expect(&rt, rule);
+    let come = "+b\n".repeat(rt.alloc(), 700).expect(&rt, rule);
+    let gone = "-b\n".repeat(rt.alloc(), 700).expect(&rt, rule);
+    let heads = ("@@ -1,3 +1,703 @@", "@@ -698,703 +1398,3 @@");
+    let diff = format!(in rt.alloc();
+        "--- a\n+++ a\n{heads.0}\n{come} a\n a\n a\n{heads.1}\n a\n a\n a\n{gone}"
+    ).expect(&rt, rule);
+    let found = diff_text(rt.alloc(), "a", old.as_bytes(), new.as_bytes()).expect(&rt, rule);
+    assert_bytes(&rt, rule, &found, diff.as_bytes());
+}
+
 const FILES: &[Given] = &[
     ("a", b"one two three four\n", FileFault::Nothing),
     ("my b", b"five six seven\n", FileFault::Nothing),

@@ -424,7 +424,7 @@ textwrap_status textwrap_carry_styles(const textwrap_text *lines, size_t lines_l
                                       size_t places_len, size_t *count, uint8_t *room,
                                       size_t room_len, size_t *len);
 
-/* The same as textwrap_carry_styles, of which it is the older name. */
+/* The same as textwrap_carry_styles, by a second name. */
 TEXTWRAP_CHECKED
 textwrap_status textwrap_carry_attributes(const textwrap_text *lines, size_t lines_len,
                                           const textwrap_options *options, textwrap_line *places,

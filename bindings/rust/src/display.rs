@@ -340,7 +340,7 @@ where
     or_abort(fallible::carry_styles(lines, width_or_options))
 }
 
-/// The same as [`carry_styles`], of which it is the older name.
+/// The same as [`carry_styles`], by a second name.
 pub fn carry_attributes<'a, S, Opt>(lines: &[S], width_or_options: Opt) -> Vec<String>
 where
     S: AsRef<str>,

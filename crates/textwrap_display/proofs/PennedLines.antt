@@ -2,7 +2,8 @@
 use Rattle.textwrap_text.proofs.Common.{All, All-head, All-tail, append-nil, append_assoc, arith}
 use Rattle.textwrap_text.proofs.Common.{cases_Bool, inl, inr, List, refl, subst, sym}
 use Rattle.textwrap_text.proofs.Common.{◌++◌, ◌-◌, ◌==◌, ◌∙◌, ◌∷◌, ◌≡◌, [], ap, ℕ}
-use Rattle.std.specs.Prelude.{chars}
+use Rattle.std.specs.Str.{chars}
+use Rattle.textwrap_text.specs.Units.{Visible}
 use Rattle.textwrap_text.proofs.Common.{join_with}
 use Rattle.textwrap_display.proofs.Common.{blanks, line_bytes, text_width, units}
 use Rattle.textwrap_display.proofs.Widths.{blanks-are}
@@ -82,11 +83,14 @@ alone-append xs ys (first, first_plain) (second, second_plain) = (
       ∙ second_plain,
 )
 
-blank-alone : StandsAlone (blank ∷ [])
+blank-units : units (chars (blank ∷ [])) ≡ Visible blank ∷ []
 unfolding chars encode
+blank-units = refl
+
+blank-alone : StandsAlone (blank ∷ [])
 blank-alone = (
   (blanks-utf8 (blank ∷ []) (blanks-are 1), blanks-whole (blank ∷ []) (blanks-are 1)),
-  refl,
+  ap (λ us. rendition_of (flat_map sequence_of us)) blank-units,
 )
 
 pub nil-alone : StandsAlone []
@@ -123,13 +127,13 @@ module _ (alignment : Alignment) (width : ℕ) (line : List ℕ) (own : StandsAl
 -- blanks show nothing else
 hidden : (now : Rendition) (bytes text : List ℕ) → AreBlanks bytes
     → without_blanks (penned_text now (bytes ++ text)) ≡ without_blanks (penned_text now text)
-unfolding chars encode
 hidden now [] text are = refl
 hidden now (b ∷ bs) text are =
     let is = eqb-true b blank (All-head (λ c. is_blank c ≡ true) b bs are) in
     let one = text_units-append (blank ∷ []) (bs ++ text) blank-alone.0 in
     ap (λ c. without_blanks (penned_text now (c ∷ (bs ++ text)))) is
-    ∙ ap (λ us. without_blanks (penned_units now us)) one
+    ∙ ap (λ us. without_blanks (penned_units now us))
+    (one ∙ ap (λ us. us ++ units (chars (bs ++ text))) blank-units)
     ∙ hidden now bs text (All-tail (λ c. is_blank c ≡ true) b bs are)
 
 -- a word, and other text behind its blanks

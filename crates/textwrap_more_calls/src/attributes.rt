@@ -1,4 +1,4 @@
-//! Lists of lines with styles carried over their ends, by the older name.
+//! Lists of lines with styles carried over their ends, by a second name.
 ghost use Rattle.std.specs.Prelude.{◌≡◌, ◌≤◌, ◌↔◌, [], map, All};
 ghost use Rattle.textwrap.specs.Paragraph.{line_bytes};
 ghost use Rattle.textwrap_calls.specs.Columns.{AreRows};
@@ -14,7 +14,7 @@ use textwrap_calls::options::TextwrapOptions;
 use textwrap_calls::reported::TextwrapLine;
 use textwrap_calls::texts::TextwrapText;
 
-/// The same as `textwrap_carry_styles`, of which it is the older name.
+/// The same as `textwrap_carry_styles`, by a second name.
 pub fn textwrap_carry_attributes(
     alloc: Global,
     lines: &[TextwrapText<'_>],

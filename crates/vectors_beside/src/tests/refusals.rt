@@ -2,9 +2,7 @@
 //! memory, and never gives another text or other lines.
 use super::balance::{has_lines_balanced, has_width_balanced};
 use super::display::Change::{self, Aligned, Cut, Expanded, Justified, Shortened};
-use super::display::{
-    are_carried, are_shortened, changed, is_filled, is_fitted, is_table,
-};
+use super::display::{are_carried, are_shortened, changed, is_filled, is_fitted, is_table};
 use super::plain::assert_holds;
 use std::process::Abort;
 use textwrap::WrapError;

@@ -54,7 +54,13 @@ fn carried(alloc: Global) -> Result<Told, AllocError> {
             *line = PLAIN_AGAIN;
         }
     }
-    write_lines_twice(alloc, false, LinesCall::CarryStyles(&lines, AT_11), b"", LINES)
+    write_lines_twice(
+        alloc,
+        false,
+        LinesCall::CarryStyles(&lines, AT_11),
+        b"",
+        LINES,
+    )
 }
 
 /// A column of a line's width, whose lines stand at the left.

@@ -1,19 +1,13 @@
 //! What the parameters of a style set, and what is carried of it over the ends of lines.
-use super::super::plain::{
-    assert_found, assert_lines, plain_carry_styles, plain_options, plain_wrap,
-};
-use super::styles::lines;
+use super::super::plain::{assert_found, plain_carry_styles, plain_options, plain_wrap};
+use super::styles::assert_carried;
 use std::alloc::{AllocError, Global};
 use std::borrow::CowStr;
-use std::process::Abort;
 use textwrap::{Options, WrapAlgorithm, WrapError};
 
 /// The rule, the lines, and what they become. A line that stays is not copied.
 #[rattlefmt::skip]
 const CARRIED: &[(&str, &[&str], &[&str])] = &[
-    ("a style goes on",
-        &["a \x1b[1mb", "c"],
-        &["a \x1b[1mb\x1b[0m", "\x1b[1mc\x1b[0m"]),
     ("what ends in its line does not", // chalk
         &["\x1b[1ma\x1b[22m \x1b[31mb\x1b[39m", "c"],
         &["\x1b[1ma\x1b[22m \x1b[31mb\x1b[39m", "c"]),
@@ -80,26 +74,12 @@ const CARRIED: &[(&str, &[&str], &[&str])] = &[
     ("a link goes on beside them", &["\x1b[1m\x1b]8;;u\x07a", "b\x1b[22m", "c\x1b]8;;\x07", "d"],
         &["\x1b[1m\x1b]8;;u\x07a\x1b[0m\x1b]8;;\x1b\\", "\x1b]8;;u\x07\x1b[1mb\x1b[22m\x1b]8;;\x1b\\",
             "\x1b]8;;u\x07c\x1b]8;;\x07", "d"]),
-    ("other sequences are left alone", &["a\x1b[2Jb\x1b[>1m\x1b[?25h\x1b[1 m", "c"],
-        &["a\x1b[2Jb\x1b[>1m\x1b[?25h\x1b[1 m", "c"]),
 ];
-
-/// Asserts what lines without indents become.
-fn assert_carried(
-    rt: &(impl Abort + AllocGlobal),
-    rule: &str,
-    texts: &[&'static str],
-    wanted: &[&str],
-) {
-    let lines = lines(rt.alloc(), texts).expect(rt, rule);
-    let carried = plain_carry_styles(rt.alloc(), &lines, &Options::new(0)).expect(rt, rule);
-    assert_lines(rt, rule, &lines, &carried, wanted);
-}
 
 #[test]
 fn settings_are_carried(rt: HostRuntime) {
     for &(rule, texts, wanted) in CARRIED {
-        assert_carried(&rt, rule, texts, wanted);
+        assert_carried(&rt, rule, ["", ""], texts, wanted);
     }
 }
 

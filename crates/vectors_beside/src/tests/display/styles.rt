@@ -110,7 +110,7 @@ const CARRIED: &[(&str, [&str; 2], &[&str], &[&str])] = &[
 ];
 
 /// The texts as lines, borrowed.
-pub fn lines<A: Allocator + Copy>(
+fn lines<A: Allocator + Copy>(
     alloc: A,
     texts: &[&'static str],
 ) -> Result<Vec<CowStr<'static, A>, A>, AllocError> {
@@ -132,7 +132,7 @@ fn carried_behind<'l>(
 }
 
 /// Asserts what lines with these indents become, of which as few are copied as change.
-fn assert_carried(
+pub fn assert_carried(
     rt: &(impl Abort + AllocGlobal),
     rule: &str,
     indents: [&str; 2],
